@@ -1,0 +1,104 @@
+//! What a store of trees answers.
+#![tactic(auto)]
+
+ghost use Rattle.std.specs.Prelude.{◌≡◌, ◌↔◌, ◌+◌, ◌-◌, ◌^◌, min, IsTrue, IfOk, All, List, Bool};
+ghost use Rattle.dlk_tree.specs.Trees.{Tree, node, size, depth, WellMade};
+ghost use Rattle.dlk_tree.specs.Table.{Fits};
+ghost use Rattle.dlk_store.specs.declared.StoreFault.TheVariants.{Memory};
+ghost use Rattle.dlk_store.specs.Stores.{IsId, tree, StandsFor, Keeps, kid_trees, kid_sorts, HasOneId};
+
+use dlk_tree::Op;
+use std::alloc::{AllocError, AllocFailed, Global};
+use std::sync::ledger::Ledger;
+
+mod steps;
+
+pub use steps::Steps;
+
+/// A node's number in its store.
+#[derive(Clone, Copy, Debug, PartialEq, Eq, PartialOrd, Ord, Hash)]
+pub struct Id(pub usize);
+
+/// An operator with its kids.
+#[derive(Clone, Copy)]
+pub struct Node<'a> {
+    pub op: &'a Op,
+    pub kids: &'a [Id],
+}
+
+/// Why a store did not make a node.
+#[derive(Clone, Copy, Debug, PartialEq, Eq)]
+pub enum StoreFault {
+    Memory,
+}
+
+impl From<AllocError> for StoreFault {
+    ghost from_gives = { λ _ e. e ≡ Memory };
+
+    fn from(_: AllocError) -> StoreFault {
+        StoreFault::Memory
+    }
+}
+
+impl<T: Drop> From<AllocFailed<T>> for StoreFault {
+    ghost from_gives = { λ _ e. e ≡ Memory };
+
+    fn from(_: AllocFailed<T>) -> StoreFault {
+        StoreFault::Memory
+    }
+}
+
+/// Trees by their ids.
+pub trait Store {
+    /// What the ids stand for, in order of the ids.
+    ghost trees: { Self → List Tree };
+
+    /// Whether a tree has one id.
+    ghost unique: { Bool };
+
+    /// The second came of the first by making nodes alone.
+    ghost grows: { Self → Self → Type 0 };
+
+    /// An id of the tree with this operator and these kids.
+    fn make(&mut self, alloc: Global, op: Op, kids: &[Id]) -> Result<Id, StoreFault>
+        requires known { All (IsId (trees self.old)) kids.now }
+        requires fits { Fits op (kid_sorts (trees self.old) kids.now) }
+        ensures made { IfOk result (λ id. StandsFor (trees self.new) id (node op (kid_trees (trees self.old) kids.now))) }
+        ensures grows { grows self.old self.new };
+
+    /// The root of the tree, in one step.
+    fn look<L: Ledger>(&self, id: Id, steps: &mut Steps<L>) -> Node<'_>
+        requires { IsId (trees self.now) id }
+        ensures node { tree (trees self.now) id ≡ node result.op.now (kid_trees (trees self.now) result.kids.now) }
+        ensures known { All (IsId (trees self.now)) result.kids.now }
+        ensures step { steps.new ≡ steps.old + 1 };
+
+    /// Whether the two trees are equal.
+    fn same(&self, a: Id, b: Id) -> bool
+        requires first { IsId (trees self.now) a }
+        requires second { IsId (trees self.now) b }
+        ensures { IsTrue result ↔ (tree (trees self.now) a ≡ tree (trees self.now) b) };
+
+    /// The number of nodes, at most the greatest `u32`.
+    fn size(&self, id: Id) -> u32
+        requires { IsId (trees self.now) id }
+        ensures { result ≡ min (size (tree (trees self.now) id)) (2 ^ 32 - 1) };
+
+    /// The depth, at most the greatest `u32`.
+    fn depth(&self, id: Id) -> u32
+        requires { IsId (trees self.now) id }
+        ensures { result ≡ min (depth (tree (trees self.now) id)) (2 ^ 32 - 1) };
+
+    // Growth goes on, and each old id stands for the same tree.
+    ghost grows_refl: { (a : Self) → grows a a };
+
+    ghost grows_trans: { (a b c : Self) → grows a b → grows b c → grows a c };
+
+    ghost grows_keeps: { (a b : Self) → grows a b → Keeps (trees a) (trees b) };
+
+    /// Every tree of a store is well made.
+    ghost well_made: { (s : Self) → All WellMade (trees s) };
+
+    /// In a unique store ids of equal trees are equal.
+    ghost one_id: { IsTrue unique → (s : Self) → HasOneId (trees s) };
+}

@@ -1,0 +1,6 @@
+pub mod Names
+pub mod Tests
+pub mod Table
+pub mod Trees
+pub mod Occurs
+pub mod TreeCode
