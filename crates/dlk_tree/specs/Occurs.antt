@@ -17,12 +17,20 @@ abbrev pub is_dot : ℕ → Op → Bool
 is_dot n (Op'.Dot m) = m == n
 is_dot n _ = false
 
+-- a dot of any number
+abbrev pub is_some_dot : Op → Bool
+is_some_dot (Op'.Dot m) = true
+is_some_dot _ = false
+
 abbrev pub is_hole : Op → Bool
 is_hole Op'.Hole = true
 is_hole _ = false
 
 abbrev pub has_dot : ℕ → Tree → Bool
 has_dot n t = has (is_dot n) t
+
+abbrev pub has_dots : Tree → Bool
+has_dots t = has is_some_dot t
 
 abbrev pub has_hole : Tree → Bool
 has_hole t = has is_hole t

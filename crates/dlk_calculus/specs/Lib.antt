@@ -1,0 +1,5 @@
+pub mod Places
+pub mod Sequents
+pub mod Rules
+pub mod Provables
+pub mod Steps

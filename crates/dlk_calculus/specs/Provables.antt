@@ -1,0 +1,18 @@
+-- Provables: what a proof has shown so far.
+use Rattle.std.specs.Prelude.{ℕ, List, [], ◌∷◌}
+use Rattle.dlk_calculus.specs.Places.{put_all}
+use Rattle.dlk_calculus.specs.Sequents.{Sequent}
+
+-- The conclusion holds where its goals and its leaves do. The goals are left to be proved, the leaves are facts of arithmetic.
+pub record Provable : Type 0 where
+  pub conclusion : Sequent
+  pub goals : List Sequent
+  pub leaves : List Sequent
+
+-- a sequent with itself as goal
+abbrev pub started : Sequent → Provable
+started s = record { conclusion = s; goals = s ∷ []; leaves = [] }
+
+-- premises in the place of a goal
+abbrev pub applied : Provable → ℕ → List Sequent → Provable
+applied p goal premises = record p { goals = put_all p.goals goal premises }

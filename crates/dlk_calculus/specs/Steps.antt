@@ -1,0 +1,64 @@
+-- Steps of a proof: what each gives, what speaks against it, and what is derived.
+use Rattle.std.specs.Prelude.{◌≡◌, ℕ, ◌<◌, List, [], ◌∷◌, ◌++◌, take, Some, slice_get}
+use Rattle.dlk_calculus.specs.declared.reason.Reason.{Reason}
+use Rattle.dlk_calculus.specs.declared.reason.Reason.TheVariants.{NoFact, NoGoal, NoPlace, WrongShape, NotEqual}
+use Rattle.dlk_calculus.specs.Places.{At, IsPlace}
+use Rattle.dlk_calculus.specs.Sequents.{Sequent, IsSequent}
+use Rattle.dlk_calculus.specs.Rules.{Rule, Premises, RuleAgainst}
+use Rattle.dlk_calculus.specs.Provables.{Provable, started, applied}
+
+-- a step, which names earlier rows and their goals by their numbers
+pub data Step : Type 0 where
+  Start : Sequent → Step
+  Apply : (fact goal : ℕ) → Rule → Step
+
+-- Gives rows step p: by a rule of the calculus the step gives p from these rows. One case a rule.
+pub data Gives (rows : List Provable) : Step → Provable → Type 0 where
+  -- any sequent is proved from itself
+  start : (s : Sequent) → IsSequent s → Gives rows (Start s) (started s)
+  -- the premises of a rule on a goal stand in its place
+  apply : (fact goal : ℕ) (rule : Rule) (p : Provable) (s : Sequent) (premises : List Sequent) →
+      At rows fact p → At p.goals goal s → Premises rule s premises → Gives rows (Apply fact goal rule) (applied p goal premises)
+
+-- each row is given by a step from the rows before it
+abbrev pub History : List Provable → Type 0
+History rows = (n : ℕ) (p : Provable) → slice_get rows n ≡ Some p → (step : Step) × Gives (take n rows) step p
+
+-- p is derived: it ends a history
+abbrev pub Derives : Provable → Type 0
+Derives p = (rows : List Provable) × History (rows ++ p ∷ [])
+
+-- s is that goal of that fact
+abbrev pub IsGoal : List Provable → ℕ → ℕ → Sequent → Type 0
+IsGoal rows fact goal s = (p : Provable) × At rows fact p × At p.goals goal s
+
+-- What speaks against a step. One row a reason, with the steps for which it counts.
+abbrev pub Against : Reason → List Provable → Step → Type 0
+Against NoFact rows (Start s) = ⊥
+Against NoFact rows (Apply fact goal rule) = ¬ IsPlace rows fact
+Against NoGoal rows (Start s) = ⊥
+Against NoGoal rows (Apply fact goal rule) = (p : Provable) × At rows fact p × (¬ IsPlace p.goals goal)
+Against NoPlace rows (Start s) = ⊥
+Against NoPlace rows (Apply fact goal rule) = (s : Sequent) × IsGoal rows fact goal s × RuleAgainst NoPlace rule s
+Against WrongShape rows (Start s) = ¬ IsSequent s
+Against WrongShape rows (Apply fact goal rule) = (s : Sequent) × IsGoal rows fact goal s × RuleAgainst WrongShape rule s
+Against NotEqual rows (Start s) = ⊥
+Against NotEqual rows (Apply fact goal rule) = (s : Sequent) × IsGoal rows fact goal s × RuleAgainst NotEqual rule s
+
+-- the place of a reason in the order of the checks
+abbrev pub rank : Reason → ℕ
+rank NoFact = 1
+rank NoGoal = 2
+rank NoPlace = 3
+rank WrongShape = 4
+rank NotEqual = 5
+
+-- the first reason against the step
+pub record Fault (rows : List Provable) (step : Step) (why : Reason) : Type 0 where
+  pub against : Against why rows step
+  pub first : (earlier : Reason) → rank earlier < rank why → ¬ Against earlier rows step
+
+-- the provable of the step, where nothing speaks against it
+pub record StepOf (rows : List Provable) (step : Step) (p : Provable) : Type 0 where
+  pub given : Gives rows step p
+  pub allowed : (why : Reason) → ¬ Against why rows step

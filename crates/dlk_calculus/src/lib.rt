@@ -1,0 +1,6 @@
+//! The calculus: sequents, rules, provables, and which of them are derived. Definitions, and their laws.
+#![tactic(auto)]
+
+mod reason;
+
+pub use reason::Reason;

@@ -1,0 +1,14 @@
+/// Why a step is no step of the calculus, in the order in which it is looked for.
+#[derive(Clone, Copy, Debug, PartialEq, Eq)]
+pub enum Reason {
+    /// The number of a fact is that of no row.
+    NoFact,
+    /// The number of a goal isn't from 1 to the number of goals.
+    NoGoal,
+    /// A place of the rule isn't there.
+    NoPlace,
+    /// A formula hasn't the form that the rule wants, or a given formula can't stand in a sequent.
+    WrongShape,
+    /// Two formulas that the rule wants to be the same are not.
+    NotEqual,
+}

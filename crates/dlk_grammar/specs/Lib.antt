@@ -1,0 +1,4 @@
+pub mod Tokens
+pub mod Splits
+pub mod Grammar
+pub mod Texts

@@ -1,0 +1,6 @@
+//! Texts: their tokens, their grammar, and the canonical text of a tree. Definitions, and their laws.
+#![tactic(auto)]
+
+mod token;
+
+pub use token::{Mark, Text, Token, TokenKind};

@@ -1,0 +1,119 @@
+use dlk_tree::{Name, Num};
+
+/// A fixed spelling.
+#[derive(Clone, Copy, Debug, PartialEq, Eq)]
+pub enum Mark {
+    /// `\forall`
+    Forall,
+    /// `\exists`
+    Exists,
+    /// `@invariant`
+    Invariant,
+    /// `(||)`
+    RoundBars,
+    /// `(|`
+    RoundBar,
+    /// `|)`
+    BarRound,
+    /// `{|`
+    BraceBar,
+    /// `|}`
+    BarBrace,
+    /// `(`
+    OpenRound,
+    /// `)`
+    CloseRound,
+    /// `[`
+    OpenSquare,
+    /// `]`
+    CloseSquare,
+    /// `{`
+    OpenBrace,
+    /// `}`
+    CloseBrace,
+    /// `<->`
+    Equiv,
+    /// `->`
+    Imply,
+    /// `&`
+    And,
+    /// `|`
+    Or,
+    /// `!`
+    Not,
+    /// `==>`
+    Turnstile,
+    /// `=`
+    Equal,
+    /// `!=`
+    NotEqual,
+    /// `>=`
+    AtLeast,
+    /// `>`
+    Greater,
+    /// `<=`
+    AtMost,
+    /// `<`
+    Less,
+    /// `+`
+    Plus,
+    /// `-`
+    Minus,
+    /// `*`
+    Star,
+    /// `/`
+    Slash,
+    /// `^`
+    Caret,
+    /// `'`
+    Prime,
+    /// `:=`
+    Gets,
+    /// `++`
+    Choice,
+    /// `?`
+    Query,
+    /// `;`
+    Semicolon,
+    /// `,`
+    Comma,
+    /// `~>`
+    Becomes,
+    /// `~~`
+    Swaps,
+}
+
+/// What a token is.
+#[derive(Drop, Debug, PartialEq, Eq)]
+pub enum TokenKind {
+    Word(Name),
+    /// The word `true`.
+    True,
+    /// The word `false`.
+    False,
+    Number(Num),
+    /// A literal of more than 38 digits as written.
+    LongNumber,
+    /// An argument dot, as `._0`.
+    Dot(u8),
+    /// `_`
+    Hole,
+    Mark(Mark),
+    /// The end of the text.
+    End,
+}
+
+/// A token, with the places of its first byte and of the byte behind its last.
+#[derive(Drop, Debug, PartialEq, Eq)]
+pub struct Token {
+    pub kind: TokenKind,
+    pub at: usize,
+    pub end: usize,
+}
+
+/// What a text is to be. Until the whole syntax is read, a sequent has more tokens than a formula.
+#[derive(Clone, Copy, Debug, PartialEq, Eq)]
+pub enum Text {
+    Formula,
+    Sequent,
+}

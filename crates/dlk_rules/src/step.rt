@@ -1,0 +1,11 @@
+use crate::rule::Rule;
+use dlk_sequent::Sequent;
+
+/// A step of a proof. Facts, which are earlier rows, and their goals go by their numbers, counted from 1.
+#[derive(Drop, Debug)]
+pub enum Step {
+    /// The sequent is the conclusion, and its own goal.
+    Start(Sequent),
+    /// The premises of a rule on a goal of a fact stand in the goal's place.
+    Apply { fact: u32, goal: u32, rule: Rule },
+}
