@@ -1,0 +1,5 @@
+pub mod PlaceLaws
+pub mod Decide
+pub mod RuleLaws
+pub mod StepLaws
+pub mod Histories
