@@ -3,3 +3,4 @@ pub mod Decide
 pub mod RuleLaws
 pub mod StepLaws
 pub mod Histories
+pub mod Formulas

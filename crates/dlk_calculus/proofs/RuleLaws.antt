@@ -81,8 +81,11 @@ rule_cases (Close i j) s =
         | inr n ↦ inr (NoPlace, first_no_place (Close i j) s (λ p. n p.1))
         | inl k ↦ elim (same_tree h.0 k.0) [
           | yes e ↦ inl ([], close i j s h.0 h.1 (k.1 ∙ ap Some (sym e)))
-          | no n ↦ inr (NotEqual, first_not_equal (Close i j) s (At_place s.ante i h.0 h.1, At_place s.succ j k.0 k.1) tt
-                 (λ m. n (at_one s.ante i h.0 m.0 h.1 m.1 ∙ at_one s.succ j m.0 k.0 m.2 k.1)))
+          | no n ↦ inr (
+            NotEqual,
+            first_not_equal (Close i j) s (At_place s.ante i h.0 h.1, At_place s.succ j k.0 k.1) tt
+                (λ m. n (at_one s.ante i h.0 m.0 h.1 m.1 ∙ at_one s.succ j m.0 k.0 m.2 k.1)),
+          )
         ]
       ]
     ]

@@ -1,7 +1,7 @@
 //! The laws of the calculus. Each is a contract of a function that does nothing.
 ghost use Rattle.std.specs.Prelude.{◌≡◌, ◌⊎◌, ◌↔◌, List, All};
 ghost use Rattle.dlk_calculus.specs.declared.reason.Reason.{Reason as TheReason};
-ghost use Rattle.dlk_calculus.specs.Provables.{Provable};
+ghost use Rattle.dlk_calculus.specs.Provables.{Provable, HasFormulas};
 ghost use Rattle.dlk_calculus.specs.Steps.{Step, Gives, Against, History, Derives, Fault, StepOf};
 
 /// A step gives at most one provable.
@@ -23,4 +23,9 @@ pub fn given_unless_against()
 /// Each row of a history is derived.
 pub fn history_derives()
     ensures { (rows : List Provable) → History rows → All Derives rows }
+{}
+
+/// What is derived is made of formulas.
+pub fn derived_formulas()
+    ensures { (p : Provable) → Derives p → HasFormulas p }
 {}
