@@ -55,3 +55,9 @@ pub record Fault (rows : List Provable) (step : Step) (why : Reason) : Type 0 wh
 pub record StepOf (rows : List Provable) (step : Step) (p : Provable) : Type 0 where
   pub given : Gives rows step p
   pub allowed : (why : Reason) → ¬ Against why rows step
+
+-- the rows with the step's provable last
+pub record Adds (rows : List Provable) (step : Step) (after : List Provable) : Type 0 where
+  pub provable : Provable
+  pub is_its : StepOf rows step provable
+  pub after_is : after ≡ rows ++ provable ∷ []
