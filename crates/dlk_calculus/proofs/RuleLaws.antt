@@ -7,7 +7,7 @@ use Rattle.dlk_calculus.specs.declared.reason.Reason.{Reason}
 use Rattle.dlk_calculus.specs.declared.reason.Reason.TheVariants.{NoFact, NoGoal, NoPlace, WrongShape, NotEqual}
 use Rattle.dlk_calculus.specs.Places.{At}
 use Rattle.dlk_calculus.specs.Sequents.{Sequent}
-use Rattle.dlk_calculus.specs.Rules.{Rule, ImplyR, Close, imply, last_left, put_right, Premises, implyR, close, HasPlaces, HasShape, HasEquals, RuleAgainst, FirstAgainst}
+use Rattle.dlk_calculus.specs.Rules.{Rule, ImplyR, Close, imply, IsImplication, last_left, put_right, Premises, implyR, close, HasPlaces, HasShape, HasEquals, RuleAgainst, FirstAgainst}
 use Rattle.dlk_calculus.proofs.PlaceLaws.{at_one, At_place, place_cases}
 use Rattle.dlk_calculus.proofs.Decide.{same_op, same_tree}
 
@@ -40,9 +40,6 @@ premises_unless_against (ImplyR j) s premises WrongShape p a = let m = made_by (
 premises_unless_against (Close i j) s premises WrongShape p a = a tt
 premises_unless_against (ImplyR j) s premises NotEqual p a = a tt
 premises_unless_against (Close i j) s premises NotEqual p a = let m = made_by (Close i j) s premises p in a (m.0, m.1, m.2)
-
-abbrev pub IsImplication : Tree → Type 0
-IsImplication t = (f : Tree) × (g : Tree) × (t ≡ imply f g)
 
 implication_over : (op : Op) (kids : Forest) → Dec (op ≡ Imply) → Dec (IsImplication (node op kids))
 implication_over op kids (no n) = no (λ h. let e : node op kids ≡ imply h.0 h.1 = h.2 in n (cc))

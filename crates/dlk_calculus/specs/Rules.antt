@@ -1,5 +1,5 @@
 -- The sequent rules, from the conclusion up to the premises.
-use Rattle.std.specs.Prelude.{ℕ, ◌<◌, List, [], ◌∷◌, ◌++◌}
+use Rattle.std.specs.Prelude.{◌≡◌, ℕ, ◌<◌, List, [], ◌∷◌, ◌++◌}
 use Rattle.dlk_tree.specs.Trees.{Tree, node, no_kids, kid}
 use Rattle.dlk_tree.specs.declared.op.Op.TheVariants.{Imply}
 use Rattle.dlk_calculus.specs.declared.reason.Reason.{Reason}
@@ -15,6 +15,9 @@ pub data Rule : Type 0 where
 
 abbrev pub imply : Tree → Tree → Tree
 imply f g = node Imply (kid f (kid g no_kids))
+
+abbrev pub IsImplication : Tree → Type 0
+IsImplication t = (f : Tree) × (g : Tree) × (t ≡ imply f g)
 
 -- f put last on the left
 abbrev pub last_left : Tree → Sequent → Sequent
