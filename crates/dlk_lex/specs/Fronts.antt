@@ -1,5 +1,5 @@
 -- The token at the front of bytes.
-use Rattle.std.specs.Prelude.{◌≡◌, ℕ, suc, ◌<◌, ◌≤◌, Bool, true, false, List, [], ◌∷◌, ◌++◌, length, take, Option, Some, None, if◌then◌else◌}
+use Rattle.std.specs.Prelude.{◌≡◌, ℕ, ◌<◌, ◌≤◌, Bool, true, false, List, [], ◌∷◌, ◌++◌, length, take, Option, Some, None}
 use Rattle.dlk_grammar.specs.declared.token.Mark.{Mark}
 use Rattle.dlk_grammar.specs.declared.token.Mark.TheVariants as mark
 use Rattle.dlk_grammar.specs.declared.token.TokenKind.{TokenKind}
@@ -24,11 +24,6 @@ pub record IsFrontMark (text : Text) (bytes : List ℕ) (m : Mark) : Type 0 wher
 -- no mark is at the front
 abbrev pub HasNoMark : Text → List ℕ → Type 0
 HasNoMark text bytes = (m : Mark) (after : List ℕ) → IsMarkOf text m → ¬ (bytes ≡ spelling m ++ after)
-
--- how many bytes at the front pass a test
-abbrev pub run : (ℕ → Bool) → List ℕ → ℕ
-run p [] = 0
-run p (b ∷ bs) = if p b then suc (run p bs) else 0
 
 abbrev pub is_built : TokenKind → Bool
 is_built (kind.Word x) = true

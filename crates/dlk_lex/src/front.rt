@@ -1,9 +1,9 @@
 //! The token at the front of bytes.
 ghost use Rattle.std.specs.Prelude.{◌≡◌, ◌≤◌, IsTrue, IfOk, length};
-ghost use Rattle.std.specs.List.{take_while};
+ghost use Rattle.std.specs.List.{prefix_len};
 ghost use Rattle.dlk_tree.specs.Names.{is_letter, is_name_byte, is_word};
 ghost use Rattle.dlk_grammar.specs.Tokens.{is_digit, are_digits, Spells};
-ghost use Rattle.dlk_lex.specs.Fronts.{is_built, run, IsFront, IsBuiltFront};
+ghost use Rattle.dlk_lex.specs.Fronts.{is_built, IsFront, IsBuiltFront};
 
 use crate::fault::LexFault;
 use crate::marks::{front_mark, spelling};
@@ -31,7 +31,7 @@ fn is_name_byte(b: u8) -> bool
 
 /// How many bytes of a word are at the front.
 fn word_run(bytes: &[u8]) -> usize
-    ensures { result ≡ run is_name_byte bytes.now }
+    ensures { result ≡ prefix_len is_name_byte bytes.now }
 {
     let mut n = 0;
     while n < bytes.len() && is_name_byte(bytes[n]) {
@@ -42,7 +42,7 @@ fn word_run(bytes: &[u8]) -> usize
 
 /// How many digits are at the front.
 fn digit_run(bytes: &[u8]) -> usize
-    ensures { result ≡ run is_digit bytes.now }
+    ensures { result ≡ prefix_len is_digit bytes.now }
 {
     let mut n = 0;
     while n < bytes.len() && is_digit(bytes[n]) {
