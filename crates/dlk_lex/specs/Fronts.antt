@@ -6,7 +6,7 @@ use Rattle.dlk_grammar.specs.declared.token.TokenKind.{TokenKind}
 use Rattle.dlk_grammar.specs.declared.token.TokenKind.TheVariants as kind
 use Rattle.dlk_grammar.specs.declared.token.Text.{Text}
 use Rattle.dlk_grammar.specs.declared.token.Text.TheVariants.{Formula, Sequent}
-use Rattle.dlk_grammar.specs.Tokens.{spelling, IsMarkOf, Spells, IsBuilt}
+use Rattle.dlk_grammar.specs.Tokens.{spelling, IsMarkOf, IsBuilt}
 use Rattle.dlk_grammar.specs.Splits.{Longest}
 
 -- the marks that are tokens of a text

@@ -5,11 +5,10 @@ ghost use Rattle.dlk_tree.specs.Names.{is_letter, is_name_byte, is_word};
 ghost use Rattle.dlk_grammar.specs.Tokens.{is_digit, are_digits, Spells};
 ghost use Rattle.dlk_lex.specs.Fronts.{is_built, IsFront, IsBuiltFront};
 
-use crate::fault::LexFault;
 use crate::marks::{front_mark, spelling};
 use dlk_grammar::{Text, TokenKind};
 use dlk_tree::{Name, NameFault, Num};
-use std::alloc::Global;
+use std::alloc::{AllocError, Global};
 
 fn is_letter(b: u8) -> bool
     ensures { result ≡ is_letter b }
@@ -52,7 +51,7 @@ fn digit_run(bytes: &[u8]) -> usize
 }
 
 /// A word as a token.
-fn word(alloc: Global, text: Text, bytes: &[u8]) -> Result<TokenKind, LexFault>
+fn word(alloc: Global, text: Text, bytes: &[u8]) -> Result<TokenKind, AllocError>
     requires { IsTrue (is_word bytes.now) }
     ensures { IfOk result (Spells text bytes.now) }
 {
@@ -64,7 +63,7 @@ fn word(alloc: Global, text: Text, bytes: &[u8]) -> Result<TokenKind, LexFault>
     }
     match Name::new(alloc, bytes) {
         Ok(name) => Ok(TokenKind::Word(name)),
-        Err(NameFault::Memory) => Err(LexFault::Memory),
+        Err(NameFault::Memory) => Err(AllocError),
         Err(NameFault::NotAName) => unreachable!(),
     }
 }
@@ -88,17 +87,18 @@ fn number(text: Text, digits: &[u8]) -> TokenKind
 }
 
 /// The longest token at the front, and how many bytes it has.
-fn front(alloc: Global, text: Text, bytes: &[u8]) -> Result<Option<(TokenKind, usize)>, LexFault>
+fn front(alloc: Global, text: Text, bytes: &[u8]) -> Result<Option<(TokenKind, usize)>, AllocError>
     ensures { IfOk result (IsFront text bytes.now) }
 {
-    let Some(first) = bytes.first() else {
+    if bytes.is_empty() {
         return Ok(None);
-    };
-    if is_letter(*first) {
+    }
+    let first = bytes[0];
+    if is_letter(first) {
         let n = word_run(bytes);
         return Ok(Some((word(alloc, text, &bytes[..n])?, n)));
     }
-    if is_digit(*first) {
+    if is_digit(first) {
         let n = digit_run(bytes);
         return Ok(Some((number(text, &bytes[..n]), n)));
     }
@@ -130,7 +130,7 @@ pub(crate) fn built_front(
     alloc: Global,
     text: Text,
     bytes: &[u8],
-) -> Result<Option<(TokenKind, usize)>, LexFault>
+) -> Result<Option<(TokenKind, usize)>, AllocError>
     ensures { IfOk result (IsBuiltFront text bytes.now) }
 {
     let Some((kind, n)) = front(alloc, text, bytes)? else {
