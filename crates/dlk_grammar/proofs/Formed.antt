@@ -1,19 +1,18 @@
 -- What is read is well made, where the names and the numbers of its tokens are.
-use Rattle.std.proofs.Common.{◌≡◌, ℕ, zero, suc, ◌+◌, ◌*◌, ◌-◌, ◌^◌, ◌<◌, ◌≤◌, Bool, true, false, ◌&&◌, nat_le, List, [], ◌∷◌, ◌++◌, length, map, refl, sym, ap, subst, ◌∙◌, arith, IsTrue, lit<, lit≤}
+use Rattle.std.proofs.Common.{◌≡◌, ℕ, ◌+◌, ◌*◌, ◌-◌, ◌^◌, ◌<◌, ◌≤◌, true, false, nat_le, List, [], ◌∷◌, ◌++◌, length, map, refl, arith, IsTrue, lit<}
 use Rattle.std.specs.Prelude.{All}
 use Rattle.std.specs.List.{list_all, fold}
 use Rattle.std.proofs.Math.Nat.{pow-le-pow_right, pow-succ', mul-le-mul_right, mul_assoc}
 use Rattle.std.proofs.lemmas.List.Elements.{All-push}
 use Rattle.std.proofs.lemmas.Bool.{and_parts, leb-true, lt-ltb}
 use Rattle.dlk_tree.specs.Names.{is_name}
-use Rattle.dlk_tree.specs.Table.{Fits, is_num}
-use Rattle.dlk_tree.specs.Trees.{Tree, node, sort, WellMade}
+use Rattle.dlk_tree.specs.Table.{is_num}
+use Rattle.dlk_tree.specs.Trees.{Tree, sort, WellMade}
 use Rattle.dlk_tree.specs.Occurs.{has_dots, has_hole}
 use Rattle.dlk_tree.specs.declared.op.Sort.{Sort}
 use Rattle.dlk_tree.specs.declared.op.Sort.TheVariants as sort_of
 use Rattle.dlk_calculus.specs.Sequents.{Sequent, IsFormula, IsSequent}
 use Rattle.dlk_grammar.specs.declared.token.Token.{Token}
-use Rattle.dlk_grammar.specs.declared.token.Mark.{Mark}
 use Rattle.dlk_grammar.specs.declared.token.TokenKind.{TokenKind}
 use Rattle.dlk_grammar.specs.declared.token.TokenKind.TheVariants.{Word, True, False, Number, LongNumber, Dot, Hole, Mark as AMark, End}
 use Rattle.dlk_grammar.specs.declared.token.Text.{Text}

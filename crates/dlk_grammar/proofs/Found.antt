@@ -1,6 +1,5 @@
 -- What is read is in the grammar.
-use Rattle.std.proofs.Common.{◌≡◌, List, [], ◌∷◌, ◌++◌, Option, Some, None, refl, sym, ap, subst, ◌∙◌, append_assoc}
-use Rattle.std.specs.Prelude.{option_and_then}
+use Rattle.std.proofs.Common.{◌≡◌, List, [], ◌∷◌, ◌++◌, Some, refl, sym, ap, subst, ◌∙◌, append_assoc}
 use Rattle.std.proofs.lemmas.List.{append-nil}
 use Rattle.std.proofs.lemmas.Option.{same_Some}
 use Rattle.dlk_tree.specs.Trees.{Tree}
@@ -9,8 +8,8 @@ use Rattle.dlk_grammar.specs.declared.token.Mark.{Mark}
 use Rattle.dlk_grammar.specs.declared.token.Mark.TheVariants as mark
 use Rattle.dlk_grammar.specs.declared.token.TokenKind.{TokenKind}
 use Rattle.dlk_grammar.specs.declared.token.TokenKind.TheVariants.{Word, True, False, Number, LongNumber, Dot, Hole, Mark as AMark, End}
-use Rattle.dlk_grammar.specs.Grammar.{Form, formula, imp, atom, term, Reads, formula-imp, imp-atom, imp-imply, atom-at_least, atom-bracket, term-number, term-name}
-use Rattle.dlk_grammar.proofs.Machine.{variable, number, at_least, Open, Left, Bracket, Last, Nothing, Term, Compared, Whole, State, state, fresh, Joined, AtBracket, AtStart, join, joined, shut, done, Role, Opens, Closes, Implies, Compares, Other, role, act, operand, step, steps, ended, read, bind_some, steps-append, steps_then}
+use Rattle.dlk_grammar.specs.Grammar.{formula, imp, atom, term, Reads, formula-imp, imp-atom, imp-imply, atom-at_least, atom-bracket, term-number, term-name}
+use Rattle.dlk_grammar.proofs.Machine.{variable, number, at_least, Open, Left, Bracket, Nothing, Term, Compared, Whole, State, state, fresh, Joined, AtBracket, AtStart, join, joined, shut, done, Role, Opens, Closes, Implies, Compares, Other, role, act, operand, step, steps, ended, read, bind_some}
 
 -- what is open spells the tokens
 pub data Spells : List Open → List TokenKind → Type 0 where

@@ -6,3 +6,4 @@ pub mod Found
 pub mod Sides
 pub mod SequentLaws
 pub mod Formed
+pub mod TextLaws

@@ -1,5 +1,5 @@
 -- A machine that reads formulas token by token.
-use Rattle.std.proofs.Common.{◌≡◌, ℕ, false, List, [], ◌∷◌, ◌++◌, Option, Some, None, refl, sym, ap, ◌∙◌}
+use Rattle.std.proofs.Common.{◌≡◌, ℕ, false, List, [], ◌∷◌, ◌++◌, Option, Some, None, refl, ap, ◌∙◌}
 use Rattle.std.specs.Prelude.{option_and_then}
 use Rattle.dlk_tree.specs.Trees.{Tree, node, no_kids, kid}
 use Rattle.dlk_tree.specs.declared.op.Op.TheVariants as op

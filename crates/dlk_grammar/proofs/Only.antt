@@ -1,14 +1,12 @@
 -- What is in the grammar is read, as its one tree.
-use Rattle.std.proofs.Common.{◌≡◌, List, [], ◌∷◌, ◌++◌, Option, Some, None, refl, sym, ap, ◌∙◌}
+use Rattle.std.proofs.Common.{◌≡◌, List, [], ◌∷◌, Some, refl, ap, ◌∙◌}
 use Rattle.std.specs.Prelude.{option_and_then}
-use Rattle.std.proofs.lemmas.Option.{same_Some}
 use Rattle.dlk_tree.specs.Trees.{Tree}
-use Rattle.dlk_calculus.specs.Rules.{imply}
 use Rattle.dlk_grammar.specs.declared.token.TokenKind.{TokenKind}
 use Rattle.dlk_grammar.specs.declared.token.TokenKind.TheVariants.{Mark as AMark}
 use Rattle.dlk_grammar.specs.declared.token.Mark.TheVariants as mark
 use Rattle.dlk_grammar.specs.Grammar.{Form, formula, imp, atom, term, Reads, formula-imp, imp-atom, imp-imply, atom-at_least, atom-bracket, term-number, term-name}
-use Rattle.dlk_grammar.proofs.Machine.{at_least, Open, Left, Bracket, Last, Nothing, Term, Compared, Whole, State, state, fresh, Joined, join, joined, shut, done, steps, ended, read, bind_some, steps-append, steps_then}
+use Rattle.dlk_grammar.proofs.Machine.{at_least, Open, Left, Bracket, Nothing, Term, Compared, Whole, State, state, fresh, Joined, join, shut, done, steps, ended, read, steps_then}
 
 -- the tokens lead to a formula that joins as the tree does
 pub record Leads (S : List Open) (s : List TokenKind) (t : Tree) : Type 0 where

@@ -1,5 +1,5 @@
 -- The two sides of a sequent.
-use Rattle.std.proofs.Common.{◌≡◌, Bool, true, false, cond, ◌&&◌, not, List, [], ◌∷◌, ◌++◌, Option, Some, None, refl, sym, ap, subst, ◌∙◌, if◌then◌else◌}
+use Rattle.std.proofs.Common.{◌≡◌, Bool, true, false, cond, not, List, [], ◌∷◌, ◌++◌, Option, Some, None, refl, sym, ap, subst, ◌∙◌, if◌then◌else◌}
 use Rattle.std.specs.Prelude.{option_and_then, option_map}
 use Rattle.std.specs.List.{list_all}
 use Rattle.std.proofs.lemmas.List.Folds.{list_all-append}
@@ -78,7 +78,7 @@ cut_is (k ∷ ks) s r e = go (is_turnstile k) refl e (cut ks) refl (λ t q. cut_
         let front : k ∷ p.0 ≡ s = ap (λ (q : List TokenKind × List TokenKind). q.0) w in
         let back : p.1 ≡ r = ap (λ (q : List TokenKind × List TokenKind). q.1) w in
         ap (λ l. k ∷ l) (rest p.0 p.1 g) ∙ ap (λ l. l ++ AMark mark.Turnstile ∷ p.1) front ∙ ap (λ l. s ++ AMark mark.Turnstile ∷ l) back
-    go false h f None g rest = let w : None ≡ Some (s, r) = sym (ap (option_map (behind k)) g) ∙ f in absurd cc
+    go false h f None g rest = let w : ◌≡◌ {A = Option (List TokenKind × List TokenKind)} None (Some (s, r)) = sym (ap (option_map (behind k)) g) ∙ f in absurd cc
 
 -- no `==>` stands in a formula
 both : (s r : List TokenKind) → list_all is_inside s ≡ true → list_all is_inside r ≡ true → list_all is_inside (s ++ r) ≡ true

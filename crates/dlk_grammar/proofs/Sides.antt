@@ -8,8 +8,8 @@ use Rattle.dlk_grammar.specs.declared.token.Mark.{Mark}
 use Rattle.dlk_grammar.specs.declared.token.Mark.TheVariants as mark
 use Rattle.dlk_grammar.specs.declared.token.TokenKind.{TokenKind}
 use Rattle.dlk_grammar.specs.declared.token.TokenKind.TheVariants.{Word, True, False, Number, LongNumber, Dot, Hole, Mark as AMark, End}
-use Rattle.dlk_grammar.specs.Grammar.{Reads, formula, ReadsList, list-one, list-more, ReadsSide, side-nothing, side-list}
-use Rattle.dlk_grammar.proofs.Machine.{State, state, fresh, step, steps, ended, bind_some}
+use Rattle.dlk_grammar.specs.Grammar.{ReadsList, list-one, list-more, ReadsSide, side-nothing, side-list}
+use Rattle.dlk_grammar.proofs.Machine.{State, fresh, step, steps, ended, bind_some}
 use Rattle.dlk_grammar.proofs.Only.{reads_steps}
 use Rattle.dlk_grammar.proofs.Found.{Shows, nothing, step_shows, ended_reads}
 
@@ -108,7 +108,7 @@ listed (list-more {s = s} {r = r} {l = l} {a = a} p d) =
     let w = listed p in
     let v = reads_steps d in
     let comma : side_step (side w.before w.state_is) (AMark mark.Comma) ≡ Some (side l fresh) =
-        ap (option_and_then (λ t. Some (more w.before t))) w.ends ∙ ap (λ (m : List Tree). Some (side m fresh)) (sym w.list) in
+    ap (option_and_then (λ t. Some (more w.before t))) w.ends ∙ ap (λ (m : List Tree). Some (side m fresh)) (sym w.list) in
     record {
       before = l;
       last = a;
@@ -146,9 +146,11 @@ side_step_shows (side l x) v ks k p e = go (is_comma k) refl p e
     is_one : (k : TokenKind) → is_comma k ≡ true → k ≡ AMark mark.Comma
     is_one (AMark mark.Comma) h = refl
     is_one _ h = absurd cc
+
     old : (y : State) → step x k ≡ Some y → SideShows (side l x) ks → SideShows (side l y) (ks ++ k ∷ [])
     old y f (inl q) = inl (q.0, step_shows x y ks k q.1 f)
     old y f (inr q) = inr (q.0, q.1 ++ k ∷ [], q.2, step_shows x y q.1 k q.3 f, ap (λ m. m ++ k ∷ []) q.4 ∙ append_assoc q.0 (AMark mark.Comma ∷ q.1) (k ∷ []))
+
     go : (c : Bool) → is_comma k ≡ c → SideShows (side l x) ks → cond c (option_and_then (λ t. Some (more l t)) (ended x)) (option_and_then (λ y. Some (go_on l y)) (step x k)) ≡ Some v → SideShows v (ks ++ k ∷ [])
     go true h q f =
         let b = bind_some (λ t. Some (more l t)) (ended x) v f in

@@ -1,9 +1,9 @@
 -- What the bytes of a token begin with, and that they are one token.
-use Rattle.std.proofs.Common.{◌≡◌, ℕ, ◌+◌, ◌<◌, ◌≤◌, Bool, true, false, cond, ◌&&◌, ◌||◌, not, leb, nat_le, ◌==◌, List, [], ◌∷◌, ◌++◌, length, refl, sym, ap, ◌∙◌, inl, inr, arith, IsTrue, codes, if◌then◌else◌}
+use Rattle.std.proofs.Common.{◌≡◌, ℕ, ◌≤◌, true, false, leb, nat_le, ◌==◌, List, [], ◌∷◌, length, refl, sym, ap, ◌∙◌, inl, inr, arith, codes, if◌then◌else◌}
 use Rattle.std.specs.List.{list_all}
 use Rattle.std.specs.Str.{bytes_eq}
 use Rattle.std.proofs.lemmas.Bool.{and_parts, or_cases, leb-true, le-leb, lt-leb, eqb-true, true≢false, eq-eqb}
-use Rattle.dlk_tree.specs.Names.{is_between, is_letter, is_name_byte, is_word, is_name}
+use Rattle.dlk_tree.specs.Names.{is_letter, is_name_byte, is_word, is_name}
 use Rattle.dlk_grammar.specs.declared.token.Mark.{Mark}
 use Rattle.dlk_grammar.specs.declared.token.Mark.TheVariants as mark
 use Rattle.dlk_grammar.specs.declared.token.TokenKind.{TokenKind}
@@ -84,6 +84,7 @@ letter_word (a_mark m h) b l e n = absurd (go h e)
   where
     no : (c : ℕ) (r : List ℕ) → c ∷ r ≡ b ∷ l → is_letter c ≡ false → ⊥
     no c r f x = let same : c ≡ b = cc in true≢false (sym n ∙ ap is_letter (sym same) ∙ x)
+
     go : {text : Text} {m : Mark} → IsMarkOf text m → spelling m ≡ b ∷ l → ⊥
     go open_round f = no _ _ f refl
     go close_round f = no _ _ f refl
@@ -105,6 +106,7 @@ digit_number (a_mark m h) b l e n = absurd (go h e)
   where
     no : (c : ℕ) (r : List ℕ) → c ∷ r ≡ b ∷ l → is_digit c ≡ false → ⊥
     no c r f x = let same : c ≡ b = cc in true≢false (sym n ∙ ap is_digit (sym same) ∙ x)
+
     go : {text : Text} {m : Mark} → IsMarkOf text m → spelling m ≡ b ∷ l → ⊥
     go open_round f = no _ _ f refl
     go close_round f = no _ _ f refl
