@@ -2,3 +2,5 @@ pub mod Tokens
 pub mod Splits
 pub mod Grammar
 pub mod Texts
+pub mod Shown
+pub mod ShownExamples
