@@ -1,5 +1,5 @@
 -- Proof-term files: their lines, and what becomes of them.
-use Rattle.std.specs.Prelude.{◌≡◌, ◌≢◌, ℕ, ◌+◌, ◌≤◌, ◌==◌, if◌then◌else◌, List, [], ◌∷◌, ◌++◌, length}
+use Rattle.std.specs.Prelude.{◌≡◌, ◌≢◌, ℕ, ◌+◌, ◌≤◌, ◌==◌, Bool, if◌then◌else◌, List, [], ◌∷◌, ◌++◌, length}
 use Rattle.dlk_calculus.specs.Provables.{Provable}
 use Rattle.dlk_calculus.specs.Steps.{Step, StepOf, Fault}
 use Rattle.dlk_calculus.specs.declared.reason.Reason.{Reason}
@@ -12,10 +12,13 @@ abbrev pub before_first_line : ℕ → List (List ℕ) → List (List ℕ)
 before_first_line byte [] = (byte ∷ []) ∷ []
 before_first_line byte (line ∷ lines) = (byte ∷ line) ∷ lines
 
+abbrev pub is_line_feed : ℕ → Bool
+is_line_feed byte = byte == 10
+
 -- the lines of a file: each is ended by a line feed, of which the last may be missing
 abbrev pub file_lines : List ℕ → List (List ℕ)
 file_lines [] = []
-file_lines (byte ∷ bytes) = if byte == 10 then [] ∷ file_lines bytes else before_first_line byte (file_lines bytes)
+file_lines (byte ∷ bytes) = if is_line_feed byte then [] ∷ file_lines bytes else before_first_line byte (file_lines bytes)
 
 -- StepLines lines rows: the lines are steps of the calculus, numbered from 1 on, and these rows are what they give in turn.
 pub data StepLines : List (List ℕ) → List Provable → Type 0 where
