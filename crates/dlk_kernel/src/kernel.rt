@@ -36,11 +36,12 @@ impl<S: Store> Kernel<S> {
     ghost use Rattle.std.specs.Prelude.{◌≡◌, ◌≤◌, [], length, map, take, All, Some, option_map, IfSome, IfOk, OnOk, IfErr, OnErr};
     ghost use Rattle.dlk_calculus.specs.Places.{at, IsPlace};
     ghost use Rattle.dlk_calculus.specs.Sequents.{IsSequent};
+    ghost use Rattle.dlk_calculus.specs.Provables.{HasFormulas};
     ghost use Rattle.dlk_calculus.specs.Steps.{Derives, Adds, Fault};
     ghost use Rattle.dlk_sequent.specs.Sequents.{sequent_at, IsKnown};
     ghost use Rattle.dlk_rules.specs.Steps.{step_at, HasKnownIds, StartsFormulas};
     ghost use Rattle.dlk_kernel.specs.Faults.{IsStepFault};
-    ghost use Rattle.dlk_kernel.specs.Kernel.{facts, SameRows, ExtendsRows};
+    ghost use Rattle.dlk_kernel.specs.Kernel.{facts, provable_at, IsKnownRow, SameRows, ExtendsRows};
 
     /// A kernel without rows over a store.
     pub fn new(alloc: Global, store: S) -> Self
@@ -61,6 +62,17 @@ impl<S: Store> Kernel<S> {
         self.rows.len() as u32
     }
 
+    /// The row of a fact.
+    fn row(&self, fact: u32) -> &Row
+        requires { IsPlace self.now.rows fact }
+        ensures fact { at (facts S.trees self.now) fact ≡ Some (provable_at (S.trees self.now.store) result.now) }
+        ensures known { IsKnownRow (S.trees self.now.store) result.now }
+        ensures derived { Derives (provable_at (S.trees self.now.store) result.now) }
+        ensures formulas { HasFormulas (provable_at (S.trees self.now.store) result.now) }
+    {
+        &self.rows[fact as usize - 1]
+    }
+
     /// The conclusion of a fact, which is a row's number from 1 to `rows()`: a sequent of formulas.
     pub fn conclusion(&self, fact: u32) -> &Sequent
         requires { IsPlace self.now.rows fact }
@@ -69,7 +81,7 @@ impl<S: Store> Kernel<S> {
         ensures known { IsKnown (S.trees self.now.store) result.now }
         ensures formulas { IsSequent (sequent_at (S.trees self.now.store) result.now) }
     {
-        &self.rows[fact as usize - 1].conclusion
+        &self.row(fact).conclusion
     }
 
     /// The goals of a fact, which is a row's number from 1 to `rows()`: the sequents that are left to be proved.
@@ -80,7 +92,7 @@ impl<S: Store> Kernel<S> {
         ensures known { All (IsKnown (S.trees self.now.store)) result.now }
         ensures formulas { All (λ s. IsSequent (sequent_at (S.trees self.now.store) s)) result.now }
     {
-        self.rows[fact as usize - 1].goals.as_slice()
+        self.row(fact).goals.as_slice()
     }
 
     /// The leaves of a fact, which is a row's number from 1 to `rows()`: the facts of arithmetic that it rests on.
@@ -91,7 +103,7 @@ impl<S: Store> Kernel<S> {
         ensures known { All (IsKnown (S.trees self.now.store)) result.now }
         ensures formulas { All (λ s. IsSequent (sequent_at (S.trees self.now.store) s)) result.now }
     {
-        self.rows[fact as usize - 1].leaves.as_slice()
+        self.row(fact).leaves.as_slice()
     }
 
     /// Takes a step: the row that it gives comes last, and its number is answered. The ids of a `Start` are those of this
