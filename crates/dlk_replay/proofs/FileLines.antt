@@ -1,8 +1,9 @@
 -- The first line of a file.
-use Rattle.std.proofs.Common.{◌≡◌, ℕ, ◌+◌, ◌<◌, ◌≤◌, List, [], ◌∷◌, ◌++◌, Bool, true, false, length, take, drop, suc, refl, ap, sym, ◌∙◌, arith, inl, inr}
+use Rattle.std.proofs.Common.{◌≡◌, ◌≢◌, ℕ, ◌+◌, ◌-◌, ◌<◌, ◌≤◌, List, [], ◌∷◌, ◌++◌, Bool, true, false, length, take, drop, suc, refl, ap, sym, ◌∙◌, arith, inl, inr}
+use Rattle.std.specs.Prelude.{◌==◌}
 use Rattle.std.specs.List.{position_or_len}
-use Rattle.std.proofs.lemmas.Bool.{cases_Bool, cond-true, cond-false}
-use Rattle.std.proofs.lemmas.List.{take_all, drop-drop, length-drop, nil_from_length}
+use Rattle.std.proofs.lemmas.Bool.{cases_Bool, false≢true, eqb-true}
+use Rattle.std.proofs.lemmas.List.{take_all, drop-drop, length-drop, nil_from_length, take_rest}
 use Rattle.dlk_replay.specs.Files.{file_lines, is_line_feed, before_first_line}
 
 feed_first : (b : ℕ) (bs : List ℕ) → is_line_feed b ≡ true → position_or_len is_line_feed (b ∷ bs) ≡ 0
@@ -52,10 +53,10 @@ first_unended (b ∷ c ∷ cs) some none =
 
 -- a line that is cut off before its line feed
 pub line_before_feed : (left line rest : List ℕ) (end : ℕ) → end ≡ position_or_len is_line_feed left → line ≡ take end left → rest ≡ drop end left → 1 ≤ length rest →
-    file_lines left ≡ line ∷ file_lines (drop 1 rest)
+    file_lines left ≡ line ∷ file_lines (take (length rest - 1) (drop 1 rest))
 line_before_feed left line rest end place line_is rest_is some =
     let within : end < length left = omega (arith, length-drop end left, ap length rest_is) in
-    let behind : drop (end + 1) left ≡ drop 1 rest = sym (drop-drop 1 end left) ∙ ap (drop 1) (sym rest_is) in
+    let behind : drop (end + 1) left ≡ take (length rest - 1) (drop 1 rest) = sym (drop-drop 1 end left) ∙ ap (drop 1) (sym rest_is) ∙ sym (take_rest rest 1) in
     first_ended left end place within ∙ (λ i. sym line_is i ∷ file_lines (behind i))
 
 -- the last line, without a line feed
@@ -66,3 +67,26 @@ line_at_end left line rest end some place within line_is rest_is none =
     let empty : [] ≡ rest = sym (nil_from_length rest (omega arith)) in
     let all : left ≡ line = sym (line_is ∙ take_all end left (omega arith)) in
     first_unended left some (sym whole ∙ place) ∙ (λ i. all i ∷ file_lines (empty i))
+
+-- what is left has a first line
+pub record FirstOf (lines : List (List ℕ)) : Type 0 where
+  pub first : List ℕ
+  pub others : List (List ℕ)
+  pub lines_are : lines ≡ first ∷ others
+
+first_before : (b : ℕ) (lines : List (List ℕ)) → FirstOf (before_first_line b lines)
+first_before b [] = record { first = b ∷ []; others = []; lines_are = refl }
+first_before b (line ∷ lines) = record { first = b ∷ line; others = lines; lines_are = refl }
+
+pub some_line : (bytes : List ℕ) → bytes ≢ [] → FirstOf (file_lines bytes)
+some_line [] some = absurd (some refl)
+some_line (b ∷ bs) some =
+    elim (cases_Bool (is_line_feed b)) [
+      inl feed ↦ record { first = []; others = file_lines bs; lines_are = lines_of_feed b bs feed }
+    | inr other ↦ rw (lines_of_other b bs other) (first_before b (file_lines bs)) ]
+
+pub no_lines_left : (bytes : List ℕ) (empty : Bool) → empty ≡ (length bytes == 0) → empty ≡ true → file_lines bytes ≡ []
+no_lines_left bytes empty e is = ap file_lines (nil_from_length bytes (eqb-true (length bytes) 0 (sym e ∙ is)))
+
+pub line_left_over : (bytes : List ℕ) (empty : Bool) → empty ≡ (length bytes == 0) → empty ≡ false → FirstOf (file_lines bytes)
+line_left_over bytes empty e is = some_line bytes (λ none. false≢true (sym is ∙ e ∙ ap (λ l. length l == 0) none))
