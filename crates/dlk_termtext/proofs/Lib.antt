@@ -1,4 +1,3 @@
 pub mod Numbers
 pub mod Forms
-pub mod TextLaws
 pub mod LineForms

@@ -7,6 +7,7 @@ use Rattle.dlk_calculus.specs.Sequents.{Sequent}
 use Rattle.dlk_calculus.specs.Rules.{Rule}
 use Rattle.dlk_calculus.specs.Steps.{Step, Start, Apply}
 use Rattle.dlk_grammar.specs.Texts.{SequentText, SequentFault, NotBuilt, Syntax}
+use Rattle.dlk_grammar.proofs.TextLaws.{one_sequent_text, sequent_or_fault}
 use Rattle.dlk_rules.specs.Steps.{rule_at}
 use Rattle.dlk_rules.specs.declared.rule.Rule.{Rule as IdRule}
 use Rattle.dlk_rules.specs.declared.rule.Rule.TheVariants as rule
@@ -18,7 +19,6 @@ use Rattle.dlk_termtext.specs.declared.line.LineFault.TheVariants as fault
 use Rattle.dlk_termtext.specs.Read.{IsFaultOf, of_parse}
 use Rattle.dlk_termtext.proofs.Numbers.{one_number_then, cut_off, number_parts}
 use Rattle.dlk_termtext.proofs.Forms.{one_rule}
-use Rattle.dlk_termtext.proofs.TextLaws.{one_sequent, no_text}
 use Rattle.dlk_termtext.specs.Lines.{IsNumber, IsRule, IsStep, start, apply, Line, Numbered, Done, IsLine, numbered, done}
 use Rattle.dlk_termtext.specs.Parts.{NumberThen, FactGoalRule}
 
@@ -101,8 +101,8 @@ numbered_line text n step parts =
 
 -- a sequent that is not read makes no step
 pub start_fault : (text rest : List ℕ) (why : ParseFault) → text ≡ codes "start " ++ rest → IsTextFault (SequentFault rest) why → IsFaultOf ((step : Step) → ¬ IsStep text step) (of_parse why)
-start_fault text rest (parse.NotBuilt at) begins why = λ step. no_start text rest step begins (λ s is. no_text rest s (NotBuilt at) is why)
-start_fault text rest parse.Syntax begins why = λ step. no_start text rest step begins (λ s is. no_text rest s Syntax is why)
+start_fault text rest (parse.NotBuilt at) begins why = λ step. no_start text rest step begins (λ s is. sequent_or_fault rest s (NotBuilt at) is why)
+start_fault text rest parse.Syntax begins why = λ step. no_start text rest step begins (λ s is. sequent_or_fault rest s Syntax is why)
 start_fault text rest parse.Memory begins why = tt
 
 pub no_line : (text : List ℕ) (l : Line) → text ≢ codes "done" → ((n : ℕ) (rest : List ℕ) → ¬ NumberThen text 32 n rest) → ¬ IsLine text l
@@ -128,7 +128,7 @@ one_step text (Start s) (Start t) a b =
     let h = step_parts text (Start s) a in
     let k = step_parts text (Start t) b in
     let same : h.0 ≡ k.0 = append_cancel_left (codes "start ") h.0 k.0 (sym h.1 ∙ k.1) in
-    ap Start (one_sequent k.0 s t (rw (← same) h.2) k.2)
+    ap Start (one_sequent_text {bytes = k.0} (rw (← same) h.2) k.2)
 one_step text (Start s) (Apply fact goal r) a b =
     absurd (start_or_apply _ _ (sym (step_parts text (Start s) a).1 ∙ (step_parts text (Apply fact goal r) b).1))
 one_step text (Apply fact goal r) (Start s) a b =
