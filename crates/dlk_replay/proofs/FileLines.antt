@@ -1,5 +1,5 @@
 -- The first line of a file.
-use Rattle.std.proofs.Common.{◌≡◌, ◌≢◌, ℕ, ◌+◌, ◌-◌, ◌<◌, ◌≤◌, List, [], ◌∷◌, ◌++◌, Bool, true, false, length, take, drop, suc, refl, ap, sym, ◌∙◌, arith, inl, inr}
+use Rattle.std.proofs.Common.{◌≡◌, ◌≢◌, ℕ, ◌+◌, ◌-◌, ◌<◌, ◌≤◌, List, [], ◌∷◌, Bool, true, false, length, take, drop, suc, refl, ap, sym, ◌∙◌, arith, inl, inr}
 use Rattle.std.specs.Prelude.{◌==◌}
 use Rattle.std.specs.List.{position_or_len}
 use Rattle.std.proofs.lemmas.Bool.{cases_Bool, false≢true, eqb-true}
@@ -22,8 +22,9 @@ lines_of_other b bs other = rw other
 no_feed : (b : ℕ) (bs : List ℕ) → length {A = ℕ} (b ∷ bs) ≡ position_or_len is_line_feed (b ∷ bs) → is_line_feed b ≡ false
 no_feed b bs none =
     elim (cases_Bool (is_line_feed b)) [
-      inl feed ↦ absurd (omega (arith, feed_first b bs feed))
-    | inr other ↦ other ]
+      | inl feed ↦ absurd (omega (arith, feed_first b bs feed))
+      | inr other ↦ other
+    ]
 
 -- up to the first line feed, if there is one
 pub first_ended : (bytes : List ℕ) (end : ℕ) → end ≡ position_or_len is_line_feed bytes → end < length bytes →
@@ -31,16 +32,17 @@ pub first_ended : (bytes : List ℕ) (end : ℕ) → end ≡ position_or_len is_
 first_ended [] end place within = absurd (omega (arith, within))
 first_ended (b ∷ bs) end place within =
     elim (cases_Bool (is_line_feed b)) [
-      inl feed ↦
-        let none : end ≡ 0 = place ∙ feed_first b bs feed in
-        rw none (lines_of_feed b bs feed)
-    | inr other ↦
-        let count : end ≡ suc (position_or_len is_line_feed bs) = place ∙ other_first b bs other in
-        let again = first_ended bs (position_or_len is_line_feed bs) refl (omega (arith, within)) in
-        let front : b ∷ take (position_or_len is_line_feed bs) bs ≡ take end (b ∷ bs) = sym (ap (λ k. take k (b ∷ bs)) count) in
-        let one_on : suc (position_or_len is_line_feed bs + 1) ≡ end + 1 = omega arith in
-        let rest : drop (position_or_len is_line_feed bs + 1) bs ≡ drop (end + 1) (b ∷ bs) = ap (λ k. drop k (b ∷ bs)) one_on in
-        lines_of_other b bs other ∙ ap (before_first_line b) again ∙ (λ i. front i ∷ file_lines (rest i)) ]
+      | inl feed ↦
+          let none : end ≡ 0 = place ∙ feed_first b bs feed in
+          rw none (lines_of_feed b bs feed)
+      | inr other ↦
+          let count : end ≡ suc (position_or_len is_line_feed bs) = place ∙ other_first b bs other in
+          let again = first_ended bs (position_or_len is_line_feed bs) refl (omega (arith, within)) in
+          let front : b ∷ take (position_or_len is_line_feed bs) bs ≡ take end (b ∷ bs) = sym (ap (λ k. take k (b ∷ bs)) count) in
+          let one_on : suc (position_or_len is_line_feed bs + 1) ≡ end + 1 = omega arith in
+          let rest : drop (position_or_len is_line_feed bs + 1) bs ≡ drop (end + 1) (b ∷ bs) = ap (λ k. drop k (b ∷ bs)) one_on in
+          lines_of_other b bs other ∙ ap (before_first_line b) again ∙ (λ i. front i ∷ file_lines (rest i))
+    ]
 
 -- all, if there is none
 pub first_unended : (bytes : List ℕ) → 0 < length bytes → length bytes ≡ position_or_len is_line_feed bytes → file_lines bytes ≡ bytes ∷ []
@@ -82,8 +84,9 @@ pub some_line : (bytes : List ℕ) → bytes ≢ [] → FirstOf (file_lines byte
 some_line [] some = absurd (some refl)
 some_line (b ∷ bs) some =
     elim (cases_Bool (is_line_feed b)) [
-      inl feed ↦ record { first = []; others = file_lines bs; lines_are = lines_of_feed b bs feed }
-    | inr other ↦ rw (lines_of_other b bs other) (first_before b (file_lines bs)) ]
+      | inl feed ↦ record { first = []; others = file_lines bs; lines_are = lines_of_feed b bs feed }
+      | inr other ↦ rw (lines_of_other b bs other) (first_before b (file_lines bs))
+    ]
 
 pub no_lines_left : (bytes : List ℕ) (empty : Bool) → empty ≡ (length bytes == 0) → empty ≡ true → file_lines bytes ≡ []
 no_lines_left bytes empty e is = ap file_lines (nil_from_length bytes (eqb-true (length bytes) 0 (sym e ∙ is)))

@@ -1,14 +1,13 @@
 -- How far a replay has come.
-use Rattle.std.proofs.Common.{◌≡◌, ◌≢◌, ℕ, ◌+◌, ◌-◌, ◌≤◌, List, [], ◌∷◌, ◌++◌, length, take, refl, ap, sym, ◌∙◌, append_assoc, arith, subst}
+use Rattle.std.proofs.Common.{◌≡◌, ℕ, ◌+◌, ◌-◌, ◌≤◌, List, [], ◌∷◌, ◌++◌, length, take, refl, ap, sym, ◌∙◌, append_assoc, arith, subst}
 use Rattle.std.proofs.lemmas.List.{length_push, append-nil, take_at, nil_from_length}
 use Rattle.dlk_calculus.specs.Provables.{Provable}
-use Rattle.dlk_calculus.specs.Steps.{Step, Adds}
-use Rattle.dlk_termtext.specs.Lines.{Line, Numbered, Done, IsLine}
+use Rattle.dlk_termtext.specs.Lines.{Numbered, Done, IsLine}
 use Rattle.dlk_replay.specs.declared.fault.LineWhy.{LineWhy}
 use Rattle.dlk_replay.specs.declared.fault.LineWhy.TheVariants as why
 use Rattle.dlk_replay.specs.declared.fault.ReplayFault.{ReplayFault}
 use Rattle.dlk_replay.specs.declared.fault.ReplayFault.TheVariants.{Bad, Memory}
-use Rattle.dlk_replay.specs.Files.{StepLines, no_lines, one_more, Answer, accepted, bad, Verdict, whole, ended, unread, done_first, done_before, misnumbered, faulty, RowsOf, of_steps, of_all}
+use Rattle.dlk_replay.specs.Files.{StepLines, no_lines, one_more, accepted, bad, Verdict, whole, ended, unread, done_first, done_before, misnumbered, faulty, RowsOf, of_steps, of_all}
 use Rattle.dlk_replay.specs.Replay.{IsFaultOf, LeavesRows, IsBadLine, IsLineFault, IsNextStep}
 use Rattle.dlk_replay.proofs.Verdicts.{as_many}
 

@@ -3,7 +3,7 @@ use Rattle.std.proofs.Common.{◌≡◌, ◌≢◌, ℕ, ◌+◌, ◌≤◌, Lis
 use Rattle.std.proofs.lemmas.List.{length_push, append-nil, nil_from_length}
 use Rattle.std.proofs.lemmas.Bool.{cases_order, cases_eq}
 use Rattle.dlk_calculus.specs.Provables.{Provable}
-use Rattle.dlk_calculus.specs.Steps.{Step, Gives, StepOf, Fault, History, Against}
+use Rattle.dlk_calculus.specs.Steps.{Step, StepOf, Fault, History}
 use Rattle.dlk_calculus.specs.declared.reason.Reason.{Reason}
 use Rattle.dlk_calculus.specs.declared.reason.Reason.TheVariants.{NoFact, NoGoal, NoPlace, WrongShape, NotEqual}
 use Rattle.dlk_calculus.specs.Reasons.{rank}
@@ -11,7 +11,6 @@ use Rattle.dlk_calculus.proofs.StepLaws.{one_given, step_cases, StepOf-given}
 use Rattle.dlk_calculus.proofs.Histories.{History-none, History-more}
 use Rattle.dlk_termtext.specs.Lines.{Line, Numbered, Done, IsLine}
 use Rattle.dlk_termtext.proofs.LineForms.{one_line}
-use Rattle.dlk_replay.specs.declared.fault.LineWhy.{LineWhy}
 use Rattle.dlk_replay.specs.declared.fault.LineWhy.TheVariants as why
 use Rattle.dlk_replay.specs.Files.{StepLines, no_lines, one_more, Answer, accepted, bad, Verdict, whole, ended, unread, done_first, done_before, misnumbered, faulty}
 
@@ -32,10 +31,11 @@ one_rank WrongShape = elim [ NoFact ↦ λ e. absurd (omega arith) | NoGoal ↦ 
 one_rank NotEqual = elim [ NoFact ↦ λ e. absurd (omega arith) | NoGoal ↦ λ e. absurd (omega arith) | NoPlace ↦ λ e. absurd (omega arith) | WrongShape ↦ λ e. absurd (omega arith) | NotEqual ↦ λ e. refl ]
 
 one_fault : (rows : List Provable) (step : Step) (a b : Reason) → Fault rows step a → Fault rows step b → a ≡ b
-one_fault rows step a b f g = 
+one_fault rows step a b f g =
     elim (cases_order (rank a) (rank b)) [
-      inl same ↦ one_rank a b same
-    | inr other ↦ elim other [ inl less ↦ absurd (g.first a less f.against) | inr more ↦ absurd (f.first b more g.against) ] ]
+      | inl same ↦ one_rank a b same
+      | inr other ↦ elim other [ inl less ↦ absurd (g.first a less f.against) | inr more ↦ absurd (f.first b more g.against) ]
+    ]
 
 -- what a line is, as line n after these rows
 data Says : Type 0 where
@@ -181,27 +181,30 @@ after_step : (steps rest : List (List ℕ)) (rows : List Provable) (line : List 
     (a : Answer) × Verdict (steps ++ line ∷ rest) a
 after_step steps rest rows line number step is line_is again =
     elim (cases_eq number (length steps + 1)) [
-      inl right ↦
-        let its_own : IsLine line (Numbered (length steps + 1) step) = rw (← right) line_is in
-        elim (step_cases rows step) [
-          inl gives ↦ again gives.0 (one_more is its_own (StepOf-given rows step gives.0 gives.1))
-        | inr against ↦ (bad (length steps + 1) (why.Step against.0), faulty rest is its_own against.1) ]
-    | inr other ↦ (bad (length steps + 1) why.WrongNumber, misnumbered rest is line_is other) ]
+      | inl right ↦
+          let its_own : IsLine line (Numbered (length steps + 1) step) = rw (← right) line_is in
+          elim (step_cases rows step) [
+            | inl gives ↦ again gives.0 (one_more is its_own (StepOf-given rows step gives.0 gives.1))
+            | inr against ↦ (bad (length steps + 1) (why.Step against.0), faulty rest is its_own against.1)
+          ]
+      | inr other ↦ (bad (length steps + 1) why.WrongNumber, misnumbered rest is line_is other)
+    ]
 
 pub some_verdict_from : Decided → (rest steps : List (List ℕ)) (rows : List Provable) → StepLines steps rows → (a : Answer) × Verdict (steps ++ rest) a
 some_verdict_from decided [] steps rows is =
     (bad (length steps + 1) why.NoEnd, subst (λ s. Verdict s (bad (length steps + 1) why.NoEnd)) (sym (append-nil steps)) (ended is))
 some_verdict_from decided (line ∷ rest) steps rows is =
     let again : (p : Provable) → StepLines (steps ++ line ∷ []) (rows ++ p ∷ []) → (a : Answer) × Verdict (steps ++ line ∷ rest) a =
-        λ p more. let found = some_verdict_from decided rest (steps ++ line ∷ []) (rows ++ p ∷ []) more in (found.0, rw append_assoc at found.1) in
+    λ p more. let found = some_verdict_from decided rest (steps ++ line ∷ []) (rows ++ p ∷ []) more in (found.0, rw append_assoc at found.1) in
     elim (decided line) [
-      inl says ↦ by_line says.0 says.1 again
-    | inr none ↦ (bad (length steps + 1) why.Malformed, unread rest is none) ]
+      | inl says ↦ by_line says.0 says.1 again
+      | inr none ↦ (bad (length steps + 1) why.Malformed, unread rest is none)
+    ]
   where
-  by_line : (l : Line) → IsLine line l → ((p : Provable) → StepLines (steps ++ line ∷ []) (rows ++ p ∷ []) → (a : Answer) × Verdict (steps ++ line ∷ rest) a) →
-      (a : Answer) × Verdict (steps ++ line ∷ rest) a
-  by_line (Numbered number step) line_is again = after_step steps rest rows line number step is line_is again
-  by_line Done line_is again = after_done steps rest rows line is line_is
+    by_line : (l : Line) → IsLine line l → ((p : Provable) → StepLines (steps ++ line ∷ []) (rows ++ p ∷ []) → (a : Answer) × Verdict (steps ++ line ∷ rest) a) →
+        (a : Answer) × Verdict (steps ++ line ∷ rest) a
+    by_line (Numbered number step) line_is again = after_step steps rest rows line number step is line_is again
+    by_line Done line_is again = after_done steps rest rows line is line_is
 
 pub some_verdict : Decided → (lines : List (List ℕ)) → (a : Answer) × Verdict lines a
 some_verdict decided lines = some_verdict_from decided lines [] [] no_lines

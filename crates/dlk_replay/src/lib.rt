@@ -9,3 +9,6 @@ mod taking;
 pub use fault::{LineWhy, Outcome, ReplayFault};
 pub use laws::{accepted_derived, one_verdict, some_verdict};
 pub use replaying::replay;
+
+#[cfg(test)]
+mod tests;

@@ -38,15 +38,24 @@ pub(crate) fn take_line<S: Store, L: Ledger>(
         Ok(Line::Done) => Ok(Taken::Done),
         Ok(Line::Step { number, step }) => {
             if number as usize != place {
-                return Err(ReplayFault::Bad { line: place, why: LineWhy::WrongNumber });
+                return Err(ReplayFault::Bad {
+                    line: place,
+                    why: LineWhy::WrongNumber,
+                });
             }
             match kernel.step(alloc, &step, steps) {
                 Ok(_) => Ok(Taken::Step),
-                Err(StepFault::Refused(reason)) => Err(ReplayFault::Bad { line: place, why: LineWhy::Step(reason) }),
+                Err(StepFault::Refused(reason)) => Err(ReplayFault::Bad {
+                    line: place,
+                    why: LineWhy::Step(reason),
+                }),
                 Err(StepFault::Memory) => Err(ReplayFault::Memory),
             }
         }
-        Err(LineFault::Malformed) => Err(ReplayFault::Bad { line: place, why: LineWhy::Malformed }),
+        Err(LineFault::Malformed) => Err(ReplayFault::Bad {
+            line: place,
+            why: LineWhy::Malformed,
+        }),
         Err(LineFault::Memory) => Err(ReplayFault::Memory),
     }
 }

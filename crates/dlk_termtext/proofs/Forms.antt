@@ -1,11 +1,10 @@
 -- The forms of rules, from the front of a text on.
-use Rattle.std.proofs.Common.{◌≡◌, ◌≢◌, ℕ, List, [], ◌∷◌, ◌++◌, length, get_or, Option, Some, None, refl, ap, sym, ◌∙◌, append_assoc, arith}
+use Rattle.std.proofs.Common.{◌≡◌, ◌≢◌, ℕ, List, [], ◌∷◌, ◌++◌, get_or, Option, Some, None, refl, ap, sym, ◌∙◌, append_assoc, arith}
 use Rattle.std.proofs.lemmas.List.{append_cancel_left}
 use Rattle.std.specs.Prelude.{codes, IfNone}
-use Rattle.dlk_tree.specs.Trees.{Tree}
 use Rattle.dlk_calculus.specs.Rules.{Rule, ImplyR, Close}
-use Rattle.dlk_termtext.specs.Lines.{IsNumber, IsRule, implyR, close}
-use Rattle.dlk_termtext.specs.Parts.{NumberThen, OnePlace, TwoPlaces, FactGoalRule}
+use Rattle.dlk_termtext.specs.Lines.{IsRule, implyR, close}
+use Rattle.dlk_termtext.specs.Parts.{OnePlace, TwoPlaces}
 use Rattle.dlk_termtext.proofs.Numbers.{one_number_then}
 
 pub if_none : {X : Type 0} {P : Type 0} (o : Option X) → P → IfNone o P
@@ -19,12 +18,15 @@ RuleParts text (Close i j) = (rest : List ℕ) × (text ≡ codes "close(" ++ re
 
 pub rule_parts : (text : List ℕ) (rule : Rule) → IsRule text rule → RuleParts text rule
 rule_parts _ _ (implyR {j} {right} is) = (j ++ codes ")", refl, record { digits = j; is_number = is; text_is = refl })
-rule_parts _ _ (close {i} {j} {left} {right} first second) =
-    (i ++ codes "," ++ j ++ codes ")", refl, record {
-      rest = j ++ codes ")";
-      first_is = record { digits = i; is_number = first; text_is = simp append_assoc };
-      second_is = record { digits = j; is_number = second; text_is = refl };
-    })
+rule_parts _ _ (close {i} {j} {left} {right} first second) = (
+  i ++ codes "," ++ j ++ codes ")",
+  refl,
+  record {
+    rest = j ++ codes ")";
+    first_is = record { digits = i; is_number = first; text_is = simp append_assoc };
+    second_is = record { digits = j; is_number = second; text_is = refl };
+  },
+)
 
 pub implyR_rule : (text rest : List ℕ) (j : ℕ) → text ≡ codes "implyR(" ++ rest → OnePlace rest j → IsRule text (ImplyR j)
 implyR_rule text rest j begins place =
@@ -37,7 +39,7 @@ close_rule text rest i j begins places =
     let second = places.second_is.digits in
     let behind : first ++ 44 ∷ (second ++ codes ")") ≡ first ++ codes "," ++ second ++ codes ")" = simp append_assoc in
     let e : text ≡ codes "close(" ++ first ++ codes "," ++ second ++ codes ")" =
-        begins ∙ ap (λ l. codes "close(" ++ l) (places.first_is.text_is ∙ ap (λ l. first ++ 44 ∷ l) places.second_is.text_is ∙ behind) in
+    begins ∙ ap (λ l. codes "close(" ++ l) (places.first_is.text_is ∙ ap (λ l. first ++ 44 ∷ l) places.second_is.text_is ∙ behind) in
     rw e (close places.first_is.is_number places.second_is.is_number)
 
 -- a text of a rule begins with one of the names

@@ -1,5 +1,5 @@
 -- The forms of steps and lines, from the front of a text on.
-use Rattle.std.proofs.Common.{◌≡◌, ◌≢◌, ℕ, ◌≤◌, ◌<◌, List, [], ◌∷◌, ◌++◌, length, get_or, refl, ap, sym, ◌∙◌, append_assoc, arith}
+use Rattle.std.proofs.Common.{◌≡◌, ◌≢◌, ℕ, ◌≤◌, List, [], ◌∷◌, ◌++◌, length, get_or, refl, ap, sym, ◌∙◌, append_assoc, arith}
 use Rattle.std.specs.Prelude.{codes}
 use Rattle.std.proofs.lemmas.List.{append_cancel_left}
 use Rattle.dlk_tree.specs.Trees.{Tree}
@@ -19,7 +19,7 @@ use Rattle.dlk_termtext.specs.declared.line.LineFault.TheVariants as fault
 use Rattle.dlk_termtext.specs.Read.{IsFaultOf, of_parse}
 use Rattle.dlk_termtext.proofs.Numbers.{one_number_then, cut_off, number_parts}
 use Rattle.dlk_termtext.proofs.Forms.{one_rule}
-use Rattle.dlk_termtext.specs.Lines.{IsNumber, IsRule, IsStep, start, apply, Line, Numbered, Done, IsLine, numbered, done}
+use Rattle.dlk_termtext.specs.Lines.{IsStep, start, apply, Line, Numbered, Done, IsLine, numbered, done}
 use Rattle.dlk_termtext.specs.Parts.{NumberThen, FactGoalRule}
 
 -- what a step's text is made of
@@ -29,14 +29,17 @@ StepParts text (Apply fact goal r) = (rest : List ℕ) × (text ≡ codes "apply
 
 pub step_parts : (text : List ℕ) (step : Step) → IsStep text step → StepParts text step
 step_parts _ _ (start {sequent} is) = (sequent, refl, is)
-step_parts _ _ (apply {f} {g} {r} a b c) =
-    (f ++ codes " " ++ g ++ codes " " ++ r, refl, record {
-      behind_fact = g ++ codes " " ++ r;
-      behind_goal = r;
-      fact_is = record { digits = f; is_number = a; text_is = simp append_assoc };
-      goal_is = record { digits = g; is_number = b; text_is = simp append_assoc };
-      rule_is = c;
-    })
+step_parts _ _ (apply {f} {g} {r} a b c) = (
+  f ++ codes " " ++ g ++ codes " " ++ r,
+  refl,
+  record {
+    behind_fact = g ++ codes " " ++ r;
+    behind_goal = r;
+    fact_is = record { digits = f; is_number = a; text_is = simp append_assoc };
+    goal_is = record { digits = g; is_number = b; text_is = simp append_assoc };
+    rule_is = c;
+  },
+)
 
 pub start_step : (text rest : List ℕ) (s : Sequent) → text ≡ codes "start " ++ rest → SequentText rest s → IsStep text (Start s)
 start_step text rest s begins is = rw begins (start is)
@@ -53,7 +56,7 @@ apply_step text rest fact goal trees r begins parts =
     let g = parts.goal_is.digits in
     let behind : f ++ 32 ∷ (g ++ 32 ∷ parts.behind_goal) ≡ f ++ codes " " ++ g ++ codes " " ++ parts.behind_goal = simp append_assoc in
     let e : text ≡ codes "apply " ++ f ++ codes " " ++ g ++ codes " " ++ parts.behind_goal =
-        begins ∙ ap (λ l. codes "apply " ++ l) (parts.fact_is.text_is ∙ ap (λ l. f ++ 32 ∷ l) parts.goal_is.text_is ∙ behind) in
+    begins ∙ ap (λ l. codes "apply " ++ l) (parts.fact_is.text_is ∙ ap (λ l. f ++ 32 ∷ l) parts.goal_is.text_is ∙ behind) in
     rw (e, ← rule_anywhere trees r) (apply parts.fact_is.is_number parts.goal_is.is_number parts.rule_is)
 
 pub start_or_apply : (a b : List ℕ) → codes "start " ++ a ≢ codes "apply " ++ b

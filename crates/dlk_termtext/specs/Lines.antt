@@ -1,5 +1,5 @@
 -- The lines of a proof-term file, one case a form.
-use Rattle.std.specs.Prelude.{ℕ, ◌+◌, ◌≤◌, IsTrue, List, [], ◌∷◌, ◌++◌, length, codes}
+use Rattle.std.specs.Prelude.{ℕ, ◌≤◌, IsTrue, List, ◌∷◌, ◌++◌, length, codes}
 use Rattle.std.specs.List.{list_all}
 use Rattle.dlk_tree.specs.Names.{is_between}
 use Rattle.dlk_calculus.specs.Sequents.{Sequent}

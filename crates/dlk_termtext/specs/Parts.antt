@@ -1,5 +1,5 @@
 -- The parts of a line, from the front on.
-use Rattle.std.specs.Prelude.{◌≡◌, ℕ, ◌+◌, List, [], ◌∷◌, ◌++◌, codes}
+use Rattle.std.specs.Prelude.{◌≡◌, ℕ, List, [], ◌∷◌, ◌++◌}
 use Rattle.dlk_calculus.specs.Rules.{Rule}
 use Rattle.dlk_termtext.specs.Lines.{IsNumber, IsRule}
 

@@ -10,3 +10,6 @@ mod rule;
 pub use laws::one_line;
 pub use line::{Line, LineFault};
 pub use reading::read_line;
+
+#[cfg(test)]
+mod tests;

@@ -20,11 +20,7 @@ const MOST_BYTES: usize = 4096;
 ///
 /// `Malformed` comes exactly where the bytes are no line, and `Memory` when memory runs out. Whatever comes, the
 /// store keeps its trees.
-pub fn read_line<S: Store>(
-    alloc: Global,
-    line: &[u8],
-    store: &mut S,
-) -> Result<Line, LineFault>
+pub fn read_line<S: Store>(alloc: Global, line: &[u8], store: &mut S) -> Result<Line, LineFault>
     ensures found { IfOk result (λ l. IsLine line.now (line_at (S.trees store.new) l)) }
     ensures known { IfOk result (LineIsKnown (S.trees store.new)) }
     ensures formulas { IfOk result (LineStartsFormulas (S.trees store.new)) }

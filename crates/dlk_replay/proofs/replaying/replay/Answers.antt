@@ -1,11 +1,10 @@
-use Rattle.std.proofs.Common.{◌≡◌, ◌≤◌, ◌+◌, ◌-◌, ◌∷◌, [], length, sym, ap, ◌∙◌, arith}
-use Rattle.std.proofs.lemmas.List.{length-map, nil_from_length}
+use Rattle.std.proofs.Common.{◌≡◌, ◌+◌, ◌-◌, length, sym, ap, ◌∙◌, arith}
+use Rattle.std.proofs.lemmas.List.{length-map}
 use Rattle.std.proofs.lemmas.Result.{err_from_is_err_and}
-use Rattle.std.proofs.lemmas.Bool.{eqb-false}
 use Rattle.dlk_kernel.specs.Kernel.{facts}
 use Rattle.dlk_replay.specs.Files.{file_lines}
 use Rattle.dlk_replay.proofs.FileLines.{no_lines_left, line_left_over}
-use Rattle.dlk_replay.proofs.Reached.{Reached, reached_none, reached_more, line_fault, line_left, begins_done, begins_left, goes_on, done_left, all_accepted, no_end, front_rows}
+use Rattle.dlk_replay.proofs.Reached.{reached_none, reached_more, line_fault, line_left, begins_done, begins_left, goes_on, done_left, all_accepted, no_end, front_rows}
 use Rattle.dlk_replay.proofs.replaying.replay.Goals as goal
 
 pub loop-left-init : goal.loop-left-init
@@ -27,7 +26,7 @@ pub loop-left-preserved : goal.loop-left-preserved
 loop-left-preserved g c =
     record {
       reached = reached_more (file_lines c.args.bytes.now) (file_lines c.first_line.result.1.now) c.first_line.result.0.now (facts g.S.Store.trees c.loop-left.kernel) _
-        (rw c.first_line.ensures.lines at c.loop-left.invariant.reached) (rw c.in-Step.is at c.in_ok-take_line.ensures.taken);
+          (rw c.first_line.ensures.lines at c.loop-left.invariant.reached) (rw c.in-Step.is at c.in_ok-take_line.ensures.taken);
       grows = g.met.S.Store.grows_trans c.args.kernel.now.store c.loop-left.kernel.store c.take_line.new.kernel.store c.loop-left.invariant.grows c.take_line.ensures.grows;
     }
 

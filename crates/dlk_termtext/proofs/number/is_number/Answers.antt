@@ -1,6 +1,6 @@
 use Rattle.std.proofs.Common.{arith, sym}
 use Rattle.std.proofs.lemmas.Bool.{not-true, eqb-false}
-use Rattle.dlk_termtext.proofs.Numbers.{number_from_parts, number_parts}
+use Rattle.dlk_termtext.proofs.Numbers.{number_from_parts}
 use Rattle.dlk_termtext.proofs.number.is_number.Goals as goal
 
 pub returns-clause-yes : goal.returns-clause-yes

@@ -1,8 +1,7 @@
-use Rattle.std.proofs.Common.{◌≡◌, ◌∷◌, arith, ap, sym, subst, ◌∙◌, length, get_or}
+use Rattle.std.proofs.Common.{◌≡◌, ◌∷◌, arith, ap, ◌∙◌, length, get_or}
 use Rattle.std.proofs.lemmas.Bool.{both_ways}
 use Rattle.std.proofs.lemmas.List.Sums.{prefix_len-le-length}
 use Rattle.dlk_grammar.specs.Tokens.{is_digit}
-use Rattle.dlk_termtext.specs.Lines.{IsNumber}
 use Rattle.dlk_termtext.proofs.Numbers.{front_digits, cut_off}
 use Rattle.dlk_termtext.proofs.number.number_before.Goals as goal
 

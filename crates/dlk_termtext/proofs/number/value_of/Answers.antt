@@ -1,4 +1,4 @@
-use Rattle.std.proofs.Common.{◌+◌, ◌*◌, ◌^◌, get_or, arith, add-one}
+use Rattle.std.proofs.Common.{get_or, arith, add-one}
 use Rattle.std.proofs.lemmas.List.Sums.{AllPass-from_list_all}
 use Rattle.dlk_grammar.specs.Tokens.{is_digit}
 use Rattle.dlk_termtext.proofs.Numbers.{below_power, digit_between, one_more_digit}

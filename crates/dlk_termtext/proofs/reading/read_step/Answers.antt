@@ -1,5 +1,5 @@
 use Rattle.std.proofs.lemmas.Result.{err_from_is_err_and}
-use Rattle.dlk_termtext.proofs.LineForms.{start_step, apply_step, no_start, no_apply, start_fault}
+use Rattle.dlk_termtext.proofs.LineForms.{start_step, apply_step, no_apply, start_fault}
 use Rattle.dlk_termtext.proofs.reading.read_step.Goals as goal
 
 pub returns-in_err-sequent-clause-fault : goal.returns-in_err-sequent-clause-fault

@@ -1,4 +1,4 @@
-use Rattle.std.proofs.Common.{◌≡◌, [], length, ap, sym, arith, refl, ◌∙◌}
+use Rattle.std.proofs.Common.{[], length, ap, sym, refl, ◌∙◌}
 use Rattle.std.proofs.lemmas.Bool.{eqb-false}
 use Rattle.dlk_termtext.proofs.Forms.{if_none}
 use Rattle.dlk_termtext.proofs.Numbers.{one_number_then}

@@ -1,4 +1,4 @@
-use Rattle.dlk_termtext.proofs.Forms.{if_none, implyR_rule, close_rule, no_implyR, no_close, no_rule}
+use Rattle.dlk_termtext.proofs.Forms.{if_none, implyR_rule, close_rule, no_implyR, no_close}
 use Rattle.dlk_termtext.proofs.rule.read_rule.Goals as goal
 
 pub returns-in_err-right-clause-none : goal.returns-in_err-right-clause-none

@@ -1,4 +1,3 @@
-use Rattle.dlk_termtext.specs.Parts.{OnePlace}
 use Rattle.std.proofs.Common.{refl}
 use Rattle.dlk_termtext.proofs.Forms.{if_none}
 use Rattle.dlk_termtext.proofs.Numbers.{one_number_then}
