@@ -1,4 +1,7 @@
 -- Which faults of a text the errors are.
+use Rattle.std.specs.Prelude.{ℕ, List}
+use Rattle.dlk_grammar.specs.declared.token.Text.{Text}
+use Rattle.dlk_grammar.specs.Splits.{BadAt}
 use Rattle.dlk_grammar.specs.Texts.{TextFault, NotBuilt, Syntax}
 use Rattle.dlk_lex.specs.declared.fault.LexFault.{LexFault}
 use Rattle.dlk_lex.specs.declared.fault.LexFault.TheVariants as lex
@@ -15,3 +18,8 @@ IsFaultOf is_fault parse.Memory = Unit {0}
 abbrev pub of_lex : LexFault → ParseFault
 of_lex (lex.BadByte at) = parse.NotBuilt at
 of_lex lex.Memory = parse.Memory
+
+-- why bytes are not split
+abbrev pub SplitFault : Text → List ℕ → TextFault → Type 0
+SplitFault text bytes (NotBuilt at) = BadAt text 0 bytes at
+SplitFault text bytes Syntax = ⊥

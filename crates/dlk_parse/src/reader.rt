@@ -1,4 +1,12 @@
 //! The reader of a formula: token by token, with a stack of what is open.
+ghost use Rattle.std.specs.Prelude.{◌≡◌, List, IfOk, OnOk};
+ghost use Rattle.dlk_tree.specs.Trees.{Tree, node, no_kids};
+ghost use Rattle.dlk_tree.specs.declared.op.Sort.TheVariants as sort_of;
+ghost use Rattle.dlk_store.specs.Stores.{tree};
+ghost use Rattle.dlk_grammar.proofs.Machine.{act, Opens, Closes, Implies, Compares, role, operand, step, ended, joined};
+ghost use Rattle.dlk_grammar.proofs.Formed.{IsReal};
+ghost use Rattle.dlk_parse.specs.Readers.{state_at, joined_at, HasSort, IsSound, IsJoined, IsFresh, Agrees, IsLeaf};
+
 use crate::fault::ParseFault;
 use dlk_lex::{Mark, TokenKind};
 use dlk_store::{Id, Store};
@@ -42,7 +50,9 @@ pub(crate) struct Reader {
 
 impl Reader {
     /// Nothing is read yet.
-    pub(crate) fn new(alloc: Global) -> Reader {
+    pub(crate) fn new(alloc: Global) -> Reader
+        ensures { IsFresh result }
+    {
         Reader {
             open: Vec::new(alloc),
             last: Last::Nothing,
@@ -55,7 +65,13 @@ impl Reader {
         alloc: Global,
         kind: &TokenKind,
         store: &mut S,
-    ) -> Result<(), ParseFault> {
+    ) -> Result<(), ParseFault>
+        requires sound { IsSound (S.trees store.old) self.old }
+        requires real { IsReal kind.now }
+        ensures steps { Agrees result (step (state_at (S.trees store.old) self.old) kind.now) (λ _. state_at (S.trees store.new) self.new) }
+        ensures sound { OnOk result (IsSound (S.trees store.new) self.new) }
+        ensures grows { S.grows store.old store.new }
+    {
         match kind {
             TokenKind::Word(name) => {
                 let name = name.clone()?;
@@ -77,12 +93,13 @@ impl Reader {
     }
 
     /// A term without kids.
-    fn operand<S: Store>(
-        &mut self,
-        alloc: Global,
-        op: Op,
-        store: &mut S,
-    ) -> Result<(), ParseFault> {
+    fn operand<S: Store>(&mut self, alloc: Global, op: Op, store: &mut S) -> Result<(), ParseFault>
+        requires sound { IsSound (S.trees store.old) self.old }
+        requires leaf { IsLeaf op }
+        ensures steps { Agrees result (operand (state_at (S.trees store.old) self.old) (node op no_kids)) (λ _. state_at (S.trees store.new) self.new) }
+        ensures sound { OnOk result (IsSound (S.trees store.new) self.new) }
+        ensures grows { S.grows store.old store.new }
+    {
         match self.last {
             Last::Nothing => {
                 let term = store.make(alloc, op, &[])?;
@@ -100,12 +117,12 @@ impl Reader {
         }
     }
 
-    fn mark<S: Store>(
-        &mut self,
-        alloc: Global,
-        mark: Mark,
-        store: &mut S,
-    ) -> Result<(), ParseFault> {
+    fn mark<S: Store>(&mut self, alloc: Global, mark: Mark, store: &mut S) -> Result<(), ParseFault>
+        requires sound { IsSound (S.trees store.old) self.old }
+        ensures steps { Agrees result (act (role mark) (state_at (S.trees store.old) self.old)) (λ _. state_at (S.trees store.new) self.new) }
+        ensures sound { OnOk result (IsSound (S.trees store.new) self.new) }
+        ensures grows { S.grows store.old store.new }
+    {
         match mark {
             Mark::OpenRound => self.open_bracket(),
             Mark::CloseRound => self.close_bracket(alloc, store),
@@ -115,7 +132,10 @@ impl Reader {
         }
     }
 
-    fn open_bracket(&mut self) -> Result<(), ParseFault> {
+    fn open_bracket(&mut self) -> Result<(), ParseFault>
+        ensures steps { (trees : List Tree) → Agrees result (act Opens (state_at trees self.old)) (λ _. state_at trees self.new) }
+        ensures sound { OnOk result ((trees : List Tree) → IsSound trees self.old → IsSound trees self.new) }
+    {
         match self.last {
             Last::Nothing => Ok(self.open.push(Open::Bracket)?),
             Last::Term(_) => Err(ParseFault::Syntax),
@@ -124,7 +144,10 @@ impl Reader {
         }
     }
 
-    fn imply(&mut self) -> Result<(), ParseFault> {
+    fn imply(&mut self) -> Result<(), ParseFault>
+        ensures steps { (trees : List Tree) → Agrees result (act Implies (state_at trees self.old)) (λ _. state_at trees self.new) }
+        ensures sound { OnOk result ((trees : List Tree) → IsSound trees self.old → IsSound trees self.new) }
+    {
         match self.last {
             Last::Whole(left) => {
                 self.open.push(Open::Left(left))?;
@@ -137,7 +160,10 @@ impl Reader {
         }
     }
 
-    fn compare(&mut self) -> Result<(), ParseFault> {
+    fn compare(&mut self) -> Result<(), ParseFault>
+        ensures steps { (trees : List Tree) → Agrees result (act Compares (state_at trees self.old)) (λ _. state_at trees self.new) }
+        ensures sound { OnOk result ((trees : List Tree) → IsSound trees self.old → IsSound trees self.new) }
+    {
         match self.last {
             Last::Term(left) => {
                 self.last = Last::Compared(left);
@@ -149,7 +175,12 @@ impl Reader {
         }
     }
 
-    fn close_bracket<S: Store>(&mut self, alloc: Global, store: &mut S) -> Result<(), ParseFault> {
+    fn close_bracket<S: Store>(&mut self, alloc: Global, store: &mut S) -> Result<(), ParseFault>
+        requires sound { IsSound (S.trees store.old) self.old }
+        ensures steps { Agrees result (act Closes (state_at (S.trees store.old) self.old)) (λ _. state_at (S.trees store.new) self.new) }
+        ensures sound { OnOk result (IsSound (S.trees store.new) self.new) }
+        ensures grows { S.grows store.old store.new }
+    {
         match self.join(alloc, store)? {
             Joined::AtBracket(formula) => {
                 self.last = Last::Whole(formula);
@@ -160,7 +191,12 @@ impl Reader {
     }
 
     /// Closes the implications that are open since the last bracket, and the bracket.
-    fn join<S: Store>(&mut self, alloc: Global, store: &mut S) -> Result<Joined, ParseFault> {
+    fn join<S: Store>(&mut self, alloc: Global, store: &mut S) -> Result<Joined, ParseFault>
+        requires sound { IsSound (S.trees store.old) self.old }
+        ensures joins { Agrees result (joined (state_at (S.trees store.old) self.old)) (joined_at (S.trees store.new) self.new.open.items) }
+        ensures sound { IfOk result (IsJoined (S.trees store.new) self.new.open.items) }
+        ensures grows { S.grows store.old store.new }
+    {
         let Last::Whole(last) = self.last else {
             return Err(ParseFault::Syntax);
         };
@@ -177,7 +213,13 @@ impl Reader {
     }
 
     /// The formula that was read. The reader is then as a new one.
-    pub(crate) fn end<S: Store>(&mut self, alloc: Global, store: &mut S) -> Result<Id, ParseFault> {
+    pub(crate) fn end<S: Store>(&mut self, alloc: Global, store: &mut S) -> Result<Id, ParseFault>
+        requires sound { IsSound (S.trees store.old) self.old }
+        ensures ends { Agrees result (ended (state_at (S.trees store.old) self.old)) (tree (S.trees store.new)) }
+        ensures formula { IfOk result (HasSort sort_of.Formula (S.trees store.new)) }
+        ensures fresh { OnOk result (IsFresh self.new) }
+        ensures grows { S.grows store.old store.new }
+    {
         match self.join(alloc, store)? {
             Joined::AtStart(formula) => {
                 self.last = Last::Nothing;

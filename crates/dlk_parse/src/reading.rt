@@ -1,11 +1,17 @@
 //! Formulas and sequents of bytes.
-ghost use Rattle.std.specs.Prelude.{◌≡◌, IfOk, IfErr};
+ghost use Rattle.std.specs.Prelude.{◌≡◌, ◌<◌, ◌+◌, IfOk, IfErr, IfSome, IfNone, All, length, map, take, drop};
 ghost use Rattle.dlk_tree.specs.Trees.{Tree};
 ghost use Rattle.dlk_calculus.specs.Sequents.{IsFormula, IsSequent};
-ghost use Rattle.dlk_grammar.specs.Texts.{FormulaText, SequentText, FormulaFault, SequentFault};
-ghost use Rattle.dlk_store.specs.Stores.{tree, StandsFor};
+ghost use Rattle.dlk_grammar.specs.Texts.{HasKinds, FormulaText, SequentText, FormulaFault, SequentFault};
+ghost use Rattle.dlk_store.specs.Stores.{IsId, tree, StandsFor};
 ghost use Rattle.dlk_sequent.specs.Sequents.{sequent_at, IsKnown};
-ghost use Rattle.dlk_parse.specs.Faults.{IsFaultOf};
+ghost use Rattle.dlk_parse.specs.Faults.{IsFaultOf, SplitFault};
+ghost use Rattle.dlk_tree.specs.declared.op.Sort.TheVariants as sort_of;
+ghost use Rattle.dlk_grammar.proofs.Machine.{read};
+ghost use Rattle.dlk_grammar.proofs.Sides.{is_comma, side_of};
+ghost use Rattle.dlk_grammar.proofs.SequentLaws.{is_turnstile, cut};
+ghost use Rattle.dlk_grammar.proofs.Formed.{kinds, AreReal};
+ghost use Rattle.dlk_parse.specs.Readers.{HasSort, Agrees};
 
 use crate::fault::ParseFault;
 use crate::reader::Reader;
@@ -15,14 +21,22 @@ use dlk_store::{Id, Store};
 use std::alloc::Global;
 
 /// The tokens of a text, without the end.
-fn tokens_before_end(alloc: Global, text: Text, bytes: &[u8]) -> Result<Vec<Token>, ParseFault> {
+fn tokens_before_end(alloc: Global, text: Text, bytes: &[u8]) -> Result<Vec<Token>, ParseFault>
+    ensures found { IfOk result (λ v. HasKinds text bytes.now (kinds v.items)) }
+    ensures fault { IfErr result (IsFaultOf (SplitFault text bytes.now)) }
+{
     let mut found = tokens(alloc, text, bytes)?;
     let _end = found.pop();
     Ok(found)
 }
 
 /// The formula of these tokens.
-fn formula_of<S: Store>(alloc: Global, tokens: &[Token], store: &mut S) -> Result<Id, ParseFault> {
+fn formula_of<S: Store>(alloc: Global, tokens: &[Token], store: &mut S) -> Result<Id, ParseFault>
+    requires { AreReal (kinds tokens.now) }
+    ensures reads { Agrees result (read (kinds tokens.now)) (tree (S.trees store.new)) }
+    ensures formula { IfOk result (HasSort sort_of.Formula (S.trees store.new)) }
+    ensures grows { S.grows store.old store.new }
+{
     let mut reader = Reader::new(alloc);
     for token in tokens {
         reader.step(alloc, &token.kind, store)?;
@@ -30,17 +44,25 @@ fn formula_of<S: Store>(alloc: Global, tokens: &[Token], store: &mut S) -> Resul
     reader.end(alloc, store)
 }
 
-fn is_mark(kind: &TokenKind, wanted: Mark) -> bool {
-    match kind {
-        TokenKind::Mark(mark) => *mark == wanted,
-        _ => false,
-    }
+fn is_comma(kind: &TokenKind) -> bool
+    ensures { result ≡ is_comma kind.now }
+{
+    matches!(kind, TokenKind::Mark(Mark::Comma))
+}
+
+fn is_turnstile(kind: &TokenKind) -> bool
+    ensures { result ≡ is_turnstile kind.now }
+{
+    matches!(kind, TokenKind::Mark(Mark::Turnstile))
 }
 
 /// The place of the first `==>`.
-fn turnstile(tokens: &[Token]) -> Option<usize> {
+fn turnstile(tokens: &[Token]) -> Option<usize>
+    ensures found { IfSome result (λ i. (i < length tokens.now) × (cut (kinds tokens.now) ≡ Some (kinds (take i tokens.now), kinds (drop (i + 1) tokens.now)))) }
+    ensures none { IfNone result (cut (kinds tokens.now) ≡ None) }
+{
     for (i, token) in tokens.iter().enumerate() {
-        if is_mark(&token.kind, Mark::Turnstile) {
+        if is_turnstile(&token.kind) {
             return Some(i);
         }
     }
@@ -52,14 +74,19 @@ fn side_of<S: Store>(
     alloc: Global,
     tokens: &[Token],
     store: &mut S,
-) -> Result<Listed<Id>, ParseFault> {
+) -> Result<Listed<Id>, ParseFault>
+    requires { AreReal (kinds tokens.now) }
+    ensures reads { Agrees result (side_of (kinds tokens.now)) (map (tree (S.trees store.new))) }
+    ensures known { IfOk result (All (IsId (S.trees store.new))) }
+    ensures grows { S.grows store.old store.new }
+{
     let mut side = Listed::new(alloc);
     if tokens.is_empty() {
         return Ok(side);
     }
     let mut reader = Reader::new(alloc);
     for token in tokens {
-        if is_mark(&token.kind, Mark::Comma) {
+        if is_comma(&token.kind) {
             let formula = reader.end(alloc, store)?;
             side.push(formula)?;
         } else {
