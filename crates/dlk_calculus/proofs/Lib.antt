@@ -1,0 +1,6 @@
+pub mod PlaceLaws
+pub mod Decide
+pub mod RuleLaws
+pub mod StepLaws
+pub mod Histories
+pub mod Formulas

@@ -1,9 +1,10 @@
 -- The sequent rules, from the conclusion up to the premises.
-use Rattle.std.specs.Prelude.{◌≡◌, ℕ, List, [], ◌∷◌, ◌++◌}
+use Rattle.std.specs.Prelude.{◌≡◌, ℕ, ◌<◌, List, [], ◌∷◌, ◌++◌}
 use Rattle.dlk_tree.specs.Trees.{Tree, node, no_kids, kid}
 use Rattle.dlk_tree.specs.declared.op.Op.TheVariants.{Imply}
 use Rattle.dlk_calculus.specs.declared.reason.Reason.{Reason}
 use Rattle.dlk_calculus.specs.declared.reason.Reason.TheVariants.{NoFact, NoGoal, NoPlace, WrongShape, NotEqual}
+use Rattle.dlk_calculus.specs.Reasons.{rank}
 use Rattle.dlk_calculus.specs.Places.{At, IsPlace, put}
 use Rattle.dlk_calculus.specs.Sequents.{Sequent}
 
@@ -14,6 +15,9 @@ pub data Rule : Type 0 where
 
 abbrev pub imply : Tree → Tree → Tree
 imply f g = node Imply (kid f (kid g no_kids))
+
+abbrev pub IsImplication : Tree → Type 0
+IsImplication t = (f : Tree) × (g : Tree) × (t ≡ imply f g)
 
 -- f put last on the left
 abbrev pub last_left : Tree → Sequent → Sequent
@@ -52,3 +56,8 @@ RuleAgainst NoGoal rule s = ⊥
 RuleAgainst NoPlace rule s = ¬ HasPlaces rule s
 RuleAgainst WrongShape rule s = ¬ HasShape rule s
 RuleAgainst NotEqual rule s = ¬ HasEquals rule s
+
+-- the first reason against the rule
+pub record FirstAgainst (rule : Rule) (s : Sequent) (why : Reason) : Type 0 where
+  pub against : RuleAgainst why rule s
+  pub first : (earlier : Reason) → rank earlier < rank why → ¬ RuleAgainst earlier rule s

@@ -2,6 +2,7 @@
 use Rattle.std.specs.Prelude.{◌≡◌, ℕ, ◌<◌, List, [], ◌∷◌, ◌++◌, take, Some, slice_get}
 use Rattle.dlk_calculus.specs.declared.reason.Reason.{Reason}
 use Rattle.dlk_calculus.specs.declared.reason.Reason.TheVariants.{NoFact, NoGoal, NoPlace, WrongShape, NotEqual}
+use Rattle.dlk_calculus.specs.Reasons.{rank}
 use Rattle.dlk_calculus.specs.Places.{At, IsPlace}
 use Rattle.dlk_calculus.specs.Sequents.{Sequent, IsSequent}
 use Rattle.dlk_calculus.specs.Rules.{Rule, Premises, RuleAgainst}
@@ -45,14 +46,6 @@ Against WrongShape rows (Apply fact goal rule) = (s : Sequent) × IsGoal rows fa
 Against NotEqual rows (Start s) = ⊥
 Against NotEqual rows (Apply fact goal rule) = (s : Sequent) × IsGoal rows fact goal s × RuleAgainst NotEqual rule s
 
--- the place of a reason in the order of the checks
-abbrev pub rank : Reason → ℕ
-rank NoFact = 1
-rank NoGoal = 2
-rank NoPlace = 3
-rank WrongShape = 4
-rank NotEqual = 5
-
 -- the first reason against the step
 pub record Fault (rows : List Provable) (step : Step) (why : Reason) : Type 0 where
   pub against : Against why rows step
@@ -62,3 +55,9 @@ pub record Fault (rows : List Provable) (step : Step) (why : Reason) : Type 0 wh
 pub record StepOf (rows : List Provable) (step : Step) (p : Provable) : Type 0 where
   pub given : Gives rows step p
   pub allowed : (why : Reason) → ¬ Against why rows step
+
+-- the rows with the step's provable last
+pub record Adds (rows : List Provable) (step : Step) (after : List Provable) : Type 0 where
+  pub provable : Provable
+  pub is_its : StepOf rows step provable
+  pub after_is : after ≡ rows ++ provable ∷ []

@@ -1,6 +1,7 @@
 //! Texts: their tokens, their grammar, and the canonical text of a tree. Definitions, and their laws.
 #![tactic(auto)]
 
+pub mod laws;
 mod token;
 
 pub use token::{Mark, Text, Token, TokenKind};

@@ -12,7 +12,7 @@ use dlk_tree::{Op, same_op};
 use std::alloc::Global;
 use std::sync::ledger::Ledger;
 
-/// Nodes in the order of their making.
+/// A store that keeps a node for each `make` and answers every question by walking. Its ids are the nodes' places.
 #[derive(Drop)]
 pub struct PlainStore {
     nodes: Vec<PlainNode>,
@@ -22,7 +22,7 @@ pub struct PlainStore {
 impl PlainStore {
     /// A store without nodes.
     pub fn new(alloc: Global) -> PlainStore
-        ensures { trees_of result.nodes.items ≡ [] }
+        ensures { ⟦<PlainStore as Store>⟧.trees result ≡ [] }
     {
         PlainStore {
             nodes: Vec::new(alloc),

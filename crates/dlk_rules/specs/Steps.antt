@@ -1,12 +1,16 @@
 -- What rules and steps over ids stand for.
 use Rattle.std.specs.Prelude.{List}
 use Rattle.dlk_tree.specs.Trees.{Tree}
+use Rattle.dlk_calculus.specs.declared.reason.Reason.{Reason}
+use Rattle.dlk_calculus.specs.declared.reason.Reason.TheVariants.{NoPlace, WrongShape, NotEqual}
 use Rattle.dlk_calculus.specs.Rules.{Rule as TreeRule, ImplyR, Close}
 use Rattle.dlk_calculus.specs.Sequents.{IsSequent}
 use Rattle.dlk_calculus.specs.Steps.{Step as TreeStep, Start, Apply}
 use Rattle.dlk_sequent.specs.Sequents.{sequent_at, IsKnown}
 use Rattle.dlk_rules.specs.declared.rule.Rule.{Rule}
 use Rattle.dlk_rules.specs.declared.rule.Rule.TheVariants as rule
+use Rattle.dlk_rules.specs.declared.rule.RuleFault.{RuleFault}
+use Rattle.dlk_rules.specs.declared.rule.RuleFault.TheVariants as fault
 use Rattle.dlk_rules.specs.declared.step.Step.{Step}
 use Rattle.dlk_rules.specs.declared.step.Step.TheVariants as step
 
@@ -29,3 +33,10 @@ HasKnownIds trees (step.Apply fact goal r) = Unit {0}
 abbrev pub StartsFormulas : List Tree → Step → Type 0
 StartsFormulas trees (step.Start s) = IsSequent (sequent_at trees s)
 StartsFormulas trees (step.Apply fact goal r) = Unit {0}
+
+-- the reason of this fault is one of those allowed: want of memory always is
+abbrev pub IsRuleFault : (Reason → Type 0) → RuleFault → Type 0
+IsRuleFault allowed fault.NoPlace = allowed NoPlace
+IsRuleFault allowed fault.WrongShape = allowed WrongShape
+IsRuleFault allowed fault.NotEqual = allowed NotEqual
+IsRuleFault allowed fault.Memory = Unit {0}

@@ -2,7 +2,9 @@
 #![tactic(auto)]
 
 mod rule;
+mod sequent_rules;
 mod step;
 
 pub use rule::{Rule, RuleFault};
+pub use sequent_rules::premises;
 pub use step::Step;

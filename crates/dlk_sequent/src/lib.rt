@@ -4,5 +4,5 @@
 mod listed;
 mod sequent;
 
-pub use listed::Listed;
+pub use listed::{Listed, item_at};
 pub use sequent::{Place, Sequent};

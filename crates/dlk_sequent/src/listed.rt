@@ -1,4 +1,5 @@
-ghost use Rattle.std.specs.Prelude.{◌≡◌, ◌∷◌, ◌++◌, [], length, OnOk, OnErr};
+ghost use Rattle.std.specs.Prelude.{◌≡◌, ◌∷◌, ◌++◌, [], length, None, Some, MatchOption, IfOk, OnOk, OnErr};
+ghost use Rattle.dlk_calculus.specs.Places.{at, IsPlace, put};
 
 use std::alloc::{AllocError, Global};
 use std::marker::Model;
@@ -15,6 +16,16 @@ impl<T> Model for Listed<T> {
     ghost Value = { List T };
 
     ghost view = { λ l. l.items.items };
+}
+
+/// The item at a place, counted from 1. None comes where there is no such place.
+pub fn item_at<T>(items: &[T], place: u32) -> Option<&T>
+    ensures { MatchOption result (at items.now place ≡ None) (λ x. at items.now place ≡ Some x.now) }
+{
+    if place == 0 {
+        return None;
+    }
+    items.get(place as usize - 1)
 }
 
 impl<T> Listed<T> {
@@ -57,5 +68,33 @@ impl<T> Listed<T> {
     {
         self.items.push(item)?;
         Ok(())
+    }
+}
+
+impl<T: Copy> Listed<T> {
+    /// The same items once more.
+    pub fn copied(&self, alloc: Global) -> Result<Listed<T>, AllocError>
+        ensures { IfOk result (λ items. items ≡ self.now) }
+    {
+        Ok(Listed::from_vec(Vec::from_slice(alloc, self.as_slice())?))
+    }
+
+    /// The same items with another one last.
+    pub fn with_last(&self, alloc: Global, item: T) -> Result<Listed<T>, AllocError>
+        ensures { IfOk result (λ items. items ≡ self.now ++ item ∷ []) }
+    {
+        let mut items = self.copied(alloc)?;
+        items.push(item)?;
+        Ok(items)
+    }
+
+    /// The same items but for another one at a place, counted from 1.
+    pub fn with_at(&self, alloc: Global, place: u32, item: T) -> Result<Listed<T>, AllocError>
+        requires { IsPlace self.now place }
+        ensures { IfOk result (λ items. items ≡ put self.now place item) }
+    {
+        let mut items = Vec::from_slice(alloc, self.as_slice())?;
+        items[place as usize - 1] = item;
+        Ok(Listed::from_vec(items))
     }
 }

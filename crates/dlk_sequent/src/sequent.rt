@@ -1,4 +1,5 @@
-ghost use Rattle.std.specs.Prelude.{◌≡◌, IfOk};
+ghost use Rattle.std.specs.Prelude.{◌≡◌, ◌++◌, IfOk, OnOk};
+ghost use Rattle.dlk_calculus.specs.Places.{IsPlace, put_all};
 
 use crate::listed::Listed;
 use dlk_store::Id;
@@ -23,8 +24,48 @@ impl Sequent {
     pub fn copy(&self, alloc: Global) -> Result<Sequent, AllocError>
         ensures { IfOk result (λ s. s ≡ self.now) }
     {
-        let ante = Listed::from_vec(Vec::from_slice(alloc, self.ante.as_slice())?);
-        let succ = Listed::from_vec(Vec::from_slice(alloc, self.succ.as_slice())?);
+        let ante = self.ante.copied(alloc)?;
+        let succ = self.succ.copied(alloc)?;
         Ok(Sequent { ante, succ })
+    }
+}
+
+/// Copies of sequents at the end.
+fn append(alloc: Global, into: &mut Vec<Sequent>, from: &[Sequent]) -> Result<(), AllocError>
+    ensures { OnOk result (into.new.items ≡ into.old.items ++ from.now) }
+{
+    for s in from {
+        let copy = s.copy(alloc)?;
+        into.push(copy)?;
+    }
+    Ok(())
+}
+
+impl Listed<Sequent> {
+    /// The same sequents once more.
+    pub fn copy(&self, alloc: Global) -> Result<Listed<Sequent>, AllocError>
+        ensures { IfOk result (λ sequents. sequents ≡ self.now) }
+    {
+        let mut all = Vec::new(alloc);
+        append(alloc, &mut all, self.as_slice())?;
+        Ok(Listed::from_vec(all))
+    }
+
+    /// The same sequents but for others instead of the one at a place, counted from 1.
+    pub fn with_all_at(
+        &self,
+        alloc: Global,
+        place: u32,
+        new: &[Sequent],
+    ) -> Result<Listed<Sequent>, AllocError>
+        requires { IsPlace self.now place }
+        ensures { IfOk result (λ sequents. sequents ≡ put_all self.now place new.now) }
+    {
+        let sequents = self.as_slice();
+        let mut all = Vec::new(alloc);
+        append(alloc, &mut all, &sequents[..place as usize - 1])?;
+        append(alloc, &mut all, new)?;
+        append(alloc, &mut all, &sequents[place as usize..])?;
+        Ok(Listed::from_vec(all))
     }
 }

@@ -1,4 +1,4 @@
-//! What a store of trees answers.
+//! What a store of trees answers. Each id of a store stands for a plain tree, and no call changes what an old id stands for.
 #![tactic(auto)]
 
 ghost use Rattle.std.specs.Prelude.{◌≡◌, ◌↔◌, ◌+◌, ◌-◌, ◌^◌, min, IsTrue, IfOk, All, List, Bool};
@@ -10,6 +10,7 @@ ghost use Rattle.dlk_store.specs.Stores.{IsId, tree, StandsFor, Keeps, kid_trees
 use dlk_tree::Op;
 use std::alloc::{AllocError, AllocFailed, Global};
 use std::sync::ledger::Ledger;
+use thiserror::Error;
 
 mod steps;
 
@@ -27,8 +28,9 @@ pub struct Node<'a> {
 }
 
 /// Why a store did not make a node.
-#[derive(Clone, Copy, Debug, PartialEq, Eq)]
+#[derive(Clone, Copy, Debug, PartialEq, Eq, Error)]
 pub enum StoreFault {
+    #[error("out of memory")]
     Memory,
 }
 
@@ -48,7 +50,8 @@ impl<T: Drop> From<AllocFailed<T>> for StoreFault {
     }
 }
 
-/// Trees by their ids.
+/// Trees by their ids. A store only grows: every id that it had still stands for the same tree, whatever was called and
+/// whatever that answered.
 pub trait Store {
     /// What the ids stand for, in order of the ids.
     ghost trees: { Self → List Tree };
@@ -59,14 +62,18 @@ pub trait Store {
     /// The second came of the first by making nodes alone.
     ghost grows: { Self → Self → Type 0 };
 
-    /// An id of the tree with this operator and these kids.
+    /// An id of the tree with this operator and these kids, which are ids of the store whose sorts fit the operator.
+    ///
+    /// # Errors
+    ///
+    /// `Memory` alone; the store may have more nodes then.
     fn make(&mut self, alloc: Global, op: Op, kids: &[Id]) -> Result<Id, StoreFault>
         requires known { All (IsId (trees self.old)) kids.now }
         requires fits { Fits op (kid_sorts (trees self.old) kids.now) }
         ensures made { IfOk result (λ id. StandsFor (trees self.new) id (node op (kid_trees (trees self.old) kids.now))) }
         ensures grows { grows self.old self.new };
 
-    /// The root of the tree, in one step.
+    /// The root of the tree, in one step: the one way to see an operator and its kids.
     fn look<L: Ledger>(&self, id: Id, steps: &mut Steps<L>) -> Node<'_>
         requires { IsId (trees self.now) id }
         ensures node { tree (trees self.now) id ≡ node result.op.now (kid_trees (trees self.now) result.kids.now) }

@@ -1,0 +1,128 @@
+-- A step gives at most one provable, and gives one exactly where nothing speaks against it.
+use Rattle.std.proofs.Common.{◌≡◌, ℕ, ◌<◌, List, refl, sym, subst, ◌∙◌, arith, ◌⊎◌, inl, inr}
+use Rattle.dlk_calculus.specs.declared.reason.Reason.{Reason}
+use Rattle.dlk_calculus.specs.declared.reason.Reason.TheVariants.{NoFact, NoGoal, NoPlace, WrongShape, NotEqual}
+use Rattle.dlk_calculus.specs.Reasons.{rank}
+use Rattle.dlk_calculus.specs.Places.{At, IsPlace}
+use Rattle.dlk_calculus.specs.Sequents.{Sequent, IsSequent}
+use Rattle.dlk_calculus.specs.Rules.{Rule, Premises, RuleAgainst, FirstAgainst}
+use Rattle.dlk_calculus.specs.Provables.{Provable, started, applied}
+use Rattle.dlk_calculus.specs.Steps.{Step, Start, Apply, Gives, start, apply, IsGoal, Against, Fault, StepOf}
+use Rattle.dlk_calculus.proofs.PlaceLaws.{at_one, At_place, place_cases}
+use Rattle.dlk_calculus.proofs.Decide.{is_sequent}
+use Rattle.dlk_calculus.proofs.RuleLaws.{one_premises, premises_unless_against, rule_cases}
+
+-- what a step's provable is made of
+abbrev pub GivenBy : List Provable → Step → Provable → Type 0
+GivenBy rows (Start s) p = IsSequent s × (p ≡ started s)
+GivenBy rows (Apply fact goal rule) p =
+    (q : Provable) × (s : Sequent) × (premises : List Sequent) × At rows fact q × At q.goals goal s × Premises rule s premises × (p ≡ applied q goal premises)
+
+pub given_by : (rows : List Provable) (step : Step) (p : Provable) → Gives rows step p → GivenBy rows step p
+given_by rows (Start s) p (start t h) = (h, refl)
+given_by rows (Apply fact goal rule) p (apply f g r q s premises a b c) = (q, s, premises, a, b, c, refl)
+
+-- the goal of a fact is one sequent
+one_goal : (rows : List Provable) (fact goal : ℕ) (p q : Provable) (s t : Sequent) → At rows fact p → At rows fact q → At p.goals goal s → At q.goals goal t → s ≡ t
+one_goal rows fact goal p q s t a b c d =
+    let same : p ≡ q = at_one rows fact p q a b in
+    at_one q.goals goal s t (subst (λ (x : Provable). At x.goals goal s) same c) d
+
+pub one_given : (rows : List Provable) (step : Step) (p q : Provable) → Gives rows step p → Gives rows step q → p ≡ q
+one_given rows (Start s) p q g h = (given_by rows (Start s) p g).1 ∙ sym (given_by rows (Start s) q h).1
+one_given rows (Apply fact goal rule) p q g h =
+    let a = given_by rows (Apply fact goal rule) p g in
+    let b = given_by rows (Apply fact goal rule) q h in
+    let row : a.0 ≡ b.0 = at_one rows fact a.0 b.0 a.3 b.3 in
+    let s : a.1 ≡ b.1 = one_goal rows fact goal a.0 b.0 a.1 b.1 a.3 b.3 a.4 b.4 in
+    let premises : a.2 ≡ b.2 = one_premises rule b.1 a.2 b.2 (subst (λ x. Premises rule x a.2) s a.5) b.5 in
+    a.6 ∙ (λ i. applied (row i) goal (premises i)) ∙ sym b.6
+
+-- what a fact's goal has, no other goal of that number lacks
+goal_unless : (rows : List Provable) (fact goal : ℕ) (s : Sequent) (P : Sequent → Type 0) → IsGoal rows fact goal s → (P s → ⊥) → ((t : Sequent) × IsGoal rows fact goal t × P t) → ⊥
+goal_unless rows fact goal s P g n h =
+    let same : h.0 ≡ s = one_goal rows fact goal h.1.0 g.0 h.0 s h.1.1 g.1 h.1.2 g.2 in
+    n (subst P same h.2)
+
+-- a goal that is there
+fact_there : (rows : List Provable) (fact goal : ℕ) (s : Sequent) → IsGoal rows fact goal s → (¬ IsPlace rows fact) → ⊥
+fact_there rows fact goal s g n = n (At_place rows fact g.0 g.1)
+
+goal_there : (rows : List Provable) (fact goal : ℕ) (s : Sequent) → IsGoal rows fact goal s → ((p : Provable) × At rows fact p × (¬ IsPlace p.goals goal)) → ⊥
+goal_there rows fact goal s g h =
+    let same : g.0 ≡ h.0 = at_one rows fact g.0 h.0 g.1 h.1 in
+    h.2 (subst (λ (x : Provable). IsPlace x.goals goal) same (At_place g.0.goals goal s g.2))
+
+pub given_unless : (rows : List Provable) (step : Step) (p : Provable) (why : Reason) → Gives rows step p → Against why rows step → ⊥
+given_unless rows (Start s) p NoFact g a = a
+given_unless rows (Start s) p NoGoal g a = a
+given_unless rows (Start s) p NoPlace g a = a
+given_unless rows (Start s) p WrongShape g a = a (given_by rows (Start s) p g).0
+given_unless rows (Start s) p NotEqual g a = a
+given_unless rows (Apply fact goal rule) p NoFact g a = let b = given_by rows (Apply fact goal rule) p g in fact_there rows fact goal b.1 (b.0, b.3, b.4) a
+given_unless rows (Apply fact goal rule) p NoGoal g a = let b = given_by rows (Apply fact goal rule) p g in goal_there rows fact goal b.1 (b.0, b.3, b.4) a
+given_unless rows (Apply fact goal rule) p NoPlace g a =
+    let b = given_by rows (Apply fact goal rule) p g in
+    goal_unless rows fact goal b.1 (RuleAgainst NoPlace rule) (b.0, b.3, b.4) (premises_unless_against rule b.1 b.2 NoPlace b.5) a
+given_unless rows (Apply fact goal rule) p WrongShape g a =
+    let b = given_by rows (Apply fact goal rule) p g in
+    goal_unless rows fact goal b.1 (RuleAgainst WrongShape rule) (b.0, b.3, b.4) (premises_unless_against rule b.1 b.2 WrongShape b.5) a
+given_unless rows (Apply fact goal rule) p NotEqual g a =
+    let b = given_by rows (Apply fact goal rule) p g in
+    goal_unless rows fact goal b.1 (RuleAgainst NotEqual rule) (b.0, b.3, b.4) (premises_unless_against rule b.1 b.2 NotEqual b.5) a
+
+pub StepOf-given : (rows : List Provable) (step : Step) (p : Provable) → Gives rows step p → StepOf rows step p
+StepOf-given rows step p g = record { given = g; allowed = λ why a. given_unless rows step p why g a }
+
+-- the first reason against a step, by the reasons before it
+pub no_fact : (rows : List Provable) (fact goal : ℕ) (rule : Rule) → (¬ IsPlace rows fact) → Fault rows (Apply fact goal rule) NoFact
+no_fact rows fact goal rule n = record {
+  against = n;
+  first = elim [ NoFact ↦ λ lt. absurd (omega arith) | NoGoal ↦ λ lt. absurd (omega arith) | NoPlace ↦ λ lt. absurd (omega arith) | WrongShape ↦ λ lt. absurd (omega arith) | NotEqual ↦ λ lt. absurd (omega arith) ];
+}
+
+pub no_goal : (rows : List Provable) (fact goal : ℕ) (rule : Rule) (p : Provable) → At rows fact p → (¬ IsPlace p.goals goal) → Fault rows (Apply fact goal rule) NoGoal
+no_goal rows fact goal rule p h n = record {
+  against = (p, h, n);
+  first = elim [ NoFact ↦ λ lt a. a (At_place rows fact p h) | NoGoal ↦ λ lt. absurd (omega arith) | NoPlace ↦ λ lt. absurd (omega arith) | WrongShape ↦ λ lt. absurd (omega arith) | NotEqual ↦ λ lt. absurd (omega arith) ];
+}
+
+no_formulas : (rows : List Provable) (s : Sequent) → (¬ IsSequent s) → Fault rows (Start s) WrongShape
+no_formulas rows s n = record {
+  against = n;
+  first = elim [ NoFact ↦ λ lt a. a | NoGoal ↦ λ lt a. a | NoPlace ↦ λ lt a. a | WrongShape ↦ λ lt. absurd (omega arith) | NotEqual ↦ λ lt. absurd (omega arith) ];
+}
+
+-- the first reason against a rule on a goal is that against its step
+module _ (rows : List Provable) (fact goal : ℕ) (rule : Rule) (s : Sequent) (g : IsGoal rows fact goal s) where
+  earlier_none : (why : Reason) → FirstAgainst rule s why → (earlier : Reason) → rank earlier < rank why → Against earlier rows (Apply fact goal rule) → ⊥
+  earlier_none why f NoFact lt a = fact_there rows fact goal s g a
+  earlier_none why f NoGoal lt a = goal_there rows fact goal s g a
+  earlier_none why f NoPlace lt a = goal_unless rows fact goal s (RuleAgainst NoPlace rule) g (f.first NoPlace lt) a
+  earlier_none why f WrongShape lt a = goal_unless rows fact goal s (RuleAgainst WrongShape rule) g (f.first WrongShape lt) a
+  earlier_none why f NotEqual lt a = goal_unless rows fact goal s (RuleAgainst NotEqual rule) g (f.first NotEqual lt) a
+
+  against_step : (why : Reason) → RuleAgainst why rule s → Against why rows (Apply fact goal rule)
+  against_step NoFact a = absurd a
+  against_step NoGoal a = absurd a
+  against_step NoPlace a = (s, g, a)
+  against_step WrongShape a = (s, g, a)
+  against_step NotEqual a = (s, g, a)
+
+  pub rule_fault : (why : Reason) → FirstAgainst rule s why → Fault rows (Apply fact goal rule) why
+  rule_fault why f = record { against = against_step why f.against; first = earlier_none why f }
+
+-- a step gives something, or there is a first reason against it
+pub step_cases : (rows : List Provable) (step : Step) → ((p : Provable) × Gives rows step p) ⊎ ((why : Reason) × Fault rows step why)
+step_cases rows (Start s) = elim (is_sequent s) [ yes h ↦ inl (started s, start s h) | no n ↦ inr (WrongShape, no_formulas rows s n) ]
+step_cases rows (Apply fact goal rule) =
+    elim (place_cases rows fact) [
+      | inr n ↦ inr (NoFact, no_fact rows fact goal rule n)
+      | inl p ↦ elim (place_cases p.0.goals goal) [
+        | inr n ↦ inr (NoGoal, no_goal rows fact goal rule p.0 p.1 n)
+        | inl s ↦ elim (rule_cases rule s.0) [
+          | inl m ↦ inl (applied p.0 goal m.0, apply fact goal rule p.0 s.0 m.0 p.1 s.1 m.1)
+          | inr f ↦ inr (f.0, rule_fault rows fact goal rule s.0 (p.0, p.1, s.1) f.0 f.1)
+        ]
+      ]
+    ]

@@ -1,0 +1,86 @@
+-- What stays true of rows when the store grows.
+use Rattle.std.proofs.Common.{◌≡◌, ℕ, ◌<◌, ◌^◌, List, [], ◌∷◌, ◌++◌, length, length-take, take, sym, ap, subst, ◌∙◌, arith}
+use Rattle.std.specs.List.{All}
+use Rattle.std.proofs.lemmas.List.{take-map, map-append}
+use Rattle.std.proofs.lemmas.List.Elements.{All-weaker, All-push, All-take}
+use Rattle.std.proofs.Math.Seq.{take-append_seam}
+use Rattle.dlk_tree.specs.Trees.{Tree}
+use Rattle.dlk_store.specs.Stores.{Keeps}
+use Rattle.dlk_calculus.specs.Steps.{Step, Gives, History, Derives, Adds}
+use Rattle.dlk_calculus.proofs.StepLaws.{StepOf-given}
+use Rattle.dlk_calculus.proofs.Histories.{History-derives, History-more, History-take}
+use Rattle.dlk_sequent.specs.Sequents.{IsKnown}
+use Rattle.dlk_sequent.proofs.Kept.{map-agree, sequent-kept, sequents-kept, IsKnown-kept}
+use Rattle.dlk_kernel.specs.declared.row.Row.{Row}
+use Rattle.dlk_kernel.specs.Kernel.{State, provable_at, provables_at, IsKnownRow, IsSound, SameRows, ExtendsRows}
+
+module _ (old new : List Tree) (keeps : Keeps old new) where
+  provable_kept : (row : Row) → IsKnownRow old row → provable_at new row ≡ provable_at old row
+  provable_kept row h =
+      let conclusion = sequent-kept keeps row.conclusion h.conclusion in
+      let goals = sequents-kept keeps row.goals h.goals in
+      let leaves = sequents-kept keeps row.leaves h.leaves in
+      λ i. record { conclusion = conclusion i; goals = goals i; leaves = leaves i }
+
+  pub row_kept : (row : Row) → IsKnownRow old row → IsKnownRow new row
+  row_kept row h = record {
+    conclusion = IsKnown-kept keeps row.conclusion h.conclusion;
+    goals = All-weaker (IsKnown old) (IsKnown new) (IsKnown-kept keeps) row.goals h.goals;
+    leaves = All-weaker (IsKnown old) (IsKnown new) (IsKnown-kept keeps) row.leaves h.leaves;
+  }
+
+  -- the rows stand for what they stood for
+  pub provables_kept : (rows : List Row) → All (IsKnownRow old) rows → provables_at new rows ≡ provables_at old rows
+  provables_kept rows h =
+      map-agree (provable_at new) (provable_at old) rows (All-weaker (IsKnownRow old) (λ row. provable_at new row ≡ provable_at old row) provable_kept rows h)
+
+  pub sound_kept : (rows : List Row) → IsSound old rows → IsSound new rows
+  sound_kept rows h = record {
+    known = All-weaker (IsKnownRow old) (IsKnownRow new) row_kept rows h.known;
+    history = subst History (sym (provables_kept rows h.known)) h.history;
+    few = h.few;
+  }
+
+  -- a row that a step gives comes last
+  module _ (rows after : List Row) (row : Row) (sound : IsSound old rows) (step : Step) (given : Gives (provables_at old rows) step (provable_at new row)) (added : after ≡ rows ++ row ∷ []) where
+    after_is : provables_at new after ≡ provables_at old rows ++ provable_at new row ∷ []
+    after_is = rw (added, map-append (provable_at new) rows (row ∷ []), provables_kept rows sound.known)
+
+    pub sound_more : IsKnownRow new row → length after < 2 ^ 32 → IsSound new after
+    sound_more known few = record {
+      known = rw added (All-push (IsKnownRow new) rows row (sound_kept rows sound).known known);
+      history = subst History (sym after_is) (History-more (provables_at old rows) step (provable_at new row) sound.history given);
+      few = few;
+    }
+
+    pub adds : Adds (provables_at old rows) step (provables_at new after)
+    adds = record { provable = provable_at new row; is_its = StepOf-given (provables_at old rows) step (provable_at new row) given; after_is = after_is }
+
+pub all_derived : (trees : List Tree) (rows : List Row) → IsSound trees rows → All Derives (provables_at trees rows)
+all_derived trees rows h = History-derives (provables_at trees rows) h.history
+
+-- the first rows are sound too
+pub sound_take : (trees : List Tree) (n : ℕ) (rows : List Row) → IsSound trees rows → IsSound trees (take n rows)
+sound_take trees n rows h = record {
+  known = All-take (IsKnownRow trees) n rows h.known;
+  history = subst History (take-map (provable_at trees) n rows) (History-take n (provables_at trees rows) h.history);
+  few = omega (arith, h.few, length-take n rows);
+}
+
+-- rows that stay, over a store that has grown
+pub same_rows : {S : Type 0} (trees : S → List Tree) (old new : State S) → Keeps (trees old.store) (trees new.store) → IsSound (trees old.store) old.rows → new.rows ≡ old.rows → SameRows trees old new
+same_rows trees old new keeps sound e = record {
+  ids = e;
+  provables = ap (provables_at (trees new.store)) e ∙ provables_kept (trees old.store) (trees new.store) keeps old.rows sound.known;
+}
+
+-- rows with more after them, over a store that has grown
+pub extends_rows : {S : Type 0} (trees : S → List Tree) (old new : State S) (more : List Row) → Keeps (trees old.store) (trees new.store) → IsSound (trees old.store) old.rows →
+    new.rows ≡ old.rows ++ more → ExtendsRows trees old new
+extends_rows trees old new more keeps sound e =
+    let front : take (length old.rows) new.rows ≡ old.rows = ap (take (length old.rows)) e ∙ take-append_seam old.rows more in
+    record {
+      ids = front;
+      provables = take-map (provable_at (trees new.store)) (length old.rows) new.rows ∙ ap (provables_at (trees new.store)) front
+          ∙ provables_kept (trees old.store) (trees new.store) keeps old.rows sound.known;
+    }

@@ -1,0 +1,69 @@
+-- The row that a step gives, and the faults of a step that gives none.
+use Rattle.std.proofs.Common.{◌≡◌, ℕ, ◌-◌, List, [], ◌∷◌, map, ap, ◌∙◌, Some, None}
+use Rattle.std.specs.List.{All}
+use Rattle.std.specs.Option.{option_map}
+use Rattle.std.proofs.lemmas.List.{map-append, take-map, drop-map}
+use Rattle.std.proofs.lemmas.List.Elements.{All-append, All-take, All-drop}
+use Rattle.dlk_tree.specs.Trees.{Tree}
+use Rattle.dlk_store.specs.Stores.{Keeps}
+use Rattle.dlk_calculus.specs.declared.reason.Reason.TheVariants.{NoGoal, NoPlace, WrongShape, NotEqual}
+use Rattle.dlk_calculus.specs.Places.{at, put_all}
+use Rattle.dlk_calculus.specs.Sequents.{IsSequent}
+use Rattle.dlk_calculus.specs.Rules.{Rule, Premises, FirstAgainst}
+use Rattle.dlk_calculus.specs.Provables.{applied}
+use Rattle.dlk_calculus.specs.Steps.{Start, Apply, Gives, start, apply, IsGoal, Fault}
+use Rattle.dlk_calculus.proofs.PlaceLaws.{at-map, At-map, at_none}
+use Rattle.dlk_calculus.proofs.StepLaws.{no_goal, rule_fault}
+use Rattle.dlk_sequent.specs.declared.sequent.Sequent.{Sequent}
+use Rattle.dlk_sequent.specs.Sequents.{sequent_at, IsKnown}
+use Rattle.dlk_sequent.proofs.Kept.{sequent-kept, sequents-kept}
+use Rattle.dlk_rules.specs.declared.rule.RuleFault.{RuleFault}
+use Rattle.dlk_rules.specs.declared.rule.RuleFault.TheVariants as rule_fault_of
+use Rattle.dlk_rules.specs.Steps.{IsRuleFault}
+use Rattle.dlk_kernel.specs.declared.row.Row.{Row}
+use Rattle.dlk_kernel.specs.Faults.{IsStepFault, fault_of}
+use Rattle.dlk_kernel.specs.Kernel.{provable_at, provables_at, IsKnownRow}
+use Rattle.dlk_kernel.proofs.Growth.{row_kept}
+
+put_all-map : {A B : Type 0} (f : A → B) (items : List A) (place : ℕ) (new : List A) → map f (put_all items place new) ≡ put_all (map f items) place (map f new)
+put_all-map f items place new = simp (map-append, take-map, drop-map)
+
+pub started_given : (trees : List Tree) (rows : List Row) (s : Sequent) (row : Row) → IsSequent (sequent_at trees s) → row ≡ record { conclusion = s; goals = s ∷ []; leaves = [] } →
+    Gives (provables_at trees rows) (Start (sequent_at trees s)) (provable_at trees row)
+started_given trees rows s row h is = rw is (start (sequent_at trees s) h)
+
+-- a fact that is there has no such goal
+pub goal_not_there : (trees : List Tree) (rows : List Row) (fact goal : ℕ) (rule : Rule) (row : Row) → at rows fact ≡ Some row → at row.goals goal ≡ None → Fault (provables_at trees rows) (Apply fact goal rule) NoGoal
+goal_not_there trees rows fact goal rule row there none =
+    no_goal (provables_at trees rows) fact goal rule (provable_at trees row) (At-map (provable_at trees) rows fact row there)
+    (at_none (map (sequent_at trees) row.goals) goal (at-map (sequent_at trees) row.goals goal ∙ ap (option_map (sequent_at trees)) none))
+
+-- a rule on a goal that is there
+module _ (old : List Tree) (rows : List Row) (fact goal : ℕ) (rule : Rule) (row : Row) (s : Sequent) (there : at rows fact ≡ Some row) (goal_there : at row.goals goal ≡ Some s) where
+  abbrev is_goal : IsGoal (provables_at old rows) fact goal (sequent_at old s)
+  is_goal = (provable_at old row, At-map (provable_at old) rows fact row there, At-map (sequent_at old) row.goals goal s goal_there)
+
+  pub rule_refused : (why : RuleFault) → IsRuleFault (FirstAgainst rule (sequent_at old s)) why → IsStepFault (Fault (provables_at old rows) (Apply fact goal rule)) (fault_of why)
+  rule_refused rule_fault_of.NoPlace f = rule_fault (provables_at old rows) fact goal rule (sequent_at old s) is_goal NoPlace f
+  rule_refused rule_fault_of.WrongShape f = rule_fault (provables_at old rows) fact goal rule (sequent_at old s) is_goal WrongShape f
+  rule_refused rule_fault_of.NotEqual f = rule_fault (provables_at old rows) fact goal rule (sequent_at old s) is_goal NotEqual f
+  rule_refused rule_fault_of.Memory f = tt
+
+  -- the row with the premises in the goal's place, over a store that has grown
+  module _ (new : List Tree) (keeps : Keeps old new) (known : IsKnownRow old row) (ps : List Sequent) (r : Row) (is : r ≡ record { conclusion = row.conclusion; goals = put_all row.goals goal ps; leaves = row.leaves }) where
+    stands : provable_at new r ≡ applied (provable_at old row) goal (map (sequent_at new) ps)
+    stands =
+        rw (is, put_all-map (sequent_at new) row.goals goal ps, sequents-kept keeps row.goals known.goals, sequent-kept keeps row.conclusion known.conclusion, sequents-kept keeps row.leaves known.leaves)
+
+    pub applied_given : Premises rule (sequent_at old s) (map (sequent_at new) ps) → Gives (provables_at old rows) (Apply fact goal rule) (provable_at new r)
+    applied_given premises = rw stands (apply fact goal rule (provable_at old row) (sequent_at old s) (map (sequent_at new) ps) is_goal.1 is_goal.2 premises)
+
+pub applied_known : (old new : List Tree) → Keeps old new → (row : Row) → IsKnownRow old row → (goal : ℕ) (ps : List Sequent) (r : Row) → All (IsKnown new) ps →
+    r ≡ record { conclusion = row.conclusion; goals = put_all row.goals goal ps; leaves = row.leaves } → IsKnownRow new r
+applied_known old new keeps row known goal ps r h is =
+    let up = row_kept old new keeps row known in
+    rw is (record {
+      conclusion = up.conclusion;
+      goals = All-append (IsKnown new) _ _ (All-append (IsKnown new) _ _ (All-take (IsKnown new) (goal - 1) row.goals up.goals) h) (All-drop (IsKnown new) goal row.goals up.goals);
+      leaves = up.leaves;
+    })

@@ -1,0 +1,7 @@
+use Rattle.dlk_calculus.specs.Sequents.{IsSequent}
+use Rattle.dlk_sequent.specs.Sequents.{sequent_at}
+use Rattle.dlk_kernel.proofs.Reading.{All-unmap}
+use Rattle.dlk_kernel.proofs.kernel.Kernel.goals.Goals as goal
+
+pub returns-clause-formulas : goal.returns-clause-formulas
+returns-clause-formulas g c = rw c.as_slice.ensures (All-unmap IsSequent (sequent_at (g.S.Store.trees c.args.self.now.store)) c.row.result.now.goals c.row.ensures.formulas.goals)

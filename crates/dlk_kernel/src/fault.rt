@@ -1,0 +1,47 @@
+ghost use Rattle.std.specs.Prelude.{◌≡◌};
+ghost use Rattle.dlk_kernel.specs.declared.fault.StepFault.TheVariants.{Memory};
+ghost use Rattle.dlk_kernel.specs.Faults.{fault_of};
+
+use dlk_calculus::Reason;
+use dlk_rules::RuleFault;
+use std::alloc::{AllocError, AllocFailed};
+use thiserror::Error;
+
+/// Why a kernel did not take a step.
+#[derive(Clone, Copy, Debug, PartialEq, Eq, Error)]
+pub enum StepFault {
+    /// It is no step of the calculus: the first reason against it.
+    #[error("no step of the calculus: {0:?}")]
+    Refused(Reason),
+    #[error("out of memory")]
+    Memory,
+}
+
+impl From<AllocError> for StepFault {
+    ghost from_gives = { λ _ e. e ≡ Memory };
+
+    fn from(_: AllocError) -> StepFault {
+        StepFault::Memory
+    }
+}
+
+impl<T: Drop> From<AllocFailed<T>> for StepFault {
+    ghost from_gives = { λ _ e. e ≡ Memory };
+
+    fn from(_: AllocFailed<T>) -> StepFault {
+        StepFault::Memory
+    }
+}
+
+impl From<RuleFault> for StepFault {
+    ghost from_gives = { λ why e. e ≡ fault_of why };
+
+    fn from(why: RuleFault) -> StepFault {
+        match why {
+            RuleFault::NoPlace => StepFault::Refused(Reason::NoPlace),
+            RuleFault::WrongShape => StepFault::Refused(Reason::WrongShape),
+            RuleFault::NotEqual => StepFault::Refused(Reason::NotEqual),
+            RuleFault::Memory => StepFault::Memory,
+        }
+    }
+}

@@ -1,0 +1,202 @@
+use crate::fault::StepFault;
+use crate::given::give;
+use crate::row::Row;
+use dlk_rules::Step;
+use dlk_sequent::Sequent;
+use dlk_store::{Id, Node, Steps, Store, StoreFault};
+use dlk_tree::Op;
+use std::alloc::Global;
+use std::marker::Model;
+use std::sync::ledger::Ledger;
+
+/// A row past this many has no number.
+const MAX_ROWS: usize = u32::MAX as usize;
+
+/// A store and the rows of a proof. Each row is a provable that the calculus derives: only `step` makes rows, and the
+/// type keeps that each is given by a step from those before it.
+///
+/// Contracts see a kernel as its store and its rows, and by `facts` as the list of what the rows stand for.
+#[derive(Drop)]
+pub struct Kernel<S: Store> {
+    store: S,
+    rows: Vec<Row>,
+}
+
+impl<S: Store> Model for Kernel<S> {
+    ghost use Rattle.dlk_kernel.specs.Kernel.{State, IsSound};
+
+    ghost Value = { State S };
+
+    ghost view = { λ k. record { store = k.store; rows = k.rows.items } };
+
+    ghost invariant = { λ k. IsSound (S.trees k.store) k.rows.items };
+}
+
+impl<S: Store> Kernel<S> {
+    ghost use Rattle.std.specs.Prelude.{◌≡◌, ◌≤◌, [], length, map, take, All, Some, option_map, IfSome, IfOk, OnOk, IfErr, OnErr};
+    ghost use Rattle.dlk_calculus.specs.Places.{at, IsPlace};
+    ghost use Rattle.dlk_calculus.specs.Sequents.{IsSequent};
+    ghost use Rattle.dlk_calculus.specs.Provables.{HasFormulas};
+    ghost use Rattle.dlk_calculus.specs.Steps.{Derives, Adds, Fault};
+    ghost use Rattle.dlk_sequent.specs.Sequents.{sequent_at, IsKnown};
+    ghost use Rattle.dlk_rules.specs.Steps.{step_at, HasKnownIds, StartsFormulas};
+    ghost use Rattle.dlk_kernel.specs.Faults.{IsStepFault};
+    ghost use Rattle.dlk_kernel.specs.Kernel.{facts, provable_at, IsKnownRow, SameRows, ExtendsRows};
+
+    /// A kernel without rows over a store.
+    pub fn new(alloc: Global, store: S) -> Self
+        ensures rows { result.rows ≡ [] }
+        ensures store { result.store ≡ store }
+    {
+        Kernel {
+            store,
+            rows: Vec::new(alloc),
+        }
+    }
+
+    /// How many rows there are, which is the last one's number. Each stands for a provable that the calculus derives.
+    pub fn rows(&self) -> u32
+        ensures count { result ≡ length self.now.rows }
+        ensures derived { All Derives (facts S.trees self.now) }
+    {
+        self.rows.len() as u32
+    }
+
+    /// The row of a fact.
+    fn row(&self, fact: u32) -> &Row
+        requires { IsPlace self.now.rows fact }
+        ensures fact { at (facts S.trees self.now) fact ≡ Some (provable_at (S.trees self.now.store) result.now) }
+        ensures known { IsKnownRow (S.trees self.now.store) result.now }
+        ensures derived { Derives (provable_at (S.trees self.now.store) result.now) }
+        ensures formulas { HasFormulas (provable_at (S.trees self.now.store) result.now) }
+    {
+        &self.rows[fact as usize - 1]
+    }
+
+    /// The conclusion of a fact, which is a row's number from 1 to `rows()`: a sequent of formulas.
+    pub fn conclusion(&self, fact: u32) -> &Sequent
+        requires { IsPlace self.now.rows fact }
+        ensures conclusion { option_map (λ p. p.conclusion) (at (facts S.trees self.now) fact) ≡ Some (sequent_at (S.trees self.now.store) result.now) }
+        ensures derived { IfSome (at (facts S.trees self.now) fact) Derives }
+        ensures known { IsKnown (S.trees self.now.store) result.now }
+        ensures formulas { IsSequent (sequent_at (S.trees self.now.store) result.now) }
+    {
+        &self.row(fact).conclusion
+    }
+
+    /// The goals of a fact, which is a row's number from 1 to `rows()`: the sequents that are left to be proved.
+    pub fn goals(&self, fact: u32) -> &[Sequent]
+        requires { IsPlace self.now.rows fact }
+        ensures goals { option_map (λ p. p.goals) (at (facts S.trees self.now) fact) ≡ Some (map (sequent_at (S.trees self.now.store)) result.now) }
+        ensures derived { IfSome (at (facts S.trees self.now) fact) Derives }
+        ensures known { All (IsKnown (S.trees self.now.store)) result.now }
+        ensures formulas { All (λ s. IsSequent (sequent_at (S.trees self.now.store) s)) result.now }
+    {
+        self.row(fact).goals.as_slice()
+    }
+
+    /// The leaves of a fact, which is a row's number from 1 to `rows()`: the facts of arithmetic that it rests on.
+    pub fn leaves(&self, fact: u32) -> &[Sequent]
+        requires { IsPlace self.now.rows fact }
+        ensures leaves { option_map (λ p. p.leaves) (at (facts S.trees self.now) fact) ≡ Some (map (sequent_at (S.trees self.now.store)) result.now) }
+        ensures derived { IfSome (at (facts S.trees self.now) fact) Derives }
+        ensures known { All (IsKnown (S.trees self.now.store)) result.now }
+        ensures formulas { All (λ s. IsSequent (sequent_at (S.trees self.now.store) s)) result.now }
+    {
+        self.row(fact).leaves.as_slice()
+    }
+
+    /// Takes a step: the row that it gives comes last, and its number is answered. The ids of a `Start` are those of this
+    /// kernel's store and stand for formulas. After a fault the rows are as they were.
+    ///
+    /// # Errors
+    ///
+    /// - `Refused`: it is no step of the calculus. The first reason against it is answered.
+    /// - `Memory`: for want of memory, or where the row would have no number.
+    pub fn step<L: Ledger>(
+        &mut self,
+        alloc: Global,
+        step: &Step,
+        steps: &mut Steps<L>,
+    ) -> Result<u32, StepFault>
+        requires known { HasKnownIds (S.trees self.old.store) step.now }
+        requires formulas { StartsFormulas (S.trees self.old.store) step.now }
+
+        // The provable that the calculus gives comes last.
+        ensures ok { OnOk result (Adds (facts S.trees self.old) (step_at (S.trees self.old.store) step.now) (facts S.trees self.new)) }
+        ensures kept { OnOk result (ExtendsRows S.trees self.old self.new) }
+        ensures fact { IfOk result (λ fact. fact ≡ length self.new.rows) }
+
+        // Want of memory aside, a refusal is the fault of the step.
+        ensures fault { IfErr result (IsStepFault (Fault (facts S.trees self.old) (step_at (S.trees self.old.store) step.now))) }
+        ensures err { OnErr result (SameRows S.trees self.old self.new) }
+
+        ensures grows { S.grows self.old.store self.new.store }
+    {
+        let row = give(alloc, &mut self.store, self.rows.as_slice(), step, steps)?;
+        if self.rows.len() >= MAX_ROWS {
+            return Err(StepFault::Memory);
+        }
+        self.rows.push(row)?;
+        Ok(self.rows.len() as u32)
+    }
+
+    /// The number of rows, to which `release` can go back.
+    pub fn mark(&self) -> u32
+        ensures { result ≡ length self.now.rows }
+    {
+        self.rows.len() as u32
+    }
+
+    /// Drops the rows past a mark, which is at most `rows()`.
+    pub fn release(&mut self, mark: u32)
+        requires { mark ≤ length self.old.rows }
+        ensures rows { self.new.rows ≡ take mark self.old.rows }
+        ensures store { self.new.store ≡ self.old.store }
+    {
+        self.rows.truncate(mark as usize);
+    }
+}
+
+/// A kernel answers as its own store does.
+impl<S: Store> Store for Kernel<S> {
+    ghost use Rattle.std.proofs.Common.{refl, ◌∙◌};
+    ghost use Rattle.dlk_kernel.specs.Kernel.{SameRows};
+
+    ghost trees = { λ k. S.trees k.store };
+
+    ghost unique = { S.unique };
+
+    // The store grows, and the rows stay.
+    ghost grows = { λ j k. S.grows j.store k.store × SameRows S.trees j k };
+
+    fn make(&mut self, alloc: Global, op: Op, kids: &[Id]) -> Result<Id, StoreFault> {
+        self.store.make(alloc, op, kids)
+    }
+
+    fn look<L: Ledger>(&self, id: Id, steps: &mut Steps<L>) -> Node<'_> {
+        self.store.look(id, steps)
+    }
+
+    fn same(&self, a: Id, b: Id) -> bool {
+        self.store.same(a, b)
+    }
+
+    fn size(&self, id: Id) -> u32 {
+        self.store.size(id)
+    }
+
+    fn depth(&self, id: Id) -> u32 {
+        self.store.depth(id)
+    }
+
+    ghost grows_refl = { λ a. (S.grows_refl a.store, record { ids = refl; provables = refl }) };
+
+    ghost grows_trans = { λ a b c p q. (S.grows_trans a.store b.store c.store p.0 q.0, record { ids = q.1.ids ∙ p.1.ids; provables = q.1.provables ∙ p.1.provables }) };
+
+    ghost grows_keeps = { λ a b p. S.grows_keeps a.store b.store p.0 };
+
+    ghost well_made = { λ k. S.well_made k.store };
+
+    ghost one_id = { λ h k. S.one_id h k.store };
+}

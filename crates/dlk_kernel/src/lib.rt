@@ -1,0 +1,12 @@
+//! The kernel: provables that it alone makes, each by a step of the calculus.
+#![tactic(auto)]
+
+mod fault;
+mod given;
+mod kernel;
+mod row;
+
+pub use dlk_calculus::Reason;
+pub use dlk_rules::{Rule, Step};
+pub use fault::StepFault;
+pub use kernel::Kernel;

@@ -1,0 +1,4 @@
+pub mod Values
+pub mod Fronts
+pub mod BestMarks
+pub mod Steps

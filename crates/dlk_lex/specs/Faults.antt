@@ -1,0 +1,9 @@
+-- Which fault a place is.
+use Rattle.std.specs.Prelude.{ℕ}
+use Rattle.dlk_lex.specs.declared.fault.LexFault.{LexFault}
+use Rattle.dlk_lex.specs.declared.fault.LexFault.TheVariants.{Memory, BadByte}
+
+-- the fault at a bad place; want of memory is free
+abbrev pub IsFaultOf : (ℕ → Type 0) → LexFault → Type 0
+IsFaultOf is_bad (BadByte at) = is_bad at
+IsFaultOf is_bad Memory = Unit {0}

@@ -1,0 +1,45 @@
+-- What a replay answers and leaves.
+use Rattle.std.specs.Prelude.{◌≡◌, ◌≢◌, ◌+◌, ◌-◌, ℕ, List, length, take}
+use Rattle.dlk_calculus.specs.Provables.{Provable}
+use Rattle.dlk_calculus.specs.Steps.{Step, Adds, Fault}
+use Rattle.dlk_termtext.specs.Lines.{Line, Numbered, Done, IsLine}
+use Rattle.dlk_replay.specs.Files.{Verdict, bad, RowsOf}
+use Rattle.dlk_replay.specs.declared.fault.LineWhy.{LineWhy}
+use Rattle.dlk_replay.specs.declared.fault.LineWhy.TheVariants as why
+use Rattle.dlk_replay.specs.declared.taking.Taken.{Taken}
+use Rattle.dlk_replay.specs.declared.taking.Taken.TheVariants as taken
+use Rattle.dlk_replay.specs.declared.fault.ReplayFault.{ReplayFault}
+use Rattle.dlk_replay.specs.declared.fault.ReplayFault.TheVariants.{Bad, Memory}
+
+-- the fault of these lines; want of memory is free
+abbrev pub IsFaultOf : List (List ℕ) → ReplayFault → Type 0
+IsFaultOf lines (Bad line why) = Verdict lines (bad line why)
+IsFaultOf lines Memory = Unit {0}
+
+-- the rows that a fault leaves: those of the lines before it, and for want of memory those of some first lines
+abbrev pub LeavesRows : List (List ℕ) → List Provable → ReplayFault → Type 0
+LeavesRows lines rows (Bad line why) = RowsOf (take (line - 1) lines) rows
+LeavesRows lines rows Memory = (n : ℕ) × RowsOf (take n lines) rows
+
+-- why a line is not as it must be, after these rows. One case a reason.
+abbrev pub IsBadLine : List Provable → List ℕ → LineWhy → Type 0
+IsBadLine rows line why.Malformed = (l : Line) → ¬ IsLine line l
+IsBadLine rows line why.WrongNumber = (number : ℕ) × (step : Step) × IsLine line (Numbered number step) × (number ≢ length rows + 1)
+IsBadLine rows line why.NoEnd = ⊥
+IsBadLine rows line (why.Step reason) = (step : Step) × IsLine line (Numbered (length rows + 1) step) × Fault rows step reason
+
+-- the fault of a line after these rows; want of memory is free
+abbrev pub IsLineFault : List Provable → List ℕ → ReplayFault → Type 0
+IsLineFault rows line (Bad at why) = (at ≡ length rows + 1) × IsBadLine rows line why
+IsLineFault rows line Memory = Unit {0}
+
+-- a line's own number and its step, which adds a row
+pub record IsNextStep (rows : List Provable) (line : List ℕ) (new : List Provable) : Type 0 where
+  pub step : Step
+  pub its_line : IsLine line (Numbered (length rows + 1) step)
+  pub adds : Adds rows step new
+
+-- what a line did to the rows
+abbrev pub Takes : List Provable → List ℕ → List Provable → Taken → Type 0
+Takes rows line new taken.Step = IsNextStep rows line new
+Takes rows line new taken.Done = IsLine line Done × (new ≡ rows)

@@ -1,0 +1,54 @@
+ghost use Rattle.std.specs.Prelude.{◌≡◌};
+ghost use Rattle.dlk_replay.specs.declared.fault.ReplayFault.TheVariants.{Memory};
+
+use dlk_calculus::Reason;
+use std::alloc::{AllocError, AllocFailed};
+use thiserror::Error;
+
+/// What an accepted file has shown.
+#[derive(Clone, Copy, Debug, PartialEq, Eq)]
+pub struct Outcome {
+    /// The number of the last row.
+    pub fact: u32,
+    /// The number of lines of steps.
+    pub lines: u32,
+}
+
+/// Why a line is not as it must be, in the order in which it is looked for.
+#[derive(Clone, Copy, Debug, PartialEq, Eq)]
+pub enum LineWhy {
+    /// It is no line of a proof-term file, is `done` before any step, or follows `done`.
+    Malformed,
+    /// Its number is not its place in the file.
+    WrongNumber,
+    /// The file ends where this line should stand.
+    NoEnd,
+    /// Its step is no step of the calculus.
+    Step(Reason),
+}
+
+/// Why a file was not accepted.
+#[derive(Clone, Copy, Debug, PartialEq, Eq, Error)]
+pub enum ReplayFault {
+    /// The first line that is not as it must be, counted from 1.
+    #[error("line {line} is not as it must be: {why:?}")]
+    Bad { line: usize, why: LineWhy },
+    #[error("out of memory")]
+    Memory,
+}
+
+impl From<AllocError> for ReplayFault {
+    ghost from_gives = { λ _ e. e ≡ Memory };
+
+    fn from(_: AllocError) -> ReplayFault {
+        ReplayFault::Memory
+    }
+}
+
+impl<T: Drop> From<AllocFailed<T>> for ReplayFault {
+    ghost from_gives = { λ _ e. e ≡ Memory };
+
+    fn from(_: AllocFailed<T>) -> ReplayFault {
+        ReplayFault::Memory
+    }
+}

@@ -1,0 +1,68 @@
+//! Files of lines.
+ghost use Rattle.std.specs.Prelude.{◌≡◌, ◌≤◌, [], length, OnOk, IfOk, IfErr};
+ghost use Rattle.dlk_kernel.specs.Kernel.{facts};
+ghost use Rattle.dlk_replay.specs.Files.{file_lines, Verdict, accepted};
+ghost use Rattle.dlk_replay.specs.Replay.{IsFaultOf, LeavesRows};
+
+use crate::fault::{LineWhy, Outcome, ReplayFault};
+use crate::taking::{Taken, first_line, take_line};
+use dlk_kernel::Kernel;
+use dlk_store::{Steps, Store};
+use std::alloc::Global;
+use std::sync::ledger::Ledger;
+
+/// Takes the steps of a proof-term file on a kernel without rows. Each line is read once.
+///
+/// # Errors
+///
+/// - `Bad`: the first line that is not as it must be, and why. The kernel has the rows of the lines before it.
+/// - `Memory`: for want of memory. The kernel has the rows of some first lines.
+pub fn replay<S: Store, L: Ledger>(
+    alloc: Global,
+    bytes: &[u8],
+    kernel: &mut Kernel<S>,
+    steps: &mut Steps<L>,
+) -> Result<Outcome, ReplayFault>
+    requires { kernel.old.rows ≡ [] }
+
+    // The rows are those that the lines give, and the last one is named.
+    ensures ok { OnOk result (Verdict (file_lines bytes.now) (accepted (facts S.trees kernel.new))) }
+    ensures fact { IfOk result (λ outcome. outcome.fact ≡ length kernel.new.rows) }
+    ensures lines { IfOk result (λ outcome. outcome.lines ≡ length kernel.new.rows) }
+    ensures some { OnOk result (1 ≤ length kernel.new.rows) }
+
+    ensures bad { IfErr result (IsFaultOf (file_lines bytes.now)) }
+    ensures left { IfErr result (LeavesRows (file_lines bytes.now) (facts S.trees kernel.new)) }
+    ensures grows { S.grows kernel.old.store kernel.new.store }
+{
+    let mut left = bytes;
+    while !left.is_empty() {
+        let (line, behind) = first_line(left);
+        match take_line(alloc, line, kernel, steps)? {
+            Taken::Step => left = behind,
+            Taken::Done => {
+                let rows = kernel.rows();
+                if rows == 0 {
+                    return Err(ReplayFault::Bad {
+                        line: 1,
+                        why: LineWhy::Malformed,
+                    });
+                }
+                if !behind.is_empty() {
+                    return Err(ReplayFault::Bad {
+                        line: rows as usize + 2,
+                        why: LineWhy::Malformed,
+                    });
+                }
+                return Ok(Outcome {
+                    fact: rows,
+                    lines: rows,
+                });
+            }
+        }
+    }
+    Err(ReplayFault::Bad {
+        line: kernel.rows() as usize + 1,
+        why: LineWhy::NoEnd,
+    })
+}

@@ -1,0 +1,87 @@
+//! One line of a file.
+ghost use Rattle.std.specs.Prelude.{◌≡◌, ◌<◌, ◌≤◌, ◌∷◌, ℕ, List, length, IfOk, IfErr, OnErr};
+ghost use Rattle.std.specs.List.{position_or_len};
+ghost use Rattle.dlk_kernel.specs.Kernel.{facts};
+ghost use Rattle.dlk_replay.specs.Files.{file_lines, is_line_feed};
+ghost use Rattle.dlk_replay.specs.Replay.{IsLineFault, Takes};
+
+use crate::fault::{LineWhy, ReplayFault};
+use dlk_kernel::{Kernel, StepFault};
+use dlk_store::{Steps, Store};
+use dlk_termtext::{Line, LineFault, read_line};
+use std::alloc::Global;
+use std::sync::ledger::Ledger;
+
+/// What a line did.
+#[derive(Clone, Copy, Debug)]
+pub(crate) enum Taken {
+    /// Its step was taken.
+    Step,
+    /// It is `done`.
+    Done,
+}
+
+/// Reads a line, and takes its step.
+pub(crate) fn take_line<S: Store, L: Ledger>(
+    alloc: Global,
+    line: &[u8],
+    kernel: &mut Kernel<S>,
+    steps: &mut Steps<L>,
+) -> Result<Taken, ReplayFault>
+    ensures taken { IfOk result (Takes (facts S.trees kernel.old) line.now (facts S.trees kernel.new)) }
+    ensures fault { IfErr result (IsLineFault (facts S.trees kernel.old) line.now) }
+    ensures err { OnErr result (facts S.trees kernel.new ≡ facts S.trees kernel.old) }
+    ensures grows { S.grows kernel.old.store kernel.new.store }
+{
+    let place = kernel.rows() as usize + 1;
+    match read_line(alloc, line, kernel) {
+        Ok(Line::Done) => Ok(Taken::Done),
+        Ok(Line::Step { number, step }) => {
+            if number as usize != place {
+                return Err(ReplayFault::Bad {
+                    line: place,
+                    why: LineWhy::WrongNumber,
+                });
+            }
+            match kernel.step(alloc, &step, steps) {
+                Ok(_) => Ok(Taken::Step),
+                Err(StepFault::Refused(reason)) => Err(ReplayFault::Bad {
+                    line: place,
+                    why: LineWhy::Step(reason),
+                }),
+                Err(StepFault::Memory) => Err(ReplayFault::Memory),
+            }
+        }
+        Err(LineFault::Malformed) => Err(ReplayFault::Bad {
+            line: place,
+            why: LineWhy::Malformed,
+        }),
+        Err(LineFault::Memory) => Err(ReplayFault::Memory),
+    }
+}
+
+/// The first line of what is left of a file, without its line feed, and what comes behind it.
+pub(crate) fn first_line(left: &[u8]) -> (&[u8], &[u8])
+    requires { 0 < length left.now }
+    ensures lines { file_lines left.now ≡ result.0.now ∷ file_lines result.1.now }
+    ensures less { length result.1.now < length left.now }
+{
+    let (line, rest) = left.split_at(line_end(left));
+    let [_feed, behind @ ..] = rest else {
+        return (line, rest);
+    };
+    (line, behind)
+}
+
+/// Where the first line ends: the place of the first line feed, or the length.
+fn line_end(left: &[u8]) -> usize
+    ensures place { result ≡ position_or_len is_line_feed left.now }
+    ensures within { result ≤ length left.now }
+{
+    for (i, b) in left.iter().enumerate() {
+        if *b == b'\n' {
+            return i;
+        }
+    }
+    left.len()
+}

@@ -1,0 +1,66 @@
+ghost use Rattle.std.specs.Prelude.{◌≡◌, ◌<◌};
+
+use crate::{LineWhy, Outcome, ReplayFault, replay};
+use dlk_calculus::Reason;
+use dlk_kernel::Kernel;
+use dlk_plain::PlainStore;
+use dlk_store::Steps;
+use std::marker::Brand;
+use std::sync::ledger::{Blank, Ledger};
+use std::test::Fail;
+
+/// What becomes of a file, with nothing counted.
+fn uncounted<L: Ledger>(rt: &HostRuntime, file: &str, blank: Blank) -> Result<Outcome, ReplayFault>
+    requires name { blank.name ≡ L.name }
+    requires parts { blank.parts ≡ L.parts }
+    requires some { 0 < blank.parts }
+{
+    let alloc = rt.alloc();
+    let mut kernel = Kernel::new(alloc, PlainStore::new(alloc));
+    let mut steps = Steps::<L>::new(blank);
+    replay(alloc, file.as_bytes(), &mut kernel, &mut steps)
+}
+
+fn bad(line: usize, why: LineWhy) -> Result<Outcome, ReplayFault> {
+    Err(ReplayFault::Bad { line, why })
+}
+
+#[test]
+fn replays_files(rt: HostRuntime) -> Result<(), Fail> {
+    let three = Ok(Outcome { fact: 3, lines: 3 });
+    let rows = [
+        (
+            "1 start ==> x>=0 -> x>=0\n2 apply 1 1 implyR(1)\n3 apply 2 1 close(1,1)\ndone\n",
+            three,
+        ),
+        (
+            "1 start ==> x>=0 -> x>=0\n2 apply 1 1 implyR(1)\n3 apply 2 1 close(1,1)\ndone",
+            three,
+        ),
+        (
+            "1 start ==> x>=0 -> x>=0\n2 apply 1 1 implyR(1)\n3 apply 2 1 close(1,1)\n",
+            bad(4, LineWhy::NoEnd),
+        ),
+        (
+            "1 start ==> x>=0 -> x>=0\n2 apply 1 1 implyR(1)\n4 apply 2 1 close(1,1)\ndone\n",
+            bad(3, LineWhy::WrongNumber),
+        ),
+        (
+            "1 start ==> x>=0 -> x>=1\n2 apply 1 1 implyR(1)\n3 apply 2 1 close(1,1)\nnonsense\ndone\n",
+            bad(3, LineWhy::Step(Reason::NotEqual)),
+        ),
+        ("1 start ==> x>=0\ndone\nx\n", bad(3, LineWhy::Malformed)),
+        ("1 start ==> x>=0\ndone\n\n", bad(3, LineWhy::Malformed)),
+        ("1 start ==> x>=0\n\ndone\n", bad(2, LineWhy::Malformed)),
+        ("done\n", bad(1, LineWhy::Malformed)),
+        ("", bad(1, LineWhy::NoEnd)),
+    ];
+    for (file, want) in rows {
+        assert_eq!(rt;
+            uncounted::<Brand>(&rt, file, Blank::new(1)),
+            want,
+            "{file}"
+        );
+    }
+    Ok(())
+}

@@ -1,0 +1,5 @@
+use Rattle.dlk_termtext.proofs.LineForms.{one_line}
+use Rattle.dlk_termtext.proofs.laws.one_line.Goals as goal
+
+pub returns : goal.returns
+returns c = one_line

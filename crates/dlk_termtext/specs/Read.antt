@@ -1,0 +1,37 @@
+-- What the read lines say.
+use Rattle.std.specs.Prelude.{List}
+use Rattle.dlk_tree.specs.Trees.{Tree}
+use Rattle.dlk_rules.specs.Steps.{step_at, HasKnownIds, StartsFormulas}
+use Rattle.dlk_termtext.specs.Lines.{Line as TreeLine, Numbered, Done}
+use Rattle.dlk_termtext.specs.declared.line.Line.{Line}
+use Rattle.dlk_termtext.specs.declared.line.Line.TheVariants as line
+use Rattle.dlk_termtext.specs.declared.line.LineFault.{LineFault}
+use Rattle.dlk_termtext.specs.declared.line.LineFault.TheVariants as fault
+use Rattle.dlk_parse.specs.declared.fault.ParseFault.{ParseFault}
+use Rattle.dlk_parse.specs.declared.fault.ParseFault.TheVariants as parse
+
+-- the line over the trees of its ids
+abbrev pub line_at : List Tree → Line → TreeLine
+line_at trees (line.Step number step) = Numbered number (step_at trees step)
+line_at trees line.Done = Done
+
+-- the ids of a line are those of the store
+abbrev pub LineIsKnown : List Tree → Line → Type 0
+LineIsKnown trees (line.Step number step) = HasKnownIds trees step
+LineIsKnown trees line.Done = Unit {0}
+
+-- what a line starts from is a sequent of formulas
+abbrev pub LineStartsFormulas : List Tree → Line → Type 0
+LineStartsFormulas trees (line.Step number step) = StartsFormulas trees step
+LineStartsFormulas trees line.Done = Unit {0}
+
+-- The error tells that this holds; want of memory is free.
+abbrev pub IsFaultOf : Type 0 → LineFault → Type 0
+IsFaultOf holds fault.Malformed = holds
+IsFaultOf holds fault.Memory = Unit {0}
+
+-- a text that is not read makes its line Malformed
+abbrev pub of_parse : ParseFault → LineFault
+of_parse (parse.NotBuilt at) = fault.Malformed
+of_parse parse.Syntax = fault.Malformed
+of_parse parse.Memory = fault.Memory
