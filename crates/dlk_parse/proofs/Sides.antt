@@ -1,5 +1,5 @@
 -- The formulas of a side, in the store.
-use Rattle.std.proofs.Common.{◌≡◌, ℕ, suc, ◌+◌, ◌<◌, ◌≤◌, true, false, List, [], ◌∷◌, ◌++◌, length, get_or, take, drop, map, Option, Some, None, refl, sym, ap, subst, ◌∙◌, arith}
+use Rattle.std.proofs.Common.{◌≡◌, ℕ, suc, ◌+◌, ◌<◌, ◌≤◌, true, false, List, [], ◌∷◌, ◌++◌, length, get_or, take, drop, map, Some, None, refl, sym, ap, ◌∙◌, arith}
 use Rattle.std.specs.Prelude.{All, option_and_then}
 use Rattle.std.proofs.lemmas.List.{take_all, map-append}
 use Rattle.std.proofs.lemmas.List.Elements.{All-push}
@@ -8,7 +8,7 @@ use Rattle.dlk_store.specs.declared.Id.{Id}
 use Rattle.dlk_store.specs.Stores.{IsId, tree, Keeps}
 use Rattle.dlk_grammar.specs.declared.token.Token.{Token}
 use Rattle.dlk_grammar.specs.declared.token.TokenKind.{TokenKind}
-use Rattle.dlk_grammar.proofs.Machine.{State, state, Nothing, fresh, step, ended}
+use Rattle.dlk_grammar.proofs.Machine.{State, state, fresh, step, ended}
 use Rattle.dlk_grammar.proofs.Sides.{is_comma, Side, side, more, go_on, side_step, side_steps, side_ended, side_of, side_steps-append}
 use Rattle.dlk_grammar.proofs.Formed.{kinds}
 use Rattle.dlk_parse.specs.declared.reader.Reader.{Reader}
@@ -40,7 +40,7 @@ module _ (ts : List Token) (i : ℕ) (t : Token) (lt : i < length ts) (is : t �
   stops_at f =
       let rest = kinds (drop (i + 1) ts) in
       let none : side_steps (side [] fresh) (kinds ts) ≡ None = ap (side_steps (side [] fresh)) (kinds_parts ts i t lt is) ∙ side_steps-append (side [] fresh) (kinds (take i ts)) (t.kind ∷ rest)
-          ∙ ap (option_and_then (λ z. side_steps z (t.kind ∷ rest))) leads ∙ ap (option_and_then (λ z. side_steps z rest)) f in
+      ∙ ap (option_and_then (λ z. side_steps z (t.kind ∷ rest))) leads ∙ ap (option_and_then (λ z. side_steps z rest)) f in
       go (kinds ts) none
     where
       go : (ks : List TokenKind) → side_steps (side [] fresh) ks ≡ None → side_of ks ≡ None

@@ -1,17 +1,16 @@
 -- Formulas and sequents of bytes, in the store.
-use Rattle.std.proofs.Common.{◌≡◌, ℕ, ◌+◌, ◌-◌, ◌≤◌, List, ◌++◌, length, take, drop, map, Option, Some, None, Result, Ok, Err, refl, sym, ap, subst, ◌∙◌, arith}
-use Rattle.std.specs.Prelude.{All, IfOk, IfErr, option_and_then}
+use Rattle.std.proofs.Common.{◌≡◌, ℕ, ◌-◌, List, length, take, drop, Some, None, Result, Ok, Err, refl, sym, ap, subst, ◌∙◌, arith}
+use Rattle.std.specs.Prelude.{IfOk, IfErr, option_and_then}
 use Rattle.std.proofs.lemmas.List.{take_all, take-append-drop, length-drop}
 use Rattle.std.proofs.lemmas.Option.{none-some}
 use Rattle.dlk_tree.specs.Trees.{Tree}
 use Rattle.dlk_tree.specs.declared.op.Sort.TheVariants as sort_of
-use Rattle.dlk_calculus.specs.Sequents.{Sequent as TreeSequent, IsFormula}
+use Rattle.dlk_calculus.specs.Sequents.{IsFormula}
 use Rattle.dlk_store.specs.declared.Id.{Id}
 use Rattle.dlk_store.specs.Stores.{tree, StandsFor}
 use Rattle.dlk_grammar.specs.declared.token.Token.{Token}
 use Rattle.dlk_grammar.specs.declared.token.TokenKind.{TokenKind}
 use Rattle.dlk_grammar.specs.declared.token.Text.TheVariants.{Formula, Sequent}
-use Rattle.dlk_grammar.specs.Grammar.{ReadsSequent}
 use Rattle.dlk_grammar.specs.Texts.{HasKinds, FormulaText, SequentText, FormulaFault, SequentFault}
 use Rattle.dlk_grammar.specs.Texts.{Syntax as NoSyntax}
 use Rattle.dlk_grammar.proofs.Machine.{read}

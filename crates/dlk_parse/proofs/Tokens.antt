@@ -1,13 +1,11 @@
 -- One token of a list, and the faults that come of it.
-use Rattle.std.proofs.Common.{◌≡◌, ℕ, zero, suc, ◌+◌, ◌-◌, ◌<◌, ◌≤◌, List, [], ◌∷◌, ◌++◌, length, get_or, take, drop, map, Option, Some, None, Result, Ok, Err, refl, sym, ap, subst, ◌∙◌, add-one, arith}
-use Rattle.std.specs.Prelude.{option_and_then, option_to_list}
+use Rattle.std.proofs.Common.{◌≡◌, ℕ, suc, ◌+◌, ◌-◌, ◌<◌, ◌≤◌, List, [], ◌∷◌, ◌++◌, length, get_or, take, drop, Option, Some, None, Result, Err, refl, sym, ap, subst, ◌∙◌, add-one, arith}
+use Rattle.std.specs.Prelude.{option_and_then}
 use Rattle.std.proofs.lemmas.List.{take_more, take_all, take-append-drop, length-append}
 use Rattle.std.proofs.Math.Seq.{drop-cons, take-append_seam}
-use Rattle.dlk_tree.specs.Trees.{Tree}
 use Rattle.dlk_grammar.specs.declared.token.Token.{Token}
 use Rattle.dlk_grammar.specs.declared.token.TokenKind.{TokenKind}
-use Rattle.dlk_grammar.specs.declared.token.TokenKind.TheVariants.{End, Mark as AMark}
-use Rattle.dlk_grammar.specs.declared.token.Mark.TheVariants.{Turnstile}
+use Rattle.dlk_grammar.specs.declared.token.TokenKind.TheVariants.{End}
 use Rattle.dlk_grammar.specs.declared.token.Text.{Text}
 use Rattle.dlk_grammar.specs.Splits.{Splits, token}
 use Rattle.dlk_grammar.specs.Texts.{HasKinds}

@@ -1,9 +1,9 @@
 use Rattle.std.proofs.lemmas.Result.{err_from_is_err_and}
-use Rattle.dlk_grammar.proofs.Machine.{step, ended, read}
+use Rattle.dlk_grammar.proofs.Machine.{step, read}
 use Rattle.dlk_grammar.proofs.Formed.{kinds}
 use Rattle.dlk_store.specs.Stores.{tree}
 use Rattle.dlk_parse.specs.Readers.{state_at}
-use Rattle.dlk_parse.proofs.Tokens.{real_at, goes_on, stops, whole, err_agrees, agrees_along}
+use Rattle.dlk_parse.proofs.Tokens.{real_at, goes_on, stops, err_agrees}
 use Rattle.dlk_parse.proofs.reading.formula_of.Goals as goal
 
 pub step-requires-clause-real : goal.step-requires-clause-real

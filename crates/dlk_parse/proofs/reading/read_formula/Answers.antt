@@ -1,4 +1,3 @@
-use Rattle.std.proofs.Common.{ap, ◌∙◌}
 use Rattle.dlk_grammar.proofs.Formed.{kinds}
 use Rattle.dlk_grammar.proofs.TextLaws.{kinds_real}
 use Rattle.dlk_parse.proofs.Texts.{formula_found, formula_formed, formula_fault}

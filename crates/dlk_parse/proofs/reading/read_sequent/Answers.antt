@@ -1,9 +1,7 @@
-use Rattle.std.proofs.Common.{◌≡◌, ◌+◌, ◌∙◌, sym, ap, subst, map, take, drop, Some}
+use Rattle.std.proofs.Common.{◌+◌, ◌∙◌, sym, ap, map, Some}
 use Rattle.std.proofs.lemmas.Result.{err_from_is_err_and}
 use Rattle.dlk_store.specs.Stores.{tree}
-use Rattle.dlk_grammar.proofs.Formed.{kinds, AreReal}
-use Rattle.dlk_grammar.proofs.Sides.{side_of}
-use Rattle.dlk_grammar.proofs.SequentLaws.{cut, two_sides}
+use Rattle.dlk_grammar.proofs.Formed.{kinds}
 use Rattle.dlk_grammar.proofs.TextLaws.{kinds_real, sequent_text_formed}
 use Rattle.dlk_parse.proofs.Sides.{trees_same}
 use Rattle.dlk_parse.proofs.Texts.{rest_from, real_front, real_rest, uncut, ante_fault, succ_fault, sequent_text}

@@ -1,4 +1,4 @@
-use Rattle.std.proofs.Common.{◌≡◌, take, true, not}
+use Rattle.std.proofs.Common.{◌≡◌, take, true}
 use Rattle.std.specs.List.{list_all}
 use Rattle.dlk_grammar.proofs.SequentLaws.{is_inside}
 use Rattle.dlk_grammar.proofs.Formed.{kinds}
