@@ -1,0 +1,25 @@
+-- The answer to what was read is the answer to the files.
+use Rattle.std.proofs.Common.{◌≡◌, ℕ, List, length, None, Some, refl, sym, ap, subst, ◌∙◌}
+use Rattle.dlk_desk.specs.Outside.{Files}
+use Rattle.dlk.specs.Forms.{Word, command_of, limits_of, inputs_of}
+use Rattle.dlk.specs.Inputs.{first_too_long, bytes_of, cut_bytes_of}
+use Rattle.dlk.specs.Replies.{Reply}
+use Rattle.dlk.specs.Answers.{Does, Responds, refuses, does, Answers, command}
+use Rattle.dlk.specs.declared.command.Command.{Command}
+use Rattle.dlk.proofs.Cut.{Alike, are_read}
+
+-- the answer to inputs that are cut past their limits is that to the whole ones
+pub responds_alike : (c : Command) (words : List Word) (cuts whole : List (List ℕ)) (reply : Reply) → Alike (inputs_of c words) (limits_of c) cuts whole → Responds c words cuts reply → Responds c words whole reply
+responds_alike c words cuts whole reply h (refuses name long) = refuses name (h.first ∙ long)
+responds_alike c words cuts whole reply h (does short r job) = does (h.first ∙ short) r (subst (λ (texts : List (List ℕ)). Does c texts r) (h.same short) job)
+
+pub answered : (words : List Word) (c : Command) (files : Files) (cuts : List (List ℕ)) (reply : Reply) → command_of words ≡ Some c → length (inputs_of c words) ≡ length (limits_of c) →
+    cut_bytes_of files (inputs_of c words) (limits_of c) ≡ Some cuts → Responds c words cuts reply → Answers words files reply
+answered words c files cuts reply is count read responds =
+    let h = are_read files (inputs_of c words) (limits_of c) count cuts read in
+    command c is h.0 h.1 reply (responds_alike c words cuts h.0 reply h.2 responds)
+
+-- the first input that is too long is sought among these names and limits
+pub short_enough : (c : Command) (words names : List Word) (limits : List ℕ) (texts : List (List ℕ)) →
+    names ≡ inputs_of c words → limits ≡ limits_of c → first_too_long names limits texts ≡ first_too_long (inputs_of c words) (limits_of c) texts
+short_enough c words names limits texts is_names is_limits = rw (is_names, is_limits) refl

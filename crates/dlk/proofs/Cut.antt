@@ -1,0 +1,65 @@
+-- An input that is read past its limit only by one byte is as good as the whole.
+use Rattle.std.proofs.Common.{◌≡◌, ℕ, suc, ◌+◌, ◌<◌, ◌≤◌, min, Bool, true, false, cond, nat_lt, List, [], ◌∷◌, length, take, Option, None, Some, option_map, refl, sym, ap, subst, ◌∙◌, arith}
+use Rattle.std.specs.Prelude.{option_and_then}
+use Rattle.std.proofs.lemmas.List.{length-take, take_all}
+use Rattle.std.proofs.lemmas.Bool.Decides.{nat_tests}
+use Rattle.dlk_desk.specs.Outside.{Files}
+use Rattle.dlk.specs.Forms.{Word}
+use Rattle.dlk.specs.Inputs.{first_too_long, bytes_of}
+use Rattle.dlk.specs.Inputs.{cut_bytes_of}
+
+-- the same inputs are too long, and where none is, they are the same
+pub record Alike (names : List Word) (limits : List ℕ) (cuts whole : List (List ℕ)) : Type 0 where
+  pub first : first_too_long names limits whole ≡ first_too_long names limits cuts
+  pub same : first_too_long names limits cuts ≡ None → cuts ≡ whole
+
+-- the files are there, and are as good as what was read
+abbrev pub AreRead : Files → List Word → List ℕ → List (List ℕ) → Type 0
+AreRead files names limits cuts = (whole : List (List ℕ)) × (bytes_of files names ≡ Some whole) × Alike names limits cuts whole
+
+test_cut : (limit : ℕ) (bytes : List ℕ) → nat_lt limit (length bytes) ≡ nat_lt limit (length (take (limit + 1) bytes))
+test_cut limit bytes = let e = length-take (limit + 1) bytes in grind (arith, nat_tests, e)
+
+none_else : (b : Bool) (name : Word) (other : Option Word) → cond b (Some name) other ≡ None → (b ≡ false) × (other ≡ None)
+none_else true name other h = absurd (cc)
+none_else false name other h = (refl, h)
+
+cut_fits : (limit : ℕ) (bytes : List ℕ) → nat_lt limit (length bytes) ≡ false → take (limit + 1) bytes ≡ bytes
+cut_fits limit bytes h = let short : length bytes ≤ limit + 1 = grind (arith, nat_tests, h) in take_all (limit + 1) bytes short
+
+more_alike : (name : Word) (names : List Word) (limit : ℕ) (limits bytes : List ℕ) (cuts whole : List (List ℕ)) → Alike names limits cuts whole → Alike (name ∷ names) (limit ∷ limits) (take (limit + 1) bytes ∷ cuts) (bytes ∷ whole)
+more_alike name names limit limits bytes cuts whole h =
+    record {
+      first = ap (λ (b : Bool). cond b (Some name) (first_too_long names limits whole)) (test_cut limit bytes) ∙ ap (λ (o : Option Word). cond (nat_lt limit (length (take (limit + 1) bytes))) (Some name) o) h.first;
+      same = λ none.
+          let both = none_else (nat_lt limit (length (take (limit + 1) bytes))) name (first_too_long names limits cuts) none in
+          ap (λ (xs : List ℕ). xs ∷ cuts) (cut_fits limit bytes (test_cut limit bytes ∙ both.0)) ∙ ap (λ (xss : List (List ℕ)). bytes ∷ xss) (h.same both.1);
+    }
+
+-- no names, no inputs
+h_nil : (files : Files) (limits : List ℕ) (cuts : List (List ℕ)) → cut_bytes_of files [] limits ≡ Some cuts → cuts ≡ []
+h_nil files [] cuts h = cc
+h_nil files (limit ∷ limits) cuts h = cc
+
+pub are_read : (files : Files) (names : List Word) (limits : List ℕ) → length names ≡ length limits → (cuts : List (List ℕ)) → cut_bytes_of files names limits ≡ Some cuts → AreRead files names limits cuts
+are_read files [] limits count cuts h = ([], refl, record { first = refl; same = λ _. h_nil files limits cuts h })
+are_read files (name ∷ names) [] count cuts h = absurd (omega arith)
+are_read files (name ∷ names) (limit ∷ limits) count cuts h = by_file (are_read files names limits (omega arith)) (files name) h
+  where
+    P : List (List ℕ) → Option (List ℕ) → Type 0
+    P all file = (whole : List (List ℕ)) × (option_and_then (λ bytes. option_map (λ others. bytes ∷ others) (bytes_of files names)) file ≡ Some whole) × Alike (name ∷ names) (limit ∷ limits) all whole
+
+    Rest : Type 0
+    Rest = (others : List (List ℕ)) → cut_bytes_of files names limits ≡ Some others → AreRead files names limits others
+
+    by_rest : Rest → (bytes : List ℕ) (rest : Option (List (List ℕ))) → cut_bytes_of files names limits ≡ rest → option_map (λ others. take (limit + 1) bytes ∷ others) rest ≡ Some cuts → P cuts (Some bytes)
+    by_rest rec bytes None e h = absurd (cc)
+    by_rest rec bytes (Some others) e h =
+        let ih = rec others e in
+        let is : take (limit + 1) bytes ∷ others ≡ cuts = cc in
+        subst (λ (all : List (List ℕ)). P all (Some bytes)) is
+        (bytes ∷ ih.0, ap (λ (o : Option (List (List ℕ))). option_map (λ others. bytes ∷ others) o) ih.1, more_alike name names limit limits bytes others ih.0 ih.2)
+
+    by_file : Rest → (file : Option (List ℕ)) → option_and_then (λ bytes. option_map (λ others. take (limit + 1) bytes ∷ others) (cut_bytes_of files names limits)) file ≡ Some cuts → P cuts file
+    by_file rec None h = absurd (cc)
+    by_file rec (Some bytes) h = by_rest rec bytes (cut_bytes_of files names limits) refl h

@@ -1,0 +1,90 @@
+-- A term within its limit is accepted where its lines are steps, and else its first wrong line is named.
+use Rattle.std.proofs.Common.{◌≡◌, ◌<◌, ◌≤◌, ℕ, Bool, true, false, cond, nat_lt, List, [], ◌∷◌, ◌++◌, length, Option, None, Some, refl, sym, ap, subst, ◌∙◌, arith}
+use Rattle.std.proofs.lemmas.List.{append_cancel_left}
+use Rattle.std.proofs.lemmas.Bool.Decides.{nat_tests}
+use Rattle.dlk_tree.specs.Trees.{Tree}
+use Rattle.dlk_calculus.specs.Provables.{Provable}
+use Rattle.dlk_desk.specs.Outside.{Outside}
+use Rattle.dlk_grammar.specs.Texts.{FormulaText}
+use Rattle.dlk_grammar.proofs.TextLaws.{one_formula, formula_or_fault}
+use Rattle.dlk_report.specs.Reports.{is_closed}
+use Rattle.dlk.specs.Forms.{Word, command_of, inputs_of, limits_of, limit_of}
+use Rattle.dlk.specs.Inputs.{first_too_long}
+use Rattle.dlk.specs.declared.command.Command.{Command}
+use Rattle.dlk.specs.declared.command.Command.TheVariants.{Check}
+use Rattle.dlk.specs.declared.command.Role.TheVariants.{Model, Term}
+use Rattle.dlk.specs.Replies.{Reply, code_of}
+use Rattle.dlk.specs.Checks.{Checks, bad_model, bad_line, bad_conclusion, reports, Accepts, proves, status_of, line_refused, other_conclusion, reported}
+use Rattle.dlk.specs.Answers.{Does, check, Responds, refuses, does, Answers, no_form, command}
+use Rattle.dlk.specs.Headline.{RunsCheck, Judges, JudgesTruly}
+use Rattle.dlk.proofs.OneReply.{one_check}
+
+closed_or_open : (b : Bool) → code_of (status_of b) < 2
+closed_or_open true = omega arith
+closed_or_open false = omega arith
+
+module _ (model term : List ℕ) (f : Tree) (reads : FormulaText model f) where
+  accepted_of : (reply : Reply) → Checks model term reply → code_of reply.status < 2 → (rows : List Provable) × (p : Provable) × Accepts term rows p × (p.conclusion ≡ proves f)
+  accepted_of reply (bad_model why fault) less = absurd (formula_or_fault model f why reads fault)
+  accepted_of reply (bad_line g t n why v) less = absurd (omega (arith, less))
+  accepted_of reply (bad_conclusion g t rows p a ne) less = absurd (omega (arith, less))
+  accepted_of reply (reports g t rows p a e) less = (rows, p, a, e ∙ ap proves (one_formula t reads))
+
+  check_judges : (reply : Reply) → Checks model term reply → Judges term f (code_of reply.status) reply.printed
+  check_judges reply checks = record {
+    accepted = accepted_of reply checks;
+    first_wrong = λ n why v few.
+        let same = one_check model term reply (line_refused n why) checks (bad_line f reads n why v) in
+        (ap (λ (r : Reply). code_of r.status) same, ap (λ (r : Reply). r.printed) same);
+    all_steps = λ rows p a e few.
+        let same = one_check model term reply (reported p (length rows)) checks (reports f reads rows p a e) in
+        subst (λ (r : Reply). code_of r.status < 2) (sym same) (closed_or_open (is_closed p.goals));
+    another = λ rows p a ne few.
+        let same = one_check model term reply (other_conclusion (length rows) f p.conclusion) checks (bad_conclusion f reads rows p a ne) in
+        (ap (λ (r : Reply). code_of r.status) same, ap (λ (r : Reply). r.printed) same);
+  }
+
+-- inputs within their limits are not too long
+within : (limit : ℕ) (bytes : List ℕ) → length bytes ≤ limit → nat_lt limit (length bytes) ≡ false
+within limit bytes h = grind (arith, nat_tests, h)
+
+none_too_long : (names : List Word) (model term : List ℕ) → length model ≤ limit_of Model → length term ≤ limit_of Term →
+    first_too_long names (limits_of Check) (model ∷ term ∷ []) ≡ None
+none_too_long [] model term m t = refl
+none_too_long (a ∷ []) model term m t = rw (within (limit_of Model) model m) refl
+none_too_long (a ∷ b ∷ []) model term m t = rw (within (limit_of Model) model m, within (limit_of Term) term t) refl
+none_too_long (a ∷ b ∷ c ∷ names) model term m t = rw (within (limit_of Model) model m, within (limit_of Term) term t) refl
+
+module _ (model term : List ℕ) (m : length model ≤ limit_of Model) (t : length term ≤ limit_of Term) where
+  job_checks : (texts : List (List ℕ)) (reply : Reply) → Does Check texts reply → texts ≡ model ∷ term ∷ [] → Checks model term reply
+  job_checks texts reply (check a b r checks) e =
+      let same_model : a ≡ model = cc in
+      let same_term : b ≡ term = cc in
+      subst (λ (x : List ℕ). Checks x term r) same_model (subst (λ (x : List ℕ). Checks a x r) same_term checks)
+
+  response_checks : (words : List Word) (reply : Reply) → Responds Check words (model ∷ term ∷ []) reply → Checks model term reply
+  response_checks words reply (refuses name long) =
+      let e : None ≡ Some name = sym (none_too_long (inputs_of Check words) model term m t) ∙ long in absurd (cc)
+  response_checks words reply (does short r job) = job_checks (model ∷ term ∷ []) r job refl
+
+  answer_checks : (words : List Word) (old : Outside) (reply : Reply) → Answers words old.files reply → RunsCheck words old model term → Checks model term reply
+  answer_checks words old reply (no_form none) runs = let e : None ≡ Some Check = sym none ∙ runs.form in absurd (cc)
+  answer_checks words old reply (command c is texts there r responds) runs =
+      let same : c ≡ Check = let e : Some c ≡ Some Check = sym is ∙ runs.form in cc in
+      let read : texts ≡ model ∷ term ∷ [] = let e = runs.texts in cc (there, e, same) in
+      response_checks words r (subst (λ (x : Command). Responds x words (model ∷ term ∷ []) r) same (subst (λ (ts : List (List ℕ)). Responds c words ts r) read responds))
+
+pub answer_judges : (words : List Word) (old new : Outside) (reply : Reply) → Answers words old.files reply → new.printed ≡ old.printed ++ reply.printed →
+    JudgesTruly words (code_of reply.status) old new
+answer_judges words old new reply answers printed model term said f runs m t reads says =
+    let same : reply.printed ≡ said = append_cancel_left old.printed reply.printed said (sym printed ∙ says) in
+    subst (λ (x : List ℕ). Judges term f (code_of reply.status) x) same (check_judges model term f reads reply (answer_checks model term m t words old reply answers runs))
+
+-- where there is no answer, or it is broken off, nothing is judged
+pub fault_judges : (words : List Word) (status : ℕ) (old new : Outside) → 3 ≤ status → JudgesTruly words status old new
+fault_judges words status old new high model term said f runs m t reads says = record {
+  accepted = λ less. absurd (omega (arith, less, high));
+  first_wrong = λ n why v few. absurd (omega (arith, few, high));
+  all_steps = λ rows p a e few. absurd (omega (arith, few, high));
+  another = λ rows p a ne few. absurd (omega (arith, few, high));
+}

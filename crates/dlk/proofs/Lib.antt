@@ -1,0 +1,10 @@
+pub mod Fits
+pub mod Asked
+pub mod Cut
+pub mod Answered
+pub mod JobTexts
+pub mod OneReply
+pub mod ConclusionText
+pub mod Judging
+pub mod Truly
+pub mod Judged

@@ -1,0 +1,106 @@
+-- There is one answer to words and files.
+use Rattle.std.proofs.Common.{◌≡◌, ℕ, List, [], ◌∷◌, ◌++◌, length, None, Some, refl, sym, ap, ◌∙◌, subst}
+use Rattle.std.proofs.lemmas.List.{append_cancel_right}
+use Rattle.dlk_tree.specs.Trees.{Tree}
+use Rattle.dlk_calculus.specs.Provables.{Provable}
+use Rattle.dlk_grammar.specs.Texts.{FormulaText}
+use Rattle.dlk_grammar.proofs.TextLaws.{one_formula, formula_or_fault, one_formula_fault}
+use Rattle.dlk_replay.specs.Files.{file_lines, Verdict, Answer, accepted, bad}
+use Rattle.dlk_replay.specs.declared.fault.LineWhy.{LineWhy}
+use Rattle.dlk_replay.proofs.Verdicts.{one_verdict}
+use Rattle.dlk_desk.specs.Outside.{Files}
+use Rattle.dlk.specs.Forms.{Word, command_of, inputs_of, limits_of}
+use Rattle.dlk.specs.Inputs.{bytes_of, first_too_long}
+use Rattle.dlk.specs.Replies.{Reply}
+use Rattle.dlk.specs.Checks.{Checks, bad_model, bad_line, bad_conclusion, reports, Accepts, proves, model_refused, line_refused, other_conclusion, reported}
+use Rattle.dlk.specs.Answers.{Does, check, Responds, refuses, does, Answers, no_form, command, too_long}
+use Rattle.dlk.specs.declared.command.Command.{Command}
+
+-- the same rows, and the same last one
+pub record SameEnd (rows others : List Provable) (p q : Provable) : Type 0 where
+  pub rows_are : rows ≡ others
+  pub last_is : p ≡ q
+
+rows_of : Answer → List Provable
+rows_of (accepted rows) = rows
+rows_of (bad n why) = []
+
+not_both : {rows : List Provable} {n : ℕ} {why : LineWhy} → accepted rows ≡ bad n why → ⊥
+not_both e = cc
+
+one_accepted : {rows others : List Provable} → accepted rows ≡ accepted others → rows ≡ others
+one_accepted e = cc
+
+one_bad : {n m : ℕ} {why other : LineWhy} → bad n why ≡ bad m other → line_refused n why ≡ line_refused m other
+one_bad {n} {m} {why} {other} e =
+    let number : n ≡ m = cc in
+    let reason : why ≡ other = cc in
+    λ i. line_refused (number i) (reason i)
+
+-- a list has one last item
+one_last : {A : Type 0} (xs ys : List A) (x y : A) → xs ++ x ∷ [] ≡ ys ++ y ∷ [] → x ≡ y
+one_last [] [] x y e = cc
+one_last [] (z ∷ []) x y e = cc
+one_last [] (z ∷ w ∷ ys) x y e = cc
+one_last (z ∷ []) [] x y e = cc
+one_last (z ∷ w ∷ xs) [] x y e = cc
+one_last (z ∷ xs) (w ∷ ys) x y e = let tail : xs ++ x ∷ [] ≡ ys ++ y ∷ [] = cc in one_last xs ys x y tail
+
+-- an accepted term has one end
+pub one_end : {term : List ℕ} {rows others : List Provable} {p q : Provable} → Accepts term rows p → Accepts term others q → SameEnd rows others p q
+one_end {term} {rows} {others} {p} {q} a b =
+    let same : rows ≡ others = one_accepted (one_verdict (file_lines term) (accepted rows) (accepted others) a.verdict b.verdict) in
+    record { rows_are = same; last_is = one_last a.before b.before p q (sym a.last ∙ same ∙ b.last) }
+
+accepted_not_bad : {term : List ℕ} {rows : List Provable} {p : Provable} {n : ℕ} {why : LineWhy} → Accepts term rows p → Verdict (file_lines term) (bad n why) → ⊥
+accepted_not_bad {term} {rows} {p} {n} {why} a v = not_both (one_verdict (file_lines term) (accepted rows) (bad n why) a.verdict v)
+
+module _ (model term : List ℕ) where
+  pub one_check : (r s : Reply) → Checks model term r → Checks model term s → r ≡ s
+  one_check r s (bad_model why a) (bad_model other b) = ap model_refused (one_formula_fault model why other a b)
+  one_check r s (bad_model why a) (bad_line g u m other w) = absurd (formula_or_fault model g why u a)
+  one_check r s (bad_model why a) (bad_conclusion g u others q b ne) = absurd (formula_or_fault model g why u a)
+  one_check r s (bad_model why a) (reports g u others q b e) = absurd (formula_or_fault model g why u a)
+  one_check r s (bad_line f t n why v) (bad_model other b) = absurd (formula_or_fault model f other t b)
+  one_check r s (bad_line f t n why v) (bad_line g u m other w) = one_bad (one_verdict (file_lines term) (bad n why) (bad m other) v w)
+  one_check r s (bad_line f t n why v) (bad_conclusion g u others q b ne) = absurd (accepted_not_bad b v)
+  one_check r s (bad_line f t n why v) (reports g u others q b e) = absurd (accepted_not_bad b v)
+  one_check r s (bad_conclusion f t rows p a ne) (bad_model other b) = absurd (formula_or_fault model f other t b)
+  one_check r s (bad_conclusion f t rows p a ne) (bad_line g u m other w) = absurd (accepted_not_bad a w)
+  one_check r s (bad_conclusion f t rows p a ne) (bad_conclusion g u others q b ne2) =
+      let end = one_end a b in
+      let same = one_formula t u in
+      λ i. other_conclusion (length (end.rows_are i)) (same i) (end.last_is i).conclusion
+  one_check r s (bad_conclusion f t rows p a ne) (reports g u others q b e) =
+      absurd (ne (ap (λ (x : Provable). x.conclusion) (one_end a b).last_is ∙ e ∙ ap proves (sym (one_formula t u))))
+  one_check r s (reports f t rows p a e) (bad_model other b) = absurd (formula_or_fault model f other t b)
+  one_check r s (reports f t rows p a e) (bad_line g u m other w) = absurd (accepted_not_bad a w)
+  one_check r s (reports f t rows p a e) (bad_conclusion g u others q b ne) =
+      absurd (ne (ap (λ (x : Provable). x.conclusion) (sym (one_end a b).last_is) ∙ e ∙ ap proves (one_formula t u)))
+  one_check r s (reports f t rows p a e) (reports g u others q b e2) =
+      let end = one_end a b in
+      λ i. reported (end.last_is i) (length (end.rows_are i))
+
+one_job : (c : Command) (texts : List (List ℕ)) (r s : Reply) → Does c texts r → Does c texts s → r ≡ s
+one_job c texts r s (check model term r' a) (check model' term' s' b) = one_check model term r s a b
+
+one_name : {name other : Word} → Some name ≡ Some other → name ≡ other
+one_name e = cc
+
+none_or_some : {A : Type 0} {x : A} → None ≡ Some x → ⊥
+none_or_some e = cc
+
+pub one_response : (c : Command) (words : List Word) (texts : List (List ℕ)) (r s : Reply) → Responds c words texts r → Responds c words texts s → r ≡ s
+one_response c words texts r s (refuses name a) (refuses other b) = ap too_long (one_name (sym a ∙ b))
+one_response c words texts r s (refuses name a) (does b s' job) = absurd (none_or_some (sym b ∙ a))
+one_response c words texts r s (does a r' job) (refuses other b) = absurd (none_or_some (sym a ∙ b))
+one_response c words texts r s (does a r' job) (does b s' other) = one_job c texts r s job other
+
+pub one_reply : (words : List Word) (files : Files) (r s : Reply) → Answers words files r → Answers words files s → r ≡ s
+one_reply words files r s (no_form a) (no_form b) = refl
+one_reply words files r s (no_form a) (command c b texts there s' other) = absurd (none_or_some (sym a ∙ b))
+one_reply words files r s (command c a texts there r' one) (no_form b) = absurd (none_or_some (sym b ∙ a))
+one_reply words files r s (command c a texts there r' one) (command d b others there2 s' other) =
+    let same : c ≡ d = cc in
+    let read : texts ≡ others = cc (there, there2, same) in
+    one_response d words others r s (subst (λ (x : Command). Responds x words others r) same (subst (λ (ts : List (List ℕ)). Responds c words ts r) read one)) other

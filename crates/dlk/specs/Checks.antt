@@ -1,0 +1,84 @@
+-- What `check` answers to a model and a term.
+use Rattle.std.specs.Prelude.{◌≡◌, ◌≢◌, ◌⊎◌, ℕ, Bool, true, false, List, [], ◌∷◌, ◌++◌, length, codes, decimal}
+use Rattle.dlk_tree.specs.Trees.{Tree}
+use Rattle.dlk_calculus.specs.declared.reason.Reason.{Reason}
+use Rattle.dlk_calculus.specs.declared.reason.Reason.TheVariants.{NoFact, NoGoal, NoPlace, WrongShape, NotEqual}
+use Rattle.dlk_calculus.specs.Sequents.{Sequent}
+use Rattle.dlk_calculus.specs.Provables.{Provable}
+use Rattle.dlk_grammar.specs.Texts.{FormulaText, FormulaFault, TextFault, NotBuilt, Syntax}
+use Rattle.dlk_grammar.specs.Shown.{spell, shown_sequent}
+use Rattle.dlk_replay.specs.Files.{Verdict, accepted, bad, file_lines}
+use Rattle.dlk_replay.specs.declared.fault.LineWhy.{LineWhy}
+use Rattle.dlk_replay.specs.declared.fault.LineWhy.TheVariants.{Malformed, WrongNumber, NoEnd, Step}
+use Rattle.dlk_parse.specs.declared.fault.ParseFault.{ParseFault}
+use Rattle.dlk_parse.specs.declared.fault.ParseFault.TheVariants as fault
+use Rattle.dlk_report.specs.Reports.{is_closed, text_report}
+use Rattle.dlk.specs.declared.reply.Status.{Status}
+use Rattle.dlk.specs.declared.reply.Status.TheVariants.{Closed, Open, Refused}
+use Rattle.dlk.specs.Replies.{Reply, line, refusal}
+
+-- the sequent that a proof of the formula shows
+abbrev pub proves : Tree → Sequent
+proves f = record { ante = []; succ = f ∷ [] }
+
+abbrev pub reason_text : Reason → List ℕ
+reason_text NoFact = codes "NoFact"
+reason_text NoGoal = codes "NoGoal"
+reason_text NoPlace = codes "NoPlace"
+reason_text WrongShape = codes "WrongShape"
+reason_text NotEqual = codes "NotEqual"
+
+abbrev pub why_text : LineWhy → List ℕ
+why_text Malformed = codes "Malformed"
+why_text WrongNumber = codes "WrongNumber"
+why_text NoEnd = codes "NoEnd"
+why_text (Step why) = reason_text why
+
+-- refused: model at B: not-built, or refused: model: syntax
+abbrev pub model_refused : TextFault → Reply
+model_refused (NotBuilt at) = refusal (codes "model at " ++ decimal at ++ codes ": not-built")
+model_refused Syntax = refusal (codes "model: syntax")
+
+-- refused: line N: WHY
+abbrev pub line_refused : ℕ → LineWhy → Reply
+line_refused n why = refusal (codes "line " ++ (decimal n ++ (codes ": " ++ why_text why)))
+
+-- refused: other-conclusion N, and both conclusions
+abbrev pub other_conclusion : ℕ → Tree → Sequent → Reply
+other_conclusion n f found = record {
+  status = Refused;
+  printed = line (codes "refused: other-conclusion " ++ decimal n) ++ line (codes "expected " ++ spell (shown_sequent (proves f))) ++ line (codes "found " ++ spell (shown_sequent found));
+}
+
+abbrev pub status_of : Bool → Status
+status_of true = Closed
+status_of false = Open
+
+abbrev pub reported : Provable → ℕ → Reply
+reported p lines = record { status = status_of (is_closed p.goals); printed = text_report p lines }
+
+-- what is answered to a term whose lines are all steps and show this provable
+abbrev pub judged : Tree → ℕ → Reply → Provable → Type 0
+judged f lines reply p =
+    ((p.conclusion ≡ proves f) × (reply ≡ reported p lines)) ⊎ ((p.conclusion ≢ proves f) × (reply ≡ other_conclusion lines f p.conclusion))
+
+-- the answer to a model with this fault; there is none for want of memory
+abbrev pub IsModelRefused : ParseFault → Reply → Type 0
+IsModelRefused (fault.NotBuilt at) reply = reply ≡ model_refused (NotBuilt at)
+IsModelRefused fault.Syntax reply = reply ≡ model_refused Syntax
+IsModelRefused fault.Memory reply = ⊥
+
+-- the term is accepted: each of its lines is a step, and the last of the rows is p
+pub record Accepts (term : List ℕ) (rows : List Provable) (p : Provable) : Type 0 where
+  pub before : List Provable
+  pub last : rows ≡ before ++ p ∷ []
+  pub verdict : Verdict (file_lines term) (accepted rows)
+
+-- Checks model term reply: this is what is answered to the model and the term. One case an answer.
+pub data Checks (model term : List ℕ) : Reply → Type 0 where
+  bad_model : (why : TextFault) → FormulaFault model why → Checks model term (model_refused why)
+  bad_line : (f : Tree) → FormulaText model f → (n : ℕ) (why : LineWhy) → Verdict (file_lines term) (bad n why) → Checks model term (line_refused n why)
+  bad_conclusion : (f : Tree) → FormulaText model f → (rows : List Provable) (p : Provable) → Accepts term rows p →
+      p.conclusion ≢ proves f → Checks model term (other_conclusion (length rows) f p.conclusion)
+  reports : (f : Tree) → FormulaText model f → (rows : List Provable) (p : Provable) → Accepts term rows p →
+      p.conclusion ≡ proves f → Checks model term (reported p (length rows))

@@ -1,0 +1,40 @@
+-- The forms of the words of a command line: a verb, and then a word for each of its inputs.
+use Rattle.std.specs.Prelude.{ℕ, ◌&&◌, ◌==◌, Bool, false, List, [], ◌∷◌, length, take, drop, map, Option, find, bytes_eq, codes}
+use Rattle.dlk.specs.declared.command.Command.{Command}
+use Rattle.dlk.specs.declared.command.Command.TheVariants.{Check}
+use Rattle.dlk.specs.declared.command.Role.{Role}
+use Rattle.dlk.specs.declared.command.Role.TheVariants.{Model, Term}
+
+abbrev pub Word : Type 0
+Word = List ℕ
+
+abbrev pub verb_of : Command → Word
+verb_of Check = codes "check"
+
+-- what the words after the verb name, in their order
+abbrev pub roles_of : Command → List Role
+roles_of Check = Model ∷ Term ∷ []
+
+-- the greatest length of an input, in bytes
+abbrev pub limit_of : Role → ℕ
+limit_of Model = 4096
+limit_of Term = 65536
+
+abbrev pub commands : List Command
+commands = Check ∷ []
+
+abbrev pub has_form : List Word → Command → Bool
+has_form [] command = false
+has_form (verb ∷ rest) command = bytes_eq verb (verb_of command) && (length rest == length (roles_of command))
+
+-- the command of the words, if they have one of the forms
+abbrev pub command_of : List Word → Option Command
+command_of words = find (has_form words) commands
+
+-- the limit of each input
+abbrev pub limits_of : Command → List ℕ
+limits_of command = map limit_of (roles_of command)
+
+-- the names of the inputs
+abbrev pub inputs_of : Command → List Word → List Word
+inputs_of command words = take (length (roles_of command)) (drop 1 words)

@@ -1,0 +1,9 @@
+pub mod Forms
+pub mod Replies
+pub mod Inputs
+pub mod Checks
+pub mod Answers
+pub mod Runs
+pub mod Headline
+pub mod Shown
+pub mod NoAnswers

@@ -1,0 +1,83 @@
+// The commands and the forms of their words.
+ghost use Rattle.std.specs.Prelude.{◌≡◌, ◌+◌, ◌≤◌, length, map, string_bytes, Some};
+ghost use Rattle.dlk.specs.Forms.{verb_of, roles_of, has_form, limits_of, inputs_of, commands, command_of};
+
+/// What a command does.
+#[derive(Clone, Copy, Debug, PartialEq, Eq)]
+pub enum Command {
+    /// Replays a term, and prints the report.
+    Check,
+}
+
+/// What a word after the verb names.
+#[derive(Clone, Copy, Debug, PartialEq, Eq)]
+pub enum Role {
+    /// A file of one formula.
+    Model,
+    /// A file of a proof term.
+    Term,
+}
+
+const COMMANDS: [Command; 1] = [Command::Check];
+
+impl Command {
+    /// Its name on the command line.
+    pub fn verb(self) -> &'static str
+        ensures { result.now ≡ verb_of self }
+    {
+        match self {
+            Command::Check => "check",
+        }
+    }
+
+    /// What the words after the verb name.
+    pub fn roles(self) -> &'static [Role]
+        ensures { result.now ≡ roles_of self }
+    {
+        match self {
+            Command::Check => &[Role::Model, Role::Term],
+        }
+    }
+
+    /// Whether the words have its form.
+    fn has_form(self, words: &[String]) -> bool
+        ensures { result ≡ has_form (map string_bytes words.now) self }
+    {
+        match words {
+            [] => false,
+            [verb, rest @ ..] => verb.as_str() == self.verb() && rest.len() == self.roles().len(),
+        }
+    }
+
+    /// The command of these words, if they have one of the forms.
+    pub fn parse(words: &[String]) -> Option<Command>
+        ensures { result ≡ command_of (map string_bytes words.now) }
+    {
+        COMMANDS
+            .iter()
+            .copied()
+            .find(|command| command.has_form(words))
+    }
+
+    /// The limit of each input, in bytes.
+    pub fn limits(self) -> &'static [usize]
+        ensures { result.now ≡ limits_of self }
+    {
+        const MODEL: usize = 4096;
+        const TERM: usize = 65536;
+        match self {
+            Command::Check => &[MODEL, TERM],
+        }
+    }
+
+    /// The names of the inputs, which follow the verb.
+    #[tactic(auto, using(crate::proofs::Fits::room, crate::proofs::Fits::names_there))]
+    pub fn inputs(self, words: &[String]) -> &[String]
+        requires { command_of (map string_bytes words.now) ≡ Some self }
+        ensures names { map string_bytes result.now ≡ inputs_of self (map string_bytes words.now) }
+        ensures count { length result.now ≡ length (limits_of self) }
+    {
+        let count = self.limits().len();
+        &words[1..1 + count]
+    }
+}

@@ -1,0 +1,199 @@
+// `check MODEL TERM`: replays a term, and compares its conclusion with the model.
+ghost use Rattle.std.specs.Prelude.{◌≡◌, ◌<◌, [], ◌↔◌, IfOk, IfSome, IsTrue};
+ghost use Rattle.dlk_calculus.specs.Places.{at, IsPlace};
+ghost use Rattle.dlk_store.specs.Stores.{IsId, tree};
+ghost use Rattle.dlk_sequent.specs.Sequents.{sequent_at, IsKnown};
+ghost use Rattle.dlk_kernel.specs.Kernel.{facts};
+ghost use Rattle.dlk.specs.Replies.{code_of};
+ghost use Rattle.dlk.specs.Checks.{proves, reason_text, why_text, line_refused, other_conclusion, reported, judged, Checks, IsModelRefused};
+ghost use Rattle.dlk.specs.Shown.{reply_of};
+
+use crate::answer::refused;
+use crate::fault::NoReply;
+use crate::reply::{Reply, Status};
+use dlk_kernel::{Kernel, Reason};
+use dlk_parse::{ParseFault, read_formula};
+use dlk_plain::PlainStore;
+use dlk_print::sequent_text;
+use dlk_replay::{LineWhy, Outcome, ReplayFault, replay};
+use dlk_report::{report_text, shown};
+use dlk_sequent::{Listed, Sequent};
+use dlk_store::{Id, Steps, Store};
+use std::alloc::Global;
+use std::sync::ledger::Ledger;
+
+/// The word for a reason, as it is printed.
+fn reason_word(why: Reason) -> &'static str
+    ensures { result.now ≡ reason_text why }
+{
+    match why {
+        Reason::NoFact => "NoFact",
+        Reason::NoGoal => "NoGoal",
+        Reason::NoPlace => "NoPlace",
+        Reason::WrongShape => "WrongShape",
+        Reason::NotEqual => "NotEqual",
+    }
+}
+
+/// The word for what is wrong with a line, as it is printed.
+fn why_word(why: LineWhy) -> &'static str
+    ensures { result.now ≡ why_text why }
+{
+    match why {
+        LineWhy::Malformed => "Malformed",
+        LineWhy::WrongNumber => "WrongNumber",
+        LineWhy::NoEnd => "NoEnd",
+        LineWhy::Step(why) => reason_word(why),
+    }
+}
+
+/// The answer to a model that is not read.
+fn refuse_model(alloc: Global, fault: ParseFault) -> Result<Reply, NoReply>
+    ensures reply { IfOk result (λ r. IsModelRefused fault (reply_of r)) }
+    ensures status { IfOk result (λ r. code_of r.status < 3) }
+{
+    match fault {
+        ParseFault::NotBuilt { at } => {
+            let why = format!(in alloc; "model at {at}: not-built")?;
+            refused(alloc, why.as_str())
+        }
+        ParseFault::Syntax => refused(alloc, "model: syntax"),
+        ParseFault::Memory => Err(NoReply::Memory),
+    }
+}
+
+/// The answer to a term whose first wrong line this is.
+fn refuse_line(alloc: Global, line: usize, why: LineWhy) -> Result<Reply, NoReply>
+    ensures reply { IfOk result (λ r. reply_of r ≡ line_refused line why) }
+    ensures status { IfOk result (λ r. code_of r.status < 3) }
+{
+    let word = why_word(why);
+    let why = format!(in alloc; "line {line}: {word}")?;
+    refused(alloc, why.as_str())
+}
+
+/// Whether a sequent is what a proof of the formula shows.
+fn is_proof_of<S: Store>(store: &S, s: &Sequent, formula: Id) -> bool
+    requires known { IsKnown (S.trees store.now) s.now }
+    requires formula { IsId (S.trees store.now) formula }
+    ensures { IsTrue result ↔ (sequent_at (S.trees store.now) s.now ≡ proves (tree (S.trees store.now) formula)) }
+{
+    match s.succ.as_slice() {
+        [f] => s.ante.as_slice().is_empty() && store.same(*f, formula),
+        _ => false,
+    }
+}
+
+/// The answer to a term whose lines are all steps and that ends in another conclusion.
+fn refuse_conclusion<S: Store, L: Ledger>(
+    alloc: Global,
+    store: &S,
+    formula: Id,
+    found: &Sequent,
+    lines: u32,
+    steps: &mut Steps<L>,
+) -> Result<Reply, NoReply>
+    requires formula { IsId (S.trees store.now) formula }
+    requires found { IsKnown (S.trees store.now) found.now }
+    ensures reply { IfOk result (λ r. reply_of r ≡ other_conclusion lines (tree (S.trees store.now) formula) (sequent_at (S.trees store.now) found.now)) }
+    ensures status { IfOk result (λ r. code_of r.status < 3) }
+{
+    let expected = Sequent {
+        ante: Listed::new(alloc),
+        succ: Listed::from_vec([formula].to_vec(alloc)?),
+    };
+    let first = format!(in alloc; "refused: other-conclusion {lines}\nexpected ")?;
+    let mut printed = first.into_bytes();
+    sequent_text(store, &expected, &mut printed, steps)?;
+    printed.extend_from_slice(b"\nfound ")?;
+    sequent_text(store, found, &mut printed, steps)?;
+    printed.push(b'\n')?;
+    Ok(Reply {
+        status: Status::Refused,
+        printed,
+    })
+}
+
+/// The report of a fact that so many lines have shown.
+fn report<S: Store, L: Ledger>(
+    alloc: Global,
+    kernel: &Kernel<S>,
+    fact: u32,
+    lines: u32,
+    steps: &mut Steps<L>,
+) -> Result<Reply, NoReply>
+    requires { IsPlace kernel.now.rows fact }
+    ensures reply { IfOk result (λ r. IfSome (at (facts S.trees kernel.now) fact) (λ p. reply_of r ≡ reported p lines)) }
+    ensures status { IfOk result (λ r. code_of r.status < 3) }
+{
+    let report = shown(alloc, kernel, fact, lines, steps)?;
+    let printed = report_text(alloc, &report)?;
+    let status = if report.closed {
+        Status::Closed
+    } else {
+        Status::Open
+    };
+    Ok(Reply { status, printed })
+}
+
+/// The answer to a term whose lines are all steps.
+fn judge<S: Store, L: Ledger>(
+    alloc: Global,
+    kernel: &Kernel<S>,
+    formula: Id,
+    outcome: Outcome,
+    steps: &mut Steps<L>,
+) -> Result<Reply, NoReply>
+    requires formula { IsId (S.trees kernel.now.store) formula }
+    requires fact { IsPlace kernel.now.rows outcome.fact }
+    ensures reply { IfOk result (λ r. IfSome (at (facts S.trees kernel.now) outcome.fact) (judged (tree (S.trees kernel.now.store) formula) outcome.lines (reply_of r))) }
+    ensures status { IfOk result (λ r. code_of r.status < 3) }
+{
+    let found = kernel.conclusion(outcome.fact);
+    if is_proof_of(kernel, found, formula) {
+        report(alloc, kernel, outcome.fact, outcome.lines, steps)
+    } else {
+        refuse_conclusion(alloc, kernel, formula, found, outcome.lines, steps)
+    }
+}
+
+/// Checks a term on a kernel without rows.
+fn check_on<S: Store, L: Ledger>(
+    alloc: Global,
+    kernel: &mut Kernel<S>,
+    model: &[u8],
+    term: &[u8],
+    steps: &mut Steps<L>,
+) -> Result<Reply, NoReply>
+    requires { kernel.old.rows ≡ [] }
+    ensures reply { IfOk result (λ r. Checks model.now term.now (reply_of r)) }
+    ensures status { IfOk result (λ r. code_of r.status < 3) }
+{
+    let formula = match read_formula(alloc, model, kernel) {
+        Ok(formula) => formula,
+        Err(fault) => return refuse_model(alloc, fault),
+    };
+    match replay(alloc, term, kernel, steps) {
+        Ok(outcome) => judge(alloc, kernel, formula, outcome, steps),
+        Err(ReplayFault::Bad { line, why }) => refuse_line(alloc, line, why),
+        Err(ReplayFault::Memory) => Err(NoReply::Memory),
+    }
+}
+
+/// Checks a term against a model.
+///
+/// # Errors
+///
+/// `Memory` alone: each refusal is a reply.
+pub fn check<L: Ledger>(
+    alloc: Global,
+    model: &[u8],
+    term: &[u8],
+    steps: &mut Steps<L>,
+) -> Result<Reply, NoReply>
+    ensures reply { IfOk result (λ r. Checks model.now term.now (reply_of r)) }
+    ensures status { IfOk result (λ r. code_of r.status < 3) }
+{
+    let mut kernel = Kernel::new(alloc, PlainStore::new(alloc));
+    check_on(alloc, &mut kernel, model, term, steps)
+}

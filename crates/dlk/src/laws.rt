@@ -1,0 +1,12 @@
+//! The laws of the program's answers. Each is a contract of a function that does nothing.
+ghost use Rattle.std.specs.Prelude.{◌≡◌, ℕ, List};
+ghost use Rattle.dlk_desk.specs.Outside.{Files};
+ghost use Rattle.dlk.specs.Forms.{Word};
+ghost use Rattle.dlk.specs.Replies.{Reply as TheReply};
+ghost use Rattle.dlk.specs.Checks.{Checks};
+ghost use Rattle.dlk.specs.Answers.{Answers};
+
+/// There is one answer to words and files.
+pub fn one_reply()
+    ensures { (words : List Word) (files : Files) (one other : TheReply) → Answers words files one → Answers words files other → one ≡ other }
+{}

@@ -1,0 +1,268 @@
+// The program over a desk in memory.
+ghost use Rattle.std.specs.Prelude.{◌≤◌};
+
+use crate::start;
+use dlk_desk::MemoryDesk;
+use std::alloc::{AllocError, Global};
+use std::marker::Brand;
+use std::sync::ledger::Blank;
+use std::test::Fail;
+
+const TERM: &str = "1 start ==> x>=0 -> x>=0\n2 apply 1 1 implyR(1)\n3 apply 2 1 close(1,1)\ndone\n";
+
+fn words_of(alloc: Global, texts: &[&str]) -> Result<Vec<String>, AllocError> {
+    let mut words = Vec::new(alloc);
+    for text in texts {
+        words.push(String::from_str(alloc, text)?)?;
+    }
+    Ok(words)
+}
+
+/// A desk with a model and a term, which moves so many bytes a call and fails at these calls.
+fn desk_of(
+    alloc: Global,
+    model: &[u8],
+    term: &[u8],
+    chunk: usize,
+    fails: &[u64],
+) -> Result<MemoryDesk, AllocError>
+    requires { 1 ≤ chunk }
+{
+    let mut files = Vec::new(alloc);
+    files.push((String::from_str(alloc, "model")?, model.to_vec(alloc)?))?;
+    files.push((String::from_str(alloc, "term")?, term.to_vec(alloc)?))?;
+    Ok(MemoryDesk::new(alloc, files, chunk, fails.to_vec(alloc)?))
+}
+
+/// The status of a run of the program with these words.
+fn status_of(alloc: Global, words: &[&str], desk: &mut MemoryDesk) -> Result<u8, AllocError> {
+    let words = words_of(alloc, words)?;
+    Ok(start::<MemoryDesk, Brand>(alloc, &words, desk, Blank::new(1)))
+}
+
+/// What `check` does to the bytes of a model and of a term.
+fn checked(alloc: Global, model: &[u8], term: &[u8]) -> Result<(u8, MemoryDesk), AllocError> {
+    let mut desk = desk_of(alloc, model, term, 7, &[])?;
+    let status = status_of(alloc, &["check", "model", "term"], &mut desk)?;
+    Ok((status, desk))
+}
+
+/// So many bytes, which begin with these and go on with spaces.
+fn padded(alloc: Global, text: &str, length: usize) -> Result<Vec<u8>, AllocError> {
+    let mut bytes = text.as_bytes().to_vec(alloc)?;
+    for _ in text.len()..length {
+        bytes.push(b' ')?;
+    }
+    Ok(bytes)
+}
+
+#[test]
+fn accepts_and_refuses_terms(rt: HostRuntime) -> Result<(), Fail> {
+    let alloc = rt.alloc();
+    for (model, term, status, printed) in [
+        (
+            "x>=0 -> x>=0",
+            TERM,
+            0,
+            "closed\nconclusion ==> x>=0 -> x>=0\ngoals 0\nleaves 0\nlines 3\n",
+        ),
+        // without the last line feed, and with another spelling of the model
+        (
+            "((x>=00)) ->\tx>=0\r\n",
+            "1 start ==> x>=0 -> x>=0\n2 apply 1 1 implyR(1)\n3 apply 2 1 close(1,1)\ndone",
+            0,
+            "closed\nconclusion ==> x>=0 -> x>=0\ngoals 0\nleaves 0\nlines 3\n",
+        ),
+        (
+            "x>=0 -> x>=1",
+            "1 start ==> x>=0 -> x>=1\n2 apply 1 1 implyR(1)\ndone\n",
+            1,
+            "open\nconclusion ==> x>=0 -> x>=1\ngoals 1\ngoal 1 x>=0 ==> x>=1\nleaves 0\nlines 2\n",
+        ),
+        (
+            "(x>=0 -> y>=0) -> z>=0",
+            "1 start ==> (x>=0->y>=0)->z>=0\ndone\n",
+            1,
+            "open\nconclusion ==> (x>=0 -> y>=0) -> z>=0\ngoals 1\ngoal 1 ==> (x>=0 -> y>=0) -> z>=0\nleaves 0\nlines 1\n",
+        ),
+        // the first wrong line, though later ones are wrong too
+        (
+            "x>=0 -> x>=1",
+            "1 start ==> x>=0 -> x>=1\n2 apply 1 1 implyR(1)\n3 apply 2 1 close(1,1)\n4 apply 3 1 hideL(1)\nnonsense\ndone\n",
+            2,
+            "refused: line 3: NotEqual\n",
+        ),
+        (
+            "x>=0 -> x>=0",
+            "1 start ==> x>=0 -> x>=0\n2 apply 1 1 implyR(1)\n3 apply 2 1 close(1,1)\n",
+            2,
+            "refused: line 4: NoEnd\n",
+        ),
+        ("x>=0", "", 2, "refused: line 1: NoEnd\n"),
+        ("x>=0", "\n", 2, "refused: line 1: Malformed\n"),
+        ("x>=0", "done\n", 2, "refused: line 1: Malformed\n"),
+        (
+            "x>=0",
+            "1 start ==> x>=0\ndone\nx\n",
+            2,
+            "refused: line 3: Malformed\n",
+        ),
+        (
+            "x>=0",
+            "1 start ==> x>=0\ndone\n\n",
+            2,
+            "refused: line 3: Malformed\n",
+        ),
+        (
+            "x>=0 -> x>=0",
+            "1 start ==> x>=0 -> x>=0\n2 apply 1 1 implyR(1)\n4 apply 2 1 close(1,1)\ndone\n",
+            2,
+            "refused: line 3: WrongNumber\n",
+        ),
+        (
+            "x>=0",
+            "1 start ==> x>=0\n2 apply 2 1 implyR(1)\ndone\n",
+            2,
+            "refused: line 2: NoFact\n",
+        ),
+        (
+            "x>=0",
+            "1 start ==> x>=0\n2 apply 1 2 implyR(1)\ndone\n",
+            2,
+            "refused: line 2: NoGoal\n",
+        ),
+        (
+            "x>=0",
+            "1 start ==> x>=0\n2 apply 1 1 implyR(2)\ndone\n",
+            2,
+            "refused: line 2: NoPlace\n",
+        ),
+        (
+            "x>=0",
+            "1 start ==> x>=0\n2 apply 1 1 implyR(1)\ndone\n",
+            2,
+            "refused: line 2: WrongShape\n",
+        ),
+        (
+            "x>=0",
+            "01 start ==> x>=0\ndone\n",
+            2,
+            "refused: line 1: Malformed\n",
+        ),
+        (
+            "x>=0",
+            "1 start x>=0\ndone\n",
+            2,
+            "refused: line 1: Malformed\n",
+        ),
+        (
+            "x>=1",
+            "1 start ==> x>=0\ndone\n",
+            2,
+            "refused: other-conclusion 1\nexpected ==> x>=1\nfound ==> x>=0\n",
+        ),
+        (
+            "x>=0",
+            "1 start x>=0, y>=1 ==> x>=0\ndone\n",
+            2,
+            "refused: other-conclusion 1\nexpected ==> x>=0\nfound x>=0, y>=1 ==> x>=0\n",
+        ),
+    ] {
+        let (found, desk) = checked(alloc, model.as_bytes(), term.as_bytes())?;
+        assert_eq!(rt; found, status, "{term}");
+        assert_eq!(rt; desk.printed(), printed.as_bytes(), "{term}");
+    }
+    Ok(())
+}
+
+#[test]
+fn refuses_models(rt: HostRuntime) -> Result<(), Fail> {
+    let alloc = rt.alloc();
+    for (model, printed) in [
+        ("x>=0 # y", "refused: model at 5: not-built\n"),
+        ("x>=0, y>=0", "refused: model at 4: not-built\n"),
+        ("==> x>=0", "refused: model at 0: not-built\n"),
+        ("x>=0.5", "refused: model at 4: not-built\n"),
+        ("true", "refused: model at 0: not-built\n"),
+        ("x>=0 -> false", "refused: model at 8: not-built\n"),
+        (
+            "x>=000000000000000000000000000000000000000",
+            "refused: model at 3: not-built\n",
+        ),
+        ("", "refused: model: syntax\n"),
+        ("x>=", "refused: model: syntax\n"),
+        ("(x)>=0", "refused: model: syntax\n"),
+        ("x>=0 -> (y>=0", "refused: model: syntax\n"),
+        ("x>=0 y>=0", "refused: model: syntax\n"),
+    ] {
+        let (status, desk) = checked(alloc, model.as_bytes(), TERM.as_bytes())?;
+        assert_eq!(rt; status, 2, "{model}");
+        assert_eq!(rt; desk.printed(), printed.as_bytes(), "{model}");
+    }
+    for byte in 128..=255u8 {
+        let (status, desk) = checked(alloc, &[b'x', byte], TERM.as_bytes())?;
+        assert_eq!(rt; status, 2, "{byte}");
+        assert_eq!(rt; desk.printed(), b"refused: model at 1: not-built\n".as_slice());
+        let (status, desk) = checked(alloc, b"x>=0", &[byte])?;
+        assert_eq!(rt; status, 2, "{byte}");
+        assert_eq!(rt; desk.printed(), b"refused: line 1: Malformed\n".as_slice());
+    }
+    Ok(())
+}
+
+#[test]
+fn keeps_to_lengths(rt: HostRuntime) -> Result<(), Fail> {
+    let alloc = rt.alloc();
+    let short = b"1 start ==> x>=0\ndone\n".as_slice();
+    let (status, _) = checked(alloc, &padded(alloc, "x>=0", 4096)?, short)?;
+    assert_eq!(rt; status, 1);
+    let (status, desk) = checked(alloc, &padded(alloc, "x>=0", 4097)?, short)?;
+    assert_eq!(rt; status, 2);
+    assert_eq!(rt; desk.printed(), b"refused: too-long model\n".as_slice());
+    let (status, desk) = checked(alloc, b"x>=0", &padded(alloc, "", 65536)?)?;
+    assert_eq!(rt; status, 2);
+    assert_eq!(rt; desk.printed(), b"refused: line 1: Malformed\n".as_slice());
+    let (status, desk) = checked(alloc, b"#", &padded(alloc, "", 65537)?)?;
+    assert_eq!(rt; status, 2);
+    assert_eq!(rt; desk.printed(), b"refused: too-long term\n".as_slice());
+    for (length, status) in [(4096, 1), (4097, 2)] {
+        let mut term = padded(alloc, "1 start ==> x>=0", length)?;
+        term.extend_from_slice(b"\ndone\n")?;
+        let (found, _) = checked(alloc, b"x>=0", &term)?;
+        assert_eq!(rt; found, status, "a line of {length} bytes");
+    }
+    Ok(())
+}
+
+#[test]
+fn tells_faults_of_the_outside(rt: HostRuntime) -> Result<(), Fail> {
+    let alloc = rt.alloc();
+    for (words, status, printed) in [
+        (&[].as_slice(), 3, "refused: words\n"),
+        (&["check"].as_slice(), 3, "refused: words\n"),
+        (&["check", "model"].as_slice(), 3, "refused: words\n"),
+        (&["check", "model", "term", "more"].as_slice(), 3, "refused: words\n"),
+        (&["--help"].as_slice(), 3, "refused: words\n"),
+        (&["prove", "model", "term"].as_slice(), 3, "refused: words\n"),
+        (&["check", "nothing", "term"].as_slice(), 4, ""),
+        (&["check", "model", "nothing"].as_slice(), 4, ""),
+    ] {
+        let mut desk = desk_of(alloc, b"x>=0", b"1 start ==> x>=0\ndone\n", 100, &[])?;
+        assert_eq!(rt; status_of(alloc, words, &mut desk)?, status);
+        assert_eq!(rt; desk.printed(), printed.as_bytes());
+    }
+    // The model is read in two pieces and at its end, the term in four pieces and at its end, and the report is printed in pieces.
+    for (call, status, printed) in [
+        (1, 4, ""),
+        (2, 4, ""),
+        (3, 4, ""),
+        (4, 4, ""),
+        (8, 4, ""),
+        (10, 5, "open\nco"),
+    ] {
+        let mut desk = desk_of(alloc, b"x>=0", b"1 start ==> x>=0\ndone\n", 7, &[call])?;
+        assert_eq!(rt; status_of(alloc, &["check", "model", "term"], &mut desk)?, status, "call {call}");
+        assert_eq!(rt; desk.printed(), printed.as_bytes(), "call {call}");
+    }
+    Ok(())
+}
