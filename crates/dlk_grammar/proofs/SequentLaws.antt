@@ -47,7 +47,7 @@ sides p = option_and_then (λ l. option_and_then (λ m. Some (two_sides l m)) (s
 abbrev pub read_sequent : List TokenKind → Option Sequent
 read_sequent ks = option_and_then sides (cut ks)
 
-abbrev is_inside : TokenKind → Bool
+abbrev pub is_inside : TokenKind → Bool
 is_inside k = not (is_turnstile k)
 
 pub cut_here : (s r : List TokenKind) → list_all is_inside s ≡ true → cut (s ++ AMark mark.Turnstile ∷ r) ≡ Some (s, r)
@@ -79,6 +79,17 @@ cut_is (k ∷ ks) s r e = go (is_turnstile k) refl e (cut ks) refl (λ t q. cut_
         let back : p.1 ≡ r = ap (λ (q : List TokenKind × List TokenKind). q.1) w in
         ap (λ l. k ∷ l) (rest p.0 p.1 g) ∙ ap (λ l. l ++ AMark mark.Turnstile ∷ p.1) front ∙ ap (λ l. s ++ AMark mark.Turnstile ∷ l) back
     go false h f None g rest = let w : ◌≡◌ {A = Option (List TokenKind × List TokenKind)} None (Some (s, r)) = sym (ap (option_map (behind k)) g) ∙ f in absurd cc
+
+pub cut_at : (s r : List TokenKind) (k : TokenKind) → is_turnstile k ≡ true → list_all is_inside s ≡ true → cut (s ++ k ∷ r) ≡ Some (s, r)
+cut_at s r k h inner = ap (λ j. cut (s ++ j ∷ r)) (turnstile_is k h) ∙ cut_here s r inner
+
+pub cut_none : (ks : List TokenKind) → list_all is_inside ks ≡ true → cut ks ≡ None
+cut_none [] h = refl
+cut_none (k ∷ ks) h = go (is_turnstile k) (and_parts (is_inside k) (list_all is_inside ks) h).0 (cut_none ks (and_parts (is_inside k) (list_all is_inside ks) h).1)
+  where
+    go : (c : Bool) → not c ≡ true → cut ks ≡ None → cond c (Some ([], ks)) (option_map (behind k) (cut ks)) ≡ None
+    go true n f = absurd cc
+    go false n f = ap (option_map (behind k)) f
 
 -- no `==>` stands in a formula
 both : (s r : List TokenKind) → list_all is_inside s ≡ true → list_all is_inside r ≡ true → list_all is_inside (s ++ r) ≡ true

@@ -1,20 +1,20 @@
 -- What a reader stands for stays, where the store keeps its trees.
-use Rattle.std.proofs.Common.{◌≡◌, ℕ, zero, suc, ◌<◌, ◌≤◌, List, [], ◌∷◌, ◌++◌, length, get_or, fold, Option, Some, Result, Ok, Err, refl, sym, ap, subst, ◌∙◌, arith}
+use Rattle.std.proofs.Common.{◌≡◌, suc, List, [], ◌∷◌, ◌++◌, length, get_or, fold, Some, Result, Ok, Err, refl, sym, ap, subst, ◌∙◌, arith}
 use Rattle.std.specs.Prelude.{All, OnOk}
 use Rattle.std.proofs.lemmas.List.Sums.{fold_push}
 use Rattle.std.proofs.lemmas.List.{get_or_append_left, length-append}
 use Rattle.std.proofs.Math.Seq.{get_or-append_seam}
 use Rattle.std.proofs.lemmas.List.Elements.{All-push}
-use Rattle.dlk_tree.specs.Trees.{Tree, node, Forest, no_kids, kid, sort}
+use Rattle.dlk_tree.specs.Trees.{Tree, node, Forest, no_kids, sort}
 use Rattle.dlk_tree.specs.Table.{sort_of as sort_of_op}
 use Rattle.dlk_tree.specs.declared.op.Op.{Op}
 use Rattle.dlk_tree.specs.declared.op.Op.TheVariants.{Ge, Imply}
 use Rattle.dlk_tree.specs.declared.op.Sort.TheVariants as sort_of
 use Rattle.dlk_tree.specs.declared.op.Sort.{Sort}
 use Rattle.dlk_store.specs.declared.Id.{Id}
-use Rattle.dlk_store.specs.Stores.{IsId, tree, kid_trees, StandsFor, Keeps}
+use Rattle.dlk_store.specs.Stores.{tree, kid_trees, StandsFor, Keeps}
 use Rattle.dlk_store.proofs.Kids.{Keeps-trans}
-use Rattle.dlk_grammar.proofs.Machine.{at_least, Left, Bracket, Term, Compared, Whole, State, state, join, operand}
+use Rattle.dlk_grammar.proofs.Machine.{at_least, Left, Term, Whole, state, join, operand}
 use Rattle.dlk_grammar.proofs.Machine.{Open as OpenTree}
 use Rattle.dlk_parse.specs.declared.fault.ParseFault.{ParseFault}
 use Rattle.dlk_parse.specs.declared.reader.Open.{Open}

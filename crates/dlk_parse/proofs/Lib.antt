@@ -1,1 +1,4 @@
 pub mod Keeping
+pub mod Tokens
+pub mod Sides
+pub mod Texts

@@ -1,5 +1,5 @@
 -- What a reader over a store stands for in the machine.
-use Rattle.std.proofs.Common.{◌≡◌, ℕ, List, [], ◌∷◌, Option, Some, None, Result, Ok, Err, fold, map}
+use Rattle.std.proofs.Common.{◌≡◌, List, [], ◌∷◌, Option, Some, None, Result, Ok, Err, fold}
 use Rattle.std.specs.Prelude.{All}
 use Rattle.std.specs.Prelude.{IsTrue}
 use Rattle.dlk_tree.specs.Table.{has_parts, kid_sorts, sort_of as sort_of_op}

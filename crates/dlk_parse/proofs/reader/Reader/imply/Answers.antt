@@ -1,4 +1,4 @@
-use Rattle.dlk_parse.specs.Readers.{IsLast, IsSound}
+use Rattle.dlk_parse.specs.Readers.{IsLast}
 use Rattle.dlk_parse.specs.declared.reader.Open.TheVariants.{Left}
 use Rattle.std.proofs.Common.{subst}
 use Rattle.dlk_parse.proofs.Keeping.{opened_push}
