@@ -13,12 +13,12 @@ use Rattle.dlk_replay.specs.declared.fault.ReplayFault.TheVariants.{Bad, Memory}
 
 -- the fault of these lines; want of memory is free
 abbrev pub IsFaultOf : List (List ℕ) → ReplayFault → Type 0
-IsFaultOf lines (Bad line why) = Verdict lines (bad line why)
+IsFaultOf lines (Bad line reason) = Verdict lines (bad line reason)
 IsFaultOf lines Memory = Unit {0}
 
 -- the rows that a fault leaves: those of the lines before it, and for want of memory those of some first lines
 abbrev pub LeavesRows : List (List ℕ) → List Provable → ReplayFault → Type 0
-LeavesRows lines rows (Bad line why) = RowsOf (take (line - 1) lines) rows
+LeavesRows lines rows (Bad line reason) = RowsOf (take (line - 1) lines) rows
 LeavesRows lines rows Memory = (n : ℕ) × RowsOf (take n lines) rows
 
 -- why a line is not as it must be, after these rows. One case a reason.
@@ -30,7 +30,7 @@ IsBadLine rows line (why.Step reason) = (step : Step) × IsLine line (Numbered (
 
 -- the fault of a line after these rows; want of memory is free
 abbrev pub IsLineFault : List Provable → List ℕ → ReplayFault → Type 0
-IsLineFault rows line (Bad at why) = (at ≡ length rows + 1) × IsBadLine rows line why
+IsLineFault rows line (Bad at reason) = (at ≡ length rows + 1) × IsBadLine rows line reason
 IsLineFault rows line Memory = Unit {0}
 
 -- a line's own number and its step, which adds a row

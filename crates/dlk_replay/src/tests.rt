@@ -5,20 +5,24 @@ use dlk_calculus::Reason;
 use dlk_kernel::Kernel;
 use dlk_plain::PlainStore;
 use dlk_store::Steps;
+use std::alloc::Global;
 use std::marker::Brand;
 use std::sync::ledger::{Blank, Ledger};
 use std::test::Fail;
 
 /// What becomes of a file, with nothing counted.
-fn uncounted<L: Ledger>(rt: &HostRuntime, file: &str, blank: Blank) -> Result<Outcome, ReplayFault>
+fn uncounted<L: Ledger>(alloc: Global, file: &[u8], blank: Blank) -> Result<Outcome, ReplayFault>
     requires name { blank.name ≡ L.name }
     requires parts { blank.parts ≡ L.parts }
     requires some { 0 < blank.parts }
 {
-    let alloc = rt.alloc();
     let mut kernel = Kernel::new(alloc, PlainStore::new(alloc));
     let mut steps = Steps::<L>::new(blank);
-    replay(alloc, file.as_bytes(), &mut kernel, &mut steps)
+    replay(alloc, file, &mut kernel, &mut steps)
+}
+
+fn fate(alloc: Global, file: &[u8]) -> Result<Outcome, ReplayFault> {
+    uncounted::<Brand>(alloc, file, Blank::new(1))
 }
 
 fn bad(line: usize, why: LineWhy) -> Result<Outcome, ReplayFault> {
@@ -56,11 +60,7 @@ fn replays_files(rt: HostRuntime) -> Result<(), Fail> {
         ("", bad(1, LineWhy::NoEnd)),
     ];
     for (file, want) in rows {
-        assert_eq!(rt;
-            uncounted::<Brand>(&rt, file, Blank::new(1)),
-            want,
-            "{file}"
-        );
+        assert_eq!(rt; fate(rt.alloc(), file.as_bytes()), want, "{file}");
     }
     Ok(())
 }

@@ -16,7 +16,8 @@ use std::alloc::Global;
 /// The most bytes of a line.
 const MOST_BYTES: usize = 4096;
 
-/// What a line of a proof-term file says. The bytes are those before its line feed.
+/// What a line of a proof-term file says: a number and a step, or `done`. The bytes are those before its line feed.
+/// More than 4,096 bytes are no line.
 ///
 /// `Malformed` comes exactly where the bytes are no line, and `Memory` when memory runs out. Whatever comes, the
 /// store keeps its trees.
