@@ -13,21 +13,25 @@ mod run;
 
 use dlk_desk::{Desk, HostDesk};
 use dlk_store::Steps;
-use run::run;
+use run::{NO_MEMORY, run};
 use std::alloc::{AllocError, Global};
+use std::env;
+use std::io::ErrorKind;
 use std::marker::Brand;
 use std::process::ExitCode;
 use std::sync::ledger::{Blank, Ledger};
-use std::{env, io};
 
-/// The status where the words of the command line can't be had.
-const NO_WORDS: u8 = 7;
 
-/// The words of the command line, without the program's name.
-fn words(rt: &HostRuntime) -> io::Result<Vec<String>> {
+/// The words of the command line, without the program's name. Where one is not UTF-8 there are none, and so they have no form.
+fn words(rt: &HostRuntime) -> Result<Vec<String>, AllocError> {
     let mut words = Vec::new(rt.alloc());
-    for word in env::args(rt)?.skip(1) {
-        words.push(word).map_err(AllocError::from)?;
+    let args = match env::args(rt) {
+        Ok(args) => args,
+        Err(fault) if fault.kind() == ErrorKind::OutOfMemory => return Err(AllocError),
+        Err(_) => return Ok(words),
+    };
+    for word in args.skip(1) {
+        words.push(word)?;
     }
     Ok(words)
 }
@@ -45,7 +49,7 @@ fn start<D: Desk, L: Ledger>(alloc: Global, words: &[String], desk: &mut D, blan
 fn main(rt: HostRuntime) -> ExitCode {
     let alloc = rt.alloc();
     let Ok(words) = words(&rt) else {
-        return ExitCode::from(NO_WORDS);
+        return ExitCode::from(NO_MEMORY);
     };
     let mut desk = HostDesk::new(rt, alloc);
     ExitCode::from(start::<HostDesk<HostRuntime>, Brand>(
@@ -55,7 +59,6 @@ fn main(rt: HostRuntime) -> ExitCode {
         Blank::new(1),
     ))
 }
-
 
 #[cfg(test)]
 mod tests;

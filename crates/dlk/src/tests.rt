@@ -257,8 +257,9 @@ fn tells_faults_of_the_outside(rt: HostRuntime) -> Result<(), Fail> {
         (2, 4, ""),
         (3, 4, ""),
         (4, 4, ""),
-        (8, 4, ""),
-        (10, 5, "open\nco"),
+        (9, 4, ""),
+        (10, 5, ""),
+        (11, 5, "open\nco"),
     ] {
         let mut desk = desk_of(alloc, b"x>=0", b"1 start ==> x>=0\ndone\n", 7, &[call])?;
         assert_eq!(rt; status_of(alloc, &["check", "model", "term"], &mut desk)?, status, "call {call}");
