@@ -7,3 +7,4 @@ pub mod Sides
 pub mod SequentLaws
 pub mod Formed
 pub mod TextLaws
+pub mod Ascii

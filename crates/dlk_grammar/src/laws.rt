@@ -1,13 +1,14 @@
 //! The laws of texts. Each is a contract of a function that does nothing.
-ghost use Rattle.std.specs.Prelude.{◌≡◌, ℕ, List};
+ghost use Rattle.std.specs.Prelude.{◌≡◌, ℕ, List, All, IsAscii};
 ghost use Rattle.dlk_grammar.specs.declared.token.Text.{Text as TheText};
 ghost use Rattle.dlk_grammar.specs.declared.token.Token.{Token as TheToken};
 ghost use Rattle.dlk_grammar.specs.declared.token.TokenKind.{TokenKind as TheKind};
-ghost use Rattle.dlk_tree.specs.Trees.{Tree};
+ghost use Rattle.dlk_tree.specs.Trees.{Tree, WellMade};
 ghost use Rattle.dlk_calculus.specs.Sequents.{Sequent, IsFormula, IsSequent};
 ghost use Rattle.dlk_grammar.specs.Splits.{Splits, BadAt};
 ghost use Rattle.dlk_grammar.specs.Grammar.{Form, Reads, ReadsSequent};
 ghost use Rattle.dlk_grammar.specs.Texts.{FormulaText, SequentText, TextFault, FormulaFault, SequentFault};
+ghost use Rattle.dlk_grammar.specs.Shown.{spell, shown, shown_sequent};
 
 /// Bytes are split into tokens in one way.
 pub fn one_split()
@@ -48,4 +49,10 @@ pub fn sequent_texts()
     ensures no_fault { (bytes : List ℕ) (s : Sequent) (why : TextFault) → SequentText bytes s → SequentFault bytes why → ⊥ }
     ensures one_fault { (bytes : List ℕ) (why other : TextFault) → SequentFault bytes why → SequentFault bytes other → why ≡ other }
     ensures formulas { (bytes : List ℕ) (s : Sequent) → SequentText bytes s → IsSequent s }
+{}
+
+/// Canonical text is ASCII: that of a well-made tree, and that of a sequent of well-made trees.
+pub fn canonical_texts()
+    ensures trees { (t : Tree) → WellMade t → IsAscii (spell (shown t)) }
+    ensures sequents { (s : Sequent) → All WellMade s.ante → All WellMade s.succ → IsAscii (spell (shown_sequent s)) }
 {}

@@ -1,5 +1,5 @@
 -- The report of a proof, and its text.
-use Rattle.std.specs.Prelude.{ℕ, ◌+◌, Bool, true, false, if◌then◌else◌, List, [], ◌∷◌, ◌++◌, length, map, codes, decimal}
+use Rattle.std.specs.Prelude.{ℕ, ◌+◌, Bool, true, false, List, [], ◌∷◌, ◌++◌, length, map, codes, decimal, All, IsAscii}
 use Rattle.dlk_calculus.specs.Sequents.{Sequent}
 use Rattle.dlk_calculus.specs.Provables.{Provable}
 use Rattle.dlk_grammar.specs.Shown.{spell, shown_sequent}
@@ -29,6 +29,12 @@ parts_of p lines = record {
   leaves = map text_of p.leaves;
   lines = lines;
 }
+
+-- each of its texts is ASCII
+pub record HasAsciiTexts (r : Parts) : Type 0 where
+  pub conclusion : IsAscii r.conclusion
+  pub goals : All IsAscii r.goals
+  pub leaves : All IsAscii r.leaves
 
 -- a text as a line
 abbrev pub line : List ℕ → List ℕ

@@ -3,7 +3,7 @@ ghost use Rattle.std.specs.Prelude.{◌≡◌, All, IfOk, IfSome, map};
 ghost use Rattle.dlk_calculus.specs.Places.{at, IsPlace};
 ghost use Rattle.dlk_sequent.specs.Sequents.{sequent_at, IsKnown};
 ghost use Rattle.dlk_kernel.specs.Kernel.{facts};
-ghost use Rattle.dlk_report.specs.Reports.{parts_of, text_of};
+ghost use Rattle.dlk_report.specs.Reports.{parts_of, text_of, HasAsciiTexts};
 
 use crate::fault::ReportFault;
 use dlk_kernel::Kernel;
@@ -70,7 +70,8 @@ pub fn shown<S: Store, L: Ledger>(
     steps: &mut Steps<L>,
 ) -> Result<Report, ReportFault>
     requires { IsPlace kernel.now.rows fact }
-    ensures { IfOk result (λ report. IfSome (at (facts S.trees kernel.now) fact) (λ p. parts report ≡ parts_of p lines)) }
+    ensures parts { IfOk result (λ report. IfSome (at (facts S.trees kernel.now) fact) (λ p. parts report ≡ parts_of p lines)) }
+    ensures ascii { IfOk result (λ report. HasAsciiTexts (parts report)) }
 {
     let conclusion = text(alloc, kernel, kernel.conclusion(fact), steps)?;
     let goals = texts(alloc, kernel, kernel.goals(fact), steps)?;
