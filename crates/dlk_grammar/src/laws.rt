@@ -35,7 +35,7 @@ pub fn one_sequent()
     ensures { (kinds : List TheKind) (s z : Sequent) → ReadsSequent kinds s → ReadsSequent kinds z → s ≡ z }
 {}
 
-/// Bytes are a text of at most one formula, or have exactly one of the faults, which is one.
+/// Bytes are a text of at most one formula or have at most one fault, and never both. What they are a text of is a formula.
 pub fn formula_texts()
     ensures one { (bytes : List ℕ) (t u : Tree) → FormulaText bytes t → FormulaText bytes u → t ≡ u }
     ensures no_fault { (bytes : List ℕ) (t : Tree) (why : TextFault) → FormulaText bytes t → FormulaFault bytes why → ⊥ }
