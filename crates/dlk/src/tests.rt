@@ -1,11 +1,16 @@
 // The program over a desk in memory.
-ghost use Rattle.std.specs.Prelude.{◌≤◌};
+ghost use Rattle.std.specs.Prelude.{◌≡◌, ◌<◌, ◌≤◌};
 
 use crate::start;
 use dlk_desk::MemoryDesk;
+use dlk_kernel::{Kernel, Step};
+use dlk_parse::{read_formula, read_sequent};
+use dlk_plain::PlainStore;
+use dlk_store::{Steps, Store};
+use dlk_transfer::write_all;
 use std::alloc::{AllocError, Global};
 use std::marker::Brand;
-use std::sync::ledger::Blank;
+use std::sync::ledger::{Blank, Ledger};
 use std::test::Fail;
 
 const TERM: &str = "1 start ==> x>=0 -> x>=0\n2 apply 1 1 implyR(1)\n3 apply 2 1 close(1,1)\ndone\n";
@@ -265,5 +270,32 @@ fn tells_faults_of_the_outside(rt: HostRuntime) -> Result<(), Fail> {
         assert_eq!(rt; status_of(alloc, &["check", "model", "term"], &mut desk)?, status, "call {call}");
         assert_eq!(rt; desk.printed(), printed.as_bytes(), "call {call}");
     }
+    Ok(())
+}
+
+/// The size and the depth of a formula, and the numbers of rows behind a step and back at the mark before it.
+fn stepped_back<L: Ledger>(alloc: Global, blank: Blank) -> Option<[u32; 4]>
+    requires name { blank.name ≡ L.name }
+    requires parts { blank.parts ≡ L.parts }
+    requires some { 0 < blank.parts }
+{
+    let mut steps = Steps::<L>::new(blank);
+    let mut kernel = Kernel::new(alloc, PlainStore::new(alloc));
+    let formula = read_formula(alloc, b"x>=0 -> x>=0", &mut kernel).ok()?;
+    let sequent = read_sequent(alloc, b"==> x>=0", &mut kernel).ok()?;
+    let mark = kernel.mark();
+    kernel.step(alloc, &Step::Start(sequent), &mut steps).ok()?;
+    let rows = kernel.rows();
+    kernel.release(mark);
+    Some([kernel.size(formula), kernel.depth(formula), rows, kernel.rows()])
+}
+
+#[test]
+fn goes_back_and_writes(rt: HostRuntime) -> Result<(), Fail> {
+    let alloc = rt.alloc();
+    assert_eq!(rt; stepped_back::<Brand>(alloc, Blank::new(1)), Some([7, 3, 1, 0]));
+    let mut desk = desk_of(alloc, b"", b"", 3, &[])?;
+    assert!(rt; write_all(&mut desk, "new", b"some bytes").is_ok());
+    assert_eq!(rt; desk.file("new"), Some(b"some bytes".as_slice()));
     Ok(())
 }
