@@ -1,8 +1,8 @@
 -- The answer to what was read is the answer to the files.
-use Rattle.std.proofs.Common.{◌≡◌, ℕ, List, length, None, Some, refl, sym, ap, subst, ◌∙◌}
+use Rattle.std.proofs.Common.{◌≡◌, ℕ, List, length, Some, refl, subst, ◌∙◌}
 use Rattle.dlk_desk.specs.Outside.{Files}
 use Rattle.dlk.specs.Forms.{Word, command_of, limits_of, inputs_of}
-use Rattle.dlk.specs.Inputs.{first_too_long, bytes_of, cut_bytes_of}
+use Rattle.dlk.specs.Inputs.{first_too_long, cut_bytes_of}
 use Rattle.dlk.specs.Replies.{Reply}
 use Rattle.dlk.specs.Answers.{Does, Responds, refuses, does, Answers, command}
 use Rattle.dlk.specs.declared.command.Command.{Command}

@@ -1,5 +1,5 @@
 -- The names that were asked for, one after another.
-use Rattle.std.proofs.Common.{◌≡◌, ℕ, suc, zero, ◌+◌, ◌<◌, List, [], ◌∷◌, ◌++◌, map, length, take, get_or, String, string_bytes, sym, ap, subst, ◌∙◌, append_assoc, append-nil, refl, arith}
+use Rattle.std.proofs.Common.{◌≡◌, ℕ, suc, zero, ◌+◌, ◌<◌, List, [], ◌∷◌, ◌++◌, length, take, get_or, String, string_bytes, sym, ap, ◌∙◌, append_assoc, append-nil, refl, arith}
 use Rattle.std.proofs.lemmas.List.{take_more, take-map, length-map, get_or-map}
 use Rattle.std.specs.declared.alloc.Global.{Global}
 use Rattle.dlk_desk.specs.Memory.{names_of}

@@ -3,11 +3,9 @@ use Rattle.std.proofs.Common.{◌≡◌, ℕ, List, [], ◌∷◌, ◌++◌, cod
 use Rattle.dlk_tree.specs.Trees.{Tree}
 use Rattle.dlk_store.specs.declared.Id.{Id}
 use Rattle.dlk_store.specs.Stores.{tree}
-use Rattle.dlk_sequent.specs.Sequents.{sequent_at}
 use Rattle.dlk_calculus.specs.Sequents.{Sequent}
 use Rattle.dlk_grammar.specs.Shown.{spell, shown_sequent}
 use Rattle.dlk.specs.declared.reply.Status.TheVariants.{Refused}
-use Rattle.dlk.specs.Replies.{Reply}
 use Rattle.dlk.specs.Checks.{proves, other_conclusion}
 
 -- the parts of a text one after another, and the same parts as three lines

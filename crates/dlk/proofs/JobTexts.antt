@@ -1,5 +1,5 @@
 -- The texts that a command is given.
-use Rattle.std.proofs.Common.{◌≡◌, ℕ, suc, ◌<◌, List, [], ◌∷◌, length, get_or, sym, subst, Vec, arith, ◌∙◌, ap}
+use Rattle.std.proofs.Common.{◌≡◌, ℕ, List, [], ◌∷◌, length, get_or, sym, Vec, arith}
 use Rattle.std.specs.declared.alloc.Global.{Global}
 use Rattle.dlk.specs.Forms.{limits_of}
 use Rattle.dlk.specs.Replies.{Reply}

@@ -1,5 +1,5 @@
 -- A term within its limit is accepted where its lines are steps, and else its first wrong line is named.
-use Rattle.std.proofs.Common.{◌≡◌, ◌<◌, ◌≤◌, ℕ, Bool, true, false, cond, nat_lt, List, [], ◌∷◌, ◌++◌, length, Option, None, Some, refl, sym, ap, subst, ◌∙◌, arith}
+use Rattle.std.proofs.Common.{◌≡◌, ◌<◌, ◌≤◌, ℕ, Bool, true, false, nat_lt, List, [], ◌∷◌, ◌++◌, length, None, Some, refl, sym, ap, subst, ◌∙◌, arith}
 use Rattle.std.proofs.lemmas.List.{append_cancel_left}
 use Rattle.std.proofs.lemmas.Bool.Decides.{nat_tests}
 use Rattle.dlk_tree.specs.Trees.{Tree}
@@ -8,7 +8,7 @@ use Rattle.dlk_desk.specs.Outside.{Outside}
 use Rattle.dlk_grammar.specs.Texts.{FormulaText}
 use Rattle.dlk_grammar.proofs.TextLaws.{one_formula, formula_or_fault}
 use Rattle.dlk_report.specs.Reports.{is_closed}
-use Rattle.dlk.specs.Forms.{Word, command_of, inputs_of, limits_of, limit_of}
+use Rattle.dlk.specs.Forms.{Word, inputs_of, limits_of, limit_of}
 use Rattle.dlk.specs.Inputs.{first_too_long}
 use Rattle.dlk.specs.declared.command.Command.{Command}
 use Rattle.dlk.specs.declared.command.Command.TheVariants.{Check}

@@ -1,9 +1,9 @@
 -- From what replaying and judging answer to what `check` answers.
-use Rattle.std.proofs.Common.{◌≡◌, ◌≢◌, ◌≤◌, ℕ, ◌+◌, List, [], ◌∷◌, ◌++◌, length, map, get_or, ◌-◌, Option, Some, IfSome, refl, sym, ap, ◌∙◌, subst, ◌⊎◌, inl, inr, arith}
+use Rattle.std.proofs.Common.{◌≡◌, ◌≤◌, ℕ, ◌+◌, List, [], ◌∷◌, ◌++◌, length, map, get_or, ◌-◌, Option, Some, IfSome, refl, sym, ap, ◌∙◌, subst, inl, inr, arith}
 use Rattle.std.proofs.lemmas.List.{length_push, length-map}
 use Rattle.std.proofs.Math.Seq.{get_or-append_seam}
 use Rattle.dlk_tree.specs.Trees.{Tree}
-use Rattle.dlk_calculus.specs.Places.{at, At}
+use Rattle.dlk_calculus.specs.Places.{at}
 use Rattle.dlk_calculus.specs.Provables.{Provable}
 use Rattle.dlk_calculus.proofs.PlaceLaws.{At_read}
 use Rattle.dlk_grammar.specs.Texts.{FormulaText, FormulaFault, NotBuilt, Syntax}
@@ -14,7 +14,7 @@ use Rattle.dlk_kernel.specs.declared.row.Row.{Row}
 use Rattle.dlk_replay.specs.Files.{file_lines, Verdict, accepted, bad}
 use Rattle.dlk_replay.specs.declared.fault.LineWhy.{LineWhy}
 use Rattle.dlk.specs.Replies.{Reply}
-use Rattle.dlk.specs.Checks.{Checks, bad_model, bad_line, bad_conclusion, reports, proves, judged, reported, other_conclusion, line_refused, IsModelRefused}
+use Rattle.dlk.specs.Checks.{Checks, bad_model, bad_line, bad_conclusion, reports, judged, line_refused, IsModelRefused}
 
 pub model_answer : (model term : List ℕ) (fault : ParseFault) (reply : Reply) → IsFaultOf (FormulaFault model) fault → IsModelRefused fault reply → Checks model term reply
 model_answer model term (parse.NotBuilt at) reply fault is = subst (λ (r : Reply). Checks model term r) (sym is) (bad_model (NotBuilt at) fault)
@@ -63,7 +63,7 @@ judged_answer model term f g reads same rows stands verdict some fact lines fact
     let count = length-map rows stands in
     let f_says : IfSome (at (map stands rows) fact) (judged f lines reply) = subst (λ (t : Tree). IfSome (at (map stands rows) fact) (judged t lines reply)) same says in
     let here : IfSome (at (map stands rows) (length (map stands rows))) (judged f lines reply) =
-          subst (λ (n : ℕ). IfSome (at (map stands rows) n) (judged f lines reply)) (fact_is ∙ sym count) f_says in
+    subst (λ (n : ℕ). IfSome (at (map stands rows) n) (judged f lines reply)) (fact_is ∙ sym count) f_says in
     let there : IfSome (at (map stands rows) (length (map stands rows))) (judged f (length (map stands rows)) reply) =
-          subst (λ (n : ℕ). IfSome (at (map stands rows) (length (map stands rows))) (judged f n reply)) (lines_is ∙ sym count) here in
+    subst (λ (n : ℕ). IfSome (at (map stands rows) (length (map stands rows))) (judged f n reply)) (lines_is ∙ sym count) here in
     end_answer model term f reads (map stands rows) verdict reply (rw count some) there

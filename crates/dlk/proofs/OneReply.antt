@@ -1,16 +1,12 @@
 -- There is one answer to words and files.
 use Rattle.std.proofs.Common.{◌≡◌, ℕ, List, [], ◌∷◌, ◌++◌, length, None, Some, refl, sym, ap, ◌∙◌, subst}
-use Rattle.std.proofs.lemmas.List.{append_cancel_right}
-use Rattle.dlk_tree.specs.Trees.{Tree}
 use Rattle.dlk_calculus.specs.Provables.{Provable}
-use Rattle.dlk_grammar.specs.Texts.{FormulaText}
 use Rattle.dlk_grammar.proofs.TextLaws.{one_formula, formula_or_fault, one_formula_fault}
 use Rattle.dlk_replay.specs.Files.{file_lines, Verdict, Answer, accepted, bad}
 use Rattle.dlk_replay.specs.declared.fault.LineWhy.{LineWhy}
 use Rattle.dlk_replay.proofs.Verdicts.{one_verdict}
 use Rattle.dlk_desk.specs.Outside.{Files}
-use Rattle.dlk.specs.Forms.{Word, command_of, inputs_of, limits_of}
-use Rattle.dlk.specs.Inputs.{bytes_of, first_too_long}
+use Rattle.dlk.specs.Forms.{Word}
 use Rattle.dlk.specs.Replies.{Reply}
 use Rattle.dlk.specs.Checks.{Checks, bad_model, bad_line, bad_conclusion, reports, Accepts, proves, model_refused, line_refused, other_conclusion, reported}
 use Rattle.dlk.specs.Answers.{Does, check, Responds, refuses, does, Answers, no_form, command, too_long}

@@ -1,5 +1,5 @@
 -- Where `closed` is printed, the model is derived from the printed leaves.
-use Rattle.std.proofs.Common.{◌≡◌, ℕ, zero, suc, List, [], ◌∷◌, ◌++◌, take, length, None, Some, codes, decimal, refl, sym, ap, subst, ◌∙◌, append-nil, arith}
+use Rattle.std.proofs.Common.{◌≡◌, ℕ, zero, suc, List, [], ◌∷◌, ◌++◌, take, length, None, Some, codes, refl, sym, subst, ◌∙◌, append-nil, arith}
 use Rattle.std.proofs.lemmas.List.{append_cancel_left}
 use Rattle.dlk_calculus.specs.Sequents.{Sequent}
 use Rattle.dlk_calculus.specs.Provables.{Provable}
@@ -9,12 +9,12 @@ use Rattle.dlk_transfer.specs.Transfer.{GrowsByFront}
 use Rattle.dlk_grammar.specs.Texts.{TextFault, NotBuilt, Syntax}
 use Rattle.dlk_replay.specs.Files.{file_lines}
 use Rattle.dlk_replay.proofs.Verdicts.{accepted_history}
-use Rattle.dlk_report.specs.Reports.{is_closed, line, first_word, text_report}
-use Rattle.dlk.specs.Forms.{Word, command_of, inputs_of}
+use Rattle.dlk_report.specs.Reports.{is_closed, line, first_word}
+use Rattle.dlk.specs.Forms.{Word}
 use Rattle.dlk.specs.declared.command.Command.{Command}
 use Rattle.dlk.specs.declared.command.Command.TheVariants.{Check}
-use Rattle.dlk.specs.Replies.{Reply, refusal}
-use Rattle.dlk.specs.Checks.{Checks, bad_model, bad_line, bad_conclusion, reports, Accepts, proves, model_refused}
+use Rattle.dlk.specs.Replies.{Reply}
+use Rattle.dlk.specs.Checks.{Checks, bad_model, bad_line, bad_conclusion, reports, Accepts, model_refused}
 use Rattle.dlk.specs.Answers.{Does, check, Responds, refuses, does, Answers, no_form, command}
 use Rattle.dlk.specs.Headline.{RunsCheck, IsDerived, ClosedTruly}
 

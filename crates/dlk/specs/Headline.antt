@@ -5,7 +5,7 @@ use Rattle.dlk_calculus.specs.Provables.{Provable}
 use Rattle.dlk_calculus.specs.Steps.{Derives}
 use Rattle.dlk_grammar.specs.Texts.{FormulaText}
 use Rattle.dlk_desk.specs.Outside.{Outside}
-use Rattle.dlk_replay.specs.Files.{Verdict, accepted, bad, file_lines}
+use Rattle.dlk_replay.specs.Files.{Verdict, bad, file_lines}
 use Rattle.dlk_replay.specs.declared.fault.LineWhy.{LineWhy}
 use Rattle.dlk_report.specs.Reports.{text_report}
 use Rattle.dlk.specs.declared.command.Command.TheVariants.{Check}

@@ -1,5 +1,5 @@
 -- The inputs of a command, and which of them is too long.
-use Rattle.std.specs.Prelude.{◌≡◌, ℕ, ◌+◌, List, [], ◌∷◌, ◌++◌, length, nat_lt, take, Option, Some, None, if◌then◌else◌, option_map, option_and_then}
+use Rattle.std.specs.Prelude.{ℕ, ◌+◌, List, [], ◌∷◌, length, nat_lt, take, Option, Some, None, if◌then◌else◌, option_map, option_and_then}
 use Rattle.dlk_desk.specs.Outside.{Files}
 use Rattle.dlk.specs.declared.command.Command.{Command}
 use Rattle.dlk.specs.Forms.{Word, command_of, inputs_of}

@@ -7,8 +7,8 @@ ghost use Rattle.dlk.specs.Answers.{Does, Responds, too_long};
 ghost use Rattle.dlk.specs.Shown.{texts_of, reply_of};
 
 use crate::command::Command;
-use crate::jobs::check::check;
 use crate::fault::NoReply;
+use crate::jobs::check::check;
 use crate::reply::{Reply, Status};
 use dlk_store::Steps;
 use std::alloc::Global;

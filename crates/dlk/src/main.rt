@@ -21,7 +21,6 @@ use std::marker::Brand;
 use std::process::ExitCode;
 use std::sync::ledger::{Blank, Ledger};
 
-
 /// The words of the command line, without the program's name. Where one is not UTF-8 there are none, and so they have no form.
 fn words(rt: &HostRuntime) -> Result<Vec<String>, AllocError> {
     let mut words = Vec::new(rt.alloc());
@@ -52,12 +51,7 @@ fn main(rt: HostRuntime) -> ExitCode {
         return ExitCode::from(NO_MEMORY);
     };
     let mut desk = HostDesk::new(rt, alloc);
-    ExitCode::from(start::<HostDesk<HostRuntime>, Brand>(
-        alloc,
-        &words,
-        &mut desk,
-        Blank::new(1),
-    ))
+    ExitCode::from(start::<HostDesk<HostRuntime>, Brand>(alloc, &words, &mut desk, Blank::new(1)))
 }
 
 #[cfg(test)]

@@ -13,7 +13,8 @@ use std::marker::Brand;
 use std::sync::ledger::{Blank, Ledger};
 use std::test::Fail;
 
-const TERM: &str = "1 start ==> x>=0 -> x>=0\n2 apply 1 1 implyR(1)\n3 apply 2 1 close(1,1)\ndone\n";
+const TERM: &str =
+    "1 start ==> x>=0 -> x>=0\n2 apply 1 1 implyR(1)\n3 apply 2 1 close(1,1)\ndone\n";
 
 fn words_of(alloc: Global, texts: &[&str]) -> Result<Vec<String>, AllocError> {
     let mut words = Vec::new(alloc);
@@ -207,7 +208,10 @@ fn refuses_models(rt: HostRuntime) -> Result<(), Fail> {
     for byte in 128..=255u8 {
         let (status, desk) = checked(alloc, &[b'x', byte], TERM.as_bytes())?;
         assert_eq!(rt; status, 2, "{byte}");
-        assert_eq!(rt; desk.printed(), b"refused: model at 1: not-built\n".as_slice());
+        assert_eq!(rt;
+            desk.printed(),
+            b"refused: model at 1: not-built\n".as_slice()
+        );
         let (status, desk) = checked(alloc, b"x>=0", &[byte])?;
         assert_eq!(rt; status, 2, "{byte}");
         assert_eq!(rt; desk.printed(), b"refused: line 1: Malformed\n".as_slice());
@@ -246,9 +250,17 @@ fn tells_faults_of_the_outside(rt: HostRuntime) -> Result<(), Fail> {
         (&[].as_slice(), 3, "refused: words\n"),
         (&["check"].as_slice(), 3, "refused: words\n"),
         (&["check", "model"].as_slice(), 3, "refused: words\n"),
-        (&["check", "model", "term", "more"].as_slice(), 3, "refused: words\n"),
+        (
+            &["check", "model", "term", "more"].as_slice(),
+            3,
+            "refused: words\n",
+        ),
         (&["--help"].as_slice(), 3, "refused: words\n"),
-        (&["prove", "model", "term"].as_slice(), 3, "refused: words\n"),
+        (
+            &["prove", "model", "term"].as_slice(),
+            3,
+            "refused: words\n",
+        ),
         (&["check", "nothing", "term"].as_slice(), 4, ""),
         (&["check", "model", "nothing"].as_slice(), 4, ""),
     ] {
@@ -267,7 +279,11 @@ fn tells_faults_of_the_outside(rt: HostRuntime) -> Result<(), Fail> {
         (11, 5, "open\nco"),
     ] {
         let mut desk = desk_of(alloc, b"x>=0", b"1 start ==> x>=0\ndone\n", 7, &[call])?;
-        assert_eq!(rt; status_of(alloc, &["check", "model", "term"], &mut desk)?, status, "call {call}");
+        assert_eq!(rt;
+            status_of(alloc, &["check", "model", "term"], &mut desk)?,
+            status,
+            "call {call}"
+        );
         assert_eq!(rt; desk.printed(), printed.as_bytes(), "call {call}");
     }
     Ok(())
@@ -287,13 +303,21 @@ fn stepped_back<L: Ledger>(alloc: Global, blank: Blank) -> Option<[u32; 4]>
     kernel.step(alloc, &Step::Start(sequent), &mut steps).ok()?;
     let rows = kernel.rows();
     kernel.release(mark);
-    Some([kernel.size(formula), kernel.depth(formula), rows, kernel.rows()])
+    Some([
+        kernel.size(formula),
+        kernel.depth(formula),
+        rows,
+        kernel.rows(),
+    ])
 }
 
 #[test]
 fn goes_back_and_writes(rt: HostRuntime) -> Result<(), Fail> {
     let alloc = rt.alloc();
-    assert_eq!(rt; stepped_back::<Brand>(alloc, Blank::new(1)), Some([7, 3, 1, 0]));
+    assert_eq!(rt;
+        stepped_back::<Brand>(alloc, Blank::new(1)),
+        Some([7, 3, 1, 0])
+    );
     let mut desk = desk_of(alloc, b"", b"", 3, &[])?;
     assert!(rt; write_all(&mut desk, "new", b"some bytes").is_ok());
     assert_eq!(rt; desk.file("new"), Some(b"some bytes".as_slice()));

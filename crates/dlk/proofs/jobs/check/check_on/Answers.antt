@@ -3,9 +3,6 @@ use Rattle.std.proofs.lemmas.Result.{IfOk-weaker}
 use Rattle.dlk_calculus.specs.Places.{at}
 use Rattle.dlk_store.specs.Stores.{tree}
 use Rattle.dlk_kernel.specs.Kernel.{facts, provable_at}
-use Rattle.dlk_parse.specs.Faults.{IsFaultOf}
-use Rattle.dlk_replay.specs.Files.{file_lines}
-use Rattle.dlk_replay.specs.Replay as replay
 use Rattle.dlk.specs.Checks.{Checks, IsModelRefused, judged, line_refused}
 use Rattle.dlk.specs.Shown.{reply_of}
 use Rattle.dlk.proofs.Judging.{model_answer, line_answer, judged_answer}

@@ -1,7 +1,6 @@
-use Rattle.std.proofs.Common.{◌≡◌, ap, ◌∙◌}
+use Rattle.std.proofs.Common.{ap, ◌∙◌}
 use Rattle.dlk_store.specs.Stores.{tree}
 use Rattle.dlk_sequent.specs.Sequents.{sequent_at}
-use Rattle.dlk_grammar.specs.Shown.{spell, shown_sequent}
 use Rattle.dlk.proofs.ConclusionText.{proved_at, conclusion_reply}
 use Rattle.dlk.proofs.jobs.check.refuse_conclusion.Goals as goal
 
