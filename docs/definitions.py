@@ -1,0 +1,442 @@
+#!/usr/bin/env python3
+"""Prints docs/DEFINITIONS.md: each definition that the contract of `run` rests on, in reading order.
+
+    python3 docs/definitions.py > /tmp/DEFINITIONS.md    prints the document
+    python3 docs/definitions.py --check                  exits 1 where docs/DEFINITIONS.md is not that document
+
+From the names that the contract of `run` cites it follows every word through the files of `specs/`. What is reached
+becomes the rows of the document, with the lines counted. `definitions.json` says the rest: the sections in reading
+order, the sources, and what a definition says where the comment above it doesn't do.
+
+It stops where a definition is reached that no section lists, and where one is listed out of reading order or not
+reached.
+"""
+
+import argparse
+import json
+import re
+import sys
+from dataclasses import dataclass
+from pathlib import Path
+from typing import NamedTuple
+
+ROOT = Path(__file__).resolve().parent.parent
+DATA = ROOT / "docs" / "definitions.json"
+DOCUMENT = ROOT / "docs" / "DEFINITIONS.md"
+
+# The crate whose `src/run.rt` has the contract, and whose `specs/` has the names where the walk starts.
+PROGRAM = "dlk"
+
+# The toolchain's library: words from it are followed no further.
+LIBRARY = "std"
+
+# Paths with this front are types of the code.
+DECLARED = "declared."
+
+IMPORT = re.compile(r"^use Rattle\.(\w+)\.specs\.([\w.]+?)(?:\.\{(.*)\}| as (\S+))$", re.MULTILINE)
+TYPE_NAME = re.compile(r"^\s*(?:abbrev )?(?:pub )?(?:data|record) (\S+)")
+FUNCTION_NAME = re.compile(r"^abbrev (?:pub )?(\S+) :")
+MUTUAL_FUNCTION_NAME = re.compile(r"^\s+pub (\S+) :")
+CONSTRUCTOR_NAME = re.compile(r"^\s+(\S+) :")
+WORD = re.compile(r"[^\s(){}\[\];,:]+")
+
+
+class Reference(NamedTuple):
+    """A name in a file of definitions or among the types of the code, by its path under `specs`."""
+
+    crate: str
+    path: str
+    name: str
+
+    def file(self):
+        """The file of definitions, without its ending."""
+        return self.path.replace(".", "/")
+
+    def rust_type(self):
+        """The name of the type of the code: of it, or of the type that has it as a variant."""
+        parts = self.path.split(".")[1:]
+        return [part for part in parts if part[0].isupper() and part != "TheVariants"][-1]
+
+
+@dataclass(frozen=True)
+class Definition:
+    """One definition, or several that use each other, with the lines of its code and the comment above it."""
+
+    crate: str
+    file: str
+    names: tuple
+    code: tuple
+    comment: str
+
+    def body(self):
+        """The code without comments."""
+        return "\n".join(re.sub(r"--.*", "", line) for line in self.code)
+
+    def constructors(self):
+        """The names of its cases, where it has a `data`."""
+        if not re.search(r"\bdata\b", self.body()):
+            return []
+        return [found.group(1) for found in map(CONSTRUCTOR_NAME.match, self.code) if found]
+
+
+@dataclass(frozen=True)
+class SpecFile:
+    """A file of `specs/`: its definitions in order and by name, its imported names and its names of modules."""
+
+    definitions: list
+    by_name: dict
+    imports: dict
+    modules: dict
+
+
+def stop(message):
+    """Ends the program with a message."""
+    sys.exit(f"definitions.py: {message}")
+
+
+def spec_path(crate, file):
+    """Where a file of definitions stands, from the root."""
+    return f"crates/{crate}/specs/{file}.antt"
+
+
+def read(path):
+    """The text of a file, by its path from the root."""
+    if not (ROOT / path).is_file():
+        stop(f"there is no {path}")
+    return (ROOT / path).read_text(encoding="utf-8")
+
+
+# Reading a file of definitions
+
+
+def paragraphs(text):
+    """The lines between empty lines. An empty line before an indented one ends no paragraph."""
+    lines = text.split("\n")
+    found, current = [], []
+    for number, line in enumerate(lines):
+        following = next((later for later in lines[number + 1:] if later.strip()), "")
+        if line.strip() or following.startswith(" "):
+            current.append(line)
+        elif current:
+            found.append(current)
+            current = []
+    return found + [current] if current else found
+
+
+def is_code(line):
+    """Whether a line counts: no comment, no import, not empty."""
+    return bool(line.strip()) and not line.strip().startswith("--") and not line.startswith("use ")
+
+
+def defined_names(code):
+    """The names that a paragraph defines: its types and functions."""
+    is_mutual = code[0].startswith(("abbrev mutual", "mutual"))
+    function_name = MUTUAL_FUNCTION_NAME if is_mutual else FUNCTION_NAME
+    found = [TYPE_NAME.match(line) or function_name.match(line) for line in code]
+    return tuple(match.group(1) for match in found if match)
+
+
+def comment_above(paragraph):
+    """The comment in front of a definition. One above imports is that of the file."""
+    comment = []
+    for line in paragraph:
+        if line.startswith("--"):
+            comment.append(line[2:].strip())
+        elif line.startswith("use "):
+            comment = []
+        else:
+            break
+    return " ".join(comment)
+
+
+def imports_of(text):
+    """What a file imports: its names, and its names of whole modules with their crates and paths."""
+    imports, modules = {}, {}
+    for crate, path, names, alias in IMPORT.findall(text):
+        if alias:
+            modules[alias] = (crate, path)
+        for item in re.split(r",\s*", names) if names else []:
+            name, _, new_name = (part.strip() for part in item.partition(" as "))
+            imports[new_name or name] = Reference(crate, path, name)
+    return imports, modules
+
+
+def read_spec_file(crate, file):
+    """Reads a file of definitions."""
+    text = read(spec_path(crate, file))
+    definitions, by_name = [], {}
+    for paragraph in paragraphs(text):
+        code = tuple(line for line in paragraph if is_code(line))
+        if not code:
+            continue
+        definition = Definition(crate, file, defined_names(code), code, comment_above(paragraph))
+        definitions.append(definition)
+        by_name.update((name, definition) for name in definition.names)
+        for name in definition.constructors():
+            by_name.setdefault(name, definition)
+    return SpecFile(definitions, by_name, *imports_of(text))
+
+
+# Following the words
+
+
+class Walk:
+    """All that is reached from some names: definitions with what they refer to, and types of the code."""
+
+    def __init__(self, starts):
+        """Follows the words from these references on, each definition once."""
+        self.spec_files = {}
+        self.references = {}
+        self.rust_types = set()
+        pending = list(starts)
+        while pending:
+            pending += self.visit(pending.pop())
+
+    def spec_file(self, crate, file):
+        """A file of definitions, read once."""
+        if (crate, file) not in self.spec_files:
+            self.spec_files[crate, file] = read_spec_file(crate, file)
+        return self.spec_files[crate, file]
+
+    def visit(self, reference):
+        """Notes what is referred to, and answers what that refers to in turn, where it is new."""
+        if reference.path.startswith(DECLARED):
+            self.rust_types.add((reference.crate, reference.rust_type()))
+            return []
+        spec_file = self.spec_file(reference.crate, reference.file())
+        definition = spec_file.by_name.get(reference.name)
+        if definition is None:
+            stop(f"{spec_path(reference.crate, reference.file())} has no definition of {reference.name}")
+        if definition in self.references:
+            return []
+        self.references[definition] = references_of(definition, spec_file)
+        return self.references[definition]
+
+    def reached_in(self, section):
+        """The definitions of a section's file that are reached, in the order of the file."""
+        definitions = self.spec_file(section["crate"], section["file"]).definitions
+        return [definition for definition in definitions if definition in self.references]
+
+
+def references_of(definition, spec_file):
+    """What the words of a definition refer to, outside the library."""
+    found = [reference_of(word, definition, spec_file) for word in sorted(set(WORD.findall(definition.body())))]
+    return [reference for reference in found if reference and reference.crate != LIBRARY]
+
+
+def reference_of(word, definition, spec_file):
+    """What a word in a definition refers to: something of the same file, an imported name, or one in a module."""
+    if word in spec_file.by_name:
+        return Reference(definition.crate, definition.file, word)
+    if word in spec_file.imports:
+        return spec_file.imports[word]
+    module, _, name = word.partition(".")
+    return Reference(*spec_file.modules[module], name) if module in spec_file.modules else None
+
+
+def starts_of(data):
+    """The names where the walk starts. The contract of `run` must cite each."""
+    run = f"crates/{PROGRAM}/src/run.rt"
+    cited = set(re.findall(r"\w+", read(run)))
+    starts = [Reference(PROGRAM, start["file"], name) for start in data["starts"] for name in start["names"]]
+    for start in starts:
+        if start.name not in cited:
+            stop(f"{run} does not cite {start.name}, which definitions.json has among its starts")
+    return starts
+
+
+# What definitions.json lists in a section
+
+
+def types_of(section):
+    """The types of the code that a section lists."""
+    return section.get("types", [])
+
+
+def other_sources_of(section):
+    """The definitions of a section whose source is not that of the section, with their sources."""
+    groups = section.get("other_sources", {})
+    return {name: source for source, names in groups.items() for name in names}
+
+
+def is_named(rust_type):
+    """Whether definitions name a type of the code. A model and a member of a trait are seen without their names."""
+    return rust_type["start"].startswith("pub ")
+
+
+# The checks
+
+
+def check_all_listed(walk, sections):
+    """Stops where something is reached that no section lists."""
+    listed_files = {(section["crate"], section["file"]) for section in sections}
+    for definition in walk.references:
+        if (definition.crate, definition.file) not in listed_files:
+            place = spec_path(definition.crate, definition.file)
+            stop(f"{definition.names[0]} is reached, but no section lists {place}")
+    listed_types = {(section["crate"], rust_type["name"]) for section in sections for rust_type in types_of(section)}
+    for crate, name in sorted(walk.rust_types - listed_types):
+        stop(f"the type {name} of {crate} is reached, but no section lists it")
+
+
+def check_all_reached(walk, sections):
+    """Stops where something is listed that is not reached."""
+    for section in sections:
+        place = spec_path(section["crate"], section["file"])
+        reached = {definition.names[0] for definition in walk.reached_in(section)}
+        if not reached:
+            stop(f"a section lists {place}, but nothing of it is reached")
+        listed = [*section.get("sayings", {}), *other_sources_of(section)]
+        for name in listed:
+            if name not in reached:
+                stop(f"the section of {place} lists {name}, which is not reached")
+        for rust_type in types_of(section):
+            if is_named(rust_type) and (section["crate"], rust_type["name"]) not in walk.rust_types:
+                stop(f"the section of {place} lists the type {rust_type['name']}, which is not reached")
+
+
+def check_reading_order(walk, sections):
+    """Stops where a definition refers to something of a later section."""
+    places = {(section["crate"], section["file"]): number for number, section in enumerate(sections)}
+    for number, section in enumerate(sections):
+        places.update({(section["crate"], "type", rust_type["name"]): number for rust_type in types_of(section)})
+    for definition, references in walk.references.items():
+        for reference in references:
+            if reference.path.startswith(DECLARED):
+                used = (reference.crate, "type", reference.rust_type())
+            else:
+                used = (reference.crate, reference.file())
+            if places[used] > places[definition.crate, definition.file]:
+                place = spec_path(definition.crate, definition.file)
+                stop(f"{definition.names[0]} of {place} uses {reference.name}, which is listed in a later section")
+
+
+# The document
+
+
+def type_label(rust_type):
+    """The name of a type of the code, or of a member of a trait, with its file."""
+    front = f"`{rust_type['trait']}`: " if "trait" in rust_type else ""
+    return f"{front}`{rust_type['name']}` in `src/{rust_type['file']}`"
+
+
+def type_lines(crate, rust_type):
+    """How many lines a type of the code has, without documents and attributes."""
+    path = f"crates/{crate}/src/{rust_type['file']}"
+    lines = read(path).split("\n")
+    starts = [number for number, line in enumerate(lines) if line.strip().startswith(rust_type["start"])]
+    if not starts:
+        stop(f"{path} has no line that starts with: {rust_type['start']}")
+    is_member = "trait" in rust_type
+    count = 0
+    for line in lines[starts[0]:]:
+        code = line.strip()
+        if code and not code.startswith(("//", "#[", "ghost use")):
+            count += 1
+        if line.startswith("}") or (is_member and code.endswith("};")):
+            break
+    return count
+
+
+def saying_of(definition, section):
+    """What a definition says: the section's words, or else the comment above it."""
+    name = definition.names[0]
+    saying = section.get("sayings", {}).get(name) or comment_saying(definition)
+    if not saying:
+        place = spec_path(definition.crate, definition.file)
+        stop(f"{name} of {place} has no comment, and definitions.json does not say what it says")
+    return saying.replace("|", "\\|")
+
+
+def comment_saying(definition):
+    """The comment above a definition as the cell of a table: without its statement in front, and as no sentence."""
+    comment = definition.comment
+    if comment.startswith(definition.names[0] + " "):
+        comment = re.sub(r"^(\w+)( \w+)*: (?=\w)", "", comment)
+    return comment[:1].lower() + comment[1:].rstrip(".")
+
+
+def rows_of(section, walk):
+    """The rows of a section: what is defined, what it says, its source, and its lines."""
+    rows = []
+    for rust_type in types_of(section):
+        lines = type_lines(section["crate"], rust_type)
+        rows.append((type_label(rust_type), rust_type["says"], rust_type["source"], lines))
+    other_sources = other_sources_of(section)
+    for definition in walk.reached_in(section):
+        label = ", ".join(f"`{name}`" for name in definition.names)
+        source = other_sources.get(definition.names[0], section["source"])
+        rows.append((label, saying_of(definition, section), source, len(definition.code)))
+    return rows
+
+
+def table(header, rows):
+    """The lines of a table."""
+    cells = [header, *rows]
+    lines = ["| " + " | ".join(str(cell) for cell in row) + " |" for row in cells]
+    return [lines[0], "|" + "---|" * len(header), *lines[1:]]
+
+
+def section_lines(number, section, rows):
+    """The lines of a section, with an empty line in front."""
+    place = spec_path(section["crate"], section["file"])
+    heading = ["", f"## {number}. {section['title']}", "", f"`{place}`. {section['introduction']}", ""]
+    return heading + table(("Definition", "It says", "Source", "Lines"), rows)
+
+
+def front_lines(data, count, lines):
+    """The lines before the first section."""
+    front = ["# Definitions"]
+    for paragraph in data["before_sources"]:
+        front += ["", paragraph.format(count=count, lines=lines)]
+    front += ["", *table(("Source", "It is"), data["sources"].items())]
+    for paragraph in data["after_sources"]:
+        front += ["", paragraph]
+    return front
+
+
+def document(data):
+    """The text of docs/DEFINITIONS.md."""
+    sections = data["sections"]
+    walk = Walk(starts_of(data))
+    check_all_listed(walk, sections)
+    check_all_reached(walk, sections)
+    check_reading_order(walk, sections)
+    rows_by_section = [rows_of(section, walk) for section in sections]
+    rows = [row for section_rows in rows_by_section for row in section_rows]
+    lines = front_lines(data, len(rows), sum(row[-1] for row in rows))
+    for number, section in enumerate(sections, 1):
+        lines += section_lines(number, section, rows_by_section[number - 1])
+    return "\n".join(lines) + "\n"
+
+
+def first_difference(one, other):
+    """The number of the first line in which two texts differ."""
+    one_lines, other_lines = one.split("\n"), other.split("\n")
+    pairs = enumerate(zip(one_lines, other_lines), 1)
+    return next((number for number, (left, right) in pairs if left != right), min(len(one_lines), len(other_lines)) + 1)
+
+
+def check_document(text):
+    """Stops where docs/DEFINITIONS.md is not this text."""
+    if not DOCUMENT.is_file():
+        stop("there is no docs/DEFINITIONS.md")
+    if DOCUMENT.read_bytes() != text.encode("utf-8"):
+        number = first_difference(DOCUMENT.read_bytes().decode("utf-8", "replace"), text)
+        stop(f"docs/DEFINITIONS.md differs from what docs/definitions.py prints, first in line {number}")
+
+
+def main():
+    """Prints the document, or compares it."""
+    parser = argparse.ArgumentParser(description="Prints docs/DEFINITIONS.md.")
+    parser.add_argument("--check", action="store_true", help="compare with docs/DEFINITIONS.md; exit 1 if they differ")
+    arguments = parser.parse_args()
+    text = document(json.loads(DATA.read_text(encoding="utf-8")))
+    if arguments.check:
+        check_document(text)
+    else:
+        sys.stdout.buffer.write(text.encode("utf-8"))
+
+
+if __name__ == "__main__":
+    main()
