@@ -21,7 +21,7 @@ pub record Asks (words : List Word) (status : ℕ) (old new : Outside) : Type 0 
   pub all : IsSome (command_of words) → status < 3 → new.asked ≡ old.asked ++ inputs words
 
 -- No file is changed, and with a read fault or for want of memory nothing is printed.
-pub record Keeps (status : ℕ) (old new : Outside) : Type 0 where
+pub record KeepsFiles (status : ℕ) (old new : Outside) : Type 0 where
   pub files : SameFiles old.files new.files
   pub silent : (status ≡ 4) ⊎ (status ≡ 6) → new.printed ≡ old.printed
 
@@ -30,7 +30,7 @@ abbrev pub HasInputs : List Word → Outside → Type 0
 HasInputs words old = IsSome (bytes_of old.files (inputs words))
 
 -- this is the answer, and it was given whole
-pub record Gives (words : List Word) (status : ℕ) (old new : Outside) (reply : Reply) : Type 0 where
+pub record GivesWhole (words : List Word) (status : ℕ) (old new : Outside) (reply : Reply) : Type 0 where
   pub answer : Answers words old.files reply
   pub status_is : status ≡ code_of reply.status
   pub printed : new.printed ≡ old.printed ++ reply.printed
@@ -43,10 +43,10 @@ pub record BreaksOff (words : List Word) (old new : Outside) (reply : Reply) : T
 -- The answer is given; or a read failed; or printing the answer failed; or memory ran out.
 abbrev pub Answered : List Word → ℕ → Outside → Outside → Type 0
 Answered words status old new =
-    ((reply : Reply) × Gives words status old new reply) ⊎ (status ≡ 4) ⊎ ((status ≡ 5) × ((reply : Reply) × BreaksOff words old new reply)) ⊎ (status ≡ 6)
+    ((reply : Reply) × GivesWhole words status old new reply) ⊎ (status ≡ 4) ⊎ ((status ≡ 5) × ((reply : Reply) × BreaksOff words old new reply)) ⊎ (status ≡ 6)
 
 -- Where no count rose, the answer is given, or memory ran out.
 abbrev pub Completes : List Word → ℕ → Outside → Outside → Type 0
 Completes words status old new =
     (¬ Rose old.read_faults new.read_faults) → (¬ Rose old.write_faults new.write_faults) →
-    ((reply : Reply) × Gives words status old new reply) ⊎ (status ≡ 6)
+    ((reply : Reply) × GivesWhole words status old new reply) ⊎ (status ≡ 6)

@@ -8,7 +8,7 @@ ghost use Rattle.dlk.specs.Forms.{command_of};
 ghost use Rattle.dlk.specs.Inputs.{cut_bytes_of, inputs as inputs_named};
 ghost use Rattle.dlk.specs.Replies.{code_of};
 ghost use Rattle.dlk.specs.Answers.{Answers};
-ghost use Rattle.dlk.specs.Runs.{Caused, Asks, Keeps, HasInputs, Answered, Completes};
+ghost use Rattle.dlk.specs.Runs.{Caused, Asks, KeepsFiles, HasInputs, Answered, Completes};
 ghost use Rattle.dlk.specs.Headline.{ClosedTruly, JudgesTruly};
 ghost use Rattle.dlk.specs.Shown.{texts_of, reply_of};
 
@@ -98,7 +98,7 @@ pub fn run<D: Desk, L: Ledger>(
     // On every desk: what is asked for are the inputs of the words in their order.
     ensures asks { Asks (map string_bytes words.now) result (D.outside desk.old) (D.outside desk.new) }
     // No file is changed, and with a read fault or for want of memory nothing is printed.
-    ensures keeps { D.tells → Keeps result (D.outside desk.old) (D.outside desk.new) }
+    ensures keeps { D.tells → KeepsFiles result (D.outside desk.old) (D.outside desk.new) }
     // Where an input is missing: a read fault, or want of memory.
     ensures lacks { D.tells → (HasInputs (map string_bytes words.now) (D.outside desk.old) → ⊥) → (result ≡ 4) ⊎ (result ≡ 6) }
     // Where the inputs are there: the answer, or a fault, or want of memory.

@@ -8,6 +8,7 @@ use dlk_parse::{read_formula, read_sequent};
 use dlk_plain::PlainStore;
 use dlk_store::{Steps, Store};
 use dlk_transfer::write_all;
+use dlk_tree::{Items, Kind, Name, OdeItem, Op, Sym, Var, same_op};
 use std::alloc::{AllocError, Global};
 use std::marker::Brand;
 use std::sync::ledger::{Blank, Ledger};
@@ -321,5 +322,31 @@ fn goes_back_and_writes(rt: HostRuntime) -> Result<(), Fail> {
     let mut desk = desk_of(alloc, b"", b"", 3, &[])?;
     assert!(rt; write_all(&mut desk, "new", b"some bytes").is_ok());
     assert_eq!(rt; desk.file("new"), Some(b"some bytes".as_slice()));
+    Ok(())
+}
+
+/// Whether copies of a system, with a variable and a constant that does not change it, and of a variable are the same.
+fn copies_are_same(alloc: Global) -> Option<bool> {
+    let x = Name::new(alloc, b"x").ok()?;
+    let constant = Sym {
+        kind: Kind::Ode,
+        name: Name::new(alloc, b"c").ok()?,
+        arity: 0,
+        taboo: Some(x.clone().ok()?),
+    };
+    let primed = Op::Variable(Var {
+        name: x.clone().ok()?,
+        primed: true,
+    });
+    let mut items = Vec::new(alloc);
+    items.push(OdeItem::Evolve(x)).ok()?;
+    items.push(OdeItem::Const(constant)).ok()?;
+    let system = Op::System(Items::new(items));
+    Some(same_op(&system, &system.clone().ok()?) && same_op(&primed, &primed.clone().ok()?))
+}
+
+#[test]
+fn copies_operators(rt: HostRuntime) -> Result<(), Fail> {
+    assert_eq!(rt; copies_are_same(rt.alloc()), Some(true));
     Ok(())
 }

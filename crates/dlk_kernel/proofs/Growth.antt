@@ -12,7 +12,7 @@ use Rattle.dlk_calculus.proofs.Histories.{History-derives, History-more, History
 use Rattle.dlk_sequent.specs.Sequents.{IsKnown}
 use Rattle.dlk_sequent.proofs.Kept.{map-agree, sequent-kept, sequents-kept, IsKnown-kept}
 use Rattle.dlk_kernel.specs.declared.row.Row.{Row}
-use Rattle.dlk_kernel.specs.Kernel.{State, provable_at, provables_at, IsKnownRow, IsSound, SameRows, ExtendsRows}
+use Rattle.dlk_kernel.specs.Kernel.{State, provable_at, provables_at, IsKnownRow, AreSoundRows, SameRows, ExtendsRows}
 
 module _ (old new : List Tree) (keeps : Keeps old new) where
   provable_kept : (row : Row) → IsKnownRow old row → provable_at new row ≡ provable_at old row
@@ -34,7 +34,7 @@ module _ (old new : List Tree) (keeps : Keeps old new) where
   provables_kept rows h =
       map-agree (provable_at new) (provable_at old) rows (All-weaker (IsKnownRow old) (λ row. provable_at new row ≡ provable_at old row) provable_kept rows h)
 
-  pub sound_kept : (rows : List Row) → IsSound old rows → IsSound new rows
+  pub sound_kept : (rows : List Row) → AreSoundRows old rows → AreSoundRows new rows
   sound_kept rows h = record {
     known = All-weaker (IsKnownRow old) (IsKnownRow new) row_kept rows h.known;
     history = subst History (sym (provables_kept rows h.known)) h.history;
@@ -42,11 +42,11 @@ module _ (old new : List Tree) (keeps : Keeps old new) where
   }
 
   -- a row that a step gives comes last
-  module _ (rows after : List Row) (row : Row) (sound : IsSound old rows) (step : Step) (given : Gives (provables_at old rows) step (provable_at new row)) (added : after ≡ rows ++ row ∷ []) where
+  module _ (rows after : List Row) (row : Row) (sound : AreSoundRows old rows) (step : Step) (given : Gives (provables_at old rows) step (provable_at new row)) (added : after ≡ rows ++ row ∷ []) where
     after_is : provables_at new after ≡ provables_at old rows ++ provable_at new row ∷ []
     after_is = rw (added, map-append (provable_at new) rows (row ∷ []), provables_kept rows sound.known)
 
-    pub sound_more : IsKnownRow new row → length after < 2 ^ 32 → IsSound new after
+    pub sound_more : IsKnownRow new row → length after < 2 ^ 32 → AreSoundRows new after
     sound_more known few = record {
       known = rw added (All-push (IsKnownRow new) rows row (sound_kept rows sound).known known);
       history = subst History (sym after_is) (History-more (provables_at old rows) step (provable_at new row) sound.history given);
@@ -56,11 +56,11 @@ module _ (old new : List Tree) (keeps : Keeps old new) where
     pub adds : Adds (provables_at old rows) step (provables_at new after)
     adds = record { provable = provable_at new row; is_its = StepOf-given (provables_at old rows) step (provable_at new row) given; after_is = after_is }
 
-pub all_derived : (trees : List Tree) (rows : List Row) → IsSound trees rows → All Derives (provables_at trees rows)
+pub all_derived : (trees : List Tree) (rows : List Row) → AreSoundRows trees rows → All Derives (provables_at trees rows)
 all_derived trees rows h = History-derives (provables_at trees rows) h.history
 
 -- the first rows are sound too
-pub sound_take : (trees : List Tree) (n : ℕ) (rows : List Row) → IsSound trees rows → IsSound trees (take n rows)
+pub sound_take : (trees : List Tree) (n : ℕ) (rows : List Row) → AreSoundRows trees rows → AreSoundRows trees (take n rows)
 sound_take trees n rows h = record {
   known = All-take (IsKnownRow trees) n rows h.known;
   history = subst History (take-map (provable_at trees) n rows) (History-take n (provables_at trees rows) h.history);
@@ -68,14 +68,14 @@ sound_take trees n rows h = record {
 }
 
 -- rows that stay, over a store that has grown
-pub same_rows : {S : Type 0} (trees : S → List Tree) (old new : State S) → Keeps (trees old.store) (trees new.store) → IsSound (trees old.store) old.rows → new.rows ≡ old.rows → SameRows trees old new
+pub same_rows : {S : Type 0} (trees : S → List Tree) (old new : State S) → Keeps (trees old.store) (trees new.store) → AreSoundRows (trees old.store) old.rows → new.rows ≡ old.rows → SameRows trees old new
 same_rows trees old new keeps sound e = record {
   ids = e;
   provables = ap (provables_at (trees new.store)) e ∙ provables_kept (trees old.store) (trees new.store) keeps old.rows sound.known;
 }
 
 -- rows with more after them, over a store that has grown
-pub extends_rows : {S : Type 0} (trees : S → List Tree) (old new : State S) (more : List Row) → Keeps (trees old.store) (trees new.store) → IsSound (trees old.store) old.rows →
+pub extends_rows : {S : Type 0} (trees : S → List Tree) (old new : State S) (more : List Row) → Keeps (trees old.store) (trees new.store) → AreSoundRows (trees old.store) old.rows →
     new.rows ≡ old.rows ++ more → ExtendsRows trees old new
 extends_rows trees old new more keeps sound e =
     let front : take (length old.rows) new.rows ≡ old.rows = ap (take (length old.rows)) e ∙ take-append_seam old.rows more in

@@ -34,7 +34,7 @@ pub record IsKnownRow (trees : List Tree) (row : Row) : Type 0 where
   pub leaves : All (IsKnown trees) row.leaves
 
 -- what the type keeps: the rows' ids are known, each row is given by a step from those before it, and their numbers fit
-pub record IsSound (trees : List Tree) (rows : List Row) : Type 0 where
+pub record AreSoundRows (trees : List Tree) (rows : List Row) : Type 0 where
   pub known : All (IsKnownRow trees) rows
   pub history : History (provables_at trees rows)
   pub few : length rows < 2 ^ 32

@@ -9,6 +9,9 @@ use std::alloc::Global;
 use std::marker::Model;
 use std::sync::ledger::Ledger;
 
+/// The number of a row, from 1 on.
+pub type Fact = u32;
+
 /// A row past this many has no number.
 const MAX_ROWS: usize = u32::MAX as usize;
 
@@ -23,13 +26,13 @@ pub struct Kernel<S: Store> {
 }
 
 impl<S: Store> Model for Kernel<S> {
-    ghost use Rattle.dlk_kernel.specs.Kernel.{State, IsSound};
+    ghost use Rattle.dlk_kernel.specs.Kernel.{State, AreSoundRows};
 
     ghost Value = { State S };
 
     ghost view = { λ k. record { store = k.store; rows = k.rows.items } };
 
-    ghost invariant = { λ k. IsSound (S.trees k.store) k.rows.items };
+    ghost invariant = { λ k. AreSoundRows (S.trees k.store) k.rows.items };
 }
 
 impl<S: Store> Kernel<S> {
@@ -63,7 +66,7 @@ impl<S: Store> Kernel<S> {
     }
 
     /// The row of a fact.
-    fn row(&self, fact: u32) -> &Row
+    fn row(&self, fact: Fact) -> &Row
         requires { IsPlace self.now.rows fact }
         ensures fact { at (facts S.trees self.now) fact ≡ Some (provable_at (S.trees self.now.store) result.now) }
         ensures known { IsKnownRow (S.trees self.now.store) result.now }
@@ -74,7 +77,7 @@ impl<S: Store> Kernel<S> {
     }
 
     /// The conclusion of a fact, which is a row's number from 1 to `rows()`: a sequent of formulas.
-    pub fn conclusion(&self, fact: u32) -> &Sequent
+    pub fn conclusion(&self, fact: Fact) -> &Sequent
         requires { IsPlace self.now.rows fact }
         ensures conclusion { option_map (λ p. p.conclusion) (at (facts S.trees self.now) fact) ≡ Some (sequent_at (S.trees self.now.store) result.now) }
         ensures derived { IfSome (at (facts S.trees self.now) fact) Derives }
@@ -85,7 +88,7 @@ impl<S: Store> Kernel<S> {
     }
 
     /// The goals of a fact, which is a row's number from 1 to `rows()`: the sequents that are left to be proved.
-    pub fn goals(&self, fact: u32) -> &[Sequent]
+    pub fn goals(&self, fact: Fact) -> &[Sequent]
         requires { IsPlace self.now.rows fact }
         ensures goals { option_map (λ p. p.goals) (at (facts S.trees self.now) fact) ≡ Some (map (sequent_at (S.trees self.now.store)) result.now) }
         ensures derived { IfSome (at (facts S.trees self.now) fact) Derives }
@@ -96,7 +99,7 @@ impl<S: Store> Kernel<S> {
     }
 
     /// The leaves of a fact, which is a row's number from 1 to `rows()`: the facts of arithmetic that it rests on.
-    pub fn leaves(&self, fact: u32) -> &[Sequent]
+    pub fn leaves(&self, fact: Fact) -> &[Sequent]
         requires { IsPlace self.now.rows fact }
         ensures leaves { option_map (λ p. p.leaves) (at (facts S.trees self.now) fact) ≡ Some (map (sequent_at (S.trees self.now.store)) result.now) }
         ensures derived { IfSome (at (facts S.trees self.now) fact) Derives }
@@ -118,7 +121,7 @@ impl<S: Store> Kernel<S> {
         alloc: Global,
         step: &Step,
         steps: &mut Steps<L>,
-    ) -> Result<u32, StepFault>
+    ) -> Result<Fact, StepFault>
         requires known { HasKnownIds (S.trees self.old.store) step.now }
         requires formulas { StartsFormulas (S.trees self.old.store) step.now }
 

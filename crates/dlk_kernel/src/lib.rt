@@ -9,4 +9,4 @@ mod row;
 pub use dlk_calculus::Reason;
 pub use dlk_rules::{Rule, Step};
 pub use fault::StepFault;
-pub use kernel::Kernel;
+pub use kernel::{Fact, Kernel};

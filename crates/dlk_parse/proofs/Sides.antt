@@ -12,7 +12,7 @@ use Rattle.dlk_grammar.proofs.Machine.{State, state, fresh, step, ended}
 use Rattle.dlk_grammar.proofs.Sides.{is_comma, Side, side, more, go_on, side_step, side_steps, side_ended, side_of, side_steps-append}
 use Rattle.dlk_grammar.proofs.Formed.{kinds}
 use Rattle.dlk_parse.specs.declared.reader.Reader.{Reader}
-use Rattle.dlk_parse.specs.Readers.{state_at, stack_at, last_at, IsFresh, IsSound}
+use Rattle.dlk_parse.specs.Readers.{state_at, stack_at, last_at, IsFresh, IsSoundReader}
 use Rattle.dlk_parse.proofs.Tokens.{kinds_parts, kinds_more}
 
 pub ids_known : {old new : List Tree} → Keeps old new → (ids : List Id) → All (IsId old) ids → All (IsId new) ids
@@ -28,7 +28,7 @@ trees_same {old} {new} p (id ∷ ids) h =
 pub fresh_is : (trees : List Tree) (r : Reader) → IsFresh r → state_at trees r ≡ fresh
 fresh_is trees r f = λ i. state (stack_at trees (f.opened i)) (last_at trees (f.last i))
 
-pub fresh_sound : (trees : List Tree) (r : Reader) → IsFresh r → IsSound trees r
+pub fresh_sound : (trees : List Tree) (r : Reader) → IsFresh r → IsSoundReader trees r
 fresh_sound trees r f = record { opened = rw f.opened (λ k d lt. absurd (omega arith)); last = rw f.last tt }
 
 -- the token at a place of a side

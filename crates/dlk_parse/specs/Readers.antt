@@ -58,7 +58,7 @@ IsLast trees (last_id.Compared id) = HasSort sort_of.Term trees id
 IsLast trees (last_id.Whole id) = HasSort sort_of.Formula trees id
 
 -- the ids of a reader are those of the store, of the right sorts
-pub record IsSound (trees : List Tree) (r : Reader) : Type 0 where
+pub record IsSoundReader (trees : List Tree) (r : Reader) : Type 0 where
   pub opened : All (IsOpen trees) r.open.items
   pub last : IsLast trees r.last
 

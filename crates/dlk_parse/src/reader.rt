@@ -5,7 +5,7 @@ ghost use Rattle.dlk_tree.specs.declared.op.Sort.TheVariants as sort_of;
 ghost use Rattle.dlk_store.specs.Stores.{tree};
 ghost use Rattle.dlk_grammar.proofs.Machine.{act, Opens, Closes, Implies, Compares, role, operand, step, ended, joined};
 ghost use Rattle.dlk_grammar.proofs.Formed.{IsReal};
-ghost use Rattle.dlk_parse.specs.Readers.{state_at, joined_at, HasSort, IsSound, IsJoined, IsFresh, Agrees, IsLeaf};
+ghost use Rattle.dlk_parse.specs.Readers.{state_at, joined_at, HasSort, IsSoundReader, IsJoined, IsFresh, Agrees, IsLeaf};
 
 use crate::fault::ParseFault;
 use dlk_lex::{Mark, TokenKind};
@@ -66,10 +66,10 @@ impl Reader {
         kind: &TokenKind,
         store: &mut S,
     ) -> Result<(), ParseFault>
-        requires sound { IsSound (S.trees store.old) self.old }
+        requires sound { IsSoundReader (S.trees store.old) self.old }
         requires real { IsReal kind.now }
         ensures steps { Agrees result (step (state_at (S.trees store.old) self.old) kind.now) (λ _. state_at (S.trees store.new) self.new) }
-        ensures sound { OnOk result (IsSound (S.trees store.new) self.new) }
+        ensures sound { OnOk result (IsSoundReader (S.trees store.new) self.new) }
         ensures grows { S.grows store.old store.new }
     {
         match kind {
@@ -94,10 +94,10 @@ impl Reader {
 
     /// A term without kids.
     fn operand<S: Store>(&mut self, alloc: Global, op: Op, store: &mut S) -> Result<(), ParseFault>
-        requires sound { IsSound (S.trees store.old) self.old }
+        requires sound { IsSoundReader (S.trees store.old) self.old }
         requires leaf { IsLeaf op }
         ensures steps { Agrees result (operand (state_at (S.trees store.old) self.old) (node op no_kids)) (λ _. state_at (S.trees store.new) self.new) }
-        ensures sound { OnOk result (IsSound (S.trees store.new) self.new) }
+        ensures sound { OnOk result (IsSoundReader (S.trees store.new) self.new) }
         ensures grows { S.grows store.old store.new }
     {
         match self.last {
@@ -118,9 +118,9 @@ impl Reader {
     }
 
     fn mark<S: Store>(&mut self, alloc: Global, mark: Mark, store: &mut S) -> Result<(), ParseFault>
-        requires sound { IsSound (S.trees store.old) self.old }
+        requires sound { IsSoundReader (S.trees store.old) self.old }
         ensures steps { Agrees result (act (role mark) (state_at (S.trees store.old) self.old)) (λ _. state_at (S.trees store.new) self.new) }
-        ensures sound { OnOk result (IsSound (S.trees store.new) self.new) }
+        ensures sound { OnOk result (IsSoundReader (S.trees store.new) self.new) }
         ensures grows { S.grows store.old store.new }
     {
         match mark {
@@ -134,7 +134,7 @@ impl Reader {
 
     fn open_bracket(&mut self) -> Result<(), ParseFault>
         ensures steps { (trees : List Tree) → Agrees result (act Opens (state_at trees self.old)) (λ _. state_at trees self.new) }
-        ensures sound { OnOk result ((trees : List Tree) → IsSound trees self.old → IsSound trees self.new) }
+        ensures sound { OnOk result ((trees : List Tree) → IsSoundReader trees self.old → IsSoundReader trees self.new) }
     {
         match self.last {
             Last::Nothing => Ok(self.open.push(Open::Bracket)?),
@@ -146,7 +146,7 @@ impl Reader {
 
     fn imply(&mut self) -> Result<(), ParseFault>
         ensures steps { (trees : List Tree) → Agrees result (act Implies (state_at trees self.old)) (λ _. state_at trees self.new) }
-        ensures sound { OnOk result ((trees : List Tree) → IsSound trees self.old → IsSound trees self.new) }
+        ensures sound { OnOk result ((trees : List Tree) → IsSoundReader trees self.old → IsSoundReader trees self.new) }
     {
         match self.last {
             Last::Whole(left) => {
@@ -162,7 +162,7 @@ impl Reader {
 
     fn compare(&mut self) -> Result<(), ParseFault>
         ensures steps { (trees : List Tree) → Agrees result (act Compares (state_at trees self.old)) (λ _. state_at trees self.new) }
-        ensures sound { OnOk result ((trees : List Tree) → IsSound trees self.old → IsSound trees self.new) }
+        ensures sound { OnOk result ((trees : List Tree) → IsSoundReader trees self.old → IsSoundReader trees self.new) }
     {
         match self.last {
             Last::Term(left) => {
@@ -176,9 +176,9 @@ impl Reader {
     }
 
     fn close_bracket<S: Store>(&mut self, alloc: Global, store: &mut S) -> Result<(), ParseFault>
-        requires sound { IsSound (S.trees store.old) self.old }
+        requires sound { IsSoundReader (S.trees store.old) self.old }
         ensures steps { Agrees result (act Closes (state_at (S.trees store.old) self.old)) (λ _. state_at (S.trees store.new) self.new) }
-        ensures sound { OnOk result (IsSound (S.trees store.new) self.new) }
+        ensures sound { OnOk result (IsSoundReader (S.trees store.new) self.new) }
         ensures grows { S.grows store.old store.new }
     {
         match self.join(alloc, store)? {
@@ -192,7 +192,7 @@ impl Reader {
 
     /// Closes the implications that are open since the last bracket, and the bracket.
     fn join<S: Store>(&mut self, alloc: Global, store: &mut S) -> Result<Joined, ParseFault>
-        requires sound { IsSound (S.trees store.old) self.old }
+        requires sound { IsSoundReader (S.trees store.old) self.old }
         ensures joins { Agrees result (joined (state_at (S.trees store.old) self.old)) (joined_at (S.trees store.new) self.new.open.items) }
         ensures sound { IfOk result (IsJoined (S.trees store.new) self.new.open.items) }
         ensures grows { S.grows store.old store.new }
@@ -214,7 +214,7 @@ impl Reader {
 
     /// The formula that was read. The reader is then as a new one.
     pub(crate) fn end<S: Store>(&mut self, alloc: Global, store: &mut S) -> Result<Id, ParseFault>
-        requires sound { IsSound (S.trees store.old) self.old }
+        requires sound { IsSoundReader (S.trees store.old) self.old }
         ensures ends { Agrees result (ended (state_at (S.trees store.old) self.old)) (tree (S.trees store.new)) }
         ensures formula { IfOk result (HasSort sort_of.Formula (S.trees store.new)) }
         ensures fresh { OnOk result (IsFresh self.new) }

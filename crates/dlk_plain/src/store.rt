@@ -4,7 +4,7 @@ ghost use Rattle.std.proofs.Props.{props};
 ghost use Rattle.dlk_tree.specs.Table.{kid_sorts};
 ghost use Rattle.dlk_tree.specs.Trees.{node, size, depth};
 ghost use Rattle.dlk_store.specs.Stores.{IsId, tree, kid_trees};
-ghost use Rattle.dlk_plain.specs.Plain.{trees_of, IsSound};
+ghost use Rattle.dlk_plain.specs.Plain.{trees_of, AreSoundNodes};
 
 use crate::node::PlainNode;
 use dlk_store::{Id, Node, Steps, Store, StoreFault};
@@ -16,7 +16,7 @@ use std::sync::ledger::Ledger;
 #[derive(Drop)]
 pub struct PlainStore {
     nodes: Vec<PlainNode>,
-    ghost sound: { IsSound nodes.items } by { Prim.hlevel props },
+    ghost sound: { AreSoundNodes nodes.items } by { Prim.hlevel props },
 }
 
 impl PlainStore {
@@ -91,7 +91,7 @@ impl PlainStore {
 
 impl Store for PlainStore {
     ghost use Rattle.dlk_plain.specs.Plain.{trees_of};
-    ghost use Rattle.dlk_plain.specs.Growth.{all_made, plain_one_id};
+    ghost use Rattle.dlk_plain.proofs.Growth.{all_made, plain_one_id};
     ghost use Rattle.dlk_store.specs.Stores.{Keeps};
     ghost use Rattle.dlk_store.proofs.Kids.{Keeps-refl, Keeps-trans};
     ghost use Rattle.std.specs.Prelude.{false};

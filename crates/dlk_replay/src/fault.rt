@@ -2,6 +2,7 @@ ghost use Rattle.std.specs.Prelude.{◌≡◌};
 ghost use Rattle.dlk_replay.specs.declared.fault.ReplayFault.TheVariants.{Memory};
 
 use dlk_calculus::Reason;
+use dlk_kernel::Fact;
 use std::alloc::{AllocError, AllocFailed};
 use thiserror::Error;
 
@@ -9,7 +10,7 @@ use thiserror::Error;
 #[derive(Clone, Copy, Debug, PartialEq, Eq)]
 pub struct Outcome {
     /// The number of the last row.
-    pub fact: u32,
+    pub fact: Fact,
     /// The number of lines of steps.
     pub lines: u32,
 }

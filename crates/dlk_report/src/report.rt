@@ -6,7 +6,7 @@ ghost use Rattle.dlk_kernel.specs.Kernel.{facts};
 ghost use Rattle.dlk_report.specs.Reports.{parts_of, text_of, HasAsciiTexts};
 
 use crate::fault::ReportFault;
-use dlk_kernel::Kernel;
+use dlk_kernel::{Fact, Kernel};
 use dlk_print::sequent_text;
 use dlk_sequent::Sequent;
 use dlk_store::{Steps, Store};
@@ -65,7 +65,7 @@ fn texts<S: Store, L: Ledger>(
 pub fn shown<S: Store, L: Ledger>(
     alloc: Global,
     kernel: &Kernel<S>,
-    fact: u32,
+    fact: Fact,
     lines: u32,
     steps: &mut Steps<L>,
 ) -> Result<Report, ReportFault>

@@ -4,7 +4,7 @@ ghost use Rattle.dlk_rules.specs.declared.rule.RuleFault.TheVariants.{Memory};
 use std::alloc::{AllocError, AllocFailed};
 use thiserror::Error;
 
-/// A rule with its places, counted from 1: on the left for a first letter `i`, on the right for `j`.
+/// A rule with its places, counted from 1: `i` is a place on the left, `j` one on the right.
 #[derive(Clone, Copy, Debug, PartialEq, Eq)]
 pub enum Rule {
     /// `implyR(j)`

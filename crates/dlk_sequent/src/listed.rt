@@ -88,7 +88,7 @@ impl<T: Copy> Listed<T> {
         Ok(items)
     }
 
-    /// The same items but for another one at a place, counted from 1.
+    /// The same items but for another one at a place, which is there. Places count from 1.
     pub fn with_at(&self, alloc: Global, place: u32, item: T) -> Result<Listed<T>, AllocError>
         requires { IsPlace self.now place }
         ensures { IfOk result (λ items. items ≡ put self.now place item) }

@@ -51,7 +51,7 @@ impl Listed<Sequent> {
         Ok(Listed::from_vec(all))
     }
 
-    /// The same sequents but for others instead of the one at a place, counted from 1.
+    /// The same sequents but for others instead of the one at a place, which is there. Places count from 1.
     pub fn with_all_at(
         &self,
         alloc: Global,

@@ -5,7 +5,7 @@ ghost use Rattle.std.specs.Prelude.{◌≡◌, ◌↔◌, ◌+◌, ◌-◌, ◌^
 ghost use Rattle.dlk_tree.specs.Trees.{Tree, node, size, depth, WellMade};
 ghost use Rattle.dlk_tree.specs.Table.{Fits};
 ghost use Rattle.dlk_store.specs.declared.StoreFault.TheVariants.{Memory};
-ghost use Rattle.dlk_store.specs.Stores.{IsId, tree, StandsFor, Keeps, kid_trees, kid_sorts, HasOneId};
+ghost use Rattle.dlk_store.specs.Stores.{IsId, tree, StandsFor, Keeps, kid_trees, sorts_at, HasOneId};
 
 use dlk_tree::Op;
 use std::alloc::{AllocError, AllocFailed, Global};
@@ -50,13 +50,13 @@ impl<T: Drop> From<AllocFailed<T>> for StoreFault {
     }
 }
 
-/// Trees by their ids. A store only grows: every id that it had still stands for the same tree, whatever was called and
+/// Trees by their ids. The ids that a call is given are those of the store. A store only grows: every id that it had still stands for the same tree, whatever was called and
 /// whatever that answered.
 pub trait Store {
     /// What the ids stand for, in order of the ids.
     ghost trees: { Self → List Tree };
 
-    /// Whether a tree has one id.
+    /// Whether a tree has at most one id.
     ghost unique: { Bool };
 
     /// The second came of the first by making nodes alone.
@@ -69,7 +69,7 @@ pub trait Store {
     /// `Memory` alone; the store may have more nodes then.
     fn make(&mut self, alloc: Global, op: Op, kids: &[Id]) -> Result<Id, StoreFault>
         requires known { All (IsId (trees self.old)) kids.now }
-        requires fits { Fits op (kid_sorts (trees self.old) kids.now) }
+        requires fits { Fits op (sorts_at (trees self.old) kids.now) }
         ensures made { IfOk result (λ id. StandsFor (trees self.new) id (node op (kid_trees (trees self.old) kids.now))) }
         ensures grows { grows self.old self.new };
 

@@ -3,4 +3,3 @@ pub mod Tests
 pub mod Table
 pub mod Trees
 pub mod Occurs
-pub mod TreeCode

@@ -30,7 +30,7 @@ abbrev pub taboo_is_name : Option (List ℕ) → Bool
 taboo_is_name None = true
 taboo_is_name (Some y) = is_name y
 
--- a symbol of this kind: only Func and Pred have arguments, and only UnitFunc, UnitPred and Ode a taboo
+-- how many arguments a symbol of this kind may have
 abbrev pub has_arity : Kind → ℕ → Bool
 has_arity Func n = nat_le n 8
 has_arity UnitFunc n = n == 0
@@ -40,6 +40,7 @@ has_arity Quant n = n == 0
 has_arity Prog n = n == 0
 has_arity Ode n = n == 0
 
+-- which kinds of symbols may have a taboo
 abbrev pub may_have_taboo : Kind → Bool
 may_have_taboo Func = false
 may_have_taboo UnitFunc = true

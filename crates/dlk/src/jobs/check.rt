@@ -11,7 +11,7 @@ ghost use Rattle.dlk.specs.Shown.{reply_of};
 use crate::answer::refused;
 use crate::fault::NoReply;
 use crate::reply::{Reply, Status};
-use dlk_kernel::{Kernel, Reason};
+use dlk_kernel::{Fact, Kernel, Reason};
 use dlk_parse::{ParseFault, read_formula};
 use dlk_plain::PlainStore;
 use dlk_print::sequent_text;
@@ -118,7 +118,7 @@ fn refuse_conclusion<S: Store, L: Ledger>(
 fn report<S: Store, L: Ledger>(
     alloc: Global,
     kernel: &Kernel<S>,
-    fact: u32,
+    fact: Fact,
     lines: u32,
     steps: &mut Steps<L>,
 ) -> Result<Reply, NoReply>
