@@ -46,33 +46,34 @@ module _ (model term said : List ℕ) (n : ℕ) where
   refused_fault (NotBuilt at) h = not_refused n _ _ h
   refused_fault Syntax h = not_refused n _ _ h
 
-  check_truly : (reply : Reply) → Checks model term reply → Says reply → IsDerived model (codes "closed" ++ said)
+  check_truly : (reply : Reply) → Checks model term reply → Says reply → IsDerived model term (codes "closed" ++ said)
   check_truly reply (bad_model why fault) h = absurd (refused_fault why h)
   check_truly reply (bad_line f t line why v) h = absurd (not_refused n _ _ h)
   check_truly reply (bad_conclusion f t rows p a ne) h = absurd (not_refused n _ _ h)
   check_truly reply (reports f t rows p a e) h = record {
     formula = f;
     reads = t;
+    rows = rows;
     proof = p;
+    accepts = a;
     derived = accepted_derived term rows p a;
     conclusion = e;
     closed = closed_front p.goals _ said n h;
-    lines = length rows;
     bytes = n;
     report = sym h;
   }
 
-  job_truly : (texts : List (List ℕ)) (reply : Reply) → Does Check texts reply → texts ≡ model ∷ term ∷ [] → Says reply → IsDerived model (codes "closed" ++ said)
+  job_truly : (texts : List (List ℕ)) (reply : Reply) → Does Check texts reply → texts ≡ model ∷ term ∷ [] → Says reply → IsDerived model term (codes "closed" ++ said)
   job_truly texts reply (check m t r checks) e h =
       let same_model : m ≡ model = cc in
       let same_term : t ≡ term = cc in
       check_truly r (subst (λ (x : List ℕ). Checks x term r) same_model (subst (λ (x : List ℕ). Checks m x r) same_term checks)) h
 
-  response_truly : (words : List Word) (reply : Reply) → Responds Check words (model ∷ term ∷ []) reply → Says reply → IsDerived model (codes "closed" ++ said)
+  response_truly : (words : List Word) (reply : Reply) → Responds Check words (model ∷ term ∷ []) reply → Says reply → IsDerived model term (codes "closed" ++ said)
   response_truly words reply (refuses name long) h = absurd (not_refused n _ _ h)
   response_truly words reply (does short r job) h = job_truly (model ∷ term ∷ []) r job refl h
 
-  answer_truly : (words : List Word) (old : Outside) (reply : Reply) → Answers words old.files reply → RunsCheck words old model term → Says reply → IsDerived model (codes "closed" ++ said)
+  answer_truly : (words : List Word) (old : Outside) (reply : Reply) → Answers words old.files reply → RunsCheck words old model term → Says reply → IsDerived model term (codes "closed" ++ said)
   answer_truly words old reply (no_form none) runs h = let e : None ≡ Some Check = sym none ∙ runs.form in absurd (cc)
   answer_truly words old reply (command c is texts there r responds) runs h =
       let same : c ≡ Check = let e : Some c ≡ Some Check = sym is ∙ runs.form in cc in

@@ -20,23 +20,25 @@ pub record RunsCheck (words : List Word) (old : Outside) (model term : List ℕ)
   pub texts : bytes_of old.files (inputs_of Check words) ≡ Some (model ∷ term ∷ [])
 
 -- The model's formula is derivable from exactly the leaves that the report lists.
-pub record IsDerived (model said : List ℕ) : Type 0 where
+pub record IsDerived (model term said : List ℕ) : Type 0 where
   pub formula : Tree
   pub reads : FormulaText model formula
+  -- the last of the rows that the lines of the term give
+  pub rows : List Provable
   pub proof : Provable
+  pub accepts : Accepts term rows proof
   pub derived : Derives proof
   pub conclusion : proof.conclusion ≡ proves formula
   pub closed : proof.goals ≡ []
   -- what is printed is the report of this very provable, or a front of it where printing failed
-  pub lines : ℕ
   pub bytes : ℕ
-  pub report : said ≡ take bytes (text_report proof lines)
+  pub report : said ≡ take bytes (text_report proof (length rows))
 
 -- Whenever `check` prints `closed`, that is so.
 abbrev pub ClosedTruly : List Word → Outside → Outside → Type 0
 ClosedTruly words old new =
     (model term said : List ℕ) → RunsCheck words old model term → new.printed ≡ old.printed ++ (codes "closed" ++ said) →
-    IsDerived model (codes "closed" ++ said)
+    IsDerived model term (codes "closed" ++ said)
 
 -- A term within the limits is accepted exactly where each of its lines is a step of the calculus; else its first wrong line is named.
 pub record Judges (term : List ℕ) (f : Tree) (status : ℕ) (said : List ℕ) : Type 0 where

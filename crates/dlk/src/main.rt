@@ -13,13 +13,16 @@ mod run;
 
 use dlk_desk::{Desk, HostDesk};
 use dlk_store::Steps;
-use run::{NO_MEMORY, run};
+use run::run;
 use std::alloc::{AllocError, Global};
 use std::env;
 use std::io::ErrorKind;
 use std::marker::Brand;
 use std::process::ExitCode;
 use std::sync::ledger::{Blank, Ledger};
+
+/// The status where the words of the command line can't be had.
+const NO_WORDS: u8 = 7;
 
 /// The words of the command line, without the program's name. Where one is not UTF-8 there are none, and so they have no form.
 fn words(rt: &HostRuntime) -> Result<Vec<String>, AllocError> {
@@ -48,7 +51,7 @@ fn start<D: Desk, L: Ledger>(alloc: Global, words: &[String], desk: &mut D, blan
 fn main(rt: HostRuntime) -> ExitCode {
     let alloc = rt.alloc();
     let Ok(words) = words(&rt) else {
-        return ExitCode::from(NO_MEMORY);
+        return ExitCode::from(NO_WORDS);
     };
     let mut desk = HostDesk::new(rt, alloc);
     ExitCode::from(start::<HostDesk<HostRuntime>, Brand>(alloc, &words, &mut desk, Blank::new(1)))

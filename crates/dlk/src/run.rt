@@ -29,7 +29,7 @@ const READ_FAULT: u8 = 4;
 const WRITE_FAULT: u8 = 5;
 
 /// The status where memory ran out.
-pub const NO_MEMORY: u8 = 6;
+const NO_MEMORY: u8 = 6;
 
 /// Reads these files in order, each to its end or to one byte past its limit.
 fn read_inputs<D: Desk>(

@@ -115,6 +115,12 @@ fn accepts_and_refuses_terms(rt: HostRuntime) -> Result<(), Fail> {
             "refused: line 3: Malformed\n",
         ),
         (
+            "x>=0 -> x>=0",
+            "1 start ==> x>=0 -> x>=0\n2 apply 1 1 implyR(1)\n3 apply 2 1 close(1,1)\ndone\nx\n",
+            2,
+            "refused: line 5: Malformed\n",
+        ),
+        (
             "x>=0",
             "1 start ==> x>=0\ndone\n\n",
             2,

@@ -3,7 +3,7 @@ use Rattle.std.specs.Prelude.{ℕ, List, [], ◌∷◌, All}
 use Rattle.dlk_calculus.specs.Places.{put_all}
 use Rattle.dlk_calculus.specs.Sequents.{Sequent, IsSequent}
 
--- The conclusion holds where its goals and its leaves do. The goals are left to be proved, the leaves are facts of arithmetic.
+-- The conclusion is derived from the goals and the leaves. The goals are left to be proved, the leaves are facts of arithmetic.
 pub record Provable : Type 0 where
   pub conclusion : Sequent
   pub goals : List Sequent

@@ -25,7 +25,7 @@ pub data Splits (text : Text) : ℕ → List ℕ → List Token → Type 0 where
       Longest text bytes s kind → IsBuilt kind → Splits text (at + length s) rest ts →
       Splits text at bytes (token kind at (at + length s) ∷ ts)
 
--- BadAt text at bytes bad: the split comes to the place bad, where no token and no space begins.
+-- BadAt text at bytes bad: the split comes to the place bad, where no token that is read so far and no space begins.
 pub data BadAt (text : Text) : ℕ → List ℕ → ℕ → Type 0 where
   here : {at : ℕ} {bytes : List ℕ} (b : ℕ) (rest : List ℕ) → bytes ≡ b ∷ rest → is_space b ≡ false →
       ((s : List ℕ) (kind : TokenKind) → Longest text bytes s kind → ¬ IsBuilt kind) → BadAt text at bytes at

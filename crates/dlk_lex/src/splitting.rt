@@ -17,7 +17,7 @@ fn is_space(b: u8) -> bool
 
 /// The tokens of the bytes, with the end. At each place the longest token is taken.
 ///
-/// `BadByte` comes exactly where the split comes to a byte at which no token and no white space begins,
+/// `BadByte` comes exactly where the split comes to a byte at which no token that is read so far and no white space begins,
 /// and `Memory` when memory runs out.
 pub fn tokens(alloc: Global, text: Text, bytes: &[u8]) -> Result<Vec<Token>, LexFault>
     ensures found { IfOk result (λ v. Splits text 0 bytes.now v.items) }
