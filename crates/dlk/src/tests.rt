@@ -331,28 +331,41 @@ fn goes_back_and_writes(rt: HostRuntime) -> Result<(), Fail> {
     Ok(())
 }
 
-/// Whether copies of a system, with a variable and a constant that does not change it, and of a variable are the same.
-fn copies_are_same(alloc: Global) -> Option<bool> {
-    let x = Name::new(alloc, b"x").ok()?;
-    let constant = Sym {
+/// A constant that does not change `x`.
+fn constant(alloc: Global) -> Option<Sym> {
+    let name = Name::new(alloc, b"c").ok()?;
+    let taboo = Name::new(alloc, b"x").ok()?;
+    Some(Sym {
         kind: Kind::Ode,
-        name: Name::new(alloc, b"c").ok()?,
+        name,
         arity: 0,
-        taboo: Some(x.clone().ok()?),
-    };
-    let primed = Op::Variable(Var {
-        name: x.clone().ok()?,
-        primed: true,
-    });
+        taboo: Some(taboo),
+    })
+}
+
+/// A system of a variable and a constant.
+fn system(alloc: Global) -> Option<Op> {
     let mut items = Vec::new(alloc);
-    items.push(OdeItem::Evolve(x)).ok()?;
-    items.push(OdeItem::Const(constant)).ok()?;
-    let system = Op::System(Items::new(items));
-    Some(same_op(&system, &system.clone().ok()?) && same_op(&primed, &primed.clone().ok()?))
+    items.push(OdeItem::Evolve(Name::new(alloc, b"x").ok()?)).ok()?;
+    items.push(OdeItem::Const(constant(alloc)?)).ok()?;
+    Some(Op::System(Items::new(items)))
+}
+
+fn variable(alloc: Global) -> Option<Op> {
+    let name = Name::new(alloc, b"x").ok()?;
+    Some(Op::Variable(Var { name, primed: true }))
+}
+
+/// Whether a copy of an operator is the same.
+fn is_copied(op: &Op) -> Option<bool> {
+    let copy = op.clone().ok()?;
+    Some(same_op(op, &copy))
 }
 
 #[test]
 fn copies_operators(rt: HostRuntime) -> Result<(), Fail> {
-    assert_eq!(rt; copies_are_same(rt.alloc()), Some(true));
+    for op in [system(rt.alloc()), variable(rt.alloc())] {
+        assert_eq!(rt; op.as_ref().and_then(is_copied), Some(true));
+    }
     Ok(())
 }
