@@ -1,6 +1,10 @@
 pub mod Tokens
 pub mod Splits
+pub mod Lexemes
+pub mod Phrases
 pub mod Grammar
+pub mod Erased
+pub mod Readings
 pub mod Texts
 pub mod Shown
 pub mod ShownExamples

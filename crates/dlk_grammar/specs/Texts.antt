@@ -1,45 +1,37 @@
--- What texts of formulas and sequents say, and why a text is none.
-use Rattle.std.specs.Prelude.{◌≡◌, ℕ, List, [], ◌∷◌, ◌++◌, map}
+-- What texts of trees and sequents say, and why a text is none.
+use Rattle.std.specs.Prelude.{ℕ, List}
 use Rattle.dlk_tree.specs.Trees.{Tree}
 use Rattle.dlk_calculus.specs.Sequents.{Sequent as TreeSequent}
 use Rattle.dlk_grammar.specs.declared.token.Token.{Token}
-use Rattle.dlk_grammar.specs.declared.token.TokenKind.{TokenKind}
-use Rattle.dlk_grammar.specs.declared.token.TokenKind.TheVariants.{End}
-use Rattle.dlk_grammar.specs.declared.token.Text.{Text}
-use Rattle.dlk_grammar.specs.declared.token.Text.TheVariants.{Formula, Sequent}
+use Rattle.dlk_grammar.specs.declared.token.Dots.{Dots}
+use Rattle.dlk_grammar.specs.declared.token.Goal.{Goal}
 use Rattle.dlk_grammar.specs.Splits.{Splits, BadAt}
-use Rattle.dlk_grammar.specs.Grammar.{Reads, formula, ReadsSequent}
+use Rattle.dlk_grammar.specs.Readings.{ReadFault, IsTree, IsTreeFault, IsSequentOf, IsSequentFault}
 
--- the bytes split into tokens of these kinds, and the end
-pub record HasKinds (text : Text) (bytes : List ℕ) (kinds : List TokenKind) : Type 0 where
+-- the bytes are a text of the tree
+pub record TreeText (goal : Goal) (d : Dots) (bytes : List ℕ) (t : Tree) : Type 0 where
   pub tokens : List Token
-  pub splits : Splits text 0 bytes tokens
-  pub kinds_are : map (λ t. t.kind) tokens ≡ kinds ++ End ∷ []
-
--- the bytes are a text of the formula
-pub record FormulaText (bytes : List ℕ) (t : Tree) : Type 0 where
-  pub kinds : List TokenKind
-  pub split : HasKinds Formula bytes kinds
-  pub reads : Reads formula kinds t
+  pub splits : Splits 0 bytes tokens
+  pub reads : IsTree goal d tokens t
 
 -- the bytes are a text of the sequent
 pub record SequentText (bytes : List ℕ) (s : TreeSequent) : Type 0 where
-  pub kinds : List TokenKind
-  pub split : HasKinds Sequent bytes kinds
-  pub reads : ReadsSequent kinds s
+  pub tokens : List Token
+  pub splits : Splits 0 bytes tokens
+  pub reads : IsSequentOf tokens s
 
--- why bytes are no text of a formula
+-- why bytes are no text
 pub data TextFault : Type 0 where
-  -- the split comes to this byte, at which nothing that is read so far begins
-  NotBuilt : ℕ → TextFault
-  -- the tokens aren't in the grammar
-  Syntax : TextFault
+  -- no token, space or whole comment begins at this byte
+  BadByte : ℕ → TextFault
+  -- the tokens aren't read
+  Unread : ReadFault → TextFault
 
--- One row a fault; at most one applies.
-abbrev pub FormulaFault : List ℕ → TextFault → Type 0
-FormulaFault bytes (NotBuilt at) = BadAt Formula 0 bytes at
-FormulaFault bytes Syntax = (kinds : List TokenKind) × HasKinds Formula bytes kinds × ((t : Tree) → ¬ Reads formula kinds t)
+-- At most one fault applies.
+abbrev pub TreeTextFault : Goal → Dots → List ℕ → TextFault → Type 0
+TreeTextFault goal d bytes (BadByte at) = BadAt 0 bytes at
+TreeTextFault goal d bytes (Unread why) = (tokens : List Token) × Splits 0 bytes tokens × IsTreeFault goal d tokens why
 
-abbrev pub SequentFault : List ℕ → TextFault → Type 0
-SequentFault bytes (NotBuilt at) = BadAt Sequent 0 bytes at
-SequentFault bytes Syntax = (kinds : List TokenKind) × HasKinds Sequent bytes kinds × ((s : TreeSequent) → ¬ ReadsSequent kinds s)
+abbrev pub SequentTextFault : List ℕ → TextFault → Type 0
+SequentTextFault bytes (BadByte at) = BadAt 0 bytes at
+SequentTextFault bytes (Unread why) = (tokens : List Token) × Splits 0 bytes tokens × IsSequentFault tokens why

@@ -1,5 +1,5 @@
 -- What a token is, by its spelling.
-use Rattle.std.specs.Prelude.{ℕ, ◌+◌, ◌-◌, ◌*◌, ◌≤◌, ◌<◌, ◌==◌, ◌&&◌, ◌||◌, Bool, false, IsTrue, List, [], ◌∷◌, length, fold, codes}
+use Rattle.std.specs.Prelude.{ℕ, ◌+◌, ◌-◌, ◌*◌, ◌≤◌, ◌<◌, ◌==◌, ◌&&◌, ◌||◌, Bool, false, if◌then◌else◌, IsTrue, List, [], ◌∷◌, ◌++◌, length, fold, codes}
 use Rattle.std.specs.List.{list_all}
 use Rattle.dlk_tree.specs.Names.{is_between, is_name}
 use Rattle.dlk_tree.specs.declared.op.Num.{Num}
@@ -7,8 +7,6 @@ use Rattle.dlk_grammar.specs.declared.token.Mark.{Mark}
 use Rattle.dlk_grammar.specs.declared.token.Mark.TheVariants as mark
 use Rattle.dlk_grammar.specs.declared.token.TokenKind.{TokenKind}
 use Rattle.dlk_grammar.specs.declared.token.TokenKind.TheVariants.{Word, True, False, Number, LongNumber, Dot, Hole, Mark as AMark, End}
-use Rattle.dlk_grammar.specs.declared.token.Text.{Text}
-use Rattle.dlk_grammar.specs.declared.token.Text.TheVariants.{Sequent}
 
 -- space, tab, carriage return and line feed separate tokens
 abbrev pub is_space : ℕ → Bool
@@ -26,8 +24,20 @@ are_digits (b ∷ bs) = is_digit b && list_all is_digit bs
 abbrev pub value : List ℕ → ℕ
 value digits = fold (λ n b. 10 * n + (b - 48)) 0 digits
 
-abbrev pub whole : ℕ → Num
-whole n = record { digits = n; scale = 0 }
+-- a digit before digits, which isn't kept where it is a zero with nothing behind it
+abbrev pub before_digits : ℕ → List ℕ → List ℕ
+before_digits d [] = if d == 48 then [] else d ∷ []
+before_digits d (e ∷ es) = d ∷ e ∷ es
+
+-- the digits of a fraction without the zeros at its end
+abbrev pub trimmed : List ℕ → List ℕ
+trimmed [] = []
+trimmed (d ∷ ds) = before_digits d (trimmed ds)
+
+-- The number that a literal says, by the digits before and behind its point: zeros in front count for nothing, nor do
+-- those at the end of the fraction.
+abbrev pub literal_number : List ℕ → List ℕ → Num
+literal_number integer fraction = record { digits = value (integer ++ trimmed fraction); scale = length (trimmed fraction) }
 
 -- the spelling of each mark
 abbrev pub spelling : Mark → List ℕ
@@ -71,32 +81,19 @@ spelling mark.Comma = codes ","
 spelling mark.Becomes = codes "~>"
 spelling mark.Swaps = codes "~~"
 
--- The marks that are tokens of a text so far; the others come with the whole syntax.
-pub data IsMarkOf : Text → Mark → Type 0 where
-  open_round : {text : Text} → IsMarkOf text mark.OpenRound
-  close_round : {text : Text} → IsMarkOf text mark.CloseRound
-  imply : {text : Text} → IsMarkOf text mark.Imply
-  at_least : {text : Text} → IsMarkOf text mark.AtLeast
-  turnstile : IsMarkOf Sequent mark.Turnstile
-  comma : IsMarkOf Sequent mark.Comma
-
--- Spells text s kind: the bytes s are a token of this kind.
-pub data Spells (text : Text) : List ℕ → TokenKind → Type 0 where
-  word : (s : List ℕ) → IsTrue (is_name s) → Spells text s (Word s)
-  true_word : Spells text (codes "true") True
-  false_word : Spells text (codes "false") False
-  number : (s : List ℕ) → IsTrue (are_digits s) → length s ≤ 38 → Spells text s (Number (whole (value s)))
-  long_number : (s : List ℕ) → IsTrue (are_digits s) → 38 < length s → Spells text s LongNumber
-  a_mark : (m : Mark) → IsMarkOf text m → Spells text (spelling m) (AMark m)
-
--- The kinds that are read so far: the words `true` and `false` and long literals come with the whole syntax.
-abbrev pub IsBuilt : TokenKind → Type 0
-IsBuilt (Word x) = Unit {0}
-IsBuilt True = ⊥
-IsBuilt False = ⊥
-IsBuilt (Number n) = Unit {0}
-IsBuilt LongNumber = ⊥
-IsBuilt (Dot n) = ⊥
-IsBuilt Hole = ⊥
-IsBuilt (AMark m) = Unit {0}
-IsBuilt End = ⊥
+-- Spells s kind: the bytes s are a token of this kind.
+pub data Spells : List ℕ → TokenKind → Type 0 where
+  word : (s : List ℕ) → IsTrue (is_name s) → Spells s (Word s)
+  true_word : Spells (codes "true") True
+  false_word : Spells (codes "false") False
+  -- digits, or digits, a point and digits: a literal of at most 38 digits as written
+  integer : (s : List ℕ) → IsTrue (are_digits s) → length s ≤ 38 → Spells s (Number (literal_number s []))
+  decimal : (s f : List ℕ) → IsTrue (are_digits s) → IsTrue (are_digits f) → length s + length f ≤ 38 →
+      Spells (s ++ (codes "." ++ f)) (Number (literal_number s f))
+  long_integer : (s : List ℕ) → IsTrue (are_digits s) → 38 < length s → Spells s LongNumber
+  long_decimal : (s f : List ℕ) → IsTrue (are_digits s) → IsTrue (are_digits f) → 38 < length s + length f →
+      Spells (s ++ (codes "." ++ f)) LongNumber
+  -- a dot is ._0 to ._7
+  dot : (n : ℕ) → n < 8 → Spells (codes "._" ++ (48 + n) ∷ []) (Dot n)
+  hole : Spells (codes "_") Hole
+  a_mark : (m : Mark) → Spells (spelling m) (AMark m)

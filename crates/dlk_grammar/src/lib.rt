@@ -4,4 +4,4 @@
 pub mod laws;
 mod token;
 
-pub use token::{Mark, Text, Token, TokenKind};
+pub use token::{Dots, Goal, Mark, Token, TokenKind};

@@ -111,9 +111,19 @@ pub struct Token {
     pub end: usize,
 }
 
-/// What a text is to be. Until the whole syntax is read, a sequent has more tokens than a formula.
+/// Whether argument dots and the hole are in the grammar of a text.
 #[derive(Clone, Copy, Debug, PartialEq, Eq)]
-pub enum Text {
+pub enum Dots {
+    Refused,
+    Allowed,
+}
+
+/// What a text of one tree is to be.
+#[derive(Clone, Copy, Debug, PartialEq, Eq)]
+pub enum Goal {
     Formula,
-    Sequent,
+    Term,
+    Program,
+    /// A formula, a program, or a term that is no formula.
+    Expression,
 }

@@ -1,5 +1,0 @@
-use Rattle.dlk_grammar.proofs.Splitting.{one_split}
-use Rattle.dlk_grammar.proofs.laws.one_split.Goals as goal
-
-pub returns : goal.returns
-returns c = λ text at bytes ts us p q. one_split p q
