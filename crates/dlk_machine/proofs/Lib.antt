@@ -1,0 +1,5 @@
+pub mod Levels
+pub mod Machine
+pub mod Parse
+pub mod Sequents
+pub mod Expressions
