@@ -1,5 +1,5 @@
 -- The machine of a sequent: formulas on both sides of ==>.
-use Rattle.std.specs.Prelude.{Option, Some, None}
+use Rattle.std.specs.Prelude.{[], Option, Some, None}
 use Rattle.dlk_tree.specs.declared.op.Sort.TheVariants.{Formula}
 use Rattle.dlk_grammar.specs.Lexemes.{Lexeme, Comma, Turnstile}
 use Rattle.dlk_grammar.specs.Phrases.{Phrases, none, snoc}
