@@ -5,3 +5,5 @@ pub mod Symbols
 pub mod Systems
 pub mod Enclosed
 pub mod Back
+pub mod Numbers
+pub mod Fronts
