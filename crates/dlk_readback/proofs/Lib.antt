@@ -7,3 +7,4 @@ pub mod Enclosed
 pub mod Back
 pub mod Numbers
 pub mod Fronts
+pub mod Neighbours
