@@ -22,9 +22,10 @@ use Rattle.dlk_grammar.specs.Erased.{erase, ills, infix_op}
 use Rattle.dlk_grammar.specs.Shown.{Piece, mark, word, style, level, opening, between, closing, bracketed, open_bracket, close_bracket, unit_brackets, shown_at, shown}
 use Rattle.dlk_readback.proofs.Climb.{form_at, lower, any_level}
 use Rattle.dlk_readback.proofs.Rows.{AllKids, none_of, one_of, two_of}
-use Rattle.dlk_readback.proofs.Told.{said, behind, said-append, one_kid, last_kid, two_kids, Told, same_text, same_told, one_told, two_told, TellsTree}
+use Rattle.dlk_readback.proofs.Kids.{body}
+use Rattle.dlk_readback.proofs.Told.{said, behind, said-append, one_kid, last_kid, two_kids, Told, same_text, same_told, one_told, two_told, TellsTree, Back}
 use Rattle.dlk_readback.proofs.Symbols.{space_of, unit_symbol, bare_symbol}
-use Rattle.dlk_readback.proofs.Enclosed.{Back, body, BodyBack, apply_back, holds_back, system_back, brace_stmt, loop_stmt}
+use Rattle.dlk_readback.proofs.Enclosed.{BodyBack, apply_back, holds_back, system_back, brace_stmt, loop_stmt}
 
 -- brackets make the highest level
 in_brackets : (s : Sort) {t : Tree} (n : ℕ) (text : List Piece) → TellsTree (form_at s 0) text t → Told (form_at s 6) (said n (bracketed true s text)) t

@@ -21,55 +21,15 @@ use Rattle.dlk_grammar.specs.Grammar.{Form, term, formula, prim, atom, stmt, pro
 use Rattle.dlk_grammar.specs.Erased.{erase, erase_all, ills, ills_of_all, items_of as items_said, item_terms, ills_of_items, count, symbol, place_if, is_ill_call, is_ill_system}
 use Rattle.dlk_grammar.specs.Shown.{Piece, mark, word, style, level, opening, between, closing, items_of, shown_at, shown_kids, shown, joined, item_texts, is_true, domain_text, inside}
 use Rattle.dlk_readback.proofs.Climb.{form_at}
-use Rattle.dlk_readback.proofs.Rows.{AllKids, none_of}
-use Rattle.dlk_readback.proofs.Told.{said, behind, said-append, Told, same_text, TellsTree, Each, ListTold, listed}
+use Rattle.dlk_readback.proofs.Rows.{AllKids}
+use Rattle.dlk_readback.proofs.Kids.{each_map, forest-trees, body, texts_of, comma, any_kids, joined-texts, args_of, Sides, sides_of, SystemKids, system_kids, truth, system_inside, inside_is, real_items}
+use Rattle.dlk_readback.proofs.Told.{said, behind, said-append, Told, same_text, TellsTree, Back, listed}
 use Rattle.dlk_readback.proofs.Symbols.{called, arity_most}
-use Rattle.dlk_readback.proofs.Systems.{Sides, sides_of, texts_of, comma, ItemsTold, items_back}
-
--- at each least level the tree's text says the tree, wherever it begins
-abbrev pub Back : Sort → Tree → Type 0
-Back s t = (l : ℕ) → TellsTree (form_at s l) (shown_at l t) t
-
-pub forest-trees : (kids : Forest) → forest (trees_in kids) ≡ kids
-forest-trees no_kids = refl
-forest-trees (kid t rest) = ap (kid t) (forest-trees rest)
-
--- kids of any level
-pub any_kids : (o : Op) → (style o).first ≡ 1 → (style o).later ≡ 1 → (i : ℕ) (kids : Forest) → shown_kids o i kids ≡ texts_of (trees_in kids)
-any_kids o e f i no_kids = refl
-any_kids o e f i (kid t rest) = ap (λ (l : List Piece). l ∷ shown_kids o (i + 1) rest) (by_place (i == 0)) ∙ ap (λ (l : List (List Piece)). shown_at 1 t ∷ l) (any_kids o e f (i + 1) rest)
-  where
-    by_place : (b : Bool) → shown_at (cond b (style o).first (style o).later) t ≡ shown_at 1 t
-    by_place true = ap (λ (l : ℕ). shown_at l t) e
-    by_place false = ap (λ (l : ℕ). shown_at l t) f
-
-flat_map-map : (sep : List Piece) (ts : List Tree) → flat_map (λ x. sep ++ x) (texts_of ts) ≡ flat_map (λ t. sep ++ shown_at 1 t) ts
-flat_map-map sep [] = refl
-flat_map-map sep (t ∷ ts) = ap (λ (l : List Piece). (sep ++ shown_at 1 t) ++ l) (flat_map-map sep ts)
-
-joined-texts : (sep : List Piece) (ts : List Tree) → joined sep (texts_of ts) ≡ join_by shown sep ts
-joined-texts sep [] = refl
-joined-texts sep (t ∷ ts) = ap (λ (l : List Piece). shown_at 1 t ++ l) (flat_map-map sep ts)
-
--- the arguments of an application
-args_of : (k : ℕ) (kids : Forest) → sorts kids ≡ replicate k Term → AllKids Back kids → Each (λ t. TellsTree term (shown t) t) (trees_in kids) × (length (trees_in kids) ≡ k)
-args_of zero no_kids e all = (tt, refl)
-args_of zero (kid t rest) e all = absurd cc
-args_of (suc k) no_kids e all = absurd cc
-args_of (suc k) (kid t rest) e all =
-    let at : sort t ≡ Term = cc in
-    let tail : sorts rest ≡ replicate k Term = cc in
-    let d : Back Term t = subst (λ (u : Sort). Back u t) at all.0 in
-    let more = args_of k rest tail all.1 in
-    ((d 1, more.0), ap suc more.1)
+use Rattle.dlk_readback.proofs.Systems.{ItemsTold, items_back}
 
 count_is : (l : Phrases) → count l ≡ length (erase_all l)
 count_is none = refl
 count_is (snoc l a) = omega (arith, count_is l, length-append (erase_all l) (erase a ∷ []))
-
--- the text of a node without brackets
-abbrev pub body : Op → Forest → List Piece
-body o kids = opening o ++ (inside (items_of o) (between o) (trees_in kids) (shown_kids o 0 kids) ++ closing o)
 
 -- an application to one argument or more, which are told
 record Called (k : Kind) (s : Sym) (kids : Forest) (n : ℕ) (text : List Lexeme) : Type 0 where
@@ -86,9 +46,9 @@ call_back : (k : Kind) (s : Sym) (o : Op) → is_sym_of k s ≡ true → may_hav
 unfolding call_text
 call_back k s o h untold some e f t rest fit all n m =
     let ts = trees_in rest in
-    let w = args_of s.arity (kid t rest) fit all in
+    let w = args_of Back s.arity (kid t rest) fit all in
     let text : call_text o (kid t rest) ≡ join_by shown comma (t ∷ ts) = ap (joined comma) (any_kids o e f 0 (kid t rest)) ∙ joined-texts comma (t ∷ ts) in
-    let d = listed shown comma (λ i. refl) m t ts w.0 in
+    let d = listed shown comma (λ i. refl) m t ts (each_map (Back Term) (λ u. TellsTree term (shown u) u) (t ∷ ts) (λ u b. b 1) w.0) in
     let size : count d.phrases ≡ s.arity = count_is d.phrases ∙ ap (λ (l : List Tree). length l) d.erased ∙ w.1 in
     let few : is_ill_call d.phrases ≡ false = le-ltb 8 (count d.phrases) (omega (arith, arity_most k s h some)) in
     rw text (record {
@@ -104,7 +64,7 @@ BodyBack o kids = (n : ℕ) → Told (form_at (sort_of o) (level o)) (said n (bo
 
 pub apply_back : (s : Sym) (kids : Forest) → is_sym_of Func s ≡ true → sorts kids ≡ replicate s.arity Term → AllKids Back kids → BodyBack (op.Apply s) kids
 unfolding call_text
-apply_back s no_kids h e all n = record { phrase = Apply (Call n s.name none); reads = prim-nullary; erased = ap (λ (y : Sym). node (op.Apply y) no_kids) (called Func s 0 h refl (args_of s.arity no_kids e all).1); no_ills = refl }
+apply_back s no_kids h e all n = record { phrase = Apply (Call n s.name none); reads = prim-nullary; erased = ap (λ (y : Sym). node (op.Apply y) no_kids) (called Func s 0 h refl (args_of Back s.arity no_kids e all).1); no_ills = refl }
 apply_back s (kid t rest) h e all n =
     let d = call_back Func s (op.Apply s) h refl (λ m. refl) refl refl t rest e all n (n + 1 + 1) in
     same_text (ap (λ (l : List Lexeme). Name n s.name ∷ Open ∷ l) (said-append (n + 1 + 1) (call_text (op.Apply s) (kid t rest)) (mark mark.CloseRound ∷ [])))
@@ -117,7 +77,7 @@ apply_back s (kid t rest) h e all n =
 
 pub holds_back : (s : Sym) (kids : Forest) → is_sym_of Pred s ≡ true → sorts kids ≡ replicate s.arity Term → AllKids Back kids → BodyBack (op.Holds s) kids
 unfolding call_text
-holds_back s no_kids h e all n = record { phrase = Holds (Call n s.name none); reads = atom-nullary; erased = ap (λ (y : Sym). node (op.Holds y) no_kids) (called Pred s 0 h refl (args_of s.arity no_kids e all).1); no_ills = refl }
+holds_back s no_kids h e all n = record { phrase = Holds (Call n s.name none); reads = atom-nullary; erased = ap (λ (y : Sym). node (op.Holds y) no_kids) (called Pred s 0 h refl (args_of Back s.arity no_kids e all).1); no_ills = refl }
 holds_back s (kid t rest) h e all n =
     let d = call_back Pred s (op.Holds s) h refl (λ m. refl) refl refl t rest e all n (n + 1 + 1) in
     same_text (ap (λ (l : List Lexeme). Name n s.name ∷ Open ∷ l) (said-append (n + 1 + 1) (call_text (op.Holds s) (kid t rest)) (mark mark.CloseRound ∷ [])))
@@ -135,45 +95,6 @@ brace_stmt {s} {p} r = subst (λ (l : List Lexeme). Reads stmt l p) (append-nil 
 pub loop_stmt : {n : ℕ} {s : List Lexeme} {p : Phrase} → Reads prog s p → Reads stmt (OpenBrace n ∷ (s ++ CloseBrace ∷ Between Mul ∷ [])) (Loop p)
 loop_stmt {n} {s} {p} r = subst (λ (l : List Lexeme). Reads stmt (OpenBrace n ∷ l) (Loop p)) (append_assoc s (CloseBrace ∷ []) (Between Mul ∷ [])) (stmt-group (brace-prog r) star-loop inv-none semi-none)
 
--- the kids of a system: the right sides of its items, and its domain
-record SystemKids (items : List OdeItem) (kids : Forest) : Type 0 where
-  pub domain : Tree
-  pub sides : Sides items (trees_in kids)
-  pub domain_at : get_or (trees_in kids) (length (evolved items)) (node op.True no_kids) ≡ domain
-  pub text_at : get_or (texts_of (trees_in kids)) (length (evolved items)) [] ≡ shown_at 1 domain
-  pub all : trees_in kids ≡ sides_of items (trees_in kids) ++ domain ∷ []
-  pub back : Back Formula domain
-  pub made : WellMade domain
-
-system_kids : (items : List OdeItem) (kids : Forest) → sorts kids ≡ replicate (length (evolved items)) Term ++ Formula ∷ [] → AllKids Back kids → AllWellMade kids → SystemKids items kids
-system_kids [] no_kids e all w = absurd cc
-system_kids [] (kid t no_kids) e all w = let at : sort t ≡ Formula = cc in record { domain = t; sides = tt; domain_at = refl; text_at = refl; all = refl; back = subst (λ (u : Sort). Back u t) at all.0; made = w.0 }
-system_kids [] (kid t (kid u rest)) e all w = absurd cc
-system_kids (Const s ∷ items) kids e all w =
-    let k = system_kids items kids e all w in
-    record { domain = k.domain; sides = k.sides; domain_at = k.domain_at; text_at = k.text_at; all = k.all; back = k.back; made = k.made }
-system_kids (Evolve x ∷ items) no_kids e all w = absurd cc
-system_kids (Evolve x ∷ items) (kid t rest) e all w =
-    let at : sort t ≡ Term = cc in
-    let tail : sorts rest ≡ replicate (length (evolved items)) Term ++ Formula ∷ [] = cc in
-    let d : Back Term t = subst (λ (u : Sort). Back u t) at all.0 in
-    let k = system_kids items rest tail all.1 w.1 in
-    record { domain = k.domain; sides = (d 1, k.sides); domain_at = k.domain_at; text_at = k.text_at; all = ap (λ (l : List Tree). t ∷ l) {y = sides_of items (trees_in rest) ++ k.domain ∷ []} k.all; back = k.back; made = k.made }
-
-is_true_is : (o : Op) → is_true o ≡ true → o ≡ op.True
-is_true_is op.True h = refl
-is_true_is _ h = absurd cc
-
-truth : (t : Tree) → WellMade t → is_true (root t) ≡ true → t ≡ node op.True no_kids
-truth (node o kids) w h =
-    let o-is = is_true_is o h in
-    let none : sorts kids ≡ [] = w.0.kids_fit ∙ ap (λ (p : Op). kid_sorts p) o-is in
-    none_of (λ (ks : Forest). node o ks ≡ node op.True no_kids) kids none (ap (λ (p : Op). node p no_kids) o-is)
-
--- a system's text, by its parts
-system_text : (items : List OdeItem) (kids : Forest) → SystemKids items kids → inside (Some items) comma (trees_in kids) (shown_kids (op.System items) 0 kids) ≡ joined comma (item_texts items (texts_of (trees_in kids))) ++ domain_text (get_or (trees_in kids) (length (evolved items)) (node op.True no_kids)) (get_or (texts_of (trees_in kids)) (length (evolved items)) [])
-system_text items kids k = ap (inside (Some items) comma (trees_in kids)) (any_kids (op.System items) refl refl 0 kids)
-
 not_ill : (l : Items) (items : List OdeItem) → items_said l ≡ items → are_items items ≡ true → is_ill_system l ≡ false
 not_ill l items e h =
     let w = and_parts (nat_le 1 (length items) && nat_le (length items) 64 && list_all is_item items) (all_distinct (evolved items)) h in
@@ -182,7 +103,7 @@ not_ill l items e h =
     rw (e, few, w.1) refl
 
 -- the tree of a system
-system_is : (items : List OdeItem) (kids : Forest) (k : SystemKids items kids) (l : Items) (a : Phrase) → items_said l ≡ items → item_terms l ≡ sides_of items (trees_in kids) → erase a ≡ k.domain → node (op.System (items_said l)) (forest (item_terms l ++ erase a ∷ [])) ≡ node (op.System items) kids
+system_is : (items : List OdeItem) (kids : Forest) (k : SystemKids Back items kids) (l : Items) (a : Phrase) → items_said l ≡ items → item_terms l ≡ sides_of items (trees_in kids) → erase a ≡ k.domain → node (op.System (items_said l)) (forest (item_terms l ++ erase a ∷ [])) ≡ node (op.System items) kids
 system_is items kids k l a e f g =
     ap (λ (is : List OdeItem). node (op.System is) (forest (item_terms l ++ erase a ∷ []))) e
     ∙ ap (λ (ts : List Tree). node (op.System items) (forest (ts ++ erase a ∷ []))) f
@@ -193,12 +114,7 @@ system_is items kids k l a e f g =
 system_ills : (n : ℕ) (l : Items) (a : Phrase) → is_ill_system l ≡ false → ills_of_items l ≡ [] → ills a ≡ [] → place_if (is_ill_system l) n ++ (ills_of_items l ++ ills a) ≡ []
 system_ills n l a e f g = rw (e, f, g) refl
 
--- what stands between a system's braces
-system_inside : List OdeItem → List Tree → Tree → List Piece
-system_inside items ts domain = joined comma (item_texts items (texts_of ts)) ++ domain_text domain (shown_at 1 domain)
-
-bare_system : (n : ℕ) (items : List OdeItem) (kids : Forest) (k : SystemKids items kids) → are_items items ≡ true → ItemsTold (said (n + 1) (joined comma (item_texts items (texts_of (trees_in kids))))) items (sides_of items (trees_in kids)) → is_true (root k.domain) ≡ true → Told stmt (said n (mark mark.OpenBrace ∷ (system_inside items (trees_in kids) k.domain ++ mark mark.CloseBrace ∷ []))) (node (op.System items) kids)
-unfolding system_inside
+bare_system : (n : ℕ) (items : List OdeItem) (kids : Forest) (k : SystemKids Back items kids) → are_items items ≡ true → ItemsTold (said (n + 1) (joined comma (item_texts items (texts_of (trees_in kids))))) items (sides_of items (trees_in kids)) → is_true (root k.domain) ≡ true → Told stmt (said n (mark mark.OpenBrace ∷ (system_inside items (trees_in kids) k.domain ++ mark mark.CloseBrace ∷ []))) (node (op.System items) kids)
 bare_system n items kids k h d e =
     let text = joined comma (item_texts items (texts_of (trees_in kids))) in
     rw (e, append-nil text, said-append (n + 1) text (mark mark.CloseBrace ∷ [])) (record {
@@ -208,12 +124,11 @@ bare_system n items kids k h d e =
       no_ills = system_ills n d.phrases Truth (not_ill d.phrases items d.items_are h) d.no_ills refl;
     })
 
-domain_system : (n : ℕ) (items : List OdeItem) (kids : Forest) (k : SystemKids items kids) → are_items items ≡ true → ItemsTold (said (n + 1) (joined comma (item_texts items (texts_of (trees_in kids))))) items (sides_of items (trees_in kids)) → is_true (root k.domain) ≡ false → Told stmt (said n (mark mark.OpenBrace ∷ (system_inside items (trees_in kids) k.domain ++ mark mark.CloseBrace ∷ []))) (node (op.System items) kids)
-unfolding system_inside
+domain_system : (n : ℕ) (items : List OdeItem) (kids : Forest) (k : SystemKids Back items kids) → are_items items ≡ true → ItemsTold (said (n + 1) (joined comma (item_texts items (texts_of (trees_in kids))))) items (sides_of items (trees_in kids)) → is_true (root k.domain) ≡ false → Told stmt (said n (mark mark.OpenBrace ∷ (system_inside items (trees_in kids) k.domain ++ mark mark.CloseBrace ∷ []))) (node (op.System items) kids)
 domain_system n items kids k h d e =
     let text = joined comma (item_texts items (texts_of (trees_in kids))) in
     let m = behind (n + 1) text + 1 in
-    let c = k.back 1 m in
+    let c = k.holds 1 m in
     let first : said (n + 1) ((text ++ (mark mark.And ∷ shown_at 1 k.domain)) ++ mark mark.CloseBrace ∷ []) ≡ said (n + 1) text ++ (Between And ∷ said m (shown_at 1 k.domain ++ mark mark.CloseBrace ∷ [])) = ap (said (n + 1)) (append_assoc text (mark mark.And ∷ shown_at 1 k.domain) (mark mark.CloseBrace ∷ [])) ∙ said-append (n + 1) text (mark mark.And ∷ (shown_at 1 k.domain ++ mark mark.CloseBrace ∷ [])) in
     rw (e, first, said-append m (shown_at 1 k.domain) (mark mark.CloseBrace ∷ [])) (record {
       phrase = System n d.phrases c.phrase;
@@ -222,22 +137,17 @@ domain_system n items kids k h d e =
       no_ills = system_ills n d.phrases c.phrase (not_ill d.phrases items d.items_are h) d.no_ills c.no_ills;
     })
 
-all_items : (n : ℕ) (items : List OdeItem) (ts : List Tree) → are_items items ≡ true → Sides items ts → ItemsTold (said n (joined comma (item_texts items (texts_of ts)))) items (sides_of items ts)
+all_items : (n : ℕ) (items : List OdeItem) (ts : List Tree) → are_items items ≡ true → Sides (Back Term) items ts → ItemsTold (said n (joined comma (item_texts items (texts_of ts)))) items (sides_of items ts)
 all_items n [] ts h sides = absurd cc
 all_items n (item ∷ items) ts h sides =
-    let w = and_parts (nat_le 1 (length (item ∷ items)) && nat_le (length (item ∷ items)) 64 && list_all is_item (item ∷ items)) (all_distinct (evolved (item ∷ items))) h in
-    let v = and_parts (nat_le 1 (length (item ∷ items)) && nat_le (length (item ∷ items)) 64) (list_all is_item (item ∷ items)) w.0 in
-    items_back n item items ts v.1 sides
+    items_back n item items ts (real_items (item ∷ items) h) sides
 
 pub system_back : (items : List OdeItem) (kids : Forest) → are_items items ≡ true → sorts kids ≡ replicate (length (evolved items)) Term ++ Formula ∷ [] → AllKids Back kids → AllWellMade kids → BodyBack (op.System items) kids
-unfolding system_inside
 system_back items kids h e all w n =
-    let k = system_kids items kids e all w in
+    let k = system_kids Back items kids e all w in
     let d = all_items (n + 1) items (trees_in kids) h k.sides in
-    let inside-is : inside (Some items) comma (trees_in kids) (shown_kids (op.System items) 0 kids) ≡ system_inside items (trees_in kids) k.domain =
-        system_text items kids k ∙ ap (λ (l : List Piece). joined comma (item_texts items (texts_of (trees_in kids))) ++ domain_text (get_or (trees_in kids) (length (evolved items)) (node op.True no_kids)) l) k.text_at ∙ ap (λ (t : Tree). joined comma (item_texts items (texts_of (trees_in kids))) ++ domain_text t (shown_at 1 k.domain)) k.domain_at in
-    same_text (ap (λ (l : List Piece). said n (mark mark.OpenBrace ∷ (l ++ mark mark.CloseBrace ∷ []))) inside-is) (go n k d (is_true (root k.domain)) refl)
+    same_text (ap (λ (l : List Piece). said n (mark mark.OpenBrace ∷ (l ++ mark mark.CloseBrace ∷ []))) (inside_is Back items kids k)) (go n k d (is_true (root k.domain)) refl)
   where
-    go : (n : ℕ) (k : SystemKids items kids) → ItemsTold (said (n + 1) (joined comma (item_texts items (texts_of (trees_in kids))))) items (sides_of items (trees_in kids)) → (b : Bool) → is_true (root k.domain) ≡ b → Told stmt (said n (mark mark.OpenBrace ∷ (system_inside items (trees_in kids) k.domain ++ mark mark.CloseBrace ∷ []))) (node (op.System items) kids)
+    go : (n : ℕ) (k : SystemKids Back items kids) → ItemsTold (said (n + 1) (joined comma (item_texts items (texts_of (trees_in kids))))) items (sides_of items (trees_in kids)) → (b : Bool) → is_true (root k.domain) ≡ b → Told stmt (said n (mark mark.OpenBrace ∷ (system_inside items (trees_in kids) k.domain ++ mark mark.CloseBrace ∷ []))) (node (op.System items) kids)
     go n k d true b = bare_system n items kids k h d b
     go n k d false b = domain_system n items kids k h d b

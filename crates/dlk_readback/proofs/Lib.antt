@@ -1,5 +1,6 @@
 pub mod Climb
 pub mod Rows
+pub mod Kids
 pub mod Told
 pub mod Symbols
 pub mod Systems

@@ -6,6 +6,7 @@ use Rattle.dlk_tree.specs.declared.op.OdeItem.{OdeItem}
 use Rattle.dlk_tree.specs.declared.op.OdeItem.TheVariants.{Evolve, Const}
 use Rattle.dlk_tree.specs.declared.op.Sym.{Sym}
 use Rattle.dlk_tree.specs.declared.op.Kind.TheVariants.{Ode}
+use Rattle.dlk_tree.specs.declared.op.Sort.TheVariants.{Term}
 use Rattle.dlk_tree.specs.Table.{is_item, evolved}
 use Rattle.dlk_tree.specs.Trees.{Tree}
 use Rattle.dlk_grammar.specs.declared.token.Mark.TheVariants as mark
@@ -14,7 +15,8 @@ use Rattle.dlk_grammar.specs.Phrases.{Phrase, Everywhere, Except, Item, Items, n
 use Rattle.dlk_grammar.specs.Grammar.{term, ReadsItems, ReadsItem, items-one, items-more, item-evolve, item-flow, item-except}
 use Rattle.dlk_grammar.specs.Erased.{erase, ills, items_of, item_of, item_terms, ills_of_items}
 use Rattle.dlk_grammar.specs.Shown.{Piece, mark, word, ode_brackets, shown_at, item_text, terms_behind, item_texts}
-use Rattle.dlk_readback.proofs.Told.{said, behind, said-append, Told, TellsTree, Each}
+use Rattle.dlk_readback.proofs.Kids.{Sides, sides_of, texts_of, comma}
+use Rattle.dlk_readback.proofs.Told.{said, behind, said-append, TellsTree, Back}
 use Rattle.dlk_readback.proofs.Symbols.{space_of, unit_symbol}
 
 -- the right side of an item, and where it is of ill shape
@@ -67,34 +69,6 @@ more_items {items = items} {terms = terms} d e = record {
   no_ills = add_ills d.phrases e.phrase ∙ ap (λ (l : List ℕ). l ++ ills_in e.phrase) d.no_ills ∙ e.no_ills;
 }
 
--- the right sides that an item takes, and those that it leaves
-abbrev pub taken : OdeItem → List Tree → List Tree
-taken (Evolve x) [] = []
-taken (Evolve x) (t ∷ ts) = t ∷ []
-taken (Const s) ts = []
-
-abbrev pub left : OdeItem → List Tree → List Tree
-left (Evolve x) [] = []
-left (Evolve x) (t ∷ ts) = ts
-left (Const s) ts = ts
-
--- as many right sides as evolved names, and more behind them
-abbrev pub Sides : List OdeItem → List Tree → Type 0
-Sides [] ts = Unit {0}
-Sides (Evolve x ∷ items) [] = ⊥
-Sides (Evolve x ∷ items) (t ∷ ts) = TellsTree term (shown_at 1 t) t × Sides items ts
-Sides (Const s ∷ items) ts = Sides items ts
-
--- the right sides of items
-abbrev pub sides_of : List OdeItem → List Tree → List Tree
-sides_of [] ts = []
-sides_of (Evolve x ∷ items) [] = []
-sides_of (Evolve x ∷ items) (t ∷ ts) = t ∷ sides_of items ts
-sides_of (Const s ∷ items) ts = sides_of items ts
-
-abbrev pub texts_of : List Tree → List (List Piece)
-texts_of ts = map (shown_at 1) ts
-
 const_told : (n : ℕ) (x : List ℕ) (y : Option (List ℕ)) (item : OdeItem) → item_of (flow x (space_of y)) ≡ item → ItemTold (said n (word x ∷ ode_brackets y)) item []
 const_told n x None item e = record { phrase = flow x Everywhere; reads = item-flow; item_is = e; terms_are = refl; no_ills = refl }
 const_told n x (Some y) item e = record { phrase = flow x (Except y); reads = item-except; item_is = e; terms_are = refl; no_ills = refl }
@@ -107,11 +81,8 @@ evolve_back n x t d texts =
     let r = d (n + 1 + 1 + 1) in
     record { phrase = evolve x r.phrase; reads = item-evolve r.reads; item_is = refl; terms_are = ap (λ (a : Tree). a ∷ []) r.erased; no_ills = r.no_ills }
 
-abbrev pub comma : List Piece
-comma = mark mark.Comma ∷ []
-
 -- the items behind those that are told
-later_items : (n : ℕ) (s : List Lexeme) (done items : List OdeItem) (terms ts : List Tree) → list_all is_item items ≡ true → Sides items ts → ItemsTold s done terms → ItemsTold (s ++ said n (flat_map (λ x. comma ++ x) (item_texts items (texts_of ts)))) (done ++ items) (terms ++ sides_of items ts)
+later_items : (n : ℕ) (s : List Lexeme) (done items : List OdeItem) (terms ts : List Tree) → list_all is_item items ≡ true → Sides (Back Term) items ts → ItemsTold s done terms → ItemsTold (s ++ said n (flat_map (λ x. comma ++ x) (item_texts items (texts_of ts)))) (done ++ items) (terms ++ sides_of items ts)
 later_items n s done [] terms ts h all d = rw (append-nil s, append-nil done, append-nil terms) d
 later_items n s done (Const c ∷ items) terms ts h all d =
     let w = and_parts (is_item (Const c)) (list_all is_item items) h in
@@ -125,12 +96,12 @@ later_items n s done (Evolve x ∷ items) terms (t ∷ ts) h all d =
     let w = and_parts (is_item (Evolve x)) (list_all is_item items) h in
     let text = item_text (Evolve x) (texts_of (t ∷ ts)) in
     let more = flat_map (λ x. comma ++ x) (item_texts items (texts_of ts)) in
-    let next = later_items (behind (n + 1) text) (s ++ Comma ∷ said (n + 1) text) (done ++ Evolve x ∷ []) items (terms ++ t ∷ []) ts w.1 all.1 (more_items d (evolve_back (n + 1) x t all.0 (texts_of ts))) in
+    let next = later_items (behind (n + 1) text) (s ++ Comma ∷ said (n + 1) text) (done ++ Evolve x ∷ []) items (terms ++ t ∷ []) ts w.1 all.1 (more_items d (evolve_back (n + 1) x t (all.0 1) (texts_of ts))) in
     let said-is : (s ++ Comma ∷ said (n + 1) text) ++ said (behind (n + 1) text) more ≡ s ++ Comma ∷ said (n + 1) (text ++ more) = append_assoc s (Comma ∷ said (n + 1) text) (said (behind (n + 1) text) more) ∙ ap (λ (l : List Lexeme). s ++ Comma ∷ l) (sym (said-append (n + 1) text more)) in
     subst (λ (l : List Lexeme). ItemsTold l (done ++ Evolve x ∷ items) (terms ++ t ∷ sides_of items ts)) said-is (subst₂ (λ (l : List OdeItem) (us : List Tree). ItemsTold ((s ++ Comma ∷ said (n + 1) text) ++ said (behind (n + 1) text) more) l us) (append_assoc done (Evolve x ∷ []) items) (append_assoc terms (t ∷ []) (sides_of items ts)) next)
 
 -- the items of a system
-pub items_back : (n : ℕ) (item : OdeItem) (items : List OdeItem) (ts : List Tree) → list_all is_item (item ∷ items) ≡ true → Sides (item ∷ items) ts → ItemsTold (said n (join_by (λ x. x) comma (item_texts (item ∷ items) (texts_of ts)))) (item ∷ items) (sides_of (item ∷ items) ts)
+pub items_back : (n : ℕ) (item : OdeItem) (items : List OdeItem) (ts : List Tree) → list_all is_item (item ∷ items) ≡ true → Sides (Back Term) (item ∷ items) ts → ItemsTold (said n (join_by (λ x. x) comma (item_texts (item ∷ items) (texts_of ts)))) (item ∷ items) (sides_of (item ∷ items) ts)
 items_back n (Const c) items ts h all =
     let w = and_parts (is_item (Const c)) (list_all is_item items) h in
     let text = item_text (Const c) (texts_of ts) in
@@ -141,4 +112,4 @@ items_back n (Evolve x) items (t ∷ ts) h all =
     let w = and_parts (is_item (Evolve x)) (list_all is_item items) h in
     let text = item_text (Evolve x) (texts_of (t ∷ ts)) in
     let more = flat_map (λ x. comma ++ x) (item_texts items (texts_of ts)) in
-    rw (said-append n text more) (later_items (behind n text) (said n text) (Evolve x ∷ []) items (t ∷ []) ts w.1 all.1 (one_item (evolve_back n x t all.0 (texts_of ts))))
+    rw (said-append n text more) (later_items (behind n text) (said n text) (Evolve x ∷ []) items (t ∷ []) ts w.1 all.1 (one_item (evolve_back n x t (all.0 1) (texts_of ts))))

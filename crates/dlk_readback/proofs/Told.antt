@@ -3,12 +3,15 @@ use Rattle.std.proofs.Common.{◌≡◌, ℕ, ◌+◌, List, [], ◌∷◌, ◌+
 use Rattle.std.specs.List.{join_by}
 use Rattle.dlk_tree.specs.declared.op.OdeItem.{OdeItem}
 use Rattle.dlk_tree.specs.declared.op.Op.{Op}
+use Rattle.dlk_tree.specs.declared.op.Sort.{Sort}
 use Rattle.dlk_tree.specs.Trees.{Tree, node, no_kids, kid}
 use Rattle.dlk_grammar.specs.Lexemes.{Lexeme, Comma, lexeme_of}
 use Rattle.dlk_grammar.specs.Phrases.{Phrase, Phrases, none, snoc, Item, Items, no_items, add}
 use Rattle.dlk_grammar.specs.Grammar.{Form, Reads, ReadsList, list-one, list-more, ReadsItems, ReadsItem, items-one, items-more}
 use Rattle.dlk_grammar.specs.Erased.{erase, erase_all, ills, ills_of_all, items_of, item_of, item_terms, ills_of_items}
-use Rattle.dlk_grammar.specs.Shown.{Piece, one, space}
+use Rattle.dlk_grammar.specs.Shown.{Piece, one, space, shown_at}
+use Rattle.dlk_readback.proofs.Climb.{form_at}
+use Rattle.dlk_readback.proofs.Kids.{Each}
 
 -- the lexemes of a text whose first token is at place n
 abbrev pub said : ℕ → List Piece → List Lexeme
@@ -89,14 +92,13 @@ more_listed {ts = ts} d e = record {
   no_ills = ap (λ (l : List ℕ). l ++ ills e.phrase) d.no_ills ∙ e.no_ills;
 }
 
--- P holds of each
-abbrev pub Each : (Tree → Type 0) → List Tree → Type 0
-Each P [] = Unit {0}
-Each P (t ∷ ts) = P t × Each P ts
-
 -- a text that says the tree, wherever it begins
 abbrev pub TellsTree : Form → List Piece → Tree → Type 0
 TellsTree f text t = (n : ℕ) → Told f (said n text) t
+
+-- at each least level the tree's text says the tree, wherever it begins
+abbrev pub Back : Sort → Tree → Type 0
+Back s t = (l : ℕ) → TellsTree (form_at s l) (shown_at l t) t
 
 -- a separator is a comma, maybe with a space
 abbrev IsComma : List Piece → Type 0
