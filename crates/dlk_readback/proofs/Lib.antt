@@ -9,3 +9,4 @@ pub mod Back
 pub mod Numbers
 pub mod Fronts
 pub mod Neighbours
+pub mod Apart
