@@ -10,3 +10,5 @@ pub mod Numbers
 pub mod Fronts
 pub mod Neighbours
 pub mod Apart
+pub mod Calm
+pub mod Tame
