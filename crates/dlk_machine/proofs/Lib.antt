@@ -3,3 +3,4 @@ pub mod Machine
 pub mod Parse
 pub mod Sequents
 pub mod Expressions
+pub mod Examples
