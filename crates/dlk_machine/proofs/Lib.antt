@@ -3,3 +3,6 @@ pub mod Machine
 pub mod Parse
 pub mod Sequents
 pub mod Expressions
+pub mod Opening
+pub mod Climb
+pub mod Firsts
