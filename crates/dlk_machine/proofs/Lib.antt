@@ -6,3 +6,4 @@ pub mod Expressions
 pub mod Opening
 pub mod Climb
 pub mod Firsts
+pub mod Only
