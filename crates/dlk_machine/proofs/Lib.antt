@@ -7,3 +7,4 @@ pub mod Opening
 pub mod Climb
 pub mod Firsts
 pub mod Only
+pub mod Found
