@@ -8,3 +8,6 @@ pub mod Climb
 pub mod Firsts
 pub mod Only
 pub mod Found
+pub mod Live
+pub mod Parsing
+pub mod Reading
