@@ -11,3 +11,5 @@ pub mod Found
 pub mod Live
 pub mod Parsing
 pub mod Reading
+pub mod ExpressionLaws
+pub mod SequentLaws
