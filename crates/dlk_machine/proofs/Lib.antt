@@ -13,3 +13,4 @@ pub mod Parsing
 pub mod Reading
 pub mod ExpressionLaws
 pub mod SequentLaws
+pub mod ParseLaws

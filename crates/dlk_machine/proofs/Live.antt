@@ -75,7 +75,7 @@ top_sort Term = refl
 top_sort Formula = refl
 top_sort Program = refl
 
-top_need : (g : Sort) (n : Form) → need (top g) ≤ form_level n
+pub top_need : (g : Sort) (n : Form) → need (top g) ≤ form_level n
 top_need Term n = omega arith
 top_need Formula n = level_above n
 top_need Program n = level_above n
