@@ -3,7 +3,7 @@ use Rattle.std.proofs.Common.{◌≡◌, ℕ, ◌≤◌, Bool, true, false, List
 use Rattle.std.proofs.lemmas.List.{append-nil}
 use Rattle.dlk_grammar.specs.declared.token.Infix.TheVariants.{Equiv, Imply, Or, And, Equal, NotEqual, AtLeast, Greater, AtMost, Less, Add, Sub, Mul, Div, Pow, Choice}
 use Rattle.dlk_grammar.specs.Lexemes.{Lexeme, Name, Number, True, Invariant, RoundBar, BarRound, BraceBar, BarBrace, Open, Close, OpenBox, CloseBox, OpenBrace, CloseBrace, Prime, Gets, Query, Semi, Op}
-use Rattle.dlk_grammar.specs.Phrases.{Except, Phrase, Literal, Apply, Truth, Forall, Exists, Binary, Const, Assign, System, Phrases, none, Call, Any, Items}
+use Rattle.dlk_grammar.specs.Phrases.{Except, Phrase, Literal, Apply, Truth, Forall, Exists, Binary, Const, Assign, System, none, Call, Any, Items}
 use Rattle.dlk_grammar.specs.Grammar.{Form, formula, unf, atom, term, prim, prog, stmt, Reads, formula-imp, imp-disj, disj-conj, conj-unf, unf-forall, unf-exists, unf-box, unf-dia, unf-atom, atom-true, atom-compare, atom-context, atom-bracket, term-mul, mul-neg, neg-pow, pow-prim, prim-number, prim-nullary, prim-apply, prim-except, prim-bracket, stmt-const, stmt-assign, stmt-assign_prime, stmt-test, cmp-less, ReadsBrace, brace-prog, brace-items, brace-domain, ReadsItems, items-one, item-evolve, item-flow, item-except}
 use Rattle.dlk_tree.specs.declared.op.Num.{Num}
 use Rattle.dlk_tree.specs.declared.op.Sort.{Sort}

@@ -14,7 +14,7 @@ use Rattle.dlk_machine.proofs.Levels.{form_sort, top}
 use Rattle.dlk_machine.proofs.Machine.{State}
 use Rattle.dlk_machine.proofs.Parse.{Machine, parse, reader}
 use Rattle.dlk_machine.proofs.Expressions.{ExpressionState, expression_reader}
-use Rattle.dlk_machine.proofs.Sequents.{SequentState, sequent_reader}
+use Rattle.dlk_machine.proofs.Sequents.{sequent_reader}
 use Rattle.dlk_machine.proofs.Climb.{stands}
 use Rattle.dlk_machine.proofs.Only.{top_sort}
 use Rattle.dlk_machine.proofs.Live.{top_need}
