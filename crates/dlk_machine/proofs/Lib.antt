@@ -7,6 +7,7 @@ pub mod Opening
 pub mod Climb
 pub mod Firsts
 pub mod Only
+pub mod Spelled
 pub mod Found
 pub mod Live
 pub mod Parsing
