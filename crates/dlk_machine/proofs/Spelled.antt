@@ -10,7 +10,7 @@ use Rattle.dlk_tree.specs.declared.op.Sort.{Sort}
 use Rattle.dlk_tree.specs.declared.op.Sort.TheVariants.{Term, Formula, Program}
 use Rattle.dlk_machine.proofs.Levels.{form_level, form_sort}
 use Rattle.dlk_machine.proofs.Machine.{◌>>=◌, Between, By, Next, Quantifier, ForAll, ForSome, InBox, InDia, Prefix, Minus, Bang', Bound, Modal, Holder, Round, Args, InContext, In, InBrace, Assigns, Tests, Evolves, Domain, Notes, Part, Left, Before, Inside, level, right_level, operand_sort, result_sort, binary, prefix_level, prefix_sort, unary, Tail, Done, Bare, Grouped, Braced, Starred, Annotated, Piece, Is, State, Wants, Has, Calls, Bars, BarsName, Binds, Starts, StartsPrime, Opens, OpensName, OpensPrime, WantsItem, ItemName, ItemPrime, ItemBar, ItemBarName, ItemEnds, Invariants, as_sort, tail_of, is_program, wanted, join, reduce, fits}
-use Rattle.dlk_machine.proofs.Opening.{bind_some, begun}
+use Rattle.dlk_machine.proofs.Opening.{bind_some}
 use Rattle.dlk_machine.proofs.Climb.{need, stands}
 use Rattle.dlk_machine.proofs.Only.{Loose}
 
