@@ -3,6 +3,7 @@ pub mod Machine
 pub mod Parse
 pub mod Sequents
 pub mod Expressions
+pub mod Examples
 pub mod Opening
 pub mod Climb
 pub mod Firsts
