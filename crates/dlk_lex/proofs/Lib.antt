@@ -1,4 +1,0 @@
-pub mod Values
-pub mod Fronts
-pub mod BestMarks
-pub mod Steps

@@ -2,10 +2,8 @@
 #![tactic(auto)]
 
 mod fault;
-mod front;
-mod marks;
 mod splitting;
 
-pub use dlk_grammar::{Mark, Text, Token, TokenKind};
+pub use dlk_grammar::{Dots, Goal, Infix, Mark, Token, TokenKind};
 pub use fault::LexFault;
 pub use splitting::tokens;

@@ -1,4 +1,0 @@
-pub mod Keeping
-pub mod Tokens
-pub mod Sides
-pub mod Texts

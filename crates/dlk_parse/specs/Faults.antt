@@ -1,25 +1,31 @@
 -- Which faults of a text the errors are.
 use Rattle.std.specs.Prelude.{ℕ, List}
-use Rattle.dlk_grammar.specs.declared.token.Text.{Text}
-use Rattle.dlk_grammar.specs.Splits.{BadAt}
-use Rattle.dlk_grammar.specs.Texts.{TextFault, NotBuilt, Syntax}
+use Rattle.dlk_grammar.specs.Readings.{ReadFault, Literal, Nesting, Syntax, Shape, TooBig, TooDeep}
+use Rattle.dlk_grammar.specs.Texts.{BadByte, Unread}
+use Rattle.dlk_grammar.specs.Texts.{TextFault as WhyNoText}
 use Rattle.dlk_lex.specs.declared.fault.LexFault.{LexFault}
 use Rattle.dlk_lex.specs.declared.fault.LexFault.TheVariants as lex
 use Rattle.dlk_parse.specs.declared.fault.ParseFault.{ParseFault}
 use Rattle.dlk_parse.specs.declared.fault.ParseFault.TheVariants as parse
+use Rattle.dlk_parse.specs.declared.fault.TextFault.{TextFault}
+use Rattle.dlk_parse.specs.declared.fault.TextFault.TheVariants as text
 
--- the fault of the text; want of memory is free
-abbrev pub IsFaultOf : (TextFault → Type 0) → ParseFault → Type 0
-IsFaultOf is_fault (parse.NotBuilt at) = is_fault (NotBuilt at)
+-- the fault of the tokens; want of memory is free
+abbrev pub IsFaultOf : (ReadFault → Type 0) → ParseFault → Type 0
+IsFaultOf is_fault (parse.Literal at) = is_fault (Literal at)
+IsFaultOf is_fault (parse.Nesting at) = is_fault (Nesting at)
 IsFaultOf is_fault parse.Syntax = is_fault Syntax
+IsFaultOf is_fault (parse.Shape at) = is_fault (Shape at)
+IsFaultOf is_fault (parse.TooBig size) = is_fault (TooBig size)
+IsFaultOf is_fault (parse.TooDeep depth) = is_fault (TooDeep depth)
 IsFaultOf is_fault parse.Memory = Unit {0}
 
--- a fault of the split as one of reading
-abbrev pub of_lex : LexFault → ParseFault
-of_lex (lex.BadByte at) = parse.NotBuilt at
-of_lex lex.Memory = parse.Memory
+-- the fault of the text; want of memory is free
+abbrev pub IsTextFaultOf : (WhyNoText → Type 0) → TextFault → Type 0
+IsTextFaultOf is_fault (text.BadByte at) = is_fault (BadByte at)
+IsTextFaultOf is_fault (text.Unread why) = IsFaultOf (λ fault. is_fault (Unread fault)) why
 
--- why bytes are not split
-abbrev pub SplitFault : Text → List ℕ → TextFault → Type 0
-SplitFault text bytes (NotBuilt at) = BadAt text 0 bytes at
-SplitFault text bytes Syntax = ⊥
+-- a fault of the split as one of a text
+abbrev pub of_lex : LexFault → TextFault
+of_lex (lex.BadByte at) = text.BadByte at
+of_lex lex.Memory = text.Unread parse.Memory

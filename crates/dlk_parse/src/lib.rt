@@ -1,12 +1,7 @@
-//! Reads formulas and sequents into a store.
+//! Reads terms, formulas, programs and sequents into a store.
 #![tactic(auto)]
 
+mod code;
 mod fault;
-mod reader;
-mod reading;
 
-pub use fault::ParseFault;
-pub use reading::{read_formula, read_sequent};
-
-#[cfg(test)]
-mod tests;
+pub use fault::{ParseFault, TextFault};
