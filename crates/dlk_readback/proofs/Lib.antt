@@ -12,3 +12,4 @@ pub mod Neighbours
 pub mod Apart
 pub mod Calm
 pub mod Tame
+pub mod Whole

@@ -149,20 +149,13 @@ all_fit _ = refl
 
 -- texts with a flat separator between
 module _ (d : Dots) (most a : ℕ) (le : a ≤ most) where
-  Level : List Piece → Type 0
-  Level text = Moves d most a a text
+  more_level : (sep : List Piece) (xs : List (List Piece)) → flat d sep ≡ true → Each (Moves d most a a) xs → Moves d most a a (flat_map (λ y. sep ++ y) xs)
+  more_level sep [] s all = no_moves
+  more_level sep (x ∷ xs) s all = moves-append (sep ++ x) (flat_map (λ y. sep ++ y) xs) (moves-append sep x (flat_moves sep le s) all.0) (more_level sep xs s all.1)
 
-  later_level : (sep x : List Piece) (xs : List (List Piece)) → flat d sep ≡ true → Moves d most a a x → Each (Moves d most a a) xs → Moves d most a a (x ++ flat_map (λ y. sep ++ y) xs)
-  later_level sep x [] s h all = moves-append x [] h no_moves
-  later_level sep x (y ∷ xs) s h all = moves-append x ((sep ++ y) ++ flat_map (λ z. sep ++ z) xs) h (more (sep ++ y) xs (moves-append sep y (flat_moves sep le s) all.0) all.1)
-    where
-      more : (z : List Piece) (zs : List (List Piece)) → Moves d most a a z → Each (Moves d most a a) zs → Moves d most a a (z ++ flat_map (λ y. sep ++ y) zs)
-      more z [] h all = moves-append z [] h no_moves
-      more z (w ∷ zs) h all = moves-append z ((sep ++ w) ++ flat_map (λ y. sep ++ y) zs) h (more (sep ++ w) zs (moves-append sep w (flat_moves sep le s) all.0) all.1)
-
-  joined_level : (sep : List Piece) (xs : List (List Piece)) → flat d sep ≡ true → Each (Moves d most a a) xs → Moves d most a a (joined sep xs)
+  pub joined_level : (sep : List Piece) (xs : List (List Piece)) → flat d sep ≡ true → Each (Moves d most a a) xs → Moves d most a a (joined sep xs)
   joined_level sep [] s all = no_moves
-  joined_level sep (x ∷ xs) s all = later_level sep x xs s all.0 all.1
+  joined_level sep (x ∷ xs) s all = moves-append x (flat_map (λ y. sep ++ y) xs) all.0 (more_level sep xs s all.1)
 
   some_level : (xs : List (List Piece)) (i : ℕ) → Each (Moves d most a a) xs → Moves d most a a (get_or xs i [])
   some_level [] i all = no_moves
