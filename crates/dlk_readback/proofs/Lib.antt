@@ -13,3 +13,4 @@ pub mod Apart
 pub mod Calm
 pub mod Tame
 pub mod Whole
+pub mod Turned

@@ -2,8 +2,7 @@
 use Rattle.std.proofs.Common.{◌≡◌, ◌≢◌, ℕ, ◌+◌, ◌<◌, ◌≤◌, Bool, true, false, List, [], ◌∷◌, ◌++◌, map, flat_map, Option, Some, None, refl, sym, ap, subst, ◌∙◌, append_assoc, append-nil, arith, lit≤}
 use Rattle.dlk_tree.specs.declared.op.Sort.{Sort}
 use Rattle.dlk_tree.specs.declared.op.Sort.TheVariants as sort
-use Rattle.dlk_tree.specs.Trees.{Tree, size, depth, sort as sort_in, WellMade}
-use Rattle.dlk_tree.specs.Occurs.{has_dots, has_hole}
+use Rattle.dlk_tree.specs.Trees.{Tree, size, depth, sort as sort_in}
 use Rattle.dlk_grammar.specs.declared.token.Token.{Token}
 use Rattle.dlk_grammar.specs.declared.token.TokenKind.{TokenKind}
 use Rattle.dlk_grammar.specs.declared.token.TokenKind.TheVariants.{End}
@@ -13,13 +12,14 @@ use Rattle.dlk_grammar.specs.declared.token.Goal.{Goal}
 use Rattle.dlk_grammar.specs.declared.token.Goal.TheVariants.{Formula, Term, Program, Expression}
 use Rattle.dlk_grammar.specs.Lexemes.{Lexeme, lexeme_of, lexemes_from, lexemes}
 use Rattle.dlk_grammar.specs.Phrases.{Phrase}
-use Rattle.dlk_grammar.specs.Grammar.{Form, formula, term, prog, Reads, ReadsExpression, as-formula, as-program}
+use Rattle.dlk_grammar.specs.Grammar.{Form, formula, term, prog, Reads, ReadsExpression, as-formula, as-program, as-term}
 use Rattle.dlk_grammar.specs.Erased.{erase, ills, least}
 use Rattle.dlk_grammar.specs.Readings.{Says, Against, Literal, Nesting, Syntax, Shape, TooBig, TooDeep, ReadFault, FirstPast, IsRead, IsTree, grammar, itself, most_nodes, greatest_depth}
+use Rattle.dlk_grammar.specs.Splits.{Splits}
 use Rattle.dlk_grammar.specs.Texts.{TreeText}
 use Rattle.dlk_grammar.specs.Shown.{Piece, one, space, spell, shown}
 use Rattle.dlk_machine.proofs.ParseLaws.{one_read, one_expression_read}
-use Rattle.dlk_readback.specs.Readable.{goal_of, IsWithinLimits}
+use Rattle.dlk_readback.specs.Readable.{goal_of, HasNoneRefused, IsReadable, IsNoFormulaText}
 use Rattle.dlk_readback.proofs.Climb.{form_at}
 use Rattle.dlk_readback.proofs.Kids.{Each}
 use Rattle.dlk_readback.proofs.Told.{said, Told}
@@ -98,25 +98,37 @@ one_of_goal Formula l p q r s = one_read formula l p q r s
 one_of_goal Program l p q r s = one_read prog l p q r s
 one_of_goal Expression l p q r s = one_expression_read l p q r s
 
-module _ (d : Dots) (t : Tree) (w : WellMade t) (clean : IsClean d t) (limits : IsWithinLimits t) where
+-- where they are refused, nothing is
+clean : (d : Dots) (t : Tree) → HasNoneRefused d t → IsClean d t
+clean Refused t h = refused_clean t h.0 h.1
+clean Allowed t h = allowed_clean t
+
+module _ (d : Dots) (t : Tree) (r : IsReadable d t) where
   -- the text of the tree is read by a goal for which what it says is a text
-  text_of : (goal : Goal) → ((l : List Lexeme) → Told (form_at (sort_in t) 1) l t → (p : Phrase) → Reads (form_at (sort_in t) 1) l p → grammar goal l p) → TreeText goal d (spell (shown t)) t
+  text_of : (goal : Goal) → ((tokens : List Token) → Splits 0 (spell (shown t)) tokens → (p : Phrase) → Reads (form_at (sort_in t) 1) (lexemes tokens) p → grammar goal (lexemes tokens) p) → TreeText goal d (spell (shown t)) t
   text_of goal read =
-      let f = (shown_fine t w).at 0 in
-      let told = subst (λ (l : List Lexeme). Told (form_at (sort_in t) 1) l t) (sym (lexemes-said f)) (back t w 1 0) in
-      let calm = calm_tokens d (depth t) (omega (arith, limits.shallow)) (shown_even d t w clean) f in
+      let f = (shown_fine t r.well_made).at 0 in
+      let told = subst (λ (l : List Lexeme). Told (form_at (sort_in t) 1) l t) (sym (lexemes-said f)) (back t r.well_made 1 0) in
+      let calm = calm_tokens d (depth t) (omega (arith, r.limits.shallow)) (shown_even d t r.well_made (clean d t r.permitted)) f in
       record {
         tokens = f.tokens;
         splits = f.splits;
-        reads = is_read (grammar goal) itself d f.tokens erase (one_of_goal goal (lexemes f.tokens)) told.phrase t (read (lexemes f.tokens) told told.phrase told.reads) told.erased calm
-            (ap (λ (l : List ℕ). l ++ []) told.no_ills) (subst (λ (u : Tree). size u ≤ most_nodes) (sym told.erased) limits.small, tt) (subst (λ (u : Tree). depth u ≤ greatest_depth) (sym told.erased) limits.shallow, tt);
+        reads = is_read (grammar goal) itself d f.tokens erase (one_of_goal goal (lexemes f.tokens)) told.phrase t (read f.tokens f.splits told.phrase told.reads) told.erased calm
+            (ap (λ (l : List ℕ). l ++ []) told.no_ills) (subst (λ (u : Tree). size u ≤ most_nodes) (sym told.erased) r.limits.small, tt) (subst (λ (u : Tree). depth u ≤ greatest_depth) (sym told.erased) r.limits.shallow, tt);
       }
 
   pub tree_text : TreeText (goal_of (sort_in t)) d (spell (shown t)) t
-  tree_text = text_of (goal_of (sort_in t)) (λ l told p r. as_goal (sort_in t) r)
+  tree_text = text_of (goal_of (sort_in t)) (λ tokens splits p h. as_goal (sort_in t) h)
 
-pub allowed_text : (t : Tree) → WellMade t → IsWithinLimits t → TreeText (goal_of (sort_in t)) Allowed (spell (shown t)) t
-allowed_text t w limits = tree_text Allowed t w (allowed_clean t) limits
+  -- the tree is of this sort
+  sorted : (s : Sort) → sort_in t ≡ s → {l : List Lexeme} {p : Phrase} → Reads (form_at (sort_in t) 1) l p → Reads (form_at s 1) l p
+  sorted s e {l} {p} h = subst (λ (u : Sort). Reads (form_at u 1) l p) e h
 
-pub refused_text : (t : Tree) → WellMade t → IsWithinLimits t → has_dots t ≡ false → has_hole t ≡ false → TreeText (goal_of (sort_in t)) Refused (spell (shown t)) t
-refused_text t w limits h g = tree_text Refused t w (refused_clean t h g) limits
+  pub formula_text : sort_in t ≡ sort.Formula → TreeText Expression d (spell (shown t)) t
+  formula_text e = text_of Expression (λ tokens splits p h. as-formula (sorted sort.Formula e h))
+
+  pub program_text : sort_in t ≡ sort.Program → TreeText Expression d (spell (shown t)) t
+  program_text e = text_of Expression (λ tokens splits p h. as-program (sorted sort.Program e h))
+
+  pub term_text : sort_in t ≡ sort.Term → IsNoFormulaText (spell (shown t)) → TreeText Expression d (spell (shown t)) t
+  term_text e none = text_of Expression (λ tokens splits p h. as-term (sorted sort.Term e h) (none tokens splits))
