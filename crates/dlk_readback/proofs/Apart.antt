@@ -1,8 +1,7 @@
 -- The bytes of shown text are its tokens.
-use Rattle.std.proofs.Common.{◌≡◌, ℕ, zero, suc, ◌+◌, ◌<◌, Bool, true, false, nat_lt, ◌&&◌, List, [], ◌∷◌, ◌++◌, length, map, replicate, flat_map, Option, Some, None, refl, sym, ap, subst, ◌∙◌, append_assoc, append-nil, arith, ltb-true}
-use Rattle.std.specs.List.{join_by, list_all}
+use Rattle.std.proofs.Common.{◌≡◌, ℕ, Bool, true, false, nat_lt, List, [], ◌∷◌, ◌++◌, length, replicate, flat_map, Option, Some, None, refl, sym, ap, subst, ◌∙◌, append_assoc, append-nil, ltb-true}
+use Rattle.std.specs.List.{list_all}
 use Rattle.std.proofs.lemmas.Bool.{and_parts}
-use Rattle.dlk_tree.specs.declared.op.Kind.{Kind}
 use Rattle.dlk_tree.specs.declared.op.Kind.TheVariants.{Func, UnitFunc, Pred, UnitPred, Quant, Prog, Ode}
 use Rattle.dlk_tree.specs.declared.op.OdeItem.{OdeItem}
 use Rattle.dlk_tree.specs.declared.op.OdeItem.TheVariants.{Evolve, Const}
@@ -17,11 +16,11 @@ use Rattle.dlk_tree.specs.Trees.{Tree, Forest, node, root, no_kids, kid, trees_i
 use Rattle.dlk_grammar.specs.declared.token.Mark.{Mark}
 use Rattle.dlk_grammar.specs.declared.token.Mark.TheVariants as mark
 use Rattle.dlk_grammar.specs.Tokens.{spelling}
-use Rattle.dlk_grammar.specs.Shown.{Piece, space, mark as the_mark, word, style, level, opening, between, closing, bracketed, variable, unit_brackets, ode_brackets, item_text, item_texts, is_true, joined, shown_at, shown, spell}
+use Rattle.dlk_grammar.specs.Shown.{Piece, space, mark as the_mark, word, level, between, closing, bracketed, unit_brackets, ode_brackets, item_texts, is_true, joined, shown_at, shown, spell}
 use Rattle.dlk_readback.proofs.Rows.{AllKids, none_of, one_of, two_of}
-use Rattle.dlk_readback.proofs.Kids.{Each, each_map, body, texts_of, comma, any_kids, joined-texts, args_of, Sides, sides_of, SystemKids, system_kids, system_inside, inside_is, real_items}
+use Rattle.dlk_readback.proofs.Kids.{Each, body, texts_of, comma, any_kids, args_of, Sides, SystemKids, system_kids, system_inside, inside_is, real_items}
 use Rattle.dlk_readback.proofs.Symbols.{sym_parts}
-use Rattle.dlk_readback.proofs.Neighbours.{Fine, TokensAt, end_fine, Begins, by_letter, by_mark, by_minus, Ends, alone_fine, before_fine, empty_fine, bar_fine, space_fine, true_fine, false_fine, hole_fine, dot_fine, name_fine, number_fine, begins_name, begins_number, is_alone}
+use Rattle.dlk_readback.proofs.Neighbours.{Fine, end_fine, Begins, by_letter, by_mark, by_minus, Ends, alone_fine, before_fine, empty_fine, bar_fine, space_fine, true_fine, false_fine, hole_fine, dot_fine, name_fine, number_fine, begins_name, begins_number, is_alone}
 
 -- what may follow a text: after a program anything, else neither a name, a number nor a point
 abbrev pub Stops : Sort → List Piece → Type 0
@@ -214,7 +213,7 @@ system_apart : (items : List OdeItem) (kids : Forest) → are_items items ≡ tr
 system_apart items kids h e all w =
     let k = system_kids KidApart items kids e all w in
     same_apart (ap (λ (l : List Piece). the_mark mark.OpenBrace ∷ (l ++ the_mark mark.CloseBrace ∷ [])) (inside_is KidApart items kids k))
-        (braced {s = Term} (system_inside items (trees_in kids) k.domain) (the_mark mark.CloseBrace ∷ []) (go k (is_true (root k.domain)) refl) (λ p f. alone_fine mark.CloseBrace p refl f) (λ p s. refl))
+    (braced {s = Term} (system_inside items (trees_in kids) k.domain) (the_mark mark.CloseBrace ∷ []) (go k (is_true (root k.domain)) refl) (λ p f. alone_fine mark.CloseBrace p refl f) (λ p s. refl))
   where
     go : (k : SystemKids KidApart items kids) → (b : Bool) → is_true (root k.domain) ≡ b → Apart Term (system_inside items (trees_in kids) k.domain)
     go k true e = rw e (same_apart (append-nil (joined comma (item_texts items (texts_of (trees_in kids))))) (all_items_apart items (trees_in kids) h k.sides))

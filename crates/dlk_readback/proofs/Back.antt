@@ -1,25 +1,23 @@
 -- The tokens of shown text say its tree.
-use Rattle.std.proofs.Common.{◌≡◌, ℕ, zero, suc, ◌+◌, Bool, true, false, nat_lt, List, [], ◌∷◌, ◌++◌, Option, Some, None, refl, sym, ap, subst, ◌∙◌, append_assoc, append-nil, arith, ltb-false}
-use Rattle.dlk_tree.specs.declared.op.Kind.{Kind}
+use Rattle.std.proofs.Common.{◌≡◌, ℕ, ◌+◌, Bool, true, false, nat_lt, List, [], ◌∷◌, ◌++◌, Option, Some, None, refl, ap, ◌∙◌, arith, ltb-false}
 use Rattle.dlk_tree.specs.declared.op.Kind.TheVariants.{UnitFunc, UnitPred, Quant, Prog}
 use Rattle.dlk_tree.specs.declared.op.Sort.{Sort}
 use Rattle.dlk_tree.specs.declared.op.Sort.TheVariants.{Term, Formula, Program}
 use Rattle.dlk_tree.specs.declared.op.Sym.{Sym}
-use Rattle.dlk_tree.specs.declared.op.Var.{Var}
 use Rattle.dlk_tree.specs.declared.op.Op.{Op}
 use Rattle.dlk_tree.specs.declared.op.Op.TheVariants as op
-use Rattle.dlk_tree.specs.Table.{sort_of, kid_sorts, Fits, is_sym_of}
+use Rattle.dlk_tree.specs.Table.{sort_of, Fits, is_sym_of}
 use Rattle.dlk_tree.specs.Trees.{Tree, Forest, node, no_kids, kid, sort, sorts, WellMade, AllWellMade}
 use Rattle.dlk_grammar.specs.declared.token.Infix.{Infix}
 use Rattle.dlk_grammar.specs.declared.token.Infix.TheVariants as sign
 use Rattle.dlk_grammar.specs.declared.token.Mark.TheVariants as mark
-use Rattle.dlk_grammar.specs.Lexemes.{Lexeme, Name, Open, OpenBrace, Op as Between}
+use Rattle.dlk_grammar.specs.Lexemes.{Lexeme, Open, OpenBrace, Op as Between}
 use Rattle.dlk_grammar.specs.Phrases
 use Rattle.dlk_grammar.specs.Phrases.{Phrase}
 use Rattle.dlk_grammar.specs.Grammar
 use Rattle.dlk_grammar.specs.Grammar.{Form, Reads, prim, atom}
-use Rattle.dlk_grammar.specs.Erased.{erase, ills, infix_op}
-use Rattle.dlk_grammar.specs.Shown.{Piece, mark, word, style, level, opening, between, closing, bracketed, open_bracket, close_bracket, unit_brackets, shown_at, shown}
+use Rattle.dlk_grammar.specs.Erased.{erase, infix_op}
+use Rattle.dlk_grammar.specs.Shown.{Piece, mark, word, level, opening, between, closing, bracketed, unit_brackets, shown_at}
 use Rattle.dlk_readback.proofs.Climb.{form_at, lower, any_level}
 use Rattle.dlk_readback.proofs.Rows.{AllKids, none_of, one_of, two_of}
 use Rattle.dlk_readback.proofs.Kids.{body}

@@ -1,5 +1,5 @@
 -- Tokens without a fault of their own: no literal is too long, no bracket too deep, and no dot or hole where they are refused.
-use Rattle.std.proofs.Common.{◌≡◌, ℕ, zero, suc, ◌+◌, ◌-◌, ◌<◌, ◌≤◌, Bool, true, false, cond, ◌&&◌, ◌||◌, not, List, [], ◌∷◌, ◌++◌, map, fold, refl, sym, ap, subst, ◌∙◌, append_assoc, arith, lit≤}
+use Rattle.std.proofs.Common.{◌≡◌, ℕ, ◌+◌, ◌-◌, ◌≤◌, Bool, true, false, cond, ◌&&◌, not, List, [], ◌∷◌, ◌++◌, map, fold, refl, sym, ap, subst, ◌∙◌, arith}
 use Rattle.std.specs.List.{list_all}
 use Rattle.std.proofs.lemmas.Bool.{and_parts}
 use Rattle.dlk_grammar.specs.declared.token.Token.{Token}
@@ -10,7 +10,7 @@ use Rattle.dlk_grammar.specs.declared.token.Mark.TheVariants as mark
 use Rattle.dlk_grammar.specs.declared.token.Dots.{Dots}
 use Rattle.dlk_grammar.specs.declared.token.Dots.TheVariants.{Refused, Allowed}
 use Rattle.dlk_grammar.specs.Lexemes.{Lexeme, lexeme_of, lexemes_from}
-use Rattle.dlk_grammar.specs.Readings.{permits, Permitted, opens, closes, level_behind, level, FirstAt, IsLong, OpensTooDeep}
+use Rattle.dlk_grammar.specs.Readings.{Permitted, opens, closes, level_behind, level, FirstAt, IsLong, OpensTooDeep}
 use Rattle.dlk_grammar.specs.Shown.{Piece, one, space}
 use Rattle.dlk_readback.proofs.Neighbours.{kinds}
 
@@ -115,10 +115,11 @@ kinds-append (one k ∷ x) y = ap (λ (l : List TokenKind). k ∷ l) (kinds-appe
 kinds-append (space ∷ x) y = kinds-append x y
 
 pub moves-append : {d : Dots} {most a b c : ℕ} (x y : List Piece) → Moves d most a b x → Moves d most b c y → Moves d most a c (x ++ y)
-moves-append {d} x y f g = record { go = λ n m e h.
-    let u = f.go n m e h in
-    let v = g.go n (after m (kinds x)) u.1 h in
-    rw (kinds-append x y) (calm-append d m (kinds x) (kinds y) u.0 v.0, after-append m (kinds x) (kinds y) ∙ v.1)
+moves-append {d} x y f g = record {
+  go = λ n m e h.
+      let u = f.go n m e h in
+      let v = g.go n (after m (kinds x)) u.1 h in
+      rw (kinds-append x y) (calm-append d m (kinds x) (kinds y) u.0 v.0, after-append m (kinds x) (kinds y) ∙ v.1);
 }
 
 -- with more room, and from higher up
@@ -155,11 +156,12 @@ flat_level d n k h =
 
 pub flat_moves : {d : Dots} {most a : ℕ} (text : List Piece) → a ≤ most → flat d text ≡ true → Moves d most a a text
 flat_moves [] le h = no_moves
-flat_moves {d} {most} {a} (one k ∷ text) le h = record { go = λ n m e g.
-    let w = and_parts (is_flat d k) (flat d text) h in
-    let v = flat_level d m k w.0 in
-    let r = (flat_moves {d = d} {most = most} {a = a} text le w.1).go n (level_behind m k) (v.1 ∙ e) g in
-    ((v.0, omega (arith, v.1, e), r.0), r.1)
+flat_moves {d} {most} {a} (one k ∷ text) le h = record {
+  go = λ n m e g.
+      let w = and_parts (is_flat d k) (flat d text) h in
+      let v = flat_level d m k w.0 in
+      let r = (flat_moves {d = d} {most = most} {a = a} text le w.1).go n (level_behind m k) (v.1 ∙ e) g in
+      ((v.0, omega (arith, v.1, e), r.0), r.1);
 }
 flat_moves (space ∷ text) le h = record { go = λ n m e g. (flat_moves text le h).go n m e g }
 
@@ -173,16 +175,18 @@ leads d (one k ∷ (p ∷ text)) = is_flat d k && leads d (p ∷ text)
 pub leads_moves : {d : Dots} {most : ℕ} (text : List Piece) → 1 ≤ most → leads d text ≡ true → Moves d most 0 1 text
 leads_moves [] le h = absurd cc
 leads_moves (space ∷ text) le h = record { go = λ n m e g. (leads_moves text le h).go n m e g }
-leads_moves {d} (one k ∷ []) le h = record { go = λ n m e g.
-    let w = and_parts (is_good d k) (opens k) h in
-    let up : level_behind m k ≡ m + 1 = ap (λ (b : Bool). cond b (m + 1) (cond (closes k) (m - 1) m)) w.1 in
-    ((w.0, omega (arith, up, e), tt), omega (arith, up, e))
+leads_moves {d} (one k ∷ []) le h = record {
+  go = λ n m e g.
+      let w = and_parts (is_good d k) (opens k) h in
+      let up : level_behind m k ≡ m + 1 = ap (λ (b : Bool). cond b (m + 1) (cond (closes k) (m - 1) m)) w.1 in
+      ((w.0, omega (arith, up, e), tt), omega (arith, up, e));
 }
-leads_moves {d} (one k ∷ (p ∷ text)) le h = record { go = λ n m e g.
-    let w = and_parts (is_flat d k) (leads d (p ∷ text)) h in
-    let v = flat_level d m k w.0 in
-    let r = (leads_moves (p ∷ text) le w.1).go n (level_behind m k) (v.1 ∙ e) g in
-    ((v.0, omega (arith, v.1, e), r.0), r.1)
+leads_moves {d} (one k ∷ (p ∷ text)) le h = record {
+  go = λ n m e g.
+      let w = and_parts (is_flat d k) (leads d (p ∷ text)) h in
+      let v = flat_level d m k w.0 in
+      let r = (leads_moves (p ∷ text) le w.1).go n (level_behind m k) (v.1 ∙ e) g in
+      ((v.0, omega (arith, v.1, e), r.0), r.1);
 }
 
 -- a closing bracket and then flat pieces
@@ -194,12 +198,13 @@ trails d (one k ∷ text) = (is_good d k && (not (opens k) && closes k)) && flat
 pub trails_moves : {d : Dots} {most : ℕ} (text : List Piece) → 1 ≤ most → trails d text ≡ true → Moves d most 1 0 text
 trails_moves [] le h = absurd cc
 trails_moves (space ∷ text) le h = absurd cc
-trails_moves {d} {most} (one k ∷ text) le h = record { go = λ n m e g.
-    let w = and_parts (is_good d k && (not (opens k) && closes k)) (flat d text) h in
-    let v = and_parts (is_good d k) (not (opens k) && closes k) w.0 in
-    let u = and_parts (not (opens k)) (closes k) v.1 in
-    let down : level_behind m k ≡ m - 1 = ap (λ (b : Bool). cond b (m + 1) (cond (closes k) (m - 1) m)) (not_true (opens k) u.0) ∙ ap (λ (b : Bool). cond b (m - 1) m) u.1 in
-    let same : level_behind m k ≡ n + 0 = omega (arith, down, e) in
-    let r = (flat_moves {d = d} {most = most} {a = 0} text (omega arith) w.1).go n (level_behind m k) same g in
-    ((v.0, omega (arith, same), r.0), r.1)
+trails_moves {d} {most} (one k ∷ text) le h = record {
+  go = λ n m e g.
+      let w = and_parts (is_good d k && (not (opens k) && closes k)) (flat d text) h in
+      let v = and_parts (is_good d k) (not (opens k) && closes k) w.0 in
+      let u = and_parts (not (opens k)) (closes k) v.1 in
+      let down : level_behind m k ≡ m - 1 = ap (λ (b : Bool). cond b (m + 1) (cond (closes k) (m - 1) m)) (not_true (opens k) u.0) ∙ ap (λ (b : Bool). cond b (m - 1) m) u.1 in
+      let same : level_behind m k ≡ n + 0 = omega (arith, down, e) in
+      let r = (flat_moves {d = d} {most = most} {a = 0} text (omega arith) w.1).go n (level_behind m k) same g in
+      ((v.0, omega (arith, same), r.0), r.1);
 }

@@ -1,25 +1,23 @@
 -- What applications, brackets and systems say.
-use Rattle.std.proofs.Common.{◌≡◌, ℕ, zero, suc, ◌+◌, ◌≤◌, ◌==◌, Bool, true, false, cond, nat_lt, nat_le, ◌&&◌, ◌||◌, not, List, [], ◌∷◌, ◌++◌, length, length-append, map, replicate, flat_map, get_or, Option, Some, None, refl, sym, ap, subst, subst₂, ◌∙◌, append_assoc, append-nil, arith}
+use Rattle.std.proofs.Common.{◌≡◌, ℕ, ◌+◌, Bool, true, false, nat_le, ◌&&◌, List, [], ◌∷◌, ◌++◌, length, length-append, replicate, None, refl, sym, ap, subst, ◌∙◌, append_assoc, append-nil, arith}
 use Rattle.std.specs.List.{join_by, list_all}
 use Rattle.std.proofs.lemmas.Bool.{and_parts, leb-true, le-ltb}
 use Rattle.dlk_tree.specs.declared.op.OdeItem.{OdeItem}
-use Rattle.dlk_tree.specs.declared.op.OdeItem.TheVariants.{Evolve, Const}
 use Rattle.dlk_tree.specs.declared.op.Sym.{Sym}
 use Rattle.dlk_tree.specs.declared.op.Kind.{Kind}
 use Rattle.dlk_tree.specs.declared.op.Kind.TheVariants.{Func, Pred}
-use Rattle.dlk_tree.specs.declared.op.Sort.{Sort}
-use Rattle.dlk_tree.specs.declared.op.Sort.TheVariants.{Term, Formula, Program}
+use Rattle.dlk_tree.specs.declared.op.Sort.TheVariants.{Term, Formula}
 use Rattle.dlk_tree.specs.declared.op.Op.{Op}
 use Rattle.dlk_tree.specs.declared.op.Op.TheVariants as op
-use Rattle.dlk_tree.specs.Table.{sort_of, kid_sorts, is_item, are_items, evolved, all_distinct, is_sym_of, may_have_taboo, has_arity}
-use Rattle.dlk_tree.specs.Trees.{Tree, node, root, Forest, no_kids, kid, forest, trees_in, sort, sorts, WellMade, AllWellMade}
+use Rattle.dlk_tree.specs.Table.{sort_of, is_item, are_items, evolved, all_distinct, is_sym_of, may_have_taboo, has_arity}
+use Rattle.dlk_tree.specs.Trees.{Tree, node, root, Forest, no_kids, kid, forest, trees_in, sorts, AllWellMade}
 use Rattle.dlk_grammar.specs.declared.token.Mark.TheVariants as mark
 use Rattle.dlk_grammar.specs.declared.token.Infix.TheVariants.{And, Mul}
-use Rattle.dlk_grammar.specs.Lexemes.{Lexeme, Name, Open, Close, OpenBrace, CloseBrace, Prime, Op as Between}
+use Rattle.dlk_grammar.specs.Lexemes.{Lexeme, Name, Open, OpenBrace, CloseBrace, Op as Between}
 use Rattle.dlk_grammar.specs.Phrases.{Phrase, Phrases, Items, none, snoc, Everywhere, Call, Apply, Holds, System, Truth, Loop}
-use Rattle.dlk_grammar.specs.Grammar.{Form, term, formula, prim, atom, stmt, prog, Reads, ReadsBrace, ReadsList, prim-nullary, prim-apply, atom-nullary, atom-holds, stmt-group, brace-prog, brace-items, brace-domain, star-none, star-loop, inv-none, semi-none}
+use Rattle.dlk_grammar.specs.Grammar.{term, stmt, prog, Reads, ReadsBrace, ReadsList, prim-nullary, prim-apply, atom-nullary, atom-holds, stmt-group, brace-prog, brace-items, brace-domain, star-none, star-loop, inv-none, semi-none}
 use Rattle.dlk_grammar.specs.Erased.{erase, erase_all, ills, ills_of_all, items_of as items_said, item_terms, ills_of_items, count, symbol, place_if, is_ill_call, is_ill_system}
-use Rattle.dlk_grammar.specs.Shown.{Piece, mark, word, style, level, opening, between, closing, items_of, shown_at, shown_kids, shown, joined, item_texts, is_true, domain_text, inside}
+use Rattle.dlk_grammar.specs.Shown.{Piece, mark, style, level, shown_at, shown_kids, shown, joined, item_texts, is_true, inside}
 use Rattle.dlk_readback.proofs.Climb.{form_at}
 use Rattle.dlk_readback.proofs.Rows.{AllKids}
 use Rattle.dlk_readback.proofs.Kids.{each_map, forest-trees, body, texts_of, comma, any_kids, joined-texts, args_of, Sides, sides_of, SystemKids, system_kids, truth, system_inside, inside_is, real_items}

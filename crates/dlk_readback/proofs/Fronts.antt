@@ -1,10 +1,10 @@
 -- When a token is the longest at the front.
-use Rattle.std.proofs.Common.{◌≡◌, ◌≢◌, ◌⊎◌, ℕ, zero, suc, ◌+◌, ◌<◌, ◌≤◌, ◌==◌, Bool, true, false, cond, ◌&&◌, ◌||◌, not, nat_lt, nat_le, List, [], ◌∷◌, ◌++◌, length, length-append, get_or, codes, Some, None, refl, sym, ap, subst, ◌∙◌, append_assoc, arith, ltb-false, lit<, eq-eqb, inl, inr}
+use Rattle.std.proofs.Common.{◌≡◌, ◌⊎◌, ℕ, zero, suc, ◌+◌, ◌<◌, ◌≤◌, ◌==◌, Bool, true, false, ◌&&◌, ◌||◌, not, nat_lt, List, [], ◌∷◌, ◌++◌, length, length-append, get_or, codes, refl, sym, ap, subst, ◌∙◌, append_assoc, arith, ltb-false, lit<, eq-eqb, inl, inr}
 use Rattle.std.specs.List.{list_all}
 use Rattle.std.specs.Str.{bytes_eq}
 use Rattle.std.proofs.lemmas.Bool.{and_parts}
 use Rattle.std.proofs.lemmas.Bool.Decides.{nat_tests, Decides-eqb}
-use Rattle.dlk_tree.specs.Names.{is_letter, is_name_byte, is_word, is_name}
+use Rattle.dlk_tree.specs.Names.{is_letter, is_name_byte, is_word}
 use Rattle.dlk_grammar.specs.declared.token.Mark.{Mark}
 use Rattle.dlk_grammar.specs.declared.token.Mark.TheVariants as mark
 use Rattle.dlk_grammar.specs.declared.token.TokenKind.{TokenKind}
@@ -224,7 +224,7 @@ dot_longest b rest k d = longest (46 ∷ 95 ∷ b ∷ []) rest k d go
   where
     go : (l after : List ℕ) → 46 ∷ 95 ∷ b ∷ rest ≡ l ++ after → Shape l → length l ≤ 3
     go [] after e g = omega arith
-    go (c ∷ l) after e g = 
+    go (c ∷ l) after e g =
         let first : 46 ≡ c = cc in
         elim (other_shape c l (sym (ap is_letter first)) (sym (ap is_digit first)) (sym (ap begins_mark first)) g) [
           | inl w ↦ omega (arith, w.1)
@@ -236,7 +236,7 @@ hole_longest rest = longest (95 ∷ []) rest kind.Hole hole go
   where
     go : (l after : List ℕ) → 95 ∷ rest ≡ l ++ after → Shape l → length l ≤ 1
     go [] after e g = omega arith
-    go (c ∷ l) after e g = 
+    go (c ∷ l) after e g =
         let first : 95 ≡ c = cc in
         elim (other_shape c l (sym (ap is_letter first)) (sym (ap is_digit first)) (sym (ap begins_mark first)) g) [
           | inl w ↦ let n : false ≡ true = ap (λ (x : ℕ). x == 46) first ∙ w.0 in absurd cc

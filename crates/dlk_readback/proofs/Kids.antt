@@ -1,5 +1,5 @@
 -- The kids of applications and systems, and their texts.
-use Rattle.std.proofs.Common.{◌≡◌, ℕ, zero, suc, ◌+◌, ◌==◌, Bool, true, false, cond, ◌&&◌, nat_le, List, [], ◌∷◌, ◌++◌, length, map, replicate, flat_map, get_or, Some, refl, sym, ap, subst, ◌∙◌}
+use Rattle.std.proofs.Common.{◌≡◌, ℕ, zero, suc, ◌+◌, ◌==◌, Bool, true, false, cond, ◌&&◌, nat_le, List, [], ◌∷◌, ◌++◌, length, map, replicate, flat_map, get_or, Some, refl, ap, subst, ◌∙◌}
 use Rattle.std.specs.List.{join_by, list_all}
 use Rattle.std.proofs.lemmas.Bool.{and_parts}
 use Rattle.dlk_tree.specs.declared.op.OdeItem.{OdeItem}

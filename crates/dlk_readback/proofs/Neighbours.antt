@@ -1,6 +1,6 @@
 -- Neighbours that stay apart.
-use Rattle.std.proofs.Common.{◌≡◌, ◌≢◌, ◌⊎◌, ℕ, ◌+◌, ◌<◌, Bool, true, false, ◌||◌, ◌&&◌, ◌==◌, not, nat_lt, List, [], ◌∷◌, ◌++◌, length, map, codes, refl, sym, ap, subst, ◌∙◌, append_assoc, eqb-true, ltb-true, arith, inl, inr}
-use Rattle.std.specs.Fmt.{decimal, digits}
+use Rattle.std.proofs.Common.{◌≡◌, ◌≢◌, ℕ, ◌+◌, ◌<◌, Bool, true, false, ◌||◌, ◌&&◌, ◌==◌, not, List, [], ◌∷◌, ◌++◌, length, map, codes, refl, sym, ap, subst, ◌∙◌, append_assoc, eqb-true, arith}
+use Rattle.std.specs.Fmt.{decimal}
 use Rattle.std.specs.List.{list_all}
 use Rattle.std.proofs.lemmas.Bool.{and_parts}
 use Rattle.std.proofs.lemmas.Fmt.{decimal_digit}
@@ -12,7 +12,7 @@ use Rattle.dlk_grammar.specs.declared.token.Mark.TheVariants as mark
 use Rattle.dlk_grammar.specs.declared.token.Token.{Token}
 use Rattle.dlk_grammar.specs.declared.token.TokenKind.{TokenKind}
 use Rattle.dlk_grammar.specs.declared.token.TokenKind.TheVariants as kind
-use Rattle.dlk_grammar.specs.Tokens.{is_digit, are_digits, spelling, Spells, word, true_word, false_word, integer, decimal as decimal_point, dot, hole, a_mark, literal_number}
+use Rattle.dlk_grammar.specs.Tokens.{is_digit, are_digits, spelling, Spells, word, true_word, false_word, integer, decimal as decimal_point, dot}
 use Rattle.dlk_grammar.specs.Splits.{Longest, BeginsComment, block, line, Splits, ended, space as a_space, one as a_token, token}
 use Rattle.dlk_grammar.specs.Shown.{Piece, one, space, mark as the_mark, word as the_word, token_text, literal, spell}
 use Rattle.dlk_readback.proofs.Numbers.{Literal, whole, parts, literal_is}
@@ -47,14 +47,15 @@ comment_is (block rest) = refl
 comment_is (line rest) = refl
 
 token_fine : (k : TokenKind) (p : List Piece) → Longest (token_text k ++ spell p) (token_text k) k → is_comment (token_text k ++ spell p) ≡ false → Fine p → Fine (one k ∷ p)
-token_fine k p l c f = record { at = λ n.
-    let text = token_text k in
-    let d = f.at (n + length text) in
-    record {
-      tokens = token k n (n + length text) ∷ d.tokens;
-      splits = a_token text (spell p) k refl (λ b. let w : false ≡ true = sym c ∙ comment_is b in absurd cc) l d.splits;
-      kinds_are = ap (λ (ks : List TokenKind). k ∷ ks) d.kinds_are;
-    }
+token_fine k p l c f = record {
+  at = λ n.
+      let text = token_text k in
+      let d = f.at (n + length text) in
+      record {
+        tokens = token k n (n + length text) ∷ d.tokens;
+        splits = a_token text (spell p) k refl (λ b. let w : false ≡ true = sym c ∙ comment_is b in absurd cc) l d.splits;
+        kinds_are = ap (λ (ks : List TokenKind). k ∷ ks) d.kinds_are;
+      };
 }
 
 pub end_fine : Fine []

@@ -1,5 +1,5 @@
 -- The text of a number is a token of the number.
-use Rattle.std.proofs.Common.{◌≡◌, ℕ, zero, suc, ◌+◌, ◌-◌, ◌*◌, ◌/◌, ◌%◌, ◌^◌, ◌<◌, ◌≤◌, ◌==◌, Bool, true, false, cond, ◌&&◌, ◌||◌, not, nat_le, nat_lt, List, [], ◌∷◌, ◌++◌, length, length-append, codes, fold, refl, sym, ap, subst, ◌∙◌, append_assoc, append-nil, arith, lit<, ltb-true, leb-true, eqb-true, pow-add, div-le_self}
+use Rattle.std.proofs.Common.{◌≡◌, ℕ, zero, suc, ◌+◌, ◌-◌, ◌*◌, ◌/◌, ◌%◌, ◌^◌, ◌<◌, ◌≤◌, ◌==◌, Bool, true, false, cond, ◌||◌, not, nat_le, nat_lt, List, [], ◌∷◌, ◌++◌, length, length-append, codes, refl, sym, ap, subst, ◌∙◌, append_assoc, append-nil, arith, lit<, ltb-true, leb-true, eqb-true, pow-add, div-le_self}
 use Rattle.std.specs.Fmt.{decimal}
 use Rattle.std.specs.List.{list_all}
 use Rattle.std.proofs.Math.Nat.{div-div-eq-div-mul, pow-succ', div-lt_iff_lt-mul}
@@ -10,8 +10,7 @@ use Rattle.std.proofs.lemmas.List.Folds.{list_all-append}
 use Rattle.std.proofs.lemmas.List.Sums.{fold_push}
 use Rattle.dlk_tree.specs.declared.op.Num.{Num}
 use Rattle.dlk_tree.specs.Table.{is_num}
-use Rattle.dlk_grammar.specs.declared.token.TokenKind.TheVariants.{Number}
-use Rattle.dlk_grammar.specs.Tokens.{is_digit, are_digits, value, before_digits, trimmed, literal_number, Spells, integer, decimal as decimal_point}
+use Rattle.dlk_grammar.specs.Tokens.{is_digit, are_digits, value, trimmed, literal_number}
 use Rattle.dlk_grammar.specs.Shown.{last_digits, literal}
 
 digit : (d : ℕ) → d < 10 → is_digit (48 + d) ≡ true
@@ -117,7 +116,7 @@ literal_is n h = by_scale (n.scale == 0) refl
         let d = decimal_digits n.digits wide in
         let le = length-decimal-le_wide 38 n.digits (omega arith) low wide in
         whole (decimal n.digits) (ap (λ (b : Bool). cond b (decimal n.digits) (decimal (n.digits / 10 ^ n.scale) ++ (codes "." ++ last_digits n.scale n.digits))) e) d.are le
-            (λ i. record { digits = (ap value (append-nil (decimal n.digits)) ∙ d.says) i; scale = sym (eqb-true n.scale 0 e) i })
+        (λ i. record { digits = (ap value (append-nil (decimal n.digits)) ∙ d.says) i; scale = sym (eqb-true n.scale 0 e) i })
     by_scale false e =
         let f = last_digits n.scale n.digits in
         let front = decimal (n.digits / 10 ^ n.scale) in
@@ -127,8 +126,8 @@ literal_is n h = by_scale (n.scale == 0) refl
         let size = last_length n.scale n.digits in
         let less = div-le_self n.digits (10 ^ n.scale) in
         parts front f (ap (λ (b : Bool). cond b (decimal n.digits) (front ++ (codes "." ++ f))) e) (decimal_digits (n.digits / 10 ^ n.scale) (omega (arith, less, wide))).are
-            (some_digits f (omega (arith, size, some)) (last_all n.scale n.digits)) (omega (arith, size, parts_length n.scale n.digits few low))
-            (λ i. record { digits = (ap (λ (l : List ℕ). value (front ++ l)) trim ∙ parts_say n.scale n.digits wide) i; scale = (ap (λ (l : List ℕ). length l) trim ∙ size) i })
+        (some_digits f (omega (arith, size, some)) (last_all n.scale n.digits)) (omega (arith, size, parts_length n.scale n.digits few low))
+        (λ i. record { digits = (ap (λ (l : List ℕ). value (front ++ l)) trim ∙ parts_say n.scale n.digits wide) i; scale = (ap (λ (l : List ℕ). length l) trim ∙ size) i })
       where
         tail : (w : ℕ) → 0 < w → (n.digits % 10 == 0) ≡ false → trimmed (last_digits w n.digits) ≡ last_digits w n.digits
         tail zero some g = absurd (omega arith)

@@ -1,5 +1,5 @@
 -- What the items of a system say.
-use Rattle.std.proofs.Common.{◌≡◌, ℕ, zero, suc, ◌+◌, ◌==◌, Bool, true, false, cond, ◌&&◌, List, [], ◌∷◌, ◌++◌, length, map, replicate, flat_map, drop, get_or, Option, Some, None, refl, sym, ap, subst, subst₂, ◌∙◌, append_assoc, append-nil, arith}
+use Rattle.std.proofs.Common.{◌≡◌, ℕ, ◌+◌, true, List, [], ◌∷◌, ◌++◌, flat_map, Option, Some, None, refl, sym, ap, subst, subst₂, ◌∙◌, append_assoc, append-nil}
 use Rattle.std.specs.List.{join_by, list_all}
 use Rattle.std.proofs.lemmas.Bool.{and_parts}
 use Rattle.dlk_tree.specs.declared.op.OdeItem.{OdeItem}
@@ -7,14 +7,13 @@ use Rattle.dlk_tree.specs.declared.op.OdeItem.TheVariants.{Evolve, Const}
 use Rattle.dlk_tree.specs.declared.op.Sym.{Sym}
 use Rattle.dlk_tree.specs.declared.op.Kind.TheVariants.{Ode}
 use Rattle.dlk_tree.specs.declared.op.Sort.TheVariants.{Term}
-use Rattle.dlk_tree.specs.Table.{is_item, evolved}
+use Rattle.dlk_tree.specs.Table.{is_item}
 use Rattle.dlk_tree.specs.Trees.{Tree}
-use Rattle.dlk_grammar.specs.declared.token.Mark.TheVariants as mark
 use Rattle.dlk_grammar.specs.Lexemes.{Lexeme, Comma}
-use Rattle.dlk_grammar.specs.Phrases.{Phrase, Everywhere, Except, Item, Items, no_items, add, Evolve as evolve, Flow as flow}
+use Rattle.dlk_grammar.specs.Phrases.{Everywhere, Except, Item, Items, no_items, add, Evolve as evolve, Flow as flow}
 use Rattle.dlk_grammar.specs.Grammar.{term, ReadsItems, ReadsItem, items-one, items-more, item-evolve, item-flow, item-except}
 use Rattle.dlk_grammar.specs.Erased.{erase, ills, items_of, item_of, item_terms, ills_of_items}
-use Rattle.dlk_grammar.specs.Shown.{Piece, mark, word, ode_brackets, shown_at, item_text, terms_behind, item_texts}
+use Rattle.dlk_grammar.specs.Shown.{Piece, word, ode_brackets, shown_at, item_text, item_texts}
 use Rattle.dlk_readback.proofs.Kids.{Sides, sides_of, texts_of, comma}
 use Rattle.dlk_readback.proofs.Told.{said, behind, said-append, TellsTree, Back}
 use Rattle.dlk_readback.proofs.Symbols.{space_of, unit_symbol}

@@ -1,7 +1,5 @@
 -- The tokens of shown text have no fault.
-use Rattle.std.proofs.Common.{◌≡◌, ℕ, zero, suc, ◌+◌, ◌-◌, ◌<◌, ◌≤◌, ◌==◌, max, Bool, true, false, cond, nat_lt, nat_le, ◌&&◌, ◌||◌, not, List, [], ◌∷◌, ◌++◌, length, replicate, flat_map, get_or, Option, Some, None, refl, sym, ap, subst, ◌∙◌, arith, lit≤, leb-true, le-leb, lt-ltb, le-ltb}
-use Rattle.std.specs.Prelude.{IfSome}
-use Rattle.std.specs.List.{list_all, join_by}
+use Rattle.std.proofs.Common.{◌≡◌, ℕ, zero, suc, ◌+◌, ◌≤◌, ◌==◌, max, Bool, true, false, cond, nat_lt, nat_le, ◌&&◌, ◌||◌, List, [], ◌∷◌, ◌++◌, length, replicate, flat_map, get_or, Option, Some, None, refl, sym, subst, ◌∙◌, arith, leb-true, le-ltb}
 use Rattle.std.proofs.lemmas.Bool.{and_parts}
 use Rattle.dlk_tree.specs.declared.op.OdeItem.{OdeItem}
 use Rattle.dlk_tree.specs.declared.op.OdeItem.TheVariants.{Evolve, Const}
@@ -15,7 +13,7 @@ use Rattle.dlk_tree.specs.Occurs.{has, any_has, is_some_dot, is_hole, has_dots, 
 use Rattle.dlk_grammar.specs.declared.token.Mark.TheVariants as mark
 use Rattle.dlk_grammar.specs.declared.token.Dots.{Dots}
 use Rattle.dlk_grammar.specs.declared.token.Dots.TheVariants.{Refused, Allowed}
-use Rattle.dlk_grammar.specs.Shown.{Piece, one, space, mark as the_mark, word, Style, style, level, least, opening, between, closing, items_of, bracketed, variable, unit_brackets, ode_brackets, item_text, terms_behind, item_texts, is_true, domain_text, inside, joined, shown_at, shown_kids, shown}
+use Rattle.dlk_grammar.specs.Shown.{Piece, mark as the_mark, word, style, level, least, opening, between, closing, items_of, bracketed, variable, unit_brackets, ode_brackets, item_text, terms_behind, item_texts, is_true, domain_text, inside, joined, shown_at, shown_kids, shown}
 use Rattle.dlk_readback.proofs.Kids.{Each, body}
 use Rattle.dlk_readback.proofs.Calm.{is_refused, Moves, moves-append, moves_more, moves_up, no_moves, flat, flat_moves, leads, leads_moves, trails, trails_moves}
 
@@ -235,7 +233,7 @@ node_even d o kids most n fits (plain h g k) le all = go (nat_lt (level o) n)
 node_even d o kids most n fits (around h g k up) le all =
     let middle = inside (items_of o) (between o) (trees_in kids) (shown_kids o 0 kids) in
     rw (unbracketed o n le up)
-        (moves-append (opening o) (middle ++ closing o) (leads_moves (opening o) (omega arith) h) (moves-append middle (closing o) (inside_level d (most + 1) 1 (omega arith) (items_of o) (between o) (trees_in kids) (shown_kids o 0 kids) g (each_up d most (shown_kids o 0 kids) all)) (trails_moves (closing o) (omega arith) k)))
+    (moves-append (opening o) (middle ++ closing o) (leads_moves (opening o) (omega arith) h) (moves-append middle (closing o) (inside_level d (most + 1) 1 (omega arith) (items_of o) (between o) (trees_in kids) (shown_kids o 0 kids) g (each_up d most (shown_kids o 0 kids) all)) (trails_moves (closing o) (omega arith) k)))
 node_even d o kids most n fits (modal h g k up none s u is) le all =
     let middle = inside None (between o) (trees_in kids) (shown_kids o 0 kids) in
     let text : Even d (most + 1) (opening o ++ (middle ++ closing o)) = moves-append (opening o) (middle ++ closing o) (leads_moves (opening o) (omega arith) h) (moves-append middle (closing o) (modal_inside d o kids most s u (fits.kids_fit ∙ is) g all) (flat_moves (closing o) (omega arith) k)) in
@@ -253,9 +251,10 @@ mutual
   kids_even d o i no_kids h w c = tt
   kids_even d o i (kid t rest) h w c =
       let u = and_parts (nat_le (least o i) (top (sort t))) (fit_levels o (i + 1) (sorts rest)) h in
-      let v = neither (has (is_bad d) t) (any_has (is_bad d) rest) c in
-      (moves_more (shown_at (least o i) t) (omega arith) (tree_even d (least o i) t w.0 v.0 (leb-true (least o i) (top (sort t)) u.0)),
-       each_more d (depth_all rest) (max (depth t) (depth_all rest)) (omega arith) (shown_kids o (i + 1) rest) (kids_even d o (i + 1) rest u.1 w.1 v.1))
+      let v = neither (has (is_bad d) t) (any_has (is_bad d) rest) c in (
+        moves_more (shown_at (least o i) t) (omega arith) (tree_even d (least o i) t w.0 v.0 (leb-true (least o i) (top (sort t)) u.0)),
+        each_more d (depth_all rest) (max (depth t) (depth_all rest)) (omega arith) (shown_kids o (i + 1) rest) (kids_even d o (i + 1) rest u.1 w.1 v.1),
+      )
 
 one_low : (s : Sort) → 1 ≤ top s
 one_low Term = omega arith

@@ -1,14 +1,13 @@
 -- What the tokens of a text say, wherever they stand.
 use Rattle.std.proofs.Common.{◌≡◌, ℕ, ◌+◌, List, [], ◌∷◌, ◌++◌, flat_map, refl, sym, ap, subst, subst₂, ◌∙◌, append_assoc, append-nil}
 use Rattle.std.specs.List.{join_by}
-use Rattle.dlk_tree.specs.declared.op.OdeItem.{OdeItem}
 use Rattle.dlk_tree.specs.declared.op.Op.{Op}
 use Rattle.dlk_tree.specs.declared.op.Sort.{Sort}
 use Rattle.dlk_tree.specs.Trees.{Tree, node, no_kids, kid}
 use Rattle.dlk_grammar.specs.Lexemes.{Lexeme, Comma, lexeme_of}
-use Rattle.dlk_grammar.specs.Phrases.{Phrase, Phrases, none, snoc, Item, Items, no_items, add}
-use Rattle.dlk_grammar.specs.Grammar.{Form, Reads, ReadsList, list-one, list-more, ReadsItems, ReadsItem, items-one, items-more}
-use Rattle.dlk_grammar.specs.Erased.{erase, erase_all, ills, ills_of_all, items_of, item_of, item_terms, ills_of_items}
+use Rattle.dlk_grammar.specs.Phrases.{Phrase, Phrases, none, snoc}
+use Rattle.dlk_grammar.specs.Grammar.{Form, Reads, ReadsList, list-one, list-more}
+use Rattle.dlk_grammar.specs.Erased.{erase, erase_all, ills, ills_of_all}
 use Rattle.dlk_grammar.specs.Shown.{Piece, one, space, shown_at}
 use Rattle.dlk_readback.proofs.Climb.{form_at}
 use Rattle.dlk_readback.proofs.Kids.{Each}
@@ -111,7 +110,7 @@ module _ {f : Form} (text : Tree → List Piece) (sep : List Piece) (comma : IsC
       let m = behind n sep in
       let more = flat_map (λ u. sep ++ text u) ts in
       let said-is : said n ((sep ++ text t) ++ more) ≡ Comma ∷ (said m (text t) ++ said (behind m (text t)) more) =
-          ap (said n) (append_assoc sep (text t) more) ∙ said-append n sep (text t ++ more) ∙ ap (λ (l : List Lexeme). l ++ said m (text t ++ more)) (comma n) ∙ ap (λ (l : List Lexeme). Comma ∷ l) (said-append m (text t) more) in
+      ap (said n) (append_assoc sep (text t) more) ∙ said-append n sep (text t ++ more) ∙ ap (λ (l : List Lexeme). l ++ said m (text t ++ more)) (comma n) ∙ ap (λ (l : List Lexeme). Comma ∷ l) (said-append m (text t) more) in
       let next = later_listed (behind m (text t)) (s ++ Comma ∷ said m (text t)) (done ++ t ∷ []) ts all.1 (more_listed d (all.0 m)) in
       rw said-is (subst₂ (λ (l : List Lexeme) (us : List Tree). ListTold f l us) (append_assoc s (Comma ∷ said m (text t)) (said (behind m (text t)) more)) (append_assoc done (t ∷ []) ts) next)
 

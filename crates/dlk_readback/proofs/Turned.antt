@@ -1,31 +1,29 @@
 -- The canonical text of a sequent is read back.
-use Rattle.std.proofs.Common.{◌≡◌, ℕ, ◌+◌, ◌<◌, ◌≤◌, Bool, true, false, All, List, [], ◌∷◌, ◌++◌, map, flat_map, refl, sym, ap, subst, ◌∙◌, append_assoc, append-nil, arith, lit≤}
-use Rattle.std.specs.List.{join_by}
+use Rattle.std.proofs.Common.{◌≡◌, ℕ, ◌+◌, ◌≤◌, All, List, [], ◌∷◌, ◌++◌, map, flat_map, refl, sym, ap, subst, ◌∙◌, append_assoc, append-nil, arith}
 use Rattle.std.proofs.lemmas.Grind.{flat_map-append}
 use Rattle.std.proofs.lemmas.List.{map-append}
 use Rattle.std.proofs.lemmas.List.Elements.{All-head, All-tail}
 use Rattle.dlk_tree.specs.declared.op.Sort.{Sort}
 use Rattle.dlk_tree.specs.declared.op.Sort.TheVariants.{Formula}
-use Rattle.dlk_tree.specs.Trees.{Tree, size, depth, sort, WellMade}
+use Rattle.dlk_tree.specs.Trees.{Tree, size, depth}
 use Rattle.dlk_calculus.specs.Sequents.{Sequent, IsFormula, IsSequent}
 use Rattle.dlk_grammar.specs.declared.token.Mark.TheVariants as mark
 use Rattle.dlk_grammar.specs.declared.token.Dots.TheVariants.{Refused}
-use Rattle.dlk_grammar.specs.Lexemes.{Lexeme, Comma, Turnstile, lexemes}
-use Rattle.dlk_grammar.specs.Phrases.{Phrase, Phrases, none, snoc}
-use Rattle.dlk_grammar.specs.Grammar.{Form, formula, ReadsList, ReadsSide, side-nothing, side-list, Sides, Turned, ReadsSequent, sequent-sides}
+use Rattle.dlk_grammar.specs.Lexemes.{Lexeme, Turnstile, lexemes}
+use Rattle.dlk_grammar.specs.Phrases.{Phrases, none, snoc}
+use Rattle.dlk_grammar.specs.Grammar.{formula, ReadsSide, side-nothing, side-list, Turned, ReadsSequent, sequent-sides}
 use Rattle.dlk_grammar.specs.Erased.{erase, erase_all, ills, ills_of_all}
 use Rattle.dlk_grammar.specs.Readings.{phrases_in, both_sides, erase_sides, most_nodes, greatest_depth}
 use Rattle.dlk_grammar.specs.Texts.{SequentText}
-use Rattle.dlk_grammar.specs.Shown.{Piece, space, mark as the_mark, spell, shown, shown_at, formulas, left_side, right_side, shown_sequent, joined}
+use Rattle.dlk_grammar.specs.Shown.{Piece, space, mark as the_mark, spell, shown, formulas, left_side, right_side, shown_sequent}
 use Rattle.dlk_machine.proofs.ParseLaws.{one_sides_read}
 use Rattle.dlk_readback.specs.Readable.{IsWithinLimits}
-use Rattle.dlk_readback.proofs.Climb.{form_at}
 use Rattle.dlk_readback.proofs.Kids.{Each, each_map, texts_of, joined-texts}
-use Rattle.dlk_readback.proofs.Told.{said, behind, said-append, TellsTree, Back, listed, ListTold}
+use Rattle.dlk_readback.proofs.Told.{said, behind, said-append, TellsTree, Back, listed}
 use Rattle.dlk_readback.proofs.Back.{back}
-use Rattle.dlk_readback.proofs.Neighbours.{Fine, end_fine, Begins, Ends, alone_fine, space_fine}
+use Rattle.dlk_readback.proofs.Neighbours.{Fine, end_fine, alone_fine, space_fine}
 use Rattle.dlk_readback.proofs.Apart.{Apart, KidApart, apart, joined_apart, same_apart}
-use Rattle.dlk_readback.proofs.Calm.{Moves, moves-append, moves_more, no_moves, flat_moves}
+use Rattle.dlk_readback.proofs.Calm.{moves-append, moves_more, no_moves, flat_moves}
 use Rattle.dlk_readback.proofs.Tame.{Even, refused_clean, shown_even, joined_level}
 use Rattle.dlk_readback.proofs.Whole.{lexemes-said, calm_tokens, is_read}
 
@@ -130,9 +128,9 @@ sequent_text s w l r =
     let b = right_told (behind 0 front + 1) s.succ right in
     let said-is : lexemes f.tokens ≡ said 0 front ++ Turnstile ∷ said (behind 0 front + 1) (right_side s.succ) = lexemes-said f ∙ said-append 0 front back in
     let trees : map erase (phrases_in a.phrases ++ phrases_in b.phrases) ≡ s.ante ++ s.succ = map-append erase (phrases_in a.phrases) (phrases_in b.phrases)
-        ∙ ap (λ (ts : List Tree). ts ++ map erase (phrases_in b.phrases)) (phrases-erased a.phrases ∙ a.erased) ∙ ap (λ (ts : List Tree). s.ante ++ ts) (phrases-erased b.phrases ∙ b.erased) in
+    ∙ ap (λ (ts : List Tree). ts ++ map erase (phrases_in b.phrases)) (phrases-erased a.phrases ∙ a.erased) ∙ ap (λ (ts : List Tree). s.ante ++ ts) (phrases-erased b.phrases ∙ b.erased) in
     let no_ills : flat_map ills (phrases_in a.phrases ++ phrases_in b.phrases) ≡ [] = flat_map-append ills (phrases_in a.phrases) (phrases_in b.phrases)
-        ∙ ap (λ (ns : List ℕ). ns ++ flat_map ills (phrases_in b.phrases)) (phrases-ills a.phrases ∙ a.no_ills) ∙ phrases-ills b.phrases ∙ b.no_ills in
+    ∙ ap (λ (ns : List ℕ). ns ++ flat_map ills (phrases_in b.phrases)) (phrases-ills a.phrases ∙ a.no_ills) ∙ phrases-ills b.phrases ∙ b.no_ills in
     record {
       tokens = f.tokens;
       splits = f.splits;

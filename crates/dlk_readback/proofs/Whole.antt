@@ -1,5 +1,5 @@
 -- Canonical text is read back, with no fault.
-use Rattle.std.proofs.Common.{◌≡◌, ◌≢◌, ℕ, ◌+◌, ◌<◌, ◌≤◌, Bool, true, false, List, [], ◌∷◌, ◌++◌, map, flat_map, Option, Some, None, refl, sym, ap, subst, ◌∙◌, append_assoc, append-nil, arith, lit≤}
+use Rattle.std.proofs.Common.{◌≡◌, ℕ, ◌+◌, ◌≤◌, List, [], ◌∷◌, ◌++◌, map, flat_map, Some, None, refl, sym, ap, subst, ◌∙◌, arith, lit≤}
 use Rattle.dlk_tree.specs.declared.op.Sort.{Sort}
 use Rattle.dlk_tree.specs.declared.op.Sort.TheVariants as sort
 use Rattle.dlk_tree.specs.Trees.{Tree, size, depth, sort as sort_in}
@@ -12,9 +12,9 @@ use Rattle.dlk_grammar.specs.declared.token.Goal.{Goal}
 use Rattle.dlk_grammar.specs.declared.token.Goal.TheVariants.{Formula, Term, Program, Expression}
 use Rattle.dlk_grammar.specs.Lexemes.{Lexeme, lexeme_of, lexemes_from, lexemes}
 use Rattle.dlk_grammar.specs.Phrases.{Phrase}
-use Rattle.dlk_grammar.specs.Grammar.{Form, formula, term, prog, Reads, ReadsExpression, as-formula, as-program, as-term}
+use Rattle.dlk_grammar.specs.Grammar.{formula, term, prog, Reads, as-formula, as-program, as-term}
 use Rattle.dlk_grammar.specs.Erased.{erase, ills, least}
-use Rattle.dlk_grammar.specs.Readings.{Says, Against, Literal, Nesting, Syntax, Shape, TooBig, TooDeep, ReadFault, FirstPast, IsRead, IsTree, grammar, itself, most_nodes, greatest_depth}
+use Rattle.dlk_grammar.specs.Readings.{Says, Against, Literal, Nesting, Syntax, Shape, TooBig, TooDeep, ReadFault, FirstPast, IsRead, grammar, itself, most_nodes, greatest_depth}
 use Rattle.dlk_grammar.specs.Splits.{Splits}
 use Rattle.dlk_grammar.specs.Texts.{TreeText}
 use Rattle.dlk_grammar.specs.Shown.{Piece, one, space, spell, shown}
@@ -24,7 +24,7 @@ use Rattle.dlk_readback.proofs.Climb.{form_at}
 use Rattle.dlk_readback.proofs.Kids.{Each}
 use Rattle.dlk_readback.proofs.Told.{said, Told}
 use Rattle.dlk_readback.proofs.Back.{back}
-use Rattle.dlk_readback.proofs.Neighbours.{kinds, Fine, TokensAt}
+use Rattle.dlk_readback.proofs.Neighbours.{kinds, TokensAt}
 use Rattle.dlk_readback.proofs.Apart.{shown_fine}
 use Rattle.dlk_readback.proofs.Calm.{Calm, calm-append, no_literal, no_nesting, all_permitted}
 use Rattle.dlk_readback.proofs.Tame.{Even, IsClean, allowed_clean, refused_clean, shown_even}
