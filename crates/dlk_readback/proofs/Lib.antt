@@ -12,5 +12,6 @@ pub mod Neighbours
 pub mod Apart
 pub mod Calm
 pub mod Tame
+pub mod Ambiguous
 pub mod Whole
 pub mod Turned

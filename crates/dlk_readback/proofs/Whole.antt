@@ -1,5 +1,5 @@
 -- Canonical text is read back, with no fault.
-use Rattle.std.proofs.Common.{◌≡◌, ℕ, ◌+◌, ◌≤◌, List, [], ◌∷◌, ◌++◌, map, flat_map, Some, None, refl, sym, ap, subst, ◌∙◌, arith, lit≤}
+use Rattle.std.proofs.Common.{◌≡◌, ℕ, ◌+◌, ◌≤◌, false, List, [], ◌∷◌, ◌++◌, map, flat_map, Some, None, refl, sym, ap, subst, ◌∙◌, arith, lit≤}
 use Rattle.dlk_tree.specs.declared.op.Sort.{Sort}
 use Rattle.dlk_tree.specs.declared.op.Sort.TheVariants as sort
 use Rattle.dlk_tree.specs.Trees.{Tree, size, depth, sort as sort_in}
@@ -15,11 +15,11 @@ use Rattle.dlk_grammar.specs.Phrases.{Phrase}
 use Rattle.dlk_grammar.specs.Grammar.{formula, term, prog, Reads, as-formula, as-program, as-term}
 use Rattle.dlk_grammar.specs.Erased.{erase, ills, least}
 use Rattle.dlk_grammar.specs.Readings.{Says, Against, Literal, Nesting, Syntax, Shape, TooBig, TooDeep, ReadFault, FirstPast, IsRead, grammar, itself, most_nodes, greatest_depth}
-use Rattle.dlk_grammar.specs.Splits.{Splits}
 use Rattle.dlk_grammar.specs.Texts.{TreeText}
 use Rattle.dlk_grammar.specs.Shown.{Piece, one, space, spell, shown}
 use Rattle.dlk_machine.proofs.ParseLaws.{one_read, one_expression_read}
-use Rattle.dlk_readback.specs.Readable.{goal_of, HasNoneRefused, IsReadable, IsNoFormulaText}
+use Rattle.dlk_readback.specs.Readable.{goal_of, HasNoneRefused, IsReadable, is_formula_too}
+use Rattle.dlk_readback.proofs.Ambiguous.{no_formula}
 use Rattle.dlk_readback.proofs.Climb.{form_at}
 use Rattle.dlk_readback.proofs.Kids.{Each}
 use Rattle.dlk_readback.proofs.Told.{said, Told}
@@ -105,7 +105,7 @@ clean Allowed t h = allowed_clean t
 
 module _ (d : Dots) (t : Tree) (r : IsReadable d t) where
   -- the text of the tree is read by a goal for which what it says is a text
-  text_of : (goal : Goal) → ((tokens : List Token) → Splits 0 (spell (shown t)) tokens → (p : Phrase) → Reads (form_at (sort_in t) 1) (lexemes tokens) p → grammar goal (lexemes tokens) p) → TreeText goal d (spell (shown t)) t
+  text_of : (goal : Goal) → ((tokens : List Token) → (p : Phrase) → Reads (form_at (sort_in t) 1) (lexemes tokens) p → erase p ≡ t → grammar goal (lexemes tokens) p) → TreeText goal d (spell (shown t)) t
   text_of goal read =
       let f = (shown_fine t r.well_made).at 0 in
       let told = subst (λ (l : List Lexeme). Told (form_at (sort_in t) 1) l t) (sym (lexemes-said f)) (back t r.well_made 1 0) in
@@ -113,22 +113,22 @@ module _ (d : Dots) (t : Tree) (r : IsReadable d t) where
       record {
         tokens = f.tokens;
         splits = f.splits;
-        reads = is_read (grammar goal) itself d f.tokens erase (one_of_goal goal (lexemes f.tokens)) told.phrase t (read f.tokens f.splits told.phrase told.reads) told.erased calm
+        reads = is_read (grammar goal) itself d f.tokens erase (one_of_goal goal (lexemes f.tokens)) told.phrase t (read f.tokens told.phrase told.reads told.erased) told.erased calm
             (ap (λ (l : List ℕ). l ++ []) told.no_ills) (subst (λ (u : Tree). size u ≤ most_nodes) (sym told.erased) r.limits.small, tt) (subst (λ (u : Tree). depth u ≤ greatest_depth) (sym told.erased) r.limits.shallow, tt);
       }
 
   pub tree_text : TreeText (goal_of (sort_in t)) d (spell (shown t)) t
-  tree_text = text_of (goal_of (sort_in t)) (λ tokens splits p h. as_goal (sort_in t) h)
+  tree_text = text_of (goal_of (sort_in t)) (λ tokens p h erased. as_goal (sort_in t) h)
 
   -- the tree is of this sort
   sorted : (s : Sort) → sort_in t ≡ s → {l : List Lexeme} {p : Phrase} → Reads (form_at (sort_in t) 1) l p → Reads (form_at s 1) l p
   sorted s e {l} {p} h = subst (λ (u : Sort). Reads (form_at u 1) l p) e h
 
   pub formula_text : sort_in t ≡ sort.Formula → TreeText Expression d (spell (shown t)) t
-  formula_text e = text_of Expression (λ tokens splits p h. as-formula (sorted sort.Formula e h))
+  formula_text e = text_of Expression (λ tokens p h erased. as-formula (sorted sort.Formula e h))
 
   pub program_text : sort_in t ≡ sort.Program → TreeText Expression d (spell (shown t)) t
-  program_text e = text_of Expression (λ tokens splits p h. as-program (sorted sort.Program e h))
+  program_text e = text_of Expression (λ tokens p h erased. as-program (sorted sort.Program e h))
 
-  pub term_text : sort_in t ≡ sort.Term → IsNoFormulaText (spell (shown t)) → TreeText Expression d (spell (shown t)) t
-  term_text e none = text_of Expression (λ tokens splits p h. as-term (sorted sort.Term e h) (none tokens splits))
+  pub term_text : sort_in t ≡ sort.Term → is_formula_too t ≡ false → TreeText Expression d (spell (shown t)) t
+  term_text e other = text_of Expression (λ tokens p h erased. as-term (sorted sort.Term e h) (no_formula (lexemes tokens) p (sorted sort.Term e h) (ap is_formula_too erased ∙ other)))
