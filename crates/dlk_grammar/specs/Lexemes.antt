@@ -7,28 +7,12 @@ use Rattle.dlk_grammar.specs.declared.token.Mark.TheVariants as mark
 use Rattle.dlk_grammar.specs.declared.token.Token.{Token}
 use Rattle.dlk_grammar.specs.declared.token.TokenKind.{TokenKind}
 use Rattle.dlk_grammar.specs.declared.token.TokenKind.TheVariants as kind
+-- what stands between two operands: <-> -> | & = != >= > <= < + - * / ^ ++
+pub use Rattle.dlk_grammar.specs.declared.token.Infix.{Infix}
+pub use Rattle.dlk_grammar.specs.declared.token.Infix.TheVariants.{Equiv, Imply, Or, And, Equal, NotEqual, AtLeast, Greater, AtMost, Less, Add, Sub, Mul, Div, Pow, Choice}
 
 abbrev pub Word : Type 0
 Word = List ℕ
-
--- what stands between two operands: <-> -> | & = != >= > <= < + - * / ^ ++
-pub data Infix : Type 0 where
-  Equiv : Infix
-  Imply : Infix
-  Or : Infix
-  And : Infix
-  Equal : Infix
-  NotEqual : Infix
-  AtLeast : Infix
-  Greater : Infix
-  AtMost : Infix
-  Less : Infix
-  Add : Infix
-  Sub : Infix
-  Mul : Infix
-  Div : Infix
-  Pow : Infix
-  Choice : Infix
 
 pub data Lexeme : Type 0 where
   -- a name, after its place

@@ -127,3 +127,24 @@ pub enum Goal {
     /// A formula, a program, or a term that is no formula.
     Expression,
 }
+
+/// What stands between two operands.
+#[derive(Clone, Copy, Debug, PartialEq, Eq)]
+pub enum Infix {
+    Equiv,
+    Imply,
+    Or,
+    And,
+    Equal,
+    NotEqual,
+    AtLeast,
+    Greater,
+    AtMost,
+    Less,
+    Add,
+    Sub,
+    Mul,
+    Div,
+    Pow,
+    Choice,
+}
