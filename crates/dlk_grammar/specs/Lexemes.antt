@@ -7,9 +7,8 @@ use Rattle.dlk_grammar.specs.declared.token.Mark.TheVariants as mark
 use Rattle.dlk_grammar.specs.declared.token.Token.{Token}
 use Rattle.dlk_grammar.specs.declared.token.TokenKind.{TokenKind}
 use Rattle.dlk_grammar.specs.declared.token.TokenKind.TheVariants as kind
--- what stands between two operands: <-> -> | & = != >= > <= < + - * / ^ ++
-pub use Rattle.dlk_grammar.specs.declared.token.Infix.{Infix}
-pub use Rattle.dlk_grammar.specs.declared.token.Infix.TheVariants.{Equiv, Imply, Or, And, Equal, NotEqual, AtLeast, Greater, AtMost, Less, Add, Sub, Mul, Div, Pow, Choice}
+use Rattle.dlk_grammar.specs.declared.token.Infix.{Infix}
+use Rattle.dlk_grammar.specs.declared.token.Infix.TheVariants.{Equiv, Imply, Or, And, Equal, NotEqual, AtLeast, Greater, AtMost, Less, Add, Sub, Mul, Div, Pow, Choice}
 
 abbrev pub Word : Type 0
 Word = List ℕ
@@ -53,6 +52,7 @@ pub data Lexeme : Type 0 where
   Turnstile : Lexeme
   Becomes : Lexeme
   Swaps : Lexeme
+  -- what stands between two operands: <-> -> | & = != >= > <= < + - * / ^ ++
   Op : Infix → Lexeme
 
 -- the mark at place n

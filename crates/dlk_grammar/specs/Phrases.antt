@@ -2,7 +2,8 @@
 -- formulas of `@invariant`.
 use Rattle.std.specs.Prelude.{ℕ, Bool}
 use Rattle.dlk_tree.specs.declared.op.Num.{Num}
-use Rattle.dlk_grammar.specs.Lexemes.{Word, Infix}
+use Rattle.dlk_grammar.specs.declared.token.Infix.{Infix}
+use Rattle.dlk_grammar.specs.Lexemes.{Word}
 
 -- the variables on which a symbol may depend
 pub data Space : Type 0 where
