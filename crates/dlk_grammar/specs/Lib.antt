@@ -1,5 +1,6 @@
 pub mod Tokens
 pub mod Splits
+pub mod RealTokens
 pub mod Lexemes
 pub mod Phrases
 pub mod Grammar
