@@ -14,3 +14,4 @@ pub mod Reading
 pub mod ExpressionLaws
 pub mod SequentLaws
 pub mod ParseLaws
+pub mod Examples
