@@ -14,4 +14,5 @@ pub mod Reading
 pub mod ExpressionLaws
 pub mod SequentLaws
 pub mod ParseLaws
+pub mod Formed
 pub mod Examples

@@ -1,0 +1,241 @@
+-- What is read is well made, where the names, numbers and dots of the lexemes are real.
+use Rattle.std.proofs.Common.{◌≡◌, ℕ, ◌+◌, ◌<◌, ◌≤◌, Bool, true, false, nat_le, List, [], ◌∷◌, ◌++◌, length, refl, sym, ap, subst, ◌∙◌, arith, IsTrue, length-append}
+use Rattle.std.specs.Prelude.{replicate, not, ◌&&◌, ◌||◌}
+use Rattle.std.specs.List.{list_all}
+use Rattle.std.proofs.lemmas.Bool.{le-leb, ltb-false, and_from, or_parts, not-false}
+use Rattle.std.proofs.lemmas.List.{append-nil, replicate_more}
+use Rattle.std.proofs.lemmas.List.Folds.{list_all-append}
+use Rattle.dlk_tree.specs.Names.{is_name}
+use Rattle.dlk_tree.specs.Table.{Fits, is_num, is_sym_of, is_item, are_items, all_distinct, evolved, sort_of, kid_sorts, has_parts}
+use Rattle.dlk_tree.specs.Trees.{Tree, node, forest, sort, sorts, WellMade, AllWellMade}
+use Rattle.dlk_tree.specs.Occurs.{has_dots, has_hole, any_has, is_some_dot, is_hole}
+use Rattle.dlk_tree.specs.declared.op.Op.{Op as TreeOp}
+use Rattle.dlk_tree.specs.declared.op.Op.TheVariants as op
+use Rattle.dlk_tree.specs.declared.op.OdeItem.{OdeItem}
+use Rattle.dlk_tree.specs.declared.op.OdeItem.TheVariants as ode
+use Rattle.dlk_tree.specs.declared.op.Kind.TheVariants.{Func, UnitFunc, Pred, UnitPred, Quant, Prog, Ode}
+use Rattle.dlk_tree.specs.declared.op.Sort.{Sort}
+use Rattle.dlk_tree.specs.declared.op.Sort.TheVariants.{Term, Formula, Program}
+use Rattle.dlk_grammar.specs.declared.token.Dots.TheVariants.{Refused}
+use Rattle.dlk_grammar.specs.declared.token.Infix.{Infix}
+use Rattle.dlk_grammar.specs.declared.token.Infix.TheVariants.{Equiv, Imply, Or, And, Equal, NotEqual, AtLeast, Greater, AtMost, Less, Add, Sub, Mul, Div, Pow, Choice}
+use Rattle.dlk_grammar.specs.Lexemes.{Word, Lexeme, Name, Number, Dot, Blank, True, False, All, Exist, Invariant, RoundBars, RoundBar, BarRound, BraceBar, BarBrace, Open, Close, OpenBox, CloseBox, OpenBrace, CloseBrace, Bang, Prime, Gets, Query, Semi, Comma, Turnstile, Op}
+use Rattle.dlk_grammar.specs.Phrases.{Everywhere, Except, Phrase, Phrases, none, snoc, Apply, Holds, Call, Item, Evolve, Flow, Items, no_items, add, Noted, System, Truth}
+use Rattle.dlk_grammar.specs.Grammar.{ReadsItems, items-one, items-more}
+use Rattle.dlk_grammar.specs.Erased.{erase, erase_all, item_of, items_of, item_terms, symbol, ills, ills_of_all, ills_of_items, count, is_ill_call, is_ill_system, place_if, infix_op}
+use Rattle.dlk_grammar.specs.Readings.{permits, Permitted}
+use Rattle.dlk_machine.proofs.Levels.{form_sort}
+
+abbrev pub Each : {X : Type 0} → (X → Type 0) → List X → Type 0
+Each P [] = Unit {0}
+Each P (x ∷ xs) = P x × Each P xs
+
+pub each_parts : {X : Type 0} (P : X → Type 0) (s r : List X) → Each P (s ++ r) → Each P s × Each P r
+each_parts P [] r h = (tt, h)
+each_parts P (k ∷ s) r h = let w = each_parts P s r h.1 in ((h.0, w.0), w.1)
+
+pub each_append : {X : Type 0} (P : X → Type 0) (s r : List X) → Each P s → Each P r → Each P (s ++ r)
+each_append P [] r h g = g
+each_append P (k ∷ s) r h g = (h.0, each_append P s r h.1 g)
+
+-- the name, number or dot of a lexeme is one that a tree may have
+abbrev pub IsReal : Lexeme → Type 0
+IsReal (Name n x) = IsTrue (is_name x)
+IsReal (Number d) = IsTrue (is_num d)
+IsReal (Dot n) = n < 8
+IsReal _ = Unit {0}
+
+abbrev pub AreReal : List Lexeme → Type 0
+AreReal s = Each IsReal s
+
+-- the place of a name or brace is below a number
+abbrev pub IsBelow : ℕ → Lexeme → Type 0
+IsBelow m (Name n x) = n < m
+IsBelow m (OpenBrace n) = n < m
+IsBelow m _ = Unit {0}
+
+abbrev pub AreBelow : ℕ → List Lexeme → Type 0
+AreBelow m s = Each (IsBelow m) s
+
+-- a lexeme that may stand where dots are refused
+abbrev pub IsPlain : Lexeme → Type 0
+IsPlain k = permits Refused k ≡ true
+
+abbrev pub ArePlain : List Lexeme → Type 0
+ArePlain s = Each IsPlain s
+
+pub plain_from : (s : List Lexeme) → Permitted Refused s → ArePlain s
+plain_from [] h = tt
+plain_from (k ∷ s) h = (h.0, plain_from s h.1)
+
+-- no dot and no hole stands in the trees
+pub record AreBare (ts : List Tree) : Type 0 where
+  pub no_dot : any_has is_some_dot (forest ts) ≡ false
+  pub no_hole : any_has is_hole (forest ts) ≡ false
+
+-- What is known of the trees that some lexemes are: their sorts, and the places of ill shape.
+pub record Grown (s : List Lexeme) (kinds : List Sort) (places : List ℕ) (ts : List Tree) : Type 0 where
+  pub sorts_are : sorts (forest ts) ≡ kinds
+  pub below : (m : ℕ) → AreBelow m s → Each (λ n. n < m) places
+  pub made : AreReal s → places ≡ [] → AllWellMade (forest ts)
+  pub bare : ArePlain s → AreBare ts
+
+-- lists of trees
+sorts_append : (ts us : List Tree) → sorts (forest (ts ++ us)) ≡ sorts (forest ts) ++ sorts (forest us)
+sorts_append [] us = refl
+sorts_append (t ∷ ts) us = ap (λ (l : List Sort). sort t ∷ l) (sorts_append ts us)
+
+made_append : (ts us : List Tree) → AllWellMade (forest ts) → AllWellMade (forest us) → AllWellMade (forest (ts ++ us))
+made_append [] us h g = g
+made_append (t ∷ ts) us h g = (h.0, made_append ts us h.1 g)
+
+has_append : (test : TreeOp → Bool) (ts us : List Tree) → any_has test (forest ts) ≡ false → any_has test (forest us) ≡ false → any_has test (forest (ts ++ us)) ≡ false
+has_append test [] us h g = g
+has_append test (t ∷ ts) us h g = let w = or_parts _ (any_has test (forest ts)) h in rw (w.0) (has_append test ts us w.1 g)
+
+none_left : {X : Type 0} (xs ys : List X) → xs ++ ys ≡ [] → xs ≡ []
+none_left [] ys e = refl
+none_left (x ∷ xs) ys e = absurd cc
+
+none_right : {X : Type 0} (xs ys : List X) → xs ++ ys ≡ [] → ys ≡ []
+none_right [] ys e = e
+none_right (x ∷ xs) ys e = absurd cc
+
+-- some of the lexemes of w
+abbrev Part : List Lexeme → List Lexeme → Type 1
+Part s w = (P : Lexeme → Type 0) → Each P w → Each P s
+
+part_front : (s r : List Lexeme) → Part s (s ++ r)
+part_front s r P h = (each_parts P s r h).0
+
+part_behind : (s r : List Lexeme) → Part r (s ++ r)
+part_behind s r P h = (each_parts P s r h).1
+
+part_in : (k : Lexeme) (s r : List Lexeme) → Part s (k ∷ (s ++ r))
+part_in k s r P h = (each_parts P s r h.1).0
+
+part_last : (s r : List Lexeme) (k : Lexeme) → Part r (s ++ k ∷ r)
+part_last s r k P h = (each_parts P s _ h).1.1
+
+widen : {s w : List Lexeme} {kinds : List Sort} {places : List ℕ} {ts : List Tree} → Part s w → Grown s kinds places ts → Grown w kinds places ts
+widen part g = record { sorts_are = g.sorts_are; below = λ m h. g.below m (part (IsBelow m) h); made = λ h e. g.made (part IsReal h) e; bare = λ h. g.bare (part IsPlain h) }
+
+-- trees of the same lexemes, in order
+join : {w : List Lexeme} {kinds more : List Sort} {places others : List ℕ} {ts us : List Tree} → Grown w kinds places ts → Grown w more others us → Grown w (kinds ++ more) (places ++ others) (ts ++ us)
+join {kinds = kinds} {places = places} {others = others} {ts = ts} {us = us} g h = record {
+  sorts_are = sorts_append ts us ∙ ap (λ (l : List Sort). l ++ sorts (forest us)) g.sorts_are ∙ ap (λ (l : List Sort). kinds ++ l) h.sorts_are;
+  below = λ m b. each_append _ places others (g.below m b) (h.below m b);
+  made = λ r e. made_append ts us (g.made r (none_left places others e)) (h.made r (none_right places others e));
+  bare = λ p. record { no_dot = has_append is_some_dot ts us (g.bare p).no_dot (h.bare p).no_dot; no_hole = has_append is_hole ts us (g.bare p).no_hole (h.bare p).no_hole };
+}
+
+nothing : {w : List Lexeme} → Grown w [] [] []
+nothing = record { sorts_are = refl; below = λ m h. tt; made = λ h e. tt; bare = λ h. record { no_dot = refl; no_hole = refl } }
+
+-- other words for the sorts
+resort : {w : List Lexeme} {kinds others : List Sort} {places : List ℕ} {ts : List Tree} → kinds ≡ others → Grown w kinds places ts → Grown w others places ts
+resort e g = record { sorts_are = g.sorts_are ∙ e; below = g.below; made = g.made; bare = g.bare }
+
+-- what leaves nothing in the tree
+noted : {w : List Lexeme} {kinds more : List Sort} {places others : List ℕ} {ts us : List Tree} → Grown w kinds places ts → Grown w more others us → Grown w kinds (places ++ others) ts
+noted {places = places} {others = others} g h = record {
+  sorts_are = g.sorts_are;
+  below = λ m b. each_append _ places others (g.below m b) (h.below m b);
+  made = λ r e. g.made r (none_left places others e);
+  bare = g.bare;
+}
+
+-- A tree over such kids, which may itself be of ill shape.
+over_ill : {w : List Lexeme} {kinds : List Sort} {places : List ℕ} {ts : List Tree} (o : TreeOp) (own : List ℕ) → Grown w kinds places ts → kinds ≡ kid_sorts o → ((m : ℕ) → AreBelow m w → Each (λ n. n < m) own) → (AreReal w → own ≡ [] → IsTrue (has_parts o)) → is_some_dot o ≡ false → is_hole o ≡ false
+    → Grown w (sort_of o ∷ []) (own ++ places) (node o (forest ts) ∷ [])
+over_ill {places = places} {ts = ts} o own g k b p d n = record {
+  sorts_are = refl;
+  below = λ m h. each_append _ own places (b m h) (g.below m h);
+  made = λ h e. ((record { kids_fit = g.sorts_are ∙ k; parts_fit = p h (none_left own places e) }, g.made h (none_right own places e)), tt);
+  bare = λ h. let w = g.bare h in record { no_dot = rw (d, w.no_dot) refl; no_hole = rw (n, w.no_hole) refl };
+}
+
+-- A tree over such kids.
+over : {w : List Lexeme} {kinds : List Sort} {places : List ℕ} {ts : List Tree} (o : TreeOp) → Grown w kinds places ts → kinds ≡ kid_sorts o → (AreReal w → IsTrue (has_parts o)) → is_some_dot o ≡ false → is_hole o ≡ false → Grown w (sort_of o ∷ []) places (node o (forest ts) ∷ [])
+over o g k p d n = over_ill o [] g k (λ m b. tt) (λ r e. p r) d n
+
+-- a tree without kids
+leaf : {w : List Lexeme} (o : TreeOp) → [] ≡ kid_sorts o → (AreReal w → IsTrue (has_parts o)) → is_some_dot o ≡ false → is_hole o ≡ false → Grown w (sort_of o ∷ []) [] (node o (forest []) ∷ [])
+leaf o k p d n = over o nothing k p d n
+
+-- operators over one and over two trees, with no parts of their own
+one : {s w : List Lexeme} {x : Sort} {places : List ℕ} {t : Tree} (o : TreeOp) → Part s w → Grown s (x ∷ []) places (t ∷ []) → x ∷ [] ≡ kid_sorts o → (AreReal w → IsTrue (has_parts o)) → is_some_dot o ≡ false → is_hole o ≡ false → Grown w (sort_of o ∷ []) places (node o (forest (t ∷ [])) ∷ [])
+one o part g k p d n = over o (widen part g) k p d n
+
+two : {s r w : List Lexeme} {x y : Sort} {places others : List ℕ} {t u : Tree} (o : TreeOp) → Part s w → Part r w → Grown s (x ∷ []) places (t ∷ []) → Grown r (y ∷ []) others (u ∷ []) → x ∷ y ∷ [] ≡ kid_sorts o → IsTrue (has_parts o) → is_some_dot o ≡ false → is_hole o ≡ false
+    → Grown w (sort_of o ∷ []) (places ++ others) (node o (forest (t ∷ u ∷ [])) ∷ [])
+two o front behind g h k p d n = over o (join (widen front g) (widen behind h)) k (λ r. p) d n
+
+-- an operator's token between two operands
+between : {s r : List Lexeme} {x y : Sort} {places others : List ℕ} {t u : Tree} (k : Lexeme) (o : TreeOp) → Grown s (x ∷ []) places (t ∷ []) → Grown r (y ∷ []) others (u ∷ []) → x ∷ y ∷ [] ≡ kid_sorts o → IsTrue (has_parts o) → is_some_dot o ≡ false → is_hole o ≡ false
+    → Grown (s ++ k ∷ r) (sort_of o ∷ []) (places ++ others) (node o (forest (t ∷ u ∷ [])) ∷ [])
+between {s = s} {r = r} k o g h e p d n = two o (part_front s (k ∷ r)) (part_last s r k) g h e p d n
+
+-- symbols
+place_below : (ill : Bool) (n m : ℕ) → n < m → Each (λ k. k < m) (place_if ill n)
+place_below true n m h = (h, tt)
+place_below false n m h = tt
+
+no_place : (ill : Bool) (n : ℕ) → place_if ill n ≡ [] → ill ≡ false
+no_place true n e = absurd cc
+no_place false n e = refl
+
+few : (l : Phrases) → is_ill_call l ≡ false → nat_le (count l) 8 ≡ true
+few l e = le-leb (count l) 8 (ltb-false 8 (count l) e)
+
+func_parts : (x : Word) (l : Phrases) → IsTrue (is_name x) → is_ill_call l ≡ false → is_sym_of Func (symbol Func x (count l) Everywhere) ≡ true
+func_parts x l h e = rw (h, few l e) refl
+
+pred_parts : (x : Word) (l : Phrases) → IsTrue (is_name x) → is_ill_call l ≡ false → is_sym_of Pred (symbol Pred x (count l) Everywhere) ≡ true
+pred_parts x l h e = rw (h, few l e) refl
+
+-- applications
+applied : {w : List Lexeme} (n : ℕ) (x : Word) (l : Phrases) → ((m : ℕ) → AreBelow m w → n < m) → (AreReal w → IsTrue (is_name x)) → Grown w (replicate (count l) Term) (ills_of_all l) (erase_all l) → Grown w (Term ∷ []) (ills (Apply (Call n x l))) (erase (Apply (Call n x l)) ∷ [])
+applied n x l b h g = over_ill (op.Apply (symbol Func x (count l) Everywhere)) (place_if (is_ill_call l) n) g refl (λ m c. place_below (is_ill_call l) n m (b m c)) (λ r e. func_parts x l (h r) (no_place (is_ill_call l) n e)) refl refl
+
+held : {w : List Lexeme} (n : ℕ) (x : Word) (l : Phrases) → ((m : ℕ) → AreBelow m w → n < m) → (AreReal w → IsTrue (is_name x)) → Grown w (replicate (count l) Term) (ills_of_all l) (erase_all l) → Grown w (Formula ∷ []) (ills (Holds (Call n x l))) (erase (Holds (Call n x l)) ∷ [])
+held n x l b h g = over_ill (op.Holds (symbol Pred x (count l) Everywhere)) (place_if (is_ill_call l) n) g refl (λ m c. place_below (is_ill_call l) n m (b m c)) (λ r e. pred_parts x l (h r) (no_place (is_ill_call l) n e)) refl refl
+
+-- items of a system
+pub record GrownItems (w : List Lexeme) (l : Items) : Type 0 where
+  pub grown : Grown w (replicate (length (evolved (items_of l))) Term) (ills_of_items l) (item_terms l)
+  pub real : AreReal w → list_all is_item (items_of l) ≡ true
+
+evolved_append : (xs ys : List OdeItem) → evolved (xs ++ ys) ≡ evolved xs ++ evolved ys
+evolved_append [] ys = refl
+evolved_append (ode.Evolve x ∷ xs) ys = ap (λ (l : List Word). x ∷ l) (evolved_append xs ys)
+evolved_append (ode.Const s ∷ xs) ys = evolved_append xs ys
+
+evolved_more : (xs : List OdeItem) (x : Word) → replicate (length (evolved xs)) Term ++ Term ∷ [] ≡ replicate (length (evolved (xs ++ ode.Evolve x ∷ []))) Term
+evolved_more xs x =
+    let count : length (evolved (xs ++ ode.Evolve x ∷ [])) ≡ length (evolved xs) + 1 = ap length (evolved_append xs (ode.Evolve x ∷ [])) ∙ length-append (evolved xs) (x ∷ []) in
+    replicate_more (length (evolved xs)) Term ∙ ap (λ n. replicate n Term) (sym count)
+
+add_item : {s r : List Lexeme} (l : Items) (i : Item) → GrownItems s l → GrownItems r (add no_items i) → GrownItems (s ++ Comma ∷ r) (add l i)
+add_item {s = s} {r = r} l (Evolve x a) g h = record {
+  grown = resort (evolved_more (items_of l) x) (join (widen (part_front s (Comma ∷ r)) g.grown) (widen (part_last s r Comma) h.grown));
+  real = λ p. list_all-append is_item (items_of l) (ode.Evolve x ∷ []) ∙ and_from _ _ (g.real (part_front s (Comma ∷ r) IsReal p)) (h.real (part_last s r Comma IsReal p));
+}
+add_item {s = s} {r = r} l (Flow x e) g h = record {
+  grown = resort (ap (λ (k : List Word). replicate (length k) Term) (sym (evolved_append (items_of l) (item_of (Flow x e) ∷ []) ∙ append-nil (evolved (items_of l))))) (widen (part_front s (Comma ∷ r)) g.grown);
+  real = λ p. list_all-append is_item (items_of l) (item_of (Flow x e) ∷ []) ∙ and_from _ _ (g.real (part_front s (Comma ∷ r) IsReal p)) (h.real (part_last s r Comma IsReal p));
+}
+
+some_items : {s : List Lexeme} {l : Items} → ReadsItems s l → 1 ≤ length (items_of l)
+some_items (items-one {i = i} d) = omega arith
+some_items (items-more {l = l} {i = i} p d) = omega (arith, length-append (items_of l) (item_of i ∷ []))
+
+system_parts : (l : Items) → 1 ≤ length (items_of l) → list_all is_item (items_of l) ≡ true → is_ill_system l ≡ false → are_items (items_of l) ≡ true
+system_parts l some items e =
+    let w = or_parts _ (not (all_distinct (evolved (items_of l)))) e in
+    let most : nat_le (length (items_of l)) 64 ≡ true = le-leb _ 64 (ltb-false 64 _ w.0) in
+    let least : nat_le 1 (length (items_of l)) ≡ true = le-leb 1 _ some in
+    rw (least, most, items, not-false _ w.1) refl
+
+system : {w : List Lexeme} (n : ℕ) (l : Items) (a : Phrase) → ((m : ℕ) → AreBelow m w → n < m) → 1 ≤ length (items_of l) → GrownItems w l → Grown w (Formula ∷ []) (ills a) (erase a ∷ []) → Grown w (Program ∷ []) (ills (System n l a)) (erase (System n l a) ∷ [])
+system n l a b some g h = over_ill (op.System (items_of l)) (place_if (is_ill_system l) n) (join g.grown h) refl (λ m c. place_below (is_ill_system l) n m (b m c)) (λ r e. system_parts l some (g.real r) (no_place (is_ill_system l) n e)) refl refl
