@@ -2,11 +2,11 @@
 use Rattle.std.proofs.Common.{◌≡◌, ℕ, ◌+◌, ◌<◌, ◌≤◌, Bool, true, false, nat_le, List, [], ◌∷◌, ◌++◌, length, refl, sym, ap, subst, ◌∙◌, arith, IsTrue, length-append}
 use Rattle.std.specs.Prelude.{replicate, not, ◌&&◌, ◌||◌}
 use Rattle.std.specs.List.{list_all}
-use Rattle.std.proofs.lemmas.Bool.{le-leb, ltb-false, and_from, or_parts, not-false}
+use Rattle.std.proofs.lemmas.Bool.{le-leb, lt-ltb, ltb-false, and_from, or_parts, not-false}
 use Rattle.std.proofs.lemmas.List.{append-nil, replicate_more}
 use Rattle.std.proofs.lemmas.List.Folds.{list_all-append}
 use Rattle.dlk_tree.specs.Names.{is_name}
-use Rattle.dlk_tree.specs.Table.{Fits, is_num, is_sym_of, is_item, are_items, all_distinct, evolved, sort_of, kid_sorts, has_parts}
+use Rattle.dlk_tree.specs.Table.{Fits, is_num, is_sym_of, is_item, taboo_is_name, are_items, all_distinct, evolved, sort_of, kid_sorts, has_parts}
 use Rattle.dlk_tree.specs.Trees.{Tree, node, forest, sort, sorts, WellMade, AllWellMade}
 use Rattle.dlk_tree.specs.Occurs.{has_dots, has_hole, any_has, is_some_dot, is_hole}
 use Rattle.dlk_tree.specs.declared.op.Op.{Op as TreeOp}
@@ -20,9 +20,9 @@ use Rattle.dlk_grammar.specs.declared.token.Dots.TheVariants.{Refused}
 use Rattle.dlk_grammar.specs.declared.token.Infix.{Infix}
 use Rattle.dlk_grammar.specs.declared.token.Infix.TheVariants.{Equiv, Imply, Or, And, Equal, NotEqual, AtLeast, Greater, AtMost, Less, Add, Sub, Mul, Div, Pow, Choice}
 use Rattle.dlk_grammar.specs.Lexemes.{Word, Lexeme, Name, Number, Dot, Blank, True, False, All, Exist, Invariant, RoundBars, RoundBar, BarRound, BraceBar, BarBrace, Open, Close, OpenBox, CloseBox, OpenBrace, CloseBrace, Bang, Prime, Gets, Query, Semi, Comma, Turnstile, Op}
-use Rattle.dlk_grammar.specs.Phrases.{Everywhere, Except, Phrase, Phrases, none, snoc, Apply, Holds, Call, Item, Evolve, Flow, Items, no_items, add, Noted, System, Truth}
-use Rattle.dlk_grammar.specs.Grammar.{ReadsItems, items-one, items-more}
-use Rattle.dlk_grammar.specs.Erased.{erase, erase_all, item_of, items_of, item_terms, symbol, ills, ills_of_all, ills_of_items, count, is_ill_call, is_ill_system, place_if, infix_op}
+use Rattle.dlk_grammar.specs.Phrases.{Space, Everywhere, Except, Phrase, Phrases, none, snoc, Apply, Holds, Call, Item, Evolve, Flow, Items, no_items, add, Noted, System, Truth}
+use Rattle.dlk_grammar.specs.Grammar.{Form, formula, imp, disj, conj, unf, atom, term, mul, neg, pow, prim, prog, seq, stmt, Reads, formula-imp, formula-equiv, imp-disj, imp-imply, disj-conj, disj-or, conj-unf, conj-and, unf-not, unf-forall, unf-exists, unf-box, unf-dia, unf-atom, atom-true, atom-false, atom-hole, atom-compare, atom-nullary, atom-holds, atom-any, atom-except, atom-context, atom-bracket, atom-diff, term-mul, term-add, term-sub, mul-neg, mul-times, mul-over, neg-pow, neg-minus, pow-prim, pow-power, prim-number, prim-dot, prim-name, prim-primed, prim-nullary, prim-apply, prim-any, prim-except, prim-bracket, prim-diff, prog-seq, prog-choice, seq-stmt, seq-then, stmt-const, stmt-assign, stmt-assign_prime, stmt-test, stmt-group, Compares, cmp-equal, cmp-not_equal, cmp-at_least, cmp-greater, cmp-at_most, cmp-less, ReadsList, list-one, list-more, ReadsBrace, brace-prog, brace-items, brace-domain, ReadsItems, items-one, items-more, ReadsItem, item-evolve, item-flow, item-except, ReadsStar, star-none, star-loop, ReadsInv, inv-none, inv-some, ReadsSemi, semi-none, semi-some}
+use Rattle.dlk_grammar.specs.Erased.{erase, erase_all, item_of, items_of, item_terms, symbol, taboo, ills, ills_of_all, ills_of_items, count, is_ill_call, is_ill_system, place_if, infix_op}
 use Rattle.dlk_grammar.specs.Readings.{permits, Permitted}
 use Rattle.dlk_machine.proofs.Levels.{form_sort}
 
@@ -226,6 +226,9 @@ add_item {s = s} {r = r} l (Flow x e) g h = record {
   real = λ p. list_all-append is_item (items_of l) (item_of (Flow x e) ∷ []) ∙ and_from _ _ (g.real (part_front s (Comma ∷ r) IsReal p)) (h.real (part_last s r Comma IsReal p));
 }
 
+items_in : {s w : List Lexeme} {l : Items} → Part s w → GrownItems s l → GrownItems w l
+items_in part g = record { grown = widen part g.grown; real = λ r. g.real (part IsReal r) }
+
 some_items : {s : List Lexeme} {l : Items} → ReadsItems s l → 1 ≤ length (items_of l)
 some_items (items-one {i = i} d) = omega arith
 some_items (items-more {l = l} {i = i} p d) = omega (arith, length-append (items_of l) (item_of i ∷ []))
@@ -239,3 +242,123 @@ system_parts l some items e =
 
 system : {w : List Lexeme} (n : ℕ) (l : Items) (a : Phrase) → ((m : ℕ) → AreBelow m w → n < m) → 1 ≤ length (items_of l) → GrownItems w l → Grown w (Formula ∷ []) (ills a) (erase a ∷ []) → Grown w (Program ∷ []) (ills (System n l a)) (erase (System n l a) ∷ [])
 system n l a b some g h = over_ill (op.System (items_of l)) (place_if (is_ill_system l) n) (join g.grown h) refl (λ m c. place_below (is_ill_system l) n m (b m c)) (λ r e. system_parts l some (g.real r) (no_place (is_ill_system l) n e)) refl refl
+
+-- symbols without arguments
+unit_pred : (x : Word) (e : Space) → IsTrue (is_name x) → taboo_is_name (taboo e) ≡ true → is_sym_of UnitPred (symbol UnitPred x 0 e) ≡ true
+unit_pred x Everywhere h e = rw h refl
+unit_pred x (Except y) h e = rw (h, e) refl
+
+unit_func : (x : Word) (e : Space) → IsTrue (is_name x) → taboo_is_name (taboo e) ≡ true → is_sym_of UnitFunc (symbol UnitFunc x 0 e) ≡ true
+unit_func x Everywhere h e = rw h refl
+unit_func x (Except y) h e = rw (h, e) refl
+
+flow_parts : (x : Word) (e : Space) → IsTrue (is_name x) → taboo_is_name (taboo e) ≡ true → list_all is_item (items_of (add no_items (Flow x e))) ≡ true
+flow_parts x Everywhere h e = rw h refl
+flow_parts x (Except y) h e = rw (h, e) refl
+
+quant_parts : (x : Word) → IsTrue (is_name x) → is_sym_of Quant (symbol Quant x 0 Everywhere) ≡ true
+quant_parts x h = rw h refl
+
+prog_parts : (x : Word) → IsTrue (is_name x) → is_sym_of Prog (symbol Prog x 0 Everywhere) ≡ true
+prog_parts x h = rw h refl
+
+no_hole : false ≡ true → ⊥
+no_hole e = absurd cc
+
+compared : {o : Infix} {s r : List Lexeme} {places others : List ℕ} {t u : Tree} → Compares o → Grown s (Term ∷ []) places (t ∷ []) → Grown r (Term ∷ []) others (u ∷ []) → Grown (s ++ Op o ∷ r) (Formula ∷ []) (places ++ others) (node (infix_op o) (forest (t ∷ u ∷ [])) ∷ [])
+compared cmp-equal g h = between (Op Equal) op.Eq g h refl refl refl refl
+compared cmp-not_equal g h = between (Op NotEqual) op.Ne g h refl refl refl refl
+compared cmp-at_least g h = between (Op AtLeast) op.Ge g h refl refl refl refl
+compared cmp-greater g h = between (Op Greater) op.Gt g h refl refl refl refl
+compared cmp-at_most g h = between (Op AtMost) op.Le g h refl refl refl refl
+compared cmp-less g h = between (Op Less) op.Lt g h refl refl refl refl
+
+starred : {q w : List Lexeme} {a b : Phrase} → ReadsStar q a b → Grown w (Program ∷ []) (ills a) (erase a ∷ []) → Grown w (Program ∷ []) (ills b) (erase b ∷ [])
+starred star-none g = g
+starred star-loop g = over op.Loop g refl (λ r. refl) refl refl
+
+group_part : (s q i e : List Lexeme) → Part (s ++ i) (s ++ (q ++ (i ++ e)))
+group_part s q i e P h =
+    let w = each_parts P s (q ++ (i ++ e)) h in
+    each_append P s i w.0 (part_front i e P (part_behind q (i ++ e) P w.1))
+
+mutual
+  -- each nonterminal's trees
+  pub grown : {f : Form} {s : List Lexeme} {p : Phrase} → Reads f s p → Grown s (form_sort f ∷ []) (ills p) (erase p ∷ [])
+  grown (formula-imp d) = grown d
+  grown (formula-equiv d e) = between (Op Equiv) op.Equiv (grown d) (grown e) refl refl refl refl
+  grown (imp-disj d) = grown d
+  grown (imp-imply d e) = between (Op Imply) op.Imply (grown d) (grown e) refl refl refl refl
+  grown (disj-conj d) = grown d
+  grown (disj-or d e) = between (Op Or) op.Or (grown d) (grown e) refl refl refl refl
+  grown (conj-unf d) = grown d
+  grown (conj-and d e) = between (Op And) op.And (grown d) (grown e) refl refl refl refl
+  grown (unf-not d) = one op.Not (λ P h. h.1) (grown d) refl (λ r. refl) refl refl
+  grown (unf-forall {x = x} d) = one (op.Forall x) (λ P h. h.1.1) (grown d) refl (λ r. r.1.0) refl refl
+  grown (unf-exists {x = x} d) = one (op.Exists x) (λ P h. h.1.1) (grown d) refl (λ r. r.1.0) refl refl
+  grown (unf-box {s = s} {r = r} d e) = two op.Box (part_in OpenBox s (CloseBox ∷ r)) (λ P h. part_last s r CloseBox P h.1) (grown d) (grown e) refl refl refl refl
+  grown (unf-dia {s = s} {r = r} d e) = two op.Dia (part_in (Op Less) s (Op Greater ∷ r)) (λ P h. part_last s r (Op Greater) P h.1) (grown d) (grown e) refl refl refl refl
+  grown (unf-atom d) = grown d
+  grown atom-true = leaf op.True refl (λ r. refl) refl refl
+  grown atom-false = leaf op.False refl (λ r. refl) refl refl
+  grown atom-hole = record { sorts_are = refl; below = λ m h. tt; made = λ r e. ((record { kids_fit = refl; parts_fit = refl }, tt), tt); bare = λ h. absurd (no_hole h.0) }
+  grown (atom-compare c d e) = compared c (grown d) (grown e)
+  grown (atom-nullary {n = n} {x = x}) = held n x none (λ m b. b.0) (λ r. r.0) nothing
+  grown (atom-holds {n = n} {x = x} {s = s} {l = l} d) = held n x l (λ m b. b.0) (λ r. r.0) (widen (λ P h. part_in Open s (Close ∷ []) P h.1) (grown_list d))
+  grown (atom-any {x = x}) = leaf (op.UnitPred (symbol UnitPred x 0 Everywhere)) refl (λ r. unit_pred x Everywhere r.0 refl) refl refl
+  grown (atom-except {x = x} {y = y}) = leaf (op.UnitPred (symbol UnitPred x 0 (Except y))) refl (λ r. unit_pred x (Except y) r.0 r.1.1.0) refl refl
+  grown (atom-context {m = m} {x = x} {s = s} d) = one (op.Predicational (symbol Quant x 0 Everywhere)) (λ P h. part_in (OpenBrace m) s (CloseBrace ∷ []) P h.1) (grown d) refl (λ r. quant_parts x r.0) refl refl
+  grown (atom-bracket {s = s} d) = widen (part_in Open s (Close ∷ [])) (grown d)
+  grown (atom-diff {s = s} d) = one op.DiffF (part_in Open s (Close ∷ Prime ∷ [])) (grown d) refl (λ r. refl) refl refl
+  grown (term-mul d) = grown d
+  grown (term-add d e) = between (Op Add) op.Add (grown d) (grown e) refl refl refl refl
+  grown (term-sub d e) = between (Op Sub) op.Sub (grown d) (grown e) refl refl refl refl
+  grown (mul-neg d) = grown d
+  grown (mul-times d e) = between (Op Mul) op.Mul (grown d) (grown e) refl refl refl refl
+  grown (mul-over d e) = between (Op Div) op.Div (grown d) (grown e) refl refl refl refl
+  grown (neg-pow d) = grown d
+  grown (neg-minus d) = one op.Neg (λ P h. h.1) (grown d) refl (λ r. refl) refl refl
+  grown (pow-prim d) = grown d
+  grown (pow-power d e) = between (Op Pow) op.Pow (grown d) (grown e) refl refl refl refl
+  grown (prim-number {n = d}) = leaf (op.Number d) refl (λ r. r.0) refl refl
+  grown (prim-dot {n = n}) = record { sorts_are = refl; below = λ m h. tt; made = λ r e. ((record { kids_fit = refl; parts_fit = lt-ltb n 8 r.0 }, tt), tt); bare = λ h. absurd (no_hole h.0) }
+  grown (prim-name {x = x}) = leaf (op.Variable (record { name = x; primed = false })) refl (λ r. r.0) refl refl
+  grown (prim-primed {x = x}) = leaf (op.Variable (record { name = x; primed = true })) refl (λ r. r.0) refl refl
+  grown (prim-nullary {n = n} {x = x}) = applied n x none (λ m b. b.0) (λ r. r.0) nothing
+  grown (prim-apply {n = n} {x = x} {s = s} {l = l} d) = applied n x l (λ m b. b.0) (λ r. r.0) (widen (λ P h. part_in Open s (Close ∷ []) P h.1) (grown_list d))
+  grown (prim-any {x = x}) = leaf (op.UnitFun (symbol UnitFunc x 0 Everywhere)) refl (λ r. unit_func x Everywhere r.0 refl) refl refl
+  grown (prim-except {x = x} {y = y}) = leaf (op.UnitFun (symbol UnitFunc x 0 (Except y))) refl (λ r. unit_func x (Except y) r.0 r.1.1.0) refl refl
+  grown (prim-bracket {s = s} d) = widen (part_in Open s (Close ∷ [])) (grown d)
+  grown (prim-diff {s = s} d) = one op.Diff (part_in Open s (Close ∷ Prime ∷ [])) (grown d) refl (λ r. refl) refl refl
+  grown (prog-seq d) = grown d
+  grown (prog-choice d e) = between (Op Choice) op.Choice (grown d) (grown e) refl refl refl refl
+  grown (seq-stmt d) = grown d
+  grown (seq-then {s = s} {r = r} d e) = two op.Seq (part_front s r) (part_behind s r) (grown d) (grown e) refl refl refl refl
+  grown (stmt-const {x = x}) = leaf (op.Const (symbol Prog x 0 Everywhere)) refl (λ r. prog_parts x r.0) refl refl
+  grown (stmt-assign {x = x} {s = s} d) = one (op.Assign (record { name = x; primed = false })) (λ P h. part_in Gets s (Semi ∷ []) P h.1) (grown d) refl (λ r. r.0) refl refl
+  grown (stmt-assign_prime {x = x} {s = s} d) = one (op.Assign (record { name = x; primed = true })) (λ P h. part_in Gets s (Semi ∷ []) P h.1.1) (grown d) refl (λ r. r.0) refl refl
+  grown (stmt-test {s = s} d) = one op.Test (part_in Query s (Semi ∷ [])) (grown d) refl (λ r. refl) refl refl
+  grown (stmt-group {s = s} {q = q} {i = i} {e = e} d star inv semi) = widen (group_part s q i e) (grown_inv inv (starred star (grown_brace d)))
+
+  pub grown_list : {f : Form} {s : List Lexeme} {l : Phrases} → ReadsList f s l → Grown s (replicate (count l) (form_sort f)) (ills_of_all l) (erase_all l)
+  grown_list (list-one d) = grown d
+  grown_list (list-more {f = f} {s = s} {r = r} {l = l} p d) = resort (replicate_more (count l) (form_sort f)) (join (widen (part_front s (Comma ∷ r)) (grown_list p)) (widen (part_last s r Comma) (grown d)))
+
+  grown_brace : {s : List Lexeme} {a : Phrase} → ReadsBrace s a → Grown s (Program ∷ []) (ills a) (erase a ∷ [])
+  grown_brace (brace-prog {n = n} {s = s} d) = widen (part_in (OpenBrace n) s (CloseBrace ∷ [])) (grown d)
+  grown_brace (brace-items {n = n} {s = s} {l = l} p) = system n l Truth (λ m b. b.0) (some_items p) (items_in (part_in (OpenBrace n) s (CloseBrace ∷ [])) (grown_items p)) (leaf op.True refl (λ r. refl) refl refl)
+  grown_brace (brace-domain {n = n} {s = s} {r = r} {l = l} {a = a} p d) = system n l a (λ m b. b.0) (some_items p) (items_in (part_in (OpenBrace n) s (Op And ∷ (r ++ CloseBrace ∷ []))) (grown_items p))
+      (widen (λ P h. part_front r (CloseBrace ∷ []) P (part_last s (r ++ CloseBrace ∷ []) (Op And) P h.1)) (grown d))
+
+  grown_items : {s : List Lexeme} {l : Items} → ReadsItems s l → GrownItems s l
+  grown_items (items-one i) = grown_item i
+  grown_items (items-more {l = l} {i = i} p d) = add_item l i (grown_items p) (grown_item d)
+
+  grown_item : {s : List Lexeme} {i : Item} → ReadsItem s i → GrownItems s (add no_items i)
+  grown_item (item-evolve {x = x} d) = record { grown = widen (λ P h. h.1.1.1) (grown d); real = λ r. rw (r.0) refl }
+  grown_item (item-flow {x = x}) = record { grown = nothing; real = λ r. flow_parts x Everywhere r.0 refl }
+  grown_item (item-except {x = x} {y = y}) = record { grown = nothing; real = λ r. flow_parts x (Except y) r.0 r.1.1.0 }
+
+  grown_inv : {s i : List Lexeme} {b c : Phrase} → ReadsInv i b c → Grown s (Program ∷ []) (ills b) (erase b ∷ []) → Grown (s ++ i) (Program ∷ []) (ills c) (erase c ∷ [])
+  grown_inv {s = s} inv-none g = widen (part_front s []) g
+  grown_inv {s = s} (inv-some {s = r} p) g = noted (widen (part_front s (Invariant ∷ Open ∷ (r ++ Close ∷ []))) g) (widen (λ P h. part_in Open r (Close ∷ []) P (part_last s (Open ∷ (r ++ Close ∷ [])) Invariant P h)) (grown_list p))
