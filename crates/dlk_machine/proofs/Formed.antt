@@ -1,9 +1,10 @@
 -- What is read is well made, where the names, numbers and dots of the lexemes are real.
-use Rattle.std.proofs.Common.{◌≡◌, ℕ, ◌+◌, ◌<◌, ◌≤◌, Bool, true, false, nat_le, List, [], ◌∷◌, ◌++◌, length, refl, sym, ap, subst, ◌∙◌, arith, IsTrue, length-append}
+use Rattle.std.proofs.Common.{◌≡◌, ℕ, zero, suc, ◌+◌, ◌<◌, ◌≤◌, Bool, true, false, nat_le, List, [], ◌∷◌, ◌++◌, length, refl, sym, ap, subst, ◌∙◌, arith, IsTrue, length-append}
 use Rattle.std.specs.Prelude.{replicate, not, ◌&&◌, ◌||◌}
-use Rattle.std.specs.List.{list_all}
+use Rattle.std.specs.List.{list_all, All as AllOf}
 use Rattle.std.proofs.lemmas.Bool.{le-leb, lt-ltb, ltb-false, and_from, or_parts, not-false}
 use Rattle.std.proofs.lemmas.List.{append-nil, replicate_more}
+use Rattle.std.proofs.lemmas.List.Elements.{All-nil, All-cons}
 use Rattle.std.proofs.lemmas.List.Folds.{list_all-append}
 use Rattle.dlk_tree.specs.Names.{is_name}
 use Rattle.dlk_tree.specs.Table.{Fits, is_num, is_sym_of, is_item, taboo_is_name, are_items, all_distinct, evolved, sort_of, kid_sorts, has_parts}
@@ -16,14 +17,15 @@ use Rattle.dlk_tree.specs.declared.op.OdeItem.TheVariants as ode
 use Rattle.dlk_tree.specs.declared.op.Kind.TheVariants.{Func, UnitFunc, Pred, UnitPred, Quant, Prog, Ode}
 use Rattle.dlk_tree.specs.declared.op.Sort.{Sort}
 use Rattle.dlk_tree.specs.declared.op.Sort.TheVariants.{Term, Formula, Program}
+use Rattle.dlk_calculus.specs.Sequents.{IsFormula, IsSequent}
 use Rattle.dlk_grammar.specs.declared.token.Dots.TheVariants.{Refused}
 use Rattle.dlk_grammar.specs.declared.token.Infix.{Infix}
 use Rattle.dlk_grammar.specs.declared.token.Infix.TheVariants.{Equiv, Imply, Or, And, Equal, NotEqual, AtLeast, Greater, AtMost, Less, Add, Sub, Mul, Div, Pow, Choice}
 use Rattle.dlk_grammar.specs.Lexemes.{Word, Lexeme, Name, Number, Dot, Blank, True, False, All, Exist, Invariant, RoundBars, RoundBar, BarRound, BraceBar, BarBrace, Open, Close, OpenBox, CloseBox, OpenBrace, CloseBrace, Bang, Prime, Gets, Query, Semi, Comma, Turnstile, Op}
 use Rattle.dlk_grammar.specs.Phrases.{Space, Everywhere, Except, Phrase, Phrases, none, snoc, Apply, Holds, Call, Item, Evolve, Flow, Items, no_items, add, Noted, System, Truth}
-use Rattle.dlk_grammar.specs.Grammar.{Form, formula, imp, disj, conj, unf, atom, term, mul, neg, pow, prim, prog, seq, stmt, Reads, formula-imp, formula-equiv, imp-disj, imp-imply, disj-conj, disj-or, conj-unf, conj-and, unf-not, unf-forall, unf-exists, unf-box, unf-dia, unf-atom, atom-true, atom-false, atom-hole, atom-compare, atom-nullary, atom-holds, atom-any, atom-except, atom-context, atom-bracket, atom-diff, term-mul, term-add, term-sub, mul-neg, mul-times, mul-over, neg-pow, neg-minus, pow-prim, pow-power, prim-number, prim-dot, prim-name, prim-primed, prim-nullary, prim-apply, prim-any, prim-except, prim-bracket, prim-diff, prog-seq, prog-choice, seq-stmt, seq-then, stmt-const, stmt-assign, stmt-assign_prime, stmt-test, stmt-group, Compares, cmp-equal, cmp-not_equal, cmp-at_least, cmp-greater, cmp-at_most, cmp-less, ReadsList, list-one, list-more, ReadsBrace, brace-prog, brace-items, brace-domain, ReadsItems, items-one, items-more, ReadsItem, item-evolve, item-flow, item-except, ReadsStar, star-none, star-loop, ReadsInv, inv-none, inv-some, ReadsSemi, semi-none, semi-some}
+use Rattle.dlk_grammar.specs.Grammar.{Form, formula, imp, disj, conj, unf, atom, term, mul, neg, pow, prim, prog, seq, stmt, Reads, formula-imp, formula-equiv, imp-disj, imp-imply, disj-conj, disj-or, conj-unf, conj-and, unf-not, unf-forall, unf-exists, unf-box, unf-dia, unf-atom, atom-true, atom-false, atom-hole, atom-compare, atom-nullary, atom-holds, atom-any, atom-except, atom-context, atom-bracket, atom-diff, term-mul, term-add, term-sub, mul-neg, mul-times, mul-over, neg-pow, neg-minus, pow-prim, pow-power, prim-number, prim-dot, prim-name, prim-primed, prim-nullary, prim-apply, prim-any, prim-except, prim-bracket, prim-diff, prog-seq, prog-choice, seq-stmt, seq-then, stmt-const, stmt-assign, stmt-assign_prime, stmt-test, stmt-group, Compares, cmp-equal, cmp-not_equal, cmp-at_least, cmp-greater, cmp-at_most, cmp-less, ReadsList, list-one, list-more, ReadsBrace, brace-prog, brace-items, brace-domain, ReadsItems, items-one, items-more, ReadsItem, item-evolve, item-flow, item-except, ReadsStar, star-none, star-loop, ReadsInv, inv-none, inv-some, ReadsSemi, semi-none, semi-some, ReadsSide, side-nothing, side-list, Sides, Turned, ReadsSequent, sequent-sides, ReadsExpression, as-formula, as-program, as-term}
 use Rattle.dlk_grammar.specs.Erased.{erase, erase_all, item_of, items_of, item_terms, symbol, taboo, ills, ills_of_all, ills_of_items, count, is_ill_call, is_ill_system, place_if, infix_op}
-use Rattle.dlk_grammar.specs.Readings.{permits, Permitted}
+use Rattle.dlk_grammar.specs.Readings.{permits, Permitted, erase_sides}
 use Rattle.dlk_machine.proofs.Levels.{form_sort}
 
 abbrev pub Each : {X : Type 0} → (X → Type 0) → List X → Type 0
@@ -362,3 +364,82 @@ mutual
   grown_inv : {s i : List Lexeme} {b c : Phrase} → ReadsInv i b c → Grown s (Program ∷ []) (ills b) (erase b ∷ []) → Grown (s ++ i) (Program ∷ []) (ills c) (erase c ∷ [])
   grown_inv {s = s} inv-none g = widen (part_front s []) g
   grown_inv {s = s} (inv-some {s = r} p) g = noted (widen (part_front s (Invariant ∷ Open ∷ (r ++ Close ∷ []))) g) (widen (λ P h. part_in Open r (Close ∷ []) P (part_last s (Open ∷ (r ++ Close ∷ [])) Invariant P h)) (grown_list p))
+
+-- a tree that is well made and of a sort
+pub record IsMade (s : Sort) (t : Tree) : Type 0 where
+  pub well_made : WellMade t
+  pub sort_is : sort t ≡ s
+
+sort_from : {w : List Lexeme} {s : Sort} {places : List ℕ} {t : Tree} → Grown w (s ∷ []) places (t ∷ []) → sort t ≡ s
+sort_from {s = s} {t = t} g = let e : sort t ∷ [] ≡ s ∷ [] = g.sorts_are in cc
+
+made_from : {w : List Lexeme} {s : Sort} {places : List ℕ} {t : Tree} → Grown w (s ∷ []) places (t ∷ []) → AreReal w → places ≡ [] → IsMade s t
+made_from g h e = record { well_made = (g.made h e).0; sort_is = sort_from g }
+
+pub formed : {f : Form} {s : List Lexeme} {p : Phrase} → Reads f s p → AreReal s → ills p ≡ [] → IsMade (form_sort f) (erase p)
+formed d h e = made_from (grown d) h e
+
+-- an expression is of some sort
+pub record GrownSome (s : List Lexeme) (p : Phrase) : Type 0 where
+  pub kind : Sort
+  pub grown : Grown s (kind ∷ []) (ills p) (erase p ∷ [])
+
+pub grown_expression : {s : List Lexeme} {p : Phrase} → ReadsExpression s p → GrownSome s p
+grown_expression (as-formula d) = record { kind = Formula; grown = grown d }
+grown_expression (as-program d) = record { kind = Program; grown = grown d }
+grown_expression (as-term d no) = record { kind = Term; grown = grown d }
+
+pub expression_formed : {s : List Lexeme} {p : Phrase} → ReadsExpression s p → AreReal s → ills p ≡ [] → WellMade (erase p)
+expression_formed d h e = (made_from (grown_expression d).grown h e).well_made
+
+-- where dots are refused, no dot and no hole stands in a tree
+pub bare_dot : {t : Tree} → AreBare (t ∷ []) → has_dots t ≡ false
+bare_dot {t = t} h = (or_parts (has_dots t) false h.no_dot).0
+
+pub bare_hole : {t : Tree} → AreBare (t ∷ []) → has_hole t ≡ false
+bare_hole {t = t} h = (or_parts (has_hole t) false h.no_hole).0
+
+formula_from : {w : List Lexeme} {places : List ℕ} {t : Tree} → Grown w (Formula ∷ []) places (t ∷ []) → AreReal w → Permitted Refused w → places ≡ [] → IsFormula t
+formula_from {w = w} g h p e =
+    let b = g.bare (plain_from w p) in
+    record { well_made = (g.made h e).0; sort_is = sort_from g; no_dot = bare_dot b; no_hole = bare_hole b }
+
+pub formula_formed : {s : List Lexeme} {p : Phrase} → Reads formula s p → AreReal s → Permitted Refused s → ills p ≡ [] → IsFormula (erase p)
+formula_formed d h p e = formula_from (grown d) h p e
+
+-- a list of formulas
+formulas_in : (n : ℕ) (ts : List Tree) → sorts (forest ts) ≡ replicate n Formula → AllWellMade (forest ts) → AreBare ts → AllOf IsFormula ts
+formulas_in n [] e h b = All-nil IsFormula
+formulas_in zero (t ∷ ts) e h b = absurd cc
+formulas_in (suc n) (t ∷ ts) e h b =
+    let first : sort t ≡ Formula = cc in
+    let rest : sorts (forest ts) ≡ replicate n Formula = cc in
+    let dots = or_parts (has_dots t) (any_has is_some_dot (forest ts)) b.no_dot in
+    let holes = or_parts (has_hole t) (any_has is_hole (forest ts)) b.no_hole in
+    All-cons IsFormula t ts (record { well_made = h.0; sort_is = first; no_dot = dots.0; no_hole = holes.0 }) (formulas_in n ts rest h.1 (record { no_dot = dots.1; no_hole = holes.1 }))
+
+pub list_formed : {s : List Lexeme} {l : Phrases} → ReadsList formula s l → AreReal s → Permitted Refused s → ills_of_all l ≡ [] → AllOf IsFormula (erase_all l)
+list_formed {s = s} {l = l} d h p e = let g = grown_list d in formulas_in (count l) (erase_all l) g.sorts_are (g.made h e) (g.bare (plain_from s p))
+
+-- the two sides of a sequent
+pub grown_side : {s : List Lexeme} {l : Phrases} → ReadsSide s l → Grown s (replicate (count l) Formula) (ills_of_all l) (erase_all l)
+grown_side side-nothing = nothing
+grown_side (side-list d) = grown_list d
+
+pub grown_sides : {s : List Lexeme} {l m : Phrases} → ReadsSequent s (Turned l m) → Grown s (replicate (count l) Formula ++ replicate (count m) Formula) (ills_of_all l ++ ills_of_all m) (erase_all l ++ erase_all m)
+grown_sides (sequent-sides {s = s} {r = r} d e) = join (widen (part_front s (Turnstile ∷ r)) (grown_side d)) (widen (part_last s r Turnstile) (grown_side e))
+
+sides_formed : {s r : List Lexeme} {l m : Phrases} → ReadsSide s l → ReadsSide r m → AreReal (s ++ Turnstile ∷ r) → ArePlain (s ++ Turnstile ∷ r) → ills_of_all l ++ ills_of_all m ≡ [] → IsSequent (erase_sides (Turned l m))
+sides_formed {s = s} {r = r} {l = l} {m = m} d e h p n =
+    let g = widen (part_front s (Turnstile ∷ r)) (grown_side d) in
+    let k = widen (part_last s r Turnstile) (grown_side e) in
+    record {
+      ante = formulas_in (count l) (erase_all l) g.sorts_are (g.made h (none_left (ills_of_all l) (ills_of_all m) n)) (g.bare p);
+      succ = formulas_in (count m) (erase_all m) k.sorts_are (k.made h (none_right (ills_of_all l) (ills_of_all m) n)) (k.bare p);
+    }
+
+abbrev pub ills_of_sides : Sides → List ℕ
+ills_of_sides (Turned l m) = ills_of_all l ++ ills_of_all m
+
+pub sequent_formed : {s : List Lexeme} {z : Sides} → ReadsSequent s z → AreReal s → Permitted Refused s → ills_of_sides z ≡ [] → IsSequent (erase_sides z)
+sequent_formed {s = s} (sequent-sides d e) h p n = sides_formed d e h (plain_from s p) n

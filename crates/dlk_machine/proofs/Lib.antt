@@ -3,10 +3,12 @@ pub mod Machine
 pub mod Parse
 pub mod Sequents
 pub mod Expressions
+pub mod Examples
 pub mod Opening
 pub mod Climb
 pub mod Firsts
 pub mod Only
+pub mod Spelled
 pub mod Found
 pub mod Live
 pub mod Parsing
@@ -15,4 +17,3 @@ pub mod ExpressionLaws
 pub mod SequentLaws
 pub mod ParseLaws
 pub mod Formed
-pub mod Examples

@@ -10,7 +10,8 @@ use Rattle.dlk_grammar.specs.declared.token.Dots.{Dots}
 use Rattle.dlk_machine.proofs.Parse.{reader}
 use Rattle.dlk_machine.proofs.Opening.{begun, states}
 use Rattle.dlk_machine.proofs.Only.{only_at}
-use Rattle.dlk_machine.proofs.Found.{nothing, After, ends}
+use Rattle.dlk_machine.proofs.Spelled.{nothing, After}
+use Rattle.dlk_machine.proofs.Found.{ends}
 use Rattle.dlk_machine.proofs.Live.{live, states_after}
 use Rattle.dlk_machine.proofs.Parsing.{Reader}
 

@@ -13,7 +13,8 @@ use Rattle.dlk_grammar.specs.Grammar.{Sides, Turned, ReadsSide, side-nothing, si
 use Rattle.dlk_machine.proofs.Sequents.{Side, LeftSide, RightSide, SequentState, Fresh, Reading, turn, inner, sequent_step, sequent_ended, sequent_reader}
 use Rattle.dlk_machine.proofs.Opening.{some_is, bind_some, Opening, opening_more, begun, states, states_then}
 use Rattle.dlk_machine.proofs.Only.{only_at}
-use Rattle.dlk_machine.proofs.Found.{ListBefore, list-begins, list-goes_on, list_joined, nothing, After, moves, ends}
+use Rattle.dlk_machine.proofs.Spelled.{ListBefore, list-begins, list-goes_on, list_joined, nothing, After}
+use Rattle.dlk_machine.proofs.Found.{moves, ends}
 use Rattle.dlk_machine.proofs.Live.{live}
 use Rattle.dlk_machine.proofs.Parsing.{known, none_some, Reader}
 
