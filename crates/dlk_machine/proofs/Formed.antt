@@ -387,7 +387,7 @@ pub record GrownSome (s : List Lexeme) (p : Phrase) : Type 0 where
 pub grown_expression : {s : List Lexeme} {p : Phrase} → ReadsExpression s p → GrownSome s p
 grown_expression (as-formula d) = record { kind = Formula; grown = grown d }
 grown_expression (as-program d) = record { kind = Program; grown = grown d }
-grown_expression (as-term d no) = record { kind = Term; grown = grown d }
+grown_expression (as-term d other) = record { kind = Term; grown = grown d }
 
 pub expression_formed : {s : List Lexeme} {p : Phrase} → ReadsExpression s p → AreReal s → ills p ≡ [] → WellMade (erase p)
 expression_formed d h e = (made_from (grown_expression d).grown h e).well_made

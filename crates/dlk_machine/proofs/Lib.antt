@@ -17,3 +17,4 @@ pub mod ExpressionLaws
 pub mod SequentLaws
 pub mod ParseLaws
 pub mod Formed
+pub mod TextLaws
