@@ -110,18 +110,18 @@ seams (z ∷ b) (w ∷ c) x y r s e =
 -- the first token with a property has one place
 first_is : (Is : List Token → TokenKind → Type 0) (ts : List Token) (at other : ℕ) → FirstAt Is ts at → FirstAt Is ts other → at ≡ other
 first_is Is ts at other a b = elim (seams a.before b.before a.token b.token a.behind b.behind (sym a.tokens_are ∙ b.tokens_are)) [
-    same e f ↦ a.place ∙ ap (λ (t : Token). t.at) f ∙ sym b.place
+  | same e f ↦ a.place ∙ ap (λ (t : Token). t.at) f ∙ sym b.place
   | sooner after e ↦ absurd (b.first a.before after a.token e a.is)
   | later after e ↦ absurd (a.first b.before after b.token e b.is)
-  ]
+]
 
 -- a place has one token
 token_is : (ts : List Token) (place at other : ℕ) → TokenAt ts place at → TokenAt ts place other → at ≡ other
 token_is ts place at other a b = elim (seams a.before b.before a.token b.token a.behind b.behind (sym a.tokens_are ∙ b.tokens_are)) [
-    same e f ↦ a.at_is ∙ ap (λ (t : Token). t.at) f ∙ sym b.at_is
+  | same e f ↦ a.at_is ∙ ap (λ (t : Token). t.at) f ∙ sym b.at_is
   | sooner after e ↦ absurd (omega (arith, ap length e, length-append a.before (a.token ∷ after), a.count, b.count))
   | later after e ↦ absurd (omega (arith, ap length e, length-append b.before (b.token ∷ after), a.count, b.count))
-  ]
+]
 
 at_seam : {X : Type 0} (Is : X → Type 0) (xs : List X) (x : X) (ys : List X) → All Is (xs ++ x ∷ ys) → Is x
 at_seam Is [] x ys h = All-head Is x ys h
@@ -130,14 +130,14 @@ at_seam Is (z ∷ xs) x ys h = at_seam Is xs x ys (All-tail Is z (xs ++ x ∷ ys
 -- the first tree past a limit has one measure
 past_is : (measure : Tree → ℕ) (limit : ℕ) (ts : List Tree) (n m : ℕ) → FirstPast measure limit ts n → FirstPast measure limit ts m → n ≡ m
 past_is measure limit ts n m a b = elim (seams a.before b.before a.tree b.tree a.behind b.behind (sym a.trees_are ∙ b.trees_are)) [
-    same e f ↦ a.number ∙ ap (λ (t : Tree). min (measure t) 4294967295) f ∙ sym b.number
+  | same e f ↦ a.number ∙ ap (λ (t : Tree). min (measure t) 4294967295) f ∙ sym b.number
   | sooner after e ↦
       let low : measure a.tree ≤ limit = at_seam (λ (t : Tree). measure t ≤ limit) a.before a.tree after (subst (All (λ (t : Tree). measure t ≤ limit)) e b.first) in
       absurd (omega (arith, a.past))
   | later after e ↦
       let low : measure b.tree ≤ limit = at_seam (λ (t : Tree). measure t ≤ limit) b.before b.tree after (subst (All (λ (t : Tree). measure t ≤ limit)) e a.first) in
       absurd (omega (arith, b.past))
-  ]
+]
 
 -- A form of text: its grammar, the phrases of its trees, and that lexemes say one thing.
 module _ {P : Type 0} (G : List Lexeme → P → Type 0) (parts : P → List Phrase) (one : (s : List Lexeme) (p q : P) → G s p → G s q → p ≡ q) (d : Dots) (tokens : List Token) where
@@ -164,10 +164,10 @@ module _ {P : Type 0} (G : List Lexeme → P → Type 0) (parts : P → List Phr
 
   one_fault : (why other : ReadFault) → IsReadFault G parts d tokens why → IsReadFault G parts d tokens other → why ≡ other
   one_fault why other a b = elim (cases_order (rank why) (rank other)) [
-      inl e ↦ one_ranked why other e a.applies b.applies
+    | inl e ↦ one_ranked why other e a.applies b.applies
     | inr (inl less) ↦ absurd (b.first why less a.applies)
     | inr (inr more) ↦ absurd (a.first other more b.applies)
-    ]
+  ]
 
   -- where there is no fault, nothing is of ill shape
   none_ill : (p : P) (ns : List ℕ) → flat_map ills (parts p) ≡ ns → Says d G (lexemes tokens) p → ((why : ReadFault) → ¬ Against G parts d tokens why) → Each (λ n. n < length tokens) ns → ns ≡ []
