@@ -1,29 +1,29 @@
 -- What is read is well made, where the names, numbers and dots of the lexemes are real.
-use Rattle.std.proofs.Common.{◌≡◌, ℕ, zero, suc, ◌+◌, ◌<◌, ◌≤◌, Bool, true, false, nat_le, List, [], ◌∷◌, ◌++◌, length, refl, sym, ap, subst, ◌∙◌, arith, IsTrue, length-append}
-use Rattle.std.specs.Prelude.{replicate, not, ◌&&◌, ◌||◌}
+use Rattle.std.proofs.Common.{◌≡◌, ℕ, zero, suc, ◌+◌, ◌<◌, ◌≤◌, Bool, true, false, nat_le, List, [], ◌∷◌, ◌++◌, length, refl, sym, ap, ◌∙◌, arith, IsTrue, length-append}
+use Rattle.std.specs.Prelude.{replicate, not}
 use Rattle.std.specs.List.{list_all, All as AllOf}
 use Rattle.std.proofs.lemmas.Bool.{le-leb, lt-ltb, ltb-false, and_from, or_parts, not-false}
 use Rattle.std.proofs.lemmas.List.{append-nil, replicate_more}
 use Rattle.std.proofs.lemmas.List.Elements.{All-nil, All-cons}
 use Rattle.std.proofs.lemmas.List.Folds.{list_all-append}
 use Rattle.dlk_tree.specs.Names.{is_name}
-use Rattle.dlk_tree.specs.Table.{Fits, is_num, is_sym_of, is_item, taboo_is_name, are_items, all_distinct, evolved, sort_of, kid_sorts, has_parts}
+use Rattle.dlk_tree.specs.Table.{is_num, is_sym_of, is_item, taboo_is_name, are_items, all_distinct, evolved, sort_of, kid_sorts, has_parts}
 use Rattle.dlk_tree.specs.Trees.{Tree, node, forest, sort, sorts, WellMade, AllWellMade}
 use Rattle.dlk_tree.specs.Occurs.{has_dots, has_hole, any_has, is_some_dot, is_hole}
 use Rattle.dlk_tree.specs.declared.op.Op.{Op as TreeOp}
 use Rattle.dlk_tree.specs.declared.op.Op.TheVariants as op
 use Rattle.dlk_tree.specs.declared.op.OdeItem.{OdeItem}
 use Rattle.dlk_tree.specs.declared.op.OdeItem.TheVariants as ode
-use Rattle.dlk_tree.specs.declared.op.Kind.TheVariants.{Func, UnitFunc, Pred, UnitPred, Quant, Prog, Ode}
+use Rattle.dlk_tree.specs.declared.op.Kind.TheVariants.{Func, UnitFunc, Pred, UnitPred, Quant, Prog}
 use Rattle.dlk_tree.specs.declared.op.Sort.{Sort}
 use Rattle.dlk_tree.specs.declared.op.Sort.TheVariants.{Term, Formula, Program}
 use Rattle.dlk_calculus.specs.Sequents.{IsFormula, IsSequent}
 use Rattle.dlk_grammar.specs.declared.token.Dots.TheVariants.{Refused}
 use Rattle.dlk_grammar.specs.declared.token.Infix.{Infix}
 use Rattle.dlk_grammar.specs.declared.token.Infix.TheVariants.{Equiv, Imply, Or, And, Equal, NotEqual, AtLeast, Greater, AtMost, Less, Add, Sub, Mul, Div, Pow, Choice}
-use Rattle.dlk_grammar.specs.Lexemes.{Word, Lexeme, Name, Number, Dot, Blank, True, False, All, Exist, Invariant, RoundBars, RoundBar, BarRound, BraceBar, BarBrace, Open, Close, OpenBox, CloseBox, OpenBrace, CloseBrace, Bang, Prime, Gets, Query, Semi, Comma, Turnstile, Op}
-use Rattle.dlk_grammar.specs.Phrases.{Space, Everywhere, Except, Phrase, Phrases, none, snoc, Apply, Holds, Call, Item, Evolve, Flow, Items, no_items, add, Noted, System, Truth}
-use Rattle.dlk_grammar.specs.Grammar.{Form, formula, imp, disj, conj, unf, atom, term, mul, neg, pow, prim, prog, seq, stmt, Reads, formula-imp, formula-equiv, imp-disj, imp-imply, disj-conj, disj-or, conj-unf, conj-and, unf-not, unf-forall, unf-exists, unf-box, unf-dia, unf-atom, atom-true, atom-false, atom-hole, atom-compare, atom-nullary, atom-holds, atom-any, atom-except, atom-context, atom-bracket, atom-diff, term-mul, term-add, term-sub, mul-neg, mul-times, mul-over, neg-pow, neg-minus, pow-prim, pow-power, prim-number, prim-dot, prim-name, prim-primed, prim-nullary, prim-apply, prim-any, prim-except, prim-bracket, prim-diff, prog-seq, prog-choice, seq-stmt, seq-then, stmt-const, stmt-assign, stmt-assign_prime, stmt-test, stmt-group, Compares, cmp-equal, cmp-not_equal, cmp-at_least, cmp-greater, cmp-at_most, cmp-less, ReadsList, list-one, list-more, ReadsBrace, brace-prog, brace-items, brace-domain, ReadsItems, items-one, items-more, ReadsItem, item-evolve, item-flow, item-except, ReadsStar, star-none, star-loop, ReadsInv, inv-none, inv-some, ReadsSemi, semi-none, semi-some, ReadsSide, side-nothing, side-list, Sides, Turned, ReadsSequent, sequent-sides, ReadsExpression, as-formula, as-program, as-term}
+use Rattle.dlk_grammar.specs.Lexemes.{Word, Lexeme, Name, Number, Dot, Invariant, Open, Close, OpenBox, CloseBox, OpenBrace, CloseBrace, Prime, Gets, Query, Semi, Comma, Turnstile, Op}
+use Rattle.dlk_grammar.specs.Phrases.{Space, Everywhere, Except, Phrase, Phrases, none, Apply, Holds, Call, Item, Evolve, Flow, Items, no_items, add, System, Truth}
+use Rattle.dlk_grammar.specs.Grammar.{Form, formula, Reads, formula-imp, formula-equiv, imp-disj, imp-imply, disj-conj, disj-or, conj-unf, conj-and, unf-not, unf-forall, unf-exists, unf-box, unf-dia, unf-atom, atom-true, atom-false, atom-hole, atom-compare, atom-nullary, atom-holds, atom-any, atom-except, atom-context, atom-bracket, atom-diff, term-mul, term-add, term-sub, mul-neg, mul-times, mul-over, neg-pow, neg-minus, pow-prim, pow-power, prim-number, prim-dot, prim-name, prim-primed, prim-nullary, prim-apply, prim-any, prim-except, prim-bracket, prim-diff, prog-seq, prog-choice, seq-stmt, seq-then, stmt-const, stmt-assign, stmt-assign_prime, stmt-test, stmt-group, Compares, cmp-equal, cmp-not_equal, cmp-at_least, cmp-greater, cmp-at_most, cmp-less, ReadsList, list-one, list-more, ReadsBrace, brace-prog, brace-items, brace-domain, ReadsItems, items-one, items-more, ReadsItem, item-evolve, item-flow, item-except, ReadsStar, star-none, star-loop, ReadsInv, inv-none, inv-some, ReadsSide, side-nothing, side-list, Sides, Turned, ReadsSequent, sequent-sides, ReadsExpression, as-formula, as-program, as-term}
 use Rattle.dlk_grammar.specs.Erased.{erase, erase_all, item_of, items_of, item_terms, symbol, taboo, ills, ills_of_all, ills_of_items, count, is_ill_call, is_ill_system, place_if, infix_op}
 use Rattle.dlk_grammar.specs.Readings.{permits, Permitted, erase_sides}
 use Rattle.dlk_machine.proofs.Levels.{form_sort}
@@ -264,8 +264,8 @@ quant_parts x h = rw h refl
 prog_parts : (x : Word) → IsTrue (is_name x) → is_sym_of Prog (symbol Prog x 0 Everywhere) ≡ true
 prog_parts x h = rw h refl
 
-no_hole : false ≡ true → ⊥
-no_hole e = absurd cc
+not_plain : false ≡ true → ⊥
+not_plain e = absurd cc
 
 compared : {o : Infix} {s r : List Lexeme} {places others : List ℕ} {t u : Tree} → Compares o → Grown s (Term ∷ []) places (t ∷ []) → Grown r (Term ∷ []) others (u ∷ []) → Grown (s ++ Op o ∷ r) (Formula ∷ []) (places ++ others) (node (infix_op o) (forest (t ∷ u ∷ [])) ∷ [])
 compared cmp-equal g h = between (Op Equal) op.Eq g h refl refl refl refl
@@ -303,7 +303,7 @@ mutual
   grown (unf-atom d) = grown d
   grown atom-true = leaf op.True refl (λ r. refl) refl refl
   grown atom-false = leaf op.False refl (λ r. refl) refl refl
-  grown atom-hole = record { sorts_are = refl; below = λ m h. tt; made = λ r e. ((record { kids_fit = refl; parts_fit = refl }, tt), tt); bare = λ h. absurd (no_hole h.0) }
+  grown atom-hole = record { sorts_are = refl; below = λ m h. tt; made = λ r e. ((record { kids_fit = refl; parts_fit = refl }, tt), tt); bare = λ h. absurd (not_plain h.0) }
   grown (atom-compare c d e) = compared c (grown d) (grown e)
   grown (atom-nullary {n = n} {x = x}) = held n x none (λ m b. b.0) (λ r. r.0) nothing
   grown (atom-holds {n = n} {x = x} {s = s} {l = l} d) = held n x l (λ m b. b.0) (λ r. r.0) (widen (λ P h. part_in Open s (Close ∷ []) P h.1) (grown_list d))
@@ -323,7 +323,7 @@ mutual
   grown (pow-prim d) = grown d
   grown (pow-power d e) = between (Op Pow) op.Pow (grown d) (grown e) refl refl refl refl
   grown (prim-number {n = d}) = leaf (op.Number d) refl (λ r. r.0) refl refl
-  grown (prim-dot {n = n}) = record { sorts_are = refl; below = λ m h. tt; made = λ r e. ((record { kids_fit = refl; parts_fit = lt-ltb n 8 r.0 }, tt), tt); bare = λ h. absurd (no_hole h.0) }
+  grown (prim-dot {n = n}) = record { sorts_are = refl; below = λ m h. tt; made = λ r e. ((record { kids_fit = refl; parts_fit = lt-ltb n 8 r.0 }, tt), tt); bare = λ h. absurd (not_plain h.0) }
   grown (prim-name {x = x}) = leaf (op.Variable (record { name = x; primed = false })) refl (λ r. r.0) refl refl
   grown (prim-primed {x = x}) = leaf (op.Variable (record { name = x; primed = true })) refl (λ r. r.0) refl refl
   grown (prim-nullary {n = n} {x = x}) = applied n x none (λ m b. b.0) (λ r. r.0) nothing
@@ -398,6 +398,18 @@ bare_dot {t = t} h = (or_parts (has_dots t) false h.no_dot).0
 
 pub bare_hole : {t : Tree} → AreBare (t ∷ []) → has_hole t ≡ false
 bare_hole {t = t} h = (or_parts (has_hole t) false h.no_hole).0
+
+pub no_dots_formed : {f : Form} {s : List Lexeme} {p : Phrase} → Reads f s p → Permitted Refused s → has_dots (erase p) ≡ false
+no_dots_formed {s = s} d p = bare_dot ((grown d).bare (plain_from s p))
+
+pub no_hole_formed : {f : Form} {s : List Lexeme} {p : Phrase} → Reads f s p → Permitted Refused s → has_hole (erase p) ≡ false
+no_hole_formed {s = s} d p = bare_hole ((grown d).bare (plain_from s p))
+
+pub expression_no_dots : {s : List Lexeme} {p : Phrase} → ReadsExpression s p → Permitted Refused s → has_dots (erase p) ≡ false
+expression_no_dots {s = s} d p = bare_dot ((grown_expression d).grown.bare (plain_from s p))
+
+pub expression_no_hole : {s : List Lexeme} {p : Phrase} → ReadsExpression s p → Permitted Refused s → has_hole (erase p) ≡ false
+expression_no_hole {s = s} d p = bare_hole ((grown_expression d).grown.bare (plain_from s p))
 
 formula_from : {w : List Lexeme} {places : List ℕ} {t : Tree} → Grown w (Formula ∷ []) places (t ∷ []) → AreReal w → Permitted Refused w → places ≡ [] → IsFormula t
 formula_from {w = w} g h p e =

@@ -18,3 +18,4 @@ pub mod SequentLaws
 pub mod ParseLaws
 pub mod Formed
 pub mod TextLaws
+pub mod SomeText

@@ -1,5 +1,5 @@
 -- The laws of texts.
-use Rattle.std.proofs.Common.{◌≡◌, ℕ, zero, suc, ◌+◌, ◌<◌, ◌≤◌, min, true, false, List, [], ◌∷◌, ◌++◌, length, map, Option, Some, None, refl, sym, ap, subst, ◌∙◌, arith, length-append, ◌⊎◌, inl, inr}
+use Rattle.std.proofs.Common.{◌≡◌, ℕ, zero, suc, ◌+◌, ◌<◌, ◌≤◌, min, List, [], ◌∷◌, ◌++◌, length, map, Some, refl, sym, ap, subst, ◌∙◌, arith, length-append, inl, inr}
 use Rattle.std.specs.List.{All, flat_map, fold}
 use Rattle.std.proofs.lemmas.Bool.{cases_order}
 use Rattle.std.proofs.lemmas.Grind.{flat_map-append}
@@ -17,18 +17,17 @@ use Rattle.dlk_grammar.specs.declared.token.Dots.{Dots}
 use Rattle.dlk_grammar.specs.declared.token.Dots.TheVariants.{Refused}
 use Rattle.dlk_grammar.specs.declared.token.Goal.{Goal}
 use Rattle.dlk_grammar.specs.declared.token.Goal.TheVariants.{Formula, Term, Program, Expression}
-use Rattle.dlk_grammar.specs.Splits.{Splits}
 use Rattle.dlk_grammar.specs.RealTokens.{IsReal as IsRealToken, AreTokens}
 use Rattle.dlk_grammar.specs.Lexemes.{Lexeme, lexeme_of, lexeme_of_mark, lexemes, lexemes_from}
 use Rattle.dlk_grammar.specs.Phrases.{Phrase, Phrases, none, snoc}
-use Rattle.dlk_grammar.specs.Grammar.{formula, term, prog, Reads, Sides, Turned, ReadsSequent, ReadsExpression}
+use Rattle.dlk_grammar.specs.Grammar.{formula, term, prog, Sides, Turned, ReadsSequent}
 use Rattle.dlk_grammar.specs.Erased.{erase, ills, ills_of_all, least}
 use Rattle.dlk_grammar.specs.Readings.{Says, FirstAt, IsLong, OpensTooDeep, TokenAt, FirstPast, most_nodes, greatest_depth, ReadFault, Literal, Nesting, Syntax, Shape, TooBig, TooDeep, rank, Against, IsReadFault, IsRead, grammar, itself, IsTree, IsTreeFault, phrases_in, both_sides, erase_sides, IsSequentOf, IsSequentFault}
 use Rattle.dlk_grammar.specs.Texts.{TreeText, SequentText, TextFault, BadByte, Unread, TreeTextFault, SequentTextFault}
 use Rattle.dlk_grammar.proofs.Splitting.{one_split, bad_is_no_split, one_bad}
 use Rattle.dlk_grammar.proofs.Real.{split_tokens}
 use Rattle.dlk_machine.proofs.ParseLaws.{one_read, one_expression_read, one_sides_read}
-use Rattle.dlk_machine.proofs.Formed.{Each, each_append, IsReal, AreReal, IsBelow, AreBelow, Grown, grown, grown_expression, grown_sides, formed, expression_formed, formula_formed, sequent_formed, ills_of_sides}
+use Rattle.dlk_machine.proofs.Formed.{Each, each_append, IsReal, AreReal, IsBelow, AreBelow, grown, grown_expression, grown_sides, formed, expression_formed, formula_formed, sequent_formed, ills_of_sides}
 
 -- the lexemes of tokens that are real are real
 mark_real : (n : ℕ) (m : Mark) → IsReal (lexeme_of_mark n m)
@@ -83,12 +82,12 @@ token_at (t ∷ ts) (suc place) h =
     let x = w.token in
     record { at = w.at; token = record { before = t ∷ x.before; token = x.token; behind = x.behind; tokens_are = ap (λ (l : List Token). t ∷ l) x.tokens_are; count = ap suc x.count; at_is = x.at_is } }
 
-least_below : (m n : ℕ) (ns : List ℕ) → n < m → Each (λ k. k < m) ns → fold min n ns < m
+pub least_below : (m n : ℕ) (ns : List ℕ) → n < m → Each (λ k. k < m) ns → fold min n ns < m
 least_below m n [] h g = h
 least_below m n (k ∷ ns) h g = least_below m (min n k) ns (omega arith) g.1
 
 -- two ways to split one list
-data Seams {X : Type 0} (b c : List X) (x y : X) : Type 0 where
+pub data Seams {X : Type 0} (b c : List X) (x y : X) : Type 0 where
   same : b ≡ c → x ≡ y → Seams b c x y
   sooner : (after : List X) → c ≡ b ++ x ∷ after → Seams b c x y
   later : (after : List X) → b ≡ c ++ y ∷ after → Seams b c x y
@@ -98,7 +97,7 @@ one_more b c x y z w e (same f g) = same (cc) g
 one_more b c x y z w e (sooner after f) = sooner after (cc)
 one_more b c x y z w e (later after f) = later after (cc)
 
-seams : {X : Type 0} (b c : List X) (x y : X) (r s : List X) → b ++ x ∷ r ≡ c ++ y ∷ s → Seams b c x y
+pub seams : {X : Type 0} (b c : List X) (x y : X) (r s : List X) → b ++ x ∷ r ≡ c ++ y ∷ s → Seams b c x y
 seams [] [] x y r s e = same refl (cc)
 seams [] (z ∷ c) x y r s e = sooner c (cc)
 seams (z ∷ b) [] x y r s e = later b (cc)
@@ -177,7 +176,7 @@ module _ {P : Type 0} (G : List Lexeme → P → Type 0) (parts : P → List Phr
       absurd (free (Shape at.at) (p, says, (fold min n ns, ap least e, at.token)))
 
 -- texts of trees
-one_grammar : (goal : Goal) (s : List Lexeme) (p q : Phrase) → grammar goal s p → grammar goal s q → p ≡ q
+pub one_grammar : (goal : Goal) (s : List Lexeme) (p q : Phrase) → grammar goal s p → grammar goal s q → p ≡ q
 one_grammar Formula s p q d e = one_read formula s p q d e
 one_grammar Term s p q d e = one_read term s p q d e
 one_grammar Program s p q d e = one_read prog s p q d e
@@ -194,6 +193,9 @@ goal_formed Formula s p d h e = (formed d h e).well_made
 goal_formed Term s p d h e = (formed d h e).well_made
 goal_formed Program s p d h e = (formed d h e).well_made
 goal_formed Expression s p d h e = expression_formed d h e
+
+pub goal_ills_below : (goal : Goal) (tokens : List Token) (p : Phrase) → grammar goal (lexemes tokens) p → Each (λ n. n < length tokens) (flat_map ills (itself p))
+goal_ills_below goal tokens p d = rw (append-nil (ills p)) (ills_below goal (lexemes tokens) p (length tokens) d (lexemes_below 0 (length tokens) tokens (omega arith)))
 
 pub tree_not_ill : (goal : Goal) (d : Dots) (tokens : List Token) (t : Tree) (a : IsTree goal d tokens t) → ills a.phrase ≡ []
 tree_not_ill goal d tokens t a =
@@ -237,6 +239,9 @@ ills_in_sides (Turned l m) = flat_map-append ills (phrases_in l) (phrases_in m) 
 
 sides_below : (s : List Lexeme) (z : Sides) (m : ℕ) → ReadsSequent s z → AreBelow m s → Each (λ n. n < m) (ills_of_sides z)
 sides_below s (Turned l r) m d h = (grown_sides d).below m h
+
+pub sequent_ills_below : (tokens : List Token) (z : Sides) → ReadsSequent (lexemes tokens) z → Each (λ n. n < length tokens) (flat_map ills (both_sides z))
+sequent_ills_below tokens z d = rw (ills_in_sides z) (sides_below (lexemes tokens) z (length tokens) d (lexemes_below 0 (length tokens) tokens (omega arith)))
 
 pub sequent_not_ill : (tokens : List Token) (s : Sequent) (a : IsSequentOf tokens s) → ills_of_sides a.phrase ≡ []
 sequent_not_ill tokens s a =
