@@ -1,4 +1,6 @@
-pub mod Values
+pub mod Texts
+pub mod FrontMarks
+pub mod Comments
 pub mod Fronts
-pub mod BestMarks
+pub mod Literals
 pub mod Steps

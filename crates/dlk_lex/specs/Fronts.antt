@@ -1,53 +1,56 @@
--- The token at the front of bytes.
-use Rattle.std.specs.Prelude.{◌≡◌, ℕ, ◌<◌, ◌≤◌, Bool, true, false, List, [], ◌∷◌, ◌++◌, length, take, Option, Some, None}
+-- What is at the front of bytes.
+use Rattle.std.specs.Prelude.{◌≡◌, ℕ, ◌+◌, ◌<◌, ◌≤◌, ◌==◌, Bool, not, List, [], ◌∷◌, ◌++◌, length, take, drop, Option, Some, None, slice_index, if◌then◌else◌}
+use Rattle.std.specs.List.{prefix_len}
 use Rattle.dlk_grammar.specs.declared.token.Mark.{Mark}
-use Rattle.dlk_grammar.specs.declared.token.Mark.TheVariants as mark
 use Rattle.dlk_grammar.specs.declared.token.TokenKind.{TokenKind}
-use Rattle.dlk_grammar.specs.declared.token.TokenKind.TheVariants as kind
-use Rattle.dlk_grammar.specs.declared.token.Text.{Text}
-use Rattle.dlk_grammar.specs.declared.token.Text.TheVariants.{Formula, Sequent}
-use Rattle.dlk_grammar.specs.Tokens.{spelling, IsMarkOf, IsBuilt}
+use Rattle.dlk_grammar.specs.Tokens.{is_digit, spelling}
 use Rattle.dlk_grammar.specs.Splits.{Longest}
-
--- the marks that are tokens of a text
-abbrev pub marks_of : Text → List Mark
-marks_of Formula = mark.OpenRound ∷ mark.CloseRound ∷ mark.Imply ∷ mark.AtLeast ∷ []
-marks_of Sequent = mark.OpenRound ∷ mark.CloseRound ∷ mark.Imply ∷ mark.AtLeast ∷ mark.Turnstile ∷ mark.Comma ∷ []
+use Rattle.dlk_grammar.proofs.Splitting.{Piece as FrontPiece, AtFront}
+use Rattle.dlk_lex.specs.declared.front.Piece.{Piece}
+use Rattle.dlk_lex.specs.declared.front.Piece.TheVariants.{Gap, Token, Nothing}
 
 -- the mark is at the front, and no longer one is
-pub record IsFrontMark (text : Text) (bytes : List ℕ) (m : Mark) : Type 0 where
+pub record IsFrontMark (bytes : List ℕ) (m : Mark) : Type 0 where
   pub rest : List ℕ
   pub front : bytes ≡ spelling m ++ rest
-  pub of : IsMarkOf text m
-  pub longest : (other : Mark) (after : List ℕ) → IsMarkOf text other → bytes ≡ spelling other ++ after → length (spelling other) ≤ length (spelling m)
+  pub longest : (other : Mark) (after : List ℕ) → bytes ≡ spelling other ++ after → length (spelling other) ≤ length (spelling m)
 
 -- no mark is at the front
-abbrev pub HasNoMark : Text → List ℕ → Type 0
-HasNoMark text bytes = (m : Mark) (after : List ℕ) → IsMarkOf text m → ¬ (bytes ≡ spelling m ++ after)
+abbrev pub HasNoMark : List ℕ → Type 0
+HasNoMark bytes = (m : Mark) (after : List ℕ) → ¬ (bytes ≡ spelling m ++ after)
 
-abbrev pub is_built : TokenKind → Bool
-is_built (kind.Word x) = true
-is_built kind.True = false
-is_built kind.False = false
-is_built (kind.Number n) = true
-is_built kind.LongNumber = false
-is_built (kind.Dot n) = false
-is_built kind.Hole = false
-is_built (kind.Mark m) = true
-is_built kind.End = false
+-- how many digits stand behind a point at the front
+abbrev pub fraction_len : List ℕ → ℕ
+fraction_len [] = 0
+fraction_len (b ∷ bs) = if b == 46 then prefix_len is_digit bs else 0
+
+-- the first `*/` stands behind n bytes
+pub record EndsBlock (bytes : List ℕ) (n : ℕ) : Type 0 where
+  pub within : n + 1 < length bytes
+  pub star : slice_index bytes n ≡ 42
+  pub slash : slice_index bytes (n + 1) ≡ 47
+  pub first : (k : ℕ) → k < n → slice_index bytes k ≡ 42 → ¬ (slice_index bytes (k + 1) ≡ 47)
+
+-- there is no `*/`
+abbrev pub HasNoEnd : List ℕ → Type 0
+HasNoEnd bytes = (k : ℕ) → k + 1 < length bytes → slice_index bytes k ≡ 42 → ¬ (slice_index bytes (k + 1) ≡ 47)
 
 -- a token of this many bytes is the longest at the front
-pub record StandsInFront (text : Text) (bytes : List ℕ) (found : TokenKind × ℕ) : Type 0 where
-  pub some : 0 < found.1
+pub record StandsInFront (bytes : List ℕ) (found : TokenKind × ℕ) : Type 0 where
   pub within : found.1 ≤ length bytes
-  pub is : Longest text bytes (take found.1 bytes) found.0
+  pub is : Longest bytes (take found.1 bytes) found.0
 
 -- the longest token at the front, or that there is none
-abbrev pub IsFront : Text → List ℕ → Option (TokenKind × ℕ) → Type 0
-IsFront text bytes (Some found) = StandsInFront text bytes found
-IsFront text bytes None = (s : List ℕ) (k : TokenKind) → ¬ Longest text bytes s k
+abbrev pub IsToken : List ℕ → Option (TokenKind × ℕ) → Type 0
+IsToken bytes (Some found) = StandsInFront bytes found
+IsToken bytes None = (s : List ℕ) (k : TokenKind) → ¬ Longest bytes s k
 
--- the same, of the tokens that are read so far
-abbrev pub IsBuiltFront : Text → List ℕ → Option (TokenKind × ℕ) → Type 0
-IsBuiltFront text bytes (Some found) = StandsInFront text bytes found × IsBuilt found.0
-IsBuiltFront text bytes None = (s : List ℕ) (k : TokenKind) → Longest text bytes s k → ¬ IsBuilt k
+-- no line feed
+abbrev pub is_no_feed : ℕ → Bool
+is_no_feed b = not (b == 10)
+
+-- what is at the front, of so many bytes
+abbrev pub IsPiece : List ℕ → Piece → Type 0
+IsPiece bytes (Gap n) = (n ≤ length bytes) × AtFront bytes (FrontPiece.Gap n (drop n bytes))
+IsPiece bytes (Token kind n) = (n ≤ length bytes) × AtFront bytes (FrontPiece.One (take n bytes) kind (drop n bytes))
+IsPiece bytes Nothing = AtFront bytes FrontPiece.Bad

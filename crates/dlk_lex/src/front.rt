@@ -1,59 +1,31 @@
-//! The token at the front of bytes.
-ghost use Rattle.std.specs.Prelude.{◌≡◌, ◌≤◌, IsTrue, IfOk, length};
-ghost use Rattle.std.specs.List.{prefix_len};
-ghost use Rattle.dlk_tree.specs.Names.{is_letter, is_name_byte, is_word};
-ghost use Rattle.dlk_grammar.specs.Tokens.{is_digit, are_digits, Spells};
-ghost use Rattle.dlk_lex.specs.Fronts.{is_built, IsFront, IsBuiltFront};
+//! What is at the front of bytes.
+ghost use Rattle.std.specs.Prelude.{◌≡◌, ◌<◌, IsTrue, IfOk, IfSome, IfNone, length, slice_index, codes, nat_eq};
+ghost use Rattle.std.specs.List.{starts_with};
+ghost use Rattle.dlk_tree.specs.Names.{is_word};
+ghost use Rattle.dlk_grammar.specs.Tokens.{Spells};
+ghost use Rattle.dlk_lex.specs.Fronts.{EndsBlock, HasNoEnd, IsToken, IsPiece};
 
+use crate::bytes::{is_digit, is_letter, is_space, line_run, word_run};
 use crate::marks::{front_mark, spelling};
-use dlk_grammar::{Text, TokenKind};
-use dlk_tree::{Name, NameFault, Num};
+use crate::numbers::number;
+use dlk_grammar::TokenKind;
+use dlk_tree::{Name, NameFault};
 use std::alloc::{AllocError, Global};
 
-fn is_letter(b: u8) -> bool
-    ensures { result ≡ is_letter b }
-{
-    matches!(b, b'A'..=b'Z' | b'a'..=b'z')
-}
-
-fn is_digit(b: u8) -> bool
-    ensures { result ≡ is_digit b }
-{
-    matches!(b, b'0'..=b'9')
-}
-
-fn is_name_byte(b: u8) -> bool
-    ensures { result ≡ is_name_byte b }
-{
-    is_letter(b) || is_digit(b) || b == b'_'
-}
-
-/// How many bytes of a word are at the front.
-fn word_run(bytes: &[u8]) -> usize
-    ensures { result ≡ prefix_len is_name_byte bytes.now }
-{
-    let mut n = 0;
-    while n < bytes.len() && is_name_byte(bytes[n]) {
-        n += 1;
-    }
-    n
-}
-
-/// How many digits are at the front.
-fn digit_run(bytes: &[u8]) -> usize
-    ensures { result ≡ prefix_len is_digit bytes.now }
-{
-    let mut n = 0;
-    while n < bytes.len() && is_digit(bytes[n]) {
-        n += 1;
-    }
-    n
+/// What is at the front, and how many bytes it has.
+#[derive(Drop)]
+pub(crate) enum Piece {
+    /// A space or a comment.
+    Gap(usize),
+    Token(TokenKind, usize),
+    /// No token, space or whole comment.
+    Nothing,
 }
 
 /// A word as a token.
-fn word(alloc: Global, text: Text, bytes: &[u8]) -> Result<TokenKind, AllocError>
+fn word(alloc: Global, bytes: &[u8]) -> Result<TokenKind, AllocError>
     requires { IsTrue (is_word bytes.now) }
-    ensures { IfOk result (Spells text bytes.now) }
+    ensures { IfOk result (Spells bytes.now) }
 {
     if bytes == b"true".as_slice() {
         return Ok(TokenKind::True);
@@ -68,77 +40,92 @@ fn word(alloc: Global, text: Text, bytes: &[u8]) -> Result<TokenKind, AllocError
     }
 }
 
-/// A run of digits as a token.
-fn number(text: Text, digits: &[u8]) -> TokenKind
-    requires { IsTrue (are_digits digits.now) }
-    ensures { Spells text digits.now result }
+/// The dot at the front of bytes that begin with a point, and how many bytes it has.
+fn dot(bytes: &[u8]) -> Option<(TokenKind, usize)>
+    requires { slice_index bytes.now 0 ≡ 46 }
+    ensures { IsToken bytes.now result }
 {
-    if digits.len() > 38 {
-        return TokenKind::LongNumber;
+    if bytes.len() < 3 || bytes[1] != b'_' || bytes[2] < b'0' || bytes[2] > b'7' {
+        return None;
     }
-    let mut value: u128 = 0;
-    for digit in digits {
-        value = 10 * value + u128::from(*digit - b'0');
-    }
-    TokenKind::Number(Num {
-        digits: value,
-        scale: 0,
-    })
+    Some((TokenKind::Dot(bytes[2] - b'0'), 3))
 }
 
 /// The longest token at the front, and how many bytes it has.
-fn front(alloc: Global, text: Text, bytes: &[u8]) -> Result<Option<(TokenKind, usize)>, AllocError>
-    ensures { IfOk result (IsFront text bytes.now) }
+fn token(alloc: Global, bytes: &[u8]) -> Result<Option<(TokenKind, usize)>, AllocError>
+    requires { 0 < length bytes.now }
+    ensures { IfOk result (IsToken bytes.now) }
 {
-    if bytes.is_empty() {
-        return Ok(None);
-    }
     let first = bytes[0];
     if is_letter(first) {
         let n = word_run(bytes);
-        return Ok(Some((word(alloc, text, &bytes[..n])?, n)));
+        return Ok(Some((word(alloc, &bytes[..n])?, n)));
     }
     if is_digit(first) {
-        let n = digit_run(bytes);
-        return Ok(Some((number(text, &bytes[..n]), n)));
+        return Ok(Some(number(bytes)));
     }
-    let Some(mark) = front_mark(text, bytes) else {
+    if first == b'.' {
+        return Ok(dot(bytes));
+    }
+    if first == b'_' {
+        return Ok(Some((TokenKind::Hole, 1)));
+    }
+    let Some(mark) = front_mark(bytes) else {
         return Ok(None);
     };
     Ok(Some((TokenKind::Mark(mark), spelling(mark).len())))
 }
 
-/// Whether tokens of this kind are read so far.
-fn is_built(kind: &TokenKind) -> bool
-    ensures { result ≡ is_built kind.now }
+/// How many bytes are before the first `*/`.
+fn before_end(bytes: &[u8]) -> Option<usize>
+    ensures found { IfSome result (EndsBlock bytes.now) }
+    ensures none { IfNone result (HasNoEnd bytes.now) }
 {
-    match kind {
-        TokenKind::Word(_) => true,
-        TokenKind::True => false,
-        TokenKind::False => false,
-        TokenKind::Number(_) => true,
-        TokenKind::LongNumber => false,
-        TokenKind::Dot(_) => false,
-        TokenKind::Hole => false,
-        TokenKind::Mark(_) => true,
-        TokenKind::End => false,
+    let mut n = 1;
+    while n < bytes.len() {
+        if bytes[n - 1] == b'*' && bytes[n] == b'/' {
+            return Some(n - 1);
+        }
+        n += 1;
+    }
+    None
+}
+
+/// The comment at the front of bytes that begin with `/*`.
+fn block(bytes: &[u8]) -> Piece
+    requires { IsTrue (starts_with nat_eq bytes.now (codes "/*")) }
+    ensures { IsPiece bytes.now result }
+{
+    match before_end(&bytes[2..]) {
+        Some(n) => Piece::Gap(n + 4),
+        None => Piece::Nothing,
     }
 }
 
-/// The longest token at the front, if such tokens are read so far.
-pub(crate) fn built_front(
-    alloc: Global,
-    text: Text,
-    bytes: &[u8],
-) -> Result<Option<(TokenKind, usize)>, AllocError>
-    ensures { IfOk result (IsBuiltFront text bytes.now) }
+/// The comment at the front of bytes that begin with `//`.
+fn line(bytes: &[u8]) -> Piece
+    requires { IsTrue (starts_with nat_eq bytes.now (codes "//")) }
+    ensures { IsPiece bytes.now result }
 {
-    let Some((kind, n)) = front(alloc, text, bytes)? else {
-        return Ok(None);
-    };
-    if is_built(&kind) {
-        Ok(Some((kind, n)))
-    } else {
-        Ok(None)
+    Piece::Gap(2 + line_run(&bytes[2..]))
+}
+
+/// What is at the front of bytes.
+pub(crate) fn front(alloc: Global, bytes: &[u8]) -> Result<Piece, AllocError>
+    requires { 0 < length bytes.now }
+    ensures { IfOk result (IsPiece bytes.now) }
+{
+    if is_space(bytes[0]) {
+        return Ok(Piece::Gap(1));
+    }
+    if bytes.starts_with(b"/*") {
+        return Ok(block(bytes));
+    }
+    if bytes.starts_with(b"//") {
+        return Ok(line(bytes));
+    }
+    match token(alloc, bytes)? {
+        Some((kind, n)) => Ok(Piece::Token(kind, n)),
+        None => Ok(Piece::Nothing),
     }
 }

@@ -1,9 +1,10 @@
 //! The marks and their spellings.
 ghost use Rattle.std.specs.Prelude.{◌≡◌, IfSome, IfNone};
 ghost use Rattle.dlk_grammar.specs.Tokens.{spelling};
-ghost use Rattle.dlk_lex.specs.Fronts.{marks_of, IsFrontMark, HasNoMark};
+ghost use Rattle.dlk_grammar.proofs.Marks.{marks};
+ghost use Rattle.dlk_lex.specs.Fronts.{IsFrontMark, HasNoMark};
 
-use dlk_grammar::{Mark, Text};
+use dlk_grammar::Mark;
 
 /// How a mark is written.
 pub(crate) fn spelling(mark: Mark) -> &'static [u8]
@@ -52,41 +53,62 @@ pub(crate) fn spelling(mark: Mark) -> &'static [u8]
     }
 }
 
-/// The marks that are tokens of a text so far.
-fn marks_of(text: Text) -> &'static [Mark]
-    ensures { result.now ≡ marks_of text }
+/// The marks, longer ones before shorter ones.
+fn marks() -> &'static [Mark]
+    ensures { result.now ≡ marks }
 {
-    match text {
-        Text::Formula => &[
-            Mark::OpenRound,
-            Mark::CloseRound,
-            Mark::Imply,
-            Mark::AtLeast,
-        ],
-        Text::Sequent => &[
-            Mark::OpenRound,
-            Mark::CloseRound,
-            Mark::Imply,
-            Mark::AtLeast,
-            Mark::Turnstile,
-            Mark::Comma,
-        ],
-    }
+    &[
+        Mark::Invariant,
+        Mark::Forall,
+        Mark::Exists,
+        Mark::RoundBars,
+        Mark::Equiv,
+        Mark::Turnstile,
+        Mark::RoundBar,
+        Mark::BarRound,
+        Mark::BraceBar,
+        Mark::BarBrace,
+        Mark::Imply,
+        Mark::NotEqual,
+        Mark::AtLeast,
+        Mark::AtMost,
+        Mark::Gets,
+        Mark::Choice,
+        Mark::Becomes,
+        Mark::Swaps,
+        Mark::OpenRound,
+        Mark::CloseRound,
+        Mark::OpenSquare,
+        Mark::CloseSquare,
+        Mark::OpenBrace,
+        Mark::CloseBrace,
+        Mark::And,
+        Mark::Or,
+        Mark::Not,
+        Mark::Equal,
+        Mark::Greater,
+        Mark::Less,
+        Mark::Plus,
+        Mark::Minus,
+        Mark::Star,
+        Mark::Slash,
+        Mark::Caret,
+        Mark::Prime,
+        Mark::Query,
+        Mark::Semicolon,
+        Mark::Comma,
+    ]
 }
 
 /// The longest mark at the front.
-pub(crate) fn front_mark(text: Text, bytes: &[u8]) -> Option<Mark>
-    ensures found { IfSome result (IsFrontMark text bytes.now) }
-    ensures none { IfNone result (HasNoMark text bytes.now) }
+pub(crate) fn front_mark(bytes: &[u8]) -> Option<Mark>
+    ensures found { IfSome result (IsFrontMark bytes.now) }
+    ensures none { IfNone result (HasNoMark bytes.now) }
 {
-    let mut found = None;
-    let mut length = 0;
-    for mark in marks_of(text) {
-        let word = spelling(*mark);
-        if length < word.len() && bytes.starts_with(word) {
-            found = Some(*mark);
-            length = word.len();
+    for mark in marks() {
+        if bytes.starts_with(spelling(*mark)) {
+            return Some(*mark);
         }
     }
-    found
+    None
 }

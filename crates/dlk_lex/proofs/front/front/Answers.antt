@@ -1,30 +1,19 @@
-use Rattle.std.proofs.Common.{◌∙◌, sym, length}
-use Rattle.dlk_lex.proofs.Fronts.{above_zero, run_is_word, run_is_digits, word_front, number_front, mark_front}
+use Rattle.std.proofs.Common.{◌∙◌, sym}
+use Rattle.dlk_lex.proofs.Comments.{no_comment}
+use Rattle.dlk_lex.proofs.Steps.{space_piece, token_piece, no_piece}
 use Rattle.dlk_lex.proofs.front.front.Goals as goal
 
-pub word-requires : goal.word-requires
-word-requires c =
-    let some = above_zero (length c.args.bytes.now) (sym c.is_empty.ensures ∙ c.if-is_empty.false) in
-    rw c.word_run-n.ensures (run_is_word c.args.bytes.now some (sym c.is_letter.ensures ∙ c.if-is_letter.true))
+pub returns-then-is_space : goal.returns-then-is_space
+returns-then-is_space c = space_piece c.args.bytes.now c.requires (sym c.is_space.ensures ∙ c.if-is_space.true)
 
-pub returns-then-is_letter : goal.returns-then-is_letter
-returns-then-is_letter c =
-    let some = above_zero (length c.args.bytes.now) (sym c.is_empty.ensures ∙ c.if-is_empty.false) in
-    let spells = rw c.word_run-n.ensures at c.in_ok-word.ensures in
-    rw c.word_run-n.ensures (word_front c.args.text c.args.bytes.now some c.in_ok-word.field-0 (sym c.is_letter.ensures ∙ c.if-is_letter.true) spells)
+pub returns-in-Some : goal.returns-in-Some
+returns-in-Some c =
+    let found = rw c.in-Some.is at c.in_ok-kind.ensures in
+    let none = no_comment c.args.bytes.now (sym c.starts_with.ensures.value ∙ c.if-starts_with.false) (sym c.starts_with-2.ensures.value ∙ c.if-starts_with-2.false) in
+    token_piece c.args.bytes.now c.requires c.in-Some.n c.in-Some.kind none found
 
-pub number-requires : goal.number-requires
-number-requires c =
-    let some = above_zero (length c.args.bytes.now) (sym c.is_empty.ensures ∙ c.if-is_empty.false) in
-    rw c.digit_run-n.ensures (run_is_digits c.args.bytes.now some (sym c.is_digit.ensures ∙ c.if-is_digit.true))
-
-pub returns-then-is_digit : goal.returns-then-is_digit
-returns-then-is_digit c =
-    let some = above_zero (length c.args.bytes.now) (sym c.is_empty.ensures ∙ c.if-is_empty.false) in
-    let spells = rw c.digit_run-n.ensures at c.number.ensures in
-    rw c.digit_run-n.ensures (number_front c.args.text c.args.bytes.now some c.number.result (sym c.is_digit.ensures ∙ c.if-is_digit.true) spells)
-
-pub returns : goal.returns
-returns c =
-    let some = above_zero (length c.args.bytes.now) (sym c.is_empty.ensures ∙ c.if-is_empty.false) in
-    rw c.spelling.ensures (mark_front c.args.text c.args.bytes.now some (sym c.is_letter.ensures ∙ c.if-is_letter.false) (sym c.is_digit.ensures ∙ c.if-is_digit.false) c.in-Some.mark c.in-Some.ensures.found)
+pub returns-in-None : goal.returns-in-None
+returns-in-None c =
+    let missing = rw c.in-None.is at c.in_ok-kind.ensures in
+    let none = no_comment c.args.bytes.now (sym c.starts_with.ensures.value ∙ c.if-starts_with.false) (sym c.starts_with-2.ensures.value ∙ c.if-starts_with-2.false) in
+    no_piece c.args.bytes.now c.requires (sym c.is_space.ensures ∙ c.if-is_space.false) none missing

@@ -1,20 +1,31 @@
-use Rattle.std.proofs.Common.{◌∙◌, sym}
-use Rattle.dlk_lex.proofs.Steps.{past_space, past_front, rest_from, stuck, all_found}
+use Rattle.std.proofs.Common.{◌-◌, length, take, drop, arith}
+use Rattle.dlk_grammar.proofs.Real.{split_tokens}
+use Rattle.dlk_lex.proofs.Steps.{past_gap, past_token, stuck, rest_from, all_found}
 use Rattle.dlk_lex.proofs.splitting.tokens.Goals as goal
 
-pub loop-at-preserved-then-is_space : goal.loop-at-preserved-then-is_space
-loop-at-preserved-then-is_space c =
-    past_space c.args.text c.args.bytes.now c.loop-at.at c.loop-at.out.items c.loop-at.invariant c.loop-at-test.true (sym c.is_space.ensures ∙ c.if-is_space.true)
+pub loop-at-preserved-in-Gap : goal.loop-at-preserved-in-Gap
+loop-at-preserved-in-Gap c =
+    let piece = rw c.in-Gap.is at c.in_ok-n.ensures in
+    (past_gap c.args.bytes.now c.loop-at.at c.loop-at.out.items c.loop-at.invariant (take (length c.args.bytes.now - c.loop-at.at) (drop c.loop-at.at c.args.bytes.now)) (rest_from c.args.bytes.now c.loop-at.at) c.in-Gap.n piece).1
 
-pub returns-in_default-clause-bad : goal.returns-in_default-clause-bad
-returns-in_default-clause-bad c =
-    let none = rw c.in_default.is at c.in_ok-kind.ensures in
-    stuck c.args.text c.args.bytes.now c.loop-at.at c.loop-at.out.items c.loop-at.invariant _ c.loop-at-test.true (sym c.is_space.ensures ∙ c.if-is_space.false) (rest_from c.args.bytes.now c.loop-at.at) none
+pub loop-at-smaller : goal.loop-at-smaller
+loop-at-smaller c =
+    let piece = rw c.in-Token.is at c.in_ok-n.ensures in
+    let past = past_token c.args.bytes.now c.loop-at.at c.loop-at.out.items c.loop-at.invariant (take (length c.args.bytes.now - c.loop-at.at) (drop c.loop-at.at c.args.bytes.now)) (rest_from c.args.bytes.now c.loop-at.at) c.in-Token.n c.in-Token.kind piece in
+    omega (arith, past.0, past.1.within)
 
 pub loop-at-preserved : goal.loop-at-preserved
 loop-at-preserved c =
-    let found = rw c.in-Some.is at c.in_ok-kind.ensures in
-    rw c.in_ok-push.ensures.items (past_front c.args.text c.args.bytes.now c.loop-at.at c.loop-at.out.items c.loop-at.invariant c.in-Some.n c.in-Some.kind _ c.loop-at-test.true (rest_from c.args.bytes.now c.loop-at.at) found)
+    let piece = rw c.in-Token.is at c.in_ok-n.ensures in
+    rw c.in_ok-push-in-Token.ensures.items (past_token c.args.bytes.now c.loop-at.at c.loop-at.out.items c.loop-at.invariant (take (length c.args.bytes.now - c.loop-at.at) (drop c.loop-at.at c.args.bytes.now)) (rest_from c.args.bytes.now c.loop-at.at) c.in-Token.n c.in-Token.kind piece).1
+
+pub returns-in-Nothing-clause-bad : goal.returns-in-Nothing-clause-bad
+returns-in-Nothing-clause-bad c =
+    let piece = rw c.in-Nothing.is at c.in_ok-n.ensures in
+    stuck c.args.bytes.now c.loop-at.at c.loop-at.out.items c.loop-at.invariant (take (length c.args.bytes.now - c.loop-at.at) (drop c.loop-at.at c.args.bytes.now)) (rest_from c.args.bytes.now c.loop-at.at) piece
 
 pub returns-clause-found : goal.returns-clause-found
-returns-clause-found c = rw c.in_ok-push-2.ensures.items (all_found c.args.text c.args.bytes.now c.loop-at.at c.loop-at.out.items c.loop-at.invariant c.loop-at-test.false)
+returns-clause-found c = rw c.in_ok-push.ensures.items (all_found c.args.bytes.now c.loop-at.at c.loop-at.out.items c.loop-at.invariant c.loop-at-test.false)
+
+pub returns-clause-real : goal.returns-clause-real
+returns-clause-real c = rw c.in_ok-push.ensures.items (split_tokens (all_found c.args.bytes.now c.loop-at.at c.loop-at.out.items c.loop-at.invariant c.loop-at-test.false))
