@@ -60,7 +60,7 @@ pub trimmed_short : (f : List ℕ) → length (trimmed f) ≤ length f
 trimmed_short [] = omega arith
 trimmed_short (d ∷ ds) = omega (arith, before_short d (trimmed ds), trimmed_short ds)
 
-digits_trimmed : (t : List ℕ) → Trimmed t → list_all is_digit t ≡ true
+pub digits_trimmed : (t : List ℕ) → Trimmed t → list_all is_digit t ≡ true
 digits_trimmed _ none = refl
 digits_trimmed _ (some ds d x y z) = list_all-append is_digit ds (d ∷ []) ∙ rw (x, y) refl
 
@@ -79,7 +79,7 @@ scaled s _ (some ds d x y z) =
     let parts : value (s ++ (ds ++ d ∷ [])) ≡ 10 * value (s ++ ds) + (d - 48) = ap value (sym (append_assoc s ds (d ∷ []))) ∙ fold-append (λ m b. 10 * m + (b - 48)) 0 (s ++ ds) (d ∷ []) in
     or_right (length (ds ++ d ∷ []) == 0) (not (value (s ++ (ds ++ d ∷ [])) % 10 == 0)) (not_from_false (value (s ++ (ds ++ d ∷ [])) % 10 == 0) (rw parts (last_digit (value (s ++ ds)) d y z)))
 
-digits_some : (s : List ℕ) → are_digits s ≡ true → 1 ≤ length s
+pub digits_some : (s : List ℕ) → are_digits s ≡ true → 1 ≤ length s
 digits_some [] h = absurd cc
 digits_some (b ∷ l) h = omega arith
 

@@ -158,10 +158,10 @@ whole_kind s h = rw (integer_alone s (digits_all s h), fraction_none s (digits_a
 pointed_kind : (s f : List ℕ) → are_digits s ≡ true → kind_by Digit (s ++ (codes "." ++ f)) ≡ literal_kind s f
 pointed_kind s f h = rw (integer_before s f (digits_all s h), fraction_behind s f (digits_all s h)) refl
 
-number_kind : (s f : List ℕ) → length s + length f ≤ 38 → literal_kind s f ≡ Number (literal_number s f)
+pub number_kind : (s f : List ℕ) → length s + length f ≤ 38 → literal_kind s f ≡ Number (literal_number s f)
 number_kind s f le = rw (le-leb (length s + length f) 38 le) refl
 
-long_kind : (s f : List ℕ) → 38 < length s + length f → literal_kind s f ≡ LongNumber
+pub long_kind : (s f : List ℕ) → 38 < length s + length f → literal_kind s f ≡ LongNumber
 long_kind s f lt = rw (lt-leb (length s + length f) 38 lt) refl
 
 name_kind : (s : List ℕ) → is_name s ≡ true → kind_by Letter s ≡ Word s

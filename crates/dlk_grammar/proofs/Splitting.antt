@@ -20,7 +20,7 @@ one_longest {bytes} {s} {t} {j} {k} a b =
     let same : s ≡ t = sym s-is ∙ ap (λ (n : ℕ). take n bytes) size ∙ t-is in
     (same, one_kind a.spells (subst (λ (x : List ℕ). Spells x k) (sym same) b.spells))
 
-same_rest : (s r t : List ℕ) → s ++ r ≡ s ++ t → r ≡ t
+pub same_rest : (s r t : List ℕ) → s ++ r ≡ s ++ t → r ≡ t
 same_rest s r t e = sym (drop-append_seam s r) ∙ (ap (drop (length s)) e ∙ drop-append_seam s t)
 
 -- the end of a comment isn't inside it
@@ -31,7 +31,7 @@ later_no_end : (c : ℕ) (i : List ℕ) → NoEnd (c ∷ i) → NoEnd i
 later_no_end c i n = λ sooner after e. n (c ∷ sooner) after (ap (λ l. c ∷ l) e)
 
 -- two numbers
-apart : (a b : ℕ) → (a == b) ≡ false → a ≡ b → ⊥
+pub apart : (a b : ℕ) → (a == b) ≡ false → a ≡ b → ⊥
 apart a b h e = true≢false (sym (eq-eqb a b e) ∙ h)
 
 end_before : (j : List ℕ) (c : ℕ) (r t : List ℕ) → codes "*/" ++ r ≡ (c ∷ j) ++ (codes "*/" ++ t) → NoEnd (c ∷ j) → ⊥
@@ -119,18 +119,18 @@ pub data Piece : Type 0 where
   One : List ℕ → TokenKind → List ℕ → Piece
   Bad : Piece
 
-pub data Front (bytes : List ℕ) : Piece → Type 0 where
-  front-ended : bytes ≡ [] → Front bytes Ended
-  front-space : (b : ℕ) (rest : List ℕ) → bytes ≡ b ∷ rest → is_space b ≡ true → Front bytes (Gap 1 rest)
-  front-comment : (s rest : List ℕ) → IsComment bytes s rest → Front bytes (Gap (length s) rest)
-  front-one : (s rest : List ℕ) (k : TokenKind) → bytes ≡ s ++ rest → ¬ BeginsComment bytes → Longest bytes s k → Front bytes (One s k rest)
-  front-bad : (b : ℕ) (rest : List ℕ) → BeginsNothing bytes b rest → Front bytes Bad
+pub data AtFront (bytes : List ℕ) : Piece → Type 0 where
+  front-ended : bytes ≡ [] → AtFront bytes Ended
+  front-space : (b : ℕ) (rest : List ℕ) → bytes ≡ b ∷ rest → is_space b ≡ true → AtFront bytes (Gap 1 rest)
+  front-comment : (s rest : List ℕ) → IsComment bytes s rest → AtFront bytes (Gap (length s) rest)
+  front-one : (s rest : List ℕ) (k : TokenKind) → bytes ≡ s ++ rest → ¬ BeginsComment bytes → Longest bytes s k → AtFront bytes (One s k rest)
+  front-bad : (b : ℕ) (rest : List ℕ) → BeginsNothing bytes b rest → AtFront bytes Bad
 
 both_tests : {b c : ℕ} {l r bytes : List ℕ} → bytes ≡ b ∷ l → bytes ≡ c ∷ r → is_space b ≡ true → is_space c ≡ false → ⊥
 both_tests {b} {c} e f x y = let same : b ≡ c = cc in true≢false (sym x ∙ ap is_space same ∙ y)
 
 -- it is one thing
-pub one_front : {bytes : List ℕ} {p q : Piece} → Front bytes p → Front bytes q → p ≡ q
+pub one_front : {bytes : List ℕ} {p q : Piece} → AtFront bytes p → AtFront bytes q → p ≡ q
 one_front (front-ended e) (front-ended f) = refl
 one_front (front-ended e) (front-space b r f h) = absurd cc
 one_front (front-ended e) (front-comment s r c) = absurd (comment_some (comment_begins c) e)
@@ -173,13 +173,13 @@ BadBehind at bad (Gap n rest) = BadAt (at + n) rest bad
 BadBehind at bad (One s k rest) = BadAt (at + length s) rest bad
 BadBehind at bad Bad = bad ≡ at
 
-pub splits_behind : {at : ℕ} {bytes : List ℕ} {ts : List Token} {p : Piece} → Splits at bytes ts → Front bytes p → SplitsBehind at ts p
+pub splits_behind : {at : ℕ} {bytes : List ℕ} {ts : List Token} {p : Piece} → Splits at bytes ts → AtFront bytes p → SplitsBehind at ts p
 splits_behind {at} {bytes} {ts} (ended e) f = subst (SplitsBehind at ts) (one_front (front-ended e) f) refl
 splits_behind {at} {bytes} {ts} (space b rest e h s) f = subst (SplitsBehind at ts) (one_front (front-space b rest e h) f) s
 splits_behind {at} {bytes} {ts} (comment c rest e s) f = subst (SplitsBehind at ts) (one_front (front-comment c rest e) f) s
 splits_behind {at} (one {ts = ts} s rest k e n l p) f = subst (SplitsBehind at (token k at (at + length s) ∷ ts)) (one_front (front-one s rest k e n l) f) (ts, refl, p)
 
-pub bad_behind : {at bad : ℕ} {bytes : List ℕ} {p : Piece} → BadAt at bytes bad → Front bytes p → BadBehind at bad p
+pub bad_behind : {at bad : ℕ} {bytes : List ℕ} {p : Piece} → BadAt at bytes bad → AtFront bytes p → BadBehind at bad p
 bad_behind {at} {bad} (here b rest n) f = subst (BadBehind at bad) (one_front (front-bad b rest n) f) refl
 bad_behind {at} {bad} (after_space b rest e h s) f = subst (BadBehind at bad) (one_front (front-space b rest e h) f) s
 bad_behind {at} {bad} (after_comment c rest e s) f = subst (BadBehind at bad) (one_front (front-comment c rest e) f) s
