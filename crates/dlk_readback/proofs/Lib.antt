@@ -1,0 +1,16 @@
+pub mod Climb
+pub mod Rows
+pub mod Kids
+pub mod Told
+pub mod Symbols
+pub mod Systems
+pub mod Enclosed
+pub mod Back
+pub mod Numbers
+pub mod Fronts
+pub mod Neighbours
+pub mod Apart
+pub mod Calm
+pub mod Tame
+pub mod Whole
+pub mod Turned

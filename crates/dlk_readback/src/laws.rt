@@ -1,0 +1,30 @@
+//! The laws of canonical text. Each is a contract of a function that does nothing.
+ghost use Rattle.std.specs.Prelude.{◌≡◌, All};
+ghost use Rattle.dlk_tree.specs.declared.op.Sort.TheVariants as sort_is;
+ghost use Rattle.dlk_tree.specs.Trees.{Tree, sort};
+ghost use Rattle.dlk_calculus.specs.Sequents.{Sequent, IsSequent};
+ghost use Rattle.dlk_grammar.specs.declared.token.Dots.{Dots};
+ghost use Rattle.dlk_grammar.specs.declared.token.Goal.TheVariants.{Expression};
+ghost use Rattle.dlk_grammar.specs.Texts.{TreeText, SequentText};
+ghost use Rattle.dlk_grammar.specs.Shown.{spell, shown, shown_sequent};
+ghost use Rattle.dlk_readback.specs.Readable.{goal_of, IsWithinLimits, IsReadable, IsNoFormulaText};
+
+/// The canonical text of a tree is read as that tree, as a text of its sort. The tree is well-made, has at most 65,536
+/// nodes and a depth of at most 1,000, and where argument dots and `_` are refused it has none.
+pub fn shown_is_read()
+    ensures { (d : Dots) (t : Tree) → IsReadable d t → TreeText (goal_of (sort t)) d (spell (shown t)) t }
+{}
+
+/// The canonical text of a sequent is read as that sequent, where each of its formulas has at most 65,536 nodes and a
+/// depth of at most 1,000.
+pub fn shown_sequent_is_read()
+    ensures { (s : Sequent) → IsSequent s → All IsWithinLimits s.ante → All IsWithinLimits s.succ → SequentText (spell (shown_sequent s)) s }
+{}
+
+/// Where any expression may stand, the canonical text of a formula or a program is read as that tree, and so is that of a
+/// term which no formula says. `f(x)` alone is read as a formula.
+pub fn shown_expression_is_read()
+    ensures formulas { (d : Dots) (t : Tree) → IsReadable d t → sort t ≡ sort_is.Formula → TreeText Expression d (spell (shown t)) t }
+    ensures programs { (d : Dots) (t : Tree) → IsReadable d t → sort t ≡ sort_is.Program → TreeText Expression d (spell (shown t)) t }
+    ensures terms { (d : Dots) (t : Tree) → IsReadable d t → sort t ≡ sort_is.Term → IsNoFormulaText (spell (shown t)) → TreeText Expression d (spell (shown t)) t }
+{}
