@@ -47,9 +47,6 @@ calm_at : (d : Dots) (n : ℕ) (x : List TokenKind) (k : TokenKind) (y : List To
 calm_at d n [] k y c = (c.0, c.1)
 calm_at d n (j ∷ x) k y c = calm_at d (level_behind n j) x k y c.2
 
-kinds_of : List Token → List TokenKind
-kinds_of tokens = map (λ t. t.kind) tokens
-
 kinds_of-append : (x y : List Token) → map (λ (t : Token). t.kind) (x ++ y) ≡ map (λ (t : Token). t.kind) x ++ map (λ (t : Token). t.kind) y
 kinds_of-append [] y = refl
 kinds_of-append (t ∷ x) y = ap (λ (l : List TokenKind). t.kind ∷ l) (kinds_of-append x y)
