@@ -16,3 +16,4 @@ pub mod Reading
 pub mod ExpressionLaws
 pub mod SequentLaws
 pub mod ParseLaws
+pub mod TextLaws
