@@ -128,28 +128,27 @@ rank (Shape at) = 4
 rank (TooBig n) = 5
 rank (TooDeep n) = 6
 
--- A form of text: its grammar, and the phrases of its read trees in order.
-module _ {P : Type 0} (G : List Lexeme → P → Type 0) (parts : P → List Phrase) (d : Dots) (tokens : List Token) where
-  -- One row a fault.
-  abbrev pub Against : ReadFault → Type 0
-  Against (Literal at) = FirstAt IsLong tokens at
-  Against (Nesting at) = FirstAt OpensTooDeep tokens at
-  Against Syntax = (p : P) → ¬ Says d G (lexemes tokens) p
-  Against (Shape at) = (p : P) × Says d G (lexemes tokens) p × ((place : ℕ) × (least (flat_map ills (parts p)) ≡ Some place) × TokenAt tokens place at)
-  Against (TooBig n) = (p : P) × Says d G (lexemes tokens) p × FirstPast size most_nodes (map erase (parts p)) n
-  Against (TooDeep n) = (p : P) × Says d G (lexemes tokens) p × FirstPast depth greatest_depth (map erase (parts p)) n
+-- What speaks against tokens as a text of a form. The form is given by its grammar and the phrases of its read trees in
+-- order. One row a fault.
+abbrev pub Against : {P : Type 0} → (List Lexeme → P → Type 0) → (P → List Phrase) → Dots → List Token → ReadFault → Type 0
+Against G parts d tokens (Literal at) = FirstAt IsLong tokens at
+Against G parts d tokens (Nesting at) = FirstAt OpensTooDeep tokens at
+Against {P} G parts d tokens Syntax = (p : P) → ¬ Says d G (lexemes tokens) p
+Against {P} G parts d tokens (Shape at) = (p : P) × Says d G (lexemes tokens) p × ((place : ℕ) × (least (flat_map ills (parts p)) ≡ Some place) × TokenAt tokens place at)
+Against {P} G parts d tokens (TooBig n) = (p : P) × Says d G (lexemes tokens) p × FirstPast size most_nodes (map erase (parts p)) n
+Against {P} G parts d tokens (TooDeep n) = (p : P) × Says d G (lexemes tokens) p × FirstPast depth greatest_depth (map erase (parts p)) n
 
-  -- the first that applies
-  pub record IsReadFault (why : ReadFault) : Type 0 where
-    pub applies : Against why
-    pub first : (other : ReadFault) → rank other < rank why → ¬ Against other
+-- the first that applies
+pub record IsReadFault {P : Type 0} (G : List Lexeme → P → Type 0) (parts : P → List Phrase) (d : Dots) (tokens : List Token) (why : ReadFault) : Type 0 where
+  pub applies : Against G parts d tokens why
+  pub first : (other : ReadFault) → rank other < rank why → ¬ Against G parts d tokens other
 
-  -- the tokens say this, and there is no fault
-  pub record IsRead {R : Type 0} (value : P → R) (r : R) : Type 0 where
-    pub phrase : P
-    pub says : Says d G (lexemes tokens) phrase
-    pub value_is : value phrase ≡ r
-    pub no_fault : (why : ReadFault) → ¬ Against why
+-- the tokens say this, and there is no fault
+pub record IsRead {P R : Type 0} (G : List Lexeme → P → Type 0) (parts : P → List Phrase) (d : Dots) (tokens : List Token) (value : P → R) (r : R) : Type 0 where
+  pub phrase : P
+  pub says : Says d G (lexemes tokens) phrase
+  pub value_is : value phrase ≡ r
+  pub no_fault : (why : ReadFault) → ¬ Against G parts d tokens why
 
 -- the grammar of a term, a formula, a program, an expression
 abbrev pub grammar : Goal → List Lexeme → Phrase → Type 0
