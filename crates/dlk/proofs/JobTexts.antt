@@ -3,11 +3,11 @@ use Rattle.std.proofs.Common.{◌≡◌, ℕ, List, [], ◌∷◌, length, get_o
 use Rattle.std.specs.declared.alloc.Global.{Global}
 use Rattle.dlk.specs.Forms.{limits_of}
 use Rattle.dlk.specs.Replies.{Reply}
-use Rattle.dlk.specs.Answers.{Does, check}
+use Rattle.dlk.specs.Answers.{Does, check, print}
 use Rattle.dlk.specs.Checks.{Checks}
+use Rattle.dlk.specs.Prints.{Prints}
 use Rattle.dlk.specs.Shown.{texts_of}
-use Rattle.dlk.specs.declared.command.Command.{Command}
-use Rattle.dlk.specs.declared.command.Command.TheVariants.{Check}
+use Rattle.dlk.specs.declared.command.Command.TheVariants.{Check, Print}
 
 two_items : {A : Type 0} (xs : List A) (a b : A) → length xs ≡ 2 → a ≡ get_or xs 0 a → b ≡ get_or xs 1 b → xs ≡ a ∷ b ∷ []
 two_items [] a b long first second = absurd (omega arith)
@@ -15,9 +15,20 @@ two_items (x ∷ []) a b long first second = absurd (omega arith)
 two_items (x ∷ y ∷ []) a b long first second = λ i. sym first i ∷ sym second i ∷ []
 two_items (x ∷ y ∷ z ∷ xs) a b long first second = absurd (omega arith)
 
--- what `check` answers to the first two of two texts is what it does
-pub check_does : (c : Command) (inputs : List (Vec ℕ Global)) (a b : Vec ℕ Global) (model term : List ℕ) (reply : Reply) →
-    length inputs ≡ length (limits_of c) → a ≡ get_or inputs 0 a → b ≡ get_or inputs 1 b → model ≡ a.items → term ≡ b.items →
-    Checks model term reply → Does c (texts_of inputs) reply
-check_does Check inputs a b model term reply long first second is_model is_term checks =
+one_item : {A : Type 0} (xs : List A) (a : A) → length xs ≡ 1 → a ≡ get_or xs 0 a → xs ≡ a ∷ []
+one_item [] a long first = absurd (omega arith)
+one_item (x ∷ []) a long first = λ i. sym first i ∷ []
+one_item (x ∷ y ∷ xs) a long first = absurd (omega arith)
+
+-- what `check` answers to the two texts is what it does
+pub check_does : (inputs : List (Vec ℕ Global)) (a b : Vec ℕ Global) (model term : List ℕ) (reply : Reply) →
+    length inputs ≡ length (limits_of Check) → a ≡ get_or inputs 0 a → b ≡ get_or inputs 1 b → model ≡ a.items → term ≡ b.items →
+    Checks model term reply → Does Check (texts_of inputs) reply
+check_does inputs a b model term reply long first second is_model is_term checks =
     rw (two_items inputs a b long first second) (check a.items b.items reply (rw (is_model, is_term) at checks))
+
+-- what `print` answers to the one text is what it does
+pub print_does : (inputs : List (Vec ℕ Global)) (a : Vec ℕ Global) (file : List ℕ) (reply : Reply) →
+    length inputs ≡ length (limits_of Print) → a ≡ get_or inputs 0 a → file ≡ a.items → Prints file reply → Does Print (texts_of inputs) reply
+print_does inputs a file reply long first is_file says =
+    rw (one_item inputs a long first) (print a.items reply (rw is_file at says))

@@ -5,8 +5,6 @@ use Rattle.std.proofs.lemmas.Bool.Decides.{nat_tests}
 use Rattle.dlk_tree.specs.Trees.{Tree}
 use Rattle.dlk_calculus.specs.Provables.{Provable}
 use Rattle.dlk_desk.specs.Outside.{Outside}
-use Rattle.dlk_grammar.specs.Texts.{FormulaText}
-use Rattle.dlk_grammar.proofs.TextLaws.{one_formula, formula_or_fault}
 use Rattle.dlk_report.specs.Reports.{is_closed}
 use Rattle.dlk.specs.Forms.{Word, inputs_of, limits_of, limit_of}
 use Rattle.dlk.specs.Inputs.{first_too_long}
@@ -14,21 +12,21 @@ use Rattle.dlk.specs.declared.command.Command.{Command}
 use Rattle.dlk.specs.declared.command.Command.TheVariants.{Check}
 use Rattle.dlk.specs.declared.command.Role.TheVariants.{Model, Term}
 use Rattle.dlk.specs.Replies.{Reply, code_of}
-use Rattle.dlk.specs.Checks.{Checks, bad_model, bad_line, bad_conclusion, reports, Accepts, proves, status_of, line_refused, other_conclusion, reported}
+use Rattle.dlk.specs.Checks.{Checks, bad_model, bad_line, bad_conclusion, reports, Accepts, ModelText, proves, status_of, line_refused, other_conclusion, reported}
 use Rattle.dlk.specs.Answers.{Does, check, Responds, refuses, does, Answers, no_form, command}
 use Rattle.dlk.specs.Headline.{RunsCheck, Judges, JudgesTruly}
-use Rattle.dlk.proofs.OneReply.{one_check}
+use Rattle.dlk.proofs.OneReply.{one_check, one_model, model_or_fault}
 
 closed_or_open : (b : Bool) → code_of (status_of b) < 2
 closed_or_open true = omega arith
 closed_or_open false = omega arith
 
-module _ (model term : List ℕ) (f : Tree) (reads : FormulaText model f) where
+module _ (model term : List ℕ) (f : Tree) (reads : ModelText model f) where
   accepted_of : (reply : Reply) → Checks model term reply → code_of reply.status < 2 → (rows : List Provable) × (p : Provable) × Accepts term rows p × (p.conclusion ≡ proves f)
-  accepted_of reply (bad_model why fault) less = absurd (formula_or_fault model f why reads fault)
+  accepted_of reply (bad_model why fault) less = absurd (model_or_fault why reads fault)
   accepted_of reply (bad_line g t n why v) less = absurd (omega (arith, less))
   accepted_of reply (bad_conclusion g t rows p a ne) less = absurd (omega (arith, less))
-  accepted_of reply (reports g t rows p a e) less = (rows, p, a, e ∙ ap proves (one_formula t reads))
+  accepted_of reply (reports g t rows p a e) less = (rows, p, a, e ∙ ap proves (one_model t reads))
 
   check_judges : (reply : Reply) → Checks model term reply → Judges term f (code_of reply.status) reply.printed
   check_judges reply checks = record {

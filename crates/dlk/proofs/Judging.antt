@@ -6,22 +6,13 @@ use Rattle.dlk_tree.specs.Trees.{Tree}
 use Rattle.dlk_calculus.specs.Places.{at}
 use Rattle.dlk_calculus.specs.Provables.{Provable}
 use Rattle.dlk_calculus.proofs.PlaceLaws.{At_read}
-use Rattle.dlk_grammar.specs.Texts.{FormulaText, FormulaFault, NotBuilt, Syntax}
-use Rattle.dlk_parse.specs.declared.fault.ParseFault.{ParseFault}
-use Rattle.dlk_parse.specs.declared.fault.ParseFault.TheVariants as parse
-use Rattle.dlk_parse.specs.Faults.{IsFaultOf}
 use Rattle.dlk_kernel.specs.declared.row.Row.{Row}
 use Rattle.dlk_replay.specs.Files.{file_lines, Verdict, accepted, bad}
 use Rattle.dlk_replay.specs.declared.fault.LineWhy.{LineWhy}
 use Rattle.dlk.specs.Replies.{Reply}
-use Rattle.dlk.specs.Checks.{Checks, bad_model, bad_line, bad_conclusion, reports, judged, line_refused, IsModelRefused}
+use Rattle.dlk.specs.Checks.{Checks, bad_line, bad_conclusion, reports, ModelText, judged, line_refused}
 
-pub model_answer : (model term : List ℕ) (fault : ParseFault) (reply : Reply) → IsFaultOf (FormulaFault model) fault → IsModelRefused fault reply → Checks model term reply
-model_answer model term (parse.NotBuilt at) reply fault is = subst (λ (r : Reply). Checks model term r) (sym is) (bad_model (NotBuilt at) fault)
-model_answer model term parse.Syntax reply fault is = subst (λ (r : Reply). Checks model term r) (sym is) (bad_model Syntax fault)
-model_answer model term parse.Memory reply fault is = absurd is
-
-pub line_answer : (model term : List ℕ) (f : Tree) → FormulaText model f → (line : ℕ) (why : LineWhy) (reply : Reply) →
+pub line_answer : (model term : List ℕ) (f : Tree) → ModelText model f → (line : ℕ) (why : LineWhy) (reply : Reply) →
     Verdict (file_lines term) (bad line why) → reply ≡ line_refused line why → Checks model term reply
 line_answer model term f reads line why reply verdict is = subst (λ (r : Reply). Checks model term r) (sym is) (bad_line f reads line why verdict)
 
@@ -45,7 +36,7 @@ last_item items before x is =
     At_read items (length items) x (omega (arith, count), omega arith)
     (sym (ap (λ n. get_or items n x) place ∙ ap (λ (l : List _). get_or l (length before) x) is ∙ get_or-append_seam before x [] x))
 
-module _ (model term : List ℕ) (f : Tree) (reads : FormulaText model f) (rows : List Provable) (verdict : Verdict (file_lines term) (accepted rows)) where
+module _ (model term : List ℕ) (f : Tree) (reads : ModelText model f) (rows : List Provable) (verdict : Verdict (file_lines term) (accepted rows)) where
   by_end : (before : List Provable) (p : Provable) (reply : Reply) → rows ≡ before ++ p ∷ [] → judged f (length rows) reply p → Checks model term reply
   by_end before p reply is (inl same) = subst (λ (r : Reply). Checks model term r) (sym same.1) (reports f reads rows p (record { before = before; last = is; verdict = verdict }) same.0)
   by_end before p reply is (inr other) = subst (λ (r : Reply). Checks model term r) (sym other.1) (bad_conclusion f reads rows p (record { before = before; last = is; verdict = verdict }) other.0)
@@ -56,7 +47,7 @@ module _ (model term : List ℕ) (f : Tree) (reads : FormulaText model f) (rows 
       by_end end.before end.last reply end.is (subst (λ (o : Option Provable). IfSome o (judged f (length rows) reply)) (last_item rows end.before end.last end.is) says)
 
 -- the same by the rows that the provables are of
-pub judged_answer : (model term : List ℕ) (f g : Tree) → FormulaText model f → g ≡ f → (rows : List Row) (stands : Row → Provable) → Verdict (file_lines term) (accepted (map stands rows)) →
+pub judged_answer : (model term : List ℕ) (f g : Tree) → ModelText model f → g ≡ f → (rows : List Row) (stands : Row → Provable) → Verdict (file_lines term) (accepted (map stands rows)) →
     1 ≤ length rows → (fact lines : ℕ) → fact ≡ length rows → lines ≡ length rows → (reply : Reply) →
     IfSome (at (map stands rows) fact) (judged g lines reply) → Checks model term reply
 judged_answer model term f g reads same rows stands verdict some fact lines fact_is lines_is reply says =

@@ -3,6 +3,7 @@ pub mod Asked
 pub mod Cut
 pub mod Answered
 pub mod JobTexts
+pub mod TextAnswers
 pub mod OneReply
 pub mod ConclusionText
 pub mod Judging

@@ -1,15 +1,22 @@
 -- There is one answer to words and files.
 use Rattle.std.proofs.Common.{◌≡◌, ℕ, List, [], ◌∷◌, ◌++◌, length, None, Some, refl, sym, ap, ◌∙◌, subst}
+use Rattle.dlk_tree.specs.Trees.{Tree}
 use Rattle.dlk_calculus.specs.Provables.{Provable}
-use Rattle.dlk_grammar.proofs.TextLaws.{one_formula, formula_or_fault, one_formula_fault}
+use Rattle.dlk_grammar.specs.declared.token.Dots.TheVariants.{Refused, Allowed}
+use Rattle.dlk_grammar.specs.declared.token.Goal.TheVariants.{Formula, Expression}
+use Rattle.dlk_grammar.specs.Texts.{TextFault}
+use Rattle.dlk_machine.proofs.TextLaws.{one_tree_text, tree_or_fault, one_tree_fault}
 use Rattle.dlk_replay.specs.Files.{file_lines, Verdict, Answer, accepted, bad}
 use Rattle.dlk_replay.specs.declared.fault.LineWhy.{LineWhy}
 use Rattle.dlk_replay.proofs.Verdicts.{one_verdict}
 use Rattle.dlk_desk.specs.Outside.{Files}
 use Rattle.dlk.specs.Forms.{Word}
 use Rattle.dlk.specs.Replies.{Reply}
-use Rattle.dlk.specs.Checks.{Checks, bad_model, bad_line, bad_conclusion, reports, Accepts, proves, model_refused, line_refused, other_conclusion, reported}
-use Rattle.dlk.specs.Answers.{Does, check, Responds, refuses, does, Answers, no_form, command, too_long}
+use Rattle.dlk.specs.declared.command.Role.TheVariants.{Model, File}
+use Rattle.dlk.specs.Refusals.{text_refused}
+use Rattle.dlk.specs.Checks.{Checks, bad_model, bad_line, bad_conclusion, reports, Accepts, ModelText, ModelFault, proves, line_refused, other_conclusion, reported}
+use Rattle.dlk.specs.Prints.{Prints, bad_text, prints, printed}
+use Rattle.dlk.specs.Answers.{Does, check, print, Responds, refuses, does, Answers, no_form, command, too_long}
 use Rattle.dlk.specs.declared.command.Command.{Command}
 
 -- the same rows, and the same last one
@@ -51,34 +58,48 @@ one_end {term} {rows} {others} {p} {q} a b =
 accepted_not_bad : {term : List ℕ} {rows : List Provable} {p : Provable} {n : ℕ} {why : LineWhy} → Accepts term rows p → Verdict (file_lines term) (bad n why) → ⊥
 accepted_not_bad {term} {rows} {p} {n} {why} a v = not_both (one_verdict (file_lines term) (accepted rows) (bad n why) a.verdict v)
 
+-- a model is one formula, or has one fault
+pub one_model : {model : List ℕ} {f g : Tree} → ModelText model f → ModelText model g → f ≡ g
+one_model {model} {f} {g} a b = one_tree_text Formula Refused model f g a b
+
+pub model_or_fault : {model : List ℕ} {f : Tree} (why : TextFault) → ModelText model f → ModelFault model why → ⊥
+model_or_fault {model} {f} why a b = tree_or_fault Formula Refused model f why a b
+
 module _ (model term : List ℕ) where
   pub one_check : (r s : Reply) → Checks model term r → Checks model term s → r ≡ s
-  one_check r s (bad_model why a) (bad_model other b) = ap model_refused (one_formula_fault model why other a b)
-  one_check r s (bad_model why a) (bad_line g u m other w) = absurd (formula_or_fault model g why u a)
-  one_check r s (bad_model why a) (bad_conclusion g u others q b ne) = absurd (formula_or_fault model g why u a)
-  one_check r s (bad_model why a) (reports g u others q b e) = absurd (formula_or_fault model g why u a)
-  one_check r s (bad_line f t n why v) (bad_model other b) = absurd (formula_or_fault model f other t b)
+  one_check r s (bad_model why a) (bad_model other b) = ap (text_refused Model) (one_tree_fault Formula Refused model why other a b)
+  one_check r s (bad_model why a) (bad_line g u m other w) = absurd (model_or_fault why u a)
+  one_check r s (bad_model why a) (bad_conclusion g u others q b ne) = absurd (model_or_fault why u a)
+  one_check r s (bad_model why a) (reports g u others q b e) = absurd (model_or_fault why u a)
+  one_check r s (bad_line f t n why v) (bad_model other b) = absurd (model_or_fault other t b)
   one_check r s (bad_line f t n why v) (bad_line g u m other w) = one_bad (one_verdict (file_lines term) (bad n why) (bad m other) v w)
   one_check r s (bad_line f t n why v) (bad_conclusion g u others q b ne) = absurd (accepted_not_bad b v)
   one_check r s (bad_line f t n why v) (reports g u others q b e) = absurd (accepted_not_bad b v)
-  one_check r s (bad_conclusion f t rows p a ne) (bad_model other b) = absurd (formula_or_fault model f other t b)
+  one_check r s (bad_conclusion f t rows p a ne) (bad_model other b) = absurd (model_or_fault other t b)
   one_check r s (bad_conclusion f t rows p a ne) (bad_line g u m other w) = absurd (accepted_not_bad a w)
   one_check r s (bad_conclusion f t rows p a ne) (bad_conclusion g u others q b ne2) =
       let end = one_end a b in
-      let same = one_formula t u in
+      let same = one_model t u in
       λ i. other_conclusion (length (end.rows_are i)) (same i) (end.last_is i).conclusion
   one_check r s (bad_conclusion f t rows p a ne) (reports g u others q b e) =
-      absurd (ne (ap (λ (x : Provable). x.conclusion) (one_end a b).last_is ∙ e ∙ ap proves (sym (one_formula t u))))
-  one_check r s (reports f t rows p a e) (bad_model other b) = absurd (formula_or_fault model f other t b)
+      absurd (ne (ap (λ (x : Provable). x.conclusion) (one_end a b).last_is ∙ e ∙ ap proves (sym (one_model t u))))
+  one_check r s (reports f t rows p a e) (bad_model other b) = absurd (model_or_fault other t b)
   one_check r s (reports f t rows p a e) (bad_line g u m other w) = absurd (accepted_not_bad a w)
   one_check r s (reports f t rows p a e) (bad_conclusion g u others q b ne) =
-      absurd (ne (ap (λ (x : Provable). x.conclusion) (sym (one_end a b).last_is) ∙ e ∙ ap proves (one_formula t u)))
+      absurd (ne (ap (λ (x : Provable). x.conclusion) (sym (one_end a b).last_is) ∙ e ∙ ap proves (one_model t u)))
   one_check r s (reports f t rows p a e) (reports g u others q b e2) =
       let end = one_end a b in
       λ i. reported (end.last_is i) (length (end.rows_are i))
 
+pub one_print : (file : List ℕ) (r s : Reply) → Prints file r → Prints file s → r ≡ s
+one_print file r s (bad_text why a) (bad_text other b) = ap (text_refused File) (one_tree_fault Expression Allowed file why other a b)
+one_print file r s (bad_text why a) (prints u b) = absurd (tree_or_fault Expression Allowed file u why b a)
+one_print file r s (prints t a) (bad_text other b) = absurd (tree_or_fault Expression Allowed file t other a b)
+one_print file r s (prints t a) (prints u b) = ap printed (one_tree_text Expression Allowed file t u a b)
+
 one_job : (c : Command) (texts : List (List ℕ)) (r s : Reply) → Does c texts r → Does c texts s → r ≡ s
 one_job c texts r s (check model term r' a) (check model' term' s' b) = one_check model term r s a b
+one_job c texts r s (print file r' a) (print file' s' b) = one_print file r s a b
 
 one_name : {name other : Word} → Some name ≡ Some other → name ≡ other
 one_name e = cc

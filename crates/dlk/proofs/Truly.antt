@@ -6,7 +6,8 @@ use Rattle.dlk_calculus.specs.Provables.{Provable}
 use Rattle.dlk_calculus.specs.Steps.{History, Derives}
 use Rattle.dlk_desk.specs.Outside.{Outside}
 use Rattle.dlk_transfer.specs.Transfer.{GrowsByFront}
-use Rattle.dlk_grammar.specs.Texts.{TextFault, NotBuilt, Syntax}
+use Rattle.dlk_grammar.specs.Readings.{Literal, Nesting, Syntax, Shape, TooBig, TooDeep}
+use Rattle.dlk_grammar.specs.Texts.{TextFault, BadByte, Unread}
 use Rattle.dlk_replay.specs.Files.{file_lines}
 use Rattle.dlk_replay.proofs.Verdicts.{accepted_history}
 use Rattle.dlk_report.specs.Reports.{is_closed, line, first_word}
@@ -14,7 +15,9 @@ use Rattle.dlk.specs.Forms.{Word}
 use Rattle.dlk.specs.declared.command.Command.{Command}
 use Rattle.dlk.specs.declared.command.Command.TheVariants.{Check}
 use Rattle.dlk.specs.Replies.{Reply}
-use Rattle.dlk.specs.Checks.{Checks, bad_model, bad_line, bad_conclusion, reports, Accepts, model_refused}
+use Rattle.dlk.specs.declared.command.Role.TheVariants.{Model}
+use Rattle.dlk.specs.Refusals.{text_refused}
+use Rattle.dlk.specs.Checks.{Checks, bad_model, bad_line, bad_conclusion, reports, Accepts}
 use Rattle.dlk.specs.Answers.{Does, check, Responds, refuses, does, Answers, no_form, command}
 use Rattle.dlk.specs.Headline.{RunsCheck, IsDerived, ClosedTruly}
 
@@ -42,9 +45,14 @@ module _ (model term said : List ℕ) (n : ℕ) where
   abbrev Says : Reply → Type 0
   Says reply = take n reply.printed ≡ codes "closed" ++ said
 
-  refused_fault : (why : TextFault) → Says (model_refused why) → ⊥
-  refused_fault (NotBuilt at) h = not_refused n _ _ h
-  refused_fault Syntax h = not_refused n _ _ h
+  refused_fault : (why : TextFault) → Says (text_refused Model why) → ⊥
+  refused_fault (BadByte at) h = not_refused n _ _ h
+  refused_fault (Unread (Literal at)) h = not_refused n _ _ h
+  refused_fault (Unread (Nesting at)) h = not_refused n _ _ h
+  refused_fault (Unread Syntax) h = not_refused n _ _ h
+  refused_fault (Unread (Shape at)) h = not_refused n _ _ h
+  refused_fault (Unread (TooBig size)) h = not_refused n _ _ h
+  refused_fault (Unread (TooDeep depth)) h = not_refused n _ _ h
 
   check_truly : (reply : Reply) → Checks model term reply → Says reply → IsDerived model term (codes "closed" ++ said)
   check_truly reply (bad_model why fault) h = absurd (refused_fault why h)

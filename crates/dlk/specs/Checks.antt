@@ -5,17 +5,27 @@ use Rattle.dlk_calculus.specs.declared.reason.Reason.{Reason}
 use Rattle.dlk_calculus.specs.declared.reason.Reason.TheVariants.{NoFact, NoGoal, NoPlace, WrongShape, NotEqual}
 use Rattle.dlk_calculus.specs.Sequents.{Sequent}
 use Rattle.dlk_calculus.specs.Provables.{Provable}
-use Rattle.dlk_grammar.specs.Texts.{FormulaText, FormulaFault, TextFault, NotBuilt, Syntax}
+use Rattle.dlk_grammar.specs.declared.token.Dots.TheVariants as dots
+use Rattle.dlk_grammar.specs.declared.token.Goal.TheVariants as goal
+use Rattle.dlk_grammar.specs.Texts.{TreeText, TreeTextFault, TextFault}
 use Rattle.dlk_grammar.specs.Shown.{spell, shown_sequent}
 use Rattle.dlk_replay.specs.Files.{Verdict, accepted, bad, file_lines}
 use Rattle.dlk_replay.specs.declared.fault.LineWhy.{LineWhy}
 use Rattle.dlk_replay.specs.declared.fault.LineWhy.TheVariants.{Malformed, WrongNumber, NoEnd, Step}
-use Rattle.dlk_parse.specs.declared.fault.ParseFault.{ParseFault}
-use Rattle.dlk_parse.specs.declared.fault.ParseFault.TheVariants as fault
 use Rattle.dlk_report.specs.Reports.{is_closed, text_report}
 use Rattle.dlk.specs.declared.reply.Status.{Status}
 use Rattle.dlk.specs.declared.reply.Status.TheVariants.{Closed, Open, Refused}
+use Rattle.dlk.specs.declared.command.Role.TheVariants.{Model}
 use Rattle.dlk.specs.Replies.{Reply, line, refusal}
+use Rattle.dlk.specs.Refusals.{text_refused}
+
+-- the model is a text of this formula, without argument dots and `_`
+abbrev pub ModelText : List ℕ → Tree → Type 0
+ModelText model f = TreeText goal.Formula dots.Refused model f
+
+-- why the model is none
+abbrev pub ModelFault : List ℕ → TextFault → Type 0
+ModelFault model why = TreeTextFault goal.Formula dots.Refused model why
 
 -- the sequent that a proof of the formula shows
 abbrev pub proves : Tree → Sequent
@@ -33,11 +43,6 @@ why_text Malformed = codes "Malformed"
 why_text WrongNumber = codes "WrongNumber"
 why_text NoEnd = codes "NoEnd"
 why_text (Step why) = reason_text why
-
--- refused: model at B: not-built, or refused: model: syntax
-abbrev pub model_refused : TextFault → Reply
-model_refused (NotBuilt at) = refusal (codes "model at " ++ decimal at ++ codes ": not-built")
-model_refused Syntax = refusal (codes "model: syntax")
 
 -- refused: line N: WHY
 abbrev pub line_refused : ℕ → LineWhy → Reply
@@ -62,12 +67,6 @@ abbrev pub judged : Tree → ℕ → Reply → Provable → Type 0
 judged f lines reply p =
     ((p.conclusion ≡ proves f) × (reply ≡ reported p lines)) ⊎ ((p.conclusion ≢ proves f) × (reply ≡ other_conclusion lines f p.conclusion))
 
--- the answer to a model with this fault; there is none for want of memory
-abbrev pub IsModelRefused : ParseFault → Reply → Type 0
-IsModelRefused (fault.NotBuilt at) reply = reply ≡ model_refused (NotBuilt at)
-IsModelRefused fault.Syntax reply = reply ≡ model_refused Syntax
-IsModelRefused fault.Memory reply = ⊥
-
 -- the term is accepted: each of its lines is a step, and the last of the rows is p
 pub record Accepts (term : List ℕ) (rows : List Provable) (p : Provable) : Type 0 where
   pub before : List Provable
@@ -76,9 +75,9 @@ pub record Accepts (term : List ℕ) (rows : List Provable) (p : Provable) : Typ
 
 -- Checks model term reply: this is what is answered to the model and the term. One case an answer.
 pub data Checks (model term : List ℕ) : Reply → Type 0 where
-  bad_model : (why : TextFault) → FormulaFault model why → Checks model term (model_refused why)
-  bad_line : (f : Tree) → FormulaText model f → (n : ℕ) (why : LineWhy) → Verdict (file_lines term) (bad n why) → Checks model term (line_refused n why)
-  bad_conclusion : (f : Tree) → FormulaText model f → (rows : List Provable) (p : Provable) → Accepts term rows p →
+  bad_model : (why : TextFault) → ModelFault model why → Checks model term (text_refused Model why)
+  bad_line : (f : Tree) → ModelText model f → (n : ℕ) (why : LineWhy) → Verdict (file_lines term) (bad n why) → Checks model term (line_refused n why)
+  bad_conclusion : (f : Tree) → ModelText model f → (rows : List Provable) (p : Provable) → Accepts term rows p →
       p.conclusion ≢ proves f → Checks model term (other_conclusion (length rows) f p.conclusion)
-  reports : (f : Tree) → FormulaText model f → (rows : List Provable) (p : Provable) → Accepts term rows p →
+  reports : (f : Tree) → ModelText model f → (rows : List Provable) (p : Provable) → Accepts term rows p →
       p.conclusion ≡ proves f → Checks model term (reported p (length rows))

@@ -1,27 +1,36 @@
 -- The forms of the words of a command line: a verb, and then a word for each of its inputs.
 use Rattle.std.specs.Prelude.{ℕ, ◌&&◌, ◌==◌, Bool, false, List, [], ◌∷◌, length, take, drop, map, Option, find, bytes_eq, codes}
 use Rattle.dlk.specs.declared.command.Command.{Command}
-use Rattle.dlk.specs.declared.command.Command.TheVariants.{Check}
+use Rattle.dlk.specs.declared.command.Command.TheVariants.{Check, Print}
 use Rattle.dlk.specs.declared.command.Role.{Role}
-use Rattle.dlk.specs.declared.command.Role.TheVariants.{Model, Term}
+use Rattle.dlk.specs.declared.command.Role.TheVariants.{Model, Term, File}
 
 abbrev pub Word : Type 0
 Word = List ℕ
 
 abbrev pub verb_of : Command → Word
 verb_of Check = codes "check"
+verb_of Print = codes "print"
 
 -- what the words after the verb name, in their order
 abbrev pub roles_of : Command → List Role
 roles_of Check = Model ∷ Term ∷ []
+roles_of Print = File ∷ []
+
+-- the word for an input in a refusal
+abbrev pub word_of : Role → Word
+word_of Model = codes "model"
+word_of Term = codes "term"
+word_of File = codes "file"
 
 -- the greatest length of an input, in bytes
 abbrev pub limit_of : Role → ℕ
-limit_of Model = 4096
+limit_of Model = 1048576
 limit_of Term = 65536
+limit_of File = 1048576
 
 abbrev pub commands : List Command
-commands = Check ∷ []
+commands = Check ∷ Print ∷ []
 
 abbrev pub has_form : List Word → Command → Bool
 has_form [] command = false

@@ -3,7 +3,6 @@ use Rattle.std.specs.Prelude.{◌≡◌, ◌≢◌, ◌<◌, ◌≤◌, ℕ, Lis
 use Rattle.dlk_tree.specs.Trees.{Tree}
 use Rattle.dlk_calculus.specs.Provables.{Provable}
 use Rattle.dlk_calculus.specs.Steps.{Derives}
-use Rattle.dlk_grammar.specs.Texts.{FormulaText}
 use Rattle.dlk_desk.specs.Outside.{Outside}
 use Rattle.dlk_replay.specs.Files.{Verdict, bad, file_lines}
 use Rattle.dlk_replay.specs.declared.fault.LineWhy.{LineWhy}
@@ -12,7 +11,7 @@ use Rattle.dlk.specs.declared.command.Command.TheVariants.{Check}
 use Rattle.dlk.specs.Forms.{Word, command_of, inputs_of, limit_of}
 use Rattle.dlk.specs.declared.command.Role.TheVariants.{Model, Term}
 use Rattle.dlk.specs.Inputs.{bytes_of}
-use Rattle.dlk.specs.Checks.{proves, Accepts, line_refused, other_conclusion}
+use Rattle.dlk.specs.Checks.{ModelText, proves, Accepts, line_refused, other_conclusion}
 
 -- the words have `check` run on files of these bytes
 pub record RunsCheck (words : List Word) (old : Outside) (model term : List ℕ) : Type 0 where
@@ -22,7 +21,7 @@ pub record RunsCheck (words : List Word) (old : Outside) (model term : List ℕ)
 -- The model's formula is derivable from exactly the leaves that the report lists.
 pub record IsDerived (model term said : List ℕ) : Type 0 where
   pub formula : Tree
-  pub reads : FormulaText model formula
+  pub reads : ModelText model formula
   -- the last of the rows that the lines of the term give
   pub rows : List Provable
   pub proof : Provable
@@ -51,4 +50,4 @@ pub record Judges (term : List ℕ) (f : Tree) (status : ℕ) (said : List ℕ) 
 abbrev pub JudgesTruly : List Word → ℕ → Outside → Outside → Type 0
 JudgesTruly words status old new =
     (model term said : List ℕ) (f : Tree) → RunsCheck words old model term → length model ≤ limit_of Model → length term ≤ limit_of Term →
-    FormulaText model f → new.printed ≡ old.printed ++ said → Judges term f status said
+    ModelText model f → new.printed ≡ old.printed ++ said → Judges term f status said

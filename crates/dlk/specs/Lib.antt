@@ -1,7 +1,9 @@
 pub mod Forms
 pub mod Replies
 pub mod Inputs
+pub mod Refusals
 pub mod Checks
+pub mod Prints
 pub mod Answers
 pub mod Runs
 pub mod Headline

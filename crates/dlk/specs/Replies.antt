@@ -1,7 +1,7 @@
 -- What the program answers: a status, and what is printed.
 use Rattle.std.specs.Prelude.{ℕ, List, [], ◌∷◌, ◌++◌, codes}
 use Rattle.dlk.specs.declared.reply.Status.{Status}
-use Rattle.dlk.specs.declared.reply.Status.TheVariants.{Closed, Open, Refused, Words}
+use Rattle.dlk.specs.declared.reply.Status.TheVariants.{Closed, Done, Open, Refused, Words}
 
 pub record Reply : Type 0 where
   pub status : Status
@@ -10,6 +10,7 @@ pub record Reply : Type 0 where
 -- the exit status of the program
 abbrev pub code_of : Status → ℕ
 code_of Closed = 0
+code_of Done = 0
 code_of Open = 1
 code_of Refused = 2
 code_of Words = 3

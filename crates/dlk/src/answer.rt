@@ -2,29 +2,18 @@
 ghost use Rattle.std.specs.Prelude.{length, ◌≡◌, ◌<◌, ◌++◌, ◌∷◌, [], Some, None, IfOk, option_copied, codes, map, string_bytes};
 ghost use Rattle.dlk.specs.Forms.{command_of, inputs_of, limits_of};
 ghost use Rattle.dlk.specs.Inputs.{first_too_long as first_too_long_of};
-ghost use Rattle.dlk.specs.Replies.{Reply as TheReply, code_of, refusal, refused_words};
+ghost use Rattle.dlk.specs.Replies.{Reply as TheReply, code_of, refused_words};
 ghost use Rattle.dlk.specs.Answers.{Does, Responds, too_long};
 ghost use Rattle.dlk.specs.Shown.{texts_of, reply_of};
 
 use crate::command::Command;
 use crate::fault::NoReply;
 use crate::jobs::check::check;
+use crate::jobs::print::print;
 use crate::reply::{Reply, Status};
 use dlk_store::Steps;
 use std::alloc::Global;
 use std::sync::ledger::Ledger;
-
-/// A refusal of one line.
-pub fn refused(alloc: Global, why: &str) -> Result<Reply, NoReply>
-    ensures reply { IfOk result (λ r. reply_of r ≡ refusal why.now) }
-    ensures status { IfOk result (λ r. code_of r.status < 3) }
-{
-    let text = format!(in alloc; "refused: {why}\n")?;
-    Ok(Reply {
-        status: Status::Refused,
-        printed: text.into_bytes(),
-    })
-}
 
 /// The answer where the words have none of the forms.
 pub fn words_refused(alloc: Global) -> Result<Reply, NoReply>
@@ -80,6 +69,7 @@ fn job<L: Ledger>(
 {
     match command {
         Command::Check => check(alloc, &inputs[0], &inputs[1], steps),
+        Command::Print => print(alloc, &inputs[0], steps),
     }
 }
 

@@ -1,12 +1,14 @@
 // The commands and the forms of their words.
 ghost use Rattle.std.specs.Prelude.{◌≡◌, ◌+◌, ◌≤◌, length, map, string_bytes, Some};
-ghost use Rattle.dlk.specs.Forms.{verb_of, roles_of, has_form, limits_of, inputs_of, commands, command_of};
+ghost use Rattle.dlk.specs.Forms.{verb_of, roles_of, word_of, has_form, limits_of, inputs_of, commands, command_of};
 
 /// What a command does.
 #[derive(Clone, Copy, Debug, PartialEq, Eq)]
 pub enum Command {
     /// Replays a term, and prints the report.
     Check,
+    /// Prints an expression's canonical text.
+    Print,
 }
 
 /// What a word after the verb names.
@@ -16,9 +18,24 @@ pub enum Role {
     Model,
     /// A file of a proof term.
     Term,
+    /// A file of one formula, program or term.
+    File,
 }
 
-const COMMANDS: [Command; 1] = [Command::Check];
+impl Role {
+    /// The word for it in a refusal.
+    pub fn word(self) -> &'static str
+        ensures { result.now ≡ word_of self }
+    {
+        match self {
+            Role::Model => "model",
+            Role::Term => "term",
+            Role::File => "file",
+        }
+    }
+}
+
+const COMMANDS: [Command; 2] = [Command::Check, Command::Print];
 
 impl Command {
     /// Its name on the command line.
@@ -27,6 +44,7 @@ impl Command {
     {
         match self {
             Command::Check => "check",
+            Command::Print => "print",
         }
     }
 
@@ -36,6 +54,7 @@ impl Command {
     {
         match self {
             Command::Check => &[Role::Model, Role::Term],
+            Command::Print => &[Role::File],
         }
     }
 
@@ -63,10 +82,12 @@ impl Command {
     pub fn limits(self) -> &'static [usize]
         ensures { result.now ≡ limits_of self }
     {
-        const MODEL: usize = 4096;
-        const TERM: usize = 65536;
+        const MODEL: usize = 1_048_576;
+        const TERM: usize = 65_536;
+        const FILE: usize = 1_048_576;
         match self {
             Command::Check => &[MODEL, TERM],
+            Command::Print => &[FILE],
         }
     }
 

@@ -8,6 +8,7 @@ mod command;
 mod fault;
 mod jobs;
 mod laws;
+mod refusal;
 mod reply;
 mod run;
 

@@ -6,13 +6,15 @@ ghost use Rattle.dlk.specs.Replies.{code_of};
 #[derive(Clone, Copy, Debug, PartialEq, Eq)]
 pub enum Status {
     /// The proof is closed.
-    Closed = 0,
+    Closed,
+    /// What was asked for is printed.
+    Done,
     /// The proof is open: goals are left.
-    Open = 1,
+    Open,
     /// An input was refused.
-    Refused = 2,
+    Refused,
     /// The words of the command line are none of the forms.
-    Words = 3,
+    Words,
 }
 
 impl Status {
@@ -20,7 +22,12 @@ impl Status {
     pub fn code(self) -> u8
         ensures { result ≡ code_of self }
     {
-        self as u8
+        match self {
+            Status::Closed | Status::Done => 0,
+            Status::Open => 1,
+            Status::Refused => 2,
+            Status::Words => 3,
+        }
     }
 }
 

@@ -1,4 +1,7 @@
 // The program over a desk in memory.
+mod models;
+mod printing;
+
 ghost use Rattle.std.specs.Prelude.{◌≡◌, ◌<◌, ◌≤◌};
 
 use crate::start;
@@ -52,6 +55,23 @@ fn checked(alloc: Global, model: &[u8], term: &[u8]) -> Result<(u8, MemoryDesk),
     let mut desk = desk_of(alloc, model, term, 7, &[])?;
     let status = status_of(alloc, &["check", "model", "term"], &mut desk)?;
     Ok((status, desk))
+}
+
+/// A text so many times.
+fn repeated(alloc: Global, text: &str, count: usize) -> Result<Vec<u8>, AllocError> {
+    let mut bytes = Vec::new(alloc);
+    for _ in 0..count {
+        bytes.extend_from_slice(text.as_bytes())?;
+    }
+    Ok(bytes)
+}
+
+/// Three texts one after another.
+fn joined(alloc: Global, front: &[u8], middle: &[u8], back: &[u8]) -> Result<Vec<u8>, AllocError> {
+    let mut bytes = front.to_vec(alloc)?;
+    bytes.extend_from_slice(middle)?;
+    bytes.extend_from_slice(back)?;
+    Ok(bytes)
 }
 
 /// So many bytes, which begin with these and go on with spaces.
@@ -168,6 +188,25 @@ fn accepts_and_refuses_terms(rt: HostRuntime) -> Result<(), Fail> {
             2,
             "refused: line 1: Malformed\n",
         ),
+        // the sequents of lines have the whole syntax, without dots and holes
+        (
+            "[x:=1;]x>0 & true",
+            "1 start /* all */ ==> ([x:=1;](x>00))&(true)\ndone\n",
+            1,
+            "open\nconclusion ==> [x:=1;]x>0&true\ngoals 1\ngoal 1 ==> [x:=1;]x>0&true\nleaves 0\nlines 1\n",
+        ),
+        (
+            "x>=0",
+            "1 start ==> ._0>=0\ndone\n",
+            2,
+            "refused: line 1: Malformed\n",
+        ),
+        (
+            "x>=0",
+            "1 start ==> [{x'=1,x'=2}]x>=0\ndone\n",
+            2,
+            "refused: line 1: Malformed\n",
+        ),
         (
             "x>=1",
             "1 start ==> x>=0\ndone\n",
@@ -189,68 +228,6 @@ fn accepts_and_refuses_terms(rt: HostRuntime) -> Result<(), Fail> {
 }
 
 #[test]
-fn refuses_models(rt: HostRuntime) -> Result<(), Fail> {
-    let alloc = rt.alloc();
-    for (model, printed) in [
-        ("x>=0 # y", "refused: model at 5: not-built\n"),
-        ("x>=0, y>=0", "refused: model at 4: not-built\n"),
-        ("==> x>=0", "refused: model at 0: not-built\n"),
-        ("x>=0.5", "refused: model at 4: not-built\n"),
-        ("true", "refused: model at 0: not-built\n"),
-        ("x>=0 -> false", "refused: model at 8: not-built\n"),
-        (
-            "x>=000000000000000000000000000000000000000",
-            "refused: model at 3: not-built\n",
-        ),
-        ("", "refused: model: syntax\n"),
-        ("x>=", "refused: model: syntax\n"),
-        ("(x)>=0", "refused: model: syntax\n"),
-        ("x>=0 -> (y>=0", "refused: model: syntax\n"),
-        ("x>=0 y>=0", "refused: model: syntax\n"),
-    ] {
-        let (status, desk) = checked(alloc, model.as_bytes(), TERM.as_bytes())?;
-        assert_eq!(rt; status, 2, "{model}");
-        assert_eq!(rt; desk.printed(), printed.as_bytes(), "{model}");
-    }
-    for byte in 128..=255u8 {
-        let (status, desk) = checked(alloc, &[b'x', byte], TERM.as_bytes())?;
-        assert_eq!(rt; status, 2, "{byte}");
-        assert_eq!(rt;
-            desk.printed(),
-            b"refused: model at 1: not-built\n".as_slice()
-        );
-        let (status, desk) = checked(alloc, b"x>=0", &[byte])?;
-        assert_eq!(rt; status, 2, "{byte}");
-        assert_eq!(rt; desk.printed(), b"refused: line 1: Malformed\n".as_slice());
-    }
-    Ok(())
-}
-
-#[test]
-fn keeps_to_lengths(rt: HostRuntime) -> Result<(), Fail> {
-    let alloc = rt.alloc();
-    let short = b"1 start ==> x>=0\ndone\n".as_slice();
-    let (status, _) = checked(alloc, &padded(alloc, "x>=0", 4096)?, short)?;
-    assert_eq!(rt; status, 1);
-    let (status, desk) = checked(alloc, &padded(alloc, "x>=0", 4097)?, short)?;
-    assert_eq!(rt; status, 2);
-    assert_eq!(rt; desk.printed(), b"refused: too-long model\n".as_slice());
-    let (status, desk) = checked(alloc, b"x>=0", &padded(alloc, "", 65536)?)?;
-    assert_eq!(rt; status, 2);
-    assert_eq!(rt; desk.printed(), b"refused: line 1: Malformed\n".as_slice());
-    let (status, desk) = checked(alloc, b"#", &padded(alloc, "", 65537)?)?;
-    assert_eq!(rt; status, 2);
-    assert_eq!(rt; desk.printed(), b"refused: too-long term\n".as_slice());
-    for (length, status) in [(4096, 1), (4097, 2)] {
-        let mut term = padded(alloc, "1 start ==> x>=0", length)?;
-        term.extend_from_slice(b"\ndone\n")?;
-        let (found, _) = checked(alloc, b"x>=0", &term)?;
-        assert_eq!(rt; found, status, "a line of {length} bytes");
-    }
-    Ok(())
-}
-
-#[test]
 fn tells_faults_of_the_outside(rt: HostRuntime) -> Result<(), Fail> {
     let alloc = rt.alloc();
     for (words, status, printed) in [
@@ -263,6 +240,14 @@ fn tells_faults_of_the_outside(rt: HostRuntime) -> Result<(), Fail> {
             "refused: words\n",
         ),
         (&["--help"].as_slice(), 3, "refused: words\n"),
+        (&["gen", "0"].as_slice(), 3, "refused: words\n"),
+        (&["print"].as_slice(), 3, "refused: words\n"),
+        (
+            &["print", "model", "term"].as_slice(),
+            3,
+            "refused: words\n",
+        ),
+        (&["print", "nothing"].as_slice(), 4, ""),
         (
             &["prove", "model", "term"].as_slice(),
             3,

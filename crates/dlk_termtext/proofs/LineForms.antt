@@ -6,17 +6,20 @@ use Rattle.dlk_tree.specs.Trees.{Tree}
 use Rattle.dlk_calculus.specs.Sequents.{Sequent}
 use Rattle.dlk_calculus.specs.Rules.{Rule}
 use Rattle.dlk_calculus.specs.Steps.{Step, Start, Apply}
-use Rattle.dlk_grammar.specs.Texts.{SequentText, SequentFault, NotBuilt, Syntax}
-use Rattle.dlk_grammar.proofs.TextLaws.{one_sequent_text, sequent_or_fault}
+use Rattle.dlk_grammar.specs.Readings.{Literal, Nesting, Syntax, Shape, TooBig, TooDeep}
+use Rattle.dlk_grammar.specs.Texts.{SequentText, SequentTextFault, BadByte, Unread}
+use Rattle.dlk_machine.proofs.TextLaws.{one_sequent_text, sequent_or_fault}
 use Rattle.dlk_rules.specs.Steps.{rule_at}
 use Rattle.dlk_rules.specs.declared.rule.Rule.{Rule as IdRule}
 use Rattle.dlk_rules.specs.declared.rule.Rule.TheVariants as rule
 use Rattle.dlk_parse.specs.declared.fault.ParseFault.{ParseFault}
 use Rattle.dlk_parse.specs.declared.fault.ParseFault.TheVariants as parse
-use Rattle.dlk_parse.specs.Faults.{IsFaultOf as IsTextFault}
+use Rattle.dlk_parse.specs.declared.fault.TextFault.{TextFault}
+use Rattle.dlk_parse.specs.declared.fault.TextFault.TheVariants as text_fault
+use Rattle.dlk_parse.specs.Faults.{IsTextFaultOf}
 use Rattle.dlk_termtext.specs.declared.line.LineFault.{LineFault}
 use Rattle.dlk_termtext.specs.declared.line.LineFault.TheVariants as fault
-use Rattle.dlk_termtext.specs.Read.{IsFaultOf, of_parse}
+use Rattle.dlk_termtext.specs.Read.{IsFaultOf, of_text}
 use Rattle.dlk_termtext.proofs.Numbers.{one_number_then, cut_off, number_parts}
 use Rattle.dlk_termtext.proofs.Forms.{one_rule}
 use Rattle.dlk_termtext.specs.Lines.{IsStep, start, apply, Line, Numbered, Done, IsLine, numbered, done}
@@ -103,10 +106,16 @@ numbered_line text n step parts =
     rw e (numbered parts.number_is.is_number parts.step_is (rw e at parts.few))
 
 -- a sequent that is not read makes no step
-pub start_fault : (text rest : List ℕ) (why : ParseFault) → text ≡ codes "start " ++ rest → IsTextFault (SequentFault rest) why → IsFaultOf ((step : Step) → ¬ IsStep text step) (of_parse why)
-start_fault text rest (parse.NotBuilt at) begins why = λ step. no_start text rest step begins (λ s is. sequent_or_fault rest s (NotBuilt at) is why)
-start_fault text rest parse.Syntax begins why = λ step. no_start text rest step begins (λ s is. sequent_or_fault rest s Syntax is why)
-start_fault text rest parse.Memory begins why = tt
+module _ (text rest : List ℕ) (begins : text ≡ codes "start " ++ rest) where
+  pub start_fault : (why : TextFault) → IsTextFaultOf (SequentTextFault rest) why → IsFaultOf ((step : Step) → ¬ IsStep text step) (of_text why)
+  start_fault (text_fault.BadByte at) why = λ step. no_start text rest step begins (λ s is. sequent_or_fault rest s (BadByte at) is why)
+  start_fault (text_fault.Unread (parse.Literal at)) why = λ step. no_start text rest step begins (λ s is. sequent_or_fault rest s (Unread (Literal at)) is why)
+  start_fault (text_fault.Unread (parse.Nesting at)) why = λ step. no_start text rest step begins (λ s is. sequent_or_fault rest s (Unread (Nesting at)) is why)
+  start_fault (text_fault.Unread parse.Syntax) why = λ step. no_start text rest step begins (λ s is. sequent_or_fault rest s (Unread Syntax) is why)
+  start_fault (text_fault.Unread (parse.Shape at)) why = λ step. no_start text rest step begins (λ s is. sequent_or_fault rest s (Unread (Shape at)) is why)
+  start_fault (text_fault.Unread (parse.TooBig size)) why = λ step. no_start text rest step begins (λ s is. sequent_or_fault rest s (Unread (TooBig size)) is why)
+  start_fault (text_fault.Unread (parse.TooDeep depth)) why = λ step. no_start text rest step begins (λ s is. sequent_or_fault rest s (Unread (TooDeep depth)) is why)
+  start_fault (text_fault.Unread parse.Memory) why = tt
 
 pub no_line : (text : List ℕ) (l : Line) → text ≢ codes "done" → ((n : ℕ) (rest : List ℕ) → ¬ NumberThen text 32 n rest) → ¬ IsLine text l
 no_line text (Numbered n step) other none is = let h = line_parts text (Numbered n step) is in none n h.rest h.number_is
@@ -131,7 +140,7 @@ one_step text (Start s) (Start t) a b =
     let h = step_parts text (Start s) a in
     let k = step_parts text (Start t) b in
     let same : h.0 ≡ k.0 = append_cancel_left (codes "start ") h.0 k.0 (sym h.1 ∙ k.1) in
-    ap Start (one_sequent_text {bytes = k.0} (rw (← same) h.2) k.2)
+    ap Start (one_sequent_text k.0 s t (rw (← same) h.2) k.2)
 one_step text (Start s) (Apply fact goal r) a b =
     absurd (start_or_apply _ _ (sym (step_parts text (Start s) a).1 ∙ (step_parts text (Apply fact goal r) b).1))
 one_step text (Apply fact goal r) (Start s) a b =

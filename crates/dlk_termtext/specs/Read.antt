@@ -9,6 +9,8 @@ use Rattle.dlk_termtext.specs.declared.line.LineFault.{LineFault}
 use Rattle.dlk_termtext.specs.declared.line.LineFault.TheVariants as fault
 use Rattle.dlk_parse.specs.declared.fault.ParseFault.{ParseFault}
 use Rattle.dlk_parse.specs.declared.fault.ParseFault.TheVariants as parse
+use Rattle.dlk_parse.specs.declared.fault.TextFault.{TextFault}
+use Rattle.dlk_parse.specs.declared.fault.TextFault.TheVariants as text_fault
 
 -- the line over the trees of its ids
 abbrev pub line_at : List Tree → Line → TreeLine
@@ -30,8 +32,17 @@ abbrev pub IsFaultOf : Type 0 → LineFault → Type 0
 IsFaultOf holds fault.Malformed = holds
 IsFaultOf holds fault.Memory = Unit {0}
 
--- a text that is not read makes its line Malformed
+-- tokens that are not read make their line Malformed
 abbrev pub of_parse : ParseFault → LineFault
-of_parse (parse.NotBuilt at) = fault.Malformed
+of_parse (parse.Literal at) = fault.Malformed
+of_parse (parse.Nesting at) = fault.Malformed
 of_parse parse.Syntax = fault.Malformed
+of_parse (parse.Shape at) = fault.Malformed
+of_parse (parse.TooBig size) = fault.Malformed
+of_parse (parse.TooDeep depth) = fault.Malformed
 of_parse parse.Memory = fault.Memory
+
+-- and so does a bad byte
+abbrev pub of_text : TextFault → LineFault
+of_text (text_fault.BadByte at) = fault.Malformed
+of_text (text_fault.Unread why) = of_parse why

@@ -1,8 +1,8 @@
 ghost use Rattle.std.specs.Prelude.{◌≡◌};
 ghost use Rattle.dlk_termtext.specs.declared.line.LineFault.TheVariants.{Memory};
-ghost use Rattle.dlk_termtext.specs.Read.{of_parse};
+ghost use Rattle.dlk_termtext.specs.Read.{of_parse, of_text};
 
-use dlk_parse::ParseFault;
+use dlk_parse::{ParseFault, TextFault};
 use dlk_rules::Step;
 use std::alloc::{AllocError, AllocFailed};
 use thiserror::Error;
@@ -47,9 +47,24 @@ impl From<ParseFault> for LineFault {
 
     fn from(fault: ParseFault) -> LineFault {
         match fault {
-            ParseFault::NotBuilt { at: _ } => LineFault::Malformed,
-            ParseFault::Syntax => LineFault::Malformed,
+            ParseFault::Literal { at: _ }
+            | ParseFault::Nesting { at: _ }
+            | ParseFault::Syntax
+            | ParseFault::Shape { at: _ }
+            | ParseFault::TooBig { size: _ }
+            | ParseFault::TooDeep { depth: _ } => LineFault::Malformed,
             ParseFault::Memory => LineFault::Memory,
+        }
+    }
+}
+
+impl From<TextFault> for LineFault {
+    ghost from_gives = { λ fault e. e ≡ of_text fault };
+
+    fn from(fault: TextFault) -> LineFault {
+        match fault {
+            TextFault::BadByte { at: _ } => LineFault::Malformed,
+            TextFault::Unread(why) => LineFault::from(why),
         }
     }
 }

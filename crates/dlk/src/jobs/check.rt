@@ -5,14 +5,15 @@ ghost use Rattle.dlk_store.specs.Stores.{IsId, tree};
 ghost use Rattle.dlk_sequent.specs.Sequents.{sequent_at, IsKnown};
 ghost use Rattle.dlk_kernel.specs.Kernel.{facts};
 ghost use Rattle.dlk.specs.Replies.{code_of};
-ghost use Rattle.dlk.specs.Checks.{proves, reason_text, why_text, line_refused, other_conclusion, reported, judged, Checks, IsModelRefused};
+ghost use Rattle.dlk.specs.Checks.{proves, reason_text, why_text, line_refused, other_conclusion, reported, judged, Checks};
 ghost use Rattle.dlk.specs.Shown.{reply_of};
 
-use crate::answer::refused;
+use crate::command::Role;
 use crate::fault::NoReply;
+use crate::refusal::{refuse_text, refused};
 use crate::reply::{Reply, Status};
 use dlk_kernel::{Fact, Kernel, Reason};
-use dlk_parse::{ParseFault, read_formula};
+use dlk_parse::read_formula;
 use dlk_plain::PlainStore;
 use dlk_print::sequent_text;
 use dlk_replay::{LineWhy, Outcome, ReplayFault, replay};
@@ -44,21 +45,6 @@ fn why_word(why: LineWhy) -> &'static str
         LineWhy::WrongNumber => "WrongNumber",
         LineWhy::NoEnd => "NoEnd",
         LineWhy::Step(why) => reason_word(why),
-    }
-}
-
-/// The answer to a model that is not read.
-fn refuse_model(alloc: Global, fault: ParseFault) -> Result<Reply, NoReply>
-    ensures reply { IfOk result (λ r. IsModelRefused fault (reply_of r)) }
-    ensures status { IfOk result (λ r. code_of r.status < 3) }
-{
-    match fault {
-        ParseFault::NotBuilt { at } => {
-            let why = format!(in alloc; "model at {at}: not-built")?;
-            refused(alloc, why.as_str())
-        }
-        ParseFault::Syntax => refused(alloc, "model: syntax"),
-        ParseFault::Memory => Err(NoReply::Memory),
     }
 }
 
@@ -171,7 +157,7 @@ fn check_on<S: Store, L: Ledger>(
 {
     let formula = match read_formula(alloc, model, kernel) {
         Ok(formula) => formula,
-        Err(fault) => return refuse_model(alloc, fault),
+        Err(fault) => return refuse_text(alloc, Role::Model, fault),
     };
     match replay(alloc, term, kernel, steps) {
         Ok(outcome) => judge(alloc, kernel, formula, outcome, steps),

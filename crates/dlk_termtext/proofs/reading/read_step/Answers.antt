@@ -5,7 +5,7 @@ use Rattle.dlk_termtext.proofs.reading.read_step.Goals as goal
 pub returns-in_err-sequent-clause-fault : goal.returns-in_err-sequent-clause-fault
 returns-in_err-sequent-clause-fault g c =
     let p = err_from_is_err_and c.from_residual.result c.from_residual.ensures.1 in
-    rw (p.1, p.2) (start_fault c.args.text.now _ _ c.in-Some.ensures c.in_err-sequent.ensures.fault)
+    rw (p.1, p.2) (start_fault c.args.text.now _ c.in-Some.ensures _ c.in_err-sequent.ensures.fault)
 
 pub returns-in-Some-clause-found : goal.returns-in-Some-clause-found
 returns-in-Some-clause-found g c = start_step c.args.text.now _ _ c.in-Some.ensures c.in_ok-sequent.ensures.found

@@ -3,15 +3,20 @@ use Rattle.std.proofs.lemmas.Result.{IfOk-weaker}
 use Rattle.dlk_calculus.specs.Places.{at}
 use Rattle.dlk_store.specs.Stores.{tree}
 use Rattle.dlk_kernel.specs.Kernel.{facts, provable_at}
-use Rattle.dlk.specs.Checks.{Checks, IsModelRefused, judged, line_refused}
+use Rattle.dlk.specs.declared.command.Role.TheVariants.{Model}
+use Rattle.dlk.specs.Refusals.{IsTextRefused}
+use Rattle.dlk.specs.Checks.{Checks, bad_model, ModelFault, judged, line_refused}
 use Rattle.dlk.specs.Shown.{reply_of}
-use Rattle.dlk.proofs.Judging.{model_answer, line_answer, judged_answer}
+use Rattle.dlk.proofs.Judging.{line_answer, judged_answer}
+use Rattle.dlk.proofs.TextAnswers.{text_answer}
 use Rattle.dlk.proofs.jobs.check.check_on.Goals as goal
 
 pub returns-in-Err-clause-reply : goal.returns-in-Err-clause-reply
 returns-in-Err-clause-reply g c =
-    IfOk-weaker c.refuse_model.result (λ r. IsModelRefused c.in-Err.fault (reply_of r)) (λ r. Checks c.args.model.now c.args.term.now (reply_of r))
-    (λ r is. model_answer c.args.model.now c.args.term.now c.in-Err.fault (reply_of r) c.in-Err.ensures.fault is) c.refuse_model.ensures.reply
+    let model = c.args.model.now in
+    let term = c.args.term.now in
+    IfOk-weaker c.refuse_text.result (λ r. IsTextRefused Model c.in-Err.fault (reply_of r)) (λ r. Checks model term (reply_of r))
+    (λ r is. text_answer Model (ModelFault model) (Checks model term) bad_model c.in-Err.fault (reply_of r) c.in-Err.ensures.fault is) c.refuse_text.ensures.reply
 
 pub returns-in-Ok-replay-clause-reply : goal.returns-in-Ok-replay-clause-reply
 returns-in-Ok-replay-clause-reply g c =

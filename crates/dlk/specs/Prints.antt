@@ -1,0 +1,20 @@
+-- What `print` answers to a file.
+use Rattle.std.specs.Prelude.{ℕ, List}
+use Rattle.dlk_tree.specs.Trees.{Tree}
+use Rattle.dlk_grammar.specs.declared.token.Dots.TheVariants.{Allowed}
+use Rattle.dlk_grammar.specs.declared.token.Goal.TheVariants.{Expression}
+use Rattle.dlk_grammar.specs.Texts.{TreeText, TreeTextFault, TextFault}
+use Rattle.dlk_grammar.specs.Shown.{spell, shown}
+use Rattle.dlk.specs.declared.command.Role.TheVariants.{File}
+use Rattle.dlk.specs.declared.reply.Status.TheVariants.{Done}
+use Rattle.dlk.specs.Replies.{Reply, line}
+use Rattle.dlk.specs.Refusals.{text_refused}
+
+-- the canonical text, on a line
+abbrev pub printed : Tree → Reply
+printed t = record { status = Done; printed = line (spell (shown t)) }
+
+-- Prints file reply: this is what is answered to the file. One case an answer.
+pub data Prints (file : List ℕ) : Reply → Type 0 where
+  bad_text : (why : TextFault) → TreeTextFault Expression Allowed file why → Prints file (text_refused File why)
+  prints : (t : Tree) → TreeText Expression Allowed file t → Prints file (printed t)

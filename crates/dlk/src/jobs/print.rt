@@ -1,0 +1,52 @@
+// `print FILE`: the canonical text of an expression.
+ghost use Rattle.std.specs.Prelude.{◌<◌, IfOk};
+ghost use Rattle.dlk.specs.Replies.{code_of};
+ghost use Rattle.dlk.specs.Prints.{Prints};
+ghost use Rattle.dlk.specs.Shown.{reply_of};
+
+use crate::command::Role;
+use crate::fault::NoReply;
+use crate::refusal::refuse_text;
+use crate::reply::{Reply, Status};
+use dlk_parse::{Dots, read_expression};
+use dlk_plain::PlainStore;
+use dlk_print::text;
+use dlk_store::{Steps, Store};
+use std::alloc::Global;
+use std::sync::ledger::Ledger;
+
+/// Prints an expression by a store.
+fn print_on<S: Store, L: Ledger>(
+    alloc: Global,
+    store: &mut S,
+    file: &[u8],
+    steps: &mut Steps<L>,
+) -> Result<Reply, NoReply>
+    ensures reply { IfOk result (λ r. Prints file.now (reply_of r)) }
+    ensures status { IfOk result (λ r. code_of r.status < 3) }
+{
+    let expression = match read_expression(alloc, file, Dots::Allowed, store) {
+        Ok(expression) => expression,
+        Err(fault) => return refuse_text(alloc, Role::File, fault),
+    };
+    let mut printed = Vec::new(alloc);
+    text(store, expression, &mut printed, steps)?;
+    printed.push(b'\n')?;
+    Ok(Reply {
+        status: Status::Done,
+        printed,
+    })
+}
+
+/// Prints the canonical text of an expression, and a line feed.
+///
+/// # Errors
+///
+/// `Memory` alone: each refusal is a reply.
+pub fn print<L: Ledger>(alloc: Global, file: &[u8], steps: &mut Steps<L>) -> Result<Reply, NoReply>
+    ensures reply { IfOk result (λ r. Prints file.now (reply_of r)) }
+    ensures status { IfOk result (λ r. code_of r.status < 3) }
+{
+    let mut store = PlainStore::new(alloc);
+    print_on(alloc, &mut store, file, steps)
+}

@@ -1,0 +1,35 @@
+#!/usr/bin/env python3
+"""Prints each model of `examples/models`, and reads what is printed back: it must print the same again.
+
+Run it after `./dlk` has built the program. With `--show` the printed texts are written out.
+"""
+import pathlib
+import subprocess
+import sys
+
+EXAMPLES = pathlib.Path(__file__).resolve().parent
+PROGRAM = EXAMPLES.parent / "crates" / "dlk" / "out" / "dlk"
+
+
+def printed(name, text=None):
+    """What `print` prints of a file, or of a text on standard input."""
+    run = subprocess.run([PROGRAM, "print", name], input=text, capture_output=True, check=False)
+    if run.returncode != 0:
+        raise SystemExit(f"print_models.py: {name}: status {run.returncode}, {run.stdout.decode().strip()}")
+    return run.stdout
+
+
+def main():
+    """Prints each model twice."""
+    models = sorted((EXAMPLES / "models").iterdir())
+    for model in models:
+        once = printed(model)
+        if printed("-", once) != once:
+            raise SystemExit(f"print_models.py: {model.name}: its text is printed otherwise")
+        if "--show" in sys.argv[1:]:
+            print(f"{model.name}: {once.decode()}", end="")
+    print(f"{len(models)} models, each printed the same again")
+
+
+if __name__ == "__main__":
+    main()
