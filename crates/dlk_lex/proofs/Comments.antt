@@ -1,15 +1,12 @@
 -- The comment at the front.
-use Rattle.std.proofs.Common.{◌≡◌, ℕ, zero, suc, ◌+◌, ◌-◌, ◌<◌, ◌≤◌, Bool, true, false, ◌&&◌, ◌==◌, eqb, List, [], ◌∷◌, ◌++◌, length, take, drop, get_or, cond, refl, sym, ap, subst, ◌∙◌, append_assoc, add-one, arith, codes, length-append}
+use Rattle.std.proofs.Common.{◌≡◌, ℕ, suc, ◌+◌, ◌-◌, ◌<◌, ◌≤◌, Bool, true, false, ◌==◌, eqb, List, [], ◌∷◌, ◌++◌, length, take, drop, get_or, cond, refl, sym, ap, subst, ◌∙◌, append_assoc, add-one, arith, codes, length-append}
 use Rattle.std.specs.List.{list_all, starts_with, prefix_len}
 use Rattle.std.specs.Prelude.{not}
 use Rattle.std.proofs.Math.Seq.{drop-cons, drop-append_seam, get_or-append_seam}
-use Rattle.std.proofs.lemmas.Bool.{true≢false, eqb-true, and_parts}
+use Rattle.std.proofs.lemmas.Bool.{eqb-true, and_parts}
 use Rattle.std.proofs.lemmas.List.{take-append-drop, take_all, length-drop, length-take-le, get_or-append-add}
-use Rattle.std.proofs.lemmas.List.Folds.{list_all-append}
 use Rattle.std.proofs.lemmas.List.Sums.{prefix_len-le-length}
-use Rattle.dlk_grammar.specs.declared.token.TokenKind.{TokenKind}
-use Rattle.dlk_grammar.specs.Tokens.{is_space}
-use Rattle.dlk_grammar.specs.Splits.{BeginsComment, EndsLine, at_end, at_feed, IsComment, Longest}
+use Rattle.dlk_grammar.specs.Splits.{BeginsComment, EndsLine, at_end, at_feed, IsComment}
 use Rattle.dlk_grammar.proofs.Splitting.{Piece, AtFront, front-comment, front-bad, same_rest, apart}
 use Rattle.dlk_lex.proofs.Fronts.{prefix_all}
 use Rattle.dlk_lex.proofs.Texts.{at_front, not_at_front}
@@ -62,11 +59,11 @@ module _ (bytes tail : List ℕ) where
       let parts : tail ≡ take n tail ++ (codes "*/" ++ drop (n + 2) tail) = sym (take-append-drop n tail) ∙ ap (λ (l : List ℕ). take n tail ++ l) (first ∙ ap (λ (l : List ℕ). 42 ∷ l) second) in
       let size : length (take n tail) ≡ n = length-take-le n tail (omega arith) in
       let none : (sooner after : List ℕ) → ¬ (take n tail ++ codes "*" ≡ sooner ++ (codes "*/" ++ after)) = λ sooner after f.
-          let w = end_at sooner (after ++ (codes "/" ++ drop (n + 2) tail)) in
-          let whole : tail ≡ sooner ++ (codes "*/" ++ (after ++ (codes "/" ++ drop (n + 2) tail))) =
-              parts ∙ (sym (append_assoc (take n tail) (codes "*") (codes "/" ++ drop (n + 2) tail)) ∙ (ap (λ (l : List ℕ). l ++ (codes "/" ++ drop (n + 2) tail)) f ∙ append_assoc sooner (codes "*/" ++ after) (codes "/" ++ drop (n + 2) tail))) in
-          let k : length sooner < n = omega (arith, ap length f, length-append (take n tail) (codes "*"), length-append sooner (codes "*/" ++ after), size) in
-          b.first (length sooner) k (ap (λ (l : List ℕ). get_or l (length sooner) 0) whole ∙ w.star) (ap (λ (l : List ℕ). get_or l (length sooner + 1) 0) whole ∙ w.slash) in
+      let w = end_at sooner (after ++ (codes "/" ++ drop (n + 2) tail)) in
+      let whole : tail ≡ sooner ++ (codes "*/" ++ (after ++ (codes "/" ++ drop (n + 2) tail))) =
+      parts ∙ (sym (append_assoc (take n tail) (codes "*") (codes "/" ++ drop (n + 2) tail)) ∙ (ap (λ (l : List ℕ). l ++ (codes "/" ++ drop (n + 2) tail)) f ∙ append_assoc sooner (codes "*/" ++ after) (codes "/" ++ drop (n + 2) tail))) in
+      let k : length sooner < n = omega (arith, ap length f, length-append (take n tail) (codes "*"), length-append sooner (codes "*/" ++ after), size) in
+      b.first (length sooner) k (ap (λ (l : List ℕ). get_or l (length sooner) 0) whole ∙ w.star) (ap (λ (l : List ℕ). get_or l (length sooner + 1) 0) whole ∙ w.slash) in
       gap_is (n + 4) (IsComment.block (take n tail) (drop (n + 2) tail) (e ∙ ap (λ (l : List ℕ). codes "/*" ++ l) parts) none) (omega (arith, length-append (take n tail) (codes "*/"), size))
 
   pub block_missing : bytes ≡ codes "/*" ++ tail → HasNoEnd tail → AtFront bytes Piece.Bad
@@ -102,5 +99,5 @@ line_found bytes tail n e same =
     let le = prefix_len-le-length is_no_feed tail in
     let size : length (take run tail) ≡ run = length-take-le run tail le in
     let none : (sooner after : List ℕ) → ¬ (take run tail ≡ sooner ++ 10 ∷ after) = λ sooner after f.
-        absurd (no_feed sooner after (ap (list_all is_no_feed) (sym f) ∙ prefix_all is_no_feed tail)) in
+    absurd (no_feed sooner after (ap (list_all is_no_feed) (sym f) ∙ prefix_all is_no_feed tail)) in
     gap_is (2 + n) (IsComment.line (take run tail) (drop run tail) (e ∙ ap (λ (l : List ℕ). codes "//" ++ l) (sym (take-append-drop run tail))) none (ends_line tail)) (omega (arith, size, same))

@@ -1,19 +1,17 @@
 -- The longest token at the front.
-use Rattle.std.proofs.Common.{◌≡◌, ℕ, zero, suc, ◌+◌, ◌-◌, ◌<◌, ◌≤◌, Bool, true, false, cond, ◌&&◌, ◌==◌, List, [], ◌∷◌, ◌++◌, length, take, drop, get_or, refl, sym, ap, subst, ◌∙◌, arith, length-append, codes}
+use Rattle.std.proofs.Common.{◌≡◌, ℕ, suc, ◌+◌, ◌-◌, ◌<◌, ◌≤◌, Bool, true, false, cond, ◌&&◌, ◌==◌, List, [], ◌∷◌, ◌++◌, length, take, drop, get_or, refl, sym, ap, subst, ◌∙◌, arith, length-append, codes}
 use Rattle.std.proofs.Math.Seq.{take-append_seam}
 use Rattle.std.proofs.lemmas.Bool.{and_parts}
 use Rattle.std.proofs.lemmas.List.{take-append-drop, length-take-le}
 use Rattle.std.proofs.lemmas.List.Sums.{prefix_len-le-length}
 use Rattle.std.specs.List.{list_all, prefix_len}
-use Rattle.std.specs.Prelude.{Option, None}
 use Rattle.dlk_tree.specs.Names.{is_letter, is_name_byte, is_word}
 use Rattle.dlk_grammar.specs.declared.token.TokenKind.{TokenKind}
 use Rattle.dlk_grammar.specs.declared.token.TokenKind.TheVariants as kind
 use Rattle.dlk_grammar.specs.declared.token.Mark.{Mark}
 use Rattle.dlk_grammar.specs.Tokens.{is_space, is_digit, spelling, Spells, dot, hole, a_mark}
-use Rattle.dlk_grammar.specs.Splits.{Longest}
 use Rattle.dlk_grammar.proofs.Spelled.{Class, first_class, class, Letter, Point, Under, Space, Other, Shape, shape_at, letter_class, space_class, spelled_some}
-use Rattle.dlk_lex.specs.Fronts.{IsFrontMark, HasNoMark, StandsInFront, IsToken}
+use Rattle.dlk_lex.specs.Fronts.{IsFrontMark, StandsInFront}
 
 pub prefix_all : {X : Type 0} (p : X → Bool) (bs : List X) → list_all p (take (prefix_len p bs) bs) ≡ true
 prefix_all p [] = refl
@@ -85,12 +83,6 @@ dot_front bytes le e f low high = stands bytes 3 (kind.Dot (get_or bytes 2 0 - 4
         let small : d - 48 < 8 = omega arith in
         rw (e, f) (subst (λ (x : ℕ). Spells (codes "._" ++ x ∷ []) (kind.Dot (d - 48))) back (dot (d - 48) small))
 
--- the parts of a dot at the front
-pub no_dot : (bytes : List ℕ) → get_or bytes 0 0 ≡ 46 → ((n : ℕ) (after : List ℕ) → n < 8 → bytes ≡ 46 ∷ 95 ∷ (48 + n) ∷ after → ⊥) → IsToken bytes None
-no_dot bytes e none = λ s k l.
-    let w = shape_here bytes s l.rest Point (point_class bytes e) l.front l.spells in
-    none w.0 l.rest w.1 (l.front ∙ ap (λ (x : List ℕ). x ++ l.rest) w.2)
-
 pub hole_front : (bytes : List ℕ) → get_or bytes 0 0 ≡ 95 → StandsInFront bytes (kind.Hole, 1)
 hole_front [] e = absurd (omega arith)
 hole_front (b ∷ bs) e = stands (b ∷ bs) 1 kind.Hole (omega arith) (rw e hole) (λ s after other f p.
@@ -110,11 +102,6 @@ module _ (bytes : List ℕ) (no_letter : is_letter (get_or bytes 0 0) ≡ false)
       let le : length (spelling m) ≤ length bytes = omega (arith, ap length f.front, length-append (spelling m) f.rest) in
       let same : take (length (spelling m)) bytes ≡ spelling m = ap (take (length (spelling m))) f.front ∙ take-append_seam (spelling m) f.rest in
       stands bytes (length (spelling m)) (kind.Mark m) le (subst (λ (l : List ℕ). Spells l (kind.Mark m)) (sym same) (a_mark m)) (λ s after other e p.
-          let w = some_mark s after other e p in
-          let most = f.longest w.0 after (e ∙ ap (λ (l : List ℕ). l ++ after) w.1) in
-          omega (arith, ap length w.1))
-
-  pub no_front : HasNoMark bytes → IsToken bytes None
-  no_front none = λ s k l.
-      let w = some_mark s l.rest k l.front l.spells in
-      none w.0 l.rest (l.front ∙ ap (λ (x : List ℕ). x ++ l.rest) w.1)
+      let w = some_mark s after other e p in
+      let most = f.longest w.0 after (e ∙ ap (λ (l : List ℕ). l ++ after) w.1) in
+      omega (arith, ap length w.1))

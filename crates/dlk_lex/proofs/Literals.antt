@@ -1,14 +1,14 @@
 -- The literal at the front.
-use Rattle.std.proofs.Common.{◌≡◌, ◌≢◌, ℕ, zero, suc, ◌+◌, ◌-◌, ◌*◌, ◌^◌, ◌<◌, ◌≤◌, Bool, true, false, cond, ◌&&◌, ◌==◌, nat_le, List, [], ◌∷◌, ◌++◌, length, take, drop, get_or, refl, sym, ap, subst, ◌∙◌, ◌⊎◌, inl, inr, arith, lit<, codes, append_assoc, length-append, if◌then◌else◌}
+use Rattle.std.proofs.Common.{◌≡◌, ◌≢◌, ℕ, zero, suc, ◌+◌, ◌-◌, ◌*◌, ◌^◌, ◌<◌, ◌≤◌, Bool, true, false, cond, ◌==◌, List, [], ◌∷◌, ◌++◌, length, take, drop, get_or, refl, sym, ap, subst, ◌∙◌, ◌⊎◌, inl, inr, arith, lit<, codes, append_assoc, length-append, if◌then◌else◌}
 use Rattle.std.specs.List.{list_all, prefix_len, fold}
 use Rattle.std.proofs.Math.Nat.{pow-le-pow_right, pow-succ', one-le-pow}
 use Rattle.std.proofs.Math.Seq.{take-append_seam, drop-append_seam}
-use Rattle.std.proofs.lemmas.Bool.{and_parts, leb-true, le-leb, lt-leb, ne_eqb, eqb-true, cases_lt}
-use Rattle.std.proofs.lemmas.List.{take-append-drop, length-take-le, length-drop, drop-drop, take_more, take_all}
+use Rattle.std.proofs.lemmas.Bool.{and_parts, leb-true, ne_eqb, eqb-true, cases_lt}
+use Rattle.std.proofs.lemmas.List.{take-append-drop, length-take-le, drop-drop, take_more}
 use Rattle.std.proofs.lemmas.List.Sums.{prefix_len-le-length}
 use Rattle.dlk_grammar.specs.declared.token.TokenKind.{TokenKind}
-use Rattle.dlk_grammar.specs.Tokens.{is_digit, are_digits, value, before_digits, trimmed, Spells, integer, decimal, long_integer, long_decimal}
-use Rattle.dlk_grammar.proofs.Real.{value_below, trimmed_is, trimmed_short, digits_trimmed, digits_some}
+use Rattle.dlk_grammar.specs.Tokens.{is_digit, are_digits, before_digits, trimmed, Spells, integer, decimal, long_integer, long_decimal}
+use Rattle.dlk_grammar.proofs.Real.{value_below, trimmed_is, digits_trimmed, digits_some}
 use Rattle.dlk_grammar.proofs.Spelled.{Digit, digit_class, IsLiteral, whole, pointed, literal_kind, number_kind, long_kind, digits_all}
 use Rattle.dlk_lex.proofs.Fronts.{prefix_all, prefix_most, stands, shape_here}
 use Rattle.dlk_lex.specs.Fronts.{fraction_len, StandsInFront}
@@ -137,7 +137,7 @@ module _ (bytes : List ℕ) (first : is_digit (get_or bytes 0 0) ≡ true) where
       let run : are_digits (take n bytes) ≡ true = rw same (run_is_digits bytes (run_some bytes first)) in
       let no : fraction_len (drop (prefix_len is_digit bytes) bytes) ≡ 0 = ap (λ (m : ℕ). fraction_len (drop m bytes)) (sym same) ∙ none in
       stands bytes n (literal_kind (take n bytes) []) (omega (arith, prefix_len-le-length is_digit bytes)) (spells_whole (take n bytes) run) (λ s after other e p.
-          elim (literal_most bytes s after (literal_here s after other e p) e) [ inl le ↦ omega arith | inr w ↦ absurd (omega (arith, w.0)) ])
+      elim (literal_most bytes s after (literal_here s after other e p) e) [ inl le ↦ omega arith | inr w ↦ absurd (omega (arith, w.0)) ])
 
   -- the literal has a point
   pub pointed_front : (n f m : ℕ) → n ≡ prefix_len is_digit bytes → f ≡ fraction_len (drop n bytes) → f ≢ 0 → m ≡ n + 1 + f
@@ -153,10 +153,12 @@ module _ (bytes : List ℕ) (first : is_digit (get_or bytes 0 0) ≡ true) where
       let s = take n bytes ++ (codes "." ++ take f (drop (n + 1) bytes)) in
       let split : drop (n + 1) bytes ≡ take f (drop (n + 1) bytes) ++ drop f (drop (n + 1) bytes) = sym (take-append-drop f (drop (n + 1) bytes)) in
       let parts : bytes ≡ s ++ drop f (drop (n + 1) bytes) =
-          sym (take-append-drop n bytes) ∙ (ap (λ (l : List ℕ). take n bytes ++ l) (w.0 ∙ ap (λ (l : List ℕ). codes "." ++ l) split) ∙ sym (append_assoc (take n bytes) (codes "." ++ take f (drop (n + 1) bytes)) (drop f (drop (n + 1) bytes)))) in
+      sym (take-append-drop n bytes) ∙ (ap (λ (l : List ℕ). take n bytes ++ l) (w.0 ∙ ap (λ (l : List ℕ). codes "." ++ l) split) ∙ sym (append_assoc (take n bytes) (codes "." ++ take f (drop (n + 1) bytes)) (drop f (drop (n + 1) bytes)))) in
       let size : length s ≡ m = omega (arith, length-append (take n bytes) (codes "." ++ take f (drop (n + 1) bytes)), length-take-le n bytes low, length-take-le f (drop (n + 1) bytes) high) in
       let front : take m bytes ≡ s = ap (λ (k : ℕ). take k bytes) (sym size) ∙ (ap (take (length s)) parts ∙ take-append_seam s (drop f (drop (n + 1) bytes))) in
       let le : m ≤ length bytes = omega (arith, ap length parts, length-append s (drop f (drop (n + 1) bytes))) in
-      let run-is : fraction_len (drop (prefix_len is_digit bytes) bytes) ≡ f = ap (λ (k : ℕ). fraction_len (drop k bytes)) (sym same) ∙ sym count in
-      (le, stands bytes m (literal_kind (take n bytes) (take f (drop (n + 1) bytes))) le (rw front (spells_pointed (take n bytes) (take f (drop (n + 1) bytes)) run more)) (λ x after other e p.
-          elim (literal_most bytes x after (literal_here x after other e p) e) [ inl short ↦ omega arith | inr v ↦ omega (arith, v.1) ]))
+      let run-is : fraction_len (drop (prefix_len is_digit bytes) bytes) ≡ f = ap (λ (k : ℕ). fraction_len (drop k bytes)) (sym same) ∙ sym count in (
+        le,
+        stands bytes m (literal_kind (take n bytes) (take f (drop (n + 1) bytes))) le (rw front (spells_pointed (take n bytes) (take f (drop (n + 1) bytes)) run more)) (λ x after other e p.
+            elim (literal_most bytes x after (literal_here x after other e p) e) [ inl short ↦ omega arith | inr v ↦ omega (arith, v.1) ]),
+      )

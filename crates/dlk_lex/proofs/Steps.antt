@@ -1,6 +1,6 @@
 -- What is at the front, and one step of the split over it.
-use Rattle.std.proofs.Common.{◌≡◌, ℕ, ◌+◌, ◌-◌, ◌<◌, ◌≤◌, true, false, List, [], ◌∷◌, ◌++◌, length, take, drop, get_or, refl, sym, ap, subst, ◌∙◌, append_assoc, add-one, arith, codes, length-append}
-use Rattle.std.specs.Prelude.{Option, None}
+use Rattle.std.proofs.Common.{◌≡◌, ℕ, ◌+◌, ◌-◌, ◌<◌, ◌≤◌, true, false, List, [], ◌∷◌, ◌++◌, length, take, drop, get_or, refl, sym, ap, subst, ◌∙◌, append_assoc, arith}
+use Rattle.std.specs.Prelude.{None}
 use Rattle.std.proofs.Math.Seq.{drop-cons}
 use Rattle.std.proofs.lemmas.List.{drop_all, take-append-drop, length-take-le, length-drop, drop-drop, take_all}
 use Rattle.dlk_grammar.specs.declared.token.Token.{Token}
@@ -77,27 +77,31 @@ module _ (bytes : List ℕ) (at : ℕ) (out : List Token) (reached : Reached byt
   pub past_gap : (n : ℕ) → (n ≤ length rest) × AtFront rest (Piece.Gap n (drop n rest)) → (0 < n) × Reached bytes (at + n) out
   past_gap n f =
       let le : at + n ≤ length bytes = omega (arith, f.0, ap length same, length-drop at bytes, reached.within) in
-      let behind : drop n rest ≡ drop (at + n) bytes = ap (drop n) same ∙ drop-drop n at bytes in
-      (moves f.1, record {
-        within = le;
-        found = λ ts s. reached.found ts (subst (λ (l : List ℕ). Splits at l ts) same (go_on f.1 (subst (λ (l : List ℕ). Splits (at + n) l ts) (sym behind) s)));
-        bad = λ b s. reached.bad b (subst (λ (l : List ℕ). BadAt at l b) same (go_bad f.1 (subst (λ (l : List ℕ). BadAt (at + n) l b) (sym behind) s)));
-      })
+      let behind : drop n rest ≡ drop (at + n) bytes = ap (drop n) same ∙ drop-drop n at bytes in (
+        moves f.1,
+        record {
+          within = le;
+          found = λ ts s. reached.found ts (subst (λ (l : List ℕ). Splits at l ts) same (go_on f.1 (subst (λ (l : List ℕ). Splits (at + n) l ts) (sym behind) s)));
+          bad = λ b s. reached.bad b (subst (λ (l : List ℕ). BadAt at l b) same (go_bad f.1 (subst (λ (l : List ℕ). BadAt (at + n) l b) (sym behind) s)));
+        },
+      )
 
   pub past_token : (n : ℕ) (k : TokenKind) → (n ≤ length rest) × AtFront rest (Piece.One (take n rest) k (drop n rest)) → (0 < n) × Reached bytes (at + n) (out ++ token k at (at + n) ∷ [])
   past_token n k f =
       let le : at + n ≤ length bytes = omega (arith, f.0, ap length same, length-drop at bytes, reached.within) in
       let behind : drop n rest ≡ drop (at + n) bytes = ap (drop n) same ∙ drop-drop n at bytes in
       let size : length (take n rest) ≡ n = length-take-le n rest f.0 in
-      let some : 0 < length (take n rest) = moves f.1 in
-      (omega arith, record {
-        within = le;
-        found = λ ts s. subst (Splits 0 bytes) (sym (append_assoc out (token k at (at + n) ∷ []) ts))
-            (reached.found (token k at (at + n) ∷ ts) (subst (λ (l : List ℕ). Splits at l (token k at (at + n) ∷ ts)) same
-            (go_on f.1 (ts, ap (λ (m : ℕ). token k at (at + m) ∷ ts) (sym size), subst (λ (m : ℕ). Splits (at + m) (drop n rest) ts) (sym size) (subst (λ (l : List ℕ). Splits (at + n) l ts) (sym behind) s)))));
-        bad = λ b s. reached.bad b (subst (λ (l : List ℕ). BadAt at l b) same
-            (go_bad f.1 (subst (λ (m : ℕ). BadAt (at + m) (drop n rest) b) (sym size) (subst (λ (l : List ℕ). BadAt (at + n) l b) (sym behind) s))));
-      })
+      let some : 0 < length (take n rest) = moves f.1 in (
+        omega arith,
+        record {
+          within = le;
+          found = λ ts s. subst (Splits 0 bytes) (sym (append_assoc out (token k at (at + n) ∷ []) ts))
+              (reached.found (token k at (at + n) ∷ ts) (subst (λ (l : List ℕ). Splits at l (token k at (at + n) ∷ ts)) same
+              (go_on f.1 (ts, ap (λ (m : ℕ). token k at (at + m) ∷ ts) (sym size), subst (λ (m : ℕ). Splits (at + m) (drop n rest) ts) (sym size) (subst (λ (l : List ℕ). Splits (at + n) l ts) (sym behind) s)))));
+          bad = λ b s. reached.bad b (subst (λ (l : List ℕ). BadAt at l b) same
+              (go_bad f.1 (subst (λ (m : ℕ). BadAt (at + m) (drop n rest) b) (sym size) (subst (λ (l : List ℕ). BadAt (at + n) l b) (sym behind) s))));
+        },
+      )
 
   pub stuck : AtFront rest Piece.Bad → BadAt 0 bytes at
   stuck f = reached.bad at (subst (λ (l : List ℕ). BadAt at l at) same (go_bad f refl))

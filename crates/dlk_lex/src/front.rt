@@ -1,7 +1,7 @@
 //! What is at the front of bytes.
 ghost use Rattle.std.specs.Prelude.{◌≡◌, ◌<◌, IsTrue, IfOk, IfSome, IfNone, length, slice_index, codes, nat_eq};
 ghost use Rattle.std.specs.List.{starts_with};
-ghost use Rattle.dlk_tree.specs.Names.{is_word};
+ghost use Rattle.dlk_tree.specs.Names.{is_between, is_word};
 ghost use Rattle.dlk_grammar.specs.Tokens.{Spells};
 ghost use Rattle.dlk_lex.specs.Fronts.{EndsBlock, HasNoEnd, IsToken, IsPiece};
 
@@ -40,12 +40,18 @@ fn word(alloc: Global, bytes: &[u8]) -> Result<TokenKind, AllocError>
     }
 }
 
+fn is_dot_digit(b: u8) -> bool
+    ensures { result ≡ is_between 48 55 b }
+{
+    matches!(b, b'0'..=b'7')
+}
+
 /// The dot at the front of bytes that begin with a point, and how many bytes it has.
 fn dot(bytes: &[u8]) -> Option<(TokenKind, usize)>
     requires { slice_index bytes.now 0 ≡ 46 }
     ensures { IsToken bytes.now result }
 {
-    if bytes.len() < 3 || bytes[1] != b'_' || bytes[2] < b'0' || bytes[2] > b'7' {
+    if bytes.len() < 3 || bytes[1] != b'_' || !is_dot_digit(bytes[2]) {
         return None;
     }
     Some((TokenKind::Dot(bytes[2] - b'0'), 3))
@@ -81,12 +87,10 @@ fn before_end(bytes: &[u8]) -> Option<usize>
     ensures found { IfSome result (EndsBlock bytes.now) }
     ensures none { IfNone result (HasNoEnd bytes.now) }
 {
-    let mut n = 1;
-    while n < bytes.len() {
+    for n in 1..bytes.len() {
         if bytes[n - 1] == b'*' && bytes[n] == b'/' {
             return Some(n - 1);
         }
-        n += 1;
     }
     None
 }

@@ -4,11 +4,12 @@ ghost use Rattle.dlk_grammar.specs.Splits.{Splits, BadAt};
 ghost use Rattle.dlk_lex.specs.Faults.{IsFaultOf};
 
 use crate::fault::LexFault;
-use crate::front::{front, Piece};
+use crate::front::{Piece, front};
 use dlk_grammar::{Token, TokenKind};
 use std::alloc::Global;
 
-/// The tokens of the bytes, with the end. Spaces and comments separate tokens, and at each place the longest token is taken.
+/// The tokens of the bytes, and the end as the last of them. Spaces and comments separate tokens, and at each place the
+/// longest token is taken.
 ///
 /// `BadByte` comes exactly where the split comes to a byte at which no token, space or whole comment begins, and `Memory`
 /// when memory runs out.

@@ -1,6 +1,6 @@
-use Rattle.std.proofs.Common.{◌≡◌, ◌∙◌, sym, get_or}
+use Rattle.std.proofs.Common.{◌∙◌, sym, get_or}
 use Rattle.std.proofs.lemmas.Bool.{ne_eqb}
-use Rattle.dlk_lex.proofs.Fronts.{run_is_word, word_front, hole_front, mark_front, no_front}
+use Rattle.dlk_lex.proofs.Fronts.{run_is_word, word_front, hole_front, mark_front}
 use Rattle.dlk_lex.proofs.front.token.Goals as goal
 
 pub word-requires : goal.word-requires

@@ -1,7 +1,4 @@
-use Rattle.std.proofs.Common.{◌≡◌, ◌∙◌, eqb, sym, ap, below_more, get_or}
-use Rattle.std.specs.List.{starts_with}
-use Rattle.dlk_grammar.specs.declared.token.Mark.TheVariants as mark
-use Rattle.dlk_grammar.specs.Tokens.{spelling}
+use Rattle.std.proofs.Common.{◌∙◌, sym, below_more}
 use Rattle.dlk_lex.proofs.FrontMarks.{mark_found, mark_missing}
 use Rattle.dlk_lex.proofs.marks.front_mark.Goals as goal
 

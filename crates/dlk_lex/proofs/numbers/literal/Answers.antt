@@ -1,4 +1,4 @@
-use Rattle.std.proofs.Common.{◌-◌, ◌∙◌, ap, length, arith}
+use Rattle.std.proofs.Common.{◌-◌, ap, length, arith}
 use Rattle.dlk_grammar.proofs.Real.{trimmed_short}
 use Rattle.dlk_lex.proofs.Literals.{room_for, room_behind, trimmed_digits}
 use Rattle.dlk_lex.proofs.numbers.literal.Goals as goal

@@ -1,4 +1,4 @@
-use Rattle.std.proofs.Common.{◌≡◌, ◌≢◌, ◌+◌, ◌-◌, take, drop, length, refl, sym, ap, ◌∙◌, arith}
+use Rattle.std.proofs.Common.{◌≡◌, ◌+◌, ◌-◌, refl, sym, ap, ◌∙◌, arith}
 use Rattle.dlk_grammar.specs.Tokens.{is_digit}
 use Rattle.dlk_lex.proofs.Fronts.{prefix_all}
 use Rattle.dlk_lex.proofs.Literals.{whole_front, pointed_front, fraction_digits}

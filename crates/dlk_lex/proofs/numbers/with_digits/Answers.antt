@@ -1,4 +1,4 @@
-use Rattle.std.proofs.Common.{◌≡◌, ℕ, ◌+◌, ◌-◌, ◌*◌, ◌≤◌, ◌∙◌, refl, length, get_or, ap, arith}
+use Rattle.std.proofs.Common.{◌≡◌, ℕ, ◌+◌, ◌-◌, ◌*◌, refl, length, arith}
 use Rattle.std.proofs.lemmas.List.Sums.{fold_more}
 use Rattle.dlk_lex.proofs.Literals.{digit_more, below_more, digit_at}
 use Rattle.dlk_lex.proofs.numbers.with_digits.Goals as goal
