@@ -4,3 +4,15 @@ pub mod Parse
 pub mod Sequents
 pub mod Expressions
 pub mod Examples
+pub mod Opening
+pub mod Climb
+pub mod Firsts
+pub mod Only
+pub mod Spelled
+pub mod Found
+pub mod Live
+pub mod Parsing
+pub mod Reading
+pub mod ExpressionLaws
+pub mod SequentLaws
+pub mod ParseLaws
