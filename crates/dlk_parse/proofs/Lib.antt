@@ -1,0 +1,3 @@
+pub mod PhraseParts
+pub mod Stacked
+pub mod Measuring

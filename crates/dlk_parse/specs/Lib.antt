@@ -1,2 +1,5 @@
 pub mod Faults
 pub mod Codes
+pub mod Measures
+pub mod Stacks
+pub mod Measuring

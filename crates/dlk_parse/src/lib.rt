@@ -3,5 +3,6 @@
 
 mod code;
 mod fault;
+mod measures;
 
 pub use fault::{ParseFault, TextFault};
