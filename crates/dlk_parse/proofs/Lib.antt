@@ -1,3 +1,4 @@
 pub mod PhraseParts
 pub mod Stacked
 pub mod Measuring
+pub mod Nodes

@@ -143,7 +143,7 @@ pub data View : Phrase → Type 0 where
   over : {p : Phrase} (c : Code) (o : Op) → IsOver p c o → View p
   noted : (p : Phrase) (l : Phrases) → View (Noted p l)
 
-same_some : {a b : Op} → Some a ≡ Some b → a ≡ b
+pub same_some : {a b : Op} → Some a ≡ Some b → a ≡ b
 same_some e = cc
 
 system_sorts : (n : ℕ) → n + 1 ≡ length (replicate n sort_of.Term ++ sort_of.Formula ∷ [])

@@ -3,3 +3,5 @@ pub mod Codes
 pub mod Measures
 pub mod Stacks
 pub mod Measuring
+pub mod Made
+pub mod Making

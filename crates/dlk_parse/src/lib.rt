@@ -3,6 +3,7 @@
 
 mod code;
 mod fault;
+mod making;
 mod measures;
 
 pub use fault::{ParseFault, TextFault};
