@@ -16,3 +16,6 @@ pub mod Reading
 pub mod ExpressionLaws
 pub mod SequentLaws
 pub mod ParseLaws
+pub mod Formed
+pub mod TextLaws
+pub mod SomeText
