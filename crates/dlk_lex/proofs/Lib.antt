@@ -1,0 +1,6 @@
+pub mod Texts
+pub mod FrontMarks
+pub mod Comments
+pub mod Fronts
+pub mod Literals
+pub mod Steps

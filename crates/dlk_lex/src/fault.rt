@@ -7,8 +7,8 @@ use thiserror::Error;
 /// Why bytes were not split.
 #[derive(Clone, Copy, Debug, PartialEq, Eq, Error)]
 pub enum LexFault {
-    /// The byte to which the split comes and at which no token that is read so far and no white space begins.
-    #[error("byte {at} begins no token that is read so far")]
+    /// The first byte at which no token, space or whole comment begins.
+    #[error("at byte {at} no token, space or whole comment begins")]
     BadByte { at: usize },
     #[error("out of memory")]
     Memory,

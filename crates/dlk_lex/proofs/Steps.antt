@@ -1,0 +1,110 @@
+-- What is at the front, and one step of the split over it.
+use Rattle.std.proofs.Common.{◌≡◌, ℕ, ◌+◌, ◌-◌, ◌<◌, ◌≤◌, true, false, List, [], ◌∷◌, ◌++◌, length, take, drop, get_or, refl, sym, ap, subst, ◌∙◌, append_assoc, add-one, arith, codes, length-append}
+use Rattle.std.specs.Prelude.{Option, None}
+use Rattle.std.proofs.Math.Seq.{drop-cons}
+use Rattle.std.proofs.lemmas.List.{drop_all, take-append-drop, length-take-le, length-drop, drop-drop, take_all}
+use Rattle.dlk_grammar.specs.declared.token.Token.{Token}
+use Rattle.dlk_grammar.specs.declared.token.TokenKind.{TokenKind}
+use Rattle.dlk_grammar.specs.declared.token.TokenKind.TheVariants.{End}
+use Rattle.dlk_grammar.specs.Tokens.{is_space}
+use Rattle.dlk_grammar.specs.Splits.{token, BeginsComment, IsComment, Splits, ended, space, comment, one, BadAt, here, after_space, after_comment, after_one}
+use Rattle.dlk_grammar.proofs.Spelled.{spelled_some}
+use Rattle.dlk_grammar.proofs.Splitting.{Piece, AtFront, front-ended, front-space, front-comment, front-one, front-bad, SplitsBehind, BadBehind, comment_begins}
+use Rattle.dlk_lex.specs.Fronts.{StandsInFront, IsToken}
+
+module _ (bytes : List ℕ) (some : 0 < length bytes) where
+  first_is : bytes ≡ get_or bytes 0 0 ∷ drop 1 bytes
+  first_is = drop-cons bytes 0 0 some
+
+  pub space_piece : is_space (get_or bytes 0 0) ≡ true → (1 ≤ length bytes) × AtFront bytes (Piece.Gap 1 (drop 1 bytes))
+  space_piece h = (omega arith, front-space (get_or bytes 0 0) (drop 1 bytes) first_is h)
+
+  pub token_piece : (n : ℕ) (k : TokenKind) → ¬ BeginsComment bytes → StandsInFront bytes (k, n) → (n ≤ length bytes) × AtFront bytes (Piece.One (take n bytes) k (drop n bytes))
+  token_piece n k none f = (f.within, front-one (take n bytes) (drop n bytes) k (sym (take-append-drop n bytes)) none f.is)
+
+  pub no_piece : is_space (get_or bytes 0 0) ≡ false → ¬ BeginsComment bytes → IsToken bytes None → AtFront bytes Piece.Bad
+  no_piece h none missing = front-bad (get_or bytes 0 0) (drop 1 bytes) (record {
+    bytes_are = first_is;
+    no_space = h;
+    no_comment = λ s after c. none (comment_begins c);
+    no_token = λ s k l. absurd (missing s k l);
+  })
+
+-- a split goes on over what is at the front, and so does the way to a bad place
+go_on : {at : ℕ} {bytes : List ℕ} {ts : List Token} {p : Piece} → AtFront bytes p → SplitsBehind at ts p → Splits at bytes ts
+go_on {at} {bytes} (front-ended e) s = subst (Splits at bytes) (sym s) (ended e)
+go_on (front-space b rest e h) s = space b rest e h s
+go_on (front-comment c rest e) s = comment c rest e s
+go_on {at} {bytes} (front-one w rest k e n l) s = subst (Splits at bytes) (sym s.1) (one w rest k e n l s.2)
+go_on (front-bad b rest n) s = absurd s
+
+go_bad : {at bad : ℕ} {bytes : List ℕ} {p : Piece} → AtFront bytes p → BadBehind at bad p → BadAt at bytes bad
+go_bad (front-ended e) s = absurd s
+go_bad (front-space b rest e h) s = after_space b rest e h s
+go_bad (front-comment c rest e) s = after_comment c rest e s
+go_bad (front-one w rest k e n l) s = after_one w rest k e n l s
+go_bad {at} {bad} {bytes} (front-bad b rest n) s = subst (BadAt at bytes) (sym s) (here b rest n)
+
+-- each step goes forward
+abbrev Moves : Piece → Type 0
+Moves Piece.Ended = Unit {0}
+Moves (Piece.Gap n rest) = 0 < n
+Moves (Piece.One s k rest) = 0 < length s
+Moves Piece.Bad = Unit {0}
+
+comment_some : {bytes s rest : List ℕ} → IsComment bytes s rest → 0 < length s
+comment_some (IsComment.block inside rest e n) = omega arith
+comment_some (IsComment.line inside rest e n x) = omega arith
+
+moves : {bytes : List ℕ} {p : Piece} → AtFront bytes p → Moves p
+moves (front-ended e) = tt
+moves (front-space b rest e h) = omega arith
+moves (front-comment s rest c) = comment_some c
+moves (front-one [] rest k e n l) = absurd (spelled_some l.spells refl)
+moves (front-one (b ∷ s) rest k e n l) = omega arith
+moves (front-bad b rest n) = tt
+
+-- The bytes before a place split into the tokens so far.
+pub record Reached (bytes : List ℕ) (at : ℕ) (out : List Token) : Type 0 where
+  pub within : at ≤ length bytes
+  pub found : (ts : List Token) → Splits at (drop at bytes) ts → Splits 0 bytes (out ++ ts)
+  pub bad : (b : ℕ) → BadAt at (drop at bytes) b → BadAt 0 bytes b
+
+pub start : (bytes : List ℕ) → Reached bytes 0 []
+start bytes = record { within = omega arith; found = λ ts s. s; bad = λ b h. h }
+
+module _ (bytes : List ℕ) (at : ℕ) (out : List Token) (reached : Reached bytes at out) (rest : List ℕ) (same : rest ≡ drop at bytes) where
+  pub past_gap : (n : ℕ) → (n ≤ length rest) × AtFront rest (Piece.Gap n (drop n rest)) → (0 < n) × Reached bytes (at + n) out
+  past_gap n f =
+      let le : at + n ≤ length bytes = omega (arith, f.0, ap length same, length-drop at bytes, reached.within) in
+      let behind : drop n rest ≡ drop (at + n) bytes = ap (drop n) same ∙ drop-drop n at bytes in
+      (moves f.1, record {
+        within = le;
+        found = λ ts s. reached.found ts (subst (λ (l : List ℕ). Splits at l ts) same (go_on f.1 (subst (λ (l : List ℕ). Splits (at + n) l ts) (sym behind) s)));
+        bad = λ b s. reached.bad b (subst (λ (l : List ℕ). BadAt at l b) same (go_bad f.1 (subst (λ (l : List ℕ). BadAt (at + n) l b) (sym behind) s)));
+      })
+
+  pub past_token : (n : ℕ) (k : TokenKind) → (n ≤ length rest) × AtFront rest (Piece.One (take n rest) k (drop n rest)) → (0 < n) × Reached bytes (at + n) (out ++ token k at (at + n) ∷ [])
+  past_token n k f =
+      let le : at + n ≤ length bytes = omega (arith, f.0, ap length same, length-drop at bytes, reached.within) in
+      let behind : drop n rest ≡ drop (at + n) bytes = ap (drop n) same ∙ drop-drop n at bytes in
+      let size : length (take n rest) ≡ n = length-take-le n rest f.0 in
+      let some : 0 < length (take n rest) = moves f.1 in
+      (omega arith, record {
+        within = le;
+        found = λ ts s. subst (Splits 0 bytes) (sym (append_assoc out (token k at (at + n) ∷ []) ts))
+            (reached.found (token k at (at + n) ∷ ts) (subst (λ (l : List ℕ). Splits at l (token k at (at + n) ∷ ts)) same
+            (go_on f.1 (ts, ap (λ (m : ℕ). token k at (at + m) ∷ ts) (sym size), subst (λ (m : ℕ). Splits (at + m) (drop n rest) ts) (sym size) (subst (λ (l : List ℕ). Splits (at + n) l ts) (sym behind) s)))));
+        bad = λ b s. reached.bad b (subst (λ (l : List ℕ). BadAt at l b) same
+            (go_bad f.1 (subst (λ (m : ℕ). BadAt (at + m) (drop n rest) b) (sym size) (subst (λ (l : List ℕ). BadAt (at + n) l b) (sym behind) s))));
+      })
+
+  pub stuck : AtFront rest Piece.Bad → BadAt 0 bytes at
+  stuck f = reached.bad at (subst (λ (l : List ℕ). BadAt at l at) same (go_bad f refl))
+
+pub all_found : (bytes : List ℕ) (at : ℕ) (out : List Token) → Reached bytes at out → length bytes ≤ at → Splits 0 bytes (out ++ token End at at ∷ [])
+all_found bytes at out reached le = reached.found (token End at at ∷ []) (ended (drop_all at bytes le))
+
+-- what `&bytes[at..]` is
+pub rest_from : (bytes : List ℕ) (at : ℕ) → take (length bytes - at) (drop at bytes) ≡ drop at bytes
+rest_from bytes at = take_all (length bytes - at) (drop at bytes) (omega (arith, length-drop at bytes))

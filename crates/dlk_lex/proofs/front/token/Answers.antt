@@ -1,0 +1,20 @@
+use Rattle.std.proofs.Common.{◌≡◌, ◌∙◌, sym, get_or}
+use Rattle.std.proofs.lemmas.Bool.{ne_eqb}
+use Rattle.dlk_lex.proofs.Fronts.{run_is_word, word_front, hole_front, mark_front, no_front}
+use Rattle.dlk_lex.proofs.front.token.Goals as goal
+
+pub word-requires : goal.word-requires
+word-requires c = rw c.word_run-n.ensures.count (run_is_word c.args.bytes.now (sym c.is_letter.ensures ∙ c.if-is_letter.true))
+
+pub returns-then-is_letter : goal.returns-then-is_letter
+returns-then-is_letter c =
+    let spells = rw c.word_run-n.ensures.count at c.in_ok-word.ensures in
+    rw c.word_run-n.ensures.count (word_front c.args.bytes.now c.in_ok-word.field-0 (sym c.is_letter.ensures ∙ c.if-is_letter.true) spells)
+
+pub returns-then-first-eq95 : goal.returns-then-first-eq95
+returns-then-first-eq95 c = hole_front c.args.bytes.now c.if-first-eq95.true
+
+pub returns : goal.returns
+returns c =
+    rw c.spelling.ensures (mark_front c.args.bytes.now (sym c.is_letter.ensures ∙ c.if-is_letter.false) (sym c.is_digit.ensures ∙ c.if-is_digit.false) (ne_eqb (get_or c.args.bytes.now 0 0) 46 c.if-first-eq46.false) (ne_eqb (get_or c.args.bytes.now 0 0) 95 c.if-first-eq95.false)
+    c.in-Some.mark c.in-Some.ensures.found)

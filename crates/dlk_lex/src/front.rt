@@ -1,0 +1,131 @@
+//! What is at the front of bytes.
+ghost use Rattle.std.specs.Prelude.{◌≡◌, ◌<◌, IsTrue, IfOk, IfSome, IfNone, length, slice_index, codes, nat_eq};
+ghost use Rattle.std.specs.List.{starts_with};
+ghost use Rattle.dlk_tree.specs.Names.{is_word};
+ghost use Rattle.dlk_grammar.specs.Tokens.{Spells};
+ghost use Rattle.dlk_lex.specs.Fronts.{EndsBlock, HasNoEnd, IsToken, IsPiece};
+
+use crate::bytes::{is_digit, is_letter, is_space, line_run, word_run};
+use crate::marks::{front_mark, spelling};
+use crate::numbers::number;
+use dlk_grammar::TokenKind;
+use dlk_tree::{Name, NameFault};
+use std::alloc::{AllocError, Global};
+
+/// What is at the front, and how many bytes it has.
+#[derive(Drop)]
+pub(crate) enum Piece {
+    /// A space or a comment.
+    Gap(usize),
+    Token(TokenKind, usize),
+    /// No token, space or whole comment.
+    Nothing,
+}
+
+/// A word as a token.
+fn word(alloc: Global, bytes: &[u8]) -> Result<TokenKind, AllocError>
+    requires { IsTrue (is_word bytes.now) }
+    ensures { IfOk result (Spells bytes.now) }
+{
+    if bytes == b"true".as_slice() {
+        return Ok(TokenKind::True);
+    }
+    if bytes == b"false".as_slice() {
+        return Ok(TokenKind::False);
+    }
+    match Name::new(alloc, bytes) {
+        Ok(name) => Ok(TokenKind::Word(name)),
+        Err(NameFault::Memory) => Err(AllocError),
+        Err(NameFault::NotAName) => unreachable!(),
+    }
+}
+
+/// The dot at the front of bytes that begin with a point, and how many bytes it has.
+fn dot(bytes: &[u8]) -> Option<(TokenKind, usize)>
+    requires { slice_index bytes.now 0 ≡ 46 }
+    ensures { IsToken bytes.now result }
+{
+    if bytes.len() < 3 || bytes[1] != b'_' || bytes[2] < b'0' || bytes[2] > b'7' {
+        return None;
+    }
+    Some((TokenKind::Dot(bytes[2] - b'0'), 3))
+}
+
+/// The longest token at the front, and how many bytes it has.
+fn token(alloc: Global, bytes: &[u8]) -> Result<Option<(TokenKind, usize)>, AllocError>
+    requires { 0 < length bytes.now }
+    ensures { IfOk result (IsToken bytes.now) }
+{
+    let first = bytes[0];
+    if is_letter(first) {
+        let n = word_run(bytes);
+        return Ok(Some((word(alloc, &bytes[..n])?, n)));
+    }
+    if is_digit(first) {
+        return Ok(Some(number(bytes)));
+    }
+    if first == b'.' {
+        return Ok(dot(bytes));
+    }
+    if first == b'_' {
+        return Ok(Some((TokenKind::Hole, 1)));
+    }
+    let Some(mark) = front_mark(bytes) else {
+        return Ok(None);
+    };
+    Ok(Some((TokenKind::Mark(mark), spelling(mark).len())))
+}
+
+/// How many bytes are before the first `*/`.
+fn before_end(bytes: &[u8]) -> Option<usize>
+    ensures found { IfSome result (EndsBlock bytes.now) }
+    ensures none { IfNone result (HasNoEnd bytes.now) }
+{
+    let mut n = 1;
+    while n < bytes.len() {
+        if bytes[n - 1] == b'*' && bytes[n] == b'/' {
+            return Some(n - 1);
+        }
+        n += 1;
+    }
+    None
+}
+
+/// The comment at the front of bytes that begin with `/*`.
+fn block(bytes: &[u8]) -> Piece
+    requires { IsTrue (starts_with nat_eq bytes.now (codes "/*")) }
+    ensures { IsPiece bytes.now result }
+{
+    match before_end(&bytes[2..]) {
+        Some(n) => Piece::Gap(n + 4),
+        None => Piece::Nothing,
+    }
+}
+
+/// The comment at the front of bytes that begin with `//`.
+fn line(bytes: &[u8]) -> Piece
+    requires { IsTrue (starts_with nat_eq bytes.now (codes "//")) }
+    ensures { IsPiece bytes.now result }
+{
+    Piece::Gap(2 + line_run(&bytes[2..]))
+}
+
+/// What is at the front of bytes.
+pub(crate) fn front(alloc: Global, bytes: &[u8]) -> Result<Piece, AllocError>
+    requires { 0 < length bytes.now }
+    ensures { IfOk result (IsPiece bytes.now) }
+{
+    if is_space(bytes[0]) {
+        return Ok(Piece::Gap(1));
+    }
+    if bytes.starts_with(b"/*") {
+        return Ok(block(bytes));
+    }
+    if bytes.starts_with(b"//") {
+        return Ok(line(bytes));
+    }
+    match token(alloc, bytes)? {
+        Some((kind, n)) => Ok(Piece::Token(kind, n)),
+        None => Ok(Piece::Nothing),
+    }
+}
