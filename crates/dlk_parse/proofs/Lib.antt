@@ -2,3 +2,5 @@ pub mod PhraseParts
 pub mod Stacked
 pub mod Measuring
 pub mod Nodes
+pub mod FirstTokens
+pub mod Within

@@ -21,11 +21,11 @@ use Rattle.dlk_parse.proofs.PhraseParts.{parts, of_each, operator, place_of, IsO
 use Rattle.dlk_parse.proofs.Stacked.{top_is, below_is}
 
 -- the lesser of two places
-lesser_none : (a : Option ℕ) → lesser a None ≡ a
+pub lesser_none : (a : Option ℕ) → lesser a None ≡ a
 lesser_none None = refl
 lesser_none (Some a) = refl
 
-lesser_assoc : (a b c : Option ℕ) → lesser (lesser a b) c ≡ lesser a (lesser b c)
+pub lesser_assoc : (a b c : Option ℕ) → lesser (lesser a b) c ≡ lesser a (lesser b c)
 lesser_assoc None b c = refl
 lesser_assoc (Some a) None c = refl
 lesser_assoc (Some a) (Some b) None = refl

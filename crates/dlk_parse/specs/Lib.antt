@@ -5,3 +5,4 @@ pub mod Stacks
 pub mod Measuring
 pub mod Made
 pub mod Making
+pub mod Limits

@@ -3,6 +3,7 @@
 
 mod code;
 mod fault;
+mod limits;
 mod making;
 mod measures;
 

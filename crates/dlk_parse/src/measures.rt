@@ -106,7 +106,7 @@ fn over_kids(ill: Option<usize>, kids: &[Measure]) -> Measure
     }
 }
 
-fn lesser(a: Option<usize>, b: Option<usize>) -> Option<usize>
+pub(crate) fn lesser(a: Option<usize>, b: Option<usize>) -> Option<usize>
     ensures { result ≡ lesser a b }
 {
     match (a, b) {
