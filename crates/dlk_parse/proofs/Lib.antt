@@ -4,3 +4,5 @@ pub mod Measuring
 pub mod Nodes
 pub mod FirstTokens
 pub mod Within
+pub mod Reports
+pub mod SaidLaws

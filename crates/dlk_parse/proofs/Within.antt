@@ -11,9 +11,11 @@ use Rattle.dlk_grammar.specs.declared.token.Token.{Token}
 use Rattle.dlk_grammar.specs.Phrases.{Phrase}
 use Rattle.dlk_grammar.specs.Erased.{erase, ills, least}
 use Rattle.dlk_grammar.specs.Readings.{TokenAt, FirstPast, most_nodes, greatest_depth}
-use Rattle.dlk_parse.specs.Measures.{measure}
+use Rattle.dlk_parse.specs.Measures.{measure, AreMeasures}
 use Rattle.dlk_parse.specs.Measuring.{lesser}
-use Rattle.dlk_parse.specs.Limits.{least_ill, past, KnowsWithin, KnowsBeyond}
+use Rattle.dlk_parse.specs.Limits.{least_ill, past, IsAmong, KnowsWithin, KnowsBeyond}
+use Rattle.dlk_parse.specs.Said.{HasPlaces}
+use Rattle.dlk_parse.specs.declared.code.Code.{Code}
 use Rattle.dlk_parse.specs.declared.measures.Measure.{Measure}
 use Rattle.dlk_parse.specs.declared.fault.ParseFault.TheVariants as parse
 use Rattle.dlk_parse.proofs.Measuring.{least-append, lesser_none, lesser_assoc}
@@ -119,3 +121,6 @@ token_here tokens place d h = record {
   count = length-take-le place tokens (omega arith);
   at_is = refl;
 }
+
+pub among : (code : List Code) (tokens : List Token) (ms : List Measure) → HasPlaces code tokens → AreMeasures code ms → IsAmong ms tokens
+among code tokens ms h m = record { below = λ place e. h.below place (sym (least_ill_is h.phrases) ∙ ap least_ill (sym (m.of_phrases h.phrases h.code_is)) ∙ e) }

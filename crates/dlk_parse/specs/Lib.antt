@@ -6,3 +6,4 @@ pub mod Measuring
 pub mod Made
 pub mod Making
 pub mod Limits
+pub mod Said

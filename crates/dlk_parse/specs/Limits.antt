@@ -5,7 +5,7 @@ use Rattle.dlk_grammar.specs.declared.token.Token.{Token}
 use Rattle.dlk_grammar.specs.declared.token.TokenKind.{TokenKind}
 use Rattle.dlk_grammar.specs.Phrases.{Phrase}
 use Rattle.dlk_grammar.specs.Erased.{erase, ills, least}
-use Rattle.dlk_grammar.specs.Readings.{FirstAt, TokenAt, FirstPast, most_nodes, greatest_depth}
+use Rattle.dlk_grammar.specs.Readings.{FirstAt, IsLong, OpensTooDeep, TokenAt, FirstPast, most_nodes, greatest_depth}
 use Rattle.dlk_parse.specs.Measures.{measure}
 use Rattle.dlk_parse.specs.Measuring.{lesser}
 use Rattle.dlk_parse.specs.declared.fault.ParseFault.{ParseFault}
@@ -31,7 +31,7 @@ pub record AreWithin (ps : List Phrase) : Type 0 where
   pub size : All (λ t. size t ≤ most_nodes) (map erase ps)
   pub depth : All (λ t. depth t ≤ greatest_depth) (map erase ps)
 
--- the first that speaks against read phrases, in the order shape, size, depth
+-- the first that speaks against read phrases, in the order shape, size, depth; want of memory is free
 abbrev pub IsBeyond : List Phrase → List Token → ParseFault → Type 0
 IsBeyond ps tokens (parse.Literal at) = ⊥
 IsBeyond ps tokens (parse.Nesting at) = ⊥
@@ -39,7 +39,7 @@ IsBeyond ps tokens parse.Syntax = ⊥
 IsBeyond ps tokens (parse.Shape at) = (place : ℕ) × (least (flat_map ills ps) ≡ Some place) × TokenAt tokens place at
 IsBeyond ps tokens (parse.TooBig n) = (least (flat_map ills ps) ≡ None) × FirstPast size most_nodes (map erase ps) n
 IsBeyond ps tokens (parse.TooDeep n) = (least (flat_map ills ps) ≡ None) × All (λ t. size t ≤ most_nodes) (map erase ps) × FirstPast depth greatest_depth (map erase ps) n
-IsBeyond ps tokens parse.Memory = ⊥
+IsBeyond ps tokens parse.Memory = Unit {0}
 
 -- wherever the measures are those of phrases, this is what is known of them
 pub record KnowsWithin (ms : List Measure) : Type 0 where
@@ -51,3 +51,18 @@ pub record KnowsBeyond (ms : List Measure) (tokens : List Token) (why : ParseFau
 -- the least place of ill shape is one of a token
 pub record IsAmong (ms : List Measure) (tokens : List Token) : Type 0 where
   pub below : (place : ℕ) → least_ill ms ≡ Some place → place < length tokens
+
+-- no literal is too long, and no bracket too deep
+pub record AreCalm (tokens : List Token) : Type 0 where
+  pub long : HasNone IsLong tokens
+  pub deep : HasNone OpensTooDeep tokens
+
+-- the first that speaks against tokens, in the order literal, nesting
+abbrev pub IsUnruly : List Token → ParseFault → Type 0
+IsUnruly tokens (parse.Literal at) = FirstAt IsLong tokens at
+IsUnruly tokens (parse.Nesting at) = HasNone IsLong tokens × FirstAt OpensTooDeep tokens at
+IsUnruly tokens parse.Syntax = ⊥
+IsUnruly tokens (parse.Shape at) = ⊥
+IsUnruly tokens (parse.TooBig n) = ⊥
+IsUnruly tokens (parse.TooDeep n) = ⊥
+IsUnruly tokens parse.Memory = ⊥

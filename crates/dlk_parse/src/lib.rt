@@ -6,5 +6,8 @@ mod fault;
 mod limits;
 mod making;
 mod measures;
+mod readers;
+mod said;
 
 pub use fault::{ParseFault, TextFault};
+pub use readers::{expression, formula, program, sequent, term};

@@ -2,11 +2,14 @@
 ghost use Rattle.std.specs.Prelude.{◌≡◌, ◌≤◌, ◌↔◌, IsTrue, true, IfSome, IfNone, MatchResult, map};
 ghost use Rattle.dlk_grammar.specs.declared.token.TokenKind.TheVariants.{LongNumber};
 ghost use Rattle.dlk_grammar.specs.Readings.{opens, closes, level_behind, FirstAt, IsLong, OpensTooDeep, most_nodes, greatest_depth};
-ghost use Rattle.dlk_parse.specs.Limits.{HasNone, least_ill, past, KnowsWithin, KnowsBeyond, IsAmong};
+ghost use Rattle.dlk_parse.specs.Limits.{HasNone, least_ill, past, KnowsWithin, KnowsBeyond, IsAmong, AreCalm, IsUnruly};
+ghost use Rattle.dlk_parse.specs.Said.{HasPlaces, IsWithin, IsCodeBeyond};
 
+use crate::code::Code;
 use crate::fault::ParseFault;
-use crate::measures::{Measure, lesser};
+use crate::measures::{Measure, lesser, measures};
 use dlk_grammar::{Mark, Token, TokenKind};
+use std::alloc::Global;
 
 const GREATEST_LEVEL: u32 = 1200;
 
@@ -21,7 +24,7 @@ fn is_long(kind: &TokenKind) -> bool
 }
 
 /// The byte of the first literal of more than 38 digits.
-pub(crate) fn first_long(tokens: &[Token]) -> Option<usize>
+fn first_long(tokens: &[Token]) -> Option<usize>
     ensures found { IfSome result (FirstAt IsLong tokens.now) }
     ensures none { IfNone result (HasNone IsLong tokens.now) }
 {
@@ -72,7 +75,7 @@ fn level_behind(level: u32, kind: &TokenKind) -> u32
 }
 
 /// The byte of the first bracket that opens a level past the greatest.
-pub(crate) fn first_too_deep(tokens: &[Token]) -> Option<usize>
+fn first_too_deep(tokens: &[Token]) -> Option<usize>
     ensures found { IfSome result (FirstAt OpensTooDeep tokens.now) }
     ensures none { IfNone result (HasNone OpensTooDeep tokens.now) }
 {
@@ -122,7 +125,7 @@ fn least_ill(measures: &[Measure]) -> Option<usize>
 }
 
 /// Refuses what is of ill shape, too big or too deep, whichever applies first in this order.
-pub(crate) fn check_limits(tokens: &[Token], measures: &[Measure]) -> Result<(), ParseFault>
+fn check_limits(tokens: &[Token], measures: &[Measure]) -> Result<(), ParseFault>
     requires { IsAmong measures.now tokens.now }
     ensures { MatchResult result (λ _. KnowsWithin measures.now) (KnowsBeyond measures.now tokens.now) }
 {
@@ -138,4 +141,30 @@ pub(crate) fn check_limits(tokens: &[Token], measures: &[Measure]) -> Result<(),
         return Err(ParseFault::TooDeep { depth });
     }
     Ok(())
+}
+
+/// Refuses a literal that is too long and a bracket that is too deep, whichever applies first in this order.
+pub(crate) fn check_tokens(tokens: &[Token]) -> Result<(), ParseFault>
+    ensures { MatchResult result (λ _. AreCalm tokens.now) (IsUnruly tokens.now) }
+{
+    if let Some(at) = first_long(tokens) {
+        return Err(ParseFault::Literal { at });
+    }
+    if let Some(at) = first_too_deep(tokens) {
+        return Err(ParseFault::Nesting { at });
+    }
+    Ok(())
+}
+
+/// Refuses a code whose phrases are beyond the limits.
+pub(crate) fn check_code(
+    alloc: Global,
+    tokens: &[Token],
+    code: &[Code],
+) -> Result<(), ParseFault>
+    requires { HasPlaces code.now tokens.now }
+    ensures { MatchResult result (λ _. IsWithin code.now) (IsCodeBeyond code.now tokens.now) }
+{
+    let measures = measures(alloc, code)?;
+    check_limits(tokens, measures.as_slice())
 }
