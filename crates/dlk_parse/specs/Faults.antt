@@ -1,5 +1,4 @@
 -- Which faults of a text the errors are.
-use Rattle.std.specs.Prelude.{ℕ, List}
 use Rattle.dlk_grammar.specs.Readings.{ReadFault, Literal, Nesting, Syntax, Shape, TooBig, TooDeep}
 use Rattle.dlk_grammar.specs.Texts.{BadByte, Unread}
 use Rattle.dlk_grammar.specs.Texts.{TextFault as WhyNoText}

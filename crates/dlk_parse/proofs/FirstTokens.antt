@@ -1,0 +1,75 @@
+-- The first token with a property.
+use Rattle.std.proofs.Common.{◌≡◌, ℕ, suc, ◌+◌, ◌-◌, ◌<◌, ◌≤◌, Bool, true, false, cond, IsTrue, List, [], ◌∷◌, ◌++◌, length, get_or, take, drop, refl, sym, ap, subst, ◌∙◌, arith, rules, inl, inr}
+use Rattle.std.specs.Prelude.{◌↔◌}
+use Rattle.std.proofs.lemmas.Bool.{cases_lt}
+use Rattle.std.proofs.lemmas.List.{take_more, take_all, take-append-drop, length-append}
+use Rattle.std.proofs.lemmas.List.Sums.{fold-append}
+use Rattle.std.proofs.Math.Seq.{drop-cons}
+use Rattle.dlk_grammar.specs.declared.token.Token.{Token}
+use Rattle.dlk_grammar.specs.declared.token.TokenKind.{TokenKind}
+use Rattle.dlk_grammar.specs.Readings.{FirstAt, OpensTooDeep, opens, closes, level, level_behind}
+use Rattle.dlk_machine.proofs.TextLaws.{seams, same, sooner, later}
+use Rattle.dlk_parse.specs.Limits.{HasNone}
+
+-- none of these tokens has the property
+pub record NoneIn (Is : List Token → TokenKind → Type 0) (before : List Token) : Type 0 where
+  pub none : (front after : List Token) (t : Token) → before ≡ front ++ t ∷ after → ¬ Is front t.kind
+
+pub none_yet : (Is : List Token → TokenKind → Type 0) → NoneIn Is []
+none_yet Is = record { none = λ front after t e is. absurd (omega (arith, ap length e, length-append front (t ∷ after))) }
+
+-- one more token without the property
+more : (Is : List Token → TokenKind → Type 0) (before : List Token) (t : Token) → NoneIn Is before → ¬ Is before t.kind → NoneIn Is (before ++ t ∷ [])
+more Is before t h not = record {
+  none = λ front after u e is. elim (seams before front t u [] after e) [
+    | same f g ↦ not (subst (λ x. Is x t.kind) (sym f) (subst (λ (x : Token). Is front x.kind) (sym g) is))
+    | sooner rest f ↦ absurd (omega (arith, ap length e, ap length f, length-append before (t ∷ []), length-append front (u ∷ after), length-append before (t ∷ rest)))
+    | later rest f ↦ h.none front rest u f is
+  ];
+}
+
+module _ (Is : List Token → TokenKind → Type 0) (ts : List Token) (i : ℕ) (t : Token) (lt : i < length ts) (at : t ≡ get_or ts i t) (h : NoneIn Is (take i ts)) where
+  pub none_more : ¬ Is (take i ts) t.kind → NoneIn Is (take (i + 1) ts)
+  none_more not = subst (NoneIn Is) (sym (take_more ts i t lt ∙ ap (λ (x : Token). take i ts ++ x ∷ []) (sym at))) (more Is (take i ts) t h not)
+
+  pub first_here : Is (take i ts) t.kind → FirstAt Is ts t.at
+  first_here is = record {
+    before = take i ts;
+    token = t;
+    behind = drop (suc i) ts;
+    tokens_are = sym (take-append-drop i ts) ∙ ap (λ l. take i ts ++ l) (drop-cons ts i t lt ∙ ap (λ (x : Token). x ∷ drop (suc i) ts) (sym at));
+    is = is;
+    first = h.none;
+    place = refl;
+  }
+
+pub none_first : (Is : List Token → TokenKind → Type 0) (ts : List Token) (i : ℕ) → length ts ≤ i → NoneIn Is (take i ts) → HasNone Is ts
+none_first Is ts i le h = record { at_none = λ at f. h.none f.before f.behind f.token (take_all i ts le ∙ f.tokens_are) f.is }
+
+-- the level behind one more token
+pub level_more : (ts : List Token) (i : ℕ) (t : Token) → i < length ts → t ≡ get_or ts i t → level (take (i + 1) ts) ≡ level_behind (level (take i ts)) t.kind
+level_more ts i t lt at =
+    ap level (take_more ts i t lt ∙ ap (λ (x : Token). take i ts ++ x ∷ []) (sym at))
+    ∙ fold-append (λ n u. level_behind n u.kind) 0 (take i ts) (t ∷ [])
+
+-- what a test that is true or false says
+pub holds_from : {P : Type 0} {b : Bool} → IsTrue b ↔ P → b ≡ true → P
+holds_from h e = h.0 (search (rules, e))
+
+pub fails_from : {P : Type 0} {b : Bool} → IsTrue b ↔ P → b ≡ false → ¬ P
+fails_from h e p = absurd (search (rules, e, h.1 p))
+
+pub deep_here : (before : List Token) (n : ℕ) (k : TokenKind) → n ≡ level before → (n ≡ 1200) × (opens k ≡ true) → OpensTooDeep before k
+deep_here before n k e h = (sym e ∙ h.0, h.1)
+
+pub not_deep : (before : List Token) (n : ℕ) (k : TokenKind) → n ≡ level before → ¬ ((n ≡ 1200) × (opens k ≡ true)) → ¬ OpensTooDeep before k
+not_deep before n k e h d = h (e ∙ d.0, d.1)
+
+-- the level stays low
+pub low_more : (n : ℕ) (k : TokenKind) → n ≤ 1200 → ¬ ((n ≡ 1200) × (opens k ≡ true)) → level_behind n k ≤ 1200
+low_more n k h not = by_tests n (opens k) (closes k) h not
+  where
+    by_tests : (n : ℕ) (b c : Bool) → n ≤ 1200 → ¬ ((n ≡ 1200) × (b ≡ true)) → cond b (n + 1) (cond c (n - 1) n) ≤ 1200
+    by_tests n true c h not = elim (cases_lt n 1200) [ inl l ↦ omega arith | inr g ↦ absurd (not (omega arith, refl)) ]
+    by_tests n false true h not = omega arith
+    by_tests n false false h not = h

@@ -1,0 +1,126 @@
+-- What measures say of the phrases that were measured.
+use Rattle.std.proofs.Common.{◌≡◌, ℕ, suc, ◌<◌, ◌≤◌, min, List, [], ◌∷◌, ◌++◌, length, get_or, take, drop, map, Option, Some, None, true, false, cond, refl, sym, ap, ◌∙◌, arith, fold, inl, inr, lit<}
+use Rattle.std.specs.Prelude.{All, nat_lt, flat_map, ◌⊎◌}
+use Rattle.std.proofs.lemmas.Bool.{cases_lt}
+use Rattle.std.proofs.lemmas.List.{take-append-drop, length-take-le}
+use Rattle.std.proofs.Math.Seq.{drop-cons}
+use Rattle.std.proofs.lemmas.Bool.Decides.{nat_tests}
+use Rattle.std.proofs.lemmas.List.Elements.{All-nil, All-cons}
+use Rattle.dlk_tree.specs.Trees.{Tree, size, depth}
+use Rattle.dlk_grammar.specs.declared.token.Token.{Token}
+use Rattle.dlk_grammar.specs.Phrases.{Phrase}
+use Rattle.dlk_grammar.specs.Erased.{erase, ills, least}
+use Rattle.dlk_grammar.specs.Readings.{TokenAt, FirstPast, most_nodes, greatest_depth}
+use Rattle.dlk_parse.specs.Measures.{measure, AreMeasures}
+use Rattle.dlk_parse.specs.Measuring.{lesser}
+use Rattle.dlk_parse.specs.Limits.{least_ill, past, IsAmong, KnowsWithin, KnowsBeyond}
+use Rattle.dlk_parse.specs.Said.{HasPlaces}
+use Rattle.dlk_parse.specs.declared.code.Code.{Code}
+use Rattle.dlk_parse.specs.declared.measures.Measure.{Measure}
+use Rattle.dlk_parse.specs.declared.fault.ParseFault.TheVariants as parse
+use Rattle.dlk_parse.proofs.Measuring.{least-append, lesser_none, lesser_assoc}
+
+ills_from : (ps : List Phrase) (o : Option ℕ) → fold lesser o (map (λ m. m.ill) (map measure ps)) ≡ lesser o (least (flat_map ills ps))
+ills_from [] o = sym (lesser_none o)
+ills_from (p ∷ ps) o = ills_from ps (lesser o (least (ills p))) ∙ lesser_assoc o (least (ills p)) (least (flat_map ills ps)) ∙ ap (lesser o) (sym (least-append (ills p) (flat_map ills ps)))
+
+-- the least place of ill shape is that of the phrases
+pub least_ill_is : (ps : List Phrase) → least_ill (map measure ps) ≡ least (flat_map ills ps)
+least_ill_is ps = ills_from ps None
+
+-- numbers that stay at the greatest of 32 bits
+module _ (f : Tree → ℕ) (limit : ℕ) (low : limit < 4294967295) where
+  capped : List Tree → List ℕ
+  capped ts = map (λ t. min (f t) 4294967295) ts
+
+  over : (t : Tree) → limit < f t → nat_lt limit (min (f t) 4294967295) ≡ true
+  over t h = grind (arith, nat_tests)
+
+  under : (t : Tree) → f t ≤ limit → nat_lt limit (min (f t) 4294967295) ≡ false
+  under t h = grind (arith, nat_tests)
+
+  either : (t : Tree) → (limit < f t) ⊎ (f t ≤ limit)
+  either t = cases_lt limit (f t)
+
+  one_later : (t : Tree) (ts : List Tree) (n : ℕ) → f t ≤ limit → FirstPast f limit ts n → FirstPast f limit (t ∷ ts) n
+  one_later t ts n h p = record {
+    before = t ∷ p.before;
+    tree = p.tree;
+    behind = p.behind;
+    trees_are = ap (λ (l : List Tree). t ∷ l) p.trees_are;
+    past = p.past;
+    first = All-cons (λ (u : Tree). f u ≤ limit) t p.before h p.first;
+    number = p.number;
+  }
+
+  pub first_past : (ts : List Tree) (n : ℕ) → past limit (map (λ t. min (f t) 4294967295) ts) ≡ Some n → FirstPast f limit ts n
+  first_past [] n e = absurd cc
+  first_past (t ∷ ts) n e = elim (either t) [
+    | inl h ↦
+        let number : Some (min (f t) 4294967295) ≡ Some n = ap (λ b. cond b (Some (min (f t) 4294967295)) (past limit (map (λ t. min (f t) 4294967295) ts))) (sym (over t h)) ∙ e in
+        record { before = []; tree = t; behind = ts; trees_are = refl; past = h; first = All-nil (λ (u : Tree). f u ≤ limit); number = cc }
+    | inr h ↦
+        one_later t ts n h (first_past ts n (ap (λ b. cond b (Some (min (f t) 4294967295)) (past limit (map (λ t. min (f t) 4294967295) ts))) (sym (under t h)) ∙ e))
+  ]
+
+  pub none_past : (ts : List Tree) → past limit (map (λ t. min (f t) 4294967295) ts) ≡ None → All (λ t. f t ≤ limit) ts
+  none_past [] e = All-nil (λ (u : Tree). f u ≤ limit)
+  none_past (t ∷ ts) e = elim (either t) [
+    | inl h ↦
+        let number : Some (min (f t) 4294967295) ≡ None = ap (λ b. cond b (Some (min (f t) 4294967295)) (past limit (map (λ t. min (f t) 4294967295) ts))) (sym (over t h)) ∙ e in
+        absurd cc
+    | inr h ↦
+        All-cons (λ (u : Tree). f u ≤ limit) t ts h (none_past ts (ap (λ b. cond b (Some (min (f t) 4294967295)) (past limit (map (λ t. min (f t) 4294967295) ts))) (sym (under t h)) ∙ e))
+  ]
+
+sizes_are : (ps : List Phrase) → map (λ m. m.size) (map measure ps) ≡ map (λ t. min (size t) 4294967295) (map erase ps)
+sizes_are [] = refl
+sizes_are (p ∷ ps) = ap (λ ns. min (size (erase p)) 4294967295 ∷ ns) (sizes_are ps)
+
+depths_are : (ps : List Phrase) → map (λ m. m.depth) (map measure ps) ≡ map (λ t. min (depth t) 4294967295) (map erase ps)
+depths_are [] = refl
+depths_are (p ∷ ps) = ap (λ ns. min (depth (erase p)) 4294967295 ∷ ns) (depths_are ps)
+
+-- what the tests answer of measures, said of the phrases
+module _ (ms : List Measure) where
+  pub ill_is : (tokens : List Token) (place at : ℕ) → least_ill ms ≡ Some place → TokenAt tokens place at → KnowsBeyond ms tokens (parse.Shape at)
+  ill_is tokens place at e t = record { of_phrases = λ ps f. (place, sym (least_ill_is ps) ∙ ap least_ill (sym f) ∙ e, t) }
+
+  module _ (fine : least_ill ms ≡ None) where
+    shape : (ps : List Phrase) → ms ≡ map measure ps → least (flat_map ills ps) ≡ None
+    shape ps f = sym (least_ill_is ps) ∙ ap least_ill (sym f) ∙ fine
+
+    sizes : (ps : List Phrase) → ms ≡ map measure ps → (o : Option ℕ) → past most_nodes (map (λ m. m.size) ms) ≡ o → past most_nodes (map (λ t. min (size t) 4294967295) (map erase ps)) ≡ o
+    sizes ps f o e = ap (past most_nodes) (sym (sizes_are ps)) ∙ ap (λ (l : List Measure). past most_nodes (map (λ m. m.size) l)) (sym f) ∙ e
+
+    depths : (ps : List Phrase) → ms ≡ map measure ps → (o : Option ℕ) → past greatest_depth (map (λ m. m.depth) ms) ≡ o → past greatest_depth (map (λ t. min (depth t) 4294967295) (map erase ps)) ≡ o
+    depths ps f o e = ap (past greatest_depth) (sym (depths_are ps)) ∙ ap (λ (l : List Measure). past greatest_depth (map (λ m. m.depth) l)) (sym f) ∙ e
+
+    pub big_is : (tokens : List Token) (n : ℕ) → past most_nodes (map (λ m. m.size) ms) ≡ Some n → KnowsBeyond ms tokens (parse.TooBig n)
+    big_is tokens n e = record { of_phrases = λ ps f. (shape ps f, first_past size most_nodes (lit< tt) (map erase ps) n (sizes ps f (Some n) e)) }
+
+    pub deep_is : (tokens : List Token) (n : ℕ) → past most_nodes (map (λ m. m.size) ms) ≡ None → past greatest_depth (map (λ m. m.depth) ms) ≡ Some n → KnowsBeyond ms tokens (parse.TooDeep n)
+    deep_is tokens n g e = record { of_phrases = λ ps f. (shape ps f, none_past size most_nodes (lit< tt) (map erase ps) (sizes ps f None g), first_past depth greatest_depth (lit< tt) (map erase ps) n (depths ps f (Some n) e)) }
+
+    pub fine_is : past most_nodes (map (λ m. m.size) ms) ≡ None → past greatest_depth (map (λ m. m.depth) ms) ≡ None → KnowsWithin ms
+    fine_is g e = record {
+      of_phrases = λ ps f. record {
+        shape = shape ps f;
+        size = none_past size most_nodes (lit< tt) (map erase ps) (sizes ps f None g);
+        depth = none_past depth greatest_depth (lit< tt) (map erase ps) (depths ps f None e);
+      };
+    }
+
+-- the token that an index reads is at its place
+pub token_here : (tokens : List Token) (place : ℕ) (d : Token) → place < length tokens → TokenAt tokens place (get_or tokens place d).at
+token_here tokens place d h = record {
+  before = take place tokens;
+  token = get_or tokens place d;
+  behind = drop (suc place) tokens;
+  tokens_are = sym (take-append-drop place tokens) ∙ ap (λ (l : List Token). take place tokens ++ l) (drop-cons tokens place d h);
+  count = length-take-le place tokens (omega arith);
+  at_is = refl;
+}
+
+pub among : (code : List Code) (tokens : List Token) (ms : List Measure) → HasPlaces code tokens → AreMeasures code ms → IsAmong ms tokens
+among code tokens ms h m = record { below = λ place e. h.below place (sym (least_ill_is h.phrases) ∙ ap least_ill (sym (m.of_phrases h.phrases h.code_is)) ∙ e) }

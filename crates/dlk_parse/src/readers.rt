@@ -1,0 +1,170 @@
+//! Terms, formulas, programs, expressions and sequents of tokens.
+ghost use Rattle.std.specs.Prelude.{◌≡◌, IfOk, IfErr};
+ghost use Rattle.dlk_tree.specs.Trees.{sort};
+ghost use Rattle.dlk_tree.specs.declared.op.Sort.TheVariants as sort_of;
+ghost use Rattle.dlk_calculus.specs.Sequents.{IsSequent};
+ghost use Rattle.dlk_grammar.specs.declared.token.Goal.TheVariants as goal_of;
+ghost use Rattle.dlk_grammar.specs.declared.token.Dots.TheVariants.{Refused};
+ghost use Rattle.dlk_grammar.specs.Grammar.{ReadsSequent};
+ghost use Rattle.dlk_grammar.specs.RealTokens.{AreTokens};
+ghost use Rattle.dlk_grammar.specs.Readings.{grammar, itself, both_sides, IsTree, IsTreeFault, IsSequentOf, IsSequentFault};
+ghost use Rattle.dlk_store.specs.Stores.{IsId, tree};
+ghost use Rattle.dlk_sequent.specs.Sequents.{sequent_at, IsKnown};
+ghost use Rattle.dlk_parse.specs.Faults.{IsFaultOf};
+ghost use Rattle.dlk_parse.specs.Said.{IsReadCode, AreReadSides};
+
+use crate::code::Code;
+use crate::fault::ParseFault;
+use crate::limits::{check_code, check_tokens};
+use crate::making::make_all;
+use crate::said::{SaidSides, said_sides, said_tree};
+use dlk_grammar::{Dots, Goal, Token};
+use dlk_sequent::{Listed, Sequent};
+use dlk_store::{Id, Store};
+use std::alloc::Global;
+
+/// The code of the tree that the tokens are a text of.
+fn tree_code(
+    alloc: Global,
+    goal: Goal,
+    tokens: &[Token],
+    dots: Dots,
+) -> Result<Vec<Code>, ParseFault>
+    ensures read { IfOk result (λ v. IsReadCode (grammar goal) itself dots tokens.now v.items) }
+    ensures fault { IfErr result (IsFaultOf (IsTreeFault goal dots tokens.now)) }
+{
+    check_tokens(tokens)?;
+    let code = said_tree(alloc, goal, dots, tokens)?;
+    check_code(alloc, tokens, code.as_slice())?;
+    Ok(code)
+}
+
+/// The code of the formulas of the sequent that the tokens are a text of.
+fn sides_code(alloc: Global, tokens: &[Token]) -> Result<SaidSides, ParseFault>
+    ensures read { IfOk result (AreReadSides tokens.now) }
+    ensures fault { IfErr result (IsFaultOf (IsSequentFault tokens.now)) }
+{
+    check_tokens(tokens)?;
+    let sides = said_sides(alloc, tokens)?;
+    check_code(alloc, tokens, sides.code.as_slice())?;
+    Ok(sides)
+}
+
+/// The tree that the tokens are a text of.
+fn read<S: Store>(
+    alloc: Global,
+    goal: Goal,
+    tokens: &[Token],
+    dots: Dots,
+    store: &mut S,
+) -> Result<Id, ParseFault>
+    requires { AreTokens tokens.now }
+    ensures found { IfOk result (λ id. IsTree goal dots tokens.now (tree (S.trees store.new) id)) }
+    ensures known { IfOk result (IsId (S.trees store.new)) }
+    ensures fault { IfErr result (IsFaultOf (IsTreeFault goal dots tokens.now)) }
+    ensures grows { S.grows store.old store.new }
+{
+    let code = tree_code(alloc, goal, tokens, dots)?;
+    let ids = make_all(alloc, code, store)?;
+    Ok(ids[0])
+}
+
+/// The formula that the tokens are a text of. They are those of a whole text, with its end, as `dlk_lex` answers them.
+///
+/// # Errors
+///
+/// The first of these that applies, in this order. `Literal`: a literal has more than 38 digits as written. `Nesting`: a
+/// bracket opens level 1,201. `Syntax`: the tokens are not in the grammar. `Shape`: an application has more than 8
+/// arguments, or a system has more than 64 items or evolves a variable twice. `TooBig` and `TooDeep`: the tree has more
+/// than 65,536 nodes or is deeper than 1,000. `Memory` may come at any time. No node is made unless the tokens are a text
+/// within the limits, and whatever comes, the store keeps its trees.
+pub fn formula<S: Store>(
+    alloc: Global,
+    tokens: &[Token],
+    dots: Dots,
+    store: &mut S,
+) -> Result<Id, ParseFault>
+    requires { AreTokens tokens.now }
+    ensures found { IfOk result (λ id. IsTree goal_of.Formula dots tokens.now (tree (S.trees store.new) id)) }
+    ensures known { IfOk result (IsId (S.trees store.new)) }
+    ensures sort { IfOk result (λ id. sort (tree (S.trees store.new) id) ≡ sort_of.Formula) }
+    ensures fault { IfErr result (IsFaultOf (IsTreeFault goal_of.Formula dots tokens.now)) }
+    ensures grows { S.grows store.old store.new }
+{
+    read(alloc, Goal::Formula, tokens, dots, store)
+}
+
+/// The term that the tokens are a text of. The tokens and the errors are those of `formula`.
+pub fn term<S: Store>(
+    alloc: Global,
+    tokens: &[Token],
+    dots: Dots,
+    store: &mut S,
+) -> Result<Id, ParseFault>
+    requires { AreTokens tokens.now }
+    ensures found { IfOk result (λ id. IsTree goal_of.Term dots tokens.now (tree (S.trees store.new) id)) }
+    ensures known { IfOk result (IsId (S.trees store.new)) }
+    ensures sort { IfOk result (λ id. sort (tree (S.trees store.new) id) ≡ sort_of.Term) }
+    ensures fault { IfErr result (IsFaultOf (IsTreeFault goal_of.Term dots tokens.now)) }
+    ensures grows { S.grows store.old store.new }
+{
+    read(alloc, Goal::Term, tokens, dots, store)
+}
+
+/// The program that the tokens are a text of. The tokens and the errors are those of `formula`.
+pub fn program<S: Store>(
+    alloc: Global,
+    tokens: &[Token],
+    dots: Dots,
+    store: &mut S,
+) -> Result<Id, ParseFault>
+    requires { AreTokens tokens.now }
+    ensures found { IfOk result (λ id. IsTree goal_of.Program dots tokens.now (tree (S.trees store.new) id)) }
+    ensures known { IfOk result (IsId (S.trees store.new)) }
+    ensures sort { IfOk result (λ id. sort (tree (S.trees store.new) id) ≡ sort_of.Program) }
+    ensures fault { IfErr result (IsFaultOf (IsTreeFault goal_of.Program dots tokens.now)) }
+    ensures grows { S.grows store.old store.new }
+{
+    read(alloc, Goal::Program, tokens, dots, store)
+}
+
+/// The formula, the program, or the term that is no formula, of which the tokens are a text. The tokens and the errors
+/// are those of `formula`.
+pub fn expression<S: Store>(
+    alloc: Global,
+    tokens: &[Token],
+    dots: Dots,
+    store: &mut S,
+) -> Result<Id, ParseFault>
+    requires { AreTokens tokens.now }
+    ensures found { IfOk result (λ id. IsTree goal_of.Expression dots tokens.now (tree (S.trees store.new) id)) }
+    ensures known { IfOk result (IsId (S.trees store.new)) }
+    ensures fault { IfErr result (IsFaultOf (IsTreeFault goal_of.Expression dots tokens.now)) }
+    ensures grows { S.grows store.old store.new }
+{
+    read(alloc, Goal::Expression, tokens, dots, store)
+}
+
+/// The sequent that the tokens are a text of: formulas joined by `,`, then `==>`, then formulas joined by `,`. Argument
+/// dots and `_` are not in the grammar. The tokens and the errors are those of `formula`; the size and the depth are those
+/// of the first formula, from left to right, that is beyond the limit.
+pub fn sequent<S: Store>(
+    alloc: Global,
+    tokens: &[Token],
+    store: &mut S,
+) -> Result<Sequent, ParseFault>
+    requires { AreTokens tokens.now }
+    ensures found { IfOk result (λ s. IsSequentOf tokens.now (sequent_at (S.trees store.new) s)) }
+    ensures known { IfOk result (IsKnown (S.trees store.new)) }
+    ensures formulas { IfOk result (λ s. IsSequent (sequent_at (S.trees store.new) s)) }
+    ensures fault { IfErr result (IsFaultOf (IsSequentFault tokens.now)) }
+    ensures grows { S.grows store.old store.new }
+{
+    let sides = sides_code(alloc, tokens)?;
+    let mut ante = make_all(alloc, sides.code, store)?;
+    let succ = ante.split_off(sides.left)?;
+    Ok(Sequent {
+        ante: Listed::from_vec(ante),
+        succ: Listed::from_vec(succ),
+    })
+}

@@ -1,0 +1,40 @@
+//! The code of what tokens say.
+ghost use Rattle.std.specs.Prelude.{◌≡◌, ◌+◌, IfOk, IfErr};
+ghost use Rattle.dlk_grammar.specs.declared.token.Dots.TheVariants.{Refused};
+ghost use Rattle.dlk_grammar.specs.Grammar.{ReadsSequent};
+ghost use Rattle.dlk_grammar.specs.Readings.{grammar, itself, both_sides};
+ghost use Rattle.dlk_parse.specs.Faults.{IsFaultOf};
+ghost use Rattle.dlk_parse.specs.Said.{SaysCode, IsNoText, SaysSides};
+
+use crate::code::Code;
+use crate::fault::ParseFault;
+use dlk_grammar::{Dots, Goal, Token};
+use std::alloc::Global;
+
+/// The formulas of both sides of a sequent as one code, and how many are on the left.
+#[derive(Drop)]
+pub(crate) struct SaidSides {
+    pub code: Vec<Code>,
+    pub left: usize,
+}
+
+/// The code of the phrase that the tokens are a text of.
+pub(crate) fn said_tree(
+    alloc: Global,
+    goal: Goal,
+    dots: Dots,
+    tokens: &[Token],
+) -> Result<Vec<Code>, ParseFault>
+    ensures says { IfOk result (λ v. SaysCode (grammar goal) itself dots tokens.now v.items) }
+    ensures fault { IfErr result (IsFaultOf (IsNoText (grammar goal) dots tokens.now)) }
+{
+    Err(ParseFault::Memory)
+}
+
+/// The code of the formulas of the sequent that the tokens are a text of.
+pub(crate) fn said_sides(alloc: Global, tokens: &[Token]) -> Result<SaidSides, ParseFault>
+    ensures says { IfOk result (SaysSides tokens.now) }
+    ensures fault { IfErr result (IsFaultOf (IsNoText ReadsSequent Refused tokens.now)) }
+{
+    Err(ParseFault::Memory)
+}
