@@ -4,6 +4,7 @@ pub mod Cut
 pub mod Answered
 pub mod JobTexts
 pub mod TextAnswers
+pub mod PrintAnswers
 pub mod OneReply
 pub mod ConclusionText
 pub mod Judging

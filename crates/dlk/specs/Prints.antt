@@ -10,11 +10,19 @@ use Rattle.dlk.specs.declared.reply.Status.TheVariants.{Done}
 use Rattle.dlk.specs.Replies.{Reply, line}
 use Rattle.dlk.specs.Refusals.{text_refused}
 
+-- the file is a text of this formula, program or term, maybe with argument dots and `_`
+abbrev pub FileText : List ℕ → Tree → Type 0
+FileText file t = TreeText Expression Allowed file t
+
+-- why the file is none
+abbrev pub FileFault : List ℕ → TextFault → Type 0
+FileFault file why = TreeTextFault Expression Allowed file why
+
 -- the canonical text, on a line
 abbrev pub printed : Tree → Reply
 printed t = record { status = Done; printed = line (spell (shown t)) }
 
 -- Prints file reply: this is what is answered to the file. One case an answer.
 pub data Prints (file : List ℕ) : Reply → Type 0 where
-  bad_text : (why : TextFault) → TreeTextFault Expression Allowed file why → Prints file (text_refused File why)
-  prints : (t : Tree) → TreeText Expression Allowed file t → Prints file (printed t)
+  bad_text : (why : TextFault) → FileFault file why → Prints file (text_refused File why)
+  prints : (t : Tree) → FileText file t → Prints file (printed t)

@@ -1,0 +1,25 @@
+use Rattle.std.proofs.lemmas.Result.{IfOk-weaker}
+use Rattle.dlk.specs.Answers.{Does}
+use Rattle.dlk.specs.Checks.{Checks}
+use Rattle.dlk.specs.Prints.{Prints}
+use Rattle.dlk.specs.declared.command.Command.TheVariants.{Check, Print}
+use Rattle.dlk.specs.Shown.{texts_of, reply_of}
+use Rattle.dlk.proofs.JobTexts.{check_does, print_does}
+use Rattle.dlk.proofs.answer.job.Goals as goal
+
+pub returns-in-Check-clause-reply : goal.returns-in-Check-clause-reply
+returns-in-Check-clause-reply g c =
+    let inputs = c.args.inputs.now in
+    let model = c.deref.result.now in
+    let term = c.deref-in-Check.result.now in
+    rw c.in-Check.is (IfOk-weaker c.check.result (λ r. Checks model term (reply_of r)) (λ r. Does Check (texts_of inputs) (reply_of r))
+    (λ r checks. check_does inputs c.index-inputs-0.result c.index-inputs-1.result model term (reply_of r) (rw c.in-Check.is at c.requires) c.index-inputs-0.is c.index-inputs-1.is c.deref.ensures.value c.deref-in-Check.ensures.value checks)
+    c.check.ensures.reply)
+
+pub returns-in-Print-clause-reply : goal.returns-in-Print-clause-reply
+returns-in-Print-clause-reply g c =
+    let inputs = c.args.inputs.now in
+    let file = c.deref-in-Print.result.now in
+    rw c.in-Print.is (IfOk-weaker c.print.result (λ r. Prints file (reply_of r)) (λ r. Does Print (texts_of inputs) (reply_of r))
+    (λ r prints. print_does inputs c.index-inputs-0-in-Print.result file (reply_of r) (rw c.in-Print.is at c.requires) c.index-inputs-0-in-Print.is c.deref-in-Print.ensures.value prints)
+    c.print.ensures.reply)

@@ -1,0 +1,21 @@
+use Rattle.std.proofs.lemmas.Result.{IfOk-weaker}
+use Rattle.dlk_store.specs.Stores.{tree}
+use Rattle.dlk.specs.declared.command.Role.TheVariants.{File}
+use Rattle.dlk.specs.Refusals.{IsTextRefused}
+use Rattle.dlk.specs.Prints.{Prints, bad_text, FileFault}
+use Rattle.dlk.specs.Shown.{reply_of}
+use Rattle.dlk.proofs.TextAnswers.{text_answer}
+use Rattle.dlk.proofs.PrintAnswers.{print_answer}
+use Rattle.dlk.proofs.jobs.print.print_on.Goals as goal
+
+pub returns-in-Err-clause-reply : goal.returns-in-Err-clause-reply
+returns-in-Err-clause-reply g c =
+    let file = c.args.file.now in
+    IfOk-weaker c.refuse_text.result (λ r. IsTextRefused File c.in-Err.fault (reply_of r)) (λ r. Prints file (reply_of r))
+    (λ r is. text_answer File (FileFault file) (Prints file) bad_text c.in-Err.fault (reply_of r) c.in-Err.ensures.fault is) c.refuse_text.ensures.reply
+
+pub returns-clause-reply : goal.returns-clause-reply
+returns-clause-reply g c =
+    let read = c.in-Ok.ensures.found in
+    print_answer c.args.file.now read.0 (tree (g.S.Store.trees c.read_expression.new.store) c.in-Ok.expression) c.new-printed.result.items c.text.new.out.items c.push.new.self.items
+    read.1 read.2.tree_is c.new-printed.ensures.items c.in_ok-text.ensures.ok c.in_ok-push.ensures.items
