@@ -3,5 +3,10 @@
 
 mod code;
 mod fault;
+mod lexeme;
+mod parts;
+mod stack;
+mod stop;
+mod tables;
 
 pub use fault::{ParseFault, TextFault};
