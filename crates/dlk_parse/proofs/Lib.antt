@@ -1,0 +1,3 @@
+mod Tops
+mod Agree
+mod Closing

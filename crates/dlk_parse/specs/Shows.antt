@@ -1,14 +1,14 @@
 -- How a reader's lists show the machine's states: the open parts without their phrases, and the operators of all phrases in order.
-use Rattle.std.specs.Prelude.{◌≡◌, ℕ, Bool, true, false, nat_lt, List, [], ◌∷◌, ◌++◌, Option, Some, None, Result, Ok, Err}
+use Rattle.std.specs.Prelude.{◌≡◌, ℕ, zero, suc, ◌+◌, Bool, true, false, nat_lt, List, [], ◌∷◌, ◌++◌, Option, Some, None, Result, Ok, Err}
 use Rattle.dlk_tree.specs.declared.op.Sort.{Sort}
 use Rattle.dlk_tree.specs.declared.op.Sort.TheVariants.{Term, Formula, Program}
-use Rattle.dlk_tree.specs.declared.op.OdeItem.{OdeItem}
+use Rattle.dlk_tree.specs.declared.op.Kind.TheVariants.{UnitFunc, UnitPred}
 use Rattle.dlk_tree.specs.declared.op.Op.{Op}
 use Rattle.dlk_tree.specs.declared.op.Op.TheVariants as op
 use Rattle.dlk_grammar.specs.Erased.{infix_op, items_of, taboo, count}
 use Rattle.dlk_grammar.specs.Lexemes.{Word, Lexeme, Name, Number, Dot, Blank, True, False, All, Exist, Invariant, RoundBars, RoundBar, BarRound, BraceBar, BarBrace, Open, Close, OpenBox, CloseBox, OpenBrace, CloseBrace, Bang, Prime, Gets, Query, Semi, Comma, Turnstile, Becomes, Swaps, Op as Operator}
-use Rattle.dlk_grammar.specs.Phrases.{Phrase, Phrases, Variable, Head, Call, Any, Item, Items}
-use Rattle.dlk_machine.proofs.Machine.{Between, By, Next, Quantifier, ForAll, ForSome, Modality, InBox, InDia, Prefix, Minus, Bang', Bound, Modal, Holder, Round, Args, InContext, In, InBrace, Assigns, Tests, Evolves, Domain, Notes, Part, Left, Before, Inside, Tail, Done, Bare, Grouped, Braced, Starred, Annotated, Piece, Is, Symbol, State, Wants, Has, Calls, Bars, BarsName, Binds, Starts, StartsPrime, Opens, OpensName, OpensPrime, WantsItem, ItemName, ItemPrime, ItemBar, ItemBarName, ItemEnds, Invariants}
+use Rattle.dlk_grammar.specs.Phrases.{Phrase, Phrases, Variable, Apply, Holds, Head, Call, Any, Item, Items}
+use Rattle.dlk_machine.proofs.Machine.{Between, By, Next, Quantifier, ForAll, ForSome, Modality, InBox, InDia, Prefix, Minus, Bang', Bound, Modal, Holder, Round, Args, InContext, In, InBrace, Assigns, Tests, Evolves, Domain, Notes, Part, Left, Before, Inside, Tail, Done, Bare, Grouped, Braced, Starred, Annotated, Piece, Is, Symbol, State, Wants, Has, Calls, Bars, BarsName, Binds, Starts, StartsPrime, Opens, OpensName, OpensPrime, WantsItem, ItemName, ItemPrime, ItemBar, ItemBarName, ItemEnds, Invariants, wanted}
 use Rattle.dlk_parse.specs.Codes.{postfix, postfix_all, postfix_terms}
 use Rattle.dlk_parse.specs.declared.code.Code.{Code}
 use Rattle.dlk_parse.specs.declared.code.Code.TheVariants as code
@@ -261,6 +261,24 @@ Shows k m (ItemBarName S n l x y) = Keeps k m (mode.ItemBarName (equations_of n 
 Shows k m (ItemEnds S n l) = Keeps k m (mode.ItemEnds (equations_of n l)) S (postfix_terms l)
 Shows k m (Invariants S t) = Keeps k m mode.Invariants S (postfix t)
 
+-- a symbol as a formula where it holds, or as a term
+abbrev pub symbol_of : Bool → Head → Phrase
+symbol_of true h = Holds h
+symbol_of false h = Apply h
+
+abbrev pub unit_code : Bool → Word → Option Word → Code
+unit_code true x y = code.Operator (op.UnitPred (record { kind = UnitPred; name = x; arity = 0; taboo = y }))
+unit_code false x y = code.Operator (op.UnitFun (record { kind = UnitFunc; name = x; arity = 0; taboo = y }))
+
+-- the operators of its primes
+abbrev pub prime_code : Bool → Code
+prime_code true = code.Operator op.DiffF
+prime_code false = code.Operator op.Diff
+
+abbrev pub primes_code : Bool → ℕ → List Code
+primes_code b zero = []
+primes_code b (suc n) = primes_code b n ++ prime_code b ∷ []
+
 -- What a call answered is what the definition gives, unless memory ran out.
 abbrev pub Agrees : {X Y : Type 0} → (X → Y → Type 0) → Result X StepFault → Option Y → Type 0
 Agrees shows (Ok x) (Some y) = shows x y
@@ -268,3 +286,30 @@ Agrees shows (Ok x) None = ⊥
 Agrees shows (Err Memory) o = Unit {0}
 Agrees shows (Err Syntax) (Some y) = ⊥
 Agrees shows (Err Syntax) None = Unit {0}
+
+-- the innermost open part, and what remains without it
+abbrev pub Pops : List Part → Option OpenPart → List OpenPart → Type 0
+Pops [] r items = (r ≡ None) × (items ≡ [])
+Pops (e ∷ S) r items = (r ≡ Some (shape e)) × (items ≡ shapes S)
+
+-- The last part is taken where it wants more than a level.
+abbrev pub TakesIf : Bool → OpenPart → List OpenPart → Option OpenPart → List OpenPart → Type 0
+TakesIf true x front r items = (r ≡ Some x) × (items ≡ front)
+TakesIf false x front r items = (r ≡ None) × (items ≡ front ++ x ∷ [])
+
+abbrev pub TakesAbove : ℕ → List Part → Option OpenPart → List OpenPart → Type 0
+TakesAbove n [] r items = (r ≡ None) × (items ≡ [])
+TakesAbove n (e ∷ S) r items = TakesIf (nat_lt n (wanted e)) (shape e) (shapes S) r items
+
+-- what is left open, and what was read last
+pub record Reduces (k : Stack) (l : Last) (r : List Part × Piece) : Type 0 where
+  pub last : IsLast l r.1
+  pub lists : IsOpen k r.0 (piece_code r.1)
+
+-- a tree whose operators are written, and what is open
+pub record Writes (new : List Code) (before : List Code) (t : Phrase) : Type 0 where
+  pub out : new ≡ before ++ postfix t
+
+pub record Joins (new before : List Code) (l : Last) (p : Piece) : Type 0 where
+  pub last : IsLast l p
+  pub out : new ≡ before ++ piece_code p

@@ -1,7 +1,6 @@
 //! How tightly operators bind, and the sorts.
 ghost use Rattle.std.specs.Prelude.{◌≡◌, List, ◌∷◌};
 ghost use Rattle.dlk_tree.specs.declared.op.Sort.{Sort as TheSort};
-ghost use Rattle.dlk_tree.specs.declared.op.Sort.TheVariants.{Formula};
 ghost use Rattle.dlk_machine.proofs.Machine.{level, right_level, operand_sort, result_sort, prefix_level, prefix_sort, held_sort, wanted, place, allows};
 ghost use Rattle.dlk_machine.proofs.Machine.{Part as MachinePart, Prefix as MachinePrefix, Holder as MachineHolder};
 ghost use Rattle.dlk_parse.specs.Shows.{shape, said, prefix_of, holder_of, operator_of, operator_before};
@@ -209,13 +208,19 @@ pub(crate) fn sort_in(part: &Part) -> Sort
     }
 }
 
-/// Whether a formula may stand where this sort is to stand. A formula may begin with a term.
-pub(crate) fn allows_formula(sort: Sort) -> bool
-    ensures { result ≡ allows sort Formula }
+/// Whether what is of a sort may stand where this sort is to stand. A formula may begin with a term.
+pub(crate) fn allows(place: Sort, sort: Sort) -> bool
+    ensures { result ≡ allows place sort }
 {
-    match sort {
-        Sort::Term => false,
-        Sort::Formula => true,
-        Sort::Program => false,
+    match (place, sort) {
+        (Sort::Term, Sort::Term) => true,
+        (Sort::Term, Sort::Formula) => false,
+        (Sort::Term, Sort::Program) => false,
+        (Sort::Formula, Sort::Term) => true,
+        (Sort::Formula, Sort::Formula) => true,
+        (Sort::Formula, Sort::Program) => false,
+        (Sort::Program, Sort::Term) => false,
+        (Sort::Program, Sort::Formula) => false,
+        (Sort::Program, Sort::Program) => true,
     }
 }
