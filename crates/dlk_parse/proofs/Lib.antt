@@ -1,3 +1,4 @@
 mod Tops
 mod Agree
 mod Closing
+mod OperandSteps

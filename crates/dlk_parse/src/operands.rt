@@ -1,9 +1,12 @@
 //! Operands and the operators between them.
 ghost use Rattle.std.specs.Prelude.{◌≡◌, List, [], ◌∷◌, Some};
-ghost use Rattle.dlk_grammar.specs.Phrases.{Phrase, Any, Space};
-ghost use Rattle.dlk_grammar.specs.Erased.{taboo as taboo_of};
+ghost use Rattle.dlk_grammar.specs.Phrases.{Phrase};
+ghost use Rattle.dlk_parse.specs.declared.parts.Head.TheVariants as head;
+ghost use Rattle.dlk_parse.specs.declared.parts.Tail.TheVariants as tail;
+ghost use Rattle.dlk_parse.specs.declared.parts.Last.TheVariants as last;
+ghost use Rattle.dlk_parse.specs.declared.parts.Mode.TheVariants as mode;
 ghost use Rattle.dlk_parse.specs.declared.stack.Stack.{Stack as TheStack};
-ghost use Rattle.dlk_machine.proofs.Machine.{when, Part as MachinePart, Quantifier as MachineQuantifier, Piece, Done, Grouped, Is, Symbol, Wants, Has, Binds, fits, start_operand, after_operand, primed, name_after, prime_after, call_step, bars_step, bars_name_step, bind_step};
+ghost use Rattle.dlk_machine.proofs.Machine.{when, Part as MachinePart, Quantifier as MachineQuantifier, Piece, Done, Grouped, Bare, Is, Wants, Has, Binds, fits, start_operand, after_operand, primed, name_after, prime_after, call_step, bars_step, bars_name_step, bind_step};
 ghost use Rattle.dlk_tree.specs.declared.op.Sort.TheVariants as sort_of;
 ghost use Rattle.dlk_parse.specs.declared.code.Code.TheVariants as code;
 ghost use Rattle.dlk_parse.specs.Codes.{postfix};
@@ -132,9 +135,23 @@ impl Stack {
         ensures { (S : List MachinePart) (p : Piece) → Stands self.old last S p
             → Agrees (Shows self.new) result (name_after goal S (seen lexeme) (tail_of p)) }
     {
-        let Last::Name { at, name } = last else {
-            return Err(StepFault::Syntax);
-        };
+        match last {
+            Last::Name { at, name } => self.name_step(goal, at, name, lexeme),
+            Last::Tree(_, _) => Err(StepFault::Syntax),
+            Last::Symbol { .. } => Err(StepFault::Syntax),
+        }
+    }
+
+    fn name_step(
+        &mut self,
+        goal: Sort,
+        at: usize,
+        name: Name,
+        lexeme: Lexeme,
+    ) -> Result<Mode, StepFault>
+        ensures { (S : List MachinePart) → IsOpen self.old S []
+            → Agrees (Shows self.new) result (name_after goal S (seen lexeme) (Bare at name)) }
+    {
         match lexeme {
             Lexeme::Open => Ok(Mode::Calls { at, name }),
             Lexeme::RoundBars => Ok(any(name, None)),
@@ -231,7 +248,7 @@ impl Stack {
 
 /// A unit symbol was read.
 fn any(name: Name, taboo: Option<Name>) -> Mode
-    ensures { (k : TheStack) (S : List MachinePart) (s : Space) → taboo ≡ taboo_of s → IsOpen k S [] → Shows k result (Has S (Symbol (Any name s) 0 Done)) }
+    ensures { result ≡ mode.Has (last.Symbol (head.Any name taboo) 0 tail.Done) }
 {
     Mode::Has(Last::Symbol {
         head: Head::Any { name, taboo },
