@@ -8,7 +8,7 @@ use Rattle.dlk_tree.specs.declared.op.Op.TheVariants as op
 use Rattle.dlk_grammar.specs.Erased.{infix_op, items_of, taboo, count}
 use Rattle.dlk_grammar.specs.declared.token.Infix.TheVariants.{Greater}
 use Rattle.dlk_grammar.specs.Lexemes.{Word, Lexeme, Name, Number, Dot, Blank, True, False, All, Exist, Invariant, RoundBars, RoundBar, BarRound, BraceBar, BarBrace, Open, Close, OpenBox, CloseBox, OpenBrace, CloseBrace, Bang, Prime, Gets, Query, Semi, Comma, Turnstile, Becomes, Swaps, Op as Operator}
-use Rattle.dlk_grammar.specs.Phrases.{Phrase, Phrases, Variable, Apply, Holds, Head, Call, Any, Item, Items}
+use Rattle.dlk_grammar.specs.Phrases.{Space, Everywhere, Except, Phrase, Phrases, Variable, Apply, Holds, Head, Call, Any, Item, Items}
 use Rattle.dlk_machine.proofs.Machine.{◌>>=◌, when, as_sort, operand_sort, result_sort, fits, Between, By, Next, Quantifier, ForAll, ForSome, Modality, InBox, InDia, Prefix, Minus, Bang', Bound, Modal, Holder, Round, Args, InContext, In, InBrace, Assigns, Tests, Evolves, Domain, Notes, Part, Left, Before, Inside, Tail, Done, Bare, Grouped, Braced, Starred, Annotated, Piece, Is, Symbol, State, Wants, Has, Calls, Bars, BarsName, Binds, Starts, StartsPrime, Opens, OpensName, OpensPrime, WantsItem, ItemName, ItemPrime, ItemBar, ItemBarName, ItemEnds, Invariants, wanted}
 use Rattle.dlk_parse.specs.Codes.{postfix, postfix_all, postfix_terms}
 use Rattle.dlk_parse.specs.declared.code.Code.{Code}
@@ -108,6 +108,11 @@ prefix_of (Modal m p) = prefix.Modal (modality_of m)
 
 abbrev pub equations_of : ℕ → Items → Equations
 equations_of n l = record { at = n; items = items_of l }
+
+-- the variables on which a symbol may depend
+abbrev pub space_of : Option Word → Space
+space_of None = Everywhere
+space_of (Some y) = Except y
 
 abbrev pub holder_of : Holder → HolderPart
 holder_of (Round b) = holder.Round b

@@ -3,10 +3,12 @@
 
 mod code;
 mod fault;
+mod items;
 mod lexeme;
 mod operands;
 mod parts;
 mod stack;
+mod statements;
 mod stop;
 mod tables;
 
