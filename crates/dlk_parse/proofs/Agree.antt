@@ -125,3 +125,8 @@ module _ (old mid new : List Code) (l : Last) (x : OpenPart) (p : Piece) (before
       })
   before_ok b so v (Left o a) z d y k at c n = absurd cc
   before_ok b so v (Inside o) z d y k at c n = absurd cc
+
+-- a fault where there is a value is want of memory
+pub agrees_memory : {X Y V W : Type 0} (s : X → Y → Type 0) (r : V → W → Type 0) (f : StepFault) (y : Y) (o : Option W) → Agrees s (Err f) (Some y) → Agrees r (Err f) o
+agrees_memory s r Memory y o a = tt
+agrees_memory s r Syntax y o a = absurd a

@@ -2,3 +2,4 @@ mod Tops
 mod Agree
 mod Closing
 mod OperandSteps
+mod ItemSteps
