@@ -1,5 +1,5 @@
 mod Tops
 mod Agree
-mod Closing
+mod Reducing
 mod OperandSteps
 mod ItemSteps

@@ -6,7 +6,7 @@ use Rattle.dlk_tree.specs.declared.op.Kind.TheVariants.{UnitFunc, UnitPred}
 use Rattle.dlk_tree.specs.declared.op.Op.{Op}
 use Rattle.dlk_tree.specs.declared.op.Op.TheVariants as op
 use Rattle.dlk_grammar.specs.Erased.{infix_op, items_of, taboo, count}
-use Rattle.dlk_grammar.specs.declared.token.Infix.TheVariants.{Greater}
+use Rattle.dlk_grammar.specs.declared.token.Infix.TheVariants.{And, Greater}
 use Rattle.dlk_grammar.specs.Lexemes.{Word, Lexeme, Name, Number, Dot, Blank, True, False, All, Exist, Invariant, RoundBars, RoundBar, BarRound, BraceBar, BarBrace, Open, Close, OpenBox, CloseBox, OpenBrace, CloseBrace, Bang, Prime, Gets, Query, Semi, Comma, Turnstile, Becomes, Swaps, Op as Operator}
 use Rattle.dlk_grammar.specs.Phrases.{Space, Everywhere, Except, Phrase, Phrases, Variable, Apply, Holds, Head, Call, Any, Item, Items}
 use Rattle.dlk_machine.proofs.Machine.{◌>>=◌, when, as_sort, operand_sort, result_sort, fits, Between, By, Next, Quantifier, ForAll, ForSome, Modality, InBox, InDia, Prefix, Minus, Bang', Bound, Modal, Holder, Round, Args, InContext, In, InBrace, Assigns, Tests, Evolves, Domain, Notes, Part, Left, Before, Inside, Tail, Done, Bare, Grouped, Braced, Starred, Annotated, Piece, Is, Symbol, State, Wants, Has, Calls, Bars, BarsName, Binds, Starts, StartsPrime, Opens, OpensName, OpensPrime, WantsItem, ItemName, ItemPrime, ItemBar, ItemBarName, ItemEnds, Invariants, wanted}
@@ -290,6 +290,15 @@ primes_code b (suc n) = primes_code b n ++ prime_code b ∷ []
 -- an operator behind its left operand, which is whole
 abbrev pub left_opened : Sort → Between → List Part → Piece → Option (List Part)
 left_opened g o S p = as_sort (operand_sort o) p >>= λ a. when (fits g (result_sort o) S) (Some (Left o a ∷ S))
+
+-- two formulas joined by &
+abbrev pub formulas_joined : Sort → List Part → Piece → Option State
+formulas_joined g S p = as_sort Formula p >>= λ a. when (fits g Formula S) (Some (Wants (Left (By And) a ∷ S)))
+
+-- What stands in a bracket may have any sort; what stands in another holder has one.
+abbrev pub IsNoBracket : Holder → Type 0
+IsNoBracket (Round b) = ⊥
+IsNoBracket h = Unit {0}
 
 abbrev pub closer_lexeme : Closer → Lexeme
 closer_lexeme closer.Round = Close

@@ -1,6 +1,7 @@
 //! Reads terms, formulas, programs and sequents into a store.
 #![tactic(auto)]
 
+mod closing;
 mod code;
 mod fault;
 mod items;

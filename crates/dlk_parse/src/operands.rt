@@ -100,7 +100,7 @@ impl Stack {
     }
 
     /// An operator behind its left operand, which is whole.
-    fn left(&mut self, goal: Sort, between: Between, last: Last) -> Result<(), StepFault>
+    pub(crate) fn left(&mut self, goal: Sort, between: Between, last: Last) -> Result<(), StepFault>
         ensures { (S : List MachinePart) (p : Piece) → Stands self.old last S p
             → Agrees (λ _ T. IsOpen self.new T []) result (left_opened goal (said between) S p) }
     {

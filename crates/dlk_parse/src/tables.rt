@@ -179,7 +179,8 @@ pub(crate) fn wanted(part: &Part) -> u8
     }
 }
 
-fn held_sort(holder: &Holder) -> Sort
+/// What is to stand in a holder.
+pub(crate) fn held_sort(holder: &Holder) -> Sort
     ensures { (h : MachineHolder) → holder.now ≡ holder_of h → result ≡ held_sort h }
 {
     match holder {
