@@ -3,3 +3,4 @@ mod Agree
 mod Reducing
 mod OperandSteps
 mod ItemSteps
+mod HolderSteps

@@ -1,13 +1,13 @@
 //! Lexemes that close what they stand in.
-ghost use Rattle.std.specs.Prelude.{◌≡◌, Bool, List, [], ◌∷◌, ◌++◌, Some};
-ghost use Rattle.dlk_grammar.specs.Phrases.{Phrase, Context};
+ghost use Rattle.std.specs.Prelude.{◌≡◌, ℕ, Bool, List, [], ◌∷◌, ◌++◌, Some};
+ghost use Rattle.dlk_grammar.specs.Phrases.{Phrase, Context, Items as MachineItems};
 ghost use Rattle.dlk_grammar.specs.Lexemes.{Close, CloseBox, CloseBrace, Comma, Semi, Op as Operator};
 ghost use Rattle.dlk_grammar.specs.declared.token.Infix.TheVariants.{And, Greater};
-ghost use Rattle.dlk_machine.proofs.Machine.{Part as MachinePart, Holder as MachineHolder, Tail as MachineTail, Piece, Is, Has, Round, Grouped, with_tail, as_sort, held_sort, close, close_top, closing, and_top, infix_after};
+ghost use Rattle.dlk_machine.proofs.Machine.{Part as MachinePart, Holder as MachineHolder, Tail as MachineTail, Piece, Is, Has, Round, Evolves, Grouped, with_tail, as_sort, held_sort, close, close_top, closing, and_top, infix_after};
 ghost use Rattle.dlk_parse.specs.declared.code.Code.{Code as TheCode};
 ghost use Rattle.dlk_parse.specs.declared.parts.Last.TheVariants as last;
-ghost use Rattle.dlk_parse.specs.Codes.{postfix};
-ghost use Rattle.dlk_parse.specs.Shows.{holder_of, holder_code, closer_lexeme, last_of, piece_code, formulas_joined, IsNoBracket, IsVariable, IsLast, IsOpen, Stands, Shows, Agrees};
+ghost use Rattle.dlk_parse.specs.Codes.{postfix, postfix_terms};
+ghost use Rattle.dlk_parse.specs.Shows.{holder_of, holder_code, equations_of, closer_lexeme, last_of, piece_code, formulas_joined, IsNoBracket, IsVariable, IsLast, IsOpen, Stands, Shows, Agrees};
 
 use crate::code::Code;
 use crate::items::add_item;
@@ -263,9 +263,7 @@ impl Stack {
     {
         match pop(&mut self.parts) {
             Some(Part::Inside(Holder::Evolves(equations, name))) => {
-                settle(&mut self.out, last, Sort::Term)?;
-                let equations = add_item(equations, OdeItem::Evolve(name))?;
-                self.open(Part::Inside(Holder::Domain(equations)))
+                self.begin_domain(equations, name, last)
             }
             Some(part) => {
                 self.parts.push(part)?;
@@ -273,6 +271,21 @@ impl Stack {
             }
             None => self.join_formulas(goal, last),
         }
+    }
+
+    /// The term of an item is whole, and a domain follows.
+    fn begin_domain(
+        &mut self,
+        equations: Equations,
+        name: Name,
+        last: Last,
+    ) -> Result<Mode, StepFault>
+        ensures { (S : List MachinePart) (n : ℕ) (l : MachineItems) (p : Piece) → equations ≡ equations_of n l → IsLast last p → IsOpen self.old S (postfix_terms l ++ piece_code p)
+            → Agrees (Shows self.new) result (close (Operator And) (Evolves n l name) S p) }
+    {
+        settle(&mut self.out, last, Sort::Term)?;
+        let equations = add_item(equations, OdeItem::Evolve(name))?;
+        self.open(Part::Inside(Holder::Domain(equations)))
     }
 
     fn join_formulas(&mut self, goal: Sort, last: Last) -> Result<Mode, StepFault>
