@@ -2,9 +2,11 @@
 use Rattle.std.proofs.Common.{◌≡◌, ℕ, Bool, true, false, List, [], ◌∷◌, ◌++◌, Option, Some, None, Result, Ok, Err, refl, sym, ap, ◌∙◌, append_assoc}
 use Rattle.std.proofs.lemmas.List.{append-nil}
 use Rattle.dlk_tree.specs.declared.op.Sort.{Sort}
+use Rattle.dlk_grammar.specs.declared.token.Infix.{Infix}
+use Rattle.dlk_grammar.specs.declared.token.Infix.TheVariants.{And}
 use Rattle.dlk_grammar.specs.Lexemes.{Word}
 use Rattle.dlk_grammar.specs.Phrases.{Phrase, none}
-use Rattle.dlk_machine.proofs.Machine.{◌>>=◌, Part, Left, Inside, Args, Piece, Is, Symbol, Tail, Done, Bare, Grouped, Braced, Starred, Annotated, State, as_sort, operand_sort, result_sort, fits, start_operand, call_step, name_after}
+use Rattle.dlk_machine.proofs.Machine.{◌>>=◌, By, Wants, after_operand, infix_after, Part, Left, Inside, Args, Piece, Is, Symbol, Tail, Done, Bare, Grouped, Braced, Starred, Annotated, State, as_sort, operand_sort, result_sort, fits, start_operand, call_step, name_after}
 use Rattle.dlk_parse.specs.Codes.{postfix}
 use Rattle.dlk_parse.specs.Shows.{seen, said, shape, shapes, part_code, stack_code, piece_code, left_opened, IsLast, IsOpen, Stands, Shows, Agrees}
 use Rattle.dlk_parse.specs.declared.lexeme.Lexeme.{Lexeme as SeenLexeme}
@@ -31,3 +33,7 @@ opened S e k m h parts out = record {
     parts = parts ∙ ap (λ (l : List OpenPart). l ++ shape e ∷ []) h.parts;
     out = out ∙ h.out ∙ sym (append-nil (stack_code S ++ part_code e));
   }
+
+pub infix_other : (g : Sort) (o : Infix) (S : List Part) (p : Piece) → (o ≡ And → ⊥) → infix_after g o S p ≡ (after_operand g (By o) S p >>= λ T. Some (Wants T))
+infix_other g And S p h = absurd (h refl)
+infix_other g _ S p h = refl

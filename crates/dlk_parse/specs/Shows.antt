@@ -308,6 +308,11 @@ closer_lexeme closer.Greater = Operator Greater
 closer_lexeme closer.Comma = Comma
 closer_lexeme closer.Semicolon = Semi
 
+-- Nothing is open, and the phrase is whole.
+pub record IsWhole (k : Stack) (t : Phrase) : Type 0 where
+  pub parts : k.parts.items ≡ []
+  pub out : k.out.items ≡ postfix t
+
 -- What a call answered is what the definition gives, unless memory ran out.
 abbrev pub Agrees : {X Y : Type 0} → (X → Y → Type 0) → Result X StepFault → Option Y → Type 0
 Agrees shows (Ok x) (Some y) = shows x y

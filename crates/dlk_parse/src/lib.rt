@@ -10,6 +10,7 @@ mod operands;
 mod parts;
 mod stack;
 mod statements;
+mod step;
 mod stop;
 mod tables;
 
