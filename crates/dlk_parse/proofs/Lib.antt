@@ -6,3 +6,9 @@ pub mod FirstTokens
 pub mod Within
 pub mod Reports
 pub mod SaidLaws
+mod Tops
+mod Agree
+mod Reducing
+mod OperandSteps
+mod ItemSteps
+mod HolderSteps

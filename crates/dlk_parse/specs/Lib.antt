@@ -7,3 +7,4 @@ pub mod Made
 pub mod Making
 pub mod Limits
 pub mod Said
+pub mod Shows

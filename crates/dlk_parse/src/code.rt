@@ -2,7 +2,7 @@
 use dlk_tree::{Items, Name, Op};
 
 /// One operator of a text.
-#[derive(Drop, Debug)]
+#[derive(Drop)]
 pub(crate) enum Code {
     /// An operator behind as many operands as it has kids.
     Operator(Op),

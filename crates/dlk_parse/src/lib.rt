@@ -1,13 +1,23 @@
 //! Reads terms, formulas, programs and sequents into a store.
 #![tactic(auto)]
 
+mod closing;
 mod code;
 mod fault;
+mod items;
+mod lexeme;
 mod limits;
 mod making;
 mod measures;
+mod operands;
+mod parts;
 mod readers;
 mod said;
+mod stack;
+mod statements;
+mod step;
+mod stop;
+mod tables;
 mod texts;
 
 pub use dlk_lex::Dots;
