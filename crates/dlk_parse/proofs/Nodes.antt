@@ -26,13 +26,13 @@ use Rattle.dlk_parse.proofs.PhraseParts.{parts, of_each, operator, same_some, Is
 use Rattle.dlk_parse.proofs.Stacked.{top_is, below_is}
 
 -- ids and the trees that they stand for
+pub drop-map : {A B : Type 0} (f : A → B) (n : ℕ) (xs : List A) → drop n (map f xs) ≡ map f (drop n xs)
+drop-map f zero xs = refl
+drop-map f (suc n) [] = refl
+drop-map f (suc n) (x ∷ xs) = drop-map f n xs
+
 pub top-map : {A B : Type 0} (f : A → B) (n : ℕ) (xs : List A) → map f (top n xs) ≡ top n (map f xs)
-top-map f n xs = drop-map f (length xs - n) xs ∙ ap (λ k. drop (k - n) (map f xs)) (sym (length-map xs f))
-  where
-    drop-map : {A B : Type 0} (f : A → B) (n : ℕ) (xs : List A) → map f (drop n xs) ≡ drop n (map f xs)
-    drop-map f zero xs = refl
-    drop-map f (suc n) [] = refl
-    drop-map f (suc n) (x ∷ xs) = drop-map f n xs
+top-map f n xs = sym (drop-map f (length xs - n) xs) ∙ ap (λ k. drop (k - n) (map f xs)) (sym (length-map xs f))
 
 pub below-map : {A B : Type 0} (f : A → B) (n : ℕ) (xs : List A) → map f (below n xs) ≡ below n (map f xs)
 below-map f n xs = sym (take-map f (length xs - n) xs) ∙ ap (λ k. take (k - n) (map f xs)) (sym (length-map xs f))

@@ -1,5 +1,5 @@
 -- The first fault of tokens, and that there is none.
-use Rattle.std.proofs.Common.{◌≡◌, ℕ, ◌<◌, ◌≤◌, List, [], ◌∷◌, ◌++◌, map, Option, Some, None, refl, sym, ap, subst, ◌∙◌, arith}
+use Rattle.std.proofs.Common.{◌≡◌, ℕ, ◌<◌, ◌≤◌, List, [], ◌∷◌, ◌++◌, map, Some, None, sym, ap, subst, ◌∙◌, arith}
 use Rattle.std.specs.Prelude.{All, flat_map}
 use Rattle.std.proofs.lemmas.List.Elements.{All-head, All-tail}
 use Rattle.dlk_tree.specs.Trees.{Tree, size, depth}
@@ -8,7 +8,7 @@ use Rattle.dlk_grammar.specs.declared.token.Dots.{Dots}
 use Rattle.dlk_grammar.specs.Lexemes.{Lexeme, lexemes}
 use Rattle.dlk_grammar.specs.Phrases.{Phrase}
 use Rattle.dlk_grammar.specs.Erased.{erase, ills, least}
-use Rattle.dlk_grammar.specs.Readings.{Says, FirstAt, IsLong, OpensTooDeep, FirstPast, most_nodes, greatest_depth, ReadFault, Literal, Nesting, Syntax, Shape, TooBig, TooDeep, rank, Against, IsReadFault}
+use Rattle.dlk_grammar.specs.Readings.{Says, FirstPast, most_nodes, greatest_depth, ReadFault, Literal, Nesting, Syntax, Shape, TooBig, TooDeep, rank, Against, IsReadFault}
 use Rattle.dlk_parse.specs.Faults.{IsFaultOf}
 use Rattle.dlk_parse.specs.Limits.{AreCalm, IsUnruly, AreWithin, IsBeyond}
 use Rattle.dlk_parse.specs.Said.{IsNoText}

@@ -3,12 +3,11 @@ use Rattle.std.specs.Prelude.{◌≡◌, ℕ, ◌<◌, List, length, flat_map, S
 use Rattle.dlk_grammar.specs.declared.token.Token.{Token}
 use Rattle.dlk_grammar.specs.declared.token.Dots.{Dots}
 use Rattle.dlk_grammar.specs.declared.token.Dots.TheVariants.{Refused}
-use Rattle.dlk_grammar.specs.declared.token.Goal.{Goal}
 use Rattle.dlk_grammar.specs.Lexemes.{Lexeme, lexemes}
 use Rattle.dlk_grammar.specs.Phrases.{Phrase}
 use Rattle.dlk_grammar.specs.Grammar.{Sides, Turned, ReadsSequent}
 use Rattle.dlk_grammar.specs.Erased.{ills, least, count}
-use Rattle.dlk_grammar.specs.Readings.{Says, ReadFault, Literal, Nesting, Syntax, Shape, TooBig, TooDeep, Against, grammar, itself, both_sides}
+use Rattle.dlk_grammar.specs.Readings.{Says, ReadFault, Literal, Nesting, Syntax, Shape, TooBig, TooDeep, Against, both_sides}
 use Rattle.dlk_parse.specs.Codes.{postfix}
 use Rattle.dlk_parse.specs.Limits.{AreWithin, IsBeyond}
 use Rattle.dlk_parse.specs.declared.code.Code.{Code}

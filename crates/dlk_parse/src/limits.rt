@@ -157,11 +157,7 @@ pub(crate) fn check_tokens(tokens: &[Token]) -> Result<(), ParseFault>
 }
 
 /// Refuses a code whose phrases are beyond the limits.
-pub(crate) fn check_code(
-    alloc: Global,
-    tokens: &[Token],
-    code: &[Code],
-) -> Result<(), ParseFault>
+pub(crate) fn check_code(alloc: Global, tokens: &[Token], code: &[Code]) -> Result<(), ParseFault>
     requires { HasPlaces code.now tokens.now }
     ensures { MatchResult result (λ _. IsWithin code.now) (IsCodeBeyond code.now tokens.now) }
 {

@@ -1,0 +1,10 @@
+use Rattle.std.proofs.lemmas.Result.{IfOk-weaker}
+use Rattle.dlk_grammar.specs.declared.token.Goal.TheVariants.{Formula}
+use Rattle.dlk_grammar.specs.Grammar.{formula}
+use Rattle.dlk_store.specs.Stores.{tree}
+use Rattle.dlk_parse.proofs.SaidLaws.{sort_read}
+use Rattle.dlk_parse.proofs.readers.formula.Goals as goal
+
+pub returns-clause-sort : goal.returns-clause-sort
+returns-clause-sort g c =
+    IfOk-weaker c.read.result _ _ (λ id a. sort_read Formula formula (λ s p d. d) c.args.dots c.args.tokens.now (tree (g.S.Store.trees c.read.new.store) id) c.requires a) c.read.ensures.found
