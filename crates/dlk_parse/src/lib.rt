@@ -20,7 +20,7 @@ mod stop;
 mod tables;
 mod texts;
 
-pub use dlk_lex::Dots;
+pub use dlk_grammar::{Dots, Goal};
 pub use fault::{ParseFault, TextFault};
 pub use readers::{expression, formula, program, sequent, term};
 pub use texts::{read_expression, read_formula, read_sequent};

@@ -10,7 +10,7 @@ ghost use Rattle.dlk_sequent.specs.Sequents.{sequent_at, IsKnown};
 ghost use Rattle.dlk_parse.specs.Faults.{IsTextFaultOf};
 
 use crate::fault::{ParseFault, TextFault};
-use dlk_lex::Dots;
+use dlk_grammar::Dots;
 use dlk_sequent::Sequent;
 use dlk_store::{Id, Store};
 use std::alloc::Global;
