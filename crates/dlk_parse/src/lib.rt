@@ -8,6 +8,8 @@ mod making;
 mod measures;
 mod readers;
 mod said;
+mod texts;
 
 pub use fault::{ParseFault, TextFault};
 pub use readers::{expression, formula, program, sequent, term};
+pub use texts::{read_expression, read_formula, read_sequent};
