@@ -13,3 +13,6 @@ mod texts;
 pub use fault::{ParseFault, TextFault};
 pub use readers::{expression, formula, program, sequent, term};
 pub use texts::{read_expression, read_formula, read_sequent};
+
+#[cfg(test)]
+mod tests;

@@ -7,7 +7,7 @@ ghost use Rattle.dlk_grammar.specs.declared.token.Dots.TheVariants.{Refused};
 ghost use Rattle.dlk_grammar.specs.Texts.{TreeText, SequentText, TreeTextFault, SequentTextFault};
 ghost use Rattle.dlk_store.specs.Stores.{tree, StandsFor};
 ghost use Rattle.dlk_sequent.specs.Sequents.{sequent_at, IsKnown};
-ghost use Rattle.dlk_parse.specs.Faults.{IsTextFaultOf};
+ghost use Rattle.dlk_parse.specs.Faults.{IsTextFaultOf, UnlessTextMemory};
 
 use crate::fault::TextFault;
 use crate::readers::{expression, formula, sequent};
@@ -27,6 +27,7 @@ pub fn read_formula<S: Store>(alloc: Global, bytes: &[u8], store: &mut S) -> Res
     ensures found { IfOk result (λ id. (t : Tree) × TreeText goal_of.Formula Refused bytes.now t × StandsFor (S.trees store.new) id t) }
     ensures formula { IfOk result (λ id. IsFormula (tree (S.trees store.new) id)) }
     ensures fault { IfErr result (IsTextFaultOf (TreeTextFault goal_of.Formula Refused bytes.now)) }
+    ensures unmade { IfErr result (UnlessTextMemory (store.new ≡ store.old)) }
     ensures grows { S.grows store.old store.new }
 {
     let tokens = tokens(alloc, bytes)?;
@@ -44,6 +45,7 @@ pub fn read_expression<S: Store>(
 ) -> Result<Id, TextFault>
     ensures found { IfOk result (λ id. (t : Tree) × TreeText goal_of.Expression dots bytes.now t × StandsFor (S.trees store.new) id t) }
     ensures fault { IfErr result (IsTextFaultOf (TreeTextFault goal_of.Expression dots bytes.now)) }
+    ensures unmade { IfErr result (UnlessTextMemory (store.new ≡ store.old)) }
     ensures grows { S.grows store.old store.new }
 {
     let tokens = tokens(alloc, bytes)?;
@@ -62,6 +64,7 @@ pub fn read_sequent<S: Store>(
     ensures known { IfOk result (IsKnown (S.trees store.new)) }
     ensures formulas { IfOk result (λ s. IsSequent (sequent_at (S.trees store.new) s)) }
     ensures fault { IfErr result (IsTextFaultOf (SequentTextFault bytes.now)) }
+    ensures unmade { IfErr result (UnlessTextMemory (store.new ≡ store.old)) }
     ensures grows { S.grows store.old store.new }
 {
     let tokens = tokens(alloc, bytes)?;
