@@ -124,3 +124,6 @@ token_here tokens place d h = record {
 
 pub among : (code : List Code) (tokens : List Token) (ms : List Measure) → HasPlaces code tokens → AreMeasures code ms → IsAmong ms tokens
 among code tokens ms h m = record { below = λ place e. h.below place (sym (least_ill_is h.phrases) ∙ ap least_ill (sym (m.of_phrases h.phrases h.code_is)) ∙ e) }
+
+pub ill_at : (ms : List Measure) (tokens : List Token) (place : ℕ) (d : Token) → least_ill ms ≡ Some place → place < length tokens → KnowsBeyond ms tokens (parse.Shape (get_or tokens place d).at)
+ill_at ms tokens place d e h = ill_is ms tokens place (get_or tokens place d).at e (token_here tokens place d h)

@@ -28,3 +28,17 @@ IsTextFaultOf is_fault (text.Unread why) = IsFaultOf (λ fault. is_fault (Unread
 abbrev pub of_lex : LexFault → TextFault
 of_lex (lex.BadByte at) = text.BadByte at
 of_lex lex.Memory = text.Unread parse.Memory
+
+-- what holds of a fault, unless memory ran out
+abbrev pub UnlessMemory : Type 0 → ParseFault → Type 0
+UnlessMemory holds (parse.Literal at) = holds
+UnlessMemory holds (parse.Nesting at) = holds
+UnlessMemory holds parse.Syntax = holds
+UnlessMemory holds (parse.Shape at) = holds
+UnlessMemory holds (parse.TooBig size) = holds
+UnlessMemory holds (parse.TooDeep depth) = holds
+UnlessMemory holds parse.Memory = Unit {0}
+
+abbrev pub UnlessTextMemory : Type 0 → TextFault → Type 0
+UnlessTextMemory holds (text.BadByte at) = holds
+UnlessTextMemory holds (text.Unread why) = UnlessMemory holds why

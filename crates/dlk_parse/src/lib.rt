@@ -24,3 +24,6 @@ pub use dlk_grammar::{Dots, Goal};
 pub use fault::{ParseFault, TextFault};
 pub use readers::{expression, formula, program, sequent, term};
 pub use texts::{read_expression, read_formula, read_sequent};
+
+#[cfg(test)]
+mod tests;

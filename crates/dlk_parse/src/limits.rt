@@ -125,6 +125,7 @@ fn least_ill(measures: &[Measure]) -> Option<usize>
 }
 
 /// Refuses what is of ill shape, too big or too deep, whichever applies first in this order.
+#[tactic(auto, using(crate::proofs::Within::ill_at, crate::proofs::Within::big_is, crate::proofs::Within::deep_is, crate::proofs::Within::fine_is))]
 fn check_limits(tokens: &[Token], measures: &[Measure]) -> Result<(), ParseFault>
     requires { IsAmong measures.now tokens.now }
     ensures { MatchResult result (λ _. KnowsWithin measures.now) (KnowsBeyond measures.now tokens.now) }

@@ -10,7 +10,7 @@ ghost use Rattle.dlk_grammar.specs.RealTokens.{AreTokens};
 ghost use Rattle.dlk_grammar.specs.Readings.{grammar, itself, both_sides, IsTree, IsTreeFault, IsSequentOf, IsSequentFault};
 ghost use Rattle.dlk_store.specs.Stores.{IsId, tree};
 ghost use Rattle.dlk_sequent.specs.Sequents.{sequent_at, IsKnown};
-ghost use Rattle.dlk_parse.specs.Faults.{IsFaultOf};
+ghost use Rattle.dlk_parse.specs.Faults.{IsFaultOf, UnlessMemory};
 ghost use Rattle.dlk_parse.specs.Said.{IsReadCode, AreReadSides};
 
 use crate::code::Code;
@@ -62,6 +62,7 @@ fn read<S: Store>(
     ensures found { IfOk result (λ id. IsTree goal dots tokens.now (tree (S.trees store.new) id)) }
     ensures known { IfOk result (IsId (S.trees store.new)) }
     ensures fault { IfErr result (IsFaultOf (IsTreeFault goal dots tokens.now)) }
+    ensures unmade { IfErr result (UnlessMemory (store.new ≡ store.old)) }
     ensures grows { S.grows store.old store.new }
 {
     let code = tree_code(alloc, goal, tokens, dots)?;
@@ -89,6 +90,7 @@ pub fn formula<S: Store>(
     ensures known { IfOk result (IsId (S.trees store.new)) }
     ensures sort { IfOk result (λ id. sort (tree (S.trees store.new) id) ≡ sort_of.Formula) }
     ensures fault { IfErr result (IsFaultOf (IsTreeFault goal_of.Formula dots tokens.now)) }
+    ensures unmade { IfErr result (UnlessMemory (store.new ≡ store.old)) }
     ensures grows { S.grows store.old store.new }
 {
     read(alloc, Goal::Formula, tokens, dots, store)
@@ -106,6 +108,7 @@ pub fn term<S: Store>(
     ensures known { IfOk result (IsId (S.trees store.new)) }
     ensures sort { IfOk result (λ id. sort (tree (S.trees store.new) id) ≡ sort_of.Term) }
     ensures fault { IfErr result (IsFaultOf (IsTreeFault goal_of.Term dots tokens.now)) }
+    ensures unmade { IfErr result (UnlessMemory (store.new ≡ store.old)) }
     ensures grows { S.grows store.old store.new }
 {
     read(alloc, Goal::Term, tokens, dots, store)
@@ -123,6 +126,7 @@ pub fn program<S: Store>(
     ensures known { IfOk result (IsId (S.trees store.new)) }
     ensures sort { IfOk result (λ id. sort (tree (S.trees store.new) id) ≡ sort_of.Program) }
     ensures fault { IfErr result (IsFaultOf (IsTreeFault goal_of.Program dots tokens.now)) }
+    ensures unmade { IfErr result (UnlessMemory (store.new ≡ store.old)) }
     ensures grows { S.grows store.old store.new }
 {
     read(alloc, Goal::Program, tokens, dots, store)
@@ -140,6 +144,7 @@ pub fn expression<S: Store>(
     ensures found { IfOk result (λ id. IsTree goal_of.Expression dots tokens.now (tree (S.trees store.new) id)) }
     ensures known { IfOk result (IsId (S.trees store.new)) }
     ensures fault { IfErr result (IsFaultOf (IsTreeFault goal_of.Expression dots tokens.now)) }
+    ensures unmade { IfErr result (UnlessMemory (store.new ≡ store.old)) }
     ensures grows { S.grows store.old store.new }
 {
     read(alloc, Goal::Expression, tokens, dots, store)
@@ -158,6 +163,7 @@ pub fn sequent<S: Store>(
     ensures known { IfOk result (IsKnown (S.trees store.new)) }
     ensures formulas { IfOk result (λ s. IsSequent (sequent_at (S.trees store.new) s)) }
     ensures fault { IfErr result (IsFaultOf (IsSequentFault tokens.now)) }
+    ensures unmade { IfErr result (UnlessMemory (store.new ≡ store.old)) }
     ensures grows { S.grows store.old store.new }
 {
     let sides = sides_code(alloc, tokens)?;

@@ -1,45 +1,60 @@
-//! Trees and sequents of bytes.
-ghost use Rattle.std.specs.Prelude.{IfOk, IfErr};
+//! Formulas, expressions and sequents of bytes.
+ghost use Rattle.std.specs.Prelude.{◌≡◌, IfOk, IfErr};
 ghost use Rattle.dlk_tree.specs.Trees.{Tree};
 ghost use Rattle.dlk_calculus.specs.Sequents.{IsFormula, IsSequent};
-ghost use Rattle.dlk_grammar.specs.Texts.{TreeText, TreeTextFault, SequentText, SequentTextFault};
+ghost use Rattle.dlk_grammar.specs.declared.token.Goal.TheVariants as goal_of;
 ghost use Rattle.dlk_grammar.specs.declared.token.Dots.TheVariants.{Refused};
-ghost use Rattle.dlk_grammar.specs.declared.token.Goal.TheVariants.{Formula, Expression};
+ghost use Rattle.dlk_grammar.specs.Texts.{TreeText, SequentText, TreeTextFault, SequentTextFault};
 ghost use Rattle.dlk_store.specs.Stores.{tree, StandsFor};
 ghost use Rattle.dlk_sequent.specs.Sequents.{sequent_at, IsKnown};
-ghost use Rattle.dlk_parse.specs.Faults.{IsTextFaultOf};
+ghost use Rattle.dlk_parse.specs.Faults.{IsTextFaultOf, UnlessTextMemory};
 
-use crate::fault::{ParseFault, TextFault};
+use crate::fault::TextFault;
+use crate::readers::{expression, formula, sequent};
 use dlk_grammar::Dots;
+use dlk_lex::tokens;
 use dlk_sequent::Sequent;
 use dlk_store::{Id, Store};
 use std::alloc::Global;
 
-/// The formula that the bytes are a text of, with dots refused.
+/// The formula that the bytes are a text of. Argument dots and `_` are not in the grammar.
+///
+/// # Errors
+///
+/// `BadByte` comes exactly where the split into tokens comes to a byte at which no token, space or whole comment begins.
+/// Else the errors are those of `formula`, in `Unread`. Whatever comes, the store keeps its trees.
 pub fn read_formula<S: Store>(alloc: Global, bytes: &[u8], store: &mut S) -> Result<Id, TextFault>
-    ensures found { IfOk result (λ id. (t : Tree) × TreeText Formula Refused bytes.now t × StandsFor (S.trees store.new) id t) }
+    ensures found { IfOk result (λ id. (t : Tree) × TreeText goal_of.Formula Refused bytes.now t × StandsFor (S.trees store.new) id t) }
     ensures formula { IfOk result (λ id. IsFormula (tree (S.trees store.new) id)) }
-    ensures fault { IfErr result (IsTextFaultOf (TreeTextFault Formula Refused bytes.now)) }
+    ensures fault { IfErr result (IsTextFaultOf (TreeTextFault goal_of.Formula Refused bytes.now)) }
+    ensures unmade { IfErr result (UnlessTextMemory (store.new ≡ store.old)) }
     ensures grows { S.grows store.old store.new }
 {
-    Err(TextFault::Unread(ParseFault::Memory))
+    let tokens = tokens(alloc, bytes)?;
+    let id = formula(alloc, tokens.as_slice(), Dots::Refused, store)?;
+    Ok(id)
 }
 
-/// The formula, program or term that the bytes are a text of. A text of a formula and a term is taken as the formula.
+/// The formula, the program, or the term that is no formula, of which the bytes are a text. The errors are those of
+/// `read_formula`.
 pub fn read_expression<S: Store>(
     alloc: Global,
     bytes: &[u8],
     dots: Dots,
     store: &mut S,
 ) -> Result<Id, TextFault>
-    ensures found { IfOk result (λ id. (t : Tree) × TreeText Expression dots bytes.now t × StandsFor (S.trees store.new) id t) }
-    ensures fault { IfErr result (IsTextFaultOf (TreeTextFault Expression dots bytes.now)) }
+    ensures found { IfOk result (λ id. (t : Tree) × TreeText goal_of.Expression dots bytes.now t × StandsFor (S.trees store.new) id t) }
+    ensures fault { IfErr result (IsTextFaultOf (TreeTextFault goal_of.Expression dots bytes.now)) }
+    ensures unmade { IfErr result (UnlessTextMemory (store.new ≡ store.old)) }
     ensures grows { S.grows store.old store.new }
 {
-    Err(TextFault::Unread(ParseFault::Memory))
+    let tokens = tokens(alloc, bytes)?;
+    let id = expression(alloc, tokens.as_slice(), dots, store)?;
+    Ok(id)
 }
 
-/// The sequent that the bytes are a text of.
+/// The sequent that the bytes are a text of: formulas joined by `,`, then `==>`, then formulas joined by `,`. Argument
+/// dots and `_` are not in the grammar. The errors are those of `read_formula`.
 pub fn read_sequent<S: Store>(
     alloc: Global,
     bytes: &[u8],
@@ -49,7 +64,10 @@ pub fn read_sequent<S: Store>(
     ensures known { IfOk result (IsKnown (S.trees store.new)) }
     ensures formulas { IfOk result (λ s. IsSequent (sequent_at (S.trees store.new) s)) }
     ensures fault { IfErr result (IsTextFaultOf (SequentTextFault bytes.now)) }
+    ensures unmade { IfErr result (UnlessTextMemory (store.new ≡ store.old)) }
     ensures grows { S.grows store.old store.new }
 {
-    Err(TextFault::Unread(ParseFault::Memory))
+    let tokens = tokens(alloc, bytes)?;
+    let sequent = sequent(alloc, tokens.as_slice(), store)?;
+    Ok(sequent)
 }

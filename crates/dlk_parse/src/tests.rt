@@ -1,0 +1,177 @@
+use crate::{ParseFault, TextFault, program, read_expression, read_formula, read_sequent, term};
+use dlk_grammar::Dots;
+use dlk_lex::tokens;
+use dlk_plain::PlainStore;
+use dlk_store::Store;
+use std::test::Fail;
+
+/// The size and the depth of the formula of a text.
+fn formula_of(rt: &HostRuntime, text: &[u8]) -> Result<(u32, u32), TextFault> {
+    let mut store = PlainStore::new(rt.alloc());
+    let id = read_formula(rt.alloc(), text, &mut store)?;
+    Ok((store.size(id), store.depth(id)))
+}
+
+/// The size of the expression of a text.
+fn expression_of(rt: &HostRuntime, text: &str, dots: Dots) -> Result<u32, TextFault> {
+    let mut store = PlainStore::new(rt.alloc());
+    let id = read_expression(rt.alloc(), text.as_bytes(), dots, &mut store)?;
+    Ok(store.size(id))
+}
+
+/// How many formulas stand on the sides of a sequent.
+fn sides_of(rt: &HostRuntime, text: &str) -> Result<(usize, usize), TextFault> {
+    let mut store = PlainStore::new(rt.alloc());
+    let s = read_sequent(rt.alloc(), text.as_bytes(), &mut store)?;
+    Ok((s.ante.as_slice().len(), s.succ.as_slice().len()))
+}
+
+/// The text `before` n times, then `middle`, then `after` n times.
+fn nested(
+    rt: &HostRuntime,
+    n: usize,
+    before: &str,
+    middle: &str,
+    after: &str,
+) -> Result<Vec<u8>, Fail> {
+    let mut text = Vec::new(rt.alloc());
+    for _ in 0..n {
+        text.extend_from_slice(before.as_bytes())?;
+    }
+    text.extend_from_slice(middle.as_bytes())?;
+    for _ in 0..n {
+        text.extend_from_slice(after.as_bytes())?;
+    }
+    Ok(text)
+}
+
+#[test]
+fn reads_formulas(rt: HostRuntime) -> Result<(), Fail> {
+    let unread = |why: ParseFault| Err(TextFault::Unread(why));
+    let rows = [
+        ("((x)) + (1)>=01.50->(y>0)", Ok((9, 4))),
+        ("-x^2*y--1=0", Ok((11, 6))),
+        (
+            "[{x'=v,v'=a & v>=0}](x>=0 & !(x<0 | f(x)!=p(|x|)))",
+            Ok((23, 6)),
+        ),
+        (
+            "<?x>0; {a; ++ y':=1;}*> p(||) <-> \\forall x q(x)",
+            Ok((14, 6)),
+        ),
+        (
+            "[{x:=1;}* @invariant(x=1, [{b;}@invariant(x>0)] true)] true",
+            Ok((5, 4)),
+        ),
+        ("x>=0 & -> y>0", unread(ParseFault::Syntax)),
+        ("x>=0 # y", Err(TextFault::BadByte { at: 5 })),
+        ("f(._0)>=0", unread(ParseFault::Syntax)),
+        ("_", unread(ParseFault::Syntax)),
+        ("", unread(ParseFault::Syntax)),
+        ("f(1,2,3,4,5,6,7,8)=0", Ok((11, 3))),
+        (
+            "1=0 & f(1,2,3,4,5,6,7,8,9)=0",
+            unread(ParseFault::Shape { at: 6 }),
+        ),
+        (
+            "x>=123456789012345678901234567890123456789",
+            unread(ParseFault::Literal { at: 3 }),
+        ),
+    ];
+    for (text, want) in rows {
+        assert_eq!(rt; formula_of(&rt, text.as_bytes()), want, "{text}");
+    }
+    Ok(())
+}
+
+#[test]
+fn reads_up_to_the_limits(rt: HostRuntime) -> Result<(), Fail> {
+    let unread = |why: ParseFault| Err(TextFault::Unread(why));
+    let read = |text: Vec<u8>| formula_of(&rt, text.as_slice());
+    assert_eq!(rt; read(nested(&rt, 999, "!", "true", "")?), Ok((1000, 1000)));
+    assert_eq!(rt;
+        read(nested(&rt, 1000, "!", "true", "")?),
+        unread(ParseFault::TooDeep { depth: 1001 })
+    );
+    assert_eq!(rt; read(nested(&rt, 1200, "(", "x>=0", ")")?), Ok((3, 2)));
+    assert_eq!(rt;
+        read(nested(&rt, 1201, "(", "", "")?),
+        unread(ParseFault::Nesting { at: 1200 })
+    );
+    // a closing bracket opens no level, and below none there is none
+    assert_eq!(rt;
+        read(nested(&rt, 1201, ")(", "", "")?),
+        unread(ParseFault::Syntax)
+    );
+    Ok(())
+}
+
+#[test]
+fn reads_expressions(rt: HostRuntime) -> Result<(), Fail> {
+    let unread = |why: ParseFault| Err(TextFault::Unread(why));
+    let rows = [
+        ("x", Dots::Refused, Ok(1)),
+        ("p()", Dots::Refused, Ok(1)),
+        ("x:=1;", Dots::Refused, Ok(2)),
+        ("._0+1", Dots::Allowed, Ok(3)),
+        ("!_", Dots::Allowed, Ok(2)),
+        ("._0+1", Dots::Refused, unread(ParseFault::Syntax)),
+        (
+            "{x'=1,x'=2}",
+            Dots::Refused,
+            unread(ParseFault::Shape { at: 0 }),
+        ),
+    ];
+    for (text, dots, want) in rows {
+        assert_eq!(rt; expression_of(&rt, text, dots), want, "{text}");
+    }
+    Ok(())
+}
+
+#[test]
+fn reads_sequents(rt: HostRuntime) -> Result<(), Fail> {
+    let unread = |why: ParseFault| Err(TextFault::Unread(why));
+    let rows = [
+        ("==>", Ok((0, 0))),
+        ("x>=0 ==>", Ok((1, 0))),
+        ("==> x>=0->y>=0, (1>=x)", Ok((0, 2))),
+        ("x>=0,y>=0,z>=0==>0>=0", Ok((3, 1))),
+        ("x>=0, ==>", unread(ParseFault::Syntax)),
+        ("x>=0", unread(ParseFault::Syntax)),
+        ("==> x>=0 ==>", unread(ParseFault::Syntax)),
+        ("==> x>=0 &", unread(ParseFault::Syntax)),
+        ("true ==> {x'=1}", unread(ParseFault::Syntax)),
+    ];
+    for (text, want) in rows {
+        assert_eq!(rt; sides_of(&rt, text), want, "{text}");
+    }
+    Ok(())
+}
+
+#[test]
+fn reads_a_term(rt: HostRuntime) -> Result<(), Fail> {
+    let mut store = PlainStore::new(rt.alloc());
+    let whole = tokens(rt.alloc(), b"(x+f(y))'*2.5")?;
+    let id = term(rt.alloc(), whole.as_slice(), Dots::Refused, &mut store)?;
+    assert_eq!(rt; store.size(id), 7);
+    let whole = tokens(rt.alloc(), b"x=y")?;
+    assert_eq!(rt;
+        term(rt.alloc(), whole.as_slice(), Dots::Refused, &mut store),
+        Err(ParseFault::Syntax)
+    );
+    Ok(())
+}
+
+#[test]
+fn reads_a_program(rt: HostRuntime) -> Result<(), Fail> {
+    let mut store = PlainStore::new(rt.alloc());
+    let whole = tokens(rt.alloc(), b"x:=1; {x'=x&true}* ++ ?x>0;")?;
+    let id = program(rt.alloc(), whole.as_slice(), Dots::Refused, &mut store)?;
+    assert_eq!(rt; store.size(id), 12);
+    let whole = tokens(rt.alloc(), b"x:=1")?;
+    assert_eq!(rt;
+        program(rt.alloc(), whole.as_slice(), Dots::Refused, &mut store),
+        Err(ParseFault::Syntax)
+    );
+    Ok(())
+}
