@@ -119,7 +119,7 @@ fn reads_long_files(rt: HostRuntime) -> Result<(), Fail> {
 #[test]
 fn reads_opened_programs(rt: HostRuntime) -> Result<(), Fail> {
     let alloc = rt.alloc();
-    let (status, desk) = printed(alloc, &repeated(alloc, "<?", 400_000)?)?;
+    let (status, desk) = printed(alloc, &repeated(alloc, "<?", 20_000)?)?;
     assert_eq!(rt; desk.printed(), b"refused: file: syntax\n".as_slice());
     assert_eq!(rt; status, 2);
     Ok(())
