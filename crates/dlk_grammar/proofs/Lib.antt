@@ -1,1 +1,5 @@
 pub mod Ascii
+pub mod Marks
+pub mod Spelled
+pub mod Splitting
+pub mod Real

@@ -1,5 +1,7 @@
 pub mod Tokens
 pub mod Splits
+pub mod RealTokens
+pub mod TokensExamples
 pub mod Lexemes
 pub mod Phrases
 pub mod Grammar

@@ -1,11 +1,11 @@
 -- Texts with what they say, and where a text stops.
-use Rattle.std.specs.Prelude.{◌≡◌, refl, true, false, [], ◌∷◌, Some, None, Ok, Err, codes}
+use Rattle.std.specs.Prelude.{◌≡◌, refl, true, false, [], ◌∷◌, Some, Ok, Err, codes}
 use Rattle.dlk_tree.specs.declared.op.Num.{Num}
 use Rattle.dlk_tree.specs.declared.op.Sort.TheVariants as sort
 use Rattle.dlk_grammar.specs.declared.token.Dots.TheVariants.{Refused, Allowed}
 use Rattle.dlk_grammar.specs.declared.token.Infix.TheVariants.{Imply, And, Equal, AtLeast, Greater, Less, Add, Sub, Mul, Pow}
-use Rattle.dlk_grammar.specs.Lexemes.{Word, Lexeme, Name, Number, Dot, Bang, True, Invariant, RoundBars, Open, Close, OpenBrace, CloseBrace, Prime, Gets, Semi, Comma, Turnstile, Op}
-use Rattle.dlk_grammar.specs.Phrases.{Everywhere, Phrase, Literal, Variable, Negate, Truth, Holds, Not, Dia, Binary, Const, Assign, Loop, System, Noted, none, snoc, Any, Evolve, Flow, no_items, add}
+use Rattle.dlk_grammar.specs.Lexemes.{Word, Name, Number, Dot, Bang, True, Invariant, RoundBars, Open, Close, OpenBrace, CloseBrace, Prime, Gets, Semi, Comma, Turnstile, Op}
+use Rattle.dlk_grammar.specs.Phrases.{Everywhere, Literal, Variable, Negate, Truth, Holds, Not, Dia, Binary, Const, Assign, Loop, System, Noted, none, snoc, Any, Evolve, Flow, no_items, add}
 use Rattle.dlk_grammar.specs.Grammar.{Turned}
 use Rattle.dlk_grammar.specs.Erased.{ills, least}
 use Rattle.dlk_machine.proofs.Parse.{parse, reader}

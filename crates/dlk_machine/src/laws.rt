@@ -1,10 +1,51 @@
 //! The laws of reading. Each is a contract of a function that does nothing.
-ghost use Rattle.std.specs.Prelude.{◌≡◌, List};
+ghost use Rattle.std.specs.Prelude.{◌≡◌, ◌⊎◌, ℕ, List};
+ghost use Rattle.dlk_tree.specs.Trees.{Tree, WellMade};
+ghost use Rattle.dlk_calculus.specs.Sequents.{Sequent, IsFormula, IsSequent};
+ghost use Rattle.dlk_grammar.specs.declared.token.Dots.{Dots as TheDots};
+ghost use Rattle.dlk_grammar.specs.declared.token.Dots.TheVariants.{Refused};
+ghost use Rattle.dlk_grammar.specs.declared.token.Token.{Token as TheToken};
+ghost use Rattle.dlk_grammar.specs.declared.token.Goal.{Goal as TheGoal};
+ghost use Rattle.dlk_grammar.specs.declared.token.Goal.TheVariants.{Formula};
 ghost use Rattle.dlk_grammar.specs.Lexemes.{Lexeme};
 ghost use Rattle.dlk_grammar.specs.Phrases.{Phrase};
-ghost use Rattle.dlk_grammar.specs.Grammar.{Form, Reads};
+ghost use Rattle.dlk_grammar.specs.Grammar.{Form, Reads, Sides, ReadsSequent, ReadsExpression};
+ghost use Rattle.dlk_grammar.specs.Splits.{Splits};
+ghost use Rattle.dlk_grammar.specs.Readings.{ReadFault};
+ghost use Rattle.dlk_grammar.specs.Texts.{TreeText, SequentText, TextFault, Unread, TreeTextFault, SequentTextFault};
 
 /// Lexemes are at most one phrase of each form.
 pub fn one_phrase()
     ensures { (form : Form) (s : List Lexeme) (p q : Phrase) → Reads form s p → Reads form s q → p ≡ q }
+{}
+
+/// Lexemes are at most one expression.
+pub fn one_expression()
+    ensures { (s : List Lexeme) (p q : Phrase) → ReadsExpression s p → ReadsExpression s q → p ≡ q }
+{}
+
+/// Lexemes are the two sides of at most one sequent.
+pub fn one_sides()
+    ensures { (s : List Lexeme) (p q : Sides) → ReadsSequent s p → ReadsSequent s q → p ≡ q }
+{}
+
+/// Bytes are a text of at most one tree or have at most one fault, and never both; where they are split into tokens,
+/// they are such a text or have such a fault. The tree is well made, and where a formula without argument dots is wanted,
+/// it is one.
+pub fn tree_texts()
+    ensures one { (goal : TheGoal) (d : TheDots) (bytes : List ℕ) (t u : Tree) → TreeText goal d bytes t → TreeText goal d bytes u → t ≡ u }
+    ensures no_fault { (goal : TheGoal) (d : TheDots) (bytes : List ℕ) (t : Tree) (why : TextFault) → TreeText goal d bytes t → TreeTextFault goal d bytes why → ⊥ }
+    ensures one_fault { (goal : TheGoal) (d : TheDots) (bytes : List ℕ) (why other : TextFault) → TreeTextFault goal d bytes why → TreeTextFault goal d bytes other → why ≡ other }
+    ensures some { (goal : TheGoal) (d : TheDots) (bytes : List ℕ) (ts : List TheToken) → Splits 0 bytes ts → ((t : Tree) × TreeText goal d bytes t) ⊎ ((why : ReadFault) × TreeTextFault goal d bytes (Unread why)) }
+    ensures well_made { (goal : TheGoal) (d : TheDots) (bytes : List ℕ) (t : Tree) → TreeText goal d bytes t → WellMade t }
+    ensures formulas { (bytes : List ℕ) (t : Tree) → TreeText Formula Refused bytes t → IsFormula t }
+{}
+
+/// The same of the texts of sequents, each of formulas without argument dots.
+pub fn sequent_texts()
+    ensures one { (bytes : List ℕ) (s z : Sequent) → SequentText bytes s → SequentText bytes z → s ≡ z }
+    ensures no_fault { (bytes : List ℕ) (s : Sequent) (why : TextFault) → SequentText bytes s → SequentTextFault bytes why → ⊥ }
+    ensures one_fault { (bytes : List ℕ) (why other : TextFault) → SequentTextFault bytes why → SequentTextFault bytes other → why ≡ other }
+    ensures some { (bytes : List ℕ) (ts : List TheToken) → Splits 0 bytes ts → ((s : Sequent) × SequentText bytes s) ⊎ ((why : ReadFault) × SequentTextFault bytes (Unread why)) }
+    ensures formulas { (bytes : List ℕ) (s : Sequent) → SequentText bytes s → IsSequent s }
 {}

@@ -1,0 +1,133 @@
+-- The laws of reading: what is parsed is what the lexemes say, what they say is parsed, and a fault is where they stop.
+use Rattle.std.proofs.Common.{◌≡◌, ℕ, List, [], ◌∷◌, Result, Ok, Err, refl, sym, ◌∙◌}
+use Rattle.dlk_tree.specs.declared.op.Sort.{Sort}
+use Rattle.dlk_tree.specs.declared.op.Sort.TheVariants.{Term, Formula, Program}
+use Rattle.dlk_grammar.specs.declared.token.Dots.{Dots}
+use Rattle.dlk_grammar.specs.declared.token.Dots.TheVariants.{Allowed}
+use Rattle.dlk_grammar.specs.declared.token.Goal.{Goal}
+use Rattle.dlk_grammar.specs.declared.token.Goal.TheVariants as goal
+use Rattle.dlk_grammar.specs.Lexemes.{Lexeme}
+use Rattle.dlk_grammar.specs.Phrases.{Phrase}
+use Rattle.dlk_grammar.specs.Grammar.{Form, Reads, Sides, ReadsSequent, ReadsExpression}
+use Rattle.dlk_grammar.specs.Readings.{Permitted, Says, Stops, grammar}
+use Rattle.dlk_machine.proofs.Levels.{form_sort, top}
+use Rattle.dlk_machine.proofs.Machine.{State}
+use Rattle.dlk_machine.proofs.Parse.{Machine, parse, reader}
+use Rattle.dlk_machine.proofs.Expressions.{ExpressionState, expression_reader}
+use Rattle.dlk_machine.proofs.Sequents.{sequent_reader}
+use Rattle.dlk_machine.proofs.Climb.{stands}
+use Rattle.dlk_machine.proofs.Only.{top_sort}
+use Rattle.dlk_machine.proofs.Live.{top_need}
+use Rattle.dlk_machine.proofs.Parsing.{Reader, only_text, found_text, stops_text}
+use Rattle.dlk_machine.proofs.Reading.{reads_all}
+use Rattle.dlk_machine.proofs.ExpressionLaws.{expressions_all}
+use Rattle.dlk_machine.proofs.SequentLaws.{sequents_all}
+
+abbrev parsed : {P : Type 0} → P → Result P ℕ
+parsed p = Ok p
+
+abbrev fault : {P : Type 0} → ℕ → Result P ℕ
+fault n = Err n
+
+no_fault : {P : Type 0} (p : P) (n : ℕ) → parsed p ≡ fault n → ⊥
+no_fault p n e = absurd cc
+
+one_parsed : {P : Type 0} (p q : P) → parsed p ≡ parsed q → p ≡ q
+one_parsed p q e = cc
+
+-- a fault says that the lexemes say nothing
+faulty : {X P : Type 0} (m : Machine X P) (G : List Lexeme → P → Type 0) (d : Dots) → Reader d m G → (s : List Lexeme) (n : ℕ) → parse d m s ≡ Err n → (p : P) → ¬ Says d G s p
+faulty m G d c s n e p says = no_fault p n (sym (only_text m G d c s p says) ∙ e)
+
+-- where all are allowed, all are permitted
+all_permitted : (s : List Lexeme) → Permitted Allowed s
+all_permitted [] = tt
+all_permitted (k ∷ s) = (refl, all_permitted s)
+
+-- lexemes say one thing
+one : {X P : Type 0} (m : Machine X P) (G : List Lexeme → P → Type 0) → Reader Allowed m G → (s : List Lexeme) (p q : P) → G s p → G s q → p ≡ q
+one {X} {P} m G c s p q d e =
+    let says : (r : P) → G s r → parse Allowed m s ≡ Ok r = λ r f. only_text m G Allowed c s r (record { reads = f; permitted = all_permitted s }) in
+    one_parsed p q (sym (says p d) ∙ says q e)
+
+-- terms, formulas and programs
+pub read_says : (d : Dots) (g : Sort) (s : List Lexeme) (p : Phrase) → parse d (reader g) s ≡ Ok p → Says d (Reads (top g)) s p
+read_says d g s p e = found_text (reader g) (Reads (top g)) d (reads_all d g) s p e
+
+pub says_read : (d : Dots) (g : Sort) (s : List Lexeme) (p : Phrase) → Says d (Reads (top g)) s p → parse d (reader g) s ≡ Ok p
+says_read d g s p h = only_text (reader g) (Reads (top g)) d (reads_all d g) s p h
+
+pub fault_stops : (d : Dots) (g : Sort) (s : List Lexeme) (n : ℕ) → parse d (reader g) s ≡ Err n → Stops d (Reads (top g)) s n
+fault_stops d g s n e = stops_text (reader g) (Reads (top g)) d (reads_all d g) s n e
+
+pub fault_says_nothing : (d : Dots) (g : Sort) (s : List Lexeme) (n : ℕ) → parse d (reader g) s ≡ Err n → (p : Phrase) → ¬ Says d (Reads (top g)) s p
+fault_says_nothing d g s n e = faulty (reader g) (Reads (top g)) d (reads_all d g) s n e
+
+pub one_read : (form : Form) (s : List Lexeme) (p q : Phrase) → Reads form s p → Reads form s q → p ≡ q
+one_read form s p q d e =
+    let g = form_sort form in
+    let risen : (r : Phrase) → Reads form s r → Reads (top g) s r = λ r f. stands form (top g) s r (top_need g form) (sym (top_sort g)) f in
+    one (reader g) (Reads (top g)) (reads_all Allowed g) s p q (risen p d) (risen q e)
+
+-- expressions
+pub expression_read_says : (d : Dots) (s : List Lexeme) (p : Phrase) → parse d expression_reader s ≡ Ok p → Says d ReadsExpression s p
+expression_read_says d s p e = found_text expression_reader ReadsExpression d (expressions_all d) s p e
+
+pub expression_says_read : (d : Dots) (s : List Lexeme) (p : Phrase) → Says d ReadsExpression s p → parse d expression_reader s ≡ Ok p
+expression_says_read d s p h = only_text expression_reader ReadsExpression d (expressions_all d) s p h
+
+pub expression_fault_stops : (d : Dots) (s : List Lexeme) (n : ℕ) → parse d expression_reader s ≡ Err n → Stops d ReadsExpression s n
+expression_fault_stops d s n e = stops_text expression_reader ReadsExpression d (expressions_all d) s n e
+
+pub expression_fault_says_nothing : (d : Dots) (s : List Lexeme) (n : ℕ) → parse d expression_reader s ≡ Err n → (p : Phrase) → ¬ Says d ReadsExpression s p
+expression_fault_says_nothing d s n e = faulty expression_reader ReadsExpression d (expressions_all d) s n e
+
+pub one_expression_read : (s : List Lexeme) (p q : Phrase) → ReadsExpression s p → ReadsExpression s q → p ≡ q
+one_expression_read s p q d e = one expression_reader ReadsExpression (expressions_all Allowed) s p q d e
+
+-- sequents
+pub sequent_read_says : (d : Dots) (s : List Lexeme) (p : Sides) → parse d sequent_reader s ≡ Ok p → Says d ReadsSequent s p
+sequent_read_says d s p e = found_text sequent_reader ReadsSequent d (sequents_all d) s p e
+
+pub sequent_says_read : (d : Dots) (s : List Lexeme) (p : Sides) → Says d ReadsSequent s p → parse d sequent_reader s ≡ Ok p
+sequent_says_read d s p h = only_text sequent_reader ReadsSequent d (sequents_all d) s p h
+
+pub sequent_fault_stops : (d : Dots) (s : List Lexeme) (n : ℕ) → parse d sequent_reader s ≡ Err n → Stops d ReadsSequent s n
+sequent_fault_stops d s n e = stops_text sequent_reader ReadsSequent d (sequents_all d) s n e
+
+pub sequent_fault_says_nothing : (d : Dots) (s : List Lexeme) (n : ℕ) → parse d sequent_reader s ≡ Err n → (p : Sides) → ¬ Says d ReadsSequent s p
+sequent_fault_says_nothing d s n e = faulty sequent_reader ReadsSequent d (sequents_all d) s n e
+
+pub one_sides_read : (s : List Lexeme) (p q : Sides) → ReadsSequent s p → ReadsSequent s q → p ≡ q
+one_sides_read s p q d e = one sequent_reader ReadsSequent (sequents_all Allowed) s p q d e
+
+-- the machine of a goal
+abbrev pub GoalState : Goal → Type 0
+GoalState goal.Formula = State
+GoalState goal.Term = State
+GoalState goal.Program = State
+GoalState goal.Expression = ExpressionState
+
+abbrev pub machine_of : (wanted : Goal) → Machine (GoalState wanted) Phrase
+machine_of goal.Formula = reader Formula
+machine_of goal.Term = reader Term
+machine_of goal.Program = reader Program
+machine_of goal.Expression = expression_reader
+
+goals_all : (d : Dots) (wanted : Goal) → Reader d (machine_of wanted) (grammar wanted)
+goals_all d goal.Formula = reads_all d Formula
+goals_all d goal.Term = reads_all d Term
+goals_all d goal.Program = reads_all d Program
+goals_all d goal.Expression = expressions_all d
+
+pub goal_read_says : (d : Dots) (wanted : Goal) (s : List Lexeme) (p : Phrase) → parse d (machine_of wanted) s ≡ Ok p → Says d (grammar wanted) s p
+goal_read_says d wanted s p e = found_text (machine_of wanted) (grammar wanted) d (goals_all d wanted) s p e
+
+pub goal_says_read : (d : Dots) (wanted : Goal) (s : List Lexeme) (p : Phrase) → Says d (grammar wanted) s p → parse d (machine_of wanted) s ≡ Ok p
+goal_says_read d wanted s p h = only_text (machine_of wanted) (grammar wanted) d (goals_all d wanted) s p h
+
+pub goal_fault_stops : (d : Dots) (wanted : Goal) (s : List Lexeme) (n : ℕ) → parse d (machine_of wanted) s ≡ Err n → Stops d (grammar wanted) s n
+goal_fault_stops d wanted s n e = stops_text (machine_of wanted) (grammar wanted) d (goals_all d wanted) s n e
+
+pub goal_fault_says_nothing : (d : Dots) (wanted : Goal) (s : List Lexeme) (n : ℕ) → parse d (machine_of wanted) s ≡ Err n → (p : Phrase) → ¬ Says d (grammar wanted) s p
+goal_fault_says_nothing d wanted s n e = faulty (machine_of wanted) (grammar wanted) d (goals_all d wanted) s n e

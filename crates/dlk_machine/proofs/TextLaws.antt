@@ -1,0 +1,270 @@
+-- The laws of texts.
+use Rattle.std.proofs.Common.{◌≡◌, ℕ, zero, suc, ◌+◌, ◌<◌, ◌≤◌, min, List, [], ◌∷◌, ◌++◌, length, map, Some, refl, sym, ap, subst, ◌∙◌, arith, length-append, inl, inr}
+use Rattle.std.specs.List.{All, flat_map, fold}
+use Rattle.std.proofs.lemmas.Bool.{cases_order}
+use Rattle.std.proofs.lemmas.Grind.{flat_map-append}
+use Rattle.std.proofs.lemmas.List.{append-nil}
+use Rattle.std.proofs.lemmas.List.Elements.{All-head, All-tail}
+use Rattle.std.proofs.lemmas.Option.{same_Some}
+use Rattle.dlk_tree.specs.Trees.{Tree, WellMade, size, depth}
+use Rattle.dlk_calculus.specs.Sequents.{Sequent, IsFormula, IsSequent}
+use Rattle.dlk_grammar.specs.declared.token.Token.{Token}
+use Rattle.dlk_grammar.specs.declared.token.TokenKind.{TokenKind}
+use Rattle.dlk_grammar.specs.declared.token.TokenKind.TheVariants as kind
+use Rattle.dlk_grammar.specs.declared.token.Mark.{Mark}
+use Rattle.dlk_grammar.specs.declared.token.Mark.TheVariants as mark
+use Rattle.dlk_grammar.specs.declared.token.Dots.{Dots}
+use Rattle.dlk_grammar.specs.declared.token.Dots.TheVariants.{Refused}
+use Rattle.dlk_grammar.specs.declared.token.Goal.{Goal}
+use Rattle.dlk_grammar.specs.declared.token.Goal.TheVariants.{Formula, Term, Program, Expression}
+use Rattle.dlk_grammar.specs.RealTokens.{IsReal as IsRealToken, AreTokens}
+use Rattle.dlk_grammar.specs.Lexemes.{Lexeme, lexeme_of, lexeme_of_mark, lexemes, lexemes_from}
+use Rattle.dlk_grammar.specs.Phrases.{Phrase, Phrases, none, snoc}
+use Rattle.dlk_grammar.specs.Grammar.{formula, term, prog, Sides, Turned, ReadsSequent}
+use Rattle.dlk_grammar.specs.Erased.{erase, ills, ills_of_all, least}
+use Rattle.dlk_grammar.specs.Readings.{Says, FirstAt, IsLong, OpensTooDeep, TokenAt, FirstPast, most_nodes, greatest_depth, ReadFault, Literal, Nesting, Syntax, Shape, TooBig, TooDeep, rank, Against, IsReadFault, IsRead, grammar, itself, IsTree, IsTreeFault, phrases_in, both_sides, erase_sides, IsSequentOf, IsSequentFault}
+use Rattle.dlk_grammar.specs.Texts.{TreeText, SequentText, TextFault, BadByte, Unread, TreeTextFault, SequentTextFault}
+use Rattle.dlk_grammar.proofs.Splitting.{one_split, bad_is_no_split, one_bad}
+use Rattle.dlk_grammar.proofs.Real.{split_tokens}
+use Rattle.dlk_machine.proofs.ParseLaws.{one_read, one_expression_read, one_sides_read}
+use Rattle.dlk_machine.proofs.Formed.{Each, each_append, IsReal, AreReal, IsBelow, AreBelow, grown, grown_expression, grown_sides, formed, expression_formed, formula_formed, sequent_formed, ills_of_sides}
+
+-- the lexemes of tokens that are real are real
+mark_real : (n : ℕ) (m : Mark) → IsReal (lexeme_of_mark n m)
+mark_real n mark.OpenBrace = tt
+mark_real n _ = tt
+
+lexeme_real : (n : ℕ) (k : TokenKind) → IsRealToken k → AreReal (lexeme_of n k)
+lexeme_real n (kind.Word x) h = (h, tt)
+lexeme_real n kind.True h = (tt, tt)
+lexeme_real n kind.False h = (tt, tt)
+lexeme_real n (kind.Number d) h = (h, tt)
+lexeme_real n kind.LongNumber h = (refl, tt)
+lexeme_real n (kind.Dot d) h = (h, tt)
+lexeme_real n kind.Hole h = (tt, tt)
+lexeme_real n (kind.Mark m) h = (mark_real n m, tt)
+lexeme_real n kind.End h = tt
+
+pub lexemes_real : (n : ℕ) (ts : List Token) → All (λ t. IsRealToken t.kind) ts → AreReal (lexemes_from n ts)
+lexemes_real n [] h = tt
+lexemes_real n (t ∷ ts) h = each_append IsReal (lexeme_of n t.kind) (lexemes_from (n + 1) ts) (lexeme_real n t.kind (All-head (λ t. IsRealToken t.kind) t ts h)) (lexemes_real (n + 1) ts (All-tail (λ t. IsRealToken t.kind) t ts h))
+
+-- and their places are below the number of the tokens
+mark_below : (n m : ℕ) (k : Mark) → n < m → IsBelow m (lexeme_of_mark n k)
+mark_below n m mark.OpenBrace h = h
+mark_below n m _ h = tt
+
+lexeme_below : (n m : ℕ) (k : TokenKind) → n < m → AreBelow m (lexeme_of n k)
+lexeme_below n m (kind.Word x) h = (h, tt)
+lexeme_below n m kind.True h = (tt, tt)
+lexeme_below n m kind.False h = (tt, tt)
+lexeme_below n m (kind.Number d) h = (tt, tt)
+lexeme_below n m kind.LongNumber h = (tt, tt)
+lexeme_below n m (kind.Dot d) h = (tt, tt)
+lexeme_below n m kind.Hole h = (tt, tt)
+lexeme_below n m (kind.Mark k) h = (mark_below n m k h, tt)
+lexeme_below n m kind.End h = tt
+
+pub lexemes_below : (n m : ℕ) (ts : List Token) → n + length ts ≤ m → AreBelow m (lexemes_from n ts)
+lexemes_below n m [] h = tt
+lexemes_below n m (t ∷ ts) h = each_append (IsBelow m) (lexeme_of n t.kind) (lexemes_from (n + 1) ts) (lexeme_below n m t.kind (omega arith)) (lexemes_below (n + 1) m ts (omega arith))
+
+-- the token of a place
+pub record HasToken (ts : List Token) (place : ℕ) : Type 0 where
+  pub at : ℕ
+  pub token : TokenAt ts place at
+
+pub token_at : (ts : List Token) (place : ℕ) → place < length ts → HasToken ts place
+token_at [] place h = absurd (omega arith)
+token_at (t ∷ ts) zero h = record { at = t.at; token = record { before = []; token = t; behind = ts; tokens_are = refl; count = refl; at_is = refl } }
+token_at (t ∷ ts) (suc place) h =
+    let w = token_at ts place (omega arith) in
+    let x = w.token in
+    record { at = w.at; token = record { before = t ∷ x.before; token = x.token; behind = x.behind; tokens_are = ap (λ (l : List Token). t ∷ l) x.tokens_are; count = ap suc x.count; at_is = x.at_is } }
+
+pub least_below : (m n : ℕ) (ns : List ℕ) → n < m → Each (λ k. k < m) ns → fold min n ns < m
+least_below m n [] h g = h
+least_below m n (k ∷ ns) h g = least_below m (min n k) ns (omega arith) g.1
+
+-- two ways to split one list
+pub data Seams {X : Type 0} (b c : List X) (x y : X) : Type 0 where
+  same : b ≡ c → x ≡ y → Seams b c x y
+  sooner : (after : List X) → c ≡ b ++ x ∷ after → Seams b c x y
+  later : (after : List X) → b ≡ c ++ y ∷ after → Seams b c x y
+
+one_more : {X : Type 0} (b c : List X) (x y z w : X) → z ≡ w → Seams b c x y → Seams (z ∷ b) (w ∷ c) x y
+one_more b c x y z w e (same f g) = same (cc) g
+one_more b c x y z w e (sooner after f) = sooner after (cc)
+one_more b c x y z w e (later after f) = later after (cc)
+
+pub seams : {X : Type 0} (b c : List X) (x y : X) (r s : List X) → b ++ x ∷ r ≡ c ++ y ∷ s → Seams b c x y
+seams [] [] x y r s e = same refl (cc)
+seams [] (z ∷ c) x y r s e = sooner c (cc)
+seams (z ∷ b) [] x y r s e = later b (cc)
+seams (z ∷ b) (w ∷ c) x y r s e =
+    let first : z ≡ w = cc in
+    let rest : b ++ x ∷ r ≡ c ++ y ∷ s = cc in
+    one_more b c x y z w first (seams b c x y r s rest)
+
+-- the first token with a property has one place
+first_is : (Is : List Token → TokenKind → Type 0) (ts : List Token) (at other : ℕ) → FirstAt Is ts at → FirstAt Is ts other → at ≡ other
+first_is Is ts at other a b = elim (seams a.before b.before a.token b.token a.behind b.behind (sym a.tokens_are ∙ b.tokens_are)) [
+  | same e f ↦ a.place ∙ ap (λ (t : Token). t.at) f ∙ sym b.place
+  | sooner after e ↦ absurd (b.first a.before after a.token e a.is)
+  | later after e ↦ absurd (a.first b.before after b.token e b.is)
+]
+
+-- a place has one token
+token_is : (ts : List Token) (place at other : ℕ) → TokenAt ts place at → TokenAt ts place other → at ≡ other
+token_is ts place at other a b = elim (seams a.before b.before a.token b.token a.behind b.behind (sym a.tokens_are ∙ b.tokens_are)) [
+  | same e f ↦ a.at_is ∙ ap (λ (t : Token). t.at) f ∙ sym b.at_is
+  | sooner after e ↦ absurd (omega (arith, ap length e, length-append a.before (a.token ∷ after), a.count, b.count))
+  | later after e ↦ absurd (omega (arith, ap length e, length-append b.before (b.token ∷ after), a.count, b.count))
+]
+
+at_seam : {X : Type 0} (Is : X → Type 0) (xs : List X) (x : X) (ys : List X) → All Is (xs ++ x ∷ ys) → Is x
+at_seam Is [] x ys h = All-head Is x ys h
+at_seam Is (z ∷ xs) x ys h = at_seam Is xs x ys (All-tail Is z (xs ++ x ∷ ys) h)
+
+-- the first tree past a limit has one measure
+past_is : (measure : Tree → ℕ) (limit : ℕ) (ts : List Tree) (n m : ℕ) → FirstPast measure limit ts n → FirstPast measure limit ts m → n ≡ m
+past_is measure limit ts n m a b = elim (seams a.before b.before a.tree b.tree a.behind b.behind (sym a.trees_are ∙ b.trees_are)) [
+  | same e f ↦ a.number ∙ ap (λ (t : Tree). min (measure t) 4294967295) f ∙ sym b.number
+  | sooner after e ↦
+      let low : measure a.tree ≤ limit = at_seam (λ (t : Tree). measure t ≤ limit) a.before a.tree after (subst (All (λ (t : Tree). measure t ≤ limit)) e b.first) in
+      absurd (omega (arith, a.past))
+  | later after e ↦
+      let low : measure b.tree ≤ limit = at_seam (λ (t : Tree). measure t ≤ limit) b.before b.tree after (subst (All (λ (t : Tree). measure t ≤ limit)) e a.first) in
+      absurd (omega (arith, b.past))
+]
+
+-- A form of text: its grammar, the phrases of its trees, and that lexemes say one thing.
+module _ {P : Type 0} (G : List Lexeme → P → Type 0) (parts : P → List Phrase) (one : (s : List Lexeme) (p q : P) → G s p → G s q → p ≡ q) (d : Dots) (tokens : List Token) where
+  one_value : {R : Type 0} (value : P → R) (r q : R) → IsRead G parts d tokens value r → IsRead G parts d tokens value q → r ≡ q
+  one_value value r q a b = sym a.value_is ∙ ap value (one (lexemes tokens) a.phrase b.phrase a.says.reads b.says.reads) ∙ b.value_is
+
+  one_shape : (p q : P) (at other : ℕ) → p ≡ q → ((place : ℕ) × (least (flat_map ills (parts p)) ≡ Some place) × TokenAt tokens place at) → ((place : ℕ) × (least (flat_map ills (parts q)) ≡ Some place) × TokenAt tokens place other) → at ≡ other
+  one_shape p q at other e a b =
+      let place : a.0 ≡ b.0 = same_Some a.0 b.0 (sym a.1 ∙ ap (λ (x : P). least (flat_map ills (parts x))) e ∙ b.1) in
+      token_is tokens b.0 at other (subst (λ (n : ℕ). TokenAt tokens n at) place a.2) b.2
+
+  one_measure : (measure : Tree → ℕ) (limit : ℕ) (p q : P) (n m : ℕ) → p ≡ q → FirstPast measure limit (map erase (parts p)) n → FirstPast measure limit (map erase (parts q)) m → n ≡ m
+  one_measure measure limit p q n m e a b = past_is measure limit (map erase (parts q)) n m (subst (λ (x : P). FirstPast measure limit (map erase (parts x)) n) e a) b
+
+  -- faults of one rank are one
+  one_ranked : (why other : ReadFault) → rank why ≡ rank other → Against G parts d tokens why → Against G parts d tokens other → why ≡ other
+  one_ranked (Literal at) (Literal other) e a b = ap Literal (first_is IsLong tokens at other a b)
+  one_ranked (Nesting at) (Nesting other) e a b = ap Nesting (first_is OpensTooDeep tokens at other a b)
+  one_ranked Syntax Syntax e a b = refl
+  one_ranked (Shape at) (Shape other) e a b = ap Shape (one_shape a.0 b.0 at other (one (lexemes tokens) a.0 b.0 a.1.reads b.1.reads) a.2 b.2)
+  one_ranked (TooBig n) (TooBig m) e a b = ap TooBig (one_measure size most_nodes a.0 b.0 n m (one (lexemes tokens) a.0 b.0 a.1.reads b.1.reads) a.2 b.2)
+  one_ranked (TooDeep n) (TooDeep m) e a b = ap TooDeep (one_measure depth greatest_depth a.0 b.0 n m (one (lexemes tokens) a.0 b.0 a.1.reads b.1.reads) a.2 b.2)
+  one_ranked _ _ e a b = absurd (omega arith)
+
+  one_fault : (why other : ReadFault) → IsReadFault G parts d tokens why → IsReadFault G parts d tokens other → why ≡ other
+  one_fault why other a b = elim (cases_order (rank why) (rank other)) [
+    | inl e ↦ one_ranked why other e a.applies b.applies
+    | inr (inl less) ↦ absurd (b.first why less a.applies)
+    | inr (inr more) ↦ absurd (a.first other more b.applies)
+  ]
+
+  -- where there is no fault, nothing is of ill shape
+  none_ill : (p : P) (ns : List ℕ) → flat_map ills (parts p) ≡ ns → Says d G (lexemes tokens) p → ((why : ReadFault) → ¬ Against G parts d tokens why) → Each (λ n. n < length tokens) ns → ns ≡ []
+  none_ill p [] e says free below = refl
+  none_ill p (n ∷ ns) e says free below =
+      let at = token_at tokens (fold min n ns) (least_below (length tokens) n ns below.0 below.1) in
+      absurd (free (Shape at.at) (p, says, (fold min n ns, ap least e, at.token)))
+
+-- texts of trees
+pub one_grammar : (goal : Goal) (s : List Lexeme) (p q : Phrase) → grammar goal s p → grammar goal s q → p ≡ q
+one_grammar Formula s p q d e = one_read formula s p q d e
+one_grammar Term s p q d e = one_read term s p q d e
+one_grammar Program s p q d e = one_read prog s p q d e
+one_grammar Expression s p q d e = one_expression_read s p q d e
+
+ills_below : (goal : Goal) (s : List Lexeme) (p : Phrase) (m : ℕ) → grammar goal s p → AreBelow m s → Each (λ n. n < m) (ills p)
+ills_below Formula s p m d h = (grown d).below m h
+ills_below Term s p m d h = (grown d).below m h
+ills_below Program s p m d h = (grown d).below m h
+ills_below Expression s p m d h = (grown_expression d).grown.below m h
+
+goal_formed : (goal : Goal) (s : List Lexeme) (p : Phrase) → grammar goal s p → AreReal s → ills p ≡ [] → WellMade (erase p)
+goal_formed Formula s p d h e = (formed d h e).well_made
+goal_formed Term s p d h e = (formed d h e).well_made
+goal_formed Program s p d h e = (formed d h e).well_made
+goal_formed Expression s p d h e = expression_formed d h e
+
+pub goal_ills_below : (goal : Goal) (tokens : List Token) (p : Phrase) → grammar goal (lexemes tokens) p → Each (λ n. n < length tokens) (flat_map ills (itself p))
+goal_ills_below goal tokens p d = rw (append-nil (ills p)) (ills_below goal (lexemes tokens) p (length tokens) d (lexemes_below 0 (length tokens) tokens (omega arith)))
+
+pub tree_not_ill : (goal : Goal) (d : Dots) (tokens : List Token) (t : Tree) (a : IsTree goal d tokens t) → ills a.phrase ≡ []
+tree_not_ill goal d tokens t a =
+    let below = ills_below goal (lexemes tokens) a.phrase (length tokens) a.says.reads (lexemes_below 0 (length tokens) tokens (omega arith)) in
+    none_ill (grammar goal) itself (one_grammar goal) d tokens a.phrase (ills a.phrase) (append-nil (ills a.phrase)) a.says a.no_fault below
+
+pub tree_well_made : (goal : Goal) (d : Dots) (tokens : List Token) (t : Tree) → AreTokens tokens → IsTree goal d tokens t → WellMade t
+tree_well_made goal d tokens t real a = subst WellMade a.value_is (goal_formed goal (lexemes tokens) a.phrase a.says.reads (lexemes_real 0 tokens real.real) (tree_not_ill goal d tokens t a))
+
+pub tree_formula : (tokens : List Token) (t : Tree) → AreTokens tokens → IsTree Formula Refused tokens t → IsFormula t
+tree_formula tokens t real a = subst IsFormula a.value_is (formula_formed a.says.reads (lexemes_real 0 tokens real.real) a.says.permitted (tree_not_ill Formula Refused tokens t a))
+
+pub one_tree_text : (goal : Goal) (d : Dots) (bytes : List ℕ) (t u : Tree) → TreeText goal d bytes t → TreeText goal d bytes u → t ≡ u
+one_tree_text goal d bytes t u a b =
+    one_value (grammar goal) itself (one_grammar goal) d a.tokens erase t u a.reads (subst (λ (ts : List Token). IsTree goal d ts u) (one_split b.splits a.splits) b.reads)
+
+pub tree_or_fault : (goal : Goal) (d : Dots) (bytes : List ℕ) (t : Tree) (why : TextFault) → TreeText goal d bytes t → TreeTextFault goal d bytes why → ⊥
+tree_or_fault goal d bytes t (BadByte at) a f = bad_is_no_split f a.splits
+tree_or_fault goal d bytes t (Unread why) a f = a.reads.no_fault why (subst (λ (ts : List Token). IsTreeFault goal d ts why) (one_split f.1 a.splits) f.2).applies
+
+pub one_tree_fault : (goal : Goal) (d : Dots) (bytes : List ℕ) (why other : TextFault) → TreeTextFault goal d bytes why → TreeTextFault goal d bytes other → why ≡ other
+one_tree_fault goal d bytes (BadByte at) (BadByte other) f g = ap BadByte (one_bad f g)
+one_tree_fault goal d bytes (BadByte at) (Unread other) f g = absurd (bad_is_no_split f g.1)
+one_tree_fault goal d bytes (Unread why) (BadByte other) f g = absurd (bad_is_no_split g f.1)
+one_tree_fault goal d bytes (Unread why) (Unread other) f g =
+    ap Unread (one_fault (grammar goal) itself (one_grammar goal) d f.0 why other f.2 (subst (λ (ts : List Token). IsTreeFault goal d ts other) (one_split g.1 f.1) g.2))
+
+pub tree_text_well_made : (goal : Goal) (d : Dots) (bytes : List ℕ) (t : Tree) → TreeText goal d bytes t → WellMade t
+tree_text_well_made goal d bytes t a = tree_well_made goal d a.tokens t (split_tokens a.splits) a.reads
+
+pub tree_text_formula : (bytes : List ℕ) (t : Tree) → TreeText Formula Refused bytes t → IsFormula t
+tree_text_formula bytes t a = tree_formula a.tokens t (split_tokens a.splits) a.reads
+
+-- texts of sequents
+ills_in : (l : Phrases) → flat_map ills (phrases_in l) ≡ ills_of_all l
+ills_in none = refl
+ills_in (snoc l p) = flat_map-append ills (phrases_in l) (p ∷ []) ∙ ap (λ (ns : List ℕ). ns ++ (ills p ++ [])) (ills_in l) ∙ ap (λ (ns : List ℕ). ills_of_all l ++ ns) (append-nil (ills p))
+
+ills_in_sides : (z : Sides) → flat_map ills (both_sides z) ≡ ills_of_sides z
+ills_in_sides (Turned l m) = flat_map-append ills (phrases_in l) (phrases_in m) ∙ ap (λ (ns : List ℕ). ns ++ flat_map ills (phrases_in m)) (ills_in l) ∙ ap (λ (ns : List ℕ). ills_of_all l ++ ns) (ills_in m)
+
+sides_below : (s : List Lexeme) (z : Sides) (m : ℕ) → ReadsSequent s z → AreBelow m s → Each (λ n. n < m) (ills_of_sides z)
+sides_below s (Turned l r) m d h = (grown_sides d).below m h
+
+pub sequent_ills_below : (tokens : List Token) (z : Sides) → ReadsSequent (lexemes tokens) z → Each (λ n. n < length tokens) (flat_map ills (both_sides z))
+sequent_ills_below tokens z d = rw (ills_in_sides z) (sides_below (lexemes tokens) z (length tokens) d (lexemes_below 0 (length tokens) tokens (omega arith)))
+
+pub sequent_not_ill : (tokens : List Token) (s : Sequent) (a : IsSequentOf tokens s) → ills_of_sides a.phrase ≡ []
+sequent_not_ill tokens s a =
+    let below = sides_below (lexemes tokens) a.phrase (length tokens) a.says.reads (lexemes_below 0 (length tokens) tokens (omega arith)) in
+    none_ill ReadsSequent both_sides one_sides_read Refused tokens a.phrase (ills_of_sides a.phrase) (ills_in_sides a.phrase) a.says a.no_fault below
+
+pub sequent_formulas : (tokens : List Token) (s : Sequent) → AreTokens tokens → IsSequentOf tokens s → IsSequent s
+sequent_formulas tokens s real a = subst IsSequent a.value_is (sequent_formed a.says.reads (lexemes_real 0 tokens real.real) a.says.permitted (sequent_not_ill tokens s a))
+
+pub one_sequent_text : (bytes : List ℕ) (s z : Sequent) → SequentText bytes s → SequentText bytes z → s ≡ z
+one_sequent_text bytes s z a b =
+    one_value ReadsSequent both_sides one_sides_read Refused a.tokens erase_sides s z a.reads (subst (λ (ts : List Token). IsSequentOf ts z) (one_split b.splits a.splits) b.reads)
+
+pub sequent_or_fault : (bytes : List ℕ) (s : Sequent) (why : TextFault) → SequentText bytes s → SequentTextFault bytes why → ⊥
+sequent_or_fault bytes s (BadByte at) a f = bad_is_no_split f a.splits
+sequent_or_fault bytes s (Unread why) a f = a.reads.no_fault why (subst (λ (ts : List Token). IsSequentFault ts why) (one_split f.1 a.splits) f.2).applies
+
+pub one_sequent_fault : (bytes : List ℕ) (why other : TextFault) → SequentTextFault bytes why → SequentTextFault bytes other → why ≡ other
+one_sequent_fault bytes (BadByte at) (BadByte other) f g = ap BadByte (one_bad f g)
+one_sequent_fault bytes (BadByte at) (Unread other) f g = absurd (bad_is_no_split f g.1)
+one_sequent_fault bytes (Unread why) (BadByte other) f g = absurd (bad_is_no_split g f.1)
+one_sequent_fault bytes (Unread why) (Unread other) f g =
+    ap Unread (one_fault ReadsSequent both_sides one_sides_read Refused f.0 why other f.2 (subst (λ (ts : List Token). IsSequentFault ts other) (one_split g.1 f.1) g.2))
+
+pub sequent_text_formulas : (bytes : List ℕ) (s : Sequent) → SequentText bytes s → IsSequent s
+sequent_text_formulas bytes s a = sequent_formulas a.tokens s (split_tokens a.splits) a.reads
