@@ -51,3 +51,6 @@ take_pops n w (y ∷ S) items rest x r e h want lt p =
     let k : Some x ≡ Some (shape y) = h ∙ top_is (y ∷ S) items e in
     let at : w ≡ wanted y = want y cc in
     rw (lt-ltb n (wanted y) (omega arith)) p
+
+pub got : (l items : List OpenPart) (x : OpenPart) → l ≡ items → Some x ≡ slice_get l (length l - 1) → Some x ≡ slice_get items (length items - 1)
+got l items x e h = h ∙ ap (λ (l : List OpenPart). slice_get l (length l - 1)) e
