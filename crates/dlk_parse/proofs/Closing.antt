@@ -6,7 +6,7 @@ use Rattle.dlk_parse.specs.declared.code.Code.{Code}
 use Rattle.dlk_parse.specs.declared.parts.Part.{Part as OpenPart}
 use Rattle.dlk_parse.specs.declared.parts.Last.{Last}
 use Rattle.dlk_parse.specs.declared.stack.Stack.{Stack}
-use Rattle.dlk_parse.specs.Shows.{shape, shapes, part_code, piece_code, stack_code, IsLast, IsOpen, Agrees, TakesAbove, TakesIf, Reduces, Joins}
+use Rattle.dlk_parse.specs.Shows.{shape, shapes, part_code, piece_code, stack_code, IsLast, Stands, Agrees, TakesAbove, TakesIf, Reduces, Joins}
 use Rattle.dlk_parse.proofs.Agree.{agrees_ok, agrees_err}
 
 -- the part that was taken, and what is left to close
@@ -31,12 +31,12 @@ abbrev pub JoinsTo : OpenPart → Last → List Code → List Code → Result La
 JoinsTo x l out new r = (e : Part) (p : Piece) (before : List Code) → x ≡ shape e → IsLast l p → out ≡ before ++ (part_code e ++ piece_code p) → Agrees (Joins new before) r (join e p)
 
 pub closed_one : (n : ℕ) (T : List Part) (q : Piece) (x : OpenPart) (items : List OpenPart) (out new : List Code) (l m : Last) (k : Stack) → TakesAbove n T (Some x) items → IsLast l q → out ≡ stack_code T ++ piece_code q → JoinsTo x l out new (Ok m) → k.parts.items ≡ items → k.out.items ≡ new
-    → (U : List Part) × (v : Piece) × IsLast m v × IsOpen k U (piece_code v) × (reduce n T q ≡ reduce n U v)
+    → (U : List Part) × (v : Piece) × Stands k m U v × (reduce n T q ≡ reduce n U v)
 closed_one n T q x items out new l m k t is at j ki ko =
     let w = taken n T x items t in
     let at' : out ≡ stack_code w.1 ++ (part_code w.0 ++ piece_code q) = at ∙ ap (λ (S : List Part). stack_code S ++ piece_code q) w.2 ∙ append_assoc (stack_code w.1) (part_code w.0) (piece_code q) in
     let a = agrees_ok (Joins new (stack_code w.1)) m (join w.0 q) (j w.0 q (stack_code w.1) w.3 is at') in
-    (w.1, a.0, a.2.last, record { parts = ki ∙ w.4; out = ko ∙ a.2.out }, w.5 q ∙ ap (λ (o : Option Piece). o >>= reduce n w.1) a.1)
+    (w.1, a.0, record { last = a.2.last; lists = record { parts = ki ∙ w.4; out = ko ∙ a.2.out } }, w.5 q ∙ ap (λ (o : Option Piece). o >>= reduce n w.1) a.1)
 
 pub closed_err : (n : ℕ) (T : List Part) (q : Piece) (x : OpenPart) (items : List OpenPart) (out new : List Code) (l : Last) (k : Stack) (f : StepFault) → TakesAbove n T (Some x) items → IsLast l q → out ≡ stack_code T ++ piece_code q → JoinsTo x l out new (Err f)
     → Agrees (Reduces k) (Err f) (reduce n T q)

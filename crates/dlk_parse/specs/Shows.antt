@@ -6,9 +6,10 @@ use Rattle.dlk_tree.specs.declared.op.Kind.TheVariants.{UnitFunc, UnitPred}
 use Rattle.dlk_tree.specs.declared.op.Op.{Op}
 use Rattle.dlk_tree.specs.declared.op.Op.TheVariants as op
 use Rattle.dlk_grammar.specs.Erased.{infix_op, items_of, taboo, count}
+use Rattle.dlk_grammar.specs.declared.token.Infix.TheVariants.{Greater}
 use Rattle.dlk_grammar.specs.Lexemes.{Word, Lexeme, Name, Number, Dot, Blank, True, False, All, Exist, Invariant, RoundBars, RoundBar, BarRound, BraceBar, BarBrace, Open, Close, OpenBox, CloseBox, OpenBrace, CloseBrace, Bang, Prime, Gets, Query, Semi, Comma, Turnstile, Becomes, Swaps, Op as Operator}
 use Rattle.dlk_grammar.specs.Phrases.{Phrase, Phrases, Variable, Apply, Holds, Head, Call, Any, Item, Items}
-use Rattle.dlk_machine.proofs.Machine.{Between, By, Next, Quantifier, ForAll, ForSome, Modality, InBox, InDia, Prefix, Minus, Bang', Bound, Modal, Holder, Round, Args, InContext, In, InBrace, Assigns, Tests, Evolves, Domain, Notes, Part, Left, Before, Inside, Tail, Done, Bare, Grouped, Braced, Starred, Annotated, Piece, Is, Symbol, State, Wants, Has, Calls, Bars, BarsName, Binds, Starts, StartsPrime, Opens, OpensName, OpensPrime, WantsItem, ItemName, ItemPrime, ItemBar, ItemBarName, ItemEnds, Invariants, wanted}
+use Rattle.dlk_machine.proofs.Machine.{◌>>=◌, when, as_sort, operand_sort, result_sort, fits, Between, By, Next, Quantifier, ForAll, ForSome, Modality, InBox, InDia, Prefix, Minus, Bang', Bound, Modal, Holder, Round, Args, InContext, In, InBrace, Assigns, Tests, Evolves, Domain, Notes, Part, Left, Before, Inside, Tail, Done, Bare, Grouped, Braced, Starred, Annotated, Piece, Is, Symbol, State, Wants, Has, Calls, Bars, BarsName, Binds, Starts, StartsPrime, Opens, OpensName, OpensPrime, WantsItem, ItemName, ItemPrime, ItemBar, ItemBarName, ItemEnds, Invariants, wanted}
 use Rattle.dlk_parse.specs.Codes.{postfix, postfix_all, postfix_terms}
 use Rattle.dlk_parse.specs.declared.code.Code.{Code}
 use Rattle.dlk_parse.specs.declared.code.Code.TheVariants as code
@@ -37,6 +38,8 @@ use Rattle.dlk_parse.specs.declared.parts.Last.{Last}
 use Rattle.dlk_parse.specs.declared.parts.Last.TheVariants as last
 use Rattle.dlk_parse.specs.declared.parts.Mode.{Mode}
 use Rattle.dlk_parse.specs.declared.parts.Mode.TheVariants as mode
+use Rattle.dlk_parse.specs.declared.parts.Closer.{Closer}
+use Rattle.dlk_parse.specs.declared.parts.Closer.TheVariants as closer
 use Rattle.dlk_parse.specs.declared.stack.Stack.{Stack}
 
 -- a lexeme of the code
@@ -279,6 +282,18 @@ abbrev pub primes_code : Bool → ℕ → List Code
 primes_code b zero = []
 primes_code b (suc n) = primes_code b n ++ prime_code b ∷ []
 
+-- an operator behind its left operand, which is whole
+abbrev pub left_opened : Sort → Between → List Part → Piece → Option (List Part)
+left_opened g o S p = as_sort (operand_sort o) p >>= λ a. when (fits g (result_sort o) S) (Some (Left o a ∷ S))
+
+abbrev pub closer_lexeme : Closer → Lexeme
+closer_lexeme closer.Round = Close
+closer_lexeme closer.Square = CloseBox
+closer_lexeme closer.Brace = CloseBrace
+closer_lexeme closer.Greater = Operator Greater
+closer_lexeme closer.Comma = Comma
+closer_lexeme closer.Semicolon = Semi
+
 -- What a call answered is what the definition gives, unless memory ran out.
 abbrev pub Agrees : {X Y : Type 0} → (X → Y → Type 0) → Result X StepFault → Option Y → Type 0
 Agrees shows (Ok x) (Some y) = shows x y
@@ -301,10 +316,13 @@ abbrev pub TakesAbove : ℕ → List Part → Option OpenPart → List OpenPart 
 TakesAbove n [] r items = (r ≡ None) × (items ≡ [])
 TakesAbove n (e ∷ S) r items = TakesIf (nat_lt n (wanted e)) (shape e) (shapes S) r items
 
--- what is left open, and what was read last
-pub record Reduces (k : Stack) (l : Last) (r : List Part × Piece) : Type 0 where
-  pub last : IsLast l r.1
-  pub lists : IsOpen k r.0 (piece_code r.1)
+-- The lists show these open parts, and this was read last.
+pub record Stands (k : Stack) (l : Last) (S : List Part) (p : Piece) : Type 0 where
+  pub last : IsLast l p
+  pub lists : IsOpen k S (piece_code p)
+
+abbrev pub Reduces : Stack → Last → List Part × Piece → Type 0
+Reduces k l r = Stands k l r.0 r.1
 
 -- a tree whose operators are written, and what is open
 pub record Writes (new : List Code) (before : List Code) (t : Phrase) : Type 0 where

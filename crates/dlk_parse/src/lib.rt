@@ -4,6 +4,7 @@
 mod code;
 mod fault;
 mod lexeme;
+mod operands;
 mod parts;
 mod stack;
 mod stop;

@@ -148,3 +148,14 @@ pub(crate) enum Mode {
     /// After `@invariant`.
     Invariants,
 }
+
+/// A lexeme that closes a holder.
+#[derive(Clone, Copy)]
+pub(crate) enum Closer {
+    Round,
+    Square,
+    Brace,
+    Greater,
+    Comma,
+    Semicolon,
+}

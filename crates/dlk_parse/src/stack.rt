@@ -4,7 +4,7 @@ ghost use Rattle.dlk_grammar.specs.Phrases.{Variable, Head as MachineHead};
 ghost use Rattle.dlk_machine.proofs.Machine.{Part as MachinePart, Tail as MachineTail, Piece, Symbol, as_sort, join, reduce, fits, place};
 ghost use Rattle.dlk_parse.specs.declared.code.Code.{Code as TheCode};
 ghost use Rattle.dlk_parse.specs.Codes.{postfix};
-ghost use Rattle.dlk_parse.specs.Shows.{shape, shapes, part_code, piece_code, head_of, head_code, primes_code, symbol_of, unit_code, IsLast, IsOpen, Agrees, Reduces, Pops, TakesAbove, Writes, Joins};
+ghost use Rattle.dlk_parse.specs.Shows.{shape, shapes, part_code, piece_code, head_of, head_code, primes_code, symbol_of, unit_code, IsLast, Stands, Agrees, Reduces, Pops, TakesAbove, Writes, Joins};
 
 use crate::code::Code;
 use crate::parts::{Head, Last, Part, Tail};
@@ -179,7 +179,7 @@ fn join(out: &mut Vec<Code>, part: Part, last: Last) -> Result<Last, StepFault>
 impl Stack {
     /// Closes the open parts that want more than a level.
     pub(crate) fn reduce(&mut self, level: u8, last: Last) -> Result<Last, StepFault>
-        ensures { (S : List MachinePart) (p : Piece) → IsLast last p → IsOpen self.old S (piece_code p)
+        ensures { (S : List MachinePart) (p : Piece) → Stands self.old last S p
             → Agrees (Reduces self.new) result (reduce level S p) }
     {
         let mut last = last;
