@@ -2,10 +2,13 @@
 #![tactic(auto)]
 
 mod code;
+mod ends;
+mod expressions;
 mod fault;
 mod lexeme;
-mod operands;
 mod parts;
+mod reader;
+mod sides;
 mod stack;
 mod stop;
 mod tables;
