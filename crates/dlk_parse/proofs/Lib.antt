@@ -1,3 +1,5 @@
 mod Tops
 mod Agree
 mod Closing
+mod Steps
+mod SideSteps

@@ -1,5 +1,5 @@
 -- How the readers of trees and sequents show the machines' states, and what reading answers.
-use Rattle.std.specs.Prelude.{◌≡◌, ℕ, List, [], ◌++◌, Option, Some, None, Result, Ok, Err}
+use Rattle.std.specs.Prelude.{◌≡◌, ℕ, ◌+◌, List, [], ◌++◌, Option, Some, None, Result, Ok, Err}
 use Rattle.std.specs.Global.{Vec}
 use Rattle.dlk_tree.specs.declared.op.Sort.{Sort}
 use Rattle.dlk_tree.specs.declared.op.Sort.TheVariants.{Term, Formula, Program}
@@ -8,18 +8,20 @@ use Rattle.dlk_grammar.specs.declared.token.Dots.TheVariants.{Refused}
 use Rattle.dlk_grammar.specs.declared.token.Goal.{Goal}
 use Rattle.dlk_grammar.specs.declared.token.Goal.TheVariants as goal
 use Rattle.dlk_grammar.specs.declared.token.Token.{Token}
-use Rattle.dlk_grammar.specs.Lexemes.{lexemes}
+use Rattle.dlk_grammar.specs.Lexemes.{Lexeme, lexemes}
 use Rattle.dlk_grammar.specs.Phrases.{Phrase, Phrases, none, snoc}
 use Rattle.dlk_grammar.specs.Erased.{count}
 use Rattle.dlk_grammar.specs.Grammar.{Sides, Turned}
 use Rattle.dlk_machine.proofs.Machine.{◌>>=◌, State, ended}
-use Rattle.dlk_machine.proofs.Parse.{parse}
+use Rattle.dlk_machine.proofs.Parse.{parse_from, parse}
 use Rattle.dlk_machine.proofs.ParseLaws.{GoalState, machine_of}
 use Rattle.dlk_machine.proofs.Expressions.{ExpressionState, Unread, FirstName, FirstPrime, AsFormula, AsProgram}
 use Rattle.dlk_machine.proofs.Sequents.{Side, LeftSide, RightSide, SequentState, Fresh, Reading, sequent_reader}
 use Rattle.dlk_parse.specs.Codes.{postfix, postfix_all}
 use Rattle.dlk_parse.specs.Shows.{IsOpen, Shows}
 use Rattle.dlk_parse.specs.declared.code.Code.{Code}
+use Rattle.dlk_parse.specs.declared.stop.StepFault.{StepFault}
+use Rattle.dlk_parse.specs.declared.stop.StepFault.TheVariants as step
 use Rattle.dlk_parse.specs.declared.stop.Stop.{Stop}
 use Rattle.dlk_parse.specs.declared.stop.Stop.TheVariants.{Memory, Syntax}
 use Rattle.dlk_parse.specs.declared.parts.Mode.{Mode}
@@ -28,6 +30,8 @@ use Rattle.dlk_parse.specs.declared.expressions.Place.{Place}
 use Rattle.dlk_parse.specs.declared.expressions.Place.TheVariants as place
 use Rattle.dlk_parse.specs.declared.sides.SidesReader.{SidesReader}
 use Rattle.dlk_parse.specs.declared.sides.SidesCode.{SidesCode}
+use Rattle.dlk_parse.specs.declared.reading.Reached.{Reached}
+use Rattle.dlk_parse.specs.declared.reading.SidesReached.{SidesReached}
 
 -- Nothing is open, and this was read.
 pub record IsWhole (k : Stack) (t : Phrase) : Type 0 where
@@ -113,8 +117,49 @@ pub record IsSidesOf (c : SidesCode) (l m : Phrases) : Type 0 where
   pub right : c.right ≡ count m
   pub code : c.code.items ≡ postfix_all l ++ postfix_all m
 
+-- both sides, of which the right one ends
+abbrev pub both_of : Side → Phrases → Option Sides
+both_of LeftSide l = None
+both_of (RightSide l) m = Some (Turned l m)
+
 abbrev pub IsCodeOf : SidesCode → Sides → Type 0
 IsCodeOf c (Turned l m) = IsSidesOf c l m
+
+abbrev pub tree_start : (wanted : Goal) → GoalState wanted
+tree_start wanted = (machine_of wanted).start
+
+abbrev pub tree_step : (wanted : Goal) → GoalState wanted → Lexeme → Option (GoalState wanted)
+tree_step wanted = (machine_of wanted).step
+
+-- one more lexeme was read
+pub record Reaches (wanted : Goal) (k : Stack) (n : ℕ) (new : Reached) (x : GoalState wanted) : Type 0 where
+  pub shows : ShowsTree wanted k new.place x
+  pub count : new.count ≡ n + 1
+
+pub record SidesReach (k : SidesReader) (n : ℕ) (new : SidesReached) (x : SequentState) : Type 0 where
+  pub shows : ShowsSides k new.mode x
+  pub count : new.count ≡ n + 1
+
+-- What is left to read gives what all gives.
+pub record GoesOn (d : Dots) (wanted : Goal) (k : Stack) (r : Result Phrase ℕ) (reached : Reached) (s : List Lexeme) : Type 0 where
+  pub state : GoalState wanted
+  pub shows : ShowsTree wanted k reached.place state
+  pub reads : parse_from d (machine_of wanted) state reached.count s ≡ r
+
+pub record GoesOnSides (k : SidesReader) (r : Result Sides ℕ) (reached : SidesReached) (s : List Lexeme) : Type 0 where
+  pub state : SequentState
+  pub shows : ShowsSides k reached.mode state
+  pub reads : parse_from Refused sequent_reader state reached.count s ≡ r
+
+abbrev pub Advances : {X P : Type 0} → (X → List Lexeme → Type 0) → Result P ℕ → Result X Stop → List Lexeme → Type 0
+Advances goes r (Ok x) s = goes x s
+Advances goes r (Err Memory) s = Unit {0}
+Advances goes r (Err (Syntax place)) s = r ≡ Err place
+
+-- the fault of a lexeme, with its place
+abbrev pub stop_of : StepFault → ℕ → Stop
+stop_of step.Memory place = Memory
+stop_of step.Syntax place = Syntax place
 
 -- what was read shows what was parsed
 pub record IsParsed {X P : Type 0} (shows : X → P → Type 0) (x : X) (r : Result P ℕ) : Type 0 where

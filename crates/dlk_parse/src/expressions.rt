@@ -1,10 +1,10 @@
 //! The reader of one tree.
-ghost use Rattle.std.specs.Prelude.{◌≡◌, List, [], Some};
+ghost use Rattle.std.specs.Prelude.{true, [], Some};
 ghost use Rattle.dlk_grammar.specs.Phrases.{Variable};
 ghost use Rattle.dlk_tree.specs.declared.op.Sort.{Sort as TheSort};
 ghost use Rattle.dlk_tree.specs.declared.op.Sort.TheVariants as sort_of;
 ghost use Rattle.dlk_machine.proofs.Machine.{State, Done, Is, Has, step, ended};
-ghost use Rattle.dlk_machine.proofs.Expressions.{ExpressionState, Unread, FirstName, FirstPrime, as_formula, expression_step, expression_ended};
+ghost use Rattle.dlk_machine.proofs.Expressions.{ExpressionState, Unread, FirstName, FirstPrime, as_formula, as_program, expression_step, expression_ended};
 ghost use Rattle.dlk_parse.specs.Shows.{seen, Shows, Agrees, IsOpen};
 ghost use Rattle.dlk_parse.specs.Readers.{IsWhole, ShowsOf, ShowsExpression};
 
@@ -13,6 +13,7 @@ use crate::parts::{Last, Mode, Tail};
 use crate::stack::{Stack, variable};
 use crate::stop::StepFault;
 use dlk_tree::{Name, Sort};
+use std::alloc::Global;
 
 /// Where the reader of one tree stands.
 #[derive(Drop)]
@@ -28,33 +29,40 @@ pub(crate) enum Place {
 }
 
 impl Stack {
-    fn step_of(&mut self, sort: Sort, mode: Mode, lexeme: Lexeme) -> Result<Place, StepFault>
+    fn step_of(&mut self, alloc: Global, sort: Sort, mode: Mode, lexeme: Lexeme) -> Result<Place, StepFault>
         ensures { (x : State) → Shows self.old mode x → Agrees (ShowsOf sort self.new) result (step sort x (seen lexeme)) }
     {
-        Ok(Place::Of(sort, self.step(sort, mode, lexeme)?))
+        Ok(Place::Of(sort, self.step(alloc, sort, mode, lexeme)?))
     }
 
-    fn step_either(&mut self, mode: Mode, lexeme: Lexeme) -> Result<Place, StepFault>
+    fn step_program(&mut self, alloc: Global, mode: Mode, lexeme: Lexeme) -> Result<Place, StepFault>
+        ensures { (x : State) → Shows self.old mode x → Agrees (ShowsExpression self.new) result (as_program x (seen lexeme)) }
+    {
+        self.step_of(alloc, Sort::Program, mode, lexeme)
+    }
+
+    fn step_either(&mut self, alloc: Global, mode: Mode, lexeme: Lexeme) -> Result<Place, StepFault>
         ensures { (x : State) → Shows self.old mode x → Agrees (ShowsExpression self.new) result (as_formula x (seen lexeme)) }
     {
-        Ok(Place::Either(self.step(Sort::Formula, mode, lexeme)?))
+        Ok(Place::Either(self.step(alloc, Sort::Formula, mode, lexeme)?))
     }
 
     /// The first lexeme of an expression.
-    fn step_unread(&mut self, lexeme: Lexeme) -> Result<Place, StepFault>
+    fn step_unread(&mut self, alloc: Global, lexeme: Lexeme) -> Result<Place, StepFault>
         ensures { IsOpen self.old [] [] → Agrees (ShowsExpression self.new) result (expression_step Unread (seen lexeme)) }
     {
         match lexeme {
             Lexeme::Name(at, name) => Ok(Place::FirstName { at, name }),
-            Lexeme::Query => self.step_of(Sort::Program, Mode::Wants, lexeme),
-            Lexeme::OpenBrace(_) => self.step_of(Sort::Program, Mode::Wants, lexeme),
-            _ => self.step_either(Mode::Wants, lexeme),
+            Lexeme::Query => self.step_program(alloc, Mode::Wants, lexeme),
+            Lexeme::OpenBrace(_) => self.step_program(alloc, Mode::Wants, lexeme),
+            _ => self.step_either(alloc, Mode::Wants, lexeme),
         }
     }
 
     /// A lexeme behind the name with which an expression begins.
     fn step_first_name(
         &mut self,
+        alloc: Global,
         at: usize,
         name: Name,
         lexeme: Lexeme,
@@ -63,9 +71,9 @@ impl Stack {
     {
         match lexeme {
             Lexeme::Prime => Ok(Place::FirstPrime(name)),
-            Lexeme::Semi => self.step_of(Sort::Program, Mode::Starts(name), lexeme),
-            Lexeme::Gets => self.step_of(Sort::Program, Mode::Starts(name), lexeme),
-            _ => self.step_either(Mode::Has(Last::Name { at, name }), lexeme),
+            Lexeme::Semi => self.step_program(alloc, Mode::Starts(name), lexeme),
+            Lexeme::Gets => self.step_program(alloc, Mode::Starts(name), lexeme),
+            _ => self.step_either(alloc, Mode::Has(Last::Name { at, name }), lexeme),
         }
     }
 
@@ -78,29 +86,29 @@ impl Stack {
     }
 
     /// A lexeme behind them.
-    fn step_first_prime(&mut self, name: Name, lexeme: Lexeme) -> Result<Place, StepFault>
+    fn step_first_prime(&mut self, alloc: Global, name: Name, lexeme: Lexeme) -> Result<Place, StepFault>
         ensures { IsOpen self.old [] [] → Agrees (ShowsExpression self.new) result (expression_step (FirstPrime name) (seen lexeme)) }
     {
         if let Lexeme::Gets = lexeme {
-            return self.step_of(Sort::Program, Mode::StartsPrime(name), lexeme);
+            return self.step_program(alloc, Mode::StartsPrime(name), lexeme);
         }
         let mode = self.differential(name)?;
-        self.step_either(mode, lexeme)
+        self.step_either(alloc, mode, lexeme)
     }
 
     /// What a lexeme makes of what was read of one tree.
-    pub(crate) fn step_tree(&mut self, place: Place, lexeme: Lexeme) -> Result<Place, StepFault>
+    pub(crate) fn step_tree(&mut self, alloc: Global, place: Place, lexeme: Lexeme) -> Result<Place, StepFault>
         ensures expression { (x : ExpressionState) → ShowsExpression self.old place x
             → Agrees (ShowsExpression self.new) result (expression_step x (seen lexeme)) }
         ensures of { (sort : TheSort) (x : State) → ShowsOf sort self.old place x
             → Agrees (ShowsOf sort self.new) result (step sort x (seen lexeme)) }
     {
         match place {
-            Place::Unread => self.step_unread(lexeme),
-            Place::FirstName { at, name } => self.step_first_name(at, name, lexeme),
-            Place::FirstPrime(name) => self.step_first_prime(name, lexeme),
-            Place::Either(mode) => self.step_either(mode, lexeme),
-            Place::Of(sort, mode) => self.step_of(sort, mode, lexeme),
+            Place::Unread => self.step_unread(alloc, lexeme),
+            Place::FirstName { at, name } => self.step_first_name(alloc, at, name, lexeme),
+            Place::FirstPrime(name) => self.step_first_prime(alloc, name, lexeme),
+            Place::Either(mode) => self.step_either(alloc, mode, lexeme),
+            Place::Of(sort, mode) => self.step_of(alloc, sort, mode, lexeme),
         }
     }
 

@@ -8,6 +8,7 @@ mod fault;
 mod lexeme;
 mod parts;
 mod reader;
+mod reading;
 mod sides;
 mod stack;
 mod stop;

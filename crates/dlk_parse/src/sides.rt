@@ -5,7 +5,7 @@ ghost use Rattle.dlk_machine.proofs.Machine.{State};
 ghost use Rattle.dlk_machine.proofs.Sequents.{Side, SequentState, Reading, sequent_step, sequent_ended, turn, inner};
 ghost use Rattle.dlk_grammar.specs.Lexemes.{Comma, Turnstile};
 ghost use Rattle.dlk_parse.specs.Shows.{seen, Agrees};
-ghost use Rattle.dlk_parse.specs.Readers.{IsWhole, ShowsBetween, ShowsReading, ShowsSides, KeepsSide, IsCodeOf, finished};
+ghost use Rattle.dlk_parse.specs.Readers.{IsWhole, ShowsBetween, ShowsReading, ShowsSides, KeepsSide, IsCodeOf, finished, both_of};
 
 use crate::code::Code;
 use crate::lexeme::Lexeme;
@@ -13,6 +13,7 @@ use crate::parts::Mode;
 use crate::stack::{Stack, one_more};
 use crate::stop::StepFault;
 use dlk_tree::Sort;
+use std::alloc::Global;
 
 /// A reader of a sequent.
 #[derive(Drop)]
@@ -36,11 +37,11 @@ pub(crate) struct SidesCode {
 
 impl SidesReader {
     /// A lexeme of the formula that is read.
-    fn step_inner(&mut self, mode: Mode, lexeme: Lexeme) -> Result<Option<Mode>, StepFault>
+    fn step_inner(&mut self, alloc: Global, mode: Mode, lexeme: Lexeme) -> Result<Option<Mode>, StepFault>
         ensures { (w : Side) (l : Phrases) (x : State) → ShowsReading self.old mode w l x
             → Agrees (ShowsSides self.new) result (inner w l x (seen lexeme)) }
     {
-        Ok(Some(self.stack.step(Sort::Formula, mode, lexeme)?))
+        Ok(Some(self.stack.step(alloc, Sort::Formula, mode, lexeme)?))
     }
 
     /// The formula on the stack is whole.
@@ -63,17 +64,17 @@ impl SidesReader {
     }
 
     /// A comma behind a formula that is whole, or in one that is not.
-    fn step_comma(&mut self, mode: Mode) -> Result<Option<Mode>, StepFault>
+    fn step_comma(&mut self, alloc: Global, mode: Mode) -> Result<Option<Mode>, StepFault>
         ensures { (w : Side) (l : Phrases) (x : State) → ShowsReading self.old mode w l x
             → Agrees (ShowsSides self.new) result (sequent_step (Reading w l x) Comma) }
     {
         let last = match mode {
             Mode::Has(last) => last,
-            mode => return self.step_inner(mode, Lexeme::Comma),
+            mode => return self.step_inner(alloc, mode, Lexeme::Comma),
         };
         let last = self.stack.reduce(0, last)?;
         if !self.stack.parts.is_empty() {
-            return self.step_inner(Mode::Has(last), Lexeme::Comma);
+            return self.step_inner(alloc, Mode::Has(last), Lexeme::Comma);
         }
         self.stack.settle_whole(Sort::Formula, last)?;
         self.keep()?;
@@ -98,26 +99,47 @@ impl SidesReader {
         ensures { (x : SequentState) → ShowsSides self.old mode x
             → Agrees (ShowsSides self.new) result (sequent_step x Turnstile) }
     {
-        if let Some(mode) = mode {
-            self.finish(mode)?;
-        }
+        let Some(mode) = mode else {
+            return self.turn();
+        };
+        self.finish(mode)?;
         self.turn()
     }
 
     /// What a lexeme makes of what was read. There is no mode where nothing of a side was read.
     pub(crate) fn step(
         &mut self,
+        alloc: Global,
         mode: Option<Mode>,
         lexeme: Lexeme,
     ) -> Result<Option<Mode>, StepFault>
         ensures { (x : SequentState) → ShowsSides self.old mode x
             → Agrees (ShowsSides self.new) result (sequent_step x (seen lexeme)) }
     {
-        match (mode, lexeme) {
-            (mode, Lexeme::Turnstile) => self.step_turnstile(mode),
-            (Some(mode), Lexeme::Comma) => self.step_comma(mode),
-            (Some(mode), lexeme) => self.step_inner(mode, lexeme),
-            (None, lexeme) => self.step_inner(Mode::Wants, lexeme),
+        if let Lexeme::Turnstile = lexeme {
+            return self.step_turnstile(mode);
+        }
+        let Some(mode) = mode else {
+            return self.step_inner(alloc, Mode::Wants, lexeme);
+        };
+        if let Lexeme::Comma = lexeme {
+            return self.step_comma(alloc, mode);
+        }
+        self.step_inner(alloc, mode, lexeme)
+    }
+
+    /// Both sides, where nothing is read of a next formula.
+    fn both(self) -> Result<SidesCode, StepFault>
+        ensures { (w : Side) (l : Phrases) → ShowsBetween self w l
+            → Agrees IsCodeOf result (both_of w l) }
+    {
+        match self.left {
+            Some(left) => Ok(SidesCode {
+                left,
+                right: self.number,
+                code: self.done,
+            }),
+            None => Err(StepFault::Syntax),
         }
     }
 
@@ -126,17 +148,11 @@ impl SidesReader {
         ensures { (x : SequentState) → ShowsSides self mode x
             → Agrees IsCodeOf result (sequent_ended x) }
     {
+        let Some(mode) = mode else {
+            return self.both();
+        };
         let mut reader = self;
-        if let Some(mode) = mode {
-            reader.finish(mode)?;
-        }
-        match reader.left {
-            Some(left) => Ok(SidesCode {
-                left,
-                right: reader.number,
-                code: reader.done,
-            }),
-            None => Err(StepFault::Syntax),
-        }
+        reader.finish(mode)?;
+        reader.both()
     }
 }
