@@ -12,3 +12,5 @@ mod Reducing
 mod OperandSteps
 mod ItemSteps
 mod HolderSteps
+mod Steps
+mod SideSteps

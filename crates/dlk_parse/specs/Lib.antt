@@ -8,3 +8,5 @@ pub mod Making
 pub mod Limits
 pub mod Said
 pub mod Shows
+pub mod Readers
+pub mod Stops

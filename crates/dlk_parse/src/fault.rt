@@ -2,6 +2,7 @@ ghost use Rattle.std.specs.Prelude.{◌≡◌};
 ghost use Rattle.dlk_parse.specs.Faults.{of_lex};
 ghost use Rattle.dlk_parse.specs.declared.fault.ParseFault.TheVariants.{Memory};
 
+use crate::stop::Stop;
 use dlk_lex::LexFault;
 use dlk_store::StoreFault;
 use std::alloc::{AllocError, AllocFailed};
@@ -54,6 +55,19 @@ impl From<StoreFault> for ParseFault {
 
     fn from(_: StoreFault) -> ParseFault {
         ParseFault::Memory
+    }
+}
+
+impl From<Stop> for ParseFault {
+    ghost use Rattle.dlk_parse.specs.Stops.{of_stop};
+
+    ghost from_gives = { λ stop e. e ≡ of_stop stop };
+
+    fn from(stop: Stop) -> ParseFault {
+        match stop {
+            Stop::Syntax { place: _ } => ParseFault::Syntax,
+            Stop::Memory => ParseFault::Memory,
+        }
     }
 }
 

@@ -3,6 +3,8 @@
 
 mod closing;
 mod code;
+mod ends;
+mod expressions;
 mod fault;
 mod items;
 mod lexeme;
@@ -12,7 +14,9 @@ mod measures;
 mod operands;
 mod parts;
 mod readers;
+mod reading;
 mod said;
+mod sides;
 mod stack;
 mod statements;
 mod step;

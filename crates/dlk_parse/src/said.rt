@@ -8,6 +8,8 @@ ghost use Rattle.dlk_parse.specs.Said.{SaysCode, IsNoText, SaysSides};
 
 use crate::code::Code;
 use crate::fault::ParseFault;
+use crate::reading::{read_sides, read_tree};
+use crate::sides::SidesCode;
 use dlk_grammar::{Dots, Goal, Token};
 use std::alloc::Global;
 

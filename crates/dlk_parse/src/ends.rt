@@ -1,0 +1,66 @@
+//! The end of a text.
+ghost use Rattle.std.specs.Prelude.{◌≡◌, List, Some};
+ghost use Rattle.dlk_grammar.specs.Phrases.{Phrase};
+ghost use Rattle.dlk_machine.proofs.Machine.{Part as MachinePart, Piece, State, as_sort, whole, ended};
+ghost use Rattle.dlk_machine.proofs.Parse.{or_else};
+ghost use Rattle.dlk_machine.proofs.Expressions.{term_or_formula};
+ghost use Rattle.dlk_tree.specs.declared.op.Sort.TheVariants as sort_of;
+ghost use Rattle.dlk_parse.specs.Shows.{Shows, Agrees, IsLast, Stands};
+ghost use Rattle.dlk_parse.specs.Readers.{IsWhole};
+
+use crate::parts::{Last, Mode};
+use crate::stack::{Stack, settle};
+use crate::stop::StepFault;
+use dlk_tree::Sort;
+
+impl Stack {
+    /// The tree, where nothing is open any more.
+    pub(crate) fn settle_whole(&mut self, goal: Sort, last: Last) -> Result<(), StepFault>
+        ensures { (S : List MachinePart) (p : Piece) → Stands self.old last S p
+            → Agrees (λ _ t. IsWhole self.new t) result (whole goal S p) }
+    {
+        if !self.parts.is_empty() {
+            return Err(StepFault::Syntax);
+        }
+        settle(&mut self.out, last, goal)
+    }
+
+    /// The end of a term, a formula or a program.
+    pub(crate) fn end(&mut self, goal: Sort, mode: Mode) -> Result<(), StepFault>
+        ensures { (x : State) → Shows self.old mode x
+            → Agrees (λ _ t. IsWhole self.new t) result (ended goal x) }
+    {
+        let Mode::Has(last) = mode else {
+            return Err(StepFault::Syntax);
+        };
+        let last = self.reduce(0, last)?;
+        self.settle_whole(goal, last)
+    }
+
+    /// The end of a formula, or of a term that is no formula.
+    pub(crate) fn end_either(&mut self, mode: Mode) -> Result<(), StepFault>
+        ensures { (x : State) → Shows self.old mode x
+            → Agrees (λ _ t. IsWhole self.new t) result (term_or_formula x) }
+    {
+        let Mode::Has(last) = mode else {
+            return Err(StepFault::Syntax);
+        };
+        let last = self.reduce(0, last)?;
+        let sort = either_sort(&last);
+        self.settle_whole(sort, last)
+    }
+}
+
+/// A formula where it can be one, and else a term.
+fn either_sort(last: &Last) -> Sort
+    ensures { (p : Piece) → IsLast last.now p
+        → as_sort result p ≡ or_else {A = Phrase} (as_sort sort_of.Formula p) (as_sort sort_of.Term p) (λ t. Some t) }
+{
+    match last {
+        Last::Tree(Sort::Term, _) => Sort::Term,
+        Last::Tree(Sort::Formula, _) => Sort::Formula,
+        Last::Tree(Sort::Program, _) => Sort::Formula,
+        Last::Name { .. } => Sort::Term,
+        Last::Symbol { .. } => Sort::Formula,
+    }
+}

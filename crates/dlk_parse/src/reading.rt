@@ -1,0 +1,216 @@
+//! Reads tokens.
+ghost use Rattle.std.specs.Prelude.{◌≡◌, ◌++◌, ℕ, [], List, Result as TheResult};
+ghost use Rattle.dlk_grammar.specs.declared.token.Goal.{Goal as TheGoal};
+ghost use Rattle.dlk_grammar.specs.declared.token.Dots.TheVariants.{Refused};
+ghost use Rattle.dlk_grammar.specs.Grammar.{Sides};
+ghost use Rattle.dlk_grammar.specs.Lexemes.{Lexeme as TheLexeme, lexeme_of};
+ghost use Rattle.dlk_grammar.specs.Phrases.{Phrase};
+ghost use Rattle.dlk_grammar.specs.Readings.{permits};
+ghost use Rattle.dlk_machine.proofs.Machine.{when};
+ghost use Rattle.dlk_machine.proofs.Sequents.{SequentState, sequent_step};
+ghost use Rattle.dlk_machine.proofs.ParseLaws.{GoalState};
+ghost use Rattle.dlk_parse.specs.declared.stack.Stack.{Stack as TheStack};
+ghost use Rattle.dlk_parse.specs.Shows.{seen, Agrees, IsOpen};
+ghost use Rattle.dlk_parse.specs.Readers.{ShowsTree, ShowsSides, tree_start, tree_step, stop_of, Reaches, SidesReach, GoesOn, GoesOnSides, Advances, ReadsAs, ReadsAsSides};
+
+use crate::code::Code;
+use crate::expressions::Place;
+use crate::lexeme::{Lexeme, lexeme_at};
+use crate::parts::Mode;
+use crate::sides::{SidesCode, SidesReader};
+use crate::stack::{Stack, one_more};
+use crate::stop::{StepFault, Stop};
+use dlk_grammar::{Dots, Goal, Token};
+use dlk_tree::Sort;
+use std::alloc::Global;
+
+/// Where the reader of one tree stands, behind so many lexemes.
+#[derive(Drop)]
+pub(crate) struct Reached {
+    place: Place,
+    count: usize,
+}
+
+/// Where the reader of a sequent stands, behind so many lexemes.
+#[derive(Drop)]
+pub(crate) struct SidesReached {
+    mode: Option<Mode>,
+    count: usize,
+}
+
+/// Whether a lexeme is in the grammar of a text.
+fn permits(dots: Dots, lexeme: &Lexeme) -> bool
+    ensures { result ≡ permits dots (seen lexeme.now) }
+{
+    match dots {
+        Dots::Refused => match lexeme {
+            Lexeme::Dot(_) => false,
+            Lexeme::Blank => false,
+            _ => true,
+        },
+        Dots::Allowed => true,
+    }
+}
+
+/// A fault of a lexeme behind so many others, or of the end behind all.
+fn stop(fault: StepFault, place: usize) -> Stop
+    ensures { result ≡ stop_of fault place }
+{
+    match fault {
+        StepFault::Memory => Stop::Memory,
+        StepFault::Syntax => Stop::Syntax { place },
+    }
+}
+
+/// Where the reader of a goal starts.
+fn start(goal: Goal) -> Place
+    ensures { (k : TheStack) → IsOpen k [] [] → ShowsTree goal k result (tree_start goal) }
+{
+    match goal {
+        Goal::Formula => Place::Of(Sort::Formula, Mode::Wants),
+        Goal::Term => Place::Of(Sort::Term, Mode::Wants),
+        Goal::Program => Place::Of(Sort::Program, Mode::Wants),
+        Goal::Expression => Place::Unread,
+    }
+}
+
+impl Stack {
+    /// What a lexeme makes of what was read of one tree.
+    fn read_lexeme(
+        &mut self,
+        alloc: Global,
+        dots: Dots,
+        reached: Reached,
+        lexeme: Lexeme,
+    ) -> Result<Reached, StepFault>
+        ensures { (goal : TheGoal) (x : GoalState goal) → ShowsTree goal self.old reached.place x
+            → Agrees (Reaches goal self.new reached.count) result (when (permits dots (seen lexeme)) (tree_step goal x (seen lexeme))) }
+    {
+        if !permits(dots, &lexeme) {
+            return Err(StepFault::Syntax);
+        }
+        let place = self.step_tree(alloc, reached.place, lexeme)?;
+        let count = one_more(reached.count)?;
+        Ok(Reached { place, count })
+    }
+
+    /// What the token at a place makes of what was read of one tree.
+    fn read_token(
+        &mut self,
+        alloc: Global,
+        dots: Dots,
+        reached: Reached,
+        at: usize,
+        token: &Token,
+    ) -> Result<Reached, Stop>
+        ensures { (goal : TheGoal) (s : List TheLexeme) (r : TheResult Phrase ℕ) → GoesOn dots goal self.old r reached (lexeme_of at token.now.kind ++ s)
+            → Advances (GoesOn dots goal self.new r) r result s }
+    {
+        let count = reached.count;
+        match lexeme_at(at, &token.kind) {
+            Ok(Some(lexeme)) => match self.read_lexeme(alloc, dots, reached, lexeme) {
+                Ok(reached) => Ok(reached),
+                Err(fault) => Err(stop(fault, count)),
+            },
+            Ok(None) => Ok(reached),
+            Err(fault) => Err(stop(fault, count)),
+        }
+    }
+}
+
+/// Reads one tree. Its operators stand behind their operands.
+pub(crate) fn read_tree(
+    alloc: Global,
+    goal: Goal,
+    dots: Dots,
+    tokens: &[Token],
+) -> Result<Vec<Code>, Stop>
+    ensures { ReadsAs dots goal tokens.now result }
+{
+    let mut stack = Stack {
+        parts: Vec::new(alloc),
+        out: Vec::new(alloc),
+    };
+    let mut reached = Reached {
+        place: start(goal),
+        count: 0,
+    };
+    for (i, token) in tokens.iter().enumerate() {
+        reached = stack.read_token(alloc, dots, reached, i, token)?;
+    }
+    let count = reached.count;
+    match stack.end_tree(reached.place) {
+        Ok(()) => Ok(stack.out),
+        Err(fault) => Err(stop(fault, count)),
+    }
+}
+
+impl SidesReader {
+    /// What a lexeme makes of what was read of a sequent.
+    fn read_lexeme(
+        &mut self,
+        alloc: Global,
+        reached: SidesReached,
+        lexeme: Lexeme,
+    ) -> Result<SidesReached, StepFault>
+        ensures { (x : SequentState) → ShowsSides self.old reached.mode x
+            → Agrees (SidesReach self.new reached.count) result (when (permits Refused (seen lexeme)) (sequent_step x (seen lexeme))) }
+    {
+        if !permits(Dots::Refused, &lexeme) {
+            return Err(StepFault::Syntax);
+        }
+        let mode = self.step(alloc, reached.mode, lexeme)?;
+        let count = one_more(reached.count)?;
+        Ok(SidesReached { mode, count })
+    }
+
+    /// What the token at a place makes of what was read of a sequent.
+    fn read_token(
+        &mut self,
+        alloc: Global,
+        reached: SidesReached,
+        at: usize,
+        token: &Token,
+    ) -> Result<SidesReached, Stop>
+        ensures { (s : List TheLexeme) (r : TheResult Sides ℕ) → GoesOnSides self.old r reached (lexeme_of at token.now.kind ++ s)
+            → Advances (GoesOnSides self.new r) r result s }
+    {
+        let count = reached.count;
+        match lexeme_at(at, &token.kind) {
+            Ok(Some(lexeme)) => match self.read_lexeme(alloc, reached, lexeme) {
+                Ok(reached) => Ok(reached),
+                Err(fault) => Err(stop(fault, count)),
+            },
+            Ok(None) => Ok(reached),
+            Err(fault) => Err(stop(fault, count)),
+        }
+    }
+}
+
+/// Reads the formulas of both sides of a sequent, in which argument dots and the hole are refused.
+pub(crate) fn read_sides(alloc: Global, tokens: &[Token]) -> Result<SidesCode, Stop>
+    ensures { ReadsAsSides tokens.now result }
+{
+    let stack = Stack {
+        parts: Vec::new(alloc),
+        out: Vec::new(alloc),
+    };
+    let mut reader = SidesReader {
+        stack,
+        done: Vec::new(alloc),
+        left: None,
+        number: 0,
+    };
+    let mut reached = SidesReached {
+        mode: None,
+        count: 0,
+    };
+    for (i, token) in tokens.iter().enumerate() {
+        reached = reader.read_token(alloc, reached, i, token)?;
+    }
+    let count = reached.count;
+    match reader.end(reached.mode) {
+        Ok(code) => Ok(code),
+        Err(fault) => Err(stop(fault, count)),
+    }
+}
