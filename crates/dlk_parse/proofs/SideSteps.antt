@@ -19,8 +19,8 @@ use Rattle.dlk_parse.specs.declared.parts.Mode.{Mode}
 use Rattle.dlk_parse.specs.declared.parts.Mode.TheVariants as mode
 use Rattle.dlk_parse.specs.declared.stack.Stack.{Stack}
 use Rattle.dlk_parse.specs.declared.sides.SidesReader.{SidesReader}
-use Rattle.dlk_parse.specs.Shows.{shapes, Shows, Agrees, Stands, Reduces}
-use Rattle.dlk_parse.specs.Readers.{IsWhole, ShowsBetween, ShowsReading, ShowsSides, finished, both_of}
+use Rattle.dlk_parse.specs.Shows.{IsWhole, shapes, Shows, Agrees, Stands, Reduces}
+use Rattle.dlk_parse.specs.Readers.{ShowsBetween, ShowsReading, ShowsSides, finished, both_of}
 
 -- a formula that ended
 pub finished_ok : (r : SidesReader) (w : Side) (l : Phrases) (x : State) → Agrees {X = Unit {0}} (λ _ m. ShowsBetween r w m) (Ok tt) (finished l x) → (t : Phrase) × (ended Formula x ≡ Some t) × ShowsBetween r w (snoc l t)

@@ -18,7 +18,7 @@ use Rattle.dlk_machine.proofs.ParseLaws.{GoalState, machine_of}
 use Rattle.dlk_machine.proofs.Expressions.{ExpressionState, Unread, FirstName, FirstPrime, AsFormula, AsProgram}
 use Rattle.dlk_machine.proofs.Sequents.{Side, LeftSide, RightSide, SequentState, Fresh, Reading, sequent_reader}
 use Rattle.dlk_parse.specs.Codes.{postfix, postfix_all}
-use Rattle.dlk_parse.specs.Shows.{IsOpen, Shows}
+use Rattle.dlk_parse.specs.Shows.{IsOpen, IsWhole, Shows}
 use Rattle.dlk_parse.specs.declared.code.Code.{Code}
 use Rattle.dlk_parse.specs.declared.stop.StepFault.{StepFault}
 use Rattle.dlk_parse.specs.declared.stop.StepFault.TheVariants as step
@@ -32,11 +32,6 @@ use Rattle.dlk_parse.specs.declared.sides.SidesReader.{SidesReader}
 use Rattle.dlk_parse.specs.declared.sides.SidesCode.{SidesCode}
 use Rattle.dlk_parse.specs.declared.reading.Reached.{Reached}
 use Rattle.dlk_parse.specs.declared.reading.SidesReached.{SidesReached}
-
--- Nothing is open, and this was read.
-pub record IsWhole (k : Stack) (t : Phrase) : Type 0 where
-  pub parts : k.parts.items ≡ []
-  pub out : k.out.items ≡ postfix t
 
 -- where the beginning of an expression leaves open what is read
 pub record ShowsFirst (k : Stack) (p q : Place) : Type 0 where

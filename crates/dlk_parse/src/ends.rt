@@ -5,8 +5,7 @@ ghost use Rattle.dlk_machine.proofs.Machine.{Part as MachinePart, Piece, State, 
 ghost use Rattle.dlk_machine.proofs.Parse.{or_else};
 ghost use Rattle.dlk_machine.proofs.Expressions.{term_or_formula};
 ghost use Rattle.dlk_tree.specs.declared.op.Sort.TheVariants as sort_of;
-ghost use Rattle.dlk_parse.specs.Shows.{Shows, Agrees, IsLast, Stands};
-ghost use Rattle.dlk_parse.specs.Readers.{IsWhole};
+ghost use Rattle.dlk_parse.specs.Shows.{IsWhole, Shows, Agrees, IsLast, Stands};
 
 use crate::parts::{Last, Mode};
 use crate::stack::{Stack, settle};

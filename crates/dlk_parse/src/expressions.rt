@@ -5,8 +5,8 @@ ghost use Rattle.dlk_tree.specs.declared.op.Sort.{Sort as TheSort};
 ghost use Rattle.dlk_tree.specs.declared.op.Sort.TheVariants as sort_of;
 ghost use Rattle.dlk_machine.proofs.Machine.{State, Done, Is, Has, step, ended};
 ghost use Rattle.dlk_machine.proofs.Expressions.{ExpressionState, Unread, FirstName, FirstPrime, as_formula, as_program, expression_step, expression_ended};
-ghost use Rattle.dlk_parse.specs.Shows.{seen, Shows, Agrees, IsOpen};
-ghost use Rattle.dlk_parse.specs.Readers.{IsWhole, ShowsOf, ShowsExpression};
+ghost use Rattle.dlk_parse.specs.Shows.{IsWhole, seen, Shows, Agrees, IsOpen};
+ghost use Rattle.dlk_parse.specs.Readers.{ShowsOf, ShowsExpression};
 
 use crate::lexeme::Lexeme;
 use crate::parts::{Last, Mode, Tail};

@@ -4,8 +4,8 @@ ghost use Rattle.dlk_grammar.specs.Phrases.{Phrase, Phrases, snoc};
 ghost use Rattle.dlk_machine.proofs.Machine.{State};
 ghost use Rattle.dlk_machine.proofs.Sequents.{Side, SequentState, Reading, sequent_step, sequent_ended, turn, inner};
 ghost use Rattle.dlk_grammar.specs.Lexemes.{Comma, Turnstile};
-ghost use Rattle.dlk_parse.specs.Shows.{seen, Agrees};
-ghost use Rattle.dlk_parse.specs.Readers.{IsWhole, ShowsBetween, ShowsReading, ShowsSides, KeepsSide, IsCodeOf, finished, both_of};
+ghost use Rattle.dlk_parse.specs.Shows.{IsWhole, seen, Agrees};
+ghost use Rattle.dlk_parse.specs.Readers.{ShowsBetween, ShowsReading, ShowsSides, KeepsSide, IsCodeOf, finished, both_of};
 
 use crate::code::Code;
 use crate::lexeme::Lexeme;

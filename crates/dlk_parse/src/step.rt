@@ -137,26 +137,4 @@ impl Stack {
             Mode::Invariants => self.invariants_step(lexeme),
         }
     }
-
-    /// The end of the lexemes: the tree is whole.
-    pub(crate) fn end(&mut self, goal: Sort, mode: Mode) -> Result<(), StepFault>
-        ensures { (x : State) → Shows self.old mode x
-            → Agrees (λ _ t. IsWhole self.new t) result (ended goal x) }
-    {
-        match mode {
-            Mode::Has(last) => self.end_piece(goal, last),
-            _ => Err(StepFault::Syntax),
-        }
-    }
-
-    fn end_piece(&mut self, goal: Sort, last: Last) -> Result<(), StepFault>
-        ensures { (S : List MachinePart) (p : Piece) → Stands self.old last S p
-            → Agrees (λ _ t. IsWhole self.new t) result (ended goal (Has S p)) }
-    {
-        let last = self.reduce(0, last)?;
-        if !self.parts.is_empty() {
-            return Err(StepFault::Syntax);
-        }
-        settle(&mut self.out, last, goal)
-    }
 }
