@@ -3,3 +3,4 @@ mod Agree
 mod Closing
 mod Steps
 mod SideSteps
+mod ReadingSteps
