@@ -14,3 +14,4 @@ mod ItemSteps
 mod HolderSteps
 mod Steps
 mod SideSteps
+mod ReadingSteps

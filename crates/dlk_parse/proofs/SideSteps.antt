@@ -122,14 +122,14 @@ comma_inside w l S p (x ∷ T) q e some =
 pub comma_ends : (w : Side) (l : Phrases) (S : List Part) (p : Piece) (T : List Part) (q : Piece) (t : Phrase) → reduce 0 S p ≡ Some (T, q) → whole Formula T q ≡ Some t → sequent_step (Reading w l (Has S p)) Comma ≡ Some (Reading w (snoc l t) (Wants []))
 comma_ends w l S p T q t e h = comma_step w l S p (Some t) (ended_is S p T q e ∙ h)
 
-some_open : (T : List Part) (items : List OpenPart) → items ≡ shapes T → false ≡ (length items == 0) → T ≢ []
-some_open T items at h e = let n : length items ≡ 0 = ap length (at ∙ ap shapes e) in let f : false ≡ true = h ∙ ap (λ (i : ℕ). i == 0) n in absurd cc
+some_open : (T : List Part) (items : List OpenPart) → items ≡ shapes T → (n : ℕ) → n ≡ length items → false ≡ (n == 0) → T ≢ []
+some_open T items at m z h e = let n : m ≡ 0 = z ∙ ap length (at ∙ ap shapes e) in let f : false ≡ true = h ∙ ap (λ (i : ℕ). i == 0) n in absurd cc
 
 -- what is open where a comma is inside
-pub comma_goes_on : (w : Side) (l : Phrases) (S : List Part) (p : Piece) (k : Stack) (last : Last) → Agrees (Reduces k) (Ok last) (reduce 0 S p) → false ≡ (vec_len k.parts == 0) → (T : List Part) × (q : Piece) × Stands k last T q × (sequent_step (Reading w l (Has S p)) Comma ≡ inner w l (Has T q) Comma)
-comma_goes_on w l S p k last a h =
+pub comma_goes_on : (w : Side) (l : Phrases) (S : List Part) (p : Piece) (k : Stack) (last : Last) → Agrees (Reduces k) (Ok last) (reduce 0 S p) → vec_len k.parts ≡ length k.parts.items → false ≡ (vec_len k.parts == 0) → (T : List Part) × (q : Piece) × Stands k last T q × (sequent_step (Reading w l (Has S p)) Comma ≡ inner w l (Has T q) Comma)
+comma_goes_on w l S p k last a z h =
     let r = agrees_ok (Reduces k) last (reduce 0 S p) a in
-    (r.0.0, r.0.1, r.2, comma_inside w l S p r.0.0 r.0.1 r.1 (some_open r.0.0 k.parts.items r.2.lists.parts h))
+    (r.0.0, r.0.1, r.2, comma_inside w l S p r.0.0 r.0.1 r.1 (some_open r.0.0 k.parts.items r.2.lists.parts (vec_len k.parts) z h))
 
 -- the formula that a comma ends
 pub comma_whole : (w : Side) (l : Phrases) (S : List Part) (p : Piece) (k m : Stack) (last : Last) → Agrees (Reduces k) (Ok last) (reduce 0 S p) → ((T : List Part) (q : Piece) → Stands k last T q → Agrees {X = Unit {0}} (λ _ t. IsWhole m t) (Ok tt) (whole Formula T q)) → (t : Phrase) × IsWhole m t × (sequent_step (Reading w l (Has S p)) Comma ≡ Some (Reading w (snoc l t) (Wants [])))

@@ -1,20 +1,20 @@
-use Rattle.std.proofs.Common.{Some, refl}
+use Rattle.std.proofs.Common.{Some, ap, refl, arith}
 use Rattle.std.proofs.lemmas.Result.{err_from_is_err_and}
 use Rattle.dlk_grammar.specs.Lexemes.{Comma}
 use Rattle.dlk_grammar.specs.Phrases.{snoc}
 use Rattle.dlk_machine.proofs.Machine.{Has, Wants}
 use Rattle.dlk_machine.proofs.Sequents.{Reading, sequent_step}
-use Rattle.dlk_parse.specs.Readers.{ShowsBetween, ShowsSides}
-use Rattle.dlk_parse.proofs.Agree.{agrees_ok}
-use Rattle.dlk_parse.proofs.Steps.{keeps_side, ok_same}
+use Rattle.dlk_parse.specs.Readers.{ShowsBetween, ShowsReading, ShowsSides}
+use Rattle.dlk_parse.specs.declared.parts.Mode.TheVariants as mode
+use Rattle.dlk_parse.proofs.Steps.{keeps_side}
 use Rattle.dlk_parse.proofs.SideSteps.{err_some, has_shown, comma_goes_on, comma_whole, begins}
 use Rattle.dlk_parse.proofs.sides.SidesReader.step_comma.Goals as goal
 
 pub returns-then-not-is_empty : goal.returns-then-not-is_empty
 returns-then-not-is_empty c = λ w l x h.
     let s = has_shown c.args.self.now.stack c.args.mode c.in-Has.last x c.in-Has.is h.shows in
-    let r = comma_goes_on w l s.0 s.1 c.reduce.new.self c.in_ok-last.last (c.in_ok-last.ensures s.0 s.1 s.3) c.if-not-is_empty.ensures in
-    let shown = record { side = keeps_side c.args.self.now c.reduce.new.self w l h.side; shows = record { mode = refl; lone = r.2.last.lone; lists = r.2.lists } } in
+    let r = comma_goes_on w l s.0 s.1 c.reduce.new.self c.in_ok-last.last (c.in_ok-last.ensures s.0 s.1 s.3) (omega arith) c.if-not-is_empty.ensures in
+    let shown : ShowsReading (record c.args.self.now { stack = c.reduce.new.self }) (mode.Has c.in_ok-last.last) w l (Has r.0 r.1) = record { side = keeps_side c.args.self.now c.reduce.new.self w l h.side; shows = record { mode = ap mode.Has r.2.last.same; lone = r.2.last.lone; lists = r.2.lists } } in
     rw (s.2, r.3) (c.step_inner-then-not-is_empty.ensures w l (Has r.0 r.1) shown)
 
 pub returns-in_err-keep : goal.returns-in_err-keep
