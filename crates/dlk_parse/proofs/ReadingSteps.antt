@@ -19,8 +19,8 @@ use Rattle.dlk_machine.proofs.ParseLaws.{GoalState, machine_of}
 use Rattle.dlk_machine.proofs.Expressions.{ExpressionState, expression_step, expression_ended}
 use Rattle.dlk_machine.proofs.Sequents.{SequentState, sequent_step, sequent_ended, sequent_reader}
 use Rattle.dlk_parse.specs.Codes.{postfix}
-use Rattle.dlk_parse.specs.Shows.{Agrees}
-use Rattle.dlk_parse.specs.Readers.{IsWhole, ShowsOf, ShowsExpression, ShowsTree, ShowsSides, tree_step, Reaches, SidesReach, GoesOn, GoesOnSides, Advances, stop_of, IsCodeOf, IsParsed, Answers}
+use Rattle.dlk_parse.specs.Shows.{IsWhole, Agrees}
+use Rattle.dlk_parse.specs.Readers.{ShowsOf, ShowsExpression, ShowsTree, ShowsSides, tree_step, Reaches, SidesReach, GoesOn, GoesOnSides, Advances, stop_of, IsCodeOf, IsParsed, Answers}
 use Rattle.dlk_parse.specs.declared.code.Code.{Code}
 use Rattle.dlk_parse.specs.declared.expressions.Place.{Place}
 use Rattle.dlk_parse.specs.declared.reading.Reached.{Reached}
