@@ -112,6 +112,6 @@ evolves_comma e d x k S _ p t is w at adds = absurd cc
 -- what was settled in a holder
 pub settled_in : (S : List Part) (h : Holder) (t : Phrase) (k m : Stack) (code : List Code) → IsOpen k S (holder_code h ++ code) → m.parts.items ≡ k.parts.items → Writes m.out.items (stack_code S ++ holder_code h) t → IsOpen m S (holder_code h ++ postfix t)
 settled_in S h t k m code at parts out = record {
-    parts = parts ∙ at.parts;
-    out = out.out ∙ append_assoc (stack_code S) (holder_code h) (postfix t);
-  }
+  parts = parts ∙ at.parts;
+  out = out.out ∙ append_assoc (stack_code S) (holder_code h) (postfix t);
+}

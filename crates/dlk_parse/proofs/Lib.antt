@@ -15,3 +15,4 @@ mod HolderSteps
 mod Steps
 mod SideSteps
 mod ReadingSteps
+mod Stopped

@@ -19,9 +19,9 @@ use Rattle.dlk_parse.proofs.Agree.{agrees_ok, agrees_err, of_said}
 
 pub left_done : (g : Sort) (b : BetweenPart) (S : List Part) (p : Piece) (t : Phrase) (k : Stack) → as_sort (operand_sort (said b)) p ≡ Some t → fits g (result_sort (said b)) S ≡ true → k.parts.items ≡ shapes S ++ part.Left b ∷ [] → k.out.items ≡ stack_code S ++ postfix t → Agrees {X = Unit {0}} (λ _ T. IsOpen k T []) (Ok tt) (left_opened g (said b) S p)
 left_done g b S p t k e f parts out = rw (e, f) (record {
-    parts = parts ∙ ap (λ (x : BetweenPart). shapes S ++ part.Left x ∷ []) (sym (of_said b));
-    out = out ∙ sym (append-nil (stack_code S ++ postfix t));
-  })
+  parts = parts ∙ ap (λ (x : BetweenPart). shapes S ++ part.Left x ∷ []) (sym (of_said b));
+  out = out ∙ sym (append-nil (stack_code S ++ postfix t));
+})
 
 pub call_other : (g : Sort) (S : List Part) (n : ℕ) (x : Word) (k : SeenLexeme) → (k ≡ lexeme.Close → ⊥) → call_step g S n x (seen k) ≡ start_operand g (Inside (Args n x none) ∷ S) (seen k)
 call_other g S n x lexeme.Close h = absurd (h refl)
@@ -30,9 +30,9 @@ call_other g S n x _ h = refl
 -- a part was opened
 pub opened : (S : List Part) (e : Part) (k m : Stack) → IsOpen k S (part_code e) → m.parts.items ≡ k.parts.items ++ shape e ∷ [] → m.out.items ≡ k.out.items → IsOpen m (e ∷ S) []
 opened S e k m h parts out = record {
-    parts = parts ∙ ap (λ (l : List OpenPart). l ++ shape e ∷ []) h.parts;
-    out = out ∙ h.out ∙ sym (append-nil (stack_code S ++ part_code e));
-  }
+  parts = parts ∙ ap (λ (l : List OpenPart). l ++ shape e ∷ []) h.parts;
+  out = out ∙ h.out ∙ sym (append-nil (stack_code S ++ part_code e));
+}
 
 pub infix_other : (g : Sort) (o : Infix) (S : List Part) (p : Piece) → (o ≡ And → ⊥) → infix_after g o S p ≡ (after_operand g (By o) S p >>= λ T. Some (Wants T))
 infix_other g And S p h = absurd (h refl)

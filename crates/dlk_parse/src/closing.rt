@@ -11,7 +11,9 @@ ghost use Rattle.dlk_parse.specs.Shows.{holder_of, holder_code, equations_of, cl
 
 use crate::code::Code;
 use crate::items::add_item;
-use crate::parts::{Between, Closer, Equations, Head, Holder, Last, Mode, Modality, Part, Prefix, Tail};
+use crate::parts::{
+    Between, Closer, Equations, Head, Holder, Last, Modality, Mode, Part, Prefix, Tail,
+};
 use crate::stack::{Stack, one_more, pop, settle, variable};
 use crate::stop::StepFault;
 use crate::tables::{held_sort, level};

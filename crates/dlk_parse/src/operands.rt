@@ -226,7 +226,8 @@ impl Stack {
                 tail: Tail::Done,
             }));
         }
-        self.parts.push(Part::Inside(Holder::Args { at, name, count: 0 }))?;
+        self.parts
+            .push(Part::Inside(Holder::Args { at, name, count: 0 }))?;
         self.start_operand(goal, lexeme)
     }
 

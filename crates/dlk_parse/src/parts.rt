@@ -43,19 +43,12 @@ pub(crate) enum Holder {
     /// A bracket, and whether a formula can stand for it.
     Round(bool),
     /// An application: the place of its name, its name, the number of arguments so far, which are on the list.
-    Args {
-        at: usize,
-        name: Name,
-        count: usize,
-    },
+    Args { at: usize, name: Name, count: usize },
     InContext(Name),
     In(Modality),
     InBrace,
     /// An assignment to a variable, or with `primed` to its differential symbol.
-    Assigns {
-        name: Name,
-        primed: bool,
-    },
+    Assigns { name: Name, primed: bool },
     Tests,
     /// The right side of a variable of a system.
     Evolves(Equations, Name),
@@ -89,16 +82,9 @@ pub(crate) enum Tail {
 #[derive(Drop)]
 pub(crate) enum Head {
     /// An application: the place of its name, its name, the number of its arguments, which are on the list.
-    Call {
-        at: usize,
-        name: Name,
-        count: usize,
-    },
+    Call { at: usize, name: Name, count: usize },
     /// A unit symbol, and the variable on which it does not depend.
-    Any {
-        name: Name,
-        taboo: Option<Name>,
-    },
+    Any { name: Name, taboo: Option<Name> },
 }
 
 /// What was read last.
@@ -107,7 +93,10 @@ pub(crate) enum Last {
     /// A tree, which is on the list.
     Tree(Sort, Tail),
     /// A lone name, whose variable is not yet on the list.
-    Name { at: usize, name: Name },
+    Name {
+        at: usize,
+        name: Name,
+    },
     /// A symbol with a number of primes. Whether it is a term or a formula is not known, and its operator not yet on the list.
     Symbol {
         head: Head,
@@ -122,9 +111,15 @@ pub(crate) enum Mode {
     Wants,
     Has(Last),
     /// After `x (` and after `x (|` and after `x (| y`.
-    Calls { at: usize, name: Name },
+    Calls {
+        at: usize,
+        name: Name,
+    },
     Bars(Name),
-    BarsName { name: Name, taboo: Name },
+    BarsName {
+        name: Name,
+        taboo: Name,
+    },
     /// After `\forall` or `\exists`.
     Binds(Quantifier),
     /// After `x` and after `x '` where a statement begins.
@@ -132,8 +127,14 @@ pub(crate) enum Mode {
     StartsPrime(Name),
     /// After `{` and after `{ x` and after `{ x '` where a program or a system may follow.
     Opens(usize),
-    OpensName { at: usize, name: Name },
-    OpensPrime { at: usize, name: Name },
+    OpensName {
+        at: usize,
+        name: Name,
+    },
+    OpensPrime {
+        at: usize,
+        name: Name,
+    },
     /// Where an item is wanted, after `x`, after `x '`, after `x {|`, after `x {| y`, and where it is whole.
     WantsItem(Equations),
     ItemName(Equations, Name),

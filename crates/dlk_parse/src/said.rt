@@ -30,7 +30,8 @@ pub(crate) fn said_tree(
     ensures says { IfOk result (λ v. SaysCode (grammar goal) itself dots tokens.now v.items) }
     ensures fault { IfErr result (IsFaultOf (IsNoText (grammar goal) dots tokens.now)) }
 {
-    Err(ParseFault::Memory)
+    let code = read_tree(alloc, goal, dots, tokens)?;
+    Ok(code)
 }
 
 /// The code of the formulas of the sequent that the tokens are a text of.
@@ -38,5 +39,6 @@ pub(crate) fn said_sides(alloc: Global, tokens: &[Token]) -> Result<SaidSides, P
     ensures says { IfOk result (SaysSides tokens.now) }
     ensures fault { IfErr result (IsFaultOf (IsNoText ReadsSequent Refused tokens.now)) }
 {
-    Err(ParseFault::Memory)
+    let SidesCode { left, code, .. } = read_sides(alloc, tokens)?;
+    Ok(SaidSides { code, left })
 }

@@ -83,7 +83,11 @@ fn write_symbol(out: &mut Vec<Code>, head: Head, holds: bool) -> Result<(), Step
 fn unit_symbol(name: Name, taboo: Option<Name>, holds: bool) -> Code
     ensures { result ≡ unit_code holds name taboo }
 {
-    let kind = if holds { Kind::UnitPred } else { Kind::UnitFunc };
+    let kind = if holds {
+        Kind::UnitPred
+    } else {
+        Kind::UnitFunc
+    };
     let symbol = Sym {
         kind,
         name,

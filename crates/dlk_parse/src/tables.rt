@@ -5,7 +5,7 @@ ghost use Rattle.dlk_machine.proofs.Machine.{level, right_level, operand_sort, r
 ghost use Rattle.dlk_machine.proofs.Machine.{Part as MachinePart, Prefix as MachinePrefix, Holder as MachineHolder};
 ghost use Rattle.dlk_parse.specs.Shows.{shape, said, prefix_of, holder_of, operator_of, operator_before};
 
-use crate::parts::{Between, Holder, Part, Prefix, Quantifier, Modality};
+use crate::parts::{Between, Holder, Modality, Part, Prefix, Quantifier};
 use dlk_grammar::Infix;
 use dlk_tree::{Op, Sort};
 

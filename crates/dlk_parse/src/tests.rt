@@ -53,7 +53,7 @@ fn reads_formulas(rt: HostRuntime) -> Result<(), Fail> {
         ("-x^2*y--1=0", Ok((11, 6))),
         (
             "[{x'=v,v'=a & v>=0}](x>=0 & !(x<0 | f(x)!=p(|x|)))",
-            Ok((23, 6)),
+            Ok((20, 7)),
         ),
         (
             "<?x>0; {a; ++ y':=1;}*> p(||) <-> \\forall x q(x)",

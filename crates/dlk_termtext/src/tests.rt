@@ -42,10 +42,7 @@ fn reads_lines(rt: HostRuntime) -> Result<(), Fail> {
         ("1 start", None),
         ("1 start x>=0", None),
         ("1 start ==> true", Some((1, 0, 0, 0, 0))),
-        (
-            "1 start [x:=1;]x>0,p(||) /* a comment */ ==> {x'=1}",
-            None,
-        ),
+        ("1 start [x:=1;]x>0,p(||) /* a comment */ ==> {x'=1}", None),
         (
             "1 start [x:=1;]x>0,p(||) /* a comment */ ==> [{x'=1}]q()",
             Some((1, 0, 0, 0, 0)),

@@ -16,4 +16,4 @@ returns-in_err-equations-in_default c = λ S n l e h.
 pub returns-in_ok-equations-in_default : goal.returns-in_ok-equations-in_default
 returns-in_ok-equations-in_default c = λ S n l e h.
     rw (item_name_other S n l c.args.name c.args.lexeme c.in_default.not-Prime c.in_default.not-BraceBar)
-      (c.items_step.ensures S n (add l (Flow c.args.name Everywhere)) (c.in_ok-equations-in_default.ensures n l e) h)
+    (c.items_step.ensures S n (add l (Flow c.args.name Everywhere)) (c.in_ok-equations-in_default.ensures n l e) h)
