@@ -57,7 +57,7 @@ fn reads_formulas(rt: HostRuntime) -> Result<(), Fail> {
         ),
         (
             "<?x>0; {a; ++ y':=1;}*> p(||) <-> \\forall x q(x)",
-            Ok((14, 6)),
+            Ok((16, 7)),
         ),
         (
             "[{x:=1;}* @invariant(x=1, [{b;}@invariant(x>0)] true)] true",
