@@ -14,7 +14,10 @@ pub(crate) enum Code {
         count: usize,
     },
     /// A system behind its right sides and its domain: the place of its brace, and its items.
-    System { at: usize, items: Items },
+    System {
+        at: usize,
+        items: Items,
+    },
     /// Behind a program: the formulas of its `@invariant` come next.
     Notes,
     /// Behind these formulas: their number.

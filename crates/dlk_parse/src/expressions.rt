@@ -29,13 +29,24 @@ pub(crate) enum Place {
 }
 
 impl Stack {
-    fn step_of(&mut self, alloc: Global, sort: Sort, mode: Mode, lexeme: Lexeme) -> Result<Place, StepFault>
+    fn step_of(
+        &mut self,
+        alloc: Global,
+        sort: Sort,
+        mode: Mode,
+        lexeme: Lexeme,
+    ) -> Result<Place, StepFault>
         ensures { (x : State) → Shows self.old mode x → Agrees (ShowsOf sort self.new) result (step sort x (seen lexeme)) }
     {
         Ok(Place::Of(sort, self.step(alloc, sort, mode, lexeme)?))
     }
 
-    fn step_program(&mut self, alloc: Global, mode: Mode, lexeme: Lexeme) -> Result<Place, StepFault>
+    fn step_program(
+        &mut self,
+        alloc: Global,
+        mode: Mode,
+        lexeme: Lexeme,
+    ) -> Result<Place, StepFault>
         ensures { (x : State) → Shows self.old mode x → Agrees (ShowsExpression self.new) result (as_program x (seen lexeme)) }
     {
         self.step_of(alloc, Sort::Program, mode, lexeme)
@@ -86,7 +97,12 @@ impl Stack {
     }
 
     /// A lexeme behind them.
-    fn step_first_prime(&mut self, alloc: Global, name: Name, lexeme: Lexeme) -> Result<Place, StepFault>
+    fn step_first_prime(
+        &mut self,
+        alloc: Global,
+        name: Name,
+        lexeme: Lexeme,
+    ) -> Result<Place, StepFault>
         ensures { IsOpen self.old [] [] → Agrees (ShowsExpression self.new) result (expression_step (FirstPrime name) (seen lexeme)) }
     {
         if let Lexeme::Gets = lexeme {
@@ -97,7 +113,12 @@ impl Stack {
     }
 
     /// What a lexeme makes of what was read of one tree.
-    pub(crate) fn step_tree(&mut self, alloc: Global, place: Place, lexeme: Lexeme) -> Result<Place, StepFault>
+    pub(crate) fn step_tree(
+        &mut self,
+        alloc: Global,
+        place: Place,
+        lexeme: Lexeme,
+    ) -> Result<Place, StepFault>
         ensures expression { (x : ExpressionState) → ShowsExpression self.old place x
             → Agrees (ShowsExpression self.new) result (expression_step x (seen lexeme)) }
         ensures of { (sort : TheSort) (x : State) → ShowsOf sort self.old place x

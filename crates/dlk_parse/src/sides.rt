@@ -37,7 +37,12 @@ pub(crate) struct SidesCode {
 
 impl SidesReader {
     /// A lexeme of the formula that is read.
-    fn step_inner(&mut self, alloc: Global, mode: Mode, lexeme: Lexeme) -> Result<Option<Mode>, StepFault>
+    fn step_inner(
+        &mut self,
+        alloc: Global,
+        mode: Mode,
+        lexeme: Lexeme,
+    ) -> Result<Option<Mode>, StepFault>
         ensures { (w : Side) (l : Phrases) (x : State) → ShowsReading self.old mode w l x
             → Agrees (ShowsSides self.new) result (inner w l x (seen lexeme)) }
     {
