@@ -6,7 +6,7 @@ use Rattle.dlk_calculus.specs.declared.reason.Reason.TheVariants.{NoFact, NoGoal
 use Rattle.dlk_calculus.specs.Sequents.{Sequent}
 use Rattle.dlk_calculus.specs.Provables.{Provable}
 use Rattle.dlk_grammar.specs.declared.token.Dots.TheVariants as dots
-use Rattle.dlk_grammar.specs.declared.token.Goal.TheVariants as goal
+use Rattle.dlk_grammar.specs.declared.token.Form.TheVariants as form
 use Rattle.dlk_grammar.specs.Texts.{TreeText, TreeTextFault, TextFault}
 use Rattle.dlk_grammar.specs.Shown.{spell, shown_sequent}
 use Rattle.dlk_replay.specs.Files.{Verdict, accepted, bad, file_lines}
@@ -21,11 +21,11 @@ use Rattle.dlk.specs.Refusals.{text_refused}
 
 -- the model is a text of this formula, without argument dots and `_`
 abbrev pub ModelText : List ℕ → Tree → Type 0
-ModelText model f = TreeText goal.Formula dots.Refused model f
+ModelText model f = TreeText form.Formula dots.Refused model f
 
 -- why the model is none
 abbrev pub ModelFault : List ℕ → TextFault → Type 0
-ModelFault model why = TreeTextFault goal.Formula dots.Refused model why
+ModelFault model why = TreeTextFault form.Formula dots.Refused model why
 
 -- the sequent that a proof of the formula shows
 abbrev pub proves : Tree → Sequent

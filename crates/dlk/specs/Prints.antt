@@ -2,7 +2,7 @@
 use Rattle.std.specs.Prelude.{ℕ, List}
 use Rattle.dlk_tree.specs.Trees.{Tree}
 use Rattle.dlk_grammar.specs.declared.token.Dots.TheVariants.{Allowed}
-use Rattle.dlk_grammar.specs.declared.token.Goal.TheVariants.{Expression}
+use Rattle.dlk_grammar.specs.declared.token.Form.TheVariants.{Expression}
 use Rattle.dlk_grammar.specs.Texts.{TreeText, TreeTextFault, TextFault}
 use Rattle.dlk_grammar.specs.Shown.{spell, shown}
 use Rattle.dlk.specs.declared.command.Role.TheVariants.{File}

@@ -25,9 +25,9 @@ abbrev pub item_of : Item → OdeItem
 item_of (Evolve x a) = ode.Evolve x
 item_of (Flow x s) = ode.Const (symbol Ode x 0 s)
 
-abbrev pub items_of : Items → List OdeItem
-items_of no_items = []
-items_of (add l i) = items_of l ++ item_of i ∷ []
+abbrev pub ode_items : Items → List OdeItem
+ode_items no_items = []
+ode_items (add l i) = ode_items l ++ item_of i ∷ []
 
 abbrev pub infix_op : Infix → Op
 infix_op Equiv = op.Equiv
@@ -79,7 +79,7 @@ abbrev mutual
   erase (Test a) = node op.Test (forest (erase a ∷ []))
   erase (Then p q) = node op.Seq (forest (erase p ∷ erase q ∷ []))
   erase (Loop p) = node op.Loop (forest (erase p ∷ []))
-  erase (System n l a) = node (op.System (items_of l)) (forest (item_terms l ++ erase a ∷ []))
+  erase (System n l a) = node (op.System (ode_items l)) (forest (item_terms l ++ erase a ∷ []))
   erase (Noted p l) = erase p
 
   pub erase_all : Phrases → List Tree
@@ -101,7 +101,7 @@ is_ill_call l = nat_lt 8 (count l)
 
 -- a system of more than 64 items, or one that evolves a variable twice
 abbrev pub is_ill_system : Items → Bool
-is_ill_system l = nat_lt 64 (length (items_of l)) || not (all_distinct (evolved (items_of l)))
+is_ill_system l = nat_lt 64 (length (ode_items l)) || not (all_distinct (evolved (ode_items l)))
 
 abbrev mutual
   -- The places at which what is of ill shape begins: an application at its name, a system at its brace.
@@ -146,6 +146,6 @@ abbrev mutual
   ills_of_items (add l (Flow x s)) = ills_of_items l
 
 -- the least of some numbers
-abbrev pub least : List ℕ → Option ℕ
-least [] = None
-least (n ∷ ns) = Some (fold min n ns)
+abbrev pub lowest : List ℕ → Option ℕ
+lowest [] = None
+lowest (n ∷ ns) = Some (fold min n ns)

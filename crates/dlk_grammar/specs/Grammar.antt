@@ -7,25 +7,25 @@ use Rattle.dlk_grammar.specs.Lexemes.{Word, Lexeme, Name, Number, Dot, Blank, Tr
 use Rattle.dlk_grammar.specs.Phrases.{Everywhere, Except, Phrase, Literal, Argument, Variable, Apply, Negate, Diff, Truth, Falsity, Hole, Holds, Context, Not, DiffF, Forall, Exists, Box, Dia, Binary, Const, Assign, Test, Then, Loop, System, Noted, Phrases, none, snoc, Call, Any, Item, Evolve, Flow, Items, no_items, add}
 
 -- the nonterminals of formulas, terms and programs: `disj` and `conj` for or and and
-pub data Form : Type 0 where
-  formula : Form
-  imp : Form
-  disj : Form
-  conj : Form
-  unf : Form
-  atom : Form
-  term : Form
-  mul : Form
-  neg : Form
-  pow : Form
-  prim : Form
-  prog : Form
-  seq : Form
-  stmt : Form
+pub data Nonterminal : Type 0 where
+  formula : Nonterminal
+  imp : Nonterminal
+  disj : Nonterminal
+  conj : Nonterminal
+  unf : Nonterminal
+  atom : Nonterminal
+  term : Nonterminal
+  mul : Nonterminal
+  neg : Nonterminal
+  pow : Nonterminal
+  prim : Nonterminal
+  prog : Nonterminal
+  seq : Nonterminal
+  stmt : Nonterminal
 
 mutual
   -- Reads f tokens t: the tokens are a text of f, and t is its tree.
-  pub data Reads : Form → List Lexeme → Phrase → Type 0 where
+  pub data Reads : Nonterminal → List Lexeme → Phrase → Type 0 where
     -- formula = imp | imp "<->" formula
     formula-imp : {s : List Lexeme} {a : Phrase} → Reads imp s a → Reads formula s a
     formula-equiv : {s r : List Lexeme} {a b : Phrase} → Reads imp s a → Reads formula r b → Reads formula (s ++ Op Equiv ∷ r) (Binary Equiv a b)
@@ -113,9 +113,9 @@ mutual
     cmp-less : Compares Less
 
   -- X-list = X | X-list "," X
-  pub data ReadsList : Form → List Lexeme → Phrases → Type 0 where
-    list-one : {f : Form} {s : List Lexeme} {a : Phrase} → Reads f s a → ReadsList f s (snoc none a)
-    list-more : {f : Form} {s r : List Lexeme} {l : Phrases} {a : Phrase} → ReadsList f s l → Reads f r a → ReadsList f (s ++ Comma ∷ r) (snoc l a)
+  pub data ReadsList : Nonterminal → List Lexeme → Phrases → Type 0 where
+    list-one : {f : Nonterminal} {s : List Lexeme} {a : Phrase} → Reads f s a → ReadsList f s (snoc none a)
+    list-more : {f : Nonterminal} {s r : List Lexeme} {l : Phrases} {a : Phrase} → ReadsList f s l → Reads f r a → ReadsList f (s ++ Comma ∷ r) (snoc l a)
 
   -- brace = "{" prog "}" | "{" item-list "}" | "{" item-list "&" formula "}"
   pub data ReadsBrace : List Lexeme → Phrase → Type 0 where

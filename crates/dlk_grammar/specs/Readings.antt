@@ -1,20 +1,19 @@
 -- What tokens say, and why they say nothing.
-use Rattle.std.specs.Prelude.{◌≡◌, ◌≢◌, ℕ, ◌+◌, ◌-◌, ◌<◌, ◌≤◌, min, Bool, true, false, List, [], ◌∷◌, ◌++◌, length, map, fold, All, Option, Some, None, flat_map, if◌then◌else◌}
+use Rattle.std.specs.Prelude.{◌≡◌, ℕ, ◌+◌, ◌-◌, ◌<◌, ◌≤◌, min, Bool, true, false, List, [], ◌∷◌, ◌++◌, length, map, fold, All, Some, flat_map, if◌then◌else◌}
 use Rattle.dlk_tree.specs.Trees.{Tree, size, depth}
 use Rattle.dlk_calculus.specs.Sequents.{Sequent as TreeSequent}
 use Rattle.dlk_grammar.specs.declared.token.Token.{Token}
 use Rattle.dlk_grammar.specs.declared.token.TokenKind.{TokenKind}
 use Rattle.dlk_grammar.specs.declared.token.TokenKind.TheVariants as kind
-use Rattle.dlk_grammar.specs.declared.token.Mark.{Mark}
 use Rattle.dlk_grammar.specs.declared.token.Mark.TheVariants as mark
 use Rattle.dlk_grammar.specs.declared.token.Dots.{Dots}
-use Rattle.dlk_grammar.specs.declared.token.Dots.TheVariants.{Refused, Allowed}
-use Rattle.dlk_grammar.specs.declared.token.Goal.{Goal}
-use Rattle.dlk_grammar.specs.declared.token.Goal.TheVariants.{Formula, Term, Program, Expression}
+use Rattle.dlk_grammar.specs.declared.token.Dots.TheVariants.{Refused}
+use Rattle.dlk_grammar.specs.declared.token.Form.{Form}
+use Rattle.dlk_grammar.specs.declared.token.Form.TheVariants.{Formula, Term, Program, Expression}
 use Rattle.dlk_grammar.specs.Lexemes.{Lexeme, Dot, Blank, lexemes}
 use Rattle.dlk_grammar.specs.Phrases.{Phrase, Phrases, none, snoc}
 use Rattle.dlk_grammar.specs.Grammar.{formula, term, prog, Reads, Sides, Turned, ReadsSequent, ReadsExpression}
-use Rattle.dlk_grammar.specs.Erased.{erase, erase_all, ills, least}
+use Rattle.dlk_grammar.specs.Erased.{erase, erase_all, ills, lowest}
 
 -- where they are refused, argument dots and the hole aren't in the grammar
 abbrev pub permits : Dots → Lexeme → Bool
@@ -60,8 +59,8 @@ closes _ = false
 abbrev pub level_behind : ℕ → TokenKind → ℕ
 level_behind level k = if opens k then level + 1 else (if closes k then level - 1 else level)
 
-abbrev pub level : List Token → ℕ
-level tokens = fold (λ n t. level_behind n t.kind) 0 tokens
+abbrev pub bracket_level : List Token → ℕ
+bracket_level tokens = fold (λ n t. level_behind n t.kind) 0 tokens
 
 -- at is the place of the first token with the property, which may speak of the tokens before it
 pub record FirstAt (Is : List Token → TokenKind → Type 0) (tokens : List Token) (at : ℕ) : Type 0 where
@@ -77,7 +76,7 @@ abbrev pub IsLong : List Token → TokenKind → Type 0
 IsLong before k = k ≡ kind.LongNumber
 
 abbrev pub OpensTooDeep : List Token → TokenKind → Type 0
-OpensTooDeep before k = (level before ≡ 1200) × (opens k ≡ true)
+OpensTooDeep before k = (bracket_level before ≡ 1200) × (opens k ≡ true)
 
 -- the token of this place among the tokens is at this byte
 pub record TokenAt (tokens : List Token) (place at : ℕ) : Type 0 where
@@ -120,38 +119,38 @@ pub data ReadFault : Type 0 where
   TooDeep : ℕ → ReadFault
 
 -- the order of the faults
-abbrev pub rank : ReadFault → ℕ
-rank (Literal at) = 1
-rank (Nesting at) = 2
-rank Syntax = 3
-rank (Shape at) = 4
-rank (TooBig n) = 5
-rank (TooDeep n) = 6
+abbrev pub fault_rank : ReadFault → ℕ
+fault_rank (Literal at) = 1
+fault_rank (Nesting at) = 2
+fault_rank Syntax = 3
+fault_rank (Shape at) = 4
+fault_rank (TooBig n) = 5
+fault_rank (TooDeep n) = 6
 
 -- What speaks against tokens as a text of a form. The form is given by its grammar and the phrases of its read trees in
 -- order. One row a fault.
-abbrev pub Against : {P : Type 0} → (List Lexeme → P → Type 0) → (P → List Phrase) → Dots → List Token → ReadFault → Type 0
-Against G parts d tokens (Literal at) = FirstAt IsLong tokens at
-Against G parts d tokens (Nesting at) = FirstAt OpensTooDeep tokens at
-Against {P} G parts d tokens Syntax = (p : P) → ¬ Says d G (lexemes tokens) p
-Against {P} G parts d tokens (Shape at) = (p : P) × Says d G (lexemes tokens) p × ((place : ℕ) × (least (flat_map ills (parts p)) ≡ Some place) × TokenAt tokens place at)
-Against {P} G parts d tokens (TooBig n) = (p : P) × Says d G (lexemes tokens) p × FirstPast size most_nodes (map erase (parts p)) n
-Against {P} G parts d tokens (TooDeep n) = (p : P) × Says d G (lexemes tokens) p × FirstPast depth greatest_depth (map erase (parts p)) n
+abbrev pub SpeaksAgainst : {P : Type 0} → (List Lexeme → P → Type 0) → (P → List Phrase) → Dots → List Token → ReadFault → Type 0
+SpeaksAgainst G parts d tokens (Literal at) = FirstAt IsLong tokens at
+SpeaksAgainst G parts d tokens (Nesting at) = FirstAt OpensTooDeep tokens at
+SpeaksAgainst {P} G parts d tokens Syntax = (p : P) → ¬ Says d G (lexemes tokens) p
+SpeaksAgainst {P} G parts d tokens (Shape at) = (p : P) × Says d G (lexemes tokens) p × ((place : ℕ) × (lowest (flat_map ills (parts p)) ≡ Some place) × TokenAt tokens place at)
+SpeaksAgainst {P} G parts d tokens (TooBig n) = (p : P) × Says d G (lexemes tokens) p × FirstPast size most_nodes (map erase (parts p)) n
+SpeaksAgainst {P} G parts d tokens (TooDeep n) = (p : P) × Says d G (lexemes tokens) p × FirstPast depth greatest_depth (map erase (parts p)) n
 
 -- the first that applies
 pub record IsReadFault {P : Type 0} (G : List Lexeme → P → Type 0) (parts : P → List Phrase) (d : Dots) (tokens : List Token) (why : ReadFault) : Type 0 where
-  pub applies : Against G parts d tokens why
-  pub first : (other : ReadFault) → rank other < rank why → ¬ Against G parts d tokens other
+  pub applies : SpeaksAgainst G parts d tokens why
+  pub first : (other : ReadFault) → fault_rank other < fault_rank why → ¬ SpeaksAgainst G parts d tokens other
 
 -- the tokens say this, and there is no fault
 pub record IsRead {P R : Type 0} (G : List Lexeme → P → Type 0) (parts : P → List Phrase) (d : Dots) (tokens : List Token) (value : P → R) (r : R) : Type 0 where
   pub phrase : P
   pub says : Says d G (lexemes tokens) phrase
   pub value_is : value phrase ≡ r
-  pub no_fault : (why : ReadFault) → ¬ Against G parts d tokens why
+  pub no_fault : (why : ReadFault) → ¬ SpeaksAgainst G parts d tokens why
 
 -- the grammar of a term, a formula, a program, an expression
-abbrev pub grammar : Goal → List Lexeme → Phrase → Type 0
+abbrev pub grammar : Form → List Lexeme → Phrase → Type 0
 grammar Formula = Reads formula
 grammar Term = Reads term
 grammar Program = Reads prog
@@ -161,11 +160,11 @@ abbrev pub itself : Phrase → List Phrase
 itself p = p ∷ []
 
 -- the tokens are those of the tree
-abbrev pub IsTree : Goal → Dots → List Token → Tree → Type 0
-IsTree goal d tokens t = IsRead (grammar goal) itself d tokens erase t
+abbrev pub IsTree : Form → Dots → List Token → Tree → Type 0
+IsTree form d tokens t = IsRead (grammar form) itself d tokens erase t
 
-abbrev pub IsTreeFault : Goal → Dots → List Token → ReadFault → Type 0
-IsTreeFault goal d tokens why = IsReadFault (grammar goal) itself d tokens why
+abbrev pub IsTreeFault : Form → Dots → List Token → ReadFault → Type 0
+IsTreeFault form d tokens why = IsReadFault (grammar form) itself d tokens why
 
 abbrev pub phrases_in : Phrases → List Phrase
 phrases_in none = []

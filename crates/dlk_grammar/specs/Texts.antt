@@ -4,15 +4,15 @@ use Rattle.dlk_tree.specs.Trees.{Tree}
 use Rattle.dlk_calculus.specs.Sequents.{Sequent as TreeSequent}
 use Rattle.dlk_grammar.specs.declared.token.Token.{Token}
 use Rattle.dlk_grammar.specs.declared.token.Dots.{Dots}
-use Rattle.dlk_grammar.specs.declared.token.Goal.{Goal}
+use Rattle.dlk_grammar.specs.declared.token.Form.{Form}
 use Rattle.dlk_grammar.specs.Splits.{Splits, BadAt}
 use Rattle.dlk_grammar.specs.Readings.{ReadFault, IsTree, IsTreeFault, IsSequentOf, IsSequentFault}
 
 -- the bytes are a text of the tree
-pub record TreeText (goal : Goal) (d : Dots) (bytes : List ℕ) (t : Tree) : Type 0 where
+pub record TreeText (form : Form) (d : Dots) (bytes : List ℕ) (t : Tree) : Type 0 where
   pub tokens : List Token
   pub splits : Splits 0 bytes tokens
-  pub reads : IsTree goal d tokens t
+  pub reads : IsTree form d tokens t
 
 -- the bytes are a text of the sequent
 pub record SequentText (bytes : List ℕ) (s : TreeSequent) : Type 0 where
@@ -28,9 +28,9 @@ pub data TextFault : Type 0 where
   Unread : ReadFault → TextFault
 
 -- At most one fault applies.
-abbrev pub TreeTextFault : Goal → Dots → List ℕ → TextFault → Type 0
-TreeTextFault goal d bytes (BadByte at) = BadAt 0 bytes at
-TreeTextFault goal d bytes (Unread why) = (tokens : List Token) × Splits 0 bytes tokens × IsTreeFault goal d tokens why
+abbrev pub TreeTextFault : Form → Dots → List ℕ → TextFault → Type 0
+TreeTextFault form d bytes (BadByte at) = BadAt 0 bytes at
+TreeTextFault form d bytes (Unread why) = (tokens : List Token) × Splits 0 bytes tokens × IsTreeFault form d tokens why
 
 abbrev pub SequentTextFault : List ℕ → TextFault → Type 0
 SequentTextFault bytes (BadByte at) = BadAt 0 bytes at

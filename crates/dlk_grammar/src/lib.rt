@@ -4,4 +4,4 @@
 pub mod laws;
 mod token;
 
-pub use token::{Dots, Goal, Infix, Mark, Token, TokenKind};
+pub use token::{Dots, Form, Infix, Mark, Token, TokenKind};

@@ -120,7 +120,7 @@ pub enum Dots {
 
 /// What a text of one tree is to be.
 #[derive(Clone, Copy, Debug, PartialEq, Eq)]
-pub enum Goal {
+pub enum Form {
     Formula,
     Term,
     Program,

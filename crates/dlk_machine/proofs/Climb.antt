@@ -2,12 +2,12 @@
 use Rattle.std.proofs.Common.{◌≡◌, ℕ, zero, suc, ◌+◌, ◌-◌, ◌≤◌, List, refl, sym, ap, subst, ◌∙◌, arith}
 use Rattle.dlk_grammar.specs.Lexemes.{Lexeme}
 use Rattle.dlk_grammar.specs.Phrases.{Phrase}
-use Rattle.dlk_grammar.specs.Grammar.{Form, formula, imp, disj, conj, unf, atom, term, mul, neg, pow, prim, prog, seq, stmt, Reads, formula-imp, imp-disj, disj-conj, conj-unf, unf-atom, term-mul, mul-neg, neg-pow, pow-prim, prog-seq, seq-stmt}
+use Rattle.dlk_grammar.specs.Grammar.{Nonterminal, formula, imp, disj, conj, unf, atom, term, mul, neg, pow, prim, prog, seq, stmt, Reads, formula-imp, imp-disj, disj-conj, conj-unf, unf-atom, term-mul, mul-neg, neg-pow, pow-prim, prog-seq, seq-stmt}
 use Rattle.dlk_tree.specs.declared.op.Sort.{Sort}
 use Rattle.dlk_tree.specs.declared.op.Sort.TheVariants.{Term, Formula, Program}
 use Rattle.dlk_machine.proofs.Levels.{form_level, form_sort}
 
-pub term_level : (m : Form) → form_sort m ≡ Term → 7 ≤ form_level m
+pub term_level : (m : Nonterminal) → form_sort m ≡ Term → 7 ≤ form_level m
 term_level formula e = absurd cc
 term_level imp e = absurd cc
 term_level disj e = absurd cc
@@ -23,7 +23,7 @@ term_level prog e = absurd cc
 term_level seq e = absurd cc
 term_level stmt e = absurd cc
 
-pub formula_level : (m : Form) → form_sort m ≡ Formula → form_level m ≤ 6
+pub formula_level : (m : Nonterminal) → form_sort m ≡ Formula → form_level m ≤ 6
 formula_level formula e = omega arith
 formula_level imp e = omega arith
 formula_level disj e = omega arith
@@ -39,7 +39,7 @@ formula_level prog e = absurd cc
 formula_level seq e = absurd cc
 formula_level stmt e = absurd cc
 
-pub program_level : (m : Form) → form_sort m ≡ Program → form_level m ≤ 3
+pub program_level : (m : Nonterminal) → form_sort m ≡ Program → form_level m ≤ 3
 program_level formula e = absurd cc
 program_level imp e = absurd cc
 program_level disj e = absurd cc
@@ -55,7 +55,7 @@ program_level prog e = omega arith
 program_level seq e = omega arith
 program_level stmt e = omega arith
 
-pub level_above : (m : Form) → 1 ≤ form_level m
+pub level_above : (m : Nonterminal) → 1 ≤ form_level m
 level_above formula = omega arith
 level_above imp = omega arith
 level_above disj = omega arith
@@ -71,7 +71,7 @@ level_above prog = omega arith
 level_above seq = omega arith
 level_above stmt = omega arith
 
-abbrev at_level : Sort → ℕ → Form
+abbrev at_level : Sort → ℕ → Nonterminal
 at_level Formula (suc zero) = formula
 at_level Formula (suc (suc zero)) = imp
 at_level Formula (suc (suc (suc zero))) = disj
@@ -88,7 +88,7 @@ at_level Program (suc (suc zero)) = seq
 at_level Program (suc (suc (suc zero))) = stmt
 at_level _ _ = formula
 
-at_level-is : (n : Form) → at_level (form_sort n) (form_level n) ≡ n
+at_level-is : (n : Nonterminal) → at_level (form_sort n) (form_level n) ≡ n
 at_level-is formula = refl
 at_level-is imp = refl
 at_level-is disj = refl
@@ -104,11 +104,11 @@ at_level-is prog = refl
 at_level-is seq = refl
 at_level-is stmt = refl
 
-same_level : (n m : Form) → form_sort n ≡ form_sort m → form_level m ≡ form_level n → n ≡ m
+same_level : (n m : Nonterminal) → form_sort n ≡ form_sort m → form_level m ≡ form_level n → n ≡ m
 same_level n m s e = sym (at_level-is n) ∙ ap (at_level (form_sort n)) (sym e) ∙ ap (λ (k : Sort). at_level k (form_level m)) s ∙ at_level-is m
 
-climb : (k : ℕ) (n m : Form) (s : List Lexeme) (t : Phrase) → form_level m + k ≡ form_level n → form_sort n ≡ form_sort m → Reads n s t → Reads m s t
-climb zero n m s t l e d = let same : form_level m ≡ form_level n = omega arith in subst (λ (f : Form). Reads f s t) (same_level n m e same) d
+climb : (k : ℕ) (n m : Nonterminal) (s : List Lexeme) (t : Phrase) → form_level m + k ≡ form_level n → form_sort n ≡ form_sort m → Reads n s t → Reads m s t
+climb zero n m s t l e d = let same : form_level m ≡ form_level n = omega arith in subst (λ (f : Nonterminal). Reads f s t) (same_level n m e same) d
 climb (suc k) formula m s t l e d = absurd (omega (arith, level_above m))
 climb (suc k) imp m s t l e d = climb k formula m s t (omega arith) e (formula-imp d)
 climb (suc k) disj m s t l e d = climb k imp m s t (omega arith) e (imp-disj d)
@@ -125,7 +125,7 @@ climb (suc k) seq m s t l e d = climb k prog m s t (omega arith) e (prog-seq d)
 climb (suc k) stmt m s t l e d = climb k seq m s t (omega arith) e (seq-stmt d)
 
 -- the least level at which a text has to stand to be one of the nonterminal: each term is a text of term
-abbrev pub need : Form → ℕ
+abbrev pub need : Nonterminal → ℕ
 need formula = 1
 need imp = 2
 need disj = 3
@@ -141,7 +141,7 @@ need prog = 1
 need seq = 2
 need stmt = 3
 
-pub need_below : (m : Form) → need m ≤ form_level m
+pub need_below : (m : Nonterminal) → need m ≤ form_level m
 need_below formula = omega arith
 need_below imp = omega arith
 need_below disj = omega arith
@@ -157,7 +157,7 @@ need_below prog = omega arith
 need_below seq = omega arith
 need_below stmt = omega arith
 
-need_level : (n m : Form) → form_sort n ≡ form_sort m → need m ≤ form_level n → form_level m ≤ form_level n
+need_level : (n m : Nonterminal) → form_sort n ≡ form_sort m → need m ≤ form_level n → form_level m ≤ form_level n
 need_level n formula e h = h
 need_level n imp e h = h
 need_level n disj e h = h
@@ -173,7 +173,7 @@ need_level n prog e h = h
 need_level n seq e h = h
 need_level n stmt e h = h
 
-pub stands : (n m : Form) (s : List Lexeme) (t : Phrase) → need m ≤ form_level n → form_sort n ≡ form_sort m → Reads n s t → Reads m s t
+pub stands : (n m : Nonterminal) (s : List Lexeme) (t : Phrase) → need m ≤ form_level n → form_sort n ≡ form_sort m → Reads n s t → Reads m s t
 stands n m s t h e d =
     let le = need_level n m e h in
     climb (form_level n - form_level m) n m s t (omega arith) e d

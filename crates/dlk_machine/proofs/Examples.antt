@@ -7,7 +7,7 @@ use Rattle.dlk_grammar.specs.declared.token.Infix.TheVariants.{Imply, And, Equal
 use Rattle.dlk_grammar.specs.Lexemes.{Word, Name, Number, Dot, Bang, True, Invariant, RoundBars, Open, Close, OpenBrace, CloseBrace, Prime, Gets, Semi, Comma, Turnstile, Op}
 use Rattle.dlk_grammar.specs.Phrases.{Everywhere, Literal, Variable, Negate, Truth, Holds, Not, Dia, Binary, Const, Assign, Loop, System, Noted, none, snoc, Any, Evolve, Flow, no_items, add}
 use Rattle.dlk_grammar.specs.Grammar.{Turned}
-use Rattle.dlk_grammar.specs.Erased.{ills, least}
+use Rattle.dlk_grammar.specs.Erased.{ills, lowest}
 use Rattle.dlk_machine.proofs.Parse.{parse, reader}
 use Rattle.dlk_machine.proofs.Sequents.{sequent_reader}
 use Rattle.dlk_machine.proofs.Expressions.{expression_reader}
@@ -85,5 +85,5 @@ a_sequent : parse Refused sequent_reader (Turnstile ∷ True ∷ []) ≡ Ok (Tur
 a_sequent = refl
 
 -- {x'=0,x'=0} evolves a variable twice.
-a_shape : least (ills (System 3 (add (add no_items (Evolve x (Literal zero'))) (Evolve x (Literal zero'))) Truth)) ≡ Some 3
+a_shape : lowest (ills (System 3 (add (add no_items (Evolve x (Literal zero'))) (Evolve x (Literal zero'))) Truth)) ≡ Some 3
 a_shape = refl

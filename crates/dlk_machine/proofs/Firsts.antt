@@ -2,7 +2,7 @@
 use Rattle.std.proofs.Common.{◌≡◌, ℕ, Bool, true, false, List, [], ◌∷◌, ◌++◌, refl}
 use Rattle.dlk_grammar.specs.Lexemes.{Word, Lexeme, Name, Close, OpenBrace, Prime, Gets, Query, Semi}
 use Rattle.dlk_grammar.specs.Phrases.{Phrase, Phrases}
-use Rattle.dlk_grammar.specs.Grammar.{Form, term, Reads, formula-imp, formula-equiv, imp-disj, imp-imply, disj-conj, disj-or, conj-unf, conj-and, unf-not, unf-forall, unf-exists, unf-box, unf-dia, unf-atom, atom-true, atom-false, atom-hole, atom-compare, atom-nullary, atom-holds, atom-any, atom-except, atom-context, atom-bracket, atom-diff, term-mul, term-add, term-sub, mul-neg, mul-times, mul-over, neg-pow, neg-minus, pow-prim, pow-power, prim-number, prim-dot, prim-name, prim-primed, prim-nullary, prim-apply, prim-any, prim-except, prim-bracket, prim-diff, prog-seq, prog-choice, seq-stmt, seq-then, stmt-const, stmt-assign, stmt-assign_prime, stmt-test, stmt-group, ReadsList, list-one, list-more, ReadsBrace, brace-prog, brace-items, brace-domain}
+use Rattle.dlk_grammar.specs.Grammar.{Nonterminal, term, Reads, formula-imp, formula-equiv, imp-disj, imp-imply, disj-conj, disj-or, conj-unf, conj-and, unf-not, unf-forall, unf-exists, unf-box, unf-dia, unf-atom, atom-true, atom-false, atom-hole, atom-compare, atom-nullary, atom-holds, atom-any, atom-except, atom-context, atom-bracket, atom-diff, term-mul, term-add, term-sub, mul-neg, mul-times, mul-over, neg-pow, neg-minus, pow-prim, pow-power, prim-number, prim-dot, prim-name, prim-primed, prim-nullary, prim-apply, prim-any, prim-except, prim-bracket, prim-diff, prog-seq, prog-choice, seq-stmt, seq-then, stmt-const, stmt-assign, stmt-assign_prime, stmt-test, stmt-group, ReadsList, list-one, list-more, ReadsBrace, brace-prog, brace-items, brace-domain}
 use Rattle.dlk_machine.proofs.Levels.{form_sort}
 use Rattle.dlk_machine.proofs.Machine.{program_sort}
 
@@ -42,7 +42,7 @@ brace_first (brace-items d) = front-brace
 brace_first (brace-domain d e) = front-brace
 
 mutual
-  pub first : {n : Form} {s : List Lexeme} {t : Phrase} → Reads n s t → First (program_sort (form_sort n)) s
+  pub first : {n : Nonterminal} {s : List Lexeme} {t : Phrase} → Reads n s t → First (program_sort (form_sort n)) s
   first (formula-imp d) = first d
   first (imp-disj d) = first d
   first (disj-conj d) = first d

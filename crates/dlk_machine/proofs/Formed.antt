@@ -23,8 +23,8 @@ use Rattle.dlk_grammar.specs.declared.token.Infix.{Infix}
 use Rattle.dlk_grammar.specs.declared.token.Infix.TheVariants.{Equiv, Imply, Or, And, Equal, NotEqual, AtLeast, Greater, AtMost, Less, Add, Sub, Mul, Div, Pow, Choice}
 use Rattle.dlk_grammar.specs.Lexemes.{Word, Lexeme, Name, Number, Dot, Invariant, Open, Close, OpenBox, CloseBox, OpenBrace, CloseBrace, Prime, Gets, Query, Semi, Comma, Turnstile, Op}
 use Rattle.dlk_grammar.specs.Phrases.{Space, Everywhere, Except, Phrase, Phrases, none, Apply, Holds, Call, Item, Evolve, Flow, Items, no_items, add, System, Truth}
-use Rattle.dlk_grammar.specs.Grammar.{Form, formula, Reads, formula-imp, formula-equiv, imp-disj, imp-imply, disj-conj, disj-or, conj-unf, conj-and, unf-not, unf-forall, unf-exists, unf-box, unf-dia, unf-atom, atom-true, atom-false, atom-hole, atom-compare, atom-nullary, atom-holds, atom-any, atom-except, atom-context, atom-bracket, atom-diff, term-mul, term-add, term-sub, mul-neg, mul-times, mul-over, neg-pow, neg-minus, pow-prim, pow-power, prim-number, prim-dot, prim-name, prim-primed, prim-nullary, prim-apply, prim-any, prim-except, prim-bracket, prim-diff, prog-seq, prog-choice, seq-stmt, seq-then, stmt-const, stmt-assign, stmt-assign_prime, stmt-test, stmt-group, Compares, cmp-equal, cmp-not_equal, cmp-at_least, cmp-greater, cmp-at_most, cmp-less, ReadsList, list-one, list-more, ReadsBrace, brace-prog, brace-items, brace-domain, ReadsItems, items-one, items-more, ReadsItem, item-evolve, item-flow, item-except, ReadsStar, star-none, star-loop, ReadsInv, inv-none, inv-some, ReadsSide, side-nothing, side-list, Sides, Turned, ReadsSequent, sequent-sides, ReadsExpression, as-formula, as-program, as-term}
-use Rattle.dlk_grammar.specs.Erased.{erase, erase_all, item_of, items_of, item_terms, symbol, taboo, ills, ills_of_all, ills_of_items, count, is_ill_call, is_ill_system, place_if, infix_op}
+use Rattle.dlk_grammar.specs.Grammar.{Nonterminal, formula, Reads, formula-imp, formula-equiv, imp-disj, imp-imply, disj-conj, disj-or, conj-unf, conj-and, unf-not, unf-forall, unf-exists, unf-box, unf-dia, unf-atom, atom-true, atom-false, atom-hole, atom-compare, atom-nullary, atom-holds, atom-any, atom-except, atom-context, atom-bracket, atom-diff, term-mul, term-add, term-sub, mul-neg, mul-times, mul-over, neg-pow, neg-minus, pow-prim, pow-power, prim-number, prim-dot, prim-name, prim-primed, prim-nullary, prim-apply, prim-any, prim-except, prim-bracket, prim-diff, prog-seq, prog-choice, seq-stmt, seq-then, stmt-const, stmt-assign, stmt-assign_prime, stmt-test, stmt-group, Compares, cmp-equal, cmp-not_equal, cmp-at_least, cmp-greater, cmp-at_most, cmp-less, ReadsList, list-one, list-more, ReadsBrace, brace-prog, brace-items, brace-domain, ReadsItems, items-one, items-more, ReadsItem, item-evolve, item-flow, item-except, ReadsStar, star-none, star-loop, ReadsInv, inv-none, inv-some, ReadsSide, side-nothing, side-list, Sides, Turned, ReadsSequent, sequent-sides, ReadsExpression, as-formula, as-program, as-term}
+use Rattle.dlk_grammar.specs.Erased.{erase, erase_all, item_of, ode_items, item_terms, symbol, taboo, ills, ills_of_all, ills_of_items, count, is_ill_call, is_ill_system, place_if, infix_op}
 use Rattle.dlk_grammar.specs.Readings.{permits, Permitted, erase_sides}
 use Rattle.dlk_machine.proofs.Levels.{form_sort}
 
@@ -205,8 +205,8 @@ held n x l b h g = over_ill (op.Holds (symbol Pred x (count l) Everywhere)) (pla
 
 -- items of a system
 pub record GrownItems (w : List Lexeme) (l : Items) : Type 0 where
-  pub grown : Grown w (replicate (length (evolved (items_of l))) Term) (ills_of_items l) (item_terms l)
-  pub real : AreReal w → list_all is_item (items_of l) ≡ true
+  pub grown : Grown w (replicate (length (evolved (ode_items l))) Term) (ills_of_items l) (item_terms l)
+  pub real : AreReal w → list_all is_item (ode_items l) ≡ true
 
 evolved_append : (xs ys : List OdeItem) → evolved (xs ++ ys) ≡ evolved xs ++ evolved ys
 evolved_append [] ys = refl
@@ -220,30 +220,30 @@ evolved_more xs x =
 
 add_item : {s r : List Lexeme} (l : Items) (i : Item) → GrownItems s l → GrownItems r (add no_items i) → GrownItems (s ++ Comma ∷ r) (add l i)
 add_item {s = s} {r = r} l (Evolve x a) g h = record {
-  grown = resort (evolved_more (items_of l) x) (join (widen (part_front s (Comma ∷ r)) g.grown) (widen (part_last s r Comma) h.grown));
-  real = λ p. list_all-append is_item (items_of l) (ode.Evolve x ∷ []) ∙ and_from _ _ (g.real (part_front s (Comma ∷ r) IsReal p)) (h.real (part_last s r Comma IsReal p));
+  grown = resort (evolved_more (ode_items l) x) (join (widen (part_front s (Comma ∷ r)) g.grown) (widen (part_last s r Comma) h.grown));
+  real = λ p. list_all-append is_item (ode_items l) (ode.Evolve x ∷ []) ∙ and_from _ _ (g.real (part_front s (Comma ∷ r) IsReal p)) (h.real (part_last s r Comma IsReal p));
 }
 add_item {s = s} {r = r} l (Flow x e) g h = record {
-  grown = resort (ap (λ (k : List Word). replicate (length k) Term) (sym (evolved_append (items_of l) (item_of (Flow x e) ∷ []) ∙ append-nil (evolved (items_of l))))) (widen (part_front s (Comma ∷ r)) g.grown);
-  real = λ p. list_all-append is_item (items_of l) (item_of (Flow x e) ∷ []) ∙ and_from _ _ (g.real (part_front s (Comma ∷ r) IsReal p)) (h.real (part_last s r Comma IsReal p));
+  grown = resort (ap (λ (k : List Word). replicate (length k) Term) (sym (evolved_append (ode_items l) (item_of (Flow x e) ∷ []) ∙ append-nil (evolved (ode_items l))))) (widen (part_front s (Comma ∷ r)) g.grown);
+  real = λ p. list_all-append is_item (ode_items l) (item_of (Flow x e) ∷ []) ∙ and_from _ _ (g.real (part_front s (Comma ∷ r) IsReal p)) (h.real (part_last s r Comma IsReal p));
 }
 
 items_in : {s w : List Lexeme} {l : Items} → Part s w → GrownItems s l → GrownItems w l
 items_in part g = record { grown = widen part g.grown; real = λ r. g.real (part IsReal r) }
 
-some_items : {s : List Lexeme} {l : Items} → ReadsItems s l → 1 ≤ length (items_of l)
+some_items : {s : List Lexeme} {l : Items} → ReadsItems s l → 1 ≤ length (ode_items l)
 some_items (items-one {i = i} d) = omega arith
-some_items (items-more {l = l} {i = i} p d) = omega (arith, length-append (items_of l) (item_of i ∷ []))
+some_items (items-more {l = l} {i = i} p d) = omega (arith, length-append (ode_items l) (item_of i ∷ []))
 
-system_parts : (l : Items) → 1 ≤ length (items_of l) → list_all is_item (items_of l) ≡ true → is_ill_system l ≡ false → are_items (items_of l) ≡ true
+system_parts : (l : Items) → 1 ≤ length (ode_items l) → list_all is_item (ode_items l) ≡ true → is_ill_system l ≡ false → are_items (ode_items l) ≡ true
 system_parts l some items e =
-    let w = or_parts _ (not (all_distinct (evolved (items_of l)))) e in
-    let most : nat_le (length (items_of l)) 64 ≡ true = le-leb _ 64 (ltb-false 64 _ w.0) in
-    let least : nat_le 1 (length (items_of l)) ≡ true = le-leb 1 _ some in
+    let w = or_parts _ (not (all_distinct (evolved (ode_items l)))) e in
+    let most : nat_le (length (ode_items l)) 64 ≡ true = le-leb _ 64 (ltb-false 64 _ w.0) in
+    let least : nat_le 1 (length (ode_items l)) ≡ true = le-leb 1 _ some in
     rw (least, most, items, not-false _ w.1) refl
 
-system : {w : List Lexeme} (n : ℕ) (l : Items) (a : Phrase) → ((m : ℕ) → AreBelow m w → n < m) → 1 ≤ length (items_of l) → GrownItems w l → Grown w (Formula ∷ []) (ills a) (erase a ∷ []) → Grown w (Program ∷ []) (ills (System n l a)) (erase (System n l a) ∷ [])
-system n l a b some g h = over_ill (op.System (items_of l)) (place_if (is_ill_system l) n) (join g.grown h) refl (λ m c. place_below (is_ill_system l) n m (b m c)) (λ r e. system_parts l some (g.real r) (no_place (is_ill_system l) n e)) refl refl
+system : {w : List Lexeme} (n : ℕ) (l : Items) (a : Phrase) → ((m : ℕ) → AreBelow m w → n < m) → 1 ≤ length (ode_items l) → GrownItems w l → Grown w (Formula ∷ []) (ills a) (erase a ∷ []) → Grown w (Program ∷ []) (ills (System n l a)) (erase (System n l a) ∷ [])
+system n l a b some g h = over_ill (op.System (ode_items l)) (place_if (is_ill_system l) n) (join g.grown h) refl (λ m c. place_below (is_ill_system l) n m (b m c)) (λ r e. system_parts l some (g.real r) (no_place (is_ill_system l) n e)) refl refl
 
 -- symbols without arguments
 unit_pred : (x : Word) (e : Space) → IsTrue (is_name x) → taboo_is_name (taboo e) ≡ true → is_sym_of UnitPred (symbol UnitPred x 0 e) ≡ true
@@ -254,7 +254,7 @@ unit_func : (x : Word) (e : Space) → IsTrue (is_name x) → taboo_is_name (tab
 unit_func x Everywhere h e = rw h refl
 unit_func x (Except y) h e = rw (h, e) refl
 
-flow_parts : (x : Word) (e : Space) → IsTrue (is_name x) → taboo_is_name (taboo e) ≡ true → list_all is_item (items_of (add no_items (Flow x e))) ≡ true
+flow_parts : (x : Word) (e : Space) → IsTrue (is_name x) → taboo_is_name (taboo e) ≡ true → list_all is_item (ode_items (add no_items (Flow x e))) ≡ true
 flow_parts x Everywhere h e = rw h refl
 flow_parts x (Except y) h e = rw (h, e) refl
 
@@ -286,7 +286,7 @@ group_part s q i e P h =
 
 mutual
   -- each nonterminal's trees
-  pub grown : {f : Form} {s : List Lexeme} {p : Phrase} → Reads f s p → Grown s (form_sort f ∷ []) (ills p) (erase p ∷ [])
+  pub grown : {f : Nonterminal} {s : List Lexeme} {p : Phrase} → Reads f s p → Grown s (form_sort f ∷ []) (ills p) (erase p ∷ [])
   grown (formula-imp d) = grown d
   grown (formula-equiv d e) = between (Op Equiv) op.Equiv (grown d) (grown e) refl refl refl refl
   grown (imp-disj d) = grown d
@@ -342,7 +342,7 @@ mutual
   grown (stmt-test {s = s} d) = one op.Test (part_in Query s (Semi ∷ [])) (grown d) refl (λ r. refl) refl refl
   grown (stmt-group {s = s} {q = q} {i = i} {e = e} d star inv semi) = widen (group_part s q i e) (grown_inv inv (starred star (grown_brace d)))
 
-  pub grown_list : {f : Form} {s : List Lexeme} {l : Phrases} → ReadsList f s l → Grown s (replicate (count l) (form_sort f)) (ills_of_all l) (erase_all l)
+  pub grown_list : {f : Nonterminal} {s : List Lexeme} {l : Phrases} → ReadsList f s l → Grown s (replicate (count l) (form_sort f)) (ills_of_all l) (erase_all l)
   grown_list (list-one d) = grown d
   grown_list (list-more {f = f} {s = s} {r = r} {l = l} p d) = resort (replicate_more (count l) (form_sort f)) (join (widen (part_front s (Comma ∷ r)) (grown_list p)) (widen (part_last s r Comma) (grown d)))
 
@@ -376,7 +376,7 @@ sort_from {s = s} {t = t} g = let e : sort t ∷ [] ≡ s ∷ [] = g.sorts_are i
 made_from : {w : List Lexeme} {s : Sort} {places : List ℕ} {t : Tree} → Grown w (s ∷ []) places (t ∷ []) → AreReal w → places ≡ [] → IsMade s t
 made_from g h e = record { well_made = (g.made h e).0; sort_is = sort_from g }
 
-pub formed : {f : Form} {s : List Lexeme} {p : Phrase} → Reads f s p → AreReal s → ills p ≡ [] → IsMade (form_sort f) (erase p)
+pub formed : {f : Nonterminal} {s : List Lexeme} {p : Phrase} → Reads f s p → AreReal s → ills p ≡ [] → IsMade (form_sort f) (erase p)
 formed d h e = made_from (grown d) h e
 
 -- an expression is of some sort
@@ -399,10 +399,10 @@ bare_dot {t = t} h = (or_parts (has_dots t) false h.no_dot).0
 pub bare_hole : {t : Tree} → AreBare (t ∷ []) → has_hole t ≡ false
 bare_hole {t = t} h = (or_parts (has_hole t) false h.no_hole).0
 
-pub no_dots_formed : {f : Form} {s : List Lexeme} {p : Phrase} → Reads f s p → Permitted Refused s → has_dots (erase p) ≡ false
+pub no_dots_formed : {f : Nonterminal} {s : List Lexeme} {p : Phrase} → Reads f s p → Permitted Refused s → has_dots (erase p) ≡ false
 no_dots_formed {s = s} d p = bare_dot ((grown d).bare (plain_from s p))
 
-pub no_hole_formed : {f : Form} {s : List Lexeme} {p : Phrase} → Reads f s p → Permitted Refused s → has_hole (erase p) ≡ false
+pub no_hole_formed : {f : Nonterminal} {s : List Lexeme} {p : Phrase} → Reads f s p → Permitted Refused s → has_hole (erase p) ≡ false
 no_hole_formed {s = s} d p = bare_hole ((grown d).bare (plain_from s p))
 
 pub expression_no_dots : {s : List Lexeme} {p : Phrase} → ReadsExpression s p → Permitted Refused s → has_dots (erase p) ≡ false

@@ -1,10 +1,10 @@
 -- The levels and sorts of the nonterminals.
 use Rattle.std.specs.Prelude.{ℕ}
-use Rattle.dlk_grammar.specs.Grammar.{Form, formula, imp, disj, conj, unf, atom, term, mul, neg, pow, prim, prog, seq, stmt}
+use Rattle.dlk_grammar.specs.Grammar.{Nonterminal, formula, imp, disj, conj, unf, atom, term, mul, neg, pow, prim, prog, seq, stmt}
 use Rattle.dlk_tree.specs.declared.op.Sort.{Sort}
 use Rattle.dlk_tree.specs.declared.op.Sort.TheVariants.{Term, Formula, Program}
 
-abbrev pub form_level : Form → ℕ
+abbrev pub form_level : Nonterminal → ℕ
 form_level formula = 1
 form_level imp = 2
 form_level disj = 3
@@ -20,7 +20,7 @@ form_level prog = 1
 form_level seq = 2
 form_level stmt = 3
 
-abbrev pub form_sort : Form → Sort
+abbrev pub form_sort : Nonterminal → Sort
 form_sort formula = Formula
 form_sort imp = Formula
 form_sort disj = Formula
@@ -37,7 +37,7 @@ form_sort seq = Program
 form_sort stmt = Program
 
 -- the nonterminal of a sort
-abbrev pub top : Sort → Form
+abbrev pub top : Sort → Nonterminal
 top Term = term
 top Formula = formula
 top Program = prog

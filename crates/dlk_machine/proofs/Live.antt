@@ -4,7 +4,7 @@ use Rattle.std.proofs.lemmas.List.{append-nil}
 use Rattle.dlk_grammar.specs.declared.token.Infix.TheVariants.{Equiv, Imply, Or, And, Equal, NotEqual, AtLeast, Greater, AtMost, Less, Add, Sub, Mul, Div, Pow, Choice}
 use Rattle.dlk_grammar.specs.Lexemes.{Lexeme, Name, Number, True, Invariant, RoundBar, BarRound, BraceBar, BarBrace, Open, Close, OpenBox, CloseBox, OpenBrace, CloseBrace, Prime, Gets, Query, Semi, Op}
 use Rattle.dlk_grammar.specs.Phrases.{Except, Phrase, Literal, Apply, Truth, Forall, Exists, Binary, Const, Assign, System, none, Call, Any, Items}
-use Rattle.dlk_grammar.specs.Grammar.{Form, formula, unf, atom, term, prim, prog, stmt, Reads, formula-imp, imp-disj, disj-conj, conj-unf, unf-forall, unf-exists, unf-box, unf-dia, unf-atom, atom-true, atom-compare, atom-context, atom-bracket, term-mul, mul-neg, neg-pow, pow-prim, prim-number, prim-nullary, prim-apply, prim-except, prim-bracket, stmt-const, stmt-assign, stmt-assign_prime, stmt-test, cmp-less, ReadsBrace, brace-prog, brace-items, brace-domain, ReadsItems, items-one, item-evolve, item-flow, item-except}
+use Rattle.dlk_grammar.specs.Grammar.{Nonterminal, formula, unf, atom, term, prim, prog, stmt, Reads, formula-imp, imp-disj, disj-conj, conj-unf, unf-forall, unf-exists, unf-box, unf-dia, unf-atom, atom-true, atom-compare, atom-context, atom-bracket, term-mul, mul-neg, neg-pow, pow-prim, prim-number, prim-nullary, prim-apply, prim-except, prim-bracket, stmt-const, stmt-assign, stmt-assign_prime, stmt-test, cmp-less, ReadsBrace, brace-prog, brace-items, brace-domain, ReadsItems, items-one, item-evolve, item-flow, item-except}
 use Rattle.dlk_tree.specs.declared.op.Num.{Num}
 use Rattle.dlk_tree.specs.declared.op.Sort.{Sort}
 use Rattle.dlk_tree.specs.declared.op.Sort.TheVariants.{Term, Formula, Program}
@@ -19,7 +19,7 @@ use Rattle.dlk_machine.proofs.Found.{moves}
 
 -- a text that can stand under the open parts
 record Fills (g : Sort) (S : List Part) (r : List Lexeme) : Type 0 where
-  form : Form
+  form : Nonterminal
   tree : Phrase
   reads : Reads form r tree
   loose : Loose (form_level form) S
@@ -44,17 +44,17 @@ true_unf = unf-atom atom-true
 true_reads : Reads formula (True ∷ []) Truth
 true_reads = formula-imp (imp-disj (disj-conj (conj-unf (unf-atom atom-true))))
 
-compared : (n : Form) (r : List Lexeme) (t : Phrase) → form_sort n ≡ Term → Reads n r t → Reads atom (r ++ below_zero) (Binary Less t (Literal nought))
+compared : (n : Nonterminal) (r : List Lexeme) (t : Phrase) → form_sort n ≡ Term → Reads n r t → Reads atom (r ++ below_zero) (Binary Less t (Literal nought))
 compared n r t e d = atom-compare cmp-less (stands n term r t (omega arith) e d) zero_reads
 
 -- a text in a place for a nonterminal: as it is, or compared
-record Formed (m : Form) (r : List Lexeme) : Type 0 where
+record Formed (m : Nonterminal) (r : List Lexeme) : Type 0 where
   more : List Lexeme
   plain : Plain more
   tree : Phrase
   reads : Reads m (r ++ more) tree
 
-to_form : (m n : Form) (r : List Lexeme) (t : Phrase) → Reads n r t → allows (form_sort m) (form_sort n) ≡ true → need m ≤ form_level n → Formed m r
+to_form : (m n : Nonterminal) (r : List Lexeme) (t : Phrase) → Reads n r t → allows (form_sort m) (form_sort n) ≡ true → need m ≤ form_level n → Formed m r
 to_form m n r t d a h = go (form_sort m) (form_sort n) refl refl a
   where
     as_it_is : form_sort n ≡ form_sort m → Formed m r
@@ -76,7 +76,7 @@ top_sort Term = refl
 top_sort Formula = refl
 top_sort Program = refl
 
-pub top_need : (g : Sort) (n : Form) → need (top g) ≤ form_level n
+pub top_need : (g : Sort) (n : Nonterminal) → need (top g) ≤ form_level n
 top_need Term n = omega arith
 top_need Formula n = level_above n
 top_need Program n = level_above n
@@ -112,7 +112,7 @@ record Held (g : Sort) (S : List Part) (k r : List Lexeme) : Type 0 where
   plain : Plain more
   fills : Fills g S (k ++ (r ++ more))
 
-round_held : (g : Sort) (S : List Part) (b : Bool) (r : List Lexeme) (n : Form) (t : Phrase) → b ≡ fits g Formula S → fits g Term S ≡ true → Reads n r t → allows (round_sort b) (form_sort n) ≡ true → Held g S (Open ∷ []) r
+round_held : (g : Sort) (S : List Part) (b : Bool) (r : List Lexeme) (n : Nonterminal) (t : Phrase) → b ≡ fits g Formula S → fits g Term S ≡ true → Reads n r t → allows (round_sort b) (form_sort n) ≡ true → Held g S (Open ∷ []) r
 round_held g S b r n t same fit d a = go b (form_sort n) refl same a
   where
     term_held : form_sort n ≡ Term → Held g S (Open ∷ []) r
@@ -143,10 +143,10 @@ brace_fills : (g : Sort) (S : List Part) (s : List Lexeme) (t : Phrase) → fits
 brace_fills g S s t f d = stmt_fills g S s t f (end_stmt (end_note (note_brace d)))
 
 -- a few plain tokens behind what made a nonterminal
-held_by : (g : Sort) (S : List Part) (k r new : List Lexeme) (m : Form) (w : Formed m r) (c : List Lexeme) → Plain c → new ≡ k ++ (r ++ (w.more ++ c)) → Fills g S new → Held g S k r
+held_by : (g : Sort) (S : List Part) (k r new : List Lexeme) (m : Nonterminal) (w : Formed m r) (c : List Lexeme) → Plain c → new ≡ k ++ (r ++ (w.more ++ c)) → Fills g S new → Held g S k r
 held_by g S k r new m w c p e f = record { more = w.more ++ c; plain = plain_append w.more c w.plain p; fills = subst (Fills g S) e f }
 
-hold : (g : Sort) (h : Holder) (S : List Part) (k r : List Lexeme) (n : Form) (t : Phrase) → HolderText g h S k → Reads n r t → allows (held_sort h) (form_sort n) ≡ true → Held g S k r
+hold : (g : Sort) (h : Holder) (S : List Part) (k r : List Lexeme) (n : Nonterminal) (t : Phrase) → HolderText g h S k → Reads n r t → allows (held_sort h) (form_sort n) ≡ true → Held g S k r
 hold g (Round b) S k r n t (round-text same fit) d a = round_held g S b r n t same fit d a
 hold g (Args m x l) S k r n t (args-text {k = j} begun fit) d a =
     let w = to_form term n r t d a (omega arith) in

@@ -6,7 +6,7 @@ use Rattle.dlk_grammar.specs.declared.token.Infix.{Infix}
 use Rattle.dlk_grammar.specs.declared.token.Infix.TheVariants.{Equiv, Imply, Or, And, Equal, NotEqual, AtLeast, Greater, AtMost, Less, Add, Sub, Mul, Div, Pow, Choice}
 use Rattle.dlk_grammar.specs.Lexemes.{Word, Lexeme, Name, Number, Dot, Blank, True, False, All, Exist, Invariant, RoundBars, RoundBar, BarRound, Open, Close, OpenBox, CloseBox, OpenBrace, CloseBrace, Bang, Prime, Gets, Query, Semi, Comma, Op}
 use Rattle.dlk_grammar.specs.Phrases.{Everywhere, Except, Phrase, Literal, Argument, Variable, Apply, Diff, Truth, Falsity, Hole, Holds, Context, DiffF, Binary, Const, Assign, Test, System, Noted, Phrases, none, snoc, Head, Call, Any, Item, Evolve, Flow, Items, no_items, add}
-use Rattle.dlk_grammar.specs.Grammar.{Form, formula, imp, disj, conj, unf, atom, term, mul, neg, pow, prim, prog, seq, stmt, Reads, formula-imp, formula-equiv, imp-disj, imp-imply, disj-conj, disj-or, conj-unf, conj-and, unf-not, unf-forall, unf-exists, unf-box, unf-dia, unf-atom, atom-true, atom-false, atom-hole, atom-compare, atom-nullary, atom-holds, atom-any, atom-except, atom-context, atom-bracket, atom-diff, term-mul, term-add, term-sub, mul-neg, mul-times, mul-over, neg-pow, neg-minus, pow-prim, pow-power, prim-number, prim-dot, prim-name, prim-primed, prim-nullary, prim-apply, prim-any, prim-except, prim-bracket, prim-diff, prog-seq, prog-choice, seq-stmt, seq-then, stmt-const, stmt-assign, stmt-assign_prime, stmt-test, stmt-group, Compares, cmp-equal, cmp-not_equal, cmp-at_least, cmp-greater, cmp-at_most, cmp-less, ReadsList, list-one, list-more, ReadsBrace, brace-prog, brace-items, brace-domain, ReadsItems, items-one, items-more, ReadsItem, item-evolve, item-flow, item-except, ReadsStar, star-none, star-loop, ReadsInv, inv-none, inv-some, ReadsSemi, semi-none, semi-some}
+use Rattle.dlk_grammar.specs.Grammar.{Nonterminal, formula, imp, disj, conj, unf, atom, term, mul, neg, pow, prim, prog, seq, stmt, Reads, formula-imp, formula-equiv, imp-disj, imp-imply, disj-conj, disj-or, conj-unf, conj-and, unf-not, unf-forall, unf-exists, unf-box, unf-dia, unf-atom, atom-true, atom-false, atom-hole, atom-compare, atom-nullary, atom-holds, atom-any, atom-except, atom-context, atom-bracket, atom-diff, term-mul, term-add, term-sub, mul-neg, mul-times, mul-over, neg-pow, neg-minus, pow-prim, pow-power, prim-number, prim-dot, prim-name, prim-primed, prim-nullary, prim-apply, prim-any, prim-except, prim-bracket, prim-diff, prog-seq, prog-choice, seq-stmt, seq-then, stmt-const, stmt-assign, stmt-assign_prime, stmt-test, stmt-group, Compares, cmp-equal, cmp-not_equal, cmp-at_least, cmp-greater, cmp-at_most, cmp-less, ReadsList, list-one, list-more, ReadsBrace, brace-prog, brace-items, brace-domain, ReadsItems, items-one, items-more, ReadsItem, item-evolve, item-flow, item-except, ReadsStar, star-none, star-loop, ReadsInv, inv-none, inv-some, ReadsSemi, semi-none, semi-some}
 use Rattle.dlk_tree.specs.declared.op.Sort.{Sort}
 use Rattle.dlk_tree.specs.declared.op.Sort.TheVariants.{Term, Formula, Program}
 use Rattle.dlk_machine.proofs.Levels.{form_level, form_sort, top}
@@ -34,7 +34,7 @@ abbrev pub fold : List Part → Piece → Option Piece
 fold [] p = Some p
 fold (e ∷ F) p = join e p >>= fold F
 
-abbrev pub tightness : Form → ℕ
+abbrev pub tightness : Nonterminal → ℕ
 tightness formula = 0
 tightness imp = 1
 tightness disj = 2
@@ -79,7 +79,7 @@ Loose-more m n [] h l = tt
 Loose-more m n (e ∷ S) h l = omega arith
 
 -- A text of a nonterminal, from a state that wants an operand: what is open afterwards.
-pub record Ends (g : Sort) (S : List Part) (s : List Lexeme) (n : Form) (t : Phrase) : Type 0 where
+pub record Ends (g : Sort) (S : List Part) (s : List Lexeme) (n : Nonterminal) (t : Phrase) : Type 0 where
   pub parts : List Part
   pub last : Piece
   pub value : Piece
@@ -90,13 +90,13 @@ pub record Ends (g : Sort) (S : List Part) (s : List Lexeme) (n : Form) (t : Phr
   pub kind : is_program last ≡ program_sort (form_sort n)
 
 -- A holder of a list, by what it has so far, and what stands in it.
-pub record Lists (g : Sort) (h : Phrases → Holder) (f : Form) (S : List Part) : Type 0 where
+pub record Lists (g : Sort) (h : Phrases → Holder) (f : Nonterminal) (S : List Part) : Type 0 where
   pub operand : program_sort (form_sort f) ≡ false
   pub fit : (l : Phrases) → fits g (form_sort f) (Inside (h l) ∷ S) ≡ true
   pub comma : (l : Phrases) (p : Piece) → close Comma (h l) S p ≡ (as_sort (form_sort f) p >>= λ t. Some (Wants (Inside (h (snoc l t)) ∷ S)))
 
 -- The same of a list.
-pub record EndsList (g : Sort) (h : Phrases → Holder) (f : Form) (S : List Part) (s : List Lexeme) (l : Phrases) : Type 0 where
+pub record EndsList (g : Sort) (h : Phrases → Holder) (f : Nonterminal) (S : List Part) (s : List Lexeme) (l : Phrases) : Type 0 where
   pub parts : List Part
   pub last : Piece
   pub value : Piece
@@ -109,11 +109,11 @@ pub record EndsList (g : Sort) (h : Phrases → Holder) (f : Form) (S : List Par
   pub list : snoc front tree ≡ l
   pub kind : is_program last ≡ false
 
-same_sort : (n m : Form) (p : Piece) (t : Phrase) → form_sort n ≡ form_sort m → as_sort (form_sort n) p ≡ Some t → as_sort (form_sort m) p ≡ Some t
+same_sort : (n m : Nonterminal) (p : Piece) (t : Phrase) → form_sort n ≡ form_sort m → as_sort (form_sort n) p ≡ Some t → as_sort (form_sort m) p ≡ Some t
 same_sort n m p t e h = subst (λ (s : Sort). as_sort s p ≡ Some t) e h
 
 -- a production without tokens of its own
-up : (g : Sort) (S : List Part) (s : List Lexeme) (n m : Form) (t : Phrase) → form_sort n ≡ form_sort m → tightness m ≤ tightness n → Ends g S s n t → Ends g S s m t
+up : (g : Sort) (S : List Part) (s : List Lexeme) (n m : Nonterminal) (t : Phrase) → form_sort n ≡ form_sort m → tightness m ≤ tightness n → Ends g S s n t → Ends g S s m t
 up g S s n m t e le x = record {
   parts = x.parts;
   last = x.last;
@@ -126,7 +126,7 @@ up g S s n m t e le x = record {
 }
 
 -- a text that leaves nothing open
-single : (g : Sort) (S : List Part) (s : List Lexeme) (n : Form) (t : Phrase) (p : Piece) → ((rest : List Lexeme) → arrive g (Wants S) (s ++ rest) ≡ arrive g (Has S p) rest) → as_sort (form_sort n) p ≡ Some t → is_program p ≡ program_sort (form_sort n) → Ends g S s n t
+single : (g : Sort) (S : List Part) (s : List Lexeme) (n : Nonterminal) (t : Phrase) (p : Piece) → ((rest : List Lexeme) → arrive g (Wants S) (s ++ rest) ≡ arrive g (Has S p) rest) → as_sort (form_sort n) p ≡ Some t → is_program p ≡ program_sort (form_sort n) → Ends g S s n t
 single g S s n t p runs tree kind = record { parts = []; last = p; value = p; runs = runs; tight = tt; folds = refl; tree = tree; kind = kind }
 
 is_tree : (s r : Sort) (t : Phrase) (l : Tail) → s ≡ r → as_sort r (Is s t l) ≡ Some t
@@ -159,7 +159,7 @@ statement_wanted : (g : Sort) (S : List Part) (k : Lexeme) → fits g Program S 
 statement_wanted g S k f = let h : program_sort (place g S) ≡ true = place_kind (place g S) Program f in rw h refl
 
 -- an operator with both operands
-record Fitting (o : Between) (n l r : Form) : Type 0 where
+record Fitting (o : Between) (n l r : Nonterminal) : Type 0 where
   left_sort : form_sort l ≡ operand_sort o
   right_sort : form_sort r ≡ operand_sort o
   sort : result_sort o ≡ form_sort n
@@ -170,7 +170,7 @@ record Fitting (o : Between) (n l r : Form) : Type 0 where
   kind : program_sort (form_sort r) ≡ program_sort (form_sort n)
 
 -- the operator is met: its left operand is closed
-met : (g : Sort) (S : List Part) (s : List Lexeme) (o : Between) (n lf : Form) (a : Phrase) (x : Ends g S s lf a) → form_sort lf ≡ operand_sort o → result_sort o ≡ form_sort n → level o ≤ tightness lf → form_level n ≤ level o → Loose (form_level n) S → fits g (form_sort n) S ≡ true
+met : (g : Sort) (S : List Part) (s : List Lexeme) (o : Between) (n lf : Nonterminal) (a : Phrase) (x : Ends g S s lf a) → form_sort lf ≡ operand_sort o → result_sort o ≡ form_sort n → level o ≤ tightness lf → form_level n ≤ level o → Loose (form_level n) S → fits g (form_sort n) S ≡ true
     → after_operand g o (x.parts ++ S) x.last ≡ Some (Left o a ∷ S)
 met g S s o n lf a x left_sort sort left_level own_level loose fit =
     let left_is : as_sort (operand_sort o) x.value ≡ Some a = subst (λ (k : Sort). as_sort k x.value ≡ Some a) left_sort x.tree in
@@ -180,7 +180,7 @@ met g S s o n lf a x left_sort sort left_level own_level loose fit =
     rw (reduced, left_is, fit') refl
 
 -- the right operand is read, with the text before it
-both : (g : Sort) (S : List Part) (q r : List Lexeme) (o : Between) (n rf : Form) (a b : Phrase) → form_sort rf ≡ operand_sort o → result_sort o ≡ form_sort n → tightness n < right_level o → tightness n ≤ tightness rf → program_sort (form_sort rf) ≡ program_sort (form_sort n)
+both : (g : Sort) (S : List Part) (q r : List Lexeme) (o : Between) (n rf : Nonterminal) (a b : Phrase) → form_sort rf ≡ operand_sort o → result_sort o ≡ form_sort n → tightness n < right_level o → tightness n ≤ tightness rf → program_sort (form_sort rf) ≡ program_sort (form_sort n)
     → ((rest : List Lexeme) → arrive g (Wants S) (q ++ (r ++ rest)) ≡ arrive g (Wants (Left o a ∷ S)) (r ++ rest)) → Ends g (Left o a ∷ S) r rf b → Ends g S (q ++ r) n (binary o a b)
 both g S q r o n rf a b right_sort sort own_tight right_tight kind runs y =
     let e : Part = Left o a in
@@ -240,7 +240,7 @@ infix_step g S T p Mul k e h a = let i : is_program p ≡ false = e ∙ sym h in
 infix_step g S T p Div k e h a = let i : is_program p ≡ false = e ∙ sym h in rw (i, a) refl
 infix_step g S T p Pow k e h a = let i : is_program p ≡ false = e ∙ sym h in rw (i, a) refl
 
-binary_ends : (g : Sort) (S : List Part) (s r : List Lexeme) (o : Infix) (n lf rf : Form) (a b : Phrase) → Fitting (By o) n lf rf → Loose (form_level n) S → fits g (form_sort n) S ≡ true
+binary_ends : (g : Sort) (S : List Part) (s r : List Lexeme) (o : Infix) (n lf rf : Nonterminal) (a b : Phrase) → Fitting (By o) n lf rf → Loose (form_level n) S → fits g (form_sort n) S ≡ true
     → Ends g S s lf a → Ends g (Left (By o) a ∷ S) r rf b → Ends g S (s ++ Op o ∷ r) n (Binary o a b)
 binary_ends g S s r o n lf rf a b c loose fit x y =
     let m = met g S s (By o) n lf a x c.left_sort c.sort c.left_level c.own_level loose fit in
@@ -250,7 +250,7 @@ binary_ends g S s r o n lf rf a b c loose fit x y =
     subst (λ (l : List Lexeme). Ends g S l n (Binary o a b)) (append_assoc s (Op o ∷ []) r) e
 
 -- a prefix with its operand
-before : (g : Sort) (S : List Part) (k s : List Lexeme) (o : Prefix) (n : Form) (a : Phrase) → prefix_sort o ≡ form_sort n → tightness n < prefix_level o
+before : (g : Sort) (S : List Part) (k s : List Lexeme) (o : Prefix) (n : Nonterminal) (a : Phrase) → prefix_sort o ≡ form_sort n → tightness n < prefix_level o
     → ((rest : List Lexeme) → arrive g (Wants S) (k ++ rest) ≡ arrive g (Wants (Before o ∷ S)) rest) → Ends g (Before o ∷ S) s n a → Ends g S (k ++ s) n (unary o a)
 before g S k s o n a e tight runs x =
     let operand_is : as_sort (prefix_sort o) x.value ≡ Some a = subst (λ (k : Sort). as_sort k x.value ≡ Some a) (sym e) x.tree in
@@ -268,7 +268,7 @@ before g S k s o n a e tight runs x =
     }
 
 -- the step at a token that closes a holder
-closing_is : (g : Sort) (h : Holder) (S : List Part) (s : List Lexeme) (n : Form) (t : Phrase) (k : Lexeme) (x : Ends g (Inside h ∷ S) s n t) → closing k (x.parts ++ Inside h ∷ S) x.last ≡ close k h S x.value
+closing_is : (g : Sort) (h : Holder) (S : List Part) (s : List Lexeme) (n : Nonterminal) (t : Phrase) (k : Lexeme) (x : Ends g (Inside h ∷ S) s n t) → closing k (x.parts ++ Inside h ∷ S) x.last ≡ close k h S x.value
 closing_is g h S s n t k x =
     let reduced : reduce 0 (x.parts ++ Inside h ∷ S) x.last ≡ Some (Inside h ∷ S, x.value) =
     reduce-tight 0 x.parts (Inside h ∷ S) x.last x.value (Tight-less 0 _ x.parts (omega arith) x.tight) x.folds in
@@ -340,12 +340,12 @@ round_term true = refl
 round_term false = refl
 
 -- from a holder's first token to its last
-held : (g : Sort) (S : List Part) (h : Holder) (s : List Lexeme) (n : Form) (t : Phrase) (k : Lexeme) (y : State) (x : Ends g (Inside h ∷ S) s n t) → step g (Has (x.parts ++ Inside h ∷ S) x.last) k ≡ closing k (x.parts ++ Inside h ∷ S) x.last → close k h S x.value ≡ Some y
+held : (g : Sort) (S : List Part) (h : Holder) (s : List Lexeme) (n : Nonterminal) (t : Phrase) (k : Lexeme) (y : State) (x : Ends g (Inside h ∷ S) s n t) → step g (Has (x.parts ++ Inside h ∷ S) x.last) k ≡ closing k (x.parts ++ Inside h ∷ S) x.last → close k h S x.value ≡ Some y
     → (rest : List Lexeme) → arrive g (Wants (Inside h ∷ S)) (s ++ (k ∷ rest)) ≡ arrive g y rest
 held g S h s n t k y x st c rest =
     x.runs (k ∷ rest) ∙ go g (Has (x.parts ++ Inside h ∷ S) x.last) k rest y (st ∙ closing_raw x.parts x.last x.value h S k (Tight-less 0 _ x.parts (omega arith) x.tight) x.folds ∙ c)
 
-close_round : (g : Sort) (S : List Part) (b : Bool) (s : List Lexeme) (n : Form) (t : Phrase) (x : Ends g (Inside (Round b) ∷ S) s n t) → program_sort (form_sort n) ≡ false → (rest : List Lexeme) → arrive g (Wants (Inside (Round b) ∷ S)) (s ++ (Close ∷ rest)) ≡ arrive g (Has S (with_tail Grouped x.value)) rest
+close_round : (g : Sort) (S : List Part) (b : Bool) (s : List Lexeme) (n : Nonterminal) (t : Phrase) (x : Ends g (Inside (Round b) ∷ S) s n t) → program_sort (form_sort n) ≡ false → (rest : List Lexeme) → arrive g (Wants (Inside (Round b) ∷ S)) (s ++ (Close ∷ rest)) ≡ arrive g (Has S (with_tail Grouped x.value)) rest
 close_round g S b s n t x e rest = held g S (Round b) s n t Close (Has S (with_tail Grouped x.value)) x (other_step g (x.parts ++ Inside (Round b) ∷ S) x.last Close (x.kind ∙ e)) refl rest
 
 not_program : (s : Sort) (p : Piece) (t : Phrase) → program_sort s ≡ false → as_sort s p ≡ Some t → is_program p ≡ false
@@ -359,7 +359,7 @@ not_program Formula (Is Term t l) u e h = absurd cc
 not_program Formula (Is Program t l) u e h = absurd cc
 not_program Program p u e h = absurd cc
 
-bracket : (g : Sort) (S : List Part) (s : List Lexeme) (n m : Form) (a : Phrase) → form_sort n ≡ form_sort m → program_sort (form_sort n) ≡ false → fits g (form_sort n) S ≡ true → Ends g (Inside (Round (fits g Formula S)) ∷ S) s n a → Ends g S (Open ∷ (s ++ Close ∷ [])) m a
+bracket : (g : Sort) (S : List Part) (s : List Lexeme) (n m : Nonterminal) (a : Phrase) → form_sort n ≡ form_sort m → program_sort (form_sort n) ≡ false → fits g (form_sort n) S ≡ true → Ends g (Inside (Round (fits g Formula S)) ∷ S) s n a → Ends g S (Open ∷ (s ++ Close ∷ [])) m a
 bracket g S s n m a e k f x =
     single g S (Open ∷ (s ++ Close ∷ [])) m a (with_tail Grouped x.value)
     (λ rest. go g (Wants S) Open ((s ++ Close ∷ []) ++ rest) _ (operand_wanted g (form_sort n) S Open k f) ∙ ap (arrive g (Wants (Inside (Round (fits g Formula S)) ∷ S))) (append_assoc s (Close ∷ []) rest) ∙ close_round g S _ s n a x k rest)
@@ -388,7 +388,7 @@ prime_step : (g : Sort) (S : List Part) (p : Piece) → is_program p ≡ false �
 prime_step g S (Is s t l) e = rw e refl
 prime_step g S (Symbol x n l) e = refl
 
-diffed : (g : Sort) (S : List Part) (s : List Lexeme) (n m : Form) (a b : Phrase) → form_sort n ≡ form_sort m → program_sort (form_sort n) ≡ false → fits g (form_sort n) S ≡ true → (x : Ends g (Inside (Round (fits g Formula S)) ∷ S) s n a) → as_sort (form_sort m) (primed (with_tail Grouped x.value)) ≡ Some b
+diffed : (g : Sort) (S : List Part) (s : List Lexeme) (n m : Nonterminal) (a b : Phrase) → form_sort n ≡ form_sort m → program_sort (form_sort n) ≡ false → fits g (form_sort n) S ≡ true → (x : Ends g (Inside (Round (fits g Formula S)) ∷ S) s n a) → as_sort (form_sort m) (primed (with_tail Grouped x.value)) ≡ Some b
     → Ends g S (Open ∷ (s ++ Close ∷ Prime ∷ [])) m b
 diffed g S s n m a b e k f x h =
     let np = not_program (form_sort n) x.value a k x.tree in
@@ -399,13 +399,13 @@ diffed g S s n m a b e k f x h =
     (primed_kind x.value Grouped np ∙ sym (sym (ap program_sort e) ∙ k))
 
 -- from a list's first token to behind its last
-list_held : (g : Sort) (h : Phrases → Holder) (f : Form) (S : List Part) (s : List Lexeme) (l : Phrases) (k : Lexeme) (y : State) (x : EndsList g h f S s l) → ((T : List Part) (p : Piece) → is_program p ≡ false → step g (Has T p) k ≡ closing k T p) → close k (h x.front) S x.value ≡ Some y
+list_held : (g : Sort) (h : Phrases → Holder) (f : Nonterminal) (S : List Part) (s : List Lexeme) (l : Phrases) (k : Lexeme) (y : State) (x : EndsList g h f S s l) → ((T : List Part) (p : Piece) → is_program p ≡ false → step g (Has T p) k ≡ closing k T p) → close k (h x.front) S x.value ≡ Some y
     → (rest : List Lexeme) → arrive g (Wants (Inside (h none) ∷ S)) (s ++ (k ∷ rest)) ≡ arrive g y rest
 list_held g h f S s l k y x st c rest =
     x.runs (k ∷ rest) ∙ go g (Has (x.parts ++ Inside (h x.front) ∷ S) x.last) k rest y (st (x.parts ++ Inside (h x.front) ∷ S) x.last x.kind ∙ closing_raw x.parts x.last x.value (h x.front) S k x.tight x.folds ∙ c)
 
 -- a call, from what its arguments leave
-called : (g : Sort) (S : List Part) (m : ℕ) (x : Word) (s : List Lexeme) (l : Phrases) (n : Form) (t : Phrase) → First false s → program_sort (form_sort n) ≡ false → fits g (form_sort n) S ≡ true → as_sort (form_sort n) (Symbol (Call m x l) 0 Done) ≡ Some t → EndsList g (Args m x) term S s l → Ends g S (Name m x ∷ Open ∷ (s ++ Close ∷ [])) n t
+called : (g : Sort) (S : List Part) (m : ℕ) (x : Word) (s : List Lexeme) (l : Phrases) (n : Nonterminal) (t : Phrase) → First false s → program_sort (form_sort n) ≡ false → fits g (form_sort n) S ≡ true → as_sort (form_sort n) (Symbol (Call m x l) 0 Done) ≡ Some t → EndsList g (Args m x) term S s l → Ends g S (Name m x ∷ Open ∷ (s ++ Close ∷ [])) n t
 called g S m x s l n t h k f tree y =
     let closed : close Close (Args m x y.front) S y.value ≡ Some (Has S (Symbol (Call m x l) 0 Done)) = rw y.is (ap (λ (z : Phrases). Some (Has S (Symbol (Call m x z) 0 Done))) y.list) in
     single g S (Name m x ∷ Open ∷ (s ++ Close ∷ [])) n t (Symbol (Call m x l) 0 Done)
@@ -414,13 +414,13 @@ called g S m x s l n t h k f tree y =
     tree (sym k)
 
 -- a symbol whose tokens are a few
-symbol : (g : Sort) (S : List Part) (m : ℕ) (x : Word) (s : List Lexeme) (h : Head) (n : Form) (t : Phrase) → program_sort (form_sort n) ≡ false → fits g (form_sort n) S ≡ true → as_sort (form_sort n) (Symbol h 0 Done) ≡ Some t → ((rest : List Lexeme) → arrive g (Has S (Is Term (Variable x false) (Bare m x))) (s ++ rest) ≡ arrive g (Has S (Symbol h 0 Done)) rest) → Ends g S (Name m x ∷ s) n t
+symbol : (g : Sort) (S : List Part) (m : ℕ) (x : Word) (s : List Lexeme) (h : Head) (n : Nonterminal) (t : Phrase) → program_sort (form_sort n) ≡ false → fits g (form_sort n) S ≡ true → as_sort (form_sort n) (Symbol h 0 Done) ≡ Some t → ((rest : List Lexeme) → arrive g (Has S (Is Term (Variable x false) (Bare m x))) (s ++ rest) ≡ arrive g (Has S (Symbol h 0 Done)) rest) → Ends g S (Name m x ∷ s) n t
 symbol g S m x s h n t k f tree runs = single g S (Name m x ∷ s) n t (Symbol h 0 Done) (λ rest. go g (Wants S) (Name m x) (s ++ rest) (Has S (Is Term (Variable x false) (Bare m x))) (operand_wanted g (form_sort n) S (Name m x) k f) ∙ runs rest) tree (sym k)
 
-list_first : (g : Sort) (h : Phrases → Holder) (f : Form) (S : List Part) (s : List Lexeme) (a : Phrase) → program_sort (form_sort f) ≡ false → Ends g (Inside (h none) ∷ S) s f a → EndsList g h f S s (snoc none a)
+list_first : (g : Sort) (h : Phrases → Holder) (f : Nonterminal) (S : List Part) (s : List Lexeme) (a : Phrase) → program_sort (form_sort f) ≡ false → Ends g (Inside (h none) ∷ S) s f a → EndsList g h f S s (snoc none a)
 list_first g h f S s a k y = record { parts = y.parts; last = y.last; value = y.value; front = none; tree = a; runs = y.runs; tight = Tight-less 0 _ y.parts (omega arith) y.tight; folds = y.folds; is = y.tree; list = refl; kind = y.kind ∙ k }
 
-list_next : (g : Sort) (h : Phrases → Holder) (f : Form) (S : List Part) (s r : List Lexeme) (l : Phrases) (a : Phrase) → Lists g h f S → EndsList g h f S s l → Ends g (Inside (h l) ∷ S) r f a → EndsList g h f S (s ++ Comma ∷ r) (snoc l a)
+list_next : (g : Sort) (h : Phrases → Holder) (f : Nonterminal) (S : List Part) (s r : List Lexeme) (l : Phrases) (a : Phrase) → Lists g h f S → EndsList g h f S s l → Ends g (Inside (h l) ∷ S) r f a → EndsList g h f S (s ++ Comma ∷ r) (snoc l a)
 list_next g h f S s r l a c y z =
     let closed : close Comma (h y.front) S y.value ≡ Some (Wants (Inside (h l) ∷ S)) = c.comma y.front y.value ∙ rw y.is (ap (λ (m : Phrases). Some (Wants (Inside (h m) ∷ S))) y.list) in
     record {
@@ -444,7 +444,7 @@ notes_lists : (g : Sort) (b : Phrase) (S : List Part) → Lists g (Notes b) form
 notes_lists g b S = record { operand = refl; fit = λ l. refl; comma = λ l p. refl }
 
 -- a statement that a holder's last token ends
-statement : (g : Sort) (S : List Part) (q s : List Lexeme) (h : Holder) (n : Form) (a t : Phrase) → fits g Program S ≡ true → ((rest : List Lexeme) → arrive g (Wants S) (q ++ rest) ≡ arrive g (Wants (Inside h ∷ S)) rest) → (x : Ends g (Inside h ∷ S) s n a)
+statement : (g : Sort) (S : List Part) (q s : List Lexeme) (h : Holder) (n : Nonterminal) (a t : Phrase) → fits g Program S ≡ true → ((rest : List Lexeme) → arrive g (Wants S) (q ++ rest) ≡ arrive g (Wants (Inside h ∷ S)) rest) → (x : Ends g (Inside h ∷ S) s n a)
     → ((rest : List Lexeme) → arrive g (Wants (Inside h ∷ S)) (s ++ (Semi ∷ rest)) ≡ arrive g (Has S (Is Program t Done)) rest) → Ends g S (q ++ (s ++ Semi ∷ [])) stmt t
 statement g S q s h n a t f begins x ends =
     single g S (q ++ (s ++ Semi ∷ [])) stmt t (Is Program t Done)
@@ -585,7 +585,7 @@ four_parts s q i e rest = simp append_assoc
 
 mutual
   -- From a state that wants an operand of the level, a text of a nonterminal is read as its tree.
-  pub only : {n : Form} {s : List Lexeme} {t : Phrase} → Reads n s t → (g : Sort) (S : List Part) → Loose (form_level n) S → fits g (form_sort n) S ≡ true → Ends g S s n t
+  pub only : {n : Nonterminal} {s : List Lexeme} {t : Phrase} → Reads n s t → (g : Sort) (S : List Part) → Loose (form_level n) S → fits g (form_sort n) S ≡ true → Ends g S s n t
   only (formula-imp d) g S l f = up g S _ imp formula _ refl (omega arith) (only d g S (Loose-more _ _ S (omega arith) l) f)
   only (formula-equiv d e) g S l f = binary_ends g S _ _ Equiv formula imp formula _ _ (record { left_sort = refl; right_sort = refl; sort = refl; left_level = omega arith; own_level = omega arith; own_tight = omega arith; right_tight = omega arith; kind = refl }) l f
       (only d g S (Loose-more _ _ S (omega arith) l) f) (only e g _ (omega arith) refl)
@@ -669,7 +669,7 @@ mutual
       single g S (s ++ (q ++ (i ++ e))) stmt c (Is Program c z.0)
       (λ rest. ap (arrive g (Wants S)) (four_parts s q i e rest) ∙ only_brace d g S f (q ++ (i ++ (e ++ rest))) ∙ x.2 (i ++ (e ++ rest)) ∙ y.2 (e ++ rest) ∙ z.1 rest) refl refl
 
-  only_list : {f : Form} {s : List Lexeme} {l : Phrases} → ReadsList f s l → (g : Sort) (h : Phrases → Holder) (S : List Part) → Lists g h f S → EndsList g h f S s l
+  only_list : {f : Nonterminal} {s : List Lexeme} {l : Phrases} → ReadsList f s l → (g : Sort) (h : Phrases → Holder) (S : List Part) → Lists g h f S → EndsList g h f S s l
   only_list (list-one {f = f} {s = s} {a = a} d) g h S c = list_first g h f S s a c.operand (only d g (Inside (h none) ∷ S) (omega arith) (c.fit none))
   only_list (list-more {f = f} {s = s} {r = r} {l = l} {a = a} d e) g h S c = list_next g h f S s r l a c (only_list d g h S c) (only e g (Inside (h l) ∷ S) (omega arith) (c.fit l))
 

@@ -4,11 +4,11 @@ use Rattle.dlk_tree.specs.declared.op.Sort.{Sort}
 use Rattle.dlk_tree.specs.declared.op.Sort.TheVariants.{Term, Formula, Program}
 use Rattle.dlk_grammar.specs.declared.token.Dots.{Dots}
 use Rattle.dlk_grammar.specs.declared.token.Dots.TheVariants.{Allowed}
-use Rattle.dlk_grammar.specs.declared.token.Goal.{Goal}
-use Rattle.dlk_grammar.specs.declared.token.Goal.TheVariants as goal
+use Rattle.dlk_grammar.specs.declared.token.Form.{Form}
+use Rattle.dlk_grammar.specs.declared.token.Form.TheVariants as form
 use Rattle.dlk_grammar.specs.Lexemes.{Lexeme}
 use Rattle.dlk_grammar.specs.Phrases.{Phrase}
-use Rattle.dlk_grammar.specs.Grammar.{Form, Reads, Sides, ReadsSequent, ReadsExpression}
+use Rattle.dlk_grammar.specs.Grammar.{Nonterminal, Reads, Sides, ReadsSequent, ReadsExpression}
 use Rattle.dlk_grammar.specs.Readings.{Permitted, Says, Stops, grammar}
 use Rattle.dlk_machine.proofs.Levels.{form_sort, top}
 use Rattle.dlk_machine.proofs.Machine.{State}
@@ -63,7 +63,7 @@ fault_stops d g s n e = stops_text (reader g) (Reads (top g)) d (reads_all d g) 
 pub fault_says_nothing : (d : Dots) (g : Sort) (s : List Lexeme) (n : ℕ) → parse d (reader g) s ≡ Err n → (p : Phrase) → ¬ Says d (Reads (top g)) s p
 fault_says_nothing d g s n e = faulty (reader g) (Reads (top g)) d (reads_all d g) s n e
 
-pub one_read : (form : Form) (s : List Lexeme) (p q : Phrase) → Reads form s p → Reads form s q → p ≡ q
+pub one_read : (form : Nonterminal) (s : List Lexeme) (p q : Phrase) → Reads form s p → Reads form s q → p ≡ q
 one_read form s p q d e =
     let g = form_sort form in
     let risen : (r : Phrase) → Reads form s r → Reads (top g) s r = λ r f. stands form (top g) s r (top_need g form) (sym (top_sort g)) f in
@@ -102,32 +102,32 @@ pub one_sides_read : (s : List Lexeme) (p q : Sides) → ReadsSequent s p → Re
 one_sides_read s p q d e = one sequent_reader ReadsSequent (sequents_all Allowed) s p q d e
 
 -- the machine of a goal
-abbrev pub GoalState : Goal → Type 0
-GoalState goal.Formula = State
-GoalState goal.Term = State
-GoalState goal.Program = State
-GoalState goal.Expression = ExpressionState
+abbrev pub FormState : Form → Type 0
+FormState form.Formula = State
+FormState form.Term = State
+FormState form.Program = State
+FormState form.Expression = ExpressionState
 
-abbrev pub machine_of : (wanted : Goal) → Machine (GoalState wanted) Phrase
-machine_of goal.Formula = reader Formula
-machine_of goal.Term = reader Term
-machine_of goal.Program = reader Program
-machine_of goal.Expression = expression_reader
+abbrev pub machine_of : (wanted : Form) → Machine (FormState wanted) Phrase
+machine_of form.Formula = reader Formula
+machine_of form.Term = reader Term
+machine_of form.Program = reader Program
+machine_of form.Expression = expression_reader
 
-goals_all : (d : Dots) (wanted : Goal) → Reader d (machine_of wanted) (grammar wanted)
-goals_all d goal.Formula = reads_all d Formula
-goals_all d goal.Term = reads_all d Term
-goals_all d goal.Program = reads_all d Program
-goals_all d goal.Expression = expressions_all d
+forms_all : (d : Dots) (wanted : Form) → Reader d (machine_of wanted) (grammar wanted)
+forms_all d form.Formula = reads_all d Formula
+forms_all d form.Term = reads_all d Term
+forms_all d form.Program = reads_all d Program
+forms_all d form.Expression = expressions_all d
 
-pub goal_read_says : (d : Dots) (wanted : Goal) (s : List Lexeme) (p : Phrase) → parse d (machine_of wanted) s ≡ Ok p → Says d (grammar wanted) s p
-goal_read_says d wanted s p e = found_text (machine_of wanted) (grammar wanted) d (goals_all d wanted) s p e
+pub form_read_says : (d : Dots) (wanted : Form) (s : List Lexeme) (p : Phrase) → parse d (machine_of wanted) s ≡ Ok p → Says d (grammar wanted) s p
+form_read_says d wanted s p e = found_text (machine_of wanted) (grammar wanted) d (forms_all d wanted) s p e
 
-pub goal_says_read : (d : Dots) (wanted : Goal) (s : List Lexeme) (p : Phrase) → Says d (grammar wanted) s p → parse d (machine_of wanted) s ≡ Ok p
-goal_says_read d wanted s p h = only_text (machine_of wanted) (grammar wanted) d (goals_all d wanted) s p h
+pub form_says_read : (d : Dots) (wanted : Form) (s : List Lexeme) (p : Phrase) → Says d (grammar wanted) s p → parse d (machine_of wanted) s ≡ Ok p
+form_says_read d wanted s p h = only_text (machine_of wanted) (grammar wanted) d (forms_all d wanted) s p h
 
-pub goal_fault_stops : (d : Dots) (wanted : Goal) (s : List Lexeme) (n : ℕ) → parse d (machine_of wanted) s ≡ Err n → Stops d (grammar wanted) s n
-goal_fault_stops d wanted s n e = stops_text (machine_of wanted) (grammar wanted) d (goals_all d wanted) s n e
+pub form_fault_stops : (d : Dots) (wanted : Form) (s : List Lexeme) (n : ℕ) → parse d (machine_of wanted) s ≡ Err n → Stops d (grammar wanted) s n
+form_fault_stops d wanted s n e = stops_text (machine_of wanted) (grammar wanted) d (forms_all d wanted) s n e
 
-pub goal_fault_says_nothing : (d : Dots) (wanted : Goal) (s : List Lexeme) (n : ℕ) → parse d (machine_of wanted) s ≡ Err n → (p : Phrase) → ¬ Says d (grammar wanted) s p
-goal_fault_says_nothing d wanted s n e = faulty (machine_of wanted) (grammar wanted) d (goals_all d wanted) s n e
+pub form_fault_says_nothing : (d : Dots) (wanted : Form) (s : List Lexeme) (n : ℕ) → parse d (machine_of wanted) s ≡ Err n → (p : Phrase) → ¬ Says d (grammar wanted) s p
+form_fault_says_nothing d wanted s n e = faulty (machine_of wanted) (grammar wanted) d (forms_all d wanted) s n e

@@ -11,19 +11,19 @@ use Rattle.dlk_grammar.specs.declared.token.TokenKind.{TokenKind}
 use Rattle.dlk_grammar.specs.declared.token.TokenKind.TheVariants as kind
 use Rattle.dlk_grammar.specs.declared.token.Dots.{Dots}
 use Rattle.dlk_grammar.specs.declared.token.Dots.TheVariants.{Refused}
-use Rattle.dlk_grammar.specs.declared.token.Goal.{Goal}
+use Rattle.dlk_grammar.specs.declared.token.Form.{Form}
 use Rattle.dlk_grammar.specs.Splits.{Splits}
 use Rattle.dlk_grammar.specs.Lexemes.{Lexeme, lexemes}
 use Rattle.dlk_grammar.specs.Phrases.{Phrase}
 use Rattle.dlk_grammar.specs.Grammar.{Sides, ReadsSequent}
-use Rattle.dlk_grammar.specs.Erased.{erase, ills, least}
-use Rattle.dlk_grammar.specs.Readings.{Says, FirstAt, IsLong, level, opens, OpensTooDeep, FirstPast, most_nodes, greatest_depth, ReadFault, Literal, Nesting, Syntax, Shape, TooBig, TooDeep, rank, Against, IsReadFault, IsRead, grammar, itself, both_sides, erase_sides}
+use Rattle.dlk_grammar.specs.Erased.{erase, ills, lowest}
+use Rattle.dlk_grammar.specs.Readings.{Says, FirstAt, IsLong, bracket_level, opens, OpensTooDeep, FirstPast, most_nodes, greatest_depth, ReadFault, Literal, Nesting, Syntax, Shape, TooBig, TooDeep, fault_rank, SpeaksAgainst, IsReadFault, IsRead, grammar, itself, both_sides, erase_sides}
 use Rattle.dlk_grammar.specs.Texts.{TreeText, SequentText, Unread, TreeTextFault, SequentTextFault}
 use Rattle.dlk_machine.proofs.Parse.{parse}
 use Rattle.dlk_machine.proofs.Sequents.{sequent_reader}
-use Rattle.dlk_machine.proofs.ParseLaws.{machine_of, goal_read_says, goal_fault_says_nothing, sequent_read_says, sequent_fault_says_nothing, one_sides_read}
+use Rattle.dlk_machine.proofs.ParseLaws.{machine_of, form_read_says, form_fault_says_nothing, sequent_read_says, sequent_fault_says_nothing, one_sides_read}
 use Rattle.dlk_machine.proofs.Formed.{Each}
-use Rattle.dlk_machine.proofs.TextLaws.{same, sooner, later, seams, token_at, least_below, one_grammar, goal_ills_below, sequent_ills_below}
+use Rattle.dlk_machine.proofs.TextLaws.{same, sooner, later, seams, token_at, least_below, one_grammar, form_ills_below, sequent_ills_below}
 
 -- none, or the first
 data Search {X : Type 0} (Is : X → Type 0) : Type 0 where
@@ -43,7 +43,7 @@ long_or_not before (kind.Mark m) = inr (λ e. absurd cc)
 long_or_not before kind.End = inr (λ e. absurd cc)
 
 deep_or_not : (before : List Token) (k : TokenKind) → (OpensTooDeep before k) ⊎ (¬ OpensTooDeep before k)
-deep_or_not before k = elim (cases_eq (level before) 1200) [
+deep_or_not before k = elim (cases_eq (bracket_level before) 1200) [
   | inl e ↦ elim (cases_Bool (opens k)) [ inl o ↦ inl (e, o) | inr o ↦ inr (λ h. both_ways (opens k) o h.1) ]
   | inr never ↦ inr (λ h. never h.0)
 ]
@@ -96,7 +96,7 @@ past_in measure limit (t ∷ ts) = elim (cases_lt limit (measure t)) [
 module _ {P : Type 0} (G : List Lexeme → P → Type 0) (parts : P → List Phrase) (one : (s : List Lexeme) (p q : P) → G s p → G s q → p ≡ q) (d : Dots) (tokens : List Token) where
   -- no fault below a rank applies
   abbrev Free : ℕ → Type 0
-  Free k = (other : ReadFault) → rank other < k → ¬ Against G parts d tokens other
+  Free k = (other : ReadFault) → fault_rank other < k → ¬ SpeaksAgainst G parts d tokens other
 
   free_none : Free 1
   free_none (Literal at) h a = absurd (omega arith)
@@ -106,29 +106,29 @@ module _ {P : Type 0} (G : List Lexeme → P → Type 0) (parts : P → List Phr
   free_none (TooBig n) h a = absurd (omega arith)
   free_none (TooDeep n) h a = absurd (omega arith)
 
-  free_literal : ((at : ℕ) → ¬ Against G parts d tokens (Literal at)) → Free 2
+  free_literal : ((at : ℕ) → ¬ SpeaksAgainst G parts d tokens (Literal at)) → Free 2
   free_literal never (Literal at) h a = never at a
   free_literal never _ h a = absurd (omega arith)
 
-  free_nesting : Free 2 → ((at : ℕ) → ¬ Against G parts d tokens (Nesting at)) → Free 3
+  free_nesting : Free 2 → ((at : ℕ) → ¬ SpeaksAgainst G parts d tokens (Nesting at)) → Free 3
   free_nesting free never (Literal at) h a = free (Literal at) (omega arith) a
   free_nesting free never (Nesting at) h a = never at a
   free_nesting free never _ h a = absurd (omega arith)
 
-  free_syntax : Free 3 → ¬ Against G parts d tokens Syntax → Free 4
+  free_syntax : Free 3 → ¬ SpeaksAgainst G parts d tokens Syntax → Free 4
   free_syntax free never (Literal at) h a = free (Literal at) (omega arith) a
   free_syntax free never (Nesting at) h a = free (Nesting at) (omega arith) a
   free_syntax free never Syntax h a = never a
   free_syntax free never _ h a = absurd (omega arith)
 
-  free_shape : Free 4 → ((at : ℕ) → ¬ Against G parts d tokens (Shape at)) → Free 5
+  free_shape : Free 4 → ((at : ℕ) → ¬ SpeaksAgainst G parts d tokens (Shape at)) → Free 5
   free_shape free never (Literal at) h a = free (Literal at) (omega arith) a
   free_shape free never (Nesting at) h a = free (Nesting at) (omega arith) a
   free_shape free never Syntax h a = free Syntax (omega arith) a
   free_shape free never (Shape at) h a = never at a
   free_shape free never _ h a = absurd (omega arith)
 
-  free_big : Free 5 → ((n : ℕ) → ¬ Against G parts d tokens (TooBig n)) → Free 6
+  free_big : Free 5 → ((n : ℕ) → ¬ SpeaksAgainst G parts d tokens (TooBig n)) → Free 6
   free_big free never (Literal at) h a = free (Literal at) (omega arith) a
   free_big free never (Nesting at) h a = free (Nesting at) (omega arith) a
   free_big free never Syntax h a = free Syntax (omega arith) a
@@ -136,7 +136,7 @@ module _ {P : Type 0} (G : List Lexeme → P → Type 0) (parts : P → List Phr
   free_big free never (TooBig n) h a = never n a
   free_big free never (TooDeep n) h a = absurd (omega arith)
 
-  free_deep : Free 6 → ((n : ℕ) → ¬ Against G parts d tokens (TooDeep n)) → (why : ReadFault) → ¬ Against G parts d tokens why
+  free_deep : Free 6 → ((n : ℕ) → ¬ SpeaksAgainst G parts d tokens (TooDeep n)) → (why : ReadFault) → ¬ SpeaksAgainst G parts d tokens why
   free_deep free never (Literal at) a = free (Literal at) (omega arith) a
   free_deep free never (Nesting at) a = free (Nesting at) (omega arith) a
   free_deep free never Syntax a = free Syntax (omega arith) a
@@ -155,13 +155,13 @@ module _ {P : Type 0} (G : List Lexeme → P → Type 0) (parts : P → List Phr
     | missing never ↦ missing (λ n f. never n (subst (λ (q : P). FirstPast measure limit (map erase (parts q)) n) (one (lexemes tokens) f.0 p f.1.reads says.reads) f.2))
   ]
 
-  ill_or_not : (p : P) (ns : List ℕ) → flat_map ills (parts p) ≡ ns → Says d G (lexemes tokens) p → Each (λ n. n < length tokens) ns → Search (λ at. Against G parts d tokens (Shape at))
+  ill_or_not : (p : P) (ns : List ℕ) → flat_map ills (parts p) ≡ ns → Says d G (lexemes tokens) p → Each (λ n. n < length tokens) ns → Search (λ at. SpeaksAgainst G parts d tokens (Shape at))
   ill_or_not p [] e says below = missing (λ at f.
-      let same : least (flat_map ills (parts f.0)) ≡ None = ap (λ (q : P). least (flat_map ills (parts q))) (one (lexemes tokens) f.0 p f.1.reads says.reads) ∙ ap least e in
+      let same : lowest (flat_map ills (parts f.0)) ≡ None = ap (λ (q : P). lowest (flat_map ills (parts q))) (one (lexemes tokens) f.0 p f.1.reads says.reads) ∙ ap lowest e in
       let none : Some f.2.0 ≡ None = sym f.2.1 ∙ same in absurd cc)
   ill_or_not p (n ∷ ns) e says below =
       let at = token_at tokens (fold min n ns) (least_below (length tokens) n ns below.0 below.1) in
-      found at.at (p, says, (fold min n ns, ap least e, at.token))
+      found at.at (p, says, (fold min n ns, ap lowest e, at.token))
 
   module _ {R : Type 0} (value : P → R) (below : (p : P) → G (lexemes tokens) p → Each (λ n. n < length tokens) (flat_map ills (parts p))) where
     said : Free 3 → (p : P) → Says d G (lexemes tokens) p → Outcome value
@@ -200,18 +200,18 @@ module _ {P : Type 0} (G : List Lexeme → P → Type 0) (parts : P → List Phr
         ]
 
 -- whether lexemes say something is seen by parsing them
-parsed_or_not : (goal : Goal) (d : Dots) (s : List Lexeme) (r : Result Phrase ℕ) → parse d (machine_of goal) s ≡ r → Search (λ p. Says d (grammar goal) s p)
-parsed_or_not goal d s (Ok p) e = found p (goal_read_says d goal s p e)
-parsed_or_not goal d s (Err n) e = missing (goal_fault_says_nothing d goal s n e)
+parsed_or_not : (form : Form) (d : Dots) (s : List Lexeme) (r : Result Phrase ℕ) → parse d (machine_of form) s ≡ r → Search (λ p. Says d (grammar form) s p)
+parsed_or_not form d s (Ok p) e = found p (form_read_says d form s p e)
+parsed_or_not form d s (Err n) e = missing (form_fault_says_nothing d form s n e)
 
 sides_or_not : (s : List Lexeme) (r : Result Sides ℕ) → parse Refused sequent_reader s ≡ r → Search (λ p. Says Refused ReadsSequent s p)
 sides_or_not s (Ok p) e = found p (sequent_read_says Refused s p e)
 sides_or_not s (Err n) e = missing (sequent_fault_says_nothing Refused s n e)
 
 -- tokens are those of a tree, or there is a fault
-pub some_tree : (goal : Goal) (d : Dots) (bytes : List ℕ) (ts : List Token) → Splits 0 bytes ts → ((t : Tree) × TreeText goal d bytes t) ⊎ ((why : ReadFault) × TreeTextFault goal d bytes (Unread why))
-some_tree goal d bytes ts splits =
-    elim (outcome (grammar goal) itself (one_grammar goal) d ts erase (goal_ills_below goal ts) (parsed_or_not goal d (lexemes ts) (parse d (machine_of goal) (lexemes ts)) refl)) [
+pub some_tree : (form : Form) (d : Dots) (bytes : List ℕ) (ts : List Token) → Splits 0 bytes ts → ((t : Tree) × TreeText form d bytes t) ⊎ ((why : ReadFault) × TreeTextFault form d bytes (Unread why))
+some_tree form d bytes ts splits =
+    elim (outcome (grammar form) itself (one_grammar form) d ts erase (form_ills_below form ts) (parsed_or_not form d (lexemes ts) (parse d (machine_of form) (lexemes ts)) refl)) [
       | is_read t h ↦ inl (t, record { tokens = ts; splits = splits; reads = h })
       | is_fault why h ↦ inr (why, (ts, splits, h))
     ]

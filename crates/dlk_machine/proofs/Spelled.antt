@@ -5,7 +5,7 @@ use Rattle.std.proofs.lemmas.List.{append-nil}
 use Rattle.dlk_grammar.specs.declared.token.Infix.TheVariants.{Equiv, Imply, Or, And, Equal, NotEqual, AtLeast, Greater, AtMost, Less, Add, Sub, Mul, Div, Pow, Choice}
 use Rattle.dlk_grammar.specs.Lexemes.{Word, Lexeme, Name, All, Exist, Invariant, RoundBar, BraceBar, Open, Close, OpenBox, CloseBox, OpenBrace, Bang, Prime, Gets, Query, Semi, Comma, Op}
 use Rattle.dlk_grammar.specs.Phrases.{Phrase, Variable, Box, Dia, Noted, Phrases, none, snoc, Item, Items, no_items, add}
-use Rattle.dlk_grammar.specs.Grammar.{Form, formula, imp, disj, conj, unf, atom, term, mul, neg, pow, prim, prog, seq, stmt, Reads, formula-equiv, imp-imply, disj-or, conj-and, unf-not, unf-forall, unf-exists, unf-box, unf-dia, atom-compare, term-add, term-sub, mul-times, mul-over, neg-minus, pow-power, prog-choice, seq-then, stmt-group, cmp-equal, cmp-not_equal, cmp-at_least, cmp-greater, cmp-at_most, cmp-less, ReadsList, list-one, list-more, ReadsBrace, ReadsItems, items-one, items-more, ReadsItem, ReadsStar, star-none, ReadsInv, inv-none, inv-some, semi-none, semi-some}
+use Rattle.dlk_grammar.specs.Grammar.{Nonterminal, formula, imp, disj, conj, unf, atom, term, mul, neg, pow, prim, prog, seq, stmt, Reads, formula-equiv, imp-imply, disj-or, conj-and, unf-not, unf-forall, unf-exists, unf-box, unf-dia, atom-compare, term-add, term-sub, mul-times, mul-over, neg-minus, pow-power, prog-choice, seq-then, stmt-group, cmp-equal, cmp-not_equal, cmp-at_least, cmp-greater, cmp-at_most, cmp-less, ReadsList, list-one, list-more, ReadsBrace, ReadsItems, items-one, items-more, ReadsItem, ReadsStar, star-none, ReadsInv, inv-none, inv-some, semi-none, semi-some}
 use Rattle.dlk_tree.specs.declared.op.Sort.{Sort}
 use Rattle.dlk_tree.specs.declared.op.Sort.TheVariants.{Term, Formula, Program}
 use Rattle.dlk_machine.proofs.Levels.{form_level, form_sort}
@@ -14,7 +14,7 @@ use Rattle.dlk_machine.proofs.Opening.{bind_some}
 use Rattle.dlk_machine.proofs.Climb.{need, stands}
 use Rattle.dlk_machine.proofs.Only.{Loose}
 
-abbrev pub own_form : Between → Form
+abbrev pub own_form : Between → Nonterminal
 own_form (By Equiv) = formula
 own_form (By Imply) = imp
 own_form (By Or) = disj
@@ -33,7 +33,7 @@ own_form (By Pow) = pow
 own_form (By Choice) = prog
 own_form Next = seq
 
-abbrev pub left_form : Between → Form
+abbrev pub left_form : Between → Nonterminal
 left_form (By Equiv) = imp
 left_form (By Imply) = disj
 left_form (By Or) = conj
@@ -52,7 +52,7 @@ left_form (By Pow) = prim
 left_form (By Choice) = seq
 left_form Next = stmt
 
-abbrev pub right_form : Between → Form
+abbrev pub right_form : Between → Nonterminal
 right_form (By Equiv) = formula
 right_form (By Imply) = imp
 right_form (By Or) = disj
@@ -71,7 +71,7 @@ right_form (By Pow) = neg
 right_form (By Choice) = prog
 right_form Next = seq
 
-abbrev pub prefix_form : Prefix → Form
+abbrev pub prefix_form : Prefix → Nonterminal
 prefix_form Minus = neg
 prefix_form _ = unf
 
@@ -163,11 +163,11 @@ table (By Choice) = record { left_sort = refl; right_sort = refl; own_sort = ref
 table Next = record { left_sort = refl; right_sort = refl; own_sort = refl; own = refl; right_own = refl; right = omega arith; tight = omega arith; above = omega arith; low = omega arith; level_low = omega arith; left = inr (inl (omega arith, omega arith)); assoc = inl (omega arith) }
 
 -- What stands before the next of a list, and of items.
-pub data ListBefore (f : Form) : Phrases → List Lexeme → Type 0 where
+pub data ListBefore (f : Nonterminal) : Phrases → List Lexeme → Type 0 where
   list-begins : ListBefore f none []
   list-goes_on : {s : List Lexeme} {l : Phrases} → ReadsList f s l → ListBefore f l (s ++ Comma ∷ [])
 
-pub list_joined : {f : Form} {l : Phrases} {k : List Lexeme} → ListBefore f l k → (r : List Lexeme) (t : Phrase) → Reads f r t → ReadsList f (k ++ r) (snoc l t)
+pub list_joined : {f : Nonterminal} {l : Phrases} {k : List Lexeme} → ListBefore f l k → (r : List Lexeme) (t : Phrase) → Reads f r t → ReadsList f (k ++ r) (snoc l t)
 list_joined list-begins r t d = list-one d
 list_joined {f = f} {l = l} (list-goes_on {s = s} m) r t d = subst (λ (z : List Lexeme). ReadsList f z (snoc l t)) (sym (append_assoc s (Comma ∷ []) r)) (list-more m d)
 
@@ -232,7 +232,7 @@ pub data Spells (g : Sort) : List Part → List Lexeme → Type 0 where
 
 -- At a level, the tokens are a text of each nonterminal for which the piece has a tree.
 abbrev pub Known : ℕ → Piece → List Lexeme → Type 0
-Known n p s = (m : Form) (t : Phrase) → need m ≤ n → as_sort (form_sort m) p ≡ Some t → Reads m s t
+Known n p s = (m : Nonterminal) (t : Phrase) → need m ≤ n → as_sort (form_sort m) p ≡ Some t → Reads m s t
 
 pub tree_of : (s r : Sort) (t u : Phrase) (l : Tail) → as_sort r (Is s t l) ≡ Some u → (s ≡ r) × (t ≡ u)
 tree_of Term Term t u l e = (refl, cc)
@@ -250,7 +250,7 @@ is_sort Term t l = refl
 is_sort Formula t l = refl
 is_sort Program t l = refl
 
-pub known_tree : (n : Form) (k : ℕ) (r : Sort) (s : List Lexeme) (t : Phrase) (l : Tail) → form_sort n ≡ r → Reads n s t → k ≡ form_level n → Known k (Is r t l) s
+pub known_tree : (n : Nonterminal) (k : ℕ) (r : Sort) (s : List Lexeme) (t : Phrase) (l : Tail) → form_sort n ≡ r → Reads n s t → k ≡ form_level n → Known k (Is r t l) s
 known_tree n k r s t l e d h m u need_m a =
     let w = tree_of r (form_sort m) t u l a in
     subst (λ (x : Phrase). Reads m s x) w.1 (stands n m s t (omega arith) (e ∙ w.0) d)

@@ -15,14 +15,14 @@ use Rattle.dlk_grammar.specs.declared.token.Mark.{Mark}
 use Rattle.dlk_grammar.specs.declared.token.Mark.TheVariants as mark
 use Rattle.dlk_grammar.specs.declared.token.Dots.{Dots}
 use Rattle.dlk_grammar.specs.declared.token.Dots.TheVariants.{Refused}
-use Rattle.dlk_grammar.specs.declared.token.Goal.{Goal}
-use Rattle.dlk_grammar.specs.declared.token.Goal.TheVariants.{Formula, Term, Program, Expression}
+use Rattle.dlk_grammar.specs.declared.token.Form.{Form}
+use Rattle.dlk_grammar.specs.declared.token.Form.TheVariants.{Formula, Term, Program, Expression}
 use Rattle.dlk_grammar.specs.RealTokens.{IsReal as IsRealToken, AreTokens}
 use Rattle.dlk_grammar.specs.Lexemes.{Lexeme, lexeme_of, lexeme_of_mark, lexemes, lexemes_from}
 use Rattle.dlk_grammar.specs.Phrases.{Phrase, Phrases, none, snoc}
 use Rattle.dlk_grammar.specs.Grammar.{formula, term, prog, Sides, Turned, ReadsSequent}
-use Rattle.dlk_grammar.specs.Erased.{erase, ills, ills_of_all, least}
-use Rattle.dlk_grammar.specs.Readings.{Says, FirstAt, IsLong, OpensTooDeep, TokenAt, FirstPast, most_nodes, greatest_depth, ReadFault, Literal, Nesting, Syntax, Shape, TooBig, TooDeep, rank, Against, IsReadFault, IsRead, grammar, itself, IsTree, IsTreeFault, phrases_in, both_sides, erase_sides, IsSequentOf, IsSequentFault}
+use Rattle.dlk_grammar.specs.Erased.{erase, ills, ills_of_all, lowest}
+use Rattle.dlk_grammar.specs.Readings.{Says, FirstAt, IsLong, OpensTooDeep, TokenAt, FirstPast, most_nodes, greatest_depth, ReadFault, Literal, Nesting, Syntax, Shape, TooBig, TooDeep, fault_rank, SpeaksAgainst, IsReadFault, IsRead, grammar, itself, IsTree, IsTreeFault, phrases_in, both_sides, erase_sides, IsSequentOf, IsSequentFault}
 use Rattle.dlk_grammar.specs.Texts.{TreeText, SequentText, TextFault, BadByte, Unread, TreeTextFault, SequentTextFault}
 use Rattle.dlk_grammar.proofs.Splitting.{one_split, bad_is_no_split, one_bad}
 use Rattle.dlk_grammar.proofs.Real.{split_tokens}
@@ -143,16 +143,16 @@ module _ {P : Type 0} (G : List Lexeme → P → Type 0) (parts : P → List Phr
   one_value : {R : Type 0} (value : P → R) (r q : R) → IsRead G parts d tokens value r → IsRead G parts d tokens value q → r ≡ q
   one_value value r q a b = sym a.value_is ∙ ap value (one (lexemes tokens) a.phrase b.phrase a.says.reads b.says.reads) ∙ b.value_is
 
-  one_shape : (p q : P) (at other : ℕ) → p ≡ q → ((place : ℕ) × (least (flat_map ills (parts p)) ≡ Some place) × TokenAt tokens place at) → ((place : ℕ) × (least (flat_map ills (parts q)) ≡ Some place) × TokenAt tokens place other) → at ≡ other
+  one_shape : (p q : P) (at other : ℕ) → p ≡ q → ((place : ℕ) × (lowest (flat_map ills (parts p)) ≡ Some place) × TokenAt tokens place at) → ((place : ℕ) × (lowest (flat_map ills (parts q)) ≡ Some place) × TokenAt tokens place other) → at ≡ other
   one_shape p q at other e a b =
-      let place : a.0 ≡ b.0 = same_Some a.0 b.0 (sym a.1 ∙ ap (λ (x : P). least (flat_map ills (parts x))) e ∙ b.1) in
+      let place : a.0 ≡ b.0 = same_Some a.0 b.0 (sym a.1 ∙ ap (λ (x : P). lowest (flat_map ills (parts x))) e ∙ b.1) in
       token_is tokens b.0 at other (subst (λ (n : ℕ). TokenAt tokens n at) place a.2) b.2
 
   one_measure : (measure : Tree → ℕ) (limit : ℕ) (p q : P) (n m : ℕ) → p ≡ q → FirstPast measure limit (map erase (parts p)) n → FirstPast measure limit (map erase (parts q)) m → n ≡ m
   one_measure measure limit p q n m e a b = past_is measure limit (map erase (parts q)) n m (subst (λ (x : P). FirstPast measure limit (map erase (parts x)) n) e a) b
 
   -- faults of one rank are one
-  one_ranked : (why other : ReadFault) → rank why ≡ rank other → Against G parts d tokens why → Against G parts d tokens other → why ≡ other
+  one_ranked : (why other : ReadFault) → fault_rank why ≡ fault_rank other → SpeaksAgainst G parts d tokens why → SpeaksAgainst G parts d tokens other → why ≡ other
   one_ranked (Literal at) (Literal other) e a b = ap Literal (first_is IsLong tokens at other a b)
   one_ranked (Nesting at) (Nesting other) e a b = ap Nesting (first_is OpensTooDeep tokens at other a b)
   one_ranked Syntax Syntax e a b = refl
@@ -162,69 +162,69 @@ module _ {P : Type 0} (G : List Lexeme → P → Type 0) (parts : P → List Phr
   one_ranked _ _ e a b = absurd (omega arith)
 
   one_fault : (why other : ReadFault) → IsReadFault G parts d tokens why → IsReadFault G parts d tokens other → why ≡ other
-  one_fault why other a b = elim (cases_order (rank why) (rank other)) [
+  one_fault why other a b = elim (cases_order (fault_rank why) (fault_rank other)) [
     | inl e ↦ one_ranked why other e a.applies b.applies
     | inr (inl less) ↦ absurd (b.first why less a.applies)
     | inr (inr more) ↦ absurd (a.first other more b.applies)
   ]
 
   -- where there is no fault, nothing is of ill shape
-  none_ill : (p : P) (ns : List ℕ) → flat_map ills (parts p) ≡ ns → Says d G (lexemes tokens) p → ((why : ReadFault) → ¬ Against G parts d tokens why) → Each (λ n. n < length tokens) ns → ns ≡ []
+  none_ill : (p : P) (ns : List ℕ) → flat_map ills (parts p) ≡ ns → Says d G (lexemes tokens) p → ((why : ReadFault) → ¬ SpeaksAgainst G parts d tokens why) → Each (λ n. n < length tokens) ns → ns ≡ []
   none_ill p [] e says free below = refl
   none_ill p (n ∷ ns) e says free below =
       let at = token_at tokens (fold min n ns) (least_below (length tokens) n ns below.0 below.1) in
-      absurd (free (Shape at.at) (p, says, (fold min n ns, ap least e, at.token)))
+      absurd (free (Shape at.at) (p, says, (fold min n ns, ap lowest e, at.token)))
 
 -- texts of trees
-pub one_grammar : (goal : Goal) (s : List Lexeme) (p q : Phrase) → grammar goal s p → grammar goal s q → p ≡ q
+pub one_grammar : (form : Form) (s : List Lexeme) (p q : Phrase) → grammar form s p → grammar form s q → p ≡ q
 one_grammar Formula s p q d e = one_read formula s p q d e
 one_grammar Term s p q d e = one_read term s p q d e
 one_grammar Program s p q d e = one_read prog s p q d e
 one_grammar Expression s p q d e = one_expression_read s p q d e
 
-ills_below : (goal : Goal) (s : List Lexeme) (p : Phrase) (m : ℕ) → grammar goal s p → AreBelow m s → Each (λ n. n < m) (ills p)
+ills_below : (form : Form) (s : List Lexeme) (p : Phrase) (m : ℕ) → grammar form s p → AreBelow m s → Each (λ n. n < m) (ills p)
 ills_below Formula s p m d h = (grown d).below m h
 ills_below Term s p m d h = (grown d).below m h
 ills_below Program s p m d h = (grown d).below m h
 ills_below Expression s p m d h = (grown_expression d).grown.below m h
 
-goal_formed : (goal : Goal) (s : List Lexeme) (p : Phrase) → grammar goal s p → AreReal s → ills p ≡ [] → WellMade (erase p)
-goal_formed Formula s p d h e = (formed d h e).well_made
-goal_formed Term s p d h e = (formed d h e).well_made
-goal_formed Program s p d h e = (formed d h e).well_made
-goal_formed Expression s p d h e = expression_formed d h e
+form_formed : (form : Form) (s : List Lexeme) (p : Phrase) → grammar form s p → AreReal s → ills p ≡ [] → WellMade (erase p)
+form_formed Formula s p d h e = (formed d h e).well_made
+form_formed Term s p d h e = (formed d h e).well_made
+form_formed Program s p d h e = (formed d h e).well_made
+form_formed Expression s p d h e = expression_formed d h e
 
-pub goal_ills_below : (goal : Goal) (tokens : List Token) (p : Phrase) → grammar goal (lexemes tokens) p → Each (λ n. n < length tokens) (flat_map ills (itself p))
-goal_ills_below goal tokens p d = rw (append-nil (ills p)) (ills_below goal (lexemes tokens) p (length tokens) d (lexemes_below 0 (length tokens) tokens (omega arith)))
+pub form_ills_below : (form : Form) (tokens : List Token) (p : Phrase) → grammar form (lexemes tokens) p → Each (λ n. n < length tokens) (flat_map ills (itself p))
+form_ills_below form tokens p d = rw (append-nil (ills p)) (ills_below form (lexemes tokens) p (length tokens) d (lexemes_below 0 (length tokens) tokens (omega arith)))
 
-pub tree_not_ill : (goal : Goal) (d : Dots) (tokens : List Token) (t : Tree) (a : IsTree goal d tokens t) → ills a.phrase ≡ []
-tree_not_ill goal d tokens t a =
-    let below = ills_below goal (lexemes tokens) a.phrase (length tokens) a.says.reads (lexemes_below 0 (length tokens) tokens (omega arith)) in
-    none_ill (grammar goal) itself (one_grammar goal) d tokens a.phrase (ills a.phrase) (append-nil (ills a.phrase)) a.says a.no_fault below
+pub tree_not_ill : (form : Form) (d : Dots) (tokens : List Token) (t : Tree) (a : IsTree form d tokens t) → ills a.phrase ≡ []
+tree_not_ill form d tokens t a =
+    let below = ills_below form (lexemes tokens) a.phrase (length tokens) a.says.reads (lexemes_below 0 (length tokens) tokens (omega arith)) in
+    none_ill (grammar form) itself (one_grammar form) d tokens a.phrase (ills a.phrase) (append-nil (ills a.phrase)) a.says a.no_fault below
 
-pub tree_well_made : (goal : Goal) (d : Dots) (tokens : List Token) (t : Tree) → AreTokens tokens → IsTree goal d tokens t → WellMade t
-tree_well_made goal d tokens t real a = subst WellMade a.value_is (goal_formed goal (lexemes tokens) a.phrase a.says.reads (lexemes_real 0 tokens real.real) (tree_not_ill goal d tokens t a))
+pub tree_well_made : (form : Form) (d : Dots) (tokens : List Token) (t : Tree) → AreTokens tokens → IsTree form d tokens t → WellMade t
+tree_well_made form d tokens t real a = subst WellMade a.value_is (form_formed form (lexemes tokens) a.phrase a.says.reads (lexemes_real 0 tokens real.real) (tree_not_ill form d tokens t a))
 
 pub tree_formula : (tokens : List Token) (t : Tree) → AreTokens tokens → IsTree Formula Refused tokens t → IsFormula t
 tree_formula tokens t real a = subst IsFormula a.value_is (formula_formed a.says.reads (lexemes_real 0 tokens real.real) a.says.permitted (tree_not_ill Formula Refused tokens t a))
 
-pub one_tree_text : (goal : Goal) (d : Dots) (bytes : List ℕ) (t u : Tree) → TreeText goal d bytes t → TreeText goal d bytes u → t ≡ u
-one_tree_text goal d bytes t u a b =
-    one_value (grammar goal) itself (one_grammar goal) d a.tokens erase t u a.reads (subst (λ (ts : List Token). IsTree goal d ts u) (one_split b.splits a.splits) b.reads)
+pub one_tree_text : (form : Form) (d : Dots) (bytes : List ℕ) (t u : Tree) → TreeText form d bytes t → TreeText form d bytes u → t ≡ u
+one_tree_text form d bytes t u a b =
+    one_value (grammar form) itself (one_grammar form) d a.tokens erase t u a.reads (subst (λ (ts : List Token). IsTree form d ts u) (one_split b.splits a.splits) b.reads)
 
-pub tree_or_fault : (goal : Goal) (d : Dots) (bytes : List ℕ) (t : Tree) (why : TextFault) → TreeText goal d bytes t → TreeTextFault goal d bytes why → ⊥
-tree_or_fault goal d bytes t (BadByte at) a f = bad_is_no_split f a.splits
-tree_or_fault goal d bytes t (Unread why) a f = a.reads.no_fault why (subst (λ (ts : List Token). IsTreeFault goal d ts why) (one_split f.1 a.splits) f.2).applies
+pub tree_or_fault : (form : Form) (d : Dots) (bytes : List ℕ) (t : Tree) (why : TextFault) → TreeText form d bytes t → TreeTextFault form d bytes why → ⊥
+tree_or_fault form d bytes t (BadByte at) a f = bad_is_no_split f a.splits
+tree_or_fault form d bytes t (Unread why) a f = a.reads.no_fault why (subst (λ (ts : List Token). IsTreeFault form d ts why) (one_split f.1 a.splits) f.2).applies
 
-pub one_tree_fault : (goal : Goal) (d : Dots) (bytes : List ℕ) (why other : TextFault) → TreeTextFault goal d bytes why → TreeTextFault goal d bytes other → why ≡ other
-one_tree_fault goal d bytes (BadByte at) (BadByte other) f g = ap BadByte (one_bad f g)
-one_tree_fault goal d bytes (BadByte at) (Unread other) f g = absurd (bad_is_no_split f g.1)
-one_tree_fault goal d bytes (Unread why) (BadByte other) f g = absurd (bad_is_no_split g f.1)
-one_tree_fault goal d bytes (Unread why) (Unread other) f g =
-    ap Unread (one_fault (grammar goal) itself (one_grammar goal) d f.0 why other f.2 (subst (λ (ts : List Token). IsTreeFault goal d ts other) (one_split g.1 f.1) g.2))
+pub one_tree_fault : (form : Form) (d : Dots) (bytes : List ℕ) (why other : TextFault) → TreeTextFault form d bytes why → TreeTextFault form d bytes other → why ≡ other
+one_tree_fault form d bytes (BadByte at) (BadByte other) f g = ap BadByte (one_bad f g)
+one_tree_fault form d bytes (BadByte at) (Unread other) f g = absurd (bad_is_no_split f g.1)
+one_tree_fault form d bytes (Unread why) (BadByte other) f g = absurd (bad_is_no_split g f.1)
+one_tree_fault form d bytes (Unread why) (Unread other) f g =
+    ap Unread (one_fault (grammar form) itself (one_grammar form) d f.0 why other f.2 (subst (λ (ts : List Token). IsTreeFault form d ts other) (one_split g.1 f.1) g.2))
 
-pub tree_text_well_made : (goal : Goal) (d : Dots) (bytes : List ℕ) (t : Tree) → TreeText goal d bytes t → WellMade t
-tree_text_well_made goal d bytes t a = tree_well_made goal d a.tokens t (split_tokens a.splits) a.reads
+pub tree_text_well_made : (form : Form) (d : Dots) (bytes : List ℕ) (t : Tree) → TreeText form d bytes t → WellMade t
+tree_text_well_made form d bytes t a = tree_well_made form d a.tokens t (split_tokens a.splits) a.reads
 
 pub tree_text_formula : (bytes : List ℕ) (t : Tree) → TreeText Formula Refused bytes t → IsFormula t
 tree_text_formula bytes t a = tree_formula a.tokens t (split_tokens a.splits) a.reads

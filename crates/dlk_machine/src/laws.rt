@@ -5,18 +5,18 @@ ghost use Rattle.dlk_calculus.specs.Sequents.{Sequent, IsFormula, IsSequent};
 ghost use Rattle.dlk_grammar.specs.declared.token.Dots.{Dots as TheDots};
 ghost use Rattle.dlk_grammar.specs.declared.token.Dots.TheVariants.{Refused};
 ghost use Rattle.dlk_grammar.specs.declared.token.Token.{Token as TheToken};
-ghost use Rattle.dlk_grammar.specs.declared.token.Goal.{Goal as TheGoal};
-ghost use Rattle.dlk_grammar.specs.declared.token.Goal.TheVariants.{Formula};
+ghost use Rattle.dlk_grammar.specs.declared.token.Form.{Form as TheForm};
+ghost use Rattle.dlk_grammar.specs.declared.token.Form.TheVariants.{Formula};
 ghost use Rattle.dlk_grammar.specs.Lexemes.{Lexeme};
 ghost use Rattle.dlk_grammar.specs.Phrases.{Phrase};
-ghost use Rattle.dlk_grammar.specs.Grammar.{Form, Reads, Sides, ReadsSequent, ReadsExpression};
+ghost use Rattle.dlk_grammar.specs.Grammar.{Nonterminal, Reads, Sides, ReadsSequent, ReadsExpression};
 ghost use Rattle.dlk_grammar.specs.Splits.{Splits};
 ghost use Rattle.dlk_grammar.specs.Readings.{ReadFault};
 ghost use Rattle.dlk_grammar.specs.Texts.{TreeText, SequentText, TextFault, Unread, TreeTextFault, SequentTextFault};
 
-/// Lexemes are at most one phrase of each form.
+/// Lexemes are at most one phrase of each nonterminal.
 pub fn one_phrase()
-    ensures { (form : Form) (s : List Lexeme) (p q : Phrase) → Reads form s p → Reads form s q → p ≡ q }
+    ensures { (n : Nonterminal) (s : List Lexeme) (p q : Phrase) → Reads n s p → Reads n s q → p ≡ q }
 {}
 
 /// Lexemes are at most one expression.
@@ -33,11 +33,11 @@ pub fn one_sides()
 /// they are such a text or have such a fault. The tree is well made, and where a formula without argument dots is wanted,
 /// it is one.
 pub fn tree_texts()
-    ensures one { (goal : TheGoal) (d : TheDots) (bytes : List ℕ) (t u : Tree) → TreeText goal d bytes t → TreeText goal d bytes u → t ≡ u }
-    ensures no_fault { (goal : TheGoal) (d : TheDots) (bytes : List ℕ) (t : Tree) (why : TextFault) → TreeText goal d bytes t → TreeTextFault goal d bytes why → ⊥ }
-    ensures one_fault { (goal : TheGoal) (d : TheDots) (bytes : List ℕ) (why other : TextFault) → TreeTextFault goal d bytes why → TreeTextFault goal d bytes other → why ≡ other }
-    ensures some { (goal : TheGoal) (d : TheDots) (bytes : List ℕ) (ts : List TheToken) → Splits 0 bytes ts → ((t : Tree) × TreeText goal d bytes t) ⊎ ((why : ReadFault) × TreeTextFault goal d bytes (Unread why)) }
-    ensures well_made { (goal : TheGoal) (d : TheDots) (bytes : List ℕ) (t : Tree) → TreeText goal d bytes t → WellMade t }
+    ensures one { (form : TheForm) (d : TheDots) (bytes : List ℕ) (t u : Tree) → TreeText form d bytes t → TreeText form d bytes u → t ≡ u }
+    ensures no_fault { (form : TheForm) (d : TheDots) (bytes : List ℕ) (t : Tree) (why : TextFault) → TreeText form d bytes t → TreeTextFault form d bytes why → ⊥ }
+    ensures one_fault { (form : TheForm) (d : TheDots) (bytes : List ℕ) (why other : TextFault) → TreeTextFault form d bytes why → TreeTextFault form d bytes other → why ≡ other }
+    ensures some { (form : TheForm) (d : TheDots) (bytes : List ℕ) (ts : List TheToken) → Splits 0 bytes ts → ((t : Tree) × TreeText form d bytes t) ⊎ ((why : ReadFault) × TreeTextFault form d bytes (Unread why)) }
+    ensures well_made { (form : TheForm) (d : TheDots) (bytes : List ℕ) (t : Tree) → TreeText form d bytes t → WellMade t }
     ensures formulas { (bytes : List ℕ) (t : Tree) → TreeText Formula Refused bytes t → IsFormula t }
 {}
 

@@ -7,7 +7,7 @@ use Rattle.std.proofs.lemmas.List.Sums.{fold-append}
 use Rattle.std.proofs.Math.Seq.{drop-cons}
 use Rattle.dlk_grammar.specs.declared.token.Token.{Token}
 use Rattle.dlk_grammar.specs.declared.token.TokenKind.{TokenKind}
-use Rattle.dlk_grammar.specs.Readings.{FirstAt, OpensTooDeep, opens, closes, level, level_behind}
+use Rattle.dlk_grammar.specs.Readings.{FirstAt, OpensTooDeep, opens, closes, bracket_level, level_behind}
 use Rattle.dlk_machine.proofs.TextLaws.{seams, same, sooner, later}
 use Rattle.dlk_parse.specs.Limits.{HasNone}
 
@@ -47,9 +47,9 @@ pub none_first : (Is : List Token → TokenKind → Type 0) (ts : List Token) (i
 none_first Is ts i le h = record { at_none = λ at f. h.none f.before f.behind f.token (take_all i ts le ∙ f.tokens_are) f.is }
 
 -- the level behind one more token
-pub level_more : (ts : List Token) (i : ℕ) (t : Token) → i < length ts → t ≡ get_or ts i t → level (take (i + 1) ts) ≡ level_behind (level (take i ts)) t.kind
+pub level_more : (ts : List Token) (i : ℕ) (t : Token) → i < length ts → t ≡ get_or ts i t → bracket_level (take (i + 1) ts) ≡ level_behind (bracket_level (take i ts)) t.kind
 level_more ts i t lt at =
-    ap level (take_more ts i t lt ∙ ap (λ (x : Token). take i ts ++ x ∷ []) (sym at))
+    ap bracket_level (take_more ts i t lt ∙ ap (λ (x : Token). take i ts ++ x ∷ []) (sym at))
     ∙ fold-append (λ n u. level_behind n u.kind) 0 (take i ts) (t ∷ [])
 
 -- what a test that is true or false says
@@ -59,10 +59,10 @@ holds_from h e = h.0 (search (rules, e))
 pub fails_from : {P : Type 0} {b : Bool} → IsTrue b ↔ P → b ≡ false → ¬ P
 fails_from h e p = absurd (search (rules, e, h.1 p))
 
-pub deep_here : (before : List Token) (n : ℕ) (k : TokenKind) → n ≡ level before → (n ≡ 1200) × (opens k ≡ true) → OpensTooDeep before k
+pub deep_here : (before : List Token) (n : ℕ) (k : TokenKind) → n ≡ bracket_level before → (n ≡ 1200) × (opens k ≡ true) → OpensTooDeep before k
 deep_here before n k e h = (sym e ∙ h.0, h.1)
 
-pub not_deep : (before : List Token) (n : ℕ) (k : TokenKind) → n ≡ level before → ¬ ((n ≡ 1200) × (opens k ≡ true)) → ¬ OpensTooDeep before k
+pub not_deep : (before : List Token) (n : ℕ) (k : TokenKind) → n ≡ bracket_level before → ¬ ((n ≡ 1200) × (opens k ≡ true)) → ¬ OpensTooDeep before k
 not_deep before n k e h d = h (e ∙ d.0, d.1)
 
 -- the level stays low

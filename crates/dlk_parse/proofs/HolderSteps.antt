@@ -1,10 +1,10 @@
 -- What closes a holder, over plain variables.
 use Rattle.std.proofs.Common.{◌≡◌, ℕ, Bool, true, false, List, [], ◌∷◌, ◌++◌, Option, Some, None, Result, Ok, Err, refl, sym, ap, ◌∙◌, append_assoc}
 use Rattle.dlk_tree.specs.declared.op.Sort.{Sort}
-use Rattle.dlk_tree.specs.declared.op.Sort.TheVariants.{Term, Formula, Program}
+use Rattle.dlk_tree.specs.declared.op.Sort.TheVariants.{Formula, Program}
 use Rattle.dlk_tree.specs.declared.op.OdeItem.TheVariants as ode
 use Rattle.dlk_grammar.specs.declared.token.Infix.TheVariants.{And}
-use Rattle.dlk_grammar.specs.Erased.{item_of, items_of}
+use Rattle.dlk_grammar.specs.Erased.{item_of, ode_items}
 use Rattle.dlk_grammar.specs.Lexemes.{Word, CloseBrace, Comma}
 use Rattle.dlk_grammar.specs.Phrases.{Phrase, Truth, System, Item, Evolve, Items, add}
 use Rattle.dlk_machine.proofs.Machine.{◌>>=◌, when, By, InBox, InDia, Part, Left, Holder, Round, Args, InContext, In, InBrace, Assigns, Tests, Evolves, Domain, Notes, Piece, Is, Tail, Braced, State, Wants, Has, as_sort, fits, held_sort, close, items_step}
@@ -24,7 +24,7 @@ use Rattle.dlk_parse.specs.declared.parts.Last.TheVariants as last
 use Rattle.dlk_parse.specs.declared.parts.Mode.{Mode}
 use Rattle.dlk_parse.specs.declared.parts.Mode.TheVariants as mode
 use Rattle.dlk_parse.specs.declared.stack.Stack.{Stack}
-use Rattle.dlk_parse.proofs.Agree.{agrees_ok, agrees_err, agrees_memory}
+use Rattle.dlk_parse.proofs.Agree.{agrees_memory}
 
 pub domain_is : (e : Equations) (h : Holder) → holder.Domain e ≡ holder_of h → (n : ℕ) × (l : Items) × (h ≡ Domain n l) × (e ≡ equations_of n l)
 domain_is e (Domain n l) k = (n, l, refl, cc)
@@ -43,7 +43,7 @@ evolves_err r e x n l f o k a = agrees_memory (λ (e : Equations) m. e ≡ equat
 
 -- how the code puts the operator of a system behind its operands
 pub system_code : (e : Equations) (n : ℕ) (l : Items) (t : Phrase) → e ≡ equations_of n l → postfix (System n l t) ≡ (postfix_terms l ++ postfix t) ++ code.System e.at e.items ∷ []
-system_code e n l t k = sym (append_assoc (postfix_terms l) (postfix t) (code.System n (items_of l) ∷ [])) ∙ ap (λ (x : Equations). (postfix_terms l ++ postfix t) ++ code.System x.at x.items ∷ []) (sym k)
+system_code e n l t k = sym (append_assoc (postfix_terms l) (postfix t) (code.System n (ode_items l) ∷ [])) ∙ ap (λ (x : Equations). (postfix_terms l ++ postfix t) ++ code.System x.at x.items ∷ []) (sym k)
 
 unsettled : (c : Closer) (h : Holder) (S : List Part) (p : Piece) → IsNoBracket h → as_sort (held_sort h) p ≡ None → close (closer_lexeme c) h S p ≡ None
 unsettled c (Round b) S p n e = absurd n

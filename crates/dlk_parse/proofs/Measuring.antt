@@ -9,7 +9,7 @@ use Rattle.dlk_tree.specs.Table.{evolved}
 use Rattle.dlk_tree.specs.declared.op.Op.{Op}
 use Rattle.dlk_tree.specs.declared.op.Op.TheVariants as op
 use Rattle.dlk_grammar.specs.Phrases.{Phrase, Phrases, Noted}
-use Rattle.dlk_grammar.specs.Erased.{count, erase, place_if, ills, least}
+use Rattle.dlk_grammar.specs.Erased.{count, erase, place_if, ills, lowest}
 use Rattle.dlk_grammar.specs.Readings.{phrases_in}
 use Rattle.dlk_parse.specs.Codes.{postfix, postfix_all}
 use Rattle.dlk_parse.specs.Measures.{measure}
@@ -41,12 +41,12 @@ least_more n m (k ∷ ms) = ap (λ a. fold min a ms) (min_assoc n m k) ∙ least
     min_assoc : (a b c : ℕ) → min (min a b) c ≡ min a (min b c)
     min_assoc a b c = omega arith
 
-pub least-append : (ns ms : List ℕ) → least (ns ++ ms) ≡ lesser (least ns) (least ms)
-least-append [] ms = refl
-least-append (n ∷ ns) [] = ap (λ l. least (n ∷ l)) (append-nil ns)
-least-append (n ∷ ns) (m ∷ ms) = ap Some (fold-append min n ns (m ∷ ms) ∙ least_more (fold min n ns) m ms)
+pub lowest-append : (ns ms : List ℕ) → lowest (ns ++ ms) ≡ lesser (lowest ns) (lowest ms)
+lowest-append [] ms = refl
+lowest-append (n ∷ ns) [] = ap (λ l. lowest (n ∷ l)) (append-nil ns)
+lowest-append (n ∷ ns) (m ∷ ms) = ap Some (fold-append min n ns (m ∷ ms) ∙ least_more (fold min n ns) m ms)
 
-least_place : (ill : Bool) (at : ℕ) → least (place_if ill at) ≡ place_when ill at
+least_place : (ill : Bool) (at : ℕ) → lowest (place_if ill at) ≡ place_when ill at
 least_place true at = refl
 least_place false at = refl
 
@@ -66,9 +66,9 @@ max_assoc a b c = omega arith
 add_assoc' : (a b c : ℕ) → (a + b) + c ≡ a + (b + c)
 add_assoc' a b c = omega arith
 
-one_kid : (ill : Option ℕ) (s d : ℕ) (p : Phrase) → with_kid (so_far ill s d) (measure p) ≡ so_far (lesser ill (least (ills p))) (s + size (erase p)) (max d (depth (erase p)))
+one_kid : (ill : Option ℕ) (s d : ℕ) (p : Phrase) → with_kid (so_far ill s d) (measure p) ≡ so_far (lesser ill (lowest (ills p))) (s + size (erase p)) (max d (depth (erase p)))
 unfolding so_far
-one_kid ill s d p = λ i. record { ill = lesser ill (least (ills p)); size = sizes_join s (size (erase p)) 0 i; depth = depths_join d (depth (erase p)) i }
+one_kid ill s d p = λ i. record { ill = lesser ill (lowest (ills p)); size = sizes_join s (size (erase p)) 0 i; depth = depths_join d (depth (erase p)) i }
 
 so_far-same : {a b : Option ℕ} {s r d e : ℕ} → a ≡ b → s ≡ r → d ≡ e → so_far a s d ≡ so_far b r e
 so_far-same f g h = λ i. so_far (f i) (g i) (h i)
@@ -76,12 +76,12 @@ so_far-same f g h = λ i. so_far (f i) (g i) (h i)
 max_zero : (d : ℕ) → d ≡ max d 0
 max_zero d = omega arith
 
-with_kids : (ps : List Phrase) (ill : Option ℕ) (s d : ℕ) → fold with_kid (so_far ill s d) (map measure ps) ≡ so_far (lesser ill (least (flat_map ills ps))) (s + size_all (forest (map erase ps))) (max d (depth_all (forest (map erase ps))))
+with_kids : (ps : List Phrase) (ill : Option ℕ) (s d : ℕ) → fold with_kid (so_far ill s d) (map measure ps) ≡ so_far (lesser ill (lowest (flat_map ills ps))) (s + size_all (forest (map erase ps))) (max d (depth_all (forest (map erase ps))))
 with_kids [] ill s d = so_far-same (sym (lesser_none ill)) (omega arith) (max_zero d)
 with_kids (p ∷ ps) ill s d =
     ap (λ m. fold with_kid m (map measure ps)) (one_kid ill s d p)
-    ∙ with_kids ps (lesser ill (least (ills p))) (s + size (erase p)) (max d (depth (erase p)))
-    ∙ so_far-same (lesser_assoc ill (least (ills p)) (least (flat_map ills ps)) ∙ ap (lesser ill) (sym (least-append (ills p) (flat_map ills ps))))
+    ∙ with_kids ps (lesser ill (lowest (ills p))) (s + size (erase p)) (max d (depth (erase p)))
+    ∙ so_far-same (lesser_assoc ill (lowest (ills p)) (lowest (flat_map ills ps)) ∙ ap (lesser ill) (sym (lowest-append (ills p) (flat_map ills ps))))
     (add_assoc' s (size (erase p)) (size_all (forest (map erase ps))))
     (max_assoc d (depth (erase p)) (depth_all (forest (map erase ps))))
 
@@ -92,18 +92,18 @@ tree_measure ill t = record { ill = ill; size = min (size t) 4294967295; depth =
 raised_depth : (d : ℕ) → min (min (max 0 d) 4294967295 + 1) 4294967295 ≡ min (1 + d) 4294967295
 raised_depth d = omega arith
 
-kids_measure : (ill : Option ℕ) (o : Op) (ps : List Phrase) → over_kids ill (map measure ps) ≡ tree_measure (lesser ill (least (flat_map ills ps))) (node o (forest (map erase ps)))
+kids_measure : (ill : Option ℕ) (o : Op) (ps : List Phrase) → over_kids ill (map measure ps) ≡ tree_measure (lesser ill (lowest (flat_map ills ps))) (node o (forest (map erase ps)))
 unfolding so_far tree_measure
 kids_measure ill o ps =
-    let e : fold with_kid (record { ill = ill; size = 1; depth = 0 }) (map measure ps) ≡ so_far (lesser ill (least (flat_map ills ps))) (1 + size_all (forest (map erase ps))) (max 0 (depth_all (forest (map erase ps)))) = with_kids ps ill 1 0 in
-    ap raised e ∙ (λ i. record { ill = lesser ill (least (flat_map ills ps)); size = min (1 + size_all (forest (map erase ps))) 4294967295; depth = raised_depth (depth_all (forest (map erase ps))) i })
+    let e : fold with_kid (record { ill = ill; size = 1; depth = 0 }) (map measure ps) ≡ so_far (lesser ill (lowest (flat_map ills ps))) (1 + size_all (forest (map erase ps))) (max 0 (depth_all (forest (map erase ps)))) = with_kids ps ill 1 0 in
+    ap raised e ∙ (λ i. record { ill = lesser ill (lowest (flat_map ills ps)); size = min (1 + size_all (forest (map erase ps))) 4294967295; depth = raised_depth (depth_all (forest (map erase ps))) i })
 
-measure-same : (p : Phrase) (places : List ℕ) (t : Tree) → ills p ≡ places → erase p ≡ t → measure p ≡ tree_measure (least places) t
+measure-same : (p : Phrase) (places : List ℕ) (t : Tree) → ills p ≡ places → erase p ≡ t → measure p ≡ tree_measure (lowest places) t
 unfolding tree_measure
-measure-same p places t f g = λ i. record { ill = least (f i); size = min (size (g i)) 4294967295; depth = min (depth (g i)) 4294967295 }
+measure-same p places t f g = λ i. record { ill = lowest (f i); size = min (size (g i)) 4294967295; depth = min (depth (g i)) 4294967295 }
 
 -- one code over what is on the stack
-step_is : (stack : List Measure) (c : Code) (o : Op) → operator c ≡ Some o → measure_step stack c ≡ joined (pops c) (least (place_of c)) stack
+step_is : (stack : List Measure) (c : Code) (o : Op) → operator c ≡ Some o → measure_step stack c ≡ joined (pops c) (lowest (place_of c)) stack
 step_is stack (code.Operator q) o e = refl
 step_is stack (code.Call holds at x n) o e = ap (λ ill. joined n ill stack) (sym (least_place (nat_lt 8 n) at))
 step_is stack (code.System at items) o e = ap (λ ill. joined (length (evolved items) + 1) ill stack) (sym (least_place (are_ill items) at))
@@ -116,17 +116,17 @@ joined_is s ms n ill e = λ i. below_is s ms n e i ++ over_kids ill (top_is s ms
 over_step : (p : Phrase) (c : Code) (o : Op) → IsOver p c o → (s : List Measure) → measure_step (s ++ map measure (parts p)) c ≡ s ++ measure p ∷ []
 over_step p c o w s =
     let n : pops c ≡ length (map measure (parts p)) = pops_are c o w.operator_is ∙ sym w.long ∙ sym (length-map (parts p) measure) in
-    let m : over_kids (least (place_of c)) (map measure (parts p)) ≡ measure p =
-    kids_measure (least (place_of c)) o (parts p) ∙ ap (λ ill. tree_measure ill (node o (forest (map erase (parts p))))) (sym (least-append (place_of c) (flat_map ills (parts p))))
+    let m : over_kids (lowest (place_of c)) (map measure (parts p)) ≡ measure p =
+    kids_measure (lowest (place_of c)) o (parts p) ∙ ap (λ ill. tree_measure ill (node o (forest (map erase (parts p))))) (sym (lowest-append (place_of c) (flat_map ills (parts p))))
     ∙ sym (measure-same p (place_of c ++ flat_map ills (parts p)) (node o (forest (map erase (parts p)))) w.places w.tree_is) in
-    step_is (s ++ map measure (parts p)) c o w.operator_is ∙ joined_is s (map measure (parts p)) (pops c) (least (place_of c)) n ∙ ap (λ k. s ++ k ∷ []) m
+    step_is (s ++ map measure (parts p)) c o w.operator_is ∙ joined_is s (map measure (parts p)) (pops c) (lowest (place_of c)) n ∙ ap (λ k. s ++ k ∷ []) m
 
 -- formulas beside a program
 beside_is : (q : Phrase) (l : Phrases) → beside (measure q ∷ map measure (phrases_in l)) ≡ measure (Noted q l) ∷ []
 unfolding tree_measure
 beside_is q l =
-    let places : lesser (least (ills q)) (least (flat_map ills (phrases_in l))) ≡ least (ills (Noted q l)) = sym (least-append (ills q) (flat_map ills (phrases_in l))) ∙ ap (λ ns. least (ills q ++ ns)) (sym (ills_of_all_is l)) in
-    let k = kids_measure (least (ills q)) op.Loop (phrases_in l) in
+    let places : lesser (lowest (ills q)) (lowest (flat_map ills (phrases_in l))) ≡ lowest (ills (Noted q l)) = sym (lowest-append (ills q) (flat_map ills (phrases_in l))) ∙ ap (λ ns. lowest (ills q ++ ns)) (sym (ills_of_all_is l)) in
+    let k = kids_measure (lowest (ills q)) op.Loop (phrases_in l) in
     λ i. record { ill = (ap (λ m. m.ill) k ∙ places) i; size = min (size (erase q)) 4294967295; depth = min (depth (erase q)) 4294967295 } ∷ []
 
 Measured : Phrase → Type 0

@@ -1,21 +1,21 @@
 -- Operands, over plain variables.
-use Rattle.std.proofs.Common.{◌≡◌, ℕ, Bool, true, false, List, [], ◌∷◌, ◌++◌, Option, Some, None, Result, Ok, Err, refl, sym, ap, ◌∙◌, append_assoc}
+use Rattle.std.proofs.Common.{◌≡◌, ℕ, true, List, [], ◌∷◌, ◌++◌, Some, Ok, refl, sym, ap, ◌∙◌}
 use Rattle.std.proofs.lemmas.List.{append-nil}
 use Rattle.dlk_tree.specs.declared.op.Sort.{Sort}
 use Rattle.dlk_grammar.specs.declared.token.Infix.{Infix}
 use Rattle.dlk_grammar.specs.declared.token.Infix.TheVariants.{And}
 use Rattle.dlk_grammar.specs.Lexemes.{Word}
 use Rattle.dlk_grammar.specs.Phrases.{Phrase, none}
-use Rattle.dlk_machine.proofs.Machine.{◌>>=◌, By, Wants, after_operand, infix_after, Part, Left, Inside, Args, Piece, Is, Symbol, Tail, Done, Bare, Grouped, Braced, Starred, Annotated, State, as_sort, operand_sort, result_sort, fits, start_operand, call_step, name_after}
+use Rattle.dlk_machine.proofs.Machine.{◌>>=◌, By, Wants, after_operand, infix_after, Part, Inside, Args, Piece, as_sort, operand_sort, result_sort, fits, start_operand, call_step}
 use Rattle.dlk_parse.specs.Codes.{postfix}
-use Rattle.dlk_parse.specs.Shows.{seen, said, shape, shapes, part_code, stack_code, piece_code, left_opened, IsLast, IsOpen, Stands, Shows, Agrees}
+use Rattle.dlk_parse.specs.Shows.{seen, said, shape, shapes, part_code, stack_code, left_opened, IsOpen, Agrees}
 use Rattle.dlk_parse.specs.declared.lexeme.Lexeme.{Lexeme as SeenLexeme}
 use Rattle.dlk_parse.specs.declared.lexeme.Lexeme.TheVariants as lexeme
 use Rattle.dlk_parse.specs.declared.parts.Between.{Between as BetweenPart}
 use Rattle.dlk_parse.specs.declared.parts.Part.{Part as OpenPart}
 use Rattle.dlk_parse.specs.declared.parts.Part.TheVariants as part
 use Rattle.dlk_parse.specs.declared.stack.Stack.{Stack}
-use Rattle.dlk_parse.proofs.Agree.{agrees_ok, agrees_err, of_said}
+use Rattle.dlk_parse.proofs.Agree.{of_said}
 
 pub left_done : (g : Sort) (b : BetweenPart) (S : List Part) (p : Piece) (t : Phrase) (k : Stack) → as_sort (operand_sort (said b)) p ≡ Some t → fits g (result_sort (said b)) S ≡ true → k.parts.items ≡ shapes S ++ part.Left b ∷ [] → k.out.items ≡ stack_code S ++ postfix t → Agrees {X = Unit {0}} (λ _ T. IsOpen k T []) (Ok tt) (left_opened g (said b) S p)
 left_done g b S p t k e f parts out = rw (e, f) (record {

@@ -15,7 +15,7 @@ use Rattle.dlk_tree.specs.declared.op.Op.TheVariants as op
 use Rattle.dlk_grammar.specs.declared.token.Infix.{Infix}
 use Rattle.dlk_grammar.specs.declared.token.Infix.TheVariants.{Equiv, Imply, Or, And, Equal, NotEqual, AtLeast, Greater, AtMost, Less, Add, Sub, Mul, Div, Pow, Choice}
 use Rattle.dlk_grammar.specs.Phrases.{Everywhere, Phrase, Literal, Argument, Variable, Apply, Negate, Diff, Truth, Falsity, Hole, Holds, Context, Not, DiffF, Forall, Exists, Box, Dia, Binary, Const, Assign, Test, Then, Loop, System, Noted, Phrases, none, snoc, Call, Any, Evolve, Flow, Items, no_items, add}
-use Rattle.dlk_grammar.specs.Erased.{symbol, items_of, infix_op, count, erase, erase_all, item_terms, place_if, ills, ills_of_all, ills_of_items}
+use Rattle.dlk_grammar.specs.Erased.{symbol, ode_items, infix_op, count, erase, erase_all, item_terms, place_if, ills, ills_of_all, ills_of_items}
 use Rattle.dlk_grammar.specs.Readings.{phrases_in}
 use Rattle.dlk_parse.specs.Codes.{postfix, postfix_all, postfix_terms}
 use Rattle.dlk_parse.specs.Measuring.{are_ill}
@@ -198,15 +198,15 @@ evolved_push [] i = refl
 evolved_push (ode.Evolve x ∷ items) i = ap (λ l. x ∷ l) (evolved_push items i)
 evolved_push (ode.Const s ∷ items) i = evolved_push items i
 
-right_sides_long : (l : Items) → length (right_sides l) ≡ length (evolved (items_of l))
+right_sides_long : (l : Items) → length (right_sides l) ≡ length (evolved (ode_items l))
 right_sides_long no_items = refl
 right_sides_long (add l (Evolve x a)) =
-    let e = ap length (evolved_push (items_of l) (ode.Evolve x)) ∙ length-append (evolved (items_of l)) (x ∷ []) in
+    let e = ap length (evolved_push (ode_items l) (ode.Evolve x)) ∙ length-append (evolved (ode_items l)) (x ∷ []) in
     length-append (right_sides l) (a ∷ []) ∙ (ap (λ n. n + 1) (right_sides_long l) ∙ sym e)
-right_sides_long (add l (Flow x s)) = right_sides_long l ∙ sym (ap length (evolved_push (items_of l) (ode.Const (symbol Ode x 0 s))) ∙ length-append (evolved (items_of l)) [] ∙ add-zero (length (evolved (items_of l))))
+right_sides_long (add l (Flow x s)) = right_sides_long l ∙ sym (ap length (evolved_push (ode_items l) (ode.Const (symbol Ode x 0 s))) ∙ length-append (evolved (ode_items l)) [] ∙ add-zero (length (evolved (ode_items l))))
 
-system_long : (l : Items) (a : Phrase) → length (right_sides l ++ a ∷ []) ≡ length (replicate (length (evolved (items_of l))) sort_of.Term ++ sort_of.Formula ∷ [])
-system_long l a = omega (arith, length-append (right_sides l) (a ∷ []), right_sides_long l, length-append (replicate (length (evolved (items_of l))) sort_of.Term) (sort_of.Formula ∷ []), length-replicate (length (evolved (items_of l))) sort_of.Term)
+system_long : (l : Items) (a : Phrase) → length (right_sides l ++ a ∷ []) ≡ length (replicate (length (evolved (ode_items l))) sort_of.Term ++ sort_of.Formula ∷ [])
+system_long l a = omega (arith, length-append (right_sides l) (a ∷ []), right_sides_long l, length-append (replicate (length (evolved (ode_items l))) sort_of.Term) (sort_of.Formula ∷ []), length-replicate (length (evolved (ode_items l))) sort_of.Term)
 
 call_long : (l : Phrases) → length (phrases_in l) ≡ length (replicate (count l) sort_of.Term)
 call_long l = sym (count_is l) ∙ sym (length-replicate (count l) sort_of.Term)
@@ -298,11 +298,11 @@ view (Assign x primed a) = unary (op.Assign (record { name = x; primed = primed 
 view (Test a) = unary op.Test a refl refl refl refl refl
 view (Then p q) = binary op.Seq p q refl refl refl refl refl
 view (Loop p) = unary op.Loop p refl refl refl refl refl
-view (System n l a) = over (code.System n (items_of l)) (op.System (items_of l)) (record {
+view (System n l a) = over (code.System n (ode_items l)) (op.System (ode_items l)) (record {
   operator_is = refl;
-  spelled = ap (λ s. s ++ (postfix a ++ code.System n (items_of l) ∷ [])) (postfix_terms_is l) ∙ sym (append_assoc (flat_map postfix (right_sides l)) (postfix a) (code.System n (items_of l) ∷ [])) ∙ ap (λ s. s ++ code.System n (items_of l) ∷ []) (sym (more postfix (right_sides l) a));
-  tree_is = ap (λ ts. node (op.System (items_of l)) (forest ts)) (ap (λ ts. ts ++ erase a ∷ []) (item_terms_is l) ∙ sym (map-append erase (right_sides l) (a ∷ [])));
-  places = ap (λ s. place_if (are_ill (items_of l)) n ++ s) (ap (λ s. s ++ ills a) (ills_of_items_is l) ∙ sym (more ills (right_sides l) a));
+  spelled = ap (λ s. s ++ (postfix a ++ code.System n (ode_items l) ∷ [])) (postfix_terms_is l) ∙ sym (append_assoc (flat_map postfix (right_sides l)) (postfix a) (code.System n (ode_items l) ∷ [])) ∙ ap (λ s. s ++ code.System n (ode_items l) ∷ []) (sym (more postfix (right_sides l) a));
+  tree_is = ap (λ ts. node (op.System (ode_items l)) (forest ts)) (ap (λ ts. ts ++ erase a ∷ []) (item_terms_is l) ∙ sym (map-append erase (right_sides l) (a ∷ [])));
+  places = ap (λ s. place_if (are_ill (ode_items l)) n ++ s) (ap (λ s. s ++ ills a) (ills_of_items_is l) ∙ sym (more ills (right_sides l) a));
   long = system_long l a;
 })
 view (Noted p l) = noted p l

@@ -4,8 +4,8 @@ use Rattle.std.proofs.Math.Seq.{drop-cons}
 use Rattle.std.proofs.lemmas.List.{drop_all}
 use Rattle.dlk_grammar.specs.declared.token.Dots.{Dots}
 use Rattle.dlk_grammar.specs.declared.token.Dots.TheVariants.{Refused}
-use Rattle.dlk_grammar.specs.declared.token.Goal.{Goal}
-use Rattle.dlk_grammar.specs.declared.token.Goal.TheVariants as goal
+use Rattle.dlk_grammar.specs.declared.token.Form.{Form}
+use Rattle.dlk_grammar.specs.declared.token.Form.TheVariants as form
 use Rattle.dlk_grammar.specs.declared.token.Token.{Token}
 use Rattle.dlk_grammar.specs.Grammar.{Sides}
 use Rattle.dlk_grammar.specs.Lexemes.{Lexeme, lexeme_of, lexemes_from}
@@ -15,13 +15,12 @@ use Rattle.dlk_tree.specs.declared.op.Sort.{Sort}
 use Rattle.dlk_tree.specs.declared.op.Sort.TheVariants.{Term, Formula, Program}
 use Rattle.dlk_machine.proofs.Machine.{when, State, step, ended}
 use Rattle.dlk_machine.proofs.Parse.{Machine, or_else, parse_from}
-use Rattle.dlk_machine.proofs.ParseLaws.{GoalState, machine_of}
+use Rattle.dlk_machine.proofs.ParseLaws.{FormState, machine_of}
 use Rattle.dlk_machine.proofs.Expressions.{ExpressionState, expression_step, expression_ended}
 use Rattle.dlk_machine.proofs.Sequents.{SequentState, sequent_step, sequent_ended, sequent_reader}
 use Rattle.dlk_parse.specs.Codes.{postfix}
 use Rattle.dlk_parse.specs.Shows.{IsWhole, Agrees}
 use Rattle.dlk_parse.specs.Readers.{ShowsOf, ShowsExpression, ShowsTree, ShowsSides, tree_step, Reaches, SidesReach, GoesOn, GoesOnSides, Advances, stop_of, IsCodeOf, IsParsed, Answers}
-use Rattle.dlk_parse.specs.declared.code.Code.{Code}
 use Rattle.dlk_parse.specs.declared.expressions.Place.{Place}
 use Rattle.dlk_parse.specs.declared.reading.Reached.{Reached}
 use Rattle.dlk_parse.specs.declared.reading.SidesReached.{SidesReached}
@@ -42,18 +41,18 @@ when_err s r f b o e a = rw e (err_same s r f o a)
 pub when_ok : {X Y V : Type 0} (s : X → Y → Type 0) (r : V → Y → Type 0) (x : X) (v : V) (b : Bool) (o : Option Y) → b ≡ true → ((y : Y) → s x y → r v y) → Agrees s (Ok x) o → Agrees r (Ok v) (when b o)
 when_ok s r x v b o e f a = rw e (ok_same s r x v o f a)
 
--- what the two readers of trees make of a lexeme, for each goal
-pub tree_steps : (wanted : Goal) (k new : Stack) (p : Place) (r : Result Place StepFault) (l : Lexeme) → ((x : ExpressionState) → ShowsExpression k p x → Agrees (ShowsExpression new) r (expression_step x l)) → ((s : Sort) (x : State) → ShowsOf s k p x → Agrees (ShowsOf s new) r (step s x l)) → (x : GoalState wanted) → ShowsTree wanted k p x → Agrees (ShowsTree wanted new) r (tree_step wanted x l)
-tree_steps goal.Formula k new p r l e o x h = o Formula x h
-tree_steps goal.Term k new p r l e o x h = o Term x h
-tree_steps goal.Program k new p r l e o x h = o Program x h
-tree_steps goal.Expression k new p r l e o x h = e x h
+-- what the two readers of trees make of a lexeme, for each form
+pub tree_steps : (wanted : Form) (k new : Stack) (p : Place) (r : Result Place StepFault) (l : Lexeme) → ((x : ExpressionState) → ShowsExpression k p x → Agrees (ShowsExpression new) r (expression_step x l)) → ((s : Sort) (x : State) → ShowsOf s k p x → Agrees (ShowsOf s new) r (step s x l)) → (x : FormState wanted) → ShowsTree wanted k p x → Agrees (ShowsTree wanted new) r (tree_step wanted x l)
+tree_steps form.Formula k new p r l e o x h = o Formula x h
+tree_steps form.Term k new p r l e o x h = o Term x h
+tree_steps form.Program k new p r l e o x h = o Program x h
+tree_steps form.Expression k new p r l e o x h = e x h
 
-pub tree_ends : (wanted : Goal) (k new : Stack) (p : Place) (r : Result (Unit {0}) StepFault) → ((x : ExpressionState) → ShowsExpression k p x → Agrees (λ _ t. IsWhole new t) r (expression_ended x)) → ((s : Sort) (x : State) → ShowsOf s k p x → Agrees (λ _ t. IsWhole new t) r (ended s x)) → (x : GoalState wanted) → ShowsTree wanted k p x → Agrees (λ _ t. IsWhole new t) r ((machine_of wanted).ended x)
-tree_ends goal.Formula k new p r e o x h = o Formula x h
-tree_ends goal.Term k new p r e o x h = o Term x h
-tree_ends goal.Program k new p r e o x h = o Program x h
-tree_ends goal.Expression k new p r e o x h = e x h
+pub tree_ends : (wanted : Form) (k new : Stack) (p : Place) (r : Result (Unit {0}) StepFault) → ((x : ExpressionState) → ShowsExpression k p x → Agrees (λ _ t. IsWhole new t) r (expression_ended x)) → ((s : Sort) (x : State) → ShowsOf s k p x → Agrees (λ _ t. IsWhole new t) r (ended s x)) → (x : FormState wanted) → ShowsTree wanted k p x → Agrees (λ _ t. IsWhole new t) r ((machine_of wanted).ended x)
+tree_ends form.Formula k new p r e o x h = o Formula x h
+tree_ends form.Term k new p r e o x h = o Term x h
+tree_ends form.Program k new p r e o x h = o Program x h
+tree_ends form.Expression k new p r e o x h = e x h
 
 -- a machine goes on by a lexeme, or stops at it
 parse_on : {X P : Type 0} (d : Dots) (m : Machine X P) (x y : X) (n i : ℕ) (k : Lexeme) (s : List Lexeme) (r : Result P ℕ) → parse_from d m x n (k ∷ s) ≡ r → when (permits d k) (m.step x k) ≡ Some y → i ≡ n + 1 → parse_from d m y i s ≡ r
@@ -70,26 +69,26 @@ none_from s (Some y) a = absurd a
 none_from s None a = refl
 
 -- the reader of trees
-module _ (d : Dots) (wanted : Goal) (k new : Stack) (reached : Reached) (r : Result Phrase ℕ) where
-  pub tree_on : (next : Reached) (l : List Lexeme) (y : Lexeme) (s : List Lexeme) → l ≡ y ∷ [] → GoesOn d wanted k r reached (l ++ s) → ((x : GoalState wanted) → ShowsTree wanted k reached.place x → Agrees (Reaches wanted new reached.count) (Ok next) (when (permits d y) (tree_step wanted x y))) → GoesOn d wanted new r next s
+module _ (d : Dots) (wanted : Form) (k new : Stack) (reached : Reached) (r : Result Phrase ℕ) where
+  pub tree_on : (next : Reached) (l : List Lexeme) (y : Lexeme) (s : List Lexeme) → l ≡ y ∷ [] → GoesOn d wanted k r reached (l ++ s) → ((x : FormState wanted) → ShowsTree wanted k reached.place x → Agrees (Reaches wanted new reached.count) (Ok next) (when (permits d y) (tree_step wanted x y))) → GoesOn d wanted new r next s
   tree_on next l y s e g f =
       let a = agrees_ok (Reaches wanted new reached.count) next (when (permits d y) (tree_step wanted g.state y)) (f g.state g.shows) in
       let reads = subst (λ (l : List Lexeme). parse_from d (machine_of wanted) g.state reached.count (l ++ s) ≡ r) e g.reads in
       record { state = a.0; shows = a.2.shows; reads = parse_on d (machine_of wanted) g.state a.0 reached.count next.count y s r reads a.1 a.2.count }
 
-  pub tree_stops : (f : StepFault) (why : Stop) (l : List Lexeme) (y : Lexeme) (s : List Lexeme) → why ≡ stop_of f reached.count → l ≡ y ∷ [] → GoesOn d wanted k r reached (l ++ s) → ((x : GoalState wanted) → ShowsTree wanted k reached.place x → Agrees (Reaches wanted new reached.count) (Err f) (when (permits d y) (tree_step wanted x y))) → Advances (GoesOn d wanted new r) r (Err why) s
+  pub tree_stops : (f : StepFault) (why : Stop) (l : List Lexeme) (y : Lexeme) (s : List Lexeme) → why ≡ stop_of f reached.count → l ≡ y ∷ [] → GoesOn d wanted k r reached (l ++ s) → ((x : FormState wanted) → ShowsTree wanted k reached.place x → Agrees (Reaches wanted new reached.count) (Err f) (when (permits d y) (tree_step wanted x y))) → Advances (GoesOn d wanted new r) r (Err why) s
   tree_stops fault.Memory why l y s w e g f = rw w tt
   tree_stops fault.Syntax why l y s w e g f =
       let none = none_from (Reaches wanted new reached.count) (when (permits d y) (tree_step wanted g.state y)) (f g.state g.shows) in
       let reads = subst (λ (l : List Lexeme). parse_from d (machine_of wanted) g.state reached.count (l ++ s) ≡ r) e g.reads in
       rw w (parse_stops d (machine_of wanted) g.state reached.count y s r reads none)
 
-  pub tree_whole : GoesOn d wanted k r reached [] → ((x : GoalState wanted) → ShowsTree wanted k reached.place x → Agrees {X = Unit {0}} (λ _ t. IsWhole new t) (Ok tt) ((machine_of wanted).ended x)) → (p : Phrase) × (r ≡ Ok p) × (new.out.items ≡ postfix p)
+  pub tree_whole : GoesOn d wanted k r reached [] → ((x : FormState wanted) → ShowsTree wanted k reached.place x → Agrees {X = Unit {0}} (λ _ t. IsWhole new t) (Ok tt) ((machine_of wanted).ended x)) → (p : Phrase) × (r ≡ Ok p) × (new.out.items ≡ postfix p)
   tree_whole g f =
       let a = agrees_ok {X = Unit {0}} (λ _ t. IsWhole new t) tt ((machine_of wanted).ended g.state) (f g.state g.shows) in
       (a.0, parse_ends d (machine_of wanted) g.state reached.count (Some a.0) r g.reads a.1, a.2.out)
 
-  pub tree_unended : {V : Type 0} (shows : V → Phrase → Type 0) (f : StepFault) (why : Stop) → why ≡ stop_of f reached.count → GoesOn d wanted k r reached [] → ((x : GoalState wanted) → ShowsTree wanted k reached.place x → Agrees {X = Unit {0}} (λ _ t. IsWhole new t) (Err f) ((machine_of wanted).ended x)) → Answers shows r (Err why)
+  pub tree_unended : {V : Type 0} (shows : V → Phrase → Type 0) (f : StepFault) (why : Stop) → why ≡ stop_of f reached.count → GoesOn d wanted k r reached [] → ((x : FormState wanted) → ShowsTree wanted k reached.place x → Agrees {X = Unit {0}} (λ _ t. IsWhole new t) (Err f) ((machine_of wanted).ended x)) → Answers shows r (Err why)
   tree_unended shows fault.Memory why w g f = rw w tt
   tree_unended shows fault.Syntax why w g f =
       let none = none_from {X = Unit {0}} (λ _ t. IsWhole new t) ((machine_of wanted).ended g.state) (f g.state g.shows) in

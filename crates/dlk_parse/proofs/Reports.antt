@@ -7,8 +7,8 @@ use Rattle.dlk_grammar.specs.declared.token.Token.{Token}
 use Rattle.dlk_grammar.specs.declared.token.Dots.{Dots}
 use Rattle.dlk_grammar.specs.Lexemes.{Lexeme, lexemes}
 use Rattle.dlk_grammar.specs.Phrases.{Phrase}
-use Rattle.dlk_grammar.specs.Erased.{erase, ills, least}
-use Rattle.dlk_grammar.specs.Readings.{Says, FirstPast, most_nodes, greatest_depth, ReadFault, Literal, Nesting, Syntax, Shape, TooBig, TooDeep, rank, Against, IsReadFault}
+use Rattle.dlk_grammar.specs.Erased.{erase, ills, lowest}
+use Rattle.dlk_grammar.specs.Readings.{Says, FirstPast, most_nodes, greatest_depth, ReadFault, Literal, Nesting, Syntax, Shape, TooBig, TooDeep, fault_rank, SpeaksAgainst, IsReadFault}
 use Rattle.dlk_parse.specs.Faults.{IsFaultOf}
 use Rattle.dlk_parse.specs.Limits.{AreCalm, IsUnruly, AreWithin, IsBeyond}
 use Rattle.dlk_parse.specs.Said.{IsNoText}
@@ -31,7 +31,7 @@ module _ {P : Type 0} (G : List Lexeme → P → Type 0) (parts : P → List Phr
   pub unruly : (e : ParseFault) → IsUnruly tokens e → IsFaultOf (IsReadFault G parts d tokens) e
   unruly (parse.Literal at) h = record { applies = h; first = none }
     where
-      none : (other : ReadFault) → rank other < 1 → ¬ Against G parts d tokens other
+      none : (other : ReadFault) → fault_rank other < 1 → ¬ SpeaksAgainst G parts d tokens other
       none (Literal k) l a = omega arith
       none (Nesting k) l a = omega arith
       none Syntax l a = omega arith
@@ -40,7 +40,7 @@ module _ {P : Type 0} (G : List Lexeme → P → Type 0) (parts : P → List Phr
       none (TooDeep k) l a = omega arith
   unruly (parse.Nesting at) h = record { applies = h.1; first = none }
     where
-      none : (other : ReadFault) → rank other < 2 → ¬ Against G parts d tokens other
+      none : (other : ReadFault) → fault_rank other < 2 → ¬ SpeaksAgainst G parts d tokens other
       none (Literal k) l a = h.0.at_none k a
       none (Nesting k) l a = omega arith
       none Syntax l a = omega arith
@@ -54,7 +54,7 @@ module _ {P : Type 0} (G : List Lexeme → P → Type 0) (parts : P → List Phr
   unruly parse.Memory h = tt
 
   module _ (calm : AreCalm tokens) where
-    no_text : (other : ReadFault) → rank other < 3 → ¬ Against G parts d tokens other
+    no_text : (other : ReadFault) → fault_rank other < 3 → ¬ SpeaksAgainst G parts d tokens other
     no_text (Literal k) l a = calm.long.at_none k a
     no_text (Nesting k) l a = calm.deep.at_none k a
     no_text Syntax l a = omega arith
@@ -76,7 +76,7 @@ module _ {P : Type 0} (G : List Lexeme → P → Type 0) (parts : P → List Phr
       same : (q : P) → Says d G (lexemes tokens) q → q ≡ p
       same q h = one (lexemes tokens) q p h.reads says.reads
 
-      before_shape : (other : ReadFault) → rank other < 4 → ¬ Against G parts d tokens other
+      before_shape : (other : ReadFault) → fault_rank other < 4 → ¬ SpeaksAgainst G parts d tokens other
       before_shape (Literal k) l a = calm.long.at_none k a
       before_shape (Nesting k) l a = calm.deep.at_none k a
       before_shape Syntax l a = a p says
@@ -84,19 +84,19 @@ module _ {P : Type 0} (G : List Lexeme → P → Type 0) (parts : P → List Phr
       before_shape (TooBig k) l a = omega arith
       before_shape (TooDeep k) l a = omega arith
 
-      module _ (shape : least (flat_map ills (parts p)) ≡ None) where
-        before_size : (other : ReadFault) → rank other < 5 → ¬ Against G parts d tokens other
+      module _ (shape : lowest (flat_map ills (parts p)) ≡ None) where
+        before_size : (other : ReadFault) → fault_rank other < 5 → ¬ SpeaksAgainst G parts d tokens other
         before_size (Literal k) l a = before_shape (Literal k) (omega arith) a
         before_size (Nesting k) l a = before_shape (Nesting k) (omega arith) a
         before_size Syntax l a = before_shape Syntax (omega arith) a
         before_size (Shape k) l a =
-            let e : None ≡ Some a.2.0 = sym shape ∙ ap (λ (x : P). least (flat_map ills (parts x))) (sym (same a.0 a.1)) ∙ a.2.1 in
+            let e : None ≡ Some a.2.0 = sym shape ∙ ap (λ (x : P). lowest (flat_map ills (parts x))) (sym (same a.0 a.1)) ∙ a.2.1 in
             cc
         before_size (TooBig k) l a = omega arith
         before_size (TooDeep k) l a = omega arith
 
         module _ (small : All (λ t. size t ≤ most_nodes) (map erase (parts p))) where
-          before_depth : (other : ReadFault) → rank other < 6 → ¬ Against G parts d tokens other
+          before_depth : (other : ReadFault) → fault_rank other < 6 → ¬ SpeaksAgainst G parts d tokens other
           before_depth (Literal k) l a = before_size (Literal k) (omega arith) a
           before_depth (Nesting k) l a = before_size (Nesting k) (omega arith) a
           before_depth Syntax l a = before_size Syntax (omega arith) a
@@ -115,7 +115,7 @@ module _ {P : Type 0} (G : List Lexeme → P → Type 0) (parts : P → List Phr
       beyond parse.Memory h = tt
 
       -- what is within them
-      pub faultless : AreWithin (parts p) → (why : ReadFault) → ¬ Against G parts d tokens why
+      pub faultless : AreWithin (parts p) → (why : ReadFault) → ¬ SpeaksAgainst G parts d tokens why
       faultless w (Literal k) a = before_shape (Literal k) (omega arith) a
       faultless w (Nesting k) a = before_shape (Nesting k) (omega arith) a
       faultless w Syntax a = before_shape Syntax (omega arith) a

@@ -13,17 +13,17 @@ use Rattle.dlk_sequent.specs.declared.sequent.Sequent.{Sequent}
 use Rattle.dlk_grammar.specs.declared.token.Token.{Token}
 use Rattle.dlk_grammar.specs.declared.token.Dots.{Dots}
 use Rattle.dlk_grammar.specs.declared.token.Dots.TheVariants.{Refused}
-use Rattle.dlk_grammar.specs.declared.token.Goal.{Goal}
+use Rattle.dlk_grammar.specs.declared.token.Form.{Form}
 use Rattle.dlk_grammar.specs.RealTokens.{AreTokens}
 use Rattle.dlk_grammar.specs.Lexemes.{Lexeme, lexemes}
 use Rattle.dlk_grammar.specs.Phrases.{Phrase, Phrases}
-use Rattle.dlk_grammar.specs.Grammar.{Form, Reads, Sides, Turned, ReadsSequent}
-use Rattle.dlk_grammar.specs.Erased.{erase, erase_all, ills, least}
+use Rattle.dlk_grammar.specs.Grammar.{Nonterminal, Reads, Sides, Turned, ReadsSequent}
+use Rattle.dlk_grammar.specs.Erased.{erase, erase_all, ills, lowest}
 use Rattle.dlk_grammar.specs.Readings.{grammar, itself, phrases_in, both_sides, erase_sides, IsTree, IsTreeFault, IsSequentOf, IsSequentFault}
 use Rattle.dlk_machine.proofs.Formed.{Each, formed}
 use Rattle.dlk_machine.proofs.Levels.{form_sort}
 use Rattle.dlk_machine.proofs.ParseLaws.{one_sides_read}
-use Rattle.dlk_machine.proofs.TextLaws.{least_below, one_grammar, goal_ills_below, sequent_ills_below, tree_well_made, tree_not_ill, lexemes_real, sequent_formulas}
+use Rattle.dlk_machine.proofs.TextLaws.{least_below, one_grammar, form_ills_below, sequent_ills_below, tree_well_made, tree_not_ill, lexemes_real, sequent_formulas}
 use Rattle.dlk_parse.specs.Faults.{IsFaultOf}
 use Rattle.dlk_parse.specs.Limits.{AreCalm}
 use Rattle.dlk_parse.specs.Made.{IsWellMade, AreMade}
@@ -36,38 +36,38 @@ use Rattle.dlk_parse.proofs.PhraseParts.{count_is, erase_all_is}
 use Rattle.dlk_parse.proofs.Reports.{beyond, faultless}
 
 -- the least of numbers below a bound
-least_among : (m place : ℕ) (ns : List ℕ) → Each (λ n. n < m) ns → least ns ≡ Some place → place < m
+least_among : (m place : ℕ) (ns : List ℕ) → Each (λ n. n < m) ns → lowest ns ≡ Some place → place < m
 least_among m place [] h e = absurd cc
 least_among m place (n ∷ ns) h e = subst (λ k. k < m) (same_Some (fold min n ns) place e) (least_below m n ns h.0 h.1)
 
 -- a tree
-module _ (goal : Goal) (d : Dots) (tokens : List Token) (code : List Code) where
-  pub tree_places : SaysCode (grammar goal) itself d tokens code → HasPlaces code tokens
+module _ (form : Form) (d : Dots) (tokens : List Token) (code : List Code) where
+  pub tree_places : SaysCode (grammar form) itself d tokens code → HasPlaces code tokens
   tree_places s = record {
     phrases = itself s.said;
     code_is = s.code_is;
-    below = λ place e. least_among (length tokens) place (flat_map ills (itself s.said)) (goal_ills_below goal tokens s.said s.says.reads) e;
+    below = λ place e. least_among (length tokens) place (flat_map ills (itself s.said)) (form_ills_below form tokens s.said s.says.reads) e;
   }
 
-  pub tree_beyond : AreCalm tokens → SaysCode (grammar goal) itself d tokens code → (e : ParseFault) → IsCodeBeyond code tokens e → IsFaultOf (IsTreeFault goal d tokens) e
-  tree_beyond calm s e b = beyond (grammar goal) itself (one_grammar goal) d tokens calm s.said s.says e (b.of_phrases (itself s.said) s.code_is)
+  pub tree_beyond : AreCalm tokens → SaysCode (grammar form) itself d tokens code → (e : ParseFault) → IsCodeBeyond code tokens e → IsFaultOf (IsTreeFault form d tokens) e
+  tree_beyond calm s e b = beyond (grammar form) itself (one_grammar form) d tokens calm s.said s.says e (b.of_phrases (itself s.said) s.code_is)
 
-  pub tree_within : AreCalm tokens → SaysCode (grammar goal) itself d tokens code → IsWithin code → IsReadCode (grammar goal) itself d tokens code
+  pub tree_within : AreCalm tokens → SaysCode (grammar form) itself d tokens code → IsWithin code → IsReadCode (grammar form) itself d tokens code
   tree_within calm s w = record {
     said = s.said;
     says = s.says;
     code_is = s.code_is;
-    no_fault = faultless (grammar goal) itself (one_grammar goal) d tokens calm s.said s.says (w.of_phrases (itself s.said) s.code_is);
+    no_fault = faultless (grammar form) itself (one_grammar form) d tokens calm s.said s.says (w.of_phrases (itself s.said) s.code_is);
   }
 
-  pub tree_read : (s : IsReadCode (grammar goal) itself d tokens code) → IsTree goal d tokens (erase s.said)
+  pub tree_read : (s : IsReadCode (grammar form) itself d tokens code) → IsTree form d tokens (erase s.said)
   tree_read s = record { phrase = s.said; says = s.says; value_is = refl; no_fault = s.no_fault }
 
-  pub tree_code_made : AreTokens tokens → IsReadCode (grammar goal) itself d tokens code → IsWellMade code
+  pub tree_code_made : AreTokens tokens → IsReadCode (grammar form) itself d tokens code → IsWellMade code
   tree_code_made real s = record {
     phrases = itself s.said;
     code_is = s.code_is;
-    well_made = All-cons (λ p. WellMade (erase p)) s.said [] (tree_well_made goal d tokens (erase s.said) real (tree_read s)) (All-nil (λ p. WellMade (erase p)));
+    well_made = All-cons (λ p. WellMade (erase p)) s.said [] (tree_well_made form d tokens (erase s.said) real (tree_read s)) (All-nil (λ p. WellMade (erase p)));
   }
 
 -- a sequent
@@ -101,9 +101,9 @@ module _ {A B : Type 0} (f : A → B) where
   only_id (x ∷ xs) t d e = cc
 
 -- the sort of what was read
-pub sort_read : (goal : Goal) (f : Form) → ((s : List Lexeme) (p : Phrase) → grammar goal s p → Reads f s p) → (d : Dots) (tokens : List Token) (t : Tree) → AreTokens tokens → IsTree goal d tokens t → sort t ≡ form_sort f
-sort_read goal f as_form d tokens t real a =
-    sym (ap sort a.value_is) ∙ (formed (as_form (lexemes tokens) a.phrase a.says.reads) (lexemes_real 0 tokens real.real) (tree_not_ill goal d tokens t a)).sort_is
+pub sort_read : (form : Form) (f : Nonterminal) → ((s : List Lexeme) (p : Phrase) → grammar form s p → Reads f s p) → (d : Dots) (tokens : List Token) (t : Tree) → AreTokens tokens → IsTree form d tokens t → sort t ≡ form_sort f
+sort_read form f as_form d tokens t real a =
+    sym (ap sort a.value_is) ∙ (formed (as_form (lexemes tokens) a.phrase a.says.reads) (lexemes_real 0 tokens real.real) (tree_not_ill form d tokens t a)).sort_is
 
 -- the formulas of both sides
 All-from_map : {A B : Type 0} (P : B → Type 0) (f : A → B) (xs : List A) → All P (map f xs) → All (λ x. P (f x)) xs

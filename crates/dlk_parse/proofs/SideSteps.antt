@@ -1,16 +1,16 @@
 -- What commas, ==> and the end make of the formulas of a sequent.
-use Rattle.std.proofs.Common.{◌≡◌, ◌≢◌, ℕ, Bool, true, false, cond, nat_lt, length, vec_len, List, [], ◌∷◌, ◌++◌, Option, Some, None, Result, Ok, Err, refl, sym, ap, subst, ◌∙◌}
+use Rattle.std.proofs.Common.{◌≡◌, ◌≢◌, ℕ, Bool, true, false, cond, nat_lt, length, vec_len, List, [], ◌∷◌, Option, Some, None, Ok, Err, refl, sym, ap, subst, ◌∙◌}
 use Rattle.std.specs.Bool.{◌==◌}
-use Rattle.dlk_tree.specs.declared.op.Sort.TheVariants.{Term, Formula, Program}
-use Rattle.dlk_grammar.specs.Lexemes.{Lexeme, Comma, Turnstile}
+use Rattle.dlk_tree.specs.declared.op.Sort.TheVariants.{Formula}
+use Rattle.dlk_grammar.specs.Lexemes.{Comma}
 use Rattle.dlk_grammar.specs.Phrases.{Phrase, Phrases, none, snoc}
 use Rattle.dlk_grammar.specs.Grammar.{Sides, Turned}
 use Rattle.dlk_grammar.specs.declared.token.Infix.TheVariants.{Equiv, Imply, Or, And, Equal, NotEqual, AtLeast, Greater, AtMost, Less, Add, Sub, Mul, Div, Pow, Choice}
-use Rattle.dlk_machine.proofs.Machine.{◌>>=◌, Between, By, Next, Prefix, Minus, Bang', Bound, Modal, Part, Left, Before, Inside, Piece, operand_sort, result_sort, prefix_sort, program_sort, is_program, as_sort, wanted, join, reduce, whole, State, Wants, Has, Calls, Bars, BarsName, Binds, Starts, StartsPrime, Opens, OpensName, OpensPrime, WantsItem, ItemName, ItemPrime, ItemBar, ItemBarName, ItemEnds, Invariants, close_top, closing, step, ended}
+use Rattle.dlk_machine.proofs.Machine.{◌>>=◌, Between, By, Next, Part, Left, Before, Inside, Piece, operand_sort, result_sort, prefix_sort, program_sort, is_program, as_sort, wanted, join, reduce, whole, State, Wants, Has, Calls, Bars, BarsName, Binds, Starts, StartsPrime, Opens, OpensName, OpensPrime, WantsItem, ItemName, ItemPrime, ItemBar, ItemBarName, ItemEnds, Invariants, close_top, closing, step, ended}
 use Rattle.dlk_machine.proofs.Found.{piece_kind}
 use Rattle.dlk_machine.proofs.Parse.{or_else}
 use Rattle.dlk_parse.proofs.Agree.{agrees_ok}
-use Rattle.dlk_machine.proofs.Sequents.{Side, LeftSide, RightSide, SequentState, Fresh, Reading, turn, inner, sequent_step, sequent_ended}
+use Rattle.dlk_machine.proofs.Sequents.{Side, LeftSide, RightSide, SequentState, Fresh, Reading, inner, sequent_step, sequent_ended}
 use Rattle.dlk_parse.specs.declared.stop.StepFault.{StepFault}
 use Rattle.dlk_parse.specs.declared.stop.StepFault.TheVariants as fault
 use Rattle.dlk_parse.specs.declared.parts.Part.{Part as OpenPart}

@@ -1,19 +1,19 @@
 -- What the readers of tokens answer, as what the tokens say.
-use Rattle.std.proofs.Common.{◌≡◌, ◌++◌, List, Result, Ok, Err, sym, ap, ◌∙◌}
+use Rattle.std.proofs.Common.{◌≡◌, ◌++◌, List, Ok, Err, sym, ap, ◌∙◌}
 use Rattle.std.specs.Prelude.{flat_map}
 use Rattle.std.specs.Global.{Vec}
 use Rattle.std.proofs.lemmas.Grind.{flat_map-append}
 use Rattle.std.proofs.lemmas.List.{append-nil}
 use Rattle.dlk_grammar.specs.declared.token.Dots.{Dots}
 use Rattle.dlk_grammar.specs.declared.token.Dots.TheVariants.{Refused}
-use Rattle.dlk_grammar.specs.declared.token.Goal.{Goal}
+use Rattle.dlk_grammar.specs.declared.token.Form.{Form}
 use Rattle.dlk_grammar.specs.declared.token.Token.{Token}
 use Rattle.dlk_grammar.specs.Lexemes.{lexemes}
-use Rattle.dlk_grammar.specs.Phrases.{Phrase, Phrases}
+use Rattle.dlk_grammar.specs.Phrases.{Phrases}
 use Rattle.dlk_grammar.specs.Grammar.{Sides, Turned, ReadsSequent}
-use Rattle.dlk_grammar.specs.Readings.{grammar, itself, both_sides, phrases_in}
+use Rattle.dlk_grammar.specs.Readings.{grammar, itself, phrases_in}
 use Rattle.dlk_machine.proofs.Parse.{parse}
-use Rattle.dlk_machine.proofs.ParseLaws.{machine_of, goal_read_says, goal_fault_says_nothing, sequent_read_says, sequent_fault_says_nothing}
+use Rattle.dlk_machine.proofs.ParseLaws.{machine_of, form_read_says, form_fault_says_nothing, sequent_read_says, sequent_fault_says_nothing}
 use Rattle.dlk_machine.proofs.Sequents.{sequent_reader}
 use Rattle.dlk_parse.specs.Codes.{postfix, postfix_all}
 use Rattle.dlk_parse.specs.Faults.{IsFaultOf}
@@ -21,22 +21,21 @@ use Rattle.dlk_parse.specs.Readers.{IsParsed, IsCodeOf, Answers}
 use Rattle.dlk_parse.specs.Said.{SaysCode, IsNoText, SaysSides}
 use Rattle.dlk_parse.specs.Stops.{of_stop}
 use Rattle.dlk_parse.specs.declared.code.Code.{Code}
-use Rattle.dlk_parse.specs.declared.said.SaidSides.{SaidSides}
 use Rattle.dlk_parse.specs.declared.sides.SidesCode.{SidesCode}
 use Rattle.dlk_parse.specs.declared.stop.Stop.{Stop}
 use Rattle.dlk_parse.specs.declared.stop.Stop.TheVariants.{Memory, Syntax}
 use Rattle.dlk_parse.proofs.PhraseParts.{postfix_all_is}
 
-pub tree_said : (d : Dots) (wanted : Goal) (tokens : List Token) (code : Vec Code) → IsParsed (λ (v : Vec Code) p. v.items ≡ postfix p) code (parse d (machine_of wanted) (lexemes tokens)) → SaysCode (grammar wanted) itself d tokens code.items
+pub tree_said : (d : Dots) (wanted : Form) (tokens : List Token) (code : Vec Code) → IsParsed (λ (v : Vec Code) p. v.items ≡ postfix p) code (parse d (machine_of wanted) (lexemes tokens)) → SaysCode (grammar wanted) itself d tokens code.items
 tree_said d wanted tokens code h = record {
   said = h.said;
-  says = goal_read_says d wanted (lexemes tokens) h.said h.parsed;
+  says = form_read_says d wanted (lexemes tokens) h.said h.parsed;
   code_is = h.shown ∙ sym (append-nil (postfix h.said));
 }
 
-pub tree_unsaid : (d : Dots) (wanted : Goal) (tokens : List Token) (stop : Stop) → Answers {X = Vec Code} (λ (v : Vec Code) p. v.items ≡ postfix p) (parse d (machine_of wanted) (lexemes tokens)) (Err stop) → IsFaultOf (IsNoText (grammar wanted) d tokens) (of_stop stop)
+pub tree_unsaid : (d : Dots) (wanted : Form) (tokens : List Token) (stop : Stop) → Answers {X = Vec Code} (λ (v : Vec Code) p. v.items ≡ postfix p) (parse d (machine_of wanted) (lexemes tokens)) (Err stop) → IsFaultOf (IsNoText (grammar wanted) d tokens) (of_stop stop)
 tree_unsaid d wanted tokens Memory h = tt
-tree_unsaid d wanted tokens (Syntax place) h = goal_fault_says_nothing d wanted (lexemes tokens) place h
+tree_unsaid d wanted tokens (Syntax place) h = form_fault_says_nothing d wanted (lexemes tokens) place h
 
 both : (l m : Phrases) → postfix_all l ++ postfix_all m ≡ flat_map postfix (phrases_in l ++ phrases_in m)
 both l m = ap (λ (c : List Code). c ++ postfix_all m) (postfix_all_is l) ∙ ap (λ (c : List Code). flat_map postfix (phrases_in l) ++ c) (postfix_all_is m) ∙ sym (flat_map-append postfix (phrases_in l) (phrases_in m))

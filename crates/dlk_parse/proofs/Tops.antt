@@ -1,5 +1,5 @@
 -- The innermost open part stands at the end of a reader's list.
-use Rattle.std.proofs.Common.{◌≡◌, ℕ, ◌-◌, ◌<◌, ◌≤◌, Bool, true, false, nat_lt, List, [], ◌∷◌, ◌++◌, length, get_or, take, Option, Some, None, refl, sym, ap, ◌∙◌, length-append, arith}
+use Rattle.std.proofs.Common.{◌≡◌, ℕ, ◌-◌, ◌<◌, ◌≤◌, List, [], ◌∷◌, ◌++◌, length, get_or, take, Option, Some, None, refl, ap, ◌∙◌, length-append, arith}
 use Rattle.std.specs.List.{slice_get}
 use Rattle.std.proofs.lemmas.Bool.{le-ltb, lt-ltb}
 use Rattle.std.proofs.lemmas.Option.{slice_get-get_or}
@@ -7,7 +7,7 @@ use Rattle.std.proofs.Math.Seq.{get_or-append_seam, take-append_seam, take-nil}
 use Rattle.dlk_tree.specs.declared.op.Sort.{Sort}
 use Rattle.dlk_parse.specs.declared.parts.Part.{Part as OpenPart}
 use Rattle.dlk_machine.proofs.Machine.{Part, wanted, place}
-use Rattle.dlk_parse.specs.Shows.{shape, shapes, Pops, TakesIf, TakesAbove}
+use Rattle.dlk_parse.specs.Shows.{shape, shapes, Pops, TakesAbove}
 
 abbrev pub top : List Part → Option OpenPart
 top [] = None

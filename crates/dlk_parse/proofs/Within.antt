@@ -9,7 +9,7 @@ use Rattle.std.proofs.lemmas.List.Elements.{All-nil, All-cons}
 use Rattle.dlk_tree.specs.Trees.{Tree, size, depth}
 use Rattle.dlk_grammar.specs.declared.token.Token.{Token}
 use Rattle.dlk_grammar.specs.Phrases.{Phrase}
-use Rattle.dlk_grammar.specs.Erased.{erase, ills, least}
+use Rattle.dlk_grammar.specs.Erased.{erase, ills, lowest}
 use Rattle.dlk_grammar.specs.Readings.{TokenAt, FirstPast, most_nodes, greatest_depth}
 use Rattle.dlk_parse.specs.Measures.{measure, AreMeasures}
 use Rattle.dlk_parse.specs.Measuring.{lesser}
@@ -18,14 +18,14 @@ use Rattle.dlk_parse.specs.Said.{HasPlaces}
 use Rattle.dlk_parse.specs.declared.code.Code.{Code}
 use Rattle.dlk_parse.specs.declared.measures.Measure.{Measure}
 use Rattle.dlk_parse.specs.declared.fault.ParseFault.TheVariants as parse
-use Rattle.dlk_parse.proofs.Measuring.{least-append, lesser_none, lesser_assoc}
+use Rattle.dlk_parse.proofs.Measuring.{lowest-append, lesser_none, lesser_assoc}
 
-ills_from : (ps : List Phrase) (o : Option ℕ) → fold lesser o (map (λ m. m.ill) (map measure ps)) ≡ lesser o (least (flat_map ills ps))
+ills_from : (ps : List Phrase) (o : Option ℕ) → fold lesser o (map (λ m. m.ill) (map measure ps)) ≡ lesser o (lowest (flat_map ills ps))
 ills_from [] o = sym (lesser_none o)
-ills_from (p ∷ ps) o = ills_from ps (lesser o (least (ills p))) ∙ lesser_assoc o (least (ills p)) (least (flat_map ills ps)) ∙ ap (lesser o) (sym (least-append (ills p) (flat_map ills ps)))
+ills_from (p ∷ ps) o = ills_from ps (lesser o (lowest (ills p))) ∙ lesser_assoc o (lowest (ills p)) (lowest (flat_map ills ps)) ∙ ap (lesser o) (sym (lowest-append (ills p) (flat_map ills ps)))
 
 -- the least place of ill shape is that of the phrases
-pub least_ill_is : (ps : List Phrase) → least_ill (map measure ps) ≡ least (flat_map ills ps)
+pub least_ill_is : (ps : List Phrase) → least_ill (map measure ps) ≡ lowest (flat_map ills ps)
 least_ill_is ps = ills_from ps None
 
 -- numbers that stay at the greatest of 32 bits
@@ -87,7 +87,7 @@ module _ (ms : List Measure) where
   ill_is tokens place at e t = record { of_phrases = λ ps f. (place, sym (least_ill_is ps) ∙ ap least_ill (sym f) ∙ e, t) }
 
   module _ (fine : least_ill ms ≡ None) where
-    shape : (ps : List Phrase) → ms ≡ map measure ps → least (flat_map ills ps) ≡ None
+    shape : (ps : List Phrase) → ms ≡ map measure ps → lowest (flat_map ills ps) ≡ None
     shape ps f = sym (least_ill_is ps) ∙ ap least_ill (sym f) ∙ fine
 
     sizes : (ps : List Phrase) → ms ≡ map measure ps → (o : Option ℕ) → past most_nodes (map (λ m. m.size) ms) ≡ o → past most_nodes (map (λ t. min (size t) 4294967295) (map erase ps)) ≡ o

@@ -3,7 +3,7 @@ use Rattle.std.specs.Prelude.{List, [], ◌∷◌, ◌++◌, true, false}
 use Rattle.dlk_tree.specs.declared.op.Kind.TheVariants.{UnitFunc, UnitPred, Quant, Prog}
 use Rattle.dlk_tree.specs.declared.op.Op.TheVariants as op
 use Rattle.dlk_grammar.specs.Phrases.{Everywhere, Phrase, Literal, Argument, Variable, Apply, Negate, Diff, Truth, Falsity, Hole, Holds, Context, Not, DiffF, Forall, Exists, Box, Dia, Binary, Const, Assign, Test, Then, Loop, System, Noted, Phrases, none, snoc, Call, Any, Evolve, Flow, Items, no_items, add}
-use Rattle.dlk_grammar.specs.Erased.{symbol, items_of, infix_op, count}
+use Rattle.dlk_grammar.specs.Erased.{symbol, ode_items, infix_op, count}
 use Rattle.dlk_parse.specs.declared.code.Code.{Code}
 use Rattle.dlk_parse.specs.declared.code.Code.TheVariants as code
 
@@ -34,7 +34,7 @@ abbrev mutual
   postfix (Test a) = postfix a ++ code.Operator op.Test ∷ []
   postfix (Then p q) = postfix p ++ (postfix q ++ code.Operator op.Seq ∷ [])
   postfix (Loop p) = postfix p ++ code.Operator op.Loop ∷ []
-  postfix (System n l a) = postfix_terms l ++ (postfix a ++ code.System n (items_of l) ∷ [])
+  postfix (System n l a) = postfix_terms l ++ (postfix a ++ code.System n (ode_items l) ∷ [])
   postfix (Noted p l) = postfix p ++ (code.Notes ∷ (postfix_all l ++ code.EndNotes (count l) ∷ []))
 
   pub postfix_all : Phrases → List Code

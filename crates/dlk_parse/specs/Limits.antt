@@ -4,7 +4,7 @@ use Rattle.dlk_tree.specs.Trees.{size, depth}
 use Rattle.dlk_grammar.specs.declared.token.Token.{Token}
 use Rattle.dlk_grammar.specs.declared.token.TokenKind.{TokenKind}
 use Rattle.dlk_grammar.specs.Phrases.{Phrase}
-use Rattle.dlk_grammar.specs.Erased.{erase, ills, least}
+use Rattle.dlk_grammar.specs.Erased.{erase, ills, lowest}
 use Rattle.dlk_grammar.specs.Readings.{FirstAt, IsLong, OpensTooDeep, TokenAt, FirstPast, most_nodes, greatest_depth}
 use Rattle.dlk_parse.specs.Measures.{measure}
 use Rattle.dlk_parse.specs.Measuring.{lesser}
@@ -27,7 +27,7 @@ past limit (n ∷ ns) = if nat_lt limit n then Some n else past limit ns
 
 -- nothing speaks against read phrases
 pub record AreWithin (ps : List Phrase) : Type 0 where
-  pub shape : least (flat_map ills ps) ≡ None
+  pub shape : lowest (flat_map ills ps) ≡ None
   pub size : All (λ t. size t ≤ most_nodes) (map erase ps)
   pub depth : All (λ t. depth t ≤ greatest_depth) (map erase ps)
 
@@ -36,9 +36,9 @@ abbrev pub IsBeyond : List Phrase → List Token → ParseFault → Type 0
 IsBeyond ps tokens (parse.Literal at) = ⊥
 IsBeyond ps tokens (parse.Nesting at) = ⊥
 IsBeyond ps tokens parse.Syntax = ⊥
-IsBeyond ps tokens (parse.Shape at) = (place : ℕ) × (least (flat_map ills ps) ≡ Some place) × TokenAt tokens place at
-IsBeyond ps tokens (parse.TooBig n) = (least (flat_map ills ps) ≡ None) × FirstPast size most_nodes (map erase ps) n
-IsBeyond ps tokens (parse.TooDeep n) = (least (flat_map ills ps) ≡ None) × All (λ t. size t ≤ most_nodes) (map erase ps) × FirstPast depth greatest_depth (map erase ps) n
+IsBeyond ps tokens (parse.Shape at) = (place : ℕ) × (lowest (flat_map ills ps) ≡ Some place) × TokenAt tokens place at
+IsBeyond ps tokens (parse.TooBig n) = (lowest (flat_map ills ps) ≡ None) × FirstPast size most_nodes (map erase ps) n
+IsBeyond ps tokens (parse.TooDeep n) = (lowest (flat_map ills ps) ≡ None) × All (λ t. size t ≤ most_nodes) (map erase ps) × FirstPast depth greatest_depth (map erase ps) n
 IsBeyond ps tokens parse.Memory = Unit {0}
 
 -- wherever the measures are those of phrases, this is what is known of them

@@ -5,8 +5,8 @@ use Rattle.dlk_tree.specs.declared.op.Sort.{Sort}
 use Rattle.dlk_tree.specs.declared.op.Sort.TheVariants.{Term, Formula, Program}
 use Rattle.dlk_grammar.specs.declared.token.Dots.{Dots}
 use Rattle.dlk_grammar.specs.declared.token.Dots.TheVariants.{Refused}
-use Rattle.dlk_grammar.specs.declared.token.Goal.{Goal}
-use Rattle.dlk_grammar.specs.declared.token.Goal.TheVariants as goal
+use Rattle.dlk_grammar.specs.declared.token.Form.{Form}
+use Rattle.dlk_grammar.specs.declared.token.Form.TheVariants as form
 use Rattle.dlk_grammar.specs.declared.token.Token.{Token}
 use Rattle.dlk_grammar.specs.Lexemes.{Lexeme, lexemes}
 use Rattle.dlk_grammar.specs.Phrases.{Phrase, Phrases, none, snoc}
@@ -14,11 +14,11 @@ use Rattle.dlk_grammar.specs.Erased.{count}
 use Rattle.dlk_grammar.specs.Grammar.{Sides, Turned}
 use Rattle.dlk_machine.proofs.Machine.{◌>>=◌, State, ended}
 use Rattle.dlk_machine.proofs.Parse.{parse_from, parse}
-use Rattle.dlk_machine.proofs.ParseLaws.{GoalState, machine_of}
+use Rattle.dlk_machine.proofs.ParseLaws.{FormState, machine_of}
 use Rattle.dlk_machine.proofs.Expressions.{ExpressionState, Unread, FirstName, FirstPrime, AsFormula, AsProgram}
 use Rattle.dlk_machine.proofs.Sequents.{Side, LeftSide, RightSide, SequentState, Fresh, Reading, sequent_reader}
 use Rattle.dlk_parse.specs.Codes.{postfix, postfix_all}
-use Rattle.dlk_parse.specs.Shows.{IsOpen, IsWhole, Shows}
+use Rattle.dlk_parse.specs.Shows.{IsOpen, Shows}
 use Rattle.dlk_parse.specs.declared.code.Code.{Code}
 use Rattle.dlk_parse.specs.declared.stop.StepFault.{StepFault}
 use Rattle.dlk_parse.specs.declared.stop.StepFault.TheVariants as step
@@ -57,11 +57,11 @@ ShowsExpression k p (FirstPrime x) = ShowsFirst k p (place.FirstPrime x)
 ShowsExpression k p (AsFormula x) = ShowsEither k p x
 ShowsExpression k p (AsProgram x) = ShowsOf Program k p x
 
-abbrev pub ShowsTree : (wanted : Goal) → Stack → Place → GoalState wanted → Type 0
-ShowsTree goal.Formula k p x = ShowsOf Formula k p x
-ShowsTree goal.Term k p x = ShowsOf Term k p x
-ShowsTree goal.Program k p x = ShowsOf Program k p x
-ShowsTree goal.Expression k p x = ShowsExpression k p x
+abbrev pub ShowsTree : (wanted : Form) → Stack → Place → FormState wanted → Type 0
+ShowsTree form.Formula k p x = ShowsOf Formula k p x
+ShowsTree form.Term k p x = ShowsOf Term k p x
+ShowsTree form.Program k p x = ShowsOf Program k p x
+ShowsTree form.Expression k p x = ShowsExpression k p x
 
 -- the formulas of the left side, when the right one is read
 abbrev pub left_number : Side → Option ℕ
@@ -120,14 +120,14 @@ both_of (RightSide l) m = Some (Turned l m)
 abbrev pub IsCodeOf : SidesCode → Sides → Type 0
 IsCodeOf c (Turned l m) = IsSidesOf c l m
 
-abbrev pub tree_start : (wanted : Goal) → GoalState wanted
+abbrev pub tree_start : (wanted : Form) → FormState wanted
 tree_start wanted = (machine_of wanted).start
 
-abbrev pub tree_step : (wanted : Goal) → GoalState wanted → Lexeme → Option (GoalState wanted)
+abbrev pub tree_step : (wanted : Form) → FormState wanted → Lexeme → Option (FormState wanted)
 tree_step wanted = (machine_of wanted).step
 
 -- one more lexeme was read
-pub record Reaches (wanted : Goal) (k : Stack) (n : ℕ) (new : Reached) (x : GoalState wanted) : Type 0 where
+pub record Reaches (wanted : Form) (k : Stack) (n : ℕ) (new : Reached) (x : FormState wanted) : Type 0 where
   pub shows : ShowsTree wanted k new.place x
   pub count : new.count ≡ n + 1
 
@@ -136,8 +136,8 @@ pub record SidesReach (k : SidesReader) (n : ℕ) (new : SidesReached) (x : Sequ
   pub count : new.count ≡ n + 1
 
 -- What is left to read gives what all gives.
-pub record GoesOn (d : Dots) (wanted : Goal) (k : Stack) (r : Result Phrase ℕ) (reached : Reached) (s : List Lexeme) : Type 0 where
-  pub state : GoalState wanted
+pub record GoesOn (d : Dots) (wanted : Form) (k : Stack) (r : Result Phrase ℕ) (reached : Reached) (s : List Lexeme) : Type 0 where
+  pub state : FormState wanted
   pub shows : ShowsTree wanted k reached.place state
   pub reads : parse_from d (machine_of wanted) state reached.count s ≡ r
 
@@ -169,7 +169,7 @@ Answers shows r (Err Memory) = Unit {0}
 Answers shows r (Err (Syntax place)) = r ≡ Err place
 
 -- the operators of the one tree of the tokens, or the number of lexemes before the first at which no text goes on
-abbrev pub ReadsAs : Dots → Goal → List Token → Result (Vec Code) Stop → Type 0
+abbrev pub ReadsAs : Dots → Form → List Token → Result (Vec Code) Stop → Type 0
 ReadsAs d wanted tokens result = Answers (λ (code : Vec Code) p. code.items ≡ postfix p) (parse d (machine_of wanted) (lexemes tokens)) result
 
 -- the same of the sides of a sequent, in which dots are refused

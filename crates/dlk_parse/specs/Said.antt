@@ -6,8 +6,8 @@ use Rattle.dlk_grammar.specs.declared.token.Dots.TheVariants.{Refused}
 use Rattle.dlk_grammar.specs.Lexemes.{Lexeme, lexemes}
 use Rattle.dlk_grammar.specs.Phrases.{Phrase}
 use Rattle.dlk_grammar.specs.Grammar.{Sides, Turned, ReadsSequent}
-use Rattle.dlk_grammar.specs.Erased.{ills, least, count}
-use Rattle.dlk_grammar.specs.Readings.{Says, ReadFault, Literal, Nesting, Syntax, Shape, TooBig, TooDeep, Against, both_sides}
+use Rattle.dlk_grammar.specs.Erased.{ills, lowest, count}
+use Rattle.dlk_grammar.specs.Readings.{Says, ReadFault, Literal, Nesting, Syntax, Shape, TooBig, TooDeep, SpeaksAgainst, both_sides}
 use Rattle.dlk_parse.specs.Codes.{postfix}
 use Rattle.dlk_parse.specs.Limits.{AreWithin, IsBeyond}
 use Rattle.dlk_parse.specs.declared.code.Code.{Code}
@@ -25,7 +25,7 @@ pub record IsReadCode {P : Type 0} (G : List Lexeme → P → Type 0) (parts : P
   pub said : P
   pub says : Says d G (lexemes tokens) said
   pub code_is : code ≡ flat_map postfix (parts said)
-  pub no_fault : (why : ReadFault) → ¬ Against G parts d tokens why
+  pub no_fault : (why : ReadFault) → ¬ SpeaksAgainst G parts d tokens why
 
 -- the tokens are no text of the form
 abbrev pub IsNoText : {P : Type 0} → (List Lexeme → P → Type 0) → Dots → List Token → ReadFault → Type 0
@@ -40,7 +40,7 @@ IsNoText G d tokens (TooDeep n) = ⊥
 pub record HasPlaces (code : List Code) (tokens : List Token) : Type 0 where
   pub phrases : List Phrase
   pub code_is : code ≡ flat_map postfix phrases
-  pub below : (place : ℕ) → least (flat_map ills phrases) ≡ Some place → place < length tokens
+  pub below : (place : ℕ) → lowest (flat_map ills phrases) ≡ Some place → place < length tokens
 
 -- wherever the code is that of phrases, they are within the limits
 pub record IsWithin (code : List Code) : Type 0 where
@@ -67,4 +67,4 @@ pub record AreReadSides (tokens : List Token) (s : SaidSides) : Type 0 where
   pub says : Says Refused ReadsSequent (lexemes tokens) said
   pub code_is : s.code.items ≡ flat_map postfix (both_sides said)
   pub left_is : s.left ≡ left_count said
-  pub no_fault : (why : ReadFault) → ¬ Against ReadsSequent both_sides Refused tokens why
+  pub no_fault : (why : ReadFault) → ¬ SpeaksAgainst ReadsSequent both_sides Refused tokens why

@@ -1,14 +1,14 @@
 -- How a reader's lists show the machine's states: the open parts without their phrases, and the operators of all phrases in order.
-use Rattle.std.specs.Prelude.{◌≡◌, ℕ, zero, suc, ◌+◌, Bool, true, false, nat_lt, List, [], ◌∷◌, ◌++◌, Option, Some, None, Result, Ok, Err}
+use Rattle.std.specs.Prelude.{◌≡◌, ℕ, zero, suc, Bool, true, false, nat_lt, List, [], ◌∷◌, ◌++◌, Option, Some, None, Result, Ok, Err}
 use Rattle.dlk_tree.specs.declared.op.Sort.{Sort}
-use Rattle.dlk_tree.specs.declared.op.Sort.TheVariants.{Term, Formula, Program}
+use Rattle.dlk_tree.specs.declared.op.Sort.TheVariants.{Term, Formula}
 use Rattle.dlk_tree.specs.declared.op.Kind.TheVariants.{UnitFunc, UnitPred}
 use Rattle.dlk_tree.specs.declared.op.Op.{Op}
 use Rattle.dlk_tree.specs.declared.op.Op.TheVariants as op
-use Rattle.dlk_grammar.specs.Erased.{infix_op, items_of, taboo, count}
+use Rattle.dlk_grammar.specs.Erased.{infix_op, ode_items, taboo, count}
 use Rattle.dlk_grammar.specs.declared.token.Infix.TheVariants.{And, Greater}
 use Rattle.dlk_grammar.specs.Lexemes.{Word, Lexeme, Name, Number, Dot, Blank, True, False, All, Exist, Invariant, RoundBars, RoundBar, BarRound, BraceBar, BarBrace, Open, Close, OpenBox, CloseBox, OpenBrace, CloseBrace, Bang, Prime, Gets, Query, Semi, Comma, Turnstile, Becomes, Swaps, Op as Operator}
-use Rattle.dlk_grammar.specs.Phrases.{Space, Everywhere, Except, Phrase, Phrases, Variable, Apply, Holds, Head, Call, Any, Item, Items}
+use Rattle.dlk_grammar.specs.Phrases.{Space, Everywhere, Except, Phrase, Variable, Apply, Holds, Head, Call, Any, Items}
 use Rattle.dlk_machine.proofs.Machine.{◌>>=◌, when, as_sort, operand_sort, result_sort, fits, Between, By, Next, Quantifier, ForAll, ForSome, Modality, InBox, InDia, Prefix, Minus, Bang', Bound, Modal, Holder, Round, Args, InContext, In, InBrace, Assigns, Tests, Evolves, Domain, Notes, Part, Left, Before, Inside, Tail, Done, Bare, Grouped, Braced, Starred, Annotated, Piece, Is, Symbol, State, Wants, Has, Calls, Bars, BarsName, Binds, Starts, StartsPrime, Opens, OpensName, OpensPrime, WantsItem, ItemName, ItemPrime, ItemBar, ItemBarName, ItemEnds, Invariants, wanted}
 use Rattle.dlk_parse.specs.Codes.{postfix, postfix_all, postfix_terms}
 use Rattle.dlk_parse.specs.declared.code.Code.{Code}
@@ -30,7 +30,6 @@ use Rattle.dlk_parse.specs.declared.parts.Holder.{Holder as HolderPart}
 use Rattle.dlk_parse.specs.declared.parts.Holder.TheVariants as holder
 use Rattle.dlk_parse.specs.declared.parts.Part.{Part as OpenPart}
 use Rattle.dlk_parse.specs.declared.parts.Part.TheVariants as part
-use Rattle.dlk_parse.specs.declared.parts.Tail.{Tail as TailPart}
 use Rattle.dlk_parse.specs.declared.parts.Tail.TheVariants as tail
 use Rattle.dlk_parse.specs.declared.parts.Head.{Head as HeadPart}
 use Rattle.dlk_parse.specs.declared.parts.Head.TheVariants as head
@@ -107,7 +106,7 @@ prefix_of (Bound q x) = prefix.Bound (quantifier_of q) x
 prefix_of (Modal m p) = prefix.Modal (modality_of m)
 
 abbrev pub equations_of : ℕ → Items → Equations
-equations_of n l = record { at = n; items = items_of l }
+equations_of n l = record { at = n; items = ode_items l }
 
 -- the variables on which a symbol may depend
 abbrev pub space_of : Option Word → Space

@@ -24,7 +24,7 @@ mod stop;
 mod tables;
 mod texts;
 
-pub use dlk_grammar::{Dots, Goal};
+pub use dlk_grammar::{Dots, Form};
 pub use fault::{ParseFault, TextFault};
 pub use readers::{expression, formula, program, sequent, term};
 pub use texts::{read_expression, read_formula, read_sequent};

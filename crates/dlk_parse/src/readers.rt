@@ -3,7 +3,7 @@ ghost use Rattle.std.specs.Prelude.{◌≡◌, IfOk, IfErr};
 ghost use Rattle.dlk_tree.specs.Trees.{sort};
 ghost use Rattle.dlk_tree.specs.declared.op.Sort.TheVariants as sort_of;
 ghost use Rattle.dlk_calculus.specs.Sequents.{IsSequent};
-ghost use Rattle.dlk_grammar.specs.declared.token.Goal.TheVariants as goal_of;
+ghost use Rattle.dlk_grammar.specs.declared.token.Form.TheVariants as form_of;
 ghost use Rattle.dlk_grammar.specs.declared.token.Dots.TheVariants.{Refused};
 ghost use Rattle.dlk_grammar.specs.Grammar.{ReadsSequent};
 ghost use Rattle.dlk_grammar.specs.RealTokens.{AreTokens};
@@ -18,7 +18,7 @@ use crate::fault::ParseFault;
 use crate::limits::{check_code, check_tokens};
 use crate::making::make_all;
 use crate::said::{SaidSides, said_sides, said_tree};
-use dlk_grammar::{Dots, Goal, Token};
+use dlk_grammar::{Dots, Form, Token};
 use dlk_sequent::{Listed, Sequent};
 use dlk_store::{Id, Store};
 use std::alloc::Global;
@@ -26,15 +26,15 @@ use std::alloc::Global;
 /// The code of the tree that the tokens are a text of.
 fn tree_code(
     alloc: Global,
-    goal: Goal,
+    form: Form,
     tokens: &[Token],
     dots: Dots,
 ) -> Result<Vec<Code>, ParseFault>
-    ensures read { IfOk result (λ v. IsReadCode (grammar goal) itself dots tokens.now v.items) }
-    ensures fault { IfErr result (IsFaultOf (IsTreeFault goal dots tokens.now)) }
+    ensures read { IfOk result (λ v. IsReadCode (grammar form) itself dots tokens.now v.items) }
+    ensures fault { IfErr result (IsFaultOf (IsTreeFault form dots tokens.now)) }
 {
     check_tokens(tokens)?;
-    let code = said_tree(alloc, goal, dots, tokens)?;
+    let code = said_tree(alloc, form, dots, tokens)?;
     check_code(alloc, tokens, code.as_slice())?;
     Ok(code)
 }
@@ -53,19 +53,19 @@ fn sides_code(alloc: Global, tokens: &[Token]) -> Result<SaidSides, ParseFault>
 /// The tree that the tokens are a text of.
 fn read<S: Store>(
     alloc: Global,
-    goal: Goal,
+    form: Form,
     tokens: &[Token],
     dots: Dots,
     store: &mut S,
 ) -> Result<Id, ParseFault>
     requires { AreTokens tokens.now }
-    ensures found { IfOk result (λ id. IsTree goal dots tokens.now (tree (S.trees store.new) id)) }
+    ensures found { IfOk result (λ id. IsTree form dots tokens.now (tree (S.trees store.new) id)) }
     ensures known { IfOk result (IsId (S.trees store.new)) }
-    ensures fault { IfErr result (IsFaultOf (IsTreeFault goal dots tokens.now)) }
+    ensures fault { IfErr result (IsFaultOf (IsTreeFault form dots tokens.now)) }
     ensures unmade { IfErr result (UnlessMemory (store.new ≡ store.old)) }
     ensures grows { S.grows store.old store.new }
 {
-    let code = tree_code(alloc, goal, tokens, dots)?;
+    let code = tree_code(alloc, form, tokens, dots)?;
     let ids = make_all(alloc, code, store)?;
     Ok(ids[0])
 }
@@ -86,14 +86,14 @@ pub fn formula<S: Store>(
     store: &mut S,
 ) -> Result<Id, ParseFault>
     requires { AreTokens tokens.now }
-    ensures found { IfOk result (λ id. IsTree goal_of.Formula dots tokens.now (tree (S.trees store.new) id)) }
+    ensures found { IfOk result (λ id. IsTree form_of.Formula dots tokens.now (tree (S.trees store.new) id)) }
     ensures known { IfOk result (IsId (S.trees store.new)) }
     ensures sort { IfOk result (λ id. sort (tree (S.trees store.new) id) ≡ sort_of.Formula) }
-    ensures fault { IfErr result (IsFaultOf (IsTreeFault goal_of.Formula dots tokens.now)) }
+    ensures fault { IfErr result (IsFaultOf (IsTreeFault form_of.Formula dots tokens.now)) }
     ensures unmade { IfErr result (UnlessMemory (store.new ≡ store.old)) }
     ensures grows { S.grows store.old store.new }
 {
-    read(alloc, Goal::Formula, tokens, dots, store)
+    read(alloc, Form::Formula, tokens, dots, store)
 }
 
 /// The term that the tokens are a text of. The tokens and the errors are those of `formula`.
@@ -104,14 +104,14 @@ pub fn term<S: Store>(
     store: &mut S,
 ) -> Result<Id, ParseFault>
     requires { AreTokens tokens.now }
-    ensures found { IfOk result (λ id. IsTree goal_of.Term dots tokens.now (tree (S.trees store.new) id)) }
+    ensures found { IfOk result (λ id. IsTree form_of.Term dots tokens.now (tree (S.trees store.new) id)) }
     ensures known { IfOk result (IsId (S.trees store.new)) }
     ensures sort { IfOk result (λ id. sort (tree (S.trees store.new) id) ≡ sort_of.Term) }
-    ensures fault { IfErr result (IsFaultOf (IsTreeFault goal_of.Term dots tokens.now)) }
+    ensures fault { IfErr result (IsFaultOf (IsTreeFault form_of.Term dots tokens.now)) }
     ensures unmade { IfErr result (UnlessMemory (store.new ≡ store.old)) }
     ensures grows { S.grows store.old store.new }
 {
-    read(alloc, Goal::Term, tokens, dots, store)
+    read(alloc, Form::Term, tokens, dots, store)
 }
 
 /// The program that the tokens are a text of. The tokens and the errors are those of `formula`.
@@ -122,14 +122,14 @@ pub fn program<S: Store>(
     store: &mut S,
 ) -> Result<Id, ParseFault>
     requires { AreTokens tokens.now }
-    ensures found { IfOk result (λ id. IsTree goal_of.Program dots tokens.now (tree (S.trees store.new) id)) }
+    ensures found { IfOk result (λ id. IsTree form_of.Program dots tokens.now (tree (S.trees store.new) id)) }
     ensures known { IfOk result (IsId (S.trees store.new)) }
     ensures sort { IfOk result (λ id. sort (tree (S.trees store.new) id) ≡ sort_of.Program) }
-    ensures fault { IfErr result (IsFaultOf (IsTreeFault goal_of.Program dots tokens.now)) }
+    ensures fault { IfErr result (IsFaultOf (IsTreeFault form_of.Program dots tokens.now)) }
     ensures unmade { IfErr result (UnlessMemory (store.new ≡ store.old)) }
     ensures grows { S.grows store.old store.new }
 {
-    read(alloc, Goal::Program, tokens, dots, store)
+    read(alloc, Form::Program, tokens, dots, store)
 }
 
 /// The formula, the program, or the term that is no formula, of which the tokens are a text. The tokens and the errors
@@ -141,13 +141,13 @@ pub fn expression<S: Store>(
     store: &mut S,
 ) -> Result<Id, ParseFault>
     requires { AreTokens tokens.now }
-    ensures found { IfOk result (λ id. IsTree goal_of.Expression dots tokens.now (tree (S.trees store.new) id)) }
+    ensures found { IfOk result (λ id. IsTree form_of.Expression dots tokens.now (tree (S.trees store.new) id)) }
     ensures known { IfOk result (IsId (S.trees store.new)) }
-    ensures fault { IfErr result (IsFaultOf (IsTreeFault goal_of.Expression dots tokens.now)) }
+    ensures fault { IfErr result (IsFaultOf (IsTreeFault form_of.Expression dots tokens.now)) }
     ensures unmade { IfErr result (UnlessMemory (store.new ≡ store.old)) }
     ensures grows { S.grows store.old store.new }
 {
-    read(alloc, Goal::Expression, tokens, dots, store)
+    read(alloc, Form::Expression, tokens, dots, store)
 }
 
 /// The sequent that the tokens are a text of: formulas joined by `,`, then `==>`, then formulas joined by `,`. Argument

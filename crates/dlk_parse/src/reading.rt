@@ -1,6 +1,6 @@
 //! Reads tokens.
 ghost use Rattle.std.specs.Prelude.{◌≡◌, ◌++◌, ℕ, [], List, Result as TheResult};
-ghost use Rattle.dlk_grammar.specs.declared.token.Goal.{Goal as TheGoal};
+ghost use Rattle.dlk_grammar.specs.declared.token.Form.{Form as TheForm};
 ghost use Rattle.dlk_grammar.specs.declared.token.Dots.TheVariants.{Refused};
 ghost use Rattle.dlk_grammar.specs.Grammar.{Sides};
 ghost use Rattle.dlk_grammar.specs.Lexemes.{Lexeme as TheLexeme, lexeme_of};
@@ -8,7 +8,7 @@ ghost use Rattle.dlk_grammar.specs.Phrases.{Phrase};
 ghost use Rattle.dlk_grammar.specs.Readings.{permits};
 ghost use Rattle.dlk_machine.proofs.Machine.{when};
 ghost use Rattle.dlk_machine.proofs.Sequents.{SequentState, sequent_step};
-ghost use Rattle.dlk_machine.proofs.ParseLaws.{GoalState};
+ghost use Rattle.dlk_machine.proofs.ParseLaws.{FormState};
 ghost use Rattle.dlk_parse.specs.declared.stack.Stack.{Stack as TheStack};
 ghost use Rattle.dlk_parse.specs.Shows.{seen, Agrees, IsOpen};
 ghost use Rattle.dlk_parse.specs.Readers.{ShowsTree, ShowsSides, tree_start, tree_step, stop_of, Reaches, SidesReach, GoesOn, GoesOnSides, Advances, ReadsAs, ReadsAsSides};
@@ -20,7 +20,7 @@ use crate::parts::Mode;
 use crate::sides::{SidesCode, SidesReader};
 use crate::stack::{Stack, one_more};
 use crate::stop::{StepFault, Stop};
-use dlk_grammar::{Dots, Goal, Token};
+use dlk_grammar::{Dots, Form, Token};
 use dlk_tree::Sort;
 use std::alloc::Global;
 
@@ -62,15 +62,15 @@ fn stop(fault: StepFault, place: usize) -> Stop
     }
 }
 
-/// Where the reader of a goal starts.
-fn start(goal: Goal) -> Place
-    ensures { (k : TheStack) → IsOpen k [] [] → ShowsTree goal k result (tree_start goal) }
+/// Where the reader of a form starts.
+fn start(form: Form) -> Place
+    ensures { (k : TheStack) → IsOpen k [] [] → ShowsTree form k result (tree_start form) }
 {
-    match goal {
-        Goal::Formula => Place::Of(Sort::Formula, Mode::Wants),
-        Goal::Term => Place::Of(Sort::Term, Mode::Wants),
-        Goal::Program => Place::Of(Sort::Program, Mode::Wants),
-        Goal::Expression => Place::Unread,
+    match form {
+        Form::Formula => Place::Of(Sort::Formula, Mode::Wants),
+        Form::Term => Place::Of(Sort::Term, Mode::Wants),
+        Form::Program => Place::Of(Sort::Program, Mode::Wants),
+        Form::Expression => Place::Unread,
     }
 }
 
@@ -83,8 +83,8 @@ impl Stack {
         reached: Reached,
         lexeme: Lexeme,
     ) -> Result<Reached, StepFault>
-        ensures { (goal : TheGoal) (x : GoalState goal) → ShowsTree goal self.old reached.place x
-            → Agrees (Reaches goal self.new reached.count) result (when (permits dots (seen lexeme)) (tree_step goal x (seen lexeme))) }
+        ensures { (form : TheForm) (x : FormState form) → ShowsTree form self.old reached.place x
+            → Agrees (Reaches form self.new reached.count) result (when (permits dots (seen lexeme)) (tree_step form x (seen lexeme))) }
     {
         if !permits(dots, &lexeme) {
             return Err(StepFault::Syntax);
@@ -103,8 +103,8 @@ impl Stack {
         at: usize,
         token: &Token,
     ) -> Result<Reached, Stop>
-        ensures { (goal : TheGoal) (s : List TheLexeme) (r : TheResult Phrase ℕ) → GoesOn dots goal self.old r reached (lexeme_of at token.now.kind ++ s)
-            → Advances (GoesOn dots goal self.new r) r result s }
+        ensures { (form : TheForm) (s : List TheLexeme) (r : TheResult Phrase ℕ) → GoesOn dots form self.old r reached (lexeme_of at token.now.kind ++ s)
+            → Advances (GoesOn dots form self.new r) r result s }
     {
         let count = reached.count;
         match lexeme_at(at, &token.kind) {
@@ -121,18 +121,18 @@ impl Stack {
 /// Reads one tree. Its operators stand behind their operands.
 pub(crate) fn read_tree(
     alloc: Global,
-    goal: Goal,
+    form: Form,
     dots: Dots,
     tokens: &[Token],
 ) -> Result<Vec<Code>, Stop>
-    ensures { ReadsAs dots goal tokens.now result }
+    ensures { ReadsAs dots form tokens.now result }
 {
     let mut stack = Stack {
         parts: Vec::new(alloc),
         out: Vec::new(alloc),
     };
     let mut reached = Reached {
-        place: start(goal),
+        place: start(form),
         count: 0,
     };
     for (i, token) in tokens.iter().enumerate() {

@@ -10,7 +10,7 @@ use crate::code::Code;
 use crate::fault::ParseFault;
 use crate::reading::{read_sides, read_tree};
 use crate::sides::SidesCode;
-use dlk_grammar::{Dots, Goal, Token};
+use dlk_grammar::{Dots, Form, Token};
 use std::alloc::Global;
 
 /// The formulas of both sides of a sequent as one code, and how many are on the left.
@@ -23,14 +23,14 @@ pub(crate) struct SaidSides {
 /// The code of the phrase that the tokens are a text of.
 pub(crate) fn said_tree(
     alloc: Global,
-    goal: Goal,
+    form: Form,
     dots: Dots,
     tokens: &[Token],
 ) -> Result<Vec<Code>, ParseFault>
-    ensures says { IfOk result (λ v. SaysCode (grammar goal) itself dots tokens.now v.items) }
-    ensures fault { IfErr result (IsFaultOf (IsNoText (grammar goal) dots tokens.now)) }
+    ensures says { IfOk result (λ v. SaysCode (grammar form) itself dots tokens.now v.items) }
+    ensures fault { IfErr result (IsFaultOf (IsNoText (grammar form) dots tokens.now)) }
 {
-    let code = read_tree(alloc, goal, dots, tokens)?;
+    let code = read_tree(alloc, form, dots, tokens)?;
     Ok(code)
 }
 

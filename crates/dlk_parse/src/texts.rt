@@ -2,7 +2,7 @@
 ghost use Rattle.std.specs.Prelude.{◌≡◌, IfOk, IfErr};
 ghost use Rattle.dlk_tree.specs.Trees.{Tree};
 ghost use Rattle.dlk_calculus.specs.Sequents.{IsFormula, IsSequent};
-ghost use Rattle.dlk_grammar.specs.declared.token.Goal.TheVariants as goal_of;
+ghost use Rattle.dlk_grammar.specs.declared.token.Form.TheVariants as form_of;
 ghost use Rattle.dlk_grammar.specs.declared.token.Dots.TheVariants.{Refused};
 ghost use Rattle.dlk_grammar.specs.Texts.{TreeText, SequentText, TreeTextFault, SequentTextFault};
 ghost use Rattle.dlk_store.specs.Stores.{tree, StandsFor};
@@ -24,9 +24,9 @@ use std::alloc::Global;
 /// `BadByte` comes exactly where the split into tokens comes to a byte at which no token, space or whole comment begins.
 /// Else the errors are those of `formula`, in `Unread`. Whatever comes, the store keeps its trees.
 pub fn read_formula<S: Store>(alloc: Global, bytes: &[u8], store: &mut S) -> Result<Id, TextFault>
-    ensures found { IfOk result (λ id. (t : Tree) × TreeText goal_of.Formula Refused bytes.now t × StandsFor (S.trees store.new) id t) }
+    ensures found { IfOk result (λ id. (t : Tree) × TreeText form_of.Formula Refused bytes.now t × StandsFor (S.trees store.new) id t) }
     ensures formula { IfOk result (λ id. IsFormula (tree (S.trees store.new) id)) }
-    ensures fault { IfErr result (IsTextFaultOf (TreeTextFault goal_of.Formula Refused bytes.now)) }
+    ensures fault { IfErr result (IsTextFaultOf (TreeTextFault form_of.Formula Refused bytes.now)) }
     ensures unmade { IfErr result (UnlessTextMemory (store.new ≡ store.old)) }
     ensures grows { S.grows store.old store.new }
 {
@@ -43,8 +43,8 @@ pub fn read_expression<S: Store>(
     dots: Dots,
     store: &mut S,
 ) -> Result<Id, TextFault>
-    ensures found { IfOk result (λ id. (t : Tree) × TreeText goal_of.Expression dots bytes.now t × StandsFor (S.trees store.new) id t) }
-    ensures fault { IfErr result (IsTextFaultOf (TreeTextFault goal_of.Expression dots bytes.now)) }
+    ensures found { IfOk result (λ id. (t : Tree) × TreeText form_of.Expression dots bytes.now t × StandsFor (S.trees store.new) id t) }
+    ensures fault { IfErr result (IsTextFaultOf (TreeTextFault form_of.Expression dots bytes.now)) }
     ensures unmade { IfErr result (UnlessTextMemory (store.new ≡ store.old)) }
     ensures grows { S.grows store.old store.new }
 {

@@ -8,7 +8,7 @@ use Rattle.dlk_grammar.specs.declared.token.Infix.TheVariants as sign
 use Rattle.dlk_grammar.specs.Lexemes.{Lexeme, Name, Number, Dot, Open, Close, Comma, Prime, RoundBars, RoundBar, BarRound, Op}
 use Rattle.dlk_grammar.specs.Phrases.{Phrase, Phrases, none, Head, Call, Any, Apply, Diff, Everywhere, Except}
 use Rattle.dlk_grammar.specs.Grammar
-use Rattle.dlk_grammar.specs.Grammar.{Form, formula, imp, disj, conj, unf, atom, term, mul, neg, pow, prim, prog, seq, stmt, Reads, ReadsList}
+use Rattle.dlk_grammar.specs.Grammar.{Nonterminal, formula, imp, disj, conj, unf, atom, term, mul, neg, pow, prim, prog, seq, stmt, Reads, ReadsList}
 use Rattle.dlk_grammar.specs.Erased.{erase}
 use Rattle.dlk_machine.proofs.ParseLaws.{one_read}
 use Rattle.dlk_readback.specs.Readable.{is_formula_too}
@@ -47,7 +47,7 @@ around : (s r : List Lexeme) (k : Lexeme) → are_of_term s ≡ true → is_of_t
 around s r k h m g = rw (list_all-append is_of_term s (k ∷ r), h, m, g) refl
 
 -- what is said of the lexemes of a form that reads terms
-abbrev OfTerm : Form → List Lexeme → Type 0
+abbrev OfTerm : Nonterminal → List Lexeme → Type 0
 OfTerm term s = are_of_term s ≡ true
 OfTerm mul s = are_of_term s ≡ true
 OfTerm neg s = are_of_term s ≡ true
@@ -56,7 +56,7 @@ OfTerm prim s = are_of_term s ≡ true
 OfTerm _ s = Unit {0}
 
 mutual
-  of_term : {f : Form} {s : List Lexeme} {p : Phrase} → Reads f s p → OfTerm f s
+  of_term : {f : Nonterminal} {s : List Lexeme} {p : Phrase} → Reads f s p → OfTerm f s
   of_term (Grammar.term-mul r) = of_term r
   of_term (Grammar.term-add {s = s} {r = r} d e) = around s r (Op sign.Add) (of_term d) refl (of_term e)
   of_term (Grammar.term-sub {s = s} {r = r} d e) = around s r (Op sign.Sub) (of_term d) refl (of_term e)
@@ -79,11 +79,11 @@ mutual
   of_term (Grammar.prim-diff {s = s} d) = around s (Prime ∷ []) Close (of_term d) refl refl
   of_term _ = tt
 
-  of_terms : {f : Form} {s : List Lexeme} {l : Phrases} → ReadsList f s l → OfTerm f s
+  of_terms : {f : Nonterminal} {s : List Lexeme} {l : Phrases} → ReadsList f s l → OfTerm f s
   of_terms {f} (Grammar.list-one d) = of_term d
   of_terms {f} (Grammar.list-more {s = s} {r = r} l d) = in_list f s r (of_terms l) (of_term d)
     where
-      in_list : (f : Form) (s r : List Lexeme) → OfTerm f s → OfTerm f r → OfTerm f (s ++ Comma ∷ r)
+      in_list : (f : Nonterminal) (s r : List Lexeme) → OfTerm f s → OfTerm f r → OfTerm f (s ++ Comma ∷ r)
       in_list term s r h g = around s r Comma h refl g
       in_list mul s r h g = around s r Comma h refl g
       in_list neg s r h g = around s r Comma h refl g
@@ -105,7 +105,7 @@ as_term : {s : List Lexeme} {a : Phrase} → Reads prim s a → Reads term s a
 as_term r = Grammar.term-mul (Grammar.mul-neg (Grammar.neg-pow (Grammar.pow-prim r)))
 
 -- what is said of the lexemes of terms, where a form reads formulas
-abbrev OfFormula : Form → List Lexeme → Type 0
+abbrev OfFormula : Nonterminal → List Lexeme → Type 0
 OfFormula formula s = BothWays s
 OfFormula imp s = BothWays s
 OfFormula disj s = BothWays s
@@ -129,7 +129,7 @@ no_sign s r o h Grammar.cmp-less = no_middle s r (Op sign.Less) h refl
 front : (s r : List Lexeme) → are_of_term (s ++ r) ≡ true → are_of_term s ≡ true
 front s r h = (and_parts (are_of_term s) (are_of_term r) (sym (list_all-append is_of_term s r) ∙ h)).0
 
-both_ways : {f : Form} {s : List Lexeme} {p : Phrase} → Reads f s p → are_of_term s ≡ true → OfFormula f s
+both_ways : {f : Nonterminal} {s : List Lexeme} {p : Phrase} → Reads f s p → are_of_term s ≡ true → OfFormula f s
 both_ways (Grammar.formula-imp r) h = both_ways r h
 both_ways (Grammar.formula-equiv {s = s} {r = r} d e) h = no_middle s r (Op sign.Equiv) h refl
 both_ways (Grammar.imp-disj r) h = both_ways r h

@@ -15,7 +15,7 @@ use Rattle.dlk_grammar.specs.Lexemes.{Lexeme, Open, OpenBrace, Op as Between}
 use Rattle.dlk_grammar.specs.Phrases
 use Rattle.dlk_grammar.specs.Phrases.{Phrase}
 use Rattle.dlk_grammar.specs.Grammar
-use Rattle.dlk_grammar.specs.Grammar.{Form, Reads, prim, atom}
+use Rattle.dlk_grammar.specs.Grammar.{Nonterminal, Reads, prim, atom}
 use Rattle.dlk_grammar.specs.Erased.{erase, infix_op}
 use Rattle.dlk_grammar.specs.Shown.{Piece, mark, word, level, opening, between, closing, bracketed, unit_brackets, shown_at}
 use Rattle.dlk_readback.proofs.Climb.{form_at, lower, any_level}
@@ -39,7 +39,7 @@ placed o kids r l n = go (nat_lt (level o) l) refl
     go false e = same_told (λ p. lower (sort_of o) (level o) l (ltb-false (level o) l e)) (r n)
 
 -- an operator between two kids
-around : {g h f : Form} (i : Infix) (m x y : List Piece) {a b : Tree} → ((n : ℕ) → said n m ≡ Between i ∷ []) → ((s r : List Lexeme) (p q : Phrase) → Reads g s p → Reads h r q → Reads f (s ++ Between i ∷ r) (Phrases.Binary i p q)) → TellsTree g x a → TellsTree h y b → (n : ℕ) → Told f (said n ((x ++ ((m ++ y) ++ [])) ++ [])) (node (infix_op i) (kid a (kid b no_kids)))
+around : {g h f : Nonterminal} (i : Infix) (m x y : List Piece) {a b : Tree} → ((n : ℕ) → said n m ≡ Between i ∷ []) → ((s r : List Lexeme) (p q : Phrase) → Reads g s p → Reads h r q → Reads f (s ++ Between i ∷ r) (Phrases.Binary i p q)) → TellsTree g x a → TellsTree h y b → (n : ℕ) → Told f (said n ((x ++ ((m ++ y) ++ [])) ++ [])) (node (infix_op i) (kid a (kid b no_kids)))
 around i m x y {a} {b} lexeme make d e n =
     let k = behind (behind n x) m in
     same_text (two_kids n [] x m y ∙ ap (λ (l : List Lexeme). said n x ++ (l ++ said k y)) (lexeme (behind n x)))

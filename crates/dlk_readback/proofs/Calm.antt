@@ -10,7 +10,7 @@ use Rattle.dlk_grammar.specs.declared.token.Mark.TheVariants as mark
 use Rattle.dlk_grammar.specs.declared.token.Dots.{Dots}
 use Rattle.dlk_grammar.specs.declared.token.Dots.TheVariants.{Refused, Allowed}
 use Rattle.dlk_grammar.specs.Lexemes.{Lexeme, lexeme_of, lexemes_from}
-use Rattle.dlk_grammar.specs.Readings.{Permitted, opens, closes, level_behind, level, FirstAt, IsLong, OpensTooDeep}
+use Rattle.dlk_grammar.specs.Readings.{Permitted, opens, closes, level_behind, bracket_level, FirstAt, IsLong, OpensTooDeep}
 use Rattle.dlk_grammar.specs.Shown.{Piece, one, space}
 use Rattle.dlk_readback.proofs.Neighbours.{kinds}
 
@@ -56,7 +56,7 @@ level_of n [] = refl
 level_of n (t ∷ tokens) = level_of (level_behind n t.kind) tokens
 
 module _ (d : Dots) (tokens : List Token) (calm : Calm d 0 (map (λ t. t.kind) tokens)) where
-  found : (before behind : List Token) (t : Token) → tokens ≡ before ++ t ∷ behind → (is_good d t.kind ≡ true) × (level_behind (level before) t.kind ≤ 1200)
+  found : (before behind : List Token) (t : Token) → tokens ≡ before ++ t ∷ behind → (is_good d t.kind ≡ true) × (level_behind (bracket_level before) t.kind ≤ 1200)
   found before behind t e =
       let c = calm_at d 0 (map (λ t. t.kind) before) t.kind (map (λ t. t.kind) behind) (subst (Calm d 0) (ap (λ (l : List Token). map (λ t. t.kind) l) e ∙ kinds_of-append before (t ∷ behind)) calm) in
       (c.0, subst (λ (n : ℕ). level_behind n t.kind ≤ 1200) (sym (level_of 0 before)) c.1)
@@ -67,7 +67,7 @@ module _ (d : Dots) (tokens : List Token) (calm : Calm d 0 (map (λ t. t.kind) t
   pub no_nesting : (at : ℕ) → ¬ FirstAt OpensTooDeep tokens at
   no_nesting at f =
       let le = (found f.before f.behind f.token f.tokens_are).1 in
-      let up : level_behind (level f.before) f.token.kind ≡ level f.before + 1 = ap (λ (b : Bool). cond b (level f.before + 1) (cond (closes f.token.kind) (level f.before - 1) (level f.before))) f.is.1 in
+      let up : level_behind (bracket_level f.before) f.token.kind ≡ bracket_level f.before + 1 = ap (λ (b : Bool). cond b (bracket_level f.before + 1) (cond (closes f.token.kind) (bracket_level f.before - 1) (bracket_level f.before))) f.is.1 in
       absurd (omega (arith, le, up, f.is.0))
 
 -- the lexemes of good tokens are permitted
@@ -98,9 +98,9 @@ one_permitted Refused n kind.Hole h = absurd cc
 one_permitted Allowed n kind.Hole h = (refl, tt)
 one_permitted d n kind.End h = tt
 
-pub all_permitted : (d : Dots) (n level : ℕ) (tokens : List Token) → Calm d level (map (λ t. t.kind) tokens) → Permitted d (lexemes_from n tokens)
-all_permitted d n level [] c = tt
-all_permitted d n level (t ∷ tokens) c = permitted-append d (lexeme_of n t.kind) (lexemes_from (n + 1) tokens) (one_permitted d n t.kind c.0) (all_permitted d (n + 1) (level_behind level t.kind) tokens c.2)
+pub all_permitted : (d : Dots) (n bracket_level : ℕ) (tokens : List Token) → Calm d bracket_level (map (λ t. t.kind) tokens) → Permitted d (lexemes_from n tokens)
+all_permitted d n bracket_level [] c = tt
+all_permitted d n bracket_level (t ∷ tokens) c = permitted-append d (lexeme_of n t.kind) (lexemes_from (n + 1) tokens) (one_permitted d n t.kind c.0) (all_permitted d (n + 1) (level_behind bracket_level t.kind) tokens c.2)
 
 -- Where `most` levels are left, the text leads from `a` levels above to `b`.
 pub record Moves (d : Dots) (most a b : ℕ) (text : List Piece) : Type 0 where

@@ -16,7 +16,7 @@ use Rattle.dlk_grammar.specs.declared.token.Infix.TheVariants.{And, Mul}
 use Rattle.dlk_grammar.specs.Lexemes.{Lexeme, Name, Open, OpenBrace, CloseBrace, Op as Between}
 use Rattle.dlk_grammar.specs.Phrases.{Phrase, Phrases, Items, none, snoc, Everywhere, Call, Apply, Holds, System, Truth, Loop}
 use Rattle.dlk_grammar.specs.Grammar.{term, stmt, prog, Reads, ReadsBrace, ReadsList, prim-nullary, prim-apply, atom-nullary, atom-holds, stmt-group, brace-prog, brace-items, brace-domain, star-none, star-loop, inv-none, semi-none}
-use Rattle.dlk_grammar.specs.Erased.{erase, erase_all, ills, ills_of_all, items_of as items_said, item_terms, ills_of_items, count, symbol, place_if, is_ill_call, is_ill_system}
+use Rattle.dlk_grammar.specs.Erased.{erase, erase_all, ills, ills_of_all, ode_items as items_said, item_terms, ills_of_items, count, symbol, place_if, is_ill_call, is_ill_system}
 use Rattle.dlk_grammar.specs.Shown.{Piece, mark, style, level, shown_at, shown_kids, shown, joined, item_texts, is_true, inside}
 use Rattle.dlk_readback.proofs.Climb.{form_at}
 use Rattle.dlk_readback.proofs.Rows.{AllKids}

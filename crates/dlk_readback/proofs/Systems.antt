@@ -12,7 +12,7 @@ use Rattle.dlk_tree.specs.Trees.{Tree}
 use Rattle.dlk_grammar.specs.Lexemes.{Lexeme, Comma}
 use Rattle.dlk_grammar.specs.Phrases.{Everywhere, Except, Item, Items, no_items, add, Evolve as evolve, Flow as flow}
 use Rattle.dlk_grammar.specs.Grammar.{term, ReadsItems, ReadsItem, items-one, items-more, item-evolve, item-flow, item-except}
-use Rattle.dlk_grammar.specs.Erased.{erase, ills, items_of, item_of, item_terms, ills_of_items}
+use Rattle.dlk_grammar.specs.Erased.{erase, ills, ode_items, item_of, item_terms, ills_of_items}
 use Rattle.dlk_grammar.specs.Shown.{Piece, word, ode_brackets, shown_at, item_text, item_texts}
 use Rattle.dlk_readback.proofs.Kids.{Sides, sides_of, texts_of, comma}
 use Rattle.dlk_readback.proofs.Told.{said, behind, said-append, TellsTree, Back}
@@ -46,7 +46,7 @@ record ItemTold (s : List Lexeme) (item : OdeItem) (terms : List Tree) : Type 0 
 pub record ItemsTold (s : List Lexeme) (items : List OdeItem) (terms : List Tree) : Type 0 where
   pub phrases : Items
   pub reads : ReadsItems s phrases
-  pub items_are : items_of phrases ≡ items
+  pub items_are : ode_items phrases ≡ items
   pub terms_are : item_terms phrases ≡ terms
   pub no_ills : ills_of_items phrases ≡ []
 

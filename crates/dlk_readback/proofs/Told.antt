@@ -6,7 +6,7 @@ use Rattle.dlk_tree.specs.declared.op.Sort.{Sort}
 use Rattle.dlk_tree.specs.Trees.{Tree, node, no_kids, kid}
 use Rattle.dlk_grammar.specs.Lexemes.{Lexeme, Comma, lexeme_of}
 use Rattle.dlk_grammar.specs.Phrases.{Phrase, Phrases, none, snoc}
-use Rattle.dlk_grammar.specs.Grammar.{Form, Reads, ReadsList, list-one, list-more}
+use Rattle.dlk_grammar.specs.Grammar.{Nonterminal, Reads, ReadsList, list-one, list-more}
 use Rattle.dlk_grammar.specs.Erased.{erase, erase_all, ills, ills_of_all}
 use Rattle.dlk_grammar.specs.Shown.{Piece, one, space, shown_at}
 use Rattle.dlk_readback.proofs.Climb.{form_at}
@@ -42,21 +42,21 @@ pub two_kids : (n : ℕ) (o x m y : List Piece) → said n (o ++ ((x ++ ((m ++ y
 two_kids n o x m y = rw (append-nil (m ++ y), append-nil (x ++ (m ++ y)), said-append n o (x ++ (m ++ y)), said-append (behind n o) x (m ++ y), said-append (behind (behind n o) x) m y) refl
 
 -- the lexemes are a text of the form, and the tree is what it says
-pub record Told (f : Form) (s : List Lexeme) (t : Tree) : Type 0 where
+pub record Told (f : Nonterminal) (s : List Lexeme) (t : Tree) : Type 0 where
   pub phrase : Phrase
   pub reads : Reads f s phrase
   pub erased : erase phrase ≡ t
   pub no_ills : ills phrase ≡ []
 
-pub same_text : {f : Form} {s r : List Lexeme} {t : Tree} → s ≡ r → Told f r t → Told f s t
+pub same_text : {f : Nonterminal} {s r : List Lexeme} {t : Tree} → s ≡ r → Told f r t → Told f s t
 same_text {f} {s} {r} {t} e d = subst (λ (l : List Lexeme). Told f l t) (sym e) d
 
 -- the same phrase as another text
-pub same_told : {f g : Form} {s r : List Lexeme} {t : Tree} → ((p : Phrase) → Reads f s p → Reads g r p) → Told f s t → Told g r t
+pub same_told : {f g : Nonterminal} {s r : List Lexeme} {t : Tree} → ((p : Phrase) → Reads f s p → Reads g r p) → Told f s t → Told g r t
 same_told make d = record { phrase = d.phrase; reads = make d.phrase d.reads; erased = d.erased; no_ills = d.no_ills }
 
 -- a phrase of one phrase
-pub one_told : {g f : Form} {s r : List Lexeme} {a : Tree} (c : Phrase → Phrase) (o : Op) → ((p : Phrase) → Reads g s p → Reads f r (c p)) → ((p : Phrase) → erase (c p) ≡ node o (kid (erase p) no_kids)) → ((p : Phrase) → ills (c p) ≡ ills p) → Told g s a → Told f r (node o (kid a no_kids))
+pub one_told : {g f : Nonterminal} {s r : List Lexeme} {a : Tree} (c : Phrase → Phrase) (o : Op) → ((p : Phrase) → Reads g s p → Reads f r (c p)) → ((p : Phrase) → erase (c p) ≡ node o (kid (erase p) no_kids)) → ((p : Phrase) → ills (c p) ≡ ills p) → Told g s a → Told f r (node o (kid a no_kids))
 one_told c o make erased ill d = record {
   phrase = c d.phrase;
   reads = make d.phrase d.reads;
@@ -65,7 +65,7 @@ one_told c o make erased ill d = record {
 }
 
 -- a phrase of two
-pub two_told : {g h f : Form} {s r l : List Lexeme} {a b : Tree} (c : Phrase → Phrase → Phrase) (o : Op) → ((p q : Phrase) → Reads g s p → Reads h r q → Reads f l (c p q)) → ((p q : Phrase) → erase (c p q) ≡ node o (kid (erase p) (kid (erase q) no_kids))) → ((p q : Phrase) → ills (c p q) ≡ ills p ++ ills q) → Told g s a → Told h r b → Told f l (node o (kid a (kid b no_kids)))
+pub two_told : {g h f : Nonterminal} {s r l : List Lexeme} {a b : Tree} (c : Phrase → Phrase → Phrase) (o : Op) → ((p q : Phrase) → Reads g s p → Reads h r q → Reads f l (c p q)) → ((p q : Phrase) → erase (c p q) ≡ node o (kid (erase p) (kid (erase q) no_kids))) → ((p q : Phrase) → ills (c p q) ≡ ills p ++ ills q) → Told g s a → Told h r b → Told f l (node o (kid a (kid b no_kids)))
 two_told {a = a} {b = b} c o make erased ill d e = record {
   phrase = c d.phrase e.phrase;
   reads = make d.phrase e.phrase d.reads e.reads;
@@ -74,16 +74,16 @@ two_told {a = a} {b = b} c o make erased ill d e = record {
 }
 
 -- the lexemes are a list of texts of the form, with commas between
-pub record ListTold (f : Form) (s : List Lexeme) (ts : List Tree) : Type 0 where
+pub record ListTold (f : Nonterminal) (s : List Lexeme) (ts : List Tree) : Type 0 where
   pub phrases : Phrases
   pub reads : ReadsList f s phrases
   pub erased : erase_all phrases ≡ ts
   pub no_ills : ills_of_all phrases ≡ []
 
-one_listed : {f : Form} {s : List Lexeme} {t : Tree} → Told f s t → ListTold f s (t ∷ [])
+one_listed : {f : Nonterminal} {s : List Lexeme} {t : Tree} → Told f s t → ListTold f s (t ∷ [])
 one_listed d = record { phrases = snoc none d.phrase; reads = list-one d.reads; erased = ap (λ (a : Tree). a ∷ []) d.erased; no_ills = d.no_ills }
 
-more_listed : {f : Form} {s r : List Lexeme} {ts : List Tree} {t : Tree} → ListTold f s ts → Told f r t → ListTold f (s ++ Comma ∷ r) (ts ++ t ∷ [])
+more_listed : {f : Nonterminal} {s r : List Lexeme} {ts : List Tree} {t : Tree} → ListTold f s ts → Told f r t → ListTold f (s ++ Comma ∷ r) (ts ++ t ∷ [])
 more_listed {ts = ts} d e = record {
   phrases = snoc d.phrases e.phrase;
   reads = list-more d.reads e.reads;
@@ -92,7 +92,7 @@ more_listed {ts = ts} d e = record {
 }
 
 -- a text that says the tree, wherever it begins
-abbrev pub TellsTree : Form → List Piece → Tree → Type 0
+abbrev pub TellsTree : Nonterminal → List Piece → Tree → Type 0
 TellsTree f text t = (n : ℕ) → Told f (said n text) t
 
 -- at each least level the tree's text says the tree, wherever it begins
@@ -103,7 +103,7 @@ Back s t = (l : ℕ) → TellsTree (form_at s l) (shown_at l t) t
 abbrev IsComma : List Piece → Type 0
 IsComma sep = (n : ℕ) → said n sep ≡ Comma ∷ []
 
-module _ {f : Form} (text : Tree → List Piece) (sep : List Piece) (comma : IsComma sep) where
+module _ {f : Nonterminal} (text : Tree → List Piece) (sep : List Piece) (comma : IsComma sep) where
   later_listed : (n : ℕ) (s : List Lexeme) (done ts : List Tree) → Each (λ t. TellsTree f (text t) t) ts → ListTold f s done → ListTold f (s ++ said n (flat_map (λ t. sep ++ text t) ts)) (done ++ ts)
   later_listed n s done [] all d = rw (append-nil s, append-nil done) d
   later_listed n s done (t ∷ ts) all d =

@@ -8,17 +8,17 @@ use Rattle.dlk_grammar.specs.declared.token.TokenKind.{TokenKind}
 use Rattle.dlk_grammar.specs.declared.token.TokenKind.TheVariants.{End}
 use Rattle.dlk_grammar.specs.declared.token.Dots.{Dots}
 use Rattle.dlk_grammar.specs.declared.token.Dots.TheVariants.{Refused, Allowed}
-use Rattle.dlk_grammar.specs.declared.token.Goal.{Goal}
-use Rattle.dlk_grammar.specs.declared.token.Goal.TheVariants.{Formula, Term, Program, Expression}
+use Rattle.dlk_grammar.specs.declared.token.Form.{Form}
+use Rattle.dlk_grammar.specs.declared.token.Form.TheVariants.{Formula, Term, Program, Expression}
 use Rattle.dlk_grammar.specs.Lexemes.{Lexeme, lexeme_of, lexemes_from, lexemes}
 use Rattle.dlk_grammar.specs.Phrases.{Phrase}
 use Rattle.dlk_grammar.specs.Grammar.{formula, term, prog, Reads, as-formula, as-program, as-term}
-use Rattle.dlk_grammar.specs.Erased.{erase, ills, least}
-use Rattle.dlk_grammar.specs.Readings.{Says, Against, Literal, Nesting, Syntax, Shape, TooBig, TooDeep, ReadFault, FirstPast, IsRead, grammar, itself, most_nodes, greatest_depth}
+use Rattle.dlk_grammar.specs.Erased.{erase, ills, lowest}
+use Rattle.dlk_grammar.specs.Readings.{Says, SpeaksAgainst, Literal, Nesting, Syntax, Shape, TooBig, TooDeep, ReadFault, FirstPast, IsRead, grammar, itself, most_nodes, greatest_depth}
 use Rattle.dlk_grammar.specs.Texts.{TreeText}
 use Rattle.dlk_grammar.specs.Shown.{Piece, one, space, spell, shown}
 use Rattle.dlk_machine.proofs.ParseLaws.{one_read, one_expression_read}
-use Rattle.dlk_readback.specs.Readable.{goal_of, HasNoneRefused, IsReadable, is_formula_too}
+use Rattle.dlk_readback.specs.Readable.{form_of, HasNoneRefused, IsReadable, is_formula_too}
 use Rattle.dlk_readback.proofs.Ambiguous.{no_formula}
 use Rattle.dlk_readback.proofs.Climb.{form_at}
 use Rattle.dlk_readback.proofs.Kids.{Each}
@@ -76,27 +76,27 @@ module _ {P R : Type 0} (G : List Lexeme → P → Type 0) (parts : P → List P
           let le = none_past measure limit f.before f.behind f.tree (subst (λ (ts : List Tree). Each (λ t. measure t ≤ limit) ts) (ap (λ (q : P). map erase (parts q)) (sym (same p s)) ∙ f.trees_are) all) in
           omega (arith, le, f.past)
 
-      against : (why : ReadFault) → ¬ Against G parts d tokens why
+      against : (why : ReadFault) → ¬ SpeaksAgainst G parts d tokens why
       against (Literal at) f = no_literal d tokens calm at f
       against (Nesting at) f = no_nesting d tokens calm at f
       against Syntax f = f phrase says
       against (Shape at) f =
-          let e : None ≡ Some f.2.0 = sym (ap least no_ills) ∙ sym (ap (λ (q : P). least (flat_map ills (parts q))) (same f.0 f.1)) ∙ f.2.1 in
+          let e : None ≡ Some f.2.0 = sym (ap lowest no_ills) ∙ sym (ap (λ (q : P). lowest (flat_map ills (parts q))) (same f.0 f.1)) ∙ f.2.1 in
           absurd cc
       against (TooBig n) f = past size most_nodes n f.0 small f.1 f.2
       against (TooDeep n) f = past depth greatest_depth n f.0 shallow f.1 f.2
 
--- a text of a sort is one of its goal, and at most one phrase
-as_goal : (s : Sort) {l : List Lexeme} {p : Phrase} → Reads (form_at s 1) l p → grammar (goal_of s) l p
+-- a text of a sort is one of its form, and at most one phrase
+as_goal : (s : Sort) {l : List Lexeme} {p : Phrase} → Reads (form_at s 1) l p → grammar (form_of s) l p
 as_goal sort.Term r = r
 as_goal sort.Formula r = r
 as_goal sort.Program r = r
 
-one_of_goal : (goal : Goal) (l : List Lexeme) (p q : Phrase) → grammar goal l p → grammar goal l q → p ≡ q
-one_of_goal Term l p q r s = one_read term l p q r s
-one_of_goal Formula l p q r s = one_read formula l p q r s
-one_of_goal Program l p q r s = one_read prog l p q r s
-one_of_goal Expression l p q r s = one_expression_read l p q r s
+one_of_form : (form : Form) (l : List Lexeme) (p q : Phrase) → grammar form l p → grammar form l q → p ≡ q
+one_of_form Term l p q r s = one_read term l p q r s
+one_of_form Formula l p q r s = one_read formula l p q r s
+one_of_form Program l p q r s = one_read prog l p q r s
+one_of_form Expression l p q r s = one_expression_read l p q r s
 
 -- where they are refused, nothing is
 clean : (d : Dots) (t : Tree) → HasNoneRefused d t → IsClean d t
@@ -104,21 +104,21 @@ clean Refused t h = refused_clean t h.0 h.1
 clean Allowed t h = allowed_clean t
 
 module _ (d : Dots) (t : Tree) (r : IsReadable d t) where
-  -- the text of the tree is read by a goal for which what it says is a text
-  text_of : (goal : Goal) → ((tokens : List Token) → (p : Phrase) → Reads (form_at (sort_in t) 1) (lexemes tokens) p → erase p ≡ t → grammar goal (lexemes tokens) p) → TreeText goal d (spell (shown t)) t
-  text_of goal read =
+  -- the text of the tree is read by a form for which what it says is a text
+  text_of : (form : Form) → ((tokens : List Token) → (p : Phrase) → Reads (form_at (sort_in t) 1) (lexemes tokens) p → erase p ≡ t → grammar form (lexemes tokens) p) → TreeText form d (spell (shown t)) t
+  text_of form read =
       let f = (shown_fine t r.well_made).at 0 in
       let told = subst (λ (l : List Lexeme). Told (form_at (sort_in t) 1) l t) (sym (lexemes-said f)) (back t r.well_made 1 0) in
       let calm = calm_tokens d (depth t) (omega (arith, r.limits.shallow)) (shown_even d t r.well_made (clean d t r.permitted)) f in
       record {
         tokens = f.tokens;
         splits = f.splits;
-        reads = is_read (grammar goal) itself d f.tokens erase (one_of_goal goal (lexemes f.tokens)) told.phrase t (read f.tokens told.phrase told.reads told.erased) told.erased calm
+        reads = is_read (grammar form) itself d f.tokens erase (one_of_form form (lexemes f.tokens)) told.phrase t (read f.tokens told.phrase told.reads told.erased) told.erased calm
             (ap (λ (l : List ℕ). l ++ []) told.no_ills) (subst (λ (u : Tree). size u ≤ most_nodes) (sym told.erased) r.limits.small, tt) (subst (λ (u : Tree). depth u ≤ greatest_depth) (sym told.erased) r.limits.shallow, tt);
       }
 
-  pub tree_text : TreeText (goal_of (sort_in t)) d (spell (shown t)) t
-  tree_text = text_of (goal_of (sort_in t)) (λ tokens p h erased. as_goal (sort_in t) h)
+  pub tree_text : TreeText (form_of (sort_in t)) d (spell (shown t)) t
+  tree_text = text_of (form_of (sort_in t)) (λ tokens p h erased. as_goal (sort_in t) h)
 
   -- the tree is of this sort
   sorted : (s : Sort) → sort_in t ≡ s → {l : List Lexeme} {p : Phrase} → Reads (form_at (sort_in t) 1) l p → Reads (form_at s 1) l p

@@ -8,15 +8,15 @@ use Rattle.dlk_tree.specs.Trees.{Tree, node, Forest, no_kids, kid, size, depth, 
 use Rattle.dlk_tree.specs.Occurs.{has_dots, has_hole}
 use Rattle.dlk_grammar.specs.declared.token.Dots.{Dots}
 use Rattle.dlk_grammar.specs.declared.token.Dots.TheVariants.{Refused, Allowed}
-use Rattle.dlk_grammar.specs.declared.token.Goal.{Goal}
-use Rattle.dlk_grammar.specs.declared.token.Goal.TheVariants.{Formula, Term, Program}
+use Rattle.dlk_grammar.specs.declared.token.Form.{Form}
+use Rattle.dlk_grammar.specs.declared.token.Form.TheVariants.{Formula, Term, Program}
 use Rattle.dlk_grammar.specs.Readings.{most_nodes, greatest_depth}
 
 -- what the text of a tree of this sort is to be
-abbrev pub goal_of : Sort → Goal
-goal_of sort.Term = Term
-goal_of sort.Formula = Formula
-goal_of sort.Program = Program
+abbrev pub form_of : Sort → Form
+form_of sort.Term = Term
+form_of sort.Formula = Formula
+form_of sort.Program = Program
 
 -- neither too big nor too deep to be read
 pub record IsWithinLimits (t : Tree) : Type 0 where

@@ -4,15 +4,15 @@ ghost use Rattle.dlk_tree.specs.declared.op.Sort.TheVariants as sort_is;
 ghost use Rattle.dlk_tree.specs.Trees.{Tree, sort};
 ghost use Rattle.dlk_calculus.specs.Sequents.{Sequent, IsSequent};
 ghost use Rattle.dlk_grammar.specs.declared.token.Dots.{Dots};
-ghost use Rattle.dlk_grammar.specs.declared.token.Goal.TheVariants.{Expression};
+ghost use Rattle.dlk_grammar.specs.declared.token.Form.TheVariants.{Expression};
 ghost use Rattle.dlk_grammar.specs.Texts.{TreeText, SequentText};
 ghost use Rattle.dlk_grammar.specs.Shown.{spell, shown, shown_sequent};
-ghost use Rattle.dlk_readback.specs.Readable.{goal_of, IsWithinLimits, IsReadable, is_formula_too};
+ghost use Rattle.dlk_readback.specs.Readable.{form_of, IsWithinLimits, IsReadable, is_formula_too};
 
 /// The canonical text of a tree is read as that tree, as a text of its sort. The tree is well-made, has at most 65,536
 /// nodes and a depth of at most 1,000, and where argument dots and `_` are refused it has none.
 pub fn shown_is_read()
-    ensures { (d : Dots) (t : Tree) → IsReadable d t → TreeText (goal_of (sort t)) d (spell (shown t)) t }
+    ensures { (d : Dots) (t : Tree) → IsReadable d t → TreeText (form_of (sort t)) d (spell (shown t)) t }
 {}
 
 /// The canonical text of a sequent is read as that sequent, where each of its formulas has at most 65,536 nodes and a

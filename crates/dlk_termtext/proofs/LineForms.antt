@@ -12,7 +12,6 @@ use Rattle.dlk_machine.proofs.TextLaws.{one_sequent_text, sequent_or_fault}
 use Rattle.dlk_rules.specs.Steps.{rule_at}
 use Rattle.dlk_rules.specs.declared.rule.Rule.{Rule as IdRule}
 use Rattle.dlk_rules.specs.declared.rule.Rule.TheVariants as rule
-use Rattle.dlk_parse.specs.declared.fault.ParseFault.{ParseFault}
 use Rattle.dlk_parse.specs.declared.fault.ParseFault.TheVariants as parse
 use Rattle.dlk_parse.specs.declared.fault.TextFault.{TextFault}
 use Rattle.dlk_parse.specs.declared.fault.TextFault.TheVariants as text_fault

@@ -1,5 +1,5 @@
 use Rattle.std.proofs.lemmas.Result.{IfOk-weaker}
-use Rattle.dlk_grammar.specs.declared.token.Goal.TheVariants.{Program}
+use Rattle.dlk_grammar.specs.declared.token.Form.TheVariants.{Program}
 use Rattle.dlk_grammar.specs.Grammar.{prog}
 use Rattle.dlk_store.specs.Stores.{tree}
 use Rattle.dlk_parse.proofs.SaidLaws.{sort_read}

@@ -6,7 +6,7 @@ use Rattle.dlk_parse.proofs.SaidLaws.{tree_read, tree_code_made, some_id, only_i
 use Rattle.dlk_parse.proofs.readers.read.Goals as goal
 
 pub make_all-requires : goal.make_all-requires
-make_all-requires g c = tree_code_made c.args.goal c.args.dots c.args.tokens.now c.in_ok-code.code.items c.requires c.in_ok-code.ensures.read
+make_all-requires g c = tree_code_made c.args.form c.args.dots c.args.tokens.now c.in_ok-code.code.items c.requires c.in_ok-code.ensures.read
 
 pub index-requires : goal.index-requires
 index-requires g c =
@@ -19,7 +19,7 @@ returns-clause-found g c =
     let s = c.in_ok-code.ensures.read in
     let trees = g.S.Store.trees c.make_all.new.store in
     let only = only_id (tree trees) c.in_ok-ids.ids.items (erase s.said) c.index.result.now (c.in_ok-ids.ensures.made.of_phrases (itself s.said) s.code_is) in
-    subst (IsTree c.args.goal c.args.dots c.args.tokens.now) (sym only ∙ ap (tree trees) (sym c.index.ensures)) (tree_read c.args.goal c.args.dots c.args.tokens.now c.in_ok-code.code.items s)
+    subst (IsTree c.args.form c.args.dots c.args.tokens.now) (sym only ∙ ap (tree trees) (sym c.index.ensures)) (tree_read c.args.form c.args.dots c.args.tokens.now c.in_ok-code.code.items s)
 
 pub returns-clause-known : goal.returns-clause-known
 returns-clause-known g c =

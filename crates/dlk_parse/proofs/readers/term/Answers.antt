@@ -1,5 +1,5 @@
 use Rattle.std.proofs.lemmas.Result.{IfOk-weaker}
-use Rattle.dlk_grammar.specs.declared.token.Goal.TheVariants.{Term}
+use Rattle.dlk_grammar.specs.declared.token.Form.TheVariants.{Term}
 use Rattle.dlk_grammar.specs.Grammar.{term}
 use Rattle.dlk_store.specs.Stores.{tree}
 use Rattle.dlk_parse.proofs.SaidLaws.{sort_read}

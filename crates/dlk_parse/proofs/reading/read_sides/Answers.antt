@@ -1,4 +1,4 @@
-use Rattle.std.proofs.Common.{◌≡◌, ◌+◌, ◌++◌, List, Ok, Err, drop, subst}
+use Rattle.std.proofs.Common.{◌+◌, ◌++◌, List, drop, subst}
 use Rattle.std.proofs.lemmas.Result.{err_from_is_err_and}
 use Rattle.dlk_grammar.specs.declared.token.Dots.TheVariants.{Refused}
 use Rattle.dlk_grammar.specs.Lexemes.{Lexeme, lexeme_of, lexemes, lexemes_from}

@@ -7,4 +7,4 @@ use Rattle.dlk_parse.proofs.reading.read_tree.Given as goal
 
 -- what is left to read gives what all gives
 abbrev pub invariant-loop-i : goal.invariant-loop-i
-invariant-loop-i l = GoesOn l.dots l.fn.goal l.stack (parse l.dots (machine_of l.fn.goal) (lexemes l.tokens)) l.reached (lexemes_from l.i (drop l.i l.tokens))
+invariant-loop-i l = GoesOn l.dots l.fn.form l.stack (parse l.dots (machine_of l.fn.form) (lexemes l.tokens)) l.reached (lexemes_from l.i (drop l.i l.tokens))

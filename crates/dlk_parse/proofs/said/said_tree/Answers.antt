@@ -5,7 +5,7 @@ use Rattle.dlk_parse.proofs.said.said_tree.Goals as goal
 pub returns-in_err-code-clause-fault : goal.returns-in_err-code-clause-fault
 returns-in_err-code-clause-fault c =
     let w = err_from_is_err_and c.from_residual.result c.from_residual.ensures.1 in
-    rw (w.1, w.2) (tree_unsaid c.args.dots c.args.goal c.args.tokens.now c.in_err-code.field-0.0 c.in_err-code.ensures)
+    rw (w.1, w.2) (tree_unsaid c.args.dots c.args.form c.args.tokens.now c.in_err-code.field-0.0 c.in_err-code.ensures)
 
 pub returns-clause-says : goal.returns-clause-says
-returns-clause-says c = tree_said c.args.dots c.args.goal c.args.tokens.now c.in_ok-code.code c.in_ok-code.ensures
+returns-clause-says c = tree_said c.args.dots c.args.form c.args.tokens.now c.in_ok-code.code c.in_ok-code.ensures

@@ -1,6 +1,5 @@
-use Rattle.std.proofs.Common.{◌≡◌, ◌++◌, ◌∷◌, [], sym, ap, ◌∙◌}
+use Rattle.std.proofs.Common.{◌++◌, ◌∷◌, [], ap, ◌∙◌}
 use Rattle.std.proofs.lemmas.Result.{err_from_is_err_and}
-use Rattle.dlk_parse.specs.declared.code.Code.{Code}
 use Rattle.dlk_parse.specs.declared.code.Code.TheVariants as code
 use Rattle.dlk_parse.proofs.Agree.{left_err, left_ok, before_err, before_ok}
 use Rattle.dlk_parse.proofs.stack.join.Goals as goal

@@ -1,8 +1,8 @@
-use Rattle.std.proofs.Common.{Some, ap, refl, arith}
+use Rattle.std.proofs.Common.{ap, arith}
 use Rattle.std.proofs.lemmas.Result.{err_from_is_err_and}
 use Rattle.dlk_grammar.specs.Lexemes.{Comma}
 use Rattle.dlk_grammar.specs.Phrases.{snoc}
-use Rattle.dlk_machine.proofs.Machine.{Has, Wants}
+use Rattle.dlk_machine.proofs.Machine.{Has}
 use Rattle.dlk_machine.proofs.Sequents.{Reading, sequent_step}
 use Rattle.dlk_parse.specs.Readers.{ShowsBetween, ShowsReading, ShowsSides}
 use Rattle.dlk_parse.specs.declared.parts.Mode.TheVariants as mode

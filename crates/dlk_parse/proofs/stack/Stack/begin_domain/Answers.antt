@@ -1,4 +1,4 @@
-use Rattle.std.proofs.Common.{◌≡◌, ◌++◌, refl, sym, ap, ◌∙◌, append_assoc}
+use Rattle.std.proofs.Common.{◌++◌, refl, sym, ap, ◌∙◌, append_assoc}
 use Rattle.std.proofs.lemmas.Result.{err_from_is_err_and}
 use Rattle.dlk_tree.specs.declared.op.Sort.TheVariants.{Term}
 use Rattle.dlk_grammar.specs.declared.token.Infix.TheVariants.{And}
@@ -9,7 +9,7 @@ use Rattle.dlk_parse.specs.declared.stack.Stack.{Stack}
 use Rattle.dlk_parse.specs.declared.parts.Holder.TheVariants as holder
 use Rattle.dlk_parse.specs.declared.parts.Part.TheVariants as part
 use Rattle.dlk_parse.specs.Codes.{postfix_terms}
-use Rattle.dlk_parse.specs.Shows.{piece_code, stack_code, equations_of, Shows, Writes}
+use Rattle.dlk_parse.specs.Shows.{piece_code, stack_code, Shows, Writes}
 use Rattle.dlk_parse.proofs.Agree.{agrees_ok, agrees_err}
 use Rattle.dlk_parse.proofs.HolderSteps.{evolves_err, settled_in}
 use Rattle.dlk_parse.proofs.stack.Stack.begin_domain.Goals as goal

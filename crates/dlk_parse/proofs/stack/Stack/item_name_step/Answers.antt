@@ -1,6 +1,6 @@
-use Rattle.std.proofs.Common.{◌≡◌, Some}
+use Rattle.std.proofs.Common.{◌≡◌}
 use Rattle.std.proofs.lemmas.Result.{err_from_is_err_and}
-use Rattle.dlk_grammar.specs.Phrases.{Everywhere, Flow, Items, add}
+use Rattle.dlk_grammar.specs.Phrases.{Everywhere, Flow, add}
 use Rattle.dlk_machine.proofs.Machine.{item_name_step}
 use Rattle.dlk_parse.specs.declared.parts.Equations.{Equations}
 use Rattle.dlk_parse.specs.Shows.{seen, equations_of, Shows}

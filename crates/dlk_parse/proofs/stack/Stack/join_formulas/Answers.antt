@@ -1,4 +1,4 @@
-use Rattle.std.proofs.Common.{[], ◌∷◌, List, Some}
+use Rattle.std.proofs.Common.{[], List, Some}
 use Rattle.std.proofs.lemmas.Result.{err_from_is_err_and}
 use Rattle.dlk_grammar.specs.declared.token.Infix.TheVariants.{And}
 use Rattle.dlk_machine.proofs.Machine.{By, Part, Wants}

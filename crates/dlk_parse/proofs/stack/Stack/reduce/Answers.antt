@@ -1,6 +1,6 @@
 use Rattle.std.proofs.Common.{refl, ◌∙◌}
 use Rattle.std.proofs.lemmas.Result.{err_from_is_err_and}
-use Rattle.dlk_parse.proofs.Reducing.{closed_one, closed_err, all_closed}
+use Rattle.dlk_parse.proofs.Reducing.{closed_one, closed_err}
 use Rattle.dlk_parse.proofs.stack.Stack.reduce.Goals as goal
 
 pub loop-part-preserved : goal.loop-part-preserved
