@@ -1,7 +1,8 @@
 #!/usr/bin/env python3
 """Prints each model of `examples/models`, and reads what is printed back: it must print the same again.
 
-Run it after `./dlk` has built the program. With `--show` the printed texts are written out.
+It also looks whether the tests of `dlk` have the same models. Run it after `./dlk` has built the program. With `--show`
+the printed texts are written out.
 """
 import pathlib
 import subprocess
@@ -9,6 +10,7 @@ import sys
 
 EXAMPLES = pathlib.Path(__file__).resolve().parent
 PROGRAM = EXAMPLES.parent / "crates" / "dlk" / "out" / "dlk"
+TESTS = EXAMPLES.parent / "crates" / "dlk" / "src" / "tests" / "examples.rt"
 
 
 def printed(name, text=None):
@@ -22,7 +24,10 @@ def printed(name, text=None):
 def main():
     """Prints each model twice."""
     models = sorted((EXAMPLES / "models").iterdir())
+    tested = TESTS.read_text()
     for model in models:
+        if model.read_text().replace("\\", "\\\\") not in tested:
+            raise SystemExit(f"print_models.py: {model.name}: the tests have another text of it")
         once = printed(model)
         if printed("-", once) != once:
             raise SystemExit(f"print_models.py: {model.name}: its text is printed otherwise")

@@ -1,4 +1,5 @@
 // The program over a desk in memory.
+mod examples;
 mod models;
 mod printing;
 
