@@ -6,10 +6,13 @@ ghost use Rattle.dlk_tree.specs.Trees.{node, size, depth};
 ghost use Rattle.dlk_store.specs.Stores.{IsId, tree, kid_trees};
 ghost use Rattle.dlk_plain.specs.Plain.{trees_of, AreSoundNodes};
 
+use crate::list::{names_in_order, symbols_in_order, vars_in_order};
 use crate::node::PlainNode;
-use dlk_store::{Id, Node, Steps, Store, StoreFault};
-use dlk_tree::{Op, same_op};
+use crate::sought::{Sought, VarSet, of_tree};
+use dlk_store::{Id, Listing, Node, Steps, Store, StoreFault, Vars, Which};
+use dlk_tree::{Op, Sym, Var, same_op};
 use std::alloc::Global;
+use std::collections::BTreeSet;
 use std::sync::ledger::Ledger;
 
 /// A store that keeps a node for each `make` and answers every question by walking. Its ids are the nodes' places.
@@ -134,5 +137,60 @@ impl Store for PlainStore {
 
     fn depth(&self, id: Id) -> u32 {
         self.depth_at(id)
+    }
+
+    fn frees(&self, id: Id, v: &Var) -> bool {
+        self.sets_at(id, v.name.bytes()).free.at(v.primed)
+    }
+
+    fn binds(&self, id: Id, v: &Var) -> bool {
+        self.sets_at(id, v.name.bytes()).bound.at(v.primed)
+    }
+
+    fn must(&self, id: Id, v: &Var) -> bool {
+        self.sets_at(id, v.name.bytes()).must.at(v.primed)
+    }
+
+    fn mentions(&self, id: Id, s: &Sym) -> bool {
+        self.has_at(id, Sought::Symbol(s))
+    }
+
+    fn has_dot(&self, id: Id, n: u8) -> bool {
+        self.has_at(id, Sought::Dot(n))
+    }
+
+    fn has_hole(&self, id: Id) -> bool {
+        self.has_at(id, Sought::Hole)
+    }
+
+    fn any_free(&self, id: Id) -> bool {
+        self.has_some(VarSet::Free(id), id)
+    }
+
+    fn free_meets_bound(&self, e: Id, a: Id) -> bool {
+        let set = VarSet::FreeAndBound(e, a);
+        self.has_some(set, e) || self.has_some(set, a)
+    }
+
+    fn list(&self, alloc: Global, id: Id, which: Which) -> Result<Listing, StoreFault> {
+        let set = of_tree(which, id);
+        let others = self.in_set(set, &[]).plain;
+        let mut names = BTreeSet::new(alloc);
+        self.names_at(&mut names, id)?;
+        let names = names_in_order(alloc, names)?;
+        let mut vars = BTreeSet::new(alloc);
+        self.list_names(&mut vars, set, others, names.as_slice())?;
+        let vars = vars_in_order(alloc, vars)?;
+        Ok(Listing {
+            all_but: others,
+            vars: Vars::new(vars),
+        })
+    }
+
+    fn symbols(&self, alloc: Global, id: Id) -> Result<Vec<Sym>, StoreFault> {
+        let mut syms = BTreeSet::new(alloc);
+        self.symbols_at(&mut syms, id)?;
+        let syms = symbols_in_order(alloc, syms)?;
+        Ok(syms)
     }
 }

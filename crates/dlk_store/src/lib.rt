@@ -4,16 +4,24 @@
 ghost use Rattle.std.specs.Prelude.{◌≡◌, ◌↔◌, ◌+◌, ◌-◌, ◌^◌, min, IsTrue, IfOk, All, List, Bool};
 ghost use Rattle.dlk_tree.specs.Trees.{Tree, node, size, depth, WellMade};
 ghost use Rattle.dlk_tree.specs.Table.{Fits};
+ghost use Rattle.dlk_tree.specs.Statics.{free, bound, must, both};
+ghost use Rattle.dlk_tree.specs.Occurs.{occurs, has_dot, has_hole};
+ghost use Rattle.dlk_tree.specs.Listed.{IsInhabited, IsSignature};
 ghost use Rattle.dlk_store.specs.declared.StoreFault.TheVariants.{Memory};
+ghost use Rattle.dlk_store.specs.Listings.{set_of, Lists};
 ghost use Rattle.dlk_store.specs.Stores.{IsId, tree, StandsFor, Keeps, kid_trees, sorts_at, HasOneId};
 
-use dlk_tree::Op;
+use dlk_tree::{Op, Sym, Var};
 use std::alloc::{AllocError, AllocFailed, Global};
 use std::sync::ledger::Ledger;
 use thiserror::Error;
 
+mod laws;
+mod listing;
 mod steps;
 
+pub use laws::{one_listing, one_signature};
+pub use listing::{Listing, Vars, Which};
 pub use steps::Steps;
 
 /// A node's number in its store.
@@ -95,6 +103,66 @@ pub trait Store {
     fn depth(&self, id: Id) -> u32
         requires { IsId (trees self.now) id }
         ensures { result ≡ min (depth (tree (trees self.now) id)) (2 ^ 32 - 1) };
+
+    /// Whether the variable is free in the tree: the tree reads it.
+    fn frees(&self, id: Id, v: &Var) -> bool
+        requires { IsId (trees self.now) id }
+        ensures { result ≡ free (tree (trees self.now) id) v.now };
+
+    /// Whether the variable is bound in the tree: the tree may change it.
+    fn binds(&self, id: Id, v: &Var) -> bool
+        requires { IsId (trees self.now) id }
+        ensures { result ≡ bound (tree (trees self.now) id) v.now };
+
+    /// Whether the variable is must-bound in the program: each run changes it. False for a term and a formula.
+    fn must(&self, id: Id, v: &Var) -> bool
+        requires { IsId (trees self.now) id }
+        ensures { result ≡ must (tree (trees self.now) id) v.now };
+
+    /// Whether the symbol occurs in the tree, with this kind, name, arity and taboo.
+    fn mentions(&self, id: Id, s: &Sym) -> bool
+        requires { IsId (trees self.now) id }
+        ensures { result ≡ occurs s.now (tree (trees self.now) id) };
+
+    /// Whether the argument dot of this number stands in the tree.
+    fn has_dot(&self, id: Id, n: u8) -> bool
+        requires { IsId (trees self.now) id }
+        ensures { result ≡ has_dot n (tree (trees self.now) id) };
+
+    /// Whether `_` stands in the tree.
+    fn has_hole(&self, id: Id) -> bool
+        requires { IsId (trees self.now) id }
+        ensures { result ≡ has_hole (tree (trees self.now) id) };
+
+    /// Whether some variable is free in the tree.
+    fn any_free(&self, id: Id) -> bool
+        requires { IsId (trees self.now) id }
+        ensures { IsTrue result ↔ IsInhabited (free (tree (trees self.now) id)) };
+
+    /// Whether some variable is free in `e` and bound in `a`.
+    fn free_meets_bound(&self, e: Id, a: Id) -> bool
+        requires first { IsId (trees self.now) e }
+        requires second { IsId (trees self.now) a }
+        ensures { IsTrue result ↔ IsInhabited (both (free (tree (trees self.now) e)) (bound (tree (trees self.now) a))) };
+
+    /// One of the three sets of the tree, listed; there is one listing of it (`one_listing`).
+    ///
+    /// # Errors
+    ///
+    /// `Memory` alone.
+    fn list(&self, alloc: Global, id: Id, which: Which) -> Result<Listing, StoreFault>
+        requires { IsId (trees self.now) id }
+        ensures { IfOk result (Lists (set_of which (tree (trees self.now) id))) };
+
+    /// The symbols that occur in the tree, in order of kind, name, arity and taboo, no taboo first; there is one such list
+    /// (`one_signature`).
+    ///
+    /// # Errors
+    ///
+    /// `Memory` alone.
+    fn symbols(&self, alloc: Global, id: Id) -> Result<Vec<Sym>, StoreFault>
+        requires { IsId (trees self.now) id }
+        ensures { IfOk result (λ syms. IsSignature (tree (trees self.now) id) syms.items) };
 
     // Growth goes on, and each old id stands for the same tree.
     ghost grows_refl: { (a : Self) → grows a a };

@@ -3,3 +3,7 @@ pub mod Tests
 pub mod Table
 pub mod Trees
 pub mod Occurs
+pub mod Statics
+pub mod Listed
+pub mod Named
+pub mod StaticsExamples
