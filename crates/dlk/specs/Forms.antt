@@ -1,7 +1,7 @@
 -- The forms of the words of a command line: a verb, and then a word for each of its inputs.
 use Rattle.std.specs.Prelude.{ℕ, ◌&&◌, ◌==◌, Bool, false, List, [], ◌∷◌, length, take, drop, map, Option, find, bytes_eq, codes}
 use Rattle.dlk.specs.declared.command.Command.{Command}
-use Rattle.dlk.specs.declared.command.Command.TheVariants.{Check, Print}
+use Rattle.dlk.specs.declared.command.Command.TheVariants.{Check, Print, Vars}
 use Rattle.dlk.specs.declared.command.Role.{Role}
 use Rattle.dlk.specs.declared.command.Role.TheVariants.{Model, Term, File}
 
@@ -11,11 +11,13 @@ Word = List ℕ
 abbrev pub verb_of : Command → Word
 verb_of Check = codes "check"
 verb_of Print = codes "print"
+verb_of Vars = codes "vars"
 
 -- what the words after the verb name, in their order
 abbrev pub roles_of : Command → List Role
 roles_of Check = Model ∷ Term ∷ []
 roles_of Print = File ∷ []
+roles_of Vars = File ∷ []
 
 -- the word for an input in a refusal
 abbrev pub word_of : Role → Word
@@ -30,7 +32,7 @@ limit_of Term = 65536
 limit_of File = 1048576
 
 abbrev pub commands : List Command
-commands = Check ∷ Print ∷ []
+commands = Check ∷ Print ∷ Vars ∷ []
 
 abbrev pub has_form : List Word → Command → Bool
 has_form [] command = false

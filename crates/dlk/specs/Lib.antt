@@ -4,6 +4,7 @@ pub mod Inputs
 pub mod Refusals
 pub mod Checks
 pub mod Prints
+pub mod Lists
 pub mod Answers
 pub mod Runs
 pub mod Headline

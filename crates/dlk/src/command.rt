@@ -9,6 +9,8 @@ pub enum Command {
     Check,
     /// Prints an expression's canonical text.
     Print,
+    /// Prints an expression's free, bound and must-bound variables, and its symbols.
+    Vars,
 }
 
 /// What a word after the verb names.
@@ -35,7 +37,7 @@ impl Role {
     }
 }
 
-const COMMANDS: [Command; 2] = [Command::Check, Command::Print];
+const COMMANDS: [Command; 3] = [Command::Check, Command::Print, Command::Vars];
 
 impl Command {
     /// Its name on the command line.
@@ -45,6 +47,7 @@ impl Command {
         match self {
             Command::Check => "check",
             Command::Print => "print",
+            Command::Vars => "vars",
         }
     }
 
@@ -54,7 +57,7 @@ impl Command {
     {
         match self {
             Command::Check => &[Role::Model, Role::Term],
-            Command::Print => &[Role::File],
+            Command::Print | Command::Vars => &[Role::File],
         }
     }
 
@@ -87,7 +90,7 @@ impl Command {
         const FILE: usize = 1_048_576;
         match self {
             Command::Check => &[MODEL, TERM],
-            Command::Print => &[FILE],
+            Command::Print | Command::Vars => &[FILE],
         }
     }
 

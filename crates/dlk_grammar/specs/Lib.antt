@@ -10,3 +10,5 @@ pub mod Readings
 pub mod Texts
 pub mod Shown
 pub mod ShownExamples
+pub mod Symbols
+pub mod SymbolsExamples

@@ -3,8 +3,8 @@ use crate::given::give;
 use crate::row::Row;
 use dlk_rules::Step;
 use dlk_sequent::Sequent;
-use dlk_store::{Id, Node, Steps, Store, StoreFault};
-use dlk_tree::Op;
+use dlk_store::{Id, Listing, Node, Steps, Store, StoreFault, Which};
+use dlk_tree::{Op, Sym, Var};
 use std::alloc::Global;
 use std::marker::Model;
 use std::sync::ledger::Ledger;
@@ -191,6 +191,46 @@ impl<S: Store> Store for Kernel<S> {
 
     fn depth(&self, id: Id) -> u32 {
         self.store.depth(id)
+    }
+
+    fn frees(&self, id: Id, v: &Var) -> bool {
+        self.store.frees(id, v)
+    }
+
+    fn binds(&self, id: Id, v: &Var) -> bool {
+        self.store.binds(id, v)
+    }
+
+    fn must(&self, id: Id, v: &Var) -> bool {
+        self.store.must(id, v)
+    }
+
+    fn mentions(&self, id: Id, s: &Sym) -> bool {
+        self.store.mentions(id, s)
+    }
+
+    fn has_dot(&self, id: Id, n: u8) -> bool {
+        self.store.has_dot(id, n)
+    }
+
+    fn has_hole(&self, id: Id) -> bool {
+        self.store.has_hole(id)
+    }
+
+    fn any_free(&self, id: Id) -> bool {
+        self.store.any_free(id)
+    }
+
+    fn free_meets_bound(&self, e: Id, a: Id) -> bool {
+        self.store.free_meets_bound(e, a)
+    }
+
+    fn list(&self, alloc: Global, id: Id, which: Which) -> Result<Listing, StoreFault> {
+        self.store.list(alloc, id, which)
+    }
+
+    fn symbols(&self, alloc: Global, id: Id) -> Result<Vec<Sym>, StoreFault> {
+        self.store.symbols(alloc, id)
     }
 
     ghost grows_refl = { λ a. (S.grows_refl a.store, record { ids = refl; provables = refl }) };

@@ -1,4 +1,4 @@
-//! Canonical text of trees and sequents.
+//! Canonical text of trees, sequents, variables and symbols.
 #![tactic(auto)]
 
 mod append;
@@ -7,7 +7,9 @@ mod number;
 mod printing;
 mod sequent;
 mod style;
+mod symbol;
 
 pub use fault::PrintFault;
 pub use printing::text;
 pub use sequent::sequent_text;
+pub use symbol::{symbol_text, variable_text};

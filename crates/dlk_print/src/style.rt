@@ -83,7 +83,7 @@ pub(crate) fn open(out: &mut Vec<u8>, op: &Op) -> Result<(), PrintFault>
 }
 
 /// Appends a variable's name, and behind it the first of the texts, or the other where it is primed.
-fn append_variable(
+pub(crate) fn append_variable(
     out: &mut Vec<u8>,
     v: &Var,
     plain: &[u8],
@@ -94,7 +94,7 @@ fn append_variable(
     append_name(out, &v.name, if v.primed { primed } else { plain })
 }
 
-fn append_dot(out: &mut Vec<u8>, n: u8) -> Result<(), PrintFault>
+pub(crate) fn append_dot(out: &mut Vec<u8>, n: u8) -> Result<(), PrintFault>
     ensures { Appends out.old.items out.new.items (codes "._" ++ decimal n) result }
 {
     append(out, b"._")?;
@@ -145,7 +145,7 @@ pub(crate) fn close(out: &mut Vec<u8>, op: &Op) -> Result<(), PrintFault>
 }
 
 /// Appends the brackets of a unit symbol with this taboo.
-fn unit_brackets(out: &mut Vec<u8>, taboo: &Option<Name>) -> Result<(), PrintFault>
+pub(crate) fn unit_brackets(out: &mut Vec<u8>, taboo: &Option<Name>) -> Result<(), PrintFault>
     ensures { Appends out.old.items out.new.items (spell (unit_brackets taboo.now)) result }
 {
     match taboo {
