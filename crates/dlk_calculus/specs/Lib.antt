@@ -1,5 +1,10 @@
 pub mod Reasons
 pub mod Places
+pub mod Kids
+pub mod Captures
+pub mod Plug
+pub mod Pairs
+pub mod Subst
 pub mod Sequents
 pub mod Rules
 pub mod Provables
