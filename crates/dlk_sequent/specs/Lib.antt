@@ -1,1 +1,2 @@
 pub mod Sequents
+pub mod Substitutions

@@ -1,8 +1,10 @@
-//! Sequents over the ids of a store.
+//! Sequents and substitutions over the ids of a store.
 #![tactic(auto)]
 
 mod listed;
 mod sequent;
+mod subst;
 
 pub use listed::{Listed, item_at};
 pub use sequent::{Place, Sequent};
+pub use subst::{Pair, Subst, SubstFault};

@@ -1,0 +1,10 @@
+//! Uniform substitution by plain recursion, over any store.
+#![tactic(auto)]
+
+mod fault;
+mod subst;
+
+pub use dlk_calculus::Why;
+pub use dlk_sequent::{Pair, Subst, SubstFault};
+pub use fault::ApplyFault;
+pub use subst::apply;
