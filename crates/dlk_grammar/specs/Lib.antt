@@ -7,6 +7,7 @@ pub mod Phrases
 pub mod Grammar
 pub mod Erased
 pub mod Readings
+pub mod Substitutions
 pub mod Texts
 pub mod Shown
 pub mod ShownExamples

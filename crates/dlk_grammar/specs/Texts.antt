@@ -1,12 +1,14 @@
--- What texts of trees and sequents say, and why a text is none.
+-- What texts of trees, sequents and substitutions say, and why a text is none.
 use Rattle.std.specs.Prelude.{ℕ, List}
 use Rattle.dlk_tree.specs.Trees.{Tree}
+use Rattle.dlk_calculus.specs.Pairs.{Pair}
 use Rattle.dlk_calculus.specs.Sequents.{Sequent as TreeSequent}
 use Rattle.dlk_grammar.specs.declared.token.Token.{Token}
 use Rattle.dlk_grammar.specs.declared.token.Dots.{Dots}
 use Rattle.dlk_grammar.specs.declared.token.Form.{Form}
 use Rattle.dlk_grammar.specs.Splits.{Splits, BadAt}
 use Rattle.dlk_grammar.specs.Readings.{ReadFault, IsTree, IsTreeFault, IsSequentOf, IsSequentFault}
+use Rattle.dlk_grammar.specs.Substitutions.{ArePairs, ArePairsFault}
 
 -- the bytes are a text of the tree
 pub record TreeText (form : Form) (d : Dots) (bytes : List ℕ) (t : Tree) : Type 0 where
@@ -19,6 +21,12 @@ pub record SequentText (bytes : List ℕ) (s : TreeSequent) : Type 0 where
   pub tokens : List Token
   pub splits : Splits 0 bytes tokens
   pub reads : IsSequentOf tokens s
+
+-- the bytes are a text of the pairs
+pub record PairsText (bytes : List ℕ) (pairs : List Pair) : Type 0 where
+  pub tokens : List Token
+  pub splits : Splits 0 bytes tokens
+  pub reads : ArePairs tokens pairs
 
 -- why bytes are no text
 pub data TextFault : Type 0 where
@@ -35,3 +43,7 @@ TreeTextFault form d bytes (Unread why) = (tokens : List Token) × Splits 0 byte
 abbrev pub SequentTextFault : List ℕ → TextFault → Type 0
 SequentTextFault bytes (BadByte at) = BadAt 0 bytes at
 SequentTextFault bytes (Unread why) = (tokens : List Token) × Splits 0 bytes tokens × IsSequentFault tokens why
+
+abbrev pub PairsTextFault : List ℕ → TextFault → Type 0
+PairsTextFault bytes (BadByte at) = BadAt 0 bytes at
+PairsTextFault bytes (Unread why) = (tokens : List Token) × Splits 0 bytes tokens × ArePairsFault tokens why

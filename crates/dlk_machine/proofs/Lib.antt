@@ -19,3 +19,4 @@ pub mod ParseLaws
 pub mod Formed
 pub mod TextLaws
 pub mod SomeText
+pub mod Pairs
