@@ -4,3 +4,4 @@ pub mod RuleLaws
 pub mod StepLaws
 pub mod Histories
 pub mod Formulas
+pub mod OneResult
