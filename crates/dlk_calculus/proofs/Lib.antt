@@ -7,3 +7,4 @@ pub mod Formulas
 pub mod OneResult
 pub mod WellFormed
 pub mod Sorts
+pub mod Systems

@@ -129,11 +129,11 @@ replacement_sort pairs k s r well is found =
 
 -- ---- kids
 
-abbrev head : List Sort → Sort
+abbrev pub head : List Sort → Sort
 head [] = Program
 head (s ∷ ss) = s
 
-abbrev tail : List Sort → List Sort
+abbrev pub tail : List Sort → List Sort
 tail [] = []
 tail (s ∷ ss) = ss
 
