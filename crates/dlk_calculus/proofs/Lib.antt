@@ -8,3 +8,4 @@ pub mod OneResult
 pub mod WellFormed
 pub mod Sorts
 pub mod Systems
+pub mod MadeResults
