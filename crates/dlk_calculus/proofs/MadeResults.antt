@@ -1,8 +1,7 @@
 -- Plugging, filling and substitution make well-made trees, but for a system with other items than a system may have.
-use Rattle.std.proofs.Common.{◌≡◌, refl, sym, subst, ℕ, List, Bool, true, false, Option, None, Some, slice_get, cond}
+use Rattle.std.proofs.Common.{◌≡◌, refl, sym, subst, List, Bool, true, false, Option, None, Some, cond}
 use Rattle.std.specs.Prelude.{All, IsTrue}
 use Rattle.std.proofs.lemmas.List.Elements.{All-cons, All-nil}
-use Rattle.std.proofs.lemmas.Option.{slice_get_within, get_or_from_slice_get}
 use Rattle.dlk_tree.specs.declared.op.Sym.{Sym}
 use Rattle.dlk_tree.specs.declared.op.Sort.TheVariants.{Formula}
 use Rattle.dlk_tree.specs.declared.op.OdeItem.{OdeItem}
@@ -18,7 +17,7 @@ use Rattle.dlk_calculus.specs.Plug.{PlugAt, Plug, PlugAll, filled, filled_all}
 use Rattle.dlk_calculus.specs.Pairs.{Pair, replacement, AreMade}
 use Rattle.dlk_calculus.specs.Subst.{IsAdmissible, Replaced, SubstAt, new_items, new_kids}
 use Rattle.dlk_calculus.proofs.WellFormed.{replacement_made}
-use Rattle.dlk_calculus.proofs.Sorts.{AreTerms, plug_sorts, fill_sorts, fits_still, terms_replicated, first_sort}
+use Rattle.dlk_calculus.proofs.Sorts.{AreTerms, argument_has, plug_sorts, fill_sorts, fits_still, terms_replicated, first_sort}
 use Rattle.dlk_calculus.proofs.Systems.{system_fits, new_kids_made}
 
 pub trees_made : (kids : Forest) → AllWellMade kids → All WellMade (trees_in kids)
@@ -32,11 +31,8 @@ stays_made op new t fits made e = subst WellMade (sym e) (fits, made)
 -- ---- plugging
 
 module _ (args : List Tree) (terms : AreTerms args) (args_made : All WellMade args) where
-  arg_made : (n : ℕ) (a : Tree) → slice_get args n ≡ Some a → WellMade a
-  arg_made n a e = subst WellMade (get_or_from_slice_get args n a a e) (args_made n a (slice_get_within args n a e))
-
   pub plug_at_made : (op : Op) (old new : Forest) (t : Tree) → Fits op (sorts new) → AllWellMade new → PlugAt args op old new t → WellMade t
-  plug_at_made (Op'.Dot n) old new t fits made p = arg_made n t p
+  plug_at_made (Op'.Dot n) old new t fits made p = argument_has WellMade args n t args_made p
   plug_at_made op old new t fits made p = stays_made op new t fits made p.1
 
   mutual

@@ -28,11 +28,12 @@ use Rattle.dlk_calculus.proofs.WellFormed.{replacement_of_kind}
 abbrev pub AreTerms : List Tree → Type 0
 AreTerms args = All (λ (a : Tree). sort a ≡ Term) args
 
-pub term_at : (args : List Tree) (n : ℕ) (a : Tree) → AreTerms args → slice_get args n ≡ Some a → sort a ≡ Term
-term_at args n a terms e = subst (λ t. sort t ≡ Term) (get_or_from_slice_get args n a a e) (terms n a (slice_get_within args n a e))
+-- what holds of each argument holds of the one that is found
+pub argument_has : (P : Tree → Type 0) (args : List Tree) (n : ℕ) (a : Tree) → All P args → slice_get args n ≡ Some a → P a
+argument_has P args n a all e = subst P (get_or_from_slice_get args n a a e) (all n a (slice_get_within args n a e))
 
 pub plug_at_sort : (args : List Tree) (op : Op) (old new : Forest) (t : Tree) → AreTerms args → PlugAt args op old new t → sort t ≡ sort_of op
-plug_at_sort args (Op'.Dot n) old new t terms p = term_at args n t terms p
+plug_at_sort args (Op'.Dot n) old new t terms p = argument_has (λ (a : Tree). sort a ≡ Term) args n t terms p
 plug_at_sort args _ old new t terms p = ap sort p.1
 
 pub plug_sort : (args : List Tree) (r t : Tree) → AreTerms args → Plug args r t → sort t ≡ sort r
