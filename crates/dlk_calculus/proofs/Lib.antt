@@ -4,3 +4,8 @@ pub mod RuleLaws
 pub mod StepLaws
 pub mod Histories
 pub mod Formulas
+pub mod OneResult
+pub mod WellFormed
+pub mod Sorts
+pub mod Systems
+pub mod MadeResults
