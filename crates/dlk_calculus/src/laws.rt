@@ -1,8 +1,27 @@
 //! The laws of the calculus. Each is a contract of a function that does nothing.
 ghost use Rattle.std.specs.Prelude.{◌≡◌, ◌⊎◌, ◌↔◌, List, All};
+ghost use Rattle.dlk_tree.specs.Trees.{Tree, sort, WellMade};
+ghost use Rattle.dlk_calculus.specs.Pairs.{Pair, IsWellFormed, AreMade};
+ghost use Rattle.dlk_calculus.specs.Plug.{Plug};
+ghost use Rattle.dlk_calculus.specs.Subst.{Subst};
 ghost use Rattle.dlk_calculus.specs.declared.reason.Reason.{Reason as TheReason};
 ghost use Rattle.dlk_calculus.specs.Provables.{Provable, HasFormulas};
 ghost use Rattle.dlk_calculus.specs.Steps.{Step, Gives, Against, History, Derives, Fault, StepOf};
+
+/// A replacement has at most one result with given arguments.
+pub fn one_plug()
+    ensures { (args : List Tree) (r s t : Tree) → Plug args r s → Plug args r t → s ≡ t }
+{}
+
+/// A substitution makes at most one tree of a tree.
+pub fn one_subst()
+    ensures { (pairs : List Pair) (e s t : Tree) → Subst pairs e s → Subst pairs e t → s ≡ t }
+{}
+
+/// What a substitution makes is of the same sort.
+pub fn subst_keeps_sort()
+    ensures { (pairs : List Pair) → IsWellFormed pairs → (e t : Tree) → WellMade e → Subst pairs e t → sort t ≡ sort e }
+{}
 
 /// A step gives at most one provable.
 pub fn one_provable()
