@@ -18,7 +18,7 @@ loop-k-init t c =
     let rest : List ℕ → Bool = λ y. any_has (any_name (bytes_eq y)) (kid_trees trees ks) in
     let whole : List ℕ → Bool = λ y. is_named y (tree trees c.args.id) in
     record {
-      rest = Owes-rest bytes_eq first rest whole c.args.names.now.keys c.add_names.new.names.keys (λ y. ap (is_named y) e) c.in_ok-add_names.ensures;
+      rest = Owes-rest bytes_eq first rest whole (λ y. ap (is_named y) e) c.args.names.now.keys c.add_names.new.names.keys c.in_ok-add_names.ensures;
       known = c.node-node.ensures.known;
       smaller = λ i d h. kid_smaller trees (tree trees c.args.id) op ks i d e h;
     }

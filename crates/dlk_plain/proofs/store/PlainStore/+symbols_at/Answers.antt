@@ -18,7 +18,7 @@ loop-k-init t c =
     let rest : Sym → Bool = λ s. any_has (has_symbol s) (kid_trees trees ks) in
     let whole : Sym → Bool = λ s. occurs s (tree trees c.args.id) in
     record {
-      rest = Owes-rest sym_eq first rest whole c.args.syms.now.keys c.add_symbols.new.syms.keys (λ s. ap (occurs s) e) c.in_ok-add_symbols.ensures;
+      rest = Owes-rest sym_eq first rest whole (λ s. ap (occurs s) e) c.args.syms.now.keys c.add_symbols.new.syms.keys c.in_ok-add_symbols.ensures;
       known = c.node-node.ensures.known;
       smaller = λ i d h. kid_smaller trees (tree trees c.args.id) op ks i d e h;
     }
