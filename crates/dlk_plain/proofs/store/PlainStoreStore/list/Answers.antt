@@ -5,6 +5,8 @@ use Rattle.dlk_tree.specs.Tests.{var_eq}
 use Rattle.dlk_tree.specs.Named.{is_named, nowhere}
 use Rattle.dlk_tree.specs.Trees.{Tree, WellMade}
 use Rattle.dlk_tree.specs.declared.op.Var.{Var}
+use Rattle.dlk_tree.proofs.Elsewhere.{elsewhere}
+use Rattle.dlk_tree.proofs.SomeVar.{not_named}
 use Rattle.dlk_store.specs.Stores.{tree}
 use Rattle.dlk_store.specs.Listings.{set_of as set_in}
 use Rattle.dlk_store.specs.declared.Id.{Id}
@@ -26,9 +28,9 @@ asked_set trees Must id = refl
 
 -- a variable that the tree doesn't name is in the set as the others are
 alike : (which : Which) (t : Tree) → WellMade t → (v : Var) → is_named v.name t ≡ false → set_in which t v ≡ set_in which t nowhere
-alike Free t made v h = ?
-alike Bound t made v h = ?
-alike Must t made v h = ?
+alike Free t made v h = (elsewhere t v nowhere h (not_named t made)).free
+alike Bound t made v h = (elsewhere t v nowhere h (not_named t made)).bound
+alike Must t made v h = (elsewhere t v nowhere h (not_named t made)).must
 
 pub returns : goal.returns
 returns c =
