@@ -1,4 +1,4 @@
-use Rattle.std.proofs.Common.{◌≡◌, ◌∙◌, ◌||◌, ℕ, Bool, true, false, List, [], ap, sym, refl, subst}
+use Rattle.std.proofs.Common.{◌≡◌, ◌∙◌, ℕ, Bool, false, List, [], ap, sym, refl, subst}
 use Rattle.std.specs.List.{list_any}
 use Rattle.std.specs.Str.{bytes_eq}
 use Rattle.dlk_tree.specs.Tests.{var_eq}
@@ -46,9 +46,9 @@ returns c =
     let found = subst (λ (old : List (List ℕ)). Adds bytes_eq (λ x. is_named x t) old c.names_at.new.names.keys) c.new-names.ensures.empty c.in_ok-names_at.ensures in
     let same_names = c.as_slice.ensures.value ∙ c.in_ok-names.ensures.items in
     let named : List ℕ → Bool = λ x. list_any (bytes_eq x) names in
-    let unnamed : (v : Var) → named v.name ≡ false → set v ≡ others =
-        λ v h. alike c.args.which t (all_made nodes c.args.self.now.sound c.args.id.0 _ c.requires) v
-            (sym (ap (λ (xs : List (List ℕ)). list_any (bytes_eq v.name) xs) same_names ∙ found.adds v.name) ∙ h) ∙ sym rest in
+    let found_are : (x : List ℕ) → is_named x t ≡ named x = λ x. sym (ap (λ (xs : List (List ℕ)). list_any (bytes_eq x) xs) same_names ∙ found.adds x) in
+    let made = all_made nodes c.args.self.now.sound c.args.id.0 _ c.requires in
+    let unnamed : (v : Var) → named v.name ≡ false → set v ≡ others = λ v h. alike c.args.which t made v (found_are v.name ∙ h) ∙ sym rest in
     let from_none = subst (λ (old : List Var). Adds var_eq (told (set_of trees c.of_tree-set.result) others named) old vars) c.new-vars.ensures.empty c.in_ok-list_names.ensures in
     let adds = subst (λ (s : Var → Bool). Adds var_eq (told s others named) [] vars) same_set from_none in
     rw (c.new.ensures, c.in_ok-vars.ensures.items) (listing_of_names set others named vars unnamed c.vars_in_order.ensures.ordered adds)
