@@ -15,6 +15,7 @@ pub mod Parsing
 pub mod Reading
 pub mod ExpressionLaws
 pub mod SequentLaws
+pub mod PairLaws
 pub mod ParseLaws
 pub mod Formed
 pub mod TextLaws

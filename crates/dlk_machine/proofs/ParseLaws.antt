@@ -10,11 +10,13 @@ use Rattle.dlk_grammar.specs.Lexemes.{Lexeme}
 use Rattle.dlk_grammar.specs.Phrases.{Phrase}
 use Rattle.dlk_grammar.specs.Grammar.{Nonterminal, Reads, Sides, ReadsSequent, ReadsExpression}
 use Rattle.dlk_grammar.specs.Readings.{Permitted, Says, Stops, grammar}
+use Rattle.dlk_grammar.specs.Substitutions.{PairPhrase, ReadsSubstitution}
 use Rattle.dlk_machine.proofs.Levels.{form_sort, top}
 use Rattle.dlk_machine.proofs.Machine.{State}
 use Rattle.dlk_machine.proofs.Parse.{Machine, parse, reader}
 use Rattle.dlk_machine.proofs.Expressions.{ExpressionState, expression_reader}
 use Rattle.dlk_machine.proofs.Sequents.{sequent_reader}
+use Rattle.dlk_machine.proofs.Pairs.{pairs_reader}
 use Rattle.dlk_machine.proofs.Climb.{stands}
 use Rattle.dlk_machine.proofs.Only.{top_sort}
 use Rattle.dlk_machine.proofs.Live.{top_need}
@@ -22,6 +24,7 @@ use Rattle.dlk_machine.proofs.Parsing.{Reader, only_text, found_text, stops_text
 use Rattle.dlk_machine.proofs.Reading.{reads_all}
 use Rattle.dlk_machine.proofs.ExpressionLaws.{expressions_all}
 use Rattle.dlk_machine.proofs.SequentLaws.{sequents_all}
+use Rattle.dlk_machine.proofs.PairLaws.{pairs_all}
 
 abbrev parsed : {P : Type 0} → P → Result P ℕ
 parsed p = Ok p
@@ -100,6 +103,22 @@ sequent_fault_says_nothing d s n e = faulty sequent_reader ReadsSequent d (seque
 
 pub one_sides_read : (s : List Lexeme) (p q : Sides) → ReadsSequent s p → ReadsSequent s q → p ≡ q
 one_sides_read s p q d e = one sequent_reader ReadsSequent (sequents_all Allowed) s p q d e
+
+-- Substitutions. Dots and the hole are part of their grammar: where they were refused, a text could begin that no text ends.
+pub pairs_read_says : (s : List Lexeme) (p : List PairPhrase) → parse Allowed pairs_reader s ≡ Ok p → Says Allowed ReadsSubstitution s p
+pairs_read_says s p e = found_text pairs_reader ReadsSubstitution Allowed pairs_all s p e
+
+pub pairs_says_read : (s : List Lexeme) (p : List PairPhrase) → Says Allowed ReadsSubstitution s p → parse Allowed pairs_reader s ≡ Ok p
+pairs_says_read s p h = only_text pairs_reader ReadsSubstitution Allowed pairs_all s p h
+
+pub pairs_fault_stops : (s : List Lexeme) (n : ℕ) → parse Allowed pairs_reader s ≡ Err n → Stops Allowed ReadsSubstitution s n
+pairs_fault_stops s n e = stops_text pairs_reader ReadsSubstitution Allowed pairs_all s n e
+
+pub pairs_fault_says_nothing : (s : List Lexeme) (n : ℕ) → parse Allowed pairs_reader s ≡ Err n → (p : List PairPhrase) → ¬ Says Allowed ReadsSubstitution s p
+pairs_fault_says_nothing s n e = faulty pairs_reader ReadsSubstitution Allowed pairs_all s n e
+
+pub one_pairs_read : (s : List Lexeme) (p q : List PairPhrase) → ReadsSubstitution s p → ReadsSubstitution s q → p ≡ q
+one_pairs_read s p q d e = one pairs_reader ReadsSubstitution pairs_all s p q d e
 
 -- the machine of a goal
 abbrev pub FormState : Form → Type 0
