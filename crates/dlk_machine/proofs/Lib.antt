@@ -15,6 +15,10 @@ pub mod Parsing
 pub mod Reading
 pub mod ExpressionLaws
 pub mod SequentLaws
+pub mod PairTerms
+pub mod PairTargets
+pub mod PairItems
+pub mod PairStates
 pub mod PairLaws
 pub mod ParseLaws
 pub mod Formed
