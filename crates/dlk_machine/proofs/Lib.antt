@@ -19,6 +19,7 @@ pub mod PairTerms
 pub mod PairTargets
 pub mod PairItems
 pub mod PairStates
+pub mod PairEnds
 pub mod PairLaws
 pub mod ParseLaws
 pub mod Formed

@@ -1,10 +1,9 @@
 -- The right side of a pair: how it is read.
-use Rattle.std.proofs.Common.{◌≡◌, ℕ, Bool, true, false, List, [], ◌∷◌, ◌++◌, Option, Some, None, inl, inr, refl, sym, ap, subst, ◌∙◌}
-use Rattle.dlk_tree.specs.declared.op.Num.{Num}
+use Rattle.std.proofs.Common.{◌≡◌, ℕ, List, [], ◌∷◌, ◌++◌, Option, Some, None, inl, inr, refl, sym, ap, ◌∙◌}
 use Rattle.dlk_tree.specs.declared.op.Sort.{Sort}
 use Rattle.dlk_tree.specs.declared.op.Sort.TheVariants.{Term, Formula, Program}
 use Rattle.dlk_tree.specs.declared.op.Sym.{Sym}
-use Rattle.dlk_grammar.specs.Lexemes.{Word, Lexeme, Name, OpenBrace, CloseBrace, Comma, Becomes}
+use Rattle.dlk_grammar.specs.Lexemes.{Word, Lexeme, OpenBrace, CloseBrace, Comma, Becomes}
 use Rattle.dlk_grammar.specs.Phrases.{Phrase, Truth, System, Item, Evolve, Items, no_items, add}
 use Rattle.dlk_grammar.specs.Grammar.{formula, term, Reads, ReadsItems, items-one, items-more, ReadsItem, item-evolve, item-flow, item-except}
 use Rattle.dlk_grammar.specs.Substitutions.{Target, function, predicate, PairPhrase, to, ReadsPair, pair-formula, pair-term, pair-function, pair-context, pair-program, pair-flow, pair-flow-except}

@@ -1,5 +1,5 @@
 -- The tokens behind each state of the reader of a pair.
-use Rattle.std.proofs.Common.{◌≡◌, ℕ, ◌+◌, ◌==◌, Bool, true, false, List, [], ◌∷◌, ◌++◌, Option, Some, None, inl, inr, refl, sym, ap, subst, ◌∙◌, append_assoc}
+use Rattle.std.proofs.Common.{◌≡◌, ℕ, ◌+◌, ◌==◌, Bool, true, false, List, [], ◌∷◌, ◌++◌, Option, Some, inl, inr, refl, sym, ap, subst, ◌∙◌, append_assoc}
 use Rattle.std.specs.Prelude.{codes}
 use Rattle.std.specs.Str.{bytes_eq}
 use Rattle.std.proofs.lemmas.Bool.{eqb-true}
@@ -14,14 +14,14 @@ use Rattle.dlk_grammar.specs.Lexemes.{Word, Lexeme, Name, Dot, Blank, RoundBars,
 use Rattle.dlk_grammar.specs.Phrases.{Everywhere, Except, Phrase, Evolve, Flow, Items, no_items, add}
 use Rattle.dlk_grammar.specs.Grammar.{ReadsItems, item-evolve, item-flow, item-except}
 use Rattle.dlk_grammar.specs.Substitutions.{Target, Over, Unit, ReadsDots, dots-one, dots-more, target-nullary, target-dots, target-any, target-except}
-use Rattle.dlk_machine.proofs.Machine.{◌>>=◌, when, State, Wants, step, ended}
+use Rattle.dlk_machine.proofs.Machine.{◌>>=◌, State, Wants, step, ended}
 use Rattle.dlk_machine.proofs.Parse.{or_else, reader}
 use Rattle.dlk_machine.proofs.Opening.{some_is, bind_some, when_is, states, states_more}
 use Rattle.dlk_machine.proofs.Parsing.{known, none_some}
 use Rattle.dlk_machine.proofs.Spelled.{ItemsBefore, items-begin, items-go_on, items_joined}
 use Rattle.dlk_machine.proofs.Found.{ends}
 use Rattle.dlk_machine.proofs.Reading.{passed_after}
-use Rattle.dlk_machine.proofs.Pairs.{Right, EitherOf, TextOf, SystemOf, right_of, PairState, Begins, LeftName, TermName, Calls, DotsOf, DotWanted, Bars, BarsName, InContext, ContextHole, FlowOpens, FlowName, FlowBar, FlowBarName, FlowExcept, LeftEnds, InRight, BraceWanted, ItemWanted, ItemName, ItemPrime, InTerm, ItemBar, ItemBarName, ItemEnds, SystemEnds, target_step, right_start, right_sort, in_term, pair_step, pair_reader}
+use Rattle.dlk_machine.proofs.Pairs.{Right, EitherOf, TextOf, SystemOf, right_of, PairState, Begins, LeftName, TermName, Calls, DotsOf, DotWanted, Bars, BarsName, InContext, ContextHole, FlowOpens, FlowName, FlowBar, FlowBarName, FlowExcept, LeftEnds, InRight, BraceWanted, ItemWanted, ItemName, ItemPrime, InTerm, ItemBar, ItemBarName, ItemEnds, SystemEnds, target_step, right_start, right_sort, in_term, pair_step}
 use Rattle.dlk_machine.proofs.PairTargets.{the-word, LeftText, left-context, left-program, left-flow, left-flow-except, Behind, behind_nothing, behind_more, behind_same, target_left}
 
 -- the text of a right side, up to a state of its reader
@@ -175,13 +175,16 @@ left_ends_moves w _ y all l h = absurd (none_some y h)
 text_moves : (w : Right) (x : State) (k : Lexeme) (y : PairState) (all : List Lexeme) → IsText w → InText w x all → (step (right_sort w) x k >>= λ z. Some (InRight w z)) ≡ Some y → PairAfter y (all ++ k ∷ [])
 text_moves w x k y all t a h =
     let b = bind_some (step (right_sort w) x k) (λ z. Some (InRight w z)) y h in
-    moved (InRight w b.0) y _ b.2 (t, record {
-      front = a.front;
-      own = a.own ++ k ∷ [];
-      left_text = a.left_text;
-      passed = states_more (reader (right_sort w)) a.own k (Wants []) x b.0 a.passed b.1;
-      parts = more all (a.front ++ Becomes ∷ a.own) k a.parts ∙ append_assoc a.front (Becomes ∷ a.own) (k ∷ []);
-    })
+    moved (InRight w b.0) y _ b.2 (
+      t,
+      record {
+        front = a.front;
+        own = a.own ++ k ∷ [];
+        left_text = a.left_text;
+        passed = states_more (reader (right_sort w)) a.own k (Wants []) x b.0 a.passed b.1;
+        parts = more all (a.front ++ Becomes ∷ a.own) k a.parts ∙ append_assoc a.front (Becomes ∷ a.own) (k ∷ []);
+      },
+    )
 
 -- one more token of a system
 within : {s : Sym} {m : ℕ} {own all : List Lexeme} → InSystem s m own all → (k : Lexeme) → InSystem s m (own ++ k ∷ []) (all ++ k ∷ [])

@@ -1,19 +1,14 @@
 -- The left side of a pair: how it is read, and what its tokens are.
-use Rattle.std.proofs.Common.{◌≡◌, ℕ, ◌+◌, ◌==◌, Bool, true, false, List, [], ◌∷◌, ◌++◌, Option, Some, None, refl, sym, ap, subst, ◌∙◌, append_assoc, eq-eqb}
+use Rattle.std.proofs.Common.{◌≡◌, ℕ, ◌+◌, Bool, true, false, List, [], ◌∷◌, ◌++◌, Some, refl, sym, ap, subst, ◌∙◌, append_assoc, eq-eqb}
 use Rattle.std.specs.Prelude.{codes}
-use Rattle.std.specs.Str.{bytes_eq}
-use Rattle.std.proofs.lemmas.Bool.{eqb-true}
-use Rattle.std.proofs.lemmas.Slice.Eq.{bytes_eq-Decides}
 use Rattle.dlk_tree.specs.declared.op.Kind.TheVariants.{Quant, Prog, Ode}
 use Rattle.dlk_tree.specs.declared.op.Sort.TheVariants.{Term, Formula, Program}
 use Rattle.dlk_grammar.specs.Erased.{symbol}
-use Rattle.dlk_grammar.specs.Lexemes.{Word, Lexeme, Name, Dot, Blank, RoundBars, RoundBar, BarRound, BraceBar, BarBrace, Open, Close, OpenBrace, CloseBrace, Semi, Comma}
+use Rattle.dlk_grammar.specs.Lexemes.{Word, Lexeme, Name, Dot, Blank, BraceBar, BarBrace, Close, OpenBrace, CloseBrace, Semi, Comma}
 use Rattle.dlk_grammar.specs.Phrases.{Everywhere, Except}
-use Rattle.dlk_grammar.specs.Substitutions.{Target, Over, Unit, function, ReadsDots, dots-one, dots-more, ReadsTarget, target-nullary, target-dots, target-any, target-except}
-use Rattle.dlk_machine.proofs.Machine.{◌>>=◌, when}
-use Rattle.dlk_machine.proofs.Opening.{some_is, when_is, states, states_then}
-use Rattle.dlk_machine.proofs.Parsing.{none_some}
-use Rattle.dlk_machine.proofs.Pairs.{Right, EitherOf, TextOf, SystemOf, right_of, PairState, Begins, LeftName, TermName, Calls, DotsOf, DotWanted, Bars, BarsName, InContext, ContextHole, FlowOpens, FlowName, FlowBar, FlowBarName, FlowExcept, LeftEnds, target_step, pair_step, pair_reader}
+use Rattle.dlk_grammar.specs.Substitutions.{Target, Over, function, ReadsDots, dots-one, dots-more, ReadsTarget, target-nullary, target-dots, target-any, target-except}
+use Rattle.dlk_machine.proofs.Opening.{states, states_then}
+use Rattle.dlk_machine.proofs.Pairs.{Right, EitherOf, TextOf, SystemOf, right_of, PairState, Begins, LeftName, Calls, DotsOf, LeftEnds, pair_reader}
 
 -- the word `term` in front of a left side, or nothing
 pub data TermWord : Bool → List Lexeme → Type 0 where
@@ -75,8 +70,11 @@ pub record Behind (e : Bool) (own all : List Lexeme) : Type 0 where
 pub behind_nothing : (own all : List Lexeme) → all ≡ own → Behind false own all
 behind_nothing own all e = record { front = []; word = no-word; parts = e }
 
+pub behind_append : (e : Bool) (own all r : List Lexeme) → Behind e own all → Behind e (own ++ r) (all ++ r)
+behind_append e own all r a = record { front = a.front; word = a.word; parts = ap (λ (z : List Lexeme). z ++ r) a.parts ∙ append_assoc a.front own r }
+
 pub behind_more : (e : Bool) (own all : List Lexeme) (k : Lexeme) → Behind e own all → Behind e (own ++ k ∷ []) (all ++ k ∷ [])
-behind_more e own all k a = record { front = a.front; word = a.word; parts = ap (λ (z : List Lexeme). z ++ k ∷ []) a.parts ∙ append_assoc a.front own (k ∷ []) }
+behind_more e own all k a = behind_append e own all (k ∷ []) a
 
 -- other words for the tokens
 pub behind_same : (e : Bool) (own other all : List Lexeme) → own ≡ other → Behind e own all → Behind e other all

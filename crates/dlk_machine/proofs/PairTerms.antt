@@ -1,10 +1,10 @@
 -- No term goes on with the token }, which ends the system around it.
-use Rattle.std.proofs.Common.{◌≡◌, Bool, true, false, List, [], ◌∷◌, Option, Some, None, inl, inr, refl, sym, ap, subst, ◌∙◌}
+use Rattle.std.proofs.Common.{◌≡◌, Bool, true, false, List, Option, None, inl, inr, refl, sym, ap, subst, ◌∙◌}
 use Rattle.dlk_grammar.specs.declared.token.Infix.TheVariants.{Add, Sub, Mul, Div, Pow}
 use Rattle.dlk_grammar.specs.Lexemes.{Lexeme, CloseBrace}
 use Rattle.dlk_tree.specs.declared.op.Sort.{Sort}
 use Rattle.dlk_tree.specs.declared.op.Sort.TheVariants.{Term, Formula, Program}
-use Rattle.dlk_machine.proofs.Machine.{◌>>=◌, Between, By, Next, Prefix, Minus, Holder, Part, Left, Before, Inside, operand_sort, result_sort, prefix_sort, Piece, State, Wants, Has, OpensName, ItemName, ItemEnds, program_sort, is_program, reduce, round_sort, held_sort, place, allows, close, close_top, closing, step}
+use Rattle.dlk_machine.proofs.Machine.{◌>>=◌, Between, By, Next, Prefix, Minus, Holder, Part, operand_sort, result_sort, prefix_sort, Piece, State, Wants, Has, OpensName, ItemName, ItemEnds, program_sort, is_program, reduce, round_sort, held_sort, place, allows, close, close_top, closing, step}
 use Rattle.dlk_machine.proofs.Parsing.{known}
 use Rattle.dlk_machine.proofs.Spelled.{HolderText, round-text, args-text, context-text, box-text, in_dia-text, brace-text, assigns-text, assigns_prime-text, tests-text, evolves-text, domain-text, notes-text, Spells, nothing, left, before, inside, HasRead, After}
 use Rattle.dlk_machine.proofs.Found.{reduced_all}

@@ -1,5 +1,5 @@
 -- The laws of reading: what is parsed is what the lexemes say, what they say is parsed, and a fault is where they stop.
-use Rattle.std.proofs.Common.{◌≡◌, ℕ, List, [], ◌∷◌, Result, Ok, Err, refl, sym, ◌∙◌}
+use Rattle.std.proofs.Common.{◌≡◌, ℕ, List, Result, Ok, Err, sym, ◌∙◌}
 use Rattle.dlk_tree.specs.declared.op.Sort.{Sort}
 use Rattle.dlk_tree.specs.declared.op.Sort.TheVariants.{Term, Formula, Program}
 use Rattle.dlk_grammar.specs.declared.token.Dots.{Dots}
@@ -9,7 +9,7 @@ use Rattle.dlk_grammar.specs.declared.token.Form.TheVariants as form
 use Rattle.dlk_grammar.specs.Lexemes.{Lexeme}
 use Rattle.dlk_grammar.specs.Phrases.{Phrase}
 use Rattle.dlk_grammar.specs.Grammar.{Nonterminal, Reads, Sides, ReadsSequent, ReadsExpression}
-use Rattle.dlk_grammar.specs.Readings.{Permitted, Says, Stops, grammar}
+use Rattle.dlk_grammar.specs.Readings.{Says, Stops, grammar}
 use Rattle.dlk_grammar.specs.Substitutions.{PairPhrase, ReadsSubstitution}
 use Rattle.dlk_machine.proofs.Levels.{form_sort, top}
 use Rattle.dlk_machine.proofs.Machine.{State}
@@ -18,6 +18,7 @@ use Rattle.dlk_machine.proofs.Expressions.{ExpressionState, expression_reader}
 use Rattle.dlk_machine.proofs.Sequents.{sequent_reader}
 use Rattle.dlk_machine.proofs.Pairs.{pairs_reader}
 use Rattle.dlk_machine.proofs.Climb.{stands}
+use Rattle.dlk_machine.proofs.Opening.{all_permitted}
 use Rattle.dlk_machine.proofs.Only.{top_sort}
 use Rattle.dlk_machine.proofs.Live.{top_need}
 use Rattle.dlk_machine.proofs.Parsing.{Reader, only_text, found_text, stops_text}
@@ -41,11 +42,6 @@ one_parsed p q e = cc
 -- a fault says that the lexemes say nothing
 faulty : {X P : Type 0} (m : Machine X P) (G : List Lexeme → P → Type 0) (d : Dots) → Reader d m G → (s : List Lexeme) (n : ℕ) → parse d m s ≡ Err n → (p : P) → ¬ Says d G s p
 faulty m G d c s n e p says = no_fault p n (sym (only_text m G d c s p says) ∙ e)
-
--- where all are allowed, all are permitted
-all_permitted : (s : List Lexeme) → Permitted Allowed s
-all_permitted [] = tt
-all_permitted (k ∷ s) = (refl, all_permitted s)
 
 -- lexemes say one thing
 one : {X P : Type 0} (m : Machine X P) (G : List Lexeme → P → Type 0) → Reader Allowed m G → (s : List Lexeme) (p q : P) → G s p → G s q → p ≡ q
