@@ -23,6 +23,7 @@ pub mod PairEnds
 pub mod PairLaws
 pub mod ParseLaws
 pub mod Formed
+pub mod PairsFormed
 pub mod TextLaws
 pub mod SomeText
 pub mod Pairs
