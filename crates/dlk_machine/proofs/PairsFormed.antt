@@ -1,6 +1,6 @@
 -- The replacements of pairs that are read are well made.
-use Rattle.std.proofs.Common.{◌≡◌, ℕ, ◌<◌, List, [], ◌∷◌, ◌++◌, map, refl, ap, subst, sym, ◌∙◌}
-use Rattle.std.specs.List.{All, flat_map}
+use Rattle.std.proofs.Common.{◌≡◌, ℕ, ◌<◌, List, [], ◌∷◌, ◌++◌, ap, subst, sym, ◌∙◌}
+use Rattle.std.specs.List.{flat_map}
 use Rattle.std.proofs.lemmas.Grind.{flat_map-append}
 use Rattle.std.proofs.lemmas.List.{append-nil, map-append}
 use Rattle.std.proofs.lemmas.List.Elements.{All-nil, All-cons, All-append}
@@ -8,13 +8,12 @@ use Rattle.dlk_tree.specs.Trees.{WellMade}
 use Rattle.dlk_tree.specs.declared.op.Sort.TheVariants.{Term, Formula, Program}
 use Rattle.dlk_calculus.specs.Pairs.{Pair, AreMade}
 use Rattle.dlk_grammar.specs.Lexemes.{Lexeme, Comma, Becomes}
-use Rattle.dlk_grammar.specs.Phrases.{Phrase}
 use Rattle.dlk_grammar.specs.Grammar.{brace-items}
 use Rattle.dlk_grammar.specs.Erased.{erase, ills}
 use Rattle.dlk_grammar.specs.Substitutions.{PairPhrase, ReadsPair, ReadsPairs, pairs-one, pairs-more, ReadsSubstitution, subst-nothing, subst-pairs, replacements, erase_pairs}
 use Rattle.dlk_machine.proofs.Levels.{form_sort, top}
 use Rattle.dlk_machine.proofs.Pairs.{Right}
-use Rattle.dlk_machine.proofs.Formed.{Each, each_parts, each_append, AreReal, IsBelow, AreBelow, IsReal, Grown, part_last, widen, none_left, none_right, grown, grown_brace, made_from, GrownSome}
+use Rattle.dlk_machine.proofs.Formed.{Each, each_parts, each_append, AreReal, IsBelow, AreBelow, IsReal, part_last, widen, none_left, none_right, grown, grown_brace, made_from, GrownSome}
 use Rattle.dlk_machine.proofs.PairItems.{RightText, right-formula, right-term, right-text, right-system, pair_parts}
 
 -- what is known of the tree of a right side
