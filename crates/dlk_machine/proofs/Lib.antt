@@ -21,6 +21,7 @@ pub mod PairItems
 pub mod PairStates
 pub mod PairEnds
 pub mod PairLaws
+pub mod PairExamples
 pub mod ParseLaws
 pub mod Formed
 pub mod PairsFormed

@@ -161,7 +161,7 @@ pairs_live (Within l x) all a =
     let at : a.listed ++ (a.own ++ b.more) ≡ all ++ b.more = sym (ap (λ (z : List Lexeme). z ++ b.more) a.parts ∙ append_assoc a.listed a.own b.more) in
     begun_pairs all b.more (l ++ b.pair ∷ []) (subst (λ (z : List Lexeme). ReadsSubstitution z (l ++ b.pair ∷ [])) at (subst-pairs (pairs_joined a.before b.reads)))
 
--- Where dots are refused it is none: dots and the hole are part of the grammar, and C{ begins no text without them.
+-- It reads them where dots and the hole are allowed. Where they are refused, it passes C{, which then begins no text.
 pub pairs_all : Reader Allowed pairs_reader ReadsSubstitution
 pairs_all = record {
   only = λ s l r. only_pairs r;

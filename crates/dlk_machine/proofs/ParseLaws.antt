@@ -100,7 +100,7 @@ sequent_fault_says_nothing d s n e = faulty sequent_reader ReadsSequent d (seque
 pub one_sides_read : (s : List Lexeme) (p q : Sides) → ReadsSequent s p → ReadsSequent s q → p ≡ q
 one_sides_read s p q d e = one sequent_reader ReadsSequent (sequents_all Allowed) s p q d e
 
--- Substitutions. Dots and the hole are part of their grammar: where they were refused, a text could begin that no text ends.
+-- substitutions, where dots and the hole are allowed, since they are part of their grammar
 pub pairs_read_says : (s : List Lexeme) (p : List PairPhrase) → parse Allowed pairs_reader s ≡ Ok p → Says Allowed ReadsSubstitution s p
 pairs_read_says s p e = found_text pairs_reader ReadsSubstitution Allowed pairs_all s p e
 
