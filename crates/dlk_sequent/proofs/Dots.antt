@@ -1,5 +1,5 @@
 -- The dots of a tree that aren't below a number, counted up one by one.
-use Rattle.std.proofs.Common.{◌≡◌, ◌∙◌, ℕ, ◌+◌, ◌≤◌, Bool, true, false, ◌||◌, refl, arith, leb, eqb, ltb}
+use Rattle.std.proofs.Common.{◌≡◌, ◌∙◌, ℕ, ◌+◌, ◌≤◌, Bool, true, false, ◌||◌, refl, sym, arith, leb, eqb, ltb}
 use Rattle.std.proofs.lemmas.Bool.{or_from}
 use Rattle.std.proofs.lemmas.Bool.Decides.{nat_tests}
 use Rattle.std.specs.Prelude.{IsTrue}
@@ -25,7 +25,7 @@ is_dot_or_later n _ = refl
 
 -- a dot from n on is dot n or a later one
 mutual
-  pub dot_or_later : (n : ℕ) (t : Tree) → has (is_dot_from n) t ≡ (has_dot n t || has (is_dot_from (n + 1)) t)
+  dot_or_later : (n : ℕ) (t : Tree) → has (is_dot_from n) t ≡ (has_dot n t || has (is_dot_from (n + 1)) t)
   dot_or_later n (node op kids) =
       let here = is_dot_or_later n op in
       let below = dot_or_later_below n kids in
@@ -38,6 +38,14 @@ mutual
       let others = dot_or_later_below n rest in
       (λ i. first i || others i) ∙ crossed (has_dot n t) (has (is_dot_from (n + 1)) t) (any_has (is_dot n) rest) (any_has (is_dot_from (n + 1)) rest)
 
+-- where n is past the first numbers m, of which none stands in the tree, and dot n does
+pub dot_found : (m n : ℕ) (t : Tree) → has (is_dot_from m) t ≡ has (is_dot_from n) t → true ≡ has_dot n t → true ≡ has (is_dot_from m) t
+dot_found m n t passed found = (λ i. found i || has (is_dot_from (n + 1)) t) ∙ sym (passed ∙ dot_or_later n t)
+
+-- or it doesn't
+pub dot_passed : (m n : ℕ) (t : Tree) → has (is_dot_from m) t ≡ has (is_dot_from n) t → false ≡ has_dot n t → has (is_dot_from m) t ≡ has (is_dot_from (n + 1)) t
+dot_passed m n t passed missing = passed ∙ dot_or_later n t ∙ (λ i. sym missing i || has (is_dot_from (n + 1)) t)
+
 late_number : (n m : ℕ) → 8 ≤ n → ltb m 8 ≡ true → leb n m ≡ false
 late_number n m late real = grind (arith, nat_tests)
 
@@ -47,9 +55,12 @@ is_no_late_dot n late _ real = refl
 
 -- no dot of a well-made tree is past 7
 mutual
-  pub no_late_dot : (n : ℕ) → 8 ≤ n → (t : Tree) → WellMade t → has (is_dot_from n) t ≡ false
+  no_late_dot : (n : ℕ) → 8 ≤ n → (t : Tree) → WellMade t → has (is_dot_from n) t ≡ false
   no_late_dot n late (node op kids) made = or_from _ _ (is_no_late_dot n late op made.0.parts_fit) (no_late_dot_below n late kids made.1)
 
   no_late_dot_below : (n : ℕ) → 8 ≤ n → (kids : Forest) → AllWellMade kids → any_has (is_dot_from n) kids ≡ false
   no_late_dot_below n late no_kids made = refl
   no_late_dot_below n late (kid t rest) made = or_from _ _ (no_late_dot n late t made.0) (no_late_dot_below n late rest made.1)
+
+pub no_more_dots : (m n : ℕ) (t : Tree) → has (is_dot_from m) t ≡ has (is_dot_from n) t → 8 ≤ n → WellMade t → false ≡ has (is_dot_from m) t
+no_more_dots m n t passed late made = sym (passed ∙ no_late_dot n late t made)
