@@ -1,17 +1,23 @@
 //! Substitutions: well-formed lists of pairs.
-ghost use Rattle.std.specs.Prelude.{◌≡◌, ◌+◌, ◌*◌, ◌≤◌, length, IfOk, IfErr};
-ghost use Rattle.dlk_sequent.specs.Substitutions.{AreKnownPairs, IsMadeOver, IsIllFault};
+ghost use Rattle.std.specs.Prelude.{◌≡◌, ◌↔◌, ◌+◌, ◌*◌, ◌≤◌, length, IsTrue, IfOk, IfErr};
+ghost use Rattle.dlk_tree.specs.Listed.{IsInhabited};
+ghost use Rattle.dlk_tree.specs.Statics.{free};
+ghost use Rattle.dlk_store.specs.Stores.{IsId, tree};
+ghost use Rattle.dlk_calculus.specs.Pairs.{takes_arguments, IsFreeIn};
+ghost use Rattle.dlk_sequent.specs.Substitutions.{pairs_at, AreKnownPairs, IsMadeOver, IsIllFault};
 ghost use Rattle.dlk_sequent.specs.declared.subst.SubstFault.TheVariants.{Memory};
 
+use crate::why::why;
 use dlk_calculus::Why;
 use dlk_store::{Id, Steps, Store};
-use dlk_tree::Sym;
+use dlk_tree::{Kind, Sym};
 use std::alloc::{AllocError, AllocFailed, Global};
 use std::marker::Model;
 use std::sync::ledger::Ledger;
 use thiserror::Error;
 
-/// A symbol, and what replaces it.
+/// A symbol, and the tree that replaces it. In the tree for a function or a predicate a dot stands for each argument, and in
+/// that for a predicational `_` stands for the formula.
 #[derive(Drop, Debug)]
 pub struct Pair {
     pub sym: Sym,
@@ -21,9 +27,10 @@ pub struct Pair {
 /// Why pairs make no substitution.
 #[derive(Clone, Copy, Debug, PartialEq, Eq, Error)]
 pub enum SubstFault {
-    /// The first bad pair, counted from 1, and why it is bad.
+    /// The first bad pair, counted from 1, and the first reason against it.
     #[error("pair {pair} is not well formed")]
     Ill { pair: usize, why: Why },
+    /// No memory was left.
     #[error("out of memory")]
     Memory,
 }
@@ -44,8 +51,8 @@ impl<T: Drop> From<AllocFailed<T>> for SubstFault {
     }
 }
 
-/// A uniform substitution: pairs that are well formed over the store that they were made over, and over that store for as
-/// long as it grows (Platzer 2017, section on uniform substitution).
+/// A uniform substitution: pairs that are well formed over the store that they were made over, and over that store however
+/// it grows (Platzer 2017, section on uniform substitution). Only `Subst::new` makes one.
 #[derive(Drop, Debug)]
 pub struct Subst {
     pairs: Vec<Pair>,
@@ -60,14 +67,37 @@ impl Model for Subst {
     ghost view = { λ s. record { pairs = s.pairs.items; free = s.free } };
 }
 
+/// Whether the pair replaces a function or a predicate, and some variable is free in the replacement.
+fn is_free<S: Store>(store: &S, pair: &Pair) -> bool
+    requires { IsId (S.trees store.now) pair.now.by }
+    ensures { IsTrue result ↔ (IsTrue (takes_arguments pair.now.sym.kind) × IsInhabited (free (tree (S.trees store.now) pair.now.by))) }
+{
+    matches!(pair.sym.kind, Kind::Func | Kind::Pred) && store.any_free(pair.by)
+}
+
+/// Whether one of the pairs is so.
+fn is_free_in<S: Store>(store: &S, pairs: &[Pair]) -> bool
+    requires { AreKnownPairs (S.trees store.now) pairs.now }
+    ensures { IsTrue result ↔ IsFreeIn (pairs_at (S.trees store.now) pairs.now) }
+{
+    for pair in pairs {
+        if is_free(store, pair) {
+            return true;
+        }
+    }
+    false
+}
+
 impl Subst {
-    /// The substitution of these pairs. It takes at most two steps a pair.
+    /// The substitution of these pairs, whose replacements are ids of the store, for use over this store or what it grows to.
+    /// It takes at most two steps a pair. A name that it copies keeps its allocator, so `_alloc` isn't asked.
     ///
     /// # Errors
     ///
-    /// `Ill` exactly where some pair is bad; it names the first one, and the first reason against it.
+    /// `Ill` where some pair is bad: it names the first one, counted from 1, and the first reason against it in the order of
+    /// `Why`. `Memory` where none was left to copy the name of a taboo. The pairs are dropped then.
     pub fn new<S: Store, L: Ledger>(
-        alloc: Global,
+        _alloc: Global,
         store: &S,
         pairs: Vec<Pair>,
         steps: &mut Steps<L>,
@@ -79,22 +109,23 @@ impl Subst {
         ensures cost { steps.new ≤ steps.old + 2 * length pairs.items }
     {
         for i in 0..pairs.len() {
-            if let Some(why) = why(alloc, store, &pairs[..i], &pairs[i], steps)? {
+            if let Some(why) = why(store, &pairs[..i], &pairs[i], steps)? {
                 return Err(SubstFault::Ill { pair: i + 1, why });
             }
         }
-        let free = pairs.iter().any(|p| takes_arguments(p.sym.kind) && store.any_free(p.by));
+        let free = is_free_in(store, &pairs);
         Ok(Subst { pairs, free })
     }
 
-    /// The pairs in order.
+    /// The pairs, in the order in which they were given. It takes no memory.
     pub fn pairs(&self) -> &[Pair]
         ensures { result.now ≡ self.now.pairs }
     {
         self.pairs.as_slice()
     }
 
-    /// Whether some variable is free in the replacement of a function or a predicate. Kept at making: it takes no step.
+    /// Whether some variable is free in the replacement of a function or a predicate, for rules that forbid such a
+    /// substitution. It was found at making: it takes no step and no memory.
     pub fn free(&self) -> bool
         ensures { result ≡ self.now.free }
     {
