@@ -32,7 +32,7 @@ pub record PairPhrase : Type 0 where
 abbrev pub to : Sym → Phrase → PairPhrase
 to s a = record { sym = s; by = a }
 
--- dot-list = "._0" | "._0" "," "._1" | ..
+-- dot-list = "._0" | "._0" "," "._1" | .., at most eight, since no token is a ninth dot
 pub data ReadsDots : List Lexeme → ℕ → Type 0 where
   dots-one : ReadsDots (Dot 0 ∷ []) 1
   dots-more : {s : List Lexeme} {n : ℕ} → ReadsDots s n → ReadsDots (s ++ Comma ∷ Dot n ∷ []) (n + 1)

@@ -15,6 +15,7 @@ use Rattle.dlk_grammar.specs.Shown.{Piece, one, space, mark, word, joined, unit_
 abbrev pub dots : ℕ → List Piece
 dots n = mark OpenRound ∷ (joined (mark Comma ∷ []) (map (λ i. one (token.Dot i) ∷ []) (range_with_len 0 n)) ++ mark CloseRound ∷ [])
 
+-- the text of a symbol of this kind. One row a kind.
 abbrev pub shown_as : Kind → Sym → List Piece
 shown_as Func s = word s.name ∷ dots s.arity
 shown_as UnitFunc s = word s.name ∷ unit_brackets s.taboo
