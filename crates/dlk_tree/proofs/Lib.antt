@@ -4,3 +4,6 @@ pub mod TreeSame
 pub mod Fresh
 pub mod OneList
 pub mod Listing
+pub mod Elsewhere
+pub mod NameList
+pub mod SomeVar
