@@ -1,5 +1,5 @@
 -- Sets of variables on the two variables of a name, and sets by the ids that they come from.
-use Rattle.std.specs.Prelude.{ℕ, Bool, true, false, List}
+use Rattle.std.specs.Prelude.{ℕ, Bool, true, false, ◌&&◌, ◌||◌, not, List}
 use Rattle.dlk_tree.specs.Trees.{Tree}
 use Rattle.dlk_tree.specs.Statics.{Sets, plain, prime, both, free, bound, must}
 use Rattle.dlk_tree.specs.declared.op.Var.{Var}
@@ -20,9 +20,31 @@ abbrev pub at : Two → Bool → Bool
 at two false = two.plain
 at two true = two.prime
 
+abbrev pub empty : Two
+empty = record { plain = false; prime = false }
+
+abbrev pub full : Two
+full = record { plain = true; prime = true }
+
+abbrev pub union : Two → Two → Two
+union one other = record { plain = one.plain || other.plain; prime = one.prime || other.prime }
+
+abbrev pub meet : Two → Two → Two
+meet one other = record { plain = one.plain && other.plain; prime = one.prime && other.prime }
+
+abbrev pub minus : Two → Two → Two
+minus one other = record { plain = one.plain && not other.plain; prime = one.prime && not other.prime }
+
+-- with x' where x is
+abbrev pub primed_too : Two → Two
+primed_too two = record { plain = two.plain; prime = two.prime || two.plain }
+
+abbrev pub members_are : Two → Two → Two → Members
+members_are free bound must = record { free = free; bound = bound; must = must }
+
 -- whether x and x' are in the three sets
 abbrev pub members : List ℕ → Sets → Members
-members x s = record { free = on x s.free; bound = on x s.bound; must = on x s.must }
+members x s = members_are (on x s.free) (on x s.bound) (on x s.must)
 
 -- the set that is asked for
 abbrev pub set_of : List Tree → VarSet → Var → Bool

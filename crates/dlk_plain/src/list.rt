@@ -1,5 +1,5 @@
-//! Sets of variables, listed, and signatures: each is filled in one walk, and ordered by the standard library.
-ghost use Rattle.std.specs.Prelude.{◌≡◌, IfOk, OnOk, ◌&&◌, List, ℕ};
+//! Sets of variables, listed, and signatures: one walk collects the names or the symbols of a tree, each once and in order.
+ghost use Rattle.std.specs.Prelude.{◌≡◌, IfOk, OnOk, ◌&&◌};
 ghost use Rattle.std.specs.List.{list_any};
 ghost use Rattle.std.specs.List.Sorted.{IsStrictlySortedBy};
 ghost use Rattle.std.specs.Str.{bytes_eq};
@@ -10,7 +10,7 @@ ghost use Rattle.dlk_tree.specs.Occurs.{constants, has_symbol, occurs};
 ghost use Rattle.dlk_store.specs.Stores.{IsId, tree};
 ghost use Rattle.dlk_plain.specs.Plain.{trees_of};
 ghost use Rattle.dlk_plain.specs.Sets.{set_of, IsSet};
-ghost use Rattle.dlk_plain.specs.Added.{stands_out, told, Adds};
+ghost use Rattle.dlk_plain.specs.Added.{told, Adds};
 
 use crate::sought::VarSet;
 use crate::store::PlainStore;

@@ -1,7 +1,7 @@
 //! Sets of variables on the two variables of a name.
-ghost use Rattle.std.specs.Prelude.{◌≡◌, ◌||◌, ◌&&◌, not, true, false};
-ghost use Rattle.dlk_tree.specs.Statics.{none, all, just, plain, with_prime, all_but, free_in_items, bound_in_items, must_in_items};
-ghost use Rattle.dlk_plain.specs.Sets.{on, at};
+ghost use Rattle.std.specs.Prelude.{◌≡◌};
+ghost use Rattle.dlk_tree.specs.Statics.{just, plain, with_prime, all_but, free_in_items, bound_in_items, must_in_items};
+ghost use Rattle.dlk_plain.specs.Sets.{on, at, empty, full, union, meet, minus, primed_too, members_are};
 
 use dlk_tree::{Name, OdeItem, Var};
 
@@ -29,7 +29,7 @@ impl Two {
     }
 
     pub fn either(self, other: Two) -> Two
-        ensures { result ≡ (record { plain = self.plain || other.plain; prime = self.prime || other.prime }) }
+        ensures { result ≡ union self other }
     {
         Two {
             plain: self.plain || other.plain,
@@ -38,7 +38,7 @@ impl Two {
     }
 
     pub fn both(self, other: Two) -> Two
-        ensures { result ≡ (record { plain = self.plain && other.plain; prime = self.prime && other.prime }) }
+        ensures { result ≡ meet self other }
     {
         Two {
             plain: self.plain && other.plain,
@@ -47,7 +47,7 @@ impl Two {
     }
 
     pub fn without(self, other: Two) -> Two
-        ensures { result ≡ (record { plain = self.plain && not other.plain; prime = self.prime && not other.prime }) }
+        ensures { result ≡ minus self other }
     {
         Two {
             plain: self.plain && !other.plain,
@@ -57,7 +57,7 @@ impl Two {
 
     /// The set with `x'` where it has `x`.
     pub fn and_primes(self) -> Two
-        ensures { result ≡ (record { plain = self.plain; prime = self.prime || self.plain }) }
+        ensures { result ≡ primed_too self }
     {
         Two {
             plain: self.plain,
@@ -68,7 +68,7 @@ impl Two {
 
 /// The empty set.
 pub fn none() -> Two
-    ensures { result ≡ (record { plain = false; prime = false }) }
+    ensures { result ≡ empty }
 {
     Two {
         plain: false,
@@ -78,7 +78,7 @@ pub fn none() -> Two
 
 /// All variables.
 pub fn all() -> Two
-    ensures { result ≡ (record { plain = true; prime = true }) }
+    ensures { result ≡ full }
 {
     Two {
         plain: true,
@@ -167,9 +167,7 @@ pub fn must_in_items(items: &[OdeItem], name: &[u8]) -> Two
 
 /// An operator that reads these variables, and binds none.
 pub fn reads(free: Two) -> Members
-    ensures free { result.free ≡ free }
-    ensures bound { result.bound ≡ (record { plain = false; prime = false }) }
-    ensures must { result.must ≡ (record { plain = false; prime = false }) }
+    ensures { result ≡ members_are free empty empty }
 {
     Members {
         free,
@@ -180,9 +178,7 @@ pub fn reads(free: Two) -> Members
 
 /// An operator of which nothing is known: it may read and bind every variable.
 pub fn unknown() -> Members
-    ensures free { result.free ≡ (record { plain = true; prime = true }) }
-    ensures bound { result.bound ≡ (record { plain = true; prime = true }) }
-    ensures must { result.must ≡ (record { plain = false; prime = false }) }
+    ensures { result ≡ members_are full full empty }
 {
     Members {
         free: all(),
@@ -194,9 +190,7 @@ pub fn unknown() -> Members
 impl Members {
     /// A differential over these kids.
     pub fn and_primes(self) -> Members
-        ensures free { result.free ≡ (record { plain = self.free.plain; prime = self.free.prime || self.free.plain }) }
-        ensures bound { result.bound ≡ self.bound }
-        ensures must { result.must ≡ self.must }
+        ensures { result ≡ members_are (primed_too self.free) self.bound self.must }
     {
         Members {
             free: self.free.and_primes(),
@@ -206,9 +200,7 @@ impl Members {
 
     /// A quantifier of this variable over these kids.
     pub fn quantified(self, x: Two) -> Members
-        ensures free { result.free ≡ (record { plain = self.free.plain && not x.plain; prime = self.free.prime && not x.prime }) }
-        ensures bound { result.bound ≡ (record { plain = self.bound.plain || x.plain; prime = self.bound.prime || x.prime }) }
-        ensures must { result.must ≡ (record { plain = false; prime = false }) }
+        ensures { result ≡ members_are (minus self.free x) (union self.bound x) empty }
     {
         Members {
             free: self.free.without(x),
@@ -219,9 +211,7 @@ impl Members {
 
     /// A sequence of these two programs.
     pub fn then(self, second: Members) -> Members
-        ensures free { result.free ≡ (record { plain = self.free.plain || (second.free.plain && not self.must.plain); prime = self.free.prime || (second.free.prime && not self.must.prime) }) }
-        ensures bound { result.bound ≡ (record { plain = self.bound.plain || second.bound.plain; prime = self.bound.prime || second.bound.prime }) }
-        ensures must { result.must ≡ (record { plain = self.must.plain || second.must.plain; prime = self.must.prime || second.must.prime }) }
+        ensures { result ≡ members_are (union self.free (minus second.free self.must)) (union self.bound second.bound) (union self.must second.must) }
     {
         Members {
             free: self.free.either(second.free.without(self.must)),
@@ -232,9 +222,7 @@ impl Members {
 
     /// A box or a diamond of this program and this formula.
     pub fn modal(self, formula: Members) -> Members
-        ensures free { result.free ≡ (record { plain = self.free.plain || (formula.free.plain && not self.must.plain); prime = self.free.prime || (formula.free.prime && not self.must.prime) }) }
-        ensures bound { result.bound ≡ (record { plain = self.bound.plain || formula.bound.plain; prime = self.bound.prime || formula.bound.prime }) }
-        ensures must { result.must ≡ (record { plain = false; prime = false }) }
+        ensures { result ≡ members_are (union self.free (minus formula.free self.must)) (union self.bound formula.bound) empty }
     {
         Members {
             must: none(),
@@ -244,9 +232,7 @@ impl Members {
 
     /// A choice of these two programs.
     pub fn or(self, second: Members) -> Members
-        ensures free { result.free ≡ (record { plain = self.free.plain || second.free.plain; prime = self.free.prime || second.free.prime }) }
-        ensures bound { result.bound ≡ (record { plain = self.bound.plain || second.bound.plain; prime = self.bound.prime || second.bound.prime }) }
-        ensures must { result.must ≡ (record { plain = self.must.plain && second.must.plain; prime = self.must.prime && second.must.prime }) }
+        ensures { result ≡ members_are (union self.free second.free) (union self.bound second.bound) (meet self.must second.must) }
     {
         Members {
             free: self.free.either(second.free),
@@ -257,9 +243,7 @@ impl Members {
 
     /// An assignment of such a term to this variable.
     pub fn assigns(self, v: Two) -> Members
-        ensures free { result.free ≡ self.free }
-        ensures bound { result.bound ≡ v }
-        ensures must { result.must ≡ v }
+        ensures { result ≡ members_are self.free v v }
     {
         Members {
             free: self.free,
@@ -270,9 +254,7 @@ impl Members {
 
     /// A system of these items over such terms and such a domain.
     pub fn evolves(self, items: &[OdeItem], name: &[u8]) -> Members
-        ensures free { result.free ≡ (record { plain = (on name.now (free_in_items items.now)).plain || self.free.plain; prime = (on name.now (free_in_items items.now)).prime || self.free.prime }) }
-        ensures bound { result.bound ≡ on name.now (bound_in_items items.now) }
-        ensures must { result.must ≡ on name.now (must_in_items items.now) }
+        ensures { result ≡ members_are (union (on name.now (free_in_items items.now)) self.free) (on name.now (bound_in_items items.now)) (on name.now (must_in_items items.now)) }
     {
         Members {
             free: free_in_items(items, name).either(self.free),
