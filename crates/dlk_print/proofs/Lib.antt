@@ -6,3 +6,4 @@ pub mod Node
 pub mod Items
 pub mod Formulas
 pub mod Symbols
+pub mod Paired
