@@ -1,6 +1,5 @@
 -- A system whose domain is `true` is written as its items in braces.
-use Rattle.std.proofs.Common.{◌≡◌, ℕ, ◌+◌, Bool, true, false, List, [], ◌∷◌, ◌++◌, length, replicate, refl, sym, ap, ◌∙◌, append-nil}
-use Rattle.dlk_tree.specs.declared.op.OdeItem.{OdeItem}
+use Rattle.std.proofs.Common.{◌≡◌, ℕ, ◌+◌, true, List, [], ◌∷◌, ◌++◌, refl, sym, ap, ◌∙◌, append-nil}
 use Rattle.dlk_tree.specs.declared.op.Op.{Op}
 use Rattle.dlk_tree.specs.declared.op.Op.TheVariants as op
 use Rattle.dlk_tree.specs.Trees.{Tree, node, root, Forest, no_kids, kid, trees_in, WellMade}
@@ -12,7 +11,7 @@ use Rattle.dlk_grammar.specs.Phrases.{Items, System, Truth}
 use Rattle.dlk_grammar.specs.Grammar.{ReadsItems}
 use Rattle.dlk_grammar.specs.Erased.{erase, ills}
 use Rattle.dlk_grammar.specs.Shown.{Piece, mark as the_mark, shown, joined, item_texts, is_true as shows_no_domain}
-use Rattle.dlk_readback.proofs.Kids.{texts_of, comma, sides_of, SystemKids, system_kids, truth, system_inside, inside_is}
+use Rattle.dlk_readback.proofs.Kids.{texts_of, comma, sides_of, system_kids, truth, system_inside, inside_is}
 use Rattle.dlk_readback.proofs.Told.{said, said-append, Back}
 use Rattle.dlk_readback.proofs.Enclosed.{not_ill, system_is, system_ills, all_items}
 use Rattle.dlk_readback.proofs.Back.{all_back}

@@ -3,7 +3,6 @@ use Rattle.std.proofs.Common.{◌≡◌, ℕ, zero, suc, ◌+◌, ◌≤◌, Boo
 use Rattle.std.specs.List.{range_with_len}
 use Rattle.dlk_tree.specs.declared.op.Kind.{Kind}
 use Rattle.dlk_tree.specs.declared.op.Kind.TheVariants.{Func, UnitFunc, Pred, UnitPred, Quant, Prog, Ode}
-use Rattle.dlk_tree.specs.declared.op.Sort.TheVariants.{Term}
 use Rattle.dlk_tree.specs.declared.op.Sym.{Sym}
 use Rattle.dlk_tree.specs.Names.{is_name}
 use Rattle.dlk_tree.specs.Table.{is_sym, is_sym_of, taboo_is_name}
@@ -11,12 +10,12 @@ use Rattle.dlk_tree.specs.Tests.{kind_rank}
 use Rattle.dlk_grammar.specs.declared.token.Mark.TheVariants as mark
 use Rattle.dlk_grammar.specs.declared.token.TokenKind.TheVariants as token
 use Rattle.dlk_grammar.specs.declared.token.Dots.TheVariants.{Allowed}
-use Rattle.dlk_grammar.specs.Lexemes.{Lexeme, Name, Dot, Open, Close, Comma}
+use Rattle.dlk_grammar.specs.Lexemes.{Lexeme, Dot, Comma}
 use Rattle.dlk_grammar.specs.Substitutions.{Target, Over, Unit as UnitOver, function, predicate, ReadsDots, dots-one, dots-more, ReadsTarget, target-nullary, target-dots, target-any, target-except}
 use Rattle.dlk_grammar.specs.Shown.{Piece, one, mark as the_mark, word, joined, unit_brackets, ode_brackets}
-use Rattle.dlk_grammar.specs.Symbols.{dots, shown_as, shown_symbol}
+use Rattle.dlk_grammar.specs.Symbols.{dots, shown_as}
 use Rattle.dlk_readback.proofs.Kids.{Each, comma}
-use Rattle.dlk_readback.proofs.Told.{said, behind, said-append}
+use Rattle.dlk_readback.proofs.Told.{said, said-append}
 use Rattle.dlk_readback.proofs.Symbols.{space_of, sym_parts, arity_most, called, unit_symbol}
 use Rattle.dlk_readback.proofs.Neighbours.{Fine, Ends, by_mark, begins_name, alone_fine, before_fine, empty_fine, bar_fine, hole_fine, dot_fine, name_fine}
 use Rattle.dlk_readback.proofs.Calm.{Moves, moves-append, flat_moves, leads_moves, trails_moves}

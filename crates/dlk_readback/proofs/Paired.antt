@@ -1,5 +1,5 @@
 -- The canonical text of a substitution is read back.
-use Rattle.std.proofs.Common.{◌≡◌, ℕ, ◌+◌, ◌≤◌, Bool, true, false, ◌&&◌, cond, All, List, [], ◌∷◌, ◌++◌, map, flat_map, Option, Some, None, codes, refl, sym, ap, subst, subst₂, ◌∙◌, append_assoc, append-nil, arith, lit≤}
+use Rattle.std.proofs.Common.{◌≡◌, ℕ, ◌+◌, ◌≤◌, Bool, true, false, ◌&&◌, cond, All, List, [], ◌∷◌, ◌++◌, map, flat_map, Option, Some, None, codes, refl, sym, ap, subst, subst₂, ◌∙◌, append_assoc, append-nil, arith}
 use Rattle.std.proofs.lemmas.Grind.{flat_map-append}
 use Rattle.std.proofs.lemmas.List.{map-append}
 use Rattle.std.proofs.lemmas.List.Elements.{All-head, All-tail}
@@ -8,25 +8,26 @@ use Rattle.dlk_tree.specs.declared.op.Kind.TheVariants.{Func, UnitFunc, Pred, Un
 use Rattle.dlk_tree.specs.declared.op.Sort.{Sort}
 use Rattle.dlk_tree.specs.declared.op.Sort.TheVariants.{Term, Formula, Program}
 use Rattle.dlk_tree.specs.declared.op.Sym.{Sym}
-use Rattle.dlk_tree.specs.Table.{is_term, is_sym, is_sym_of}
+use Rattle.dlk_tree.specs.Table.{is_term, is_sym_of}
 use Rattle.dlk_tree.specs.Trees.{Tree, size, depth, sort as sort_in, WellMade}
 use Rattle.dlk_calculus.specs.Pairs.{Pair, is_of_kind, is_formula, is_program}
 use Rattle.dlk_grammar.specs.declared.token.Mark.TheVariants as mark
 use Rattle.dlk_grammar.specs.declared.token.Dots.TheVariants.{Allowed}
-use Rattle.dlk_grammar.specs.Lexemes.{Lexeme, Name, Comma, Becomes, lexemes}
+use Rattle.dlk_grammar.specs.Lexemes.{Lexeme, Comma, Becomes, lexemes}
 use Rattle.dlk_grammar.specs.Phrases.{System, Truth, Everywhere, Except}
-use Rattle.dlk_grammar.specs.Grammar.{Nonterminal, formula, term, prog, Reads}
+use Rattle.dlk_grammar.specs.Grammar.{formula, term, prog}
 use Rattle.dlk_grammar.specs.Erased.{erase, ills, symbol}
 use Rattle.dlk_grammar.specs.Readings.{most_nodes, greatest_depth}
-use Rattle.dlk_grammar.specs.Substitutions.{Target, function, predicate, PairPhrase, to, ReadsTarget, ReadsPair, pair-formula, pair-term, pair-function, pair-context, pair-program, pair-flow, pair-flow-except, ReadsPairs, pairs-one, pairs-more, ReadsSubstitution, subst-nothing, subst-pairs, replacements, erase_pairs}
+use Rattle.dlk_grammar.specs.Substitutions.{function, predicate, PairPhrase, to, ReadsPair, pair-formula, pair-term, pair-function, pair-context, pair-program, pair-flow, pair-flow-except, ReadsPairs, pairs-one, pairs-more, ReadsSubstitution, subst-nothing, subst-pairs, replacements, erase_pairs}
 use Rattle.dlk_grammar.specs.Texts.{PairsText}
 use Rattle.dlk_grammar.specs.Shown.{Piece, space, mark as the_mark, word, spell, shown, ode_brackets}
 use Rattle.dlk_grammar.specs.Symbols.{shown_as, is_function, is_formula_too, shown_pair, shown_pairs}
+use Rattle.dlk_machine.proofs.ParseLaws.{one_pairs_read}
 use Rattle.dlk_readback.specs.Readable.{IsReadablePair}
 use Rattle.dlk_readback.proofs.Ambiguous.{no_formula}
 use Rattle.dlk_readback.proofs.Climb.{form_at}
-use Rattle.dlk_readback.proofs.Kids.{Each, each_map, comma}
-use Rattle.dlk_readback.proofs.Told.{said, behind, said-append, Told, TellsTree}
+use Rattle.dlk_readback.proofs.Kids.{Each, comma}
+use Rattle.dlk_readback.proofs.Told.{said, behind, said-append, TellsTree}
 use Rattle.dlk_readback.proofs.Symbols.{space_of, bare_symbol, unit_symbol}
 use Rattle.dlk_readback.proofs.Back.{back}
 use Rattle.dlk_readback.proofs.Lefts.{Left, func_left, pred_left, unit_func_left, unit_pred_left, of_kind, left_fine, left_even}
@@ -242,9 +243,6 @@ each_by P (p ∷ pairs) h all = (h p all.0, each_by P pairs h all.1)
 each_pair : (pairs : List Pair) → All IsReadablePair pairs → Each IsReadablePair pairs
 each_pair [] all = tt
 each_pair (p ∷ pairs) all = (All-head IsReadablePair p pairs all, each_pair pairs (All-tail IsReadablePair p pairs all))
-
-one_pairs_read : (s : List Lexeme) (p q : List PairPhrase) → ReadsSubstitution s p → ReadsSubstitution s q → p ≡ q
-one_pairs_read s p q r t = ?
 
 pub pairs_text : (pairs : List Pair) → All IsReadablePair pairs → PairsText (spell (shown_pairs pairs)) pairs
 pairs_text pairs given =
