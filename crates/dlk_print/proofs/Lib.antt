@@ -5,3 +5,5 @@ pub mod Kids
 pub mod Node
 pub mod Items
 pub mod Formulas
+pub mod Symbols
+pub mod Paired

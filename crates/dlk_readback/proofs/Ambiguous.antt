@@ -10,8 +10,8 @@ use Rattle.dlk_grammar.specs.Phrases.{Phrase, Phrases, none, Head, Call, Any, Ap
 use Rattle.dlk_grammar.specs.Grammar
 use Rattle.dlk_grammar.specs.Grammar.{Nonterminal, formula, imp, disj, conj, unf, atom, term, mul, neg, pow, prim, prog, seq, stmt, Reads, ReadsList}
 use Rattle.dlk_grammar.specs.Erased.{erase}
+use Rattle.dlk_grammar.specs.Symbols.{is_formula_too}
 use Rattle.dlk_machine.proofs.ParseLaws.{one_read}
-use Rattle.dlk_readback.specs.Readable.{is_formula_too}
 
 abbrev is_term_sign : Infix → Bool
 is_term_sign sign.Add = true

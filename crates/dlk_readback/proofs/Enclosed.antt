@@ -93,7 +93,7 @@ brace_stmt {s} {p} r = subst (λ (l : List Lexeme). Reads stmt l p) (append-nil 
 pub loop_stmt : {n : ℕ} {s : List Lexeme} {p : Phrase} → Reads prog s p → Reads stmt (OpenBrace n ∷ (s ++ CloseBrace ∷ Between Mul ∷ [])) (Loop p)
 loop_stmt {n} {s} {p} r = subst (λ (l : List Lexeme). Reads stmt (OpenBrace n ∷ l) (Loop p)) (append_assoc s (CloseBrace ∷ []) (Between Mul ∷ [])) (stmt-group (brace-prog r) star-loop inv-none semi-none)
 
-not_ill : (l : Items) (items : List OdeItem) → items_said l ≡ items → are_items items ≡ true → is_ill_system l ≡ false
+pub not_ill : (l : Items) (items : List OdeItem) → items_said l ≡ items → are_items items ≡ true → is_ill_system l ≡ false
 not_ill l items e h =
     let w = and_parts (nat_le 1 (length items) && nat_le (length items) 64 && list_all is_item items) (all_distinct (evolved items)) h in
     let v = and_parts (nat_le 1 (length items) && nat_le (length items) 64) (list_all is_item items) w.0 in
@@ -101,7 +101,7 @@ not_ill l items e h =
     rw (e, few, w.1) refl
 
 -- the tree of a system
-system_is : (items : List OdeItem) (kids : Forest) (k : SystemKids Back items kids) (l : Items) (a : Phrase) → items_said l ≡ items → item_terms l ≡ sides_of items (trees_in kids) → erase a ≡ k.domain → node (op.System (items_said l)) (forest (item_terms l ++ erase a ∷ [])) ≡ node (op.System items) kids
+pub system_is : (items : List OdeItem) (kids : Forest) (k : SystemKids Back items kids) (l : Items) (a : Phrase) → items_said l ≡ items → item_terms l ≡ sides_of items (trees_in kids) → erase a ≡ k.domain → node (op.System (items_said l)) (forest (item_terms l ++ erase a ∷ [])) ≡ node (op.System items) kids
 system_is items kids k l a e f g =
     ap (λ (is : List OdeItem). node (op.System is) (forest (item_terms l ++ erase a ∷ []))) e
     ∙ ap (λ (ts : List Tree). node (op.System items) (forest (ts ++ erase a ∷ []))) f
@@ -109,7 +109,7 @@ system_is items kids k l a e f g =
     ∙ ap (λ (ts : List Tree). node (op.System items) (forest ts)) (sym k.all)
     ∙ ap (node (op.System items)) (forest-trees kids)
 
-system_ills : (n : ℕ) (l : Items) (a : Phrase) → is_ill_system l ≡ false → ills_of_items l ≡ [] → ills a ≡ [] → place_if (is_ill_system l) n ++ (ills_of_items l ++ ills a) ≡ []
+pub system_ills : (n : ℕ) (l : Items) (a : Phrase) → is_ill_system l ≡ false → ills_of_items l ≡ [] → ills a ≡ [] → place_if (is_ill_system l) n ++ (ills_of_items l ++ ills a) ≡ []
 system_ills n l a e f g = rw (e, f, g) refl
 
 bare_system : (n : ℕ) (items : List OdeItem) (kids : Forest) (k : SystemKids Back items kids) → are_items items ≡ true → ItemsTold (said (n + 1) (joined comma (item_texts items (texts_of (trees_in kids))))) items (sides_of items (trees_in kids)) → is_true (root k.domain) ≡ true → Told stmt (said n (mark mark.OpenBrace ∷ (system_inside items (trees_in kids) k.domain ++ mark mark.CloseBrace ∷ []))) (node (op.System items) kids)
@@ -135,7 +135,7 @@ domain_system n items kids k h d e =
       no_ills = system_ills n d.phrases c.phrase (not_ill d.phrases items d.items_are h) d.no_ills c.no_ills;
     })
 
-all_items : (n : ℕ) (items : List OdeItem) (ts : List Tree) → are_items items ≡ true → Sides (Back Term) items ts → ItemsTold (said n (joined comma (item_texts items (texts_of ts)))) items (sides_of items ts)
+pub all_items : (n : ℕ) (items : List OdeItem) (ts : List Tree) → are_items items ≡ true → Sides (Back Term) items ts → ItemsTold (said n (joined comma (item_texts items (texts_of ts)))) items (sides_of items ts)
 all_items n [] ts h sides = absurd cc
 all_items n (item ∷ items) ts h sides =
     items_back n item items ts (real_items (item ∷ items) h) sides

@@ -15,3 +15,6 @@ pub mod Tame
 pub mod Ambiguous
 pub mod Whole
 pub mod Turned
+pub mod Lefts
+pub mod Flows
+pub mod Paired

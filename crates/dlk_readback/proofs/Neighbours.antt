@@ -172,6 +172,7 @@ is_alone mark.Choice = true
 is_alone mark.Query = true
 is_alone mark.Semicolon = true
 is_alone mark.Comma = true
+is_alone mark.Becomes = true
 is_alone _ = false
 
 pub alone_fine : (m : Mark) (p : List Piece) → is_alone m ≡ true → Fine p → Fine (the_mark m ∷ p)
@@ -200,6 +201,7 @@ alone_fine mark.Choice p h f = mark_fine mark.Choice p refl refl f
 alone_fine mark.Query p h f = mark_fine mark.Query p refl refl f
 alone_fine mark.Semicolon p h f = mark_fine mark.Semicolon p refl refl f
 alone_fine mark.Comma p h f = mark_fine mark.Comma p refl refl f
+alone_fine mark.Becomes p h f = mark_fine mark.Becomes p refl refl f
 alone_fine _ p h f = absurd cc
 
 -- the other marks of canonical text stand before a text

@@ -17,8 +17,9 @@ use Rattle.dlk_grammar.specs.Erased.{erase, ills, lowest}
 use Rattle.dlk_grammar.specs.Readings.{Says, SpeaksAgainst, Literal, Nesting, Syntax, Shape, TooBig, TooDeep, ReadFault, FirstPast, IsRead, grammar, itself, most_nodes, greatest_depth}
 use Rattle.dlk_grammar.specs.Texts.{TreeText}
 use Rattle.dlk_grammar.specs.Shown.{Piece, one, space, spell, shown}
+use Rattle.dlk_grammar.specs.Symbols.{is_formula_too}
 use Rattle.dlk_machine.proofs.ParseLaws.{one_read, one_expression_read}
-use Rattle.dlk_readback.specs.Readable.{form_of, HasNoneRefused, IsReadable, is_formula_too}
+use Rattle.dlk_readback.specs.Readable.{form_of, HasNoneRefused, IsReadable}
 use Rattle.dlk_readback.proofs.Ambiguous.{no_formula}
 use Rattle.dlk_readback.proofs.Climb.{form_at}
 use Rattle.dlk_readback.proofs.Kids.{Each}

@@ -1,11 +1,11 @@
--- Which trees are read from their canonical text, and as what.
-use Rattle.std.specs.Prelude.{◌≡◌, ◌≤◌, Bool, true, false, ◌&&◌, ◌||◌}
+-- Which trees and pairs are read from their canonical text, and as what.
+use Rattle.std.specs.Prelude.{◌≡◌, ◌≤◌, true, false}
 use Rattle.dlk_tree.specs.declared.op.Sort.{Sort}
 use Rattle.dlk_tree.specs.declared.op.Sort.TheVariants as sort
-use Rattle.dlk_tree.specs.declared.op.Op.{Op}
-use Rattle.dlk_tree.specs.declared.op.Op.TheVariants as op
-use Rattle.dlk_tree.specs.Trees.{Tree, node, Forest, no_kids, kid, size, depth, WellMade}
+use Rattle.dlk_tree.specs.Table.{is_sym}
+use Rattle.dlk_tree.specs.Trees.{Tree, size, depth, WellMade}
 use Rattle.dlk_tree.specs.Occurs.{has_dots, has_hole}
+use Rattle.dlk_calculus.specs.Pairs.{Pair, is_of_kind}
 use Rattle.dlk_grammar.specs.declared.token.Dots.{Dots}
 use Rattle.dlk_grammar.specs.declared.token.Dots.TheVariants.{Refused, Allowed}
 use Rattle.dlk_grammar.specs.declared.token.Form.{Form}
@@ -34,21 +34,9 @@ pub record IsReadable (d : Dots) (t : Tree) : Type 0 where
   pub limits : IsWithinLimits t
   pub permitted : HasNoneRefused d t
 
--- an application
-abbrev pub is_applied : Op → Bool
-is_applied (op.Apply s) = true
-is_applied (op.UnitFun s) = true
-is_applied _ = false
-
-abbrev pub is_differential : Op → Bool
-is_differential op.Diff = true
-is_differential _ = false
-
--- whether a term's text is a formula's, too: `f(x)` can be a predicate of x, and `(f(x))'` its differential
-abbrev mutual
-  pub is_formula_too : Tree → Bool
-  is_formula_too (node o kids) = is_applied o || is_differential o && first_is_formula_too kids
-
-  pub first_is_formula_too : Forest → Bool
-  first_is_formula_too no_kids = false
-  first_is_formula_too (kid t rest) = is_formula_too t
+-- a pair whose canonical text is read: a symbol, and a tree of its kind
+pub record IsReadablePair (p : Pair) : Type 0 where
+  pub is_symbol : is_sym p.sym ≡ true
+  pub is_replacement : is_of_kind p.sym.kind p.by ≡ true
+  pub well_made : WellMade p.by
+  pub limits : IsWithinLimits p.by
