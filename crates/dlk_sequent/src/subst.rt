@@ -75,7 +75,7 @@ fn is_free<S: Store>(store: &S, pair: &Pair) -> bool
     matches!(pair.sym.kind, Kind::Func | Kind::Pred) && store.any_free(pair.by)
 }
 
-/// Whether one of the pairs is so.
+/// Whether one of the pairs does so, with such a replacement.
 fn is_free_in<S: Store>(store: &S, pairs: &[Pair]) -> bool
     requires { AreKnownPairs (S.trees store.now) pairs.now }
     ensures { IsTrue result ↔ IsFreeIn (pairs_at (S.trees store.now) pairs.now) }
