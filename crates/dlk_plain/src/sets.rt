@@ -28,6 +28,7 @@ impl Two {
         if primed { self.prime } else { self.plain }
     }
 
+    /// What is in one of the two sets.
     pub fn either(self, other: Two) -> Two
         ensures { result ≡ union self other }
     {
@@ -37,6 +38,7 @@ impl Two {
         }
     }
 
+    /// What is in both sets.
     pub fn both(self, other: Two) -> Two
         ensures { result ≡ meet self other }
     {
@@ -46,6 +48,7 @@ impl Two {
         }
     }
 
+    /// What is in this set and not in the other.
     pub fn without(self, other: Two) -> Two
         ensures { result ≡ minus self other }
     {

@@ -1,5 +1,5 @@
 //! The static semantics by walking: one walk answers for the two variables of a name.
-ghost use Rattle.std.specs.Prelude.{◌≡◌, ◌≤◌, All, length};
+ghost use Rattle.std.specs.Prelude.{◌≡◌, All};
 ghost use Rattle.dlk_tree.specs.Statics.{sets, sets_all, as_kids};
 ghost use Rattle.dlk_store.specs.Stores.{IsId, tree, kid_trees};
 ghost use Rattle.dlk_plain.specs.Plain.{trees_of};

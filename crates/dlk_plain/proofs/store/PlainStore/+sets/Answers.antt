@@ -1,4 +1,4 @@
-use Rattle.std.proofs.Common.{◌≡◌, ◌∙◌, refl, sym, ap, subst, arith, ℕ, List, [], ◌∷◌, length, get_or, ⊎_elim}
+use Rattle.std.proofs.Common.{◌≡◌, ◌∙◌, refl, sym, ap, subst, arith, rules, ℕ, List, [], ◌∷◌, length, get_or, ⊎_elim}
 use Rattle.std.proofs.Math.Bool.{or-false}
 use Rattle.dlk_tree.specs.Statics.{Sets, statics, sets, sets_all}
 use Rattle.dlk_tree.specs.Table.{kid_sorts}
@@ -48,6 +48,7 @@ box = record { arity = refl; members_of = λ x a b. simp or-false }
 diamond : IsRow Dia modal_row
 diamond = record { arity = refl; members_of = λ x a b. simp or-false }
 
+-- what such a row makes of the members of the two kids is that of the tree
 of_two : {op : Op} {row : Members → Members → Members} → IsRow op row → (x : List ℕ) (trees : List Tree) (t : Tree) (ks : List Id) (m n result : Members)
     → result ≡ row m n
     → length ks ≡ length (kid_sorts op)
@@ -74,3 +75,6 @@ sets_at-returns-in-Box t c =
     let op = c.node-node.result.op.now in
     let r = ⊎_elim (λ (is : op ≡ Box). subst (λ o. IsRow o modal_row) (sym is) box) (λ (is : op ≡ Dia). subst (λ o. IsRow o modal_row) (sym is) diamond) c.in-Box.is in
     of_two r c.args.name.now (trees_of c.args.self.now.nodes.items) _ c.node-node.result.kids.now _ _ _ c.modal.ensures c.node-node.ensures.arity c.node-node.ensures.node c.sets_at-in-Box.ensures c.sets_at-in-Box-2.ensures
+
+pub sets_at-returns-in_default : goal.sets_at-returns-in_default
+sets_at-returns-in_default t c = rw (c.of_kids-in_default.ensures, c.node-node.ensures.node) (search rules)
