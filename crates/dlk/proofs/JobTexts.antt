@@ -3,11 +3,12 @@ use Rattle.std.proofs.Common.{◌≡◌, ℕ, List, [], ◌∷◌, length, get_o
 use Rattle.std.specs.declared.alloc.Global.{Global}
 use Rattle.dlk.specs.Forms.{limits_of}
 use Rattle.dlk.specs.Replies.{Reply}
-use Rattle.dlk.specs.Answers.{Does, check, print}
+use Rattle.dlk.specs.Answers.{Does, check, print, vars}
 use Rattle.dlk.specs.Checks.{Checks}
 use Rattle.dlk.specs.Prints.{Prints}
+use Rattle.dlk.specs.Lists.{Lists}
 use Rattle.dlk.specs.Shown.{texts_of}
-use Rattle.dlk.specs.declared.command.Command.TheVariants.{Check, Print}
+use Rattle.dlk.specs.declared.command.Command.TheVariants.{Check, Print, Vars}
 
 two_items : {A : Type 0} (xs : List A) (a b : A) → length xs ≡ 2 → a ≡ get_or xs 0 a → b ≡ get_or xs 1 b → xs ≡ a ∷ b ∷ []
 two_items [] a b long first second = absurd (omega arith)
@@ -32,3 +33,9 @@ pub print_does : (inputs : List (Vec ℕ Global)) (a : Vec ℕ Global) (file : L
     length inputs ≡ length (limits_of Print) → a ≡ get_or inputs 0 a → file ≡ a.items → Prints file reply → Does Print (texts_of inputs) reply
 print_does inputs a file reply long first is_file says =
     rw (one_item inputs a long first) (print a.items reply (rw is_file at says))
+
+-- the same of `vars`
+pub vars_does : (inputs : List (Vec ℕ Global)) (a : Vec ℕ Global) (file : List ℕ) (reply : Reply) →
+    length inputs ≡ length (limits_of Vars) → a ≡ get_or inputs 0 a → file ≡ a.items → Lists file reply → Does Vars (texts_of inputs) reply
+vars_does inputs a file reply long first is_file says =
+    rw (one_item inputs a long first) (vars a.items reply (rw is_file at says))

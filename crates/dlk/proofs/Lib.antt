@@ -5,6 +5,8 @@ pub mod Answered
 pub mod JobTexts
 pub mod TextAnswers
 pub mod PrintAnswers
+pub mod ListTexts
+pub mod ListAnswers
 pub mod OneReply
 pub mod ConclusionText
 pub mod Judging

@@ -47,11 +47,11 @@ signature_text (s ∷ syms) = join_by kind_and_symbol (codes ", ") (s ∷ syms)
 
 -- a set of variables is written so
 pub data IsWritten (set : Var → Bool) : List ℕ → Type 0 where
-  listed : (all_but : Bool) (vars : List Var) → IsListing set all_but vars → IsWritten set (set_text all_but vars)
+  set_listed : (all_but : Bool) (vars : List Var) → IsListing set all_but vars → IsWritten set (set_text all_but vars)
 
 -- the symbols of a tree are written so
 pub data AreWritten (t : Tree) : List ℕ → Type 0 where
-  listed : (syms : List Sym) → IsSignature t syms → AreWritten t (signature_text syms)
+  symbols_listed : (syms : List Sym) → IsSignature t syms → AreWritten t (signature_text syms)
 
 -- the four lines
 abbrev pub four_lines : List ℕ → List ℕ → List ℕ → List ℕ → Reply

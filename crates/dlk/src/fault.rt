@@ -4,6 +4,7 @@ ghost use Rattle.dlk.specs.declared.fault.NoReply.TheVariants.{Memory};
 
 use dlk_print::PrintFault;
 use dlk_report::ReportFault;
+use dlk_store::StoreFault;
 use dlk_transfer::ReadError;
 use std::alloc::{AllocError, AllocFailed};
 use thiserror::Error;
@@ -27,6 +28,14 @@ impl<T: Drop> From<AllocFailed<T>> for NoReply {
     ghost from_gives = { λ _ e. e ≡ Memory };
 
     fn from(_: AllocFailed<T>) -> NoReply {
+        NoReply::Memory
+    }
+}
+
+impl From<StoreFault> for NoReply {
+    ghost from_gives = { λ _ e. e ≡ Memory };
+
+    fn from(_: StoreFault) -> NoReply {
         NoReply::Memory
     }
 }

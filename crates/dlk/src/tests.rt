@@ -1,5 +1,6 @@
 // The program over a desk in memory.
 mod examples;
+mod listing;
 mod models;
 mod printing;
 
@@ -49,6 +50,15 @@ fn desk_of(
 fn status_of(alloc: Global, words: &[&str], desk: &mut MemoryDesk) -> Result<u8, AllocError> {
     let words = words_of(alloc, words)?;
     Ok(start::<MemoryDesk, Brand>(alloc, &words, desk, Blank::new(1)))
+}
+
+/// What a command on one file does to the file's bytes.
+fn answered(alloc: Global, verb: &str, file: &[u8]) -> Result<(u8, MemoryDesk), AllocError> {
+    let mut files = Vec::new(alloc);
+    files.push((String::from_str(alloc, "m")?, file.to_vec(alloc)?))?;
+    let mut desk = MemoryDesk::new(alloc, files, 4096, [].to_vec(alloc)?);
+    let status = status_of(alloc, &[verb, "m"], &mut desk)?;
+    Ok((status, desk))
 }
 
 /// What `check` does to the bytes of a model and of a term.
@@ -249,6 +259,9 @@ fn tells_faults_of_the_outside(rt: HostRuntime) -> Result<(), Fail> {
             "refused: words\n",
         ),
         (&["print", "nothing"].as_slice(), 4, ""),
+        (&["vars"].as_slice(), 3, "refused: words\n"),
+        (&["vars", "model", "term"].as_slice(), 3, "refused: words\n"),
+        (&["vars", "nothing"].as_slice(), 4, ""),
         (
             &["prove", "model", "term"].as_slice(),
             3,

@@ -1,9 +1,6 @@
 // `vars FILE`: the free, bound and must-bound variables of an expression, and its symbols.
-ghost use Rattle.std.specs.Prelude.{◌≡◌, ◌<◌, ◌++◌, IfOk, OnOk};
-ghost use Rattle.dlk_store.specs.Stores.{IsId, tree};
-ghost use Rattle.dlk_store.specs.Listings.{set_of};
-ghost use Rattle.dlk_tree.specs.declared.op.Var.{Var as TheVar};
-ghost use Rattle.dlk.specs.Replies.{code_of};
+ghost use Rattle.std.specs.Prelude.{◌≡◌, ◌<◌, ◌++◌, IfOk, OnOk, codes};
+ghost use Rattle.dlk.specs.Replies.{code_of, line};
 ghost use Rattle.dlk.specs.Lists.{kind_word, kind_and_symbol, variables, set_text, signature_text, Lists};
 ghost use Rattle.dlk.specs.Shown.{reply_of};
 
@@ -15,9 +12,47 @@ use dlk_grammar::Dots;
 use dlk_parse::read_expression;
 use dlk_plain::PlainStore;
 use dlk_print::{symbol_text, variable_text};
-use dlk_store::{Id, Listing, Store, Which};
+use dlk_store::{Listing, Store, Which};
 use dlk_tree::{Kind, Sym, Var};
 use std::alloc::Global;
+
+/// Appends the variables with commas between.
+fn append_variables(out: &mut Vec<u8>, vars: &[Var]) -> Result<(), NoReply>
+    ensures { OnOk result (out.new.items ≡ out.old.items ++ variables vars.now) }
+{
+    let [first, others @ ..] = vars else {
+        return Ok(());
+    };
+    variable_text(first, out)?;
+    for v in others {
+        out.extend_from_slice(b", ")?;
+        variable_text(v, out)?;
+    }
+    Ok(())
+}
+
+/// What stands before the variables of a set, or alone where it lists none.
+fn set_word(set: &Listing) -> &'static str
+    ensures { set_text set.now.all_but set.now.vars ≡ result.now ++ variables set.now.vars }
+{
+    match (set.all_but, set.vars.as_slice().is_empty()) {
+        (false, true) => "none",
+        (false, false) => "",
+        (true, true) => "all",
+        (true, false) => "all but ",
+    }
+}
+
+/// Appends a line with a set, by its members or by what it leaves out.
+fn append_set(out: &mut Vec<u8>, label: &str, set: &Listing) -> Result<(), NoReply>
+    ensures { OnOk result (out.new.items ≡ out.old.items ++ line (label.now ++ set_text set.now.all_but set.now.vars)) }
+{
+    out.extend_from_slice(label.as_bytes())?;
+    out.extend_from_slice(set_word(set).as_bytes())?;
+    append_variables(out, set.vars.as_slice())?;
+    out.push(b'\n')?;
+    Ok(())
+}
 
 /// The word for a kind of symbol.
 fn kind_word(kind: Kind) -> &'static str
@@ -34,38 +69,7 @@ fn kind_word(kind: Kind) -> &'static str
     }
 }
 
-/// Appends the variables with commas between.
-fn append_variables(out: &mut Vec<u8>, vars: &[Var]) -> Result<(), NoReply>
-    ensures { OnOk result (out.new.items ≡ out.old.items ++ variables vars.now) }
-{
-    for (i, v) in vars.iter().enumerate() {
-        out.extend_from_slice(gap(i))?;
-        variable_text(v, out)?;
-    }
-    Ok(())
-}
-
-/// What stands before the part at place `i` of several.
-fn gap(i: usize) -> &'static [u8] {
-    if i == 0 { b"" } else { b", " }
-}
-
-/// Appends a set by its members, or by what it leaves out.
-fn append_set(out: &mut Vec<u8>, set: &Listing) -> Result<(), NoReply>
-    ensures { OnOk result (out.new.items ≡ out.old.items ++ set_text set.now.all_but set.now.vars) }
-{
-    let vars = set.vars.as_slice();
-    if vars.is_empty() {
-        out.extend_from_slice(if set.all_but { b"all" } else { b"none" })?;
-        return Ok(());
-    }
-    if set.all_but {
-        out.extend_from_slice(b"all but ")?;
-    }
-    append_variables(out, vars)
-}
-
-/// Appends a kind's word and the symbol over its argument dots.
+/// Appends a kind's word, and the symbol over its argument dots.
 fn append_symbol(out: &mut Vec<u8>, s: &Sym) -> Result<(), NoReply>
     ensures { OnOk result (out.new.items ≡ out.old.items ++ kind_and_symbol s.now) }
 {
@@ -75,38 +79,19 @@ fn append_symbol(out: &mut Vec<u8>, s: &Sym) -> Result<(), NoReply>
     Ok(())
 }
 
-/// Appends the symbols with commas between.
+/// Appends the symbols with commas between, or `none`.
 fn append_symbols(out: &mut Vec<u8>, syms: &[Sym]) -> Result<(), NoReply>
     ensures { OnOk result (out.new.items ≡ out.old.items ++ signature_text syms.now) }
 {
-    if syms.is_empty() {
+    let [first, others @ ..] = syms else {
         out.extend_from_slice(b"none")?;
         return Ok(());
-    }
-    for (i, s) in syms.iter().enumerate() {
-        out.extend_from_slice(gap(i))?;
+    };
+    append_symbol(out, first)?;
+    for s in others {
+        out.extend_from_slice(b", ")?;
         append_symbol(out, s)?;
     }
-    Ok(())
-}
-
-/// Appends a line with one of the three sets of a tree.
-fn append_set_line<S: Store>(
-    alloc: Global,
-    store: &S,
-    id: Id,
-    which: Which,
-    out: &mut Vec<u8>,
-) -> Result<(), NoReply>
-    requires { IsId (S.trees store.now) id }
-{
-    out.extend_from_slice(match which {
-        Which::Free => b"free: ".as_slice(),
-        Which::Bound => b"bound: ".as_slice(),
-        Which::Must => b"must: ".as_slice(),
-    })?;
-    append_set(out, &store.list(alloc, id, which)?)?;
-    out.push(b'\n')?;
     Ok(())
 }
 
@@ -119,12 +104,16 @@ fn vars_on<S: Store>(alloc: Global, store: &mut S, file: &[u8]) -> Result<Reply,
         Ok(expression) => expression,
         Err(fault) => return refuse_text(alloc, Role::File, fault),
     };
+    let free = store.list(alloc, expression, Which::Free)?;
+    let bound = store.list(alloc, expression, Which::Bound)?;
+    let must = store.list(alloc, expression, Which::Must)?;
+    let symbols = store.symbols(alloc, expression)?;
     let mut printed = Vec::new(alloc);
-    append_set_line(alloc, store, expression, Which::Free, &mut printed)?;
-    append_set_line(alloc, store, expression, Which::Bound, &mut printed)?;
-    append_set_line(alloc, store, expression, Which::Must, &mut printed)?;
+    append_set(&mut printed, "free: ", &free)?;
+    append_set(&mut printed, "bound: ", &bound)?;
+    append_set(&mut printed, "must: ", &must)?;
     printed.extend_from_slice(b"symbols: ")?;
-    append_symbols(&mut printed, store.symbols(alloc, expression)?.as_slice())?;
+    append_symbols(&mut printed, &symbols)?;
     printed.push(b'\n')?;
     Ok(Reply {
         status: Status::Done,

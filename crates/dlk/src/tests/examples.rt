@@ -1,4 +1,5 @@
-// The models of `examples/models`: what `print` prints of each, and of that again.
+// The models of `examples/models`: what `print` prints of each, and of that again, and what `vars` prints of it.
+use super::listing::{lines_of, listed};
 use super::printing::printed;
 use super::*;
 
@@ -252,6 +253,46 @@ fn prints_models(rt: HostRuntime) -> Result<(), Fail> {
         let (status, again) = printed(alloc, desk.printed())?;
         assert_eq!(rt; again.printed(), text.as_bytes(), "{text}");
         assert_eq!(rt; status, 0, "{text}");
+    }
+    Ok(())
+}
+
+#[test]
+fn lists_models(rt: HostRuntime) -> Result<(), Fail> {
+    let alloc = rt.alloc();
+    for (model, free, bound) in [
+        (
+            ADAPTIVE_CRUISE,
+            "A, B, ep, vf, vl, xf, xl",
+            "af, al, t, t', vf, vf', vl, vl', xf, xf', xl, xl'",
+        ),
+        (BOUNCING_BALL, "H, c, g, v, x", "v, v', x, x'"),
+        (CAR, "A, B, v, x", "a, v, v', x, x'"),
+        (CRUISE_GHOST, "K, d, v, vset", "d, d', v, v', y, y'"),
+        (
+            PENDULUM,
+            "E, L, g, k, theta, w",
+            "push, theta, theta', w, w'",
+        ),
+        (
+            ROBOT,
+            "A, V, b, dx, dy, ep, v, w, x, xo, y, yo",
+            "a, dx, dx', dy, dy', r, t, t', v, v', vxo, vyo, w, w', x, x', xo, xo', y, y', yo, yo'",
+        ),
+        (
+            ROUNDABOUT,
+            "c1, c2, d1, d2, e1, e2, om, p, r, x1, x2, y1, y2",
+            "d1, d1', d2, d2', e1, e1', e2, e2', x1, x1', x2, x2', y1, y1', y2, y2'",
+        ),
+        (STOP_SIGN, "A, b, ep, m, v, x", "a, t, t', v, v', x, x'"),
+        (THERMOSTAT, "K, T, h", "T, T', c, c', h"),
+        (TWO_CARS, "V, ep, x, y", "t, t', vx, vy, x, x', y, y'"),
+        (WATER_TANK, "ep, m, x", "f, t, t', x, x'"),
+    ] {
+        let (status, desk) = listed(alloc, model.as_bytes())?;
+        let lines = lines_of(alloc, [free, bound, "none", "none"])?;
+        assert_eq!(rt; desk.printed(), lines.as_bytes(), "{model}");
+        assert_eq!(rt; status, 0, "{model}");
     }
     Ok(())
 }

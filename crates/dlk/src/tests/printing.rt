@@ -5,11 +5,7 @@ use super::*;
 
 /// What `print` does to the bytes of a file.
 pub(super) fn printed(alloc: Global, file: &[u8]) -> Result<(u8, MemoryDesk), AllocError> {
-    let mut files = Vec::new(alloc);
-    files.push((String::from_str(alloc, "m")?, file.to_vec(alloc)?))?;
-    let mut desk = MemoryDesk::new(alloc, files, 4096, [].to_vec(alloc)?);
-    let status = status_of(alloc, &["print", "m"], &mut desk)?;
-    Ok((status, desk))
+    answered(alloc, "print", file)
 }
 
 #[test]

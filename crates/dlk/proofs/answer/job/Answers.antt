@@ -2,9 +2,10 @@ use Rattle.std.proofs.lemmas.Result.{IfOk-weaker}
 use Rattle.dlk.specs.Answers.{Does}
 use Rattle.dlk.specs.Checks.{Checks}
 use Rattle.dlk.specs.Prints.{Prints}
-use Rattle.dlk.specs.declared.command.Command.TheVariants.{Check, Print}
+use Rattle.dlk.specs.Lists.{Lists}
+use Rattle.dlk.specs.declared.command.Command.TheVariants.{Check, Print, Vars}
 use Rattle.dlk.specs.Shown.{texts_of, reply_of}
-use Rattle.dlk.proofs.JobTexts.{check_does, print_does}
+use Rattle.dlk.proofs.JobTexts.{check_does, print_does, vars_does}
 use Rattle.dlk.proofs.answer.job.Goals as goal
 
 pub returns-in-Check-clause-reply : goal.returns-in-Check-clause-reply
@@ -23,3 +24,11 @@ returns-in-Print-clause-reply g c =
     rw c.in-Print.is (IfOk-weaker c.print.result (λ r. Prints file (reply_of r)) (λ r. Does Print (texts_of inputs) (reply_of r))
     (λ r prints. print_does inputs c.index-inputs-0-in-Print.result file (reply_of r) (rw c.in-Print.is at c.requires) c.index-inputs-0-in-Print.is c.deref-in-Print.ensures.value prints)
     c.print.ensures.reply)
+
+pub returns-in-Vars-clause-reply : goal.returns-in-Vars-clause-reply
+returns-in-Vars-clause-reply g c =
+    let inputs = c.args.inputs.now in
+    let file = c.deref-in-Vars.result.now in
+    rw c.in-Vars.is (IfOk-weaker c.vars.result (λ r. Lists file (reply_of r)) (λ r. Does Vars (texts_of inputs) (reply_of r))
+    (λ r lists. vars_does inputs c.index-inputs-0-in-Vars.result file (reply_of r) (rw c.in-Vars.is at c.requires) c.index-inputs-0-in-Vars.is c.deref-in-Vars.ensures.value lists)
+    c.vars.ensures.reply)

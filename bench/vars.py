@@ -1,0 +1,126 @@
+#!/usr/bin/env python3
+"""How the time of `dlk vars` grows with its file and with the number of names: ratios of one run.
+
+Each time is the least of some runs, less that of a file of one variable. Run it after `./dlk` has built the program.
+A number as argument is the greatest number of nodes.
+"""
+import itertools
+import pathlib
+import subprocess
+import sys
+import tempfile
+import time
+
+PROGRAM = pathlib.Path(__file__).resolve().parent.parent / "crates" / "dlk" / "out" / "dlk"
+# numbers of nodes, each four times the one before
+SIZES = (1000, 4000, 16000, 64000)
+FEW = 4
+# many names: one for so many nodes
+NODES_OF_A_NAME = 100
+# the parts of one conjunct, so that no tree is deeper than 1,000
+LENGTH = 250
+
+
+def conjuncts(parts, length):
+    """The parts in pieces of so many, and the last piece shorter."""
+    return [parts[i : i + length] for i in range(0, len(parts), length)]
+
+
+def names(count):
+    """Names in turn, without end."""
+    return (f"x{k % count}" for k in itertools.count())
+
+
+def sums(nodes, count):
+    """Sums of variables: two nodes for each."""
+    name = names(count)
+    parts = [next(name) for _ in range(nodes // 2)]
+    return "&".join("+".join(piece) + ">=0" for piece in conjuncts(parts, LENGTH))
+
+
+def assignments(nodes, count):
+    """Assignments `x:=y;` one after the other: three nodes for each."""
+    name = names(count)
+    read = names(count)
+    next(read)
+    return [f"{next(name)}:={next(read)};" for _ in range(nodes // 3)]
+
+
+def sequences(nodes, count):
+    """Sequences of assignments, which group to the right."""
+    return "&".join(f"[{''.join(piece)}]true" for piece in conjuncts(assignments(nodes, count), LENGTH))
+
+
+def left_sequences(nodes, count):
+    """Sequences of assignments that braces group to the left."""
+    return "&".join(
+        f"[{'{' * (len(piece) - 1)}{piece[0]}{'}'.join(piece[1:] + [''])}]true"
+        for piece in conjuncts(assignments(nodes, count), LENGTH)
+    )
+
+
+def quantifiers(nodes, count):
+    """Quantifiers round a formula: one node for each."""
+    name = names(count)
+    parts = [f"\\forall {next(name)} " for _ in range(nodes)]
+    return "&".join("".join(piece) + "x0>=0" for piece in conjuncts(parts, LENGTH))
+
+
+def differentials(nodes, count):
+    """Differentials of sums within differentials: three nodes for each."""
+    name = names(count)
+    parts = [next(name) for _ in range(nodes // 3)]
+    return "&".join(
+        "(" * len(piece) + "0" + "".join(f"+{x})'" for x in piece) + ">=0" for piece in conjuncts(parts, LENGTH)
+    )
+
+
+SHAPES = (
+    ("sums", sums),
+    ("sequences", sequences),
+    ("sequences to the left", left_sequences),
+    ("quantifiers", quantifiers),
+    ("differentials", differentials),
+)
+
+
+def seconds(path, text, runs):
+    """The least time of a run on this text."""
+    path.write_text(text)
+    best = float("inf")
+    for _ in range(runs):
+        begin = time.perf_counter()
+        run = subprocess.run([PROGRAM, "vars", path], capture_output=True, check=False)
+        best = min(best, time.perf_counter() - begin)
+        if run.returncode != 0:
+            raise SystemExit(f"vars.py: status {run.returncode} on {len(text)} bytes: {run.stdout[:80]!r}")
+    return best
+
+
+def growth(path, title, text_of, count_of, base, sizes):
+    """Prints a line for each size, and answers the times."""
+    times = []
+    for nodes in sizes:
+        took = seconds(path, text_of(nodes, count_of(nodes)), 5) - base
+        ratio = f", {took / times[-1]:.1f} times that of a quarter of the nodes" if times else ""
+        print(f"{title}, {count_of(nodes)} names: {nodes} nodes, {took / base:.2f} of a run on one variable{ratio}")
+        times.append(took)
+    return times
+
+
+def main():
+    """Prints the lines of each shape with few names and with many, and how much the many cost."""
+    most = int(sys.argv[1]) if len(sys.argv) > 1 else SIZES[-1]
+    sizes = [nodes for nodes in SIZES if nodes <= most]
+    with tempfile.TemporaryDirectory() as folder:
+        path = pathlib.Path(folder) / "file"
+        base = seconds(path, "x", 20)
+        for title, text_of in SHAPES:
+            few = growth(path, title, text_of, lambda nodes: FEW, base, sizes)
+            many = growth(path, title, text_of, lambda nodes: nodes // NODES_OF_A_NAME, base, sizes)
+            for nodes, one, other in zip(sizes, few, many):
+                print(f"{title}: {nodes} nodes, {nodes // NODES_OF_A_NAME} names cost {other / one:.1f} times what {FEW} cost")
+
+
+if __name__ == "__main__":
+    main()
