@@ -1,9 +1,9 @@
 -- The forms of the words of a command line: a verb, and then a word for each of its inputs.
 use Rattle.std.specs.Prelude.{ℕ, ◌&&◌, ◌==◌, Bool, false, List, [], ◌∷◌, length, take, drop, map, Option, find, bytes_eq, codes}
 use Rattle.dlk.specs.declared.command.Command.{Command}
-use Rattle.dlk.specs.declared.command.Command.TheVariants.{Check, Print, Vars}
+use Rattle.dlk.specs.declared.command.Command.TheVariants.{Check, Print, Vars, Subst}
 use Rattle.dlk.specs.declared.command.Role.{Role}
-use Rattle.dlk.specs.declared.command.Role.TheVariants.{Model, Term, File}
+use Rattle.dlk.specs.declared.command.Role.TheVariants.{Model, Term, File, Substitution}
 
 abbrev pub Word : Type 0
 Word = List ℕ
@@ -12,27 +12,31 @@ abbrev pub verb_of : Command → Word
 verb_of Check = codes "check"
 verb_of Print = codes "print"
 verb_of Vars = codes "vars"
+verb_of Subst = codes "subst"
 
 -- what the words after the verb name, in their order
 abbrev pub roles_of : Command → List Role
 roles_of Check = Model ∷ Term ∷ []
 roles_of Print = File ∷ []
 roles_of Vars = File ∷ []
+roles_of Subst = File ∷ Substitution ∷ []
 
 -- the word for an input in a refusal
 abbrev pub word_of : Role → Word
 word_of Model = codes "model"
 word_of Term = codes "term"
 word_of File = codes "file"
+word_of Substitution = codes "subst"
 
 -- the greatest length of an input, in bytes
 abbrev pub limit_of : Role → ℕ
 limit_of Model = 1048576
 limit_of Term = 65536
 limit_of File = 1048576
+limit_of Substitution = 1048576
 
 abbrev pub commands : List Command
-commands = Check ∷ Print ∷ Vars ∷ []
+commands = Check ∷ Print ∷ Vars ∷ Subst ∷ []
 
 abbrev pub has_form : List Word → Command → Bool
 has_form [] command = false

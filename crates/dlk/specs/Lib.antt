@@ -5,6 +5,7 @@ pub mod Refusals
 pub mod Checks
 pub mod Prints
 pub mod Lists
+pub mod Substitutes
 pub mod Answers
 pub mod Runs
 pub mod Headline

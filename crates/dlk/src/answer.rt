@@ -10,6 +10,7 @@ use crate::command::Command;
 use crate::fault::NoReply;
 use crate::jobs::check::check;
 use crate::jobs::print::print;
+use crate::jobs::subst::subst;
 use crate::jobs::vars::vars;
 use crate::reply::{Reply, Status};
 use dlk_store::Steps;
@@ -72,6 +73,7 @@ fn job<L: Ledger>(
         Command::Check => check(alloc, &inputs[0], &inputs[1], steps),
         Command::Print => print(alloc, &inputs[0], steps),
         Command::Vars => vars(alloc, &inputs[0]),
+        Command::Subst => subst(alloc, &inputs[0], &inputs[1], steps),
     }
 }
 

@@ -11,6 +11,8 @@ pub enum Command {
     Print,
     /// Prints an expression's free, bound and must-bound variables, and its symbols.
     Vars,
+    /// Applies a substitution to an expression, and prints the result.
+    Subst,
 }
 
 /// What a word after the verb names.
@@ -22,6 +24,8 @@ pub enum Role {
     Term,
     /// A file of one formula, program or term.
     File,
+    /// A file of a substitution's pairs.
+    Substitution,
 }
 
 impl Role {
@@ -33,11 +37,17 @@ impl Role {
             Role::Model => "model",
             Role::Term => "term",
             Role::File => "file",
+            Role::Substitution => "subst",
         }
     }
 }
 
-const COMMANDS: [Command; 3] = [Command::Check, Command::Print, Command::Vars];
+const COMMANDS: [Command; 4] = [
+    Command::Check,
+    Command::Print,
+    Command::Vars,
+    Command::Subst,
+];
 
 impl Command {
     /// Its name on the command line.
@@ -48,6 +58,7 @@ impl Command {
             Command::Check => "check",
             Command::Print => "print",
             Command::Vars => "vars",
+            Command::Subst => "subst",
         }
     }
 
@@ -58,6 +69,7 @@ impl Command {
         match self {
             Command::Check => &[Role::Model, Role::Term],
             Command::Print | Command::Vars => &[Role::File],
+            Command::Subst => &[Role::File, Role::Substitution],
         }
     }
 
@@ -88,9 +100,11 @@ impl Command {
         const MODEL: usize = 1_048_576;
         const TERM: usize = 65_536;
         const FILE: usize = 1_048_576;
+        const SUBSTITUTION: usize = 1_048_576;
         match self {
             Command::Check => &[MODEL, TERM],
             Command::Print | Command::Vars => &[FILE],
+            Command::Subst => &[FILE, SUBSTITUTION],
         }
     }
 

@@ -1,3 +1,4 @@
 pub mod check;
 pub mod print;
+pub mod subst;
 pub mod vars;

@@ -1,7 +1,8 @@
 // `print FILE`: the canonical text of an expression.
-ghost use Rattle.std.specs.Prelude.{◌<◌, IfOk};
+ghost use Rattle.std.specs.Prelude.{◌≡◌, ◌<◌, IfOk};
+ghost use Rattle.dlk_store.specs.Stores.{IsId, tree};
 ghost use Rattle.dlk.specs.Replies.{code_of};
-ghost use Rattle.dlk.specs.Prints.{Prints};
+ghost use Rattle.dlk.specs.Prints.{Prints, printed};
 ghost use Rattle.dlk.specs.Shown.{reply_of};
 
 use crate::command::Role;
@@ -12,9 +13,29 @@ use dlk_grammar::Dots;
 use dlk_parse::read_expression;
 use dlk_plain::PlainStore;
 use dlk_print::text;
-use dlk_store::{Steps, Store};
+use dlk_store::{Id, Steps, Store};
 use std::alloc::Global;
 use std::sync::ledger::Ledger;
+
+/// The canonical text of a tree, on a line.
+pub(super) fn print_tree<S: Store, L: Ledger>(
+    alloc: Global,
+    store: &S,
+    id: Id,
+    steps: &mut Steps<L>,
+) -> Result<Reply, NoReply>
+    requires { IsId (S.trees store.now) id }
+    ensures reply { IfOk result (λ r. reply_of r ≡ printed (tree (S.trees store.now) id)) }
+    ensures status { IfOk result (λ r. code_of r.status < 3) }
+{
+    let mut printed = Vec::new(alloc);
+    text(store, id, &mut printed, steps)?;
+    printed.push(b'\n')?;
+    Ok(Reply {
+        status: Status::Done,
+        printed,
+    })
+}
 
 /// Prints an expression by a store.
 fn print_on<S: Store, L: Ledger>(
@@ -30,13 +51,7 @@ fn print_on<S: Store, L: Ledger>(
         Ok(expression) => expression,
         Err(fault) => return refuse_text(alloc, Role::File, fault),
     };
-    let mut printed = Vec::new(alloc);
-    text(store, expression, &mut printed, steps)?;
-    printed.push(b'\n')?;
-    Ok(Reply {
-        status: Status::Done,
-        printed,
-    })
+    print_tree(alloc, store, expression, steps)
 }
 
 /// Prints the canonical text of an expression, and a line feed.
