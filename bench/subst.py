@@ -1,0 +1,89 @@
+#!/usr/bin/env python3
+"""How the time of `dlk subst` grows with its file and with the binders round it: ratios of one run.
+
+Each time is the least of some runs, less that of a file of one variable. Run it after `./dlk` has built the program.
+A number as argument is the greatest number of nodes.
+"""
+import pathlib
+import subprocess
+import sys
+import tempfile
+import time
+
+PROGRAM = pathlib.Path(__file__).resolve().parent.parent / "crates" / "dlk" / "out" / "dlk"
+# numbers of nodes, each four times the one before
+SIZES = (1000, 4000, 16000, 64000)
+BINDERS = (0, 10, 100)
+# the applications of one conjunct
+LENGTH = 100
+
+
+def body(nodes):
+    """Conjuncts of sums of applications `f(x)`: three nodes for each."""
+    parts = ["f(x)"] * (nodes // 3)
+    pieces = [parts[i : i + LENGTH] for i in range(0, len(parts), LENGTH)]
+    return "&".join("+".join(piece) + ">=0" for piece in pieces)
+
+
+def under_quantifiers(nodes, binders):
+    """The body under so many quantifiers."""
+    return "".join(f"\\forall z{k} " for k in range(binders)) + f"({body(nodes)})"
+
+
+def under_boxes(nodes, binders):
+    """The body under so many boxes of an assignment."""
+    return "".join(f"[z{k}:=1;]" for k in range(binders)) + f"({body(nodes)})"
+
+
+def under_loops(nodes, binders):
+    """The body as a test in so many loops."""
+    return "[" + "{z:=1;{" * binders + f"?{body(nodes)};" + "}}*" * binders + "]true"
+
+
+# what stands round the body, and the pairs
+SHAPES = (
+    ("quantifiers", under_quantifiers, "f(._0)~>._0+y"),
+    ("boxes", under_boxes, "f(._0)~>._0+y"),
+    ("loops", under_loops, "f(._0)~>._0+y"),
+    ("boxes, a replacement with a function", under_boxes, "f(._0)~>g(._0,._0)"),
+)
+
+
+def seconds(folder, text, pairs, runs):
+    """The least time of a run on this text and these pairs."""
+    file = folder / "file"
+    subst = folder / "subst"
+    file.write_text(text)
+    subst.write_text(pairs)
+    best = float("inf")
+    for _ in range(runs):
+        begin = time.perf_counter()
+        run = subprocess.run([PROGRAM, "subst", file, subst], capture_output=True, check=False)
+        best = min(best, time.perf_counter() - begin)
+        if run.returncode != 0 and not run.stdout.startswith(b"refused: result-too-big"):
+            raise SystemExit(f"subst.py: status {run.returncode} on {len(text)} bytes: {run.stdout[:80]!r}")
+    return best
+
+
+def main():
+    """Prints a line for each shape, number of binders and size."""
+    most = int(sys.argv[1]) if len(sys.argv) > 1 else SIZES[-1]
+    sizes = [nodes for nodes in SIZES if nodes <= most]
+    with tempfile.TemporaryDirectory() as name:
+        folder = pathlib.Path(name)
+        base = seconds(folder, "x", "", 20)
+        for title, text_of, pairs in SHAPES:
+            bare = {}
+            for binders in BINDERS:
+                last = None
+                for nodes in sizes:
+                    took = seconds(folder, text_of(nodes, binders), pairs, 5) - base
+                    bare.setdefault(nodes, took)
+                    ratio = f", {took / last:.1f} times that of a quarter of the nodes" if last else ""
+                    more = f", {took / bare[nodes]:.1f} times that under none" if binders else ""
+                    print(f"{title}: {nodes} nodes under {binders} binders, {took / base:.2f} of a run on one variable{ratio}{more}")
+                    last = took
+
+
+if __name__ == "__main__":
+    main()
