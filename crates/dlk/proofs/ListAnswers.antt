@@ -5,7 +5,7 @@ use Rattle.dlk_tree.specs.Statics.{free, bound, must}
 use Rattle.dlk_tree.specs.Listed.{IsSignature}
 use Rattle.dlk_tree.specs.declared.op.Sym.{Sym}
 use Rattle.dlk_store.specs.declared.listing.Listing.{Listing}
-use Rattle.dlk_store.specs.Listings.{Lists as ListsSet}
+use Rattle.dlk_store.specs.Listings.{IsListingOf}
 use Rattle.dlk.specs.declared.reply.Status.TheVariants.{Done}
 use Rattle.dlk.specs.Replies.{line}
 use Rattle.dlk.specs.Prints.{FileText}
@@ -20,7 +20,7 @@ text_of l = set_text l.all_but l.vars
 
 -- What is appended one after the other are the four lines of these listings.
 pub list_answer : (file : List ℕ) (t u : Tree) (f b m : Listing) (syms : List Sym) (none one two three label four ended : List ℕ) →
-    FileText file t → u ≡ t → ListsSet (free u) f → ListsSet (bound u) b → ListsSet (must u) m → IsSignature u syms →
+    FileText file t → u ≡ t → IsListingOf (free u) f → IsListingOf (bound u) b → IsListingOf (must u) m → IsSignature u syms →
     none ≡ [] → one ≡ none ++ line (codes "free: " ++ text_of f) → two ≡ one ++ line (codes "bound: " ++ text_of b) →
     three ≡ two ++ line (codes "must: " ++ text_of m) → label ≡ three ++ codes "symbols: " → four ≡ label ++ signature_text syms → ended ≡ four ++ 10 ∷ [] →
     Lists file (record { status = Done; printed = ended })

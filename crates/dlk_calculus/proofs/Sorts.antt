@@ -18,7 +18,7 @@ use Rattle.dlk_tree.specs.Occurs.{is_hole}
 use Rattle.dlk_calculus.specs.Kids.{first}
 use Rattle.dlk_calculus.specs.Captures.{Stays}
 use Rattle.dlk_calculus.specs.Plug.{PlugAt, Plug, PlugAll, filled, filled_all}
-use Rattle.dlk_calculus.specs.Pairs.{Pair, replacement, is_formula, is_program, is_free_system, is_of_kind, IsWellFormed}
+use Rattle.dlk_calculus.specs.Pairs.{Pair, replacement, is_formula, is_program, is_system_without_domain, is_of_kind, IsWellFormed}
 use Rattle.dlk_calculus.specs.Subst.{IsAdmissible, Replaced, SubstAt, Subst, SubstAll}
 use Rattle.dlk_calculus.proofs.WellFormed.{replacement_of_kind}
 
@@ -99,7 +99,7 @@ program_sort Term e = cc
 program_sort Formula e = cc
 program_sort Program e = refl
 
-system_sort : (r : Tree) → IsTrue (is_free_system r) → sort r ≡ Program
+system_sort : (r : Tree) → IsTrue (is_system_without_domain r) → sort r ≡ Program
 system_sort (node (Op'.System items) kids) e = refl
 system_sort (node _ kids) e = cc
 

@@ -62,9 +62,9 @@ is_true Op'.True = true
 is_true _ = false
 
 -- a system whose domain is `true`
-abbrev pub is_free_system : Tree → Bool
-is_free_system (node (Op'.System items) kids) = is_true (root (last kids))
-is_free_system _ = false
+abbrev pub is_system_without_domain : Tree → Bool
+is_system_without_domain (node (Op'.System items) kids) = is_true (root (last kids))
+is_system_without_domain _ = false
 
 -- of the sort of a symbol of this kind
 abbrev pub is_of_kind : Kind → Tree → Bool
@@ -74,7 +74,7 @@ is_of_kind Pred r = is_formula (sort r)
 is_of_kind UnitPred r = is_formula (sort r)
 is_of_kind Quant r = is_formula (sort r)
 is_of_kind Prog r = is_program (sort r)
-is_of_kind Ode r = is_free_system r
+is_of_kind Ode r = is_system_without_domain r
 
 -- an argument dot that isn't below the arity
 abbrev pub is_dot_from : ℕ → Op → Bool

@@ -4,7 +4,7 @@ use Rattle.dlk_tree.specs.declared.op.Op.{Op}
 use Rattle.dlk_tree.specs.declared.op.Op.TheVariants as op
 use Rattle.dlk_tree.specs.Trees.{Tree, node, root, Forest, no_kids, kid, trees_in, WellMade}
 use Rattle.dlk_calculus.specs.Kids.{last}
-use Rattle.dlk_calculus.specs.Pairs.{is_free_system, is_true}
+use Rattle.dlk_calculus.specs.Pairs.{is_system_without_domain, is_true}
 use Rattle.dlk_grammar.specs.declared.token.Mark.TheVariants as mark
 use Rattle.dlk_grammar.specs.Lexemes.{Lexeme, OpenBrace, CloseBrace}
 use Rattle.dlk_grammar.specs.Phrases.{Items, System, Truth}
@@ -38,7 +38,7 @@ both_true : (o : Op) → is_true o ≡ true → shows_no_domain o ≡ true
 both_true op.True h = refl
 both_true _ h = absurd cc
 
-pub flow_told : (n : ℕ) (t : Tree) → WellMade t → is_free_system t ≡ true → FlowTold n (said n (shown t)) t
+pub flow_told : (n : ℕ) (t : Tree) → WellMade t → is_system_without_domain t ≡ true → FlowTold n (said n (shown t)) t
 flow_told n (node (op.System items) kids) w h =
     let k = system_kids Back items kids w.0.kids_fit (all_back kids w.1) w.1 in
     let d = all_items (n + 1) items (trees_in kids) w.0.parts_fit k.sides in

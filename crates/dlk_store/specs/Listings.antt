@@ -13,5 +13,5 @@ set_of Free t = free t
 set_of Bound t = bound t
 set_of Must t = must t
 
-abbrev pub Lists : (Var → Bool) → Listing → Type 0
-Lists set l = IsListing set l.all_but l.vars
+abbrev pub IsListingOf : (Var → Bool) → Listing → Type 0
+IsListingOf set l = IsListing set l.all_but l.vars

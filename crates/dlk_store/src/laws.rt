@@ -3,7 +3,7 @@ ghost use Rattle.std.specs.Prelude.{◌≡◌, Bool};
 ghost use Rattle.dlk_tree.specs.Trees.{Tree};
 ghost use Rattle.dlk_tree.specs.Listed.{IsSignature};
 ghost use Rattle.dlk_tree.specs.declared.op.Var.{Var};
-ghost use Rattle.dlk_store.specs.Listings.{Lists};
+ghost use Rattle.dlk_store.specs.Listings.{IsListingOf};
 
 use crate::listing::Listing;
 use dlk_tree::Sym;
@@ -11,8 +11,8 @@ use dlk_tree::Sym;
 /// A set has at most one listing.
 pub fn one_listing(a: &Listing, b: &Listing)
     ghost set: { Var → Bool }
-    requires first { Lists set a.now }
-    requires second { Lists set b.now }
+    requires first { IsListingOf set a.now }
+    requires second { IsListingOf set b.now }
     ensures { a.now ≡ b.now }
 {}
 

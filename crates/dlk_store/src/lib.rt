@@ -8,7 +8,7 @@ ghost use Rattle.dlk_tree.specs.Statics.{free, bound, must, both};
 ghost use Rattle.dlk_tree.specs.Occurs.{occurs, has_dot, has_hole};
 ghost use Rattle.dlk_tree.specs.Listed.{IsInhabited, IsSignature};
 ghost use Rattle.dlk_store.specs.declared.StoreFault.TheVariants.{Memory};
-ghost use Rattle.dlk_store.specs.Listings.{set_of, Lists};
+ghost use Rattle.dlk_store.specs.Listings.{set_of, IsListingOf};
 ghost use Rattle.dlk_store.specs.Stores.{IsId, tree, StandsFor, Keeps, kid_trees, sorts_at, HasOneId};
 
 use dlk_tree::{Op, Sym, Var};
@@ -152,7 +152,7 @@ pub trait Store {
     /// `Memory` alone.
     fn list(&self, alloc: Global, id: Id, which: Which) -> Result<Listing, StoreFault>
         requires { IsId (trees self.now) id }
-        ensures { IfOk result (Lists (set_of which (tree (trees self.now) id))) };
+        ensures { IfOk result (IsListingOf (set_of which (tree (trees self.now) id))) };
 
     /// The symbols that occur in the tree, in order of kind, name, arity and taboo, no taboo first; there is one such list
     /// (`one_signature`).
