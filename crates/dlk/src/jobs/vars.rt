@@ -16,6 +16,9 @@ use dlk_store::{Listing, Store, Which};
 use dlk_tree::{Kind, Sym, Var};
 use std::alloc::Global;
 
+/// What stands between two variables, and between two symbols.
+const COMMA: &[u8] = b", ";
+
 /// Appends the variables with commas between.
 fn append_variables(out: &mut Vec<u8>, vars: &[Var]) -> Result<(), NoReply>
     ensures { OnOk result (out.new.items ≡ out.old.items ++ variables vars.now) }
@@ -25,7 +28,7 @@ fn append_variables(out: &mut Vec<u8>, vars: &[Var]) -> Result<(), NoReply>
     };
     variable_text(first, out)?;
     for v in others {
-        out.extend_from_slice(b", ")?;
+        out.extend_from_slice(COMMA)?;
         variable_text(v, out)?;
     }
     Ok(())
@@ -89,7 +92,7 @@ fn append_symbols(out: &mut Vec<u8>, syms: &[Sym]) -> Result<(), NoReply>
     };
     append_symbol(out, first)?;
     for s in others {
-        out.extend_from_slice(b", ")?;
+        out.extend_from_slice(COMMA)?;
         append_symbol(out, s)?;
     }
     Ok(())
