@@ -1,0 +1,4 @@
+pub mod Captured
+pub mod Growth
+pub mod Admissible
+pub mod Filled

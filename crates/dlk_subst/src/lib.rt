@@ -2,6 +2,9 @@
 #![tactic(auto)]
 
 mod fault;
+mod fill;
+mod pairs;
+mod scope;
 mod subst;
 
 pub use dlk_calculus::Why;
