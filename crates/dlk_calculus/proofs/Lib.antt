@@ -5,3 +5,7 @@ pub mod StepLaws
 pub mod Histories
 pub mod Formulas
 pub mod OneResult
+pub mod WellFormed
+pub mod Sorts
+pub mod Systems
+pub mod MadeResults

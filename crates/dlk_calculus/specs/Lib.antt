@@ -5,6 +5,7 @@ pub mod Captures
 pub mod Plug
 pub mod Pairs
 pub mod Subst
+pub mod SubstExamples
 pub mod Sequents
 pub mod Rules
 pub mod Provables
