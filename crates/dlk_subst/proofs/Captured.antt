@@ -8,7 +8,8 @@ use Rattle.dlk_tree.specs.Table.{Fits}
 use Rattle.dlk_tree.specs.Trees.{Tree, node}
 use Rattle.dlk_tree.specs.Statics.{bound}
 use Rattle.dlk_store.specs.declared.Id.{Id}
-use Rattle.dlk_store.specs.Stores.{IsId, tree, kid_trees, sorts_at}
+use Rattle.dlk_store.specs.Stores.{IsId, tree, kid_trees, sorts_at, Keeps}
+use Rattle.dlk_store.proofs.Kids.{kid_trees-kept}
 use Rattle.dlk_calculus.specs.Kids.{first, later}
 use Rattle.dlk_calculus.specs.Captures.{captures}
 use Rattle.dlk_subst.specs.Scopes.{scope_set, IsKnownScope, first_scope, scope_of, later_ids, reach_of}
@@ -55,8 +56,11 @@ later_trees trees [] = refl
 later_trees trees (id ∷ ids) = refl
 
 -- the kids reached are those of the table
-pub reach_trees : (trees : List Tree) (op : Op) (ids : List Id) → kid_trees trees (reach_of op ids) ≡ (captures op).reach (kid_trees trees ids)
+reach_trees : (trees : List Tree) (op : Op) (ids : List Id) → kid_trees trees (reach_of op ids) ≡ (captures op).reach (kid_trees trees ids)
 reach_trees trees Op'.Box ids = later_trees trees ids
 reach_trees trees Op'.Dia ids = later_trees trees ids
 reach_trees trees Op'.Seq ids = later_trees trees ids
 reach_trees trees _ ids = refl
+
+pub reach_kept : {old new : List Tree} → Keeps old new → (op : Op) (ids : List Id) → All (IsId old) ids → kid_trees new (reach_of op ids) ≡ (captures op).reach (kid_trees old ids)
+reach_kept {old} {new} kept op ids all = reach_trees new op ids ∙ ap (captures op).reach (kid_trees-kept kept ids all)

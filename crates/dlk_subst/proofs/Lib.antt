@@ -2,3 +2,5 @@ pub mod Captured
 pub mod Growth
 pub mod Admissible
 pub mod Filled
+pub mod Arguments
+pub mod Staying

@@ -4,6 +4,7 @@
 mod fault;
 mod fill;
 mod pairs;
+mod plug;
 mod scope;
 mod subst;
 

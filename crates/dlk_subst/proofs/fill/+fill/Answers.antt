@@ -5,7 +5,8 @@ use Rattle.dlk_store.specs.declared.Id.{Id}
 use Rattle.dlk_store.proofs.Kids.{kid_smaller, node_fits}
 use Rattle.dlk_store.proofs.Made.{Made, Made-more, Made-kids, Made-sorts}
 use Rattle.dlk_calculus.specs.Plug.{filled}
-use Rattle.dlk_subst.proofs.Filled.{filled_sort, filled_node}
+use Rattle.dlk_calculus.proofs.Sorts.{fill_sort}
+use Rattle.dlk_subst.proofs.Filled.{filled_node}
 use Rattle.dlk_subst.proofs.fill.+fill.Goals as goal
 
 pub fill-requires : goal.fill-requires
@@ -52,7 +53,7 @@ make-requires-clause-fits g t c =
     let filling = filled (tree old c.args.formula) in
     let at : c.loop-kid.kid-index ≡ length ks = omega arith in
     let made = subst (λ (n : ℕ). Made filling old (g.S.Store.trees c.loop-kid.store) ks c.loop-kid.new.items n) at c.loop-kid.invariant.made in
-    rw (c.as_slice.ensures.value, Made-sorts filling (filled_sort (tree old c.args.formula) c.requires.sort) old (g.S.Store.trees c.loop-kid.store) ks c.loop-kid.new.items made)
+    rw (c.as_slice.ensures.value, Made-sorts filling (λ t. fill_sort (tree old c.args.formula) t c.requires.sort) old (g.S.Store.trees c.loop-kid.store) ks c.loop-kid.new.items made)
     (node_fits old c.args.id _ ks (g.met.S.Store.well_made c.args.store.now) c.requires.known c.loop-kid.invariant.node_is)
 
 pub returns-clause-made : goal.returns-clause-made
