@@ -4,3 +4,5 @@ pub mod Admissible
 pub mod Filled
 pub mod Arguments
 pub mod Staying
+pub mod Related
+pub mod Plugged
