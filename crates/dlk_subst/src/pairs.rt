@@ -1,20 +1,24 @@
 //! The pairs of a substitution: what it does at an operator, and what is admissible.
-ghost use Rattle.std.specs.Prelude.{◌≡◌, ◌↔◌, ◌&&◌, IsTrue, All};
-ghost use Rattle.dlk_tree.specs.Tests.{sym_eq};
+ghost use Rattle.std.specs.Prelude.{◌≡◌, ◌↔◌, ◌&&◌, IsTrue, IfOk, All, Err};
+ghost use Rattle.dlk_tree.specs.Table.{Fits};
 ghost use Rattle.dlk_tree.specs.Statics.{free};
 ghost use Rattle.dlk_tree.specs.Occurs.{any_has, has_symbol};
-ghost use Rattle.dlk_store.specs.Stores.{IsId, tree, kid_trees};
-ghost use Rattle.dlk_calculus.specs.Captures.{AreApart};
+ghost use Rattle.dlk_store.specs.Stores.{IsId, tree, kid_trees, sorts_at};
+ghost use Rattle.dlk_calculus.specs.Captures.{AreApart, Stays};
 ghost use Rattle.dlk_calculus.specs.Pairs.{takes_arguments};
 ghost use Rattle.dlk_calculus.specs.Subst.{IsAdmissible};
 ghost use Rattle.dlk_sequent.specs.Substitutions.{pairs_at, AreKnownPairs};
+ghost use Rattle.dlk_subst.specs.Results.{Holds, HasNone};
 ghost use Rattle.dlk_subst.specs.Scopes.{scope_set, IsKnownScope};
-ghost use Rattle.dlk_subst.specs.Roles.{found, role_of, or_stays};
+ghost use Rattle.dlk_subst.specs.Roles.{found, role_of};
+ghost use Rattle.dlk_subst.specs.declared.fault.ApplyFault.TheVariants.{NotAdmissible};
 
-use crate::scope::{Scope, is_apart};
+use crate::fault::ApplyFault;
+use crate::scope::{Scope, is_apart, make_node, reach};
 use dlk_sequent::Pair;
 use dlk_store::{Id, Store};
 use dlk_tree::{Kind, Op, Sym, same_sym};
+use std::alloc::Global;
 
 /// What a substitution does at an operator.
 #[derive(Clone, Copy, Debug)]
@@ -103,4 +107,29 @@ pub(crate) fn is_admissible<S: Store>(
         }
     }
     true
+}
+
+/// The operator over new kids, where what it captures is admissible for the kids of before.
+pub(crate) fn keep_admissible<S: Store>(
+    alloc: Global,
+    store: &mut S,
+    pairs: &[Pair],
+    op: &Op,
+    old: &[Id],
+    new: &[Id],
+) -> Result<Id, ApplyFault>
+    requires pairs { AreKnownPairs (S.trees store.old) pairs.now }
+    requires old { All (IsId (S.trees store.old)) old.now }
+    requires new { All (IsId (S.trees store.old)) new.now }
+    requires fits { Fits op.now (sorts_at (S.trees store.old) new.now) }
+    ensures ok { IfOk result (Holds (Stays (IsAdmissible (pairs_at (S.trees store.old) pairs.now)) op.now (kid_trees (S.trees store.old) old.now) (kid_trees (S.trees store.old) new.now)) (S.trees store.new)) }
+    ensures none { result ≡ Err NotAdmissible → HasNone (Stays (IsAdmissible (pairs_at (S.trees store.old) pairs.now)) op.now (kid_trees (S.trees store.old) old.now) (kid_trees (S.trees store.old) new.now)) }
+    ensures grows { S.grows store.old store.new }
+{
+    let made = make_node(alloc, store, op, new)?;
+    if is_admissible(store, pairs, &made.scope, reach(op, old)) {
+        Ok(made.id)
+    } else {
+        Err(ApplyFault::NotAdmissible)
+    }
 }
