@@ -6,3 +6,5 @@ pub mod Arguments
 pub mod Staying
 pub mod Related
 pub mod Plugged
+pub mod Found
+pub mod Splicing

@@ -6,6 +6,7 @@ mod fill;
 mod pairs;
 mod plug;
 mod scope;
+mod splice;
 mod subst;
 
 pub use dlk_calculus::Why;
