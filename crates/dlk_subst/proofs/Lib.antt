@@ -8,3 +8,4 @@ pub mod Related
 pub mod Plugged
 pub mod Found
 pub mod Splicing
+pub mod Systems
