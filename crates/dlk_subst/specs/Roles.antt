@@ -36,3 +36,10 @@ role_of pairs (Op'.Apply s) = or_stays Role'.Plugs (found pairs s)
 role_of pairs (Op'.Holds s) = or_stays Role'.Plugs (found pairs s)
 role_of pairs (Op'.Predicational s) = or_stays Role'.Fills (found pairs s)
 role_of pairs _ = Role'.Stays
+
+-- t is what the role makes of the operator over old kids, where these give the new ones
+abbrev pub RoleRow : List Tree → List Pair → Op → Forest → Forest → Role → Tree → Type 0
+RoleRow trees pairs op old new (Role'.Gives id) t = t ≡ tree trees id
+RoleRow trees pairs op old new (Role'.Plugs id) t = Plug (trees_in new) (tree trees id) t
+RoleRow trees pairs op old new (Role'.Fills id) t = IsAdmissible (pairs_at trees pairs) all old × (t ≡ filled (first new) (tree trees id))
+RoleRow trees pairs op old new Role'.Stays t = Stays (IsAdmissible (pairs_at trees pairs)) op old new t
