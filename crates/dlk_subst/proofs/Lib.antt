@@ -9,3 +9,4 @@ pub mod Plugged
 pub mod Found
 pub mod Splicing
 pub mod Systems
+pub mod Roles
