@@ -10,3 +10,4 @@ pub mod Found
 pub mod Splicing
 pub mod Systems
 pub mod Roles
+pub mod Substituted
