@@ -1,6 +1,6 @@
 -- What a substitution does at an operator, by its role.
-use Rattle.std.proofs.Common.{◌≡◌, refl, sym, ap, subst, ◌∙◌, ℕ, ◌<◌, ◌≤◌, List, [], ◌∷◌, length, replicate, Bool, true, false, ◌&&◌, ◌==◌, Option, Some, None, arith}
-use Rattle.std.specs.Prelude.{IsTrue, is_none, ◌||◌}
+use Rattle.std.proofs.Common.{◌≡◌, refl, sym, ap, subst, ◌∙◌, ℕ, ◌<◌, ◌≤◌, List, length, replicate, Bool, true, false, ◌&&◌, Option, Some, None, arith}
+use Rattle.std.specs.Prelude.{IsTrue}
 use Rattle.std.proofs.lemmas.Bool.Decides.{nat_tests}
 use Rattle.std.proofs.lemmas.List.{length-replicate}
 use Rattle.dlk_tree.specs.declared.op.Sym.{Sym}
@@ -10,9 +10,7 @@ use Rattle.dlk_tree.specs.declared.op.Sort.TheVariants.{Term, Formula}
 use Rattle.dlk_tree.specs.declared.op.OdeItem.{OdeItem}
 use Rattle.dlk_tree.specs.declared.op.Op.{Op}
 use Rattle.dlk_tree.specs.declared.op.Op.TheVariants as Op'
-use Rattle.dlk_tree.specs.Tests.{kind_rank}
-use Rattle.dlk_tree.specs.Table.{has_arity, taboo_is_name, may_have_taboo, is_sym_of, Fits}
-use Rattle.dlk_tree.specs.Names.{is_name}
+use Rattle.dlk_tree.specs.Table.{has_arity, is_sym_of, Fits}
 use Rattle.dlk_tree.specs.Trees.{Tree, Forest, sort, trees_in}
 use Rattle.dlk_tree.specs.Statics.{all}
 use Rattle.dlk_store.specs.declared.Id.{Id}

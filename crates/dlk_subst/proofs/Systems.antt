@@ -1,16 +1,13 @@
 -- The new system, of its items and kids.
-use Rattle.std.proofs.Common.{◌≡◌, sym, ap, subst, List, Result}
+use Rattle.std.proofs.Common.{◌≡◌, sym, subst, List, Result}
 use Rattle.std.specs.Prelude.{All, IfOk, IsTrue}
 use Rattle.std.proofs.lemmas.List.Elements.{All-map}
-use Rattle.std.proofs.lemmas.Result.{IfOk-weaker}
 use Rattle.dlk_tree.specs.declared.op.OdeItem.{OdeItem}
 use Rattle.dlk_tree.specs.declared.op.Op.TheVariants as Op'
 use Rattle.dlk_tree.specs.declared.op.Op.TheVariants.{True}
 use Rattle.dlk_tree.specs.Table.{Fits, are_items}
 use Rattle.dlk_tree.specs.Trees.{Tree, node, Forest, no_kids, sorts, WellMade}
 use Rattle.dlk_store.specs.declared.Id.{Id}
-use Rattle.dlk_store.specs.Stores.{kid_trees, sorts_at}
-use Rattle.dlk_store.proofs.Kids.{sorts-kid_trees}
 use Rattle.dlk_calculus.specs.Captures.{Stays}
 use Rattle.dlk_calculus.specs.Pairs.{Pair as TreePair, AreMade}
 use Rattle.dlk_calculus.specs.Subst.{IsAdmissible, SubstAt, new_items, new_kids}

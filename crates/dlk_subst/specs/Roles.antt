@@ -1,7 +1,6 @@
 -- What a substitution does at an operator, by ids.
-use Rattle.std.specs.Prelude.{◌≡◌, List, [], ◌∷◌, if◌then◌else◌, IsTrue, ◌&&◌, Option, Some, None}
+use Rattle.std.specs.Prelude.{◌≡◌, List, [], ◌∷◌, if◌then◌else◌, Option, Some, None}
 use Rattle.dlk_tree.specs.declared.op.Sym.{Sym}
-use Rattle.dlk_tree.specs.declared.op.Var.{Var}
 use Rattle.dlk_tree.specs.declared.op.Op.{Op}
 use Rattle.dlk_tree.specs.declared.op.Op.TheVariants as Op'
 use Rattle.dlk_tree.specs.Tests.{sym_eq}

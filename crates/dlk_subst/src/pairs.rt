@@ -90,12 +90,7 @@ fn is_safe<S: Store>(store: &S, pair: &Pair, scope: &Scope, kids: &[Id]) -> bool
 }
 
 /// Whether no variable of the scope is free in the replacement of a function or predicate that occurs in the kids.
-pub(crate) fn is_admissible<S: Store>(
-    store: &S,
-    pairs: &[Pair],
-    scope: &Scope,
-    kids: &[Id],
-) -> bool
+pub(crate) fn is_admissible<S: Store>(store: &S, pairs: &[Pair], scope: &Scope, kids: &[Id]) -> bool
     requires pairs { AreKnownPairs (S.trees store.now) pairs.now }
     requires scope { IsKnownScope (S.trees store.now) scope.now }
     requires kids { All (IsId (S.trees store.now)) kids.now }

@@ -1,5 +1,4 @@
-use Rattle.std.proofs.Common.{◌≡◌, refl, sym, subst, take, get_or}
-use Rattle.std.specs.Prelude.{All, IsTrue}
+use Rattle.std.proofs.Common.{refl, sym, subst, take}
 use Rattle.std.proofs.lemmas.List.{take_all}
 use Rattle.std.proofs.lemmas.List.Elements.{All-more, All-same}
 use Rattle.dlk_store.specs.Stores.{kid_trees}
@@ -12,8 +11,7 @@ returns-then-not-is_safe g c =
     let trees = g.S.Store.trees c.args.store.now in
     let set = scope_set trees c.args.scope.now in
     let kids = kid_trees trees c.args.kids.now in
-    let pair = c.pair-item.result in
-    (
+    let pair = c.pair-item.result in (
       λ e. cc,
       λ adm.
           let safe = subst (IsSafe trees set kids) (sym c.pair-item.is) (safe_all trees set kids c.args.pairs.now adm c.loop-pair.pair-index pair c.loop-pair-test.true) in

@@ -1,5 +1,5 @@
-use Rattle.std.proofs.Common.{◌≡◌, ◌∙◌, sym, ap, subst}
-use Rattle.std.specs.Prelude.{All, IsTrue}
+use Rattle.std.proofs.Common.{◌∙◌, sym, ap, subst}
+use Rattle.std.specs.Prelude.{All}
 use Rattle.dlk_store.specs.Stores.{IsId, kid_trees}
 use Rattle.dlk_calculus.specs.Subst.{IsAdmissible}
 use Rattle.dlk_sequent.specs.Substitutions.{pairs_at}

@@ -1,4 +1,4 @@
-use Rattle.std.proofs.Common.{◌≡◌, refl, sym, subst, get_or, arith}
+use Rattle.std.proofs.Common.{refl, sym, subst, get_or, arith}
 use Rattle.dlk_store.specs.Stores.{kid_trees}
 use Rattle.dlk_store.specs.declared.Id.{Id}
 use Rattle.dlk_subst.specs.Scopes.{scope_set}
@@ -12,8 +12,7 @@ returns-then-not-is_safe g c =
     let set = scope_set trees c.args.scope.now in
     let kids = kid_trees trees c.args.kids.now in
     let d : Id = record { 0 = 0 } in
-    let i = c.loop-arg.arg-index in
-    (
+    let i = c.loop-arg.arg-index in (
       λ e. cc,
       λ clear.
           let safe = subst (λ n. IsSafe trees set kids n (get_or c.args.args.now i d)) (sym c.loop-arg.invariant.count) (safe_of trees set kids c.args.args.now i d c.loop-arg-test.true clear) in

@@ -1,8 +1,6 @@
-use Rattle.std.proofs.Common.{◌≡◌, ◌∙◌, sym, ap, subst}
-use Rattle.std.specs.Prelude.{All, IsTrue}
+use Rattle.std.proofs.Common.{◌∙◌, sym, ap, subst}
+use Rattle.std.specs.Prelude.{All}
 use Rattle.dlk_store.specs.Stores.{IsId, kid_trees}
-use Rattle.dlk_store.proofs.Kids.{kid_trees-kept}
-use Rattle.dlk_calculus.specs.Captures.{captures}
 use Rattle.dlk_calculus.specs.Plug.{IsClear}
 use Rattle.dlk_subst.specs.Results.{args_at}
 use Rattle.dlk_subst.specs.Scopes.{scope_set}

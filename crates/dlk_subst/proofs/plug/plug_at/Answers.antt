@@ -1,4 +1,4 @@
-use Rattle.std.proofs.Common.{◌≡◌, ◌<◌, ◌≤◌, sym, subst, length, arith}
+use Rattle.std.proofs.Common.{◌<◌, ◌≤◌, sym, subst, length, arith}
 use Rattle.std.proofs.lemmas.Bool.Decides.{nat_tests}
 use Rattle.dlk_tree.specs.declared.op.Op.{Op}
 use Rattle.dlk_store.specs.Stores.{kid_trees}

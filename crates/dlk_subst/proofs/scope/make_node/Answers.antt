@@ -1,8 +1,7 @@
-use Rattle.std.proofs.Common.{◌≡◌, ◌∙◌, sym, ap, subst, arith}
-use Rattle.std.specs.Prelude.{All}
+use Rattle.std.proofs.Common.{◌≡◌, ◌∙◌, sym, ap, subst}
 use Rattle.dlk_tree.specs.Trees.{node}
 use Rattle.dlk_tree.specs.Table.{Fits}
-use Rattle.dlk_store.specs.Stores.{IsId, tree, kid_trees, sorts_at}
+use Rattle.dlk_store.specs.Stores.{tree, kid_trees}
 use Rattle.dlk_store.proofs.Kids.{kid_trees-kept, sorts_at-kept}
 use Rattle.dlk_calculus.specs.Captures.{captures}
 use Rattle.dlk_subst.specs.Scopes.{scope_set, IsKnownScope}

@@ -1,9 +1,6 @@
-use Rattle.std.proofs.Common.{◌≡◌, ◌∙◌, ap, [], drop, arith}
+use Rattle.std.proofs.Common.{◌≡◌, ◌∙◌, ap, [], drop}
 use Rattle.std.proofs.lemmas.List.{drop_all}
 use Rattle.dlk_store.specs.Stores.{kid_trees}
-use Rattle.dlk_calculus.specs.Kids.{append}
-use Rattle.dlk_calculus.specs.Subst.{new_kids}
-use Rattle.dlk_sequent.specs.Substitutions.{pairs_at}
 use Rattle.dlk_subst.proofs.Splicing.{trees_append}
 use Rattle.dlk_subst.proofs.splice.all_spliced.Goals as goal
 

@@ -1,8 +1,8 @@
-use Rattle.std.proofs.Common.{◌≡◌, ◌∙◌, refl, sym, ap, subst}
+use Rattle.std.proofs.Common.{◌∙◌, refl, sym, ap, subst}
 use Rattle.std.specs.Prelude.{IsTrue}
 use Rattle.dlk_tree.specs.declared.op.Op.TheVariants as Op'
 use Rattle.dlk_tree.specs.Table.{Fits, are_items}
-use Rattle.dlk_store.specs.Stores.{kid_trees, sorts_at}
+use Rattle.dlk_store.specs.Stores.{kid_trees}
 use Rattle.dlk_store.proofs.Kids.{sorts-kid_trees}
 use Rattle.dlk_sequent.specs.Substitutions.{pairs_at}
 use Rattle.dlk_subst.proofs.Systems.{pairs_made, spliced_fits, spliced_ok, spliced_none}
