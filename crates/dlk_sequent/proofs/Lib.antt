@@ -1,2 +1,6 @@
 pub mod Kept
 pub mod KeptPairs
+mod Dots
+mod Last
+mod Chosen
+mod Pairs

@@ -1,5 +1,8 @@
 //! Substitutions: well-formed lists of pairs.
 ghost use Rattle.std.specs.Prelude.{◌≡◌, ◌↔◌, ◌+◌, ◌*◌, ◌≤◌, length, IsTrue, IfOk, IfErr};
+ghost use Rattle.dlk_tree.specs.Listed.{IsInhabited};
+ghost use Rattle.dlk_tree.specs.Statics.{free};
+ghost use Rattle.dlk_store.specs.Stores.{IsId, tree};
 ghost use Rattle.dlk_calculus.specs.Pairs.{takes_arguments, IsFreeIn};
 ghost use Rattle.dlk_sequent.specs.Substitutions.{pairs_at, AreKnownPairs, IsMadeOver, IsIllFault};
 ghost use Rattle.dlk_sequent.specs.declared.subst.SubstFault.TheVariants.{Memory};
@@ -13,7 +16,8 @@ use std::marker::Model;
 use std::sync::ledger::Ledger;
 use thiserror::Error;
 
-/// A symbol, and what replaces it.
+/// A symbol, and the tree that replaces it. In the tree for a function or a predicate a dot stands for each argument, and in
+/// that for a predicational `_` stands for the formula.
 #[derive(Drop, Debug)]
 pub struct Pair {
     pub sym: Sym,
@@ -23,9 +27,10 @@ pub struct Pair {
 /// Why pairs make no substitution.
 #[derive(Clone, Copy, Debug, PartialEq, Eq, Error)]
 pub enum SubstFault {
-    /// The first bad pair, counted from 1, and why it is bad.
+    /// The first bad pair, counted from 1, and the first reason against it.
     #[error("pair {pair} is not well formed")]
     Ill { pair: usize, why: Why },
+    /// No memory was left.
     #[error("out of memory")]
     Memory,
 }
@@ -46,8 +51,8 @@ impl<T: Drop> From<AllocFailed<T>> for SubstFault {
     }
 }
 
-/// A uniform substitution: pairs that are well formed over the store that they were made over, and over that store for as
-/// long as it grows (Platzer 2017, section on uniform substitution).
+/// A uniform substitution: pairs that are well formed over the store that they were made over, and over that store however
+/// it grows (Platzer 2017, section on uniform substitution). Only `Subst::new` makes one.
 #[derive(Drop, Debug)]
 pub struct Subst {
     pairs: Vec<Pair>,
@@ -62,19 +67,21 @@ impl Model for Subst {
     ghost view = { λ s. record { pairs = s.pairs.items; free = s.free } };
 }
 
-fn takes_arguments(kind: Kind) -> bool
-    ensures { result ≡ takes_arguments kind }
+/// Whether the pair replaces a function or a predicate, and some variable is free in the replacement.
+fn is_free<S: Store>(store: &S, pair: &Pair) -> bool
+    requires { IsId (S.trees store.now) pair.now.by }
+    ensures { IsTrue result ↔ (IsTrue (takes_arguments pair.now.sym.kind) × IsInhabited (free (tree (S.trees store.now) pair.now.by))) }
 {
-    matches!(kind, Kind::Func | Kind::Pred)
+    matches!(pair.sym.kind, Kind::Func | Kind::Pred) && store.any_free(pair.by)
 }
 
-/// Whether some variable is free in the replacement of a function or a predicate.
+/// Whether one of the pairs does so, with such a replacement.
 fn is_free_in<S: Store>(store: &S, pairs: &[Pair]) -> bool
     requires { AreKnownPairs (S.trees store.now) pairs.now }
     ensures { IsTrue result ↔ IsFreeIn (pairs_at (S.trees store.now) pairs.now) }
 {
     for pair in pairs {
-        if takes_arguments(pair.sym.kind) && store.any_free(pair.by) {
+        if is_free(store, pair) {
             return true;
         }
     }
@@ -82,13 +89,15 @@ fn is_free_in<S: Store>(store: &S, pairs: &[Pair]) -> bool
 }
 
 impl Subst {
-    /// The substitution of these pairs. It takes at most two steps a pair.
+    /// The substitution of these pairs, whose replacements are ids of the store, for use over this store or what it grows to.
+    /// It takes at most two steps a pair. A name that it copies keeps its allocator, so `_alloc` isn't asked.
     ///
     /// # Errors
     ///
-    /// `Ill` exactly where some pair is bad; it names the first one, and the first reason against it.
+    /// `Ill` where some pair is bad: it names the first one, counted from 1, and the first reason against it in the order of
+    /// `Why`. `Memory` where none was left to copy the name of a taboo. The pairs are dropped then.
     pub fn new<S: Store, L: Ledger>(
-        alloc: Global,
+        _alloc: Global,
         store: &S,
         pairs: Vec<Pair>,
         steps: &mut Steps<L>,
@@ -108,14 +117,15 @@ impl Subst {
         Ok(Subst { pairs, free })
     }
 
-    /// The pairs in order.
+    /// The pairs, in the order in which they were given. It takes no memory.
     pub fn pairs(&self) -> &[Pair]
         ensures { result.now ≡ self.now.pairs }
     {
         self.pairs.as_slice()
     }
 
-    /// Whether some variable is free in the replacement of a function or a predicate. Kept at making: it takes no step.
+    /// Whether some variable is free in the replacement of a function or a predicate, for rules that forbid such a
+    /// substitution. It was found at making: it takes no step and no memory.
     pub fn free(&self) -> bool
         ensures { result ≡ self.now.free }
     {

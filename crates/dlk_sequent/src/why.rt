@@ -1,25 +1,25 @@
-//! What speaks against a pair of a substitution, a function a reason.
-ghost use Rattle.std.specs.Prelude.{◌≡◌, ◌+◌, ◌≤◌, All, IfOk};
+//! What speaks against a pair of a substitution: a function for each reason, and one for the first that applies.
+ghost use Rattle.std.specs.Prelude.{◌≡◌, ◌+◌, ◌≤◌, ◌&&◌, not, All, IfOk};
 ghost use Rattle.std.specs.List.{list_any};
 ghost use Rattle.dlk_tree.specs.Tests.{sym_eq};
 ghost use Rattle.dlk_tree.specs.Trees.{root};
-ghost use Rattle.dlk_tree.specs.Occurs.{has};
+ghost use Rattle.dlk_tree.specs.Occurs.{has, has_hole};
 ghost use Rattle.dlk_store.specs.Stores.{IsId, tree, kid_trees};
 ghost use Rattle.dlk_calculus.specs.Kids.{last};
-ghost use Rattle.dlk_calculus.specs.Pairs as the;
+ghost use Rattle.dlk_calculus.specs.Pairs.{is_true, is_of_kind, is_dot_from, may_have_hole, touched, has_taboo, why};
 ghost use Rattle.dlk_sequent.specs.Substitutions.{pair_at, pairs_at};
 
 use crate::subst::Pair;
 use dlk_calculus::Why;
 use dlk_store::{Id, Steps, Store};
-use dlk_tree::{Kind, Name, Op, Sort, Sym, Var, same_sym, sort_of};
+use dlk_tree::{Kind, Op, Sort, Sym, Var, same_sym, sort_of};
 use std::alloc::AllocError;
 use std::sync::ledger::Ledger;
 
-/// Whether the last kid is `true`, in at most one step.
+/// Whether the last of these kids of a system, its domain, is `true`.
 fn ends_in_true<S: Store, L: Ledger>(store: &S, kids: &[Id], steps: &mut Steps<L>) -> bool
     requires { All (IsId (S.trees store.now)) kids.now }
-    ensures value { result ≡ the.is_true (root (last (kid_trees (S.trees store.now) kids.now))) }
+    ensures value { result ≡ is_true (root (last (kid_trees (S.trees store.now) kids.now))) }
     ensures cost { steps.new ≤ steps.old + 1 }
 {
     match kids.last() {
@@ -28,10 +28,10 @@ fn ends_in_true<S: Store, L: Ledger>(store: &S, kids: &[Id], steps: &mut Steps<L
     }
 }
 
-/// Whether the tree is of the sort of a symbol of this kind, in at most two steps.
+/// Whether the tree is of the sort of a symbol of this kind. For an ODE constant it is to be a system whose domain is `true`.
 fn is_of_kind<S: Store, L: Ledger>(store: &S, kind: Kind, id: Id, steps: &mut Steps<L>) -> bool
     requires { IsId (S.trees store.now) id }
-    ensures value { result ≡ the.is_of_kind kind (tree (S.trees store.now) id) }
+    ensures value { result ≡ is_of_kind kind (tree (S.trees store.now) id) }
     ensures cost { steps.new ≤ steps.old + 2 }
 {
     let node = store.look(id, steps);
@@ -55,10 +55,10 @@ fn is_replaced(pairs: &[Pair], s: &Sym) -> bool
     false
 }
 
-/// Whether an argument dot stands in the tree that isn't below the arity. No dot of a tree is past 7.
+/// Whether an argument dot stands in the tree that isn't below the arity. No tree has a dot past 7.
 fn has_dot_from<S: Store>(store: &S, arity: u8, id: Id) -> bool
     requires { IsId (S.trees store.now) id }
-    ensures { result ≡ has (the.is_dot_from arity) (tree (S.trees store.now) id) }
+    ensures { result ≡ has (is_dot_from arity) (tree (S.trees store.now) id) }
 {
     for n in arity..8 {
         if store.has_dot(id, n) {
@@ -68,48 +68,45 @@ fn has_dot_from<S: Store>(store: &S, arity: u8, id: Id) -> bool
     false
 }
 
-fn may_have_hole(kind: Kind) -> bool
-    ensures { result ≡ the.may_have_hole kind }
+/// Whether `_` stands in the tree, and a symbol of this kind doesn't allow it.
+fn has_stray_hole<S: Store>(store: &S, kind: Kind, id: Id) -> bool
+    requires { IsId (S.trees store.now) id }
+    ensures { result ≡ (has_hole (tree (S.trees store.now) id) && not (may_have_hole kind)) }
 {
-    kind == Kind::Quant
+    kind != Kind::Quant && store.has_hole(id)
 }
 
-/// Whether a taboo of a symbol of this kind forbids the variable in the tree.
+/// Whether the variable is free in the tree, or where the symbol is an ODE constant free or bound.
 fn touches<S: Store>(store: &S, kind: Kind, id: Id, v: &Var) -> bool
     requires { IsId (S.trees store.now) id }
-    ensures { result ≡ the.touched kind (tree (S.trees store.now) id) v.now }
+    ensures { result ≡ touched kind (tree (S.trees store.now) id) v.now }
 {
     store.frees(id, v) || (kind == Kind::Ode && store.binds(id, v))
 }
 
-/// Whether the taboo of a symbol of this kind forbids the tree.
-fn has_taboo<S: Store>(
-    store: &S,
-    kind: Kind,
-    taboo: &Option<Name>,
-    id: Id,
-) -> Result<bool, AllocError>
+/// Whether the symbol's taboo forbids the tree, by its plain or its primed variable.
+fn has_taboo<S: Store>(store: &S, s: &Sym, id: Id) -> Result<bool, AllocError>
     requires { IsId (S.trees store.now) id }
-    ensures { IfOk result (λ b. b ≡ the.has_taboo taboo.now (the.touched kind (tree (S.trees store.now) id))) }
+    ensures { IfOk result (λ b. b ≡ has_taboo s.now.taboo (touched s.now.kind (tree (S.trees store.now) id))) }
 {
-    let Some(y) = taboo else {
+    let Some(y) = &s.taboo else {
         return Ok(false);
     };
     let plain = Var {
         name: y.clone()?,
         primed: false,
     };
-    if touches(store, kind, id, &plain) {
+    if touches(store, s.kind, id, &plain) {
         return Ok(true);
     }
     let prime = Var {
         name: plain.name,
         primed: true,
     };
-    Ok(touches(store, kind, id, &prime))
+    Ok(touches(store, s.kind, id, &prime))
 }
 
-/// The first reason against a pair behind earlier ones, in at most two steps.
+/// The first reason against a pair that stands behind earlier ones, in the order of `Why`. It takes at most two steps.
 pub fn why<S: Store, L: Ledger>(
     store: &S,
     earlier: &[Pair],
@@ -117,7 +114,7 @@ pub fn why<S: Store, L: Ledger>(
     steps: &mut Steps<L>,
 ) -> Result<Option<Why>, AllocError>
     requires { IsId (S.trees store.now) pair.now.by }
-    ensures why { IfOk result (λ w. w ≡ the.why (pairs_at (S.trees store.now) earlier.now) (pair_at (S.trees store.now) pair.now)) }
+    ensures why { IfOk result (λ w. w ≡ why (pairs_at (S.trees store.now) earlier.now) (pair_at (S.trees store.now) pair.now)) }
     ensures cost { steps.new ≤ steps.old + 2 }
 {
     let kind = pair.sym.kind;
@@ -130,10 +127,10 @@ pub fn why<S: Store, L: Ledger>(
     if has_dot_from(store, pair.sym.arity, pair.by) {
         return Ok(Some(Why::Dot));
     }
-    if store.has_hole(pair.by) && !may_have_hole(kind) {
+    if has_stray_hole(store, kind, pair.by) {
         return Ok(Some(Why::Hole));
     }
-    if has_taboo(store, kind, &pair.sym.taboo, pair.by)? {
+    if has_taboo(store, &pair.sym, pair.by)? {
         return Ok(Some(Why::Taboo));
     }
     Ok(None)

@@ -1,0 +1,14 @@
+-- The last of a node's kids.
+use Rattle.std.proofs.Common.{◌≡◌, ◌∙◌, suc, ◌-◌, List, [], ◌∷◌, length, Some, sym, ap, arith}
+use Rattle.std.specs.List.{slice_get}
+use Rattle.dlk_tree.specs.Trees.{Tree}
+use Rattle.dlk_store.specs.declared.Id.{Id}
+use Rattle.dlk_store.specs.Stores.{tree, kid_trees}
+use Rattle.dlk_calculus.specs.Kids.{last}
+
+pub last_kid : (trees : List Tree) (ks : List Id) (k : Id) → slice_get ks (length ks - 1) ≡ Some k → last (kid_trees trees ks) ≡ tree trees k
+last_kid trees [] k e = cc
+last_kid trees (j ∷ []) k e = let same : j ≡ k = cc in ap (tree trees) same
+last_kid trees (i ∷ j ∷ ks) k e =
+    let shorter : length (i ∷ j ∷ ks) - 1 ≡ suc (length (j ∷ ks) - 1) = omega arith in
+    last_kid trees (j ∷ ks) k (ap (slice_get (i ∷ j ∷ ks)) (sym shorter) ∙ e)
