@@ -4,6 +4,7 @@
 mod listed;
 mod sequent;
 mod subst;
+mod why;
 
 pub use listed::{Listed, item_at};
 pub use sequent::{Place, Sequent};

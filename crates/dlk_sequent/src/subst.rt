@@ -1,11 +1,13 @@
 //! Substitutions: well-formed lists of pairs.
-ghost use Rattle.std.specs.Prelude.{◌≡◌, ◌+◌, ◌*◌, ◌≤◌, length, IfOk, IfErr};
-ghost use Rattle.dlk_sequent.specs.Substitutions.{AreKnownPairs, IsMadeOver, IsIllFault};
+ghost use Rattle.std.specs.Prelude.{◌≡◌, ◌↔◌, ◌+◌, ◌*◌, ◌≤◌, length, IsTrue, IfOk, IfErr};
+ghost use Rattle.dlk_calculus.specs.Pairs.{takes_arguments, IsFreeIn};
+ghost use Rattle.dlk_sequent.specs.Substitutions.{pairs_at, AreKnownPairs, IsMadeOver, IsIllFault};
 ghost use Rattle.dlk_sequent.specs.declared.subst.SubstFault.TheVariants.{Memory};
 
+use crate::why::why;
 use dlk_calculus::Why;
 use dlk_store::{Id, Steps, Store};
-use dlk_tree::Sym;
+use dlk_tree::{Kind, Sym};
 use std::alloc::{AllocError, AllocFailed, Global};
 use std::marker::Model;
 use std::sync::ledger::Ledger;
@@ -60,6 +62,25 @@ impl Model for Subst {
     ghost view = { λ s. record { pairs = s.pairs.items; free = s.free } };
 }
 
+fn takes_arguments(kind: Kind) -> bool
+    ensures { result ≡ takes_arguments kind }
+{
+    matches!(kind, Kind::Func | Kind::Pred)
+}
+
+/// Whether some variable is free in the replacement of a function or a predicate.
+fn is_free_in<S: Store>(store: &S, pairs: &[Pair]) -> bool
+    requires { AreKnownPairs (S.trees store.now) pairs.now }
+    ensures { IsTrue result ↔ IsFreeIn (pairs_at (S.trees store.now) pairs.now) }
+{
+    for pair in pairs {
+        if takes_arguments(pair.sym.kind) && store.any_free(pair.by) {
+            return true;
+        }
+    }
+    false
+}
+
 impl Subst {
     /// The substitution of these pairs. It takes at most two steps a pair.
     ///
@@ -79,11 +100,11 @@ impl Subst {
         ensures cost { steps.new ≤ steps.old + 2 * length pairs.items }
     {
         for i in 0..pairs.len() {
-            if let Some(why) = why(alloc, store, &pairs[..i], &pairs[i], steps)? {
+            if let Some(why) = why(store, &pairs[..i], &pairs[i], steps)? {
                 return Err(SubstFault::Ill { pair: i + 1, why });
             }
         }
-        let free = pairs.iter().any(|p| takes_arguments(p.sym.kind) && store.any_free(p.by));
+        let free = is_free_in(store, &pairs);
         Ok(Subst { pairs, free })
     }
 
