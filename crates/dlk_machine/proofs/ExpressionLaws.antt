@@ -167,7 +167,7 @@ expression_after (k ∷ s) x all y a e =
     subst (λ (z : List Lexeme). ExpressionAfter y z) (append_assoc all (k ∷ []) s) (expression_after s b.0 (all ++ k ∷ []) y (expression_moves x k b.0 all a b.1) b.2)
 
 -- what is no whole formula is none
-no_formula : (s : List Lexeme) (x : State) → states (reader Formula) (Wants []) s ≡ Some x → ended Formula x ≡ None → (b : Phrase) → ¬ Reads formula s b
+pub no_formula : (s : List Lexeme) (x : State) → states (reader Formula) (Wants []) s ≡ Some x → ended Formula x ≡ None → (b : Phrase) → ¬ Reads formula s b
 no_formula s x p e b d =
     let w = only_at Formula Formula s b d refl in
     none_some b (sym e ∙ ap (ended Formula) (some_is x w.0 (sym p ∙ w.1)) ∙ w.2)

@@ -95,16 +95,16 @@ has_append : (test : TreeOp → Bool) (ts us : List Tree) → any_has test (fore
 has_append test [] us h g = g
 has_append test (t ∷ ts) us h g = let w = or_parts _ (any_has test (forest ts)) h in rw (w.0) (has_append test ts us w.1 g)
 
-none_left : {X : Type 0} (xs ys : List X) → xs ++ ys ≡ [] → xs ≡ []
+pub none_left : {X : Type 0} (xs ys : List X) → xs ++ ys ≡ [] → xs ≡ []
 none_left [] ys e = refl
 none_left (x ∷ xs) ys e = absurd cc
 
-none_right : {X : Type 0} (xs ys : List X) → xs ++ ys ≡ [] → ys ≡ []
+pub none_right : {X : Type 0} (xs ys : List X) → xs ++ ys ≡ [] → ys ≡ []
 none_right [] ys e = e
 none_right (x ∷ xs) ys e = absurd cc
 
 -- some of the lexemes of w
-abbrev Part : List Lexeme → List Lexeme → Type 1
+abbrev pub Part : List Lexeme → List Lexeme → Type 1
 Part s w = (P : Lexeme → Type 0) → Each P w → Each P s
 
 part_front : (s r : List Lexeme) → Part s (s ++ r)
@@ -116,10 +116,10 @@ part_behind s r P h = (each_parts P s r h).1
 part_in : (k : Lexeme) (s r : List Lexeme) → Part s (k ∷ (s ++ r))
 part_in k s r P h = (each_parts P s r h.1).0
 
-part_last : (s r : List Lexeme) (k : Lexeme) → Part r (s ++ k ∷ r)
+pub part_last : (s r : List Lexeme) (k : Lexeme) → Part r (s ++ k ∷ r)
 part_last s r k P h = (each_parts P s _ h).1.1
 
-widen : {s w : List Lexeme} {kinds : List Sort} {places : List ℕ} {ts : List Tree} → Part s w → Grown s kinds places ts → Grown w kinds places ts
+pub widen : {s w : List Lexeme} {kinds : List Sort} {places : List ℕ} {ts : List Tree} → Part s w → Grown s kinds places ts → Grown w kinds places ts
 widen part g = record { sorts_are = g.sorts_are; below = λ m h. g.below m (part (IsBelow m) h); made = λ h e. g.made (part IsReal h) e; bare = λ h. g.bare (part IsPlain h) }
 
 -- trees of the same lexemes, in order
@@ -346,7 +346,7 @@ mutual
   grown_list (list-one d) = grown d
   grown_list (list-more {f = f} {s = s} {r = r} {l = l} p d) = resort (replicate_more (count l) (form_sort f)) (join (widen (part_front s (Comma ∷ r)) (grown_list p)) (widen (part_last s r Comma) (grown d)))
 
-  grown_brace : {s : List Lexeme} {a : Phrase} → ReadsBrace s a → Grown s (Program ∷ []) (ills a) (erase a ∷ [])
+  pub grown_brace : {s : List Lexeme} {a : Phrase} → ReadsBrace s a → Grown s (Program ∷ []) (ills a) (erase a ∷ [])
   grown_brace (brace-prog {n = n} {s = s} d) = widen (part_in (OpenBrace n) s (CloseBrace ∷ [])) (grown d)
   grown_brace (brace-items {n = n} {s = s} {l = l} p) = system n l Truth (λ m b. b.0) (some_items p) (items_in (part_in (OpenBrace n) s (CloseBrace ∷ [])) (grown_items p)) (leaf op.True refl (λ r. refl) refl refl)
   grown_brace (brace-domain {n = n} {s = s} {r = r} {l = l} {a = a} p d) = system n l a (λ m b. b.0) (some_items p) (items_in (part_in (OpenBrace n) s (Op And ∷ (r ++ CloseBrace ∷ []))) (grown_items p))
@@ -373,7 +373,7 @@ pub record IsMade (s : Sort) (t : Tree) : Type 0 where
 sort_from : {w : List Lexeme} {s : Sort} {places : List ℕ} {t : Tree} → Grown w (s ∷ []) places (t ∷ []) → sort t ≡ s
 sort_from {s = s} {t = t} g = let e : sort t ∷ [] ≡ s ∷ [] = g.sorts_are in cc
 
-made_from : {w : List Lexeme} {s : Sort} {places : List ℕ} {t : Tree} → Grown w (s ∷ []) places (t ∷ []) → AreReal w → places ≡ [] → IsMade s t
+pub made_from : {w : List Lexeme} {s : Sort} {places : List ℕ} {t : Tree} → Grown w (s ∷ []) places (t ∷ []) → AreReal w → places ≡ [] → IsMade s t
 made_from g h e = record { well_made = (g.made h e).0; sort_is = sort_from g }
 
 pub formed : {f : Nonterminal} {s : List Lexeme} {p : Phrase} → Reads f s p → AreReal s → ills p ≡ [] → IsMade (form_sort f) (erase p)

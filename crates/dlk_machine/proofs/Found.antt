@@ -131,7 +131,7 @@ wants_moves g S k y all a e =
       | inr h ↦ operand_moves g S k y all (fits_operand (place g S) h.0) a h.1
     ]
 
-reduced_all : (g : Sort) (n : ℕ) (S : List Part) (p : Piece) (all : List Lexeme) (T : List Part) (q : Piece) → HasRead g S p all → reduce n S p ≡ Some (T, q) → Reduced g n T q all
+pub reduced_all : (g : Sort) (n : ℕ) (S : List Part) (p : Piece) (all : List Lexeme) (T : List Part) (q : Piece) → HasRead g S p all → reduce n S p ≡ Some (T, q) → Reduced g n T q all
 reduced_all g n S p all T q h e =
     subst (λ (l : List Lexeme). Reduced g n T q l) (sym h.parts) (reduced g n 11 S h.front h.back p T q h.spells h.known (loose_top S) (omega arith) (λ o _. left_of_top o) h.good e)
 

@@ -15,8 +15,16 @@ pub mod Parsing
 pub mod Reading
 pub mod ExpressionLaws
 pub mod SequentLaws
+pub mod PairTerms
+pub mod PairTargets
+pub mod PairItems
+pub mod PairStates
+pub mod PairEnds
+pub mod PairLaws
+pub mod PairExamples
 pub mod ParseLaws
 pub mod Formed
+pub mod PairsFormed
 pub mod TextLaws
 pub mod SomeText
 pub mod Pairs

@@ -41,7 +41,7 @@ zero_reads = term-mul (mul-neg (neg-pow (pow-prim prim-number)))
 true_unf : Reads unf (True ∷ []) Truth
 true_unf = unf-atom atom-true
 
-true_reads : Reads formula (True ∷ []) Truth
+pub true_reads : Reads formula (True ∷ []) Truth
 true_reads = formula-imp (imp-disj (disj-conj (conj-unf (unf-atom atom-true))))
 
 compared : (n : Nonterminal) (r : List Lexeme) (t : Phrase) → form_sort n ≡ Term → Reads n r t → Reads atom (r ++ below_zero) (Binary Less t (Literal nought))

@@ -34,6 +34,11 @@ plain_permitted d [] p = tt
 plain_permitted Refused (k ∷ s) p = p
 plain_permitted Allowed (k ∷ s) p = (refl, plain_permitted Allowed s p.1)
 
+-- where all are allowed, all are permitted
+pub all_permitted : (s : List Lexeme) → Permitted Allowed s
+all_permitted [] = tt
+all_permitted (k ∷ s) = (refl, all_permitted s)
+
 -- The tokens are the front of a text, with more tokens that are plain.
 pub record Opening {T : Type 0} (G : List Lexeme → T → Type 0) (s : List Lexeme) : Type 0 where
   pub more : List Lexeme

@@ -8,7 +8,7 @@ use Rattle.dlk_tree.specs.declared.op.Sort.TheVariants.{Term, Formula, Program}
 use Rattle.dlk_grammar.specs.Erased.{symbol}
 use Rattle.dlk_grammar.specs.Lexemes.{Word, Lexeme, Name, Dot, Blank, RoundBars, RoundBar, BarRound, BraceBar, BarBrace, Open, Close, OpenBrace, CloseBrace, Prime, Semi, Comma, Becomes, Op}
 use Rattle.dlk_grammar.specs.declared.token.Infix.TheVariants.{Equal}
-use Rattle.dlk_grammar.specs.Phrases.{Space, Everywhere, Except, Phrase, Truth, System, Evolve, Flow, Items, no_items, add}
+use Rattle.dlk_grammar.specs.Phrases.{Everywhere, Except, Truth, System, Evolve, Flow, Items, no_items, add}
 use Rattle.dlk_grammar.specs.Substitutions.{Target, Over, Unit, function, predicate, PairPhrase, to}
 use Rattle.dlk_machine.proofs.Machine.{◌>>=◌, when, State, Wants, step, ended}
 use Rattle.dlk_machine.proofs.Parse.{Machine, or_else}

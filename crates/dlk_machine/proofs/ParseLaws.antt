@@ -1,5 +1,5 @@
 -- The laws of reading: what is parsed is what the lexemes say, what they say is parsed, and a fault is where they stop.
-use Rattle.std.proofs.Common.{◌≡◌, ℕ, List, [], ◌∷◌, Result, Ok, Err, refl, sym, ◌∙◌}
+use Rattle.std.proofs.Common.{◌≡◌, ℕ, List, Result, Ok, Err, sym, ◌∙◌}
 use Rattle.dlk_tree.specs.declared.op.Sort.{Sort}
 use Rattle.dlk_tree.specs.declared.op.Sort.TheVariants.{Term, Formula, Program}
 use Rattle.dlk_grammar.specs.declared.token.Dots.{Dots}
@@ -9,19 +9,23 @@ use Rattle.dlk_grammar.specs.declared.token.Form.TheVariants as form
 use Rattle.dlk_grammar.specs.Lexemes.{Lexeme}
 use Rattle.dlk_grammar.specs.Phrases.{Phrase}
 use Rattle.dlk_grammar.specs.Grammar.{Nonterminal, Reads, Sides, ReadsSequent, ReadsExpression}
-use Rattle.dlk_grammar.specs.Readings.{Permitted, Says, Stops, grammar}
+use Rattle.dlk_grammar.specs.Readings.{Says, Stops, grammar}
+use Rattle.dlk_grammar.specs.Substitutions.{PairPhrase, ReadsSubstitution}
 use Rattle.dlk_machine.proofs.Levels.{form_sort, top}
 use Rattle.dlk_machine.proofs.Machine.{State}
 use Rattle.dlk_machine.proofs.Parse.{Machine, parse, reader}
 use Rattle.dlk_machine.proofs.Expressions.{ExpressionState, expression_reader}
 use Rattle.dlk_machine.proofs.Sequents.{sequent_reader}
+use Rattle.dlk_machine.proofs.Pairs.{pairs_reader}
 use Rattle.dlk_machine.proofs.Climb.{stands}
+use Rattle.dlk_machine.proofs.Opening.{all_permitted}
 use Rattle.dlk_machine.proofs.Only.{top_sort}
 use Rattle.dlk_machine.proofs.Live.{top_need}
 use Rattle.dlk_machine.proofs.Parsing.{Reader, only_text, found_text, stops_text}
 use Rattle.dlk_machine.proofs.Reading.{reads_all}
 use Rattle.dlk_machine.proofs.ExpressionLaws.{expressions_all}
 use Rattle.dlk_machine.proofs.SequentLaws.{sequents_all}
+use Rattle.dlk_machine.proofs.PairLaws.{pairs_all}
 
 abbrev parsed : {P : Type 0} → P → Result P ℕ
 parsed p = Ok p
@@ -38,11 +42,6 @@ one_parsed p q e = cc
 -- a fault says that the lexemes say nothing
 faulty : {X P : Type 0} (m : Machine X P) (G : List Lexeme → P → Type 0) (d : Dots) → Reader d m G → (s : List Lexeme) (n : ℕ) → parse d m s ≡ Err n → (p : P) → ¬ Says d G s p
 faulty m G d c s n e p says = no_fault p n (sym (only_text m G d c s p says) ∙ e)
-
--- where all are allowed, all are permitted
-all_permitted : (s : List Lexeme) → Permitted Allowed s
-all_permitted [] = tt
-all_permitted (k ∷ s) = (refl, all_permitted s)
 
 -- lexemes say one thing
 one : {X P : Type 0} (m : Machine X P) (G : List Lexeme → P → Type 0) → Reader Allowed m G → (s : List Lexeme) (p q : P) → G s p → G s q → p ≡ q
@@ -100,6 +99,22 @@ sequent_fault_says_nothing d s n e = faulty sequent_reader ReadsSequent d (seque
 
 pub one_sides_read : (s : List Lexeme) (p q : Sides) → ReadsSequent s p → ReadsSequent s q → p ≡ q
 one_sides_read s p q d e = one sequent_reader ReadsSequent (sequents_all Allowed) s p q d e
+
+-- substitutions, where dots and the hole are allowed, since they are part of their grammar
+pub pairs_read_says : (s : List Lexeme) (p : List PairPhrase) → parse Allowed pairs_reader s ≡ Ok p → Says Allowed ReadsSubstitution s p
+pairs_read_says s p e = found_text pairs_reader ReadsSubstitution Allowed pairs_all s p e
+
+pub pairs_says_read : (s : List Lexeme) (p : List PairPhrase) → Says Allowed ReadsSubstitution s p → parse Allowed pairs_reader s ≡ Ok p
+pairs_says_read s p h = only_text pairs_reader ReadsSubstitution Allowed pairs_all s p h
+
+pub pairs_fault_stops : (s : List Lexeme) (n : ℕ) → parse Allowed pairs_reader s ≡ Err n → Stops Allowed ReadsSubstitution s n
+pairs_fault_stops s n e = stops_text pairs_reader ReadsSubstitution Allowed pairs_all s n e
+
+pub pairs_fault_says_nothing : (s : List Lexeme) (n : ℕ) → parse Allowed pairs_reader s ≡ Err n → (p : List PairPhrase) → ¬ Says Allowed ReadsSubstitution s p
+pairs_fault_says_nothing s n e = faulty pairs_reader ReadsSubstitution Allowed pairs_all s n e
+
+pub one_pairs_read : (s : List Lexeme) (p q : List PairPhrase) → ReadsSubstitution s p → ReadsSubstitution s q → p ≡ q
+one_pairs_read s p q d e = one pairs_reader ReadsSubstitution pairs_all s p q d e
 
 -- the machine of a goal
 abbrev pub FormState : Form → Type 0

@@ -6,11 +6,12 @@ use Rattle.std.proofs.lemmas.List.{append-nil}
 use Rattle.std.proofs.lemmas.List.Elements.{All-nil, All-cons, All-tail}
 use Rattle.dlk_tree.specs.Trees.{Tree, size, depth}
 use Rattle.dlk_calculus.specs.Sequents.{Sequent}
+use Rattle.dlk_calculus.specs.Pairs.{Pair}
 use Rattle.dlk_grammar.specs.declared.token.Token.{Token}
 use Rattle.dlk_grammar.specs.declared.token.TokenKind.{TokenKind}
 use Rattle.dlk_grammar.specs.declared.token.TokenKind.TheVariants as kind
 use Rattle.dlk_grammar.specs.declared.token.Dots.{Dots}
-use Rattle.dlk_grammar.specs.declared.token.Dots.TheVariants.{Refused}
+use Rattle.dlk_grammar.specs.declared.token.Dots.TheVariants.{Refused, Allowed}
 use Rattle.dlk_grammar.specs.declared.token.Form.{Form}
 use Rattle.dlk_grammar.specs.Splits.{Splits}
 use Rattle.dlk_grammar.specs.Lexemes.{Lexeme, lexemes}
@@ -18,12 +19,14 @@ use Rattle.dlk_grammar.specs.Phrases.{Phrase}
 use Rattle.dlk_grammar.specs.Grammar.{Sides, ReadsSequent}
 use Rattle.dlk_grammar.specs.Erased.{erase, ills, lowest}
 use Rattle.dlk_grammar.specs.Readings.{Says, FirstAt, IsLong, bracket_level, opens, OpensTooDeep, FirstPast, most_nodes, greatest_depth, ReadFault, Literal, Nesting, Syntax, Shape, TooBig, TooDeep, fault_rank, SpeaksAgainst, IsReadFault, IsRead, grammar, itself, both_sides, erase_sides}
-use Rattle.dlk_grammar.specs.Texts.{TreeText, SequentText, Unread, TreeTextFault, SequentTextFault}
+use Rattle.dlk_grammar.specs.Substitutions.{PairPhrase, ReadsSubstitution, replacements, erase_pairs}
+use Rattle.dlk_grammar.specs.Texts.{TreeText, SequentText, PairsText, Unread, TreeTextFault, SequentTextFault, PairsTextFault}
 use Rattle.dlk_machine.proofs.Parse.{parse}
 use Rattle.dlk_machine.proofs.Sequents.{sequent_reader}
-use Rattle.dlk_machine.proofs.ParseLaws.{machine_of, form_read_says, form_fault_says_nothing, sequent_read_says, sequent_fault_says_nothing, one_sides_read}
+use Rattle.dlk_machine.proofs.Pairs.{pairs_reader}
+use Rattle.dlk_machine.proofs.ParseLaws.{machine_of, form_read_says, form_fault_says_nothing, sequent_read_says, sequent_fault_says_nothing, one_sides_read, pairs_read_says, pairs_fault_says_nothing, one_pairs_read}
 use Rattle.dlk_machine.proofs.Formed.{Each}
-use Rattle.dlk_machine.proofs.TextLaws.{same, sooner, later, seams, token_at, least_below, one_grammar, form_ills_below, sequent_ills_below}
+use Rattle.dlk_machine.proofs.TextLaws.{same, sooner, later, seams, token_at, least_below, one_grammar, form_ills_below, sequent_ills_below, pairs_ills_below}
 
 -- none, or the first
 data Search {X : Type 0} (Is : X → Type 0) : Type 0 where
@@ -208,6 +211,10 @@ sides_or_not : (s : List Lexeme) (r : Result Sides ℕ) → parse Refused sequen
 sides_or_not s (Ok p) e = found p (sequent_read_says Refused s p e)
 sides_or_not s (Err n) e = missing (sequent_fault_says_nothing Refused s n e)
 
+pairs_or_not : (s : List Lexeme) (r : Result (List PairPhrase) ℕ) → parse Allowed pairs_reader s ≡ r → Search (λ l. Says Allowed ReadsSubstitution s l)
+pairs_or_not s (Ok l) e = found l (pairs_read_says s l e)
+pairs_or_not s (Err n) e = missing (pairs_fault_says_nothing s n e)
+
 -- tokens are those of a tree, or there is a fault
 pub some_tree : (form : Form) (d : Dots) (bytes : List ℕ) (ts : List Token) → Splits 0 bytes ts → ((t : Tree) × TreeText form d bytes t) ⊎ ((why : ReadFault) × TreeTextFault form d bytes (Unread why))
 some_tree form d bytes ts splits =
@@ -220,5 +227,12 @@ pub some_sequent : (bytes : List ℕ) (ts : List Token) → Splits 0 bytes ts �
 some_sequent bytes ts splits =
     elim (outcome ReadsSequent both_sides one_sides_read Refused ts erase_sides (sequent_ills_below ts) (sides_or_not (lexemes ts) (parse Refused sequent_reader (lexemes ts)) refl)) [
       | is_read s h ↦ inl (s, record { tokens = ts; splits = splits; reads = h })
+      | is_fault why h ↦ inr (why, (ts, splits, h))
+    ]
+
+pub some_pairs : (bytes : List ℕ) (ts : List Token) → Splits 0 bytes ts → ((pairs : List Pair) × PairsText bytes pairs) ⊎ ((why : ReadFault) × PairsTextFault bytes (Unread why))
+some_pairs bytes ts splits =
+    elim (outcome ReadsSubstitution replacements one_pairs_read Allowed ts erase_pairs (pairs_ills_below ts) (pairs_or_not (lexemes ts) (parse Allowed pairs_reader (lexemes ts)) refl)) [
+      | is_read pairs h ↦ inl (pairs, record { tokens = ts; splits = splits; reads = h })
       | is_fault why h ↦ inr (why, (ts, splits, h))
     ]

@@ -8,13 +8,14 @@ use Rattle.std.proofs.lemmas.List.Elements.{All-head, All-tail}
 use Rattle.std.proofs.lemmas.Option.{same_Some}
 use Rattle.dlk_tree.specs.Trees.{Tree, WellMade, size, depth}
 use Rattle.dlk_calculus.specs.Sequents.{Sequent, IsFormula, IsSequent}
+use Rattle.dlk_calculus.specs.Pairs.{Pair, AreMade}
 use Rattle.dlk_grammar.specs.declared.token.Token.{Token}
 use Rattle.dlk_grammar.specs.declared.token.TokenKind.{TokenKind}
 use Rattle.dlk_grammar.specs.declared.token.TokenKind.TheVariants as kind
 use Rattle.dlk_grammar.specs.declared.token.Mark.{Mark}
 use Rattle.dlk_grammar.specs.declared.token.Mark.TheVariants as mark
 use Rattle.dlk_grammar.specs.declared.token.Dots.{Dots}
-use Rattle.dlk_grammar.specs.declared.token.Dots.TheVariants.{Refused}
+use Rattle.dlk_grammar.specs.declared.token.Dots.TheVariants.{Refused, Allowed}
 use Rattle.dlk_grammar.specs.declared.token.Form.{Form}
 use Rattle.dlk_grammar.specs.declared.token.Form.TheVariants.{Formula, Term, Program, Expression}
 use Rattle.dlk_grammar.specs.RealTokens.{IsReal as IsRealToken, AreTokens}
@@ -23,10 +24,12 @@ use Rattle.dlk_grammar.specs.Phrases.{Phrase, Phrases, none, snoc}
 use Rattle.dlk_grammar.specs.Grammar.{formula, term, prog, Sides, Turned, ReadsSequent}
 use Rattle.dlk_grammar.specs.Erased.{erase, ills, ills_of_all, lowest}
 use Rattle.dlk_grammar.specs.Readings.{Says, FirstAt, IsLong, OpensTooDeep, TokenAt, FirstPast, most_nodes, greatest_depth, ReadFault, Literal, Nesting, Syntax, Shape, TooBig, TooDeep, fault_rank, SpeaksAgainst, IsReadFault, IsRead, grammar, itself, IsTree, IsTreeFault, phrases_in, both_sides, erase_sides, IsSequentOf, IsSequentFault}
-use Rattle.dlk_grammar.specs.Texts.{TreeText, SequentText, TextFault, BadByte, Unread, TreeTextFault, SequentTextFault}
+use Rattle.dlk_grammar.specs.Substitutions.{PairPhrase, ReadsSubstitution, replacements, erase_pairs, ArePairs, ArePairsFault}
+use Rattle.dlk_grammar.specs.Texts.{TreeText, SequentText, PairsText, TextFault, BadByte, Unread, TreeTextFault, SequentTextFault, PairsTextFault}
 use Rattle.dlk_grammar.proofs.Splitting.{one_split, bad_is_no_split, one_bad}
 use Rattle.dlk_grammar.proofs.Real.{split_tokens}
-use Rattle.dlk_machine.proofs.ParseLaws.{one_read, one_expression_read, one_sides_read}
+use Rattle.dlk_machine.proofs.ParseLaws.{one_read, one_expression_read, one_sides_read, one_pairs_read}
+use Rattle.dlk_machine.proofs.PairsFormed.{ills_of_pairs, pairs_below, pairs_formed}
 use Rattle.dlk_machine.proofs.Formed.{Each, each_append, IsReal, AreReal, IsBelow, AreBelow, grown, grown_expression, grown_sides, formed, expression_formed, formula_formed, sequent_formed, ills_of_sides}
 
 -- the lexemes of tokens that are real are real
@@ -268,3 +271,31 @@ one_sequent_fault bytes (Unread why) (Unread other) f g =
 
 pub sequent_text_formulas : (bytes : List ℕ) (s : Sequent) → SequentText bytes s → IsSequent s
 sequent_text_formulas bytes s a = sequent_formulas a.tokens s (split_tokens a.splits) a.reads
+
+-- texts of pairs
+pub pairs_ills_below : (tokens : List Token) (l : List PairPhrase) → ReadsSubstitution (lexemes tokens) l → Each (λ n. n < length tokens) (ills_of_pairs l)
+pairs_ills_below tokens l d = pairs_below d (length tokens) (lexemes_below 0 (length tokens) tokens (omega arith))
+
+pub pairs_not_ill : (tokens : List Token) (pairs : List Pair) (a : ArePairs tokens pairs) → ills_of_pairs a.phrase ≡ []
+pairs_not_ill tokens pairs a = none_ill ReadsSubstitution replacements one_pairs_read Allowed tokens a.phrase (ills_of_pairs a.phrase) refl a.says a.no_fault (pairs_ills_below tokens a.phrase a.says.reads)
+
+pub pairs_well_made : (tokens : List Token) (pairs : List Pair) → AreTokens tokens → ArePairs tokens pairs → AreMade pairs
+pairs_well_made tokens pairs real a = subst AreMade a.value_is (pairs_formed a.says.reads (lexemes_real 0 tokens real.real) (pairs_not_ill tokens pairs a))
+
+pub one_pairs_text : (bytes : List ℕ) (pairs others : List Pair) → PairsText bytes pairs → PairsText bytes others → pairs ≡ others
+one_pairs_text bytes pairs others a b =
+    one_value ReadsSubstitution replacements one_pairs_read Allowed a.tokens erase_pairs pairs others a.reads (subst (λ (ts : List Token). ArePairs ts others) (one_split b.splits a.splits) b.reads)
+
+pub pairs_or_fault : (bytes : List ℕ) (pairs : List Pair) (why : TextFault) → PairsText bytes pairs → PairsTextFault bytes why → ⊥
+pairs_or_fault bytes pairs (BadByte at) a f = bad_is_no_split f a.splits
+pairs_or_fault bytes pairs (Unread why) a f = a.reads.no_fault why (subst (λ (ts : List Token). ArePairsFault ts why) (one_split f.1 a.splits) f.2).applies
+
+pub one_pairs_fault : (bytes : List ℕ) (why other : TextFault) → PairsTextFault bytes why → PairsTextFault bytes other → why ≡ other
+one_pairs_fault bytes (BadByte at) (BadByte other) f g = ap BadByte (one_bad f g)
+one_pairs_fault bytes (BadByte at) (Unread other) f g = absurd (bad_is_no_split f g.1)
+one_pairs_fault bytes (Unread why) (BadByte other) f g = absurd (bad_is_no_split g f.1)
+one_pairs_fault bytes (Unread why) (Unread other) f g =
+    ap Unread (one_fault ReadsSubstitution replacements one_pairs_read Allowed f.0 why other f.2 (subst (λ (ts : List Token). ArePairsFault ts other) (one_split g.1 f.1) g.2))
+
+pub pairs_text_well_made : (bytes : List ℕ) (pairs : List Pair) → PairsText bytes pairs → AreMade pairs
+pairs_text_well_made bytes pairs a = pairs_well_made a.tokens pairs (split_tokens a.splits) a.reads

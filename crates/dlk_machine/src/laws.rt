@@ -2,6 +2,7 @@
 ghost use Rattle.std.specs.Prelude.{◌≡◌, ◌⊎◌, ℕ, List};
 ghost use Rattle.dlk_tree.specs.Trees.{Tree, WellMade};
 ghost use Rattle.dlk_calculus.specs.Sequents.{Sequent, IsFormula, IsSequent};
+ghost use Rattle.dlk_calculus.specs.Pairs.{Pair, AreMade};
 ghost use Rattle.dlk_grammar.specs.declared.token.Dots.{Dots as TheDots};
 ghost use Rattle.dlk_grammar.specs.declared.token.Dots.TheVariants.{Refused};
 ghost use Rattle.dlk_grammar.specs.declared.token.Token.{Token as TheToken};
@@ -12,7 +13,8 @@ ghost use Rattle.dlk_grammar.specs.Phrases.{Phrase};
 ghost use Rattle.dlk_grammar.specs.Grammar.{Nonterminal, Reads, Sides, ReadsSequent, ReadsExpression};
 ghost use Rattle.dlk_grammar.specs.Splits.{Splits};
 ghost use Rattle.dlk_grammar.specs.Readings.{ReadFault};
-ghost use Rattle.dlk_grammar.specs.Texts.{TreeText, SequentText, TextFault, Unread, TreeTextFault, SequentTextFault};
+ghost use Rattle.dlk_grammar.specs.Substitutions.{PairPhrase, ReadsSubstitution};
+ghost use Rattle.dlk_grammar.specs.Texts.{TreeText, SequentText, PairsText, TextFault, Unread, TreeTextFault, SequentTextFault, PairsTextFault};
 
 /// Lexemes are at most one phrase of each nonterminal.
 pub fn one_phrase()
@@ -27,6 +29,11 @@ pub fn one_expression()
 /// Lexemes are the two sides of at most one sequent.
 pub fn one_sides()
     ensures { (s : List Lexeme) (p q : Sides) → ReadsSequent s p → ReadsSequent s q → p ≡ q }
+{}
+
+/// Lexemes are the pairs of at most one substitution.
+pub fn one_pairs()
+    ensures { (s : List Lexeme) (p q : List PairPhrase) → ReadsSubstitution s p → ReadsSubstitution s q → p ≡ q }
 {}
 
 /// Bytes are a text of at most one tree or have at most one fault, and never both; where they are split into tokens,
@@ -48,4 +55,13 @@ pub fn sequent_texts()
     ensures one_fault { (bytes : List ℕ) (why other : TextFault) → SequentTextFault bytes why → SequentTextFault bytes other → why ≡ other }
     ensures some { (bytes : List ℕ) (ts : List TheToken) → Splits 0 bytes ts → ((s : Sequent) × SequentText bytes s) ⊎ ((why : ReadFault) × SequentTextFault bytes (Unread why)) }
     ensures formulas { (bytes : List ℕ) (s : Sequent) → SequentText bytes s → IsSequent s }
+{}
+
+/// The same of the texts of the pairs of a substitution, each of whose replacements is well made.
+pub fn pairs_texts()
+    ensures one { (bytes : List ℕ) (pairs others : List Pair) → PairsText bytes pairs → PairsText bytes others → pairs ≡ others }
+    ensures no_fault { (bytes : List ℕ) (pairs : List Pair) (why : TextFault) → PairsText bytes pairs → PairsTextFault bytes why → ⊥ }
+    ensures one_fault { (bytes : List ℕ) (why other : TextFault) → PairsTextFault bytes why → PairsTextFault bytes other → why ≡ other }
+    ensures some { (bytes : List ℕ) (ts : List TheToken) → Splits 0 bytes ts → ((pairs : List Pair) × PairsText bytes pairs) ⊎ ((why : ReadFault) × PairsTextFault bytes (Unread why)) }
+    ensures well_made { (bytes : List ℕ) (pairs : List Pair) → PairsText bytes pairs → AreMade pairs }
 {}
