@@ -6,6 +6,7 @@ pub mod FirstTokens
 pub mod Within
 pub mod Reports
 pub mod SaidLaws
+pub mod SaidPairs
 mod Tops
 mod Agree
 mod Reducing
@@ -14,5 +15,7 @@ mod ItemSteps
 mod HolderSteps
 mod Steps
 mod SideSteps
+mod Commas
+mod PairSteps
 mod ReadingSteps
 mod Stopped

@@ -1,6 +1,7 @@
 -- What commas, ==> and the end make of the formulas of a sequent.
 use Rattle.std.proofs.Common.{◌≡◌, ◌≢◌, ℕ, Bool, true, false, cond, nat_lt, length, vec_len, List, [], ◌∷◌, Option, Some, None, Ok, Err, refl, sym, ap, subst, ◌∙◌}
 use Rattle.std.specs.Bool.{◌==◌}
+use Rattle.dlk_tree.specs.declared.op.Sort.{Sort}
 use Rattle.dlk_tree.specs.declared.op.Sort.TheVariants.{Formula}
 use Rattle.dlk_grammar.specs.Lexemes.{Comma}
 use Rattle.dlk_grammar.specs.Phrases.{Phrase, Phrases, none, snoc}
@@ -101,8 +102,8 @@ comma_kind : (p q : Piece) (o u : Option State) → is_program p ≡ is_program 
 comma_kind p q o u e h = rw (e, h) refl
 
 -- a comma behind what was closed
-comma_closed : (S : List Part) (p : Piece) (T : List Part) (q : Piece) → reduce 0 S p ≡ Some (T, q) → step Formula (Has S p) Comma ≡ step Formula (Has T q) Comma
-comma_closed S p T q e =
+pub comma_closed : (g : Sort) (S : List Part) (p : Piece) (T : List Part) (q : Piece) → reduce 0 S p ≡ Some (T, q) → step g (Has S p) Comma ≡ step g (Has T q) Comma
+comma_closed g S p T q e =
     let w = closed S p T q e in
     comma_kind p q (closing Comma S p) (closing Comma T q) w.0 (ap (λ (o : Option (List Part × Piece)). o >>= λ r. close_top Comma r.0 r.1) (e ∙ sym w.1))
 
@@ -116,13 +117,13 @@ comma_step w l S p o e = ap (λ (o : Option Phrase). or_else o (inner w l (Has S
 pub comma_inside : (w : Side) (l : Phrases) (S : List Part) (p : Piece) (T : List Part) (q : Piece) → reduce 0 S p ≡ Some (T, q) → T ≢ [] → sequent_step (Reading w l (Has S p)) Comma ≡ inner w l (Has T q) Comma
 comma_inside w l S p [] q e some = absurd (some refl)
 comma_inside w l S p (x ∷ T) q e some =
-    comma_step w l S p None (ended_is S p (x ∷ T) q e) ∙ ap (λ (o : Option State). o >>= λ y. Some (Reading w l y)) (comma_closed S p (x ∷ T) q e)
+    comma_step w l S p None (ended_is S p (x ∷ T) q e) ∙ ap (λ (o : Option State). o >>= λ y. Some (Reading w l y)) (comma_closed Formula S p (x ∷ T) q e)
 
 -- a comma behind a formula that is whole
 pub comma_ends : (w : Side) (l : Phrases) (S : List Part) (p : Piece) (T : List Part) (q : Piece) (t : Phrase) → reduce 0 S p ≡ Some (T, q) → whole Formula T q ≡ Some t → sequent_step (Reading w l (Has S p)) Comma ≡ Some (Reading w (snoc l t) (Wants []))
 comma_ends w l S p T q t e h = comma_step w l S p (Some t) (ended_is S p T q e ∙ h)
 
-some_open : (T : List Part) (items : List OpenPart) → items ≡ shapes T → (n : ℕ) → n ≡ length items → false ≡ (n == 0) → T ≢ []
+pub some_open : (T : List Part) (items : List OpenPart) → items ≡ shapes T → (n : ℕ) → n ≡ length items → false ≡ (n == 0) → T ≢ []
 some_open T items at m z h e = let n : m ≡ 0 = z ∙ ap length (at ∙ ap shapes e) in let f : false ≡ true = h ∙ ap (λ (i : ℕ). i == 0) n in absurd cc
 
 -- what is open where a comma is inside

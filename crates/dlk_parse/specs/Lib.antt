@@ -9,4 +9,5 @@ pub mod Limits
 pub mod Said
 pub mod Shows
 pub mod Readers
+pub mod PairReaders
 pub mod Stops
