@@ -9,14 +9,14 @@ use Rattle.dlk_tree.specs.Trees.{Tree}
 use Rattle.dlk_store.specs.Stores.{IsId, tree, Keeps}
 use Rattle.dlk_store.specs.declared.Id.{Id}
 use Rattle.dlk_store.proofs.Kids.{Keeps-refl, Keeps-trans}
-use Rattle.dlk_subst.specs.Results.{Holds}
+use Rattle.dlk_subst.specs.Results.{IsResult}
 
 -- what is said of a fault is said of this one
 pub fault_of : {A E : Type 0} (P : E → Type 0) (r : Result A E) (n : E) → r ≡ Err n → IsErrAnd r P → P n
 fault_of P r n e h = subst (λ q. IsErrAnd q P) e h
 
 -- the tree of an id of which this holds
-pub holds_tree : {R : Tree → Type 0} {trees : List Tree} {id : Id} → Holds R trees id → R (tree trees id)
+pub holds_tree : {R : Tree → Type 0} {trees : List Tree} {id : Id} → IsResult R trees id → R (tree trees id)
 holds_tree {R} h = subst R (sym h.stands.tree_is) h.is_related
 
 -- the first n of ks are related to js
@@ -30,7 +30,7 @@ pub Related-none : (R : Tree → Tree → Type 0) (old : List Tree) (ks : List I
 Related-none R old ks = record { kept = Keeps-refl old; long = refl; known = λ i d h. absurd (omega arith); done = λ i d h. absurd (omega arith) }
 
 -- one more
-pub Related-more : (R : Tree → Tree → Type 0) (old now next : List Tree) (ks js : List Id) (n : ℕ) (d r : Id) → Related R old now ks js n → n < length ks → Keeps now next → Holds (R (tree old (get_or ks n d))) next r → Related R old next ks (js ++ r ∷ []) (n + 1)
+pub Related-more : (R : Tree → Tree → Type 0) (old now next : List Tree) (ks js : List Id) (n : ℕ) (d r : Id) → Related R old now ks js n → n < length ks → Keeps now next → IsResult (R (tree old (get_or ks n d))) next r → Related R old next ks (js ++ r ∷ []) (n + 1)
 Related-more R old now next ks js n d r m h p s = record {
   kept = Keeps-trans m.kept p;
   long = omega (arith, m.long, length-append js (r ∷ []));

@@ -14,7 +14,7 @@ use Rattle.dlk_calculus.specs.Subst.{IsAdmissible, SubstAt, new_items, new_kids}
 use Rattle.dlk_calculus.proofs.Systems.{system_fits}
 use Rattle.dlk_sequent.specs.declared.subst.Pair.{Pair}
 use Rattle.dlk_sequent.specs.Substitutions.{pair_at, pairs_at, AreKnownPairs}
-use Rattle.dlk_subst.specs.Results.{Holds, HasNone}
+use Rattle.dlk_subst.specs.Results.{IsResult, HasNone}
 
 -- replacements in a store are well made
 pub pairs_made : (trees : List Tree) (pairs : List Pair) → All WellMade trees → AreKnownPairs trees pairs → AreMade (pairs_at trees pairs)
@@ -26,8 +26,8 @@ module _ (pairs : List TreePair) (items others : List OdeItem) (old new sides : 
   spliced_fits made fits good =
       subst (λ X. X) (λ i. Fits (Op'.System (sym p i)) (sorts (sym q i))) ((system_fits pairs made items new fits).1 (subst (λ l. IsTrue (are_items l)) p good))
 
-  pub spliced_ok : {E : Type 0} (now : List Tree) (result : Result Id E) → IfOk result (Holds (Stays (IsAdmissible pairs) (Op'.System others) old sides) now) → IfOk result (Holds (SubstAt pairs (Op'.System items) old new) now)
-  spliced_ok now result ok = subst (λ X. X) (λ i. IfOk result (Holds (Stays (IsAdmissible pairs) (Op'.System (p i)) old (q i)) now)) ok
+  pub spliced_ok : {E : Type 0} (now : List Tree) (result : Result Id E) → IfOk result (IsResult (Stays (IsAdmissible pairs) (Op'.System others) old sides) now) → IfOk result (IsResult (SubstAt pairs (Op'.System items) old new) now)
+  spliced_ok now result ok = subst (λ X. X) (λ i. IfOk result (IsResult (Stays (IsAdmissible pairs) (Op'.System (p i)) old (q i)) now)) ok
 
   pub spliced_none : HasNone (Stays (IsAdmissible pairs) (Op'.System others) old sides) → HasNone (λ t. SubstAt pairs (Op'.System items) old new t × WellMade t)
   spliced_none none = λ t made. none t (subst (λ X. X) (λ i. Stays (IsAdmissible pairs) (Op'.System (sym p i)) old (sym q i) t) made.0)
