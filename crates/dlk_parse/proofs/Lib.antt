@@ -18,4 +18,5 @@ mod SideSteps
 mod Commas
 mod PairSteps
 mod ReadingSteps
+mod PairReading
 mod Stopped

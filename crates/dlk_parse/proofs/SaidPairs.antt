@@ -73,11 +73,6 @@ module _ (tokens : List Token) where
         made_are : map (tree trees) ids ≡ map erase (replacements h.said)
         made_are = made.of_phrases (replacements h.said) h.shown.code
 
-        -- each symbol has a replacement
-        pub pairs_many : length c.symbols.items ≡ length ids
-        pairs_many =
-            ap length h.shown.symbols ∙ length-map h.said (λ (p : PairPhrase). p.sym) ∙ sym (length-map h.said (λ (p : PairPhrase). p.by)) ∙ sym (length-map (replacements h.said) erase) ∙ sym (ap length made_are) ∙ length-map ids (tree trees)
-
         pub pairs_found : (pairs : List Pair) → map (λ p. p.sym) pairs ≡ c.symbols.items → map (λ p. p.by) pairs ≡ ids → ArePairs tokens (pairs_at trees pairs)
         pairs_found pairs e f =
             subst (ArePairs tokens) (sym (same h.said pairs (e ∙ h.shown.symbols) (ap (map (tree trees)) f ∙ made_are))) are_pairs

@@ -198,8 +198,9 @@ fn pairs(alloc: Global, symbols: Vec<Sym>, ids: &[Id]) -> Result<Vec<Pair>, Allo
     ensures ids { IfOk result (λ pairs. map (λ p. p.by) pairs.items ≡ ids.now) }
 {
     let mut pairs = Vec::new(alloc);
-    for (i, sym) in symbols.into_iter().enumerate() {
-        pairs.push(Pair { sym, by: ids[i] })?;
+    for sym in symbols {
+        let by = ids[pairs.len()];
+        pairs.push(Pair { sym, by })?;
     }
     Ok(pairs)
 }
