@@ -14,8 +14,8 @@ mod OperandSteps
 mod ItemSteps
 mod HolderSteps
 mod Steps
-mod SideSteps
 mod Commas
+mod SideSteps
 mod PairSteps
 mod ReadingSteps
 mod PairReading

@@ -9,10 +9,10 @@ use Rattle.dlk_grammar.specs.Substitutions.{Target, function, predicate, PairPhr
 use Rattle.dlk_machine.proofs.Machine.{◌>>=◌, Part, Piece, Is, Symbol, as_sort, reduce, whole, State, Wants, Has, Calls, Bars, BarsName, Binds, Starts, StartsPrime, Opens, OpensName, OpensPrime, WantsItem, ItemName, ItemPrime, ItemBar, ItemBarName, ItemEnds, Invariants, step, ended}
 use Rattle.dlk_machine.proofs.Parse.{or_else}
 use Rattle.dlk_machine.proofs.Pairs.{Right, EitherOf, TextOf, SystemOf, PairState, Begins, InRight, ItemWanted, ItemName as NameOfItem, InTerm, ItemEnds as EndOfItem, PairsState, Within, pair_step, pair_ended, pairs_step, right_sort, right_ended, within}
-use Rattle.dlk_parse.specs.Shows.{seen, last_of, Stands, Shows, Agrees}
-use Rattle.dlk_parse.specs.PairReaders.{wants, left_state, IsLeft, right_whole, with_pair, CommaState, EndsAt, GoesTo, at_comma, ShowsComma, KeepsPairs, Rests, ShowsItem, ShowsPair, ShowsWithin}
+use Rattle.dlk_parse.specs.Shows.{seen, last_of, Shows, Agrees}
+use Rattle.dlk_parse.specs.Ends.{at_comma}
+use Rattle.dlk_parse.specs.PairReaders.{wants, left_state, IsLeft, right_whole, with_pair, KeepsPairs, Rests, ShowsItem, ShowsPair, ShowsWithin}
 use Rattle.dlk_parse.specs.declared.code.Code.{Code}
-use Rattle.dlk_parse.specs.declared.ends.Comma.TheVariants as comma
 use Rattle.dlk_parse.specs.declared.lexeme.Lexeme.{Lexeme}
 use Rattle.dlk_parse.specs.declared.lexeme.Lexeme.TheVariants as lexeme
 use Rattle.dlk_parse.specs.declared.pair_heads.LeftMode.{LeftMode}
@@ -40,17 +40,6 @@ pub item_name_other : (s : Sym) (n : ℕ) (l : Items) (x : Word) (k : Lexeme) �
 item_name_other s n l x lexeme.Prime p b = absurd (p refl)
 item_name_other s n l x lexeme.BraceBar p b = absurd (b refl)
 item_name_other s n l x _ p b = refl
-
--- what a comma was seen to make
-pub goes_to : (k : Stack) (m : Mode) (o : Option CommaState) → Agrees (ShowsComma k) (Ok (comma.GoesOn m)) o → (y : State) × (o ≡ Some (GoesTo y)) × Shows k m y
-goes_to k m (Some (GoesTo y)) a = (y, refl, a)
-goes_to k m (Some (EndsAt p)) a = absurd a
-goes_to k m None a = absurd a
-
-pub ends_at : (k : Stack) (last : Last) (o : Option CommaState) → Agrees (ShowsComma k) (Ok (comma.Ends last)) o → (p : Piece) × (o ≡ Some (EndsAt p)) × Stands k last [] p
-ends_at k last (Some (EndsAt p)) a = (p, refl, a)
-ends_at k last (Some (GoesTo y)) a = absurd a
-ends_at k last None a = absurd a
 
 -- the term of an item, which ends at a comma or goes on
 module _ (s : Sym) (n : ℕ) (i : Items) (x : Word) where

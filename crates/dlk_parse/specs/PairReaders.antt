@@ -3,21 +3,20 @@ use Rattle.std.specs.Prelude.{◌≡◌, ℕ, List, [], ◌∷◌, ◌++◌, ◌
 use Rattle.dlk_tree.specs.declared.op.Sort.{Sort}
 use Rattle.dlk_tree.specs.declared.op.Sort.TheVariants.{Term, Formula, Program}
 use Rattle.dlk_tree.specs.declared.op.Sym.{Sym}
-use Rattle.dlk_grammar.specs.Phrases.{Phrase, Truth, System, Items}
+use Rattle.dlk_grammar.specs.Phrases.{Truth, System, Items}
 use Rattle.dlk_grammar.specs.Substitutions.{Target, Over, Unit as UnitOf, function, predicate, PairPhrase, to, replacements, ReadsSubstitution}
-use Rattle.dlk_grammar.specs.Lexemes.{Word, Lexeme, Comma, lexemes}
+use Rattle.dlk_grammar.specs.Lexemes.{Word, Lexeme, lexemes}
 use Rattle.dlk_grammar.specs.Readings.{Says, ReadFault, SpeaksAgainst}
 use Rattle.dlk_grammar.specs.declared.token.Dots.TheVariants.{Allowed}
 use Rattle.dlk_grammar.specs.declared.token.Token.{Token}
-use Rattle.dlk_machine.proofs.Machine.{◌>>=◌, Part, Piece, Is, Symbol, State, Has, reduce, whole, step}
+use Rattle.dlk_machine.proofs.Machine.{◌>>=◌, Part, Piece, State, whole}
 use Rattle.dlk_machine.proofs.Pairs.{Right, EitherOf, TextOf, SystemOf, PairState, Begins, LeftName, TermName, Calls, DotsOf, DotWanted, Bars, BarsName, InContext, ContextHole, FlowOpens, FlowName, FlowBar, FlowBarName, FlowExcept, LeftEnds, InRight, BraceWanted, ItemWanted, ItemName, ItemPrime, InTerm, ItemBar, ItemBarName, ItemEnds, SystemEnds, PairsState, Fresh, Within, pairs_reader}
 use Rattle.dlk_machine.proofs.Parse.{parse_from, parse}
 use Rattle.dlk_parse.specs.Codes.{postfix, postfix_terms}
-use Rattle.dlk_parse.specs.Shows.{space_of, equations_of, IsOpen, IsWhole, IsLast, Stands, Shows}
+use Rattle.dlk_parse.specs.Shows.{space_of, equations_of, IsOpen, IsWhole, Shows}
+use Rattle.dlk_parse.specs.Ends.{either_sort}
 use Rattle.dlk_parse.specs.Readers.{Answers}
 use Rattle.dlk_parse.specs.declared.code.Code.{Code}
-use Rattle.dlk_parse.specs.declared.ends.Comma.{Comma as AtComma}
-use Rattle.dlk_parse.specs.declared.ends.Comma.TheVariants as comma
 use Rattle.dlk_parse.specs.declared.pair_heads.Target.{Target as TargetPart}
 use Rattle.dlk_parse.specs.declared.pair_heads.Target.TheVariants as target
 use Rattle.dlk_parse.specs.declared.pair_heads.Right.{Right as RightPart}
@@ -32,7 +31,6 @@ use Rattle.dlk_parse.specs.declared.pairs.PairsReader.{PairsReader}
 use Rattle.dlk_parse.specs.declared.pairs.PairsCode.{PairsCode}
 use Rattle.dlk_parse.specs.declared.pair_reading.PairsReached.{PairsReached}
 use Rattle.dlk_parse.specs.declared.parts.Equations.{Equations}
-use Rattle.dlk_parse.specs.declared.parts.Last.{Last}
 use Rattle.dlk_parse.specs.declared.parts.Mode.{Mode}
 use Rattle.dlk_parse.specs.declared.stack.Stack.{Stack}
 use Rattle.dlk_parse.specs.declared.stop.Stop.{Stop}
@@ -70,18 +68,6 @@ IsLeft (pair.Left m) x = x ≡ left_state m
 IsLeft (pair.LeftEnds w) x = x ≡ LeftEnds (wants w)
 IsLeft _ x = ⊥
 
--- what is whole may be a formula or else a term
-abbrev pub either_sort : Piece → Sort
-either_sort (Is Term t k) = Term
-either_sort (Is Formula t k) = Formula
-either_sort (Is Program t k) = Formula
-either_sort (Symbol h n k) = Formula
-
--- a piece as a tree of this sort
-pub record IsEither (k : Stack) (p : Piece) (g : Sort) (t : Phrase) : Type 0 where
-  pub sort : g ≡ either_sort p
-  pub whole : IsWhole k t
-
 -- the symbol of a function or a predicate whose right side is of a sort
 abbrev pub symbol_as : Sort → Target → Sym
 symbol_as Term h = function h
@@ -96,28 +82,6 @@ right_whole (SystemOf s) S p = None
 
 abbrev pub with_pair : List PairPhrase → Option PairPhrase → Option (List PairPhrase)
 with_pair l o = o >>= λ q. Some (l ++ q ∷ [])
-
--- what a comma makes of what is read: a piece before it, where nothing is open, or a state behind it
-pub data CommaState : Type 0 where
-  EndsAt : Piece → CommaState
-  GoesTo : State → CommaState
-
-abbrev pub goes_on : Sort → State → Option CommaState
-goes_on g x = step g x Comma >>= λ y. Some (GoesTo y)
-
-abbrev pub closed_at : Sort → List Part → Piece → Option CommaState
-closed_at g [] p = Some (EndsAt p)
-closed_at g (e ∷ S) p = goes_on g (Has (e ∷ S) p)
-
-abbrev pub at_comma : Sort → State → Option CommaState
-at_comma g (Has S p) = reduce 0 S p >>= λ r. closed_at g r.0 r.1
-at_comma g x = goes_on g x
-
-abbrev pub ShowsComma : Stack → AtComma → CommaState → Type 0
-ShowsComma k (comma.Ends last) (EndsAt p) = Stands k last [] p
-ShowsComma k (comma.Ends last) (GoesTo x) = ⊥
-ShowsComma k (comma.GoesOn m) (EndsAt p) = ⊥
-ShowsComma k (comma.GoesOn m) (GoesTo x) = Shows k m x
 
 -- the symbol of a pair, and its right side on the stack
 pub record IsPairOf (k : Stack) (s : Sym) (q : PairPhrase) : Type 0 where

@@ -6,7 +6,7 @@ ghost use Rattle.dlk_machine.proofs.Parse.{or_else};
 ghost use Rattle.dlk_machine.proofs.Expressions.{term_or_formula};
 ghost use Rattle.dlk_tree.specs.declared.op.Sort.TheVariants as sort_of;
 ghost use Rattle.dlk_parse.specs.Shows.{IsWhole, Shows, Agrees, IsLast, Stands};
-ghost use Rattle.dlk_parse.specs.PairReaders.{either_sort, at_comma, IsEither, ShowsComma};
+ghost use Rattle.dlk_parse.specs.Ends.{either_sort, at_comma, IsEither, ShowsComma};
 
 use crate::lexeme::Lexeme;
 use crate::parts::{Last, Mode};

@@ -262,7 +262,7 @@ fn reads_substitutions(rt: HostRuntime) -> Result<(), Fail> {
         ("C{_}~>x", unread(ParseFault::Syntax)),
         (
             "f()~>1,{c}~>{x'=1,x'=2}",
-            unread(ParseFault::Shape { at: 11 }),
+            unread(ParseFault::Shape { at: 12 }),
         ),
     ];
     for (text, want) in rows {

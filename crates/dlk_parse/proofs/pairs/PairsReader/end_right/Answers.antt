@@ -3,7 +3,7 @@ use Rattle.dlk_machine.proofs.Machine.{reduce}
 use Rattle.dlk_parse.specs.Shows.{Reduces}
 use Rattle.dlk_parse.specs.PairReaders.{wants}
 use Rattle.dlk_parse.proofs.Agree.{agrees_ok}
-use Rattle.dlk_parse.proofs.SideSteps.{has_shown}
+use Rattle.dlk_parse.proofs.Commas.{has_shown}
 use Rattle.dlk_parse.proofs.PairSteps.{keeps_pairs, right_reduced, right_unended}
 use Rattle.dlk_parse.proofs.pairs.PairsReader.end_right.Goals as goal
 

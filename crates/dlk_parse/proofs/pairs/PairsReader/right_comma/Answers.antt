@@ -1,10 +1,11 @@
 use Rattle.std.proofs.Common.{[], Some}
 use Rattle.std.proofs.lemmas.Result.{err_from_is_err_and}
 use Rattle.dlk_machine.proofs.Pairs.{Begins, Within, right_sort}
-use Rattle.dlk_parse.specs.PairReaders.{wants, right_whole, with_pair, at_comma, ShowsComma, Rests, ShowsWithin}
+use Rattle.dlk_parse.specs.Ends.{at_comma, ShowsComma}
+use Rattle.dlk_parse.specs.PairReaders.{wants, right_whole, with_pair, Rests, ShowsWithin}
 use Rattle.dlk_parse.proofs.Agree.{agrees_ok, agrees_err}
-use Rattle.dlk_parse.proofs.Commas.{behind}
-use Rattle.dlk_parse.proofs.PairSteps.{keeps_pairs, goes_to, ends_at, next_pair, in_pair, right_at_comma, pair_end, next_begins, right_goes_on}
+use Rattle.dlk_parse.proofs.Commas.{behind, goes_to, ends_at}
+use Rattle.dlk_parse.proofs.PairSteps.{keeps_pairs, next_pair, in_pair, right_at_comma, pair_end, next_begins, right_goes_on}
 use Rattle.dlk_parse.proofs.pairs.PairsReader.right_comma.Goals as goal
 
 pub returns-in_err-mode : goal.returns-in_err-mode

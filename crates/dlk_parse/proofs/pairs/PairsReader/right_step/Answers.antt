@@ -1,9 +1,8 @@
 use Rattle.std.proofs.Common.{[], Some, refl}
 use Rattle.std.proofs.lemmas.Result.{err_from_is_err_and}
-use Rattle.dlk_tree.specs.declared.op.Sort.{Sort}
 use Rattle.dlk_machine.proofs.Machine.{step}
 use Rattle.dlk_machine.proofs.Pairs.{InRight, right_sort}
-use Rattle.dlk_parse.specs.Shows.{seen, Shows, Agrees}
+use Rattle.dlk_parse.specs.Shows.{seen, Shows}
 use Rattle.dlk_parse.specs.PairReaders.{wants, ShowsPair}
 use Rattle.dlk_parse.specs.declared.pairs.PairMode.TheVariants as pair
 use Rattle.dlk_parse.proofs.Agree.{agrees_err}

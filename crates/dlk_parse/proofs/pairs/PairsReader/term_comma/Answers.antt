@@ -1,4 +1,4 @@
-use Rattle.std.proofs.Common.{[], Some, refl}
+use Rattle.std.proofs.Common.{[], refl}
 use Rattle.std.proofs.lemmas.Result.{err_from_is_err_and}
 use Rattle.dlk_tree.specs.declared.op.Sort.TheVariants.{Term}
 use Rattle.dlk_grammar.specs.Lexemes.{Comma}
@@ -7,10 +7,11 @@ use Rattle.dlk_machine.proofs.Machine.{as_sort}
 use Rattle.dlk_machine.proofs.Pairs.{ItemWanted, InTerm, pair_step}
 use Rattle.dlk_parse.specs.Codes.{postfix_terms}
 use Rattle.dlk_parse.specs.Shows.{IsWhole}
-use Rattle.dlk_parse.specs.PairReaders.{at_comma, ShowsComma, KeepsItems, ShowsPair}
+use Rattle.dlk_parse.specs.Ends.{at_comma, ShowsComma}
+use Rattle.dlk_parse.specs.PairReaders.{KeepsItems, ShowsPair}
 use Rattle.dlk_parse.proofs.Agree.{agrees_ok, agrees_err, agrees_memory}
-use Rattle.dlk_parse.proofs.Commas.{behind}
-use Rattle.dlk_parse.proofs.PairSteps.{keeps_pairs, goes_to, ends_at, next_item, in_item, term_at_comma}
+use Rattle.dlk_parse.proofs.Commas.{behind, goes_to, ends_at}
+use Rattle.dlk_parse.proofs.PairSteps.{keeps_pairs, next_item, in_item, term_at_comma}
 use Rattle.dlk_parse.proofs.pairs.PairsReader.term_comma.Goals as goal
 
 pub returns-in_err-mode : goal.returns-in_err-mode

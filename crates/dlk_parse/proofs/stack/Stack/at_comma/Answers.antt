@@ -3,13 +3,12 @@ use Rattle.std.proofs.lemmas.Result.{err_from_is_err_and}
 use Rattle.dlk_grammar.specs.Lexemes.{Comma}
 use Rattle.dlk_machine.proofs.Machine.{Has, step}
 use Rattle.dlk_parse.specs.Shows.{Shows}
-use Rattle.dlk_parse.specs.PairReaders.{GoesTo, ShowsComma}
+use Rattle.dlk_parse.specs.Ends.{GoesTo, ShowsComma}
 use Rattle.dlk_parse.specs.declared.ends.Comma.TheVariants.{GoesOn}
 use Rattle.dlk_parse.specs.declared.parts.Mode.TheVariants as mode
 use Rattle.dlk_parse.proofs.Agree.{agrees_err}
 use Rattle.dlk_parse.proofs.Steps.{ok_maps}
-use Rattle.dlk_parse.proofs.Commas.{comma_open}
-use Rattle.dlk_parse.proofs.SideSteps.{has_shown}
+use Rattle.dlk_parse.proofs.Commas.{has_shown, comma_open}
 use Rattle.dlk_parse.proofs.stack.Stack.at_comma.Goals as goal
 
 pub returns-in_err-mode : goal.returns-in_err-mode
