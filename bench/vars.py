@@ -2,15 +2,15 @@
 """How the time of `dlk vars` grows with its file and with the number of names: ratios of one run.
 
 The store asks for each name, plain and primed, of the whole tree, so the time grows with nodes times names. Each time is the
-least of some runs, less that of a file of one variable. Run it after `./dlk` has built the program. A number as argument is
-the greatest number of nodes.
+processor time of the program, the least of some runs, less that of a file of one variable. Run it after `./dlk` has built the
+program. A number as argument is the greatest number of nodes.
 """
 import itertools
 import pathlib
+import resource
 import subprocess
 import sys
 import tempfile
-import time
 
 PROGRAM = pathlib.Path(__file__).resolve().parent.parent / "crates" / "dlk" / "out" / "dlk"
 # numbers of nodes, each four times the one before
@@ -85,14 +85,20 @@ SHAPES = (
 )
 
 
+def children():
+    """The processor time of all programs that were run."""
+    usage = resource.getrusage(resource.RUSAGE_CHILDREN)
+    return usage.ru_utime + usage.ru_stime
+
+
 def seconds(path, text):
     """The least time of a run on this text: of many runs where one is short."""
     path.write_text(text)
     best = float("inf")
     for _ in range(20 if len(text) < 20000 else 5):
-        begin = time.perf_counter()
+        begin = children()
         run = subprocess.run([PROGRAM, "vars", path], capture_output=True, check=False)
-        best = min(best, time.perf_counter() - begin)
+        best = min(best, children() - begin)
         if run.returncode != 0:
             raise SystemExit(f"vars.py: status {run.returncode} on {len(text)} bytes: {run.stdout[:80]!r}")
     return best
