@@ -1,15 +1,16 @@
 #!/usr/bin/env python3
 """How the time of `dlk vars` grows with its file and with the number of names: ratios of one run.
 
-Each time is the least of some runs, less that of a file of one variable. Run it after `./dlk` has built the program.
-A number as argument is the greatest number of nodes.
+The store asks for each name, plain and primed, of the whole tree, so the time grows with nodes times names. Each time is the
+processor time of the program, the least of some runs, less that of a file of one variable. Run it after `./dlk` has built the
+program. A number as argument is the greatest number of nodes.
 """
 import itertools
 import pathlib
+import resource
 import subprocess
 import sys
 import tempfile
-import time
 
 PROGRAM = pathlib.Path(__file__).resolve().parent.parent / "crates" / "dlk" / "out" / "dlk"
 # numbers of nodes, each four times the one before
@@ -84,26 +85,32 @@ SHAPES = (
 )
 
 
-def seconds(path, text, runs):
-    """The least time of a run on this text."""
+def children():
+    """The processor time of all programs that were run."""
+    usage = resource.getrusage(resource.RUSAGE_CHILDREN)
+    return usage.ru_utime + usage.ru_stime
+
+
+def seconds(path, text):
+    """The least time of a run on this text: of many runs where one is short."""
     path.write_text(text)
     best = float("inf")
-    for _ in range(runs):
-        begin = time.perf_counter()
+    for _ in range(20 if len(text) < 20000 else 5):
+        begin = children()
         run = subprocess.run([PROGRAM, "vars", path], capture_output=True, check=False)
-        best = min(best, time.perf_counter() - begin)
+        best = min(best, children() - begin)
         if run.returncode != 0:
             raise SystemExit(f"vars.py: status {run.returncode} on {len(text)} bytes: {run.stdout[:80]!r}")
     return best
 
 
-def growth(path, title, text_of, count_of, base, sizes):
-    """Prints a line for each size, and answers the times."""
+def growth(path, title, texts, base):
+    """Prints a line for each number of nodes, with its number of names and its text, and answers the times."""
     times = []
-    for nodes in sizes:
-        took = seconds(path, text_of(nodes, count_of(nodes)), 5) - base
-        ratio = f", {took / times[-1]:.1f} times that of a quarter of the nodes" if times else ""
-        print(f"{title}, {count_of(nodes)} names: {nodes} nodes, {took / base:.2f} of a run on one variable{ratio}")
+    for nodes, count, text in texts:
+        took = seconds(path, text) - base
+        ratio = f", {took / times[-1]:.1f} times that of the line above" if times else ""
+        print(f"{title}: {nodes} nodes, {count} names, {took / base:.2f} of a run on one variable{ratio}")
         times.append(took)
     return times
 
@@ -114,12 +121,13 @@ def main():
     sizes = [nodes for nodes in SIZES if nodes <= most]
     with tempfile.TemporaryDirectory() as folder:
         path = pathlib.Path(folder) / "file"
-        base = seconds(path, "x", 20)
+        base = seconds(path, "x")
         for title, text_of in SHAPES:
-            few = growth(path, title, text_of, lambda nodes: FEW, base, sizes)
-            many = growth(path, title, text_of, lambda nodes: nodes // NODES_OF_A_NAME, base, sizes)
-            for nodes, one, other in zip(sizes, few, many):
-                print(f"{title}: {nodes} nodes, {nodes // NODES_OF_A_NAME} names cost {other / one:.1f} times what {FEW} cost")
+            few = [(nodes, FEW, text_of(nodes, FEW)) for nodes in sizes]
+            many = [(nodes, nodes // NODES_OF_A_NAME, text_of(nodes, nodes // NODES_OF_A_NAME)) for nodes in sizes]
+            times = zip(many, growth(path, title, few, base), growth(path, title, many, base))
+            for (nodes, count, _), one, other in times:
+                print(f"{title}: {nodes} nodes, {count} names cost {other / one:.1f} times what {FEW} names cost")
 
 
 if __name__ == "__main__":
