@@ -1,0 +1,13 @@
+pub mod Captured
+pub mod Growth
+pub mod Admissible
+pub mod Filled
+pub mod Arguments
+pub mod Staying
+pub mod Related
+pub mod Plugged
+pub mod Found
+pub mod Splicing
+pub mod Systems
+pub mod Roles
+pub mod Substituted

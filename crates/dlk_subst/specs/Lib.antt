@@ -1,1 +1,4 @@
 pub mod Results
+pub mod Scopes
+pub mod Roles
+pub mod Splices

@@ -2,6 +2,11 @@
 #![tactic(auto)]
 
 mod fault;
+mod fill;
+mod pairs;
+mod plug;
+mod scope;
+mod splice;
 mod subst;
 
 pub use dlk_calculus::Why;

@@ -1,0 +1,130 @@
+//! The pairs of a substitution: what it does at an operator, and what is admissible.
+ghost use Rattle.std.specs.Prelude.{◌≡◌, ◌↔◌, ◌&&◌, IsTrue, IfOk, All, Err};
+ghost use Rattle.dlk_tree.specs.Table.{Fits};
+ghost use Rattle.dlk_tree.specs.Statics.{free};
+ghost use Rattle.dlk_tree.specs.Occurs.{any_has, has_symbol};
+ghost use Rattle.dlk_store.specs.Stores.{IsId, tree, kid_trees, sorts_at};
+ghost use Rattle.dlk_calculus.specs.Captures.{AreApart, Stays};
+ghost use Rattle.dlk_calculus.specs.Pairs.{takes_arguments};
+ghost use Rattle.dlk_calculus.specs.Subst.{IsAdmissible};
+ghost use Rattle.dlk_sequent.specs.Substitutions.{pairs_at, AreKnownPairs};
+ghost use Rattle.dlk_subst.specs.Results.{Holds, HasNone};
+ghost use Rattle.dlk_subst.specs.Scopes.{scope_set, IsKnownScope};
+ghost use Rattle.dlk_subst.specs.Roles.{found, role_of};
+ghost use Rattle.dlk_subst.specs.declared.fault.ApplyFault.TheVariants.{NotAdmissible};
+
+use crate::fault::ApplyFault;
+use crate::scope::{Scope, is_apart, make_node, reach};
+use dlk_sequent::Pair;
+use dlk_store::{Id, Store};
+use dlk_tree::{Kind, Op, Sym, same_sym};
+use std::alloc::Global;
+
+/// What a substitution does at an operator.
+#[derive(Clone, Copy, Debug)]
+pub(crate) enum Role {
+    /// The replacement stands in its place.
+    Gives(Id),
+    /// The replacement does, with the kids in place of its dots.
+    Plugs(Id),
+    /// The replacement does, with the kid in place of its `_`.
+    Fills(Id),
+    /// The operator stays over its new kids.
+    Stays,
+}
+
+/// What replaces the symbol.
+pub(crate) fn find(pairs: &[Pair], s: &Sym) -> Option<Id>
+    ensures { result ≡ found pairs.now s.now }
+{
+    for pair in pairs {
+        if same_sym(s, &pair.sym) {
+            return Some(pair.by);
+        }
+    }
+    None
+}
+
+/// What the substitution does at the operator. A system is none of its matters.
+pub(crate) fn role_at(pairs: &[Pair], op: &Op) -> Role
+    ensures { result ≡ role_of pairs.now op.now }
+{
+    match op {
+        Op::UnitFun(s) | Op::UnitPred(s) | Op::Const(s) => {
+            find(pairs, s).map_or(Role::Stays, Role::Gives)
+        }
+        Op::Apply(s) | Op::Holds(s) => find(pairs, s).map_or(Role::Stays, Role::Plugs),
+        Op::Predicational(s) => find(pairs, s).map_or(Role::Stays, Role::Fills),
+        _ => Role::Stays,
+    }
+}
+
+fn takes_arguments(kind: Kind) -> bool
+    ensures { result ≡ takes_arguments kind }
+{
+    matches!(kind, Kind::Func | Kind::Pred)
+}
+
+/// Whether the symbol occurs in one of the trees.
+fn any_mentions<S: Store>(store: &S, kids: &[Id], s: &Sym) -> bool
+    requires { All (IsId (S.trees store.now)) kids.now }
+    ensures { result ≡ any_has (has_symbol s.now) (kid_trees (S.trees store.now) kids.now) }
+{
+    for kid in kids {
+        if store.mentions(*kid, s) {
+            return true;
+        }
+    }
+    false
+}
+
+/// Whether no variable of the scope is free in the replacement, if its symbol takes arguments and occurs in the kids.
+fn is_safe<S: Store>(store: &S, pair: &Pair, scope: &Scope, kids: &[Id]) -> bool
+    requires by { IsId (S.trees store.now) pair.now.by }
+    requires scope { IsKnownScope (S.trees store.now) scope.now }
+    requires kids { All (IsId (S.trees store.now)) kids.now }
+    ensures { IsTrue result ↔ (IsTrue (takes_arguments pair.now.sym.kind && any_has (has_symbol pair.now.sym) (kid_trees (S.trees store.now) kids.now)) → AreApart (scope_set (S.trees store.now) scope.now) (free (tree (S.trees store.now) pair.now.by))) }
+{
+    let occurs = takes_arguments(pair.sym.kind) && any_mentions(store, kids, &pair.sym);
+    !occurs || is_apart(store, scope, pair.by)
+}
+
+/// Whether no variable of the scope is free in the replacement of a function or predicate that occurs in the kids.
+pub(crate) fn is_admissible<S: Store>(store: &S, pairs: &[Pair], scope: &Scope, kids: &[Id]) -> bool
+    requires pairs { AreKnownPairs (S.trees store.now) pairs.now }
+    requires scope { IsKnownScope (S.trees store.now) scope.now }
+    requires kids { All (IsId (S.trees store.now)) kids.now }
+    ensures { IsTrue result ↔ IsAdmissible (pairs_at (S.trees store.now) pairs.now) (scope_set (S.trees store.now) scope.now) (kid_trees (S.trees store.now) kids.now) }
+{
+    for pair in pairs {
+        if !is_safe(store, pair, scope, kids) {
+            return false;
+        }
+    }
+    true
+}
+
+/// The operator over new kids, where what it captures is admissible for the kids of before.
+pub(crate) fn keep_admissible<S: Store>(
+    alloc: Global,
+    store: &mut S,
+    pairs: &[Pair],
+    op: &Op,
+    old: &[Id],
+    new: &[Id],
+) -> Result<Id, ApplyFault>
+    requires pairs { AreKnownPairs (S.trees store.old) pairs.now }
+    requires old { All (IsId (S.trees store.old)) old.now }
+    requires new { All (IsId (S.trees store.old)) new.now }
+    requires fits { Fits op.now (sorts_at (S.trees store.old) new.now) }
+    ensures ok { IfOk result (Holds (Stays (IsAdmissible (pairs_at (S.trees store.old) pairs.now)) op.now (kid_trees (S.trees store.old) old.now) (kid_trees (S.trees store.old) new.now)) (S.trees store.new)) }
+    ensures none { result ≡ Err NotAdmissible → HasNone (Stays (IsAdmissible (pairs_at (S.trees store.old) pairs.now)) op.now (kid_trees (S.trees store.old) old.now) (kid_trees (S.trees store.old) new.now)) }
+    ensures grows { S.grows store.old store.new }
+{
+    let made = make_node(alloc, store, op, new)?;
+    if is_admissible(store, pairs, &made.scope, reach(op, old)) {
+        Ok(made.id)
+    } else {
+        Err(ApplyFault::NotAdmissible)
+    }
+}

@@ -1,0 +1,145 @@
+//! Arguments in place of argument dots.
+ghost use Rattle.std.specs.Prelude.{◌≡◌, ◌≤◌, ◌↔◌, IsTrue, IfOk, All, length, Err};
+ghost use Rattle.dlk_tree.specs.Table.{Fits};
+ghost use Rattle.dlk_tree.specs.Trees.{Tree, sort};
+ghost use Rattle.dlk_tree.specs.Statics.{free};
+ghost use Rattle.dlk_tree.specs.Occurs.{any_has, is_dot};
+ghost use Rattle.dlk_tree.specs.declared.op.Sort.TheVariants.{Term};
+ghost use Rattle.dlk_store.specs.Stores.{IsId, tree, kid_trees, sorts_at};
+ghost use Rattle.dlk_calculus.specs.Captures.{AreApart, Stays};
+ghost use Rattle.dlk_calculus.specs.Plug.{IsClear, PlugAt, Plug};
+ghost use Rattle.dlk_subst.specs.Results.{Holds, HasNone, args_at};
+ghost use Rattle.dlk_subst.specs.Scopes.{scope_set, IsKnownScope};
+ghost use Rattle.dlk_subst.specs.declared.fault.ApplyFault.TheVariants.{NotAdmissible};
+
+use crate::fault::ApplyFault;
+use crate::scope::{Scope, is_apart, make_node, reach};
+use dlk_store::{Id, Steps, Store};
+use dlk_tree::Op;
+use std::alloc::Global;
+use std::sync::ledger::Ledger;
+
+/// Whether the dot stands in one of the trees.
+fn any_has_dot<S: Store>(store: &S, kids: &[Id], n: u8) -> bool
+    requires { All (IsId (S.trees store.now)) kids.now }
+    ensures { result ≡ any_has (is_dot n) (kid_trees (S.trees store.now) kids.now) }
+{
+    for kid in kids {
+        if store.has_dot(*kid, n) {
+            return true;
+        }
+    }
+    false
+}
+
+/// Whether no variable of the scope is free in the argument, if its dot stands in the kids.
+fn is_safe<S: Store>(store: &S, arg: Id, n: u8, scope: &Scope, kids: &[Id]) -> bool
+    requires arg { IsId (S.trees store.now) arg }
+    requires scope { IsKnownScope (S.trees store.now) scope.now }
+    requires kids { All (IsId (S.trees store.now)) kids.now }
+    ensures { IsTrue result ↔ (IsTrue (any_has (is_dot n) (kid_trees (S.trees store.now) kids.now)) → AreApart (scope_set (S.trees store.now) scope.now) (free (tree (S.trees store.now) arg))) }
+{
+    !any_has_dot(store, kids, n) || is_apart(store, scope, arg)
+}
+
+/// Whether no variable of the scope is free in an argument whose dot stands in the kids.
+fn is_clear<S: Store>(store: &S, args: &[Id], scope: &Scope, kids: &[Id]) -> bool
+    requires few { length args.now ≤ 8 }
+    requires args { All (IsId (S.trees store.now)) args.now }
+    requires scope { IsKnownScope (S.trees store.now) scope.now }
+    requires kids { All (IsId (S.trees store.now)) kids.now }
+    ensures { IsTrue result ↔ IsClear (args_at (S.trees store.now) args.now) (scope_set (S.trees store.now) scope.now) (kid_trees (S.trees store.now) kids.now) }
+{
+    let mut n: u8 = 0;
+    for arg in args {
+        if !is_safe(store, *arg, n, scope, kids) {
+            return false;
+        }
+        n += 1;
+    }
+    true
+}
+
+/// The operator over new kids, where it captures no variable of an argument.
+fn keep_clear<S: Store>(
+    alloc: Global,
+    store: &mut S,
+    args: &[Id],
+    op: &Op,
+    old: &[Id],
+    new: &[Id],
+) -> Result<Id, ApplyFault>
+    requires few { length args.now ≤ 8 }
+    requires args { All (IsId (S.trees store.old)) args.now }
+    requires old { All (IsId (S.trees store.old)) old.now }
+    requires new { All (IsId (S.trees store.old)) new.now }
+    requires fits { Fits op.now (sorts_at (S.trees store.old) new.now) }
+    ensures ok { IfOk result (Holds (Stays (IsClear (args_at (S.trees store.old) args.now)) op.now (kid_trees (S.trees store.old) old.now) (kid_trees (S.trees store.old) new.now)) (S.trees store.new)) }
+    ensures none { result ≡ Err NotAdmissible → HasNone (Stays (IsClear (args_at (S.trees store.old) args.now)) op.now (kid_trees (S.trees store.old) old.now) (kid_trees (S.trees store.old) new.now)) }
+    ensures grows { S.grows store.old store.new }
+{
+    let made = make_node(alloc, store, op, new)?;
+    if is_clear(store, args, &made.scope, reach(op, old)) {
+        Ok(made.id)
+    } else {
+        Err(ApplyFault::NotAdmissible)
+    }
+}
+
+/// The argument in place of a dot, or the operator over new kids.
+fn plug_at<S: Store>(
+    alloc: Global,
+    store: &mut S,
+    args: &[Id],
+    op: &Op,
+    old: &[Id],
+    new: &[Id],
+) -> Result<Id, ApplyFault>
+    requires few { length args.now ≤ 8 }
+    requires args { All (IsId (S.trees store.old)) args.now }
+    requires old { All (IsId (S.trees store.old)) old.now }
+    requires new { All (IsId (S.trees store.old)) new.now }
+    requires fits { Fits op.now (sorts_at (S.trees store.old) new.now) }
+    ensures ok { IfOk result (Holds (PlugAt (args_at (S.trees store.old) args.now) op.now (kid_trees (S.trees store.old) old.now) (kid_trees (S.trees store.old) new.now)) (S.trees store.new)) }
+    ensures none { result ≡ Err NotAdmissible → HasNone (PlugAt (args_at (S.trees store.old) args.now) op.now (kid_trees (S.trees store.old) old.now) (kid_trees (S.trees store.old) new.now)) }
+    ensures grows { S.grows store.old store.new }
+{
+    let Op::Dot(n) = op else {
+        return keep_clear(alloc, store, args, op, old, new);
+    };
+    match args.get(usize::from(*n)) {
+        Some(arg) => Ok(*arg),
+        None => Err(ApplyFault::NotAdmissible),
+    }
+}
+
+/// The tree with the arguments in place of its dots.
+///
+/// # Errors
+///
+/// `NotAdmissible` exactly where there is none: a dot has no argument, or an operator captures a variable of an argument.
+pub(crate) fn plug<S: Store, L: Ledger>(
+    alloc: Global,
+    store: &mut S,
+    args: &[Id],
+    id: Id,
+    steps: &mut Steps<L>,
+) -> Result<Id, ApplyFault>
+    requires few { length args.now ≤ 8 }
+    requires args { All (IsId (S.trees store.old)) args.now }
+    requires terms { All (λ (a : Tree). sort a ≡ Term) (args_at (S.trees store.old) args.now) }
+    requires known { IsId (S.trees store.old) id }
+    ensures ok { IfOk result (Holds (Plug (args_at (S.trees store.old) args.now) (tree (S.trees store.old) id)) (S.trees store.new)) }
+    ensures none { result ≡ Err NotAdmissible → HasNone (Plug (args_at (S.trees store.old) args.now) (tree (S.trees store.old) id)) }
+    ensures grows { S.grows store.old store.new }
+{
+    let node = store.look(id, steps);
+    let op = node.op.clone()?;
+    let old = node.kids.to_vec(alloc)?;
+    let mut new = Vec::new(alloc);
+    for kid in &old {
+        let made = plug(alloc, store, args, *kid, steps)?;
+        new.push(made)?;
+    }
+    plug_at(alloc, store, args, &op, old.as_slice(), new.as_slice())
+}

@@ -1,0 +1,100 @@
+//! What an operator captures.
+ghost use Rattle.std.specs.Prelude.{◌≡◌, ◌↔◌, IsTrue, IfOk, All};
+ghost use Rattle.dlk_tree.specs.Table.{Fits};
+ghost use Rattle.dlk_tree.specs.Trees.{node};
+ghost use Rattle.dlk_tree.specs.Statics.{free};
+ghost use Rattle.dlk_store.specs.Stores.{IsId, tree, StandsFor, kid_trees, sorts_at};
+ghost use Rattle.dlk_calculus.specs.Captures.{captures, AreApart};
+ghost use Rattle.dlk_subst.specs.Scopes.{scope_set, IsKnownScope, first_scope, scope_of, reach_of};
+
+use dlk_store::{Id, Store, StoreFault};
+use dlk_tree::{Op, Var};
+use std::alloc::{AllocError, Global};
+
+/// A set of variables.
+#[derive(Drop)]
+pub(crate) enum Scope {
+    Nothing,
+    Every,
+    Only(Var),
+    /// What the tree binds.
+    BoundBy(Id),
+}
+
+/// A node, and what its operator captures.
+#[derive(Drop)]
+pub(crate) struct Made {
+    pub id: Id,
+    pub scope: Scope,
+}
+
+/// What the operator captures, of which `made` is the node over these kids.
+fn scope_of(op: &Op, new: &[Id], made: Id) -> Result<Scope, AllocError>
+    ensures { IfOk result (λ s. s ≡ scope_of op.now new.now made) }
+{
+    Ok(match op {
+        Op::Diff | Op::DiffF | Op::Predicational(_) => Scope::Every,
+        Op::Forall(x) | Op::Exists(x) => Scope::Only(Var {
+            name: x.clone()?,
+            primed: false,
+        }),
+        Op::Box | Op::Dia | Op::Seq | Op::Loop => bound_by_first(new),
+        Op::System(_) => Scope::BoundBy(made),
+        _ => Scope::Nothing,
+    })
+}
+
+fn bound_by_first(new: &[Id]) -> Scope
+    ensures { result ≡ first_scope new.now }
+{
+    match new.first() {
+        Some(id) => Scope::BoundBy(*id),
+        None => Scope::Nothing,
+    }
+}
+
+/// The node of the operator over new kids, with what the operator captures.
+pub(crate) fn make_node<S: Store>(
+    alloc: Global,
+    store: &mut S,
+    op: &Op,
+    new: &[Id],
+) -> Result<Made, StoreFault>
+    requires new { All (IsId (S.trees store.old)) new.now }
+    requires fits { Fits op.now (sorts_at (S.trees store.old) new.now) }
+    ensures stands { IfOk result (λ made. StandsFor (S.trees store.new) made.id (node op.now (kid_trees (S.trees store.old) new.now))) }
+    ensures scope { IfOk result (λ made. scope_set (S.trees store.new) made.scope ≡ (captures op.now).set (kid_trees (S.trees store.old) new.now)) }
+    ensures known { IfOk result (λ made. IsKnownScope (S.trees store.new) made.scope) }
+    ensures grows { S.grows store.old store.new }
+{
+    let id = store.make(alloc, op.clone()?, new)?;
+    let scope = scope_of(op, new, id)?;
+    Ok(Made { id, scope })
+}
+
+/// The kids in which the operator captures.
+pub(crate) fn reach<'a>(op: &Op, old: &'a [Id]) -> &'a [Id]
+    ensures { result.now ≡ reach_of op.now old.now }
+{
+    match op {
+        Op::Box | Op::Dia | Op::Seq => match old.split_first() {
+            Some((_, later)) => later,
+            None => old,
+        },
+        _ => old,
+    }
+}
+
+/// Whether no variable of the scope is free in the tree.
+pub(crate) fn is_apart<S: Store>(store: &S, scope: &Scope, id: Id) -> bool
+    requires scope { IsKnownScope (S.trees store.now) scope.now }
+    requires known { IsId (S.trees store.now) id }
+    ensures { IsTrue result ↔ AreApart (scope_set (S.trees store.now) scope.now) (free (tree (S.trees store.now) id)) }
+{
+    match scope {
+        Scope::Nothing => true,
+        Scope::Every => !store.any_free(id),
+        Scope::Only(x) => !store.frees(id, x),
+        Scope::BoundBy(binder) => !store.free_meets_bound(id, *binder),
+    }
+}
