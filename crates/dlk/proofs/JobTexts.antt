@@ -3,12 +3,13 @@ use Rattle.std.proofs.Common.{◌≡◌, ℕ, List, [], ◌∷◌, length, get_o
 use Rattle.std.specs.declared.alloc.Global.{Global}
 use Rattle.dlk.specs.Forms.{limits_of}
 use Rattle.dlk.specs.Replies.{Reply}
-use Rattle.dlk.specs.Answers.{Does, check, print, vars}
+use Rattle.dlk.specs.Answers.{Does, check, print, vars, substitute}
 use Rattle.dlk.specs.Checks.{Checks}
 use Rattle.dlk.specs.Prints.{Prints}
 use Rattle.dlk.specs.Lists.{Lists}
+use Rattle.dlk.specs.Substitutes.{Substitutes}
 use Rattle.dlk.specs.Shown.{texts_of}
-use Rattle.dlk.specs.declared.command.Command.TheVariants.{Check, Print, Vars}
+use Rattle.dlk.specs.declared.command.Command.TheVariants.{Check, Print, Vars, Subst}
 
 two_items : {A : Type 0} (xs : List A) (a b : A) → length xs ≡ 2 → a ≡ get_or xs 0 a → b ≡ get_or xs 1 b → xs ≡ a ∷ b ∷ []
 two_items [] a b long first second = absurd (omega arith)
@@ -39,3 +40,9 @@ pub vars_does : (inputs : List (Vec ℕ Global)) (a : Vec ℕ Global) (file : Li
     length inputs ≡ length (limits_of Vars) → a ≡ get_or inputs 0 a → file ≡ a.items → Lists file reply → Does Vars (texts_of inputs) reply
 vars_does inputs a file reply long first is_file says =
     rw (one_item inputs a long first) (vars a.items reply (rw is_file at says))
+
+pub subst_does : (inputs : List (Vec ℕ Global)) (a b : Vec ℕ Global) (file substitution : List ℕ) (reply : Reply) →
+    length inputs ≡ length (limits_of Subst) → a ≡ get_or inputs 0 a → b ≡ get_or inputs 1 b → file ≡ a.items → substitution ≡ b.items →
+    Substitutes file substitution reply → Does Subst (texts_of inputs) reply
+subst_does inputs a b file substitution reply long first second is_file is_substitution says =
+    rw (two_items inputs a b long first second) (substitute a.items b.items reply (rw (is_file, is_substitution) at says))

@@ -20,7 +20,8 @@ use Rattle.dlk.specs.Refusals.{text_refused}
 use Rattle.dlk.specs.Checks.{Checks, bad_model, bad_line, bad_conclusion, reports, Accepts, ModelText, ModelFault, proves, line_refused, other_conclusion, reported}
 use Rattle.dlk.specs.Prints.{Prints, bad_text, prints, printed}
 use Rattle.dlk.specs.Lists.{Lists, lists, bad_text as lists_fault, IsWritten, AreWritten, set_listed, symbols_listed, set_text, signature_text, four_lines}
-use Rattle.dlk.specs.Answers.{Does, check, print, vars, Responds, refuses, does, Answers, no_form, command, too_long}
+use Rattle.dlk.proofs.OneSubstitution.{one_substitution}
+use Rattle.dlk.specs.Answers.{Does, check, print, vars, substitute, Responds, refuses, does, Answers, no_form, command, too_long}
 use Rattle.dlk.specs.declared.command.Command.{Command}
 
 -- the same rows, and the same last one
@@ -125,6 +126,7 @@ one_job : (c : Command) (texts : List (List ℕ)) (r s : Reply) → Does c texts
 one_job c texts r s (check model term r' a) (check model' term' s' b) = one_check model term r s a b
 one_job c texts r s (print file r' a) (print file' s' b) = one_print file r s a b
 one_job c texts r s (vars file r' a) (vars file' s' b) = one_list file r s a b
+one_job c texts r s (substitute file substitution r' a) (substitute file' substitution' s' b) = one_substitution file substitution r s a b
 
 one_name : {name other : Word} → Some name ≡ Some other → name ≡ other
 one_name e = cc

@@ -3,9 +3,10 @@ use Rattle.dlk.specs.Answers.{Does}
 use Rattle.dlk.specs.Checks.{Checks}
 use Rattle.dlk.specs.Prints.{Prints}
 use Rattle.dlk.specs.Lists.{Lists}
-use Rattle.dlk.specs.declared.command.Command.TheVariants.{Check, Print, Vars}
+use Rattle.dlk.specs.Substitutes.{Substitutes}
+use Rattle.dlk.specs.declared.command.Command.TheVariants.{Check, Print, Vars, Subst}
 use Rattle.dlk.specs.Shown.{texts_of, reply_of}
-use Rattle.dlk.proofs.JobTexts.{check_does, print_does, vars_does}
+use Rattle.dlk.proofs.JobTexts.{check_does, print_does, vars_does, subst_does}
 use Rattle.dlk.proofs.answer.job.Goals as goal
 
 pub returns-in-Check-clause-reply : goal.returns-in-Check-clause-reply
@@ -32,3 +33,12 @@ returns-in-Vars-clause-reply g c =
     rw c.in-Vars.is (IfOk-weaker c.vars.result (λ r. Lists file (reply_of r)) (λ r. Does Vars (texts_of inputs) (reply_of r))
     (λ r lists. vars_does inputs c.index-inputs-0-in-Vars.result file (reply_of r) (rw c.in-Vars.is at c.requires) c.index-inputs-0-in-Vars.is c.deref-in-Vars.ensures.value lists)
     c.vars.ensures.reply)
+
+pub returns-in-Subst-clause-reply : goal.returns-in-Subst-clause-reply
+returns-in-Subst-clause-reply g c =
+    let inputs = c.args.inputs.now in
+    let file = c.deref-in-Subst.result.now in
+    let substitution = c.deref-in-Subst-2.result.now in
+    rw c.in-Subst.is (IfOk-weaker c.subst.result (λ r. Substitutes file substitution (reply_of r)) (λ r. Does Subst (texts_of inputs) (reply_of r))
+    (λ r says. subst_does inputs c.index-inputs-0-in-Subst.result c.index-inputs-1-in-Subst.result file substitution (reply_of r) (rw c.in-Subst.is at c.requires) c.index-inputs-0-in-Subst.is c.index-inputs-1-in-Subst.is c.deref-in-Subst.ensures.value c.deref-in-Subst-2.ensures.value says)
+    c.subst.ensures.reply)

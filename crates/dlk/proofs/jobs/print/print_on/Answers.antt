@@ -1,8 +1,9 @@
+use Rattle.std.proofs.Common.{◌≡◌}
 use Rattle.std.proofs.lemmas.Result.{IfOk-weaker}
 use Rattle.dlk_store.specs.Stores.{tree}
 use Rattle.dlk.specs.declared.command.Role.TheVariants.{File}
 use Rattle.dlk.specs.Refusals.{IsTextRefused}
-use Rattle.dlk.specs.Prints.{Prints, bad_text, FileFault}
+use Rattle.dlk.specs.Prints.{Prints, bad_text, FileFault, printed}
 use Rattle.dlk.specs.Shown.{reply_of}
 use Rattle.dlk.proofs.TextAnswers.{text_answer}
 use Rattle.dlk.proofs.PrintAnswers.{print_answer}
@@ -17,5 +18,7 @@ returns-in-Err-clause-reply g c =
 pub returns-clause-reply : goal.returns-clause-reply
 returns-clause-reply g c =
     let read = c.in-Ok.ensures.found in
-    print_answer c.args.file.now read.0 (tree (g.S.Store.trees c.read_expression.new.store) c.in-Ok.expression) c.new-printed.result.items c.text.new.out.items c.push.new.self.items
-    read.1 read.2.tree_is c.new-printed.ensures.items c.in_ok-text.ensures.ok c.in_ok-push.ensures.items
+    let file = c.args.file.now in
+    let t = tree (g.S.Store.trees c.read_expression.new.store) c.in-Ok.expression in
+    IfOk-weaker c.print_tree.result (λ r. reply_of r ≡ printed t) (λ r. Prints file (reply_of r))
+    (λ r is. print_answer file read.0 t (reply_of r) read.1 read.2.tree_is is) c.print_tree.ensures.reply
