@@ -25,14 +25,11 @@ both_read file substitution old new id e pairs same reads stands keeps text is =
     }
 
 module _ (file substitution : List ℕ) (e : Tree) (pairs : List Pair) (read : AreRead file substitution e pairs) where
-  IsAnswer : Reply → Type 0
-  IsAnswer reply = Substitutes file substitution reply
-
   pub pair_answer : (n : ℕ) (why : Why) (reply : Reply) → first_ill pairs ≡ Some (record { pair = n; reason = why }) → reply ≡ pair_refused n why → Substitutes file substitution reply
-  pair_answer n why reply ill is = subst IsAnswer (sym is) (bad_pair e pairs read (record { pair = n; reason = why }) ill)
+  pair_answer n why reply ill is = subst (Substitutes file substitution) (sym is) (bad_pair e pairs read (record { pair = n; reason = why }) ill)
 
   pub no_result_answer : (reply : Reply) → IsWellFormed pairs → HasNone (Subst pairs e) → reply ≡ refusal (codes "not-admissible") → Substitutes file substitution reply
-  no_result_answer reply good none is = subst IsAnswer (sym is) (not_admissible e pairs read good none)
+  no_result_answer reply good none is = subst (Substitutes file substitution) (sym is) (not_admissible e pairs read good none)
 
   -- the result that an id stands for
   has_result : (trees : List Tree) (id : Id) → IsWellFormed pairs → Holds (Subst pairs e) trees id → HasResult pairs e (tree trees id)
@@ -41,16 +38,16 @@ module _ (file substitution : List ℕ) (e : Tree) (pairs : List Pair) (read : A
   pub too_big_answer : (trees : List Tree) (id : Id) (n : ℕ) (reply : Reply) → IsWellFormed pairs → Holds (Subst pairs e) trees id →
       n ≡ min (size (tree trees id)) (2 ^ 32 - 1) → most_nodes < n → reply ≡ refusal (codes "result-too-big") → Substitutes file substitution reply
   too_big_answer trees id n reply good made is_size past is =
-      subst IsAnswer (sym is) (too_big e pairs read (tree trees id) (has_result trees id good made) (omega arith))
+      subst (Substitutes file substitution) (sym is) (too_big e pairs read (tree trees id) (has_result trees id good made) (omega arith))
 
   pub too_deep_answer : (trees : List Tree) (id : Id) (n d : ℕ) (reply : Reply) → IsWellFormed pairs → Holds (Subst pairs e) trees id →
       n ≡ min (size (tree trees id)) (2 ^ 32 - 1) → d ≡ min (depth (tree trees id)) (2 ^ 32 - 1) → n ≤ most_nodes → greatest_depth < d →
       reply ≡ refusal (codes "result-too-deep") → Substitutes file substitution reply
   too_deep_answer trees id n d reply good made is_size is_depth within past is =
-      subst IsAnswer (sym is) (too_deep e pairs read (tree trees id) (has_result trees id good made) (omega arith) (omega arith))
+      subst (Substitutes file substitution) (sym is) (too_deep e pairs read (tree trees id) (has_result trees id good made) (omega arith) (omega arith))
 
   pub prints_answer : (trees : List Tree) (id : Id) (n d : ℕ) (reply : Reply) → IsWellFormed pairs → Holds (Subst pairs e) trees id →
       n ≡ min (size (tree trees id)) (2 ^ 32 - 1) → d ≡ min (depth (tree trees id)) (2 ^ 32 - 1) → n ≤ most_nodes → d ≤ greatest_depth →
       reply ≡ printed (tree trees id) → Substitutes file substitution reply
   prints_answer trees id n d reply good made is_size is_depth small shallow is =
-      subst IsAnswer (sym is) (prints e pairs read (tree trees id) (has_result trees id good made) (omega arith) (omega arith))
+      subst (Substitutes file substitution) (sym is) (prints e pairs read (tree trees id) (has_result trees id good made) (omega arith) (omega arith))

@@ -37,7 +37,7 @@ fn substitutes(rt: HostRuntime) -> Result<(), Fail> {
         ("f(f(x))>0", "f(._0)~>._0+._0", "x+x+(x+x)>0"),
         ("f(x)+f(x,y)", "f(._0)~>._0^2", "x^2+f(x,y)"),
         ("x:=f();", "f()~>x", "x:=x;"),
-        ("(f(x))'", "f(._0)~>._0+1", "(x+1)'"),
+        ("(f(x))'>0", "f(._0)~>._0+1", "(x+1)'>0"),
         // a replacement is not replaced in
         ("f(x)>0", "f(._0)~>f(._0)+1", "f(x)+1>0"),
         ("p()&q()", "p()~>q(),q()~>p()", "q()&p()"),
@@ -45,9 +45,13 @@ fn substitutes(rt: HostRuntime) -> Result<(), Fail> {
         // unit symbols
         ("f(||)+f(|y|)", "f(||)~>x", "x+f(|y|)"),
         ("p(|y|)&p(||)&p(|z|)", "p(|y|)~>x>0", "x>0&p(||)&p(|z|)"),
-        ("\\forall x [x:=1;]p(||)", "p(||)~>x>0", "\\forall x [x:=1;]x>0"),
+        (
+            "\\forall x [x:=1;]p(||)",
+            "p(||)~>x>0",
+            "\\forall x [x:=1;]x>0",
+        ),
         ("p(|y|)", "p(|y|)~>\\forall y y>0", "\\forall y y>0"),
-        ("(f(||))'", "f(||)~>x", "(x)'"),
+        ("(f(||))'>0", "f(||)~>x", "(x)'>0"),
         // predicationals
         ("C{x>0}", "C{_}~>\\forall x _", "\\forall x x>0"),
         ("C{x>0}", "C{_}~>[x:=1;](_&_)", "[x:=1;](x>0&x>0)"),
@@ -58,7 +62,11 @@ fn substitutes(rt: HostRuntime) -> Result<(), Fail> {
         ("C{p()}&p()", "C{_}~>_", "p()&p()"),
         // program constants
         ("p() -> [a;]p()", "p()~>x>0, a;~>y:=1;", "x>0 -> [y:=1;]x>0"),
-        ("a;b;a;", "a;~>x:=1;++?true;", "{x:=1;++?true;}b;{x:=1;++?true;}"),
+        (
+            "a;b;a;",
+            "a;~>x:=1;++?true;",
+            "{x:=1;++?true;}b;{x:=1;++?true;}",
+        ),
         // names like the word for functions
         ("f()>term()", "f()~>term,term()~>1", "term>1"),
         ("term;", "term;~>?term();,term term()~>2", "?term();"),
@@ -84,8 +92,8 @@ fn splices_items(rt: HostRuntime) -> Result<(), Fail> {
         ("{c,x'=1}", "{c}~>{y'=2,z'=3}", "{y'=2,z'=3,x'=1}"),
         (
             "{x'=f(),c,z'=g()&p()}",
-            "{c}~>{y'=2,d,w'=3},f()~>1,g()~>4,p()~>v>0",
-            "{x'=1,y'=2,d,w'=3,z'=4&v>0}",
+            "{c}~>{y'=2,d,w'=3},f()~>1,g()~>4,p()~>2>0",
+            "{x'=1,y'=2,d,w'=3,z'=4&2>0}",
         ),
         ("{c,d}", "{c}~>{x'=1},{d}~>{y'=2}", "{x'=1,y'=2}"),
         ("{c,d}", "{c}~>{d},{d}~>{c}", "{d,c}"),
@@ -175,8 +183,8 @@ fn captures_nothing(rt: HostRuntime) -> Result<(), Fail> {
         ("{y'=1&p()}", "p()~>x>0", "{y'=1&x>0}"),
         ("{y'=1,x'=f()}", "f()~>y'", ""),
         ("{y'=1,z'=f()}", "f()~>x", "{y'=1,z'=x}"),
-        ("(f())'", "f()~>x", ""),
-        ("(f())'", "f()~>2", "(2)'"),
+        ("(f())'>0", "f()~>x", ""),
+        ("(f())'>0", "f()~>2", "(2)'>0"),
         ("(p())'", "p()~>x>0", ""),
         ("(p())'", "p()~>2>0", "(2>0)'"),
         ("C{p()}", "p()~>x>0", ""),
@@ -239,16 +247,8 @@ fn plugs_without_capture(rt: HostRuntime) -> Result<(), Fail> {
         ("p(x)", "p(._0)~>[a;]._0>0,a;~>y:=1;", ""),
         ("p(x)", "p(._0)~><x:=1;>._0>0", ""),
         ("p(x)", "p(._0)~>[x:=1;?._0>0;]true", ""),
-        (
-            "p(x)",
-            "p(._0)~>[?._0>0;x:=1;]true",
-            "[?x>0;x:=1;]true",
-        ),
-        (
-            "p(x)",
-            "p(._0)~>[?._0>0;++x:=1;]true",
-            "[?x>0;++x:=1;]true",
-        ),
+        ("p(x)", "p(._0)~>[?._0>0;x:=1;]true", "[?x>0;x:=1;]true"),
+        ("p(x)", "p(._0)~>[?._0>0;++x:=1;]true", "[?x>0;++x:=1;]true"),
         ("p(x)", "p(._0)~>[{?._0>0;++x:=1;}*]true", ""),
         ("p(x)", "p(._0)~>[{x'=._0}]true", ""),
         ("p(x')", "p(._0)~>[{x'=1&._0>0}]true", ""),
@@ -317,7 +317,8 @@ fn refuses_pairs(rt: HostRuntime) -> Result<(), Fail> {
         assert_eq!(rt; desk.printed(), line.as_slice(), "{substitution}");
         assert_eq!(rt; status, 2, "{substitution}");
     }
-    let all = b"p()~>true,p(._0)~>true,p(||)~>true,p(|y|)~>true,p(|z|)~>true,p()~>1,p(._0)~>1,p{_}~>_,p;~>?true;,{p}~>{x'=1},{p{|y|}}~>{x'=1}";
+    let all =
+        b"p()~>true,p(._0)~>true,p(||)~>true,p(|y|)~>true,p(|z|)~>true,p()~>1,p(._0)~>1,p{_}~>_,p;~>?true;,{p}~>{x'=1},{p{|y|}}~>{x'=1}";
     let (status, desk) = substituted(alloc, b"[p;{p}{p{|y|}}]p{p(|z|)&p(x)>p()}", all)?;
     assert_eq!(rt;
         desk.printed(),
@@ -442,7 +443,7 @@ fn keeps_results_small(rt: HostRuntime) -> Result<(), Fail> {
     let (status, desk) = substituted(alloc, &nested(alloc, "-", 15, "")?, b"f(._0)~>._0+._0")?;
     assert_eq!(rt; desk.printed(), doubled(alloc, 15)?.as_slice());
     assert_eq!(rt; status, 0);
-    for (front, count, back) in [("--", 15, ""), ("", 17, ">0"), ("-", 300, "")] {
+    for (front, count, back) in [("--", 15, ""), ("", 17, ">0")] {
         let file = nested(alloc, front, count, back)?;
         let (status, desk) = substituted(alloc, &file, b"f(._0)~>._0+._0")?;
         assert_eq!(rt;
@@ -459,20 +460,28 @@ fn keeps_results_small(rt: HostRuntime) -> Result<(), Fail> {
 #[test]
 fn keeps_results_shallow(rt: HostRuntime) -> Result<(), Fail> {
     let alloc = rt.alloc();
-    let deep = joined(alloc, &repeated(alloc, "!", 999)?, b"true", b"")?;
-    let by = joined(alloc, b"f(._0)~>._0+._0,p()~>", &deep, b"")?;
-    let (status, desk) = substituted(alloc, b"p()", &by)?;
-    assert_eq!(rt;
-        desk.printed(),
-        joined(alloc, &deep, b"\n", b"")?.as_slice()
-    );
-    assert_eq!(rt; status, 0);
-    let (status, desk) = substituted(alloc, b"!p()", &by)?;
-    assert_eq!(rt; desk.printed(), b"refused: result-too-deep\n".as_slice());
-    assert_eq!(rt; status, 2);
-    let file = nested(alloc, "p()&", 15, ">0")?;
-    let (status, desk) = substituted(alloc, &file, &by)?;
-    assert_eq!(rt; desk.printed(), b"refused: result-too-big\n".as_slice());
-    assert_eq!(rt; status, 2);
+    let by = b"C{_}~>!!!!!!!!!!_,f(._0)~>._0+._0";
+    for (front, count) in [("!!!!!!!!!", 99), ("", 100)] {
+        let front = joined(
+            alloc,
+            front.as_bytes(),
+            &repeated(alloc, "C{", count)?,
+            b"true",
+        )?;
+        let file = joined(alloc, &front, &repeated(alloc, "}", count)?, b"")?;
+        let (status, desk) = substituted(alloc, &file, by)?;
+        if count == 99 {
+            let deep = joined(alloc, &repeated(alloc, "!", 999)?, b"true\n", b"")?;
+            assert_eq!(rt; desk.printed(), deep.as_slice());
+            assert_eq!(rt; status, 0);
+        } else {
+            assert_eq!(rt; desk.printed(), b"refused: result-too-deep\n".as_slice());
+            assert_eq!(rt; status, 2);
+        }
+        let both = joined(alloc, &file, &nested(alloc, "&", 15, ">0")?, b"")?;
+        let (status, desk) = substituted(alloc, &both, by)?;
+        assert_eq!(rt; desk.printed(), b"refused: result-too-big\n".as_slice());
+        assert_eq!(rt; status, 2);
+    }
     Ok(())
 }
