@@ -1,5 +1,5 @@
-pub mod Captured
 pub mod Growth
+pub mod Captured
 pub mod Admissible
 pub mod Filled
 pub mod Arguments

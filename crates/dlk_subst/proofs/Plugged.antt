@@ -34,13 +34,13 @@ module _ (args : List Tree) where
   kid_unplugged old (k ∷ ks) zero d h none (kid t ts) p = none t p.0
   kid_unplugged old (k ∷ ks) (suc i) d h none (kid t ts) p = kid_unplugged old ks i d (omega arith) none ts p.1
 
-  pub kid_no_plug : {args' : List Tree} {op : Op} {u k : Tree} (old : List Tree) (ks : List Id) (i : ℕ) (d : Id) → i < length ks → args' ≡ args → k ≡ tree old (get_or ks i d) → u ≡ node op (kid_trees old ks)
+  pub kid_no_plug : {op : Op} (args' : List Tree) (u k : Tree) (old : List Tree) (ks : List Id) (i : ℕ) (d : Id) → i < length ks → args' ≡ args → k ≡ tree old (get_or ks i d) → u ≡ node op (kid_trees old ks)
       → HasNone (Plug args' k) → HasNone (Plug args u)
-  kid_no_plug {args'} {op} old ks i d h a same e none =
+  kid_no_plug {op} args' u k old ks i d h a same e none =
       subst (λ w. HasNone (Plug args w)) (sym e) (λ t p. kid_unplugged old ks i d h (subst (λ X. X) (λ j. HasNone (Plug (a j) (same j))) none) p.0 p.1)
 
   -- a node, of its row
-  module _ {args' : List Tree} {op : Op} {old old' new new' : Forest} {u : Tree} (a : args' ≡ args) (o : old' ≡ old) (n : new' ≡ new) (e : u ≡ node op old) (all : PlugAll args old new) where
+  module _ {op : Op} (args' : List Tree) (old old' new new' : Forest) (u : Tree) (a : args' ≡ args) (o : old' ≡ old) (n : new' ≡ new) (e : u ≡ node op old) (all : PlugAll args old new) where
     row_is : (t : Tree) → PlugAt args' op old' new' t ≡ PlugAt args op old new t
     row_is t = λ i. PlugAt (a i) op (o i) (n i) t
 

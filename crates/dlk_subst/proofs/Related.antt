@@ -1,19 +1,23 @@
 -- Kids that are made one by one, each related to the old one.
-use Rattle.std.proofs.Common.{◌≡◌, ℕ, ◌+◌, ◌<◌, ◌≤◌, List, [], ◌∷◌, ◌++◌, length, get_or, refl, sym, subst, arith, ⊎_elim, Result, Err}
+use Rattle.std.proofs.Common.{◌≡◌, ℕ, ◌+◌, ◌<◌, ◌≤◌, List, [], ◌∷◌, ◌++◌, length, get_or, refl, sym, ap, subst, ◌∙◌, arith, ⊎_elim, Result, Err}
 use Rattle.std.specs.Prelude.{All}
 use Rattle.std.specs.Result.{IsErrAnd}
 use Rattle.std.proofs.lemmas.List.{get_or_append_left, length-append, get_or_default}
 use Rattle.std.proofs.lemmas.Bool.{cases_lt}
 use Rattle.std.proofs.Math.Seq.{get_or-append_seam}
 use Rattle.dlk_tree.specs.Trees.{Tree}
-use Rattle.dlk_store.specs.Stores.{IsId, tree, Keeps}
+use Rattle.dlk_store.specs.Stores.{IsId, tree, kid_trees, Keeps}
 use Rattle.dlk_store.specs.declared.Id.{Id}
-use Rattle.dlk_store.proofs.Kids.{Keeps-refl, Keeps-trans}
+use Rattle.dlk_store.proofs.Kids.{Keeps-refl, Keeps-trans, kid_trees-kept}
 use Rattle.dlk_subst.specs.Results.{Holds}
 
--- what is said of a fault is said of this one
-pub fault_of : {A E : Type 0} (P : E → Type 0) (r : Result A E) (n : E) → r ≡ Err n → IsErrAnd r P → P n
-fault_of P r n e h = subst (λ q. IsErrAnd q P) e h
+-- a fault that was handed on is that of the call
+pub handed_on : {A B E : Type 0} (call : Result A E) (answer : Result B E) (f n : E) → call ≡ Err f → IsErrAnd answer (λ e. e ≡ f) → answer ≡ Err n → call ≡ Err n
+handed_on call answer f n was same is = was ∙ ap Err (sym (subst (λ r. IsErrAnd r (λ e. e ≡ f)) is same))
+
+-- kids in a slice of their own stand for the same in a store that has grown
+pub slice_kept : {before now : List Tree} → Keeps before now → (slice items ks : List Id) → slice ≡ items → ks ≡ items → All (IsId before) ks → kid_trees now slice ≡ kid_trees before ks
+slice_kept {before} {now} kept slice items ks e h known = ap (kid_trees now) (e ∙ sym h) ∙ kid_trees-kept kept ks known
 
 -- the tree of an id of which this holds
 pub holds_tree : {R : Tree → Type 0} {trees : List Tree} {id : Id} → Holds R trees id → R (tree trees id)

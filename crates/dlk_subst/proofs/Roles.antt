@@ -1,6 +1,6 @@
 -- What a substitution does at an operator, by its role.
-use Rattle.std.proofs.Common.{◌≡◌, refl, sym, ap, subst, ◌∙◌, ℕ, ◌<◌, ◌≤◌, List, length, replicate, Bool, true, false, ◌&&◌, Option, Some, None, arith}
-use Rattle.std.specs.Prelude.{IsTrue}
+use Rattle.std.proofs.Common.{◌≡◌, refl, sym, ap, subst, ◌∙◌, ℕ, ◌<◌, ◌≤◌, List, length, replicate, Bool, true, false, ◌&&◌, Option, Some, None, arith, Result, Ok, Err}
+use Rattle.std.specs.Prelude.{IsTrue, IfOk}
 use Rattle.std.proofs.lemmas.Bool.Decides.{nat_tests}
 use Rattle.std.proofs.lemmas.List.{length-replicate}
 use Rattle.dlk_tree.specs.declared.op.Sym.{Sym}
@@ -86,6 +86,10 @@ module _ (trees : List Tree) (pairs : List Pair) (op : Op) (old new : Forest) (r
     is_related = role_row trees pairs old new h.result op other (subst (λ r. RoleRow trees pairs op old new r h.result) is h.is_related);
     stands = h.stands;
   }
+
+  pub role_ok : {E : Type 0} (now : List Tree) (result : Result Id E) → IfOk result (Holds (RoleRow trees pairs op old new role) now) → IfOk result (Holds (SubstAt (pairs_at trees pairs) op old new) now)
+  role_ok now (Err e) ok = tt
+  role_ok now (Ok id) ok = role_holds now id ok
 
   pub role_none : (Made : Tree → Type 0) → HasNone (RoleRow trees pairs op old new role) → HasNone (λ t. SubstAt (pairs_at trees pairs) op old new t × Made t)
   role_none Made none = λ t made. none t (subst (λ r. RoleRow trees pairs op old new r t) (sym is) (row_role trees pairs old new t op other made.0))

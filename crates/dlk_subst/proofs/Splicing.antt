@@ -1,6 +1,7 @@
 -- Items and kids of a system, put together.
-use Rattle.std.proofs.Common.{◌≡◌, refl, sym, ap, subst, ◌∙◌, ℕ, suc, ◌-◌, List, [], ◌∷◌, ◌++◌, length, take, Some, append_assoc, arith, Result, Ok, Err}
+use Rattle.std.proofs.Common.{◌≡◌, refl, sym, ap, subst, ◌∙◌, ℕ, suc, ◌-◌, List, [], ◌∷◌, ◌++◌, length, take, drop, ◌≤◌, Some, append_assoc, arith, Result, Ok, Err}
 use Rattle.std.specs.Prelude.{All, OnOk}
+use Rattle.std.proofs.lemmas.List.{at_drop_all}
 use Rattle.std.proofs.lemmas.List.Elements.{All-nil, All-append, All-take, All-cons}
 use Rattle.dlk_tree.specs.declared.op.Sym.{Sym}
 use Rattle.dlk_tree.specs.declared.op.OdeItem.{OdeItem}
@@ -16,7 +17,7 @@ use Rattle.dlk_calculus.specs.Subst.{items_for, sides_for, new_items, new_kids}
 use Rattle.dlk_subst.specs.Splices.{Puts, PutsItem}
 use Rattle.dlk_subst.specs.declared.splice.Spliced.{Spliced}
 
-pub trees_append : (trees : List Tree) (xs ys : List Id) → kid_trees trees (xs ++ ys) ≡ append (kid_trees trees xs) (kid_trees trees ys)
+trees_append : (trees : List Tree) (xs ys : List Id) → kid_trees trees (xs ++ ys) ≡ append (kid_trees trees xs) (kid_trees trees ys)
 trees_append trees [] ys = refl
 trees_append trees (x ∷ xs) ys = ap (kid (tree trees x)) (trees_append trees xs ys)
 
@@ -95,3 +96,12 @@ evolved_put trees pairs x side kids later old new is i k = subst (λ ks. PutsIte
   known = λ all more. subst (All (IsId trees)) (sym k) (All-append (IsId trees) old.kids.items (side ∷ []) more (All-cons (IsId trees) side [] (all 0 side (omega arith)) (All-nil (IsId trees))));
   left_known = λ all. λ n d h. all (suc n) d (omega arith);
 })
+
+-- ---- the whole
+
+-- where no item is left, the kids that are left come last
+pub whole_put : (trees : List Tree) (pairs : List Pair) (items : List OdeItem) (n : ℕ) (put left all kids : List Id) → length items ≤ n → all ≡ put ++ left
+    → append (kid_trees trees put) (new_kids pairs (drop n items) (kid_trees trees left)) ≡ new_kids pairs items (kid_trees trees kids) → kid_trees trees all ≡ new_kids pairs items (kid_trees trees kids)
+whole_put trees pairs items n put left all kids past e h =
+    let last = at_drop_all (λ (more : List OdeItem). append (kid_trees trees put) (new_kids pairs more (kid_trees trees left))) items n past in
+    ap (kid_trees trees) e ∙ trees_append trees put left ∙ sym last ∙ h

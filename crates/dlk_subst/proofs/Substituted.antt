@@ -46,13 +46,13 @@ module _ (pairs : List Pair) where
   kid_unmade old (k ∷ ks) zero d h none (kid t ts) p = none t p.0
   kid_unmade old (k ∷ ks) (suc i) d h none (kid t ts) p = kid_unmade old ks i d (omega arith) none ts p.1
 
-  pub kid_no_subst : {pairs' : List Pair} {op : Op} {u k : Tree} (old : List Tree) (ks : List Id) (i : ℕ) (d : Id) → i < length ks → pairs' ≡ pairs → k ≡ tree old (get_or ks i d) → u ≡ node op (kid_trees old ks)
+  pub kid_no_subst : {op : Op} (pairs' : List Pair) (u k : Tree) (old : List Tree) (ks : List Id) (i : ℕ) (d : Id) → i < length ks → pairs' ≡ pairs → k ≡ tree old (get_or ks i d) → u ≡ node op (kid_trees old ks)
       → HasNone (Subst pairs' k) → HasNone (Subst pairs u)
-  kid_no_subst {pairs'} {op} old ks i d h a same e none =
+  kid_no_subst {op} pairs' u k old ks i d h a same e none =
       subst (λ w. HasNone (Subst pairs w)) (sym e) (λ t p. kid_unmade old ks i d h (subst (λ X. X) (λ j. HasNone (Subst (a j) (same j))) none) p.0 p.1)
 
   -- a node, of its row
-  module _ {pairs' : List Pair} {op : Op} {old old' new new' : Forest} {u : Tree} (a : pairs' ≡ pairs) (o : old' ≡ old) (n : new' ≡ new) (e : u ≡ node op old) (all : SubstAll pairs old new) where
+  module _ {op : Op} (pairs' : List Pair) (old old' new new' : Forest) (u : Tree) (a : pairs' ≡ pairs) (o : old' ≡ old) (n : new' ≡ new) (e : u ≡ node op old) (all : SubstAll pairs old new) where
     row_is : (t : Tree) → SubstAt pairs' op old' new' t ≡ SubstAt pairs op old new t
     row_is t = λ i. SubstAt (a i) op (o i) (n i) t
 

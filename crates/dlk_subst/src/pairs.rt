@@ -14,7 +14,7 @@ ghost use Rattle.dlk_subst.specs.Roles.{found, role_of};
 ghost use Rattle.dlk_subst.specs.declared.fault.ApplyFault.TheVariants.{NotAdmissible};
 
 use crate::fault::ApplyFault;
-use crate::scope::{Scope, is_apart, make_node, reach};
+use crate::scope::{Scope, is_apart, reach, scope_of};
 use dlk_sequent::Pair;
 use dlk_store::{Id, Store};
 use dlk_tree::{Kind, Op, Sym, same_sym};
@@ -45,7 +45,7 @@ pub(crate) fn find(pairs: &[Pair], s: &Sym) -> Option<Id>
     None
 }
 
-/// What the substitution does at the operator. A system is none of its matters.
+/// What the substitution does at the operator. It is no system: those are for `splice`.
 pub(crate) fn role_at(pairs: &[Pair], op: &Op) -> Role
     ensures { result ≡ role_of pairs.now op.now }
 {
@@ -121,9 +121,10 @@ pub(crate) fn keep_admissible<S: Store>(
     ensures none { result ≡ Err NotAdmissible → HasNone (Stays (IsAdmissible (pairs_at (S.trees store.old) pairs.now)) op.now (kid_trees (S.trees store.old) old.now) (kid_trees (S.trees store.old) new.now)) }
     ensures grows { S.grows store.old store.new }
 {
-    let made = make_node(alloc, store, op, new)?;
-    if is_admissible(store, pairs, &made.scope, reach(op, old)) {
-        Ok(made.id)
+    let made = store.make(alloc, op.clone()?, new)?;
+    let scope = scope_of(op, new, made)?;
+    if is_admissible(store, pairs, &scope, reach(op, old)) {
+        Ok(made)
     } else {
         Err(ApplyFault::NotAdmissible)
     }

@@ -13,7 +13,7 @@ ghost use Rattle.dlk_subst.specs.Scopes.{scope_set, IsKnownScope};
 ghost use Rattle.dlk_subst.specs.declared.fault.ApplyFault.TheVariants.{NotAdmissible};
 
 use crate::fault::ApplyFault;
-use crate::scope::{Scope, is_apart, make_node, reach};
+use crate::scope::{Scope, is_apart, reach, scope_of};
 use dlk_store::{Id, Steps, Store};
 use dlk_tree::Op;
 use std::alloc::Global;
@@ -78,9 +78,10 @@ fn keep_clear<S: Store>(
     ensures none { result ≡ Err NotAdmissible → HasNone (Stays (IsClear (args_at (S.trees store.old) args.now)) op.now (kid_trees (S.trees store.old) old.now) (kid_trees (S.trees store.old) new.now)) }
     ensures grows { S.grows store.old store.new }
 {
-    let made = make_node(alloc, store, op, new)?;
-    if is_clear(store, args, &made.scope, reach(op, old)) {
-        Ok(made.id)
+    let made = store.make(alloc, op.clone()?, new)?;
+    let scope = scope_of(op, new, made)?;
+    if is_clear(store, args, &scope, reach(op, old)) {
+        Ok(made)
     } else {
         Err(ApplyFault::NotAdmissible)
     }

@@ -1,15 +1,13 @@
 //! What an operator captures.
-ghost use Rattle.std.specs.Prelude.{◌≡◌, ◌↔◌, IsTrue, IfOk, All};
-ghost use Rattle.dlk_tree.specs.Table.{Fits};
-ghost use Rattle.dlk_tree.specs.Trees.{node};
+ghost use Rattle.std.specs.Prelude.{◌≡◌, ◌↔◌, IsTrue, IfOk};
 ghost use Rattle.dlk_tree.specs.Statics.{free};
-ghost use Rattle.dlk_store.specs.Stores.{IsId, tree, StandsFor, kid_trees, sorts_at};
-ghost use Rattle.dlk_calculus.specs.Captures.{captures, AreApart};
+ghost use Rattle.dlk_store.specs.Stores.{IsId, tree};
+ghost use Rattle.dlk_calculus.specs.Captures.{AreApart};
 ghost use Rattle.dlk_subst.specs.Scopes.{scope_set, IsKnownScope, first_scope, scope_of, reach_of};
 
-use dlk_store::{Id, Store, StoreFault};
+use dlk_store::{Id, Store};
 use dlk_tree::{Op, Var};
-use std::alloc::{AllocError, Global};
+use std::alloc::AllocError;
 
 /// A set of variables.
 #[derive(Drop)]
@@ -21,15 +19,8 @@ pub(crate) enum Scope {
     BoundBy(Id),
 }
 
-/// A node, and what its operator captures.
-#[derive(Drop)]
-pub(crate) struct Made {
-    pub id: Id,
-    pub scope: Scope,
-}
-
-/// What the operator captures, of which `made` is the node over these kids.
-fn scope_of(op: &Op, new: &[Id], made: Id) -> Result<Scope, AllocError>
+/// What the operator captures, where `made` is its node over these kids.
+pub(crate) fn scope_of(op: &Op, new: &[Id], made: Id) -> Result<Scope, AllocError>
     ensures { IfOk result (λ s. s ≡ scope_of op.now new.now made) }
 {
     Ok(match op {
@@ -51,25 +42,6 @@ fn bound_by_first(new: &[Id]) -> Scope
         Some(id) => Scope::BoundBy(*id),
         None => Scope::Nothing,
     }
-}
-
-/// The node of the operator over new kids, with what the operator captures.
-pub(crate) fn make_node<S: Store>(
-    alloc: Global,
-    store: &mut S,
-    op: &Op,
-    new: &[Id],
-) -> Result<Made, StoreFault>
-    requires new { All (IsId (S.trees store.old)) new.now }
-    requires fits { Fits op.now (sorts_at (S.trees store.old) new.now) }
-    ensures stands { IfOk result (λ made. StandsFor (S.trees store.new) made.id (node op.now (kid_trees (S.trees store.old) new.now))) }
-    ensures scope { IfOk result (λ made. scope_set (S.trees store.new) made.scope ≡ (captures op.now).set (kid_trees (S.trees store.old) new.now)) }
-    ensures known { IfOk result (λ made. IsKnownScope (S.trees store.new) made.scope) }
-    ensures grows { S.grows store.old store.new }
-{
-    let id = store.make(alloc, op.clone()?, new)?;
-    let scope = scope_of(op, new, id)?;
-    Ok(Made { id, scope })
 }
 
 /// The kids in which the operator captures.

@@ -120,7 +120,11 @@ fn substitute<S: Store, L: Ledger>(
 ///
 /// # Errors
 ///
-/// `NotAdmissible` exactly where it makes none. The store may have more nodes then.
+/// - `NotAdmissible`: exactly where it makes none, since a variable would be captured, or a system would evolve a variable twice
+///   or have more than 64 items.
+/// - `Memory`: memory ran out.
+///
+/// The store may have more nodes then.
 pub fn apply<S: Store, L: Ledger>(
     alloc: Global,
     store: &mut S,

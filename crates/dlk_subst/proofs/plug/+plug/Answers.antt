@@ -1,16 +1,16 @@
-use Rattle.std.proofs.Common.{◌≡◌, ◌∙◌, ℕ, sym, ap, subst, length, get_or, arith, rules, Err}
+use Rattle.std.proofs.Common.{◌≡◌, ℕ, sym, ap, subst, length, get_or, arith, rules}
 use Rattle.std.proofs.lemmas.Result.{IfOk-weaker}
 use Rattle.dlk_tree.specs.Trees.{size}
 use Rattle.dlk_store.specs.Stores.{tree, kid_trees}
 use Rattle.dlk_store.specs.declared.Id.{Id}
-use Rattle.dlk_store.proofs.Kids.{kid_smaller, node_fits, kid_trees-kept}
+use Rattle.dlk_store.proofs.Kids.{kid_smaller, node_fits}
 use Rattle.dlk_calculus.specs.Plug.{Plug}
 use Rattle.dlk_calculus.proofs.Sorts.{AreTerms}
 use Rattle.dlk_subst.specs.Results.{Holds, args_at}
 use Rattle.dlk_subst.specs.declared.fault.ApplyFault.TheVariants.{NotAdmissible}
 use Rattle.dlk_subst.proofs.Growth.{known_kept}
 use Rattle.dlk_subst.proofs.Arguments.{args_kept}
-use Rattle.dlk_subst.proofs.Related.{fault_of, Related, Related-more}
+use Rattle.dlk_subst.proofs.Related.{handed_on, slice_kept, Related, Related-more}
 use Rattle.dlk_subst.proofs.Plugged.{all_plugged, plugged_fits, kid_no_plug, node_plug, node_no_plug}
 use Rattle.dlk_subst.proofs.plug.+plug.Goals as goal
 
@@ -36,9 +36,8 @@ returns-in_err-made-clause-none g t c e =
     let kept = c.loop-kid.invariant.related.kept in
     let known = c.loop-kid.invariant.known i d c.loop-kid-test.true in
     let args = args_kept kept c.args.args.now c.requires.args in
-    let gave = fault_of (λ f. f ≡ c.in_err-made.field-0.0) c.from_residual-in_err-made.result NotAdmissible e c.from_residual-in_err-made.ensures.1 in
-    let failed : c.plug.result ≡ Err NotAdmissible = c.in_err-made.was ∙ ap Err (sym gave) in
-    kid_no_plug (args_at before c.args.args.now) before ks i d c.loop-kid-test.true args (kept.same (get_or ks i d) known) c.loop-kid.invariant.node_is (c.plug.ensures.none failed)
+    let failed = handed_on c.plug.result c.from_residual-in_err-made.result c.in_err-made.field-0.0 NotAdmissible c.in_err-made.was c.from_residual-in_err-made.ensures.1 e in
+    kid_no_plug (args_at before c.args.args.now) (args_at (g.S.Store.trees c.loop-kid.store) c.args.args.now) (tree before c.args.id) (tree (g.S.Store.trees c.loop-kid.store) (get_or ks i d)) before ks i d c.loop-kid-test.true args (kept.same (get_or ks i d) known) c.loop-kid.invariant.node_is (c.plug.ensures.none failed)
 
 pub returns-in_err-made-clause-grows : goal.returns-in_err-made-clause-grows
 returns-in_err-made-clause-grows g t c = g.met.S.Store.grows_trans c.args.store.now c.loop-kid.store c.plug.new.store c.loop-kid.invariant.grows c.plug.ensures.grows
@@ -86,9 +85,9 @@ returns-clause-ok g t c =
     let at : c.loop-kid.kid-index ≡ length ks = omega arith in
     let related = subst (λ (n : ℕ). Related (Plug args) before now ks c.loop-kid.new.items n) at c.loop-kid.invariant.related in
     let all = all_plugged args before now ks c.loop-kid.new.items related in
-    let olds = ap (kid_trees now) (c.as_slice.ensures.value ∙ sym c.deref-kid-items.ensures.value) ∙ kid_trees-kept related.kept ks c.loop-kid.invariant.known in
+    let olds = slice_kept related.kept c.as_slice.result.now _ ks c.as_slice.ensures.value c.deref-kid-items.ensures.value c.loop-kid.invariant.known in
     let news = ap (kid_trees now) c.as_slice-2.ensures.value in
-    IfOk-weaker c.plug_at.result _ _ (λ made h. node_plug args (args_kept related.kept c.args.args.now c.requires.args) olds news c.loop-kid.invariant.node_is all (g.S.Store.trees c.plug_at.new.store) made h) c.plug_at.ensures.ok
+    IfOk-weaker c.plug_at.result _ _ (λ made h. node_plug args (args_at now c.args.args.now) (kid_trees before ks) (kid_trees now c.as_slice.result.now) (kid_trees now c.loop-kid.new.items) (kid_trees now c.as_slice-2.result.now) (tree before c.args.id) (args_kept related.kept c.args.args.now c.requires.args) olds news c.loop-kid.invariant.node_is all (g.S.Store.trees c.plug_at.new.store) made h) c.plug_at.ensures.ok
 
 pub returns-clause-none : goal.returns-clause-none
 returns-clause-none g t c e =
@@ -99,6 +98,6 @@ returns-clause-none g t c e =
     let at : c.loop-kid.kid-index ≡ length ks = omega arith in
     let related = subst (λ (n : ℕ). Related (Plug args) before now ks c.loop-kid.new.items n) at c.loop-kid.invariant.related in
     let all = all_plugged args before now ks c.loop-kid.new.items related in
-    let olds = ap (kid_trees now) (c.as_slice.ensures.value ∙ sym c.deref-kid-items.ensures.value) ∙ kid_trees-kept related.kept ks c.loop-kid.invariant.known in
+    let olds = slice_kept related.kept c.as_slice.result.now _ ks c.as_slice.ensures.value c.deref-kid-items.ensures.value c.loop-kid.invariant.known in
     let news = ap (kid_trees now) c.as_slice-2.ensures.value in
-    node_no_plug args (args_kept related.kept c.args.args.now c.requires.args) olds news c.loop-kid.invariant.node_is all (c.plug_at.ensures.none e)
+    node_no_plug args (args_at now c.args.args.now) (kid_trees before ks) (kid_trees now c.as_slice.result.now) (kid_trees now c.loop-kid.new.items) (kid_trees now c.as_slice-2.result.now) (tree before c.args.id) (args_kept related.kept c.args.args.now c.requires.args) olds news c.loop-kid.invariant.node_is all (c.plug_at.ensures.none e)

@@ -1,9 +1,9 @@
-use Rattle.std.proofs.Common.{◌≡◌, ◌∙◌, ℕ, sym, ap, subst, length, get_or, arith, rules, Err}
+use Rattle.std.proofs.Common.{◌≡◌, ℕ, sym, ap, subst, length, get_or, arith, rules}
 use Rattle.std.proofs.lemmas.Result.{IfOk-weaker}
 use Rattle.dlk_tree.specs.Trees.{size}
 use Rattle.dlk_store.specs.Stores.{tree, kid_trees}
 use Rattle.dlk_store.specs.declared.Id.{Id}
-use Rattle.dlk_store.proofs.Kids.{kid_smaller, node_fits, kid_trees-kept}
+use Rattle.dlk_store.proofs.Kids.{kid_smaller, node_fits}
 use Rattle.dlk_calculus.specs.Pairs.{IsWellFormed}
 use Rattle.dlk_calculus.specs.Subst.{Subst}
 use Rattle.dlk_sequent.specs.Substitutions.{pairs_at}
@@ -11,7 +11,7 @@ use Rattle.dlk_sequent.proofs.KeptPairs.{pairs_at-kept}
 use Rattle.dlk_subst.specs.Results.{Holds}
 use Rattle.dlk_subst.specs.declared.fault.ApplyFault.TheVariants.{NotAdmissible}
 use Rattle.dlk_subst.proofs.Growth.{pairs_kept}
-use Rattle.dlk_subst.proofs.Related.{fault_of, Related, Related-more}
+use Rattle.dlk_subst.proofs.Related.{handed_on, slice_kept, Related, Related-more}
 use Rattle.dlk_subst.proofs.Substituted.{all_substituted, substituted_fits, kid_no_subst, node_subst, node_no_subst}
 use Rattle.dlk_subst.proofs.subst.+substitute.Goals as goal
 
@@ -37,9 +37,8 @@ returns-in_err-made-clause-none g t c e =
     let kept = c.loop-kid.invariant.related.kept in
     let known = c.loop-kid.invariant.known i d c.loop-kid-test.true in
     let pairs = pairs_at-kept kept c.args.pairs.now c.requires.pairs in
-    let gave = fault_of (λ f. f ≡ c.in_err-made.field-0.0) c.from_residual-in_err-made.result NotAdmissible e c.from_residual-in_err-made.ensures.1 in
-    let failed : c.substitute.result ≡ Err NotAdmissible = c.in_err-made.was ∙ ap Err (sym gave) in
-    kid_no_subst (pairs_at before c.args.pairs.now) before ks i d c.loop-kid-test.true pairs (kept.same (get_or ks i d) known) c.loop-kid.invariant.node_is (c.substitute.ensures.none failed)
+    let failed = handed_on c.substitute.result c.from_residual-in_err-made.result c.in_err-made.field-0.0 NotAdmissible c.in_err-made.was c.from_residual-in_err-made.ensures.1 e in
+    kid_no_subst (pairs_at before c.args.pairs.now) (pairs_at (g.S.Store.trees c.loop-kid.store) c.args.pairs.now) (tree before c.args.id) (tree (g.S.Store.trees c.loop-kid.store) (get_or ks i d)) before ks i d c.loop-kid-test.true pairs (kept.same (get_or ks i d) known) c.loop-kid.invariant.node_is (c.substitute.ensures.none failed)
 
 pub returns-in_err-made-clause-grows : goal.returns-in_err-made-clause-grows
 returns-in_err-made-clause-grows g t c = g.met.S.Store.grows_trans c.args.store.now c.loop-kid.store c.substitute.new.store c.loop-kid.invariant.grows c.substitute.ensures.grows
@@ -88,10 +87,10 @@ returns-clause-ok g t c =
     let at : c.loop-kid.kid-index ≡ length ks = omega arith in
     let related = subst (λ (n : ℕ). Related (Subst pairs) before now ks c.loop-kid.new.items n) at c.loop-kid.invariant.related in
     let all = all_substituted pairs before now ks c.loop-kid.new.items related in
-    let olds = ap (kid_trees now) (c.as_slice.ensures.value ∙ sym c.deref-kid-items.ensures.value) ∙ kid_trees-kept related.kept ks c.loop-kid.invariant.known in
+    let olds = slice_kept related.kept c.as_slice.result.now _ ks c.as_slice.ensures.value c.deref-kid-items.ensures.value c.loop-kid.invariant.known in
     let news = ap (kid_trees now) c.as_slice-2.ensures.value in
     IfOk-weaker c.subst_at.result _ _
-    (λ made h. node_subst pairs (pairs_at-kept related.kept c.args.pairs.now c.requires.pairs) olds news c.loop-kid.invariant.node_is all (g.S.Store.trees c.subst_at.new.store) made (g.met.S.Store.well_made c.subst_at.new.store) h) c.subst_at.ensures.ok
+    (λ made h. node_subst pairs (pairs_at now c.args.pairs.now) (kid_trees before ks) (kid_trees now c.as_slice.result.now) (kid_trees now c.loop-kid.new.items) (kid_trees now c.as_slice-2.result.now) (tree before c.args.id) (pairs_at-kept related.kept c.args.pairs.now c.requires.pairs) olds news c.loop-kid.invariant.node_is all (g.S.Store.trees c.subst_at.new.store) made (g.met.S.Store.well_made c.subst_at.new.store) h) c.subst_at.ensures.ok
 
 pub returns-clause-none : goal.returns-clause-none
 returns-clause-none g t c e =
@@ -102,6 +101,6 @@ returns-clause-none g t c e =
     let at : c.loop-kid.kid-index ≡ length ks = omega arith in
     let related = subst (λ (n : ℕ). Related (Subst pairs) before now ks c.loop-kid.new.items n) at c.loop-kid.invariant.related in
     let all = all_substituted pairs before now ks c.loop-kid.new.items related in
-    let olds = ap (kid_trees now) (c.as_slice.ensures.value ∙ sym c.deref-kid-items.ensures.value) ∙ kid_trees-kept related.kept ks c.loop-kid.invariant.known in
+    let olds = slice_kept related.kept c.as_slice.result.now _ ks c.as_slice.ensures.value c.deref-kid-items.ensures.value c.loop-kid.invariant.known in
     let news = ap (kid_trees now) c.as_slice-2.ensures.value in
-    node_no_subst pairs (pairs_at-kept related.kept c.args.pairs.now c.requires.pairs) olds news c.loop-kid.invariant.node_is all (c.subst_at.ensures.none e)
+    node_no_subst pairs (pairs_at now c.args.pairs.now) (kid_trees before ks) (kid_trees now c.as_slice.result.now) (kid_trees now c.loop-kid.new.items) (kid_trees now c.as_slice-2.result.now) (tree before c.args.id) (pairs_at-kept related.kept c.args.pairs.now c.requires.pairs) olds news c.loop-kid.invariant.node_is all (c.subst_at.ensures.none e)

@@ -1,9 +1,8 @@
 use Rattle.std.proofs.Common.{refl}
-use Rattle.std.proofs.lemmas.Result.{IfOk-weaker}
 use Rattle.dlk_tree.specs.Trees.{WellMade}
 use Rattle.dlk_store.specs.Stores.{kid_trees}
 use Rattle.dlk_subst.specs.declared.pairs.Role.TheVariants.{Gives, Plugs, Fills, Stays}
-use Rattle.dlk_subst.proofs.Roles.{role_holds, role_none, no_system, role_known, plugs_arguments, fills_formula}
+use Rattle.dlk_subst.proofs.Roles.{role_holds, role_ok, role_none, no_system, role_known, plugs_arguments, fills_formula}
 use Rattle.dlk_subst.proofs.subst.subst_at.Goals as goal
 
 pub plug-requires : goal.plug-requires
@@ -45,10 +44,9 @@ returns-in-Plugs g c =
     let other = no_system c.args.op.now c.in_default.not-System in
     let old = kid_trees trees c.args.old.now in
     let new = kid_trees trees c.args.new.now in
-    let role = Plugs c.in-Plugs.by in
     record {
-      ok = IfOk-weaker c.plug.result _ _ (λ id h. role_holds trees c.args.pairs.now c.args.op.now old new role other c.in-Plugs.ensures (g.S.Store.trees c.plug.new.store) id (record { result = h.result; is_related = h.is_related; stands = h.stands })) c.plug.ensures.ok;
-      none = λ e. role_none trees c.args.pairs.now c.args.op.now old new role other c.in-Plugs.ensures WellMade (c.plug.ensures.none e);
+      ok = role_ok trees c.args.pairs.now c.args.op.now old new (Plugs c.in-Plugs.by) other c.in-Plugs.ensures (g.S.Store.trees c.plug.new.store) c.plug.result c.plug.ensures.ok;
+      none = λ e. role_none trees c.args.pairs.now c.args.op.now old new (Plugs c.in-Plugs.by) other c.in-Plugs.ensures WellMade (c.plug.ensures.none e);
       grows = c.plug.ensures.grows;
     }
 
@@ -58,10 +56,9 @@ returns-in-Fills g c =
     let other = no_system c.args.op.now c.in_default.not-System in
     let old = kid_trees trees c.args.old.now in
     let new = kid_trees trees c.args.new.now in
-    let role = Fills c.in-Fills.by in
     record {
-      ok = IfOk-weaker c.fill_admissible.result _ _ (λ id h. role_holds trees c.args.pairs.now c.args.op.now old new role other c.in-Fills.ensures (g.S.Store.trees c.fill_admissible.new.store) id (record { result = h.result; is_related = h.is_related; stands = h.stands })) c.fill_admissible.ensures.ok;
-      none = λ e. role_none trees c.args.pairs.now c.args.op.now old new role other c.in-Fills.ensures WellMade (c.fill_admissible.ensures.none e);
+      ok = role_ok trees c.args.pairs.now c.args.op.now old new (Fills c.in-Fills.by) other c.in-Fills.ensures (g.S.Store.trees c.fill_admissible.new.store) c.fill_admissible.result c.fill_admissible.ensures.ok;
+      none = λ e. role_none trees c.args.pairs.now c.args.op.now old new (Fills c.in-Fills.by) other c.in-Fills.ensures WellMade (c.fill_admissible.ensures.none e);
       grows = c.fill_admissible.ensures.grows;
     }
 
@@ -72,7 +69,7 @@ returns-in-Stays g c =
     let old = kid_trees trees c.args.old.now in
     let new = kid_trees trees c.args.new.now in
     record {
-      ok = IfOk-weaker c.keep_admissible.result _ _ (λ id h. role_holds trees c.args.pairs.now c.args.op.now old new Stays other c.in-Stays.ensures (g.S.Store.trees c.keep_admissible.new.store) id (record { result = h.result; is_related = h.is_related; stands = h.stands })) c.keep_admissible.ensures.ok;
+      ok = role_ok trees c.args.pairs.now c.args.op.now old new Stays other c.in-Stays.ensures (g.S.Store.trees c.keep_admissible.new.store) c.keep_admissible.result c.keep_admissible.ensures.ok;
       none = λ e. role_none trees c.args.pairs.now c.args.op.now old new Stays other c.in-Stays.ensures WellMade (c.keep_admissible.ensures.none e);
       grows = c.keep_admissible.ensures.grows;
     }
