@@ -6,6 +6,7 @@ pub mod FirstTokens
 pub mod Within
 pub mod Reports
 pub mod SaidLaws
+pub mod SaidPairs
 mod Tops
 mod Agree
 mod Reducing
@@ -13,6 +14,9 @@ mod OperandSteps
 mod ItemSteps
 mod HolderSteps
 mod Steps
+mod Commas
 mod SideSteps
+mod PairSteps
 mod ReadingSteps
+mod PairReading
 mod Stopped

@@ -55,16 +55,16 @@ tree_ends form.Program k new p r e o x h = o Program x h
 tree_ends form.Expression k new p r e o x h = e x h
 
 -- a machine goes on by a lexeme, or stops at it
-parse_on : {X P : Type 0} (d : Dots) (m : Machine X P) (x y : X) (n i : ℕ) (k : Lexeme) (s : List Lexeme) (r : Result P ℕ) → parse_from d m x n (k ∷ s) ≡ r → when (permits d k) (m.step x k) ≡ Some y → i ≡ n + 1 → parse_from d m y i s ≡ r
+pub parse_on : {X P : Type 0} (d : Dots) (m : Machine X P) (x y : X) (n i : ℕ) (k : Lexeme) (s : List Lexeme) (r : Result P ℕ) → parse_from d m x n (k ∷ s) ≡ r → when (permits d k) (m.step x k) ≡ Some y → i ≡ n + 1 → parse_from d m y i s ≡ r
 parse_on {X} {P} d m x y n i k s r e h c = rw c (sym (ap (λ (o : Option X). or_else {B = Result P ℕ} o (Err n) (λ z. parse_from d m z (n + 1) s)) h) ∙ e)
 
-parse_stops : {X P : Type 0} (d : Dots) (m : Machine X P) (x : X) (n : ℕ) (k : Lexeme) (s : List Lexeme) (r : Result P ℕ) → parse_from d m x n (k ∷ s) ≡ r → when (permits d k) (m.step x k) ≡ None → r ≡ Err n
+pub parse_stops : {X P : Type 0} (d : Dots) (m : Machine X P) (x : X) (n : ℕ) (k : Lexeme) (s : List Lexeme) (r : Result P ℕ) → parse_from d m x n (k ∷ s) ≡ r → when (permits d k) (m.step x k) ≡ None → r ≡ Err n
 parse_stops {X} {P} d m x n k s r e h = sym e ∙ ap (λ (o : Option X). or_else {B = Result P ℕ} o (Err n) (λ z. parse_from d m z (n + 1) s)) h
 
-parse_ends : {X P : Type 0} (d : Dots) (m : Machine X P) (x : X) (n : ℕ) (o : Option P) (r : Result P ℕ) → parse_from d m x n [] ≡ r → m.ended x ≡ o → r ≡ or_else {B = Result P ℕ} o (Err n) (λ t. Ok t)
+pub parse_ends : {X P : Type 0} (d : Dots) (m : Machine X P) (x : X) (n : ℕ) (o : Option P) (r : Result P ℕ) → parse_from d m x n [] ≡ r → m.ended x ≡ o → r ≡ or_else {B = Result P ℕ} o (Err n) (λ t. Ok t)
 parse_ends {X} {P} d m x n o r e h = sym e ∙ ap (λ (o : Option P). or_else {B = Result P ℕ} o (Err n) (λ t. Ok t)) h
 
-none_from : {X Y : Type 0} (s : X → Y → Type 0) (o : Option Y) → Agrees s (Err fault.Syntax) o → o ≡ None
+pub none_from : {X Y : Type 0} (s : X → Y → Type 0) (o : Option Y) → Agrees s (Err fault.Syntax) o → o ≡ None
 none_from s (Some y) a = absurd a
 none_from s None a = refl
 

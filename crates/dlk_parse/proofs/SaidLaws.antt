@@ -36,7 +36,7 @@ use Rattle.dlk_parse.proofs.PhraseParts.{count_is, erase_all_is}
 use Rattle.dlk_parse.proofs.Reports.{beyond, faultless}
 
 -- the least of numbers below a bound
-least_among : (m place : ℕ) (ns : List ℕ) → Each (λ n. n < m) ns → lowest ns ≡ Some place → place < m
+pub least_among : (m place : ℕ) (ns : List ℕ) → Each (λ n. n < m) ns → lowest ns ≡ Some place → place < m
 least_among m place [] h e = absurd cc
 least_among m place (n ∷ ns) h e = subst (λ k. k < m) (same_Some (fold min n ns) place e) (least_below m n ns h.0 h.1)
 
@@ -106,7 +106,7 @@ sort_read form f as_form d tokens t real a =
     sym (ap sort a.value_is) ∙ (formed (as_form (lexemes tokens) a.phrase a.says.reads) (lexemes_real 0 tokens real.real) (tree_not_ill form d tokens t a)).sort_is
 
 -- the formulas of both sides
-All-from_map : {A B : Type 0} (P : B → Type 0) (f : A → B) (xs : List A) → All P (map f xs) → All (λ x. P (f x)) xs
+pub All-from_map : {A B : Type 0} (P : B → Type 0) (f : A → B) (xs : List A) → All P (map f xs) → All (λ x. P (f x)) xs
 All-from_map P f [] h = All-nil (λ x. P (f x))
 All-from_map P f (x ∷ xs) h = All-cons (λ x. P (f x)) x xs (All-head P (f x) (map f xs) h) (All-from_map P f xs (All-tail P (f x) (map f xs) h))
 

@@ -9,4 +9,6 @@ pub mod Limits
 pub mod Said
 pub mod Shows
 pub mod Readers
+pub mod Ends
+pub mod PairReaders
 pub mod Stops

@@ -6,11 +6,23 @@ ghost use Rattle.dlk_machine.proofs.Parse.{or_else};
 ghost use Rattle.dlk_machine.proofs.Expressions.{term_or_formula};
 ghost use Rattle.dlk_tree.specs.declared.op.Sort.TheVariants as sort_of;
 ghost use Rattle.dlk_parse.specs.Shows.{IsWhole, Shows, Agrees, IsLast, Stands};
+ghost use Rattle.dlk_parse.specs.Ends.{either_sort, at_comma, IsEither, ShowsComma};
 
+use crate::lexeme::Lexeme;
 use crate::parts::{Last, Mode};
 use crate::stack::{Stack, settle};
 use crate::stop::StepFault;
 use dlk_tree::Sort;
+use std::alloc::Global;
+
+/// What a comma makes of what is read.
+#[derive(Drop)]
+pub(crate) enum Comma {
+    /// Nothing is open, and what was read last stands before the comma.
+    Ends(Last),
+    /// Where the reader stands behind a comma that is inside.
+    GoesOn(Mode),
+}
 
 impl Stack {
     /// The tree, where nothing is open any more.
@@ -48,11 +60,47 @@ impl Stack {
         let sort = either_sort(&last);
         self.settle_whole(sort, last)
     }
+
+    /// What was read last as a formula where it can be one, and else as a term, where nothing is open any more: its sort.
+    pub(crate) fn settle_either(&mut self, last: Last) -> Result<Sort, StepFault>
+        ensures { (S : List MachinePart) (p : Piece) → Stands self.old last S p
+            → Agrees (IsEither self.new p) result (whole (either_sort p) S p) }
+    {
+        let sort = either_sort(&last);
+        self.settle_whole(sort, last)?;
+        Ok(sort)
+    }
+
+    /// A comma behind what is read, or in it.
+    pub(crate) fn at_comma(
+        &mut self,
+        alloc: Global,
+        goal: Sort,
+        mode: Mode,
+    ) -> Result<Comma, StepFault>
+        ensures { (x : State) → Shows self.old mode x
+            → Agrees (ShowsComma self.new) result (at_comma goal x) }
+    {
+        let last = match mode {
+            Mode::Has(last) => last,
+            mode => {
+                let mode = self.step(alloc, goal, mode, Lexeme::Comma)?;
+                return Ok(Comma::GoesOn(mode));
+            }
+        };
+        let last = self.reduce(0, last)?;
+        if self.parts.is_empty() {
+            return Ok(Comma::Ends(last));
+        }
+        let mode = self.step(alloc, goal, Mode::Has(last), Lexeme::Comma)?;
+        Ok(Comma::GoesOn(mode))
+    }
 }
 
 /// A formula where it can be one, and else a term.
 fn either_sort(last: &Last) -> Sort
-    ensures { (p : Piece) → IsLast last.now p
+    ensures sort { (p : Piece) → IsLast last.now p → result ≡ either_sort p }
+    ensures either { (p : Piece) → IsLast last.now p
         → as_sort result p ≡ or_else {A = Phrase} (as_sort sort_of.Formula p) (as_sort sort_of.Term p) (λ t. Some t) }
 {
     match last {

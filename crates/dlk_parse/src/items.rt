@@ -30,7 +30,7 @@ pub(crate) fn add_item(equations: Equations, item: OdeItem) -> Result<Equations,
 }
 
 /// An ODE constant more, and the variable on which it does not depend.
-fn add_constant(
+pub(crate) fn add_constant(
     equations: Equations,
     name: Name,
     taboo: Option<Name>,

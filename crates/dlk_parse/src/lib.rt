@@ -1,4 +1,4 @@
-//! Reads terms, formulas, programs and sequents into a store.
+//! Reads terms, formulas, programs, sequents and substitutions into a store.
 #![tactic(auto)]
 
 mod closing;
@@ -12,6 +12,10 @@ mod limits;
 mod making;
 mod measures;
 mod operands;
+mod pair_heads;
+mod pair_items;
+mod pair_reading;
+mod pairs;
 mod parts;
 mod readers;
 mod reading;
@@ -26,8 +30,8 @@ mod texts;
 
 pub use dlk_grammar::{Dots, Form};
 pub use fault::{ParseFault, TextFault};
-pub use readers::{expression, formula, program, sequent, term};
-pub use texts::{read_expression, read_formula, read_sequent};
+pub use readers::{expression, formula, program, sequent, substitution, term};
+pub use texts::{read_expression, read_formula, read_sequent, read_substitution};
 
 #[cfg(test)]
 mod tests;

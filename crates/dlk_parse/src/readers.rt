@@ -1,5 +1,5 @@
-//! Terms, formulas, programs, expressions and sequents of tokens.
-ghost use Rattle.std.specs.Prelude.{◌≡◌, IfOk, IfErr};
+//! Terms, formulas, programs, expressions, sequents and substitutions of tokens.
+ghost use Rattle.std.specs.Prelude.{◌≡◌, IfOk, IfErr, OnOk, length, map};
 ghost use Rattle.dlk_tree.specs.Trees.{sort};
 ghost use Rattle.dlk_tree.specs.declared.op.Sort.TheVariants as sort_of;
 ghost use Rattle.dlk_calculus.specs.Sequents.{IsSequent};
@@ -8,20 +8,25 @@ ghost use Rattle.dlk_grammar.specs.declared.token.Dots.TheVariants.{Refused};
 ghost use Rattle.dlk_grammar.specs.Grammar.{ReadsSequent};
 ghost use Rattle.dlk_grammar.specs.RealTokens.{AreTokens};
 ghost use Rattle.dlk_grammar.specs.Readings.{grammar, itself, both_sides, IsTree, IsTreeFault, IsSequentOf, IsSequentFault};
+ghost use Rattle.dlk_grammar.specs.Substitutions.{ArePairs, ArePairsFault};
 ghost use Rattle.dlk_store.specs.Stores.{IsId, tree};
 ghost use Rattle.dlk_sequent.specs.Sequents.{sequent_at, IsKnown};
+ghost use Rattle.dlk_sequent.specs.Substitutions.{pairs_at, AreKnownPairs};
 ghost use Rattle.dlk_parse.specs.Faults.{IsFaultOf, UnlessMemory};
+ghost use Rattle.dlk_parse.specs.PairReaders.{AreReadPairs};
 ghost use Rattle.dlk_parse.specs.Said.{IsReadCode, AreReadSides};
 
 use crate::code::Code;
 use crate::fault::ParseFault;
 use crate::limits::{check_code, check_tokens};
 use crate::making::make_all;
-use crate::said::{SaidSides, said_sides, said_tree};
+use crate::pairs::PairsCode;
+use crate::said::{SaidSides, said_pairs, said_sides, said_tree};
 use dlk_grammar::{Dots, Form, Token};
-use dlk_sequent::{Listed, Sequent};
+use dlk_sequent::{Listed, Pair, Sequent};
 use dlk_store::{Id, Store};
-use std::alloc::Global;
+use dlk_tree::Sym;
+use std::alloc::{AllocError, Global};
 
 /// The code of the tree that the tokens are a text of.
 fn tree_code(
@@ -48,6 +53,17 @@ fn sides_code(alloc: Global, tokens: &[Token]) -> Result<SaidSides, ParseFault>
     let sides = said_sides(alloc, tokens)?;
     check_code(alloc, tokens, sides.code.as_slice())?;
     Ok(sides)
+}
+
+/// The code of the pairs of the substitution that the tokens are a text of.
+fn pairs_code(alloc: Global, tokens: &[Token]) -> Result<PairsCode, ParseFault>
+    ensures read { IfOk result (AreReadPairs tokens.now) }
+    ensures fault { IfErr result (IsFaultOf (ArePairsFault tokens.now)) }
+{
+    check_tokens(tokens)?;
+    let pairs = said_pairs(alloc, tokens)?;
+    check_code(alloc, tokens, pairs.code.as_slice())?;
+    Ok(pairs)
 }
 
 /// The tree that the tokens are a text of.
@@ -173,4 +189,39 @@ pub fn sequent<S: Store>(
         ante: Listed::from_vec(ante),
         succ: Listed::from_vec(succ),
     })
+}
+
+/// The pairs of these symbols and replacements, in order.
+fn pairs(alloc: Global, symbols: Vec<Sym>, ids: &[Id]) -> Result<Vec<Pair>, AllocError>
+    requires { length symbols.items ≡ length ids.now }
+    ensures symbols { IfOk result (λ pairs. map (λ p. p.sym) pairs.items ≡ symbols.items) }
+    ensures ids { IfOk result (λ pairs. map (λ p. p.by) pairs.items ≡ ids.now) }
+{
+    let mut pairs = Vec::new(alloc);
+    for sym in symbols {
+        let by = ids[pairs.len()];
+        pairs.push(Pair { sym, by })?;
+    }
+    Ok(pairs)
+}
+
+/// The pairs of the substitution that the tokens are a text of: pairs joined by `,`, or nothing. Argument dots and `_` are
+/// in the grammar. The tokens and the errors are those of `formula`; the size and the depth are those of the first
+/// replacement, from left to right, that is beyond the limit. Nothing says that the pairs are well formed: `Subst::new` does.
+pub fn substitution<S: Store>(
+    alloc: Global,
+    tokens: &[Token],
+    store: &mut S,
+) -> Result<Vec<Pair>, ParseFault>
+    requires { AreTokens tokens.now }
+    ensures found { IfOk result (λ pairs. ArePairs tokens.now (pairs_at (S.trees store.new) pairs.items)) }
+    ensures known { IfOk result (λ pairs. AreKnownPairs (S.trees store.new) pairs.items) }
+    ensures fault { IfErr result (IsFaultOf (ArePairsFault tokens.now)) }
+    ensures unmade { IfErr result (UnlessMemory (store.new ≡ store.old)) }
+    ensures grows { S.grows store.old store.new }
+{
+    let PairsCode { symbols, code } = pairs_code(alloc, tokens)?;
+    let ids = make_all(alloc, code, store)?;
+    let pairs = pairs(alloc, symbols, ids.as_slice())?;
+    Ok(pairs)
 }

@@ -53,7 +53,7 @@ fn permits(dots: Dots, lexeme: &Lexeme) -> bool
 }
 
 /// A fault of a lexeme behind so many others, or of the end behind all.
-fn stop(fault: StepFault, place: usize) -> Stop
+pub(crate) fn stop(fault: StepFault, place: usize) -> Stop
     ensures { result ≡ stop_of fault place }
 {
     match fault {

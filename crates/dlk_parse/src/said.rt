@@ -1,13 +1,17 @@
 //! The code of what tokens say.
 ghost use Rattle.std.specs.Prelude.{◌≡◌, ◌+◌, IfOk, IfErr};
-ghost use Rattle.dlk_grammar.specs.declared.token.Dots.TheVariants.{Refused};
+ghost use Rattle.dlk_grammar.specs.declared.token.Dots.TheVariants.{Allowed, Refused};
 ghost use Rattle.dlk_grammar.specs.Grammar.{ReadsSequent};
 ghost use Rattle.dlk_grammar.specs.Readings.{grammar, itself, both_sides};
+ghost use Rattle.dlk_grammar.specs.Substitutions.{ReadsSubstitution};
 ghost use Rattle.dlk_parse.specs.Faults.{IsFaultOf};
+ghost use Rattle.dlk_parse.specs.PairReaders.{SaysPairs};
 ghost use Rattle.dlk_parse.specs.Said.{SaysCode, IsNoText, SaysSides};
 
 use crate::code::Code;
 use crate::fault::ParseFault;
+use crate::pair_reading::read_pairs;
+use crate::pairs::PairsCode;
 use crate::reading::{read_sides, read_tree};
 use crate::sides::SidesCode;
 use dlk_grammar::{Dots, Form, Token};
@@ -41,4 +45,13 @@ pub(crate) fn said_sides(alloc: Global, tokens: &[Token]) -> Result<SaidSides, P
 {
     let SidesCode { left, code, .. } = read_sides(alloc, tokens)?;
     Ok(SaidSides { code, left })
+}
+
+/// The code of the pairs of the substitution that the tokens are a text of.
+pub(crate) fn said_pairs(alloc: Global, tokens: &[Token]) -> Result<PairsCode, ParseFault>
+    ensures says { IfOk result (SaysPairs tokens.now) }
+    ensures fault { IfErr result (IsFaultOf (IsNoText ReadsSubstitution Allowed tokens.now)) }
+{
+    let code = read_pairs(alloc, tokens)?;
+    Ok(code)
 }

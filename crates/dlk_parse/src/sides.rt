@@ -3,11 +3,12 @@ ghost use Rattle.std.specs.Prelude.{Some};
 ghost use Rattle.dlk_grammar.specs.Phrases.{Phrase, Phrases, snoc};
 ghost use Rattle.dlk_machine.proofs.Machine.{State};
 ghost use Rattle.dlk_machine.proofs.Sequents.{Side, SequentState, Reading, sequent_step, sequent_ended, turn, inner};
-ghost use Rattle.dlk_grammar.specs.Lexemes.{Comma, Turnstile};
+ghost use Rattle.dlk_grammar.specs.Lexemes.{Comma as CommaLexeme, Turnstile};
 ghost use Rattle.dlk_parse.specs.Shows.{IsWhole, seen, Agrees};
 ghost use Rattle.dlk_parse.specs.Readers.{ShowsBetween, ShowsReading, ShowsSides, KeepsSide, IsCodeOf, finished, both_of};
 
 use crate::code::Code;
+use crate::ends::Comma;
 use crate::lexeme::Lexeme;
 use crate::parts::Mode;
 use crate::stack::{Stack, one_more};
@@ -71,19 +72,16 @@ impl SidesReader {
     /// A comma behind a formula that is whole, or in one that is not.
     fn step_comma(&mut self, alloc: Global, mode: Mode) -> Result<Option<Mode>, StepFault>
         ensures { (w : Side) (l : Phrases) (x : State) → ShowsReading self.old mode w l x
-            → Agrees (ShowsSides self.new) result (sequent_step (Reading w l x) Comma) }
+            → Agrees (ShowsSides self.new) result (sequent_step (Reading w l x) CommaLexeme) }
     {
-        let last = match mode {
-            Mode::Has(last) => last,
-            mode => return self.step_inner(alloc, mode, Lexeme::Comma),
-        };
-        let last = self.stack.reduce(0, last)?;
-        if !self.stack.parts.is_empty() {
-            return self.step_inner(alloc, Mode::Has(last), Lexeme::Comma);
+        match self.stack.at_comma(alloc, Sort::Formula, mode)? {
+            Comma::GoesOn(mode) => Ok(Some(mode)),
+            Comma::Ends(last) => {
+                self.stack.settle_whole(Sort::Formula, last)?;
+                self.keep()?;
+                Ok(Some(Mode::Wants))
+            }
         }
-        self.stack.settle_whole(Sort::Formula, last)?;
-        self.keep()?;
-        Ok(Some(Mode::Wants))
     }
 
     /// The left side ends.

@@ -1,8 +1,12 @@
-use crate::{ParseFault, TextFault, program, read_expression, read_formula, read_sequent, term};
+use crate::{
+    ParseFault, TextFault, expression, program, read_expression, read_formula, read_sequent,
+    read_substitution, term,
+};
 use dlk_grammar::Dots;
 use dlk_lex::tokens;
 use dlk_plain::PlainStore;
 use dlk_store::Store;
+use dlk_tree::{Kind, Name, Sym};
 use std::test::Fail;
 
 /// The size and the depth of the formula of a text.
@@ -173,5 +177,96 @@ fn reads_a_program(rt: HostRuntime) -> Result<(), Fail> {
         program(rt.alloc(), whole.as_slice(), Dots::Refused, &mut store),
         Err(ParseFault::Syntax)
     );
+    Ok(())
+}
+
+/// How many pairs a substitution has.
+fn pairs_of(rt: &HostRuntime, text: &str) -> Result<usize, TextFault> {
+    let mut store = PlainStore::new(rt.alloc());
+    let pairs = read_substitution(rt.alloc(), text.as_bytes(), &mut store)?;
+    Ok(pairs.len())
+}
+
+#[test]
+fn reads_each_kind_of_pair(rt: HostRuntime) -> Result<(), Fail> {
+    let rows = [
+        ("f(._0,._1)~>._0*._1", Kind::Func, "f", 2, None, "._0*._1"),
+        ("p(._0)~>g(._0)", Kind::Pred, "p", 1, None, "g(._0)"),
+        ("term k()~>h()", Kind::Func, "k", 0, None, "h()"),
+        ("term(||)~>x", Kind::UnitFunc, "term", 0, None, "x"),
+        ("q(|y|)~>x=1", Kind::UnitPred, "q", 0, Some("y"), "x=1"),
+        ("C{_}~>!_", Kind::Quant, "C", 0, None, "!_"),
+        ("a;~>x:=1;b;", Kind::Prog, "a", 0, None, "x:=1;b;"),
+        (
+            "{c}~>{x'=f(1,2),d}",
+            Kind::Ode,
+            "c",
+            0,
+            None,
+            "{x'=f(1,2),d}",
+        ),
+        (
+            "{e{|z|}}~>{y'=1}",
+            Kind::Ode,
+            "e",
+            0,
+            Some("z"),
+            "{y'=1&true}",
+        ),
+    ];
+    let mut text = Vec::new(rt.alloc());
+    for (pair, ..) in rows {
+        if !text.is_empty() {
+            text.extend_from_slice(b", ")?;
+        }
+        text.extend_from_slice(pair.as_bytes())?;
+    }
+    let mut store = PlainStore::new(rt.alloc());
+    let pairs = read_substitution(rt.alloc(), text.as_slice(), &mut store)?;
+    assert_eq!(rt; pairs.len(), rows.len());
+    for (pair, (text, kind, name, arity, taboo, by)) in pairs.iter().zip(rows) {
+        let taboo = match taboo {
+            Some(taboo) => Some(Name::new(rt.alloc(), taboo.as_bytes())?),
+            None => None,
+        };
+        let name = Name::new(rt.alloc(), name.as_bytes())?;
+        let sym = Sym {
+            kind,
+            name,
+            arity,
+            taboo,
+        };
+        assert_eq!(rt; pair.sym, sym, "{text}");
+        let whole = tokens(rt.alloc(), by.as_bytes())?;
+        let read = match kind {
+            Kind::Func => term(rt.alloc(), whole.as_slice(), Dots::Allowed, &mut store)?,
+            _ => expression(rt.alloc(), whole.as_slice(), Dots::Allowed, &mut store)?,
+        };
+        assert!(rt; store.same(pair.by, read), "{text}");
+    }
+    Ok(())
+}
+
+#[test]
+fn reads_substitutions(rt: HostRuntime) -> Result<(), Fail> {
+    let unread = |why: ParseFault| Err(TextFault::Unread(why));
+    let rows = [
+        ("", Ok(0)),
+        ("f()~>1,f()~>x:=1;", unread(ParseFault::Syntax)),
+        ("f()~>1,", unread(ParseFault::Syntax)),
+        ("term p()~>true", unread(ParseFault::Syntax)),
+        ("f(._1)~>1", unread(ParseFault::Syntax)),
+        ("f(._0,._2)~>1", unread(ParseFault::Syntax)),
+        ("{c}~>{x'=1&true}", unread(ParseFault::Syntax)),
+        ("{c}~>d;", unread(ParseFault::Syntax)),
+        ("C{_}~>x", unread(ParseFault::Syntax)),
+        (
+            "f()~>1,{c}~>{x'=1,x'=2}",
+            unread(ParseFault::Shape { at: 12 }),
+        ),
+    ];
+    for (text, want) in rows {
+        assert_eq!(rt; pairs_of(&rt, text), want, "{text}");
+    }
     Ok(())
 }

@@ -1,19 +1,20 @@
-//! Formulas, expressions and sequents of bytes.
+//! Formulas, expressions, sequents and substitutions of bytes.
 ghost use Rattle.std.specs.Prelude.{◌≡◌, IfOk, IfErr};
 ghost use Rattle.dlk_tree.specs.Trees.{Tree};
 ghost use Rattle.dlk_calculus.specs.Sequents.{IsFormula, IsSequent};
 ghost use Rattle.dlk_grammar.specs.declared.token.Form.TheVariants as form_of;
 ghost use Rattle.dlk_grammar.specs.declared.token.Dots.TheVariants.{Refused};
-ghost use Rattle.dlk_grammar.specs.Texts.{TreeText, SequentText, TreeTextFault, SequentTextFault};
+ghost use Rattle.dlk_grammar.specs.Texts.{TreeText, SequentText, PairsText, TreeTextFault, SequentTextFault, PairsTextFault};
 ghost use Rattle.dlk_store.specs.Stores.{tree, StandsFor};
 ghost use Rattle.dlk_sequent.specs.Sequents.{sequent_at, IsKnown};
+ghost use Rattle.dlk_sequent.specs.Substitutions.{pairs_at, AreKnownPairs};
 ghost use Rattle.dlk_parse.specs.Faults.{IsTextFaultOf, UnlessTextMemory};
 
 use crate::fault::TextFault;
-use crate::readers::{expression, formula, sequent};
+use crate::readers::{expression, formula, sequent, substitution};
 use dlk_grammar::Dots;
 use dlk_lex::tokens;
-use dlk_sequent::Sequent;
+use dlk_sequent::{Pair, Sequent};
 use dlk_store::{Id, Store};
 use std::alloc::Global;
 
@@ -70,4 +71,23 @@ pub fn read_sequent<S: Store>(
     let tokens = tokens(alloc, bytes)?;
     let sequent = sequent(alloc, tokens.as_slice(), store)?;
     Ok(sequent)
+}
+
+/// The pairs of the substitution that the bytes are a text of: pairs joined by `,`, or nothing. Argument dots and `_` are in
+/// the grammar. The errors are those of `read_formula`, with those of `substitution` in `Unread`. Nothing says that the pairs
+/// are well formed.
+pub fn read_substitution<S: Store>(
+    alloc: Global,
+    bytes: &[u8],
+    store: &mut S,
+) -> Result<Vec<Pair>, TextFault>
+    ensures found { IfOk result (λ pairs. PairsText bytes.now (pairs_at (S.trees store.new) pairs.items)) }
+    ensures known { IfOk result (λ pairs. AreKnownPairs (S.trees store.new) pairs.items) }
+    ensures fault { IfErr result (IsTextFaultOf (PairsTextFault bytes.now)) }
+    ensures unmade { IfErr result (UnlessTextMemory (store.new ≡ store.old)) }
+    ensures grows { S.grows store.old store.new }
+{
+    let tokens = tokens(alloc, bytes)?;
+    let pairs = substitution(alloc, tokens.as_slice(), store)?;
+    Ok(pairs)
 }

@@ -11,7 +11,7 @@ use Rattle.dlk_store.specs.Stores.{IsId, tree, StandsFor, Keeps}
 use Rattle.dlk_store.proofs.Kids.{kid_trees-kept}
 use Rattle.dlk_calculus.specs.Captures.{AreApart}
 use Rattle.dlk_calculus.specs.Plug.{IsClear}
-use Rattle.dlk_subst.specs.Results.{Holds, HasNone, args_at}
+use Rattle.dlk_subst.specs.Results.{IsResult, HasNone, args_at}
 
 pub args_length : (trees : List Tree) (ids : List Id) → length (args_at trees ids) ≡ length ids
 args_length trees [] = refl
@@ -46,7 +46,7 @@ module _ (trees : List Tree) (set : Var → Bool) (kids : Forest) where
   safe_of ids n d h clear = λ stands. clear.clear n (tree trees (get_or ids n d)) (arg_at trees ids n d h) stands
 
 -- the argument of a dot
-pub arg_holds : (trees : List Tree) (ids : List Id) (n i : ℕ) (id d : Id) → i ≡ n → i < length ids → id ≡ get_or ids i d → All (IsId trees) ids → Holds (λ t. slice_get (args_at trees ids) n ≡ Some t) trees id
+pub arg_holds : (trees : List Tree) (ids : List Id) (n i : ℕ) (id d : Id) → i ≡ n → i < length ids → id ≡ get_or ids i d → All (IsId trees) ids → IsResult (λ t. slice_get (args_at trees ids) n ≡ Some t) trees id
 arg_holds trees ids n i id d e h is all = record {
   result = tree trees (get_or ids n d);
   is_related = arg_at trees ids n d (omega (arith, e));

@@ -9,7 +9,7 @@ use Rattle.dlk_store.proofs.Kids.{sorts-kid_trees}
 use Rattle.dlk_calculus.specs.Plug.{Plug, PlugAll, PlugAt}
 use Rattle.dlk_calculus.proofs.OneResult.{one_plug_all}
 use Rattle.dlk_calculus.proofs.Sorts.{AreTerms, plug_sorts}
-use Rattle.dlk_subst.specs.Results.{Holds, HasNone}
+use Rattle.dlk_subst.specs.Results.{IsResult, HasNone}
 use Rattle.dlk_subst.proofs.Related.{Related}
 
 module _ (args : List Tree) where
@@ -44,8 +44,8 @@ module _ (args : List Tree) where
     row_is : (t : Tree) → PlugAt args' op old' new' t ≡ PlugAt args op old new t
     row_is t = λ i. PlugAt (a i) op (o i) (n i) t
 
-    pub node_plug : (trees : List Tree) (id : Id) → Holds (PlugAt args' op old' new') trees id → Holds (Plug args u) trees id
-    node_plug trees id h = subst (λ w. Holds (Plug args w) trees id) (sym e) (record {
+    pub node_plug : (trees : List Tree) (id : Id) → IsResult (PlugAt args' op old' new') trees id → IsResult (Plug args u) trees id
+    node_plug trees id h = subst (λ w. IsResult (Plug args w) trees id) (sym e) (record {
       result = h.result;
       is_related = (new, all, subst (λ X. X) (row_is h.result) h.is_related);
       stands = h.stands;

@@ -9,7 +9,7 @@ use Rattle.dlk_tree.specs.Trees.{Tree}
 use Rattle.dlk_store.specs.Stores.{IsId, tree, kid_trees, Keeps}
 use Rattle.dlk_store.specs.declared.Id.{Id}
 use Rattle.dlk_store.proofs.Kids.{Keeps-refl, Keeps-trans, kid_trees-kept}
-use Rattle.dlk_subst.specs.Results.{Holds}
+use Rattle.dlk_subst.specs.Results.{IsResult}
 
 -- a fault that was handed on is that of the call
 pub handed_on : {A B E : Type 0} (call : Result A E) (answer : Result B E) (f n : E) → call ≡ Err f → IsErrAnd answer (λ e. e ≡ f) → answer ≡ Err n → call ≡ Err n
@@ -20,7 +20,7 @@ pub slice_kept : {before now : List Tree} → Keeps before now → (slice items 
 slice_kept {before} {now} kept slice items ks e h known = ap (kid_trees now) (e ∙ sym h) ∙ kid_trees-kept kept ks known
 
 -- the tree of an id of which this holds
-pub holds_tree : {R : Tree → Type 0} {trees : List Tree} {id : Id} → Holds R trees id → R (tree trees id)
+pub holds_tree : {R : Tree → Type 0} {trees : List Tree} {id : Id} → IsResult R trees id → R (tree trees id)
 holds_tree {R} h = subst R (sym h.stands.tree_is) h.is_related
 
 -- the first n of ks are related to js
@@ -34,7 +34,7 @@ pub Related-none : (R : Tree → Tree → Type 0) (old : List Tree) (ks : List I
 Related-none R old ks = record { kept = Keeps-refl old; long = refl; known = λ i d h. absurd (omega arith); done = λ i d h. absurd (omega arith) }
 
 -- one more
-pub Related-more : (R : Tree → Tree → Type 0) (old now next : List Tree) (ks js : List Id) (n : ℕ) (d r : Id) → Related R old now ks js n → n < length ks → Keeps now next → Holds (R (tree old (get_or ks n d))) next r → Related R old next ks (js ++ r ∷ []) (n + 1)
+pub Related-more : (R : Tree → Tree → Type 0) (old now next : List Tree) (ks js : List Id) (n : ℕ) (d r : Id) → Related R old now ks js n → n < length ks → Keeps now next → IsResult (R (tree old (get_or ks n d))) next r → Related R old next ks (js ++ r ∷ []) (n + 1)
 Related-more R old now next ks js n d r m h p s = record {
   kept = Keeps-trans m.kept p;
   long = omega (arith, m.long, length-append js (r ∷ []));

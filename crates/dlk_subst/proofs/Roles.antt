@@ -26,7 +26,7 @@ use Rattle.dlk_sequent.specs.declared.subst.Pair.{Pair}
 use Rattle.dlk_sequent.specs.Substitutions.{pairs_at, AreKnownPairs}
 use Rattle.dlk_subst.specs.declared.pairs.Role.{Role}
 use Rattle.dlk_subst.specs.declared.pairs.Role.TheVariants as Role'
-use Rattle.dlk_subst.specs.Results.{Holds, HasNone, args_at}
+use Rattle.dlk_subst.specs.Results.{IsResult, HasNone, args_at}
 use Rattle.dlk_subst.specs.Roles.{found, or_stays, role_of, RoleRow}
 use Rattle.dlk_subst.proofs.Found.{tree_of, found_tree, found_known}
 
@@ -80,14 +80,14 @@ module _ (trees : List Tree) (pairs : List Pair) (old new : Forest) (t : Tree) w
   row_role _ e h = h
 
 module _ (trees : List Tree) (pairs : List Pair) (op : Op) (old new : Forest) (role : Role) (other : is_system op ≡ false) (is : role ≡ role_of pairs op) where
-  pub role_holds : (now : List Tree) (id : Id) → Holds (RoleRow trees pairs op old new role) now id → Holds (SubstAt (pairs_at trees pairs) op old new) now id
+  pub role_holds : (now : List Tree) (id : Id) → IsResult (RoleRow trees pairs op old new role) now id → IsResult (SubstAt (pairs_at trees pairs) op old new) now id
   role_holds now id h = record {
     result = h.result;
     is_related = role_row trees pairs old new h.result op other (subst (λ r. RoleRow trees pairs op old new r h.result) is h.is_related);
     stands = h.stands;
   }
 
-  pub role_ok : {E : Type 0} (now : List Tree) (result : Result Id E) → IfOk result (Holds (RoleRow trees pairs op old new role) now) → IfOk result (Holds (SubstAt (pairs_at trees pairs) op old new) now)
+  pub role_ok : {E : Type 0} (now : List Tree) (result : Result Id E) → IfOk result (IsResult (RoleRow trees pairs op old new role) now) → IfOk result (IsResult (SubstAt (pairs_at trees pairs) op old new) now)
   role_ok now (Err e) ok = tt
   role_ok now (Ok id) ok = role_holds now id ok
 

@@ -12,7 +12,7 @@ use Rattle.dlk_calculus.specs.Pairs.{Pair, IsWellFormed}
 use Rattle.dlk_calculus.specs.Subst.{Subst, SubstAll, SubstAt}
 use Rattle.dlk_calculus.proofs.OneResult.{one_subst_all}
 use Rattle.dlk_calculus.proofs.Sorts.{subst_sorts}
-use Rattle.dlk_subst.specs.Results.{Holds, HasNone}
+use Rattle.dlk_subst.specs.Results.{IsResult, HasNone}
 use Rattle.dlk_subst.proofs.Related.{Related}
 
 -- what a store's id stands for is well made
@@ -56,8 +56,8 @@ module _ (pairs : List Pair) where
     row_is : (t : Tree) → SubstAt pairs' op old' new' t ≡ SubstAt pairs op old new t
     row_is t = λ i. SubstAt (a i) op (o i) (n i) t
 
-    pub node_subst : (trees : List Tree) (id : Id) → All WellMade trees → Holds (SubstAt pairs' op old' new') trees id → Holds (Subst pairs u) trees id
-    node_subst trees id made h = subst (λ w. Holds (Subst pairs w) trees id) (sym e) (record {
+    pub node_subst : (trees : List Tree) (id : Id) → All WellMade trees → IsResult (SubstAt pairs' op old' new') trees id → IsResult (Subst pairs u) trees id
+    node_subst trees id made h = subst (λ w. IsResult (Subst pairs w) trees id) (sym e) (record {
       result = h.result;
       is_related = (new, all, subst (λ X. X) (row_is h.result) h.is_related, stands_made trees id h.result made h.stands);
       stands = h.stands;

@@ -16,7 +16,7 @@ use Rattle.dlk_calculus.specs.Subst.{IsAdmissible, SubstAt, new_items, new_kids}
 use Rattle.dlk_calculus.proofs.Systems.{system_fits}
 use Rattle.dlk_sequent.specs.declared.subst.Pair.{Pair}
 use Rattle.dlk_sequent.specs.Substitutions.{pair_at, pairs_at, AreKnownPairs}
-use Rattle.dlk_subst.specs.Results.{Holds, HasNone}
+use Rattle.dlk_subst.specs.Results.{IsResult, HasNone}
 
 -- replacements in a store are well made
 pub pairs_made : (trees : List Tree) (pairs : List Pair) → All WellMade trees → AreKnownPairs trees pairs → AreMade (pairs_at trees pairs)
@@ -38,8 +38,8 @@ module _ (trees : List Tree) (pairs : List TreePair) (items others put : List Od
       let after = (system_fits pairs made items (kid_trees trees new) before).1 (subst (λ l. IsTrue (are_items l)) items_are good) in
       subst (Fits (Op'.System others)) (sorts-kid_trees trees slice) (subst (λ X. X) (λ i. Fits (Op'.System (sym items_are i)) (sorts (sym kids_are i))) after)
 
-  pub spliced_ok : {E : Type 0} (now : List Tree) (result : Result Id E) → IfOk result (Holds (Stays (IsAdmissible pairs) (Op'.System others) old (kid_trees trees slice)) now) → IfOk result (Holds (SubstAt pairs (Op'.System items) old (kid_trees trees new)) now)
-  spliced_ok now result ok = subst (λ X. X) (λ i. IfOk result (Holds (Stays (IsAdmissible pairs) (Op'.System (items_are i)) old (kids_are i)) now)) ok
+  pub spliced_ok : {E : Type 0} (now : List Tree) (result : Result Id E) → IfOk result (IsResult (Stays (IsAdmissible pairs) (Op'.System others) old (kid_trees trees slice)) now) → IfOk result (IsResult (SubstAt pairs (Op'.System items) old (kid_trees trees new)) now)
+  spliced_ok now result ok = subst (λ X. X) (λ i. IfOk result (IsResult (Stays (IsAdmissible pairs) (Op'.System (items_are i)) old (kids_are i)) now)) ok
 
   pub spliced_none : HasNone (Stays (IsAdmissible pairs) (Op'.System others) old (kid_trees trees slice)) → HasNone (λ t. SubstAt pairs (Op'.System items) old (kid_trees trees new) t × WellMade t)
   spliced_none none = λ t made. none t (subst (λ X. X) (λ i. Stays (IsAdmissible pairs) (Op'.System (sym items_are i)) old (sym kids_are i) t) made.0)

@@ -5,7 +5,7 @@ use Rattle.dlk_store.specs.Stores.{StandsFor, kid_trees}
 use Rattle.dlk_store.specs.declared.Id.{Id}
 
 -- the id stands for a related tree
-pub record Holds (related : Tree → Type 0) (trees : List Tree) (id : Id) : Type 0 where
+pub record IsResult (related : Tree → Type 0) (trees : List Tree) (id : Id) : Type 0 where
   pub result : Tree
   pub is_related : related result
   pub stands : StandsFor trees id result

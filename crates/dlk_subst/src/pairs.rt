@@ -8,7 +8,7 @@ ghost use Rattle.dlk_calculus.specs.Captures.{AreApart, Stays};
 ghost use Rattle.dlk_calculus.specs.Pairs.{takes_arguments};
 ghost use Rattle.dlk_calculus.specs.Subst.{IsAdmissible};
 ghost use Rattle.dlk_sequent.specs.Substitutions.{pairs_at, AreKnownPairs};
-ghost use Rattle.dlk_subst.specs.Results.{Holds, HasNone};
+ghost use Rattle.dlk_subst.specs.Results.{IsResult, HasNone};
 ghost use Rattle.dlk_subst.specs.Scopes.{scope_set, IsKnownScope};
 ghost use Rattle.dlk_subst.specs.Roles.{found, role_of};
 ghost use Rattle.dlk_subst.specs.declared.fault.ApplyFault.TheVariants.{NotAdmissible};
@@ -117,7 +117,7 @@ pub(crate) fn keep_admissible<S: Store>(
     requires old { All (IsId (S.trees store.old)) old.now }
     requires new { All (IsId (S.trees store.old)) new.now }
     requires fits { Fits op.now (sorts_at (S.trees store.old) new.now) }
-    ensures ok { IfOk result (Holds (Stays (IsAdmissible (pairs_at (S.trees store.old) pairs.now)) op.now (kid_trees (S.trees store.old) old.now) (kid_trees (S.trees store.old) new.now)) (S.trees store.new)) }
+    ensures ok { IfOk result (IsResult (Stays (IsAdmissible (pairs_at (S.trees store.old) pairs.now)) op.now (kid_trees (S.trees store.old) old.now) (kid_trees (S.trees store.old) new.now)) (S.trees store.new)) }
     ensures none { result ≡ Err NotAdmissible → HasNone (Stays (IsAdmissible (pairs_at (S.trees store.old) pairs.now)) op.now (kid_trees (S.trees store.old) old.now) (kid_trees (S.trees store.old) new.now)) }
     ensures grows { S.grows store.old store.new }
 {

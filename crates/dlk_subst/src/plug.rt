@@ -8,7 +8,7 @@ ghost use Rattle.dlk_tree.specs.declared.op.Sort.TheVariants.{Term};
 ghost use Rattle.dlk_store.specs.Stores.{IsId, tree, kid_trees, sorts_at};
 ghost use Rattle.dlk_calculus.specs.Captures.{AreApart, Stays};
 ghost use Rattle.dlk_calculus.specs.Plug.{IsClear, PlugAt, Plug};
-ghost use Rattle.dlk_subst.specs.Results.{Holds, HasNone, args_at};
+ghost use Rattle.dlk_subst.specs.Results.{IsResult, HasNone, args_at};
 ghost use Rattle.dlk_subst.specs.Scopes.{scope_set, IsKnownScope};
 ghost use Rattle.dlk_subst.specs.declared.fault.ApplyFault.TheVariants.{NotAdmissible};
 
@@ -74,7 +74,7 @@ fn keep_clear<S: Store>(
     requires old { All (IsId (S.trees store.old)) old.now }
     requires new { All (IsId (S.trees store.old)) new.now }
     requires fits { Fits op.now (sorts_at (S.trees store.old) new.now) }
-    ensures ok { IfOk result (Holds (Stays (IsClear (args_at (S.trees store.old) args.now)) op.now (kid_trees (S.trees store.old) old.now) (kid_trees (S.trees store.old) new.now)) (S.trees store.new)) }
+    ensures ok { IfOk result (IsResult (Stays (IsClear (args_at (S.trees store.old) args.now)) op.now (kid_trees (S.trees store.old) old.now) (kid_trees (S.trees store.old) new.now)) (S.trees store.new)) }
     ensures none { result ≡ Err NotAdmissible → HasNone (Stays (IsClear (args_at (S.trees store.old) args.now)) op.now (kid_trees (S.trees store.old) old.now) (kid_trees (S.trees store.old) new.now)) }
     ensures grows { S.grows store.old store.new }
 {
@@ -101,7 +101,7 @@ fn plug_at<S: Store>(
     requires old { All (IsId (S.trees store.old)) old.now }
     requires new { All (IsId (S.trees store.old)) new.now }
     requires fits { Fits op.now (sorts_at (S.trees store.old) new.now) }
-    ensures ok { IfOk result (Holds (PlugAt (args_at (S.trees store.old) args.now) op.now (kid_trees (S.trees store.old) old.now) (kid_trees (S.trees store.old) new.now)) (S.trees store.new)) }
+    ensures ok { IfOk result (IsResult (PlugAt (args_at (S.trees store.old) args.now) op.now (kid_trees (S.trees store.old) old.now) (kid_trees (S.trees store.old) new.now)) (S.trees store.new)) }
     ensures none { result ≡ Err NotAdmissible → HasNone (PlugAt (args_at (S.trees store.old) args.now) op.now (kid_trees (S.trees store.old) old.now) (kid_trees (S.trees store.old) new.now)) }
     ensures grows { S.grows store.old store.new }
 {
@@ -130,7 +130,7 @@ pub(crate) fn plug<S: Store, L: Ledger>(
     requires args { All (IsId (S.trees store.old)) args.now }
     requires terms { All (λ (a : Tree). sort a ≡ Term) (args_at (S.trees store.old) args.now) }
     requires known { IsId (S.trees store.old) id }
-    ensures ok { IfOk result (Holds (Plug (args_at (S.trees store.old) args.now) (tree (S.trees store.old) id)) (S.trees store.new)) }
+    ensures ok { IfOk result (IsResult (Plug (args_at (S.trees store.old) args.now) (tree (S.trees store.old) id)) (S.trees store.new)) }
     ensures none { result ≡ Err NotAdmissible → HasNone (Plug (args_at (S.trees store.old) args.now) (tree (S.trees store.old) id)) }
     ensures grows { S.grows store.old store.new }
 {

@@ -7,7 +7,7 @@ ghost use Rattle.dlk_store.specs.Stores.{IsId, tree, kid_trees, sorts_at};
 ghost use Rattle.dlk_calculus.specs.Pairs.{Pair as TreePair, replacement};
 ghost use Rattle.dlk_calculus.specs.Subst.{SubstAt, items_for, sides_for, new_items, new_kids};
 ghost use Rattle.dlk_sequent.specs.Substitutions.{pairs_at, AreKnownPairs};
-ghost use Rattle.dlk_subst.specs.Results.{Holds, HasNone};
+ghost use Rattle.dlk_subst.specs.Results.{IsResult, HasNone};
 ghost use Rattle.dlk_subst.specs.Splices.{Puts, PutsItem};
 ghost use Rattle.dlk_subst.specs.declared.fault.ApplyFault.TheVariants.{NotAdmissible};
 
@@ -178,7 +178,7 @@ pub(crate) fn splice<S: Store, L: Ledger>(
     requires old { All (IsId (S.trees store.old)) old.now }
     requires new { All (IsId (S.trees store.old)) new.now }
     requires fits { Fits (Op.System items.now) (sorts_at (S.trees store.old) new.now) }
-    ensures ok { IfOk result (Holds (SubstAt (pairs_at (S.trees store.old) pairs.now) (Op.System items.now) (kid_trees (S.trees store.old) old.now) (kid_trees (S.trees store.old) new.now)) (S.trees store.new)) }
+    ensures ok { IfOk result (IsResult (SubstAt (pairs_at (S.trees store.old) pairs.now) (Op.System items.now) (kid_trees (S.trees store.old) old.now) (kid_trees (S.trees store.old) new.now)) (S.trees store.new)) }
     ensures none { result ≡ Err NotAdmissible → HasNone (λ t. SubstAt (pairs_at (S.trees store.old) pairs.now) (Op.System items.now) (kid_trees (S.trees store.old) old.now) (kid_trees (S.trees store.old) new.now) t × WellMade t) }
     ensures grows { S.grows store.old store.new }
 {

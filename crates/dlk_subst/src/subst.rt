@@ -10,7 +10,7 @@ ghost use Rattle.dlk_calculus.specs.Pairs.{IsWellFormed};
 ghost use Rattle.dlk_calculus.specs.Plug.{filled};
 ghost use Rattle.dlk_calculus.specs.Subst.{IsAdmissible, SubstAt, Subst as IsSubst};
 ghost use Rattle.dlk_sequent.specs.Substitutions.{pairs_at, AreKnownPairs, IsMadeOver};
-ghost use Rattle.dlk_subst.specs.Results.{Holds, HasNone};
+ghost use Rattle.dlk_subst.specs.Results.{IsResult, HasNone};
 ghost use Rattle.dlk_subst.specs.declared.fault.ApplyFault.TheVariants.{NotAdmissible};
 
 use crate::fault::ApplyFault;
@@ -42,7 +42,7 @@ fn fill_admissible<S: Store, L: Ledger>(
     requires new { All (IsId (S.trees store.old)) new.now }
     requires some { 0 < length new.now }
     requires formula { sort (first (kid_trees (S.trees store.old) new.now)) ≡ Formula }
-    ensures ok { IfOk result (Holds (λ t. IsAdmissible (pairs_at (S.trees store.old) pairs.now) all (kid_trees (S.trees store.old) old.now) × (t ≡ filled (first (kid_trees (S.trees store.old) new.now)) (tree (S.trees store.old) by))) (S.trees store.new)) }
+    ensures ok { IfOk result (IsResult (λ t. IsAdmissible (pairs_at (S.trees store.old) pairs.now) all (kid_trees (S.trees store.old) old.now) × (t ≡ filled (first (kid_trees (S.trees store.old) new.now)) (tree (S.trees store.old) by))) (S.trees store.new)) }
     ensures none { result ≡ Err NotAdmissible → HasNone (λ t. IsAdmissible (pairs_at (S.trees store.old) pairs.now) all (kid_trees (S.trees store.old) old.now) × (t ≡ filled (first (kid_trees (S.trees store.old) new.now)) (tree (S.trees store.old) by))) }
     ensures grows { S.grows store.old store.new }
 {
@@ -66,7 +66,7 @@ fn subst_at<S: Store, L: Ledger>(
     requires old { All (IsId (S.trees store.old)) old.now }
     requires new { All (IsId (S.trees store.old)) new.now }
     requires fits { Fits op.now (sorts_at (S.trees store.old) new.now) }
-    ensures ok { IfOk result (Holds (SubstAt (pairs_at (S.trees store.old) pairs.now) op.now (kid_trees (S.trees store.old) old.now) (kid_trees (S.trees store.old) new.now)) (S.trees store.new)) }
+    ensures ok { IfOk result (IsResult (SubstAt (pairs_at (S.trees store.old) pairs.now) op.now (kid_trees (S.trees store.old) old.now) (kid_trees (S.trees store.old) new.now)) (S.trees store.new)) }
     ensures none { result ≡ Err NotAdmissible → HasNone (λ t. SubstAt (pairs_at (S.trees store.old) pairs.now) op.now (kid_trees (S.trees store.old) old.now) (kid_trees (S.trees store.old) new.now) t × WellMade t) }
     ensures grows { S.grows store.old store.new }
 {
@@ -92,7 +92,7 @@ fn substitute<S: Store, L: Ledger>(
     requires pairs { AreKnownPairs (S.trees store.old) pairs.now }
     requires well_formed { IsWellFormed (pairs_at (S.trees store.old) pairs.now) }
     requires known { IsId (S.trees store.old) id }
-    ensures ok { IfOk result (Holds (IsSubst (pairs_at (S.trees store.old) pairs.now) (tree (S.trees store.old) id)) (S.trees store.new)) }
+    ensures ok { IfOk result (IsResult (IsSubst (pairs_at (S.trees store.old) pairs.now) (tree (S.trees store.old) id)) (S.trees store.new)) }
     ensures none { result ≡ Err NotAdmissible → HasNone (IsSubst (pairs_at (S.trees store.old) pairs.now) (tree (S.trees store.old) id)) }
     ensures grows { S.grows store.old store.new }
 {
@@ -134,7 +134,7 @@ pub fn apply<S: Store, L: Ledger>(
 ) -> Result<Id, ApplyFault>
     requires made { IsMadeOver (S.trees store.old) sigma.now }
     requires known { IsId (S.trees store.old) id }
-    ensures ok { IfOk result (Holds (IsSubst (pairs_at (S.trees store.old) sigma.now.pairs) (tree (S.trees store.old) id)) (S.trees store.new)) }
+    ensures ok { IfOk result (IsResult (IsSubst (pairs_at (S.trees store.old) sigma.now.pairs) (tree (S.trees store.old) id)) (S.trees store.new)) }
     ensures none { result ≡ Err NotAdmissible → HasNone (IsSubst (pairs_at (S.trees store.old) sigma.now.pairs) (tree (S.trees store.old) id)) }
     ensures grows { S.grows store.old store.new }
 {

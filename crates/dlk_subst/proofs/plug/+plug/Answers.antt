@@ -6,7 +6,7 @@ use Rattle.dlk_store.specs.declared.Id.{Id}
 use Rattle.dlk_store.proofs.Kids.{kid_smaller, node_fits}
 use Rattle.dlk_calculus.specs.Plug.{Plug}
 use Rattle.dlk_calculus.proofs.Sorts.{AreTerms}
-use Rattle.dlk_subst.specs.Results.{Holds, args_at}
+use Rattle.dlk_subst.specs.Results.{IsResult, args_at}
 use Rattle.dlk_subst.specs.declared.fault.ApplyFault.TheVariants.{NotAdmissible}
 use Rattle.dlk_subst.proofs.Growth.{known_kept}
 use Rattle.dlk_subst.proofs.Arguments.{args_kept}
@@ -56,7 +56,7 @@ loop-kid-preserved g t c =
     let args = args_kept related.kept c.args.args.now c.requires.args in
     let grows = c.in_ok-made.ensures.grows in
     let keeps = g.met.S.Store.grows_keeps c.loop-kid.store c.plug.new.store grows in
-    let made = subst (λ X. X) (λ j. Holds (Plug (args j) (same j)) next c.in_ok-made.made) c.in_ok-made.ensures.ok in
+    let made = subst (λ X. X) (λ j. IsResult (Plug (args j) (same j)) next c.in_ok-made.made) c.in_ok-made.ensures.ok in
     record {
       grows = g.met.S.Store.grows_trans c.args.store.now c.loop-kid.store c.plug.new.store c.loop-kid.invariant.grows grows;
       related = rw c.in_ok-push.ensures.items (Related-more (Plug (args_at before c.args.args.now)) before now next ks c.loop-kid.new.items i d c.in_ok-made.made related c.loop-kid-test.true keeps made);

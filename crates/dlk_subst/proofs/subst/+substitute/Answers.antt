@@ -8,7 +8,7 @@ use Rattle.dlk_calculus.specs.Pairs.{IsWellFormed}
 use Rattle.dlk_calculus.specs.Subst.{Subst}
 use Rattle.dlk_sequent.specs.Substitutions.{pairs_at}
 use Rattle.dlk_sequent.proofs.KeptPairs.{pairs_at-kept}
-use Rattle.dlk_subst.specs.Results.{Holds}
+use Rattle.dlk_subst.specs.Results.{IsResult}
 use Rattle.dlk_subst.specs.declared.fault.ApplyFault.TheVariants.{NotAdmissible}
 use Rattle.dlk_subst.proofs.Growth.{pairs_kept}
 use Rattle.dlk_subst.proofs.Related.{handed_on, slice_kept, Related, Related-more}
@@ -57,7 +57,7 @@ loop-kid-preserved g t c =
     let pairs = pairs_at-kept related.kept c.args.pairs.now c.requires.pairs in
     let grows = c.in_ok-made.ensures.grows in
     let keeps = g.met.S.Store.grows_keeps c.loop-kid.store c.substitute.new.store grows in
-    let made = subst (λ X. X) (λ j. Holds (Subst (pairs j) (same j)) next c.in_ok-made.made) c.in_ok-made.ensures.ok in
+    let made = subst (λ X. X) (λ j. IsResult (Subst (pairs j) (same j)) next c.in_ok-made.made) c.in_ok-made.ensures.ok in
     record {
       grows = g.met.S.Store.grows_trans c.args.store.now c.loop-kid.store c.substitute.new.store c.loop-kid.invariant.grows grows;
       related = rw c.in_ok-push.ensures.items (Related-more (Subst (pairs_at before c.args.pairs.now)) before now next ks c.loop-kid.new.items i d c.in_ok-made.made related c.loop-kid-test.true keeps made);
