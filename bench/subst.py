@@ -1,14 +1,15 @@
 #!/usr/bin/env python3
 """How the time of `dlk subst` grows with its file and with the binders round it: ratios of one run.
 
-Each time is the least of some runs, less that of a file of one variable. Run it after `./dlk` has built the program.
+Each time is the least processor time of some runs, less that of a file of one variable. Run it after `./dlk` has built the
+program.
 A number as argument is the greatest number of nodes.
 """
 import pathlib
+import resource
 import subprocess
 import sys
 import tempfile
-import time
 
 PROGRAM = pathlib.Path(__file__).resolve().parent.parent / "crates" / "dlk" / "out" / "dlk"
 # numbers of nodes, each four times the one before
@@ -49,6 +50,12 @@ SHAPES = (
 )
 
 
+def children():
+    """The processor time of all programs that were run."""
+    usage = resource.getrusage(resource.RUSAGE_CHILDREN)
+    return usage.ru_utime + usage.ru_stime
+
+
 def seconds(folder, text, pairs, runs):
     """The least time of a run on this text and these pairs."""
     file = folder / "file"
@@ -57,9 +64,9 @@ def seconds(folder, text, pairs, runs):
     subst.write_text(pairs)
     best = float("inf")
     for _ in range(runs):
-        begin = time.perf_counter()
+        begin = children()
         run = subprocess.run([PROGRAM, "subst", file, subst], capture_output=True, check=False)
-        best = min(best, time.perf_counter() - begin)
+        best = min(best, children() - begin)
         if run.returncode != 0 and not run.stdout.startswith(b"refused: result-too-big"):
             raise SystemExit(f"subst.py: status {run.returncode} on {len(text)} bytes: {run.stdout[:80]!r}")
     return best
