@@ -15,6 +15,9 @@ PROGRAM = pathlib.Path(__file__).resolve().parent.parent / "crates" / "dlk" / "o
 # numbers of nodes, each four times the one before
 SIZES = (1000, 4000, 16000, 64000)
 BINDERS = (0, 10, 100)
+# loops cost nodes times nodes
+FEW_SIZES = (250, 1000, 4000)
+FEW_BINDERS = (0, 10)
 # the applications of one conjunct
 LENGTH = 100
 
@@ -41,12 +44,12 @@ def under_loops(nodes, binders):
     return "[" + "{z:=1;{" * binders + f"?{body(nodes)};" + "}}*" * binders + "]true"
 
 
-# what stands round the body, and the pairs
+# what stands round the body, the pairs, the numbers of nodes and of binders
 SHAPES = (
-    ("quantifiers", under_quantifiers, "f(._0)~>._0+y"),
-    ("boxes", under_boxes, "f(._0)~>._0+y"),
-    ("loops", under_loops, "f(._0)~>._0+y"),
-    ("boxes, a replacement with a function", under_boxes, "f(._0)~>g(._0,._0)"),
+    ("quantifiers", under_quantifiers, "f(._0)~>._0+y", SIZES, BINDERS),
+    ("boxes", under_boxes, "f(._0)~>._0+y", SIZES, BINDERS),
+    ("boxes, a pair that isn't used", under_boxes, "g(._0)~>._0+y", SIZES, BINDERS),
+    ("loops", under_loops, "f(._0)~>._0+y", FEW_SIZES, FEW_BINDERS),
 )
 
 
@@ -75,15 +78,16 @@ def seconds(folder, text, pairs, runs):
 def main():
     """Prints a line for each shape, number of binders and size."""
     most = int(sys.argv[1]) if len(sys.argv) > 1 else SIZES[-1]
-    sizes = [nodes for nodes in SIZES if nodes <= most]
     with tempfile.TemporaryDirectory() as name:
         folder = pathlib.Path(name)
         base = seconds(folder, "x", "", 20)
-        for title, text_of, pairs in SHAPES:
+        for title, text_of, pairs, sizes, all_binders in SHAPES:
             bare = {}
-            for binders in BINDERS:
+            for binders in all_binders:
                 last = None
                 for nodes in sizes:
+                    if nodes > most:
+                        continue
                     took = seconds(folder, text_of(nodes, binders), pairs, 5) - base
                     bare.setdefault(nodes, took)
                     ratio = f", {took / last:.1f} times that of a quarter of the nodes" if last else ""
