@@ -10,7 +10,7 @@ use Rattle.dlk_store.specs.Stores.{tree, StandsFor, Keeps}
 use Rattle.dlk_store.specs.declared.Id.{Id}
 use Rattle.dlk_sequent.specs.declared.subst.Pair.{Pair as IdPair}
 use Rattle.dlk_sequent.specs.Substitutions.{pairs_at}
-use Rattle.dlk_subst.specs.Results.{Holds, HasNone}
+use Rattle.dlk_subst.specs.Results.{IsResult, HasNone}
 use Rattle.dlk.specs.Replies.{Reply, refusal}
 use Rattle.dlk.specs.Prints.{printed}
 use Rattle.dlk.specs.Substitutes.{Substitutes, bad_pair, not_admissible, too_big, too_deep, prints, pair_refused, PlainText, AreRead, HasResult}
@@ -32,21 +32,21 @@ module _ (file substitution : List ℕ) (e : Tree) (pairs : List Pair) (read : A
   no_result_answer reply good none is = subst (Substitutes file substitution) (sym is) (not_admissible e pairs read good none)
 
   -- the result that an id stands for
-  has_result : (trees : List Tree) (id : Id) → IsWellFormed pairs → Holds (Subst pairs e) trees id → HasResult pairs e (tree trees id)
+  has_result : (trees : List Tree) (id : Id) → IsWellFormed pairs → IsResult (Subst pairs e) trees id → HasResult pairs e (tree trees id)
   has_result trees id good made = record { well_formed = good; result = subst (Subst pairs e) (sym made.stands.tree_is) made.is_related }
 
-  pub too_big_answer : (trees : List Tree) (id : Id) (n : ℕ) (reply : Reply) → IsWellFormed pairs → Holds (Subst pairs e) trees id →
+  pub too_big_answer : (trees : List Tree) (id : Id) (n : ℕ) (reply : Reply) → IsWellFormed pairs → IsResult (Subst pairs e) trees id →
       n ≡ min (size (tree trees id)) (2 ^ 32 - 1) → most_nodes < n → reply ≡ refusal (codes "result-too-big") → Substitutes file substitution reply
   too_big_answer trees id n reply good made is_size past is =
       subst (Substitutes file substitution) (sym is) (too_big e pairs read (tree trees id) (has_result trees id good made) (omega arith))
 
-  pub too_deep_answer : (trees : List Tree) (id : Id) (n d : ℕ) (reply : Reply) → IsWellFormed pairs → Holds (Subst pairs e) trees id →
+  pub too_deep_answer : (trees : List Tree) (id : Id) (n d : ℕ) (reply : Reply) → IsWellFormed pairs → IsResult (Subst pairs e) trees id →
       n ≡ min (size (tree trees id)) (2 ^ 32 - 1) → d ≡ min (depth (tree trees id)) (2 ^ 32 - 1) → n ≤ most_nodes → greatest_depth < d →
       reply ≡ refusal (codes "result-too-deep") → Substitutes file substitution reply
   too_deep_answer trees id n d reply good made is_size is_depth within past is =
       subst (Substitutes file substitution) (sym is) (too_deep e pairs read (tree trees id) (has_result trees id good made) (omega arith) (omega arith))
 
-  pub prints_answer : (trees : List Tree) (id : Id) (n d : ℕ) (reply : Reply) → IsWellFormed pairs → Holds (Subst pairs e) trees id →
+  pub prints_answer : (trees : List Tree) (id : Id) (n d : ℕ) (reply : Reply) → IsWellFormed pairs → IsResult (Subst pairs e) trees id →
       n ≡ min (size (tree trees id)) (2 ^ 32 - 1) → d ≡ min (depth (tree trees id)) (2 ^ 32 - 1) → n ≤ most_nodes → d ≤ greatest_depth →
       reply ≡ printed (tree trees id) → Substitutes file substitution reply
   prints_answer trees id n d reply good made is_size is_depth small shallow is =
