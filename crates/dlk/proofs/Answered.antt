@@ -1,8 +1,8 @@
 -- The answer to what was read is the answer to the files.
-use Rattle.std.proofs.Common.{◌≡◌, ℕ, List, length, Some, refl, subst, ◌∙◌}
+use Rattle.std.proofs.Common.{◌≡◌, ℕ, List, length, Option, Some, IsSome, refl, sym, ap, subst, ◌∙◌}
 use Rattle.dlk_desk.specs.Outside.{Files}
 use Rattle.dlk.specs.Forms.{Word, command_of, limits_of, inputs_of}
-use Rattle.dlk.specs.Inputs.{first_too_long, cut_bytes_of}
+use Rattle.dlk.specs.Inputs.{first_too_long, bytes_of, cut_bytes_of, inputs_of_form, inputs}
 use Rattle.dlk.specs.Replies.{Reply}
 use Rattle.dlk.specs.Answers.{Does, Responds, refuses, does, Answers, command}
 use Rattle.dlk.specs.declared.command.Command.{Command}
@@ -18,6 +18,13 @@ pub answered : (words : List Word) (c : Command) (files : Files) (cuts : List (L
 answered words c files cuts reply is count read responds =
     let h = are_read files (inputs_of c words) (limits_of c) count cuts read in
     command c is h.0 h.1 reply (responds_alike c words cuts h.0 reply h.2 responds)
+
+-- what was read is there
+pub inputs_there : (words : List Word) (c : Command) (files : Files) (cuts : List (List ℕ)) → command_of words ≡ Some c → length (inputs_of c words) ≡ length (limits_of c) →
+    cut_bytes_of files (inputs_of c words) (limits_of c) ≡ Some cuts → IsSome (bytes_of files (inputs words))
+inputs_there words c files cuts is count read =
+    let h = are_read files (inputs_of c words) (limits_of c) count cuts read in
+    subst IsSome (sym (ap (λ (o : Option Command). bytes_of files (inputs_of_form o words)) is ∙ h.1)) refl
 
 -- the first input that is too long is sought among these names and limits
 pub short_enough : (c : Command) (words names : List Word) (limits : List ℕ) (texts : List (List ℕ)) →

@@ -80,7 +80,7 @@ fn work<D: Desk, L: Ledger>(
 
 /// Does what the words say, and answers the exit status of the program.
 ///
-/// The words do not hold the program's own name. The statuses are 0 where the proof is closed, 1 where it is open,
+/// The words do not hold the program's own name. The statuses are 0 where the proof is closed or what was asked for is printed, 1 where it is open,
 /// 2 where an input is refused, 3 where the words are none of the forms, 4 where an input could not be read,
 /// 5 where the answer could not be printed, 6 where memory ran out.
 pub fn run<D: Desk, L: Ledger>(

@@ -2,7 +2,7 @@ use Rattle.std.proofs.Common.{sym, subst, map, string_bytes, rules}
 use Rattle.dlk.specs.Replies.{Reply}
 use Rattle.dlk.specs.Answers.{Answers, no_form}
 use Rattle.dlk.specs.Shown.{texts_of, reply_of}
-use Rattle.dlk.proofs.Answered.{answered}
+use Rattle.dlk.proofs.Answered.{answered, inputs_there}
 use Rattle.dlk.proofs.run.work.Goals as goal
 
 pub returns-in_default-clause-ok : goal.returns-in_default-clause-ok
@@ -13,3 +13,7 @@ pub returns-clause-ok : goal.returns-clause-ok
 returns-clause-ok g c = λ told.
     answered (map string_bytes c.args.words.now) c.in-Some.command (g.D.Desk.outside c.args.desk.now).files (texts_of c.in_ok-inputs.inputs.items) (reply_of c.in_ok-respond.field-0)
     (search rules) (search rules) (search rules) (search rules)
+
+pub returns-clause-missing : goal.returns-clause-missing
+returns-clause-missing g c = λ told.
+    inputs_there (map string_bytes c.args.words.now) c.in-Some.command (g.D.Desk.outside c.args.desk.now).files (texts_of c.in_ok-inputs.inputs.items) (search rules) (search rules) (search rules)
