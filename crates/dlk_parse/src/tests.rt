@@ -190,29 +190,15 @@ fn pairs_of(rt: &HostRuntime, text: &str) -> Result<usize, TextFault> {
 #[test]
 fn reads_each_kind_of_pair(rt: HostRuntime) -> Result<(), Fail> {
     let rows = [
-        ("f(._0,._1)~>._0*._1", Kind::Func, "f", 2, None, "._0*._1"),
-        ("p(._0)~>g(._0)", Kind::Pred, "p", 1, None, "g(._0)"),
-        ("term k()~>h()", Kind::Func, "k", 0, None, "h()"),
-        ("term(||)~>x", Kind::UnitFunc, "term", 0, None, "x"),
-        ("q(|y|)~>x=1", Kind::UnitPred, "q", 0, Some("y"), "x=1"),
-        ("C{_}~>!_", Kind::Quant, "C", 0, None, "!_"),
-        ("a;~>x:=1;b;", Kind::Prog, "a", 0, None, "x:=1;b;"),
-        (
-            "{c}~>{x'=f(1,2),d}",
-            Kind::Ode,
-            "c",
-            0,
-            None,
-            "{x'=f(1,2),d}",
-        ),
-        (
-            "{e{|z|}}~>{y'=1}",
-            Kind::Ode,
-            "e",
-            0,
-            Some("z"),
-            "{y'=1&true}",
-        ),
+        ("f(._0,._1)~>._0*._1", Kind::Func, "f", 2, None),
+        ("p(._0)~>g(._0)", Kind::Pred, "p", 1, None),
+        ("term k()~>h()", Kind::Func, "k", 0, None),
+        ("term(||)~>x", Kind::UnitFunc, "term", 0, None),
+        ("q(|y|)~>x=1", Kind::UnitPred, "q", 0, Some("y")),
+        ("C{_}~>!_", Kind::Quant, "C", 0, None),
+        ("a;~>x:=1;b;", Kind::Prog, "a", 0, None),
+        ("{c}~>{x'=f(1,2),d}", Kind::Ode, "c", 0, None),
+        ("{e{|z|}}~>{y'=1}", Kind::Ode, "e", 0, Some("z")),
     ];
     let mut text = Vec::new(rt.alloc());
     for (pair, ..) in rows {
@@ -224,7 +210,7 @@ fn reads_each_kind_of_pair(rt: HostRuntime) -> Result<(), Fail> {
     let mut store = PlainStore::new(rt.alloc());
     let pairs = read_substitution(rt.alloc(), text.as_slice(), &mut store)?;
     assert_eq!(rt; pairs.len(), rows.len());
-    for (pair, (text, kind, name, arity, taboo, by)) in pairs.iter().zip(rows) {
+    for (pair, (text, kind, name, arity, taboo)) in pairs.iter().zip(rows) {
         let taboo = match taboo {
             Some(taboo) => Some(Name::new(rt.alloc(), taboo.as_bytes())?),
             None => None,
@@ -237,12 +223,6 @@ fn reads_each_kind_of_pair(rt: HostRuntime) -> Result<(), Fail> {
             taboo,
         };
         assert_eq!(rt; pair.sym, sym, "{text}");
-        let whole = tokens(rt.alloc(), by.as_bytes())?;
-        let read = match kind {
-            Kind::Func => term(rt.alloc(), whole.as_slice(), Dots::Allowed, &mut store)?,
-            _ => expression(rt.alloc(), whole.as_slice(), Dots::Allowed, &mut store)?,
-        };
-        assert!(rt; store.same(pair.by, read), "{text}");
     }
     Ok(())
 }
