@@ -191,6 +191,29 @@ fn captures_nothing(rt: HostRuntime) -> Result<(), Fail> {
         ("C{p()}", "p()~>2>0", "C{2>0}"),
         ("C{p()}", "p()~>x>0,C{_}~>_", ""),
         ("C{p()}", "p()~>2>0,C{_}~>_", "2>0"),
+    ] {
+        let (status, desk) = substituted(alloc, file.as_bytes(), substitution.as_bytes())?;
+        if text.is_empty() {
+            assert_eq!(rt;
+                desk.printed(),
+                b"refused: not-admissible\n".as_slice(),
+                "{file}"
+            );
+            assert_eq!(rt; status, 2, "{file}");
+        } else {
+            let line = joined(alloc, text.as_bytes(), b"\n", b"")?;
+            assert_eq!(rt; desk.printed(), line.as_slice(), "{file}");
+            assert_eq!(rt; status, 0, "{file}");
+        }
+    }
+    Ok(())
+}
+
+/// The same where the symbol isn't under the binder, or what binds is replaced.
+#[test]
+fn captures_what_the_result_binds(rt: HostRuntime) -> Result<(), Fail> {
+    let alloc = rt.alloc();
+    for (file, substitution, text) in [
         // the symbol isn't under the binder, or is another one
         ("[x:=1;]q()&p()", "p()~>x>0", "[x:=1;]q()&x>0"),
         ("\\forall x p(1)", "p()~>x>0", "\\forall x p(1)"),
