@@ -20,3 +20,7 @@ put items place x = slice_set items (place - 1) x
 -- a list of items at a place, instead of the one that stands there
 abbrev pub put_all : {A : Type 0} → List A → ℕ → List A → List A
 put_all items place new = take (place - 1) items ++ new ++ drop place items
+
+-- the item at a place removed
+abbrev pub remove : {A : Type 0} → List A → ℕ → List A
+remove items place = take (place - 1) items ++ drop place items

@@ -1,61 +1,256 @@
 -- The sequent rules, from the conclusion up to the premises.
-use Rattle.std.specs.Prelude.{◌≡◌, ℕ, ◌<◌, List, [], ◌∷◌, ◌++◌}
-use Rattle.dlk_tree.specs.Trees.{Tree, node, no_kids, kid}
-use Rattle.dlk_tree.specs.declared.op.Op.TheVariants.{Imply}
+use Rattle.std.specs.Prelude.{◌≡◌, ℕ, ◌<◌, ◌-◌, List, [], ◌∷◌, ◌++◌, get_or, Bool, false, ◌||◌, Option, Some, None, IsTrue}
+use Rattle.std.specs.List.{list_any}
+use Rattle.dlk_tree.specs.declared.op.Op.{Op}
+use Rattle.dlk_tree.specs.declared.op.Op.TheVariants as Op'
+use Rattle.dlk_tree.specs.declared.op.Var.{Var}
+use Rattle.dlk_tree.specs.Names.{is_name}
+use Rattle.dlk_tree.specs.Trees.{Tree, node, no_kids, kid, root}
+use Rattle.dlk_tree.specs.Statics.{free, plain}
 use Rattle.dlk_calculus.specs.declared.reason.Reason.{Reason}
-use Rattle.dlk_calculus.specs.declared.reason.Reason.TheVariants.{NoFact, NoGoal, NoPlace, WrongShape, NotEqual}
+use Rattle.dlk_calculus.specs.declared.reason.Reason.TheVariants.{NoFact, NoGoal, NoPlace, WrongShape, NotEqual, NotFresh}
 use Rattle.dlk_calculus.specs.Reasons.{rank}
-use Rattle.dlk_calculus.specs.Places.{At, IsPlace, put}
-use Rattle.dlk_calculus.specs.Sequents.{Sequent}
+use Rattle.dlk_calculus.specs.Kids.{first, later}
+use Rattle.dlk_calculus.specs.Places.{IsPlace, put, remove}
+use Rattle.dlk_calculus.specs.Sequents.{Sequent, IsFormula}
+use Rattle.dlk_calculus.specs.Rename.{binder, body, renamed_bound, may_rename}
 
--- a rule with its places
+-- A rule with its places, its formula or its name: i and k are places on the left, j and l on the right.
 pub data Rule : Type 0 where
-  ImplyR : ℕ → Rule
-  Close : ℕ → ℕ → Rule
+  Close : (i j : ℕ) → Rule
+  CloseTrue : (j : ℕ) → Rule
+  CloseFalse : (i : ℕ) → Rule
+  NotL : (i : ℕ) → Rule
+  NotR : (j : ℕ) → Rule
+  AndL : (i : ℕ) → Rule
+  AndR : (j : ℕ) → Rule
+  OrL : (i : ℕ) → Rule
+  OrR : (j : ℕ) → Rule
+  ImplyL : (i : ℕ) → Rule
+  ImplyR : (j : ℕ) → Rule
+  EquivL : (i : ℕ) → Rule
+  EquivR : (j : ℕ) → Rule
+  Cut : (h : Tree) → Rule
+  CutL : (i : ℕ) (h : Tree) → Rule
+  CutR : (j : ℕ) (h : Tree) → Rule
+  HideL : (i : ℕ) → Rule
+  HideR : (j : ℕ) → Rule
+  CoHideR : (j : ℕ) → Rule
+  ExchangeL : (i k : ℕ) → Rule
+  ExchangeR : (j l : ℕ) → Rule
+  SkolemL : (i : ℕ) → Rule
+  SkolemR : (j : ℕ) → Rule
+  BoundL : (i : ℕ) (y : List ℕ) → Rule
+  BoundR : (j : ℕ) (y : List ℕ) → Rule
+  EquivifyR : (j : ℕ) → Rule
+  CommuteEquivL : (i : ℕ) → Rule
+  CommuteEquivR : (j : ℕ) → Rule
 
 abbrev pub imply : Tree → Tree → Tree
-imply f g = node Imply (kid f (kid g no_kids))
+imply f g = node Op'.Imply (kid f (kid g no_kids))
 
-abbrev pub IsImplication : Tree → Type 0
-IsImplication t = (f : Tree) × (g : Tree) × (t ≡ imply f g)
+abbrev pub equiv : Tree → Tree → Tree
+equiv f g = node Op'.Equiv (kid f (kid g no_kids))
 
--- f put last on the left
-abbrev pub last_left : Tree → Sequent → Sequent
-last_left f s = record s { ante = s.ante ++ f ∷ [] }
+abbrev pub truth : Tree
+truth = node Op'.True no_kids
 
--- g at place j on the right
+-- The kids of a formula: the first one, f, and the second one, g; `true` where there is none.
+
+abbrev pub kid_f : Tree → Tree
+kid_f (node op kids) = first kids
+
+abbrev pub kid_g : Tree → Tree
+kid_g (node op kids) = first (later kids)
+
+-- The formula at place i on the left with its kids, and that at place j on the right; `true` where there is none.
+
+abbrev pub left : ℕ → Sequent → Tree
+left i s = get_or s.ante (i - 1) truth
+
+abbrev pub left_f : ℕ → Sequent → Tree
+left_f i s = kid_f (left i s)
+
+abbrev pub left_g : ℕ → Sequent → Tree
+left_g i s = kid_g (left i s)
+
+abbrev pub right : ℕ → Sequent → Tree
+right j s = get_or s.succ (j - 1) truth
+
+abbrev pub right_f : ℕ → Sequent → Tree
+right_f j s = kid_f (right j s)
+
+abbrev pub right_g : ℕ → Sequent → Tree
+right_g j s = kid_g (right j s)
+
+-- What becomes of a sequent:
+
+-- f at place i on the left
+abbrev pub put_left : ℕ → Tree → Sequent → Sequent
+put_left i f s = record { ante = put s.ante i f; succ = s.succ }
+
+-- f at place j on the right
 abbrev pub put_right : ℕ → Tree → Sequent → Sequent
-put_right j g s = record s { succ = put s.succ j g }
+put_right j f s = record { ante = s.ante; succ = put s.succ j f }
 
--- Premises rule s premises: the rule makes these premises of the sequent. One case a rule.
-pub data Premises : Rule → Sequent → List Sequent → Type 0 where
-  -- implyR(j): at j on the right stands f -> g. Premise: g at j, f last on the left.
-  implyR : (j : ℕ) (s : Sequent) (f g : Tree) → At s.succ j (imply f g) → Premises (ImplyR j) s (last_left f (put_right j g s) ∷ [])
-  -- close(i,j): at i on the left and at j on the right stands the same formula. No premises.
-  close : (i j : ℕ) (s : Sequent) (f : Tree) → At s.ante i f → At s.succ j f → Premises (Close i j) s []
+-- f last on the left
+abbrev pub last_left : Tree → Sequent → Sequent
+last_left f s = record { ante = s.ante ++ f ∷ []; succ = s.succ }
 
--- the places of the rule are there
-abbrev pub HasPlaces : Rule → Sequent → Type 0
-HasPlaces (ImplyR j) s = IsPlace s.succ j
-HasPlaces (Close i j) s = IsPlace s.ante i × IsPlace s.succ j
+-- f last on the right
+abbrev pub last_right : Tree → Sequent → Sequent
+last_right f s = record { ante = s.ante; succ = s.succ ++ f ∷ [] }
 
--- the formulas at its places have the form that the rule wants
-abbrev pub HasShape : Rule → Sequent → Type 0
-HasShape (ImplyR j) s = (f : Tree) × (g : Tree) × At s.succ j (imply f g)
-HasShape (Close i j) s = Unit {0}
+-- the formula at place i on the left removed
+abbrev pub without_left : ℕ → Sequent → Sequent
+without_left i s = record { ante = remove s.ante i; succ = s.succ }
 
--- the formulas that the rule wants to be the same are
-abbrev pub HasEquals : Rule → Sequent → Type 0
-HasEquals (ImplyR j) s = Unit {0}
-HasEquals (Close i j) s = (f : Tree) × At s.ante i f × At s.succ j f
+-- the formula at place j on the right removed
+abbrev pub without_right : ℕ → Sequent → Sequent
+without_right j s = record { ante = s.ante; succ = remove s.succ j }
+
+-- f alone on the right
+abbrev pub alone_right : Tree → Sequent
+alone_right f = record { ante = []; succ = f ∷ [] }
+
+-- What a rule asks for:
+
+-- the x of `\exists x`
+abbrev pub existential : Op → Option (List ℕ)
+existential (Op'.Exists x) = Some x
+existential _ = None
+
+-- the x of `\forall x`
+abbrev pub universal : Op → Option (List ℕ)
+universal (Op'.Forall x) = Some x
+universal _ = None
+
+abbrev pub IsSome : Option (List ℕ) → Type 0
+IsSome name = (x : List ℕ) × (name ≡ Some x)
+
+-- the name x, if there is one, has this
+abbrev pub OfName : Option (List ℕ) → (List ℕ → Type 0) → Type 0
+OfName name P = (x : List ℕ) → name ≡ Some x → P x
+
+-- x is free in no formula of the sequent
+abbrev pub IsUnread : Sequent → List ℕ → Type 0
+IsUnread s x = (list_any (λ t. free t (plain x)) s.ante || list_any (λ t. free t (plain x)) s.succ) ≡ false
+
+-- the formula binds a variable that can have another name, and y is a name
+abbrev pub CanBind : List ℕ → Tree → Type 0
+CanBind y t = IsTrue (is_name y) × IsSome (binder t)
+
+-- y may stand for the variable that the formula binds
+abbrev pub MayBind : List ℕ → Tree → Type 0
+MayBind y t = OfName (binder t) (λ x. IsTrue (may_rename x y (body t)))
+
+-- The figure of a rule on a sequent: what must hold, and the premises above it.
+pub record Figure : Type 1 where
+  -- the places are there
+  pub places : Type 0
+  -- the formulas have the form that the rule wants
+  pub shape : Type 0
+  -- formulas that are to be the same are
+  pub equals : Type 0
+  -- variables that are to be fresh are
+  pub fresh : Type 0
+  pub premises : List Sequent
+
+-- a rule that asks for places and a form alone
+abbrev pub plain_figure : Type 0 → Type 0 → List Sequent → Figure
+plain_figure places shape premises = record { places = places; shape = shape; equals = Unit {0}; fresh = Unit {0}; premises = premises }
+
+-- a rule that asks for its places alone
+abbrev pub any_figure : Type 0 → List Sequent → Figure
+any_figure places premises = plain_figure places (Unit {0}) premises
+
+-- a rule that asks for a fresh variable too
+abbrev pub fresh_figure : Type 0 → Type 0 → Type 0 → List Sequent → Figure
+fresh_figure places shape fresh premises = record { places = places; shape = shape; equals = Unit {0}; fresh = fresh; premises = premises }
+
+-- The sequent rules, one row a rule. In each comment, A i stands at place i on the left, S j at place j on the right.
+abbrev pub figure : Rule → Sequent → Figure
+-- close(i,j): A i and S j are the same. No premises.
+figure (Close i j) s = record { places = IsPlace s.ante i × IsPlace s.succ j; shape = Unit {0}; equals = left i s ≡ right j s; fresh = Unit {0}; premises = [] }
+-- closeTrue(j): S j is true. No premises.
+figure (CloseTrue j) s = plain_figure (IsPlace s.succ j) (root (right j s) ≡ Op'.True) []
+-- closeFalse(i): A i is false. No premises.
+figure (CloseFalse i) s = plain_figure (IsPlace s.ante i) (root (left i s) ≡ Op'.False) []
+-- notL(i): A i is !f. A i removed, f last on the right.
+figure (NotL i) s = plain_figure (IsPlace s.ante i) (root (left i s) ≡ Op'.Not) (last_right (left_f i s) (without_left i s) ∷ [])
+-- notR(j): S j is !f. S j removed, f last on the left.
+figure (NotR j) s = plain_figure (IsPlace s.succ j) (root (right j s) ≡ Op'.Not) (last_left (right_f j s) (without_right j s) ∷ [])
+-- andL(i): A i is f & g. f at i, g last on the left.
+figure (AndL i) s = plain_figure (IsPlace s.ante i) (root (left i s) ≡ Op'.And) (last_left (left_g i s) (put_left i (left_f i s) s) ∷ [])
+-- andR(j): S j is f & g. First f at j; then g at j.
+figure (AndR j) s = plain_figure (IsPlace s.succ j) (root (right j s) ≡ Op'.And) (put_right j (right_f j s) s ∷ put_right j (right_g j s) s ∷ [])
+-- orL(i): A i is f | g. First f at i; then g at i.
+figure (OrL i) s = plain_figure (IsPlace s.ante i) (root (left i s) ≡ Op'.Or) (put_left i (left_f i s) s ∷ put_left i (left_g i s) s ∷ [])
+-- orR(j): S j is f | g. f at j, g last on the right.
+figure (OrR j) s = plain_figure (IsPlace s.succ j) (root (right j s) ≡ Op'.Or) (last_right (right_g j s) (put_right j (right_f j s) s) ∷ [])
+-- implyL(i): A i is f -> g. First A i removed, f last on the right; then g at i.
+figure (ImplyL i) s = plain_figure (IsPlace s.ante i) (root (left i s) ≡ Op'.Imply) (last_right (left_f i s) (without_left i s) ∷ put_left i (left_g i s) s ∷ [])
+-- implyR(j): S j is f -> g. g at j, f last on the left.
+figure (ImplyR j) s = plain_figure (IsPlace s.succ j) (root (right j s) ≡ Op'.Imply) (last_left (right_f j s) (put_right j (right_g j s) s) ∷ [])
+-- equivL(i): A i is f <-> g. f -> g at i, g -> f last on the left.
+figure (EquivL i) s =
+    plain_figure (IsPlace s.ante i) (root (left i s) ≡ Op'.Equiv)
+    (last_left (imply (left_g i s) (left_f i s)) (put_left i (imply (left_f i s) (left_g i s)) s) ∷ [])
+-- equivR(j): S j is f <-> g. First f -> g at j; then g -> f at j.
+figure (EquivR j) s =
+    plain_figure (IsPlace s.succ j) (root (right j s) ≡ Op'.Equiv)
+    (put_right j (imply (right_f j s) (right_g j s)) s ∷ put_right j (imply (right_g j s) (right_f j s)) s ∷ [])
+-- cut(h): first h last on the left; then h last on the right.
+figure (Cut h) s = plain_figure (Unit {0}) (IsFormula h) (last_left h s ∷ last_right h s ∷ [])
+-- cutL(i,h): first h at i; then A i removed, A i -> h last on the right.
+figure (CutL i h) s = plain_figure (IsPlace s.ante i) (IsFormula h) (put_left i h s ∷ last_right (imply (left i s) h) (without_left i s) ∷ [])
+-- cutR(j,h): first h at j; then h -> S j at j.
+figure (CutR j h) s = plain_figure (IsPlace s.succ j) (IsFormula h) (put_right j h s ∷ put_right j (imply h (right j s)) s ∷ [])
+-- hideL(i): A i removed.
+figure (HideL i) s = any_figure (IsPlace s.ante i) (without_left i s ∷ [])
+-- hideR(j): S j removed.
+figure (HideR j) s = any_figure (IsPlace s.succ j) (without_right j s ∷ [])
+-- coHideR(j): S j alone on the right, nothing on the left.
+figure (CoHideR j) s = any_figure (IsPlace s.succ j) (alone_right (right j s) ∷ [])
+-- exchangeL(i,k): A i at k, and A k at i.
+figure (ExchangeL i k) s = any_figure (IsPlace s.ante i × IsPlace s.ante k) (put_left k (left i s) (put_left i (left k s) s) ∷ [])
+-- exchangeR(j,l): S j at l, and S l at j.
+figure (ExchangeR j l) s = any_figure (IsPlace s.succ j × IsPlace s.succ l) (put_right l (right j s) (put_right j (right l s) s) ∷ [])
+-- skolemL(i): A i is \exists x f, and x is free in no other formula. f at i.
+figure (SkolemL i) s =
+    fresh_figure (IsPlace s.ante i) (IsSome (existential (root (left i s)))) (OfName (existential (root (left i s))) (IsUnread (without_left i s)))
+    (put_left i (left_f i s) s ∷ [])
+-- skolemR(j): S j is \forall x f, and x is free in no other formula. f at j.
+figure (SkolemR j) s =
+    fresh_figure (IsPlace s.succ j) (IsSome (universal (root (right j s)))) (OfName (universal (root (right j s))) (IsUnread (without_right j s)))
+    (put_right j (right_f j s) s ∷ [])
+-- boundL(i,y): A i binds a variable, for which y may stand. A i with y for it, at i.
+figure (BoundL i y) s = fresh_figure (IsPlace s.ante i) (CanBind y (left i s)) (MayBind y (left i s)) (put_left i (renamed_bound y (left i s)) s ∷ [])
+-- boundR(j,y): S j binds a variable, for which y may stand. S j with y for it, at j.
+figure (BoundR j y) s = fresh_figure (IsPlace s.succ j) (CanBind y (right j s)) (MayBind y (right j s)) (put_right j (renamed_bound y (right j s)) s ∷ [])
+-- equivifyR(j): S j is f -> g. f <-> g at j.
+figure (EquivifyR j) s = plain_figure (IsPlace s.succ j) (root (right j s) ≡ Op'.Imply) (put_right j (equiv (right_f j s) (right_g j s)) s ∷ [])
+-- commuteEquivL(i): A i is f <-> g. g <-> f at i.
+figure (CommuteEquivL i) s = plain_figure (IsPlace s.ante i) (root (left i s) ≡ Op'.Equiv) (put_left i (equiv (left_g i s) (left_f i s)) s ∷ [])
+-- commuteEquivR(j): S j is f <-> g. g <-> f at j.
+figure (CommuteEquivR j) s = plain_figure (IsPlace s.succ j) (root (right j s) ≡ Op'.Equiv) (put_right j (equiv (right_g j s) (right_f j s)) s ∷ [])
+
+-- Premises rule s premises: the rule makes these premises of the sequent.
+pub record Premises (rule : Rule) (s : Sequent) (premises : List Sequent) : Type 0 where
+  pub places : (figure rule s).places
+  pub shape : (figure rule s).shape
+  pub equals : (figure rule s).equals
+  pub fresh : (figure rule s).fresh
+  pub premises_are : premises ≡ (figure rule s).premises
 
 -- What speaks against a rule on a sequent. One row a reason.
 abbrev pub RuleAgainst : Reason → Rule → Sequent → Type 0
 RuleAgainst NoFact rule s = ⊥
 RuleAgainst NoGoal rule s = ⊥
-RuleAgainst NoPlace rule s = ¬ HasPlaces rule s
-RuleAgainst WrongShape rule s = ¬ HasShape rule s
-RuleAgainst NotEqual rule s = ¬ HasEquals rule s
+RuleAgainst NoPlace rule s = ¬ (figure rule s).places
+RuleAgainst WrongShape rule s = ¬ (figure rule s).shape
+RuleAgainst NotEqual rule s = ¬ (figure rule s).equals
+RuleAgainst NotFresh rule s = ¬ (figure rule s).fresh
 
 -- the first reason against the rule
 pub record FirstAgainst (rule : Rule) (s : Sequent) (why : Reason) : Type 0 where

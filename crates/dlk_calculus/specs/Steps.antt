@@ -1,17 +1,23 @@
 -- Steps of a proof: what each gives, what speaks against it, and what is derived.
-use Rattle.std.specs.Prelude.{◌≡◌, ℕ, ◌<◌, List, [], ◌∷◌, ◌++◌, take, Some, slice_get}
+use Rattle.std.specs.Prelude.{◌≡◌, ℕ, ◌<◌, List, [], ◌∷◌, ◌++◌, take, Some, slice_get, IsTrue}
+use Rattle.dlk_tree.specs.Names.{is_name}
 use Rattle.dlk_calculus.specs.declared.reason.Reason.{Reason}
-use Rattle.dlk_calculus.specs.declared.reason.Reason.TheVariants.{NoFact, NoGoal, NoPlace, WrongShape, NotEqual}
+use Rattle.dlk_calculus.specs.declared.reason.Reason.TheVariants.{NoFact, NoGoal, NoPlace, WrongShape, NotEqual, NotFresh}
 use Rattle.dlk_calculus.specs.Reasons.{rank}
 use Rattle.dlk_calculus.specs.Places.{At, IsPlace}
 use Rattle.dlk_calculus.specs.Sequents.{Sequent, IsSequent}
 use Rattle.dlk_calculus.specs.Rules.{Rule, Premises, RuleAgainst}
-use Rattle.dlk_calculus.specs.Provables.{Provable, started, applied}
+use Rattle.dlk_calculus.specs.Provables.{Provable, started, applied, renamed}
 
 -- a step, which names earlier rows and their goals by their numbers
 pub data Step : Type 0 where
   Start : Sequent → Step
   Apply : (fact goal : ℕ) → Rule → Step
+  Rename : (fact : ℕ) → (x y : List ℕ) → Step
+
+-- Both are names. In the code each name is one, so a step that renames never lacks this.
+abbrev pub AreNames : List ℕ → List ℕ → Type 0
+AreNames x y = IsTrue (is_name x) × IsTrue (is_name y)
 
 -- Gives rows step p: by a rule of the calculus the step gives p from these rows. One case a rule.
 pub data Gives (rows : List Provable) : Step → Provable → Type 0 where
@@ -20,6 +26,8 @@ pub data Gives (rows : List Provable) : Step → Provable → Type 0 where
   -- the premises of a rule on a goal stand in its place
   apply : (fact goal : ℕ) (rule : Rule) (p : Provable) (s : Sequent) (premises : List Sequent) →
       At rows fact p → At p.goals goal s → Premises rule s premises → Gives rows (Apply fact goal rule) (applied p goal premises)
+  -- two names are exchanged in a fact's conclusion and goals
+  rename : (fact : ℕ) (x y : List ℕ) (p : Provable) → At rows fact p → AreNames x y → Gives rows (Rename fact x y) (renamed x y p)
 
 -- each row is given by a step from the rows before it
 abbrev pub History : List Provable → Type 0
@@ -37,14 +45,22 @@ IsGoal rows fact goal s = (p : Provable) × At rows fact p × At p.goals goal s
 abbrev pub Against : Reason → List Provable → Step → Type 0
 Against NoFact rows (Start s) = ⊥
 Against NoFact rows (Apply fact goal rule) = ¬ IsPlace rows fact
+Against NoFact rows (Rename fact x y) = ¬ IsPlace rows fact
 Against NoGoal rows (Start s) = ⊥
 Against NoGoal rows (Apply fact goal rule) = (p : Provable) × At rows fact p × (¬ IsPlace p.goals goal)
+Against NoGoal rows (Rename fact x y) = ⊥
 Against NoPlace rows (Start s) = ⊥
 Against NoPlace rows (Apply fact goal rule) = (s : Sequent) × IsGoal rows fact goal s × RuleAgainst NoPlace rule s
+Against NoPlace rows (Rename fact x y) = ⊥
 Against WrongShape rows (Start s) = ¬ IsSequent s
 Against WrongShape rows (Apply fact goal rule) = (s : Sequent) × IsGoal rows fact goal s × RuleAgainst WrongShape rule s
+Against WrongShape rows (Rename fact x y) = ¬ AreNames x y
 Against NotEqual rows (Start s) = ⊥
 Against NotEqual rows (Apply fact goal rule) = (s : Sequent) × IsGoal rows fact goal s × RuleAgainst NotEqual rule s
+Against NotEqual rows (Rename fact x y) = ⊥
+Against NotFresh rows (Start s) = ⊥
+Against NotFresh rows (Apply fact goal rule) = (s : Sequent) × IsGoal rows fact goal s × RuleAgainst NotFresh rule s
+Against NotFresh rows (Rename fact x y) = ⊥
 
 -- the first reason against the step
 pub record Fault (rows : List Provable) (step : Step) (why : Reason) : Type 0 where

@@ -11,4 +11,6 @@ pub enum Reason {
     WrongShape,
     /// Two formulas that the rule wants to be the same are not.
     NotEqual,
+    /// A variable that the rule wants to be fresh is not.
+    NotFresh,
 }
