@@ -17,15 +17,15 @@ decided : {A : Type 0} (b : Bool) → Decides b A → Dec A
 decided true d = yes (d.0 refl)
 decided false d = no (λ a. let e = d.1 a in cc)
 
-is_false : (b : Bool) → Dec (b ≡ false)
+pub is_false : (b : Bool) → Dec (b ≡ false)
 is_false true = no (λ e. cc)
 is_false false = yes refl
 
-is_true : (b : Bool) → Dec (IsTrue b)
+pub is_true : (b : Bool) → Dec (IsTrue b)
 is_true true = yes refl
 is_true false = no (λ e. cc)
 
-both : {A B C : Type 0} → (A → B → C) → (C → A) → (C → B) → Dec A → Dec B → Dec C
+pub both : {A B C : Type 0} → (A → B → C) → (C → A) → (C → B) → Dec A → Dec B → Dec C
 both make first second (yes a) (yes b) = yes (make a b)
 both make first second (yes a) (no n) = no (λ c. n (second c))
 both make first second (no n) b = no (λ c. n (first c))
@@ -54,7 +54,7 @@ NoDotNorHole t = (has_dots t ≡ false) × (has_hole t ≡ false)
 abbrev IsMadeFormula : Tree → Type 0
 IsMadeFormula t = WellMade t × (sort t ≡ Formula)
 
-is_formula : (t : Tree) → Dec (IsFormula t)
+pub is_formula : (t : Tree) → Dec (IsFormula t)
 is_formula t =
     both {A = IsMadeFormula t} {B = NoDotNorHole t} (λ m n. record { well_made = m.0; sort_is = m.1; no_dot = n.0; no_hole = n.1 }) (λ f. (f.well_made, f.sort_is)) (λ f. (f.no_dot, f.no_hole))
     (both (λ w s. (w, s)) (λ m. m.0) (λ m. m.1) (well_made_decided t) (decided _ (sort_decides (sort t) Formula)))

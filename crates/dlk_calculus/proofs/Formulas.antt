@@ -1,17 +1,29 @@
 -- What is given from provables of formulas is one of formulas.
-use Rattle.std.proofs.Common.{◌≡◌, ℕ, zero, suc, ◌≤◌, ◌-◌, Bool, true, false, ◌||◌, List, [], ◌∷◌, ◌++◌, length, take, get_or, refl, sym, subst, arith, length-append}
+use Rattle.std.proofs.Common.{◌≡◌, ℕ, zero, suc, ◌≤◌, ◌-◌, Bool, true, false, ◌||◌, List, [], ◌∷◌, ◌++◌, length, take, get_or, refl, sym, ap, subst, ◌∙◌, cond, Some, None, arith, length-append}
+use Rattle.std.specs.Prelude.{IsTrue}
 use Rattle.std.specs.List.{All}
-use Rattle.std.proofs.lemmas.Option.{slice_get-get_or}
+use Rattle.std.proofs.lemmas.Option.{slice_get-get_or, none-some, same_Some}
 use Rattle.std.proofs.lemmas.List.{take_all}
 use Rattle.std.proofs.lemmas.List.Elements.{All-cons, All-nil, All-push, All-set, All-append, All-take, All-drop}
 use Rattle.std.proofs.Math.Seq.{get_or-append_seam, take-suc}
-use Rattle.dlk_tree.specs.Trees.{Tree}
+use Rattle.dlk_tree.specs.declared.op.Op.{Op}
+use Rattle.dlk_tree.specs.declared.op.Op.TheVariants as Op'
+use Rattle.dlk_tree.specs.declared.op.Sort.TheVariants.{Formula, Program}
+use Rattle.dlk_tree.specs.Names.{is_name}
+use Rattle.dlk_tree.specs.Table.{sort_of, kid_sorts, has_parts}
+use Rattle.dlk_tree.specs.Trees.{Tree, node, Forest, no_kids, kid, root, sort, sorts, WellMade}
+use Rattle.dlk_tree.specs.Statics.{plain}
+use Rattle.dlk_tree.specs.Occurs.{has, has_dots, has_hole, is_some_dot, is_hole}
 use Rattle.dlk_calculus.specs.Sequents.{Sequent, IsFormula, IsSequent}
-use Rattle.dlk_calculus.specs.Rules.{Rule, ImplyR, Close, imply, last_left, put_right, Premises}
+use Rattle.dlk_calculus.specs.Kids.{first, later, last}
+use Rattle.dlk_calculus.specs.Places.{IsPlace}
+use Rattle.dlk_calculus.specs.Rename.{name_in, binder_of, assigned, rebound, reassigned, renamed_bound, swap}
+use Rattle.dlk_calculus.specs.Rules.{Rule, Close, CloseTrue, CloseFalse, NotL, NotR, AndL, AndR, OrL, OrR, ImplyL, ImplyR, EquivL, EquivR, Cut, CutL, CutR, HideL, HideR, CoHideR, ExchangeL, ExchangeR, SkolemL, SkolemR, BoundL, BoundR, EquivifyR, CommuteEquivL, CommuteEquivR, imply, equiv, truth, kid_f, kid_g, left, left_f, left_g, right, right_f, right_g, put_left, put_right, last_left, last_right, without_left, without_right, existential, universal, CanBind, figure, Premises}
 use Rattle.dlk_calculus.specs.Provables.{Provable, HasFormulas}
-use Rattle.dlk_calculus.specs.Steps.{Step, Start, Apply, Gives, History, Derives}
+use Rattle.dlk_calculus.specs.Steps.{Step, Start, Apply, Rename, Gives, History, Derives}
 use Rattle.dlk_calculus.proofs.PlaceLaws.{At_All}
-use Rattle.dlk_calculus.proofs.RuleLaws.{made_by}
+use Rattle.dlk_calculus.proofs.Sorts.{head, tail}
+use Rattle.dlk_calculus.proofs.Swapped.{swap_formula, swap_is_sequent, swap_sequents}
 use Rattle.dlk_calculus.proofs.StepLaws.{given_by}
 
 first_false : (a b : Bool) → a || b ≡ false → a ≡ false
@@ -22,31 +34,230 @@ second_false : (a b : Bool) → a || b ≡ false → b ≡ false
 second_false true b e = cc
 second_false false b e = e
 
--- the kids of an implication
-pub imply_left : (f g : Tree) → IsFormula (imply f g) → IsFormula f
-imply_left f g h = record {
-  well_made = h.well_made.1.0;
-  sort_is = let e = h.well_made.0.kids_fit in cc;
-  no_dot = first_false _ _ h.no_dot;
-  no_hole = first_false _ _ h.no_hole;
+both_false : (a b : Bool) → a ≡ false → b ≡ false → a || b ≡ false
+both_false true b p q = p
+both_false false b p q = q
+
+-- ---- the kids of a formula
+
+-- an operator over two formulas
+two_formulas : (op : Op) (kids : Forest) → kid_sorts op ≡ Formula ∷ Formula ∷ [] → IsFormula (node op kids) → IsFormula (first kids) × IsFormula (first (later kids))
+two_formulas op no_kids e h = let k = h.well_made.0.kids_fit ∙ e in cc
+two_formulas op (kid f no_kids) e h = let k = h.well_made.0.kids_fit ∙ e in cc
+two_formulas op (kid f (kid g rest)) e h =
+    let k : sort f ∷ sort g ∷ sorts rest ≡ Formula ∷ Formula ∷ [] = h.well_made.0.kids_fit ∙ e in
+    let dot = second_false _ _ h.no_dot in
+    let hole = second_false _ _ h.no_hole in
+    (
+      record { well_made = h.well_made.1.0; sort_is = ap head k; no_dot = first_false _ _ dot; no_hole = first_false _ _ hole },
+      record { well_made = h.well_made.1.1.0; sort_is = ap (λ ss. head (tail ss)) k; no_dot = first_false _ _ (second_false _ _ dot); no_hole = first_false _ _ (second_false _ _ hole) },
+    )
+
+-- an operator over one formula
+one_formula : (op : Op) (kids : Forest) → kid_sorts op ≡ Formula ∷ [] → IsFormula (node op kids) → IsFormula (first kids)
+one_formula op no_kids e h = let k = h.well_made.0.kids_fit ∙ e in cc
+one_formula op (kid f rest) e h =
+    let k : sort f ∷ sorts rest ≡ Formula ∷ [] = h.well_made.0.kids_fit ∙ e in
+    record { well_made = h.well_made.1.0; sort_is = ap head k; no_dot = first_false _ _ (second_false _ _ h.no_dot); no_hole = first_false _ _ (second_false _ _ h.no_hole) }
+
+-- of a formula whose top operator is known
+two_kids : (t : Tree) (op : Op) → root t ≡ op → kid_sorts op ≡ Formula ∷ Formula ∷ [] → IsFormula t → IsFormula (kid_f t) × IsFormula (kid_g t)
+two_kids (node op kids) other is e h = two_formulas op kids (ap kid_sorts is ∙ e) h
+
+one_kid : (t : Tree) (op : Op) → root t ≡ op → kid_sorts op ≡ Formula ∷ [] → IsFormula t → IsFormula (kid_f t)
+one_kid (node op kids) other is e h = one_formula op kids (ap kid_sorts is ∙ e) h
+
+existential_kid : (t : Tree) (x : List ℕ) → existential (root t) ≡ Some x → IsFormula t → IsFormula (kid_f t)
+existential_kid (node (Op'.Exists z) kids) x e h = one_formula (Op'.Exists z) kids refl h
+existential_kid (node _ kids) x e h = absurd (none-some x e)
+
+universal_kid : (t : Tree) (x : List ℕ) → universal (root t) ≡ Some x → IsFormula t → IsFormula (kid_f t)
+universal_kid (node (Op'.Forall z) kids) x e h = one_formula (Op'.Forall z) kids refl h
+universal_kid (node _ kids) x e h = absurd (none-some x e)
+
+-- ---- formulas under an operator
+
+-- a formula's operator in which no dot and no `_` stands
+record IsConnective (op : Op) : Type 0 where
+  sort_is : sort_of op ≡ Formula
+  parts : IsTrue (has_parts op)
+  no_dot : is_some_dot op ≡ false
+  no_hole : is_hole op ≡ false
+
+pair_formula : (op : Op) (f g : Tree) → IsConnective op → kid_sorts op ≡ Formula ∷ Formula ∷ [] → IsFormula f → IsFormula g → IsFormula (node op (kid f (kid g no_kids)))
+pair_formula op f g c kids hf hg = record {
+  well_made = (record { kids_fit = (λ i. hf.sort_is i ∷ hg.sort_is i ∷ []) ∙ sym kids; parts_fit = c.parts }, (hf.well_made, (hg.well_made, tt)));
+  sort_is = c.sort_is;
+  no_dot = both_false _ _ c.no_dot (both_false _ _ hf.no_dot (both_false _ _ hg.no_dot refl));
+  no_hole = both_false _ _ c.no_hole (both_false _ _ hf.no_hole (both_false _ _ hg.no_hole refl));
 }
 
-pub imply_right : (f g : Tree) → IsFormula (imply f g) → IsFormula g
-imply_right f g h = record {
-  well_made = h.well_made.1.1.0;
-  sort_is = let e = h.well_made.0.kids_fit in cc;
-  no_dot = first_false _ _ (second_false _ _ h.no_dot);
-  no_hole = first_false _ _ (second_false _ _ h.no_hole);
+imply_formula : (f g : Tree) → IsFormula f → IsFormula g → IsFormula (imply f g)
+imply_formula f g p q = pair_formula Op'.Imply f g (record { sort_is = refl; parts = refl; no_dot = refl; no_hole = refl }) refl p q
+
+equiv_formula : (f g : Tree) → IsFormula f → IsFormula g → IsFormula (equiv f g)
+equiv_formula f g p q = pair_formula Op'.Equiv f g (record { sort_is = refl; parts = refl; no_dot = refl; no_hole = refl }) refl p q
+
+quantified : (op : Op) (f : Tree) → IsConnective op → kid_sorts op ≡ Formula ∷ [] → IsFormula f → IsFormula (node op (kid f no_kids))
+quantified op f c kids h = record {
+  well_made = (record { kids_fit = (λ i. h.sort_is i ∷ []) ∙ sym kids; parts_fit = c.parts }, (h.well_made, tt));
+  sort_is = c.sort_is;
+  no_dot = both_false _ _ c.no_dot (both_false _ _ h.no_dot refl);
+  no_hole = both_false _ _ c.no_hole (both_false _ _ h.no_hole refl);
 }
+
+-- ---- renaming a bound variable
+
+-- the last of the kids of an operator over one formula
+last_formula : (op : Op) (kids : Forest) → kid_sorts op ≡ Formula ∷ [] → IsFormula (node op kids) → IsFormula (last kids)
+last_formula op no_kids e h = let k = h.well_made.0.kids_fit ∙ e in cc
+last_formula op (kid f no_kids) e h = one_formula op (kid f no_kids) e h
+last_formula op (kid f (kid g rest)) e h = let k = h.well_made.0.kids_fit ∙ e in cc
+
+assigned_name : (b : Tree) (x : List ℕ) → assigned (root b) ≡ Some x → WellMade b → IsTrue (is_name x)
+assigned_name (node (Op'.Assign v) kids) x e made = go v.primed e
+  where
+    go : (p : Bool) → cond p None (Some v.name) ≡ Some x → IsTrue (is_name x)
+    go true e = absurd (none-some x e)
+    go false e = subst (λ z. IsTrue (is_name z)) (same_Some v.name x e) made.0.parts_fit
+assigned_name (node _ kids) x e made = absurd (none-some x e)
+
+reassigned_made : (b : Tree) (x y : List ℕ) → assigned (root b) ≡ Some x → IsTrue (is_name y) → WellMade b → WellMade (reassigned y b)
+reassigned_made (node (Op'.Assign v) kids) x y e real made = (record { kids_fit = made.0.kids_fit; parts_fit = real }, made.1)
+reassigned_made (node _ kids) x y e real made = absurd (none-some x e)
+
+reassigned_sort : (b : Tree) (y : List ℕ) → sort (reassigned y b) ≡ Program
+reassigned_sort (node op kids) y = refl
+
+reassigned_lacks : (test : Op → Bool) → ((y : List ℕ) → test (Op'.Assign (plain y)) ≡ false) → (b : Tree) (y : List ℕ) → has test b ≡ false → has test (reassigned y b) ≡ false
+reassigned_lacks test none (node op kids) y h = both_false _ _ (none y) (second_false _ _ h)
+
+-- a box or a diamond over an assignment
+modal_formula : (op : Op) (kids : Forest) (x y : List ℕ) → IsConnective op → kid_sorts op ≡ Program ∷ Formula ∷ [] → IsFormula (node op kids) → assigned (root (first kids)) ≡ Some x → IsTrue (is_name y) →
+    IsFormula (node op (kid (reassigned y (first kids)) (kid (swap x y (last kids)) no_kids)))
+modal_formula op no_kids x y c e h is real = let k = h.well_made.0.kids_fit ∙ e in cc
+modal_formula op (kid b no_kids) x y c e h is real = let k = h.well_made.0.kids_fit ∙ e in cc
+modal_formula op (kid b (kid f (kid g rest))) x y c e h is real = let k = ap (λ ss. tail (tail ss)) (h.well_made.0.kids_fit ∙ e) in cc
+modal_formula op (kid b (kid f no_kids)) x y c e h is real =
+    let k : sort b ∷ sort f ∷ [] ≡ Program ∷ Formula ∷ [] = h.well_made.0.kids_fit ∙ e in
+    let dot = second_false _ _ h.no_dot in
+    let hole = second_false _ _ h.no_hole in
+    let inner : IsFormula f = record { well_made = h.well_made.1.1.0; sort_is = ap (λ ss. head (tail ss)) k; no_dot = first_false _ _ (second_false _ _ dot); no_hole = first_false _ _ (second_false _ _ hole) } in
+    let g = swap_formula x y (assigned_name b x is h.well_made.1.0) real f inner in
+    let program = reassigned_sort b y in
+    record {
+      well_made = (record { kids_fit = (λ i. program i ∷ g.sort_is i ∷ []) ∙ sym e; parts_fit = c.parts }, (reassigned_made b x y is real h.well_made.1.0, (g.well_made, tt)));
+      sort_is = c.sort_is;
+      no_dot = both_false _ _ c.no_dot (both_false _ _ (reassigned_lacks is_some_dot (λ z. refl) b y (first_false _ _ dot)) (both_false _ _ g.no_dot refl));
+      no_hole = both_false _ _ c.no_hole (both_false _ _ (reassigned_lacks is_hole (λ z. refl) b y (first_false _ _ hole)) (both_false _ _ g.no_hole refl));
+    }
+
+rebound_formula : (op : Op) (kids : Forest) (x y : List ℕ) → binder_of op kids ≡ Some x → IsTrue (is_name y) → IsFormula (node op kids) → IsFormula (rebound y (swap x y (last kids)) op kids)
+rebound_formula (Op'.Forall z) kids x y e real h =
+    let name = subst (λ n. IsTrue (is_name n)) (same_Some z x e) h.well_made.0.parts_fit in
+    quantified (Op'.Forall y) _ (record { sort_is = refl; parts = real; no_dot = refl; no_hole = refl }) refl (swap_formula x y name real _ (last_formula (Op'.Forall z) kids refl h))
+rebound_formula (Op'.Exists z) kids x y e real h =
+    let name = subst (λ n. IsTrue (is_name n)) (same_Some z x e) h.well_made.0.parts_fit in
+    quantified (Op'.Exists y) _ (record { sort_is = refl; parts = real; no_dot = refl; no_hole = refl }) refl (swap_formula x y name real _ (last_formula (Op'.Exists z) kids refl h))
+rebound_formula Op'.Box kids x y e real h = modal_formula Op'.Box kids x y (record { sort_is = refl; parts = refl; no_dot = refl; no_hole = refl }) refl h e real
+rebound_formula Op'.Dia kids x y e real h = modal_formula Op'.Dia kids x y (record { sort_is = refl; parts = refl; no_dot = refl; no_hole = refl }) refl h e real
+rebound_formula _ kids x y e real h = absurd (none-some x e)
+
+renamed_formula : (y : List ℕ) (t : Tree) → CanBind y t → IsFormula t → IsFormula (renamed_bound y t)
+renamed_formula y (node op kids) can h =
+    let x = can.1.0 in
+    let name : name_in (binder_of op kids) ≡ x = ap name_in can.1.1 in
+    subst (λ n. IsFormula (rebound y (swap n y (last kids)) op kids)) (sym name) (rebound_formula op kids x y can.1.1 can.0 h)
+
+-- ---- a sequent of formulas stays one
+
+module _ (s : Sequent) (h : IsSequent s) where
+  left_formula : (i : ℕ) → IsPlace s.ante i → IsFormula (left i s)
+  left_formula i p = h.ante (i - 1) truth (omega (arith, p.0, p.1))
+
+  right_formula : (j : ℕ) → IsPlace s.succ j → IsFormula (right j s)
+  right_formula j p = h.succ (j - 1) truth (omega (arith, p.0, p.1))
+
+  left_put : (i : ℕ) (f : Tree) → IsFormula f → IsSequent (put_left i f s)
+  left_put i f p = record { ante = All-set IsFormula s.ante (i - 1) f p h.ante; succ = h.succ }
+
+  right_put : (j : ℕ) (f : Tree) → IsFormula f → IsSequent (put_right j f s)
+  right_put j f p = record { ante = h.ante; succ = All-set IsFormula s.succ (j - 1) f p h.succ }
+
+  left_last : (f : Tree) → IsFormula f → IsSequent (last_left f s)
+  left_last f p = record { ante = All-push IsFormula s.ante f h.ante p; succ = h.succ }
+
+  right_last : (f : Tree) → IsFormula f → IsSequent (last_right f s)
+  right_last f p = record { ante = h.ante; succ = All-push IsFormula s.succ f h.succ p }
+
+  left_without : (i : ℕ) → IsSequent (without_left i s)
+  left_without i = record { ante = All-append IsFormula _ _ (All-take IsFormula (i - 1) s.ante h.ante) (All-drop IsFormula i s.ante h.ante); succ = h.succ }
+
+  right_without : (j : ℕ) → IsSequent (without_right j s)
+  right_without j = record { ante = h.ante; succ = All-append IsFormula _ _ (All-take IsFormula (j - 1) s.succ h.succ) (All-drop IsFormula j s.succ h.succ) }
+
+one_sequent : (s : Sequent) → IsSequent s → All IsSequent (s ∷ [])
+one_sequent s p = All-cons IsSequent s [] p (All-nil IsSequent)
+
+two_sequents : (s t : Sequent) → IsSequent s → IsSequent t → All IsSequent (s ∷ t ∷ [])
+two_sequents s t p q = All-cons IsSequent s (t ∷ []) p (one_sequent t q)
+
+-- ---- the premises of a rule
+
+figure_formulas : (rule : Rule) (s : Sequent) → IsSequent s → (figure rule s).places → (figure rule s).shape → All IsSequent (figure rule s).premises
+figure_formulas (Close i j) s h p k = All-nil IsSequent
+figure_formulas (CloseTrue j) s h p k = All-nil IsSequent
+figure_formulas (CloseFalse i) s h p k = All-nil IsSequent
+figure_formulas (NotL i) s h p k = one_sequent _ (right_last (without_left i s) (left_without s h i) _ (one_kid (left i s) Op'.Not k refl (left_formula s h i p)))
+figure_formulas (NotR j) s h p k = one_sequent _ (left_last (without_right j s) (right_without s h j) _ (one_kid (right j s) Op'.Not k refl (right_formula s h j p)))
+figure_formulas (AndL i) s h p k =
+    let m = two_kids (left i s) Op'.And k refl (left_formula s h i p) in
+    one_sequent _ (left_last (put_left i (left_f i s) s) (left_put s h i _ m.0) _ m.1)
+figure_formulas (AndR j) s h p k =
+    let m = two_kids (right j s) Op'.And k refl (right_formula s h j p) in
+    two_sequents _ _ (right_put s h j _ m.0) (right_put s h j _ m.1)
+figure_formulas (OrL i) s h p k =
+    let m = two_kids (left i s) Op'.Or k refl (left_formula s h i p) in
+    two_sequents _ _ (left_put s h i _ m.0) (left_put s h i _ m.1)
+figure_formulas (OrR j) s h p k =
+    let m = two_kids (right j s) Op'.Or k refl (right_formula s h j p) in
+    one_sequent _ (right_last (put_right j (right_f j s) s) (right_put s h j _ m.0) _ m.1)
+figure_formulas (ImplyL i) s h p k =
+    let m = two_kids (left i s) Op'.Imply k refl (left_formula s h i p) in
+    two_sequents _ _ (right_last (without_left i s) (left_without s h i) _ m.0) (left_put s h i _ m.1)
+figure_formulas (ImplyR j) s h p k =
+    let m = two_kids (right j s) Op'.Imply k refl (right_formula s h j p) in
+    one_sequent _ (left_last (put_right j (right_g j s) s) (right_put s h j _ m.1) _ m.0)
+figure_formulas (EquivL i) s h p k =
+    let m = two_kids (left i s) Op'.Equiv k refl (left_formula s h i p) in
+    one_sequent _ (left_last (put_left i (imply (left_f i s) (left_g i s)) s) (left_put s h i _ (imply_formula _ _ m.0 m.1)) _ (imply_formula _ _ m.1 m.0))
+figure_formulas (EquivR j) s h p k =
+    let m = two_kids (right j s) Op'.Equiv k refl (right_formula s h j p) in
+    two_sequents _ _ (right_put s h j _ (imply_formula _ _ m.0 m.1)) (right_put s h j _ (imply_formula _ _ m.1 m.0))
+figure_formulas (Cut f) s h p k = two_sequents _ _ (left_last s h f k) (right_last s h f k)
+figure_formulas (CutL i f) s h p k = two_sequents _ _ (left_put s h i f k) (right_last (without_left i s) (left_without s h i) _ (imply_formula _ _ (left_formula s h i p) k))
+figure_formulas (CutR j f) s h p k = two_sequents _ _ (right_put s h j f k) (right_put s h j _ (imply_formula _ _ k (right_formula s h j p)))
+figure_formulas (HideL i) s h p k = one_sequent _ (left_without s h i)
+figure_formulas (HideR j) s h p k = one_sequent _ (right_without s h j)
+figure_formulas (CoHideR j) s h p k = one_sequent _ (record { ante = All-nil IsFormula; succ = All-cons IsFormula _ [] (right_formula s h j p) (All-nil IsFormula) })
+figure_formulas (ExchangeL i l) s h p k = one_sequent _ (left_put (put_left i (left l s) s) (left_put s h i _ (left_formula s h l p.1)) l _ (left_formula s h i p.0))
+figure_formulas (ExchangeR j l) s h p k = one_sequent _ (right_put (put_right j (right l s) s) (right_put s h j _ (right_formula s h l p.1)) l _ (right_formula s h j p.0))
+figure_formulas (SkolemL i) s h p k = one_sequent _ (left_put s h i _ (existential_kid (left i s) k.0 k.1 (left_formula s h i p)))
+figure_formulas (SkolemR j) s h p k = one_sequent _ (right_put s h j _ (universal_kid (right j s) k.0 k.1 (right_formula s h j p)))
+figure_formulas (BoundL i y) s h p k = one_sequent _ (left_put s h i _ (renamed_formula y (left i s) k (left_formula s h i p)))
+figure_formulas (BoundR j y) s h p k = one_sequent _ (right_put s h j _ (renamed_formula y (right j s) k (right_formula s h j p)))
+figure_formulas (EquivifyR j) s h p k =
+    let m = two_kids (right j s) Op'.Imply k refl (right_formula s h j p) in
+    one_sequent _ (right_put s h j _ (equiv_formula _ _ m.0 m.1))
+figure_formulas (CommuteEquivL i) s h p k =
+    let m = two_kids (left i s) Op'.Equiv k refl (left_formula s h i p) in
+    one_sequent _ (left_put s h i _ (equiv_formula _ _ m.1 m.0))
+figure_formulas (CommuteEquivR j) s h p k =
+    let m = two_kids (right j s) Op'.Equiv k refl (right_formula s h j p) in
+    one_sequent _ (right_put s h j _ (equiv_formula _ _ m.1 m.0))
 
 pub premises_formulas : (rule : Rule) (s : Sequent) (premises : List Sequent) → IsSequent s → Premises rule s premises → All IsSequent premises
-premises_formulas (ImplyR j) s premises h p =
-    let m = made_by (ImplyR j) s premises p in
-    let is = At_All IsFormula s.succ j (imply m.0 m.1) h.succ m.2 in
-    let left = imply_left m.0 m.1 is in
-    let right = imply_right m.0 m.1 is in
-    rw m.3 (All-cons IsSequent (last_left m.0 (put_right j m.1 s)) [] (record { ante = All-push IsFormula s.ante m.0 h.ante left; succ = All-set IsFormula s.succ (j - 1) m.1 right h.succ }) (All-nil IsSequent))
-premises_formulas (Close i j) s premises h p = rw (made_by (Close i j) s premises p).3 (All-nil IsSequent)
+premises_formulas rule s premises h p = rw p.premises_are (figure_formulas rule s h p.places p.shape)
 
 pub given_formulas : (rows : List Provable) (step : Step) (p : Provable) → All HasFormulas rows → Gives rows step p → HasFormulas p
 given_formulas rows (Start s) p h g =
@@ -59,6 +270,14 @@ given_formulas rows (Apply fact goal rule) p h g =
     rw m.6 (record {
       conclusion = q.conclusion;
       goals = All-append IsSequent _ _ (All-append IsSequent _ _ (All-take IsSequent (goal - 1) m.0.goals q.goals) premises) (All-drop IsSequent goal m.0.goals q.goals);
+      leaves = q.leaves;
+    })
+given_formulas rows (Rename fact x y) p h g =
+    let m = given_by rows (Rename fact x y) p g in
+    let q = At_All HasFormulas rows fact m.0 h m.1 in
+    rw m.3 (record {
+      conclusion = swap_is_sequent x y m.2.0 m.2.1 m.0.conclusion q.conclusion;
+      goals = swap_sequents x y m.2.0 m.2.1 m.0.goals q.goals;
       leaves = q.leaves;
     })
 

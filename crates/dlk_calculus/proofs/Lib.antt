@@ -1,5 +1,6 @@
 pub mod PlaceLaws
 pub mod Decide
+pub mod Swapped
 pub mod RuleLaws
 pub mod StepLaws
 pub mod Histories

@@ -1,88 +1,140 @@
 -- A rule makes at most one list of premises, and makes one exactly where nothing speaks against it.
-use Rattle.std.proofs.Common.{◌≡◌, List, [], ◌∷◌, refl, sym, ap, ◌∙◌, arith, Some, ◌⊎◌, inl, inr}
-use Rattle.dlk_tree.specs.declared.op.Op.{Op}
-use Rattle.dlk_tree.specs.declared.op.Op.TheVariants.{Imply}
-use Rattle.dlk_tree.specs.Trees.{Tree, node, Forest, no_kids, kid}
+use Rattle.std.proofs.Common.{◌≡◌, ℕ, List, sym, subst, ◌∙◌, refl, arith, Option, Some, None, ◌⊎◌, inl, inr}
+use Rattle.std.proofs.lemmas.Option.{none-some, same_Some}
+use Rattle.dlk_tree.specs.declared.op.Op.TheVariants as Op'
+use Rattle.std.specs.Prelude.{IsTrue}
+use Rattle.dlk_tree.specs.Names.{is_name}
+use Rattle.dlk_tree.specs.Trees.{Tree, root}
 use Rattle.dlk_calculus.specs.declared.reason.Reason.{Reason}
-use Rattle.dlk_calculus.specs.declared.reason.Reason.TheVariants.{NoFact, NoGoal, NoPlace, WrongShape, NotEqual}
-use Rattle.dlk_calculus.specs.Places.{At}
+use Rattle.dlk_calculus.specs.declared.reason.Reason.TheVariants.{NoFact, NoGoal, NoPlace, WrongShape, NotEqual, NotFresh}
+use Rattle.dlk_calculus.specs.Places.{IsPlace}
 use Rattle.dlk_calculus.specs.Sequents.{Sequent}
-use Rattle.dlk_calculus.specs.Rules.{Rule, ImplyR, Close, imply, IsImplication, last_left, put_right, Premises, implyR, close, HasPlaces, HasShape, HasEquals, RuleAgainst, FirstAgainst}
-use Rattle.dlk_calculus.proofs.PlaceLaws.{at_one, At_place, place_cases}
-use Rattle.dlk_calculus.proofs.Decide.{same_op, same_tree}
-
--- what the premises of a rule are made of
-abbrev pub MadeBy : Rule → Sequent → List Sequent → Type 0
-MadeBy (ImplyR j) s premises = (f : Tree) × (g : Tree) × At s.succ j (imply f g) × (premises ≡ last_left f (put_right j g s) ∷ [])
-MadeBy (Close i j) s premises = (f : Tree) × At s.ante i f × At s.succ j f × (premises ≡ [])
-
-pub made_by : (rule : Rule) (s : Sequent) (premises : List Sequent) → Premises rule s premises → MadeBy rule s premises
-made_by (ImplyR j) s premises (implyR i t f g h) = (f, g, h, refl)
-made_by (Close i j) s premises (close k l t f g h) = (f, g, h, refl)
+use Rattle.dlk_calculus.specs.Rename.{binder, body, may_rename}
+use Rattle.dlk_calculus.specs.Rules.{Rule, Close, CloseTrue, CloseFalse, NotL, NotR, AndL, AndR, OrL, OrR, ImplyL, ImplyR, EquivL, EquivR, Cut, CutL, CutR, HideL, HideR, CoHideR, ExchangeL, ExchangeR, SkolemL, SkolemR, BoundL, BoundR, EquivifyR, CommuteEquivL, CommuteEquivR, left, right, without_left, without_right, existential, universal, IsSome, OfName, IsUnread, CanBind, MayBind, Figure, plain_figure, any_figure, fresh_figure, figure, Premises, RuleAgainst, FirstAgainst}
+use Rattle.dlk_calculus.proofs.PlaceLaws.{At_place, place_cases}
+use Rattle.dlk_calculus.proofs.Decide.{same_op, same_tree, is_formula, is_false, is_true, both}
 
 pub one_premises : (rule : Rule) (s : Sequent) (ps qs : List Sequent) → Premises rule s ps → Premises rule s qs → ps ≡ qs
-one_premises (ImplyR j) s ps qs p q =
-    let a = made_by (ImplyR j) s ps p in
-    let b = made_by (ImplyR j) s qs q in
-    let e : imply a.0 a.1 ≡ imply b.0 b.1 = at_one s.succ j (imply a.0 a.1) (imply b.0 b.1) a.2 b.2 in
-    let f : a.0 ≡ b.0 = cc in
-    let g : a.1 ≡ b.1 = cc in
-    a.3 ∙ (rw (f, g) (sym b.3))
-one_premises (Close i j) s ps qs p q = (made_by (Close i j) s ps p).3 ∙ sym (made_by (Close i j) s qs q).3
+one_premises rule s ps qs p q = p.premises_are ∙ sym q.premises_are
 
 -- nothing speaks against a rule that makes premises
 pub premises_unless_against : (rule : Rule) (s : Sequent) (premises : List Sequent) (why : Reason) → Premises rule s premises → RuleAgainst why rule s → ⊥
 premises_unless_against rule s premises NoFact p a = a
 premises_unless_against rule s premises NoGoal p a = a
-premises_unless_against (ImplyR j) s premises NoPlace p a = let m = made_by (ImplyR j) s premises p in a (At_place s.succ j (imply m.0 m.1) m.2)
-premises_unless_against (Close i j) s premises NoPlace p a = let m = made_by (Close i j) s premises p in a (At_place s.ante i m.0 m.1, At_place s.succ j m.0 m.2)
-premises_unless_against (ImplyR j) s premises WrongShape p a = let m = made_by (ImplyR j) s premises p in a (m.0, m.1, m.2)
-premises_unless_against (Close i j) s premises WrongShape p a = a tt
-premises_unless_against (ImplyR j) s premises NotEqual p a = a tt
-premises_unless_against (Close i j) s premises NotEqual p a = let m = made_by (Close i j) s premises p in a (m.0, m.1, m.2)
-
-implication_over : (op : Op) (kids : Forest) → Dec (op ≡ Imply) → Dec (IsImplication (node op kids))
-implication_over op kids (no n) = no (λ h. let e : node op kids ≡ imply h.0 h.1 = h.2 in n (cc))
-implication_over op no_kids (yes p) = no (λ h. let e : node op no_kids ≡ imply h.0 h.1 = h.2 in cc)
-implication_over op (kid f no_kids) (yes p) = no (λ h. let e : node op (kid f no_kids) ≡ imply h.0 h.1 = h.2 in cc)
-implication_over op (kid f (kid g no_kids)) (yes p) = yes (f, g, ap (λ o. node o (kid f (kid g no_kids))) p)
-implication_over op (kid f (kid g (kid t rest))) (yes p) = no (λ h. let e : node op (kid f (kid g (kid t rest))) ≡ imply h.0 h.1 = h.2 in cc)
-
-pub is_implication : (t : Tree) → Dec (IsImplication t)
-is_implication (node op kids) = implication_over op kids (same_op op Imply)
+premises_unless_against rule s premises NoPlace p a = a p.places
+premises_unless_against rule s premises WrongShape p a = a p.shape
+premises_unless_against rule s premises NotEqual p a = a p.equals
+premises_unless_against rule s premises NotFresh p a = a p.fresh
 
 -- the first reason against a rule, by the reasons before it
-pub first_no_place : (rule : Rule) (s : Sequent) → (¬ HasPlaces rule s) → FirstAgainst rule s NoPlace
-first_no_place rule s n = record { against = n; first = elim [ NoFact ↦ λ lt a. a | NoGoal ↦ λ lt a. a | NoPlace ↦ λ lt. absurd (omega arith) | WrongShape ↦ λ lt. absurd (omega arith) | NotEqual ↦ λ lt. absurd (omega arith) ] }
+pub first_no_place : (rule : Rule) (s : Sequent) → (¬ (figure rule s).places) → FirstAgainst rule s NoPlace
+first_no_place rule s n = record {
+  against = n;
+  first = elim [ NoFact ↦ λ lt a. a | NoGoal ↦ λ lt a. a | NoPlace ↦ λ lt. absurd (omega arith) | WrongShape ↦ λ lt. absurd (omega arith) | NotEqual ↦ λ lt. absurd (omega arith) | NotFresh ↦ λ lt. absurd (omega arith) ];
+}
 
-pub first_wrong_shape : (rule : Rule) (s : Sequent) → HasPlaces rule s → (¬ HasShape rule s) → FirstAgainst rule s WrongShape
-first_wrong_shape rule s h n = record { against = n; first = elim [ NoFact ↦ λ lt a. a | NoGoal ↦ λ lt a. a | NoPlace ↦ λ lt a. a h | WrongShape ↦ λ lt. absurd (omega arith) | NotEqual ↦ λ lt. absurd (omega arith) ] }
+pub first_wrong_shape : (rule : Rule) (s : Sequent) → (figure rule s).places → (¬ (figure rule s).shape) → FirstAgainst rule s WrongShape
+first_wrong_shape rule s h n = record {
+  against = n;
+  first = elim [ NoFact ↦ λ lt a. a | NoGoal ↦ λ lt a. a | NoPlace ↦ λ lt a. a h | WrongShape ↦ λ lt. absurd (omega arith) | NotEqual ↦ λ lt. absurd (omega arith) | NotFresh ↦ λ lt. absurd (omega arith) ];
+}
 
-pub first_not_equal : (rule : Rule) (s : Sequent) → HasPlaces rule s → HasShape rule s → (¬ HasEquals rule s) → FirstAgainst rule s NotEqual
-first_not_equal rule s h k n = record { against = n; first = elim [ NoFact ↦ λ lt a. a | NoGoal ↦ λ lt a. a | NoPlace ↦ λ lt a. a h | WrongShape ↦ λ lt a. a k | NotEqual ↦ λ lt. absurd (omega arith) ] }
+pub first_not_equal : (rule : Rule) (s : Sequent) → (figure rule s).places → (figure rule s).shape → (¬ (figure rule s).equals) → FirstAgainst rule s NotEqual
+first_not_equal rule s h k n = record {
+  against = n;
+  first = elim [ NoFact ↦ λ lt a. a | NoGoal ↦ λ lt a. a | NoPlace ↦ λ lt a. a h | WrongShape ↦ λ lt a. a k | NotEqual ↦ λ lt. absurd (omega arith) | NotFresh ↦ λ lt. absurd (omega arith) ];
+}
+
+pub first_not_fresh : (rule : Rule) (s : Sequent) → (figure rule s).places → (figure rule s).shape → (figure rule s).equals → (¬ (figure rule s).fresh) → FirstAgainst rule s NotFresh
+first_not_fresh rule s h k e n = record {
+  against = n;
+  first = elim [ NoFact ↦ λ lt a. a | NoGoal ↦ λ lt a. a | NoPlace ↦ λ lt a. a h | WrongShape ↦ λ lt a. a k | NotEqual ↦ λ lt a. a e | NotFresh ↦ λ lt. absurd (omega arith) ];
+}
+
+-- ---- what a rule asks for is decided
+
+record Decided (f : Figure) : Type 0 where
+  places : Dec f.places
+  shape : Dec f.shape
+  equals : Dec f.equals
+  fresh : Dec f.fresh
+
+plain_decided : {P Q : Type 0} {premises : List Sequent} → Dec P → Dec Q → Decided (plain_figure P Q premises)
+plain_decided p q = record { places = p; shape = q; equals = yes tt; fresh = yes tt }
+
+any_decided : {P : Type 0} {premises : List Sequent} → Dec P → Decided (any_figure P premises)
+any_decided p = plain_decided p (yes tt)
+
+fresh_decided : {P Q R : Type 0} {premises : List Sequent} → Dec P → Dec Q → Dec R → Decided (fresh_figure P Q R premises)
+fresh_decided p q r = record { places = p; shape = q; equals = yes tt; fresh = r }
+
+is_place : (items : List Tree) (place : ℕ) → Dec (IsPlace items place)
+is_place items place = elim (place_cases items place) [ inl h ↦ yes (At_place items place h.0 h.1) | inr n ↦ no n ]
+
+two_places : (one two : List Tree) (i k : ℕ) → Dec (IsPlace one i × IsPlace two k)
+two_places one two i k = both (λ p q. (p, q)) (λ c. c.0) (λ c. c.1) (is_place one i) (is_place two k)
+
+is_some : (name : Option (List ℕ)) → Dec (IsSome name)
+is_some None = no (λ h. none-some h.0 h.1)
+is_some (Some x) = yes (x, refl)
+
+of_name : (name : Option (List ℕ)) (P : List ℕ → Type 0) → ((x : List ℕ) → Dec (P x)) → Dec (OfName name P)
+of_name None P decide = yes (λ x e. absurd (none-some x e))
+of_name (Some x) P decide = elim (decide x) [ yes p ↦ yes (λ y e. subst P (same_Some x y e) p) | no n ↦ no (λ all. n (all x refl)) ]
+
+is_unread : (s : Sequent) (name : Option (List ℕ)) → Dec (OfName name (IsUnread s))
+is_unread s name = of_name name (IsUnread s) (λ x. is_false _)
+
+can_bind : (y : List ℕ) (t : Tree) → Dec (CanBind y t)
+can_bind y t = both (λ p q. (p, q)) (λ c. c.0) (λ c. c.1) (is_true (is_name y)) (is_some (binder t))
+
+may_bind : (y : List ℕ) (t : Tree) → Dec (MayBind y t)
+may_bind y t = of_name (binder t) (λ x. IsTrue (may_rename x y (body t))) (λ x. is_true _)
+
+decided : (rule : Rule) (s : Sequent) → Decided (figure rule s)
+decided (Close i j) s = record { places = two_places s.ante s.succ i j; shape = yes tt; equals = same_tree (left i s) (right j s); fresh = yes tt }
+decided (CloseTrue j) s = plain_decided (is_place s.succ j) (same_op (root (right j s)) Op'.True)
+decided (CloseFalse i) s = plain_decided (is_place s.ante i) (same_op (root (left i s)) Op'.False)
+decided (NotL i) s = plain_decided (is_place s.ante i) (same_op (root (left i s)) Op'.Not)
+decided (NotR j) s = plain_decided (is_place s.succ j) (same_op (root (right j s)) Op'.Not)
+decided (AndL i) s = plain_decided (is_place s.ante i) (same_op (root (left i s)) Op'.And)
+decided (AndR j) s = plain_decided (is_place s.succ j) (same_op (root (right j s)) Op'.And)
+decided (OrL i) s = plain_decided (is_place s.ante i) (same_op (root (left i s)) Op'.Or)
+decided (OrR j) s = plain_decided (is_place s.succ j) (same_op (root (right j s)) Op'.Or)
+decided (ImplyL i) s = plain_decided (is_place s.ante i) (same_op (root (left i s)) Op'.Imply)
+decided (ImplyR j) s = plain_decided (is_place s.succ j) (same_op (root (right j s)) Op'.Imply)
+decided (EquivL i) s = plain_decided (is_place s.ante i) (same_op (root (left i s)) Op'.Equiv)
+decided (EquivR j) s = plain_decided (is_place s.succ j) (same_op (root (right j s)) Op'.Equiv)
+decided (Cut h) s = plain_decided (yes tt) (is_formula h)
+decided (CutL i h) s = plain_decided (is_place s.ante i) (is_formula h)
+decided (CutR j h) s = plain_decided (is_place s.succ j) (is_formula h)
+decided (HideL i) s = any_decided (is_place s.ante i)
+decided (HideR j) s = any_decided (is_place s.succ j)
+decided (CoHideR j) s = any_decided (is_place s.succ j)
+decided (ExchangeL i k) s = any_decided (two_places s.ante s.ante i k)
+decided (ExchangeR j l) s = any_decided (two_places s.succ s.succ j l)
+decided (SkolemL i) s = fresh_decided (is_place s.ante i) (is_some (existential (root (left i s)))) (is_unread (without_left i s) (existential (root (left i s))))
+decided (SkolemR j) s = fresh_decided (is_place s.succ j) (is_some (universal (root (right j s)))) (is_unread (without_right j s) (universal (root (right j s))))
+decided (BoundL i y) s = fresh_decided (is_place s.ante i) (can_bind y (left i s)) (may_bind y (left i s))
+decided (BoundR j y) s = fresh_decided (is_place s.succ j) (can_bind y (right j s)) (may_bind y (right j s))
+decided (EquivifyR j) s = plain_decided (is_place s.succ j) (same_op (root (right j s)) Op'.Imply)
+decided (CommuteEquivL i) s = plain_decided (is_place s.ante i) (same_op (root (left i s)) Op'.Equiv)
+decided (CommuteEquivR j) s = plain_decided (is_place s.succ j) (same_op (root (right j s)) Op'.Equiv)
 
 -- a rule makes premises, or there is a first reason against it
 pub rule_cases : (rule : Rule) (s : Sequent) → ((premises : List Sequent) × Premises rule s premises) ⊎ ((why : Reason) × FirstAgainst rule s why)
-rule_cases (ImplyR j) s =
-    elim (place_cases s.succ j) [
-      | inr n ↦ inr (NoPlace, first_no_place (ImplyR j) s n)
-      | inl h ↦ elim (is_implication h.0) [
-        | yes k ↦ inl (last_left k.0 (put_right j k.1 s) ∷ [], implyR j s k.0 k.1 (h.1 ∙ ap Some k.2))
-        | no n ↦ inr (WrongShape, first_wrong_shape (ImplyR j) s (At_place s.succ j h.0 h.1) (λ k. n (k.0, k.1, at_one s.succ j h.0 (imply k.0 k.1) h.1 k.2)))
-      ]
-    ]
-rule_cases (Close i j) s =
-    elim (place_cases s.ante i) [
-      | inr n ↦ inr (NoPlace, first_no_place (Close i j) s (λ p. n p.0))
-      | inl h ↦ elim (place_cases s.succ j) [
-        | inr n ↦ inr (NoPlace, first_no_place (Close i j) s (λ p. n p.1))
-        | inl k ↦ elim (same_tree h.0 k.0) [
-          | yes e ↦ inl ([], close i j s h.0 h.1 (k.1 ∙ ap Some (sym e)))
-          | no n ↦ inr (
-            NotEqual,
-            first_not_equal (Close i j) s (At_place s.ante i h.0 h.1, At_place s.succ j k.0 k.1) tt
-                (λ m. n (at_one s.ante i h.0 m.0 h.1 m.1 ∙ at_one s.succ j m.0 k.0 m.2 k.1)),
-          )
+rule_cases rule s =
+    let d = decided rule s in
+    elim d.places [
+      | no n ↦ inr (NoPlace, first_no_place rule s n)
+      | yes p ↦ elim d.shape [
+        | no n ↦ inr (WrongShape, first_wrong_shape rule s p n)
+        | yes k ↦ elim d.equals [
+          | no n ↦ inr (NotEqual, first_not_equal rule s p k n)
+          | yes e ↦ elim d.fresh [
+            | no n ↦ inr (NotFresh, first_not_fresh rule s p k e n)
+            | yes f ↦ inl ((figure rule s).premises, record { places = p; shape = k; equals = e; fresh = f; premises_are = refl })
+          ]
         ]
       ]
     ]

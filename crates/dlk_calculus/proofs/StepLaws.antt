@@ -1,15 +1,16 @@
 -- A step gives at most one provable, and gives one exactly where nothing speaks against it.
-use Rattle.std.proofs.Common.{◌≡◌, ℕ, ◌<◌, List, refl, sym, subst, ◌∙◌, arith, ◌⊎◌, inl, inr}
+use Rattle.std.proofs.Common.{◌≡◌, ℕ, ◌<◌, List, refl, sym, ap, subst, ◌∙◌, arith, ◌⊎◌, inl, inr}
 use Rattle.dlk_calculus.specs.declared.reason.Reason.{Reason}
-use Rattle.dlk_calculus.specs.declared.reason.Reason.TheVariants.{NoFact, NoGoal, NoPlace, WrongShape, NotEqual}
+use Rattle.dlk_calculus.specs.declared.reason.Reason.TheVariants.{NoFact, NoGoal, NoPlace, WrongShape, NotEqual, NotFresh}
 use Rattle.dlk_calculus.specs.Reasons.{rank}
+use Rattle.dlk_tree.specs.Names.{is_name}
 use Rattle.dlk_calculus.specs.Places.{At, IsPlace}
 use Rattle.dlk_calculus.specs.Sequents.{Sequent, IsSequent}
 use Rattle.dlk_calculus.specs.Rules.{Rule, Premises, RuleAgainst, FirstAgainst}
-use Rattle.dlk_calculus.specs.Provables.{Provable, started, applied}
-use Rattle.dlk_calculus.specs.Steps.{Step, Start, Apply, Gives, start, apply, IsGoal, Against, Fault, StepOf}
+use Rattle.dlk_calculus.specs.Provables.{Provable, started, applied, renamed}
+use Rattle.dlk_calculus.specs.Steps.{Step, Start, Apply, Rename, AreNames, Gives, start, apply, rename, IsGoal, Against, Fault, StepOf}
 use Rattle.dlk_calculus.proofs.PlaceLaws.{at_one, At_place, place_cases}
-use Rattle.dlk_calculus.proofs.Decide.{is_sequent}
+use Rattle.dlk_calculus.proofs.Decide.{is_sequent, is_true, both}
 use Rattle.dlk_calculus.proofs.RuleLaws.{one_premises, premises_unless_against, rule_cases}
 
 -- what a step's provable is made of
@@ -17,10 +18,12 @@ abbrev pub GivenBy : List Provable → Step → Provable → Type 0
 GivenBy rows (Start s) p = IsSequent s × (p ≡ started s)
 GivenBy rows (Apply fact goal rule) p =
     (q : Provable) × (s : Sequent) × (premises : List Sequent) × At rows fact q × At q.goals goal s × Premises rule s premises × (p ≡ applied q goal premises)
+GivenBy rows (Rename fact x y) p = (q : Provable) × At rows fact q × AreNames x y × (p ≡ renamed x y q)
 
 pub given_by : (rows : List Provable) (step : Step) (p : Provable) → Gives rows step p → GivenBy rows step p
 given_by rows (Start s) p (start t h) = (h, refl)
 given_by rows (Apply fact goal rule) p (apply f g r q s premises a b c) = (q, s, premises, a, b, c, refl)
+given_by rows (Rename fact x y) p (rename f v w q a b) = (q, a, b, refl)
 
 -- the goal of a fact is one sequent
 one_goal : (rows : List Provable) (fact goal : ℕ) (p q : Provable) (s t : Sequent) → At rows fact p → At rows fact q → At p.goals goal s → At q.goals goal t → s ≡ t
@@ -37,6 +40,10 @@ one_given rows (Apply fact goal rule) p q g h =
     let s : a.1 ≡ b.1 = one_goal rows fact goal a.0 b.0 a.1 b.1 a.3 b.3 a.4 b.4 in
     let premises : a.2 ≡ b.2 = one_premises rule b.1 a.2 b.2 (subst (λ x. Premises rule x a.2) s a.5) b.5 in
     a.6 ∙ (λ i. applied (row i) goal (premises i)) ∙ sym b.6
+one_given rows (Rename fact x y) p q g h =
+    let a = given_by rows (Rename fact x y) p g in
+    let b = given_by rows (Rename fact x y) q h in
+    a.3 ∙ ap (renamed x y) (at_one rows fact a.0 b.0 a.1 b.1) ∙ sym b.3
 
 -- what a fact's goal has, no other goal of that number lacks
 goal_unless : (rows : List Provable) (fact goal : ℕ) (s : Sequent) (P : Sequent → Type 0) → IsGoal rows fact goal s → (P s → ⊥) → ((t : Sequent) × IsGoal rows fact goal t × P t) → ⊥
@@ -59,6 +66,7 @@ given_unless rows (Start s) p NoGoal g a = a
 given_unless rows (Start s) p NoPlace g a = a
 given_unless rows (Start s) p WrongShape g a = a (given_by rows (Start s) p g).0
 given_unless rows (Start s) p NotEqual g a = a
+given_unless rows (Start s) p NotFresh g a = a
 given_unless rows (Apply fact goal rule) p NoFact g a = let b = given_by rows (Apply fact goal rule) p g in fact_there rows fact goal b.1 (b.0, b.3, b.4) a
 given_unless rows (Apply fact goal rule) p NoGoal g a = let b = given_by rows (Apply fact goal rule) p g in goal_there rows fact goal b.1 (b.0, b.3, b.4) a
 given_unless rows (Apply fact goal rule) p NoPlace g a =
@@ -70,6 +78,15 @@ given_unless rows (Apply fact goal rule) p WrongShape g a =
 given_unless rows (Apply fact goal rule) p NotEqual g a =
     let b = given_by rows (Apply fact goal rule) p g in
     goal_unless rows fact goal b.1 (RuleAgainst NotEqual rule) (b.0, b.3, b.4) (premises_unless_against rule b.1 b.2 NotEqual b.5) a
+given_unless rows (Apply fact goal rule) p NotFresh g a =
+    let b = given_by rows (Apply fact goal rule) p g in
+    goal_unless rows fact goal b.1 (RuleAgainst NotFresh rule) (b.0, b.3, b.4) (premises_unless_against rule b.1 b.2 NotFresh b.5) a
+given_unless rows (Rename fact x y) p NoFact g a = let b = given_by rows (Rename fact x y) p g in a (At_place rows fact b.0 b.1)
+given_unless rows (Rename fact x y) p NoGoal g a = a
+given_unless rows (Rename fact x y) p NoPlace g a = a
+given_unless rows (Rename fact x y) p WrongShape g a = a (given_by rows (Rename fact x y) p g).2
+given_unless rows (Rename fact x y) p NotEqual g a = a
+given_unless rows (Rename fact x y) p NotFresh g a = a
 
 pub StepOf-given : (rows : List Provable) (step : Step) (p : Provable) → Gives rows step p → StepOf rows step p
 StepOf-given rows step p g = record { given = g; allowed = λ why a. given_unless rows step p why g a }
@@ -78,20 +95,35 @@ StepOf-given rows step p g = record { given = g; allowed = λ why a. given_unles
 pub no_fact : (rows : List Provable) (fact goal : ℕ) (rule : Rule) → (¬ IsPlace rows fact) → Fault rows (Apply fact goal rule) NoFact
 no_fact rows fact goal rule n = record {
   against = n;
-  first = elim [ NoFact ↦ λ lt. absurd (omega arith) | NoGoal ↦ λ lt. absurd (omega arith) | NoPlace ↦ λ lt. absurd (omega arith) | WrongShape ↦ λ lt. absurd (omega arith) | NotEqual ↦ λ lt. absurd (omega arith) ];
+  first = elim [ NoFact ↦ λ lt. absurd (omega arith) | NoGoal ↦ λ lt. absurd (omega arith) | NoPlace ↦ λ lt. absurd (omega arith) | WrongShape ↦ λ lt. absurd (omega arith) | NotEqual ↦ λ lt. absurd (omega arith) | NotFresh ↦ λ lt. absurd (omega arith) ];
 }
 
 pub no_goal : (rows : List Provable) (fact goal : ℕ) (rule : Rule) (p : Provable) → At rows fact p → (¬ IsPlace p.goals goal) → Fault rows (Apply fact goal rule) NoGoal
 no_goal rows fact goal rule p h n = record {
   against = (p, h, n);
-  first = elim [ NoFact ↦ λ lt a. a (At_place rows fact p h) | NoGoal ↦ λ lt. absurd (omega arith) | NoPlace ↦ λ lt. absurd (omega arith) | WrongShape ↦ λ lt. absurd (omega arith) | NotEqual ↦ λ lt. absurd (omega arith) ];
+  first = elim [ NoFact ↦ λ lt a. a (At_place rows fact p h) | NoGoal ↦ λ lt. absurd (omega arith) | NoPlace ↦ λ lt. absurd (omega arith) | WrongShape ↦ λ lt. absurd (omega arith) | NotEqual ↦ λ lt. absurd (omega arith) | NotFresh ↦ λ lt. absurd (omega arith) ];
 }
 
-no_formulas : (rows : List Provable) (s : Sequent) → (¬ IsSequent s) → Fault rows (Start s) WrongShape
+pub no_formulas : (rows : List Provable) (s : Sequent) → (¬ IsSequent s) → Fault rows (Start s) WrongShape
 no_formulas rows s n = record {
   against = n;
-  first = elim [ NoFact ↦ λ lt a. a | NoGoal ↦ λ lt a. a | NoPlace ↦ λ lt a. a | WrongShape ↦ λ lt. absurd (omega arith) | NotEqual ↦ λ lt. absurd (omega arith) ];
+  first = elim [ NoFact ↦ λ lt a. a | NoGoal ↦ λ lt a. a | NoPlace ↦ λ lt a. a | WrongShape ↦ λ lt. absurd (omega arith) | NotEqual ↦ λ lt. absurd (omega arith) | NotFresh ↦ λ lt. absurd (omega arith) ];
 }
+
+pub no_fact_to_rename : (rows : List Provable) (fact : ℕ) (x y : List ℕ) → (¬ IsPlace rows fact) → Fault rows (Rename fact x y) NoFact
+no_fact_to_rename rows fact x y n = record {
+  against = n;
+  first = elim [ NoFact ↦ λ lt. absurd (omega arith) | NoGoal ↦ λ lt. absurd (omega arith) | NoPlace ↦ λ lt. absurd (omega arith) | WrongShape ↦ λ lt. absurd (omega arith) | NotEqual ↦ λ lt. absurd (omega arith) | NotFresh ↦ λ lt. absurd (omega arith) ];
+}
+
+no_names : (rows : List Provable) (fact : ℕ) (x y : List ℕ) (p : Provable) → At rows fact p → (¬ AreNames x y) → Fault rows (Rename fact x y) WrongShape
+no_names rows fact x y p h n = record {
+  against = n;
+  first = elim [ NoFact ↦ λ lt a. a (At_place rows fact p h) | NoGoal ↦ λ lt a. a | NoPlace ↦ λ lt a. a | WrongShape ↦ λ lt. absurd (omega arith) | NotEqual ↦ λ lt. absurd (omega arith) | NotFresh ↦ λ lt. absurd (omega arith) ];
+}
+
+are_names : (x y : List ℕ) → Dec (AreNames x y)
+are_names x y = both (λ p q. (p, q)) (λ c. c.0) (λ c. c.1) (is_true (is_name x)) (is_true (is_name y))
 
 -- the first reason against a rule on a goal is that against its step
 module _ (rows : List Provable) (fact goal : ℕ) (rule : Rule) (s : Sequent) (g : IsGoal rows fact goal s) where
@@ -101,6 +133,7 @@ module _ (rows : List Provable) (fact goal : ℕ) (rule : Rule) (s : Sequent) (g
   earlier_none why f NoPlace lt a = goal_unless rows fact goal s (RuleAgainst NoPlace rule) g (f.first NoPlace lt) a
   earlier_none why f WrongShape lt a = goal_unless rows fact goal s (RuleAgainst WrongShape rule) g (f.first WrongShape lt) a
   earlier_none why f NotEqual lt a = goal_unless rows fact goal s (RuleAgainst NotEqual rule) g (f.first NotEqual lt) a
+  earlier_none why f NotFresh lt a = goal_unless rows fact goal s (RuleAgainst NotFresh rule) g (f.first NotFresh lt) a
 
   against_step : (why : Reason) → RuleAgainst why rule s → Against why rows (Apply fact goal rule)
   against_step NoFact a = absurd a
@@ -108,6 +141,7 @@ module _ (rows : List Provable) (fact goal : ℕ) (rule : Rule) (s : Sequent) (g
   against_step NoPlace a = (s, g, a)
   against_step WrongShape a = (s, g, a)
   against_step NotEqual a = (s, g, a)
+  against_step NotFresh a = (s, g, a)
 
   pub rule_fault : (why : Reason) → FirstAgainst rule s why → Fault rows (Apply fact goal rule) why
   rule_fault why f = record { against = against_step why f.against; first = earlier_none why f }
@@ -125,4 +159,9 @@ step_cases rows (Apply fact goal rule) =
           | inr f ↦ inr (f.0, rule_fault rows fact goal rule s.0 (p.0, p.1, s.1) f.0 f.1)
         ]
       ]
+    ]
+step_cases rows (Rename fact x y) =
+    elim (place_cases rows fact) [
+      | inr n ↦ inr (NoFact, no_fact_to_rename rows fact x y n)
+      | inl p ↦ elim (are_names x y) [ yes h ↦ inl (renamed x y p.0, rename fact x y p.0 p.1 h) | no n ↦ inr (WrongShape, no_names rows fact x y p.0 p.1 n) ]
     ]
