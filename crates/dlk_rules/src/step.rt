@@ -1,5 +1,6 @@
 use crate::rule::Rule;
 use dlk_sequent::Sequent;
+use dlk_tree::Name;
 
 /// A step of a proof. Facts, which are earlier rows, and their goals go by their numbers, counted from 1.
 #[derive(Drop, Debug)]
@@ -8,4 +9,6 @@ pub enum Step {
     Start(Sequent),
     /// The premises of a rule on a goal of a fact stand in the goal's place.
     Apply { fact: u32, goal: u32, rule: Rule },
+    /// Two names are exchanged in the conclusion and the goals of a fact.
+    Rename { fact: u32, x: Name, y: Name },
 }

@@ -7,7 +7,7 @@ use Rattle.dlk_tree.specs.declared.op.Op.{Op}
 use Rattle.dlk_tree.specs.declared.op.Op.TheVariants as Op'
 use Rattle.dlk_tree.specs.Table.{has_parts}
 use Rattle.dlk_tree.specs.Trees.{Tree, node, Forest, no_kids, kid, WellMade, AllWellMade}
-use Rattle.dlk_tree.specs.Occurs.{is_dot, has, any_has, has_dot}
+use Rattle.dlk_tree.specs.Occurs.{is_dot, is_some_dot, has, any_has, has_dot}
 use Rattle.dlk_calculus.specs.Pairs.{is_dot_from}
 
 crossed : (a b c d : Bool) → ((a || b) || (c || d)) ≡ ((a || c) || (b || d))
@@ -64,3 +64,16 @@ mutual
 
 pub no_more_dots : (m n : ℕ) (t : Tree) → has (is_dot_from m) t ≡ has (is_dot_from n) t → 8 ≤ n → WellMade t → false ≡ has (is_dot_from m) t
 no_more_dots m n t passed late made = sym (passed ∙ no_late_dot n late t made)
+
+is_dot_from_0 : (op : Op) → is_dot_from 0 op ≡ is_some_dot op
+is_dot_from_0 (Op'.Dot m) = grind (arith, nat_tests)
+is_dot_from_0 _ = refl
+
+-- the dots from 0 on are all
+mutual
+  pub dots_from_0 : (t : Tree) → has (is_dot_from 0) t ≡ has is_some_dot t
+  dots_from_0 (node op kids) = let here = is_dot_from_0 op in let below = dots_from_0_below kids in λ i. here i || below i
+
+  dots_from_0_below : (kids : Forest) → any_has (is_dot_from 0) kids ≡ any_has is_some_dot kids
+  dots_from_0_below no_kids = refl
+  dots_from_0_below (kid t rest) = let first = dots_from_0 t in let others = dots_from_0_below rest in λ i. first i || others i

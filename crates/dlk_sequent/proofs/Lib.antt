@@ -1,6 +1,7 @@
 pub mod Kept
 pub mod KeptPairs
 mod Dots
+mod Formulas
 mod Last
 mod Chosen
 mod Pairs

@@ -56,7 +56,7 @@ fn is_replaced(pairs: &[Pair], s: &Sym) -> bool
 }
 
 /// Whether an argument dot stands in the tree that isn't below the arity. No tree has a dot past 7.
-fn has_dot_from<S: Store>(store: &S, arity: u8, id: Id) -> bool
+pub(crate) fn has_dot_from<S: Store>(store: &S, arity: u8, id: Id) -> bool
     requires { IsId (S.trees store.now) id }
     ensures { result ≡ has (is_dot_from arity) (tree (S.trees store.now) id) }
 {

@@ -1,0 +1,10 @@
+//! Renaming, over any store: two names exchanged in a tree, and another name for a bound variable.
+#![tactic(auto)]
+
+mod binder;
+mod exchange;
+mod fault;
+
+pub use binder::bound;
+pub use exchange::swap;
+pub use fault::RenameFault;
