@@ -1,6 +1,9 @@
 //! The sequent rules and the steps of a proof, over the ids of a store.
 #![tactic(auto)]
 
+mod connectives;
+mod look;
+mod made;
 mod rule;
 mod sequent_rules;
 mod step;

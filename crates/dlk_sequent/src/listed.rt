@@ -1,5 +1,5 @@
 ghost use Rattle.std.specs.Prelude.{◌≡◌, ◌∷◌, ◌++◌, [], length, None, Some, MatchOption, IfOk, OnOk, OnErr};
-ghost use Rattle.dlk_calculus.specs.Places.{at, IsPlace, put};
+ghost use Rattle.dlk_calculus.specs.Places.{at, IsPlace, put, remove};
 
 use std::alloc::{AllocError, Global};
 use std::marker::Model;
@@ -79,22 +79,19 @@ impl<T: Copy> Listed<T> {
         Ok(Listed::from_vec(Vec::from_slice(alloc, self.as_slice())?))
     }
 
-    /// The same items with another one last.
-    pub fn with_last(&self, alloc: Global, item: T) -> Result<Listed<T>, AllocError>
-        ensures { IfOk result (λ items. items ≡ self.now ++ item ∷ []) }
+    /// Puts another item at a place, which is there. Places count from 1.
+    pub fn set(&mut self, place: u32, item: T)
+        requires { IsPlace self.old place }
+        ensures { self.new ≡ put self.old place item }
     {
-        let mut items = self.copied(alloc)?;
-        items.push(item)?;
-        Ok(items)
+        self.items[place as usize - 1] = item;
     }
 
-    /// The same items but for another one at a place, which is there. Places count from 1.
-    pub fn with_at(&self, alloc: Global, place: u32, item: T) -> Result<Listed<T>, AllocError>
-        requires { IsPlace self.now place }
-        ensures { IfOk result (λ items. items ≡ put self.now place item) }
+    /// Takes out the item at a place, which is there. Places count from 1.
+    pub fn remove(&mut self, place: u32)
+        requires { IsPlace self.old place }
+        ensures { self.new ≡ remove self.old place }
     {
-        let mut items = Vec::from_slice(alloc, self.as_slice())?;
-        items[place as usize - 1] = item;
-        Ok(Listed::from_vec(items))
+        self.items.remove(place as usize - 1);
     }
 }

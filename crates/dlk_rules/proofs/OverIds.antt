@@ -1,0 +1,110 @@
+-- Sequents of ids that stand for what rules make of sequents.
+use Rattle.std.proofs.Common.{◌≡◌, ℕ, ◌-◌, List, [], ◌∷◌, ◌++◌, map, take, drop, refl, sym, ap, subst, ◌∙◌}
+use Rattle.std.specs.List.{All}
+use Rattle.std.proofs.lemmas.List.{map-append, map-set, take-map, drop-map}
+use Rattle.std.proofs.lemmas.List.Elements.{All-push, All-set, All-cons, All-nil, All-append, All-take, All-drop}
+use Rattle.dlk_tree.specs.Trees.{Tree}
+use Rattle.dlk_store.specs.declared.Id.{Id}
+use Rattle.dlk_store.specs.Stores.{IsId, tree, StandsFor, Keeps}
+use Rattle.dlk_calculus.specs.Places.{put, remove}
+use Rattle.dlk_calculus.specs.Rules.{Rule, put_left, put_right, last_left, last_right, without_left, without_right, alone_right, figure}
+use Rattle.dlk_calculus.specs.Sequents.{Sequent as TreeSequent}
+use Rattle.dlk_calculus.proofs.RuleLaws.{first_no_place, first_wrong_shape}
+use Rattle.dlk_sequent.specs.declared.sequent.Sequent.{Sequent}
+use Rattle.dlk_sequent.specs.Sequents.{sequent_at, IsKnown}
+use Rattle.dlk_sequent.proofs.Kept.{sequent-kept, IsKnown-kept}
+use Rattle.dlk_rules.specs.declared.rule.RuleFault.{RuleFault}
+use Rattle.dlk_rules.specs.declared.rule.RuleFault.TheVariants as fault
+use Rattle.dlk_rules.specs.Steps.{AreMade, IsRuleFault}
+use Rattle.dlk_rules.specs.Looks.{IsShapeFault}
+use Rattle.dlk_calculus.specs.Rules.{FirstAgainst}
+
+-- the sequent of ids stands for this sequent
+pub record Stands (trees : List Tree) (s : Sequent) (t : TreeSequent) : Type 0 where
+  pub known : IsKnown trees s
+  pub is : sequent_at trees s ≡ t
+
+pub stands_old : (trees : List Tree) (s : Sequent) → IsKnown trees s → Stands trees s (sequent_at trees s)
+stands_old trees s known = record { known = known; is = refl }
+
+-- over a store that has grown
+pub stands_kept : {old new : List Tree} → Keeps old new → (s : Sequent) → IsKnown old s → Stands new s (sequent_at old s)
+stands_kept keeps s known = record { known = IsKnown-kept keeps s known; is = sequent-kept keeps s known }
+
+module _ {trees : List Tree} {s : Sequent} {t : TreeSequent} (h : Stands trees s t) where
+  module _ {id : Id} {f : Tree} (p : StandsFor trees id f) where
+    pub left_put : (i : ℕ) → Stands trees (record { ante = put s.ante i id; succ = s.succ }) (put_left i f t)
+    left_put i = record {
+      known = record { ante = All-set (IsId trees) s.ante (i - 1) id p.known h.known.ante; succ = h.known.succ };
+      is = (λ n. record { ante = map-set (tree trees) s.ante (i - 1) id n; succ = map (tree trees) s.succ }) ∙ (λ n. put_left i (p.tree_is n) (h.is n));
+    }
+
+    pub right_put : (j : ℕ) → Stands trees (record { ante = s.ante; succ = put s.succ j id }) (put_right j f t)
+    right_put j = record {
+      known = record { ante = h.known.ante; succ = All-set (IsId trees) s.succ (j - 1) id p.known h.known.succ };
+      is = (λ n. record { ante = map (tree trees) s.ante; succ = map-set (tree trees) s.succ (j - 1) id n }) ∙ (λ n. put_right j (p.tree_is n) (h.is n));
+    }
+
+    pub left_last : Stands trees (record { ante = s.ante ++ id ∷ []; succ = s.succ }) (last_left f t)
+    left_last = record {
+      known = record { ante = All-push (IsId trees) s.ante id h.known.ante p.known; succ = h.known.succ };
+      is = (λ n. record { ante = map-append (tree trees) s.ante (id ∷ []) n; succ = map (tree trees) s.succ }) ∙ (λ n. last_left (p.tree_is n) (h.is n));
+    }
+
+    pub right_last : Stands trees (record { ante = s.ante; succ = s.succ ++ id ∷ [] }) (last_right f t)
+    right_last = record {
+      known = record { ante = h.known.ante; succ = All-push (IsId trees) s.succ id h.known.succ p.known };
+      is = (λ n. record { ante = map (tree trees) s.ante; succ = map-append (tree trees) s.succ (id ∷ []) n }) ∙ (λ n. last_right (p.tree_is n) (h.is n));
+    }
+
+  map_remove : (ids : List Id) (place : ℕ) → map (tree trees) (remove ids place) ≡ remove (map (tree trees) ids) place
+  map_remove ids place = simp (map-append, take-map, drop-map)
+
+  pub left_without : (i : ℕ) → Stands trees (record { ante = remove s.ante i; succ = s.succ }) (without_left i t)
+  left_without i = record {
+    known = record { ante = All-append (IsId trees) _ _ (All-take (IsId trees) (i - 1) s.ante h.known.ante) (All-drop (IsId trees) i s.ante h.known.ante); succ = h.known.succ };
+    is = (λ n. record { ante = map_remove s.ante i n; succ = map (tree trees) s.succ }) ∙ (λ n. without_left i (h.is n));
+  }
+
+  pub right_without : (j : ℕ) → Stands trees (record { ante = s.ante; succ = remove s.succ j }) (without_right j t)
+  right_without j = record {
+    known = record { ante = h.known.ante; succ = All-append (IsId trees) _ _ (All-take (IsId trees) (j - 1) s.succ h.known.succ) (All-drop (IsId trees) j s.succ h.known.succ) };
+    is = (λ n. record { ante = map (tree trees) s.ante; succ = map_remove s.succ j n }) ∙ (λ n. without_right j (h.is n));
+  }
+
+-- the ids of sequents stand for these sequents
+pub record AllStand (trees : List Tree) (all : List Sequent) (ts : List TreeSequent) : Type 0 where
+  pub known : All (IsKnown trees) all
+  pub are : map (sequent_at trees) all ≡ ts
+
+pub none_stands : (trees : List Tree) (all : List Sequent) → all ≡ [] → AllStand trees all []
+none_stands trees all is = record { known = rw is (All-nil (IsKnown trees)); are = ap (map (sequent_at trees)) is }
+
+pub one_stands : {trees : List Tree} {s : Sequent} {t : TreeSequent} {all : List Sequent} → Stands trees s t → all ≡ s ∷ [] → AllStand trees all (t ∷ [])
+one_stands {trees} {s} {t} {all} h is = record {
+  known = rw is (All-cons (IsKnown trees) s [] h.known (All-nil (IsKnown trees)));
+  are = ap (map (sequent_at trees)) is ∙ (λ n. h.is n ∷ []);
+}
+
+pub two_stand : {trees : List Tree} {s r : Sequent} {t u : TreeSequent} {all : List Sequent} → Stands trees s t → Stands trees r u → all ≡ s ∷ r ∷ [] → AllStand trees all (t ∷ u ∷ [])
+two_stand {trees} {s} {r} {t} {u} {all} h k is = record {
+  known = rw is (All-cons (IsKnown trees) s (r ∷ []) h.known (All-cons (IsKnown trees) r [] k.known (All-nil (IsKnown trees))));
+  are = ap (map (sequent_at trees)) is ∙ (λ n. h.is n ∷ k.is n ∷ []);
+}
+
+-- what a rule makes, where all that it asks for holds
+pub made : (rule : Rule) (old new : List Tree) (s : Sequent) (all : List Sequent) →
+    (figure rule (sequent_at old s)).places → (figure rule (sequent_at old s)).shape → (figure rule (sequent_at old s)).equals → (figure rule (sequent_at old s)).fresh →
+    AllStand new all (figure rule (sequent_at old s)).premises → AreMade rule old s new all
+made rule old new s all places shape equals fresh h = record {
+  premises = record { places = places; shape = shape; equals = equals; fresh = fresh; premises_are = h.are };
+  known = h.known;
+}
+
+-- the fault of a rule whose places or form aren't there
+pub shape_fault : (rule : Rule) (s : TreeSequent) (why : RuleFault) → IsShapeFault (figure rule s).places (figure rule s).shape why → IsRuleFault (FirstAgainst rule s) why
+shape_fault rule s fault.NoPlace h = first_no_place rule s h
+shape_fault rule s fault.WrongShape h = first_wrong_shape rule s h.0 h.1
+shape_fault rule s fault.NotEqual h = absurd h
+shape_fault rule s fault.NotFresh h = absurd h
+shape_fault rule s fault.Memory h = tt
