@@ -9,5 +9,6 @@ pub mod SubstExamples
 pub mod Sequents
 pub mod Rename
 pub mod Rules
+pub mod RuleExamples
 pub mod Provables
 pub mod Steps
