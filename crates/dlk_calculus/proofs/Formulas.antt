@@ -47,8 +47,7 @@ two_formulas op (kid f no_kids) e h = let k = h.well_made.0.kids_fit ∙ e in cc
 two_formulas op (kid f (kid g rest)) e h =
     let k : sort f ∷ sort g ∷ sorts rest ≡ Formula ∷ Formula ∷ [] = h.well_made.0.kids_fit ∙ e in
     let dot = second_false _ _ h.no_dot in
-    let hole = second_false _ _ h.no_hole in
-    (
+    let hole = second_false _ _ h.no_hole in (
       record { well_made = h.well_made.1.0; sort_is = ap head k; no_dot = first_false _ _ dot; no_hole = first_false _ _ hole },
       record { well_made = h.well_made.1.1.0; sort_is = ap (λ ss. head (tail ss)) k; no_dot = first_false _ _ (second_false _ _ dot); no_hole = first_false _ _ (second_false _ _ hole) },
     )

@@ -10,3 +10,4 @@ pub mod WellFormed
 pub mod Sorts
 pub mod Systems
 pub mod MadeResults
+pub mod AxiomLaws

@@ -10,5 +10,7 @@ pub mod Sequents
 pub mod Rename
 pub mod Rules
 pub mod RuleExamples
+pub mod Notation
+pub mod Axioms
 pub mod Provables
 pub mod Steps
