@@ -4,6 +4,7 @@
 mod connectives;
 mod look;
 mod made;
+mod quantifiers;
 mod rule;
 mod sequent_rules;
 mod step;

@@ -1,0 +1,273 @@
+//! The rules on bound variables, a function a rule. Each is drawn with its premise over its conclusion: A is the left side of the
+//! sequent, S the right side.
+ghost use Rattle.std.specs.Prelude.{◌≡◌, ◌∷◌, ◌||◌, [], All, map, None, Some, MatchOption, OnSome, IfOk, IfErr};
+ghost use Rattle.std.specs.List.{list_any};
+ghost use Rattle.dlk_tree.specs.declared.op.Sort.TheVariants.{Formula};
+ghost use Rattle.dlk_tree.specs.Table.{kid_sorts};
+ghost use Rattle.dlk_tree.specs.Trees.{root};
+ghost use Rattle.dlk_tree.specs.Statics.{free, plain};
+ghost use Rattle.dlk_store.specs.Stores.{IsId, tree};
+ghost use Rattle.dlk_calculus.specs.Places.{IsPlace, remove};
+ghost use Rattle.dlk_calculus.specs.Rules.{SkolemL, SkolemR, BoundL, BoundR, without_left, without_right, FirstAgainst, IsSome, CanBind, MayBind};
+ghost use Rattle.dlk_sequent.specs.Sequents.{sequent_at, IsKnown};
+ghost use Rattle.dlk_rules.specs.Looks as looks;
+ghost use Rattle.dlk_rules.specs.Looks.{IsShapeFault, IsFreshFault};
+ghost use Rattle.dlk_rules.specs.Quantifiers.{quantified, is_read, IsQuantifiedAt, IsReboundAt};
+ghost use Rattle.dlk_rules.specs.Steps.{AreMade, IsRuleFault};
+
+use crate::look::{formula_at, top_at};
+use crate::made::one;
+use crate::rule::RuleFault;
+use dlk_rename::bound;
+use dlk_sequent::{Listed, Sequent};
+use dlk_store::{Id, Steps, Store};
+use dlk_tree::{Name, Op, Var};
+use std::alloc::{AllocError, Global};
+use std::sync::ledger::Ledger;
+
+/// One of the two quantifiers.
+#[derive(Clone, Copy)]
+enum Quantifier {
+    /// `\exists`
+    Exists,
+    /// `\forall`
+    Forall,
+}
+
+/// The x of an operator that is this quantifier.
+fn quantified<'a>(quantifier: Quantifier, op: &'a Op) -> Option<&'a Name>
+    ensures name { MatchOption result (quantified quantifier op.now ≡ None) (λ x. quantified quantifier op.now ≡ Some x.now) }
+    ensures kid { OnSome result (kid_sorts op.now ≡ Formula ∷ []) }
+{
+    match (quantifier, op) {
+        (Quantifier::Exists, Op::Exists(x)) => Some(x),
+        (Quantifier::Forall, Op::Forall(x)) => Some(x),
+        _ => None,
+    }
+}
+
+/// The variable of this name without a prime.
+fn plain(name: &Name) -> Result<Var, AllocError>
+    ensures { IfOk result (λ v. v ≡ plain name.now) }
+{
+    let name = name.clone()?;
+    Ok(Var {
+        name,
+        primed: false,
+    })
+}
+
+/// The variable and the kid of the formula at a place, which is this quantifier: `WrongShape` where it isn't.
+fn quantified_at<S: Store, L: Ledger>(
+    store: &S,
+    side: &Listed<Id>,
+    place: u32,
+    quantifier: Quantifier,
+    steps: &mut Steps<L>,
+) -> Result<(Var, Id), RuleFault>
+    requires { All (IsId (S.trees store.now)) side.now }
+    ensures ok { IfOk result (λ made. IsQuantifiedAt (S.trees store.now) (map (tree (S.trees store.now)) side.now) place quantifier made.0 made.1) }
+    ensures fault { IfErr result (IsShapeFault (IsPlace (map (tree (S.trees store.now)) side.now) place) (IsSome (quantified quantifier (root (looks.formula_at (map (tree (S.trees store.now)) side.now) place))))) }
+{
+    let top = top_at(store, side, place, steps)?;
+    let Some(x) = quantified(quantifier, top.op) else {
+        return Err(RuleFault::WrongShape);
+    };
+    let v = plain(x)?;
+    Ok((v, top.kids[0]))
+}
+
+/// Whether the variable is free in one of the formulas.
+fn is_any_read<S: Store>(store: &S, formulas: &[Id], v: &Var) -> bool
+    requires { All (IsId (S.trees store.now)) formulas.now }
+    ensures { result ≡ list_any (λ t. free t v.now) (map (tree (S.trees store.now)) formulas.now) }
+{
+    for id in formulas {
+        if store.frees(*id, v) {
+            return true;
+        }
+    }
+    false
+}
+
+/// Whether the variable is free in one of the formulas but the one at a place, which is there. Places count from 1.
+fn is_other_read<S: Store>(store: &S, formulas: &[Id], place: u32, v: &Var) -> bool
+    requires known { All (IsId (S.trees store.now)) formulas.now }
+    requires place { IsPlace formulas.now place }
+    ensures { result ≡ list_any (λ t. free t v.now) (remove (map (tree (S.trees store.now)) formulas.now) place) }
+{
+    is_any_read(store, &formulas[..place as usize - 1], v)
+        || is_any_read(store, &formulas[place as usize..], v)
+}
+
+/// Whether the variable is free in a formula of the sequent but the one at place `i` on the left, which is there.
+fn is_read_beside_left<S: Store>(store: &S, i: u32, s: &Sequent, v: &Var) -> bool
+    requires known { IsKnown (S.trees store.now) s.now }
+    requires place { IsPlace s.now.ante i }
+    ensures { result ≡ is_read (without_left i (sequent_at (S.trees store.now) s.now)) v.now }
+{
+    is_other_read(store, s.ante.as_slice(), i, v) || is_any_read(store, s.succ.as_slice(), v)
+}
+
+/// Whether the variable is free in a formula of the sequent but the one at place `j` on the right, which is there.
+fn is_read_beside_right<S: Store>(store: &S, j: u32, s: &Sequent, v: &Var) -> bool
+    requires known { IsKnown (S.trees store.now) s.now }
+    requires place { IsPlace s.now.succ j }
+    ensures { result ≡ is_read (without_right j (sequent_at (S.trees store.now) s.now)) v.now }
+{
+    is_any_read(store, s.ante.as_slice(), v) || is_other_read(store, s.succ.as_slice(), j, v)
+}
+
+/// The formula at a place with `y` for the variable that it binds.
+fn rebound_at<S: Store, L: Ledger>(
+    alloc: Global,
+    store: &mut S,
+    side: &Listed<Id>,
+    place: u32,
+    y: &Name,
+    steps: &mut Steps<L>,
+) -> Result<Id, RuleFault>
+    requires { All (IsId (S.trees store.old)) side.now }
+    ensures ok { IfOk result (IsReboundAt (map (tree (S.trees store.old)) side.now) place y.now (S.trees store.new)) }
+    ensures fault { IfErr result (IsFreshFault (IsPlace (map (tree (S.trees store.old)) side.now) place) (CanBind y.now (looks.formula_at (map (tree (S.trees store.old)) side.now) place)) (MayBind y.now (looks.formula_at (map (tree (S.trees store.old)) side.now) place))) }
+    ensures grows { S.grows store.old store.new }
+{
+    let id = formula_at(store, side, place)?;
+    Ok(bound(alloc, store, id, y, steps)?)
+}
+
+/// The rule `skolemL(i)`:
+///
+/// ```text
+/// A with f at i ==> S
+/// ----------------------------- x free in no other formula
+/// A with \exists x f at i ==> S
+/// ```
+///
+/// # Errors
+///
+/// - `NoPlace`: there is no formula at `i`.
+/// - `WrongShape`: it is no `\exists x f`.
+/// - `NotFresh`: x is free in another formula.
+pub(crate) fn skolem_left<S: Store, L: Ledger>(
+    alloc: Global,
+    store: &S,
+    i: u32,
+    s: &Sequent,
+    steps: &mut Steps<L>,
+) -> Result<Listed<Sequent>, RuleFault>
+    requires { IsKnown (S.trees store.now) s.now }
+    ensures made { IfOk result (AreMade (SkolemL i) (S.trees store.now) s.now (S.trees store.now)) }
+    ensures fault { IfErr result (IsRuleFault (FirstAgainst (SkolemL i) (sequent_at (S.trees store.now) s.now))) }
+{
+    let (v, f) = quantified_at(store, &s.ante, i, Quantifier::Exists, steps)?;
+    if is_read_beside_left(store, i, s, &v) {
+        return Err(RuleFault::NotFresh);
+    }
+    let mut premise = s.copy(alloc)?;
+    premise.ante.set(i, f);
+    Ok(one(alloc, premise)?)
+}
+
+/// The rule `skolemR(j)`:
+///
+/// ```text
+/// A ==> S with f at j
+/// ----------------------------- x free in no other formula
+/// A ==> S with \forall x f at j
+/// ```
+///
+/// # Errors
+///
+/// - `NoPlace`: there is no formula at `j`.
+/// - `WrongShape`: it is no `\forall x f`.
+/// - `NotFresh`: x is free in another formula.
+pub(crate) fn skolem_right<S: Store, L: Ledger>(
+    alloc: Global,
+    store: &S,
+    j: u32,
+    s: &Sequent,
+    steps: &mut Steps<L>,
+) -> Result<Listed<Sequent>, RuleFault>
+    requires { IsKnown (S.trees store.now) s.now }
+    ensures made { IfOk result (AreMade (SkolemR j) (S.trees store.now) s.now (S.trees store.now)) }
+    ensures fault { IfErr result (IsRuleFault (FirstAgainst (SkolemR j) (sequent_at (S.trees store.now) s.now))) }
+{
+    let (v, f) = quantified_at(store, &s.succ, j, Quantifier::Forall, steps)?;
+    if is_read_beside_right(store, j, s, &v) {
+        return Err(RuleFault::NotFresh);
+    }
+    let mut premise = s.copy(alloc)?;
+    premise.succ.set(j, f);
+    Ok(one(alloc, premise)?)
+}
+
+/// The rule `boundL(i,y)`:
+///
+/// ```text
+/// A with h[y] at i ==> S
+/// ---------------------- y may stand for x in h[x]
+/// A with h[x] at i ==> S
+/// ```
+///
+/// where h[x] is `\forall x f`, `\exists x f`, `[x:=e;]f` or `<x:=e;>f`, and h[y] is the same with `x` and `y` exchanged in the
+/// binder and in f.
+///
+/// # Errors
+///
+/// - `NoPlace`: there is no formula at `i`.
+/// - `WrongShape`: it has none of these forms.
+/// - `NotFresh`: `y`, `y'` or `x'` is free in f, or a symbol that may read any variable stands there.
+pub(crate) fn bound_left<S: Store, L: Ledger>(
+    alloc: Global,
+    store: &mut S,
+    i: u32,
+    y: &Name,
+    s: &Sequent,
+    steps: &mut Steps<L>,
+) -> Result<Listed<Sequent>, RuleFault>
+    requires { IsKnown (S.trees store.old) s.now }
+    ensures made { IfOk result (AreMade (BoundL i y.now) (S.trees store.old) s.now (S.trees store.new)) }
+    ensures fault { IfErr result (IsRuleFault (FirstAgainst (BoundL i y.now) (sequent_at (S.trees store.old) s.now))) }
+    ensures grows { S.grows store.old store.new }
+{
+    let f = rebound_at(alloc, store, &s.ante, i, y, steps)?;
+    let mut premise = s.copy(alloc)?;
+    premise.ante.set(i, f);
+    Ok(one(alloc, premise)?)
+}
+
+/// The rule `boundR(j,y)`:
+///
+/// ```text
+/// A ==> S with h[y] at j
+/// ---------------------- y may stand for x in h[x]
+/// A ==> S with h[x] at j
+/// ```
+///
+/// where h[x] is `\forall x f`, `\exists x f`, `[x:=e;]f` or `<x:=e;>f`, and h[y] is the same with `x` and `y` exchanged in the
+/// binder and in f.
+///
+/// # Errors
+///
+/// - `NoPlace`: there is no formula at `j`.
+/// - `WrongShape`: it has none of these forms.
+/// - `NotFresh`: `y`, `y'` or `x'` is free in f, or a symbol that may read any variable stands there.
+pub(crate) fn bound_right<S: Store, L: Ledger>(
+    alloc: Global,
+    store: &mut S,
+    j: u32,
+    y: &Name,
+    s: &Sequent,
+    steps: &mut Steps<L>,
+) -> Result<Listed<Sequent>, RuleFault>
+    requires { IsKnown (S.trees store.old) s.now }
+    ensures made { IfOk result (AreMade (BoundR j y.now) (S.trees store.old) s.now (S.trees store.new)) }
+    ensures fault { IfErr result (IsRuleFault (FirstAgainst (BoundR j y.now) (sequent_at (S.trees store.old) s.now))) }
+    ensures grows { S.grows store.old store.new }
+{
+    let f = rebound_at(alloc, store, &s.succ, j, y, steps)?;
+    let mut premise = s.copy(alloc)?;
+    premise.succ.set(j, f);
+    Ok(one(alloc, premise)?)
+}
