@@ -1,2 +1,3 @@
 pub mod OverIds
-pub mod Unread
+mod KidsOf
+mod Quantified

@@ -7,17 +7,16 @@ use Rattle.dlk_tree.specs.Trees.{Tree}
 use Rattle.dlk_store.specs.declared.Id.{Id}
 use Rattle.dlk_store.specs.Stores.{IsId, tree, StandsFor, Keeps}
 use Rattle.dlk_calculus.specs.Places.{put, remove}
-use Rattle.dlk_calculus.specs.Rules.{Rule, put_left, put_right, last_left, last_right, without_left, without_right, alone_right, figure}
+use Rattle.dlk_calculus.specs.Rules.{Rule, imply, equiv, put_left, put_right, last_left, last_right, without_left, without_right, alone_right, figure, FirstAgainst}
 use Rattle.dlk_calculus.specs.Sequents.{Sequent as TreeSequent}
 use Rattle.dlk_calculus.proofs.RuleLaws.{first_no_place, first_wrong_shape}
 use Rattle.dlk_sequent.specs.declared.sequent.Sequent.{Sequent}
 use Rattle.dlk_sequent.specs.Sequents.{sequent_at, IsKnown}
-use Rattle.dlk_sequent.proofs.Kept.{sequent-kept, IsKnown-kept}
+use Rattle.dlk_sequent.proofs.Kept.{IsId-kept, sequent-kept, IsKnown-kept}
 use Rattle.dlk_rules.specs.declared.rule.RuleFault.{RuleFault}
 use Rattle.dlk_rules.specs.declared.rule.RuleFault.TheVariants as fault
 use Rattle.dlk_rules.specs.Steps.{AreMade, IsRuleFault}
 use Rattle.dlk_rules.specs.Looks.{IsShapeFault}
-use Rattle.dlk_calculus.specs.Rules.{FirstAgainst}
 
 -- the sequent of ids stands for this sequent
 pub record Stands (trees : List Tree) (s : Sequent) (t : TreeSequent) : Type 0 where
@@ -71,6 +70,20 @@ module _ {trees : List Tree} {s : Sequent} {t : TreeSequent} (h : Stands trees s
     known = record { ante = h.known.ante; succ = All-append (IsId trees) _ _ (All-take (IsId trees) (j - 1) s.succ h.known.succ) (All-drop (IsId trees) j s.succ h.known.succ) };
     is = (λ n. record { ante = map (tree trees) s.ante; succ = map_remove s.succ j n }) ∙ (λ n. without_right j (h.is n));
   }
+
+-- an id stands for its tree
+pub stands_itself : (trees : List Tree) (id : Id) → IsId trees id → StandsFor trees id (tree trees id)
+stands_itself trees id known = record { known = known; tree_is = refl }
+
+pub stands_itself_kept : {old new : List Tree} → Keeps old new → (id : Id) → IsId old id → StandsFor new id (tree old id)
+stands_itself_kept keeps id known = record { known = IsId-kept keeps id known; tree_is = keeps.same id known }
+
+-- an implication of what two formulas are
+pub stands_imply : {trees : List Tree} {id : Id} {a b f g : Tree} → StandsFor trees id (imply a b) → a ≡ f → b ≡ g → StandsFor trees id (imply f g)
+stands_imply h p q = record { known = h.known; tree_is = h.tree_is ∙ (λ n. imply (p n) (q n)) }
+
+pub stands_equiv : {trees : List Tree} {id : Id} {a b f g : Tree} → StandsFor trees id (equiv a b) → a ≡ f → b ≡ g → StandsFor trees id (equiv f g)
+stands_equiv h p q = record { known = h.known; tree_is = h.tree_is ∙ (λ n. equiv (p n) (q n)) }
 
 -- the ids of sequents stand for these sequents
 pub record AllStand (trees : List Tree) (all : List Sequent) (ts : List TreeSequent) : Type 0 where

@@ -1,10 +1,11 @@
 -- What rules look at, over ids.
-use Rattle.std.specs.Prelude.{◌≡◌, ℕ, ◌-◌, List, get_or, length, All}
+use Rattle.std.specs.Prelude.{◌≡◌, ℕ, ◌-◌, List, get_or, All}
 use Rattle.dlk_tree.specs.declared.op.Op.{Op}
-use Rattle.dlk_tree.specs.Trees.{Tree, node, root}
+use Rattle.dlk_tree.specs.Trees.{Tree, node, root, sort}
+use Rattle.dlk_tree.specs.declared.op.Sort.TheVariants.{Formula}
 use Rattle.dlk_tree.specs.Table.{kid_sorts}
 use Rattle.dlk_store.specs.declared.Id.{Id}
-use Rattle.dlk_store.specs.Stores.{IsId, StandsFor, kid_trees}
+use Rattle.dlk_store.specs.Stores.{IsId, tree, StandsFor, kid_trees, sorts_at}
 use Rattle.dlk_calculus.specs.Places.{IsPlace}
 use Rattle.dlk_calculus.specs.Rules.{truth, kid_f, kid_g}
 use Rattle.dlk_rules.specs.declared.rule.RuleFault.{RuleFault}
@@ -24,7 +25,7 @@ pub record IsNodeAt (trees : List Tree) (side : List Tree) (place : ℕ) (op : O
   pub place_is : IsPlace side place
   pub node_is : formula_at side place ≡ node op (kid_trees trees kids)
   pub known : All (IsId trees) kids
-  pub count : length kids ≡ length (kid_sorts op)
+  pub sorts_are : sorts_at trees kids ≡ kid_sorts op
 
 -- the formula there has this operator at its top, and the id stands for its first kid
 pub record IsKidAt (trees : List Tree) (side : List Tree) (place : ℕ) (op : Op) (f : Id) : Type 0 where
@@ -32,12 +33,14 @@ pub record IsKidAt (trees : List Tree) (side : List Tree) (place : ℕ) (op : Op
   pub root_is : root (formula_at side place) ≡ op
   pub f_stands : StandsFor trees f (kid_f (formula_at side place))
 
--- and the ids stand for its two kids
+-- and the ids stand for its two kids, which are formulas
 pub record AreKidsAt (trees : List Tree) (side : List Tree) (place : ℕ) (op : Op) (f g : Id) : Type 0 where
   pub place_is : IsPlace side place
   pub root_is : root (formula_at side place) ≡ op
   pub f_stands : StandsFor trees f (kid_f (formula_at side place))
   pub g_stands : StandsFor trees g (kid_g (formula_at side place))
+  pub f_sort : sort (tree trees f) ≡ Formula
+  pub g_sort : sort (tree trees g) ≡ Formula
 
 -- the cause of the fault of a rule that asks for its places and for a form
 abbrev pub IsShapeFault : (places shape : Type 0) → RuleFault → Type 0

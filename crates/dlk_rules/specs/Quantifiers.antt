@@ -11,23 +11,23 @@ use Rattle.dlk_calculus.specs.Places.{IsPlace}
 use Rattle.dlk_calculus.specs.Sequents.{Sequent}
 use Rattle.dlk_calculus.specs.Rename.{renamed_bound}
 use Rattle.dlk_calculus.specs.Rules.{kid_f, existential, universal, CanBind, MayBind}
-use Rattle.dlk_rules.specs.declared.quantifiers.Quantifier.{Quantifier}
-use Rattle.dlk_rules.specs.declared.quantifiers.Quantifier.TheVariants.{Exists, Forall}
-use Rattle.dlk_rules.specs.Looks.{formula_at}
-use Rattle.dlk_rules.specs.declared.rule.RuleFault.{RuleFault}
-use Rattle.dlk_rules.specs.declared.rule.RuleFault.TheVariants as fault
 use Rattle.dlk_rename.specs.declared.fault.RenameFault.{RenameFault}
 use Rattle.dlk_rename.specs.declared.fault.RenameFault.TheVariants as rename
+use Rattle.dlk_rules.specs.declared.quantifiers.Quantifier.{Quantifier}
+use Rattle.dlk_rules.specs.declared.quantifiers.Quantifier.TheVariants.{Exists, Forall}
+use Rattle.dlk_rules.specs.declared.rule.RuleFault.{RuleFault}
+use Rattle.dlk_rules.specs.declared.rule.RuleFault.TheVariants as fault
+use Rattle.dlk_rules.specs.Looks.{formula_at}
 
--- the x of an operator that is this quantifier
-abbrev pub quantified : Quantifier → Op → Option (List ℕ)
-quantified Exists = existential
-quantified Forall = universal
+-- the name of the variable of an operator that is this quantifier
+abbrev pub bound_name : Quantifier → Op → Option (List ℕ)
+bound_name Exists = existential
+bound_name Forall = universal
 
--- the formula there is this quantifier of the variable over a formula, for which the id stands
+-- the formula there has this quantifier of the variable at its top, and the id stands for its kid
 pub record IsQuantifiedAt (trees : List Tree) (side : List Tree) (place : ℕ) (quantifier : Quantifier) (v : Var) (f : Id) : Type 0 where
   pub place_is : IsPlace side place
-  pub binds : quantified quantifier (root (formula_at side place)) ≡ Some v.name
+  pub binds : bound_name quantifier (root (formula_at side place)) ≡ Some v.name
   pub unprimed : v ≡ plain v.name
   pub f_stands : StandsFor trees f (kid_f (formula_at side place))
 
@@ -43,7 +43,7 @@ pub record IsReboundAt (side : List Tree) (place : ℕ) (y : List ℕ) (new : Li
   pub f_stands : StandsFor new f (renamed_bound y (formula_at side place))
 
 -- the fault of a rule whose bound variable gets no other name
-abbrev pub fault_of : RenameFault → RuleFault
-fault_of rename.WrongShape = fault.WrongShape
-fault_of rename.NotFresh = fault.NotFresh
-fault_of rename.Memory = fault.Memory
+abbrev pub of_rename : RenameFault → RuleFault
+of_rename rename.WrongShape = fault.WrongShape
+of_rename rename.NotFresh = fault.NotFresh
+of_rename rename.Memory = fault.Memory

@@ -1,5 +1,5 @@
-//! The rules on bound variables, a function a rule. Each is drawn with its premise over its conclusion: A is the left side of the
-//! sequent, S the right side.
+//! The rules on bound variables, a function a rule. Each is drawn with its premise over its conclusion, in which A is the left side of the
+//! sequent and S the right side.
 ghost use Rattle.std.specs.Prelude.{◌≡◌, ◌∷◌, ◌||◌, [], All, map, None, Some, MatchOption, OnSome, IfOk, IfErr};
 ghost use Rattle.std.specs.List.{list_any};
 ghost use Rattle.dlk_tree.specs.declared.op.Sort.TheVariants.{Formula};
@@ -12,7 +12,7 @@ ghost use Rattle.dlk_calculus.specs.Rules.{SkolemL, SkolemR, BoundL, BoundR, wit
 ghost use Rattle.dlk_sequent.specs.Sequents.{sequent_at, IsKnown};
 ghost use Rattle.dlk_rules.specs.Looks as looks;
 ghost use Rattle.dlk_rules.specs.Looks.{IsShapeFault, IsFreshFault};
-ghost use Rattle.dlk_rules.specs.Quantifiers.{quantified, is_read, IsQuantifiedAt, IsReboundAt};
+ghost use Rattle.dlk_rules.specs.Quantifiers.{bound_name, is_read, IsQuantifiedAt, IsReboundAt};
 ghost use Rattle.dlk_rules.specs.Steps.{AreMade, IsRuleFault};
 
 use crate::look::{formula_at, top_at};
@@ -25,7 +25,7 @@ use dlk_tree::{Name, Op, Var};
 use std::alloc::{AllocError, Global};
 use std::sync::ledger::Ledger;
 
-/// One of the two quantifiers.
+/// One of the two quantifiers of a variable.
 #[derive(Clone, Copy)]
 enum Quantifier {
     /// `\exists`
@@ -34,9 +34,9 @@ enum Quantifier {
     Forall,
 }
 
-/// The x of an operator that is this quantifier.
-fn quantified<'a>(quantifier: Quantifier, op: &'a Op) -> Option<&'a Name>
-    ensures name { MatchOption result (quantified quantifier op.now ≡ None) (λ x. quantified quantifier op.now ≡ Some x.now) }
+/// The name of the variable of an operator that is this quantifier, which has a kid.
+fn bound_name<'a>(quantifier: Quantifier, op: &'a Op) -> Option<&'a Name>
+    ensures name { MatchOption result (bound_name quantifier op.now ≡ None) (λ x. bound_name quantifier op.now ≡ Some x.now) }
     ensures kid { OnSome result (kid_sorts op.now ≡ Formula ∷ []) }
 {
     match (quantifier, op) {
@@ -46,7 +46,7 @@ fn quantified<'a>(quantifier: Quantifier, op: &'a Op) -> Option<&'a Name>
     }
 }
 
-/// The variable of this name without a prime.
+/// The variable of this name, without a prime.
 fn plain(name: &Name) -> Result<Var, AllocError>
     ensures { IfOk result (λ v. v ≡ plain name.now) }
 {
@@ -57,7 +57,7 @@ fn plain(name: &Name) -> Result<Var, AllocError>
     })
 }
 
-/// The variable and the kid of the formula at a place, which is this quantifier: `WrongShape` where it isn't.
+/// The variable and the kid of the formula at a place, which has this quantifier at its top: `WrongShape` where it hasn't.
 fn quantified_at<S: Store, L: Ledger>(
     store: &S,
     side: &Listed<Id>,
@@ -67,10 +67,10 @@ fn quantified_at<S: Store, L: Ledger>(
 ) -> Result<(Var, Id), RuleFault>
     requires { All (IsId (S.trees store.now)) side.now }
     ensures ok { IfOk result (λ made. IsQuantifiedAt (S.trees store.now) (map (tree (S.trees store.now)) side.now) place quantifier made.0 made.1) }
-    ensures fault { IfErr result (IsShapeFault (IsPlace (map (tree (S.trees store.now)) side.now) place) (IsSome (quantified quantifier (root (looks.formula_at (map (tree (S.trees store.now)) side.now) place))))) }
+    ensures fault { IfErr result (IsShapeFault (IsPlace (map (tree (S.trees store.now)) side.now) place) (IsSome (bound_name quantifier (root (looks.formula_at (map (tree (S.trees store.now)) side.now) place))))) }
 {
     let top = top_at(store, side, place, steps)?;
-    let Some(x) = quantified(quantifier, top.op) else {
+    let Some(x) = bound_name(quantifier, top.op) else {
         return Err(RuleFault::WrongShape);
     };
     let v = plain(x)?;
@@ -78,7 +78,7 @@ fn quantified_at<S: Store, L: Ledger>(
 }
 
 /// Whether the variable is free in one of the formulas.
-fn is_any_read<S: Store>(store: &S, formulas: &[Id], v: &Var) -> bool
+fn is_read_by_any<S: Store>(store: &S, formulas: &[Id], v: &Var) -> bool
     requires { All (IsId (S.trees store.now)) formulas.now }
     ensures { result ≡ list_any (λ t. free t v.now) (map (tree (S.trees store.now)) formulas.now) }
 {
@@ -91,13 +91,13 @@ fn is_any_read<S: Store>(store: &S, formulas: &[Id], v: &Var) -> bool
 }
 
 /// Whether the variable is free in one of the formulas but the one at a place, which is there. Places count from 1.
-fn is_other_read<S: Store>(store: &S, formulas: &[Id], place: u32, v: &Var) -> bool
+fn is_read_by_others<S: Store>(store: &S, formulas: &[Id], place: u32, v: &Var) -> bool
     requires known { All (IsId (S.trees store.now)) formulas.now }
     requires place { IsPlace formulas.now place }
     ensures { result ≡ list_any (λ t. free t v.now) (remove (map (tree (S.trees store.now)) formulas.now) place) }
 {
-    is_any_read(store, &formulas[..place as usize - 1], v)
-        || is_any_read(store, &formulas[place as usize..], v)
+    is_read_by_any(store, &formulas[..place as usize - 1], v)
+        || is_read_by_any(store, &formulas[place as usize..], v)
 }
 
 /// Whether the variable is free in a formula of the sequent but the one at place `i` on the left, which is there.
@@ -106,7 +106,7 @@ fn is_read_beside_left<S: Store>(store: &S, i: u32, s: &Sequent, v: &Var) -> boo
     requires place { IsPlace s.now.ante i }
     ensures { result ≡ is_read (without_left i (sequent_at (S.trees store.now) s.now)) v.now }
 {
-    is_other_read(store, s.ante.as_slice(), i, v) || is_any_read(store, s.succ.as_slice(), v)
+    is_read_by_others(store, s.ante.as_slice(), i, v) || is_read_by_any(store, s.succ.as_slice(), v)
 }
 
 /// Whether the variable is free in a formula of the sequent but the one at place `j` on the right, which is there.
@@ -115,10 +115,10 @@ fn is_read_beside_right<S: Store>(store: &S, j: u32, s: &Sequent, v: &Var) -> bo
     requires place { IsPlace s.now.succ j }
     ensures { result ≡ is_read (without_right j (sequent_at (S.trees store.now) s.now)) v.now }
 {
-    is_any_read(store, s.ante.as_slice(), v) || is_other_read(store, s.succ.as_slice(), j, v)
+    is_read_by_any(store, s.ante.as_slice(), v) || is_read_by_others(store, s.succ.as_slice(), j, v)
 }
 
-/// The formula at a place with `y` for the variable that it binds.
+/// The formula at a place with `y` for the variable that it binds: `WrongShape` and `NotFresh` as `bound` has them.
 fn rebound_at<S: Store, L: Ledger>(
     alloc: Global,
     store: &mut S,
@@ -136,19 +136,21 @@ fn rebound_at<S: Store, L: Ledger>(
     Ok(bound(alloc, store, id, y, steps)?)
 }
 
-/// The rule `skolemL(i)`:
+/// The rule `skolemL(i)`, where x is free in no other formula:
 ///
 /// ```text
 /// A with f at i ==> S
-/// ----------------------------- x free in no other formula
+/// -----------------------------
 /// A with \exists x f at i ==> S
 /// ```
 ///
 /// # Errors
 ///
-/// - `NoPlace`: there is no formula at `i`.
-/// - `WrongShape`: it is no `\exists x f`.
-/// - `NotFresh`: x is free in another formula.
+/// The first of these that applies, or `Memory`:
+///
+/// - `NoPlace`: no formula is at `i` on the left.
+/// - `WrongShape`: the one there is no `\exists x f`.
+/// - `NotFresh`: x is free in another formula of the sequent, on the left or on the right.
 pub(crate) fn skolem_left<S: Store, L: Ledger>(
     alloc: Global,
     store: &S,
@@ -169,19 +171,21 @@ pub(crate) fn skolem_left<S: Store, L: Ledger>(
     Ok(one(alloc, premise)?)
 }
 
-/// The rule `skolemR(j)`:
+/// The rule `skolemR(j)`, where x is free in no other formula:
 ///
 /// ```text
 /// A ==> S with f at j
-/// ----------------------------- x free in no other formula
+/// -----------------------------
 /// A ==> S with \forall x f at j
 /// ```
 ///
 /// # Errors
 ///
-/// - `NoPlace`: there is no formula at `j`.
-/// - `WrongShape`: it is no `\forall x f`.
-/// - `NotFresh`: x is free in another formula.
+/// The first of these that applies, or `Memory`:
+///
+/// - `NoPlace`: no formula is at `j` on the right.
+/// - `WrongShape`: the one there is no `\forall x f`.
+/// - `NotFresh`: x is free in another formula of the sequent, on the left or on the right.
 pub(crate) fn skolem_right<S: Store, L: Ledger>(
     alloc: Global,
     store: &S,
@@ -202,22 +206,21 @@ pub(crate) fn skolem_right<S: Store, L: Ledger>(
     Ok(one(alloc, premise)?)
 }
 
-/// The rule `boundL(i,y)`:
+/// The rule `boundL(i,y)`, where f binds x, and g is f with y for it:
 ///
 /// ```text
-/// A with h[y] at i ==> S
-/// ---------------------- y may stand for x in h[x]
-/// A with h[x] at i ==> S
+/// A with g at i ==> S
+/// -------------------
+/// A with f at i ==> S
 /// ```
-///
-/// where h[x] is `\forall x f`, `\exists x f`, `[x:=e;]f` or `<x:=e;>f`, and h[y] is the same with `x` and `y` exchanged in the
-/// binder and in f.
 ///
 /// # Errors
 ///
-/// - `NoPlace`: there is no formula at `i`.
-/// - `WrongShape`: it has none of these forms.
-/// - `NotFresh`: `y`, `y'` or `x'` is free in f, or a symbol that may read any variable stands there.
+/// The first of these that applies, or `Memory`; the store may have more nodes then:
+///
+/// - `NoPlace`: no formula is at `i` on the left.
+/// - `WrongShape`: the one there is no `\forall x h`, `\exists x h`, `[x:=e;]h` or `<x:=e;>h`.
+/// - `NotFresh`: `y`, `y'` or `x'` is free in h, or a unit symbol, a predicational, a program constant or an ODE constant occurs in h.
 pub(crate) fn bound_left<S: Store, L: Ledger>(
     alloc: Global,
     store: &mut S,
@@ -231,28 +234,27 @@ pub(crate) fn bound_left<S: Store, L: Ledger>(
     ensures fault { IfErr result (IsRuleFault (FirstAgainst (BoundL i y.now) (sequent_at (S.trees store.old) s.now))) }
     ensures grows { S.grows store.old store.new }
 {
-    let f = rebound_at(alloc, store, &s.ante, i, y, steps)?;
+    let g = rebound_at(alloc, store, &s.ante, i, y, steps)?;
     let mut premise = s.copy(alloc)?;
-    premise.ante.set(i, f);
+    premise.ante.set(i, g);
     Ok(one(alloc, premise)?)
 }
 
-/// The rule `boundR(j,y)`:
+/// The rule `boundR(j,y)`, where f binds x, and g is f with y for it:
 ///
 /// ```text
-/// A ==> S with h[y] at j
-/// ---------------------- y may stand for x in h[x]
-/// A ==> S with h[x] at j
+/// A ==> S with g at j
+/// -------------------
+/// A ==> S with f at j
 /// ```
-///
-/// where h[x] is `\forall x f`, `\exists x f`, `[x:=e;]f` or `<x:=e;>f`, and h[y] is the same with `x` and `y` exchanged in the
-/// binder and in f.
 ///
 /// # Errors
 ///
-/// - `NoPlace`: there is no formula at `j`.
-/// - `WrongShape`: it has none of these forms.
-/// - `NotFresh`: `y`, `y'` or `x'` is free in f, or a symbol that may read any variable stands there.
+/// The first of these that applies, or `Memory`; the store may have more nodes then:
+///
+/// - `NoPlace`: no formula is at `j` on the right.
+/// - `WrongShape`: the one there is no `\forall x h`, `\exists x h`, `[x:=e;]h` or `<x:=e;>h`.
+/// - `NotFresh`: `y`, `y'` or `x'` is free in h, or a unit symbol, a predicational, a program constant or an ODE constant occurs in h.
 pub(crate) fn bound_right<S: Store, L: Ledger>(
     alloc: Global,
     store: &mut S,
@@ -266,8 +268,8 @@ pub(crate) fn bound_right<S: Store, L: Ledger>(
     ensures fault { IfErr result (IsRuleFault (FirstAgainst (BoundR j y.now) (sequent_at (S.trees store.old) s.now))) }
     ensures grows { S.grows store.old store.new }
 {
-    let f = rebound_at(alloc, store, &s.succ, j, y, steps)?;
+    let g = rebound_at(alloc, store, &s.succ, j, y, steps)?;
     let mut premise = s.copy(alloc)?;
-    premise.succ.set(j, f);
+    premise.succ.set(j, g);
     Ok(one(alloc, premise)?)
 }

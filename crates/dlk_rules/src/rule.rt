@@ -109,9 +109,9 @@ impl From<StoreFault> for RuleFault {
 }
 
 impl From<RenameFault> for RuleFault {
-    ghost use Rattle.dlk_rules.specs.Quantifiers.{fault_of};
+    ghost use Rattle.dlk_rules.specs.Quantifiers.{of_rename};
 
-    ghost from_gives = { λ why e. e ≡ fault_of why };
+    ghost from_gives = { λ why e. e ≡ of_rename why };
 
     fn from(why: RenameFault) -> RuleFault {
         match why {

@@ -1,11 +1,12 @@
 use Rattle.dlk_calculus.specs.Rules.{NotR}
-use Rattle.dlk_rules.proofs.OverIds.{stands_old, right_without, left_last, one_stands, made}
+use Rattle.dlk_rules.proofs.OverIds.{one_stands, stands_old, made, right_without, left_last}
 use Rattle.dlk_rules.proofs.connectives.not_right.Goals as goal
 
 pub returns-clause-made : goal.returns-clause-made
 returns-clause-made g c =
     let trees = g.S.Store.trees c.args.store.now in
-    let kid = c.in_ok-f.ensures.ok in
-    made (NotR c.args.j) trees trees c.args.s.now c.in_ok-one.field-0 kid.place_is kid.root_is tt tt
-    (one_stands (left_last (right_without (stands_old trees c.args.s.now c.requires) c.args.j) kid.f_stands)
+    let m = c.in_ok-f.ensures.ok in
+    let s = stands_old trees c.args.s.now c.requires in
+    made (NotR c.args.j) trees trees c.args.s.now c.in_ok-one.field-0 m.place_is m.root_is tt tt
+    (one_stands (left_last (right_without s c.args.j) m.f_stands)
     (rw (c.in_ok-push.ensures.ok, c.remove.ensures, c.in_ok-premise.ensures) at c.in_ok-one.ensures))

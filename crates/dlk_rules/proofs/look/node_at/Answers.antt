@@ -1,8 +1,8 @@
-use Rattle.std.proofs.Common.{sym, ap, subst, length, ◌≡◌, ◌∙◌}
+use Rattle.std.proofs.Common.{sym, ap, ◌≡◌, ◌∙◌}
 use Rattle.dlk_tree.specs.Trees.{node}
 use Rattle.dlk_tree.specs.Table.{kid_sorts}
 use Rattle.dlk_store.specs.Stores.{kid_trees}
-use Rattle.dlk_store.proofs.Kids.{node_arity}
+use Rattle.dlk_store.proofs.Kids.{node_fits}
 use Rattle.dlk_rules.proofs.look.node_at.Goals as goal
 
 pub returns-clause-ok : goal.returns-clause-ok
@@ -15,5 +15,5 @@ returns-clause-ok g c =
       place_is = at.place_is;
       node_is = sym at.stands.tree_is ∙ c.look-node.ensures.node ∙ ap (λ op. node op (kid_trees trees c.look-node.result.kids.now)) same;
       known = c.look-node.ensures.known;
-      count = node_arity trees c.in_ok-id.id c.look-node.result.op.now c.look-node.result.kids.now made at.stands.known c.look-node.ensures.node ∙ ap (λ op. length (kid_sorts op)) same;
+      sorts_are = (node_fits trees c.in_ok-id.id c.look-node.result.op.now c.look-node.result.kids.now made at.stands.known c.look-node.ensures.node).kids_fit ∙ ap kid_sorts same;
     }

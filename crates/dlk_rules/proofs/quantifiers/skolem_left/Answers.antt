@@ -2,7 +2,7 @@ use Rattle.dlk_calculus.specs.Rules.{SkolemL, without_left}
 use Rattle.dlk_calculus.proofs.RuleLaws.{first_not_fresh}
 use Rattle.dlk_sequent.specs.Sequents.{sequent_at}
 use Rattle.dlk_rules.proofs.OverIds.{stands_old, left_put, one_stands, made}
-use Rattle.dlk_rules.proofs.Unread.{some_name, unread, not_unread}
+use Rattle.dlk_rules.proofs.Quantified.{some_name, unread, not_unread}
 use Rattle.dlk_rules.proofs.quantifiers.skolem_left.Goals as goal
 
 pub returns-then-is_read_beside_left-clause-fault : goal.returns-then-is_read_beside_left-clause-fault

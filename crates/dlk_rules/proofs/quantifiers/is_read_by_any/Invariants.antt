@@ -1,8 +1,8 @@
-use Rattle.std.proofs.Common.{◌≡◌, false, map, take}
+use Rattle.std.proofs.Common.{◌≡◌, false, take}
 use Rattle.std.specs.List.{list_any}
 use Rattle.dlk_tree.specs.Statics.{free}
 use Rattle.dlk_store.specs.Stores.{tree}
-use Rattle.dlk_rules.proofs.quantifiers.is_any_read.Given as goal
+use Rattle.dlk_rules.proofs.quantifiers.is_read_by_any.Given as goal
 
 -- it is free in none of the formulas so far
 abbrev pub invariant-loop-id : goal.invariant-loop-id

@@ -1,0 +1,12 @@
+use Rattle.dlk_calculus.specs.Rules.{NotL}
+use Rattle.dlk_rules.proofs.OverIds.{one_stands, stands_old, made, left_without, right_last}
+use Rattle.dlk_rules.proofs.connectives.not_left.Goals as goal
+
+pub returns-clause-made : goal.returns-clause-made
+returns-clause-made g c =
+    let trees = g.S.Store.trees c.args.store.now in
+    let m = c.in_ok-f.ensures.ok in
+    let s = stands_old trees c.args.s.now c.requires in
+    made (NotL c.args.i) trees trees c.args.s.now c.in_ok-one.field-0 m.place_is m.root_is tt tt
+    (one_stands (right_last (left_without s c.args.i) m.f_stands)
+    (rw (c.in_ok-push.ensures.ok, c.remove.ensures, c.in_ok-premise.ensures) at c.in_ok-one.ensures))

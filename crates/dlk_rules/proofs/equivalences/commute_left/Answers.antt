@@ -1,0 +1,14 @@
+use Rattle.dlk_calculus.specs.Rules.{CommuteEquivL}
+use Rattle.dlk_rules.proofs.OverIds.{one_stands, stands_kept, stands_equiv, made, left_put}
+use Rattle.dlk_rules.proofs.equivalences.commute_left.Goals as goal
+
+pub returns-clause-made : goal.returns-clause-made
+returns-clause-made g c =
+    let old = g.S.Store.trees c.args.store.now in
+    let new = g.S.Store.trees c.equiv.new.store in
+    let m = c.in_ok-f.ensures.ok in
+    let s = stands_kept (g.met.S.Store.grows_keeps c.args.store.now c.equiv.new.store c.equiv.ensures.grows) c.args.s.now c.requires in
+    let formula = stands_equiv c.in_ok-new.ensures.made m.g_stands.tree_is m.f_stands.tree_is in
+    made (CommuteEquivL c.args.i) old new c.args.s.now c.in_ok-one.field-0 m.place_is m.root_is tt tt
+    (one_stands (left_put s formula c.args.i)
+    (rw (c.set.ensures, c.in_ok-premise.ensures) at c.in_ok-one.ensures))
