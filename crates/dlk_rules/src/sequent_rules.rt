@@ -1,6 +1,7 @@
 //! The sequent rules.
 ghost use Rattle.std.specs.Prelude.{IfOk, IfErr};
 ghost use Rattle.dlk_calculus.specs.Rules.{FirstAgainst};
+ghost use Rattle.dlk_calculus.specs.Sequents.{IsSequent};
 ghost use Rattle.dlk_sequent.specs.Sequents.{sequent_at, IsKnown};
 ghost use Rattle.dlk_rules.specs.Steps.{rule_at, RuleIsKnown, AreMade, IsRuleFault};
 
@@ -10,7 +11,7 @@ use dlk_store::{Steps, Store};
 use std::alloc::Global;
 use std::sync::ledger::Ledger;
 
-/// The premises that a rule makes of a sequent. The ids of the rule and of the sequent are those of the store.
+/// The premises that a rule makes of a sequent of formulas. The ids of the rule and of the sequent are those of the store.
 ///
 /// # Errors
 ///
@@ -30,6 +31,7 @@ pub fn premises<S: Store, L: Ledger>(
 ) -> Result<Listed<Sequent>, RuleFault>
     requires rule { RuleIsKnown (S.trees store.old) rule.now }
     requires known { IsKnown (S.trees store.old) s.now }
+    requires formulas { IsSequent (sequent_at (S.trees store.old) s.now) }
 
     ensures made { IfOk result (AreMade (rule_at (S.trees store.old) rule.now) (S.trees store.old) s.now (S.trees store.new)) }
     ensures fault { IfErr result (IsRuleFault (FirstAgainst (rule_at (S.trees store.old) rule.now) (sequent_at (S.trees store.old) s.now))) }
