@@ -1,9 +1,14 @@
 -- The steps of exchanging names.
-use Rattle.std.proofs.Common.{◌≡◌, refl, ap, sym, ◌∙◌, ℕ, List}
+use Rattle.std.proofs.Common.{◌≡◌, refl, ap, sym, subst, ◌∙◌, ℕ, List}
+use Rattle.std.specs.Prelude.{IsTrue}
 use Rattle.dlk_tree.specs.declared.op.Op.{Op}
+use Rattle.dlk_tree.specs.declared.op.Sort.{Sort}
+use Rattle.dlk_tree.specs.Names.{is_name}
+use Rattle.dlk_tree.specs.Table.{Fits}
 use Rattle.dlk_tree.specs.Trees.{Tree, node, Forest, no_kids, kid}
 use Rattle.dlk_store.proofs.Kids.{each_of}
 use Rattle.dlk_calculus.specs.Rename.{swap_op, swap, swap_all}
+use Rattle.dlk_calculus.proofs.Swapped.{swap_fits}
 
 module _ (x y : List ℕ) where
   swap_each : (ks : Forest) → swap_all x y ks ≡ each_of (swap x y) ks
@@ -13,3 +18,7 @@ module _ (x y : List ℕ) where
   -- a node, of its operator and its kids with the names exchanged
   pub swapped_node : (t : Tree) (op made : Op) (ks js : Forest) → t ≡ node op ks → made ≡ swap_op x y op → js ≡ each_of (swap x y) ks → swap x y t ≡ node made js
   swapped_node t op made ks js e n h = ap (swap x y) e ∙ (λ i. node (sym n i) ((swap_each ks ∙ sym h) i))
+
+  -- the operator fits kids of the same sorts
+  pub swapped_fits : IsTrue (is_name x) → IsTrue (is_name y) → (op made : Op) (kids : List Sort) → made ≡ swap_op x y op → Fits op kids → Fits made kids
+  swapped_fits real_x real_y op made kids n fits = subst (λ (o : Op). Fits o kids) (sym n) (swap_fits x y real_x real_y op kids fits)

@@ -1,6 +1,5 @@
 //! Two names exchanged.
-ghost use Rattle.std.specs.Prelude.{◌≡◌, IfOk, IsTrue, map};
-ghost use Rattle.dlk_tree.specs.Names.{is_name};
+ghost use Rattle.std.specs.Prelude.{◌≡◌, IfOk, map};
 ghost use Rattle.dlk_store.specs.Stores.{IsId, tree, StandsFor};
 ghost use Rattle.dlk_calculus.specs.Rename.{swap, swap_name, swap_var, swap_sym, swap_item, swap_op};
 
@@ -84,32 +83,6 @@ fn swap_op(alloc: Global, x: &Name, y: &Name, op: &Op) -> Result<Op, AllocError>
     })
 }
 
-/// The tree with two names exchanged that are ones.
-fn swap_tree<S: Store, L: Ledger>(
-    alloc: Global,
-    store: &mut S,
-    id: Id,
-    x: &Name,
-    y: &Name,
-    steps: &mut Steps<L>,
-) -> Result<Id, StoreFault>
-    requires known { IsId (S.trees store.old) id }
-    requires first { IsTrue (is_name x.now) }
-    requires second { IsTrue (is_name y.now) }
-    ensures made { IfOk result (λ made. StandsFor (S.trees store.new) made (swap x.now y.now (tree (S.trees store.old) id))) }
-    ensures grows { S.grows store.old store.new }
-{
-    let node = store.look(id, steps);
-    let op = swap_op(alloc, x, y, node.op)?;
-    let kids = node.kids.to_vec(alloc)?;
-    let mut new = Vec::new(alloc);
-    for kid in &kids {
-        let made = swap_tree(alloc, store, *kid, x, y, steps)?;
-        new.push(made)?;
-    }
-    store.make(alloc, op, new.as_slice())
-}
-
 /// The tree with the names `x` and `y` exchanged, and so `x'` and `y'`: in variables, binders, evolved variables and taboos
 /// (Platzer 2017, section on the proof calculus). Names of symbols stay.
 ///
@@ -128,6 +101,15 @@ pub fn swap<S: Store, L: Ledger>(
     ensures made { IfOk result (λ made. StandsFor (S.trees store.new) made (swap x.now y.now (tree (S.trees store.old) id))) }
     ensures grows { S.grows store.old store.new }
 {
-    prove!(x.is_name() && y.is_name());
-    swap_tree(alloc, store, id, x, y, steps)
+    let node = store.look(id, steps);
+    let op = swap_op(alloc, x, y, node.op)?;
+    let kids = node.kids.to_vec(alloc)?;
+    let mut new = Vec::new(alloc);
+    for kid in &kids {
+        let made = swap(alloc, store, *kid, x, y, steps)?;
+        new.push(made)?;
+    }
+    prove!(x.is_name());
+    prove!(y.is_name());
+    store.make(alloc, op, new.as_slice())
 }

@@ -5,10 +5,10 @@ use Rattle.dlk_tree.specs.Trees.{node, size}
 use Rattle.dlk_store.specs.Stores.{IsId, tree, kid_trees}
 use Rattle.dlk_store.proofs.Made.{Made}
 use Rattle.dlk_calculus.specs.Rename.{swap, swap_op}
-use Rattle.dlk_rename.proofs.exchange.+swap_tree.Given as goal
+use Rattle.dlk_rename.proofs.exchange.+swap.Given as goal
 
-abbrev pub decreases-swap_tree : goal.decreases-swap_tree
-decreases-swap_tree g l = size (tree (g.S.Store.trees l.store.now) l.id)
+abbrev pub decreases-swap : goal.decreases-swap
+decreases-swap g l = size (tree (g.S.Store.trees l.store.now) l.id)
 
 -- the kids so far are swapped, of a node of this operator swapped
 abbrev pub invariant-loop-kid : goal.invariant-loop-kid
