@@ -1,12 +1,12 @@
 //! Another name for a bound variable.
-ghost use Rattle.std.specs.Prelude.{◌≡◌, IfOk, IfErr, IsTrue, All, Some};
+ghost use Rattle.std.specs.Prelude.{◌≡◌, IfOk, IfErr, IsTrue};
 ghost use Rattle.dlk_tree.specs.Names.{is_name};
-ghost use Rattle.dlk_tree.specs.Table.{Fits};
-ghost use Rattle.dlk_tree.specs.Trees.{node, root, sort};
+ghost use Rattle.dlk_tree.specs.Trees.{root, sort};
 ghost use Rattle.dlk_tree.specs.declared.op.Sort.TheVariants.{Formula};
-ghost use Rattle.dlk_store.specs.Stores.{IsId, tree, kid_trees, sorts_at, StandsFor};
-ghost use Rattle.dlk_calculus.specs.Rename.{assigned, binder_of, reassigned, rebound, renamed_bound};
+ghost use Rattle.dlk_store.specs.Stores.{IsId, tree, StandsFor};
+ghost use Rattle.dlk_calculus.specs.Rename.{assigned, binder, body, reassigned, renamed_bound};
 ghost use Rattle.dlk_calculus.specs.Rules.{IsSome, CanBind, MayBind};
+ghost use Rattle.dlk_rename.specs.Bodies.{with_body};
 ghost use Rattle.dlk_rename.specs.Faults.{IsRenameFault};
 
 use crate::exchange::swap;
@@ -32,24 +32,36 @@ fn assigned<S: Store, L: Ledger>(
     }
 }
 
-/// The name that the operator over these kids binds, if it binds one.
-fn binder_of<S: Store, L: Ledger>(
+/// The name that the formula binds outermost, if it binds one.
+fn binder<S: Store, L: Ledger>(
     store: &S,
-    op: &Op,
-    kids: &[Id],
+    id: Id,
     steps: &mut Steps<L>,
 ) -> Result<Option<Name>, AllocError>
-    requires { All (IsId (S.trees store.now)) kids.now }
-    ensures { IfOk result (λ name. name ≡ binder_of op.now (kid_trees (S.trees store.now) kids.now)) }
+    requires { IsId (S.trees store.now) id }
+    ensures { IfOk result (λ name. name ≡ binder (tree (S.trees store.now) id)) }
 {
-    match op {
+    let node = store.look(id, steps);
+    match node.op {
         Op::Forall(x) | Op::Exists(x) => Ok(Some(x.clone()?)),
-        Op::Box | Op::Dia => match kids.first() {
+        Op::Box | Op::Dia => match node.kids.first() {
             Some(program) => assigned(store, *program, steps),
             None => Ok(None),
         },
         _ => Ok(None),
     }
+}
+
+/// The formula in which the name is bound.
+fn body_of<S: Store, L: Ledger>(store: &S, id: Id, steps: &mut Steps<L>) -> Id
+    requires known { IsId (S.trees store.now) id }
+    requires binds { IsSome (binder (tree (S.trees store.now) id)) }
+    ensures known { IsId (S.trees store.now) result }
+    ensures body { tree (S.trees store.now) result ≡ body (tree (S.trees store.now) id) }
+    ensures formula { sort (tree (S.trees store.now) result) ≡ Formula }
+{
+    let kids = store.look(id, steps).kids;
+    kids[kids.len() - 1]
 }
 
 /// The assignment of the same term to `y`.
@@ -75,61 +87,34 @@ fn reassign<S: Store, L: Ledger>(
     store.make(alloc, op, kids.as_slice())
 }
 
-/// The operator over its kids with `y` for the name that it binds, and this body.
+/// The formula with `y` for the name that it binds outermost, and this body.
 fn rebind<S: Store, L: Ledger>(
     alloc: Global,
     store: &mut S,
     y: &Name,
     body: Id,
-    op: &Op,
-    kids: &[Id],
+    id: Id,
     steps: &mut Steps<L>,
 ) -> Result<Id, StoreFault>
     requires name { IsTrue (is_name y.now) }
     requires body { IsId (S.trees store.old) body }
-    requires sort { sort (tree (S.trees store.old) body) ≡ Formula }
-    requires kids { All (IsId (S.trees store.old)) kids.now }
-    requires fits { Fits op.now (sorts_at (S.trees store.old) kids.now) }
-    requires binds { IsSome (binder_of op.now (kid_trees (S.trees store.old) kids.now)) }
-    ensures made { IfOk result (λ made. StandsFor (S.trees store.new) made (rebound y.now (tree (S.trees store.old) body) op.now (kid_trees (S.trees store.old) kids.now))) }
+    requires formula { sort (tree (S.trees store.old) body) ≡ Formula }
+    requires known { IsId (S.trees store.old) id }
+    requires binds { IsSome (binder (tree (S.trees store.old) id)) }
+    ensures made { IfOk result (λ made. StandsFor (S.trees store.new) made (with_body y.now (tree (S.trees store.old) body) (tree (S.trees store.old) id))) }
     ensures grows { S.grows store.old store.new }
 {
-    match op {
+    let node = store.look(id, steps);
+    match node.op {
         Op::Forall(_) => store.make(alloc, Op::Forall(y.clone()?), &[body]),
         Op::Exists(_) => store.make(alloc, Op::Exists(y.clone()?), &[body]),
         modality => {
             let op = modality.clone()?;
-            let program = reassign(alloc, store, y, kids[0], steps)?;
-            store.make(alloc, op, &[program, body])
+            let program = node.kids[0];
+            let assignment = reassign(alloc, store, y, program, steps)?;
+            store.make(alloc, op, &[assignment, body])
         }
     }
-}
-
-/// The operator over its kids with `y` for the name `x` that it binds, which is exchanged with it in the body.
-fn rename<S: Store, L: Ledger>(
-    alloc: Global,
-    store: &mut S,
-    x: &Name,
-    y: &Name,
-    op: &Op,
-    kids: &[Id],
-    steps: &mut Steps<L>,
-) -> Result<Id, RenameFault>
-    requires name { IsTrue (is_name y.now) }
-    requires kids { All (IsId (S.trees store.old)) kids.now }
-    requires fits { Fits op.now (sorts_at (S.trees store.old) kids.now) }
-    requires binds { binder_of op.now (kid_trees (S.trees store.old) kids.now) ≡ Some x.now }
-    ensures made { IfOk result (λ made. StandsFor (S.trees store.new) made (renamed_bound y.now (node op.now (kid_trees (S.trees store.old) kids.now)))) }
-    ensures fresh { IfOk result (λ made. MayBind y.now (node op.now (kid_trees (S.trees store.old) kids.now))) }
-    ensures fault { IfErr result (IsRenameFault y.now (node op.now (kid_trees (S.trees store.old) kids.now))) }
-    ensures grows { S.grows store.old store.new }
-{
-    let body = kids[kids.len() - 1];
-    if !may_rename(alloc, store, x, y, body)? {
-        return Err(RenameFault::NotFresh);
-    }
-    let swapped = swap(alloc, store, body, x, y, steps)?;
-    Ok(rebind(alloc, store, y, swapped, op, kids, steps)?)
 }
 
 /// The formula with `y` for the variable x that it binds outermost, where it is `\forall x f`, `\exists x f`, `[x:=e;]f` or
@@ -157,11 +142,13 @@ pub fn bound<S: Store, L: Ledger>(
     ensures grows { S.grows store.old store.new }
 {
     prove!(y.is_name());
-    let node = store.look(id, steps);
-    let op = node.op.clone()?;
-    let kids = node.kids.to_vec(alloc)?;
-    match binder_of(store, &op, kids.as_slice(), steps)? {
-        Some(x) => rename(alloc, store, &x, y, &op, kids.as_slice(), steps),
-        None => Err(RenameFault::WrongShape),
+    let Some(x) = binder(store, id, steps)? else {
+        return Err(RenameFault::WrongShape);
+    };
+    let body = body_of(store, id, steps);
+    if !may_rename(alloc, store, &x, y, body)? {
+        return Err(RenameFault::NotFresh);
     }
+    let swapped = swap(alloc, store, body, &x, y, steps)?;
+    Ok(rebind(alloc, store, y, swapped, id, steps)?)
 }
