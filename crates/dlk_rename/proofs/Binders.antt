@@ -1,5 +1,5 @@
 -- Formulas that bind a name, by ids.
-use Rattle.std.proofs.Common.{◌≡◌, refl, sym, ap, subst, ◌∙◌, ℕ, ◌<◌, ◌-◌, ◌⊎◌, inl, inr, ⊎_elim, suc, List, [], ◌∷◌, length, get_or, Some, Bool, true, false, arith}
+use Rattle.std.proofs.Common.{◌≡◌, refl, sym, ap, subst, ◌∙◌, ℕ, ◌<◌, ◌-◌, ◌⊎◌, inl, inr, ⊎_elim, List, [], ◌∷◌, length, get_or, Some, arith}
 use Rattle.std.specs.Prelude.{IsTrue, All}
 use Rattle.dlk_tree.specs.declared.op.Op.{Op}
 use Rattle.dlk_tree.specs.declared.op.Op.TheVariants as Op'
@@ -13,8 +13,8 @@ use Rattle.dlk_store.specs.declared.Id.{Id}
 use Rattle.dlk_store.specs.Stores.{IsId, tree, kid_trees, sorts_at, StandsFor, Keeps}
 use Rattle.dlk_store.proofs.Kids.{node_fits}
 use Rattle.dlk_calculus.specs.Kids.{first, last}
-use Rattle.dlk_calculus.specs.Rename.{swap, assigned, binder_of, binder, body, reassigned, rebound, name_in, renamed_bound, may_rename}
-use Rattle.dlk_calculus.specs.Rules.{IsSome, MayBind}
+use Rattle.dlk_calculus.specs.Rename.{swap, assigned, binder_of, binder, body, reassigned, rebound, name_in, renamed_bound}
+use Rattle.dlk_calculus.specs.Rules.{IsSome}
 use Rattle.dlk_rename.specs.Bodies.{with_body}
 
 -- an assignment to another name is over a term too
@@ -118,12 +118,6 @@ module _ {old : List Tree} {id : Id} {op : Op} {ids : List Id} (b : Binding old 
 
 -- A formula that binds x, with the body f:
 module _ (x y : List ℕ) (t : Tree) {f : Tree} (binds : Some x ≡ binder t) (body_is : f ≡ body t) where
-  pub may_bind : {may : Bool} → may ≡ may_rename x y f → may ≡ true → MayBind y t
-  may_bind e h = λ z k. let same : x ≡ z = cc in subst (λ (w : List ℕ). IsTrue (may_rename w y (body t))) same (ap (may_rename x y) (sym body_is) ∙ sym e ∙ h)
-
-  pub may_not_bind : {may : Bool} → may ≡ may_rename x y f → may ≡ false → MayBind y t → ⊥
-  may_not_bind e h all = let yes : may_rename x y f ≡ true = ap (may_rename x y) body_is ∙ all x (sym binds) in cc
-
   renamed_tree : (u : Tree) → renamed_bound y u ≡ with_body y (swap (name_in (binder u)) y (body u)) u
   renamed_tree (node op kids) = refl
 

@@ -48,6 +48,7 @@ module _ (test : Sym → Bool) where
 
   pub some_symbol : (t : Tree) (ss : List Sym) → IsSignature t ss → list_any test ss ≡ has (λ op. list_any test (symbols_of op)) t
   some_symbol t ss is =
-      same_from_decides _ _ (λ e. e, λ e. e)
-      (λ e. let s = one_occurs t e in passes_of_one s.0 ss s.1 (is.members s.0 ∙ s.2),
-      λ e. let s = one_passes ss e in another_test (has_symbol s.0) (λ op. list_any test (symbols_of op)) (λ op h. passes_of_one s.0 (symbols_of op) s.1 h) t (sym (is.members s.0) ∙ s.2))
+      same_from_decides _ _ (λ e. e, λ e. e) (
+        λ e. let s = one_occurs t e in passes_of_one s.0 ss s.1 (is.members s.0 ∙ s.2),
+        λ e. let s = one_passes ss e in another_test (has_symbol s.0) (λ op. list_any test (symbols_of op)) (λ op h. passes_of_one s.0 (symbols_of op) s.1 h) t (sym (is.members s.0) ∙ s.2),
+      )

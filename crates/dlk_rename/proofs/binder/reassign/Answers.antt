@@ -1,11 +1,6 @@
 use Rattle.std.proofs.Common.{◌≡◌, rules}
-use Rattle.std.specs.Prelude.{IsTrue}
-use Rattle.dlk_tree.specs.Names.{is_name}
-use Rattle.dlk_tree.specs.Trees.{root}
 use Rattle.dlk_store.specs.Stores.{sorts_at}
 use Rattle.dlk_store.proofs.Kids.{node_fits}
-use Rattle.dlk_calculus.specs.Rename.{assigned}
-use Rattle.dlk_calculus.specs.Rules.{IsSome}
 use Rattle.dlk_rename.proofs.Binders.{assignment_fits}
 use Rattle.dlk_rename.proofs.binder.reassign.Goals as goal
 

@@ -1,5 +1,4 @@
-use Rattle.std.proofs.Common.{◌≡◌, ◌∙◌, ℕ, ap, subst, sym, length, get_or, arith, rules}
-use Rattle.dlk_tree.specs.declared.op.Op.{Op}
+use Rattle.std.proofs.Common.{◌≡◌, ℕ, ap, subst, length, get_or, arith, rules}
 use Rattle.dlk_tree.specs.Trees.{size}
 use Rattle.dlk_store.specs.Stores.{tree, kid_trees, sorts_at}
 use Rattle.dlk_store.specs.declared.Id.{Id}
