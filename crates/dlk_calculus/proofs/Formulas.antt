@@ -18,7 +18,7 @@ use Rattle.dlk_calculus.specs.Sequents.{Sequent, alone_right, IsFormula, IsSeque
 use Rattle.dlk_calculus.specs.Kids.{first, later, last}
 use Rattle.dlk_calculus.specs.Places.{IsPlace}
 use Rattle.dlk_calculus.specs.Rename.{name_in, binder_of, assigned, rebound, reassigned, renamed_bound, swap}
-use Rattle.dlk_calculus.specs.Rules.{Rule, Close, CloseTrue, CloseFalse, NotL, NotR, AndL, AndR, OrL, OrR, ImplyL, ImplyR, EquivL, EquivR, Cut, CutL, CutR, HideL, HideR, CoHideR, ExchangeL, ExchangeR, SkolemL, SkolemR, BoundL, BoundR, EquivifyR, CommuteEquivL, CommuteEquivR, imply, equiv, truth, kid_f, kid_g, left, left_f, left_g, right, right_f, right_g, put_left, put_right, last_left, last_right, without_left, without_right, existential, universal, CanBind, figure, Premises}
+use Rattle.dlk_calculus.specs.Rules.{Rule, Close, CloseTrue, CloseFalse, NotL, NotR, AndL, AndR, OrL, OrR, ImplyL, ImplyR, EquivL, EquivR, Cut, CutL, CutR, HideL, HideR, CoHideR, ExchangeL, ExchangeR, SkolemL, SkolemR, BoundL, BoundR, EquivifyR, CommuteEquivL, CommuteEquivR, imply, equiv, truth, kid_f, kid_g, left, left_f, left_g, right, right_f, right_g, put_left, put_right, last_left, last_right, without_left, without_right, exists_name, forall_name, HasBinder, figure, Premises}
 use Rattle.dlk_calculus.specs.Provables.{Provable, HasFormulas}
 use Rattle.dlk_calculus.specs.Steps.{Step, Start, UseAxiom, UseRule, Apply, Rename, Gives, History, Derives}
 use Rattle.dlk_calculus.proofs.PlaceLaws.{At_All}
@@ -67,11 +67,11 @@ two_kids (node op kids) other is e h = two_formulas op kids (ap kid_sorts is ∙
 one_kid : (t : Tree) (op : Op) → root t ≡ op → kid_sorts op ≡ Formula ∷ [] → IsFormula t → IsFormula (kid_f t)
 one_kid (node op kids) other is e h = one_formula op kids (ap kid_sorts is ∙ e) h
 
-existential_kid : (t : Tree) (x : List ℕ) → existential (root t) ≡ Some x → IsFormula t → IsFormula (kid_f t)
+existential_kid : (t : Tree) (x : List ℕ) → exists_name (root t) ≡ Some x → IsFormula t → IsFormula (kid_f t)
 existential_kid (node (Op'.Exists z) kids) x e h = one_formula (Op'.Exists z) kids refl h
 existential_kid (node _ kids) x e h = absurd (none-some x e)
 
-universal_kid : (t : Tree) (x : List ℕ) → universal (root t) ≡ Some x → IsFormula t → IsFormula (kid_f t)
+universal_kid : (t : Tree) (x : List ℕ) → forall_name (root t) ≡ Some x → IsFormula t → IsFormula (kid_f t)
 universal_kid (node (Op'.Forall z) kids) x e h = one_formula (Op'.Forall z) kids refl h
 universal_kid (node _ kids) x e h = absurd (none-some x e)
 
@@ -163,7 +163,7 @@ rebound_formula Op'.Box kids x y e real h = modal_formula Op'.Box kids x y (reco
 rebound_formula Op'.Dia kids x y e real h = modal_formula Op'.Dia kids x y (record { sort_is = refl; parts = refl; no_dot = refl; no_hole = refl }) refl h e real
 rebound_formula _ kids x y e real h = absurd (none-some x e)
 
-renamed_formula : (y : List ℕ) (t : Tree) → CanBind y t → IsFormula t → IsFormula (renamed_bound y t)
+renamed_formula : (y : List ℕ) (t : Tree) → HasBinder y t → IsFormula t → IsFormula (renamed_bound y t)
 renamed_formula y (node op kids) can h =
     let x = can.1.0 in
     let name : name_in (binder_of op kids) ≡ x = ap name_in can.1.1 in

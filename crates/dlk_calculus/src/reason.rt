@@ -13,6 +13,6 @@ pub enum Reason {
     WrongShape,
     /// Two formulas that the rule wants to be the same are not.
     NotEqual,
-    /// A variable that the rule wants to be fresh is not.
+    /// A variable that the rule wants to be fresh is not, or a symbol that may read any variable stands in what it binds.
     NotFresh,
 }

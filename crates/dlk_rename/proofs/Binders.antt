@@ -14,11 +14,11 @@ use Rattle.dlk_store.specs.Stores.{IsId, tree, kid_trees, sorts_at, StandsFor, K
 use Rattle.dlk_store.proofs.Kids.{node_fits}
 use Rattle.dlk_calculus.specs.Kids.{first, last}
 use Rattle.dlk_calculus.specs.Rename.{swap, assigned, binder_of, binder, body, reassigned, rebound, name_in, renamed_bound}
-use Rattle.dlk_calculus.specs.Rules.{IsSome}
+use Rattle.dlk_calculus.specs.Rules.{HasName}
 use Rattle.dlk_rename.specs.Bodies.{with_body}
 
 -- an assignment to another name is over a term too
-pub assignment_fits : (op : Op) (y : List ℕ) (kids : List Sort) → IsTrue (is_name y) → IsSome (assigned op) → Fits op kids → Fits (Op'.Assign (plain y)) kids
+pub assignment_fits : (op : Op) (y : List ℕ) (kids : List Sort) → IsTrue (is_name y) → HasName (assigned op) → Fits op kids → Fits (Op'.Assign (plain y)) kids
 assignment_fits (Op'.Assign v) y kids real some fits = record { kids_fit = fits.kids_fit; parts_fit = real }
 assignment_fits _ y kids real some fits = let e = some.1 in cc
 
@@ -26,14 +26,14 @@ assignment_fits _ y kids real some fits = let e = some.1 in cc
 pub record Binding (trees : List Tree) (id : Id) (op : Op) (ids : List Id) : Type 0 where
   pub node_is : tree trees id ≡ node op (kid_trees trees ids)
   pub fits : Fits op (sorts_at trees ids)
-  pub binds : IsSome (binder_of op (kid_trees trees ids))
+  pub binds : HasName (binder_of op (kid_trees trees ids))
 
-pub binding : {trees : List Tree} {id : Id} {op : Op} (ids : List Id) → tree trees id ≡ node op (kid_trees trees ids) → All WellMade trees → IsId trees id → IsSome (binder (tree trees id)) → Binding trees id op ids
-binding {trees} {id} {op} ids is made known binds = record { node_is = is; fits = node_fits trees id op ids made known is; binds = subst (λ t. IsSome (binder t)) is binds }
+pub binding : {trees : List Tree} {id : Id} {op : Op} (ids : List Id) → tree trees id ≡ node op (kid_trees trees ids) → All WellMade trees → IsId trees id → HasName (binder (tree trees id)) → Binding trees id op ids
+binding {trees} {id} {op} ids is made known binds = record { node_is = is; fits = node_fits trees id op ids made known is; binds = subst (λ t. HasName (binder t)) is binds }
 
 -- The body: a quantifier is over a formula, a modality over a program and a formula.
 
-quantifier_or_modality : (op : Op) (ks : Forest) → IsSome (binder_of op ks) → (kid_sorts op ≡ Formula ∷ []) ⊎ (kid_sorts op ≡ Program ∷ Formula ∷ [])
+quantifier_or_modality : (op : Op) (ks : Forest) → HasName (binder_of op ks) → (kid_sorts op ≡ Formula ∷ []) ⊎ (kid_sorts op ≡ Program ∷ Formula ∷ [])
 quantifier_or_modality (Op'.Forall z) ks some = inl refl
 quantifier_or_modality (Op'.Exists z) ks some = inl refl
 quantifier_or_modality Op'.Box ks some = inr refl
@@ -83,7 +83,7 @@ pub record IsNoQuantifier (op : Op) : Type 0 where
   pub no_exists : (z : List ℕ) → op ≡ Op'.Exists z → ⊥
 
 -- it is over a program and a formula, and the program assigns the name
-modality : (op : Op) (ks : Forest) → IsNoQuantifier op → IsSome (binder_of op ks) → (kid_sorts op ≡ Program ∷ Formula ∷ []) × IsSome (assigned (root (first ks)))
+modality : (op : Op) (ks : Forest) → IsNoQuantifier op → HasName (binder_of op ks) → (kid_sorts op ≡ Program ∷ Formula ∷ []) × HasName (assigned (root (first ks)))
 modality (Op'.Forall z) ks none some = absurd (none.no_forall z refl)
 modality (Op'.Exists z) ks none some = absurd (none.no_exists z refl)
 modality Op'.Box ks none some = (refl, some)
@@ -99,8 +99,8 @@ reassigned_sort : (y : List ℕ) (t : Tree) → sort (reassigned y t) ≡ Progra
 reassigned_sort y (node op kids) = refl
 
 module _ {old : List Tree} {id : Id} {op : Op} {ids : List Id} (b : Binding old id op ids) (none : IsNoQuantifier op) where
-  pub program_assigns : IsSome (assigned (root (tree old (first_id ids))))
-  program_assigns = subst (λ t. IsSome (assigned (root t))) (first_kid old ids (some_kids b)) (modality op (kid_trees old ids) none b.binds).1
+  pub program_assigns : HasName (assigned (root (tree old (first_id ids))))
+  program_assigns = subst (λ t. HasName (assigned (root t))) (first_kid old ids (some_kids b)) (modality op (kid_trees old ids) none b.binds).1
 
   -- over a new program and a new body
   module _ (y : List ℕ) {now : List Tree} {program f : Id} (keeps : Keeps old now) (known : IsId old f) (stands : StandsFor now program (reassigned y (tree old (first_id ids)))) where

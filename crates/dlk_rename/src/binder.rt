@@ -5,7 +5,7 @@ ghost use Rattle.dlk_tree.specs.Trees.{root, sort};
 ghost use Rattle.dlk_tree.specs.declared.op.Sort.TheVariants.{Formula};
 ghost use Rattle.dlk_store.specs.Stores.{IsId, tree, StandsFor};
 ghost use Rattle.dlk_calculus.specs.Rename.{assigned, binder, body, reassigned, renamed_bound};
-ghost use Rattle.dlk_calculus.specs.Rules.{IsSome, CanBind, MayBind};
+ghost use Rattle.dlk_calculus.specs.Rules.{HasName, HasBinder, IsFreshBinder};
 ghost use Rattle.dlk_rename.specs.Bodies.{with_body};
 ghost use Rattle.dlk_rename.specs.Faults.{IsRenameFault};
 
@@ -55,7 +55,7 @@ fn binder<S: Store, L: Ledger>(
 /// The formula in which the name is bound.
 fn body_of<S: Store, L: Ledger>(store: &S, id: Id, steps: &mut Steps<L>) -> Id
     requires known { IsId (S.trees store.now) id }
-    requires binds { IsSome (binder (tree (S.trees store.now) id)) }
+    requires binds { HasName (binder (tree (S.trees store.now) id)) }
     ensures known { IsId (S.trees store.now) result }
     ensures body { tree (S.trees store.now) result ≡ body (tree (S.trees store.now) id) }
     ensures formula { sort (tree (S.trees store.now) result) ≡ Formula }
@@ -74,7 +74,7 @@ fn reassign<S: Store, L: Ledger>(
 ) -> Result<Id, StoreFault>
     requires name { IsTrue (is_name y.now) }
     requires known { IsId (S.trees store.old) program }
-    requires assigns { IsSome (assigned (root (tree (S.trees store.old) program))) }
+    requires assigns { HasName (assigned (root (tree (S.trees store.old) program))) }
     ensures made { IfOk result (λ made. StandsFor (S.trees store.new) made (reassigned y.now (tree (S.trees store.old) program))) }
     ensures grows { S.grows store.old store.new }
 {
@@ -100,7 +100,7 @@ fn rebind<S: Store, L: Ledger>(
     requires body { IsId (S.trees store.old) body }
     requires formula { sort (tree (S.trees store.old) body) ≡ Formula }
     requires known { IsId (S.trees store.old) id }
-    requires binds { IsSome (binder (tree (S.trees store.old) id)) }
+    requires binds { HasName (binder (tree (S.trees store.old) id)) }
     ensures made { IfOk result (λ made. StandsFor (S.trees store.new) made (with_body y.now (tree (S.trees store.old) body) (tree (S.trees store.old) id))) }
     ensures grows { S.grows store.old store.new }
 {
@@ -118,7 +118,7 @@ fn rebind<S: Store, L: Ledger>(
 }
 
 /// The formula with `y` for the variable x that it binds outermost, where it is `\forall x f`, `\exists x f`, `[x:=e;]f` or
-/// `<x:=e;>f` (Platzer 2017, section on the proof calculus): the two are exchanged in the binder and in f, and e stays.
+/// `<x:=e;>f` (bound renaming): the two are exchanged in the binder and in f, and e stays.
 ///
 /// # Errors
 ///
@@ -136,8 +136,8 @@ pub fn bound<S: Store, L: Ledger>(
 ) -> Result<Id, RenameFault>
     requires { IsId (S.trees store.old) id }
     ensures made { IfOk result (λ made. StandsFor (S.trees store.new) made (renamed_bound y.now (tree (S.trees store.old) id))) }
-    ensures binds { IfOk result (λ made. CanBind y.now (tree (S.trees store.old) id)) }
-    ensures fresh { IfOk result (λ made. MayBind y.now (tree (S.trees store.old) id)) }
+    ensures binds { IfOk result (λ made. HasBinder y.now (tree (S.trees store.old) id)) }
+    ensures fresh { IfOk result (λ made. IsFreshBinder y.now (tree (S.trees store.old) id)) }
     ensures fault { IfErr result (IsRenameFault y.now (tree (S.trees store.old) id)) }
     ensures grows { S.grows store.old store.new }
 {

@@ -84,7 +84,7 @@ fn swap_op(alloc: Global, x: &Name, y: &Name, op: &Op) -> Result<Op, AllocError>
 }
 
 /// The tree with the names `x` and `y` exchanged, and so `x'` and `y'`: in variables, binders, evolved variables and taboos
-/// (Platzer 2017, section on the proof calculus). Names of symbols stay.
+/// (uniform renaming). Names of symbols stay.
 ///
 /// # Errors
 ///

@@ -3,29 +3,29 @@ ghost use Rattle.std.specs.Prelude.{◌≡◌, ◌&&◌, ◌||◌, IfOk};
 ghost use Rattle.std.specs.List.{list_any};
 ghost use Rattle.dlk_tree.specs.Statics.{free};
 ghost use Rattle.dlk_store.specs.Stores.{IsId, tree};
-ghost use Rattle.dlk_calculus.specs.Rename.{is_open, has_open, may_rename};
+ghost use Rattle.dlk_calculus.specs.Rename.{hides_variables, has_hidden_variables, may_rename};
 
 use dlk_store::{Id, Store, StoreFault};
 use dlk_tree::{Kind, Name, Sym, Var};
 use std::alloc::{AllocError, Global};
 
 /// Whether the symbol may read variables that aren't written with it.
-fn is_open(s: &Sym) -> bool
-    ensures { result ≡ is_open s.now }
+fn hides_variables(s: &Sym) -> bool
+    ensures { result ≡ hides_variables s.now }
 {
     !matches!(s.kind, Kind::Func | Kind::Pred)
 }
 
 fn any_is_open(symbols: &[Sym]) -> bool
-    ensures { result ≡ list_any is_open symbols.now }
+    ensures { result ≡ list_any hides_variables symbols.now }
 {
-    symbols.iter().any(|s| is_open(s))
+    symbols.iter().any(|s| hides_variables(s))
 }
 
 /// Whether such a symbol occurs in the tree.
-fn has_open<S: Store>(alloc: Global, store: &S, id: Id) -> Result<bool, StoreFault>
+fn has_hidden_variables<S: Store>(alloc: Global, store: &S, id: Id) -> Result<bool, StoreFault>
     requires { IsId (S.trees store.now) id }
-    ensures { IfOk result (λ some. some ≡ has_open (tree (S.trees store.now) id)) }
+    ensures { IfOk result (λ some. some ≡ has_hidden_variables (tree (S.trees store.now) id)) }
 {
     let symbols = store.symbols(alloc, id)?;
     Ok(any_is_open(&symbols))
@@ -59,6 +59,6 @@ pub(crate) fn may_rename<S: Store>(
     let is_taken = frees(store, body, y, false)?
         || frees(store, body, y, true)?
         || frees(store, body, x, true)?
-        || has_open(alloc, store, body)?;
+        || has_hidden_variables(alloc, store, body)?;
     Ok(!is_taken)
 }

@@ -13,9 +13,9 @@ use Rattle.dlk_tree.specs.Table.{kid_sorts}
 use Rattle.dlk_tree.specs.Trees.{Tree, root}
 use Rattle.dlk_store.specs.declared.Id.{Id}
 use Rattle.dlk_store.specs.Stores.{IsId}
-use Rattle.dlk_calculus.specs.Places.{remove}
+use Rattle.dlk_calculus.specs.Places.{without_place}
 use Rattle.dlk_calculus.specs.Sequents.{Sequent}
-use Rattle.dlk_calculus.specs.Rules.{kid_f, IsSome, OfName, IsUnread}
+use Rattle.dlk_calculus.specs.Rules.{kid_f, HasName, OfName, IsFreshIn}
 use Rattle.dlk_rules.specs.declared.quantifiers.Quantifier.{Quantifier}
 use Rattle.dlk_rules.specs.Looks.{formula_at, IsNodeAt}
 use Rattle.dlk_rules.specs.Quantifiers.{bound_name, is_read, IsQuantifiedAt}
@@ -26,7 +26,7 @@ list_any_map p f (id ∷ ids) = ap (λ b. p (f id) || b) (list_any_map p f ids)
 
 -- of all but one, whether one before it or one behind it passes the test
 pub list_any_remove : (p : Tree → Bool) (f : Id → Tree) (ids : List Id) (place : ℕ) →
-    (list_any p (map f (take (place - 1) ids)) || list_any p (map f (take (length ids - place) (drop place ids)))) ≡ list_any p (remove (map f ids) place)
+    (list_any p (map f (take (place - 1) ids)) || list_any p (map f (take (length ids - place) (drop place ids)))) ≡ list_any p (without_place (map f ids) place)
 list_any_remove p f ids place = simp (list_any-append, take-map, drop-map, take_rest)
 
 -- the quantifier at a place, by its operator and its kids
@@ -42,14 +42,14 @@ quantified_node trees side place quantifier op (k ∷ rest) d x v n binds one e 
 
 -- the variable of a quantifier at a place
 module _ {trees side : List Tree} {place : ℕ} {quantifier : Quantifier} {v : Var} {f : Id} (at : IsQuantifiedAt trees side place quantifier v f) where
-  pub some_name : IsSome (bound_name quantifier (root (formula_at side place)))
+  pub some_name : HasName (bound_name quantifier (root (formula_at side place)))
   some_name = (v.name, at.binds)
 
-  pub unread : (s : Sequent) → false ≡ is_read s v → OfName (bound_name quantifier (root (formula_at side place))) (IsUnread s)
+  pub unread : (s : Sequent) → false ≡ is_read s v → OfName (bound_name quantifier (root (formula_at side place))) (IsFreshIn s)
   unread s test x e =
       let at_name = at.binds in
       let same : v.name ≡ x = cc in
-      subst (IsUnread s) same (sym (test ∙ ap (is_read s) at.unprimed))
+      subst (IsFreshIn s) same (sym (test ∙ ap (is_read s) at.unprimed))
 
-  pub not_unread : (s : Sequent) → true ≡ is_read s v → ¬ OfName (bound_name quantifier (root (formula_at side place))) (IsUnread s)
+  pub not_unread : (s : Sequent) → true ≡ is_read s v → ¬ OfName (bound_name quantifier (root (formula_at side place))) (IsFreshIn s)
   not_unread s test all = true≢false (test ∙ ap (is_read s) at.unprimed ∙ all v.name at.binds)

@@ -10,7 +10,7 @@ use Rattle.dlk_store.specs.Stores.{StandsFor}
 use Rattle.dlk_calculus.specs.Places.{IsPlace}
 use Rattle.dlk_calculus.specs.Sequents.{Sequent}
 use Rattle.dlk_calculus.specs.Rename.{renamed_bound}
-use Rattle.dlk_calculus.specs.Rules.{kid_f, existential, universal, CanBind, MayBind}
+use Rattle.dlk_calculus.specs.Rules.{kid_f, exists_name, forall_name, HasBinder, IsFreshBinder}
 use Rattle.dlk_rename.specs.declared.fault.RenameFault.{RenameFault}
 use Rattle.dlk_rename.specs.declared.fault.RenameFault.TheVariants as rename
 use Rattle.dlk_rules.specs.declared.quantifiers.Quantifier.{Quantifier}
@@ -21,8 +21,8 @@ use Rattle.dlk_rules.specs.Looks.{formula_at}
 
 -- the name of the variable of an operator that is this quantifier
 abbrev pub bound_name : Quantifier → Op → Option (List ℕ)
-bound_name Exists = existential
-bound_name Forall = universal
+bound_name Exists = exists_name
+bound_name Forall = forall_name
 
 -- the formula there has this quantifier of the variable at its top, and the id stands for its kid
 pub record IsQuantifiedAt (trees : List Tree) (side : List Tree) (place : ℕ) (quantifier : Quantifier) (v : Var) (f : Id) : Type 0 where
@@ -38,8 +38,8 @@ is_read s v = list_any (λ t. free t v) s.ante || list_any (λ t. free t v) s.su
 -- y may stand for the variable that the formula there binds, and among the new trees the id stands for the formula with y for it
 pub record IsReboundAt (side : List Tree) (place : ℕ) (y : List ℕ) (new : List Tree) (f : Id) : Type 0 where
   pub place_is : IsPlace side place
-  pub binds : CanBind y (formula_at side place)
-  pub fresh : MayBind y (formula_at side place)
+  pub binds : HasBinder y (formula_at side place)
+  pub fresh : IsFreshBinder y (formula_at side place)
   pub f_stands : StandsFor new f (renamed_bound y (formula_at side place))
 
 -- the fault of a rule whose bound variable gets no other name

@@ -7,8 +7,8 @@ ghost use Rattle.dlk_tree.specs.Table.{kid_sorts};
 ghost use Rattle.dlk_tree.specs.Trees.{root};
 ghost use Rattle.dlk_tree.specs.Statics.{free, plain};
 ghost use Rattle.dlk_store.specs.Stores.{IsId, tree};
-ghost use Rattle.dlk_calculus.specs.Places.{IsPlace, remove};
-ghost use Rattle.dlk_calculus.specs.Rules.{SkolemL, SkolemR, BoundL, BoundR, without_left, without_right, FirstAgainst, IsSome, CanBind, MayBind};
+ghost use Rattle.dlk_calculus.specs.Places.{IsPlace, without_place};
+ghost use Rattle.dlk_calculus.specs.Rules.{SkolemL, SkolemR, BoundL, BoundR, without_left, without_right, FirstAgainst, HasName, HasBinder, IsFreshBinder};
 ghost use Rattle.dlk_sequent.specs.Sequents.{sequent_at, IsKnown};
 ghost use Rattle.dlk_rules.specs.Looks as looks;
 ghost use Rattle.dlk_rules.specs.Looks.{IsShapeFault, IsFreshFault};
@@ -67,7 +67,7 @@ fn quantified_at<S: Store, L: Ledger>(
 ) -> Result<(Var, Id), RuleFault>
     requires { All (IsId (S.trees store.now)) side.now }
     ensures ok { IfOk result (λ made. IsQuantifiedAt (S.trees store.now) (map (tree (S.trees store.now)) side.now) place quantifier made.0 made.1) }
-    ensures fault { IfErr result (IsShapeFault (IsPlace (map (tree (S.trees store.now)) side.now) place) (IsSome (bound_name quantifier (root (looks.formula_at (map (tree (S.trees store.now)) side.now) place))))) }
+    ensures fault { IfErr result (IsShapeFault (IsPlace (map (tree (S.trees store.now)) side.now) place) (HasName (bound_name quantifier (root (looks.formula_at (map (tree (S.trees store.now)) side.now) place))))) }
 {
     let top = top_at(store, side, place, steps)?;
     let Some(x) = bound_name(quantifier, top.op) else {
@@ -94,7 +94,7 @@ fn is_read_by_any<S: Store>(store: &S, formulas: &[Id], v: &Var) -> bool
 fn is_read_by_others<S: Store>(store: &S, formulas: &[Id], place: u32, v: &Var) -> bool
     requires known { All (IsId (S.trees store.now)) formulas.now }
     requires place { IsPlace formulas.now place }
-    ensures { result ≡ list_any (λ t. free t v.now) (remove (map (tree (S.trees store.now)) formulas.now) place) }
+    ensures { result ≡ list_any (λ t. free t v.now) (without_place (map (tree (S.trees store.now)) formulas.now) place) }
 {
     is_read_by_any(store, &formulas[..place as usize - 1], v)
         || is_read_by_any(store, &formulas[place as usize..], v)
@@ -129,7 +129,7 @@ fn rebound_at<S: Store, L: Ledger>(
 ) -> Result<Id, RuleFault>
     requires { All (IsId (S.trees store.old)) side.now }
     ensures ok { IfOk result (IsReboundAt (map (tree (S.trees store.old)) side.now) place y.now (S.trees store.new)) }
-    ensures fault { IfErr result (IsFreshFault (IsPlace (map (tree (S.trees store.old)) side.now) place) (CanBind y.now (looks.formula_at (map (tree (S.trees store.old)) side.now) place)) (MayBind y.now (looks.formula_at (map (tree (S.trees store.old)) side.now) place))) }
+    ensures fault { IfErr result (IsFreshFault (IsPlace (map (tree (S.trees store.old)) side.now) place) (HasBinder y.now (looks.formula_at (map (tree (S.trees store.old)) side.now) place)) (IsFreshBinder y.now (looks.formula_at (map (tree (S.trees store.old)) side.now) place))) }
     ensures grows { S.grows store.old store.new }
 {
     let id = formula_at(store, side, place)?;
