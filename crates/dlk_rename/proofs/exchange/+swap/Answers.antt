@@ -24,6 +24,9 @@ swap-requires g t c κs within =
 pub returns-in_err-made-clause-grows : goal.returns-in_err-made-clause-grows
 returns-in_err-made-clause-grows g t c = g.met.S.Store.grows_trans c.args.store.now c.loop-kid.store c.swap.new.store c.loop-kid.invariant.grows c.swap.ensures.grows
 
+pub returns-in_err-push-clause-grows : goal.returns-in_err-push-clause-grows
+returns-in_err-push-clause-grows g t c = g.met.S.Store.grows_trans c.args.store.now c.loop-kid.store c.swap.new.store c.loop-kid.invariant.grows c.swap.ensures.grows
+
 pub loop-kid-preserved : goal.loop-kid-preserved
 loop-kid-preserved g t c =
     let old = g.S.Store.trees c.args.store.now in
@@ -67,3 +70,6 @@ returns-clause-made g t c =
     let made = subst (λ (n : ℕ). Made (swap x y) old now ks c.loop-kid.new.items n) at c.loop-kid.invariant.made in
     let kids = rw c.as_slice.ensures.value at c.make.ensures.made in
     rw (swapped_node x y (tree old c.args.id) node_is.0 _ (kid_trees old ks) (kid_trees now c.loop-kid.new.items) node_is.1 node_is.2 (Made-kids (swap x y) old now ks c.loop-kid.new.items made)) kids
+
+pub returns-clause-grows : goal.returns-clause-grows
+returns-clause-grows g t c = g.met.S.Store.grows_trans c.args.store.now c.loop-kid.store c.make.new.self c.loop-kid.invariant.grows c.make.ensures.grows
