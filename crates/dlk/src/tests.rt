@@ -3,6 +3,7 @@ mod examples;
 mod listing;
 mod models;
 mod printing;
+mod rules;
 mod substituting;
 
 ghost use Rattle.std.specs.Prelude.{◌≡◌, ◌<◌, ◌≤◌};

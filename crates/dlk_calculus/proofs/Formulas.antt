@@ -14,14 +14,15 @@ use Rattle.dlk_tree.specs.Table.{sort_of, kid_sorts, has_parts}
 use Rattle.dlk_tree.specs.Trees.{Tree, node, Forest, no_kids, kid, root, sort, sorts, WellMade}
 use Rattle.dlk_tree.specs.Statics.{plain}
 use Rattle.dlk_tree.specs.Occurs.{has, has_dots, has_hole, is_some_dot, is_hole}
-use Rattle.dlk_calculus.specs.Sequents.{Sequent, IsFormula, IsSequent}
+use Rattle.dlk_calculus.specs.Sequents.{Sequent, alone_right, IsFormula, IsSequent}
 use Rattle.dlk_calculus.specs.Kids.{first, later, last}
 use Rattle.dlk_calculus.specs.Places.{IsPlace}
 use Rattle.dlk_calculus.specs.Rename.{name_in, binder_of, assigned, rebound, reassigned, renamed_bound, swap}
 use Rattle.dlk_calculus.specs.Rules.{Rule, Close, CloseTrue, CloseFalse, NotL, NotR, AndL, AndR, OrL, OrR, ImplyL, ImplyR, EquivL, EquivR, Cut, CutL, CutR, HideL, HideR, CoHideR, ExchangeL, ExchangeR, SkolemL, SkolemR, BoundL, BoundR, EquivifyR, CommuteEquivL, CommuteEquivR, imply, equiv, truth, kid_f, kid_g, left, left_f, left_g, right, right_f, right_g, put_left, put_right, last_left, last_right, without_left, without_right, existential, universal, CanBind, figure, Premises}
 use Rattle.dlk_calculus.specs.Provables.{Provable, HasFormulas}
-use Rattle.dlk_calculus.specs.Steps.{Step, Start, Apply, Rename, Gives, History, Derives}
+use Rattle.dlk_calculus.specs.Steps.{Step, Start, UseAxiom, UseRule, Apply, Rename, Gives, History, Derives}
 use Rattle.dlk_calculus.proofs.PlaceLaws.{At_All}
+use Rattle.dlk_calculus.proofs.AxiomLaws.{axiom_formula, rule_formulas}
 use Rattle.dlk_calculus.proofs.Sorts.{head, tail}
 use Rattle.dlk_calculus.proofs.Swapped.{swap_formula, swap_is_sequent, swap_sequents}
 use Rattle.dlk_calculus.proofs.StepLaws.{given_by}
@@ -47,8 +48,7 @@ two_formulas op (kid f no_kids) e h = let k = h.well_made.0.kids_fit ∙ e in cc
 two_formulas op (kid f (kid g rest)) e h =
     let k : sort f ∷ sort g ∷ sorts rest ≡ Formula ∷ Formula ∷ [] = h.well_made.0.kids_fit ∙ e in
     let dot = second_false _ _ h.no_dot in
-    let hole = second_false _ _ h.no_hole in
-    (
+    let hole = second_false _ _ h.no_hole in (
       record { well_made = h.well_made.1.0; sort_is = ap head k; no_dot = first_false _ _ dot; no_hole = first_false _ _ hole },
       record { well_made = h.well_made.1.1.0; sort_is = ap (λ ss. head (tail ss)) k; no_dot = first_false _ _ (second_false _ _ dot); no_hole = first_false _ _ (second_false _ _ hole) },
     )
@@ -196,6 +196,9 @@ module _ (s : Sequent) (h : IsSequent s) where
   right_without : (j : ℕ) → IsSequent (without_right j s)
   right_without j = record { ante = h.ante; succ = All-append IsFormula _ _ (All-take IsFormula (j - 1) s.succ h.succ) (All-drop IsFormula j s.succ h.succ) }
 
+alone : {f : Tree} → IsFormula f → IsSequent (alone_right f)
+alone {f} h = record { ante = All-nil IsFormula; succ = All-cons IsFormula f [] h (All-nil IsFormula) }
+
 one_sequent : (s : Sequent) → IsSequent s → All IsSequent (s ∷ [])
 one_sequent s p = All-cons IsSequent s [] p (All-nil IsSequent)
 
@@ -239,7 +242,7 @@ figure_formulas (CutL i f) s h p k = two_sequents _ _ (left_put s h i f k) (righ
 figure_formulas (CutR j f) s h p k = two_sequents _ _ (right_put s h j f k) (right_put s h j _ (imply_formula _ _ k (right_formula s h j p)))
 figure_formulas (HideL i) s h p k = one_sequent _ (left_without s h i)
 figure_formulas (HideR j) s h p k = one_sequent _ (right_without s h j)
-figure_formulas (CoHideR j) s h p k = one_sequent _ (record { ante = All-nil IsFormula; succ = All-cons IsFormula _ [] (right_formula s h j p) (All-nil IsFormula) })
+figure_formulas (CoHideR j) s h p k = one_sequent _ (alone (right_formula s h j p))
 figure_formulas (ExchangeL i l) s h p k = one_sequent _ (left_put (put_left i (left l s) s) (left_put s h i _ (left_formula s h l p.1)) l _ (left_formula s h i p.0))
 figure_formulas (ExchangeR j l) s h p k = one_sequent _ (right_put (put_right j (right l s) s) (right_put s h j _ (right_formula s h l p.1)) l _ (right_formula s h j p.0))
 figure_formulas (SkolemL i) s h p k = one_sequent _ (left_put s h i _ (existential_kid (left i s) k.0 k.1 (left_formula s h i p)))
@@ -263,6 +266,13 @@ pub given_formulas : (rows : List Provable) (step : Step) (p : Provable) → All
 given_formulas rows (Start s) p h g =
     let m = given_by rows (Start s) p g in
     rw m.1 (record { conclusion = m.0; goals = All-cons IsSequent s [] m.0 (All-nil IsSequent); leaves = All-nil IsSequent })
+given_formulas rows (UseAxiom name) p h g =
+    let m = given_by rows (UseAxiom name) p g in
+    rw m.2 (record { conclusion = alone (axiom_formula name m.0 m.1); goals = All-nil IsSequent; leaves = All-nil IsSequent })
+given_formulas rows (UseRule name) p h g =
+    let m = given_by rows (UseRule name) p g in
+    let formulas = rule_formulas name m.0 m.1 in
+    rw m.2 (record { conclusion = alone formulas.1; goals = All-cons IsSequent _ [] (alone formulas.0) (All-nil IsSequent); leaves = All-nil IsSequent })
 given_formulas rows (Apply fact goal rule) p h g =
     let m = given_by rows (Apply fact goal rule) p g in
     let q = At_All HasFormulas rows fact m.0 h m.3 in

@@ -1,6 +1,7 @@
 pub mod PlaceLaws
 pub mod Decide
 pub mod Swapped
+pub mod AxiomLaws
 pub mod RuleLaws
 pub mod StepLaws
 pub mod Histories

@@ -6,7 +6,7 @@ use Rattle.std.specs.Prelude.{IsTrue}
 use Rattle.dlk_tree.specs.Names.{is_name}
 use Rattle.dlk_tree.specs.Trees.{Tree, root}
 use Rattle.dlk_calculus.specs.declared.reason.Reason.{Reason}
-use Rattle.dlk_calculus.specs.declared.reason.Reason.TheVariants.{NoFact, NoGoal, NoPlace, WrongShape, NotEqual, NotFresh}
+use Rattle.dlk_calculus.specs.declared.reason.Reason.TheVariants.{NoFact, NoGoal, UnknownName, NoPlace, WrongShape, NotEqual, NotFresh}
 use Rattle.dlk_calculus.specs.Places.{IsPlace}
 use Rattle.dlk_calculus.specs.Sequents.{Sequent}
 use Rattle.dlk_calculus.specs.Rename.{binder, body, may_rename}
@@ -21,6 +21,7 @@ one_premises rule s ps qs p q = p.premises_are ∙ sym q.premises_are
 pub premises_unless_against : (rule : Rule) (s : Sequent) (premises : List Sequent) (why : Reason) → Premises rule s premises → RuleAgainst why rule s → ⊥
 premises_unless_against rule s premises NoFact p a = a
 premises_unless_against rule s premises NoGoal p a = a
+premises_unless_against rule s premises UnknownName p a = a
 premises_unless_against rule s premises NoPlace p a = a p.places
 premises_unless_against rule s premises WrongShape p a = a p.shape
 premises_unless_against rule s premises NotEqual p a = a p.equals
@@ -30,25 +31,25 @@ premises_unless_against rule s premises NotFresh p a = a p.fresh
 pub first_no_place : (rule : Rule) (s : Sequent) → (¬ (figure rule s).places) → FirstAgainst rule s NoPlace
 first_no_place rule s n = record {
   against = n;
-  first = elim [ NoFact ↦ λ lt a. a | NoGoal ↦ λ lt a. a | NoPlace ↦ λ lt. absurd (omega arith) | WrongShape ↦ λ lt. absurd (omega arith) | NotEqual ↦ λ lt. absurd (omega arith) | NotFresh ↦ λ lt. absurd (omega arith) ];
+  first = elim [ NoFact ↦ λ lt a. a | NoGoal ↦ λ lt a. a | UnknownName ↦ λ lt a. a | NoPlace ↦ λ lt. absurd (omega arith) | WrongShape ↦ λ lt. absurd (omega arith) | NotEqual ↦ λ lt. absurd (omega arith) | NotFresh ↦ λ lt. absurd (omega arith) ];
 }
 
 pub first_wrong_shape : (rule : Rule) (s : Sequent) → (figure rule s).places → (¬ (figure rule s).shape) → FirstAgainst rule s WrongShape
 first_wrong_shape rule s h n = record {
   against = n;
-  first = elim [ NoFact ↦ λ lt a. a | NoGoal ↦ λ lt a. a | NoPlace ↦ λ lt a. a h | WrongShape ↦ λ lt. absurd (omega arith) | NotEqual ↦ λ lt. absurd (omega arith) | NotFresh ↦ λ lt. absurd (omega arith) ];
+  first = elim [ NoFact ↦ λ lt a. a | NoGoal ↦ λ lt a. a | UnknownName ↦ λ lt a. a | NoPlace ↦ λ lt a. a h | WrongShape ↦ λ lt. absurd (omega arith) | NotEqual ↦ λ lt. absurd (omega arith) | NotFresh ↦ λ lt. absurd (omega arith) ];
 }
 
 pub first_not_equal : (rule : Rule) (s : Sequent) → (figure rule s).places → (figure rule s).shape → (¬ (figure rule s).equals) → FirstAgainst rule s NotEqual
 first_not_equal rule s h k n = record {
   against = n;
-  first = elim [ NoFact ↦ λ lt a. a | NoGoal ↦ λ lt a. a | NoPlace ↦ λ lt a. a h | WrongShape ↦ λ lt a. a k | NotEqual ↦ λ lt. absurd (omega arith) | NotFresh ↦ λ lt. absurd (omega arith) ];
+  first = elim [ NoFact ↦ λ lt a. a | NoGoal ↦ λ lt a. a | UnknownName ↦ λ lt a. a | NoPlace ↦ λ lt a. a h | WrongShape ↦ λ lt a. a k | NotEqual ↦ λ lt. absurd (omega arith) | NotFresh ↦ λ lt. absurd (omega arith) ];
 }
 
 pub first_not_fresh : (rule : Rule) (s : Sequent) → (figure rule s).places → (figure rule s).shape → (figure rule s).equals → (¬ (figure rule s).fresh) → FirstAgainst rule s NotFresh
 first_not_fresh rule s h k e n = record {
   against = n;
-  first = elim [ NoFact ↦ λ lt a. a | NoGoal ↦ λ lt a. a | NoPlace ↦ λ lt a. a h | WrongShape ↦ λ lt a. a k | NotEqual ↦ λ lt a. a e | NotFresh ↦ λ lt. absurd (omega arith) ];
+  first = elim [ NoFact ↦ λ lt a. a | NoGoal ↦ λ lt a. a | UnknownName ↦ λ lt a. a | NoPlace ↦ λ lt a. a h | WrongShape ↦ λ lt a. a k | NotEqual ↦ λ lt a. a e | NotFresh ↦ λ lt. absurd (omega arith) ];
 }
 
 -- ---- what a rule asks for is decided

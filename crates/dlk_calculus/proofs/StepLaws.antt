@@ -1,14 +1,16 @@
 -- A step gives at most one provable, and gives one exactly where nothing speaks against it.
-use Rattle.std.proofs.Common.{◌≡◌, ℕ, ◌<◌, List, refl, sym, ap, subst, ◌∙◌, arith, ◌⊎◌, inl, inr}
+use Rattle.std.proofs.Common.{◌≡◌, ℕ, ◌<◌, List, refl, sym, ap, subst, ◌∙◌, arith, Option, Some, None, ◌⊎◌, inl, inr}
+use Rattle.std.proofs.lemmas.Option.{none-some, same_Some}
 use Rattle.dlk_calculus.specs.declared.reason.Reason.{Reason}
-use Rattle.dlk_calculus.specs.declared.reason.Reason.TheVariants.{NoFact, NoGoal, NoPlace, WrongShape, NotEqual, NotFresh}
+use Rattle.dlk_calculus.specs.declared.reason.Reason.TheVariants.{NoFact, NoGoal, UnknownName, NoPlace, WrongShape, NotEqual, NotFresh}
 use Rattle.dlk_calculus.specs.Reasons.{rank}
 use Rattle.dlk_tree.specs.Names.{is_name}
+use Rattle.dlk_calculus.specs.Axioms.{Axiom, AxiomaticRule, axiom_named, rule_named}
 use Rattle.dlk_calculus.specs.Places.{At, IsPlace}
 use Rattle.dlk_calculus.specs.Sequents.{Sequent, IsSequent}
 use Rattle.dlk_calculus.specs.Rules.{Rule, Premises, RuleAgainst, FirstAgainst}
-use Rattle.dlk_calculus.specs.Provables.{Provable, started, applied, renamed}
-use Rattle.dlk_calculus.specs.Steps.{Step, Start, Apply, Rename, AreNames, Gives, start, apply, rename, IsGoal, Against, Fault, StepOf}
+use Rattle.dlk_calculus.specs.Provables.{Provable, started, known, inferred, applied, renamed}
+use Rattle.dlk_calculus.specs.Steps.{Step, Start, UseAxiom, UseRule, Apply, Rename, AreNames, Gives, start, use_axiom, use_rule, apply, rename, IsGoal, Against, Fault, StepOf}
 use Rattle.dlk_calculus.proofs.PlaceLaws.{at_one, At_place, place_cases}
 use Rattle.dlk_calculus.proofs.Decide.{is_sequent, is_true, both}
 use Rattle.dlk_calculus.proofs.RuleLaws.{one_premises, premises_unless_against, rule_cases}
@@ -16,12 +18,16 @@ use Rattle.dlk_calculus.proofs.RuleLaws.{one_premises, premises_unless_against, 
 -- what a step's provable is made of
 abbrev pub GivenBy : List Provable → Step → Provable → Type 0
 GivenBy rows (Start s) p = IsSequent s × (p ≡ started s)
+GivenBy rows (UseAxiom name) p = (a : Axiom) × (axiom_named name ≡ Some a) × (p ≡ known a.formula)
+GivenBy rows (UseRule name) p = (r : AxiomaticRule) × (rule_named name ≡ Some r) × (p ≡ inferred r.premise r.conclusion)
 GivenBy rows (Apply fact goal rule) p =
     (q : Provable) × (s : Sequent) × (premises : List Sequent) × At rows fact q × At q.goals goal s × Premises rule s premises × (p ≡ applied q goal premises)
 GivenBy rows (Rename fact x y) p = (q : Provable) × At rows fact q × AreNames x y × (p ≡ renamed x y q)
 
 pub given_by : (rows : List Provable) (step : Step) (p : Provable) → Gives rows step p → GivenBy rows step p
 given_by rows (Start s) p (start t h) = (h, refl)
+given_by rows (UseAxiom name) p (use_axiom n a h) = (a, h, refl)
+given_by rows (UseRule name) p (use_rule n r h) = (r, h, refl)
 given_by rows (Apply fact goal rule) p (apply f g r q s premises a b c) = (q, s, premises, a, b, c, refl)
 given_by rows (Rename fact x y) p (rename f v w q a b) = (q, a, b, refl)
 
@@ -33,6 +39,14 @@ one_goal rows fact goal p q s t a b c d =
 
 pub one_given : (rows : List Provable) (step : Step) (p q : Provable) → Gives rows step p → Gives rows step q → p ≡ q
 one_given rows (Start s) p q g h = (given_by rows (Start s) p g).1 ∙ sym (given_by rows (Start s) q h).1
+one_given rows (UseAxiom name) p q g h =
+    let a = given_by rows (UseAxiom name) p g in
+    let b = given_by rows (UseAxiom name) q h in
+    a.2 ∙ ap (λ (x : Axiom). known x.formula) (same_Some a.0 b.0 (sym a.1 ∙ b.1)) ∙ sym b.2
+one_given rows (UseRule name) p q g h =
+    let a = given_by rows (UseRule name) p g in
+    let b = given_by rows (UseRule name) q h in
+    a.2 ∙ ap (λ (x : AxiomaticRule). inferred x.premise x.conclusion) (same_Some a.0 b.0 (sym a.1 ∙ b.1)) ∙ sym b.2
 one_given rows (Apply fact goal rule) p q g h =
     let a = given_by rows (Apply fact goal rule) p g in
     let b = given_by rows (Apply fact goal rule) q h in
@@ -63,12 +77,28 @@ goal_there rows fact goal s g h =
 pub given_unless : (rows : List Provable) (step : Step) (p : Provable) (why : Reason) → Gives rows step p → Against why rows step → ⊥
 given_unless rows (Start s) p NoFact g a = a
 given_unless rows (Start s) p NoGoal g a = a
+given_unless rows (Start s) p UnknownName g a = a
 given_unless rows (Start s) p NoPlace g a = a
 given_unless rows (Start s) p WrongShape g a = a (given_by rows (Start s) p g).0
 given_unless rows (Start s) p NotEqual g a = a
 given_unless rows (Start s) p NotFresh g a = a
+given_unless rows (UseAxiom name) p NoFact g a = a
+given_unless rows (UseAxiom name) p NoGoal g a = a
+given_unless rows (UseAxiom name) p UnknownName g a = let b = given_by rows (UseAxiom name) p g in none-some b.0 (sym a ∙ b.1)
+given_unless rows (UseAxiom name) p NoPlace g a = a
+given_unless rows (UseAxiom name) p WrongShape g a = a
+given_unless rows (UseAxiom name) p NotEqual g a = a
+given_unless rows (UseAxiom name) p NotFresh g a = a
+given_unless rows (UseRule name) p NoFact g a = a
+given_unless rows (UseRule name) p NoGoal g a = a
+given_unless rows (UseRule name) p UnknownName g a = let b = given_by rows (UseRule name) p g in none-some b.0 (sym a ∙ b.1)
+given_unless rows (UseRule name) p NoPlace g a = a
+given_unless rows (UseRule name) p WrongShape g a = a
+given_unless rows (UseRule name) p NotEqual g a = a
+given_unless rows (UseRule name) p NotFresh g a = a
 given_unless rows (Apply fact goal rule) p NoFact g a = let b = given_by rows (Apply fact goal rule) p g in fact_there rows fact goal b.1 (b.0, b.3, b.4) a
 given_unless rows (Apply fact goal rule) p NoGoal g a = let b = given_by rows (Apply fact goal rule) p g in goal_there rows fact goal b.1 (b.0, b.3, b.4) a
+given_unless rows (Apply fact goal rule) p UnknownName g a = a
 given_unless rows (Apply fact goal rule) p NoPlace g a =
     let b = given_by rows (Apply fact goal rule) p g in
     goal_unless rows fact goal b.1 (RuleAgainst NoPlace rule) (b.0, b.3, b.4) (premises_unless_against rule b.1 b.2 NoPlace b.5) a
@@ -83,6 +113,7 @@ given_unless rows (Apply fact goal rule) p NotFresh g a =
     goal_unless rows fact goal b.1 (RuleAgainst NotFresh rule) (b.0, b.3, b.4) (premises_unless_against rule b.1 b.2 NotFresh b.5) a
 given_unless rows (Rename fact x y) p NoFact g a = let b = given_by rows (Rename fact x y) p g in a (At_place rows fact b.0 b.1)
 given_unless rows (Rename fact x y) p NoGoal g a = a
+given_unless rows (Rename fact x y) p UnknownName g a = a
 given_unless rows (Rename fact x y) p NoPlace g a = a
 given_unless rows (Rename fact x y) p WrongShape g a = a (given_by rows (Rename fact x y) p g).2
 given_unless rows (Rename fact x y) p NotEqual g a = a
@@ -95,41 +126,62 @@ StepOf-given rows step p g = record { given = g; allowed = λ why a. given_unles
 pub no_fact : (rows : List Provable) (fact goal : ℕ) (rule : Rule) → (¬ IsPlace rows fact) → Fault rows (Apply fact goal rule) NoFact
 no_fact rows fact goal rule n = record {
   against = n;
-  first = elim [ NoFact ↦ λ lt. absurd (omega arith) | NoGoal ↦ λ lt. absurd (omega arith) | NoPlace ↦ λ lt. absurd (omega arith) | WrongShape ↦ λ lt. absurd (omega arith) | NotEqual ↦ λ lt. absurd (omega arith) | NotFresh ↦ λ lt. absurd (omega arith) ];
+  first = elim [ NoFact ↦ λ lt. absurd (omega arith) | NoGoal ↦ λ lt. absurd (omega arith) | UnknownName ↦ λ lt. absurd (omega arith) | NoPlace ↦ λ lt. absurd (omega arith) | WrongShape ↦ λ lt. absurd (omega arith) | NotEqual ↦ λ lt. absurd (omega arith) | NotFresh ↦ λ lt. absurd (omega arith) ];
 }
 
 pub no_goal : (rows : List Provable) (fact goal : ℕ) (rule : Rule) (p : Provable) → At rows fact p → (¬ IsPlace p.goals goal) → Fault rows (Apply fact goal rule) NoGoal
 no_goal rows fact goal rule p h n = record {
   against = (p, h, n);
-  first = elim [ NoFact ↦ λ lt a. a (At_place rows fact p h) | NoGoal ↦ λ lt. absurd (omega arith) | NoPlace ↦ λ lt. absurd (omega arith) | WrongShape ↦ λ lt. absurd (omega arith) | NotEqual ↦ λ lt. absurd (omega arith) | NotFresh ↦ λ lt. absurd (omega arith) ];
+  first = elim [ NoFact ↦ λ lt a. a (At_place rows fact p h) | NoGoal ↦ λ lt. absurd (omega arith) | UnknownName ↦ λ lt. absurd (omega arith) | NoPlace ↦ λ lt. absurd (omega arith) | WrongShape ↦ λ lt. absurd (omega arith) | NotEqual ↦ λ lt. absurd (omega arith) | NotFresh ↦ λ lt. absurd (omega arith) ];
 }
 
 pub no_formulas : (rows : List Provable) (s : Sequent) → (¬ IsSequent s) → Fault rows (Start s) WrongShape
 no_formulas rows s n = record {
   against = n;
-  first = elim [ NoFact ↦ λ lt a. a | NoGoal ↦ λ lt a. a | NoPlace ↦ λ lt a. a | WrongShape ↦ λ lt. absurd (omega arith) | NotEqual ↦ λ lt. absurd (omega arith) | NotFresh ↦ λ lt. absurd (omega arith) ];
+  first = elim [ NoFact ↦ λ lt a. a | NoGoal ↦ λ lt a. a | UnknownName ↦ λ lt a. a | NoPlace ↦ λ lt a. a | WrongShape ↦ λ lt. absurd (omega arith) | NotEqual ↦ λ lt. absurd (omega arith) | NotFresh ↦ λ lt. absurd (omega arith) ];
 }
 
 pub no_fact_to_rename : (rows : List Provable) (fact : ℕ) (x y : List ℕ) → (¬ IsPlace rows fact) → Fault rows (Rename fact x y) NoFact
 no_fact_to_rename rows fact x y n = record {
   against = n;
-  first = elim [ NoFact ↦ λ lt. absurd (omega arith) | NoGoal ↦ λ lt. absurd (omega arith) | NoPlace ↦ λ lt. absurd (omega arith) | WrongShape ↦ λ lt. absurd (omega arith) | NotEqual ↦ λ lt. absurd (omega arith) | NotFresh ↦ λ lt. absurd (omega arith) ];
+  first = elim [ NoFact ↦ λ lt. absurd (omega arith) | NoGoal ↦ λ lt. absurd (omega arith) | UnknownName ↦ λ lt. absurd (omega arith) | NoPlace ↦ λ lt. absurd (omega arith) | WrongShape ↦ λ lt. absurd (omega arith) | NotEqual ↦ λ lt. absurd (omega arith) | NotFresh ↦ λ lt. absurd (omega arith) ];
 }
 
 no_names : (rows : List Provable) (fact : ℕ) (x y : List ℕ) (p : Provable) → At rows fact p → (¬ AreNames x y) → Fault rows (Rename fact x y) WrongShape
 no_names rows fact x y p h n = record {
   against = n;
-  first = elim [ NoFact ↦ λ lt a. a (At_place rows fact p h) | NoGoal ↦ λ lt a. a | NoPlace ↦ λ lt a. a | WrongShape ↦ λ lt. absurd (omega arith) | NotEqual ↦ λ lt. absurd (omega arith) | NotFresh ↦ λ lt. absurd (omega arith) ];
+  first = elim [ NoFact ↦ λ lt a. a (At_place rows fact p h) | NoGoal ↦ λ lt a. a | UnknownName ↦ λ lt a. a | NoPlace ↦ λ lt a. a | WrongShape ↦ λ lt. absurd (omega arith) | NotEqual ↦ λ lt. absurd (omega arith) | NotFresh ↦ λ lt. absurd (omega arith) ];
 }
 
 are_names : (x y : List ℕ) → Dec (AreNames x y)
 are_names x y = both (λ p q. (p, q)) (λ c. c.0) (λ c. c.1) (is_true (is_name x)) (is_true (is_name y))
+
+pub unknown_axiom : (rows : List Provable) (name : List ℕ) → axiom_named name ≡ None → Fault rows (UseAxiom name) UnknownName
+unknown_axiom rows name n = record {
+  against = n;
+  first = elim [ NoFact ↦ λ lt a. a | NoGoal ↦ λ lt a. a | UnknownName ↦ λ lt. absurd (omega arith) | NoPlace ↦ λ lt. absurd (omega arith) | WrongShape ↦ λ lt. absurd (omega arith) | NotEqual ↦ λ lt. absurd (omega arith) | NotFresh ↦ λ lt. absurd (omega arith) ];
+}
+
+pub unknown_rule : (rows : List Provable) (name : List ℕ) → rule_named name ≡ None → Fault rows (UseRule name) UnknownName
+unknown_rule rows name n = record {
+  against = n;
+  first = elim [ NoFact ↦ λ lt a. a | NoGoal ↦ λ lt a. a | UnknownName ↦ λ lt. absurd (omega arith) | NoPlace ↦ λ lt. absurd (omega arith) | WrongShape ↦ λ lt. absurd (omega arith) | NotEqual ↦ λ lt. absurd (omega arith) | NotFresh ↦ λ lt. absurd (omega arith) ];
+}
+
+axiom_cases : (rows : List Provable) (name : List ℕ) (o : Option Axiom) → axiom_named name ≡ o → ((p : Provable) × Gives rows (UseAxiom name) p) ⊎ ((why : Reason) × Fault rows (UseAxiom name) why)
+axiom_cases rows name None e = inr (UnknownName, unknown_axiom rows name e)
+axiom_cases rows name (Some a) e = inl (known a.formula, use_axiom name a e)
+
+rule_step_cases : (rows : List Provable) (name : List ℕ) (o : Option AxiomaticRule) → rule_named name ≡ o → ((p : Provable) × Gives rows (UseRule name) p) ⊎ ((why : Reason) × Fault rows (UseRule name) why)
+rule_step_cases rows name None e = inr (UnknownName, unknown_rule rows name e)
+rule_step_cases rows name (Some r) e = inl (inferred r.premise r.conclusion, use_rule name r e)
 
 -- the first reason against a rule on a goal is that against its step
 module _ (rows : List Provable) (fact goal : ℕ) (rule : Rule) (s : Sequent) (g : IsGoal rows fact goal s) where
   earlier_none : (why : Reason) → FirstAgainst rule s why → (earlier : Reason) → rank earlier < rank why → Against earlier rows (Apply fact goal rule) → ⊥
   earlier_none why f NoFact lt a = fact_there rows fact goal s g a
   earlier_none why f NoGoal lt a = goal_there rows fact goal s g a
+  earlier_none why f UnknownName lt a = a
   earlier_none why f NoPlace lt a = goal_unless rows fact goal s (RuleAgainst NoPlace rule) g (f.first NoPlace lt) a
   earlier_none why f WrongShape lt a = goal_unless rows fact goal s (RuleAgainst WrongShape rule) g (f.first WrongShape lt) a
   earlier_none why f NotEqual lt a = goal_unless rows fact goal s (RuleAgainst NotEqual rule) g (f.first NotEqual lt) a
@@ -138,6 +190,7 @@ module _ (rows : List Provable) (fact goal : ℕ) (rule : Rule) (s : Sequent) (g
   against_step : (why : Reason) → RuleAgainst why rule s → Against why rows (Apply fact goal rule)
   against_step NoFact a = absurd a
   against_step NoGoal a = absurd a
+  against_step UnknownName a = absurd a
   against_step NoPlace a = (s, g, a)
   against_step WrongShape a = (s, g, a)
   against_step NotEqual a = (s, g, a)
@@ -149,6 +202,8 @@ module _ (rows : List Provable) (fact goal : ℕ) (rule : Rule) (s : Sequent) (g
 -- a step gives something, or there is a first reason against it
 pub step_cases : (rows : List Provable) (step : Step) → ((p : Provable) × Gives rows step p) ⊎ ((why : Reason) × Fault rows step why)
 step_cases rows (Start s) = elim (is_sequent s) [ yes h ↦ inl (started s, start s h) | no n ↦ inr (WrongShape, no_formulas rows s n) ]
+step_cases rows (UseAxiom name) = axiom_cases rows name (axiom_named name) refl
+step_cases rows (UseRule name) = rule_step_cases rows name (rule_named name) refl
 step_cases rows (Apply fact goal rule) =
     elim (place_cases rows fact) [
       | inr n ↦ inr (NoFact, no_fact rows fact goal rule n)

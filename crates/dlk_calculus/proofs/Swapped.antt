@@ -41,6 +41,7 @@ module _ (x y : List ℕ) where
       inner : (b : Bool) → P (cond b x z)
       inner true = px
       inner false = pz
+
       go : (a b : Bool) → P (cond a y (cond b x z))
       go true b = py
       go false b = inner b
@@ -64,6 +65,7 @@ module _ (x y : List ℕ) where
       other false false p q = refl
       other false true p q = cc
       other true b p q = cc
+
       go : (a : Bool) → bytes_eq z x ≡ a → (b : Bool) → bytes_eq z y ≡ b → swap_name x y (swap_name x y z) ≡ z
       go true p b q = let e = (bytes_eq-Decides z x).0 p in ap (swap_name x y) (swap_x z e) ∙ swap_y y refl ∙ sym e
       go false p true q = let e = (bytes_eq-Decides z y).0 q in ap (swap_name x y) (swap_y z e) ∙ swap_x x refl ∙ sym e

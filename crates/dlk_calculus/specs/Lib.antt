@@ -9,5 +9,8 @@ pub mod SubstExamples
 pub mod Sequents
 pub mod Rename
 pub mod Rules
+pub mod RuleExamples
+pub mod Notation
+pub mod Axioms
 pub mod Provables
 pub mod Steps

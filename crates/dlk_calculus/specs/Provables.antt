@@ -1,7 +1,8 @@
 -- Provables: what a proof has shown so far.
 use Rattle.std.specs.Prelude.{ℕ, List, [], ◌∷◌, map, All}
 use Rattle.dlk_calculus.specs.Places.{put_all}
-use Rattle.dlk_calculus.specs.Sequents.{Sequent, IsSequent}
+use Rattle.dlk_calculus.specs.Sequents.{Sequent, alone_right, IsSequent}
+use Rattle.dlk_tree.specs.Trees.{Tree}
 use Rattle.dlk_calculus.specs.Rename.{swap}
 
 -- The conclusion is derived from the goals and the leaves. The goals are left to be proved, the leaves are facts of arithmetic.
@@ -13,6 +14,14 @@ pub record Provable : Type 0 where
 -- a sequent with itself as goal
 abbrev pub started : Sequent → Provable
 started s = record { conclusion = s; goals = s ∷ []; leaves = [] }
+
+-- a formula alone on the right, from nothing
+abbrev pub known : Tree → Provable
+known f = record { conclusion = alone_right f; goals = []; leaves = [] }
+
+-- a formula alone on the right, with another one alone on the right as goal
+abbrev pub inferred : Tree → Tree → Provable
+inferred premise conclusion = record { conclusion = alone_right conclusion; goals = alone_right premise ∷ []; leaves = [] }
 
 -- premises in the place of a goal
 abbrev pub applied : Provable → ℕ → List Sequent → Provable

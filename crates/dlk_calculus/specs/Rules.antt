@@ -8,11 +8,11 @@ use Rattle.dlk_tree.specs.Names.{is_name}
 use Rattle.dlk_tree.specs.Trees.{Tree, node, no_kids, kid, root}
 use Rattle.dlk_tree.specs.Statics.{free, plain}
 use Rattle.dlk_calculus.specs.declared.reason.Reason.{Reason}
-use Rattle.dlk_calculus.specs.declared.reason.Reason.TheVariants.{NoFact, NoGoal, NoPlace, WrongShape, NotEqual, NotFresh}
+use Rattle.dlk_calculus.specs.declared.reason.Reason.TheVariants.{NoFact, NoGoal, UnknownName, NoPlace, WrongShape, NotEqual, NotFresh}
 use Rattle.dlk_calculus.specs.Reasons.{rank}
 use Rattle.dlk_calculus.specs.Kids.{first, later}
 use Rattle.dlk_calculus.specs.Places.{IsPlace, put, remove}
-use Rattle.dlk_calculus.specs.Sequents.{Sequent, IsFormula}
+use Rattle.dlk_calculus.specs.Sequents.{Sequent, alone_right, IsFormula}
 use Rattle.dlk_calculus.specs.Rename.{binder, body, renamed_bound, may_rename}
 
 -- A rule with its places, its formula or its name: i and k are places on the left, j and l on the right.
@@ -108,10 +108,6 @@ without_left i s = record { ante = remove s.ante i; succ = s.succ }
 -- the formula at place j on the right removed
 abbrev pub without_right : ℕ → Sequent → Sequent
 without_right j s = record { ante = s.ante; succ = remove s.succ j }
-
--- f alone on the right
-abbrev pub alone_right : Tree → Sequent
-alone_right f = record { ante = []; succ = f ∷ [] }
 
 -- What a rule asks for:
 
@@ -247,6 +243,7 @@ pub record Premises (rule : Rule) (s : Sequent) (premises : List Sequent) : Type
 abbrev pub RuleAgainst : Reason → Rule → Sequent → Type 0
 RuleAgainst NoFact rule s = ⊥
 RuleAgainst NoGoal rule s = ⊥
+RuleAgainst UnknownName rule s = ⊥
 RuleAgainst NoPlace rule s = ¬ (figure rule s).places
 RuleAgainst WrongShape rule s = ¬ (figure rule s).shape
 RuleAgainst NotEqual rule s = ¬ (figure rule s).equals

@@ -1,5 +1,5 @@
 -- Sequents.
-use Rattle.std.specs.Prelude.{◌≡◌, List, All, false}
+use Rattle.std.specs.Prelude.{◌≡◌, List, [], ◌∷◌, All, false}
 use Rattle.dlk_tree.specs.Trees.{Tree, sort, WellMade}
 use Rattle.dlk_tree.specs.Occurs.{has_dots, has_hole}
 use Rattle.dlk_tree.specs.declared.op.Sort.TheVariants.{Formula}
@@ -8,6 +8,10 @@ use Rattle.dlk_tree.specs.declared.op.Sort.TheVariants.{Formula}
 pub record Sequent : Type 0 where
   pub ante : List Tree
   pub succ : List Tree
+
+-- f alone on the right
+abbrev pub alone_right : Tree → Sequent
+alone_right f = record { ante = []; succ = f ∷ [] }
 
 -- a tree that may stand in a sequent: a formula without argument dots and without `_`
 pub record IsFormula (t : Tree) : Type 0 where

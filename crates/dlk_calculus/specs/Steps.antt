@@ -1,17 +1,20 @@
 -- Steps of a proof: what each gives, what speaks against it, and what is derived.
-use Rattle.std.specs.Prelude.{◌≡◌, ℕ, ◌<◌, List, [], ◌∷◌, ◌++◌, take, Some, slice_get, IsTrue}
+use Rattle.std.specs.Prelude.{◌≡◌, ℕ, ◌<◌, List, [], ◌∷◌, ◌++◌, take, Some, None, slice_get, IsTrue}
 use Rattle.dlk_tree.specs.Names.{is_name}
 use Rattle.dlk_calculus.specs.declared.reason.Reason.{Reason}
-use Rattle.dlk_calculus.specs.declared.reason.Reason.TheVariants.{NoFact, NoGoal, NoPlace, WrongShape, NotEqual, NotFresh}
+use Rattle.dlk_calculus.specs.declared.reason.Reason.TheVariants.{NoFact, NoGoal, UnknownName, NoPlace, WrongShape, NotEqual, NotFresh}
 use Rattle.dlk_calculus.specs.Reasons.{rank}
+use Rattle.dlk_calculus.specs.Axioms.{Axiom, AxiomaticRule, axiom_named, rule_named}
 use Rattle.dlk_calculus.specs.Places.{At, IsPlace}
 use Rattle.dlk_calculus.specs.Sequents.{Sequent, IsSequent}
 use Rattle.dlk_calculus.specs.Rules.{Rule, Premises, RuleAgainst}
-use Rattle.dlk_calculus.specs.Provables.{Provable, started, applied, renamed}
+use Rattle.dlk_calculus.specs.Provables.{Provable, started, known, inferred, applied, renamed}
 
 -- a step, which names earlier rows and their goals by their numbers
 pub data Step : Type 0 where
   Start : Sequent → Step
+  UseAxiom : (name : List ℕ) → Step
+  UseRule : (name : List ℕ) → Step
   Apply : (fact goal : ℕ) → Rule → Step
   Rename : (fact : ℕ) → (x y : List ℕ) → Step
 
@@ -23,6 +26,10 @@ AreNames x y = IsTrue (is_name x) × IsTrue (is_name y)
 pub data Gives (rows : List Provable) : Step → Provable → Type 0 where
   -- any sequent is proved from itself
   start : (s : Sequent) → IsSequent s → Gives rows (Start s) (started s)
+  -- an axiom is proved from nothing
+  use_axiom : (name : List ℕ) (a : Axiom) → axiom_named name ≡ Some a → Gives rows (UseAxiom name) (known a.formula)
+  -- the conclusion of an axiomatic rule is proved from its premise
+  use_rule : (name : List ℕ) (r : AxiomaticRule) → rule_named name ≡ Some r → Gives rows (UseRule name) (inferred r.premise r.conclusion)
   -- the premises of a rule on a goal stand in its place
   apply : (fact goal : ℕ) (rule : Rule) (p : Provable) (s : Sequent) (premises : List Sequent) →
       At rows fact p → At p.goals goal s → Premises rule s premises → Gives rows (Apply fact goal rule) (applied p goal premises)
@@ -44,21 +51,38 @@ IsGoal rows fact goal s = (p : Provable) × At rows fact p × At p.goals goal s
 -- What speaks against a step. One row a reason, with the steps for which it counts.
 abbrev pub Against : Reason → List Provable → Step → Type 0
 Against NoFact rows (Start s) = ⊥
+Against NoFact rows (UseAxiom name) = ⊥
+Against NoFact rows (UseRule name) = ⊥
 Against NoFact rows (Apply fact goal rule) = ¬ IsPlace rows fact
 Against NoFact rows (Rename fact x y) = ¬ IsPlace rows fact
 Against NoGoal rows (Start s) = ⊥
+Against NoGoal rows (UseAxiom name) = ⊥
+Against NoGoal rows (UseRule name) = ⊥
 Against NoGoal rows (Apply fact goal rule) = (p : Provable) × At rows fact p × (¬ IsPlace p.goals goal)
 Against NoGoal rows (Rename fact x y) = ⊥
+Against UnknownName rows (Start s) = ⊥
+Against UnknownName rows (UseAxiom name) = axiom_named name ≡ None
+Against UnknownName rows (UseRule name) = rule_named name ≡ None
+Against UnknownName rows (Apply fact goal rule) = ⊥
+Against UnknownName rows (Rename fact x y) = ⊥
 Against NoPlace rows (Start s) = ⊥
+Against NoPlace rows (UseAxiom name) = ⊥
+Against NoPlace rows (UseRule name) = ⊥
 Against NoPlace rows (Apply fact goal rule) = (s : Sequent) × IsGoal rows fact goal s × RuleAgainst NoPlace rule s
 Against NoPlace rows (Rename fact x y) = ⊥
 Against WrongShape rows (Start s) = ¬ IsSequent s
+Against WrongShape rows (UseAxiom name) = ⊥
+Against WrongShape rows (UseRule name) = ⊥
 Against WrongShape rows (Apply fact goal rule) = (s : Sequent) × IsGoal rows fact goal s × RuleAgainst WrongShape rule s
 Against WrongShape rows (Rename fact x y) = ¬ AreNames x y
 Against NotEqual rows (Start s) = ⊥
+Against NotEqual rows (UseAxiom name) = ⊥
+Against NotEqual rows (UseRule name) = ⊥
 Against NotEqual rows (Apply fact goal rule) = (s : Sequent) × IsGoal rows fact goal s × RuleAgainst NotEqual rule s
 Against NotEqual rows (Rename fact x y) = ⊥
 Against NotFresh rows (Start s) = ⊥
+Against NotFresh rows (UseAxiom name) = ⊥
+Against NotFresh rows (UseRule name) = ⊥
 Against NotFresh rows (Apply fact goal rule) = (s : Sequent) × IsGoal rows fact goal s × RuleAgainst NotFresh rule s
 Against NotFresh rows (Rename fact x y) = ⊥
 

@@ -1,10 +1,12 @@
 //! The laws of the calculus. Each is a contract of a function that does nothing.
-ghost use Rattle.std.specs.Prelude.{◌≡◌, ◌⊎◌, ◌↔◌, List, All};
+ghost use Rattle.std.specs.Prelude.{◌≡◌, ◌⊎◌, ◌↔◌, List, All, map};
 ghost use Rattle.dlk_tree.specs.Trees.{Tree, sort, WellMade};
 ghost use Rattle.dlk_calculus.specs.Pairs.{Pair, IsWellFormed, AreMade};
 ghost use Rattle.dlk_calculus.specs.Plug.{Plug};
 ghost use Rattle.dlk_calculus.specs.Subst.{Subst};
 ghost use Rattle.dlk_calculus.specs.declared.reason.Reason.{Reason as TheReason};
+ghost use Rattle.dlk_calculus.specs.Axioms.{Axiom, AxiomaticRule, axioms, axiomatic_rules};
+ghost use Rattle.dlk_calculus.specs.Sequents.{IsFormula};
 ghost use Rattle.dlk_calculus.specs.Provables.{Provable, HasFormulas};
 ghost use Rattle.dlk_calculus.specs.Steps.{Step, Gives, Against, History, Derives, Fault, StepOf};
 
@@ -47,4 +49,11 @@ pub fn history_derives()
 /// What is derived is made of formulas.
 pub fn derived_formulas()
     ensures { (p : Provable) → Derives p → HasFormulas p }
+{}
+
+/// The axioms and the axiomatic rules are made of formulas.
+pub fn axiom_formulas()
+    ensures axioms { All IsFormula (map (λ (a : Axiom). a.formula) axioms) }
+    ensures premises { All IsFormula (map (λ (r : AxiomaticRule). r.premise) axiomatic_rules) }
+    ensures conclusions { All IsFormula (map (λ (r : AxiomaticRule). r.conclusion) axiomatic_rules) }
 {}

@@ -5,6 +5,8 @@ pub enum Reason {
     NoFact,
     /// The number of a goal isn't from 1 to the number of goals.
     NoGoal,
+    /// No axiom, or no axiomatic rule, has the name.
+    UnknownName,
     /// A place of the rule isn't there.
     NoPlace,
     /// A formula hasn't the form that the rule wants, or a given formula can't stand in a sequent.

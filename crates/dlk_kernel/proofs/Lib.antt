@@ -1,3 +1,4 @@
 pub mod Growth
 pub mod RowLaws
 pub mod Reading
+pub mod Renamed

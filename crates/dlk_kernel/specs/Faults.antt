@@ -1,6 +1,6 @@
 -- The faults of steps, beside want of memory.
 use Rattle.dlk_calculus.specs.declared.reason.Reason.{Reason}
-use Rattle.dlk_calculus.specs.declared.reason.Reason.TheVariants.{NoPlace, WrongShape, NotEqual}
+use Rattle.dlk_calculus.specs.declared.reason.Reason.TheVariants.{NoPlace, WrongShape, NotEqual, NotFresh}
 use Rattle.dlk_rules.specs.declared.rule.RuleFault.{RuleFault}
 use Rattle.dlk_rules.specs.declared.rule.RuleFault.TheVariants as rule_fault
 use Rattle.dlk_kernel.specs.declared.fault.StepFault.{StepFault}
@@ -16,4 +16,5 @@ abbrev pub fault_of : RuleFault → StepFault
 fault_of rule_fault.NoPlace = Refused NoPlace
 fault_of rule_fault.WrongShape = Refused WrongShape
 fault_of rule_fault.NotEqual = Refused NotEqual
+fault_of rule_fault.NotFresh = Refused NotFresh
 fault_of rule_fault.Memory = Memory

@@ -4,6 +4,7 @@ ghost use Rattle.dlk_kernel.specs.Faults.{fault_of};
 
 use dlk_calculus::Reason;
 use dlk_rules::RuleFault;
+use dlk_store::StoreFault;
 use std::alloc::{AllocError, AllocFailed};
 use thiserror::Error;
 
@@ -33,6 +34,14 @@ impl<T: Drop> From<AllocFailed<T>> for StepFault {
     }
 }
 
+impl From<StoreFault> for StepFault {
+    ghost from_gives = { λ _ e. e ≡ Memory };
+
+    fn from(_: StoreFault) -> StepFault {
+        StepFault::Memory
+    }
+}
+
 impl From<RuleFault> for StepFault {
     ghost from_gives = { λ why e. e ≡ fault_of why };
 
@@ -41,6 +50,7 @@ impl From<RuleFault> for StepFault {
             RuleFault::NoPlace => StepFault::Refused(Reason::NoPlace),
             RuleFault::WrongShape => StepFault::Refused(Reason::WrongShape),
             RuleFault::NotEqual => StepFault::Refused(Reason::NotEqual),
+            RuleFault::NotFresh => StepFault::Refused(Reason::NotFresh),
             RuleFault::Memory => StepFault::Memory,
         }
     }

@@ -42,7 +42,7 @@ impl<S: Store> Kernel<S> {
     ghost use Rattle.dlk_calculus.specs.Provables.{HasFormulas};
     ghost use Rattle.dlk_calculus.specs.Steps.{Derives, Adds, Fault};
     ghost use Rattle.dlk_sequent.specs.Sequents.{sequent_at, IsKnown};
-    ghost use Rattle.dlk_rules.specs.Steps.{step_at, HasKnownIds, StartsFormulas};
+    ghost use Rattle.dlk_rules.specs.Steps.{step_at, HasKnownIds};
     ghost use Rattle.dlk_kernel.specs.Faults.{IsStepFault};
     ghost use Rattle.dlk_kernel.specs.Kernel.{facts, provable_at, IsKnownRow, SameRows, ExtendsRows};
 
@@ -109,8 +109,8 @@ impl<S: Store> Kernel<S> {
         self.row(fact).leaves.as_slice()
     }
 
-    /// Takes a step: the row that it gives comes last, and its number is answered. The ids of a `Start` are those of this
-    /// kernel's store and stand for formulas. After a fault the rows are as they were.
+    /// Takes a step: the row that it gives comes last, and its number is answered. The ids of the step are those of this
+    /// kernel's store. After a fault the rows are as they were.
     ///
     /// # Errors
     ///
@@ -122,8 +122,7 @@ impl<S: Store> Kernel<S> {
         step: &Step,
         steps: &mut Steps<L>,
     ) -> Result<Fact, StepFault>
-        requires known { HasKnownIds (S.trees self.old.store) step.now }
-        requires formulas { StartsFormulas (S.trees self.old.store) step.now }
+        requires { HasKnownIds (S.trees self.old.store) step.now }
 
         // The provable that the calculus gives comes last.
         ensures ok { OnOk result (Adds (facts S.trees self.old) (step_at (S.trees self.old.store) step.now) (facts S.trees self.new)) }

@@ -4,6 +4,7 @@
 mod fault;
 mod given;
 mod kernel;
+mod renaming;
 mod row;
 
 pub use dlk_calculus::Reason;

@@ -7,7 +7,7 @@ use Rattle.dlk_tree.specs.Trees.{Tree}
 use Rattle.dlk_store.specs.declared.Id.{Id}
 use Rattle.dlk_store.specs.Stores.{IsId, tree, StandsFor, Keeps}
 use Rattle.dlk_calculus.specs.Places.{put, remove}
-use Rattle.dlk_calculus.specs.Rules.{Rule, imply, equiv, put_left, put_right, last_left, last_right, without_left, without_right, alone_right, figure, FirstAgainst}
+use Rattle.dlk_calculus.specs.Rules.{Rule, imply, equiv, put_left, put_right, last_left, last_right, without_left, without_right, figure, FirstAgainst}
 use Rattle.dlk_calculus.specs.Sequents.{Sequent as TreeSequent}
 use Rattle.dlk_calculus.proofs.RuleLaws.{first_no_place, first_wrong_shape}
 use Rattle.dlk_sequent.specs.declared.sequent.Sequent.{Sequent}
