@@ -47,7 +47,6 @@ module _ {trees side : List Tree} {place : ℕ} {quantifier : Quantifier} {v : V
 
   pub unread : (s : Sequent) → false ≡ is_read s v → OfName (bound_name quantifier (root (formula_at side place))) (IsFreshIn s)
   unread s test x e =
-      let at_name = at.binds in
       let same : v.name ≡ x = cc in
       subst (IsFreshIn s) same (sym (test ∙ ap (is_read s) at.unprimed))
 
