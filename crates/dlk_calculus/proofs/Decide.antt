@@ -66,3 +66,12 @@ all_formulas (t ∷ ts) = both (All-cons IsFormula t ts) (All-head IsFormula t t
 
 pub is_sequent : (s : Sequent) → Dec (IsSequent s)
 is_sequent s = both (λ a b. record { ante = a; succ = b }) (λ q. q.ante) (λ q. q.succ) (all_formulas s.ante) (all_formulas s.succ)
+
+same_trees : (ss ts : List Tree) → Dec (ss ≡ ts)
+same_trees [] [] = yes refl
+same_trees [] (t ∷ ts) = no (λ e. cc)
+same_trees (s ∷ ss) [] = no (λ e. cc)
+same_trees (s ∷ ss) (t ∷ ts) = both (λ p q i. p i ∷ q i) (λ e. cc) (λ e. cc) (same_tree s t) (same_trees ss ts)
+
+pub same_sequent : (s t : Sequent) → Dec (s ≡ t)
+same_sequent s t = both (λ p q i. record { ante = p i; succ = q i }) (λ e i. (e i).ante) (λ e i. (e i).succ) (same_trees s.ante t.ante) (same_trees s.succ t.succ)

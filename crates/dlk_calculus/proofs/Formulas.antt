@@ -4,7 +4,7 @@ use Rattle.std.specs.Prelude.{IsTrue}
 use Rattle.std.specs.List.{All}
 use Rattle.std.proofs.lemmas.Option.{slice_get-get_or, none-some, same_Some}
 use Rattle.std.proofs.lemmas.List.{take_all}
-use Rattle.std.proofs.lemmas.List.Elements.{All-cons, All-nil, All-push, All-set, All-append, All-take, All-drop}
+use Rattle.std.proofs.lemmas.List.Elements.{All-cons, All-nil, All-head, All-tail, All-push, All-set, All-append, All-take, All-drop}
 use Rattle.std.proofs.Math.Seq.{get_or-append_seam, take-suc}
 use Rattle.dlk_tree.specs.declared.op.Op.{Op}
 use Rattle.dlk_tree.specs.declared.op.Op.TheVariants as Op'
@@ -19,8 +19,8 @@ use Rattle.dlk_calculus.specs.Kids.{first, later, last}
 use Rattle.dlk_calculus.specs.Places.{IsPlace}
 use Rattle.dlk_calculus.specs.Rename.{name_in, binder_of, assigned, rebound, reassigned, renamed_bound, swap}
 use Rattle.dlk_calculus.specs.Rules.{Rule, Close, CloseTrue, CloseFalse, NotL, NotR, AndL, AndR, OrL, OrR, ImplyL, ImplyR, EquivL, EquivR, Cut, CutL, CutR, HideL, HideR, CoHideR, ExchangeL, ExchangeR, SkolemL, SkolemR, BoundL, BoundR, EquivifyR, CommuteEquivL, CommuteEquivR, imply, equiv, truth, kid_f, kid_g, left, left_f, left_g, right, right_f, right_g, put_left, put_right, last_left, last_right, without_left, without_right, exists_name, forall_name, HasBinder, figure, Premises}
-use Rattle.dlk_calculus.specs.Provables.{Provable, HasFormulas}
-use Rattle.dlk_calculus.specs.Steps.{Step, Start, UseAxiom, UseRule, Apply, Rename, Gives, History, Derives}
+use Rattle.dlk_calculus.specs.Provables.{Provable, HasFormulas, Joins, no_more, there, added}
+use Rattle.dlk_calculus.specs.Steps.{Step, Start, UseAxiom, UseRule, Leaf, Apply, Merge, Rename, Gives, History, Derives}
 use Rattle.dlk_calculus.proofs.PlaceLaws.{At_All}
 use Rattle.dlk_calculus.proofs.AxiomLaws.{axiom_formula, rule_formulas}
 use Rattle.dlk_calculus.proofs.Sorts.{head, tail}
@@ -262,6 +262,12 @@ figure_formulas (CommuteEquivR j) s h p k =
 pub premises_formulas : (rule : Rule) (s : Sequent) (premises : List Sequent) → IsSequent s → Premises rule s premises → All IsSequent premises
 premises_formulas rule s premises h p = rw p.premises_are (figure_formulas rule s h p.places p.shape)
 
+-- what all old leaves have and all others, all joined ones have
+joined_all : (P : Sequent → Type 0) (old more all : List Sequent) → All P old → All P more → Joins old more all → All P all
+joined_all P old [] _ h k no_more = h
+joined_all P old (s ∷ more) all h k (there a j) = joined_all P old more all h (All-tail P s more k) j
+joined_all P old (s ∷ more) all h k (added n j) = joined_all P (old ++ s ∷ []) more all (All-push P old s h (All-head P s more k)) (All-tail P s more k) j
+
 pub given_formulas : (rows : List Provable) (step : Step) (p : Provable) → All HasFormulas rows → Gives rows step p → HasFormulas p
 given_formulas rows (Start s) p h g =
     let m = given_by rows (Start s) p g in
@@ -273,6 +279,9 @@ given_formulas rows (UseRule name) p h g =
     let m = given_by rows (UseRule name) p g in
     let formulas = rule_formulas name m.0 m.1 in
     rw m.2 (record { conclusion = alone formulas.1; goals = All-cons IsSequent _ [] (alone formulas.0) (All-nil IsSequent); leaves = All-nil IsSequent })
+given_formulas rows (Leaf s) p h g =
+    let m = given_by rows (Leaf s) p g in
+    rw m.2 (record { conclusion = m.0; goals = All-nil IsSequent; leaves = one_sequent s m.0 })
 given_formulas rows (Apply fact goal rule) p h g =
     let m = given_by rows (Apply fact goal rule) p g in
     let q = At_All HasFormulas rows fact m.0 h m.3 in
@@ -281,6 +290,15 @@ given_formulas rows (Apply fact goal rule) p h g =
       conclusion = q.conclusion;
       goals = All-append IsSequent _ _ (All-append IsSequent _ _ (All-take IsSequent (goal - 1) m.0.goals q.goals) premises) (All-drop IsSequent goal m.0.goals q.goals);
       leaves = q.leaves;
+    })
+given_formulas rows (Merge fact goal by) p h g =
+    let m = given_by rows (Merge fact goal by) p g in
+    let q = At_All HasFormulas rows fact m.0 h m.3 in
+    let r = At_All HasFormulas rows by m.1 h m.4 in
+    rw m.7 (record {
+      conclusion = q.conclusion;
+      goals = All-append IsSequent _ _ (All-append IsSequent _ _ (All-take IsSequent (goal - 1) m.0.goals q.goals) r.goals) (All-drop IsSequent goal m.0.goals q.goals);
+      leaves = joined_all IsSequent m.0.leaves m.1.leaves m.2 q.leaves r.leaves m.6;
     })
 given_formulas rows (Rename fact x y) p h g =
     let m = given_by rows (Rename fact x y) p g in

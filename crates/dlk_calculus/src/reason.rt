@@ -11,8 +11,10 @@ pub enum Reason {
     NoPlace,
     /// A formula hasn't the form that the rule wants, or a given formula can't stand in a sequent.
     WrongShape,
-    /// Two formulas that the rule wants to be the same are not.
+    /// Two formulas that the rule wants to be the same are not, or a goal isn't the conclusion of the fact that is merged into it.
     NotEqual,
     /// A variable that the rule wants to be fresh is not, or a symbol that may read any variable stands in what it binds.
     NotFresh,
+    /// A leaf is no sequent of arithmetic.
+    NotArith,
 }
