@@ -1,11 +1,9 @@
 -- What is given from provables of formulas is one of formulas.
-use Rattle.std.proofs.Common.{◌≡◌, ℕ, zero, suc, ◌≤◌, ◌-◌, Bool, true, false, ◌||◌, List, [], ◌∷◌, ◌++◌, length, take, get_or, refl, sym, ap, subst, ◌∙◌, cond, Some, None, arith, length-append}
+use Rattle.std.proofs.Common.{◌≡◌, ℕ, ◌-◌, Bool, true, false, ◌||◌, List, [], ◌∷◌, ◌++◌, refl, sym, ap, subst, ◌∙◌, cond, Some, None, arith}
 use Rattle.std.specs.Prelude.{IsTrue}
 use Rattle.std.specs.List.{All}
-use Rattle.std.proofs.lemmas.Option.{slice_get-get_or, none-some, same_Some}
-use Rattle.std.proofs.lemmas.List.{take_all}
+use Rattle.std.proofs.lemmas.Option.{none-some, same_Some}
 use Rattle.std.proofs.lemmas.List.Elements.{All-cons, All-nil, All-head, All-tail, All-push, All-set, All-append, All-take, All-drop}
-use Rattle.std.proofs.Math.Seq.{get_or-append_seam, take-suc}
 use Rattle.dlk_tree.specs.declared.op.Op.{Op}
 use Rattle.dlk_tree.specs.declared.op.Op.TheVariants as Op'
 use Rattle.dlk_tree.specs.declared.op.Sort.TheVariants.{Formula, Program}
@@ -13,7 +11,7 @@ use Rattle.dlk_tree.specs.Names.{is_name}
 use Rattle.dlk_tree.specs.Table.{sort_of, kid_sorts, has_parts}
 use Rattle.dlk_tree.specs.Trees.{Tree, node, Forest, no_kids, kid, root, sort, sorts, WellMade}
 use Rattle.dlk_tree.specs.Statics.{plain}
-use Rattle.dlk_tree.specs.Occurs.{has, has_dots, has_hole, is_some_dot, is_hole}
+use Rattle.dlk_tree.specs.Occurs.{has, is_some_dot, is_hole}
 use Rattle.dlk_calculus.specs.Sequents.{Sequent, alone_right, IsFormula, IsSequent}
 use Rattle.dlk_calculus.specs.Kids.{first, later, last}
 use Rattle.dlk_calculus.specs.Places.{IsPlace}
@@ -21,6 +19,7 @@ use Rattle.dlk_calculus.specs.Rename.{name_in, binder_of, assigned, rebound, rea
 use Rattle.dlk_calculus.specs.Rules.{Rule, Close, CloseTrue, CloseFalse, NotL, NotR, AndL, AndR, OrL, OrR, ImplyL, ImplyR, EquivL, EquivR, Cut, CutL, CutR, HideL, HideR, CoHideR, ExchangeL, ExchangeR, SkolemL, SkolemR, BoundL, BoundR, EquivifyR, CommuteEquivL, CommuteEquivR, imply, equiv, truth, kid_f, kid_g, left, left_f, left_g, right, right_f, right_g, put_left, put_right, last_left, last_right, without_left, without_right, exists_name, forall_name, HasBinder, figure, Premises}
 use Rattle.dlk_calculus.specs.Provables.{Provable, HasFormulas, Joins, no_more, there, added}
 use Rattle.dlk_calculus.specs.Steps.{Step, Start, UseAxiom, UseRule, Leaf, Apply, Merge, Rename, Gives, History, Derives}
+use Rattle.dlk_calculus.proofs.Histories.{History-has, Derives-has}
 use Rattle.dlk_calculus.proofs.PlaceLaws.{At_All}
 use Rattle.dlk_calculus.proofs.AxiomLaws.{axiom_formula, rule_formulas}
 use Rattle.dlk_calculus.proofs.Sorts.{head, tail}
@@ -263,7 +262,7 @@ pub premises_formulas : (rule : Rule) (s : Sequent) (premises : List Sequent) �
 premises_formulas rule s premises h p = rw p.premises_are (figure_formulas rule s h p.places p.shape)
 
 -- what all old leaves have and all others, all joined ones have
-joined_all : (P : Sequent → Type 0) (old more all : List Sequent) → All P old → All P more → Joins old more all → All P all
+pub joined_all : (P : Sequent → Type 0) (old more all : List Sequent) → All P old → All P more → Joins old more all → All P all
 joined_all P old [] _ h k no_more = h
 joined_all P old (s ∷ more) all h k (there a j) = joined_all P old more all h (All-tail P s more k) j
 joined_all P old (s ∷ more) all h k (added n j) = joined_all P (old ++ s ∷ []) more all (All-push P old s h (All-head P s more k)) (All-tail P s more k) j
@@ -309,19 +308,8 @@ given_formulas rows (Rename fact x y) p h g =
       leaves = q.leaves;
     })
 
-front_formulas : (rows : List Provable) (n : ℕ) → History rows → n ≤ length rows → All HasFormulas (take n rows)
-front_formulas rows zero h le = All-nil HasFormulas
-front_formulas rows (suc n) h le = λ k d lt.
-    let p = get_or rows n d in
-    let before = front_formulas rows n h (omega arith) in
-    let given = h n p (slice_get-get_or rows n d (omega arith)) in
-    let after = All-push HasFormulas (take n rows) p before (given_formulas (take n rows) given.0 p before given.1) in
-    subst (All HasFormulas) (sym (take-suc rows n d (omega arith))) after k d lt
-
 pub History-formulas : (rows : List Provable) → History rows → All HasFormulas rows
-History-formulas rows h = subst (All HasFormulas) (take_all (length rows) rows (omega arith)) (front_formulas rows (length rows) h (omega arith))
+History-formulas rows h = History-has HasFormulas given_formulas rows h
 
 pub Derives-formulas : (p : Provable) → Derives p → HasFormulas p
-Derives-formulas p d =
-    let rows = d.0 ++ p ∷ [] in
-    subst HasFormulas (get_or-append_seam d.0 p [] p) (History-formulas rows d.1 (length d.0) p (omega (arith, length-append d.0 (p ∷ []))))
+Derives-formulas p d = Derives-has HasFormulas given_formulas p d

@@ -6,6 +6,7 @@ pub mod RuleLaws
 pub mod StepLaws
 pub mod Histories
 pub mod Formulas
+pub mod Leaves
 pub mod OneResult
 pub mod WellFormed
 pub mod Sorts

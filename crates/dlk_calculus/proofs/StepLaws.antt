@@ -12,7 +12,7 @@ use Rattle.dlk_calculus.specs.Places.{At, IsPlace}
 use Rattle.dlk_calculus.specs.Sequents.{Sequent, IsSequent}
 use Rattle.dlk_calculus.specs.Rules.{Rule, Premises, RuleAgainst, FirstAgainst}
 use Rattle.dlk_calculus.specs.Provables.{Provable, started, known, inferred, assumed, applied, IsAmong, Joins, no_more, there, added, merged, renamed}
-use Rattle.dlk_calculus.specs.Steps.{Step, Start, UseAxiom, UseRule, Leaf, Apply, Merge, Rename, AreNames, Gives, start, use_axiom, use_rule, leaf, apply, merge, rename, IsGoal, OfGoal, Against, Fault, StepOf}
+use Rattle.dlk_calculus.specs.Steps.{Step, Start, UseAxiom, UseRule, Leaf, Apply, Merge, Rename, AreNames, Gives, start, use_axiom, use_rule, leaf, apply, merge, rename, IsGoal, Against, Fault, StepOf}
 use Rattle.dlk_calculus.proofs.PlaceLaws.{at_one, At_place, place_cases}
 use Rattle.dlk_calculus.proofs.Decide.{is_sequent, same_sequent, is_true, is_false, both}
 use Rattle.dlk_calculus.proofs.RuleLaws.{one_premises, premises_unless_against, rule_cases}

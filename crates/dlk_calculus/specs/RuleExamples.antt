@@ -8,8 +8,8 @@ use Rattle.dlk_tree.specs.declared.op.Op.TheVariants as Op'
 use Rattle.dlk_tree.specs.Trees.{Tree, node, Forest, no_kids, kid}
 use Rattle.dlk_tree.specs.Statics.{free, plain, prime}
 use Rattle.dlk_calculus.specs.Sequents.{Sequent}
-use Rattle.dlk_calculus.specs.Rename.{swap, binder, body, renamed_bound, may_rename}
-use Rattle.dlk_calculus.specs.Rules.{Rule, ImplyL, CutL, EquivL, ExchangeL, CoHideR, imply, equiv, figure}
+use Rattle.dlk_calculus.specs.Rename.{swap, binder, renamed_bound, may_rename}
+use Rattle.dlk_calculus.specs.Rules.{ImplyL, CutL, EquivL, ExchangeL, CoHideR, imply, equiv, figure}
 
 abbrev one : Tree → Forest
 one t = kid t no_kids

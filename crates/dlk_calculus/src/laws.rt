@@ -7,7 +7,7 @@ ghost use Rattle.dlk_calculus.specs.Subst.{Subst};
 ghost use Rattle.dlk_calculus.specs.declared.reason.Reason.{Reason as TheReason};
 ghost use Rattle.dlk_calculus.specs.Axioms.{Axiom, AxiomaticRule, axioms, axiomatic_rules};
 ghost use Rattle.dlk_calculus.specs.Sequents.{IsFormula};
-ghost use Rattle.dlk_calculus.specs.Provables.{Provable, HasFormulas};
+ghost use Rattle.dlk_calculus.specs.Provables.{Provable, HasFormulas, HasLeaves};
 ghost use Rattle.dlk_calculus.specs.Steps.{Step, Gives, Against, History, Derives, Fault, StepOf};
 
 /// A replacement has at most one result with given arguments.
@@ -49,6 +49,11 @@ pub fn history_derives()
 /// What is derived is made of formulas.
 pub fn derived_formulas()
     ensures { (p : Provable) → Derives p → HasFormulas p }
+{}
+
+/// The leaves of what is derived are sequents of arithmetic, and none stands twice.
+pub fn derived_leaves()
+    ensures { (p : Provable) → Derives p → HasLeaves p }
 {}
 
 /// The axioms and the axiomatic rules are made of formulas.
