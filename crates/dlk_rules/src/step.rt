@@ -7,8 +7,16 @@ use dlk_tree::Name;
 pub enum Step {
     /// The sequent is the conclusion, and its own goal.
     Start(Sequent),
+    /// The axiom of this name is the conclusion.
+    Axiom(Name),
+    /// The conclusion of the axiomatic rule of this name, with its premise as goal.
+    AxRule(Name),
+    /// The sequent, which is one of arithmetic, is the conclusion and a leaf.
+    Leaf(Sequent),
     /// The premises of a rule on a goal of a fact stand in the goal's place.
     Apply { fact: u32, goal: u32, rule: Rule },
+    /// The goals of the fact `by` stand in the goal's place, and its leaves join those of the fact.
+    Merge { fact: u32, goal: u32, by: u32 },
     /// Two names are exchanged in the conclusion and the goals of a fact.
     Rename { fact: u32, x: Name, y: Name },
 }
