@@ -35,6 +35,7 @@ fn reason_word(why: Reason) -> &'static str
         Reason::WrongShape => "WrongShape",
         Reason::NotEqual => "NotEqual",
         Reason::NotFresh => "NotFresh",
+        Reason::NotArith => "NotArith",
     }
 }
 
