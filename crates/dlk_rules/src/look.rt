@@ -57,12 +57,11 @@ fn node_at<'a, S: Store, L: Ledger>(
     ensures ok { IfOk result (λ kids. IsNodeAt (S.trees store.now) (map (tree (S.trees store.now)) side.now) place op.now kids.now) }
     ensures fault { IfErr result (IsShapeFault (IsPlace (map (tree (S.trees store.now)) side.now) place) (root (looks.formula_at (map (tree (S.trees store.now)) side.now) place) ≡ op.now)) }
 {
-    let id = formula_at(store, side, place)?;
-    let node = store.look(id, steps);
-    if !same_op(node.op, op) {
+    let top = top_at(store, side, place, steps)?;
+    if !same_op(top.op, op) {
         return Err(RuleFault::WrongShape);
     }
-    Ok(node.kids)
+    Ok(top.kids)
 }
 
 /// Whether the formula at a place has this operator at its top: `WrongShape` where it hasn't.
