@@ -41,7 +41,7 @@ fits_decided op kids =
     both (λ k p. record { kids_fit = k; parts_fit = p }) (λ f. f.kids_fit) (λ f. f.parts_fit) (decided _ (sorts_decides (sorts kids) (kid_sorts op))) (is_true (has_parts op))
 
 mutual
-  well_made_decided : (t : Tree) → Dec (WellMade t)
+  pub well_made_decided : (t : Tree) → Dec (WellMade t)
   well_made_decided (node op kids) = both (λ f k. (f, k)) (λ w. w.0) (λ w. w.1) (fits_decided op kids) (all_well_made_decided kids)
 
   all_well_made_decided : (kids : Forest) → Dec (AllWellMade kids)

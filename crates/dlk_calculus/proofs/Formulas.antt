@@ -17,11 +17,13 @@ use Rattle.dlk_calculus.specs.Kids.{first, later, last}
 use Rattle.dlk_calculus.specs.Places.{IsPlace}
 use Rattle.dlk_calculus.specs.Rename.{name_in, binder_of, assigned, rebound, reassigned, renamed_bound, swap}
 use Rattle.dlk_calculus.specs.Rules.{Rule, Close, CloseTrue, CloseFalse, NotL, NotR, AndL, AndR, OrL, OrR, ImplyL, ImplyR, EquivL, EquivR, Cut, CutL, CutR, HideL, HideR, CoHideR, ExchangeL, ExchangeR, SkolemL, SkolemR, BoundL, BoundR, EquivifyR, CommuteEquivL, CommuteEquivR, imply, equiv, truth, kid_f, kid_g, left, left_f, left_g, right, right_f, right_g, put_left, put_right, last_left, last_right, without_left, without_right, exists_name, forall_name, HasBinder, figure, Premises}
-use Rattle.dlk_calculus.specs.Provables.{Provable, HasFormulas, Joins, no_more, there, added}
-use Rattle.dlk_calculus.specs.Steps.{Step, Start, UseAxiom, UseRule, Leaf, Apply, Merge, Rename, Gives, History, Derives}
+use Rattle.dlk_calculus.specs.Provables.{Provable, HasFormulas, Joins, no_more, there, added, SubstEach, SubstSequent, SubstSequents}
+use Rattle.dlk_calculus.specs.Pairs.{Pair, IsWellFormed}
+use Rattle.dlk_calculus.specs.Steps.{Step, Start, UseAxiom, UseRule, Leaf, Apply, Merge, Substitute, Rename, Gives, History, Derives}
 use Rattle.dlk_calculus.proofs.Histories.{History-has, Derives-has}
 use Rattle.dlk_calculus.proofs.PlaceLaws.{At_All}
 use Rattle.dlk_calculus.proofs.AxiomLaws.{axiom_formula, rule_formulas}
+use Rattle.dlk_calculus.proofs.CleanResults.{subst_formula}
 use Rattle.dlk_calculus.proofs.Sorts.{head, tail}
 use Rattle.dlk_calculus.proofs.Swapped.{swap_formula, swap_is_sequent, swap_sequents}
 use Rattle.dlk_calculus.proofs.StepLaws.{given_by}
@@ -261,6 +263,23 @@ figure_formulas (CommuteEquivR j) s h p k =
 pub premises_formulas : (rule : Rule) (s : Sequent) (premises : List Sequent) → IsSequent s → Premises rule s premises → All IsSequent premises
 premises_formulas rule s premises h p = rw p.premises_are (figure_formulas rule s h p.places p.shape)
 
+-- what a substitution makes of formulas are formulas
+module _ (pairs : List Pair) (well : IsWellFormed pairs) where
+  substituted_each : (fs gs : List Tree) → All IsFormula fs → SubstEach pairs fs gs → All IsFormula gs
+  substituted_each [] [] h s = All-nil IsFormula
+  substituted_each [] (g ∷ gs) h s = absurd s
+  substituted_each (f ∷ fs) [] h s = absurd s
+  substituted_each (f ∷ fs) (g ∷ gs) h s = All-cons IsFormula g gs (subst_formula pairs well f g (All-head IsFormula f fs h) s.0) (substituted_each fs gs (All-tail IsFormula f fs h) s.1)
+
+  substituted_sequent : (s t : Sequent) → IsSequent s → SubstSequent pairs s t → IsSequent t
+  substituted_sequent s t h m = record { ante = substituted_each s.ante t.ante h.ante m.0; succ = substituted_each s.succ t.succ h.succ m.1 }
+
+  substituted_sequents : (ss ts : List Sequent) → All IsSequent ss → SubstSequents pairs ss ts → All IsSequent ts
+  substituted_sequents [] [] h m = All-nil IsSequent
+  substituted_sequents [] (t ∷ ts) h m = absurd m
+  substituted_sequents (s ∷ ss) [] h m = absurd m
+  substituted_sequents (s ∷ ss) (t ∷ ts) h m = All-cons IsSequent t ts (substituted_sequent s t (All-head IsSequent s ss h) m.0) (substituted_sequents ss ts (All-tail IsSequent s ss h) m.1)
+
 -- what all old leaves have and all others, all joined ones have
 pub joined_all : (P : Sequent → Type 0) (old more all : List Sequent) → All P old → All P more → Joins old more all → All P all
 joined_all P old [] _ h k no_more = h
@@ -299,6 +318,14 @@ given_formulas rows (Merge fact goal by) p h g =
       goals = All-append IsSequent _ _ (All-append IsSequent _ _ (All-take IsSequent (goal - 1) m.0.goals q.goals) r.goals) (All-drop IsSequent goal m.0.goals q.goals);
       leaves = joined_all IsSequent m.0.leaves m.1.leaves m.2 q.leaves r.leaves m.6;
     })
+given_formulas rows (Substitute fact pairs) p h g =
+    let m = given_by rows (Substitute fact pairs) p g in
+    let q = At_All HasFormulas rows fact m.0 h m.1 in
+    record {
+      conclusion = substituted_sequent pairs m.3 m.0.conclusion p.conclusion q.conclusion m.5.conclusion;
+      goals = substituted_sequents pairs m.3 m.0.goals p.goals q.goals m.5.goals;
+      leaves = rw m.5.leaves q.leaves;
+    }
 given_formulas rows (Rename fact x y) p h g =
     let m = given_by rows (Rename fact x y) p g in
     let q = At_All HasFormulas rows fact m.0 h m.1 in

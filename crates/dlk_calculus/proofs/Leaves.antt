@@ -6,7 +6,7 @@ use Rattle.std.proofs.lemmas.List.Elements.{All-cons, All-nil}
 use Rattle.dlk_calculus.specs.Arithmetic.{is_arithmetic_sequent}
 use Rattle.dlk_calculus.specs.Sequents.{Sequent}
 use Rattle.dlk_calculus.specs.Provables.{Provable, IsAmong, AreDistinct, HasLeaves, Joins, no_more, there, added}
-use Rattle.dlk_calculus.specs.Steps.{Step, Start, UseAxiom, UseRule, Leaf, Apply, Merge, Rename, Gives, Derives}
+use Rattle.dlk_calculus.specs.Steps.{Step, Start, UseAxiom, UseRule, Leaf, Apply, Merge, Substitute, Rename, Gives, Derives}
 use Rattle.dlk_calculus.proofs.Histories.{Derives-has}
 use Rattle.dlk_calculus.proofs.PlaceLaws.{At_All}
 use Rattle.dlk_calculus.proofs.Formulas.{joined_all}
@@ -51,6 +51,10 @@ given_leaves rows (Merge fact goal by) p h g =
       arithmetic = joined_all IsArithmetic m.0.leaves m.1.leaves m.2 q.arithmetic r.arithmetic m.6;
       distinct = joined_distinct m.0.leaves m.1.leaves m.2 q.distinct m.6;
     })
+given_leaves rows (Substitute fact pairs) p h g =
+    let m = given_by rows (Substitute fact pairs) p g in
+    let q = At_All HasLeaves rows fact m.0 h m.1 in
+    record { arithmetic = rw m.5.leaves q.arithmetic; distinct = rw m.5.leaves q.distinct }
 given_leaves rows (Rename fact x y) p h g =
     let m = given_by rows (Rename fact x y) p g in
     let q = At_All HasLeaves rows fact m.0 h m.1 in

@@ -1,3 +1,8 @@
+pub mod Decided
+pub mod Told
+pub mod CleanResults
+pub mod Clean
+pub mod Lacks
 pub mod PlaceLaws
 pub mod Decide
 pub mod Swapped

@@ -1,5 +1,7 @@
 -- Provables: what a proof has shown so far.
 use Rattle.std.specs.Prelude.{◌≡◌, ◌⊎◌, ℕ, List, [], ◌∷◌, ◌++◌, map, IsTrue, All}
+use Rattle.dlk_calculus.specs.Pairs.{Pair}
+use Rattle.dlk_calculus.specs.Subst.{Subst}
 use Rattle.dlk_calculus.specs.Places.{put_all}
 use Rattle.dlk_calculus.specs.Sequents.{Sequent, alone_right, IsSequent}
 use Rattle.dlk_tree.specs.Trees.{Tree}
@@ -46,6 +48,33 @@ pub data Joins : List Sequent → List Sequent → List Sequent → Type 0 where
 -- the goals of another provable in the place of a goal, with these leaves
 abbrev pub merged : Provable → ℕ → Provable → List Sequent → Provable
 merged p goal q leaves = record { conclusion = p.conclusion; goals = put_all p.goals goal q.goals; leaves = leaves }
+
+-- A substitution makes the new formulas of the old ones, one by one; and so of sequents.
+
+abbrev pub SubstEach : List Pair → List Tree → List Tree → Type 0
+SubstEach pairs [] [] = Unit {0}
+SubstEach pairs [] (g ∷ gs) = ⊥
+SubstEach pairs (f ∷ fs) [] = ⊥
+SubstEach pairs (f ∷ fs) (g ∷ gs) = Subst pairs f g × SubstEach pairs fs gs
+
+abbrev pub SubstSequent : List Pair → Sequent → Sequent → Type 0
+SubstSequent pairs s t = SubstEach pairs s.ante t.ante × SubstEach pairs s.succ t.succ
+
+abbrev pub SubstSequents : List Pair → List Sequent → List Sequent → Type 0
+SubstSequents pairs [] [] = Unit {0}
+SubstSequents pairs [] (t ∷ ts) = ⊥
+SubstSequents pairs (s ∷ ss) [] = ⊥
+SubstSequents pairs (s ∷ ss) (t ∷ ts) = SubstSequent pairs s t × SubstSequents pairs ss ts
+
+-- q has what the substitution makes of p's conclusion and goals, and p's leaves
+pub record Substitutes (pairs : List Pair) (p q : Provable) : Type 0 where
+  pub conclusion : SubstSequent pairs p.conclusion q.conclusion
+  pub goals : SubstSequents pairs p.goals q.goals
+  pub leaves : q.leaves ≡ p.leaves
+
+abbrev pub HasGoal : List Sequent → Type 0
+HasGoal [] = ⊥
+HasGoal (s ∷ ss) = Unit {0}
 
 -- two names exchanged in the formulas of a sequent
 abbrev pub swap_sequent : List ℕ → List ℕ → Sequent → Sequent

@@ -2,14 +2,15 @@
 use Rattle.std.specs.Prelude.{◌≡◌, ◌≢◌, ℕ, ◌<◌, List, [], ◌∷◌, ◌++◌, take, Some, None, slice_get, false, IsTrue}
 use Rattle.dlk_tree.specs.Names.{is_name}
 use Rattle.dlk_calculus.specs.declared.reason.Reason.{Reason}
-use Rattle.dlk_calculus.specs.declared.reason.Reason.TheVariants.{NoFact, NoGoal, UnknownName, NoPlace, WrongShape, NotEqual, NotFresh, NotArith}
+use Rattle.dlk_calculus.specs.declared.reason.Reason.TheVariants.{NoFact, NoGoal, UnknownName, NoPlace, WrongShape, NotEqual, NotFresh, NotArith, IllSubst, FreeInSubst, NotAdmissible}
 use Rattle.dlk_calculus.specs.Reasons.{rank}
 use Rattle.dlk_calculus.specs.Axioms.{Axiom, AxiomaticRule, axiom_named, rule_named}
 use Rattle.dlk_calculus.specs.Arithmetic.{is_arithmetic_sequent}
+use Rattle.dlk_calculus.specs.Pairs.{Pair, IsFreeIn, IsWellFormed, AreMade}
 use Rattle.dlk_calculus.specs.Places.{At, IsPlace}
 use Rattle.dlk_calculus.specs.Sequents.{Sequent, IsSequent}
 use Rattle.dlk_calculus.specs.Rules.{Rule, Premises, RuleAgainst}
-use Rattle.dlk_calculus.specs.Provables.{Provable, started, known, inferred, assumed, applied, Joins, merged, renamed}
+use Rattle.dlk_calculus.specs.Provables.{Provable, started, known, inferred, assumed, applied, Joins, merged, HasGoal, Substitutes, renamed}
 
 -- a step, which names earlier rows and their goals by their numbers
 pub data Step : Type 0 where
@@ -19,9 +20,10 @@ pub data Step : Type 0 where
   Leaf : Sequent → Step
   Apply : (fact goal : ℕ) → Rule → Step
   Merge : (fact goal by : ℕ) → Step
+  Substitute : (fact : ℕ) (pairs : List Pair) → Step
   Rename : (fact : ℕ) → (x y : List ℕ) → Step
 
--- Both are names. In the code each name is one, so a step that renames never lacks this.
+-- Both are names. In the code each name is one, so a step that renames never lacks this. Likewise each replacement is well made there.
 abbrev pub AreNames : List ℕ → List ℕ → Type 0
 AreNames x y = IsTrue (is_name x) × IsTrue (is_name y)
 
@@ -41,6 +43,10 @@ pub data Gives (rows : List Provable) : Step → Provable → Type 0 where
   -- a fact whose conclusion is a goal of another: its goals stand in that goal's place, and its leaves join
   merge : (fact goal by : ℕ) (p q : Provable) (leaves : List Sequent) → At rows fact p → At rows by q → At p.goals goal q.conclusion → Joins p.leaves q.leaves leaves →
       Gives rows (Merge fact goal by) (merged p goal q leaves)
+  -- a substitution on a fact's conclusion and goals; where there is a goal, no variable is free in the replacement of a function or a
+  -- predicate
+  substitute : (fact : ℕ) (pairs : List Pair) (p q : Provable) → At rows fact p → AreMade pairs → IsWellFormed pairs → (HasGoal p.goals → ¬ IsFreeIn pairs) → Substitutes pairs p q →
+      Gives rows (Substitute fact pairs) q
   -- two names are exchanged in a fact's conclusion and goals
   rename : (fact : ℕ) (x y : List ℕ) (p : Provable) → At rows fact p → AreNames x y → Gives rows (Rename fact x y) (renamed x y p)
 
@@ -65,6 +71,7 @@ OfGoal rows fact goal P = (s : Sequent) × IsGoal rows fact goal s × P s
 abbrev pub Against : Reason → List Provable → Step → Type 0
 Against NoFact rows (Apply fact goal rule) = ¬ IsPlace rows fact
 Against NoFact rows (Merge fact goal by) = ¬ (IsPlace rows fact × IsPlace rows by)
+Against NoFact rows (Substitute fact pairs) = ¬ IsPlace rows fact
 Against NoFact rows (Rename fact x y) = ¬ IsPlace rows fact
 Against NoFact rows _ = ⊥
 Against NoGoal rows (Apply fact goal rule) = (p : Provable) × At rows fact p × (¬ IsPlace p.goals goal)
@@ -87,6 +94,12 @@ Against NotFresh rows (Apply fact goal rule) = OfGoal rows fact goal (RuleAgains
 Against NotFresh rows _ = ⊥
 Against NotArith rows (Leaf s) = is_arithmetic_sequent s ≡ false
 Against NotArith rows _ = ⊥
+Against IllSubst rows (Substitute fact pairs) = ¬ (AreMade pairs × IsWellFormed pairs)
+Against IllSubst rows _ = ⊥
+Against FreeInSubst rows (Substitute fact pairs) = (p : Provable) × At rows fact p × HasGoal p.goals × IsFreeIn pairs
+Against FreeInSubst rows _ = ⊥
+Against NotAdmissible rows (Substitute fact pairs) = (p : Provable) × At rows fact p × ((q : Provable) → ¬ Substitutes pairs p q)
+Against NotAdmissible rows _ = ⊥
 
 -- the first reason against the step
 pub record Fault (rows : List Provable) (step : Step) (why : Reason) : Type 0 where

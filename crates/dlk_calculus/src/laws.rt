@@ -25,6 +25,17 @@ pub fn subst_keeps_sort()
     ensures { (pairs : List Pair) → IsWellFormed pairs → (e t : Tree) → WellMade e → Subst pairs e t → sort t ≡ sort e }
 {}
 
+/// What a substitution whose pairs are well formed makes of a formula is a formula: well made, of that sort, and without
+/// argument dots and `_`.
+pub fn subst_keeps_formulas()
+    ensures { (pairs : List Pair) → IsWellFormed pairs → (e t : Tree) → IsFormula e → Subst pairs e t → IsFormula t }
+{}
+
+/// A substitution makes a tree of a tree, or it makes none of it: which of both is decided.
+pub fn subst_decided()
+    ensures { (pairs : List Pair) (e : Tree) → ((t : Tree) × Subst pairs e t) ⊎ ((t : Tree) → Subst pairs e t → ⊥) }
+{}
+
 /// A step gives at most one provable.
 pub fn one_provable()
     ensures { (rows : List Provable) (step : Step) (p q : Provable) → Gives rows step p → Gives rows step q → p ≡ q }

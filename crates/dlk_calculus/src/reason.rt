@@ -17,4 +17,10 @@ pub enum Reason {
     NotFresh,
     /// A leaf is no sequent of arithmetic.
     NotArith,
+    /// The pairs of a substitution are not well formed.
+    IllSubst,
+    /// The fact has a goal, and some variable is free in the replacement of a function or a predicate.
+    FreeInSubst,
+    /// The substitution makes nothing of the conclusion or of a goal.
+    NotAdmissible,
 }
