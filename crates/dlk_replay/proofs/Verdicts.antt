@@ -5,7 +5,7 @@ use Rattle.std.proofs.lemmas.Bool.{cases_order, cases_eq}
 use Rattle.dlk_calculus.specs.Provables.{Provable}
 use Rattle.dlk_calculus.specs.Steps.{Step, StepOf, Fault, History}
 use Rattle.dlk_calculus.specs.declared.reason.Reason.{Reason}
-use Rattle.dlk_calculus.specs.declared.reason.Reason.TheVariants.{NoFact, NoGoal, NoPlace, WrongShape, NotEqual}
+use Rattle.dlk_calculus.specs.declared.reason.Reason.TheVariants.{NoFact, NoGoal, NoPlace, WrongShape, NotEqual, NotFresh}
 use Rattle.dlk_calculus.specs.Reasons.{rank}
 use Rattle.dlk_calculus.proofs.StepLaws.{one_given, step_cases, StepOf-given}
 use Rattle.dlk_calculus.proofs.Histories.{History-none, History-more}
@@ -24,11 +24,12 @@ as_many _ _ (one_more {lines} {rows} {line} {step} {p} before is given) =
     length_push lines line ∙ ap (λ n. n + 1) (as_many lines rows before) ∙ sym (length_push rows p)
 
 one_rank : (a b : Reason) → rank a ≡ rank b → a ≡ b
-one_rank NoFact = elim [ NoFact ↦ λ e. refl | NoGoal ↦ λ e. absurd (omega arith) | NoPlace ↦ λ e. absurd (omega arith) | WrongShape ↦ λ e. absurd (omega arith) | NotEqual ↦ λ e. absurd (omega arith) ]
-one_rank NoGoal = elim [ NoFact ↦ λ e. absurd (omega arith) | NoGoal ↦ λ e. refl | NoPlace ↦ λ e. absurd (omega arith) | WrongShape ↦ λ e. absurd (omega arith) | NotEqual ↦ λ e. absurd (omega arith) ]
-one_rank NoPlace = elim [ NoFact ↦ λ e. absurd (omega arith) | NoGoal ↦ λ e. absurd (omega arith) | NoPlace ↦ λ e. refl | WrongShape ↦ λ e. absurd (omega arith) | NotEqual ↦ λ e. absurd (omega arith) ]
-one_rank WrongShape = elim [ NoFact ↦ λ e. absurd (omega arith) | NoGoal ↦ λ e. absurd (omega arith) | NoPlace ↦ λ e. absurd (omega arith) | WrongShape ↦ λ e. refl | NotEqual ↦ λ e. absurd (omega arith) ]
-one_rank NotEqual = elim [ NoFact ↦ λ e. absurd (omega arith) | NoGoal ↦ λ e. absurd (omega arith) | NoPlace ↦ λ e. absurd (omega arith) | WrongShape ↦ λ e. absurd (omega arith) | NotEqual ↦ λ e. refl ]
+one_rank NoFact = elim [ NoFact ↦ λ e. refl | _ ↦ λ e. absurd (omega arith) ]
+one_rank NoGoal = elim [ NoGoal ↦ λ e. refl | _ ↦ λ e. absurd (omega arith) ]
+one_rank NoPlace = elim [ NoPlace ↦ λ e. refl | _ ↦ λ e. absurd (omega arith) ]
+one_rank WrongShape = elim [ WrongShape ↦ λ e. refl | _ ↦ λ e. absurd (omega arith) ]
+one_rank NotEqual = elim [ NotEqual ↦ λ e. refl | _ ↦ λ e. absurd (omega arith) ]
+one_rank NotFresh = elim [ NotFresh ↦ λ e. refl | _ ↦ λ e. absurd (omega arith) ]
 
 one_fault : (rows : List Provable) (step : Step) (a b : Reason) → Fault rows step a → Fault rows step b → a ≡ b
 one_fault rows step a b f g =

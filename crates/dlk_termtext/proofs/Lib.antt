@@ -1,3 +1,6 @@
+pub mod Cuts
 pub mod Numbers
+pub mod WordLaws
 pub mod Forms
+pub mod Calls
 pub mod LineForms

@@ -33,6 +33,7 @@ fn reason_word(why: Reason) -> &'static str
         Reason::NoPlace => "NoPlace",
         Reason::WrongShape => "WrongShape",
         Reason::NotEqual => "NotEqual",
+        Reason::NotFresh => "NotFresh",
     }
 }
 
