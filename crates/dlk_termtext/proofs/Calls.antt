@@ -1,6 +1,6 @@
 -- Rules by their words and their arguments.
-use Rattle.std.proofs.Common.{◌≡◌, ℕ, Bool, true, false, List, [], Option, Some, None, refl, sym, ap, ◌∙◌}
-use Rattle.std.specs.Prelude.{IsTrue, IfSome, IfNone, option_map, option_and_then, if◌then◌else◌}
+use Rattle.std.proofs.Common.{◌≡◌, ℕ, Bool, true, false, List, [], Option, Some, None, refl, sym, ap, subst, ◌∙◌}
+use Rattle.std.specs.Prelude.{IsTrue, Result, Ok, Err, IfOk, IfErr, IfSome, IfNone, option_map, option_and_then, if◌then◌else◌}
 use Rattle.std.proofs.lemmas.Bool.{cond-true}
 use Rattle.std.proofs.lemmas.Option.{same_Some, none-some}
 use Rattle.dlk_tree.specs.Trees.{Tree}
@@ -8,9 +8,12 @@ use Rattle.dlk_calculus.specs.Rules.{Rule}
 use Rattle.dlk_rules.specs.Steps.{rule_at}
 use Rattle.dlk_rules.specs.declared.rule.Rule.{Rule as IdRule}
 use Rattle.dlk_termtext.specs.Words.{Template, Place, TwoPlaces, PlaceAndName, PlaceAndFormula, OneFormula, template_of, with_place, with_two_places, wants_place, wants_two_places, wants_more}
-use Rattle.dlk_termtext.specs.Lines.{IsNumber, IsArguments, place}
-use Rattle.dlk_termtext.specs.Parts.{IsCall}
-use Rattle.dlk_termtext.proofs.Forms.{argument_parts}
+use Rattle.dlk_termtext.specs.declared.line.LineFault.{LineFault}
+use Rattle.dlk_termtext.specs.Lines.{IsNumber, IsFormulaText, IsArguments, place, IsRule}
+use Rattle.dlk_termtext.specs.Parts.{Bracketed, IsCall}
+use Rattle.dlk_termtext.specs.Read.{IsFaultOf}
+use Rattle.dlk_termtext.proofs.Forms.{argument_parts, no_rule, called_rule}
+use Rattle.dlk_termtext.proofs.Refusals.{fault_of_whole}
 
 -- a word that wants one place
 place_there : (o : Option Template) (i : ℕ) (made : Rule) → Some made ≡ option_map (λ rule. rule i) (option_and_then with_place o) → (rule : ℕ → Rule) × (o ≡ Some (Place rule)) × (made ≡ rule i)
@@ -26,7 +29,7 @@ pub call_of_place : (word arguments : List ℕ) (i : ℕ) (r : Option IdRule) �
 call_of_place word arguments i None same is = tt
 call_of_place word arguments i (Some r) same is = λ trees.
     let h = place_there (template_of word) i (rule_at trees r) (same trees) in
-    record { template = Place h.0; is_word = h.1; is_kind = refl; are_arguments = rw h.2 (place is) }
+    record { template = Place h.0; is_word = h.1; is_kind = refl; are_arguments = subst (IsArguments (Place h.0) arguments) (sym h.2) (place is) }
 
 -- its arguments are a place
 pub place_called : (word arguments : List ℕ) (made : Rule) → IsCall wants_place word arguments made → (rule : ℕ → Rule) × (i : ℕ) × (template_of word ≡ Some (Place rule)) × IsNumber arguments i
@@ -61,7 +64,7 @@ pub call_of_two_places : (word arguments : List ℕ) (i k : ℕ) (r : Option IdR
 call_of_two_places word arguments i k None same are = tt
 call_of_two_places word arguments i k (Some r) same are = λ trees.
     let h = places_there (template_of word) i k (rule_at trees r) (same trees) in
-    record { template = TwoPlaces h.0; is_word = h.1; is_kind = refl; are_arguments = rw h.2 (are h.0) }
+    record { template = TwoPlaces h.0; is_word = h.1; is_kind = refl; are_arguments = subst (IsArguments (TwoPlaces h.0) arguments) (sym h.2) (are h.0) }
 
 pub two_places_called : (word arguments : List ℕ) (made : Rule) → IsCall wants_two_places word arguments made → (rule : ℕ → ℕ → Rule) × (template_of word ≡ Some (TwoPlaces rule)) × IsArguments (TwoPlaces rule) arguments made
 two_places_called word arguments made call = by_kind call.template call.is_word call.is_kind call.are_arguments
@@ -97,3 +100,36 @@ if_more t = if wants_more t then Some t else None
 pub none_of_more : (word arguments : List ℕ) → option_and_then if_more (template_of word) ≡ None → (made : Rule) → ¬ IsCall wants_more word arguments made
 none_of_more word arguments none made call =
     none-some call.template (sym none ∙ ap (option_and_then if_more) call.is_word ∙ cond-true (wants_more call.template) (Some call.template) None call.is_kind)
+
+-- a word whose arguments are refused
+module _ (word arguments : List ℕ) (why : LineFault) where
+  pub refused_name : (make : ℕ → List ℕ → Rule) → template_of word ≡ Some (PlaceAndName make) → IsFaultOf ((rule : ℕ → List ℕ → Rule) (made : Rule) → ¬ IsArguments (PlaceAndName rule) arguments made) why →
+      IsFaultOf ((made : Rule) → ¬ IsCall wants_more word arguments made) why
+  refused_name make e f =
+      let up : ((rule : ℕ → List ℕ → Rule) (made : Rule) → ¬ IsArguments (PlaceAndName rule) arguments made) → (made : Rule) → ¬ IsCall wants_more word arguments made =
+      (λ none. no_call word arguments (PlaceAndName make) e (none make)) in
+      fault_of_whole up why f
+
+  pub refused_cut_at : (make : ℕ → Tree → Rule) → template_of word ≡ Some (PlaceAndFormula make) → IsFaultOf ((rule : ℕ → Tree → Rule) (made : Rule) → ¬ IsArguments (PlaceAndFormula rule) arguments made) why →
+      IsFaultOf ((made : Rule) → ¬ IsCall wants_more word arguments made) why
+  refused_cut_at make e f =
+      let up : ((rule : ℕ → Tree → Rule) (made : Rule) → ¬ IsArguments (PlaceAndFormula rule) arguments made) → (made : Rule) → ¬ IsCall wants_more word arguments made =
+      (λ none. no_call word arguments (PlaceAndFormula make) e (none make)) in
+      fault_of_whole up why f
+
+  pub refused_cut : (make : Tree → Rule) → template_of word ≡ Some (OneFormula make) → IsFaultOf ((h : Tree) → ¬ IsFormulaText arguments h) why → IsFaultOf ((made : Rule) → ¬ IsCall wants_more word arguments made) why
+  refused_cut make e f =
+      let up : ((h : Tree) → ¬ IsFormulaText arguments h) → (made : Rule) → ¬ IsCall wants_more word arguments made =
+      (λ none. no_call word arguments (OneFormula make) e (λ made is. let p = argument_parts (OneFormula make) arguments made is in none p.0 p.1)) in
+      fault_of_whole up why f
+
+-- what is answered to a call, as an answer to a rule
+pub rule_or_none : (trees : List Tree) (text word arguments : List ℕ) → Bracketed text word arguments → (r : Result IdRule LineFault) → IfOk r (λ rule. IsCall wants_more word arguments (rule_at trees rule)) →
+    IfOk r (λ rule. IsRule text (rule_at trees rule))
+rule_or_none trees text word arguments brackets (Ok rule) call = called_rule wants_more text word arguments (rule_at trees rule) brackets call
+rule_or_none trees text word arguments brackets (Err why) call = tt
+
+pub no_rule_or_none : (text word arguments : List ℕ) → Bracketed text word arguments → ((r : Rule) → ¬ IsCall wants_place word arguments r) → ((r : Rule) → ¬ IsCall wants_two_places word arguments r) →
+    (r : Result IdRule LineFault) → IfErr r (IsFaultOf ((made : Rule) → ¬ IsCall wants_more word arguments made)) → IfErr r (IsFaultOf ((made : Rule) → ¬ IsRule text made))
+no_rule_or_none text word arguments brackets one two (Ok rule) fault = tt
+no_rule_or_none text word arguments brackets one two (Err why) fault = fault_of_whole (no_rule text word arguments brackets one two) why fault

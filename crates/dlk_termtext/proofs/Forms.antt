@@ -52,6 +52,17 @@ place_and_name_are text y at a b r = rw (comma_is text y at a) (place_and_name y
 pub place_and_formula_are : (text rest : List ℕ) (at : ℕ) (h : Tree) → NumberThen text 44 at rest → IsFormulaText rest h → (r : ℕ → Tree → Rule) → IsArguments (PlaceAndFormula r) text (r at h)
 place_and_formula_are text rest at h a b r = rw (comma_is text rest at a) (place_and_formula a.is_number b)
 
+-- without what stands behind the comma there are no arguments
+pub no_name_behind : (text rest : List ℕ) (at : ℕ) → NumberThen text 44 at rest → (¬ IsTrue (is_name rest)) → (r : ℕ → List ℕ → Rule) (made : Rule) → ¬ IsArguments (PlaceAndName r) text made
+no_name_behind text rest at number none r made is =
+    let p = argument_parts (PlaceAndName r) text made is in
+    none (rw (one_number_then text 44 at p.0 rest p.1 refl number p.2).1 p.3)
+
+pub no_formula_behind : (text rest : List ℕ) (at : ℕ) → NumberThen text 44 at rest → ((h : Tree) → ¬ IsFormulaText rest h) → (r : ℕ → Tree → Rule) (made : Rule) → ¬ IsArguments (PlaceAndFormula r) text made
+no_formula_behind text rest at number none r made is =
+    let p = argument_parts (PlaceAndFormula r) text made is in
+    none p.1 (rw (one_number_then text 44 at p.0 rest p.2 refl number p.3).1 p.4)
+
 -- a template has one rule for a text
 pub one_made : (template : Template) (text : List ℕ) (r s : Rule) → IsArguments template text r → IsArguments template text s → r ≡ s
 one_made (Place make) text r s a b =

@@ -9,18 +9,9 @@ use Rattle.dlk_tree.specs.Names.{is_name, is_name_byte}
 use Rattle.dlk_calculus.specs.Sequents.{Sequent}
 use Rattle.dlk_calculus.specs.Rules.{Rule}
 use Rattle.dlk_calculus.specs.Steps.{Step, Start, Apply, Rename}
-use Rattle.dlk_grammar.specs.Readings.{Literal, Nesting, Syntax, Shape, TooBig, TooDeep}
-use Rattle.dlk_grammar.specs.Texts.{SequentText, BadByte, Unread}
-use Rattle.dlk_grammar.specs.Texts.{TextFault as WhyNoText}
+use Rattle.dlk_grammar.specs.Texts.{SequentText}
 use Rattle.dlk_machine.proofs.TextLaws.{one_sequent_text}
-use Rattle.dlk_parse.specs.declared.fault.ParseFault.TheVariants as parse
-use Rattle.dlk_parse.specs.declared.fault.TextFault.{TextFault}
-use Rattle.dlk_parse.specs.declared.fault.TextFault.TheVariants as text_fault
-use Rattle.dlk_parse.specs.Faults.{IsTextFaultOf}
-use Rattle.dlk_termtext.specs.declared.line.LineFault.{LineFault}
-use Rattle.dlk_termtext.specs.declared.line.LineFault.TheVariants as fault
-use Rattle.dlk_termtext.specs.Read.{IsFaultOf, of_text}
-use Rattle.dlk_termtext.specs.Lines.{IsNumber, IsStep, start, apply, rename, Line, Numbered, Done, IsLine, numbered, done}
+use Rattle.dlk_termtext.specs.Lines.{IsNumber, IsRule, IsStep, start, apply, rename, Line, Numbered, Done, IsLine, numbered, done}
 use Rattle.dlk_termtext.specs.Parts.{Lacks, CutAt, NumberThen, FactGoalRule, FactNames}
 use Rattle.dlk_termtext.proofs.Cuts.{lacks_name, one_cut}
 use Rattle.dlk_termtext.proofs.Numbers.{one_number_then, number_cut, number_parts}
@@ -48,13 +39,13 @@ before_space i rest n is = record { digits = i; is_number = is; text_is = simp a
 
 pub step_parts : (text : List ℕ) (step : Step) → IsStep text step → StepParts text step
 step_parts _ _ (start {sequent} is) = record { rest = sequent; text_is = refl; behind = is }
-step_parts _ _ (apply {f} {g} {r} {fact} {goal} {made} a b c) = record {
+step_parts _ _ (apply {f} {g} {r} {fact} {goal} {rule} a b c) = record {
   rest = f ++ codes " " ++ g ++ codes " " ++ r;
   text_is = simp append_assoc;
   behind = record {
     behind_fact = g ++ codes " " ++ r;
     behind_goal = r;
-    fact_is = rw append_assoc (rw append_assoc (before_space f (g ++ codes " " ++ r) fact a));
+    fact_is = record { digits = f; is_number = a; text_is = simp append_assoc };
     goal_is = before_space g r goal b;
     rule_is = c;
   };
@@ -64,7 +55,7 @@ step_parts _ _ (rename {f} {x} {y} {fact} a b c) = record {
   text_is = simp append_assoc;
   behind = record {
     behind_fact = x ++ codes " " ++ y;
-    fact_is = rw append_assoc (rw append_assoc (before_space f (x ++ codes " " ++ y) fact a));
+    fact_is = record { digits = f; is_number = a; text_is = simp append_assoc };
     first_name = b;
     second_name = c;
     names_are = refl;
@@ -122,29 +113,34 @@ no_rename text rest begins none (Rename fact x y) is =
 -- a step begins with one of the words
 pub no_opening : (text : List ℕ) → ((rest : List ℕ) → text ≢ codes "start " ++ rest) → ((rest : List ℕ) → text ≢ codes "apply " ++ rest) → ((rest : List ℕ) → text ≢ codes "rename " ++ rest) →
     (step : Step) → ¬ IsStep text step
-no_opening text start apply rename (Start s) is = let h = step_parts text (Start s) is in start h.rest h.text_is
-no_opening text start apply rename (Apply fact goal r) is = let h = step_parts text (Apply fact goal r) is in apply h.rest h.text_is
-no_opening text start apply rename (Rename fact x y) is = let h = step_parts text (Rename fact x y) is in rename h.rest h.text_is
+no_opening text a b c (Start s) is = let h = step_parts text (Start s) is in a h.rest h.text_is
+no_opening text a b c (Apply fact goal r) is = let h = step_parts text (Apply fact goal r) is in b h.rest h.text_is
+no_opening text a b c (Rename fact x y) is = let h = step_parts text (Rename fact x y) is in c h.rest h.text_is
 
 -- a fact and two names: the first name ends at the first space behind the fact
 pub names_cut : (text : List ℕ) (fact : ℕ) (x y : List ℕ) (h : FactNames text fact x y) → CutAt h.behind_fact 32 x y
 names_cut text fact x y h = record { text_is = h.names_are ∙ simp append_assoc; first = lacks_name x h.first_name }
 
--- A text that isn't read makes its line Malformed, where each fault of the text speaks against the line.
-pub text_refused : {holds : Type 0} (is_fault : WhyNoText → Type 0) → ((why : WhyNoText) → is_fault why → holds) → (why : TextFault) → IsTextFaultOf is_fault why → IsFaultOf holds (of_text why)
-text_refused is_fault against (text_fault.BadByte at) f = against (BadByte at) f
-text_refused is_fault against (text_fault.Unread (parse.Literal at)) f = against (Unread (Literal at)) f
-text_refused is_fault against (text_fault.Unread (parse.Nesting at)) f = against (Unread (Nesting at)) f
-text_refused is_fault against (text_fault.Unread parse.Syntax) f = against (Unread Syntax) f
-text_refused is_fault against (text_fault.Unread (parse.Shape at)) f = against (Unread (Shape at)) f
-text_refused is_fault against (text_fault.Unread (parse.TooBig size)) f = against (Unread (TooBig size)) f
-text_refused is_fault against (text_fault.Unread (parse.TooDeep depth)) f = against (Unread (TooDeep depth)) f
-text_refused is_fault against (text_fault.Unread parse.Memory) f = tt
+pub names_are : (text rest : List ℕ) (fact : ℕ) (x y : List ℕ) → NumberThen text 32 fact rest → CutAt rest 32 x y → IsTrue (is_name x) → IsTrue (is_name y) → FactNames text fact x y
+names_are text rest fact x y number cut a b = record { behind_fact = rest; fact_is = number; first_name = a; second_name = b; names_are = cut.text_is ∙ simp append_assoc }
 
--- a fault of a part is one of the whole, where the whole needs the part
-pub fault_of_whole : {part whole : Type 0} → (part → whole) → (why : LineFault) → IsFaultOf part why → IsFaultOf whole why
-fault_of_whole up fault.Malformed f = up f
-fault_of_whole up fault.Memory f = tt
+-- a text without a rule behind its goal, or without one of its names
+pub no_rule_behind : (text names rest : List ℕ) (fact goal : ℕ) → NumberThen text 32 fact names → NumberThen names 32 goal rest → ((made : Rule) → ¬ IsRule rest made) → (f g : ℕ) (made : Rule) → ¬ FactGoalRule text f g made
+no_rule_behind text names rest fact goal a b none f g made is =
+    let first = one_number_then text 32 fact f names is.behind_fact refl a is.fact_is in
+    let second = one_number_then names 32 goal g rest is.behind_goal refl b (rw first.1 is.goal_is) in
+    none made (rw second.1 is.rule_is)
+
+pub same_names : (text names : List ℕ) (fact : ℕ) (front rest : List ℕ) → NumberThen text 32 fact names → CutAt names 32 front rest → (f : ℕ) (x y : List ℕ) → FactNames text f x y → (front ≡ x) × (rest ≡ y)
+same_names text names fact front rest a b f x y is =
+    let first = one_number_then text 32 fact f names is.behind_fact refl a is.fact_is in
+    one_cut names 32 front x rest y b (rw first.1 (names_cut text f x y is))
+
+pub no_first_name : (text names : List ℕ) (fact : ℕ) (front rest : List ℕ) → NumberThen text 32 fact names → CutAt names 32 front rest → (¬ IsTrue (is_name front)) → (f : ℕ) (x y : List ℕ) → ¬ FactNames text f x y
+no_first_name text names fact front rest a b none f x y is = none (rw (same_names text names fact front rest a b f x y is).0 is.first_name)
+
+pub no_second_name : (text names : List ℕ) (fact : ℕ) (front rest : List ℕ) → NumberThen text 32 fact names → CutAt names 32 front rest → (¬ IsTrue (is_name rest)) → (f : ℕ) (x y : List ℕ) → ¬ FactNames text f x y
+no_second_name text names fact front rest a b none f x y is = none (rw (same_names text names fact front rest a b f x y is).1 is.second_name)
 
 -- what a line's text is made of
 pub record NumberedParts (text : List ℕ) (n : ℕ) (step : Step) : Type 0 where
@@ -181,18 +177,17 @@ no_step text rest place other number_is none Done is = other (line_parts text Do
 
 -- a text says one line
 
-same_rest : (word rest behind text : List ℕ) → text ≡ word ++ rest → text ≡ word ++ behind → rest ≡ behind
-same_rest word rest behind text a b = append_cancel_left word rest behind (sym a ∙ b)
-
 pub one_step : (text : List ℕ) (s t : Step) → IsStep text s → IsStep text t → s ≡ t
 one_step text (Start s) (Start t) a b =
     let h = step_parts text (Start s) a in
     let k = step_parts text (Start t) b in
-    ap Start (one_sequent_text k.rest s t (rw (← same_rest _ _ _ text h.text_is k.text_is) h.behind) k.behind)
+    let same : h.rest ≡ k.rest = append_cancel_left (codes "start ") h.rest k.rest (sym h.text_is ∙ k.text_is) in
+    ap Start (one_sequent_text k.rest s t (rw (← same) h.behind) k.behind)
 one_step text (Apply fact goal r) (Apply fact' goal' r') a b =
     let h = step_parts text (Apply fact goal r) a in
     let k = step_parts text (Apply fact' goal' r') b in
-    let p : FactGoalRule k.rest fact goal r = rw (← same_rest _ _ _ text h.text_is k.text_is) h.behind in
+    let same : h.rest ≡ k.rest = append_cancel_left (codes "apply ") h.rest k.rest (sym h.text_is ∙ k.text_is) in
+    let p : FactGoalRule k.rest fact goal r = rw (← same) h.behind in
     let q = k.behind in
     let facts = one_number_then k.rest 32 fact fact' p.behind_fact q.behind_fact refl p.fact_is q.fact_is in
     let goals = one_number_then q.behind_fact 32 goal goal' p.behind_goal q.behind_goal refl (rw (← facts.1) p.goal_is) q.goal_is in
@@ -201,7 +196,8 @@ one_step text (Apply fact goal r) (Apply fact' goal' r') a b =
 one_step text (Rename fact x y) (Rename fact' x' y') a b =
     let h = step_parts text (Rename fact x y) a in
     let k = step_parts text (Rename fact' x' y') b in
-    let p : FactNames k.rest fact x y = rw (← same_rest _ _ _ text h.text_is k.text_is) h.behind in
+    let same : h.rest ≡ k.rest = append_cancel_left (codes "rename ") h.rest k.rest (sym h.text_is ∙ k.text_is) in
+    let p : FactNames k.rest fact x y = rw (← same) h.behind in
     let q = k.behind in
     let facts = one_number_then k.rest 32 fact fact' p.behind_fact q.behind_fact refl p.fact_is q.fact_is in
     let names = one_cut q.behind_fact 32 x x' y y' (rw (← facts.1) (names_cut k.rest fact x y p)) (names_cut k.rest fact' x' y' q) in

@@ -1,15 +1,15 @@
 -- The words of the rules.
-use Rattle.std.proofs.Common.{◌≡◌, ◌≢◌, ℕ, zero, suc, ◌<◌, Bool, true, false, List, [], ◌∷◌, get_or, Option, Some, None, refl, sym, ap, ◌∙◌, inl, inr, arith}
+use Rattle.std.proofs.Common.{◌≡◌, ◌≢◌, ℕ, zero, suc, ◌<◌, ◌≤◌, Bool, true, false, List, [], ◌∷◌, get_or, Option, Some, None, refl, sym, ap, ◌∙◌, inl, inr, arith}
 use Rattle.std.specs.Prelude.{IsTrue, IfSome, option_and_then, codes}
 use Rattle.std.specs.List.{list_all, AllPass}
 use Rattle.std.specs.Str.{bytes_eq, IsAscii, IsUtf8}
-use Rattle.std.proofs.lemmas.Bool.{cases_Bool, and_parts, cond-true, cond-false}
+use Rattle.std.proofs.lemmas.Bool.{cases_Bool, and_parts, leb-true, cond-true, cond-false}
 use Rattle.std.proofs.lemmas.Option.{same_Some}
 use Rattle.std.proofs.lemmas.List.Sums.{AllPass-from_list_all}
 use Rattle.std.proofs.lemmas.Slice.Eq.{bytes_eq-Decides}
 use Rattle.std.proofs.lemmas.Str.{IsUtf8-from_ascii}
 use Rattle.dlk_machine.proofs.Formed.{Each}
-use Rattle.dlk_tree.specs.Names.{is_letter}
+use Rattle.dlk_tree.specs.Names.{is_between, is_letter}
 use Rattle.dlk_calculus.specs.Rules.{Cut, CutL, CutR, BoundL, BoundR}
 use Rattle.dlk_termtext.specs.Words.{Template, PlaceAndName, PlaceAndFormula, OneFormula, words, look_up, template_of}
 use Rattle.dlk_termtext.specs.Parts.{Lacks}
@@ -58,7 +58,11 @@ ascii (b ∷ bs) all =
     elim_index (letter_low b h.0) (ascii bs h.1)
   where
     letter_low : (c : ℕ) → is_letter c ≡ true → c < 128
-    letter_low c letter = ?
+    letter_low c letter =
+        elim (cases_Bool (is_between 65 90 c)) [
+          | inl upper ↦ let high : c ≤ 90 = leb-true c 90 (and_parts _ _ upper).1 in omega arith
+          | inr other ↦ let lower : is_between 97 122 c ≡ true = rw other at letter in let high : c ≤ 122 = leb-true c 122 (and_parts _ _ lower).1 in omega arith
+        ]
 
     elim_index : b < 128 → IsAscii bs → IsAscii (b ∷ bs)
     elim_index low more zero = low

@@ -48,11 +48,7 @@ pub(crate) fn place_and_name(alloc: Global, text: &[u8]) -> Result<(u32, Name), 
 }
 
 /// The formula of which the bytes are a text, in which no dot stands.
-pub(crate) fn formula<S: Store>(
-    alloc: Global,
-    text: &[u8],
-    store: &mut S,
-) -> Result<Id, LineFault>
+pub(crate) fn formula<S: Store>(alloc: Global, text: &[u8], store: &mut S) -> Result<Id, LineFault>
     ensures found { IfOk result (λ h. IsFormulaText text.now (tree (S.trees store.new) h)) }
     ensures known { IfOk result (IsId (S.trees store.new)) }
     ensures fault { IfErr result (IsFaultOf ((h : Tree) → ¬ IsFormulaText text.now h)) }

@@ -120,9 +120,15 @@ fn reads_rules_with_places(rt: HostRuntime) -> Result<(), Fail> {
 fn reads_names(rt: HostRuntime) -> Result<(), Fail> {
     let alloc = rt.alloc();
     let left = Rule::BoundL(4, Name::new(alloc, b"y_1")?);
-    assert_eq!(rt; applied(&rt, "1 apply 2 3 boundL(4,y_1)"), Some((2, 3, left)));
+    assert_eq!(rt;
+        applied(&rt, "1 apply 2 3 boundL(4,y_1)"),
+        Some((2, 3, left))
+    );
     let right = Rule::BoundR(5, Name::new(alloc, b"trueX")?);
-    assert_eq!(rt; applied(&rt, "1 apply 2 3 boundR(5,trueX)"), Some((2, 3, right)));
+    assert_eq!(rt;
+        applied(&rt, "1 apply 2 3 boundR(5,trueX)"),
+        Some((2, 3, right))
+    );
     let names = (2, Name::new(alloc, b"x")?, Name::new(alloc, b"True")?);
     assert_eq!(rt; renamed(&rt, "1 rename 2 x True"), Some(names));
     Ok(())

@@ -5,7 +5,7 @@ use Rattle.dlk_termtext.specs.Lines.{IsFormulaText}
 use Rattle.dlk_grammar.specs.declared.token.Form.TheVariants.{Formula}
 use Rattle.dlk_grammar.specs.declared.token.Dots.TheVariants.{Refused}
 use Rattle.dlk_machine.proofs.TextLaws.{tree_or_fault}
-use Rattle.dlk_termtext.proofs.LineForms.{text_refused}
+use Rattle.dlk_termtext.proofs.Refusals.{text_refused}
 use Rattle.dlk_termtext.proofs.arguments.formula.Goals as goal
 
 pub returns-in_err-id-clause-fault : goal.returns-in_err-id-clause-fault

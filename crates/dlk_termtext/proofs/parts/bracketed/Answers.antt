@@ -14,8 +14,8 @@ returns-in_err-arguments-clause-none c =
     let rest = c.in_ok-word.rest.now in
     let open_end : (front : List ℕ) → rest ≢ front ++ c.as_slice.result.now = strip_suffix_is Decides-eqb rest c.as_slice.result.now None c.in_err-arguments.ensures.cases in
     if_none c.from_residual-in_err-arguments.result (λ word arguments is.
-        let same = one_cut c.args.text.now 40 c.in_ok-word.word.now word rest (arguments ++ codes ")") c.in_ok-word.ensures.found (cut_bracketed c.args.text.now word arguments is) in
-        open_end arguments (rw c.as_slice.ensures same.1))
+    let same = one_cut c.args.text.now 40 c.in_ok-word.word.now word rest (arguments ++ codes ")") c.in_ok-word.ensures.found (cut_bracketed c.args.text.now word arguments is) in
+    open_end arguments (rw c.as_slice.ensures same.1))
 
 pub returns-clause-found : goal.returns-clause-found
 returns-clause-found c =
