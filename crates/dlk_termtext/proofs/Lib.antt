@@ -1,3 +1,7 @@
+pub mod Cuts
 pub mod Numbers
+pub mod WordLaws
+pub mod Refusals
 pub mod Forms
+pub mod Calls
 pub mod LineForms

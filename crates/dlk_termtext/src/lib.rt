@@ -1,11 +1,14 @@
 //! The lines of proof-term files.
 #![tactic(auto)]
 
+mod arguments;
 mod laws;
 mod line;
 mod number;
+mod parts;
 mod reading;
 mod rule;
+mod words;
 
 pub use laws::one_line;
 pub use line::{Line, LineFault};
