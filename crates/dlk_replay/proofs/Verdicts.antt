@@ -6,7 +6,7 @@ use Rattle.std.specs.Prelude.{◌==◌, if◌then◌else◌}
 use Rattle.dlk_calculus.specs.Provables.{Provable}
 use Rattle.dlk_calculus.specs.Steps.{Step, StepOf, Fault, History}
 use Rattle.dlk_calculus.specs.declared.reason.Reason.{Reason}
-use Rattle.dlk_calculus.specs.declared.reason.Reason.TheVariants.{NoFact, NoGoal, UnknownName, NoPlace, WrongShape, NotEqual, NotFresh, NotArith}
+use Rattle.dlk_calculus.specs.declared.reason.Reason.TheVariants.{NoFact, NoGoal, UnknownName, NoPlace, WrongShape, NotEqual, NotFresh, NotArith, IllSubst, FreeInSubst, NotAdmissible}
 use Rattle.dlk_calculus.specs.Reasons.{rank}
 use Rattle.dlk_calculus.proofs.StepLaws.{one_given, step_cases, StepOf-given}
 use Rattle.dlk_calculus.proofs.Histories.{History-none, History-more}
@@ -26,7 +26,7 @@ as_many _ _ (one_more {lines} {rows} {line} {step} {p} before is given) =
 
 -- the reason of a place in their order
 reason_of : ℕ → Reason
-reason_of n = if n == 1 then NoFact else if n == 2 then NoGoal else if n == 3 then UnknownName else if n == 4 then NoPlace else if n == 5 then WrongShape else if n == 6 then NotEqual else if n == 7 then NotFresh else NotArith
+reason_of n = if n == 1 then NoFact else if n == 2 then NoGoal else if n == 3 then UnknownName else if n == 4 then NoPlace else if n == 5 then WrongShape else if n == 6 then NotEqual else if n == 7 then NotFresh else if n == 8 then NotArith else if n == 9 then IllSubst else if n == 10 then FreeInSubst else NotAdmissible
 
 ranked : (a : Reason) → reason_of (rank a) ≡ a
 ranked NoFact = refl
@@ -37,6 +37,9 @@ ranked WrongShape = refl
 ranked NotEqual = refl
 ranked NotFresh = refl
 ranked NotArith = refl
+ranked IllSubst = refl
+ranked FreeInSubst = refl
+ranked NotAdmissible = refl
 
 one_rank : (a b : Reason) → rank a ≡ rank b → a ≡ b
 one_rank a b e = sym (ranked a) ∙ ap reason_of e ∙ ranked b

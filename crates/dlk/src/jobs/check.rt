@@ -36,6 +36,9 @@ fn reason_word(why: Reason) -> &'static str
         Reason::NotEqual => "NotEqual",
         Reason::NotFresh => "NotFresh",
         Reason::NotArith => "NotArith",
+        Reason::IllSubst => "IllSubst",
+        Reason::FreeInSubst => "FreeInSubst",
+        Reason::NotAdmissible => "NotAdmissible",
     }
 }
 
