@@ -7,7 +7,9 @@ ghost use Rattle.dlk_sequent.specs.Sequents.{sequent_at, IsKnown};
 ghost use Rattle.dlk_kernel.specs.Faults.{IsStepFault};
 ghost use Rattle.dlk_kernel.specs.Kernel.{provable_at, provables_at, IsKnownRow};
 
+use crate::facts::leaf;
 use crate::fault::StepFault;
+use crate::merging::merge;
 use crate::renaming::{swap_sequent, swap_sequents};
 use crate::row::Row;
 use dlk_calculus::Reason;
@@ -147,7 +149,11 @@ pub(crate) fn give<S: Store, L: Ledger>(
 {
     match step {
         Step::Start(s) => start(alloc, store, s, steps),
+        Step::Axiom(_) => Err(StepFault::Memory),
+        Step::AxRule(_) => Err(StepFault::Memory),
+        Step::Leaf(s) => leaf(alloc, store, s, steps),
         Step::Apply { fact, goal, rule } => apply(alloc, store, rows, *fact, *goal, rule, steps),
+        Step::Merge { fact, goal, by } => merge(alloc, store, rows, *fact, *goal, *by),
         Step::Rename { fact, x, y } => rename(alloc, store, rows, *fact, x, y, steps),
     }
 }

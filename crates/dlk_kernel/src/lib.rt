@@ -1,9 +1,11 @@
 //! The kernel: provables that it alone makes, each by a step of the calculus.
 #![tactic(auto)]
 
+mod facts;
 mod fault;
 mod given;
 mod kernel;
+mod merging;
 mod renaming;
 mod row;
 
