@@ -1,7 +1,7 @@
-//! The rows of steps that need no others: sequents of arithmetic.
+//! The rows of steps that need no others: axioms, axiomatic rules and sequents of arithmetic.
 ghost use Rattle.std.specs.Prelude.{List, All, IfOk, IfErr};
 ghost use Rattle.dlk_calculus.specs.Provables.{Provable};
-ghost use Rattle.dlk_calculus.specs.Steps.{Leaf, Gives, Fault};
+ghost use Rattle.dlk_calculus.specs.Steps.{UseAxiom, UseRule, Leaf, Gives, Fault};
 ghost use Rattle.dlk_sequent.specs.Sequents.{sequent_at, IsKnown};
 ghost use Rattle.dlk_kernel.specs.Faults.{IsStepFault};
 ghost use Rattle.dlk_kernel.specs.Kernel.{provable_at, IsKnownRow};
@@ -11,8 +11,71 @@ use crate::row::Row;
 use dlk_calculus::Reason;
 use dlk_sequent::{Listed, Sequent, is_arith, is_sequent};
 use dlk_store::{Steps, Store};
+use dlk_tree::Name;
 use std::alloc::Global;
 use std::sync::ledger::Ledger;
+
+/// An axiom, without goals and leaves:
+///
+/// ```text
+///
+/// -------------
+/// ==> the axiom
+/// ```
+pub(crate) fn axiom<S: Store>(
+    alloc: Global,
+    store: &mut S,
+    name: &Name,
+) -> Result<Row, StepFault>
+    ensures given { IfOk result (λ row. (rows : List Provable) → Gives rows (UseAxiom name.now) (provable_at (S.trees store.new) row)) }
+    ensures known { IfOk result (IsKnownRow (S.trees store.new)) }
+    ensures fault { IfErr result (IsStepFault (λ why. (rows : List Provable) → Fault rows (UseAxiom name.now) why)) }
+    ensures grows { S.grows store.old store.new }
+{
+    let Some(formula) = dlk_axioms::axiom(alloc, store, name.bytes())? else {
+        return Err(StepFault::Refused(Reason::UnknownName));
+    };
+    let mut succ = Listed::new(alloc);
+    succ.push(formula)?;
+    let ante = Listed::new(alloc);
+    let goals = Listed::new(alloc);
+    let leaves = Listed::new(alloc);
+    Ok(Row {
+        conclusion: Sequent { ante, succ },
+        goals,
+        leaves,
+    })
+}
+
+/// An axiomatic rule, without leaves:
+///
+/// ```text
+/// ==> the rule's premise
+/// -------------------------
+/// ==> the rule's conclusion
+/// ```
+pub(crate) fn axiomatic_rule<S: Store>(
+    alloc: Global,
+    store: &mut S,
+    name: &Name,
+) -> Result<Row, StepFault>
+    ensures given { IfOk result (λ row. (rows : List Provable) → Gives rows (UseRule name.now) (provable_at (S.trees store.new) row)) }
+    ensures known { IfOk result (IsKnownRow (S.trees store.new)) }
+    ensures fault { IfErr result (IsStepFault (λ why. (rows : List Provable) → Fault rows (UseRule name.now) why)) }
+    ensures grows { S.grows store.old store.new }
+{
+    let Some((premises, conclusion)) = dlk_axioms::axiomatic_rule(alloc, store, name.bytes())?
+    else {
+        return Err(StepFault::Refused(Reason::UnknownName));
+    };
+    let goals = Listed::from_vec(premises);
+    let leaves = Listed::new(alloc);
+    Ok(Row {
+        conclusion,
+        goals,
+        leaves,
+    })
+}
 
 /// A sequent of arithmetic, without goals. It is a leaf of its own:
 ///

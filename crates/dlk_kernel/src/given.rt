@@ -7,7 +7,7 @@ ghost use Rattle.dlk_sequent.specs.Sequents.{sequent_at, IsKnown};
 ghost use Rattle.dlk_kernel.specs.Faults.{IsStepFault};
 ghost use Rattle.dlk_kernel.specs.Kernel.{provable_at, provables_at, IsKnownRow};
 
-use crate::facts::leaf;
+use crate::facts::{axiom, axiomatic_rule, leaf};
 use crate::fault::StepFault;
 use crate::merging::merge;
 use crate::renaming::{swap_sequent, swap_sequents};
@@ -149,8 +149,8 @@ pub(crate) fn give<S: Store, L: Ledger>(
 {
     match step {
         Step::Start(s) => start(alloc, store, s, steps),
-        Step::Axiom(_) => Err(StepFault::Memory),
-        Step::AxRule(_) => Err(StepFault::Memory),
+        Step::Axiom(name) => axiom(alloc, store, name),
+        Step::AxRule(name) => axiomatic_rule(alloc, store, name),
         Step::Leaf(s) => leaf(alloc, store, s, steps),
         Step::Apply { fact, goal, rule } => apply(alloc, store, rows, *fact, *goal, rule, steps),
         Step::Merge { fact, goal, by } => merge(alloc, store, rows, *fact, *goal, *by),
