@@ -1,0 +1,96 @@
+-- The canonical texts of the axioms and the axiomatic rules are texts of their formulas, and of nothing else.
+use Rattle.std.proofs.Common.{◌≡◌, ℕ, refl, sym, ap, subst, ◌∙◌, Bool, true, false, cond, ◌&&◌, List, [], ◌∷◌, map, Option, Some, find}
+use Rattle.std.specs.Prelude.{IsTrue, nat_le}
+use Rattle.std.specs.List.{All, list_all}
+use Rattle.std.specs.Str.{bytes_eq}
+use Rattle.std.proofs.lemmas.Bool.{leb-true, and_parts}
+use Rattle.std.proofs.lemmas.Option.{none-some, same_Some}
+use Rattle.dlk_tree.specs.declared.op.Sort.{Sort}
+use Rattle.std.proofs.lemmas.List.Folds.{list_all-map}
+use Rattle.std.proofs.lemmas.List.Sums.{AllPass-from_list_all}
+use denote.Ref.{Bor}
+use Rattle.dlk_tree.specs.Names.{is_name}
+use Rattle.dlk_tree.specs.Trees.{Tree, size, depth}
+use Rattle.dlk_calculus.specs.Axioms.{Axiom, AxiomaticRule, axioms, axiom_named, axiomatic_rules, rule_named}
+use Rattle.dlk_calculus.specs.Sequents.{IsFormula}
+use Rattle.dlk_calculus.proofs.AxiomLaws.{axiom_formula, rule_formulas}
+use Rattle.dlk_grammar.specs.declared.token.Dots.TheVariants.{Refused}
+use Rattle.dlk_grammar.specs.declared.token.Form.TheVariants.{Formula}
+use Rattle.dlk_grammar.specs.Readings.{most_nodes, greatest_depth}
+use Rattle.dlk_grammar.specs.Shown.{spell, shown}
+use Rattle.dlk_grammar.specs.Texts.{TreeText}
+use Rattle.dlk_grammar.specs.Texts.{TreeTextFault, BadByte, Unread}
+use Rattle.dlk_grammar.specs.Readings.{Literal, Nesting, Syntax, Shape, TooBig, TooDeep}
+use Rattle.dlk_machine.proofs.TextLaws.{tree_or_fault}
+use Rattle.dlk_parse.specs.Faults.{IsTextFaultOf}
+use Rattle.dlk_parse.specs.declared.fault.ParseFault.TheVariants as parse
+use Rattle.dlk_parse.specs.declared.fault.TextFault.{TextFault}
+use Rattle.dlk_parse.specs.declared.fault.TextFault.TheVariants as text
+use Rattle.dlk_readback.specs.Readable.{form_of, IsWithinLimits}
+use Rattle.dlk_readback.proofs.Whole.{tree_text}
+use Rattle.dlk_axioms.specs.declared.table.AxiomRow.{AxiomRow}
+use Rattle.dlk_axioms.specs.declared.table.RuleRow.{RuleRow}
+use Rattle.dlk_axioms.specs.Rows.{AxiomText, RuleText, said, said_of_rule, canonical, canonical_rule}
+
+-- the test of what is within the limits
+abbrev fits : Tree → Bool
+fits t = nat_le (size t) most_nodes && nat_le (depth t) greatest_depth
+
+-- what is found in a list passes a test that all its items pass
+found_passes : {A : Type 0} (test sought : A → Bool) (xs : List A) (x : A) → list_all test xs ≡ true → find sought xs ≡ Some x → test x ≡ true
+found_passes test sought [] x all e = absurd (none-some x e)
+found_passes test sought (y ∷ xs) x all e =
+    let both = and_parts (test y) (list_all test xs) all in
+    go both.0 (found_passes test sought xs x both.1) (sought y) e
+  where
+    go : test y ≡ true → (find sought xs ≡ Some x → test x ≡ true) → (b : Bool) → cond b (Some y) (find sought xs) ≡ Some x → test x ≡ true
+    go here rest true h = subst (λ z. test z ≡ true) (same_Some y x h) here
+    go here rest false h = rest h
+
+within : (t : Tree) → fits t ≡ true → IsWithinLimits t
+within t h =
+    let both = and_parts (nat_le (size t) most_nodes) (nat_le (depth t) greatest_depth) h in
+    record { small = leb-true (size t) most_nodes both.0; shallow = leb-true (depth t) greatest_depth both.1 }
+
+formula_text : (t : Tree) → IsFormula t → fits t ≡ true → TreeText Formula Refused (spell (shown t)) t
+formula_text t f h =
+    let read = tree_text Refused t (record { well_made = f.well_made; limits = within t h; permitted = (f.no_dot, f.no_hole) }) in
+    subst (λ (s : Sort). TreeText (form_of s) Refused (spell (shown t)) t) f.sort_is read
+
+axiom_text : (name : List ℕ) (a : Axiom) → axiom_named name ≡ Some a → TreeText Formula Refused (spell (shown a.formula)) a.formula
+axiom_text name a e = formula_text a.formula (axiom_formula name a e) (found_passes (λ (x : Axiom). fits x.formula) (λ (x : Axiom). bytes_eq x.name name) axioms a refl e)
+
+-- the text of an axiom's row is one of its formula
+pub axiom_row_text : (name : List ℕ) (a : Axiom) (row : AxiomRow) → axiom_named name ≡ Some a → said row ≡ canonical a → TreeText Formula Refused row.text.now a.formula
+axiom_row_text name a row e same = subst (λ (bytes : List ℕ). TreeText Formula Refused bytes a.formula) (sym (ap (λ (x : AxiomText). x.text) same)) (axiom_text name a e)
+
+module _ (name : List ℕ) (r : AxiomaticRule) (row : RuleRow) (e : rule_named name ≡ Some r) (same : said_of_rule row ≡ canonical_rule r) where
+  -- the texts of a rule's row are those of its premise and of its conclusion
+  pub premise_text : TreeText Formula Refused row.premise.now r.premise
+  premise_text =
+      let text = formula_text r.premise (rule_formulas name r e).0 (found_passes (λ (x : AxiomaticRule). fits x.premise) (λ (x : AxiomaticRule). bytes_eq x.name name) axiomatic_rules r refl e) in
+      subst (λ (bytes : List ℕ). TreeText Formula Refused bytes r.premise) (sym (ap (λ (x : RuleText). x.premise) same)) text
+
+  pub conclusion_text : TreeText Formula Refused row.conclusion.now r.conclusion
+  conclusion_text =
+      let text = formula_text r.conclusion (rule_formulas name r e).1 (found_passes (λ (x : AxiomaticRule). fits x.conclusion) (λ (x : AxiomaticRule). bytes_eq x.name name) axiomatic_rules r refl e) in
+      subst (λ (bytes : List ℕ). TreeText Formula Refused bytes r.conclusion) (sym (ap (λ (x : RuleText). x.conclusion) same)) text
+
+
+-- the own names of an axiom's row are names
+pub own_names_are_names : (name : List ℕ) (a : Axiom) (row : AxiomRow) → axiom_named name ≡ Some a → said row ≡ canonical a → All (λ (word : Bor (List ℕ)). IsTrue (is_name word.now)) row.own_names.now
+own_names_are_names name a row e same =
+    let names : list_all is_name a.own_names ≡ true = found_passes (λ (x : Axiom). list_all is_name x.own_names) (λ (x : Axiom). bytes_eq x.name name) axioms a refl e in
+    AllPass-from_list_all (λ (word : Bor (List ℕ)). is_name word.now) row.own_names.now
+    (sym (list_all-map is_name (λ (word : Bor (List ℕ)). word.now) row.own_names.now) ∙ ap (λ (x : AxiomText). list_all is_name x.own_names) same ∙ names)
+
+-- a text of a formula has no fault, so what went wrong with it is that memory ran out
+pub only_memory : (bytes : List ℕ) (t : Tree) → TreeText Formula Refused bytes t → (fault : TextFault) → IsTextFaultOf (TreeTextFault Formula Refused bytes) fault → fault ≡ text.Unread parse.Memory
+only_memory bytes t is (text.BadByte at) h = absurd (tree_or_fault Formula Refused bytes t (BadByte at) is h)
+only_memory bytes t is (text.Unread (parse.Literal at)) h = absurd (tree_or_fault Formula Refused bytes t (Unread (Literal at)) is h)
+only_memory bytes t is (text.Unread (parse.Nesting at)) h = absurd (tree_or_fault Formula Refused bytes t (Unread (Nesting at)) is h)
+only_memory bytes t is (text.Unread parse.Syntax) h = absurd (tree_or_fault Formula Refused bytes t (Unread Syntax) is h)
+only_memory bytes t is (text.Unread (parse.Shape at)) h = absurd (tree_or_fault Formula Refused bytes t (Unread (Shape at)) is h)
+only_memory bytes t is (text.Unread (parse.TooBig size)) h = absurd (tree_or_fault Formula Refused bytes t (Unread (TooBig size)) is h)
+only_memory bytes t is (text.Unread (parse.TooDeep depth)) h = absurd (tree_or_fault Formula Refused bytes t (Unread (TooDeep depth)) is h)
+only_memory bytes t is (text.Unread parse.Memory) h = refl
