@@ -1,6 +1,7 @@
 pub mod Growth
 pub mod RowLaws
-pub mod FactLaws
+pub mod AxiomRows
+pub mod LeafLaws
 pub mod MergeLaws
 pub mod Reading
 pub mod Renamed

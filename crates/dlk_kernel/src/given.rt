@@ -7,8 +7,9 @@ ghost use Rattle.dlk_sequent.specs.Sequents.{sequent_at, IsKnown};
 ghost use Rattle.dlk_kernel.specs.Faults.{IsStepFault};
 ghost use Rattle.dlk_kernel.specs.Kernel.{provable_at, provables_at, IsKnownRow};
 
-use crate::facts::{axiom, axiomatic_rule, leaf};
+use crate::axioms::{axiom, axiomatic_rule};
 use crate::fault::StepFault;
+use crate::leaves::leaf;
 use crate::merging::merge;
 use crate::renaming::{swap_sequent, swap_sequents};
 use crate::row::Row;

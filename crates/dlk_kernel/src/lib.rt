@@ -1,10 +1,11 @@
 //! The kernel: provables that it alone makes, each by a step of the calculus.
 #![tactic(auto)]
 
-mod facts;
+mod axioms;
 mod fault;
 mod given;
 mod kernel;
+mod leaves;
 mod merging;
 mod renaming;
 mod row;

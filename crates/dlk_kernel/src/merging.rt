@@ -1,54 +1,16 @@
-//! Facts in the place of goals.
-ghost use Rattle.std.specs.Prelude.{◌↔◌, map, All, IfOk, IfErr, IsTrue};
-ghost use Rattle.dlk_calculus.specs.Provables.{IsAmong, Joins};
+//! A fact in the place of another's goal.
+ghost use Rattle.std.specs.Prelude.{All, IfOk, IfErr};
 ghost use Rattle.dlk_calculus.specs.Steps.{Merge, Gives, Fault};
-ghost use Rattle.dlk_sequent.specs.Sequents.{sequent_at, IsKnown};
 ghost use Rattle.dlk_kernel.specs.Faults.{IsStepFault};
 ghost use Rattle.dlk_kernel.specs.Kernel.{provable_at, provables_at, IsKnownRow};
 
 use crate::fault::StepFault;
+use crate::leaves::join;
 use crate::row::Row;
 use dlk_calculus::Reason;
-use dlk_sequent::{Listed, Sequent, item_at, same_sequent};
+use dlk_sequent::{item_at, same_sequent};
 use dlk_store::Store;
-use std::alloc::{AllocError, Global};
-
-/// Whether the sequent is the same as one of these.
-fn is_among<S: Store>(store: &S, all: &[Sequent], s: &Sequent) -> bool
-    requires all { All (IsKnown (S.trees store.now)) all.now }
-    requires known { IsKnown (S.trees store.now) s.now }
-    ensures { IsTrue result ↔ IsAmong (sequent_at (S.trees store.now) s.now) (map (sequent_at (S.trees store.now)) all.now) }
-{
-    for t in all {
-        if same_sequent(store, s, t) {
-            return true;
-        }
-    }
-    false
-}
-
-/// The old leaves, and behind them, in their order, those of `more` that aren't there yet.
-fn join<S: Store>(
-    alloc: Global,
-    store: &S,
-    old: &Listed<Sequent>,
-    more: &[Sequent],
-) -> Result<Listed<Sequent>, AllocError>
-    requires old { All (IsKnown (S.trees store.now)) old.now }
-    requires more { All (IsKnown (S.trees store.now)) more.now }
-    ensures joined { IfOk result (λ all. Joins (map (sequent_at (S.trees store.now)) old.now) (map (sequent_at (S.trees store.now)) more.now) (map (sequent_at (S.trees store.now)) all)) }
-    ensures known { IfOk result (All (IsKnown (S.trees store.now))) }
-{
-    let mut all = old.copy(alloc)?;
-    for s in more {
-        if is_among(store, all.as_slice(), s) {
-            continue;
-        }
-        let copy = s.copy(alloc)?;
-        all.push(copy)?;
-    }
-    Ok(all)
-}
+use std::alloc::Global;
 
 /// A fact with the goals of another in the place of the goal that the other proves. The other's leaves join its own:
 ///

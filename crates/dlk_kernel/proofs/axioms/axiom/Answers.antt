@@ -1,6 +1,6 @@
 use Rattle.std.proofs.Common.{refl}
-use Rattle.dlk_kernel.proofs.FactLaws.{axiom_given}
-use Rattle.dlk_kernel.proofs.facts.axiom.Goals as goal
+use Rattle.dlk_kernel.proofs.AxiomRows.{axiom_given}
+use Rattle.dlk_kernel.proofs.axioms.axiom.Goals as goal
 
 pub returns-clause-given : goal.returns-clause-given
 returns-clause-given g c =

@@ -3,7 +3,7 @@ use Rattle.std.specs.List.{All}
 use Rattle.dlk_calculus.specs.Sequents.{Sequent as TreeSequent}
 use Rattle.dlk_calculus.specs.Provables.{Joins}
 use Rattle.dlk_sequent.specs.Sequents.{sequent_at, IsKnown}
-use Rattle.dlk_kernel.proofs.merging.join.Given as goal
+use Rattle.dlk_kernel.proofs.leaves.join.Given as goal
 
 -- where those that are left join what is there, all of them join the old ones
 abbrev pub invariant-loop-s : goal.invariant-loop-s

@@ -1,8 +1,8 @@
 use Rattle.std.proofs.Common.{refl}
 use Rattle.std.proofs.lemmas.Bool.{both_ways}
 use Rattle.dlk_sequent.specs.Sequents.{sequent_at}
-use Rattle.dlk_kernel.proofs.MergeLaws.{is_here, is_behind, none_left}
-use Rattle.dlk_kernel.proofs.merging.is_among.Goals as goal
+use Rattle.dlk_kernel.proofs.LeafLaws.{is_here, is_behind, none_left}
+use Rattle.dlk_kernel.proofs.leaves.is_among.Goals as goal
 
 pub same_sequent-requires-clause-second : goal.same_sequent-requires-clause-second
 same_sequent-requires-clause-second g c = rw (← c.t-item.is) at (c.requires.all c.loop-t.t-index c.t-item.result c.loop-t-test.true)

@@ -2,7 +2,7 @@ use Rattle.std.proofs.Common.{map, drop}
 use Rattle.std.specs.Prelude.{◌↔◌}
 use Rattle.dlk_calculus.specs.Provables.{IsAmong}
 use Rattle.dlk_sequent.specs.Sequents.{sequent_at}
-use Rattle.dlk_kernel.proofs.merging.is_among.Given as goal
+use Rattle.dlk_kernel.proofs.leaves.is_among.Given as goal
 
 -- it is one of all where it is one of those that are left
 abbrev pub invariant-loop-t : goal.invariant-loop-t

@@ -1,8 +1,8 @@
 use Rattle.std.proofs.lemmas.Bool.{both_ways}
 use Rattle.std.proofs.lemmas.List.Elements.{All-push}
 use Rattle.dlk_sequent.specs.Sequents.{IsKnown}
-use Rattle.dlk_kernel.proofs.MergeLaws.{joins_there, joins_added, joins_done}
-use Rattle.dlk_kernel.proofs.merging.join.Goals as goal
+use Rattle.dlk_kernel.proofs.LeafLaws.{joins_there, joins_added, joins_done}
+use Rattle.dlk_kernel.proofs.leaves.join.Goals as goal
 
 pub loop-s-init : goal.loop-s-init
 loop-s-init g c = record { known = rw c.in_ok-all.ensures c.requires.old; joins = λ end j. rw c.in_ok-all.ensures at j }

@@ -1,6 +1,6 @@
 use Rattle.std.proofs.Common.{refl}
-use Rattle.dlk_kernel.proofs.FactLaws.{leaf_given}
-use Rattle.dlk_kernel.proofs.facts.leaf.Goals as goal
+use Rattle.dlk_kernel.proofs.LeafLaws.{leaf_given}
+use Rattle.dlk_kernel.proofs.leaves.leaf.Goals as goal
 
 pub returns-clause-given : goal.returns-clause-given
 returns-clause-given g c =

@@ -1,6 +1,6 @@
 use Rattle.std.proofs.Common.{refl}
-use Rattle.dlk_kernel.proofs.FactLaws.{rule_given, rule_known}
-use Rattle.dlk_kernel.proofs.facts.axiomatic_rule.Goals as goal
+use Rattle.dlk_kernel.proofs.AxiomRows.{rule_given, rule_known}
+use Rattle.dlk_kernel.proofs.axioms.axiomatic_rule.Goals as goal
 
 pub returns-clause-given : goal.returns-clause-given
 returns-clause-given g c =

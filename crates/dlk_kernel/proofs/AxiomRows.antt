@@ -1,18 +1,14 @@
--- The rows of steps that need no others.
+-- The rows of axioms and axiomatic rules.
 use Rattle.std.proofs.Common.{◌≡◌, ℕ, List, [], ◌∷◌, Some}
-use Rattle.std.specs.Prelude.{IsTrue}
-use Rattle.std.specs.List.{All}
-use Rattle.std.proofs.lemmas.List.Elements.{All-cons, All-nil}
+use Rattle.std.proofs.lemmas.List.Elements.{All-nil}
 use Rattle.dlk_tree.specs.Trees.{Tree}
 use Rattle.dlk_store.specs.declared.Id.{Id}
-use Rattle.dlk_store.specs.Stores.{IsId, StandsFor}
-use Rattle.dlk_calculus.specs.Arithmetic.{is_arithmetic_sequent}
+use Rattle.dlk_store.specs.Stores.{StandsFor}
 use Rattle.dlk_calculus.specs.Axioms.{Axiom, AxiomaticRule, axiom_named, rule_named}
-use Rattle.dlk_calculus.specs.Sequents.{IsSequent}
 use Rattle.dlk_calculus.specs.Provables.{Provable, known, inferred}
-use Rattle.dlk_calculus.specs.Steps.{UseAxiom, UseRule, Leaf, Gives, use_axiom, use_rule, leaf}
+use Rattle.dlk_calculus.specs.Steps.{UseAxiom, UseRule, Gives, use_axiom, use_rule}
 use Rattle.dlk_sequent.specs.declared.sequent.Sequent.{Sequent}
-use Rattle.dlk_sequent.specs.Sequents.{sequent_at, IsKnown}
+use Rattle.dlk_sequent.specs.Sequents.{IsKnown}
 use Rattle.dlk_axioms.specs.Answers.{IsRuleAt}
 use Rattle.dlk_kernel.specs.declared.row.Row.{Row}
 use Rattle.dlk_kernel.specs.Kernel.{provable_at, IsKnownRow}
@@ -33,8 +29,3 @@ module _ (trees : List Tree) (premises : List Sequent) (conclusion : Sequent) (r
 
   pub rule_known : IsKnownRow trees row
   rule_known = rw is (record { conclusion = h.conclusion_known; goals = h.premises_known; leaves = All-nil (IsKnown trees) })
-
--- a sequent of arithmetic
-pub leaf_given : (trees : List Tree) (s : Sequent) (row : Row) → IsSequent (sequent_at trees s) → IsTrue (is_arithmetic_sequent (sequent_at trees s)) → row ≡ record { conclusion = s; goals = []; leaves = s ∷ [] } →
-    (rows : List Provable) → Gives rows (Leaf (sequent_at trees s)) (provable_at trees row)
-leaf_given trees s row formulas arithmetic is rows = rw is (leaf (sequent_at trees s) formulas arithmetic)
