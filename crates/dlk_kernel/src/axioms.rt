@@ -20,11 +20,7 @@ use std::alloc::Global;
 /// -------------
 /// ==> the axiom
 /// ```
-pub(crate) fn axiom<S: Store>(
-    alloc: Global,
-    store: &mut S,
-    name: &Name,
-) -> Result<Row, StepFault>
+pub(crate) fn axiom<S: Store>(alloc: Global, store: &mut S, name: &Name) -> Result<Row, StepFault>
     ensures given { IfOk result (λ row. (rows : List Provable) → Gives rows (UseAxiom name.now) (provable_at (S.trees store.new) row)) }
     ensures known { IfOk result (IsKnownRow (S.trees store.new)) }
     ensures fault { IfErr result (IsStepFault (λ why. (rows : List Provable) → Fault rows (UseAxiom name.now) why)) }
