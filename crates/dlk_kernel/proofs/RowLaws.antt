@@ -28,7 +28,7 @@ use Rattle.dlk_kernel.specs.Faults.{IsStepFault, fault_of}
 use Rattle.dlk_kernel.specs.Kernel.{provable_at, provables_at, IsKnownRow}
 use Rattle.dlk_kernel.proofs.Growth.{row_kept}
 
-put_all-map : {A B : Type 0} (f : A → B) (items : List A) (place : ℕ) (new : List A) → map f (put_all items place new) ≡ put_all (map f items) place (map f new)
+pub put_all-map : {A B : Type 0} (f : A → B) (items : List A) (place : ℕ) (new : List A) → map f (put_all items place new) ≡ put_all (map f items) place (map f new)
 put_all-map f items place new = simp (map-append, take-map, drop-map)
 
 pub started_given : (trees : List Tree) (s : Sequent) (row : Row) → IsSequent (sequent_at trees s) → row ≡ record { conclusion = s; goals = s ∷ []; leaves = [] } →

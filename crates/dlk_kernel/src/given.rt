@@ -7,7 +7,10 @@ ghost use Rattle.dlk_sequent.specs.Sequents.{sequent_at, IsKnown};
 ghost use Rattle.dlk_kernel.specs.Faults.{IsStepFault};
 ghost use Rattle.dlk_kernel.specs.Kernel.{provable_at, provables_at, IsKnownRow};
 
+use crate::axioms::{axiom, axiomatic_rule};
 use crate::fault::StepFault;
+use crate::leaves::leaf;
+use crate::merging::merge;
 use crate::renaming::{swap_sequent, swap_sequents};
 use crate::row::Row;
 use dlk_calculus::Reason;
@@ -147,7 +150,11 @@ pub(crate) fn give<S: Store, L: Ledger>(
 {
     match step {
         Step::Start(s) => start(alloc, store, s, steps),
+        Step::Axiom(name) => axiom(alloc, store, name),
+        Step::AxRule(name) => axiomatic_rule(alloc, store, name),
+        Step::Leaf(s) => leaf(alloc, store, s, steps),
         Step::Apply { fact, goal, rule } => apply(alloc, store, rows, *fact, *goal, rule, steps),
+        Step::Merge { fact, goal, by } => merge(alloc, store, rows, *fact, *goal, *by),
         Step::Rename { fact, x, y } => rename(alloc, store, rows, *fact, x, y, steps),
     }
 }

@@ -1,9 +1,12 @@
 //! The kernel: provables that it alone makes, each by a step of the calculus.
 #![tactic(auto)]
 
+mod axioms;
 mod fault;
 mod given;
 mod kernel;
+mod leaves;
+mod merging;
 mod renaming;
 mod row;
 
