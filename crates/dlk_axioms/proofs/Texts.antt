@@ -76,7 +76,6 @@ module _ (name : List ℕ) (r : AxiomaticRule) (row : RuleRow) (e : rule_named n
       let text = formula_text r.conclusion (rule_formulas name r e).1 (found_passes (λ (x : AxiomaticRule). fits x.conclusion) (λ (x : AxiomaticRule). bytes_eq x.name name) axiomatic_rules r refl e) in
       subst (λ (bytes : List ℕ). TreeText Formula Refused bytes r.conclusion) (sym (ap (λ (x : RuleText). x.conclusion) same)) text
 
-
 -- the own names of an axiom's row are names
 pub own_names_are_names : (name : List ℕ) (a : Axiom) (row : AxiomRow) → axiom_named name ≡ Some a → said row ≡ canonical a → All (λ (word : Bor (List ℕ)). IsTrue (is_name word.now)) row.own_names.now
 own_names_are_names name a row e same =

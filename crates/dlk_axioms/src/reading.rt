@@ -16,16 +16,14 @@ use std::alloc::{AllocError, Global};
 fn of_memory(fault: TextFault) -> StoreFault
     requires { fault ≡ TextFault.Unread ParseFault.Memory }
 {
-    let _ = fault;
-    StoreFault::Memory
+    match fault {
+        TextFault::Unread(ParseFault::Memory) => StoreFault::Memory,
+        _ => unreachable!(),
+    }
 }
 
 /// The one formula that the bytes are a text of.
-pub(crate) fn read<S: Store>(
-    alloc: Global,
-    bytes: &[u8],
-    store: &mut S,
-) -> Result<Id, StoreFault>
+pub(crate) fn read<S: Store>(alloc: Global, bytes: &[u8], store: &mut S) -> Result<Id, StoreFault>
     requires { (t : Tree) × TreeText Formula Refused bytes.now t }
     ensures read { IfOk result (λ id. (t : Tree) → TreeText Formula Refused bytes.now t → StandsFor (S.trees store.new) id t) }
     ensures grows { S.grows store.old store.new }
