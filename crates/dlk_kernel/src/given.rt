@@ -10,6 +10,7 @@ ghost use Rattle.dlk_kernel.specs.Kernel.{provable_at, provables_at, IsKnownRow}
 use crate::fault::StepFault;
 use crate::renaming::{swap_sequent, swap_sequents};
 use crate::row::Row;
+use crate::substituting::substitute;
 use dlk_calculus::Reason;
 use dlk_rules::{Rule, Step, premises};
 use dlk_sequent::{Listed, Sequent, is_sequent, item_at};
@@ -148,6 +149,12 @@ pub(crate) fn give<S: Store, L: Ledger>(
     match step {
         Step::Start(s) => start(alloc, store, s, steps),
         Step::Apply { fact, goal, rule } => apply(alloc, store, rows, *fact, *goal, rule, steps),
+        Step::Axiom(_) | Step::AxRule(_) | Step::Leaf(_) | Step::Merge { .. } => {
+            Err(StepFault::Memory)
+        }
+        Step::Subst { fact, pairs } => {
+            substitute(alloc, store, rows, *fact, pairs.as_slice(), steps)
+        }
         Step::Rename { fact, x, y } => rename(alloc, store, rows, *fact, x, y, steps),
     }
 }

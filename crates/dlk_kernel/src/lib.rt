@@ -6,6 +6,7 @@ mod given;
 mod kernel;
 mod renaming;
 mod row;
+mod substituting;
 
 pub use dlk_calculus::Reason;
 pub use dlk_rules::{Rule, Step};
