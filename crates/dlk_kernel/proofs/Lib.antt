@@ -5,3 +5,4 @@ pub mod LeafLaws
 pub mod MergeLaws
 pub mod Reading
 pub mod Renamed
+pub mod Substituted

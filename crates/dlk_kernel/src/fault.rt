@@ -1,10 +1,11 @@
 ghost use Rattle.std.specs.Prelude.{◌≡◌};
 ghost use Rattle.dlk_kernel.specs.declared.fault.StepFault.TheVariants.{Memory};
-ghost use Rattle.dlk_kernel.specs.Faults.{fault_of};
+ghost use Rattle.dlk_kernel.specs.Faults.{fault_of, apply_fault_of};
 
 use dlk_calculus::Reason;
 use dlk_rules::RuleFault;
 use dlk_store::StoreFault;
+use dlk_subst::ApplyFault;
 use std::alloc::{AllocError, AllocFailed};
 use thiserror::Error;
 
@@ -52,6 +53,17 @@ impl From<RuleFault> for StepFault {
             RuleFault::NotEqual => StepFault::Refused(Reason::NotEqual),
             RuleFault::NotFresh => StepFault::Refused(Reason::NotFresh),
             RuleFault::Memory => StepFault::Memory,
+        }
+    }
+}
+
+impl From<ApplyFault> for StepFault {
+    ghost from_gives = { λ why e. e ≡ apply_fault_of why };
+
+    fn from(why: ApplyFault) -> StepFault {
+        match why {
+            ApplyFault::NotAdmissible => StepFault::Refused(Reason::NotAdmissible),
+            ApplyFault::Memory => StepFault::Memory,
         }
     }
 }

@@ -13,6 +13,7 @@ use crate::leaves::leaf;
 use crate::merging::merge;
 use crate::renaming::{swap_sequent, swap_sequents};
 use crate::row::Row;
+use crate::substituting::substitute;
 use dlk_calculus::Reason;
 use dlk_rules::{Rule, Step, premises};
 use dlk_sequent::{Listed, Sequent, is_sequent, item_at};
@@ -155,6 +156,9 @@ pub(crate) fn give<S: Store, L: Ledger>(
         Step::Leaf(s) => leaf(alloc, store, s, steps),
         Step::Apply { fact, goal, rule } => apply(alloc, store, rows, *fact, *goal, rule, steps),
         Step::Merge { fact, goal, by } => merge(alloc, store, rows, *fact, *goal, *by),
+        Step::Subst { fact, pairs } => {
+            substitute(alloc, store, rows, *fact, pairs.as_slice(), steps)
+        }
         Step::Rename { fact, x, y } => rename(alloc, store, rows, *fact, x, y, steps),
     }
 }

@@ -9,6 +9,7 @@ mod leaves;
 mod merging;
 mod renaming;
 mod row;
+mod substituting;
 
 pub use dlk_calculus::Reason;
 pub use dlk_rules::{Rule, Step};
