@@ -1,9 +1,7 @@
 -- What a substitution makes of sequents and rows, one after another, over a store that grows.
-use Rattle.std.proofs.Common.{◌≡◌, ℕ, suc, zero, ◌+◌, ◌<◌, List, [], ◌∷◌, ◌++◌, length, map, take, get_or, refl, sym, ap, subst, ◌∙◌, Some, Bool, true, false, Result, Err, arith}
+use Rattle.std.proofs.Common.{◌≡◌, ℕ, suc, zero, ◌+◌, ◌<◌, List, [], ◌∷◌, ◌++◌, length, map, take, get_or, refl, sym, ap, subst, ◌∙◌, Some, Bool, false, Result, Err, arith}
 use Rattle.std.specs.Prelude.{IsTrue}
-use Rattle.std.specs.Bool.{◌==◌}
 use Rattle.std.specs.List.{All}
-use Rattle.std.proofs.lemmas.Bool.Decides.{nat_tests}
 use Rattle.std.proofs.lemmas.List.{take_more, map-append, get_or-map, length-map}
 use Rattle.std.proofs.lemmas.List.Elements.{All-weaker, All-map}
 use Rattle.dlk_tree.specs.declared.op.Op.TheVariants.{True}
@@ -14,7 +12,7 @@ use Rattle.dlk_store.proofs.Kids.{Keeps-trans}
 use Rattle.dlk_calculus.specs.declared.reason.Reason.TheVariants.{FreeInSubst}
 use Rattle.dlk_calculus.specs.declared.reason.Reason.TheVariants as reason
 use Rattle.dlk_calculus.specs.Places.{at, At}
-use Rattle.dlk_calculus.specs.Pairs.{Pair as TreePair, AreMade}
+use Rattle.dlk_calculus.specs.Pairs.{Pair as TreePair, AreMade, IsFreeIn}
 use Rattle.dlk_calculus.specs.Subst.{Subst}
 use Rattle.dlk_calculus.specs.Sequents.{Sequent as TreeSequent}
 use Rattle.dlk_calculus.specs.Provables.{Provable, SubstEach, SubstSequent, SubstSequents, Substitutes, HasGoal}
@@ -148,20 +146,17 @@ whole_known old now next first then row made known conclusion goals leaves = rec
 pub are_made : (trees : List Tree) (pairs : List Pair) → All WellMade trees → AreKnownPairs trees pairs → AreMade (pairs_at trees pairs)
 are_made trees pairs made known = All-map (λ (p : TreePair). WellMade p.by) (pair_at trees) pairs (λ i d h. made (get_or pairs i d).by.0 (node True no_kids) (known i d h))
 
--- a row has a goal, or none
-pub has_goal : (trees : List Tree) (goals items : List Sequent) (b : Bool) → items ≡ goals → b ≡ (length items == 0) → b ≡ false → HasGoal (map (sequent_at trees) goals)
-has_goal trees [] items b same is none = cc (ap length same, is, none)
-has_goal trees (s ∷ goals) items b same is none = tt
+pub not_true : (b : Bool) → b ≡ false → IsTrue b → ⊥
+not_true b is true_too = cc (is, true_too)
 
-is_zero : (n : ℕ) → (n == 0) ≡ true → n ≡ 0
-is_zero n = grind (arith, nat_tests)
+-- a row has a goal where it has more than none
+some_goal : (trees : List Tree) (goals : List Sequent) → 0 < length goals → HasGoal (map (sequent_at trees) goals)
+some_goal trees [] more = absurd (omega arith)
+some_goal trees (s ∷ goals) more = tt
 
-pub no_goal : (trees : List Tree) (goals items : List Sequent) (b : Bool) → items ≡ goals → b ≡ (length items == 0) → b ≡ true → HasGoal (map (sequent_at trees) goals) → ⊥
-no_goal trees [] items b same is none h = h
-no_goal trees (s ∷ goals) items b same is none h = absurd (omega (arith, ap length same, is_zero (length items) (sym is ∙ none)))
-
-pub not_free : (a b : Bool) → a ≡ b → a ≡ false → IsTrue b → ⊥
-not_free a b same none is = cc (same, none, is)
+more_than_none : (trees : List Tree) (goals : List Sequent) → HasGoal (map (sequent_at trees) goals) → 0 < length goals
+more_than_none trees [] h = absurd h
+more_than_none trees (s ∷ goals) h = omega arith
 
 -- a substitution of these pairs, on a fact that is there
 module _ (old : List Tree) (well_made : All WellMade old) (rows : List Row) (fact : ℕ) (row : Row) (there : at rows fact ≡ Some row)
@@ -175,20 +170,23 @@ module _ (old : List Tree) (well_made : All WellMade old) (rows : List Row) (fac
   abbrev made : AreMade (pairs_at old sigma.pairs)
   made = are_made old sigma.pairs well_made over.known
 
-  pub free_refused : IsTrue sigma.free → HasGoal p.goals → Fault (provables_at old rows) (Substitute fact (pairs_at old pairs)) FreeInSubst
-  free_refused free goal =
+  pub free_refused : IsTrue sigma.free → 0 < length row.goals → Fault (provables_at old rows) (Substitute fact (pairs_at old pairs)) FreeInSubst
+  free_refused free more =
       subst (λ (ps : List Pair). Fault (provables_at old rows) (Substitute fact (pairs_at old ps)) FreeInSubst) same
-      (free_with_goal (provables_at old rows) fact (pairs_at old sigma.pairs) p is_fact made over.well_formed goal (over.free.0 free))
+      (free_with_goal (provables_at old rows) fact (pairs_at old sigma.pairs) p is_fact made over.well_formed (some_goal old row.goals more) (over.free.0 free))
 
-  module _ (allowed : HasGoal p.goals → IsTrue sigma.free → ⊥) where
+  module _ (allowed : IsTrue sigma.free × (0 < length row.goals) → ⊥) where
+    abbrev none_free : HasGoal p.goals → IsFreeIn (pairs_at old sigma.pairs) → ⊥
+    none_free goal free = allowed (over.free.1 free, more_than_none old row.goals goal)
+
     pub substituted_given : (q : Provable) → Substitutes (pairs_at old sigma.pairs) p q → Gives (provables_at old rows) (Substitute fact (pairs_at old pairs)) q
     substituted_given q is =
         subst (λ (ps : List Pair). Gives (provables_at old rows) (Substitute fact (pairs_at old ps)) q) same
-        (substitute fact (pairs_at old sigma.pairs) p q is_fact made over.well_formed (λ goal free. allowed goal (over.free.1 free)) is)
+        (substitute fact (pairs_at old sigma.pairs) p q is_fact made over.well_formed none_free is)
 
     pub none_refused : (result : Result Row ApplyFault) (f : ApplyFault) → result ≡ Err f → (result ≡ Err NotAdmissible → (q : Provable) → Substitutes (pairs_at old sigma.pairs) p q → ⊥) →
         IsStepFault (Fault (provables_at old rows) (Substitute fact (pairs_at old pairs))) (apply_fault_of f)
     none_refused result NotAdmissible is none =
         subst (λ (ps : List Pair). Fault (provables_at old rows) (Substitute fact (pairs_at old ps)) reason.NotAdmissible) same
-        (nothing_made (provables_at old rows) fact (pairs_at old sigma.pairs) p is_fact made over.well_formed (λ goal free. allowed goal (over.free.1 free)) (none is))
+        (nothing_made (provables_at old rows) fact (pairs_at old sigma.pairs) p is_fact made over.well_formed none_free (none is))
     none_refused result Memory is none = tt
