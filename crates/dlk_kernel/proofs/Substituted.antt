@@ -1,25 +1,36 @@
 -- What a substitution makes of sequents and rows, one after another, over a store that grows.
-use Rattle.std.proofs.Common.{◌≡◌, ℕ, suc, zero, ◌+◌, ◌<◌, List, [], ◌∷◌, ◌++◌, length, map, take, get_or, refl, sym, ap, subst, ◌∙◌, Some, arith}
+use Rattle.std.proofs.Common.{◌≡◌, ℕ, suc, zero, ◌+◌, ◌<◌, List, [], ◌∷◌, ◌++◌, length, map, take, get_or, refl, sym, ap, subst, ◌∙◌, Some, Bool, false, Result, Err, arith}
+use Rattle.std.specs.Prelude.{IsTrue}
 use Rattle.std.specs.List.{All}
 use Rattle.std.proofs.lemmas.List.{take_more, map-append, get_or-map, length-map}
-use Rattle.std.proofs.lemmas.List.Elements.{All-weaker}
-use Rattle.dlk_tree.specs.Trees.{Tree}
+use Rattle.std.proofs.lemmas.List.Elements.{All-weaker, All-map}
+use Rattle.dlk_tree.specs.declared.op.Op.TheVariants.{True}
+use Rattle.dlk_tree.specs.Trees.{Tree, node, no_kids, WellMade}
 use Rattle.dlk_store.specs.declared.Id.{Id}
 use Rattle.dlk_store.specs.Stores.{IsId, tree, Keeps}
 use Rattle.dlk_store.proofs.Kids.{Keeps-trans}
-use Rattle.dlk_calculus.specs.Pairs.{Pair as TreePair}
+use Rattle.dlk_calculus.specs.declared.reason.Reason.TheVariants.{FreeInSubst}
+use Rattle.dlk_calculus.specs.declared.reason.Reason.TheVariants as reason
+use Rattle.dlk_calculus.specs.Places.{at, At}
+use Rattle.dlk_calculus.specs.Pairs.{Pair as TreePair, AreMade, IsFreeIn}
 use Rattle.dlk_calculus.specs.Subst.{Subst}
 use Rattle.dlk_calculus.specs.Sequents.{Sequent as TreeSequent}
-use Rattle.dlk_calculus.specs.Provables.{Provable, SubstEach, SubstSequent, SubstSequents, Substitutes}
+use Rattle.dlk_calculus.specs.Provables.{Provable, SubstEach, SubstSequent, SubstSequents, Substitutes, HasGoal}
+use Rattle.dlk_calculus.specs.Steps.{Substitute, Gives, substitute, Fault}
+use Rattle.dlk_calculus.proofs.PlaceLaws.{At-map}
+use Rattle.dlk_calculus.proofs.StepLaws.{free_with_goal, nothing_made}
 use Rattle.dlk_sequent.specs.declared.sequent.Sequent.{Sequent}
 use Rattle.dlk_sequent.specs.declared.subst.Pair.{Pair}
 use Rattle.dlk_sequent.specs.Sequents.{sequent_at, IsKnown}
-use Rattle.dlk_sequent.specs.Substitutions.{pairs_at, AreKnownPairs}
+use Rattle.dlk_sequent.specs.Substitutions.{Checked, pair_at, pairs_at, AreKnownPairs, IsMadeOver}
 use Rattle.dlk_sequent.proofs.Kept.{IsKnown-kept, trees-kept, sequent-kept, sequents-kept}
 use Rattle.dlk_sequent.proofs.KeptPairs.{pairs_at-kept}
+use Rattle.dlk_subst.specs.declared.fault.ApplyFault.{ApplyFault}
+use Rattle.dlk_subst.specs.declared.fault.ApplyFault.TheVariants.{NotAdmissible, Memory}
 use Rattle.dlk_subst.specs.Results.{IsResult, HasNone}
 use Rattle.dlk_kernel.specs.declared.row.Row.{Row}
-use Rattle.dlk_kernel.specs.Kernel.{provable_at, IsKnownRow}
+use Rattle.dlk_kernel.specs.Faults.{IsStepFault, apply_fault_of}
+use Rattle.dlk_kernel.specs.Kernel.{provable_at, provables_at, IsKnownRow}
 
 -- one more formula
 each_more : (pairs : List TreePair) (fs gs : List Tree) (f g : Tree) → SubstEach pairs fs gs → Subst pairs f g → SubstEach pairs (fs ++ f ∷ []) (gs ++ g ∷ [])
@@ -130,3 +141,52 @@ whole_known old now next first then row made known conclusion goals leaves = rec
   goals = goals;
   leaves = rw leaves (All-weaker (IsKnown old) (IsKnown next) (IsKnown-kept (Keeps-trans first then)) row.leaves known.leaves);
 }
+
+-- what replaces a symbol is well made
+pub are_made : (trees : List Tree) (pairs : List Pair) → All WellMade trees → AreKnownPairs trees pairs → AreMade (pairs_at trees pairs)
+are_made trees pairs made known = All-map (λ (p : TreePair). WellMade p.by) (pair_at trees) pairs (λ i d h. made (get_or pairs i d).by.0 (node True no_kids) (known i d h))
+
+pub not_true : (b : Bool) → b ≡ false → IsTrue b → ⊥
+not_true b is true_too = cc (is, true_too)
+
+-- a row has a goal where it has more than none
+some_goal : (trees : List Tree) (goals : List Sequent) → 0 < length goals → HasGoal (map (sequent_at trees) goals)
+some_goal trees [] more = absurd (omega arith)
+some_goal trees (s ∷ goals) more = tt
+
+more_than_none : (trees : List Tree) (goals : List Sequent) → HasGoal (map (sequent_at trees) goals) → 0 < length goals
+more_than_none trees [] h = absurd h
+more_than_none trees (s ∷ goals) h = omega arith
+
+-- a substitution of these pairs, on a fact that is there
+module _ (old : List Tree) (well_made : All WellMade old) (rows : List Row) (fact : ℕ) (row : Row) (there : at rows fact ≡ Some row)
+    (pairs : List Pair) (sigma : Checked) (same : sigma.pairs ≡ pairs) (over : IsMadeOver old sigma) where
+  abbrev p : Provable
+  p = provable_at old row
+
+  abbrev is_fact : At (provables_at old rows) fact p
+  is_fact = At-map (provable_at old) rows fact row there
+
+  abbrev made : AreMade (pairs_at old sigma.pairs)
+  made = are_made old sigma.pairs well_made over.known
+
+  pub free_refused : IsTrue sigma.free → 0 < length row.goals → Fault (provables_at old rows) (Substitute fact (pairs_at old pairs)) FreeInSubst
+  free_refused free more =
+      subst (λ (ps : List Pair). Fault (provables_at old rows) (Substitute fact (pairs_at old ps)) FreeInSubst) same
+      (free_with_goal (provables_at old rows) fact (pairs_at old sigma.pairs) p is_fact made over.well_formed (some_goal old row.goals more) (over.free.0 free))
+
+  module _ (allowed : IsTrue sigma.free × (0 < length row.goals) → ⊥) where
+    abbrev none_free : HasGoal p.goals → IsFreeIn (pairs_at old sigma.pairs) → ⊥
+    none_free goal free = allowed (over.free.1 free, more_than_none old row.goals goal)
+
+    pub substituted_given : (q : Provable) → Substitutes (pairs_at old sigma.pairs) p q → Gives (provables_at old rows) (Substitute fact (pairs_at old pairs)) q
+    substituted_given q is =
+        subst (λ (ps : List Pair). Gives (provables_at old rows) (Substitute fact (pairs_at old ps)) q) same
+        (substitute fact (pairs_at old sigma.pairs) p q is_fact made over.well_formed none_free is)
+
+    pub none_refused : (result : Result Row ApplyFault) (f : ApplyFault) → result ≡ Err f → (result ≡ Err NotAdmissible → (q : Provable) → Substitutes (pairs_at old sigma.pairs) p q → ⊥) →
+        IsStepFault (Fault (provables_at old rows) (Substitute fact (pairs_at old pairs))) (apply_fault_of f)
+    none_refused result NotAdmissible is none =
+        subst (λ (ps : List Pair). Fault (provables_at old rows) (Substitute fact (pairs_at old ps)) reason.NotAdmissible) same
+        (nothing_made (provables_at old rows) fact (pairs_at old sigma.pairs) p is_fact made over.well_formed none_free (none is))
+    none_refused result Memory is none = tt

@@ -1,5 +1,5 @@
 //! A substitution in a fact.
-ghost use Rattle.std.specs.Prelude.{◌≡◌, List, map, All, Err, IfOk, IfErr};
+ghost use Rattle.std.specs.Prelude.{◌≡◌, ◌↔◌, ◌<◌, List, length, map, All, IsTrue, Err, IfOk, IfErr};
 ghost use Rattle.dlk_tree.specs.Trees.{Tree};
 ghost use Rattle.dlk_store.specs.Stores.{IsId, tree};
 ghost use Rattle.dlk_calculus.specs.declared.reason.Reason.TheVariants.{IllSubst};
@@ -161,6 +161,13 @@ fn subst_row<S: Store, L: Ledger>(
     })
 }
 
+/// Whether the row has a goal, and some variable is free in what replaces a function or a predicate.
+fn is_free_over_goals(sigma: &Subst, row: &Row) -> bool
+    ensures { IsTrue result ↔ (IsTrue sigma.now.free × (0 < length row.now.goals)) }
+{
+    sigma.free() && !row.goals.as_slice().is_empty()
+}
+
 /// A fact under the substitution of the pairs. Its leaves stay. Where it has a goal, no variable may be free in what
 /// replaces a function or a predicate:
 ///
@@ -188,7 +195,7 @@ pub(crate) fn substitute<S: Store, L: Ledger>(
         return Err(StepFault::Refused(Reason::NoFact));
     };
     let sigma = substitution(alloc, store, pairs, steps)?;
-    if sigma.free() && !row.goals.as_slice().is_empty() {
+    if is_free_over_goals(&sigma, row) {
         return Err(StepFault::Refused(Reason::FreeInSubst));
     }
     let made = subst_row(alloc, store, &sigma, row, steps)?;
