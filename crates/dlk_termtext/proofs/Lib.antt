@@ -4,4 +4,5 @@ pub mod WordLaws
 pub mod Refusals
 pub mod Forms
 pub mod Calls
+pub mod StepForms
 pub mod LineForms

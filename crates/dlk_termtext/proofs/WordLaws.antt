@@ -68,8 +68,11 @@ ascii (b ∷ bs) all =
     elim_index low more zero = low
     elim_index low more (suc i) = more i
 
+pub letters_utf8 : (word : List ℕ) → IsTrue (list_all is_letter word) → IsUtf8 word
+letters_utf8 word all = IsUtf8-from_ascii word (ascii word all)
+
 pub word_utf8 : (word : List ℕ) (template : Template) → template_of word ≡ Some template → IsUtf8 word
-word_utf8 word template e = IsUtf8-from_ascii word (ascii word (letters word template e))
+word_utf8 word template e = letters_utf8 word (letters word template e)
 
 -- the words that want a name or a formula
 

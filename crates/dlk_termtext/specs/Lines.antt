@@ -5,11 +5,12 @@ use Rattle.dlk_tree.specs.Names.{is_between, is_name}
 use Rattle.dlk_tree.specs.Trees.{Tree}
 use Rattle.dlk_calculus.specs.Sequents.{Sequent}
 use Rattle.dlk_calculus.specs.Rules.{Rule}
-use Rattle.dlk_calculus.specs.Steps.{Step, Start, Apply, Rename}
+use Rattle.dlk_calculus.specs.Pairs.{Pair}
+use Rattle.dlk_calculus.specs.Steps.{Step, Start, UseAxiom, UseRule, Leaf, Apply, Merge, Substitute, Rename}
 use Rattle.dlk_grammar.specs.declared.token.Form.TheVariants.{Formula}
 use Rattle.dlk_grammar.specs.declared.token.Dots.TheVariants.{Refused}
 use Rattle.dlk_grammar.specs.Tokens.{is_digit, value}
-use Rattle.dlk_grammar.specs.Texts.{TreeText, SequentText}
+use Rattle.dlk_grammar.specs.Texts.{TreeText, SequentText, PairsText}
 use Rattle.dlk_termtext.specs.Words.{Template, Place, TwoPlaces, PlaceAndName, PlaceAndFormula, OneFormula, template_of}
 
 -- what a line says
@@ -42,11 +43,19 @@ pub data IsRule : List ℕ → Rule → Type 0 where
   rule : {arguments : List ℕ} {template : Template} {made : Rule} (word : List ℕ) → template_of word ≡ Some template → IsArguments template arguments made →
       IsRule (word ++ codes "(" ++ arguments ++ codes ")") made
 
--- IsStep text step
+-- IsStep text step: the word of the step, and what it wants behind it
 pub data IsStep : List ℕ → Step → Type 0 where
   start : {sequent : List ℕ} {s : Sequent} → SequentText sequent s → IsStep (codes "start " ++ sequent) (Start s)
+  use_axiom : {name : List ℕ} → IsTrue (is_name name) → IsStep (codes "axiom " ++ name) (UseAxiom name)
+  use_rule : {name : List ℕ} → IsTrue (is_name name) → IsStep (codes "rule " ++ name) (UseRule name)
+  leaf : {sequent : List ℕ} {s : Sequent} → SequentText sequent s → IsStep (codes "leaf " ++ sequent) (Leaf s)
   apply : {f g r : List ℕ} {fact goal : ℕ} {rule : Rule} → IsNumber f fact → IsNumber g goal → IsRule r rule →
       IsStep (codes "apply " ++ f ++ codes " " ++ g ++ codes " " ++ r) (Apply fact goal rule)
+  merge : {f g b : List ℕ} {fact goal by : ℕ} → IsNumber f fact → IsNumber g goal → IsNumber b by →
+      IsStep (codes "merge " ++ f ++ codes " " ++ g ++ codes " " ++ b) (Merge fact goal by)
+  -- the text of the pairs may be empty, and stands behind a space even so
+  substitute : {f text : List ℕ} {fact : ℕ} {pairs : List Pair} → IsNumber f fact → PairsText text pairs →
+      IsStep (codes "subst " ++ f ++ codes " " ++ text) (Substitute fact pairs)
   rename : {f x y : List ℕ} {fact : ℕ} → IsNumber f fact → IsTrue (is_name x) → IsTrue (is_name y) →
       IsStep (codes "rename " ++ f ++ codes " " ++ x ++ codes " " ++ y) (Rename fact x y)
 

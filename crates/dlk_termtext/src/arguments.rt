@@ -1,16 +1,22 @@
-//! What stands in the brackets of a rule.
+//! What stands in the brackets of a rule or behind the word of a step.
 ghost use Rattle.std.specs.Prelude.{◌≡◌, ℕ, List, IsTrue, IfSome, IfNone, IfOk, OnOk, IfErr};
 ghost use Rattle.dlk_tree.specs.Names.{is_name};
 ghost use Rattle.dlk_tree.specs.Trees.{Tree};
 ghost use Rattle.dlk_store.specs.Stores.{IsId, tree};
+ghost use Rattle.dlk_calculus.specs.Pairs.{Pair as TreePair};
+ghost use Rattle.dlk_calculus.specs.Sequents.{Sequent as TreeSequent};
 ghost use Rattle.dlk_calculus.specs.Rules.{Rule};
+ghost use Rattle.dlk_grammar.specs.Texts.{SequentText, PairsText};
+ghost use Rattle.dlk_sequent.specs.Sequents.{sequent_at, IsKnown};
+ghost use Rattle.dlk_sequent.specs.Substitutions.{pairs_at, AreKnownPairs};
 ghost use Rattle.dlk_termtext.specs.Words.{TwoPlaces, PlaceAndName, PlaceAndFormula};
 ghost use Rattle.dlk_termtext.specs.Lines.{IsFormulaText, IsArguments};
 ghost use Rattle.dlk_termtext.specs.Read.{IsFaultOf};
 
 use crate::line::LineFault;
 use crate::number::{number, number_before};
-use dlk_parse::read_formula;
+use dlk_parse::{read_formula, read_sequent, read_substitution};
+use dlk_sequent::{Listed, Pair, Sequent};
 use dlk_store::{Id, Store};
 use dlk_tree::Name;
 use std::alloc::Global;
@@ -56,6 +62,36 @@ pub(crate) fn formula<S: Store>(alloc: Global, text: &[u8], store: &mut S) -> Re
 {
     let id = read_formula(alloc, text, store)?;
     Ok(id)
+}
+
+/// The sequent of which the bytes are a text.
+pub(crate) fn sequent<S: Store>(
+    alloc: Global,
+    text: &[u8],
+    store: &mut S,
+) -> Result<Sequent, LineFault>
+    ensures found { IfOk result (λ s. SequentText text.now (sequent_at (S.trees store.new) s)) }
+    ensures known { IfOk result (IsKnown (S.trees store.new)) }
+    ensures fault { IfErr result (IsFaultOf ((s : TreeSequent) → ¬ SequentText text.now s)) }
+    ensures grows { S.grows store.old store.new }
+{
+    let sequent = read_sequent(alloc, text, store)?;
+    Ok(sequent)
+}
+
+/// The pairs of the substitution of which the bytes are a text.
+pub(crate) fn substitution<S: Store>(
+    alloc: Global,
+    text: &[u8],
+    store: &mut S,
+) -> Result<Listed<Pair>, LineFault>
+    ensures found { IfOk result (λ pairs. PairsText text.now (pairs_at (S.trees store.new) pairs)) }
+    ensures known { IfOk result (AreKnownPairs (S.trees store.new)) }
+    ensures fault { IfErr result (IsFaultOf ((pairs : List TreePair) → ¬ PairsText text.now pairs)) }
+    ensures grows { S.grows store.old store.new }
+{
+    let pairs = read_substitution(alloc, text, store)?;
+    Ok(Listed::from_vec(pairs))
 }
 
 /// A place and a formula with `,` between.

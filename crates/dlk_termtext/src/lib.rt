@@ -8,6 +8,7 @@ mod number;
 mod parts;
 mod reading;
 mod rule;
+mod step;
 mod words;
 
 pub use laws::one_line;

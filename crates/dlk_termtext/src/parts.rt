@@ -1,13 +1,6 @@
 //! Parts of a text.
-ghost use Rattle.std.specs.Prelude.{◌≡◌, ◌≢◌, ◌==◌, ℕ, ◌++◌, ◌∷◌, List, position, IfSome, IfNone, MatchOption};
+ghost use Rattle.std.specs.Prelude.{◌≡◌, ◌≢◌, ◌==◌, ℕ, ◌++◌, ◌∷◌, List, position, IfSome, IfNone};
 ghost use Rattle.dlk_termtext.specs.Parts.{CutAt, Bracketed};
-
-/// What comes behind a word at the front of the text.
-pub(crate) fn strip<'a>(text: &'a [u8], word: &[u8]) -> Option<&'a [u8]>
-    ensures { MatchOption result ((rest : List ℕ) → text.now ≢ word.now ++ rest) (λ rest. text.now ≡ word.now ++ rest.now) }
-{
-    text.strip_prefix(word)
-}
 
 /// The text before the first byte of this kind, and the text behind that byte.
 pub(crate) fn cut_at(text: &[u8], byte: u8) -> Option<(&[u8], &[u8])>

@@ -1,9 +1,9 @@
 use Rattle.std.proofs.Common.{refl}
 use Rattle.std.proofs.lemmas.Result.{err_from_is_err_and}
-use Rattle.dlk_termtext.proofs.LineForms.{names_cut, names_are, no_first_name, no_second_name}
+use Rattle.dlk_termtext.proofs.StepForms.{names_cut, names_are, no_first_name, no_second_name}
 use Rattle.dlk_termtext.proofs.Refusals.{fault_of_whole}
 use Rattle.dlk_termtext.proofs.Numbers.{one_number_then}
-use Rattle.dlk_termtext.proofs.reading.read_rename.Goals as goal
+use Rattle.dlk_termtext.proofs.step.read_rename.Goals as goal
 
 pub returns-in_default-clause-fault : goal.returns-in_default-clause-fault
 returns-in_default-clause-fault c = λ fact x y is. c.in_default.ensures.none fact is.behind_fact is.fact_is
