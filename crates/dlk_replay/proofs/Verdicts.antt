@@ -25,7 +25,7 @@ as_many _ _ (one_more {lines} {rows} {line} {step} {p} before is given) =
     length_push lines line ∙ ap (λ n. n + 1) (as_many lines rows before) ∙ sym (length_push rows p)
 
 -- the reason of a place in their order
-reason_of : ℕ → Reason
+abbrev reason_of : ℕ → Reason
 reason_of n = if n == 1 then NoFact else if n == 2 then NoGoal else if n == 3 then UnknownName else if n == 4 then NoPlace else if n == 5 then WrongShape else if n == 6 then NotEqual else if n == 7 then NotFresh else if n == 8 then NotArith else if n == 9 then IllSubst else if n == 10 then FreeInSubst else NotAdmissible
 
 ranked : (a : Reason) → reason_of (rank a) ≡ a
