@@ -1,6 +1,3 @@
-use Rattle.std.proofs.lemmas.List.Elements.{All-weaker}
-use Rattle.dlk_store.specs.Stores.{IsId}
-use Rattle.dlk_sequent.proofs.Kept.{IsId-kept}
 use Rattle.dlk_sequent.proofs.KeptPairs.{IsMadeOver-kept}
 use Rattle.dlk_subst.specs.declared.fault.ApplyFault.TheVariants.{NotAdmissible}
 use Rattle.dlk_subst.proofs.Related.{handed_on}
