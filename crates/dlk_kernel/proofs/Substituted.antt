@@ -120,9 +120,10 @@ module _ (old now : List Tree) (first : Keeps old now) (pairs : List Pair) (are_
     -- a sequent, one side after the other
     pub both_sides : (s made : Sequent) → IsKnown old s → SubstEach (pairs_at old pairs) (map (tree old) s.ante) (map (tree now) made.ante) → All (IsId now) made.ante →
         SubstEach (pairs_at now pairs) (map (tree now) s.succ) (map (tree next) made.succ) → SubstSequent (pairs_at old pairs) (sequent_at old s) (sequent_at next made)
-    both_sides s made known ante made_known succ =
-        (subst (SubstEach (pairs_at old pairs) (map (tree old) s.ante)) (sym (trees-kept then made.ante made_known)) ante,
-        subst (λ X. X) (formulas_first s.succ known.succ (map (tree next) made.succ)) succ)
+    both_sides s made known ante made_known succ = (
+      subst (SubstEach (pairs_at old pairs) (map (tree old) s.ante)) (sym (trees-kept then made.ante made_known)) ante,
+      subst (λ X. X) (formulas_first s.succ known.succ (map (tree next) made.succ)) succ,
+    )
 
     -- a row, whose leaves stay
     pub whole_row : (row made : Row) → IsKnownRow old row → SubstSequent (pairs_at old pairs) (sequent_at old row.conclusion) (sequent_at now made.conclusion) → IsKnown now made.conclusion →
