@@ -1,21 +1,20 @@
 -- The forms of steps, from the front of a text on.
-use Rattle.std.proofs.Common.{◌≡◌, ◌≢◌, ℕ, List, [], ◌∷◌, ◌++◌, refl, ap, sym, subst, ◌∙◌, append_assoc, arith}
+use Rattle.std.proofs.Common.{◌≡◌, ◌≢◌, ℕ, List, ◌∷◌, ◌++◌, refl, ap, sym, subst, ◌∙◌, append_assoc, arith}
 use Rattle.std.specs.Prelude.{codes, IsTrue, Result, Ok, Err, IfOk, IfErr, if◌then◌else◌}
 use Rattle.std.specs.List.{list_all}
 use Rattle.std.specs.Str.{bytes_eq, IsUtf8}
 use Rattle.dlk_tree.specs.Names.{is_letter, is_name}
 use Rattle.dlk_tree.specs.Trees.{Tree}
 use Rattle.dlk_calculus.specs.Pairs.{Pair}
-use Rattle.dlk_calculus.specs.Sequents.{Sequent}
 use Rattle.dlk_calculus.specs.Rules.{Rule}
 use Rattle.dlk_calculus.specs.Steps.{Step, Start, UseAxiom, UseRule, Leaf, Apply, Merge, Substitute, Rename}
-use Rattle.dlk_grammar.specs.Texts.{SequentText, PairsText}
+use Rattle.dlk_grammar.specs.Texts.{PairsText}
 use Rattle.dlk_machine.proofs.TextLaws.{one_sequent_text, one_pairs_text}
 use Rattle.dlk_rules.specs.Steps.{step_at}
 use Rattle.dlk_rules.specs.declared.step.Step.{Step as IdStep}
 use Rattle.dlk_termtext.specs.declared.line.LineFault.{LineFault}
 use Rattle.dlk_termtext.specs.Lines.{IsNumber, IsRule, IsStep, start, use_axiom, use_rule, leaf, apply, merge, substitute, rename}
-use Rattle.dlk_termtext.specs.Parts.{Lacks, CutAt, NumberThen, FactGoal, FactGoalRule, FactGoalFact, FactPairs, FactNames, word_of, Behind, WordAndRest}
+use Rattle.dlk_termtext.specs.Parts.{CutAt, NumberThen, FactGoal, FactGoalRule, FactGoalFact, FactPairs, FactNames, word_of, Behind, WordAndRest}
 use Rattle.dlk_termtext.specs.Read.{IsFaultOf}
 use Rattle.dlk_termtext.proofs.Cuts.{lacks_if, lacks_name, one_cut}
 use Rattle.dlk_termtext.proofs.Numbers.{one_number, one_number_then}

@@ -209,7 +209,10 @@ fn reads_sequents(rt: HostRuntime) -> Result<(), Fail> {
 #[test]
 fn reads_merges(rt: HostRuntime) -> Result<(), Fail> {
     assert_eq!(rt; merged(&rt, "7 merge 4 5 6"), Some((4, 5, 6)));
-    assert_eq!(rt; merged(&rt, "7 merge 999999999 1 6"), Some((999999999, 1, 6)));
+    assert_eq!(rt;
+        merged(&rt, "7 merge 999999999 1 6"),
+        Some((999999999, 1, 6))
+    );
     Ok(())
 }
 
