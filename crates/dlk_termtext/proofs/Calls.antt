@@ -1,5 +1,5 @@
 -- Rules by their words and their arguments.
-use Rattle.std.proofs.Common.{◌≡◌, ℕ, Bool, true, false, List, [], Option, Some, None, refl, sym, ap, subst, ◌∙◌}
+use Rattle.std.proofs.Common.{◌≡◌, ℕ, List, [], Option, Some, None, refl, sym, ap, subst, ◌∙◌}
 use Rattle.std.specs.Prelude.{IsTrue, Result, Ok, Err, IfOk, IfErr, IfSome, IfNone, option_map, option_and_then, if◌then◌else◌}
 use Rattle.std.proofs.lemmas.Bool.{cond-true}
 use Rattle.std.proofs.lemmas.Option.{same_Some, none-some}

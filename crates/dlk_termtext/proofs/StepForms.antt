@@ -1,22 +1,20 @@
 -- The forms of steps, from the front of a text on.
-use Rattle.std.proofs.Common.{◌≡◌, ◌≢◌, ℕ, List, [], ◌∷◌, ◌++◌, refl, ap, sym, subst, ◌∙◌, append_assoc, arith}
+use Rattle.std.proofs.Common.{◌≡◌, ◌≢◌, ℕ, List, ◌∷◌, ◌++◌, refl, ap, sym, subst, ◌∙◌, append_assoc, arith}
 use Rattle.std.specs.Prelude.{codes, IsTrue, Result, Ok, Err, IfOk, IfErr, if◌then◌else◌}
 use Rattle.std.specs.List.{list_all}
 use Rattle.std.specs.Str.{bytes_eq, IsUtf8}
 use Rattle.dlk_tree.specs.Names.{is_letter, is_name}
 use Rattle.dlk_tree.specs.Trees.{Tree}
 use Rattle.dlk_calculus.specs.Pairs.{Pair}
-use Rattle.dlk_calculus.specs.Sequents.{Sequent}
 use Rattle.dlk_calculus.specs.Rules.{Rule}
 use Rattle.dlk_calculus.specs.Steps.{Step, Start, UseAxiom, UseRule, Leaf, Apply, Merge, Substitute, Rename}
-use Rattle.dlk_grammar.specs.Texts.{SequentText, PairsText}
-use Rattle.dlk_machine.proofs.Formed.{Each}
+use Rattle.dlk_grammar.specs.Texts.{PairsText}
 use Rattle.dlk_machine.proofs.TextLaws.{one_sequent_text, one_pairs_text}
 use Rattle.dlk_rules.specs.Steps.{step_at}
 use Rattle.dlk_rules.specs.declared.step.Step.{Step as IdStep}
 use Rattle.dlk_termtext.specs.declared.line.LineFault.{LineFault}
 use Rattle.dlk_termtext.specs.Lines.{IsNumber, IsRule, IsStep, start, use_axiom, use_rule, leaf, apply, merge, substitute, rename}
-use Rattle.dlk_termtext.specs.Parts.{Lacks, CutAt, NumberThen, FactGoal, FactGoalRule, FactGoalFact, FactPairs, FactNames, word_of, Behind, WordAndRest}
+use Rattle.dlk_termtext.specs.Parts.{CutAt, NumberThen, FactGoal, FactGoalRule, FactGoalFact, FactPairs, FactNames, word_of, Behind, WordAndRest}
 use Rattle.dlk_termtext.specs.Read.{IsFaultOf}
 use Rattle.dlk_termtext.proofs.Cuts.{lacks_if, lacks_name, one_cut}
 use Rattle.dlk_termtext.proofs.Numbers.{one_number, one_number_then}
@@ -155,65 +153,6 @@ made_step text rest (Rename fact x y) begins parts =
     let e : text ≡ codes "rename " ++ f ++ codes " " ++ x ++ codes " " ++ y =
     begins ∙ ap (λ l. codes "rename " ++ l) (parts.fact_is.text_is ∙ ap (λ l. f ++ 32 ∷ l) parts.names_are ∙ behind) in
     rw e (rename parts.fact_is.is_number parts.first_name parts.second_name)
-
--- a step of this word, without what the step wants behind it, is none
-module _ (word rest : List ℕ) where
-  told : {step : Step} (first : List ℕ) → word ≡ first → WordAndRest word rest step → kind_of first ≡ kind step
-  told {step} first is p = sym (ap kind_of is) ∙ ap kind_of p.word_is ∙ kind_of_word step
-
-  pub no_start : word ≡ codes "start" → ((s : Sequent) → ¬ SequentText rest s) → (step : Step) → ¬ WordAndRest word rest step
-  unfolding kind_of
-  no_start is none (Start s) p = none s p.behind
-  no_start is none _ p = omega (arith, told (codes "start") is p)
-
-  pub no_axiom : word ≡ codes "axiom" → (¬ IsTrue (is_name rest)) → (step : Step) → ¬ WordAndRest word rest step
-  unfolding kind_of
-  no_axiom is none (UseAxiom name) p = none p.behind.1
-  no_axiom is none _ p = omega (arith, told (codes "axiom") is p)
-
-  pub no_ax_rule : word ≡ codes "rule" → (¬ IsTrue (is_name rest)) → (step : Step) → ¬ WordAndRest word rest step
-  unfolding kind_of
-  no_ax_rule is none (UseRule name) p = none p.behind.1
-  no_ax_rule is none _ p = omega (arith, told (codes "rule") is p)
-
-  pub no_leaf : word ≡ codes "leaf" → ((s : Sequent) → ¬ SequentText rest s) → (step : Step) → ¬ WordAndRest word rest step
-  unfolding kind_of
-  no_leaf is none (Leaf s) p = none s p.behind
-  no_leaf is none _ p = omega (arith, told (codes "leaf") is p)
-
-  pub no_apply : word ≡ codes "apply" → ((fact goal : ℕ) (r : Rule) → ¬ FactGoalRule rest fact goal r) → (step : Step) → ¬ WordAndRest word rest step
-  unfolding kind_of
-  no_apply is none (Apply fact goal r) p = none fact goal r p.behind
-  no_apply is none _ p = omega (arith, told (codes "apply") is p)
-
-  pub no_merge : word ≡ codes "merge" → ((fact goal by : ℕ) → ¬ FactGoalFact rest fact goal by) → (step : Step) → ¬ WordAndRest word rest step
-  unfolding kind_of
-  no_merge is none (Merge fact goal by) p = none fact goal by p.behind
-  no_merge is none _ p = omega (arith, told (codes "merge") is p)
-
-  pub no_subst : word ≡ codes "subst" → ((fact : ℕ) (pairs : List Pair) → ¬ FactPairs rest fact pairs) → (step : Step) → ¬ WordAndRest word rest step
-  unfolding kind_of
-  no_subst is none (Substitute fact pairs) p = none fact pairs p.behind
-  no_subst is none _ p = omega (arith, told (codes "subst") is p)
-
-  pub no_rename : word ≡ codes "rename" → ((fact : ℕ) (x y : List ℕ) → ¬ FactNames rest fact x y) → (step : Step) → ¬ WordAndRest word rest step
-  unfolding kind_of
-  no_rename is none (Rename fact x y) p = none fact x y p.behind
-  no_rename is none _ p = omega (arith, told (codes "rename") is p)
-
--- a step has one of the words
-abbrev pub step_words : List (List ℕ)
-step_words = codes "start" ∷ codes "axiom" ∷ codes "rule" ∷ codes "leaf" ∷ codes "apply" ∷ codes "merge" ∷ codes "subst" ∷ codes "rename" ∷ []
-
-pub no_other_word : (word rest : List ℕ) → Each (λ w. word ≢ w) step_words → (step : Step) → ¬ WordAndRest word rest step
-no_other_word word rest none (Start s) p = none.0 p.word_is
-no_other_word word rest none (UseAxiom name) p = none.1.0 p.word_is
-no_other_word word rest none (UseRule name) p = none.1.1.0 p.word_is
-no_other_word word rest none (Leaf s) p = none.1.1.1.0 p.word_is
-no_other_word word rest none (Apply fact goal r) p = none.1.1.1.1.0 p.word_is
-no_other_word word rest none (Merge fact goal by) p = none.1.1.1.1.1.0 p.word_is
-no_other_word word rest none (Substitute fact pairs) p = none.1.1.1.1.1.1.0 p.word_is
-no_other_word word rest none (Rename fact x y) p = none.1.1.1.1.1.1.1.0 p.word_is
 
 -- a fact and two names: the first name ends at the first space behind the fact
 pub names_cut : (text : List ℕ) (fact : ℕ) (x y : List ℕ) (h : FactNames text fact x y) → CutAt h.behind_fact 32 x y

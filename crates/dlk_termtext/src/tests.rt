@@ -40,6 +40,58 @@ fn renamed(rt: &HostRuntime, text: &str) -> Option<(u32, Name, Name)> {
     }
 }
 
+/// The fact, the goal and the merged fact of a line.
+fn merged(rt: &HostRuntime, text: &str) -> Option<(u32, u32, u32)> {
+    match read(rt, text)? {
+        Line::Step {
+            number: _,
+            step: Step::Merge { fact, goal, by },
+        } => Some((fact, goal, by)),
+        _ => None,
+    }
+}
+
+/// The fact of a line, and how many pairs it has.
+fn substituted(rt: &HostRuntime, text: &str) -> Option<(u32, usize)> {
+    match read(rt, text)? {
+        Line::Step {
+            number: _,
+            step: Step::Subst { fact, pairs },
+        } => Some((fact, pairs.as_slice().len())),
+        _ => None,
+    }
+}
+
+/// The kind and the name of a line that names an axiom or an axiomatic rule.
+fn named(rt: &HostRuntime, text: &str) -> Option<(&'static str, Name)> {
+    match read(rt, text)? {
+        Line::Step {
+            number: _,
+            step: Step::Axiom(name),
+        } => Some(("axiom", name)),
+        Line::Step {
+            number: _,
+            step: Step::AxRule(name),
+        } => Some(("rule", name)),
+        _ => None,
+    }
+}
+
+/// Whether a line opens with a sequent, or adds one as a leaf.
+fn opened(rt: &HostRuntime, text: &str) -> Option<&'static str> {
+    match read(rt, text)? {
+        Line::Step {
+            number: _,
+            step: Step::Start(_),
+        } => Some("start"),
+        Line::Step {
+            number: _,
+            step: Step::Leaf(_),
+        } => Some("leaf"),
+        _ => None,
+    }
+}
+
 #[test]
 fn reads_lines(rt: HostRuntime) -> Result<(), Fail> {
     let rows = [
@@ -131,6 +183,98 @@ fn reads_names(rt: HostRuntime) -> Result<(), Fail> {
     );
     let names = (2, Name::new(alloc, b"x")?, Name::new(alloc, b"True")?);
     assert_eq!(rt; renamed(&rt, "1 rename 2 x True"), Some(names));
+    Ok(())
+}
+
+#[test]
+fn reads_names_of_axioms(rt: HostRuntime) -> Result<(), Fail> {
+    let alloc = rt.alloc();
+    let axiom = ("axiom", Name::new(alloc, b"assignb")?);
+    assert_eq!(rt; named(&rt, "1 axiom assignb"), Some(axiom));
+    let unknown = ("axiom", Name::new(alloc, b"nonsense")?);
+    assert_eq!(rt; named(&rt, "1 axiom nonsense"), Some(unknown));
+    let rule = ("rule", Name::new(alloc, b"goedel")?);
+    assert_eq!(rt; named(&rt, "12 rule goedel"), Some(rule));
+    Ok(())
+}
+
+#[test]
+fn reads_sequents(rt: HostRuntime) -> Result<(), Fail> {
+    assert_eq!(rt; opened(&rt, "1 start x>0 ==> x>0"), Some("start"));
+    assert_eq!(rt; opened(&rt, "1 leaf x>0 ==> x>0"), Some("leaf"));
+    assert_eq!(rt; opened(&rt, "1 leaf ==> [x:=1;]x>0"), Some("leaf"));
+    Ok(())
+}
+
+#[test]
+fn reads_merges(rt: HostRuntime) -> Result<(), Fail> {
+    assert_eq!(rt; merged(&rt, "7 merge 4 5 6"), Some((4, 5, 6)));
+    assert_eq!(rt;
+        merged(&rt, "7 merge 999999999 1 6"),
+        Some((999999999, 1, 6))
+    );
+    Ok(())
+}
+
+#[test]
+fn reads_substitutions(rt: HostRuntime) -> Result<(), Fail> {
+    let rows = [
+        ("2 subst 1 ", Some((1, 0))),
+        ("2 subst 1  ", Some((1, 0))),
+        ("2 subst 1 p()~>true", Some((1, 1))),
+        ("2 subst 13 p(._0)~>._0>=1, f()~>x+1", Some((13, 2))),
+        ("2 subst 1 p()~>true, p()~>false", Some((1, 2))),
+        ("2 subst 1", None),
+        ("2 subst ", None),
+        ("2 subst p()~>true", None),
+        ("2 subst 1 p()~>", None),
+        ("2 subst 1 p()~>true,", None),
+        ("2 subst 01 p()~>true", None),
+        ("2 subst 1 2 p()~>true", None),
+    ];
+    for (text, want) in rows {
+        assert_eq!(rt; substituted(&rt, text), want, "{text}");
+    }
+    Ok(())
+}
+
+#[test]
+fn reads_no_steps(rt: HostRuntime) -> Result<(), Fail> {
+    let rows = [
+        "1 axiom",
+        "1 axiom ",
+        "1 axiom  assignb",
+        "1 axiom assignb ",
+        "1 axiom 1x",
+        "1 axiom true",
+        "1 axiom x y",
+        "1 axioms x",
+        "1 Axiom x",
+        "1 rule",
+        "1 rule ",
+        "1 rule goedel()",
+        "1 rule _0",
+        "1 rules goedel",
+        "1 leaf",
+        "1 leaf ",
+        "1 leaf x>0",
+        "1 leaf ==> ._0>=0",
+        "1 leafs ==>",
+        "1 merge 1 2",
+        "1 merge 1 2 ",
+        "1 merge 1 2 3 ",
+        "1 merge 1  2 3",
+        "1 merge 1 2 03",
+        "1 merge 1 2 x",
+        "1 merge 1 2 1000000000",
+        "1 merge 1 2 3 4",
+        "1 merge ==>",
+        "1  ==>",
+        "1 ==>",
+    ];
+    for text in rows {
+        assert_eq!(rt; number(&rt, text), None, "{text}");
+    }
     Ok(())
 }
 
