@@ -5,6 +5,7 @@ mod models;
 mod printing;
 mod rules;
 mod substituting;
+mod terms;
 
 ghost use Rattle.std.specs.Prelude.{◌≡◌, ◌<◌, ◌≤◌};
 
