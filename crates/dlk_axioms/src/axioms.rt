@@ -19,7 +19,7 @@ use std::alloc::Global;
 ///
 /// `Memory` alone. Whatever comes, the store keeps its trees; it may have more nodes then.
 pub fn axiom<S: Store>(alloc: Global, store: &mut S, name: &[u8]) -> Result<Option<Id>, StoreFault>
-    ensures found { IfOk result (Finds (λ (a : Axiom) id. StandsFor (S.trees store.new) id a.formula) (axiom_named name.now)) }
+    ensures axiom { IfOk result (Finds (λ (a : Axiom) id. StandsFor (S.trees store.new) id a.formula) (axiom_named name.now)) }
     ensures grows { S.grows store.old store.new }
 {
     let Some(row) = axiom_row(name) else {

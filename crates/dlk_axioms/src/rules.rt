@@ -21,7 +21,7 @@ pub fn axiomatic_rule<S: Store>(
     store: &mut S,
     name: &[u8],
 ) -> Result<Option<(Vec<Sequent>, Sequent)>, StoreFault>
-    ensures found { IfOk result (Finds (λ (r : AxiomaticRule) made. IsRuleAt (S.trees store.new) r made.0.items made.1) (rule_named name.now)) }
+    ensures rule { IfOk result (Finds (λ (r : AxiomaticRule) made. IsRuleAt (S.trees store.new) r made.0.items made.1) (rule_named name.now)) }
     ensures grows { S.grows store.old store.new }
 {
     let Some(row) = rule_row(name) else {

@@ -6,7 +6,7 @@ read-requires g c =
     let h = c.in-Some.ensures in
     (h.0.formula, axiom_row_text c.args.name.now h.0 c.in-Some.row.now h.1 h.2)
 
-pub returns-clause-found : goal.returns-clause-found
-returns-clause-found g c =
+pub returns-clause-axiom : goal.returns-clause-axiom
+returns-clause-axiom g c =
     let h = c.in-Some.ensures in
     (h.0, h.1, c.in_ok-id.ensures.read h.0.formula (axiom_row_text c.args.name.now h.0 c.in-Some.row.now h.1 h.2))

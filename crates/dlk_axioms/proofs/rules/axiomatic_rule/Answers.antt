@@ -12,8 +12,8 @@ read_alone_right-requires-2 g c =
     let h = c.in-Some.ensures in
     (h.0.conclusion, conclusion_text c.args.name.now h.0 c.in-Some.row.now h.1 h.2)
 
-pub returns-clause-found : goal.returns-clause-found
-returns-clause-found g c =
+pub returns-clause-rule : goal.returns-clause-rule
+returns-clause-rule g c =
     let h = c.in-Some.ensures in
     let name = c.args.name.now in
     let row = c.in-Some.row.now in
