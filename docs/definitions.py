@@ -35,7 +35,7 @@ DECLARED = "declared."
 
 IMPORT = re.compile(r"^use Rattle\.(\w+)\.specs\.([\w.]+?)(?:\.\{(.*)\}| as (\S+))$", re.MULTILINE)
 TYPE_NAME = re.compile(r"^\s*(?:abbrev )?(?:pub )?(?:data|record) (\S+)")
-FUNCTION_NAME = re.compile(r"^abbrev (?:pub )?(\S+) :")
+FUNCTION_NAME = re.compile(r"^(?:abbrev|unfoldable) (?:pub )?(\S+) :")
 MUTUAL_FUNCTION_NAME = re.compile(r"^\s+pub (\S+) :")
 CONSTRUCTOR_NAME = re.compile(r"^\s+(\S+) :")
 WORD = re.compile(r"[^\s(){}\[\];,:]+")

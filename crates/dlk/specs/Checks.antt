@@ -2,7 +2,7 @@
 use Rattle.std.specs.Prelude.{◌≡◌, ◌≢◌, ◌⊎◌, ℕ, Bool, true, false, List, [], ◌∷◌, ◌++◌, length, codes, decimal}
 use Rattle.dlk_tree.specs.Trees.{Tree}
 use Rattle.dlk_calculus.specs.declared.reason.Reason.{Reason}
-use Rattle.dlk_calculus.specs.declared.reason.Reason.TheVariants.{NoFact, NoGoal, NoPlace, WrongShape, NotEqual}
+use Rattle.dlk_calculus.specs.declared.reason.Reason.TheVariants.{NoFact, NoGoal, UnknownName, NoPlace, WrongShape, NotEqual, NotFresh, NotArith, IllSubst, FreeInSubst, NotAdmissible}
 use Rattle.dlk_calculus.specs.Sequents.{Sequent}
 use Rattle.dlk_calculus.specs.Provables.{Provable}
 use Rattle.dlk_grammar.specs.declared.token.Dots.TheVariants as dots
@@ -34,9 +34,15 @@ proves f = record { ante = []; succ = f ∷ [] }
 abbrev pub reason_text : Reason → List ℕ
 reason_text NoFact = codes "NoFact"
 reason_text NoGoal = codes "NoGoal"
+reason_text UnknownName = codes "UnknownName"
 reason_text NoPlace = codes "NoPlace"
 reason_text WrongShape = codes "WrongShape"
 reason_text NotEqual = codes "NotEqual"
+reason_text NotFresh = codes "NotFresh"
+reason_text NotArith = codes "NotArith"
+reason_text IllSubst = codes "IllSubst"
+reason_text FreeInSubst = codes "FreeInSubst"
+reason_text NotAdmissible = codes "NotAdmissible"
 
 abbrev pub why_text : LineWhy → List ℕ
 why_text Malformed = codes "Malformed"

@@ -1,5 +1,5 @@
 -- The axioms and the axiomatic rules are made of formulas.
-use Rattle.std.proofs.Common.{◌≡◌, refl, Bool, true, false, ◌&&◌, not, subst, cond, ℕ, List, [], ◌∷◌, map, Option, Some, find}
+use Rattle.std.proofs.Common.{◌≡◌, refl, Bool, true, false, ◌&&◌, not, subst, cond, ℕ, List, [], ◌∷◌, map, Some, find}
 use Rattle.std.specs.Prelude.{IsTrue}
 use Rattle.std.specs.Str.{bytes_eq}
 use Rattle.std.proofs.lemmas.Option.{none-some, same_Some}

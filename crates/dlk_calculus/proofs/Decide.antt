@@ -41,7 +41,7 @@ fits_decided op kids =
     both (λ k p. record { kids_fit = k; parts_fit = p }) (λ f. f.kids_fit) (λ f. f.parts_fit) (decided _ (sorts_decides (sorts kids) (kid_sorts op))) (is_true (has_parts op))
 
 mutual
-  well_made_decided : (t : Tree) → Dec (WellMade t)
+  pub well_made_decided : (t : Tree) → Dec (WellMade t)
   well_made_decided (node op kids) = both (λ f k. (f, k)) (λ w. w.0) (λ w. w.1) (fits_decided op kids) (all_well_made_decided kids)
 
   all_well_made_decided : (kids : Forest) → Dec (AllWellMade kids)
@@ -66,3 +66,12 @@ all_formulas (t ∷ ts) = both (All-cons IsFormula t ts) (All-head IsFormula t t
 
 pub is_sequent : (s : Sequent) → Dec (IsSequent s)
 is_sequent s = both (λ a b. record { ante = a; succ = b }) (λ q. q.ante) (λ q. q.succ) (all_formulas s.ante) (all_formulas s.succ)
+
+same_trees : (ss ts : List Tree) → Dec (ss ≡ ts)
+same_trees [] [] = yes refl
+same_trees [] (t ∷ ts) = no (λ e. cc)
+same_trees (s ∷ ss) [] = no (λ e. cc)
+same_trees (s ∷ ss) (t ∷ ts) = both (λ p q i. p i ∷ q i) (λ e. cc) (λ e. cc) (same_tree s t) (same_trees ss ts)
+
+pub same_sequent : (s t : Sequent) → Dec (s ≡ t)
+same_sequent s t = both (λ p q i. record { ante = p i; succ = q i }) (λ e i. (e i).ante) (λ e i. (e i).succ) (same_trees s.ante t.ante) (same_trees s.succ t.succ)

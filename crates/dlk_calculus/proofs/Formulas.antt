@@ -1,11 +1,9 @@
 -- What is given from provables of formulas is one of formulas.
-use Rattle.std.proofs.Common.{◌≡◌, ℕ, zero, suc, ◌≤◌, ◌-◌, Bool, true, false, ◌||◌, List, [], ◌∷◌, ◌++◌, length, take, get_or, refl, sym, ap, subst, ◌∙◌, cond, Some, None, arith, length-append}
+use Rattle.std.proofs.Common.{◌≡◌, ℕ, ◌-◌, Bool, true, false, ◌||◌, List, [], ◌∷◌, ◌++◌, refl, sym, ap, subst, ◌∙◌, cond, Some, None, arith}
 use Rattle.std.specs.Prelude.{IsTrue}
 use Rattle.std.specs.List.{All}
-use Rattle.std.proofs.lemmas.Option.{slice_get-get_or, none-some, same_Some}
-use Rattle.std.proofs.lemmas.List.{take_all}
-use Rattle.std.proofs.lemmas.List.Elements.{All-cons, All-nil, All-push, All-set, All-append, All-take, All-drop}
-use Rattle.std.proofs.Math.Seq.{get_or-append_seam, take-suc}
+use Rattle.std.proofs.lemmas.Option.{none-some, same_Some}
+use Rattle.std.proofs.lemmas.List.Elements.{All-cons, All-nil, All-head, All-tail, All-push, All-set, All-append, All-take, All-drop}
 use Rattle.dlk_tree.specs.declared.op.Op.{Op}
 use Rattle.dlk_tree.specs.declared.op.Op.TheVariants as Op'
 use Rattle.dlk_tree.specs.declared.op.Sort.TheVariants.{Formula, Program}
@@ -13,16 +11,19 @@ use Rattle.dlk_tree.specs.Names.{is_name}
 use Rattle.dlk_tree.specs.Table.{sort_of, kid_sorts, has_parts}
 use Rattle.dlk_tree.specs.Trees.{Tree, node, Forest, no_kids, kid, root, sort, sorts, WellMade}
 use Rattle.dlk_tree.specs.Statics.{plain}
-use Rattle.dlk_tree.specs.Occurs.{has, has_dots, has_hole, is_some_dot, is_hole}
+use Rattle.dlk_tree.specs.Occurs.{has, is_some_dot, is_hole}
 use Rattle.dlk_calculus.specs.Sequents.{Sequent, alone_right, IsFormula, IsSequent}
 use Rattle.dlk_calculus.specs.Kids.{first, later, last}
 use Rattle.dlk_calculus.specs.Places.{IsPlace}
 use Rattle.dlk_calculus.specs.Rename.{name_in, binder_of, assigned, rebound, reassigned, renamed_bound, swap}
-use Rattle.dlk_calculus.specs.Rules.{Rule, Close, CloseTrue, CloseFalse, NotL, NotR, AndL, AndR, OrL, OrR, ImplyL, ImplyR, EquivL, EquivR, Cut, CutL, CutR, HideL, HideR, CoHideR, ExchangeL, ExchangeR, SkolemL, SkolemR, BoundL, BoundR, EquivifyR, CommuteEquivL, CommuteEquivR, imply, equiv, truth, kid_f, kid_g, left, left_f, left_g, right, right_f, right_g, put_left, put_right, last_left, last_right, without_left, without_right, existential, universal, CanBind, figure, Premises}
-use Rattle.dlk_calculus.specs.Provables.{Provable, HasFormulas}
-use Rattle.dlk_calculus.specs.Steps.{Step, Start, UseAxiom, UseRule, Apply, Rename, Gives, History, Derives}
+use Rattle.dlk_calculus.specs.Rules.{Rule, Close, CloseTrue, CloseFalse, NotL, NotR, AndL, AndR, OrL, OrR, ImplyL, ImplyR, EquivL, EquivR, Cut, CutL, CutR, HideL, HideR, CoHideR, ExchangeL, ExchangeR, SkolemL, SkolemR, BoundL, BoundR, EquivifyR, CommuteEquivL, CommuteEquivR, imply, equiv, truth, kid_f, kid_g, left, left_f, left_g, right, right_f, right_g, put_left, put_right, last_left, last_right, without_left, without_right, exists_name, forall_name, HasBinder, figure, Premises}
+use Rattle.dlk_calculus.specs.Provables.{Provable, HasFormulas, Joins, no_more, there, added, SubstEach, SubstSequent, SubstSequents}
+use Rattle.dlk_calculus.specs.Pairs.{Pair, IsWellFormed}
+use Rattle.dlk_calculus.specs.Steps.{Step, Start, UseAxiom, UseRule, Leaf, Apply, Merge, Substitute, Rename, Gives, History, Derives}
+use Rattle.dlk_calculus.proofs.Histories.{History-has, Derives-has}
 use Rattle.dlk_calculus.proofs.PlaceLaws.{At_All}
 use Rattle.dlk_calculus.proofs.AxiomLaws.{axiom_formula, rule_formulas}
+use Rattle.dlk_calculus.proofs.CleanResults.{subst_formula}
 use Rattle.dlk_calculus.proofs.Sorts.{head, tail}
 use Rattle.dlk_calculus.proofs.Swapped.{swap_formula, swap_is_sequent, swap_sequents}
 use Rattle.dlk_calculus.proofs.StepLaws.{given_by}
@@ -67,11 +68,11 @@ two_kids (node op kids) other is e h = two_formulas op kids (ap kid_sorts is ∙
 one_kid : (t : Tree) (op : Op) → root t ≡ op → kid_sorts op ≡ Formula ∷ [] → IsFormula t → IsFormula (kid_f t)
 one_kid (node op kids) other is e h = one_formula op kids (ap kid_sorts is ∙ e) h
 
-existential_kid : (t : Tree) (x : List ℕ) → existential (root t) ≡ Some x → IsFormula t → IsFormula (kid_f t)
+existential_kid : (t : Tree) (x : List ℕ) → exists_name (root t) ≡ Some x → IsFormula t → IsFormula (kid_f t)
 existential_kid (node (Op'.Exists z) kids) x e h = one_formula (Op'.Exists z) kids refl h
 existential_kid (node _ kids) x e h = absurd (none-some x e)
 
-universal_kid : (t : Tree) (x : List ℕ) → universal (root t) ≡ Some x → IsFormula t → IsFormula (kid_f t)
+universal_kid : (t : Tree) (x : List ℕ) → forall_name (root t) ≡ Some x → IsFormula t → IsFormula (kid_f t)
 universal_kid (node (Op'.Forall z) kids) x e h = one_formula (Op'.Forall z) kids refl h
 universal_kid (node _ kids) x e h = absurd (none-some x e)
 
@@ -163,7 +164,7 @@ rebound_formula Op'.Box kids x y e real h = modal_formula Op'.Box kids x y (reco
 rebound_formula Op'.Dia kids x y e real h = modal_formula Op'.Dia kids x y (record { sort_is = refl; parts = refl; no_dot = refl; no_hole = refl }) refl h e real
 rebound_formula _ kids x y e real h = absurd (none-some x e)
 
-renamed_formula : (y : List ℕ) (t : Tree) → CanBind y t → IsFormula t → IsFormula (renamed_bound y t)
+renamed_formula : (y : List ℕ) (t : Tree) → HasBinder y t → IsFormula t → IsFormula (renamed_bound y t)
 renamed_formula y (node op kids) can h =
     let x = can.1.0 in
     let name : name_in (binder_of op kids) ≡ x = ap name_in can.1.1 in
@@ -262,6 +263,29 @@ figure_formulas (CommuteEquivR j) s h p k =
 pub premises_formulas : (rule : Rule) (s : Sequent) (premises : List Sequent) → IsSequent s → Premises rule s premises → All IsSequent premises
 premises_formulas rule s premises h p = rw p.premises_are (figure_formulas rule s h p.places p.shape)
 
+-- what a substitution makes of formulas are formulas
+module _ (pairs : List Pair) (well : IsWellFormed pairs) where
+  substituted_each : (fs gs : List Tree) → All IsFormula fs → SubstEach pairs fs gs → All IsFormula gs
+  substituted_each [] [] h s = All-nil IsFormula
+  substituted_each [] (g ∷ gs) h s = absurd s
+  substituted_each (f ∷ fs) [] h s = absurd s
+  substituted_each (f ∷ fs) (g ∷ gs) h s = All-cons IsFormula g gs (subst_formula pairs well f g (All-head IsFormula f fs h) s.0) (substituted_each fs gs (All-tail IsFormula f fs h) s.1)
+
+  substituted_sequent : (s t : Sequent) → IsSequent s → SubstSequent pairs s t → IsSequent t
+  substituted_sequent s t h m = record { ante = substituted_each s.ante t.ante h.ante m.0; succ = substituted_each s.succ t.succ h.succ m.1 }
+
+  substituted_sequents : (ss ts : List Sequent) → All IsSequent ss → SubstSequents pairs ss ts → All IsSequent ts
+  substituted_sequents [] [] h m = All-nil IsSequent
+  substituted_sequents [] (t ∷ ts) h m = absurd m
+  substituted_sequents (s ∷ ss) [] h m = absurd m
+  substituted_sequents (s ∷ ss) (t ∷ ts) h m = All-cons IsSequent t ts (substituted_sequent s t (All-head IsSequent s ss h) m.0) (substituted_sequents ss ts (All-tail IsSequent s ss h) m.1)
+
+-- what all old leaves have and all others, all joined ones have
+pub joined_all : (P : Sequent → Type 0) (old more all : List Sequent) → All P old → All P more → Joins old more all → All P all
+joined_all P old [] _ h k no_more = h
+joined_all P old (s ∷ more) all h k (there a j) = joined_all P old more all h (All-tail P s more k) j
+joined_all P old (s ∷ more) all h k (added n j) = joined_all P (old ++ s ∷ []) more all (All-push P old s h (All-head P s more k)) (All-tail P s more k) j
+
 pub given_formulas : (rows : List Provable) (step : Step) (p : Provable) → All HasFormulas rows → Gives rows step p → HasFormulas p
 given_formulas rows (Start s) p h g =
     let m = given_by rows (Start s) p g in
@@ -273,6 +297,9 @@ given_formulas rows (UseRule name) p h g =
     let m = given_by rows (UseRule name) p g in
     let formulas = rule_formulas name m.0 m.1 in
     rw m.2 (record { conclusion = alone formulas.1; goals = All-cons IsSequent _ [] (alone formulas.0) (All-nil IsSequent); leaves = All-nil IsSequent })
+given_formulas rows (Leaf s) p h g =
+    let m = given_by rows (Leaf s) p g in
+    rw m.2 (record { conclusion = m.0; goals = All-nil IsSequent; leaves = one_sequent s m.0 })
 given_formulas rows (Apply fact goal rule) p h g =
     let m = given_by rows (Apply fact goal rule) p g in
     let q = At_All HasFormulas rows fact m.0 h m.3 in
@@ -282,6 +309,23 @@ given_formulas rows (Apply fact goal rule) p h g =
       goals = All-append IsSequent _ _ (All-append IsSequent _ _ (All-take IsSequent (goal - 1) m.0.goals q.goals) premises) (All-drop IsSequent goal m.0.goals q.goals);
       leaves = q.leaves;
     })
+given_formulas rows (Merge fact goal by) p h g =
+    let m = given_by rows (Merge fact goal by) p g in
+    let q = At_All HasFormulas rows fact m.0 h m.3 in
+    let r = At_All HasFormulas rows by m.1 h m.4 in
+    rw m.7 (record {
+      conclusion = q.conclusion;
+      goals = All-append IsSequent _ _ (All-append IsSequent _ _ (All-take IsSequent (goal - 1) m.0.goals q.goals) r.goals) (All-drop IsSequent goal m.0.goals q.goals);
+      leaves = joined_all IsSequent m.0.leaves m.1.leaves m.2 q.leaves r.leaves m.6;
+    })
+given_formulas rows (Substitute fact pairs) p h g =
+    let m = given_by rows (Substitute fact pairs) p g in
+    let q = At_All HasFormulas rows fact m.0 h m.1 in
+    record {
+      conclusion = substituted_sequent pairs m.3 m.0.conclusion p.conclusion q.conclusion m.5.conclusion;
+      goals = substituted_sequents pairs m.3 m.0.goals p.goals q.goals m.5.goals;
+      leaves = rw m.5.leaves q.leaves;
+    }
 given_formulas rows (Rename fact x y) p h g =
     let m = given_by rows (Rename fact x y) p g in
     let q = At_All HasFormulas rows fact m.0 h m.1 in
@@ -291,19 +335,8 @@ given_formulas rows (Rename fact x y) p h g =
       leaves = q.leaves;
     })
 
-front_formulas : (rows : List Provable) (n : ℕ) → History rows → n ≤ length rows → All HasFormulas (take n rows)
-front_formulas rows zero h le = All-nil HasFormulas
-front_formulas rows (suc n) h le = λ k d lt.
-    let p = get_or rows n d in
-    let before = front_formulas rows n h (omega arith) in
-    let given = h n p (slice_get-get_or rows n d (omega arith)) in
-    let after = All-push HasFormulas (take n rows) p before (given_formulas (take n rows) given.0 p before given.1) in
-    subst (All HasFormulas) (sym (take-suc rows n d (omega arith))) after k d lt
-
 pub History-formulas : (rows : List Provable) → History rows → All HasFormulas rows
-History-formulas rows h = subst (All HasFormulas) (take_all (length rows) rows (omega arith)) (front_formulas rows (length rows) h (omega arith))
+History-formulas rows h = History-has HasFormulas given_formulas rows h
 
 pub Derives-formulas : (p : Provable) → Derives p → HasFormulas p
-Derives-formulas p d =
-    let rows = d.0 ++ p ∷ [] in
-    subst HasFormulas (get_or-append_seam d.0 p [] p) (History-formulas rows d.1 (length d.0) p (omega (arith, length-append d.0 (p ∷ []))))
+Derives-formulas p d = Derives-has HasFormulas given_formulas p d

@@ -1,10 +1,11 @@
 -- Fronts of histories are histories, and a given provable goes on with one.
-use Rattle.std.proofs.Common.{◌≡◌, ℕ, ◌<◌, ◌≤◌, ◌+◌, List, [], ◌∷◌, ◌++◌, length, take, get_or, sym, ap, subst, ◌∙◌, arith, length-append, Some, ⊎_elim}
+use Rattle.std.proofs.Common.{◌≡◌, ℕ, zero, suc, ◌<◌, ◌≤◌, ◌+◌, List, [], ◌∷◌, ◌++◌, length, take, get_or, sym, ap, subst, ◌∙◌, arith, length-append, Some, ⊎_elim}
 use Rattle.std.specs.List.{All}
 use Rattle.std.proofs.lemmas.Bool.{cases_lt}
 use Rattle.std.proofs.lemmas.Option.{slice_get_within, get_or_from_slice_get, slice_get-get_or}
-use Rattle.std.proofs.lemmas.List.{take-take, take_more, take-append-le, get_or-take, get_or_append_left, length-take}
-use Rattle.std.proofs.Math.Seq.{take-append_seam, get_or-append_seam}
+use Rattle.std.proofs.lemmas.List.{take-take, take_more, take_all, take-append-le, get_or-take, get_or_append_left, length-take}
+use Rattle.std.proofs.Math.Seq.{take-append_seam, get_or-append_seam, take-suc}
+use Rattle.std.proofs.lemmas.List.Elements.{All-nil, All-push}
 use Rattle.dlk_calculus.specs.Provables.{Provable}
 use Rattle.dlk_calculus.specs.Steps.{Step, Gives, History, Derives}
 
@@ -41,3 +42,22 @@ History-more rows step p h g k q e =
 -- each row ends a history
 pub History-derives : (rows : List Provable) → History rows → All Derives rows
 History-derives rows h k d lt = (take k rows, subst History (take_more rows k d lt) (History-take (k + 1) rows h))
+
+-- What each step gives, where the rows before have it, each row of a history has, and what is derived.
+module _ (P : Provable → Type 0) (given : (rows : List Provable) (step : Step) (p : Provable) → All P rows → Gives rows step p → P p) where
+  front_has : (rows : List Provable) (n : ℕ) → History rows → n ≤ length rows → All P (take n rows)
+  front_has rows zero h le = All-nil P
+  front_has rows (suc n) h le = λ k d lt.
+      let p = get_or rows n d in
+      let before = front_has rows n h (omega arith) in
+      let by = h n p (slice_get-get_or rows n d (omega arith)) in
+      let after = All-push P (take n rows) p before (given (take n rows) by.0 p before by.1) in
+      subst (All P) (sym (take-suc rows n d (omega arith))) after k d lt
+
+  pub History-has : (rows : List Provable) → History rows → All P rows
+  History-has rows h = subst (All P) (take_all (length rows) rows (omega arith)) (front_has rows (length rows) h (omega arith))
+
+  pub Derives-has : (p : Provable) → Derives p → P p
+  Derives-has p d =
+      let rows = d.0 ++ p ∷ [] in
+      subst P (get_or-append_seam d.0 p [] p) (History-has rows d.1 (length d.0) p (omega (arith, length-append d.0 (p ∷ []))))

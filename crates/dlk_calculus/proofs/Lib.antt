@@ -1,3 +1,8 @@
+pub mod Decided
+pub mod Told
+pub mod CleanResults
+pub mod Clean
+pub mod Lacks
 pub mod PlaceLaws
 pub mod Decide
 pub mod Swapped
@@ -6,6 +11,7 @@ pub mod RuleLaws
 pub mod StepLaws
 pub mod Histories
 pub mod Formulas
+pub mod Leaves
 pub mod OneResult
 pub mod WellFormed
 pub mod Sorts

@@ -7,6 +7,7 @@ pub mod Pairs
 pub mod Subst
 pub mod SubstExamples
 pub mod Sequents
+pub mod Arithmetic
 pub mod Rename
 pub mod Rules
 pub mod RuleExamples

@@ -1,4 +1,4 @@
--- Places in a list, counted from 1.
+-- Places in a list, counted from 1. What is put at a place, and taken from one, is said of places that are there.
 use Rattle.std.specs.Prelude.{◌≡◌, ℕ, ◌-◌, ◌≤◌, ◌==◌, List, length, Option, Some, None, slice_get, slice_set, take, drop, ◌++◌, if◌then◌else◌}
 
 -- the item at a place, if there is one
@@ -21,6 +21,6 @@ put items place x = slice_set items (place - 1) x
 abbrev pub put_all : {A : Type 0} → List A → ℕ → List A → List A
 put_all items place new = take (place - 1) items ++ new ++ drop place items
 
--- the item at a place removed
-abbrev pub remove : {A : Type 0} → List A → ℕ → List A
-remove items place = take (place - 1) items ++ drop place items
+-- the items without the one at a place
+abbrev pub without_place : {A : Type 0} → List A → ℕ → List A
+without_place items place = take (place - 1) items ++ drop place items

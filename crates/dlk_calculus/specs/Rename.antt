@@ -1,5 +1,6 @@
--- Renaming: two names exchanged, and another name for a bound variable (Platzer 2017, section on the proof calculus: bound renaming).
-use Rattle.std.specs.Prelude.{ℕ, List, [], ◌∷◌, map, Bool, true, false, ◌||◌, not, if◌then◌else◌, Option, Some, None, option_map}
+-- Renaming: two names exchanged everywhere (uniform renaming), and another name for a bound variable (bound renaming). Taboos, and the
+-- condition on symbols that may read any variable, are this project's.
+use Rattle.std.specs.Prelude.{ℕ, List, [], map, Bool, ◌||◌, not, if◌then◌else◌, Option, Some, None, option_map}
 use Rattle.std.specs.List.{list_any}
 use Rattle.std.specs.Str.{bytes_eq}
 use Rattle.dlk_tree.specs.declared.op.Var.{Var}
@@ -11,7 +12,7 @@ use Rattle.dlk_tree.specs.declared.op.Op.TheVariants as Op'
 use Rattle.dlk_tree.specs.Trees.{Tree, node, Forest, no_kids, kid, root}
 use Rattle.dlk_tree.specs.Statics.{free, plain, prime}
 use Rattle.dlk_tree.specs.Occurs.{has, symbols_of}
-use Rattle.dlk_calculus.specs.Kids.{first, later, last}
+use Rattle.dlk_calculus.specs.Kids.{first, last}
 use Rattle.dlk_calculus.specs.Pairs.{takes_arguments}
 
 -- The names x and y are exchanged: in variables, binders, evolved variables and taboos. Names of symbols stay.
@@ -82,12 +83,12 @@ abbrev mutual
 
 -- Another name for the variable that a formula binds outermost: `\forall x f`, `\exists x f`, `[x:=e;]f` or `<x:=e;>f`.
 
--- the name that an operator of a program assigns without a prime
+-- the x of `x:=e;`; no other program's variable can have another name
 abbrev pub assigned : Op → Option (List ℕ)
 assigned (Op'.Assign v) = if v.primed then None else Some v.name
 assigned _ = None
 
--- the name that an operator over these kids binds
+-- the x of `\forall x f`, `\exists x f`, `[x:=e;]f` and `<x:=e;>f`; no other formula binds a name that can be another
 abbrev pub binder_of : Op → Forest → Option (List ℕ)
 binder_of (Op'.Forall x) kids = Some x
 binder_of (Op'.Exists x) kids = Some x
@@ -106,7 +107,7 @@ body (node op kids) = last kids
 abbrev pub reassigned : List ℕ → Tree → Tree
 reassigned y (node op kids) = node (Op'.Assign (plain y)) kids
 
--- the operator over its kids, with y for the bound x, and f for the body
+-- the operator over its kids, with y for the bound x, and f for the body; what is neither quantifier binds by an assignment
 abbrev pub rebound : List ℕ → Tree → Op → Forest → Tree
 rebound y f (Op'.Forall x) kids = node (Op'.Forall y) (kid f no_kids)
 rebound y f (Op'.Exists x) kids = node (Op'.Exists y) (kid f no_kids)
@@ -121,13 +122,15 @@ name_in (Some x) = x
 abbrev pub renamed_bound : List ℕ → Tree → Tree
 renamed_bound y (node op kids) = rebound y (swap (name_in (binder_of op kids)) y (last kids)) op kids
 
--- a symbol that may read variables that aren't written with it: a unit symbol, a predicational, a program or an ODE constant
-abbrev pub is_open : Sym → Bool
-is_open s = not (takes_arguments s.kind)
+-- A symbol that may read variables that aren't written with it: a unit symbol, a predicational, a program constant or an ODE constant. An
+-- exchange of names can't reach what will stand for it.
+abbrev pub hides_variables : Sym → Bool
+hides_variables s = not (takes_arguments s.kind)
 
-abbrev pub has_open : Tree → Bool
-has_open t = has (λ op. list_any is_open (symbols_of op)) t
+abbrev pub has_hidden_variables : Tree → Bool
+has_hidden_variables t = has (λ op. list_any hides_variables (symbols_of op)) t
 
--- y may stand for the bound x: y, y' and x' aren't free in the body, and no such symbol stands there
+-- y may stand for the bound x: y, y' and x' aren't free in the body, and no symbol that may read any variable stands there, even where
+-- y, y' and x' are must-bound before it
 abbrev pub may_rename : List ℕ → List ℕ → Tree → Bool
-may_rename x y f = not (free f (plain y) || free f (prime y) || free f (prime x) || has_open f)
+may_rename x y f = not (free f (plain y) || free f (prime y) || free f (prime x) || has_hidden_variables f)

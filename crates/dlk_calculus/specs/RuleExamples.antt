@@ -1,15 +1,15 @@
 -- Examples of renaming and of rules.
-use Rattle.std.specs.Prelude.{◌≡◌, ℕ, refl, List, [], ◌∷◌, Bool, true, false, Option, Some, None, codes}
+use Rattle.std.specs.Prelude.{◌≡◌, ℕ, refl, List, [], ◌∷◌, true, false, ◌||◌, Some, None, codes}
 use Rattle.dlk_tree.specs.declared.op.Sym.{Sym}
 use Rattle.dlk_tree.specs.declared.op.Kind.TheVariants.{Pred, UnitPred, Prog, Ode}
 use Rattle.dlk_tree.specs.declared.op.OdeItem.TheVariants as Item
 use Rattle.dlk_tree.specs.declared.op.Op.{Op}
 use Rattle.dlk_tree.specs.declared.op.Op.TheVariants as Op'
 use Rattle.dlk_tree.specs.Trees.{Tree, node, Forest, no_kids, kid}
-use Rattle.dlk_tree.specs.Statics.{plain, prime}
+use Rattle.dlk_tree.specs.Statics.{free, plain, prime}
 use Rattle.dlk_calculus.specs.Sequents.{Sequent}
-use Rattle.dlk_calculus.specs.Rename.{swap, binder, body, renamed_bound, may_rename}
-use Rattle.dlk_calculus.specs.Rules.{Rule, ImplyL, CutL, EquivL, ExchangeL, CoHideR, imply, equiv, figure}
+use Rattle.dlk_calculus.specs.Rename.{swap, binder, renamed_bound, may_rename}
+use Rattle.dlk_calculus.specs.Rules.{ImplyL, CutL, EquivL, ExchangeL, CoHideR, imply, equiv, figure}
 
 abbrev one : Tree → Forest
 one t = kid t no_kids
@@ -91,19 +91,32 @@ no_constant_binder = refl
 fresh_name : may_rename x y (greater (variable x) (variable (codes "z"))) ≡ true
 fresh_name = refl
 
--- y is free in x>y, x' in x'>x, and p(|y|) may read any variable but y
+-- y is free in x>y, x' in x'>x
 free_name : may_rename x y (greater (variable x) (variable y)) ≡ false
 free_name = refl
 
 free_prime : may_rename x y (greater (leaf (Op'.Variable (prime x))) (variable x)) ≡ false
 free_prime = refl
 
-open_symbol : may_rename x y (all_but y) ≡ false
-open_symbol = refl
+-- neither y nor y' is free in p(|y|), and yet it is refused: p may read other variables
+hidden_variables : may_rename y y (all_but y) ≡ false
+hidden_variables = refl
 
--- must-bound in the program, and yet not fresh: a unit symbol stands behind it
-open_behind_assignments : may_rename x y (assigned_box y (variable y) (all_but y)) ≡ false
-open_behind_assignments = refl
+-- [y:=1;y':=1;x':=1;]p(||): y, y' and x' are must-bound before p(||), and yet it is refused
+abbrev assign : Op → Tree
+assign op = node op (one (leaf (Op'.Number (record { digits = 1; scale = 0 }))))
+
+abbrev assigns_all : Tree
+assigns_all = node Op'.Seq (two (assign (Op'.Assign (plain y))) (node Op'.Seq (two (assign (Op'.Assign (prime y))) (assign (Op'.Assign (prime x))))))
+
+abbrev behind_assignments : Tree
+behind_assignments = node Op'.Box (two assigns_all (leaf (Op'.UnitPred (record { kind = UnitPred; name = codes "p"; arity = 0; taboo = None }))))
+
+reads_none_of_them : (free behind_assignments (plain y) || free behind_assignments (prime y) || free behind_assignments (prime x)) ≡ false
+reads_none_of_them = refl
+
+hidden_behind_assignments : may_rename x y behind_assignments ≡ false
+hidden_behind_assignments = refl
 
 -- ---- rules
 

@@ -1,17 +1,16 @@
 -- The sequent rules, from the conclusion up to the premises.
-use Rattle.std.specs.Prelude.{◌≡◌, ℕ, ◌<◌, ◌-◌, List, [], ◌∷◌, ◌++◌, get_or, Bool, false, ◌||◌, Option, Some, None, IsTrue}
+use Rattle.std.specs.Prelude.{◌≡◌, ℕ, ◌<◌, ◌-◌, List, [], ◌∷◌, ◌++◌, get_or, false, ◌||◌, Option, Some, None, IsTrue}
 use Rattle.std.specs.List.{list_any}
 use Rattle.dlk_tree.specs.declared.op.Op.{Op}
 use Rattle.dlk_tree.specs.declared.op.Op.TheVariants as Op'
-use Rattle.dlk_tree.specs.declared.op.Var.{Var}
 use Rattle.dlk_tree.specs.Names.{is_name}
 use Rattle.dlk_tree.specs.Trees.{Tree, node, no_kids, kid, root}
 use Rattle.dlk_tree.specs.Statics.{free, plain}
 use Rattle.dlk_calculus.specs.declared.reason.Reason.{Reason}
-use Rattle.dlk_calculus.specs.declared.reason.Reason.TheVariants.{NoFact, NoGoal, UnknownName, NoPlace, WrongShape, NotEqual, NotFresh}
+use Rattle.dlk_calculus.specs.declared.reason.Reason.TheVariants.{NoFact, NoGoal, UnknownName, NoPlace, WrongShape, NotEqual, NotFresh, NotArith, IllSubst, FreeInSubst, NotAdmissible}
 use Rattle.dlk_calculus.specs.Reasons.{rank}
 use Rattle.dlk_calculus.specs.Kids.{first, later}
-use Rattle.dlk_calculus.specs.Places.{IsPlace, put, remove}
+use Rattle.dlk_calculus.specs.Places.{IsPlace, put, without_place}
 use Rattle.dlk_calculus.specs.Sequents.{Sequent, alone_right, IsFormula}
 use Rattle.dlk_calculus.specs.Rename.{binder, body, renamed_bound, may_rename}
 
@@ -63,7 +62,8 @@ kid_f (node op kids) = first kids
 abbrev pub kid_g : Tree → Tree
 kid_g (node op kids) = first (later kids)
 
--- The formula at place i on the left with its kids, and that at place j on the right; `true` where there is none.
+-- The formula at place i on the left with its kids, and that at place j on the right, of places that are there: a place that isn't
+-- there speaks against a rule before anything else is asked.
 
 abbrev pub left : ℕ → Sequent → Tree
 left i s = get_or s.ante (i - 1) truth
@@ -103,133 +103,136 @@ last_right f s = record { ante = s.ante; succ = s.succ ++ f ∷ [] }
 
 -- the formula at place i on the left removed
 abbrev pub without_left : ℕ → Sequent → Sequent
-without_left i s = record { ante = remove s.ante i; succ = s.succ }
+without_left i s = record { ante = without_place s.ante i; succ = s.succ }
 
 -- the formula at place j on the right removed
 abbrev pub without_right : ℕ → Sequent → Sequent
-without_right j s = record { ante = s.ante; succ = remove s.succ j }
+without_right j s = record { ante = s.ante; succ = without_place s.succ j }
 
 -- What a rule asks for:
 
 -- the x of `\exists x`
-abbrev pub existential : Op → Option (List ℕ)
-existential (Op'.Exists x) = Some x
-existential _ = None
+abbrev pub exists_name : Op → Option (List ℕ)
+exists_name (Op'.Exists x) = Some x
+exists_name _ = None
 
 -- the x of `\forall x`
-abbrev pub universal : Op → Option (List ℕ)
-universal (Op'.Forall x) = Some x
-universal _ = None
+abbrev pub forall_name : Op → Option (List ℕ)
+forall_name (Op'.Forall x) = Some x
+forall_name _ = None
 
-abbrev pub IsSome : Option (List ℕ) → Type 0
-IsSome name = (x : List ℕ) × (name ≡ Some x)
+abbrev pub HasName : Option (List ℕ) → Type 0
+HasName name = (x : List ℕ) × (name ≡ Some x)
 
 -- the name x, if there is one, has this
 abbrev pub OfName : Option (List ℕ) → (List ℕ → Type 0) → Type 0
 OfName name P = (x : List ℕ) → name ≡ Some x → P x
 
--- x is free in no formula of the sequent
-abbrev pub IsUnread : Sequent → List ℕ → Type 0
-IsUnread s x = (list_any (λ t. free t (plain x)) s.ante || list_any (λ t. free t (plain x)) s.succ) ≡ false
+-- x is free in no formula of the sequent; x' may be
+abbrev pub IsFreshIn : Sequent → List ℕ → Type 0
+IsFreshIn s x = (list_any (λ t. free t (plain x)) s.ante || list_any (λ t. free t (plain x)) s.succ) ≡ false
 
--- the formula binds a variable that can have another name, and y is a name
-abbrev pub CanBind : List ℕ → Tree → Type 0
-CanBind y t = IsTrue (is_name y) × IsSome (binder t)
+-- The formula binds outermost a variable that can have another name, and y is a name. In the code each name is one.
+abbrev pub HasBinder : List ℕ → Tree → Type 0
+HasBinder y t = IsTrue (is_name y) × HasName (binder t)
 
--- y may stand for the variable that the formula binds
-abbrev pub MayBind : List ℕ → Tree → Type 0
-MayBind y t = OfName (binder t) (λ x. IsTrue (may_rename x y (body t)))
+-- y is fresh for the variable that the formula binds
+abbrev pub IsFreshBinder : List ℕ → Tree → Type 0
+IsFreshBinder y t = OfName (binder t) (λ x. IsTrue (may_rename x y (body t)))
 
--- The figure of a rule on a sequent: what must hold, and the premises above it.
+-- The inference figure of a rule, read upwards from a sequent: what must hold of it, and the premises. What must hold stands in four
+-- parts, each with a reason of its own against the rule.
 pub record Figure : Type 1 where
   -- the places are there
   pub places : Type 0
   -- the formulas have the form that the rule wants
   pub shape : Type 0
-  -- formulas that are to be the same are
+  -- the formulas that are to be the same are
   pub equals : Type 0
   -- variables that are to be fresh are
   pub fresh : Type 0
   pub premises : List Sequent
 
 -- a rule that asks for places and a form alone
-abbrev pub plain_figure : Type 0 → Type 0 → List Sequent → Figure
-plain_figure places shape premises = record { places = places; shape = shape; equals = Unit {0}; fresh = Unit {0}; premises = premises }
+abbrev pub shape_figure : Type 0 → Type 0 → List Sequent → Figure
+shape_figure places shape premises = record { places = places; shape = shape; equals = Unit {0}; fresh = Unit {0}; premises = premises }
 
 -- a rule that asks for its places alone
-abbrev pub any_figure : Type 0 → List Sequent → Figure
-any_figure places premises = plain_figure places (Unit {0}) premises
+abbrev pub place_figure : Type 0 → List Sequent → Figure
+place_figure places premises = shape_figure places (Unit {0}) premises
 
 -- a rule that asks for a fresh variable too
 abbrev pub fresh_figure : Type 0 → Type 0 → Type 0 → List Sequent → Figure
 fresh_figure places shape fresh premises = record { places = places; shape = shape; equals = Unit {0}; fresh = fresh; premises = premises }
 
--- The sequent rules, one row a rule. In each comment, A i stands at place i on the left, S j at place j on the right.
+-- The sequent rules, one row a rule. In each comment, A i stands at place i on the left, S j at place j on the right, f and g are the
+-- formula's kids, and h is the rule's own formula. `First ..; then ..` are two premises. A side that isn't named stays as it is.
 abbrev pub figure : Rule → Sequent → Figure
 -- close(i,j): A i and S j are the same. No premises.
 figure (Close i j) s = record { places = IsPlace s.ante i × IsPlace s.succ j; shape = Unit {0}; equals = left i s ≡ right j s; fresh = Unit {0}; premises = [] }
 -- closeTrue(j): S j is true. No premises.
-figure (CloseTrue j) s = plain_figure (IsPlace s.succ j) (root (right j s) ≡ Op'.True) []
+figure (CloseTrue j) s = shape_figure (IsPlace s.succ j) (root (right j s) ≡ Op'.True) []
 -- closeFalse(i): A i is false. No premises.
-figure (CloseFalse i) s = plain_figure (IsPlace s.ante i) (root (left i s) ≡ Op'.False) []
+figure (CloseFalse i) s = shape_figure (IsPlace s.ante i) (root (left i s) ≡ Op'.False) []
 -- notL(i): A i is !f. A i removed, f last on the right.
-figure (NotL i) s = plain_figure (IsPlace s.ante i) (root (left i s) ≡ Op'.Not) (last_right (left_f i s) (without_left i s) ∷ [])
+figure (NotL i) s = shape_figure (IsPlace s.ante i) (root (left i s) ≡ Op'.Not) (last_right (left_f i s) (without_left i s) ∷ [])
 -- notR(j): S j is !f. S j removed, f last on the left.
-figure (NotR j) s = plain_figure (IsPlace s.succ j) (root (right j s) ≡ Op'.Not) (last_left (right_f j s) (without_right j s) ∷ [])
+figure (NotR j) s = shape_figure (IsPlace s.succ j) (root (right j s) ≡ Op'.Not) (last_left (right_f j s) (without_right j s) ∷ [])
 -- andL(i): A i is f & g. f at i, g last on the left.
-figure (AndL i) s = plain_figure (IsPlace s.ante i) (root (left i s) ≡ Op'.And) (last_left (left_g i s) (put_left i (left_f i s) s) ∷ [])
+figure (AndL i) s = shape_figure (IsPlace s.ante i) (root (left i s) ≡ Op'.And) (last_left (left_g i s) (put_left i (left_f i s) s) ∷ [])
 -- andR(j): S j is f & g. First f at j; then g at j.
-figure (AndR j) s = plain_figure (IsPlace s.succ j) (root (right j s) ≡ Op'.And) (put_right j (right_f j s) s ∷ put_right j (right_g j s) s ∷ [])
+figure (AndR j) s = shape_figure (IsPlace s.succ j) (root (right j s) ≡ Op'.And) (put_right j (right_f j s) s ∷ put_right j (right_g j s) s ∷ [])
 -- orL(i): A i is f | g. First f at i; then g at i.
-figure (OrL i) s = plain_figure (IsPlace s.ante i) (root (left i s) ≡ Op'.Or) (put_left i (left_f i s) s ∷ put_left i (left_g i s) s ∷ [])
+figure (OrL i) s = shape_figure (IsPlace s.ante i) (root (left i s) ≡ Op'.Or) (put_left i (left_f i s) s ∷ put_left i (left_g i s) s ∷ [])
 -- orR(j): S j is f | g. f at j, g last on the right.
-figure (OrR j) s = plain_figure (IsPlace s.succ j) (root (right j s) ≡ Op'.Or) (last_right (right_g j s) (put_right j (right_f j s) s) ∷ [])
+figure (OrR j) s = shape_figure (IsPlace s.succ j) (root (right j s) ≡ Op'.Or) (last_right (right_g j s) (put_right j (right_f j s) s) ∷ [])
 -- implyL(i): A i is f -> g. First A i removed, f last on the right; then g at i.
-figure (ImplyL i) s = plain_figure (IsPlace s.ante i) (root (left i s) ≡ Op'.Imply) (last_right (left_f i s) (without_left i s) ∷ put_left i (left_g i s) s ∷ [])
+figure (ImplyL i) s = shape_figure (IsPlace s.ante i) (root (left i s) ≡ Op'.Imply) (last_right (left_f i s) (without_left i s) ∷ put_left i (left_g i s) s ∷ [])
 -- implyR(j): S j is f -> g. g at j, f last on the left.
-figure (ImplyR j) s = plain_figure (IsPlace s.succ j) (root (right j s) ≡ Op'.Imply) (last_left (right_f j s) (put_right j (right_g j s) s) ∷ [])
+figure (ImplyR j) s = shape_figure (IsPlace s.succ j) (root (right j s) ≡ Op'.Imply) (last_left (right_f j s) (put_right j (right_g j s) s) ∷ [])
 -- equivL(i): A i is f <-> g. f -> g at i, g -> f last on the left.
 figure (EquivL i) s =
-    plain_figure (IsPlace s.ante i) (root (left i s) ≡ Op'.Equiv)
+    shape_figure (IsPlace s.ante i) (root (left i s) ≡ Op'.Equiv)
     (last_left (imply (left_g i s) (left_f i s)) (put_left i (imply (left_f i s) (left_g i s)) s) ∷ [])
 -- equivR(j): S j is f <-> g. First f -> g at j; then g -> f at j.
 figure (EquivR j) s =
-    plain_figure (IsPlace s.succ j) (root (right j s) ≡ Op'.Equiv)
+    shape_figure (IsPlace s.succ j) (root (right j s) ≡ Op'.Equiv)
     (put_right j (imply (right_f j s) (right_g j s)) s ∷ put_right j (imply (right_g j s) (right_f j s)) s ∷ [])
 -- cut(h): first h last on the left; then h last on the right.
-figure (Cut h) s = plain_figure (Unit {0}) (IsFormula h) (last_left h s ∷ last_right h s ∷ [])
+figure (Cut h) s = shape_figure (Unit {0}) (IsFormula h) (last_left h s ∷ last_right h s ∷ [])
 -- cutL(i,h): first h at i; then A i removed, A i -> h last on the right.
-figure (CutL i h) s = plain_figure (IsPlace s.ante i) (IsFormula h) (put_left i h s ∷ last_right (imply (left i s) h) (without_left i s) ∷ [])
+figure (CutL i h) s = shape_figure (IsPlace s.ante i) (IsFormula h) (put_left i h s ∷ last_right (imply (left i s) h) (without_left i s) ∷ [])
 -- cutR(j,h): first h at j; then h -> S j at j.
-figure (CutR j h) s = plain_figure (IsPlace s.succ j) (IsFormula h) (put_right j h s ∷ put_right j (imply h (right j s)) s ∷ [])
+figure (CutR j h) s = shape_figure (IsPlace s.succ j) (IsFormula h) (put_right j h s ∷ put_right j (imply h (right j s)) s ∷ [])
 -- hideL(i): A i removed.
-figure (HideL i) s = any_figure (IsPlace s.ante i) (without_left i s ∷ [])
+figure (HideL i) s = place_figure (IsPlace s.ante i) (without_left i s ∷ [])
 -- hideR(j): S j removed.
-figure (HideR j) s = any_figure (IsPlace s.succ j) (without_right j s ∷ [])
+figure (HideR j) s = place_figure (IsPlace s.succ j) (without_right j s ∷ [])
 -- coHideR(j): S j alone on the right, nothing on the left.
-figure (CoHideR j) s = any_figure (IsPlace s.succ j) (alone_right (right j s) ∷ [])
+figure (CoHideR j) s = place_figure (IsPlace s.succ j) (alone_right (right j s) ∷ [])
 -- exchangeL(i,k): A i at k, and A k at i.
-figure (ExchangeL i k) s = any_figure (IsPlace s.ante i × IsPlace s.ante k) (put_left k (left i s) (put_left i (left k s) s) ∷ [])
+figure (ExchangeL i k) s = place_figure (IsPlace s.ante i × IsPlace s.ante k) (put_left k (left i s) (put_left i (left k s) s) ∷ [])
 -- exchangeR(j,l): S j at l, and S l at j.
-figure (ExchangeR j l) s = any_figure (IsPlace s.succ j × IsPlace s.succ l) (put_right l (right j s) (put_right j (right l s) s) ∷ [])
--- skolemL(i): A i is \exists x f, and x is free in no other formula. f at i.
+figure (ExchangeR j l) s = place_figure (IsPlace s.succ j × IsPlace s.succ l) (put_right l (right j s) (put_right j (right l s) s) ∷ [])
+-- skolemL(i): A i is \exists x f, and x, without a prime, is free in no other formula. f at i.
 figure (SkolemL i) s =
-    fresh_figure (IsPlace s.ante i) (IsSome (existential (root (left i s)))) (OfName (existential (root (left i s))) (IsUnread (without_left i s)))
+    fresh_figure (IsPlace s.ante i) (HasName (exists_name (root (left i s)))) (OfName (exists_name (root (left i s))) (IsFreshIn (without_left i s)))
     (put_left i (left_f i s) s ∷ [])
--- skolemR(j): S j is \forall x f, and x is free in no other formula. f at j.
+-- skolemR(j): S j is \forall x f, and x, without a prime, is free in no other formula. f at j.
 figure (SkolemR j) s =
-    fresh_figure (IsPlace s.succ j) (IsSome (universal (root (right j s)))) (OfName (universal (root (right j s))) (IsUnread (without_right j s)))
+    fresh_figure (IsPlace s.succ j) (HasName (forall_name (root (right j s)))) (OfName (forall_name (root (right j s))) (IsFreshIn (without_right j s)))
     (put_right j (right_f j s) s ∷ [])
--- boundL(i,y): A i binds a variable, for which y may stand. A i with y for it, at i.
-figure (BoundL i y) s = fresh_figure (IsPlace s.ante i) (CanBind y (left i s)) (MayBind y (left i s)) (put_left i (renamed_bound y (left i s)) s ∷ [])
--- boundR(j,y): S j binds a variable, for which y may stand. S j with y for it, at j.
-figure (BoundR j y) s = fresh_figure (IsPlace s.succ j) (CanBind y (right j s)) (MayBind y (right j s)) (put_right j (renamed_bound y (right j s)) s ∷ [])
+-- boundL(i,y): A i is \forall x f, \exists x f, [x:=e;]f or <x:=e;>f. y, y' and x' aren't free in f, and no unit symbol, predicational,
+-- program constant or ODE constant stands in f. The same with y for the bound x, and x and y exchanged in f, at i.
+figure (BoundL i y) s = fresh_figure (IsPlace s.ante i) (HasBinder y (left i s)) (IsFreshBinder y (left i s)) (put_left i (renamed_bound y (left i s)) s ∷ [])
+-- boundR(j,y): S j is as A i in boundL. The same with y for the bound x, and x and y exchanged in f, at j.
+figure (BoundR j y) s = fresh_figure (IsPlace s.succ j) (HasBinder y (right j s)) (IsFreshBinder y (right j s)) (put_right j (renamed_bound y (right j s)) s ∷ [])
 -- equivifyR(j): S j is f -> g. f <-> g at j.
-figure (EquivifyR j) s = plain_figure (IsPlace s.succ j) (root (right j s) ≡ Op'.Imply) (put_right j (equiv (right_f j s) (right_g j s)) s ∷ [])
+figure (EquivifyR j) s = shape_figure (IsPlace s.succ j) (root (right j s) ≡ Op'.Imply) (put_right j (equiv (right_f j s) (right_g j s)) s ∷ [])
 -- commuteEquivL(i): A i is f <-> g. g <-> f at i.
-figure (CommuteEquivL i) s = plain_figure (IsPlace s.ante i) (root (left i s) ≡ Op'.Equiv) (put_left i (equiv (left_g i s) (left_f i s)) s ∷ [])
+figure (CommuteEquivL i) s = shape_figure (IsPlace s.ante i) (root (left i s) ≡ Op'.Equiv) (put_left i (equiv (left_g i s) (left_f i s)) s ∷ [])
 -- commuteEquivR(j): S j is f <-> g. g <-> f at j.
-figure (CommuteEquivR j) s = plain_figure (IsPlace s.succ j) (root (right j s) ≡ Op'.Equiv) (put_right j (equiv (right_g j s) (right_f j s)) s ∷ [])
+figure (CommuteEquivR j) s = shape_figure (IsPlace s.succ j) (root (right j s) ≡ Op'.Equiv) (put_right j (equiv (right_g j s) (right_f j s)) s ∷ [])
 
 -- Premises rule s premises: the rule makes these premises of the sequent.
 pub record Premises (rule : Rule) (s : Sequent) (premises : List Sequent) : Type 0 where
@@ -248,6 +251,10 @@ RuleAgainst NoPlace rule s = ¬ (figure rule s).places
 RuleAgainst WrongShape rule s = ¬ (figure rule s).shape
 RuleAgainst NotEqual rule s = ¬ (figure rule s).equals
 RuleAgainst NotFresh rule s = ¬ (figure rule s).fresh
+RuleAgainst NotArith rule s = ⊥
+RuleAgainst IllSubst rule s = ⊥
+RuleAgainst FreeInSubst rule s = ⊥
+RuleAgainst NotAdmissible rule s = ⊥
 
 -- the first reason against the rule
 pub record FirstAgainst (rule : Rule) (s : Sequent) (why : Reason) : Type 0 where

@@ -1,24 +1,29 @@
 -- Steps of a proof: what each gives, what speaks against it, and what is derived.
-use Rattle.std.specs.Prelude.{◌≡◌, ℕ, ◌<◌, List, [], ◌∷◌, ◌++◌, take, Some, None, slice_get, IsTrue}
+use Rattle.std.specs.Prelude.{◌≡◌, ◌≢◌, ℕ, ◌<◌, List, [], ◌∷◌, ◌++◌, take, Some, None, slice_get, false, IsTrue}
 use Rattle.dlk_tree.specs.Names.{is_name}
 use Rattle.dlk_calculus.specs.declared.reason.Reason.{Reason}
-use Rattle.dlk_calculus.specs.declared.reason.Reason.TheVariants.{NoFact, NoGoal, UnknownName, NoPlace, WrongShape, NotEqual, NotFresh}
+use Rattle.dlk_calculus.specs.declared.reason.Reason.TheVariants.{NoFact, NoGoal, UnknownName, NoPlace, WrongShape, NotEqual, NotFresh, NotArith, IllSubst, FreeInSubst, NotAdmissible}
 use Rattle.dlk_calculus.specs.Reasons.{rank}
 use Rattle.dlk_calculus.specs.Axioms.{Axiom, AxiomaticRule, axiom_named, rule_named}
+use Rattle.dlk_calculus.specs.Arithmetic.{is_arithmetic_sequent}
+use Rattle.dlk_calculus.specs.Pairs.{Pair, IsFreeIn, IsWellFormed, AreMade}
 use Rattle.dlk_calculus.specs.Places.{At, IsPlace}
 use Rattle.dlk_calculus.specs.Sequents.{Sequent, IsSequent}
 use Rattle.dlk_calculus.specs.Rules.{Rule, Premises, RuleAgainst}
-use Rattle.dlk_calculus.specs.Provables.{Provable, started, known, inferred, applied, renamed}
+use Rattle.dlk_calculus.specs.Provables.{Provable, started, known, inferred, assumed, applied, Joins, merged, HasGoal, Substitutes, renamed}
 
 -- a step, which names earlier rows and their goals by their numbers
 pub data Step : Type 0 where
   Start : Sequent → Step
   UseAxiom : (name : List ℕ) → Step
   UseRule : (name : List ℕ) → Step
+  Leaf : Sequent → Step
   Apply : (fact goal : ℕ) → Rule → Step
+  Merge : (fact goal by : ℕ) → Step
+  Substitute : (fact : ℕ) (pairs : List Pair) → Step
   Rename : (fact : ℕ) → (x y : List ℕ) → Step
 
--- Both are names. In the code each name is one, so a step that renames never lacks this.
+-- Both are names. In the code each name is one, so a step that renames never lacks this. Likewise each replacement is well made there.
 abbrev pub AreNames : List ℕ → List ℕ → Type 0
 AreNames x y = IsTrue (is_name x) × IsTrue (is_name y)
 
@@ -30,9 +35,18 @@ pub data Gives (rows : List Provable) : Step → Provable → Type 0 where
   use_axiom : (name : List ℕ) (a : Axiom) → axiom_named name ≡ Some a → Gives rows (UseAxiom name) (known a.formula)
   -- the conclusion of an axiomatic rule is proved from its premise
   use_rule : (name : List ℕ) (r : AxiomaticRule) → rule_named name ≡ Some r → Gives rows (UseRule name) (inferred r.premise r.conclusion)
+  -- a sequent of arithmetic is a leaf of its own
+  leaf : (s : Sequent) → IsSequent s → IsTrue (is_arithmetic_sequent s) → Gives rows (Leaf s) (assumed s)
   -- the premises of a rule on a goal stand in its place
   apply : (fact goal : ℕ) (rule : Rule) (p : Provable) (s : Sequent) (premises : List Sequent) →
       At rows fact p → At p.goals goal s → Premises rule s premises → Gives rows (Apply fact goal rule) (applied p goal premises)
+  -- a fact whose conclusion is a goal of another: its goals stand in that goal's place, and its leaves join
+  merge : (fact goal by : ℕ) (p q : Provable) (leaves : List Sequent) → At rows fact p → At rows by q → At p.goals goal q.conclusion → Joins p.leaves q.leaves leaves →
+      Gives rows (Merge fact goal by) (merged p goal q leaves)
+  -- a substitution on a fact's conclusion and goals; where there is a goal, no variable is free in the replacement of a function or a
+  -- predicate
+  substitute : (fact : ℕ) (pairs : List Pair) (p q : Provable) → At rows fact p → AreMade pairs → IsWellFormed pairs → (HasGoal p.goals → ¬ IsFreeIn pairs) → Substitutes pairs p q →
+      Gives rows (Substitute fact pairs) q
   -- two names are exchanged in a fact's conclusion and goals
   rename : (fact : ℕ) (x y : List ℕ) (p : Provable) → At rows fact p → AreNames x y → Gives rows (Rename fact x y) (renamed x y p)
 
@@ -48,43 +62,44 @@ Derives p = (rows : List Provable) × History (rows ++ p ∷ [])
 abbrev pub IsGoal : List Provable → ℕ → ℕ → Sequent → Type 0
 IsGoal rows fact goal s = (p : Provable) × At rows fact p × At p.goals goal s
 
--- What speaks against a step. One row a reason, with the steps for which it counts.
+-- the goal is there and has this
+abbrev pub OfGoal : List Provable → ℕ → ℕ → (Sequent → Type 0) → Type 0
+OfGoal rows fact goal P = (s : Sequent) × IsGoal rows fact goal s × P s
+
+-- What speaks against a step: for each reason the steps for which it counts, and no others. That a step gives something wherever nothing
+-- speaks against it is a law, so a row that is forgotten here is found.
 abbrev pub Against : Reason → List Provable → Step → Type 0
-Against NoFact rows (Start s) = ⊥
-Against NoFact rows (UseAxiom name) = ⊥
-Against NoFact rows (UseRule name) = ⊥
 Against NoFact rows (Apply fact goal rule) = ¬ IsPlace rows fact
+Against NoFact rows (Merge fact goal by) = ¬ (IsPlace rows fact × IsPlace rows by)
+Against NoFact rows (Substitute fact pairs) = ¬ IsPlace rows fact
 Against NoFact rows (Rename fact x y) = ¬ IsPlace rows fact
-Against NoGoal rows (Start s) = ⊥
-Against NoGoal rows (UseAxiom name) = ⊥
-Against NoGoal rows (UseRule name) = ⊥
+Against NoFact rows _ = ⊥
 Against NoGoal rows (Apply fact goal rule) = (p : Provable) × At rows fact p × (¬ IsPlace p.goals goal)
-Against NoGoal rows (Rename fact x y) = ⊥
-Against UnknownName rows (Start s) = ⊥
+Against NoGoal rows (Merge fact goal by) = (p : Provable) × At rows fact p × (¬ IsPlace p.goals goal)
+Against NoGoal rows _ = ⊥
 Against UnknownName rows (UseAxiom name) = axiom_named name ≡ None
 Against UnknownName rows (UseRule name) = rule_named name ≡ None
-Against UnknownName rows (Apply fact goal rule) = ⊥
-Against UnknownName rows (Rename fact x y) = ⊥
-Against NoPlace rows (Start s) = ⊥
-Against NoPlace rows (UseAxiom name) = ⊥
-Against NoPlace rows (UseRule name) = ⊥
-Against NoPlace rows (Apply fact goal rule) = (s : Sequent) × IsGoal rows fact goal s × RuleAgainst NoPlace rule s
-Against NoPlace rows (Rename fact x y) = ⊥
+Against UnknownName rows _ = ⊥
+Against NoPlace rows (Apply fact goal rule) = OfGoal rows fact goal (RuleAgainst NoPlace rule)
+Against NoPlace rows _ = ⊥
 Against WrongShape rows (Start s) = ¬ IsSequent s
-Against WrongShape rows (UseAxiom name) = ⊥
-Against WrongShape rows (UseRule name) = ⊥
-Against WrongShape rows (Apply fact goal rule) = (s : Sequent) × IsGoal rows fact goal s × RuleAgainst WrongShape rule s
+Against WrongShape rows (Leaf s) = ¬ IsSequent s
+Against WrongShape rows (Apply fact goal rule) = OfGoal rows fact goal (RuleAgainst WrongShape rule)
 Against WrongShape rows (Rename fact x y) = ¬ AreNames x y
-Against NotEqual rows (Start s) = ⊥
-Against NotEqual rows (UseAxiom name) = ⊥
-Against NotEqual rows (UseRule name) = ⊥
-Against NotEqual rows (Apply fact goal rule) = (s : Sequent) × IsGoal rows fact goal s × RuleAgainst NotEqual rule s
-Against NotEqual rows (Rename fact x y) = ⊥
-Against NotFresh rows (Start s) = ⊥
-Against NotFresh rows (UseAxiom name) = ⊥
-Against NotFresh rows (UseRule name) = ⊥
-Against NotFresh rows (Apply fact goal rule) = (s : Sequent) × IsGoal rows fact goal s × RuleAgainst NotFresh rule s
-Against NotFresh rows (Rename fact x y) = ⊥
+Against WrongShape rows _ = ⊥
+Against NotEqual rows (Apply fact goal rule) = OfGoal rows fact goal (RuleAgainst NotEqual rule)
+Against NotEqual rows (Merge fact goal by) = OfGoal rows fact goal (λ s. (q : Provable) × At rows by q × (s ≢ q.conclusion))
+Against NotEqual rows _ = ⊥
+Against NotFresh rows (Apply fact goal rule) = OfGoal rows fact goal (RuleAgainst NotFresh rule)
+Against NotFresh rows _ = ⊥
+Against NotArith rows (Leaf s) = is_arithmetic_sequent s ≡ false
+Against NotArith rows _ = ⊥
+Against IllSubst rows (Substitute fact pairs) = ¬ (AreMade pairs × IsWellFormed pairs)
+Against IllSubst rows _ = ⊥
+Against FreeInSubst rows (Substitute fact pairs) = (p : Provable) × At rows fact p × HasGoal p.goals × IsFreeIn pairs
+Against FreeInSubst rows _ = ⊥
+Against NotAdmissible rows (Substitute fact pairs) = (p : Provable) × At rows fact p × ((q : Provable) → ¬ Substitutes pairs p q)
+Against NotAdmissible rows _ = ⊥
 
 -- the first reason against the step
 pub record Fault (rows : List Provable) (step : Step) (why : Reason) : Type 0 where

@@ -7,7 +7,7 @@ ghost use Rattle.dlk_calculus.specs.Subst.{Subst};
 ghost use Rattle.dlk_calculus.specs.declared.reason.Reason.{Reason as TheReason};
 ghost use Rattle.dlk_calculus.specs.Axioms.{Axiom, AxiomaticRule, axioms, axiomatic_rules};
 ghost use Rattle.dlk_calculus.specs.Sequents.{IsFormula};
-ghost use Rattle.dlk_calculus.specs.Provables.{Provable, HasFormulas};
+ghost use Rattle.dlk_calculus.specs.Provables.{Provable, HasFormulas, HasLeaves};
 ghost use Rattle.dlk_calculus.specs.Steps.{Step, Gives, Against, History, Derives, Fault, StepOf};
 
 /// A replacement has at most one result with given arguments.
@@ -23,6 +23,17 @@ pub fn one_subst()
 /// What a substitution makes is of the same sort.
 pub fn subst_keeps_sort()
     ensures { (pairs : List Pair) → IsWellFormed pairs → (e t : Tree) → WellMade e → Subst pairs e t → sort t ≡ sort e }
+{}
+
+/// What a substitution whose pairs are well formed makes of a formula is a formula: well made, of that sort, and without
+/// argument dots and `_`.
+pub fn subst_keeps_formulas()
+    ensures { (pairs : List Pair) → IsWellFormed pairs → (e t : Tree) → IsFormula e → Subst pairs e t → IsFormula t }
+{}
+
+/// A substitution makes a tree of a tree, or it makes none of it: which of both is decided.
+pub fn subst_decided()
+    ensures { (pairs : List Pair) (e : Tree) → ((t : Tree) × Subst pairs e t) ⊎ ((t : Tree) → Subst pairs e t → ⊥) }
 {}
 
 /// A step gives at most one provable.
@@ -49,6 +60,11 @@ pub fn history_derives()
 /// What is derived is made of formulas.
 pub fn derived_formulas()
     ensures { (p : Provable) → Derives p → HasFormulas p }
+{}
+
+/// The leaves of what is derived are sequents of arithmetic, and none stands twice.
+pub fn derived_leaves()
+    ensures { (p : Provable) → Derives p → HasLeaves p }
 {}
 
 /// The axioms and the axiomatic rules are made of formulas.

@@ -6,9 +6,11 @@ use Rattle.std.proofs.lemmas.List.Elements.{All-weaker, All-push, All-take}
 use Rattle.std.proofs.Math.Seq.{take-append_seam}
 use Rattle.dlk_tree.specs.Trees.{Tree}
 use Rattle.dlk_store.specs.Stores.{Keeps}
+use Rattle.dlk_calculus.specs.Provables.{HasFormulas}
 use Rattle.dlk_calculus.specs.Steps.{Step, Gives, History, Derives, Adds}
 use Rattle.dlk_calculus.proofs.StepLaws.{StepOf-given}
 use Rattle.dlk_calculus.proofs.Histories.{History-derives, History-more, History-take}
+use Rattle.dlk_calculus.proofs.Formulas.{History-formulas}
 use Rattle.dlk_sequent.specs.Sequents.{IsKnown}
 use Rattle.dlk_sequent.proofs.Kept.{map-agree, sequent-kept, sequents-kept, IsKnown-kept}
 use Rattle.dlk_kernel.specs.declared.row.Row.{Row}
@@ -58,6 +60,9 @@ module _ (old new : List Tree) (keeps : Keeps old new) where
 
 pub all_derived : (trees : List Tree) (rows : List Row) → AreSoundRows trees rows → All Derives (provables_at trees rows)
 all_derived trees rows h = History-derives (provables_at trees rows) h.history
+
+pub all_formulas : (trees : List Tree) (rows : List Row) → AreSoundRows trees rows → All HasFormulas (provables_at trees rows)
+all_formulas trees rows h = History-formulas (provables_at trees rows) h.history
 
 -- the first rows are sound too
 pub sound_take : (trees : List Tree) (n : ℕ) (rows : List Row) → AreSoundRows trees rows → AreSoundRows trees (take n rows)

@@ -1,18 +1,19 @@
 -- The row that a step gives, and the faults of a step that gives none.
 use Rattle.std.proofs.Common.{◌≡◌, ℕ, ◌-◌, List, [], ◌∷◌, map, ap, ◌∙◌, Some, None}
 use Rattle.std.specs.List.{All}
+use Rattle.std.specs.Prelude.{Result, Ok, Err, IfOk, IfErr}
 use Rattle.std.specs.Option.{option_map}
 use Rattle.std.proofs.lemmas.List.{map-append, take-map, drop-map}
 use Rattle.std.proofs.lemmas.List.Elements.{All-append, All-take, All-drop}
 use Rattle.dlk_tree.specs.Trees.{Tree}
 use Rattle.dlk_store.specs.Stores.{Keeps}
-use Rattle.dlk_calculus.specs.declared.reason.Reason.TheVariants.{NoGoal, NoPlace, WrongShape, NotEqual}
+use Rattle.dlk_calculus.specs.declared.reason.Reason.TheVariants.{NoGoal, NoPlace, WrongShape, NotEqual, NotFresh}
 use Rattle.dlk_calculus.specs.Places.{at, put_all}
 use Rattle.dlk_calculus.specs.Sequents.{IsSequent}
 use Rattle.dlk_calculus.specs.Rules.{Rule, Premises, FirstAgainst}
-use Rattle.dlk_calculus.specs.Provables.{applied}
-use Rattle.dlk_calculus.specs.Steps.{Start, Apply, Gives, start, apply, IsGoal, Fault}
-use Rattle.dlk_calculus.proofs.PlaceLaws.{at-map, At-map, at_none}
+use Rattle.dlk_calculus.specs.Provables.{Provable, HasFormulas, applied}
+use Rattle.dlk_calculus.specs.Steps.{Step, Start, Apply, Gives, start, apply, IsGoal, Fault}
+use Rattle.dlk_calculus.proofs.PlaceLaws.{at-map, At-map, At_All, at_none}
 use Rattle.dlk_calculus.proofs.StepLaws.{no_goal, rule_fault}
 use Rattle.dlk_sequent.specs.declared.sequent.Sequent.{Sequent}
 use Rattle.dlk_sequent.specs.Sequents.{sequent_at, IsKnown}
@@ -21,16 +22,36 @@ use Rattle.dlk_rules.specs.declared.rule.RuleFault.{RuleFault}
 use Rattle.dlk_rules.specs.declared.rule.RuleFault.TheVariants as rule_fault_of
 use Rattle.dlk_rules.specs.Steps.{IsRuleFault}
 use Rattle.dlk_kernel.specs.declared.row.Row.{Row}
+use Rattle.dlk_kernel.specs.declared.fault.StepFault.{StepFault}
+use Rattle.dlk_kernel.specs.declared.fault.StepFault.TheVariants.{Refused, Memory}
 use Rattle.dlk_kernel.specs.Faults.{IsStepFault, fault_of}
 use Rattle.dlk_kernel.specs.Kernel.{provable_at, provables_at, IsKnownRow}
 use Rattle.dlk_kernel.proofs.Growth.{row_kept}
 
-put_all-map : {A B : Type 0} (f : A → B) (items : List A) (place : ℕ) (new : List A) → map f (put_all items place new) ≡ put_all (map f items) place (map f new)
+pub put_all-map : {A B : Type 0} (f : A → B) (items : List A) (place : ℕ) (new : List A) → map f (put_all items place new) ≡ put_all (map f items) place (map f new)
 put_all-map f items place new = simp (map-append, take-map, drop-map)
 
-pub started_given : (trees : List Tree) (rows : List Row) (s : Sequent) (row : Row) → IsSequent (sequent_at trees s) → row ≡ record { conclusion = s; goals = s ∷ []; leaves = [] } →
-    Gives (provables_at trees rows) (Start (sequent_at trees s)) (provable_at trees row)
-started_given trees rows s row h is = rw is (start (sequent_at trees s) h)
+pub started_given : (trees : List Tree) (s : Sequent) (row : Row) → IsSequent (sequent_at trees s) → row ≡ record { conclusion = s; goals = s ∷ []; leaves = [] } →
+    (rows : List Provable) → Gives rows (Start (sequent_at trees s)) (provable_at trees row)
+started_given trees s row h is rows = rw is (start (sequent_at trees s) h)
+
+-- what a start gives from any rows, and refuses over any rows, it does here
+pub given_here : (trees : List Tree) (rows : List Provable) (step : Step) (r : Result Row StepFault) → IfOk r (λ row. (any : List Provable) → Gives any step (provable_at trees row)) →
+    IfOk r (λ row. Gives rows step (provable_at trees row))
+given_here trees rows step (Ok row) given = given rows
+given_here trees rows step (Err fault) given = tt
+
+pub refused_here : (rows : List Provable) (step : Step) (r : Result Row StepFault) → IfErr r (IsStepFault (λ why. (any : List Provable) → Fault any step why)) → IfErr r (IsStepFault (Fault rows step))
+refused_here rows step (Ok row) fault = tt
+refused_here rows step (Err (Refused why)) fault = fault rows
+refused_here rows step (Err Memory) fault = tt
+
+-- the goal of a fact is a sequent of formulas
+pub goal_formulas : (trees : List Tree) (rows : List Row) (fact goal : ℕ) (row : Row) (s : Sequent) → All HasFormulas (provables_at trees rows) → at rows fact ≡ Some row → at row.goals goal ≡ Some s →
+    IsSequent (sequent_at trees s)
+goal_formulas trees rows fact goal row s h there goal_there =
+    let p = At_All HasFormulas (provables_at trees rows) fact (provable_at trees row) h (At-map (provable_at trees) rows fact row there) in
+    At_All IsSequent (map (sequent_at trees) row.goals) goal (sequent_at trees s) p.goals (At-map (sequent_at trees) row.goals goal s goal_there)
 
 -- a fact that is there has no such goal
 pub goal_not_there : (trees : List Tree) (rows : List Row) (fact goal : ℕ) (rule : Rule) (row : Row) → at rows fact ≡ Some row → at row.goals goal ≡ None → Fault (provables_at trees rows) (Apply fact goal rule) NoGoal
@@ -47,6 +68,7 @@ module _ (old : List Tree) (rows : List Row) (fact goal : ℕ) (rule : Rule) (ro
   rule_refused rule_fault_of.NoPlace f = rule_fault (provables_at old rows) fact goal rule (sequent_at old s) is_goal NoPlace f
   rule_refused rule_fault_of.WrongShape f = rule_fault (provables_at old rows) fact goal rule (sequent_at old s) is_goal WrongShape f
   rule_refused rule_fault_of.NotEqual f = rule_fault (provables_at old rows) fact goal rule (sequent_at old s) is_goal NotEqual f
+  rule_refused rule_fault_of.NotFresh f = rule_fault (provables_at old rows) fact goal rule (sequent_at old s) is_goal NotFresh f
   rule_refused rule_fault_of.Memory f = tt
 
   -- the row with the premises in the goal's place, over a store that has grown

@@ -1,8 +1,10 @@
 -- The faults of steps, beside want of memory.
 use Rattle.dlk_calculus.specs.declared.reason.Reason.{Reason}
-use Rattle.dlk_calculus.specs.declared.reason.Reason.TheVariants.{NoPlace, WrongShape, NotEqual}
+use Rattle.dlk_calculus.specs.declared.reason.Reason.TheVariants.{NoPlace, WrongShape, NotEqual, NotFresh, NotAdmissible}
 use Rattle.dlk_rules.specs.declared.rule.RuleFault.{RuleFault}
 use Rattle.dlk_rules.specs.declared.rule.RuleFault.TheVariants as rule_fault
+use Rattle.dlk_subst.specs.declared.fault.ApplyFault.{ApplyFault}
+use Rattle.dlk_subst.specs.declared.fault.ApplyFault.TheVariants as apply_fault
 use Rattle.dlk_kernel.specs.declared.fault.StepFault.{StepFault}
 use Rattle.dlk_kernel.specs.declared.fault.StepFault.TheVariants.{Refused, Memory}
 
@@ -16,4 +18,10 @@ abbrev pub fault_of : RuleFault → StepFault
 fault_of rule_fault.NoPlace = Refused NoPlace
 fault_of rule_fault.WrongShape = Refused WrongShape
 fault_of rule_fault.NotEqual = Refused NotEqual
+fault_of rule_fault.NotFresh = Refused NotFresh
 fault_of rule_fault.Memory = Memory
+
+-- a substitution's fault as that of a step
+abbrev pub apply_fault_of : ApplyFault → StepFault
+apply_fault_of apply_fault.NotAdmissible = Refused NotAdmissible
+apply_fault_of apply_fault.Memory = Memory

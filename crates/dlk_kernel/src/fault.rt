@@ -1,9 +1,11 @@
 ghost use Rattle.std.specs.Prelude.{◌≡◌};
 ghost use Rattle.dlk_kernel.specs.declared.fault.StepFault.TheVariants.{Memory};
-ghost use Rattle.dlk_kernel.specs.Faults.{fault_of};
+ghost use Rattle.dlk_kernel.specs.Faults.{fault_of, apply_fault_of};
 
 use dlk_calculus::Reason;
 use dlk_rules::RuleFault;
+use dlk_store::StoreFault;
+use dlk_subst::ApplyFault;
 use std::alloc::{AllocError, AllocFailed};
 use thiserror::Error;
 
@@ -33,6 +35,14 @@ impl<T: Drop> From<AllocFailed<T>> for StepFault {
     }
 }
 
+impl From<StoreFault> for StepFault {
+    ghost from_gives = { λ _ e. e ≡ Memory };
+
+    fn from(_: StoreFault) -> StepFault {
+        StepFault::Memory
+    }
+}
+
 impl From<RuleFault> for StepFault {
     ghost from_gives = { λ why e. e ≡ fault_of why };
 
@@ -41,7 +51,19 @@ impl From<RuleFault> for StepFault {
             RuleFault::NoPlace => StepFault::Refused(Reason::NoPlace),
             RuleFault::WrongShape => StepFault::Refused(Reason::WrongShape),
             RuleFault::NotEqual => StepFault::Refused(Reason::NotEqual),
+            RuleFault::NotFresh => StepFault::Refused(Reason::NotFresh),
             RuleFault::Memory => StepFault::Memory,
+        }
+    }
+}
+
+impl From<ApplyFault> for StepFault {
+    ghost from_gives = { λ why e. e ≡ apply_fault_of why };
+
+    fn from(why: ApplyFault) -> StepFault {
+        match why {
+            ApplyFault::NotAdmissible => StepFault::Refused(Reason::NotAdmissible),
+            ApplyFault::Memory => StepFault::Memory,
         }
     }
 }

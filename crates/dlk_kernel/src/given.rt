@@ -1,32 +1,52 @@
 //! The row that a step gives.
-ghost use Rattle.std.specs.Prelude.{◌≡◌, ◌∷◌, [], All, IfOk, IfErr};
-ghost use Rattle.dlk_calculus.specs.Steps.{Apply, Gives, Fault};
-ghost use Rattle.dlk_rules.specs.Steps.{rule_at, step_at, HasKnownIds, StartsFormulas};
+ghost use Rattle.std.specs.Prelude.{◌≡◌, ◌∷◌, [], List, All, IfOk, OnOk, IfErr};
+ghost use Rattle.dlk_calculus.specs.Provables.{Provable, HasFormulas};
+ghost use Rattle.dlk_calculus.specs.Steps.{Start, Apply, Rename, Gives, Fault};
+ghost use Rattle.dlk_rules.specs.Steps.{rule_at, RuleIsKnown, step_at, HasKnownIds};
+ghost use Rattle.dlk_sequent.specs.Sequents.{sequent_at, IsKnown};
 ghost use Rattle.dlk_kernel.specs.Faults.{IsStepFault};
 ghost use Rattle.dlk_kernel.specs.Kernel.{provable_at, provables_at, IsKnownRow};
 
+use crate::axioms::{axiom, axiomatic_rule};
 use crate::fault::StepFault;
+use crate::leaves::leaf;
+use crate::merging::merge;
+use crate::renaming::{swap_sequent, swap_sequents};
 use crate::row::Row;
+use crate::substituting::substitute;
 use dlk_calculus::Reason;
 use dlk_rules::{Rule, Step, premises};
-use dlk_sequent::{Listed, Sequent, item_at};
+use dlk_sequent::{Listed, Sequent, is_sequent, item_at};
 use dlk_store::{Steps, Store};
-use std::alloc::{AllocError, Global};
+use dlk_tree::Name;
+use std::alloc::Global;
 use std::sync::ledger::Ledger;
 
-/// A sequent with itself as goal:
+/// A sequent of formulas with itself as goal:
 ///
 /// ```text
 /// s
 /// ---
 /// s
 /// ```
-fn start(alloc: Global, s: &Sequent) -> Result<Row, AllocError>
-    ensures { IfOk result (λ row. row ≡ record { conclusion = s.now; goals = s.now ∷ []; leaves = [] }) }
+fn start<S: Store, L: Ledger>(
+    alloc: Global,
+    store: &S,
+    s: &Sequent,
+    steps: &mut Steps<L>,
+) -> Result<Row, StepFault>
+    requires { IsKnown (S.trees store.now) s.now }
+    ensures given { IfOk result (λ row. (rows : List Provable) → Gives rows (Start (sequent_at (S.trees store.now) s.now)) (provable_at (S.trees store.now) row)) }
+    ensures known { IfOk result (IsKnownRow (S.trees store.now)) }
+    ensures fault { IfErr result (IsStepFault (λ why. (rows : List Provable) → Fault rows (Start (sequent_at (S.trees store.now) s.now)) why)) }
 {
+    if !is_sequent(store, s, steps) {
+        return Err(StepFault::Refused(Reason::WrongShape));
+    }
     let conclusion = s.copy(alloc)?;
+    let goal = s.copy(alloc)?;
     let mut goals = Listed::new(alloc);
-    goals.push(s.copy(alloc)?)?;
+    goals.push(goal)?;
     let leaves = Listed::new(alloc);
     Ok(Row {
         conclusion,
@@ -51,7 +71,9 @@ fn apply<S: Store, L: Ledger>(
     rule: &Rule,
     steps: &mut Steps<L>,
 ) -> Result<Row, StepFault>
+    requires rule { RuleIsKnown (S.trees store.old) rule.now }
     requires rows { All (IsKnownRow (S.trees store.old)) rows.now }
+    requires formulas { All HasFormulas (provables_at (S.trees store.old) rows.now) }
     ensures given { IfOk result (λ row. Gives (provables_at (S.trees store.old) rows.now) (Apply fact goal (rule_at (S.trees store.old) rule.now)) (provable_at (S.trees store.new) row)) }
     ensures known { IfOk result (IsKnownRow (S.trees store.new)) }
     ensures fault { IfErr result (IsStepFault (Fault (provables_at (S.trees store.old) rows.now) (Apply fact goal (rule_at (S.trees store.old) rule.now)))) }
@@ -74,6 +96,43 @@ fn apply<S: Store, L: Ledger>(
     })
 }
 
+/// A fact with two names exchanged. Its leaves stay:
+///
+/// ```text
+/// the fact's goals, with x and y exchanged
+/// ---------------------------------------------
+/// the fact's conclusion, with x and y exchanged
+/// ```
+fn rename<S: Store, L: Ledger>(
+    alloc: Global,
+    store: &mut S,
+    rows: &[Row],
+    fact: u32,
+    x: &Name,
+    y: &Name,
+    steps: &mut Steps<L>,
+) -> Result<Row, StepFault>
+    requires { All (IsKnownRow (S.trees store.old)) rows.now }
+    ensures given { IfOk result (λ row. Gives (provables_at (S.trees store.old) rows.now) (Rename fact x.now y.now) (provable_at (S.trees store.new) row)) }
+    ensures known { IfOk result (IsKnownRow (S.trees store.new)) }
+    ensures fault { IfErr result (IsStepFault (Fault (provables_at (S.trees store.old) rows.now) (Rename fact x.now y.now))) }
+    ensures grows { S.grows store.old store.new }
+{
+    prove!(x.is_name());
+    prove!(y.is_name());
+    let Some(row) = item_at(rows, fact) else {
+        return Err(StepFault::Refused(Reason::NoFact));
+    };
+    let conclusion = swap_sequent(alloc, store, &row.conclusion, x, y, steps)?;
+    let goals = swap_sequents(alloc, store, row.goals.as_slice(), x, y, steps)?;
+    let leaves = row.leaves.copy(alloc)?;
+    Ok(Row {
+        conclusion,
+        goals,
+        leaves,
+    })
+}
+
 /// The row that a step gives from the rows.
 pub(crate) fn give<S: Store, L: Ledger>(
     alloc: Global,
@@ -83,15 +142,23 @@ pub(crate) fn give<S: Store, L: Ledger>(
     steps: &mut Steps<L>,
 ) -> Result<Row, StepFault>
     requires known { HasKnownIds (S.trees store.old) step.now }
-    requires formulas { StartsFormulas (S.trees store.old) step.now }
     requires rows { All (IsKnownRow (S.trees store.old)) rows.now }
+    requires formulas { All HasFormulas (provables_at (S.trees store.old) rows.now) }
     ensures given { IfOk result (λ row. Gives (provables_at (S.trees store.old) rows.now) (step_at (S.trees store.old) step.now) (provable_at (S.trees store.new) row)) }
     ensures known { IfOk result (IsKnownRow (S.trees store.new)) }
     ensures fault { IfErr result (IsStepFault (Fault (provables_at (S.trees store.old) rows.now) (step_at (S.trees store.old) step.now))) }
     ensures grows { S.grows store.old store.new }
 {
     match step {
-        Step::Start(s) => Ok(start(alloc, s)?),
+        Step::Start(s) => start(alloc, store, s, steps),
+        Step::Axiom(name) => axiom(alloc, store, name),
+        Step::AxRule(name) => axiomatic_rule(alloc, store, name),
+        Step::Leaf(s) => leaf(alloc, store, s, steps),
         Step::Apply { fact, goal, rule } => apply(alloc, store, rows, *fact, *goal, rule, steps),
+        Step::Merge { fact, goal, by } => merge(alloc, store, rows, *fact, *goal, *by),
+        Step::Subst { fact, pairs } => {
+            substitute(alloc, store, rows, *fact, pairs.as_slice(), steps)
+        }
+        Step::Rename { fact, x, y } => rename(alloc, store, rows, *fact, x, y, steps),
     }
 }

@@ -39,10 +39,10 @@ impl<S: Store> Kernel<S> {
     ghost use Rattle.std.specs.Prelude.{◌≡◌, ◌≤◌, [], length, map, take, All, Some, option_map, IfSome, IfOk, OnOk, IfErr, OnErr};
     ghost use Rattle.dlk_calculus.specs.Places.{at, IsPlace};
     ghost use Rattle.dlk_calculus.specs.Sequents.{IsSequent};
-    ghost use Rattle.dlk_calculus.specs.Provables.{HasFormulas};
+    ghost use Rattle.dlk_calculus.specs.Provables.{HasFormulas, HasLeaves};
     ghost use Rattle.dlk_calculus.specs.Steps.{Derives, Adds, Fault};
     ghost use Rattle.dlk_sequent.specs.Sequents.{sequent_at, IsKnown};
-    ghost use Rattle.dlk_rules.specs.Steps.{step_at, HasKnownIds, StartsFormulas};
+    ghost use Rattle.dlk_rules.specs.Steps.{step_at, HasKnownIds};
     ghost use Rattle.dlk_kernel.specs.Faults.{IsStepFault};
     ghost use Rattle.dlk_kernel.specs.Kernel.{facts, provable_at, IsKnownRow, SameRows, ExtendsRows};
 
@@ -98,23 +98,35 @@ impl<S: Store> Kernel<S> {
         self.row(fact).goals.as_slice()
     }
 
-    /// The leaves of a fact, which is a row's number from 1 to `rows()`: the facts of arithmetic that it rests on.
+    /// The leaves of a fact, which is a row's number from 1 to `rows()`: the sequents of arithmetic that it rests on, none of them
+    /// twice.
     pub fn leaves(&self, fact: Fact) -> &[Sequent]
         requires { IsPlace self.now.rows fact }
         ensures leaves { option_map (λ p. p.leaves) (at (facts S.trees self.now) fact) ≡ Some (map (sequent_at (S.trees self.now.store)) result.now) }
         ensures derived { IfSome (at (facts S.trees self.now) fact) Derives }
         ensures known { All (IsKnown (S.trees self.now.store)) result.now }
         ensures formulas { All (λ s. IsSequent (sequent_at (S.trees self.now.store) s)) result.now }
+        ensures arithmetic { IfSome (at (facts S.trees self.now) fact) HasLeaves }
     {
         self.row(fact).leaves.as_slice()
     }
 
-    /// Takes a step: the row that it gives comes last, and its number is answered. The ids of a `Start` are those of this
-    /// kernel's store and stand for formulas. After a fault the rows are as they were.
+    /// Takes a step: the row that it gives comes last, and its number is answered. The ids of the step are those of this
+    /// kernel's store. After a fault the rows are as they were.
     ///
     /// # Errors
     ///
-    /// - `Refused`: it is no step of the calculus. The first reason against it is answered.
+    /// - `Refused`: it is no step of the calculus. The first reason against it is answered, in this order:
+    ///   - `NoFact`: the number of a fact is that of no row.
+    ///   - `NoGoal`: the number of a goal is that of no goal of the fact.
+    ///   - `UnknownName`: no axiom, or no axiomatic rule, has the name.
+    ///   - `NoPlace`: a place of the rule isn't there.
+    ///   - `WrongShape`: a formula hasn't the form that the rule wants, or a given formula can't stand in a sequent.
+    ///   - `NotEqual`: two formulas that the rule wants to be the same are not, or the goal isn't the conclusion of the fact
+    ///     that is merged into it.
+    ///   - `NotFresh`: a variable that the rule wants to be fresh is not, or a symbol that may read any variable stands in
+    ///     what it binds.
+    ///   - `NotArith`: a leaf is no sequent of arithmetic.
     /// - `Memory`: for want of memory, or where the row would have no number.
     pub fn step<L: Ledger>(
         &mut self,
@@ -122,8 +134,7 @@ impl<S: Store> Kernel<S> {
         step: &Step,
         steps: &mut Steps<L>,
     ) -> Result<Fact, StepFault>
-        requires known { HasKnownIds (S.trees self.old.store) step.now }
-        requires formulas { StartsFormulas (S.trees self.old.store) step.now }
+        requires { HasKnownIds (S.trees self.old.store) step.now }
 
         // The provable that the calculus gives comes last.
         ensures ok { OnOk result (Adds (facts S.trees self.old) (step_at (S.trees self.old.store) step.now) (facts S.trees self.new)) }

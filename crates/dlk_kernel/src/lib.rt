@@ -1,10 +1,15 @@
 //! The kernel: provables that it alone makes, each by a step of the calculus.
 #![tactic(auto)]
 
+mod axioms;
 mod fault;
 mod given;
 mod kernel;
+mod leaves;
+mod merging;
+mod renaming;
 mod row;
+mod substituting;
 
 pub use dlk_calculus::Reason;
 pub use dlk_rules::{Rule, Step};

@@ -4,6 +4,7 @@
 mod binder;
 mod exchange;
 mod fault;
+mod fresh;
 
 pub use binder::bound;
 pub use exchange::swap;

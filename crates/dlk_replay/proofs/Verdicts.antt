@@ -2,10 +2,11 @@
 use Rattle.std.proofs.Common.{◌≡◌, ◌≢◌, ℕ, ◌+◌, ◌≤◌, List, [], ◌∷◌, ◌++◌, length, refl, ap, sym, ◌∙◌, append_assoc, arith, ◌⊎◌, inl, inr, subst}
 use Rattle.std.proofs.lemmas.List.{length_push, append-nil, nil_from_length}
 use Rattle.std.proofs.lemmas.Bool.{cases_order, cases_eq}
+use Rattle.std.specs.Prelude.{◌==◌, if◌then◌else◌}
 use Rattle.dlk_calculus.specs.Provables.{Provable}
 use Rattle.dlk_calculus.specs.Steps.{Step, StepOf, Fault, History}
 use Rattle.dlk_calculus.specs.declared.reason.Reason.{Reason}
-use Rattle.dlk_calculus.specs.declared.reason.Reason.TheVariants.{NoFact, NoGoal, NoPlace, WrongShape, NotEqual}
+use Rattle.dlk_calculus.specs.declared.reason.Reason.TheVariants.{NoFact, NoGoal, UnknownName, NoPlace, WrongShape, NotEqual, NotFresh, NotArith, IllSubst, FreeInSubst, NotAdmissible}
 use Rattle.dlk_calculus.specs.Reasons.{rank}
 use Rattle.dlk_calculus.proofs.StepLaws.{one_given, step_cases, StepOf-given}
 use Rattle.dlk_calculus.proofs.Histories.{History-none, History-more}
@@ -23,12 +24,25 @@ as_many _ _ no_lines = refl
 as_many _ _ (one_more {lines} {rows} {line} {step} {p} before is given) =
     length_push lines line ∙ ap (λ n. n + 1) (as_many lines rows before) ∙ sym (length_push rows p)
 
+-- the reason of a place in their order
+abbrev reason_of : ℕ → Reason
+reason_of n = if n == 1 then NoFact else if n == 2 then NoGoal else if n == 3 then UnknownName else if n == 4 then NoPlace else if n == 5 then WrongShape else if n == 6 then NotEqual else if n == 7 then NotFresh else if n == 8 then NotArith else if n == 9 then IllSubst else if n == 10 then FreeInSubst else NotAdmissible
+
+ranked : (a : Reason) → reason_of (rank a) ≡ a
+ranked NoFact = refl
+ranked NoGoal = refl
+ranked UnknownName = refl
+ranked NoPlace = refl
+ranked WrongShape = refl
+ranked NotEqual = refl
+ranked NotFresh = refl
+ranked NotArith = refl
+ranked IllSubst = refl
+ranked FreeInSubst = refl
+ranked NotAdmissible = refl
+
 one_rank : (a b : Reason) → rank a ≡ rank b → a ≡ b
-one_rank NoFact = elim [ NoFact ↦ λ e. refl | NoGoal ↦ λ e. absurd (omega arith) | NoPlace ↦ λ e. absurd (omega arith) | WrongShape ↦ λ e. absurd (omega arith) | NotEqual ↦ λ e. absurd (omega arith) ]
-one_rank NoGoal = elim [ NoFact ↦ λ e. absurd (omega arith) | NoGoal ↦ λ e. refl | NoPlace ↦ λ e. absurd (omega arith) | WrongShape ↦ λ e. absurd (omega arith) | NotEqual ↦ λ e. absurd (omega arith) ]
-one_rank NoPlace = elim [ NoFact ↦ λ e. absurd (omega arith) | NoGoal ↦ λ e. absurd (omega arith) | NoPlace ↦ λ e. refl | WrongShape ↦ λ e. absurd (omega arith) | NotEqual ↦ λ e. absurd (omega arith) ]
-one_rank WrongShape = elim [ NoFact ↦ λ e. absurd (omega arith) | NoGoal ↦ λ e. absurd (omega arith) | NoPlace ↦ λ e. absurd (omega arith) | WrongShape ↦ λ e. refl | NotEqual ↦ λ e. absurd (omega arith) ]
-one_rank NotEqual = elim [ NoFact ↦ λ e. absurd (omega arith) | NoGoal ↦ λ e. absurd (omega arith) | NoPlace ↦ λ e. absurd (omega arith) | WrongShape ↦ λ e. absurd (omega arith) | NotEqual ↦ λ e. refl ]
+one_rank a b e = sym (ranked a) ∙ ap reason_of e ∙ ranked b
 
 one_fault : (rows : List Provable) (step : Step) (a b : Reason) → Fault rows step a → Fault rows step b → a ≡ b
 one_fault rows step a b f g =

@@ -1,17 +1,15 @@
 -- The two kids of a formula by their ids.
-use Rattle.std.proofs.Common.{◌≡◌, ℕ, List, [], ◌∷◌, get_or, length, sym, ap, ◌∙◌, arith}
-use Rattle.std.specs.List.{All}
+use Rattle.std.proofs.Common.{◌≡◌, ℕ, List, [], ◌∷◌, get_or, sym, ap, ◌∙◌}
 use Rattle.std.proofs.lemmas.List.Elements.{All-head, All-tail}
 use Rattle.dlk_tree.specs.declared.op.Op.{Op}
-use Rattle.dlk_tree.specs.declared.op.Sort.{Sort}
 use Rattle.dlk_tree.specs.declared.op.Sort.TheVariants.{Formula}
 use Rattle.dlk_tree.specs.Table.{kid_sorts}
 use Rattle.dlk_tree.specs.Trees.{Tree, sort, root}
 use Rattle.dlk_store.specs.declared.Id.{Id}
-use Rattle.dlk_store.specs.Stores.{IsId, tree, kid_trees, sorts_at}
+use Rattle.dlk_store.specs.Stores.{IsId, tree, sorts_at}
 use Rattle.dlk_calculus.specs.Rules.{kid_f, kid_g}
 use Rattle.dlk_calculus.proofs.Sorts.{head, tail}
-use Rattle.dlk_rules.specs.Looks.{formula_at, IsNodeAt, AreKidsAt}
+use Rattle.dlk_rules.specs.Looks.{IsNodeAt, AreKidsAt}
 
 pub two_kids : (trees side : List Tree) (place : ℕ) (op : Op) (kids : List Id) (d : Id) → IsNodeAt trees side place op kids → kid_sorts op ≡ Formula ∷ Formula ∷ [] →
     AreKidsAt trees side place op (get_or kids 0 d) (get_or kids 1 d)

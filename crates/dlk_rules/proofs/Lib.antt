@@ -1,2 +1,3 @@
 pub mod OverIds
 mod KidsOf
+mod Quantified

@@ -1,13 +1,13 @@
 -- Sequents of ids that stand for what rules make of sequents.
-use Rattle.std.proofs.Common.{◌≡◌, ℕ, ◌-◌, List, [], ◌∷◌, ◌++◌, map, take, drop, refl, sym, ap, subst, ◌∙◌}
+use Rattle.std.proofs.Common.{◌≡◌, ℕ, ◌-◌, List, [], ◌∷◌, ◌++◌, map, refl, ap, ◌∙◌}
 use Rattle.std.specs.List.{All}
 use Rattle.std.proofs.lemmas.List.{map-append, map-set, take-map, drop-map}
 use Rattle.std.proofs.lemmas.List.Elements.{All-push, All-set, All-cons, All-nil, All-append, All-take, All-drop}
 use Rattle.dlk_tree.specs.Trees.{Tree}
 use Rattle.dlk_store.specs.declared.Id.{Id}
 use Rattle.dlk_store.specs.Stores.{IsId, tree, StandsFor, Keeps}
-use Rattle.dlk_calculus.specs.Places.{put, remove}
-use Rattle.dlk_calculus.specs.Rules.{Rule, imply, equiv, put_left, put_right, last_left, last_right, without_left, without_right, alone_right, figure, FirstAgainst}
+use Rattle.dlk_calculus.specs.Places.{put, without_place}
+use Rattle.dlk_calculus.specs.Rules.{Rule, imply, equiv, put_left, put_right, last_left, last_right, without_left, without_right, figure, FirstAgainst}
 use Rattle.dlk_calculus.specs.Sequents.{Sequent as TreeSequent}
 use Rattle.dlk_calculus.proofs.RuleLaws.{first_no_place, first_wrong_shape}
 use Rattle.dlk_sequent.specs.declared.sequent.Sequent.{Sequent}
@@ -56,16 +56,16 @@ module _ {trees : List Tree} {s : Sequent} {t : TreeSequent} (h : Stands trees s
       is = (λ n. record { ante = map (tree trees) s.ante; succ = map-append (tree trees) s.succ (id ∷ []) n }) ∙ (λ n. last_right (p.tree_is n) (h.is n));
     }
 
-  map_remove : (ids : List Id) (place : ℕ) → map (tree trees) (remove ids place) ≡ remove (map (tree trees) ids) place
+  map_remove : (ids : List Id) (place : ℕ) → map (tree trees) (without_place ids place) ≡ without_place (map (tree trees) ids) place
   map_remove ids place = simp (map-append, take-map, drop-map)
 
-  pub left_without : (i : ℕ) → Stands trees (record { ante = remove s.ante i; succ = s.succ }) (without_left i t)
+  pub left_without : (i : ℕ) → Stands trees (record { ante = without_place s.ante i; succ = s.succ }) (without_left i t)
   left_without i = record {
     known = record { ante = All-append (IsId trees) _ _ (All-take (IsId trees) (i - 1) s.ante h.known.ante) (All-drop (IsId trees) i s.ante h.known.ante); succ = h.known.succ };
     is = (λ n. record { ante = map_remove s.ante i n; succ = map (tree trees) s.succ }) ∙ (λ n. without_left i (h.is n));
   }
 
-  pub right_without : (j : ℕ) → Stands trees (record { ante = s.ante; succ = remove s.succ j }) (without_right j t)
+  pub right_without : (j : ℕ) → Stands trees (record { ante = s.ante; succ = without_place s.succ j }) (without_right j t)
   right_without j = record {
     known = record { ante = h.known.ante; succ = All-append (IsId trees) _ _ (All-take (IsId trees) (j - 1) s.succ h.known.succ) (All-drop (IsId trees) j s.succ h.known.succ) };
     is = (λ n. record { ante = map (tree trees) s.ante; succ = map_remove s.succ j n }) ∙ (λ n. without_right j (h.is n));

@@ -49,3 +49,11 @@ IsShapeFault places shape fault.WrongShape = places × (¬ shape)
 IsShapeFault places shape fault.NotEqual = ⊥
 IsShapeFault places shape fault.NotFresh = ⊥
 IsShapeFault places shape fault.Memory = Unit {0}
+
+-- the cause of the fault of a rule that asks for a fresh variable too
+abbrev pub IsFreshFault : (places shape fresh : Type 0) → RuleFault → Type 0
+IsFreshFault places shape fresh fault.NoPlace = ¬ places
+IsFreshFault places shape fresh fault.WrongShape = places × (¬ shape)
+IsFreshFault places shape fresh fault.NotEqual = ⊥
+IsFreshFault places shape fresh fault.NotFresh = places × shape × (¬ fresh)
+IsFreshFault places shape fresh fault.Memory = Unit {0}

@@ -5,9 +5,10 @@ use Rattle.dlk_store.specs.Stores.{IsId, tree}
 use Rattle.dlk_calculus.specs.declared.reason.Reason.{Reason}
 use Rattle.dlk_calculus.specs.declared.reason.Reason.TheVariants.{NoPlace, WrongShape, NotEqual, NotFresh}
 use Rattle.dlk_calculus.specs.Rules.{Rule as TreeRule, Close, CloseTrue, CloseFalse, NotL, NotR, AndL, AndR, OrL, OrR, ImplyL, ImplyR, EquivL, EquivR, Cut, CutL, CutR, HideL, HideR, CoHideR, ExchangeL, ExchangeR, SkolemL, SkolemR, BoundL, BoundR, EquivifyR, CommuteEquivL, CommuteEquivR, Premises}
-use Rattle.dlk_calculus.specs.Steps.{Step as TreeStep, Start, Apply, Rename}
+use Rattle.dlk_calculus.specs.Steps.{Step as TreeStep, Start, UseAxiom, UseRule, Leaf, Apply, Merge, Substitute, Rename}
 use Rattle.dlk_sequent.specs.declared.sequent.Sequent.{Sequent}
 use Rattle.dlk_sequent.specs.Sequents.{sequent_at, IsKnown}
+use Rattle.dlk_sequent.specs.Substitutions.{pairs_at, AreKnownPairs}
 use Rattle.dlk_rules.specs.declared.rule.Rule.{Rule}
 use Rattle.dlk_rules.specs.declared.rule.Rule.TheVariants as rule
 use Rattle.dlk_rules.specs.declared.rule.RuleFault.{RuleFault}
@@ -80,13 +81,23 @@ RuleIsKnown trees (rule.CommuteEquivR j) = Unit {0}
 -- the step over the trees of its ids
 abbrev pub step_at : List Tree → Step → TreeStep
 step_at trees (step.Start s) = Start (sequent_at trees s)
+step_at trees (step.Axiom name) = UseAxiom name
+step_at trees (step.AxRule name) = UseRule name
+step_at trees (step.Leaf s) = Leaf (sequent_at trees s)
 step_at trees (step.Apply fact goal r) = Apply fact goal (rule_at trees r)
+step_at trees (step.Merge fact goal by) = Merge fact goal by
+step_at trees (step.Subst fact pairs) = Substitute fact (pairs_at trees pairs)
 step_at trees (step.Rename fact x y) = Rename fact x y
 
 -- the ids of a step are those of the store
 abbrev pub HasKnownIds : List Tree → Step → Type 0
 HasKnownIds trees (step.Start s) = IsKnown trees s
+HasKnownIds trees (step.Axiom name) = Unit {0}
+HasKnownIds trees (step.AxRule name) = Unit {0}
+HasKnownIds trees (step.Leaf s) = IsKnown trees s
 HasKnownIds trees (step.Apply fact goal r) = RuleIsKnown trees r
+HasKnownIds trees (step.Merge fact goal by) = Unit {0}
+HasKnownIds trees (step.Subst fact pairs) = AreKnownPairs trees pairs
 HasKnownIds trees (step.Rename fact x y) = Unit {0}
 
 -- these sequents of the new trees are the premises that the rule makes of the sequent of old ones

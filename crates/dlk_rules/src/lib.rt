@@ -6,6 +6,7 @@ mod connectives;
 mod equivalences;
 mod look;
 mod made;
+mod quantifiers;
 mod rule;
 mod sequent_rules;
 mod step;

@@ -10,7 +10,7 @@ ghost use Rattle.dlk_rules.specs.Looks.{IsAt, IsNodeAt, IsKidAt, AreKidsAt, IsSh
 
 use crate::rule::RuleFault;
 use dlk_sequent::{Listed, item_at};
-use dlk_store::{Id, Steps, Store};
+use dlk_store::{Id, Node, Steps, Store};
 use dlk_tree::{Op, same_op};
 use std::sync::ledger::Ledger;
 
@@ -30,6 +30,21 @@ pub(crate) fn formula_at<S: Store>(
     }
 }
 
+/// The operator at the top of the formula at a place, with its kids.
+pub(crate) fn top_at<'a, S: Store, L: Ledger>(
+    store: &'a S,
+    side: &Listed<Id>,
+    place: u32,
+    steps: &mut Steps<L>,
+) -> Result<Node<'a>, RuleFault>
+    requires { All (IsId (S.trees store.now)) side.now }
+    ensures ok { IfOk result (λ top. IsNodeAt (S.trees store.now) (map (tree (S.trees store.now)) side.now) place top.op.now top.kids.now) }
+    ensures fault { IfErr result (IsShapeFault (IsPlace (map (tree (S.trees store.now)) side.now) place) (Unit {0})) }
+{
+    let id = formula_at(store, side, place)?;
+    Ok(store.look(id, steps))
+}
+
 /// The formula at a place, which has this operator at its top.
 fn node_at<'a, S: Store, L: Ledger>(
     store: &'a S,
@@ -42,12 +57,11 @@ fn node_at<'a, S: Store, L: Ledger>(
     ensures ok { IfOk result (λ kids. IsNodeAt (S.trees store.now) (map (tree (S.trees store.now)) side.now) place op.now kids.now) }
     ensures fault { IfErr result (IsShapeFault (IsPlace (map (tree (S.trees store.now)) side.now) place) (root (looks.formula_at (map (tree (S.trees store.now)) side.now) place) ≡ op.now)) }
 {
-    let id = formula_at(store, side, place)?;
-    let node = store.look(id, steps);
-    if !same_op(node.op, op) {
+    let top = top_at(store, side, place, steps)?;
+    if !same_op(top.op, op) {
         return Err(RuleFault::WrongShape);
     }
-    Ok(node.kids)
+    Ok(top.kids)
 }
 
 /// Whether the formula at a place has this operator at its top: `WrongShape` where it hasn't.

@@ -1,6 +1,7 @@
 ghost use Rattle.std.specs.Prelude.{◌≡◌};
 ghost use Rattle.dlk_rules.specs.declared.rule.RuleFault.TheVariants.{Memory};
 
+use dlk_rename::RenameFault;
 use dlk_store::{Id, StoreFault};
 use dlk_tree::Name;
 use std::alloc::{AllocError, AllocFailed};
@@ -104,5 +105,19 @@ impl From<StoreFault> for RuleFault {
 
     fn from(_: StoreFault) -> RuleFault {
         RuleFault::Memory
+    }
+}
+
+impl From<RenameFault> for RuleFault {
+    ghost use Rattle.dlk_rules.specs.Quantifiers.{of_rename};
+
+    ghost from_gives = { λ why e. e ≡ of_rename why };
+
+    fn from(why: RenameFault) -> RuleFault {
+        match why {
+            RenameFault::WrongShape => RuleFault::WrongShape,
+            RenameFault::NotFresh => RuleFault::NotFresh,
+            RenameFault::Memory => RuleFault::Memory,
+        }
     }
 }

@@ -1,6 +1,6 @@
 -- Formulas among the trees of ids, counted up one by one.
-use Rattle.std.proofs.Common.{◌≡◌, ℕ, ◌+◌, ◌<◌, ◌≤◌, Bool, true, List, map, take, length, get_or, sym, subst}
-use Rattle.std.specs.Prelude.{All, ◌↔◌, IsTrue}
+use Rattle.std.proofs.Common.{ℕ, ◌+◌, ◌<◌, ◌≤◌, List, map, take, length, get_or, subst}
+use Rattle.std.specs.Prelude.{All}
 use Rattle.std.proofs.lemmas.List.{get_or-map, take_more, take_all, length-map}
 use Rattle.std.proofs.lemmas.List.Elements.{All-push, All-map}
 use Rattle.dlk_tree.specs.Trees.{Tree}

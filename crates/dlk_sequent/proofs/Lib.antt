@@ -2,6 +2,7 @@ pub mod Kept
 pub mod KeptPairs
 mod Dots
 mod Formulas
+mod SameSides
 mod Last
 mod Chosen
 mod Pairs

@@ -1,13 +1,17 @@
 //! Sequents and substitutions over the ids of a store.
 #![tactic(auto)]
 
+mod arithmetic;
 mod formula;
 mod listed;
+mod same;
 mod sequent;
 mod subst;
 mod why;
 
+pub use arithmetic::is_arith;
 pub use formula::{is_formula, is_sequent};
 pub use listed::{Listed, item_at};
+pub use same::same_sequent;
 pub use sequent::{Place, Sequent};
 pub use subst::{Pair, Subst, SubstFault};

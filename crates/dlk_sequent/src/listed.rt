@@ -1,5 +1,5 @@
 ghost use Rattle.std.specs.Prelude.{◌≡◌, ◌∷◌, ◌++◌, [], length, None, Some, MatchOption, IfOk, OnOk, OnErr};
-ghost use Rattle.dlk_calculus.specs.Places.{at, IsPlace, put, remove};
+ghost use Rattle.dlk_calculus.specs.Places.{at, IsPlace, put, without_place};
 
 use std::alloc::{AllocError, Global};
 use std::marker::Model;
@@ -90,7 +90,7 @@ impl<T: Copy> Listed<T> {
     /// Takes out the item at a place, which is there. Places count from 1.
     pub fn remove(&mut self, place: u32)
         requires { IsPlace self.old place }
-        ensures { self.new ≡ remove self.old place }
+        ensures { self.new ≡ without_place self.old place }
     {
         self.items.remove(place as usize - 1);
     }

@@ -1,4 +1,4 @@
--- Numbers: the digits at the front of a text.
+-- Numbers and their digits.
 use Rattle.std.proofs.Common.{◌≡◌, ◌≢◌, ℕ, ◌+◌, ◌*◌, ◌-◌, ◌<◌, ◌≤◌, ◌^◌, true, false, IsTrue, List, [], ◌∷◌, ◌++◌, length, take, drop, get_or, refl, ap, sym, ◌∙◌, lit<, arith}
 use Rattle.std.specs.List.{list_all, prefix_len}
 use Rattle.std.proofs.lemmas.Bool.{and_parts, and_from, leb-true, le-leb, cond-true, cond-false}
@@ -8,7 +8,8 @@ use Rattle.std.proofs.lemmas.List.Sums.{list_all-from_AllPass, prefix_len_passes
 use Rattle.std.proofs.Math.Nat.{pow-le-pow_right}
 use Rattle.dlk_grammar.specs.Tokens.{is_digit, value}
 use Rattle.dlk_termtext.specs.Lines.{IsNumber, number}
-use Rattle.dlk_termtext.specs.Parts.{NumberThen}
+use Rattle.dlk_termtext.specs.Parts.{CutAt, NumberThen}
+use Rattle.dlk_termtext.proofs.Cuts.{lacks_if, one_cut}
 
 -- what is known of the text of a number
 pub record NumberParts (text : List ℕ) (n : ℕ) : Type 0 where
@@ -43,37 +44,6 @@ number_from_parts (b ∷ bs) digits some few first =
 pub one_number : (text : List ℕ) (m n : ℕ) → IsNumber text m → IsNumber text n → m ≡ n
 one_number text m n a b = (number_parts text m a).value_is ∙ sym (number_parts text n b).value_is
 
--- what is said of all digits is said of those at the front
-pub front_digits : (text : List ℕ) → IsTrue (list_all is_digit (take (prefix_len is_digit text) text))
-front_digits text =
-    list_all-from_AllPass is_digit (take (prefix_len is_digit text) text) (λ k d below.
-    let inside : k < prefix_len is_digit text = omega (arith, length-prefix_len is_digit text) in
-    ap is_digit (get_or-take (prefix_len is_digit text) text k d inside) ∙ prefix_len_passes is_digit text k d inside)
-
--- the digits before a byte that is none are those at the front
-pub digits_first : (digits rest : List ℕ) (stop : ℕ) → IsTrue (list_all is_digit digits) → is_digit stop ≡ false →
-    prefix_len is_digit (digits ++ stop ∷ rest) ≡ length digits
-digits_first [] rest stop all other = cond-false (is_digit stop) _ _ other
-digits_first (d ∷ ds) rest stop all other =
-    let h = and_parts (is_digit d) (list_all is_digit ds) all in
-    let again = digits_first ds rest stop h.1 other in
-    cond-true (is_digit d) _ _ h.0 ∙ omega (arith, again)
-
--- a number before a stop, cut off at its length
-pub record CutOff (text digits rest : List ℕ) (stop : ℕ) : Type 0 where
-  pub front : take (prefix_len is_digit text) text ≡ digits
-  pub behind : drop (prefix_len is_digit text) text ≡ stop ∷ rest
-
-pub cut_off : (text : List ℕ) (stop n : ℕ) (rest : List ℕ) → is_digit stop ≡ false → (h : NumberThen text stop n rest) → CutOff text h.digits rest stop
-cut_off text stop n rest other h =
-    let digits = h.digits in
-    let split = h.text_is in
-    let count : prefix_len is_digit text ≡ length digits = ap (prefix_len is_digit) split ∙ digits_first digits rest stop (number_parts digits n h.is_number).digits other in
-    record {
-      front = rw (count, split) (take_at digits (stop ∷ rest) (length digits) refl);
-      behind = rw (count, split) (drop_at digits (stop ∷ rest) (length digits) refl);
-    }
-
 -- nine digits say less than 10 ^ 9
 pub below_power : (i : ℕ) → i ≤ 8 → 10 ^ i ≤ 100000000
 below_power i few = pow-le-pow_right {n = 10} (lit< tt) {i = i} {j = 8} few
@@ -86,11 +56,18 @@ digit_between b digit =
 pub one_more_digit : (text : List ℕ) (i : ℕ) → i < length text → value (take (i + 1) text) ≡ 10 * value (take i text) + (get_or text i 0 - 48)
 one_more_digit text i inside = fold_more (λ n b. 10 * n + (b - 48)) 0 text i 0 inside
 
+-- digits lack a byte that is none
+pub number_cut : (text : List ℕ) (stop n : ℕ) (rest : List ℕ) → is_digit stop ≡ false → (h : NumberThen text stop n rest) → CutAt text stop h.digits rest
+number_cut text stop n rest other h = record { text_is = h.text_is; first = lacks_if is_digit stop other h.digits (number_parts h.digits n h.is_number).digits }
+
 -- a text begins with one number before this stop
 pub one_number_then : (text : List ℕ) (stop m n : ℕ) (rest behind : List ℕ) → is_digit stop ≡ false → NumberThen text stop m rest → NumberThen text stop n behind → (m ≡ n) × (rest ≡ behind)
 one_number_then text stop m n rest behind other a b =
-    let h = cut_off text stop m rest other a in
-    let g = cut_off text stop n behind other b in
-    let digits : a.digits ≡ b.digits = sym h.front ∙ g.front in
-    let tail : stop ∷ rest ≡ stop ∷ behind = sym h.behind ∙ g.behind in
-    (one_number b.digits m n (rw (← digits) a.is_number) b.is_number, cc)
+    let same = one_cut text stop a.digits b.digits rest behind (number_cut text stop m rest other a) (number_cut text stop n behind other b) in
+    (one_number b.digits m n (rw (← same.0) a.is_number) b.is_number, same.1)
+
+-- no number before the stop, where what is cut off there is none
+pub no_number_then : (text : List ℕ) (stop : ℕ) (front behind : List ℕ) → is_digit stop ≡ false → CutAt text stop front behind → ((n : ℕ) → ¬ IsNumber front n) → (n : ℕ) (rest : List ℕ) → ¬ NumberThen text stop n rest
+no_number_then text stop front behind other cut none n rest h =
+    let same = one_cut text stop front h.digits behind rest cut (number_cut text stop n rest other h) in
+    none n (rw same.0 h.is_number)

@@ -1,7 +1,22 @@
 -- The parts of a line, from the front on.
-use Rattle.std.specs.Prelude.{◌≡◌, ℕ, List, [], ◌∷◌, ◌++◌}
+use Rattle.std.specs.Prelude.{◌≡◌, ℕ, ◌==◌, IsTrue, Bool, not, List, ◌∷◌, ◌++◌, codes, Some}
+use Rattle.std.specs.List.{list_all}
+use Rattle.dlk_tree.specs.Names.{is_name}
+use Rattle.dlk_calculus.specs.Pairs.{Pair}
 use Rattle.dlk_calculus.specs.Rules.{Rule}
-use Rattle.dlk_termtext.specs.Lines.{IsNumber, IsRule}
+use Rattle.dlk_calculus.specs.Steps.{Step, Start, UseAxiom, UseRule, Leaf, Apply, Merge, Substitute, Rename}
+use Rattle.dlk_grammar.specs.Texts.{SequentText, PairsText}
+use Rattle.dlk_termtext.specs.Words.{Template, template_of}
+use Rattle.dlk_termtext.specs.Lines.{IsNumber, IsArguments, IsRule}
+
+-- no byte of the text is this one
+abbrev pub Lacks : List ℕ → ℕ → Type 0
+Lacks text byte = IsTrue (list_all (λ b. not (b == byte)) text)
+
+-- the text up to the first byte of this kind, and what comes behind that byte
+pub record CutAt (text : List ℕ) (byte : ℕ) (front rest : List ℕ) : Type 0 where
+  pub text_is : text ≡ front ++ byte ∷ rest
+  pub first : Lacks front byte
 
 -- a number, the byte that ends it, and what comes behind that byte
 pub record NumberThen (text : List ℕ) (stop n : ℕ) (rest : List ℕ) : Type 0 where
@@ -9,20 +24,73 @@ pub record NumberThen (text : List ℕ) (stop n : ℕ) (rest : List ℕ) : Type 
   pub is_number : IsNumber digits n
   pub text_is : text ≡ digits ++ stop ∷ rest
 
--- a place, and the bracket that closes
-abbrev pub OnePlace : List ℕ → ℕ → Type 0
-OnePlace text place = NumberThen text 41 place []
+-- a text without an opening bracket, and a text in brackets behind it
+pub record Bracketed (text word arguments : List ℕ) : Type 0 where
+  pub text_is : text ≡ word ++ codes "(" ++ arguments ++ codes ")"
+  pub first : Lacks word 40
 
--- two places with a comma between, and the bracket that closes
-pub record TwoPlaces (text : List ℕ) (first second : ℕ) : Type 0 where
-  pub rest : List ℕ
-  pub first_is : NumberThen text 44 first rest
-  pub second_is : OnePlace rest second
+-- a rule of this kind, with its arguments
+pub record IsCall (kind : Template → Bool) (word arguments : List ℕ) (rule : Rule) : Type 0 where
+  pub template : Template
+  pub is_word : template_of word ≡ Some template
+  pub is_kind : IsTrue (kind template)
+  pub are_arguments : IsArguments template arguments rule
+
+-- a fact and a goal, each with a space behind it, and what comes then
+pub record FactGoal (text : List ℕ) (fact goal : ℕ) (rest : List ℕ) : Type 0 where
+  pub behind_fact : List ℕ
+  pub fact_is : NumberThen text 32 fact behind_fact
+  pub goal_is : NumberThen behind_fact 32 goal rest
 
 -- a fact, a goal and a rule with spaces between
 pub record FactGoalRule (text : List ℕ) (fact goal : ℕ) (rule : Rule) : Type 0 where
-  pub behind_fact : List ℕ
   pub behind_goal : List ℕ
-  pub fact_is : NumberThen text 32 fact behind_fact
-  pub goal_is : NumberThen behind_fact 32 goal behind_goal
+  pub numbers : FactGoal text fact goal behind_goal
   pub rule_is : IsRule behind_goal rule
+
+-- a fact, a goal and a fact with spaces between
+pub record FactGoalFact (text : List ℕ) (fact goal by : ℕ) : Type 0 where
+  pub behind_goal : List ℕ
+  pub numbers : FactGoal text fact goal behind_goal
+  pub by_is : IsNumber behind_goal by
+
+-- a fact, a space and the pairs of a substitution
+pub record FactPairs (text : List ℕ) (fact : ℕ) (pairs : List Pair) : Type 0 where
+  pub behind_fact : List ℕ
+  pub fact_is : NumberThen text 32 fact behind_fact
+  pub pairs_are : PairsText behind_fact pairs
+
+-- a fact and two names with spaces between
+pub record FactNames (text : List ℕ) (fact : ℕ) (x y : List ℕ) : Type 0 where
+  pub behind_fact : List ℕ
+  pub fact_is : NumberThen text 32 fact behind_fact
+  pub first_name : IsTrue (is_name x)
+  pub second_name : IsTrue (is_name y)
+  pub names_are : behind_fact ≡ x ++ codes " " ++ y
+
+-- the word of a step
+abbrev pub word_of : Step → List ℕ
+word_of (Start s) = codes "start"
+word_of (UseAxiom name) = codes "axiom"
+word_of (UseRule name) = codes "rule"
+word_of (Leaf s) = codes "leaf"
+word_of (Apply fact goal rule) = codes "apply"
+word_of (Merge fact goal by) = codes "merge"
+word_of (Substitute fact pairs) = codes "subst"
+word_of (Rename fact x y) = codes "rename"
+
+-- what stands behind the word of a step and a space
+abbrev pub Behind : List ℕ → Step → Type 0
+Behind rest (Start s) = SequentText rest s
+Behind rest (UseAxiom name) = (name ≡ rest) × IsTrue (is_name rest)
+Behind rest (UseRule name) = (name ≡ rest) × IsTrue (is_name rest)
+Behind rest (Leaf s) = SequentText rest s
+Behind rest (Apply fact goal rule) = FactGoalRule rest fact goal rule
+Behind rest (Merge fact goal by) = FactGoalFact rest fact goal by
+Behind rest (Substitute fact pairs) = FactPairs rest fact pairs
+Behind rest (Rename fact x y) = FactNames rest fact x y
+
+-- the word of a step, and what stands behind it
+pub record WordAndRest (word rest : List ℕ) (step : Step) : Type 0 where
+  pub word_is : word ≡ word_of step
+  pub behind : Behind rest step

@@ -1,7 +1,9 @@
 -- What the read lines say.
 use Rattle.std.specs.Prelude.{List}
 use Rattle.dlk_tree.specs.Trees.{Tree}
-use Rattle.dlk_rules.specs.Steps.{step_at, HasKnownIds, StartsFormulas}
+use Rattle.dlk_tree.specs.declared.name.NameFault.{NameFault}
+use Rattle.dlk_tree.specs.declared.name.NameFault.TheVariants as name
+use Rattle.dlk_rules.specs.Steps.{step_at, HasKnownIds}
 use Rattle.dlk_termtext.specs.Lines.{Line as TreeLine, Numbered, Done}
 use Rattle.dlk_termtext.specs.declared.line.Line.{Line}
 use Rattle.dlk_termtext.specs.declared.line.Line.TheVariants as line
@@ -22,11 +24,6 @@ abbrev pub LineIsKnown : List Tree → Line → Type 0
 LineIsKnown trees (line.Step number step) = HasKnownIds trees step
 LineIsKnown trees line.Done = Unit {0}
 
--- what a line starts from is a sequent of formulas
-abbrev pub LineStartsFormulas : List Tree → Line → Type 0
-LineStartsFormulas trees (line.Step number step) = StartsFormulas trees step
-LineStartsFormulas trees line.Done = Unit {0}
-
 -- The error tells that this holds; want of memory is free.
 abbrev pub IsFaultOf : Type 0 → LineFault → Type 0
 IsFaultOf holds fault.Malformed = holds
@@ -46,3 +43,8 @@ of_parse parse.Memory = fault.Memory
 abbrev pub of_text : TextFault → LineFault
 of_text (text_fault.BadByte at) = fault.Malformed
 of_text (text_fault.Unread why) = of_parse why
+
+-- bytes that are no name make their line Malformed
+abbrev pub of_name : NameFault → LineFault
+of_name name.NotAName = fault.Malformed
+of_name name.Memory = fault.Memory

@@ -1,11 +1,15 @@
 //! The lines of proof-term files.
 #![tactic(auto)]
 
+mod arguments;
 mod laws;
 mod line;
 mod number;
+mod parts;
 mod reading;
 mod rule;
+mod step;
+mod words;
 
 pub use laws::one_line;
 pub use line::{Line, LineFault};

@@ -1,9 +1,10 @@
 ghost use Rattle.std.specs.Prelude.{◌≡◌};
 ghost use Rattle.dlk_termtext.specs.declared.line.LineFault.TheVariants.{Memory};
-ghost use Rattle.dlk_termtext.specs.Read.{of_parse, of_text};
+ghost use Rattle.dlk_termtext.specs.Read.{of_parse, of_text, of_name};
 
 use dlk_parse::{ParseFault, TextFault};
 use dlk_rules::Step;
+use dlk_tree::NameFault;
 use std::alloc::{AllocError, AllocFailed};
 use thiserror::Error;
 
@@ -65,6 +66,17 @@ impl From<TextFault> for LineFault {
         match fault {
             TextFault::BadByte { at: _ } => LineFault::Malformed,
             TextFault::Unread(why) => LineFault::from(why),
+        }
+    }
+}
+
+impl From<NameFault> for LineFault {
+    ghost from_gives = { λ fault e. e ≡ of_name fault };
+
+    fn from(fault: NameFault) -> LineFault {
+        match fault {
+            NameFault::NotAName => LineFault::Malformed,
+            NameFault::Memory => LineFault::Memory,
         }
     }
 }

@@ -1,34 +1,38 @@
-//! Numbers of a line, and words before them.
-ghost use Rattle.std.specs.Prelude.{◌≡◌, ◌≢◌, ℕ, ◌≤◌, ◌<◌, ◌++◌, ◌∷◌, List, length, false, IsTrue, IfSome, IfNone, MatchOption};
-ghost use Rattle.std.specs.List.{list_all, prefix_len};
+//! Numbers of a line.
+ghost use Rattle.std.specs.Prelude.{◌≡◌, ℕ, ◌≤◌, List, length, false, IsTrue, IfSome, IfNone, MatchOption};
+ghost use Rattle.std.specs.List.{list_all};
 ghost use Rattle.dlk_grammar.specs.Tokens.{is_digit, value};
 ghost use Rattle.dlk_termtext.specs.Lines.{IsNumber};
 ghost use Rattle.dlk_termtext.specs.Parts.{NumberThen};
 
-/// What comes behind a word at the front of the text.
-pub(crate) fn strip<'a>(text: &'a [u8], word: &[u8]) -> Option<&'a [u8]>
-    ensures { MatchOption result ((rest : List ℕ) → text.now ≢ word.now ++ rest) (λ rest. text.now ≡ word.now ++ rest.now) }
-{
-    text.strip_prefix(word)
-}
+use crate::parts::cut_at;
 
 /// A number at the front of the text, with a byte behind it that is no digit: the number, and what comes behind that byte.
-pub(crate) fn number_before<'a>(text: &'a [u8], stop: u8) -> Option<(u32, &'a [u8])>
+pub(crate) fn number_before(text: &[u8], stop: u8) -> Option<(u32, &[u8])>
     requires { is_digit stop ≡ false }
     ensures found { IfSome result (λ p. NumberThen text.now stop p.0 p.1.now) }
     ensures none { IfNone result ((n : ℕ) (rest : List ℕ) → ¬ NumberThen text.now stop n rest) }
 {
-    let (digits, rest) = text.split_at(count_digits(text));
-    let [next, behind @ ..] = rest else {
-        return None;
-    };
-    if *next != stop {
+    let (front, rest) = cut_at(text, stop)?;
+    let number = number(front)?;
+    Some((number, rest))
+}
+
+/// The number that the text is.
+pub(crate) fn number(text: &[u8]) -> Option<u32>
+    ensures { MatchOption result ((n : ℕ) → ¬ IsNumber text.now n) (IsNumber text.now) }
+{
+    if !are_digits(text) || !is_number(text) {
         return None;
     }
-    if !is_number(digits) {
-        return None;
-    }
-    Some((value_of(digits), behind))
+    Some(value_of(text))
+}
+
+/// Whether each byte is a digit.
+fn are_digits(text: &[u8]) -> bool
+    ensures { result ≡ list_all is_digit text.now }
+{
+    text.iter().all(|b| b.is_ascii_digit())
 }
 
 /// Whether the digits are those of a number.
@@ -42,18 +46,6 @@ fn is_number(digits: &[u8]) -> bool
         return false;
     }
     digits[0] != b'0'
-}
-
-/// How many digits stand at the front of the text.
-fn count_digits(text: &[u8]) -> usize
-    ensures { result ≡ prefix_len is_digit text.now }
-{
-    for (i, b) in text.iter().enumerate() {
-        if !b.is_ascii_digit() {
-            return i;
-        }
-    }
-    text.len()
 }
 
 /// The number that at most nine digits say.

@@ -1,58 +1,101 @@
-//! Rules with their places, and the steps that apply them.
-ghost use Rattle.std.specs.Prelude.{ℕ, [], IfSome, IfNone};
+//! Rules with their arguments in brackets.
+ghost use Rattle.std.specs.Prelude.{ℕ, List, IfSome, IfNone, IfOk, IfErr};
+ghost use Rattle.dlk_tree.specs.Trees.{Tree};
 ghost use Rattle.dlk_calculus.specs.Rules.{Rule as TreeRule};
-ghost use Rattle.dlk_rules.specs.Steps.{rule_at};
+ghost use Rattle.dlk_rules.specs.Steps.{rule_at, RuleIsKnown};
+ghost use Rattle.dlk_termtext.specs.Words.{wants_place, wants_two_places, wants_more};
 ghost use Rattle.dlk_termtext.specs.Lines.{IsRule};
-ghost use Rattle.dlk_termtext.specs.Parts.{OnePlace, TwoPlaces, FactGoalRule};
+ghost use Rattle.dlk_termtext.specs.Parts.{IsCall};
+ghost use Rattle.dlk_termtext.specs.Read.{IsFaultOf};
 
-use crate::number::{number_before, strip};
-use dlk_rules::{Rule, Step};
+use crate::arguments::{formula, place_and_formula, place_and_name, two_places};
+use crate::line::LineFault;
+use crate::number::number;
+use crate::parts::bracketed;
+use crate::words::{of_place, of_two_places};
+use dlk_rules::Rule;
+use dlk_store::Store;
+use std::alloc::Global;
 
-/// A step that applies a rule, by its fact, its goal and the rule.
-pub(crate) fn read_apply(text: &[u8]) -> Option<(u32, u32, Rule)>
-    ensures found { IfSome result (λ p. FactGoalRule text.now p.0 p.1 (rule_at [] p.2)) }
-    ensures none { IfNone result ((fact goal : ℕ) (rule : TreeRule) → ¬ FactGoalRule text.now fact goal rule) }
+/// A rule with its arguments in brackets.
+pub(crate) fn read_rule<S: Store>(
+    alloc: Global,
+    text: &[u8],
+    store: &mut S,
+) -> Result<Rule, LineFault>
+    ensures found { IfOk result (λ rule. IsRule text.now (rule_at (S.trees store.new) rule)) }
+    ensures known { IfOk result (RuleIsKnown (S.trees store.new)) }
+    ensures fault { IfErr result (IsFaultOf ((rule : TreeRule) → ¬ IsRule text.now rule)) }
+    ensures grows { S.grows store.old store.new }
 {
-    let (fact, text) = number_before(text, b' ')?;
-    let (goal, text) = number_before(text, b' ')?;
-    let rule = read_rule(text)?;
-    Some((fact, goal, rule))
+    let Some((word, arguments)) = bracketed(text) else {
+        return Err(LineFault::Malformed);
+    };
+    let Ok(word) = str::from_utf8(word) else {
+        return Err(LineFault::Malformed);
+    };
+    if let Some(rule) = rule_of_place(word, arguments) {
+        return Ok(rule);
+    }
+    if let Some(rule) = rule_of_two_places(word, arguments) {
+        return Ok(rule);
+    }
+    rule_of_more(alloc, word, arguments, store)
 }
 
-/// A rule with its places in brackets.
-fn read_rule(text: &[u8]) -> Option<Rule>
-    ensures found { IfSome result (λ rule. IsRule text.now (rule_at [] rule)) }
-    ensures none { IfNone result ((rule : TreeRule) → ¬ IsRule text.now rule) }
+/// A rule that wants one place.
+fn rule_of_place(word: &str, arguments: &[u8]) -> Option<Rule>
+    ensures found { IfSome result (λ rule. (trees : List Tree) → IsCall wants_place word.now arguments.now (rule_at trees rule)) }
+    ensures known { (trees : List Tree) → IfSome result (RuleIsKnown trees) }
+    ensures none { IfNone result ((rule : TreeRule) → ¬ IsCall wants_place word.now arguments.now rule) }
 {
-    if let Some(places) = strip(text, b"implyR(") {
-        let right = one_place(places)?;
-        return Some(Rule::ImplyR(right));
-    }
-    if let Some(places) = strip(text, b"close(") {
-        let (left, right) = two_places(places)?;
-        return Some(Rule::Close(left, right));
-    }
-    None
+    let place = number(arguments)?;
+    of_place(word, place)
 }
 
-/// A place and `)`, and nothing behind.
-fn one_place(text: &[u8]) -> Option<u32>
-    ensures found { IfSome result (λ place. OnePlace text.now place) }
-    ensures none { IfNone result ((place : ℕ) → ¬ OnePlace text.now place) }
+/// A rule that wants two places.
+fn rule_of_two_places(word: &str, arguments: &[u8]) -> Option<Rule>
+    ensures found { IfSome result (λ rule. (trees : List Tree) → IsCall wants_two_places word.now arguments.now (rule_at trees rule)) }
+    ensures known { (trees : List Tree) → IfSome result (RuleIsKnown trees) }
+    ensures none { IfNone result ((rule : TreeRule) → ¬ IsCall wants_two_places word.now arguments.now rule) }
 {
-    let (place, rest) = number_before(text, b')')?;
-    if !rest.is_empty() {
-        return None;
-    }
-    Some(place)
+    let (first, second) = two_places(arguments)?;
+    of_two_places(word, first, second)
 }
 
-/// A place, `,`, a place and `)`, and nothing behind.
-fn two_places(text: &[u8]) -> Option<(u32, u32)>
-    ensures found { IfSome result (λ places. TwoPlaces text.now places.0 places.1) }
-    ensures none { IfNone result ((first second : ℕ) → ¬ TwoPlaces text.now first second) }
+/// A rule that wants a name or a formula.
+fn rule_of_more<S: Store>(
+    alloc: Global,
+    word: &str,
+    arguments: &[u8],
+    store: &mut S,
+) -> Result<Rule, LineFault>
+    ensures found { IfOk result (λ rule. IsCall wants_more word.now arguments.now (rule_at (S.trees store.new) rule)) }
+    ensures known { IfOk result (RuleIsKnown (S.trees store.new)) }
+    ensures fault { IfErr result (IsFaultOf ((rule : TreeRule) → ¬ IsCall wants_more word.now arguments.now rule)) }
+    ensures grows { S.grows store.old store.new }
 {
-    let (first, rest) = number_before(text, b',')?;
-    let second = one_place(rest)?;
-    Some((first, second))
+    match word {
+        "boundL" => {
+            let (i, y) = place_and_name(alloc, arguments)?;
+            Ok(Rule::BoundL(i, y))
+        }
+        "boundR" => {
+            let (j, y) = place_and_name(alloc, arguments)?;
+            Ok(Rule::BoundR(j, y))
+        }
+        "cut" => {
+            let h = formula(alloc, arguments, store)?;
+            Ok(Rule::Cut(h))
+        }
+        "cutL" => {
+            let (i, h) = place_and_formula(alloc, arguments, store)?;
+            Ok(Rule::CutL(i, h))
+        }
+        "cutR" => {
+            let (j, h) = place_and_formula(alloc, arguments, store)?;
+            Ok(Rule::CutR(j, h))
+        }
+        _ => Err(LineFault::Malformed),
+    }
 }

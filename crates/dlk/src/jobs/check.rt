@@ -30,9 +30,15 @@ fn reason_word(why: Reason) -> &'static str
     match why {
         Reason::NoFact => "NoFact",
         Reason::NoGoal => "NoGoal",
+        Reason::UnknownName => "UnknownName",
         Reason::NoPlace => "NoPlace",
         Reason::WrongShape => "WrongShape",
         Reason::NotEqual => "NotEqual",
+        Reason::NotFresh => "NotFresh",
+        Reason::NotArith => "NotArith",
+        Reason::IllSubst => "IllSubst",
+        Reason::FreeInSubst => "FreeInSubst",
+        Reason::NotAdmissible => "NotAdmissible",
     }
 }
 

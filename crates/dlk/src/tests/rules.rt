@@ -2,8 +2,11 @@
 use super::*;
 use dlk_kernel::{Reason, Rule, StepFault};
 use dlk_parse::{Dots, read_expression};
+use dlk_kernel::{Reason, Rule, StepFault};
+use dlk_parse::{Dots, read_expression};
 use dlk_replay::{LineWhy, ReplayFault, replay};
 use dlk_report::shown;
+use dlk_sequent::{Listed, Sequent};
 use dlk_sequent::{Listed, Sequent};
 
 /// The texts of the premises that a rule makes of a goal, with `; ` between, or the reason against the rule.
@@ -192,12 +195,14 @@ fn renames_bound_variables(rt: HostRuntime) -> Result<(), Fail> {
         ("\\forall x x>y ==>", "boundL(1,y)", "NotFresh"),
         ("==> \\forall x x>y'", "boundR(1,y)", "NotFresh"),
         ("==> \\forall x x'>0", "boundR(1,y)", "NotFresh"),
-        ("==> \\forall x p(||)", "boundR(1,y)", "NotFresh"),
-        ("==> \\forall x C{x>0}", "boundR(1,y)", "NotFresh"),
-        ("==> \\forall x f(||)>0", "boundR(1,y)", "NotFresh"),
         ("==> \\forall x f(x)>0", "boundR(1,y)", "==> \\forall y f(y)>0"),
         ("==> \\forall x \\forall y x>y", "boundR(1,y)", "==> \\forall y \\forall x y>x"),
         ("==> \\forall x x>0", "boundR(1,x)", "NotFresh"),
+        ("==> \\forall x [y:=1;y':=1;x':=1;]C{true}", "boundR(1,y)", "NotFresh"),
+        ("==> \\forall x [y:=1;y':=1;x':=1;][a;]true", "boundR(1,y)", "NotFresh"),
+        ("==> \\forall x [y:=1;y':=1;x':=1;]f(||)>0", "boundR(1,y)", "NotFresh"),
+        ("==> \\forall x [y:=1;y':=1;x':=1;][{c}]true", "boundR(1,y)", "NotFresh"),
+        ("==> \\forall x [y:=1;y':=1;x':=1;]p(z)", "boundR(1,y)", "==> \\forall y [x:=1;x':=1;y':=1;]p(z)"),
     ] {
         assert_eq!(rt; of(alloc, goal, rule)?, want.as_bytes(), "{goal} {rule}");
     }
@@ -246,6 +251,70 @@ fn refuses_what_no_file_can_say(rt: HostRuntime) -> Result<(), Fail> {
     for text in ["._0>=0", "p()&_", "x+1", "x:=1;"] {
         assert_eq!(rt; cut_refused::<Brand>(alloc, text.as_bytes(), Blank::new(1)), Some([shape, shape, shape]), "{text}");
         assert_eq!(rt; start_refused::<Brand>(alloc, text.as_bytes(), Blank::new(1)), Some(shape), "{text}");
+    }
+    Ok(())
+}
+
+#[test]
+fn checks_terms_with_these_rules(rt: HostRuntime) -> Result<(), Fail> {
+    let alloc = rt.alloc();
+    for (model, term, status, printed) in [
+        // examples/chain
+        (
+            "(a>0 -> b>0)&(b>0 -> c>0) -> (a>0 -> c>0)",
+            "1 start ==> (a>0 -> b>0)&(b>0 -> c>0) -> (a>0 -> c>0)\n2 apply 1 1 implyR(1)\n3 apply 2 1 implyR(1)\n4 apply 3 1 andL(1)\n5 apply 4 1 implyL(1)\n6 apply 5 1 close(1,2)\n7 apply 6 1 implyL(3)\n8 apply 7 1 close(1,2)\n9 apply 8 1 close(3,1)\ndone\n",
+            0,
+            "closed\nconclusion ==> (a>0 -> b>0)&(b>0 -> c>0) -> a>0 -> c>0\ngoals 0\nleaves 0\nlines 9\n",
+        ),
+        // examples/fresh
+        (
+            "x>=0 -> \\forall x (x>=0 -> x>=0)",
+            "1 start ==> x>=0 -> \\forall x (x>=0 -> x>=0)\n2 apply 1 1 implyR(1)\n3 apply 2 1 boundR(1,z)\n4 apply 3 1 skolemR(1)\n5 apply 4 1 implyR(1)\n6 apply 5 1 close(2,1)\ndone\n",
+            0,
+            "closed\nconclusion ==> x>=0 -> \\forall x (x>=0 -> x>=0)\ngoals 0\nleaves 0\nlines 6\n",
+        ),
+        (
+            "x>=0 -> \\forall x x>=0",
+            "1 start ==> x>=0 -> \\forall x x>=0\n2 apply 1 1 implyR(1)\n3 apply 2 1 skolemR(1)\ndone\n",
+            2,
+            "refused: line 3: NotFresh\n",
+        ),
+        (
+            "x>=0 -> \\forall x x>=0",
+            "1 start ==> x>=0 -> \\forall x x>=0\n2 apply 1 1 implyR(1)\n3 apply 2 1 boundR(1,z)\n4 apply 3 1 skolemR(1)\ndone\n",
+            1,
+            "open\nconclusion ==> x>=0 -> \\forall x x>=0\ngoals 1\ngoal 1 x>=0 ==> z>=0\nleaves 0\nlines 4\n",
+        ),
+        // must-bound in the program, and yet not fresh
+        (
+            "\\forall x [y:=1;y':=1;x':=1;]p(||)",
+            "1 start ==> \\forall x [y:=1;y':=1;x':=1;]p(||)\n2 apply 1 1 boundR(1,y)\ndone\n",
+            2,
+            "refused: line 2: NotFresh\n",
+        ),
+        // names exchanged in conclusion and goals
+        (
+            "y>=0 -> [y:=1;]p(|y|)",
+            "1 start ==> x>=0 -> [x:=1;]p(|x|)\n2 apply 1 1 implyR(1)\n3 rename 2 x y\ndone\n",
+            1,
+            "open\nconclusion ==> y>=0 -> [y:=1;]p(|y|)\ngoals 1\ngoal 1 y>=0 ==> [y:=1;]p(|y|)\nleaves 0\nlines 3\n",
+        ),
+        (
+            "x>=0",
+            "1 start ==> x>=0\n2 rename 2 x y\ndone\n",
+            2,
+            "refused: line 2: NoFact\n",
+        ),
+        (
+            "x>=0",
+            "1 start ==> x>=0\n2 rename 1 x true\ndone\n",
+            2,
+            "refused: line 2: Malformed\n",
+        ),
+    ] {
+        let (found, desk) = checked(alloc, model.as_bytes(), term.as_bytes())?;
+        assert_eq!(rt; found, status, "{term}");
+        assert_eq!(rt; desk.printed(), printed.as_bytes(), "{term}");
     }
     Ok(())
 }

@@ -2,18 +2,22 @@ use Rattle.std.proofs.lemmas.Result.{err_from_is_err_and}
 use Rattle.dlk_sequent.specs.Sequents.{IsKnown}
 use Rattle.dlk_kernel.specs.Kernel.{IsKnownRow}
 use Rattle.dlk_calculus.proofs.PlaceLaws.{At_All, At_place}
-use Rattle.dlk_kernel.proofs.RowLaws.{goal_not_there, rule_refused, applied_given, applied_known}
+use Rattle.dlk_kernel.proofs.RowLaws.{goal_not_there, goal_formulas, rule_refused, applied_given, applied_known}
 use Rattle.dlk_kernel.proofs.given.apply.Goals as goal
 
 pub returns-in_default-item_at-clause-fault : goal.returns-in_default-item_at-clause-fault
 returns-in_default-item_at-clause-fault g c =
     goal_not_there _ _ c.args.fact c.args.goal _ c.in-Some.row.now c.in-Some.ensures (cc (c.in_default-item_at.ensures, c.as_slice.ensures))
 
-pub premises-requires : goal.premises-requires
-premises-requires g c =
+pub premises-requires-clause-known : goal.premises-requires-clause-known
+premises-requires-clause-known g c =
     let trees = g.S.Store.trees c.args.store.now in
     let row = At_All (IsKnownRow trees) c.args.rows.now c.args.fact c.in-Some.row.now c.requires.rows c.in-Some.ensures in
-    record { known = At_All (IsKnown trees) c.in-Some.row.now.goals c.args.goal c.in-Some-item_at.s.now row.goals (cc (c.in-Some-item_at.ensures, c.as_slice.ensures)) }
+    At_All (IsKnown trees) c.in-Some.row.now.goals c.args.goal c.in-Some-item_at.s.now row.goals (cc (c.in-Some-item_at.ensures, c.as_slice.ensures))
+
+pub premises-requires-clause-formulas : goal.premises-requires-clause-formulas
+premises-requires-clause-formulas g c =
+    goal_formulas _ c.args.rows.now c.args.fact c.args.goal c.in-Some.row.now _ c.requires.formulas c.in-Some.ensures (cc (c.in-Some-item_at.ensures, c.as_slice.ensures))
 
 pub returns-in_err-new-clause-fault : goal.returns-in_err-new-clause-fault
 returns-in_err-new-clause-fault g c =
@@ -29,11 +33,11 @@ returns-clause-given g c =
     applied_given _ _ c.args.fact c.args.goal _ c.in-Some.row.now c.in-Some-item_at.s.now c.in-Some.ensures (cc (c.in-Some-item_at.ensures, c.as_slice.ensures)) _
     (g.met.S.Store.grows_keeps c.args.store.now c.premises.new.store c.premises.ensures.grows)
     (At_All (IsKnownRow trees) c.args.rows.now c.args.fact c.in-Some.row.now c.requires.rows c.in-Some.ensures)
-    c.in_ok-new.new _ (rw (c.in_ok-conclusion.ensures, c.in_ok-goals.ensures, c.as_slice-2.ensures, c.in_ok-leaves.ensures)) c.in_ok-new.ensures.ok
+    c.in_ok-new.new _ (rw (c.in_ok-conclusion.ensures, c.in_ok-goals.ensures, c.as_slice-2.ensures, c.in_ok-leaves.ensures)) c.in_ok-new.ensures.made.premises
 
 pub returns-clause-known : goal.returns-clause-known
 returns-clause-known g c =
     let trees = g.S.Store.trees c.args.store.now in
     applied_known _ _ (g.met.S.Store.grows_keeps c.args.store.now c.premises.new.store c.premises.ensures.grows) c.in-Some.row.now
     (At_All (IsKnownRow trees) c.args.rows.now c.args.fact c.in-Some.row.now c.requires.rows c.in-Some.ensures)
-    c.args.goal c.in_ok-new.new _ c.in_ok-new.ensures.known (rw (c.in_ok-conclusion.ensures, c.in_ok-goals.ensures, c.as_slice-2.ensures, c.in_ok-leaves.ensures))
+    c.args.goal c.in_ok-new.new _ c.in_ok-new.ensures.made.known (rw (c.in_ok-conclusion.ensures, c.in_ok-goals.ensures, c.as_slice-2.ensures, c.in_ok-leaves.ensures))

@@ -1,4 +1,4 @@
-use Rattle.std.proofs.Common.{refl, sym, ◌∙◌}
+use Rattle.std.proofs.Common.{refl}
 use Rattle.std.proofs.lemmas.Bool.{both_ways}
 use Rattle.dlk_sequent.proofs.Formulas.{one_more, all_of_them, not_all}
 use Rattle.dlk_sequent.proofs.formula.are_formulas.Goals as goal

@@ -1,7 +1,3 @@
-use Rattle.std.specs.Prelude.{All, map}
-use Rattle.std.proofs.Common.{sym, subst}
-use Rattle.dlk_store.specs.Stores.{tree}
-use Rattle.dlk_calculus.specs.Sequents.{IsFormula}
 use Rattle.dlk_sequent.proofs.formula.is_sequent.Goals as goal
 
 pub returns-then-are_formulas : goal.returns-then-are_formulas

@@ -5,7 +5,8 @@ use Rattle.std.proofs.lemmas.Slice.Eq.{slice_eq-Decides}
 use Rattle.std.proofs.lemmas.Bool.{both_ways}
 use Rattle.std.proofs.lemmas.Bool.Decides.{Decides-eqb}
 use Rattle.dlk_termtext.specs.Lines.{done}
-use Rattle.dlk_termtext.proofs.LineForms.{numbered_line, no_line, step_fault}
+use Rattle.dlk_termtext.proofs.LineForms.{numbered_line, no_line, no_step}
+use Rattle.dlk_termtext.proofs.Refusals.{fault_of_whole}
 use Rattle.dlk_termtext.proofs.reading.read_line.Goals as goal
 
 pub returns-then-eq-clause-found : goal.returns-then-eq-clause-found
@@ -22,7 +23,7 @@ pub returns-in_err-step-clause-fault : goal.returns-in_err-step-clause-fault
 returns-in_err-step-clause-fault g c =
     let p = err_from_is_err_and c.from_residual.result c.from_residual.ensures.1 in
     let other : c.args.line.now ≢ codes "done" = λ e. both_ways c.eq.result c.if-eq.false ((slice_eq-Decides Decides-eqb _ _ _ c.eq.ensures).1 (e ∙ sym c.as_slice.ensures)) in
-    rw (p.1, p.2) (step_fault c.args.line.now _ _ _ other c.in-Some.ensures.found c.in_err-step.ensures.fault)
+    rw (p.1, p.2) (fault_of_whole (no_step c.args.line.now _ _ other c.in-Some.ensures.found) _ c.in_err-step.ensures.fault)
 
 pub returns-clause-found : goal.returns-clause-found
 returns-clause-found g c =

@@ -1,7 +1,10 @@
 use Rattle.std.proofs.Common.{◌∷◌, [], arith, refl, length-append}
 use Rattle.std.proofs.lemmas.Result.{err_from_is_err_and}
-use Rattle.dlk_kernel.proofs.Growth.{sound_kept, sound_more, same_rows, extends_rows, adds}
+use Rattle.dlk_kernel.proofs.Growth.{all_formulas, sound_kept, sound_more, same_rows, extends_rows, adds}
 use Rattle.dlk_kernel.proofs.kernel.Kernel.step.Goals as goal
+
+pub give-requires-clause-formulas : goal.give-requires-clause-formulas
+give-requires-clause-formulas g c = rw c.as_slice.ensures.value (all_formulas _ _ c.self.invariant)
 
 -- a refused step may have made nodes
 pub invariant_of-self : goal.invariant_of-self

@@ -1,0 +1,38 @@
+use Rattle.dlk_store.specs.declared.Id.{Id}
+use Rattle.dlk_sequent.proofs.Kept.{IsId-kept}
+use Rattle.dlk_sequent.proofs.KeptPairs.{IsMadeOver-kept}
+use Rattle.dlk_subst.specs.declared.fault.ApplyFault.TheVariants.{NotAdmissible}
+use Rattle.dlk_subst.proofs.Related.{handed_on}
+use Rattle.dlk_kernel.proofs.Renamed.{one_more_known_id}
+use Rattle.dlk_kernel.proofs.Substituted.{no_id, one_more_id}
+use Rattle.dlk_kernel.proofs.substituting.subst_ids.Goals as goal
+
+pub apply-requires-clause-made : goal.apply-requires-clause-made
+apply-requires-clause-made g c =
+    IsMadeOver-kept (g.met.S.Store.grows_keeps c.args.store.now c.loop-id.store c.loop-id.invariant.grows) c.requires.sigma
+
+pub apply-requires-clause-known : goal.apply-requires-clause-known
+apply-requires-clause-known g c =
+    let keeps = g.met.S.Store.grows_keeps c.args.store.now c.loop-id.store c.loop-id.invariant.grows in
+    IsId-kept keeps _ (c.requires.known c.loop-id.id-index (record { 0 = 0 }) c.loop-id-test.true)
+
+pub returns-in_err-substituted-clause-none : goal.returns-in_err-substituted-clause-none
+returns-in_err-substituted-clause-none g c e =
+    let first = g.met.S.Store.grows_keeps c.args.store.now c.loop-id.store c.loop-id.invariant.grows in
+    let failed = handed_on c.apply.result c.from_residual.result c.in_err-substituted.field-0.0 NotAdmissible c.in_err-substituted.was c.from_residual.ensures.1 e in
+    let n = c.loop-id.id-index in
+    let d : Id = record { 0 = 0 } in
+    no_id _ _ first c.args.sigma.now.pairs c.requires.sigma.known c.args.ids.now n d c.loop-id-test.true (c.requires.known n d c.loop-id-test.true) (c.apply.ensures.none failed)
+
+pub loop-id-preserved : goal.loop-id-preserved
+loop-id-preserved g c =
+    let first = g.met.S.Store.grows_keeps c.args.store.now c.loop-id.store c.loop-id.invariant.grows in
+    let then = g.met.S.Store.grows_keeps c.loop-id.store c.apply.new.store c.apply.ensures.grows in
+    let n = c.loop-id.id-index in
+    let d : Id = record { 0 = 0 } in
+    let made = c.in_ok-substituted.ensures.ok in
+    record {
+      grows = g.met.S.Store.grows_trans c.args.store.now c.loop-id.store c.apply.new.store c.loop-id.invariant.grows c.apply.ensures.grows;
+      known = rw c.in_ok-push.ensures.ok (one_more_known_id _ _ then c.loop-id.made _ c.loop-id.invariant.known made.stands.known);
+      made = rw c.in_ok-push.ensures.ok (one_more_id _ _ first c.args.sigma.now.pairs c.requires.sigma.known _ then c.args.ids.now c.loop-id.made n d _ c.loop-id-test.true (c.requires.known n d c.loop-id-test.true) c.loop-id.invariant.known c.loop-id.invariant.made made);
+    }

@@ -1,0 +1,35 @@
+use Rattle.dlk_sequent.proofs.Kept.{IsKnown-kept}
+use Rattle.dlk_sequent.proofs.KeptPairs.{IsMadeOver-kept}
+use Rattle.dlk_subst.specs.declared.fault.ApplyFault.TheVariants.{NotAdmissible}
+use Rattle.dlk_subst.proofs.Related.{handed_on}
+use Rattle.dlk_kernel.proofs.Renamed.{one_more_known}
+use Rattle.dlk_kernel.proofs.Substituted.{no_sequent, one_more_sequent}
+use Rattle.dlk_kernel.proofs.substituting.subst_sequents.Goals as goal
+
+pub subst_sequent-requires-clause-sigma : goal.subst_sequent-requires-clause-sigma
+subst_sequent-requires-clause-sigma g c =
+    IsMadeOver-kept (g.met.S.Store.grows_keeps c.args.store.now c.loop-s.store c.loop-s.invariant.grows) c.requires.sigma
+
+pub subst_sequent-requires-clause-known : goal.subst_sequent-requires-clause-known
+subst_sequent-requires-clause-known g c =
+    let keeps = g.met.S.Store.grows_keeps c.args.store.now c.loop-s.store c.loop-s.invariant.grows in
+    IsKnown-kept keeps _ (rw (← c.s-item.is) at (c.requires.known c.loop-s.s-index c.s-item.result c.loop-s-test.true))
+
+pub returns-in_err-substituted-clause-none : goal.returns-in_err-substituted-clause-none
+returns-in_err-substituted-clause-none g c e =
+    let first = g.met.S.Store.grows_keeps c.args.store.now c.loop-s.store c.loop-s.invariant.grows in
+    let failed = handed_on c.subst_sequent.result c.from_residual.result c.in_err-substituted.field-0.0 NotAdmissible c.in_err-substituted.was c.from_residual.ensures.1 e in
+    let n = c.loop-s.s-index in
+    no_sequent _ _ first c.args.sigma.now.pairs c.requires.sigma.known c.args.all.now n c.s-item.result c.loop-s-test.true (c.requires.known n c.s-item.result c.loop-s-test.true) (rw c.s-item.is at c.subst_sequent.ensures.none failed)
+
+pub loop-s-preserved : goal.loop-s-preserved
+loop-s-preserved g c =
+    let first = g.met.S.Store.grows_keeps c.args.store.now c.loop-s.store c.loop-s.invariant.grows in
+    let then = g.met.S.Store.grows_keeps c.loop-s.store c.subst_sequent.new.store c.subst_sequent.ensures.grows in
+    let n = c.loop-s.s-index in
+    let made = rw c.s-item.is at c.in_ok-substituted.ensures.made in
+    record {
+      grows = g.met.S.Store.grows_trans c.args.store.now c.loop-s.store c.subst_sequent.new.store c.loop-s.invariant.grows c.subst_sequent.ensures.grows;
+      known = rw c.in_ok-push.ensures.ok (one_more_known _ _ then c.loop-s.made _ c.loop-s.invariant.known c.in_ok-substituted.ensures.known);
+      made = rw c.in_ok-push.ensures.ok (one_more_sequent _ _ first c.args.sigma.now.pairs c.requires.sigma.known _ then c.args.all.now c.loop-s.made n c.s-item.result _ c.loop-s-test.true (c.requires.known n c.s-item.result c.loop-s-test.true) c.loop-s.invariant.known c.loop-s.invariant.made made);
+    }

@@ -1,0 +1,27 @@
+use Rattle.std.proofs.lemmas.Result.{err_from_is_err_and}
+use Rattle.dlk_calculus.proofs.PlaceLaws.{At_All}
+use Rattle.dlk_kernel.specs.Kernel.{IsKnownRow}
+use Rattle.dlk_kernel.proofs.Substituted.{not_true, free_refused, substituted_given, none_refused}
+use Rattle.dlk_kernel.proofs.substituting.substitute.Goals as goal
+
+pub returns-then-is_free_over_goals-clause-fault : goal.returns-then-is_free_over_goals-clause-fault
+returns-then-is_free_over_goals-clause-fault g c =
+    free_refused _ (g.met.S.Store.well_made c.args.store.now) c.args.rows.now c.args.fact c.in-Some.row.now c.in-Some.ensures c.args.pairs.now c.in_ok-sigma.sigma c.in_ok-sigma.ensures.pairs c.in_ok-sigma.ensures.made
+    (c.is_free_over_goals.ensures.0 c.if-is_free_over_goals.true).0 (c.is_free_over_goals.ensures.0 c.if-is_free_over_goals.true).1
+
+pub subst_row-requires-clause-known : goal.subst_row-requires-clause-known
+subst_row-requires-clause-known g c = At_All (IsKnownRow (g.S.Store.trees c.args.store.now)) c.args.rows.now c.args.fact c.in-Some.row.now c.requires.rows c.in-Some.ensures
+
+pub returns-in_err-made-clause-fault : goal.returns-in_err-made-clause-fault
+returns-in_err-made-clause-fault g c =
+    let r = err_from_is_err_and c.from_residual-in_err-made.result c.from_residual-in_err-made.ensures.1 in
+    rw (r.1, r.2)
+    (none_refused _ (g.met.S.Store.well_made c.args.store.now) c.args.rows.now c.args.fact c.in-Some.row.now c.in-Some.ensures c.args.pairs.now c.in_ok-sigma.sigma c.in_ok-sigma.ensures.pairs c.in_ok-sigma.ensures.made
+    (λ h. not_true _ c.if-is_free_over_goals.false (c.is_free_over_goals.ensures.1 h))
+    c.subst_row.result c.in_err-made.field-0.0 c.in_err-made.was c.subst_row.ensures.none)
+
+pub returns-clause-given : goal.returns-clause-given
+returns-clause-given g c =
+    substituted_given _ (g.met.S.Store.well_made c.args.store.now) c.args.rows.now c.args.fact c.in-Some.row.now c.in-Some.ensures c.args.pairs.now c.in_ok-sigma.sigma c.in_ok-sigma.ensures.pairs c.in_ok-sigma.ensures.made
+    (λ h. not_true _ c.if-is_free_over_goals.false (c.is_free_over_goals.ensures.1 h))
+    _ c.in_ok-made.ensures.made

@@ -1,0 +1,203 @@
+//! A substitution in a fact.
+ghost use Rattle.std.specs.Prelude.{◌≡◌, ◌↔◌, ◌<◌, List, length, map, All, IsTrue, Err, IfOk, IfErr};
+ghost use Rattle.dlk_tree.specs.Trees.{Tree};
+ghost use Rattle.dlk_store.specs.Stores.{IsId, tree};
+ghost use Rattle.dlk_calculus.specs.declared.reason.Reason.TheVariants.{IllSubst};
+ghost use Rattle.dlk_calculus.specs.Pairs.{IsWellFormed};
+ghost use Rattle.dlk_calculus.specs.Sequents.{Sequent as TreeSequent};
+ghost use Rattle.dlk_calculus.specs.Provables.{Provable, SubstEach, SubstSequent, SubstSequents, Substitutes};
+ghost use Rattle.dlk_calculus.specs.Steps.{Substitute, Gives, Fault};
+ghost use Rattle.dlk_sequent.specs.Sequents.{sequent_at, IsKnown};
+ghost use Rattle.dlk_sequent.specs.Substitutions.{pairs_at, AreKnownPairs, IsMadeOver};
+ghost use Rattle.dlk_subst.specs.declared.fault.ApplyFault.TheVariants.{NotAdmissible};
+ghost use Rattle.dlk_kernel.specs.Faults.{IsStepFault};
+ghost use Rattle.dlk_kernel.specs.Kernel.{provable_at, provables_at, IsKnownRow};
+
+use crate::fault::StepFault;
+use crate::row::Row;
+use dlk_calculus::Reason;
+use dlk_sequent::{Listed, Pair, Sequent, Subst, SubstFault, item_at};
+use dlk_store::{Id, Steps, Store};
+use dlk_subst::{ApplyFault, apply};
+use std::alloc::{AllocError, Global};
+use std::sync::ledger::Ledger;
+
+/// The same pairs once more.
+fn copy_pairs(alloc: Global, pairs: &[Pair]) -> Result<Vec<Pair>, AllocError>
+    ensures { IfOk result (λ copies. copies.items ≡ pairs.now) }
+{
+    let mut copies = Vec::new(alloc);
+    for pair in pairs {
+        let sym = pair.sym.clone()?;
+        copies.push(Pair { sym, by: pair.by })?;
+    }
+    Ok(copies)
+}
+
+/// The substitution of the pairs.
+fn substitution<S: Store, L: Ledger>(
+    alloc: Global,
+    store: &S,
+    pairs: &[Pair],
+    steps: &mut Steps<L>,
+) -> Result<Subst, StepFault>
+    requires { AreKnownPairs (S.trees store.now) pairs.now }
+    ensures pairs { IfOk result (λ sigma. sigma.pairs ≡ pairs.now) }
+    ensures made { IfOk result (IsMadeOver (S.trees store.now)) }
+    ensures ill { IfErr result (IsStepFault (λ why. (why ≡ IllSubst) × (¬ IsWellFormed (pairs_at (S.trees store.now) pairs.now)))) }
+{
+    let copies = copy_pairs(alloc, pairs)?;
+    match Subst::new(alloc, store, copies, steps) {
+        Ok(sigma) => Ok(sigma),
+        Err(SubstFault::Ill { .. }) => Err(StepFault::Refused(Reason::IllSubst)),
+        Err(SubstFault::Memory) => Err(StepFault::Memory),
+    }
+}
+
+/// What the substitution makes of the trees.
+///
+/// # Errors
+///
+/// `NotAdmissible` exactly where it makes nothing of one of them. `Memory` for want of memory.
+fn subst_ids<S: Store, L: Ledger>(
+    alloc: Global,
+    store: &mut S,
+    sigma: &Subst,
+    ids: &[Id],
+    steps: &mut Steps<L>,
+) -> Result<Listed<Id>, ApplyFault>
+    requires sigma { IsMadeOver (S.trees store.old) sigma.now }
+    requires known { All (IsId (S.trees store.old)) ids.now }
+    ensures made { IfOk result (λ made. SubstEach (pairs_at (S.trees store.old) sigma.now.pairs) (map (tree (S.trees store.old)) ids.now) (map (tree (S.trees store.new)) made)) }
+    ensures known { IfOk result (All (IsId (S.trees store.new))) }
+    ensures none { result ≡ Err NotAdmissible → (made : List Tree) → ¬ SubstEach (pairs_at (S.trees store.old) sigma.now.pairs) (map (tree (S.trees store.old)) ids.now) made }
+    ensures grows { S.grows store.old store.new }
+{
+    let mut made = Listed::new(alloc);
+    for id in ids {
+        let substituted = apply(alloc, store, sigma, *id, steps)?;
+        made.push(substituted)?;
+    }
+    Ok(made)
+}
+
+/// What the substitution makes of the sequent's formulas.
+///
+/// # Errors
+///
+/// As `subst_ids`.
+fn subst_sequent<S: Store, L: Ledger>(
+    alloc: Global,
+    store: &mut S,
+    sigma: &Subst,
+    s: &Sequent,
+    steps: &mut Steps<L>,
+) -> Result<Sequent, ApplyFault>
+    requires sigma { IsMadeOver (S.trees store.old) sigma.now }
+    requires known { IsKnown (S.trees store.old) s.now }
+    ensures made { IfOk result (λ made. SubstSequent (pairs_at (S.trees store.old) sigma.now.pairs) (sequent_at (S.trees store.old) s.now) (sequent_at (S.trees store.new) made)) }
+    ensures known { IfOk result (IsKnown (S.trees store.new)) }
+    ensures none { result ≡ Err NotAdmissible → (made : TreeSequent) → ¬ SubstSequent (pairs_at (S.trees store.old) sigma.now.pairs) (sequent_at (S.trees store.old) s.now) made }
+    ensures grows { S.grows store.old store.new }
+{
+    let ante = subst_ids(alloc, store, sigma, s.ante.as_slice(), steps)?;
+    let succ = subst_ids(alloc, store, sigma, s.succ.as_slice(), steps)?;
+    Ok(Sequent { ante, succ })
+}
+
+/// What the substitution makes of the formulas of the sequents.
+///
+/// # Errors
+///
+/// As `subst_ids`.
+fn subst_sequents<S: Store, L: Ledger>(
+    alloc: Global,
+    store: &mut S,
+    sigma: &Subst,
+    all: &[Sequent],
+    steps: &mut Steps<L>,
+) -> Result<Listed<Sequent>, ApplyFault>
+    requires sigma { IsMadeOver (S.trees store.old) sigma.now }
+    requires known { All (IsKnown (S.trees store.old)) all.now }
+    ensures made { IfOk result (λ made. SubstSequents (pairs_at (S.trees store.old) sigma.now.pairs) (map (sequent_at (S.trees store.old)) all.now) (map (sequent_at (S.trees store.new)) made)) }
+    ensures known { IfOk result (All (IsKnown (S.trees store.new))) }
+    ensures none { result ≡ Err NotAdmissible → (made : List TreeSequent) → ¬ SubstSequents (pairs_at (S.trees store.old) sigma.now.pairs) (map (sequent_at (S.trees store.old)) all.now) made }
+    ensures grows { S.grows store.old store.new }
+{
+    let mut made = Listed::new(alloc);
+    for s in all {
+        let substituted = subst_sequent(alloc, store, sigma, s, steps)?;
+        made.push(substituted)?;
+    }
+    Ok(made)
+}
+
+/// What the substitution makes of the row's conclusion and goals, with its leaves.
+///
+/// # Errors
+///
+/// As `subst_ids`.
+fn subst_row<S: Store, L: Ledger>(
+    alloc: Global,
+    store: &mut S,
+    sigma: &Subst,
+    row: &Row,
+    steps: &mut Steps<L>,
+) -> Result<Row, ApplyFault>
+    requires sigma { IsMadeOver (S.trees store.old) sigma.now }
+    requires known { IsKnownRow (S.trees store.old) row.now }
+    ensures made { IfOk result (λ made. Substitutes (pairs_at (S.trees store.old) sigma.now.pairs) (provable_at (S.trees store.old) row.now) (provable_at (S.trees store.new) made)) }
+    ensures known { IfOk result (IsKnownRow (S.trees store.new)) }
+    ensures none { result ≡ Err NotAdmissible → (made : Provable) → ¬ Substitutes (pairs_at (S.trees store.old) sigma.now.pairs) (provable_at (S.trees store.old) row.now) made }
+    ensures grows { S.grows store.old store.new }
+{
+    let conclusion = subst_sequent(alloc, store, sigma, &row.conclusion, steps)?;
+    let goals = subst_sequents(alloc, store, sigma, row.goals.as_slice(), steps)?;
+    let leaves = row.leaves.copy(alloc)?;
+    Ok(Row {
+        conclusion,
+        goals,
+        leaves,
+    })
+}
+
+/// Whether the row has a goal, and some variable is free in what replaces a function or a predicate.
+fn is_free_over_goals(sigma: &Subst, row: &Row) -> bool
+    ensures { IsTrue result ↔ (IsTrue sigma.now.free × (0 < length row.now.goals)) }
+{
+    sigma.free() && !row.goals.as_slice().is_empty()
+}
+
+/// A fact under the substitution of the pairs. Its leaves stay. Where it has a goal, no variable may be free in what
+/// replaces a function or a predicate:
+///
+/// ```text
+/// the fact's goals under the substitution
+/// --------------------------------------------
+/// the fact's conclusion under the substitution
+/// ```
+pub(crate) fn substitute<S: Store, L: Ledger>(
+    alloc: Global,
+    store: &mut S,
+    rows: &[Row],
+    fact: u32,
+    pairs: &[Pair],
+    steps: &mut Steps<L>,
+) -> Result<Row, StepFault>
+    requires pairs { AreKnownPairs (S.trees store.old) pairs.now }
+    requires rows { All (IsKnownRow (S.trees store.old)) rows.now }
+    ensures given { IfOk result (λ row. Gives (provables_at (S.trees store.old) rows.now) (Substitute fact (pairs_at (S.trees store.old) pairs.now)) (provable_at (S.trees store.new) row)) }
+    ensures known { IfOk result (IsKnownRow (S.trees store.new)) }
+    ensures fault { IfErr result (IsStepFault (Fault (provables_at (S.trees store.old) rows.now) (Substitute fact (pairs_at (S.trees store.old) pairs.now)))) }
+    ensures grows { S.grows store.old store.new }
+{
+    let Some(row) = item_at(rows, fact) else {
+        return Err(StepFault::Refused(Reason::NoFact));
+    };
+    let sigma = substitution(alloc, store, pairs, steps)?;
+    if is_free_over_goals(&sigma, row) {
+        return Err(StepFault::Refused(Reason::FreeInSubst));
+    }
+    let made = subst_row(alloc, store, &sigma, row, steps)?;
+    Ok(made)
+}

@@ -1,0 +1,303 @@
+-- The forms of steps, from the front of a text on.
+use Rattle.std.proofs.Common.{◌≡◌, ◌≢◌, ℕ, List, [], ◌∷◌, ◌++◌, refl, ap, sym, subst, ◌∙◌, append_assoc, arith}
+use Rattle.std.specs.Prelude.{codes, IsTrue, Result, Ok, Err, IfOk, IfErr, if◌then◌else◌}
+use Rattle.std.specs.List.{list_all}
+use Rattle.std.specs.Str.{bytes_eq, IsUtf8}
+use Rattle.dlk_tree.specs.Names.{is_letter, is_name}
+use Rattle.dlk_tree.specs.Trees.{Tree}
+use Rattle.dlk_calculus.specs.Pairs.{Pair}
+use Rattle.dlk_calculus.specs.Sequents.{Sequent}
+use Rattle.dlk_calculus.specs.Rules.{Rule}
+use Rattle.dlk_calculus.specs.Steps.{Step, Start, UseAxiom, UseRule, Leaf, Apply, Merge, Substitute, Rename}
+use Rattle.dlk_grammar.specs.Texts.{SequentText, PairsText}
+use Rattle.dlk_machine.proofs.Formed.{Each}
+use Rattle.dlk_machine.proofs.TextLaws.{one_sequent_text, one_pairs_text}
+use Rattle.dlk_rules.specs.Steps.{step_at}
+use Rattle.dlk_rules.specs.declared.step.Step.{Step as IdStep}
+use Rattle.dlk_termtext.specs.declared.line.LineFault.{LineFault}
+use Rattle.dlk_termtext.specs.Lines.{IsNumber, IsRule, IsStep, start, use_axiom, use_rule, leaf, apply, merge, substitute, rename}
+use Rattle.dlk_termtext.specs.Parts.{Lacks, CutAt, NumberThen, FactGoal, FactGoalRule, FactGoalFact, FactPairs, FactNames, word_of, Behind, WordAndRest}
+use Rattle.dlk_termtext.specs.Read.{IsFaultOf}
+use Rattle.dlk_termtext.proofs.Cuts.{lacks_if, lacks_name, one_cut}
+use Rattle.dlk_termtext.proofs.Numbers.{one_number, one_number_then}
+use Rattle.dlk_termtext.proofs.Refusals.{fault_of_whole}
+use Rattle.dlk_termtext.proofs.WordLaws.{letters_utf8}
+use Rattle.dlk_termtext.proofs.Forms.{one_rule}
+
+-- The kinds of steps are numbered, and a word tells the number.
+abbrev pub kind : Step → ℕ
+kind (Start s) = 0
+kind (UseAxiom name) = 1
+kind (UseRule name) = 2
+kind (Leaf s) = 3
+kind (Apply fact goal rule) = 4
+kind (Merge fact goal by) = 5
+kind (Substitute fact pairs) = 6
+kind (Rename fact x y) = 7
+
+kind_of : List ℕ → ℕ
+kind_of word =
+    if bytes_eq word (codes "start") then 0 else
+    if bytes_eq word (codes "axiom") then 1 else
+    if bytes_eq word (codes "rule") then 2 else
+    if bytes_eq word (codes "leaf") then 3 else
+    if bytes_eq word (codes "apply") then 4 else
+    if bytes_eq word (codes "merge") then 5 else
+    if bytes_eq word (codes "subst") then 6 else
+    if bytes_eq word (codes "rename") then 7 else 8
+
+kind_of_word : (step : Step) → kind_of (word_of step) ≡ kind step
+unfolding kind_of
+kind_of_word (Start s) = refl
+kind_of_word _ = refl
+
+same_kind : (s t : Step) → word_of s ≡ word_of t → kind s ≡ kind t
+same_kind s t e = sym (kind_of_word s) ∙ ap kind_of e ∙ kind_of_word t
+
+-- the words are of letters
+word_letters : (step : Step) → IsTrue (list_all is_letter (word_of step))
+word_letters (Start s) = refl
+word_letters _ = refl
+
+-- what a step's text is made of
+pub record StepParts (text : List ℕ) (step : Step) : Type 0 where
+  pub rest : List ℕ
+  pub cut : CutAt text 32 (word_of step) rest
+  pub behind : Behind rest step
+
+step_cut : (text rest : List ℕ) (step : Step) → text ≡ word_of step ++ 32 ∷ rest → CutAt text 32 (word_of step) rest
+step_cut text rest step e = record { text_is = e; first = lacks_if is_letter 32 refl (word_of step) (word_letters step) }
+
+-- a number before a space
+pub before_space : (i rest : List ℕ) (n : ℕ) → IsNumber i n → NumberThen (i ++ codes " " ++ rest) 32 n rest
+before_space i rest n is = record { digits = i; is_number = is; text_is = simp append_assoc }
+
+-- a fact and a goal, and what comes behind them
+two_numbers : (f g rest : List ℕ) (fact goal : ℕ) → IsNumber f fact → IsNumber g goal → FactGoal (f ++ codes " " ++ g ++ codes " " ++ rest) fact goal rest
+two_numbers f g rest fact goal a b = record {
+  behind_fact = g ++ codes " " ++ rest;
+  fact_is = record { digits = f; is_number = a; text_is = simp append_assoc };
+  goal_is = before_space g rest goal b;
+}
+
+numbers_are : (text rest : List ℕ) (fact goal : ℕ) (h : FactGoal text fact goal rest) → text ≡ h.fact_is.digits ++ codes " " ++ h.goal_is.digits ++ codes " " ++ rest
+numbers_are text rest fact goal h =
+    let f = h.fact_is.digits in
+    let g = h.goal_is.digits in
+    let behind : f ++ 32 ∷ (g ++ 32 ∷ rest) ≡ f ++ codes " " ++ g ++ codes " " ++ rest = simp append_assoc in
+    h.fact_is.text_is ∙ ap (λ l. f ++ 32 ∷ l) h.goal_is.text_is ∙ behind
+
+pub one_fact_goal : (text rest behind : List ℕ) (fact goal f g : ℕ) → FactGoal text fact goal rest → FactGoal text f g behind → (fact ≡ f) × (goal ≡ g) × (rest ≡ behind)
+one_fact_goal text rest behind fact goal f g a b =
+    let facts = one_number_then text 32 fact f a.behind_fact b.behind_fact refl a.fact_is b.fact_is in
+    let goals = one_number_then b.behind_fact 32 goal g rest behind refl (rw (← facts.1) a.goal_is) b.goal_is in
+    (facts.0, goals.0, goals.1)
+
+pub step_parts : (text : List ℕ) (step : Step) → IsStep text step → StepParts text step
+step_parts _ _ (start {sequent} {s} is) = record { rest = sequent; cut = step_cut _ sequent (Start s) refl; behind = is }
+step_parts _ _ (use_axiom {name} is) = record { rest = name; cut = step_cut _ name (UseAxiom name) refl; behind = (refl, is) }
+step_parts _ _ (use_rule {name} is) = record { rest = name; cut = step_cut _ name (UseRule name) refl; behind = (refl, is) }
+step_parts _ _ (leaf {sequent} {s} is) = record { rest = sequent; cut = step_cut _ sequent (Leaf s) refl; behind = is }
+step_parts _ _ (apply {f} {g} {r} {fact} {goal} {rule} a b c) = record {
+  rest = f ++ codes " " ++ g ++ codes " " ++ r;
+  cut = step_cut _ (f ++ codes " " ++ g ++ codes " " ++ r) (Apply fact goal rule) (simp append_assoc);
+  behind = record { behind_goal = r; numbers = two_numbers f g r fact goal a b; rule_is = c };
+}
+step_parts _ _ (merge {f} {g} {b} {fact} {goal} {by} is_fact is_goal is_by) = record {
+  rest = f ++ codes " " ++ g ++ codes " " ++ b;
+  cut = step_cut _ (f ++ codes " " ++ g ++ codes " " ++ b) (Merge fact goal by) (simp append_assoc);
+  behind = record { behind_goal = b; numbers = two_numbers f g b fact goal is_fact is_goal; by_is = is_by };
+}
+step_parts _ _ (substitute {f} {text} {fact} {pairs} a b) = record {
+  rest = f ++ codes " " ++ text;
+  cut = step_cut _ (f ++ codes " " ++ text) (Substitute fact pairs) (simp append_assoc);
+  behind = record { behind_fact = text; fact_is = before_space f text fact a; pairs_are = b };
+}
+step_parts _ _ (rename {f} {x} {y} {fact} a b c) = record {
+  rest = f ++ codes " " ++ x ++ codes " " ++ y;
+  cut = step_cut _ (f ++ codes " " ++ x ++ codes " " ++ y) (Rename fact x y) (simp append_assoc);
+  behind = record {
+    behind_fact = x ++ codes " " ++ y;
+    fact_is = record { digits = f; is_number = a; text_is = simp append_assoc };
+    first_name = b;
+    second_name = c;
+    names_are = refl;
+  };
+}
+
+pub made_step : (text rest : List ℕ) (step : Step) → text ≡ word_of step ++ 32 ∷ rest → Behind rest step → IsStep text step
+made_step text rest (Start s) begins is = rw begins (start is)
+made_step text rest (UseAxiom name) begins is = rw (begins, is.0) (use_axiom is.1)
+made_step text rest (UseRule name) begins is = rw (begins, is.0) (use_rule is.1)
+made_step text rest (Leaf s) begins is = rw begins (leaf is)
+made_step text rest (Apply fact goal r) begins parts =
+    let numbers = parts.numbers in
+    let f = numbers.fact_is.digits in
+    let g = numbers.goal_is.digits in
+    let e : text ≡ codes "apply " ++ f ++ codes " " ++ g ++ codes " " ++ parts.behind_goal =
+    begins ∙ ap (λ l. codes "apply " ++ l) (numbers_are rest parts.behind_goal fact goal numbers) ∙ simp append_assoc in
+    rw e (apply numbers.fact_is.is_number numbers.goal_is.is_number parts.rule_is)
+made_step text rest (Merge fact goal by) begins parts =
+    let numbers = parts.numbers in
+    let f = numbers.fact_is.digits in
+    let g = numbers.goal_is.digits in
+    let e : text ≡ codes "merge " ++ f ++ codes " " ++ g ++ codes " " ++ parts.behind_goal =
+    begins ∙ ap (λ l. codes "merge " ++ l) (numbers_are rest parts.behind_goal fact goal numbers) ∙ simp append_assoc in
+    rw e (merge numbers.fact_is.is_number numbers.goal_is.is_number parts.by_is)
+made_step text rest (Substitute fact pairs) begins parts =
+    let f = parts.fact_is.digits in
+    let e : text ≡ codes "subst " ++ f ++ codes " " ++ parts.behind_fact =
+    begins ∙ ap (λ l. codes "subst " ++ l) parts.fact_is.text_is ∙ simp append_assoc in
+    rw e (substitute parts.fact_is.is_number parts.pairs_are)
+made_step text rest (Rename fact x y) begins parts =
+    let f = parts.fact_is.digits in
+    let behind : f ++ 32 ∷ (x ++ codes " " ++ y) ≡ f ++ codes " " ++ x ++ codes " " ++ y = simp append_assoc in
+    let e : text ≡ codes "rename " ++ f ++ codes " " ++ x ++ codes " " ++ y =
+    begins ∙ ap (λ l. codes "rename " ++ l) (parts.fact_is.text_is ∙ ap (λ l. f ++ 32 ∷ l) parts.names_are ∙ behind) in
+    rw e (rename parts.fact_is.is_number parts.first_name parts.second_name)
+
+-- a step of this word, without what the step wants behind it, is none
+module _ (word rest : List ℕ) where
+  told : {step : Step} (first : List ℕ) → word ≡ first → WordAndRest word rest step → kind_of first ≡ kind step
+  told {step} first is p = sym (ap kind_of is) ∙ ap kind_of p.word_is ∙ kind_of_word step
+
+  pub no_start : word ≡ codes "start" → ((s : Sequent) → ¬ SequentText rest s) → (step : Step) → ¬ WordAndRest word rest step
+  unfolding kind_of
+  no_start is none (Start s) p = none s p.behind
+  no_start is none _ p = omega (arith, told (codes "start") is p)
+
+  pub no_axiom : word ≡ codes "axiom" → (¬ IsTrue (is_name rest)) → (step : Step) → ¬ WordAndRest word rest step
+  unfolding kind_of
+  no_axiom is none (UseAxiom name) p = none p.behind.1
+  no_axiom is none _ p = omega (arith, told (codes "axiom") is p)
+
+  pub no_ax_rule : word ≡ codes "rule" → (¬ IsTrue (is_name rest)) → (step : Step) → ¬ WordAndRest word rest step
+  unfolding kind_of
+  no_ax_rule is none (UseRule name) p = none p.behind.1
+  no_ax_rule is none _ p = omega (arith, told (codes "rule") is p)
+
+  pub no_leaf : word ≡ codes "leaf" → ((s : Sequent) → ¬ SequentText rest s) → (step : Step) → ¬ WordAndRest word rest step
+  unfolding kind_of
+  no_leaf is none (Leaf s) p = none s p.behind
+  no_leaf is none _ p = omega (arith, told (codes "leaf") is p)
+
+  pub no_apply : word ≡ codes "apply" → ((fact goal : ℕ) (r : Rule) → ¬ FactGoalRule rest fact goal r) → (step : Step) → ¬ WordAndRest word rest step
+  unfolding kind_of
+  no_apply is none (Apply fact goal r) p = none fact goal r p.behind
+  no_apply is none _ p = omega (arith, told (codes "apply") is p)
+
+  pub no_merge : word ≡ codes "merge" → ((fact goal by : ℕ) → ¬ FactGoalFact rest fact goal by) → (step : Step) → ¬ WordAndRest word rest step
+  unfolding kind_of
+  no_merge is none (Merge fact goal by) p = none fact goal by p.behind
+  no_merge is none _ p = omega (arith, told (codes "merge") is p)
+
+  pub no_subst : word ≡ codes "subst" → ((fact : ℕ) (pairs : List Pair) → ¬ FactPairs rest fact pairs) → (step : Step) → ¬ WordAndRest word rest step
+  unfolding kind_of
+  no_subst is none (Substitute fact pairs) p = none fact pairs p.behind
+  no_subst is none _ p = omega (arith, told (codes "subst") is p)
+
+  pub no_rename : word ≡ codes "rename" → ((fact : ℕ) (x y : List ℕ) → ¬ FactNames rest fact x y) → (step : Step) → ¬ WordAndRest word rest step
+  unfolding kind_of
+  no_rename is none (Rename fact x y) p = none fact x y p.behind
+  no_rename is none _ p = omega (arith, told (codes "rename") is p)
+
+-- a step has one of the words
+abbrev pub step_words : List (List ℕ)
+step_words = codes "start" ∷ codes "axiom" ∷ codes "rule" ∷ codes "leaf" ∷ codes "apply" ∷ codes "merge" ∷ codes "subst" ∷ codes "rename" ∷ []
+
+pub no_other_word : (word rest : List ℕ) → Each (λ w. word ≢ w) step_words → (step : Step) → ¬ WordAndRest word rest step
+no_other_word word rest none (Start s) p = none.0 p.word_is
+no_other_word word rest none (UseAxiom name) p = none.1.0 p.word_is
+no_other_word word rest none (UseRule name) p = none.1.1.0 p.word_is
+no_other_word word rest none (Leaf s) p = none.1.1.1.0 p.word_is
+no_other_word word rest none (Apply fact goal r) p = none.1.1.1.1.0 p.word_is
+no_other_word word rest none (Merge fact goal by) p = none.1.1.1.1.1.0 p.word_is
+no_other_word word rest none (Substitute fact pairs) p = none.1.1.1.1.1.1.0 p.word_is
+no_other_word word rest none (Rename fact x y) p = none.1.1.1.1.1.1.1.0 p.word_is
+
+-- a fact and two names: the first name ends at the first space behind the fact
+pub names_cut : (text : List ℕ) (fact : ℕ) (x y : List ℕ) (h : FactNames text fact x y) → CutAt h.behind_fact 32 x y
+names_cut text fact x y h = record { text_is = h.names_are ∙ simp append_assoc; first = lacks_name x h.first_name }
+
+pub names_are : (text rest : List ℕ) (fact : ℕ) (x y : List ℕ) → NumberThen text 32 fact rest → CutAt rest 32 x y → IsTrue (is_name x) → IsTrue (is_name y) → FactNames text fact x y
+names_are text rest fact x y number cut a b = record { behind_fact = rest; fact_is = number; first_name = a; second_name = b; names_are = cut.text_is ∙ simp append_assoc }
+
+-- a text without a rule or a fact behind its goal, without pairs behind its fact, or without one of its names
+pub no_rule_behind : (text rest : List ℕ) (fact goal : ℕ) → FactGoal text fact goal rest → ((made : Rule) → ¬ IsRule rest made) → (f g : ℕ) (made : Rule) → ¬ FactGoalRule text f g made
+no_rule_behind text rest fact goal a none f g made is = none made (rw (one_fact_goal text rest is.behind_goal fact goal f g a is.numbers).2 is.rule_is)
+
+pub no_fact_behind : (text rest : List ℕ) (fact goal : ℕ) → FactGoal text fact goal rest → ((by : ℕ) → ¬ IsNumber rest by) → (f g by : ℕ) → ¬ FactGoalFact text f g by
+no_fact_behind text rest fact goal a none f g by is = none by (rw (one_fact_goal text rest is.behind_goal fact goal f g a is.numbers).2 is.by_is)
+
+pub no_pairs_behind : (text rest : List ℕ) (fact : ℕ) → NumberThen text 32 fact rest → ((pairs : List Pair) → ¬ PairsText rest pairs) → (f : ℕ) (pairs : List Pair) → ¬ FactPairs text f pairs
+no_pairs_behind text rest fact a none f pairs is = none pairs (rw (one_number_then text 32 fact f rest is.behind_fact refl a is.fact_is).1 is.pairs_are)
+
+pub same_names : (text names : List ℕ) (fact : ℕ) (front rest : List ℕ) → NumberThen text 32 fact names → CutAt names 32 front rest → (f : ℕ) (x y : List ℕ) → FactNames text f x y → (front ≡ x) × (rest ≡ y)
+same_names text names fact front rest a b f x y is =
+    let first = one_number_then text 32 fact f names is.behind_fact refl a is.fact_is in
+    one_cut names 32 front x rest y b (rw first.1 (names_cut text f x y is))
+
+pub no_first_name : (text names : List ℕ) (fact : ℕ) (front rest : List ℕ) → NumberThen text 32 fact names → CutAt names 32 front rest → (¬ IsTrue (is_name front)) → (f : ℕ) (x y : List ℕ) → ¬ FactNames text f x y
+no_first_name text names fact front rest a b none f x y is = none (rw (same_names text names fact front rest a b f x y is).0 is.first_name)
+
+pub no_second_name : (text names : List ℕ) (fact : ℕ) (front rest : List ℕ) → NumberThen text 32 fact names → CutAt names 32 front rest → (¬ IsTrue (is_name rest)) → (f : ℕ) (x y : List ℕ) → ¬ FactNames text f x y
+no_second_name text names fact front rest a b none f x y is = none (rw (same_names text names fact front rest a b f x y is).1 is.second_name)
+
+-- a text is cut at its first space
+pub worded_step : (text word rest : List ℕ) (step : Step) → CutAt text 32 word rest → WordAndRest word rest step → IsStep text step
+worded_step text word rest step cut p = made_step text rest step (cut.text_is ∙ ap (λ w. w ++ 32 ∷ rest) p.word_is) p.behind
+
+pub step_worded : (text word rest : List ℕ) (step : Step) → CutAt text 32 word rest → IsStep text step → WordAndRest word rest step
+step_worded text word rest step cut is =
+    let h = step_parts text step is in
+    let same = one_cut text 32 word (word_of step) rest h.rest cut h.cut in
+    record { word_is = same.0; behind = subst (λ r. Behind r step) (sym same.1) h.behind }
+
+pub no_space : (text : List ℕ) → ((word rest : List ℕ) → text ≢ word ++ 32 ∷ rest) → (step : Step) → ¬ IsStep text step
+no_space text none step is = let h = step_parts text step is in none (word_of step) h.rest h.cut.text_is
+
+pub no_step_word : (text word rest : List ℕ) → CutAt text 32 word rest → (¬ IsUtf8 word) → (step : Step) → ¬ IsStep text step
+no_step_word text word rest cut none step is = none (rw (step_worded text word rest step cut is).word_is (letters_utf8 (word_of step) (word_letters step)))
+
+-- what is answered to a word and what stands behind it, as an answer to a text
+pub step_or_none : (trees : List Tree) (text word rest : List ℕ) → CutAt text 32 word rest → (r : Result IdStep LineFault) → IfOk r (λ step. WordAndRest word rest (step_at trees step)) →
+    IfOk r (λ step. IsStep text (step_at trees step))
+step_or_none trees text word rest cut (Ok step) p = worded_step text word rest (step_at trees step) cut p
+step_or_none trees text word rest cut (Err why) p = tt
+
+pub no_step_or_none : (text word rest : List ℕ) → CutAt text 32 word rest → (r : Result IdStep LineFault) → IfErr r (IsFaultOf ((step : Step) → ¬ WordAndRest word rest step)) →
+    IfErr r (IsFaultOf ((step : Step) → ¬ IsStep text step))
+no_step_or_none text word rest cut (Ok step) fault = tt
+no_step_or_none text word rest cut (Err why) fault = fault_of_whole {part = (step : Step) → ¬ WordAndRest word rest step} (λ none step is. none step (step_worded text word rest step cut is)) why fault
+
+-- what stands behind a word says one step of a kind
+one_behind : (rest : List ℕ) (s t : Step) → kind s ≡ kind t → Behind rest s → Behind rest t → s ≡ t
+one_behind rest (Start s) (Start t) e a b = ap Start (one_sequent_text rest s t a b)
+one_behind rest (UseAxiom x) (UseAxiom y) e a b = ap UseAxiom (a.0 ∙ sym b.0)
+one_behind rest (UseRule x) (UseRule y) e a b = ap UseRule (a.0 ∙ sym b.0)
+one_behind rest (Leaf s) (Leaf t) e a b = ap Leaf (one_sequent_text rest s t a b)
+one_behind rest (Apply fact goal r) (Apply fact' goal' r') e a b =
+    let same = one_fact_goal rest a.behind_goal b.behind_goal fact goal fact' goal' a.numbers b.numbers in
+    let rules : r ≡ r' = one_rule b.behind_goal r r' (rw (← same.2) a.rule_is) b.rule_is in
+    λ i. Apply (same.0 i) (same.1 i) (rules i)
+one_behind rest (Merge fact goal by) (Merge fact' goal' by') e a b =
+    let same = one_fact_goal rest a.behind_goal b.behind_goal fact goal fact' goal' a.numbers b.numbers in
+    let facts : by ≡ by' = one_number b.behind_goal by by' (rw (← same.2) a.by_is) b.by_is in
+    λ i. Merge (same.0 i) (same.1 i) (facts i)
+one_behind rest (Substitute fact pairs) (Substitute fact' pairs') e a b =
+    let same = one_number_then rest 32 fact fact' a.behind_fact b.behind_fact refl a.fact_is b.fact_is in
+    let all : pairs ≡ pairs' = one_pairs_text b.behind_fact pairs pairs' (rw (← same.1) a.pairs_are) b.pairs_are in
+    λ i. Substitute (same.0 i) (all i)
+one_behind rest (Rename fact x y) (Rename fact' x' y') e a b =
+    let facts = one_number_then rest 32 fact fact' a.behind_fact b.behind_fact refl a.fact_is b.fact_is in
+    let names = one_cut b.behind_fact 32 x x' y y' (rw (← facts.1) (names_cut rest fact x y a)) (names_cut rest fact' x' y' b) in
+    λ i. Rename (facts.0 i) (names.0 i) (names.1 i)
+one_behind rest _ _ e a b = absurd (omega (arith, e))
+
+-- a text says one step
+pub one_step : (text : List ℕ) (s t : Step) → IsStep text s → IsStep text t → s ≡ t
+one_step text s t a b =
+    let h = step_parts text s a in
+    let k = step_parts text t b in
+    let same = one_cut text 32 (word_of s) (word_of t) h.rest k.rest h.cut k.cut in
+    one_behind k.rest s t (same_kind s t same.0) (subst (λ r. Behind r s) same.1 h.behind) k.behind

@@ -1,0 +1,18 @@
+use Rattle.std.proofs.lemmas.Result.{err_from_is_err_and}
+use Rattle.dlk_termtext.specs.Words.{PlaceAndName}
+use Rattle.dlk_termtext.proofs.Forms.{argument_parts, place_and_name_are, no_name_behind}
+use Rattle.dlk_termtext.proofs.Refusals.{fault_of_whole}
+use Rattle.dlk_termtext.proofs.arguments.place_and_name.Goals as goal
+
+pub returns-in_default-clause-fault : goal.returns-in_default-clause-fault
+returns-in_default-clause-fault c = λ rule made is.
+    let p = argument_parts (PlaceAndName rule) c.args.text.now made is in
+    c.in_default.ensures.none p.0 p.1 p.2
+
+pub returns-in_err-name-clause-fault : goal.returns-in_err-name-clause-fault
+returns-in_err-name-clause-fault c =
+    let e = err_from_is_err_and c.from_residual.result c.from_residual.ensures.1 in
+    rw (e.1, e.2) (fault_of_whole (no_name_behind c.args.text.now _ _ c.in-Some.ensures.found) _ c.in_err-name.ensures.fault)
+
+pub returns-clause-found : goal.returns-clause-found
+returns-clause-found c = rw c.in_ok-name.ensures.found (place_and_name_are c.args.text.now _ _ c.in-Some.ensures.found c.in_ok-name.ensures.real)
