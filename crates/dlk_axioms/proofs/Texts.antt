@@ -1,14 +1,14 @@
 -- The canonical texts of the axioms and the axiomatic rules are texts of their formulas, and of nothing else.
-use Rattle.std.proofs.Common.{◌≡◌, ℕ, refl, sym, ap, subst, ◌∙◌, Bool, true, false, cond, ◌&&◌, List, [], ◌∷◌, map, Option, Some, find}
+use Rattle.std.proofs.Common.{◌≡◌, ℕ, refl, sym, ap, subst, ◌∙◌, Bool, true, false, cond, ◌&&◌, List, [], ◌∷◌, Some, find}
 use Rattle.std.specs.Prelude.{IsTrue, nat_le}
 use Rattle.std.specs.List.{All, list_all}
 use Rattle.std.specs.Str.{bytes_eq}
 use Rattle.std.proofs.lemmas.Bool.{leb-true, and_parts}
-use Rattle.std.proofs.lemmas.Option.{none-some, same_Some}
-use Rattle.dlk_tree.specs.declared.op.Sort.{Sort}
 use Rattle.std.proofs.lemmas.List.Folds.{list_all-map}
 use Rattle.std.proofs.lemmas.List.Sums.{AllPass-from_list_all}
+use Rattle.std.proofs.lemmas.Option.{none-some, same_Some}
 use denote.Ref.{Bor}
+use Rattle.dlk_tree.specs.declared.op.Sort.{Sort}
 use Rattle.dlk_tree.specs.Names.{is_name}
 use Rattle.dlk_tree.specs.Trees.{Tree, size, depth}
 use Rattle.dlk_calculus.specs.Axioms.{Axiom, AxiomaticRule, axioms, axiom_named, axiomatic_rules, rule_named}
@@ -16,18 +16,16 @@ use Rattle.dlk_calculus.specs.Sequents.{IsFormula}
 use Rattle.dlk_calculus.proofs.AxiomLaws.{axiom_formula, rule_formulas}
 use Rattle.dlk_grammar.specs.declared.token.Dots.TheVariants.{Refused}
 use Rattle.dlk_grammar.specs.declared.token.Form.TheVariants.{Formula}
-use Rattle.dlk_grammar.specs.Readings.{most_nodes, greatest_depth}
+use Rattle.dlk_grammar.specs.Readings.{Literal, Nesting, Syntax, Shape, TooBig, TooDeep, most_nodes, greatest_depth}
 use Rattle.dlk_grammar.specs.Shown.{spell, shown}
-use Rattle.dlk_grammar.specs.Texts.{TreeText}
-use Rattle.dlk_grammar.specs.Texts.{TreeTextFault, BadByte, Unread}
-use Rattle.dlk_grammar.specs.Readings.{Literal, Nesting, Syntax, Shape, TooBig, TooDeep}
+use Rattle.dlk_grammar.specs.Texts.{TreeText, TreeTextFault, BadByte, Unread}
 use Rattle.dlk_machine.proofs.TextLaws.{tree_or_fault}
-use Rattle.dlk_parse.specs.Faults.{IsTextFaultOf}
+use Rattle.dlk_readback.specs.Readable.{form_of, IsWithinLimits}
+use Rattle.dlk_readback.proofs.Whole.{tree_text}
 use Rattle.dlk_parse.specs.declared.fault.ParseFault.TheVariants as parse
 use Rattle.dlk_parse.specs.declared.fault.TextFault.{TextFault}
 use Rattle.dlk_parse.specs.declared.fault.TextFault.TheVariants as text
-use Rattle.dlk_readback.specs.Readable.{form_of, IsWithinLimits}
-use Rattle.dlk_readback.proofs.Whole.{tree_text}
+use Rattle.dlk_parse.specs.Faults.{IsTextFaultOf}
 use Rattle.dlk_axioms.specs.declared.table.AxiomRow.{AxiomRow}
 use Rattle.dlk_axioms.specs.declared.table.RuleRow.{RuleRow}
 use Rattle.dlk_axioms.specs.Rows.{AxiomText, RuleText, said, said_of_rule, canonical, canonical_rule}
@@ -57,24 +55,23 @@ formula_text t f h =
     let read = tree_text Refused t (record { well_made = f.well_made; limits = within t h; permitted = (f.no_dot, f.no_hole) }) in
     subst (λ (s : Sort). TreeText (form_of s) Refused (spell (shown t)) t) f.sort_is read
 
-axiom_text : (name : List ℕ) (a : Axiom) → axiom_named name ≡ Some a → TreeText Formula Refused (spell (shown a.formula)) a.formula
-axiom_text name a e = formula_text a.formula (axiom_formula name a e) (found_passes (λ (x : Axiom). fits x.formula) (λ (x : Axiom). bytes_eq x.name name) axioms a refl e)
+module _ {X : Type 0} (formula : X → Tree) (sought : X → Bool) (xs : List X) (x : X) (small : list_all (λ y. fits (formula y)) xs ≡ true) (e : find sought xs ≡ Some x) where
+  -- the canonical text of the formula of what is found in a list
+  found_text : IsFormula (formula x) → (bytes : List ℕ) → bytes ≡ spell (shown (formula x)) → TreeText Formula Refused bytes (formula x)
+  found_text is bytes same = subst (λ (text : List ℕ). TreeText Formula Refused text (formula x)) (sym same) (formula_text (formula x) is (found_passes (λ y. fits (formula y)) sought xs x small e))
 
 -- the text of an axiom's row is one of its formula
 pub axiom_row_text : (name : List ℕ) (a : Axiom) (row : AxiomRow) → axiom_named name ≡ Some a → said row ≡ canonical a → TreeText Formula Refused row.text.now a.formula
-axiom_row_text name a row e same = subst (λ (bytes : List ℕ). TreeText Formula Refused bytes a.formula) (sym (ap (λ (x : AxiomText). x.text) same)) (axiom_text name a e)
+axiom_row_text name a row e same =
+    found_text (λ (x : Axiom). x.formula) (λ (x : Axiom). bytes_eq x.name name) axioms a refl e (axiom_formula name a e) row.text.now (ap (λ (x : AxiomText). x.text) same)
 
+-- the texts of a rule's row are those of its premise and of its conclusion
 module _ (name : List ℕ) (r : AxiomaticRule) (row : RuleRow) (e : rule_named name ≡ Some r) (same : said_of_rule row ≡ canonical_rule r) where
-  -- the texts of a rule's row are those of its premise and of its conclusion
   pub premise_text : TreeText Formula Refused row.premise.now r.premise
-  premise_text =
-      let text = formula_text r.premise (rule_formulas name r e).0 (found_passes (λ (x : AxiomaticRule). fits x.premise) (λ (x : AxiomaticRule). bytes_eq x.name name) axiomatic_rules r refl e) in
-      subst (λ (bytes : List ℕ). TreeText Formula Refused bytes r.premise) (sym (ap (λ (x : RuleText). x.premise) same)) text
+  premise_text = found_text (λ (x : AxiomaticRule). x.premise) (λ (x : AxiomaticRule). bytes_eq x.name name) axiomatic_rules r refl e (rule_formulas name r e).0 row.premise.now (ap (λ (x : RuleText). x.premise) same)
 
   pub conclusion_text : TreeText Formula Refused row.conclusion.now r.conclusion
-  conclusion_text =
-      let text = formula_text r.conclusion (rule_formulas name r e).1 (found_passes (λ (x : AxiomaticRule). fits x.conclusion) (λ (x : AxiomaticRule). bytes_eq x.name name) axiomatic_rules r refl e) in
-      subst (λ (bytes : List ℕ). TreeText Formula Refused bytes r.conclusion) (sym (ap (λ (x : RuleText). x.conclusion) same)) text
+  conclusion_text = found_text (λ (x : AxiomaticRule). x.conclusion) (λ (x : AxiomaticRule). bytes_eq x.name name) axiomatic_rules r refl e (rule_formulas name r e).1 row.conclusion.now (ap (λ (x : RuleText). x.conclusion) same)
 
 -- the own names of an axiom's row are names
 pub own_names_are_names : (name : List ℕ) (a : Axiom) (row : AxiomRow) → axiom_named name ≡ Some a → said row ≡ canonical a → All (λ (word : Bor (List ℕ)). IsTrue (is_name word.now)) row.own_names.now

@@ -25,14 +25,14 @@ fn rule_rows() -> &'static [RuleRow]
 fn axiom_among<'a>(rows: &'a [AxiomRow], name: &[u8]) -> Option<&'a AxiomRow>
     ensures { option_copied result ≡ find (λ row. bytes_eq row.name.now name.now) rows.now }
 {
-    rows.iter().find(|row| row.name == name)
+    rows.iter().find(|axiom| axiom.name == name)
 }
 
 /// The first row of this name.
 fn rule_among<'a>(rows: &'a [RuleRow], name: &[u8]) -> Option<&'a RuleRow>
     ensures { option_copied result ≡ find (λ row. bytes_eq row.name.now name.now) rows.now }
 {
-    rows.iter().find(|row| row.name == name)
+    rows.iter().find(|rule| rule.name == name)
 }
 
 /// The row of the axiom of this name, which says what the axiom is.

@@ -1,4 +1,4 @@
-//! The axioms and the axiomatic rules, with their canonical texts.
+//! The axioms and the axiomatic rules. Each formula stands as its canonical text, with no bracket that the printer leaves out.
 use dlk_calculus::AxiomForm;
 
 /// An axiom as the table has it: the text is that of its formula.
@@ -16,6 +16,7 @@ pub(crate) struct RuleRow {
     pub conclusion: &'static [u8],
 }
 
+/// The axioms.
 pub(crate) const AXIOMS: &[AxiomRow] = &[
     // Boxes and diamonds:
     AxiomRow {
@@ -295,6 +296,7 @@ pub(crate) const AXIOMS: &[AxiomRow] = &[
     },
 ];
 
+/// The axiomatic rules.
 pub(crate) const RULES: &[RuleRow] = &[
     RuleRow {
         name: b"G",

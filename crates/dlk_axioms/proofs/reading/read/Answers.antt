@@ -1,4 +1,4 @@
-use Rattle.std.proofs.Common.{sym, subst, ◌∙◌}
+use Rattle.std.proofs.Common.{◌∙◌}
 use Rattle.dlk_grammar.specs.declared.token.Dots.TheVariants.{Refused}
 use Rattle.dlk_grammar.specs.declared.token.Form.TheVariants.{Formula}
 use Rattle.dlk_machine.proofs.TextLaws.{one_tree_text}
