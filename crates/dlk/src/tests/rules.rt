@@ -22,7 +22,12 @@ fn made<L: Ledger>(
     let mut steps = Steps::<L>::new(blank);
     let outcome = match replay(alloc, term.as_bytes(), &mut kernel, &mut steps) {
         Ok(outcome) => outcome,
-        Err(ReplayFault::Bad { line: 2, why: LineWhy::Step(why) }) => {
+        Err(
+            ReplayFault::Bad {
+                line: 2,
+                why: LineWhy::Step(why),
+            },
+        ) => {
             return Ok(format!(in alloc; "{why:?}")?.into_bytes());
         }
         Err(fault) => return Ok(format!(in alloc; "{fault:?}")?.into_bytes()),
@@ -59,7 +64,11 @@ fn closes_goals(rt: HostRuntime) -> Result<(), Fail> {
         ("==> false", "closeFalse(1)", "NoPlace"),
         ("true ==> false", "closeFalse(1)", "WrongShape"),
     ] {
-        assert_eq!(rt; of(alloc, goal, rule)?.as_slice(), want.as_bytes(), "{goal} {rule}");
+        assert_eq!(rt;
+            of(alloc, goal, rule)?.as_slice(),
+            want.as_bytes(),
+            "{goal} {rule}"
+        );
     }
     Ok(())
 }
@@ -74,17 +83,33 @@ fn applies_connectives_on_the_left(rt: HostRuntime) -> Result<(), Fail> {
         ("p()&q(),r() ==> s()", "andL(1)", "p(), r(), q() ==> s()"),
         ("p()&q() ==> s()", "andL(2)", "NoPlace"),
         ("p()&q()|r() ==> s()", "andL(1)", "WrongShape"),
-        ("r(),p()|q() ==> s()", "orL(2)", "r(), p() ==> s(); r(), q() ==> s()"),
+        (
+            "r(),p()|q() ==> s()",
+            "orL(2)",
+            "r(), p() ==> s(); r(), q() ==> s()",
+        ),
         ("==> p()|q()", "orL(1)", "NoPlace"),
         ("p()&q() ==>", "orL(1)", "WrongShape"),
-        ("p() -> q(),r() ==> s()", "implyL(1)", "r() ==> s(), p(); q(), r() ==> s()"),
+        (
+            "p() -> q(),r() ==> s()",
+            "implyL(1)",
+            "r() ==> s(), p(); q(), r() ==> s()",
+        ),
         ("p() -> q() ==>", "implyL(2)", "NoPlace"),
         ("p() <-> q() ==>", "implyL(1)", "WrongShape"),
-        ("p() <-> q(),r() ==> s()", "equivL(1)", "p() -> q(), r(), q() -> p() ==> s()"),
+        (
+            "p() <-> q(),r() ==> s()",
+            "equivL(1)",
+            "p() -> q(), r(), q() -> p() ==> s()",
+        ),
         ("p() <-> q() ==>", "equivL(2)", "NoPlace"),
         ("p() -> q() ==>", "equivL(1)", "WrongShape"),
     ] {
-        assert_eq!(rt; of(alloc, goal, rule)?.as_slice(), want.as_bytes(), "{goal} {rule}");
+        assert_eq!(rt;
+            of(alloc, goal, rule)?.as_slice(),
+            want.as_bytes(),
+            "{goal} {rule}"
+        );
     }
     Ok(())
 }
@@ -96,20 +121,36 @@ fn applies_connectives_on_the_right(rt: HostRuntime) -> Result<(), Fail> {
         ("p() ==> q(),!r(),s()", "notR(2)", "p(), r() ==> q(), s()"),
         ("==> !p()", "notR(2)", "NoPlace"),
         ("==> p()", "notR(1)", "WrongShape"),
-        ("r() ==> s(),p()&q()", "andR(2)", "r() ==> s(), p(); r() ==> s(), q()"),
+        (
+            "r() ==> s(),p()&q()",
+            "andR(2)",
+            "r() ==> s(), p(); r() ==> s(), q()",
+        ),
         ("==> p()&q()", "andR(2)", "NoPlace"),
         ("==> p()|q()", "andR(1)", "WrongShape"),
         ("r() ==> p()|q(),s()", "orR(1)", "r() ==> p(), s(), q()"),
         ("p()|q() ==>", "orR(1)", "NoPlace"),
         ("==> p()&q()", "orR(1)", "WrongShape"),
-        ("r() ==> p() -> q(),s()", "implyR(1)", "r(), p() ==> q(), s()"),
+        (
+            "r() ==> p() -> q(),s()",
+            "implyR(1)",
+            "r(), p() ==> q(), s()",
+        ),
         ("==> p() -> q()", "implyR(2)", "NoPlace"),
         ("==> p() <-> q()", "implyR(1)", "WrongShape"),
-        ("r() ==> s(),p() <-> q()", "equivR(2)", "r() ==> s(), p() -> q(); r() ==> s(), q() -> p()"),
+        (
+            "r() ==> s(),p() <-> q()",
+            "equivR(2)",
+            "r() ==> s(), p() -> q(); r() ==> s(), q() -> p()",
+        ),
         ("==> p() <-> q()", "equivR(2)", "NoPlace"),
         ("==> !p()", "equivR(1)", "WrongShape"),
     ] {
-        assert_eq!(rt; of(alloc, goal, rule)?.as_slice(), want.as_bytes(), "{goal} {rule}");
+        assert_eq!(rt;
+            of(alloc, goal, rule)?.as_slice(),
+            want.as_bytes(),
+            "{goal} {rule}"
+        );
     }
     Ok(())
 }
@@ -118,10 +159,22 @@ fn applies_connectives_on_the_right(rt: HostRuntime) -> Result<(), Fail> {
 fn cuts_and_changes_the_structure(rt: HostRuntime) -> Result<(), Fail> {
     let alloc = rt.alloc();
     for (goal, rule, want) in [
-        ("p() ==> q()", "cut(x>=0)", "p(), x>=0 ==> q(); p() ==> q(), x>=0"),
-        ("p(),q() ==> r()", "cutL(1,s())", "s(), q() ==> r(); q() ==> r(), p() -> s()"),
+        (
+            "p() ==> q()",
+            "cut(x>=0)",
+            "p(), x>=0 ==> q(); p() ==> q(), x>=0",
+        ),
+        (
+            "p(),q() ==> r()",
+            "cutL(1,s())",
+            "s(), q() ==> r(); q() ==> r(), p() -> s()",
+        ),
         ("p() ==> r()", "cutL(2,s())", "NoPlace"),
-        ("p() ==> q(),r()", "cutR(1,s())", "p() ==> s(), r(); p() ==> s() -> q(), r()"),
+        (
+            "p() ==> q(),r()",
+            "cutR(1,s())",
+            "p() ==> s(), r(); p() ==> s() -> q(), r()",
+        ),
         ("p() ==> q()", "cutR(2,s())", "NoPlace"),
         ("p(),q() ==> r()", "hideL(1)", "q() ==> r()"),
         ("p() ==> r()", "hideL(2)", "NoPlace"),
@@ -129,24 +182,44 @@ fn cuts_and_changes_the_structure(rt: HostRuntime) -> Result<(), Fail> {
         ("p() ==> q()", "hideR(2)", "NoPlace"),
         ("p() ==> q(),r()", "coHideR(2)", "==> r()"),
         ("p() ==> q()", "coHideR(2)", "NoPlace"),
-        ("p(),q(),r() ==> s()", "exchangeL(1,3)", "r(), q(), p() ==> s()"),
+        (
+            "p(),q(),r() ==> s()",
+            "exchangeL(1,3)",
+            "r(), q(), p() ==> s()",
+        ),
         ("p(),q() ==> s()", "exchangeL(2,2)", "p(), q() ==> s()"),
         ("p(),q() ==> s()", "exchangeL(1,3)", "NoPlace"),
         ("p(),q() ==> s()", "exchangeL(3,1)", "NoPlace"),
         ("p() ==> q(),r()", "exchangeR(2,1)", "p() ==> r(), q()"),
         ("p() ==> q(),r()", "exchangeR(3,1)", "NoPlace"),
         ("p() ==> q(),r()", "exchangeR(1,3)", "NoPlace"),
-        ("r() ==> p() -> q(),s()", "equivifyR(1)", "r() ==> p() <-> q(), s()"),
+        (
+            "r() ==> p() -> q(),s()",
+            "equivifyR(1)",
+            "r() ==> p() <-> q(), s()",
+        ),
         ("==> p() -> q()", "equivifyR(2)", "NoPlace"),
         ("==> p() <-> q()", "equivifyR(1)", "WrongShape"),
-        ("p() <-> q(),r() ==>", "commuteEquivL(1)", "q() <-> p(), r() ==>"),
+        (
+            "p() <-> q(),r() ==>",
+            "commuteEquivL(1)",
+            "q() <-> p(), r() ==>",
+        ),
         ("p() <-> q() ==>", "commuteEquivL(2)", "NoPlace"),
         ("p() -> q() ==>", "commuteEquivL(1)", "WrongShape"),
-        ("==> r(),p() <-> q()", "commuteEquivR(2)", "==> r(), q() <-> p()"),
+        (
+            "==> r(),p() <-> q()",
+            "commuteEquivR(2)",
+            "==> r(), q() <-> p()",
+        ),
         ("==> p() <-> q()", "commuteEquivR(2)", "NoPlace"),
         ("==> p() -> q()", "commuteEquivR(1)", "WrongShape"),
     ] {
-        assert_eq!(rt; of(alloc, goal, rule)?.as_slice(), want.as_bytes(), "{goal} {rule}");
+        assert_eq!(rt;
+            of(alloc, goal, rule)?.as_slice(),
+            want.as_bytes(),
+            "{goal} {rule}"
+        );
     }
     Ok(())
 }
@@ -155,22 +228,42 @@ fn cuts_and_changes_the_structure(rt: HostRuntime) -> Result<(), Fail> {
 fn takes_quantifiers_off(rt: HostRuntime) -> Result<(), Fail> {
     let alloc = rt.alloc();
     for (goal, rule, want) in [
-        ("\\exists x x>y,y>0 ==> y>1", "skolemL(1)", "x>y, y>0 ==> y>1"),
+        (
+            "\\exists x x>y,y>0 ==> y>1",
+            "skolemL(1)",
+            "x>y, y>0 ==> y>1",
+        ),
         ("\\exists x x>y ==>", "skolemL(2)", "NoPlace"),
         ("\\forall x x>y ==>", "skolemL(1)", "WrongShape"),
         ("\\exists x x>y,x>0 ==>", "skolemL(1)", "NotFresh"),
         ("\\exists x x>y ==> x>0", "skolemL(1)", "NotFresh"),
-        ("\\exists x x>y,\\forall x x>0 ==>", "skolemL(1)", "x>y, \\forall x x>0 ==>"),
+        (
+            "\\exists x x>y,\\forall x x>0 ==>",
+            "skolemL(1)",
+            "x>y, \\forall x x>0 ==>",
+        ),
         ("\\exists x x>y ==> x'>0", "skolemL(1)", "x>y ==> x'>0"),
-        ("y>0 ==> y>1,\\forall x x>y", "skolemR(2)", "y>0 ==> y>1, x>y"),
+        (
+            "y>0 ==> y>1,\\forall x x>y",
+            "skolemR(2)",
+            "y>0 ==> y>1, x>y",
+        ),
         ("==> \\forall x x>y", "skolemR(2)", "NoPlace"),
         ("==> \\exists x x>y", "skolemR(1)", "WrongShape"),
         ("x>0 ==> \\forall x x>y", "skolemR(1)", "NotFresh"),
         ("==> \\forall x x>y,x>0", "skolemR(1)", "NotFresh"),
-        ("==> \\forall x x>y,[x:=1;]x>0", "skolemR(1)", "==> x>y, [x:=1;]x>0"),
+        (
+            "==> \\forall x x>y,[x:=1;]x>0",
+            "skolemR(1)",
+            "==> x>y, [x:=1;]x>0",
+        ),
         ("==> \\forall x x>y,p(||)", "skolemR(1)", "NotFresh"),
     ] {
-        assert_eq!(rt; of(alloc, goal, rule)?.as_slice(), want.as_bytes(), "{goal} {rule}");
+        assert_eq!(rt;
+            of(alloc, goal, rule)?.as_slice(),
+            want.as_bytes(),
+            "{goal} {rule}"
+        );
     }
     Ok(())
 }
@@ -179,10 +272,22 @@ fn takes_quantifiers_off(rt: HostRuntime) -> Result<(), Fail> {
 fn renames_bound_variables(rt: HostRuntime) -> Result<(), Fail> {
     let alloc = rt.alloc();
     for (goal, rule, want) in [
-        ("\\forall x (x>=0 -> \\exists y y>x),r() ==>", "boundL(1,z)", "\\forall z (z>=0 -> \\exists y y>z), r() ==>"),
-        ("\\exists x x>0 ==> \\forall x x>0", "boundR(1,y)", "\\exists x x>0 ==> \\forall y y>0"),
+        (
+            "\\forall x (x>=0 -> \\exists y y>x),r() ==>",
+            "boundL(1,z)",
+            "\\forall z (z>=0 -> \\exists y y>z), r() ==>",
+        ),
+        (
+            "\\exists x x>0 ==> \\forall x x>0",
+            "boundR(1,y)",
+            "\\exists x x>0 ==> \\forall y y>0",
+        ),
         ("[x:=x+1;]x>=1 ==>", "boundL(1,y)", "[y:=x+1;]y>=1 ==>"),
-        ("==> <x:=x+1;>[{x'=1}]x>=1", "boundR(1,y)", "==> <y:=x+1;>[{y'=1}]y>=1"),
+        (
+            "==> <x:=x+1;>[{x'=1}]x>=1",
+            "boundR(1,y)",
+            "==> <y:=x+1;>[{y'=1}]y>=1",
+        ),
         ("\\forall x x>0 ==>", "boundL(2,y)", "NoPlace"),
         ("==> \\forall x x>0", "boundR(2,y)", "NoPlace"),
         ("x>0 ==>", "boundL(1,y)", "WrongShape"),
@@ -192,16 +297,48 @@ fn renames_bound_variables(rt: HostRuntime) -> Result<(), Fail> {
         ("\\forall x x>y ==>", "boundL(1,y)", "NotFresh"),
         ("==> \\forall x x>y'", "boundR(1,y)", "NotFresh"),
         ("==> \\forall x x'>0", "boundR(1,y)", "NotFresh"),
-        ("==> \\forall x f(x)>0", "boundR(1,y)", "==> \\forall y f(y)>0"),
-        ("==> \\forall x \\forall y x>y", "boundR(1,y)", "==> \\forall y \\forall x y>x"),
+        (
+            "==> \\forall x f(x)>0",
+            "boundR(1,y)",
+            "==> \\forall y f(y)>0",
+        ),
+        (
+            "==> \\forall x \\forall y x>y",
+            "boundR(1,y)",
+            "==> \\forall y \\forall x y>x",
+        ),
         ("==> \\forall x x>0", "boundR(1,x)", "NotFresh"),
-        ("==> \\forall x [y:=1;y':=1;x':=1;]C{true}", "boundR(1,y)", "NotFresh"),
-        ("==> \\forall x [y:=1;y':=1;x':=1;][a;]true", "boundR(1,y)", "NotFresh"),
-        ("==> \\forall x [y:=1;y':=1;x':=1;]f(||)>0", "boundR(1,y)", "NotFresh"),
-        ("==> \\forall x [y:=1;y':=1;x':=1;][{c}]true", "boundR(1,y)", "NotFresh"),
-        ("==> \\forall x [y:=1;y':=1;x':=1;]p(z)", "boundR(1,y)", "==> \\forall y [x:=1;x':=1;y':=1;]p(z)"),
+        (
+            "==> \\forall x [y:=1;y':=1;x':=1;]C{true}",
+            "boundR(1,y)",
+            "NotFresh",
+        ),
+        (
+            "==> \\forall x [y:=1;y':=1;x':=1;][a;]true",
+            "boundR(1,y)",
+            "NotFresh",
+        ),
+        (
+            "==> \\forall x [y:=1;y':=1;x':=1;]f(||)>0",
+            "boundR(1,y)",
+            "NotFresh",
+        ),
+        (
+            "==> \\forall x [y:=1;y':=1;x':=1;][{c}]true",
+            "boundR(1,y)",
+            "NotFresh",
+        ),
+        (
+            "==> \\forall x [y:=1;y':=1;x':=1;]p(z)",
+            "boundR(1,y)",
+            "==> \\forall y [x:=1;x':=1;y':=1;]p(z)",
+        ),
     ] {
-        assert_eq!(rt; of(alloc, goal, rule)?.as_slice(), want.as_bytes(), "{goal} {rule}");
+        assert_eq!(rt;
+            of(alloc, goal, rule)?.as_slice(),
+            want.as_bytes(),
+            "{goal} {rule}"
+        );
     }
     Ok(())
 }
@@ -217,11 +354,23 @@ fn cut_refused<L: Ledger>(alloc: Global, text: &[u8], blank: Blank) -> Option<[S
     let sequent = read_sequent(alloc, b"p() ==> q()", &mut kernel).ok()?;
     let fact = kernel.step(alloc, &Step::Start(sequent), &mut steps).ok()?;
     let h = read_expression(alloc, text, Dots::Allowed, &mut kernel).ok()?;
-    let cut = Step::Apply { fact, goal: 1, rule: Rule::Cut(h) };
+    let cut = Step::Apply {
+        fact,
+        goal: 1,
+        rule: Rule::Cut(h),
+    };
     let cut = kernel.step(alloc, &cut, &mut steps).err()?;
-    let left = Step::Apply { fact, goal: 1, rule: Rule::CutL(1, h) };
+    let left = Step::Apply {
+        fact,
+        goal: 1,
+        rule: Rule::CutL(1, h),
+    };
     let left = kernel.step(alloc, &left, &mut steps).err()?;
-    let right = Step::Apply { fact, goal: 1, rule: Rule::CutR(1, h) };
+    let right = Step::Apply {
+        fact,
+        goal: 1,
+        rule: Rule::CutR(1, h),
+    };
     let right = kernel.step(alloc, &right, &mut steps).err()?;
     Some([cut, left, right])
 }
@@ -246,8 +395,16 @@ fn refuses_what_no_file_can_say(rt: HostRuntime) -> Result<(), Fail> {
     let alloc = rt.alloc();
     let shape = StepFault::Refused(Reason::WrongShape);
     for text in ["._0>=0", "p()&_", "x+1", "x:=1;"] {
-        assert_eq!(rt; cut_refused::<Brand>(alloc, text.as_bytes(), Blank::new(1)), Some([shape, shape, shape]), "{text}");
-        assert_eq!(rt; start_refused::<Brand>(alloc, text.as_bytes(), Blank::new(1)), Some(shape), "{text}");
+        assert_eq!(rt;
+            cut_refused::<Brand>(alloc, text.as_bytes(), Blank::new(1)),
+            Some([shape, shape, shape]),
+            "{text}"
+        );
+        assert_eq!(rt;
+            start_refused::<Brand>(alloc, text.as_bytes(), Blank::new(1)),
+            Some(shape),
+            "{text}"
+        );
     }
     Ok(())
 }

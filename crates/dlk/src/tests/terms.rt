@@ -52,38 +52,14 @@ fn checks_examples(rt: HostRuntime) -> Result<(), Fail> {
 fn refuses_steps(rt: HostRuntime) -> Result<(), Fail> {
     let alloc = rt.alloc();
     for (term, printed) in [
-        (
-            "1 axiom boxb\n",
-            "refused: line 1: UnknownName\n",
-        ),
-        (
-            "1 axiom G\n",
-            "refused: line 1: UnknownName\n",
-        ),
-        (
-            "1 rule K\n",
-            "refused: line 1: UnknownName\n",
-        ),
-        (
-            "1 axiom [a]\n",
-            "refused: line 1: Malformed\n",
-        ),
-        (
-            "1 leaf ==> [x:=1;]x>=1\n",
-            "refused: line 1: NotArith\n",
-        ),
-        (
-            "1 leaf f(x)>=0 ==>\n",
-            "refused: line 1: NotArith\n",
-        ),
-        (
-            "1 leaf ==> (x)'>=0\n",
-            "refused: line 1: NotArith\n",
-        ),
-        (
-            "1 leaf ._0>=0 ==>\n",
-            "refused: line 1: Malformed\n",
-        ),
+        ("1 axiom boxb\n", "refused: line 1: UnknownName\n"),
+        ("1 axiom G\n", "refused: line 1: UnknownName\n"),
+        ("1 rule K\n", "refused: line 1: UnknownName\n"),
+        ("1 axiom [a]\n", "refused: line 1: Malformed\n"),
+        ("1 leaf ==> [x:=1;]x>=1\n", "refused: line 1: NotArith\n"),
+        ("1 leaf f(x)>=0 ==>\n", "refused: line 1: NotArith\n"),
+        ("1 leaf ==> (x)'>=0\n", "refused: line 1: NotArith\n"),
+        ("1 leaf ._0>=0 ==>\n", "refused: line 1: Malformed\n"),
         (
             "1 start ==> x>=0\n2 merge 1 1 2\n",
             "refused: line 2: NoFact\n",
@@ -124,10 +100,7 @@ fn refuses_steps(rt: HostRuntime) -> Result<(), Fail> {
             "1 start ==> p()\n2 subst 1 p()~>x>=0\n",
             "refused: line 2: FreeInSubst\n",
         ),
-        (
-            "1 axiom V\n2 subst 1\n",
-            "refused: line 2: Malformed\n",
-        ),
+        ("1 axiom V\n2 subst 1\n", "refused: line 2: Malformed\n"),
     ] {
         let (found, desk) = checked(alloc, b"x>=0", term.as_bytes())?;
         assert_eq!(rt; desk.printed(), printed.as_bytes(), "{term}");
