@@ -1,4 +1,6 @@
 // The sequent rules: what each makes of a goal, and what speaks against it.
+ghost use Rattle.std.specs.Prelude.{◌≡◌, ◌<◌};
+
 use super::*;
 use dlk_kernel::{Reason, Rule, StepFault};
 use dlk_parse::{Dots, read_expression};
