@@ -8,21 +8,15 @@ use dlk_replay::{LineWhy, ReplayFault, replay};
 use dlk_report::shown;
 use dlk_sequent::{Listed, Sequent};
 
-/// The texts of the premises that a rule makes of a goal, with `; ` between, or the reason against the rule.
-fn made<L: Ledger>(
-    alloc: Global,
-    goal: &str,
-    rule: &str,
-    blank: Blank,
-) -> Result<Vec<u8>, AllocError>
+/// The texts of the goals that a term leaves, with `; ` between, or the reason against its second line.
+fn goals_of<L: Ledger>(alloc: Global, term: &[u8], blank: Blank) -> Option<Vec<u8>>
     requires name { blank.name ≡ L.name }
     requires parts { blank.parts ≡ L.parts }
     requires some { 0 < blank.parts }
 {
-    let term = format!(in alloc; "1 start {goal}\n2 apply 1 1 {rule}\ndone\n")?;
     let mut kernel = Kernel::new(alloc, PlainStore::new(alloc));
     let mut steps = Steps::<L>::new(blank);
-    let outcome = match replay(alloc, term.as_bytes(), &mut kernel, &mut steps) {
+    let outcome = match replay(alloc, term, &mut kernel, &mut steps) {
         Ok(outcome) => outcome,
         Err(
             ReplayFault::Bad {
@@ -30,25 +24,28 @@ fn made<L: Ledger>(
                 why: LineWhy::Step(why),
             },
         ) => {
-            return Ok(format!(in alloc; "{why:?}")?.into_bytes());
+            return Some(format!(in alloc; "{why:?}").ok()?.into_bytes());
         }
-        Err(fault) => return Ok(format!(in alloc; "{fault:?}")?.into_bytes()),
+        Err(_) => return None,
     };
-    let mut premises = Vec::new(alloc);
-    let Ok(report) = shown(alloc, &kernel, outcome.fact, outcome.lines, &mut steps) else {
-        return Ok(premises);
-    };
+    let report = shown(alloc, &kernel, outcome.fact, outcome.lines, &mut steps).ok()?;
+    let mut goals = Vec::new(alloc);
     for text in &report.goals {
-        if !premises.is_empty() {
-            premises.extend_from_slice(b"; ")?;
+        if !goals.is_empty() {
+            goals.extend_from_slice(b"; ").ok()?;
         }
-        premises.extend_from_slice(text)?;
+        goals.extend_from_slice(text).ok()?;
     }
-    Ok(premises)
+    Some(goals)
 }
 
+/// The premises that a rule makes of a goal, or the reason against the rule.
 fn of(alloc: Global, goal: &str, rule: &str) -> Result<Vec<u8>, AllocError> {
-    made::<Brand>(alloc, goal, rule, Blank::new(1))
+    let term = format!(in alloc; "1 start {goal}\n2 apply 1 1 {rule}\ndone\n")?;
+    match goals_of::<Brand>(alloc, term.as_bytes(), Blank::new(1)) {
+        Some(goals) => Ok(goals),
+        None => b"no goals".to_vec(alloc),
+    }
 }
 
 #[test]
