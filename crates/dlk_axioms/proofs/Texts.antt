@@ -13,10 +13,11 @@ use Rattle.dlk_tree.specs.Names.{is_name}
 use Rattle.dlk_tree.specs.Trees.{Tree, size, depth}
 use Rattle.dlk_calculus.specs.Axioms.{Axiom, AxiomaticRule, axioms, axiom_named, axiomatic_rules, rule_named}
 use Rattle.dlk_calculus.specs.Sequents.{IsFormula}
-use Rattle.dlk_calculus.proofs.AxiomLaws.{axiom_formula, rule_formulas}
+use Rattle.dlk_calculus.proofs.AxiomLaws.{axiom_formula, rule_formulas, axiom_sized, rule_sized}
 use Rattle.dlk_grammar.specs.declared.token.Dots.TheVariants.{Refused}
 use Rattle.dlk_grammar.specs.declared.token.Form.TheVariants.{Formula}
-use Rattle.dlk_grammar.specs.Readings.{Literal, Nesting, Syntax, Shape, TooBig, TooDeep, most_nodes, greatest_depth}
+use Rattle.dlk_calculus.specs.Limits.{IsSmall, IsShallow}
+use Rattle.dlk_grammar.specs.Readings.{Literal, Nesting, Syntax, Shape, TooBig, TooDeep}
 use Rattle.dlk_grammar.specs.Shown.{spell, shown}
 use Rattle.dlk_grammar.specs.Texts.{TreeText, TreeTextFault, BadByte, Unread}
 use Rattle.dlk_machine.proofs.TextLaws.{tree_or_fault}
@@ -30,10 +31,6 @@ use Rattle.dlk_axioms.specs.declared.table.AxiomRow.{AxiomRow}
 use Rattle.dlk_axioms.specs.declared.table.RuleRow.{RuleRow}
 use Rattle.dlk_axioms.specs.Rows.{AxiomText, RuleText, said, said_of_rule, canonical, canonical_rule}
 
--- the test of what is within the limits
-abbrev fits : Tree → Bool
-fits t = nat_le (size t) most_nodes && nat_le (depth t) greatest_depth
-
 -- what is found in a list passes a test that all its items pass
 found_passes : {A : Type 0} (test sought : A → Bool) (xs : List A) (x : A) → list_all test xs ≡ true → find sought xs ≡ Some x → test x ≡ true
 found_passes test sought [] x all e = absurd (none-some x e)
@@ -45,33 +42,27 @@ found_passes test sought (y ∷ xs) x all e =
     go here rest true h = subst (λ z. test z ≡ true) (same_Some y x h) here
     go here rest false h = rest h
 
-within : (t : Tree) → fits t ≡ true → IsWithinLimits t
-within t h =
-    let both = and_parts (nat_le (size t) most_nodes) (nat_le (depth t) greatest_depth) h in
-    record { small = leb-true (size t) most_nodes both.0; shallow = leb-true (depth t) greatest_depth both.1 }
-
-formula_text : (t : Tree) → IsFormula t → fits t ≡ true → TreeText Formula Refused (spell (shown t)) t
+formula_text : (t : Tree) → IsFormula t → IsSmall t × IsShallow t → TreeText Formula Refused (spell (shown t)) t
 formula_text t f h =
-    let read = tree_text Refused t (record { well_made = f.well_made; limits = within t h; permitted = (f.no_dot, f.no_hole) }) in
+    let limits : IsWithinLimits t = record { small = h.0; shallow = h.1 } in
+    let read = tree_text Refused t (record { well_made = f.well_made; limits = limits; permitted = (f.no_dot, f.no_hole) }) in
     subst (λ (s : Sort). TreeText (form_of s) Refused (spell (shown t)) t) f.sort_is read
 
-module _ {X : Type 0} (formula : X → Tree) (sought : X → Bool) (xs : List X) (x : X) (small : list_all (λ y. fits (formula y)) xs ≡ true) (e : find sought xs ≡ Some x) where
-  -- the canonical text of the formula of what is found in a list
-  found_text : IsFormula (formula x) → (bytes : List ℕ) → bytes ≡ spell (shown (formula x)) → TreeText Formula Refused bytes (formula x)
-  found_text is bytes same = subst (λ (text : List ℕ). TreeText Formula Refused text (formula x)) (sym same) (formula_text (formula x) is (found_passes (λ y. fits (formula y)) sought xs x small e))
+text_of : (t : Tree) → IsFormula t → IsSmall t × IsShallow t → (bytes : List ℕ) → bytes ≡ spell (shown t) → TreeText Formula Refused bytes t
+text_of t is sized bytes same = subst (λ (text : List ℕ). TreeText Formula Refused text t) (sym same) (formula_text t is sized)
 
 -- the text of an axiom's row is one of its formula
 pub axiom_row_text : (name : List ℕ) (a : Axiom) (row : AxiomRow) → axiom_named name ≡ Some a → said row ≡ canonical a → TreeText Formula Refused row.text.now a.formula
 axiom_row_text name a row e same =
-    found_text (λ (x : Axiom). x.formula) (λ (x : Axiom). bytes_eq x.name name) axioms a refl e (axiom_formula name a e) row.text.now (ap (λ (x : AxiomText). x.text) same)
+    text_of a.formula (axiom_formula name a e) (axiom_sized name a e) row.text.now (ap (λ (x : AxiomText). x.text) same)
 
 -- the texts of a rule's row are those of its premise and of its conclusion
 module _ (name : List ℕ) (r : AxiomaticRule) (row : RuleRow) (e : rule_named name ≡ Some r) (same : said_of_rule row ≡ canonical_rule r) where
   pub premise_text : TreeText Formula Refused row.premise.now r.premise
-  premise_text = found_text (λ (x : AxiomaticRule). x.premise) (λ (x : AxiomaticRule). bytes_eq x.name name) axiomatic_rules r refl e (rule_formulas name r e).0 row.premise.now (ap (λ (x : RuleText). x.premise) same)
+  premise_text = text_of r.premise (rule_formulas name r e).0 (rule_sized name r e).0 row.premise.now (ap (λ (x : RuleText). x.premise) same)
 
   pub conclusion_text : TreeText Formula Refused row.conclusion.now r.conclusion
-  conclusion_text = found_text (λ (x : AxiomaticRule). x.conclusion) (λ (x : AxiomaticRule). bytes_eq x.name name) axiomatic_rules r refl e (rule_formulas name r e).1 row.conclusion.now (ap (λ (x : RuleText). x.conclusion) same)
+  conclusion_text = text_of r.conclusion (rule_formulas name r e).1 (rule_sized name r e).1 row.conclusion.now (ap (λ (x : RuleText). x.conclusion) same)
 
 -- the own names of an axiom's row are names
 pub own_names_are_names : (name : List ℕ) (a : Axiom) (row : AxiomRow) → axiom_named name ≡ Some a → said row ≡ canonical a → All (λ (word : Bor (List ℕ)). IsTrue (is_name word.now)) row.own_names.now

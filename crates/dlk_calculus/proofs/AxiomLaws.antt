@@ -1,6 +1,7 @@
 -- The axioms and the axiomatic rules are made of formulas.
 use Rattle.std.proofs.Common.{◌≡◌, refl, Bool, true, false, ◌&&◌, not, subst, cond, ℕ, List, [], ◌∷◌, map, Some, find}
-use Rattle.std.specs.Prelude.{IsTrue}
+use Rattle.std.specs.Prelude.{IsTrue, nat_le}
+use Rattle.std.proofs.lemmas.Bool.{leb-true}
 use Rattle.std.specs.Str.{bytes_eq}
 use Rattle.std.proofs.lemmas.Option.{none-some, same_Some}
 use Rattle.std.specs.List.{All, list_all}
@@ -9,11 +10,12 @@ use Rattle.std.proofs.lemmas.List.Elements.{All-cons, All-nil, All-head, All-tai
 use Rattle.dlk_tree.specs.declared.op.Sort.TheVariants.{Formula}
 use Rattle.dlk_tree.specs.contracts.op.SortPartialEq.TheImpl as SortEq
 use Rattle.dlk_tree.specs.Table.{kid_sorts, has_parts}
-use Rattle.dlk_tree.specs.Trees.{Tree, node, Forest, no_kids, kid, sort, sorts, WellMade, AllWellMade}
+use Rattle.dlk_tree.specs.Trees.{Tree, node, Forest, no_kids, kid, sort, sorts, size, depth, WellMade, AllWellMade}
 use Rattle.dlk_tree.specs.Occurs.{has_dots, has_hole}
 use Rattle.dlk_tree.proofs.Same.{sort_decides, sorts_decides}
 use Rattle.dlk_calculus.specs.Axioms.{Axiom, AxiomaticRule, axioms, axiom_named, axiomatic_rules, rule_named}
 use Rattle.dlk_calculus.specs.Sequents.{IsFormula}
+use Rattle.dlk_calculus.specs.Limits.{most_nodes, greatest_depth, IsSmall, IsShallow}
 
 -- the test of a well-made tree
 abbrev mutual
@@ -86,4 +88,32 @@ pub rule_formulas : (name : List ℕ) (r : AxiomaticRule) → rule_named name �
 rule_formulas name r e = (
   found_has (λ (x : AxiomaticRule). IsFormula x.premise) (λ (x : AxiomaticRule). bytes_eq x.name name) axiomatic_rules r (all_of_map IsFormula (λ (x : AxiomaticRule). x.premise) axiomatic_rules premises_formulas) e,
   found_has (λ (x : AxiomaticRule). IsFormula x.conclusion) (λ (x : AxiomaticRule). bytes_eq x.name name) axiomatic_rules r (all_of_map IsFormula (λ (x : AxiomaticRule). x.conclusion) axiomatic_rules conclusions_formulas) e,
+)
+
+-- ---- none of them is too big or too deep
+
+abbrev IsSized : Tree → Type 0
+IsSized t = IsSmall t × IsShallow t
+
+abbrev is_sized : Tree → Bool
+is_sized t = nat_le (size t) most_nodes && nat_le (depth t) greatest_depth
+
+all_sized : (ts : List Tree) → IsTrue (list_all is_sized ts) → All IsSized ts
+all_sized [] h = All-nil IsSized
+all_sized (t ∷ ts) h =
+    let both = both_true (is_sized t) (list_all is_sized ts) h in
+    let own = both_true (nat_le (size t) most_nodes) (nat_le (depth t) greatest_depth) both.0 in
+    All-cons IsSized t ts (leb-true (size t) most_nodes own.0, leb-true (depth t) greatest_depth own.1) (all_sized ts both.1)
+
+pub axiom_sized : (name : List ℕ) (a : Axiom) → axiom_named name ≡ Some a → IsSmall a.formula × IsShallow a.formula
+axiom_sized name a e =
+    found_has (λ (x : Axiom). IsSized x.formula) (λ (x : Axiom). bytes_eq x.name name) axioms a
+    (all_of_map IsSized (λ (x : Axiom). x.formula) axioms (all_sized (map (λ (x : Axiom). x.formula) axioms) refl)) e
+
+pub rule_sized : (name : List ℕ) (r : AxiomaticRule) → rule_named name ≡ Some r → (IsSmall r.premise × IsShallow r.premise) × (IsSmall r.conclusion × IsShallow r.conclusion)
+rule_sized name r e = (
+  found_has (λ (x : AxiomaticRule). IsSized x.premise) (λ (x : AxiomaticRule). bytes_eq x.name name) axiomatic_rules r
+      (all_of_map IsSized (λ (x : AxiomaticRule). x.premise) axiomatic_rules (all_sized (map (λ (x : AxiomaticRule). x.premise) axiomatic_rules) refl)) e,
+  found_has (λ (x : AxiomaticRule). IsSized x.conclusion) (λ (x : AxiomaticRule). bytes_eq x.name name) axiomatic_rules r
+      (all_of_map IsSized (λ (x : AxiomaticRule). x.conclusion) axiomatic_rules (all_sized (map (λ (x : AxiomaticRule). x.conclusion) axiomatic_rules) refl)) e,
 )

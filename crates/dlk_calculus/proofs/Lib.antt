@@ -12,6 +12,7 @@ pub mod StepLaws
 pub mod Histories
 pub mod Formulas
 pub mod Leaves
+pub mod LimitLaws
 pub mod OneResult
 pub mod WellFormed
 pub mod Sorts

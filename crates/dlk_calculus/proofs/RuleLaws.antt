@@ -6,7 +6,7 @@ use Rattle.std.specs.Prelude.{IsTrue}
 use Rattle.dlk_tree.specs.Names.{is_name}
 use Rattle.dlk_tree.specs.Trees.{Tree, root}
 use Rattle.dlk_calculus.specs.declared.reason.Reason.{Reason}
-use Rattle.dlk_calculus.specs.declared.reason.Reason.TheVariants.{NoFact, NoGoal, UnknownName, NoPlace, WrongShape, NotEqual, NotFresh, NotArith, IllSubst, FreeInSubst, NotAdmissible}
+use Rattle.dlk_calculus.specs.declared.reason.Reason.TheVariants.{NoPlace, WrongShape, NotEqual, NotFresh}
 use Rattle.dlk_calculus.specs.Places.{IsPlace}
 use Rattle.dlk_calculus.specs.Sequents.{Sequent}
 use Rattle.dlk_calculus.specs.Rename.{binder, body, may_rename}
@@ -19,41 +19,35 @@ one_premises rule s ps qs p q = p.premises_are ∙ sym q.premises_are
 
 -- nothing speaks against a rule that makes premises
 pub premises_unless_against : (rule : Rule) (s : Sequent) (premises : List Sequent) (why : Reason) → Premises rule s premises → RuleAgainst why rule s → ⊥
-premises_unless_against rule s premises NoFact p a = a
-premises_unless_against rule s premises NoGoal p a = a
-premises_unless_against rule s premises UnknownName p a = a
 premises_unless_against rule s premises NoPlace p a = a p.places
 premises_unless_against rule s premises WrongShape p a = a p.shape
 premises_unless_against rule s premises NotEqual p a = a p.equals
 premises_unless_against rule s premises NotFresh p a = a p.fresh
-premises_unless_against rule s premises NotArith p a = a
-premises_unless_against rule s premises IllSubst p a = a
-premises_unless_against rule s premises FreeInSubst p a = a
-premises_unless_against rule s premises NotAdmissible p a = a
+premises_unless_against rule s premises _ p a = a
 
 -- the first reason against a rule, by the reasons before it
 pub first_no_place : (rule : Rule) (s : Sequent) → (¬ (figure rule s).places) → FirstAgainst rule s NoPlace
 first_no_place rule s n = record {
   against = n;
-  first = elim [ NoFact ↦ λ lt a. a | NoGoal ↦ λ lt a. a | UnknownName ↦ λ lt a. a | NoPlace ↦ λ lt. absurd (omega arith) | WrongShape ↦ λ lt. absurd (omega arith) | NotEqual ↦ λ lt. absurd (omega arith) | NotFresh ↦ λ lt. absurd (omega arith) | NotArith ↦ λ lt a. a | IllSubst ↦ λ lt a. a | FreeInSubst ↦ λ lt a. a | NotAdmissible ↦ λ lt a. a ];
+  first = elim [ NoPlace ↦ λ lt. absurd (omega arith) | WrongShape ↦ λ lt. absurd (omega arith) | NotEqual ↦ λ lt. absurd (omega arith) | NotFresh ↦ λ lt. absurd (omega arith) | _ ↦ λ lt a. a ];
 }
 
 pub first_wrong_shape : (rule : Rule) (s : Sequent) → (figure rule s).places → (¬ (figure rule s).shape) → FirstAgainst rule s WrongShape
 first_wrong_shape rule s h n = record {
   against = n;
-  first = elim [ NoFact ↦ λ lt a. a | NoGoal ↦ λ lt a. a | UnknownName ↦ λ lt a. a | NoPlace ↦ λ lt a. a h | WrongShape ↦ λ lt. absurd (omega arith) | NotEqual ↦ λ lt. absurd (omega arith) | NotFresh ↦ λ lt. absurd (omega arith) | NotArith ↦ λ lt a. a | IllSubst ↦ λ lt a. a | FreeInSubst ↦ λ lt a. a | NotAdmissible ↦ λ lt a. a ];
+  first = elim [ NoPlace ↦ λ lt a. a h | WrongShape ↦ λ lt. absurd (omega arith) | NotEqual ↦ λ lt. absurd (omega arith) | NotFresh ↦ λ lt. absurd (omega arith) | _ ↦ λ lt a. a ];
 }
 
 pub first_not_equal : (rule : Rule) (s : Sequent) → (figure rule s).places → (figure rule s).shape → (¬ (figure rule s).equals) → FirstAgainst rule s NotEqual
 first_not_equal rule s h k n = record {
   against = n;
-  first = elim [ NoFact ↦ λ lt a. a | NoGoal ↦ λ lt a. a | UnknownName ↦ λ lt a. a | NoPlace ↦ λ lt a. a h | WrongShape ↦ λ lt a. a k | NotEqual ↦ λ lt. absurd (omega arith) | NotFresh ↦ λ lt. absurd (omega arith) | NotArith ↦ λ lt a. a | IllSubst ↦ λ lt a. a | FreeInSubst ↦ λ lt a. a | NotAdmissible ↦ λ lt a. a ];
+  first = elim [ NoPlace ↦ λ lt a. a h | WrongShape ↦ λ lt a. a k | NotEqual ↦ λ lt. absurd (omega arith) | NotFresh ↦ λ lt. absurd (omega arith) | _ ↦ λ lt a. a ];
 }
 
 pub first_not_fresh : (rule : Rule) (s : Sequent) → (figure rule s).places → (figure rule s).shape → (figure rule s).equals → (¬ (figure rule s).fresh) → FirstAgainst rule s NotFresh
 first_not_fresh rule s h k e n = record {
   against = n;
-  first = elim [ NoFact ↦ λ lt a. a | NoGoal ↦ λ lt a. a | UnknownName ↦ λ lt a. a | NoPlace ↦ λ lt a. a h | WrongShape ↦ λ lt a. a k | NotEqual ↦ λ lt a. a e | NotFresh ↦ λ lt. absurd (omega arith) | NotArith ↦ λ lt a. a | IllSubst ↦ λ lt a. a | FreeInSubst ↦ λ lt a. a | NotAdmissible ↦ λ lt a. a ];
+  first = elim [ NoPlace ↦ λ lt a. a h | WrongShape ↦ λ lt a. a k | NotEqual ↦ λ lt a. a e | NotFresh ↦ λ lt. absurd (omega arith) | _ ↦ λ lt a. a ];
 }
 
 -- ---- what a rule asks for is decided

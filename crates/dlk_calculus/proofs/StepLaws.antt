@@ -3,8 +3,8 @@ use Rattle.std.proofs.Common.{◌≡◌, ◌≢◌, ℕ, ◌<◌, Bool, true, fa
 use Rattle.std.specs.Prelude.{IsTrue}
 use Rattle.std.proofs.lemmas.Option.{none-some, same_Some}
 use Rattle.dlk_calculus.specs.declared.reason.Reason.{Reason}
-use Rattle.dlk_calculus.specs.declared.reason.Reason.TheVariants.{NoFact, NoGoal, UnknownName, NoPlace, WrongShape, NotEqual, NotFresh, NotArith, IllSubst, FreeInSubst, NotAdmissible}
-use Rattle.dlk_calculus.specs.Reasons.{rank}
+use Rattle.dlk_calculus.specs.declared.reason.Reason.TheVariants.{NoFact, NoGoal, UnknownName, NoPlace, WrongShape, NotEqual, NotFresh, NotArith, IllSubst, FreeInSubst, NotAdmissible, TooBig, TooDeep, SideFull, GoalsFull, LeavesFull, LinesFull}
+use Rattle.dlk_calculus.specs.Reasons.{rank, IsOfCalculus}
 use Rattle.dlk_tree.specs.Names.{is_name}
 use Rattle.dlk_calculus.specs.Axioms.{Axiom, AxiomaticRule, axiom_named, rule_named}
 use Rattle.dlk_calculus.specs.Arithmetic.{is_arithmetic_sequent}
@@ -14,7 +14,7 @@ use Rattle.dlk_calculus.specs.Places.{At, IsPlace}
 use Rattle.dlk_calculus.specs.Sequents.{Sequent, IsSequent}
 use Rattle.dlk_calculus.specs.Rules.{Rule, Premises, RuleAgainst, FirstAgainst}
 use Rattle.dlk_calculus.specs.Provables.{Provable, started, known, inferred, assumed, applied, IsAmong, Joins, no_more, there, added, merged, SubstEach, SubstSequent, SubstSequents, Substitutes, HasGoal, renamed}
-use Rattle.dlk_calculus.specs.Steps.{Step, Start, UseAxiom, UseRule, Leaf, Apply, Merge, Substitute, Rename, AreNames, Gives, start, use_axiom, use_rule, leaf, apply, merge, substitute, rename, IsGoal, Against, Fault, StepOf}
+use Rattle.dlk_calculus.specs.Steps.{Step, Start, UseAxiom, UseRule, Leaf, Apply, Merge, Substitute, Rename, AreNames, Gives, start, use_axiom, use_rule, leaf, apply, merge, substitute, rename, IsGoal, Against, Fault}
 use Rattle.dlk_calculus.proofs.PlaceLaws.{at_one, At_place, place_cases}
 use Rattle.dlk_calculus.proofs.OneResult.{one_subst}
 use Rattle.dlk_calculus.proofs.Decided.{subst_decided, free_in_decided, good_pairs}
@@ -149,87 +149,86 @@ goal_there rows fact goal s g h =
 facts_there : (rows : List Provable) (fact by : ℕ) (p q : Provable) → At rows fact p → At rows by q → ¬ ¬ (IsPlace rows fact × IsPlace rows by)
 facts_there rows fact by p q h k n = n (At_place rows fact p h, At_place rows by q k)
 
-pub given_unless : (rows : List Provable) (step : Step) (p : Provable) (why : Reason) → Gives rows step p → Against why rows step → ⊥
-given_unless rows (Start s) p WrongShape g a = a (given_by rows (Start s) p g).0
-given_unless rows (Start s) p _ g a = a
-given_unless rows (UseAxiom name) p UnknownName g a = let b = given_by rows (UseAxiom name) p g in none-some b.0 (sym a ∙ b.1)
-given_unless rows (UseAxiom name) p _ g a = a
-given_unless rows (UseRule name) p UnknownName g a = let b = given_by rows (UseRule name) p g in none-some b.0 (sym a ∙ b.1)
-given_unless rows (UseRule name) p _ g a = a
-given_unless rows (Leaf s) p WrongShape g a = a (given_by rows (Leaf s) p g).0
-given_unless rows (Leaf s) p NotArith g a = let e : true ≡ false = sym (given_by rows (Leaf s) p g).1 ∙ a in cc
-given_unless rows (Leaf s) p _ g a = a
-given_unless rows (Apply fact goal rule) p NoFact g a = let b = given_by rows (Apply fact goal rule) p g in fact_there rows fact goal b.1 (b.0, b.3, b.4) a
-given_unless rows (Apply fact goal rule) p NoGoal g a = let b = given_by rows (Apply fact goal rule) p g in goal_there rows fact goal b.1 (b.0, b.3, b.4) a
-given_unless rows (Apply fact goal rule) p UnknownName g a = a
-given_unless rows (Apply fact goal rule) p NotArith g a = a
-given_unless rows (Apply fact goal rule) p NotAdmissible g a = a
-given_unless rows (Apply fact goal rule) p FreeInSubst g a = a
-given_unless rows (Apply fact goal rule) p IllSubst g a = a
-given_unless rows (Apply fact goal rule) p NoPlace g a =
+pub given_unless : (rows : List Provable) (step : Step) (p : Provable) (why : Reason) → IsOfCalculus why → Gives rows step p → Against why rows step → ⊥
+given_unless rows step p TooBig lt g a = absurd (omega (arith, lt))
+given_unless rows step p TooDeep lt g a = absurd (omega (arith, lt))
+given_unless rows step p SideFull lt g a = absurd (omega (arith, lt))
+given_unless rows step p GoalsFull lt g a = absurd (omega (arith, lt))
+given_unless rows step p LeavesFull lt g a = absurd (omega (arith, lt))
+given_unless rows step p LinesFull lt g a = absurd (omega (arith, lt))
+given_unless rows (Start s) p WrongShape lt g a = a (given_by rows (Start s) p g).0
+given_unless rows (Start s) p _ lt g a = a
+given_unless rows (UseAxiom name) p UnknownName lt g a = let b = given_by rows (UseAxiom name) p g in none-some b.0 (sym a ∙ b.1)
+given_unless rows (UseAxiom name) p _ lt g a = a
+given_unless rows (UseRule name) p UnknownName lt g a = let b = given_by rows (UseRule name) p g in none-some b.0 (sym a ∙ b.1)
+given_unless rows (UseRule name) p _ lt g a = a
+given_unless rows (Leaf s) p WrongShape lt g a = a (given_by rows (Leaf s) p g).0
+given_unless rows (Leaf s) p NotArith lt g a = let e : true ≡ false = sym (given_by rows (Leaf s) p g).1 ∙ a in cc
+given_unless rows (Leaf s) p _ lt g a = a
+given_unless rows (Apply fact goal rule) p NoFact lt g a = let b = given_by rows (Apply fact goal rule) p g in fact_there rows fact goal b.1 (b.0, b.3, b.4) a
+given_unless rows (Apply fact goal rule) p NoGoal lt g a = let b = given_by rows (Apply fact goal rule) p g in goal_there rows fact goal b.1 (b.0, b.3, b.4) a
+given_unless rows (Apply fact goal rule) p NoPlace lt g a =
     let b = given_by rows (Apply fact goal rule) p g in
     goal_unless rows fact goal b.1 (RuleAgainst NoPlace rule) (b.0, b.3, b.4) (premises_unless_against rule b.1 b.2 NoPlace b.5) a
-given_unless rows (Apply fact goal rule) p WrongShape g a =
+given_unless rows (Apply fact goal rule) p WrongShape lt g a =
     let b = given_by rows (Apply fact goal rule) p g in
     goal_unless rows fact goal b.1 (RuleAgainst WrongShape rule) (b.0, b.3, b.4) (premises_unless_against rule b.1 b.2 WrongShape b.5) a
-given_unless rows (Apply fact goal rule) p NotEqual g a =
+given_unless rows (Apply fact goal rule) p NotEqual lt g a =
     let b = given_by rows (Apply fact goal rule) p g in
     goal_unless rows fact goal b.1 (RuleAgainst NotEqual rule) (b.0, b.3, b.4) (premises_unless_against rule b.1 b.2 NotEqual b.5) a
-given_unless rows (Apply fact goal rule) p NotFresh g a =
+given_unless rows (Apply fact goal rule) p NotFresh lt g a =
     let b = given_by rows (Apply fact goal rule) p g in
     goal_unless rows fact goal b.1 (RuleAgainst NotFresh rule) (b.0, b.3, b.4) (premises_unless_against rule b.1 b.2 NotFresh b.5) a
-given_unless rows (Merge fact goal by) p NoFact g a = let b = given_by rows (Merge fact goal by) p g in facts_there rows fact by b.0 b.1 b.3 b.4 a
-given_unless rows (Merge fact goal by) p NoGoal g a = let b = given_by rows (Merge fact goal by) p g in goal_there rows fact goal b.1.conclusion (b.0, b.3, b.5) a
-given_unless rows (Merge fact goal by) p NotEqual g a =
+given_unless rows (Apply fact goal rule) p _ lt g a = a
+given_unless rows (Merge fact goal by) p NoFact lt g a = let b = given_by rows (Merge fact goal by) p g in facts_there rows fact by b.0 b.1 b.3 b.4 a
+given_unless rows (Merge fact goal by) p NoGoal lt g a = let b = given_by rows (Merge fact goal by) p g in goal_there rows fact goal b.1.conclusion (b.0, b.3, b.5) a
+given_unless rows (Merge fact goal by) p NotEqual lt g a =
     let b = given_by rows (Merge fact goal by) p g in
     goal_unless rows fact goal b.1.conclusion (λ s. (q : Provable) × At rows by q × (s ≢ q.conclusion)) (b.0, b.3, b.5)
     (λ h. h.2 (ap (λ (x : Provable). x.conclusion) (at_one rows by b.1 h.0 b.4 h.1))) a
-given_unless rows (Merge fact goal by) p _ g a = a
-given_unless rows (Substitute fact pairs) p NoFact g a = let b = given_by rows (Substitute fact pairs) p g in a (At_place rows fact b.0 b.1)
-given_unless rows (Substitute fact pairs) p IllSubst g a = let b = given_by rows (Substitute fact pairs) p g in a (b.2, b.3)
-given_unless rows (Substitute fact pairs) p FreeInSubst g a =
+given_unless rows (Merge fact goal by) p _ lt g a = a
+given_unless rows (Substitute fact pairs) p NoFact lt g a = let b = given_by rows (Substitute fact pairs) p g in a (At_place rows fact b.0 b.1)
+given_unless rows (Substitute fact pairs) p IllSubst lt g a = let b = given_by rows (Substitute fact pairs) p g in a (b.2, b.3)
+given_unless rows (Substitute fact pairs) p FreeInSubst lt g a =
     let b = given_by rows (Substitute fact pairs) p g in
     b.4 (subst (λ (x : Provable). HasGoal x.goals) (at_one rows fact a.0 b.0 a.1 b.1) a.2) a.3
-given_unless rows (Substitute fact pairs) p NotAdmissible g a =
+given_unless rows (Substitute fact pairs) p NotAdmissible lt g a =
     let b = given_by rows (Substitute fact pairs) p g in
     a.2 p (subst (λ (x : Provable). Substitutes pairs x p) (at_one rows fact b.0 a.0 b.1 a.1) b.5)
-given_unless rows (Substitute fact pairs) p _ g a = a
-given_unless rows (Rename fact x y) p NoFact g a = let b = given_by rows (Rename fact x y) p g in a (At_place rows fact b.0 b.1)
-given_unless rows (Rename fact x y) p WrongShape g a = a (given_by rows (Rename fact x y) p g).2
-given_unless rows (Rename fact x y) p _ g a = a
-
-pub StepOf-given : (rows : List Provable) (step : Step) (p : Provable) → Gives rows step p → StepOf rows step p
-StepOf-given rows step p g = record { given = g; allowed = λ why a. given_unless rows step p why g a }
+given_unless rows (Substitute fact pairs) p _ lt g a = a
+given_unless rows (Rename fact x y) p NoFact lt g a = let b = given_by rows (Rename fact x y) p g in a (At_place rows fact b.0 b.1)
+given_unless rows (Rename fact x y) p WrongShape lt g a = a (given_by rows (Rename fact x y) p g).2
+given_unless rows (Rename fact x y) p _ lt g a = a
 
 -- the first reason against a step, by the reasons before it
 pub no_fact : (rows : List Provable) (fact goal : ℕ) (rule : Rule) → (¬ IsPlace rows fact) → Fault rows (Apply fact goal rule) NoFact
 no_fact rows fact goal rule n = record {
   against = n;
-  first = elim [ NoFact ↦ λ lt. absurd (omega arith) | NoGoal ↦ λ lt. absurd (omega arith) | UnknownName ↦ λ lt. absurd (omega arith) | NoPlace ↦ λ lt. absurd (omega arith) | WrongShape ↦ λ lt. absurd (omega arith) | NotEqual ↦ λ lt. absurd (omega arith) | NotFresh ↦ λ lt. absurd (omega arith) | NotArith ↦ λ lt. absurd (omega arith) | IllSubst ↦ λ lt. absurd (omega arith) | FreeInSubst ↦ λ lt. absurd (omega arith) | NotAdmissible ↦ λ lt. absurd (omega arith) ];
+  first = elim [ NoFact ↦ λ lt. absurd (omega arith) | _ ↦ λ lt. absurd (omega arith) ];
 }
 
 pub no_goal : (rows : List Provable) (fact goal : ℕ) (rule : Rule) (p : Provable) → At rows fact p → (¬ IsPlace p.goals goal) → Fault rows (Apply fact goal rule) NoGoal
 no_goal rows fact goal rule p h n = record {
   against = (p, h, n);
-  first = elim [ NoFact ↦ λ lt a. a (At_place rows fact p h) | NoGoal ↦ λ lt. absurd (omega arith) | UnknownName ↦ λ lt. absurd (omega arith) | NoPlace ↦ λ lt. absurd (omega arith) | WrongShape ↦ λ lt. absurd (omega arith) | NotEqual ↦ λ lt. absurd (omega arith) | NotFresh ↦ λ lt. absurd (omega arith) | NotArith ↦ λ lt. absurd (omega arith) | IllSubst ↦ λ lt. absurd (omega arith) | FreeInSubst ↦ λ lt. absurd (omega arith) | NotAdmissible ↦ λ lt. absurd (omega arith) ];
+  first = elim [ NoFact ↦ λ lt a. a (At_place rows fact p h) | _ ↦ λ lt. absurd (omega arith) ];
 }
 
 pub no_formulas : (rows : List Provable) (s : Sequent) → (¬ IsSequent s) → Fault rows (Start s) WrongShape
 no_formulas rows s n = record {
   against = n;
-  first = elim [ NoFact ↦ λ lt a. a | NoGoal ↦ λ lt a. a | UnknownName ↦ λ lt a. a | NoPlace ↦ λ lt a. a | WrongShape ↦ λ lt. absurd (omega arith) | NotEqual ↦ λ lt. absurd (omega arith) | NotFresh ↦ λ lt. absurd (omega arith) | NotArith ↦ λ lt. absurd (omega arith) | IllSubst ↦ λ lt. absurd (omega arith) | FreeInSubst ↦ λ lt. absurd (omega arith) | NotAdmissible ↦ λ lt. absurd (omega arith) ];
+  first = elim [ NoFact ↦ λ lt a. a | NoGoal ↦ λ lt a. a | UnknownName ↦ λ lt a. a | NoPlace ↦ λ lt a. a | _ ↦ λ lt. absurd (omega arith) ];
 }
 
 pub no_fact_to_rename : (rows : List Provable) (fact : ℕ) (x y : List ℕ) → (¬ IsPlace rows fact) → Fault rows (Rename fact x y) NoFact
 no_fact_to_rename rows fact x y n = record {
   against = n;
-  first = elim [ NoFact ↦ λ lt. absurd (omega arith) | NoGoal ↦ λ lt. absurd (omega arith) | UnknownName ↦ λ lt. absurd (omega arith) | NoPlace ↦ λ lt. absurd (omega arith) | WrongShape ↦ λ lt. absurd (omega arith) | NotEqual ↦ λ lt. absurd (omega arith) | NotFresh ↦ λ lt. absurd (omega arith) | NotArith ↦ λ lt. absurd (omega arith) | IllSubst ↦ λ lt. absurd (omega arith) | FreeInSubst ↦ λ lt. absurd (omega arith) | NotAdmissible ↦ λ lt. absurd (omega arith) ];
+  first = elim [ NoFact ↦ λ lt. absurd (omega arith) | _ ↦ λ lt. absurd (omega arith) ];
 }
 
 no_names : (rows : List Provable) (fact : ℕ) (x y : List ℕ) (p : Provable) → At rows fact p → (¬ AreNames x y) → Fault rows (Rename fact x y) WrongShape
 no_names rows fact x y p h n = record {
   against = n;
-  first = elim [ NoFact ↦ λ lt a. a (At_place rows fact p h) | NoGoal ↦ λ lt a. a | UnknownName ↦ λ lt a. a | NoPlace ↦ λ lt a. a | WrongShape ↦ λ lt. absurd (omega arith) | NotEqual ↦ λ lt. absurd (omega arith) | NotFresh ↦ λ lt. absurd (omega arith) | NotArith ↦ λ lt. absurd (omega arith) | IllSubst ↦ λ lt. absurd (omega arith) | FreeInSubst ↦ λ lt. absurd (omega arith) | NotAdmissible ↦ λ lt. absurd (omega arith) ];
+  first = elim [ NoFact ↦ λ lt a. a (At_place rows fact p h) | NoGoal ↦ λ lt a. a | UnknownName ↦ λ lt a. a | NoPlace ↦ λ lt a. a | _ ↦ λ lt. absurd (omega arith) ];
 }
 
 are_names : (x y : List ℕ) → Dec (AreNames x y)
@@ -238,78 +237,78 @@ are_names x y = both (λ p q. (p, q)) (λ c. c.0) (λ c. c.1) (is_true (is_name 
 pub unknown_axiom : (rows : List Provable) (name : List ℕ) → axiom_named name ≡ None → Fault rows (UseAxiom name) UnknownName
 unknown_axiom rows name n = record {
   against = n;
-  first = elim [ NoFact ↦ λ lt a. a | NoGoal ↦ λ lt a. a | UnknownName ↦ λ lt. absurd (omega arith) | NoPlace ↦ λ lt. absurd (omega arith) | WrongShape ↦ λ lt. absurd (omega arith) | NotEqual ↦ λ lt. absurd (omega arith) | NotFresh ↦ λ lt. absurd (omega arith) | NotArith ↦ λ lt. absurd (omega arith) | IllSubst ↦ λ lt. absurd (omega arith) | FreeInSubst ↦ λ lt. absurd (omega arith) | NotAdmissible ↦ λ lt. absurd (omega arith) ];
+  first = elim [ NoFact ↦ λ lt a. a | NoGoal ↦ λ lt a. a | _ ↦ λ lt. absurd (omega arith) ];
 }
 
 pub unknown_rule : (rows : List Provable) (name : List ℕ) → rule_named name ≡ None → Fault rows (UseRule name) UnknownName
 unknown_rule rows name n = record {
   against = n;
-  first = elim [ NoFact ↦ λ lt a. a | NoGoal ↦ λ lt a. a | UnknownName ↦ λ lt. absurd (omega arith) | NoPlace ↦ λ lt. absurd (omega arith) | WrongShape ↦ λ lt. absurd (omega arith) | NotEqual ↦ λ lt. absurd (omega arith) | NotFresh ↦ λ lt. absurd (omega arith) | NotArith ↦ λ lt. absurd (omega arith) | IllSubst ↦ λ lt. absurd (omega arith) | FreeInSubst ↦ λ lt. absurd (omega arith) | NotAdmissible ↦ λ lt. absurd (omega arith) ];
+  first = elim [ NoFact ↦ λ lt a. a | NoGoal ↦ λ lt a. a | _ ↦ λ lt. absurd (omega arith) ];
 }
 
-axiom_cases : (rows : List Provable) (name : List ℕ) (o : Option Axiom) → axiom_named name ≡ o → ((p : Provable) × Gives rows (UseAxiom name) p) ⊎ ((why : Reason) × Fault rows (UseAxiom name) why)
-axiom_cases rows name None e = inr (UnknownName, unknown_axiom rows name e)
+axiom_cases : (rows : List Provable) (name : List ℕ) (o : Option Axiom) → axiom_named name ≡ o → ((p : Provable) × Gives rows (UseAxiom name) p) ⊎ ((why : Reason) × IsOfCalculus why × Fault rows (UseAxiom name) why)
+axiom_cases rows name None e = inr (UnknownName, omega arith, unknown_axiom rows name e)
 axiom_cases rows name (Some a) e = inl (known a.formula, use_axiom name a e)
 
-rule_step_cases : (rows : List Provable) (name : List ℕ) (o : Option AxiomaticRule) → rule_named name ≡ o → ((p : Provable) × Gives rows (UseRule name) p) ⊎ ((why : Reason) × Fault rows (UseRule name) why)
-rule_step_cases rows name None e = inr (UnknownName, unknown_rule rows name e)
+rule_step_cases : (rows : List Provable) (name : List ℕ) (o : Option AxiomaticRule) → rule_named name ≡ o → ((p : Provable) × Gives rows (UseRule name) p) ⊎ ((why : Reason) × IsOfCalculus why × Fault rows (UseRule name) why)
+rule_step_cases rows name None e = inr (UnknownName, omega arith, unknown_rule rows name e)
 rule_step_cases rows name (Some r) e = inl (inferred r.premise r.conclusion, use_rule name r e)
 
 pub no_formulas_leaf : (rows : List Provable) (s : Sequent) → (¬ IsSequent s) → Fault rows (Leaf s) WrongShape
 no_formulas_leaf rows s n = record {
   against = n;
-  first = elim [ NoFact ↦ λ lt a. a | NoGoal ↦ λ lt a. a | UnknownName ↦ λ lt a. a | NoPlace ↦ λ lt a. a | WrongShape ↦ λ lt. absurd (omega arith) | NotEqual ↦ λ lt. absurd (omega arith) | NotFresh ↦ λ lt. absurd (omega arith) | NotArith ↦ λ lt. absurd (omega arith) | IllSubst ↦ λ lt. absurd (omega arith) | FreeInSubst ↦ λ lt. absurd (omega arith) | NotAdmissible ↦ λ lt. absurd (omega arith) ];
+  first = elim [ NoFact ↦ λ lt a. a | NoGoal ↦ λ lt a. a | UnknownName ↦ λ lt a. a | NoPlace ↦ λ lt a. a | _ ↦ λ lt. absurd (omega arith) ];
 }
 
 pub no_arithmetic : (rows : List Provable) (s : Sequent) → IsSequent s → is_arithmetic_sequent s ≡ false → Fault rows (Leaf s) NotArith
 no_arithmetic rows s h n = record {
   against = n;
-  first = elim [ NoFact ↦ λ lt a. a | NoGoal ↦ λ lt a. a | UnknownName ↦ λ lt a. a | NoPlace ↦ λ lt a. a | WrongShape ↦ λ lt a. a h | NotEqual ↦ λ lt a. a | NotFresh ↦ λ lt a. a | NotArith ↦ λ lt. absurd (omega arith) | IllSubst ↦ λ lt. absurd (omega arith) | FreeInSubst ↦ λ lt. absurd (omega arith) | NotAdmissible ↦ λ lt. absurd (omega arith) ];
+  first = elim [ NoFact ↦ λ lt a. a | NoGoal ↦ λ lt a. a | UnknownName ↦ λ lt a. a | NoPlace ↦ λ lt a. a | WrongShape ↦ λ lt a. a h | NotEqual ↦ λ lt a. a | NotFresh ↦ λ lt a. a | _ ↦ λ lt. absurd (omega arith) ];
 }
 
 -- the first reason against a merge
 pub no_fact_to_merge : (rows : List Provable) (fact goal by : ℕ) → (¬ (IsPlace rows fact × IsPlace rows by)) → Fault rows (Merge fact goal by) NoFact
 no_fact_to_merge rows fact goal by n = record {
   against = n;
-  first = elim [ NoFact ↦ λ lt. absurd (omega arith) | NoGoal ↦ λ lt. absurd (omega arith) | UnknownName ↦ λ lt. absurd (omega arith) | NoPlace ↦ λ lt. absurd (omega arith) | WrongShape ↦ λ lt. absurd (omega arith) | NotEqual ↦ λ lt. absurd (omega arith) | NotFresh ↦ λ lt. absurd (omega arith) | NotArith ↦ λ lt. absurd (omega arith) | IllSubst ↦ λ lt. absurd (omega arith) | FreeInSubst ↦ λ lt. absurd (omega arith) | NotAdmissible ↦ λ lt. absurd (omega arith) ];
+  first = elim [ NoFact ↦ λ lt. absurd (omega arith) | _ ↦ λ lt. absurd (omega arith) ];
 }
 
 pub no_goal_to_merge : (rows : List Provable) (fact goal by : ℕ) (p q : Provable) → At rows fact p → At rows by q → (¬ IsPlace p.goals goal) → Fault rows (Merge fact goal by) NoGoal
 no_goal_to_merge rows fact goal by p q h k n = record {
   against = (p, h, n);
-  first = elim [ NoFact ↦ λ lt a. facts_there rows fact by p q h k a | NoGoal ↦ λ lt. absurd (omega arith) | UnknownName ↦ λ lt. absurd (omega arith) | NoPlace ↦ λ lt. absurd (omega arith) | WrongShape ↦ λ lt. absurd (omega arith) | NotEqual ↦ λ lt. absurd (omega arith) | NotFresh ↦ λ lt. absurd (omega arith) | NotArith ↦ λ lt. absurd (omega arith) | IllSubst ↦ λ lt. absurd (omega arith) | FreeInSubst ↦ λ lt. absurd (omega arith) | NotAdmissible ↦ λ lt. absurd (omega arith) ];
+  first = elim [ NoFact ↦ λ lt a. facts_there rows fact by p q h k a | _ ↦ λ lt. absurd (omega arith) ];
 }
 
 pub other_goal : (rows : List Provable) (fact goal by : ℕ) (p q : Provable) (s : Sequent) → At rows fact p → At rows by q → At p.goals goal s → s ≢ q.conclusion → Fault rows (Merge fact goal by) NotEqual
 other_goal rows fact goal by p q s h k g n = record {
   against = (s, (p, h, g), (q, k, n));
-  first = elim [ NoFact ↦ λ lt a. facts_there rows fact by p q h k a | NoGoal ↦ λ lt a. goal_there rows fact goal s (p, h, g) a | UnknownName ↦ λ lt a. a | NoPlace ↦ λ lt a. a | WrongShape ↦ λ lt a. a | NotEqual ↦ λ lt. absurd (omega arith) | NotFresh ↦ λ lt. absurd (omega arith) | NotArith ↦ λ lt. absurd (omega arith) | IllSubst ↦ λ lt. absurd (omega arith) | FreeInSubst ↦ λ lt. absurd (omega arith) | NotAdmissible ↦ λ lt. absurd (omega arith) ];
+  first = elim [ NoFact ↦ λ lt a. facts_there rows fact by p q h k a | NoGoal ↦ λ lt a. goal_there rows fact goal s (p, h, g) a | UnknownName ↦ λ lt a. a | NoPlace ↦ λ lt a. a | WrongShape ↦ λ lt a. a | _ ↦ λ lt. absurd (omega arith) ];
 }
 
 -- the first reason against a substitution
 pub no_fact_to_substitute : (rows : List Provable) (fact : ℕ) (pairs : List Pair) → (¬ IsPlace rows fact) → Fault rows (Substitute fact pairs) NoFact
 no_fact_to_substitute rows fact pairs n = record {
   against = n;
-  first = elim [ NoFact ↦ λ lt. absurd (omega arith) | NoGoal ↦ λ lt. absurd (omega arith) | UnknownName ↦ λ lt. absurd (omega arith) | NoPlace ↦ λ lt. absurd (omega arith) | WrongShape ↦ λ lt. absurd (omega arith) | NotEqual ↦ λ lt. absurd (omega arith) | NotFresh ↦ λ lt. absurd (omega arith) | NotArith ↦ λ lt. absurd (omega arith) | IllSubst ↦ λ lt. absurd (omega arith) | FreeInSubst ↦ λ lt. absurd (omega arith) | NotAdmissible ↦ λ lt. absurd (omega arith) ];
+  first = elim [ NoFact ↦ λ lt. absurd (omega arith) | _ ↦ λ lt. absurd (omega arith) ];
 }
 
 pub ill_pairs : (rows : List Provable) (fact : ℕ) (pairs : List Pair) (p : Provable) → At rows fact p → (¬ (AreMade pairs × IsWellFormed pairs)) → Fault rows (Substitute fact pairs) IllSubst
 ill_pairs rows fact pairs p h n = record {
   against = n;
-  first = elim [ NoFact ↦ λ lt a. a (At_place rows fact p h) | NoGoal ↦ λ lt a. a | UnknownName ↦ λ lt a. a | NoPlace ↦ λ lt a. a | WrongShape ↦ λ lt a. a | NotEqual ↦ λ lt a. a | NotFresh ↦ λ lt a. a | NotArith ↦ λ lt a. a | IllSubst ↦ λ lt. absurd (omega arith) | FreeInSubst ↦ λ lt. absurd (omega arith) | NotAdmissible ↦ λ lt. absurd (omega arith) ];
+  first = elim [ NoFact ↦ λ lt a. a (At_place rows fact p h) | NoGoal ↦ λ lt a. a | UnknownName ↦ λ lt a. a | NoPlace ↦ λ lt a. a | WrongShape ↦ λ lt a. a | NotEqual ↦ λ lt a. a | NotFresh ↦ λ lt a. a | NotArith ↦ λ lt a. a | _ ↦ λ lt. absurd (omega arith) ];
 }
 
 pub free_with_goal : (rows : List Provable) (fact : ℕ) (pairs : List Pair) (p : Provable) → At rows fact p → AreMade pairs → IsWellFormed pairs → HasGoal p.goals → IsFreeIn pairs → Fault rows (Substitute fact pairs) FreeInSubst
 free_with_goal rows fact pairs p h made well g f = record {
   against = (p, h, g, f);
-  first = elim [ NoFact ↦ λ lt a. a (At_place rows fact p h) | NoGoal ↦ λ lt a. a | UnknownName ↦ λ lt a. a | NoPlace ↦ λ lt a. a | WrongShape ↦ λ lt a. a | NotEqual ↦ λ lt a. a | NotFresh ↦ λ lt a. a | NotArith ↦ λ lt a. a | IllSubst ↦ λ lt a. a (made, well) | FreeInSubst ↦ λ lt. absurd (omega arith) | NotAdmissible ↦ λ lt. absurd (omega arith) ];
+  first = elim [ NoFact ↦ λ lt a. a (At_place rows fact p h) | NoGoal ↦ λ lt a. a | UnknownName ↦ λ lt a. a | NoPlace ↦ λ lt a. a | WrongShape ↦ λ lt a. a | NotEqual ↦ λ lt a. a | NotFresh ↦ λ lt a. a | NotArith ↦ λ lt a. a | IllSubst ↦ λ lt a. a (made, well) | _ ↦ λ lt. absurd (omega arith) ];
 }
 
 pub nothing_made : (rows : List Provable) (fact : ℕ) (pairs : List Pair) (p : Provable) → At rows fact p → AreMade pairs → IsWellFormed pairs → (HasGoal p.goals → ¬ IsFreeIn pairs) →
     ((q : Provable) → ¬ Substitutes pairs p q) → Fault rows (Substitute fact pairs) NotAdmissible
 nothing_made rows fact pairs p h made well free n = record {
   against = (p, h, n);
-  first = elim [ NoFact ↦ λ lt a. a (At_place rows fact p h) | NoGoal ↦ λ lt a. a | UnknownName ↦ λ lt a. a | NoPlace ↦ λ lt a. a | WrongShape ↦ λ lt a. a | NotEqual ↦ λ lt a. a | NotFresh ↦ λ lt a. a | NotArith ↦ λ lt a. a | IllSubst ↦ λ lt a. a (made, well) | FreeInSubst ↦ λ lt a. free (subst (λ (x : Provable). HasGoal x.goals) (at_one rows fact a.0 p a.1 h) a.2) a.3 | NotAdmissible ↦ λ lt. absurd (omega arith) ];
+  first = elim [ NoFact ↦ λ lt a. a (At_place rows fact p h) | NoGoal ↦ λ lt a. a | UnknownName ↦ λ lt a. a | NoPlace ↦ λ lt a. a | WrongShape ↦ λ lt a. a | NotEqual ↦ λ lt a. a | NotFresh ↦ λ lt a. a | NotArith ↦ λ lt a. a | IllSubst ↦ λ lt a. a (made, well) | FreeInSubst ↦ λ lt a. free (subst (λ (x : Provable). HasGoal x.goals) (at_one rows fact a.0 p a.1 h) a.2) a.3 | _ ↦ λ lt. absurd (omega arith) ];
 }
 
 -- what a substitution makes is decided
@@ -365,16 +364,16 @@ has_goal (s ∷ ss) = yes tt
 free_and_goal : (pairs : List Pair) (p : Provable) → Dec (HasGoal p.goals × IsFreeIn pairs)
 free_and_goal pairs p = both (λ g f. (g, f)) (λ c. c.0) (λ c. c.1) (has_goal p.goals) (free_in_decided pairs)
 
-substitute_cases : (rows : List Provable) (fact : ℕ) (pairs : List Pair) → ((p : Provable) × Gives rows (Substitute fact pairs) p) ⊎ ((why : Reason) × Fault rows (Substitute fact pairs) why)
+substitute_cases : (rows : List Provable) (fact : ℕ) (pairs : List Pair) → ((p : Provable) × Gives rows (Substitute fact pairs) p) ⊎ ((why : Reason) × IsOfCalculus why × Fault rows (Substitute fact pairs) why)
 substitute_cases rows fact pairs =
     elim (place_cases rows fact) [
-      | inr n ↦ inr (NoFact, no_fact_to_substitute rows fact pairs n)
+      | inr n ↦ inr (NoFact, omega arith, no_fact_to_substitute rows fact pairs n)
       | inl p ↦ elim (good_pairs pairs) [
-        | no n ↦ inr (IllSubst, ill_pairs rows fact pairs p.0 p.1 n)
+        | no n ↦ inr (IllSubst, omega arith, ill_pairs rows fact pairs p.0 p.1 n)
         | yes good ↦ elim (free_and_goal pairs p.0) [
-          | yes f ↦ inr (FreeInSubst, free_with_goal rows fact pairs p.0 p.1 good.0 good.1 f.0 f.1)
+          | yes f ↦ inr (FreeInSubst, omega arith, free_with_goal rows fact pairs p.0 p.1 good.0 good.1 f.0 f.1)
           | no n ↦ elim (decided_provable pairs p.0) [
-            | no m ↦ inr (NotAdmissible, nothing_made rows fact pairs p.0 p.1 good.0 good.1 (λ g f. n (g, f)) (λ q h. m (q, h)))
+            | no m ↦ inr (NotAdmissible, omega arith, nothing_made rows fact pairs p.0 p.1 good.0 good.1 (λ g f. n (g, f)) (λ q h. m (q, h)))
             | yes q ↦ inl (q.0, substitute fact pairs p.0 q.0 p.1 good.0 good.1 (λ g f. n (g, f)) q.1)
           ]
         ]
@@ -386,23 +385,23 @@ is_among : (s : Sequent) (ss : List Sequent) → Dec (IsAmong s ss)
 is_among s [] = no (λ a. a)
 is_among s (t ∷ ss) = elim (same_sequent s t) [ yes e ↦ yes (inl e) | no n ↦ elim (is_among s ss) [ yes a ↦ yes (inr a) | no m ↦ no (λ a. elim a [ inl e ↦ n e | inr b ↦ m b ]) ] ]
 
-some_join : (old more : List Sequent) → (all : List Sequent) × Joins old more all
+pub some_join : (old more : List Sequent) → (all : List Sequent) × Joins old more all
 some_join old [] = (old, no_more)
 some_join old (s ∷ more) = elim (is_among s old) [
   | yes a ↦ let rest = some_join old more in (rest.0, there a rest.1)
   | no n ↦ let rest = some_join (old ++ s ∷ []) more in (rest.0, added n rest.1)
 ]
 
-merge_cases : (rows : List Provable) (fact goal by : ℕ) → ((p : Provable) × Gives rows (Merge fact goal by) p) ⊎ ((why : Reason) × Fault rows (Merge fact goal by) why)
+merge_cases : (rows : List Provable) (fact goal by : ℕ) → ((p : Provable) × Gives rows (Merge fact goal by) p) ⊎ ((why : Reason) × IsOfCalculus why × Fault rows (Merge fact goal by) why)
 merge_cases rows fact goal by =
     elim (place_cases rows fact) [
-      | inr n ↦ inr (NoFact, no_fact_to_merge rows fact goal by (λ h. n h.0))
+      | inr n ↦ inr (NoFact, omega arith, no_fact_to_merge rows fact goal by (λ h. n h.0))
       | inl p ↦ elim (place_cases rows by) [
-        | inr n ↦ inr (NoFact, no_fact_to_merge rows fact goal by (λ h. n h.1))
+        | inr n ↦ inr (NoFact, omega arith, no_fact_to_merge rows fact goal by (λ h. n h.1))
         | inl q ↦ elim (place_cases p.0.goals goal) [
-          | inr n ↦ inr (NoGoal, no_goal_to_merge rows fact goal by p.0 q.0 p.1 q.1 n)
+          | inr n ↦ inr (NoGoal, omega arith, no_goal_to_merge rows fact goal by p.0 q.0 p.1 q.1 n)
           | inl s ↦ elim (same_sequent s.0 q.0.conclusion) [
-            | no n ↦ inr (NotEqual, other_goal rows fact goal by p.0 q.0 s.0 p.1 q.1 s.1 n)
+            | no n ↦ inr (NotEqual, omega arith, other_goal rows fact goal by p.0 q.0 s.0 p.1 q.1 s.1 n)
             | yes e ↦ let joined = some_join p.0.leaves q.0.leaves in inl (merged p.0 goal q.0 joined.0, merge fact goal by p.0 q.0 joined.0 p.1 q.1 (s.1 ∙ ap Some e) joined.1)
           ]
         ]
@@ -411,57 +410,61 @@ merge_cases rows fact goal by =
 
 -- the first reason against a rule on a goal is that against its step
 module _ (rows : List Provable) (fact goal : ℕ) (rule : Rule) (s : Sequent) (g : IsGoal rows fact goal s) where
-  earlier_none : (why : Reason) → FirstAgainst rule s why → (earlier : Reason) → rank earlier < rank why → Against earlier rows (Apply fact goal rule) → ⊥
-  earlier_none why f NoFact lt a = fact_there rows fact goal s g a
-  earlier_none why f NoGoal lt a = goal_there rows fact goal s g a
-  earlier_none why f UnknownName lt a = a
-  earlier_none why f NoPlace lt a = goal_unless rows fact goal s (RuleAgainst NoPlace rule) g (f.first NoPlace lt) a
-  earlier_none why f WrongShape lt a = goal_unless rows fact goal s (RuleAgainst WrongShape rule) g (f.first WrongShape lt) a
-  earlier_none why f NotEqual lt a = goal_unless rows fact goal s (RuleAgainst NotEqual rule) g (f.first NotEqual lt) a
-  earlier_none why f NotFresh lt a = goal_unless rows fact goal s (RuleAgainst NotFresh rule) g (f.first NotFresh lt) a
-  earlier_none why f NotArith lt a = a
-  earlier_none why f NotAdmissible lt a = a
-  earlier_none why f FreeInSubst lt a = a
-  earlier_none why f IllSubst lt a = a
+  earlier_none : (why : Reason) → IsOfCalculus why → FirstAgainst rule s why → (earlier : Reason) → rank earlier < rank why → Against earlier rows (Apply fact goal rule) → ⊥
+  earlier_none why of f NoFact lt a = fact_there rows fact goal s g a
+  earlier_none why of f NoGoal lt a = goal_there rows fact goal s g a
+  earlier_none why of f NoPlace lt a = goal_unless rows fact goal s (RuleAgainst NoPlace rule) g (f.first NoPlace lt) a
+  earlier_none why of f WrongShape lt a = goal_unless rows fact goal s (RuleAgainst WrongShape rule) g (f.first WrongShape lt) a
+  earlier_none why of f NotEqual lt a = goal_unless rows fact goal s (RuleAgainst NotEqual rule) g (f.first NotEqual lt) a
+  earlier_none why of f NotFresh lt a = goal_unless rows fact goal s (RuleAgainst NotFresh rule) g (f.first NotFresh lt) a
+  earlier_none why of f TooBig lt a = absurd (omega (arith, lt, of))
+  earlier_none why of f TooDeep lt a = absurd (omega (arith, lt, of))
+  earlier_none why of f SideFull lt a = absurd (omega (arith, lt, of))
+  earlier_none why of f GoalsFull lt a = absurd (omega (arith, lt, of))
+  earlier_none why of f LeavesFull lt a = absurd (omega (arith, lt, of))
+  earlier_none why of f LinesFull lt a = absurd (omega (arith, lt, of))
+  earlier_none why of f _ lt a = a
 
   against_step : (why : Reason) → RuleAgainst why rule s → Against why rows (Apply fact goal rule)
-  against_step NoFact a = absurd a
-  against_step NoGoal a = absurd a
-  against_step UnknownName a = absurd a
   against_step NoPlace a = (s, g, a)
   against_step WrongShape a = (s, g, a)
   against_step NotEqual a = (s, g, a)
   against_step NotFresh a = (s, g, a)
-  against_step NotArith a = absurd a
-  against_step NotAdmissible a = absurd a
-  against_step FreeInSubst a = absurd a
-  against_step IllSubst a = absurd a
+  against_step _ a = absurd a
+
+  -- none of the limits speaks against a rule
+  of_calculus : (why : Reason) → RuleAgainst why rule s → IsOfCalculus why
+  of_calculus NoPlace a = omega arith
+  of_calculus WrongShape a = omega arith
+  of_calculus NotEqual a = omega arith
+  of_calculus NotFresh a = omega arith
+  of_calculus _ a = absurd a
 
   pub rule_fault : (why : Reason) → FirstAgainst rule s why → Fault rows (Apply fact goal rule) why
-  rule_fault why f = record { against = against_step why f.against; first = earlier_none why f }
+  rule_fault why f = record { against = against_step why f.against; first = earlier_none why (of_calculus why f.against) f }
 
 not_false : (b : Bool) → (¬ (b ≡ false)) → IsTrue b
 not_false true n = refl
 not_false false n = absurd (n refl)
 
--- a step gives something, or there is a first reason against it
-pub step_cases : (rows : List Provable) (step : Step) → ((p : Provable) × Gives rows step p) ⊎ ((why : Reason) × Fault rows step why)
-step_cases rows (Start s) = elim (is_sequent s) [ yes h ↦ inl (started s, start s h) | no n ↦ inr (WrongShape, no_formulas rows s n) ]
+-- a rule of the calculus gives something, or there is a first reason why none does
+pub step_cases : (rows : List Provable) (step : Step) → ((p : Provable) × Gives rows step p) ⊎ ((why : Reason) × IsOfCalculus why × Fault rows step why)
+step_cases rows (Start s) = elim (is_sequent s) [ yes h ↦ inl (started s, start s h) | no n ↦ inr (WrongShape, omega arith, no_formulas rows s n) ]
 step_cases rows (UseAxiom name) = axiom_cases rows name (axiom_named name) refl
 step_cases rows (UseRule name) = rule_step_cases rows name (rule_named name) refl
 step_cases rows (Leaf s) =
     elim (is_sequent s) [
-      | no n ↦ inr (WrongShape, no_formulas_leaf rows s n)
-      | yes h ↦ elim (is_false (is_arithmetic_sequent s)) [ yes n ↦ inr (NotArith, no_arithmetic rows s h n) | no n ↦ inl (assumed s, leaf s h (not_false (is_arithmetic_sequent s) n)) ]
+      | no n ↦ inr (WrongShape, omega arith, no_formulas_leaf rows s n)
+      | yes h ↦ elim (is_false (is_arithmetic_sequent s)) [ yes n ↦ inr (NotArith, omega arith, no_arithmetic rows s h n) | no n ↦ inl (assumed s, leaf s h (not_false (is_arithmetic_sequent s) n)) ]
     ]
 step_cases rows (Apply fact goal rule) =
     elim (place_cases rows fact) [
-      | inr n ↦ inr (NoFact, no_fact rows fact goal rule n)
+      | inr n ↦ inr (NoFact, omega arith, no_fact rows fact goal rule n)
       | inl p ↦ elim (place_cases p.0.goals goal) [
-        | inr n ↦ inr (NoGoal, no_goal rows fact goal rule p.0 p.1 n)
+        | inr n ↦ inr (NoGoal, omega arith, no_goal rows fact goal rule p.0 p.1 n)
         | inl s ↦ elim (rule_cases rule s.0) [
           | inl m ↦ inl (applied p.0 goal m.0, apply fact goal rule p.0 s.0 m.0 p.1 s.1 m.1)
-          | inr f ↦ inr (f.0, rule_fault rows fact goal rule s.0 (p.0, p.1, s.1) f.0 f.1)
+          | inr f ↦ inr (f.0, of_calculus rows fact goal rule s.0 (p.0, p.1, s.1) f.0 f.1.against, rule_fault rows fact goal rule s.0 (p.0, p.1, s.1) f.0 f.1)
         ]
       ]
     ]
@@ -469,6 +472,6 @@ step_cases rows (Merge fact goal by) = merge_cases rows fact goal by
 step_cases rows (Substitute fact pairs) = substitute_cases rows fact pairs
 step_cases rows (Rename fact x y) =
     elim (place_cases rows fact) [
-      | inr n ↦ inr (NoFact, no_fact_to_rename rows fact x y n)
-      | inl p ↦ elim (are_names x y) [ yes h ↦ inl (renamed x y p.0, rename fact x y p.0 p.1 h) | no n ↦ inr (WrongShape, no_names rows fact x y p.0 p.1 n) ]
+      | inr n ↦ inr (NoFact, omega arith, no_fact_to_rename rows fact x y n)
+      | inl p ↦ elim (are_names x y) [ yes h ↦ inl (renamed x y p.0, rename fact x y p.0 p.1 h) | no n ↦ inr (WrongShape, omega arith, no_names rows fact x y p.0 p.1 n) ]
     ]

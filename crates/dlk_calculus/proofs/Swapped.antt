@@ -1,5 +1,5 @@
 -- Exchanging names keeps what fits, formulas and sequents.
-use Rattle.std.proofs.Common.{◌≡◌, refl, sym, ap, subst, ◌∙◌, ℕ, List, [], ◌∷◌, ◌++◌, map, length, replicate, Bool, true, false, ◌&&◌, ◌||◌, not, ◌==◌, cond, Option, None, Some}
+use Rattle.std.proofs.Common.{◌≡◌, refl, sym, ap, subst, ◌∙◌, ℕ, ◌+◌, max, List, [], ◌∷◌, ◌++◌, map, length, replicate, Bool, true, false, ◌&&◌, ◌||◌, not, ◌==◌, cond, Option, None, Some}
 use Rattle.std.specs.Prelude.{All, IsTrue, nat_le, is_none, option_map}
 use Rattle.std.specs.List.{list_all, list_any}
 use Rattle.std.specs.Str.{bytes_eq}
@@ -18,7 +18,7 @@ use Rattle.dlk_tree.specs.declared.op.Op.TheVariants as Op'
 use Rattle.dlk_tree.specs.Names.{is_name}
 use Rattle.dlk_tree.specs.Tests.{kind_rank}
 use Rattle.dlk_tree.specs.Table.{taboo_is_name, has_arity, may_have_taboo, is_sym, is_sym_of, is_item, evolved, all_distinct, are_items, sort_of, kid_sorts, has_parts, Fits}
-use Rattle.dlk_tree.specs.Trees.{Tree, node, Forest, no_kids, kid, sort, sorts, WellMade, AllWellMade}
+use Rattle.dlk_tree.specs.Trees.{Tree, node, Forest, no_kids, kid, sort, sorts, size, size_all, depth, depth_all, WellMade, AllWellMade}
 use Rattle.dlk_tree.specs.Occurs.{has, any_has, is_some_dot, is_hole}
 use Rattle.dlk_calculus.specs.Sequents.{Sequent, IsFormula, IsSequent}
 use Rattle.dlk_calculus.specs.Provables.{swap_sequent}
@@ -110,6 +110,22 @@ module _ (x y : List ℕ) where
   pub swap_sorts : (ts : Forest) → sorts (swap_all x y ts) ≡ sorts ts
   swap_sorts no_kids = refl
   swap_sorts (kid t rest) = let a = swap_sort t in let b = swap_sorts rest in λ i. a i ∷ b i
+
+  mutual
+    pub swap_size : (t : Tree) → size (swap x y t) ≡ size t
+    swap_size (node op kids) = ap (λ n. 1 + n) (swap_size_all kids)
+
+    swap_size_all : (ts : Forest) → size_all (swap_all x y ts) ≡ size_all ts
+    swap_size_all no_kids = refl
+    swap_size_all (kid t rest) = let a = swap_size t in let b = swap_size_all rest in λ i. a i + b i
+
+  mutual
+    pub swap_depth : (t : Tree) → depth (swap x y t) ≡ depth t
+    swap_depth (node op kids) = ap (λ n. 1 + n) (swap_depth_all kids)
+
+    swap_depth_all : (ts : Forest) → depth_all (swap_all x y ts) ≡ depth_all ts
+    swap_depth_all no_kids = refl
+    swap_depth_all (kid t rest) = let a = swap_depth t in let b = swap_depth_all rest in λ i. max (a i) (b i)
 
   -- Of two names that are ones, operators that fit stay so:
   module _ (real_x : IsTrue (is_name x)) (real_y : IsTrue (is_name y)) where

@@ -14,4 +14,5 @@ pub mod RuleExamples
 pub mod Notation
 pub mod Axioms
 pub mod Provables
+pub mod Limits
 pub mod Steps

@@ -7,7 +7,7 @@ use Rattle.dlk_tree.specs.Names.{is_name}
 use Rattle.dlk_tree.specs.Trees.{Tree, node, no_kids, kid, root}
 use Rattle.dlk_tree.specs.Statics.{free, plain}
 use Rattle.dlk_calculus.specs.declared.reason.Reason.{Reason}
-use Rattle.dlk_calculus.specs.declared.reason.Reason.TheVariants.{NoFact, NoGoal, UnknownName, NoPlace, WrongShape, NotEqual, NotFresh, NotArith, IllSubst, FreeInSubst, NotAdmissible}
+use Rattle.dlk_calculus.specs.declared.reason.Reason.TheVariants.{NoPlace, WrongShape, NotEqual, NotFresh}
 use Rattle.dlk_calculus.specs.Reasons.{rank}
 use Rattle.dlk_calculus.specs.Kids.{first, later}
 use Rattle.dlk_calculus.specs.Places.{IsPlace, put, without_place}
@@ -244,17 +244,11 @@ pub record Premises (rule : Rule) (s : Sequent) (premises : List Sequent) : Type
 
 -- What speaks against a rule on a sequent. One row a reason.
 abbrev pub RuleAgainst : Reason → Rule → Sequent → Type 0
-RuleAgainst NoFact rule s = ⊥
-RuleAgainst NoGoal rule s = ⊥
-RuleAgainst UnknownName rule s = ⊥
 RuleAgainst NoPlace rule s = ¬ (figure rule s).places
 RuleAgainst WrongShape rule s = ¬ (figure rule s).shape
 RuleAgainst NotEqual rule s = ¬ (figure rule s).equals
 RuleAgainst NotFresh rule s = ¬ (figure rule s).fresh
-RuleAgainst NotArith rule s = ⊥
-RuleAgainst IllSubst rule s = ⊥
-RuleAgainst FreeInSubst rule s = ⊥
-RuleAgainst NotAdmissible rule s = ⊥
+RuleAgainst _ rule s = ⊥
 
 -- the first reason against the rule
 pub record FirstAgainst (rule : Rule) (s : Sequent) (why : Reason) : Type 0 where

@@ -1,8 +1,9 @@
 -- Steps of a proof: what each gives, what speaks against it, and what is derived.
-use Rattle.std.specs.Prelude.{◌≡◌, ◌≢◌, ℕ, ◌<◌, List, [], ◌∷◌, ◌++◌, take, Some, None, slice_get, false, IsTrue}
+use Rattle.std.specs.Prelude.{◌≡◌, ◌≢◌, ℕ, ◌<◌, ◌≤◌, List, [], ◌∷◌, ◌++◌, take, length, Some, None, slice_get, false, IsTrue, All}
+use Rattle.dlk_tree.specs.Trees.{Tree}
 use Rattle.dlk_tree.specs.Names.{is_name}
 use Rattle.dlk_calculus.specs.declared.reason.Reason.{Reason}
-use Rattle.dlk_calculus.specs.declared.reason.Reason.TheVariants.{NoFact, NoGoal, UnknownName, NoPlace, WrongShape, NotEqual, NotFresh, NotArith, IllSubst, FreeInSubst, NotAdmissible}
+use Rattle.dlk_calculus.specs.declared.reason.Reason.TheVariants.{NoFact, NoGoal, UnknownName, NoPlace, WrongShape, NotEqual, NotFresh, NotArith, IllSubst, FreeInSubst, NotAdmissible, TooBig, TooDeep, SideFull, GoalsFull, LeavesFull, LinesFull}
 use Rattle.dlk_calculus.specs.Reasons.{rank}
 use Rattle.dlk_calculus.specs.Axioms.{Axiom, AxiomaticRule, axiom_named, rule_named}
 use Rattle.dlk_calculus.specs.Arithmetic.{is_arithmetic_sequent}
@@ -10,6 +11,7 @@ use Rattle.dlk_calculus.specs.Pairs.{Pair, IsFreeIn, IsWellFormed, AreMade}
 use Rattle.dlk_calculus.specs.Places.{At, IsPlace}
 use Rattle.dlk_calculus.specs.Sequents.{Sequent, IsSequent}
 use Rattle.dlk_calculus.specs.Rules.{Rule, Premises, RuleAgainst}
+use Rattle.dlk_calculus.specs.Limits.{most_goals, most_leaves, most_rows, IsSmall, IsShallow, InProvable, HasFewFormulas}
 use Rattle.dlk_calculus.specs.Provables.{Provable, started, known, inferred, assumed, applied, Joins, merged, HasGoal, Substitutes, renamed}
 
 -- a step, which names earlier rows and their goals by their numbers
@@ -66,8 +68,39 @@ IsGoal rows fact goal s = (p : Provable) × At rows fact p × At p.goals goal s
 abbrev pub OfGoal : List Provable → ℕ → ℕ → (Sequent → Type 0) → Type 0
 OfGoal rows fact goal P = (s : Sequent) × IsGoal rows fact goal s × P s
 
+-- each formula of the new conclusion and the new goals, and each replacement, has this, where the step makes any
+abbrev pub EachNew : (Tree → Type 0) → Step → Provable → Type 0
+EachNew P (Start s) p = InProvable P p
+EachNew P (Leaf s) p = InProvable P p
+EachNew P (Apply fact goal rule) p = InProvable P p
+EachNew P (Substitute fact pairs) p = All (λ pair. P pair.by) pairs × InProvable P p
+EachNew P _ p = Unit {0}
+
+-- Exceeds why step p: p, which a rule of the calculus gives, is past this limit. For each limit the steps for which it counts.
+abbrev pub Exceeds : Reason → Step → Provable → Type 0
+Exceeds TooBig step p = ¬ EachNew IsSmall step p
+Exceeds TooDeep step p = ¬ EachNew IsShallow step p
+Exceeds SideFull (Start s) p = ¬ HasFewFormulas p.conclusion
+Exceeds SideFull (Leaf s) p = ¬ HasFewFormulas p.conclusion
+Exceeds SideFull (Apply fact goal rule) p = ¬ All HasFewFormulas p.goals
+Exceeds SideFull _ p = ⊥
+Exceeds GoalsFull (Apply fact goal rule) p = most_goals < length p.goals
+Exceeds GoalsFull (Merge fact goal by) p = most_goals < length p.goals
+Exceeds GoalsFull _ p = ⊥
+Exceeds LeavesFull (Merge fact goal by) p = most_leaves < length p.leaves
+Exceeds LeavesFull _ p = ⊥
+Exceeds _ _ p = ⊥
+
+-- no limit is exceeded
+abbrev pub IsWithin : Step → Provable → Type 0
+IsWithin step p = (why : Reason) → ¬ Exceeds why step p
+
+-- by a rule of the calculus the step gives what is past this limit
+abbrev pub GivesTooMuch : Reason → List Provable → Step → Type 0
+GivesTooMuch why rows step = (p : Provable) × Gives rows step p × Exceeds why step p
+
 -- What speaks against a step: for each reason the steps for which it counts, and no others. That a step gives something wherever nothing
--- speaks against it is a law, so a row that is forgotten here is found.
+-- speaks against it is a law, so a row that is forgotten here is found. The last six are the limits.
 abbrev pub Against : Reason → List Provable → Step → Type 0
 Against NoFact rows (Apply fact goal rule) = ¬ IsPlace rows fact
 Against NoFact rows (Merge fact goal by) = ¬ (IsPlace rows fact × IsPlace rows by)
@@ -100,6 +133,12 @@ Against FreeInSubst rows (Substitute fact pairs) = (p : Provable) × At rows fac
 Against FreeInSubst rows _ = ⊥
 Against NotAdmissible rows (Substitute fact pairs) = (p : Provable) × At rows fact p × ((q : Provable) → ¬ Substitutes pairs p q)
 Against NotAdmissible rows _ = ⊥
+Against TooBig rows step = GivesTooMuch TooBig rows step
+Against TooDeep rows step = GivesTooMuch TooDeep rows step
+Against SideFull rows step = GivesTooMuch SideFull rows step
+Against GoalsFull rows step = GivesTooMuch GoalsFull rows step
+Against LeavesFull rows step = GivesTooMuch LeavesFull rows step
+Against LinesFull rows step = most_rows ≤ length rows
 
 -- the first reason against the step
 pub record Fault (rows : List Provable) (step : Step) (why : Reason) : Type 0 where

@@ -8,6 +8,8 @@ ghost use Rattle.dlk_calculus.specs.declared.reason.Reason.{Reason as TheReason}
 ghost use Rattle.dlk_calculus.specs.Axioms.{Axiom, AxiomaticRule, axioms, axiomatic_rules};
 ghost use Rattle.dlk_calculus.specs.Sequents.{IsFormula};
 ghost use Rattle.dlk_calculus.specs.Provables.{Provable, HasFormulas, HasLeaves};
+ghost use Rattle.dlk_calculus.specs.Reasons.{IsOfCalculus};
+ghost use Rattle.dlk_calculus.specs.Limits.{IsLimited};
 ghost use Rattle.dlk_calculus.specs.Steps.{Step, Gives, Against, History, Derives, Fault, StepOf};
 
 /// A replacement has at most one result with given arguments.
@@ -46,10 +48,17 @@ pub fn one_fault()
     ensures { (rows : List Provable) (step : Step) (why other : TheReason) → Fault rows step why → Fault rows step other → why ≡ other }
 {}
 
-/// A rule of the calculus gives something exactly where nothing speaks against the step.
+/// A step is taken exactly where nothing speaks against it. A rule of the calculus gives something exactly where nothing but a
+/// limit does.
 pub fn given_unless_against()
-    ensures given { (rows : List Provable) (step : Step) (p : Provable) (why : TheReason) → Gives rows step p → Against why rows step → ⊥ }
-    ensures against { (rows : List Provable) (step : Step) → ((p : Provable) × Gives rows step p) ⊎ ((why : TheReason) × Fault rows step why) }
+    ensures given { (rows : List Provable) (step : Step) (p : Provable) (why : TheReason) → IsOfCalculus why → Gives rows step p → Against why rows step → ⊥ }
+    ensures against { (rows : List Provable) (step : Step) → ((p : Provable) × StepOf rows step p) ⊎ ((why : TheReason) × Fault rows step why) }
+    ensures limits { (rows : List Provable) (step : Step) (why : TheReason) → (IsOfCalculus why → ⊥) → Fault rows step why → (p : Provable) × Gives rows step p }
+{}
+
+/// What is taken from rows within the limits is within them.
+pub fn steps_keep_limits()
+    ensures { (rows : List Provable) (step : Step) (p : Provable) → All IsLimited rows → StepOf rows step p → IsLimited p }
 {}
 
 /// Each row of a history is derived.

@@ -1,4 +1,5 @@
-/// Why a step is no step of the calculus, in the order in which it is looked for.
+/// Why a step isn't taken, in the order in which it is looked for: the reasons why it is no step of the calculus, and
+/// behind them the limits.
 #[derive(Clone, Copy, Debug, PartialEq, Eq)]
 pub enum Reason {
     /// The number of a fact is that of no row.
@@ -23,4 +24,16 @@ pub enum Reason {
     FreeInSubst,
     /// The substitution makes nothing of the conclusion or of a goal.
     NotAdmissible,
+    /// A formula that is given or made, or a replacement, has more than 65,536 nodes.
+    TooBig,
+    /// One of these is deeper than 1,000.
+    TooDeep,
+    /// A side of a new sequent has more than 256 formulas.
+    SideFull,
+    /// There would be more than 256 goals.
+    GoalsFull,
+    /// There would be more than 1,024 leaves.
+    LeavesFull,
+    /// There are 400,000 rows.
+    LinesFull,
 }

@@ -1,5 +1,6 @@
 -- What tokens say, and why they say nothing.
 use Rattle.std.specs.Prelude.{◌≡◌, ℕ, ◌+◌, ◌-◌, ◌<◌, ◌≤◌, min, Bool, true, false, List, [], ◌∷◌, ◌++◌, length, map, fold, All, Some, flat_map, if◌then◌else◌}
+use Rattle.dlk_calculus.specs.Limits.{most_nodes, greatest_depth}
 use Rattle.dlk_tree.specs.Trees.{Tree, size, depth}
 use Rattle.dlk_calculus.specs.Sequents.{Sequent as TreeSequent}
 use Rattle.dlk_grammar.specs.declared.token.Token.{Token}
@@ -96,12 +97,6 @@ pub record FirstPast (measure : Tree → ℕ) (limit : ℕ) (trees : List Tree) 
   pub past : limit < measure tree
   pub first : All (λ t. measure t ≤ limit) before
   pub number : n ≡ min (measure tree) 4294967295
-
-abbrev pub most_nodes : ℕ
-most_nodes = 65536
-
-abbrev pub greatest_depth : ℕ
-greatest_depth = 1000
 
 -- why tokens aren't read
 pub data ReadFault : Type 0 where

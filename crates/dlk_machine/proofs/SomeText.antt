@@ -18,7 +18,8 @@ use Rattle.dlk_grammar.specs.Lexemes.{Lexeme, lexemes}
 use Rattle.dlk_grammar.specs.Phrases.{Phrase}
 use Rattle.dlk_grammar.specs.Grammar.{Sides, ReadsSequent}
 use Rattle.dlk_grammar.specs.Erased.{erase, ills, lowest}
-use Rattle.dlk_grammar.specs.Readings.{Says, FirstAt, IsLong, bracket_level, opens, OpensTooDeep, FirstPast, most_nodes, greatest_depth, ReadFault, Literal, Nesting, Syntax, Shape, TooBig, TooDeep, fault_rank, SpeaksAgainst, IsReadFault, IsRead, grammar, itself, both_sides, erase_sides}
+use Rattle.dlk_calculus.specs.Limits.{most_nodes, greatest_depth}
+use Rattle.dlk_grammar.specs.Readings.{Says, FirstAt, IsLong, bracket_level, opens, OpensTooDeep, FirstPast, ReadFault, Literal, Nesting, Syntax, Shape, TooBig, TooDeep, fault_rank, SpeaksAgainst, IsReadFault, IsRead, grammar, itself, both_sides, erase_sides}
 use Rattle.dlk_grammar.specs.Substitutions.{PairPhrase, ReadsSubstitution, replacements, erase_pairs}
 use Rattle.dlk_grammar.specs.Texts.{TreeText, SequentText, PairsText, Unread, TreeTextFault, SequentTextFault, PairsTextFault}
 use Rattle.dlk_machine.proofs.Parse.{parse}

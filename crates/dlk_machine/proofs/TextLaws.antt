@@ -23,7 +23,8 @@ use Rattle.dlk_grammar.specs.Lexemes.{Lexeme, lexeme_of, lexeme_of_mark, lexemes
 use Rattle.dlk_grammar.specs.Phrases.{Phrase, Phrases, none, snoc}
 use Rattle.dlk_grammar.specs.Grammar.{formula, term, prog, Sides, Turned, ReadsSequent}
 use Rattle.dlk_grammar.specs.Erased.{erase, ills, ills_of_all, lowest}
-use Rattle.dlk_grammar.specs.Readings.{Says, FirstAt, IsLong, OpensTooDeep, TokenAt, FirstPast, most_nodes, greatest_depth, ReadFault, Literal, Nesting, Syntax, Shape, TooBig, TooDeep, fault_rank, SpeaksAgainst, IsReadFault, IsRead, grammar, itself, IsTree, IsTreeFault, phrases_in, both_sides, erase_sides, IsSequentOf, IsSequentFault}
+use Rattle.dlk_calculus.specs.Limits.{most_nodes, greatest_depth}
+use Rattle.dlk_grammar.specs.Readings.{Says, FirstAt, IsLong, OpensTooDeep, TokenAt, FirstPast, ReadFault, Literal, Nesting, Syntax, Shape, TooBig, TooDeep, fault_rank, SpeaksAgainst, IsReadFault, IsRead, grammar, itself, IsTree, IsTreeFault, phrases_in, both_sides, erase_sides, IsSequentOf, IsSequentFault}
 use Rattle.dlk_grammar.specs.Substitutions.{PairPhrase, ReadsSubstitution, replacements, erase_pairs, ArePairs, ArePairsFault}
 use Rattle.dlk_grammar.specs.Texts.{TreeText, SequentText, PairsText, TextFault, BadByte, Unread, TreeTextFault, SequentTextFault, PairsTextFault}
 use Rattle.dlk_grammar.proofs.Splitting.{one_split, bad_is_no_split, one_bad}

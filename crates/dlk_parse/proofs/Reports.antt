@@ -8,7 +8,8 @@ use Rattle.dlk_grammar.specs.declared.token.Dots.{Dots}
 use Rattle.dlk_grammar.specs.Lexemes.{Lexeme, lexemes}
 use Rattle.dlk_grammar.specs.Phrases.{Phrase}
 use Rattle.dlk_grammar.specs.Erased.{erase, ills, lowest}
-use Rattle.dlk_grammar.specs.Readings.{Says, FirstPast, most_nodes, greatest_depth, ReadFault, Literal, Nesting, Syntax, Shape, TooBig, TooDeep, fault_rank, SpeaksAgainst, IsReadFault}
+use Rattle.dlk_calculus.specs.Limits.{most_nodes, greatest_depth}
+use Rattle.dlk_grammar.specs.Readings.{Says, FirstPast, ReadFault, Literal, Nesting, Syntax, Shape, TooBig, TooDeep, fault_rank, SpeaksAgainst, IsReadFault}
 use Rattle.dlk_parse.specs.Faults.{IsFaultOf}
 use Rattle.dlk_parse.specs.Limits.{AreCalm, IsUnruly, AreWithin, IsBeyond}
 use Rattle.dlk_parse.specs.Said.{IsNoText}

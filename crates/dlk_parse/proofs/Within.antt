@@ -10,7 +10,8 @@ use Rattle.dlk_tree.specs.Trees.{Tree, size, depth}
 use Rattle.dlk_grammar.specs.declared.token.Token.{Token}
 use Rattle.dlk_grammar.specs.Phrases.{Phrase}
 use Rattle.dlk_grammar.specs.Erased.{erase, ills, lowest}
-use Rattle.dlk_grammar.specs.Readings.{TokenAt, FirstPast, most_nodes, greatest_depth}
+use Rattle.dlk_calculus.specs.Limits.{most_nodes, greatest_depth}
+use Rattle.dlk_grammar.specs.Readings.{TokenAt, FirstPast}
 use Rattle.dlk_parse.specs.Measures.{measure, AreMeasures}
 use Rattle.dlk_parse.specs.Measuring.{lesser}
 use Rattle.dlk_parse.specs.Limits.{least_ill, past, IsAmong, KnowsWithin, KnowsBeyond}

@@ -5,7 +5,8 @@ use Rattle.dlk_grammar.specs.declared.token.Token.{Token}
 use Rattle.dlk_grammar.specs.declared.token.TokenKind.{TokenKind}
 use Rattle.dlk_grammar.specs.Phrases.{Phrase}
 use Rattle.dlk_grammar.specs.Erased.{erase, ills, lowest}
-use Rattle.dlk_grammar.specs.Readings.{FirstAt, IsLong, OpensTooDeep, TokenAt, FirstPast, most_nodes, greatest_depth}
+use Rattle.dlk_calculus.specs.Limits.{most_nodes, greatest_depth}
+use Rattle.dlk_grammar.specs.Readings.{FirstAt, IsLong, OpensTooDeep, TokenAt, FirstPast}
 use Rattle.dlk_parse.specs.Measures.{measure}
 use Rattle.dlk_parse.specs.Measuring.{lesser}
 use Rattle.dlk_parse.specs.declared.fault.ParseFault.{ParseFault}

@@ -1,7 +1,8 @@
 //! Whether tokens and what they say are within the limits.
 ghost use Rattle.std.specs.Prelude.{◌≡◌, ◌≤◌, ◌↔◌, IsTrue, true, IfSome, IfNone, MatchResult, map};
 ghost use Rattle.dlk_grammar.specs.declared.token.TokenKind.TheVariants.{LongNumber};
-ghost use Rattle.dlk_grammar.specs.Readings.{opens, closes, level_behind, FirstAt, IsLong, OpensTooDeep, most_nodes, greatest_depth};
+ghost use Rattle.dlk_calculus.specs.Limits.{most_nodes, greatest_depth};
+ghost use Rattle.dlk_grammar.specs.Readings.{opens, closes, level_behind, FirstAt, IsLong, OpensTooDeep};
 ghost use Rattle.dlk_parse.specs.Limits.{HasNone, least_ill, past, KnowsWithin, KnowsBeyond, IsAmong, AreCalm, IsUnruly};
 ghost use Rattle.dlk_parse.specs.Said.{HasPlaces, IsWithin, IsCodeBeyond};
 

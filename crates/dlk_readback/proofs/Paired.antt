@@ -17,7 +17,7 @@ use Rattle.dlk_grammar.specs.Lexemes.{Lexeme, Comma, Becomes, lexemes}
 use Rattle.dlk_grammar.specs.Phrases.{System, Truth, Everywhere, Except}
 use Rattle.dlk_grammar.specs.Grammar.{formula, term, prog}
 use Rattle.dlk_grammar.specs.Erased.{erase, ills, symbol}
-use Rattle.dlk_grammar.specs.Readings.{most_nodes, greatest_depth}
+use Rattle.dlk_calculus.specs.Limits.{most_nodes, greatest_depth}
 use Rattle.dlk_grammar.specs.Substitutions.{function, predicate, PairPhrase, to, ReadsPair, pair-formula, pair-term, pair-function, pair-context, pair-program, pair-flow, pair-flow-except, ReadsPairs, pairs-one, pairs-more, ReadsSubstitution, subst-nothing, subst-pairs, replacements, erase_pairs}
 use Rattle.dlk_grammar.specs.Texts.{PairsText}
 use Rattle.dlk_grammar.specs.Shown.{Piece, space, mark as the_mark, word, spell, shown, ode_brackets}

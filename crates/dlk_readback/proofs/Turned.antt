@@ -13,7 +13,8 @@ use Rattle.dlk_grammar.specs.Lexemes.{Lexeme, Turnstile, lexemes}
 use Rattle.dlk_grammar.specs.Phrases.{Phrases, none, snoc}
 use Rattle.dlk_grammar.specs.Grammar.{formula, ReadsSide, side-nothing, side-list, Turned, ReadsSequent, sequent-sides}
 use Rattle.dlk_grammar.specs.Erased.{erase, erase_all, ills, ills_of_all}
-use Rattle.dlk_grammar.specs.Readings.{phrases_in, both_sides, erase_sides, most_nodes, greatest_depth}
+use Rattle.dlk_calculus.specs.Limits.{most_nodes, greatest_depth}
+use Rattle.dlk_grammar.specs.Readings.{phrases_in, both_sides, erase_sides}
 use Rattle.dlk_grammar.specs.Texts.{SequentText}
 use Rattle.dlk_grammar.specs.Shown.{Piece, space, mark as the_mark, spell, shown, formulas, left_side, right_side, shown_sequent}
 use Rattle.dlk_machine.proofs.ParseLaws.{one_sides_read}

@@ -14,7 +14,8 @@ use Rattle.dlk_grammar.specs.Lexemes.{Lexeme, lexeme_of, lexemes_from, lexemes}
 use Rattle.dlk_grammar.specs.Phrases.{Phrase}
 use Rattle.dlk_grammar.specs.Grammar.{formula, term, prog, Reads, as-formula, as-program, as-term}
 use Rattle.dlk_grammar.specs.Erased.{erase, ills, lowest}
-use Rattle.dlk_grammar.specs.Readings.{Says, SpeaksAgainst, Literal, Nesting, Syntax, Shape, TooBig, TooDeep, ReadFault, FirstPast, IsRead, grammar, itself, most_nodes, greatest_depth}
+use Rattle.dlk_calculus.specs.Limits.{most_nodes, greatest_depth}
+use Rattle.dlk_grammar.specs.Readings.{Says, SpeaksAgainst, Literal, Nesting, Syntax, Shape, TooBig, TooDeep, ReadFault, FirstPast, IsRead, grammar, itself}
 use Rattle.dlk_grammar.specs.Texts.{TreeText}
 use Rattle.dlk_grammar.specs.Shown.{Piece, one, space, spell, shown}
 use Rattle.dlk_grammar.specs.Symbols.{is_formula_too}

@@ -1,5 +1,5 @@
 use Rattle.std.proofs.Common.{◌≡◌, drop, map}
-use Rattle.dlk_grammar.specs.Readings.{greatest_depth}
+use Rattle.dlk_calculus.specs.Limits.{greatest_depth}
 use Rattle.dlk_parse.specs.Limits.{past}
 use Rattle.dlk_parse.proofs.limits.first_depth.Given as goal
 

@@ -1,0 +1,333 @@
+-- The limits: what exceeds one is refused for it, and what none refuses is within them.
+use Rattle.std.proofs.Common.{◌≡◌, ℕ, suc, ◌<◌, ◌≤◌, ◌-◌, List, [], ◌∷◌, length, map, refl, ap, subst, arith, ◌⊎◌, inl, inr}
+use Rattle.std.specs.List.{All}
+use Rattle.std.proofs.lemmas.Bool.{cases_lt}
+use Rattle.std.proofs.lemmas.List.{length-map}
+use Rattle.std.proofs.lemmas.List.Elements.{All-head, All-tail, All-cons, All-nil, All-append, All-take, All-drop}
+use Rattle.dlk_calculus.specs.declared.reason.Reason.{Reason}
+use Rattle.dlk_calculus.specs.declared.reason.Reason.TheVariants.{NotAdmissible, TooBig, TooDeep, SideFull, GoalsFull, LeavesFull, LinesFull}
+use Rattle.dlk_calculus.specs.Reasons.{rank}
+use Rattle.dlk_tree.specs.Trees.{Tree, size, depth}
+use Rattle.dlk_calculus.specs.Rename.{swap}
+use Rattle.dlk_calculus.specs.Pairs.{Pair}
+use Rattle.dlk_calculus.specs.Places.{put_all}
+use Rattle.dlk_calculus.specs.Sequents.{Sequent, alone_right}
+use Rattle.dlk_calculus.specs.Provables.{Provable, SubstEach, SubstSequent, SubstSequents, swap_sequent}
+use Rattle.dlk_calculus.specs.Limits.{most_nodes, greatest_depth, most_formulas, most_goals, most_leaves, most_rows, IsSmall, IsShallow, InSequent, InProvable, HasFewFormulas, IsLimitedSequent, IsLimited}
+use Rattle.dlk_calculus.specs.Steps.{Step, Start, UseAxiom, UseRule, Leaf, Apply, Merge, Substitute, Rename, Gives, EachNew, Exceeds, IsWithin, Against, Fault, StepOf}
+use Rattle.dlk_calculus.proofs.PlaceLaws.{At_All}
+use Rattle.dlk_calculus.proofs.Decide.{both}
+use Rattle.dlk_calculus.proofs.AxiomLaws.{axiom_sized, rule_sized}
+use Rattle.dlk_calculus.proofs.Swapped.{swap_size, swap_depth}
+use Rattle.dlk_calculus.proofs.Formulas.{joined_all}
+use Rattle.dlk_calculus.proofs.StepLaws.{given_by, given_unless, one_given, step_cases}
+
+-- ---- what exceeds a limit is decided
+
+at_most : (m n : ℕ) → Dec (m ≤ n)
+at_most m n = elim (cases_lt n m) [ inl lt ↦ no (λ le. absurd (omega (arith, lt, le))) | inr le ↦ yes le ]
+
+beyond : (m n : ℕ) → Dec (m < n)
+beyond m n = elim (cases_lt m n) [ inl lt ↦ yes lt | inr le ↦ no (λ lt. absurd (omega (arith, lt, le))) ]
+
+unless : {A : Type 0} → Dec A → Dec (¬ A)
+unless (yes a) = no (λ n. n a)
+unless (no n) = yes n
+
+surely : {A : Type 0} → Dec A → ¬ ¬ A → A
+surely (yes a) n = a
+surely (no m) n = absurd (n m)
+
+all_decided : {A : Type 0} (P : A → Type 0) → ((x : A) → Dec (P x)) → (xs : List A) → Dec (All P xs)
+all_decided P decide [] = yes (All-nil P)
+all_decided P decide (x ∷ xs) = both (All-cons P x xs) (All-head P x xs) (All-tail P x xs) (decide x) (all_decided P decide xs)
+
+few : (s : Sequent) → Dec (HasFewFormulas s)
+few s = both (λ a b. record { ante = a; succ = b }) (λ h. h.ante) (λ h. h.succ) (at_most (length s.ante) most_formulas) (at_most (length s.succ) most_formulas)
+
+module _ (P : Tree → Type 0) (decide : (t : Tree) → Dec (P t)) where
+  in_sequent : (s : Sequent) → Dec (InSequent P s)
+  in_sequent s = both (λ a b. record { ante = a; succ = b }) (λ h. h.ante) (λ h. h.succ) (all_decided P decide s.ante) (all_decided P decide s.succ)
+
+  in_provable : (p : Provable) → Dec (InProvable P p)
+  in_provable p = both (λ a b. record { conclusion = a; goals = b }) (λ h. h.conclusion) (λ h. h.goals) (in_sequent p.conclusion) (all_decided (InSequent P) in_sequent p.goals)
+
+  each_new : (step : Step) (p : Provable) → Dec (EachNew P step p)
+  each_new (Start s) p = in_provable p
+  each_new (UseAxiom name) p = yes tt
+  each_new (UseRule name) p = yes tt
+  each_new (Leaf s) p = in_provable p
+  each_new (Apply fact goal rule) p = in_provable p
+  each_new (Merge fact goal by) p = yes tt
+  each_new (Substitute fact pairs) p = both (λ a b. (a, b)) (λ h. h.0) (λ h. h.1) (all_decided (λ (pair : Pair). P pair.by) (λ (pair : Pair). decide pair.by) pairs) (in_provable p)
+  each_new (Rename fact x y) p = yes tt
+
+small : (t : Tree) → Dec (IsSmall t)
+small t = at_most (size t) most_nodes
+
+shallow : (t : Tree) → Dec (IsShallow t)
+shallow t = at_most (depth t) greatest_depth
+
+side_full : (step : Step) (p : Provable) → Dec (Exceeds SideFull step p)
+side_full (Start s) p = unless (few p.conclusion)
+side_full (Leaf s) p = unless (few p.conclusion)
+side_full (Apply fact goal rule) p = unless (all_decided HasFewFormulas few p.goals)
+side_full (UseAxiom name) p = no (λ a. a)
+side_full (UseRule name) p = no (λ a. a)
+side_full (Merge fact goal by) p = no (λ a. a)
+side_full (Substitute fact pairs) p = no (λ a. a)
+side_full (Rename fact x y) p = no (λ a. a)
+
+goals_full : (step : Step) (p : Provable) → Dec (Exceeds GoalsFull step p)
+goals_full (Apply fact goal rule) p = beyond most_goals (length p.goals)
+goals_full (Merge fact goal by) p = beyond most_goals (length p.goals)
+goals_full (Start s) p = no (λ a. a)
+goals_full (Leaf s) p = no (λ a. a)
+goals_full (UseAxiom name) p = no (λ a. a)
+goals_full (UseRule name) p = no (λ a. a)
+goals_full (Substitute fact pairs) p = no (λ a. a)
+goals_full (Rename fact x y) p = no (λ a. a)
+
+leaves_full : (step : Step) (p : Provable) → Dec (Exceeds LeavesFull step p)
+leaves_full (Merge fact goal by) p = beyond most_leaves (length p.leaves)
+leaves_full (Apply fact goal rule) p = no (λ a. a)
+leaves_full (Start s) p = no (λ a. a)
+leaves_full (Leaf s) p = no (λ a. a)
+leaves_full (UseAxiom name) p = no (λ a. a)
+leaves_full (UseRule name) p = no (λ a. a)
+leaves_full (Substitute fact pairs) p = no (λ a. a)
+leaves_full (Rename fact x y) p = no (λ a. a)
+
+-- ---- the faults of a step that gives something
+
+module _ (rows : List Provable) (step : Step) (p : Provable) (g : Gives rows step p) where
+  exceeds_against : (why : Reason) → Exceeds why step p → Against why rows step
+  exceeds_against TooBig t = (p, g, t)
+  exceeds_against TooDeep t = (p, g, t)
+  exceeds_against SideFull t = (p, g, t)
+  exceeds_against GoalsFull t = (p, g, t)
+  exceeds_against LeavesFull t = (p, g, t)
+  exceeds_against _ t = absurd t
+
+  same_exceeds : (why : Reason) → ((q : Provable) × Gives rows step q × Exceeds why step q) → Exceeds why step p
+  same_exceeds why a = subst (λ (x : Provable). Exceeds why step x) (one_given rows step a.0 p a.1 g) a.2
+
+  against_exceeds : (why : Reason) → rank why < rank LinesFull → Against why rows step → Exceeds why step p
+  against_exceeds TooBig lt a = same_exceeds TooBig a
+  against_exceeds TooDeep lt a = same_exceeds TooDeep a
+  against_exceeds SideFull lt a = same_exceeds SideFull a
+  against_exceeds GoalsFull lt a = same_exceeds GoalsFull a
+  against_exceeds LeavesFull lt a = same_exceeds LeavesFull a
+  against_exceeds LinesFull lt a = absurd (omega (arith, lt))
+  against_exceeds why lt a = absurd (given_unless rows step p why (omega arith) g a)
+
+  -- the first limit that is exceeded
+  pub limit_fault : (why : Reason) → rank why < rank LinesFull → Exceeds why step p → ((earlier : Reason) → rank earlier < rank why → ¬ Exceeds earlier step p) → Fault rows step why
+  limit_fault why is t first = record { against = exceeds_against why t; first = λ earlier lt a. first earlier lt (against_exceeds earlier (omega (arith, lt, is)) a) }
+
+  -- there are too many rows
+  pub rows_fault : IsWithin step p → most_rows ≤ length rows → Fault rows step LinesFull
+  rows_fault w full = record { against = full; first = λ earlier lt a. w earlier (against_exceeds earlier lt a) }
+
+  allowed : IsWithin step p → length rows < most_rows → (why : Reason) → ¬ Against why rows step
+  allowed w room LinesFull a = absurd (omega (arith, room, a))
+  allowed w room TooBig a = w TooBig (same_exceeds TooBig a)
+  allowed w room TooDeep a = w TooDeep (same_exceeds TooDeep a)
+  allowed w room SideFull a = w SideFull (same_exceeds SideFull a)
+  allowed w room GoalsFull a = w GoalsFull (same_exceeds GoalsFull a)
+  allowed w room LeavesFull a = w LeavesFull (same_exceeds LeavesFull a)
+  allowed w room why a = given_unless rows step p why (omega arith) g a
+
+  pub StepOf-within : IsWithin step p → length rows < most_rows → StepOf rows step p
+  StepOf-within w room = record { given = g; allowed = allowed w room }
+
+  within_cases : ((why : Reason) × Fault rows step why) ⊎ IsWithin step p
+  within_cases = elim (unless (each_new IsSmall small step p)) [
+    | yes t ↦ inl (TooBig, limit_fault TooBig (omega arith) t (elim [ TooBig ↦ λ lt. absurd (omega arith) | TooDeep ↦ λ lt. absurd (omega arith) | SideFull ↦ λ lt. absurd (omega arith) | GoalsFull ↦ λ lt. absurd (omega arith) | LeavesFull ↦ λ lt. absurd (omega arith) | _ ↦ λ lt e. e ]))
+    | no big ↦ elim (unless (each_new IsShallow shallow step p)) [
+      | yes t ↦ inl (TooDeep, limit_fault TooDeep (omega arith) t (elim [ TooBig ↦ λ lt. big | TooDeep ↦ λ lt. absurd (omega arith) | SideFull ↦ λ lt. absurd (omega arith) | GoalsFull ↦ λ lt. absurd (omega arith) | LeavesFull ↦ λ lt. absurd (omega arith) | _ ↦ λ lt e. e ]))
+      | no deep ↦ elim (side_full step p) [
+        | yes t ↦ inl (SideFull, limit_fault SideFull (omega arith) t (elim [ TooBig ↦ λ lt. big | TooDeep ↦ λ lt. deep | SideFull ↦ λ lt. absurd (omega arith) | GoalsFull ↦ λ lt. absurd (omega arith) | LeavesFull ↦ λ lt. absurd (omega arith) | _ ↦ λ lt e. e ]))
+        | no side ↦ elim (goals_full step p) [
+          | yes t ↦ inl (GoalsFull, limit_fault GoalsFull (omega arith) t (elim [ TooBig ↦ λ lt. big | TooDeep ↦ λ lt. deep | SideFull ↦ λ lt. side | GoalsFull ↦ λ lt. absurd (omega arith) | LeavesFull ↦ λ lt. absurd (omega arith) | _ ↦ λ lt e. e ]))
+          | no goals ↦ elim (leaves_full step p) [
+            | yes t ↦ inl (LeavesFull, limit_fault LeavesFull (omega arith) t (elim [ TooBig ↦ λ lt. big | TooDeep ↦ λ lt. deep | SideFull ↦ λ lt. side | GoalsFull ↦ λ lt. goals | LeavesFull ↦ λ lt. absurd (omega arith) | _ ↦ λ lt e. e ]))
+            | no leaves ↦ inr (elim [ TooBig ↦ big | TooDeep ↦ deep | SideFull ↦ side | GoalsFull ↦ goals | LeavesFull ↦ leaves | _ ↦ λ e. e ])
+          ]
+        ]
+      ]
+    ]
+  ]
+
+  given_cases : StepOf rows step p ⊎ ((why : Reason) × Fault rows step why)
+  given_cases = elim within_cases [
+    | inl f ↦ inr f
+    | inr w ↦ elim (cases_lt (length rows) most_rows) [ inl room ↦ inl (StepOf-within w room) | inr full ↦ inr (LinesFull, rows_fault w full) ]
+  ]
+
+-- a step gives something within the limits, or there is a first reason against it
+pub verdict_cases : (rows : List Provable) (step : Step) → ((p : Provable) × StepOf rows step p) ⊎ ((why : Reason) × Fault rows step why)
+verdict_cases rows step = elim (step_cases rows step) [
+  | inr f ↦ inr (f.0, f.2)
+  | inl g ↦ elim (given_cases rows step g.0 g.1) [ inl s ↦ inl (g.0, s) | inr f ↦ inr f ]
+]
+
+-- a rule of the calculus gives what a limit refuses
+pub limit_gives : (rows : List Provable) (step : Step) (why : Reason) → rank NotAdmissible < rank why → Fault rows step why → (p : Provable) × Gives rows step p
+limit_gives rows step why limit f = elim (step_cases rows step) [ inl g ↦ g | inr e ↦ absurd (f.first e.0 (omega (arith, limit, e.1)) e.2.against) ]
+
+-- ---- what stays within the limits
+
+module _ {A : Type 0} (P Q R T : A → Type 0) (all : (x : A) → P x → Q x → R x → T x) where
+  all_three : (xs : List A) → All P xs → All Q xs → All R xs → All T xs
+  all_three [] p q r = All-nil T
+  all_three (x ∷ xs) p q r = All-cons T x xs (all x (All-head P x xs p) (All-head Q x xs q) (All-head R x xs r)) (all_three xs (All-tail P x xs p) (All-tail Q x xs q) (All-tail R x xs r))
+
+limited_sequent : (s : Sequent) → InSequent IsSmall s → InSequent IsShallow s → HasFewFormulas s → IsLimitedSequent s
+limited_sequent s small shallow few = record { small = small; shallow = shallow; few = few }
+
+limited_sequents : (all : List Sequent) → All (InSequent IsSmall) all → All (InSequent IsShallow) all → All HasFewFormulas all → All IsLimitedSequent all
+limited_sequents = all_three (InSequent IsSmall) (InSequent IsShallow) HasFewFormulas IsLimitedSequent limited_sequent
+
+room : (all : List Sequent) → All IsLimitedSequent all → All HasFewFormulas all
+room [] h = All-nil HasFewFormulas
+room (s ∷ all) h = All-cons HasFewFormulas s all (All-head IsLimitedSequent s all h).few (room all (All-tail IsLimitedSequent s all h))
+
+one : {A : Type 0} (P : A → Type 0) (x : A) → P x → All P (x ∷ [])
+one P x h = All-cons P x [] h (All-nil P)
+
+none : {A : Type 0} (P : A → Type 0) → All P []
+none P = All-nil P
+
+alone : (f : Tree) → IsSmall f × IsShallow f → IsLimitedSequent (alone_right f)
+alone f h = record {
+  small = record { ante = none IsSmall; succ = one IsSmall f h.0 };
+  shallow = record { ante = none IsShallow; succ = one IsShallow f h.1 };
+  few = record { ante = omega arith; succ = omega arith };
+}
+
+at_the_most : (m n : ℕ) → ¬ (m < n) → n ≤ m
+at_the_most m n no_more = elim (cases_lt m n) [ inl lt ↦ absurd (no_more lt) | inr le ↦ le ]
+
+-- a substitution makes as many formulas as there were, and as many sequents
+each_length : (pairs : List Pair) (fs gs : List Tree) → SubstEach pairs fs gs → length gs ≡ length fs
+each_length pairs [] [] h = refl
+each_length pairs [] (g ∷ gs) h = absurd h
+each_length pairs (f ∷ fs) [] h = absurd h
+each_length pairs (f ∷ fs) (g ∷ gs) h = ap suc (each_length pairs fs gs h.1)
+
+sequents_length : (pairs : List Pair) (ss ts : List Sequent) → SubstSequents pairs ss ts → length ts ≡ length ss
+sequents_length pairs [] [] h = refl
+sequents_length pairs [] (t ∷ ts) h = absurd h
+sequents_length pairs (s ∷ ss) [] h = absurd h
+sequents_length pairs (s ∷ ss) (t ∷ ts) h = ap suc (sequents_length pairs ss ts h.1)
+
+subst_few : (pairs : List Pair) (s t : Sequent) → SubstSequent pairs s t → HasFewFormulas s → HasFewFormulas t
+subst_few pairs s t h f = record { ante = rw (each_length pairs s.ante t.ante h.0) f.ante; succ = rw (each_length pairs s.succ t.succ h.1) f.succ }
+
+subst_all_few : (pairs : List Pair) (ss ts : List Sequent) → SubstSequents pairs ss ts → All HasFewFormulas ss → All HasFewFormulas ts
+subst_all_few pairs [] [] h f = none HasFewFormulas
+subst_all_few pairs [] (t ∷ ts) h f = absurd h
+subst_all_few pairs (s ∷ ss) [] h f = absurd h
+subst_all_few pairs (s ∷ ss) (t ∷ ts) h f = All-cons HasFewFormulas t ts (subst_few pairs s t h.0 (All-head HasFewFormulas s ss f)) (subst_all_few pairs ss ts h.1 (All-tail HasFewFormulas s ss f))
+
+-- two names that are exchanged leave all sizes
+module _ (x y : List ℕ) where
+  swap_trees : (P : Tree → Type 0) → ((t : Tree) → P t → P (swap x y t)) → (ts : List Tree) → All P ts → All P (map (swap x y) ts)
+  swap_trees P keep [] h = none P
+  swap_trees P keep (t ∷ ts) h = All-cons P (swap x y t) (map (swap x y) ts) (keep t (All-head P t ts h)) (swap_trees P keep ts (All-tail P t ts h))
+
+  swap_in : (P : Tree → Type 0) → ((t : Tree) → P t → P (swap x y t)) → (s : Sequent) → InSequent P s → InSequent P (swap_sequent x y s)
+  swap_in P keep s h = record { ante = swap_trees P keep s.ante h.ante; succ = swap_trees P keep s.succ h.succ }
+
+  swap_limited : (s : Sequent) → IsLimitedSequent s → IsLimitedSequent (swap_sequent x y s)
+  swap_limited s h = record {
+    small = swap_in IsSmall (λ t k. rw (swap_size x y t) k) s h.small;
+    shallow = swap_in IsShallow (λ t k. rw (swap_depth x y t) k) s h.shallow;
+    few = record { ante = rw (length-map s.ante (swap x y)) h.few.ante; succ = rw (length-map s.succ (swap x y)) h.few.succ };
+  }
+
+  swap_all_limited : (all : List Sequent) → All IsLimitedSequent all → All IsLimitedSequent (map (swap_sequent x y) all)
+  swap_all_limited [] h = none IsLimitedSequent
+  swap_all_limited (s ∷ all) h = All-cons IsLimitedSequent (swap_sequent x y s) (map (swap_sequent x y) all) (swap_limited s (All-head IsLimitedSequent s all h)) (swap_all_limited all (All-tail IsLimitedSequent s all h))
+
+all_small : (step : Step) (p : Provable) → IsWithin step p → EachNew IsSmall step p
+all_small step p w = surely (each_new IsSmall small step p) (w TooBig)
+
+all_shallow : (step : Step) (p : Provable) → IsWithin step p → EachNew IsShallow step p
+all_shallow step p w = surely (each_new IsShallow shallow step p) (w TooDeep)
+
+-- premises in the place of a goal
+replaced : (goals : List Sequent) (goal : ℕ) (new : List Sequent) → All IsLimitedSequent goals → All IsLimitedSequent new → All IsLimitedSequent (put_all goals goal new)
+replaced goals goal new h k =
+    All-append IsLimitedSequent _ _ (All-append IsLimitedSequent _ _ (All-take IsLimitedSequent (goal - 1) goals h) k) (All-drop IsLimitedSequent goal goals h)
+
+-- a step from rows within the limits gives a row within them, where none is exceeded
+pub given_limited : (rows : List Provable) (step : Step) (p : Provable) → All IsLimited rows → Gives rows step p → IsWithin step p → IsLimited p
+given_limited rows (Start s) p h g w =
+    let m = given_by rows (Start s) p g in
+    let big = (rw m.1 at (all_small (Start s) p w)).conclusion in
+    let deep = (rw m.1 at (all_shallow (Start s) p w)).conclusion in
+    let side : HasFewFormulas s = rw m.1 at (surely (few p.conclusion) (w SideFull)) in
+    let all = limited_sequent s big deep side in
+    rw m.1 (record { conclusion = all; goals = one IsLimitedSequent s all; leaves = none IsLimitedSequent; few_goals = omega arith; few_leaves = omega arith })
+given_limited rows (UseAxiom name) p h g w =
+    let m = given_by rows (UseAxiom name) p g in
+    rw m.2 (record { conclusion = alone m.0.formula (axiom_sized name m.0 m.1); goals = none IsLimitedSequent; leaves = none IsLimitedSequent; few_goals = omega arith; few_leaves = omega arith })
+given_limited rows (UseRule name) p h g w =
+    let m = given_by rows (UseRule name) p g in
+    let sized = rule_sized name m.0 m.1 in
+    rw m.2 (record { conclusion = alone m.0.conclusion sized.1; goals = one IsLimitedSequent (alone_right m.0.premise) (alone m.0.premise sized.0); leaves = none IsLimitedSequent; few_goals = omega arith; few_leaves = omega arith })
+given_limited rows (Leaf s) p h g w =
+    let m = given_by rows (Leaf s) p g in
+    let big = (rw m.2 at (all_small (Leaf s) p w)).conclusion in
+    let deep = (rw m.2 at (all_shallow (Leaf s) p w)).conclusion in
+    let side : HasFewFormulas s = rw m.2 at (surely (few p.conclusion) (w SideFull)) in
+    let all = limited_sequent s big deep side in
+    rw m.2 (record { conclusion = all; goals = none IsLimitedSequent; leaves = one IsLimitedSequent s all; few_goals = omega arith; few_leaves = omega arith })
+given_limited rows (Apply fact goal rule) p h g w =
+    let m = given_by rows (Apply fact goal rule) p g in
+    let q = At_All IsLimited rows fact m.0 h m.3 in
+    record {
+      conclusion = rw m.6 q.conclusion;
+      goals = limited_sequents p.goals (all_small (Apply fact goal rule) p w).goals (all_shallow (Apply fact goal rule) p w).goals (surely (all_decided HasFewFormulas few p.goals) (w SideFull));
+      leaves = rw m.6 q.leaves;
+      few_goals = at_the_most most_goals (length p.goals) (w GoalsFull);
+      few_leaves = rw m.6 q.few_leaves;
+    }
+given_limited rows (Merge fact goal by) p h g w =
+    let m = given_by rows (Merge fact goal by) p g in
+    let q = At_All IsLimited rows fact m.0 h m.3 in
+    let r = At_All IsLimited rows by m.1 h m.4 in
+    record {
+      conclusion = rw m.7 q.conclusion;
+      goals = rw m.7 (replaced m.0.goals goal m.1.goals q.goals r.goals);
+      leaves = rw m.7 (joined_all IsLimitedSequent m.0.leaves m.1.leaves m.2 q.leaves r.leaves m.6);
+      few_goals = at_the_most most_goals (length p.goals) (w GoalsFull);
+      few_leaves = at_the_most most_leaves (length p.leaves) (w LeavesFull);
+    }
+given_limited rows (Substitute fact pairs) p h g w =
+    let m = given_by rows (Substitute fact pairs) p g in
+    let q = At_All IsLimited rows fact m.0 h m.1 in
+    let big = (all_small (Substitute fact pairs) p w).1 in
+    let deep = (all_shallow (Substitute fact pairs) p w).1 in
+    record {
+      conclusion = limited_sequent p.conclusion big.conclusion deep.conclusion (subst_few pairs m.0.conclusion p.conclusion m.5.conclusion q.conclusion.few);
+      goals = limited_sequents p.goals big.goals deep.goals (subst_all_few pairs m.0.goals p.goals m.5.goals (room m.0.goals q.goals));
+      leaves = rw m.5.leaves q.leaves;
+      few_goals = rw (sequents_length pairs m.0.goals p.goals m.5.goals) q.few_goals;
+      few_leaves = rw m.5.leaves q.few_leaves;
+    }
+given_limited rows (Rename fact x y) p h g w =
+    let m = given_by rows (Rename fact x y) p g in
+    let q = At_All IsLimited rows fact m.0 h m.1 in
+    rw m.3 (record {
+      conclusion = swap_limited x y m.0.conclusion q.conclusion;
+      goals = swap_all_limited x y m.0.goals q.goals;
+      leaves = q.leaves;
+      few_goals = rw (length-map m.0.goals (swap_sequent x y)) q.few_goals;
+      few_leaves = q.few_leaves;
+    })
+
+pub step_limited : (rows : List Provable) (step : Step) (p : Provable) → All IsLimited rows → StepOf rows step p → IsLimited p
+step_limited rows step p h s = given_limited rows step p h s.given (λ why t. s.allowed why (exceeds_against rows step p s.given why t))
