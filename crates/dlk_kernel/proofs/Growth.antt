@@ -1,14 +1,16 @@
 -- What stays true of rows when the store grows.
-use Rattle.std.proofs.Common.{◌≡◌, ℕ, ◌<◌, ◌^◌, List, [], ◌∷◌, ◌++◌, length, length-take, take, sym, ap, subst, ◌∙◌, arith}
+use Rattle.std.proofs.Common.{◌≡◌, ℕ, ◌<◌, ◌≤◌, List, [], ◌∷◌, ◌++◌, length, length-append, length-take, take, sym, ap, subst, ◌∙◌, arith}
 use Rattle.std.specs.List.{All}
-use Rattle.std.proofs.lemmas.List.{take-map, map-append}
+use Rattle.std.proofs.lemmas.List.{take-map, map-append, length-map}
 use Rattle.std.proofs.lemmas.List.Elements.{All-weaker, All-push, All-take}
 use Rattle.std.proofs.Math.Seq.{take-append_seam}
 use Rattle.dlk_tree.specs.Trees.{Tree}
 use Rattle.dlk_store.specs.Stores.{Keeps}
 use Rattle.dlk_calculus.specs.Provables.{HasFormulas}
-use Rattle.dlk_calculus.specs.Steps.{Step, Gives, History, Derives, Adds}
-use Rattle.dlk_calculus.proofs.StepLaws.{StepOf-given}
+use Rattle.dlk_calculus.specs.declared.reason.Reason.TheVariants.{LinesFull}
+use Rattle.dlk_calculus.specs.Limits.{IsLimited, most_rows}
+use Rattle.dlk_calculus.specs.Steps.{Step, Gives, IsWithin, History, Derives, Fault, StepOf, Adds}
+use Rattle.dlk_calculus.proofs.LimitLaws.{StepOf-within, step_limited, rows_fault}
 use Rattle.dlk_calculus.proofs.Histories.{History-derives, History-more, History-take}
 use Rattle.dlk_calculus.proofs.Formulas.{History-formulas}
 use Rattle.dlk_sequent.specs.Sequents.{IsKnown}
@@ -40,23 +42,34 @@ module _ (old new : List Tree) (keeps : Keeps old new) where
   sound_kept rows h = record {
     known = All-weaker (IsKnownRow old) (IsKnownRow new) row_kept rows h.known;
     history = subst History (sym (provables_kept rows h.known)) h.history;
+    limited = subst (All IsLimited) (sym (provables_kept rows h.known)) h.limited;
     few = h.few;
   }
 
   -- a row that a step gives comes last
-  module _ (rows after : List Row) (row : Row) (sound : AreSoundRows old rows) (step : Step) (given : Gives (provables_at old rows) step (provable_at new row)) (added : after ≡ rows ++ row ∷ []) where
+  module _ (rows after : List Row) (row : Row) (sound : AreSoundRows old rows) (step : Step) (given : Gives (provables_at old rows) step (provable_at new row))
+      (within : IsWithin step (provable_at new row)) (room : length rows < most_rows) (added : after ≡ rows ++ row ∷ []) where
     after_is : provables_at new after ≡ provables_at old rows ++ provable_at new row ∷ []
     after_is = rw (added, map-append (provable_at new) rows (row ∷ []), provables_kept rows sound.known)
 
-    pub sound_more : IsKnownRow new row → length after < 2 ^ 32 → AreSoundRows new after
-    sound_more known few = record {
+    step_of : StepOf (provables_at old rows) step (provable_at new row)
+    step_of = StepOf-within (provables_at old rows) step (provable_at new row) given within (rw (length-map rows (provable_at old)) room)
+
+    pub sound_more : IsKnownRow new row → AreSoundRows new after
+    sound_more known = record {
       known = rw added (All-push (IsKnownRow new) rows row (sound_kept rows sound).known known);
       history = subst History (sym after_is) (History-more (provables_at old rows) step (provable_at new row) sound.history given);
-      few = few;
+      limited = subst (All IsLimited) (sym after_is) (All-push IsLimited (provables_at old rows) (provable_at new row) sound.limited (step_limited (provables_at old rows) step (provable_at new row) sound.limited step_of));
+      few = rw (added, length-append rows (row ∷ [])) (omega (arith, room));
     }
 
     pub adds : Adds (provables_at old rows) step (provables_at new after)
-    adds = record { provable = provable_at new row; is_its = StepOf-given (provables_at old rows) step (provable_at new row) given; after_is = after_is }
+    adds = record { provable = provable_at new row; is_its = step_of; after_is = after_is }
+
+-- a step is refused where there are as many rows as there may be
+pub rows_full : (old : List Tree) (rows : List Row) (step : Step) (new : List Tree) (row : Row) → Gives (provables_at old rows) step (provable_at new row) → IsWithin step (provable_at new row) →
+    most_rows ≤ length rows → Fault (provables_at old rows) step LinesFull
+rows_full old rows step new row given within full = rows_fault (provables_at old rows) step (provable_at new row) given within (rw (length-map rows (provable_at old)) full)
 
 pub all_derived : (trees : List Tree) (rows : List Row) → AreSoundRows trees rows → All Derives (provables_at trees rows)
 all_derived trees rows h = History-derives (provables_at trees rows) h.history
@@ -69,6 +82,7 @@ pub sound_take : (trees : List Tree) (n : ℕ) (rows : List Row) → AreSoundRow
 sound_take trees n rows h = record {
   known = All-take (IsKnownRow trees) n rows h.known;
   history = subst History (take-map (provable_at trees) n rows) (History-take n (provables_at trees rows) h.history);
+  limited = subst (All IsLimited) (take-map (provable_at trees) n rows) (All-take IsLimited n (provables_at trees rows) h.limited);
   few = omega (arith, h.few, length-take n rows);
 }
 

@@ -1,4 +1,7 @@
 pub mod Growth
+pub mod Measured
+pub mod Limited
+pub mod LimitRows
 pub mod RowLaws
 pub mod AxiomRows
 pub mod LeafLaws

@@ -73,7 +73,7 @@ module _ (old : List Tree) (rows : List Row) (fact goal : ℕ) (rule : Rule) (ro
 
   -- the row with the premises in the goal's place, over a store that has grown
   module _ (new : List Tree) (keeps : Keeps old new) (known : IsKnownRow old row) (ps : List Sequent) (r : Row) (is : r ≡ record { conclusion = row.conclusion; goals = put_all row.goals goal ps; leaves = row.leaves }) where
-    stands : provable_at new r ≡ applied (provable_at old row) goal (map (sequent_at new) ps)
+    pub stands : provable_at new r ≡ applied (provable_at old row) goal (map (sequent_at new) ps)
     stands =
         rw (is, put_all-map (sequent_at new) row.goals goal ps, sequents-kept keeps row.goals known.goals, sequent-kept keeps row.conclusion known.conclusion, sequents-kept keeps row.leaves known.leaves)
 

@@ -1,7 +1,8 @@
 -- What a kernel's rows stand for, and what its type keeps of them.
-use Rattle.std.specs.Prelude.{◌≡◌, ◌<◌, ◌^◌, List, map, take, length, All}
+use Rattle.std.specs.Prelude.{◌≡◌, ◌≤◌, List, map, take, length, All}
 use Rattle.dlk_tree.specs.Trees.{Tree}
 use Rattle.dlk_calculus.specs.Provables.{Provable}
+use Rattle.dlk_calculus.specs.Limits.{IsLimited, most_rows}
 use Rattle.dlk_calculus.specs.Steps.{History}
 use Rattle.dlk_sequent.specs.Sequents.{sequent_at, IsKnown}
 use Rattle.dlk_kernel.specs.declared.row.Row.{Row}
@@ -33,11 +34,13 @@ pub record IsKnownRow (trees : List Tree) (row : Row) : Type 0 where
   pub goals : All (IsKnown trees) row.goals
   pub leaves : All (IsKnown trees) row.leaves
 
--- what the type keeps: the rows' ids are known, each row is given by a step from those before it, and their numbers fit
+-- what the type keeps: the rows' ids are known, each row is given by a step from those before it and within the limits, and there aren't
+-- too many
 pub record AreSoundRows (trees : List Tree) (rows : List Row) : Type 0 where
   pub known : All (IsKnownRow trees) rows
   pub history : History (provables_at trees rows)
-  pub few : length rows < 2 ^ 32
+  pub limited : All IsLimited (provables_at trees rows)
+  pub few : length rows ≤ most_rows
 
 -- the rows are as before, and stand for what they stood for
 pub record SameRows {S : Type 0} (trees : S → List Tree) (old new : State S) : Type 0 where

@@ -1,7 +1,7 @@
 //! The rows of axioms and axiomatic rules.
 ghost use Rattle.std.specs.Prelude.{List, All, IfOk, IfErr};
 ghost use Rattle.dlk_calculus.specs.Provables.{Provable};
-ghost use Rattle.dlk_calculus.specs.Steps.{UseAxiom, UseRule, Gives, Fault};
+ghost use Rattle.dlk_calculus.specs.Steps.{UseAxiom, UseRule, Gives, IsWithin, Fault};
 ghost use Rattle.dlk_kernel.specs.Faults.{IsStepFault};
 ghost use Rattle.dlk_kernel.specs.Kernel.{provable_at, IsKnownRow};
 
@@ -22,6 +22,7 @@ use std::alloc::Global;
 /// ```
 pub(crate) fn axiom<S: Store>(alloc: Global, store: &mut S, name: &Name) -> Result<Row, StepFault>
     ensures given { IfOk result (λ row. (rows : List Provable) → Gives rows (UseAxiom name.now) (provable_at (S.trees store.new) row)) }
+    ensures within { IfOk result (λ row. IsWithin (UseAxiom name.now) (provable_at (S.trees store.new) row)) }
     ensures known { IfOk result (IsKnownRow (S.trees store.new)) }
     ensures fault { IfErr result (IsStepFault (λ why. (rows : List Provable) → Fault rows (UseAxiom name.now) why)) }
     ensures grows { S.grows store.old store.new }
@@ -54,6 +55,7 @@ pub(crate) fn axiomatic_rule<S: Store>(
     name: &Name,
 ) -> Result<Row, StepFault>
     ensures given { IfOk result (λ row. (rows : List Provable) → Gives rows (UseRule name.now) (provable_at (S.trees store.new) row)) }
+    ensures within { IfOk result (λ row. IsWithin (UseRule name.now) (provable_at (S.trees store.new) row)) }
     ensures known { IfOk result (IsKnownRow (S.trees store.new)) }
     ensures fault { IfErr result (IsStepFault (λ why. (rows : List Provable) → Fault rows (UseRule name.now) why)) }
     ensures grows { S.grows store.old store.new }

@@ -12,8 +12,8 @@ use thiserror::Error;
 /// Why a kernel did not take a step.
 #[derive(Clone, Copy, Debug, PartialEq, Eq, Error)]
 pub enum StepFault {
-    /// It is no step of the calculus: the first reason against it.
-    #[error("no step of the calculus: {0:?}")]
+    /// It is no step of the calculus, or it passes a limit: the first reason against it.
+    #[error("refused: {0:?}")]
     Refused(Reason),
     #[error("out of memory")]
     Memory,

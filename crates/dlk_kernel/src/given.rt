@@ -1,7 +1,8 @@
 //! The row that a step gives.
 ghost use Rattle.std.specs.Prelude.{◌≡◌, ◌∷◌, [], List, All, IfOk, OnOk, IfErr};
 ghost use Rattle.dlk_calculus.specs.Provables.{Provable, HasFormulas};
-ghost use Rattle.dlk_calculus.specs.Steps.{Start, Apply, Rename, Gives, Fault};
+ghost use Rattle.dlk_calculus.specs.Limits.{IsLimited};
+ghost use Rattle.dlk_calculus.specs.Steps.{Start, Apply, Rename, Gives, IsWithin, Fault};
 ghost use Rattle.dlk_rules.specs.Steps.{rule_at, RuleIsKnown, step_at, HasKnownIds};
 ghost use Rattle.dlk_sequent.specs.Sequents.{sequent_at, IsKnown};
 ghost use Rattle.dlk_kernel.specs.Faults.{IsStepFault};
@@ -10,6 +11,7 @@ ghost use Rattle.dlk_kernel.specs.Kernel.{provable_at, provables_at, IsKnownRow}
 use crate::axioms::{axiom, axiomatic_rule};
 use crate::fault::StepFault;
 use crate::leaves::leaf;
+use crate::limits::{MOST_GOALS, limit_sequents};
 use crate::merging::merge;
 use crate::renaming::{swap_sequent, swap_sequents};
 use crate::row::Row;
@@ -37,6 +39,7 @@ fn start<S: Store, L: Ledger>(
 ) -> Result<Row, StepFault>
     requires { IsKnown (S.trees store.now) s.now }
     ensures given { IfOk result (λ row. (rows : List Provable) → Gives rows (Start (sequent_at (S.trees store.now) s.now)) (provable_at (S.trees store.now) row)) }
+    ensures within { IfOk result (λ row. IsWithin (Start (sequent_at (S.trees store.now) s.now)) (provable_at (S.trees store.now) row)) }
     ensures known { IfOk result (IsKnownRow (S.trees store.now)) }
     ensures fault { IfErr result (IsStepFault (λ why. (rows : List Provable) → Fault rows (Start (sequent_at (S.trees store.now) s.now)) why)) }
 {
@@ -47,6 +50,7 @@ fn start<S: Store, L: Ledger>(
     let goal = s.copy(alloc)?;
     let mut goals = Listed::new(alloc);
     goals.push(goal)?;
+    limit_sequents(store, goals.as_slice())?;
     let leaves = Listed::new(alloc);
     Ok(Row {
         conclusion,
@@ -74,7 +78,9 @@ fn apply<S: Store, L: Ledger>(
     requires rule { RuleIsKnown (S.trees store.old) rule.now }
     requires rows { All (IsKnownRow (S.trees store.old)) rows.now }
     requires formulas { All HasFormulas (provables_at (S.trees store.old) rows.now) }
+    requires limited { All IsLimited (provables_at (S.trees store.old) rows.now) }
     ensures given { IfOk result (λ row. Gives (provables_at (S.trees store.old) rows.now) (Apply fact goal (rule_at (S.trees store.old) rule.now)) (provable_at (S.trees store.new) row)) }
+    ensures within { IfOk result (λ row. IsWithin (Apply fact goal (rule_at (S.trees store.old) rule.now)) (provable_at (S.trees store.new) row)) }
     ensures known { IfOk result (IsKnownRow (S.trees store.new)) }
     ensures fault { IfErr result (IsStepFault (Fault (provables_at (S.trees store.old) rows.now) (Apply fact goal (rule_at (S.trees store.old) rule.now)))) }
     ensures grows { S.grows store.old store.new }
@@ -86,7 +92,11 @@ fn apply<S: Store, L: Ledger>(
         return Err(StepFault::Refused(Reason::NoGoal));
     };
     let new = premises(alloc, store, rule, s, steps)?;
+    limit_sequents(store, new.as_slice())?;
     let goals = row.goals.with_all_at(alloc, goal, new.as_slice())?;
+    if goals.as_slice().len() > MOST_GOALS {
+        return Err(StepFault::Refused(Reason::GoalsFull));
+    }
     let conclusion = row.conclusion.copy(alloc)?;
     let leaves = row.leaves.copy(alloc)?;
     Ok(Row {
@@ -114,6 +124,7 @@ fn rename<S: Store, L: Ledger>(
 ) -> Result<Row, StepFault>
     requires { All (IsKnownRow (S.trees store.old)) rows.now }
     ensures given { IfOk result (λ row. Gives (provables_at (S.trees store.old) rows.now) (Rename fact x.now y.now) (provable_at (S.trees store.new) row)) }
+    ensures within { IfOk result (λ row. IsWithin (Rename fact x.now y.now) (provable_at (S.trees store.new) row)) }
     ensures known { IfOk result (IsKnownRow (S.trees store.new)) }
     ensures fault { IfErr result (IsStepFault (Fault (provables_at (S.trees store.old) rows.now) (Rename fact x.now y.now))) }
     ensures grows { S.grows store.old store.new }
@@ -133,7 +144,7 @@ fn rename<S: Store, L: Ledger>(
     })
 }
 
-/// The row that a step gives from the rows.
+/// The row that a step gives from the rows, within the limits but for the number of rows.
 pub(crate) fn give<S: Store, L: Ledger>(
     alloc: Global,
     store: &mut S,
@@ -144,7 +155,9 @@ pub(crate) fn give<S: Store, L: Ledger>(
     requires known { HasKnownIds (S.trees store.old) step.now }
     requires rows { All (IsKnownRow (S.trees store.old)) rows.now }
     requires formulas { All HasFormulas (provables_at (S.trees store.old) rows.now) }
+    requires limited { All IsLimited (provables_at (S.trees store.old) rows.now) }
     ensures given { IfOk result (λ row. Gives (provables_at (S.trees store.old) rows.now) (step_at (S.trees store.old) step.now) (provable_at (S.trees store.new) row)) }
+    ensures within { IfOk result (λ row. IsWithin (step_at (S.trees store.old) step.now) (provable_at (S.trees store.new) row)) }
     ensures known { IfOk result (IsKnownRow (S.trees store.new)) }
     ensures fault { IfErr result (IsStepFault (Fault (provables_at (S.trees store.old) rows.now) (step_at (S.trees store.old) step.now))) }
     ensures grows { S.grows store.old store.new }

@@ -1,6 +1,8 @@
 use crate::fault::StepFault;
 use crate::given::give;
+use crate::limits::MOST_ROWS;
 use crate::row::Row;
+use dlk_calculus::Reason;
 use dlk_rules::Step;
 use dlk_sequent::Sequent;
 use dlk_store::{Id, Listing, Node, Steps, Store, StoreFault, Which};
@@ -11,9 +13,6 @@ use std::sync::ledger::Ledger;
 
 /// The number of a row, from 1 on.
 pub type Fact = u32;
-
-/// A row past this many has no number.
-const MAX_ROWS: usize = u32::MAX as usize;
 
 /// A store and the rows of a proof. Each row is a provable that the calculus derives: only `step` makes rows, and the
 /// type keeps that each is given by a step from those before it.
@@ -40,6 +39,7 @@ impl<S: Store> Kernel<S> {
     ghost use Rattle.dlk_calculus.specs.Places.{at, IsPlace};
     ghost use Rattle.dlk_calculus.specs.Sequents.{IsSequent};
     ghost use Rattle.dlk_calculus.specs.Provables.{HasFormulas, HasLeaves};
+    ghost use Rattle.dlk_calculus.specs.Limits.{IsLimited, IsLimitedSequent, most_rows};
     ghost use Rattle.dlk_calculus.specs.Steps.{Derives, Adds, Fault};
     ghost use Rattle.dlk_sequent.specs.Sequents.{sequent_at, IsKnown};
     ghost use Rattle.dlk_rules.specs.Steps.{step_at, HasKnownIds};
@@ -57,10 +57,14 @@ impl<S: Store> Kernel<S> {
         }
     }
 
-    /// How many rows there are, which is the last one's number. Each stands for a provable that the calculus derives.
+    /// How many rows there are, which is the last one's number: at most 400,000. Each stands for a provable that the calculus
+    /// derives, within the limits: at most 256 goals and 1,024 leaves, sequents of at most 256 formulas on a side, formulas
+    /// of at most 65,536 nodes and a depth of at most 1,000.
     pub fn rows(&self) -> u32
         ensures count { result ≡ length self.now.rows }
+        ensures few { result ≤ most_rows }
         ensures derived { All Derives (facts S.trees self.now) }
+        ensures limited { All IsLimited (facts S.trees self.now) }
     {
         self.rows.len() as u32
     }
@@ -116,7 +120,7 @@ impl<S: Store> Kernel<S> {
     ///
     /// # Errors
     ///
-    /// - `Refused`: it is no step of the calculus. The first reason against it is answered, in this order:
+    /// - `Refused`: it is no step of the calculus, or it passes a limit. The first reason against it is answered, in this order:
     ///   - `NoFact`: the number of a fact is that of no row.
     ///   - `NoGoal`: the number of a goal is that of no goal of the fact.
     ///   - `UnknownName`: no axiom, or no axiomatic rule, has the name.
@@ -127,7 +131,16 @@ impl<S: Store> Kernel<S> {
     ///   - `NotFresh`: a variable that the rule wants to be fresh is not, or a symbol that may read any variable stands in
     ///     what it binds.
     ///   - `NotArith`: a leaf is no sequent of arithmetic.
-    /// - `Memory`: for want of memory, or where the row would have no number.
+    ///   - `IllSubst`: the pairs of a substitution are not well formed.
+    ///   - `FreeInSubst`: a variable is free in the replacement of a function or a predicate, and the fact has a goal.
+    ///   - `NotAdmissible`: the substitution makes nothing of the conclusion or of a goal.
+    ///   - `TooBig`: a formula that is given or made, or a replacement, has more than 65,536 nodes.
+    ///   - `TooDeep`: one of these is deeper than 1,000.
+    ///   - `SideFull`: a side of a new sequent has more than 256 formulas.
+    ///   - `GoalsFull`: there would be more than 256 goals.
+    ///   - `LeavesFull`: there would be more than 1,024 leaves.
+    ///   - `LinesFull`: there are 400,000 rows.
+    /// - `Memory`: for want of memory.
     pub fn step<L: Ledger>(
         &mut self,
         alloc: Global,
@@ -148,8 +161,8 @@ impl<S: Store> Kernel<S> {
         ensures grows { S.grows self.old.store self.new.store }
     {
         let row = give(alloc, &mut self.store, self.rows.as_slice(), step, steps)?;
-        if self.rows.len() >= MAX_ROWS {
-            return Err(StepFault::Memory);
+        if self.rows.len() >= MOST_ROWS {
+            return Err(StepFault::Refused(Reason::LinesFull));
         }
         self.rows.push(row)?;
         Ok(self.rows.len() as u32)

@@ -1,12 +1,13 @@
 //! Leaves: sequents of arithmetic as facts, and leaves that join others.
 ghost use Rattle.std.specs.Prelude.{◌↔◌, List, map, All, IfOk, IfErr, IsTrue};
 ghost use Rattle.dlk_calculus.specs.Provables.{Provable, IsAmong, Joins};
-ghost use Rattle.dlk_calculus.specs.Steps.{Leaf, Gives, Fault};
+ghost use Rattle.dlk_calculus.specs.Steps.{Leaf, Gives, IsWithin, Fault};
 ghost use Rattle.dlk_sequent.specs.Sequents.{sequent_at, IsKnown};
 ghost use Rattle.dlk_kernel.specs.Faults.{IsStepFault};
 ghost use Rattle.dlk_kernel.specs.Kernel.{provable_at, IsKnownRow};
 
 use crate::fault::StepFault;
+use crate::limits::limit_sequents;
 use crate::row::Row;
 use dlk_calculus::Reason;
 use dlk_sequent::{Listed, Sequent, is_arith, is_sequent, same_sequent};
@@ -29,6 +30,7 @@ pub(crate) fn leaf<S: Store, L: Ledger>(
 ) -> Result<Row, StepFault>
     requires { IsKnown (S.trees store.now) s.now }
     ensures given { IfOk result (λ row. (rows : List Provable) → Gives rows (Leaf (sequent_at (S.trees store.now) s.now)) (provable_at (S.trees store.now) row)) }
+    ensures within { IfOk result (λ row. IsWithin (Leaf (sequent_at (S.trees store.now) s.now)) (provable_at (S.trees store.now) row)) }
     ensures known { IfOk result (IsKnownRow (S.trees store.now)) }
     ensures fault { IfErr result (IsStepFault (λ why. (rows : List Provable) → Fault rows (Leaf (sequent_at (S.trees store.now) s.now)) why)) }
 {
@@ -42,6 +44,7 @@ pub(crate) fn leaf<S: Store, L: Ledger>(
     let own = s.copy(alloc)?;
     let mut leaves = Listed::new(alloc);
     leaves.push(own)?;
+    limit_sequents(store, leaves.as_slice())?;
     let goals = Listed::new(alloc);
     Ok(Row {
         conclusion,

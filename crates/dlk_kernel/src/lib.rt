@@ -6,6 +6,7 @@ mod fault;
 mod given;
 mod kernel;
 mod leaves;
+mod limits;
 mod merging;
 mod renaming;
 mod row;

@@ -1,11 +1,12 @@
 //! A fact in the place of another's goal.
 ghost use Rattle.std.specs.Prelude.{All, IfOk, IfErr};
-ghost use Rattle.dlk_calculus.specs.Steps.{Merge, Gives, Fault};
+ghost use Rattle.dlk_calculus.specs.Steps.{Merge, Gives, IsWithin, Fault};
 ghost use Rattle.dlk_kernel.specs.Faults.{IsStepFault};
 ghost use Rattle.dlk_kernel.specs.Kernel.{provable_at, provables_at, IsKnownRow};
 
 use crate::fault::StepFault;
 use crate::leaves::join;
+use crate::limits::{MOST_GOALS, MOST_LEAVES};
 use crate::row::Row;
 use dlk_calculus::Reason;
 use dlk_sequent::{item_at, same_sequent};
@@ -29,6 +30,7 @@ pub(crate) fn merge<S: Store>(
 ) -> Result<Row, StepFault>
     requires { All (IsKnownRow (S.trees store.now)) rows.now }
     ensures given { IfOk result (λ row. Gives (provables_at (S.trees store.now) rows.now) (Merge fact goal by) (provable_at (S.trees store.now) row)) }
+    ensures within { IfOk result (λ row. IsWithin (Merge fact goal by) (provable_at (S.trees store.now) row)) }
     ensures known { IfOk result (IsKnownRow (S.trees store.now)) }
     ensures fault { IfErr result (IsStepFault (Fault (provables_at (S.trees store.now) rows.now) (Merge fact goal by))) }
 {
@@ -45,7 +47,13 @@ pub(crate) fn merge<S: Store>(
         return Err(StepFault::Refused(Reason::NotEqual));
     }
     let goals = row.goals.with_all_at(alloc, goal, proof.goals.as_slice())?;
+    if goals.as_slice().len() > MOST_GOALS {
+        return Err(StepFault::Refused(Reason::GoalsFull));
+    }
     let leaves = join(alloc, store, &row.leaves, proof.leaves.as_slice())?;
+    if leaves.as_slice().len() > MOST_LEAVES {
+        return Err(StepFault::Refused(Reason::LeavesFull));
+    }
     let conclusion = row.conclusion.copy(alloc)?;
     Ok(Row {
         conclusion,

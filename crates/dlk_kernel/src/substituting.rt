@@ -6,7 +6,7 @@ ghost use Rattle.dlk_calculus.specs.declared.reason.Reason.TheVariants.{IllSubst
 ghost use Rattle.dlk_calculus.specs.Pairs.{IsWellFormed};
 ghost use Rattle.dlk_calculus.specs.Sequents.{Sequent as TreeSequent};
 ghost use Rattle.dlk_calculus.specs.Provables.{Provable, SubstEach, SubstSequent, SubstSequents, Substitutes};
-ghost use Rattle.dlk_calculus.specs.Steps.{Substitute, Gives, Fault};
+ghost use Rattle.dlk_calculus.specs.Steps.{Substitute, Gives, IsWithin, Fault};
 ghost use Rattle.dlk_sequent.specs.Sequents.{sequent_at, IsKnown};
 ghost use Rattle.dlk_sequent.specs.Substitutions.{pairs_at, AreKnownPairs, IsMadeOver};
 ghost use Rattle.dlk_subst.specs.declared.fault.ApplyFault.TheVariants.{NotAdmissible};
@@ -14,6 +14,7 @@ ghost use Rattle.dlk_kernel.specs.Faults.{IsStepFault};
 ghost use Rattle.dlk_kernel.specs.Kernel.{provable_at, provables_at, IsKnownRow};
 
 use crate::fault::StepFault;
+use crate::limits::{Measure, is_substituted_within};
 use crate::row::Row;
 use dlk_calculus::Reason;
 use dlk_sequent::{Listed, Pair, Sequent, Subst, SubstFault, item_at};
@@ -187,6 +188,7 @@ pub(crate) fn substitute<S: Store, L: Ledger>(
     requires pairs { AreKnownPairs (S.trees store.old) pairs.now }
     requires rows { All (IsKnownRow (S.trees store.old)) rows.now }
     ensures given { IfOk result (λ row. Gives (provables_at (S.trees store.old) rows.now) (Substitute fact (pairs_at (S.trees store.old) pairs.now)) (provable_at (S.trees store.new) row)) }
+    ensures within { IfOk result (λ row. IsWithin (Substitute fact (pairs_at (S.trees store.old) pairs.now)) (provable_at (S.trees store.new) row)) }
     ensures known { IfOk result (IsKnownRow (S.trees store.new)) }
     ensures fault { IfErr result (IsStepFault (Fault (provables_at (S.trees store.old) rows.now) (Substitute fact (pairs_at (S.trees store.old) pairs.now)))) }
     ensures grows { S.grows store.old store.new }
@@ -199,5 +201,11 @@ pub(crate) fn substitute<S: Store, L: Ledger>(
         return Err(StepFault::Refused(Reason::FreeInSubst));
     }
     let made = subst_row(alloc, store, &sigma, row, steps)?;
+    if !is_substituted_within(store, Measure::Nodes, pairs, &made) {
+        return Err(StepFault::Refused(Reason::TooBig));
+    }
+    if !is_substituted_within(store, Measure::Levels, pairs, &made) {
+        return Err(StepFault::Refused(Reason::TooDeep));
+    }
     Ok(made)
 }

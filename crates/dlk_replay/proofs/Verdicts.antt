@@ -6,9 +6,10 @@ use Rattle.std.specs.Prelude.{◌==◌, if◌then◌else◌}
 use Rattle.dlk_calculus.specs.Provables.{Provable}
 use Rattle.dlk_calculus.specs.Steps.{Step, StepOf, Fault, History}
 use Rattle.dlk_calculus.specs.declared.reason.Reason.{Reason}
-use Rattle.dlk_calculus.specs.declared.reason.Reason.TheVariants.{NoFact, NoGoal, UnknownName, NoPlace, WrongShape, NotEqual, NotFresh, NotArith, IllSubst, FreeInSubst, NotAdmissible}
+use Rattle.dlk_calculus.specs.declared.reason.Reason.TheVariants.{NoFact, NoGoal, UnknownName, NoPlace, WrongShape, NotEqual, NotFresh, NotArith, IllSubst, FreeInSubst, NotAdmissible, TooBig, TooDeep, SideFull, GoalsFull, LeavesFull, LinesFull}
 use Rattle.dlk_calculus.specs.Reasons.{rank}
-use Rattle.dlk_calculus.proofs.StepLaws.{one_given, step_cases, StepOf-given}
+use Rattle.dlk_calculus.proofs.StepLaws.{one_given}
+use Rattle.dlk_calculus.proofs.LimitLaws.{verdict_cases}
 use Rattle.dlk_calculus.proofs.Histories.{History-none, History-more}
 use Rattle.dlk_termtext.specs.Lines.{Line, Numbered, Done, IsLine}
 use Rattle.dlk_termtext.proofs.LineForms.{one_line}
@@ -26,7 +27,7 @@ as_many _ _ (one_more {lines} {rows} {line} {step} {p} before is given) =
 
 -- the reason of a place in their order
 abbrev reason_of : ℕ → Reason
-reason_of n = if n == 1 then NoFact else if n == 2 then NoGoal else if n == 3 then UnknownName else if n == 4 then NoPlace else if n == 5 then WrongShape else if n == 6 then NotEqual else if n == 7 then NotFresh else if n == 8 then NotArith else if n == 9 then IllSubst else if n == 10 then FreeInSubst else NotAdmissible
+reason_of n = if n == 1 then NoFact else if n == 2 then NoGoal else if n == 3 then UnknownName else if n == 4 then NoPlace else if n == 5 then WrongShape else if n == 6 then NotEqual else if n == 7 then NotFresh else if n == 8 then NotArith else if n == 9 then IllSubst else if n == 10 then FreeInSubst else if n == 11 then NotAdmissible else if n == 12 then TooBig else if n == 13 then TooDeep else if n == 14 then SideFull else if n == 15 then GoalsFull else if n == 16 then LeavesFull else LinesFull
 
 ranked : (a : Reason) → reason_of (rank a) ≡ a
 ranked NoFact = refl
@@ -40,6 +41,12 @@ ranked NotArith = refl
 ranked IllSubst = refl
 ranked FreeInSubst = refl
 ranked NotAdmissible = refl
+ranked TooBig = refl
+ranked TooDeep = refl
+ranked SideFull = refl
+ranked GoalsFull = refl
+ranked LeavesFull = refl
+ranked LinesFull = refl
 
 one_rank : (a b : Reason) → rank a ≡ rank b → a ≡ b
 one_rank a b e = sym (ranked a) ∙ ap reason_of e ∙ ranked b
@@ -197,8 +204,8 @@ after_step steps rest rows line number step is line_is again =
     elim (cases_eq number (length steps + 1)) [
       | inl right ↦
           let its_own : IsLine line (Numbered (length steps + 1) step) = rw (← right) line_is in
-          elim (step_cases rows step) [
-            | inl gives ↦ again gives.0 (one_more is its_own (StepOf-given rows step gives.0 gives.1))
+          elim (verdict_cases rows step) [
+            | inl taken ↦ again taken.0 (one_more is its_own taken.1)
             | inr against ↦ (bad (length steps + 1) (why.Step against.0), faulty rest is its_own against.1)
           ]
       | inr other ↦ (bad (length steps + 1) why.WrongNumber, misnumbered rest is line_is other)

@@ -24,7 +24,7 @@ pub enum LineWhy {
     WrongNumber,
     /// The file ends where this line should stand.
     NoEnd,
-    /// Its step is no step of the calculus.
+    /// Its step is no step of the calculus, or passes a limit.
     Step(Reason),
 }
 

@@ -13,7 +13,7 @@ module _ {old new : List Tree} (keeps : Keeps old new) where
   pair_at-kept : (p : Pair) → IsId old p.by → pair_at new p ≡ pair_at old p
   pair_at-kept p h = let same = keeps.same p.by h in λ i. record { sym = p.sym; by = same i }
 
-  AreKnownPairs-kept : (pairs : List Pair) → AreKnownPairs old pairs → AreKnownPairs new pairs
+  pub AreKnownPairs-kept : (pairs : List Pair) → AreKnownPairs old pairs → AreKnownPairs new pairs
   AreKnownPairs-kept pairs h =
       All-weaker (λ (p : Pair). IsId old p.by) (λ p. IsId new p.by) (λ p. IsId-kept keeps p.by) pairs h
 

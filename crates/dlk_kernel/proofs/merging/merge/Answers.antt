@@ -1,8 +1,11 @@
+use Rattle.std.proofs.Common.{List, length, refl, ap, arith}
+use Rattle.dlk_sequent.specs.declared.sequent.Sequent.{Sequent}
 use Rattle.std.proofs.lemmas.Bool.{both_ways}
 use Rattle.dlk_sequent.specs.Sequents.{IsKnown}
 use Rattle.dlk_calculus.proofs.PlaceLaws.{At_All, At_place}
 use Rattle.dlk_kernel.specs.Kernel.{IsKnownRow}
 use Rattle.dlk_kernel.proofs.MergeLaws.{merge_without_goal, merge_at_other, merged_given, merged_known}
+use Rattle.dlk_kernel.proofs.LimitRows.{merge_full, merge_leaves_full, merge_row_within}
 use Rattle.dlk_kernel.proofs.merging.merge.Goals as goal
 
 pub returns-in_default-item_at-2-clause-fault : goal.returns-in_default-item_at-2-clause-fault
@@ -32,13 +35,13 @@ join-requires-clause-old g c = (At_All (IsKnownRow (g.S.Store.trees c.args.store
 
 pub join-requires-clause-more : goal.join-requires-clause-more
 join-requires-clause-more g c =
-    rw c.as_slice-3.ensures ((At_All (IsKnownRow (g.S.Store.trees c.args.store.now)) c.args.rows.now c.args.by c.in-Some-item_at.proof.now c.requires c.in-Some-item_at.ensures).leaves)
+    rw c.as_slice-4.ensures ((At_All (IsKnownRow (g.S.Store.trees c.args.store.now)) c.args.rows.now c.args.by c.in-Some-item_at.proof.now c.requires c.in-Some-item_at.ensures).leaves)
 
 pub returns-clause-given : goal.returns-clause-given
 returns-clause-given g c =
     merged_given _ c.args.rows.now c.args.fact c.args.goal c.args.by c.in-Some.row.now c.in-Some-item_at.proof.now c.in-Some.ensures c.in-Some-item_at.ensures
     c.in-Some-item_at-2.s.now (cc (c.in-Some-item_at-2.ensures, c.as_slice.ensures))
-    (c.same_sequent.ensures.0 c.if-not-same_sequent.false) c.in_ok-leaves.leaves (rw c.as_slice-3.ensures at c.in_ok-leaves.ensures.joined) _
+    (c.same_sequent.ensures.0 c.if-not-same_sequent.false) c.in_ok-leaves.leaves (rw c.as_slice-4.ensures at c.in_ok-leaves.ensures.joined) _
     (rw (c.in_ok-conclusion.ensures, c.in_ok-goals.ensures, c.as_slice-2.ensures))
 
 pub returns-clause-known : goal.returns-clause-known
@@ -48,3 +51,20 @@ returns-clause-known g c =
     (At_All (IsKnownRow trees) c.args.rows.now c.args.fact c.in-Some.row.now c.requires c.in-Some.ensures)
     (At_All (IsKnownRow trees) c.args.rows.now c.args.by c.in-Some-item_at.proof.now c.requires c.in-Some-item_at.ensures)
     c.in_ok-leaves.leaves c.in_ok-leaves.ensures.known _ (rw (c.in_ok-conclusion.ensures, c.in_ok-goals.ensures, c.as_slice-2.ensures))
+
+pub returns-then-as_slice-gt-MOST_GOALS-clause-fault : goal.returns-then-as_slice-gt-MOST_GOALS-clause-fault
+returns-then-as_slice-gt-MOST_GOALS-clause-fault g c =
+    merge_full _ c.args.rows.now c.args.fact c.args.goal c.args.by c.in-Some.row.now c.in-Some-item_at.proof.now c.in-Some.ensures c.in-Some-item_at.ensures
+    c.in-Some-item_at-2.s.now (cc (c.in-Some-item_at-2.ensures, c.as_slice.ensures)) (c.same_sequent.ensures.0 c.if-not-same_sequent.false) c.in_ok-goals.goals (rw (c.in_ok-goals.ensures, c.as_slice-2.ensures) refl) (omega (arith, c.if-as_slice-gt-MOST_GOALS.true, ap (λ (l : List Sequent). length l) c.as_slice-3.ensures))
+
+pub returns-then-as_slice-gt-MOST_LEAVES-clause-fault : goal.returns-then-as_slice-gt-MOST_LEAVES-clause-fault
+returns-then-as_slice-gt-MOST_LEAVES-clause-fault g c =
+    merge_leaves_full _ c.args.rows.now c.args.fact c.args.goal c.args.by c.in-Some.row.now c.in-Some-item_at.proof.now c.in-Some.ensures c.in-Some-item_at.ensures
+    c.in-Some-item_at-2.s.now (cc (c.in-Some-item_at-2.ensures, c.as_slice.ensures)) (c.same_sequent.ensures.0 c.if-not-same_sequent.false) c.in_ok-goals.goals (rw (c.in_ok-goals.ensures, c.as_slice-2.ensures) refl) (omega (arith, c.if-as_slice-gt-MOST_GOALS.false, ap (λ (l : List Sequent). length l) c.as_slice-3.ensures))
+    c.in_ok-leaves.leaves (rw c.as_slice-4.ensures at c.in_ok-leaves.ensures.joined) (omega (arith, c.if-as_slice-gt-MOST_LEAVES.true, ap (λ (l : List Sequent). length l) c.as_slice-5.ensures))
+
+pub returns-clause-within : goal.returns-clause-within
+returns-clause-within g c =
+    merge_row_within _ c.args.rows.now c.args.fact c.args.goal c.args.by c.in-Some.row.now c.in-Some-item_at.proof.now c.in-Some.ensures c.in-Some-item_at.ensures
+    c.in-Some-item_at-2.s.now (cc (c.in-Some-item_at-2.ensures, c.as_slice.ensures)) (c.same_sequent.ensures.0 c.if-not-same_sequent.false) c.in_ok-goals.goals (rw (c.in_ok-goals.ensures, c.as_slice-2.ensures) refl) (omega (arith, c.if-as_slice-gt-MOST_GOALS.false, ap (λ (l : List Sequent). length l) c.as_slice-3.ensures))
+    c.in_ok-leaves.leaves (rw c.as_slice-4.ensures at c.in_ok-leaves.ensures.joined) (omega (arith, c.if-as_slice-gt-MOST_LEAVES.false, ap (λ (l : List Sequent). length l) c.as_slice-5.ensures)) _ (rw c.in_ok-conclusion.ensures refl)
