@@ -6,3 +6,5 @@ pub mod Forms
 pub mod Calls
 pub mod StepForms
 pub mod LineForms
+pub mod Appended
+pub mod Readback

@@ -15,14 +15,13 @@ pub record NumberedParts (text : List ℕ) (n : ℕ) (step : Step) : Type 0 wher
   pub rest : List ℕ
   pub number_is : NumberThen text 32 n rest
   pub step_is : IsStep rest step
-  pub few : length text ≤ 4096
 
 abbrev pub LineParts : List ℕ → Line → Type 0
 LineParts text (Numbered n step) = NumberedParts text n step
 LineParts text Done = text ≡ codes "done"
 
 pub line_parts : (text : List ℕ) (l : Line) → IsLine text l → LineParts text l
-line_parts _ _ (numbered {n} {text} {place} {step} is of few) = record { rest = text; number_is = before_space n text place is; step_is = of; few = few }
+line_parts _ _ (numbered {n} {text} {place} {step} is of) = record { rest = text; number_is = before_space n text place is; step_is = of }
 line_parts _ _ done = refl
 
 pub numbered_line : (text : List ℕ) (n : ℕ) (step : Step) → NumberedParts text n step → IsLine text (Numbered n step)
@@ -30,7 +29,7 @@ numbered_line text n step parts =
     let d = parts.number_is.digits in
     let behind : d ++ 32 ∷ parts.rest ≡ d ++ codes " " ++ parts.rest = simp append_assoc in
     let e : text ≡ d ++ codes " " ++ parts.rest = parts.number_is.text_is ∙ behind in
-    rw e (numbered parts.number_is.is_number parts.step_is (rw e at parts.few))
+    rw e (numbered parts.number_is.is_number parts.step_is)
 
 pub no_line : (text : List ℕ) (l : Line) → text ≢ codes "done" → ((n : ℕ) (rest : List ℕ) → ¬ NumberThen text 32 n rest) → ¬ IsLine text l
 no_line text (Numbered n step) other none is = let h = line_parts text (Numbered n step) is in none n h.rest h.number_is

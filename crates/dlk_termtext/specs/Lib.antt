@@ -2,3 +2,5 @@ pub mod Words
 pub mod Lines
 pub mod Parts
 pub mod Read
+pub mod Written
+pub mod Looks

@@ -61,7 +61,5 @@ pub data IsStep : List ℕ → Step → Type 0 where
 
 -- IsLine text line: the text, without a line feed behind it, is this line.
 pub data IsLine : List ℕ → Line → Type 0 where
-  -- a line of a step has at most 4,096 bytes
-  numbered : {n text : List ℕ} {place : ℕ} {step : Step} → IsNumber n place → IsStep text step → length (n ++ codes " " ++ text) ≤ 4096 →
-      IsLine (n ++ codes " " ++ text) (Numbered place step)
+  numbered : {n text : List ℕ} {place : ℕ} {step : Step} → IsNumber n place → IsStep text step → IsLine (n ++ codes " " ++ text) (Numbered place step)
   done : IsLine (codes "done") Done

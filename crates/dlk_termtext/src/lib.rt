@@ -1,6 +1,7 @@
 //! The lines of proof-term files.
 #![tactic(auto)]
 
+mod append;
 mod arguments;
 mod laws;
 mod line;
@@ -10,10 +11,13 @@ mod reading;
 mod rule;
 mod step;
 mod words;
+mod writing;
+mod writing_rule;
 
-pub use laws::one_line;
+pub use laws::{one_line, written_line_is_read};
 pub use line::{Line, LineFault};
 pub use reading::read_line;
+pub use writing::write_line;
 
 #[cfg(test)]
 mod tests;

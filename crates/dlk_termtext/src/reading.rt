@@ -9,11 +9,7 @@ use crate::step::read_step;
 use dlk_store::Store;
 use std::alloc::Global;
 
-/// The most bytes of a line.
-const MOST_BYTES: usize = 4096;
-
 /// What a line of a proof-term file says: a number and a step, or `done`. The bytes are those before its line feed.
-/// More than 4,096 bytes are no line.
 ///
 /// `Malformed` comes exactly where the bytes are no line, and `Memory` when memory runs out. Whatever comes, the
 /// store keeps its trees.
@@ -25,9 +21,6 @@ pub fn read_line<S: Store>(alloc: Global, line: &[u8], store: &mut S) -> Result<
 {
     if line == b"done".as_slice() {
         return Ok(Line::Done);
-    }
-    if line.len() > MOST_BYTES {
-        return Err(LineFault::Malformed);
     }
     let Some((number, text)) = number_before(line, b' ') else {
         return Err(LineFault::Malformed);

@@ -1,7 +1,13 @@
-use crate::{Line, read_line};
+ghost use Rattle.std.specs.Prelude.{◌≡◌, ◌<◌};
+
+use crate::{Line, read_line, write_line};
 use dlk_plain::PlainStore;
 use dlk_rules::{Rule, Step};
+use dlk_store::Steps;
 use dlk_tree::Name;
+use std::alloc::Global;
+use std::marker::Brand;
+use std::sync::ledger::{Blank, Ledger};
 use std::test::Fail;
 
 /// What the text says.
@@ -329,6 +335,91 @@ fn reads_no_rules(rt: HostRuntime) -> Result<(), Fail> {
     ];
     for text in rows {
         assert_eq!(rt; applied(&rt, text), None, "{text}");
+    }
+    Ok(())
+}
+
+/// What is written of the line that the text says.
+fn written<L: Ledger>(alloc: Global, text: &[u8], blank: Blank) -> Option<Vec<u8>>
+    requires name { blank.name ≡ L.name }
+    requires parts { blank.parts ≡ L.parts }
+    requires some { 0 < blank.parts }
+{
+    let mut store = PlainStore::new(alloc);
+    let Ok(Line::Step { number, step }) = read_line(alloc, text, &mut store) else {
+        return None;
+    };
+    let mut out = Vec::new(alloc);
+    let mut steps = Steps::<L>::new(blank);
+    write_line(number, &step, &store, &mut out, &mut steps).ok()?;
+    Some(out)
+}
+
+/// Whether what is written of the line that the text says is this text.
+fn writes(alloc: Global, text: &str, want: &str) -> bool {
+    match written::<Brand>(alloc, text.as_bytes(), Blank::new(1)) {
+        Some(line) => line.as_slice() == want.as_bytes(),
+        None => false,
+    }
+}
+
+#[test]
+fn writes_lines(rt: HostRuntime) -> Result<(), Fail> {
+    let rows = [
+        "1 start x>=0, y>0 ==> x>=0 -> x>=0",
+        "2 start ==>",
+        "999999999 axiom assignb",
+        "10 rule G",
+        "2 leaf ==> x>0",
+        "3 apply 12 305 implyR(4)",
+        "7 merge 4 5 6",
+        "8 subst 13 p(._0)~>._0>=1,f()~>x+1",
+        "8 subst 1 ",
+        "9 rename 2 x True",
+    ];
+    for text in rows {
+        assert!(rt; writes(rt.alloc(), text, text), "{text}");
+    }
+    let spaced = "1 leaf  x>0,( y>0 )==>/* nothing */";
+    assert!(rt; writes(rt.alloc(), spaced, "1 leaf x>0, y>0 ==>"));
+    Ok(())
+}
+
+#[test]
+fn writes_rules(rt: HostRuntime) -> Result<(), Fail> {
+    let rows = [
+        "close(5,60)",
+        "closeTrue(1)",
+        "closeFalse(2)",
+        "notL(3)",
+        "notR(4)",
+        "andL(5)",
+        "andR(6)",
+        "orL(7)",
+        "orR(8)",
+        "implyL(9)",
+        "implyR(10)",
+        "equivL(11)",
+        "equivR(12)",
+        "cut([x:=1;]x>0)",
+        "cutL(40,x>0&y>0)",
+        "cutR(5,p(x,y))",
+        "hideL(13)",
+        "hideR(14)",
+        "coHideR(15)",
+        "exchangeL(16,17)",
+        "exchangeR(18,19)",
+        "skolemL(20)",
+        "skolemR(21)",
+        "boundL(4,y_1)",
+        "boundR(5,trueX)",
+        "equivifyR(22)",
+        "commuteEquivL(23)",
+        "commuteEquivR(24)",
+    ];
+    for rule in rows {
+        let text = format!(in rt.alloc(); "1 apply 2 3 {rule}")?;
+        assert!(rt; writes(rt.alloc(), text.as_str(), text.as_str()), "{rule}");
     }
     Ok(())
 }

@@ -28,4 +28,4 @@ returns-in_err-step-clause-fault g c =
 pub returns-clause-found : goal.returns-clause-found
 returns-clause-found g c =
     numbered_line c.args.line.now _ _
-    (record { rest = c.in-Some.text.now; number_is = c.in-Some.ensures.found; step_is = c.in_ok-step.ensures.found; few = c.if-line-gt-MOST_BYTES.false })
+    (record { rest = c.in-Some.text.now; number_is = c.in-Some.ensures.found; step_is = c.in_ok-step.ensures.found })
