@@ -1,2 +1,4 @@
 pub mod Reports
 pub mod Shown
+pub mod Json
+pub mod Values

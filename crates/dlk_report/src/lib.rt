@@ -2,11 +2,15 @@
 #![tactic(auto)]
 
 mod fault;
+mod json;
 mod laws;
 mod printing;
 mod report;
+#[cfg(test)]
+mod tests;
 
 pub use fault::ReportFault;
-pub use laws::first_line;
+pub use json::report_json;
+pub use laws::{escapes, first_line};
 pub use printing::report_text;
 pub use report::{Report, shown};
