@@ -3,13 +3,14 @@ use Rattle.std.proofs.Common.{◌≡◌, ℕ, List, [], ◌∷◌, length, get_o
 use Rattle.std.specs.declared.alloc.Global.{Global}
 use Rattle.dlk.specs.Forms.{limits_of}
 use Rattle.dlk.specs.Replies.{Reply}
-use Rattle.dlk.specs.Answers.{Does, check, print, vars, substitute}
+use Rattle.dlk.specs.Answers.{Does, check, print, vars, substitute, report}
 use Rattle.dlk.specs.Checks.{Checks}
 use Rattle.dlk.specs.Prints.{Prints}
 use Rattle.dlk.specs.Lists.{Lists}
 use Rattle.dlk.specs.Substitutes.{Substitutes}
 use Rattle.dlk.specs.Shown.{texts_of}
-use Rattle.dlk.specs.declared.command.Command.TheVariants.{Check, Print, Vars, Subst}
+use Rattle.dlk.specs.declared.command.Command.TheVariants.{Check, Print, Vars, Subst, Report}
+use Rattle.dlk.specs.declared.reply.Layout.TheVariants.{Text, Json}
 
 two_items : {A : Type 0} (xs : List A) (a b : A) → length xs ≡ 2 → a ≡ get_or xs 0 a → b ≡ get_or xs 1 b → xs ≡ a ∷ b ∷ []
 two_items [] a b long first second = absurd (omega arith)
@@ -25,7 +26,7 @@ one_item (x ∷ y ∷ xs) a long first = absurd (omega arith)
 -- what `check` answers to the two texts is what it does
 pub check_does : (inputs : List (Vec ℕ Global)) (a b : Vec ℕ Global) (model term : List ℕ) (reply : Reply) →
     length inputs ≡ length (limits_of Check) → a ≡ get_or inputs 0 a → b ≡ get_or inputs 1 b → model ≡ a.items → term ≡ b.items →
-    Checks model term reply → Does Check (texts_of inputs) reply
+    Checks Text model term reply → Does Check (texts_of inputs) reply
 check_does inputs a b model term reply long first second is_model is_term checks =
     rw (two_items inputs a b long first second) (check a.items b.items reply (rw (is_model, is_term) at checks))
 
@@ -46,3 +47,9 @@ pub subst_does : (inputs : List (Vec ℕ Global)) (a b : Vec ℕ Global) (file s
     Substitutes file substitution reply → Does Subst (texts_of inputs) reply
 subst_does inputs a b file substitution reply long first second is_file is_substitution says =
     rw (two_items inputs a b long first second) (substitute a.items b.items reply (rw (is_file, is_substitution) at says))
+
+pub report_does : (inputs : List (Vec ℕ Global)) (a b : Vec ℕ Global) (model term : List ℕ) (reply : Reply) →
+    length inputs ≡ length (limits_of Report) → a ≡ get_or inputs 0 a → b ≡ get_or inputs 1 b → model ≡ a.items → term ≡ b.items →
+    Checks Json model term reply → Does Report (texts_of inputs) reply
+report_does inputs a b model term reply long first second is_model is_term checks =
+    rw (two_items inputs a b long first second) (report a.items b.items reply (rw (is_model, is_term) at checks))

@@ -1,44 +1,59 @@
 -- A term within its limit is accepted where its lines are steps, and else its first wrong line is named.
-use Rattle.std.proofs.Common.{◌≡◌, ◌<◌, ◌≤◌, ℕ, Bool, true, false, nat_lt, List, [], ◌∷◌, ◌++◌, length, None, Some, refl, sym, ap, subst, ◌∙◌, arith}
+use Rattle.std.proofs.Common.{◌≡◌, ◌↔◌, ◌<◌, ◌≤◌, ℕ, Bool, true, false, nat_lt, List, [], ◌∷◌, ◌++◌, length, None, Some, refl, sym, ap, subst, ◌∙◌, arith}
 use Rattle.std.proofs.lemmas.List.{append_cancel_left}
 use Rattle.std.proofs.lemmas.Bool.Decides.{nat_tests}
 use Rattle.dlk_tree.specs.Trees.{Tree}
+use Rattle.dlk_calculus.specs.Sequents.{Sequent}
 use Rattle.dlk_calculus.specs.Provables.{Provable}
 use Rattle.dlk_desk.specs.Outside.{Outside}
 use Rattle.dlk_report.specs.Reports.{is_closed}
 use Rattle.dlk.specs.Forms.{Word, inputs_of, limits_of, limit_of}
 use Rattle.dlk.specs.Inputs.{first_too_long}
 use Rattle.dlk.specs.declared.command.Command.{Command}
-use Rattle.dlk.specs.declared.command.Command.TheVariants.{Check}
+use Rattle.dlk.specs.declared.reply.Layout.{Layout}
+use Rattle.dlk.specs.declared.reply.Layout.TheVariants.{Text, Json}
 use Rattle.dlk.specs.declared.command.Role.TheVariants.{Model, Term}
 use Rattle.dlk.specs.Replies.{Reply, code_of}
 use Rattle.dlk.specs.Checks.{Checks, bad_model, bad_line, bad_conclusion, reports, Accepts, ModelText, proves, status_of, line_refused, other_conclusion, reported}
-use Rattle.dlk.specs.Answers.{Does, check, Responds, refuses, does, Answers, no_form, command}
-use Rattle.dlk.specs.Headline.{RunsCheck, Judges, JudgesTruly}
+use Rattle.dlk.specs.Answers.{Does, check, print, vars, substitute, report, Responds, refuses, does, Answers, no_form, command}
+use Rattle.dlk.specs.Headline.{command_in, RunsCheck, IsReported, Judges, JudgesTruly}
 use Rattle.dlk.proofs.OneReply.{one_check, one_model, model_or_fault}
+use Rattle.dlk.proofs.Truly.{accepted_derived}
 
 closed_or_open : (b : Bool) → code_of (status_of b) < 2
 closed_or_open true = omega arith
 closed_or_open false = omega arith
 
-module _ (model term : List ℕ) (f : Tree) (reads : ModelText model f) where
-  accepted_of : (reply : Reply) → Checks model term reply → code_of reply.status < 2 → (rows : List Provable) × (p : Provable) × Accepts term rows p × (p.conclusion ≡ proves f)
-  accepted_of reply (bad_model why fault) less = absurd (model_or_fault why reads fault)
-  accepted_of reply (bad_line g t n why v) less = absurd (omega (arith, less))
-  accepted_of reply (bad_conclusion g t rows p a ne) less = absurd (omega (arith, less))
-  accepted_of reply (reports g t rows p a e) less = (rows, p, a, e ∙ ap proves (one_model t reads))
+closed_is_zero : (goals : List Sequent) → (code_of (status_of (is_closed goals)) ≡ 0) ↔ (goals ≡ [])
+closed_is_zero [] = ((λ e. refl), (λ e. refl))
+closed_is_zero (s ∷ goals) = ((λ e. absurd (omega (arith, e))), (λ e. cc))
 
-  check_judges : (reply : Reply) → Checks model term reply → Judges term f (code_of reply.status) reply.printed
+module _ (layout : Layout) (model term : List ℕ) (f : Tree) (reads : ModelText model f) where
+  reported_of : (reply : Reply) → Checks layout model term reply → code_of reply.status < 2 → IsReported layout term f (code_of reply.status) reply.printed
+  reported_of reply (bad_model why fault) less = absurd (model_or_fault why reads fault)
+  reported_of reply (bad_line g t n why v) less = absurd (omega (arith, less))
+  reported_of reply (bad_conclusion g t rows p a ne) less = absurd (omega (arith, less))
+  reported_of reply (reports g t rows p a e) less = record {
+    rows = rows;
+    proof = p;
+    accepts = a;
+    derived = accepted_derived term rows p a;
+    conclusion = e ∙ ap proves (one_model t reads);
+    closed = closed_is_zero p.goals;
+    report = refl;
+  }
+
+  check_judges : (reply : Reply) → Checks layout model term reply → Judges layout term f (code_of reply.status) reply.printed
   check_judges reply checks = record {
-    accepted = accepted_of reply checks;
+    accepted = reported_of reply checks;
     first_wrong = λ n why v few.
-        let same = one_check model term reply (line_refused n why) checks (bad_line f reads n why v) in
+        let same = one_check layout model term reply (line_refused n why) checks (bad_line f reads n why v) in
         (ap (λ (r : Reply). code_of r.status) same, ap (λ (r : Reply). r.printed) same);
     all_steps = λ rows p a e few.
-        let same = one_check model term reply (reported p (length rows)) checks (reports f reads rows p a e) in
+        let same = one_check layout model term reply (reported layout p (length rows)) checks (reports f reads rows p a e) in
         subst (λ (r : Reply). code_of r.status < 2) (sym same) (closed_or_open (is_closed p.goals));
     another = λ rows p a ne few.
-        let same = one_check model term reply (other_conclusion (length rows) f p.conclusion) checks (bad_conclusion f reads rows p a ne) in
+        let same = one_check layout model term reply (other_conclusion (length rows) f p.conclusion) checks (bad_conclusion f reads rows p a ne) in
         (ap (λ (r : Reply). code_of r.status) same, ap (λ (r : Reply). r.printed) same);
   }
 
@@ -46,41 +61,58 @@ module _ (model term : List ℕ) (f : Tree) (reads : ModelText model f) where
 within : (limit : ℕ) (bytes : List ℕ) → length bytes ≤ limit → nat_lt limit (length bytes) ≡ false
 within limit bytes h = grind (arith, nat_tests, h)
 
-none_too_long : (names : List Word) (model term : List ℕ) → length model ≤ limit_of Model → length term ≤ limit_of Term →
-    first_too_long names (limits_of Check) (model ∷ term ∷ []) ≡ None
-none_too_long [] model term m t = refl
-none_too_long (a ∷ []) model term m t = rw (within (limit_of Model) model m) refl
-none_too_long (a ∷ b ∷ []) model term m t = rw (within (limit_of Model) model m, within (limit_of Term) term t) refl
-none_too_long (a ∷ b ∷ c ∷ names) model term m t = rw (within (limit_of Model) model m, within (limit_of Term) term t) refl
+short_enough : (names : List Word) (model term : List ℕ) → length model ≤ limit_of Model → length term ≤ limit_of Term →
+    first_too_long names (limit_of Model ∷ limit_of Term ∷ []) (model ∷ term ∷ []) ≡ None
+short_enough [] model term m t = refl
+short_enough (a ∷ []) model term m t = rw (within (limit_of Model) model m) refl
+short_enough (a ∷ b ∷ []) model term m t = rw (within (limit_of Model) model m, within (limit_of Term) term t) refl
+short_enough (a ∷ b ∷ c ∷ names) model term m t = rw (within (limit_of Model) model m, within (limit_of Term) term t) refl
 
-module _ (model term : List ℕ) (m : length model ≤ limit_of Model) (t : length term ≤ limit_of Term) where
-  job_checks : (texts : List (List ℕ)) (reply : Reply) → Does Check texts reply → texts ≡ model ∷ term ∷ [] → Checks model term reply
-  job_checks texts reply (check a b r checks) e =
+none_too_long : (layout : Layout) (names : List Word) (model term : List ℕ) → length model ≤ limit_of Model → length term ≤ limit_of Term →
+    first_too_long names (limits_of (command_in layout)) (model ∷ term ∷ []) ≡ None
+none_too_long Text = short_enough
+none_too_long Json = short_enough
+
+module _ (layout : Layout) (model term : List ℕ) (m : length model ≤ limit_of Model) (t : length term ≤ limit_of Term) where
+  these : (l : Layout) (a b : List ℕ) (r : Reply) → Checks l a b r → a ∷ b ∷ [] ≡ model ∷ term ∷ [] → Checks l model term r
+  these l a b r checks e =
       let same_model : a ≡ model = cc in
       let same_term : b ≡ term = cc in
-      subst (λ (x : List ℕ). Checks x term r) same_model (subst (λ (x : List ℕ). Checks a x r) same_term checks)
+      subst (λ (x : List ℕ). Checks l x term r) same_model (subst (λ (x : List ℕ). Checks l a x r) same_term checks)
 
-  response_checks : (words : List Word) (reply : Reply) → Responds Check words (model ∷ term ∷ []) reply → Checks model term reply
+  job_checks : (l : Layout) (c : Command) (texts : List (List ℕ)) (reply : Reply) → Does c texts reply → c ≡ command_in l → texts ≡ model ∷ term ∷ [] → Checks l model term reply
+  job_checks Text c texts reply (check a b r checks) is e = these Text a b r checks e
+  job_checks Text c texts reply (print a r says) is e = absurd (cc)
+  job_checks Text c texts reply (vars a r says) is e = absurd (cc)
+  job_checks Text c texts reply (substitute a b r says) is e = absurd (cc)
+  job_checks Text c texts reply (report a b r checks) is e = absurd (cc)
+  job_checks Json c texts reply (check a b r checks) is e = absurd (cc)
+  job_checks Json c texts reply (print a r says) is e = absurd (cc)
+  job_checks Json c texts reply (vars a r says) is e = absurd (cc)
+  job_checks Json c texts reply (substitute a b r says) is e = absurd (cc)
+  job_checks Json c texts reply (report a b r checks) is e = these Json a b r checks e
+
+  response_checks : (words : List Word) (reply : Reply) → Responds (command_in layout) words (model ∷ term ∷ []) reply → Checks layout model term reply
   response_checks words reply (refuses name long) =
-      let e : None ≡ Some name = sym (none_too_long (inputs_of Check words) model term m t) ∙ long in absurd (cc)
-  response_checks words reply (does short r job) = job_checks (model ∷ term ∷ []) r job refl
+      let e : None ≡ Some name = sym (none_too_long layout (inputs_of (command_in layout) words) model term m t) ∙ long in absurd (cc)
+  response_checks words reply (does short r job) = job_checks layout (command_in layout) (model ∷ term ∷ []) r job refl refl
 
-  answer_checks : (words : List Word) (old : Outside) (reply : Reply) → Answers words old.files reply → RunsCheck words old model term → Checks model term reply
-  answer_checks words old reply (no_form none) runs = let e : None ≡ Some Check = sym none ∙ runs.form in absurd (cc)
+  answer_checks : (words : List Word) (old : Outside) (reply : Reply) → Answers words old.files reply → RunsCheck layout words old model term → Checks layout model term reply
+  answer_checks words old reply (no_form none) runs = let e : None ≡ Some (command_in layout) = sym none ∙ runs.form in absurd (cc)
   answer_checks words old reply (command c is texts there r responds) runs =
-      let same : c ≡ Check = let e : Some c ≡ Some Check = sym is ∙ runs.form in cc in
+      let same : c ≡ command_in layout = let e : Some c ≡ Some (command_in layout) = sym is ∙ runs.form in cc in
       let read : texts ≡ model ∷ term ∷ [] = let e = runs.texts in cc (there, e, same) in
       response_checks words r (subst (λ (x : Command). Responds x words (model ∷ term ∷ []) r) same (subst (λ (ts : List (List ℕ)). Responds c words ts r) read responds))
 
 pub answer_judges : (words : List Word) (old new : Outside) (reply : Reply) → Answers words old.files reply → new.printed ≡ old.printed ++ reply.printed →
     JudgesTruly words (code_of reply.status) old new
-answer_judges words old new reply answers printed model term said f runs m t reads says =
+answer_judges words old new reply answers printed layout model term said f runs m t reads says =
     let same : reply.printed ≡ said = append_cancel_left old.printed reply.printed said (sym printed ∙ says) in
-    subst (λ (x : List ℕ). Judges term f (code_of reply.status) x) same (check_judges model term f reads reply (answer_checks model term m t words old reply answers runs))
+    subst (λ (x : List ℕ). Judges layout term f (code_of reply.status) x) same (check_judges layout model term f reads reply (answer_checks layout model term m t words old reply answers runs))
 
 -- where there is no answer, or it is broken off, nothing is judged
 pub fault_judges : (words : List Word) (status : ℕ) (old new : Outside) → 3 ≤ status → JudgesTruly words status old new
-fault_judges words status old new high model term said f runs m t reads says = record {
+fault_judges words status old new high layout model term said f runs m t reads says = record {
   accepted = λ less. absurd (omega (arith, less, high));
   first_wrong = λ n why v few. absurd (omega (arith, few, high));
   all_steps = λ rows p a e few. absurd (omega (arith, few, high));

@@ -21,8 +21,10 @@ use Rattle.dlk.specs.Checks.{Checks, bad_model, bad_line, bad_conclusion, report
 use Rattle.dlk.specs.Prints.{Prints, bad_text, prints, printed}
 use Rattle.dlk.specs.Lists.{Lists, lists, bad_text as lists_fault, IsWritten, AreWritten, set_listed, symbols_listed, set_text, signature_text, four_lines}
 use Rattle.dlk.proofs.OneSubstitution.{one_substitution}
-use Rattle.dlk.specs.Answers.{Does, check, print, vars, substitute, Responds, refuses, does, Answers, no_form, command, too_long}
+use Rattle.dlk.specs.Answers.{Does, check, print, vars, substitute, report, Responds, refuses, does, Answers, no_form, command, too_long}
 use Rattle.dlk.specs.declared.command.Command.{Command}
+use Rattle.dlk.specs.declared.reply.Layout.{Layout}
+use Rattle.dlk.specs.declared.reply.Layout.TheVariants.{Text, Json}
 
 -- the same rows, and the same last one
 pub record SameEnd (rows others : List Provable) (p q : Provable) : Type 0 where
@@ -70,8 +72,8 @@ one_model {model} {f} {g} a b = one_tree_text Formula Refused model f g a b
 pub model_or_fault : {model : List ℕ} {f : Tree} (why : TextFault) → ModelText model f → ModelFault model why → ⊥
 model_or_fault {model} {f} why a b = tree_or_fault Formula Refused model f why a b
 
-module _ (model term : List ℕ) where
-  pub one_check : (r s : Reply) → Checks model term r → Checks model term s → r ≡ s
+module _ (layout : Layout) (model term : List ℕ) where
+  pub one_check : (r s : Reply) → Checks layout model term r → Checks layout model term s → r ≡ s
   one_check r s (bad_model why a) (bad_model other b) = ap (text_refused Model) (one_tree_fault Formula Refused model why other a b)
   one_check r s (bad_model why a) (bad_line g u m other w) = absurd (model_or_fault why u a)
   one_check r s (bad_model why a) (bad_conclusion g u others q b ne) = absurd (model_or_fault why u a)
@@ -94,7 +96,7 @@ module _ (model term : List ℕ) where
       absurd (ne (ap (λ (x : Provable). x.conclusion) (sym (one_end a b).last_is) ∙ e ∙ ap proves (one_model t u)))
   one_check r s (reports f t rows p a e) (reports g u others q b e2) =
       let end = one_end a b in
-      λ i. reported (end.last_is i) (length (end.rows_are i))
+      λ i. reported layout (end.last_is i) (length (end.rows_are i))
 
 pub one_print : (file : List ℕ) (r s : Reply) → Prints file r → Prints file s → r ≡ s
 one_print file r s (bad_text why a) (bad_text other b) = ap (text_refused File) (one_tree_fault Expression Allowed file why other a b)
@@ -123,10 +125,11 @@ one_list file r s (lists t a f b m syms wf wb wm ws) (lists u a' f' b' m' syms' 
     λ i. four_lines (free_is i) (bound_is i) (must_is i) (symbols_are i)
 
 one_job : (c : Command) (texts : List (List ℕ)) (r s : Reply) → Does c texts r → Does c texts s → r ≡ s
-one_job c texts r s (check model term r' a) (check model' term' s' b) = one_check model term r s a b
+one_job c texts r s (check model term r' a) (check model' term' s' b) = one_check Text model term r s a b
 one_job c texts r s (print file r' a) (print file' s' b) = one_print file r s a b
 one_job c texts r s (vars file r' a) (vars file' s' b) = one_list file r s a b
 one_job c texts r s (substitute file substitution r' a) (substitute file' substitution' s' b) = one_substitution file substitution r s a b
+one_job c texts r s (report model term r' a) (report model' term' s' b) = one_check Json model term r s a b
 
 one_name : {name other : Word} → Some name ≡ Some other → name ≡ other
 one_name e = cc

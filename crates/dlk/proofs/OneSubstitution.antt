@@ -6,7 +6,7 @@ use Rattle.dlk_calculus.specs.Subst.{Subst}
 use Rattle.dlk_calculus.proofs.OneResult.{one_subst}
 use Rattle.dlk_grammar.specs.declared.token.Dots.TheVariants.{Refused}
 use Rattle.dlk_grammar.specs.declared.token.Form.TheVariants.{Expression}
-use Rattle.dlk_grammar.specs.Readings.{most_nodes, greatest_depth}
+use Rattle.dlk_calculus.specs.Limits.{most_nodes, greatest_depth}
 use Rattle.dlk_grammar.specs.Texts.{TreeTextFault, PairsText, PairsTextFault}
 use Rattle.dlk_machine.proofs.TextLaws.{one_tree_text, tree_or_fault, one_tree_fault, one_pairs_text, pairs_or_fault, one_pairs_fault}
 use Rattle.dlk.specs.declared.command.Role.TheVariants.{File, Substitution}

@@ -4,7 +4,7 @@ use Rattle.dlk_tree.specs.Trees.{Tree, size, depth}
 use Rattle.dlk_calculus.specs.Pairs.{Pair, first_ill, IsWellFormed}
 use Rattle.dlk_calculus.specs.Subst.{Subst}
 use Rattle.dlk_calculus.specs.declared.why.Why.{Why}
-use Rattle.dlk_grammar.specs.Readings.{most_nodes, greatest_depth}
+use Rattle.dlk_calculus.specs.Limits.{most_nodes, greatest_depth}
 use Rattle.dlk_grammar.specs.Texts.{PairsText}
 use Rattle.dlk_store.specs.Stores.{tree, StandsFor, Keeps}
 use Rattle.dlk_store.specs.declared.Id.{Id}

@@ -15,6 +15,7 @@ use Rattle.dlk.specs.Forms.{Word}
 use Rattle.dlk.specs.declared.command.Command.{Command}
 use Rattle.dlk.specs.declared.command.Command.TheVariants.{Check}
 use Rattle.dlk.specs.Replies.{Reply}
+use Rattle.dlk.specs.declared.reply.Layout.TheVariants.{Text}
 use Rattle.dlk.specs.declared.command.Role.TheVariants.{Model}
 use Rattle.dlk.specs.Refusals.{text_refused}
 use Rattle.dlk.specs.Checks.{Checks, bad_model, bad_line, bad_conclusion, reports, Accepts}
@@ -38,7 +39,7 @@ closed_front [] others said n h = refl
 closed_front (goal ∷ goals) others said n h = absurd (not_open n _ _ h)
 
 -- what is accepted ends in a derived provable
-accepted_derived : (term : List ℕ) (rows : List Provable) (p : Provable) → Accepts term rows p → Derives p
+pub accepted_derived : (term : List ℕ) (rows : List Provable) (p : Provable) → Accepts term rows p → Derives p
 accepted_derived term rows p a = (a.before, subst History a.last (accepted_history (file_lines term) rows a.verdict))
 
 module _ (model term said : List ℕ) (n : ℕ) where
@@ -54,7 +55,7 @@ module _ (model term said : List ℕ) (n : ℕ) where
   refused_fault (Unread (TooBig size)) h = not_refused n _ _ h
   refused_fault (Unread (TooDeep depth)) h = not_refused n _ _ h
 
-  check_truly : (reply : Reply) → Checks model term reply → Says reply → IsDerived model term (codes "closed" ++ said)
+  check_truly : (reply : Reply) → Checks Text model term reply → Says reply → IsDerived model term (codes "closed" ++ said)
   check_truly reply (bad_model why fault) h = absurd (refused_fault why h)
   check_truly reply (bad_line f t line why v) h = absurd (not_refused n _ _ h)
   check_truly reply (bad_conclusion f t rows p a ne) h = absurd (not_refused n _ _ h)
@@ -75,13 +76,13 @@ module _ (model term said : List ℕ) (n : ℕ) where
   job_truly texts reply (check m t r checks) e h =
       let same_model : m ≡ model = cc in
       let same_term : t ≡ term = cc in
-      check_truly r (subst (λ (x : List ℕ). Checks x term r) same_model (subst (λ (x : List ℕ). Checks m x r) same_term checks)) h
+      check_truly r (subst (λ (x : List ℕ). Checks Text x term r) same_model (subst (λ (x : List ℕ). Checks Text m x r) same_term checks)) h
 
   response_truly : (words : List Word) (reply : Reply) → Responds Check words (model ∷ term ∷ []) reply → Says reply → IsDerived model term (codes "closed" ++ said)
   response_truly words reply (refuses name long) h = absurd (not_refused n _ _ h)
   response_truly words reply (does short r job) h = job_truly (model ∷ term ∷ []) r job refl h
 
-  answer_truly : (words : List Word) (old : Outside) (reply : Reply) → Answers words old.files reply → RunsCheck words old model term → Says reply → IsDerived model term (codes "closed" ++ said)
+  answer_truly : (words : List Word) (old : Outside) (reply : Reply) → Answers words old.files reply → RunsCheck Text words old model term → Says reply → IsDerived model term (codes "closed" ++ said)
   answer_truly words old reply (no_form none) runs h = let e : None ≡ Some Check = sym none ∙ runs.form in absurd (cc)
   answer_truly words old reply (command c is texts there r responds) runs h =
       let same : c ≡ Check = let e : Some c ≡ Some Check = sym is ∙ runs.form in cc in

@@ -2,7 +2,8 @@
 use Rattle.std.specs.Prelude.{◌≡◌, ℕ, List, [], ◌∷◌, ◌++◌, Some, None, codes}
 use Rattle.dlk_desk.specs.Outside.{Files}
 use Rattle.dlk.specs.declared.command.Command.{Command}
-use Rattle.dlk.specs.declared.command.Command.TheVariants.{Check, Print, Vars, Subst}
+use Rattle.dlk.specs.declared.command.Command.TheVariants.{Check, Print, Vars, Subst, Report}
+use Rattle.dlk.specs.declared.reply.Layout.TheVariants.{Text, Json}
 use Rattle.dlk.specs.Forms.{Word, command_of, inputs_of, limits_of}
 use Rattle.dlk.specs.Inputs.{bytes_of, first_too_long}
 use Rattle.dlk.specs.Replies.{Reply, refusal, refused_words}
@@ -16,10 +17,11 @@ too_long name = refusal (codes "too-long " ++ name)
 
 -- What a command answers to its inputs' texts, each within its limit. One case a command.
 pub data Does : Command → List (List ℕ) → Reply → Type 0 where
-  check : (model term : List ℕ) (reply : Reply) → Checks model term reply → Does Check (model ∷ term ∷ []) reply
+  check : (model term : List ℕ) (reply : Reply) → Checks Text model term reply → Does Check (model ∷ term ∷ []) reply
   print : (file : List ℕ) (reply : Reply) → Prints file reply → Does Print (file ∷ []) reply
   vars : (file : List ℕ) (reply : Reply) → Lists file reply → Does Vars (file ∷ []) reply
   substitute : (file substitution : List ℕ) (reply : Reply) → Substitutes file substitution reply → Does Subst (file ∷ substitution ∷ []) reply
+  report : (model term : List ℕ) (reply : Reply) → Checks Json model term reply → Does Report (model ∷ term ∷ []) reply
 
 -- what a command answers to its inputs' texts
 pub data Responds (command : Command) (words : List Word) (texts : List (List ℕ)) : Reply → Type 0 where

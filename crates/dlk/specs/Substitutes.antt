@@ -7,7 +7,7 @@ use Rattle.dlk_calculus.specs.declared.why.Why.{Why}
 use Rattle.dlk_calculus.specs.declared.why.Why.TheVariants as reason
 use Rattle.dlk_grammar.specs.declared.token.Dots.TheVariants.{Refused}
 use Rattle.dlk_grammar.specs.declared.token.Form.TheVariants.{Expression}
-use Rattle.dlk_grammar.specs.Readings.{most_nodes, greatest_depth}
+use Rattle.dlk_calculus.specs.Limits.{most_nodes, greatest_depth}
 use Rattle.dlk_grammar.specs.Texts.{TreeText, TreeTextFault, PairsText, PairsTextFault, TextFault}
 use Rattle.dlk.specs.declared.command.Role.TheVariants.{File, Substitution}
 use Rattle.dlk.specs.Replies.{Reply, refusal}

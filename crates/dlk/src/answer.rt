@@ -12,7 +12,7 @@ use crate::jobs::check::check;
 use crate::jobs::print::print;
 use crate::jobs::subst::subst;
 use crate::jobs::vars::vars;
-use crate::reply::{Reply, Status};
+use crate::reply::{Layout, Reply, Status};
 use dlk_store::Steps;
 use std::alloc::Global;
 use std::sync::ledger::Ledger;
@@ -70,10 +70,11 @@ fn job<L: Ledger>(
     ensures status { IfOk result (λ r. code_of r.status < 3) }
 {
     match command {
-        Command::Check => check(alloc, &inputs[0], &inputs[1], steps),
+        Command::Check => check(alloc, Layout::Text, &inputs[0], &inputs[1], steps),
         Command::Print => print(alloc, &inputs[0], steps),
         Command::Vars => vars(alloc, &inputs[0]),
         Command::Subst => subst(alloc, &inputs[0], &inputs[1], steps),
+        Command::Report => check(alloc, Layout::Json, &inputs[0], &inputs[1], steps),
     }
 }
 

@@ -13,6 +13,8 @@ pub enum Command {
     Vars,
     /// Applies a substitution to an expression, and prints the result.
     Subst,
+    /// Replays a term, and prints the report as JSON.
+    Report,
 }
 
 /// What a word after the verb names.
@@ -42,11 +44,12 @@ impl Role {
     }
 }
 
-const COMMANDS: [Command; 4] = [
+const COMMANDS: [Command; 5] = [
     Command::Check,
     Command::Print,
     Command::Vars,
     Command::Subst,
+    Command::Report,
 ];
 
 impl Command {
@@ -59,6 +62,7 @@ impl Command {
             Command::Print => "print",
             Command::Vars => "vars",
             Command::Subst => "subst",
+            Command::Report => "report",
         }
     }
 
@@ -67,7 +71,7 @@ impl Command {
         ensures { result.now ≡ roles_of self }
     {
         match self {
-            Command::Check => &[Role::Model, Role::Term],
+            Command::Check | Command::Report => &[Role::Model, Role::Term],
             Command::Print | Command::Vars => &[Role::File],
             Command::Subst => &[Role::File, Role::Substitution],
         }
@@ -98,11 +102,11 @@ impl Command {
         ensures { result.now ≡ limits_of self }
     {
         const MODEL: usize = 1_048_576;
-        const TERM: usize = 65_536;
+        const TERM: usize = 67_108_864;
         const FILE: usize = 1_048_576;
         const SUBSTITUTION: usize = 1_048_576;
         match self {
-            Command::Check => &[MODEL, TERM],
+            Command::Check | Command::Report => &[MODEL, TERM],
             Command::Print | Command::Vars => &[FILE],
             Command::Subst => &[FILE, SUBSTITUTION],
         }

@@ -1,5 +1,6 @@
 // The program over a desk in memory.
 mod examples;
+mod limits;
 mod listing;
 mod models;
 mod printing;

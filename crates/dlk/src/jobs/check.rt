@@ -1,23 +1,25 @@
-// `check MODEL TERM`: replays a term, and compares its conclusion with the model.
+// `check MODEL TERM` and `report MODEL TERM`: replay a term, and compare its conclusion with the model.
 ghost use Rattle.std.specs.Prelude.{◌≡◌, ◌<◌, [], ◌↔◌, IfOk, IfSome, IsTrue};
 ghost use Rattle.dlk_calculus.specs.Places.{at, IsPlace};
 ghost use Rattle.dlk_store.specs.Stores.{IsId, tree};
 ghost use Rattle.dlk_sequent.specs.Sequents.{sequent_at, IsKnown};
 ghost use Rattle.dlk_kernel.specs.Kernel.{facts};
 ghost use Rattle.dlk.specs.Replies.{code_of};
-ghost use Rattle.dlk.specs.Checks.{proves, reason_text, why_text, line_refused, other_conclusion, reported, judged, Checks};
+ghost use Rattle.dlk_report.specs.Reports.{HasAsciiTexts};
+ghost use Rattle.dlk_report.specs.Shown.{parts};
+ghost use Rattle.dlk.specs.Checks.{proves, reason_text, why_text, line_refused, other_conclusion, laid_out, reported, judged, Checks};
 ghost use Rattle.dlk.specs.Shown.{reply_of};
 
 use crate::command::Role;
 use crate::fault::NoReply;
 use crate::refusal::{refuse_text, refused};
-use crate::reply::{Reply, Status};
+use crate::reply::{Layout, Reply, Status};
 use dlk_kernel::{Fact, Kernel, Reason};
 use dlk_parse::read_formula;
 use dlk_plain::PlainStore;
 use dlk_print::sequent_text;
 use dlk_replay::{LineWhy, Outcome, ReplayFault, replay};
-use dlk_report::{report_text, shown};
+use dlk_report::{Report, report_json, report_text, shown};
 use dlk_sequent::{Listed, Sequent};
 use dlk_store::{Id, Steps, Store};
 use std::alloc::Global;
@@ -39,6 +41,12 @@ fn reason_word(why: Reason) -> &'static str
         Reason::IllSubst => "IllSubst",
         Reason::FreeInSubst => "FreeInSubst",
         Reason::NotAdmissible => "NotAdmissible",
+        Reason::TooBig => "TooBig",
+        Reason::TooDeep => "TooDeep",
+        Reason::SideFull => "SideFull",
+        Reason::GoalsFull => "GoalsFull",
+        Reason::LeavesFull => "LeavesFull",
+        Reason::LinesFull => "LinesFull",
     }
 }
 
@@ -106,20 +114,36 @@ fn refuse_conclusion<S: Store, L: Ledger>(
     })
 }
 
+/// The bytes of a report.
+fn lay_out(alloc: Global, layout: Layout, report: &Report) -> Result<Vec<u8>, NoReply>
+    requires { HasAsciiTexts (parts report.now) }
+    ensures { IfOk result (λ bytes. bytes.items ≡ laid_out layout (parts report.now)) }
+{
+    match layout {
+        Layout::Text => Ok(report_text(alloc, report)?),
+        Layout::Json => {
+            let mut bytes = report_json(alloc, report)?;
+            bytes.push(b'\n')?;
+            Ok(bytes)
+        }
+    }
+}
+
 /// The report of a fact that so many lines have shown.
 fn report<S: Store, L: Ledger>(
     alloc: Global,
+    layout: Layout,
     kernel: &Kernel<S>,
     fact: Fact,
     lines: u32,
     steps: &mut Steps<L>,
 ) -> Result<Reply, NoReply>
     requires { IsPlace kernel.now.rows fact }
-    ensures reply { IfOk result (λ r. IfSome (at (facts S.trees kernel.now) fact) (λ p. reply_of r ≡ reported p lines)) }
+    ensures reply { IfOk result (λ r. IfSome (at (facts S.trees kernel.now) fact) (λ p. reply_of r ≡ reported layout p lines)) }
     ensures status { IfOk result (λ r. code_of r.status < 3) }
 {
     let report = shown(alloc, kernel, fact, lines, steps)?;
-    let printed = report_text(alloc, &report)?;
+    let printed = lay_out(alloc, layout, &report)?;
     let status = if report.closed {
         Status::Closed
     } else {
@@ -131,6 +155,7 @@ fn report<S: Store, L: Ledger>(
 /// The answer to a term whose lines are all steps.
 fn judge<S: Store, L: Ledger>(
     alloc: Global,
+    layout: Layout,
     kernel: &Kernel<S>,
     formula: Id,
     outcome: Outcome,
@@ -138,12 +163,12 @@ fn judge<S: Store, L: Ledger>(
 ) -> Result<Reply, NoReply>
     requires formula { IsId (S.trees kernel.now.store) formula }
     requires fact { IsPlace kernel.now.rows outcome.fact }
-    ensures reply { IfOk result (λ r. IfSome (at (facts S.trees kernel.now) outcome.fact) (judged (tree (S.trees kernel.now.store) formula) outcome.lines (reply_of r))) }
+    ensures reply { IfOk result (λ r. IfSome (at (facts S.trees kernel.now) outcome.fact) (judged layout (tree (S.trees kernel.now.store) formula) outcome.lines (reply_of r))) }
     ensures status { IfOk result (λ r. code_of r.status < 3) }
 {
     let found = kernel.conclusion(outcome.fact);
     if is_proof_of(kernel, found, formula) {
-        report(alloc, kernel, outcome.fact, outcome.lines, steps)
+        report(alloc, layout, kernel, outcome.fact, outcome.lines, steps)
     } else {
         refuse_conclusion(alloc, kernel, formula, found, outcome.lines, steps)
     }
@@ -152,13 +177,14 @@ fn judge<S: Store, L: Ledger>(
 /// Checks a term on a kernel without rows.
 fn check_on<S: Store, L: Ledger>(
     alloc: Global,
+    layout: Layout,
     kernel: &mut Kernel<S>,
     model: &[u8],
     term: &[u8],
     steps: &mut Steps<L>,
 ) -> Result<Reply, NoReply>
     requires { kernel.old.rows ≡ [] }
-    ensures reply { IfOk result (λ r. Checks model.now term.now (reply_of r)) }
+    ensures reply { IfOk result (λ r. Checks layout model.now term.now (reply_of r)) }
     ensures status { IfOk result (λ r. code_of r.status < 3) }
 {
     let formula = match read_formula(alloc, model, kernel) {
@@ -166,26 +192,27 @@ fn check_on<S: Store, L: Ledger>(
         Err(fault) => return refuse_text(alloc, Role::Model, fault),
     };
     match replay(alloc, term, kernel, steps) {
-        Ok(outcome) => judge(alloc, kernel, formula, outcome, steps),
+        Ok(outcome) => judge(alloc, layout, kernel, formula, outcome, steps),
         Err(ReplayFault::Bad { line, why }) => refuse_line(alloc, line, why),
         Err(ReplayFault::Memory) => Err(NoReply::Memory),
     }
 }
 
-/// Checks a term against a model.
+/// Checks a term against a model, and reports so.
 ///
 /// # Errors
 ///
 /// `Memory` alone: each refusal is a reply.
 pub fn check<L: Ledger>(
     alloc: Global,
+    layout: Layout,
     model: &[u8],
     term: &[u8],
     steps: &mut Steps<L>,
 ) -> Result<Reply, NoReply>
-    ensures reply { IfOk result (λ r. Checks model.now term.now (reply_of r)) }
+    ensures reply { IfOk result (λ r. Checks layout model.now term.now (reply_of r)) }
     ensures status { IfOk result (λ r. code_of r.status < 3) }
 {
     let mut kernel = Kernel::new(alloc, PlainStore::new(alloc));
-    check_on(alloc, &mut kernel, model, term, steps)
+    check_on(alloc, layout, &mut kernel, model, term, steps)
 }

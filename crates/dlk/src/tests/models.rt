@@ -101,17 +101,19 @@ fn keeps_to_lengths_of_models(rt: HostRuntime) -> Result<(), Fail> {
 #[test]
 fn keeps_to_lengths_of_terms(rt: HostRuntime) -> Result<(), Fail> {
     let alloc = rt.alloc();
-    let (status, desk) = checked(alloc, b"x>=0", &padded(alloc, "", 65536)?)?;
-    assert_eq!(rt; status, 2);
-    assert_eq!(rt; desk.printed(), b"refused: line 1: Malformed\n".as_slice());
-    let (status, desk) = checked(alloc, b"#", &padded(alloc, "", 65537)?)?;
-    assert_eq!(rt; status, 2);
-    assert_eq!(rt; desk.printed(), b"refused: too-long term\n".as_slice());
-    for (length, status) in [(4096, 1), (4097, 2)] {
-        let mut term = padded(alloc, "1 start ==> x>=0", length)?;
-        term.extend_from_slice(b"\ndone\n")?;
-        let (found, _) = checked(alloc, b"x>=0", &term)?;
-        assert_eq!(rt; found, status, "a line of {length} bytes");
+    for (model, length, printed) in [
+        ("x>=0", 67_108_864, "refused: line 1: Malformed\n"),
+        ("#", 67_108_865, "refused: too-long term\n"),
+    ] {
+        let term = padded(alloc, "", length)?;
+        let mut desk = desk_of(alloc, model.as_bytes(), &term, 65536, &[])?;
+        let status = status_of(alloc, &["check", "model", "term"], &mut desk)?;
+        assert_eq!(rt; status, 2);
+        assert_eq!(rt; desk.printed(), printed.as_bytes());
     }
+    let mut term = padded(alloc, "1 start ==> x>=0", 1_000_000)?;
+    term.extend_from_slice(b"\ndone\n")?;
+    let (found, _) = checked(alloc, b"x>=0", &term)?;
+    assert_eq!(rt; found, 1);
     Ok(())
 }

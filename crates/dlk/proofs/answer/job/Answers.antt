@@ -4,9 +4,10 @@ use Rattle.dlk.specs.Checks.{Checks}
 use Rattle.dlk.specs.Prints.{Prints}
 use Rattle.dlk.specs.Lists.{Lists}
 use Rattle.dlk.specs.Substitutes.{Substitutes}
-use Rattle.dlk.specs.declared.command.Command.TheVariants.{Check, Print, Vars, Subst}
+use Rattle.dlk.specs.declared.command.Command.TheVariants.{Check, Print, Vars, Subst, Report}
+use Rattle.dlk.specs.declared.reply.Layout.TheVariants.{Text, Json}
 use Rattle.dlk.specs.Shown.{texts_of, reply_of}
-use Rattle.dlk.proofs.JobTexts.{check_does, print_does, vars_does, subst_does}
+use Rattle.dlk.proofs.JobTexts.{check_does, print_does, vars_does, subst_does, report_does}
 use Rattle.dlk.proofs.answer.job.Goals as goal
 
 pub returns-in-Check-clause-reply : goal.returns-in-Check-clause-reply
@@ -14,7 +15,7 @@ returns-in-Check-clause-reply g c =
     let inputs = c.args.inputs.now in
     let model = c.deref.result.now in
     let term = c.deref-in-Check.result.now in
-    rw c.in-Check.is (IfOk-weaker c.check.result (λ r. Checks model term (reply_of r)) (λ r. Does Check (texts_of inputs) (reply_of r))
+    rw c.in-Check.is (IfOk-weaker c.check.result (λ r. Checks Text model term (reply_of r)) (λ r. Does Check (texts_of inputs) (reply_of r))
     (λ r checks. check_does inputs c.index-inputs-0.result c.index-inputs-1.result model term (reply_of r) (rw c.in-Check.is at c.requires) c.index-inputs-0.is c.index-inputs-1.is c.deref.ensures.value c.deref-in-Check.ensures.value checks)
     c.check.ensures.reply)
 
@@ -42,3 +43,12 @@ returns-in-Subst-clause-reply g c =
     rw c.in-Subst.is (IfOk-weaker c.subst.result (λ r. Substitutes file substitution (reply_of r)) (λ r. Does Subst (texts_of inputs) (reply_of r))
     (λ r says. subst_does inputs c.index-inputs-0-in-Subst.result c.index-inputs-1-in-Subst.result file substitution (reply_of r) (rw c.in-Subst.is at c.requires) c.index-inputs-0-in-Subst.is c.index-inputs-1-in-Subst.is c.deref-in-Subst.ensures.value c.deref-in-Subst-2.ensures.value says)
     c.subst.ensures.reply)
+
+pub returns-in-Report-clause-reply : goal.returns-in-Report-clause-reply
+returns-in-Report-clause-reply g c =
+    let inputs = c.args.inputs.now in
+    let model = c.deref-in-Report.result.now in
+    let term = c.deref-in-Report-2.result.now in
+    rw c.in-Report.is (IfOk-weaker c.check-in-Report.result (λ r. Checks Json model term (reply_of r)) (λ r. Does Report (texts_of inputs) (reply_of r))
+    (λ r checks. report_does inputs c.index-inputs-0-in-Report.result c.index-inputs-1-in-Report.result model term (reply_of r) (rw c.in-Report.is at c.requires) c.index-inputs-0-in-Report.is c.index-inputs-1-in-Report.is c.deref-in-Report.ensures.value c.deref-in-Report-2.ensures.value checks)
+    c.check-in-Report.ensures.reply)
