@@ -1,7 +1,7 @@
-//! Canonical text of trees, sequents, substitutions, variables and symbols.
+//! Canonical text of trees, sequents, substitutions, variables and symbols, appended piece by piece.
 #![tactic(auto)]
 
-mod append;
+mod appending;
 mod fault;
 mod number;
 mod pairs;
@@ -10,7 +10,9 @@ mod sequent;
 mod style;
 mod symbol;
 
+pub use appending::append;
 pub use fault::PrintFault;
+pub use number::append_decimal;
 pub use pairs::pairs_text;
 pub use printing::text;
 pub use sequent::sequent_text;

@@ -4,7 +4,7 @@ ghost use Rattle.std.specs.Fmt.{decimal};
 ghost use Rattle.dlk_grammar.specs.Shown.{literal, last_digits};
 ghost use Rattle.dlk_print.specs.Printed.{Appends};
 
-use crate::append::append;
+use crate::appending::append;
 use crate::fault::PrintFault;
 use dlk_tree::Num;
 
@@ -14,8 +14,12 @@ fn append_digit(out: &mut Vec<u8>, n: u128) -> Result<(), PrintFault>
     append(out, &[b'0' + (n % 10) as u8])
 }
 
-/// Appends the number in decimal.
-pub(crate) fn append_decimal(out: &mut Vec<u8>, n: u128) -> Result<(), PrintFault>
+/// Appends the number in decimal. Without memory a prefix of it was appended.
+///
+/// # Errors
+///
+/// `Memory` alone.
+pub fn append_decimal(out: &mut Vec<u8>, n: u128) -> Result<(), PrintFault>
     ensures { Appends out.old.items out.new.items (decimal n) result }
 {
     if n < 10 {

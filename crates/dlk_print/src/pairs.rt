@@ -7,7 +7,7 @@ ghost use Rattle.dlk_grammar.specs.Shown.{spell};
 ghost use Rattle.dlk_grammar.specs.Symbols.{is_function, is_formula_too, term_word, shown_pair, shown_pairs};
 ghost use Rattle.dlk_print.specs.Printed.{Begun, Appends};
 
-use crate::append::append;
+use crate::appending::append;
 use crate::fault::PrintFault;
 use crate::printing::{gap, text};
 use crate::symbol::symbol_text;

@@ -8,7 +8,7 @@ ghost use Rattle.dlk_grammar.specs.declared.token.Mark.TheVariants.{Comma};
 ghost use Rattle.dlk_print.specs.Printed.{Begun, Appends, gap};
 ghost use Rattle.dlk_print.specs.Kids.{texts_of, first_domain};
 
-use crate::append::{append, append_name};
+use crate::appending::{append, append_name};
 use crate::fault::PrintFault;
 use crate::style::{
     between, close, close_bracket, is_true, items_of, least, level, ode_brackets, open,

@@ -6,7 +6,7 @@ ghost use Rattle.dlk_sequent.specs.Sequents.{sequent_at, IsKnown};
 ghost use Rattle.dlk_grammar.specs.Shown.{spell, formulas, left_side, right_side, shown_sequent};
 ghost use Rattle.dlk_print.specs.Printed.{Begun, Appends};
 
-use crate::append::append;
+use crate::appending::append;
 use crate::fault::PrintFault;
 use crate::printing::{gap, text};
 use dlk_sequent::Sequent;

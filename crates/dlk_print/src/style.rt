@@ -5,7 +5,7 @@ ghost use Rattle.std.specs.Fmt.{decimal};
 ghost use Rattle.dlk_grammar.specs.Shown.{spell, level, least, opening, between, closing, items_of, variable, unit_brackets, ode_brackets, is_true, open_bracket, close_bracket};
 ghost use Rattle.dlk_print.specs.Printed.{Appends};
 
-use crate::append::{append, append_between, append_name};
+use crate::appending::{append, append_between, append_name};
 use crate::fault::PrintFault;
 use crate::number::{append_decimal, append_number};
 use dlk_tree::{Items, Name, Op, Sort, Var};

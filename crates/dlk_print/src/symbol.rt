@@ -4,7 +4,7 @@ ghost use Rattle.dlk_grammar.specs.Shown.{spell, variable, unit_brackets, ode_br
 ghost use Rattle.dlk_grammar.specs.Symbols.{dots, shown_symbol};
 ghost use Rattle.dlk_print.specs.Printed.{Begun, Appends};
 
-use crate::append::{append, append_between, append_name};
+use crate::appending::{append, append_between, append_name};
 use crate::fault::PrintFault;
 use crate::printing::gap;
 use crate::style::{append_dot, append_variable, ode_brackets, unit_brackets};

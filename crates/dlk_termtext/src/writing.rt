@@ -10,9 +10,9 @@ ghost use Rattle.dlk_print.specs.Printed.{Begun, Appends};
 ghost use Rattle.dlk_termtext.specs.Written.{sequent_text, step_text, line_text};
 ghost use Rattle.dlk_termtext.specs.Looks.{rule_looks, step_looks};
 
-use crate::append::{append, append_decimal, append_name, append_number};
+use crate::append::{append_name, append_number};
 use crate::writing_rule::write_rule;
-use dlk_print::{PrintFault, pairs_text, sequent_text};
+use dlk_print::{PrintFault, append, append_decimal, pairs_text, sequent_text};
 use dlk_rules::{Rule, Step};
 use dlk_sequent::{Pair, Sequent};
 use dlk_store::{Steps, Store};
@@ -38,7 +38,7 @@ pub fn write_line<S: Store, L: Ledger>(
     ensures memory { Begun out.old.items out.new.items (line_text number (step_at (S.trees store.now) step.now)) }
     ensures cost { steps.new ≤ steps.old + step_looks (step_at (S.trees store.now) step.now) }
 {
-    append_decimal(out, number)?;
+    append_decimal(out, u128::from(number))?;
     append(out, b" ")?;
     write_step(store, step, out, steps)
 }

@@ -8,8 +8,8 @@ ghost use Rattle.dlk_print.specs.Printed.{Appends};
 ghost use Rattle.dlk_termtext.specs.Written.{call, both, formula_text, rule_text};
 ghost use Rattle.dlk_termtext.specs.Looks.{rule_looks};
 
-use crate::append::{append, append_formula, append_name, append_number};
-use dlk_print::PrintFault;
+use crate::append::{append_formula, append_name, append_number};
+use dlk_print::{PrintFault, append};
 use dlk_rules::Rule;
 use dlk_store::{Id, Steps, Store};
 use dlk_tree::Name;

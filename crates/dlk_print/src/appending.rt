@@ -5,8 +5,12 @@ ghost use Rattle.dlk_print.specs.Printed.{Appends};
 use crate::fault::PrintFault;
 use dlk_tree::Name;
 
-/// Appends the bytes.
-pub(crate) fn append(out: &mut Vec<u8>, text: &[u8]) -> Result<(), PrintFault>
+/// Appends the bytes. Without memory a prefix of them was appended.
+///
+/// # Errors
+///
+/// `Memory` alone.
+pub fn append(out: &mut Vec<u8>, text: &[u8]) -> Result<(), PrintFault>
     ensures { Appends out.old.items out.new.items text.now result }
 {
     out.extend_from_slice(text)?;

@@ -1,5 +1,5 @@
 use Rattle.dlk_print.proofs.Left.{first_failed, then_last}
-use Rattle.dlk_print.proofs.append.append_name.Goals as goal
+use Rattle.dlk_print.proofs.appending.append_name.Goals as goal
 
 pub returns-in_err-append : goal.returns-in_err-append
 returns-in_err-append c = first_failed _ _ c.from_residual.result c.from_residual.ensures.0 (rw c.bytes.ensures.bytes at c.in_err-append.ensures.begun)
