@@ -4,7 +4,7 @@ pub mod Admissible
 pub mod Filled
 pub mod Arguments
 pub mod Staying
-pub mod Related
+pub mod Results
 pub mod Plugged
 pub mod Found
 pub mod Splicing
