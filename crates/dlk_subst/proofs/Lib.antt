@@ -9,5 +9,5 @@ pub mod Plugged
 pub mod Found
 pub mod Splicing
 pub mod Systems
-pub mod Roles
+pub mod Effects
 pub mod Substituted

@@ -10,7 +10,7 @@ ghost use Rattle.dlk_calculus.specs.Subst.{IsAdmissible};
 ghost use Rattle.dlk_sequent.specs.Substitutions.{pairs_at, AreKnownPairs};
 ghost use Rattle.dlk_subst.specs.Results.{IsResult, HasNone};
 ghost use Rattle.dlk_subst.specs.Scopes.{scope_set, IsKnownScope};
-ghost use Rattle.dlk_subst.specs.Roles.{found, role_of};
+ghost use Rattle.dlk_subst.specs.Effects.{found, effect_of};
 ghost use Rattle.dlk_subst.specs.declared.fault.ApplyFault.TheVariants.{NotAdmissible};
 
 use crate::fault::ApplyFault;
@@ -22,7 +22,7 @@ use std::alloc::Global;
 
 /// What a substitution does at an operator.
 #[derive(Clone, Copy, Debug)]
-pub(crate) enum Role {
+pub(crate) enum Effect {
     /// The replacement stands in its place.
     Gives(Id),
     /// The replacement does, with the kids in place of its dots.
@@ -46,16 +46,16 @@ pub(crate) fn find(pairs: &[Pair], s: &Sym) -> Option<Id>
 }
 
 /// What the substitution does at the operator. It is no system: those are for `splice`.
-pub(crate) fn role_at(pairs: &[Pair], op: &Op) -> Role
-    ensures { result ≡ role_of pairs.now op.now }
+pub(crate) fn effect_at(pairs: &[Pair], op: &Op) -> Effect
+    ensures { result ≡ effect_of pairs.now op.now }
 {
     match op {
         Op::UnitFun(s) | Op::UnitPred(s) | Op::Const(s) => {
-            find(pairs, s).map_or(Role::Stays, Role::Gives)
+            find(pairs, s).map_or(Effect::Stays, Effect::Gives)
         }
-        Op::Apply(s) | Op::Holds(s) => find(pairs, s).map_or(Role::Stays, Role::Plugs),
-        Op::Predicational(s) => find(pairs, s).map_or(Role::Stays, Role::Fills),
-        _ => Role::Stays,
+        Op::Apply(s) | Op::Holds(s) => find(pairs, s).map_or(Effect::Stays, Effect::Plugs),
+        Op::Predicational(s) => find(pairs, s).map_or(Effect::Stays, Effect::Fills),
+        _ => Effect::Stays,
     }
 }
 
