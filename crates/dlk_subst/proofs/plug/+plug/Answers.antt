@@ -7,7 +7,7 @@ use Rattle.dlk_store.proofs.Kids.{kid_smaller, node_fits}
 use Rattle.dlk_calculus.specs.Plug.{Plug}
 use Rattle.dlk_calculus.proofs.Sorts.{AreTerms}
 use Rattle.dlk_subst.specs.Results.{IsResult, args_at}
-use Rattle.dlk_subst.specs.declared.fault.ApplyFault.TheVariants.{NotAdmissible}
+use Rattle.dlk_sequent.specs.declared.fault.ApplyFault.TheVariants.{NotAdmissible}
 use Rattle.dlk_subst.proofs.Growth.{known_kept}
 use Rattle.dlk_subst.proofs.Arguments.{args_kept}
 use Rattle.dlk_subst.proofs.Related.{handed_on, slice_kept, Related, Related-more}

@@ -9,7 +9,7 @@ use Rattle.dlk_calculus.specs.Subst.{Subst}
 use Rattle.dlk_sequent.specs.Substitutions.{pairs_at}
 use Rattle.dlk_sequent.proofs.KeptPairs.{pairs_at-kept}
 use Rattle.dlk_subst.specs.Results.{IsResult}
-use Rattle.dlk_subst.specs.declared.fault.ApplyFault.TheVariants.{NotAdmissible}
+use Rattle.dlk_sequent.specs.declared.fault.ApplyFault.TheVariants.{NotAdmissible}
 use Rattle.dlk_subst.proofs.Growth.{pairs_kept}
 use Rattle.dlk_subst.proofs.Related.{handed_on, slice_kept, Related, Related-more}
 use Rattle.dlk_subst.proofs.Substituted.{all_substituted, substituted_fits, kid_no_subst, node_subst, node_no_subst}
