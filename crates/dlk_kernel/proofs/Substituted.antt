@@ -25,8 +25,8 @@ use Rattle.dlk_sequent.specs.Sequents.{sequent_at, IsKnown}
 use Rattle.dlk_sequent.specs.Substitutions.{Checked, pair_at, pairs_at, AreKnownPairs, IsMadeOver}
 use Rattle.dlk_sequent.proofs.Kept.{IsKnown-kept, trees-kept, sequent-kept, sequents-kept}
 use Rattle.dlk_sequent.proofs.KeptPairs.{pairs_at-kept}
-use Rattle.dlk_subst.specs.declared.fault.ApplyFault.{ApplyFault}
-use Rattle.dlk_subst.specs.declared.fault.ApplyFault.TheVariants.{NotAdmissible, Memory}
+use Rattle.dlk_sequent.specs.declared.fault.ApplyFault.{ApplyFault}
+use Rattle.dlk_sequent.specs.declared.fault.ApplyFault.TheVariants.{NotAdmissible, Memory}
 use Rattle.dlk_subst.specs.Results.{IsResult, HasNone}
 use Rattle.dlk_kernel.specs.declared.row.Row.{Row}
 use Rattle.dlk_kernel.specs.Faults.{IsStepFault, apply_fault_of}

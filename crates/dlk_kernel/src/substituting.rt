@@ -9,7 +9,7 @@ ghost use Rattle.dlk_calculus.specs.Provables.{Provable, SubstEach, SubstSequent
 ghost use Rattle.dlk_calculus.specs.Steps.{Substitute, Gives, IsWithin, Fault};
 ghost use Rattle.dlk_sequent.specs.Sequents.{sequent_at, IsKnown};
 ghost use Rattle.dlk_sequent.specs.Substitutions.{pairs_at, AreKnownPairs, IsMadeOver};
-ghost use Rattle.dlk_subst.specs.declared.fault.ApplyFault.TheVariants.{NotAdmissible};
+ghost use Rattle.dlk_sequent.specs.declared.fault.ApplyFault.TheVariants.{NotAdmissible};
 ghost use Rattle.dlk_kernel.specs.Faults.{IsStepFault};
 ghost use Rattle.dlk_kernel.specs.Kernel.{provable_at, provables_at, IsKnownRow};
 

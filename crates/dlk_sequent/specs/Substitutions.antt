@@ -4,8 +4,8 @@ use Rattle.dlk_tree.specs.Trees.{Tree}
 use Rattle.dlk_store.specs.Stores.{IsId, tree}
 use Rattle.dlk_calculus.specs.Pairs.{Pair as TreePair, IsFreeIn, IsWellFormed, first_ill}
 use Rattle.dlk_sequent.specs.declared.subst.Pair.{Pair}
-use Rattle.dlk_sequent.specs.declared.subst.SubstFault.{SubstFault}
-use Rattle.dlk_sequent.specs.declared.subst.SubstFault.TheVariants.{Ill, Memory}
+use Rattle.dlk_sequent.specs.declared.fault.SubstFault.{SubstFault}
+use Rattle.dlk_sequent.specs.declared.fault.SubstFault.TheVariants.{Ill, Memory}
 
 -- what contracts see of a substitution: its pairs, and whether some variable is free in a replacement of a function or predicate
 pub record Checked : Type 0 where

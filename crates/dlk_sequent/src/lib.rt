@@ -2,6 +2,7 @@
 #![tactic(auto)]
 
 mod arithmetic;
+mod fault;
 mod formula;
 mod listed;
 mod same;
@@ -10,8 +11,10 @@ mod subst;
 mod why;
 
 pub use arithmetic::is_arith;
+pub use dlk_calculus::Why;
+pub use fault::{ApplyFault, SubstFault};
 pub use formula::{is_formula, is_sequent};
 pub use listed::{Listed, item_at};
 pub use same::same_sequent;
 pub use sequent::{Place, Sequent};
-pub use subst::{Pair, Subst, SubstFault};
+pub use subst::{Pair, Subst};

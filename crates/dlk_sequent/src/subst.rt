@@ -5,16 +5,14 @@ ghost use Rattle.dlk_tree.specs.Statics.{free};
 ghost use Rattle.dlk_store.specs.Stores.{IsId, tree};
 ghost use Rattle.dlk_calculus.specs.Pairs.{takes_arguments, IsFreeIn};
 ghost use Rattle.dlk_sequent.specs.Substitutions.{pairs_at, AreKnownPairs, IsMadeOver, IsIllFault};
-ghost use Rattle.dlk_sequent.specs.declared.subst.SubstFault.TheVariants.{Memory};
 
+use crate::fault::SubstFault;
 use crate::why::why;
-use dlk_calculus::Why;
 use dlk_store::{Id, Steps, Store};
 use dlk_tree::{Kind, Sym};
-use std::alloc::{AllocError, AllocFailed, Global};
+use std::alloc::Global;
 use std::marker::Model;
 use std::sync::ledger::Ledger;
-use thiserror::Error;
 
 /// A symbol, and the tree that replaces it. In the tree for a function or a predicate a dot stands for each argument, and in
 /// that for a predicational `_` stands for the formula.
@@ -22,33 +20,6 @@ use thiserror::Error;
 pub struct Pair {
     pub sym: Sym,
     pub by: Id,
-}
-
-/// Why pairs make no substitution.
-#[derive(Clone, Copy, Debug, PartialEq, Eq, Error)]
-pub enum SubstFault {
-    /// The first bad pair, counted from 1, and the first reason against it.
-    #[error("pair {pair} is not well formed")]
-    Ill { pair: usize, why: Why },
-    /// No memory was left.
-    #[error("out of memory")]
-    Memory,
-}
-
-impl From<AllocError> for SubstFault {
-    ghost from_gives = { λ _ e. e ≡ Memory };
-
-    fn from(_: AllocError) -> SubstFault {
-        SubstFault::Memory
-    }
-}
-
-impl<T: Drop> From<AllocFailed<T>> for SubstFault {
-    ghost from_gives = { λ _ e. e ≡ Memory };
-
-    fn from(_: AllocFailed<T>) -> SubstFault {
-        SubstFault::Memory
-    }
 }
 
 /// A uniform substitution: pairs that are well formed over the store that they were made over, and over that store however

@@ -11,11 +11,10 @@ ghost use Rattle.dlk_sequent.specs.Substitutions.{pairs_at, AreKnownPairs};
 ghost use Rattle.dlk_subst.specs.Results.{IsResult, HasNone};
 ghost use Rattle.dlk_subst.specs.Scopes.{scope_set, IsKnownScope};
 ghost use Rattle.dlk_subst.specs.Effects.{found, effect_of};
-ghost use Rattle.dlk_subst.specs.declared.fault.ApplyFault.TheVariants.{NotAdmissible};
+ghost use Rattle.dlk_sequent.specs.declared.fault.ApplyFault.TheVariants.{NotAdmissible};
 
-use crate::fault::ApplyFault;
 use crate::scope::{Scope, is_apart, reach, scope_of};
-use dlk_sequent::Pair;
+use dlk_sequent::{ApplyFault, Pair};
 use dlk_store::{Id, Store};
 use dlk_tree::{Kind, Op, Sym, same_sym};
 use std::alloc::Global;

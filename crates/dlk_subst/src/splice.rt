@@ -9,11 +9,10 @@ ghost use Rattle.dlk_calculus.specs.Subst.{SubstAt, items_for, sides_for, new_it
 ghost use Rattle.dlk_sequent.specs.Substitutions.{pairs_at, AreKnownPairs};
 ghost use Rattle.dlk_subst.specs.Results.{IsResult, HasNone};
 ghost use Rattle.dlk_subst.specs.Splices.{Puts, PutsItem};
-ghost use Rattle.dlk_subst.specs.declared.fault.ApplyFault.TheVariants.{NotAdmissible};
+ghost use Rattle.dlk_sequent.specs.declared.fault.ApplyFault.TheVariants.{NotAdmissible};
 
-use crate::fault::ApplyFault;
 use crate::pairs::{find, keep_admissible};
-use dlk_sequent::Pair;
+use dlk_sequent::{ApplyFault, Pair};
 use dlk_store::{Id, Steps, Store};
 use dlk_tree::{Items, Name, OdeItem, Op, Sort, Sym, arity_of, fits};
 use std::alloc::{AllocError, Global};

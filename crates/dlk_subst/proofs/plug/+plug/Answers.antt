@@ -5,7 +5,7 @@ use Rattle.dlk_store.proofs.Made.{same_kids, next_known, next_same, next_smaller
 use Rattle.dlk_calculus.specs.Plug.{Plug}
 use Rattle.dlk_calculus.proofs.Sorts.{AreTerms, plug_sort}
 use Rattle.dlk_subst.specs.Results.{args_at}
-use Rattle.dlk_subst.specs.declared.fault.ApplyFault.TheVariants.{NotAdmissible}
+use Rattle.dlk_sequent.specs.declared.fault.ApplyFault.TheVariants.{NotAdmissible}
 use Rattle.dlk_subst.proofs.Growth.{known_kept}
 use Rattle.dlk_subst.proofs.Arguments.{args_kept}
 use Rattle.dlk_subst.proofs.Results.{handed_on, holds_tree, result_weaker}

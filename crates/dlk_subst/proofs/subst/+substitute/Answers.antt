@@ -7,7 +7,7 @@ use Rattle.dlk_calculus.specs.Subst.{Subst}
 use Rattle.dlk_calculus.proofs.Sorts.{subst_sort}
 use Rattle.dlk_sequent.specs.Substitutions.{pairs_at}
 use Rattle.dlk_sequent.proofs.KeptPairs.{pairs_at-kept}
-use Rattle.dlk_subst.specs.declared.fault.ApplyFault.TheVariants.{NotAdmissible}
+use Rattle.dlk_sequent.specs.declared.fault.ApplyFault.TheVariants.{NotAdmissible}
 use Rattle.dlk_subst.proofs.Growth.{pairs_kept}
 use Rattle.dlk_subst.proofs.Results.{handed_on, holds_tree, result_weaker}
 use Rattle.dlk_subst.proofs.Substituted.{stands_made, substituting}
