@@ -12,11 +12,12 @@ use Rattle.dlk_tree.specs.Table.{sort_of, kid_sorts, has_parts}
 use Rattle.dlk_tree.specs.Trees.{Tree, node, Forest, no_kids, kid, root, sort, sorts, WellMade}
 use Rattle.dlk_tree.specs.Statics.{plain}
 use Rattle.dlk_tree.specs.Occurs.{has, is_some_dot, is_hole}
-use Rattle.dlk_calculus.specs.Sequents.{Sequent, alone_right, IsFormula, IsSequent}
-use Rattle.dlk_calculus.specs.Kids.{first, later, last}
-use Rattle.dlk_calculus.specs.Places.{IsPlace}
+use Rattle.dlk_calculus.specs.Sequents.{Sequent, ◌==>◌, alone_right, IsFormula, IsSequent}
+use Rattle.dlk_calculus.specs.Notation.{one, two}
+use Rattle.dlk_calculus.specs.Kids.{first, last}
+use Rattle.dlk_calculus.specs.Places.{At, put, without_place}
 use Rattle.dlk_calculus.specs.Rename.{name_in, binder_of, assigned, rebound, reassigned, renamed_bound, swap}
-use Rattle.dlk_calculus.specs.Rules.{Rule, Close, CloseTrue, CloseFalse, NotL, NotR, AndL, AndR, OrL, OrR, ImplyL, ImplyR, EquivL, EquivR, Cut, CutL, CutR, HideL, HideR, CoHideR, ExchangeL, ExchangeR, SkolemL, SkolemR, BoundL, BoundR, EquivifyR, CommuteEquivL, CommuteEquivR, imply, equiv, truth, kid_f, kid_g, left, left_f, left_g, right, right_f, right_g, put_left, put_right, last_left, last_right, without_left, without_right, exists_name, forall_name, HasBinder, figure, Premises}
+use Rattle.dlk_calculus.specs.Rules.{Rule, Close, CloseTrue, CloseFalse, NotL, NotR, AndL, AndR, OrL, OrR, ImplyL, ImplyR, EquivL, EquivR, Cut, CutL, CutR, HideL, HideR, CoHideR, ExchangeL, ExchangeR, SkolemL, SkolemR, BoundL, BoundR, EquivifyR, CommuteEquivL, CommuteEquivR, imply, equiv, HasBinder, figure, Premises}
 use Rattle.dlk_calculus.specs.Provables.{Provable, HasFormulas, Joins, no_more, there, added, SubstEach, SubstSequent, SubstSequents}
 use Rattle.dlk_calculus.specs.Pairs.{Pair, IsWellFormed}
 use Rattle.dlk_calculus.specs.Steps.{Step, Start, UseAxiom, UseRule, Leaf, Apply, Merge, Substitute, Rename, Gives, History, Derives}
@@ -43,11 +44,9 @@ both_false false b p q = q
 -- ---- the kids of a formula
 
 -- an operator over two formulas
-two_formulas : (op : Op) (kids : Forest) → kid_sorts op ≡ Formula ∷ Formula ∷ [] → IsFormula (node op kids) → IsFormula (first kids) × IsFormula (first (later kids))
-two_formulas op no_kids e h = let k = h.well_made.0.kids_fit ∙ e in cc
-two_formulas op (kid f no_kids) e h = let k = h.well_made.0.kids_fit ∙ e in cc
-two_formulas op (kid f (kid g rest)) e h =
-    let k : sort f ∷ sort g ∷ sorts rest ≡ Formula ∷ Formula ∷ [] = h.well_made.0.kids_fit ∙ e in
+two_kids : (op : Op) (f g : Tree) → kid_sorts op ≡ Formula ∷ Formula ∷ [] → IsFormula (two op f g) → IsFormula f × IsFormula g
+two_kids op f g e h =
+    let k : sort f ∷ sort g ∷ [] ≡ Formula ∷ Formula ∷ [] = h.well_made.0.kids_fit ∙ e in
     let dot = second_false _ _ h.no_dot in
     let hole = second_false _ _ h.no_hole in (
       record { well_made = h.well_made.1.0; sort_is = ap head k; no_dot = first_false _ _ dot; no_hole = first_false _ _ hole },
@@ -55,26 +54,10 @@ two_formulas op (kid f (kid g rest)) e h =
     )
 
 -- an operator over one formula
-one_formula : (op : Op) (kids : Forest) → kid_sorts op ≡ Formula ∷ [] → IsFormula (node op kids) → IsFormula (first kids)
-one_formula op no_kids e h = let k = h.well_made.0.kids_fit ∙ e in cc
-one_formula op (kid f rest) e h =
-    let k : sort f ∷ sorts rest ≡ Formula ∷ [] = h.well_made.0.kids_fit ∙ e in
+one_kid : (op : Op) (f : Tree) → kid_sorts op ≡ Formula ∷ [] → IsFormula (one op f) → IsFormula f
+one_kid op f e h =
+    let k : sort f ∷ [] ≡ Formula ∷ [] = h.well_made.0.kids_fit ∙ e in
     record { well_made = h.well_made.1.0; sort_is = ap head k; no_dot = first_false _ _ (second_false _ _ h.no_dot); no_hole = first_false _ _ (second_false _ _ h.no_hole) }
-
--- of a formula whose top operator is known
-two_kids : (t : Tree) (op : Op) → root t ≡ op → kid_sorts op ≡ Formula ∷ Formula ∷ [] → IsFormula t → IsFormula (kid_f t) × IsFormula (kid_g t)
-two_kids (node op kids) other is e h = two_formulas op kids (ap kid_sorts is ∙ e) h
-
-one_kid : (t : Tree) (op : Op) → root t ≡ op → kid_sorts op ≡ Formula ∷ [] → IsFormula t → IsFormula (kid_f t)
-one_kid (node op kids) other is e h = one_formula op kids (ap kid_sorts is ∙ e) h
-
-existential_kid : (t : Tree) (x : List ℕ) → exists_name (root t) ≡ Some x → IsFormula t → IsFormula (kid_f t)
-existential_kid (node (Op'.Exists z) kids) x e h = one_formula (Op'.Exists z) kids refl h
-existential_kid (node _ kids) x e h = absurd (none-some x e)
-
-universal_kid : (t : Tree) (x : List ℕ) → forall_name (root t) ≡ Some x → IsFormula t → IsFormula (kid_f t)
-universal_kid (node (Op'.Forall z) kids) x e h = one_formula (Op'.Forall z) kids refl h
-universal_kid (node _ kids) x e h = absurd (none-some x e)
 
 -- ---- formulas under an operator
 
@@ -112,7 +95,7 @@ quantified op f c kids h = record {
 -- the last of the kids of an operator over one formula
 last_formula : (op : Op) (kids : Forest) → kid_sorts op ≡ Formula ∷ [] → IsFormula (node op kids) → IsFormula (last kids)
 last_formula op no_kids e h = let k = h.well_made.0.kids_fit ∙ e in cc
-last_formula op (kid f no_kids) e h = one_formula op (kid f no_kids) e h
+last_formula op (kid f no_kids) e h = one_kid op f e h
 last_formula op (kid f (kid g rest)) e h = let k = h.well_made.0.kids_fit ∙ e in cc
 
 assigned_name : (b : Tree) (x : List ℕ) → assigned (root b) ≡ Some x → WellMade b → IsTrue (is_name x)
@@ -173,28 +156,28 @@ renamed_formula y (node op kids) can h =
 -- ---- a sequent of formulas stays one
 
 module _ (s : Sequent) (h : IsSequent s) where
-  left_formula : (i : ℕ) → IsPlace s.ante i → IsFormula (left i s)
-  left_formula i p = h.ante (i - 1) truth (omega (arith, p.0, p.1))
+  left_formula : (i : ℕ) (f : Tree) → At s.ante i f → IsFormula f
+  left_formula i f k = At_All IsFormula s.ante i f h.ante k
 
-  right_formula : (j : ℕ) → IsPlace s.succ j → IsFormula (right j s)
-  right_formula j p = h.succ (j - 1) truth (omega (arith, p.0, p.1))
+  right_formula : (j : ℕ) (f : Tree) → At s.succ j f → IsFormula f
+  right_formula j f k = At_All IsFormula s.succ j f h.succ k
 
-  left_put : (i : ℕ) (f : Tree) → IsFormula f → IsSequent (put_left i f s)
+  left_put : (i : ℕ) (f : Tree) → IsFormula f → IsSequent (put s.ante i f ==> s.succ)
   left_put i f p = record { ante = All-set IsFormula s.ante (i - 1) f p h.ante; succ = h.succ }
 
-  right_put : (j : ℕ) (f : Tree) → IsFormula f → IsSequent (put_right j f s)
+  right_put : (j : ℕ) (f : Tree) → IsFormula f → IsSequent (s.ante ==> put s.succ j f)
   right_put j f p = record { ante = h.ante; succ = All-set IsFormula s.succ (j - 1) f p h.succ }
 
-  left_last : (f : Tree) → IsFormula f → IsSequent (last_left f s)
+  left_last : (f : Tree) → IsFormula f → IsSequent (s.ante ++ f ∷ [] ==> s.succ)
   left_last f p = record { ante = All-push IsFormula s.ante f h.ante p; succ = h.succ }
 
-  right_last : (f : Tree) → IsFormula f → IsSequent (last_right f s)
+  right_last : (f : Tree) → IsFormula f → IsSequent (s.ante ==> s.succ ++ f ∷ [])
   right_last f p = record { ante = h.ante; succ = All-push IsFormula s.succ f h.succ p }
 
-  left_without : (i : ℕ) → IsSequent (without_left i s)
+  left_without : (i : ℕ) → IsSequent (without_place s.ante i ==> s.succ)
   left_without i = record { ante = All-append IsFormula _ _ (All-take IsFormula (i - 1) s.ante h.ante) (All-drop IsFormula i s.ante h.ante); succ = h.succ }
 
-  right_without : (j : ℕ) → IsSequent (without_right j s)
+  right_without : (j : ℕ) → IsSequent (s.ante ==> without_place s.succ j)
   right_without j = record { ante = h.ante; succ = All-append IsFormula _ _ (All-take IsFormula (j - 1) s.succ h.succ) (All-drop IsFormula j s.succ h.succ) }
 
 alone : {f : Tree} → IsFormula f → IsSequent (alone_right f)
@@ -208,60 +191,62 @@ two_sequents s t p q = All-cons IsSequent s (t ∷ []) p (one_sequent t q)
 
 -- ---- the premises of a rule
 
-figure_formulas : (rule : Rule) (s : Sequent) → IsSequent s → (figure rule s).places → (figure rule s).shape → All IsSequent (figure rule s).premises
+figure_formulas : (rule : Rule) (s : Sequent) → IsSequent s → (p : (figure rule s.ante s.succ).Parts) → (figure rule s.ante s.succ).shape p → All IsSequent ((figure rule s.ante s.succ).premises p)
 figure_formulas (Close i j) s h p k = All-nil IsSequent
 figure_formulas (CloseTrue j) s h p k = All-nil IsSequent
 figure_formulas (CloseFalse i) s h p k = All-nil IsSequent
-figure_formulas (NotL i) s h p k = one_sequent _ (right_last (without_left i s) (left_without s h i) _ (one_kid (left i s) Op'.Not k refl (left_formula s h i p)))
-figure_formulas (NotR j) s h p k = one_sequent _ (left_last (without_right j s) (right_without s h j) _ (one_kid (right j s) Op'.Not k refl (right_formula s h j p)))
+figure_formulas (NotL i) s h p k = one_sequent _ (right_last (without_place s.ante i ==> s.succ) (left_without s h i) p (one_kid Op'.Not p refl (left_formula s h i _ k)))
+figure_formulas (NotR j) s h p k = one_sequent _ (left_last (s.ante ==> without_place s.succ j) (right_without s h j) p (one_kid Op'.Not p refl (right_formula s h j _ k)))
 figure_formulas (AndL i) s h p k =
-    let m = two_kids (left i s) Op'.And k refl (left_formula s h i p) in
-    one_sequent _ (left_last (put_left i (left_f i s) s) (left_put s h i _ m.0) _ m.1)
+    let m = two_kids Op'.And p.0 p.1 refl (left_formula s h i _ k) in
+    one_sequent _ (left_last (put s.ante i p.0 ==> s.succ) (left_put s h i p.0 m.0) p.1 m.1)
 figure_formulas (AndR j) s h p k =
-    let m = two_kids (right j s) Op'.And k refl (right_formula s h j p) in
-    two_sequents _ _ (right_put s h j _ m.0) (right_put s h j _ m.1)
+    let m = two_kids Op'.And p.0 p.1 refl (right_formula s h j _ k) in
+    two_sequents _ _ (right_put s h j p.0 m.0) (right_put s h j p.1 m.1)
 figure_formulas (OrL i) s h p k =
-    let m = two_kids (left i s) Op'.Or k refl (left_formula s h i p) in
-    two_sequents _ _ (left_put s h i _ m.0) (left_put s h i _ m.1)
+    let m = two_kids Op'.Or p.0 p.1 refl (left_formula s h i _ k) in
+    two_sequents _ _ (left_put s h i p.0 m.0) (left_put s h i p.1 m.1)
 figure_formulas (OrR j) s h p k =
-    let m = two_kids (right j s) Op'.Or k refl (right_formula s h j p) in
-    one_sequent _ (right_last (put_right j (right_f j s) s) (right_put s h j _ m.0) _ m.1)
+    let m = two_kids Op'.Or p.0 p.1 refl (right_formula s h j _ k) in
+    one_sequent _ (right_last (s.ante ==> put s.succ j p.0) (right_put s h j p.0 m.0) p.1 m.1)
 figure_formulas (ImplyL i) s h p k =
-    let m = two_kids (left i s) Op'.Imply k refl (left_formula s h i p) in
-    two_sequents _ _ (right_last (without_left i s) (left_without s h i) _ m.0) (left_put s h i _ m.1)
+    let m = two_kids Op'.Imply p.0 p.1 refl (left_formula s h i _ k) in
+    two_sequents _ _ (right_last (without_place s.ante i ==> s.succ) (left_without s h i) p.0 m.0) (left_put s h i p.1 m.1)
 figure_formulas (ImplyR j) s h p k =
-    let m = two_kids (right j s) Op'.Imply k refl (right_formula s h j p) in
-    one_sequent _ (left_last (put_right j (right_g j s) s) (right_put s h j _ m.1) _ m.0)
+    let m = two_kids Op'.Imply p.0 p.1 refl (right_formula s h j _ k) in
+    one_sequent _ (left_last (s.ante ==> put s.succ j p.1) (right_put s h j p.1 m.1) p.0 m.0)
 figure_formulas (EquivL i) s h p k =
-    let m = two_kids (left i s) Op'.Equiv k refl (left_formula s h i p) in
-    one_sequent _ (left_last (put_left i (imply (left_f i s) (left_g i s)) s) (left_put s h i _ (imply_formula _ _ m.0 m.1)) _ (imply_formula _ _ m.1 m.0))
+    let m = two_kids Op'.Equiv p.0 p.1 refl (left_formula s h i _ k) in
+    let there = imply_formula p.0 p.1 m.0 m.1 in
+    let back = imply_formula p.1 p.0 m.1 m.0 in
+    one_sequent _ (left_last (put s.ante i (imply p.0 p.1) ==> s.succ) (left_put s h i _ there) _ back)
 figure_formulas (EquivR j) s h p k =
-    let m = two_kids (right j s) Op'.Equiv k refl (right_formula s h j p) in
-    two_sequents _ _ (right_put s h j _ (imply_formula _ _ m.0 m.1)) (right_put s h j _ (imply_formula _ _ m.1 m.0))
+    let m = two_kids Op'.Equiv p.0 p.1 refl (right_formula s h j _ k) in
+    two_sequents _ _ (right_put s h j _ (imply_formula p.0 p.1 m.0 m.1)) (right_put s h j _ (imply_formula p.1 p.0 m.1 m.0))
 figure_formulas (Cut f) s h p k = two_sequents _ _ (left_last s h f k) (right_last s h f k)
-figure_formulas (CutL i f) s h p k = two_sequents _ _ (left_put s h i f k) (right_last (without_left i s) (left_without s h i) _ (imply_formula _ _ (left_formula s h i p) k))
-figure_formulas (CutR j f) s h p k = two_sequents _ _ (right_put s h j f k) (right_put s h j _ (imply_formula _ _ k (right_formula s h j p)))
+figure_formulas (CutL i f) s h p k = two_sequents _ _ (left_put s h i f k.1) (right_last (without_place s.ante i ==> s.succ) (left_without s h i) _ (imply_formula p f (left_formula s h i p k.0) k.1))
+figure_formulas (CutR j f) s h p k = two_sequents _ _ (right_put s h j f k.1) (right_put s h j _ (imply_formula f p k.1 (right_formula s h j p k.0)))
 figure_formulas (HideL i) s h p k = one_sequent _ (left_without s h i)
 figure_formulas (HideR j) s h p k = one_sequent _ (right_without s h j)
-figure_formulas (CoHideR j) s h p k = one_sequent _ (alone (right_formula s h j p))
-figure_formulas (ExchangeL i l) s h p k = one_sequent _ (left_put (put_left i (left l s) s) (left_put s h i _ (left_formula s h l p.1)) l _ (left_formula s h i p.0))
-figure_formulas (ExchangeR j l) s h p k = one_sequent _ (right_put (put_right j (right l s) s) (right_put s h j _ (right_formula s h l p.1)) l _ (right_formula s h j p.0))
-figure_formulas (SkolemL i) s h p k = one_sequent _ (left_put s h i _ (existential_kid (left i s) k.0 k.1 (left_formula s h i p)))
-figure_formulas (SkolemR j) s h p k = one_sequent _ (right_put s h j _ (universal_kid (right j s) k.0 k.1 (right_formula s h j p)))
-figure_formulas (BoundL i y) s h p k = one_sequent _ (left_put s h i _ (renamed_formula y (left i s) k (left_formula s h i p)))
-figure_formulas (BoundR j y) s h p k = one_sequent _ (right_put s h j _ (renamed_formula y (right j s) k (right_formula s h j p)))
+figure_formulas (CoHideR j) s h p k = one_sequent _ (alone (right_formula s h j p k))
+figure_formulas (ExchangeL i l) s h p k = one_sequent _ (left_put (put s.ante i p.1 ==> s.succ) (left_put s h i p.1 (left_formula s h l p.1 k.1)) l p.0 (left_formula s h i p.0 k.0))
+figure_formulas (ExchangeR j l) s h p k = one_sequent _ (right_put (s.ante ==> put s.succ j p.1) (right_put s h j p.1 (right_formula s h l p.1 k.1)) l p.0 (right_formula s h j p.0 k.0))
+figure_formulas (SkolemL i) s h p k = one_sequent _ (left_put s h i p.1 (one_kid (Op'.Exists p.0) p.1 refl (left_formula s h i _ k)))
+figure_formulas (SkolemR j) s h p k = one_sequent _ (right_put s h j p.1 (one_kid (Op'.Forall p.0) p.1 refl (right_formula s h j _ k)))
+figure_formulas (BoundL i y) s h p k = one_sequent _ (left_put s h i _ (renamed_formula y p k.1 (left_formula s h i p k.0)))
+figure_formulas (BoundR j y) s h p k = one_sequent _ (right_put s h j _ (renamed_formula y p k.1 (right_formula s h j p k.0)))
 figure_formulas (EquivifyR j) s h p k =
-    let m = two_kids (right j s) Op'.Imply k refl (right_formula s h j p) in
-    one_sequent _ (right_put s h j _ (equiv_formula _ _ m.0 m.1))
+    let m = two_kids Op'.Imply p.0 p.1 refl (right_formula s h j _ k) in
+    one_sequent _ (right_put s h j _ (equiv_formula p.0 p.1 m.0 m.1))
 figure_formulas (CommuteEquivL i) s h p k =
-    let m = two_kids (left i s) Op'.Equiv k refl (left_formula s h i p) in
-    one_sequent _ (left_put s h i _ (equiv_formula _ _ m.1 m.0))
+    let m = two_kids Op'.Equiv p.0 p.1 refl (left_formula s h i _ k) in
+    one_sequent _ (left_put s h i _ (equiv_formula p.1 p.0 m.1 m.0))
 figure_formulas (CommuteEquivR j) s h p k =
-    let m = two_kids (right j s) Op'.Equiv k refl (right_formula s h j p) in
-    one_sequent _ (right_put s h j _ (equiv_formula _ _ m.1 m.0))
+    let m = two_kids Op'.Equiv p.0 p.1 refl (right_formula s h j _ k) in
+    one_sequent _ (right_put s h j _ (equiv_formula p.1 p.0 m.1 m.0))
 
 pub premises_formulas : (rule : Rule) (s : Sequent) (premises : List Sequent) → IsSequent s → Premises rule s premises → All IsSequent premises
-premises_formulas rule s premises h p = rw p.premises_are (figure_formulas rule s h p.places p.shape)
+premises_formulas rule s premises h p = rw p.premises_are (figure_formulas rule s h p.parts p.shape)
 
 -- what a substitution makes of formulas are formulas
 module _ (pairs : List Pair) (well : IsWellFormed pairs) where

@@ -10,13 +10,13 @@ use Rattle.dlk_tree.specs.declared.op.Op.TheVariants as Op'
 use Rattle.dlk_tree.specs.Trees.{Tree, node, no_kids, kid, forest}
 use Rattle.dlk_tree.specs.Statics.{plain, prime}
 
-abbrev leaf : Op → Tree
+abbrev pub leaf : Op → Tree
 leaf op = node op no_kids
 
-abbrev one : Op → Tree → Tree
+abbrev pub one : Op → Tree → Tree
 one op s = node op (kid s no_kids)
 
-abbrev two : Op → Tree → Tree → Tree
+abbrev pub two : Op → Tree → Tree → Tree
 two op s t = node op (kid s (kid t no_kids))
 
 -- ---- terms
