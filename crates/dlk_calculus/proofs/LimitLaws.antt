@@ -1,12 +1,12 @@
 -- The limits: what exceeds one is refused for it, and what none refuses is within them.
-use Rattle.std.proofs.Common.{◌≡◌, ℕ, suc, ◌<◌, ◌≤◌, ◌-◌, List, [], ◌∷◌, length, map, refl, ap, subst, arith, ◌⊎◌, inl, inr}
+use Rattle.std.proofs.Common.{◌≡◌, ◌↔◌, ℕ, suc, ◌<◌, ◌≤◌, ◌-◌, List, [], ◌∷◌, length, map, refl, ap, subst, arith, ◌⊎◌, inl, inr}
 use Rattle.std.specs.List.{All}
 use Rattle.std.proofs.lemmas.Bool.{cases_lt}
 use Rattle.std.proofs.lemmas.List.{length-map}
 use Rattle.std.proofs.lemmas.List.Elements.{All-head, All-tail, All-cons, All-nil, All-append, All-take, All-drop}
 use Rattle.dlk_calculus.specs.declared.reason.Reason.{Reason}
 use Rattle.dlk_calculus.specs.declared.reason.Reason.TheVariants.{NotAdmissible, TooBig, TooDeep, SideFull, GoalsFull, LeavesFull, LinesFull}
-use Rattle.dlk_calculus.specs.Reasons.{rank}
+use Rattle.dlk_calculus.specs.Reasons.{rank, IsOfCalculus}
 use Rattle.dlk_tree.specs.Trees.{Tree, size, depth}
 use Rattle.dlk_calculus.specs.Rename.{swap}
 use Rattle.dlk_calculus.specs.Pairs.{Pair}
@@ -141,6 +141,13 @@ module _ (rows : List Provable) (step : Step) (p : Provable) (g : Gives rows ste
   pub StepOf-within : IsWithin step p → length rows < most_rows → StepOf rows step p
   StepOf-within w room = record { given = g; allowed = allowed w room }
 
+  pub StepOf-taken : StepOf rows step p → Gives rows step p × IsWithin step p × (length rows < most_rows)
+  StepOf-taken s = (
+    g,
+    λ why t. s.allowed why (exceeds_against why t),
+    elim (cases_lt (length rows) most_rows) [ inl room ↦ room | inr full ↦ absurd (s.allowed LinesFull full) ],
+  )
+
   within_cases : ((why : Reason) × Fault rows step why) ⊎ IsWithin step p
   within_cases = elim (unless (each_new IsSmall small step p)) [
     | yes t ↦ inl (TooBig, limit_fault TooBig (omega arith) t (elim [ TooBig ↦ λ lt. absurd (omega arith) | TooDeep ↦ λ lt. absurd (omega arith) | SideFull ↦ λ lt. absurd (omega arith) | GoalsFull ↦ λ lt. absurd (omega arith) | LeavesFull ↦ λ lt. absurd (omega arith) | _ ↦ λ lt e. e ]))
@@ -175,6 +182,14 @@ verdict_cases rows step = elim (step_cases rows step) [
 -- a rule of the calculus gives what a limit refuses
 pub limit_gives : (rows : List Provable) (step : Step) (why : Reason) → rank NotAdmissible < rank why → Fault rows step why → (p : Provable) × Gives rows step p
 limit_gives rows step why limit f = elim (step_cases rows step) [ inl g ↦ g | inr e ↦ absurd (f.first e.0 (omega (arith, limit, e.1)) e.2.against) ]
+
+-- where no reason of the calculus speaks against a step, a rule gives something
+pub given_without_reason : (rows : List Provable) (step : Step) → ((why : Reason) → IsOfCalculus why → Against why rows step → ⊥) → (p : Provable) × Gives rows step p
+given_without_reason rows step none = elim (step_cases rows step) [ inl g ↦ g | inr f ↦ absurd (none f.0 f.1 f.2.against) ]
+
+-- a step is taken exactly where a rule gives something within the limits, and there is room for a row
+pub taken_as_given : (rows : List Provable) (step : Step) (p : Provable) → StepOf rows step p ↔ (Gives rows step p × IsWithin step p × (length rows < most_rows))
+taken_as_given rows step p = (λ s. StepOf-taken rows step p s.given s, λ t. StepOf-within rows step p t.0 t.1 t.2)
 
 -- ---- what stays within the limits
 

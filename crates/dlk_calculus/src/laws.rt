@@ -1,5 +1,5 @@
 //! The laws of the calculus. Each is a contract of a function that does nothing.
-ghost use Rattle.std.specs.Prelude.{◌≡◌, ◌⊎◌, ◌↔◌, List, All, map};
+ghost use Rattle.std.specs.Prelude.{◌≡◌, ◌<◌, ◌⊎◌, ◌↔◌, List, length, All, map};
 ghost use Rattle.dlk_tree.specs.Trees.{Tree, sort, WellMade};
 ghost use Rattle.dlk_calculus.specs.Pairs.{Pair, IsWellFormed, AreMade};
 ghost use Rattle.dlk_calculus.specs.Plug.{Plug};
@@ -9,8 +9,8 @@ ghost use Rattle.dlk_calculus.specs.Axioms.{Axiom, AxiomaticRule, axioms, axioma
 ghost use Rattle.dlk_calculus.specs.Sequents.{IsFormula};
 ghost use Rattle.dlk_calculus.specs.Provables.{Provable, HasFormulas, HasLeaves};
 ghost use Rattle.dlk_calculus.specs.Reasons.{IsOfCalculus};
-ghost use Rattle.dlk_calculus.specs.Limits.{IsLimited};
-ghost use Rattle.dlk_calculus.specs.Steps.{Step, Gives, Against, History, Derives, Fault, StepOf};
+ghost use Rattle.dlk_calculus.specs.Limits.{IsLimited, most_rows};
+ghost use Rattle.dlk_calculus.specs.Steps.{Step, Gives, IsWithin, Against, History, Derives, Fault, StepOf};
 
 /// A replacement has at most one result with given arguments.
 pub fn one_plug()
@@ -54,6 +54,17 @@ pub fn given_unless_against()
     ensures given { (rows : List Provable) (step : Step) (p : Provable) (why : TheReason) → IsOfCalculus why → Gives rows step p → Against why rows step → ⊥ }
     ensures against { (rows : List Provable) (step : Step) → ((p : Provable) × StepOf rows step p) ⊎ ((why : TheReason) × Fault rows step why) }
     ensures limits { (rows : List Provable) (step : Step) (why : TheReason) → (IsOfCalculus why → ⊥) → Fault rows step why → (p : Provable) × Gives rows step p }
+{}
+
+/// A step is taken exactly where a rule of the calculus gives something, all of it is within the limits, and there are fewer rows
+/// than the most.
+pub fn taken_as_given()
+    ensures { (rows : List Provable) (step : Step) (p : Provable) → StepOf rows step p ↔ (Gives rows step p × IsWithin step p × (length rows < most_rows)) }
+{}
+
+/// If no reason of the calculus speaks against a step, a rule of the calculus gives something.
+pub fn given_without_reason()
+    ensures { (rows : List Provable) (step : Step) → ((why : TheReason) → IsOfCalculus why → Against why rows step → ⊥) → (p : Provable) × Gives rows step p }
 {}
 
 /// What is taken from rows within the limits is within them.
