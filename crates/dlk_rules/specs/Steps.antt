@@ -1,6 +1,8 @@
 -- What rules and steps over ids stand for.
-use Rattle.std.specs.Prelude.{List, map, All}
-use Rattle.dlk_tree.specs.Trees.{Tree}
+use Rattle.std.specs.Prelude.{◌≡◌, List, map, All}
+use Rattle.std.specs.Global.{Vec}
+use Rattle.dlk_tree.specs.declared.op.Sort.TheVariants.{Formula}
+use Rattle.dlk_tree.specs.Trees.{Tree, sort}
 use Rattle.dlk_store.specs.Stores.{IsId, tree}
 use Rattle.dlk_calculus.specs.declared.reason.Reason.{Reason}
 use Rattle.dlk_calculus.specs.declared.reason.Reason.TheVariants.{NoPlace, WrongShape, NotEqual, NotFresh}
@@ -100,10 +102,16 @@ HasKnownIds trees (step.Merge fact goal by) = Unit {0}
 HasKnownIds trees (step.Subst fact pairs) = AreKnownPairs trees pairs
 HasKnownIds trees (step.Rename fact x y) = Unit {0}
 
+-- the ids of the sequent are those of the store, and stand for trees of formula sort
+pub record IsOfFormulas (trees : List Tree) (s : Sequent) : Type 0 where
+  pub known : IsKnown trees s
+  pub ante : All (λ t. sort t ≡ Formula) (sequent_at trees s).ante
+  pub succ : All (λ t. sort t ≡ Formula) (sequent_at trees s).succ
+
 -- these sequents of the new trees are the premises that the rule makes of the sequent of old ones
-pub record AreMade (rule : TreeRule) (old : List Tree) (s : Sequent) (new : List Tree) (all : List Sequent) : Type 0 where
-  pub premises : Premises rule (sequent_at old s) (map (sequent_at new) all)
-  pub known : All (IsKnown new) all
+pub record ArePremises (rule : TreeRule) (old : List Tree) (s : Sequent) (new : List Tree) (all : Vec Sequent) : Type 0 where
+  pub premises : Premises rule (sequent_at old s) (map (sequent_at new) all.items)
+  pub known : All (IsKnown new) all.items
 
 -- the reason of this fault is one of those allowed: want of memory always is
 abbrev pub IsRuleFault : (Reason → Type 0) → RuleFault → Type 0
