@@ -1,6 +1,7 @@
 -- The sequent rules, from the conclusion up to the premises.
 use Rattle.std.specs.Prelude.{◌≡◌, ℕ, ◌<◌, List, [], ◌∷◌, ◌++◌, false, ◌||◌, Some, IsTrue}
 use Rattle.std.specs.List.{list_any}
+use Rattle.std.specs.Prelude.{codes}
 use Rattle.dlk_tree.specs.declared.op.Op.{Op}
 use Rattle.dlk_tree.specs.declared.op.Op.TheVariants as Op'
 use Rattle.dlk_tree.specs.Names.{is_name}
@@ -44,6 +45,76 @@ pub data Rule : Type 0 where
   EquivifyR : (j : ℕ) → Rule
   CommuteEquivL : (i : ℕ) → Rule
   CommuteEquivR : (j : ℕ) → Rule
+
+-- what stands in the brackets behind the word of a rule
+pub data Arguments : Type 0 where
+  OnePlace : (i : ℕ) → Arguments
+  TwoPlaces : (i k : ℕ) → Arguments
+  PlaceAndFormula : (i : ℕ) (h : Tree) → Arguments
+  OneFormula : (h : Tree) → Arguments
+  PlaceAndName : (i : ℕ) (y : List ℕ) → Arguments
+
+-- the word of a rule
+abbrev pub word_of : Rule → List ℕ
+word_of (Close i j) = codes "close"
+word_of (CloseTrue j) = codes "closeTrue"
+word_of (CloseFalse i) = codes "closeFalse"
+word_of (NotL i) = codes "notL"
+word_of (NotR j) = codes "notR"
+word_of (AndL i) = codes "andL"
+word_of (AndR j) = codes "andR"
+word_of (OrL i) = codes "orL"
+word_of (OrR j) = codes "orR"
+word_of (ImplyL i) = codes "implyL"
+word_of (ImplyR j) = codes "implyR"
+word_of (EquivL i) = codes "equivL"
+word_of (EquivR j) = codes "equivR"
+word_of (Cut h) = codes "cut"
+word_of (CutL i h) = codes "cutL"
+word_of (CutR j h) = codes "cutR"
+word_of (HideL i) = codes "hideL"
+word_of (HideR j) = codes "hideR"
+word_of (CoHideR j) = codes "coHideR"
+word_of (ExchangeL i k) = codes "exchangeL"
+word_of (ExchangeR j l) = codes "exchangeR"
+word_of (SkolemL i) = codes "skolemL"
+word_of (SkolemR j) = codes "skolemR"
+word_of (BoundL i y) = codes "boundL"
+word_of (BoundR j y) = codes "boundR"
+word_of (EquivifyR j) = codes "equivifyR"
+word_of (CommuteEquivL i) = codes "commuteEquivL"
+word_of (CommuteEquivR j) = codes "commuteEquivR"
+
+-- what stands in its brackets
+abbrev pub arguments_of : Rule → Arguments
+arguments_of (Close i j) = TwoPlaces i j
+arguments_of (CloseTrue j) = OnePlace j
+arguments_of (CloseFalse i) = OnePlace i
+arguments_of (NotL i) = OnePlace i
+arguments_of (NotR j) = OnePlace j
+arguments_of (AndL i) = OnePlace i
+arguments_of (AndR j) = OnePlace j
+arguments_of (OrL i) = OnePlace i
+arguments_of (OrR j) = OnePlace j
+arguments_of (ImplyL i) = OnePlace i
+arguments_of (ImplyR j) = OnePlace j
+arguments_of (EquivL i) = OnePlace i
+arguments_of (EquivR j) = OnePlace j
+arguments_of (Cut h) = OneFormula h
+arguments_of (CutL i h) = PlaceAndFormula i h
+arguments_of (CutR j h) = PlaceAndFormula j h
+arguments_of (HideL i) = OnePlace i
+arguments_of (HideR j) = OnePlace j
+arguments_of (CoHideR j) = OnePlace j
+arguments_of (ExchangeL i k) = TwoPlaces i k
+arguments_of (ExchangeR j l) = TwoPlaces j l
+arguments_of (SkolemL i) = OnePlace i
+arguments_of (SkolemR j) = OnePlace j
+arguments_of (BoundL i y) = PlaceAndName i y
+arguments_of (BoundR j y) = PlaceAndName j y
+arguments_of (EquivifyR j) = OnePlace j
+arguments_of (CommuteEquivL i) = OnePlace i
+arguments_of (CommuteEquivR j) = OnePlace j
 
 abbrev pub imply : Tree → Tree → Tree
 imply f g = two Op'.Imply f g

@@ -1,22 +1,24 @@
 -- Sequents of ids that stand for what rules make of sequents.
-use Rattle.std.proofs.Common.{◌≡◌, ℕ, ◌-◌, List, [], ◌∷◌, ◌++◌, map, refl, ap, ◌∙◌}
+use Rattle.std.proofs.Common.{◌≡◌, ℕ, ◌-◌, List, [], ◌∷◌, ◌++◌, map, refl, ap, ◌∙◌, arith}
+use Rattle.std.specs.Global.{Vec}
 use Rattle.std.specs.List.{All}
 use Rattle.std.proofs.lemmas.List.{map-append, map-set, take-map, drop-map}
-use Rattle.std.proofs.lemmas.List.Elements.{All-push, All-set, All-cons, All-nil, All-append, All-take, All-drop}
-use Rattle.dlk_tree.specs.Trees.{Tree}
+use Rattle.std.proofs.lemmas.List.Elements.{All-push, All-set, All-cons, All-nil, All-append, All-take, All-drop, All-get_or, All-weaker}
+use Rattle.dlk_tree.specs.declared.op.Sort.TheVariants.{Formula}
+use Rattle.dlk_tree.specs.Trees.{Tree, sort}
 use Rattle.dlk_store.specs.declared.Id.{Id}
 use Rattle.dlk_store.specs.Stores.{IsId, tree, StandsFor, Keeps}
 use Rattle.dlk_calculus.specs.Places.{put, without_place}
-use Rattle.dlk_calculus.specs.Rules.{Rule, imply, equiv, put_left, put_right, last_left, last_right, without_left, without_right, figure, FirstAgainst}
-use Rattle.dlk_calculus.specs.Sequents.{Sequent as TreeSequent}
+use Rattle.dlk_calculus.specs.Rules.{Rule, truth, imply, equiv, put_left, put_right, last_left, last_right, without_left, without_right, figure, FirstAgainst}
+use Rattle.dlk_calculus.specs.Sequents.{Sequent as TreeSequent, IsFormula, IsSequent}
 use Rattle.dlk_calculus.proofs.RuleLaws.{first_no_place, first_wrong_shape}
 use Rattle.dlk_sequent.specs.declared.sequent.Sequent.{Sequent}
 use Rattle.dlk_sequent.specs.Sequents.{sequent_at, IsKnown}
 use Rattle.dlk_sequent.proofs.Kept.{IsId-kept, sequent-kept, IsKnown-kept}
 use Rattle.dlk_rules.specs.declared.rule.RuleFault.{RuleFault}
 use Rattle.dlk_rules.specs.declared.rule.RuleFault.TheVariants as fault
-use Rattle.dlk_rules.specs.Steps.{AreMade, IsRuleFault}
-use Rattle.dlk_rules.specs.Looks.{IsShapeFault}
+use Rattle.dlk_rules.specs.Steps.{IsOfFormulas, ArePremises, IsRuleFault}
+use Rattle.dlk_rules.specs.Looks.{IsAt, IsShapeFault}
 
 -- the sequent of ids stands for this sequent
 pub record Stands (trees : List Tree) (s : Sequent) (t : TreeSequent) : Type 0 where
@@ -78,6 +80,19 @@ stands_itself trees id known = record { known = known; tree_is = refl }
 pub stands_itself_kept : {old new : List Tree} → Keeps old new → (id : Id) → IsId old id → StandsFor new id (tree old id)
 stands_itself_kept keeps id known = record { known = IsId-kept keeps id known; tree_is = keeps.same id known }
 
+-- the sort of the formula at a place
+pub sort_there : (trees side : List Tree) (place : ℕ) (id : Id) → All (λ t. sort t ≡ Formula) side → IsAt trees side place id → sort (tree trees id) ≡ Formula
+sort_there trees side place id all at =
+    ap sort at.stands.tree_is ∙ All-get_or (λ t. sort t ≡ Formula) side (place - 1) truth (omega (arith, at.place_is.0, at.place_is.1)) all
+
+-- a sequent of formulas is one of trees of formula sort
+pub of_formulas : (trees : List Tree) (s : Sequent) → IsKnown trees s → IsSequent (sequent_at trees s) → IsOfFormulas trees s
+of_formulas trees s known h = record {
+  known = known;
+  ante = All-weaker IsFormula (λ t. sort t ≡ Formula) (λ t f. f.sort_is) (map (tree trees) s.ante) h.ante;
+  succ = All-weaker IsFormula (λ t. sort t ≡ Formula) (λ t f. f.sort_is) (map (tree trees) s.succ) h.succ;
+}
+
 -- an implication of what two formulas are
 pub stands_imply : {trees : List Tree} {id : Id} {a b f g : Tree} → StandsFor trees id (imply a b) → a ≡ f → b ≡ g → StandsFor trees id (imply f g)
 stands_imply h p q = record { known = h.known; tree_is = h.tree_is ∙ (λ n. imply (p n) (q n)) }
@@ -106,9 +121,9 @@ two_stand {trees} {s} {r} {t} {u} {all} h k is = record {
 }
 
 -- what a rule makes, where all that it asks for holds
-pub made : (rule : Rule) (old new : List Tree) (s : Sequent) (all : List Sequent) →
+pub made : (rule : Rule) (old new : List Tree) (s : Sequent) (all : Vec Sequent) →
     (figure rule (sequent_at old s)).places → (figure rule (sequent_at old s)).shape → (figure rule (sequent_at old s)).equals → (figure rule (sequent_at old s)).fresh →
-    AllStand new all (figure rule (sequent_at old s)).premises → AreMade rule old s new all
+    AllStand new all.items (figure rule (sequent_at old s)).premises → ArePremises rule old s new all
 made rule old new s all places shape equals fresh h = record {
   premises = record { places = places; shape = shape; equals = equals; fresh = fresh; premises_are = h.are };
   known = h.known;

@@ -1,6 +1,7 @@
 //! The sequent rules and the steps of a proof, over the ids of a store.
 #![tactic(auto)]
 
+mod arguments;
 mod closing;
 mod connectives;
 mod equivalences;
@@ -12,6 +13,7 @@ mod sequent_rules;
 mod step;
 mod structural;
 
-pub use rule::{Rule, RuleFault};
+pub use arguments::{Arguments, Shape};
+pub use rule::{Rule, RuleFault, RuleWord};
 pub use sequent_rules::premises;
 pub use step::Step;

@@ -13,7 +13,7 @@ ghost use Rattle.dlk_sequent.specs.Sequents.{sequent_at, IsKnown};
 ghost use Rattle.dlk_rules.specs.Looks as looks;
 ghost use Rattle.dlk_rules.specs.Looks.{IsShapeFault, IsFreshFault};
 ghost use Rattle.dlk_rules.specs.Quantifiers.{bound_name, is_read, IsQuantifiedAt, IsReboundAt};
-ghost use Rattle.dlk_rules.specs.Steps.{AreMade, IsRuleFault};
+ghost use Rattle.dlk_rules.specs.Steps.{ArePremises, IsRuleFault};
 
 use crate::look::{formula_at, top_at};
 use crate::made::one;
@@ -157,9 +157,9 @@ pub(crate) fn skolem_left<S: Store, L: Ledger>(
     i: u32,
     s: &Sequent,
     steps: &mut Steps<L>,
-) -> Result<Listed<Sequent>, RuleFault>
+) -> Result<Vec<Sequent>, RuleFault>
     requires { IsKnown (S.trees store.now) s.now }
-    ensures made { IfOk result (AreMade (SkolemL i) (S.trees store.now) s.now (S.trees store.now)) }
+    ensures made { IfOk result (ArePremises (SkolemL i) (S.trees store.now) s.now (S.trees store.now)) }
     ensures fault { IfErr result (IsRuleFault (FirstAgainst (SkolemL i) (sequent_at (S.trees store.now) s.now))) }
 {
     let (v, f) = quantified_at(store, &s.ante, i, Quantifier::Exists, steps)?;
@@ -192,9 +192,9 @@ pub(crate) fn skolem_right<S: Store, L: Ledger>(
     j: u32,
     s: &Sequent,
     steps: &mut Steps<L>,
-) -> Result<Listed<Sequent>, RuleFault>
+) -> Result<Vec<Sequent>, RuleFault>
     requires { IsKnown (S.trees store.now) s.now }
-    ensures made { IfOk result (AreMade (SkolemR j) (S.trees store.now) s.now (S.trees store.now)) }
+    ensures made { IfOk result (ArePremises (SkolemR j) (S.trees store.now) s.now (S.trees store.now)) }
     ensures fault { IfErr result (IsRuleFault (FirstAgainst (SkolemR j) (sequent_at (S.trees store.now) s.now))) }
 {
     let (v, f) = quantified_at(store, &s.succ, j, Quantifier::Forall, steps)?;
@@ -228,9 +228,9 @@ pub(crate) fn bound_left<S: Store, L: Ledger>(
     y: &Name,
     s: &Sequent,
     steps: &mut Steps<L>,
-) -> Result<Listed<Sequent>, RuleFault>
+) -> Result<Vec<Sequent>, RuleFault>
     requires { IsKnown (S.trees store.old) s.now }
-    ensures made { IfOk result (AreMade (BoundL i y.now) (S.trees store.old) s.now (S.trees store.new)) }
+    ensures made { IfOk result (ArePremises (BoundL i y.now) (S.trees store.old) s.now (S.trees store.new)) }
     ensures fault { IfErr result (IsRuleFault (FirstAgainst (BoundL i y.now) (sequent_at (S.trees store.old) s.now))) }
     ensures grows { S.grows store.old store.new }
 {
@@ -262,9 +262,9 @@ pub(crate) fn bound_right<S: Store, L: Ledger>(
     y: &Name,
     s: &Sequent,
     steps: &mut Steps<L>,
-) -> Result<Listed<Sequent>, RuleFault>
+) -> Result<Vec<Sequent>, RuleFault>
     requires { IsKnown (S.trees store.old) s.now }
-    ensures made { IfOk result (AreMade (BoundR j y.now) (S.trees store.old) s.now (S.trees store.new)) }
+    ensures made { IfOk result (ArePremises (BoundR j y.now) (S.trees store.old) s.now (S.trees store.new)) }
     ensures fault { IfErr result (IsRuleFault (FirstAgainst (BoundR j y.now) (sequent_at (S.trees store.old) s.now))) }
     ensures grows { S.grows store.old store.new }
 {

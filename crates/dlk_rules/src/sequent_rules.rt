@@ -1,9 +1,8 @@
 //! The sequent rules.
 ghost use Rattle.std.specs.Prelude.{IfOk, IfErr};
 ghost use Rattle.dlk_calculus.specs.Rules.{FirstAgainst};
-ghost use Rattle.dlk_calculus.specs.Sequents.{IsSequent};
-ghost use Rattle.dlk_sequent.specs.Sequents.{sequent_at, IsKnown};
-ghost use Rattle.dlk_rules.specs.Steps.{rule_at, RuleIsKnown, AreMade, IsRuleFault};
+ghost use Rattle.dlk_sequent.specs.Sequents.{sequent_at};
+ghost use Rattle.dlk_rules.specs.Steps.{rule_at, RuleIsKnown, IsOfFormulas, ArePremises, IsRuleFault};
 
 use crate::closing::{close, close_false, close_true};
 use crate::connectives::{
@@ -16,12 +15,13 @@ use crate::rule::{Rule, RuleFault};
 use crate::structural::{
     co_hide_right, cut, cut_left, cut_right, exchange_left, exchange_right, hide_left, hide_right,
 };
-use dlk_sequent::{Listed, Sequent};
+use dlk_sequent::Sequent;
 use dlk_store::{Steps, Store};
 use std::alloc::Global;
 use std::sync::ledger::Ledger;
 
-/// The premises that a rule makes of a sequent of formulas. The ids of the rule and of the sequent are those of the store.
+/// The premises that a rule makes of a sequent. The ids of the rule and of the sequent are those of the store, and those of the sequent
+/// stand for trees of formula sort.
 ///
 /// # Errors
 ///
@@ -38,12 +38,11 @@ pub fn premises<S: Store, L: Ledger>(
     rule: &Rule,
     s: &Sequent,
     steps: &mut Steps<L>,
-) -> Result<Listed<Sequent>, RuleFault>
+) -> Result<Vec<Sequent>, RuleFault>
     requires rule { RuleIsKnown (S.trees store.old) rule.now }
-    requires known { IsKnown (S.trees store.old) s.now }
-    requires formulas { IsSequent (sequent_at (S.trees store.old) s.now) }
+    requires sequent { IsOfFormulas (S.trees store.old) s.now }
 
-    ensures made { IfOk result (AreMade (rule_at (S.trees store.old) rule.now) (S.trees store.old) s.now (S.trees store.new)) }
+    ensures made { IfOk result (ArePremises (rule_at (S.trees store.old) rule.now) (S.trees store.old) s.now (S.trees store.new)) }
     ensures fault { IfErr result (IsRuleFault (FirstAgainst (rule_at (S.trees store.old) rule.now) (sequent_at (S.trees store.old) s.now))) }
     ensures grows { S.grows store.old store.new }
 {
