@@ -180,6 +180,7 @@ module _ (x y : List ℕ) where
     swap_parts (Op'.Exists z) h = swap_real z h
     swap_parts (Op'.Const s) h = real_sym_of Prog s h
     swap_parts (Op'.Assign v) h = swap_real v.name h
+    swap_parts (Op'.Any z) h = swap_real z h
     swap_parts (Op'.System items) h = swap_items items h
     swap_parts _ h = h
 

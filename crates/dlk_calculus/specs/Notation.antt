@@ -99,6 +99,10 @@ assign x s = one (Op'.Assign (plain x)) s
 abbrev pub assign_primed : List ℕ → Tree → Tree
 assign_primed x s = one (Op'.Assign (prime x)) s
 
+-- x:=*;
+abbrev pub assign_any : List ℕ → Tree
+assign_any x = leaf (Op'.Any x)
+
 abbrev pub test : Tree → Tree
 test s = one Op'.Test s
 

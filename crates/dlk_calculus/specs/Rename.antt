@@ -67,6 +67,7 @@ swap_op x y Op'.Box = Op'.Box
 swap_op x y Op'.Dia = Op'.Dia
 swap_op x y (Op'.Const s) = Op'.Const (swap_sym x y s)
 swap_op x y (Op'.Assign v) = Op'.Assign (swap_var x y v)
+swap_op x y (Op'.Any z) = Op'.Any (swap_name x y z)
 swap_op x y Op'.Test = Op'.Test
 swap_op x y (Op'.System items) = Op'.System (map (swap_item x y) items)
 swap_op x y Op'.Choice = Op'.Choice

@@ -73,18 +73,28 @@ system v w = node (Op'.System (Item.Evolve v ∷ Item.Const (constant v) ∷ [])
 swaps_systems : swap x y (system x y) ≡ system y x
 swaps_systems = refl
 
+-- x:=*; becomes y:=*;
+abbrev any_of : List ℕ → Tree
+any_of name = leaf (Op'.Any name)
+
+swaps_any : swap x y (any_of x) ≡ any_of y
+swaps_any = refl
+
 -- ---- bound variables
 
 -- [x:=x;]x>x becomes [y:=x;]y>y: the term stays
 renames_assignments : renamed_bound y (assigned_box x (variable x) (greater (variable x) (variable x))) ≡ assigned_box y (variable x) (greater (variable y) (variable y))
 renames_assignments = refl
 
--- [x':=y;]f binds no variable that can have another name, and [a;]f neither
+-- [x':=y;]f binds no variable that can have another name, and [a;]f and [x:=*;]f neither
 no_primed_binder : binder (node Op'.Box (two (node (Op'.Assign (prime x)) (one (variable y))) (variable x))) ≡ None
 no_primed_binder = refl
 
 no_constant_binder : binder (node Op'.Dia (two program (variable x))) ≡ None
 no_constant_binder = refl
+
+no_any_binder : binder (node Op'.Box (two (any_of x) (variable x))) ≡ None
+no_any_binder = refl
 
 fresh_name : may_rename x y (greater (variable x) (variable (codes "z"))) ≡ true
 fresh_name = refl

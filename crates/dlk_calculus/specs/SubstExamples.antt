@@ -1,6 +1,6 @@
 -- Examples of pairs, captures, plugging and substitution.
 use Rattle.std.specs.Prelude.{◌≡◌, ℕ, refl, List, [], ◌∷◌, Bool, true, false, ◌&&◌, IsTrue, Option, Some, None, codes}
-use Rattle.std.proofs.Common.{sym, subst, true≢false, lit<}
+use Rattle.std.proofs.Common.{sym, ap, subst, true≢false, lit<}
 use Rattle.std.proofs.lemmas.List.Elements.{All-cons, All-nil}
 use Rattle.dlk_tree.specs.declared.op.Var.{Var}
 use Rattle.dlk_tree.specs.declared.op.Sym.{Sym}
@@ -46,6 +46,10 @@ y = leaf (Op'.Variable (plain (codes "y")))
 -- x:=1;
 abbrev assign : Tree
 assign = node (Op'.Assign (plain (codes "x"))) (one (number 1))
+
+-- x:=*;
+abbrev anything : Tree
+anything = leaf (Op'.Any (codes "x"))
 
 abbrev positive : Tree → Tree
 positive t = node Op'.Gt (two t (number 0))
@@ -274,22 +278,26 @@ outside = (
   two_made Op'.And boxed (positive x) refl refl boxed_made x_positive,
 )
 
--- p()->[a;]p() with p()~>x>0, a;~>x:=1; is nothing: x is free in x>0 and bound in x:=1;
-abbrev both_pairs : List Pair
-both_pairs = to p (positive x) ∷ to a assign ∷ []
+-- p()->[a;]p() with p()~>x>0, a;~>b is nothing where x is bound in b, since it is free in x>0: so with x:=1; and with x:=*;
+abbrev both_pairs : Tree → List Pair
+both_pairs b = to p (positive x) ∷ to a b ∷ []
 
 abbrev after_a : Tree
 after_a = node Op'.Box (two (leaf (Op'.Const a)) (holds p))
 
-x_clashes : (new : Forest) → SubstAll both_pairs (two (leaf (Op'.Const a)) (holds p)) new → IsAdmissible both_pairs (bound (first new)) (one (holds p)) → ⊥
-x_clashes no_kids all admissible = all
-x_clashes (kid b rest) all admissible =
-    admissible 0 (to a assign) (lit< tt) refl (plain (codes "x"), refl, subst (λ t. IsTrue (both (bound t) (free (positive x)) (plain (codes "x")))) (sym all.0.2) refl)
+module _ (b : Tree) (binds_x : bound b (plain (codes "x")) ≡ true) where
+  x_clashes : (new : Forest) → SubstAll (both_pairs b) (two (leaf (Op'.Const a)) (holds p)) new → IsAdmissible (both_pairs b) (bound (first new)) (one (holds p)) → ⊥
+  x_clashes no_kids all admissible = all
+  x_clashes (kid made rest) all admissible =
+      admissible 0 (to a b) (lit< tt) refl (plain (codes "x"), refl, subst (λ t. IsTrue (both (bound t) (free (positive x)) (plain (codes "x")))) (sym all.0.2) (ap (λ c. c && true) binds_x))
 
-clashes : (new : Forest) → SubstAll both_pairs (two (holds p) after_a) new → ⊥
-clashes no_kids all = all
-clashes (kid s no_kids) all = all.1
-clashes (kid s (kid t rest)) all = let box = all.1.0 in x_clashes box.0 box.1 box.2.0
+  clashes : (new : Forest) → SubstAll (both_pairs b) (two (holds p) after_a) new → ⊥
+  clashes no_kids all = all
+  clashes (kid s no_kids) all = all.1
+  clashes (kid s (kid t rest)) all = let box = all.1.0 in x_clashes box.0 box.1 box.2.0
 
-inside : (t : Tree) → Subst both_pairs (node Op'.Imply (two (holds p) after_a)) t → ⊥
-inside t s = clashes s.0 s.1
+inside : (t : Tree) → Subst (both_pairs assign) (node Op'.Imply (two (holds p) after_a)) t → ⊥
+inside t s = clashes assign refl s.0 s.1
+
+inside_any : (t : Tree) → Subst (both_pairs anything) (node Op'.Imply (two (holds p) after_a)) t → ⊥
+inside_any t s = clashes anything refl s.0 s.1

@@ -125,6 +125,7 @@ row Op'.Box = formula (Program ∷ Formula ∷ []) true
 row Op'.Dia = formula (Program ∷ Formula ∷ []) true
 row (Op'.Const s) = program [] (is_sym_of Prog s)
 row (Op'.Assign v) = program (Term ∷ []) (is_name v.name)
+row (Op'.Any x) = program [] (is_name x)
 row Op'.Test = program (Formula ∷ []) true
 row (Op'.System items) = program (replicate (length (evolved items)) Term ++ Formula ∷ []) (are_items items)
 row Op'.Choice = program (Program ∷ Program ∷ []) true
