@@ -78,12 +78,8 @@ fn reassign<S: Store, L: Ledger>(
     ensures made { IfOk result (λ made. StandsFor (S.trees store.new) made (reassigned y.now (tree (S.trees store.old) program))) }
     ensures grows { S.grows store.old store.new }
 {
-    let name = y.clone()?;
+    let op = Op::Assign(Var::plain(y.clone()?));
     let kids = store.look(program, steps).kids.to_vec(alloc)?;
-    let op = Op::Assign(Var {
-        name,
-        primed: false,
-    });
     store.make(alloc, op, kids.as_slice())
 }
 
