@@ -9,7 +9,7 @@ use crate::bytes::{is_digit, is_space, line_run, word_run};
 use crate::marks::{front_mark, spelling};
 use crate::numbers::number;
 use dlk_grammar::TokenKind;
-use dlk_tree::{Name, NameFault};
+use dlk_tree::{Name, NameFault, is_letter};
 use std::alloc::{AllocError, Global};
 
 /// What is at the front, and how many bytes it has.

@@ -78,8 +78,12 @@ fn reassign<S: Store, L: Ledger>(
     ensures made { IfOk result (λ made. StandsFor (S.trees store.new) made (reassigned y.now (tree (S.trees store.old) program))) }
     ensures grows { S.grows store.old store.new }
 {
-    let op = Op::Assign(Var::plain(y.clone()?));
+    let name = y.clone()?;
     let kids = store.look(program, steps).kids.to_vec(alloc)?;
+    let op = Op::Assign(Var {
+        name,
+        primed: false,
+    });
     store.make(alloc, op, kids.as_slice())
 }
 
