@@ -20,7 +20,7 @@ use dlk_plain::PlainStore;
 use dlk_print::sequent_text;
 use dlk_replay::{LineWhy, Outcome, ReplayFault, replay};
 use dlk_report::{Report, report_json, report_text, shown};
-use dlk_sequent::Sequent;
+use dlk_sequent::{Listed, Sequent};
 use dlk_store::{Id, Steps, Store};
 use std::alloc::Global;
 use std::sync::ledger::Ledger;
@@ -98,7 +98,10 @@ fn refuse_conclusion<S: Store, L: Ledger>(
     ensures reply { IfOk result (λ r. reply_of r ≡ other_conclusion lines (tree (S.trees store.now) formula) (sequent_at (S.trees store.now) found.now)) }
     ensures status { IfOk result (λ r. code_of r.status < 3) }
 {
-    let expected = Sequent::alone_right(alloc, formula)?;
+    let expected = Sequent {
+        ante: Listed::new(alloc),
+        succ: Listed::from_vec([formula].to_vec(alloc)?),
+    };
     let first = format!(in alloc; "refused: other-conclusion {lines}\nexpected ")?;
     let mut printed = first.into_bytes();
     sequent_text(store, &expected, &mut printed, steps)?;
