@@ -1,5 +1,5 @@
 //! Formulas by their texts, and sequents of one formula.
-ghost use Rattle.std.specs.Prelude.{◌≡◌, [], ◌∷◌, IfOk};
+ghost use Rattle.std.specs.Prelude.{◌≡◌, IfOk};
 ghost use Rattle.dlk_tree.specs.Trees.{Tree};
 ghost use Rattle.dlk_grammar.specs.declared.token.Form.TheVariants.{Formula};
 ghost use Rattle.dlk_grammar.specs.declared.token.Dots.TheVariants.{Refused};
@@ -8,9 +8,9 @@ ghost use Rattle.dlk_store.specs.Stores.{StandsFor};
 ghost use Rattle.dlk_axioms.specs.Answers.{StandsAlone};
 
 use dlk_parse::{ParseFault, TextFault, read_formula};
-use dlk_sequent::{Listed, Sequent};
+use dlk_sequent::Sequent;
 use dlk_store::{Id, Store, StoreFault};
-use std::alloc::{AllocError, Global};
+use std::alloc::Global;
 
 /// Want of memory as a fault of the store.
 fn of_memory(fault: TextFault) -> StoreFault
@@ -34,18 +34,6 @@ pub(crate) fn read<S: Store>(alloc: Global, bytes: &[u8], store: &mut S) -> Resu
     }
 }
 
-/// A formula alone on the right.
-fn alone_right(alloc: Global, id: Id) -> Result<Sequent, AllocError>
-    ensures { IfOk result (λ s. s ≡ record { ante = []; succ = id ∷ [] }) }
-{
-    let mut succ = Listed::new(alloc);
-    succ.push(id)?;
-    Ok(Sequent {
-        ante: Listed::new(alloc),
-        succ,
-    })
-}
-
 /// The one formula that the bytes are a text of, alone on the right.
 pub(crate) fn read_alone_right<S: Store>(
     alloc: Global,
@@ -57,5 +45,5 @@ pub(crate) fn read_alone_right<S: Store>(
     ensures grows { S.grows store.old store.new }
 {
     let id = read(alloc, bytes, store)?;
-    Ok(alone_right(alloc, id)?)
+    Ok(Sequent::alone_right(alloc, id)?)
 }

@@ -92,10 +92,7 @@ fn has_taboo<S: Store>(store: &S, s: &Sym, id: Id) -> Result<bool, AllocError>
     let Some(y) = &s.taboo else {
         return Ok(false);
     };
-    let plain = Var {
-        name: y.clone()?,
-        primed: false,
-    };
+    let plain = Var::plain(y.clone()?);
     if touches(store, s.kind, id, &plain) {
         return Ok(true);
     }
