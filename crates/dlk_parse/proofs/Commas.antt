@@ -4,7 +4,7 @@ use Rattle.std.specs.Bool.{◌==◌}
 use Rattle.dlk_tree.specs.declared.op.Sort.{Sort}
 use Rattle.dlk_grammar.specs.Lexemes.{Comma}
 use Rattle.dlk_grammar.specs.declared.token.Infix.TheVariants.{Equiv, Imply, Or, And, Equal, NotEqual, AtLeast, Greater, AtMost, Less, Add, Sub, Mul, Div, Pow, Choice}
-use Rattle.dlk_machine.proofs.Machine.{◌>>=◌, Between, By, Next, Part, Left, Before, Inside, Piece, operand_sort, result_sort, prefix_sort, program_sort, is_program, as_sort, wanted, join, reduce, whole, State, Wants, Has, Calls, Bars, BarsName, Binds, Starts, StartsPrime, Opens, OpensName, OpensPrime, WantsItem, ItemName, ItemPrime, ItemBar, ItemBarName, ItemEnds, Invariants, close_top, closing, step, ended}
+use Rattle.dlk_machine.proofs.Machine.{◌>>=◌, Between, By, Next, Part, Left, Before, Inside, Piece, operand_sort, result_sort, prefix_sort, program_sort, is_program, as_sort, wanted, join, reduce, whole, State, Wants, Has, Calls, Bars, BarsName, Binds, Starts, StartsPrime, StartsGets, StartsStar, Opens, OpensName, OpensPrime, WantsItem, ItemName, ItemPrime, ItemBar, ItemBarName, ItemEnds, Invariants, close_top, closing, step, ended}
 use Rattle.dlk_machine.proofs.Found.{piece_kind}
 use Rattle.dlk_machine.proofs.Parse.{or_else}
 use Rattle.dlk_parse.specs.declared.ends.Comma.TheVariants as comma
@@ -27,6 +27,8 @@ has_shown k m last (BarsName S x y) e h = absurd (let i = h.mode in cc)
 has_shown k m last (Binds S q) e h = absurd (let i = h.mode in cc)
 has_shown k m last (Starts S x) e h = absurd (let i = h.mode in cc)
 has_shown k m last (StartsPrime S x) e h = absurd (let i = h.mode in cc)
+has_shown k m last (StartsGets S x) e h = absurd (let i = h.mode in cc)
+has_shown k m last (StartsStar S x) e h = absurd (let i = h.mode in cc)
 has_shown k m last (Opens S n) e h = absurd (let i = h.mode in cc)
 has_shown k m last (OpensName S n x) e h = absurd (let i = h.mode in cc)
 has_shown k m last (OpensPrime S n x) e h = absurd (let i = h.mode in cc)
@@ -165,6 +167,8 @@ module _ {A B : Type 0} (g : Sort) (w : Piece → Option A) (k : A → Option B)
   comma_behind (Binds S q) = goes (step g (Binds S q) Comma)
   comma_behind (Starts S y) = goes (step g (Starts S y) Comma)
   comma_behind (StartsPrime S y) = goes (step g (StartsPrime S y) Comma)
+  comma_behind (StartsGets S y) = goes (step g (StartsGets S y) Comma)
+  comma_behind (StartsStar S y) = goes (step g (StartsStar S y) Comma)
   comma_behind (Opens S n) = goes (step g (Opens S n) Comma)
   comma_behind (OpensName S n y) = goes (step g (OpensName S n y) Comma)
   comma_behind (OpensPrime S n y) = goes (step g (OpensPrime S n y) Comma)

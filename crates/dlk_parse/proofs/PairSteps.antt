@@ -6,7 +6,7 @@ use Rattle.dlk_tree.specs.declared.op.Sort.TheVariants.{Term, Formula, Program}
 use Rattle.dlk_grammar.specs.Lexemes.{Word, Comma}
 use Rattle.dlk_grammar.specs.Phrases.{Phrase, Everywhere, Evolve, Flow, Items, add}
 use Rattle.dlk_grammar.specs.Substitutions.{Target, function, predicate, PairPhrase, to}
-use Rattle.dlk_machine.proofs.Machine.{◌>>=◌, Part, Piece, Is, Symbol, as_sort, reduce, whole, State, Wants, Has, Calls, Bars, BarsName, Binds, Starts, StartsPrime, Opens, OpensName, OpensPrime, WantsItem, ItemName, ItemPrime, ItemBar, ItemBarName, ItemEnds, Invariants, step, ended}
+use Rattle.dlk_machine.proofs.Machine.{◌>>=◌, Part, Piece, Is, Symbol, as_sort, reduce, whole, State, Wants, Has, Calls, Bars, BarsName, Binds, Starts, StartsPrime, StartsGets, StartsStar, Opens, OpensName, OpensPrime, WantsItem, ItemName, ItemPrime, ItemBar, ItemBarName, ItemEnds, Invariants, step, ended}
 use Rattle.dlk_machine.proofs.Parse.{or_else}
 use Rattle.dlk_machine.proofs.Pairs.{Right, EitherOf, TextOf, SystemOf, PairState, Begins, InRight, ItemWanted, ItemName as NameOfItem, InTerm, ItemEnds as EndOfItem, PairsState, Within, pair_step, pair_ended, pairs_step, right_sort, right_ended, within}
 use Rattle.dlk_parse.specs.Shows.{seen, last_of, Shows, Agrees}
@@ -106,6 +106,8 @@ right_ended_with w (BarsName S y z) = right_not w (BarsName S y z) (λ g. refl)
 right_ended_with w (Binds S q) = right_not w (Binds S q) (λ g. refl)
 right_ended_with w (Starts S y) = right_not w (Starts S y) (λ g. refl)
 right_ended_with w (StartsPrime S y) = right_not w (StartsPrime S y) (λ g. refl)
+right_ended_with w (StartsGets S y) = right_not w (StartsGets S y) (λ g. refl)
+right_ended_with w (StartsStar S y) = right_not w (StartsStar S y) (λ g. refl)
 right_ended_with w (Opens S n) = right_not w (Opens S n) (λ g. refl)
 right_ended_with w (OpensName S n y) = right_not w (OpensName S n y) (λ g. refl)
 right_ended_with w (OpensPrime S n y) = right_not w (OpensPrime S n y) (λ g. refl)
