@@ -50,6 +50,12 @@ pub(crate) const AXIOMS: &[AxiomRow] = &[
         text: b"[x_':=f();]p(x_') <-> p(f())",
     },
     AxiomRow {
+        name: b"randomb",
+        form: AxiomForm::E,
+        own_names: &[b"x_"],
+        text: b"[x_:=*;]p(||) <-> \\forall x_ p(||)",
+    },
+    AxiomRow {
         name: b"testb",
         form: AxiomForm::E,
         own_names: &[],

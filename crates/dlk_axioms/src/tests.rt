@@ -14,7 +14,7 @@ use std::test::Fail;
 /// A name, the form of its axiom, and the formula with the brackets that readers are used to: canonical text has fewer.
 type Row = (&'static str, AxiomForm, &'static str);
 
-const PROGRAMS: [Row; 21] = [
+const PROGRAMS: [Row; 22] = [
     ("diamond", E, "<a;>p(||) <-> ![a;]!p(||)"),
     ("assignb", E, "[x_:=f();]p(x_) <-> p(f())"),
     (
@@ -24,6 +24,7 @@ const PROGRAMS: [Row; 21] = [
     ),
     ("selfassign", E, "[x_:=x_;]p(||) <-> p(||)"),
     ("dassignb", E, "[x_':=f();]p(x_') <-> p(f())"),
+    ("randomb", E, r"[x_:=*;]p(||) <-> \forall x_ p(||)"),
     ("testb", E, "[?q(||);]p(||) <-> (q(||) -> p(||))"),
     ("choiceb", E, "[a;++b;]p(||) <-> [a;]p(||)&[b;]p(||)"),
     ("composeb", E, "[a;b;]p(||) <-> [a;][b;]p(||)"),
