@@ -8,3 +8,4 @@ pub mod StepForms
 pub mod LineForms
 pub mod Appended
 pub mod Readback
+pub mod Proper
