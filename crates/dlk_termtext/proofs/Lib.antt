@@ -7,3 +7,4 @@ pub mod StepForms
 pub mod LineForms
 pub mod Appended
 pub mod Readback
+pub mod Proper

@@ -1,10 +1,21 @@
 use Rattle.std.proofs.lemmas.Result.{err_from_is_err_and}
 use Rattle.dlk_calculus.proofs.PlaceLaws.{At_All}
 use Rattle.dlk_kernel.specs.Kernel.{IsKnownRow}
-use Rattle.dlk_kernel.proofs.Substituted.{not_true, free_refused, substituted_given, none_refused}
+use Rattle.dlk_calculus.proofs.StepLaws.{first_no_fact_to_substitute}
+use Rattle.dlk_kernel.proofs.RowLaws.{no_such_fact}
+use Rattle.dlk_kernel.proofs.Substituted.{not_true, ill_refused, free_refused, substituted_given, none_refused}
 use Rattle.dlk_sequent.proofs.KeptPairs.{pairs_at-kept, AreKnownPairs-kept}
 use Rattle.dlk_kernel.proofs.LimitRows.{subst_big, subst_deep, subst_within}
-use Rattle.dlk_kernel.proofs.substituting.substitute.Goals as goal
+use Rattle.dlk_kernel.proofs.steps.substitute.substitute.Goals as goal
+
+pub returns-in_default-clause-fault : goal.returns-in_default-clause-fault
+returns-in_default-clause-fault g c =
+    first_no_fact_to_substitute _ c.args.fact _ (no_such_fact (g.S.Store.trees c.args.store.now) c.args.rows.now c.args.fact c.in_default.ensures)
+
+pub returns-in_err-sigma-clause-fault : goal.returns-in_err-sigma-clause-fault
+returns-in_err-sigma-clause-fault g c =
+    let r = err_from_is_err_and c.from_residual.result c.from_residual.ensures.1 in
+    rw (r.1, r.2) (ill_refused _ c.args.rows.now c.args.fact c.in-Some.row.now _ c.in-Some.ensures _ c.in_err-sigma.ensures.ill)
 
 pub returns-then-is_free_over_goals-clause-fault : goal.returns-then-is_free_over_goals-clause-fault
 returns-then-is_free_over_goals-clause-fault g c =

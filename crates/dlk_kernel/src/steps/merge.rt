@@ -1,4 +1,4 @@
-//! A fact in the place of another's goal.
+//! A merge: a fact's goals stand in the place of the goal that it proves.
 ghost use Rattle.std.specs.Prelude.{All, IfOk, IfErr};
 ghost use Rattle.dlk_calculus.specs.Steps.{Merge, Gives, IsWithin, Fault};
 ghost use Rattle.dlk_kernel.specs.Faults.{IsStepFault};
@@ -6,9 +6,8 @@ ghost use Rattle.dlk_kernel.specs.Kernel.{provable_at, provables_at, IsKnownRow}
 
 use crate::fault::StepFault;
 use crate::leaves::join;
-use crate::limits::{MOST_GOALS, MOST_LEAVES};
 use crate::row::Row;
-use dlk_calculus::Reason;
+use dlk_calculus::{MOST_GOALS, MOST_LEAVES, Reason};
 use dlk_sequent::{item_at, same_sequent};
 use dlk_store::Store;
 use std::alloc::Global;
@@ -20,7 +19,7 @@ use std::alloc::Global;
 /// --------------------------------------------
 /// the fact's conclusion
 /// ```
-pub(crate) fn merge<S: Store>(
+pub(super) fn merge<S: Store>(
     alloc: Global,
     store: &S,
     rows: &[Row],

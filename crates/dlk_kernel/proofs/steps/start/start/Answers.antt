@@ -1,8 +1,14 @@
 use Rattle.std.proofs.Common.{refl}
 use Rattle.std.proofs.lemmas.Result.{err_from_is_err_and}
+use Rattle.std.proofs.lemmas.Bool.{both_ways}
+use Rattle.dlk_calculus.proofs.StepLaws.{first_start_no_formulas}
 use Rattle.dlk_kernel.proofs.RowLaws.{started_given}
 use Rattle.dlk_kernel.proofs.LimitRows.{start_past, start_within}
-use Rattle.dlk_kernel.proofs.given.start.Goals as goal
+use Rattle.dlk_kernel.proofs.steps.start.start.Goals as goal
+
+pub returns-then-not-is_sequent-clause-fault : goal.returns-then-not-is_sequent-clause-fault
+returns-then-not-is_sequent-clause-fault g c = λ rows.
+    first_start_no_formulas rows _ (λ h. absurd (both_ways c.is_sequent.result c.if-not-is_sequent.true (c.is_sequent.ensures.1 h)))
 
 pub returns-in_err-limit_sequents-clause-fault : goal.returns-in_err-limit_sequents-clause-fault
 returns-in_err-limit_sequents-clause-fault g c =

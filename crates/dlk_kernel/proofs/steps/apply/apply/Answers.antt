@@ -6,9 +6,14 @@ use Rattle.dlk_rules.specs.Steps.{rule_at}
 use Rattle.dlk_rules.proofs.OverIds.{of_formulas}
 use Rattle.dlk_kernel.specs.Kernel.{IsKnownRow}
 use Rattle.dlk_calculus.proofs.PlaceLaws.{At_All, At_place}
-use Rattle.dlk_kernel.proofs.RowLaws.{goal_not_there, goal_formulas, rule_refused, stands, applied_given, applied_known}
+use Rattle.dlk_calculus.proofs.StepLaws.{first_no_fact_to_apply}
+use Rattle.dlk_kernel.proofs.RowLaws.{no_such_fact, goal_not_there, goal_formulas, rule_refused, stands, applied_given, applied_known}
 use Rattle.dlk_kernel.proofs.LimitRows.{apply_past, apply_full, apply_within}
-use Rattle.dlk_kernel.proofs.given.apply.Goals as goal
+use Rattle.dlk_kernel.proofs.steps.apply.apply.Goals as goal
+
+pub returns-in_default-clause-fault : goal.returns-in_default-clause-fault
+returns-in_default-clause-fault g c =
+    first_no_fact_to_apply _ c.args.fact c.args.goal _ (no_such_fact (g.S.Store.trees c.args.store.now) c.args.rows.now c.args.fact c.in_default.ensures)
 
 pub returns-in_default-item_at-clause-fault : goal.returns-in_default-item_at-clause-fault
 returns-in_default-item_at-clause-fault g c =

@@ -1,8 +1,18 @@
 use Rattle.std.proofs.Common.{refl}
 use Rattle.std.proofs.lemmas.Result.{err_from_is_err_and}
+use Rattle.std.proofs.lemmas.Bool.{both_ways}
+use Rattle.dlk_calculus.proofs.StepLaws.{first_leaf_no_formulas, first_no_arithmetic}
 use Rattle.dlk_kernel.proofs.LeafLaws.{leaf_given}
 use Rattle.dlk_kernel.proofs.LimitRows.{leaf_past, leaf_within}
-use Rattle.dlk_kernel.proofs.leaves.leaf.Goals as goal
+use Rattle.dlk_kernel.proofs.steps.leaf.leaf.Goals as goal
+
+pub returns-then-not-is_sequent-clause-fault : goal.returns-then-not-is_sequent-clause-fault
+returns-then-not-is_sequent-clause-fault g c = λ rows.
+    first_leaf_no_formulas rows _ (λ h. absurd (both_ways c.is_sequent.result c.if-not-is_sequent.true (c.is_sequent.ensures.1 h)))
+
+pub returns-then-not-is_arith-clause-fault : goal.returns-then-not-is_arith-clause-fault
+returns-then-not-is_arith-clause-fault g c = λ rows.
+    first_no_arithmetic rows _ (c.is_sequent.ensures.0 c.if-not-is_sequent.false) (cc (c.is_arith.ensures, c.if-not-is_arith.true))
 
 pub returns-in_err-limit_sequents-clause-fault : goal.returns-in_err-limit_sequents-clause-fault
 returns-in_err-limit_sequents-clause-fault g c =
