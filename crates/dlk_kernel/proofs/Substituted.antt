@@ -182,14 +182,15 @@ module _ (old : List Tree) (well_made : All WellMade old) (rows : List Row) (fac
   abbrev made : AreMade (pairs_at old sigma.pairs)
   made = are_made old sigma.pairs well_made over.known
 
-  pub free_refused : IsTrue sigma.free → 0 < length row.goals → Fault (provables_at old rows) (Substitute fact (pairs_at old pairs)) FreeInSubst
+  pub free_refused : IsFreeIn (pairs_at old sigma.pairs) → 0 < length row.goals →
+      Fault (provables_at old rows) (Substitute fact (pairs_at old pairs)) FreeInSubst
   free_refused free more =
       subst (λ (ps : List Pair). Fault (provables_at old rows) (Substitute fact (pairs_at old ps)) FreeInSubst) same
-      (first_free_over_goals (provables_at old rows) fact (pairs_at old sigma.pairs) p is_fact over.well_formed (some_goal old row.goals more) (over.free.0 free))
+      (first_free_over_goals (provables_at old rows) fact (pairs_at old sigma.pairs) p is_fact over.well_formed (some_goal old row.goals more) free)
 
-  module _ (allowed : IsTrue sigma.free × (0 < length row.goals) → ⊥) where
+  module _ (allowed : IsFreeIn (pairs_at old sigma.pairs) × (0 < length row.goals) → ⊥) where
     abbrev none_free : HasGoal p.goals → IsFreeIn (pairs_at old sigma.pairs) → ⊥
-    none_free goal free = allowed (over.free.1 free, more_than_none old row.goals goal)
+    none_free goal free = allowed (free, more_than_none old row.goals goal)
 
     pub substituted_given : (q : Provable) → Substitutes (pairs_at old sigma.pairs) p q → Gives (provables_at old rows) (Substitute fact (pairs_at old pairs)) q
     substituted_given q is =

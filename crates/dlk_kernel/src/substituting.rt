@@ -3,7 +3,7 @@ ghost use Rattle.std.specs.Prelude.{◌≡◌, ◌↔◌, ◌<◌, List, length,
 ghost use Rattle.dlk_tree.specs.Trees.{Tree};
 ghost use Rattle.dlk_store.specs.Stores.{IsId, tree};
 ghost use Rattle.dlk_calculus.specs.declared.reason.Reason.TheVariants.{IllSubst};
-ghost use Rattle.dlk_calculus.specs.Pairs.{IsWellFormed};
+ghost use Rattle.dlk_calculus.specs.Pairs.{IsFreeIn, IsWellFormed};
 ghost use Rattle.dlk_calculus.specs.Sequents.{Sequent as TreeSequent};
 ghost use Rattle.dlk_calculus.specs.Provables.{Provable, SubstEach, SubstSequent, SubstSequents, Substitutes};
 ghost use Rattle.dlk_sequent.specs.Sequents.{sequent_at, IsKnown};
@@ -162,7 +162,7 @@ pub(crate) fn subst_row<S: Store, L: Ledger>(
 
 /// Whether the row has a goal, and some variable is free in what replaces a function or a predicate.
 pub(crate) fn is_free_over_goals(sigma: &Subst, row: &Row) -> bool
-    ensures { IsTrue result ↔ (IsTrue sigma.now.free × (0 < length row.now.goals)) }
+    ensures { (trees : List Tree) → IsMadeOver trees sigma.now → (IsTrue result ↔ (IsFreeIn (pairs_at trees sigma.now.pairs) × (0 < length row.now.goals))) }
 {
     sigma.free() && !row.goals.as_slice().is_empty()
 }
