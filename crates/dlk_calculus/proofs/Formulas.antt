@@ -21,7 +21,7 @@ use Rattle.dlk_calculus.specs.Rules.{Rule, Close, CloseTrue, CloseFalse, NotL, N
 use Rattle.dlk_calculus.specs.Provables.{Provable, HasFormulas, AreNew, no_more, there, added, SubstEach, SubstSequent, SubstSequents}
 use Rattle.dlk_calculus.specs.Pairs.{Pair, IsWellFormed}
 use Rattle.dlk_calculus.specs.Steps.{Derives, by_itself, by_axiom, by_axiomatic_rule, by_arithmetic, by_rule, by_fact, by_substitution, by_renaming}
-use Rattle.dlk_calculus.proofs.PlaceLaws.{All-between, All-replaced}
+use Rattle.dlk_calculus.proofs.PlaceLaws.{At_All, All-between, All-replaced}
 use Rattle.dlk_calculus.proofs.AxiomLaws.{axiom_formula, rule_formulas}
 use Rattle.dlk_calculus.proofs.CleanResults.{subst_formula}
 use Rattle.dlk_calculus.proofs.Sorts.{head, tail}
