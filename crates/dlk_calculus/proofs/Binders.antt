@@ -1,10 +1,10 @@
 -- Another name for a bound variable: there is at most one result, and whether there is one doesn't hang on the name.
-use Rattle.std.proofs.Common.{◌≡◌, ℕ, List, refl, sym, ap, ◌∙◌, ◌⊎◌, inl, inr}
+use Rattle.std.proofs.Common.{◌≡◌, ℕ, List, refl, ap, ◌⊎◌, inl, inr}
 use Rattle.dlk_tree.specs.declared.op.Op.TheVariants as Op'
 use Rattle.dlk_tree.specs.declared.op.Var.{Var}
 use Rattle.dlk_tree.specs.Statics.{plain}
 use Rattle.dlk_tree.specs.Trees.{Tree}
-use Rattle.dlk_calculus.specs.Notation.{one, two, forall, exists, box, dia, assign}
+use Rattle.dlk_calculus.specs.Notation.{forall, exists, box, dia, assign}
 use Rattle.dlk_calculus.specs.Rename.{swap, RenamesBound, in_forall, in_exists, in_box, in_dia, Bound}
 use Rattle.dlk_calculus.proofs.Forms.{is_exists, is_forall, is_named, is_modal}
 

@@ -1,17 +1,15 @@
 -- What is given from provables of formulas is one of formulas.
-use Rattle.std.proofs.Common.{◌≡◌, ℕ, ◌-◌, Bool, true, false, ◌||◌, List, [], ◌∷◌, ◌++◌, refl, sym, ap, subst, ◌∙◌, cond, Some, None, arith}
+use Rattle.std.proofs.Common.{◌≡◌, ℕ, ◌-◌, Bool, true, false, ◌||◌, List, [], ◌∷◌, ◌++◌, refl, sym, ap, ◌∙◌}
 use Rattle.std.specs.Prelude.{IsTrue}
 use Rattle.std.specs.List.{All}
-use Rattle.std.proofs.lemmas.Option.{none-some, same_Some}
 use Rattle.std.proofs.lemmas.List.Elements.{All-cons, All-nil, All-head, All-tail, All-push, All-set, All-append, All-take, All-drop}
 use Rattle.dlk_tree.specs.declared.op.Op.{Op}
 use Rattle.dlk_tree.specs.declared.op.Op.TheVariants as Op'
 use Rattle.dlk_tree.specs.declared.op.Sort.TheVariants.{Formula, Program}
 use Rattle.dlk_tree.specs.Names.{is_name}
 use Rattle.dlk_tree.specs.Table.{sort_of, kid_sorts, has_parts}
-use Rattle.dlk_tree.specs.Trees.{Tree, node, Forest, no_kids, kid, root, sort, sorts, WellMade}
-use Rattle.dlk_tree.specs.Statics.{plain}
-use Rattle.dlk_tree.specs.Occurs.{has, is_some_dot, is_hole}
+use Rattle.dlk_tree.specs.Trees.{Tree, node, no_kids, kid, sort}
+use Rattle.dlk_tree.specs.Occurs.{is_some_dot, is_hole}
 use Rattle.dlk_calculus.specs.Sequents.{Sequent, ◌==>◌, alone_right, IsFormula, IsSequent}
 use Rattle.dlk_calculus.specs.Notation.{one, two, assign}
 use Rattle.dlk_calculus.specs.Places.{At, put, without_place}

@@ -1,6 +1,6 @@
 -- Renaming: two names exchanged everywhere (uniform renaming), and another name for a bound variable (bound renaming). Taboos, and the
 -- condition on symbols that may read any variable, are this project's.
-use Rattle.std.specs.Prelude.{ℕ, List, [], map, Bool, ◌||◌, not, if◌then◌else◌, option_map}
+use Rattle.std.specs.Prelude.{ℕ, List, map, Bool, ◌||◌, not, if◌then◌else◌, option_map}
 use Rattle.std.specs.List.{list_any}
 use Rattle.std.specs.Str.{bytes_eq}
 use Rattle.dlk_tree.specs.declared.op.Var.{Var}
