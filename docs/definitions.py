@@ -225,11 +225,15 @@ def references_of(definition, spec_file):
 
 
 def reference_of(word, definition, spec_file):
-    """What a word in a definition refers to: something of the same file, an imported name, or one in a module."""
-    if word in spec_file.by_name:
-        return Reference(definition.crate, definition.file, word)
-    if word in spec_file.imports:
-        return spec_file.imports[word]
+    """What a word in a definition refers to: something of the same file, an imported name, or one in a module.
+
+    An operator stands between its arguments there, whose places its name has.
+    """
+    for name in (word, f"◌{word}◌"):
+        if name in spec_file.by_name:
+            return Reference(definition.crate, definition.file, name)
+        if name in spec_file.imports:
+            return spec_file.imports[name]
     module, _, name = word.partition(".")
     return Reference(*spec_file.modules[module], name) if module in spec_file.modules else None
 

@@ -2,22 +2,19 @@
 use Rattle.std.proofs.Common.{◌≡◌, ℕ, ◌-◌, Bool, true, false, ◌||◌, List, [], ◌∷◌, ◌++◌, refl, sym, ap, subst, ◌∙◌, cond, Some, None, arith}
 use Rattle.std.specs.Prelude.{IsTrue}
 use Rattle.std.specs.List.{All}
-use Rattle.std.proofs.lemmas.Option.{none-some, same_Some}
 use Rattle.std.proofs.lemmas.List.Elements.{All-cons, All-nil, All-head, All-tail, All-push, All-set, All-append, All-take, All-drop}
 use Rattle.dlk_tree.specs.declared.op.Op.{Op}
 use Rattle.dlk_tree.specs.declared.op.Op.TheVariants as Op'
 use Rattle.dlk_tree.specs.declared.op.Sort.TheVariants.{Formula, Program}
 use Rattle.dlk_tree.specs.Names.{is_name}
 use Rattle.dlk_tree.specs.Table.{sort_of, kid_sorts, has_parts}
-use Rattle.dlk_tree.specs.Trees.{Tree, node, Forest, no_kids, kid, root, sort, sorts, WellMade}
-use Rattle.dlk_tree.specs.Statics.{plain}
-use Rattle.dlk_tree.specs.Occurs.{has, is_some_dot, is_hole}
+use Rattle.dlk_tree.specs.Trees.{Tree, node, no_kids, kid, sort}
+use Rattle.dlk_tree.specs.Occurs.{is_some_dot, is_hole}
 use Rattle.dlk_calculus.specs.Sequents.{Sequent, ◌==>◌, alone_right, IsFormula, IsSequent}
-use Rattle.dlk_calculus.specs.Notation.{one, two}
-use Rattle.dlk_calculus.specs.Kids.{first, last}
+use Rattle.dlk_calculus.specs.Notation.{one, two, assign}
 use Rattle.dlk_calculus.specs.Places.{At, put, without_place}
-use Rattle.dlk_calculus.specs.Rename.{name_in, binder_of, assigned, rebound, reassigned, renamed_bound, swap}
-use Rattle.dlk_calculus.specs.Rules.{Rule, Close, CloseTrue, CloseFalse, NotL, NotR, AndL, AndR, OrL, OrR, ImplyL, ImplyR, EquivL, EquivR, Cut, CutL, CutR, HideL, HideR, CoHideR, ExchangeL, ExchangeR, SkolemL, SkolemR, BoundL, BoundR, EquivifyR, CommuteEquivL, CommuteEquivR, imply, equiv, HasBinder, figure, Premises}
+use Rattle.dlk_calculus.specs.Rename.{swap, RenamesBound, in_forall, in_exists, in_box, in_dia}
+use Rattle.dlk_calculus.specs.Rules.{Rule, Close, CloseTrue, CloseFalse, NotL, NotR, AndL, AndR, OrL, OrR, ImplyL, ImplyR, EquivL, EquivR, Cut, CutL, CutR, HideL, HideR, CoHideR, ExchangeL, ExchangeR, SkolemL, SkolemR, BoundL, BoundR, EquivifyR, CommuteEquivL, CommuteEquivR, imply, equiv, figure, Premises}
 use Rattle.dlk_calculus.specs.Provables.{Provable, HasFormulas, AreNew, no_more, there, added, SubstEach, SubstSequent, SubstSequents}
 use Rattle.dlk_calculus.specs.Pairs.{Pair, IsWellFormed}
 use Rattle.dlk_calculus.specs.Steps.{Derives, by_itself, by_axiom, by_axiomatic_rule, by_arithmetic, by_rule, by_fact, by_substitution, by_renaming}
@@ -90,66 +87,37 @@ quantified op f c kids h = record {
 
 -- ---- renaming a bound variable
 
--- the last of the kids of an operator over one formula
-last_formula : (op : Op) (kids : Forest) → kid_sorts op ≡ Formula ∷ [] → IsFormula (node op kids) → IsFormula (last kids)
-last_formula op no_kids e h = let k = h.well_made.0.kids_fit ∙ e in cc
-last_formula op (kid f no_kids) e h = one_kid op f e h
-last_formula op (kid f (kid g rest)) e h = let k = h.well_made.0.kids_fit ∙ e in cc
-
-assigned_name : (b : Tree) (x : List ℕ) → assigned (root b) ≡ Some x → WellMade b → IsTrue (is_name x)
-assigned_name (node (Op'.Assign v) kids) x e made = go v.primed e
-  where
-    go : (p : Bool) → cond p None (Some v.name) ≡ Some x → IsTrue (is_name x)
-    go true e = absurd (none-some x e)
-    go false e = subst (λ z. IsTrue (is_name z)) (same_Some v.name x e) made.0.parts_fit
-assigned_name (node _ kids) x e made = absurd (none-some x e)
-
-reassigned_made : (b : Tree) (x y : List ℕ) → assigned (root b) ≡ Some x → IsTrue (is_name y) → WellMade b → WellMade (reassigned y b)
-reassigned_made (node (Op'.Assign v) kids) x y e real made = (record { kids_fit = made.0.kids_fit; parts_fit = real }, made.1)
-reassigned_made (node _ kids) x y e real made = absurd (none-some x e)
-
-reassigned_sort : (b : Tree) (y : List ℕ) → sort (reassigned y b) ≡ Program
-reassigned_sort (node op kids) y = refl
-
-reassigned_lacks : (test : Op → Bool) → ((y : List ℕ) → test (Op'.Assign (plain y)) ≡ false) → (b : Tree) (y : List ℕ) → has test b ≡ false → has test (reassigned y b) ≡ false
-reassigned_lacks test none (node op kids) y h = both_false _ _ (none y) (second_false _ _ h)
-
 -- a box or a diamond over an assignment
-modal_formula : (op : Op) (kids : Forest) (x y : List ℕ) → IsConnective op → kid_sorts op ≡ Program ∷ Formula ∷ [] → IsFormula (node op kids) → assigned (root (first kids)) ≡ Some x → IsTrue (is_name y) →
-    IsFormula (node op (kid (reassigned y (first kids)) (kid (swap x y (last kids)) no_kids)))
-modal_formula op no_kids x y c e h is real = let k = h.well_made.0.kids_fit ∙ e in cc
-modal_formula op (kid b no_kids) x y c e h is real = let k = h.well_made.0.kids_fit ∙ e in cc
-modal_formula op (kid b (kid f (kid g rest))) x y c e h is real = let k = ap (λ ss. tail (tail ss)) (h.well_made.0.kids_fit ∙ e) in cc
-modal_formula op (kid b (kid f no_kids)) x y c e h is real =
-    let k : sort b ∷ sort f ∷ [] ≡ Program ∷ Formula ∷ [] = h.well_made.0.kids_fit ∙ e in
+modal_formula : (op : Op) (x y : List ℕ) (e f : Tree) → IsConnective op → kid_sorts op ≡ Program ∷ Formula ∷ [] → IsTrue (is_name y) →
+    IsFormula (two op (assign x e) f) →
+    IsFormula (two op (assign y e) (swap x y f))
+modal_formula op x y e f c kids real h =
+    let k : Program ∷ sort f ∷ [] ≡ Program ∷ Formula ∷ [] = h.well_made.0.kids_fit ∙ kids in
     let dot = second_false _ _ h.no_dot in
     let hole = second_false _ _ h.no_hole in
     let inner : IsFormula f = record { well_made = h.well_made.1.1.0; sort_is = ap (λ ss. head (tail ss)) k; no_dot = first_false _ _ (second_false _ _ dot); no_hole = first_false _ _ (second_false _ _ hole) } in
-    let g = swap_formula x y (assigned_name b x is h.well_made.1.0) real f inner in
-    let program = reassigned_sort b y in
+    let g = swap_formula x y h.well_made.1.0.0.parts_fit real f inner in
     record {
-      well_made = (record { kids_fit = (λ i. program i ∷ g.sort_is i ∷ []) ∙ sym e; parts_fit = c.parts }, (reassigned_made b x y is real h.well_made.1.0, (g.well_made, tt)));
+      well_made = (
+        record { kids_fit = (λ i. Program ∷ g.sort_is i ∷ []) ∙ sym kids; parts_fit = c.parts },
+        ((record { kids_fit = h.well_made.1.0.0.kids_fit; parts_fit = real }, h.well_made.1.0.1), (g.well_made, tt)),
+      );
       sort_is = c.sort_is;
-      no_dot = both_false _ _ c.no_dot (both_false _ _ (reassigned_lacks is_some_dot (λ z. refl) b y (first_false _ _ dot)) (both_false _ _ g.no_dot refl));
-      no_hole = both_false _ _ c.no_hole (both_false _ _ (reassigned_lacks is_hole (λ z. refl) b y (first_false _ _ hole)) (both_false _ _ g.no_hole refl));
+      no_dot = both_false _ _ c.no_dot (both_false _ _ (first_false _ _ dot) (both_false _ _ g.no_dot refl));
+      no_hole = both_false _ _ c.no_hole (both_false _ _ (first_false _ _ hole) (both_false _ _ g.no_hole refl));
     }
 
-rebound_formula : (op : Op) (kids : Forest) (x y : List ℕ) → binder_of op kids ≡ Some x → IsTrue (is_name y) → IsFormula (node op kids) → IsFormula (rebound y (swap x y (last kids)) op kids)
-rebound_formula (Op'.Forall z) kids x y e real h =
-    let name = subst (λ n. IsTrue (is_name n)) (same_Some z x e) h.well_made.0.parts_fit in
-    quantified (Op'.Forall y) _ (record { sort_is = refl; parts = real; no_dot = refl; no_hole = refl }) refl (swap_formula x y name real _ (last_formula (Op'.Forall z) kids refl h))
-rebound_formula (Op'.Exists z) kids x y e real h =
-    let name = subst (λ n. IsTrue (is_name n)) (same_Some z x e) h.well_made.0.parts_fit in
-    quantified (Op'.Exists y) _ (record { sort_is = refl; parts = real; no_dot = refl; no_hole = refl }) refl (swap_formula x y name real _ (last_formula (Op'.Exists z) kids refl h))
-rebound_formula Op'.Box kids x y e real h = modal_formula Op'.Box kids x y (record { sort_is = refl; parts = refl; no_dot = refl; no_hole = refl }) refl h e real
-rebound_formula Op'.Dia kids x y e real h = modal_formula Op'.Dia kids x y (record { sort_is = refl; parts = refl; no_dot = refl; no_hole = refl }) refl h e real
-rebound_formula _ kids x y e real h = absurd (none-some x e)
-
-renamed_formula : (y : List ℕ) (t : Tree) → HasBinder y t → IsFormula t → IsFormula (renamed_bound y t)
-renamed_formula y (node op kids) can h =
-    let x = can.1.0 in
-    let name : name_in (binder_of op kids) ≡ x = ap name_in can.1.1 in
-    subst (λ n. IsFormula (rebound y (swap n y (last kids)) op kids)) (sym name) (rebound_formula op kids x y can.1.1 can.0 h)
+renamed_formula : {x y : List ℕ} {f t u : Tree} → IsTrue (is_name y) → RenamesBound x y f t u → IsFormula t → IsFormula u
+renamed_formula {x} {y} {f} real in_forall h =
+    let g = swap_formula x y h.well_made.0.parts_fit real f (one_kid (Op'.Forall x) f refl h) in
+    quantified (Op'.Forall y) _ (record { sort_is = refl; parts = real; no_dot = refl; no_hole = refl }) refl g
+renamed_formula {x} {y} {f} real in_exists h =
+    let g = swap_formula x y h.well_made.0.parts_fit real f (one_kid (Op'.Exists x) f refl h) in
+    quantified (Op'.Exists y) _ (record { sort_is = refl; parts = real; no_dot = refl; no_hole = refl }) refl g
+renamed_formula {x} {y} {f} real (in_box e) h =
+    modal_formula Op'.Box x y e f (record { sort_is = refl; parts = refl; no_dot = refl; no_hole = refl }) refl real h
+renamed_formula {x} {y} {f} real (in_dia e) h =
+    modal_formula Op'.Dia x y e f (record { sort_is = refl; parts = refl; no_dot = refl; no_hole = refl }) refl real h
 
 -- ---- a sequent of formulas stays one
 
@@ -189,12 +157,15 @@ two_sequents s t p q = All-cons IsSequent s (t ∷ []) p (one_sequent t q)
 
 -- ---- the premises of a rule
 
-figure_formulas : (rule : Rule) (s : Sequent) → IsSequent s → (p : (figure rule s.ante s.succ).Parts) → (figure rule s.ante s.succ).shape p → All IsSequent ((figure rule s.ante s.succ).premises p)
+figure_formulas : (rule : Rule) (s : Sequent) → IsSequent s → (p : (figure rule s.ante s.succ).Parts) → (figure rule s.ante s.succ).shape p →
+    All IsSequent ((figure rule s.ante s.succ).premises p)
 figure_formulas (Close i j) s h p k = All-nil IsSequent
 figure_formulas (CloseTrue j) s h p k = All-nil IsSequent
 figure_formulas (CloseFalse i) s h p k = All-nil IsSequent
-figure_formulas (NotL i) s h p k = one_sequent _ (right_last (without_place s.ante i ==> s.succ) (left_without s h i) p (one_kid Op'.Not p refl (left_formula s h i _ k)))
-figure_formulas (NotR j) s h p k = one_sequent _ (left_last (s.ante ==> without_place s.succ j) (right_without s h j) p (one_kid Op'.Not p refl (right_formula s h j _ k)))
+figure_formulas (NotL i) s h p k =
+    one_sequent _ (right_last (without_place s.ante i ==> s.succ) (left_without s h i) p (one_kid Op'.Not p refl (left_formula s h i _ k)))
+figure_formulas (NotR j) s h p k =
+    one_sequent _ (left_last (s.ante ==> without_place s.succ j) (right_without s h j) p (one_kid Op'.Not p refl (right_formula s h j _ k)))
 figure_formulas (AndL i) s h p k =
     let m = two_kids Op'.And p.0 p.1 refl (left_formula s h i _ k) in
     one_sequent _ (left_last (put s.ante i p.0 ==> s.succ) (left_put s h i p.0 m.0) p.1 m.1)
@@ -222,17 +193,21 @@ figure_formulas (EquivR j) s h p k =
     let m = two_kids Op'.Equiv p.0 p.1 refl (right_formula s h j _ k) in
     two_sequents _ _ (right_put s h j _ (imply_formula p.0 p.1 m.0 m.1)) (right_put s h j _ (imply_formula p.1 p.0 m.1 m.0))
 figure_formulas (Cut f) s h p k = two_sequents _ _ (left_last s h f k) (right_last s h f k)
-figure_formulas (CutL i f) s h p k = two_sequents _ _ (left_put s h i f k.1) (right_last (without_place s.ante i ==> s.succ) (left_without s h i) _ (imply_formula p f (left_formula s h i p k.0) k.1))
+figure_formulas (CutL i f) s h p k =
+    two_sequents _ _ (left_put s h i f k.1)
+    (right_last (without_place s.ante i ==> s.succ) (left_without s h i) _ (imply_formula p f (left_formula s h i p k.0) k.1))
 figure_formulas (CutR j f) s h p k = two_sequents _ _ (right_put s h j f k.1) (right_put s h j _ (imply_formula f p k.1 (right_formula s h j p k.0)))
 figure_formulas (HideL i) s h p k = one_sequent _ (left_without s h i)
 figure_formulas (HideR j) s h p k = one_sequent _ (right_without s h j)
 figure_formulas (CoHideR j) s h p k = one_sequent _ (alone (right_formula s h j p k))
-figure_formulas (ExchangeL i l) s h p k = one_sequent _ (left_put (put s.ante i p.1 ==> s.succ) (left_put s h i p.1 (left_formula s h l p.1 k.1)) l p.0 (left_formula s h i p.0 k.0))
-figure_formulas (ExchangeR j l) s h p k = one_sequent _ (right_put (s.ante ==> put s.succ j p.1) (right_put s h j p.1 (right_formula s h l p.1 k.1)) l p.0 (right_formula s h j p.0 k.0))
+figure_formulas (ExchangeL i l) s h p k =
+    one_sequent _ (left_put (put s.ante i p.1 ==> s.succ) (left_put s h i p.1 (left_formula s h l p.1 k.1)) l p.0 (left_formula s h i p.0 k.0))
+figure_formulas (ExchangeR j l) s h p k =
+    one_sequent _ (right_put (s.ante ==> put s.succ j p.1) (right_put s h j p.1 (right_formula s h l p.1 k.1)) l p.0 (right_formula s h j p.0 k.0))
 figure_formulas (SkolemL i) s h p k = one_sequent _ (left_put s h i p.1 (one_kid (Op'.Exists p.0) p.1 refl (left_formula s h i _ k)))
 figure_formulas (SkolemR j) s h p k = one_sequent _ (right_put s h j p.1 (one_kid (Op'.Forall p.0) p.1 refl (right_formula s h j _ k)))
-figure_formulas (BoundL i y) s h p k = one_sequent _ (left_put s h i _ (renamed_formula y p k.1 (left_formula s h i p k.0)))
-figure_formulas (BoundR j y) s h p k = one_sequent _ (right_put s h j _ (renamed_formula y p k.1 (right_formula s h j p k.0)))
+figure_formulas (BoundL i y) s h p k = one_sequent _ (left_put s h i _ (renamed_formula k.0 k.1.2 (left_formula s h i k.1.0 k.1.1)))
+figure_formulas (BoundR j y) s h p k = one_sequent _ (right_put s h j _ (renamed_formula k.0 k.1.2 (right_formula s h j k.1.0 k.1.1)))
 figure_formulas (EquivifyR j) s h p k =
     let m = two_kids Op'.Imply p.0 p.1 refl (right_formula s h j _ k) in
     one_sequent _ (right_put s h j _ (equiv_formula p.0 p.1 m.0 m.1))

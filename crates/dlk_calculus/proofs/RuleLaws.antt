@@ -1,22 +1,26 @@
 -- A rule makes at most one list of premises, and makes one exactly where nothing speaks against it.
-use Rattle.std.proofs.Common.{◌≡◌, ℕ, List, [], ◌∷◌, sym, ap, subst, ◌∙◌, refl, arith, Option, Some, None, ◌⊎◌, inl, inr}
+use Rattle.std.proofs.Common.{◌≡◌, ℕ, List, sym, ap, subst, ◌∙◌, refl, arith, Some, ◌⊎◌, inl, inr}
 use Rattle.std.specs.Prelude.{IsTrue}
-use Rattle.std.proofs.lemmas.Option.{none-some, same_Some}
 use Rattle.dlk_tree.specs.declared.op.Op.{Op}
 use Rattle.dlk_tree.specs.declared.op.Op.TheVariants as Op'
 use Rattle.dlk_tree.specs.Names.{is_name}
-use Rattle.dlk_tree.specs.Trees.{Tree, node, no_kids, kid, root}
+use Rattle.dlk_tree.specs.Trees.{Tree}
 use Rattle.dlk_calculus.specs.declared.reason.Reason.{Reason}
 use Rattle.dlk_calculus.specs.declared.reason.Reason.TheVariants.{NoPlace, WrongShape, NotEqual, NotFresh}
 use Rattle.dlk_calculus.specs.Notation.{leaf, one, two}
 use Rattle.dlk_calculus.specs.Places.{At, IsPlace, without_place}
 use Rattle.dlk_calculus.specs.Sequents.{Sequent, ◌==>◌, IsFormula}
-use Rattle.dlk_calculus.specs.Rename.{binder, body, may_rename}
-use Rattle.dlk_calculus.specs.Rules.{Rule, Close, CloseTrue, CloseFalse, NotL, NotR, AndL, AndR, OrL, OrR, ImplyL, ImplyR, EquivL, EquivR, Cut, CutL, CutR, HideL, HideR, CoHideR, ExchangeL, ExchangeR, SkolemL, SkolemR, BoundL, BoundR, EquivifyR, CommuteEquivL, CommuteEquivR, IsFreshIn, HasBinder, IsFreshBinder, Figure, figure, Premises, Lacks, RuleAgainst, FirstAgainst}
+use Rattle.dlk_calculus.specs.Rename.{may_rename, RenamesBound, Bound}
+use Rattle.dlk_calculus.specs.Rules.{Rule, Close, CloseTrue, CloseFalse, NotL, NotR, AndL, AndR, OrL, OrR, ImplyL, ImplyR, EquivL, EquivR, Cut, CutL, CutR, HideL, HideR, CoHideR, ExchangeL, ExchangeR, SkolemL, SkolemR, BoundL, BoundR, EquivifyR, CommuteEquivL, CommuteEquivR, IsFreshIn, Figure, figure, Premises, Lacks, RuleAgainst, FirstAgainst}
 use Rattle.dlk_calculus.proofs.PlaceLaws.{at_one, At_place, place_cases}
-use Rattle.dlk_calculus.proofs.Decide.{same_op, same_tree, is_formula, is_false, is_true, both}
+use Rattle.dlk_calculus.proofs.Decide.{same_tree, is_formula, is_false, is_true, both}
+use Rattle.dlk_calculus.proofs.Forms.{is_leaf, is_one, is_two, same_two, is_exists, is_forall, is_named, same_named}
+use Rattle.dlk_calculus.proofs.Binders.{one_binding, bound_decided}
 
 -- ---- what a rule asks for is decided, and its parts are one thing
+
+name_and_bound : (y : List ℕ) (t : Tree) → Dec (IsTrue (is_name y) × ((p : Bound) × RenamesBound p.x y p.f t p.g))
+name_and_bound y t = both (λ n b. (n, b)) (λ h. h.0) (λ h. h.1) (is_true (is_name y)) (bound_decided y t)
 
 record Decided (There Parts : Type 0) (Formed Same Fresh : Parts → Type 0) : Type 0 where
   places : Dec There
@@ -27,50 +31,6 @@ record Decided (There Parts : Type 0) (Formed Same Fresh : Parts → Type 0) : T
 
 abbrev IsDecided : Figure → Type 0
 IsDecided f = Decided f.places f.Parts f.shape f.equals f.fresh
-
--- of which form a tree is
-
-is_leaf : (op : Op) (t : Tree) → Dec ((p : Unit {0}) × (t ≡ leaf op))
-is_leaf op (node o no_kids) = elim (same_op o op) [ yes e ↦ yes (tt, ap leaf e) | no n ↦ no (λ h. n (ap root h.1)) ]
-is_leaf op (node o (kid t ts)) = no (λ h. let e = h.1 in cc)
-
-is_one : (op : Op) (t : Tree) → Dec ((f : Tree) × (t ≡ one op f))
-is_one op (node o no_kids) = no (λ h. let e = h.1 in cc)
-is_one op (node o (kid f no_kids)) = elim (same_op o op) [ yes e ↦ yes (f, ap (λ q. one q f) e) | no n ↦ no (λ h. n (ap root h.1)) ]
-is_one op (node o (kid f (kid g ts))) = no (λ h. let e = h.1 in cc)
-
-is_two : (op : Op) (t : Tree) → Dec ((p : Tree × Tree) × (t ≡ two op p.0 p.1))
-is_two op (node o no_kids) = no (λ h. let e = h.1 in cc)
-is_two op (node o (kid f no_kids)) = no (λ h. let e = h.1 in cc)
-is_two op (node o (kid f (kid g no_kids))) = elim (same_op o op) [ yes e ↦ yes ((f, g), ap (λ q. two q f g) e) | no n ↦ no (λ h. n (ap root h.1)) ]
-is_two op (node o (kid f (kid g (kid t ts)))) = no (λ h. let e = h.1 in cc)
-
-is_existential : (o : Op) → Dec ((x : List ℕ) × (o ≡ Op'.Exists x))
-is_existential (Op'.Exists x) = yes (x, refl)
-is_existential _ = no (λ h. let e = h.1 in cc)
-
-is_universal : (o : Op) → Dec ((x : List ℕ) × (o ≡ Op'.Forall x))
-is_universal (Op'.Forall x) = yes (x, refl)
-is_universal _ = no (λ h. let e = h.1 in cc)
-
-is_quantified : (op : List ℕ → Op) → ((o : Op) → Dec ((x : List ℕ) × (o ≡ op x))) → (t : Tree) → Dec ((p : List ℕ × Tree) × (t ≡ one (op p.0) p.1))
-is_quantified op decide (node o no_kids) = no (λ h. let e = h.1 in cc)
-is_quantified op decide (node o (kid f no_kids)) = elim (decide o) [ yes e ↦ yes ((e.0, f), ap (λ q. one q f) e.1) | no n ↦ no (λ h. n (h.0.0, ap root h.1)) ]
-is_quantified op decide (node o (kid f (kid g ts))) = no (λ h. let e = h.1 in cc)
-
--- the parts by the form
-
-same_two : (op : Op) (p q : Tree × Tree) → two op p.0 p.1 ≡ two op q.0 q.1 → p ≡ q
-same_two op p q e =
-    let f : p.0 ≡ q.0 = cc in
-    let g : p.1 ≡ q.1 = cc in
-    λ i. (f i, g i)
-
-same_quantified : (op : List ℕ → Op) → ((x y : List ℕ) → op x ≡ op y → x ≡ y) → (p q : List ℕ × Tree) → one (op p.0) p.1 ≡ one (op q.0) q.1 → p ≡ q
-same_quantified op same p q e =
-    let x = same p.0 q.0 (ap root e) in
-    let f : p.1 ≡ q.1 = cc in
-    λ i. (x i, f i)
 
 module _ (side : List Tree) (place : ℕ) where
   is_place : Dec (IsPlace side place)
@@ -83,7 +43,8 @@ module _ (side : List Tree) (place : ℕ) where
     | inl f ↦ elim (decide f.0) [ yes p ↦ yes (f.0, (f.1, p)) | no n ↦ no (λ h. n (subst P (at_one side place h.0 f.0 h.1.0 f.1) h.1.1)) ]
   ]
 
-  module _ {Parts : Type 0} (form : Parts → Tree) (decide : (t : Tree) → Dec ((p : Parts) × (t ≡ form p))) (same : (p q : Parts) → form p ≡ form q → p ≡ q) where
+  module _ {Parts : Type 0} (form : Parts → Tree) (decide : (t : Tree) → Dec ((p : Parts) × (t ≡ form p)))
+      (same : (p q : Parts) → form p ≡ form q → p ≡ q) where
     has_form : Dec ((p : Parts) × At side place (form p))
     has_form = elim (has_shape (λ t. (p : Parts) × (t ≡ form p)) decide) [
       | yes h ↦ yes (h.1.1.0, h.1.0 ∙ ap Some h.1.1.1)
@@ -114,17 +75,29 @@ module _ (side : List Tree) (place : ℕ) where
   quantifier_decided : (op : List ℕ → Op) (rest : Sequent) → ((o : Op) → Dec ((x : List ℕ) × (o ≡ op x))) → ((x y : List ℕ) → op x ≡ op y → x ≡ y) →
       Decided (IsPlace side place) (List ℕ × Tree) (λ p. At side place (one (op p.0) p.1)) (λ p. Unit {0}) (λ p. IsFreshIn rest p.0)
   quantifier_decided op rest decide same =
-      let d = form_decided (λ p. one (op p.0) p.1) (is_quantified op decide) (same_quantified op same) in
+      let d = form_decided (λ p. one (op p.0) p.1) (is_named op decide) (same_named op same) in
       record { places = d.places; shape = d.shape; one_shape = d.one_shape; equals = d.equals; fresh = λ p. is_false _ }
 
-  given_decided : (P fresh : Tree → Type 0) → ((f : Tree) → Dec (P f)) → ((f : Tree) → Dec (fresh f)) →
-      Decided (IsPlace side place) Tree (λ f. At side place f × P f) (λ f. Unit {0}) fresh
-  given_decided P fresh decide is_fresh = record {
+  cut_decided : (h : Tree) → Decided (IsPlace side place) Tree (λ f. At side place f × IsFormula h) (λ f. Unit {0}) (λ f. Unit {0})
+  cut_decided h = record {
     places = is_place;
-    shape = has_shape P decide;
-    one_shape = λ f g h k. at_one side place f g h.0 k.0;
+    shape = has_shape (λ f. IsFormula h) (λ f. is_formula h);
+    one_shape = λ f g a b. at_one side place f g a.0 b.0;
     equals = λ f. yes tt;
-    fresh = is_fresh;
+    fresh = λ f. yes tt;
+  }
+
+  binder_decided : (y : List ℕ) →
+      Decided (IsPlace side place) Bound (λ p. IsTrue (is_name y) × ((t : Tree) × At side place t × RenamesBound p.x y p.f t p.g)) (λ p. Unit {0}) (λ p. IsTrue (may_rename p.x y p.f))
+  binder_decided y = record {
+    places = is_place;
+    shape = elim (has_shape (λ t. IsTrue (is_name y) × ((p : Bound) × RenamesBound p.x y p.f t p.g)) (name_and_bound y)) [
+      | yes h ↦ yes (h.1.1.1.0, (h.1.1.0, (h.0, h.1.0, h.1.1.1.1)))
+      | no n ↦ no (λ h. n (h.1.1.0, (h.1.1.1, (h.1.0, (h.0, h.1.1.2)))))
+    ];
+    one_shape = λ p q h k. one_binding p q (at_one side place h.1.0 k.1.0 h.1.1 k.1.1) h.1.2 k.1.2;
+    equals = λ p. yes tt;
+    fresh = λ p. is_true _;
   }
 
 both_decided : (side : List Tree) (place : ℕ) (other : List Tree) (k : ℕ) (equals : Tree → Tree → Type 0) → ((f g : Tree) → Dec (equals f g)) →
@@ -143,28 +116,14 @@ both_decided side place other k equals decide =
     same : (p q : Tree × Tree) → p.0 ≡ q.0 → p.1 ≡ q.1 → p ≡ q
     same p q a b = λ i. (a i, b i)
 
-cut_decided : {P : Type 0} → Dec P → Decided (Unit {0}) (Unit {0}) (λ p. P) (λ p. Unit {0}) (λ p. Unit {0})
-cut_decided d = record {
+own_decided : (h : Tree) → Decided (Unit {0}) (Unit {0}) (λ p. IsFormula h) (λ p. Unit {0}) (λ p. Unit {0})
+own_decided h = record {
   places = yes tt;
-  shape = elim d [ yes p ↦ yes (tt, p) | no n ↦ no (λ h. n h.1) ];
-  one_shape = λ p q h k. refl;
+  shape = elim (is_formula h) [ yes p ↦ yes (tt, p) | no n ↦ no (λ k. n k.1) ];
+  one_shape = λ p q a b. refl;
   equals = λ p. yes tt;
   fresh = λ p. yes tt;
 }
-
-is_some : (name : Option (List ℕ)) → Dec ((x : List ℕ) × (name ≡ Some x))
-is_some None = no (λ h. none-some h.0 h.1)
-is_some (Some x) = yes (x, refl)
-
-of_name : (name : Option (List ℕ)) (P : List ℕ → Type 0) → ((x : List ℕ) → Dec (P x)) → Dec ((x : List ℕ) → name ≡ Some x → P x)
-of_name None P decide = yes (λ x e. absurd (none-some x e))
-of_name (Some x) P decide = elim (decide x) [ yes p ↦ yes (λ y e. subst P (same_Some x y e) p) | no n ↦ no (λ all. n (all x refl)) ]
-
-can_bind : (y : List ℕ) (t : Tree) → Dec (HasBinder y t)
-can_bind y t = both (λ p q. (p, q)) (λ c. c.0) (λ c. c.1) (is_true (is_name y)) (is_some (binder t))
-
-may_bind : (y : List ℕ) (t : Tree) → Dec (IsFreshBinder y t)
-may_bind y t = of_name (binder t) (λ x. IsTrue (may_rename x y (body t))) (λ x. is_true _)
 
 decided : (rule : Rule) (A S : List Tree) → IsDecided (figure rule A S)
 decided (Close i j) A S = both_decided A i S j (λ f g. f ≡ g) same_tree
@@ -180,25 +139,26 @@ decided (ImplyL i) A S = binary_decided A i Op'.Imply
 decided (ImplyR j) A S = binary_decided S j Op'.Imply
 decided (EquivL i) A S = binary_decided A i Op'.Equiv
 decided (EquivR j) A S = binary_decided S j Op'.Equiv
-decided (Cut h) A S = cut_decided (is_formula h)
-decided (CutL i h) A S = given_decided A i (λ f. IsFormula h) (λ f. Unit {0}) (λ f. is_formula h) (λ f. yes tt)
-decided (CutR j h) A S = given_decided S j (λ f. IsFormula h) (λ f. Unit {0}) (λ f. is_formula h) (λ f. yes tt)
+decided (Cut h) A S = own_decided h
+decided (CutL i h) A S = cut_decided A i h
+decided (CutR j h) A S = cut_decided S j h
 decided (HideL i) A S = any_decided A i
 decided (HideR j) A S = any_decided S j
 decided (CoHideR j) A S = any_decided S j
 decided (ExchangeL i k) A S = both_decided A i A k (λ f g. Unit {0}) (λ f g. yes tt)
 decided (ExchangeR j l) A S = both_decided S j S l (λ f g. Unit {0}) (λ f g. yes tt)
-decided (SkolemL i) A S = quantifier_decided A i Op'.Exists (without_place A i ==> S) is_existential (λ x y e. cc)
-decided (SkolemR j) A S = quantifier_decided S j Op'.Forall (A ==> without_place S j) is_universal (λ x y e. cc)
-decided (BoundL i y) A S = given_decided A i (HasBinder y) (IsFreshBinder y) (can_bind y) (may_bind y)
-decided (BoundR j y) A S = given_decided S j (HasBinder y) (IsFreshBinder y) (can_bind y) (may_bind y)
+decided (SkolemL i) A S = quantifier_decided A i Op'.Exists (without_place A i ==> S) is_exists (λ x y e. cc)
+decided (SkolemR j) A S = quantifier_decided S j Op'.Forall (A ==> without_place S j) is_forall (λ x y e. cc)
+decided (BoundL i y) A S = binder_decided A i y
+decided (BoundR j y) A S = binder_decided S j y
 decided (EquivifyR j) A S = binary_decided S j Op'.Imply
 decided (CommuteEquivL i) A S = binary_decided A i Op'.Equiv
 decided (CommuteEquivR j) A S = binary_decided S j Op'.Equiv
 
 -- ---- at most one list of premises
 
-one_parts : (rule : Rule) (s : Sequent) (p q : (figure rule s.ante s.succ).Parts) → (figure rule s.ante s.succ).shape p → (figure rule s.ante s.succ).shape q → p ≡ q
+one_parts : (rule : Rule) (s : Sequent) (p q : (figure rule s.ante s.succ).Parts) → (figure rule s.ante s.succ).shape p →
+    (figure rule s.ante s.succ).shape q → p ≡ q
 one_parts rule s = (decided rule s.ante s.succ).one_shape
 
 pub one_premises : (rule : Rule) (s : Sequent) (ps qs : List Sequent) → Premises rule s ps → Premises rule s qs → ps ≡ qs
@@ -217,21 +177,39 @@ premises_unless_against rule s premises _ p a = a
 pub first_no_place : (rule : Rule) (s : Sequent) → (¬ (figure rule s.ante s.succ).places) → FirstAgainst rule s NoPlace
 first_no_place rule s n = record {
   against = n;
-  first = elim [ NoPlace ↦ λ lt. absurd (omega arith) | WrongShape ↦ λ lt. absurd (omega arith) | NotEqual ↦ λ lt. absurd (omega arith) | NotFresh ↦ λ lt. absurd (omega arith) | _ ↦ λ lt a. a ];
+  first = elim [
+    | NoPlace ↦ λ lt. absurd (omega arith)
+    | WrongShape ↦ λ lt. absurd (omega arith)
+    | NotEqual ↦ λ lt. absurd (omega arith)
+    | NotFresh ↦ λ lt. absurd (omega arith)
+    | _ ↦ λ lt a. a
+  ];
 }
 
 module _ (rule : Rule) (s : Sequent) (h : (figure rule s.ante s.succ).places) where
   pub first_wrong_shape : ((p : (figure rule s.ante s.succ).Parts) → ¬ (figure rule s.ante s.succ).shape p) → FirstAgainst rule s WrongShape
   first_wrong_shape n = record {
     against = n;
-    first = elim [ NoPlace ↦ λ lt a. a h | WrongShape ↦ λ lt. absurd (omega arith) | NotEqual ↦ λ lt. absurd (omega arith) | NotFresh ↦ λ lt. absurd (omega arith) | _ ↦ λ lt a. a ];
+    first = elim [
+      | NoPlace ↦ λ lt a. a h
+      | WrongShape ↦ λ lt. absurd (omega arith)
+      | NotEqual ↦ λ lt. absurd (omega arith)
+      | NotFresh ↦ λ lt. absurd (omega arith)
+      | _ ↦ λ lt a. a
+    ];
   }
 
   module _ (p : (figure rule s.ante s.succ).Parts) (k : (figure rule s.ante s.succ).shape p) where
     pub first_not_equal : (¬ (figure rule s.ante s.succ).equals p) → FirstAgainst rule s NotEqual
     first_not_equal n = record {
       against = (p, k, n);
-      first = elim [ NoPlace ↦ λ lt a. a h | WrongShape ↦ λ lt a. a p k | NotEqual ↦ λ lt. absurd (omega arith) | NotFresh ↦ λ lt. absurd (omega arith) | _ ↦ λ lt a. a ];
+      first = elim [
+        | NoPlace ↦ λ lt a. a h
+        | WrongShape ↦ λ lt a. a p k
+        | NotEqual ↦ λ lt. absurd (omega arith)
+        | NotFresh ↦ λ lt. absurd (omega arith)
+        | _ ↦ λ lt a. a
+      ];
     }
 
     are_equal : (figure rule s.ante s.succ).equals p → Lacks (figure rule s.ante s.succ) (figure rule s.ante s.succ).equals → ⊥
@@ -240,7 +218,13 @@ module _ (rule : Rule) (s : Sequent) (h : (figure rule s.ante s.succ).places) wh
     pub first_not_fresh : (figure rule s.ante s.succ).equals p → (¬ (figure rule s.ante s.succ).fresh p) → FirstAgainst rule s NotFresh
     first_not_fresh e n = record {
       against = (p, k, n);
-      first = elim [ NoPlace ↦ λ lt a. a h | WrongShape ↦ λ lt a. a p k | NotEqual ↦ λ lt a. are_equal e a | NotFresh ↦ λ lt. absurd (omega arith) | _ ↦ λ lt a. a ];
+      first = elim [
+        | NoPlace ↦ λ lt a. a h
+        | WrongShape ↦ λ lt a. a p k
+        | NotEqual ↦ λ lt a. are_equal e a
+        | NotFresh ↦ λ lt. absurd (omega arith)
+        | _ ↦ λ lt a. a
+      ];
     }
 
 -- a rule makes premises, or there is a first reason against it
@@ -255,7 +239,8 @@ rule_cases rule s =
           | no n ↦ inr (NotEqual, first_not_equal rule s h k.0 k.1 n)
           | yes e ↦ elim (d.fresh k.0) [
             | no n ↦ inr (NotFresh, first_not_fresh rule s h k.0 k.1 e n)
-            | yes f ↦ inl ((figure rule s.ante s.succ).premises k.0, record { places = h; parts = k.0; shape = k.1; equals = e; fresh = f; premises_are = refl })
+            | yes f ↦
+                inl ((figure rule s.ante s.succ).premises k.0, record { places = h; parts = k.0; shape = k.1; equals = e; fresh = f; premises_are = refl })
           ]
         ]
       ]

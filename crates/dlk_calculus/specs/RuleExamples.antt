@@ -8,9 +8,9 @@ use Rattle.dlk_tree.specs.declared.op.Op.TheVariants as Op'
 use Rattle.dlk_tree.specs.Trees.{Tree, node, Forest, no_kids, kid}
 use Rattle.dlk_tree.specs.Statics.{free, plain, prime}
 use Rattle.dlk_calculus.specs.Sequents.{◌==>◌}
-use Rattle.dlk_calculus.specs.Rename.{swap, binder, renamed_bound, may_rename}
+use Rattle.dlk_calculus.specs.Rename.{swap, may_rename, RenamesBound, in_box}
 use Rattle.dlk_calculus.specs.Notation.{leaf, negation, conj, disj, exists}
-use Rattle.dlk_calculus.specs.Rules.{Close, CloseTrue, CloseFalse, NotL, NotR, AndL, AndR, OrL, OrR, ImplyL, ImplyR, EquivL, EquivR, Cut, CutL, CutR, HideL, HideR, CoHideR, ExchangeL, ExchangeR, SkolemL, SkolemR, EquivifyR, CommuteEquivL, CommuteEquivR, imply, equiv, figure}
+use Rattle.dlk_calculus.specs.Rules.{Close, CloseTrue, CloseFalse, NotL, NotR, AndL, AndR, OrL, OrR, ImplyL, ImplyR, EquivL, EquivR, Cut, CutL, CutR, HideL, HideR, CoHideR, ExchangeL, ExchangeR, SkolemL, SkolemR, BoundL, BoundR, EquivifyR, CommuteEquivL, CommuteEquivR, imply, equiv, figure}
 
 abbrev one : Tree → Forest
 one t = kid t no_kids
@@ -83,18 +83,20 @@ swaps_any = refl
 -- ---- bound variables
 
 -- [x:=x;]x>x becomes [y:=x;]y>y: the term stays
-renames_assignments : renamed_bound y (assigned_box x (variable x) (greater (variable x) (variable x))) ≡ assigned_box y (variable x) (greater (variable y) (variable y))
-renames_assignments = refl
+renames_assignments :
+    RenamesBound x y (greater (variable x) (variable x)) (assigned_box x (variable x) (greater (variable x) (variable x)))
+    (assigned_box y (variable x) (greater (variable y) (variable y)))
+renames_assignments = in_box (variable x)
 
--- [x':=y;]f binds no variable that can have another name, and [a;]f and [x:=*;]f neither
-no_primed_binder : binder (node Op'.Box (two (node (Op'.Assign (prime x)) (one (variable y))) (variable x))) ≡ None
-no_primed_binder = refl
+-- [x':=y;]x binds no variable that can have another name, and <a;>x and [x:=*;]x neither
+no_primed_binder : (z : List ℕ) (f u : Tree) → ¬ RenamesBound z y f (node Op'.Box (two (node (Op'.Assign (prime x)) (one (variable y))) (variable x))) u
+no_primed_binder z f u p = elim p [ ]
 
-no_constant_binder : binder (node Op'.Dia (two program (variable x))) ≡ None
-no_constant_binder = refl
+no_constant_binder : (z : List ℕ) (f u : Tree) → ¬ RenamesBound z y f (node Op'.Dia (two program (variable x))) u
+no_constant_binder z f u p = elim p [ ]
 
-no_any_binder : binder (node Op'.Box (two (any_of x) (variable x))) ≡ None
-no_any_binder = refl
+no_any_binder : (z : List ℕ) (f u : Tree) → ¬ RenamesBound z y f (node Op'.Box (two (any_of x) (variable x))) u
+no_any_binder z f u p = elim p [ ]
 
 fresh_name : may_rename x y (greater (variable x) (variable (codes "z"))) ≡ true
 fresh_name = refl
@@ -137,7 +139,7 @@ q = predicate (codes "q")
 abbrev r : Tree
 r = predicate (codes "r")
 
--- The premises of a sequent, by what stands at the rule's places:
+-- The premises of a sequent, by what stands at the rule's places, each rule once:
 
 -- r, p ==> p has none
 closes : (figure (Close 2 1) (r ∷ p ∷ []) (p ∷ [])).premises (p, p) ≡ []
@@ -234,6 +236,15 @@ exists_left = refl
 -- r ==> \forall x p, r has r ==> p, r
 forall_right : (figure (SkolemR 1) (r ∷ []) (forall x p ∷ r ∷ [])).premises (x, p) ≡ (r ∷ [] ==> p ∷ r ∷ []) ∷ []
 forall_right = refl
+
+-- \exists x p ==> r has \exists y p ==> r
+renames_on_the_left : (figure (BoundL 1 y) (exists x p ∷ []) (r ∷ [])).premises (record { x = x; f = p; g = exists y p }) ≡ (exists y p ∷ [] ==> r ∷ []) ∷ []
+renames_on_the_left = refl
+
+-- r ==> r, \forall x p has r ==> r, \forall y p
+renames_on_the_right :
+    (figure (BoundR 2 y) (r ∷ []) (r ∷ forall x p ∷ [])).premises (record { x = x; f = p; g = forall y p }) ≡ (r ∷ [] ==> r ∷ forall y p ∷ []) ∷ []
+renames_on_the_right = refl
 
 -- r ==> p -> q has r ==> p <-> q
 equivalence_of_implication : (figure (EquivifyR 1) (r ∷ []) (imply p q ∷ [])).premises (p, q) ≡ (r ∷ [] ==> equiv p q ∷ []) ∷ []

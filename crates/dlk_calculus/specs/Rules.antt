@@ -1,5 +1,5 @@
 -- The sequent rules, from the conclusion up to the premises.
-use Rattle.std.specs.Prelude.{◌≡◌, ℕ, ◌<◌, List, [], ◌∷◌, ◌++◌, false, ◌||◌, Some, IsTrue}
+use Rattle.std.specs.Prelude.{◌≡◌, ℕ, ◌<◌, List, [], ◌∷◌, ◌++◌, false, ◌||◌, IsTrue}
 use Rattle.std.specs.List.{list_any}
 use Rattle.std.specs.Prelude.{codes}
 use Rattle.dlk_tree.specs.declared.op.Op.{Op}
@@ -13,7 +13,7 @@ use Rattle.dlk_calculus.specs.Reasons.{rank}
 use Rattle.dlk_calculus.specs.Notation.{leaf, one, two}
 use Rattle.dlk_calculus.specs.Places.{At, IsPlace, put, without_place}
 use Rattle.dlk_calculus.specs.Sequents.{Sequent, ◌==>◌, IsFormula}
-use Rattle.dlk_calculus.specs.Rename.{binder, body, renamed_bound, may_rename}
+use Rattle.dlk_calculus.specs.Rename.{may_rename, RenamesBound, Bound}
 
 -- A rule with its places, its formula or its name: i and k are places on the left, j and l on the right.
 pub data Rule : Type 0 where
@@ -126,14 +126,6 @@ equiv f g = two Op'.Equiv f g
 abbrev pub IsFreshIn : Sequent → List ℕ → Type 0
 IsFreshIn s x = (list_any (λ t. free t (plain x)) s.ante || list_any (λ t. free t (plain x)) s.succ) ≡ false
 
--- The formula binds outermost a variable that can have another name, and y is a name. In the code each name is one.
-abbrev pub HasBinder : List ℕ → Tree → Type 0
-HasBinder y t = IsTrue (is_name y) × ((x : List ℕ) × (binder t ≡ Some x))
-
--- y is fresh for the variable that the formula binds
-abbrev pub IsFreshBinder : List ℕ → Tree → Type 0
-IsFreshBinder y t = (x : List ℕ) → binder t ≡ Some x → IsTrue (may_rename x y (body t))
-
 -- The inference figure of a rule, read upwards from a sequent: what must hold of it, and the premises. What must hold stands in four
 -- parts, each with a reason of its own against the rule.
 pub record Figure : Type 1 where
@@ -164,40 +156,45 @@ plain_figure places Parts shape premises = record {
 
 -- what this form makes of the parts
 abbrev pub form_at : List Tree → ℕ → (Parts : Type 0) → (Parts → Tree) → (Parts → List Sequent) → Figure
-form_at side place Parts form premises = plain_figure (IsPlace side place) Parts (λ p. At side place (form p)) premises
+form_at side i Parts form premises = plain_figure (IsPlace side i) Parts (λ p. At side i (form p)) premises
 
 -- any formula f
 abbrev pub any_at : List Tree → ℕ → (Tree → List Sequent) → Figure
-any_at side place premises = form_at side place Tree (λ f. f) premises
+any_at side i premises = form_at side i Tree (λ f. f) premises
 
 -- an operator over nothing
 abbrev pub nullary_at : List Tree → ℕ → Op → List Sequent → Figure
-nullary_at side place op premises = form_at side place (Unit {0}) (λ p. leaf op) (λ p. premises)
+nullary_at side i op premises = form_at side i (Unit {0}) (λ p. leaf op) (λ p. premises)
 
 -- an operator over f
 abbrev pub unary_at : List Tree → ℕ → Op → (Tree → List Sequent) → Figure
-unary_at side place op premises = form_at side place Tree (λ f. one op f) premises
+unary_at side i op premises = form_at side i Tree (λ f. one op f) premises
 
 -- an operator over f and g
 abbrev pub binary_at : List Tree → ℕ → Op → (Tree → Tree → List Sequent) → Figure
-binary_at side place op premises = form_at side place (Tree × Tree) (λ p. two op p.0 p.1) (λ p. premises p.0 p.1)
+binary_at side i op premises = form_at side i (Tree × Tree) (λ p. two op p.0 p.1) (λ p. premises p.0 p.1)
 
 -- a quantifier of x over f, where x is fresh in the rest of the sequent
 abbrev pub quantifier_at : List Tree → ℕ → (List ℕ → Op) → Sequent → (Tree → List Sequent) → Figure
-quantifier_at side place op rest premises =
-    record (form_at side place (List ℕ × Tree) (λ p. one (op p.0) p.1) (λ p. premises p.1)) { fresh = λ p. IsFreshIn rest p.0 }
+quantifier_at side i op rest premises = record (form_at side i (List ℕ × Tree) (λ p. one (op p.0) p.1) (λ p. premises p.1)) { fresh = λ p. IsFreshIn rest p.0 }
 
--- a formula that binds a variable for which y is fresh; g is the same with y for it
+-- a formula that binds x over f, where y is a name that is fresh for x; g is the same with y for x. In the code each name is one
 abbrev pub binder_at : List Tree → ℕ → List ℕ → (Tree → List Sequent) → Figure
-binder_at side place y premises =
-    record (plain_figure (IsPlace side place) Tree (λ f. At side place f × HasBinder y f) (λ f. premises (renamed_bound y f))) { fresh = IsFreshBinder y }
+binder_at side i y premises = record {
+  places = IsPlace side i;
+  Parts = Bound;
+  shape = λ p. IsTrue (is_name y) × ((t : Tree) × At side i t × RenamesBound p.x y p.f t p.g);
+  equals = λ p. Unit {0};
+  fresh = λ p. IsTrue (may_rename p.x y p.f);
+  premises = λ p. premises p.g;
+}
 
 -- any formulas f and g at two places, of which this holds
 abbrev pub both_at : List Tree → ℕ → List Tree → ℕ → (Tree → Tree → Type 0) → (Tree → Tree → List Sequent) → Figure
-both_at side place other k equals premises = record {
-  places = IsPlace side place × IsPlace other k;
+both_at side i other k equals premises = record {
+  places = IsPlace side i × IsPlace other k;
   Parts = Tree × Tree;
-  shape = λ p. At side place p.0 × At other k p.1;
+  shape = λ p. At side i p.0 × At other k p.1;
   equals = λ p. equals p.0 p.1;
   fresh = λ p. Unit {0};
   premises = λ p. premises p.0 p.1;
@@ -205,7 +202,7 @@ both_at side place other k equals premises = record {
 
 -- any formula f, for a rule whose own formula is h
 abbrev pub cut_at : List Tree → ℕ → Tree → (Tree → List Sequent) → Figure
-cut_at side place h premises = plain_figure (IsPlace side place) Tree (λ f. At side place f × IsFormula h) premises
+cut_at side i h premises = plain_figure (IsPlace side i) Tree (λ f. At side i f × IsFormula h) premises
 
 -- The sequent rules, one row a rule, of a sequent with A on the left and S on the right. In each comment, A i stands at place i on the left,
 -- S j at place j on the right, f and g are the formula's kids, and h is the rule's own formula. `First ..; then ..` are two premises. A

@@ -9,9 +9,8 @@ pub record Sequent : Type 0 where
   pub ante : List Tree
   pub succ : List Tree
 
-infix 4 ◌==>◌
-
 -- these formulas on the left, and those on the right
+infix 4 ◌==>◌
 abbrev pub ◌==>◌ : List Tree → List Tree → Sequent
 A ==> S = record { ante = A; succ = S }
 

@@ -1,9 +1,10 @@
 //! The laws of the calculus. Each is a contract of a function that does nothing.
-ghost use Rattle.std.specs.Prelude.{◌≡◌, ◌<◌, ◌⊎◌, ◌↔◌, List, [], ◌∷◌, ◌++◌, length, All, map};
+ghost use Rattle.std.specs.Prelude.{◌≡◌, ◌<◌, ◌⊎◌, ◌↔◌, ℕ, List, [], ◌∷◌, ◌++◌, length, All, map};
 ghost use Rattle.dlk_tree.specs.Trees.{Tree, sort, WellMade};
 ghost use Rattle.dlk_calculus.specs.Pairs.{Pair, IsWellFormed, AreMade};
 ghost use Rattle.dlk_calculus.specs.Plug.{Plug};
 ghost use Rattle.dlk_calculus.specs.Subst.{Subst};
+ghost use Rattle.dlk_calculus.specs.Rename.{RenamesBound, Bound};
 ghost use Rattle.dlk_calculus.specs.declared.reason.Reason.{Reason as TheReason};
 ghost use Rattle.dlk_calculus.specs.Axioms.{Axiom, AxiomaticRule, axioms, axiomatic_rules};
 ghost use Rattle.dlk_calculus.specs.Sequents.{IsFormula};
@@ -36,6 +37,19 @@ pub fn subst_keeps_formulas()
 /// A substitution makes a tree of a tree, or it makes none of it: which of both is decided.
 pub fn subst_decided()
     ensures { (pairs : List Pair) (e : Tree) → ((t : Tree) × Subst pairs e t) ⊎ ((t : Tree) → Subst pairs e t → ⊥) }
+{}
+
+/// A formula binds outermost at most one variable that can have another name, over one formula, and with the other name it is
+/// one formula.
+pub fn one_renamed()
+    ensures { (y : List ℕ) (t : Tree) (p q : Bound) → RenamesBound p.x y p.f t p.g → RenamesBound q.x y q.f t q.g → p ≡ q }
+{}
+
+/// A formula binds such a variable, or it binds none: which of both is decided. Where it binds one, there is a result with each
+/// name.
+pub fn renamed_decided()
+    ensures decided { (y : List ℕ) (t : Tree) → ((p : Bound) × RenamesBound p.x y p.f t p.g) ⊎ ((p : Bound) → RenamesBound p.x y p.f t p.g → ⊥) }
+    ensures another { (x y z : List ℕ) (f t u : Tree) → RenamesBound x y f t u → (v : Tree) × RenamesBound x z f t v }
 {}
 
 /// A step gives at most one provable.

@@ -1,8 +1,10 @@
 -- The words and the arguments of rules.
 use Rattle.std.specs.Prelude.{◌≡◌, ℕ, List, [], Option, find, bytes_eq}
+use Rattle.dlk_tree.specs.declared.op.Op.TheVariants.{True}
 use Rattle.dlk_tree.specs.Trees.{Tree}
 use Rattle.dlk_store.specs.Stores.{IsId, tree}
-use Rattle.dlk_calculus.specs.Rules.{truth, Arguments as TreeArguments, OnePlace, TwoPlaces, PlaceAndFormula, OneFormula, PlaceAndName, word_of, arguments_of}
+use Rattle.dlk_calculus.specs.Notation.{leaf}
+use Rattle.dlk_calculus.specs.Rules.{Arguments as TreeArguments, OnePlace, TwoPlaces, PlaceAndFormula, OneFormula, PlaceAndName, word_of, arguments_of}
 use Rattle.dlk_rules.specs.declared.arguments.Shape.{Shape}
 use Rattle.dlk_rules.specs.declared.arguments.Shape.TheVariants as shape
 use Rattle.dlk_rules.specs.declared.arguments.Arguments.{Arguments}
@@ -44,8 +46,8 @@ ArgumentsAreKnown trees (args.PlaceAndName i y) = Unit {0}
 abbrev pub text_made : Template → List ℕ
 text_made (WantsPlace make) = word_of (make 0)
 text_made (WantsTwoPlaces make) = word_of (make 0 0)
-text_made (WantsPlaceAndFormula make) = word_of (make 0 truth)
-text_made (WantsFormula make) = word_of (make truth)
+text_made (WantsPlaceAndFormula make) = word_of (make 0 (leaf True))
+text_made (WantsFormula make) = word_of (make (leaf True))
 text_made (WantsPlaceAndName make) = word_of (make 0 [])
 
 abbrev pub text_of : RuleWord → List ℕ

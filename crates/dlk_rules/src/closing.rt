@@ -5,7 +5,7 @@ ghost use Rattle.dlk_calculus.specs.Rules.{Close, CloseTrue, CloseFalse, FirstAg
 ghost use Rattle.dlk_sequent.specs.Sequents.{sequent_at, IsKnown};
 ghost use Rattle.dlk_rules.specs.Steps.{ArePremises, IsRuleFault};
 
-use crate::look::{check_root, formula_at};
+use crate::look::{check_leaf, formula_at};
 use crate::rule::RuleFault;
 use dlk_sequent::Sequent;
 use dlk_store::{Steps, Store};
@@ -57,7 +57,7 @@ pub(crate) fn close_true<S: Store, L: Ledger>(
     ensures made { IfOk result (ArePremises (CloseTrue j) (S.trees store.now) s.now (S.trees store.now)) }
     ensures fault { IfErr result (IsRuleFault (FirstAgainst (CloseTrue j) (sequent_at (S.trees store.now) s.now))) }
 {
-    check_root(store, &s.succ, j, &Op::True, steps)?;
+    check_leaf(store, &s.succ, j, &Op::True, steps)?;
     Ok(Vec::new(alloc))
 }
 
@@ -79,6 +79,6 @@ pub(crate) fn close_false<S: Store, L: Ledger>(
     ensures made { IfOk result (ArePremises (CloseFalse i) (S.trees store.now) s.now (S.trees store.now)) }
     ensures fault { IfErr result (IsRuleFault (FirstAgainst (CloseFalse i) (sequent_at (S.trees store.now) s.now))) }
 {
-    check_root(store, &s.ante, i, &Op::False, steps)?;
+    check_leaf(store, &s.ante, i, &Op::False, steps)?;
     Ok(Vec::new(alloc))
 }

@@ -15,6 +15,6 @@ returns-clause-made g c =
     let s = stands_kept keeps c.args.s.now c.requires.sequent.known in
     let h = stands_itself_kept keeps c.args.h c.requires.formula in
     let formula = stands_imply c.in_ok-implied.ensures.made at.stands.tree_is refl in
-    made (CutL c.args.i _) old new c.args.s.now c.in_ok-two.field-0 at.place_is (c.is_formula.ensures.0 c.if-not-is_formula.false) tt tt
+    made (CutL c.args.i _) old new c.args.s.now c.in_ok-two.field-0 at.place_is at.f (at.at, c.is_formula.ensures.0 c.if-not-is_formula.false) tt tt
     (two_stand (left_put s h c.args.i) (right_last (left_without s c.args.i) formula)
     (rw (c.in_ok-push.ensures.ok, c.remove.ensures, c.set.ensures, c.in_ok-first.ensures, c.in_ok-second.ensures) at c.in_ok-two.ensures))

@@ -15,6 +15,6 @@ returns-clause-made g c =
     let s = stands_kept keeps c.args.s.now c.requires.sequent.known in
     let h = stands_itself_kept keeps c.args.h c.requires.formula in
     let formula = stands_imply c.in_ok-implies.ensures.made refl at.stands.tree_is in
-    made (CutR c.args.j _) old new c.args.s.now c.in_ok-two.field-0 at.place_is (c.is_formula.ensures.0 c.if-not-is_formula.false) tt tt
+    made (CutR c.args.j _) old new c.args.s.now c.in_ok-two.field-0 at.place_is at.f (at.at, c.is_formula.ensures.0 c.if-not-is_formula.false) tt tt
     (two_stand (right_put s h c.args.j) (right_put s formula c.args.j)
     (rw (c.set.ensures, c.set-2.ensures, c.in_ok-first.ensures, c.in_ok-second.ensures) at c.in_ok-two.ensures))
