@@ -3,7 +3,7 @@ use Rattle.std.proofs.Common.{◌≡◌, ℕ, zero, suc, ◌<◌, ◌≤◌, ◌
 use Rattle.std.specs.List.{All}
 use Rattle.std.proofs.lemmas.Bool.{cases_lt}
 use Rattle.std.proofs.lemmas.Option.{slice_get_within, get_or_from_slice_get, slice_get-get_or}
-use Rattle.std.proofs.lemmas.List.{take-take, take_more, take_all, take-append-le, get_or-take, get_or_append_left, length-take, append-nil}
+use Rattle.std.proofs.lemmas.List.{take-take, take_all, take-append-le, get_or-take, get_or_append_left, length-take, append-nil}
 use Rattle.std.proofs.Math.Seq.{take-append_seam, get_or-append_seam, take-suc}
 use Rattle.std.proofs.lemmas.List.Elements.{All-nil, All-push}
 use Rattle.dlk_calculus.specs.Places.{At, put_all}

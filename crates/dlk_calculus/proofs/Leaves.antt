@@ -1,7 +1,6 @@
 -- The leaves of what is derived are sequents of arithmetic, and none stands twice.
-use Rattle.std.proofs.Common.{◌≡◌, List, [], ◌∷◌, ◌++◌, refl, subst, ◌⊎◌, inl, inr}
+use Rattle.std.proofs.Common.{List, [], ◌∷◌, ◌++◌, refl, subst, ◌⊎◌, inl, inr}
 use Rattle.std.specs.Prelude.{IsTrue}
-use Rattle.std.specs.List.{All}
 use Rattle.std.proofs.lemmas.List.Elements.{All-cons, All-nil}
 use Rattle.dlk_calculus.specs.Arithmetic.{is_arithmetic_sequent}
 use Rattle.dlk_calculus.specs.Sequents.{Sequent}

@@ -1,9 +1,9 @@
 -- A step gives at most one provable, and gives one exactly where nothing speaks against it.
-use Rattle.std.proofs.Common.{◌≡◌, ◌≢◌, ℕ, ◌<◌, Bool, true, false, List, [], ◌∷◌, ◌++◌, refl, sym, ap, subst, ◌∙◌, arith, Option, Some, None, ◌⊎◌, inl, inr}
+use Rattle.std.proofs.Common.{◌≡◌, ◌≢◌, ℕ, ◌<◌, Bool, true, false, List, [], ◌∷◌, refl, sym, ap, subst, ◌∙◌, arith, Option, Some, None, ◌⊎◌, inl, inr}
 use Rattle.std.specs.Prelude.{IsTrue}
 use Rattle.std.proofs.lemmas.Option.{none-some, same_Some}
 use Rattle.dlk_calculus.specs.declared.reason.Reason.{Reason}
-use Rattle.dlk_calculus.specs.declared.reason.Reason.TheVariants.{NoFact, NoGoal, UnknownName, NoPlace, WrongShape, NotEqual, NotFresh, NotArith, IllSubst, FreeInSubst, NotAdmissible, TooBig, TooDeep, SideFull, GoalsFull, LeavesFull, LinesFull}
+use Rattle.dlk_calculus.specs.declared.reason.Reason.TheVariants.{NoFact, NoGoal, UnknownName, NoPlace, WrongShape, NotEqual, NotFresh, NotArith, IllSubst, FreeInSubst, NotAdmissible, LinesFull}
 use Rattle.dlk_calculus.specs.Reasons.{rank, IsOfCalculus}
 use Rattle.dlk_tree.specs.Names.{is_name}
 use Rattle.dlk_calculus.specs.Axioms.{Axiom, AxiomaticRule, axiom_named, rule_named}
@@ -19,7 +19,7 @@ use Rattle.dlk_calculus.proofs.PlaceLaws.{at_one, At_place, place_cases}
 use Rattle.dlk_calculus.proofs.OneResult.{one_subst}
 use Rattle.dlk_calculus.proofs.Decided.{subst_decided, free_in_decided, good_pairs}
 use Rattle.dlk_tree.specs.Trees.{Tree}
-use Rattle.dlk_calculus.proofs.Decide.{is_sequent, same_sequent, is_true, is_false, both}
+use Rattle.dlk_calculus.proofs.Decide.{is_sequent, same_sequent, is_false, both}
 use Rattle.dlk_calculus.proofs.RuleLaws.{one_premises, premises_unless_against, rule_cases}
 
 -- what a step's provable is made of
