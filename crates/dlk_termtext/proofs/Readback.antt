@@ -1,13 +1,11 @@
 -- The written form of a line is read as that line.
-use Rattle.std.proofs.Common.{◌≡◌, ◌≢◌, ℕ, ◌≤◌, ◌<◌, ◌%◌, ◌/◌, ◌*◌, ◌+◌, ◌-◌, ◌^◌, true, IsTrue, List, [], ◌∷◌, ◌++◌, length, get_or, Some, refl, subst, arith}
-use Rattle.std.specs.Prelude.{codes}
+use Rattle.std.proofs.Common.{◌≡◌, ◌≢◌, ℕ, ◌≤◌, ◌<◌, ◌%◌, ◌/◌, ◌*◌, ◌+◌, ◌-◌, ◌^◌, true, List, [], ◌∷◌, ◌++◌, length, get_or, refl, subst, arith}
 use Rattle.std.specs.Fmt.{decimal}
 use Rattle.std.specs.List.{list_all}
 use Rattle.std.proofs.lemmas.Bool.Decides.{nat_tests}
 use Rattle.std.proofs.lemmas.Fmt.{decimal_by_steps, length-decimal-le, decimal_nonempty, first_decimal}
 use Rattle.std.proofs.lemmas.List.Folds.{list_all-append}
 use Rattle.std.proofs.lemmas.List.Sums.{fold_push}
-use Rattle.dlk_tree.specs.Names.{is_name}
 use Rattle.dlk_tree.specs.Trees.{Tree}
 use Rattle.dlk_tree.specs.declared.op.Sort.{Sort}
 use Rattle.dlk_calculus.specs.Sequents.{Sequent}
