@@ -17,6 +17,7 @@ use Rattle.dlk_calculus.specs.Pairs.{Pair, replacement, takes_arguments, IsFreeI
 use Rattle.dlk_calculus.specs.Subst.{IsAdmissible, Replaced, new_items, new_kids, SubstAt, Subst, SubstAll}
 use Rattle.dlk_calculus.proofs.Decide.{both, is_true, well_made_decided}
 use Rattle.dlk_calculus.proofs.OneResult.{one_plug_all, one_subst_at, one_subst_all}
+use Rattle.dlk_calculus.proofs.WellFormed.{well_formed_or_ill}
 use Rattle.dlk_calculus.proofs.Told.{Told, free_told, inhabited_decided, apart_decided, captures_told}
 
 -- ---- what follows from what is decided
@@ -155,13 +156,12 @@ free_in_decided (p ∷ pairs) = elim (both (λ k f. (k, f)) (λ c. c.0) (λ c. c
   | no n ↦ elim (free_in_decided pairs) [ yes f ↦ yes (inr f) | no m ↦ no (λ h. elim h [ inl f ↦ n f | inr f ↦ m f ]) ]
 ]
 
-well_formed_decided : (o : Option Ill) → Dec (o ≡ None)
-well_formed_decided None = yes refl
-well_formed_decided (Some ill) = no (λ e. cc)
+well_formed_decided : (pairs : List Pair) → Dec (IsWellFormed pairs)
+well_formed_decided pairs = elim (well_formed_or_ill pairs) [ inl well ↦ yes well | inr ill ↦ no (λ well. well.none ill.0 ill.1 ill.2.ill) ]
 
 all_made_decided : (pairs : List Pair) → Dec (AreMade pairs)
 all_made_decided [] = yes (All-nil (λ (p : Pair). WellMade p.by))
 all_made_decided (p ∷ pairs) = both (All-cons (λ (p : Pair). WellMade p.by) p pairs) (All-head (λ (p : Pair). WellMade p.by) p pairs) (All-tail (λ (p : Pair). WellMade p.by) p pairs) (well_made_decided p.by) (all_made_decided pairs)
 
-pub good_pairs : (pairs : List Pair) → Dec (AreMade pairs × IsWellFormed pairs)
-good_pairs pairs = both (λ a b. (a, b)) (λ c. c.0) (λ c. c.1) (all_made_decided pairs) (well_formed_decided (first_ill pairs))
+pub good_pairs : (pairs : List Pair) → Dec (AreWellMade pairs × IsWellFormed pairs)
+good_pairs pairs = both (λ a b. (a, b)) (λ c. c.0) (λ c. c.1) (all_made_decided pairs) (well_formed_decided pairs)

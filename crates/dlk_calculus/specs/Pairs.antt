@@ -116,26 +116,18 @@ is_against Why'.Taboo earlier p = has_taboo p.sym.taboo (touched p.sym.kind p.by
 abbrev pub why : List Pair → Pair → Option Why
 why earlier p = find (λ w. is_against w earlier p) (Why'.Sort ∷ Why'.Twice ∷ Why'.Dot ∷ Why'.Hole ∷ Why'.Taboo ∷ [])
 
--- the place of a bad pair, counted from 1, and why it is bad
-pub record Ill : Type 0 where
-  pub pair : ℕ
-  pub reason : Why
+-- this is the first reason against pair n, which stands behind the pairs before it; places count from 1
+abbrev pub IsIll : List Pair → ℕ → Why → Type 0
+IsIll pairs n reason = (p : Pair) × At pairs n p × (why (take (n - 1) pairs) p ≡ Some reason)
 
-abbrev pub or_later : ℕ → Option Why → Option Ill → Option Ill
-or_later n (Some w) later = Some (record { pair = n; reason = w })
-or_later n None later = later
-
--- the first bad pair of those behind earlier ones
-abbrev pub ill_behind : List Pair → List Pair → Option Ill
-ill_behind earlier [] = None
-ill_behind earlier (p ∷ pairs) = or_later (length earlier + 1) (why earlier p) (ill_behind (earlier ++ p ∷ []) pairs)
-
-abbrev pub first_ill : List Pair → Option Ill
-first_ill pairs = ill_behind [] pairs
+-- the first bad pair, and the first reason against it
+pub record FirstIll (pairs : List Pair) (n : ℕ) (reason : Why) : Type 0 where
+  pub ill : IsIll pairs n reason
+  pub first : (m : ℕ) (w : Why) → m < n → ¬ IsIll pairs m w
 
 -- no pair is bad
-abbrev pub IsWellFormed : List Pair → Type 0
-IsWellFormed pairs = first_ill pairs ≡ None
+pub record IsWellFormed (pairs : List Pair) : Type 0 where
+  pub none : (n : ℕ) (w : Why) → ¬ IsIll pairs n w
 
 -- each replacement is well made
 abbrev pub AreMade : List Pair → Type 0
