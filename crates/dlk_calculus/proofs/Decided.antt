@@ -13,7 +13,7 @@ use Rattle.dlk_tree.specs.Occurs.{any_has, has_symbol, is_dot}
 use Rattle.dlk_calculus.specs.Kids.{first}
 use Rattle.dlk_calculus.specs.Captures.{captures, AreApart, Stays}
 use Rattle.dlk_calculus.specs.Plug.{IsClear, PlugAt, Plug, PlugAll, filled}
-use Rattle.dlk_calculus.specs.Pairs.{Pair, replacement, takes_arguments, IsFreeIn, Ill, first_ill, IsWellFormed, AreMade}
+use Rattle.dlk_calculus.specs.Pairs.{Pair, replacement, IsFreeIn, IsWellFormed, AreWellMade}
 use Rattle.dlk_calculus.specs.Subst.{IsAdmissible, Replaced, new_items, new_kids, SubstAt, Subst, SubstAll}
 use Rattle.dlk_calculus.proofs.Decide.{both, is_true, well_made_decided}
 use Rattle.dlk_calculus.proofs.OneResult.{one_plug_all, one_subst_at, one_subst_all}
@@ -159,7 +159,7 @@ free_in_decided (p ∷ pairs) = elim (both (λ k f. (k, f)) (λ c. c.0) (λ c. c
 well_formed_decided : (pairs : List Pair) → Dec (IsWellFormed pairs)
 well_formed_decided pairs = elim (well_formed_or_ill pairs) [ inl well ↦ yes well | inr ill ↦ no (λ well. well.none ill.0 ill.1 ill.2.ill) ]
 
-all_made_decided : (pairs : List Pair) → Dec (AreMade pairs)
+all_made_decided : (pairs : List Pair) → Dec (AreWellMade pairs)
 all_made_decided [] = yes (All-nil (λ (p : Pair). WellMade p.by))
 all_made_decided (p ∷ pairs) = both (All-cons (λ (p : Pair). WellMade p.by) p pairs) (All-head (λ (p : Pair). WellMade p.by) p pairs) (All-tail (λ (p : Pair). WellMade p.by) p pairs) (well_made_decided p.by) (all_made_decided pairs)
 

@@ -8,7 +8,7 @@ use Rattle.dlk_calculus.specs.Reasons.{rank, IsOfCalculus}
 use Rattle.dlk_tree.specs.Names.{is_name}
 use Rattle.dlk_calculus.specs.Axioms.{Axiom, AxiomaticRule, axiom_named, rule_named}
 use Rattle.dlk_calculus.specs.Arithmetic.{is_arithmetic_sequent}
-use Rattle.dlk_calculus.specs.Pairs.{Pair, IsFreeIn, IsWellFormed, AreMade}
+use Rattle.dlk_calculus.specs.Pairs.{Pair, IsFreeIn, IsWellFormed, AreWellMade}
 use Rattle.dlk_calculus.specs.Subst.{Subst}
 use Rattle.dlk_calculus.specs.Places.{At, IsPlace}
 use Rattle.dlk_calculus.specs.Sequents.{Sequent, IsSequent}
@@ -32,7 +32,7 @@ GivenBy rows (Apply fact goal rule) p =
     (q : Provable) × (s : Sequent) × (premises : List Sequent) × At rows fact q × At q.goals goal s × Premises rule s premises × (p ≡ applied q goal premises)
 GivenBy rows (Merge fact goal by) p =
     (q r : Provable) × (leaves : List Sequent) × At rows fact q × At rows by r × At q.goals goal r.conclusion × Joins q.leaves r.leaves leaves × (p ≡ merged q goal r leaves)
-GivenBy rows (Substitute fact pairs) p = (q : Provable) × At rows fact q × AreMade pairs × IsWellFormed pairs × (HasGoal q.goals → ¬ IsFreeIn pairs) × Substitutes pairs q p
+GivenBy rows (Substitute fact pairs) p = (q : Provable) × At rows fact q × AreWellMade pairs × IsWellFormed pairs × (HasGoal q.goals → ¬ IsFreeIn pairs) × Substitutes pairs q p
 GivenBy rows (Rename fact x y) p = (q : Provable) × At rows fact q × AreNames x y × (p ≡ renamed x y q)
 
 pub given_by : (rows : List Provable) (step : Step) (p : Provable) → Gives rows step p → GivenBy rows step p
@@ -292,19 +292,19 @@ no_fact_to_substitute rows fact pairs n = record {
   first = elim [ NoFact ↦ λ lt. absurd (omega arith) | _ ↦ λ lt. absurd (omega arith) ];
 }
 
-pub ill_pairs : (rows : List Provable) (fact : ℕ) (pairs : List Pair) (p : Provable) → At rows fact p → (¬ (AreMade pairs × IsWellFormed pairs)) → Fault rows (Substitute fact pairs) IllSubst
+pub ill_pairs : (rows : List Provable) (fact : ℕ) (pairs : List Pair) (p : Provable) → At rows fact p → (¬ (AreWellMade pairs × IsWellFormed pairs)) → Fault rows (Substitute fact pairs) IllSubst
 ill_pairs rows fact pairs p h n = record {
   against = n;
   first = elim [ NoFact ↦ λ lt a. a (At_place rows fact p h) | NoGoal ↦ λ lt a. a | UnknownName ↦ λ lt a. a | NoPlace ↦ λ lt a. a | WrongShape ↦ λ lt a. a | NotEqual ↦ λ lt a. a | NotFresh ↦ λ lt a. a | NotArith ↦ λ lt a. a | _ ↦ λ lt. absurd (omega arith) ];
 }
 
-pub free_with_goal : (rows : List Provable) (fact : ℕ) (pairs : List Pair) (p : Provable) → At rows fact p → AreMade pairs → IsWellFormed pairs → HasGoal p.goals → IsFreeIn pairs → Fault rows (Substitute fact pairs) FreeInSubst
+pub free_with_goal : (rows : List Provable) (fact : ℕ) (pairs : List Pair) (p : Provable) → At rows fact p → AreWellMade pairs → IsWellFormed pairs → HasGoal p.goals → IsFreeIn pairs → Fault rows (Substitute fact pairs) FreeInSubst
 free_with_goal rows fact pairs p h made well g f = record {
   against = (p, h, g, f);
   first = elim [ NoFact ↦ λ lt a. a (At_place rows fact p h) | NoGoal ↦ λ lt a. a | UnknownName ↦ λ lt a. a | NoPlace ↦ λ lt a. a | WrongShape ↦ λ lt a. a | NotEqual ↦ λ lt a. a | NotFresh ↦ λ lt a. a | NotArith ↦ λ lt a. a | IllSubst ↦ λ lt a. a (made, well) | _ ↦ λ lt. absurd (omega arith) ];
 }
 
-pub nothing_made : (rows : List Provable) (fact : ℕ) (pairs : List Pair) (p : Provable) → At rows fact p → AreMade pairs → IsWellFormed pairs → (HasGoal p.goals → ¬ IsFreeIn pairs) →
+pub nothing_made : (rows : List Provable) (fact : ℕ) (pairs : List Pair) (p : Provable) → At rows fact p → AreWellMade pairs → IsWellFormed pairs → (HasGoal p.goals → ¬ IsFreeIn pairs) →
     ((q : Provable) → ¬ Substitutes pairs p q) → Fault rows (Substitute fact pairs) NotAdmissible
 nothing_made rows fact pairs p h made well free n = record {
   against = (p, h, n);

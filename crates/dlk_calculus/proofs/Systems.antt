@@ -10,7 +10,7 @@ use Rattle.dlk_tree.specs.declared.op.Op.TheVariants as Op'
 use Rattle.dlk_tree.specs.Table.{evolved, are_items, kid_sorts, Fits}
 use Rattle.dlk_tree.specs.Trees.{Tree, node, Forest, no_kids, kid, sort, sorts, WellMade, AllWellMade}
 use Rattle.dlk_calculus.specs.Kids.{but_last, append}
-use Rattle.dlk_calculus.specs.Pairs.{Pair, replacement, AreMade}
+use Rattle.dlk_calculus.specs.Pairs.{Pair, replacement, AreWellMade}
 use Rattle.dlk_calculus.specs.Subst.{items_for, sides_for, new_items, new_kids}
 use Rattle.dlk_calculus.proofs.WellFormed.{replacement_made}
 use Rattle.dlk_calculus.proofs.Sorts.{head, tail}
@@ -64,7 +64,7 @@ append_made : (ss ts : Forest) → AllWellMade ss → AllWellMade ts → AllWell
 append_made no_kids ts p q = q
 append_made (kid s ss) ts p q = (p.0, append_made ss ts p.1 q)
 
-module _ (pairs : List Pair) (made : AreMade pairs) where
+module _ (pairs : List Pair) (made : AreWellMade pairs) where
   found_made : (s : Sym) (r : Tree) → replacement pairs s ≡ Some r → WellMade r
   found_made s r found = replacement_made pairs s r made found
 

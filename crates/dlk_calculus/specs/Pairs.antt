@@ -130,5 +130,5 @@ pub record IsWellFormed (pairs : List Pair) : Type 0 where
   pub none : (n : ℕ) (w : Why) → ¬ IsIll pairs n w
 
 -- each replacement is well made
-abbrev pub AreMade : List Pair → Type 0
-AreMade pairs = All (λ (p : Pair). WellMade p.by) pairs
+abbrev pub AreWellMade : List Pair → Type 0
+AreWellMade pairs = All (λ (p : Pair). WellMade p.by) pairs

@@ -7,7 +7,7 @@ use Rattle.dlk_calculus.specs.declared.reason.Reason.TheVariants.{NoFact, NoGoal
 use Rattle.dlk_calculus.specs.Reasons.{rank}
 use Rattle.dlk_calculus.specs.Axioms.{Axiom, AxiomaticRule, axiom_named, rule_named}
 use Rattle.dlk_calculus.specs.Arithmetic.{is_arithmetic_sequent}
-use Rattle.dlk_calculus.specs.Pairs.{Pair, IsFreeIn, IsWellFormed, AreMade}
+use Rattle.dlk_calculus.specs.Pairs.{Pair, IsFreeIn, IsWellFormed, AreWellMade}
 use Rattle.dlk_calculus.specs.Places.{At, IsPlace}
 use Rattle.dlk_calculus.specs.Sequents.{Sequent, IsSequent}
 use Rattle.dlk_calculus.specs.Rules.{Rule, Premises, RuleAgainst}
@@ -47,7 +47,7 @@ pub data Gives (rows : List Provable) : Step → Provable → Type 0 where
       Gives rows (Merge fact goal by) (merged p goal q leaves)
   -- a substitution on a fact's conclusion and goals; where there is a goal, no variable is free in the replacement of a function or a
   -- predicate
-  substitute : (fact : ℕ) (pairs : List Pair) (p q : Provable) → At rows fact p → AreMade pairs → IsWellFormed pairs → (HasGoal p.goals → ¬ IsFreeIn pairs) → Substitutes pairs p q →
+  substitute : (fact : ℕ) (pairs : List Pair) (p q : Provable) → At rows fact p → AreWellMade pairs → IsWellFormed pairs → (HasGoal p.goals → ¬ IsFreeIn pairs) → Substitutes pairs p q →
       Gives rows (Substitute fact pairs) q
   -- two names are exchanged in a fact's conclusion and goals
   rename : (fact : ℕ) (x y : List ℕ) (p : Provable) → At rows fact p → AreNames x y → Gives rows (Rename fact x y) (renamed x y p)
@@ -127,7 +127,7 @@ Against NotFresh rows (Apply fact goal rule) = OfGoal rows fact goal (RuleAgains
 Against NotFresh rows _ = ⊥
 Against NotArith rows (Leaf s) = is_arithmetic_sequent s ≡ false
 Against NotArith rows _ = ⊥
-Against IllSubst rows (Substitute fact pairs) = ¬ (AreMade pairs × IsWellFormed pairs)
+Against IllSubst rows (Substitute fact pairs) = ¬ (AreWellMade pairs × IsWellFormed pairs)
 Against IllSubst rows _ = ⊥
 Against FreeInSubst rows (Substitute fact pairs) = (p : Provable) × At rows fact p × HasGoal p.goals × IsFreeIn pairs
 Against FreeInSubst rows _ = ⊥
