@@ -9,11 +9,11 @@ use Rattle.dlk_tree.specs.declared.op.OdeItem.{OdeItem}
 use Rattle.dlk_tree.specs.declared.op.OdeItem.TheVariants as Item
 use Rattle.dlk_tree.specs.declared.op.Op.{Op}
 use Rattle.dlk_tree.specs.declared.op.Op.TheVariants as Op'
+use Rattle.dlk_tree.specs.Table.{kind_row}
 use Rattle.dlk_tree.specs.Trees.{Tree, node, Forest, no_kids, kid, root}
 use Rattle.dlk_tree.specs.Statics.{free, plain, prime}
 use Rattle.dlk_tree.specs.Occurs.{has, symbols_of}
 use Rattle.dlk_calculus.specs.Kids.{first, last}
-use Rattle.dlk_calculus.specs.Pairs.{takes_arguments}
 
 -- The names x and y are exchanged: in variables, binders, evolved variables and taboos. Names of symbols stay.
 
@@ -125,7 +125,7 @@ renamed_bound y (node op kids) = rebound y (swap (name_in (binder_of op kids)) y
 -- A symbol that may read variables that aren't written with it: a unit symbol, a predicational, a program constant or an ODE constant. An
 -- exchange of names can't reach what will stand for it.
 abbrev pub hides_variables : Sym → Bool
-hides_variables s = not (takes_arguments s.kind)
+hides_variables s = not (kind_row s.kind).arguments
 
 abbrev pub has_hidden_variables : Tree → Bool
 has_hidden_variables t = has (λ op. list_any hides_variables (symbols_of op)) t

@@ -12,7 +12,7 @@ use Rattle.dlk_tree.specs.declared.op.Sort.TheVariants.{Term}
 use Rattle.dlk_tree.specs.declared.op.OdeItem.TheVariants as Item
 use Rattle.dlk_tree.specs.declared.op.Op.{Op}
 use Rattle.dlk_tree.specs.declared.op.Op.TheVariants as Op'
-use Rattle.dlk_tree.specs.Table.{kid_sorts, has_parts}
+use Rattle.dlk_tree.specs.Table.{kind_row, kid_sorts, has_parts}
 use Rattle.dlk_tree.specs.Trees.{Tree, node, Forest, no_kids, kid, sort, WellMade}
 use Rattle.dlk_tree.specs.Statics.{none, plain, prime, free, bound, both}
 use Rattle.dlk_tree.specs.Occurs.{any_has, has_symbol}
@@ -277,7 +277,7 @@ p_gives = (
 
 -- what admissibility of the assignment for q() says of a pair
 abbrev IsApart : Pair → Type 0
-IsApart r = IsTrue (takes_arguments r.sym.kind && any_has (has_symbol r.sym) (one (holds q))) → AreApart (bound assign) (free r.by)
+IsApart r = IsTrue ((kind_row r.sym.kind).arguments && any_has (has_symbol r.sym) (one (holds q))) → AreApart (bound assign) (free r.by)
 
 -- p() doesn't occur in q()
 q_admissible : IsAdmissible p_positive (bound assign) (one (holds q))

@@ -1,5 +1,5 @@
 //! The laws of the calculus. Each is a contract of a function that does nothing.
-ghost use Rattle.std.specs.Prelude.{◌≡◌, ◌⊎◌, ◌↔◌, List, All, map};
+ghost use Rattle.std.specs.Prelude.{◌≡◌, ◌⊎◌, ◌↔◌, ℕ, List, All, map};
 ghost use Rattle.dlk_tree.specs.Trees.{Tree, sort, WellMade};
 ghost use Rattle.dlk_calculus.specs.declared.why.Why.{Why as TheWhy};
 ghost use Rattle.dlk_calculus.specs.Pairs.{Pair, FirstIll, IsWellFormed};

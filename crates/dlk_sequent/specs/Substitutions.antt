@@ -1,5 +1,5 @@
 -- What pairs of ids stand for, and when they are a substitution.
-use Rattle.std.specs.Prelude.{◌≡◌, ◌↔◌, List, Bool, IsTrue, map, All, Some}
+use Rattle.std.specs.Prelude.{◌↔◌, List, Bool, IsTrue, map, All}
 use Rattle.dlk_tree.specs.Trees.{Tree}
 use Rattle.dlk_store.specs.Stores.{IsId, tree}
 use Rattle.dlk_calculus.specs.Pairs.{Pair as TreePair, IsFreeIn, IsWellFormed, FirstIll}
