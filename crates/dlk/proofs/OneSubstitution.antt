@@ -1,9 +1,11 @@
 -- There is one answer to an expression and a substitution.
-use Rattle.std.proofs.Common.{◌≡◌, ℕ, ◌<◌, ◌≤◌, List, Option, None, Some, refl, sym, ap, ◌∙◌, subst, codes, arith}
+use Rattle.std.proofs.Common.{◌≡◌, ℕ, ◌<◌, ◌≤◌, List, refl, sym, ap, ◌∙◌, subst, codes, arith}
 use Rattle.dlk_tree.specs.Trees.{Tree, size, depth}
-use Rattle.dlk_calculus.specs.Pairs.{Pair, Ill, first_ill, IsWellFormed}
+use Rattle.dlk_calculus.specs.Pairs.{Pair, FirstIll, IsWellFormed}
 use Rattle.dlk_calculus.specs.Subst.{Subst}
+use Rattle.dlk_calculus.specs.declared.why.Why.{Why}
 use Rattle.dlk_calculus.proofs.OneResult.{one_subst}
+use Rattle.dlk_calculus.proofs.WellFormed.{one_first_ill}
 use Rattle.dlk_grammar.specs.declared.token.Dots.TheVariants.{Refused}
 use Rattle.dlk_grammar.specs.declared.token.Form.TheVariants.{Expression}
 use Rattle.dlk_calculus.specs.Limits.{most_nodes, greatest_depth}
@@ -47,7 +49,8 @@ Made e pairs = Fork {W = Unit {0}} (λ u. (t : Tree) → ¬ Subst pairs e t) (Su
 
 -- A pair is bad, or all are good.
 abbrev Formed : Tree → List Pair → Reply → Type 0
-Formed e pairs = Fork {V = Unit {0}} (λ ill. first_ill pairs ≡ Some ill) (λ u. IsWellFormed pairs) (λ ill. pair_refused ill.pair ill.reason) (λ u. Made e pairs)
+Formed e pairs =
+    Fork {W = ℕ × Why} {V = Unit {0}} (λ ill. FirstIll pairs ill.0 ill.1) (λ u. IsWellFormed pairs) (λ ill. pair_refused ill.0 ill.1) (λ u. Made e pairs)
 
 -- The two files have a fault, or are read.
 abbrev Paired : List ℕ → Tree → Reply → Type 0
@@ -59,7 +62,7 @@ Staged file substitution = Fork (TreeTextFault Expression Refused file) (PlainTe
 staged : (file substitution : List ℕ) (r : Reply) → Substitutes file substitution r → Staged file substitution r
 staged file substitution r (bad_file why a) = stops why a
 staged file substitution r (bad_subst e a why b) = goes e a r (stops why b)
-staged file substitution r (bad_pair e pairs read ill a) = goes e read.expression r (goes pairs read.substitution r (stops ill a))
+staged file substitution r (bad_pair e pairs read n why a) = goes e read.expression r (goes pairs read.substitution r (stops (n, why) a))
 staged file substitution r (not_admissible e pairs read good none) = goes e read.expression r (goes pairs read.substitution r (goes tt good r (stops tt none)))
 staged file substitution r (too_big e pairs read t has past) =
     goes e read.expression r (goes pairs read.substitution r (goes tt has.well_formed r (goes t has.result r (stops tt past))))
@@ -77,14 +80,12 @@ one_sized t = one_fork _ _ _ _ (record { reason = λ u v a b. refl; either = λ 
 one_made : (e : Tree) (pairs : List Pair) (r s : Reply) → Made e pairs r → Made e pairs s → r ≡ s
 one_made e pairs = one_fork _ _ _ _ (record { reason = λ u v a b. refl; either = λ u t none a. none t a; value = one_subst pairs e; next = one_sized })
 
-one_ill : (o : Option Ill) (ill other : Ill) → o ≡ Some ill → o ≡ Some other → ill ≡ other
-one_ill o ill other a b = cc
-
-not_ill : (o : Option Ill) (ill : Ill) → o ≡ Some ill → o ≡ None → ⊥
-not_ill o ill a b = cc
+one_ill : (pairs : List Pair) (ill other : ℕ × Why) → FirstIll pairs ill.0 ill.1 → FirstIll pairs other.0 other.1 → ill ≡ other
+one_ill pairs ill other a b = let one = one_first_ill pairs ill.0 other.0 ill.1 other.1 a b in λ i. (one.0 i, one.1 i)
 
 one_formed : (e : Tree) (pairs : List Pair) (r s : Reply) → Formed e pairs r → Formed e pairs s → r ≡ s
-one_formed e pairs = one_fork _ _ _ _ (record { reason = one_ill (first_ill pairs); either = λ ill u a b. not_ill (first_ill pairs) ill a b; value = λ u v a b. refl; next = λ u. one_made e pairs })
+one_formed e pairs =
+    one_fork _ _ _ _ (record { reason = one_ill pairs; either = λ ill u a b. b.none ill.0 ill.1 a.ill; value = λ u v a b. refl; next = λ u. one_made e pairs })
 
 one_paired : (substitution : List ℕ) (e : Tree) (r s : Reply) → Paired substitution e r → Paired substitution e s → r ≡ s
 one_paired substitution e =

@@ -1,7 +1,7 @@
 -- From what was read and made to what `subst` answers.
-use Rattle.std.proofs.Common.{◌≡◌, ℕ, ◌<◌, ◌≤◌, ◌-◌, ◌^◌, min, List, Some, codes, sym, subst, ◌∙◌, arith}
+use Rattle.std.proofs.Common.{◌≡◌, ℕ, ◌<◌, ◌≤◌, ◌-◌, ◌^◌, min, List, codes, sym, subst, ◌∙◌, arith}
 use Rattle.dlk_tree.specs.Trees.{Tree, size, depth}
-use Rattle.dlk_calculus.specs.Pairs.{Pair, first_ill, IsWellFormed}
+use Rattle.dlk_calculus.specs.Pairs.{Pair, FirstIll, IsWellFormed}
 use Rattle.dlk_calculus.specs.Subst.{Subst}
 use Rattle.dlk_calculus.specs.declared.why.Why.{Why}
 use Rattle.dlk_calculus.specs.Limits.{most_nodes, greatest_depth}
@@ -25,8 +25,8 @@ both_read file substitution old new id e pairs same reads stands keeps text is =
     }
 
 module _ (file substitution : List ℕ) (e : Tree) (pairs : List Pair) (read : AreRead file substitution e pairs) where
-  pub pair_answer : (n : ℕ) (why : Why) (reply : Reply) → first_ill pairs ≡ Some (record { pair = n; reason = why }) → reply ≡ pair_refused n why → Substitutes file substitution reply
-  pair_answer n why reply ill is = subst (Substitutes file substitution) (sym is) (bad_pair e pairs read (record { pair = n; reason = why }) ill)
+  pub pair_answer : (n : ℕ) (why : Why) (reply : Reply) → FirstIll pairs n why → reply ≡ pair_refused n why → Substitutes file substitution reply
+  pair_answer n why reply ill is = subst (Substitutes file substitution) (sym is) (bad_pair e pairs read n why ill)
 
   pub no_result_answer : (reply : Reply) → IsWellFormed pairs → HasNone (Subst pairs e) → reply ≡ refusal (codes "not-admissible") → Substitutes file substitution reply
   no_result_answer reply good none is = subst (Substitutes file substitution) (sym is) (not_admissible e pairs read good none)

@@ -1,7 +1,7 @@
 -- What `subst` answers to an expression and a substitution.
-use Rattle.std.specs.Prelude.{◌≡◌, ◌<◌, ◌≤◌, ℕ, List, ◌++◌, Some, codes, decimal}
+use Rattle.std.specs.Prelude.{◌<◌, ◌≤◌, ℕ, List, ◌++◌, codes, decimal}
 use Rattle.dlk_tree.specs.Trees.{Tree, size, depth}
-use Rattle.dlk_calculus.specs.Pairs.{Pair, Ill, first_ill, IsWellFormed}
+use Rattle.dlk_calculus.specs.Pairs.{Pair, FirstIll, IsWellFormed}
 use Rattle.dlk_calculus.specs.Subst.{Subst}
 use Rattle.dlk_calculus.specs.declared.why.Why.{Why}
 use Rattle.dlk_calculus.specs.declared.why.Why.TheVariants as reason
@@ -44,8 +44,8 @@ pub record HasResult (pairs : List Pair) (e t : Tree) : Type 0 where
 pub data Substitutes (file subst : List ℕ) : Reply → Type 0 where
   bad_file : (why : TextFault) → TreeTextFault Expression Refused file why → Substitutes file subst (text_refused File why)
   bad_subst : (e : Tree) → PlainText file e → (why : TextFault) → PairsTextFault subst why → Substitutes file subst (text_refused Substitution why)
-  bad_pair : (e : Tree) (pairs : List Pair) → AreRead file subst e pairs → (ill : Ill) → first_ill pairs ≡ Some ill →
-      Substitutes file subst (pair_refused ill.pair ill.reason)
+  bad_pair : (e : Tree) (pairs : List Pair) → AreRead file subst e pairs → (n : ℕ) (why : Why) → FirstIll pairs n why →
+      Substitutes file subst (pair_refused n why)
   not_admissible : (e : Tree) (pairs : List Pair) → AreRead file subst e pairs → IsWellFormed pairs → ((t : Tree) → ¬ Subst pairs e t) →
       Substitutes file subst (refusal (codes "not-admissible"))
   too_big : (e : Tree) (pairs : List Pair) → AreRead file subst e pairs → (t : Tree) → HasResult pairs e t → most_nodes < size t →

@@ -10,14 +10,14 @@ use Rattle.dlk_tree.specs.declared.op.OdeItem.{OdeItem}
 use Rattle.dlk_tree.specs.declared.op.OdeItem.TheVariants as Item
 use Rattle.dlk_tree.specs.declared.op.Op.{Op}
 use Rattle.dlk_tree.specs.declared.op.Op.TheVariants as Op'
-use Rattle.dlk_tree.specs.Table.{is_sym_of, is_item, has_parts}
+use Rattle.dlk_tree.specs.Table.{kind_row, is_sym_of, is_item, has_parts}
 use Rattle.dlk_tree.specs.Trees.{Tree, node, Forest, no_kids, kid, trees_in, WellMade, AllWellMade}
 use Rattle.dlk_tree.specs.Statics.{all}
 use Rattle.dlk_tree.specs.Occurs.{has, any_has, is_some_dot, is_hole, has_dots, has_hole}
 use Rattle.dlk_calculus.specs.Kids.{first, later, last}
 use Rattle.dlk_calculus.specs.Captures.{Stays}
 use Rattle.dlk_calculus.specs.Plug.{PlugAt, Plug, PlugAll, filled, filled_all}
-use Rattle.dlk_calculus.specs.Pairs.{may_have_hole, Pair, replacement, IsWellFormed}
+use Rattle.dlk_calculus.specs.Pairs.{Pair, replacement, IsWellFormed}
 use Rattle.dlk_calculus.specs.Sequents.{IsFormula}
 use Rattle.dlk_calculus.specs.Subst.{IsAdmissible, Replaced, Member, Equation, Constant, members, new_members, items_of, kids_of, SubstAt, Subst, SubstAll}
 use Rattle.dlk_calculus.proofs.Sorts.{argument_has, subst_sort}
@@ -116,12 +116,12 @@ module _ (pairs : List Pair) (well : IsWellFormed pairs) where
   replaced_clean (Some r) op old new t With h gap clean p = h r refl p
   replaced_clean None op old new t With h gap clean p = stays_clean op new t gap clean p.1
 
-  given_clean : (k : Kind) (s : Sym) (op : Op) (old new : Forest) (t : Tree) → TakesNone k → may_have_hole k ≡ false → IsTrue (is_sym_of k s)
+  given_clean : (k : Kind) (s : Sym) (op : Op) (old new : Forest) (t : Tree) → TakesNone k → (kind_row k).hole ≡ false → IsTrue (is_sym_of k s)
       → is_gap op ≡ false → AreClean new → Replaced (replacement pairs s) (λ r. t ≡ r) (Stays (IsAdmissible pairs) op old new t) → IsClean t
   given_clean k s op old new t none h is gap clean p =
       replaced_clean (replacement pairs s) op old new t (λ r. t ≡ r) (λ r found e. ap (has is_gap) e ∙ replacement_clean pairs well k s r is found none h) gap clean p
 
-  plugged_clean : (k : Kind) (s : Sym) (op : Op) (old new : Forest) (t : Tree) → may_have_hole k ≡ false → IsTrue (is_sym_of k s)
+  plugged_clean : (k : Kind) (s : Sym) (op : Op) (old new : Forest) (t : Tree) → (kind_row k).hole ≡ false → IsTrue (is_sym_of k s)
       → is_gap op ≡ false → AreClean new → Replaced (replacement pairs s) (λ r. Plug (trees_in new) r t) (Stays (IsAdmissible pairs) op old new t) → IsClean t
   plugged_clean k s op old new t h is gap clean p =
       replaced_clean (replacement pairs s) op old new t (λ r. Plug (trees_in new) r t)

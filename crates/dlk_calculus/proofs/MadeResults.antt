@@ -14,7 +14,7 @@ use Rattle.dlk_tree.specs.Occurs.{is_hole}
 use Rattle.dlk_calculus.specs.Kids.{first, last}
 use Rattle.dlk_calculus.specs.Captures.{Stays}
 use Rattle.dlk_calculus.specs.Plug.{PlugAt, Plug, PlugAll, filled, filled_all}
-use Rattle.dlk_calculus.specs.Pairs.{Pair, replacement, AreMade}
+use Rattle.dlk_calculus.specs.Pairs.{Pair, replacement, AreWellMade}
 use Rattle.dlk_calculus.specs.Subst.{IsAdmissible, Replaced, SubstAt, new_members, items_of, kids_of}
 use Rattle.dlk_calculus.proofs.WellFormed.{replacement_made}
 use Rattle.dlk_calculus.proofs.Sorts.{AreTerms, argument_has, plug_sorts, fill_sorts, fits_still, terms_replicated, first_sort}
@@ -75,7 +75,7 @@ abbrev pub HasItems : List Pair → Op → Forest → Type 0
 HasItems pairs (Op'.System items) new = IsTrue (are_items (items_of (new_members pairs items new)))
 HasItems pairs _ new = Unit {0}
 
-module _ (pairs : List Pair) (pairs_made : AreMade pairs) where
+module _ (pairs : List Pair) (pairs_made : AreWellMade pairs) where
   -- a replacement or the operator itself
   replaced_made : (o : Option Tree) (op : Op) (old new : Forest) (t : Tree) (With : Tree → Type 0) → ((r : Tree) → o ≡ Some r → With r → WellMade t)
       → Fits op (sorts new) → AllWellMade new → Replaced o With (Stays (IsAdmissible pairs) op old new t) → WellMade t

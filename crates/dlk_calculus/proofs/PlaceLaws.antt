@@ -30,7 +30,7 @@ At_All P items place x all =
       | false ↦ λ e. subst P (get_or_from_slice_get items (place - 1) x x e) (all (place - 1) x (slice_get_within items (place - 1) x e))
     ]
 
-at_suc : {A : Type 0} (items : List A) (n : ℕ) → at items (suc n) ≡ slice_get items n
+pub at_suc : {A : Type 0} (items : List A) (n : ℕ) → at items (suc n) ≡ slice_get items n
 at_suc items n = let e : suc n - 1 ≡ n = omega arith in rw (eqb-suc-zero n, e)
 
 -- an item has a place

@@ -10,7 +10,7 @@ use Rattle.dlk_tree.specs.declared.op.Op.TheVariants as Op'
 use Rattle.dlk_tree.specs.Table.{evolved, are_items, kid_sorts, Fits}
 use Rattle.dlk_tree.specs.Trees.{Tree, node, Forest, no_kids, kid, sort, sorts, WellMade, AllWellMade}
 use Rattle.dlk_calculus.specs.Kids.{last}
-use Rattle.dlk_calculus.specs.Pairs.{Pair, replacement, AreMade}
+use Rattle.dlk_calculus.specs.Pairs.{Pair, replacement, AreWellMade}
 use Rattle.dlk_calculus.specs.Subst.{Member, Equation, Constant, members, members_for, spliced, new_members, items_of, kids_of}
 use Rattle.dlk_calculus.proofs.WellFormed.{replacement_made}
 use Rattle.dlk_calculus.proofs.Sorts.{head, tail}
@@ -93,7 +93,7 @@ kids_made (Constant s ∷ ms) domain all made = kids_made ms domain all.1 made
 
 -- ---- the new system
 
-module _ (pairs : List Pair) (made : AreMade pairs) where
+module _ (pairs : List Pair) (made : AreWellMade pairs) where
   found_made : (s : Sym) (r : Tree) → replacement pairs s ≡ Some r → WellMade r
   found_made s r found = replacement_made pairs s r made found
 

@@ -13,7 +13,6 @@ use Rattle.dlk_tree.specs.Trees.{Tree, node, Forest, no_kids, kid}
 use Rattle.dlk_tree.specs.Statics.{free, plain, prime}
 use Rattle.dlk_tree.specs.Occurs.{has, symbols_of}
 use Rattle.dlk_calculus.specs.Notation.{forall, exists, box, dia, assign}
-use Rattle.dlk_calculus.specs.Pairs.{takes_arguments}
 
 -- The names x and y are exchanged: in variables, binders, evolved variables and taboos. Names of symbols stay.
 
@@ -85,7 +84,7 @@ abbrev mutual
 -- A symbol that may read variables that aren't written with it: a unit symbol, a predicational, a program constant or an ODE constant. An
 -- exchange of names can't reach what will stand for it.
 abbrev pub hides_variables : Sym → Bool
-hides_variables s = not (takes_arguments s.kind)
+hides_variables s = not (kind_row s.kind).arguments
 
 abbrev pub has_hidden_variables : Tree → Bool
 has_hidden_variables t = has (λ op. list_any hides_variables (symbols_of op)) t

@@ -7,18 +7,19 @@ use Rattle.dlk_tree.specs.declared.op.OdeItem.{OdeItem}
 use Rattle.dlk_tree.specs.declared.op.OdeItem.TheVariants as Item
 use Rattle.dlk_tree.specs.declared.op.Op.{Op}
 use Rattle.dlk_tree.specs.declared.op.Op.TheVariants as Op'
+use Rattle.dlk_tree.specs.Table.{kind_row}
 use Rattle.dlk_tree.specs.Trees.{Tree, node, Forest, no_kids, kid, trees_in, WellMade}
 use Rattle.dlk_tree.specs.Statics.{free, all}
 use Rattle.dlk_tree.specs.Occurs.{any_has, has_symbol}
 use Rattle.dlk_calculus.specs.Kids.{first, later, last}
 use Rattle.dlk_calculus.specs.Captures.{AreApart, Stays}
-use Rattle.dlk_calculus.specs.Pairs.{Pair, replacement, takes_arguments}
+use Rattle.dlk_calculus.specs.Pairs.{Pair, replacement}
 use Rattle.dlk_calculus.specs.Plug.{Plug, filled}
 
 -- no variable of the set is free in the replacement of a function or predicate that occurs in these trees
 abbrev pub IsAdmissible : List Pair → (Var → Bool) → Forest → Type 0
 IsAdmissible pairs set trees =
-    All (λ (p : Pair). IsTrue (takes_arguments p.sym.kind && any_has (has_symbol p.sym) trees) → AreApart set (free p.by)) pairs
+    All (λ (p : Pair). IsTrue ((kind_row p.sym.kind).arguments && any_has (has_symbol p.sym) trees) → AreApart set (free p.by)) pairs
 
 -- what holds with a replacement, and without one
 abbrev pub Replaced : Option Tree → (Tree → Type 0) → Type 0 → Type 0

@@ -1,7 +1,8 @@
 //! The laws of the calculus. Each is a contract of a function that does nothing.
 ghost use Rattle.std.specs.Prelude.{◌≡◌, ◌<◌, ◌⊎◌, ◌↔◌, ℕ, List, [], ◌∷◌, ◌++◌, length, All, map};
 ghost use Rattle.dlk_tree.specs.Trees.{Tree, sort, WellMade};
-ghost use Rattle.dlk_calculus.specs.Pairs.{Pair, IsWellFormed, AreMade};
+ghost use Rattle.dlk_calculus.specs.declared.why.Why.{Why as TheWhy};
+ghost use Rattle.dlk_calculus.specs.Pairs.{Pair, FirstIll, IsWellFormed};
 ghost use Rattle.dlk_calculus.specs.Plug.{Plug};
 ghost use Rattle.dlk_calculus.specs.Subst.{Subst};
 ghost use Rattle.dlk_calculus.specs.Rename.{RenamesBound, Bound};
@@ -16,6 +17,13 @@ ghost use Rattle.dlk_calculus.specs.Steps.{Step, IsProper, Gives, IsWithin, Agai
 /// A replacement has at most one result with given arguments.
 pub fn one_plug()
     ensures { (args : List Tree) (r s t : Tree) → Plug args r s → Plug args r t → s ≡ t }
+{}
+
+/// Pairs are well formed, or there is a first bad one, with one reason against it.
+pub fn one_first_ill()
+    ensures one { (pairs : List Pair) (m n : ℕ) (why other : TheWhy) → FirstIll pairs m why → FirstIll pairs n other → (m ≡ n) × (why ≡ other) }
+    ensures some { (pairs : List Pair) → IsWellFormed pairs ⊎ ((n : ℕ) × (why : TheWhy) × FirstIll pairs n why) }
+    ensures not_both { (pairs : List Pair) (n : ℕ) (why : TheWhy) → IsWellFormed pairs → FirstIll pairs n why → ⊥ }
 {}
 
 /// A substitution makes at most one tree of a tree.

@@ -12,7 +12,7 @@ use Rattle.dlk_store.proofs.Kids.{Keeps-trans}
 use Rattle.dlk_calculus.specs.declared.reason.Reason.TheVariants.{FreeInSubst}
 use Rattle.dlk_calculus.specs.declared.reason.Reason.TheVariants as reason
 use Rattle.dlk_calculus.specs.Places.{at, At}
-use Rattle.dlk_calculus.specs.Pairs.{Pair as TreePair, AreMade, IsFreeIn, IsWellFormed}
+use Rattle.dlk_calculus.specs.Pairs.{Pair as TreePair, AreWellMade, IsFreeIn, IsWellFormed}
 use Rattle.dlk_calculus.specs.Subst.{Subst}
 use Rattle.dlk_calculus.specs.Sequents.{Sequent as TreeSequent}
 use Rattle.dlk_calculus.specs.Provables.{Provable, SubstEach, SubstSequent, SubstSequents, Substitutes, HasGoal}
@@ -147,7 +147,7 @@ whole_known old now next first then row made known conclusion goals leaves = rec
 }
 
 -- what replaces a symbol is well made
-pub are_made : (trees : List Tree) (pairs : List Pair) → All WellMade trees → AreKnownPairs trees pairs → AreMade (pairs_at trees pairs)
+pub are_made : (trees : List Tree) (pairs : List Pair) → All WellMade trees → AreKnownPairs trees pairs → AreWellMade (pairs_at trees pairs)
 are_made trees pairs made known = All-map (λ (p : TreePair). WellMade p.by) (pair_at trees) pairs (λ i d h. made (get_or pairs i d).by.0 (node True no_kids) (known i d h))
 
 pub not_true : (b : Bool) → b ≡ false → IsTrue b → ⊥
@@ -179,7 +179,7 @@ module _ (old : List Tree) (well_made : All WellMade old) (rows : List Row) (fac
   abbrev is_fact : At (provables_at old rows) fact p
   is_fact = At-map (provable_at old) rows fact row there
 
-  abbrev made : AreMade (pairs_at old sigma.pairs)
+  abbrev made : AreWellMade (pairs_at old sigma.pairs)
   made = are_made old sigma.pairs well_made over.known
 
   pub free_refused : IsFreeIn (pairs_at old sigma.pairs) → 0 < length row.goals →

@@ -5,13 +5,13 @@ ghost use Rattle.dlk_tree.specs.Listed.{IsInhabited};
 ghost use Rattle.dlk_tree.specs.Statics.{free};
 ghost use Rattle.dlk_tree.specs.Trees.{Tree};
 ghost use Rattle.dlk_store.specs.Stores.{IsId, tree};
-ghost use Rattle.dlk_calculus.specs.Pairs.{takes_arguments, IsFreeIn};
+ghost use Rattle.dlk_calculus.specs.Pairs.{IsFreeIn};
 ghost use Rattle.dlk_sequent.specs.Substitutions.{pairs_at, AreKnownPairs, IsMadeOver, IsIllFault};
 
 use crate::fault::SubstFault;
 use crate::why::why;
 use dlk_store::{Id, Steps, Store};
-use dlk_tree::{Kind, Sym};
+use dlk_tree::{Sym, kind_row};
 use std::alloc::Global;
 use std::marker::Model;
 use std::sync::ledger::Ledger;
@@ -43,9 +43,9 @@ impl Model for Subst {
 /// Whether the pair replaces a function or a predicate, and some variable is free in the replacement.
 fn is_free<S: Store>(store: &S, pair: &Pair) -> bool
     requires { IsId (S.trees store.now) pair.now.by }
-    ensures { IsTrue result ↔ (IsTrue (takes_arguments pair.now.sym.kind) × IsInhabited (free (tree (S.trees store.now) pair.now.by))) }
+    ensures { IsTrue result ↔ (IsTrue (kind_row pair.now.sym.kind).arguments × IsInhabited (free (tree (S.trees store.now) pair.now.by))) }
 {
-    matches!(pair.sym.kind, Kind::Func | Kind::Pred) && store.any_free(pair.by)
+    kind_row(pair.sym.kind).arguments && store.any_free(pair.by)
 }
 
 /// Whether one of the pairs does so, with such a replacement.
@@ -98,7 +98,8 @@ impl Subst {
     }
 
     /// Whether some variable is free in the replacement of a function or a predicate, for rules that forbid such a
-    /// substitution. It was found at making: it takes no step and no memory.
+    /// substitution. It was found at making, and holds over each store that this is a substitution over. It takes no step and no
+    /// memory.
     pub fn free(&self) -> bool
         ensures value { result ≡ self.now.free }
         ensures over { (trees : List Tree) → IsMadeOver trees self.now → (IsTrue result ↔ IsFreeIn (pairs_at trees self.now.pairs)) }

@@ -12,7 +12,7 @@ use Rattle.dlk_store.specs.Stores.{kid_trees, sorts_at}
 use Rattle.dlk_store.proofs.Kids.{sorts-kid_trees}
 use Rattle.dlk_calculus.specs.Kids.{last}
 use Rattle.dlk_calculus.specs.Captures.{Stays}
-use Rattle.dlk_calculus.specs.Pairs.{Pair as TreePair, AreMade}
+use Rattle.dlk_calculus.specs.Pairs.{Pair as TreePair, AreWellMade}
 use Rattle.dlk_calculus.specs.Subst.{IsAdmissible, SubstAt, new_members, items_of, kids_of}
 use Rattle.dlk_calculus.proofs.Systems.{system_fits}
 use Rattle.dlk_sequent.specs.declared.subst.Pair.{Pair}
@@ -20,7 +20,7 @@ use Rattle.dlk_sequent.specs.Substitutions.{pair_at, pairs_at, AreKnownPairs}
 use Rattle.dlk_subst.specs.Results.{IsResult, HasNone}
 
 -- replacements in a store are well made
-pub pairs_made : (trees : List Tree) (pairs : List Pair) → All WellMade trees → AreKnownPairs trees pairs → AreMade (pairs_at trees pairs)
+pub pairs_made : (trees : List Tree) (pairs : List Pair) → All WellMade trees → AreKnownPairs trees pairs → AreWellMade (pairs_at trees pairs)
 pairs_made trees pairs made known = All-map (λ (p : TreePair). WellMade p.by) (pair_at trees) pairs (λ i p h. made _ (node True no_kids) (known i p h))
 
 -- a system with these items and kids, which are those that stand for the old ones
@@ -34,7 +34,8 @@ module _ (trees : List Tree) (pairs : List TreePair) (items others put : List Od
   kids_are = ap (kid_trees trees) q ∙ q'
 
   -- items that a system may have fit the kids
-  pub spliced_fits : AreMade pairs → Fits (Op'.System items) (sorts_at trees new) → IsTrue (are_items others) → Fits (Op'.System others) (sorts_at trees slice)
+  pub spliced_fits : AreWellMade pairs → Fits (Op'.System items) (sorts_at trees new) → IsTrue (are_items others) →
+      Fits (Op'.System others) (sorts_at trees slice)
   spliced_fits made fits good =
       let before = subst (Fits (Op'.System items)) (sym (sorts-kid_trees trees new)) fits in
       let after = (system_fits pairs made items (kid_trees trees new) before).1 (subst (λ l. IsTrue (are_items l)) items_are good) in
