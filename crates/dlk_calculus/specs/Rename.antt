@@ -9,6 +9,7 @@ use Rattle.dlk_tree.specs.declared.op.OdeItem.{OdeItem}
 use Rattle.dlk_tree.specs.declared.op.OdeItem.TheVariants as Item
 use Rattle.dlk_tree.specs.declared.op.Op.{Op}
 use Rattle.dlk_tree.specs.declared.op.Op.TheVariants as Op'
+use Rattle.dlk_tree.specs.Table.{kind_row}
 use Rattle.dlk_tree.specs.Trees.{Tree, node, Forest, no_kids, kid}
 use Rattle.dlk_tree.specs.Statics.{free, plain, prime}
 use Rattle.dlk_tree.specs.Occurs.{has, symbols_of}
