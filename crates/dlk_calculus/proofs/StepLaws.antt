@@ -33,7 +33,7 @@ GivenBy rows (Apply fact goal rule) p =
 GivenBy rows (Merge fact goal by) p =
     (q r : Provable) × (new : List Sequent) × At rows fact q × At rows by r × At q.goals goal r.conclusion × AreNew q.leaves r.leaves new
     × (p ≡ merged q goal r new)
-GivenBy rows (Substitute fact pairs) p = (q : Provable) × At rows fact q × AreMade pairs × IsWellFormed pairs × (HasGoal q.goals → ¬ IsFreeIn pairs) × Substitutes pairs q p
+GivenBy rows (Substitute fact pairs) p = (q : Provable) × At rows fact q × AreWellMade pairs × IsWellFormed pairs × (HasGoal q.goals → ¬ IsFreeIn pairs) × Substitutes pairs q p
 GivenBy rows (Rename fact x y) p = (q : Provable) × At rows fact q × IsTrue (is_name x) × IsTrue (is_name y) × (p ≡ renamed x y q)
 
 pub given_by : (rows : List Provable) (step : Step) (p : Provable) → Gives rows step p → GivenBy rows step p
@@ -420,7 +420,7 @@ rule_step_cases : (rows : List Provable) (name : List ℕ) (o : Option Axiomatic
 rule_step_cases rows name None e = inr (UnknownName, omega arith, first_unknown_rule rows name e)
 rule_step_cases rows name (Some r) e = inl (inferred r.premise r.conclusion, use_rule name r e)
 
-substitute_cases : (rows : List Provable) (fact : ℕ) (pairs : List Pair) → AreMade pairs → GivenOrNot rows (Substitute fact pairs)
+substitute_cases : (rows : List Provable) (fact : ℕ) (pairs : List Pair) → AreWellMade pairs → GivenOrNot rows (Substitute fact pairs)
 substitute_cases rows fact pairs made =
     elim (place_cases rows fact) [
       | inr n ↦ inr (NoFact, omega arith, first_no_fact_to_substitute rows fact pairs n)

@@ -33,7 +33,7 @@ pub data Derives : Provable → Type 0 where
       Derives (record { conclusion = c; goals = before ++ p.conclusion ∷ after; leaves = leaves }) → Derives p → AreNew leaves p.leaves new →
       Derives (record { conclusion = c; goals = before ++ p.goals ++ after; leaves = leaves ++ new })
   -- a substitution on conclusion and goals; where there is a goal, no variable is free in the replacement of a function or a predicate
-  by_substitution : {p q : Provable} {pairs : List Pair} → Derives p → AreMade pairs → IsWellFormed pairs → (HasGoal p.goals → ¬ IsFreeIn pairs) →
+  by_substitution : {p q : Provable} {pairs : List Pair} → Derives p → AreWellMade pairs → IsWellFormed pairs → (HasGoal p.goals → ¬ IsFreeIn pairs) →
       Substitutes pairs p q → Derives q
   -- two names are exchanged in conclusion and goals
   by_renaming : {p : Provable} (x y : List ℕ) → Derives p → IsTrue (is_name x) → IsTrue (is_name y) → Derives (renamed x y p)
@@ -58,7 +58,7 @@ IsProper (UseRule name) = Unit {0}
 IsProper (Leaf s) = Unit {0}
 IsProper (Apply fact goal rule) = Unit {0}
 IsProper (Merge fact goal by) = Unit {0}
-IsProper (Substitute fact pairs) = AreMade pairs
+IsProper (Substitute fact pairs) = AreWellMade pairs
 IsProper (Rename fact x y) = IsTrue (is_name x) × IsTrue (is_name y)
 
 -- Gives rows step p: by a rule of the calculus the step gives p from these rows. One case a rule.
@@ -79,7 +79,7 @@ pub data Gives (rows : List Provable) : Step → Provable → Type 0 where
       AreNew p.leaves q.leaves new → Gives rows (Merge fact goal by) (merged p goal q new)
   -- a substitution on a fact's conclusion and goals; where there is a goal, no variable is free in the replacement of a function or a
   -- predicate
-  substitute : (fact : ℕ) (pairs : List Pair) (p q : Provable) → At rows fact p → AreMade pairs → IsWellFormed pairs →
+  substitute : (fact : ℕ) (pairs : List Pair) (p q : Provable) → At rows fact p → AreWellMade pairs → IsWellFormed pairs →
       (HasGoal p.goals → ¬ IsFreeIn pairs) → Substitutes pairs p q → Gives rows (Substitute fact pairs) q
   -- two names are exchanged in a fact's conclusion and goals
   rename : (fact : ℕ) (x y : List ℕ) (p : Provable) → At rows fact p → IsTrue (is_name x) → IsTrue (is_name y) → Gives rows (Rename fact x y) (renamed x y p)
