@@ -4,6 +4,8 @@ use Rattle.std.proofs.lemmas.List.{append_cancel_left}
 use Rattle.dlk_calculus.specs.Sequents.{Sequent}
 use Rattle.dlk_calculus.specs.Provables.{Provable}
 use Rattle.dlk_calculus.specs.Steps.{History, Derives}
+use Rattle.dlk_calculus.proofs.PlaceLaws.{All-between}
+use Rattle.dlk_calculus.proofs.Histories.{History-derives}
 use Rattle.dlk_desk.specs.Outside.{Outside}
 use Rattle.dlk_transfer.specs.Transfer.{GrowsByFront}
 use Rattle.dlk_grammar.specs.Readings.{Literal, Nesting, Syntax, Shape, TooBig, TooDeep}
@@ -40,7 +42,8 @@ closed_front (goal ∷ goals) others said n h = absurd (not_open n _ _ h)
 
 -- what is accepted ends in a derived provable
 pub accepted_derived : (term : List ℕ) (rows : List Provable) (p : Provable) → Accepts term rows p → Derives p
-accepted_derived term rows p a = (a.before, subst History a.last (accepted_history (file_lines term) rows a.verdict))
+accepted_derived term rows p a =
+    All-between Derives a.before [] p (History-derives (a.before ++ p ∷ []) (subst History a.last (accepted_history (file_lines term) rows a.verdict)))
 
 module _ (model term said : List ℕ) (n : ℕ) where
   abbrev Says : Reply → Type 0

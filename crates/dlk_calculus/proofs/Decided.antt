@@ -10,11 +10,11 @@ use Rattle.dlk_tree.specs.declared.op.Op.TheVariants as Op'
 use Rattle.dlk_tree.specs.Trees.{Tree, node, Forest, no_kids, kid, trees_in, WellMade}
 use Rattle.dlk_tree.specs.Statics.{free, all}
 use Rattle.dlk_tree.specs.Occurs.{any_has, has_symbol, is_dot}
-use Rattle.dlk_calculus.specs.Kids.{first}
+use Rattle.dlk_calculus.specs.Kids.{first, last}
 use Rattle.dlk_calculus.specs.Captures.{captures, AreApart, Stays}
 use Rattle.dlk_calculus.specs.Plug.{IsClear, PlugAt, Plug, PlugAll, filled}
 use Rattle.dlk_calculus.specs.Pairs.{Pair, replacement, takes_arguments, IsFreeIn, Ill, first_ill, IsWellFormed, AreMade}
-use Rattle.dlk_calculus.specs.Subst.{IsAdmissible, Replaced, new_items, new_kids, SubstAt, Subst, SubstAll}
+use Rattle.dlk_calculus.specs.Subst.{IsAdmissible, Replaced, new_members, items_of, kids_of, SubstAt, Subst, SubstAll}
 use Rattle.dlk_calculus.proofs.Decide.{both, is_true, well_made_decided}
 use Rattle.dlk_calculus.proofs.OneResult.{one_plug_all, one_subst_at, one_subst_all}
 use Rattle.dlk_calculus.proofs.Told.{Told, free_told, inhabited_decided, apart_decided, captures_told}
@@ -129,7 +129,8 @@ module _ (pairs : List Pair) where
   subst_at_decided (Op'.Predicational s) old new =
       replaced_decided (λ r t. IsAdmissible pairs all old × (t ≡ filled (first new) r)) (λ r. only_decided (filled (first new) r) (admissible_decided all (free_told (node Op'.Hole no_kids)) old))
       (replacement pairs s) (Op'.Predicational s) old new
-  subst_at_decided (Op'.System items) old new = kept_decided (Op'.System (new_items pairs items)) old (new_kids pairs items new)
+  subst_at_decided (Op'.System items) old new =
+      kept_decided (Op'.System (items_of (new_members pairs items new))) old (kids_of (new_members pairs items new) (last new))
   subst_at_decided op old new = kept_decided op old new
 
   mutual

@@ -1,4 +1,4 @@
--- What is given from provables of formulas is one of formulas.
+-- What is derived is made of formulas.
 use Rattle.std.proofs.Common.{◌≡◌, ℕ, ◌-◌, Bool, true, false, ◌||◌, List, [], ◌∷◌, ◌++◌, refl, sym, ap, subst, ◌∙◌, cond, Some, None, arith}
 use Rattle.std.specs.Prelude.{IsTrue}
 use Rattle.std.specs.List.{All}
@@ -18,16 +18,14 @@ use Rattle.dlk_calculus.specs.Kids.{first, last}
 use Rattle.dlk_calculus.specs.Places.{At, put, without_place}
 use Rattle.dlk_calculus.specs.Rename.{name_in, binder_of, assigned, rebound, reassigned, renamed_bound, swap}
 use Rattle.dlk_calculus.specs.Rules.{Rule, Close, CloseTrue, CloseFalse, NotL, NotR, AndL, AndR, OrL, OrR, ImplyL, ImplyR, EquivL, EquivR, Cut, CutL, CutR, HideL, HideR, CoHideR, ExchangeL, ExchangeR, SkolemL, SkolemR, BoundL, BoundR, EquivifyR, CommuteEquivL, CommuteEquivR, imply, equiv, HasBinder, figure, Premises}
-use Rattle.dlk_calculus.specs.Provables.{Provable, HasFormulas, Joins, no_more, there, added, SubstEach, SubstSequent, SubstSequents}
+use Rattle.dlk_calculus.specs.Provables.{Provable, HasFormulas, AreNew, no_more, there, added, SubstEach, SubstSequent, SubstSequents}
 use Rattle.dlk_calculus.specs.Pairs.{Pair, IsWellFormed}
-use Rattle.dlk_calculus.specs.Steps.{Step, Start, UseAxiom, UseRule, Leaf, Apply, Merge, Substitute, Rename, Gives, History, Derives}
-use Rattle.dlk_calculus.proofs.Histories.{History-has, Derives-has}
-use Rattle.dlk_calculus.proofs.PlaceLaws.{At_All}
+use Rattle.dlk_calculus.specs.Steps.{Derives, by_itself, by_axiom, by_axiomatic_rule, by_arithmetic, by_rule, by_fact, by_substitution, by_renaming}
+use Rattle.dlk_calculus.proofs.PlaceLaws.{At_All, All-between, All-replaced}
 use Rattle.dlk_calculus.proofs.AxiomLaws.{axiom_formula, rule_formulas}
 use Rattle.dlk_calculus.proofs.CleanResults.{subst_formula}
 use Rattle.dlk_calculus.proofs.Sorts.{head, tail}
 use Rattle.dlk_calculus.proofs.Swapped.{swap_formula, swap_is_sequent, swap_sequents}
-use Rattle.dlk_calculus.proofs.StepLaws.{given_by}
 
 first_false : (a b : Bool) → a || b ≡ false → a ≡ false
 first_false true b e = e
@@ -265,63 +263,46 @@ module _ (pairs : List Pair) (well : IsWellFormed pairs) where
   substituted_sequents (s ∷ ss) [] h m = absurd m
   substituted_sequents (s ∷ ss) (t ∷ ts) h m = All-cons IsSequent t ts (substituted_sequent s t (All-head IsSequent s ss h) m.0) (substituted_sequents ss ts (All-tail IsSequent s ss h) m.1)
 
--- what all old leaves have and all others, all joined ones have
-pub joined_all : (P : Sequent → Type 0) (old more all : List Sequent) → All P old → All P more → Joins old more all → All P all
-joined_all P old [] _ h k no_more = h
-joined_all P old (s ∷ more) all h k (there a j) = joined_all P old more all h (All-tail P s more k) j
-joined_all P old (s ∷ more) all h k (added n j) = joined_all P (old ++ s ∷ []) more all (All-push P old s h (All-head P s more k)) (All-tail P s more k) j
+-- what all have, the new ones among them have; and where the old leaves have it too, all joined ones do
+all_new : (P : Sequent → Type 0) (old more new : List Sequent) → All P more → AreNew old more new → All P new
+all_new P old [] _ h no_more = All-nil P
+all_new P old (s ∷ more) new h (there a j) = all_new P old more new (All-tail P s more h) j
+all_new P old (s ∷ more) _ h (added {new} n j) = All-cons P s new (All-head P s more h) (all_new P old more new (All-tail P s more h) j)
 
-pub given_formulas : (rows : List Provable) (step : Step) (p : Provable) → All HasFormulas rows → Gives rows step p → HasFormulas p
-given_formulas rows (Start s) p h g =
-    let m = given_by rows (Start s) p g in
-    rw m.1 (record { conclusion = m.0; goals = All-cons IsSequent s [] m.0 (All-nil IsSequent); leaves = All-nil IsSequent })
-given_formulas rows (UseAxiom name) p h g =
-    let m = given_by rows (UseAxiom name) p g in
-    rw m.2 (record { conclusion = alone (axiom_formula name m.0 m.1); goals = All-nil IsSequent; leaves = All-nil IsSequent })
-given_formulas rows (UseRule name) p h g =
-    let m = given_by rows (UseRule name) p g in
-    let formulas = rule_formulas name m.0 m.1 in
-    rw m.2 (record { conclusion = alone formulas.1; goals = All-cons IsSequent _ [] (alone formulas.0) (All-nil IsSequent); leaves = All-nil IsSequent })
-given_formulas rows (Leaf s) p h g =
-    let m = given_by rows (Leaf s) p g in
-    rw m.2 (record { conclusion = m.0; goals = All-nil IsSequent; leaves = one_sequent s m.0 })
-given_formulas rows (Apply fact goal rule) p h g =
-    let m = given_by rows (Apply fact goal rule) p g in
-    let q = At_All HasFormulas rows fact m.0 h m.3 in
-    let premises = premises_formulas rule m.1 m.2 (At_All IsSequent m.0.goals goal m.1 q.goals m.4) m.5 in
-    rw m.6 (record {
-      conclusion = q.conclusion;
-      goals = All-append IsSequent _ _ (All-append IsSequent _ _ (All-take IsSequent (goal - 1) m.0.goals q.goals) premises) (All-drop IsSequent goal m.0.goals q.goals);
-      leaves = q.leaves;
-    })
-given_formulas rows (Merge fact goal by) p h g =
-    let m = given_by rows (Merge fact goal by) p g in
-    let q = At_All HasFormulas rows fact m.0 h m.3 in
-    let r = At_All HasFormulas rows by m.1 h m.4 in
-    rw m.7 (record {
-      conclusion = q.conclusion;
-      goals = All-append IsSequent _ _ (All-append IsSequent _ _ (All-take IsSequent (goal - 1) m.0.goals q.goals) r.goals) (All-drop IsSequent goal m.0.goals q.goals);
-      leaves = joined_all IsSequent m.0.leaves m.1.leaves m.2 q.leaves r.leaves m.6;
-    })
-given_formulas rows (Substitute fact pairs) p h g =
-    let m = given_by rows (Substitute fact pairs) p g in
-    let q = At_All HasFormulas rows fact m.0 h m.1 in
-    record {
-      conclusion = substituted_sequent pairs m.3 m.0.conclusion p.conclusion q.conclusion m.5.conclusion;
-      goals = substituted_sequents pairs m.3 m.0.goals p.goals q.goals m.5.goals;
-      leaves = rw m.5.leaves q.leaves;
-    }
-given_formulas rows (Rename fact x y) p h g =
-    let m = given_by rows (Rename fact x y) p g in
-    let q = At_All HasFormulas rows fact m.0 h m.1 in
-    rw m.3 (record {
-      conclusion = swap_is_sequent x y m.2.0 m.2.1 m.0.conclusion q.conclusion;
-      goals = swap_sequents x y m.2.0 m.2.1 m.0.goals q.goals;
-      leaves = q.leaves;
-    })
+pub all_joined : (P : Sequent → Type 0) (old more new : List Sequent) → All P old → All P more → AreNew old more new → All P (old ++ new)
+all_joined P old more new h k j = All-append P old new h (all_new P old more new k j)
 
-pub History-formulas : (rows : List Provable) → History rows → All HasFormulas rows
-History-formulas rows h = History-has HasFormulas given_formulas rows h
-
+-- what is derived is made of formulas
 pub Derives-formulas : (p : Provable) → Derives p → HasFormulas p
-Derives-formulas p d = Derives-has HasFormulas given_formulas p d
+Derives-formulas _ (by_itself {s} h) = record { conclusion = h; goals = one_sequent s h; leaves = All-nil IsSequent }
+Derives-formulas _ (by_axiom name a e) = record { conclusion = alone (axiom_formula name a e); goals = All-nil IsSequent; leaves = All-nil IsSequent }
+Derives-formulas _ (by_axiomatic_rule name r e) =
+    let formulas = rule_formulas name r e in
+    record { conclusion = alone formulas.1; goals = one_sequent (alone_right r.premise) (alone formulas.0); leaves = All-nil IsSequent }
+Derives-formulas _ (by_arithmetic {s} h k) = record { conclusion = h; goals = All-nil IsSequent; leaves = one_sequent s h }
+Derives-formulas _ (by_rule {c} {s} {premises} {leaves} {rule} before after d made) =
+    let h = Derives-formulas (record { conclusion = c; goals = before ++ s ∷ after; leaves = leaves }) d in
+    let new = premises_formulas rule s premises (All-between IsSequent before after s h.goals) made in
+    record { conclusion = h.conclusion; goals = All-replaced IsSequent before after premises s h.goals new; leaves = h.leaves }
+Derives-formulas _ (by_fact {c} {leaves} {new} {p} before after d e joined) =
+    let h = Derives-formulas (record { conclusion = c; goals = before ++ p.conclusion ∷ after; leaves = leaves }) d in
+    let k = Derives-formulas p e in
+    record {
+      conclusion = h.conclusion;
+      goals = All-replaced IsSequent before after p.goals p.conclusion h.goals k.goals;
+      leaves = all_joined IsSequent leaves p.leaves new h.leaves k.leaves joined;
+    }
+Derives-formulas _ (by_substitution {p} {q} {pairs} d made well free is) =
+    let h = Derives-formulas p d in
+    record {
+      conclusion = substituted_sequent pairs well p.conclusion q.conclusion h.conclusion is.conclusion;
+      goals = substituted_sequents pairs well p.goals q.goals h.goals is.goals;
+      leaves = rw is.leaves h.leaves;
+    }
+Derives-formulas _ (by_renaming {p} x y d a b) =
+    let h = Derives-formulas p d in
+    record {
+      conclusion = swap_is_sequent x y a b p.conclusion h.conclusion;
+      goals = swap_sequents x y a b p.goals h.goals;
+      leaves = h.leaves;
+    }

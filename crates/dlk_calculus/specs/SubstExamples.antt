@@ -20,7 +20,7 @@ use Rattle.dlk_calculus.specs.Kids.{first}
 use Rattle.dlk_calculus.specs.Captures.{captures, AreApart}
 use Rattle.dlk_calculus.specs.Plug.{IsClear, Plug, filled}
 use Rattle.dlk_calculus.specs.Pairs.{Pair, takes_arguments, Ill, first_ill, IsWellFormed}
-use Rattle.dlk_calculus.specs.Subst.{IsAdmissible, new_items, new_kids, Subst, SubstAll}
+use Rattle.dlk_calculus.specs.Subst.{IsAdmissible, Member, Equation, new_members, items_of, kids_of, Subst, SubstAll}
 
 abbrev leaf : Op → Tree
 leaf op = node op no_kids
@@ -177,10 +177,16 @@ filled_in : filled (positive x) (node Op'.Not (one (leaf Op'.Hole))) ≡ node Op
 filled_in = refl
 
 -- {y'=2,c&true} with {c}~>{x'=1&true} is {y'=2,x'=1&true}
-items_spliced : new_items (to c (system (leaf Op'.True)) ∷ []) (Item.Evolve (codes "y") ∷ Item.Const c ∷ []) ≡ Item.Evolve (codes "y") ∷ Item.Evolve (codes "x") ∷ []
+abbrev both_members : List Member
+both_members = new_members (to c (system (leaf Op'.True)) ∷ []) (Item.Evolve (codes "y") ∷ Item.Const c ∷ []) (two (number 2) (leaf Op'.True))
+
+members_spliced : both_members ≡ Equation (codes "y") (number 2) ∷ Equation (codes "x") (number 1) ∷ []
+members_spliced = refl
+
+items_spliced : items_of both_members ≡ Item.Evolve (codes "y") ∷ Item.Evolve (codes "x") ∷ []
 items_spliced = refl
 
-kids_spliced : new_kids (to c (system (leaf Op'.True)) ∷ []) (Item.Evolve (codes "y") ∷ Item.Const c ∷ []) (two (number 2) (leaf Op'.True)) ≡ kid (number 2) (two (number 1) (leaf Op'.True))
+kids_spliced : kids_of both_members (leaf Op'.True) ≡ kid (number 2) (two (number 1) (leaf Op'.True))
 kids_spliced = refl
 
 -- ---- substitution

@@ -1,5 +1,5 @@
 //! The laws of the calculus. Each is a contract of a function that does nothing.
-ghost use Rattle.std.specs.Prelude.{◌≡◌, ◌<◌, ◌⊎◌, ◌↔◌, List, length, All, map};
+ghost use Rattle.std.specs.Prelude.{◌≡◌, ◌<◌, ◌⊎◌, ◌↔◌, List, [], ◌∷◌, ◌++◌, length, All, map};
 ghost use Rattle.dlk_tree.specs.Trees.{Tree, sort, WellMade};
 ghost use Rattle.dlk_calculus.specs.Pairs.{Pair, IsWellFormed, AreMade};
 ghost use Rattle.dlk_calculus.specs.Plug.{Plug};
@@ -10,7 +10,7 @@ ghost use Rattle.dlk_calculus.specs.Sequents.{IsFormula};
 ghost use Rattle.dlk_calculus.specs.Provables.{Provable, HasFormulas, HasLeaves};
 ghost use Rattle.dlk_calculus.specs.Reasons.{IsOfCalculus};
 ghost use Rattle.dlk_calculus.specs.Limits.{IsLimited, most_rows};
-ghost use Rattle.dlk_calculus.specs.Steps.{Step, Gives, IsWithin, Against, History, Derives, Fault, StepOf};
+ghost use Rattle.dlk_calculus.specs.Steps.{Step, IsProper, Gives, IsWithin, Against, History, Derives, Fault, StepOf};
 
 /// A replacement has at most one result with given arguments.
 pub fn one_plug()
@@ -48,12 +48,12 @@ pub fn one_fault()
     ensures { (rows : List Provable) (step : Step) (why other : TheReason) → Fault rows step why → Fault rows step other → why ≡ other }
 {}
 
-/// A step is taken exactly where nothing speaks against it. A rule of the calculus gives something exactly where nothing but a
+/// A proper step is taken exactly where nothing speaks against it. A rule of the calculus gives something exactly where nothing but a
 /// limit does.
 pub fn given_unless_against()
-    ensures given { (rows : List Provable) (step : Step) (p : Provable) (why : TheReason) → IsOfCalculus why → Gives rows step p → Against why rows step → ⊥ }
-    ensures against { (rows : List Provable) (step : Step) → ((p : Provable) × StepOf rows step p) ⊎ ((why : TheReason) × Fault rows step why) }
-    ensures limits { (rows : List Provable) (step : Step) (why : TheReason) → (IsOfCalculus why → ⊥) → Fault rows step why → (p : Provable) × Gives rows step p }
+    ensures given { (rows : List Provable) (step : Step) (p : Provable) (why : TheReason) → IsOfCalculus why → Gives rows step p → Against rows step why → ⊥ }
+    ensures against { (rows : List Provable) (step : Step) → IsProper step → ((p : Provable) × StepOf rows step p) ⊎ ((why : TheReason) × Fault rows step why) }
+    ensures limits { (rows : List Provable) (step : Step) (why : TheReason) → IsProper step → (IsOfCalculus why → ⊥) → Fault rows step why → (p : Provable) × Gives rows step p }
 {}
 
 /// A step is taken exactly where a rule of the calculus gives something, all of it is within the limits, and there are fewer rows
@@ -62,9 +62,9 @@ pub fn taken_as_given()
     ensures { (rows : List Provable) (step : Step) (p : Provable) → StepOf rows step p ↔ (Gives rows step p × IsWithin step p × (length rows < most_rows)) }
 {}
 
-/// If no reason of the calculus speaks against a step, a rule of the calculus gives something.
+/// If no reason of the calculus speaks against a proper step, a rule of the calculus gives something.
 pub fn given_without_reason()
-    ensures { (rows : List Provable) (step : Step) → ((why : TheReason) → IsOfCalculus why → Against why rows step → ⊥) → (p : Provable) × Gives rows step p }
+    ensures { (rows : List Provable) (step : Step) → IsProper step → ((why : TheReason) → IsOfCalculus why → Against rows step why → ⊥) → (p : Provable) × Gives rows step p }
 {}
 
 /// What is taken from rows within the limits is within them.
@@ -72,9 +72,10 @@ pub fn steps_keep_limits()
     ensures { (rows : List Provable) (step : Step) (p : Provable) → All IsLimited rows → StepOf rows step p → IsLimited p }
 {}
 
-/// Each row of a history is derived.
+/// Each row of a history is derived, and what is derived ends a history.
 pub fn history_derives()
-    ensures { (rows : List Provable) → History rows → All Derives rows }
+    ensures rows { (rows : List Provable) → History rows → All Derives rows }
+    ensures ends { (p : Provable) → Derives p → (rows : List Provable) × History (rows ++ p ∷ []) }
 {}
 
 /// What is derived is made of formulas.

@@ -1,8 +1,7 @@
 use crate::fault::StepFault;
-use crate::given::give;
-use crate::limits::MOST_ROWS;
 use crate::row::Row;
-use dlk_calculus::Reason;
+use crate::steps::give;
+use dlk_calculus::{MOST_ROWS, Reason};
 use dlk_rules::Step;
 use dlk_sequent::Sequent;
 use dlk_store::{Id, Listing, Node, Steps, Store, StoreFault, Which};

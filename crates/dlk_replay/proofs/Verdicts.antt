@@ -13,6 +13,7 @@ use Rattle.dlk_calculus.proofs.LimitLaws.{verdict_cases}
 use Rattle.dlk_calculus.proofs.Histories.{History-none, History-more}
 use Rattle.dlk_termtext.specs.Lines.{Line, Numbered, Done, IsLine}
 use Rattle.dlk_termtext.proofs.LineForms.{one_line}
+use Rattle.dlk_termtext.proofs.Proper.{line_proper}
 use Rattle.dlk_replay.specs.declared.fault.LineWhy.TheVariants as why
 use Rattle.dlk_replay.specs.Files.{StepLines, no_lines, one_more, Answer, accepted, bad, Verdict, whole, ended, unread, done_first, done_before, misnumbered, faulty}
 
@@ -204,7 +205,7 @@ after_step steps rest rows line number step is line_is again =
     elim (cases_eq number (length steps + 1)) [
       | inl right ↦
           let its_own : IsLine line (Numbered (length steps + 1) step) = rw (← right) line_is in
-          elim (verdict_cases rows step) [
+          elim (verdict_cases rows step (line_proper line number step line_is)) [
             | inl taken ↦ again taken.0 (one_more is its_own taken.1)
             | inr against ↦ (bad (length steps + 1) (why.Step against.0), faulty rest is its_own against.1)
           ]

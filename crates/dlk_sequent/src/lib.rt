@@ -4,6 +4,7 @@
 mod arithmetic;
 mod fault;
 mod formula;
+pub mod laws;
 mod listed;
 mod same;
 mod sequent;

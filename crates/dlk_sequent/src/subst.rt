@@ -1,7 +1,9 @@
 //! Substitutions: well-formed lists of pairs.
-ghost use Rattle.std.specs.Prelude.{◌≡◌, ◌↔◌, ◌+◌, ◌*◌, ◌≤◌, length, IsTrue, IfOk, IfErr};
+ghost use Rattle.std.specs.Prelude.{◌≡◌, ◌↔◌, ◌+◌, ◌*◌, ◌≤◌, List, length, IsTrue, IfOk, IfErr};
+ghost use Rattle.dlk_tree.specs.Table.{kind_row};
 ghost use Rattle.dlk_tree.specs.Listed.{IsInhabited};
 ghost use Rattle.dlk_tree.specs.Statics.{free};
+ghost use Rattle.dlk_tree.specs.Trees.{Tree};
 ghost use Rattle.dlk_store.specs.Stores.{IsId, tree};
 ghost use Rattle.dlk_calculus.specs.Pairs.{takes_arguments, IsFreeIn};
 ghost use Rattle.dlk_sequent.specs.Substitutions.{pairs_at, AreKnownPairs, IsMadeOver, IsIllFault};
@@ -98,7 +100,8 @@ impl Subst {
     /// Whether some variable is free in the replacement of a function or a predicate, for rules that forbid such a
     /// substitution. It was found at making: it takes no step and no memory.
     pub fn free(&self) -> bool
-        ensures { result ≡ self.now.free }
+        ensures value { result ≡ self.now.free }
+        ensures over { (trees : List Tree) → IsMadeOver trees self.now → (IsTrue result ↔ IsFreeIn (pairs_at trees self.now.pairs)) }
     {
         self.free
     }

@@ -13,11 +13,11 @@ const ADAPTIVE_CRUISE: &str =
 ->
   [
     {
-      { al := A; ++ al := 0; ++ al := -B; }                       // leader
+      al := *; ?(-B <= al & al <= A);                             // leader
       {
           af := -B;                                               // follower: brake
        ++ ?xf + vf^2/(2*B) + (A/B + 1)*(A/2*ep^2 + ep*vf) < xl + vl^2/(2*B);
-          af := A;                                                // speed up where it is safe
+          af := *; ?(-B <= af & af <= A);                         // anything where it is safe
        ++ ?vf = 0; af := 0;                                       // stand
       }
       t := 0;
@@ -76,7 +76,7 @@ const PENDULUM: &str = "/* A damped pendulum near its rest, with small pushes: a
 ->
   [
     {
-      { push := 0.01; ++ push := -0.01; ++ push := 0; }
+      push := *; ?(-0.01 <= push & push <= 0.01);
       { ?1/2*(w + push)^2 + g/L*(theta^2/2) <= E; w := w + push;
      ++ ?!(1/2*(w + push)^2 + g/L*(theta^2/2) <= E); }
       { theta' = w, w' = -g/L*theta - k*w }
@@ -94,13 +94,12 @@ const ROBOT: &str = "/* A ground robot drives on circles of its choice and stops
 ->
   [
     {
-      /* the obstacle picks its direction */
-      { vxo := 0; vyo := V; ++ vxo := V; vyo := 0; ++ vxo := 0; vyo := 0; }
-      ?vxo^2 + vyo^2 <= V^2;
+      /* the obstacle picks its velocity */
+      vxo := *; vyo := *; ?vxo^2 + vyo^2 <= V^2;
       {
           a := -b;                                            // brake
        ++ ?v = 0; a := 0; w := 0;                             // stand
-       ++ { a := A; w := v/r;
+       ++ { a := *; ?(-b <= a & a <= A); w := v/r;
             ?( (x - xo)^2 > (v^2/(2*b) + V*v/b + (A/b + 1)*(A/2*ep^2 + ep*(v + V)))^2
              | (y - yo)^2 > (v^2/(2*b) + V*v/b + (A/b + 1)*(A/2*ep^2 + ep*(v + V)))^2 ); }
       }
@@ -187,11 +186,7 @@ const WATER_TANK: &str = "// A water tank: its valve is looked at at least every
 ->
   [
     {
-      { f := 0.5*(m - x)/ep;  /* fill, but not more than fits */
-     ++ f := -1.25;           /* drain */
-     ++ ?x < m; f := 0;
-      }
-      ?f <= (m - x)/ep;
+      f := *; ?(-1.25 <= f & f <= (m - x)/ep);  /* drain, or fill, but not more than fits */
       t := 0;
       { x' = f, t' = 1 & x >= 0 & t <= ep }
     }*@invariant(0 <= x & x <= m)
@@ -204,7 +199,7 @@ fn prints_models(rt: HostRuntime) -> Result<(), Fail> {
     for (model, text) in [
         (
             ADAPTIVE_CRUISE,
-            "A>=0&B>0&ep>0&vf>=0&vl>=0&xf<xl&xf+vf^2/(2*B)<xl+vl^2/(2*B) -> [{{al:=A;++al:=0;++al:=-B;}{af:=-B;++?xf+vf^2/(2*B)+(A/B+1)*(A/2*ep^2+ep*vf)<xl+vl^2/(2*B);af:=A;++?vf=0;af:=0;}t:=0;{xf'=vf,vf'=af,xl'=vl,vl'=al,t'=1&vf>=0&vl>=0&t<=ep}}*]xf<xl\n",
+            "A>=0&B>0&ep>0&vf>=0&vl>=0&xf<xl&xf+vf^2/(2*B)<xl+vl^2/(2*B) -> [{al:=*;?-B<=al&al<=A;{af:=-B;++?xf+vf^2/(2*B)+(A/B+1)*(A/2*ep^2+ep*vf)<xl+vl^2/(2*B);af:=*;?-B<=af&af<=A;++?vf=0;af:=0;}t:=0;{xf'=vf,vf'=af,xl'=vl,vl'=al,t'=1&vf>=0&vl>=0&t<=ep}}*]xf<xl\n",
         ),
         (
             BOUNCING_BALL,
@@ -220,11 +215,11 @@ fn prints_models(rt: HostRuntime) -> Result<(), Fail> {
         ),
         (
             PENDULUM,
-            "g>0&L>0&k>0&theta=0&w=0&E>0 -> [{{push:=0.01;++push:=-0.01;++push:=0;}{?1/2*(w+push)^2+g/L*(theta^2/2)<=E;w:=w+push;++?!1/2*(w+push)^2+g/L*(theta^2/2)<=E;}{theta'=w,w'=-g/L*theta-k*w}}*]g/L*(theta^2/2)+1/2*w^2<=E\n",
+            "g>0&L>0&k>0&theta=0&w=0&E>0 -> [{push:=*;?-0.01<=push&push<=0.01;{?1/2*(w+push)^2+g/L*(theta^2/2)<=E;w:=w+push;++?!1/2*(w+push)^2+g/L*(theta^2/2)<=E;}{theta'=w,w'=-g/L*theta-k*w}}*]g/L*(theta^2/2)+1/2*w^2<=E\n",
         ),
         (
             ROBOT,
-            "\\forall r (r>0 -> v>=0&A>=0&b>0&V>=0&ep>0&dx^2+dy^2=1&(v=0|(x-xo)^2>(v^2/(2*b)+V*v/b)^2|(y-yo)^2>(v^2/(2*b)+V*v/b)^2) -> [{{vxo:=0;vyo:=V;++vxo:=V;vyo:=0;++vxo:=0;vyo:=0;}?vxo^2+vyo^2<=V^2;{a:=-b;++?v=0;a:=0;w:=0;++a:=A;w:=v/r;?(x-xo)^2>(v^2/(2*b)+V*v/b+(A/b+1)*(A/2*ep^2+ep*(v+V)))^2|(y-yo)^2>(v^2/(2*b)+V*v/b+(A/b+1)*(A/2*ep^2+ep*(v+V)))^2;}t:=0;{x'=v*dx,y'=v*dy,v'=a,dx'=-w*dy,dy'=w*dx,w'=a/r,xo'=vxo,yo'=vyo,t'=1&t<=ep&v>=0}}*](v>0 -> (x-xo)^2+(y-yo)^2>0))\n",
+            "\\forall r (r>0 -> v>=0&A>=0&b>0&V>=0&ep>0&dx^2+dy^2=1&(v=0|(x-xo)^2>(v^2/(2*b)+V*v/b)^2|(y-yo)^2>(v^2/(2*b)+V*v/b)^2) -> [{vxo:=*;vyo:=*;?vxo^2+vyo^2<=V^2;{a:=-b;++?v=0;a:=0;w:=0;++a:=*;?-b<=a&a<=A;w:=v/r;?(x-xo)^2>(v^2/(2*b)+V*v/b+(A/b+1)*(A/2*ep^2+ep*(v+V)))^2|(y-yo)^2>(v^2/(2*b)+V*v/b+(A/b+1)*(A/2*ep^2+ep*(v+V)))^2;}t:=0;{x'=v*dx,y'=v*dy,v'=a,dx'=-w*dy,dy'=w*dx,w'=a/r,xo'=vxo,yo'=vyo,t'=1&t<=ep&v>=0}}*](v>0 -> (x-xo)^2+(y-yo)^2>0))\n",
         ),
         (
             ROUNDABOUT,
@@ -244,7 +239,7 @@ fn prints_models(rt: HostRuntime) -> Result<(), Fail> {
         ),
         (
             WATER_TANK,
-            "0<=x&x<=m&0<ep&0<=m -> [{{f:=0.5*(m-x)/ep;++f:=-1.25;++?x<m;f:=0;}?f<=(m-x)/ep;t:=0;{x'=f,t'=1&x>=0&t<=ep}}*](0<=x&x<=m)\n",
+            "0<=x&x<=m&0<ep&0<=m -> [{f:=*;?-1.25<=f&f<=(m-x)/ep;t:=0;{x'=f,t'=1&x>=0&t<=ep}}*](0<=x&x<=m)\n",
         ),
     ] {
         let (status, desk) = printed(alloc, model.as_bytes())?;

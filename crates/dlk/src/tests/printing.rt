@@ -17,6 +17,7 @@ fn prints_texts(rt: HostRuntime) -> Result<(), Fail> {
         ("x + 1 // a term", "x+1\n"),
         ("f(x)", "f(x)\n"),
         ("x := 1; ++ y' := 2.0;", "x:=1;++y':=2;\n"),
+        ("x := *; {y := * ;}*", "x:=*;{y:=*;}*\n"),
         ("._0 + f(||)", "._0+f(||)\n"),
         ("C{_} & p(._7,x)", "C{_}&p(._7,x)\n"),
         ("_", "_\n"),
@@ -58,6 +59,8 @@ fn refuses_texts(rt: HostRuntime) -> Result<(), Fail> {
         ("x>=0 & -> y>0", "refused: file: syntax\n"),
         ("x>0 ==> y>0", "refused: file: syntax\n"),
         ("x>0; y>0", "refused: file: syntax\n"),
+        ("x:=*y;", "refused: file: syntax\n"),
+        ("x':=*;", "refused: file: syntax\n"),
     ] {
         let (status, desk) = printed(alloc, file.as_bytes())?;
         assert_eq!(rt; desk.printed(), text.as_bytes(), "{file}");

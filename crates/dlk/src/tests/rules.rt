@@ -293,6 +293,7 @@ fn renames_bound_variables(rt: HostRuntime) -> Result<(), Fail> {
         ("==> [x':=1;]x>0", "boundR(1,y)", "WrongShape"),
         ("==> [x:=1;x:=2;]x>0", "boundR(1,y)", "WrongShape"),
         ("==> [a;]x>0", "boundR(1,y)", "WrongShape"),
+        ("==> [x:=*;]x>0", "boundR(1,y)", "WrongShape"),
         ("\\forall x x>y ==>", "boundL(1,y)", "NotFresh"),
         ("==> \\forall x x>y'", "boundR(1,y)", "NotFresh"),
         ("==> \\forall x x'>0", "boundR(1,y)", "NotFresh"),

@@ -19,6 +19,13 @@ fn checks_examples(rt: HostRuntime) -> Result<(), Fail> {
             0,
             "closed\nconclusion ==> v>=0&A>0 -> [a:=A;++a:=0;]a>=0\ngoals 0\nleaves 2\nleaf 1 v>=0&A>0 ==> A>=0\nleaf 2 v>=0&A>0 ==> 0>=0\nlines 28\n",
         ),
+        // examples/any_value
+        (
+            "/* A square is never below zero, whatever value x has. */\n[x:=*;]x^2>=0\n",
+            "1 start ==> [x:=*;]x^2>=0\n2 axiom randomb\n3 rename 2 x_ x\n4 subst 3 p(||)~>x^2>=0\n5 apply 1 1 cutR(1,\\forall x x^2>=0)\n6 apply 5 2 equivifyR(1)\n7 apply 6 2 commuteEquivR(1)\n8 merge 7 2 4\n9 apply 8 1 skolemR(1)\n10 leaf ==> x^2>=0\n11 merge 9 1 10\ndone\n",
+            0,
+            "closed\nconclusion ==> [x:=*;]x^2>=0\ngoals 0\nleaves 1\nleaf 1 ==> x^2>=0\nlines 11\n",
+        ),
         // examples/loop
         (
             "/* A counter stays above zero: induction over the loop. */\nx>=0 -> [{ x:=x+1; }*]x>=0\n",
