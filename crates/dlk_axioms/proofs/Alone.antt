@@ -11,16 +11,6 @@ use Rattle.dlk_sequent.specs.Sequents.{IsKnown}
 use Rattle.dlk_sequent.proofs.Kept.{sequent-kept, IsKnown-kept}
 use Rattle.dlk_axioms.specs.Answers.{StandsAlone, IsRuleAt}
 
--- the sequent of one id
-pub stands_alone : (trees : List Tree) (s : Sequent) (id : Id) (f : Tree) → s ≡ record { ante = []; succ = id ∷ [] } → StandsFor trees id f → StandsAlone trees s f
-stands_alone trees s id f e stands =
-    let alone : Sequent = record { ante = []; succ = id ∷ [] } in
-    let it : StandsAlone trees alone f = record {
-      known = record { ante = All-nil (IsId trees); succ = All-cons (IsId trees) id [] stands.known (All-nil (IsId trees)) };
-      sequent_is = ap alone_right stands.tree_is;
-    } in
-    subst (λ (z : Sequent). StandsAlone trees z f) (sym e) it
-
 -- of the sequents of a premise, read first, and of a conclusion
 pub rule_at : {old new : List Tree} (r : AxiomaticRule) (premises : List Sequent) (premise conclusion : Sequent) →
     premises ≡ premise ∷ [] → Keeps old new → StandsAlone old premise r.premise → StandsAlone new conclusion r.conclusion → IsRuleAt new r premises conclusion
