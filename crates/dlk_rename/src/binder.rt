@@ -130,11 +130,7 @@ fn make_assignment<S: Store>(
     ensures made { IfOk result (λ made. StandsFor (S.trees store.new) made (assign name.now (tree (S.trees store.old) term))) }
     ensures grows { S.grows store.old store.new }
 {
-    let name = name.clone()?;
-    let op = Op::Assign(Var {
-        name,
-        primed: false,
-    });
+    let op = Op::Assign(Var::plain(name.clone()?));
     store.make(alloc, op, &[term])
 }
 

@@ -8,7 +8,7 @@ use Rattle.dlk_replay.specs.declared.fault.LineWhy.TheVariants as why
 use Rattle.dlk_replay.specs.declared.fault.ReplayFault.{ReplayFault}
 use Rattle.dlk_replay.specs.declared.fault.ReplayFault.TheVariants.{Bad, Memory}
 use Rattle.dlk_replay.specs.Files.{StepLines, no_lines, one_more, accepted, bad, Verdict, whole, ended, unread, done_first, done_before, misnumbered, faulty, RowsOf, of_steps, of_all}
-use Rattle.dlk_replay.specs.Replay.{IsFaultOf, LeavesRows, IsBadLine, IsLineFault, IsNextStep}
+use Rattle.dlk_replay.specs.Replay.{IsReplayFaultOf, LeavesRows, IsBadLine, IsLineFault, IsNextStep}
 use Rattle.dlk_replay.proofs.Verdicts.{as_many}
 
 -- all lines are steps that gave these rows, and those that are left
@@ -59,7 +59,7 @@ bad_line all left line rows at (why.Step reason) r place (step, its_line, fault)
     let own : IsLine line (Numbered (length r.front + 1) step) = rw (as_many r.front rows r.steps) its_line in
     placed all left line rows at (why.Step reason) r place (faulty left r.steps own fault)
 
-pub line_fault : (all left : List (List ℕ)) (line : List ℕ) (rows : List Provable) (fault : ReplayFault) → Reached all (line ∷ left) rows → IsLineFault rows line fault → IsFaultOf all fault
+pub line_fault : (all left : List (List ℕ)) (line : List ℕ) (rows : List Provable) (fault : ReplayFault) → Reached all (line ∷ left) rows → IsLineFault rows line fault → IsReplayFaultOf all fault
 line_fault all left line rows (Bad at reason) r is = bad_line all left line rows at reason r is.0 is.1
 line_fault all left line rows Memory r is = tt
 

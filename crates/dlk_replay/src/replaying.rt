@@ -2,7 +2,7 @@
 ghost use Rattle.std.specs.Prelude.{◌≡◌, ◌≤◌, [], length, OnOk, IfOk, IfErr};
 ghost use Rattle.dlk_kernel.specs.Kernel.{facts};
 ghost use Rattle.dlk_replay.specs.Files.{file_lines, Verdict, accepted};
-ghost use Rattle.dlk_replay.specs.Replay.{IsFaultOf, LeavesRows};
+ghost use Rattle.dlk_replay.specs.Replay.{IsReplayFaultOf, LeavesRows};
 
 use crate::fault::{LineWhy, Outcome, ReplayFault};
 use crate::taking::{Taken, first_line, take_line};
@@ -31,7 +31,7 @@ pub fn replay<S: Store, L: Ledger>(
     ensures lines { IfOk result (λ outcome. outcome.lines ≡ length kernel.new.rows) }
     ensures some { OnOk result (1 ≤ length kernel.new.rows) }
 
-    ensures bad { IfErr result (IsFaultOf (file_lines bytes.now)) }
+    ensures bad { IfErr result (IsReplayFaultOf (file_lines bytes.now)) }
     ensures left { IfErr result (LeavesRows (file_lines bytes.now) (facts S.trees kernel.new)) }
     ensures grows { S.grows kernel.old.store kernel.new.store }
 {

@@ -23,7 +23,7 @@ use dlk_rename::bound;
 use dlk_sequent::{Listed, Sequent};
 use dlk_store::{Id, Steps, Store};
 use dlk_tree::{Name, Op, Var};
-use std::alloc::{AllocError, Global};
+use std::alloc::Global;
 use std::sync::ledger::Ledger;
 
 /// One of the two quantifiers of a variable.
@@ -47,17 +47,6 @@ fn bound_name<'a>(quantifier: Quantifier, op: &'a Op) -> Option<&'a Name>
     }
 }
 
-/// The variable of this name, without a prime.
-fn plain(name: &Name) -> Result<Var, AllocError>
-    ensures { IfOk result (λ v. v ≡ plain name.now) }
-{
-    let name = name.clone()?;
-    Ok(Var {
-        name,
-        primed: false,
-    })
-}
-
 /// The variable and the kid of the formula at a place, which has this quantifier at its top: `WrongShape` where it hasn't.
 fn quantified_at<S: Store, L: Ledger>(
     store: &S,
@@ -74,8 +63,7 @@ fn quantified_at<S: Store, L: Ledger>(
     let Some(x) = bound_name(quantifier, top.op) else {
         return Err(RuleFault::WrongShape);
     };
-    let v = plain(x)?;
-    Ok((v, top.kids[0]))
+    Ok((Var::plain(x.clone()?), top.kids[0]))
 }
 
 /// Whether the variable is free in one of the formulas.

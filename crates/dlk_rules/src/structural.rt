@@ -174,10 +174,7 @@ pub(crate) fn co_hide_right<S: Store>(
     ensures fault { IfErr result (IsRuleFault (FirstAgainst (CoHideR j) (sequent_at (S.trees store.now) s.now))) }
 {
     let f = formula_at(store, &s.succ, j)?;
-    let ante = Listed::new(alloc);
-    let mut succ = Listed::new(alloc);
-    succ.push(f)?;
-    Ok(one(alloc, Sequent { ante, succ })?)
+    Ok(one(alloc, Sequent::alone_right(alloc, f)?)?)
 }
 
 /// The rule `exchangeL(i,k)`:

@@ -15,7 +15,7 @@ use Rattle.dlk_rules.specs.declared.step.Step.{Step as IdStep}
 use Rattle.dlk_termtext.specs.declared.line.LineFault.{LineFault}
 use Rattle.dlk_termtext.specs.Lines.{IsNumber, IsRule, IsStep, start, use_axiom, use_rule, leaf, apply, merge, substitute, rename}
 use Rattle.dlk_termtext.specs.Parts.{CutAt, NumberThen, FactGoal, FactGoalRule, FactGoalFact, FactPairs, FactNames, step_word, Behind, WordAndRest}
-use Rattle.dlk_termtext.specs.Read.{IsFaultOf}
+use Rattle.dlk_termtext.specs.Read.{IsLineFaultOf}
 use Rattle.dlk_termtext.proofs.Cuts.{lacks_if, lacks_name, one_cut}
 use Rattle.dlk_termtext.proofs.Numbers.{one_number, one_number_then}
 use Rattle.dlk_termtext.proofs.Refusals.{fault_of_whole}
@@ -204,8 +204,8 @@ pub step_or_none : (trees : List Tree) (text word rest : List ℕ) → CutAt tex
 step_or_none trees text word rest cut (Ok step) p = worded_step text word rest (step_at trees step) cut p
 step_or_none trees text word rest cut (Err why) p = tt
 
-pub no_step_or_none : (text word rest : List ℕ) → CutAt text 32 word rest → (r : Result IdStep LineFault) → IfErr r (IsFaultOf ((step : Step) → ¬ WordAndRest word rest step)) →
-    IfErr r (IsFaultOf ((step : Step) → ¬ IsStep text step))
+pub no_step_or_none : (text word rest : List ℕ) → CutAt text 32 word rest → (r : Result IdStep LineFault) → IfErr r (IsLineFaultOf ((step : Step) → ¬ WordAndRest word rest step)) →
+    IfErr r (IsLineFaultOf ((step : Step) → ¬ IsStep text step))
 no_step_or_none text word rest cut (Ok step) fault = tt
 no_step_or_none text word rest cut (Err why) fault = fault_of_whole {part = (step : Step) → ¬ WordAndRest word rest step} (λ none step is. none step (step_worded text word rest step cut is)) why fault
 

@@ -4,7 +4,7 @@ ghost use Rattle.dlk_calculus.specs.Rules.{Rule as TreeRule, Arguments as TreeAr
 ghost use Rattle.dlk_rules.specs.Steps.{rule_at, RuleIsKnown};
 ghost use Rattle.dlk_rules.specs.Words.{shape_of, shape_in, arguments_at, ArgumentsAreKnown};
 ghost use Rattle.dlk_termtext.specs.Lines.{IsArguments, IsRule};
-ghost use Rattle.dlk_termtext.specs.Read.{IsFaultOf};
+ghost use Rattle.dlk_termtext.specs.Read.{IsLineFaultOf};
 
 use crate::arguments::{formula, place_and_formula, place_and_name, two_places};
 use crate::line::LineFault;
@@ -23,7 +23,7 @@ pub(crate) fn read_rule<S: Store>(
 ) -> Result<Rule, LineFault>
     ensures found { IfOk result (λ rule. IsRule text.now (rule_at (S.trees store.new) rule)) }
     ensures known { IfOk result (RuleIsKnown (S.trees store.new)) }
-    ensures fault { IfErr result (IsFaultOf ((rule : TreeRule) → ¬ IsRule text.now rule)) }
+    ensures fault { IfErr result (IsLineFaultOf ((rule : TreeRule) → ¬ IsRule text.now rule)) }
     ensures grows { S.grows store.old store.new }
 {
     let Some((word, arguments)) = bracketed(text) else {
@@ -52,7 +52,7 @@ fn read_arguments<S: Store>(
     ensures found { IfOk result (λ arguments. IsArguments text.now (arguments_at (λ y. y) (S.trees store.new) arguments)) }
     ensures shape { IfOk result (λ arguments. shape_in arguments ≡ shape) }
     ensures known { IfOk result (ArgumentsAreKnown (S.trees store.new)) }
-    ensures fault { IfErr result (IsFaultOf ((arguments : TreeArguments) → shape ≡ shape_of arguments → ¬ IsArguments text.now arguments)) }
+    ensures fault { IfErr result (IsLineFaultOf ((arguments : TreeArguments) → shape ≡ shape_of arguments → ¬ IsArguments text.now arguments)) }
     ensures grows { S.grows store.old store.new }
 {
     match shape {

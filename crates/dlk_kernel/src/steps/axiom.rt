@@ -30,13 +30,11 @@ pub(super) fn axiom<S: Store>(alloc: Global, store: &mut S, name: &Name) -> Resu
     let Some(formula) = dlk_axioms::axiom(alloc, store, name.bytes())? else {
         return Err(StepFault::Refused(Reason::UnknownName));
     };
-    let mut succ = Listed::new(alloc);
-    succ.push(formula)?;
-    let ante = Listed::new(alloc);
+    let conclusion = Sequent::alone_right(alloc, formula)?;
     let goals = Listed::new(alloc);
     let leaves = Listed::new(alloc);
     Ok(Row {
-        conclusion: Sequent { ante, succ },
+        conclusion,
         goals,
         leaves,
     })
