@@ -59,17 +59,20 @@ pub place_and_name_are : (text y : List ℕ) (i : ℕ) → NumberThen text 44 i 
 place_and_name_are text y i a b = rw (comma_is text y i a) (place_and_name y a.is_number b)
 
 -- without what stands behind the comma there are no arguments
-pub no_place_behind : (text rest : List ℕ) (first : ℕ) → NumberThen text 44 first rest → ((n : ℕ) → ¬ IsNumber rest n) → (i k : ℕ) → ¬ IsArguments text (TwoPlaces i k)
+pub no_place_behind : (text rest : List ℕ) (first : ℕ) → NumberThen text 44 first rest → ((n : ℕ) → ¬ IsNumber rest n) →
+    (i k : ℕ) → ¬ IsArguments text (TwoPlaces i k)
 no_place_behind text rest first number none i k is =
     let p = argument_parts text (TwoPlaces i k) is in
     none k (rw (one_number_then text 44 first i rest p.0 refl number p.1).1 p.2)
 
-pub no_formula_behind : (text rest : List ℕ) (at : ℕ) → NumberThen text 44 at rest → ((h : Tree) → ¬ IsFormulaText rest h) → (i : ℕ) (h : Tree) → ¬ IsArguments text (PlaceAndFormula i h)
+pub no_formula_behind : (text rest : List ℕ) (at : ℕ) → NumberThen text 44 at rest → ((h : Tree) → ¬ IsFormulaText rest h) →
+    (i : ℕ) (h : Tree) → ¬ IsArguments text (PlaceAndFormula i h)
 no_formula_behind text rest at number none i h is =
     let p = argument_parts text (PlaceAndFormula i h) is in
     none h (rw (one_number_then text 44 at i rest p.0 refl number p.1).1 p.2)
 
-pub no_name_behind : (text rest : List ℕ) (at : ℕ) → NumberThen text 44 at rest → (¬ IsTrue (is_name rest)) → (i : ℕ) (y : List ℕ) → ¬ IsArguments text (PlaceAndName i y)
+pub no_name_behind : (text rest : List ℕ) (at : ℕ) → NumberThen text 44 at rest → (¬ IsTrue (is_name rest)) →
+    (i : ℕ) (y : List ℕ) → ¬ IsArguments text (PlaceAndName i y)
 no_name_behind text rest at number none i y is =
     let p = argument_parts text (PlaceAndName i y) is in
     none (rw (one_number_then text 44 at i rest y refl number p.0).1 p.1)
@@ -130,12 +133,14 @@ rule_parts _ _ (rule {arguments} made are) = record {
 }
 
 -- a text whose word and arguments are those of a rule, and only such a text, is the rule
-pub made_rule : (text word arguments : List ℕ) (made : Rule) → Bracketed text word arguments → word_of made ≡ word → IsArguments arguments (arguments_of made) → IsRule text made
+pub made_rule : (text word arguments : List ℕ) (made : Rule) → Bracketed text word arguments → word_of made ≡ word →
+    IsArguments arguments (arguments_of made) → IsRule text made
 made_rule text word arguments made brackets is are =
     let e : text ≡ word_of made ++ codes "(" ++ arguments ++ codes ")" = brackets.text_is ∙ ap (λ w. w ++ codes "(" ++ arguments ++ codes ")") (sym is) in
     rw e (rule made are)
 
-pub bracketed_rule : (text word arguments : List ℕ) (made : Rule) → Bracketed text word arguments → IsRule text made → (word_of made ≡ word) × IsArguments arguments (arguments_of made)
+pub bracketed_rule : (text word arguments : List ℕ) (made : Rule) → Bracketed text word arguments → IsRule text made →
+    (word_of made ≡ word) × IsArguments arguments (arguments_of made)
 bracketed_rule text word arguments made brackets is =
     let h = rule_parts text made is in
     let same = one_bracketed text (word_of made) word h.arguments arguments h.brackets brackets in
@@ -166,7 +171,8 @@ no_arguments text word arguments w s brackets same wants none made is =
     none (arguments_of made) (wants ∙ sym (shape_wanted w made (h.0 ∙ sym same))) h.1
 
 -- a rule that is called by the word and the arguments of a text is what the text says
-pub called_rule : (trees : List Tree) (text word arguments : List ℕ) (w : RuleWord) (a : IdArguments (List ℕ)) (made : IdRule) → Bracketed text word arguments → text_of w ≡ word →
-    IsArguments arguments (arguments_at (λ y. y) trees a) → IsCall trees w a made → IsRule text (rule_at trees made)
+pub called_rule : (trees : List Tree) (text word arguments : List ℕ) (w : RuleWord) (a : IdArguments (List ℕ)) (made : IdRule) →
+    Bracketed text word arguments → text_of w ≡ word → IsArguments arguments (arguments_at (λ y. y) trees a) → IsCall trees w a made →
+    IsRule text (rule_at trees made)
 called_rule trees text word arguments w a made brackets same are call =
     made_rule text word arguments (rule_at trees made) brackets (call.word_is ∙ same) (subst (IsArguments arguments) (sym call.arguments_are) are)

@@ -19,12 +19,14 @@ pub returns-in_err-arguments-clause-fault : goal.returns-in_err-arguments-clause
 returns-in_err-arguments-clause-fault g c =
     let e = err_from_is_err_and c.from_residual.result c.from_residual.ensures.1 in
     let same = c.in-Some-of.ensures.found ∙ c.in-Ok.ensures.cases.0 in
-    rw (e.1, e.2) (fault_of_whole (no_arguments c.args.text.now _ _ c.in-Some-of.word _ c.in-Some.ensures.found same c.shape.ensures) _ c.in_err-arguments.ensures.fault)
+    rw (e.1, e.2)
+    (fault_of_whole (no_arguments c.args.text.now _ _ c.in-Some-of.word _ c.in-Some.ensures.found same c.shape.ensures) _ c.in_err-arguments.ensures.fault)
 
 pub returns-in-Some-rule-clause-found : goal.returns-in-Some-rule-clause-found
 returns-in-Some-rule-clause-found g c =
     let same = c.in-Some-of.ensures.found ∙ c.in-Ok.ensures.cases.0 in
-    called_rule _ c.args.text.now _ _ _ _ _ c.in-Some.ensures.found same c.in_ok-arguments.ensures.found (c.in-Some-rule.ensures (g.S.Store.trees c.read_arguments.new.store))
+    called_rule _ c.args.text.now _ _ _ _ _ c.in-Some.ensures.found same c.in_ok-arguments.ensures.found
+    (c.in-Some-rule.ensures (g.S.Store.trees c.read_arguments.new.store))
 
 pub returns-in-Some-rule-clause-known : goal.returns-in-Some-rule-clause-known
 returns-in-Some-rule-clause-known g c = (c.in-Some-rule.ensures (g.S.Store.trees c.read_arguments.new.store)).known c.in_ok-arguments.ensures.known

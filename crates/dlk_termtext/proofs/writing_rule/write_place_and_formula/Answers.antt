@@ -9,9 +9,11 @@ use Rattle.dlk_termtext.proofs.writing_rule.write_place_and_formula.Goals as goa
 pub returns-in_err-append_decimal-clause-text : goal.returns-in_err-append_decimal-clause-text
 returns-in_err-append_decimal-clause-text g c =
     let h = formula_text (tree (g.S.Store.trees c.args.store.now) c.args.h) in
-    same_text (sym (append_assoc (decimal c.args.i) (codes ",") h)) (first_failed (decimal c.args.i) _ c.from_residual.result c.from_residual.ensures.0 (rw c.from.ensures at c.in_err-append_decimal.ensures.begun))
+    same_text (sym (append_assoc (decimal c.args.i) (codes ",") h))
+    (first_failed (decimal c.args.i) _ c.from_residual.result c.from_residual.ensures.0 (rw c.from.ensures at c.in_err-append_decimal.ensures.begun))
 
 pub returns-clause-text : goal.returns-clause-text
 returns-clause-text g c =
     let h = formula_text (tree (g.S.Store.trees c.args.store.now) c.args.h) in
-    same_text (sym (append_assoc (decimal c.args.i) (codes ",") h)) (then_last (decimal c.args.i) (rw c.from.ensures at c.in_ok-append_decimal.ensures.ok) c.append_formula.ensures.text)
+    same_text (sym (append_assoc (decimal c.args.i) (codes ",") h))
+    (then_last (decimal c.args.i) (rw c.from.ensures at c.in_ok-append_decimal.ensures.ok) c.append_formula.ensures.text)

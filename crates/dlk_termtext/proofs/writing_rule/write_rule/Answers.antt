@@ -46,4 +46,6 @@ returns-clause-text g c =
     let none = unbegun_call c.args.out.now.items (word_of rule) (arguments_text (arguments_of rule)) in
     let word = appended (word_of rule) _ none (rw word_is at c.in_ok-append.ensures.ok) in
     let begun = appended (codes "(") _ word c.in_ok-append-2.ensures.ok in
-    last (appended (arguments_text (arguments_of rule)) (codes ")") begun (rw (c.arguments.ensures.arguments trees) at c.in_ok-write_arguments.ensures.text.ok)) c.append-3.ensures
+    last
+    (appended (arguments_text (arguments_of rule)) (codes ")") begun (rw (c.arguments.ensures.arguments trees) at c.in_ok-write_arguments.ensures.text.ok))
+    c.append-3.ensures

@@ -6,7 +6,10 @@ use Rattle.dlk_termtext.proofs.writing_rule.write_two_places.Goals as goal
 
 pub returns-in_err-append_decimal : goal.returns-in_err-append_decimal
 returns-in_err-append_decimal c =
-    same_text (sym (append_assoc (decimal c.args.i) (codes ",") (decimal c.args.k))) (first_failed (decimal c.args.i) _ c.from_residual.result c.from_residual.ensures.0 (rw c.from.ensures at c.in_err-append_decimal.ensures.begun))
+    same_text (sym (append_assoc (decimal c.args.i) (codes ",") (decimal c.args.k)))
+    (first_failed (decimal c.args.i) _ c.from_residual.result c.from_residual.ensures.0 (rw c.from.ensures at c.in_err-append_decimal.ensures.begun))
 
 pub returns : goal.returns
-returns c = same_text (sym (append_assoc (decimal c.args.i) (codes ",") (decimal c.args.k))) (then_last (decimal c.args.i) (rw c.from.ensures at c.in_ok-append_decimal.ensures.ok) c.append_number.ensures)
+returns c =
+    same_text (sym (append_assoc (decimal c.args.i) (codes ",") (decimal c.args.k)))
+    (then_last (decimal c.args.i) (rw c.from.ensures at c.in_ok-append_decimal.ensures.ok) c.append_number.ensures)
