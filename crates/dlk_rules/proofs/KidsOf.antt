@@ -1,5 +1,5 @@
 -- What stands at a place, by the ids of its kids.
-use Rattle.std.proofs.Common.{◌≡◌, ℕ, List, [], ◌∷◌, map, get_or, None, Some, refl, sym, ap, ◌∙◌}
+use Rattle.std.proofs.Common.{◌≡◌, ℕ, List, [], ◌∷◌, map, get_or, None, Some, refl, ap, ◌∙◌}
 use Rattle.std.specs.Prelude.{All, option_map}
 use Rattle.std.proofs.lemmas.List.Elements.{All-head, All-tail}
 use Rattle.dlk_tree.specs.declared.op.Op.{Op}
@@ -7,7 +7,7 @@ use Rattle.dlk_tree.specs.declared.op.Sort.TheVariants.{Formula}
 use Rattle.dlk_tree.specs.Table.{kid_sorts}
 use Rattle.dlk_tree.specs.Trees.{Tree, node, Forest, sort, root}
 use Rattle.dlk_store.specs.declared.Id.{Id}
-use Rattle.dlk_store.specs.Stores.{IsId, tree, sorts_at}
+use Rattle.dlk_store.specs.Stores.{IsId, tree}
 use Rattle.dlk_calculus.specs.Notation.{leaf}
 use Rattle.dlk_calculus.specs.Places.{at, At, IsPlace}
 use Rattle.dlk_calculus.proofs.PlaceLaws.{at_one, at_none, at-map, At-map, At_All, At_place}
