@@ -50,7 +50,8 @@ a_system : parse Refused (reader sort.Program) (OpenBrace 0 ∷ Name 1 x ∷ Pri
 a_system = refl
 
 -- x:=*;{x:=*;}
-anything : parse Refused (reader sort.Program) (Name 0 x ∷ Gets ∷ Op Mul ∷ Semi ∷ OpenBrace 5 ∷ Name 6 x ∷ Gets ∷ Op Mul ∷ Semi ∷ CloseBrace ∷ []) ≡ Ok (Then (AssignAny x) (AssignAny x))
+anything : parse Refused (reader sort.Program) (Name 0 x ∷ Gets ∷ Op Mul ∷ Semi ∷ OpenBrace 5 ∷ Name 6 x ∷ Gets ∷ Op Mul ∷ Semi ∷ CloseBrace ∷ [])
+    ≡ Ok (Then (AssignAny x) (AssignAny x))
 anything = refl
 
 -- x:=*y; stops at y, and x':=*; at the star

@@ -572,17 +572,23 @@ named_prime_moves : (g : Sort) (S : List Part) (x : Word) (k : Lexeme) (y : Stat
 named_prime_moves g S x Gets y all n a e = moved g (Wants (Inside (Assigns x true) ∷ S)) y _ e (midway_spells g S (Inside (Assigns x true) ∷ S) (Name n x ∷ Prime ∷ []) Program all Gets a (inside a.spells (assigns_prime-text a.fit)))
 named_prime_moves g S x _ y all n a e = absurd cc
 
-value_begin : (g : Sort) (S : List Part) (x : Word) (k : Lexeme) (y : State) (all : List Lexeme) (n : ℕ) → Midway g S (Name n x ∷ Gets ∷ []) Program all → start_operand g (Inside (Assigns x false) ∷ S) k ≡ Some y → After g y (all ++ k ∷ [])
-value_begin g S x k y all n a e = operand_moves g (Inside (Assigns x false) ∷ S) k y all refl (subst (λ (l : List Lexeme). Spells g (Inside (Assigns x false) ∷ S) l) (sym a.parts) (inside a.spells (assigns-text a.fit))) e
+value_begin : (g : Sort) (S : List Part) (x : Word) (k : Lexeme) (y : State) (all : List Lexeme) (n : ℕ)
+    → Midway g S (Name n x ∷ Gets ∷ []) Program all → start_operand g (Inside (Assigns x false) ∷ S) k ≡ Some y → After g y (all ++ k ∷ [])
+value_begin g S x k y all n a e =
+    operand_moves g (Inside (Assigns x false) ∷ S) k y all refl
+    (subst (λ (l : List Lexeme). Spells g (Inside (Assigns x false) ∷ S) l) (sym a.parts) (inside a.spells (assigns-text a.fit))) e
 
-named_gets_moves : (g : Sort) (S : List Part) (x : Word) (k : Lexeme) (y : State) (all : List Lexeme) (n : ℕ) → Midway g S (Name n x ∷ Gets ∷ []) Program all → statement_gets_step g S x k ≡ Some y → After g y (all ++ k ∷ [])
+named_gets_moves : (g : Sort) (S : List Part) (x : Word) (k : Lexeme) (y : State) (all : List Lexeme) (n : ℕ)
+    → Midway g S (Name n x ∷ Gets ∷ []) Program all → statement_gets_step g S x k ≡ Some y → After g y (all ++ k ∷ [])
 named_gets_moves g S x (Op Mul) y all n a e = moved g (StartsStar S x) y _ e (n, midway_more g S (Name n x ∷ Gets ∷ []) Program all (Op Mul) a)
 named_gets_moves g S x k y all n a e = value_begin g S x k y all n a e
 
-named_star_moves : (g : Sort) (S : List Part) (x : Word) (k : Lexeme) (y : State) (all : List Lexeme) (n : ℕ) → Midway g S (Name n x ∷ Gets ∷ Op Mul ∷ []) Program all → statement_star_step S x k ≡ Some y → After g y (all ++ k ∷ [])
+named_star_moves : (g : Sort) (S : List Part) (x : Word) (k : Lexeme) (y : State) (all : List Lexeme) (n : ℕ)
+    → Midway g S (Name n x ∷ Gets ∷ Op Mul ∷ []) Program all → statement_star_step S x k ≡ Some y → After g y (all ++ k ∷ [])
 named_star_moves g S x Semi y all n a e =
     moved g (Has S (Is Program (AssignAny x) Done)) y _ e
-    (midway_text g S (Name n x ∷ Gets ∷ Op Mul ∷ []) Program all Semi (Is Program (AssignAny x) Done) a (from_stmt _ _ _ stmt-any) tt (Program, AssignAny x, refl, a.fit))
+    (midway_text g S (Name n x ∷ Gets ∷ Op Mul ∷ []) Program all Semi (Is Program (AssignAny x) Done) a (from_stmt _ _ _ stmt-any) tt
+    (Program, AssignAny x, refl, a.fit))
 named_star_moves g S x _ y all n a e = absurd cc
 
 -- the tokens behind a brace as those of its program

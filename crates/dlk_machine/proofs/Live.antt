@@ -269,8 +269,10 @@ module _ (g : Sort) where
   live (Binds S q) all a = midway_live S _ Formula all (Name 0 [] ∷ True ∷ []) _ a (refl, (refl, tt)) refl (bound_fills q S)
   live (Starts S x) all a = midway_live S _ Program all (Semi ∷ []) _ a.1 (refl, tt) refl (λ f. stmt_fills g S (Name a.0 x ∷ Semi ∷ []) (Const x) f stmt-const)
   live (StartsPrime S x) all a = midway_live S _ Program all (Gets ∷ Number nought ∷ Semi ∷ []) _ a.1 (refl, (refl, (refl, tt))) refl (λ f. stmt_fills g S (Name a.0 x ∷ Prime ∷ Gets ∷ Number nought ∷ Semi ∷ []) (Assign x true (Literal nought)) f (stmt-assign_prime zero_reads))
-  live (StartsGets S x) all a = midway_live S _ Program all (Op Mul ∷ Semi ∷ []) _ a.1 (refl, (refl, tt)) refl (λ f. stmt_fills g S (Name a.0 x ∷ Gets ∷ Op Mul ∷ Semi ∷ []) (AssignAny x) f stmt-any)
-  live (StartsStar S x) all a = midway_live S _ Program all (Semi ∷ []) _ a.1 (refl, tt) refl (λ f. stmt_fills g S (Name a.0 x ∷ Gets ∷ Op Mul ∷ Semi ∷ []) (AssignAny x) f stmt-any)
+  live (StartsGets S x) all a = midway_live S _ Program all (Op Mul ∷ Semi ∷ []) _ a.1 (refl, (refl, tt)) refl
+      (λ f. stmt_fills g S (Name a.0 x ∷ Gets ∷ Op Mul ∷ Semi ∷ []) (AssignAny x) f stmt-any)
+  live (StartsStar S x) all a = midway_live S _ Program all (Semi ∷ []) _ a.1 (refl, tt) refl
+      (λ f. stmt_fills g S (Name a.0 x ∷ Gets ∷ Op Mul ∷ Semi ∷ []) (AssignAny x) f stmt-any)
   live (Opens S n) all a = midway_live S _ Program all (Name 0 [] ∷ CloseBrace ∷ []) _ a (refl, (refl, tt)) refl (items_fill S n (Name 0 [] ∷ []) _ (items-one item-flow))
   live (OpensName S n x) all a = midway_live S _ Program all (CloseBrace ∷ []) _ a.1 (refl, tt) refl (items_fill S n (Name a.0 x ∷ []) _ (items-one item-flow))
   live (OpensPrime S n x) all a = midway_live S _ Program all (Op Equal ∷ Number nought ∷ CloseBrace ∷ []) _ a.1 (refl, (refl, (refl, tt))) refl (items_fill S n (Name a.0 x ∷ Prime ∷ Op Equal ∷ Number nought ∷ []) _ (items-one (item-evolve zero_reads)))

@@ -311,11 +311,13 @@ call_run : (g : Sort) (S : List Part) (n : ℕ) (x : Word) (s rest : List Lexeme
 call_run g S n x [] rest h = absurd h
 call_run g S n x (k ∷ s) rest h = ap (λ (o : Option State). o >>= λ m. arrive g m (s ++ rest)) (call_first g S n x k h)
 
-gets_first : (g : Sort) (S : List Part) (x : Word) (k : Lexeme) → is_other k ≡ true → statement_gets_step g S x k ≡ start_operand g (Inside (Assigns x false) ∷ S) k
+gets_first : (g : Sort) (S : List Part) (x : Word) (k : Lexeme) → is_other k ≡ true
+    → statement_gets_step g S x k ≡ start_operand g (Inside (Assigns x false) ∷ S) k
 gets_first g S x (Op Mul) e = absurd cc
 gets_first g S x _ e = refl
 
-gets_run : (g : Sort) (S : List Part) (x : Word) (s rest : List Lexeme) → First false s → arrive g (StartsGets S x) (s ++ rest) ≡ arrive g (Wants (Inside (Assigns x false) ∷ S)) (s ++ rest)
+gets_run : (g : Sort) (S : List Part) (x : Word) (s rest : List Lexeme) → First false s
+    → arrive g (StartsGets S x) (s ++ rest) ≡ arrive g (Wants (Inside (Assigns x false) ∷ S)) (s ++ rest)
 gets_run g S x [] rest h = absurd h
 gets_run g S x (k ∷ s) rest h = ap (λ (o : Option State). o >>= λ m. arrive g m (s ++ rest)) (gets_first g S x k h)
 
@@ -456,7 +458,8 @@ statement : (g : Sort) (S : List Part) (q s : List Lexeme) (h : Holder) (n : Non
     → ((rest : List Lexeme) → arrive g (Wants (Inside h ∷ S)) (s ++ (Semi ∷ rest)) ≡ arrive g (Has S (Is Program t Done)) rest) → Ends g S (q ++ (s ++ Semi ∷ [])) stmt t
 statement g S q s h n a t f begins x ends =
     single g S (q ++ (s ++ Semi ∷ [])) stmt t (Is Program t Done)
-    (λ rest. ap (arrive g (Wants S)) (append_assoc q (s ++ Semi ∷ []) rest ∙ ap (λ (z : List Lexeme). q ++ z) (append_assoc s (Semi ∷ []) rest)) ∙ begins (Semi ∷ rest) ∙ ends rest)
+    (λ rest. ap (arrive g (Wants S)) (append_assoc q (s ++ Semi ∷ []) rest ∙ ap (λ (z : List Lexeme). q ++ z) (append_assoc s (Semi ∷ []) rest))
+    ∙ begins (Semi ∷ rest) ∙ ends rest)
     refl refl
 
 -- a box or a diamond
@@ -660,16 +663,20 @@ mutual
   only (stmt-const {n = n} {x = x}) g S l f = single g S _ stmt _ (Is Program (Const x) Done) (λ rest. go g (Wants S) (Name n x) (Semi ∷ rest) (Starts S x) (statement_wanted g S (Name n x) f)) refl refl
   only (stmt-assign {n = n} {x = x} {s = s} {a = a} d) g S l f =
       let z = only d g (Inside (Assigns x false) ∷ S) (omega arith) refl in
-      statement g S (Name n x ∷ Gets ∷ []) s (Assigns x false) term a (Assign x false a) f (λ rest. go g (Wants S) (Name n x) (Gets ∷ (s ++ rest)) (Starts S x) (statement_wanted g S (Name n x) f) ∙ gets_run g S x s rest (first d)) z
+      statement g S (Name n x ∷ Gets ∷ []) s (Assigns x false) term a (Assign x false a) f
+      (λ rest. go g (Wants S) (Name n x) (Gets ∷ (s ++ rest)) (Starts S x) (statement_wanted g S (Name n x) f) ∙ gets_run g S x s rest (first d)) z
       (held g S (Assigns x false) s term a Semi (Has S (Is Program (Assign x false a) Done)) z (other_step g (z.parts ++ Inside (Assigns x false) ∷ S) z.last Semi z.kind) (rw z.tree refl))
   only (stmt-assign_prime {n = n} {x = x} {s = s} {a = a} d) g S l f =
       let z = only d g (Inside (Assigns x true) ∷ S) (omega arith) refl in
-      statement g S (Name n x ∷ Prime ∷ Gets ∷ []) s (Assigns x true) term a (Assign x true a) f (λ rest. go g (Wants S) (Name n x) (Prime ∷ Gets ∷ (s ++ rest)) (Starts S x) (statement_wanted g S (Name n x) f)) z
+      statement g S (Name n x ∷ Prime ∷ Gets ∷ []) s (Assigns x true) term a (Assign x true a) f
+      (λ rest. go g (Wants S) (Name n x) (Prime ∷ Gets ∷ (s ++ rest)) (Starts S x) (statement_wanted g S (Name n x) f)) z
       (held g S (Assigns x true) s term a Semi (Has S (Is Program (Assign x true a) Done)) z (other_step g (z.parts ++ Inside (Assigns x true) ∷ S) z.last Semi z.kind) (rw z.tree refl))
-  only (stmt-any {n = n} {x = x}) g S l f = single g S _ stmt _ (Is Program (AssignAny x) Done) (λ rest. go g (Wants S) (Name n x) (Gets ∷ Op Mul ∷ Semi ∷ rest) (Starts S x) (statement_wanted g S (Name n x) f)) refl refl
+  only (stmt-any {n = n} {x = x}) g S l f = single g S _ stmt _ (Is Program (AssignAny x) Done)
+      (λ rest. go g (Wants S) (Name n x) (Gets ∷ Op Mul ∷ Semi ∷ rest) (Starts S x) (statement_wanted g S (Name n x) f)) refl refl
   only (stmt-test {s = s} {a = a} d) g S l f =
       let z = only d g (Inside Tests ∷ S) (omega arith) refl in
-      statement g S (Query ∷ []) s Tests formula a (Test a) f (λ rest. go g (Wants S) Query (s ++ rest) (Wants (Inside Tests ∷ S)) (statement_wanted g S Query f)) z
+      statement g S (Query ∷ []) s Tests formula a (Test a) f
+      (λ rest. go g (Wants S) Query (s ++ rest) (Wants (Inside Tests ∷ S)) (statement_wanted g S Query f)) z
       (held g S Tests s formula a Semi (Has S (Is Program (Test a) Done)) z (other_step g (z.parts ++ Inside Tests ∷ S) z.last Semi z.kind) (rw z.tree refl))
   only (stmt-group {s = s} {q = q} {i = i} {e = e} {a = a} {b = b} {c = c} d star inv semi) g S l f =
       let x = star_ends star g S in
