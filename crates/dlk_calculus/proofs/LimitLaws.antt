@@ -14,7 +14,8 @@ use Rattle.dlk_calculus.specs.Places.{put_all}
 use Rattle.dlk_calculus.specs.Sequents.{Sequent, alone_right}
 use Rattle.dlk_calculus.specs.Rules.{Rule}
 use Rattle.dlk_calculus.specs.Provables.{Provable, SubstEach, SubstSequent, SubstSequents, swap_sequent}
-use Rattle.dlk_calculus.specs.Limits.{most_nodes, greatest_depth, most_formulas, most_goals, most_leaves, most_rows, IsSmall, IsShallow, InSequent, InProvable, HasFewFormulas, IsLimitedSequent, IsLimited}
+use Rattle.dlk_calculus.specs.Limits.{most_nodes, greatest_depth, most_formulas, most_goals, most_leaves, most_rows, IsSmall, IsShallow}
+use Rattle.dlk_calculus.specs.Limited.{InSequent, InProvable, HasFewFormulas, IsLimitedSequent, IsLimited}
 use Rattle.dlk_calculus.specs.Steps.{Step, Start, UseAxiom, UseRule, Leaf, Apply, Merge, Substitute, Rename, IsProper, Gives, EachNew, Exceeds, too_big, too_deep, start_full, leaf_full, side_full, goals_applied, goals_merged, leaves_merged, IsWithin, Against, against_rule, past_limit, rows_full, Fault, StepOf}
 use Rattle.dlk_calculus.proofs.PlaceLaws.{At_All}
 use Rattle.dlk_calculus.proofs.Decide.{both}

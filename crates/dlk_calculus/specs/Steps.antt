@@ -11,7 +11,8 @@ use Rattle.dlk_calculus.specs.Pairs.{Pair, IsFreeIn, IsWellFormed, AreWellMade}
 use Rattle.dlk_calculus.specs.Places.{At, IsPlace}
 use Rattle.dlk_calculus.specs.Sequents.{Sequent, IsSequent}
 use Rattle.dlk_calculus.specs.Rules.{Rule, Premises, RuleAgainst}
-use Rattle.dlk_calculus.specs.Limits.{most_goals, most_leaves, most_rows, IsSmall, IsShallow, InProvable, HasFewFormulas}
+use Rattle.dlk_calculus.specs.Limits.{most_goals, most_leaves, most_rows, IsSmall, IsShallow}
+use Rattle.dlk_calculus.specs.Limited.{InProvable, HasFewFormulas}
 use Rattle.dlk_calculus.specs.Provables.{Provable, started, known, inferred, assumed, applied, AreNew, merged, HasGoal, Substitutes, renamed}
 
 -- Derives p: p is derived by the rules of the calculus. One case a rule. The goal that a rule or a fact replaces stands between others.

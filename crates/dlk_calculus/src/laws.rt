@@ -11,7 +11,8 @@ ghost use Rattle.dlk_calculus.specs.Axioms.{Axiom, AxiomaticRule, axioms, axioma
 ghost use Rattle.dlk_calculus.specs.Sequents.{IsFormula};
 ghost use Rattle.dlk_calculus.specs.Provables.{Provable, HasFormulas, HasLeaves};
 ghost use Rattle.dlk_calculus.specs.Reasons.{IsOfCalculus};
-ghost use Rattle.dlk_calculus.specs.Limits.{IsLimited, most_rows};
+ghost use Rattle.dlk_calculus.specs.Limits.{most_rows};
+ghost use Rattle.dlk_calculus.specs.Limited.{IsLimited};
 ghost use Rattle.dlk_calculus.specs.Steps.{Step, IsProper, Gives, IsWithin, Against, History, Derives, Fault, StepOf};
 
 /// A replacement has at most one result with given arguments.

@@ -8,7 +8,8 @@ use Rattle.dlk_tree.specs.Trees.{Tree}
 use Rattle.dlk_store.specs.Stores.{Keeps}
 use Rattle.dlk_calculus.specs.Provables.{HasFormulas}
 use Rattle.dlk_calculus.specs.declared.reason.Reason.TheVariants.{LinesFull}
-use Rattle.dlk_calculus.specs.Limits.{IsLimited, most_rows}
+use Rattle.dlk_calculus.specs.Limits.{most_rows}
+use Rattle.dlk_calculus.specs.Limited.{IsLimited}
 use Rattle.dlk_calculus.specs.Steps.{Step, Gives, IsWithin, History, Derives, Fault, StepOf, Adds}
 use Rattle.dlk_calculus.proofs.LimitLaws.{StepOf-within, step_limited, rows_fault}
 use Rattle.dlk_calculus.proofs.Histories.{History-derives, History-more, History-take}

@@ -9,7 +9,8 @@ use Rattle.dlk_calculus.specs.Arithmetic.{is_arithmetic_sequent}
 use Rattle.dlk_calculus.specs.Sequents.{IsSequent, Sequent as TreeSequent}
 use Rattle.dlk_calculus.specs.Rules.{Rule, Premises}
 use Rattle.dlk_calculus.specs.Pairs.{Pair as TreePair}
-use Rattle.dlk_calculus.specs.Limits.{IsLimited, most_goals, most_leaves}
+use Rattle.dlk_calculus.specs.Limits.{most_goals, most_leaves}
+use Rattle.dlk_calculus.specs.Limited.{IsLimited}
 use Rattle.dlk_calculus.specs.Provables.{Provable, started, assumed, applied, AreNew, merged}
 use Rattle.dlk_calculus.specs.Steps.{Start, Leaf, Apply, Merge, Substitute, Gives, start, leaf, apply, merge, goals_applied, IsWithin, Fault}
 use Rattle.std.specs.Prelude.{IsTrue}

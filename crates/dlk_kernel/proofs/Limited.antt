@@ -8,7 +8,8 @@ use Rattle.dlk_calculus.specs.Places.{put_all}
 use Rattle.dlk_calculus.specs.Rules.{Rule}
 use Rattle.dlk_calculus.specs.Sequents.{Sequent}
 use Rattle.dlk_calculus.specs.Provables.{Provable, started, assumed, applied}
-use Rattle.dlk_calculus.specs.Limits.{most_goals, most_leaves, IsSmall, IsShallow, InSequent, HasFewFormulas, IsLimitedSequent, IsLimited}
+use Rattle.dlk_calculus.specs.Limits.{most_goals, most_leaves, IsSmall, IsShallow}
+use Rattle.dlk_calculus.specs.Limited.{InSequent, HasFewFormulas, IsLimitedSequent, IsLimited}
 use Rattle.dlk_calculus.specs.Pairs.{Pair}
 use Rattle.dlk_calculus.specs.Steps.{Step, Start, UseAxiom, UseRule, Leaf, Apply, Merge, Substitute, Rename, Gives, EachNew, Exceeds, too_big, too_deep, start_full, leaf_full, side_full, goals_merged, leaves_merged, IsWithin, Fault}
 use Rattle.dlk_calculus.proofs.PlaceLaws.{All-front, All-behind}

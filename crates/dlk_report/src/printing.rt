@@ -34,12 +34,7 @@ fn append_count(out: &mut Vec<u8>, name: &[u8], count: usize) -> Result<(), Prin
 }
 
 /// Appends a line of a name, a number and a text, with spaces between.
-fn append_item(
-    out: &mut Vec<u8>,
-    name: &[u8],
-    number: usize,
-    text: &[u8],
-) -> Result<(), PrintFault>
+fn append_item(out: &mut Vec<u8>, name: &[u8], number: usize, text: &[u8]) -> Result<(), PrintFault>
     ensures { OnOk result (out.new.items ≡ out.old.items ++ line (name.now ++ codes " " ++ decimal number ++ codes " " ++ text.now)) }
 {
     append(out, name)?;

@@ -1,7 +1,7 @@
 //! A rule on a goal: the rule's premises stand in its place.
 ghost use Rattle.std.specs.Prelude.{All, IfOk, IfErr};
 ghost use Rattle.dlk_calculus.specs.Provables.{HasFormulas};
-ghost use Rattle.dlk_calculus.specs.Limits.{IsLimited};
+ghost use Rattle.dlk_calculus.specs.Limited.{IsLimited};
 ghost use Rattle.dlk_calculus.specs.Steps.{Apply, Gives, IsWithin, Fault};
 ghost use Rattle.dlk_rules.specs.Steps.{rule_at, RuleIsKnown};
 ghost use Rattle.dlk_kernel.specs.Faults.{IsStepFault};

@@ -1,7 +1,7 @@
 //! The steps of the calculus, a file for each, and the row that one gives.
 ghost use Rattle.std.specs.Prelude.{All, IfOk, IfErr};
 ghost use Rattle.dlk_calculus.specs.Provables.{HasFormulas};
-ghost use Rattle.dlk_calculus.specs.Limits.{IsLimited};
+ghost use Rattle.dlk_calculus.specs.Limited.{IsLimited};
 ghost use Rattle.dlk_calculus.specs.Steps.{Gives, IsWithin, Fault};
 ghost use Rattle.dlk_rules.specs.Steps.{step_at, HasKnownIds};
 ghost use Rattle.dlk_kernel.specs.Faults.{IsStepFault};
