@@ -43,6 +43,6 @@ pub own_names_are_names : (name : List ℕ) (a : Axiom) (row : AxiomRow) → axi
     All (λ (word : Bor (List ℕ)). IsTrue (is_name word.now)) row.own_names.now
 own_names_are_names name a row e same =
     let names : list_all is_name a.own_names ≡ true =
-          found_passes (λ (x : Axiom). list_all is_name x.own_names) (λ (x : Axiom). bytes_eq x.name name) axioms a refl e in
+    found_passes (λ (x : Axiom). list_all is_name x.own_names) (λ (x : Axiom). bytes_eq x.name name) axioms a refl e in
     AllPass-from_list_all (λ (word : Bor (List ℕ)). is_name word.now) row.own_names.now
     (sym (list_all-map is_name (λ (word : Bor (List ℕ)). word.now) row.own_names.now) ∙ ap (λ (x : Axiom). list_all is_name x.own_names) same ∙ names)

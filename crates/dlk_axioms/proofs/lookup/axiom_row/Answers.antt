@@ -13,11 +13,11 @@ returns c =
     let loops = found name c.loop_rows.result.now loop_axioms c.loop_rows.ensures c.axiom_among-2.result c.axiom_among-2.ensures in
     let odes = found name c.ode_rows.result.now ode_axioms c.ode_rows.ensures c.axiom_among-3.result c.axiom_among-3.ensures in
     let in_terms =
-          found name c.term_differential_rows.result.now terms c.term_differential_rows.ensures c.axiom_among-4.result c.axiom_among-4.ensures in
+    found name c.term_differential_rows.result.now terms c.term_differential_rows.ensures c.axiom_among-4.result c.axiom_among-4.ensures in
     let in_formulas =
-          found name c.formula_differential_rows.result.now formulas c.formula_differential_rows.ensures c.axiom_among-5.result c.axiom_among-5.ensures in
+    found name c.formula_differential_rows.result.now formulas c.formula_differential_rows.ensures c.axiom_among-5.result c.axiom_among-5.ensures in
     let first_order =
-          found name c.first_order_rows.result.now first_order_axioms c.first_order_rows.ensures c.axiom_among-6.result c.axiom_among-6.ensures in
+    found name c.first_order_rows.result.now first_order_axioms c.first_order_rows.ensures c.axiom_among-6.result c.axiom_among-6.ensures in
     let equality = found name c.equality_rows.result.now equality_axioms c.equality_rows.ensures c.axiom_among-7.result c.axiom_among-7.ensures in
     let two = found_either name box_axioms loop_axioms among c.axiom_among-2.result c.or.result c.or.ensures boxes loops in
     let three = found_either name to_loops ode_axioms c.or.result c.axiom_among-3.result c.or-2.result c.or-2.ensures two odes in
