@@ -2,10 +2,8 @@
 use Rattle.std.proofs.Common.{◌≡◌, List, [], ◌∷◌, sym, ap, subst, ◌∙◌}
 use Rattle.std.proofs.lemmas.List.Elements.{All-nil, All-cons}
 use Rattle.dlk_tree.specs.Trees.{Tree}
-use Rattle.dlk_store.specs.declared.Id.{Id}
-use Rattle.dlk_store.specs.Stores.{IsId, StandsFor, Keeps}
+use Rattle.dlk_store.specs.Stores.{Keeps}
 use Rattle.dlk_calculus.specs.Axioms.{AxiomaticRule}
-use Rattle.dlk_calculus.specs.Sequents.{alone_right}
 use Rattle.dlk_sequent.specs.declared.sequent.Sequent.{Sequent}
 use Rattle.dlk_sequent.specs.Sequents.{IsKnown}
 use Rattle.dlk_sequent.proofs.Kept.{sequent-kept, IsKnown-kept}

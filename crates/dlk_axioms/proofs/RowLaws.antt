@@ -39,8 +39,10 @@ module _ (name : List ℕ) (r : AxiomaticRule) (row : RuleRow) (e : rule_named n
   conclusion_made = subst WellMade (sym (ap (λ (x : AxiomaticRule). x.conclusion) same)) (rule_formulas name r e).1.well_made
 
 -- the own names of an axiom's row are names
-pub own_names_are_names : (name : List ℕ) (a : Axiom) (row : AxiomRow) → axiom_named name ≡ Some a → said row ≡ a → All (λ (word : Bor (List ℕ)). IsTrue (is_name word.now)) row.own_names.now
+pub own_names_are_names : (name : List ℕ) (a : Axiom) (row : AxiomRow) → axiom_named name ≡ Some a → said row ≡ a →
+    All (λ (word : Bor (List ℕ)). IsTrue (is_name word.now)) row.own_names.now
 own_names_are_names name a row e same =
-    let names : list_all is_name a.own_names ≡ true = found_passes (λ (x : Axiom). list_all is_name x.own_names) (λ (x : Axiom). bytes_eq x.name name) axioms a refl e in
+    let names : list_all is_name a.own_names ≡ true =
+    found_passes (λ (x : Axiom). list_all is_name x.own_names) (λ (x : Axiom). bytes_eq x.name name) axioms a refl e in
     AllPass-from_list_all (λ (word : Bor (List ℕ)). is_name word.now) row.own_names.now
     (sym (list_all-map is_name (λ (word : Bor (List ℕ)). word.now) row.own_names.now) ∙ ap (λ (x : Axiom). list_all is_name x.own_names) same ∙ names)

@@ -1,7 +1,8 @@
 //! The rows of the tables, by their names.
 ghost use Rattle.std.specs.Prelude.{◌≡◌, find, map, take, drop, option_copied};
 ghost use Rattle.std.specs.Str.{bytes_eq};
-ghost use Rattle.dlk_calculus.specs.Axioms.{Axiom, AxiomaticRule, box_axioms, loop_axioms, ode_axioms, differential_axioms, first_order_axioms, equality_axioms, axiom_named, axiomatic_rules, rule_named};
+ghost use Rattle.dlk_calculus.specs.Axioms.{Axiom, box_axioms, loop_axioms, ode_axioms, differential_axioms, first_order_axioms, equality_axioms, axiom_named};
+ghost use Rattle.dlk_calculus.specs.Axioms.{AxiomaticRule, axiomatic_rules, rule_named};
 ghost use Rattle.dlk_axioms.specs.Answers.{Finds};
 ghost use Rattle.dlk_axioms.specs.Rows.{said, said_of_rule};
 
