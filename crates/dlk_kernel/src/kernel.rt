@@ -38,7 +38,8 @@ impl<S: Store> Kernel<S> {
     ghost use Rattle.dlk_calculus.specs.Places.{at, IsPlace};
     ghost use Rattle.dlk_calculus.specs.Sequents.{IsSequent};
     ghost use Rattle.dlk_calculus.specs.Provables.{HasFormulas, HasLeaves};
-    ghost use Rattle.dlk_calculus.specs.Limits.{IsLimited, IsLimitedSequent, most_rows};
+    ghost use Rattle.dlk_calculus.specs.Limits.{most_rows};
+    ghost use Rattle.dlk_calculus.specs.Limited.{IsLimited, IsLimitedSequent};
     ghost use Rattle.dlk_calculus.specs.Steps.{Derives, Adds, Fault};
     ghost use Rattle.dlk_sequent.specs.Sequents.{sequent_at, IsKnown};
     ghost use Rattle.dlk_rules.specs.Steps.{step_at, HasKnownIds};
