@@ -1,11 +1,11 @@
 -- The answer to what was read is the answer to the files.
 use Rattle.std.proofs.Common.{◌≡◌, ℕ, List, length, Some, IsSome, refl, subst, ◌∙◌, rules}
 use Rattle.dlk_desk.specs.Outside.{Files}
-use Rattle.dlk.specs.Forms.{Word, command_of, limits_of, inputs_of}
-use Rattle.dlk.specs.Inputs.{first_too_long, cut_bytes_of, bytes_of, inputs}
-use Rattle.dlk.specs.Replies.{Reply}
+use Rattle.dlk_answers.specs.Forms.{Word, command_of, limits_of, inputs_of}
+use Rattle.dlk_answers.specs.Inputs.{first_too_long, cut_bytes_of, bytes_of, inputs}
+use Rattle.dlk_answers.specs.Replies.{Reply}
 use Rattle.dlk.specs.Answers.{Does, Responds, refuses, does, Answers, command}
-use Rattle.dlk.specs.declared.command.Command.{Command}
+use Rattle.dlk_answers.specs.declared.command.Command.{Command}
 use Rattle.dlk.proofs.Cut.{Alike, are_read}
 
 -- the answer to inputs that are cut past their limits is that to the whole ones

@@ -4,7 +4,7 @@ use Rattle.std.proofs.lemmas.List.{take_more, take-map, length-map, get_or-map}
 use Rattle.std.specs.declared.alloc.Global.{Global}
 use Rattle.dlk_desk.specs.Memory.{names_of}
 use Rattle.dlk_transfer.specs.Transfer.{GrowsByFront}
-use Rattle.dlk.specs.Forms.{Word}
+use Rattle.dlk_answers.specs.Forms.{Word}
 
 take_one : (k : ℕ) (w : Word) → take (suc k) (w ∷ []) ≡ w ∷ []
 take_one zero w = refl

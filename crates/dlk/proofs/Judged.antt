@@ -7,17 +7,17 @@ use Rattle.dlk_calculus.specs.Sequents.{Sequent}
 use Rattle.dlk_calculus.specs.Provables.{Provable}
 use Rattle.dlk_desk.specs.Outside.{Outside}
 use Rattle.dlk_report.specs.Reports.{is_closed}
-use Rattle.dlk.specs.Forms.{Word, inputs_of, limits_of, limit_of}
-use Rattle.dlk.specs.Inputs.{first_too_long}
-use Rattle.dlk.specs.declared.command.Command.{Command}
-use Rattle.dlk.specs.declared.reply.Layout.{Layout}
-use Rattle.dlk.specs.declared.reply.Layout.TheVariants.{Text, Json}
-use Rattle.dlk.specs.declared.command.Role.TheVariants.{Model, Term}
-use Rattle.dlk.specs.Replies.{Reply, code_of}
-use Rattle.dlk.specs.Checks.{Checks, bad_model, bad_line, bad_conclusion, reports, Accepts, ModelText, proves, status_of, line_refused, other_conclusion, reported}
+use Rattle.dlk_answers.specs.Forms.{Word, inputs_of, limits_of, limit_of}
+use Rattle.dlk_answers.specs.Inputs.{first_too_long}
+use Rattle.dlk_answers.specs.declared.command.Command.{Command}
+use Rattle.dlk_answers.specs.declared.reply.Layout.{Layout}
+use Rattle.dlk_answers.specs.declared.reply.Layout.TheVariants.{Text, Json}
+use Rattle.dlk_answers.specs.declared.command.Role.TheVariants.{Model, Term}
+use Rattle.dlk_answers.specs.Replies.{Reply, code_of}
+use Rattle.dlk_answers.specs.Checks.{Checks, bad_model, bad_line, bad_conclusion, reports, Accepts, ModelText, proves, status_of, line_refused, other_conclusion, reported}
 use Rattle.dlk.specs.Answers.{Does, check, print, vars, substitute, report, Responds, refuses, does, Answers, no_form, command}
 use Rattle.dlk.specs.Headline.{command_in, RunsCheck, IsReported, Judges, JudgesTruly}
-use Rattle.dlk.proofs.OneReply.{one_check, one_model, model_or_fault}
+use Rattle.dlk_answers.proofs.OneReply.{one_check, one_model, model_or_fault}
 use Rattle.dlk.proofs.Truly.{accepted_derived}
 
 closed_or_open : (b : Bool) → code_of (status_of b) < 2

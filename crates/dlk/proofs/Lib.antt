@@ -1,16 +1,6 @@
-pub mod Fits
 pub mod Asked
 pub mod Cut
 pub mod Answered
-pub mod JobTexts
-pub mod TextAnswers
-pub mod PrintAnswers
-pub mod ListTexts
-pub mod ListAnswers
-pub mod SubstAnswers
-pub mod OneSubstitution
-pub mod OneReply
-pub mod ConclusionText
-pub mod Judging
+pub mod OneAnswer
 pub mod Truly
 pub mod Judged

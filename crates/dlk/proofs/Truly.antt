@@ -11,14 +11,14 @@ use Rattle.dlk_grammar.specs.Texts.{TextFault, BadByte, Unread}
 use Rattle.dlk_replay.specs.Files.{file_lines}
 use Rattle.dlk_replay.proofs.Verdicts.{accepted_history}
 use Rattle.dlk_report.specs.Reports.{is_closed, line, first_word}
-use Rattle.dlk.specs.Forms.{Word}
-use Rattle.dlk.specs.declared.command.Command.{Command}
-use Rattle.dlk.specs.declared.command.Command.TheVariants.{Check}
-use Rattle.dlk.specs.Replies.{Reply}
-use Rattle.dlk.specs.declared.reply.Layout.TheVariants.{Text}
-use Rattle.dlk.specs.declared.command.Role.TheVariants.{Model}
-use Rattle.dlk.specs.Refusals.{text_refused}
-use Rattle.dlk.specs.Checks.{Checks, bad_model, bad_line, bad_conclusion, reports, Accepts}
+use Rattle.dlk_answers.specs.Forms.{Word}
+use Rattle.dlk_answers.specs.declared.command.Command.{Command}
+use Rattle.dlk_answers.specs.declared.command.Command.TheVariants.{Check}
+use Rattle.dlk_answers.specs.Replies.{Reply}
+use Rattle.dlk_answers.specs.declared.reply.Layout.TheVariants.{Text}
+use Rattle.dlk_answers.specs.declared.command.Role.TheVariants.{Model}
+use Rattle.dlk_answers.specs.Refusals.{text_refused}
+use Rattle.dlk_answers.specs.Checks.{Checks, bad_model, bad_line, bad_conclusion, reports, Accepts}
 use Rattle.dlk.specs.Answers.{Does, check, Responds, refuses, does, Answers, no_form, command}
 use Rattle.dlk.specs.Headline.{RunsCheck, IsDerived, ClosedTruly}
 

@@ -4,13 +4,13 @@ ghost use Rattle.dlk_desk.specs.Outside.{Rose};
 ghost use Rattle.dlk_desk.specs.Desk.{OnlyReads, OnlyWrites};
 ghost use Rattle.dlk_transfer.specs.Transfer.{GrowsByFront};
 ghost use Rattle.dlk_transfer.specs.declared.transfer.ReadError.TheVariants.{Fault};
-ghost use Rattle.dlk.specs.Forms.{command_of};
-ghost use Rattle.dlk.specs.Inputs.{cut_bytes_of, inputs as inputs_named};
-ghost use Rattle.dlk.specs.Replies.{code_of};
+ghost use Rattle.dlk_answers.specs.Forms.{command_of};
+ghost use Rattle.dlk_answers.specs.Inputs.{cut_bytes_of, inputs as inputs_named};
+ghost use Rattle.dlk_answers.specs.Replies.{code_of};
 ghost use Rattle.dlk.specs.Answers.{Answers};
 ghost use Rattle.dlk.specs.Runs.{Caused, Asks, KeepsFiles, HasInputs, Answered, Completes};
 ghost use Rattle.dlk.specs.Headline.{ClosedTruly, JudgesTruly};
-ghost use Rattle.dlk.specs.Shown.{texts_of, reply_of};
+ghost use Rattle.dlk_answers.specs.Shown.{texts_of, reply_of};
 
 use crate::answer::{respond, words_refused};
 use crate::command::Command;

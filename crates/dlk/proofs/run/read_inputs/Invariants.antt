@@ -1,8 +1,8 @@
 use Rattle.std.proofs.Common.{◌≡◌, ◌++◌, length, take, drop, option_map}
 use Rattle.dlk_desk.specs.Desk.{OnlyReads}
 use Rattle.dlk_desk.specs.Memory.{names_of}
-use Rattle.dlk.specs.Inputs.{cut_bytes_of}
-use Rattle.dlk.specs.Shown.{texts_of}
+use Rattle.dlk_answers.specs.Inputs.{cut_bytes_of}
+use Rattle.dlk_answers.specs.Shown.{texts_of}
 use Rattle.dlk.proofs.run.read_inputs.Given as goal
 
 abbrev pub invariant-loop-i : goal.invariant-loop-i

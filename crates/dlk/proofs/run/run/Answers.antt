@@ -1,5 +1,5 @@
 use Rattle.std.proofs.Common.{rules, map, string_bytes}
-use Rattle.dlk.specs.Shown.{reply_of}
+use Rattle.dlk_answers.specs.Shown.{reply_of}
 use Rattle.dlk.proofs.Truly.{reply_truly}
 use Rattle.dlk.proofs.Judged.{answer_judges}
 use Rattle.dlk.proofs.run.run.Goals as goal

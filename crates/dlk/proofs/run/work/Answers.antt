@@ -1,7 +1,7 @@
 use Rattle.std.proofs.Common.{sym, subst, map, string_bytes, rules}
-use Rattle.dlk.specs.Replies.{Reply}
+use Rattle.dlk_answers.specs.Replies.{Reply}
 use Rattle.dlk.specs.Answers.{Answers, no_form}
-use Rattle.dlk.specs.Shown.{texts_of, reply_of}
+use Rattle.dlk_answers.specs.Shown.{texts_of, reply_of}
 use Rattle.dlk.proofs.Answered.{answered, have_inputs}
 use Rattle.dlk.proofs.run.work.Goals as goal
 

@@ -1,0 +1,10 @@
+pub mod Forms
+pub mod Replies
+pub mod Inputs
+pub mod Refusals
+pub mod Checks
+pub mod Prints
+pub mod Lists
+pub mod Substitutes
+pub mod Answers
+pub mod Shown
