@@ -5,8 +5,9 @@ use Rattle.std.proofs.lemmas.List.{length-take, take_all}
 use Rattle.std.proofs.lemmas.Bool.Decides.{nat_tests}
 use Rattle.dlk_desk.specs.Outside.{Files}
 use Rattle.dlk_answers.specs.Forms.{Word}
-use Rattle.dlk_answers.specs.Inputs.{first_too_long, bytes_of}
-use Rattle.dlk_answers.specs.Inputs.{cut_bytes_of}
+use Rattle.dlk_answers.specs.Inputs.{first_too_long}
+use Rattle.dlk.specs.Answers.{bytes_of}
+use Rattle.dlk.specs.Cuts.{cut_bytes_of}
 
 -- the same inputs are too long, and where none is, they are the same
 pub record Alike (names : List Word) (limits : List ℕ) (cuts whole : List (List ℕ)) : Type 0 where

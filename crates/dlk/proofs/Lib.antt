@@ -2,5 +2,6 @@ pub mod Asked
 pub mod Cut
 pub mod Answered
 pub mod OneAnswer
+pub mod Given
 pub mod Truly
 pub mod Judged

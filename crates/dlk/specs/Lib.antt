@@ -2,4 +2,5 @@ pub mod Answers
 pub mod Outputs
 pub mod Runs
 pub mod Headline
+pub mod Cuts
 pub mod NoAnswers

@@ -18,10 +18,9 @@ pub record Caused (words : List Word) (status : ℕ) (old new : Outside) : Type 
   pub read_fault : status ≡ 4 → Rose old.read_faults new.read_faults
   pub write_fault : status ≡ 5 → Rose old.write_faults new.write_faults
 
--- These inputs were asked for in their order, the first `count` of them. Of the last of those at most one byte past its limit was taken.
--- What was taken of an earlier one can't be seen, since a desk tells only what is left of the file being read.
-pub record AsksFor (tells : Type 0) (names : List Word) (limits : List ℕ) (old new : Outside) : Type 0 where
-  pub count : ℕ
+-- The first `count` of these inputs were asked for, in their order. Of the last of those at most one byte past its limit was taken. What
+-- was taken of an earlier one can't be seen, since a desk tells only what is left of the file being read.
+pub record AsksFor (tells : Type 0) (names : List Word) (limits : List ℕ) (count : ℕ) (old new : Outside) : Type 0 where
   pub within : count ≤ length names
   pub asked : new.asked ≡ old.asked ++ take count names
   pub none : tells → count ≡ 0 → new.left ≡ old.left
@@ -29,7 +28,8 @@ pub record AsksFor (tells : Type 0) (names : List Word) (limits : List ℕ) (old
 
 -- On every desk: what is asked for are the inputs of the words in their order, all of them where an answer is given.
 pub record Asks (tells : Type 0) (words : List Word) (status : ℕ) (old new : Outside) : Type 0 where
-  pub inputs_only : AsksFor tells (inputs words) (limits words) old new
+  pub count : ℕ
+  pub inputs_only : AsksFor tells (inputs words) (limits words) count old new
   pub all : IsSome (command_of words) → status < 3 → new.asked ≡ old.asked ++ inputs words
 
 -- no write was started, and no file has changed

@@ -3,7 +3,6 @@ ghost use Rattle.std.specs.Prelude.{◌≡◌, ℕ, List};
 ghost use Rattle.dlk_desk.specs.Outside.{Files};
 ghost use Rattle.dlk_answers.specs.Forms.{Word};
 ghost use Rattle.dlk_answers.specs.Replies.{Reply as TheReply};
-ghost use Rattle.dlk_answers.specs.Checks.{Checks};
 ghost use Rattle.dlk.specs.Answers.{Answers};
 
 /// There is one answer to words and files.

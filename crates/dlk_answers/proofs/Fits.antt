@@ -1,10 +1,11 @@
 -- Words that have a form are as many as it has.
-use Rattle.std.proofs.Common.{◌≡◌, ℕ, ◌+◌, ◌-◌, ◌≤◌, Bool, true, false, cond, List, [], ◌∷◌, length, map, take, drop, Some, find, String, string_bytes, refl, sym, ap, ◌∙◌, arith}
-use Rattle.std.proofs.lemmas.List.{length-map, take-map}
+use Rattle.std.proofs.Common.{◌≡◌, ℕ, ◌+◌, ◌-◌, ◌≤◌, Bool, true, false, cond, List, [], ◌∷◌, length, map, take, drop, Some, IsTrue, find, String, string_bytes, refl, sym, ap, ◌∙◌, arith, bytes_eq}
+use Rattle.std.specs.Prelude.{◌&&◌, nat_le}
+use Rattle.std.proofs.lemmas.List.{length-map, take-map, take_rest}
 use Rattle.std.specs.List.{drop-map}
-use Rattle.std.proofs.lemmas.Bool.Decides.{nat_tests}
+use Rattle.std.proofs.lemmas.Bool.{and_parts, leb-true}
 use Rattle.std.specs.declared.alloc.Global.{Global}
-use Rattle.dlk_answers.specs.Forms.{has_form, roles_of, limits_of, inputs_of, command_of, commands, limit_of}
+use Rattle.dlk_answers.specs.Forms.{Form, form_of, ends_in, has_form, limits_of, inputs_of, others_of, command_of, commands, limit_of}
 use Rattle.dlk_answers.specs.declared.command.Command.{Command}
 
 -- what is found passes
@@ -16,21 +17,32 @@ found_passes p (y ∷ ys) x h = by_test (p y) refl h (found_passes p ys x)
     by_test true e h rec = let same : y ≡ x = cc in cc
     by_test false e h rec = rec h
 
-long_form : (words : List (List ℕ)) (command : Command) → has_form words command ≡ true → 1 + length (roles_of command) ≤ length words
-long_form [] command h = absurd (cc)
-long_form (verb ∷ rest) command h = grind (arith, nat_tests, h)
+-- the words behind the verb
+record Behind (words : List (List ℕ)) (form : Form) : Type 0 where
+  room : 1 + length form.inputs ≤ length words
+  ends : IsTrue (ends_in form.last (drop (length form.inputs) (drop 1 words)))
 
-pub long_enough : (words : List (List ℕ)) (command : Command) → command_of words ≡ Some command → 1 + length (limits_of command) ≤ length words
-long_enough words command h =
-    let form = long_form words command (found_passes (has_form words) commands command h) in
-    omega (arith, form, length-map (roles_of command) limit_of)
+behind : (words : List (List ℕ)) (form : Form) → has_form words form ≡ true → Behind words form
+behind [] form h = absurd (cc)
+behind (verb ∷ rest) form h =
+    let parts = and_parts (bytes_eq verb form.verb) (nat_le (length form.inputs) (length rest) && ends_in form.last (drop (length form.inputs) rest)) h in
+    let more = and_parts (nat_le (length form.inputs) (length rest)) (ends_in form.last (drop (length form.inputs) rest)) parts.1 in
+    let enough : length form.inputs ≤ length rest = leb-true (length form.inputs) (length rest) more.0 in
+    record { room = omega (arith, enough); ends = more.1 }
+
+behind_command : (words : List (List ℕ)) (command : Command) → command_of words ≡ Some command → Behind words (form_of command)
+behind_command words command h = behind words (form_of command) (found_passes (λ c. has_form words (form_of c)) commands command h)
+
+pub long_enough : (words : List (List ℕ)) (command : Command) → command_of words ≡ Some command → 1 + length (form_of command).inputs ≤ length words
+long_enough words command h = (behind_command words command h).room
 
 -- there is room for the inputs after the verb
-pub room : (words : List (String Global)) (command : Command) (n : ℕ) → n ≡ length (limits_of command) → command_of (map string_bytes words) ≡ Some command → 1 + n ≤ length words
+pub room : (words : List (String Global)) (command : Command) (n : ℕ) → n ≡ length (form_of command).inputs → command_of (map string_bytes words) ≡ Some command → 1 + n ≤ length words
 room words command n count h = omega (arith, long_enough (map string_bytes words) command h, length-map words (string_bytes {Z = Global}))
 
-pub names_there : (words : List (String Global)) (command : Command) (n : ℕ) → n ≡ length (limits_of command) → map string_bytes (take (1 + n - 1) (drop 1 words)) ≡ inputs_of command (map string_bytes words)
+pub names_there : (words : List (String Global)) (command : Command) (n : ℕ) → n ≡ length (form_of command).inputs →
+    map string_bytes (take (1 + n - 1) (drop 1 words)) ≡ inputs_of command (map string_bytes words)
 names_there words command n count =
-    let k = length (roles_of command) in
-    let same : 1 + n - 1 ≡ k = omega (arith, count, length-map (roles_of command) limit_of) in
+    let k = length (form_of command).inputs in
+    let same : 1 + n - 1 ≡ k = omega (arith, count) in
     ap (λ (m : ℕ). map string_bytes (take m (drop 1 words))) same ∙ sym (take-map string_bytes k (drop 1 words)) ∙ ap (λ (ws : List (List ℕ)). take k ws) (sym (drop-map string_bytes 1 words))

@@ -1,5 +1,5 @@
 pub mod Fits
-pub mod JobTexts
+pub mod CarriedOut
 pub mod TextAnswers
 pub mod PrintAnswers
 pub mod ListTexts

@@ -1,4 +1,4 @@
--- There is one answer to words and files.
+-- There is one answer to words and texts.
 use Rattle.std.proofs.Common.{◌≡◌, ℕ, List, [], ◌∷◌, ◌++◌, length, Bool, None, Some, refl, sym, ap, ◌∙◌, subst}
 use Rattle.dlk_tree.specs.Trees.{Tree}
 use Rattle.dlk_tree.specs.Statics.{free, bound, must}
@@ -12,7 +12,6 @@ use Rattle.dlk_machine.proofs.TextLaws.{one_tree_text, tree_or_fault, one_tree_f
 use Rattle.dlk_replay.specs.Files.{file_lines, Verdict, Answer, accepted, bad}
 use Rattle.dlk_replay.specs.declared.fault.LineWhy.{LineWhy}
 use Rattle.dlk_replay.proofs.Verdicts.{one_verdict}
-use Rattle.dlk_desk.specs.Outside.{Files}
 use Rattle.dlk_answers.specs.Forms.{Word}
 use Rattle.dlk_answers.specs.Replies.{Reply}
 use Rattle.dlk_answers.specs.declared.form.Role.TheVariants.{Model, File}
@@ -21,8 +20,9 @@ use Rattle.dlk_answers.specs.Checks.{Checks, bad_model, bad_line, bad_conclusion
 use Rattle.dlk_answers.specs.Prints.{Prints, bad_text, prints, printed}
 use Rattle.dlk_answers.specs.Lists.{Lists, lists, bad_text as lists_fault, IsWritten, AreWritten, set_listed, symbols_listed, set_text, signature_text, four_lines}
 use Rattle.dlk_answers.proofs.OneSubstitution.{one_substitution}
-use Rattle.dlk_answers.specs.Answers.{Does, check, print, vars, substitute, report, Responds, refuses, does, Answers, no_form, command, too_long}
+use Rattle.dlk_answers.specs.Answers.{Does, Responds, refuses, does, too_long}
 use Rattle.dlk_answers.specs.declared.command.Command.{Command}
+use Rattle.dlk_answers.specs.declared.command.Command.TheVariants.{Check, Print, Vars, Subst, Report}
 use Rattle.dlk_answers.specs.declared.reply.Layout.{Layout}
 use Rattle.dlk_answers.specs.declared.reply.Layout.TheVariants.{Text, Json}
 
@@ -124,12 +124,13 @@ one_list file r s (lists t a f b m syms wf wb wm ws) (lists u a' f' b' m' syms' 
     let symbols_are = one_symbols u syms syms' (subst (λ v. AreWritten v syms) same ws) ws' in
     λ i. four_lines (free_is i) (bound_is i) (must_is i) (symbols_are i)
 
-one_job : (c : Command) (texts : List (List ℕ)) (r s : Reply) → Does c texts r → Does c texts s → r ≡ s
-one_job c texts r s (check model term r' a) (check model' term' s' b) = one_check Text model term r s a b
-one_job c texts r s (print file r' a) (print file' s' b) = one_print file r s a b
-one_job c texts r s (vars file r' a) (vars file' s' b) = one_list file r s a b
-one_job c texts r s (substitute file substitution r' a) (substitute file' substitution' s' b) = one_substitution file substitution r s a b
-one_job c texts r s (report model term r' a) (report model' term' s' b) = one_check Json model term r s a b
+one_job : (c : Command) (others : List Word) (texts : List (List ℕ)) (r s : Reply) → Does c others texts r → Does c others texts s → r ≡ s
+one_job Check [] (model ∷ term ∷ []) r s a b = one_check Text model term r s a b
+one_job Print [] (file ∷ []) r s a b = one_print file r s a b
+one_job Vars [] (file ∷ []) r s a b = one_list file r s a b
+one_job Subst [] (file ∷ substitution ∷ []) r s a b = one_substitution file substitution r s a b
+one_job Report [] (model ∷ term ∷ []) r s a b = one_check Json model term r s a b
+one_job _ _ _ r s a b = absurd a
 
 one_name : {name other : Word} → Some name ≡ Some other → name ≡ other
 one_name e = cc
@@ -141,13 +142,4 @@ pub one_response : (c : Command) (words : List Word) (texts : List (List ℕ)) (
 one_response c words texts r s (refuses name a) (refuses other b) = ap too_long (one_name (sym a ∙ b))
 one_response c words texts r s (refuses name a) (does b s' job) = absurd (none_or_some (sym b ∙ a))
 one_response c words texts r s (does a r' job) (refuses other b) = absurd (none_or_some (sym a ∙ b))
-one_response c words texts r s (does a r' job) (does b s' other) = one_job c texts r s job other
-
-pub one_reply : (words : List Word) (files : Files) (r s : Reply) → Answers words files r → Answers words files s → r ≡ s
-one_reply words files r s (no_form a) (no_form b) = refl
-one_reply words files r s (no_form a) (command c b texts there s' other) = absurd (none_or_some (sym a ∙ b))
-one_reply words files r s (command c a texts there r' one) (no_form b) = absurd (none_or_some (sym b ∙ a))
-one_reply words files r s (command c a texts there r' one) (command d b others there2 s' other) =
-    let same : c ≡ d = cc in
-    let read : texts ≡ others = cc (there, there2, same) in
-    one_response d words others r s (subst (λ (x : Command). Responds x words others r) same (subst (λ (ts : List (List ℕ)). Responds c words ts r) read one)) other
+one_response c words texts r s (does a r' job) (does b s' other) = one_job c _ texts r s job other

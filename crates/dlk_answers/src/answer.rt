@@ -1,6 +1,6 @@
 // What the program answers to its words and inputs. It reads and writes nothing.
 ghost use Rattle.std.specs.Prelude.{◌≡◌, map, IfOk, option_copied, string_bytes, length, Some, IsTrue};
-ghost use Rattle.dlk_answers.specs.Forms.{form_of, limit_of, limits_of, ends_in, command_of};
+ghost use Rattle.dlk_answers.specs.Forms.{form_of, limit_of, ends_in, command_of};
 ghost use Rattle.dlk_answers.specs.Inputs.{first_too_long as first_too_long_of};
 ghost use Rattle.dlk_answers.specs.Replies.{refused_words};
 ghost use Rattle.dlk_answers.specs.Answers.{Does, Responds, too_long};
@@ -62,7 +62,7 @@ fn job<L: Ledger>(
     steps: &mut Steps<L>,
 ) -> Result<Reply, NoReply>
     requires words { IsTrue (ends_in (form_of command).last (map string_bytes others.now)) }
-    requires inputs { length inputs.now ≡ length (limits_of command) }
+    requires inputs { length inputs.now ≡ length (form_of command).inputs }
     ensures { IfOk result (λ r. Does command (map string_bytes others.now) (texts_of inputs.now) (reply_of r)) }
 {
     match (command, others, inputs) {
@@ -84,7 +84,7 @@ pub fn respond<L: Ledger>(
     steps: &mut Steps<L>,
 ) -> Result<Reply, NoReply>
     requires form { command_of (map string_bytes words.now) ≡ Some command }
-    requires inputs { length inputs.now ≡ length (limits_of command) }
+    requires inputs { length inputs.now ≡ length (form_of command).inputs }
     ensures { IfOk result (λ r. Responds command (map string_bytes words.now) (texts_of inputs.now) (reply_of r)) }
 {
     match first_too_long(command.inputs(words), command.form().inputs, inputs) {

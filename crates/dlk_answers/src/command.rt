@@ -1,6 +1,7 @@
 // The commands, and what their words name.
 ghost use Rattle.std.specs.Prelude.{◌≡◌, length, map, string_bytes, None, Some, IsTrue, option_copied};
-ghost use Rattle.dlk_answers.specs.Forms.{form_of, limits_of, inputs_of, others_of, output_named, output_of, ends_in, commands, command_of};
+ghost use Rattle.dlk_answers.specs.Forms.{form_of, inputs_of, others_of, output_named, output_of, ends_in, commands, command_of};
+ghost use Rattle.dlk_answers.specs.Inputs.{output};
 ghost use Rattle.dlk_answers.specs.Shown.{form_shown};
 
 use crate::form::{Form, Last, Role};
@@ -67,7 +68,7 @@ impl Command {
     pub fn inputs(self, words: &[String]) -> &[String]
         requires { command_of (map string_bytes words.now) ≡ Some self }
         ensures names { map string_bytes result.now ≡ inputs_of self (map string_bytes words.now) }
-        ensures count { length result.now ≡ length (limits_of self) }
+        ensures count { length result.now ≡ length (form_of self).inputs }
     {
         let count = self.form().inputs.len();
         &words[1..1 + count]
@@ -93,4 +94,12 @@ impl Command {
             _ => None,
         }
     }
+}
+
+/// The name of the file that the words let the program write, if there is one.
+pub fn output(words: &[String]) -> Option<&str>
+    ensures { option_copied result ≡ output (map string_bytes words.now) }
+{
+    let command = Command::parse(words)?;
+    command.output(words)
 }

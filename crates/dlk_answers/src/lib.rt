@@ -11,7 +11,10 @@ mod refusal;
 mod reply;
 
 pub use answer::{respond, words_refused};
-pub use command::Command;
+pub use command::{Command, output};
 pub use fault::NoReply;
 pub use form::{Form, Last, Role};
 pub use reply::{Layout, Reply, Status};
+
+#[cfg(test)]
+mod tests;

@@ -9,14 +9,14 @@ use Rattle.dlk_answers.proofs.TextAnswers.{text_answer}
 use Rattle.dlk_answers.proofs.ListAnswers.{list_answer}
 use Rattle.dlk_answers.proofs.jobs.vars.vars_on.Goals as goal
 
-pub returns-in-Err-clause-reply : goal.returns-in-Err-clause-reply
-returns-in-Err-clause-reply g c =
+pub returns-in-Err : goal.returns-in-Err
+returns-in-Err g c =
     let file = c.args.file.now in
     IfOk-weaker c.refuse_text.result (λ r. IsTextRefused File c.in-Err.fault (reply_of r)) (λ r. Lists file (reply_of r))
-    (λ r is. text_answer File (FileFault file) (Lists file) bad_text c.in-Err.fault (reply_of r) c.in-Err.ensures.fault is) c.refuse_text.ensures.reply
+    (λ r is. text_answer File (FileFault file) (Lists file) bad_text c.in-Err.fault (reply_of r) c.in-Err.ensures.fault is) c.refuse_text.ensures
 
-pub returns-clause-reply : goal.returns-clause-reply
-returns-clause-reply g c =
+pub returns : goal.returns
+returns g c =
     let read = c.in-Ok.ensures.found in
     list_answer c.args.file.now read.0 (tree (g.S.Store.trees c.read_expression.new.store) c.in-Ok.expression) c.in_ok-free.free c.in_ok-bound.bound c.in_ok-must.must c.in_ok-symbols.symbols.items
     c.new-printed.result.items c.append_set.new.out.items c.append_set-2.new.out.items c.append_set-3.new.out.items c.extend_from_slice.new.self.items c.append_symbols.new.out.items c.push.new.self.items

@@ -2,7 +2,7 @@
 use super::*;
 
 /// What `vars` does to the bytes of a file.
-pub(super) fn listed(alloc: Global, file: &[u8]) -> Result<(u8, MemoryDesk), AllocError> {
+pub(super) fn listed(alloc: Global, file: &[u8]) -> Result<(u8, Reply), NoReply> {
     answered(alloc, "vars", file)
 }
 
@@ -38,9 +38,9 @@ fn lists_terms(rt: HostRuntime) -> Result<(), Fail> {
         ("x/f()", ["x", "none", "none", "function f()"]),
         ("x^y", ["x, y", "none", "none", "none"]),
     ] {
-        let (status, desk) = listed(alloc, file.as_bytes())?;
+        let (status, reply) = listed(alloc, file.as_bytes())?;
         assert_eq!(rt;
-            desk.printed(),
+            reply.printed.as_slice(),
             lines_of(alloc, lists)?.as_bytes(),
             "{file}"
         );
@@ -84,9 +84,9 @@ fn lists_formulas(rt: HostRuntime) -> Result<(), Fail> {
         ("[x:=y;]x>=z", ["y, z", "x", "none", "none"]),
         ("<x:=y;>x>=z", ["y, z", "x", "none", "none"]),
     ] {
-        let (status, desk) = listed(alloc, file.as_bytes())?;
+        let (status, reply) = listed(alloc, file.as_bytes())?;
         assert_eq!(rt;
-            desk.printed(),
+            reply.printed.as_slice(),
             lines_of(alloc, lists)?.as_bytes(),
             "{file}"
         );
@@ -129,9 +129,9 @@ fn lists_programs(rt: HostRuntime) -> Result<(), Fail> {
         ("x:=1;y:=2;++y:=3;", ["none", "x, y", "y", "none"]),
         ("{x:=y;}*", ["y", "x", "none", "none"]),
     ] {
-        let (status, desk) = listed(alloc, file.as_bytes())?;
+        let (status, reply) = listed(alloc, file.as_bytes())?;
         assert_eq!(rt;
-            desk.printed(),
+            reply.printed.as_slice(),
             lines_of(alloc, lists)?.as_bytes(),
             "{file}"
         );
@@ -185,9 +185,9 @@ fn lists_what_is_free(rt: HostRuntime) -> Result<(), Fail> {
         ),
         ("C{_}&._0>=x", ["all", "all", "none", "predicational C{_}"]),
     ] {
-        let (status, desk) = listed(alloc, file.as_bytes())?;
+        let (status, reply) = listed(alloc, file.as_bytes())?;
         assert_eq!(rt;
-            desk.printed(),
+            reply.printed.as_slice(),
             lines_of(alloc, lists)?.as_bytes(),
             "{file}"
         );
@@ -255,9 +255,9 @@ fn lists_in_order(rt: HostRuntime) -> Result<(), Fail> {
             ["all", "all", "none", "ode {c}, ode {c{|x|}}, ode {c{|y|}}"],
         ),
     ] {
-        let (status, desk) = listed(alloc, file.as_bytes())?;
+        let (status, reply) = listed(alloc, file.as_bytes())?;
         assert_eq!(rt;
-            desk.printed(),
+            reply.printed.as_slice(),
             lines_of(alloc, lists)?.as_bytes(),
             "{file}"
         );
@@ -275,28 +275,28 @@ fn refuses_to_list(rt: HostRuntime) -> Result<(), Fail> {
         ("", "refused: file: syntax\n"),
         ("1+f(1,2,3,4,5,6,7,8,9)", "refused: file at 2: shape\n"),
     ] {
-        let (status, desk) = listed(alloc, file.as_bytes())?;
-        assert_eq!(rt; desk.printed(), text.as_bytes(), "{file}");
+        let (status, reply) = listed(alloc, file.as_bytes())?;
+        assert_eq!(rt; reply.printed.as_slice(), text.as_bytes(), "{file}");
         assert_eq!(rt; status, 2, "{file}");
     }
     let big = joined(alloc, &repeated(alloc, "x+", 32768)?, b"x", b"")?;
-    let (status, desk) = listed(alloc, &big)?;
+    let (status, reply) = listed(alloc, &big)?;
     assert_eq!(rt; status, 2);
-    assert_eq!(rt; desk.printed(), b"refused: file: size 65537\n".as_slice());
+    assert_eq!(rt; reply.printed.as_slice(), b"refused: file: size 65537\n".as_slice());
     Ok(())
 }
 
 #[test]
 fn lists_long_files(rt: HostRuntime) -> Result<(), Fail> {
     let alloc = rt.alloc();
-    let (status, desk) = listed(alloc, &padded(alloc, "y", 1_048_576)?)?;
+    let (status, reply) = listed(alloc, &padded(alloc, "y", 1_048_576)?)?;
     assert_eq!(rt;
-        desk.printed(),
+        reply.printed.as_slice(),
         lines_of(alloc, ["y", "none", "none", "none"])?.as_bytes()
     );
     assert_eq!(rt; status, 0);
-    let (status, desk) = listed(alloc, &padded(alloc, "y", 1_048_577)?)?;
-    assert_eq!(rt; desk.printed(), b"refused: too-long m\n".as_slice());
+    let (status, reply) = listed(alloc, &padded(alloc, "y", 1_048_577)?)?;
+    assert_eq!(rt; reply.printed.as_slice(), b"refused: too-long m\n".as_slice());
     assert_eq!(rt; status, 2);
     Ok(())
 }
@@ -305,9 +305,9 @@ fn lists_long_files(rt: HostRuntime) -> Result<(), Fail> {
 fn lists_deep_files(rt: HostRuntime) -> Result<(), Fail> {
     let alloc = rt.alloc();
     let deep = joined(alloc, &repeated(alloc, "\\forall x ", 998)?, b"x>y", b"")?;
-    let (status, desk) = listed(alloc, &deep)?;
+    let (status, reply) = listed(alloc, &deep)?;
     assert_eq!(rt;
-        desk.printed(),
+        reply.printed.as_slice(),
         lines_of(alloc, ["y", "x", "none", "none"])?.as_bytes()
     );
     assert_eq!(rt; status, 0);

@@ -465,9 +465,9 @@ fn checks_terms_with_these_rules(rt: HostRuntime) -> Result<(), Fail> {
             "refused: line 2: Malformed\n",
         ),
     ] {
-        let (found, desk) = checked(alloc, model.as_bytes(), term.as_bytes())?;
+        let (found, reply) = checked(alloc, model.as_bytes(), term.as_bytes())?;
         assert_eq!(rt; found, status, "{term}");
-        assert_eq!(rt; desk.printed(), printed.as_bytes(), "{term}");
+        assert_eq!(rt; reply.printed.as_slice(), printed.as_bytes(), "{term}");
     }
     Ok(())
 }

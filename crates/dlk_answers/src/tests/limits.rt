@@ -82,25 +82,25 @@ fn keeps_to_numbers_of_goals(rt: HostRuntime) -> Result<(), Fail> {
     let alloc = rt.alloc();
     let model = joined(alloc, b"true", &repeated(alloc, "&true", 255)?, b"")?;
     let term = joined(alloc, &taken_apart(alloc, 256)?, b"done\n", b"")?;
-    let (status, desk) = checked(alloc, &model, &term)?;
+    let (status, reply) = checked(alloc, &model, &term)?;
     assert_eq!(rt; status, 1);
-    assert!(rt; desk.printed().starts_with(b"open\nconclusion ==> true&"));
+    assert!(rt; reply.printed.as_slice().starts_with(b"open\nconclusion ==> true&"));
     assert!(rt;
-        desk.printed()
+        reply.printed.as_slice()
             .ends_with(b"goal 256 ==> true\nleaves 0\nlines 256\n")
     );
-    let (status, desk) = checked(alloc, &model, &taken_apart(alloc, 257)?)?;
+    let (status, reply) = checked(alloc, &model, &taken_apart(alloc, 257)?)?;
     assert_eq!(rt; status, 2);
     assert_eq!(rt;
-        desk.printed(),
+        reply.printed.as_slice(),
         b"refused: line 257: GoalsFull\n".as_slice()
     );
     for (cuts, printed) in [
         (127, "refused: line 259: NoEnd\n"),
         (128, "refused: line 259: GoalsFull\n"),
     ] {
-        let (_, desk) = checked(alloc, &model, &merged(alloc, cuts)?)?;
-        assert_eq!(rt; desk.printed(), printed.as_bytes(), "{cuts}");
+        let (_, reply) = checked(alloc, &model, &merged(alloc, cuts)?)?;
+        assert_eq!(rt; reply.printed.as_slice(), printed.as_bytes(), "{cuts}");
     }
     Ok(())
 }
@@ -122,10 +122,10 @@ fn keeps_to_numbers_of_formulas(rt: HostRuntime) -> Result<(), Fail> {
             left.get(1..).unwrap_or(&[]),
             b" ==>\ndone\n",
         )?;
-        let (status, desk) = checked(alloc, b"true", &term)?;
+        let (status, reply) = checked(alloc, b"true", &term)?;
         assert_eq!(rt; status, 2, "{count}");
         assert!(rt;
-            desk.printed().starts_with(printed.as_bytes()),
+            reply.printed.as_slice().starts_with(printed.as_bytes()),
             "{word} {count}"
         );
     }
@@ -136,8 +136,8 @@ fn keeps_to_numbers_of_formulas(rt: HostRuntime) -> Result<(), Fail> {
         let right = repeated(alloc, ",true", count)?;
         let front = b"1 start ==> true".as_slice();
         let term = joined(alloc, front, &right, b"\n2 apply 1 1 cut(true)\n")?;
-        let (_, desk) = checked(alloc, b"true", &term)?;
-        assert_eq!(rt; desk.printed(), printed.as_bytes(), "{count}");
+        let (_, reply) = checked(alloc, b"true", &term)?;
+        assert_eq!(rt; reply.printed.as_slice(), printed.as_bytes(), "{count}");
     }
     Ok(())
 }
@@ -151,9 +151,9 @@ fn keeps_to_sizes_of_formulas(rt: HostRuntime) -> Result<(), Fail> {
         let step = format!(in alloc; "{number} subst {fact} f()~>f()+f()\n")?;
         term.extend_from_slice(step.as_bytes())?;
     }
-    let (status, desk) = checked(alloc, b"true", &term)?;
+    let (status, reply) = checked(alloc, b"true", &term)?;
     assert_eq!(rt; status, 2);
-    assert_eq!(rt; desk.printed(), b"refused: line 16: TooBig\n".as_slice());
+    assert_eq!(rt; reply.printed.as_slice(), b"refused: line 16: TooBig\n".as_slice());
     for (count, printed) in [
         (998, "refused: line 3: NoEnd\n"),
         (999, "refused: line 2: TooDeep\n"),
@@ -161,8 +161,8 @@ fn keeps_to_sizes_of_formulas(rt: HostRuntime) -> Result<(), Fail> {
         let negated = repeated(alloc, "!", count)?;
         let front = b"1 start ==> true\n2 apply 1 1 cutR(1,".as_slice();
         let term = joined(alloc, front, &negated, b"true)\n")?;
-        let (_, desk) = checked(alloc, b"true", &term)?;
-        assert_eq!(rt; desk.printed(), printed.as_bytes(), "{count}");
+        let (_, reply) = checked(alloc, b"true", &term)?;
+        assert_eq!(rt; reply.printed.as_slice(), printed.as_bytes(), "{count}");
     }
     Ok(())
 }
@@ -246,11 +246,10 @@ fn keeps_to_numbers_of_lines(rt: HostRuntime) -> Result<(), Fail> {
         term.extend_from_slice(line.as_bytes())?;
     }
     term.extend_from_slice(b"done\n")?;
-    let mut desk = desk_of(alloc, b"true", &term, 65536, &[])?;
-    let status = status_of(alloc, &["check", "model", "term"], &mut desk)?;
+    let (status, reply) = checked(alloc, b"true", &term)?;
     assert_eq!(rt; status, 2);
     assert_eq!(rt;
-        desk.printed(),
+        reply.printed.as_slice(),
         b"refused: line 400001: LinesFull\n".as_slice()
     );
     Ok(())
@@ -287,9 +286,12 @@ fn reports_as_json(rt: HostRuntime) -> Result<(), Fail> {
         ("x>=0 &", TERM, 2, "refused: model: syntax\n"),
         ("x>=0", "", 2, "refused: line 1: NoEnd\n"),
     ] {
-        let mut desk = desk_of(alloc, model.as_bytes(), term.as_bytes(), 3, &[])?;
-        let found = status_of(alloc, &["report", "model", "term"], &mut desk)?;
-        assert_eq!(rt; desk.printed(), printed.as_bytes(), "{model}");
+        let (found, reply) = replied(
+            alloc,
+            &["report", "model", "term"],
+            &[model.as_bytes(), term.as_bytes()],
+        )?;
+        assert_eq!(rt; reply.printed.as_slice(), printed.as_bytes(), "{model}");
         assert_eq!(rt; found, status, "{model}");
     }
     Ok(())

@@ -4,7 +4,7 @@ ghost use Rattle.std.specs.Prelude.{◌≤◌};
 use super::*;
 
 /// What `print` does to the bytes of a file.
-pub(super) fn printed(alloc: Global, file: &[u8]) -> Result<(u8, MemoryDesk), AllocError> {
+pub(super) fn printed(alloc: Global, file: &[u8]) -> Result<(u8, Reply), NoReply> {
     answered(alloc, "print", file)
 }
 
@@ -32,10 +32,10 @@ fn prints_texts(rt: HostRuntime) -> Result<(), Fail> {
             "99999999999999999999999999999999999999\n",
         ),
     ] {
-        let (status, desk) = printed(alloc, file.as_bytes())?;
-        assert_eq!(rt; desk.printed(), text.as_bytes(), "{file}");
+        let (status, reply) = printed(alloc, file.as_bytes())?;
+        assert_eq!(rt; reply.printed.as_slice(), text.as_bytes(), "{file}");
         assert_eq!(rt; status, 0, "{file}");
-        let (status, again) = printed(alloc, desk.printed())?;
+        let (status, again) = printed(alloc, reply.printed.as_slice())?;
         assert_eq!(rt; again.printed(), text.as_bytes(), "{file}");
         assert_eq!(rt; status, 0, "{file}");
     }
@@ -59,8 +59,8 @@ fn refuses_texts(rt: HostRuntime) -> Result<(), Fail> {
         ("x>0 ==> y>0", "refused: file: syntax\n"),
         ("x>0; y>0", "refused: file: syntax\n"),
     ] {
-        let (status, desk) = printed(alloc, file.as_bytes())?;
-        assert_eq!(rt; desk.printed(), text.as_bytes(), "{file}");
+        let (status, reply) = printed(alloc, file.as_bytes())?;
+        assert_eq!(rt; reply.printed.as_slice(), text.as_bytes(), "{file}");
         assert_eq!(rt; status, 2, "{file}");
     }
     Ok(())
@@ -83,14 +83,14 @@ fn refusal_of(byte: u8) -> Option<&'static str> {
 fn reads_bytes_alone(rt: HostRuntime) -> Result<(), Fail> {
     let alloc = rt.alloc();
     for byte in 0..=255u8 {
-        let (status, desk) = printed(alloc, &[byte])?;
+        let (status, reply) = printed(alloc, &[byte])?;
         match refusal_of(byte) {
             Some(text) => {
-                assert_eq!(rt; desk.printed(), text.as_bytes(), "{byte}");
+                assert_eq!(rt; reply.printed.as_slice(), text.as_bytes(), "{byte}");
                 assert_eq!(rt; status, 2, "{byte}");
             }
             None => {
-                assert_eq!(rt; desk.printed(), [byte, b'\n'].as_slice(), "{byte}");
+                assert_eq!(rt; reply.printed.as_slice(), [byte, b'\n'].as_slice(), "{byte}");
                 assert_eq!(rt; status, 0, "{byte}");
             }
         }
@@ -105,8 +105,8 @@ fn reads_long_files(rt: HostRuntime) -> Result<(), Fail> {
         (1_048_576, 0, "x>=0\n"),
         (1_048_577, 2, "refused: too-long m\n"),
     ] {
-        let (found, desk) = printed(alloc, &padded(alloc, "x>=0", length)?)?;
-        assert_eq!(rt; desk.printed(), text.as_bytes());
+        let (found, reply) = printed(alloc, &padded(alloc, "x>=0", length)?)?;
+        assert_eq!(rt; reply.printed.as_slice(), text.as_bytes());
         assert_eq!(rt; found, status);
     }
     Ok(())
@@ -115,8 +115,8 @@ fn reads_long_files(rt: HostRuntime) -> Result<(), Fail> {
 #[test]
 fn reads_opened_programs(rt: HostRuntime) -> Result<(), Fail> {
     let alloc = rt.alloc();
-    let (status, desk) = printed(alloc, &repeated(alloc, "<?", 20_000)?)?;
-    assert_eq!(rt; desk.printed(), b"refused: file: syntax\n".as_slice());
+    let (status, reply) = printed(alloc, &repeated(alloc, "<?", 20_000)?)?;
+    assert_eq!(rt; reply.printed.as_slice(), b"refused: file: syntax\n".as_slice());
     assert_eq!(rt; status, 2);
     Ok(())
 }
@@ -130,8 +130,8 @@ fn reads_nested_brackets(rt: HostRuntime) -> Result<(), Fail> {
     ] {
         let front = repeated(alloc, "(", levels)?;
         let back = repeated(alloc, ")", levels)?;
-        let (found, desk) = printed(alloc, &joined(alloc, &front, b"x>=0", &back)?)?;
-        assert_eq!(rt; desk.printed(), text.as_bytes(), "{levels}");
+        let (found, reply) = printed(alloc, &joined(alloc, &front, b"x>=0", &back)?)?;
+        assert_eq!(rt; reply.printed.as_slice(), text.as_bytes(), "{levels}");
         assert_eq!(rt; found, status, "{levels}");
     }
     Ok(())
@@ -148,15 +148,15 @@ fn system_of(alloc: Global, count: usize) -> Result<Vec<u8>, AllocError>
 fn reads_items(rt: HostRuntime) -> Result<(), Fail> {
     let alloc = rt.alloc();
     let most = system_of(alloc, 64)?;
-    let (status, desk) = printed(alloc, &most)?;
+    let (status, reply) = printed(alloc, &most)?;
     assert_eq!(rt; status, 0);
     assert_eq!(rt;
-        desk.printed(),
+        reply.printed.as_slice(),
         joined(alloc, &most, b"\n", b"")?.as_slice()
     );
-    let (status, desk) = printed(alloc, &system_of(alloc, 65)?)?;
+    let (status, reply) = printed(alloc, &system_of(alloc, 65)?)?;
     assert_eq!(rt; status, 2);
-    assert_eq!(rt; desk.printed(), b"refused: file at 0: shape\n".as_slice());
+    assert_eq!(rt; reply.printed.as_slice(), b"refused: file at 0: shape\n".as_slice());
     Ok(())
 }
 
@@ -164,26 +164,26 @@ fn reads_items(rt: HostRuntime) -> Result<(), Fail> {
 fn keeps_to_depth(rt: HostRuntime) -> Result<(), Fail> {
     let alloc = rt.alloc();
     let deep = joined(alloc, &repeated(alloc, "!", 999)?, b"true", b"")?;
-    let (status, desk) = printed(alloc, &deep)?;
+    let (status, reply) = printed(alloc, &deep)?;
     assert_eq!(rt; status, 0);
     assert_eq!(rt;
-        desk.printed(),
+        reply.printed.as_slice(),
         joined(alloc, &deep, b"\n", b"")?.as_slice()
     );
-    let (status, desk) = printed(alloc, &joined(alloc, b"!", &deep, b"")?)?;
+    let (status, reply) = printed(alloc, &joined(alloc, b"!", &deep, b"")?)?;
     assert_eq!(rt; status, 2);
-    assert_eq!(rt; desk.printed(), b"refused: file: depth 1001\n".as_slice());
+    assert_eq!(rt; reply.printed.as_slice(), b"refused: file: depth 1001\n".as_slice());
     Ok(())
 }
 
 #[test]
 fn keeps_to_size(rt: HostRuntime) -> Result<(), Fail> {
     let alloc = rt.alloc();
-    let (status, desk) = printed(
+    let (status, reply) = printed(
         alloc,
         &joined(alloc, &repeated(alloc, "x+", 32768)?, b"x", b"")?,
     )?;
     assert_eq!(rt; status, 2);
-    assert_eq!(rt; desk.printed(), b"refused: file: size 65537\n".as_slice());
+    assert_eq!(rt; reply.printed.as_slice(), b"refused: file: size 65537\n".as_slice());
     Ok(())
 }

@@ -36,9 +36,9 @@ fn refuses_models(rt: HostRuntime) -> Result<(), Fail> {
         ),
         ("[{x'=1,x'=2}]x", "refused: model: syntax\n"),
     ] {
-        let (status, desk) = checked(alloc, model.as_bytes(), TERM.as_bytes())?;
+        let (status, reply) = checked(alloc, model.as_bytes(), TERM.as_bytes())?;
         assert_eq!(rt; status, 2, "{model}");
-        assert_eq!(rt; desk.printed(), printed.as_bytes(), "{model}");
+        assert_eq!(rt; reply.printed.as_slice(), printed.as_bytes(), "{model}");
     }
     Ok(())
 }
@@ -47,12 +47,12 @@ fn refuses_models(rt: HostRuntime) -> Result<(), Fail> {
 fn refuses_bytes(rt: HostRuntime) -> Result<(), Fail> {
     let alloc = rt.alloc();
     for byte in 128..=255u8 {
-        let (status, desk) = checked(alloc, &[b'x', byte], TERM.as_bytes())?;
+        let (status, reply) = checked(alloc, &[b'x', byte], TERM.as_bytes())?;
         assert_eq!(rt; status, 2, "{byte}");
-        assert_eq!(rt; desk.printed(), b"refused: model at 1: byte\n".as_slice());
-        let (status, desk) = checked(alloc, b"x>=0", &[byte])?;
+        assert_eq!(rt; reply.printed.as_slice(), b"refused: model at 1: byte\n".as_slice());
+        let (status, reply) = checked(alloc, b"x>=0", &[byte])?;
         assert_eq!(rt; status, 2, "{byte}");
-        assert_eq!(rt; desk.printed(), b"refused: line 1: Malformed\n".as_slice());
+        assert_eq!(rt; reply.printed.as_slice(), b"refused: line 1: Malformed\n".as_slice());
     }
     Ok(())
 }
@@ -69,9 +69,9 @@ fn keeps_to_depth_of_models(rt: HostRuntime) -> Result<(), Fail> {
     let term = joined(alloc, b"1 start ==> ", &model, b"\ndone\n")?;
     let (status, _) = checked(alloc, &model, &term)?;
     assert_eq!(rt; status, 1);
-    let (status, desk) = checked(alloc, &negations(alloc, 1000)?, &term)?;
+    let (status, reply) = checked(alloc, &negations(alloc, 1000)?, &term)?;
     assert_eq!(rt; status, 2);
-    assert_eq!(rt; desk.printed(), b"refused: model: depth 1001\n".as_slice());
+    assert_eq!(rt; reply.printed.as_slice(), b"refused: model: depth 1001\n".as_slice());
     Ok(())
 }
 
@@ -80,9 +80,9 @@ fn keeps_to_depth_of_lines(rt: HostRuntime) -> Result<(), Fail> {
     let alloc = rt.alloc();
     let deep = negations(alloc, 1000)?;
     let term = joined(alloc, b"1 start ==> ", &deep, b"\ndone\n")?;
-    let (status, desk) = checked(alloc, b"true", &term)?;
+    let (status, reply) = checked(alloc, b"true", &term)?;
     assert_eq!(rt; status, 2);
-    assert_eq!(rt; desk.printed(), b"refused: line 1: Malformed\n".as_slice());
+    assert_eq!(rt; reply.printed.as_slice(), b"refused: line 1: Malformed\n".as_slice());
     Ok(())
 }
 
@@ -92,9 +92,9 @@ fn keeps_to_lengths_of_models(rt: HostRuntime) -> Result<(), Fail> {
     let short = b"1 start ==> x>=0\ndone\n".as_slice();
     let (status, _) = checked(alloc, &padded(alloc, "x>=0", 1_048_576)?, short)?;
     assert_eq!(rt; status, 1);
-    let (status, desk) = checked(alloc, &padded(alloc, "x>=0", 1_048_577)?, short)?;
+    let (status, reply) = checked(alloc, &padded(alloc, "x>=0", 1_048_577)?, short)?;
     assert_eq!(rt; status, 2);
-    assert_eq!(rt; desk.printed(), b"refused: too-long model\n".as_slice());
+    assert_eq!(rt; reply.printed.as_slice(), b"refused: too-long model\n".as_slice());
     Ok(())
 }
 
@@ -106,10 +106,9 @@ fn keeps_to_lengths_of_terms(rt: HostRuntime) -> Result<(), Fail> {
         ("#", 67_108_865, "refused: too-long term\n"),
     ] {
         let term = padded(alloc, "", length)?;
-        let mut desk = desk_of(alloc, model.as_bytes(), &term, 65536, &[])?;
-        let status = status_of(alloc, &["check", "model", "term"], &mut desk)?;
+        let (status, reply) = checked(alloc, model.as_bytes(), &term)?;
         assert_eq!(rt; status, 2);
-        assert_eq!(rt; desk.printed(), printed.as_bytes());
+        assert_eq!(rt; reply.printed.as_slice(), printed.as_bytes());
     }
     let mut term = padded(alloc, "1 start ==> x>=0", 1_000_000)?;
     term.extend_from_slice(b"\ndone\n")?;

@@ -1,18 +1,13 @@
 // What `subst` prints.
 use super::*;
 
-/// What `subst` does to the bytes of an expression and of a substitution.
+/// What `subst` answers to the bytes of an expression and of a substitution.
 fn substituted(
     alloc: Global,
     file: &[u8],
     substitution: &[u8],
-) -> Result<(u8, MemoryDesk), AllocError> {
-    let mut files = Vec::new(alloc);
-    files.push((String::from_str(alloc, "e")?, file.to_vec(alloc)?))?;
-    files.push((String::from_str(alloc, "s")?, substitution.to_vec(alloc)?))?;
-    let mut desk = MemoryDesk::new(alloc, files, 4096, [].to_vec(alloc)?);
-    let status = status_of(alloc, &["subst", "e", "s"], &mut desk)?;
-    Ok((status, desk))
+) -> Result<(u8, Reply), NoReply> {
+    replied(alloc, &["subst", "e", "s"], &[file, substitution])
 }
 
 /// Each replacement of a symbol comes to stand for it.
@@ -71,9 +66,9 @@ fn substitutes(rt: HostRuntime) -> Result<(), Fail> {
         ("f()>term()", "f()~>term,term()~>1", "term>1"),
         ("term;", "term;~>?term();,term term()~>2", "?term();"),
     ] {
-        let (status, desk) = substituted(alloc, file.as_bytes(), substitution.as_bytes())?;
+        let (status, reply) = substituted(alloc, file.as_bytes(), substitution.as_bytes())?;
         let line = joined(alloc, text.as_bytes(), b"\n", b"")?;
-        assert_eq!(rt; desk.printed(), line.as_slice(), "{file}");
+        assert_eq!(rt; reply.printed.as_slice(), line.as_slice(), "{file}");
         assert_eq!(rt; status, 0, "{file}");
     }
     Ok(())
@@ -104,9 +99,9 @@ fn splices_items(rt: HostRuntime) -> Result<(), Fail> {
         ("{y'=f(),c}", "{c}~>{z'=1},f()~>x", "{y'=x,z'=1}"),
         ("[{c{|x|}}]p()", "p()~>x>x'", "[{c{|x|}}]x>x'"),
     ] {
-        let (status, desk) = substituted(alloc, file.as_bytes(), substitution.as_bytes())?;
+        let (status, reply) = substituted(alloc, file.as_bytes(), substitution.as_bytes())?;
         let line = joined(alloc, text.as_bytes(), b"\n", b"")?;
-        assert_eq!(rt; desk.printed(), line.as_slice(), "{file}");
+        assert_eq!(rt; reply.printed.as_slice(), line.as_slice(), "{file}");
         assert_eq!(rt; status, 0, "{file}");
     }
     Ok(())
@@ -134,9 +129,9 @@ fn splices_few_items(rt: HostRuntime) -> Result<(), Fail> {
         ("{c,c}", "{c}~>{x'=1}"),
         ("{c,d}", "{c}~>{x'=1},{d}~>{x'=1}"),
     ] {
-        let (status, desk) = substituted(alloc, file.as_bytes(), substitution.as_bytes())?;
+        let (status, reply) = substituted(alloc, file.as_bytes(), substitution.as_bytes())?;
         assert_eq!(rt;
-            desk.printed(),
+            reply.printed.as_slice(),
             b"refused: not-admissible\n".as_slice(),
             "{file}"
         );
@@ -144,13 +139,13 @@ fn splices_few_items(rt: HostRuntime) -> Result<(), Fail> {
     }
     for (count, fits) in [(32, true), (33, false)] {
         let by = joined(alloc, b"{c}~>", &system_of(alloc, "d", count)?, b"")?;
-        let (status, desk) = substituted(alloc, b"{c,c}", &by)?;
+        let (status, reply) = substituted(alloc, b"{c,c}", &by)?;
         if fits {
             let most = joined(alloc, &system_of(alloc, "d", 64)?, b"\n", b"")?;
-            assert_eq!(rt; desk.printed(), most.as_slice());
+            assert_eq!(rt; reply.printed.as_slice(), most.as_slice());
             assert_eq!(rt; status, 0);
         } else {
-            assert_eq!(rt; desk.printed(), b"refused: not-admissible\n".as_slice());
+            assert_eq!(rt; reply.printed.as_slice(), b"refused: not-admissible\n".as_slice());
             assert_eq!(rt; status, 2);
         }
     }
@@ -192,17 +187,17 @@ fn captures_nothing(rt: HostRuntime) -> Result<(), Fail> {
         ("C{p()}", "p()~>x>0,C{_}~>_", ""),
         ("C{p()}", "p()~>2>0,C{_}~>_", "2>0"),
     ] {
-        let (status, desk) = substituted(alloc, file.as_bytes(), substitution.as_bytes())?;
+        let (status, reply) = substituted(alloc, file.as_bytes(), substitution.as_bytes())?;
         if text.is_empty() {
             assert_eq!(rt;
-                desk.printed(),
+                reply.printed.as_slice(),
                 b"refused: not-admissible\n".as_slice(),
                 "{file}"
             );
             assert_eq!(rt; status, 2, "{file}");
         } else {
             let line = joined(alloc, text.as_bytes(), b"\n", b"")?;
-            assert_eq!(rt; desk.printed(), line.as_slice(), "{file}");
+            assert_eq!(rt; reply.printed.as_slice(), line.as_slice(), "{file}");
             assert_eq!(rt; status, 0, "{file}");
         }
     }
@@ -236,17 +231,17 @@ fn captures_what_the_result_binds(rt: HostRuntime) -> Result<(), Fail> {
             "[?[x:=1;]true;]x>0",
         ),
     ] {
-        let (status, desk) = substituted(alloc, file.as_bytes(), substitution.as_bytes())?;
+        let (status, reply) = substituted(alloc, file.as_bytes(), substitution.as_bytes())?;
         if text.is_empty() {
             assert_eq!(rt;
-                desk.printed(),
+                reply.printed.as_slice(),
                 b"refused: not-admissible\n".as_slice(),
                 "{file}"
             );
             assert_eq!(rt; status, 2, "{file}");
         } else {
             let line = joined(alloc, text.as_bytes(), b"\n", b"")?;
-            assert_eq!(rt; desk.printed(), line.as_slice(), "{file}");
+            assert_eq!(rt; reply.printed.as_slice(), line.as_slice(), "{file}");
             assert_eq!(rt; status, 0, "{file}");
         }
     }
@@ -288,17 +283,17 @@ fn plugs_without_capture(rt: HostRuntime) -> Result<(), Fail> {
             "x>0&\\forall x 2>0",
         ),
     ] {
-        let (status, desk) = substituted(alloc, file.as_bytes(), substitution.as_bytes())?;
+        let (status, reply) = substituted(alloc, file.as_bytes(), substitution.as_bytes())?;
         if text.is_empty() {
             assert_eq!(rt;
-                desk.printed(),
+                reply.printed.as_slice(),
                 b"refused: not-admissible\n".as_slice(),
                 "{substitution}"
             );
             assert_eq!(rt; status, 2, "{substitution}");
         } else {
             let line = joined(alloc, text.as_bytes(), b"\n", b"")?;
-            assert_eq!(rt; desk.printed(), line.as_slice(), "{substitution}");
+            assert_eq!(rt; reply.printed.as_slice(), line.as_slice(), "{substitution}");
             assert_eq!(rt; status, 0, "{substitution}");
         }
     }
@@ -335,16 +330,16 @@ fn refuses_pairs(rt: HostRuntime) -> Result<(), Fail> {
         ("{c{|y|}}~>{x'=y}", "1: taboo"),
         ("{c{|y|}}~>{x'=y'}", "1: taboo"),
     ] {
-        let (status, desk) = substituted(alloc, b"[x:=1;]p()", substitution.as_bytes())?;
+        let (status, reply) = substituted(alloc, b"[x:=1;]p()", substitution.as_bytes())?;
         let line = joined(alloc, b"refused: subst pair ", pair.as_bytes(), b"\n")?;
-        assert_eq!(rt; desk.printed(), line.as_slice(), "{substitution}");
+        assert_eq!(rt; reply.printed.as_slice(), line.as_slice(), "{substitution}");
         assert_eq!(rt; status, 2, "{substitution}");
     }
     let all =
         b"p()~>true,p(._0)~>true,p(||)~>true,p(|y|)~>true,p(|z|)~>true,p()~>1,p(._0)~>1,p{_}~>_,p;~>?true;,{p}~>{x'=1},{p{|y|}}~>{x'=1}";
-    let (status, desk) = substituted(alloc, b"[p;{p}{p{|y|}}]p{p(|z|)&p(x)>p()}", all)?;
+    let (status, reply) = substituted(alloc, b"[p;{p}{p{|y|}}]p{p(|z|)&p(x)>p()}", all)?;
     assert_eq!(rt;
-        desk.printed(),
+        reply.printed.as_slice(),
         b"[?true;{x'=1}{x'=1}](true&1>1)\n".as_slice()
     );
     assert_eq!(rt; status, 0);
@@ -387,9 +382,9 @@ fn refuses_to_substitute(rt: HostRuntime) -> Result<(), Fail> {
         ("p()", "p()~>f(1,2,3,4,5,6,7,8,9)>0", "subst at 5: shape"),
         ("p()", "a;~>?true;,{c}~>{x'=1,x'=2}", "subst at 16: shape"),
     ] {
-        let (status, desk) = substituted(alloc, file.as_bytes(), substitution.as_bytes())?;
+        let (status, reply) = substituted(alloc, file.as_bytes(), substitution.as_bytes())?;
         let line = joined(alloc, b"refused: ", text.as_bytes(), b"\n")?;
-        assert_eq!(rt; desk.printed(), line.as_slice(), "{substitution}");
+        assert_eq!(rt; reply.printed.as_slice(), line.as_slice(), "{substitution}");
         assert_eq!(rt; status, 2, "{substitution}");
     }
     Ok(())
@@ -410,8 +405,8 @@ fn keeps_substitutions_small(rt: HostRuntime) -> Result<(), Fail> {
             &repeated(alloc, text, count)?,
             end.as_bytes(),
         )?;
-        let (status, desk) = substituted(alloc, b"p()", &by)?;
-        assert_eq!(rt; desk.printed(), answer.as_bytes(), "{text}");
+        let (status, reply) = substituted(alloc, b"p()", &by)?;
+        assert_eq!(rt; reply.printed.as_slice(), answer.as_bytes(), "{text}");
         assert_eq!(rt; status, 2, "{text}");
     }
     for (length, status, answer) in [
@@ -419,8 +414,8 @@ fn keeps_substitutions_small(rt: HostRuntime) -> Result<(), Fail> {
         (1_048_577, 2, "refused: too-long s\n"),
     ] {
         let by = padded(alloc, "p()~>true", length)?;
-        let (found, desk) = substituted(alloc, b"p()", &by)?;
-        assert_eq!(rt; desk.printed(), answer.as_bytes());
+        let (found, reply) = substituted(alloc, b"p()", &by)?;
+        assert_eq!(rt; reply.printed.as_slice(), answer.as_bytes());
         assert_eq!(rt; found, status);
     }
     for (length, status, answer) in [
@@ -428,8 +423,8 @@ fn keeps_substitutions_small(rt: HostRuntime) -> Result<(), Fail> {
         (1_048_577, 2, "refused: too-long e\n"),
     ] {
         let file = padded(alloc, "p()", length)?;
-        let (found, desk) = substituted(alloc, &file, b"p()~>true")?;
-        assert_eq!(rt; desk.printed(), answer.as_bytes());
+        let (found, reply) = substituted(alloc, &file, b"p()~>true")?;
+        assert_eq!(rt; reply.printed.as_slice(), answer.as_bytes());
         assert_eq!(rt; found, status);
     }
     Ok(())
@@ -463,14 +458,14 @@ fn doubled(alloc: Global, count: usize) -> Result<Vec<u8>, AllocError> {
 #[test]
 fn keeps_results_small(rt: HostRuntime) -> Result<(), Fail> {
     let alloc = rt.alloc();
-    let (status, desk) = substituted(alloc, &nested(alloc, "-", 15, "")?, b"f(._0)~>._0+._0")?;
-    assert_eq!(rt; desk.printed(), doubled(alloc, 15)?.as_slice());
+    let (status, reply) = substituted(alloc, &nested(alloc, "-", 15, "")?, b"f(._0)~>._0+._0")?;
+    assert_eq!(rt; reply.printed.as_slice(), doubled(alloc, 15)?.as_slice());
     assert_eq!(rt; status, 0);
     for (front, count, back) in [("--", 15, ""), ("", 17, ">0")] {
         let file = nested(alloc, front, count, back)?;
-        let (status, desk) = substituted(alloc, &file, b"f(._0)~>._0+._0")?;
+        let (status, reply) = substituted(alloc, &file, b"f(._0)~>._0+._0")?;
         assert_eq!(rt;
-            desk.printed(),
+            reply.printed.as_slice(),
             b"refused: result-too-big\n".as_slice(),
             "{count}"
         );
@@ -492,18 +487,18 @@ fn keeps_results_shallow(rt: HostRuntime) -> Result<(), Fail> {
             b"true",
         )?;
         let file = joined(alloc, &front, &repeated(alloc, "}", count)?, b"")?;
-        let (status, desk) = substituted(alloc, &file, by)?;
+        let (status, reply) = substituted(alloc, &file, by)?;
         if count == 99 {
             let deep = joined(alloc, &repeated(alloc, "!", 999)?, b"true\n", b"")?;
-            assert_eq!(rt; desk.printed(), deep.as_slice());
+            assert_eq!(rt; reply.printed.as_slice(), deep.as_slice());
             assert_eq!(rt; status, 0);
         } else {
-            assert_eq!(rt; desk.printed(), b"refused: result-too-deep\n".as_slice());
+            assert_eq!(rt; reply.printed.as_slice(), b"refused: result-too-deep\n".as_slice());
             assert_eq!(rt; status, 2);
         }
         let both = joined(alloc, &file, &nested(alloc, "&", 15, ">0")?, b"")?;
-        let (status, desk) = substituted(alloc, &both, by)?;
-        assert_eq!(rt; desk.printed(), b"refused: result-too-big\n".as_slice());
+        let (status, reply) = substituted(alloc, &both, by)?;
+        assert_eq!(rt; reply.printed.as_slice(), b"refused: result-too-big\n".as_slice());
         assert_eq!(rt; status, 2);
     }
     Ok(())

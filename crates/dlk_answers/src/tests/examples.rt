@@ -247,10 +247,10 @@ fn prints_models(rt: HostRuntime) -> Result<(), Fail> {
             "0<=x&x<=m&0<ep&0<=m -> [{{f:=0.5*(m-x)/ep;++f:=-1.25;++?x<m;f:=0;}?f<=(m-x)/ep;t:=0;{x'=f,t'=1&x>=0&t<=ep}}*](0<=x&x<=m)\n",
         ),
     ] {
-        let (status, desk) = printed(alloc, model.as_bytes())?;
-        assert_eq!(rt; desk.printed(), text.as_bytes(), "{model}");
+        let (status, reply) = printed(alloc, model.as_bytes())?;
+        assert_eq!(rt; reply.printed.as_slice(), text.as_bytes(), "{model}");
         assert_eq!(rt; status, 0, "{model}");
-        let (status, again) = printed(alloc, desk.printed())?;
+        let (status, again) = printed(alloc, reply.printed.as_slice())?;
         assert_eq!(rt; again.printed(), text.as_bytes(), "{text}");
         assert_eq!(rt; status, 0, "{text}");
     }
@@ -289,9 +289,9 @@ fn lists_models(rt: HostRuntime) -> Result<(), Fail> {
         (TWO_CARS, "V, ep, x, y", "t, t', vx, vy, x, x', y, y'"),
         (WATER_TANK, "ep, m, x", "f, t, t', x, x'"),
     ] {
-        let (status, desk) = listed(alloc, model.as_bytes())?;
+        let (status, reply) = listed(alloc, model.as_bytes())?;
         let lines = lines_of(alloc, [free, bound, "none", "none"])?;
-        assert_eq!(rt; desk.printed(), lines.as_bytes(), "{model}");
+        assert_eq!(rt; reply.printed.as_slice(), lines.as_bytes(), "{model}");
         assert_eq!(rt; status, 0, "{model}");
     }
     Ok(())

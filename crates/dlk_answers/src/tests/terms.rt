@@ -55,8 +55,8 @@ fn checks_examples(rt: HostRuntime) -> Result<(), Fail> {
             "closed\nconclusion ==> v>=0&A>=0 -> [{v'=A}]v>=0\ngoals 0\nleaves 0\nlines 87\n",
         ),
     ] {
-        let (found, desk) = checked(alloc, model.as_bytes(), term.as_bytes())?;
-        assert_eq!(rt; desk.printed(), printed.as_bytes(), "{model}");
+        let (found, reply) = checked(alloc, model.as_bytes(), term.as_bytes())?;
+        assert_eq!(rt; reply.printed.as_slice(), printed.as_bytes(), "{model}");
         assert_eq!(rt; found, status, "{model}");
     }
     Ok(())
@@ -108,8 +108,8 @@ fn merges_and_substitutes(rt: HostRuntime) -> Result<(), Fail> {
             "refused: line 3: NotFresh\n",
         ),
     ] {
-        let (found, desk) = checked(alloc, model.as_bytes(), term.as_bytes())?;
-        assert_eq!(rt; desk.printed(), printed.as_bytes(), "{model}");
+        let (found, reply) = checked(alloc, model.as_bytes(), term.as_bytes())?;
+        assert_eq!(rt; reply.printed.as_slice(), printed.as_bytes(), "{model}");
         assert_eq!(rt; found, status, "{model}");
     }
     Ok(())
@@ -169,8 +169,8 @@ fn refuses_steps(rt: HostRuntime) -> Result<(), Fail> {
         ),
         ("1 axiom V\n2 subst 1\n", "refused: line 2: Malformed\n"),
     ] {
-        let (found, desk) = checked(alloc, b"x>=0", term.as_bytes())?;
-        assert_eq!(rt; desk.printed(), printed.as_bytes(), "{term}");
+        let (found, reply) = checked(alloc, b"x>=0", term.as_bytes())?;
+        assert_eq!(rt; reply.printed.as_slice(), printed.as_bytes(), "{term}");
         assert_eq!(rt; found, 2, "{term}");
     }
     Ok(())
