@@ -57,7 +57,7 @@ module _ (layout : Layout) (model term : List ℕ) (f : Tree) (reads : ModelText
         proof = p;
         accepts = a;
         other = λ e. ne (e ∙ ap proves (sym same));
-        refusal = ap (λ x. (other_conclusion (length rows) x p.conclusion).printed) same;
+        refusal = ap (λ x. (other_conclusion a.line x p.conclusion).printed) same;
       })
   refused_of reply (reports g t rows p a e) two = absurd (omega (arith, two, closed_or_open (is_closed p.goals)))
 
@@ -72,7 +72,7 @@ module _ (layout : Layout) (model term : List ℕ) (f : Tree) (reads : ModelText
         let same = one_check layout model term reply (reported layout p (length rows)) checks (reports f reads rows p a e) in
         subst (λ (r : Reply). code_of r.status < 2) (sym same) (closed_or_open (is_closed p.goals));
     another = λ rows p a ne few.
-        let same = one_check layout model term reply (other_conclusion (length rows) f p.conclusion) checks (bad_conclusion f reads rows p a ne) in
+        let same = one_check layout model term reply (other_conclusion a.line f p.conclusion) checks (bad_conclusion f reads rows p a ne) in
         (ap (λ (r : Reply). code_of r.status) same, ap (λ (r : Reply). r.printed) same);
   }
 

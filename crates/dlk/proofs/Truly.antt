@@ -43,7 +43,7 @@ closed_front (goal ∷ goals) others said n h = absurd (not_open n _ _ h)
 
 -- what is accepted ends in a derived provable
 pub accepted_derived : (term : List ℕ) (rows : List Provable) (p : Provable) → Accepts term rows p → Derives p
-accepted_derived term rows p a = (a.before, subst History a.last (accepted_history (file_lines term) rows a.verdict))
+accepted_derived term rows p a = (a.before, subst History a.last (accepted_history (file_lines term) rows a.line a.verdict))
 
 -- how a reply was given: whole with its own status, or a front of it with status 5
 pub data Given (reply : Reply) (status : ℕ) (said : List ℕ) : Type 0 where

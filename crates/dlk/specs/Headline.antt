@@ -87,7 +87,7 @@ pub record NamesConclusion (term : List ℕ) (f : Tree) (said : List ℕ) : Type
   pub proof : Provable
   pub accepts : Accepts term rows proof
   pub other : proof.conclusion ≢ proves f
-  pub refusal : said ≡ (other_conclusion (length rows) f proof.conclusion).printed
+  pub refusal : said ≡ (other_conclusion accepts.line f proof.conclusion).printed
 
 -- A term within the limits is accepted exactly where each of its lines is a step of the calculus; else its first wrong line is named.
 pub record Judges (layout : Layout) (term : List ℕ) (f : Tree) (status : ℕ) (said : List ℕ) : Type 0 where
@@ -95,8 +95,8 @@ pub record Judges (layout : Layout) (term : List ℕ) (f : Tree) (status : ℕ) 
   pub refused : status ≡ 2 → NamesLine term said ⊎ NamesConclusion term f said
   pub first_wrong : (n : ℕ) (why : LineWhy) → Verdict (file_lines term) (bad n why) → status < 3 → (status ≡ 2) × (said ≡ (line_refused n why).printed)
   pub all_steps : (rows : List Provable) (p : Provable) → Accepts term rows p → p.conclusion ≡ proves f → status < 3 → status < 2
-  pub another : (rows : List Provable) (p : Provable) → Accepts term rows p → p.conclusion ≢ proves f → status < 3 →
-      (status ≡ 2) × (said ≡ (other_conclusion (length rows) f p.conclusion).printed)
+  pub another : (rows : List Provable) (p : Provable) → (a : Accepts term rows p) → p.conclusion ≢ proves f → status < 3 →
+      (status ≡ 2) × (said ≡ (other_conclusion a.line f p.conclusion).printed)
 
 abbrev pub JudgesTruly : List Word → ℕ → Outside → Outside → Type 0
 JudgesTruly words status old new =

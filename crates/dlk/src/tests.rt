@@ -131,7 +131,7 @@ fn tells_faults_of_the_outside(rt: HostRuntime) -> Result<(), Fail> {
     Ok(())
 }
 
-/// A reply with a file: in one call the write begins, in four the seven bytes are written, in two the five are printed.
+/// A reply with a file: in one call the write begins, in four the seven bytes are written, in three the five are printed.
 #[test]
 fn gives_files_first(rt: HostRuntime) -> Result<(), Fail> {
     let alloc = rt.alloc();

@@ -26,20 +26,24 @@ use Rattle.dlk_answers.specs.declared.command.Command.TheVariants.{Check, Print,
 use Rattle.dlk_answers.specs.declared.reply.Layout.{Layout}
 use Rattle.dlk_answers.specs.declared.reply.Layout.TheVariants.{Text, Json}
 
--- the same rows, and the same last one
-pub record SameEnd (rows others : List Provable) (p q : Provable) : Type 0 where
+-- the same rows, and the same last one at the same line
+pub record SameEnd (rows others : List Provable) (line place : ℕ) (p q : Provable) : Type 0 where
   pub rows_are : rows ≡ others
+  pub line_is : line ≡ place
   pub last_is : p ≡ q
 
 rows_of : Answer → List Provable
-rows_of (accepted rows) = rows
+rows_of (accepted rows line) = rows
 rows_of (bad n why) = []
 
-not_both : {rows : List Provable} {n : ℕ} {why : LineWhy} → accepted rows ≡ bad n why → ⊥
+not_both : {rows : List Provable} {line n : ℕ} {why : LineWhy} → accepted rows line ≡ bad n why → ⊥
 not_both e = cc
 
-one_accepted : {rows others : List Provable} → accepted rows ≡ accepted others → rows ≡ others
+one_accepted : {rows others : List Provable} {line place : ℕ} → accepted rows line ≡ accepted others place → rows ≡ others
 one_accepted e = cc
+
+one_place : {rows others : List Provable} {line place : ℕ} → accepted rows line ≡ accepted others place → line ≡ place
+one_place e = cc
 
 one_bad : {n m : ℕ} {why other : LineWhy} → bad n why ≡ bad m other → line_refused n why ≡ line_refused m other
 one_bad {n} {m} {why} {other} e =
@@ -57,13 +61,14 @@ one_last (z ∷ w ∷ xs) [] x y e = cc
 one_last (z ∷ xs) (w ∷ ys) x y e = let tail : xs ++ x ∷ [] ≡ ys ++ y ∷ [] = cc in one_last xs ys x y tail
 
 -- an accepted term has one end
-pub one_end : {term : List ℕ} {rows others : List Provable} {p q : Provable} → Accepts term rows p → Accepts term others q → SameEnd rows others p q
+pub one_end : {term : List ℕ} {rows others : List Provable} {p q : Provable} → (a : Accepts term rows p) → (b : Accepts term others q) → SameEnd rows others a.line b.line p q
 one_end {term} {rows} {others} {p} {q} a b =
-    let same : rows ≡ others = one_accepted (one_verdict (file_lines term) (accepted rows) (accepted others) a.verdict b.verdict) in
-    record { rows_are = same; last_is = one_last a.before b.before p q (sym a.last ∙ same ∙ b.last) }
+    let one = one_verdict (file_lines term) (accepted rows a.line) (accepted others b.line) a.verdict b.verdict in
+    let same : rows ≡ others = one_accepted one in
+    record { rows_are = same; line_is = one_place one; last_is = one_last a.before b.before p q (sym a.last ∙ same ∙ b.last) }
 
 accepted_not_bad : {term : List ℕ} {rows : List Provable} {p : Provable} {n : ℕ} {why : LineWhy} → Accepts term rows p → Verdict (file_lines term) (bad n why) → ⊥
-accepted_not_bad {term} {rows} {p} {n} {why} a v = not_both (one_verdict (file_lines term) (accepted rows) (bad n why) a.verdict v)
+accepted_not_bad {term} {rows} {p} {n} {why} a v = not_both (one_verdict (file_lines term) (accepted rows a.line) (bad n why) a.verdict v)
 
 -- a model is one formula, or has one fault
 pub one_model : {model : List ℕ} {f g : Tree} → ModelText model f → ModelText model g → f ≡ g
@@ -87,7 +92,7 @@ module _ (layout : Layout) (model term : List ℕ) where
   one_check r s (bad_conclusion f t rows p a ne) (bad_conclusion g u others q b ne2) =
       let end = one_end a b in
       let same = one_model t u in
-      λ i. other_conclusion (length (end.rows_are i)) (same i) (end.last_is i).conclusion
+      λ i. other_conclusion (end.line_is i) (same i) (end.last_is i).conclusion
   one_check r s (bad_conclusion f t rows p a ne) (reports g u others q b e) =
       absurd (ne (ap (λ (x : Provable). x.conclusion) (one_end a b).last_is ∙ e ∙ ap proves (sym (one_model t u))))
   one_check r s (reports f t rows p a e) (bad_model other b) = absurd (model_or_fault other t b)

@@ -1,5 +1,5 @@
 -- What `check` and `report` answer to a model and a term.
-use Rattle.std.specs.Prelude.{◌≡◌, ◌≢◌, ◌⊎◌, ℕ, Bool, true, false, List, [], ◌∷◌, ◌++◌, length, codes, decimal}
+use Rattle.std.specs.Prelude.{◌≡◌, ◌≢◌, ℕ, Bool, true, false, List, [], ◌∷◌, ◌++◌, length, codes, decimal}
 use Rattle.dlk_tree.specs.Trees.{Tree}
 use Rattle.dlk_calculus.specs.declared.reason.Reason.{Reason}
 use Rattle.dlk_calculus.specs.declared.reason.Reason.TheVariants.{NoFact, NoGoal, UnknownName, NoPlace, WrongShape, NotEqual, NotFresh, NotArith, IllSubst, FreeInSubst, NotAdmissible, TooBig, TooDeep, SideFull, GoalsFull, LeavesFull, LinesFull}
@@ -84,22 +84,18 @@ report_in layout p lines = laid_out layout (parts_of p lines)
 abbrev pub reported : Layout → Provable → ℕ → Reply
 reported layout p lines = printing (status_of (is_closed p.goals)) (report_in layout p lines)
 
--- what is answered to a term whose lines are all steps and show this provable
-abbrev pub judged : Layout → Tree → ℕ → Reply → Provable → Type 0
-judged layout f lines reply p =
-    ((p.conclusion ≡ proves f) × (reply ≡ reported layout p lines)) ⊎ ((p.conclusion ≢ proves f) × (reply ≡ other_conclusion lines f p.conclusion))
-
--- the term is accepted: each of its lines is a step, and the last of the rows is p
+-- the term is accepted: each of its lines is a step, and the last of the rows is p, at this line
 pub record Accepts (term : List ℕ) (rows : List Provable) (p : Provable) : Type 0 where
   pub before : List Provable
   pub last : rows ≡ before ++ p ∷ []
-  pub verdict : Verdict (file_lines term) (accepted rows)
+  pub line : ℕ
+  pub verdict : Verdict (file_lines term) (accepted rows line)
 
 -- Checks layout model term reply: this is what is answered to the model and the term. One case an answer.
 pub data Checks (layout : Layout) (model term : List ℕ) : Reply → Type 0 where
   bad_model : (why : TextFault) → ModelFault model why → Checks layout model term (text_refused Model why)
   bad_line : (f : Tree) → ModelText model f → (n : ℕ) (why : LineWhy) → Verdict (file_lines term) (bad n why) → Checks layout model term (line_refused n why)
-  bad_conclusion : (f : Tree) → ModelText model f → (rows : List Provable) (p : Provable) → Accepts term rows p →
-      p.conclusion ≢ proves f → Checks layout model term (other_conclusion (length rows) f p.conclusion)
+  bad_conclusion : (f : Tree) → ModelText model f → (rows : List Provable) (p : Provable) → (a : Accepts term rows p) →
+      p.conclusion ≢ proves f → Checks layout model term (other_conclusion a.line f p.conclusion)
   reports : (f : Tree) → ModelText model f → (rows : List Provable) (p : Provable) → Accepts term rows p →
       p.conclusion ≡ proves f → Checks layout model term (reported layout p (length rows))

@@ -3,6 +3,7 @@ pub mod Replies
 pub mod Inputs
 pub mod Refusals
 pub mod Checks
+pub mod Judged
 pub mod Prints
 pub mod Lists
 pub mod Substitutes

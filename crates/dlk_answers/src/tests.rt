@@ -11,7 +11,6 @@ mod terms;
 ghost use Rattle.std.specs.Prelude.{◌≡◌, ◌<◌, ◌≤◌};
 
 use super::*;
-use crate::form::{Form, Last};
 use dlk_kernel::{Kernel, Step};
 use dlk_parse::{read_formula, read_sequent};
 use dlk_plain::PlainStore;

@@ -6,7 +6,8 @@ ghost use Rattle.dlk_sequent.specs.Sequents.{sequent_at, IsKnown};
 ghost use Rattle.dlk_kernel.specs.Kernel.{facts};
 ghost use Rattle.dlk_report.specs.Reports.{HasAsciiTexts};
 ghost use Rattle.dlk_report.specs.Shown.{parts};
-ghost use Rattle.dlk_answers.specs.Checks.{proves, reason_text, why_text, line_refused, other_conclusion, laid_out, reported, judged, Checks};
+ghost use Rattle.dlk_answers.specs.Checks.{proves, reason_text, why_text, line_refused, other_conclusion, laid_out, reported, Checks};
+ghost use Rattle.dlk_answers.specs.Judged.{judged};
 ghost use Rattle.dlk_answers.specs.Shown.{reply_of};
 
 use crate::form::Role;
@@ -156,13 +157,13 @@ fn judge<S: Store, L: Ledger>(
 ) -> Result<Reply, NoReply>
     requires formula { IsId (S.trees kernel.now.store) formula }
     requires fact { IsPlace kernel.now.rows outcome.fact }
-    ensures { IfOk result (λ r. IfSome (at (facts S.trees kernel.now) outcome.fact) (judged layout (tree (S.trees kernel.now.store) formula) outcome.lines (reply_of r))) }
+    ensures { IfOk result (λ r. IfSome (at (facts S.trees kernel.now) outcome.fact) (judged layout (tree (S.trees kernel.now.store) formula) outcome.lines outcome.line (reply_of r))) }
 {
     let found = kernel.conclusion(outcome.fact);
     if is_proof_of(kernel, found, formula) {
         report(alloc, layout, kernel, outcome.fact, outcome.lines, steps)
     } else {
-        refuse_conclusion(alloc, kernel, formula, found, outcome.lines, steps)
+        refuse_conclusion(alloc, kernel, formula, found, outcome.line, steps)
     }
 }
 
