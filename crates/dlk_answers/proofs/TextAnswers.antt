@@ -8,7 +8,8 @@ use Rattle.dlk_parse.specs.declared.fault.TextFault.{TextFault as FaultOfText}
 use Rattle.dlk_parse.specs.declared.fault.TextFault.TheVariants as text_fault
 use Rattle.dlk_answers.specs.declared.form.Role.{Role}
 use Rattle.dlk_answers.specs.Replies.{Reply}
-use Rattle.dlk_answers.specs.Refusals.{text_refused, IsTextRefused}
+use Rattle.dlk_answers.specs.Refusals.{text_refused}
+use Rattle.dlk_answers.specs.Refused.{IsTextRefused}
 
 module _ (role : Role) (IsFault : TextFault → Type 0) (IsAnswer : Reply → Type 0) (answers : (why : TextFault) → IsFault why → IsAnswer (text_refused role why)) where
   by_fault : (why : TextFault) (reply : Reply) → IsFault why → reply ≡ text_refused role why → IsAnswer reply

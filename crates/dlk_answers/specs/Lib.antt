@@ -2,6 +2,7 @@ pub mod Forms
 pub mod Replies
 pub mod Inputs
 pub mod Refusals
+pub mod Refused
 pub mod Checks
 pub mod Judged
 pub mod Prints

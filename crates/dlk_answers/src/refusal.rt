@@ -1,7 +1,8 @@
 // Refusals of one line, and those of texts that are not read.
 ghost use Rattle.std.specs.Prelude.{◌≡◌, ◌<◌, IfOk};
 ghost use Rattle.dlk_answers.specs.Replies.{refusal};
-ghost use Rattle.dlk_answers.specs.Refusals.{refused_at, refused_past, refused_syntax, IsTextRefused, IsUnreadRefused};
+ghost use Rattle.dlk_answers.specs.Refusals.{refused_at, refused_past, refused_syntax};
+ghost use Rattle.dlk_answers.specs.Refused.{IsTextRefused, IsUnreadRefused};
 ghost use Rattle.dlk_answers.specs.Shown.{reply_of};
 
 use crate::form::Role;

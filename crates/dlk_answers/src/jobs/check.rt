@@ -89,18 +89,18 @@ fn refuse_conclusion<S: Store, L: Ledger>(
     store: &S,
     formula: Id,
     found: &Sequent,
-    lines: u32,
+    line: usize,
     steps: &mut Steps<L>,
 ) -> Result<Reply, NoReply>
     requires formula { IsId (S.trees store.now) formula }
     requires found { IsKnown (S.trees store.now) found.now }
-    ensures { IfOk result (λ r. reply_of r ≡ other_conclusion lines (tree (S.trees store.now) formula) (sequent_at (S.trees store.now) found.now)) }
+    ensures { IfOk result (λ r. reply_of r ≡ other_conclusion line (tree (S.trees store.now) formula) (sequent_at (S.trees store.now) found.now)) }
 {
     let expected = Sequent {
         ante: Listed::new(alloc),
         succ: Listed::from_vec([formula].to_vec(alloc)?),
     };
-    let first = format!(in alloc; "refused: other-conclusion {lines}\nexpected ")?;
+    let first = format!(in alloc; "refused: other-conclusion {line}\nexpected ")?;
     let mut printed = first.into_bytes();
     sequent_text(store, &expected, &mut printed, steps)?;
     printed.extend_from_slice(b"\nfound ")?;

@@ -4,7 +4,7 @@ use Rattle.dlk_calculus.specs.Places.{at}
 use Rattle.dlk_store.specs.Stores.{tree}
 use Rattle.dlk_kernel.specs.Kernel.{facts, provable_at}
 use Rattle.dlk_answers.specs.declared.form.Role.TheVariants.{Model}
-use Rattle.dlk_answers.specs.Refusals.{IsTextRefused}
+use Rattle.dlk_answers.specs.Refused.{IsTextRefused}
 use Rattle.dlk_answers.specs.Checks.{Checks, bad_model, ModelFault, line_refused}
 use Rattle.dlk_answers.specs.Judged.{judged}
 use Rattle.dlk_answers.specs.Shown.{reply_of}

@@ -2,7 +2,7 @@ use Rattle.std.proofs.Common.{◌≡◌}
 use Rattle.std.proofs.lemmas.Result.{IfOk-weaker}
 use Rattle.dlk_store.specs.Stores.{tree}
 use Rattle.dlk_answers.specs.declared.form.Role.TheVariants.{File}
-use Rattle.dlk_answers.specs.Refusals.{IsTextRefused}
+use Rattle.dlk_answers.specs.Refused.{IsTextRefused}
 use Rattle.dlk_answers.specs.Prints.{Prints, bad_text, FileFault, printed}
 use Rattle.dlk_answers.specs.Shown.{reply_of}
 use Rattle.dlk_answers.proofs.TextAnswers.{text_answer}

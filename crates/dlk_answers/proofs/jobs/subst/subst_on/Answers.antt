@@ -7,7 +7,7 @@ use Rattle.dlk_grammar.specs.declared.token.Form.TheVariants.{Expression}
 use Rattle.dlk_grammar.specs.Texts.{TreeTextFault, PairsTextFault}
 use Rattle.dlk_answers.specs.declared.form.Role.TheVariants.{File, Substitution}
 use Rattle.dlk_answers.specs.Replies.{refusal}
-use Rattle.dlk_answers.specs.Refusals.{IsTextRefused}
+use Rattle.dlk_answers.specs.Refused.{IsTextRefused}
 use Rattle.dlk_answers.specs.Prints.{printed}
 use Rattle.dlk_answers.specs.Substitutes.{Substitutes, bad_file, bad_subst, pair_refused}
 use Rattle.dlk_answers.specs.Shown.{reply_of}

@@ -1,7 +1,7 @@
 use Rattle.std.proofs.lemmas.Result.{IfOk-weaker}
 use Rattle.dlk_store.specs.Stores.{tree}
 use Rattle.dlk_answers.specs.declared.form.Role.TheVariants.{File}
-use Rattle.dlk_answers.specs.Refusals.{IsTextRefused}
+use Rattle.dlk_answers.specs.Refused.{IsTextRefused}
 use Rattle.dlk_answers.specs.Prints.{FileFault}
 use Rattle.dlk_answers.specs.Lists.{Lists, bad_text}
 use Rattle.dlk_answers.specs.Shown.{reply_of}
