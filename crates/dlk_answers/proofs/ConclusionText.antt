@@ -6,6 +6,7 @@ use Rattle.dlk_store.specs.Stores.{tree}
 use Rattle.dlk_calculus.specs.Sequents.{Sequent}
 use Rattle.dlk_grammar.specs.Shown.{spell, shown_sequent}
 use Rattle.dlk_answers.specs.declared.reply.Status.TheVariants.{Refused}
+use Rattle.dlk_answers.specs.Replies.{printing}
 use Rattle.dlk_answers.specs.Checks.{proves, other_conclusion}
 
 -- the parts of a text one after another, and the same parts as three lines
@@ -28,7 +29,7 @@ proved_at trees f ante succ none one = λ i. spell (shown_sequent (record { ante
 pub conclusion_reply : (lines : ℕ) (f : Tree) (found : Sequent) (expected p q r s t : List ℕ) → expected ≡ spell (shown_sequent (proves f)) →
     p ≡ codes "refused: other-conclusion " ++ (decimal lines ++ codes "\nexpected ") →
     q ≡ p ++ expected → r ≡ q ++ codes "\nfound " → s ≡ r ++ spell (shown_sequent found) → t ≡ s ++ 10 ∷ [] →
-    record { status = Refused; printed = t } ≡ other_conclusion lines f found
+    printing Refused t ≡ other_conclusion lines f found
 conclusion_reply lines f found expected p q r s t e p_is q_is r_is s_is t_is =
-    ap (λ x. record { status = Refused; printed = x })
+    ap (printing Refused)
     (conclusion_text (codes "refused: other-conclusion ") (codes "expected ") (codes "found ") (decimal lines) (spell (shown_sequent (proves f))) (spell (shown_sequent found)) p q r s t p_is (q_is ∙ ap (λ x. p ++ x) e) r_is s_is t_is)

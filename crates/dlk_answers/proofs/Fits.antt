@@ -1,12 +1,15 @@
 -- Words that have a form are as many as it has.
-use Rattle.std.proofs.Common.{◌≡◌, ℕ, ◌+◌, ◌-◌, ◌≤◌, Bool, true, false, cond, List, [], ◌∷◌, length, map, take, drop, Some, IsTrue, find, String, string_bytes, refl, sym, ap, ◌∙◌, arith, bytes_eq}
+use Rattle.std.proofs.Common.{◌≡◌, ℕ, ◌+◌, ◌-◌, ◌≤◌, Bool, true, false, cond, List, [], ◌∷◌, length, map, take, drop, get_or, Some, IsTrue, find, String, string_bytes, refl, sym, ap, ◌∙◌, arith, bytes_eq}
 use Rattle.std.specs.Prelude.{◌&&◌, nat_le}
-use Rattle.std.proofs.lemmas.List.{length-map, take-map, take_rest}
+use Rattle.std.proofs.lemmas.List.{length-map, take-map}
 use Rattle.std.specs.List.{drop-map}
-use Rattle.std.proofs.lemmas.Bool.{and_parts, leb-true}
+use Rattle.std.proofs.lemmas.Bool.{and_parts, leb-true, le-leb}
 use Rattle.std.specs.declared.alloc.Global.{Global}
-use Rattle.dlk_answers.specs.Forms.{Form, form_of, ends_in, has_form, limits_of, inputs_of, others_of, command_of, commands, limit_of}
+use Rattle.dlk_answers.specs.Forms.{Word, Form, form_of, ends_in, has_form, limits_of, inputs_of, command_of, commands, limit_of}
+use Rattle.dlk_answers.specs.Inputs.{first_too_long}
+use Rattle.dlk_answers.specs.Shown.{form_shown}
 use Rattle.dlk_answers.specs.declared.command.Command.{Command}
+use Rattle.dlk_answers.specs.declared.form.Form.{Form as CodeForm}
 
 -- what is found passes
 pub found_passes : {X : Type 0} (p : X → Bool) (xs : List X) (x : X) → find p xs ≡ Some x → p x ≡ true
@@ -46,3 +49,18 @@ names_there words command n count =
     let k = length (form_of command).inputs in
     let same : 1 + n - 1 ≡ k = omega (arith, count) in
     ap (λ (m : ℕ). map string_bytes (take m (drop 1 words))) same ∙ sym (take-map string_bytes k (drop 1 words)) ∙ ap (λ (ws : List (List ℕ)). take k ws) (sym (drop-map string_bytes 1 words))
+
+-- the first input that is too long is sought among these names and roles
+pub same_sought : (c : Command) (words names : List Word) (form : CodeForm) (texts : List (List ℕ)) → names ≡ inputs_of c words → form_shown form ≡ form_of c →
+    first_too_long names (map limit_of form.inputs.now) texts ≡ first_too_long (inputs_of c words) (limits_of c) texts
+same_sought c words names form texts is_names is_form = λ i. first_too_long (is_names i) (map limit_of (is_form i).inputs) texts
+
+-- words whose first is the verb, by the words behind their inputs
+pub verb_and_rest : (words rest : List (String Global)) (verb : String Global) (form : Form) → 1 ≤ length words → verb ≡ get_or words 0 verb → bytes_eq (string_bytes verb) form.verb ≡ true →
+    length form.inputs ≤ length words - 1 → rest ≡ drop (length form.inputs) (drop 1 words) → ends_in form.last (map string_bytes rest) ≡ has_form (map string_bytes words) form
+verb_and_rest [] rest verb form some first same fits is = absurd (omega arith)
+verb_and_rest (w ∷ ws) rest verb form some first same fits is =
+    let k = length form.inputs in
+    let here : bytes_eq (string_bytes w) form.verb ≡ true = ap (λ v. bytes_eq (string_bytes v) form.verb) (sym first) ∙ same in
+    let room : nat_le k (length (map string_bytes ws)) ≡ true = le-leb k (length (map string_bytes ws)) (omega (arith, fits, length-map ws (string_bytes {Z = Global}))) in
+    ap (λ l. ends_in form.last (map string_bytes l)) is ∙ ap (ends_in form.last) (sym (drop-map string_bytes k ws)) ∙ rw (here, room) refl

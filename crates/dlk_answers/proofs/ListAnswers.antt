@@ -7,7 +7,7 @@ use Rattle.dlk_tree.specs.declared.op.Sym.{Sym}
 use Rattle.dlk_store.specs.declared.listing.Listing.{Listing}
 use Rattle.dlk_store.specs.Listings.{IsListingOf}
 use Rattle.dlk_answers.specs.declared.reply.Status.TheVariants.{Done}
-use Rattle.dlk_answers.specs.Replies.{line}
+use Rattle.dlk_answers.specs.Replies.{printing, line}
 use Rattle.dlk_answers.specs.Prints.{FileText}
 use Rattle.dlk_answers.specs.Lists.{Lists, lists, set_text, signature_text, IsWritten, AreWritten, set_listed, symbols_listed}
 
@@ -23,7 +23,7 @@ pub list_answer : (file : List ℕ) (t u : Tree) (f b m : Listing) (syms : List 
     FileText file t → u ≡ t → IsListingOf (free u) f → IsListingOf (bound u) b → IsListingOf (must u) m → IsSignature u syms →
     none ≡ [] → one ≡ none ++ line (codes "free: " ++ text_of f) → two ≡ one ++ line (codes "bound: " ++ text_of b) →
     three ≡ two ++ line (codes "must: " ++ text_of m) → label ≡ three ++ codes "symbols: " → four ≡ label ++ signature_text syms → ended ≡ four ++ 10 ∷ [] →
-    Lists file (record { status = Done; printed = ended })
+    Lists file (printing Done ended)
 list_answer file t u f b m syms none one two three label four ended reads same is_free is_bound is_must are_symbols none_is one_is two_is three_is label_is four_is ended_is =
     let free_line = line (codes "free: " ++ text_of f) in
     let bound_line = line (codes "bound: " ++ text_of b) in
@@ -35,7 +35,7 @@ list_answer file t u f b m syms none one two three label four ended reads same i
     let label_text : label ≡ ((free_line ++ bound_line) ++ must_line) ++ codes "symbols: " = label_is ∙ ap (λ l. l ++ codes "symbols: ") three_text in
     let four_text : four ≡ (((free_line ++ bound_line) ++ must_line) ++ codes "symbols: ") ++ symbols = four_is ∙ ap (λ l. l ++ symbols) label_text in
     let printed = ended_is ∙ ap (λ l. l ++ 10 ∷ []) four_text ∙ four_texts free_line bound_line must_line (codes "symbols: ") symbols (10 ∷ []) in
-    subst (λ l. Lists file (record { status = Done; printed = l })) (sym printed)
+    subst (λ l. Lists file (printing Done l)) (sym printed)
     (lists t reads (text_of f) (text_of b) (text_of m) symbols
     (subst (λ v. IsWritten (free v) (text_of f)) same (set_listed f.all_but f.vars is_free))
     (subst (λ v. IsWritten (bound v) (text_of b)) same (set_listed b.all_but b.vars is_bound))

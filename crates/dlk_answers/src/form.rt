@@ -120,7 +120,13 @@ impl Form {
         let [verb, rest @ ..] = words else {
             return false;
         };
+        if verb.as_str() != self.verb {
+            return false;
+        }
         let count = self.inputs.len();
-        verb.as_str() == self.verb && count <= rest.len() && ends_in(self.last, &rest[count..])
+        if rest.len() < count {
+            return false;
+        }
+        ends_in(self.last, &rest[count..])
     }
 }
