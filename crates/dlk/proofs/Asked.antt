@@ -23,15 +23,15 @@ one_at : {A : Type 0} (items : List A) (place : ℕ) (x y : A) → At items plac
 one_at items place x y a b = let e : Some x ≡ Some y = sym a ∙ b in cc
 
 -- the item behind the first i
-at_next : {X Y : Type 0} (f : X → Y) (items : List X) (i : ℕ) (x : X) → i < length items → x ≡ get_or items i x → At (map f items) (i + 1) (f x)
-at_next f items i x lt is =
+at_next : {X Y : Type 0} (f : X → Y) (items : List X) (i : ℕ) (x d : X) → i < length items → x ≡ get_or items i d → At (map f items) (i + 1) (f x)
+at_next f items i x d lt is =
     let place : i ≡ i + 1 - 1 = omega arith in
     At_read (map f items) (i + 1) (f x) (omega arith, omega (arith, length-map items f))
-    (ap f is ∙ sym (get_or-map f items i x (f x) lt) ∙ ap (λ (n : ℕ). get_or (map f items) n (f x)) place)
+    (ap f is ∙ sym (get_or-map f items i d (f x) lt) ∙ ap (λ (n : ℕ). get_or (map f items) n (f x)) place)
 
-module _ (tells : Type 0) (names : List (String Global)) (roles : List Role) (name : String Global) (role : Role) (i : ℕ) (old mid new : Outside) where
+module _ (tells : Type 0) (names : List (String Global)) (roles : List Role) (name : String Global) (role other_role : Role) (i : ℕ) (old mid new : Outside) where
   -- the first i were asked for, and then the next
-  pub asked_next : i < length names → i < length roles → name ≡ get_or names i name → role ≡ get_or roles i role →
+  pub asked_next : i < length names → i < length roles → name ≡ get_or names i name → role ≡ get_or roles i other_role →
       AsksFor tells (map string_bytes names) (map limit_of roles) i old mid → (tells → SameFiles old.files mid.files) →
       StartedAndTook tells (limit_of role) (string_bytes name) mid new → AsksFor tells (map string_bytes names) (map limit_of roles) (i + 1) old new
   asked_next lt less name_is role_is so_far same started =
@@ -46,8 +46,8 @@ module _ (tells : Type 0) (names : List (String Global)) (roles : List Role) (na
         ∙ append_assoc old.asked (take i (map string_bytes names)) (string_bytes name ∷ []) ∙ ap (λ (ws : List Word). old.asked ++ ws) next;
     none = λ t z. absurd (omega (arith, z));
     last = λ t other limit a b.
-        let is_name : string_bytes name ≡ other = one_at (map string_bytes names) (i + 1) (string_bytes name) other (at_next string_bytes names i name lt name_is) a in
-        let is_limit : limit_of role ≡ limit = one_at (map limit_of roles) (i + 1) (limit_of role) limit (at_next limit_of roles i role less role_is) b in
+        let is_name : string_bytes name ≡ other = one_at (map string_bytes names) (i + 1) (string_bytes name) other (at_next string_bytes names i name name lt name_is) a in
+        let is_limit : limit_of role ≡ limit = one_at (map limit_of roles) (i + 1) (limit_of role) limit (at_next limit_of roles i role other_role less role_is) b in
         subst (λ (w : Word). IsSomeAnd (old.files w) (λ bytes. LosesAtMost (limit + 1) bytes new.left)) is_name
         (subst (λ (n : ℕ). IsSomeAnd (old.files (string_bytes name)) (λ bytes. LosesAtMost (n + 1) bytes new.left)) is_limit
         (subst (λ file. IsSomeAnd file (λ bytes. LosesAtMost (limit_of role + 1) bytes new.left)) (same t (string_bytes name)) (started.took t)));
@@ -62,7 +62,7 @@ module _ (tells : Type 0) (names : List (String Global)) (roles : List Role) (na
     last = λ t other limit a b. subst (λ left. IsSomeAnd (old.files other) (λ bytes. LosesAtMost (limit + 1) bytes left)) (sym (never.left t)) (so_far.last t other limit a b);
   }
 
-  pub asked_further : i < length names → i < length roles → name ≡ get_or names i name → role ≡ get_or roles i role →
+  pub asked_further : i < length names → i < length roles → name ≡ get_or names i name → role ≡ get_or roles i other_role →
       AsksFor tells (map string_bytes names) (map limit_of roles) i old mid → (tells → SameFiles old.files mid.files) →
       TookUpTo tells (limit_of role) (string_bytes name) mid new → (count : ℕ) × AsksFor tells (map string_bytes names) (map limit_of roles) count old new
   asked_further lt less name_is role_is so_far same (inl never) = (i, asked_no_more so_far never)

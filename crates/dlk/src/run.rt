@@ -47,7 +47,8 @@ fn read_inputs<D: Desk>(
 {
     let mut inputs = Vec::new(alloc);
     for (i, name) in names.iter().enumerate() {
-        inputs.push(read_all(alloc, desk, name, roles[i].limit())?)?;
+        let role = roles[i];
+        inputs.push(read_all(alloc, desk, name, role.limit())?)?;
     }
     Ok(inputs)
 }
