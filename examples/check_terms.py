@@ -1,7 +1,7 @@
 #!/usr/bin/env python3
 """Checks each term of `examples` by the program: each must be closed, and `report` must say the same as `check`.
 
-It also looks whether the tests of `dlk` have the same terms. Those of `unsound` and `constants` stand in no test: they
+It also looks whether the tests of `dlk_answers` have the same terms. Those of `unsound` and `constants` stand in no test: they
 are run by this script alone. Those of `unsound` must be closed, too, and their models must be `false`: that is what they
 show. Run it after `./dlk` has built the program.
 """
@@ -11,7 +11,7 @@ import subprocess
 
 EXAMPLES = pathlib.Path(__file__).resolve().parent
 PROGRAM = EXAMPLES.parent / "crates" / "dlk" / "out" / "dlk"
-TESTS = EXAMPLES.parent / "crates" / "dlk" / "src"
+TESTS = EXAMPLES.parent / "crates" / "dlk_answers" / "src"
 
 
 def stop(example, message):

@@ -25,8 +25,8 @@ pub fn replay<S: Store, L: Ledger>(
 ) -> Result<Outcome, ReplayFault>
     requires { kernel.old.rows ≡ [] }
 
-    // The rows are those that the lines give, and the last one is named.
-    ensures ok { OnOk result (Verdict (file_lines bytes.now) (accepted (facts S.trees kernel.new))) }
+    // The rows are those that the lines give, and the last one is named, with its line.
+    ensures ok { IfOk result (λ outcome. Verdict (file_lines bytes.now) (accepted (facts S.trees kernel.new) outcome.line)) }
     ensures fact { IfOk result (λ outcome. outcome.fact ≡ length kernel.new.rows) }
     ensures lines { IfOk result (λ outcome. outcome.lines ≡ length kernel.new.rows) }
     ensures some { OnOk result (1 ≤ length kernel.new.rows) }
@@ -57,6 +57,7 @@ pub fn replay<S: Store, L: Ledger>(
                 return Ok(Outcome {
                     fact: rows,
                     lines: rows,
+                    line: rows as usize,
                 });
             }
         }
