@@ -1,9 +1,11 @@
 -- The printed text of another conclusion.
-use Rattle.std.proofs.Common.{◌≡◌, ℕ, List, [], ◌∷◌, ◌++◌, codes, decimal, ap, ◌∙◌, append_assoc, map}
+use Rattle.std.proofs.Common.{◌≡◌, ℕ, List, [], ◌∷◌, ◌++◌, codes, decimal, ap, ◌∙◌, append_assoc}
 use Rattle.dlk_tree.specs.Trees.{Tree}
 use Rattle.dlk_store.specs.declared.Id.{Id}
 use Rattle.dlk_store.specs.Stores.{tree}
-use Rattle.dlk_calculus.specs.Sequents.{Sequent}
+use Rattle.dlk_calculus.specs.Sequents.{Sequent as TreeSequent}
+use Rattle.dlk_sequent.specs.declared.sequent.Sequent.{Sequent}
+use Rattle.dlk_sequent.specs.Sequents.{sequent_at}
 use Rattle.dlk_grammar.specs.Shown.{spell, shown_sequent}
 use Rattle.dlk_answers.specs.declared.reply.Status.TheVariants.{Refused}
 use Rattle.dlk_answers.specs.Replies.{printing}
@@ -22,11 +24,11 @@ conclusion_text a b c number expected found p q r s t p_is q_is r_is s_is t_is =
     ∙ three_lines a b c number expected found (10 ∷ [])
 
 -- the sequent of one formula on the right, by ids
-pub proved_at : (trees : List Tree) (f : Id) (ante succ : List Id) → ante ≡ [] → succ ≡ f ∷ [] →
-    spell (shown_sequent (record { ante = map (tree trees) ante; succ = map (tree trees) succ })) ≡ spell (shown_sequent (proves (tree trees f)))
-proved_at trees f ante succ none one = λ i. spell (shown_sequent (record { ante = map (tree trees) (none i); succ = map (tree trees) (one i) }))
+pub proved_at : (trees : List Tree) (f : Id) (s : Sequent) → s ≡ record { ante = []; succ = f ∷ [] } →
+    spell (shown_sequent (sequent_at trees s)) ≡ spell (shown_sequent (proves (tree trees f)))
+proved_at trees f s e = ap (λ x. spell (shown_sequent (sequent_at trees x))) e
 
-pub conclusion_reply : (lines : ℕ) (f : Tree) (found : Sequent) (expected p q r s t : List ℕ) → expected ≡ spell (shown_sequent (proves f)) →
+pub conclusion_reply : (lines : ℕ) (f : Tree) (found : TreeSequent) (expected p q r s t : List ℕ) → expected ≡ spell (shown_sequent (proves f)) →
     p ≡ codes "refused: other-conclusion " ++ (decimal lines ++ codes "\nexpected ") →
     q ≡ p ++ expected → r ≡ q ++ codes "\nfound " → s ≡ r ++ spell (shown_sequent found) → t ≡ s ++ 10 ∷ [] →
     printing Refused t ≡ other_conclusion lines f found

@@ -7,7 +7,8 @@ use Rattle.dlk_tree.specs.declared.op.Sym.{Sym}
 use Rattle.dlk_store.specs.declared.listing.Listing.{Listing}
 use Rattle.dlk_store.specs.Listings.{IsListingOf}
 use Rattle.dlk_answers.specs.declared.reply.Status.TheVariants.{Done}
-use Rattle.dlk_answers.specs.Replies.{printing, line}
+use Rattle.dlk_answers.specs.Replies.{printing}
+use Rattle.dlk_report.specs.Reports.{line}
 use Rattle.dlk_answers.specs.Prints.{FileText}
 use Rattle.dlk_answers.specs.Lists.{Lists, lists, set_text, signature_text, IsWritten, AreWritten, set_listed, symbols_listed}
 

@@ -12,14 +12,14 @@ use Rattle.dlk_grammar.specs.Shown.{spell, shown_sequent}
 use Rattle.dlk_replay.specs.Files.{Verdict, accepted, bad, file_lines}
 use Rattle.dlk_replay.specs.declared.fault.LineWhy.{LineWhy}
 use Rattle.dlk_replay.specs.declared.fault.LineWhy.TheVariants.{Malformed, WrongNumber, NoEnd, Step}
-use Rattle.dlk_report.specs.Reports.{Parts, is_closed, parts_of, report_of}
+use Rattle.dlk_report.specs.Reports.{line, Parts, is_closed, parts_of, report_of}
 use Rattle.dlk_report.specs.Json.{json_of}
 use Rattle.dlk_answers.specs.declared.reply.Layout.{Layout}
 use Rattle.dlk_answers.specs.declared.reply.Layout.TheVariants.{Text, Json}
 use Rattle.dlk_answers.specs.declared.reply.Status.{Status}
 use Rattle.dlk_answers.specs.declared.reply.Status.TheVariants.{Closed, Open, Refused}
 use Rattle.dlk_answers.specs.declared.form.Role.TheVariants.{Model}
-use Rattle.dlk_answers.specs.Replies.{Reply, printing, line, refusal}
+use Rattle.dlk_answers.specs.Replies.{Reply, printing, refusal}
 use Rattle.dlk_answers.specs.Refusals.{text_refused}
 
 -- the model is a text of this formula, without argument dots and `_`

@@ -13,7 +13,8 @@ use Rattle.dlk_grammar.specs.Symbols.{shown_symbol}
 use Rattle.dlk_grammar.specs.Texts.{TextFault}
 use Rattle.dlk_answers.specs.declared.form.Role.TheVariants.{File}
 use Rattle.dlk_answers.specs.declared.reply.Status.TheVariants.{Done}
-use Rattle.dlk_answers.specs.Replies.{Reply, printing, line}
+use Rattle.dlk_answers.specs.Replies.{Reply, printing}
+use Rattle.dlk_report.specs.Reports.{line}
 use Rattle.dlk_answers.specs.Refusals.{text_refused}
 use Rattle.dlk_answers.specs.Prints.{FileText, FileFault}
 

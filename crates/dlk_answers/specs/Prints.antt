@@ -7,7 +7,8 @@ use Rattle.dlk_grammar.specs.Texts.{TreeText, TreeTextFault, TextFault}
 use Rattle.dlk_grammar.specs.Shown.{spell, shown}
 use Rattle.dlk_answers.specs.declared.form.Role.TheVariants.{File}
 use Rattle.dlk_answers.specs.declared.reply.Status.TheVariants.{Done}
-use Rattle.dlk_answers.specs.Replies.{Reply, printing, line}
+use Rattle.dlk_answers.specs.Replies.{Reply, printing}
+use Rattle.dlk_report.specs.Reports.{line}
 use Rattle.dlk_answers.specs.Refusals.{text_refused}
 
 -- the file is a text of this formula, program or term, maybe with argument dots and `_`

@@ -1,5 +1,6 @@
 -- What the program answers: a status, what is printed, and the bytes of the output file, if one is written.
-use Rattle.std.specs.Prelude.{ℕ, List, [], ◌∷◌, ◌++◌, Option, None, codes}
+use Rattle.std.specs.Prelude.{ℕ, List, ◌++◌, Option, None, codes}
+use Rattle.dlk_report.specs.Reports.{line}
 use Rattle.dlk_answers.specs.declared.reply.Status.{Status}
 use Rattle.dlk_answers.specs.declared.reply.Status.TheVariants.{Closed, Done, Open, Refused, Words}
 
@@ -20,9 +21,6 @@ code_of Words = 3
 -- a reply that writes no file
 abbrev pub printing : Status → List ℕ → Reply
 printing status bytes = record { status = status; printed = bytes; written = None }
-
-abbrev pub line : List ℕ → List ℕ
-line text = text ++ 10 ∷ []
 
 -- a refusal of one line
 abbrev pub refusal : List ℕ → Reply

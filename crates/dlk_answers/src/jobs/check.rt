@@ -20,7 +20,7 @@ use dlk_plain::PlainStore;
 use dlk_print::sequent_text;
 use dlk_replay::{LineWhy, Outcome, ReplayFault, replay};
 use dlk_report::{Report, report_json, report_text, shown};
-use dlk_sequent::{Listed, Sequent};
+use dlk_sequent::Sequent;
 use dlk_store::{Id, Steps, Store};
 use std::alloc::Global;
 use std::sync::ledger::Ledger;
@@ -96,10 +96,7 @@ fn refuse_conclusion<S: Store, L: Ledger>(
     requires found { IsKnown (S.trees store.now) found.now }
     ensures { IfOk result (λ r. reply_of r ≡ other_conclusion line (tree (S.trees store.now) formula) (sequent_at (S.trees store.now) found.now)) }
 {
-    let expected = Sequent {
-        ante: Listed::new(alloc),
-        succ: Listed::from_vec([formula].to_vec(alloc)?),
-    };
+    let expected = Sequent::alone_right(alloc, formula)?;
     let first = format!(in alloc; "refused: other-conclusion {line}\nexpected ")?;
     let mut printed = first.into_bytes();
     sequent_text(store, &expected, &mut printed, steps)?;

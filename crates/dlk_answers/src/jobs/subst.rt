@@ -8,7 +8,7 @@ use crate::fault::NoReply;
 use crate::jobs::print::print_tree;
 use crate::refusal::{refuse_text, refused};
 use crate::reply::Reply;
-use dlk_calculus::Why;
+use dlk_calculus::{GREATEST_DEPTH, MOST_NODES, Why};
 use dlk_grammar::Dots;
 use dlk_parse::{read_expression, read_substitution};
 use dlk_plain::PlainStore;
@@ -17,12 +17,6 @@ use dlk_store::{Steps, Store};
 use dlk_subst::{ApplyFault, apply};
 use std::alloc::Global;
 use std::sync::ledger::Ledger;
-
-/// The most nodes of a result.
-const MOST_NODES: u32 = 65_536;
-
-/// The greatest depth of a result.
-const GREATEST_DEPTH: u32 = 1_000;
 
 /// The word for a reason against a pair, as it is printed.
 fn why_word(why: Why) -> &'static str

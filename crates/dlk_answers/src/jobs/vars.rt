@@ -1,6 +1,6 @@
 // `vars FILE`: the free, bound and must-bound variables of an expression, and its symbols.
 ghost use Rattle.std.specs.Prelude.{◌≡◌, ◌<◌, ◌++◌, IfOk, OnOk, codes};
-ghost use Rattle.dlk_answers.specs.Replies.{line};
+ghost use Rattle.dlk_report.specs.Reports.{line};
 ghost use Rattle.dlk_answers.specs.Lists.{kind_word, kind_and_symbol, variables, set_text, signature_text, Lists};
 ghost use Rattle.dlk_answers.specs.Shown.{reply_of};
 

@@ -7,7 +7,7 @@ use Rattle.dlk_answers.proofs.jobs.check.refuse_conclusion.Goals as goal
 pub returns : goal.returns
 returns g c =
     let trees = g.S.Store.trees c.args.store.now in
-    let one = proved_at trees c.args.formula c.new.result c.from_vec.result c.new.ensures (c.from_vec.ensures ∙ c.in_ok-to_vec.ensures.items_if_clones_equal (λ x y e. e)) in
+    let one = proved_at trees c.args.formula c.in_ok-expected.expected c.in_ok-expected.ensures in
     c.printing.ensures
     ∙ conclusion_reply c.args.line (tree trees c.args.formula) (sequent_at trees c.args.found.now) _ c.into_bytes-printed.result.items c.sequent_text.new.out.items c.extend_from_slice.new.self.items c.sequent_text-2.new.out.items c.push.new.self.items
     one (ap (λ v. v.items) c.into_bytes-printed.ensures.value ∙ c.in_ok-first.ensures.ok) c.in_ok-sequent_text.ensures.ok c.in_ok-extend_from_slice.ensures.items c.in_ok-sequent_text-2.ensures.ok c.in_ok-push.ensures.items
