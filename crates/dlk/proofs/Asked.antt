@@ -35,23 +35,23 @@ module _ (tells : Type 0) (names : List (String Global)) (roles : List Role) (na
       AsksFor tells (map string_bytes names) (map limit_of roles) i old mid → (tells → SameFiles old.files mid.files) →
       StartedAndTook tells (limit_of role) (string_bytes name) mid new → AsksFor tells (map string_bytes names) (map limit_of roles) (i + 1) old new
   asked_next lt less name_is role_is so_far same started =
-    let room : i < length (map string_bytes names) = omega (arith, length-map names (string_bytes {Z = Global})) in
-    let is : string_bytes name ≡ get_or (map string_bytes names) i (string_bytes name) =
-    ap string_bytes name_is ∙ sym (get_or-map string_bytes names i name (string_bytes name) lt) in
-    let next : take i (map string_bytes names) ++ string_bytes name ∷ [] ≡ take (i + 1) (map string_bytes names) =
-    ap (λ (w : Word). take i (map string_bytes names) ++ w ∷ []) is ∙ sym (take_more (map string_bytes names) i (string_bytes name) room) in
-    record {
-    within = omega (arith, room);
-    asked = started.asked ∙ ap (λ (ws : List Word). ws ++ string_bytes name ∷ []) so_far.asked
-        ∙ append_assoc old.asked (take i (map string_bytes names)) (string_bytes name ∷ []) ∙ ap (λ (ws : List Word). old.asked ++ ws) next;
-    none = λ t z. absurd (omega (arith, z));
-    last = λ t other limit a b.
-        let is_name : string_bytes name ≡ other = one_at (map string_bytes names) (i + 1) (string_bytes name) other (at_next string_bytes names i name name lt name_is) a in
-        let is_limit : limit_of role ≡ limit = one_at (map limit_of roles) (i + 1) (limit_of role) limit (at_next limit_of roles i role other_role less role_is) b in
-        subst (λ (w : Word). IsSomeAnd (old.files w) (λ bytes. LosesAtMost (limit + 1) bytes new.left)) is_name
-        (subst (λ (n : ℕ). IsSomeAnd (old.files (string_bytes name)) (λ bytes. LosesAtMost (n + 1) bytes new.left)) is_limit
-        (subst (λ file. IsSomeAnd file (λ bytes. LosesAtMost (limit_of role + 1) bytes new.left)) (same t (string_bytes name)) (started.took t)));
-  }
+      let room : i < length (map string_bytes names) = omega (arith, length-map names (string_bytes {Z = Global})) in
+      let is : string_bytes name ≡ get_or (map string_bytes names) i (string_bytes name) =
+      ap string_bytes name_is ∙ sym (get_or-map string_bytes names i name (string_bytes name) lt) in
+      let next : take i (map string_bytes names) ++ string_bytes name ∷ [] ≡ take (i + 1) (map string_bytes names) =
+      ap (λ (w : Word). take i (map string_bytes names) ++ w ∷ []) is ∙ sym (take_more (map string_bytes names) i (string_bytes name) room) in
+      record {
+        within = omega (arith, room);
+        asked = started.asked ∙ ap (λ (ws : List Word). ws ++ string_bytes name ∷ []) so_far.asked
+            ∙ append_assoc old.asked (take i (map string_bytes names)) (string_bytes name ∷ []) ∙ ap (λ (ws : List Word). old.asked ++ ws) next;
+        none = λ t z. absurd (omega (arith, z));
+        last = λ t other limit a b.
+            let is_name : string_bytes name ≡ other = one_at (map string_bytes names) (i + 1) (string_bytes name) other (at_next string_bytes names i name name lt name_is) a in
+            let is_limit : limit_of role ≡ limit = one_at (map limit_of roles) (i + 1) (limit_of role) limit (at_next limit_of roles i role other_role less role_is) b in
+            subst (λ (w : Word). IsSomeAnd (old.files w) (λ bytes. LosesAtMost (limit + 1) bytes new.left)) is_name
+            (subst (λ (n : ℕ). IsSomeAnd (old.files (string_bytes name)) (λ bytes. LosesAtMost (n + 1) bytes new.left)) is_limit
+            (subst (λ file. IsSomeAnd file (λ bytes. LosesAtMost (limit_of role + 1) bytes new.left)) (same t (string_bytes name)) (started.took t)));
+      }
 
   -- nothing more was asked for
   asked_no_more : AsksFor tells (map string_bytes names) (map limit_of roles) i old mid → NeverStarted tells mid new → AsksFor tells (map string_bytes names) (map limit_of roles) i old new

@@ -150,7 +150,11 @@ fn gives_files_first(rt: HostRuntime) -> Result<(), Fail> {
             written: Some(b"written".as_slice().to_vec(alloc)?),
         };
         let mut desk = desk_of(alloc, b"x>=0", b"", 2, &[call])?;
-        assert_eq!(rt; give(&mut desk, Some("model"), &reply).is_ok(), gives, "call {call}");
+        assert_eq!(rt;
+            give(&mut desk, Some("model"), &reply).is_ok(),
+            gives,
+            "call {call}"
+        );
         assert_eq!(rt; desk.file("model"), Some(file.as_bytes()), "call {call}");
         assert_eq!(rt; desk.printed(), printed.as_bytes(), "call {call}");
     }

@@ -60,8 +60,7 @@ fn is_count(word: &str) -> bool
         [first] => is_between(b'1', b'9', *first),
         [first, second] => is_between(b'1', b'9', *first) && is_digit(*second),
         [first, second, third] => {
-            is_between(b'1', b'4', *first) && is_digit(*second) && is_digit(*third)
-                || word == "500"
+            is_between(b'1', b'4', *first) && is_digit(*second) && is_digit(*third) || word == "500"
         }
         _ => false,
     }

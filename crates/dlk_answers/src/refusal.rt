@@ -5,8 +5,8 @@ ghost use Rattle.dlk_answers.specs.Refusals.{refused_at, refused_past, refused_s
 ghost use Rattle.dlk_answers.specs.Refused.{IsTextRefused, IsUnreadRefused};
 ghost use Rattle.dlk_answers.specs.Shown.{reply_of};
 
-use crate::form::Role;
 use crate::fault::NoReply;
+use crate::form::Role;
 use crate::reply::{Reply, Status, printing};
 use dlk_parse::{ParseFault, TextFault};
 use std::alloc::Global;

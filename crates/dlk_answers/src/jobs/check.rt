@@ -10,8 +10,8 @@ ghost use Rattle.dlk_answers.specs.Checks.{proves, reason_text, why_text, line_r
 ghost use Rattle.dlk_answers.specs.Judged.{judged};
 ghost use Rattle.dlk_answers.specs.Shown.{reply_of};
 
-use crate::form::Role;
 use crate::fault::NoReply;
+use crate::form::Role;
 use crate::refusal::{refuse_text, refused};
 use crate::reply::{Layout, Reply, Status, printing};
 use dlk_kernel::{Fact, Kernel, Reason};

@@ -4,8 +4,8 @@ ghost use Rattle.dlk_store.specs.Stores.{IsId, tree};
 ghost use Rattle.dlk_answers.specs.Prints.{Prints, printed};
 ghost use Rattle.dlk_answers.specs.Shown.{reply_of};
 
-use crate::form::Role;
 use crate::fault::NoReply;
+use crate::form::Role;
 use crate::refusal::refuse_text;
 use crate::reply::{Reply, Status, printing};
 use dlk_grammar::Dots;

@@ -3,8 +3,8 @@ ghost use Rattle.std.specs.Prelude.{◌≡◌, ◌<◌, IfOk};
 ghost use Rattle.dlk_answers.specs.Substitutes.{why_word, pair_refused, Substitutes};
 ghost use Rattle.dlk_answers.specs.Shown.{reply_of};
 
-use crate::form::Role;
 use crate::fault::NoReply;
+use crate::form::Role;
 use crate::jobs::print::print_tree;
 use crate::refusal::{refuse_text, refused};
 use crate::reply::Reply;

@@ -4,8 +4,8 @@ ghost use Rattle.dlk_report.specs.Reports.{line};
 ghost use Rattle.dlk_answers.specs.Lists.{kind_word, kind_and_symbol, variables, set_text, signature_text, Lists};
 ghost use Rattle.dlk_answers.specs.Shown.{reply_of};
 
-use crate::form::Role;
 use crate::fault::NoReply;
+use crate::form::Role;
 use crate::refusal::refuse_text;
 use crate::reply::{Reply, Status, printing};
 use dlk_grammar::Dots;

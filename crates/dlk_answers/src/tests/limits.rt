@@ -84,9 +84,16 @@ fn keeps_to_numbers_of_goals(rt: HostRuntime) -> Result<(), Fail> {
     let term = joined(alloc, &taken_apart(alloc, 256)?, b"done\n", b"")?;
     let (status, reply) = checked(alloc, &model, &term)?;
     assert_eq!(rt; status, 1);
-    assert!(rt; reply.printed.as_slice().starts_with(b"open\nconclusion ==> true&"));
     assert!(rt;
-        reply.printed.as_slice()
+        reply
+            .printed
+            .as_slice()
+            .starts_with(b"open\nconclusion ==> true&")
+    );
+    assert!(rt;
+        reply
+            .printed
+            .as_slice()
             .ends_with(b"goal 256 ==> true\nleaves 0\nlines 256\n")
     );
     let (status, reply) = checked(alloc, &model, &taken_apart(alloc, 257)?)?;
@@ -153,7 +160,10 @@ fn keeps_to_sizes_of_formulas(rt: HostRuntime) -> Result<(), Fail> {
     }
     let (status, reply) = checked(alloc, b"true", &term)?;
     assert_eq!(rt; status, 2);
-    assert_eq!(rt; reply.printed.as_slice(), b"refused: line 16: TooBig\n".as_slice());
+    assert_eq!(rt;
+        reply.printed.as_slice(),
+        b"refused: line 16: TooBig\n".as_slice()
+    );
     for (count, printed) in [
         (998, "refused: line 3: NoEnd\n"),
         (999, "refused: line 2: TooDeep\n"),

@@ -284,7 +284,10 @@ fn refuses_to_list(rt: HostRuntime) -> Result<(), Fail> {
     let big = joined(alloc, &repeated(alloc, "x+", 32768)?, b"x", b"")?;
     let (status, reply) = listed(alloc, &big)?;
     assert_eq!(rt; status, 2);
-    assert_eq!(rt; reply.printed.as_slice(), b"refused: file: size 65537\n".as_slice());
+    assert_eq!(rt;
+        reply.printed.as_slice(),
+        b"refused: file: size 65537\n".as_slice()
+    );
     Ok(())
 }
 
@@ -298,7 +301,10 @@ fn lists_long_files(rt: HostRuntime) -> Result<(), Fail> {
     );
     assert_eq!(rt; status, 0);
     let (status, reply) = listed(alloc, &padded(alloc, "y", 1_048_577)?)?;
-    assert_eq!(rt; reply.printed.as_slice(), b"refused: too-long m\n".as_slice());
+    assert_eq!(rt;
+        reply.printed.as_slice(),
+        b"refused: too-long m\n".as_slice()
+    );
     assert_eq!(rt; status, 2);
     Ok(())
 }

@@ -49,10 +49,16 @@ fn refuses_bytes(rt: HostRuntime) -> Result<(), Fail> {
     for byte in 128..=255u8 {
         let (status, reply) = checked(alloc, &[b'x', byte], TERM.as_bytes())?;
         assert_eq!(rt; status, 2, "{byte}");
-        assert_eq!(rt; reply.printed.as_slice(), b"refused: model at 1: byte\n".as_slice());
+        assert_eq!(rt;
+            reply.printed.as_slice(),
+            b"refused: model at 1: byte\n".as_slice()
+        );
         let (status, reply) = checked(alloc, b"x>=0", &[byte])?;
         assert_eq!(rt; status, 2, "{byte}");
-        assert_eq!(rt; reply.printed.as_slice(), b"refused: line 1: Malformed\n".as_slice());
+        assert_eq!(rt;
+            reply.printed.as_slice(),
+            b"refused: line 1: Malformed\n".as_slice()
+        );
     }
     Ok(())
 }
@@ -71,7 +77,10 @@ fn keeps_to_depth_of_models(rt: HostRuntime) -> Result<(), Fail> {
     assert_eq!(rt; status, 1);
     let (status, reply) = checked(alloc, &negations(alloc, 1000)?, &term)?;
     assert_eq!(rt; status, 2);
-    assert_eq!(rt; reply.printed.as_slice(), b"refused: model: depth 1001\n".as_slice());
+    assert_eq!(rt;
+        reply.printed.as_slice(),
+        b"refused: model: depth 1001\n".as_slice()
+    );
     Ok(())
 }
 
@@ -82,7 +91,10 @@ fn keeps_to_depth_of_lines(rt: HostRuntime) -> Result<(), Fail> {
     let term = joined(alloc, b"1 start ==> ", &deep, b"\ndone\n")?;
     let (status, reply) = checked(alloc, b"true", &term)?;
     assert_eq!(rt; status, 2);
-    assert_eq!(rt; reply.printed.as_slice(), b"refused: line 1: Malformed\n".as_slice());
+    assert_eq!(rt;
+        reply.printed.as_slice(),
+        b"refused: line 1: Malformed\n".as_slice()
+    );
     Ok(())
 }
 
@@ -94,7 +106,10 @@ fn keeps_to_lengths_of_models(rt: HostRuntime) -> Result<(), Fail> {
     assert_eq!(rt; status, 1);
     let (status, reply) = checked(alloc, &padded(alloc, "x>=0", 1_048_577)?, short)?;
     assert_eq!(rt; status, 2);
-    assert_eq!(rt; reply.printed.as_slice(), b"refused: too-long model\n".as_slice());
+    assert_eq!(rt;
+        reply.printed.as_slice(),
+        b"refused: too-long model\n".as_slice()
+    );
     Ok(())
 }
 

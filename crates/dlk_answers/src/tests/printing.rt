@@ -93,7 +93,11 @@ fn reads_bytes_alone(rt: HostRuntime) -> Result<(), Fail> {
                 assert_eq!(rt; status, 2, "{byte}");
             }
             None => {
-                assert_eq!(rt; reply.printed.as_slice(), [byte, b'\n'].as_slice(), "{byte}");
+                assert_eq!(rt;
+                    reply.printed.as_slice(),
+                    [byte, b'\n'].as_slice(),
+                    "{byte}"
+                );
                 assert_eq!(rt; status, 0, "{byte}");
             }
         }
@@ -119,7 +123,10 @@ fn reads_long_files(rt: HostRuntime) -> Result<(), Fail> {
 fn reads_opened_programs(rt: HostRuntime) -> Result<(), Fail> {
     let alloc = rt.alloc();
     let (status, reply) = printed(alloc, &repeated(alloc, "<?", 20_000)?)?;
-    assert_eq!(rt; reply.printed.as_slice(), b"refused: file: syntax\n".as_slice());
+    assert_eq!(rt;
+        reply.printed.as_slice(),
+        b"refused: file: syntax\n".as_slice()
+    );
     assert_eq!(rt; status, 2);
     Ok(())
 }
@@ -159,7 +166,10 @@ fn reads_items(rt: HostRuntime) -> Result<(), Fail> {
     );
     let (status, reply) = printed(alloc, &system_of(alloc, 65)?)?;
     assert_eq!(rt; status, 2);
-    assert_eq!(rt; reply.printed.as_slice(), b"refused: file at 0: shape\n".as_slice());
+    assert_eq!(rt;
+        reply.printed.as_slice(),
+        b"refused: file at 0: shape\n".as_slice()
+    );
     Ok(())
 }
 
@@ -175,7 +185,10 @@ fn keeps_to_depth(rt: HostRuntime) -> Result<(), Fail> {
     );
     let (status, reply) = printed(alloc, &joined(alloc, b"!", &deep, b"")?)?;
     assert_eq!(rt; status, 2);
-    assert_eq!(rt; reply.printed.as_slice(), b"refused: file: depth 1001\n".as_slice());
+    assert_eq!(rt;
+        reply.printed.as_slice(),
+        b"refused: file: depth 1001\n".as_slice()
+    );
     Ok(())
 }
 
@@ -187,6 +200,9 @@ fn keeps_to_size(rt: HostRuntime) -> Result<(), Fail> {
         &joined(alloc, &repeated(alloc, "x+", 32768)?, b"x", b"")?,
     )?;
     assert_eq!(rt; status, 2);
-    assert_eq!(rt; reply.printed.as_slice(), b"refused: file: size 65537\n".as_slice());
+    assert_eq!(rt;
+        reply.printed.as_slice(),
+        b"refused: file: size 65537\n".as_slice()
+    );
     Ok(())
 }

@@ -2,11 +2,7 @@
 use super::*;
 
 /// What `subst` answers to the bytes of an expression and of a substitution.
-fn substituted(
-    alloc: Global,
-    file: &[u8],
-    substitution: &[u8],
-) -> Result<(u8, Reply), NoReply> {
+fn substituted(alloc: Global, file: &[u8], substitution: &[u8]) -> Result<(u8, Reply), NoReply> {
     replied(alloc, &["subst", "e", "s"], &[file, substitution])
 }
 
@@ -145,7 +141,10 @@ fn splices_few_items(rt: HostRuntime) -> Result<(), Fail> {
             assert_eq!(rt; reply.printed.as_slice(), most.as_slice());
             assert_eq!(rt; status, 0);
         } else {
-            assert_eq!(rt; reply.printed.as_slice(), b"refused: not-admissible\n".as_slice());
+            assert_eq!(rt;
+                reply.printed.as_slice(),
+                b"refused: not-admissible\n".as_slice()
+            );
             assert_eq!(rt; status, 2);
         }
     }
@@ -496,12 +495,18 @@ fn keeps_results_shallow(rt: HostRuntime) -> Result<(), Fail> {
             assert_eq!(rt; reply.printed.as_slice(), deep.as_slice());
             assert_eq!(rt; status, 0);
         } else {
-            assert_eq!(rt; reply.printed.as_slice(), b"refused: result-too-deep\n".as_slice());
+            assert_eq!(rt;
+                reply.printed.as_slice(),
+                b"refused: result-too-deep\n".as_slice()
+            );
             assert_eq!(rt; status, 2);
         }
         let both = joined(alloc, &file, &nested(alloc, "&", 15, ">0")?, b"")?;
         let (status, reply) = substituted(alloc, &both, by)?;
-        assert_eq!(rt; reply.printed.as_slice(), b"refused: result-too-big\n".as_slice());
+        assert_eq!(rt;
+            reply.printed.as_slice(),
+            b"refused: result-too-big\n".as_slice()
+        );
         assert_eq!(rt; status, 2);
     }
     Ok(())

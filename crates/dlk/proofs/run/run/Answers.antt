@@ -51,5 +51,11 @@ returns-clause-answered g c = λ t has.
     let reply = reply_of c.in-Ok.reply in
     let given = c.give.ensures in
     let reads = c.in-Ok.ensures.only in
-    inr (inr (inl (refl, (reply, breaks_off (map string_bytes c.args.words.now) old mid new reply (option_copied c.output.result) c.output.ensures
-        (c.in-Ok.ensures.ok t) (reads.files t) (reads.printed t) (given.part t) (given.front t) (given.file_first t)))))
+    inr (inr (inl (
+      refl,
+      (
+        reply,
+        breaks_off (map string_bytes c.args.words.now) old mid new reply (option_copied c.output.result) c.output.ensures
+            (c.in-Ok.ensures.ok t) (reads.files t) (reads.printed t) (given.part t) (given.front t) (given.file_first t),
+      ),
+    )))
