@@ -4,7 +4,7 @@ use Rattle.std.specs.declared.alloc.Global.{Global}
 use Rattle.dlk_desk.specs.Outside.{Outside, Files}
 use Rattle.dlk_answers.specs.declared.command.Command.{Command}
 use Rattle.dlk_answers.specs.Forms.{Word, form_of, command_of, limit_of, limits_of, inputs_of, others_of}
-use Rattle.dlk_answers.specs.Inputs.{first_too_long, inputs, inputs_of_form, limits, limits_of_form}
+use Rattle.dlk_answers.specs.Inputs.{inputs, inputs_of_form, limits, limits_of_form}
 use Rattle.dlk_answers.specs.declared.form.Form.{Form as CodeForm}
 use Rattle.dlk_answers.specs.Shown.{form_shown}
 use Rattle.dlk_answers.specs.Replies.{Reply}

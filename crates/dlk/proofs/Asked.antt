@@ -1,8 +1,8 @@
 -- The inputs that were asked for, one after another.
-use Rattle.std.proofs.Common.{◌≡◌, ℕ, suc, zero, ◌+◌, ◌-◌, ◌<◌, ◌≤◌, List, [], ◌∷◌, ◌++◌, length, take, map, get_or, String, string_bytes, None, Some, IsSomeAnd, sym, ap, subst, ◌∙◌, append_assoc, append-nil, refl, arith, inl, inr, ◌⊎◌}
+use Rattle.std.proofs.Common.{◌≡◌, ℕ, ◌+◌, ◌-◌, ◌<◌, List, [], ◌∷◌, ◌++◌, length, take, map, get_or, String, string_bytes, None, Some, IsSomeAnd, sym, ap, subst, ◌∙◌, append_assoc, append-nil, refl, arith, inl, inr}
 use Rattle.std.proofs.lemmas.List.{take_more, length-map, get_or-map}
 use Rattle.std.specs.declared.alloc.Global.{Global}
-use Rattle.dlk_calculus.specs.Places.{At, at}
+use Rattle.dlk_calculus.specs.Places.{At}
 use Rattle.dlk_calculus.proofs.PlaceLaws.{At_read}
 use Rattle.dlk_desk.specs.Outside.{Outside, SameFiles}
 use Rattle.dlk_transfer.specs.Transfer.{LosesAtMost, TookUpTo, NeverStarted, StartedAndTook, ReadUpTo}

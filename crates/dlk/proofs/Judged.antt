@@ -4,7 +4,6 @@ use Rattle.std.proofs.lemmas.List.{append_cancel_left}
 use Rattle.std.proofs.lemmas.Bool.Decides.{nat_tests}
 use Rattle.dlk_tree.specs.Trees.{Tree}
 use Rattle.dlk_calculus.specs.Sequents.{Sequent}
-use Rattle.dlk_calculus.specs.Provables.{Provable}
 use Rattle.dlk_calculus.proofs.Leaves.{Derives-leaves}
 use Rattle.dlk_desk.specs.Outside.{Outside}
 use Rattle.dlk_report.specs.Reports.{is_closed}
@@ -12,10 +11,10 @@ use Rattle.dlk_answers.specs.declared.command.Command.{Command}
 use Rattle.dlk_answers.specs.declared.reply.Layout.{Layout}
 use Rattle.dlk_answers.specs.declared.reply.Layout.TheVariants.{Text, Json}
 use Rattle.dlk_answers.specs.declared.form.Role.TheVariants.{Model, Term}
-use Rattle.dlk_answers.specs.Forms.{Word, command_of, inputs_of, others_of, limits_of, limit_of}
+use Rattle.dlk_answers.specs.Forms.{Word, inputs_of, limits_of, limit_of}
 use Rattle.dlk_answers.specs.Inputs.{first_too_long, inputs, inputs_of_form}
 use Rattle.dlk_answers.specs.Replies.{Reply, code_of}
-use Rattle.dlk_answers.specs.Checks.{Checks, bad_model, bad_line, bad_conclusion, reports, Accepts, ModelText, proves, status_of, line_refused, other_conclusion, reported}
+use Rattle.dlk_answers.specs.Checks.{Checks, bad_model, bad_line, bad_conclusion, reports, ModelText, proves, status_of, line_refused, other_conclusion, reported}
 use Rattle.dlk_answers.specs.Answers.{Does, Responds, refuses, does}
 use Rattle.dlk_answers.proofs.OneReply.{one_check, one_model, model_or_fault}
 use Rattle.dlk.specs.Answers.{bytes_of, Answers, no_form, command}

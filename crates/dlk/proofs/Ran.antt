@@ -1,9 +1,9 @@
 -- From what was read and what was given to the clauses of a run.
-use Rattle.std.proofs.Common.{◌≡◌, ◌≢◌, ◌<◌, ◌≤◌, ℕ, List, ◌++◌, take, Option, IsSome, IsNone, refl, ap, sym, subst, ◌∙◌, ◌⊎◌, inl, inr, arith}
+use Rattle.std.proofs.Common.{◌≡◌, ◌≢◌, ◌≤◌, ℕ, List, ◌++◌, take, Option, IsNone, ap, sym, subst, ◌∙◌, ◌⊎◌, inl, inr, arith}
 use Rattle.dlk_desk.specs.Outside.{Outside, SameFiles}
 use Rattle.dlk_desk.specs.Desk.{OnlyReads, OnlyWrites}
 use Rattle.dlk_transfer.specs.Transfer.{GrowsByFront}
-use Rattle.dlk_answers.specs.Forms.{Word, command_of}
+use Rattle.dlk_answers.specs.Forms.{Word}
 use Rattle.dlk_answers.specs.Inputs.{inputs, limits, output}
 use Rattle.dlk_answers.specs.Replies.{Reply, code_of}
 use Rattle.dlk.specs.Answers.{Answers}

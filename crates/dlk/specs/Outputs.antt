@@ -1,5 +1,5 @@
 -- The file that a reply writes.
-use Rattle.std.specs.Prelude.{◌≡◌, ◌⊎◌, ℕ, List, take, Option, Some, None, if◌then◌else◌, bytes_eq}
+use Rattle.std.specs.Prelude.{◌⊎◌, ℕ, List, take, Option, Some, None, if◌then◌else◌, bytes_eq}
 use Rattle.dlk_desk.specs.Outside.{Files, SameFiles}
 use Rattle.dlk_answers.specs.Forms.{Word}
 

@@ -246,7 +246,7 @@ fn prints_models(rt: HostRuntime) -> Result<(), Fail> {
         assert_eq!(rt; reply.printed.as_slice(), text.as_bytes(), "{model}");
         assert_eq!(rt; status, 0, "{model}");
         let (status, again) = printed(alloc, reply.printed.as_slice())?;
-        assert_eq!(rt; again.printed(), text.as_bytes(), "{text}");
+        assert_eq!(rt; again.printed.as_slice(), text.as_bytes(), "{text}");
         assert_eq!(rt; status, 0, "{text}");
     }
     Ok(())

@@ -37,7 +37,7 @@ fn prints_texts(rt: HostRuntime) -> Result<(), Fail> {
         assert_eq!(rt; reply.printed.as_slice(), text.as_bytes(), "{file}");
         assert_eq!(rt; status, 0, "{file}");
         let (status, again) = printed(alloc, reply.printed.as_slice())?;
-        assert_eq!(rt; again.printed(), text.as_bytes(), "{file}");
+        assert_eq!(rt; again.printed.as_slice(), text.as_bytes(), "{file}");
         assert_eq!(rt; status, 0, "{file}");
     }
     Ok(())

@@ -1,5 +1,5 @@
 use Rattle.std.proofs.Common.{◌≡◌, List, ℕ, Some, option_copied, option_map, sym, subst}
-use Rattle.dlk.specs.Outputs.{Output, output_with, WrittenInPart}
+use Rattle.dlk.specs.Outputs.{output_with, WrittenInPart}
 use Rattle.dlk.proofs.Given.{part_is}
 use Rattle.dlk.proofs.give.write_output.Goals as goal
 

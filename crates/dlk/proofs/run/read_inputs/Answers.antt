@@ -1,6 +1,5 @@
-use Rattle.std.proofs.Common.{◌≡◌, ◌+◌, ◌<◌, ◌++◌, ◌∷◌, [], length, map, option_map, take, drop, get_or, Some, refl, sym, subst, ◌∙◌, ap, string_bytes, arith, rules}
+use Rattle.std.proofs.Common.{◌≡◌, ◌+◌, ◌<◌, ◌++◌, ◌∷◌, [], length, map, option_map, take, drop, get_or, refl, sym, subst, ◌∙◌, ap, string_bytes, arith, rules}
 use Rattle.std.proofs.lemmas.List.{map-append}
-use Rattle.dlk_desk.specs.Desk.{OnlyReads}
 use Rattle.dlk_transfer.specs.Transfer.{TookUpTo, ReadUpTo}
 use Rattle.dlk_answers.specs.Forms.{limit_of}
 use Rattle.dlk_answers.specs.Shown.{texts_of}

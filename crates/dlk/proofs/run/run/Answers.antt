@@ -1,4 +1,4 @@
-use Rattle.std.proofs.Common.{◌≡◌, ◌++◌, List, ℕ, map, string_bytes, option_copied, refl, sym, ap, subst, ◌∙◌, inl, inr}
+use Rattle.std.proofs.Common.{◌++◌, List, ℕ, map, string_bytes, option_copied, refl, sym, ap, subst, ◌∙◌, inl, inr}
 use Rattle.dlk_answers.specs.Shown.{reply_of}
 use Rattle.dlk.specs.Headline.{ClosedTruly, JudgesTruly}
 use Rattle.dlk.proofs.Truly.{whole_truly, front_truly}
