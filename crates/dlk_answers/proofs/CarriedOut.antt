@@ -57,7 +57,7 @@ list_carried_out file reply (lists t reads f b m s wf wb wm ws) = printed_only _
 substitute_carried_out : (file substitution : List ℕ) (reply : Reply) → Substitutes file substitution reply → IsCarriedOut reply
 substitute_carried_out file substitution reply (bad_file why fault) = text_carried_out File why
 substitute_carried_out file substitution reply (bad_subst e reads why fault) = text_carried_out Substitution why
-substitute_carried_out file substitution reply (bad_pair e pairs read ill is) = printed_only _ _ (omega arith)
+substitute_carried_out file substitution reply (bad_pair e pairs read n why is) = printed_only _ _ (omega arith)
 substitute_carried_out file substitution reply (not_admissible e pairs read good none) = printed_only _ _ (omega arith)
 substitute_carried_out file substitution reply (too_big e pairs read t has past) = printed_only _ _ (omega arith)
 substitute_carried_out file substitution reply (too_deep e pairs read t has small past) = printed_only _ _ (omega arith)
