@@ -8,11 +8,10 @@ import collections
 import pathlib
 import random
 import re
-import subprocess
 import tempfile
 
-TOP = pathlib.Path(__file__).resolve().parent.parent
-PROGRAM = TOP / "crates" / "dlk" / "out" / "dlk"
+from common import TOP, answer
+
 CHANGES = 10_000
 EVERY = range(256)
 USUAL = b"0123456789 \nxv()~>=,._&|"
@@ -44,13 +43,13 @@ def main():
         term = pathlib.Path(name) / "term"
         for k in range(CHANGES):
             example = examples[k % len(examples)]
-            said = subprocess.run([PROGRAM, "check", example / "model", example / "term"], capture_output=True, check=True)
+            said = answer("check", example / "model", example / "term")
             conclusion = said.stdout.decode().splitlines()[1]
             changed = bytearray((example / "term").read_bytes())
             place = chance.randrange(len(changed))
             changed[place] = chance.choice([byte for byte in (EVERY if k // len(examples) % 2 else USUAL) if byte != changed[place]])
             term.write_bytes(changed)
-            run = subprocess.run([PROGRAM, "check", example / "model", term], capture_output=True, check=False)
+            run = answer("check", example / "model", term)
             kind = kind_of(run.returncode, run.stdout.decode(errors="replace"), conclusion)
             if kind is None:
                 raise SystemExit(f"changes.py: {example.name}, byte {place} is {changed[place]}: status {run.returncode}, {run.stdout[:200]}")

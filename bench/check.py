@@ -13,10 +13,9 @@ import pathlib
 import re
 import subprocess
 import tempfile
-import time
 
-TOP = pathlib.Path(__file__).resolve().parent.parent
-PROGRAM = TOP / "crates" / "dlk" / "out" / "dlk"
+from common import PROGRAM, TOP
+
 LEMMA = TOP / "examples" / "increment"
 SET_MM = pathlib.Path("/usr/share/metamath/databases/set.mm")
 COUNTS = (1_000, 3_000, 10_000, 30_000, 100_000)

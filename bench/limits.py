@@ -4,11 +4,11 @@
 Run it after `./dlk` has built the program.
 """
 import pathlib
-import subprocess
 import tempfile
 import time
 
-PROGRAM = pathlib.Path(__file__).resolve().parent.parent / "crates" / "dlk" / "out" / "dlk"
+from common import answer
+
 MOST_BYTES = 1_048_576
 
 
@@ -62,7 +62,7 @@ def main():
         for title, text, status, printed in cases():
             file.write_text(text)
             begin = time.perf_counter()
-            run = subprocess.run([PROGRAM, "print", file], capture_output=True, check=False)
+            run = answer("print", file)
             spent = time.perf_counter() - begin
             base = base or spent
             if run.returncode != status or (printed is not None and run.stdout.decode() != printed):

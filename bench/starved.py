@@ -11,8 +11,8 @@ import pathlib
 import subprocess
 import tempfile
 
-TOP = pathlib.Path(__file__).resolve().parent.parent
-PROGRAM = TOP / "crates" / "dlk" / "out" / "dlk"
+from common import PROGRAM, TOP
+
 LIBRARY = r"""
 #define _GNU_SOURCE
 #include <dlfcn.h>

@@ -6,12 +6,11 @@ program.
 A number as argument is the greatest number of nodes.
 """
 import pathlib
-import resource
-import subprocess
 import sys
 import tempfile
 
-PROGRAM = pathlib.Path(__file__).resolve().parent.parent / "crates" / "dlk" / "out" / "dlk"
+from common import least_processor_time
+
 # numbers of nodes, each four times the one before
 SIZES = (1000, 4000, 16000, 64000)
 BINDERS = (0, 10, 100)
@@ -53,26 +52,14 @@ SHAPES = (
 )
 
 
-def children():
-    """The processor time of all programs that were run."""
-    usage = resource.getrusage(resource.RUSAGE_CHILDREN)
-    return usage.ru_utime + usage.ru_stime
-
-
 def seconds(folder, text, pairs, runs):
     """The least time of a run on this text and these pairs."""
     file = folder / "file"
     subst = folder / "subst"
     file.write_text(text)
     subst.write_text(pairs)
-    best = float("inf")
-    for _ in range(runs):
-        begin = children()
-        run = subprocess.run([PROGRAM, "subst", file, subst], capture_output=True, check=False)
-        best = min(best, children() - begin)
-        if run.returncode != 0 and not run.stdout.startswith(b"refused: result-too-big"):
-            raise SystemExit(f"subst.py: status {run.returncode} on {len(text)} bytes: {run.stdout[:80]!r}")
-    return best
+    is_too_big = b"refused: result-too-big"
+    return least_processor_time(runs, ["subst", file, subst], lambda run: run.returncode == 0 or run.stdout.startswith(is_too_big))
 
 
 def main():

@@ -4,11 +4,10 @@
 Each time is the least of twenty runs, less that of a file of one variable. Run it after `./dlk` has built the program.
 """
 import pathlib
-import subprocess
 import tempfile
-import time
 
-PROGRAM = pathlib.Path(__file__).resolve().parent.parent / "crates" / "dlk" / "out" / "dlk"
+from common import least_time
+
 RUNS = 20
 BRACKETS = 1200
 
@@ -53,14 +52,7 @@ TEXTS = (
 def seconds(path, text):
     """The least time of a run on this text."""
     path.write_text(text)
-    best = float("inf")
-    for _ in range(RUNS):
-        begin = time.perf_counter()
-        run = subprocess.run([PROGRAM, "print", path], capture_output=True, check=False)
-        best = min(best, time.perf_counter() - begin)
-        if run.returncode != 0:
-            raise SystemExit(f"texts.py: status {run.returncode} on {len(text)} bytes: {run.stdout[:80]!r}")
-    return best
+    return least_time(RUNS, ["print", path], lambda run: run.returncode == 0)
 
 
 def main():

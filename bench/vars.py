@@ -7,12 +7,11 @@ program. A number as argument is the greatest number of nodes.
 """
 import itertools
 import pathlib
-import resource
-import subprocess
 import sys
 import tempfile
 
-PROGRAM = pathlib.Path(__file__).resolve().parent.parent / "crates" / "dlk" / "out" / "dlk"
+from common import least_processor_time
+
 # numbers of nodes, each four times the one before
 SIZES = (1000, 4000, 16000, 64000)
 FEW = 4
@@ -85,23 +84,10 @@ SHAPES = (
 )
 
 
-def children():
-    """The processor time of all programs that were run."""
-    usage = resource.getrusage(resource.RUSAGE_CHILDREN)
-    return usage.ru_utime + usage.ru_stime
-
-
 def seconds(path, text):
     """The least time of a run on this text: of many runs where one is short."""
     path.write_text(text)
-    best = float("inf")
-    for _ in range(20 if len(text) < 20000 else 5):
-        begin = children()
-        run = subprocess.run([PROGRAM, "vars", path], capture_output=True, check=False)
-        best = min(best, children() - begin)
-        if run.returncode != 0:
-            raise SystemExit(f"vars.py: status {run.returncode} on {len(text)} bytes: {run.stdout[:80]!r}")
-    return best
+    return least_processor_time(20 if len(text) < 20000 else 5, ["vars", path], lambda run: run.returncode == 0)
 
 
 def growth(path, title, texts, base):

@@ -1,10 +1,10 @@
 #!/usr/bin/env python3
-"""Prints docs/DEFINITIONS.md: each definition that the contract of `run` rests on, in reading order.
+"""Prints docs/DEFINITIONS.md: each definition that the contract of `run` and its premises rest on, in reading order.
 
     python3 docs/definitions.py > /tmp/DEFINITIONS.md    prints the document
     python3 docs/definitions.py --check                  exits 1 where docs/DEFINITIONS.md is not that document
 
-From the names that the contract of `run` cites it follows every word through the files of `specs/`. What is reached
+From the names that the contract of `run` and the clauses of the trait `Desk` cite it follows every word through the files of `specs/`. What is reached
 becomes the rows of the document, with the lines counted. `definitions.json` says the rest: the sections in reading
 order, the sources, and what a definition says where the comment above it doesn't do.
 
@@ -23,9 +23,6 @@ from typing import NamedTuple
 ROOT = Path(__file__).resolve().parent.parent
 DATA = ROOT / "docs" / "definitions.json"
 DOCUMENT = ROOT / "docs" / "DEFINITIONS.md"
-
-# The crate whose `src/run.rt` has the contract, and whose `specs/` has the names where the walk starts.
-PROGRAM = "dlk"
 
 # The toolchain's library: words from it are followed no further.
 LIBRARY = "std"
@@ -225,23 +222,29 @@ def references_of(definition, spec_file):
 
 
 def reference_of(word, definition, spec_file):
-    """What a word in a definition refers to: something of the same file, an imported name, or one in a module."""
-    if word in spec_file.by_name:
-        return Reference(definition.crate, definition.file, word)
-    if word in spec_file.imports:
-        return spec_file.imports[word]
+    """What a word in a definition refers to: something of the same file, an imported name, or one in a module.
+
+    An operator stands between its arguments there, whose places its name has.
+    """
+    for name in (word, f"◌{word}◌"):
+        if name in spec_file.by_name:
+            return Reference(definition.crate, definition.file, name)
+        if name in spec_file.imports:
+            return spec_file.imports[name]
     module, _, name = word.partition(".")
     return Reference(*spec_file.modules[module], name) if module in spec_file.modules else None
 
 
 def starts_of(data):
-    """The names where the walk starts. The contract of `run` must cite each."""
-    run = f"crates/{PROGRAM}/src/run.rt"
-    cited = set(re.findall(r"\w+", read(run)))
-    starts = [Reference(PROGRAM, start["file"], name) for start in data["starts"] for name in start["names"]]
-    for start in starts:
-        if start.name not in cited:
-            stop(f"{run} does not cite {start.name}, which definitions.json has among its starts")
+    """The names where the walk starts. A contract in the file that the start names must cite each."""
+    starts = []
+    for start in data["starts"]:
+        source = f"crates/{start['crate']}/src/{start['cited_in']}"
+        cited = set(re.findall(r"\w+", read(source)))
+        for name in start["names"]:
+            if name not in cited:
+                stop(f"{source} does not cite {name}, which definitions.json has among its starts")
+            starts.append(Reference(start["crate"], start["file"], name))
     return starts
 
 

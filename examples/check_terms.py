@@ -1,7 +1,9 @@
 #!/usr/bin/env python3
 """Checks each term of `examples` by the program: each must be closed, and `report` must say the same as `check`.
 
-It also looks whether the tests of `dlk` have the same terms. Run it after `./dlk` has built the program.
+It also looks whether the tests of `dlk_answers` have the same terms. Those of `unsound` and `constants` stand in no test: they
+are run by this script alone. Those of `unsound` must be closed, too, and their models must be `false`: that is what they
+show. Run it after `./dlk` has built the program.
 """
 import json
 import pathlib
@@ -9,14 +11,19 @@ import subprocess
 
 EXAMPLES = pathlib.Path(__file__).resolve().parent
 PROGRAM = EXAMPLES.parent / "crates" / "dlk" / "out" / "dlk"
-TESTS = EXAMPLES.parent / "crates" / "dlk" / "src"
+TESTS = EXAMPLES.parent / "crates" / "dlk_answers" / "src"
+
+
+def stop(example, message):
+    """Ends the script with what is wrong with an example."""
+    raise SystemExit(f"check_terms.py: {example.relative_to(EXAMPLES)}: {message}")
 
 
 def printed(verb, example):
     """What a command prints of an example."""
     run = subprocess.run([PROGRAM, verb, example / "model", example / "term"], capture_output=True, check=False)
     if run.returncode != 0:
-        raise SystemExit(f"check_terms.py: {example.name}: status {run.returncode}, {run.stdout.decode().strip()}")
+        stop(example, f"status {run.returncode}, {run.stdout.decode().strip()}")
     return run.stdout.decode()
 
 
@@ -31,21 +38,38 @@ def as_text(report):
     return "\n".join(lines) + "\n"
 
 
+def checked(example):
+    """The report of an example, which must be closed, and the same in both layouts."""
+    text = printed("check", example)
+    if not text.startswith("closed\n"):
+        stop(example, "it isn't closed")
+    report = json.loads(printed("report", example))
+    if as_text(report) != text:
+        stop(example, "the two reports differ")
+    return report
+
+
+def folders(pattern):
+    """The folders with a term."""
+    return sorted(term.parent for term in EXAMPLES.glob(pattern))
+
+
 def main():
     """Checks each example."""
     tested = "".join(file.read_text() for file in TESTS.rglob("*.rt"))
-    examples = sorted(folder.parent for folder in EXAMPLES.glob("*/term"))
+    examples, constants, unsound = folders("*/term"), folders("constants/*/term"), folders("unsound/*/term")
     for example in examples:
-        text = printed("check", example)
-        if not text.startswith("closed\n"):
-            raise SystemExit(f"check_terms.py: {example.name}: it isn't closed")
-        if as_text(json.loads(printed("report", example))) != text:
-            raise SystemExit(f"check_terms.py: {example.name}: the two reports differ")
+        checked(example)
         for name in ("model", "term"):
             said = (example / name).read_text().replace("\\", "\\\\").replace("\n", "\\n")
             if said not in tested:
-                raise SystemExit(f"check_terms.py: {example.name}: the tests have another {name}")
-    print(f"{len(examples)} terms, each closed")
+                stop(example, f"the tests have another {name}")
+    for example in constants:
+        checked(example)
+    for example in unsound:
+        if checked(example)["conclusion"] != "==> false":
+            stop(example, "it proves something else than false")
+    print(f"{len(examples) + len(constants)} terms, each closed; and {len(unsound)} of false, which are closed too")
 
 
 if __name__ == "__main__":

@@ -10,7 +10,7 @@ import sys
 
 EXAMPLES = pathlib.Path(__file__).resolve().parent
 PROGRAM = EXAMPLES.parent / "crates" / "dlk" / "out" / "dlk"
-TESTS = EXAMPLES.parent / "crates" / "dlk" / "src" / "tests" / "examples.rt"
+TESTS = EXAMPLES.parent / "crates" / "dlk_answers" / "src" / "tests" / "examples.rt"
 
 
 def printed(name, text=None):

@@ -1,12 +1,15 @@
 -- An input that is read past its limit only by one byte is as good as the whole.
-use Rattle.std.proofs.Common.{◌≡◌, ℕ, ◌+◌, ◌≤◌, Bool, true, false, cond, nat_lt, List, [], ◌∷◌, length, take, Option, None, Some, option_map, refl, ap, subst, ◌∙◌, arith}
+use Rattle.std.proofs.Common.{◌≡◌, ℕ, ◌+◌, ◌<◌, ◌≤◌, Bool, true, false, cond, nat_lt, List, [], ◌∷◌, ◌++◌, length, take, drop, map, get_or, String, string_bytes, Option, None, Some, option_map, refl, sym, ap, subst, ◌∙◌, arith, append_assoc}
 use Rattle.std.specs.Prelude.{option_and_then}
-use Rattle.std.proofs.lemmas.List.{length-take, take_all}
+use Rattle.std.proofs.lemmas.List.{length-take, take_all, drop_more}
+use Rattle.std.specs.declared.alloc.Global.{Global}
 use Rattle.std.proofs.lemmas.Bool.Decides.{nat_tests}
 use Rattle.dlk_desk.specs.Outside.{Files}
-use Rattle.dlk.specs.Forms.{Word}
-use Rattle.dlk.specs.Inputs.{first_too_long, bytes_of}
-use Rattle.dlk.specs.Inputs.{cut_bytes_of}
+use Rattle.dlk_answers.specs.Forms.{Word, limit_of}
+use Rattle.dlk_answers.specs.declared.form.Role.{Role}
+use Rattle.dlk_answers.specs.Inputs.{first_too_long}
+use Rattle.dlk.specs.Answers.{bytes_of}
+use Rattle.dlk.specs.Cuts.{cut_bytes_of}
 
 -- the same inputs are too long, and where none is, they are the same
 pub record Alike (names : List Word) (limits : List ℕ) (cuts whole : List (List ℕ)) : Type 0 where
@@ -63,3 +66,31 @@ are_read files (name ∷ names) (limit ∷ limits) count cuts h = by_file (are_r
     by_file : Rest → (file : Option (List ℕ)) → option_and_then (λ bytes. option_map (λ others. take (limit + 1) bytes ∷ others) (cut_bytes_of files names limits)) file ≡ Some cuts → P cuts file
     by_file rec None h = absurd (cc)
     by_file rec (Some bytes) h = by_rest rec bytes (cut_bytes_of files names limits) refl h
+
+-- one input more was read, cut past its limit
+cut_with : (files : Files) (name : Word) (names : List Word) (limit : ℕ) (limits bytes : List ℕ) → (file : Option (List ℕ)) → files name ≡ file → option_map (take (limit + 1)) file ≡ Some bytes →
+    cut_bytes_of files (name ∷ names) (limit ∷ limits) ≡ option_map (λ others. bytes ∷ others) (cut_bytes_of files names limits)
+cut_with files name names limit limits bytes None is read = absurd cc
+cut_with files name names limit limits bytes (Some all) is read =
+    let same : take (limit + 1) all ≡ bytes = cc in
+    ap (option_and_then (λ bytes. option_map (λ others. take (limit + 1) bytes ∷ others) (cut_bytes_of files names limits))) is
+    ∙ ap (λ x. option_map (λ others. x ∷ others) (cut_bytes_of files names limits)) same
+
+one_behind : (so_far : List (List ℕ)) (bytes : List ℕ) (o : Option (List (List ℕ))) →
+    option_map (λ others. so_far ++ others) (option_map (λ others. bytes ∷ others) o) ≡ option_map (λ others. (so_far ++ bytes ∷ []) ++ others) o
+one_behind so_far bytes None = refl
+one_behind so_far bytes (Some others) = ap (λ l. Some l) (sym (append_assoc so_far (bytes ∷ []) others))
+
+pub cut_more : (files : Files) (names : List (String Global)) (roles : List Role) (name : String Global) (role other : Role) (i : ℕ) (so_far : List (List ℕ)) (bytes : List ℕ) (whole : Option (List (List ℕ))) →
+    i < length names → i < length roles → name ≡ get_or names i name → role ≡ get_or roles i other →
+    whole ≡ option_map (λ others. so_far ++ others) (cut_bytes_of files (map string_bytes (drop i names)) (map limit_of (drop i roles))) →
+    option_map (take (limit_of role + 1)) (files (string_bytes name)) ≡ Some bytes →
+    whole ≡ option_map (λ others. (so_far ++ bytes ∷ []) ++ others) (cut_bytes_of files (map string_bytes (drop (i + 1) names)) (map limit_of (drop (i + 1) roles)))
+cut_more files names roles name role other i so_far bytes whole lt less name_is role_is is read =
+    let rest = cut_bytes_of files (map string_bytes (drop (i + 1) names)) (map limit_of (drop (i + 1) roles)) in
+    let names_are : drop i names ≡ name ∷ drop (i + 1) names = drop_more names i name lt ∙ ap (λ n. n ∷ drop (i + 1) names) (sym name_is) in
+    let roles_are : drop i roles ≡ role ∷ drop (i + 1) roles = drop_more roles i other less ∙ ap (λ r. r ∷ drop (i + 1) roles) (sym role_is) in
+    let next : cut_bytes_of files (map string_bytes (drop i names)) (map limit_of (drop i roles)) ≡ option_map (λ others. bytes ∷ others) rest =
+    (λ j. cut_bytes_of files (map string_bytes (names_are j)) (map limit_of (roles_are j)))
+    ∙ cut_with files (string_bytes name) (map string_bytes (drop (i + 1) names)) (limit_of role) (map limit_of (drop (i + 1) roles)) bytes (files (string_bytes name)) refl read in
+    is ∙ ap (option_map (λ others. so_far ++ others)) next ∙ one_behind so_far bytes rest

@@ -1,23 +1,24 @@
 -- A term within its limit is accepted where its lines are steps, and else its first wrong line is named.
-use Rattle.std.proofs.Common.{◌≡◌, ◌↔◌, ◌<◌, ◌≤◌, ℕ, Bool, true, false, nat_lt, List, [], ◌∷◌, ◌++◌, length, None, Some, refl, sym, ap, subst, ◌∙◌, arith}
+use Rattle.std.proofs.Common.{◌≡◌, ◌↔◌, ◌<◌, ◌≤◌, ◌⊎◌, ℕ, Bool, true, false, nat_lt, List, [], ◌∷◌, ◌++◌, length, None, Some, refl, sym, ap, subst, ◌∙◌, inl, inr, arith}
 use Rattle.std.proofs.lemmas.List.{append_cancel_left}
 use Rattle.std.proofs.lemmas.Bool.Decides.{nat_tests}
 use Rattle.dlk_tree.specs.Trees.{Tree}
 use Rattle.dlk_calculus.specs.Sequents.{Sequent}
-use Rattle.dlk_calculus.specs.Provables.{Provable}
+use Rattle.dlk_calculus.proofs.Leaves.{Derives-leaves}
 use Rattle.dlk_desk.specs.Outside.{Outside}
 use Rattle.dlk_report.specs.Reports.{is_closed}
-use Rattle.dlk.specs.Forms.{Word, inputs_of, limits_of, limit_of}
-use Rattle.dlk.specs.Inputs.{first_too_long}
-use Rattle.dlk.specs.declared.command.Command.{Command}
-use Rattle.dlk.specs.declared.reply.Layout.{Layout}
-use Rattle.dlk.specs.declared.reply.Layout.TheVariants.{Text, Json}
-use Rattle.dlk.specs.declared.command.Role.TheVariants.{Model, Term}
-use Rattle.dlk.specs.Replies.{Reply, code_of}
-use Rattle.dlk.specs.Checks.{Checks, bad_model, bad_line, bad_conclusion, reports, Accepts, ModelText, proves, status_of, line_refused, other_conclusion, reported}
-use Rattle.dlk.specs.Answers.{Does, check, print, vars, substitute, report, Responds, refuses, does, Answers, no_form, command}
-use Rattle.dlk.specs.Headline.{command_in, RunsCheck, IsReported, Judges, JudgesTruly}
-use Rattle.dlk.proofs.OneReply.{one_check, one_model, model_or_fault}
+use Rattle.dlk_answers.specs.declared.command.Command.{Command}
+use Rattle.dlk_answers.specs.declared.reply.Layout.{Layout}
+use Rattle.dlk_answers.specs.declared.reply.Layout.TheVariants.{Text, Json}
+use Rattle.dlk_answers.specs.declared.form.Role.TheVariants.{Model, Term}
+use Rattle.dlk_answers.specs.Forms.{Word, inputs_of, limits_of, limit_of}
+use Rattle.dlk_answers.specs.Inputs.{first_too_long, inputs, inputs_of_form}
+use Rattle.dlk_answers.specs.Replies.{Reply, code_of}
+use Rattle.dlk_answers.specs.Checks.{Checks, bad_model, bad_line, bad_conclusion, reports, ModelText, proves, status_of, line_refused, other_conclusion, reported}
+use Rattle.dlk_answers.specs.Answers.{Does, Responds, refuses, does}
+use Rattle.dlk_answers.proofs.OneReply.{one_check, one_model, model_or_fault}
+use Rattle.dlk.specs.Answers.{bytes_of, Answers, no_form, command}
+use Rattle.dlk.specs.Headline.{command_in, RunsCheck, IsReported, NamesLine, NamesConclusion, Judges, JudgesTruly}
 use Rattle.dlk.proofs.Truly.{accepted_derived}
 
 closed_or_open : (b : Bool) → code_of (status_of b) < 2
@@ -40,12 +41,29 @@ module _ (layout : Layout) (model term : List ℕ) (f : Tree) (reads : ModelText
     derived = accepted_derived term rows p a;
     conclusion = e ∙ ap proves (one_model t reads);
     closed = closed_is_zero p.goals;
+    leaves = Derives-leaves p (accepted_derived term rows p a);
     report = refl;
   }
+
+  refused_of : (reply : Reply) → Checks layout model term reply → code_of reply.status ≡ 2 → NamesLine term reply.printed ⊎ NamesConclusion term f reply.printed
+  refused_of reply (bad_model why fault) two = absurd (model_or_fault why reads fault)
+  refused_of reply (bad_line g t n why v) two = inl (record { line = n; why = why; verdict = v; refusal = refl })
+  refused_of reply (bad_conclusion g t rows p a ne) two =
+      let same = one_model t reads in
+      inr
+      (record {
+        rows = rows;
+        proof = p;
+        accepts = a;
+        other = λ e. ne (e ∙ ap proves (sym same));
+        refusal = ap (λ x. (other_conclusion a.line x p.conclusion).printed) same;
+      })
+  refused_of reply (reports g t rows p a e) two = absurd (omega (arith, two, closed_or_open (is_closed p.goals)))
 
   check_judges : (reply : Reply) → Checks layout model term reply → Judges layout term f (code_of reply.status) reply.printed
   check_judges reply checks = record {
     accepted = reported_of reply checks;
+    refused = refused_of reply checks;
     first_wrong = λ n why v few.
         let same = one_check layout model term reply (line_refused n why) checks (bad_line f reads n why v) in
         (ap (λ (r : Reply). code_of r.status) same, ap (λ (r : Reply). r.printed) same);
@@ -53,7 +71,7 @@ module _ (layout : Layout) (model term : List ℕ) (f : Tree) (reads : ModelText
         let same = one_check layout model term reply (reported layout p (length rows)) checks (reports f reads rows p a e) in
         subst (λ (r : Reply). code_of r.status < 2) (sym same) (closed_or_open (is_closed p.goals));
     another = λ rows p a ne few.
-        let same = one_check layout model term reply (other_conclusion (length rows) f p.conclusion) checks (bad_conclusion f reads rows p a ne) in
+        let same = one_check layout model term reply (other_conclusion a.line f p.conclusion) checks (bad_conclusion f reads rows p a ne) in
         (ap (λ (r : Reply). code_of r.status) same, ap (λ (r : Reply). r.printed) same);
   }
 
@@ -73,35 +91,25 @@ none_too_long : (layout : Layout) (names : List Word) (model term : List ℕ) �
 none_too_long Text = short_enough
 none_too_long Json = short_enough
 
+-- what a command in this layout answers to a model and a term
+job_checks : (layout : Layout) (others : List Word) (model term : List ℕ) (reply : Reply) → Does (command_in layout) others (model ∷ term ∷ []) reply → Checks layout model term reply
+job_checks Text [] model term reply checks = checks
+job_checks Text (w ∷ ws) model term reply checks = absurd checks
+job_checks Json [] model term reply checks = checks
+job_checks Json (w ∷ ws) model term reply checks = absurd checks
+
 module _ (layout : Layout) (model term : List ℕ) (m : length model ≤ limit_of Model) (t : length term ≤ limit_of Term) where
-  these : (l : Layout) (a b : List ℕ) (r : Reply) → Checks l a b r → a ∷ b ∷ [] ≡ model ∷ term ∷ [] → Checks l model term r
-  these l a b r checks e =
-      let same_model : a ≡ model = cc in
-      let same_term : b ≡ term = cc in
-      subst (λ (x : List ℕ). Checks l x term r) same_model (subst (λ (x : List ℕ). Checks l a x r) same_term checks)
-
-  job_checks : (l : Layout) (c : Command) (texts : List (List ℕ)) (reply : Reply) → Does c texts reply → c ≡ command_in l → texts ≡ model ∷ term ∷ [] → Checks l model term reply
-  job_checks Text c texts reply (check a b r checks) is e = these Text a b r checks e
-  job_checks Text c texts reply (print a r says) is e = absurd (cc)
-  job_checks Text c texts reply (vars a r says) is e = absurd (cc)
-  job_checks Text c texts reply (substitute a b r says) is e = absurd (cc)
-  job_checks Text c texts reply (report a b r checks) is e = absurd (cc)
-  job_checks Json c texts reply (check a b r checks) is e = absurd (cc)
-  job_checks Json c texts reply (print a r says) is e = absurd (cc)
-  job_checks Json c texts reply (vars a r says) is e = absurd (cc)
-  job_checks Json c texts reply (substitute a b r says) is e = absurd (cc)
-  job_checks Json c texts reply (report a b r checks) is e = these Json a b r checks e
-
   response_checks : (words : List Word) (reply : Reply) → Responds (command_in layout) words (model ∷ term ∷ []) reply → Checks layout model term reply
   response_checks words reply (refuses name long) =
-      let e : None ≡ Some name = sym (none_too_long layout (inputs_of (command_in layout) words) model term m t) ∙ long in absurd (cc)
-  response_checks words reply (does short r job) = job_checks layout (command_in layout) (model ∷ term ∷ []) r job refl refl
+      let e : None ≡ Some name = sym (none_too_long layout (inputs_of (command_in layout) words) model term m t) ∙ long in absurd cc
+  response_checks words reply (does short r job) = job_checks layout _ model term r job
 
   answer_checks : (words : List Word) (old : Outside) (reply : Reply) → Answers words old.files reply → RunsCheck layout words old model term → Checks layout model term reply
-  answer_checks words old reply (no_form none) runs = let e : None ≡ Some (command_in layout) = sym none ∙ runs.form in absurd (cc)
+  answer_checks words old reply (no_form none) runs = let e : None ≡ Some (command_in layout) = sym none ∙ runs.form in absurd cc
   answer_checks words old reply (command c is texts there r responds) runs =
       let same : c ≡ command_in layout = let e : Some c ≡ Some (command_in layout) = sym is ∙ runs.form in cc in
-      let read : texts ≡ model ∷ term ∷ [] = let e = runs.texts in cc (there, e, same) in
+      let named : inputs words ≡ inputs_of c words = ap (λ o. inputs_of_form o words) is in
+      let read : texts ≡ model ∷ term ∷ [] = let e : Some texts ≡ Some (model ∷ term ∷ []) = sym there ∙ ap (bytes_of old.files) (sym named) ∙ runs.texts in cc in
       response_checks words r (subst (λ (x : Command). Responds x words (model ∷ term ∷ []) r) same (subst (λ (ts : List (List ℕ)). Responds c words ts r) read responds))
 
 pub answer_judges : (words : List Word) (old new : Outside) (reply : Reply) → Answers words old.files reply → new.printed ≡ old.printed ++ reply.printed →
@@ -114,6 +122,7 @@ answer_judges words old new reply answers printed layout model term said f runs 
 pub fault_judges : (words : List Word) (status : ℕ) (old new : Outside) → 3 ≤ status → JudgesTruly words status old new
 fault_judges words status old new high layout model term said f runs m t reads says = record {
   accepted = λ less. absurd (omega (arith, less, high));
+  refused = λ two. absurd (omega (arith, two, high));
   first_wrong = λ n why v few. absurd (omega (arith, few, high));
   all_steps = λ rows p a e few. absurd (omega (arith, few, high));
   another = λ rows p a ne few. absurd (omega (arith, few, high));

@@ -1,26 +1,31 @@
 -- Where `closed` is printed, the model is derived from the printed leaves.
-use Rattle.std.proofs.Common.{◌≡◌, ℕ, zero, suc, List, [], ◌∷◌, ◌++◌, take, None, Some, codes, refl, sym, subst, ◌∙◌, append-nil, arith}
-use Rattle.std.proofs.lemmas.List.{append_cancel_left}
+use Rattle.std.proofs.Common.{◌≡◌, ℕ, zero, suc, List, [], ◌∷◌, ◌++◌, length, take, None, Some, codes, refl, sym, ap, subst, ◌∙◌, append-nil, arith}
+use Rattle.std.proofs.lemmas.List.{append_cancel_left, take_all}
 use Rattle.dlk_calculus.specs.Sequents.{Sequent}
 use Rattle.dlk_calculus.specs.Provables.{Provable}
 use Rattle.dlk_calculus.specs.Steps.{History, Derives}
+use Rattle.dlk_calculus.proofs.PlaceLaws.{All-between}
+use Rattle.dlk_calculus.proofs.Histories.{History-derives}
+use Rattle.dlk_calculus.proofs.Leaves.{Derives-leaves}
 use Rattle.dlk_desk.specs.Outside.{Outside}
 use Rattle.dlk_transfer.specs.Transfer.{GrowsByFront}
 use Rattle.dlk_grammar.specs.Readings.{Literal, Nesting, Syntax, Shape, TooBig, TooDeep}
 use Rattle.dlk_grammar.specs.Texts.{TextFault, BadByte, Unread}
 use Rattle.dlk_replay.specs.Files.{file_lines}
 use Rattle.dlk_replay.proofs.Verdicts.{accepted_history}
-use Rattle.dlk_report.specs.Reports.{is_closed, line, first_word}
-use Rattle.dlk.specs.Forms.{Word}
-use Rattle.dlk.specs.declared.command.Command.{Command}
-use Rattle.dlk.specs.declared.command.Command.TheVariants.{Check}
-use Rattle.dlk.specs.Replies.{Reply}
-use Rattle.dlk.specs.declared.reply.Layout.TheVariants.{Text}
-use Rattle.dlk.specs.declared.command.Role.TheVariants.{Model}
-use Rattle.dlk.specs.Refusals.{text_refused}
-use Rattle.dlk.specs.Checks.{Checks, bad_model, bad_line, bad_conclusion, reports, Accepts}
-use Rattle.dlk.specs.Answers.{Does, check, Responds, refuses, does, Answers, no_form, command}
-use Rattle.dlk.specs.Headline.{RunsCheck, IsDerived, ClosedTruly}
+use Rattle.dlk_report.specs.Reports.{is_closed, line, first_word, text_report}
+use Rattle.dlk_answers.specs.declared.command.Command.{Command}
+use Rattle.dlk_answers.specs.declared.command.Command.TheVariants.{Check, Print, Vars, Subst, Report}
+use Rattle.dlk_answers.specs.declared.reply.Layout.TheVariants.{Text}
+use Rattle.dlk_answers.specs.declared.form.Role.TheVariants.{Model}
+use Rattle.dlk_answers.specs.Forms.{Word, command_of, inputs_of}
+use Rattle.dlk_answers.specs.Inputs.{inputs, inputs_of_form}
+use Rattle.dlk_answers.specs.Replies.{Reply, code_of}
+use Rattle.dlk_answers.specs.Refusals.{text_refused}
+use Rattle.dlk_answers.specs.Checks.{Checks, bad_model, bad_line, bad_conclusion, reports, Accepts, reported, status_of}
+use Rattle.dlk_answers.specs.Answers.{Does, Responds, refuses, does}
+use Rattle.dlk.specs.Answers.{bytes_of, Answers, no_form, command}
+use Rattle.dlk.specs.Headline.{SpeaksOf, IsGiven, all, front, IsDerived, ClosedTruly}
 
 -- a front that begins with d begins with the first of all
 first_is : (n c d : ℕ) (xs ys : List ℕ) → take n (c ∷ xs) ≡ d ∷ ys → c ≡ d
@@ -40,62 +45,98 @@ closed_front (goal ∷ goals) others said n h = absurd (not_open n _ _ h)
 
 -- what is accepted ends in a derived provable
 pub accepted_derived : (term : List ℕ) (rows : List Provable) (p : Provable) → Accepts term rows p → Derives p
-accepted_derived term rows p a = (a.before, subst History a.last (accepted_history (file_lines term) rows a.verdict))
+accepted_derived term rows p a =
+    All-between Derives a.before [] p (History-derives (a.before ++ p ∷ []) (subst History a.last (accepted_history (file_lines term) rows a.line a.verdict)))
 
-module _ (model term said : List ℕ) (n : ℕ) where
-  abbrev Says : Reply → Type 0
-  Says reply = take n reply.printed ≡ codes "closed" ++ said
+-- how a reply was given: whole with its own status, or a front of it with status 5
+pub data Given (reply : Reply) (status : ℕ) (said : List ℕ) : Type 0 where
+  whole : status ≡ code_of reply.status → said ≡ reply.printed → Given reply status said
+  broken_off : status ≡ 5 → (n : ℕ) → said ≡ take n reply.printed → Given reply status said
 
-  refused_fault : (why : TextFault) → Says (text_refused Model why) → ⊥
-  refused_fault (BadByte at) h = not_refused n _ _ h
-  refused_fault (Unread (Literal at)) h = not_refused n _ _ h
-  refused_fault (Unread (Nesting at)) h = not_refused n _ _ h
-  refused_fault (Unread Syntax) h = not_refused n _ _ h
-  refused_fault (Unread (Shape at)) h = not_refused n _ _ h
-  refused_fault (Unread (TooBig size)) h = not_refused n _ _ h
-  refused_fault (Unread (TooDeep depth)) h = not_refused n _ _ h
+front_of : (reply : Reply) (status : ℕ) (said : List ℕ) → Given reply status said → (n : ℕ) × (take n reply.printed ≡ said)
+front_of reply status said (whole s e) = (length reply.printed, take_all (length reply.printed) reply.printed (omega arith) ∙ sym e)
+front_of reply status said (broken_off s n e) = (n, sym e)
 
-  check_truly : (reply : Reply) → Checks Text model term reply → Says reply → IsDerived model term (codes "closed" ++ said)
-  check_truly reply (bad_model why fault) h = absurd (refused_fault why h)
-  check_truly reply (bad_line f t line why v) h = absurd (not_refused n _ _ h)
-  check_truly reply (bad_conclusion f t rows p a ne) h = absurd (not_refused n _ _ h)
-  check_truly reply (reports f t rows p a e) h = record {
-    formula = f;
-    reads = t;
-    rows = rows;
-    proof = p;
-    accepts = a;
-    derived = accepted_derived term rows p a;
-    conclusion = e;
-    closed = closed_front p.goals _ said n h;
-    bytes = n;
-    report = sym h;
-  }
+report_given : (p : Provable) (lines status : ℕ) (said : List ℕ) → p.goals ≡ [] → Given (reported Text p lines) status said → IsGiven (text_report p lines) status said
+report_given p lines status said closed (whole s e) =
+    let zero_is : status ≡ 0 = s ∙ ap (λ (goals : List Sequent). code_of (status_of (is_closed goals))) closed in
+    subst (λ (n : ℕ). IsGiven (text_report p lines) n said) (sym zero_is) (subst (λ (bytes : List ℕ). IsGiven (text_report p lines) 0 bytes) (sym e) all)
+report_given p lines status said closed (broken_off s n e) =
+    subst (λ (k : ℕ). IsGiven (text_report p lines) k said) (sym s) (subst (λ (bytes : List ℕ). IsGiven (text_report p lines) 5 bytes) (sym e) (front n))
 
-  job_truly : (texts : List (List ℕ)) (reply : Reply) → Does Check texts reply → texts ≡ model ∷ term ∷ [] → Says reply → IsDerived model term (codes "closed" ++ said)
-  job_truly texts reply (check m t r checks) e h =
-      let same_model : m ≡ model = cc in
-      let same_term : t ≡ term = cc in
-      check_truly r (subst (λ (x : List ℕ). Checks Text x term r) same_model (subst (λ (x : List ℕ). Checks Text m x r) same_term checks)) h
+module _ (model term said : List ℕ) (status : ℕ) where
+  abbrev Says : Reply → ℕ → Type 0
+  Says reply n = take n reply.printed ≡ codes "closed" ++ said
 
-  response_truly : (words : List Word) (reply : Reply) → Responds Check words (model ∷ term ∷ []) reply → Says reply → IsDerived model term (codes "closed" ++ said)
-  response_truly words reply (refuses name long) h = absurd (not_refused n _ _ h)
-  response_truly words reply (does short r job) h = job_truly (model ∷ term ∷ []) r job refl h
+  refused_fault : (n : ℕ) (why : TextFault) → Says (text_refused Model why) n → ⊥
+  refused_fault n (BadByte at) h = not_refused n _ _ h
+  refused_fault n (Unread (Literal at)) h = not_refused n _ _ h
+  refused_fault n (Unread (Nesting at)) h = not_refused n _ _ h
+  refused_fault n (Unread Syntax) h = not_refused n _ _ h
+  refused_fault n (Unread (Shape at)) h = not_refused n _ _ h
+  refused_fault n (Unread (TooBig size)) h = not_refused n _ _ h
+  refused_fault n (Unread (TooDeep depth)) h = not_refused n _ _ h
 
-  answer_truly : (words : List Word) (old : Outside) (reply : Reply) → Answers words old.files reply → RunsCheck Text words old model term → Says reply → IsDerived model term (codes "closed" ++ said)
-  answer_truly words old reply (no_form none) runs h = let e : None ≡ Some Check = sym none ∙ runs.form in absurd (cc)
-  answer_truly words old reply (command c is texts there r responds) runs h =
-      let same : c ≡ Check = let e : Some c ≡ Some Check = sym is ∙ runs.form in cc in
-      let read : texts ≡ model ∷ term ∷ [] = let e = runs.texts in cc (there, e, same) in
-      response_truly words r (subst (λ (x : Command). Responds x words (model ∷ term ∷ []) r) same (subst (λ (ts : List (List ℕ)). Responds c words ts r) read responds)) h
+  check_truly : (reply : Reply) → Checks Text model term reply → (n : ℕ) → Says reply n → Given reply status (codes "closed" ++ said) → IsDerived model term status (codes "closed" ++ said)
+  check_truly reply (bad_model why fault) n h given = absurd (refused_fault n why h)
+  check_truly reply (bad_line f t line why v) n h given = absurd (not_refused n _ _ h)
+  check_truly reply (bad_conclusion f t rows p a ne) n h given = absurd (not_refused n _ _ h)
+  check_truly reply (reports f t rows p a e) n h given =
+      let derives = accepted_derived term rows p a in
+      let closed = closed_front p.goals _ said n h in
+      record {
+        formula = f;
+        reads = t;
+        rows = rows;
+        proof = p;
+        accepts = a;
+        derived = derives;
+        conclusion = e;
+        closed = closed;
+        leaves = Derives-leaves p derives;
+        report = report_given p (length rows) status (codes "closed" ++ said) closed given;
+      }
 
-pub reply_truly : (words : List Word) (old new : Outside) (reply : Reply) → Answers words old.files reply → GrowsByFront reply.printed old.printed new.printed → ClosedTruly words old new
-reply_truly words old new reply answers grew model term said runs says =
-    let front : take grew.0 reply.printed ≡ codes "closed" ++ said = append_cancel_left old.printed (take grew.0 reply.printed) (codes "closed" ++ said) (sym grew.1 ∙ says) in
-    answer_truly model term said grew.0 words old reply answers runs front
+  job_truly : (others : List Word) (reply : Reply) → Does Check others (model ∷ term ∷ []) reply → Given reply status (codes "closed" ++ said) → IsDerived model term status (codes "closed" ++ said)
+  job_truly [] reply checks given = let shown = front_of reply status (codes "closed" ++ said) given in check_truly reply checks shown.0 shown.1 given
+  job_truly (w ∷ ws) reply checks given = absurd checks
+
+  response_truly : (words : List Word) (reply : Reply) → Responds Check words (model ∷ term ∷ []) reply → Given reply status (codes "closed" ++ said) → IsDerived model term status (codes "closed" ++ said)
+  response_truly words reply (refuses name long) given = let shown = front_of reply status (codes "closed" ++ said) given in absurd (not_refused shown.0 _ _ shown.1)
+  response_truly words reply (does short r job) given = job_truly _ r job given
+
+  -- the words have `check` and these files
+  answer_truly : (words : List Word) (old : Outside) (reply : Reply) → Answers words old.files reply → command_of words ≡ Some Check →
+      bytes_of old.files (inputs words) ≡ Some (model ∷ term ∷ []) → Given reply status (codes "closed" ++ said) → IsDerived model term status (codes "closed" ++ said)
+  answer_truly words old reply (no_form none) form there given = let e : None ≡ Some Check = sym none ∙ form in absurd cc
+  answer_truly words old reply (command c is texts has r responds) form there given =
+      let same : c ≡ Check = let e : Some c ≡ Some Check = sym is ∙ form in cc in
+      let named : inputs words ≡ inputs_of c words = ap (λ o. inputs_of_form o words) is in
+      let read : texts ≡ model ∷ term ∷ [] = let e : Some texts ≡ Some (model ∷ term ∷ []) = sym has ∙ ap (bytes_of old.files) (sym named) ∙ there in cc in
+      response_truly words r (subst (λ (x : Command). Responds x words (model ∷ term ∷ []) r) same (subst (λ (ts : List (List ℕ)). Responds c words ts r) read responds)) given
+
+  pub speaks_truly : (words : List Word) (old new : Outside) (reply : Reply) (c : Command) → Answers words old.files reply → command_of words ≡ Some c → SpeaksOf c words old new model term →
+      Given reply status (codes "closed" ++ said) → IsDerived model term status (codes "closed" ++ said)
+  speaks_truly words old new reply Check answers form there given = answer_truly words old reply answers form there given
+  speaks_truly words old new reply Print answers form there given = absurd there
+  speaks_truly words old new reply Vars answers form there given = absurd there
+  speaks_truly words old new reply Subst answers form there given = absurd there
+  speaks_truly words old new reply Report answers form there given = absurd there
+
+-- a reply that was given whole, and one that was broken off
+pub whole_truly : (words : List Word) (old new : Outside) (reply : Reply) → Answers words old.files reply → new.printed ≡ old.printed ++ reply.printed →
+    ClosedTruly words (code_of reply.status) old new
+whole_truly words old new reply answers printed c model term said form there says =
+    let same : codes "closed" ++ said ≡ reply.printed = append_cancel_left old.printed (codes "closed" ++ said) reply.printed (sym says ∙ printed) in
+    speaks_truly model term said (code_of reply.status) words old new reply c answers form there (whole refl same)
+
+pub front_truly : (words : List Word) (old new : Outside) (reply : Reply) → Answers words old.files reply → GrowsByFront reply.printed old.printed new.printed → ClosedTruly words 5 old new
+front_truly words old new reply answers grew c model term said form there says =
+    let same : codes "closed" ++ said ≡ take grew.0 reply.printed = append_cancel_left old.printed (codes "closed" ++ said) (take grew.0 reply.printed) (sym says ∙ grew.1) in
+    speaks_truly model term said 5 words old new reply c answers form there (broken_off refl grew.0 same)
 
 -- where nothing was printed, `closed` was not
-pub silent_truly : (words : List Word) (old new : Outside) → new.printed ≡ old.printed → ClosedTruly words old new
-silent_truly words old new same model term said runs says =
+pub silent_truly : (words : List Word) (status : ℕ) (old new : Outside) → new.printed ≡ old.printed → ClosedTruly words status old new
+silent_truly words status old new same c model term said form there says =
     let none : [] ≡ codes "closed" ++ said = append_cancel_left old.printed [] (codes "closed" ++ said) (append-nil old.printed ∙ sym same ∙ says) in
     absurd (cc)

@@ -1,13 +1,6 @@
-pub mod Forms
-pub mod Replies
-pub mod Inputs
-pub mod Refusals
-pub mod Checks
-pub mod Prints
-pub mod Lists
-pub mod Substitutes
 pub mod Answers
+pub mod Outputs
 pub mod Runs
 pub mod Headline
-pub mod Shown
+pub mod Cuts
 pub mod NoAnswers

@@ -1,9 +1,8 @@
 //! The laws of the program's answers. Each is a contract of a function that does nothing.
 ghost use Rattle.std.specs.Prelude.{◌≡◌, ℕ, List};
 ghost use Rattle.dlk_desk.specs.Outside.{Files};
-ghost use Rattle.dlk.specs.Forms.{Word};
-ghost use Rattle.dlk.specs.Replies.{Reply as TheReply};
-ghost use Rattle.dlk.specs.Checks.{Checks};
+ghost use Rattle.dlk_answers.specs.Forms.{Word};
+ghost use Rattle.dlk_answers.specs.Replies.{Reply as TheReply};
 ghost use Rattle.dlk.specs.Answers.{Answers};
 
 /// There is one answer to words and files.

@@ -3,13 +3,9 @@
 
 ghost use Rattle.std.specs.Prelude.{◌≡◌, ◌<◌};
 
-mod answer;
-mod command;
 mod fault;
-mod jobs;
+mod give;
 mod laws;
-mod refusal;
-mod reply;
 mod run;
 
 use dlk_desk::{Desk, HostDesk};

@@ -1,31 +1,30 @@
-// The top call: reads the inputs, answers, and prints the answer.
-ghost use Rattle.std.specs.Prelude.{◌≡◌, ◌<◌, ◌≤◌, ◌^◌, ◌++◌, length, map, string_bytes, Some, IfOk, OnOk, OnErr, IsSome, IsNone, IsErrOf, All, ◌↔◌, ◌⊎◌};
+// The top call: reads the inputs, answers, and gives the answer.
+ghost use Rattle.std.specs.Prelude.{◌≡◌, ℕ, ◌<◌, ◌≤◌, ◌++◌, length, map, string_bytes, Some, IfOk, OnOk, IsSome, IsNone, IsErrOf, ◌↔◌, ◌⊎◌, option_copied};
 ghost use Rattle.dlk_desk.specs.Outside.{Rose};
-ghost use Rattle.dlk_desk.specs.Desk.{OnlyReads, OnlyWrites};
-ghost use Rattle.dlk_transfer.specs.Transfer.{GrowsByFront};
+ghost use Rattle.dlk_desk.specs.Desk.{OnlyReads};
 ghost use Rattle.dlk_transfer.specs.declared.transfer.ReadError.TheVariants.{Fault};
-ghost use Rattle.dlk.specs.Forms.{command_of};
-ghost use Rattle.dlk.specs.Inputs.{cut_bytes_of, inputs as inputs_named};
-ghost use Rattle.dlk.specs.Replies.{code_of};
+ghost use Rattle.dlk_answers.specs.Forms.{limit_of, command_of};
+ghost use Rattle.dlk_answers.specs.Inputs.{inputs as inputs_named, limits as limits_named};
+ghost use Rattle.dlk_answers.specs.Replies.{code_of};
+ghost use Rattle.dlk_answers.specs.Shown.{texts_of, reply_of};
+ghost use Rattle.dlk.specs.Cuts.{cut_bytes_of};
 ghost use Rattle.dlk.specs.Answers.{Answers};
-ghost use Rattle.dlk.specs.Runs.{Caused, Asks, KeepsFiles, HasInputs, Answered, Completes};
+ghost use Rattle.dlk.specs.Runs.{Caused, AsksFor, Asks, Keeps, HasInputs, Answered, Completes};
 ghost use Rattle.dlk.specs.Headline.{ClosedTruly, JudgesTruly};
-ghost use Rattle.dlk.specs.Shown.{texts_of, reply_of};
 
-use crate::answer::{respond, words_refused};
-use crate::command::Command;
 use crate::fault::NoAnswer;
-use crate::reply::Reply;
+use crate::give::give;
+use dlk_answers::{Command, Reply, Role, output, respond, words_refused};
 use dlk_desk::Desk;
 use dlk_store::Steps;
-use dlk_transfer::{ReadError, print_all, read_all};
+use dlk_transfer::{ReadError, read_all};
 use std::alloc::Global;
 use std::sync::ledger::Ledger;
 
 /// The status where an input could not be read.
 const READ_FAULT: u8 = 4;
 
-/// The status where the answer could not be printed.
+/// The status where the answer could not be given.
 const WRITE_FAULT: u8 = 5;
 
 /// The status where memory ran out.
@@ -36,20 +35,20 @@ fn read_inputs<D: Desk>(
     alloc: Global,
     desk: &mut D,
     names: &[String],
-    limits: &[usize],
+    roles: &[Role],
 ) -> Result<Vec<Vec<u8>>, ReadError>
-    requires count { length names.now ≡ length limits.now }
-    requires small { All (λ limit. limit < 2 ^ 32) limits.now }
-    ensures ok { IfOk result (λ inputs. D.tells → cut_bytes_of (D.outside desk.old).files (map string_bytes names.now) limits.now ≡ Some (texts_of inputs.items)) }
+    requires { length names.now ≡ length roles.now }
+    ensures ok { IfOk result (λ inputs. D.tells → cut_bytes_of (D.outside desk.old).files (map string_bytes names.now) (map limit_of roles.now) ≡ Some (texts_of inputs.items)) }
     ensures count { IfOk result (λ inputs. length inputs.items ≡ length names.now) }
     ensures all { OnOk result ((D.outside desk.new).asked ≡ (D.outside desk.old).asked ++ map string_bytes names.now) }
     ensures fault { IsErrOf result Fault → Rose (D.outside desk.old).read_faults (D.outside desk.new).read_faults }
-    ensures asked { GrowsByFront (map string_bytes names.now) (D.outside desk.old).asked (D.outside desk.new).asked }
+    ensures asks { (count : ℕ) × AsksFor D.tells (map string_bytes names.now) (map limit_of roles.now) count (D.outside desk.old) (D.outside desk.new) }
     ensures only { OnlyReads D.tells (D.outside desk.old) (D.outside desk.new) }
 {
     let mut inputs = Vec::new(alloc);
     for (i, name) in names.iter().enumerate() {
-        inputs.push(read_all(alloc, desk, name, limits[i])?)?;
+        let role = roles[i];
+        inputs.push(read_all(alloc, desk, name, role.limit())?)?;
     }
     Ok(inputs)
 }
@@ -64,17 +63,18 @@ fn work<D: Desk, L: Ledger>(
     ensures ok { IfOk result (λ r. D.tells → Answers (map string_bytes words.now) (D.outside desk.old).files (reply_of r)) }
     ensures words { IfOk result (λ r. (code_of r.status ≡ 3) ↔ IsNone (command_of (map string_bytes words.now))) }
     ensures kinds { IfOk result (λ r. code_of r.status ≤ 3) }
+    ensures refusal { IfOk result (λ r. code_of r.status ≡ 2 → IsNone r.written) }
     ensures form { IsErrOf result NoAnswer.Fault → IsSome (command_of (map string_bytes words.now)) }
     ensures missing { IfOk result (λ r. D.tells → HasInputs (map string_bytes words.now) (D.outside desk.old)) }
     ensures fault { IsErrOf result NoAnswer.Fault → Rose (D.outside desk.old).read_faults (D.outside desk.new).read_faults }
     ensures all { OnOk result ((D.outside desk.new).asked ≡ (D.outside desk.old).asked ++ inputs_named (map string_bytes words.now)) }
-    ensures asked { GrowsByFront (inputs_named (map string_bytes words.now)) (D.outside desk.old).asked (D.outside desk.new).asked }
+    ensures asks { (count : ℕ) × AsksFor D.tells (inputs_named (map string_bytes words.now)) (limits_named (map string_bytes words.now)) count (D.outside desk.old) (D.outside desk.new) }
     ensures only { OnlyReads D.tells (D.outside desk.old) (D.outside desk.new) }
 {
     let Some(command) = Command::parse(words) else {
         return Ok(words_refused(alloc)?);
     };
-    let inputs = read_inputs(alloc, desk, command.inputs(words), command.limits())?;
+    let inputs = read_inputs(alloc, desk, command.inputs(words), command.form().inputs)?;
     Ok(respond(alloc, command, words, &inputs, steps)?)
 }
 
@@ -82,7 +82,7 @@ fn work<D: Desk, L: Ledger>(
 ///
 /// The words do not hold the program's own name. The statuses are 0 where the proof is closed or what was asked for is
 /// printed, 1 where the proof is open, 2 where an input is refused, 3 where the words are none of the forms, 4 where an
-/// input could not be read, 5 where the answer could not be printed, 6 where memory ran out.
+/// input could not be read, 5 where the answer could not be given, 6 where memory ran out.
 pub fn run<D: Desk, L: Ledger>(
     alloc: Global,
     words: &[String],
@@ -90,15 +90,15 @@ pub fn run<D: Desk, L: Ledger>(
     steps: &mut Steps<L>,
 ) -> u8
     // Whenever `closed` is printed, the model is derivable from exactly the printed leaves.
-    ensures closed_truly { D.tells → ClosedTruly (map string_bytes words.now) (D.outside desk.old) (D.outside desk.new) }
+    ensures closed_truly { D.tells → ClosedTruly (map string_bytes words.now) result (D.outside desk.old) (D.outside desk.new) }
     // A term is accepted exactly where each of its lines is a step, and else its first wrong line is named.
     ensures judges_truly { D.tells → JudgesTruly (map string_bytes words.now) result (D.outside desk.old) (D.outside desk.new) }
     // On every desk: each status has its cause.
     ensures caused { Caused (map string_bytes words.now) result (D.outside desk.old) (D.outside desk.new) }
-    // On every desk: what is asked for are the inputs of the words in their order.
-    ensures asks { Asks (map string_bytes words.now) result (D.outside desk.old) (D.outside desk.new) }
-    // No file is changed, and with a read fault or for want of memory nothing is printed.
-    ensures keeps { D.tells → KeepsFiles result (D.outside desk.old) (D.outside desk.new) }
+    // On every desk: what is asked for are the inputs of the words in their order, and of the last of them little is taken.
+    ensures asks { Asks D.tells (map string_bytes words.now) result (D.outside desk.old) (D.outside desk.new) }
+    // On every desk: without an output no write is started, and with a read fault or for want of memory nothing is printed.
+    ensures keeps { Keeps D.tells (map string_bytes words.now) result (D.outside desk.old) (D.outside desk.new) }
     // Where an input is missing: a read fault, or want of memory.
     ensures lacks { D.tells → (HasInputs (map string_bytes words.now) (D.outside desk.old) → ⊥) → (result ≡ 4) ⊎ (result ≡ 6) }
     // Where the inputs are there: the answer, or a fault, or want of memory.
@@ -111,7 +111,7 @@ pub fn run<D: Desk, L: Ledger>(
         Err(NoAnswer::Memory) => return NO_MEMORY,
         Err(NoAnswer::Fault) => return READ_FAULT,
     };
-    match print_all(desk, &reply.printed) {
+    match give(desk, output(words), &reply) {
         Ok(()) => reply.status.code(),
         Err(_) => WRITE_FAULT,
     }

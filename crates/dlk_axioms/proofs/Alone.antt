@@ -2,24 +2,12 @@
 use Rattle.std.proofs.Common.{◌≡◌, List, [], ◌∷◌, sym, ap, subst, ◌∙◌}
 use Rattle.std.proofs.lemmas.List.Elements.{All-nil, All-cons}
 use Rattle.dlk_tree.specs.Trees.{Tree}
-use Rattle.dlk_store.specs.declared.Id.{Id}
-use Rattle.dlk_store.specs.Stores.{IsId, StandsFor, Keeps}
+use Rattle.dlk_store.specs.Stores.{Keeps}
 use Rattle.dlk_calculus.specs.Axioms.{AxiomaticRule}
-use Rattle.dlk_calculus.specs.Sequents.{alone_right}
 use Rattle.dlk_sequent.specs.declared.sequent.Sequent.{Sequent}
 use Rattle.dlk_sequent.specs.Sequents.{IsKnown}
 use Rattle.dlk_sequent.proofs.Kept.{sequent-kept, IsKnown-kept}
 use Rattle.dlk_axioms.specs.Answers.{StandsAlone, IsRuleAt}
-
--- the sequent of one id
-pub stands_alone : (trees : List Tree) (s : Sequent) (id : Id) (f : Tree) → s ≡ record { ante = []; succ = id ∷ [] } → StandsFor trees id f → StandsAlone trees s f
-stands_alone trees s id f e stands =
-    let alone : Sequent = record { ante = []; succ = id ∷ [] } in
-    let it : StandsAlone trees alone f = record {
-      known = record { ante = All-nil (IsId trees); succ = All-cons (IsId trees) id [] stands.known (All-nil (IsId trees)) };
-      sequent_is = ap alone_right stands.tree_is;
-    } in
-    subst (λ (z : Sequent). StandsAlone trees z f) (sym e) it
 
 -- of the sequents of a premise, read first, and of a conclusion
 pub rule_at : {old new : List Tree} (r : AxiomaticRule) (premises : List Sequent) (premise conclusion : Sequent) →

@@ -1,3 +1,5 @@
 pub mod Finding
-pub mod Texts
+pub mod Groups
+pub mod RowLaws
+pub mod Parts
 pub mod Alone

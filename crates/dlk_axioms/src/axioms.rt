@@ -5,8 +5,8 @@ ghost use Rattle.dlk_store.specs.Stores.{StandsFor};
 ghost use Rattle.dlk_axioms.specs.Answers.{Finds};
 
 use crate::lookup::axiom_row;
+use crate::making::make;
 use crate::names::names_of;
-use crate::reading::read;
 use dlk_calculus::AxiomForm;
 use dlk_store::{Id, Store, StoreFault};
 use dlk_tree::Name;
@@ -25,7 +25,7 @@ pub fn axiom<S: Store>(alloc: Global, store: &mut S, name: &[u8]) -> Result<Opti
     let Some(row) = axiom_row(name) else {
         return Ok(None);
     };
-    let id = read(alloc, row.text, store)?;
+    let id = make(alloc, row.formula, store)?;
     Ok(Some(id))
 }
 

@@ -4,9 +4,11 @@
 
 mod axioms;
 mod lookup;
+mod making;
 mod names;
-mod reading;
+mod notation;
 mod rules;
+mod shape;
 mod table;
 
 pub use axioms::{axiom, form, own_names};

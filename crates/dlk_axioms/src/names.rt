@@ -6,7 +6,7 @@ use dlk_tree::{Name, NameFault};
 use std::alloc::{AllocError, Global};
 
 /// The name of bytes that are one.
-fn name_of(alloc: Global, bytes: &[u8]) -> Result<Name, AllocError>
+pub(crate) fn name_of(alloc: Global, bytes: &[u8]) -> Result<Name, AllocError>
     requires { IsTrue (is_name bytes.now) }
     ensures { IfOk result (λ name. name ≡ bytes.now) }
 {

@@ -4,7 +4,7 @@ ghost use Rattle.dlk_calculus.specs.Axioms.{AxiomaticRule, rule_named};
 ghost use Rattle.dlk_axioms.specs.Answers.{Finds, IsRuleAt};
 
 use crate::lookup::rule_row;
-use crate::reading::read_alone_right;
+use crate::making::make_alone_right;
 use dlk_sequent::Sequent;
 use dlk_store::{Store, StoreFault};
 use std::alloc::Global;
@@ -27,8 +27,8 @@ pub fn axiomatic_rule<S: Store>(
     let Some(row) = rule_row(name) else {
         return Ok(None);
     };
-    let premise = read_alone_right(alloc, row.premise, store)?;
-    let conclusion = read_alone_right(alloc, row.conclusion, store)?;
+    let premise = make_alone_right(alloc, row.premise, store)?;
+    let conclusion = make_alone_right(alloc, row.conclusion, store)?;
     let premises = vec![in alloc; premise]?;
     Ok(Some((premises, conclusion)))
 }

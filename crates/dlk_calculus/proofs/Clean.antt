@@ -9,11 +9,11 @@ use Rattle.dlk_tree.specs.declared.op.Kind.TheVariants.{Func, UnitFunc, Pred, Un
 use Rattle.dlk_tree.specs.declared.op.Op.{Op}
 use Rattle.dlk_tree.specs.declared.op.Op.TheVariants as Op'
 use Rattle.dlk_tree.specs.Tests.{kind_rank}
-use Rattle.dlk_tree.specs.Table.{has_arity, is_sym_of}
+use Rattle.dlk_tree.specs.Table.{kind_row, has_arity, is_sym_of}
 use Rattle.dlk_tree.specs.Trees.{Tree, Forest}
 use Rattle.dlk_tree.specs.Occurs.{has, any_has, is_some_dot, is_hole, has_dots, has_hole}
 use Rattle.dlk_calculus.specs.declared.why.Why.TheVariants as Why'
-use Rattle.dlk_calculus.specs.Pairs.{Pair, replacement, is_dot_from, may_have_hole, IsWellFormed}
+use Rattle.dlk_calculus.specs.Pairs.{Pair, replacement, is_dot_from, IsWellFormed}
 use Rattle.dlk_calculus.proofs.WellFormed.{IsGood, good_pairs, replacement_has}
 use Rattle.dlk_calculus.proofs.Lacks.{lacks}
 
@@ -41,7 +41,7 @@ clean-no_hole t h = lacks is_gap is_gap is_hole (λ op p q. (or_parts _ _ p).1) 
 -- the dots and holes that a replacement of the symbol may have
 record IsFilling (s : Sym) (r : Tree) : Type 0 where
   dots : has (is_dot_from s.arity) r ≡ false
-  holes : has_hole r && not (may_have_hole s.kind) ≡ false
+  holes : has_hole r && not (kind_row s.kind).hole ≡ false
 
 kind_of_rank : (k l : Kind) → (kind_rank k == kind_rank l) ≡ true → k ≡ l
 kind_of_rank Func Func e = refl
@@ -79,13 +79,13 @@ module _ (pairs : List Pair) (well : IsWellFormed pairs) (k : Kind) (s : Sym) (r
   filling = replacement_has IsFilling pairs s r
       (All-weaker IsGood (λ p. IsFilling p.sym p.by) (λ p good. record { dots = good.1 Why'.Dot; holes = good.1 Why'.Hole }) pairs (good_pairs pairs well)) found
 
-  pub replacement_no_hole : may_have_hole k ≡ false → has_hole r ≡ false
-  replacement_no_hole h = not_both (has_hole r) (may_have_hole k) (subst (λ l. has_hole r && not (may_have_hole l) ≡ false) (kind_is k s is) filling.holes) h
+  pub replacement_no_hole : (kind_row k).hole ≡ false → has_hole r ≡ false
+  replacement_no_hole h = not_both (has_hole r) (kind_row k).hole (subst (λ l. has_hole r && not (kind_row l).hole ≡ false) (kind_is k s is) filling.holes) h
 
   pub replacement_no_dot : TakesNone k → has_dots r ≡ false
   replacement_no_dot none =
       let h = subst (λ n. has (is_dot_from n) r ≡ false) (none s.arity (arity_of_kind k s is)) filling.dots in
       lacks (is_dot_from 0) (is_dot_from 0) is_some_dot (λ op p q. dot_from_none op p) r h h
 
-  pub replacement_clean : TakesNone k → may_have_hole k ≡ false → IsClean r
+  pub replacement_clean : TakesNone k → (kind_row k).hole ≡ false → IsClean r
   replacement_clean none h = clean r (replacement_no_dot none) (replacement_no_hole h)

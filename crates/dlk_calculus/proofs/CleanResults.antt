@@ -10,18 +10,19 @@ use Rattle.dlk_tree.specs.declared.op.OdeItem.{OdeItem}
 use Rattle.dlk_tree.specs.declared.op.OdeItem.TheVariants as Item
 use Rattle.dlk_tree.specs.declared.op.Op.{Op}
 use Rattle.dlk_tree.specs.declared.op.Op.TheVariants as Op'
-use Rattle.dlk_tree.specs.Table.{is_sym_of, is_item, has_parts}
+use Rattle.dlk_tree.specs.Table.{kind_row, is_sym_of, is_item, has_parts}
 use Rattle.dlk_tree.specs.Trees.{Tree, node, Forest, no_kids, kid, trees_in, WellMade, AllWellMade}
 use Rattle.dlk_tree.specs.Statics.{all}
 use Rattle.dlk_tree.specs.Occurs.{has, any_has, is_some_dot, is_hole, has_dots, has_hole}
-use Rattle.dlk_calculus.specs.Kids.{first}
+use Rattle.dlk_calculus.specs.Kids.{first, later, last}
 use Rattle.dlk_calculus.specs.Captures.{Stays}
 use Rattle.dlk_calculus.specs.Plug.{PlugAt, Plug, PlugAll, filled, filled_all}
-use Rattle.dlk_calculus.specs.Pairs.{may_have_hole, Pair, replacement, IsWellFormed}
+use Rattle.dlk_calculus.specs.Pairs.{Pair, replacement, IsWellFormed}
 use Rattle.dlk_calculus.specs.Sequents.{IsFormula}
-use Rattle.dlk_calculus.specs.Subst.{IsAdmissible, Replaced, sides_for, new_items, new_kids, SubstAt, Subst, SubstAll}
+use Rattle.dlk_calculus.specs.Subst.{IsAdmissible, Replaced, Member, Equation, Constant, members, new_members, items_of, kids_of, SubstAt, Subst, SubstAll}
 use Rattle.dlk_calculus.proofs.Sorts.{argument_has, subst_sort}
-use Rattle.dlk_calculus.proofs.Lacks.{trees_lack, but_last_lacks, append_lacks}
+use Rattle.dlk_calculus.proofs.Lacks.{trees_lack}
+use Rattle.dlk_calculus.proofs.Systems.{Each, Any, each_spliced, each_for}
 use Rattle.dlk_calculus.proofs.Clean.{TakesNone, is_gap, IsClean, AreClean, clean, clean-no_dot, clean-no_hole, replacement_no_hole, replacement_no_dot, replacement_clean}
 
 -- an operator that stays
@@ -73,22 +74,41 @@ first_clean : (kids : Forest) → AreClean kids → IsClean (first kids)
 first_clean no_kids h = refl
 first_clean (kid t rest) h = (or_parts _ _ h).0
 
-sides_clean : (o : Option Tree) → ((r : Tree) → o ≡ Some r → IsClean r) → AreClean (sides_for o)
-sides_clean (Some (node (Op'.System items) kids)) h = but_last_lacks is_gap kids (h (node (Op'.System items) kids) refl)
-sides_clean (Some (node _ kids)) h = refl
-sides_clean None h = refl
+last_clean : (kids : Forest) → AreClean kids → IsClean (last kids)
+last_clean no_kids h = refl
+last_clean (kid t no_kids) h = (or_parts _ _ h).0
+last_clean (kid t (kid u rest)) h = last_clean (kid u rest) (or_parts _ _ h).1
+
+members_clean : (items : List OdeItem) (kids : Forest) → AreClean kids → Each IsClean Any (members items kids)
+members_clean [] kids clean = tt
+members_clean (Item.Evolve x ∷ items) no_kids clean = (refl, members_clean items no_kids clean)
+members_clean (Item.Evolve x ∷ items) (kid t ts) clean = let both = or_parts _ _ clean in (both.0, members_clean items ts both.1)
+members_clean (Item.Const s ∷ items) kids clean = (tt, members_clean items kids clean)
+
+-- and each constant is of its kind
+abbrev IsOde : Sym → Type 0
+IsOde s = IsTrue (is_sym_of Ode s)
+
+each_ode : (items : List OdeItem) (kids : Forest) → IsTrue (list_all is_item items)
+    → Each IsClean Any (members items kids) → Each IsClean IsOde (members items kids)
+each_ode [] kids are all = tt
+each_ode (Item.Evolve x ∷ items) kids are all = (all.0, each_ode items (later kids) (and_parts _ _ are).1 all.1)
+each_ode (Item.Const s ∷ items) kids are all = let both = and_parts _ _ are in (both.0, each_ode items kids both.1 all.1)
+
+kids_clean : (ms : List Member) (domain : Tree) → Each IsClean Any ms → IsClean domain → AreClean (kids_of ms domain)
+kids_clean [] domain all clean = or_from _ _ clean refl
+kids_clean (Equation x side ∷ ms) domain all clean = or_from _ _ all.0 (kids_clean ms domain all.1 clean)
+kids_clean (Constant s ∷ ms) domain all clean = kids_clean ms domain all.1 clean
 
 module _ (pairs : List Pair) (well : IsWellFormed pairs) where
-  new_kids_clean : (items : List OdeItem) (new : Forest) → IsTrue (list_all is_item items) → AreClean new → AreClean (new_kids pairs items new)
-  new_kids_clean [] new are clean = clean
-  new_kids_clean (Item.Evolve x ∷ items) no_kids are clean = new_kids_clean items no_kids (and_parts _ _ are).1 clean
-  new_kids_clean (Item.Evolve x ∷ items) (kid t ts) are clean =
-      let both = or_parts _ _ clean in
-      or_from _ _ both.0 (new_kids_clean items ts (and_parts _ _ are).1 both.1)
-  new_kids_clean (Item.Const s ∷ items) new are clean =
-      let each = and_parts _ _ are in
-      append_lacks is_gap (sides_for (replacement pairs s)) (new_kids pairs items new)
-      (sides_clean (replacement pairs s) (λ r found. replacement_clean pairs well Ode s r each.0 found zero_only refl)) (new_kids_clean items new each.1 clean)
+  new_kids_clean : (items : List OdeItem) (new : Forest) → IsTrue (list_all is_item items) → AreClean new
+      → AreClean (kids_of (new_members pairs items new) (last new))
+  new_kids_clean items new are clean =
+      let for = λ (s : Sym) (is : IsOde s).
+      each_for IsClean s (replacement pairs s)
+      (λ others kids found. members_clean others kids (replacement_clean pairs well Ode s _ is found zero_only refl)) in
+      let each = each_spliced IsClean IsOde pairs for (members items new) (each_ode items new are (members_clean items new clean)) in
+      kids_clean (new_members pairs items new) (last new) each (last_clean new clean)
 
   -- a replacement or the operator itself
   replaced_clean : (o : Option Tree) (op : Op) (old new : Forest) (t : Tree) (With : Tree → Type 0) → ((r : Tree) → o ≡ Some r → With r → IsClean t)
@@ -96,12 +116,12 @@ module _ (pairs : List Pair) (well : IsWellFormed pairs) where
   replaced_clean (Some r) op old new t With h gap clean p = h r refl p
   replaced_clean None op old new t With h gap clean p = stays_clean op new t gap clean p.1
 
-  given_clean : (k : Kind) (s : Sym) (op : Op) (old new : Forest) (t : Tree) → TakesNone k → may_have_hole k ≡ false → IsTrue (is_sym_of k s)
+  given_clean : (k : Kind) (s : Sym) (op : Op) (old new : Forest) (t : Tree) → TakesNone k → (kind_row k).hole ≡ false → IsTrue (is_sym_of k s)
       → is_gap op ≡ false → AreClean new → Replaced (replacement pairs s) (λ r. t ≡ r) (Stays (IsAdmissible pairs) op old new t) → IsClean t
   given_clean k s op old new t none h is gap clean p =
       replaced_clean (replacement pairs s) op old new t (λ r. t ≡ r) (λ r found e. ap (has is_gap) e ∙ replacement_clean pairs well k s r is found none h) gap clean p
 
-  plugged_clean : (k : Kind) (s : Sym) (op : Op) (old new : Forest) (t : Tree) → may_have_hole k ≡ false → IsTrue (is_sym_of k s)
+  plugged_clean : (k : Kind) (s : Sym) (op : Op) (old new : Forest) (t : Tree) → (kind_row k).hole ≡ false → IsTrue (is_sym_of k s)
       → is_gap op ≡ false → AreClean new → Replaced (replacement pairs s) (λ r. Plug (trees_in new) r t) (Stays (IsAdmissible pairs) op old new t) → IsClean t
   plugged_clean k s op old new t h is gap clean p =
       replaced_clean (replacement pairs s) op old new t (λ r. Plug (trees_in new) r t)
@@ -123,7 +143,8 @@ module _ (pairs : List Pair) (well : IsWellFormed pairs) where
   subst_at_clean (Op'.Predicational s) old new t parts gap clean p = filled_clean s (Op'.Predicational s) old new t parts gap clean p
   subst_at_clean (Op'.System items) old new t parts gap clean p =
       let good = and_parts _ _ parts in
-      stays_clean (Op'.System (new_items pairs items)) (new_kids pairs items new) t refl (new_kids_clean items new (and_parts _ _ good.0).1 clean) p.1
+      stays_clean (Op'.System (items_of (new_members pairs items new))) (kids_of (new_members pairs items new) (last new)) t refl
+      (new_kids_clean items new (and_parts _ _ good.0).1 clean) p.1
   subst_at_clean op old new t parts gap clean p = stays_clean op new t gap clean p.1
 
   mutual

@@ -7,16 +7,18 @@ use Rattle.dlk_tree.specs.declared.op.Var.{Var}
 use Rattle.dlk_tree.specs.declared.op.Sym.{Sym}
 use Rattle.dlk_tree.specs.declared.op.Op.{Op}
 use Rattle.dlk_tree.specs.declared.op.Op.TheVariants as Op'
+use Rattle.dlk_tree.specs.Table.{kind_row}
 use Rattle.dlk_tree.specs.Trees.{Tree, node, Forest, no_kids, kid, trees_in, WellMade}
 use Rattle.dlk_tree.specs.Statics.{free, all}
 use Rattle.dlk_tree.specs.Occurs.{any_has, has_symbol, is_dot}
-use Rattle.dlk_calculus.specs.Kids.{first}
+use Rattle.dlk_calculus.specs.Kids.{first, last}
 use Rattle.dlk_calculus.specs.Captures.{captures, AreApart, Stays}
 use Rattle.dlk_calculus.specs.Plug.{IsClear, PlugAt, Plug, PlugAll, filled}
-use Rattle.dlk_calculus.specs.Pairs.{Pair, replacement, takes_arguments, IsFreeIn, Ill, first_ill, IsWellFormed, AreMade}
-use Rattle.dlk_calculus.specs.Subst.{IsAdmissible, Replaced, new_items, new_kids, SubstAt, Subst, SubstAll}
+use Rattle.dlk_calculus.specs.Pairs.{Pair, replacement, IsFreeIn, IsWellFormed, AreWellMade}
+use Rattle.dlk_calculus.specs.Subst.{IsAdmissible, Replaced, new_members, items_of, kids_of, SubstAt, Subst, SubstAll}
 use Rattle.dlk_calculus.proofs.Decide.{both, is_true, well_made_decided}
 use Rattle.dlk_calculus.proofs.OneResult.{one_plug_all, one_subst_at, one_subst_all}
+use Rattle.dlk_calculus.proofs.WellFormed.{well_formed_or_ill}
 use Rattle.dlk_calculus.proofs.Told.{Told, free_told, inhabited_decided, apart_decided, captures_told}
 
 -- ---- what follows from what is decided
@@ -102,7 +104,7 @@ module _ (args : List Tree) where
 module _ (pairs : List Pair) where
   admissible_decided : (set : Var → Bool) → Told set → (trees : Forest) → Dec (IsAdmissible pairs set trees)
   admissible_decided set told trees =
-      all_decided (λ (p : Pair). IsTrue (takes_arguments p.sym.kind && any_has (has_symbol p.sym) trees) → AreApart set (free p.by))
+      all_decided (λ (p : Pair). IsTrue ((kind_row p.sym.kind).arguments && any_has (has_symbol p.sym) trees) → AreApart set (free p.by))
       (λ p. implied_decided (is_true _) (apart_decided set (free p.by) told (free_told p.by))) pairs
 
   kept_decided : (op : Op) (old new : Forest) → Dec ((t : Tree) × Stays (IsAdmissible pairs) op old new t)
@@ -129,7 +131,8 @@ module _ (pairs : List Pair) where
   subst_at_decided (Op'.Predicational s) old new =
       replaced_decided (λ r t. IsAdmissible pairs all old × (t ≡ filled (first new) r)) (λ r. only_decided (filled (first new) r) (admissible_decided all (free_told (node Op'.Hole no_kids)) old))
       (replacement pairs s) (Op'.Predicational s) old new
-  subst_at_decided (Op'.System items) old new = kept_decided (Op'.System (new_items pairs items)) old (new_kids pairs items new)
+  subst_at_decided (Op'.System items) old new =
+      kept_decided (Op'.System (items_of (new_members pairs items new))) old (kids_of (new_members pairs items new) (last new))
   subst_at_decided op old new = kept_decided op old new
 
   mutual
@@ -150,18 +153,19 @@ module _ (pairs : List Pair) where
 -- whether some variable is free in the replacement of a function or a predicate
 pub free_in_decided : (pairs : List Pair) → Dec (IsFreeIn pairs)
 free_in_decided [] = no (λ h. h)
-free_in_decided (p ∷ pairs) = elim (both (λ k f. (k, f)) (λ c. c.0) (λ c. c.1) (is_true (takes_arguments p.sym.kind)) (inhabited_decided (free p.by) (free_told p.by))) [
-  | yes f ↦ yes (inl f)
-  | no n ↦ elim (free_in_decided pairs) [ yes f ↦ yes (inr f) | no m ↦ no (λ h. elim h [ inl f ↦ n f | inr f ↦ m f ]) ]
-]
+free_in_decided (p ∷ pairs) =
+    let takes = is_true (kind_row p.sym.kind).arguments in
+    elim (both (λ k f. (k, f)) (λ c. c.0) (λ c. c.1) takes (inhabited_decided (free p.by) (free_told p.by))) [
+      | yes f ↦ yes (inl f)
+      | no n ↦ elim (free_in_decided pairs) [ yes f ↦ yes (inr f) | no m ↦ no (λ h. elim h [ inl f ↦ n f | inr f ↦ m f ]) ]
+    ]
 
-well_formed_decided : (o : Option Ill) → Dec (o ≡ None)
-well_formed_decided None = yes refl
-well_formed_decided (Some ill) = no (λ e. cc)
+well_formed_decided : (pairs : List Pair) → Dec (IsWellFormed pairs)
+well_formed_decided pairs = elim (well_formed_or_ill pairs) [ inl well ↦ yes well | inr ill ↦ no (λ well. well.none ill.0 ill.1 ill.2.ill) ]
 
-all_made_decided : (pairs : List Pair) → Dec (AreMade pairs)
+all_made_decided : (pairs : List Pair) → Dec (AreWellMade pairs)
 all_made_decided [] = yes (All-nil (λ (p : Pair). WellMade p.by))
 all_made_decided (p ∷ pairs) = both (All-cons (λ (p : Pair). WellMade p.by) p pairs) (All-head (λ (p : Pair). WellMade p.by) p pairs) (All-tail (λ (p : Pair). WellMade p.by) p pairs) (well_made_decided p.by) (all_made_decided pairs)
 
-pub good_pairs : (pairs : List Pair) → Dec (AreMade pairs × IsWellFormed pairs)
-good_pairs pairs = both (λ a b. (a, b)) (λ c. c.0) (λ c. c.1) (all_made_decided pairs) (well_formed_decided (first_ill pairs))
+pub good_pairs : (pairs : List Pair) → Dec (AreWellMade pairs × IsWellFormed pairs)
+good_pairs pairs = both (λ a b. (a, b)) (λ c. c.0) (λ c. c.1) (all_made_decided pairs) (well_formed_decided pairs)

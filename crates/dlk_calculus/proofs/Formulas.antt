@@ -1,32 +1,28 @@
--- What is given from provables of formulas is one of formulas.
+-- What is derived is made of formulas.
 use Rattle.std.proofs.Common.{◌≡◌, ℕ, ◌-◌, Bool, true, false, ◌||◌, List, [], ◌∷◌, ◌++◌, refl, sym, ap, subst, ◌∙◌, cond, Some, None, arith}
 use Rattle.std.specs.Prelude.{IsTrue}
 use Rattle.std.specs.List.{All}
-use Rattle.std.proofs.lemmas.Option.{none-some, same_Some}
 use Rattle.std.proofs.lemmas.List.Elements.{All-cons, All-nil, All-head, All-tail, All-push, All-set, All-append, All-take, All-drop}
 use Rattle.dlk_tree.specs.declared.op.Op.{Op}
 use Rattle.dlk_tree.specs.declared.op.Op.TheVariants as Op'
 use Rattle.dlk_tree.specs.declared.op.Sort.TheVariants.{Formula, Program}
 use Rattle.dlk_tree.specs.Names.{is_name}
 use Rattle.dlk_tree.specs.Table.{sort_of, kid_sorts, has_parts}
-use Rattle.dlk_tree.specs.Trees.{Tree, node, Forest, no_kids, kid, root, sort, sorts, WellMade}
-use Rattle.dlk_tree.specs.Statics.{plain}
-use Rattle.dlk_tree.specs.Occurs.{has, is_some_dot, is_hole}
-use Rattle.dlk_calculus.specs.Sequents.{Sequent, alone_right, IsFormula, IsSequent}
-use Rattle.dlk_calculus.specs.Kids.{first, later, last}
-use Rattle.dlk_calculus.specs.Places.{IsPlace}
-use Rattle.dlk_calculus.specs.Rename.{name_in, binder_of, assigned, rebound, reassigned, renamed_bound, swap}
-use Rattle.dlk_calculus.specs.Rules.{Rule, Close, CloseTrue, CloseFalse, NotL, NotR, AndL, AndR, OrL, OrR, ImplyL, ImplyR, EquivL, EquivR, Cut, CutL, CutR, HideL, HideR, CoHideR, ExchangeL, ExchangeR, SkolemL, SkolemR, BoundL, BoundR, EquivifyR, CommuteEquivL, CommuteEquivR, imply, equiv, truth, kid_f, kid_g, left, left_f, left_g, right, right_f, right_g, put_left, put_right, last_left, last_right, without_left, without_right, exists_name, forall_name, HasBinder, figure, Premises}
-use Rattle.dlk_calculus.specs.Provables.{Provable, HasFormulas, Joins, no_more, there, added, SubstEach, SubstSequent, SubstSequents}
+use Rattle.dlk_tree.specs.Trees.{Tree, node, no_kids, kid, sort}
+use Rattle.dlk_tree.specs.Occurs.{is_some_dot, is_hole}
+use Rattle.dlk_calculus.specs.Sequents.{Sequent, ◌==>◌, alone_right, IsFormula, IsSequent}
+use Rattle.dlk_calculus.specs.Notation.{one, two, assign}
+use Rattle.dlk_calculus.specs.Places.{At, put, without_place}
+use Rattle.dlk_calculus.specs.Rename.{swap, RenamesBound, in_forall, in_exists, in_box, in_dia}
+use Rattle.dlk_calculus.specs.Rules.{Rule, Close, CloseTrue, CloseFalse, NotL, NotR, AndL, AndR, OrL, OrR, ImplyL, ImplyR, EquivL, EquivR, Cut, CutL, CutR, HideL, HideR, CoHideR, ExchangeL, ExchangeR, SkolemL, SkolemR, BoundL, BoundR, EquivifyR, CommuteEquivL, CommuteEquivR, imply, equiv, figure, Premises}
+use Rattle.dlk_calculus.specs.Provables.{Provable, HasFormulas, AreNew, no_more, there, added, SubstEach, SubstSequent, SubstSequents}
 use Rattle.dlk_calculus.specs.Pairs.{Pair, IsWellFormed}
-use Rattle.dlk_calculus.specs.Steps.{Step, Start, UseAxiom, UseRule, Leaf, Apply, Merge, Substitute, Rename, Gives, History, Derives}
-use Rattle.dlk_calculus.proofs.Histories.{History-has, Derives-has}
-use Rattle.dlk_calculus.proofs.PlaceLaws.{At_All}
+use Rattle.dlk_calculus.specs.Steps.{Derives, by_itself, by_axiom, by_axiomatic_rule, by_arithmetic, by_rule, by_fact, by_substitution, by_renaming}
+use Rattle.dlk_calculus.proofs.PlaceLaws.{At_All, All-between, All-replaced}
 use Rattle.dlk_calculus.proofs.AxiomLaws.{axiom_formula, rule_formulas}
 use Rattle.dlk_calculus.proofs.CleanResults.{subst_formula}
 use Rattle.dlk_calculus.proofs.Sorts.{head, tail}
 use Rattle.dlk_calculus.proofs.Swapped.{swap_formula, swap_is_sequent, swap_sequents}
-use Rattle.dlk_calculus.proofs.StepLaws.{given_by}
 
 first_false : (a b : Bool) → a || b ≡ false → a ≡ false
 first_false true b e = e
@@ -43,11 +39,9 @@ both_false false b p q = q
 -- ---- the kids of a formula
 
 -- an operator over two formulas
-two_formulas : (op : Op) (kids : Forest) → kid_sorts op ≡ Formula ∷ Formula ∷ [] → IsFormula (node op kids) → IsFormula (first kids) × IsFormula (first (later kids))
-two_formulas op no_kids e h = let k = h.well_made.0.kids_fit ∙ e in cc
-two_formulas op (kid f no_kids) e h = let k = h.well_made.0.kids_fit ∙ e in cc
-two_formulas op (kid f (kid g rest)) e h =
-    let k : sort f ∷ sort g ∷ sorts rest ≡ Formula ∷ Formula ∷ [] = h.well_made.0.kids_fit ∙ e in
+two_kids : (op : Op) (f g : Tree) → kid_sorts op ≡ Formula ∷ Formula ∷ [] → IsFormula (two op f g) → IsFormula f × IsFormula g
+two_kids op f g e h =
+    let k : sort f ∷ sort g ∷ [] ≡ Formula ∷ Formula ∷ [] = h.well_made.0.kids_fit ∙ e in
     let dot = second_false _ _ h.no_dot in
     let hole = second_false _ _ h.no_hole in (
       record { well_made = h.well_made.1.0; sort_is = ap head k; no_dot = first_false _ _ dot; no_hole = first_false _ _ hole },
@@ -55,26 +49,10 @@ two_formulas op (kid f (kid g rest)) e h =
     )
 
 -- an operator over one formula
-one_formula : (op : Op) (kids : Forest) → kid_sorts op ≡ Formula ∷ [] → IsFormula (node op kids) → IsFormula (first kids)
-one_formula op no_kids e h = let k = h.well_made.0.kids_fit ∙ e in cc
-one_formula op (kid f rest) e h =
-    let k : sort f ∷ sorts rest ≡ Formula ∷ [] = h.well_made.0.kids_fit ∙ e in
+one_kid : (op : Op) (f : Tree) → kid_sorts op ≡ Formula ∷ [] → IsFormula (one op f) → IsFormula f
+one_kid op f e h =
+    let k : sort f ∷ [] ≡ Formula ∷ [] = h.well_made.0.kids_fit ∙ e in
     record { well_made = h.well_made.1.0; sort_is = ap head k; no_dot = first_false _ _ (second_false _ _ h.no_dot); no_hole = first_false _ _ (second_false _ _ h.no_hole) }
-
--- of a formula whose top operator is known
-two_kids : (t : Tree) (op : Op) → root t ≡ op → kid_sorts op ≡ Formula ∷ Formula ∷ [] → IsFormula t → IsFormula (kid_f t) × IsFormula (kid_g t)
-two_kids (node op kids) other is e h = two_formulas op kids (ap kid_sorts is ∙ e) h
-
-one_kid : (t : Tree) (op : Op) → root t ≡ op → kid_sorts op ≡ Formula ∷ [] → IsFormula t → IsFormula (kid_f t)
-one_kid (node op kids) other is e h = one_formula op kids (ap kid_sorts is ∙ e) h
-
-existential_kid : (t : Tree) (x : List ℕ) → exists_name (root t) ≡ Some x → IsFormula t → IsFormula (kid_f t)
-existential_kid (node (Op'.Exists z) kids) x e h = one_formula (Op'.Exists z) kids refl h
-existential_kid (node _ kids) x e h = absurd (none-some x e)
-
-universal_kid : (t : Tree) (x : List ℕ) → forall_name (root t) ≡ Some x → IsFormula t → IsFormula (kid_f t)
-universal_kid (node (Op'.Forall z) kids) x e h = one_formula (Op'.Forall z) kids refl h
-universal_kid (node _ kids) x e h = absurd (none-some x e)
 
 -- ---- formulas under an operator
 
@@ -109,92 +87,63 @@ quantified op f c kids h = record {
 
 -- ---- renaming a bound variable
 
--- the last of the kids of an operator over one formula
-last_formula : (op : Op) (kids : Forest) → kid_sorts op ≡ Formula ∷ [] → IsFormula (node op kids) → IsFormula (last kids)
-last_formula op no_kids e h = let k = h.well_made.0.kids_fit ∙ e in cc
-last_formula op (kid f no_kids) e h = one_formula op (kid f no_kids) e h
-last_formula op (kid f (kid g rest)) e h = let k = h.well_made.0.kids_fit ∙ e in cc
-
-assigned_name : (b : Tree) (x : List ℕ) → assigned (root b) ≡ Some x → WellMade b → IsTrue (is_name x)
-assigned_name (node (Op'.Assign v) kids) x e made = go v.primed e
-  where
-    go : (p : Bool) → cond p None (Some v.name) ≡ Some x → IsTrue (is_name x)
-    go true e = absurd (none-some x e)
-    go false e = subst (λ z. IsTrue (is_name z)) (same_Some v.name x e) made.0.parts_fit
-assigned_name (node _ kids) x e made = absurd (none-some x e)
-
-reassigned_made : (b : Tree) (x y : List ℕ) → assigned (root b) ≡ Some x → IsTrue (is_name y) → WellMade b → WellMade (reassigned y b)
-reassigned_made (node (Op'.Assign v) kids) x y e real made = (record { kids_fit = made.0.kids_fit; parts_fit = real }, made.1)
-reassigned_made (node _ kids) x y e real made = absurd (none-some x e)
-
-reassigned_sort : (b : Tree) (y : List ℕ) → sort (reassigned y b) ≡ Program
-reassigned_sort (node op kids) y = refl
-
-reassigned_lacks : (test : Op → Bool) → ((y : List ℕ) → test (Op'.Assign (plain y)) ≡ false) → (b : Tree) (y : List ℕ) → has test b ≡ false → has test (reassigned y b) ≡ false
-reassigned_lacks test none (node op kids) y h = both_false _ _ (none y) (second_false _ _ h)
-
 -- a box or a diamond over an assignment
-modal_formula : (op : Op) (kids : Forest) (x y : List ℕ) → IsConnective op → kid_sorts op ≡ Program ∷ Formula ∷ [] → IsFormula (node op kids) → assigned (root (first kids)) ≡ Some x → IsTrue (is_name y) →
-    IsFormula (node op (kid (reassigned y (first kids)) (kid (swap x y (last kids)) no_kids)))
-modal_formula op no_kids x y c e h is real = let k = h.well_made.0.kids_fit ∙ e in cc
-modal_formula op (kid b no_kids) x y c e h is real = let k = h.well_made.0.kids_fit ∙ e in cc
-modal_formula op (kid b (kid f (kid g rest))) x y c e h is real = let k = ap (λ ss. tail (tail ss)) (h.well_made.0.kids_fit ∙ e) in cc
-modal_formula op (kid b (kid f no_kids)) x y c e h is real =
-    let k : sort b ∷ sort f ∷ [] ≡ Program ∷ Formula ∷ [] = h.well_made.0.kids_fit ∙ e in
+modal_formula : (op : Op) (x y : List ℕ) (e f : Tree) → IsConnective op → kid_sorts op ≡ Program ∷ Formula ∷ [] → IsTrue (is_name y) →
+    IsFormula (two op (assign x e) f) →
+    IsFormula (two op (assign y e) (swap x y f))
+modal_formula op x y e f c kids real h =
+    let k : Program ∷ sort f ∷ [] ≡ Program ∷ Formula ∷ [] = h.well_made.0.kids_fit ∙ kids in
     let dot = second_false _ _ h.no_dot in
     let hole = second_false _ _ h.no_hole in
     let inner : IsFormula f = record { well_made = h.well_made.1.1.0; sort_is = ap (λ ss. head (tail ss)) k; no_dot = first_false _ _ (second_false _ _ dot); no_hole = first_false _ _ (second_false _ _ hole) } in
-    let g = swap_formula x y (assigned_name b x is h.well_made.1.0) real f inner in
-    let program = reassigned_sort b y in
+    let g = swap_formula x y h.well_made.1.0.0.parts_fit real f inner in
     record {
-      well_made = (record { kids_fit = (λ i. program i ∷ g.sort_is i ∷ []) ∙ sym e; parts_fit = c.parts }, (reassigned_made b x y is real h.well_made.1.0, (g.well_made, tt)));
+      well_made = (
+        record { kids_fit = (λ i. Program ∷ g.sort_is i ∷ []) ∙ sym kids; parts_fit = c.parts },
+        ((record { kids_fit = h.well_made.1.0.0.kids_fit; parts_fit = real }, h.well_made.1.0.1), (g.well_made, tt)),
+      );
       sort_is = c.sort_is;
-      no_dot = both_false _ _ c.no_dot (both_false _ _ (reassigned_lacks is_some_dot (λ z. refl) b y (first_false _ _ dot)) (both_false _ _ g.no_dot refl));
-      no_hole = both_false _ _ c.no_hole (both_false _ _ (reassigned_lacks is_hole (λ z. refl) b y (first_false _ _ hole)) (both_false _ _ g.no_hole refl));
+      no_dot = both_false _ _ c.no_dot (both_false _ _ (first_false _ _ dot) (both_false _ _ g.no_dot refl));
+      no_hole = both_false _ _ c.no_hole (both_false _ _ (first_false _ _ hole) (both_false _ _ g.no_hole refl));
     }
 
-rebound_formula : (op : Op) (kids : Forest) (x y : List ℕ) → binder_of op kids ≡ Some x → IsTrue (is_name y) → IsFormula (node op kids) → IsFormula (rebound y (swap x y (last kids)) op kids)
-rebound_formula (Op'.Forall z) kids x y e real h =
-    let name = subst (λ n. IsTrue (is_name n)) (same_Some z x e) h.well_made.0.parts_fit in
-    quantified (Op'.Forall y) _ (record { sort_is = refl; parts = real; no_dot = refl; no_hole = refl }) refl (swap_formula x y name real _ (last_formula (Op'.Forall z) kids refl h))
-rebound_formula (Op'.Exists z) kids x y e real h =
-    let name = subst (λ n. IsTrue (is_name n)) (same_Some z x e) h.well_made.0.parts_fit in
-    quantified (Op'.Exists y) _ (record { sort_is = refl; parts = real; no_dot = refl; no_hole = refl }) refl (swap_formula x y name real _ (last_formula (Op'.Exists z) kids refl h))
-rebound_formula Op'.Box kids x y e real h = modal_formula Op'.Box kids x y (record { sort_is = refl; parts = refl; no_dot = refl; no_hole = refl }) refl h e real
-rebound_formula Op'.Dia kids x y e real h = modal_formula Op'.Dia kids x y (record { sort_is = refl; parts = refl; no_dot = refl; no_hole = refl }) refl h e real
-rebound_formula _ kids x y e real h = absurd (none-some x e)
-
-renamed_formula : (y : List ℕ) (t : Tree) → HasBinder y t → IsFormula t → IsFormula (renamed_bound y t)
-renamed_formula y (node op kids) can h =
-    let x = can.1.0 in
-    let name : name_in (binder_of op kids) ≡ x = ap name_in can.1.1 in
-    subst (λ n. IsFormula (rebound y (swap n y (last kids)) op kids)) (sym name) (rebound_formula op kids x y can.1.1 can.0 h)
+renamed_formula : {x y : List ℕ} {f t u : Tree} → IsTrue (is_name y) → RenamesBound x y f t u → IsFormula t → IsFormula u
+renamed_formula {x} {y} {f} real in_forall h =
+    let g = swap_formula x y h.well_made.0.parts_fit real f (one_kid (Op'.Forall x) f refl h) in
+    quantified (Op'.Forall y) _ (record { sort_is = refl; parts = real; no_dot = refl; no_hole = refl }) refl g
+renamed_formula {x} {y} {f} real in_exists h =
+    let g = swap_formula x y h.well_made.0.parts_fit real f (one_kid (Op'.Exists x) f refl h) in
+    quantified (Op'.Exists y) _ (record { sort_is = refl; parts = real; no_dot = refl; no_hole = refl }) refl g
+renamed_formula {x} {y} {f} real (in_box e) h =
+    modal_formula Op'.Box x y e f (record { sort_is = refl; parts = refl; no_dot = refl; no_hole = refl }) refl real h
+renamed_formula {x} {y} {f} real (in_dia e) h =
+    modal_formula Op'.Dia x y e f (record { sort_is = refl; parts = refl; no_dot = refl; no_hole = refl }) refl real h
 
 -- ---- a sequent of formulas stays one
 
 module _ (s : Sequent) (h : IsSequent s) where
-  left_formula : (i : ℕ) → IsPlace s.ante i → IsFormula (left i s)
-  left_formula i p = h.ante (i - 1) truth (omega (arith, p.0, p.1))
+  left_formula : (i : ℕ) (f : Tree) → At s.ante i f → IsFormula f
+  left_formula i f k = At_All IsFormula s.ante i f h.ante k
 
-  right_formula : (j : ℕ) → IsPlace s.succ j → IsFormula (right j s)
-  right_formula j p = h.succ (j - 1) truth (omega (arith, p.0, p.1))
+  right_formula : (j : ℕ) (f : Tree) → At s.succ j f → IsFormula f
+  right_formula j f k = At_All IsFormula s.succ j f h.succ k
 
-  left_put : (i : ℕ) (f : Tree) → IsFormula f → IsSequent (put_left i f s)
+  left_put : (i : ℕ) (f : Tree) → IsFormula f → IsSequent (put s.ante i f ==> s.succ)
   left_put i f p = record { ante = All-set IsFormula s.ante (i - 1) f p h.ante; succ = h.succ }
 
-  right_put : (j : ℕ) (f : Tree) → IsFormula f → IsSequent (put_right j f s)
+  right_put : (j : ℕ) (f : Tree) → IsFormula f → IsSequent (s.ante ==> put s.succ j f)
   right_put j f p = record { ante = h.ante; succ = All-set IsFormula s.succ (j - 1) f p h.succ }
 
-  left_last : (f : Tree) → IsFormula f → IsSequent (last_left f s)
+  left_last : (f : Tree) → IsFormula f → IsSequent (s.ante ++ f ∷ [] ==> s.succ)
   left_last f p = record { ante = All-push IsFormula s.ante f h.ante p; succ = h.succ }
 
-  right_last : (f : Tree) → IsFormula f → IsSequent (last_right f s)
+  right_last : (f : Tree) → IsFormula f → IsSequent (s.ante ==> s.succ ++ f ∷ [])
   right_last f p = record { ante = h.ante; succ = All-push IsFormula s.succ f h.succ p }
 
-  left_without : (i : ℕ) → IsSequent (without_left i s)
+  left_without : (i : ℕ) → IsSequent (without_place s.ante i ==> s.succ)
   left_without i = record { ante = All-append IsFormula _ _ (All-take IsFormula (i - 1) s.ante h.ante) (All-drop IsFormula i s.ante h.ante); succ = h.succ }
 
-  right_without : (j : ℕ) → IsSequent (without_right j s)
+  right_without : (j : ℕ) → IsSequent (s.ante ==> without_place s.succ j)
   right_without j = record { ante = h.ante; succ = All-append IsFormula _ _ (All-take IsFormula (j - 1) s.succ h.succ) (All-drop IsFormula j s.succ h.succ) }
 
 alone : {f : Tree} → IsFormula f → IsSequent (alone_right f)
@@ -208,60 +157,69 @@ two_sequents s t p q = All-cons IsSequent s (t ∷ []) p (one_sequent t q)
 
 -- ---- the premises of a rule
 
-figure_formulas : (rule : Rule) (s : Sequent) → IsSequent s → (figure rule s).places → (figure rule s).shape → All IsSequent (figure rule s).premises
+figure_formulas : (rule : Rule) (s : Sequent) → IsSequent s → (p : (figure rule s.ante s.succ).Parts) → (figure rule s.ante s.succ).shape p →
+    All IsSequent ((figure rule s.ante s.succ).premises p)
 figure_formulas (Close i j) s h p k = All-nil IsSequent
 figure_formulas (CloseTrue j) s h p k = All-nil IsSequent
 figure_formulas (CloseFalse i) s h p k = All-nil IsSequent
-figure_formulas (NotL i) s h p k = one_sequent _ (right_last (without_left i s) (left_without s h i) _ (one_kid (left i s) Op'.Not k refl (left_formula s h i p)))
-figure_formulas (NotR j) s h p k = one_sequent _ (left_last (without_right j s) (right_without s h j) _ (one_kid (right j s) Op'.Not k refl (right_formula s h j p)))
+figure_formulas (NotL i) s h p k =
+    one_sequent _ (right_last (without_place s.ante i ==> s.succ) (left_without s h i) p (one_kid Op'.Not p refl (left_formula s h i _ k)))
+figure_formulas (NotR j) s h p k =
+    one_sequent _ (left_last (s.ante ==> without_place s.succ j) (right_without s h j) p (one_kid Op'.Not p refl (right_formula s h j _ k)))
 figure_formulas (AndL i) s h p k =
-    let m = two_kids (left i s) Op'.And k refl (left_formula s h i p) in
-    one_sequent _ (left_last (put_left i (left_f i s) s) (left_put s h i _ m.0) _ m.1)
+    let m = two_kids Op'.And p.0 p.1 refl (left_formula s h i _ k) in
+    one_sequent _ (left_last (put s.ante i p.0 ==> s.succ) (left_put s h i p.0 m.0) p.1 m.1)
 figure_formulas (AndR j) s h p k =
-    let m = two_kids (right j s) Op'.And k refl (right_formula s h j p) in
-    two_sequents _ _ (right_put s h j _ m.0) (right_put s h j _ m.1)
+    let m = two_kids Op'.And p.0 p.1 refl (right_formula s h j _ k) in
+    two_sequents _ _ (right_put s h j p.0 m.0) (right_put s h j p.1 m.1)
 figure_formulas (OrL i) s h p k =
-    let m = two_kids (left i s) Op'.Or k refl (left_formula s h i p) in
-    two_sequents _ _ (left_put s h i _ m.0) (left_put s h i _ m.1)
+    let m = two_kids Op'.Or p.0 p.1 refl (left_formula s h i _ k) in
+    two_sequents _ _ (left_put s h i p.0 m.0) (left_put s h i p.1 m.1)
 figure_formulas (OrR j) s h p k =
-    let m = two_kids (right j s) Op'.Or k refl (right_formula s h j p) in
-    one_sequent _ (right_last (put_right j (right_f j s) s) (right_put s h j _ m.0) _ m.1)
+    let m = two_kids Op'.Or p.0 p.1 refl (right_formula s h j _ k) in
+    one_sequent _ (right_last (s.ante ==> put s.succ j p.0) (right_put s h j p.0 m.0) p.1 m.1)
 figure_formulas (ImplyL i) s h p k =
-    let m = two_kids (left i s) Op'.Imply k refl (left_formula s h i p) in
-    two_sequents _ _ (right_last (without_left i s) (left_without s h i) _ m.0) (left_put s h i _ m.1)
+    let m = two_kids Op'.Imply p.0 p.1 refl (left_formula s h i _ k) in
+    two_sequents _ _ (right_last (without_place s.ante i ==> s.succ) (left_without s h i) p.0 m.0) (left_put s h i p.1 m.1)
 figure_formulas (ImplyR j) s h p k =
-    let m = two_kids (right j s) Op'.Imply k refl (right_formula s h j p) in
-    one_sequent _ (left_last (put_right j (right_g j s) s) (right_put s h j _ m.1) _ m.0)
+    let m = two_kids Op'.Imply p.0 p.1 refl (right_formula s h j _ k) in
+    one_sequent _ (left_last (s.ante ==> put s.succ j p.1) (right_put s h j p.1 m.1) p.0 m.0)
 figure_formulas (EquivL i) s h p k =
-    let m = two_kids (left i s) Op'.Equiv k refl (left_formula s h i p) in
-    one_sequent _ (left_last (put_left i (imply (left_f i s) (left_g i s)) s) (left_put s h i _ (imply_formula _ _ m.0 m.1)) _ (imply_formula _ _ m.1 m.0))
+    let m = two_kids Op'.Equiv p.0 p.1 refl (left_formula s h i _ k) in
+    let there = imply_formula p.0 p.1 m.0 m.1 in
+    let back = imply_formula p.1 p.0 m.1 m.0 in
+    one_sequent _ (left_last (put s.ante i (imply p.0 p.1) ==> s.succ) (left_put s h i _ there) _ back)
 figure_formulas (EquivR j) s h p k =
-    let m = two_kids (right j s) Op'.Equiv k refl (right_formula s h j p) in
-    two_sequents _ _ (right_put s h j _ (imply_formula _ _ m.0 m.1)) (right_put s h j _ (imply_formula _ _ m.1 m.0))
+    let m = two_kids Op'.Equiv p.0 p.1 refl (right_formula s h j _ k) in
+    two_sequents _ _ (right_put s h j _ (imply_formula p.0 p.1 m.0 m.1)) (right_put s h j _ (imply_formula p.1 p.0 m.1 m.0))
 figure_formulas (Cut f) s h p k = two_sequents _ _ (left_last s h f k) (right_last s h f k)
-figure_formulas (CutL i f) s h p k = two_sequents _ _ (left_put s h i f k) (right_last (without_left i s) (left_without s h i) _ (imply_formula _ _ (left_formula s h i p) k))
-figure_formulas (CutR j f) s h p k = two_sequents _ _ (right_put s h j f k) (right_put s h j _ (imply_formula _ _ k (right_formula s h j p)))
+figure_formulas (CutL i f) s h p k =
+    two_sequents _ _ (left_put s h i f k.1)
+    (right_last (without_place s.ante i ==> s.succ) (left_without s h i) _ (imply_formula p f (left_formula s h i p k.0) k.1))
+figure_formulas (CutR j f) s h p k = two_sequents _ _ (right_put s h j f k.1) (right_put s h j _ (imply_formula f p k.1 (right_formula s h j p k.0)))
 figure_formulas (HideL i) s h p k = one_sequent _ (left_without s h i)
 figure_formulas (HideR j) s h p k = one_sequent _ (right_without s h j)
-figure_formulas (CoHideR j) s h p k = one_sequent _ (alone (right_formula s h j p))
-figure_formulas (ExchangeL i l) s h p k = one_sequent _ (left_put (put_left i (left l s) s) (left_put s h i _ (left_formula s h l p.1)) l _ (left_formula s h i p.0))
-figure_formulas (ExchangeR j l) s h p k = one_sequent _ (right_put (put_right j (right l s) s) (right_put s h j _ (right_formula s h l p.1)) l _ (right_formula s h j p.0))
-figure_formulas (SkolemL i) s h p k = one_sequent _ (left_put s h i _ (existential_kid (left i s) k.0 k.1 (left_formula s h i p)))
-figure_formulas (SkolemR j) s h p k = one_sequent _ (right_put s h j _ (universal_kid (right j s) k.0 k.1 (right_formula s h j p)))
-figure_formulas (BoundL i y) s h p k = one_sequent _ (left_put s h i _ (renamed_formula y (left i s) k (left_formula s h i p)))
-figure_formulas (BoundR j y) s h p k = one_sequent _ (right_put s h j _ (renamed_formula y (right j s) k (right_formula s h j p)))
+figure_formulas (CoHideR j) s h p k = one_sequent _ (alone (right_formula s h j p k))
+figure_formulas (ExchangeL i l) s h p k =
+    one_sequent _ (left_put (put s.ante i p.1 ==> s.succ) (left_put s h i p.1 (left_formula s h l p.1 k.1)) l p.0 (left_formula s h i p.0 k.0))
+figure_formulas (ExchangeR j l) s h p k =
+    one_sequent _ (right_put (s.ante ==> put s.succ j p.1) (right_put s h j p.1 (right_formula s h l p.1 k.1)) l p.0 (right_formula s h j p.0 k.0))
+figure_formulas (SkolemL i) s h p k = one_sequent _ (left_put s h i p.1 (one_kid (Op'.Exists p.0) p.1 refl (left_formula s h i _ k)))
+figure_formulas (SkolemR j) s h p k = one_sequent _ (right_put s h j p.1 (one_kid (Op'.Forall p.0) p.1 refl (right_formula s h j _ k)))
+figure_formulas (BoundL i y) s h p k = one_sequent _ (left_put s h i _ (renamed_formula k.0 k.1.2 (left_formula s h i k.1.0 k.1.1)))
+figure_formulas (BoundR j y) s h p k = one_sequent _ (right_put s h j _ (renamed_formula k.0 k.1.2 (right_formula s h j k.1.0 k.1.1)))
 figure_formulas (EquivifyR j) s h p k =
-    let m = two_kids (right j s) Op'.Imply k refl (right_formula s h j p) in
-    one_sequent _ (right_put s h j _ (equiv_formula _ _ m.0 m.1))
+    let m = two_kids Op'.Imply p.0 p.1 refl (right_formula s h j _ k) in
+    one_sequent _ (right_put s h j _ (equiv_formula p.0 p.1 m.0 m.1))
 figure_formulas (CommuteEquivL i) s h p k =
-    let m = two_kids (left i s) Op'.Equiv k refl (left_formula s h i p) in
-    one_sequent _ (left_put s h i _ (equiv_formula _ _ m.1 m.0))
+    let m = two_kids Op'.Equiv p.0 p.1 refl (left_formula s h i _ k) in
+    one_sequent _ (left_put s h i _ (equiv_formula p.1 p.0 m.1 m.0))
 figure_formulas (CommuteEquivR j) s h p k =
-    let m = two_kids (right j s) Op'.Equiv k refl (right_formula s h j p) in
-    one_sequent _ (right_put s h j _ (equiv_formula _ _ m.1 m.0))
+    let m = two_kids Op'.Equiv p.0 p.1 refl (right_formula s h j _ k) in
+    one_sequent _ (right_put s h j _ (equiv_formula p.1 p.0 m.1 m.0))
 
 pub premises_formulas : (rule : Rule) (s : Sequent) (premises : List Sequent) → IsSequent s → Premises rule s premises → All IsSequent premises
-premises_formulas rule s premises h p = rw p.premises_are (figure_formulas rule s h p.places p.shape)
+premises_formulas rule s premises h p = rw p.premises_are (figure_formulas rule s h p.parts p.shape)
 
 -- what a substitution makes of formulas are formulas
 module _ (pairs : List Pair) (well : IsWellFormed pairs) where
@@ -280,63 +238,46 @@ module _ (pairs : List Pair) (well : IsWellFormed pairs) where
   substituted_sequents (s ∷ ss) [] h m = absurd m
   substituted_sequents (s ∷ ss) (t ∷ ts) h m = All-cons IsSequent t ts (substituted_sequent s t (All-head IsSequent s ss h) m.0) (substituted_sequents ss ts (All-tail IsSequent s ss h) m.1)
 
--- what all old leaves have and all others, all joined ones have
-pub joined_all : (P : Sequent → Type 0) (old more all : List Sequent) → All P old → All P more → Joins old more all → All P all
-joined_all P old [] _ h k no_more = h
-joined_all P old (s ∷ more) all h k (there a j) = joined_all P old more all h (All-tail P s more k) j
-joined_all P old (s ∷ more) all h k (added n j) = joined_all P (old ++ s ∷ []) more all (All-push P old s h (All-head P s more k)) (All-tail P s more k) j
+-- what all have, the new ones among them have; and where the old leaves have it too, all joined ones do
+all_new : (P : Sequent → Type 0) (old more new : List Sequent) → All P more → AreNew old more new → All P new
+all_new P old [] _ h no_more = All-nil P
+all_new P old (s ∷ more) new h (there a j) = all_new P old more new (All-tail P s more h) j
+all_new P old (s ∷ more) _ h (added {new} n j) = All-cons P s new (All-head P s more h) (all_new P old more new (All-tail P s more h) j)
 
-pub given_formulas : (rows : List Provable) (step : Step) (p : Provable) → All HasFormulas rows → Gives rows step p → HasFormulas p
-given_formulas rows (Start s) p h g =
-    let m = given_by rows (Start s) p g in
-    rw m.1 (record { conclusion = m.0; goals = All-cons IsSequent s [] m.0 (All-nil IsSequent); leaves = All-nil IsSequent })
-given_formulas rows (UseAxiom name) p h g =
-    let m = given_by rows (UseAxiom name) p g in
-    rw m.2 (record { conclusion = alone (axiom_formula name m.0 m.1); goals = All-nil IsSequent; leaves = All-nil IsSequent })
-given_formulas rows (UseRule name) p h g =
-    let m = given_by rows (UseRule name) p g in
-    let formulas = rule_formulas name m.0 m.1 in
-    rw m.2 (record { conclusion = alone formulas.1; goals = All-cons IsSequent _ [] (alone formulas.0) (All-nil IsSequent); leaves = All-nil IsSequent })
-given_formulas rows (Leaf s) p h g =
-    let m = given_by rows (Leaf s) p g in
-    rw m.2 (record { conclusion = m.0; goals = All-nil IsSequent; leaves = one_sequent s m.0 })
-given_formulas rows (Apply fact goal rule) p h g =
-    let m = given_by rows (Apply fact goal rule) p g in
-    let q = At_All HasFormulas rows fact m.0 h m.3 in
-    let premises = premises_formulas rule m.1 m.2 (At_All IsSequent m.0.goals goal m.1 q.goals m.4) m.5 in
-    rw m.6 (record {
-      conclusion = q.conclusion;
-      goals = All-append IsSequent _ _ (All-append IsSequent _ _ (All-take IsSequent (goal - 1) m.0.goals q.goals) premises) (All-drop IsSequent goal m.0.goals q.goals);
-      leaves = q.leaves;
-    })
-given_formulas rows (Merge fact goal by) p h g =
-    let m = given_by rows (Merge fact goal by) p g in
-    let q = At_All HasFormulas rows fact m.0 h m.3 in
-    let r = At_All HasFormulas rows by m.1 h m.4 in
-    rw m.7 (record {
-      conclusion = q.conclusion;
-      goals = All-append IsSequent _ _ (All-append IsSequent _ _ (All-take IsSequent (goal - 1) m.0.goals q.goals) r.goals) (All-drop IsSequent goal m.0.goals q.goals);
-      leaves = joined_all IsSequent m.0.leaves m.1.leaves m.2 q.leaves r.leaves m.6;
-    })
-given_formulas rows (Substitute fact pairs) p h g =
-    let m = given_by rows (Substitute fact pairs) p g in
-    let q = At_All HasFormulas rows fact m.0 h m.1 in
-    record {
-      conclusion = substituted_sequent pairs m.3 m.0.conclusion p.conclusion q.conclusion m.5.conclusion;
-      goals = substituted_sequents pairs m.3 m.0.goals p.goals q.goals m.5.goals;
-      leaves = rw m.5.leaves q.leaves;
-    }
-given_formulas rows (Rename fact x y) p h g =
-    let m = given_by rows (Rename fact x y) p g in
-    let q = At_All HasFormulas rows fact m.0 h m.1 in
-    rw m.3 (record {
-      conclusion = swap_is_sequent x y m.2.0 m.2.1 m.0.conclusion q.conclusion;
-      goals = swap_sequents x y m.2.0 m.2.1 m.0.goals q.goals;
-      leaves = q.leaves;
-    })
+pub all_joined : (P : Sequent → Type 0) (old more new : List Sequent) → All P old → All P more → AreNew old more new → All P (old ++ new)
+all_joined P old more new h k j = All-append P old new h (all_new P old more new k j)
 
-pub History-formulas : (rows : List Provable) → History rows → All HasFormulas rows
-History-formulas rows h = History-has HasFormulas given_formulas rows h
-
+-- what is derived is made of formulas
 pub Derives-formulas : (p : Provable) → Derives p → HasFormulas p
-Derives-formulas p d = Derives-has HasFormulas given_formulas p d
+Derives-formulas _ (by_itself {s} h) = record { conclusion = h; goals = one_sequent s h; leaves = All-nil IsSequent }
+Derives-formulas _ (by_axiom name a e) = record { conclusion = alone (axiom_formula name a e); goals = All-nil IsSequent; leaves = All-nil IsSequent }
+Derives-formulas _ (by_axiomatic_rule name r e) =
+    let formulas = rule_formulas name r e in
+    record { conclusion = alone formulas.1; goals = one_sequent (alone_right r.premise) (alone formulas.0); leaves = All-nil IsSequent }
+Derives-formulas _ (by_arithmetic {s} h k) = record { conclusion = h; goals = All-nil IsSequent; leaves = one_sequent s h }
+Derives-formulas _ (by_rule {c} {s} {premises} {leaves} {rule} before after d made) =
+    let h = Derives-formulas (record { conclusion = c; goals = before ++ s ∷ after; leaves = leaves }) d in
+    let new = premises_formulas rule s premises (All-between IsSequent before after s h.goals) made in
+    record { conclusion = h.conclusion; goals = All-replaced IsSequent before after premises s h.goals new; leaves = h.leaves }
+Derives-formulas _ (by_fact {c} {leaves} {new} {p} before after d e joined) =
+    let h = Derives-formulas (record { conclusion = c; goals = before ++ p.conclusion ∷ after; leaves = leaves }) d in
+    let k = Derives-formulas p e in
+    record {
+      conclusion = h.conclusion;
+      goals = All-replaced IsSequent before after p.goals p.conclusion h.goals k.goals;
+      leaves = all_joined IsSequent leaves p.leaves new h.leaves k.leaves joined;
+    }
+Derives-formulas _ (by_substitution {p} {q} {pairs} d made well free is) =
+    let h = Derives-formulas p d in
+    record {
+      conclusion = substituted_sequent pairs well p.conclusion q.conclusion h.conclusion is.conclusion;
+      goals = substituted_sequents pairs well p.goals q.goals h.goals is.goals;
+      leaves = rw is.leaves h.leaves;
+    }
+Derives-formulas _ (by_renaming {p} x y d a b) =
+    let h = Derives-formulas p d in
+    record {
+      conclusion = swap_is_sequent x y a b p.conclusion h.conclusion;
+      goals = swap_sequents x y a b p.goals h.goals;
+      leaves = h.leaves;
+    }

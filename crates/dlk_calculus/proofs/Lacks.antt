@@ -6,7 +6,6 @@ use Rattle.std.proofs.lemmas.List.Elements.{All-cons, All-nil}
 use Rattle.dlk_tree.specs.declared.op.Op.{Op}
 use Rattle.dlk_tree.specs.Trees.{Tree, node, Forest, no_kids, kid, trees_in}
 use Rattle.dlk_tree.specs.Occurs.{has, any_has}
-use Rattle.dlk_calculus.specs.Kids.{but_last, append}
 
 -- where no operator passes one test and none another, none passes a third
 module _ (one other third : Op → Bool) (each : (op : Op) → one op ≡ false → other op ≡ false → third op ≡ false) where
@@ -31,16 +30,3 @@ module _ (test : Op → Bool) where
   trees_lack (kid t rest) h =
       let p = or_parts _ _ h in
       All-cons (λ (u : Tree). has test u ≡ false) t (trees_in rest) p.0 (trees_lack rest p.1)
-
-  pub but_last_lacks : (ts : Forest) → any_has test ts ≡ false → any_has test (but_last ts) ≡ false
-  but_last_lacks no_kids h = refl
-  but_last_lacks (kid t no_kids) h = refl
-  but_last_lacks (kid t (kid u rest)) h =
-      let p = or_parts _ _ h in
-      or_from _ _ p.0 (but_last_lacks (kid u rest) p.1)
-
-  pub append_lacks : (ss ts : Forest) → any_has test ss ≡ false → any_has test ts ≡ false → any_has test (append ss ts) ≡ false
-  append_lacks no_kids ts p q = q
-  append_lacks (kid s ss) ts p q =
-      let a = or_parts _ _ p in
-      or_from _ _ a.0 (append_lacks ss ts a.1 q)

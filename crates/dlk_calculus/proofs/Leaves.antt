@@ -1,64 +1,62 @@
 -- The leaves of what is derived are sequents of arithmetic, and none stands twice.
-use Rattle.std.proofs.Common.{◌≡◌, List, [], ◌∷◌, ◌++◌, sym, ◌⊎◌, inl, inr}
+use Rattle.std.proofs.Common.{List, [], ◌∷◌, ◌++◌, refl, subst, ◌⊎◌, inl, inr}
 use Rattle.std.specs.Prelude.{IsTrue}
-use Rattle.std.specs.List.{All}
 use Rattle.std.proofs.lemmas.List.Elements.{All-cons, All-nil}
 use Rattle.dlk_calculus.specs.Arithmetic.{is_arithmetic_sequent}
 use Rattle.dlk_calculus.specs.Sequents.{Sequent}
-use Rattle.dlk_calculus.specs.Provables.{Provable, IsAmong, AreDistinct, HasLeaves, Joins, no_more, there, added}
-use Rattle.dlk_calculus.specs.Steps.{Step, Start, UseAxiom, UseRule, Leaf, Apply, Merge, Substitute, Rename, Gives, Derives}
-use Rattle.dlk_calculus.proofs.Histories.{Derives-has}
-use Rattle.dlk_calculus.proofs.PlaceLaws.{At_All}
-use Rattle.dlk_calculus.proofs.Formulas.{joined_all}
-use Rattle.dlk_calculus.proofs.StepLaws.{given_by}
+use Rattle.dlk_calculus.specs.Provables.{Provable, IsAmong, AreDistinct, HasLeaves, AreNew, no_more, there, added}
+use Rattle.dlk_calculus.specs.Steps.{Derives, by_itself, by_axiom, by_axiomatic_rule, by_arithmetic, by_rule, by_fact, by_substitution, by_renaming}
+use Rattle.dlk_calculus.proofs.Formulas.{all_joined}
 
 abbrev IsArithmetic : Sequent → Type 0
 IsArithmetic s = IsTrue (is_arithmetic_sequent s)
 
--- one more behind them
-among_push : (s t : Sequent) (ss : List Sequent) → IsAmong s (ss ++ t ∷ []) → IsAmong s ss ⊎ (s ≡ t)
-among_push s t [] h = elim h [ inl e ↦ inr e | inr a ↦ absurd a ]
-among_push s t (r ∷ ss) h = elim h [ inl e ↦ inl (inl e) | inr a ↦ elim (among_push s t ss a) [ inl b ↦ inl (inr b) | inr e ↦ inr e ] ]
+-- a sequent is new where it is one of the others and not an old one
+new_is : (old more new : List Sequent) (s : Sequent) → AreNew old more new → IsAmong s new → IsAmong s more × (¬ IsAmong s old)
+new_is old [] _ s no_more a = absurd a
+new_is old (r ∷ more) new s (there b j) a = let is = new_is old more new s j a in (inr is.0, is.1)
+new_is old (r ∷ more) _ s (added {new} n j) a = elim a [
+  | inl e ↦ (inl e, λ b. n (subst (λ t. IsAmong t old) e b))
+  | inr b ↦ let is = new_is old more new s j b in (inr is.0, is.1)
+]
 
-distinct_push : (s : Sequent) (ss : List Sequent) → AreDistinct ss → (¬ IsAmong s ss) → AreDistinct (ss ++ s ∷ [])
-distinct_push s [] h n = ((λ a. a), tt)
-distinct_push s (r ∷ ss) h n = (
-  λ a. elim (among_push r s ss a) [ inl b ↦ h.0 b | inr e ↦ n (inl (sym e)) ],
-  distinct_push s ss h.1 (λ a. n (inr a)),
+new_distinct : (old more new : List Sequent) → AreDistinct more → AreNew old more new → AreDistinct new
+new_distinct old [] _ h no_more = tt
+new_distinct old (s ∷ more) new h (there a j) = new_distinct old more new h.1 j
+new_distinct old (s ∷ more) _ h (added {new} n j) = ((λ a. h.0 (new_is old more new s j a).0), new_distinct old more new h.1 j)
+
+-- one of two lists
+among_either : (s : Sequent) (old new : List Sequent) → IsAmong s (old ++ new) → IsAmong s old ⊎ IsAmong s new
+among_either s [] new a = inr a
+among_either s (r ∷ old) new a = elim a [ inl e ↦ inl (inl e) | inr b ↦ elim (among_either s old new b) [ inl c ↦ inl (inr c) | inr c ↦ inr c ] ]
+
+apart_distinct : (old new : List Sequent) → AreDistinct old → AreDistinct new → ((s : Sequent) → IsAmong s new → ¬ IsAmong s old) → AreDistinct (old ++ new)
+apart_distinct [] new h k apart = k
+apart_distinct (s ∷ old) new h k apart = (
+  λ a. elim (among_either s old new a) [ inl b ↦ h.0 b | inr b ↦ apart s b (inl refl) ],
+  apart_distinct old new h.1 k (λ r b c. apart r b (inr c)),
 )
 
-joined_distinct : (old more all : List Sequent) → AreDistinct old → Joins old more all → AreDistinct all
-joined_distinct old [] _ h no_more = h
-joined_distinct old (s ∷ more) all h (there a j) = joined_distinct old more all h j
-joined_distinct old (s ∷ more) all h (added n j) = joined_distinct (old ++ s ∷ []) more all (distinct_push s old h n) j
-
-pub given_leaves : (rows : List Provable) (step : Step) (p : Provable) → All HasLeaves rows → Gives rows step p → HasLeaves p
-given_leaves rows (Start s) p h g = rw (given_by rows (Start s) p g).1 (record { arithmetic = All-nil IsArithmetic; distinct = tt })
-given_leaves rows (UseAxiom name) p h g = rw (given_by rows (UseAxiom name) p g).2 (record { arithmetic = All-nil IsArithmetic; distinct = tt })
-given_leaves rows (UseRule name) p h g = rw (given_by rows (UseRule name) p g).2 (record { arithmetic = All-nil IsArithmetic; distinct = tt })
-given_leaves rows (Leaf s) p h g =
-    let m = given_by rows (Leaf s) p g in
-    rw m.2 (record { arithmetic = All-cons IsArithmetic s [] m.1 (All-nil IsArithmetic); distinct = ((λ a. a), tt) })
-given_leaves rows (Apply fact goal rule) p h g =
-    let m = given_by rows (Apply fact goal rule) p g in
-    let q = At_All HasLeaves rows fact m.0 h m.3 in
-    rw m.6 (record { arithmetic = q.arithmetic; distinct = q.distinct })
-given_leaves rows (Merge fact goal by) p h g =
-    let m = given_by rows (Merge fact goal by) p g in
-    let q = At_All HasLeaves rows fact m.0 h m.3 in
-    let r = At_All HasLeaves rows by m.1 h m.4 in
-    rw m.7 (record {
-      arithmetic = joined_all IsArithmetic m.0.leaves m.1.leaves m.2 q.arithmetic r.arithmetic m.6;
-      distinct = joined_distinct m.0.leaves m.1.leaves m.2 q.distinct m.6;
-    })
-given_leaves rows (Substitute fact pairs) p h g =
-    let m = given_by rows (Substitute fact pairs) p g in
-    let q = At_All HasLeaves rows fact m.0 h m.1 in
-    record { arithmetic = rw m.5.leaves q.arithmetic; distinct = rw m.5.leaves q.distinct }
-given_leaves rows (Rename fact x y) p h g =
-    let m = given_by rows (Rename fact x y) p g in
-    let q = At_All HasLeaves rows fact m.0 h m.1 in
-    rw m.3 (record { arithmetic = q.arithmetic; distinct = q.distinct })
+-- where none of the old leaves stands twice and none of the others, none of the joined ones does
+joined_distinct : (old more new : List Sequent) → AreDistinct old → AreDistinct more → AreNew old more new → AreDistinct (old ++ new)
+joined_distinct old more new h k j = apart_distinct old new h (new_distinct old more new k j) (λ s a. (new_is old more new s j a).1)
 
 pub Derives-leaves : (p : Provable) → Derives p → HasLeaves p
-Derives-leaves p d = Derives-has HasLeaves given_leaves p d
+Derives-leaves _ (by_itself {s} h) = record { arithmetic = All-nil IsArithmetic; distinct = tt }
+Derives-leaves _ (by_axiom name a e) = record { arithmetic = All-nil IsArithmetic; distinct = tt }
+Derives-leaves _ (by_axiomatic_rule name r e) = record { arithmetic = All-nil IsArithmetic; distinct = tt }
+Derives-leaves _ (by_arithmetic {s} h k) = record { arithmetic = All-cons IsArithmetic s [] k (All-nil IsArithmetic); distinct = ((λ a. a), tt) }
+Derives-leaves _ (by_rule {c} {s} {premises} {leaves} {rule} before after d made) =
+    let h = Derives-leaves (record { conclusion = c; goals = before ++ s ∷ after; leaves = leaves }) d in
+    record { arithmetic = h.arithmetic; distinct = h.distinct }
+Derives-leaves _ (by_fact {c} {leaves} {new} {p} before after d e joined) =
+    let h = Derives-leaves (record { conclusion = c; goals = before ++ p.conclusion ∷ after; leaves = leaves }) d in
+    let k = Derives-leaves p e in
+    record {
+      arithmetic = all_joined IsArithmetic leaves p.leaves new h.arithmetic k.arithmetic joined;
+      distinct = joined_distinct leaves p.leaves new h.distinct k.distinct joined;
+    }
+Derives-leaves _ (by_substitution {p} {q} {pairs} d made well free is) =
+    let h = Derives-leaves p d in
+    record { arithmetic = rw is.leaves h.arithmetic; distinct = rw is.leaves h.distinct }
+Derives-leaves _ (by_renaming {p} x y d a b) = let h = Derives-leaves p d in record { arithmetic = h.arithmetic; distinct = h.distinct }

@@ -7,6 +7,8 @@ pub mod PlaceLaws
 pub mod Decide
 pub mod Swapped
 pub mod AxiomLaws
+pub mod Forms
+pub mod Binders
 pub mod RuleLaws
 pub mod StepLaws
 pub mod Histories

@@ -1,26 +1,28 @@
 -- The limits: what exceeds one is refused for it, and what none refuses is within them.
-use Rattle.std.proofs.Common.{◌≡◌, ℕ, suc, ◌<◌, ◌≤◌, ◌-◌, List, [], ◌∷◌, length, map, refl, ap, subst, arith, ◌⊎◌, inl, inr}
+use Rattle.std.proofs.Common.{◌≡◌, ◌↔◌, ℕ, suc, ◌<◌, ◌≤◌, ◌-◌, List, [], ◌∷◌, length, map, refl, ap, subst, arith, ◌⊎◌, inl, inr}
 use Rattle.std.specs.List.{All}
 use Rattle.std.proofs.lemmas.Bool.{cases_lt}
 use Rattle.std.proofs.lemmas.List.{length-map}
 use Rattle.std.proofs.lemmas.List.Elements.{All-head, All-tail, All-cons, All-nil, All-append, All-take, All-drop}
 use Rattle.dlk_calculus.specs.declared.reason.Reason.{Reason}
 use Rattle.dlk_calculus.specs.declared.reason.Reason.TheVariants.{NotAdmissible, TooBig, TooDeep, SideFull, GoalsFull, LeavesFull, LinesFull}
-use Rattle.dlk_calculus.specs.Reasons.{rank}
+use Rattle.dlk_calculus.specs.Reasons.{rank, IsOfCalculus}
 use Rattle.dlk_tree.specs.Trees.{Tree, size, depth}
 use Rattle.dlk_calculus.specs.Rename.{swap}
 use Rattle.dlk_calculus.specs.Pairs.{Pair}
 use Rattle.dlk_calculus.specs.Places.{put_all}
 use Rattle.dlk_calculus.specs.Sequents.{Sequent, alone_right}
+use Rattle.dlk_calculus.specs.Rules.{Rule}
 use Rattle.dlk_calculus.specs.Provables.{Provable, SubstEach, SubstSequent, SubstSequents, swap_sequent}
-use Rattle.dlk_calculus.specs.Limits.{most_nodes, greatest_depth, most_formulas, most_goals, most_leaves, most_rows, IsSmall, IsShallow, InSequent, InProvable, HasFewFormulas, IsLimitedSequent, IsLimited}
-use Rattle.dlk_calculus.specs.Steps.{Step, Start, UseAxiom, UseRule, Leaf, Apply, Merge, Substitute, Rename, Gives, EachNew, Exceeds, IsWithin, Against, Fault, StepOf}
+use Rattle.dlk_calculus.specs.Limits.{most_nodes, greatest_depth, most_formulas, most_goals, most_leaves, most_rows, IsSmall, IsShallow}
+use Rattle.dlk_calculus.specs.Limited.{InSequent, InProvable, HasFewFormulas, IsLimitedSequent, IsLimited}
+use Rattle.dlk_calculus.specs.Steps.{Step, Start, UseAxiom, UseRule, Leaf, Apply, Merge, Substitute, Rename, IsProper, Gives, EachNew, Exceeds, too_big, too_deep, start_full, leaf_full, side_full, goals_applied, goals_merged, leaves_merged, IsWithin, Against, against_rule, past_limit, rows_full, Fault, StepOf}
 use Rattle.dlk_calculus.proofs.PlaceLaws.{At_All}
 use Rattle.dlk_calculus.proofs.Decide.{both}
 use Rattle.dlk_calculus.proofs.AxiomLaws.{axiom_sized, rule_sized}
 use Rattle.dlk_calculus.proofs.Swapped.{swap_size, swap_depth}
-use Rattle.dlk_calculus.proofs.Formulas.{joined_all}
-use Rattle.dlk_calculus.proofs.StepLaws.{given_by, given_unless, one_given, step_cases}
+use Rattle.dlk_calculus.proofs.Formulas.{all_joined}
+use Rattle.dlk_calculus.proofs.StepLaws.{given_by, given_unless, rule_of_calculus, one_given, step_cases}
 
 -- ---- what exceeds a limit is decided
 
@@ -29,10 +31,6 @@ at_most m n = elim (cases_lt n m) [ inl lt ↦ no (λ le. absurd (omega (arith, 
 
 beyond : (m n : ℕ) → Dec (m < n)
 beyond m n = elim (cases_lt m n) [ inl lt ↦ yes lt | inr le ↦ no (λ lt. absurd (omega (arith, lt, le))) ]
-
-unless : {A : Type 0} → Dec A → Dec (¬ A)
-unless (yes a) = no (λ n. n a)
-unless (no n) = yes n
 
 surely : {A : Type 0} → Dec A → ¬ ¬ A → A
 surely (yes a) n = a
@@ -68,91 +66,161 @@ small t = at_most (size t) most_nodes
 shallow : (t : Tree) → Dec (IsShallow t)
 shallow t = at_most (depth t) greatest_depth
 
-side_full : (step : Step) (p : Provable) → Dec (Exceeds SideFull step p)
-side_full (Start s) p = unless (few p.conclusion)
-side_full (Leaf s) p = unless (few p.conclusion)
-side_full (Apply fact goal rule) p = unless (all_decided HasFewFormulas few p.goals)
-side_full (UseAxiom name) p = no (λ a. a)
-side_full (UseRule name) p = no (λ a. a)
-side_full (Merge fact goal by) p = no (λ a. a)
-side_full (Substitute fact pairs) p = no (λ a. a)
-side_full (Rename fact x y) p = no (λ a. a)
+-- what a limit that is exceeded says
+pub is_big : (step : Step) (p : Provable) → Exceeds TooBig step p → ¬ EachNew IsSmall step p
+is_big step p (too_big n) = n
 
-goals_full : (step : Step) (p : Provable) → Dec (Exceeds GoalsFull step p)
-goals_full (Apply fact goal rule) p = beyond most_goals (length p.goals)
-goals_full (Merge fact goal by) p = beyond most_goals (length p.goals)
-goals_full (Start s) p = no (λ a. a)
-goals_full (Leaf s) p = no (λ a. a)
-goals_full (UseAxiom name) p = no (λ a. a)
-goals_full (UseRule name) p = no (λ a. a)
-goals_full (Substitute fact pairs) p = no (λ a. a)
-goals_full (Rename fact x y) p = no (λ a. a)
+pub is_deep : (step : Step) (p : Provable) → Exceeds TooDeep step p → ¬ EachNew IsShallow step p
+is_deep step p (too_deep n) = n
 
-leaves_full : (step : Step) (p : Provable) → Dec (Exceeds LeavesFull step p)
-leaves_full (Merge fact goal by) p = beyond most_leaves (length p.leaves)
-leaves_full (Apply fact goal rule) p = no (λ a. a)
-leaves_full (Start s) p = no (λ a. a)
-leaves_full (Leaf s) p = no (λ a. a)
-leaves_full (UseAxiom name) p = no (λ a. a)
-leaves_full (UseRule name) p = no (λ a. a)
-leaves_full (Substitute fact pairs) p = no (λ a. a)
-leaves_full (Rename fact x y) p = no (λ a. a)
+pub start_side : (s : Sequent) (p : Provable) → Exceeds SideFull (Start s) p → ¬ HasFewFormulas p.conclusion
+start_side s p (start_full n) = n
+
+pub leaf_side : (s : Sequent) (p : Provable) → Exceeds SideFull (Leaf s) p → ¬ HasFewFormulas p.conclusion
+leaf_side s p (leaf_full n) = n
+
+pub apply_side : (fact goal : ℕ) (rule : Rule) (p : Provable) → Exceeds SideFull (Apply fact goal rule) p → ¬ All HasFewFormulas p.goals
+apply_side fact goal rule p (side_full n) = n
+
+pub apply_goals : (fact goal : ℕ) (rule : Rule) (p : Provable) → Exceeds GoalsFull (Apply fact goal rule) p → most_goals < length p.goals
+apply_goals fact goal rule p (goals_applied more) = more
+
+pub merge_goals : (fact goal by : ℕ) (p : Provable) → Exceeds GoalsFull (Merge fact goal by) p → most_goals < length p.goals
+merge_goals fact goal by p (goals_merged more) = more
+
+pub merge_leaves : (fact goal by : ℕ) (p : Provable) → Exceeds LeavesFull (Merge fact goal by) p → most_leaves < length p.leaves
+merge_leaves fact goal by p (leaves_merged more) = more
+
+-- by the limit that is exceeded
+pub limit_cases : (step : Step) (p : Provable) (P : Reason → Type 0) → (Exceeds TooBig step p → P TooBig) → (Exceeds TooDeep step p → P TooDeep) →
+    (Exceeds SideFull step p → P SideFull) → (Exceeds GoalsFull step p → P GoalsFull) → (Exceeds LeavesFull step p → P LeavesFull) →
+    (why : Reason) → Exceeds why step p → P why
+limit_cases step p P big deep side goals leaves _ (too_big n) = big (too_big n)
+limit_cases step p P big deep side goals leaves _ (too_deep n) = deep (too_deep n)
+limit_cases _ p P big deep side goals leaves _ (start_full n) = side (start_full n)
+limit_cases _ p P big deep side goals leaves _ (leaf_full n) = side (leaf_full n)
+limit_cases _ p P big deep side goals leaves _ (side_full n) = side (side_full n)
+limit_cases _ p P big deep side goals leaves _ (goals_applied n) = goals (goals_applied n)
+limit_cases _ p P big deep side goals leaves _ (goals_merged n) = goals (goals_merged n)
+limit_cases _ p P big deep side goals leaves _ (leaves_merged n) = leaves (leaves_merged n)
+
+big_decided : (step : Step) (p : Provable) → Dec (Exceeds TooBig step p)
+big_decided step p = elim (each_new IsSmall small step p) [ yes h ↦ no (λ e. is_big step p e h) | no n ↦ yes (too_big n) ]
+
+deep_decided : (step : Step) (p : Provable) → Dec (Exceeds TooDeep step p)
+deep_decided step p = elim (each_new IsShallow shallow step p) [ yes h ↦ no (λ e. is_deep step p e h) | no n ↦ yes (too_deep n) ]
+
+side_decided : (step : Step) (p : Provable) → Dec (Exceeds SideFull step p)
+side_decided (Start s) p = elim (few p.conclusion) [ yes h ↦ no (λ e. start_side s p e h) | no n ↦ yes (start_full n) ]
+side_decided (Leaf s) p = elim (few p.conclusion) [ yes h ↦ no (λ e. leaf_side s p e h) | no n ↦ yes (leaf_full n) ]
+side_decided (Apply fact goal rule) p =
+    elim (all_decided HasFewFormulas few p.goals) [ yes h ↦ no (λ e. apply_side fact goal rule p e h) | no n ↦ yes (side_full n) ]
+side_decided (UseAxiom name) p = no (λ e. elim e [ ])
+side_decided (UseRule name) p = no (λ e. elim e [ ])
+side_decided (Merge fact goal by) p = no (λ e. elim e [ ])
+side_decided (Substitute fact pairs) p = no (λ e. elim e [ ])
+side_decided (Rename fact x y) p = no (λ e. elim e [ ])
+
+goals_decided : (step : Step) (p : Provable) → Dec (Exceeds GoalsFull step p)
+goals_decided (Apply fact goal rule) p =
+    elim (beyond most_goals (length p.goals)) [ yes more ↦ yes (goals_applied more) | no n ↦ no (λ e. n (apply_goals fact goal rule p e)) ]
+goals_decided (Merge fact goal by) p =
+    elim (beyond most_goals (length p.goals)) [ yes more ↦ yes (goals_merged more) | no n ↦ no (λ e. n (merge_goals fact goal by p e)) ]
+goals_decided (Start s) p = no (λ e. elim e [ ])
+goals_decided (Leaf s) p = no (λ e. elim e [ ])
+goals_decided (UseAxiom name) p = no (λ e. elim e [ ])
+goals_decided (UseRule name) p = no (λ e. elim e [ ])
+goals_decided (Substitute fact pairs) p = no (λ e. elim e [ ])
+goals_decided (Rename fact x y) p = no (λ e. elim e [ ])
+
+leaves_decided : (step : Step) (p : Provable) → Dec (Exceeds LeavesFull step p)
+leaves_decided (Merge fact goal by) p =
+    elim (beyond most_leaves (length p.leaves)) [ yes more ↦ yes (leaves_merged more) | no n ↦ no (λ e. n (merge_leaves fact goal by p e)) ]
+leaves_decided (Apply fact goal rule) p = no (λ e. elim e [ ])
+leaves_decided (Start s) p = no (λ e. elim e [ ])
+leaves_decided (Leaf s) p = no (λ e. elim e [ ])
+leaves_decided (UseAxiom name) p = no (λ e. elim e [ ])
+leaves_decided (UseRule name) p = no (λ e. elim e [ ])
+leaves_decided (Substitute fact pairs) p = no (λ e. elim e [ ])
+leaves_decided (Rename fact x y) p = no (λ e. elim e [ ])
 
 -- ---- the faults of a step that gives something
 
+-- only a limit speaks against it
+against_cases : (rows : List Provable) (step : Step) (p : Provable) → Gives rows step p → (why : Reason) → Against rows step why →
+    Exceeds why step p ⊎ ((why ≡ LinesFull) × (most_rows ≤ length rows))
+against_cases rows step p g why (past_limit q h e) = inl (subst (λ (x : Provable). Exceeds why step x) (one_given rows step q p h g) e)
+against_cases rows step p g _ (rows_full full) = inr (refl, full)
+against_cases rows _ p g why (against_rule s h a) = absurd (given_unless rows _ p why (rule_of_calculus why _ s a) g (against_rule s h a))
+against_cases rows _ p g _ a = absurd (given_unless rows _ p _ (omega arith) g a)
+
 module _ (rows : List Provable) (step : Step) (p : Provable) (g : Gives rows step p) where
-  exceeds_against : (why : Reason) → Exceeds why step p → Against why rows step
-  exceeds_against TooBig t = (p, g, t)
-  exceeds_against TooDeep t = (p, g, t)
-  exceeds_against SideFull t = (p, g, t)
-  exceeds_against GoalsFull t = (p, g, t)
-  exceeds_against LeavesFull t = (p, g, t)
-  exceeds_against _ t = absurd t
-
-  same_exceeds : (why : Reason) → ((q : Provable) × Gives rows step q × Exceeds why step q) → Exceeds why step p
-  same_exceeds why a = subst (λ (x : Provable). Exceeds why step x) (one_given rows step a.0 p a.1 g) a.2
-
-  against_exceeds : (why : Reason) → rank why < rank LinesFull → Against why rows step → Exceeds why step p
-  against_exceeds TooBig lt a = same_exceeds TooBig a
-  against_exceeds TooDeep lt a = same_exceeds TooDeep a
-  against_exceeds SideFull lt a = same_exceeds SideFull a
-  against_exceeds GoalsFull lt a = same_exceeds GoalsFull a
-  against_exceeds LeavesFull lt a = same_exceeds LeavesFull a
-  against_exceeds LinesFull lt a = absurd (omega (arith, lt))
-  against_exceeds why lt a = absurd (given_unless rows step p why (omega arith) g a)
+  against_exceeds : (why : Reason) → rank why < rank LinesFull → Against rows step why → Exceeds why step p
+  against_exceeds why lt a = elim (against_cases rows step p g why a) [ inl e ↦ e | inr f ↦ absurd (omega (arith, lt, ap rank f.0)) ]
 
   -- the first limit that is exceeded
-  pub limit_fault : (why : Reason) → rank why < rank LinesFull → Exceeds why step p → ((earlier : Reason) → rank earlier < rank why → ¬ Exceeds earlier step p) → Fault rows step why
-  limit_fault why is t first = record { against = exceeds_against why t; first = λ earlier lt a. first earlier lt (against_exceeds earlier (omega (arith, lt, is)) a) }
+  pub limit_fault : (why : Reason) → rank why < rank LinesFull → Exceeds why step p →
+      ((earlier : Reason) → Exceeds earlier step p → rank earlier < rank why → ⊥) → Fault rows step why
+  limit_fault why is t first = record {
+    against = past_limit p g t;
+    first = λ earlier lt a. first earlier (against_exceeds earlier (omega (arith, lt, is)) a) lt;
+  }
+
+  -- by those before it
+  pub first_big : Exceeds TooBig step p → Fault rows step TooBig
+  first_big t = limit_fault TooBig (omega arith) t (limit_cases step p (λ w. rank w < rank TooBig → ⊥)
+      (λ e lt. absurd (omega (arith, lt))) (λ e lt. absurd (omega (arith, lt))) (λ e lt. absurd (omega (arith, lt)))
+      (λ e lt. absurd (omega (arith, lt))) (λ e lt. absurd (omega (arith, lt))))
+
+  module _ (big : ¬ Exceeds TooBig step p) where
+    pub first_deep : Exceeds TooDeep step p → Fault rows step TooDeep
+    first_deep t = limit_fault TooDeep (omega arith) t (limit_cases step p (λ w. rank w < rank TooDeep → ⊥)
+        (λ e lt. big e) (λ e lt. absurd (omega (arith, lt))) (λ e lt. absurd (omega (arith, lt)))
+        (λ e lt. absurd (omega (arith, lt))) (λ e lt. absurd (omega (arith, lt))))
+
+    module _ (deep : ¬ Exceeds TooDeep step p) where
+      pub first_side : Exceeds SideFull step p → Fault rows step SideFull
+      first_side t = limit_fault SideFull (omega arith) t (limit_cases step p (λ w. rank w < rank SideFull → ⊥)
+          (λ e lt. big e) (λ e lt. deep e) (λ e lt. absurd (omega (arith, lt))) (λ e lt. absurd (omega (arith, lt))) (λ e lt. absurd (omega (arith, lt))))
+
+      module _ (side : ¬ Exceeds SideFull step p) where
+        pub first_goals : Exceeds GoalsFull step p → Fault rows step GoalsFull
+        first_goals t = limit_fault GoalsFull (omega arith) t (limit_cases step p (λ w. rank w < rank GoalsFull → ⊥)
+            (λ e lt. big e) (λ e lt. deep e) (λ e lt. side e) (λ e lt. absurd (omega (arith, lt))) (λ e lt. absurd (omega (arith, lt))))
+
+        pub first_leaves : ¬ Exceeds GoalsFull step p → Exceeds LeavesFull step p → Fault rows step LeavesFull
+        first_leaves goals t = limit_fault LeavesFull (omega arith) t (limit_cases step p (λ w. rank w < rank LeavesFull → ⊥)
+            (λ e lt. big e) (λ e lt. deep e) (λ e lt. side e) (λ e lt. goals e) (λ e lt. absurd (omega (arith, lt))))
 
   -- there are too many rows
   pub rows_fault : IsWithin step p → most_rows ≤ length rows → Fault rows step LinesFull
-  rows_fault w full = record { against = full; first = λ earlier lt a. w earlier (against_exceeds earlier lt a) }
+  rows_fault w full = record { against = rows_full full; first = λ earlier lt a. w earlier (against_exceeds earlier lt a) }
 
-  allowed : IsWithin step p → length rows < most_rows → (why : Reason) → ¬ Against why rows step
-  allowed w room LinesFull a = absurd (omega (arith, room, a))
-  allowed w room TooBig a = w TooBig (same_exceeds TooBig a)
-  allowed w room TooDeep a = w TooDeep (same_exceeds TooDeep a)
-  allowed w room SideFull a = w SideFull (same_exceeds SideFull a)
-  allowed w room GoalsFull a = w GoalsFull (same_exceeds GoalsFull a)
-  allowed w room LeavesFull a = w LeavesFull (same_exceeds LeavesFull a)
-  allowed w room why a = given_unless rows step p why (omega arith) g a
+  allowed : IsWithin step p → length rows < most_rows → (why : Reason) → ¬ Against rows step why
+  allowed w room why a = elim (against_cases rows step p g why a) [ inl e ↦ w why e | inr f ↦ omega (arith, room, f.1) ]
 
   pub StepOf-within : IsWithin step p → length rows < most_rows → StepOf rows step p
   StepOf-within w room = record { given = g; allowed = allowed w room }
 
+  pub StepOf-taken : StepOf rows step p → Gives rows step p × IsWithin step p × (length rows < most_rows)
+  StepOf-taken s = (
+    g,
+    λ why t. s.allowed why (past_limit p g t),
+    elim (cases_lt (length rows) most_rows) [ inl room ↦ room | inr full ↦ absurd (s.allowed LinesFull (rows_full full)) ],
+  )
+
   within_cases : ((why : Reason) × Fault rows step why) ⊎ IsWithin step p
-  within_cases = elim (unless (each_new IsSmall small step p)) [
-    | yes t ↦ inl (TooBig, limit_fault TooBig (omega arith) t (elim [ TooBig ↦ λ lt. absurd (omega arith) | TooDeep ↦ λ lt. absurd (omega arith) | SideFull ↦ λ lt. absurd (omega arith) | GoalsFull ↦ λ lt. absurd (omega arith) | LeavesFull ↦ λ lt. absurd (omega arith) | _ ↦ λ lt e. e ]))
-    | no big ↦ elim (unless (each_new IsShallow shallow step p)) [
-      | yes t ↦ inl (TooDeep, limit_fault TooDeep (omega arith) t (elim [ TooBig ↦ λ lt. big | TooDeep ↦ λ lt. absurd (omega arith) | SideFull ↦ λ lt. absurd (omega arith) | GoalsFull ↦ λ lt. absurd (omega arith) | LeavesFull ↦ λ lt. absurd (omega arith) | _ ↦ λ lt e. e ]))
-      | no deep ↦ elim (side_full step p) [
-        | yes t ↦ inl (SideFull, limit_fault SideFull (omega arith) t (elim [ TooBig ↦ λ lt. big | TooDeep ↦ λ lt. deep | SideFull ↦ λ lt. absurd (omega arith) | GoalsFull ↦ λ lt. absurd (omega arith) | LeavesFull ↦ λ lt. absurd (omega arith) | _ ↦ λ lt e. e ]))
-        | no side ↦ elim (goals_full step p) [
-          | yes t ↦ inl (GoalsFull, limit_fault GoalsFull (omega arith) t (elim [ TooBig ↦ λ lt. big | TooDeep ↦ λ lt. deep | SideFull ↦ λ lt. side | GoalsFull ↦ λ lt. absurd (omega arith) | LeavesFull ↦ λ lt. absurd (omega arith) | _ ↦ λ lt e. e ]))
-          | no goals ↦ elim (leaves_full step p) [
-            | yes t ↦ inl (LeavesFull, limit_fault LeavesFull (omega arith) t (elim [ TooBig ↦ λ lt. big | TooDeep ↦ λ lt. deep | SideFull ↦ λ lt. side | GoalsFull ↦ λ lt. goals | LeavesFull ↦ λ lt. absurd (omega arith) | _ ↦ λ lt e. e ]))
-            | no leaves ↦ inr (elim [ TooBig ↦ big | TooDeep ↦ deep | SideFull ↦ side | GoalsFull ↦ goals | LeavesFull ↦ leaves | _ ↦ λ e. e ])
+  within_cases = elim (big_decided step p) [
+    | yes t ↦ inl (TooBig, first_big t)
+    | no big ↦ elim (deep_decided step p) [
+      | yes t ↦ inl (TooDeep, first_deep big t)
+      | no deep ↦ elim (side_decided step p) [
+        | yes t ↦ inl (SideFull, first_side big deep t)
+        | no side ↦ elim (goals_decided step p) [
+          | yes t ↦ inl (GoalsFull, first_goals big deep side t)
+          | no goals ↦ elim (leaves_decided step p) [
+            | yes t ↦ inl (LeavesFull, first_leaves big deep side goals t)
+            | no leaves ↦ inr (limit_cases step p (λ w. ⊥) big deep side goals leaves)
           ]
         ]
       ]
@@ -165,16 +233,27 @@ module _ (rows : List Provable) (step : Step) (p : Provable) (g : Gives rows ste
     | inr w ↦ elim (cases_lt (length rows) most_rows) [ inl room ↦ inl (StepOf-within w room) | inr full ↦ inr (LinesFull, rows_fault w full) ]
   ]
 
--- a step gives something within the limits, or there is a first reason against it
-pub verdict_cases : (rows : List Provable) (step : Step) → ((p : Provable) × StepOf rows step p) ⊎ ((why : Reason) × Fault rows step why)
-verdict_cases rows step = elim (step_cases rows step) [
+-- a proper step gives something within the limits, or there is a first reason against it
+pub verdict_cases : (rows : List Provable) (step : Step) → IsProper step → ((p : Provable) × StepOf rows step p) ⊎ ((why : Reason) × Fault rows step why)
+verdict_cases rows step proper = elim (step_cases rows step proper) [
   | inr f ↦ inr (f.0, f.2)
   | inl g ↦ elim (given_cases rows step g.0 g.1) [ inl s ↦ inl (g.0, s) | inr f ↦ inr f ]
 ]
 
 -- a rule of the calculus gives what a limit refuses
-pub limit_gives : (rows : List Provable) (step : Step) (why : Reason) → rank NotAdmissible < rank why → Fault rows step why → (p : Provable) × Gives rows step p
-limit_gives rows step why limit f = elim (step_cases rows step) [ inl g ↦ g | inr e ↦ absurd (f.first e.0 (omega (arith, limit, e.1)) e.2.against) ]
+pub limit_gives : (rows : List Provable) (step : Step) (why : Reason) → IsProper step → rank NotAdmissible < rank why → Fault rows step why →
+    (p : Provable) × Gives rows step p
+limit_gives rows step why proper limit f =
+    elim (step_cases rows step proper) [ inl g ↦ g | inr e ↦ absurd (f.first e.0 (omega (arith, limit, e.1)) e.2.against) ]
+
+-- where no reason of the calculus speaks against a proper step, a rule gives something
+pub given_without_reason : (rows : List Provable) (step : Step) → IsProper step → ((why : Reason) → IsOfCalculus why → Against rows step why → ⊥) →
+    (p : Provable) × Gives rows step p
+given_without_reason rows step proper none = elim (step_cases rows step proper) [ inl g ↦ g | inr f ↦ absurd (none f.0 f.1 f.2.against) ]
+
+-- a step is taken exactly where a rule gives something within the limits, and there is room for a row
+pub taken_as_given : (rows : List Provable) (step : Step) (p : Provable) → StepOf rows step p ↔ (Gives rows step p × IsWithin step p × (length rows < most_rows))
+taken_as_given rows step p = (λ s. StepOf-taken rows step p s.given s, λ t. StepOf-within rows step p t.0 t.1 t.2)
 
 -- ---- what stays within the limits
 
@@ -252,10 +331,10 @@ module _ (x y : List ℕ) where
   swap_all_limited (s ∷ all) h = All-cons IsLimitedSequent (swap_sequent x y s) (map (swap_sequent x y) all) (swap_limited s (All-head IsLimitedSequent s all h)) (swap_all_limited all (All-tail IsLimitedSequent s all h))
 
 all_small : (step : Step) (p : Provable) → IsWithin step p → EachNew IsSmall step p
-all_small step p w = surely (each_new IsSmall small step p) (w TooBig)
+all_small step p w = surely (each_new IsSmall small step p) (λ n. w TooBig (too_big n))
 
 all_shallow : (step : Step) (p : Provable) → IsWithin step p → EachNew IsShallow step p
-all_shallow step p w = surely (each_new IsShallow shallow step p) (w TooDeep)
+all_shallow step p w = surely (each_new IsShallow shallow step p) (λ n. w TooDeep (too_deep n))
 
 -- premises in the place of a goal
 replaced : (goals : List Sequent) (goal : ℕ) (new : List Sequent) → All IsLimitedSequent goals → All IsLimitedSequent new → All IsLimitedSequent (put_all goals goal new)
@@ -268,7 +347,7 @@ given_limited rows (Start s) p h g w =
     let m = given_by rows (Start s) p g in
     let big = (rw m.1 at (all_small (Start s) p w)).conclusion in
     let deep = (rw m.1 at (all_shallow (Start s) p w)).conclusion in
-    let side : HasFewFormulas s = rw m.1 at (surely (few p.conclusion) (w SideFull)) in
+    let side : HasFewFormulas s = rw m.1 at (surely (few p.conclusion) (λ n. w SideFull (start_full n))) in
     let all = limited_sequent s big deep side in
     rw m.1 (record { conclusion = all; goals = one IsLimitedSequent s all; leaves = none IsLimitedSequent; few_goals = omega arith; few_leaves = omega arith })
 given_limited rows (UseAxiom name) p h g w =
@@ -282,7 +361,7 @@ given_limited rows (Leaf s) p h g w =
     let m = given_by rows (Leaf s) p g in
     let big = (rw m.2 at (all_small (Leaf s) p w)).conclusion in
     let deep = (rw m.2 at (all_shallow (Leaf s) p w)).conclusion in
-    let side : HasFewFormulas s = rw m.2 at (surely (few p.conclusion) (w SideFull)) in
+    let side : HasFewFormulas s = rw m.2 at (surely (few p.conclusion) (λ n. w SideFull (leaf_full n))) in
     let all = limited_sequent s big deep side in
     rw m.2 (record { conclusion = all; goals = none IsLimitedSequent; leaves = one IsLimitedSequent s all; few_goals = omega arith; few_leaves = omega arith })
 given_limited rows (Apply fact goal rule) p h g w =
@@ -290,9 +369,10 @@ given_limited rows (Apply fact goal rule) p h g w =
     let q = At_All IsLimited rows fact m.0 h m.3 in
     record {
       conclusion = rw m.6 q.conclusion;
-      goals = limited_sequents p.goals (all_small (Apply fact goal rule) p w).goals (all_shallow (Apply fact goal rule) p w).goals (surely (all_decided HasFewFormulas few p.goals) (w SideFull));
+      goals = limited_sequents p.goals (all_small (Apply fact goal rule) p w).goals (all_shallow (Apply fact goal rule) p w).goals
+          (surely (all_decided HasFewFormulas few p.goals) (λ n. w SideFull (side_full n)));
       leaves = rw m.6 q.leaves;
-      few_goals = at_the_most most_goals (length p.goals) (w GoalsFull);
+      few_goals = at_the_most most_goals (length p.goals) (λ more. w GoalsFull (goals_applied more));
       few_leaves = rw m.6 q.few_leaves;
     }
 given_limited rows (Merge fact goal by) p h g w =
@@ -302,9 +382,9 @@ given_limited rows (Merge fact goal by) p h g w =
     record {
       conclusion = rw m.7 q.conclusion;
       goals = rw m.7 (replaced m.0.goals goal m.1.goals q.goals r.goals);
-      leaves = rw m.7 (joined_all IsLimitedSequent m.0.leaves m.1.leaves m.2 q.leaves r.leaves m.6);
-      few_goals = at_the_most most_goals (length p.goals) (w GoalsFull);
-      few_leaves = at_the_most most_leaves (length p.leaves) (w LeavesFull);
+      leaves = rw m.7 (all_joined IsLimitedSequent m.0.leaves m.1.leaves m.2 q.leaves r.leaves m.6);
+      few_goals = at_the_most most_goals (length p.goals) (λ more. w GoalsFull (goals_merged more));
+      few_leaves = at_the_most most_leaves (length p.leaves) (λ more. w LeavesFull (leaves_merged more));
     }
 given_limited rows (Substitute fact pairs) p h g w =
     let m = given_by rows (Substitute fact pairs) p g in
@@ -321,7 +401,7 @@ given_limited rows (Substitute fact pairs) p h g w =
 given_limited rows (Rename fact x y) p h g w =
     let m = given_by rows (Rename fact x y) p g in
     let q = At_All IsLimited rows fact m.0 h m.1 in
-    rw m.3 (record {
+    rw m.4 (record {
       conclusion = swap_limited x y m.0.conclusion q.conclusion;
       goals = swap_all_limited x y m.0.goals q.goals;
       leaves = q.leaves;
@@ -330,4 +410,4 @@ given_limited rows (Rename fact x y) p h g w =
     })
 
 pub step_limited : (rows : List Provable) (step : Step) (p : Provable) → All IsLimited rows → StepOf rows step p → IsLimited p
-step_limited rows step p h s = given_limited rows step p h s.given (λ why t. s.allowed why (exceeds_against rows step p s.given why t))
+step_limited rows step p h s = given_limited rows step p h s.given (λ why t. s.allowed why (past_limit p s.given t))

@@ -11,11 +11,11 @@ use Rattle.dlk_tree.specs.Table.{are_items, Fits}
 use Rattle.dlk_tree.specs.Trees.{Tree, node, Forest, no_kids, kid, trees_in, sort, sorts, WellMade, AllWellMade}
 use Rattle.dlk_tree.specs.Statics.{all}
 use Rattle.dlk_tree.specs.Occurs.{is_hole}
-use Rattle.dlk_calculus.specs.Kids.{first}
+use Rattle.dlk_calculus.specs.Kids.{first, last}
 use Rattle.dlk_calculus.specs.Captures.{Stays}
 use Rattle.dlk_calculus.specs.Plug.{PlugAt, Plug, PlugAll, filled, filled_all}
-use Rattle.dlk_calculus.specs.Pairs.{Pair, replacement, AreMade}
-use Rattle.dlk_calculus.specs.Subst.{IsAdmissible, Replaced, SubstAt, new_items, new_kids}
+use Rattle.dlk_calculus.specs.Pairs.{Pair, replacement, AreWellMade}
+use Rattle.dlk_calculus.specs.Subst.{IsAdmissible, Replaced, SubstAt, new_members, items_of, kids_of}
 use Rattle.dlk_calculus.proofs.WellFormed.{replacement_made}
 use Rattle.dlk_calculus.proofs.Sorts.{AreTerms, argument_has, plug_sorts, fill_sorts, fits_still, terms_replicated, first_sort}
 use Rattle.dlk_calculus.proofs.Systems.{system_fits, new_kids_made}
@@ -71,11 +71,11 @@ first_made no_kids made = (record { kids_fit = refl; parts_fit = refl }, tt)
 first_made (kid t ts) made = made.0
 
 -- the operator is no system, or its new items are items of a system
-abbrev pub HasItems : List Pair → Op → Type 0
-HasItems pairs (Op'.System items) = IsTrue (are_items (new_items pairs items))
-HasItems pairs _ = Unit {0}
+abbrev pub HasItems : List Pair → Op → Forest → Type 0
+HasItems pairs (Op'.System items) new = IsTrue (are_items (items_of (new_members pairs items new)))
+HasItems pairs _ new = Unit {0}
 
-module _ (pairs : List Pair) (pairs_made : AreMade pairs) where
+module _ (pairs : List Pair) (pairs_made : AreWellMade pairs) where
   -- a replacement or the operator itself
   replaced_made : (o : Option Tree) (op : Op) (old new : Forest) (t : Tree) (With : Tree → Type 0) → ((r : Tree) → o ≡ Some r → With r → WellMade t)
       → Fits op (sorts new) → AllWellMade new → Replaced o With (Stays (IsAdmissible pairs) op old new t) → WellMade t
@@ -103,7 +103,8 @@ module _ (pairs : List Pair) (pairs_made : AreMade pairs) where
       (λ r found h. subst WellMade (sym h.1) (fill_made (first new) f (first_made new made) r (found_made s r found))) fits made p
 
   -- an operator's result over new kids that it fits
-  pub subst_at_made : (op : Op) (old new : Forest) (t : Tree) → Fits op (sorts new) → AllWellMade new → HasItems pairs op → SubstAt pairs op old new t → WellMade t
+  pub subst_at_made : (op : Op) (old new : Forest) (t : Tree)
+      → Fits op (sorts new) → AllWellMade new → HasItems pairs op new → SubstAt pairs op old new t → WellMade t
   subst_at_made (Op'.UnitFun s) old new t fits made good p = given_made s (Op'.UnitFun s) old new t fits made p
   subst_at_made (Op'.UnitPred s) old new t fits made good p = given_made s (Op'.UnitPred s) old new t fits made p
   subst_at_made (Op'.Const s) old new t fits made good p = given_made s (Op'.Const s) old new t fits made p
@@ -112,9 +113,11 @@ module _ (pairs : List Pair) (pairs_made : AreMade pairs) where
   subst_at_made (Op'.Predicational s) old new t fits made good p = filled_made s (Op'.Predicational s) old new t fits made (first_sort new Formula fits.kids_fit) p
   subst_at_made (Op'.System items) old new t fits made good p =
       let now = (system_fits pairs pairs_made items new fits).1 good in
-      stays_made (Op'.System (new_items pairs items)) (new_kids pairs items new) t now (new_kids_made pairs pairs_made items new made) p.1
+      stays_made (Op'.System (items_of (new_members pairs items new))) (kids_of (new_members pairs items new) (last new)) t now
+      (new_kids_made pairs pairs_made items new made) p.1
   subst_at_made op old new t fits made good p = stays_made op new t fits made p.1
 
 -- a well-made system has items of a system
-pub system_items : (pairs : List Pair) (items : List OdeItem) (old new : Forest) (t : Tree) → SubstAt pairs (Op'.System items) old new t → WellMade t → IsTrue (are_items (new_items pairs items))
+pub system_items : (pairs : List Pair) (items : List OdeItem) (old new : Forest) (t : Tree)
+    → SubstAt pairs (Op'.System items) old new t → WellMade t → IsTrue (are_items (items_of (new_members pairs items new)))
 system_items pairs items old new t p made = (subst WellMade p.1 made).0.parts_fit

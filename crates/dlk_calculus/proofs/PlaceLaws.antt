@@ -1,10 +1,13 @@
 -- Items by their places.
-use Rattle.std.proofs.Common.{◌≡◌, ℕ, suc, zero, ◌-◌, List, map, get_or, refl, sym, subst, ap, ◌∙◌, Some, None, nat_eq, true, false, cond, arith, ◌⊎◌, inl, inr}
+use Rattle.std.proofs.Common.{◌≡◌, ℕ, suc, zero, ◌+◌, ◌-◌, List, [], ◌∷◌, ◌++◌, map, length, take, drop, get_or, refl, sym, subst, ap, ◌∙◌, Some, None, nat_eq, true, false, cond, arith, ◌⊎◌, inl, inr, length-append}
 use Rattle.std.specs.List.{All, slice_get}
 use Rattle.std.specs.Option.{option_map}
 use Rattle.std.proofs.lemmas.Option.{slice_get-map, get_or_from_slice_get, slice_get_within, slice_get_cases, slice_get-get_or}
+use Rattle.std.proofs.lemmas.List.{take-append-drop, get_or_append_left, get_or-append-add}
+use Rattle.std.proofs.lemmas.List.Elements.{All-nil, All-cons, All-head, All-tail, All-append}
 use Rattle.std.proofs.Math.Dec.{eqb-suc-zero}
-use Rattle.dlk_calculus.specs.Places.{at, At, IsPlace}
+use Rattle.std.proofs.Math.Seq.{drop-cons, take-append_seam, drop-append-add}
+use Rattle.dlk_calculus.specs.Places.{at, At, IsPlace, put_all}
 
 pub at_one : {A : Type 0} (items : List A) (place : ℕ) (x y : A) → At items place x → At items place y → x ≡ y
 at_one items place x y p q = cc
@@ -27,13 +30,75 @@ At_All P items place x all =
       | false ↦ λ e. subst P (get_or_from_slice_get items (place - 1) x x e) (all (place - 1) x (slice_get_within items (place - 1) x e))
     ]
 
-at_suc : {A : Type 0} (items : List A) (n : ℕ) → at items (suc n) ≡ slice_get items n
+pub at_suc : {A : Type 0} (items : List A) (n : ℕ) → at items (suc n) ≡ slice_get items n
 at_suc items n = let e : suc n - 1 ≡ n = omega arith in rw (eqb-suc-zero n, e)
 
 -- an item has a place
 pub At_place : {A : Type 0} (items : List A) (place : ℕ) (x : A) → At items place x → IsPlace items place
 At_place items zero x h = absurd (cc h)
 At_place items (suc n) x h = (omega arith, omega (arith, slice_get_within items n x (sym (at_suc items n) ∙ h)))
+
+-- an item with those before it and those behind it
+pub split_at : {A : Type 0} (items : List A) (place : ℕ) (x : A) → At items place x → items ≡ take (place - 1) items ++ x ∷ drop place items
+split_at items zero x h = absurd (cc h)
+split_at items (suc n) x h =
+    let here : slice_get items n ≡ Some x = sym (at_suc items n) ∙ h in
+    let behind : drop n items ≡ x ∷ drop (suc n) items =
+    drop-cons items n x (slice_get_within items n x here) ∙ ap (λ y. y ∷ drop (suc n) items) (get_or_from_slice_get items n x x here) in
+    let split : items ≡ take n items ++ x ∷ drop (suc n) items = sym (take-append-drop n items) ∙ ap (λ l. take n items ++ l) behind in
+    let one : n ≡ suc n - 1 = omega arith in
+    subst (λ k. items ≡ take k items ++ x ∷ drop (suc n) items) one split
+
+-- its place stays where more come behind it, and moves where more come before it
+pub At-more : {A : Type 0} (items more : List A) (place : ℕ) (x : A) → At items place x → At (items ++ more) place x
+At-more items more zero x h = absurd (cc h)
+At-more items more (suc n) x h =
+    let here : slice_get items n ≡ Some x = sym (at_suc items n) ∙ h in
+    let lt = slice_get_within items n x here in
+    let is : get_or (items ++ more) n x ≡ x = get_or_append_left items more x n lt ∙ get_or_from_slice_get items n x x here in
+    at_suc (items ++ more) n ∙ slice_get-get_or (items ++ more) n x (omega (arith, lt, length-append items more)) ∙ ap Some is
+
+pub At-behind : {A : Type 0} (front items : List A) (place : ℕ) (x : A) → At items place x → At (front ++ items) (length front + place) x
+At-behind front items zero x h = absurd (cc h)
+At-behind front items (suc n) x h =
+    let here : slice_get items n ≡ Some x = sym (at_suc items n) ∙ h in
+    let lt = slice_get_within items n x here in
+    let is : get_or (front ++ items) (length front + n) x ≡ x = get_or-append-add front items n x ∙ get_or_from_slice_get items n x x here in
+    let at_place : At (front ++ items) (suc (length front + n)) x =
+    at_suc (front ++ items) (length front + n)
+    ∙ slice_get-get_or (front ++ items) (length front + n) x (omega (arith, lt, length-append front items)) ∙ ap Some is in
+    let same : suc (length front + n) ≡ length front + suc n = omega arith in
+    subst (λ k. At (front ++ items) k x) same at_place
+
+-- an item between others
+pub At-between : {A : Type 0} (front : List A) (x : A) (others : List A) → At (front ++ x ∷ others) (length front + 1) x
+At-between front x others = At-behind front (x ∷ others) 1 x refl
+
+-- others in its place
+pub put_between : {A : Type 0} (before after new : List A) (x : A) → put_all (before ++ x ∷ after) (length before + 1) new ≡ before ++ new ++ after
+put_between before after new x =
+    let one : length before + 1 - 1 ≡ length before = omega arith in
+    let front : take (length before + 1 - 1) (before ++ x ∷ after) ≡ before =
+    ap (λ k. take k (before ++ x ∷ after)) one ∙ take-append_seam before (x ∷ after) in
+    let back : drop (length before + 1) (before ++ x ∷ after) ≡ after = drop-append-add before (x ∷ after) 1 in
+    λ i. front i ++ new ++ back i
+
+-- what all have, those before and behind a seam have
+pub All-front : {A : Type 0} (P : A → Type 0) (xs ys : List A) → All P (xs ++ ys) → All P xs
+All-front P [] ys h = All-nil P
+All-front P (x ∷ xs) ys h = All-cons P x xs (All-head P x (xs ++ ys) h) (All-front P xs ys (All-tail P x (xs ++ ys) h))
+
+pub All-behind : {A : Type 0} (P : A → Type 0) (xs ys : List A) → All P (xs ++ ys) → All P ys
+All-behind P [] ys h = h
+All-behind P (x ∷ xs) ys h = All-behind P xs ys (All-tail P x (xs ++ ys) h)
+
+-- one between others, and new ones in its place
+pub All-between : {A : Type 0} (P : A → Type 0) (before after : List A) (x : A) → All P (before ++ x ∷ after) → P x
+All-between P before after x h = All-head P x after (All-behind P before (x ∷ after) h)
+
+pub All-replaced : {A : Type 0} (P : A → Type 0) (before after new : List A) (x : A) → All P (before ++ x ∷ after) → All P new → All P (before ++ new ++ after)
+All-replaced P before after new x h k =
+    All-append P (before ++ new) after (All-append P before new (All-front P before (x ∷ after) h) k) (All-tail P x after (All-behind P before (x ∷ after) h))
 
 -- there is an item at a place, or it is none
 pub place_cases : {A : Type 0} (items : List A) (place : ℕ) → ((x : A) × At items place x) ⊎ (¬ IsPlace items place)

@@ -1,5 +1,5 @@
 -- Plugging, filling and substitution keep the sort.
-use Rattle.std.proofs.Common.{◌≡◌, refl, sym, ap, subst, ◌∙◌, ℕ, zero, suc, List, [], ◌∷◌, replicate, Bool, true, false, ◌&&◌, ◌==◌, Option, None, Some, slice_get, cond}
+use Rattle.std.proofs.Common.{◌≡◌, refl, sym, ap, subst, ◌∙◌, ℕ, zero, suc, List, [], ◌∷◌, replicate, Bool, true, false, ◌&&◌, ◌||◌, not, ◌==◌, Option, None, Some, slice_get, cond}
 use Rattle.std.specs.Prelude.{All, IsTrue}
 use Rattle.std.proofs.lemmas.List.Elements.{All-cons, All-nil}
 use Rattle.std.proofs.lemmas.Option.{slice_get_within, get_or_from_slice_get}
@@ -10,15 +10,15 @@ use Rattle.dlk_tree.specs.declared.op.Sort.{Sort}
 use Rattle.dlk_tree.specs.declared.op.Sort.TheVariants.{Term, Formula, Program}
 use Rattle.dlk_tree.specs.declared.op.Op.{Op}
 use Rattle.dlk_tree.specs.declared.op.Op.TheVariants as Op'
-use Rattle.dlk_tree.specs.Tests.{kind_rank}
-use Rattle.dlk_tree.specs.Table.{is_term, sort_of, is_sym, is_sym_of, Fits}
+use Rattle.dlk_tree.specs.Tests.{kind_rank, sort_eq}
+use Rattle.dlk_tree.specs.Table.{kind_row, sort_of, is_sym, is_sym_of, Fits}
 use Rattle.dlk_tree.specs.Trees.{Tree, node, Forest, no_kids, kid, trees_in, sort, sorts, WellMade, AllWellMade}
 use Rattle.dlk_tree.specs.Statics.{all}
 use Rattle.dlk_tree.specs.Occurs.{is_hole}
 use Rattle.dlk_calculus.specs.Kids.{first}
 use Rattle.dlk_calculus.specs.Captures.{Stays}
 use Rattle.dlk_calculus.specs.Plug.{PlugAt, Plug, PlugAll, filled, filled_all}
-use Rattle.dlk_calculus.specs.Pairs.{Pair, replacement, is_formula, is_program, is_system_without_domain, is_of_kind, IsWellFormed}
+use Rattle.dlk_calculus.specs.Pairs.{Pair, replacement, is_ode, is_system_without_domain, is_of_kind, IsWellFormed}
 use Rattle.dlk_calculus.specs.Subst.{IsAdmissible, Replaced, SubstAt, Subst, SubstAll}
 use Rattle.dlk_calculus.proofs.WellFormed.{replacement_of_kind}
 
@@ -74,43 +74,14 @@ both_true : (a b : Bool) → a && b ≡ true → (a ≡ true) × (b ≡ true)
 both_true true b e = (refl, e)
 both_true false b e = cc
 
--- the sort of what replaces a symbol of the kind
-abbrev pub kind_sort : Kind → Sort
-kind_sort Func = Term
-kind_sort UnitFunc = Term
-kind_sort Pred = Formula
-kind_sort UnitPred = Formula
-kind_sort Quant = Formula
-kind_sort Prog = Program
-kind_sort Ode = Program
+same_sort : (s r : Sort) → IsTrue (sort_eq s r) → s ≡ r
+same_sort Term Term e = refl
+same_sort Formula Formula e = refl
+same_sort Program Program e = refl
+same_sort _ _ e = cc
 
-term_sort : (s : Sort) → IsTrue (is_term s) → s ≡ Term
-term_sort Term e = refl
-term_sort Formula e = cc
-term_sort Program e = cc
-
-formula_sort : (s : Sort) → IsTrue (is_formula s) → s ≡ Formula
-formula_sort Term e = cc
-formula_sort Formula e = refl
-formula_sort Program e = cc
-
-program_sort : (s : Sort) → IsTrue (is_program s) → s ≡ Program
-program_sort Term e = cc
-program_sort Formula e = cc
-program_sort Program e = refl
-
-system_sort : (r : Tree) → IsTrue (is_system_without_domain r) → sort r ≡ Program
-system_sort (node (Op'.System items) kids) e = refl
-system_sort (node _ kids) e = cc
-
-pub of_kind_sort : (k : Kind) (r : Tree) → IsTrue (is_of_kind k r) → sort r ≡ kind_sort k
-of_kind_sort Func r e = term_sort (sort r) e
-of_kind_sort UnitFunc r e = term_sort (sort r) e
-of_kind_sort Pred r e = formula_sort (sort r) e
-of_kind_sort UnitPred r e = formula_sort (sort r) e
-of_kind_sort Quant r e = formula_sort (sort r) e
-of_kind_sort Prog r e = program_sort (sort r) e
-of_kind_sort Ode r e = system_sort r e
+pub of_kind_sort : (k : Kind) (r : Tree) → IsTrue (is_of_kind k r) → sort r ≡ (kind_row k).sort
+of_kind_sort k r e = same_sort (sort r) (kind_row k).sort (both_true (not (is_ode k) || is_system_without_domain r) (sort_eq (sort r) (kind_row k).sort) e).1
 
 kind_of_rank : (k l : Kind) → (kind_rank k == kind_rank l) ≡ true → k ≡ l
 kind_of_rank Func Func e = refl
@@ -123,10 +94,11 @@ kind_of_rank Ode Ode e = refl
 kind_of_rank _ _ e = cc
 
 -- what replaces a symbol of the kind is of the kind's sort
-pub replacement_sort : (pairs : List Pair) (k : Kind) (s : Sym) (r : Tree) → IsWellFormed pairs → IsTrue (is_sym_of k s) → replacement pairs s ≡ Some r → sort r ≡ kind_sort k
+pub replacement_sort : (pairs : List Pair) (k : Kind) (s : Sym) (r : Tree) → IsWellFormed pairs → IsTrue (is_sym_of k s) → replacement pairs s ≡ Some r
+    → sort r ≡ (kind_row k).sort
 replacement_sort pairs k s r well is found =
     let kind = kind_of_rank s.kind k (both_true (kind_rank s.kind == kind_rank k) (is_sym s) is).0 in
-    of_kind_sort s.kind r (replacement_of_kind pairs s r well found) ∙ ap kind_sort kind
+    of_kind_sort s.kind r (replacement_of_kind pairs s r well found) ∙ ap (λ j. (kind_row j).sort) kind
 
 -- ---- kids
 
@@ -161,15 +133,15 @@ module _ (pairs : List Pair) (well : IsWellFormed pairs) where
   replaced_sort (Some r) s op old new t With h e p = h r refl p
   replaced_sort None s op old new t With h e p = ap sort p.1 ∙ e
 
-  given_sort : (k : Kind) (s : Sym) (op : Op) (old new : Forest) (t : Tree) → IsTrue (is_sym_of k s) → sort_of op ≡ kind_sort k
-      → Replaced (replacement pairs s) (λ r. t ≡ r) (Stays (IsAdmissible pairs) op old new t) → sort t ≡ kind_sort k
+  given_sort : (k : Kind) (s : Sym) (op : Op) (old new : Forest) (t : Tree) → IsTrue (is_sym_of k s) → sort_of op ≡ (kind_row k).sort
+      → Replaced (replacement pairs s) (λ r. t ≡ r) (Stays (IsAdmissible pairs) op old new t) → sort t ≡ (kind_row k).sort
   given_sort k s op old new t is e p =
-      replaced_sort (replacement pairs s) (kind_sort k) op old new t (λ r. t ≡ r) (λ r found h. ap sort h ∙ replacement_sort pairs k s r well is found) e p
+      replaced_sort (replacement pairs s) (kind_row k).sort op old new t (λ r. t ≡ r) (λ r found h. ap sort h ∙ replacement_sort pairs k s r well is found) e p
 
-  plugged_sort : (k : Kind) (s : Sym) (op : Op) (old new : Forest) (t : Tree) → IsTrue (is_sym_of k s) → sort_of op ≡ kind_sort k → AreTerms (trees_in new)
-      → Replaced (replacement pairs s) (λ r. Plug (trees_in new) r t) (Stays (IsAdmissible pairs) op old new t) → sort t ≡ kind_sort k
+  plugged_sort : (k : Kind) (s : Sym) (op : Op) (old new : Forest) (t : Tree) → IsTrue (is_sym_of k s) → sort_of op ≡ (kind_row k).sort
+      → AreTerms (trees_in new) → Replaced (replacement pairs s) (λ r. Plug (trees_in new) r t) (Stays (IsAdmissible pairs) op old new t) → sort t ≡ (kind_row k).sort
   plugged_sort k s op old new t is e terms p =
-      replaced_sort (replacement pairs s) (kind_sort k) op old new t (λ r. Plug (trees_in new) r t)
+      replaced_sort (replacement pairs s) (kind_row k).sort op old new t (λ r. Plug (trees_in new) r t)
       (λ r found h. plug_sort (trees_in new) r t terms h ∙ replacement_sort pairs k s r well is found) e p
 
   filled_sort : (s : Sym) (op : Op) (old new : Forest) (t : Tree) → IsTrue (is_sym_of Quant s) → sort_of op ≡ Formula → sort (first new) ≡ Formula

@@ -17,7 +17,7 @@ use Rattle.dlk_tree.specs.declared.op.Op.{Op}
 use Rattle.dlk_tree.specs.declared.op.Op.TheVariants as Op'
 use Rattle.dlk_tree.specs.Names.{is_name}
 use Rattle.dlk_tree.specs.Tests.{kind_rank}
-use Rattle.dlk_tree.specs.Table.{taboo_is_name, has_arity, may_have_taboo, is_sym, is_sym_of, is_item, evolved, all_distinct, are_items, sort_of, kid_sorts, has_parts, Fits}
+use Rattle.dlk_tree.specs.Table.{taboo_is_name, has_arity, kind_row, is_sym, is_sym_of, is_item, evolved, all_distinct, are_items, sort_of, kid_sorts, has_parts, Fits}
 use Rattle.dlk_tree.specs.Trees.{Tree, node, Forest, no_kids, kid, sort, sorts, size, size_all, depth, depth_all, WellMade, AllWellMade}
 use Rattle.dlk_tree.specs.Occurs.{has, any_has, is_some_dot, is_hole}
 use Rattle.dlk_calculus.specs.Sequents.{Sequent, IsFormula, IsSequent}
@@ -136,7 +136,8 @@ module _ (x y : List ℕ) where
     real_taboo None h = refl
     real_taboo (Some z) h = swap_real z h
 
-    same_taboo : (kind : Kind) (taboo : Option (List ℕ)) → (is_none (option_map (swap_name x y) taboo) || may_have_taboo kind) ≡ (is_none taboo || may_have_taboo kind)
+    same_taboo : (kind : Kind) (taboo : Option (List ℕ)) →
+        (is_none (option_map (swap_name x y) taboo) || (kind_row kind).taboo) ≡ (is_none taboo || (kind_row kind).taboo)
     same_taboo kind None = refl
     same_taboo kind (Some z) = refl
 
@@ -144,7 +145,7 @@ module _ (x y : List ℕ) where
     real_sym s h =
         let name = is_name s.name in
         let arity = has_arity s.kind s.arity in
-        let all = both_true (name && arity && taboo_is_name s.taboo) (is_none s.taboo || may_have_taboo s.kind) h in
+        let all = both_true (name && arity && taboo_is_name s.taboo) (is_none s.taboo || (kind_row s.kind).taboo) h in
         let three = both_true (name && arity) (taboo_is_name s.taboo) all.0 in
         true_both _ _ (true_both _ _ three.0 (real_taboo s.taboo three.1)) (same_taboo s.kind s.taboo ∙ all.1)
 
@@ -180,6 +181,7 @@ module _ (x y : List ℕ) where
     swap_parts (Op'.Exists z) h = swap_real z h
     swap_parts (Op'.Const s) h = real_sym_of Prog s h
     swap_parts (Op'.Assign v) h = swap_real v.name h
+    swap_parts (Op'.Any z) h = swap_real z h
     swap_parts (Op'.System items) h = swap_items items h
     swap_parts _ h = h
 

@@ -45,6 +45,7 @@ is_arithmetic Op'.Box = false
 is_arithmetic Op'.Dia = false
 is_arithmetic (Op'.Const s) = false
 is_arithmetic (Op'.Assign v) = false
+is_arithmetic (Op'.Any x) = false
 is_arithmetic Op'.Test = false
 is_arithmetic (Op'.System items) = false
 is_arithmetic Op'.Choice = false

@@ -63,6 +63,7 @@ captures Op'.Box = in_later
 captures Op'.Dia = in_later
 captures (Op'.Const s) = nothing
 captures (Op'.Assign v) = nothing
+captures (Op'.Any x) = nothing
 captures Op'.Test = nothing
 captures (Op'.System items) = in_kids (λ new. bound (node (Op'.System items) new))
 captures Op'.Choice = nothing

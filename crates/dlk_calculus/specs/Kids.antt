@@ -12,18 +12,8 @@ abbrev pub later : Forest → Forest
 later no_kids = no_kids
 later (kid t rest) = rest
 
--- the kids before the last
-abbrev pub but_last : Forest → Forest
-but_last no_kids = no_kids
-but_last (kid t no_kids) = no_kids
-but_last (kid t (kid u rest)) = kid t (but_last (kid u rest))
-
 -- the last kid, and `true` where there is none
 abbrev pub last : Forest → Tree
 last no_kids = node True no_kids
 last (kid t no_kids) = t
 last (kid t (kid u rest)) = last (kid u rest)
-
-abbrev pub append : Forest → Forest → Forest
-append no_kids more = more
-append (kid t rest) more = kid t (append rest more)

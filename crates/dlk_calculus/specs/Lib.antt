@@ -15,4 +15,5 @@ pub mod Notation
 pub mod Axioms
 pub mod Provables
 pub mod Limits
+pub mod Limited
 pub mod Steps

@@ -10,13 +10,13 @@ use Rattle.dlk_tree.specs.declared.op.Op.TheVariants as Op'
 use Rattle.dlk_tree.specs.Trees.{Tree, node, no_kids, kid, forest}
 use Rattle.dlk_tree.specs.Statics.{plain, prime}
 
-abbrev leaf : Op → Tree
+abbrev pub leaf : Op → Tree
 leaf op = node op no_kids
 
-abbrev one : Op → Tree → Tree
+abbrev pub one : Op → Tree → Tree
 one op s = node op (kid s no_kids)
 
-abbrev two : Op → Tree → Tree → Tree
+abbrev pub two : Op → Tree → Tree → Tree
 two op s t = node op (kid s (kid t no_kids))
 
 -- ---- terms
@@ -98,6 +98,10 @@ assign x s = one (Op'.Assign (plain x)) s
 
 abbrev pub assign_primed : List ℕ → Tree → Tree
 assign_primed x s = one (Op'.Assign (prime x)) s
+
+-- x:=*;
+abbrev pub assign_any : List ℕ → Tree
+assign_any x = leaf (Op'.Any x)
 
 abbrev pub test : Tree → Tree
 test s = one Op'.Test s

@@ -39,15 +39,15 @@ abbrev pub IsAmong : Sequent → List Sequent → Type 0
 IsAmong s [] = ⊥
 IsAmong s (t ∷ ts) = (s ≡ t) ⊎ IsAmong s ts
 
--- Joins old more all: all are the old leaves, and behind them, in their order, those of more that aren't there yet
-pub data Joins : List Sequent → List Sequent → List Sequent → Type 0 where
-  no_more : {old : List Sequent} → Joins old [] old
-  there : {old more all : List Sequent} {s : Sequent} → IsAmong s old → Joins old more all → Joins old (s ∷ more) all
-  added : {old more all : List Sequent} {s : Sequent} → (¬ IsAmong s old) → Joins (old ++ s ∷ []) more all → Joins old (s ∷ more) all
+-- AreNew old more new: new are those of more that aren't among the old leaves, in their order
+pub data AreNew (old : List Sequent) : List Sequent → List Sequent → Type 0 where
+  no_more : AreNew old [] []
+  there : {s : Sequent} {more new : List Sequent} → IsAmong s old → AreNew old more new → AreNew old (s ∷ more) new
+  added : {s : Sequent} {more new : List Sequent} → (¬ IsAmong s old) → AreNew old more new → AreNew old (s ∷ more) (s ∷ new)
 
--- the goals of another provable in the place of a goal, with these leaves
+-- the goals of another provable in the place of a goal, and new leaves behind the old ones
 abbrev pub merged : Provable → ℕ → Provable → List Sequent → Provable
-merged p goal q leaves = record { conclusion = p.conclusion; goals = put_all p.goals goal q.goals; leaves = leaves }
+merged p goal q new = record { conclusion = p.conclusion; goals = put_all p.goals goal q.goals; leaves = p.leaves ++ new }
 
 -- A substitution makes the new formulas of the old ones, one by one; and so of sequents.
 

@@ -1,6 +1,6 @@
 -- Renaming: two names exchanged everywhere (uniform renaming), and another name for a bound variable (bound renaming). Taboos, and the
 -- condition on symbols that may read any variable, are this project's.
-use Rattle.std.specs.Prelude.{ℕ, List, [], map, Bool, ◌||◌, not, if◌then◌else◌, Option, Some, None, option_map}
+use Rattle.std.specs.Prelude.{ℕ, List, map, Bool, ◌||◌, not, if◌then◌else◌, option_map}
 use Rattle.std.specs.List.{list_any}
 use Rattle.std.specs.Str.{bytes_eq}
 use Rattle.dlk_tree.specs.declared.op.Var.{Var}
@@ -9,11 +9,11 @@ use Rattle.dlk_tree.specs.declared.op.OdeItem.{OdeItem}
 use Rattle.dlk_tree.specs.declared.op.OdeItem.TheVariants as Item
 use Rattle.dlk_tree.specs.declared.op.Op.{Op}
 use Rattle.dlk_tree.specs.declared.op.Op.TheVariants as Op'
-use Rattle.dlk_tree.specs.Trees.{Tree, node, Forest, no_kids, kid, root}
+use Rattle.dlk_tree.specs.Table.{kind_row}
+use Rattle.dlk_tree.specs.Trees.{Tree, node, Forest, no_kids, kid}
 use Rattle.dlk_tree.specs.Statics.{free, plain, prime}
 use Rattle.dlk_tree.specs.Occurs.{has, symbols_of}
-use Rattle.dlk_calculus.specs.Kids.{first, last}
-use Rattle.dlk_calculus.specs.Pairs.{takes_arguments}
+use Rattle.dlk_calculus.specs.Notation.{forall, exists, box, dia, assign}
 
 -- The names x and y are exchanged: in variables, binders, evolved variables and taboos. Names of symbols stay.
 
@@ -67,6 +67,7 @@ swap_op x y Op'.Box = Op'.Box
 swap_op x y Op'.Dia = Op'.Dia
 swap_op x y (Op'.Const s) = Op'.Const (swap_sym x y s)
 swap_op x y (Op'.Assign v) = Op'.Assign (swap_var x y v)
+swap_op x y (Op'.Any z) = Op'.Any (swap_name x y z)
 swap_op x y Op'.Test = Op'.Test
 swap_op x y (Op'.System items) = Op'.System (map (swap_item x y) items)
 swap_op x y Op'.Choice = Op'.Choice
@@ -81,56 +82,33 @@ abbrev mutual
   swap_all x y no_kids = no_kids
   swap_all x y (kid t rest) = kid (swap x y t) (swap_all x y rest)
 
--- Another name for the variable that a formula binds outermost: `\forall x f`, `\exists x f`, `[x:=e;]f` or `<x:=e;>f`.
-
--- the x of `x:=e;`; no other program's variable can have another name
-abbrev pub assigned : Op → Option (List ℕ)
-assigned (Op'.Assign v) = if v.primed then None else Some v.name
-assigned _ = None
-
--- the x of `\forall x f`, `\exists x f`, `[x:=e;]f` and `<x:=e;>f`; no other formula binds a name that can be another
-abbrev pub binder_of : Op → Forest → Option (List ℕ)
-binder_of (Op'.Forall x) kids = Some x
-binder_of (Op'.Exists x) kids = Some x
-binder_of Op'.Box kids = assigned (root (first kids))
-binder_of Op'.Dia kids = assigned (root (first kids))
-binder_of _ kids = None
-
-abbrev pub binder : Tree → Option (List ℕ)
-binder (node op kids) = binder_of op kids
-
--- the formula in which it is bound: the last kid
-abbrev pub body : Tree → Tree
-body (node op kids) = last kids
-
--- an assignment to y instead: the term that is assigned stays
-abbrev pub reassigned : List ℕ → Tree → Tree
-reassigned y (node op kids) = node (Op'.Assign (plain y)) kids
-
--- the operator over its kids, with y for the bound x, and f for the body; what is neither quantifier binds by an assignment
-abbrev pub rebound : List ℕ → Tree → Op → Forest → Tree
-rebound y f (Op'.Forall x) kids = node (Op'.Forall y) (kid f no_kids)
-rebound y f (Op'.Exists x) kids = node (Op'.Exists y) (kid f no_kids)
-rebound y f op kids = node op (kid (reassigned y (first kids)) (kid f no_kids))
-
--- the name, where there is one
-abbrev pub name_in : Option (List ℕ) → List ℕ
-name_in None = []
-name_in (Some x) = x
-
--- the formula with y for the variable that it binds: they are exchanged in the body
-abbrev pub renamed_bound : List ℕ → Tree → Tree
-renamed_bound y (node op kids) = rebound y (swap (name_in (binder_of op kids)) y (last kids)) op kids
-
 -- A symbol that may read variables that aren't written with it: a unit symbol, a predicational, a program constant or an ODE constant. An
 -- exchange of names can't reach what will stand for it.
 abbrev pub hides_variables : Sym → Bool
-hides_variables s = not (takes_arguments s.kind)
+hides_variables s = not (kind_row s.kind).arguments
 
 abbrev pub has_hidden_variables : Tree → Bool
 has_hidden_variables t = has (λ op. list_any hides_variables (symbols_of op)) t
 
--- y may stand for the bound x: y, y' and x' aren't free in the body, and no symbol that may read any variable stands there, even where
+-- y may stand for x, which is bound over f: y, y' and x' aren't free in f, and no symbol that may read any variable stands there, even where
 -- y, y' and x' are must-bound before it
 abbrev pub may_rename : List ℕ → List ℕ → Tree → Bool
 may_rename x y f = not (free f (plain y) || free f (prime y) || free f (prime x) || has_hidden_variables f)
+
+-- RenamesBound x y f t u: t binds the variable x outermost over f, and u is t with y for it: x and y are exchanged in the binder and in f.
+-- One case for each formula that binds a variable which can have another name.
+pub data RenamesBound (x y : List ℕ) (f : Tree) : Tree → Tree → Type 0 where
+  -- \forall x f
+  in_forall : RenamesBound x y f (forall x f) (forall y (swap x y f))
+  -- \exists x f
+  in_exists : RenamesBound x y f (exists x f) (exists y (swap x y f))
+  -- [x:=e;]f; the term that is assigned stays
+  in_box : (e : Tree) → RenamesBound x y f (box (assign x e) f) (box (assign y e) (swap x y f))
+  -- <x:=e;>f
+  in_dia : (e : Tree) → RenamesBound x y f (dia (assign x e) f) (dia (assign y e) (swap x y f))
+
+-- a variable x that a formula binds over f, and g, the formula with another name for x
+pub record Bound : Type 0 where
+  pub x : List ℕ
+  pub f : Tree
+  pub g : Tree

@@ -9,6 +9,11 @@ pub record Sequent : Type 0 where
   pub ante : List Tree
   pub succ : List Tree
 
+-- these formulas on the left, and those on the right
+infix 4 ◌==>◌
+abbrev pub ◌==>◌ : List Tree → List Tree → Sequent
+A ==> S = record { ante = A; succ = S }
+
 -- f alone on the right
 abbrev pub alone_right : Tree → Sequent
 alone_right f = record { ante = []; succ = f ∷ [] }

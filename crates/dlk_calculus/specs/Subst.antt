@@ -1,52 +1,66 @@
 -- Uniform substitution (Platzer 2017, section on uniform substitution).
-use Rattle.std.specs.Prelude.{◌≡◌, List, [], ◌∷◌, ◌++◌, Bool, ◌&&◌, IsTrue, All, Option, Some, None}
+use Rattle.std.specs.Prelude.{◌≡◌, ℕ, List, [], ◌∷◌, Bool, ◌&&◌, IsTrue, All, Option, Some, None}
+use Rattle.std.specs.List.{flat_map}
 use Rattle.dlk_tree.specs.declared.op.Var.{Var}
 use Rattle.dlk_tree.specs.declared.op.Sym.{Sym}
 use Rattle.dlk_tree.specs.declared.op.OdeItem.{OdeItem}
 use Rattle.dlk_tree.specs.declared.op.OdeItem.TheVariants as Item
 use Rattle.dlk_tree.specs.declared.op.Op.{Op}
 use Rattle.dlk_tree.specs.declared.op.Op.TheVariants as Op'
+use Rattle.dlk_tree.specs.Table.{kind_row}
 use Rattle.dlk_tree.specs.Trees.{Tree, node, Forest, no_kids, kid, trees_in, WellMade}
 use Rattle.dlk_tree.specs.Statics.{free, all}
 use Rattle.dlk_tree.specs.Occurs.{any_has, has_symbol}
-use Rattle.dlk_calculus.specs.Kids.{first, but_last, append}
+use Rattle.dlk_calculus.specs.Kids.{first, later, last}
 use Rattle.dlk_calculus.specs.Captures.{AreApart, Stays}
-use Rattle.dlk_calculus.specs.Pairs.{Pair, replacement, takes_arguments}
+use Rattle.dlk_calculus.specs.Pairs.{Pair, replacement}
 use Rattle.dlk_calculus.specs.Plug.{Plug, filled}
 
 -- no variable of the set is free in the replacement of a function or predicate that occurs in these trees
 abbrev pub IsAdmissible : List Pair → (Var → Bool) → Forest → Type 0
 IsAdmissible pairs set trees =
-    All (λ (p : Pair). IsTrue (takes_arguments p.sym.kind && any_has (has_symbol p.sym) trees) → AreApart set (free p.by)) pairs
+    All (λ (p : Pair). IsTrue ((kind_row p.sym.kind).arguments && any_has (has_symbol p.sym) trees) → AreApart set (free p.by)) pairs
 
 -- what holds with a replacement, and without one
 abbrev pub Replaced : Option Tree → (Tree → Type 0) → Type 0 → Type 0
 Replaced (Some r) With Without = With r
 Replaced None With Without = Without
 
--- A system in which each constant with a pair gives way to the items of its replacement, whose domain is dropped:
+-- A system has members and a domain. A constant with a pair gives way to the members of its replacement, whose domain is dropped:
 
--- the items for a constant
-abbrev pub items_for : Sym → Option Tree → List OdeItem
-items_for s (Some (node (Op'.System items) kids)) = items
-items_for s _ = Item.Const s ∷ []
+-- an evolved variable with its right side, or a constant
+pub data Member : Type 0 where
+  Equation : List ℕ → Tree → Member
+  Constant : Sym → Member
 
--- their right sides
-abbrev pub sides_for : Option Tree → Forest
-sides_for (Some (node (Op'.System items) kids)) = but_last kids
-sides_for _ = no_kids
+-- the members of a system, of its items and kids
+abbrev pub members : List OdeItem → Forest → List Member
+members [] kids = []
+members (Item.Evolve x ∷ items) kids = Equation x (first kids) ∷ members items (later kids)
+members (Item.Const s ∷ items) kids = Constant s ∷ members items kids
 
-abbrev pub new_items : List Pair → List OdeItem → List OdeItem
-new_items pairs [] = []
-new_items pairs (Item.Evolve x ∷ items) = Item.Evolve x ∷ new_items pairs items
-new_items pairs (Item.Const s ∷ items) = items_for s (replacement pairs s) ++ new_items pairs items
+-- the members for a constant
+abbrev pub members_for : Sym → Option Tree → List Member
+members_for s (Some (node (Op'.System items) kids)) = members items kids
+members_for s _ = Constant s ∷ []
 
--- the kids are the right side of each evolved variable, in order, and the domain
-abbrev pub new_kids : List Pair → List OdeItem → Forest → Forest
-new_kids pairs [] kids = kids
-new_kids pairs (Item.Evolve x ∷ items) no_kids = new_kids pairs items no_kids
-new_kids pairs (Item.Evolve x ∷ items) (kid t kids) = kid t (new_kids pairs items kids)
-new_kids pairs (Item.Const s ∷ items) kids = append (sides_for (replacement pairs s)) (new_kids pairs items kids)
+abbrev pub spliced : List Pair → Member → List Member
+spliced pairs (Equation x side) = Equation x side ∷ []
+spliced pairs (Constant s) = members_for s (replacement pairs s)
+
+abbrev pub new_members : List Pair → List OdeItem → Forest → List Member
+new_members pairs items kids = flat_map (spliced pairs) (members items kids)
+
+abbrev pub items_of : List Member → List OdeItem
+items_of [] = []
+items_of (Equation x side ∷ rest) = Item.Evolve x ∷ items_of rest
+items_of (Constant s ∷ rest) = Item.Const s ∷ items_of rest
+
+-- their right sides, in order, and the domain
+abbrev pub kids_of : List Member → Tree → Forest
+kids_of [] domain = kid domain no_kids
+kids_of (Equation x side ∷ rest) domain = kid side (kids_of rest domain)
+kids_of (Constant s ∷ rest) domain = kids_of rest domain
 
 -- The operator over old kids gives t, where these give the new ones. One row where a symbol may have a pair; any other operator stays.
 abbrev pub SubstAt : List Pair → Op → Forest → Forest → Tree → Type 0
@@ -57,7 +71,8 @@ SubstAt pairs (Op'.Apply s) old new t = Replaced (replacement pairs s) (λ r. Pl
 SubstAt pairs (Op'.Holds s) old new t = Replaced (replacement pairs s) (λ r. Plug (trees_in new) r t) (Stays (IsAdmissible pairs) (Op'.Holds s) old new t)
 SubstAt pairs (Op'.Predicational s) old new t =
     Replaced (replacement pairs s) (λ r. IsAdmissible pairs all old × (t ≡ filled (first new) r)) (Stays (IsAdmissible pairs) (Op'.Predicational s) old new t)
-SubstAt pairs (Op'.System items) old new t = Stays (IsAdmissible pairs) (Op'.System (new_items pairs items)) old (new_kids pairs items new) t
+SubstAt pairs (Op'.System items) old new t =
+    Stays (IsAdmissible pairs) (Op'.System (items_of (new_members pairs items new))) old (kids_of (new_members pairs items new) (last new)) t
 SubstAt pairs op old new t = Stays (IsAdmissible pairs) op old new t
 
 abbrev mutual

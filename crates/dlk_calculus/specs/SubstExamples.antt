@@ -1,6 +1,8 @@
 -- Examples of pairs, captures, plugging and substitution.
-use Rattle.std.specs.Prelude.{◌≡◌, ℕ, refl, List, [], ◌∷◌, Bool, true, false, ◌&&◌, IsTrue, Option, Some, None, codes}
-use Rattle.std.proofs.Common.{sym, subst, true≢false, lit<}
+use Rattle.std.specs.Prelude.{◌≡◌, ℕ, ◌<◌, refl, List, [], ◌∷◌, take, Bool, true, false, ◌&&◌, IsTrue, Option, Some, None, codes}
+use Rattle.std.proofs.Common.{◌∙◌, ◌-◌, zero, suc, sym, ap, subst, true≢false, lit<, arith}
+use Rattle.std.proofs.lemmas.Option.{none-some, same_Some}
+use Rattle.std.proofs.Math.Dec.{eqb-suc-zero}
 use Rattle.std.proofs.lemmas.List.Elements.{All-cons, All-nil}
 use Rattle.dlk_tree.specs.declared.op.Var.{Var}
 use Rattle.dlk_tree.specs.declared.op.Sym.{Sym}
@@ -10,7 +12,7 @@ use Rattle.dlk_tree.specs.declared.op.Sort.TheVariants.{Term}
 use Rattle.dlk_tree.specs.declared.op.OdeItem.TheVariants as Item
 use Rattle.dlk_tree.specs.declared.op.Op.{Op}
 use Rattle.dlk_tree.specs.declared.op.Op.TheVariants as Op'
-use Rattle.dlk_tree.specs.Table.{kid_sorts, has_parts}
+use Rattle.dlk_tree.specs.Table.{kind_row, kid_sorts, has_parts}
 use Rattle.dlk_tree.specs.Trees.{Tree, node, Forest, no_kids, kid, sort, WellMade}
 use Rattle.dlk_tree.specs.Statics.{none, plain, prime, free, bound, both}
 use Rattle.dlk_tree.specs.Occurs.{any_has, has_symbol}
@@ -19,8 +21,9 @@ use Rattle.dlk_calculus.specs.declared.why.Why.TheVariants as Why'
 use Rattle.dlk_calculus.specs.Kids.{first}
 use Rattle.dlk_calculus.specs.Captures.{captures, AreApart}
 use Rattle.dlk_calculus.specs.Plug.{IsClear, Plug, filled}
-use Rattle.dlk_calculus.specs.Pairs.{Pair, takes_arguments, Ill, first_ill, IsWellFormed}
-use Rattle.dlk_calculus.specs.Subst.{IsAdmissible, new_items, new_kids, Subst, SubstAll}
+use Rattle.dlk_calculus.specs.Places.{at}
+use Rattle.dlk_calculus.specs.Pairs.{Pair, why, IsIll, FirstIll, IsWellFormed}
+use Rattle.dlk_calculus.specs.Subst.{IsAdmissible, Member, Equation, new_members, items_of, kids_of, Subst, SubstAll}
 
 abbrev leaf : Op → Tree
 leaf op = node op no_kids
@@ -46,6 +49,10 @@ y = leaf (Op'.Variable (plain (codes "y")))
 -- x:=1;
 abbrev assign : Tree
 assign = node (Op'.Assign (plain (codes "x"))) (one (number 1))
+
+-- x:=*;
+abbrev anything : Tree
+anything = leaf (Op'.Any (codes "x"))
 
 abbrev positive : Tree → Tree
 positive t = node Op'.Gt (two t (number 0))
@@ -100,39 +107,66 @@ system domain = node (Op'.System (Item.Evolve (codes "x") ∷ [])) (two (number 
 
 -- ---- pairs
 
-abbrev ill : ℕ → Why → Option Ill
-ill n why = Some (record { pair = n; reason = why })
+abbrev alone : Pair → Option Why
+alone p = why [] p
 
 -- p()~>true, p()~>false
-twice : first_ill (to p (leaf Op'.True) ∷ to p (leaf Op'.False) ∷ []) ≡ ill 2 Why'.Twice
-twice = refl
+abbrev p_twice : List Pair
+p_twice = to p (leaf Op'.True) ∷ to p (leaf Op'.False) ∷ []
+
+good_first : (n : ℕ) (w : Why) → n < 2 → ¬ IsIll p_twice n w
+good_first zero w lt ill = none-some ill.0 ill.1
+good_first (suc zero) w lt ill = none-some w (subst (λ r. why [] r ≡ Some w) (sym (same_Some _ _ ill.1)) ill.2)
+good_first (suc (suc n)) w lt ill = omega (arith, lt)
+
+twice : FirstIll p_twice 2 Why'.Twice
+twice = record { ill = (to p (leaf Op'.False), refl, refl); first = good_first }
 
 -- p()~>x
-wrong_sort : first_ill (to p x ∷ []) ≡ ill 1 Why'.Sort
+wrong_sort : alone (to p x) ≡ Some Why'.Sort
 wrong_sort = refl
 
--- {c}~>{x'=1&y>0}
-wrong_domain : first_ill (to c (system (positive y)) ∷ []) ≡ ill 1 Why'.Sort
+-- {c}~>{x'=1&y>0}, and {c}~>x:=1;
+wrong_domain : alone (to c (system (positive y))) ≡ Some Why'.Sort
 wrong_domain = refl
 
+no_system : alone (to c assign) ≡ Some Why'.Sort
+no_system = refl
+
 -- p(._0)~>._1>0
-wrong_dot : first_ill (to p1 (positive (dot 1)) ∷ []) ≡ ill 1 Why'.Dot
+wrong_dot : alone (to p1 (positive (dot 1))) ≡ Some Why'.Dot
 wrong_dot = refl
 
 -- p()~>_
-wrong_hole : first_ill (to p (leaf Op'.Hole) ∷ []) ≡ ill 1 Why'.Hole
+wrong_hole : alone (to p (leaf Op'.Hole)) ≡ Some Why'.Hole
 wrong_hole = refl
 
 -- p(|x|)~>x>0, and {c{|x|}}~>{x'=1&true}
-free_taboo : first_ill (to (with_taboo UnitPred (codes "p") (codes "x")) (positive x) ∷ []) ≡ ill 1 Why'.Taboo
+free_taboo : alone (to (with_taboo UnitPred (codes "p") (codes "x")) (positive x)) ≡ Some Why'.Taboo
 free_taboo = refl
 
-bound_taboo : first_ill (to (with_taboo Ode (codes "c") (codes "x")) (system (leaf Op'.True)) ∷ []) ≡ ill 1 Why'.Taboo
+bound_taboo : alone (to (with_taboo Ode (codes "c") (codes "x")) (system (leaf Op'.True))) ≡ Some Why'.Taboo
 bound_taboo = refl
 
--- p(._0)~>._0>0, p()~>x>0, q{_}~>!_, {c}~>{x'=1&true}
-well_formed : IsWellFormed (to p1 (positive (dot 0)) ∷ to p (positive x) ∷ to (symbol Quant (codes "q") 0) (node Op'.Not (one (leaf Op'.Hole))) ∷ to c (system (leaf Op'.True)) ∷ [])
-well_formed = refl
+-- p(|x|)~>\exists x x>0
+bound_alone : alone (to (with_taboo UnitPred (codes "p") (codes "x")) (node (Op'.Exists (codes "x")) (one (positive x)))) ≡ None
+bound_alone = refl
+
+-- q{_}~>!_, {c}~>{x'=1&true}
+abbrev two_good : List Pair
+two_good = to (symbol Quant (codes "q") 0) (node Op'.Not (one (leaf Op'.Hole))) ∷ to c (system (leaf Op'.True)) ∷ []
+
+well_formed : IsWellFormed two_good
+well_formed = record { none = good }
+  where
+    past : (n : ℕ) → at two_good (suc (suc (suc n))) ≡ None
+    past n = let e : suc (suc (suc n)) - 1 ≡ suc (suc n) = omega arith in rw (eqb-suc-zero (suc (suc n)), e)
+
+    good : (n : ℕ) (w : Why) → ¬ IsIll two_good n w
+    good zero w ill = none-some ill.0 ill.1
+    good (suc zero) w ill = none-some w (subst (λ r. why [] r ≡ Some w) (sym (same_Some _ _ ill.1)) ill.2)
+    good (suc (suc zero)) w ill = none-some w (subst (λ r. why (take 1 two_good) r ≡ Some w) (sym (same_Some _ _ ill.1)) ill.2)
+    good (suc (suc (suc n))) w ill = none-some ill.0 (sym (past n) ∙ ill.1)
 
 -- ---- captures
 
@@ -173,10 +207,16 @@ filled_in : filled (positive x) (node Op'.Not (one (leaf Op'.Hole))) ≡ node Op
 filled_in = refl
 
 -- {y'=2,c&true} with {c}~>{x'=1&true} is {y'=2,x'=1&true}
-items_spliced : new_items (to c (system (leaf Op'.True)) ∷ []) (Item.Evolve (codes "y") ∷ Item.Const c ∷ []) ≡ Item.Evolve (codes "y") ∷ Item.Evolve (codes "x") ∷ []
+abbrev both_members : List Member
+both_members = new_members (to c (system (leaf Op'.True)) ∷ []) (Item.Evolve (codes "y") ∷ Item.Const c ∷ []) (two (number 2) (leaf Op'.True))
+
+members_spliced : both_members ≡ Equation (codes "y") (number 2) ∷ Equation (codes "x") (number 1) ∷ []
+members_spliced = refl
+
+items_spliced : items_of both_members ≡ Item.Evolve (codes "y") ∷ Item.Evolve (codes "x") ∷ []
 items_spliced = refl
 
-kids_spliced : new_kids (to c (system (leaf Op'.True)) ∷ []) (Item.Evolve (codes "y") ∷ Item.Const c ∷ []) (two (number 2) (leaf Op'.True)) ≡ kid (number 2) (two (number 1) (leaf Op'.True))
+kids_spliced : kids_of both_members (leaf Op'.True) ≡ kid (number 2) (two (number 1) (leaf Op'.True))
 kids_spliced = refl
 
 -- ---- substitution
@@ -247,7 +287,7 @@ p_gives = (
 
 -- what admissibility of the assignment for q() says of a pair
 abbrev IsApart : Pair → Type 0
-IsApart r = IsTrue (takes_arguments r.sym.kind && any_has (has_symbol r.sym) (one (holds q))) → AreApart (bound assign) (free r.by)
+IsApart r = IsTrue ((kind_row r.sym.kind).arguments && any_has (has_symbol r.sym) (one (holds q))) → AreApart (bound assign) (free r.by)
 
 -- p() doesn't occur in q()
 q_admissible : IsAdmissible p_positive (bound assign) (one (holds q))
@@ -274,22 +314,26 @@ outside = (
   two_made Op'.And boxed (positive x) refl refl boxed_made x_positive,
 )
 
--- p()->[a;]p() with p()~>x>0, a;~>x:=1; is nothing: x is free in x>0 and bound in x:=1;
-abbrev both_pairs : List Pair
-both_pairs = to p (positive x) ∷ to a assign ∷ []
+-- p()->[a;]p() with p()~>x>0, a;~>b is nothing where x is bound in b, since it is free in x>0: so with x:=1; and with x:=*;
+abbrev both_pairs : Tree → List Pair
+both_pairs b = to p (positive x) ∷ to a b ∷ []
 
 abbrev after_a : Tree
 after_a = node Op'.Box (two (leaf (Op'.Const a)) (holds p))
 
-x_clashes : (new : Forest) → SubstAll both_pairs (two (leaf (Op'.Const a)) (holds p)) new → IsAdmissible both_pairs (bound (first new)) (one (holds p)) → ⊥
-x_clashes no_kids all admissible = all
-x_clashes (kid b rest) all admissible =
-    admissible 0 (to a assign) (lit< tt) refl (plain (codes "x"), refl, subst (λ t. IsTrue (both (bound t) (free (positive x)) (plain (codes "x")))) (sym all.0.2) refl)
+module _ (b : Tree) (binds_x : bound b (plain (codes "x")) ≡ true) where
+  x_clashes : (new : Forest) → SubstAll (both_pairs b) (two (leaf (Op'.Const a)) (holds p)) new → IsAdmissible (both_pairs b) (bound (first new)) (one (holds p)) → ⊥
+  x_clashes no_kids all admissible = all
+  x_clashes (kid made rest) all admissible =
+      admissible 0 (to a b) (lit< tt) refl (plain (codes "x"), refl, subst (λ t. IsTrue (both (bound t) (free (positive x)) (plain (codes "x")))) (sym all.0.2) (ap (λ c. c && true) binds_x))
 
-clashes : (new : Forest) → SubstAll both_pairs (two (holds p) after_a) new → ⊥
-clashes no_kids all = all
-clashes (kid s no_kids) all = all.1
-clashes (kid s (kid t rest)) all = let box = all.1.0 in x_clashes box.0 box.1 box.2.0
+  clashes : (new : Forest) → SubstAll (both_pairs b) (two (holds p) after_a) new → ⊥
+  clashes no_kids all = all
+  clashes (kid s no_kids) all = all.1
+  clashes (kid s (kid t rest)) all = let box = all.1.0 in x_clashes box.0 box.1 box.2.0
 
-inside : (t : Tree) → Subst both_pairs (node Op'.Imply (two (holds p) after_a)) t → ⊥
-inside t s = clashes s.0 s.1
+inside : (t : Tree) → Subst (both_pairs assign) (node Op'.Imply (two (holds p) after_a)) t → ⊥
+inside t s = clashes assign refl s.0 s.1
+
+inside_any : (t : Tree) → Subst (both_pairs anything) (node Op'.Imply (two (holds p) after_a)) t → ⊥
+inside_any t s = clashes anything refl s.0 s.1

@@ -168,6 +168,7 @@ style_low (op.Forall x) h = rw (name_low x h) refl
 style_low (op.Exists x) h = rw (name_low x h) refl
 style_low (op.Const s) h = rw (symbol_low Prog s h).0 refl
 style_low (op.Assign v) h = rw (text_append (variable v) (mark Gets ∷ []) (variable_low v h) refl) refl
+style_low (op.Any x) h = rw (name_low x h) refl
 style_low _ h = refl
 
 -- the items of a system

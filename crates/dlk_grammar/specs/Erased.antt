@@ -12,7 +12,7 @@ use Rattle.dlk_tree.specs.Trees.{Tree, node, forest}
 use Rattle.dlk_grammar.specs.declared.token.Infix.{Infix}
 use Rattle.dlk_grammar.specs.declared.token.Infix.TheVariants.{Equiv, Imply, Or, And, Equal, NotEqual, AtLeast, Greater, AtMost, Less, Add, Sub, Mul, Div, Pow, Choice}
 use Rattle.dlk_grammar.specs.Lexemes.{Word}
-use Rattle.dlk_grammar.specs.Phrases.{Space, Everywhere, Except, Phrase, Literal, Argument, Variable, Apply, Negate, Diff, Truth, Falsity, Hole, Holds, Context, Not, DiffF, Forall, Exists, Box, Dia, Binary, Const, Assign, Test, Then, Loop, System, Noted, Phrases, none, snoc, Head, Call, Any, Item, Evolve, Flow, Items, no_items, add}
+use Rattle.dlk_grammar.specs.Phrases.{Space, Everywhere, Except, Phrase, Literal, Argument, Variable, Apply, Negate, Diff, Truth, Falsity, Hole, Holds, Context, Not, DiffF, Forall, Exists, Box, Dia, Binary, Const, Assign, AssignAny, Test, Then, Loop, System, Noted, Phrases, none, snoc, Head, Call, Any, Item, Evolve, Flow, Items, no_items, add}
 
 abbrev pub taboo : Space → Option Word
 taboo Everywhere = None
@@ -76,6 +76,7 @@ abbrev mutual
   erase (Binary o a b) = node (infix_op o) (forest (erase a ∷ erase b ∷ []))
   erase (Const x) = node (op.Const (symbol Prog x 0 Everywhere)) (forest [])
   erase (Assign x primed a) = node (op.Assign (record { name = x; primed = primed })) (forest (erase a ∷ []))
+  erase (AssignAny x) = node (op.Any x) (forest [])
   erase (Test a) = node op.Test (forest (erase a ∷ []))
   erase (Then p q) = node op.Seq (forest (erase p ∷ erase q ∷ []))
   erase (Loop p) = node op.Loop (forest (erase p ∷ []))
@@ -126,6 +127,7 @@ abbrev mutual
   ills (Binary o a b) = ills a ++ ills b
   ills (Const x) = []
   ills (Assign x primed a) = ills a
+  ills (AssignAny x) = []
   ills (Test a) = ills a
   ills (Then p q) = ills p ++ ills q
   ills (Loop p) = ills p

@@ -4,7 +4,7 @@ use Rattle.dlk_tree.specs.declared.op.Num.{Num}
 use Rattle.dlk_grammar.specs.declared.token.Infix.{Infix}
 use Rattle.dlk_grammar.specs.declared.token.Infix.TheVariants.{Equiv, Imply, Or, And, Equal, NotEqual, AtLeast, Greater, AtMost, Less, Add, Sub, Mul, Div, Pow, Choice}
 use Rattle.dlk_grammar.specs.Lexemes.{Word, Lexeme, Name, Number, Dot, Blank, True, False, All, Exist, Invariant, RoundBars, RoundBar, BarRound, BraceBar, BarBrace, Open, Close, OpenBox, CloseBox, OpenBrace, CloseBrace, Bang, Prime, Gets, Query, Semi, Comma, Turnstile, Op}
-use Rattle.dlk_grammar.specs.Phrases.{Everywhere, Except, Phrase, Literal, Argument, Variable, Apply, Negate, Diff, Truth, Falsity, Hole, Holds, Context, Not, DiffF, Forall, Exists, Box, Dia, Binary, Const, Assign, Test, Then, Loop, System, Noted, Phrases, none, snoc, Call, Any, Item, Evolve, Flow, Items, no_items, add}
+use Rattle.dlk_grammar.specs.Phrases.{Everywhere, Except, Phrase, Literal, Argument, Variable, Apply, Negate, Diff, Truth, Falsity, Hole, Holds, Context, Not, DiffF, Forall, Exists, Box, Dia, Binary, Const, Assign, AssignAny, Test, Then, Loop, System, Noted, Phrases, none, snoc, Call, Any, Item, Evolve, Flow, Items, no_items, add}
 
 -- the nonterminals of formulas, terms and programs: `disj` and `conj` for or and and
 pub data Nonterminal : Type 0 where
@@ -95,11 +95,12 @@ mutual
     -- seq = stmt | stmt seq
     seq-stmt : {s : List Lexeme} {a : Phrase} → Reads stmt s a → Reads seq s a
     seq-then : {s r : List Lexeme} {a b : Phrase} → Reads stmt s a → Reads seq r b → Reads seq (s ++ r) (Then a b)
-    -- stmt = name ";" | name ":=" term ";" | name "'" ":=" term ";" | "?" formula ";" | group
+    -- stmt = name ";" | name ":=" term ";" | name "'" ":=" term ";" | name ":=" "*" ";" | "?" formula ";" | group
     -- group = brace, then "*" or nothing, then inv or nothing, then ";" or nothing
     stmt-const : {n : ℕ} {x : Word} → Reads stmt (Name n x ∷ Semi ∷ []) (Const x)
     stmt-assign : {n : ℕ} {x : Word} {s : List Lexeme} {a : Phrase} → Reads term s a → Reads stmt (Name n x ∷ Gets ∷ (s ++ Semi ∷ [])) (Assign x false a)
     stmt-assign_prime : {n : ℕ} {x : Word} {s : List Lexeme} {a : Phrase} → Reads term s a → Reads stmt (Name n x ∷ Prime ∷ Gets ∷ (s ++ Semi ∷ [])) (Assign x true a)
+    stmt-any : {n : ℕ} {x : Word} → Reads stmt (Name n x ∷ Gets ∷ Op Mul ∷ Semi ∷ []) (AssignAny x)
     stmt-test : {s : List Lexeme} {a : Phrase} → Reads formula s a → Reads stmt (Query ∷ (s ++ Semi ∷ [])) (Test a)
     stmt-group : {s q i e : List Lexeme} {a b c : Phrase} → ReadsBrace s a → ReadsStar q a b → ReadsInv i b c → ReadsSemi e → Reads stmt (s ++ (q ++ (i ++ e))) c
 

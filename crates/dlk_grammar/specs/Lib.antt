@@ -11,5 +11,6 @@ pub mod Substitutions
 pub mod Texts
 pub mod Shown
 pub mod ShownExamples
+pub mod AxiomExamples
 pub mod Symbols
 pub mod SymbolsExamples

@@ -34,6 +34,8 @@ mutual
     Binary : Infix → Phrase → Phrase → Phrase
     Const : Word → Phrase
     Assign : Word → Bool → Phrase → Phrase
+    -- x:=*;
+    AssignAny : Word → Phrase
     Test : Phrase → Phrase
     Then : Phrase → Phrase → Phrase
     Loop : Phrase → Phrase

@@ -76,8 +76,12 @@ pub record FirstAt (Is : List Token → TokenKind → Type 0) (tokens : List Tok
 abbrev pub IsLong : List Token → TokenKind → Type 0
 IsLong before k = k ≡ kind.LongNumber
 
+-- how many bracket levels may be open
+abbrev pub most_levels : ℕ
+most_levels = 1200
+
 abbrev pub OpensTooDeep : List Token → TokenKind → Type 0
-OpensTooDeep before k = (bracket_level before ≡ 1200) × (opens k ≡ true)
+OpensTooDeep before k = (bracket_level before ≡ most_levels) × (opens k ≡ true)
 
 -- the token of this place among the tokens is at this byte
 pub record TokenAt (tokens : List Token) (place at : ℕ) : Type 0 where

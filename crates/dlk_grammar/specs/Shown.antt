@@ -143,6 +143,7 @@ style op.Box = modal (mark OpenSquare) (mark CloseSquare)
 style op.Dia = modal (mark Less) (mark Greater)
 style (op.Const s) = enclosed 3 (word s.name ∷ mark Semicolon ∷ []) []
 style (op.Assign v) = enclosed 3 (variable v ++ mark Gets ∷ []) (mark Semicolon ∷ [])
+style (op.Any x) = enclosed 3 (word x ∷ mark Gets ∷ mark Star ∷ mark Semicolon ∷ []) []
 style op.Test = enclosed 3 (mark Query ∷ []) (mark Semicolon ∷ [])
 style (op.System items) = record (enclosed 3 (mark OpenBrace ∷ []) (mark CloseBrace ∷ [])) { items = Some items }
 style op.Choice = infixed 1 2 1 (mark Choice ∷ [])

@@ -104,6 +104,10 @@ application_text = refl
 prime_text : spell (shown (tree op.Seq (tree (op.Assign (record { name = codes "x"; primed = true })) (tree (op.Variable (record { name = codes "x"; primed = true })) [] ∷ []) ∷ set_a x ∷ []))) ≡ codes "x':=x';a:=x;"
 prime_text = refl
 
+any_text : spell (shown (two op.Box (tree (op.Any (codes "x")) []) (is_positive x))) ≡ codes "[x:=*;]x>=0"
+unfolding digits
+any_text = refl
+
 goal_text : spell (shown_sequent (record { ante = []; succ = is_positive x ∷ [] })) ≡ codes "==> x>=0"
 unfolding digits
 goal_text = refl

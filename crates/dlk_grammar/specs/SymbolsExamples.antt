@@ -1,7 +1,6 @@
 -- Texts of symbols.
 use Rattle.std.specs.Prelude.{◌≡◌, ℕ, List, Option, Some, None, codes, refl}
 use Rattle.std.specs.Fmt.{digits}
-use Rattle.dlk_tree.specs.declared.op.Sym.{Sym}
 use Rattle.dlk_tree.specs.declared.op.Kind.{Kind}
 use Rattle.dlk_tree.specs.declared.op.Kind.TheVariants.{Func, UnitFunc, Pred, UnitPred, Quant, Prog, Ode}
 use Rattle.dlk_grammar.specs.Shown.{spell}

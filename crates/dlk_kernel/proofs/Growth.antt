@@ -8,11 +8,12 @@ use Rattle.dlk_tree.specs.Trees.{Tree}
 use Rattle.dlk_store.specs.Stores.{Keeps}
 use Rattle.dlk_calculus.specs.Provables.{HasFormulas}
 use Rattle.dlk_calculus.specs.declared.reason.Reason.TheVariants.{LinesFull}
-use Rattle.dlk_calculus.specs.Limits.{IsLimited, most_rows}
+use Rattle.dlk_calculus.specs.Limits.{most_rows}
+use Rattle.dlk_calculus.specs.Limited.{IsLimited}
 use Rattle.dlk_calculus.specs.Steps.{Step, Gives, IsWithin, History, Derives, Fault, StepOf, Adds}
 use Rattle.dlk_calculus.proofs.LimitLaws.{StepOf-within, step_limited, rows_fault}
 use Rattle.dlk_calculus.proofs.Histories.{History-derives, History-more, History-take}
-use Rattle.dlk_calculus.proofs.Formulas.{History-formulas}
+use Rattle.dlk_calculus.proofs.Formulas.{Derives-formulas}
 use Rattle.dlk_sequent.specs.Sequents.{IsKnown}
 use Rattle.dlk_sequent.proofs.Kept.{map-agree, sequent-kept, sequents-kept, IsKnown-kept}
 use Rattle.dlk_kernel.specs.declared.row.Row.{Row}
@@ -75,7 +76,7 @@ pub all_derived : (trees : List Tree) (rows : List Row) → AreSoundRows trees r
 all_derived trees rows h = History-derives (provables_at trees rows) h.history
 
 pub all_formulas : (trees : List Tree) (rows : List Row) → AreSoundRows trees rows → All HasFormulas (provables_at trees rows)
-all_formulas trees rows h = History-formulas (provables_at trees rows) h.history
+all_formulas trees rows h = All-weaker Derives HasFormulas Derives-formulas (provables_at trees rows) (all_derived trees rows h)
 
 -- the first rows are sound too
 pub sound_take : (trees : List Tree) (n : ℕ) (rows : List Row) → AreSoundRows trees rows → AreSoundRows trees (take n rows)

@@ -1,12 +1,12 @@
 -- The row of a leaf, sequents among others, and leaves that join.
-use Rattle.std.proofs.Common.{◌≡◌, ◌≢◌, ℕ, ◌+◌, ◌<◌, ◌≤◌, List, [], ◌∷◌, ◌++◌, map, drop, length, get_or, inl, inr, add-one}
+use Rattle.std.proofs.Common.{◌≡◌, ◌≢◌, ℕ, ◌+◌, ◌<◌, ◌≤◌, List, [], ◌∷◌, ◌++◌, map, take, drop, length, get_or, inl, inr, add-one, ap, ◌∙◌, append_assoc}
 use Rattle.std.specs.Prelude.{◌↔◌, IsTrue}
 use Rattle.std.proofs.Math.Seq.{drop-cons}
-use Rattle.std.proofs.lemmas.List.{map-append, drop_all}
+use Rattle.std.proofs.lemmas.List.{map-append, take_more, drop_all}
 use Rattle.dlk_tree.specs.Trees.{Tree}
 use Rattle.dlk_calculus.specs.Arithmetic.{is_arithmetic_sequent}
 use Rattle.dlk_calculus.specs.Sequents.{IsSequent, Sequent as TreeSequent}
-use Rattle.dlk_calculus.specs.Provables.{Provable, IsAmong, Joins, no_more, there, added}
+use Rattle.dlk_calculus.specs.Provables.{Provable, IsAmong, AreNew, no_more, there, added}
 use Rattle.dlk_calculus.specs.Steps.{Leaf, Gives, leaf}
 use Rattle.dlk_sequent.specs.declared.sequent.Sequent.{Sequent}
 use Rattle.dlk_sequent.specs.Sequents.{sequent_at}
@@ -18,7 +18,18 @@ pub leaf_given : (trees : List Tree) (s : Sequent) (row : Row) → IsSequent (se
     (rows : List Provable) → Gives rows (Leaf (sequent_at trees s)) (provable_at trees row)
 leaf_given trees s row formulas arithmetic is rows = rw is (leaf (sequent_at trees s) formulas arithmetic)
 
--- the item of a list at which a loop stands, and those behind it
+-- one more behind the others, which is there already, or new
+there_last : (old more new : List TreeSequent) (s : TreeSequent) → IsAmong s old → AreNew old more new → AreNew old (more ++ s ∷ []) new
+there_last old [] _ s a no_more = there a no_more
+there_last old (t ∷ more) new s a (there b j) = there b (there_last old more new s a j)
+there_last old (t ∷ more) _ s a (added {new} n j) = added n (there_last old more new s a j)
+
+new_last : (old more new : List TreeSequent) (s : TreeSequent) → (¬ IsAmong s old) → AreNew old more new → AreNew old (more ++ s ∷ []) (new ++ s ∷ [])
+new_last old [] _ s a no_more = added a no_more
+new_last old (t ∷ more) new s a (there b j) = there b (new_last old more new s a j)
+new_last old (t ∷ more) _ s a (added {new} n j) = added n (new_last old more new s a j)
+
+-- the item of a list at which a loop stands, those before it and those behind it
 module _ (trees : List Tree) (all : List Sequent) (n : ℕ) (s : Sequent) (lt : n < length all) (item : s ≡ get_or all n s) where
   rest_is : map (sequent_at trees) (drop n all) ≡ sequent_at trees s ∷ map (sequent_at trees) (drop (n + 1) all)
   rest_is = rw (add-one, drop-cons all n s lt, ← item)
@@ -29,16 +40,26 @@ module _ (trees : List Tree) (all : List Sequent) (n : ℕ) (s : Sequent) (lt : 
   pub is_behind : (t : TreeSequent) → t ≢ sequent_at trees s → IsAmong t (map (sequent_at trees) (drop n all)) ↔ IsAmong t (map (sequent_at trees) (drop (n + 1) all))
   is_behind t other = rw rest_is ((λ a. elim a [ inl e ↦ absurd (other e) | inr b ↦ b ]), (λ b. inr b))
 
-  pub joins_there : (old end : List TreeSequent) → IsAmong (sequent_at trees s) old → Joins old (map (sequent_at trees) (drop (n + 1) all)) end → Joins old (map (sequent_at trees) (drop n all)) end
-  joins_there old end a j = rw rest_is (there a j)
+  front_is : map (sequent_at trees) (take (n + 1) all) ≡ map (sequent_at trees) (take n all) ++ sequent_at trees s ∷ []
+  front_is = rw (take_more all n s lt, ← item) (map-append (sequent_at trees) (take n all) (s ∷ []))
 
-  pub joins_added : (old : List Sequent) (end : List TreeSequent) → (¬ IsAmong (sequent_at trees s) (map (sequent_at trees) old)) →
-      Joins (map (sequent_at trees) (old ++ s ∷ [])) (map (sequent_at trees) (drop (n + 1) all)) end → Joins (map (sequent_at trees) old) (map (sequent_at trees) (drop n all)) end
-  joins_added old end a j = rw rest_is (added a (rw map-append at j))
+  -- it is there already, or it is new
+  pub one_there : (old new : List TreeSequent) → IsAmong (sequent_at trees s) old → AreNew old (map (sequent_at trees) (take n all)) new →
+      AreNew old (map (sequent_at trees) (take (n + 1) all)) new
+  one_there old new a j = rw front_is (there_last old (map (sequent_at trees) (take n all)) new (sequent_at trees s) a j)
+
+  pub one_new : (old new : List TreeSequent) → (¬ IsAmong (sequent_at trees s) old) → AreNew old (map (sequent_at trees) (take n all)) new →
+      AreNew old (map (sequent_at trees) (take (n + 1) all)) (new ++ sequent_at trees s ∷ [])
+  one_new old new a j = rw front_is (new_last old (map (sequent_at trees) (take n all)) new (sequent_at trees s) a j)
 
 -- no item is left
 pub none_left : (trees : List Tree) (all : List Sequent) (n : ℕ) (t : TreeSequent) → length all ≤ n → IsAmong t (map (sequent_at trees) (drop n all)) → ⊥
 none_left trees all n t h a = rw (drop_all n all h) at a
 
-pub joins_done : (trees : List Tree) (all : List Sequent) (n : ℕ) (old : List TreeSequent) → length all ≤ n → Joins old (map (sequent_at trees) (drop n all)) old
-joins_done trees all n old h = rw (drop_all n all h) no_more
+-- one that is new comes last
+pub all_pushed : (trees : List Tree) (old all : List Sequent) (new : List TreeSequent) (s : Sequent) →
+    map (sequent_at trees) all ≡ map (sequent_at trees) old ++ new →
+    map (sequent_at trees) (all ++ s ∷ []) ≡ map (sequent_at trees) old ++ (new ++ sequent_at trees s ∷ [])
+all_pushed trees old all new s e =
+    map-append (sequent_at trees) all (s ∷ []) ∙ ap (λ l. l ++ sequent_at trees s ∷ []) e
+    ∙ append_assoc (map (sequent_at trees) old) new (sequent_at trees s ∷ [])

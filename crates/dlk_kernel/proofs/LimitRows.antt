@@ -9,12 +9,14 @@ use Rattle.dlk_calculus.specs.Arithmetic.{is_arithmetic_sequent}
 use Rattle.dlk_calculus.specs.Sequents.{IsSequent, Sequent as TreeSequent}
 use Rattle.dlk_calculus.specs.Rules.{Rule, Premises}
 use Rattle.dlk_calculus.specs.Pairs.{Pair as TreePair}
-use Rattle.dlk_calculus.specs.Limits.{IsLimited, most_goals, most_leaves}
-use Rattle.dlk_calculus.specs.Provables.{Provable, started, assumed, applied, Joins, merged}
-use Rattle.dlk_calculus.specs.Steps.{Start, Leaf, Apply, Merge, Substitute, Gives, start, leaf, apply, merge, IsWithin, Fault}
+use Rattle.dlk_calculus.specs.Limits.{most_goals, most_leaves}
+use Rattle.dlk_calculus.specs.Limited.{IsLimited}
+use Rattle.dlk_calculus.specs.Provables.{Provable, started, assumed, applied, AreNew, merged}
+use Rattle.dlk_calculus.specs.Steps.{Start, Leaf, Apply, Merge, Substitute, Gives, start, leaf, apply, merge, goals_applied, IsWithin, Fault}
 use Rattle.std.specs.Prelude.{IsTrue}
 use Rattle.dlk_calculus.proofs.PlaceLaws.{At-map, At_All}
-use Rattle.dlk_calculus.proofs.StepLaws.{some_join}
+use Rattle.dlk_calculus.proofs.StepLaws.{some_new}
+use Rattle.dlk_calculus.proofs.LimitLaws.{apply_goals}
 use Rattle.dlk_sequent.specs.declared.sequent.Sequent.{Sequent}
 use Rattle.dlk_sequent.specs.Sequents.{sequent_at}
 use Rattle.dlk_kernel.specs.declared.row.Row.{Row}
@@ -37,7 +39,7 @@ module _ (trees : List Tree) (s : Sequent) (formulas : IsSequent (sequent_at tre
   pub start_within : AreWithin (map (sequent_at trees) made) → (row : Row) → row ≡ record { conclusion = s; goals = s ∷ []; leaves = [] } → IsWithin (Start (sequent_at trees s)) (provable_at trees row)
   start_within within row is =
       let t = sequent_at trees s in
-      rw is (all_within [] (Start t) (started t) (start t formulas) (t ∷ []) (start_tells t) (rw made_is at within) (λ e. e) (λ e. e))
+      rw is (all_within [] (Start t) (started t) (start t formulas) (t ∷ []) (start_tells t) (rw made_is at within) (λ e. elim e [ ]) (λ e. elim e [ ]))
 
 -- a leaf
 module _ (trees : List Tree) (s : Sequent) (formulas : IsSequent (sequent_at trees s)) (arithmetic : IsTrue (is_arithmetic_sequent (sequent_at trees s))) (made : List Sequent) (made_is : made ≡ s ∷ []) where
@@ -50,7 +52,7 @@ module _ (trees : List Tree) (s : Sequent) (formulas : IsSequent (sequent_at tre
   pub leaf_within : AreWithin (map (sequent_at trees) made) → (row : Row) → row ≡ record { conclusion = s; goals = []; leaves = s ∷ [] } → IsWithin (Leaf (sequent_at trees s)) (provable_at trees row)
   leaf_within within row is =
       let t = sequent_at trees s in
-      rw is (all_within [] (Leaf t) (assumed t) (leaf t formulas arithmetic) (t ∷ []) (leaf_tells t) (rw made_is at within) (λ e. e) (λ e. e))
+      rw is (all_within [] (Leaf t) (assumed t) (leaf t formulas arithmetic) (t ∷ []) (leaf_tells t) (rw made_is at within) (λ e. elim e [ ]) (λ e. elim e [ ]))
 
 -- as many items are put at a place, whatever they stand for
 put_all-length : {A B : Type 0} (f g : A → B) (items : List A) (place : ℕ) (new : List A) → length (put_all (map f items) place (map g new)) ≡ length (put_all items place new)
@@ -90,35 +92,49 @@ module _ (old : List Tree) (rows : List Row) (fact goal : ℕ) (rule : Rule) (ro
   module _ (within : AreWithin (map (sequent_at new) ps)) where
     pub apply_full : (goals : List Sequent) → goals ≡ put_all row.goals goal ps → most_goals < length goals → Fault (provables_at old rows) (Apply fact goal rule) GoalsFull
     apply_full goals is more =
+        let full : most_goals < length p.goals = rw (put_all-length (sequent_at old) (sequent_at new) row.goals goal ps, ← is) more in
         goals_fault (provables_at old rows) (Apply fact goal rule) p given (map (sequent_at new) ps) (apply_tells q fact_limited fact goal rule (map (sequent_at new) ps)) within
-        (rw (put_all-length (sequent_at old) (sequent_at new) row.goals goal ps, ← is) more)
+        (goals_applied full)
 
     pub apply_within : (r : Row) → provable_at new r ≡ p → (goals : List Sequent) → goals ≡ put_all row.goals goal ps → length goals ≤ most_goals → IsWithin (Apply fact goal rule) (provable_at new r)
     apply_within r stands goals is few =
         rw stands (all_within (provables_at old rows) (Apply fact goal rule) p given (map (sequent_at new) ps) (apply_tells q fact_limited fact goal rule (map (sequent_at new) ps)) within
-        (λ more. omega (arith, more, few, ap (λ (l : List Sequent). length l) is, put_all-length (sequent_at old) (sequent_at new) row.goals goal ps)) (λ e. e))
+        (λ e. omega (
+          arith,
+          apply_goals fact goal rule p e,
+          few,
+          ap (λ (l : List Sequent). length l) is,
+          put_all-length (sequent_at old) (sequent_at new) row.goals goal ps,
+        ))
+        (λ e. elim e [ ]))
 
 -- a merge
 module _ (trees : List Tree) (rows : List Row) (fact goal by : ℕ) (row proof : Row) (fact_there : at rows fact ≡ Some row) (by_there : at rows by ≡ Some proof)
     (s : Sequent) (goal_there : at row.goals goal ≡ Some s) (same : sequent_at trees s ≡ sequent_at trees proof.conclusion) (goals : List Sequent) (goals_are : goals ≡ put_all row.goals goal proof.goals) where
-  merge_gives : (all : List TreeSequent) → Joins (map (sequent_at trees) row.leaves) (map (sequent_at trees) proof.leaves) all → Gives (provables_at trees rows) (Merge fact goal by) (merged (provable_at trees row) goal (provable_at trees proof) all)
-  merge_gives all joined =
-      merge fact goal by (provable_at trees row) (provable_at trees proof) all (At-map (provable_at trees) rows fact row fact_there) (At-map (provable_at trees) rows by proof by_there)
-      (At-map (sequent_at trees) row.goals goal s goal_there ∙ ap Some same) joined
+  merge_gives : (new : List TreeSequent) → AreNew (map (sequent_at trees) row.leaves) (map (sequent_at trees) proof.leaves) new →
+      Gives (provables_at trees rows) (Merge fact goal by) (merged (provable_at trees row) goal (provable_at trees proof) new)
+  merge_gives new are_new =
+      merge fact goal by (provable_at trees row) (provable_at trees proof) new
+      (At-map (provable_at trees) rows fact row fact_there) (At-map (provable_at trees) rows by proof by_there)
+      (At-map (sequent_at trees) row.goals goal s goal_there ∙ ap Some same) are_new
 
   as_many : length (put_all (map (sequent_at trees) row.goals) goal (map (sequent_at trees) proof.goals)) ≡ length goals
   as_many = put_all-length (sequent_at trees) (sequent_at trees) row.goals goal proof.goals ∙ ap (λ (l : List Sequent). length l) (sym goals_are)
 
   pub merge_full : most_goals < length goals → Fault (provables_at trees rows) (Merge fact goal by) GoalsFull
   merge_full more =
-      let joined = some_join (map (sequent_at trees) row.leaves) (map (sequent_at trees) proof.leaves) in
-      merge_goals_fault (provables_at trees rows) fact goal by (merged (provable_at trees row) goal (provable_at trees proof) joined.0) (merge_gives joined.0 joined.1) (rw as_many more)
+      let new = some_new (map (sequent_at trees) row.leaves) (map (sequent_at trees) proof.leaves) in
+      merge_goals_fault fact goal by (merged (provable_at trees row) goal (provable_at trees proof) new.0) (provables_at trees rows)
+      (merge_gives new.0 new.1) (rw as_many more)
 
-  module _ (few : length goals ≤ most_goals) (leaves : List Sequent) (joined : Joins (map (sequent_at trees) row.leaves) (map (sequent_at trees) proof.leaves) (map (sequent_at trees) leaves)) where
+  module _ (few : length goals ≤ most_goals) (leaves : List Sequent) (new : List TreeSequent)
+      (are_new : AreNew (map (sequent_at trees) row.leaves) (map (sequent_at trees) proof.leaves) new)
+      (leaves_are : map (sequent_at trees) leaves ≡ map (sequent_at trees) row.leaves ++ new) where
     pub merge_leaves_full : most_leaves < length leaves → Fault (provables_at trees rows) (Merge fact goal by) LeavesFull
     merge_leaves_full more =
-        merge_leaves_fault (provables_at trees rows) fact goal by (merged (provable_at trees row) goal (provable_at trees proof) (map (sequent_at trees) leaves)) (merge_gives (map (sequent_at trees) leaves) joined)
-        (λ full. omega (arith, full, few, as_many)) (rw (length-map leaves (sequent_at trees)) more)
+        merge_leaves_fault fact goal by (merged (provable_at trees row) goal (provable_at trees proof) new)
+        (λ full. omega (arith, full, few, as_many)) (provables_at trees rows) (merge_gives new are_new)
+        (omega (arith, more, length-map leaves (sequent_at trees), ap (λ (l : List TreeSequent). length l) leaves_are))
 
     pub merge_row_within : length leaves ≤ most_leaves → (made : Row) → made ≡ record { conclusion = row.conclusion; goals = goals; leaves = leaves } → IsWithin (Merge fact goal by) (provable_at trees made)
     merge_row_within small made is =
@@ -128,12 +144,12 @@ module _ (trees : List Tree) (rows : List Row) (fact goal by : ℕ) (row proof :
 -- a substitution, whose pairs stand for the same over the store that has grown
 module _ (rows : List Provable) (fact : ℕ) (pairs now : List TreePair) (same : now ≡ pairs) (p : Provable) (given : Gives rows (Substitute fact pairs) p) where
   pub subst_big : is_substituted_within Nodes now p ≡ false → Fault rows (Substitute fact pairs) TooBig
-  subst_big n = big_fault rows fact pairs p given (fails (is_substituted_within Nodes pairs p) (substituted_decides Nodes fact pairs p) (rw same at n))
+  subst_big n = big_fault fact pairs p rows given (fails (is_substituted_within Nodes pairs p) (substituted_decides Nodes fact pairs p) (rw same at n))
 
   module _ (small : is_substituted_within Nodes now p ≡ true) where
     pub subst_deep : is_substituted_within Levels now p ≡ false → Fault rows (Substitute fact pairs) TooDeep
     subst_deep n =
-        deep_fault rows fact pairs p given ((substituted_decides Nodes fact pairs p).0 (rw same at small)) (fails (is_substituted_within Levels pairs p) (substituted_decides Levels fact pairs p) (rw same at n))
+        deep_fault fact pairs p ((substituted_decides Nodes fact pairs p).0 (rw same at small)) rows given (fails (is_substituted_within Levels pairs p) (substituted_decides Levels fact pairs p) (rw same at n))
 
     pub subst_within : is_substituted_within Levels now p ≡ true → IsWithin (Substitute fact pairs) p
     subst_within shallow = substitute_within fact pairs p ((substituted_decides Nodes fact pairs p).0 (rw same at small)) ((substituted_decides Levels fact pairs p).0 (rw same at shallow))

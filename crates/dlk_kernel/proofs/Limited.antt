@@ -1,17 +1,19 @@
 -- The limits of the steps that make sequents: the faults of what is past one, and what is within them all.
-use Rattle.std.proofs.Common.{ℕ, ◌<◌, ◌-◌, List, [], ◌∷◌, ◌++◌, length, take, drop, arith}
+use Rattle.std.proofs.Common.{ℕ, ◌<◌, ◌-◌, List, [], ◌∷◌, ◌++◌, length, take, drop}
 use Rattle.std.specs.List.{All}
-use Rattle.std.proofs.lemmas.List.Elements.{All-head, All-tail, All-cons, All-nil, All-append, All-take, All-drop, All-weaker}
+use Rattle.std.proofs.lemmas.List.Elements.{All-head, All-cons, All-nil, All-append, All-take, All-drop, All-weaker}
 use Rattle.dlk_calculus.specs.declared.reason.Reason.{Reason}
 use Rattle.dlk_calculus.specs.declared.reason.Reason.TheVariants.{TooBig, TooDeep, SideFull, GoalsFull, LeavesFull}
 use Rattle.dlk_calculus.specs.Places.{put_all}
 use Rattle.dlk_calculus.specs.Rules.{Rule}
 use Rattle.dlk_calculus.specs.Sequents.{Sequent}
 use Rattle.dlk_calculus.specs.Provables.{Provable, started, assumed, applied}
-use Rattle.dlk_calculus.specs.Limits.{most_goals, most_leaves, IsSmall, IsShallow, InSequent, HasFewFormulas, IsLimitedSequent, IsLimited}
+use Rattle.dlk_calculus.specs.Limits.{most_goals, most_leaves, IsSmall, IsShallow}
+use Rattle.dlk_calculus.specs.Limited.{InSequent, HasFewFormulas, IsLimitedSequent, IsLimited}
 use Rattle.dlk_calculus.specs.Pairs.{Pair}
-use Rattle.dlk_calculus.specs.Steps.{Step, Start, UseAxiom, UseRule, Leaf, Apply, Merge, Substitute, Rename, Gives, EachNew, Exceeds, IsWithin, Fault}
-use Rattle.dlk_calculus.proofs.LimitLaws.{limit_fault}
+use Rattle.dlk_calculus.specs.Steps.{Step, Start, UseAxiom, UseRule, Leaf, Apply, Merge, Substitute, Rename, Gives, EachNew, Exceeds, too_big, too_deep, start_full, leaf_full, side_full, goals_merged, leaves_merged, IsWithin, Fault}
+use Rattle.dlk_calculus.proofs.PlaceLaws.{All-front, All-behind}
+use Rattle.dlk_calculus.proofs.LimitLaws.{is_big, is_deep, start_side, leaf_side, apply_side, merge_goals, merge_leaves, limit_cases, first_big, first_deep, first_side, first_goals, first_leaves}
 use Rattle.dlk_kernel.specs.declared.fault.StepFault.{StepFault}
 use Rattle.dlk_kernel.specs.declared.fault.StepFault.TheVariants.{Refused, Memory}
 use Rattle.dlk_kernel.specs.Faults.{IsStepFault}
@@ -32,27 +34,24 @@ pub record Tells (step : Step) (p : Provable) (made : List Sequent) : Type 0 whe
   pub full : ¬ All HasFewFormulas made → Exceeds SideFull step p
 
 module _ (rows : List Provable) (step : Step) (p : Provable) (given : Gives rows step p) (made : List Sequent) (tells : Tells step p made) where
+  not_big : All (InSequent IsSmall) made → ¬ Exceeds TooBig step p
+  not_big small e = is_big step p e (tells.small small)
+
+  not_deep : All (InSequent IsShallow) made → ¬ Exceeds TooDeep step p
+  not_deep shallow e = is_deep step p e (tells.shallow shallow)
+
   pub past_fault : (why : Reason) → IsPast made why → Fault rows step why
-  past_fault TooBig n =
-      limit_fault rows step p given TooBig (omega arith) (λ e. n (tells.all_small e))
-      (elim [ TooBig ↦ λ lt. absurd (omega arith) | TooDeep ↦ λ lt. absurd (omega arith) | SideFull ↦ λ lt. absurd (omega arith) | GoalsFull ↦ λ lt. absurd (omega arith) | LeavesFull ↦ λ lt. absurd (omega arith) | _ ↦ λ lt e. e ])
-  past_fault TooDeep h =
-      limit_fault rows step p given TooDeep (omega arith) (λ e. h.1 (tells.all_shallow e))
-      (elim [ TooBig ↦ λ lt n. n (tells.small h.0) | TooDeep ↦ λ lt. absurd (omega arith) | SideFull ↦ λ lt. absurd (omega arith) | GoalsFull ↦ λ lt. absurd (omega arith) | LeavesFull ↦ λ lt. absurd (omega arith) | _ ↦ λ lt e. e ])
-  past_fault SideFull h =
-      limit_fault rows step p given SideFull (omega arith) (tells.full h.2)
-      (elim [ TooBig ↦ λ lt n. n (tells.small h.0) | TooDeep ↦ λ lt n. n (tells.shallow h.1) | SideFull ↦ λ lt. absurd (omega arith) | GoalsFull ↦ λ lt. absurd (omega arith) | LeavesFull ↦ λ lt. absurd (omega arith) | _ ↦ λ lt e. e ])
+  past_fault TooBig n = first_big rows step p given (too_big (λ e. n (tells.all_small e)))
+  past_fault TooDeep h = first_deep rows step p given (not_big h.0) (too_deep (λ e. h.1 (tells.all_shallow e)))
+  past_fault SideFull h = first_side rows step p given (not_big h.0) (not_deep h.1) (tells.full h.2)
   past_fault _ h = absurd h
 
   module _ (within : AreWithin made) where
     pub goals_fault : Exceeds GoalsFull step p → Fault rows step GoalsFull
-    goals_fault t =
-        limit_fault rows step p given GoalsFull (omega arith) t
-        (elim [ TooBig ↦ λ lt n. n (tells.small within.small) | TooDeep ↦ λ lt n. n (tells.shallow within.shallow) | SideFull ↦ λ lt. tells.few within.few | GoalsFull ↦ λ lt. absurd (omega arith) | LeavesFull ↦ λ lt. absurd (omega arith) | _ ↦ λ lt e. e ])
+    goals_fault t = first_goals rows step p given (not_big within.small) (not_deep within.shallow) (tells.few within.few) t
 
     pub all_within : ¬ Exceeds GoalsFull step p → ¬ Exceeds LeavesFull step p → IsWithin step p
-    all_within goals leaves =
-        elim [ TooBig ↦ λ n. n (tells.small within.small) | TooDeep ↦ λ n. n (tells.shallow within.shallow) | SideFull ↦ tells.few within.few | GoalsFull ↦ goals | LeavesFull ↦ leaves | _ ↦ λ e. e ]
+    all_within goals leaves = limit_cases step p (λ w. ⊥) (not_big within.small) (not_deep within.shallow) (tells.few within.few) goals leaves
 
 one : {A : Type 0} (P : A → Type 0) (x : A) → P x → All P (x ∷ [])
 one P x h = All-cons P x [] h (All-nil P)
@@ -64,8 +63,8 @@ start_tells s = record {
   all_small = λ e. e.goals;
   shallow = λ h. record { conclusion = All-head (InSequent IsShallow) s [] h; goals = h };
   all_shallow = λ e. e.goals;
-  few = λ h n. n (All-head HasFewFormulas s [] h);
-  full = λ n h. n (one HasFewFormulas s h);
+  few = λ h e. start_side s (started s) e (All-head HasFewFormulas s [] h);
+  full = λ n. start_full (λ h. n (one HasFewFormulas s h));
 }
 
 pub leaf_tells : (s : Sequent) → Tells (Leaf s) (assumed s) (s ∷ [])
@@ -74,35 +73,33 @@ leaf_tells s = record {
   all_small = λ e. one (InSequent IsSmall) s e.conclusion;
   shallow = λ h. record { conclusion = All-head (InSequent IsShallow) s [] h; goals = All-nil (InSequent IsShallow) };
   all_shallow = λ e. one (InSequent IsShallow) s e.conclusion;
-  few = λ h n. n (All-head HasFewFormulas s [] h);
-  full = λ n h. n (one HasFewFormulas s h);
+  few = λ h e. leaf_side s (assumed s) e (All-head HasFewFormulas s [] h);
+  full = λ n. leaf_full (λ h. n (one HasFewFormulas s h));
 }
 
 -- an axiom, an axiomatic rule and a renaming are past no limit
 pub axiom_within : (name : List ℕ) (p : Provable) → IsWithin (UseAxiom name) p
-axiom_within name p = elim [ TooBig ↦ λ n. n tt | TooDeep ↦ λ n. n tt | _ ↦ λ e. e ]
+axiom_within name p =
+    let step = UseAxiom name in
+    limit_cases step p (λ w. ⊥) (λ e. is_big step p e tt) (λ e. is_deep step p e tt) (λ e. elim e [ ]) (λ e. elim e [ ]) (λ e. elim e [ ])
 
 pub rule_within : (name : List ℕ) (p : Provable) → IsWithin (UseRule name) p
-rule_within name p = elim [ TooBig ↦ λ n. n tt | TooDeep ↦ λ n. n tt | _ ↦ λ e. e ]
+rule_within name p =
+    let step = UseRule name in
+    limit_cases step p (λ w. ⊥) (λ e. is_big step p e tt) (λ e. is_deep step p e tt) (λ e. elim e [ ]) (λ e. elim e [ ]) (λ e. elim e [ ])
 
 pub rename_within : (fact : ℕ) (x y : List ℕ) (p : Provable) → IsWithin (Rename fact x y) p
-rename_within fact x y p = elim [ TooBig ↦ λ n. n tt | TooDeep ↦ λ n. n tt | _ ↦ λ e. e ]
+rename_within fact x y p =
+    let step = Rename fact x y in
+    limit_cases step p (λ w. ⊥) (λ e. is_big step p e tt) (λ e. is_deep step p e tt) (λ e. elim e [ ]) (λ e. elim e [ ]) (λ e. elim e [ ])
 
 -- premises in the place of a goal: what all other goals have, all goals have where the premises do, and back
-behind : {A : Type 0} (P : A → Type 0) (xs ys : List A) → All P (xs ++ ys) → All P ys
-behind P [] ys h = h
-behind P (x ∷ xs) ys h = behind P xs ys (All-tail P x (xs ++ ys) h)
-
-before : {A : Type 0} (P : A → Type 0) (xs ys : List A) → All P (xs ++ ys) → All P xs
-before P [] ys h = All-nil P
-before P (x ∷ xs) ys h = All-cons P x xs (All-head P x (xs ++ ys) h) (before P xs ys (All-tail P x (xs ++ ys) h))
-
 module _ (goal : ℕ) (goals premises : List Sequent) (P : Sequent → Type 0) where
   placed : All P goals → All P premises → All P (put_all goals goal premises)
   placed h k = All-append P _ _ (All-append P _ _ (All-take P (goal - 1) goals h) k) (All-drop P goal goals h)
 
   taken : All P (put_all goals goal premises) → All P premises
-  taken h = behind P (take (goal - 1) goals) premises (before P (take (goal - 1) goals ++ premises) (drop goal goals) h)
+  taken h = All-behind P (take (goal - 1) goals) premises (All-front P (take (goal - 1) goals ++ premises) (drop goal goals) h)
 
 pub apply_tells : (q : Provable) → IsLimited q → (fact goal : ℕ) (rule : Rule) (premises : List Sequent) → Tells (Apply fact goal rule) (applied q goal premises) premises
 apply_tells q limited fact goal rule premises = record {
@@ -110,36 +107,48 @@ apply_tells q limited fact goal rule premises = record {
   all_small = λ e. taken goal q.goals premises (InSequent IsSmall) e.goals;
   shallow = λ h. record { conclusion = limited.conclusion.shallow; goals = placed goal q.goals premises (InSequent IsShallow) (All-weaker IsLimitedSequent (InSequent IsShallow) (λ s l. l.shallow) q.goals limited.goals) h };
   all_shallow = λ e. taken goal q.goals premises (InSequent IsShallow) e.goals;
-  few = λ h n. n (placed goal q.goals premises HasFewFormulas (All-weaker IsLimitedSequent HasFewFormulas (λ s l. l.few) q.goals limited.goals) h);
-  full = λ n h. n (taken goal q.goals premises HasFewFormulas h);
+  few = λ h e. apply_side fact goal rule (applied q goal premises) e (placed goal q.goals premises HasFewFormulas (All-weaker IsLimitedSequent HasFewFormulas (λ s l. l.few) q.goals limited.goals) h);
+  full = λ n. side_full (λ h. n (taken goal q.goals premises HasFewFormulas h));
 }
 
 -- a merge makes no sequent
-module _ (rows : List Provable) (fact goal by : ℕ) (p : Provable) (given : Gives rows (Merge fact goal by) p) where
-  pub merge_goals_fault : most_goals < length p.goals → Fault rows (Merge fact goal by) GoalsFull
-  merge_goals_fault t =
-      limit_fault rows (Merge fact goal by) p given GoalsFull (omega arith) t
-      (elim [ TooBig ↦ λ lt n. n tt | TooDeep ↦ λ lt n. n tt | SideFull ↦ λ lt e. e | GoalsFull ↦ λ lt. absurd (omega arith) | LeavesFull ↦ λ lt. absurd (omega arith) | _ ↦ λ lt e. e ])
+module _ (fact goal by : ℕ) (p : Provable) where
+  abbrev merging : Step
+  merging = Merge fact goal by
 
-  pub merge_leaves_fault : ¬ (most_goals < length p.goals) → most_leaves < length p.leaves → Fault rows (Merge fact goal by) LeavesFull
-  merge_leaves_fault goals t =
-      limit_fault rows (Merge fact goal by) p given LeavesFull (omega arith) t
-      (elim [ TooBig ↦ λ lt n. n tt | TooDeep ↦ λ lt n. n tt | SideFull ↦ λ lt e. e | GoalsFull ↦ λ lt. goals | LeavesFull ↦ λ lt. absurd (omega arith) | _ ↦ λ lt e. e ])
+  none_big : ¬ Exceeds TooBig merging p
+  none_big e = is_big merging p e tt
 
-pub merge_within : (fact goal by : ℕ) (p : Provable) → ¬ (most_goals < length p.goals) → ¬ (most_leaves < length p.leaves) → IsWithin (Merge fact goal by) p
-merge_within fact goal by p goals leaves = elim [ TooBig ↦ λ n. n tt | TooDeep ↦ λ n. n tt | SideFull ↦ λ e. e | GoalsFull ↦ goals | LeavesFull ↦ leaves | _ ↦ λ e. e ]
+  none_deep : ¬ Exceeds TooDeep merging p
+  none_deep e = is_deep merging p e tt
+
+  no_side : ¬ Exceeds SideFull merging p
+  no_side e = elim e [ ]
+
+  pub merge_goals_fault : (rows : List Provable) → Gives rows merging p → most_goals < length p.goals → Fault rows merging GoalsFull
+  merge_goals_fault rows given t = first_goals rows merging p given none_big none_deep no_side (goals_merged t)
+
+  module _ (goals : ¬ (most_goals < length p.goals)) where
+    pub merge_leaves_fault : (rows : List Provable) → Gives rows merging p → most_leaves < length p.leaves → Fault rows merging LeavesFull
+    merge_leaves_fault rows given t = first_leaves rows merging p given none_big none_deep no_side (λ e. goals (merge_goals fact goal by p e)) (leaves_merged t)
+
+    pub merge_within : ¬ (most_leaves < length p.leaves) → IsWithin merging p
+    merge_within leaves =
+        limit_cases merging p (λ w. ⊥) none_big none_deep no_side (λ e. goals (merge_goals fact goal by p e)) (λ e. leaves (merge_leaves fact goal by p e))
 
 -- a substitution
-module _ (rows : List Provable) (fact : ℕ) (pairs : List Pair) (p : Provable) (given : Gives rows (Substitute fact pairs) p) where
-  pub big_fault : ¬ EachNew IsSmall (Substitute fact pairs) p → Fault rows (Substitute fact pairs) TooBig
-  big_fault t =
-      limit_fault rows (Substitute fact pairs) p given TooBig (omega arith) t
-      (elim [ TooBig ↦ λ lt. absurd (omega arith) | TooDeep ↦ λ lt. absurd (omega arith) | SideFull ↦ λ lt. absurd (omega arith) | GoalsFull ↦ λ lt. absurd (omega arith) | LeavesFull ↦ λ lt. absurd (omega arith) | _ ↦ λ lt e. e ])
+module _ (fact : ℕ) (pairs : List Pair) (p : Provable) where
+  abbrev substitution : Step
+  substitution = Substitute fact pairs
 
-  pub deep_fault : EachNew IsSmall (Substitute fact pairs) p → ¬ EachNew IsShallow (Substitute fact pairs) p → Fault rows (Substitute fact pairs) TooDeep
-  deep_fault small t =
-      limit_fault rows (Substitute fact pairs) p given TooDeep (omega arith) t
-      (elim [ TooBig ↦ λ lt n. n small | TooDeep ↦ λ lt. absurd (omega arith) | SideFull ↦ λ lt. absurd (omega arith) | GoalsFull ↦ λ lt. absurd (omega arith) | LeavesFull ↦ λ lt. absurd (omega arith) | _ ↦ λ lt e. e ])
+  pub big_fault : (rows : List Provable) → Gives rows substitution p → ¬ EachNew IsSmall substitution p → Fault rows substitution TooBig
+  big_fault rows given t = first_big rows substitution p given (too_big t)
 
-pub substitute_within : (fact : ℕ) (pairs : List Pair) (p : Provable) → EachNew IsSmall (Substitute fact pairs) p → EachNew IsShallow (Substitute fact pairs) p → IsWithin (Substitute fact pairs) p
-substitute_within fact pairs p small shallow = elim [ TooBig ↦ λ n. n small | TooDeep ↦ λ n. n shallow | _ ↦ λ e. e ]
+  module _ (small : EachNew IsSmall substitution p) where
+    pub deep_fault : (rows : List Provable) → Gives rows substitution p → ¬ EachNew IsShallow substitution p → Fault rows substitution TooDeep
+    deep_fault rows given t = first_deep rows substitution p given (λ e. is_big substitution p e small) (too_deep t)
+
+    pub substitute_within : EachNew IsShallow substitution p → IsWithin substitution p
+    substitute_within shallow =
+        limit_cases substitution p (λ w. ⊥) (λ e. is_big substitution p e small) (λ e. is_deep substitution p e shallow)
+        (λ e. elim e [ ]) (λ e. elim e [ ]) (λ e. elim e [ ])

@@ -9,7 +9,8 @@ use Rattle.dlk_calculus.specs.Pairs.{Pair}
 use Rattle.dlk_calculus.specs.Sequents.{Sequent}
 use Rattle.dlk_calculus.specs.Provables.{Provable}
 use Rattle.dlk_calculus.specs.Steps.{EachNew, Substitute}
-use Rattle.dlk_calculus.specs.Limits.{most_nodes, greatest_depth, most_formulas, IsSmall, IsShallow, InSequent, HasFewFormulas}
+use Rattle.dlk_calculus.specs.Limits.{most_nodes, greatest_depth, most_formulas, IsSmall, IsShallow}
+use Rattle.dlk_calculus.specs.Limited.{InSequent, HasFewFormulas}
 use Rattle.dlk_kernel.specs.declared.limits.Measure.{Measure}
 use Rattle.dlk_kernel.specs.declared.limits.Measure.TheVariants.{Nodes, Levels}
 use Rattle.dlk_kernel.specs.Limits.{is_within, is_sequent_within, is_substituted_within, has_few, AreWithin, IsPast}

@@ -1,15 +1,17 @@
 -- Two names exchanged in sequents and rows, one after another, over a store that grows.
 use Rattle.std.proofs.Common.{◌≡◌, ℕ, ◌+◌, ◌<◌, List, [], ◌∷◌, ◌++◌, length, map, take, get_or, refl, ap, ◌∙◌, Some, arith}
+use Rattle.std.specs.Prelude.{IsTrue}
 use Rattle.std.specs.List.{All}
 use Rattle.std.proofs.lemmas.List.{take_more, map-append}
 use Rattle.std.proofs.lemmas.List.Elements.{All-push, All-weaker}
+use Rattle.dlk_tree.specs.Names.{is_name}
 use Rattle.dlk_tree.specs.Trees.{Tree}
 use Rattle.dlk_store.specs.declared.Id.{Id}
 use Rattle.dlk_store.specs.Stores.{IsId, tree, Keeps, StandsFor}
 use Rattle.dlk_calculus.specs.Rename.{swap}
 use Rattle.dlk_calculus.specs.Places.{at}
 use Rattle.dlk_calculus.specs.Provables.{swap_sequent, renamed}
-use Rattle.dlk_calculus.specs.Steps.{Rename, Gives, AreNames, rename}
+use Rattle.dlk_calculus.specs.Steps.{Rename, Gives, rename}
 use Rattle.dlk_calculus.proofs.PlaceLaws.{At-map}
 use Rattle.dlk_sequent.specs.declared.sequent.Sequent.{Sequent}
 use Rattle.dlk_sequent.specs.Sequents.{sequent_at, IsKnown}
@@ -57,16 +59,17 @@ module _ (old now next : List Tree) (first : Keeps old now) (then : Keeps now ne
   abbrev both : Keeps old next
   both = record { known = omega (arith, first.known, then.known); same = λ id h. then.same id (IsId-kept first id h) ∙ first.same id h }
 
-  pub renamed_given : (made : Row) → AreNames x y → sequent_at now made.conclusion ≡ swap_sequent x y (sequent_at old row.conclusion) → IsKnown now made.conclusion →
+  pub renamed_given : (made : Row) → IsTrue (is_name x) → IsTrue (is_name y) →
+      sequent_at now made.conclusion ≡ swap_sequent x y (sequent_at old row.conclusion) → IsKnown now made.conclusion →
       map (sequent_at next) made.goals ≡ map (swap_sequent x y) (map (sequent_at now) row.goals) → made.leaves ≡ row.leaves →
       Gives (provables_at old rows) (Rename fact x y) (provable_at next made)
-  renamed_given made names conclusion at_now goals leaves =
+  renamed_given made first_name second_name conclusion at_now goals leaves =
       let same : provable_at next made ≡ renamed x y (provable_at old row) =
       let c = sequent-kept then made.conclusion at_now ∙ conclusion in
       let g = goals ∙ ap (map (swap_sequent x y)) (sequents-kept first row.goals known.goals) in
       let l = ap (map (sequent_at next)) leaves ∙ sequents-kept both row.leaves known.leaves in
       (λ i. record { conclusion = c i; goals = g i; leaves = l i }) in
-      rw same (rename fact x y (provable_at old row) (At-map (provable_at old) rows fact row there) names)
+      rw same (rename fact x y (provable_at old row) (At-map (provable_at old) rows fact row there) first_name second_name)
 
   pub renamed_known : (made : Row) → IsKnown now made.conclusion → All (IsKnown next) made.goals → made.leaves ≡ row.leaves → IsKnownRow next made
   renamed_known made conclusion goals leaves = record {

@@ -8,13 +8,13 @@ use Rattle.std.proofs.lemmas.List.Elements.{All-append, All-take, All-drop}
 use Rattle.dlk_tree.specs.Trees.{Tree}
 use Rattle.dlk_store.specs.Stores.{Keeps}
 use Rattle.dlk_calculus.specs.declared.reason.Reason.TheVariants.{NoGoal, NoPlace, WrongShape, NotEqual, NotFresh}
-use Rattle.dlk_calculus.specs.Places.{at, put_all}
+use Rattle.dlk_calculus.specs.Places.{at, IsPlace, put_all}
 use Rattle.dlk_calculus.specs.Sequents.{IsSequent}
 use Rattle.dlk_calculus.specs.Rules.{Rule, Premises, FirstAgainst}
 use Rattle.dlk_calculus.specs.Provables.{Provable, HasFormulas, applied}
 use Rattle.dlk_calculus.specs.Steps.{Step, Start, Apply, Gives, start, apply, IsGoal, Fault}
 use Rattle.dlk_calculus.proofs.PlaceLaws.{at-map, At-map, At_All, at_none}
-use Rattle.dlk_calculus.proofs.StepLaws.{no_goal, rule_fault}
+use Rattle.dlk_calculus.proofs.StepLaws.{first_no_goal_to_apply, first_against_rule}
 use Rattle.dlk_sequent.specs.declared.sequent.Sequent.{Sequent}
 use Rattle.dlk_sequent.specs.Sequents.{sequent_at, IsKnown}
 use Rattle.dlk_sequent.proofs.Kept.{sequent-kept, sequents-kept}
@@ -53,10 +53,15 @@ goal_formulas trees rows fact goal row s h there goal_there =
     let p = At_All HasFormulas (provables_at trees rows) fact (provable_at trees row) h (At-map (provable_at trees) rows fact row there) in
     At_All IsSequent (map (sequent_at trees) row.goals) goal (sequent_at trees s) p.goals (At-map (sequent_at trees) row.goals goal s goal_there)
 
+-- where there is no row, there is no fact
+pub no_such_fact : (trees : List Tree) (rows : List Row) (fact : ℕ) → at rows fact ≡ None → ¬ IsPlace (provables_at trees rows) fact
+no_such_fact trees rows fact none =
+    at_none (map (provable_at trees) rows) fact (at-map (provable_at trees) rows fact ∙ ap (option_map (provable_at trees)) none)
+
 -- a fact that is there has no such goal
 pub goal_not_there : (trees : List Tree) (rows : List Row) (fact goal : ℕ) (rule : Rule) (row : Row) → at rows fact ≡ Some row → at row.goals goal ≡ None → Fault (provables_at trees rows) (Apply fact goal rule) NoGoal
 goal_not_there trees rows fact goal rule row there none =
-    no_goal (provables_at trees rows) fact goal rule (provable_at trees row) (At-map (provable_at trees) rows fact row there)
+    first_no_goal_to_apply (provables_at trees rows) fact goal rule (provable_at trees row) (At-map (provable_at trees) rows fact row there)
     (at_none (map (sequent_at trees) row.goals) goal (at-map (sequent_at trees) row.goals goal ∙ ap (option_map (sequent_at trees)) none))
 
 -- a rule on a goal that is there
@@ -65,10 +70,10 @@ module _ (old : List Tree) (rows : List Row) (fact goal : ℕ) (rule : Rule) (ro
   is_goal = (provable_at old row, At-map (provable_at old) rows fact row there, At-map (sequent_at old) row.goals goal s goal_there)
 
   pub rule_refused : (why : RuleFault) → IsRuleFault (FirstAgainst rule (sequent_at old s)) why → IsStepFault (Fault (provables_at old rows) (Apply fact goal rule)) (fault_of why)
-  rule_refused rule_fault_of.NoPlace f = rule_fault (provables_at old rows) fact goal rule (sequent_at old s) is_goal NoPlace f
-  rule_refused rule_fault_of.WrongShape f = rule_fault (provables_at old rows) fact goal rule (sequent_at old s) is_goal WrongShape f
-  rule_refused rule_fault_of.NotEqual f = rule_fault (provables_at old rows) fact goal rule (sequent_at old s) is_goal NotEqual f
-  rule_refused rule_fault_of.NotFresh f = rule_fault (provables_at old rows) fact goal rule (sequent_at old s) is_goal NotFresh f
+  rule_refused rule_fault_of.NoPlace f = first_against_rule (provables_at old rows) fact goal rule (sequent_at old s) is_goal NoPlace f
+  rule_refused rule_fault_of.WrongShape f = first_against_rule (provables_at old rows) fact goal rule (sequent_at old s) is_goal WrongShape f
+  rule_refused rule_fault_of.NotEqual f = first_against_rule (provables_at old rows) fact goal rule (sequent_at old s) is_goal NotEqual f
+  rule_refused rule_fault_of.NotFresh f = first_against_rule (provables_at old rows) fact goal rule (sequent_at old s) is_goal NotFresh f
   rule_refused rule_fault_of.Memory f = tt
 
   -- the row with the premises in the goal's place, over a store that has grown

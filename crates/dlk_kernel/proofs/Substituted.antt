@@ -12,23 +12,26 @@ use Rattle.dlk_store.proofs.Kids.{Keeps-trans}
 use Rattle.dlk_calculus.specs.declared.reason.Reason.TheVariants.{FreeInSubst}
 use Rattle.dlk_calculus.specs.declared.reason.Reason.TheVariants as reason
 use Rattle.dlk_calculus.specs.Places.{at, At}
-use Rattle.dlk_calculus.specs.Pairs.{Pair as TreePair, AreMade, IsFreeIn}
+use Rattle.dlk_calculus.specs.Pairs.{Pair as TreePair, AreWellMade, IsFreeIn, IsWellFormed}
 use Rattle.dlk_calculus.specs.Subst.{Subst}
 use Rattle.dlk_calculus.specs.Sequents.{Sequent as TreeSequent}
 use Rattle.dlk_calculus.specs.Provables.{Provable, SubstEach, SubstSequent, SubstSequents, Substitutes, HasGoal}
 use Rattle.dlk_calculus.specs.Steps.{Substitute, Gives, substitute, Fault}
 use Rattle.dlk_calculus.proofs.PlaceLaws.{At-map}
-use Rattle.dlk_calculus.proofs.StepLaws.{free_with_goal, nothing_made}
+use Rattle.dlk_calculus.proofs.StepLaws.{first_ill_pairs, first_free_over_goals, first_not_admissible}
 use Rattle.dlk_sequent.specs.declared.sequent.Sequent.{Sequent}
 use Rattle.dlk_sequent.specs.declared.subst.Pair.{Pair}
 use Rattle.dlk_sequent.specs.Sequents.{sequent_at, IsKnown}
 use Rattle.dlk_sequent.specs.Substitutions.{Checked, pair_at, pairs_at, AreKnownPairs, IsMadeOver}
 use Rattle.dlk_sequent.proofs.Kept.{IsKnown-kept, trees-kept, sequent-kept, sequents-kept}
 use Rattle.dlk_sequent.proofs.KeptPairs.{pairs_at-kept}
-use Rattle.dlk_subst.specs.declared.fault.ApplyFault.{ApplyFault}
-use Rattle.dlk_subst.specs.declared.fault.ApplyFault.TheVariants.{NotAdmissible, Memory}
+use Rattle.dlk_sequent.specs.declared.fault.ApplyFault.{ApplyFault}
+use Rattle.dlk_sequent.specs.declared.fault.ApplyFault.TheVariants.{NotAdmissible, Memory}
 use Rattle.dlk_subst.specs.Results.{IsResult, HasNone}
 use Rattle.dlk_kernel.specs.declared.row.Row.{Row}
+use Rattle.dlk_kernel.specs.declared.fault.StepFault.{StepFault}
+use Rattle.dlk_kernel.specs.declared.fault.StepFault.TheVariants.{Refused}
+use Rattle.dlk_kernel.specs.declared.fault.StepFault.TheVariants as fault
 use Rattle.dlk_kernel.specs.Faults.{IsStepFault, apply_fault_of}
 use Rattle.dlk_kernel.specs.Kernel.{provable_at, provables_at, IsKnownRow}
 
@@ -144,7 +147,7 @@ whole_known old now next first then row made known conclusion goals leaves = rec
 }
 
 -- what replaces a symbol is well made
-pub are_made : (trees : List Tree) (pairs : List Pair) → All WellMade trees → AreKnownPairs trees pairs → AreMade (pairs_at trees pairs)
+pub are_made : (trees : List Tree) (pairs : List Pair) → All WellMade trees → AreKnownPairs trees pairs → AreWellMade (pairs_at trees pairs)
 are_made trees pairs made known = All-map (λ (p : TreePair). WellMade p.by) (pair_at trees) pairs (λ i d h. made (get_or pairs i d).by.0 (node True no_kids) (known i d h))
 
 pub not_true : (b : Bool) → b ≡ false → IsTrue b → ⊥
@@ -159,6 +162,14 @@ more_than_none : (trees : List Tree) (goals : List Sequent) → HasGoal (map (se
 more_than_none trees [] h = absurd h
 more_than_none trees (s ∷ goals) h = omega arith
 
+-- pairs that aren't well formed
+pub ill_refused : (trees : List Tree) (rows : List Row) (fact : ℕ) (row : Row) (pairs : List TreePair) → at rows fact ≡ Some row → (fault : StepFault) →
+    IsStepFault (λ why. (why ≡ reason.IllSubst) × (¬ IsWellFormed pairs)) fault → IsStepFault (Fault (provables_at trees rows) (Substitute fact pairs)) fault
+ill_refused trees rows fact row pairs there (Refused why) ill =
+    subst (Fault (provables_at trees rows) (Substitute fact pairs)) (sym ill.0)
+    (first_ill_pairs (provables_at trees rows) fact pairs (provable_at trees row) (At-map (provable_at trees) rows fact row there) ill.1)
+ill_refused trees rows fact row pairs there fault.Memory ill = tt
+
 -- a substitution of these pairs, on a fact that is there
 module _ (old : List Tree) (well_made : All WellMade old) (rows : List Row) (fact : ℕ) (row : Row) (there : at rows fact ≡ Some row)
     (pairs : List Pair) (sigma : Checked) (same : sigma.pairs ≡ pairs) (over : IsMadeOver old sigma) where
@@ -168,17 +179,18 @@ module _ (old : List Tree) (well_made : All WellMade old) (rows : List Row) (fac
   abbrev is_fact : At (provables_at old rows) fact p
   is_fact = At-map (provable_at old) rows fact row there
 
-  abbrev made : AreMade (pairs_at old sigma.pairs)
+  abbrev made : AreWellMade (pairs_at old sigma.pairs)
   made = are_made old sigma.pairs well_made over.known
 
-  pub free_refused : IsTrue sigma.free → 0 < length row.goals → Fault (provables_at old rows) (Substitute fact (pairs_at old pairs)) FreeInSubst
+  pub free_refused : IsFreeIn (pairs_at old sigma.pairs) → 0 < length row.goals →
+      Fault (provables_at old rows) (Substitute fact (pairs_at old pairs)) FreeInSubst
   free_refused free more =
       subst (λ (ps : List Pair). Fault (provables_at old rows) (Substitute fact (pairs_at old ps)) FreeInSubst) same
-      (free_with_goal (provables_at old rows) fact (pairs_at old sigma.pairs) p is_fact made over.well_formed (some_goal old row.goals more) (over.free.0 free))
+      (first_free_over_goals (provables_at old rows) fact (pairs_at old sigma.pairs) p is_fact over.well_formed (some_goal old row.goals more) free)
 
-  module _ (allowed : IsTrue sigma.free × (0 < length row.goals) → ⊥) where
+  module _ (allowed : IsFreeIn (pairs_at old sigma.pairs) × (0 < length row.goals) → ⊥) where
     abbrev none_free : HasGoal p.goals → IsFreeIn (pairs_at old sigma.pairs) → ⊥
-    none_free goal free = allowed (over.free.1 free, more_than_none old row.goals goal)
+    none_free goal free = allowed (free, more_than_none old row.goals goal)
 
     pub substituted_given : (q : Provable) → Substitutes (pairs_at old sigma.pairs) p q → Gives (provables_at old rows) (Substitute fact (pairs_at old pairs)) q
     substituted_given q is =
@@ -189,5 +201,5 @@ module _ (old : List Tree) (well_made : All WellMade old) (rows : List Row) (fac
         IsStepFault (Fault (provables_at old rows) (Substitute fact (pairs_at old pairs))) (apply_fault_of f)
     none_refused result NotAdmissible is none =
         subst (λ (ps : List Pair). Fault (provables_at old rows) (Substitute fact (pairs_at old ps)) reason.NotAdmissible) same
-        (nothing_made (provables_at old rows) fact (pairs_at old sigma.pairs) p is_fact made over.well_formed none_free (none is))
+        (first_not_admissible (provables_at old rows) fact (pairs_at old sigma.pairs) p is_fact over.well_formed none_free (none is))
     none_refused result Memory is none = tt

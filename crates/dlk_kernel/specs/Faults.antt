@@ -3,8 +3,8 @@ use Rattle.dlk_calculus.specs.declared.reason.Reason.{Reason}
 use Rattle.dlk_calculus.specs.declared.reason.Reason.TheVariants.{NoPlace, WrongShape, NotEqual, NotFresh, NotAdmissible}
 use Rattle.dlk_rules.specs.declared.rule.RuleFault.{RuleFault}
 use Rattle.dlk_rules.specs.declared.rule.RuleFault.TheVariants as rule_fault
-use Rattle.dlk_subst.specs.declared.fault.ApplyFault.{ApplyFault}
-use Rattle.dlk_subst.specs.declared.fault.ApplyFault.TheVariants as apply_fault
+use Rattle.dlk_sequent.specs.declared.fault.ApplyFault.{ApplyFault}
+use Rattle.dlk_sequent.specs.declared.fault.ApplyFault.TheVariants as apply_fault
 use Rattle.dlk_kernel.specs.declared.fault.StepFault.{StepFault}
 use Rattle.dlk_kernel.specs.declared.fault.StepFault.TheVariants.{Refused, Memory}
 

@@ -2,7 +2,8 @@
 use Rattle.std.specs.Prelude.{◌≡◌, ◌≤◌, List, map, take, length, All}
 use Rattle.dlk_tree.specs.Trees.{Tree}
 use Rattle.dlk_calculus.specs.Provables.{Provable}
-use Rattle.dlk_calculus.specs.Limits.{IsLimited, most_rows}
+use Rattle.dlk_calculus.specs.Limits.{most_rows}
+use Rattle.dlk_calculus.specs.Limited.{IsLimited}
 use Rattle.dlk_calculus.specs.Steps.{History}
 use Rattle.dlk_sequent.specs.Sequents.{sequent_at, IsKnown}
 use Rattle.dlk_kernel.specs.declared.row.Row.{Row}

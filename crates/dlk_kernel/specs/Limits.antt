@@ -7,7 +7,8 @@ use Rattle.dlk_calculus.specs.declared.reason.Reason.TheVariants.{TooBig, TooDee
 use Rattle.dlk_calculus.specs.Sequents.{Sequent}
 use Rattle.dlk_calculus.specs.Provables.{Provable}
 use Rattle.dlk_calculus.specs.Pairs.{Pair}
-use Rattle.dlk_calculus.specs.Limits.{most_nodes, greatest_depth, most_formulas, IsSmall, IsShallow, InSequent, HasFewFormulas}
+use Rattle.dlk_calculus.specs.Limits.{most_nodes, greatest_depth, most_formulas, IsSmall, IsShallow}
+use Rattle.dlk_calculus.specs.Limited.{InSequent, HasFewFormulas}
 use Rattle.dlk_kernel.specs.declared.limits.Measure.{Measure}
 use Rattle.dlk_kernel.specs.declared.limits.Measure.TheVariants.{Nodes, Levels}
 

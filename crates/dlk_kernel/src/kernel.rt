@@ -1,8 +1,7 @@
 use crate::fault::StepFault;
-use crate::given::give;
-use crate::limits::MOST_ROWS;
 use crate::row::Row;
-use dlk_calculus::Reason;
+use crate::steps::give;
+use dlk_calculus::{MOST_ROWS, Reason};
 use dlk_rules::Step;
 use dlk_sequent::Sequent;
 use dlk_store::{Id, Listing, Node, Steps, Store, StoreFault, Which};
@@ -39,7 +38,8 @@ impl<S: Store> Kernel<S> {
     ghost use Rattle.dlk_calculus.specs.Places.{at, IsPlace};
     ghost use Rattle.dlk_calculus.specs.Sequents.{IsSequent};
     ghost use Rattle.dlk_calculus.specs.Provables.{HasFormulas, HasLeaves};
-    ghost use Rattle.dlk_calculus.specs.Limits.{IsLimited, IsLimitedSequent, most_rows};
+    ghost use Rattle.dlk_calculus.specs.Limits.{most_rows};
+    ghost use Rattle.dlk_calculus.specs.Limited.{IsLimited, IsLimitedSequent};
     ghost use Rattle.dlk_calculus.specs.Steps.{Derives, Adds, Fault};
     ghost use Rattle.dlk_sequent.specs.Sequents.{sequent_at, IsKnown};
     ghost use Rattle.dlk_rules.specs.Steps.{step_at, HasKnownIds};

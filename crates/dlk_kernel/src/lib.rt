@@ -1,15 +1,13 @@
 //! The kernel: provables that it alone makes, each by a step of the calculus.
 #![tactic(auto)]
 
-mod axioms;
 mod fault;
-mod given;
 mod kernel;
 mod leaves;
 mod limits;
-mod merging;
 mod renaming;
 mod row;
+mod steps;
 mod substituting;
 
 pub use dlk_calculus::Reason;

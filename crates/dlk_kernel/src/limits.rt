@@ -11,27 +11,9 @@ ghost use Rattle.dlk_kernel.specs.Limits.{is_within, is_sequent_within, is_subst
 
 use crate::fault::StepFault;
 use crate::row::Row;
-use dlk_calculus::Reason;
+use dlk_calculus::{GREATEST_DEPTH, MOST_FORMULAS, MOST_NODES, Reason};
 use dlk_sequent::{Pair, Sequent};
 use dlk_store::{Id, Store};
-
-/// The most nodes of a formula, and of a replacement.
-const MOST_NODES: u32 = 65_536;
-
-/// The greatest depth of a formula, and of a replacement.
-const GREATEST_DEPTH: u32 = 1_000;
-
-/// The most formulas on a side of a sequent.
-const MOST_FORMULAS: usize = 256;
-
-/// The most goals of a row.
-pub(crate) const MOST_GOALS: usize = 256;
-
-/// The most leaves of a row.
-pub(crate) const MOST_LEAVES: usize = 1_024;
-
-/// The most rows.
-pub(crate) const MOST_ROWS: usize = 400_000;
 
 /// What is counted of a tree.
 #[derive(Clone, Copy, Debug, PartialEq, Eq)]

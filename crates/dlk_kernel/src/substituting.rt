@@ -1,23 +1,21 @@
-//! A substitution in a fact.
+//! What a substitution makes of a row.
 ghost use Rattle.std.specs.Prelude.{◌≡◌, ◌↔◌, ◌<◌, List, length, map, All, IsTrue, Err, IfOk, IfErr};
 ghost use Rattle.dlk_tree.specs.Trees.{Tree};
 ghost use Rattle.dlk_store.specs.Stores.{IsId, tree};
 ghost use Rattle.dlk_calculus.specs.declared.reason.Reason.TheVariants.{IllSubst};
-ghost use Rattle.dlk_calculus.specs.Pairs.{IsWellFormed};
+ghost use Rattle.dlk_calculus.specs.Pairs.{IsFreeIn, IsWellFormed};
 ghost use Rattle.dlk_calculus.specs.Sequents.{Sequent as TreeSequent};
 ghost use Rattle.dlk_calculus.specs.Provables.{Provable, SubstEach, SubstSequent, SubstSequents, Substitutes};
-ghost use Rattle.dlk_calculus.specs.Steps.{Substitute, Gives, IsWithin, Fault};
 ghost use Rattle.dlk_sequent.specs.Sequents.{sequent_at, IsKnown};
 ghost use Rattle.dlk_sequent.specs.Substitutions.{pairs_at, AreKnownPairs, IsMadeOver};
-ghost use Rattle.dlk_subst.specs.declared.fault.ApplyFault.TheVariants.{NotAdmissible};
+ghost use Rattle.dlk_sequent.specs.declared.fault.ApplyFault.TheVariants.{NotAdmissible};
 ghost use Rattle.dlk_kernel.specs.Faults.{IsStepFault};
-ghost use Rattle.dlk_kernel.specs.Kernel.{provable_at, provables_at, IsKnownRow};
+ghost use Rattle.dlk_kernel.specs.Kernel.{provable_at, IsKnownRow};
 
 use crate::fault::StepFault;
-use crate::limits::{Measure, is_substituted_within};
 use crate::row::Row;
 use dlk_calculus::Reason;
-use dlk_sequent::{Listed, Pair, Sequent, Subst, SubstFault, item_at};
+use dlk_sequent::{Listed, Pair, Sequent, Subst, SubstFault};
 use dlk_store::{Id, Steps, Store};
 use dlk_subst::{ApplyFault, apply};
 use std::alloc::{AllocError, Global};
@@ -36,7 +34,7 @@ fn copy_pairs(alloc: Global, pairs: &[Pair]) -> Result<Vec<Pair>, AllocError>
 }
 
 /// The substitution of the pairs.
-fn substitution<S: Store, L: Ledger>(
+pub(crate) fn substitution<S: Store, L: Ledger>(
     alloc: Global,
     store: &S,
     pairs: &[Pair],
@@ -138,7 +136,7 @@ fn subst_sequents<S: Store, L: Ledger>(
 /// # Errors
 ///
 /// As `subst_ids`.
-fn subst_row<S: Store, L: Ledger>(
+pub(crate) fn subst_row<S: Store, L: Ledger>(
     alloc: Global,
     store: &mut S,
     sigma: &Subst,
@@ -163,49 +161,8 @@ fn subst_row<S: Store, L: Ledger>(
 }
 
 /// Whether the row has a goal, and some variable is free in what replaces a function or a predicate.
-fn is_free_over_goals(sigma: &Subst, row: &Row) -> bool
-    ensures { IsTrue result ↔ (IsTrue sigma.now.free × (0 < length row.now.goals)) }
+pub(crate) fn is_free_over_goals(sigma: &Subst, row: &Row) -> bool
+    ensures { (trees : List Tree) → IsMadeOver trees sigma.now → (IsTrue result ↔ (IsFreeIn (pairs_at trees sigma.now.pairs) × (0 < length row.now.goals))) }
 {
     sigma.free() && !row.goals.as_slice().is_empty()
-}
-
-/// A fact under the substitution of the pairs. Its leaves stay. Where it has a goal, no variable may be free in what
-/// replaces a function or a predicate:
-///
-/// ```text
-/// the fact's goals under the substitution
-/// --------------------------------------------
-/// the fact's conclusion under the substitution
-/// ```
-pub(crate) fn substitute<S: Store, L: Ledger>(
-    alloc: Global,
-    store: &mut S,
-    rows: &[Row],
-    fact: u32,
-    pairs: &[Pair],
-    steps: &mut Steps<L>,
-) -> Result<Row, StepFault>
-    requires pairs { AreKnownPairs (S.trees store.old) pairs.now }
-    requires rows { All (IsKnownRow (S.trees store.old)) rows.now }
-    ensures given { IfOk result (λ row. Gives (provables_at (S.trees store.old) rows.now) (Substitute fact (pairs_at (S.trees store.old) pairs.now)) (provable_at (S.trees store.new) row)) }
-    ensures within { IfOk result (λ row. IsWithin (Substitute fact (pairs_at (S.trees store.old) pairs.now)) (provable_at (S.trees store.new) row)) }
-    ensures known { IfOk result (IsKnownRow (S.trees store.new)) }
-    ensures fault { IfErr result (IsStepFault (Fault (provables_at (S.trees store.old) rows.now) (Substitute fact (pairs_at (S.trees store.old) pairs.now)))) }
-    ensures grows { S.grows store.old store.new }
-{
-    let Some(row) = item_at(rows, fact) else {
-        return Err(StepFault::Refused(Reason::NoFact));
-    };
-    let sigma = substitution(alloc, store, pairs, steps)?;
-    if is_free_over_goals(&sigma, row) {
-        return Err(StepFault::Refused(Reason::FreeInSubst));
-    }
-    let made = subst_row(alloc, store, &sigma, row, steps)?;
-    if !is_substituted_within(store, Measure::Nodes, pairs, &made) {
-        return Err(StepFault::Refused(Reason::TooBig));
-    }
-    if !is_substituted_within(store, Measure::Levels, pairs, &made) {
-        return Err(StepFault::Refused(Reason::TooDeep));
-    }
-    Ok(made)
 }

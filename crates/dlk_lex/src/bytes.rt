@@ -1,9 +1,11 @@
 //! Tests of bytes, and runs of them.
 ghost use Rattle.std.specs.Prelude.{◌≡◌, ◌≤◌, length};
 ghost use Rattle.std.specs.List.{prefix_len};
-ghost use Rattle.dlk_tree.specs.Names.{is_letter, is_name_byte};
+ghost use Rattle.dlk_tree.specs.Names.{is_name_byte};
 ghost use Rattle.dlk_grammar.specs.Tokens.{is_space, is_digit};
 ghost use Rattle.dlk_lex.specs.Fronts.{is_no_feed};
+
+use dlk_tree::is_name_byte;
 
 pub(crate) fn is_space(b: u8) -> bool
     ensures { result ≡ is_space b }
@@ -11,22 +13,10 @@ pub(crate) fn is_space(b: u8) -> bool
     b == b' ' || b == b'\t' || b == b'\r' || b == b'\n'
 }
 
-pub(crate) fn is_letter(b: u8) -> bool
-    ensures { result ≡ is_letter b }
-{
-    matches!(b, b'A'..=b'Z' | b'a'..=b'z')
-}
-
 pub(crate) fn is_digit(b: u8) -> bool
     ensures { result ≡ is_digit b }
 {
     matches!(b, b'0'..=b'9')
-}
-
-fn is_name_byte(b: u8) -> bool
-    ensures { result ≡ is_name_byte b }
-{
-    is_letter(b) || is_digit(b) || b == b'_'
 }
 
 /// How many bytes of a word are at the front.

@@ -5,11 +5,11 @@ ghost use Rattle.dlk_tree.specs.Names.{is_between, is_word};
 ghost use Rattle.dlk_grammar.specs.Tokens.{Spells};
 ghost use Rattle.dlk_lex.specs.Fronts.{EndsBlock, HasNoEnd, IsToken, IsPiece};
 
-use crate::bytes::{is_digit, is_letter, is_space, line_run, word_run};
+use crate::bytes::{is_digit, is_space, line_run, word_run};
 use crate::marks::{front_mark, spelling};
 use crate::numbers::number;
 use dlk_grammar::TokenKind;
-use dlk_tree::{Name, NameFault};
+use dlk_tree::{Name, NameFault, is_letter};
 use std::alloc::{AllocError, Global};
 
 /// What is at the front, and how many bytes it has.

@@ -1,7 +1,7 @@
 ghost use Rattle.std.specs.Prelude.{◌≡◌, List, IfOk, IfErr};
 ghost use Rattle.dlk_grammar.specs.RealTokens.{AreTokens};
 ghost use Rattle.dlk_grammar.specs.Splits.{Splits, BadAt};
-ghost use Rattle.dlk_lex.specs.Faults.{IsFaultOf};
+ghost use Rattle.dlk_lex.specs.Faults.{IsLexFaultOf};
 
 use crate::fault::LexFault;
 use crate::front::{Piece, front};
@@ -16,7 +16,7 @@ use std::alloc::Global;
 pub fn tokens(alloc: Global, bytes: &[u8]) -> Result<Vec<Token>, LexFault>
     ensures found { IfOk result (λ v. Splits 0 bytes.now v.items) }
     ensures real { IfOk result (λ v. AreTokens v.items) }
-    ensures bad { IfErr result (IsFaultOf (BadAt 0 bytes.now)) }
+    ensures bad { IfErr result (IsLexFaultOf (BadAt 0 bytes.now)) }
 {
     let mut out = Vec::new(alloc);
     let mut at = 0;

@@ -5,7 +5,7 @@ use Rattle.dlk_tree.specs.declared.op.Sort.TheVariants as sort
 use Rattle.dlk_grammar.specs.declared.token.Dots.TheVariants.{Refused, Allowed}
 use Rattle.dlk_grammar.specs.declared.token.Infix.TheVariants.{Imply, And, Equal, AtLeast, Greater, Less, Add, Sub, Mul, Pow}
 use Rattle.dlk_grammar.specs.Lexemes.{Word, Name, Number, Dot, Bang, True, Invariant, RoundBars, Open, Close, OpenBrace, CloseBrace, Prime, Gets, Semi, Comma, Turnstile, Op}
-use Rattle.dlk_grammar.specs.Phrases.{Everywhere, Literal, Variable, Negate, Truth, Holds, Not, Dia, Binary, Const, Assign, Loop, System, Noted, none, snoc, Any, Evolve, Flow, no_items, add}
+use Rattle.dlk_grammar.specs.Phrases.{Everywhere, Literal, Variable, Negate, Truth, Holds, Not, Dia, Binary, Const, Assign, AssignAny, Then, Loop, System, Noted, none, snoc, Any, Evolve, Flow, no_items, add}
 use Rattle.dlk_grammar.specs.Grammar.{Turned}
 use Rattle.dlk_grammar.specs.Erased.{ills, lowest}
 use Rattle.dlk_machine.proofs.Parse.{parse, reader}
@@ -48,6 +48,18 @@ a_group = refl
 
 a_system : parse Refused (reader sort.Program) (OpenBrace 0 ∷ Name 1 x ∷ Prime ∷ Op Equal ∷ Name 4 y ∷ CloseBrace ∷ []) ≡ Ok (System 0 (add no_items (Evolve x (Variable y false))) Truth)
 a_system = refl
+
+-- x:=*;{x:=*;}
+anything : parse Refused (reader sort.Program) (Name 0 x ∷ Gets ∷ Op Mul ∷ Semi ∷ OpenBrace 5 ∷ Name 6 x ∷ Gets ∷ Op Mul ∷ Semi ∷ CloseBrace ∷ [])
+    ≡ Ok (Then (AssignAny x) (AssignAny x))
+anything = refl
+
+-- x:=*y; stops at y, and x':=*; at the star
+no_product : parse Refused (reader sort.Program) (Name 0 x ∷ Gets ∷ Op Mul ∷ Name 4 y ∷ Semi ∷ []) ≡ Err 3
+no_product = refl
+
+no_prime : parse Refused (reader sort.Program) (Name 0 x ∷ Prime ∷ Gets ∷ Op Mul ∷ Semi ∷ []) ≡ Err 3
+no_prime = refl
 
 -- {c;} and {c}
 a_constant : parse Refused (reader sort.Program) (OpenBrace 0 ∷ Name 1 c ∷ Semi ∷ CloseBrace ∷ []) ≡ Ok (Const c)

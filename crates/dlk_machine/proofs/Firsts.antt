@@ -1,8 +1,9 @@
 -- How a text begins.
 use Rattle.std.proofs.Common.{◌≡◌, ℕ, Bool, true, false, List, [], ◌∷◌, ◌++◌, refl}
-use Rattle.dlk_grammar.specs.Lexemes.{Word, Lexeme, Name, Close, OpenBrace, Prime, Gets, Query, Semi}
+use Rattle.dlk_grammar.specs.declared.token.Infix.TheVariants.{Mul}
+use Rattle.dlk_grammar.specs.Lexemes.{Word, Lexeme, Name, Close, OpenBrace, Prime, Gets, Query, Semi, Op}
 use Rattle.dlk_grammar.specs.Phrases.{Phrase, Phrases}
-use Rattle.dlk_grammar.specs.Grammar.{Nonterminal, term, Reads, formula-imp, formula-equiv, imp-disj, imp-imply, disj-conj, disj-or, conj-unf, conj-and, unf-not, unf-forall, unf-exists, unf-box, unf-dia, unf-atom, atom-true, atom-false, atom-hole, atom-compare, atom-nullary, atom-holds, atom-any, atom-except, atom-context, atom-bracket, atom-diff, term-mul, term-add, term-sub, mul-neg, mul-times, mul-over, neg-pow, neg-minus, pow-prim, pow-power, prim-number, prim-dot, prim-name, prim-primed, prim-nullary, prim-apply, prim-any, prim-except, prim-bracket, prim-diff, prog-seq, prog-choice, seq-stmt, seq-then, stmt-const, stmt-assign, stmt-assign_prime, stmt-test, stmt-group, ReadsList, list-one, list-more, ReadsBrace, brace-prog, brace-items, brace-domain}
+use Rattle.dlk_grammar.specs.Grammar.{Nonterminal, term, Reads, formula-imp, formula-equiv, imp-disj, imp-imply, disj-conj, disj-or, conj-unf, conj-and, unf-not, unf-forall, unf-exists, unf-box, unf-dia, unf-atom, atom-true, atom-false, atom-hole, atom-compare, atom-nullary, atom-holds, atom-any, atom-except, atom-context, atom-bracket, atom-diff, term-mul, term-add, term-sub, mul-neg, mul-times, mul-over, neg-pow, neg-minus, pow-prim, pow-power, prim-number, prim-dot, prim-name, prim-primed, prim-nullary, prim-apply, prim-any, prim-except, prim-bracket, prim-diff, prog-seq, prog-choice, seq-stmt, seq-then, stmt-const, stmt-assign, stmt-assign_prime, stmt-any, stmt-test, stmt-group, ReadsList, list-one, list-more, ReadsBrace, brace-prog, brace-items, brace-domain}
 use Rattle.dlk_machine.proofs.Levels.{form_sort}
 use Rattle.dlk_machine.proofs.Machine.{program_sort}
 
@@ -21,8 +22,10 @@ program_append r front-const = front-const
 program_append r front-assign = front-assign
 program_append r front-assign_prime = front-assign_prime
 
+-- neither ends a call without arguments nor stands for any value
 abbrev pub is_other : Lexeme → Bool
 is_other Close = false
+is_other (Op Mul) = false
 is_other _ = true
 
 -- the first tokens of a program, and of a term or a formula
@@ -95,6 +98,7 @@ mutual
   first stmt-const = front-const
   first (stmt-assign d) = front-assign
   first (stmt-assign_prime d) = front-assign_prime
+  first stmt-any = front-assign
   first (stmt-test d) = front-query
   first (stmt-group d q i e) = program_append _ (brace_first d)
 

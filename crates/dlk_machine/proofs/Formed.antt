@@ -23,7 +23,7 @@ use Rattle.dlk_grammar.specs.declared.token.Infix.{Infix}
 use Rattle.dlk_grammar.specs.declared.token.Infix.TheVariants.{Equiv, Imply, Or, And, Equal, NotEqual, AtLeast, Greater, AtMost, Less, Add, Sub, Mul, Div, Pow, Choice}
 use Rattle.dlk_grammar.specs.Lexemes.{Word, Lexeme, Name, Number, Dot, Invariant, Open, Close, OpenBox, CloseBox, OpenBrace, CloseBrace, Prime, Gets, Query, Semi, Comma, Turnstile, Op}
 use Rattle.dlk_grammar.specs.Phrases.{Space, Everywhere, Except, Phrase, Phrases, none, Apply, Holds, Call, Item, Evolve, Flow, Items, no_items, add, System, Truth}
-use Rattle.dlk_grammar.specs.Grammar.{Nonterminal, formula, Reads, formula-imp, formula-equiv, imp-disj, imp-imply, disj-conj, disj-or, conj-unf, conj-and, unf-not, unf-forall, unf-exists, unf-box, unf-dia, unf-atom, atom-true, atom-false, atom-hole, atom-compare, atom-nullary, atom-holds, atom-any, atom-except, atom-context, atom-bracket, atom-diff, term-mul, term-add, term-sub, mul-neg, mul-times, mul-over, neg-pow, neg-minus, pow-prim, pow-power, prim-number, prim-dot, prim-name, prim-primed, prim-nullary, prim-apply, prim-any, prim-except, prim-bracket, prim-diff, prog-seq, prog-choice, seq-stmt, seq-then, stmt-const, stmt-assign, stmt-assign_prime, stmt-test, stmt-group, Compares, cmp-equal, cmp-not_equal, cmp-at_least, cmp-greater, cmp-at_most, cmp-less, ReadsList, list-one, list-more, ReadsBrace, brace-prog, brace-items, brace-domain, ReadsItems, items-one, items-more, ReadsItem, item-evolve, item-flow, item-except, ReadsStar, star-none, star-loop, ReadsInv, inv-none, inv-some, ReadsSide, side-nothing, side-list, Sides, Turned, ReadsSequent, sequent-sides, ReadsExpression, as-formula, as-program, as-term}
+use Rattle.dlk_grammar.specs.Grammar.{Nonterminal, formula, Reads, formula-imp, formula-equiv, imp-disj, imp-imply, disj-conj, disj-or, conj-unf, conj-and, unf-not, unf-forall, unf-exists, unf-box, unf-dia, unf-atom, atom-true, atom-false, atom-hole, atom-compare, atom-nullary, atom-holds, atom-any, atom-except, atom-context, atom-bracket, atom-diff, term-mul, term-add, term-sub, mul-neg, mul-times, mul-over, neg-pow, neg-minus, pow-prim, pow-power, prim-number, prim-dot, prim-name, prim-primed, prim-nullary, prim-apply, prim-any, prim-except, prim-bracket, prim-diff, prog-seq, prog-choice, seq-stmt, seq-then, stmt-const, stmt-assign, stmt-assign_prime, stmt-any, stmt-test, stmt-group, Compares, cmp-equal, cmp-not_equal, cmp-at_least, cmp-greater, cmp-at_most, cmp-less, ReadsList, list-one, list-more, ReadsBrace, brace-prog, brace-items, brace-domain, ReadsItems, items-one, items-more, ReadsItem, item-evolve, item-flow, item-except, ReadsStar, star-none, star-loop, ReadsInv, inv-none, inv-some, ReadsSide, side-nothing, side-list, Sides, Turned, ReadsSequent, sequent-sides, ReadsExpression, as-formula, as-program, as-term}
 use Rattle.dlk_grammar.specs.Erased.{erase, erase_all, item_of, ode_items, item_terms, symbol, taboo, ills, ills_of_all, ills_of_items, count, is_ill_call, is_ill_system, place_if, infix_op}
 use Rattle.dlk_grammar.specs.Readings.{permits, Permitted, erase_sides}
 use Rattle.dlk_machine.proofs.Levels.{form_sort}
@@ -339,6 +339,7 @@ mutual
   grown (stmt-const {x = x}) = leaf (op.Const (symbol Prog x 0 Everywhere)) refl (λ r. prog_parts x r.0) refl refl
   grown (stmt-assign {x = x} {s = s} d) = one (op.Assign (record { name = x; primed = false })) (λ P h. part_in Gets s (Semi ∷ []) P h.1) (grown d) refl (λ r. r.0) refl refl
   grown (stmt-assign_prime {x = x} {s = s} d) = one (op.Assign (record { name = x; primed = true })) (λ P h. part_in Gets s (Semi ∷ []) P h.1.1) (grown d) refl (λ r. r.0) refl refl
+  grown (stmt-any {x = x}) = leaf (op.Any x) refl (λ r. r.0) refl refl
   grown (stmt-test {s = s} d) = one op.Test (part_in Query s (Semi ∷ [])) (grown d) refl (λ r. refl) refl refl
   grown (stmt-group {s = s} {q = q} {i = i} {e = e} d star inv semi) = widen (group_part s q i e) (grown_inv inv (starred star (grown_brace d)))
 

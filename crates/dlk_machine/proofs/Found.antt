@@ -4,12 +4,12 @@ use Rattle.std.proofs.lemmas.List.{append-nil}
 use Rattle.dlk_grammar.specs.declared.token.Infix.{Infix}
 use Rattle.dlk_grammar.specs.declared.token.Infix.TheVariants.{And, Equal, Greater, Less, Sub, Mul, Choice}
 use Rattle.dlk_grammar.specs.Lexemes.{Word, Lexeme, Name, Number, Dot, Blank, True, False, All, Exist, Invariant, RoundBars, RoundBar, BarRound, BraceBar, BarBrace, Open, Close, OpenBox, CloseBox, OpenBrace, CloseBrace, Bang, Prime, Gets, Query, Semi, Comma, Op}
-use Rattle.dlk_grammar.specs.Phrases.{Everywhere, Except, Phrase, Literal, Argument, Variable, Apply, Diff, Truth, Falsity, Hole, Holds, Context, DiffF, Const, Assign, Test, Loop, System, Noted, none, snoc, Head, Call, Any, Evolve, Flow, Items, no_items, add}
-use Rattle.dlk_grammar.specs.Grammar.{formula, unf, atom, term, prim, prog, stmt, Reads, atom-true, atom-false, atom-hole, atom-nullary, atom-holds, atom-any, atom-except, atom-context, atom-bracket, atom-diff, prim-number, prim-dot, prim-name, prim-primed, prim-nullary, prim-apply, prim-any, prim-except, prim-bracket, prim-diff, stmt-const, stmt-assign, stmt-assign_prime, stmt-test, ReadsBrace, brace-prog, brace-items, brace-domain, ReadsItems, item-evolve, item-flow, item-except, star-loop}
+use Rattle.dlk_grammar.specs.Phrases.{Everywhere, Except, Phrase, Literal, Argument, Variable, Apply, Diff, Truth, Falsity, Hole, Holds, Context, DiffF, Const, Assign, AssignAny, Test, Loop, System, Noted, none, snoc, Head, Call, Any, Evolve, Flow, Items, no_items, add}
+use Rattle.dlk_grammar.specs.Grammar.{formula, unf, atom, term, prim, prog, stmt, Reads, atom-true, atom-false, atom-hole, atom-nullary, atom-holds, atom-any, atom-except, atom-context, atom-bracket, atom-diff, prim-number, prim-dot, prim-name, prim-primed, prim-nullary, prim-apply, prim-any, prim-except, prim-bracket, prim-diff, stmt-const, stmt-assign, stmt-assign_prime, stmt-any, stmt-test, ReadsBrace, brace-prog, brace-items, brace-domain, ReadsItems, item-evolve, item-flow, item-except, star-loop}
 use Rattle.dlk_tree.specs.declared.op.Sort.{Sort}
 use Rattle.dlk_tree.specs.declared.op.Sort.TheVariants.{Term, Formula, Program}
 use Rattle.dlk_machine.proofs.Levels.{form_sort, top}
-use Rattle.dlk_machine.proofs.Machine.{◌>>=◌, when, Between, By, Next, Quantifier, ForAll, ForSome, InBox, InDia, Bang', Bound, Modal, Holder, Round, Args, InContext, In, InBrace, Assigns, Tests, Evolves, Domain, Notes, Part, Left, Before, Inside, level, operand_sort, result_sort, Tail, Done, Bare, Grouped, Braced, Starred, Annotated, Piece, Is, Symbol, State, Wants, Has, Calls, Bars, BarsName, Binds, Starts, StartsPrime, Opens, OpensName, OpensPrime, WantsItem, ItemName, ItemPrime, ItemBar, ItemBarName, ItemEnds, Invariants, primes, formula_primes, as_sort, tail_of, with_tail, program_sort, is_program, reduce, round_sort, place, allows, fits, start_operand, start_statement, start, after_operand, items_step, close, close_top, closing, and_top, infix_after, name_after, primed, prime_after, star_after, invariant_after, semi_after, next_after, after_program, after_other, call_step, bars_step, bars_name_step, bind_step, statement_step, statement_prime_step, item_name_step, item_prime_step, items_begin, item_bar_step, item_bar_name_step, opens_step, opens_name_step, opens_prime_step, invariants_step, step, whole, ended}
+use Rattle.dlk_machine.proofs.Machine.{◌>>=◌, when, Between, By, Next, Quantifier, ForAll, ForSome, InBox, InDia, Bang', Bound, Modal, Holder, Round, Args, InContext, In, InBrace, Assigns, Tests, Evolves, Domain, Notes, Part, Left, Before, Inside, level, operand_sort, result_sort, Tail, Done, Bare, Grouped, Braced, Starred, Annotated, Piece, Is, Symbol, State, Wants, Has, Calls, Bars, BarsName, Binds, Starts, StartsPrime, StartsGets, StartsStar, Opens, OpensName, OpensPrime, WantsItem, ItemName, ItemPrime, ItemBar, ItemBarName, ItemEnds, Invariants, primes, formula_primes, as_sort, tail_of, with_tail, program_sort, is_program, reduce, round_sort, place, allows, fits, start_operand, start_statement, start, after_operand, items_step, close, close_top, closing, and_top, infix_after, name_after, primed, prime_after, star_after, invariant_after, semi_after, next_after, after_program, after_other, call_step, bars_step, bars_name_step, bind_step, statement_step, statement_prime_step, statement_gets_step, statement_star_step, item_name_step, item_prime_step, items_begin, item_bar_step, item_bar_name_step, opens_step, opens_name_step, opens_prime_step, invariants_step, step, whole, ended}
 use Rattle.dlk_machine.proofs.Opening.{bind_some, when_is}
 use Rattle.dlk_machine.proofs.Climb.{formula_level, program_level, need, need_below, stands}
 use Rattle.dlk_machine.proofs.Only.{place_kind, top_sort}
@@ -564,13 +564,32 @@ bind_moves g S q _ y all a e = absurd cc
 
 named_moves : (g : Sort) (S : List Part) (x : Word) (k : Lexeme) (y : State) (all : List Lexeme) (n : ℕ) → Midway g S (Name n x ∷ []) Program all → statement_step S x k ≡ Some y → After g y (all ++ k ∷ [])
 named_moves g S x Semi y all n a e = moved g (Has S (Is Program (Const x) Done)) y _ e (midway_text g S (Name n x ∷ []) Program all Semi (Is Program (Const x) Done) a (from_stmt _ _ _ stmt-const) tt (Program, Const x, refl, a.fit))
-named_moves g S x Gets y all n a e = moved g (Wants (Inside (Assigns x false) ∷ S)) y _ e (midway_spells g S (Inside (Assigns x false) ∷ S) (Name n x ∷ []) Program all Gets a (inside a.spells (assigns-text a.fit)))
+named_moves g S x Gets y all n a e = moved g (StartsGets S x) y _ e (n, midway_more g S (Name n x ∷ []) Program all Gets a)
 named_moves g S x Prime y all n a e = moved g (StartsPrime S x) y _ e (n, midway_more g S (Name n x ∷ []) Program all Prime a)
 named_moves g S x _ y all n a e = absurd cc
 
 named_prime_moves : (g : Sort) (S : List Part) (x : Word) (k : Lexeme) (y : State) (all : List Lexeme) (n : ℕ) → Midway g S (Name n x ∷ Prime ∷ []) Program all → statement_prime_step S x k ≡ Some y → After g y (all ++ k ∷ [])
 named_prime_moves g S x Gets y all n a e = moved g (Wants (Inside (Assigns x true) ∷ S)) y _ e (midway_spells g S (Inside (Assigns x true) ∷ S) (Name n x ∷ Prime ∷ []) Program all Gets a (inside a.spells (assigns_prime-text a.fit)))
 named_prime_moves g S x _ y all n a e = absurd cc
+
+value_begin : (g : Sort) (S : List Part) (x : Word) (k : Lexeme) (y : State) (all : List Lexeme) (n : ℕ)
+    → Midway g S (Name n x ∷ Gets ∷ []) Program all → start_operand g (Inside (Assigns x false) ∷ S) k ≡ Some y → After g y (all ++ k ∷ [])
+value_begin g S x k y all n a e =
+    operand_moves g (Inside (Assigns x false) ∷ S) k y all refl
+    (subst (λ (l : List Lexeme). Spells g (Inside (Assigns x false) ∷ S) l) (sym a.parts) (inside a.spells (assigns-text a.fit))) e
+
+named_gets_moves : (g : Sort) (S : List Part) (x : Word) (k : Lexeme) (y : State) (all : List Lexeme) (n : ℕ)
+    → Midway g S (Name n x ∷ Gets ∷ []) Program all → statement_gets_step g S x k ≡ Some y → After g y (all ++ k ∷ [])
+named_gets_moves g S x (Op Mul) y all n a e = moved g (StartsStar S x) y _ e (n, midway_more g S (Name n x ∷ Gets ∷ []) Program all (Op Mul) a)
+named_gets_moves g S x k y all n a e = value_begin g S x k y all n a e
+
+named_star_moves : (g : Sort) (S : List Part) (x : Word) (k : Lexeme) (y : State) (all : List Lexeme) (n : ℕ)
+    → Midway g S (Name n x ∷ Gets ∷ Op Mul ∷ []) Program all → statement_star_step S x k ≡ Some y → After g y (all ++ k ∷ [])
+named_star_moves g S x Semi y all n a e =
+    moved g (Has S (Is Program (AssignAny x) Done)) y _ e
+    (midway_text g S (Name n x ∷ Gets ∷ Op Mul ∷ []) Program all Semi (Is Program (AssignAny x) Done) a (from_stmt _ _ _ stmt-any) tt
+    (Program, AssignAny x, refl, a.fit))
+named_star_moves g S x _ y all n a e = absurd cc
 
 -- the tokens behind a brace as those of its program
 brace_midway : (g : Sort) (S : List Part) (n : ℕ) (own : List Lexeme) (all : List Lexeme) → Midway g S (OpenBrace n ∷ own) Program all → Midway g (Inside InBrace ∷ S) own Program all
@@ -638,6 +657,8 @@ moves g (BarsName S x z) k y all a e = bars_name_moves g S x z k y all a.0 a.1 a
 moves g (Binds S q) k y all a e = bind_moves g S q k y all a e
 moves g (Starts S x) k y all a e = named_moves g S x k y all a.0 a.1 e
 moves g (StartsPrime S x) k y all a e = named_prime_moves g S x k y all a.0 a.1 e
+moves g (StartsGets S x) k y all a e = named_gets_moves g S x k y all a.0 a.1 e
+moves g (StartsStar S x) k y all a e = named_star_moves g S x k y all a.0 a.1 e
 moves g (Opens S n) k y all a e = opens_moves g S n k y all a e
 moves g (OpensName S n x) k y all a e = opens_name_moves g S n x k y all a.0 a.1 e
 moves g (OpensPrime S n x) k y all a e = opens_prime_moves g S n x k y all a.0 a.1 e

@@ -3,13 +3,13 @@ use Rattle.std.proofs.Common.{◌≡◌, ℕ, ◌≤◌, Bool, true, false, List
 use Rattle.std.proofs.lemmas.List.{append-nil}
 use Rattle.dlk_grammar.specs.declared.token.Infix.TheVariants.{Equiv, Imply, Or, And, Equal, NotEqual, AtLeast, Greater, AtMost, Less, Add, Sub, Mul, Div, Pow, Choice}
 use Rattle.dlk_grammar.specs.Lexemes.{Lexeme, Name, Number, True, Invariant, RoundBar, BarRound, BraceBar, BarBrace, Open, Close, OpenBox, CloseBox, OpenBrace, CloseBrace, Prime, Gets, Query, Semi, Op}
-use Rattle.dlk_grammar.specs.Phrases.{Except, Phrase, Literal, Apply, Truth, Forall, Exists, Binary, Const, Assign, System, none, Call, Any, Items}
-use Rattle.dlk_grammar.specs.Grammar.{Nonterminal, formula, unf, atom, term, prim, prog, stmt, Reads, formula-imp, imp-disj, disj-conj, conj-unf, unf-forall, unf-exists, unf-box, unf-dia, unf-atom, atom-true, atom-compare, atom-context, atom-bracket, term-mul, mul-neg, neg-pow, pow-prim, prim-number, prim-nullary, prim-apply, prim-except, prim-bracket, stmt-const, stmt-assign, stmt-assign_prime, stmt-test, cmp-less, ReadsBrace, brace-prog, brace-items, brace-domain, ReadsItems, items-one, item-evolve, item-flow, item-except}
+use Rattle.dlk_grammar.specs.Phrases.{Except, Phrase, Literal, Apply, Truth, Forall, Exists, Binary, Const, Assign, AssignAny, System, none, Call, Any, Items}
+use Rattle.dlk_grammar.specs.Grammar.{Nonterminal, formula, unf, atom, term, prim, prog, stmt, Reads, formula-imp, imp-disj, disj-conj, conj-unf, unf-forall, unf-exists, unf-box, unf-dia, unf-atom, atom-true, atom-compare, atom-context, atom-bracket, term-mul, mul-neg, neg-pow, pow-prim, prim-number, prim-nullary, prim-apply, prim-except, prim-bracket, stmt-const, stmt-assign, stmt-assign_prime, stmt-any, stmt-test, cmp-less, ReadsBrace, brace-prog, brace-items, brace-domain, ReadsItems, items-one, item-evolve, item-flow, item-except}
 use Rattle.dlk_tree.specs.declared.op.Num.{Num}
 use Rattle.dlk_tree.specs.declared.op.Sort.{Sort}
 use Rattle.dlk_tree.specs.declared.op.Sort.TheVariants.{Term, Formula, Program}
 use Rattle.dlk_machine.proofs.Levels.{form_level, form_sort, top}
-use Rattle.dlk_machine.proofs.Machine.{By, Next, Quantifier, ForAll, ForSome, InBox, InDia, Minus, Bang', Bound, Modal, Holder, Round, Args, InContext, In, InBrace, Assigns, Tests, Evolves, Domain, Notes, Part, Left, Before, Inside, binary, unary, Piece, State, Wants, Has, Calls, Bars, BarsName, Binds, Starts, StartsPrime, Opens, OpensName, OpensPrime, WantsItem, ItemName, ItemPrime, ItemBar, ItemBarName, ItemEnds, Invariants, as_sort, round_sort, held_sort, place, allows, fits, step}
+use Rattle.dlk_machine.proofs.Machine.{By, Next, Quantifier, ForAll, ForSome, InBox, InDia, Minus, Bang', Bound, Modal, Holder, Round, Args, InContext, In, InBrace, Assigns, Tests, Evolves, Domain, Notes, Part, Left, Before, Inside, binary, unary, Piece, State, Wants, Has, Calls, Bars, BarsName, Binds, Starts, StartsPrime, StartsGets, StartsStar, Opens, OpensName, OpensPrime, WantsItem, ItemName, ItemPrime, ItemBar, ItemBarName, ItemEnds, Invariants, as_sort, round_sort, held_sort, place, allows, fits, step}
 use Rattle.dlk_machine.proofs.Parse.{reader}
 use Rattle.dlk_machine.proofs.Opening.{some_is, bind_some, Plain, plain_append, Opening, opening_more, states}
 use Rattle.dlk_machine.proofs.Climb.{formula_level, level_above, need, need_below, stands}
@@ -269,6 +269,10 @@ module _ (g : Sort) where
   live (Binds S q) all a = midway_live S _ Formula all (Name 0 [] ∷ True ∷ []) _ a (refl, (refl, tt)) refl (bound_fills q S)
   live (Starts S x) all a = midway_live S _ Program all (Semi ∷ []) _ a.1 (refl, tt) refl (λ f. stmt_fills g S (Name a.0 x ∷ Semi ∷ []) (Const x) f stmt-const)
   live (StartsPrime S x) all a = midway_live S _ Program all (Gets ∷ Number nought ∷ Semi ∷ []) _ a.1 (refl, (refl, (refl, tt))) refl (λ f. stmt_fills g S (Name a.0 x ∷ Prime ∷ Gets ∷ Number nought ∷ Semi ∷ []) (Assign x true (Literal nought)) f (stmt-assign_prime zero_reads))
+  live (StartsGets S x) all a = midway_live S _ Program all (Op Mul ∷ Semi ∷ []) _ a.1 (refl, (refl, tt)) refl
+      (λ f. stmt_fills g S (Name a.0 x ∷ Gets ∷ Op Mul ∷ Semi ∷ []) (AssignAny x) f stmt-any)
+  live (StartsStar S x) all a = midway_live S _ Program all (Semi ∷ []) _ a.1 (refl, tt) refl
+      (λ f. stmt_fills g S (Name a.0 x ∷ Gets ∷ Op Mul ∷ Semi ∷ []) (AssignAny x) f stmt-any)
   live (Opens S n) all a = midway_live S _ Program all (Name 0 [] ∷ CloseBrace ∷ []) _ a (refl, (refl, tt)) refl (items_fill S n (Name 0 [] ∷ []) _ (items-one item-flow))
   live (OpensName S n x) all a = midway_live S _ Program all (CloseBrace ∷ []) _ a.1 (refl, tt) refl (items_fill S n (Name a.0 x ∷ []) _ (items-one item-flow))
   live (OpensPrime S n x) all a = midway_live S _ Program all (Op Equal ∷ Number nought ∷ CloseBrace ∷ []) _ a.1 (refl, (refl, (refl, tt))) refl (items_fill S n (Name a.0 x ∷ Prime ∷ Op Equal ∷ Number nought ∷ []) _ (items-one (item-evolve zero_reads)))

@@ -3,7 +3,7 @@ use Rattle.std.specs.Prelude.{ℕ, zero, suc, Bool, true, false, cond, nat_lt, L
 use Rattle.dlk_grammar.specs.declared.token.Infix.{Infix}
 use Rattle.dlk_grammar.specs.declared.token.Infix.TheVariants.{Equiv, Imply, Or, And, Equal, NotEqual, AtLeast, Greater, AtMost, Less, Add, Sub, Mul, Div, Pow, Choice}
 use Rattle.dlk_grammar.specs.Lexemes.{Word, Lexeme, Name, Number, Dot, Blank, True, False, All, Exist, Invariant, RoundBars, RoundBar, BarRound, BraceBar, BarBrace, Open, Close, OpenBox, CloseBox, OpenBrace, CloseBrace, Bang, Prime, Gets, Query, Semi, Comma, Op}
-use Rattle.dlk_grammar.specs.Phrases.{Everywhere, Except, Phrase, Literal, Argument, Variable, Apply, Negate, Diff, Truth, Falsity, Hole, Holds, Context, Not, DiffF, Forall, Exists, Box, Dia, Binary, Const, Assign, Test, Then, Loop, System, Noted, Phrases, none, snoc, Head, Call, Any, Evolve, Flow, Items, no_items, add}
+use Rattle.dlk_grammar.specs.Phrases.{Everywhere, Except, Phrase, Literal, Argument, Variable, Apply, Negate, Diff, Truth, Falsity, Hole, Holds, Context, Not, DiffF, Forall, Exists, Box, Dia, Binary, Const, Assign, AssignAny, Test, Then, Loop, System, Noted, Phrases, none, snoc, Head, Call, Any, Evolve, Flow, Items, no_items, add}
 use Rattle.dlk_tree.specs.declared.op.Sort.{Sort}
 use Rattle.dlk_tree.specs.declared.op.Sort.TheVariants.{Term, Formula, Program}
 
@@ -157,9 +157,11 @@ pub data State : Type 0 where
   BarsName : List Part → Word → Word → State
   -- after \forall or \exists
   Binds : List Part → Quantifier → State
-  -- after x and after x ' where a statement begins
+  -- after x and after x ' and after x := and after x := * where a statement begins
   Starts : List Part → Word → State
   StartsPrime : List Part → Word → State
+  StartsGets : List Part → Word → State
+  StartsStar : List Part → Word → State
   -- after { and after { x and after { x ' where a program or a system may follow
   Opens : List Part → ℕ → State
   OpensName : List Part → ℕ → Word → State
@@ -414,13 +416,21 @@ bind_step S q _ = None
 -- A statement behind its name.
 abbrev pub statement_step : List Part → Word → Lexeme → Option State
 statement_step S x Semi = Some (Has S (Is Program (Const x) Done))
-statement_step S x Gets = Some (Wants (Inside (Assigns x false) ∷ S))
+statement_step S x Gets = Some (StartsGets S x)
 statement_step S x Prime = Some (StartsPrime S x)
 statement_step S x _ = None
 
 abbrev pub statement_prime_step : List Part → Word → Lexeme → Option State
 statement_prime_step S x Gets = Some (Wants (Inside (Assigns x true) ∷ S))
 statement_prime_step S x _ = None
+
+abbrev pub statement_gets_step : Sort → List Part → Word → Lexeme → Option State
+statement_gets_step g S x (Op Mul) = Some (StartsStar S x)
+statement_gets_step g S x k = start_operand g (Inside (Assigns x false) ∷ S) k
+
+abbrev pub statement_star_step : List Part → Word → Lexeme → Option State
+statement_star_step S x Semi = Some (Has S (Is Program (AssignAny x) Done))
+statement_star_step S x _ = None
 
 -- An item behind its name.
 abbrev pub item_name_step : List Part → ℕ → Items → Word → Lexeme → Option State
@@ -472,6 +482,8 @@ step g (BarsName S x y) k = bars_name_step S x y k
 step g (Binds S q) k = bind_step S q k
 step g (Starts S x) k = statement_step S x k
 step g (StartsPrime S x) k = statement_prime_step S x k
+step g (StartsGets S x) k = statement_gets_step g S x k
+step g (StartsStar S x) k = statement_star_step S x k
 step g (Opens S n) k = opens_step S n k
 step g (OpensName S n x) k = opens_name_step S n x k
 step g (OpensPrime S n x) k = opens_prime_step S n x k

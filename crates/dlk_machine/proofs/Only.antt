@@ -5,12 +5,12 @@ use Rattle.std.proofs.lemmas.List.{append-nil}
 use Rattle.dlk_grammar.specs.declared.token.Infix.{Infix}
 use Rattle.dlk_grammar.specs.declared.token.Infix.TheVariants.{Equiv, Imply, Or, And, Equal, NotEqual, AtLeast, Greater, AtMost, Less, Add, Sub, Mul, Div, Pow, Choice}
 use Rattle.dlk_grammar.specs.Lexemes.{Word, Lexeme, Name, Number, Dot, Blank, True, False, All, Exist, Invariant, RoundBars, RoundBar, BarRound, Open, Close, OpenBox, CloseBox, OpenBrace, CloseBrace, Bang, Prime, Gets, Query, Semi, Comma, Op}
-use Rattle.dlk_grammar.specs.Phrases.{Everywhere, Except, Phrase, Literal, Argument, Variable, Apply, Diff, Truth, Falsity, Hole, Holds, Context, DiffF, Binary, Const, Assign, Test, System, Noted, Phrases, none, snoc, Head, Call, Any, Item, Evolve, Flow, Items, no_items, add}
-use Rattle.dlk_grammar.specs.Grammar.{Nonterminal, formula, imp, disj, conj, unf, atom, term, mul, neg, pow, prim, prog, seq, stmt, Reads, formula-imp, formula-equiv, imp-disj, imp-imply, disj-conj, disj-or, conj-unf, conj-and, unf-not, unf-forall, unf-exists, unf-box, unf-dia, unf-atom, atom-true, atom-false, atom-hole, atom-compare, atom-nullary, atom-holds, atom-any, atom-except, atom-context, atom-bracket, atom-diff, term-mul, term-add, term-sub, mul-neg, mul-times, mul-over, neg-pow, neg-minus, pow-prim, pow-power, prim-number, prim-dot, prim-name, prim-primed, prim-nullary, prim-apply, prim-any, prim-except, prim-bracket, prim-diff, prog-seq, prog-choice, seq-stmt, seq-then, stmt-const, stmt-assign, stmt-assign_prime, stmt-test, stmt-group, Compares, cmp-equal, cmp-not_equal, cmp-at_least, cmp-greater, cmp-at_most, cmp-less, ReadsList, list-one, list-more, ReadsBrace, brace-prog, brace-items, brace-domain, ReadsItems, items-one, items-more, ReadsItem, item-evolve, item-flow, item-except, ReadsStar, star-none, star-loop, ReadsInv, inv-none, inv-some, ReadsSemi, semi-none, semi-some}
+use Rattle.dlk_grammar.specs.Phrases.{Everywhere, Except, Phrase, Literal, Argument, Variable, Apply, Diff, Truth, Falsity, Hole, Holds, Context, DiffF, Binary, Const, Assign, AssignAny, Test, System, Noted, Phrases, none, snoc, Head, Call, Any, Item, Evolve, Flow, Items, no_items, add}
+use Rattle.dlk_grammar.specs.Grammar.{Nonterminal, formula, imp, disj, conj, unf, atom, term, mul, neg, pow, prim, prog, seq, stmt, Reads, formula-imp, formula-equiv, imp-disj, imp-imply, disj-conj, disj-or, conj-unf, conj-and, unf-not, unf-forall, unf-exists, unf-box, unf-dia, unf-atom, atom-true, atom-false, atom-hole, atom-compare, atom-nullary, atom-holds, atom-any, atom-except, atom-context, atom-bracket, atom-diff, term-mul, term-add, term-sub, mul-neg, mul-times, mul-over, neg-pow, neg-minus, pow-prim, pow-power, prim-number, prim-dot, prim-name, prim-primed, prim-nullary, prim-apply, prim-any, prim-except, prim-bracket, prim-diff, prog-seq, prog-choice, seq-stmt, seq-then, stmt-const, stmt-assign, stmt-assign_prime, stmt-any, stmt-test, stmt-group, Compares, cmp-equal, cmp-not_equal, cmp-at_least, cmp-greater, cmp-at_most, cmp-less, ReadsList, list-one, list-more, ReadsBrace, brace-prog, brace-items, brace-domain, ReadsItems, items-one, items-more, ReadsItem, item-evolve, item-flow, item-except, ReadsStar, star-none, star-loop, ReadsInv, inv-none, inv-some, ReadsSemi, semi-none, semi-some}
 use Rattle.dlk_tree.specs.declared.op.Sort.{Sort}
 use Rattle.dlk_tree.specs.declared.op.Sort.TheVariants.{Term, Formula, Program}
 use Rattle.dlk_machine.proofs.Levels.{form_level, form_sort, top}
-use Rattle.dlk_machine.proofs.Machine.{◌>>=◌, when, Between, By, Next, ForAll, ForSome, Modality, InBox, InDia, Prefix, Minus, Bang', Bound, Modal, Holder, Round, Args, InContext, In, InBrace, Assigns, Tests, Evolves, Domain, Notes, Part, Left, Before, Inside, level, right_level, operand_sort, result_sort, binary, prefix_level, prefix_sort, unary, Tail, Done, Bare, Grouped, Braced, Starred, Annotated, Piece, Is, Symbol, State, Wants, Has, Calls, Binds, Starts, Opens, WantsItem, primes, formula_primes, as_sort, with_tail, program_sort, is_program, wanted, join, reduce, round_sort, place, allows, fits, start_operand, start_statement, after_operand, items_step, close, closing, and_top, infix_after, primed, next_after, after_program, after_other, call_step, item_name_step, opens_name_step, step, ended}
+use Rattle.dlk_machine.proofs.Machine.{◌>>=◌, when, Between, By, Next, ForAll, ForSome, Modality, InBox, InDia, Prefix, Minus, Bang', Bound, Modal, Holder, Round, Args, InContext, In, InBrace, Assigns, Tests, Evolves, Domain, Notes, Part, Left, Before, Inside, level, right_level, operand_sort, result_sort, binary, prefix_level, prefix_sort, unary, Tail, Done, Bare, Grouped, Braced, Starred, Annotated, Piece, Is, Symbol, State, Wants, Has, Calls, Binds, Starts, StartsGets, Opens, WantsItem, primes, formula_primes, as_sort, with_tail, program_sort, is_program, wanted, join, reduce, round_sort, place, allows, fits, start_operand, start_statement, after_operand, items_step, close, closing, and_top, infix_after, primed, next_after, after_program, after_other, call_step, statement_gets_step, item_name_step, opens_name_step, step, ended}
 use Rattle.dlk_machine.proofs.Parse.{reader}
 use Rattle.dlk_machine.proofs.Opening.{some_is, bind_some, when_is, states}
 use Rattle.dlk_machine.proofs.Firsts.{front-query, front-brace, front-const, front-assign, front-assign_prime, is_other, First, first, first_list}
@@ -311,6 +311,16 @@ call_run : (g : Sort) (S : List Part) (n : ℕ) (x : Word) (s rest : List Lexeme
 call_run g S n x [] rest h = absurd h
 call_run g S n x (k ∷ s) rest h = ap (λ (o : Option State). o >>= λ m. arrive g m (s ++ rest)) (call_first g S n x k h)
 
+gets_first : (g : Sort) (S : List Part) (x : Word) (k : Lexeme) → is_other k ≡ true
+    → statement_gets_step g S x k ≡ start_operand g (Inside (Assigns x false) ∷ S) k
+gets_first g S x (Op Mul) e = absurd cc
+gets_first g S x _ e = refl
+
+gets_run : (g : Sort) (S : List Part) (x : Word) (s rest : List Lexeme) → First false s
+    → arrive g (StartsGets S x) (s ++ rest) ≡ arrive g (Wants (Inside (Assigns x false) ∷ S)) (s ++ rest)
+gets_run g S x [] rest h = absurd h
+gets_run g S x (k ∷ s) rest h = ap (λ (o : Option State). o >>= λ m. arrive g m (s ++ rest)) (gets_first g S x k h)
+
 statement_at : (g : Sort) (S : List Part) (k : Lexeme) → program_sort (place g S) ≡ true → step g (Wants S) k ≡ start_statement S k
 statement_at g S k f = rw f refl
 
@@ -444,11 +454,12 @@ notes_lists : (g : Sort) (b : Phrase) (S : List Part) → Lists g (Notes b) form
 notes_lists g b S = record { operand = refl; fit = λ l. refl; comma = λ l p. refl }
 
 -- a statement that a holder's last token ends
-statement : (g : Sort) (S : List Part) (q s : List Lexeme) (h : Holder) (n : Nonterminal) (a t : Phrase) → fits g Program S ≡ true → ((rest : List Lexeme) → arrive g (Wants S) (q ++ rest) ≡ arrive g (Wants (Inside h ∷ S)) rest) → (x : Ends g (Inside h ∷ S) s n a)
+statement : (g : Sort) (S : List Part) (q s : List Lexeme) (h : Holder) (n : Nonterminal) (a t : Phrase) → fits g Program S ≡ true → ((rest : List Lexeme) → arrive g (Wants S) (q ++ (s ++ rest)) ≡ arrive g (Wants (Inside h ∷ S)) (s ++ rest)) → (x : Ends g (Inside h ∷ S) s n a)
     → ((rest : List Lexeme) → arrive g (Wants (Inside h ∷ S)) (s ++ (Semi ∷ rest)) ≡ arrive g (Has S (Is Program t Done)) rest) → Ends g S (q ++ (s ++ Semi ∷ [])) stmt t
 statement g S q s h n a t f begins x ends =
     single g S (q ++ (s ++ Semi ∷ [])) stmt t (Is Program t Done)
-    (λ rest. ap (arrive g (Wants S)) (append_assoc q (s ++ Semi ∷ []) rest) ∙ begins ((s ++ Semi ∷ []) ++ rest) ∙ ap (arrive g (Wants (Inside h ∷ S))) (append_assoc s (Semi ∷ []) rest) ∙ ends rest)
+    (λ rest. ap (arrive g (Wants S)) (append_assoc q (s ++ Semi ∷ []) rest ∙ ap (λ (z : List Lexeme). q ++ z) (append_assoc s (Semi ∷ []) rest))
+    ∙ begins (Semi ∷ rest) ∙ ends rest)
     refl refl
 
 -- a box or a diamond
@@ -652,15 +663,20 @@ mutual
   only (stmt-const {n = n} {x = x}) g S l f = single g S _ stmt _ (Is Program (Const x) Done) (λ rest. go g (Wants S) (Name n x) (Semi ∷ rest) (Starts S x) (statement_wanted g S (Name n x) f)) refl refl
   only (stmt-assign {n = n} {x = x} {s = s} {a = a} d) g S l f =
       let z = only d g (Inside (Assigns x false) ∷ S) (omega arith) refl in
-      statement g S (Name n x ∷ Gets ∷ []) s (Assigns x false) term a (Assign x false a) f (λ rest. go g (Wants S) (Name n x) (Gets ∷ rest) (Starts S x) (statement_wanted g S (Name n x) f)) z
+      statement g S (Name n x ∷ Gets ∷ []) s (Assigns x false) term a (Assign x false a) f
+      (λ rest. go g (Wants S) (Name n x) (Gets ∷ (s ++ rest)) (Starts S x) (statement_wanted g S (Name n x) f) ∙ gets_run g S x s rest (first d)) z
       (held g S (Assigns x false) s term a Semi (Has S (Is Program (Assign x false a) Done)) z (other_step g (z.parts ++ Inside (Assigns x false) ∷ S) z.last Semi z.kind) (rw z.tree refl))
   only (stmt-assign_prime {n = n} {x = x} {s = s} {a = a} d) g S l f =
       let z = only d g (Inside (Assigns x true) ∷ S) (omega arith) refl in
-      statement g S (Name n x ∷ Prime ∷ Gets ∷ []) s (Assigns x true) term a (Assign x true a) f (λ rest. go g (Wants S) (Name n x) (Prime ∷ Gets ∷ rest) (Starts S x) (statement_wanted g S (Name n x) f)) z
+      statement g S (Name n x ∷ Prime ∷ Gets ∷ []) s (Assigns x true) term a (Assign x true a) f
+      (λ rest. go g (Wants S) (Name n x) (Prime ∷ Gets ∷ (s ++ rest)) (Starts S x) (statement_wanted g S (Name n x) f)) z
       (held g S (Assigns x true) s term a Semi (Has S (Is Program (Assign x true a) Done)) z (other_step g (z.parts ++ Inside (Assigns x true) ∷ S) z.last Semi z.kind) (rw z.tree refl))
+  only (stmt-any {n = n} {x = x}) g S l f = single g S _ stmt _ (Is Program (AssignAny x) Done)
+      (λ rest. go g (Wants S) (Name n x) (Gets ∷ Op Mul ∷ Semi ∷ rest) (Starts S x) (statement_wanted g S (Name n x) f)) refl refl
   only (stmt-test {s = s} {a = a} d) g S l f =
       let z = only d g (Inside Tests ∷ S) (omega arith) refl in
-      statement g S (Query ∷ []) s Tests formula a (Test a) f (λ rest. go g (Wants S) Query rest (Wants (Inside Tests ∷ S)) (statement_wanted g S Query f)) z
+      statement g S (Query ∷ []) s Tests formula a (Test a) f
+      (λ rest. go g (Wants S) Query (s ++ rest) (Wants (Inside Tests ∷ S)) (statement_wanted g S Query f)) z
       (held g S Tests s formula a Semi (Has S (Is Program (Test a) Done)) z (other_step g (z.parts ++ Inside Tests ∷ S) z.last Semi z.kind) (rw z.tree refl))
   only (stmt-group {s = s} {q = q} {i = i} {e = e} {a = a} {b = b} {c = c} d star inv semi) g S l f =
       let x = star_ends star g S in

@@ -6,7 +6,7 @@ use Rattle.std.proofs.lemmas.List.{append-nil, map-append}
 use Rattle.std.proofs.lemmas.List.Elements.{All-nil, All-cons, All-append}
 use Rattle.dlk_tree.specs.Trees.{WellMade}
 use Rattle.dlk_tree.specs.declared.op.Sort.TheVariants.{Term, Formula, Program}
-use Rattle.dlk_calculus.specs.Pairs.{Pair, AreMade}
+use Rattle.dlk_calculus.specs.Pairs.{Pair, AreWellMade}
 use Rattle.dlk_grammar.specs.Lexemes.{Lexeme, Comma, Becomes}
 use Rattle.dlk_grammar.specs.Grammar.{brace-items}
 use Rattle.dlk_grammar.specs.Erased.{erase, ills}
@@ -54,16 +54,16 @@ IsMadePair p = WellMade p.by
 abbrev erase_pair : PairPhrase → Pair
 erase_pair p = record { sym = p.sym; by = erase p.by }
 
-made_pair : {s : List Lexeme} {p : PairPhrase} → ReadsPair s p → AreReal s → ills p.by ≡ [] → AreMade (erase_pair p ∷ [])
+made_pair : {s : List Lexeme} {p : PairPhrase} → ReadsPair s p → AreReal s → ills p.by ≡ [] → AreWellMade (erase_pair p ∷ [])
 made_pair {p = p} d h e = All-cons IsMadePair (erase_pair p) [] (made_from (grown_pair d).grown h e).well_made (All-nil IsMadePair)
 
-listed_made : {s : List Lexeme} {l : List PairPhrase} → ReadsPairs s l → AreReal s → ills_of_pairs l ≡ [] → AreMade (erase_pairs l)
+listed_made : {s : List Lexeme} {l : List PairPhrase} → ReadsPairs s l → AreReal s → ills_of_pairs l ≡ [] → AreWellMade (erase_pairs l)
 listed_made (pairs-one {p = p} d) h e = made_pair d h (sym (append-nil (ills p.by)) ∙ e)
 listed_made (pairs-more {s = s} {r = r} {l = l} {p = p} ds d) h e =
     let w = each_parts IsReal s (Comma ∷ r) h in
     let n : ills_of_pairs l ++ ills p.by ≡ [] = sym (ills_more l p) ∙ e in
     rw (map-append erase_pair l (p ∷ [])) (All-append IsMadePair (erase_pairs l) (erase_pair p ∷ []) (listed_made ds w.0 (none_left (ills_of_pairs l) (ills p.by) n)) (made_pair d w.1.1 (none_right (ills_of_pairs l) (ills p.by) n)))
 
-pub pairs_formed : {s : List Lexeme} {l : List PairPhrase} → ReadsSubstitution s l → AreReal s → ills_of_pairs l ≡ [] → AreMade (erase_pairs l)
+pub pairs_formed : {s : List Lexeme} {l : List PairPhrase} → ReadsSubstitution s l → AreReal s → ills_of_pairs l ≡ [] → AreWellMade (erase_pairs l)
 pairs_formed subst-nothing h e = All-nil IsMadePair
 pairs_formed (subst-pairs d) h e = listed_made d h e

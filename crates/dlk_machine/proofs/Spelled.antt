@@ -9,7 +9,7 @@ use Rattle.dlk_grammar.specs.Grammar.{Nonterminal, formula, imp, disj, conj, unf
 use Rattle.dlk_tree.specs.declared.op.Sort.{Sort}
 use Rattle.dlk_tree.specs.declared.op.Sort.TheVariants.{Term, Formula, Program}
 use Rattle.dlk_machine.proofs.Levels.{form_level, form_sort}
-use Rattle.dlk_machine.proofs.Machine.{◌>>=◌, Between, By, Next, Quantifier, ForAll, ForSome, InBox, InDia, Prefix, Minus, Bang', Bound, Modal, Holder, Round, Args, InContext, In, InBrace, Assigns, Tests, Evolves, Domain, Notes, Part, Left, Before, Inside, level, right_level, operand_sort, result_sort, binary, prefix_level, prefix_sort, unary, Tail, Done, Bare, Grouped, Braced, Starred, Annotated, Piece, Is, State, Wants, Has, Calls, Bars, BarsName, Binds, Starts, StartsPrime, Opens, OpensName, OpensPrime, WantsItem, ItemName, ItemPrime, ItemBar, ItemBarName, ItemEnds, Invariants, as_sort, tail_of, is_program, wanted, join, reduce, fits}
+use Rattle.dlk_machine.proofs.Machine.{◌>>=◌, Between, By, Next, Quantifier, ForAll, ForSome, InBox, InDia, Prefix, Minus, Bang', Bound, Modal, Holder, Round, Args, InContext, In, InBrace, Assigns, Tests, Evolves, Domain, Notes, Part, Left, Before, Inside, level, right_level, operand_sort, result_sort, binary, prefix_level, prefix_sort, unary, Tail, Done, Bare, Grouped, Braced, Starred, Annotated, Piece, Is, State, Wants, Has, Calls, Bars, BarsName, Binds, Starts, StartsPrime, StartsGets, StartsStar, Opens, OpensName, OpensPrime, WantsItem, ItemName, ItemPrime, ItemBar, ItemBarName, ItemEnds, Invariants, as_sort, tail_of, is_program, wanted, join, reduce, fits}
 use Rattle.dlk_machine.proofs.Opening.{bind_some}
 use Rattle.dlk_machine.proofs.Climb.{need, stands}
 use Rattle.dlk_machine.proofs.Only.{Loose}
@@ -461,6 +461,8 @@ After g (BarsName S x y) all = (n m : ℕ) × Midway g S (Name n x ∷ RoundBar 
 After g (Binds S q) all = Midway g S (quantifier_token q ∷ []) Formula all
 After g (Starts S x) all = (n : ℕ) × Midway g S (Name n x ∷ []) Program all
 After g (StartsPrime S x) all = (n : ℕ) × Midway g S (Name n x ∷ Prime ∷ []) Program all
+After g (StartsGets S x) all = (n : ℕ) × Midway g S (Name n x ∷ Gets ∷ []) Program all
+After g (StartsStar S x) all = (n : ℕ) × Midway g S (Name n x ∷ Gets ∷ Op Mul ∷ []) Program all
 After g (Opens S n) all = Midway g S (OpenBrace n ∷ []) Program all
 After g (OpensName S n x) all = (m : ℕ) × Midway g S (OpenBrace n ∷ Name m x ∷ []) Program all
 After g (OpensPrime S n x) all = (m : ℕ) × Midway g S (OpenBrace n ∷ Name m x ∷ Prime ∷ []) Program all

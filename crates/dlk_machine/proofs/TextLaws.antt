@@ -8,7 +8,7 @@ use Rattle.std.proofs.lemmas.List.Elements.{All-head, All-tail}
 use Rattle.std.proofs.lemmas.Option.{same_Some}
 use Rattle.dlk_tree.specs.Trees.{Tree, WellMade, size, depth}
 use Rattle.dlk_calculus.specs.Sequents.{Sequent, IsFormula, IsSequent}
-use Rattle.dlk_calculus.specs.Pairs.{Pair, AreMade}
+use Rattle.dlk_calculus.specs.Pairs.{Pair, AreWellMade}
 use Rattle.dlk_grammar.specs.declared.token.Token.{Token}
 use Rattle.dlk_grammar.specs.declared.token.TokenKind.{TokenKind}
 use Rattle.dlk_grammar.specs.declared.token.TokenKind.TheVariants as kind
@@ -280,8 +280,8 @@ pairs_ills_below tokens l d = pairs_below d (length tokens) (lexemes_below 0 (le
 pub pairs_not_ill : (tokens : List Token) (pairs : List Pair) (a : ArePairs tokens pairs) → ills_of_pairs a.phrase ≡ []
 pairs_not_ill tokens pairs a = none_ill ReadsSubstitution replacements one_pairs_read Allowed tokens a.phrase (ills_of_pairs a.phrase) refl a.says a.no_fault (pairs_ills_below tokens a.phrase a.says.reads)
 
-pub pairs_well_made : (tokens : List Token) (pairs : List Pair) → AreTokens tokens → ArePairs tokens pairs → AreMade pairs
-pairs_well_made tokens pairs real a = subst AreMade a.value_is (pairs_formed a.says.reads (lexemes_real 0 tokens real.real) (pairs_not_ill tokens pairs a))
+pub pairs_well_made : (tokens : List Token) (pairs : List Pair) → AreTokens tokens → ArePairs tokens pairs → AreWellMade pairs
+pairs_well_made tokens pairs real a = subst AreWellMade a.value_is (pairs_formed a.says.reads (lexemes_real 0 tokens real.real) (pairs_not_ill tokens pairs a))
 
 pub one_pairs_text : (bytes : List ℕ) (pairs others : List Pair) → PairsText bytes pairs → PairsText bytes others → pairs ≡ others
 one_pairs_text bytes pairs others a b =
@@ -298,5 +298,5 @@ one_pairs_fault bytes (Unread why) (BadByte other) f g = absurd (bad_is_no_split
 one_pairs_fault bytes (Unread why) (Unread other) f g =
     ap Unread (one_fault ReadsSubstitution replacements one_pairs_read Allowed f.0 why other f.2 (subst (λ (ts : List Token). ArePairsFault ts other) (one_split g.1 f.1) g.2))
 
-pub pairs_text_well_made : (bytes : List ℕ) (pairs : List Pair) → PairsText bytes pairs → AreMade pairs
+pub pairs_text_well_made : (bytes : List ℕ) (pairs : List Pair) → PairsText bytes pairs → AreWellMade pairs
 pairs_text_well_made bytes pairs a = pairs_well_made a.tokens pairs (split_tokens a.splits) a.reads

@@ -2,7 +2,7 @@
 ghost use Rattle.std.specs.Prelude.{◌≡◌, ◌⊎◌, ℕ, List};
 ghost use Rattle.dlk_tree.specs.Trees.{Tree, WellMade};
 ghost use Rattle.dlk_calculus.specs.Sequents.{Sequent, IsFormula, IsSequent};
-ghost use Rattle.dlk_calculus.specs.Pairs.{Pair, AreMade};
+ghost use Rattle.dlk_calculus.specs.Pairs.{Pair, AreWellMade};
 ghost use Rattle.dlk_grammar.specs.declared.token.Dots.{Dots as TheDots};
 ghost use Rattle.dlk_grammar.specs.declared.token.Dots.TheVariants.{Refused};
 ghost use Rattle.dlk_grammar.specs.declared.token.Token.{Token as TheToken};
@@ -63,5 +63,5 @@ pub fn pairs_texts()
     ensures no_fault { (bytes : List ℕ) (pairs : List Pair) (why : TextFault) → PairsText bytes pairs → PairsTextFault bytes why → ⊥ }
     ensures one_fault { (bytes : List ℕ) (why other : TextFault) → PairsTextFault bytes why → PairsTextFault bytes other → why ≡ other }
     ensures some { (bytes : List ℕ) (ts : List TheToken) → Splits 0 bytes ts → ((pairs : List Pair) × PairsText bytes pairs) ⊎ ((why : ReadFault) × PairsTextFault bytes (Unread why)) }
-    ensures well_made { (bytes : List ℕ) (pairs : List Pair) → PairsText bytes pairs → AreMade pairs }
+    ensures well_made { (bytes : List ℕ) (pairs : List Pair) → PairsText bytes pairs → AreWellMade pairs }
 {}

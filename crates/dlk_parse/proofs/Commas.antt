@@ -4,7 +4,7 @@ use Rattle.std.specs.Bool.{◌==◌}
 use Rattle.dlk_tree.specs.declared.op.Sort.{Sort}
 use Rattle.dlk_grammar.specs.Lexemes.{Comma}
 use Rattle.dlk_grammar.specs.declared.token.Infix.TheVariants.{Equiv, Imply, Or, And, Equal, NotEqual, AtLeast, Greater, AtMost, Less, Add, Sub, Mul, Div, Pow, Choice}
-use Rattle.dlk_machine.proofs.Machine.{◌>>=◌, Between, By, Next, Part, Left, Before, Inside, Piece, operand_sort, result_sort, prefix_sort, program_sort, is_program, as_sort, wanted, join, reduce, whole, State, Wants, Has, Calls, Bars, BarsName, Binds, Starts, StartsPrime, Opens, OpensName, OpensPrime, WantsItem, ItemName, ItemPrime, ItemBar, ItemBarName, ItemEnds, Invariants, close_top, closing, step, ended}
+use Rattle.dlk_machine.proofs.Machine.{◌>>=◌, Between, By, Next, Part, Left, Before, Inside, Piece, operand_sort, result_sort, prefix_sort, program_sort, is_program, as_sort, wanted, join, reduce, whole, State, Wants, Has, Calls, Bars, BarsName, Binds, Starts, StartsPrime, StartsGets, StartsStar, Opens, OpensName, OpensPrime, WantsItem, ItemName, ItemPrime, ItemBar, ItemBarName, ItemEnds, Invariants, close_top, closing, step, ended}
 use Rattle.dlk_machine.proofs.Found.{piece_kind}
 use Rattle.dlk_machine.proofs.Parse.{or_else}
 use Rattle.dlk_parse.specs.declared.ends.Comma.TheVariants as comma
@@ -19,24 +19,8 @@ use Rattle.dlk_parse.proofs.Agree.{agrees_ok}
 
 -- what was read last
 pub has_shown : (k : Stack) (m : Mode) (last : Last) (x : State) → m ≡ mode.Has last → Shows k m x → (S : List Part) × (p : Piece) × (x ≡ Has S p) × Stands k last S p
-has_shown k m last (Wants S) e h = absurd (let i = h.mode in cc)
 has_shown k m last (Has S p) e h = (S, p, refl, record { last = record { same = (let i = h.mode in cc); lone = h.lone }; lists = h.lists })
-has_shown k m last (Calls S n x) e h = absurd (let i = h.mode in cc)
-has_shown k m last (Bars S x) e h = absurd (let i = h.mode in cc)
-has_shown k m last (BarsName S x y) e h = absurd (let i = h.mode in cc)
-has_shown k m last (Binds S q) e h = absurd (let i = h.mode in cc)
-has_shown k m last (Starts S x) e h = absurd (let i = h.mode in cc)
-has_shown k m last (StartsPrime S x) e h = absurd (let i = h.mode in cc)
-has_shown k m last (Opens S n) e h = absurd (let i = h.mode in cc)
-has_shown k m last (OpensName S n x) e h = absurd (let i = h.mode in cc)
-has_shown k m last (OpensPrime S n x) e h = absurd (let i = h.mode in cc)
-has_shown k m last (WantsItem S n l) e h = absurd (let i = h.mode in cc)
-has_shown k m last (ItemName S n l x) e h = absurd (let i = h.mode in cc)
-has_shown k m last (ItemPrime S n l x) e h = absurd (let i = h.mode in cc)
-has_shown k m last (ItemBar S n l x) e h = absurd (let i = h.mode in cc)
-has_shown k m last (ItemBarName S n l x y) e h = absurd (let i = h.mode in cc)
-has_shown k m last (ItemEnds S n l) e h = absurd (let i = h.mode in cc)
-has_shown k m last (Invariants S t) e h = absurd (let i = h.mode in cc)
+has_shown k m last _ e h = absurd (let i = h.mode in cc)
 
 -- a formula and a program stay apart where operators are closed
 between_kind : (o : Between) → program_sort (operand_sort o) ≡ program_sort (result_sort o)
@@ -158,23 +142,7 @@ module _ {A B : Type 0} (g : Sort) (w : Piece → Option A) (k : A → Option B)
 
   pub comma_behind : (x : State) → or_else (ended_with w x) (step g x Comma >>= f) k ≡ (at_comma g x >>= behind w k f)
   comma_behind (Has S p) = reduced S p (reduce 0 S p) refl
-  comma_behind (Wants S) = goes (step g (Wants S) Comma)
-  comma_behind (Calls S n y) = goes (step g (Calls S n y) Comma)
-  comma_behind (Bars S y) = goes (step g (Bars S y) Comma)
-  comma_behind (BarsName S y z) = goes (step g (BarsName S y z) Comma)
-  comma_behind (Binds S q) = goes (step g (Binds S q) Comma)
-  comma_behind (Starts S y) = goes (step g (Starts S y) Comma)
-  comma_behind (StartsPrime S y) = goes (step g (StartsPrime S y) Comma)
-  comma_behind (Opens S n) = goes (step g (Opens S n) Comma)
-  comma_behind (OpensName S n y) = goes (step g (OpensName S n y) Comma)
-  comma_behind (OpensPrime S n y) = goes (step g (OpensPrime S n y) Comma)
-  comma_behind (WantsItem S n l) = goes (step g (WantsItem S n l) Comma)
-  comma_behind (ItemName S n l y) = goes (step g (ItemName S n l y) Comma)
-  comma_behind (ItemPrime S n l y) = goes (step g (ItemPrime S n l y) Comma)
-  comma_behind (ItemBar S n l y) = goes (step g (ItemBar S n l y) Comma)
-  comma_behind (ItemBarName S n l y z) = goes (step g (ItemBarName S n l y z) Comma)
-  comma_behind (ItemEnds S n l) = goes (step g (ItemEnds S n l) Comma)
-  comma_behind (Invariants S t) = goes (step g (Invariants S t) Comma)
+  comma_behind x = goes (step g x Comma)
 
 -- the end of a text of a sort
 whole_is : (g : Sort) (T : List Part) (q : Piece) → ended_by (as_sort g) T q ≡ whole g T q

@@ -6,7 +6,7 @@ use Rattle.dlk_tree.specs.declared.op.Sort.TheVariants.{Term, Formula, Program}
 use Rattle.dlk_grammar.specs.Lexemes.{Word, Comma}
 use Rattle.dlk_grammar.specs.Phrases.{Phrase, Everywhere, Evolve, Flow, Items, add}
 use Rattle.dlk_grammar.specs.Substitutions.{Target, function, predicate, PairPhrase, to}
-use Rattle.dlk_machine.proofs.Machine.{◌>>=◌, Part, Piece, Is, Symbol, as_sort, reduce, whole, State, Wants, Has, Calls, Bars, BarsName, Binds, Starts, StartsPrime, Opens, OpensName, OpensPrime, WantsItem, ItemName, ItemPrime, ItemBar, ItemBarName, ItemEnds, Invariants, step, ended}
+use Rattle.dlk_machine.proofs.Machine.{◌>>=◌, Part, Piece, Is, Symbol, as_sort, reduce, whole, State, Wants, Has, Calls, Bars, BarsName, Binds, Starts, StartsPrime, StartsGets, StartsStar, Opens, OpensName, OpensPrime, WantsItem, ItemName, ItemPrime, ItemBar, ItemBarName, ItemEnds, Invariants, step, ended}
 use Rattle.dlk_machine.proofs.Parse.{or_else}
 use Rattle.dlk_machine.proofs.Pairs.{Right, EitherOf, TextOf, SystemOf, PairState, Begins, InRight, ItemWanted, ItemName as NameOfItem, InTerm, ItemEnds as EndOfItem, PairsState, Within, pair_step, pair_ended, pairs_step, right_sort, right_ended, within}
 use Rattle.dlk_parse.specs.Shows.{seen, last_of, Shows, Agrees}
@@ -99,23 +99,7 @@ right_ended_with w (Has S p) = right_reduced w S p (reduce 0 S p) refl ∙ throu
     through : (o : Option (List Part × Piece)) → (o >>= λ r. right_whole w r.0 r.1) ≡ (o >>= λ r. ended_by (right_whole w []) r.0 r.1)
     through (Some r) = right_by w r.0 r.1
     through None = refl
-right_ended_with w (Wants S) = right_not w (Wants S) (λ g. refl)
-right_ended_with w (Calls S n y) = right_not w (Calls S n y) (λ g. refl)
-right_ended_with w (Bars S y) = right_not w (Bars S y) (λ g. refl)
-right_ended_with w (BarsName S y z) = right_not w (BarsName S y z) (λ g. refl)
-right_ended_with w (Binds S q) = right_not w (Binds S q) (λ g. refl)
-right_ended_with w (Starts S y) = right_not w (Starts S y) (λ g. refl)
-right_ended_with w (StartsPrime S y) = right_not w (StartsPrime S y) (λ g. refl)
-right_ended_with w (Opens S n) = right_not w (Opens S n) (λ g. refl)
-right_ended_with w (OpensName S n y) = right_not w (OpensName S n y) (λ g. refl)
-right_ended_with w (OpensPrime S n y) = right_not w (OpensPrime S n y) (λ g. refl)
-right_ended_with w (WantsItem S n l) = right_not w (WantsItem S n l) (λ g. refl)
-right_ended_with w (ItemName S n l y) = right_not w (ItemName S n l y) (λ g. refl)
-right_ended_with w (ItemPrime S n l y) = right_not w (ItemPrime S n l y) (λ g. refl)
-right_ended_with w (ItemBar S n l y) = right_not w (ItemBar S n l y) (λ g. refl)
-right_ended_with w (ItemBarName S n l y z) = right_not w (ItemBarName S n l y z) (λ g. refl)
-right_ended_with w (ItemEnds S n l) = right_not w (ItemEnds S n l) (λ g. refl)
-right_ended_with w (Invariants S t) = right_not w (Invariants S t) (λ g. refl)
+right_ended_with w x = right_not w x (λ g. refl)
 
 -- a right side of which nothing is whole
 pub right_unended : (w : Right) (k : Stack) (m : Mode) (x : State) → ((last : Last) → m ≡ mode.Has last → ⊥) → Shows k m x → right_ended w x ≡ None

@@ -14,7 +14,7 @@ use Rattle.dlk_tree.specs.declared.op.Op.{Op}
 use Rattle.dlk_tree.specs.declared.op.Op.TheVariants as op
 use Rattle.dlk_grammar.specs.declared.token.Infix.{Infix}
 use Rattle.dlk_grammar.specs.declared.token.Infix.TheVariants.{Equiv, Imply, Or, And, Equal, NotEqual, AtLeast, Greater, AtMost, Less, Add, Sub, Mul, Div, Pow, Choice}
-use Rattle.dlk_grammar.specs.Phrases.{Everywhere, Phrase, Literal, Argument, Variable, Apply, Negate, Diff, Truth, Falsity, Hole, Holds, Context, Not, DiffF, Forall, Exists, Box, Dia, Binary, Const, Assign, Test, Then, Loop, System, Noted, Phrases, none, snoc, Call, Any, Evolve, Flow, Items, no_items, add}
+use Rattle.dlk_grammar.specs.Phrases.{Everywhere, Phrase, Literal, Argument, Variable, Apply, Negate, Diff, Truth, Falsity, Hole, Holds, Context, Not, DiffF, Forall, Exists, Box, Dia, Binary, Const, Assign, AssignAny, Test, Then, Loop, System, Noted, Phrases, none, snoc, Call, Any, Evolve, Flow, Items, no_items, add}
 use Rattle.dlk_grammar.specs.Erased.{symbol, ode_items, infix_op, count, erase, erase_all, item_terms, place_if, ills, ills_of_all, ills_of_items}
 use Rattle.dlk_grammar.specs.Readings.{phrases_in}
 use Rattle.dlk_parse.specs.Codes.{postfix, postfix_all, postfix_terms}
@@ -52,6 +52,7 @@ parts (Dia p a) = p ∷ a ∷ []
 parts (Binary o a b) = a ∷ b ∷ []
 parts (Const x) = []
 parts (Assign x primed a) = a ∷ []
+parts (AssignAny x) = []
 parts (Test a) = a ∷ []
 parts (Then p q) = p ∷ q ∷ []
 parts (Loop p) = p ∷ []
@@ -90,6 +91,7 @@ module _ (P : Phrase → Type 0) (rule : (p : Phrase) → All P (parts p) → P 
     of_each (Binary o a b) = rule (Binary o a b) (two (of_each a) (of_each b))
     of_each (Const x) = rule (Const x) (All-nil P)
     of_each (Assign x primed a) = rule (Assign x primed a) (one (of_each a))
+    of_each (AssignAny x) = rule (AssignAny x) (All-nil P)
     of_each (Test a) = rule (Test a) (one (of_each a))
     of_each (Then p q) = rule (Then p q) (two (of_each p) (of_each q))
     of_each (Loop p) = rule (Loop p) (one (of_each p))
@@ -295,6 +297,7 @@ view (Dia p a) = binary op.Dia p a refl refl refl refl refl
 view (Binary o a b) = binary (infix_op o) a b refl refl refl refl (infix_long o)
 view (Const x) = leaf (op.Const (symbol Prog x 0 Everywhere)) refl refl refl refl refl
 view (Assign x primed a) = unary (op.Assign (record { name = x; primed = primed })) a refl refl refl refl refl
+view (AssignAny x) = leaf (op.Any x) refl refl refl refl refl
 view (Test a) = unary op.Test a refl refl refl refl refl
 view (Then p q) = binary op.Seq p q refl refl refl refl refl
 view (Loop p) = unary op.Loop p refl refl refl refl refl

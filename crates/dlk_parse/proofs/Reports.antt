@@ -10,8 +10,8 @@ use Rattle.dlk_grammar.specs.Phrases.{Phrase}
 use Rattle.dlk_grammar.specs.Erased.{erase, ills, lowest}
 use Rattle.dlk_calculus.specs.Limits.{most_nodes, greatest_depth}
 use Rattle.dlk_grammar.specs.Readings.{Says, FirstPast, ReadFault, Literal, Nesting, Syntax, Shape, TooBig, TooDeep, fault_rank, SpeaksAgainst, IsReadFault}
-use Rattle.dlk_parse.specs.Faults.{IsFaultOf}
-use Rattle.dlk_parse.specs.Limits.{AreCalm, IsUnruly, AreWithin, IsBeyond}
+use Rattle.dlk_parse.specs.Faults.{IsParseFaultOf}
+use Rattle.dlk_parse.specs.Limits.{AreWithinTokenLimits, IsPastTokenLimit, AreWithin, IsBeyond}
 use Rattle.dlk_parse.specs.Said.{IsNoText}
 use Rattle.dlk_parse.specs.declared.fault.ParseFault.{ParseFault}
 use Rattle.dlk_parse.specs.declared.fault.ParseFault.TheVariants as parse
@@ -29,7 +29,7 @@ none_past measure limit ts n all p =
 -- a form of text, in which lexemes say one thing at most
 module _ {P : Type 0} (G : List Lexeme → P → Type 0) (parts : P → List Phrase) (one : (s : List Lexeme) (p q : P) → G s p → G s q → p ≡ q) (d : Dots) (tokens : List Token) where
   -- a literal or a bracket
-  pub unruly : (e : ParseFault) → IsUnruly tokens e → IsFaultOf (IsReadFault G parts d tokens) e
+  pub unruly : (e : ParseFault) → IsPastTokenLimit tokens e → IsParseFaultOf (IsReadFault G parts d tokens) e
   unruly (parse.Literal at) h = record { applies = h; first = none }
     where
       none : (other : ReadFault) → fault_rank other < 1 → ¬ SpeaksAgainst G parts d tokens other
@@ -54,7 +54,7 @@ module _ {P : Type 0} (G : List Lexeme → P → Type 0) (parts : P → List Phr
   unruly (parse.TooDeep n) h = absurd h
   unruly parse.Memory h = tt
 
-  module _ (calm : AreCalm tokens) where
+  module _ (calm : AreWithinTokenLimits tokens) where
     no_text : (other : ReadFault) → fault_rank other < 3 → ¬ SpeaksAgainst G parts d tokens other
     no_text (Literal k) l a = calm.long.at_none k a
     no_text (Nesting k) l a = calm.deep.at_none k a
@@ -64,7 +64,7 @@ module _ {P : Type 0} (G : List Lexeme → P → Type 0) (parts : P → List Phr
     no_text (TooDeep k) l a = omega arith
 
     -- what is no text
-    pub unsaid : (e : ParseFault) → IsFaultOf (IsNoText G d tokens) e → IsFaultOf (IsReadFault G parts d tokens) e
+    pub unsaid : (e : ParseFault) → IsParseFaultOf (IsNoText G d tokens) e → IsParseFaultOf (IsReadFault G parts d tokens) e
     unsaid (parse.Literal at) h = absurd h
     unsaid (parse.Nesting at) h = absurd h
     unsaid parse.Syntax h = record { applies = h; first = no_text }
@@ -106,7 +106,7 @@ module _ {P : Type 0} (G : List Lexeme → P → Type 0) (parts : P → List Phr
           before_depth (TooDeep k) l a = omega arith
 
       -- what is beyond the limits
-      pub beyond : (e : ParseFault) → IsBeyond (parts p) tokens e → IsFaultOf (IsReadFault G parts d tokens) e
+      pub beyond : (e : ParseFault) → IsBeyond (parts p) tokens e → IsParseFaultOf (IsReadFault G parts d tokens) e
       beyond (parse.Literal at) h = absurd h
       beyond (parse.Nesting at) h = absurd h
       beyond parse.Syntax h = absurd h

@@ -24,8 +24,8 @@ use Rattle.dlk_machine.proofs.Formed.{Each, formed}
 use Rattle.dlk_machine.proofs.Levels.{form_sort}
 use Rattle.dlk_machine.proofs.ParseLaws.{one_sides_read}
 use Rattle.dlk_machine.proofs.TextLaws.{least_below, one_grammar, form_ills_below, sequent_ills_below, tree_well_made, tree_not_ill, lexemes_real, sequent_formulas}
-use Rattle.dlk_parse.specs.Faults.{IsFaultOf}
-use Rattle.dlk_parse.specs.Limits.{AreCalm}
+use Rattle.dlk_parse.specs.Faults.{IsParseFaultOf}
+use Rattle.dlk_parse.specs.Limits.{AreWithinTokenLimits}
 use Rattle.dlk_parse.specs.Made.{IsWellMade, AreMade}
 use Rattle.dlk_parse.specs.Said.{SaysCode, IsReadCode, SaysSides, AreReadSides, HasPlaces, IsWithin, IsCodeBeyond, left_count}
 use Rattle.dlk_parse.specs.declared.code.Code.{Code}
@@ -49,10 +49,10 @@ module _ (form : Form) (d : Dots) (tokens : List Token) (code : List Code) where
     below = λ place e. least_among (length tokens) place (flat_map ills (itself s.said)) (form_ills_below form tokens s.said s.says.reads) e;
   }
 
-  pub tree_beyond : AreCalm tokens → SaysCode (grammar form) itself d tokens code → (e : ParseFault) → IsCodeBeyond code tokens e → IsFaultOf (IsTreeFault form d tokens) e
+  pub tree_beyond : AreWithinTokenLimits tokens → SaysCode (grammar form) itself d tokens code → (e : ParseFault) → IsCodeBeyond code tokens e → IsParseFaultOf (IsTreeFault form d tokens) e
   tree_beyond calm s e b = beyond (grammar form) itself (one_grammar form) d tokens calm s.said s.says e (b.of_phrases (itself s.said) s.code_is)
 
-  pub tree_within : AreCalm tokens → SaysCode (grammar form) itself d tokens code → IsWithin code → IsReadCode (grammar form) itself d tokens code
+  pub tree_within : AreWithinTokenLimits tokens → SaysCode (grammar form) itself d tokens code → IsWithin code → IsReadCode (grammar form) itself d tokens code
   tree_within calm s w = record {
     said = s.said;
     says = s.says;
@@ -79,10 +79,10 @@ module _ (tokens : List Token) (s : SaidSides) where
     below = λ place e. least_among (length tokens) place (flat_map ills (both_sides h.said)) (sequent_ills_below tokens h.said h.says.reads) e;
   }
 
-  pub sides_beyond : AreCalm tokens → SaysSides tokens s → (e : ParseFault) → IsCodeBeyond s.code.items tokens e → IsFaultOf (IsSequentFault tokens) e
+  pub sides_beyond : AreWithinTokenLimits tokens → SaysSides tokens s → (e : ParseFault) → IsCodeBeyond s.code.items tokens e → IsParseFaultOf (IsSequentFault tokens) e
   sides_beyond calm h e b = beyond ReadsSequent both_sides one_sides_read Refused tokens calm h.said h.says e (b.of_phrases (both_sides h.said) h.code_is)
 
-  pub sides_within : AreCalm tokens → SaysSides tokens s → IsWithin s.code.items → AreReadSides tokens s
+  pub sides_within : AreWithinTokenLimits tokens → SaysSides tokens s → IsWithin s.code.items → AreReadSides tokens s
   sides_within calm h w = record {
     said = h.said;
     says = h.says;

@@ -18,8 +18,8 @@ use Rattle.dlk_machine.proofs.Pairs.{pairs_reader}
 use Rattle.dlk_machine.proofs.Parse.{parse}
 use Rattle.dlk_machine.proofs.ParseLaws.{pairs_read_says, pairs_fault_says_nothing, one_pairs_read}
 use Rattle.dlk_machine.proofs.TextLaws.{pairs_ills_below, pairs_well_made}
-use Rattle.dlk_parse.specs.Faults.{IsFaultOf}
-use Rattle.dlk_parse.specs.Limits.{AreCalm}
+use Rattle.dlk_parse.specs.Faults.{IsParseFaultOf}
+use Rattle.dlk_parse.specs.Limits.{AreWithinTokenLimits}
 use Rattle.dlk_parse.specs.Made.{IsWellMade, AreMade}
 use Rattle.dlk_parse.specs.Readers.{IsParsed, Answers}
 use Rattle.dlk_parse.specs.PairReaders.{IsCodeOfPairs, SaysPairs, AreReadPairs}
@@ -36,7 +36,7 @@ module _ (tokens : List Token) where
   pub pairs_said : (c : PairsCode) → IsParsed IsCodeOfPairs c (parse Allowed pairs_reader (lexemes tokens)) → SaysPairs tokens c
   pairs_said c h = record { said = h.said; says = pairs_read_says (lexemes tokens) h.said h.parsed; shown = h.shown }
 
-  pub pairs_unsaid : (stop : Stop) → Answers {X = PairsCode} IsCodeOfPairs (parse Allowed pairs_reader (lexemes tokens)) (Err stop) → IsFaultOf (IsNoText ReadsSubstitution Allowed tokens) (of_stop stop)
+  pub pairs_unsaid : (stop : Stop) → Answers {X = PairsCode} IsCodeOfPairs (parse Allowed pairs_reader (lexemes tokens)) (Err stop) → IsParseFaultOf (IsNoText ReadsSubstitution Allowed tokens) (of_stop stop)
   pairs_unsaid Memory h = tt
   pairs_unsaid (Syntax place) h = pairs_fault_says_nothing (lexemes tokens) place h
 
@@ -48,10 +48,10 @@ module _ (tokens : List Token) where
       below = λ place e. least_among (length tokens) place (flat_map ills (replacements h.said)) (pairs_ills_below tokens h.said h.says.reads) e;
     }
 
-    pub pairs_beyond : AreCalm tokens → SaysPairs tokens c → (e : ParseFault) → IsCodeBeyond c.code.items tokens e → IsFaultOf (ArePairsFault tokens) e
+    pub pairs_beyond : AreWithinTokenLimits tokens → SaysPairs tokens c → (e : ParseFault) → IsCodeBeyond c.code.items tokens e → IsParseFaultOf (ArePairsFault tokens) e
     pairs_beyond calm h e b = beyond ReadsSubstitution replacements one_pairs_read Allowed tokens calm h.said h.says e (b.of_phrases (replacements h.said) h.shown.code)
 
-    pub pairs_within : AreCalm tokens → SaysPairs tokens c → IsWithin c.code.items → AreReadPairs tokens c
+    pub pairs_within : AreWithinTokenLimits tokens → SaysPairs tokens c → IsWithin c.code.items → AreReadPairs tokens c
     pairs_within calm h w = record {
       said = h.said;
       says = h.says;

@@ -16,7 +16,7 @@ use Rattle.dlk_machine.proofs.Parse.{parse}
 use Rattle.dlk_machine.proofs.ParseLaws.{machine_of, form_read_says, form_fault_says_nothing, sequent_read_says, sequent_fault_says_nothing}
 use Rattle.dlk_machine.proofs.Sequents.{sequent_reader}
 use Rattle.dlk_parse.specs.Codes.{postfix, postfix_all}
-use Rattle.dlk_parse.specs.Faults.{IsFaultOf}
+use Rattle.dlk_parse.specs.Faults.{IsParseFaultOf}
 use Rattle.dlk_parse.specs.Readers.{IsParsed, IsCodeOf, Answers}
 use Rattle.dlk_parse.specs.Said.{SaysCode, IsNoText, SaysSides}
 use Rattle.dlk_parse.specs.Stops.{of_stop}
@@ -33,7 +33,7 @@ tree_said d wanted tokens code h = record {
   code_is = h.shown ∙ sym (append-nil (postfix h.said));
 }
 
-pub tree_unsaid : (d : Dots) (wanted : Form) (tokens : List Token) (stop : Stop) → Answers {X = Vec Code} (λ (v : Vec Code) p. v.items ≡ postfix p) (parse d (machine_of wanted) (lexemes tokens)) (Err stop) → IsFaultOf (IsNoText (grammar wanted) d tokens) (of_stop stop)
+pub tree_unsaid : (d : Dots) (wanted : Form) (tokens : List Token) (stop : Stop) → Answers {X = Vec Code} (λ (v : Vec Code) p. v.items ≡ postfix p) (parse d (machine_of wanted) (lexemes tokens)) (Err stop) → IsParseFaultOf (IsNoText (grammar wanted) d tokens) (of_stop stop)
 tree_unsaid d wanted tokens Memory h = tt
 tree_unsaid d wanted tokens (Syntax place) h = form_fault_says_nothing d wanted (lexemes tokens) place h
 
@@ -51,6 +51,6 @@ sides_of tokens c (Turned l m) e h = record {
 pub sides_said : (tokens : List Token) (c : SidesCode) → IsParsed IsCodeOf c (parse Refused sequent_reader (lexemes tokens)) → SaysSides tokens (record { code = c.code; left = c.left })
 sides_said tokens c h = sides_of tokens c h.said h.parsed h.shown
 
-pub sides_unsaid : (tokens : List Token) (stop : Stop) → Answers {X = SidesCode} IsCodeOf (parse Refused sequent_reader (lexemes tokens)) (Err stop) → IsFaultOf (IsNoText ReadsSequent Refused tokens) (of_stop stop)
+pub sides_unsaid : (tokens : List Token) (stop : Stop) → Answers {X = SidesCode} IsCodeOf (parse Refused sequent_reader (lexemes tokens)) (Err stop) → IsParseFaultOf (IsNoText ReadsSequent Refused tokens) (of_stop stop)
 sides_unsaid tokens Memory h = tt
 sides_unsaid tokens (Syntax place) h = sequent_fault_says_nothing Refused (lexemes tokens) place h

@@ -2,7 +2,7 @@
 use Rattle.std.specs.Prelude.{List, [], ◌∷◌, ◌++◌, true, false}
 use Rattle.dlk_tree.specs.declared.op.Kind.TheVariants.{UnitFunc, UnitPred, Quant, Prog}
 use Rattle.dlk_tree.specs.declared.op.Op.TheVariants as op
-use Rattle.dlk_grammar.specs.Phrases.{Everywhere, Phrase, Literal, Argument, Variable, Apply, Negate, Diff, Truth, Falsity, Hole, Holds, Context, Not, DiffF, Forall, Exists, Box, Dia, Binary, Const, Assign, Test, Then, Loop, System, Noted, Phrases, none, snoc, Call, Any, Evolve, Flow, Items, no_items, add}
+use Rattle.dlk_grammar.specs.Phrases.{Everywhere, Phrase, Literal, Argument, Variable, Apply, Negate, Diff, Truth, Falsity, Hole, Holds, Context, Not, DiffF, Forall, Exists, Box, Dia, Binary, Const, Assign, AssignAny, Test, Then, Loop, System, Noted, Phrases, none, snoc, Call, Any, Evolve, Flow, Items, no_items, add}
 use Rattle.dlk_grammar.specs.Erased.{symbol, ode_items, infix_op, count}
 use Rattle.dlk_parse.specs.declared.code.Code.{Code}
 use Rattle.dlk_parse.specs.declared.code.Code.TheVariants as code
@@ -31,6 +31,7 @@ abbrev mutual
   postfix (Binary o a b) = postfix a ++ (postfix b ++ code.Operator (infix_op o) ∷ [])
   postfix (Const x) = code.Operator (op.Const (symbol Prog x 0 Everywhere)) ∷ []
   postfix (Assign x primed a) = postfix a ++ code.Operator (op.Assign (record { name = x; primed = primed })) ∷ []
+  postfix (AssignAny x) = code.Operator (op.Any x) ∷ []
   postfix (Test a) = postfix a ++ code.Operator op.Test ∷ []
   postfix (Then p q) = postfix p ++ (postfix q ++ code.Operator op.Seq ∷ [])
   postfix (Loop p) = postfix p ++ code.Operator op.Loop ∷ []

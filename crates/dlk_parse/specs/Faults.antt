@@ -10,19 +10,19 @@ use Rattle.dlk_parse.specs.declared.fault.TextFault.{TextFault}
 use Rattle.dlk_parse.specs.declared.fault.TextFault.TheVariants as text
 
 -- the fault of the tokens; want of memory is free
-abbrev pub IsFaultOf : (ReadFault → Type 0) → ParseFault → Type 0
-IsFaultOf is_fault (parse.Literal at) = is_fault (Literal at)
-IsFaultOf is_fault (parse.Nesting at) = is_fault (Nesting at)
-IsFaultOf is_fault parse.Syntax = is_fault Syntax
-IsFaultOf is_fault (parse.Shape at) = is_fault (Shape at)
-IsFaultOf is_fault (parse.TooBig size) = is_fault (TooBig size)
-IsFaultOf is_fault (parse.TooDeep depth) = is_fault (TooDeep depth)
-IsFaultOf is_fault parse.Memory = Unit {0}
+abbrev pub IsParseFaultOf : (ReadFault → Type 0) → ParseFault → Type 0
+IsParseFaultOf is_fault (parse.Literal at) = is_fault (Literal at)
+IsParseFaultOf is_fault (parse.Nesting at) = is_fault (Nesting at)
+IsParseFaultOf is_fault parse.Syntax = is_fault Syntax
+IsParseFaultOf is_fault (parse.Shape at) = is_fault (Shape at)
+IsParseFaultOf is_fault (parse.TooBig size) = is_fault (TooBig size)
+IsParseFaultOf is_fault (parse.TooDeep depth) = is_fault (TooDeep depth)
+IsParseFaultOf is_fault parse.Memory = Unit {0}
 
 -- the fault of the text; want of memory is free
 abbrev pub IsTextFaultOf : (WhyNoText → Type 0) → TextFault → Type 0
 IsTextFaultOf is_fault (text.BadByte at) = is_fault (BadByte at)
-IsTextFaultOf is_fault (text.Unread why) = IsFaultOf (λ fault. is_fault (Unread fault)) why
+IsTextFaultOf is_fault (text.Unread why) = IsParseFaultOf (λ fault. is_fault (Unread fault)) why
 
 -- a fault of the split as one of a text
 abbrev pub of_lex : LexFault → TextFault

@@ -54,16 +54,16 @@ pub record IsAmong (ms : List Measure) (tokens : List Token) : Type 0 where
   pub below : (place : ℕ) → least_ill ms ≡ Some place → place < length tokens
 
 -- no literal is too long, and no bracket too deep
-pub record AreCalm (tokens : List Token) : Type 0 where
+pub record AreWithinTokenLimits (tokens : List Token) : Type 0 where
   pub long : HasNone IsLong tokens
   pub deep : HasNone OpensTooDeep tokens
 
 -- the first that speaks against tokens, in the order literal, nesting
-abbrev pub IsUnruly : List Token → ParseFault → Type 0
-IsUnruly tokens (parse.Literal at) = FirstAt IsLong tokens at
-IsUnruly tokens (parse.Nesting at) = HasNone IsLong tokens × FirstAt OpensTooDeep tokens at
-IsUnruly tokens parse.Syntax = ⊥
-IsUnruly tokens (parse.Shape at) = ⊥
-IsUnruly tokens (parse.TooBig n) = ⊥
-IsUnruly tokens (parse.TooDeep n) = ⊥
-IsUnruly tokens parse.Memory = ⊥
+abbrev pub IsPastTokenLimit : List Token → ParseFault → Type 0
+IsPastTokenLimit tokens (parse.Literal at) = FirstAt IsLong tokens at
+IsPastTokenLimit tokens (parse.Nesting at) = HasNone IsLong tokens × FirstAt OpensTooDeep tokens at
+IsPastTokenLimit tokens parse.Syntax = ⊥
+IsPastTokenLimit tokens (parse.Shape at) = ⊥
+IsPastTokenLimit tokens (parse.TooBig n) = ⊥
+IsPastTokenLimit tokens (parse.TooDeep n) = ⊥
+IsPastTokenLimit tokens parse.Memory = ⊥

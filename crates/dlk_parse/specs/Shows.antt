@@ -6,10 +6,10 @@ use Rattle.dlk_tree.specs.declared.op.Kind.TheVariants.{UnitFunc, UnitPred}
 use Rattle.dlk_tree.specs.declared.op.Op.{Op}
 use Rattle.dlk_tree.specs.declared.op.Op.TheVariants as op
 use Rattle.dlk_grammar.specs.Erased.{infix_op, ode_items, taboo, count}
-use Rattle.dlk_grammar.specs.declared.token.Infix.TheVariants.{And, Greater}
+use Rattle.dlk_grammar.specs.declared.token.Infix.TheVariants.{And, Greater, Mul}
 use Rattle.dlk_grammar.specs.Lexemes.{Word, Lexeme, Name, Number, Dot, Blank, True, False, All, Exist, Invariant, RoundBars, RoundBar, BarRound, BraceBar, BarBrace, Open, Close, OpenBox, CloseBox, OpenBrace, CloseBrace, Bang, Prime, Gets, Query, Semi, Comma, Turnstile, Becomes, Swaps, Op as Operator}
 use Rattle.dlk_grammar.specs.Phrases.{Space, Everywhere, Except, Phrase, Variable, Apply, Holds, Head, Call, Any, Items}
-use Rattle.dlk_machine.proofs.Machine.{◌>>=◌, when, as_sort, operand_sort, result_sort, fits, Between, By, Next, Quantifier, ForAll, ForSome, Modality, InBox, InDia, Prefix, Minus, Bang', Bound, Modal, Holder, Round, Args, InContext, In, InBrace, Assigns, Tests, Evolves, Domain, Notes, Part, Left, Before, Inside, Tail, Done, Bare, Grouped, Braced, Starred, Annotated, Piece, Is, Symbol, State, Wants, Has, Calls, Bars, BarsName, Binds, Starts, StartsPrime, Opens, OpensName, OpensPrime, WantsItem, ItemName, ItemPrime, ItemBar, ItemBarName, ItemEnds, Invariants, wanted}
+use Rattle.dlk_machine.proofs.Machine.{◌>>=◌, when, as_sort, operand_sort, result_sort, fits, Between, By, Next, Quantifier, ForAll, ForSome, Modality, InBox, InDia, Prefix, Minus, Bang', Bound, Modal, Holder, Round, Args, InContext, In, InBrace, Assigns, Tests, Evolves, Domain, Notes, Part, Left, Before, Inside, Tail, Done, Bare, Grouped, Braced, Starred, Annotated, Piece, Is, Symbol, State, Wants, Has, Calls, Bars, BarsName, Binds, Starts, StartsPrime, StartsGets, StartsStar, Opens, OpensName, OpensPrime, WantsItem, ItemName, ItemPrime, ItemBar, ItemBarName, ItemEnds, Invariants, wanted}
 use Rattle.dlk_parse.specs.Codes.{postfix, postfix_all, postfix_terms}
 use Rattle.dlk_parse.specs.declared.code.Code.{Code}
 use Rattle.dlk_parse.specs.declared.code.Code.TheVariants as code
@@ -73,6 +73,11 @@ seen lexeme.Turnstile = Turnstile
 seen lexeme.Becomes = Becomes
 seen lexeme.Swaps = Swaps
 seen (lexeme.Op o) = Operator o
+
+-- the star, which behind `:=` stands for any value
+abbrev pub is_star : SeenLexeme → Bool
+is_star (lexeme.Op Mul) = true
+is_star _ = false
 
 -- The lexemes of one token; want of memory is free.
 abbrev pub IsSeen : List Lexeme → Result (Option SeenLexeme) StepFault → Type 0
@@ -257,6 +262,8 @@ Shows k m (BarsName S x y) = Keeps k m (mode.BarsName x y) S []
 Shows k m (Binds S q) = Keeps k m (mode.Binds (quantifier_of q)) S []
 Shows k m (Starts S x) = Keeps k m (mode.Starts x) S []
 Shows k m (StartsPrime S x) = Keeps k m (mode.StartsPrime x) S []
+Shows k m (StartsGets S x) = Keeps k m (mode.StartsGets x) S []
+Shows k m (StartsStar S x) = Keeps k m (mode.StartsStar x) S []
 Shows k m (Opens S n) = Keeps k m (mode.Opens n) S []
 Shows k m (OpensName S n x) = Keeps k m (mode.OpensName n x) S []
 Shows k m (OpensPrime S n x) = Keeps k m (mode.OpensPrime n x) S []

@@ -2,21 +2,19 @@
 ghost use Rattle.std.specs.Prelude.{◌≡◌, ◌≤◌, ◌↔◌, IsTrue, true, IfSome, IfNone, MatchResult, map};
 ghost use Rattle.dlk_grammar.specs.declared.token.TokenKind.TheVariants.{LongNumber};
 ghost use Rattle.dlk_calculus.specs.Limits.{most_nodes, greatest_depth};
-ghost use Rattle.dlk_grammar.specs.Readings.{opens, closes, level_behind, FirstAt, IsLong, OpensTooDeep};
-ghost use Rattle.dlk_parse.specs.Limits.{HasNone, least_ill, past, KnowsWithin, KnowsBeyond, IsAmong, AreCalm, IsUnruly};
+ghost use Rattle.dlk_grammar.specs.Readings.{opens, closes, level_behind, most_levels, FirstAt, IsLong, OpensTooDeep};
+ghost use Rattle.dlk_parse.specs.Limits.{HasNone, least_ill, past, KnowsWithin, KnowsBeyond, IsAmong, AreWithinTokenLimits, IsPastTokenLimit};
 ghost use Rattle.dlk_parse.specs.Said.{HasPlaces, IsWithin, IsCodeBeyond};
 
 use crate::code::Code;
 use crate::fault::ParseFault;
 use crate::measures::{Measure, lesser, measures};
+use dlk_calculus::{GREATEST_DEPTH, MOST_NODES};
 use dlk_grammar::{Mark, Token, TokenKind};
 use std::alloc::Global;
 
-const GREATEST_LEVEL: u32 = 1200;
-
-const MOST_NODES: u32 = 65_536;
-
-const GREATEST_DEPTH: u32 = 1000;
+/// How many bracket levels may be open.
+const MOST_LEVELS: u32 = 1_200;
 
 fn is_long(kind: &TokenKind) -> bool
     ensures { IsTrue result ↔ (kind.now ≡ LongNumber) }
@@ -56,14 +54,14 @@ fn closes(kind: &TokenKind) -> bool
 }
 
 fn opens_too_deep(level: u32, kind: &TokenKind) -> bool
-    ensures { IsTrue result ↔ (level ≡ 1200) × (opens kind.now ≡ true) }
+    ensures { IsTrue result ↔ (level ≡ most_levels) × (opens kind.now ≡ true) }
 {
-    level == GREATEST_LEVEL && opens(kind)
+    level == MOST_LEVELS && opens(kind)
 }
 
 /// The bracket level behind a token.
 fn level_behind(level: u32, kind: &TokenKind) -> u32
-    requires { level ≤ 1200 }
+    requires { level ≤ most_levels }
     ensures { result ≡ level_behind level kind.now }
 {
     if opens(kind) {
@@ -147,7 +145,7 @@ fn check_limits(tokens: &[Token], measures: &[Measure]) -> Result<(), ParseFault
 
 /// Refuses a literal that is too long and a bracket that is too deep, whichever applies first in this order.
 pub(crate) fn check_tokens(tokens: &[Token]) -> Result<(), ParseFault>
-    ensures { MatchResult result (λ _. AreCalm tokens.now) (IsUnruly tokens.now) }
+    ensures { MatchResult result (λ _. AreWithinTokenLimits tokens.now) (IsPastTokenLimit tokens.now) }
 {
     if let Some(at) = first_long(tokens) {
         return Err(ParseFault::Literal { at });

@@ -1,14 +1,11 @@
 //! Where a text is of ill shape, and the sizes and depths of its trees, before a node is made.
 ghost use Rattle.std.specs.Prelude.{◌≡◌, ◌≤◌, ◌+◌, ◌++◌, IfOk, OnOk, length};
-ghost use Rattle.std.specs.List.{list_any};
-ghost use Rattle.std.specs.Str.{bytes_eq};
-ghost use Rattle.dlk_tree.specs.Table.{evolved, all_distinct};
 ghost use Rattle.dlk_parse.specs.Measures.{AreMeasures};
 ghost use Rattle.dlk_parse.specs.Stacks.{top, below};
 ghost use Rattle.dlk_parse.specs.Measuring.{are_ill, lesser, place_when, over_kids, joined, beside, measure_step};
 
 use crate::code::Code;
-use dlk_tree::{Name, OdeItem, arity_of};
+use dlk_tree::{OdeItem, are_distinct, arity_of, count_evolved};
 use std::alloc::{AllocError, Global};
 
 /// What is measured of a tree and of the formulas that stand beside it in the text: the first byte of the least place of
@@ -42,7 +39,7 @@ fn step(stack: &mut Vec<Measure>, code: &Code) -> Result<(), AllocError>
             let items = items.items();
             join(
                 stack,
-                right_sides(items) + 1,
+                count_evolved(items) + 1,
                 place_when(are_ill(items), *at),
             )
         }
@@ -121,41 +118,4 @@ fn are_ill(items: &[OdeItem]) -> bool
     ensures { result ≡ are_ill items.now }
 {
     items.len() > 64 || !are_distinct(items)
-}
-
-fn are_distinct(items: &[OdeItem]) -> bool
-    ensures { result ≡ all_distinct (evolved items.now) }
-{
-    match items.split_first() {
-        None => true,
-        Some((OdeItem::Evolve(x), rest)) => !evolves(rest, x) && are_distinct(rest),
-        Some((OdeItem::Const(_), rest)) => are_distinct(rest),
-    }
-}
-
-fn evolves(items: &[OdeItem], x: &Name) -> bool
-    ensures { result ≡ list_any (bytes_eq x.now) (evolved items.now) }
-{
-    for item in items {
-        if let OdeItem::Evolve(y) = item {
-            if x == y {
-                return true;
-            }
-        }
-    }
-    false
-}
-
-/// How many variables a system evolves.
-fn right_sides(items: &[OdeItem]) -> usize
-    ensures value { result ≡ length (evolved items.now) }
-    ensures bound { result ≤ length items.now }
-{
-    let mut n = 0;
-    for item in items {
-        if let OdeItem::Evolve(_) = item {
-            n += 1;
-        }
-    }
-    n
 }

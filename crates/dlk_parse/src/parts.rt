@@ -122,9 +122,11 @@ pub(crate) enum Mode {
     },
     /// After `\forall` or `\exists`.
     Binds(Quantifier),
-    /// After `x` and after `x '` where a statement begins.
+    /// After `x`, after `x '`, after `x :=` and after `x := *` where a statement begins.
     Starts(Name),
     StartsPrime(Name),
+    StartsGets(Name),
+    StartsStar(Name),
     /// After `{` and after `{ x` and after `{ x '` where a program or a system may follow.
     Opens(usize),
     OpensName {

@@ -12,7 +12,7 @@ ghost use Rattle.dlk_grammar.specs.Substitutions.{ArePairs, ArePairsFault};
 ghost use Rattle.dlk_store.specs.Stores.{IsId, tree};
 ghost use Rattle.dlk_sequent.specs.Sequents.{sequent_at, IsKnown};
 ghost use Rattle.dlk_sequent.specs.Substitutions.{pairs_at, AreKnownPairs};
-ghost use Rattle.dlk_parse.specs.Faults.{IsFaultOf, UnlessMemory};
+ghost use Rattle.dlk_parse.specs.Faults.{IsParseFaultOf, UnlessMemory};
 ghost use Rattle.dlk_parse.specs.PairReaders.{AreReadPairs};
 ghost use Rattle.dlk_parse.specs.Said.{IsReadCode, AreReadSides};
 
@@ -36,7 +36,7 @@ fn tree_code(
     dots: Dots,
 ) -> Result<Vec<Code>, ParseFault>
     ensures read { IfOk result (λ v. IsReadCode (grammar form) itself dots tokens.now v.items) }
-    ensures fault { IfErr result (IsFaultOf (IsTreeFault form dots tokens.now)) }
+    ensures fault { IfErr result (IsParseFaultOf (IsTreeFault form dots tokens.now)) }
 {
     check_tokens(tokens)?;
     let code = said_tree(alloc, form, dots, tokens)?;
@@ -47,7 +47,7 @@ fn tree_code(
 /// The code of the formulas of the sequent that the tokens are a text of.
 fn sides_code(alloc: Global, tokens: &[Token]) -> Result<SaidSides, ParseFault>
     ensures read { IfOk result (AreReadSides tokens.now) }
-    ensures fault { IfErr result (IsFaultOf (IsSequentFault tokens.now)) }
+    ensures fault { IfErr result (IsParseFaultOf (IsSequentFault tokens.now)) }
 {
     check_tokens(tokens)?;
     let sides = said_sides(alloc, tokens)?;
@@ -58,7 +58,7 @@ fn sides_code(alloc: Global, tokens: &[Token]) -> Result<SaidSides, ParseFault>
 /// The code of the pairs of the substitution that the tokens are a text of.
 fn pairs_code(alloc: Global, tokens: &[Token]) -> Result<PairsCode, ParseFault>
     ensures read { IfOk result (AreReadPairs tokens.now) }
-    ensures fault { IfErr result (IsFaultOf (ArePairsFault tokens.now)) }
+    ensures fault { IfErr result (IsParseFaultOf (ArePairsFault tokens.now)) }
 {
     check_tokens(tokens)?;
     let pairs = said_pairs(alloc, tokens)?;
@@ -77,7 +77,7 @@ fn read<S: Store>(
     requires { AreTokens tokens.now }
     ensures found { IfOk result (λ id. IsTree form dots tokens.now (tree (S.trees store.new) id)) }
     ensures known { IfOk result (IsId (S.trees store.new)) }
-    ensures fault { IfErr result (IsFaultOf (IsTreeFault form dots tokens.now)) }
+    ensures fault { IfErr result (IsParseFaultOf (IsTreeFault form dots tokens.now)) }
     ensures unmade { IfErr result (UnlessMemory (store.new ≡ store.old)) }
     ensures grows { S.grows store.old store.new }
 {
@@ -105,7 +105,7 @@ pub fn formula<S: Store>(
     ensures found { IfOk result (λ id. IsTree form_of.Formula dots tokens.now (tree (S.trees store.new) id)) }
     ensures known { IfOk result (IsId (S.trees store.new)) }
     ensures sort { IfOk result (λ id. sort (tree (S.trees store.new) id) ≡ sort_of.Formula) }
-    ensures fault { IfErr result (IsFaultOf (IsTreeFault form_of.Formula dots tokens.now)) }
+    ensures fault { IfErr result (IsParseFaultOf (IsTreeFault form_of.Formula dots tokens.now)) }
     ensures unmade { IfErr result (UnlessMemory (store.new ≡ store.old)) }
     ensures grows { S.grows store.old store.new }
 {
@@ -123,7 +123,7 @@ pub fn term<S: Store>(
     ensures found { IfOk result (λ id. IsTree form_of.Term dots tokens.now (tree (S.trees store.new) id)) }
     ensures known { IfOk result (IsId (S.trees store.new)) }
     ensures sort { IfOk result (λ id. sort (tree (S.trees store.new) id) ≡ sort_of.Term) }
-    ensures fault { IfErr result (IsFaultOf (IsTreeFault form_of.Term dots tokens.now)) }
+    ensures fault { IfErr result (IsParseFaultOf (IsTreeFault form_of.Term dots tokens.now)) }
     ensures unmade { IfErr result (UnlessMemory (store.new ≡ store.old)) }
     ensures grows { S.grows store.old store.new }
 {
@@ -141,7 +141,7 @@ pub fn program<S: Store>(
     ensures found { IfOk result (λ id. IsTree form_of.Program dots tokens.now (tree (S.trees store.new) id)) }
     ensures known { IfOk result (IsId (S.trees store.new)) }
     ensures sort { IfOk result (λ id. sort (tree (S.trees store.new) id) ≡ sort_of.Program) }
-    ensures fault { IfErr result (IsFaultOf (IsTreeFault form_of.Program dots tokens.now)) }
+    ensures fault { IfErr result (IsParseFaultOf (IsTreeFault form_of.Program dots tokens.now)) }
     ensures unmade { IfErr result (UnlessMemory (store.new ≡ store.old)) }
     ensures grows { S.grows store.old store.new }
 {
@@ -159,7 +159,7 @@ pub fn expression<S: Store>(
     requires { AreTokens tokens.now }
     ensures found { IfOk result (λ id. IsTree form_of.Expression dots tokens.now (tree (S.trees store.new) id)) }
     ensures known { IfOk result (IsId (S.trees store.new)) }
-    ensures fault { IfErr result (IsFaultOf (IsTreeFault form_of.Expression dots tokens.now)) }
+    ensures fault { IfErr result (IsParseFaultOf (IsTreeFault form_of.Expression dots tokens.now)) }
     ensures unmade { IfErr result (UnlessMemory (store.new ≡ store.old)) }
     ensures grows { S.grows store.old store.new }
 {
@@ -178,7 +178,7 @@ pub fn sequent<S: Store>(
     ensures found { IfOk result (λ s. IsSequentOf tokens.now (sequent_at (S.trees store.new) s)) }
     ensures known { IfOk result (IsKnown (S.trees store.new)) }
     ensures formulas { IfOk result (λ s. IsSequent (sequent_at (S.trees store.new) s)) }
-    ensures fault { IfErr result (IsFaultOf (IsSequentFault tokens.now)) }
+    ensures fault { IfErr result (IsParseFaultOf (IsSequentFault tokens.now)) }
     ensures unmade { IfErr result (UnlessMemory (store.new ≡ store.old)) }
     ensures grows { S.grows store.old store.new }
 {
@@ -216,7 +216,7 @@ pub fn substitution<S: Store>(
     requires { AreTokens tokens.now }
     ensures found { IfOk result (λ pairs. ArePairs tokens.now (pairs_at (S.trees store.new) pairs.items)) }
     ensures known { IfOk result (λ pairs. AreKnownPairs (S.trees store.new) pairs.items) }
-    ensures fault { IfErr result (IsFaultOf (ArePairsFault tokens.now)) }
+    ensures fault { IfErr result (IsParseFaultOf (ArePairsFault tokens.now)) }
     ensures unmade { IfErr result (UnlessMemory (store.new ≡ store.old)) }
     ensures grows { S.grows store.old store.new }
 {

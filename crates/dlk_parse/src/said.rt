@@ -4,7 +4,7 @@ ghost use Rattle.dlk_grammar.specs.declared.token.Dots.TheVariants.{Allowed, Ref
 ghost use Rattle.dlk_grammar.specs.Grammar.{ReadsSequent};
 ghost use Rattle.dlk_grammar.specs.Readings.{grammar, itself, both_sides};
 ghost use Rattle.dlk_grammar.specs.Substitutions.{ReadsSubstitution};
-ghost use Rattle.dlk_parse.specs.Faults.{IsFaultOf};
+ghost use Rattle.dlk_parse.specs.Faults.{IsParseFaultOf};
 ghost use Rattle.dlk_parse.specs.PairReaders.{SaysPairs};
 ghost use Rattle.dlk_parse.specs.Said.{SaysCode, IsNoText, SaysSides};
 
@@ -32,7 +32,7 @@ pub(crate) fn said_tree(
     tokens: &[Token],
 ) -> Result<Vec<Code>, ParseFault>
     ensures says { IfOk result (λ v. SaysCode (grammar form) itself dots tokens.now v.items) }
-    ensures fault { IfErr result (IsFaultOf (IsNoText (grammar form) dots tokens.now)) }
+    ensures fault { IfErr result (IsParseFaultOf (IsNoText (grammar form) dots tokens.now)) }
 {
     let code = read_tree(alloc, form, dots, tokens)?;
     Ok(code)
@@ -41,7 +41,7 @@ pub(crate) fn said_tree(
 /// The code of the formulas of the sequent that the tokens are a text of.
 pub(crate) fn said_sides(alloc: Global, tokens: &[Token]) -> Result<SaidSides, ParseFault>
     ensures says { IfOk result (SaysSides tokens.now) }
-    ensures fault { IfErr result (IsFaultOf (IsNoText ReadsSequent Refused tokens.now)) }
+    ensures fault { IfErr result (IsParseFaultOf (IsNoText ReadsSequent Refused tokens.now)) }
 {
     let SidesCode { left, code, .. } = read_sides(alloc, tokens)?;
     Ok(SaidSides { code, left })
@@ -50,7 +50,7 @@ pub(crate) fn said_sides(alloc: Global, tokens: &[Token]) -> Result<SaidSides, P
 /// The code of the pairs of the substitution that the tokens are a text of.
 pub(crate) fn said_pairs(alloc: Global, tokens: &[Token]) -> Result<PairsCode, ParseFault>
     ensures says { IfOk result (SaysPairs tokens.now) }
-    ensures fault { IfErr result (IsFaultOf (IsNoText ReadsSubstitution Allowed tokens.now)) }
+    ensures fault { IfErr result (IsParseFaultOf (IsNoText ReadsSubstitution Allowed tokens.now)) }
 {
     let code = read_pairs(alloc, tokens)?;
     Ok(code)

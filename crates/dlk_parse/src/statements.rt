@@ -3,15 +3,16 @@ ghost use Rattle.std.specs.Prelude.{◌≡◌, List, [], ◌∷◌, Some};
 ghost use Rattle.dlk_grammar.specs.Phrases.{Phrase, Const, no_items};
 ghost use Rattle.dlk_parse.specs.declared.stack.Stack.{Stack as TheStack};
 ghost use Rattle.dlk_parse.specs.declared.code.Code.TheVariants as code;
-ghost use Rattle.dlk_machine.proofs.Machine.{Part as MachinePart, Inside, InBrace, Piece, start_statement, statement_step, statement_prime_step, opens_step, opens_name_step, opens_prime_step, star_after, invariant_after, semi_after, invariants_step};
+ghost use Rattle.dlk_machine.proofs.Machine.{Part as MachinePart, Inside, InBrace, Piece, start_statement, statement_step, statement_prime_step, statement_gets_step, statement_star_step, opens_step, opens_name_step, opens_prime_step, star_after, invariant_after, semi_after, invariants_step};
 ghost use Rattle.dlk_parse.specs.Codes.{postfix};
-ghost use Rattle.dlk_parse.specs.Shows.{seen, equations_of, IsOpen, Stands, Shows, Agrees};
+ghost use Rattle.dlk_parse.specs.Shows.{seen, is_star, equations_of, IsOpen, Stands, Shows, Agrees};
 
 use crate::code::Code;
 use crate::lexeme::Lexeme;
 use crate::parts::{Equations, Holder, Last, Mode, Part, Tail};
 use crate::stack::Stack;
 use crate::stop::StepFault;
+use dlk_grammar::Infix;
 use dlk_tree::{Items, Kind, Name, Op, Sort, Sym};
 use std::alloc::Global;
 
@@ -36,10 +37,7 @@ impl Stack {
     {
         match lexeme {
             Lexeme::Semi => self.leaf(program_constant(name), Sort::Program),
-            Lexeme::Gets => self.open(Part::Inside(Holder::Assigns {
-                name,
-                primed: false,
-            })),
+            Lexeme::Gets => Ok(Mode::StartsGets(name)),
             Lexeme::Prime => Ok(Mode::StartsPrime(name)),
             _ => Err(StepFault::Syntax),
         }
@@ -56,6 +54,42 @@ impl Stack {
     {
         match lexeme {
             Lexeme::Gets => self.open(Part::Inside(Holder::Assigns { name, primed: true })),
+            _ => Err(StepFault::Syntax),
+        }
+    }
+
+    /// A lexeme behind `:=`: a star, which stands for any value, or one that begins a term.
+    pub(crate) fn statement_gets_step(
+        &mut self,
+        goal: Sort,
+        name: Name,
+        lexeme: Lexeme,
+    ) -> Result<Mode, StepFault>
+        ensures { (S : List MachinePart) → IsOpen self.old S []
+            → Agrees (Shows self.new) result (statement_gets_step goal S name (seen lexeme)) }
+    {
+        let star = is_star(&lexeme);
+        if star {
+            return Ok(Mode::StartsStar(name));
+        }
+        self.parts.push(Part::Inside(Holder::Assigns {
+            name,
+            primed: false,
+        }))?;
+        self.start_operand(goal, lexeme)
+    }
+
+    /// The semicolon behind `:=` and a star.
+    pub(crate) fn statement_star_step(
+        &mut self,
+        name: Name,
+        lexeme: Lexeme,
+    ) -> Result<Mode, StepFault>
+        ensures { (S : List MachinePart) → IsOpen self.old S []
+            → Agrees (Shows self.new) result (statement_star_step S name (seen lexeme)) }
+    {
+        match lexeme {
+            Lexeme::Semi => self.leaf(Op::Any(name), Sort::Program),
             _ => Err(StepFault::Syntax),
         }
     }
@@ -161,6 +195,13 @@ impl Stack {
             _ => Err(StepFault::Syntax),
         }
     }
+}
+
+/// Whether it stands for any value.
+fn is_star(lexeme: &Lexeme) -> bool
+    ensures { result ≡ is_star lexeme.now }
+{
+    matches!(lexeme, Lexeme::Op(Infix::Mul))
 }
 
 /// The operator of a program constant.

@@ -121,6 +121,8 @@ impl Stack {
             Mode::Binds(quantifier) => self.bind_step(quantifier, lexeme),
             Mode::Starts(name) => self.statement_step(name, lexeme),
             Mode::StartsPrime(name) => self.statement_prime_step(name, lexeme),
+            Mode::StartsGets(name) => self.statement_gets_step(goal, name, lexeme),
+            Mode::StartsStar(name) => self.statement_star_step(name, lexeme),
             Mode::Opens(at) => self.opens_step(at, lexeme),
             Mode::OpensName { at, name } => self.opens_name_step(alloc, at, name, lexeme),
             Mode::OpensPrime { at, name } => self.opens_prime_step(alloc, at, name, lexeme),

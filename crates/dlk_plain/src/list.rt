@@ -55,7 +55,7 @@ fn add_names(names: &mut BTreeSet<Name>, op: &Op) -> Result<(), StoreFault>
     match op {
         Op::Variable(v) | Op::Assign(v) => add_name(names, &v.name),
         Op::UnitFun(s) | Op::UnitPred(s) => add_taboo(names, &s.taboo),
-        Op::Forall(x) | Op::Exists(x) => add_name(names, x),
+        Op::Forall(x) | Op::Exists(x) | Op::Any(x) => add_name(names, x),
         Op::System(items) => add_item_names(names, items.items()),
         _ => Ok(()),
     }

@@ -59,7 +59,7 @@ impl PlainStore {
         match op {
             Op::Variable(v) | Op::Assign(v) => self.has_either(set, &v.name),
             Op::UnitFun(s) | Op::UnitPred(s) => self.has_taboo(set, &s.taboo),
-            Op::Forall(x) | Op::Exists(x) => self.has_either(set, x),
+            Op::Forall(x) | Op::Exists(x) | Op::Any(x) => self.has_either(set, x),
             Op::System(items) => self.has_item_names(set, items.items()),
             _ => false,
         }

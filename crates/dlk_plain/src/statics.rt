@@ -53,6 +53,7 @@ impl PlainStore {
                 .sets_at(kids[0], name)
                 .modal(self.sets_at(kids[1], name)),
             Op::Assign(v) => self.of_kids(kids, name).assigns(just(v, name)),
+            Op::Any(x) => reads(none()).assigns(just_plain(x, name)),
             Op::Test => reads(self.of_kids(kids, name).free),
             Op::System(items) => self.of_kids(kids, name).evolves(items.items(), name),
             Op::Choice => self.sets_at(kids[0], name).or(self.sets_at(kids[1], name)),

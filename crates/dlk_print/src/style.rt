@@ -22,7 +22,7 @@ pub(crate) fn level(op: &Op) -> u8
         Op::Variable(_) | Op::Number(_) | Op::Dot(_) | Op::UnitFun(_) | Op::Apply(_) | Op::Diff => {
             5
         }
-        Op::Const(_) | Op::Assign(_) | Op::Test | Op::System(_) | Op::Loop => 3,
+        Op::Const(_) | Op::Assign(_) | Op::Any(_) | Op::Test | Op::System(_) | Op::Loop => 3,
         _ => 6,
     }
 }
@@ -76,6 +76,7 @@ pub(crate) fn open(out: &mut Vec<u8>, op: &Op) -> Result<(), PrintFault>
         Op::Dia => append(out, b"<"),
         Op::Const(s) => append_name(out, &s.name, b";"),
         Op::Assign(v) => append_variable(out, v, b":=", b"':="),
+        Op::Any(x) => append_name(out, x, b":=*;"),
         Op::Test => append(out, b"?"),
         Op::System(_) | Op::Loop => append(out, b"{"),
         _ => append(out, b""),

@@ -285,6 +285,8 @@ body_apart op.Box kids e all w = two_of KidApart (BodyApart op.Box) Program Form
 body_apart op.Dia kids e all w = two_of KidApart (BodyApart op.Dia) Program Formula kids e.kids_fit all (λ a b k l. let y = around Program Formula Formula (between op.Dia) 1 5 (middle op.Dia) (λ p d. tt) (λ p h. h) a b k l in record { begins = λ p. by_mark 60 refl; fine = λ p f h. before_fine mark.Less _ refl (y.begins p) (y.fine p f h) })
 body_apart (op.Const s) kids e all w = leaf_apart (op.Const s) kids e.kids_fit (named s.name (the_mark mark.Semicolon ∷ []) (sym_parts Prog s e.parts_fit).name (λ p. refl) (λ p f. alone_fine mark.Semicolon p refl f))
 body_apart (op.Assign v) kids e all w = one_of KidApart (BodyApart (op.Assign v)) Term kids e.kids_fit all (assign_apart v.name v.primed e.parts_fit)
+body_apart (op.Any x) kids e all w = leaf_apart (op.Any x) kids e.kids_fit (named x (the_mark mark.Gets ∷ the_mark mark.Star ∷ the_mark mark.Semicolon ∷ []) e.parts_fit (λ p. refl)
+    (λ p f. alone_fine mark.Gets _ refl (alone_fine mark.Star _ refl (alone_fine mark.Semicolon p refl f))))
 body_apart op.Test kids e all w = one_of KidApart (BodyApart op.Test) Formula kids e.kids_fit all (λ a k. let y = one_apart {u = Program} (shown_at 1 a) (closing op.Test) (k 1) (λ p f. alone_fine mark.Semicolon p refl f) (λ p h. refl) in record { begins = λ p. by_mark 63 refl; fine = λ p f h. alone_fine mark.Query _ refl (y.fine p f h) })
 body_apart (op.System items) kids e all w = system_apart items kids e.parts_fit e.kids_fit all w
 body_apart op.Choice kids e all w = two_of KidApart (BodyApart op.Choice) Program Program kids e.kids_fit all (around Program Program Program (between op.Choice) 2 1 (middle op.Choice) (λ p d. tt) (λ p h. tt))

@@ -113,6 +113,7 @@ body_back op.Box kids e all w = two_of Back (BodyBack op.Box) Program Formula ki
 body_back op.Dia kids e all w = two_of Back (BodyBack op.Dia) Program Formula kids e.kids_fit all (λ a b d f n. same_text (two_kids n (opening op.Dia) (shown_at 1 a) (between op.Dia) (shown_at 5 b)) (two_told Phrases.Dia op.Dia (λ p q. Grammar.unf-dia) (λ p q. refl) (λ p q. refl) (d 1 (n + 1)) (f 5 (behind (n + 1) (shown_at 1 a) + 1))))
 body_back (op.Const s) kids e all w = leaf_back (op.Const s) kids e.kids_fit (λ n. record { phrase = Phrases.Const s.name; reads = Grammar.stmt-const; erased = ap (λ (y : Sym). node (op.Const y) no_kids) (bare_symbol Prog s e.parts_fit (λ m. refl) refl); no_ills = refl })
 body_back (op.Assign v) kids e all w = one_of Back (BodyBack (op.Assign v)) Term kids e.kids_fit all (assign_back v.name v.primed)
+body_back (op.Any x) kids e all w = leaf_back (op.Any x) kids e.kids_fit (λ n. record { phrase = Phrases.AssignAny x; reads = Grammar.stmt-any; erased = refl; no_ills = refl })
 body_back op.Test kids e all w = one_of Back (BodyBack op.Test) Formula kids e.kids_fit all (λ a d n. same_text (one_kid n (opening op.Test) (shown_at 1 a) (closing op.Test)) (one_told Phrases.Test op.Test (λ p. Grammar.stmt-test) (λ p. refl) (λ p. refl) (d 1 (n + 1))))
 body_back (op.System items) kids e all w = system_back items kids e.parts_fit e.kids_fit all w
 body_back op.Choice kids e all w = two_of Back (BodyBack op.Choice) Program Program kids e.kids_fit all (λ a b d f. around sign.Choice (between op.Choice) (shown_at 2 a) (shown_at 1 b) (λ n. refl) (λ s r p q. Grammar.prog-choice) (d 2) (f 1))

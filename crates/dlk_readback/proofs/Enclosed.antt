@@ -9,7 +9,7 @@ use Rattle.dlk_tree.specs.declared.op.Kind.TheVariants.{Func, Pred}
 use Rattle.dlk_tree.specs.declared.op.Sort.TheVariants.{Term, Formula}
 use Rattle.dlk_tree.specs.declared.op.Op.{Op}
 use Rattle.dlk_tree.specs.declared.op.Op.TheVariants as op
-use Rattle.dlk_tree.specs.Table.{sort_of, is_item, are_items, evolved, all_distinct, is_sym_of, may_have_taboo, has_arity}
+use Rattle.dlk_tree.specs.Table.{sort_of, is_item, are_items, evolved, all_distinct, is_sym_of, kind_row, has_arity}
 use Rattle.dlk_tree.specs.Trees.{Tree, node, root, Forest, no_kids, kid, forest, trees_in, sorts, AllWellMade}
 use Rattle.dlk_grammar.specs.declared.token.Mark.TheVariants as mark
 use Rattle.dlk_grammar.specs.declared.token.Infix.TheVariants.{And, Mul}
@@ -40,7 +40,9 @@ record Called (k : Kind) (s : Sym) (kids : Forest) (n : ℕ) (text : List Lexeme
 call_text : Op → Forest → List Piece
 call_text o kids = inside None comma (trees_in kids) (shown_kids o 0 kids)
 
-call_back : (k : Kind) (s : Sym) (o : Op) → is_sym_of k s ≡ true → may_have_taboo k ≡ false → ((m : ℕ) → has_arity k m ≡ nat_le m 8) → (style o).first ≡ 1 → (style o).later ≡ 1 → (t : Tree) (rest : Forest) → sorts (kid t rest) ≡ replicate s.arity Term → AllKids Back (kid t rest) → (n m : ℕ) → Called k s (kid t rest) n (said m (call_text o (kid t rest)))
+call_back : (k : Kind) (s : Sym) (o : Op) → is_sym_of k s ≡ true → (kind_row k).taboo ≡ false → ((m : ℕ) → has_arity k m ≡ nat_le m 8)
+    → (style o).first ≡ 1 → (style o).later ≡ 1 → (t : Tree) (rest : Forest) → sorts (kid t rest) ≡ replicate s.arity Term → AllKids Back (kid t rest)
+    → (n m : ℕ) → Called k s (kid t rest) n (said m (call_text o (kid t rest)))
 unfolding call_text
 call_back k s o h untold some e f t rest fit all n m =
     let ts = trees_in rest in

@@ -1,5 +1,6 @@
 -- The canonical text of a substitution is read back.
 use Rattle.std.proofs.Common.{◌≡◌, ℕ, ◌+◌, ◌≤◌, Bool, true, false, ◌&&◌, cond, All, List, [], ◌∷◌, ◌++◌, map, flat_map, Option, Some, None, codes, refl, sym, ap, subst, subst₂, ◌∙◌, append_assoc, append-nil, arith}
+use Rattle.std.proofs.lemmas.Bool.{and_parts}
 use Rattle.std.proofs.lemmas.Grind.{flat_map-append}
 use Rattle.std.proofs.lemmas.List.{map-append}
 use Rattle.std.proofs.lemmas.List.Elements.{All-head, All-tail}
@@ -8,9 +9,10 @@ use Rattle.dlk_tree.specs.declared.op.Kind.TheVariants.{Func, UnitFunc, Pred, Un
 use Rattle.dlk_tree.specs.declared.op.Sort.{Sort}
 use Rattle.dlk_tree.specs.declared.op.Sort.TheVariants.{Term, Formula, Program}
 use Rattle.dlk_tree.specs.declared.op.Sym.{Sym}
-use Rattle.dlk_tree.specs.Table.{is_term, is_sym_of}
+use Rattle.dlk_tree.specs.Tests.{sort_eq}
+use Rattle.dlk_tree.specs.Table.{is_sym_of}
 use Rattle.dlk_tree.specs.Trees.{Tree, size, depth, sort as sort_in, WellMade}
-use Rattle.dlk_calculus.specs.Pairs.{Pair, is_of_kind, is_formula, is_program}
+use Rattle.dlk_calculus.specs.Pairs.{Pair, is_system_without_domain, is_of_kind}
 use Rattle.dlk_grammar.specs.declared.token.Mark.TheVariants as mark
 use Rattle.dlk_grammar.specs.declared.token.Dots.TheVariants.{Allowed}
 use Rattle.dlk_grammar.specs.Lexemes.{Lexeme, Comma, Becomes, lexemes}
@@ -90,7 +92,7 @@ program_told n x t h d =
     let r = d (n + 1 + 1 + 1) in
     record { phrase = to (symbol Prog x.name 0 Everywhere) r.phrase; reads = pair-program r.reads; symbol_is = bare_symbol Prog x h (λ m. refl) refl; erased = r.erased; no_ills = r.no_ills }
 
-ode_told : (n : ℕ) (x : Sym) (t : Tree) → is_sym_of Ode x ≡ true → is_of_kind Ode t ≡ true → WellMade t → PairTold (said n (pair_text Ode x t)) x t
+ode_told : (n : ℕ) (x : Sym) (t : Tree) → is_sym_of Ode x ≡ true → is_system_without_domain t ≡ true → WellMade t → PairTold (said n (pair_text Ode x t)) x t
 ode_told n x t h f w = go n x.name x.taboo (unit_symbol Ode x h (λ m. refl))
   where
     go : (n : ℕ) (name : List ℕ) (taboo : Option (List ℕ)) → symbol Ode name 0 (space_of taboo) ≡ x → PairTold (said n ((the_mark mark.OpenBrace ∷ word name ∷ (ode_brackets taboo ++ the_mark mark.CloseBrace ∷ [])) ++ the_mark mark.Becomes ∷ shown t)) x t
@@ -103,33 +105,24 @@ ode_told n x t h f w = go n x.name x.taboo (unit_symbol Ode x h (λ m. refl))
         rw r.said_is (record { phrase = to (symbol Ode name 0 (Except y)) (System m r.items Truth); reads = pair-flow-except r.reads; symbol_is = e; erased = r.erased; no_ills = r.no_ills })
 
 -- what is said of the sorts
-term_sort : (s : Sort) → is_term s ≡ true → s ≡ Term
-term_sort Term h = refl
-term_sort Formula h = absurd cc
-term_sort Program h = absurd cc
-
-formula_sort : (s : Sort) → is_formula s ≡ true → s ≡ Formula
-formula_sort Term h = absurd cc
-formula_sort Formula h = refl
-formula_sort Program h = absurd cc
-
-program_sort : (s : Sort) → is_program s ≡ true → s ≡ Program
-program_sort Term h = absurd cc
-program_sort Formula h = absurd cc
-program_sort Program h = refl
+same_sort : (s r : Sort) → sort_eq s r ≡ true → s ≡ r
+same_sort Term Term h = refl
+same_sort Formula Formula h = refl
+same_sort Program Program h = refl
+same_sort _ _ h = absurd cc
 
 -- the text of a tree of the sort says it
 tells : (s : Sort) (t : Tree) → WellMade t → sort_in t ≡ s → TellsTree (form_at s 1) (shown t) t
 tells s t w e = subst (λ (u : Sort). TellsTree (form_at u 1) (shown t) t) e (back t w 1)
 
 by_kind : (n : ℕ) (k : Kind) (x : Sym) (t : Tree) → is_sym_of k x ≡ true → is_of_kind k t ≡ true → WellMade t → PairTold (said n (pair_text k x t)) x t
-by_kind n Func x t h f w = function_told n Func x t refl (func_left x h) (tells Term t w (term_sort (sort_in t) f))
-by_kind n UnitFunc x t h f w = function_told n UnitFunc x t refl (unit_func_left x h) (tells Term t w (term_sort (sort_in t) f))
-by_kind n Pred x t h f w = predicate_told n Pred x t refl (pred_left x h) (tells Formula t w (formula_sort (sort_in t) f))
-by_kind n UnitPred x t h f w = predicate_told n UnitPred x t refl (unit_pred_left x h) (tells Formula t w (formula_sort (sort_in t) f))
-by_kind n Quant x t h f w = context_told n x t h (tells Formula t w (formula_sort (sort_in t) f))
-by_kind n Prog x t h f w = program_told n x t h (tells Program t w (program_sort (sort_in t) f))
-by_kind n Ode x t h f w = ode_told n x t h f w
+by_kind n Func x t h f w = function_told n Func x t refl (func_left x h) (tells Term t w (same_sort (sort_in t) Term f))
+by_kind n UnitFunc x t h f w = function_told n UnitFunc x t refl (unit_func_left x h) (tells Term t w (same_sort (sort_in t) Term f))
+by_kind n Pred x t h f w = predicate_told n Pred x t refl (pred_left x h) (tells Formula t w (same_sort (sort_in t) Formula f))
+by_kind n UnitPred x t h f w = predicate_told n UnitPred x t refl (unit_pred_left x h) (tells Formula t w (same_sort (sort_in t) Formula f))
+by_kind n Quant x t h f w = context_told n x t h (tells Formula t w (same_sort (sort_in t) Formula f))
+by_kind n Prog x t h f w = program_told n x t h (tells Program t w (same_sort (sort_in t) Program f))
+by_kind n Ode x t h f w = ode_told n x t h (and_parts (is_system_without_domain t) (sort_eq (sort_in t) Program) f).0 w
 
 pair_told : (n : ℕ) (p : Pair) → IsReadablePair p → PairTold (said n (shown_pair p)) p.sym p.by
 pair_told n p r = by_kind n p.sym.kind p.sym p.by (of_kind p.sym.kind p.sym refl r.is_symbol) r.is_replacement r.well_made

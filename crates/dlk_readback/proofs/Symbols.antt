@@ -6,7 +6,7 @@ use Rattle.dlk_tree.specs.declared.op.Kind.TheVariants.{Func, UnitFunc, Pred, Un
 use Rattle.dlk_tree.specs.declared.op.Sym.{Sym}
 use Rattle.dlk_tree.specs.Tests.{kind_rank}
 use Rattle.dlk_tree.specs.Names.{is_name}
-use Rattle.dlk_tree.specs.Table.{is_sym, is_sym_of, has_arity, may_have_taboo, taboo_is_name}
+use Rattle.dlk_tree.specs.Table.{is_sym, is_sym_of, kind_row, has_arity, taboo_is_name}
 use Rattle.dlk_grammar.specs.Phrases.{Space, Everywhere, Except}
 use Rattle.dlk_grammar.specs.Erased.{taboo, symbol}
 
@@ -47,23 +47,29 @@ pub record SymParts (k : Kind) (s : Sym) : Type 0 where
   pub kind : s.kind ≡ k
   pub arity : has_arity k s.arity ≡ true
   pub taboo_name : taboo_is_name s.taboo ≡ true
-  pub taboo : (is_none s.taboo || may_have_taboo k) ≡ true
+  pub taboo : (is_none s.taboo || (kind_row k).taboo) ≡ true
 
 pub sym_parts : (k : Kind) (s : Sym) → is_sym_of k s ≡ true → SymParts k s
 sym_parts k s h =
     let of = and_parts (kind_rank s.kind == kind_rank k) (is_sym s) h in
-    let w = and_parts (is_name s.name && has_arity s.kind s.arity && taboo_is_name s.taboo) (is_none s.taboo || may_have_taboo s.kind) of.1 in
+    let w = and_parts (is_name s.name && has_arity s.kind s.arity && taboo_is_name s.taboo) (is_none s.taboo || (kind_row s.kind).taboo) of.1 in
     let v = and_parts (is_name s.name && has_arity s.kind s.arity) (taboo_is_name s.taboo) w.0 in
     let u = and_parts (is_name s.name) (has_arity s.kind s.arity) v.0 in
     let k-is = same_kind s.kind k of.0 in
-    record { name = u.0; kind = k-is; arity = sym (ap (λ (j : Kind). has_arity j s.arity) k-is) ∙ u.1; taboo_name = v.1; taboo = sym (ap (λ (j : Kind). is_none s.taboo || may_have_taboo j) k-is) ∙ w.1 }
+    record {
+      name = u.0;
+      kind = k-is;
+      arity = sym (ap (λ (j : Kind). has_arity j s.arity) k-is) ∙ u.1;
+      taboo_name = v.1;
+      taboo = sym (ap (λ (j : Kind). is_none s.taboo || (kind_row j).taboo) k-is) ∙ w.1;
+    }
 
 no_taboo : (y : Option (List ℕ)) → (is_none y || false) ≡ true → y ≡ None
 no_taboo None h = refl
 no_taboo (Some y) h = absurd cc
 
 -- a symbol with arguments
-pub called : (k : Kind) (s : Sym) (n : ℕ) → is_sym_of k s ≡ true → may_have_taboo k ≡ false → n ≡ s.arity → symbol k s.name n Everywhere ≡ s
+pub called : (k : Kind) (s : Sym) (n : ℕ) → is_sym_of k s ≡ true → (kind_row k).taboo ≡ false → n ≡ s.arity → symbol k s.name n Everywhere ≡ s
 called k s n h untold e =
     let w = sym_parts k s h in
     let t : s.taboo ≡ None = no_taboo s.taboo (sym (ap (λ (b : Bool). is_none s.taboo || b) untold) ∙ w.taboo) in
@@ -77,7 +83,8 @@ unit_symbol k s h none =
     (λ i. record { kind = sym w.kind i; name = s.name; arity = sym n i; taboo = taboo-space s.taboo i })
 
 -- one without arguments or a taboo
-pub bare_symbol : (k : Kind) (s : Sym) → is_sym_of k s ≡ true → ((n : ℕ) → has_arity k n ≡ (n == 0)) → may_have_taboo k ≡ false → symbol k s.name 0 Everywhere ≡ s
+pub bare_symbol : (k : Kind) (s : Sym) → is_sym_of k s ≡ true → ((n : ℕ) → has_arity k n ≡ (n == 0)) → (kind_row k).taboo ≡ false
+    → symbol k s.name 0 Everywhere ≡ s
 bare_symbol k s h none untold =
     let w = sym_parts k s h in
     called k s 0 h untold (sym (eqb-true s.arity 0 (sym (none s.arity) ∙ w.arity)))

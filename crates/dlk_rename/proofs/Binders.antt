@@ -1,125 +1,167 @@
 -- Formulas that bind a name, by ids.
-use Rattle.std.proofs.Common.{◌≡◌, refl, sym, ap, subst, ◌∙◌, ℕ, ◌<◌, ◌-◌, ◌⊎◌, inl, inr, ⊎_elim, List, [], ◌∷◌, length, get_or, Some, arith}
-use Rattle.std.specs.Prelude.{IsTrue, All}
+use Rattle.std.proofs.Common.{◌≡◌, refl, sym, ap, subst, ◌∙◌, ℕ, List, [], ◌∷◌, get_or, Option, None, Some, false, arith, inl, inr}
+use Rattle.std.specs.Prelude.{All, MatchOption}
+use Rattle.std.proofs.lemmas.List.Elements.{All-head, All-tail}
 use Rattle.dlk_tree.specs.declared.op.Op.{Op}
 use Rattle.dlk_tree.specs.declared.op.Op.TheVariants as Op'
 use Rattle.dlk_tree.specs.declared.op.Sort.{Sort}
-use Rattle.dlk_tree.specs.declared.op.Sort.TheVariants.{Formula, Program}
-use Rattle.dlk_tree.specs.Names.{is_name}
-use Rattle.dlk_tree.specs.Table.{kid_sorts, Fits}
-use Rattle.dlk_tree.specs.Trees.{Tree, node, Forest, no_kids, kid, root, sort, WellMade}
-use Rattle.dlk_tree.specs.Statics.{plain}
+use Rattle.dlk_tree.specs.declared.op.Sort.TheVariants.{Term, Formula, Program}
+use Rattle.dlk_tree.specs.declared.op.Var.{Var}
+use Rattle.dlk_tree.specs.Table.{kid_sorts}
+use Rattle.dlk_tree.specs.Trees.{Tree, node, sort, WellMade}
 use Rattle.dlk_store.specs.declared.Id.{Id}
-use Rattle.dlk_store.specs.Stores.{IsId, tree, kid_trees, sorts_at, StandsFor, Keeps}
+use Rattle.dlk_store.specs.Stores.{IsId, tree, kid_trees, sorts_at, Keeps}
 use Rattle.dlk_store.proofs.Kids.{node_fits}
-use Rattle.dlk_calculus.specs.Kids.{first, last}
-use Rattle.dlk_calculus.specs.Rename.{swap, assigned, binder_of, binder, body, reassigned, rebound, name_in, renamed_bound}
-use Rattle.dlk_calculus.specs.Rules.{HasName}
-use Rattle.dlk_rename.specs.Bodies.{with_body}
+use Rattle.dlk_calculus.specs.Notation.{one, two, box, dia, assign}
+use Rattle.dlk_calculus.specs.Rename.{swap, RenamesBound, in_forall, in_exists, in_box, in_dia}
+use Rattle.dlk_calculus.proofs.Binders.{Binds, binds}
+use Rattle.dlk_rename.specs.declared.binder.Assignment.{Assignment}
+use Rattle.dlk_rename.specs.declared.binder.Binding.{Binding}
+use Rattle.dlk_rename.specs.declared.binder.Form.{Form}
+use Rattle.dlk_rename.specs.declared.binder.Form.TheVariants as form
+use Rattle.dlk_rename.specs.Bindings.{formed, IsForm, IsAssignment, AssignsNone, IsTerm, IsBinding, BindsNone}
 
--- an assignment to another name is over a term too
-pub assignment_fits : (op : Op) (y : List ℕ) (kids : List Sort) → IsTrue (is_name y) → HasName (assigned op) → Fits op kids → Fits (Op'.Assign (plain y)) kids
-assignment_fits (Op'.Assign v) y kids real some fits = record { kids_fit = fits.kids_fit; parts_fit = real }
-assignment_fits _ y kids real some fits = let e = some.1 in cc
+-- an option that isn't `Some`
+pub not_some : {A N : Type 0} (S : A → Type 0) (o : Option A) → MatchOption o N S → ((x : A) → o ≡ Some x → ⊥) → N
+not_some S None h n = h
+not_some S (Some x) h n = absurd (n x refl)
 
--- a node that binds a name
-pub record Binding (trees : List Tree) (id : Id) (op : Op) (ids : List Id) : Type 0 where
+-- ---- kids of a node by their ids
+
+abbrev id_at : List Id → ℕ → Id
+id_at ids n = get_or ids n (record { 0 = 0 })
+
+-- a node of a store
+pub record IsNode (trees : List Tree) (id : Id) (op : Op) (ids : List Id) : Type 0 where
+  pub made : All WellMade trees
+  pub known : IsId trees id
   pub node_is : tree trees id ≡ node op (kid_trees trees ids)
-  pub fits : Fits op (sorts_at trees ids)
-  pub binds : HasName (binder_of op (kid_trees trees ids))
+  pub kids : All (IsId trees) ids
 
-pub binding : {trees : List Tree} {id : Id} {op : Op} (ids : List Id) → tree trees id ≡ node op (kid_trees trees ids) → All WellMade trees → IsId trees id → HasName (binder (tree trees id)) → Binding trees id op ids
-binding {trees} {id} {op} ids is made known binds = record { node_is = is; fits = node_fits trees id op ids made known is; binds = subst (λ t. HasName (binder t)) is binds }
+record HasOne (trees : List Tree) (t : Tree) (op : Op) (s : Sort) (a : Id) : Type 0 where
+  is : t ≡ one op (tree trees a)
+  known : IsId trees a
+  sort_is : sort (tree trees a) ≡ s
 
--- The body: a quantifier is over a formula, a modality over a program and a formula.
+record HasTwo (trees : List Tree) (t : Tree) (op : Op) (s r : Sort) (a b : Id) : Type 0 where
+  is : t ≡ two op (tree trees a) (tree trees b)
+  first : IsId trees a
+  second : IsId trees b
+  sort_is : sort (tree trees b) ≡ r
 
-quantifier_or_modality : (op : Op) (ks : Forest) → HasName (binder_of op ks) → (kid_sorts op ≡ Formula ∷ []) ⊎ (kid_sorts op ≡ Program ∷ Formula ∷ [])
-quantifier_or_modality (Op'.Forall z) ks some = inl refl
-quantifier_or_modality (Op'.Exists z) ks some = inl refl
-quantifier_or_modality Op'.Box ks some = inr refl
-quantifier_or_modality Op'.Dia ks some = inr refl
-quantifier_or_modality _ ks some = let e = some.1 in cc
+abbrev sort_in : ℕ → List Sort → Sort
+sort_in n ss = get_or ss n Program
 
--- the first of the ids, and the last
-abbrev pub first_id : List Id → Id
-first_id ids = get_or ids 0 (record { 0 = 0 })
+has_one : {trees : List Tree} {id : Id} {op : Op} (ids : List Id) (s : Sort) → IsNode trees id op ids → kid_sorts op ≡ s ∷ [] →
+    HasOne trees (tree trees id) op s (id_at ids 0)
+has_one {trees} {id} {op} ids s n sorts = go ids (node_fits trees id op ids n.made n.known n.node_is).kids_fit n.node_is n.kids
+  where
+    go : (ks : List Id) → sorts_at trees ks ≡ kid_sorts op → tree trees id ≡ node op (kid_trees trees ks) → All (IsId trees) ks →
+        HasOne trees (tree trees id) op s (id_at ks 0)
+    go [] e is known = let k = e ∙ sorts in cc
+    go (a ∷ []) e is known = record { is = is; known = All-head (IsId trees) a [] known; sort_is = ap (sort_in 0) (e ∙ sorts) }
+    go (a ∷ b ∷ ks) e is known = let k = e ∙ sorts in cc
 
-abbrev pub last_id : List Id → Id
-last_id ids = get_or ids (length ids - 1) (record { 0 = 0 })
+has_two : {trees : List Tree} {id : Id} {op : Op} (ids : List Id) (s r : Sort) → IsNode trees id op ids → kid_sorts op ≡ s ∷ r ∷ [] →
+    HasTwo trees (tree trees id) op s r (id_at ids 0) (id_at ids 1)
+has_two {trees} {id} {op} ids s r n sorts = go ids (node_fits trees id op ids n.made n.known n.node_is).kids_fit n.node_is n.kids
+  where
+    go : (ks : List Id) → sorts_at trees ks ≡ kid_sorts op → tree trees id ≡ node op (kid_trees trees ks) → All (IsId trees) ks →
+        HasTwo trees (tree trees id) op s r (id_at ks 0) (id_at ks 1)
+    go [] e is known = let k = e ∙ sorts in cc
+    go (a ∷ []) e is known = let k = e ∙ sorts in cc
+    go (a ∷ b ∷ []) e is known = record {
+      is = is;
+      first = All-head (IsId trees) a (b ∷ []) known;
+      second = All-head (IsId trees) b [] (All-tail (IsId trees) a (b ∷ []) known);
+      sort_is = ap (sort_in 1) (e ∙ sorts);
+    }
+    go (a ∷ b ∷ c ∷ ks) e is known = let k = e ∙ sorts in cc
 
-first_kid : (trees : List Tree) (ids : List Id) → 0 < length ids → first (kid_trees trees ids) ≡ tree trees (first_id ids)
-first_kid trees [] h = absurd (omega arith)
-first_kid trees (a ∷ ids) h = refl
+-- ---- what is read
 
--- there are kids, and the last is a formula
-record Body (trees : List Tree) (ids : List Id) : Type 0 where
-  some : 0 < length ids
-  is_last : last (kid_trees trees ids) ≡ tree trees (last_id ids)
-  formula : sort (tree trees (last_id ids)) ≡ Formula
+module _ {trees : List Tree} {id : Id} {op : Op} (ids : List Id) (n : IsNode trees id op ids) (name : List ℕ) where
+  pub assignment_read : (v : Var) → op ≡ Op'.Assign v → v.primed ≡ false → v.name ≡ name →
+      IsAssignment trees (tree trees id) (record { name = name; term = id_at ids 0 })
+  assignment_read v is unprimed same =
+      let k = has_one ids Term n (ap kid_sorts is) in
+      record {
+        is = k.is ∙ ap (λ o. one o (tree trees (id_at ids 0))) (is ∙ (λ i. Op'.Assign (record { name = same i; primed = unprimed i })));
+        term = record { known = k.known; term = k.sort_is };
+      }
 
-body_by_sorts : (trees : List Tree) (ids : List Id) → (sorts_at trees ids ≡ Formula ∷ []) ⊎ (sorts_at trees ids ≡ Program ∷ Formula ∷ []) → Body trees ids
-body_by_sorts trees [] s = ⊎_elim (λ e. cc) (λ e. cc) s
-body_by_sorts trees (f ∷ []) s = ⊎_elim (λ e. record { some = omega arith; is_last = refl; formula = cc }) (λ e. cc) s
-body_by_sorts trees (a ∷ f ∷ []) s = ⊎_elim (λ e. cc) (λ e. record { some = omega arith; is_last = refl; formula = cc }) s
-body_by_sorts trees (a ∷ b ∷ c ∷ ids) s = ⊎_elim (λ e. cc) (λ e. cc) s
+  pub forall_read : (x : List ℕ) → op ≡ Op'.Forall x → x ≡ name →
+      IsBinding trees (tree trees id) (record { form = form.Forall; name = name; body = id_at ids 0 })
+  forall_read x is same =
+      let k = has_one ids Formula n (ap kid_sorts is) in
+      record { is = k.is ∙ ap (λ o. one o (tree trees (id_at ids 0))) (is ∙ ap Op'.Forall same); form = tt; known = k.known; formula = k.sort_is }
 
-module _ {trees : List Tree} {id : Id} {op : Op} {ids : List Id} (b : Binding trees id op ids) where
-  last_is_body : Body trees ids
-  last_is_body = body_by_sorts trees ids (⊎_elim (λ e. inl (b.fits.kids_fit ∙ e)) (λ e. inr (b.fits.kids_fit ∙ e)) (quantifier_or_modality op (kid_trees trees ids) b.binds))
+  pub exists_read : (x : List ℕ) → op ≡ Op'.Exists x → x ≡ name →
+      IsBinding trees (tree trees id) (record { form = form.Exists; name = name; body = id_at ids 0 })
+  exists_read x is same =
+      let k = has_one ids Formula n (ap kid_sorts is) in
+      record { is = k.is ∙ ap (λ o. one o (tree trees (id_at ids 0))) (is ∙ ap Op'.Exists same); form = tt; known = k.known; formula = k.sort_is }
 
-  pub some_kids : 0 < length ids
-  some_kids = last_is_body.some
+module _ {trees : List Tree} {id : Id} {op : Op} (ids : List Id) (n : IsNode trees id op ids) where
+  module _ (a : Assignment) (assigns : IsAssignment trees (tree trees (id_at ids 0)) a) where
+    pub box_read : op ≡ Op'.Box → IsBinding trees (tree trees id) (record { form = form.Box a.term; name = a.name; body = id_at ids 1 })
+    box_read is =
+        let k = has_two ids Program Formula n (ap kid_sorts is) in
+        record { is = k.is ∙ (λ i. two (is i) (assigns.is i) (tree trees (id_at ids 1))); form = assigns.term; known = k.second; formula = k.sort_is }
 
-  pub body_is : tree trees (last_id ids) ≡ body (tree trees id)
-  body_is = sym (ap body b.node_is ∙ last_is_body.is_last)
+    pub dia_read : op ≡ Op'.Dia → IsBinding trees (tree trees id) (record { form = form.Dia a.term; name = a.name; body = id_at ids 1 })
+    dia_read is =
+        let k = has_two ids Program Formula n (ap kid_sorts is) in
+        record { is = k.is ∙ (λ i. two (is i) (assigns.is i) (tree trees (id_at ids 1))); form = assigns.term; known = k.second; formula = k.sort_is }
 
-  pub body_formula : sort (tree trees (last_id ids)) ≡ Formula
-  body_formula = last_is_body.formula
+-- a formula over another program and a body binds no name that can be another
+first_of : (o p : Op) (a b c d : Tree) → two o a b ≡ two p c d → a ≡ c
+first_of o p a b c d e = cc
 
--- An operator that binds a name and isn't a quantifier:
+no_binding : (t : Tree) (op : Op) (a b : Tree) → t ≡ two op a b → AssignsNone a → BindsNone t
+no_binding t op a b is n = record { none = λ x y f u r. go x f (binds r) }
+  where
+    one_or_two : (x : List ℕ) (f : Tree) (o : Op) → two op a b ≡ one o f → ⊥
+    one_or_two x f o e = cc
 
-pub record IsNoQuantifier (op : Op) : Type 0 where
-  pub no_forall : (z : List ℕ) → op ≡ Op'.Forall z → ⊥
-  pub no_exists : (z : List ℕ) → op ≡ Op'.Exists z → ⊥
+    go : (x : List ℕ) (f : Tree) → Binds x f t → ⊥
+    go x f (inl e) = one_or_two x f (Op'.Forall x) (sym is ∙ e)
+    go x f (inr (inl e)) = one_or_two x f (Op'.Exists x) (sym is ∙ e)
+    go x f (inr (inr (inl h))) = n.none x h.0 (first_of op Op'.Box a b (assign x h.0) f (sym is ∙ h.1))
+    go x f (inr (inr (inr h))) = n.none x h.0 (first_of op Op'.Dia a b (assign x h.0) f (sym is ∙ h.1))
 
--- it is over a program and a formula, and the program assigns the name
-modality : (op : Op) (ks : Forest) → IsNoQuantifier op → HasName (binder_of op ks) → (kid_sorts op ≡ Program ∷ Formula ∷ []) × HasName (assigned (root (first ks)))
-modality (Op'.Forall z) ks none some = absurd (none.no_forall z refl)
-modality (Op'.Exists z) ks none some = absurd (none.no_exists z refl)
-modality Op'.Box ks none some = (refl, some)
-modality Op'.Dia ks none some = (refl, some)
-modality _ ks none some = let e = some.1 in cc
+pub no_modal : {trees : List Tree} {id : Id} {op : Op} (ids : List Id) → IsNode trees id op ids → kid_sorts op ≡ Program ∷ Formula ∷ [] →
+    AssignsNone (tree trees (id_at ids 0)) → BindsNone (tree trees id)
+no_modal {trees} {id} {op} ids n sorts none =
+    no_binding (tree trees id) op (tree trees (id_at ids 0)) (tree trees (id_at ids 1)) (has_two ids Program Formula n sorts).is none
 
-rebound_modality : (y : List ℕ) (f : Tree) (op : Op) (ks : Forest) → IsNoQuantifier op → rebound y f op ks ≡ node op (kid (reassigned y (first ks)) (kid f no_kids))
-rebound_modality y f (Op'.Forall z) ks none = absurd (none.no_forall z refl)
-rebound_modality y f (Op'.Exists z) ks none = absurd (none.no_exists z refl)
-rebound_modality y f _ ks none = refl
+-- ---- the same with another name
 
-reassigned_sort : (y : List ℕ) (t : Tree) → sort (reassigned y t) ≡ Program
-reassigned_sort y (node op kids) = refl
+-- a formula of each form, and the same with y for the variable that it binds
+renames : (trees : List Tree) (form : Form) (x y : List ℕ) (f : Tree) → RenamesBound x y f (formed trees form x f) (formed trees form y (swap x y f))
+renames trees form.Forall x y f = in_forall
+renames trees form.Exists x y f = in_exists
+renames trees (form.Box e) x y f = in_box (tree trees e)
+renames trees (form.Dia e) x y f = in_dia (tree trees e)
 
-module _ {old : List Tree} {id : Id} {op : Op} {ids : List Id} (b : Binding old id op ids) (none : IsNoQuantifier op) where
-  pub program_assigns : HasName (assigned (root (tree old (first_id ids))))
-  program_assigns = subst (λ t. HasName (assigned (root t))) (first_kid old ids (some_kids b)) (modality op (kid_trees old ids) none b.binds).1
+pub binding_renames : {trees : List Tree} {t : Tree} {b : Binding} (y : List ℕ) → IsBinding trees t b →
+    RenamesBound b.name y (tree trees b.body) t (formed trees b.form y (swap b.name y (tree trees b.body)))
+binding_renames {trees} {t} {b} y h =
+    let f = tree trees b.body in
+    subst (λ t. RenamesBound b.name y f t (formed trees b.form y (swap b.name y f))) (sym h.is) (renames trees b.form b.name y f)
 
-  -- over a new program and a new body
-  module _ (y : List ℕ) {now : List Tree} {program f : Id} (keeps : Keeps old now) (known : IsId old f) (stands : StandsFor now program (reassigned y (tree old (first_id ids)))) where
-    pub modality_fits : sort (tree old f) ≡ Formula → Fits op (sort (tree now program) ∷ sort (tree now f) ∷ [])
-    modality_fits formula =
-        let first = ap sort stands.tree_is ∙ reassigned_sort y (tree old (first_id ids)) in
-        let second = ap sort (keeps.same f known) ∙ formula in
-        record { kids_fit = (λ i. first i ∷ second i ∷ []) ∙ sym (modality op (kid_trees old ids) none b.binds).0; parts_fit = b.fits.parts_fit }
+-- a form is the same over a store that has grown
+pub formed_kept : {old new : List Tree} → Keeps old new → (form : Form) (x : List ℕ) (f : Tree) → IsForm old form → formed new form x f ≡ formed old form x f
+formed_kept keeps form.Forall x f h = refl
+formed_kept keeps form.Exists x f h = refl
+formed_kept keeps (form.Box e) x f h = ap (λ t. box (assign x t) f) (keeps.same e h.known)
+formed_kept keeps (form.Dia e) x f h = ap (λ t. dia (assign x t) f) (keeps.same e h.known)
 
-    pub modality_rebound : with_body y (tree old f) (tree old id) ≡ node op (kid (tree now program) (kid (tree now f) no_kids))
-    modality_rebound =
-        let first = ap (reassigned y) (first_kid old ids (some_kids b)) ∙ sym stands.tree_is in
-        let second = sym (keeps.same f known) in
-        ap (with_body y (tree old f)) b.node_is ∙ rebound_modality y (tree old f) op (kid_trees old ids) none ∙ (λ i. node op (kid (first i) (kid (second i) no_kids)))
+term_kept : {old new : List Tree} → Keeps old new → (e : Id) → IsTerm old e → IsTerm new e
+term_kept keeps e h = record { known = omega (arith, keeps.known, h.known); term = ap sort (keeps.same e h.known) ∙ h.term }
 
--- A formula that binds x, with the body f:
-module _ (x y : List ℕ) (t : Tree) {f : Tree} (binds : Some x ≡ binder t) (body_is : f ≡ body t) where
-  renamed_tree : (u : Tree) → renamed_bound y u ≡ with_body y (swap (name_in (binder u)) y (body u)) u
-  renamed_tree (node op kids) = refl
-
-  pub renamed : (swapped now : Tree) → swapped ≡ swap x y f → now ≡ t → with_body y swapped now ≡ renamed_bound y t
-  renamed swapped now e k = (λ i. with_body y ((e ∙ (λ j. swap (name_in (binds j)) y (body_is j))) i) (k i)) ∙ sym (renamed_tree t)
+pub form_kept : {old new : List Tree} → Keeps old new → (form : Form) → IsForm old form → IsForm new form
+form_kept keeps form.Forall h = tt
+form_kept keeps form.Exists h = tt
+form_kept keeps (form.Box e) h = term_kept keeps e h
+form_kept keeps (form.Dia e) h = term_kept keeps e h

@@ -1,24 +1,25 @@
 -- The steps of exchanging names.
-use Rattle.std.proofs.Common.{◌≡◌, refl, ap, sym, subst, ◌∙◌, ℕ, List}
+use Rattle.std.proofs.Common.{◌≡◌, refl, ap, sym, subst, ◌∙◌, ℕ, List, length}
 use Rattle.std.specs.Prelude.{IsTrue}
 use Rattle.dlk_tree.specs.declared.op.Op.{Op}
 use Rattle.dlk_tree.specs.declared.op.Sort.{Sort}
 use Rattle.dlk_tree.specs.declared.op.Sort.TheVariants.{Formula}
 use Rattle.dlk_tree.specs.Names.{is_name}
 use Rattle.dlk_tree.specs.Table.{Fits}
-use Rattle.dlk_tree.specs.Trees.{Tree, node, Forest, no_kids, kid, sort}
-use Rattle.dlk_store.proofs.Kids.{each_of}
+use Rattle.dlk_tree.specs.Trees.{Tree, node, kid, sort}
+use Rattle.dlk_store.specs.declared.Id.{Id}
+use Rattle.dlk_store.specs.Stores.{tree, kid_trees}
+use Rattle.dlk_store.proofs.Made.{Made, Gives, all_made}
 use Rattle.dlk_calculus.specs.Rename.{swap_op, swap, swap_all}
 use Rattle.dlk_calculus.proofs.Swapped.{swap_fits, swap_sort}
 
 module _ (x y : List ℕ) where
-  swap_each : (ks : Forest) → swap_all x y ks ≡ each_of (swap x y) ks
-  swap_each no_kids = refl
-  swap_each (kid t rest) = ap (kid (swap x y t)) (swap_each rest)
-
   -- a node, of its operator and its kids with the names exchanged
-  pub swapped_node : (t : Tree) (op made : Op) (ks js : Forest) → t ≡ node op ks → made ≡ swap_op x y op → js ≡ each_of (swap x y) ks → swap x y t ≡ node made js
-  swapped_node t op made ks js e n h = ap (swap x y) e ∙ (λ i. node (sym n i) ((swap_each ks ∙ sym h) i))
+  pub swapped_node : {before now : List Tree} {id : Id} {op : Op} {ks js : List Id} {n : ℕ}
+      → Made (Gives (swap x y)) before now id op ks js n → n ≡ length ks → (made : Op) → made ≡ swap_op x y op → swap x y (tree before id) ≡ node made (kid_trees now js)
+  swapped_node m whole made is =
+      let kids = all_made m whole (λ ts us. us ≡ swap_all x y ts) refl (λ t u ts us a b. λ i. kid (a i) (b i)) in
+      ap (swap x y) m.node_is ∙ (λ i. node (sym is i) (sym kids i))
 
   -- the operator fits kids of the same sorts
   pub swapped_fits : IsTrue (is_name x) → IsTrue (is_name y) → (op made : Op) (kids : List Sort) → made ≡ swap_op x y op → Fits op kids → Fits made kids

@@ -1,2 +1,2 @@
+pub mod Bindings
 pub mod Faults
-pub mod Bodies

@@ -1,12 +1,11 @@
 //! Another name for a bound variable.
-ghost use Rattle.std.specs.Prelude.{◌≡◌, IfOk, IfErr, IsTrue};
+ghost use Rattle.std.specs.Prelude.{◌≡◌, IfOk, IfErr, IsTrue, MatchOption};
 ghost use Rattle.dlk_tree.specs.Names.{is_name};
-ghost use Rattle.dlk_tree.specs.Trees.{root, sort};
-ghost use Rattle.dlk_tree.specs.declared.op.Sort.TheVariants.{Formula};
+ghost use Rattle.dlk_tree.specs.Trees.{sort};
+ghost use Rattle.dlk_tree.specs.declared.op.Sort.TheVariants.{Term, Formula};
 ghost use Rattle.dlk_store.specs.Stores.{IsId, tree, StandsFor};
-ghost use Rattle.dlk_calculus.specs.Rename.{assigned, binder, body, reassigned, renamed_bound};
-ghost use Rattle.dlk_calculus.specs.Rules.{HasName, HasBinder, IsFreshBinder};
-ghost use Rattle.dlk_rename.specs.Bodies.{with_body};
+ghost use Rattle.dlk_calculus.specs.Notation.{assign};
+ghost use Rattle.dlk_rename.specs.Bindings.{formed, IsForm, IsAssignment, AssignsNone, IsBinding, BindsNone, IsRenamed};
 ghost use Rattle.dlk_rename.specs.Faults.{IsRenameFault};
 
 use crate::exchange::swap;
@@ -17,102 +16,149 @@ use dlk_tree::{Name, Op, Var};
 use std::alloc::{AllocError, Global};
 use std::sync::ledger::Ledger;
 
-/// The name that the program assigns, if it is an assignment to a variable without a prime.
-fn assigned<S: Store, L: Ledger>(
+/// The forms of a formula that binds a variable which can have another name; with the term of an assignment.
+#[derive(Clone, Copy)]
+enum Form {
+    /// `\forall x f`
+    Forall,
+    /// `\exists x f`
+    Exists,
+    /// `[x:=e;]f`
+    Box(Id),
+    /// `<x:=e;>f`
+    Dia(Id),
+}
+
+/// A program that assigns a term to a variable without a prime.
+#[derive(Drop)]
+struct Assignment {
+    name: Name,
+    term: Id,
+}
+
+/// What a formula binds outermost, and the formula in which it is bound.
+#[derive(Drop)]
+struct Binding {
+    form: Form,
+    name: Name,
+    body: Id,
+}
+
+/// The assignment that the program is, if it is one to a variable without a prime.
+fn read_assignment<S: Store, L: Ledger>(
     store: &S,
     program: Id,
     steps: &mut Steps<L>,
-) -> Result<Option<Name>, AllocError>
+) -> Result<Option<Assignment>, AllocError>
     requires { IsId (S.trees store.now) program }
-    ensures { IfOk result (λ name. name ≡ assigned (root (tree (S.trees store.now) program))) }
+    ensures { IfOk result (λ found. MatchOption found (AssignsNone (tree (S.trees store.now) program)) (IsAssignment (S.trees store.now) (tree (S.trees store.now) program))) }
 {
-    match store.look(program, steps).op {
-        Op::Assign(v) if !v.primed => Ok(Some(v.name.clone()?)),
+    let node = store.look(program, steps);
+    match node.op {
+        Op::Assign(v) if !v.primed => {
+            let name = v.name.clone()?;
+            Ok(Some(Assignment {
+                name,
+                term: node.kids[0],
+            }))
+        }
         _ => Ok(None),
     }
 }
 
-/// The name that the formula binds outermost, if it binds one.
-fn binder<S: Store, L: Ledger>(
+/// What the formula binds outermost, if it can have another name.
+fn read_binding<S: Store, L: Ledger>(
     store: &S,
     id: Id,
     steps: &mut Steps<L>,
-) -> Result<Option<Name>, AllocError>
+) -> Result<Option<Binding>, AllocError>
     requires { IsId (S.trees store.now) id }
-    ensures { IfOk result (λ name. name ≡ binder (tree (S.trees store.now) id)) }
+    ensures { IfOk result (λ found. MatchOption found (BindsNone (tree (S.trees store.now) id)) (IsBinding (S.trees store.now) (tree (S.trees store.now) id))) }
 {
     let node = store.look(id, steps);
     match node.op {
-        Op::Forall(x) | Op::Exists(x) => Ok(Some(x.clone()?)),
-        Op::Box | Op::Dia => match node.kids.first() {
-            Some(program) => assigned(store, *program, steps),
-            None => Ok(None),
-        },
+        Op::Forall(x) => {
+            let name = x.clone()?;
+            Ok(Some(Binding {
+                form: Form::Forall,
+                name,
+                body: node.kids[0],
+            }))
+        }
+        Op::Exists(x) => {
+            let name = x.clone()?;
+            Ok(Some(Binding {
+                form: Form::Exists,
+                name,
+                body: node.kids[0],
+            }))
+        }
+        Op::Box => {
+            let Some(a) = read_assignment(store, node.kids[0], steps)? else {
+                return Ok(None);
+            };
+            Ok(Some(Binding {
+                form: Form::Box(a.term),
+                name: a.name,
+                body: node.kids[1],
+            }))
+        }
+        Op::Dia => {
+            let Some(a) = read_assignment(store, node.kids[0], steps)? else {
+                return Ok(None);
+            };
+            Ok(Some(Binding {
+                form: Form::Dia(a.term),
+                name: a.name,
+                body: node.kids[1],
+            }))
+        }
         _ => Ok(None),
     }
 }
 
-/// The formula in which the name is bound.
-fn body_of<S: Store, L: Ledger>(store: &S, id: Id, steps: &mut Steps<L>) -> Id
-    requires known { IsId (S.trees store.now) id }
-    requires binds { HasName (binder (tree (S.trees store.now) id)) }
-    ensures known { IsId (S.trees store.now) result }
-    ensures body { tree (S.trees store.now) result ≡ body (tree (S.trees store.now) id) }
-    ensures formula { sort (tree (S.trees store.now) result) ≡ Formula }
-{
-    let kids = store.look(id, steps).kids;
-    kids[kids.len() - 1]
-}
-
-/// The assignment of the same term to `y`.
-fn reassign<S: Store, L: Ledger>(
+/// The assignment of the term to the variable of this name.
+fn make_assignment<S: Store>(
     alloc: Global,
     store: &mut S,
-    y: &Name,
-    program: Id,
-    steps: &mut Steps<L>,
+    name: &Name,
+    term: Id,
 ) -> Result<Id, StoreFault>
-    requires name { IsTrue (is_name y.now) }
-    requires known { IsId (S.trees store.old) program }
-    requires assigns { HasName (assigned (root (tree (S.trees store.old) program))) }
-    ensures made { IfOk result (λ made. StandsFor (S.trees store.new) made (reassigned y.now (tree (S.trees store.old) program))) }
+    requires name { IsTrue (is_name name.now) }
+    requires known { IsId (S.trees store.old) term }
+    requires term { sort (tree (S.trees store.old) term) ≡ Term }
+    ensures made { IfOk result (λ made. StandsFor (S.trees store.new) made (assign name.now (tree (S.trees store.old) term))) }
     ensures grows { S.grows store.old store.new }
 {
-    let name = y.clone()?;
-    let kids = store.look(program, steps).kids.to_vec(alloc)?;
-    let op = Op::Assign(Var {
-        name,
-        primed: false,
-    });
-    store.make(alloc, op, kids.as_slice())
+    let op = Op::Assign(Var::plain(name.clone()?));
+    store.make(alloc, op, &[term])
 }
 
-/// The formula with `y` for the name that it binds outermost, and this body.
-fn rebind<S: Store, L: Ledger>(
+/// The formula of this form that binds the variable of this name over the body.
+fn make_formula<S: Store>(
     alloc: Global,
     store: &mut S,
-    y: &Name,
+    form: Form,
+    name: &Name,
     body: Id,
-    id: Id,
-    steps: &mut Steps<L>,
 ) -> Result<Id, StoreFault>
-    requires name { IsTrue (is_name y.now) }
+    requires name { IsTrue (is_name name.now) }
+    requires form { IsForm (S.trees store.old) form }
     requires body { IsId (S.trees store.old) body }
     requires formula { sort (tree (S.trees store.old) body) ≡ Formula }
-    requires known { IsId (S.trees store.old) id }
-    requires binds { HasName (binder (tree (S.trees store.old) id)) }
-    ensures made { IfOk result (λ made. StandsFor (S.trees store.new) made (with_body y.now (tree (S.trees store.old) body) (tree (S.trees store.old) id))) }
+    ensures made { IfOk result (λ made. StandsFor (S.trees store.new) made (formed (S.trees store.old) form name.now (tree (S.trees store.old) body))) }
     ensures grows { S.grows store.old store.new }
 {
-    let node = store.look(id, steps);
-    match node.op {
-        Op::Forall(_) => store.make(alloc, Op::Forall(y.clone()?), &[body]),
-        Op::Exists(_) => store.make(alloc, Op::Exists(y.clone()?), &[body]),
-        modality => {
-            let op = modality.clone()?;
-            let program = node.kids[0];
-            let assignment = reassign(alloc, store, y, program, steps)?;
-            store.make(alloc, op, &[assignment, body])
+    match form {
+        Form::Forall => store.make(alloc, Op::Forall(name.clone()?), &[body]),
+        Form::Exists => store.make(alloc, Op::Exists(name.clone()?), &[body]),
+        Form::Box(term) => {
+            let program = make_assignment(alloc, store, name, term)?;
+            store.make(alloc, Op::Box, &[program, body])
+        }
+        Form::Dia(term) => {
+            let program = make_assignment(alloc, store, name, term)?;
+            store.make(alloc, Op::Dia, &[program, body])
         }
     }
 }
@@ -135,20 +181,17 @@ pub fn bound<S: Store, L: Ledger>(
     steps: &mut Steps<L>,
 ) -> Result<Id, RenameFault>
     requires { IsId (S.trees store.old) id }
-    ensures made { IfOk result (λ made. StandsFor (S.trees store.new) made (renamed_bound y.now (tree (S.trees store.old) id))) }
-    ensures binds { IfOk result (λ made. HasBinder y.now (tree (S.trees store.old) id)) }
-    ensures fresh { IfOk result (λ made. IsFreshBinder y.now (tree (S.trees store.old) id)) }
+    ensures made { IfOk result (IsRenamed y.now (tree (S.trees store.old) id) (S.trees store.new)) }
     ensures fault { IfErr result (IsRenameFault y.now (tree (S.trees store.old) id)) }
     ensures grows { S.grows store.old store.new }
 {
     prove!(y.is_name());
-    let Some(x) = binder(store, id, steps)? else {
+    let Some(b) = read_binding(store, id, steps)? else {
         return Err(RenameFault::WrongShape);
     };
-    let body = body_of(store, id, steps);
-    if !may_rename(alloc, store, &x, y, body)? {
+    if !may_rename(alloc, store, &b.name, y, b.body)? {
         return Err(RenameFault::NotFresh);
     }
-    let swapped = swap(alloc, store, body, &x, y, steps)?;
-    Ok(rebind(alloc, store, y, swapped, id, steps)?)
+    let swapped = swap(alloc, store, b.body, &b.name, y, steps)?;
+    Ok(make_formula(alloc, store, b.form, y, swapped)?)
 }

@@ -78,6 +78,7 @@ fn swap_op(alloc: Global, x: &Name, y: &Name, op: &Op) -> Result<Op, AllocError>
         Op::Exists(z) => Op::Exists(swap_name(x, y, z)?),
         Op::Const(s) => Op::Const(swap_sym(x, y, s)?),
         Op::Assign(v) => Op::Assign(swap_var(x, y, v)?),
+        Op::Any(z) => Op::Any(swap_name(x, y, z)?),
         Op::System(items) => Op::System(swap_items(alloc, x, y, items)?),
         other => other.clone()?,
     })

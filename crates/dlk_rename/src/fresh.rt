@@ -6,14 +6,14 @@ ghost use Rattle.dlk_store.specs.Stores.{IsId, tree};
 ghost use Rattle.dlk_calculus.specs.Rename.{hides_variables, has_hidden_variables, may_rename};
 
 use dlk_store::{Id, Store, StoreFault};
-use dlk_tree::{Kind, Name, Sym, Var};
+use dlk_tree::{Name, Sym, Var, kind_row};
 use std::alloc::{AllocError, Global};
 
 /// Whether the symbol may read variables that aren't written with it.
 fn hides_variables(s: &Sym) -> bool
     ensures { result ≡ hides_variables s.now }
 {
-    !matches!(s.kind, Kind::Func | Kind::Pred)
+    !kind_row(s.kind).arguments
 }
 
 fn any_is_open(symbols: &[Sym]) -> bool

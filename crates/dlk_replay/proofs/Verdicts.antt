@@ -1,10 +1,10 @@
 -- What becomes of a file, line by line.
-use Rattle.std.proofs.Common.{◌≡◌, ◌≢◌, ℕ, ◌+◌, ◌≤◌, List, [], ◌∷◌, ◌++◌, length, refl, ap, sym, ◌∙◌, append_assoc, arith, ◌⊎◌, inl, inr, subst}
-use Rattle.std.proofs.lemmas.List.{length_push, append-nil, nil_from_length}
+use Rattle.std.proofs.Common.{◌≡◌, ℕ, ◌+◌, ◌≤◌, List, [], ◌∷◌, ◌++◌, length, refl, ap, sym, ◌∙◌, append_assoc, arith, ◌⊎◌, inl, inr, subst}
+use Rattle.std.proofs.lemmas.List.{length_push, append-nil}
 use Rattle.std.proofs.lemmas.Bool.{cases_order, cases_eq}
 use Rattle.std.specs.Prelude.{◌==◌, if◌then◌else◌}
 use Rattle.dlk_calculus.specs.Provables.{Provable}
-use Rattle.dlk_calculus.specs.Steps.{Step, StepOf, Fault, History}
+use Rattle.dlk_calculus.specs.Steps.{Step, IsProper, StepOf, Fault, History}
 use Rattle.dlk_calculus.specs.declared.reason.Reason.{Reason}
 use Rattle.dlk_calculus.specs.declared.reason.Reason.TheVariants.{NoFact, NoGoal, UnknownName, NoPlace, WrongShape, NotEqual, NotFresh, NotArith, IllSubst, FreeInSubst, NotAdmissible, TooBig, TooDeep, SideFull, GoalsFull, LeavesFull, LinesFull}
 use Rattle.dlk_calculus.specs.Reasons.{rank}
@@ -13,17 +13,26 @@ use Rattle.dlk_calculus.proofs.LimitLaws.{verdict_cases}
 use Rattle.dlk_calculus.proofs.Histories.{History-none, History-more}
 use Rattle.dlk_termtext.specs.Lines.{Line, Numbered, Done, IsLine}
 use Rattle.dlk_termtext.proofs.LineForms.{one_line}
+use Rattle.dlk_termtext.proofs.Proper.{line_proper}
 use Rattle.dlk_replay.specs.declared.fault.LineWhy.TheVariants as why
-use Rattle.dlk_replay.specs.Files.{StepLines, no_lines, one_more, Answer, accepted, bad, Verdict, whole, ended, unread, done_first, done_before, misnumbered, faulty}
+use Rattle.dlk_replay.specs.Files.{Said, TakesStep, HasOtherNumber, TakesNone, EndsFile, Format, SaysLine, StepLines, no_lines, one_more, no_row, Answer, accepted, bad, Becomes, Verdict, whole, ended, unread, done_first, done_before, misnumbered, faulty}
 
-pub steps_history : (lines : List (List ℕ)) (rows : List Provable) → StepLines lines rows → History rows
-steps_history _ _ no_lines = History-none
-steps_history _ _ (one_more {lines} {rows} {line} {step} {p} before is given) = History-more rows step p (steps_history lines rows before) given.given
+pub steps_history : (Says : Format) (lines : List (List ℕ)) (rows : List Provable) (last : ℕ) → StepLines Says lines rows last → History rows
+steps_history Says _ _ _ no_lines = History-none
+steps_history Says _ _ _ (one_more {lines} {rows} {last} {line} {step} {p} before is given) = History-more rows step p (steps_history Says lines rows last before) given.given
+steps_history Says _ _ _ (no_row {lines} {rows} {last} {line} before is) = steps_history Says lines rows last before
 
-pub as_many : (lines : List (List ℕ)) (rows : List Provable) → StepLines lines rows → length lines ≡ length rows
-as_many _ _ no_lines = refl
-as_many _ _ (one_more {lines} {rows} {line} {step} {p} before is given) =
-    length_push lines line ∙ ap (λ n. n + 1) (as_many lines rows before) ∙ sym (length_push rows p)
+-- each line of a proof-term file gives a row
+pub as_many : (lines : List (List ℕ)) (rows : List Provable) (last : ℕ) → StepLines SaysLine lines rows last → length lines ≡ length rows
+as_many _ _ _ no_lines = refl
+as_many _ _ _ (one_more {lines} {rows} {last} {line} {step} {p} before is given) =
+    length_push lines line ∙ ap (λ n. n + 1) (as_many lines rows last before) ∙ sym (length_push rows p)
+as_many _ _ _ (no_row {lines} {rows} {last} {line} before is) = absurd is
+
+pub last_line : (lines : List (List ℕ)) (rows : List Provable) (last : ℕ) → StepLines SaysLine lines rows last → last ≡ length lines
+last_line _ _ _ no_lines = refl
+last_line _ _ _ (one_more {lines} {rows} {last} {line} {step} {p} before is given) = sym (length_push lines line)
+last_line _ _ _ (no_row {lines} {rows} {last} {line} before is) = absurd is
 
 -- the reason of a place in their order
 abbrev reason_of : ℕ → Reason
@@ -58,21 +67,96 @@ one_fault rows step a b f g =
       | inr other ↦ elim other [ inl less ↦ absurd (g.first a less f.against) | inr more ↦ absurd (f.first b more g.against) ]
     ]
 
--- what a line is, as line n after these rows
-data Says : Type 0 where
-  nothing : Says
-  end : Says
-  other_number : Says
-  no_step : Reason → Says
-  row : Provable → Says
+fault_or_row : (rows : List Provable) (step : Step) (reason : Reason) (p : Provable) → Fault rows step reason → StepOf rows step p → ⊥
+fault_or_row rows step reason p f given = given.allowed reason f.against
 
-abbrev LineSays : List Provable → ℕ → List ℕ → Says → Type 0
-LineSays rows n line nothing = (l : Line) → ¬ IsLine line l
-LineSays rows n line end = IsLine line Done
-LineSays rows n line other_number = (m : ℕ) × (step : Step) × IsLine line (Numbered m step) × (m ≢ n)
-LineSays rows n line (no_step reason) = (step : Step) × IsLine line (Numbered n step) × Fault rows step reason
-LineSays rows n line (row p) = (step : Step) × IsLine line (Numbered n step) × StepOf rows step p
+-- what becomes of a file whose first n lines have given these rows and whose next line is `done`
+abbrev at_end : ℕ → List Provable → ℕ → List (List ℕ) → Answer
+at_end n [] last rest = bad (n + 1) why.Malformed
+at_end n (p ∷ ps) last [] = accepted (p ∷ ps) last
+at_end n (p ∷ ps) last (line ∷ lines) = bad (n + 2) why.Malformed
 
+-- the same by what the next line says
+abbrev After : ℕ → List Provable → ℕ → List (List ℕ) → (List Provable → ℕ → Type 0) → Answer → Said → Type 0
+After n rows last rest again a (TakesStep step) =
+    ((p : Provable) × StepOf rows step p × again (rows ++ p ∷ []) (n + 1)) ⊎ ((reason : Reason) × Fault rows step reason × (a ≡ bad (n + 1) (why.Step reason)))
+After n rows last rest again a HasOtherNumber = a ≡ bad (n + 1) why.WrongNumber
+After n rows last rest again a TakesNone = again rows last
+After n rows last rest again a EndsFile = a ≡ at_end n rows last rest
+
+one_after : (n : ℕ) (rows : List Provable) (last : ℕ) (rest : List (List ℕ)) (A B : List Provable → ℕ → Type 0) (a b : Answer) → ((new : List Provable) (at : ℕ) → A new at → B new at → a ≡ b) →
+    (s : Said) → After n rows last rest A a s → After n rows last rest B b s → a ≡ b
+one_after n rows last rest A B a b again (TakesStep step) (inl x) (inl y) =
+    let same : x.0 ≡ y.0 = one_given rows step x.0 y.0 x.1.given y.1.given in
+    again (rows ++ y.0 ∷ []) (n + 1) (subst (λ (p : Provable). A (rows ++ p ∷ []) (n + 1)) same x.2) y.2
+one_after n rows last rest A B a b again (TakesStep step) (inl x) (inr y) = absurd (fault_or_row rows step y.0 x.0 y.1 x.1)
+one_after n rows last rest A B a b again (TakesStep step) (inr x) (inl y) = absurd (fault_or_row rows step x.0 y.0 x.1 y.1)
+one_after n rows last rest A B a b again (TakesStep step) (inr x) (inr y) =
+    x.2 ∙ ap (λ (r : Reason). bad (n + 1) (why.Step r)) (one_fault rows step x.0 y.0 x.1 y.1) ∙ sym y.2
+one_after n rows last rest A B a b again HasOtherNumber x y = x ∙ sym y
+one_after n rows last rest A B a b again TakesNone x y = again rows last x y
+one_after n rows last rest A B a b again EndsFile x y = x ∙ sym y
+
+at_end_first : (n last : ℕ) (rest : List (List ℕ)) → bad (n + 1) why.Malformed ≡ at_end n [] last rest
+at_end_first n last rest = refl
+
+at_end_whole : (n : ℕ) (rows : List Provable) (last : ℕ) → 1 ≤ length rows → accepted rows last ≡ at_end n rows last []
+at_end_whole n [] last some = absurd (omega (arith, some))
+at_end_whole n (p ∷ ps) last some = refl
+
+at_end_before : (n : ℕ) (rows : List Provable) (last : ℕ) (line : List ℕ) (lines : List (List ℕ)) → 1 ≤ length rows → bad (n + 2) why.Malformed ≡ at_end n rows last (line ∷ lines)
+at_end_before n [] last line lines some = absurd (omega (arith, some))
+at_end_before n (p ∷ ps) last line lines some = refl
+
+-- In a format in which a line says one thing, one thing becomes of each file.
+module _ (Says : Format) (one_said : (before : List (List ℕ)) (line : List ℕ) (s t : Said) → Says before line s → Says before line t → s ≡ t) where
+  -- what becomes of a file whose first lines have given these rows, by the lines that are left
+  abbrev Ends : List (List ℕ) → List (List ℕ) → List Provable → ℕ → Answer → Type 0
+  Ends [] before rows last a = a ≡ bad (length before + 1) why.NoEnd
+  Ends (line ∷ rest) before rows last a =
+      (((s : Said) → ¬ Says before line s) × (a ≡ bad (length before + 1) why.Malformed))
+      ⊎ ((s : Said) × Says before line s × After (length before) rows last rest (λ new at. Ends rest (before ++ line ∷ []) new at a) a s)
+
+  one_end : (rest before : List (List ℕ)) (rows : List Provable) (last : ℕ) (a b : Answer) → Ends rest before rows last a → Ends rest before rows last b → a ≡ b
+  one_end [] before rows last a b x y = x ∙ sym y
+  one_end (line ∷ rest) before rows last a b (inl x) (inl y) = x.1 ∙ sym y.1
+  one_end (line ∷ rest) before rows last a b (inl x) (inr y) = absurd (x.0 y.0 y.1)
+  one_end (line ∷ rest) before rows last a b (inr x) (inl y) = absurd (y.0 x.0 x.1)
+  one_end (line ∷ rest) before rows last a b (inr x) (inr y) =
+      let again : Answer → List Provable → ℕ → Type 0 = λ c new at. Ends rest (before ++ line ∷ []) new at c in
+      let same : x.0 ≡ y.0 = one_said before line x.0 y.0 x.1 y.1 in
+      one_after (length before) rows last rest (again a) (again b) a b (λ new at. one_end rest (before ++ line ∷ []) new at a b) y.0
+      (subst (λ s. After (length before) rows last rest (again a) a s) same x.2) y.2
+
+  after_steps : (steps rest : List (List ℕ)) (rows : List Provable) (last : ℕ) (a : Answer) → StepLines Says steps rows last → Ends rest steps rows last a → Ends (steps ++ rest) [] [] 0 a
+  after_steps _ rest _ _ a no_lines ends = ends
+  after_steps _ rest _ _ a (one_more {lines} {rows} {last} {line} {step} {p} before is given) ends =
+      let next : Ends (line ∷ rest) lines rows last a = inr (TakesStep step, is, inl (p, given, ends)) in
+      rw append_assoc (after_steps lines (line ∷ rest) rows last a before next)
+  after_steps _ rest _ _ a (no_row {lines} {rows} {last} {line} before is) ends =
+      let next : Ends (line ∷ rest) lines rows last a = inr (TakesNone, is, ends) in
+      rw append_assoc (after_steps lines (line ∷ rest) rows last a before next)
+
+  becomes_ends : (lines : List (List ℕ)) (a : Answer) → Becomes Says lines a → Ends lines [] [] 0 a
+  becomes_ends _ _ (whole {steps} {rows} {last} {line} is some ends) =
+      after_steps steps (line ∷ []) rows last (accepted rows last) is (inr (EndsFile, ends, at_end_whole (length steps) rows last some))
+  becomes_ends _ _ (ended {steps} {rows} {last} is) =
+      subst (λ l. Ends l [] [] 0 (bad (length steps + 1) why.NoEnd)) (append-nil steps) (after_steps steps [] rows last (bad (length steps + 1) why.NoEnd) is refl)
+  becomes_ends _ _ (unread {steps} {rows} {last} {line} after is none) =
+      after_steps steps (line ∷ after) rows last (bad (length steps + 1) why.Malformed) is (inl (none, refl))
+  becomes_ends _ _ (done_first {steps} {last} {line} after is ends) =
+      after_steps steps (line ∷ after) [] last (bad (length steps + 1) why.Malformed) is (inr (EndsFile, ends, at_end_first (length steps) last after))
+  becomes_ends _ _ (done_before {steps} {rows} {last} {line} next after is some ends) =
+      after_steps steps (line ∷ next ∷ after) rows last (bad (length steps + 2) why.Malformed) is (inr (EndsFile, ends, at_end_before (length steps) rows last next after some))
+  becomes_ends _ _ (misnumbered {steps} {rows} {last} {line} after is other) =
+      after_steps steps (line ∷ after) rows last (bad (length steps + 1) why.WrongNumber) is (inr (HasOtherNumber, other, refl))
+  becomes_ends _ _ (faulty {steps} {rows} {last} {line} {step} {reason} after is says fault) =
+      after_steps steps (line ∷ after) rows last (bad (length steps + 1) (why.Step reason)) is (inr (TakesStep step, says, inr (reason, fault, refl)))
+
+  pub one_becomes : (lines : List (List ℕ)) (a b : Answer) → Becomes Says lines a → Becomes Says lines b → a ≡ b
+  one_becomes lines a b x y = one_end lines [] [] 0 a b (becomes_ends lines a x) (becomes_ends lines b y)
+
+-- A line of a proof-term file says one thing.
 not_done : (line : List ℕ) (m : ℕ) (step : Step) → IsLine line (Numbered m step) → IsLine line Done → ⊥
 not_done line m step a b = let e : Numbered m step ≡ Done = one_line line (Numbered m step) Done a b in cc
 
@@ -82,150 +166,70 @@ same_number line m n s t a b = let e : Numbered m s ≡ Numbered n t = one_line 
 same_step : (line : List ℕ) (m n : ℕ) (s t : Step) → IsLine line (Numbered m s) → IsLine line (Numbered n t) → s ≡ t
 same_step line m n s t a b = let e : Numbered m s ≡ Numbered n t = one_line line (Numbered m s) (Numbered n t) a b in cc
 
-fault_or_row : (rows : List Provable) (step : Step) (reason : Reason) (p : Provable) → Fault rows step reason → StepOf rows step p → ⊥
-fault_or_row rows step reason p f given = given.allowed reason f.against
-
-one_says : (rows : List Provable) (n : ℕ) (line : List ℕ) (s t : Says) → LineSays rows n line s → LineSays rows n line t → s ≡ t
-one_says rows n line nothing nothing a b = refl
-one_says rows n line nothing end a b = absurd (a Done b)
-one_says rows n line nothing other_number a b = absurd (a (Numbered b.0 b.1) b.2)
-one_says rows n line nothing (no_step reason) a b = absurd (a (Numbered n b.0) b.1)
-one_says rows n line nothing (row p) a b = absurd (a (Numbered n b.0) b.1)
-one_says rows n line end nothing a b = absurd (b Done a)
-one_says rows n line end end a b = refl
-one_says rows n line end other_number a b = absurd (not_done line b.0 b.1 b.2 a)
-one_says rows n line end (no_step reason) a b = absurd (not_done line n b.0 b.1 a)
-one_says rows n line end (row p) a b = absurd (not_done line n b.0 b.1 a)
-one_says rows n line other_number nothing a b = absurd (b (Numbered a.0 a.1) a.2)
-one_says rows n line other_number end a b = absurd (not_done line a.0 a.1 a.2 b)
-one_says rows n line other_number other_number a b = refl
-one_says rows n line other_number (no_step reason) a b = absurd (a.3 (same_number line a.0 n a.1 b.0 a.2 b.1))
-one_says rows n line other_number (row p) a b = absurd (a.3 (same_number line a.0 n a.1 b.0 a.2 b.1))
-one_says rows n line (no_step reason) nothing a b = absurd (b (Numbered n a.0) a.1)
-one_says rows n line (no_step reason) end a b = absurd (not_done line n a.0 a.1 b)
-one_says rows n line (no_step reason) other_number a b = absurd (b.3 (same_number line b.0 n b.1 a.0 b.2 a.1))
-one_says rows n line (no_step reason) (no_step other) a b =
-    ap no_step (one_fault rows b.0 reason other (rw (← same_step line n n a.0 b.0 a.1 b.1) a.2) b.2)
-one_says rows n line (no_step reason) (row p) a b =
-    absurd (fault_or_row rows b.0 reason p (rw (← same_step line n n a.0 b.0 a.1 b.1) a.2) b.2)
-one_says rows n line (row p) nothing a b = absurd (b (Numbered n a.0) a.1)
-one_says rows n line (row p) end a b = absurd (not_done line n a.0 a.1 b)
-one_says rows n line (row p) other_number a b = absurd (b.3 (same_number line b.0 n b.1 a.0 b.2 a.1))
-one_says rows n line (row p) (no_step reason) a b =
-    absurd (fault_or_row rows a.0 reason p (rw (same_step line n n a.0 b.0 a.1 b.1) b.2) a.2)
-one_says rows n line (row p) (row q) a b =
-    let given : StepOf rows b.0 p = rw (← same_step line n n a.0 b.0 a.1 b.1) a.2 in
-    ap row (one_given rows b.0 p q given.given b.2.given)
-
--- what becomes of a file whose first lines have given these rows and whose next line is `done`
-abbrev at_end : ℕ → List Provable → List (List ℕ) → Answer
-at_end n [] lines = bad 1 why.Malformed
-at_end n (p ∷ ps) [] = accepted (p ∷ ps)
-at_end n (p ∷ ps) (line ∷ lines) = bad (n + 2) why.Malformed
-
--- the same by what the next line says
-abbrev Goes : ℕ → List Provable → List (List ℕ) → (Provable → Type 0) → Says → Answer → Type 0
-Goes n rows lines again nothing a = a ≡ bad (n + 1) why.Malformed
-Goes n rows lines again end a = a ≡ at_end n rows lines
-Goes n rows lines again other_number a = a ≡ bad (n + 1) why.WrongNumber
-Goes n rows lines again (no_step reason) a = a ≡ bad (n + 1) (why.Step reason)
-Goes n rows lines again (row p) a = again p
-
--- what becomes of a file whose first n lines have given these rows, by the lines that are left
-abbrev Ends : List (List ℕ) → ℕ → List Provable → Answer → Type 0
-Ends [] n rows a = a ≡ bad (n + 1) why.NoEnd
-Ends (line ∷ lines) n rows a = (s : Says) × LineSays rows (n + 1) line s × Goes n rows lines (λ p. Ends lines (n + 1) (rows ++ p ∷ []) a) s a
-
-one_way : (n : ℕ) (rows : List Provable) (lines : List (List ℕ)) (A B : Provable → Type 0) (a b : Answer) → ((p : Provable) → A p → B p → a ≡ b) →
-    (s : Says) → Goes n rows lines A s a → Goes n rows lines B s b → a ≡ b
-one_way n rows lines A B a b again nothing x y = x ∙ sym y
-one_way n rows lines A B a b again end x y = x ∙ sym y
-one_way n rows lines A B a b again other_number x y = x ∙ sym y
-one_way n rows lines A B a b again (no_step reason) x y = x ∙ sym y
-one_way n rows lines A B a b again (row p) x y = again p x y
-
-one_end : (lines : List (List ℕ)) (n : ℕ) (rows : List Provable) (a b : Answer) → Ends lines n rows a → Ends lines n rows b → a ≡ b
-one_end [] n rows a b x y = x ∙ sym y
-one_end (line ∷ lines) n rows a b x y =
-    let again : Answer → Provable → Type 0 = λ c p. Ends lines (n + 1) (rows ++ p ∷ []) c in
-    let same : x.0 ≡ y.0 = one_says rows (n + 1) line x.0 y.0 x.1 y.1 in
-    one_way n rows lines (again a) (again b) a b (λ p. one_end lines (n + 1) (rows ++ p ∷ []) a b) y.0
-    (subst (λ s. Goes n rows lines (again a) s a) same x.2) y.2
-
-after_steps : (steps rest : List (List ℕ)) (rows : List Provable) (a : Answer) → StepLines steps rows → Ends rest (length steps) rows a → Ends (steps ++ rest) 0 [] a
-after_steps _ rest _ a no_lines ends = ends
-after_steps _ rest _ a (one_more {lines} {rows} {line} {step} {p} before is given) ends =
-    let next : Ends (line ∷ rest) (length lines) rows a = (row p, (step, is, given), rw (← length_push lines line) ends) in
-    rw append_assoc (after_steps lines (line ∷ rest) rows a before next)
-
-at_end_whole : (n : ℕ) (rows : List Provable) → 1 ≤ length rows → accepted rows ≡ at_end n rows []
-at_end_whole n [] some = absurd (omega (arith, some))
-at_end_whole n (p ∷ ps) some = refl
-
-at_end_before : (n : ℕ) (rows : List Provable) (line : List ℕ) (lines : List (List ℕ)) → 1 ≤ length rows → bad (n + 2) why.Malformed ≡ at_end n rows (line ∷ lines)
-at_end_before n [] line lines some = absurd (omega (arith, some))
-at_end_before n (p ∷ ps) line lines some = refl
-
-verdict_ends : (lines : List (List ℕ)) (a : Answer) → Verdict lines a → Ends lines 0 [] a
-verdict_ends _ _ (whole {steps} {rows} {last} is some is_done) =
-    after_steps steps (last ∷ []) rows (accepted rows) is (end, is_done, at_end_whole (length steps) rows some)
-verdict_ends _ _ (ended {steps} {rows} is) =
-    subst (λ l. Ends l 0 [] (bad (length steps + 1) why.NoEnd)) (append-nil steps) (after_steps steps [] rows (bad (length steps + 1) why.NoEnd) is refl)
-verdict_ends _ _ (unread {steps} {rows} {line} after is none) = after_steps steps (line ∷ after) rows _ is (nothing, none, refl)
-verdict_ends _ _ (done_first {line} after is_done) = (end, is_done, refl)
-verdict_ends _ _ (done_before {steps} {rows} {last} line after is some is_done) =
-    after_steps steps (last ∷ line ∷ after) rows _ is (end, is_done, at_end_before (length steps) rows line after some)
-verdict_ends _ _ (misnumbered {steps} {rows} {line} {number} {step} after is line_is other) =
-    after_steps steps (line ∷ after) rows _ is (other_number, (number, step, line_is, other), refl)
-verdict_ends _ _ (faulty {steps} {rows} {line} {step} {reason} after is line_is fault) =
-    after_steps steps (line ∷ after) rows _ is (no_step reason, (step, line_is, fault), refl)
+pub one_said : (before : List (List ℕ)) (line : List ℕ) (s t : Said) → SaysLine before line s → SaysLine before line t → s ≡ t
+one_said before line (TakesStep s) (TakesStep t) a b = ap TakesStep (same_step line (length before + 1) (length before + 1) s t a b)
+one_said before line (TakesStep s) HasOtherNumber a b = absurd (b.3 (same_number line b.0 (length before + 1) b.1 s b.2 a))
+one_said before line (TakesStep s) TakesNone a b = absurd b
+one_said before line (TakesStep s) EndsFile a b = absurd (not_done line (length before + 1) s a b)
+one_said before line HasOtherNumber (TakesStep t) a b = absurd (a.3 (same_number line a.0 (length before + 1) a.1 t a.2 b))
+one_said before line HasOtherNumber HasOtherNumber a b = refl
+one_said before line HasOtherNumber TakesNone a b = absurd b
+one_said before line HasOtherNumber EndsFile a b = absurd (not_done line a.0 a.1 a.2 b)
+one_said before line TakesNone t a b = absurd a
+one_said before line EndsFile (TakesStep t) a b = absurd (not_done line (length before + 1) t b a)
+one_said before line EndsFile HasOtherNumber a b = absurd (not_done line b.0 b.1 b.2 a)
+one_said before line EndsFile TakesNone a b = absurd b
+one_said before line EndsFile EndsFile a b = refl
 
 pub one_verdict : (lines : List (List ℕ)) (a b : Answer) → Verdict lines a → Verdict lines b → a ≡ b
-one_verdict lines a b x y = one_end lines 0 [] a b (verdict_ends lines a x) (verdict_ends lines b y)
+one_verdict lines a b x y = one_becomes SaysLine one_said lines a b x y
 
-pub accepted_history : (lines : List (List ℕ)) (rows : List Provable) → Verdict lines (accepted rows) → History rows
-accepted_history _ _ (whole {steps} {rows} {last} is some _) = steps_history steps rows is
+pub accepted_history : (lines : List (List ℕ)) (rows : List Provable) (last : ℕ) → Verdict lines (accepted rows last) → History rows
+accepted_history _ _ _ (whole {steps} {rows} {last} {line} is some ends) = steps_history SaysLine steps rows last is
 
--- where each text is a line or none, something becomes of each file
-abbrev pub Decided : Type 0
-Decided = (line : List ℕ) → ((l : Line) × IsLine line l) ⊎ ((l : Line) → ¬ IsLine line l)
+-- In a format in which it is known what each line says, and each line that says a step says a proper one, something becomes of each file.
+module _ (Says : Format) (decided : (before : List (List ℕ)) (line : List ℕ) → ((s : Said) × Says before line s) ⊎ ((s : Said) → ¬ Says before line s))
+    (proper : (before : List (List ℕ)) (line : List ℕ) (step : Step) → Says before line (TakesStep step) → IsProper step) where
+  after_done : (steps rest : List (List ℕ)) (rows : List Provable) (last : ℕ) (line : List ℕ) → StepLines Says steps rows last → Says steps line EndsFile → (a : Answer) × Becomes Says (steps ++ line ∷ rest) a
+  after_done steps rest [] last line is ends = (bad (length steps + 1) why.Malformed, done_first rest is ends)
+  after_done steps [] (p ∷ ps) last line is ends = (accepted (p ∷ ps) last, whole is (omega arith) ends)
+  after_done steps (next ∷ rest) (p ∷ ps) last line is ends = (bad (length steps + 2) why.Malformed, done_before next rest is (omega arith) ends)
 
-after_done : (steps rest : List (List ℕ)) (rows : List Provable) (line : List ℕ) → StepLines steps rows → IsLine line Done → (a : Answer) × Verdict (steps ++ line ∷ rest) a
-after_done steps rest [] line is is_done =
-    let none : [] ≡ steps = sym (nil_from_length steps (as_many steps [] is)) in
-    (bad 1 why.Malformed, subst (λ s. Verdict (s ++ line ∷ rest) (bad 1 why.Malformed)) none (done_first rest is_done))
-after_done steps [] (p ∷ ps) line is is_done = (accepted (p ∷ ps), whole is (omega arith) is_done)
-after_done steps (next ∷ rest) (p ∷ ps) line is is_done = (bad (length steps + 2) why.Malformed, done_before next rest is (omega arith) is_done)
+  some_from : (rest steps : List (List ℕ)) (rows : List Provable) (last : ℕ) → StepLines Says steps rows last → (a : Answer) × Becomes Says (steps ++ rest) a
+  some_from [] steps rows last is =
+      (bad (length steps + 1) why.NoEnd, subst (λ s. Becomes Says s (bad (length steps + 1) why.NoEnd)) (sym (append-nil steps)) (ended is))
+  some_from (line ∷ rest) steps rows last is = elim (decided steps line) [
+    | inl says ↦ by_line says.0 says.1 (λ new at more. let found = some_from rest (steps ++ line ∷ []) new at more in (found.0, rw append_assoc at found.1))
+    | inr none ↦ (bad (length steps + 1) why.Malformed, unread rest is none)
+  ]
+    where
+      by_line : (s : Said) → Says steps line s → ((new : List Provable) (at : ℕ) → StepLines Says (steps ++ line ∷ []) new at → (a : Answer) × Becomes Says (steps ++ line ∷ rest) a) →
+          (a : Answer) × Becomes Says (steps ++ line ∷ rest) a
+      by_line (TakesStep step) says again = elim (verdict_cases rows step (proper steps line step says)) [
+        | inl taken ↦ again (rows ++ taken.0 ∷ []) (length steps + 1) (one_more is says taken.1)
+        | inr against ↦ (bad (length steps + 1) (why.Step against.0), faulty rest is says against.1)
+      ]
+      by_line HasOtherNumber says again = (bad (length steps + 1) why.WrongNumber, misnumbered rest is says)
+      by_line TakesNone says again = again rows last (no_row is says)
+      by_line EndsFile says again = after_done steps rest rows last line is says
 
-after_step : (steps rest : List (List ℕ)) (rows : List Provable) (line : List ℕ) (number : ℕ) (step : Step) → StepLines steps rows → IsLine line (Numbered number step) →
-    ((p : Provable) → StepLines (steps ++ line ∷ []) (rows ++ p ∷ []) → (a : Answer) × Verdict (steps ++ line ∷ rest) a) →
-    (a : Answer) × Verdict (steps ++ line ∷ rest) a
-after_step steps rest rows line number step is line_is again =
-    elim (cases_eq number (length steps + 1)) [
-      | inl right ↦
-          let its_own : IsLine line (Numbered (length steps + 1) step) = rw (← right) line_is in
-          elim (verdict_cases rows step) [
-            | inl taken ↦ again taken.0 (one_more is its_own taken.1)
-            | inr against ↦ (bad (length steps + 1) (why.Step against.0), faulty rest is its_own against.1)
-          ]
-      | inr other ↦ (bad (length steps + 1) why.WrongNumber, misnumbered rest is line_is other)
-    ]
+  pub some_becomes : (lines : List (List ℕ)) → (a : Answer) × Becomes Says lines a
+  some_becomes lines = some_from lines [] [] 0 no_lines
 
-pub some_verdict_from : Decided → (rest steps : List (List ℕ)) (rows : List Provable) → StepLines steps rows → (a : Answer) × Verdict (steps ++ rest) a
-some_verdict_from decided [] steps rows is =
-    (bad (length steps + 1) why.NoEnd, subst (λ s. Verdict s (bad (length steps + 1) why.NoEnd)) (sym (append-nil steps)) (ended is))
-some_verdict_from decided (line ∷ rest) steps rows is =
-    let again : (p : Provable) → StepLines (steps ++ line ∷ []) (rows ++ p ∷ []) → (a : Answer) × Verdict (steps ++ line ∷ rest) a =
-    λ p more. let found = some_verdict_from decided rest (steps ++ line ∷ []) (rows ++ p ∷ []) more in (found.0, rw append_assoc at found.1) in
-    elim (decided line) [
-      | inl says ↦ by_line says.0 says.1 again
-      | inr none ↦ (bad (length steps + 1) why.Malformed, unread rest is none)
-    ]
+-- what a line says where it is known which line a text is
+said_if_line : (before : List (List ℕ)) (line : List ℕ) → ((l : Line) × IsLine line l) ⊎ ((l : Line) → ¬ IsLine line l) → ((s : Said) × SaysLine before line s) ⊎ ((s : Said) → ¬ SaysLine before line s)
+said_if_line before line (inl (Numbered number step, is)) = elim (cases_eq number (length before + 1)) [
+  | inl right ↦ inl (TakesStep step, subst (λ n. IsLine line (Numbered n step)) right is)
+  | inr other ↦ inl (HasOtherNumber, (number, step, is, other))
+]
+said_if_line before line (inl (Done, is)) = inl (EndsFile, is)
+said_if_line before line (inr none) = inr says_none
   where
-    by_line : (l : Line) → IsLine line l → ((p : Provable) → StepLines (steps ++ line ∷ []) (rows ++ p ∷ []) → (a : Answer) × Verdict (steps ++ line ∷ rest) a) →
-        (a : Answer) × Verdict (steps ++ line ∷ rest) a
-    by_line (Numbered number step) line_is again = after_step steps rest rows line number step is line_is again
-    by_line Done line_is again = after_done steps rest rows line is line_is
+    says_none : (s : Said) → ¬ SaysLine before line s
+    says_none (TakesStep step) is = none (Numbered (length before + 1) step) is
+    says_none HasOtherNumber is = none (Numbered is.0 is.1) is.2
+    says_none TakesNone is = is
+    says_none EndsFile is = none Done is
 
-pub some_verdict : Decided → (lines : List (List ℕ)) → (a : Answer) × Verdict lines a
-some_verdict decided lines = some_verdict_from decided lines [] [] no_lines
+pub some_verdict : ((line : List ℕ) → ((l : Line) × IsLine line l) ⊎ ((l : Line) → ¬ IsLine line l)) → (lines : List (List ℕ)) → (a : Answer) × Verdict lines a
+some_verdict decided lines = some_becomes SaysLine (λ before line. said_if_line before line (decided line)) (λ before line step is. line_proper line (length before + 1) step is) lines

@@ -3,7 +3,7 @@ use Rattle.std.specs.Prelude.{◌≢◌, ℕ, ◌+◌, ◌≤◌, ◌==◌, Bool
 use Rattle.dlk_calculus.specs.Provables.{Provable}
 use Rattle.dlk_calculus.specs.Steps.{Step, StepOf, Fault}
 use Rattle.dlk_calculus.specs.declared.reason.Reason.{Reason}
-use Rattle.dlk_termtext.specs.Lines.{Line, Numbered, Done, IsLine}
+use Rattle.dlk_termtext.specs.Lines.{Numbered, Done, IsLine}
 use Rattle.dlk_replay.specs.declared.fault.LineWhy.{LineWhy}
 use Rattle.dlk_replay.specs.declared.fault.LineWhy.TheVariants as why
 
@@ -20,45 +20,75 @@ abbrev pub file_lines : List ℕ → List (List ℕ)
 file_lines [] = []
 file_lines (byte ∷ bytes) = if is_line_feed byte then [] ∷ file_lines bytes else before_first_line byte (file_lines bytes)
 
--- StepLines lines rows: the lines are steps of the calculus, numbered from 1 on, and these rows are what they give in turn.
-pub data StepLines : List (List ℕ) → List Provable → Type 0 where
-  no_lines : StepLines [] []
-  one_more : {lines : List (List ℕ)} {rows : List Provable} {line : List ℕ} {step : Step} {p : Provable} →
-      StepLines lines rows → IsLine line (Numbered (length lines + 1) step) → StepOf rows step p →
-      StepLines (lines ++ line ∷ []) (rows ++ p ∷ [])
+-- what a line of a file says
+pub data Said : Type 0 where
+  -- a step, with its own number
+  TakesStep : Step → Said
+  -- something with a number that isn't its own
+  HasOtherNumber : Said
+  -- something that gives no row
+  TakesNone : Said
+  -- no step comes after it
+  EndsFile : Said
+
+-- what a line says, after the lines before it
+abbrev pub Format : Type 1
+Format = List (List ℕ) → List ℕ → Said → Type 0
+
+-- the format of proof-term files: each line but the last is a step, numbered from 1 on
+abbrev pub SaysLine : Format
+SaysLine before line (TakesStep step) = IsLine line (Numbered (length before + 1) step)
+SaysLine before line HasOtherNumber = (number : ℕ) × (step : Step) × IsLine line (Numbered number step) × (number ≢ length before + 1)
+SaysLine before line TakesNone = ⊥
+SaysLine before line EndsFile = IsLine line Done
+
+-- StepLines Says lines rows last: the steps of the lines are steps of the calculus, these rows are what they give in turn, and the last row
+-- is that of this line.
+pub data StepLines (Says : Format) : List (List ℕ) → List Provable → ℕ → Type 0 where
+  no_lines : StepLines Says [] [] 0
+  one_more : {lines : List (List ℕ)} {rows : List Provable} {last : ℕ} {line : List ℕ} {step : Step} {p : Provable} →
+      StepLines Says lines rows last → Says lines line (TakesStep step) → StepOf rows step p →
+      StepLines Says (lines ++ line ∷ []) (rows ++ p ∷ []) (length lines + 1)
+  no_row : {lines : List (List ℕ)} {rows : List Provable} {last : ℕ} {line : List ℕ} →
+      StepLines Says lines rows last → Says lines line TakesNone → StepLines Says (lines ++ line ∷ []) rows last
 
 -- what becomes of a file
 pub data Answer : Type 0 where
-  -- its lines are accepted, and give these rows
-  accepted : List Provable → Answer
+  -- its lines are accepted, and give these rows, the last of them at this line
+  accepted : List Provable → ℕ → Answer
   -- the least line that isn't as it must be, and why
   bad : ℕ → LineWhy → Answer
 
--- Verdict lines answer: one case a way in which a file ends.
-pub data Verdict : List (List ℕ) → Answer → Type 0 where
+-- Becomes Says lines answer: one case a way in which a file of lines ends.
+pub data Becomes (Says : Format) : List (List ℕ) → Answer → Type 0 where
   -- steps, at least one, and then `done`
-  whole : {steps : List (List ℕ)} {rows : List Provable} {last : List ℕ} →
-      StepLines steps rows → 1 ≤ length rows → IsLine last Done → Verdict (steps ++ last ∷ []) (accepted rows)
+  whole : {steps : List (List ℕ)} {rows : List Provable} {last : ℕ} {line : List ℕ} →
+      StepLines Says steps rows last → 1 ≤ length rows → Says steps line EndsFile → Becomes Says (steps ++ line ∷ []) (accepted rows last)
   -- steps, and no line where one more should stand
-  ended : {steps : List (List ℕ)} {rows : List Provable} → StepLines steps rows → Verdict steps (bad (length steps + 1) why.NoEnd)
-  -- steps, and then what is no line
-  unread : {steps : List (List ℕ)} {rows : List Provable} {line : List ℕ} (after : List (List ℕ)) →
-      StepLines steps rows → ((l : Line) → ¬ IsLine line l) → Verdict (steps ++ line ∷ after) (bad (length steps + 1) why.Malformed)
+  ended : {steps : List (List ℕ)} {rows : List Provable} {last : ℕ} →
+      StepLines Says steps rows last → Becomes Says steps (bad (length steps + 1) why.NoEnd)
+  -- steps, and then what says nothing
+  unread : {steps : List (List ℕ)} {rows : List Provable} {last : ℕ} {line : List ℕ} (after : List (List ℕ)) →
+      StepLines Says steps rows last → ((s : Said) → ¬ Says steps line s) → Becomes Says (steps ++ line ∷ after) (bad (length steps + 1) why.Malformed)
   -- `done` before any step
-  done_first : {line : List ℕ} (after : List (List ℕ)) → IsLine line Done → Verdict (line ∷ after) (bad 1 why.Malformed)
+  done_first : {steps : List (List ℕ)} {last : ℕ} {line : List ℕ} (after : List (List ℕ)) →
+      StepLines Says steps [] last → Says steps line EndsFile → Becomes Says (steps ++ line ∷ after) (bad (length steps + 1) why.Malformed)
   -- steps, `done`, and then one more line
-  done_before : {steps : List (List ℕ)} {rows : List Provable} {last : List ℕ} (line : List ℕ) (after : List (List ℕ)) →
-      StepLines steps rows → 1 ≤ length rows → IsLine last Done → Verdict (steps ++ last ∷ line ∷ after) (bad (length steps + 2) why.Malformed)
-  -- steps, and then a step with another number
-  misnumbered : {steps : List (List ℕ)} {rows : List Provable} {line : List ℕ} {number : ℕ} {step : Step} (after : List (List ℕ)) →
-      StepLines steps rows → IsLine line (Numbered number step) → number ≢ length steps + 1 →
-      Verdict (steps ++ line ∷ after) (bad (length steps + 1) why.WrongNumber)
+  done_before : {steps : List (List ℕ)} {rows : List Provable} {last : ℕ} {line : List ℕ} (next : List ℕ) (after : List (List ℕ)) →
+      StepLines Says steps rows last → 1 ≤ length rows → Says steps line EndsFile → Becomes Says (steps ++ line ∷ next ∷ after) (bad (length steps + 2) why.Malformed)
+  -- steps, and then a line with another number
+  misnumbered : {steps : List (List ℕ)} {rows : List Provable} {last : ℕ} {line : List ℕ} (after : List (List ℕ)) →
+      StepLines Says steps rows last → Says steps line HasOtherNumber → Becomes Says (steps ++ line ∷ after) (bad (length steps + 1) why.WrongNumber)
   -- steps, and then one that is no step of the calculus
-  faulty : {steps : List (List ℕ)} {rows : List Provable} {line : List ℕ} {step : Step} {reason : Reason} (after : List (List ℕ)) →
-      StepLines steps rows → IsLine line (Numbered (length steps + 1) step) → Fault rows step reason →
-      Verdict (steps ++ line ∷ after) (bad (length steps + 1) (why.Step reason))
+  faulty : {steps : List (List ℕ)} {rows : List Provable} {last : ℕ} {line : List ℕ} {step : Step} {reason : Reason} (after : List (List ℕ)) →
+      StepLines Says steps rows last → Says steps line (TakesStep step) → Fault rows step reason →
+      Becomes Says (steps ++ line ∷ after) (bad (length steps + 1) (why.Step reason))
+
+-- what becomes of a proof-term file, by its lines
+abbrev pub Verdict : List (List ℕ) → Answer → Type 0
+Verdict lines answer = Becomes SaysLine lines answer
 
 -- RowsOf lines rows: the rows that first lines of a file give; `done` gives none.
 pub data RowsOf : List (List ℕ) → List Provable → Type 0 where
-  of_steps : {steps : List (List ℕ)} {rows : List Provable} → StepLines steps rows → RowsOf steps rows
-  of_all : {steps : List (List ℕ)} {rows : List Provable} {last : List ℕ} → StepLines steps rows → IsLine last Done → RowsOf (steps ++ last ∷ []) rows
+  of_steps : {steps : List (List ℕ)} {rows : List Provable} {last : ℕ} → StepLines SaysLine steps rows last → RowsOf steps rows
+  of_all : {steps : List (List ℕ)} {rows : List Provable} {last : ℕ} {line : List ℕ} → StepLines SaysLine steps rows last → IsLine line Done → RowsOf (steps ++ line ∷ []) rows

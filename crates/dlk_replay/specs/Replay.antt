@@ -12,9 +12,9 @@ use Rattle.dlk_replay.specs.declared.fault.ReplayFault.{ReplayFault}
 use Rattle.dlk_replay.specs.declared.fault.ReplayFault.TheVariants.{Bad, Memory}
 
 -- the fault of these lines; want of memory is free
-abbrev pub IsFaultOf : List (List ℕ) → ReplayFault → Type 0
-IsFaultOf lines (Bad line reason) = Verdict lines (bad line reason)
-IsFaultOf lines Memory = Unit {0}
+abbrev pub IsReplayFaultOf : List (List ℕ) → ReplayFault → Type 0
+IsReplayFaultOf lines (Bad line reason) = Verdict lines (bad line reason)
+IsReplayFaultOf lines Memory = Unit {0}
 
 -- the rows that a fault leaves: those of the lines before it, and for want of memory those of some first lines
 abbrev pub LeavesRows : List (List ℕ) → List Provable → ReplayFault → Type 0

@@ -13,6 +13,8 @@ pub struct Outcome {
     pub fact: Fact,
     /// The number of lines of steps.
     pub lines: u32,
+    /// The line of the last row, counted from 1.
+    pub line: usize,
 }
 
 /// Why a line is not as it must be, in the order in which it is looked for.

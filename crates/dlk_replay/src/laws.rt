@@ -18,6 +18,6 @@ pub fn some_verdict()
 
 /// The rows of an accepted file are a history, and so each of them is derived.
 pub fn accepted_derived()
-    ensures history { (lines : List (List ℕ)) (rows : List Provable) → Verdict lines (accepted rows) → History rows }
-    ensures derived { (lines : List (List ℕ)) (rows : List Provable) → Verdict lines (accepted rows) → All Derives rows }
+    ensures history { (lines : List (List ℕ)) (rows : List Provable) (last : ℕ) → Verdict lines (accepted rows last) → History rows }
+    ensures derived { (lines : List (List ℕ)) (rows : List Provable) (last : ℕ) → Verdict lines (accepted rows last) → All Derives rows }
 {}

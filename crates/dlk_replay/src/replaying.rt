@@ -2,7 +2,7 @@
 ghost use Rattle.std.specs.Prelude.{◌≡◌, ◌≤◌, [], length, OnOk, IfOk, IfErr};
 ghost use Rattle.dlk_kernel.specs.Kernel.{facts};
 ghost use Rattle.dlk_replay.specs.Files.{file_lines, Verdict, accepted};
-ghost use Rattle.dlk_replay.specs.Replay.{IsFaultOf, LeavesRows};
+ghost use Rattle.dlk_replay.specs.Replay.{IsReplayFaultOf, LeavesRows};
 
 use crate::fault::{LineWhy, Outcome, ReplayFault};
 use crate::taking::{Taken, first_line, take_line};
@@ -25,13 +25,13 @@ pub fn replay<S: Store, L: Ledger>(
 ) -> Result<Outcome, ReplayFault>
     requires { kernel.old.rows ≡ [] }
 
-    // The rows are those that the lines give, and the last one is named.
-    ensures ok { OnOk result (Verdict (file_lines bytes.now) (accepted (facts S.trees kernel.new))) }
+    // The rows are those that the lines give, and the last one is named, with its line.
+    ensures ok { IfOk result (λ outcome. Verdict (file_lines bytes.now) (accepted (facts S.trees kernel.new) outcome.line)) }
     ensures fact { IfOk result (λ outcome. outcome.fact ≡ length kernel.new.rows) }
     ensures lines { IfOk result (λ outcome. outcome.lines ≡ length kernel.new.rows) }
     ensures some { OnOk result (1 ≤ length kernel.new.rows) }
 
-    ensures bad { IfErr result (IsFaultOf (file_lines bytes.now)) }
+    ensures bad { IfErr result (IsReplayFaultOf (file_lines bytes.now)) }
     ensures left { IfErr result (LeavesRows (file_lines bytes.now) (facts S.trees kernel.new)) }
     ensures grows { S.grows kernel.old.store kernel.new.store }
 {
@@ -57,6 +57,7 @@ pub fn replay<S: Store, L: Ledger>(
                 return Ok(Outcome {
                     fact: rows,
                     lines: rows,
+                    line: rows as usize,
                 });
             }
         }

@@ -31,7 +31,11 @@ fn bad(line: usize, why: LineWhy) -> Result<Outcome, ReplayFault> {
 
 #[test]
 fn replays_files(rt: HostRuntime) -> Result<(), Fail> {
-    let three = Ok(Outcome { fact: 3, lines: 3 });
+    let three = Ok(Outcome {
+        fact: 3,
+        lines: 3,
+        line: 3,
+    });
     let rows = [
         (
             "1 start ==> x>=0 -> x>=0\n2 apply 1 1 implyR(1)\n3 apply 2 1 close(1,1)\ndone\n",

@@ -1,3 +1,4 @@
 pub mod OverIds
 mod KidsOf
 mod Quantified
+pub mod WordLaws

@@ -1,59 +1,72 @@
 -- What rules look at, over ids.
-use Rattle.std.specs.Prelude.{◌≡◌, ℕ, ◌-◌, List, get_or, All}
+use Rattle.std.specs.Prelude.{◌≡◌, ℕ, List, All, map}
 use Rattle.dlk_tree.specs.declared.op.Op.{Op}
-use Rattle.dlk_tree.specs.Trees.{Tree, node, root, sort}
+use Rattle.dlk_tree.specs.Trees.{Tree, node, sort}
 use Rattle.dlk_tree.specs.declared.op.Sort.TheVariants.{Formula}
 use Rattle.dlk_tree.specs.Table.{kid_sorts}
 use Rattle.dlk_store.specs.declared.Id.{Id}
 use Rattle.dlk_store.specs.Stores.{IsId, tree, StandsFor, kid_trees, sorts_at}
-use Rattle.dlk_calculus.specs.Places.{IsPlace}
-use Rattle.dlk_calculus.specs.Rules.{truth, kid_f, kid_g}
+use Rattle.dlk_calculus.specs.Notation.{one, two}
+use Rattle.dlk_calculus.specs.Places.{At, IsPlace}
 use Rattle.dlk_rules.specs.declared.rule.RuleFault.{RuleFault}
 use Rattle.dlk_rules.specs.declared.rule.RuleFault.TheVariants as fault
 
--- the formula at a place of a side
-abbrev pub formula_at : List Tree → ℕ → Tree
-formula_at side place = get_or side (place - 1) truth
-
--- the id stands for the formula at a place of a side
+-- the id stands for the formula f at a place of a side
 pub record IsAt (trees : List Tree) (side : List Tree) (place : ℕ) (id : Id) : Type 0 where
   pub place_is : IsPlace side place
-  pub stands : StandsFor trees id (formula_at side place)
+  pub f : Tree
+  pub at : At side place f
+  pub stands : StandsFor trees id f
 
--- the formula there has this operator at its top, over these kids
+-- the formula there is this operator over these kids
 pub record IsNodeAt (trees : List Tree) (side : List Tree) (place : ℕ) (op : Op) (kids : List Id) : Type 0 where
   pub place_is : IsPlace side place
-  pub node_is : formula_at side place ≡ node op (kid_trees trees kids)
+  pub at : At side place (node op (kid_trees trees kids))
   pub known : All (IsId trees) kids
   pub sorts_are : sorts_at trees kids ≡ kid_sorts op
 
--- the formula there has this operator at its top, and the id stands for its first kid
-pub record IsKidAt (trees : List Tree) (side : List Tree) (place : ℕ) (op : Op) (f : Id) : Type 0 where
+-- the formula there is this operator over f, and the id stands for f
+pub record IsKidAt (trees : List Tree) (side : List Tree) (place : ℕ) (op : Op) (id : Id) : Type 0 where
   pub place_is : IsPlace side place
-  pub root_is : root (formula_at side place) ≡ op
-  pub f_stands : StandsFor trees f (kid_f (formula_at side place))
+  pub f : Tree
+  pub at : At side place (one op f)
+  pub f_stands : StandsFor trees id f
 
--- and the ids stand for its two kids, which are formulas
-pub record AreKidsAt (trees : List Tree) (side : List Tree) (place : ℕ) (op : Op) (f g : Id) : Type 0 where
+-- the formula there is this operator over the formulas f and g, and the ids stand for them
+pub record AreKidsAt (trees : List Tree) (side : List Tree) (place : ℕ) (op : Op) (id other : Id) : Type 0 where
   pub place_is : IsPlace side place
-  pub root_is : root (formula_at side place) ≡ op
-  pub f_stands : StandsFor trees f (kid_f (formula_at side place))
-  pub g_stands : StandsFor trees g (kid_g (formula_at side place))
-  pub f_sort : sort (tree trees f) ≡ Formula
-  pub g_sort : sort (tree trees g) ≡ Formula
+  pub f : Tree
+  pub g : Tree
+  pub at : At side place (two op f g)
+  pub f_stands : StandsFor trees id f
+  pub g_stands : StandsFor trees other g
+  pub f_sort : sort (tree trees id) ≡ Formula
+  pub g_sort : sort (tree trees other) ≡ Formula
 
--- the cause of the fault of a rule that asks for its places and for a form
-abbrev pub IsShapeFault : (places shape : Type 0) → RuleFault → Type 0
-IsShapeFault places shape fault.NoPlace = ¬ places
-IsShapeFault places shape fault.WrongShape = places × (¬ shape)
-IsShapeFault places shape fault.NotEqual = ⊥
-IsShapeFault places shape fault.NotFresh = ⊥
-IsShapeFault places shape fault.Memory = Unit {0}
+-- the cause where no formula is at a place of a side of ids
+abbrev pub IsPlaceFault : List Tree → List Id → ℕ → RuleFault → Type 0
+IsPlaceFault trees ids place fault.NoPlace = ¬ IsPlace (map (tree trees) ids) place
+IsPlaceFault trees ids place fault.WrongShape = ⊥
+IsPlaceFault trees ids place fault.NotEqual = ⊥
+IsPlaceFault trees ids place fault.NotFresh = ⊥
+IsPlaceFault trees ids place fault.Memory = ⊥
+
+-- the cause of the fault of a rule that asks for its places and for a form, which no parts have
+abbrev pub IsShapeFault : (places Parts : Type 0) → (Parts → Type 0) → RuleFault → Type 0
+IsShapeFault places Parts shape fault.NoPlace = ¬ places
+IsShapeFault places Parts shape fault.WrongShape = places × ((p : Parts) → ¬ shape p)
+IsShapeFault places Parts shape fault.NotEqual = ⊥
+IsShapeFault places Parts shape fault.NotFresh = ⊥
+IsShapeFault places Parts shape fault.Memory = Unit {0}
+
+-- the cause where the formula at a place of a side of ids has no such form
+abbrev pub IsFormFault : List Tree → List Id → ℕ → (Parts : Type 0) → (Parts → Tree) → RuleFault → Type 0
+IsFormFault trees ids place Parts form why = IsShapeFault (IsPlace (map (tree trees) ids) place) Parts (λ p. At (map (tree trees) ids) place (form p)) why
 
 -- the cause of the fault of a rule that asks for a fresh variable too
-abbrev pub IsFreshFault : (places shape fresh : Type 0) → RuleFault → Type 0
-IsFreshFault places shape fresh fault.NoPlace = ¬ places
-IsFreshFault places shape fresh fault.WrongShape = places × (¬ shape)
-IsFreshFault places shape fresh fault.NotEqual = ⊥
-IsFreshFault places shape fresh fault.NotFresh = places × shape × (¬ fresh)
-IsFreshFault places shape fresh fault.Memory = Unit {0}
+abbrev pub IsFreshFault : (places Parts : Type 0) → (shape fresh : Parts → Type 0) → RuleFault → Type 0
+IsFreshFault places Parts shape fresh fault.NoPlace = ¬ places
+IsFreshFault places Parts shape fresh fault.WrongShape = places × ((p : Parts) → ¬ shape p)
+IsFreshFault places Parts shape fresh fault.NotEqual = ⊥
+IsFreshFault places Parts shape fresh fault.NotFresh = places × ((p : Parts) × shape p × (¬ fresh p))
+IsFreshFault places Parts shape fresh fault.Memory = Unit {0}

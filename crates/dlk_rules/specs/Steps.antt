@@ -1,6 +1,9 @@
 -- What rules and steps over ids stand for.
-use Rattle.std.specs.Prelude.{List, map, All}
-use Rattle.dlk_tree.specs.Trees.{Tree}
+use Rattle.std.specs.Prelude.{◌≡◌, ℕ, List, map, All}
+use Rattle.std.specs.Global.{Vec}
+use Rattle.dlk_tree.specs.declared.op.Sort.TheVariants.{Formula}
+use Rattle.dlk_tree.specs.Trees.{Tree, sort}
+use Rattle.dlk_store.specs.declared.Id.{Id}
 use Rattle.dlk_store.specs.Stores.{IsId, tree}
 use Rattle.dlk_calculus.specs.declared.reason.Reason.{Reason}
 use Rattle.dlk_calculus.specs.declared.reason.Reason.TheVariants.{NoPlace, WrongShape, NotEqual, NotFresh}
@@ -11,72 +14,111 @@ use Rattle.dlk_sequent.specs.Sequents.{sequent_at, IsKnown}
 use Rattle.dlk_sequent.specs.Substitutions.{pairs_at, AreKnownPairs}
 use Rattle.dlk_rules.specs.declared.rule.Rule.{Rule}
 use Rattle.dlk_rules.specs.declared.rule.Rule.TheVariants as rule
+use Rattle.dlk_rules.specs.declared.rule.RuleWord.{RuleWord}
+use Rattle.dlk_rules.specs.declared.rule.RuleWord.TheVariants as word
 use Rattle.dlk_rules.specs.declared.rule.RuleFault.{RuleFault}
 use Rattle.dlk_rules.specs.declared.rule.RuleFault.TheVariants as fault
 use Rattle.dlk_rules.specs.declared.step.Step.{Step}
 use Rattle.dlk_rules.specs.declared.step.Step.TheVariants as step
 
+-- A rule over ids by its constructor over trees and its arguments, of which a formula is still an id.
+pub data Form : Type 0 where
+  OfPlace : (ℕ → TreeRule) → ℕ → Form
+  OfTwoPlaces : (ℕ → ℕ → TreeRule) → ℕ → ℕ → Form
+  OfPlaceAndFormula : (ℕ → Tree → TreeRule) → ℕ → Id → Form
+  OfFormula : (Tree → TreeRule) → Id → Form
+  OfPlaceAndName : (ℕ → List ℕ → TreeRule) → ℕ → List ℕ → Form
+
+abbrev pub form : Rule → Form
+form (rule.Close i j) = OfTwoPlaces Close i j
+form (rule.CloseTrue j) = OfPlace CloseTrue j
+form (rule.CloseFalse i) = OfPlace CloseFalse i
+form (rule.NotL i) = OfPlace NotL i
+form (rule.NotR j) = OfPlace NotR j
+form (rule.AndL i) = OfPlace AndL i
+form (rule.AndR j) = OfPlace AndR j
+form (rule.OrL i) = OfPlace OrL i
+form (rule.OrR j) = OfPlace OrR j
+form (rule.ImplyL i) = OfPlace ImplyL i
+form (rule.ImplyR j) = OfPlace ImplyR j
+form (rule.EquivL i) = OfPlace EquivL i
+form (rule.EquivR j) = OfPlace EquivR j
+form (rule.Cut h) = OfFormula Cut h
+form (rule.CutL i h) = OfPlaceAndFormula CutL i h
+form (rule.CutR j h) = OfPlaceAndFormula CutR j h
+form (rule.HideL i) = OfPlace HideL i
+form (rule.HideR j) = OfPlace HideR j
+form (rule.CoHideR j) = OfPlace CoHideR j
+form (rule.ExchangeL i k) = OfTwoPlaces ExchangeL i k
+form (rule.ExchangeR j l) = OfTwoPlaces ExchangeR j l
+form (rule.SkolemL i) = OfPlace SkolemL i
+form (rule.SkolemR j) = OfPlace SkolemR j
+form (rule.BoundL i y) = OfPlaceAndName BoundL i y
+form (rule.BoundR j y) = OfPlaceAndName BoundR j y
+form (rule.EquivifyR j) = OfPlace EquivifyR j
+form (rule.CommuteEquivL i) = OfPlace CommuteEquivL i
+form (rule.CommuteEquivR j) = OfPlace CommuteEquivR j
+
 -- the rule over the trees of its ids
+abbrev pub made_at : List Tree → Form → TreeRule
+made_at trees (OfPlace make i) = make i
+made_at trees (OfTwoPlaces make i k) = make i k
+made_at trees (OfPlaceAndFormula make i h) = make i (tree trees h)
+made_at trees (OfFormula make h) = make (tree trees h)
+made_at trees (OfPlaceAndName make i y) = make i y
+
 abbrev pub rule_at : List Tree → Rule → TreeRule
-rule_at trees (rule.Close i j) = Close i j
-rule_at trees (rule.CloseTrue j) = CloseTrue j
-rule_at trees (rule.CloseFalse i) = CloseFalse i
-rule_at trees (rule.NotL i) = NotL i
-rule_at trees (rule.NotR j) = NotR j
-rule_at trees (rule.AndL i) = AndL i
-rule_at trees (rule.AndR j) = AndR j
-rule_at trees (rule.OrL i) = OrL i
-rule_at trees (rule.OrR j) = OrR j
-rule_at trees (rule.ImplyL i) = ImplyL i
-rule_at trees (rule.ImplyR j) = ImplyR j
-rule_at trees (rule.EquivL i) = EquivL i
-rule_at trees (rule.EquivR j) = EquivR j
-rule_at trees (rule.Cut h) = Cut (tree trees h)
-rule_at trees (rule.CutL i h) = CutL i (tree trees h)
-rule_at trees (rule.CutR j h) = CutR j (tree trees h)
-rule_at trees (rule.HideL i) = HideL i
-rule_at trees (rule.HideR j) = HideR j
-rule_at trees (rule.CoHideR j) = CoHideR j
-rule_at trees (rule.ExchangeL i k) = ExchangeL i k
-rule_at trees (rule.ExchangeR j k) = ExchangeR j k
-rule_at trees (rule.SkolemL i) = SkolemL i
-rule_at trees (rule.SkolemR j) = SkolemR j
-rule_at trees (rule.BoundL i y) = BoundL i y
-rule_at trees (rule.BoundR j y) = BoundR j y
-rule_at trees (rule.EquivifyR j) = EquivifyR j
-rule_at trees (rule.CommuteEquivL i) = CommuteEquivL i
-rule_at trees (rule.CommuteEquivR j) = CommuteEquivR j
+rule_at trees r = made_at trees (form r)
 
 -- its ids are those of the store
+abbrev pub FormIsKnown : List Tree → Form → Type 0
+FormIsKnown trees (OfPlace make i) = Unit {0}
+FormIsKnown trees (OfTwoPlaces make i k) = Unit {0}
+FormIsKnown trees (OfPlaceAndFormula make i h) = IsId trees h
+FormIsKnown trees (OfFormula make h) = IsId trees h
+FormIsKnown trees (OfPlaceAndName make i y) = Unit {0}
+
 abbrev pub RuleIsKnown : List Tree → Rule → Type 0
-RuleIsKnown trees (rule.Close i j) = Unit {0}
-RuleIsKnown trees (rule.CloseTrue j) = Unit {0}
-RuleIsKnown trees (rule.CloseFalse i) = Unit {0}
-RuleIsKnown trees (rule.NotL i) = Unit {0}
-RuleIsKnown trees (rule.NotR j) = Unit {0}
-RuleIsKnown trees (rule.AndL i) = Unit {0}
-RuleIsKnown trees (rule.AndR j) = Unit {0}
-RuleIsKnown trees (rule.OrL i) = Unit {0}
-RuleIsKnown trees (rule.OrR j) = Unit {0}
-RuleIsKnown trees (rule.ImplyL i) = Unit {0}
-RuleIsKnown trees (rule.ImplyR j) = Unit {0}
-RuleIsKnown trees (rule.EquivL i) = Unit {0}
-RuleIsKnown trees (rule.EquivR j) = Unit {0}
-RuleIsKnown trees (rule.Cut h) = IsId trees h
-RuleIsKnown trees (rule.CutL i h) = IsId trees h
-RuleIsKnown trees (rule.CutR j h) = IsId trees h
-RuleIsKnown trees (rule.HideL i) = Unit {0}
-RuleIsKnown trees (rule.HideR j) = Unit {0}
-RuleIsKnown trees (rule.CoHideR j) = Unit {0}
-RuleIsKnown trees (rule.ExchangeL i k) = Unit {0}
-RuleIsKnown trees (rule.ExchangeR j k) = Unit {0}
-RuleIsKnown trees (rule.SkolemL i) = Unit {0}
-RuleIsKnown trees (rule.SkolemR j) = Unit {0}
-RuleIsKnown trees (rule.BoundL i y) = Unit {0}
-RuleIsKnown trees (rule.BoundR j y) = Unit {0}
-RuleIsKnown trees (rule.EquivifyR j) = Unit {0}
-RuleIsKnown trees (rule.CommuteEquivL i) = Unit {0}
-RuleIsKnown trees (rule.CommuteEquivR j) = Unit {0}
+RuleIsKnown trees r = FormIsKnown trees (form r)
+
+-- A rule that lacks its arguments.
+pub data Template : Type 0 where
+  WantsPlace : (ℕ → TreeRule) → Template
+  WantsTwoPlaces : (ℕ → ℕ → TreeRule) → Template
+  WantsPlaceAndFormula : (ℕ → Tree → TreeRule) → Template
+  WantsFormula : (Tree → TreeRule) → Template
+  WantsPlaceAndName : (ℕ → List ℕ → TreeRule) → Template
+
+-- the rule of a word
+abbrev pub template : RuleWord → Template
+template word.Close = WantsTwoPlaces Close
+template word.CloseTrue = WantsPlace CloseTrue
+template word.CloseFalse = WantsPlace CloseFalse
+template word.NotL = WantsPlace NotL
+template word.NotR = WantsPlace NotR
+template word.AndL = WantsPlace AndL
+template word.AndR = WantsPlace AndR
+template word.OrL = WantsPlace OrL
+template word.OrR = WantsPlace OrR
+template word.ImplyL = WantsPlace ImplyL
+template word.ImplyR = WantsPlace ImplyR
+template word.EquivL = WantsPlace EquivL
+template word.EquivR = WantsPlace EquivR
+template word.Cut = WantsFormula Cut
+template word.CutL = WantsPlaceAndFormula CutL
+template word.CutR = WantsPlaceAndFormula CutR
+template word.HideL = WantsPlace HideL
+template word.HideR = WantsPlace HideR
+template word.CoHideR = WantsPlace CoHideR
+template word.ExchangeL = WantsTwoPlaces ExchangeL
+template word.ExchangeR = WantsTwoPlaces ExchangeR
+template word.SkolemL = WantsPlace SkolemL
+template word.SkolemR = WantsPlace SkolemR
+template word.BoundL = WantsPlaceAndName BoundL
+template word.BoundR = WantsPlaceAndName BoundR
+template word.EquivifyR = WantsPlace EquivifyR
+template word.CommuteEquivL = WantsPlace CommuteEquivL
+template word.CommuteEquivR = WantsPlace CommuteEquivR
 
 -- the step over the trees of its ids
 abbrev pub step_at : List Tree → Step → TreeStep
@@ -100,10 +142,16 @@ HasKnownIds trees (step.Merge fact goal by) = Unit {0}
 HasKnownIds trees (step.Subst fact pairs) = AreKnownPairs trees pairs
 HasKnownIds trees (step.Rename fact x y) = Unit {0}
 
+-- the ids of the sequent are those of the store, and stand for trees of formula sort
+pub record IsOfFormulas (trees : List Tree) (s : Sequent) : Type 0 where
+  pub known : IsKnown trees s
+  pub ante : All (λ t. sort t ≡ Formula) (sequent_at trees s).ante
+  pub succ : All (λ t. sort t ≡ Formula) (sequent_at trees s).succ
+
 -- these sequents of the new trees are the premises that the rule makes of the sequent of old ones
-pub record AreMade (rule : TreeRule) (old : List Tree) (s : Sequent) (new : List Tree) (all : List Sequent) : Type 0 where
-  pub premises : Premises rule (sequent_at old s) (map (sequent_at new) all)
-  pub known : All (IsKnown new) all
+pub record ArePremises (rule : TreeRule) (old : List Tree) (s : Sequent) (new : List Tree) (all : Vec Sequent) : Type 0 where
+  pub premises : Premises rule (sequent_at old s) (map (sequent_at new) all.items)
+  pub known : All (IsKnown new) all.items
 
 -- the reason of this fault is one of those allowed: want of memory always is
 abbrev pub IsRuleFault : (Reason → Type 0) → RuleFault → Type 0

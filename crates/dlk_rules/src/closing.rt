@@ -3,11 +3,11 @@
 ghost use Rattle.std.specs.Prelude.{IfOk, IfErr};
 ghost use Rattle.dlk_calculus.specs.Rules.{Close, CloseTrue, CloseFalse, FirstAgainst};
 ghost use Rattle.dlk_sequent.specs.Sequents.{sequent_at, IsKnown};
-ghost use Rattle.dlk_rules.specs.Steps.{AreMade, IsRuleFault};
+ghost use Rattle.dlk_rules.specs.Steps.{ArePremises, IsRuleFault};
 
-use crate::look::{check_root, formula_at};
+use crate::look::{check_leaf, formula_at};
 use crate::rule::RuleFault;
-use dlk_sequent::{Listed, Sequent};
+use dlk_sequent::Sequent;
 use dlk_store::{Steps, Store};
 use dlk_tree::Op;
 use std::alloc::Global;
@@ -26,9 +26,9 @@ pub(crate) fn close<S: Store>(
     i: u32,
     j: u32,
     s: &Sequent,
-) -> Result<Listed<Sequent>, RuleFault>
+) -> Result<Vec<Sequent>, RuleFault>
     requires { IsKnown (S.trees store.now) s.now }
-    ensures made { IfOk result (AreMade (Close i j) (S.trees store.now) s.now (S.trees store.now)) }
+    ensures made { IfOk result (ArePremises (Close i j) (S.trees store.now) s.now (S.trees store.now)) }
     ensures fault { IfErr result (IsRuleFault (FirstAgainst (Close i j) (sequent_at (S.trees store.now) s.now))) }
 {
     let f = formula_at(store, &s.ante, i)?;
@@ -36,7 +36,7 @@ pub(crate) fn close<S: Store>(
     if !store.same(f, g) {
         return Err(RuleFault::NotEqual);
     }
-    Ok(Listed::new(alloc))
+    Ok(Vec::new(alloc))
 }
 
 /// The rule `closeTrue(j)`:
@@ -52,13 +52,13 @@ pub(crate) fn close_true<S: Store, L: Ledger>(
     j: u32,
     s: &Sequent,
     steps: &mut Steps<L>,
-) -> Result<Listed<Sequent>, RuleFault>
+) -> Result<Vec<Sequent>, RuleFault>
     requires { IsKnown (S.trees store.now) s.now }
-    ensures made { IfOk result (AreMade (CloseTrue j) (S.trees store.now) s.now (S.trees store.now)) }
+    ensures made { IfOk result (ArePremises (CloseTrue j) (S.trees store.now) s.now (S.trees store.now)) }
     ensures fault { IfErr result (IsRuleFault (FirstAgainst (CloseTrue j) (sequent_at (S.trees store.now) s.now))) }
 {
-    check_root(store, &s.succ, j, &Op::True, steps)?;
-    Ok(Listed::new(alloc))
+    check_leaf(store, &s.succ, j, &Op::True, steps)?;
+    Ok(Vec::new(alloc))
 }
 
 /// The rule `closeFalse(i)`:
@@ -74,11 +74,11 @@ pub(crate) fn close_false<S: Store, L: Ledger>(
     i: u32,
     s: &Sequent,
     steps: &mut Steps<L>,
-) -> Result<Listed<Sequent>, RuleFault>
+) -> Result<Vec<Sequent>, RuleFault>
     requires { IsKnown (S.trees store.now) s.now }
-    ensures made { IfOk result (AreMade (CloseFalse i) (S.trees store.now) s.now (S.trees store.now)) }
+    ensures made { IfOk result (ArePremises (CloseFalse i) (S.trees store.now) s.now (S.trees store.now)) }
     ensures fault { IfErr result (IsRuleFault (FirstAgainst (CloseFalse i) (sequent_at (S.trees store.now) s.now))) }
 {
-    check_root(store, &s.ante, i, &Op::False, steps)?;
-    Ok(Listed::new(alloc))
+    check_leaf(store, &s.ante, i, &Op::False, steps)?;
+    Ok(Vec::new(alloc))
 }

@@ -5,12 +5,12 @@
 ghost use Rattle.std.specs.Prelude.{IfOk, IfErr};
 ghost use Rattle.dlk_calculus.specs.Rules.{NotL, NotR, AndL, AndR, OrL, OrR, ImplyL, ImplyR, EquivL, EquivR, FirstAgainst};
 ghost use Rattle.dlk_sequent.specs.Sequents.{sequent_at, IsKnown};
-ghost use Rattle.dlk_rules.specs.Steps.{AreMade, IsRuleFault};
+ghost use Rattle.dlk_rules.specs.Steps.{ArePremises, IsRuleFault};
 
 use crate::look::{kid_at, kids_at};
 use crate::made::{both_ways, one, two};
 use crate::rule::RuleFault;
-use dlk_sequent::{Listed, Sequent};
+use dlk_sequent::Sequent;
 use dlk_store::{Steps, Store};
 use dlk_tree::Op;
 use std::alloc::Global;
@@ -29,9 +29,9 @@ pub(crate) fn not_left<S: Store, L: Ledger>(
     i: u32,
     s: &Sequent,
     steps: &mut Steps<L>,
-) -> Result<Listed<Sequent>, RuleFault>
+) -> Result<Vec<Sequent>, RuleFault>
     requires { IsKnown (S.trees store.now) s.now }
-    ensures made { IfOk result (AreMade (NotL i) (S.trees store.now) s.now (S.trees store.now)) }
+    ensures made { IfOk result (ArePremises (NotL i) (S.trees store.now) s.now (S.trees store.now)) }
     ensures fault { IfErr result (IsRuleFault (FirstAgainst (NotL i) (sequent_at (S.trees store.now) s.now))) }
 {
     let f = kid_at(store, &s.ante, i, &Op::Not, steps)?;
@@ -54,9 +54,9 @@ pub(crate) fn not_right<S: Store, L: Ledger>(
     j: u32,
     s: &Sequent,
     steps: &mut Steps<L>,
-) -> Result<Listed<Sequent>, RuleFault>
+) -> Result<Vec<Sequent>, RuleFault>
     requires { IsKnown (S.trees store.now) s.now }
-    ensures made { IfOk result (AreMade (NotR j) (S.trees store.now) s.now (S.trees store.now)) }
+    ensures made { IfOk result (ArePremises (NotR j) (S.trees store.now) s.now (S.trees store.now)) }
     ensures fault { IfErr result (IsRuleFault (FirstAgainst (NotR j) (sequent_at (S.trees store.now) s.now))) }
 {
     let f = kid_at(store, &s.succ, j, &Op::Not, steps)?;
@@ -79,9 +79,9 @@ pub(crate) fn and_left<S: Store, L: Ledger>(
     i: u32,
     s: &Sequent,
     steps: &mut Steps<L>,
-) -> Result<Listed<Sequent>, RuleFault>
+) -> Result<Vec<Sequent>, RuleFault>
     requires { IsKnown (S.trees store.now) s.now }
-    ensures made { IfOk result (AreMade (AndL i) (S.trees store.now) s.now (S.trees store.now)) }
+    ensures made { IfOk result (ArePremises (AndL i) (S.trees store.now) s.now (S.trees store.now)) }
     ensures fault { IfErr result (IsRuleFault (FirstAgainst (AndL i) (sequent_at (S.trees store.now) s.now))) }
 {
     let (f, g) = kids_at(store, &s.ante, i, &Op::And, steps)?;
@@ -104,9 +104,9 @@ pub(crate) fn and_right<S: Store, L: Ledger>(
     j: u32,
     s: &Sequent,
     steps: &mut Steps<L>,
-) -> Result<Listed<Sequent>, RuleFault>
+) -> Result<Vec<Sequent>, RuleFault>
     requires { IsKnown (S.trees store.now) s.now }
-    ensures made { IfOk result (AreMade (AndR j) (S.trees store.now) s.now (S.trees store.now)) }
+    ensures made { IfOk result (ArePremises (AndR j) (S.trees store.now) s.now (S.trees store.now)) }
     ensures fault { IfErr result (IsRuleFault (FirstAgainst (AndR j) (sequent_at (S.trees store.now) s.now))) }
 {
     let (f, g) = kids_at(store, &s.succ, j, &Op::And, steps)?;
@@ -130,9 +130,9 @@ pub(crate) fn or_left<S: Store, L: Ledger>(
     i: u32,
     s: &Sequent,
     steps: &mut Steps<L>,
-) -> Result<Listed<Sequent>, RuleFault>
+) -> Result<Vec<Sequent>, RuleFault>
     requires { IsKnown (S.trees store.now) s.now }
-    ensures made { IfOk result (AreMade (OrL i) (S.trees store.now) s.now (S.trees store.now)) }
+    ensures made { IfOk result (ArePremises (OrL i) (S.trees store.now) s.now (S.trees store.now)) }
     ensures fault { IfErr result (IsRuleFault (FirstAgainst (OrL i) (sequent_at (S.trees store.now) s.now))) }
 {
     let (f, g) = kids_at(store, &s.ante, i, &Op::Or, steps)?;
@@ -156,9 +156,9 @@ pub(crate) fn or_right<S: Store, L: Ledger>(
     j: u32,
     s: &Sequent,
     steps: &mut Steps<L>,
-) -> Result<Listed<Sequent>, RuleFault>
+) -> Result<Vec<Sequent>, RuleFault>
     requires { IsKnown (S.trees store.now) s.now }
-    ensures made { IfOk result (AreMade (OrR j) (S.trees store.now) s.now (S.trees store.now)) }
+    ensures made { IfOk result (ArePremises (OrR j) (S.trees store.now) s.now (S.trees store.now)) }
     ensures fault { IfErr result (IsRuleFault (FirstAgainst (OrR j) (sequent_at (S.trees store.now) s.now))) }
 {
     let (f, g) = kids_at(store, &s.succ, j, &Op::Or, steps)?;
@@ -181,9 +181,9 @@ pub(crate) fn imply_left<S: Store, L: Ledger>(
     i: u32,
     s: &Sequent,
     steps: &mut Steps<L>,
-) -> Result<Listed<Sequent>, RuleFault>
+) -> Result<Vec<Sequent>, RuleFault>
     requires { IsKnown (S.trees store.now) s.now }
-    ensures made { IfOk result (AreMade (ImplyL i) (S.trees store.now) s.now (S.trees store.now)) }
+    ensures made { IfOk result (ArePremises (ImplyL i) (S.trees store.now) s.now (S.trees store.now)) }
     ensures fault { IfErr result (IsRuleFault (FirstAgainst (ImplyL i) (sequent_at (S.trees store.now) s.now))) }
 {
     let (f, g) = kids_at(store, &s.ante, i, &Op::Imply, steps)?;
@@ -208,9 +208,9 @@ pub(crate) fn imply_right<S: Store, L: Ledger>(
     j: u32,
     s: &Sequent,
     steps: &mut Steps<L>,
-) -> Result<Listed<Sequent>, RuleFault>
+) -> Result<Vec<Sequent>, RuleFault>
     requires { IsKnown (S.trees store.now) s.now }
-    ensures made { IfOk result (AreMade (ImplyR j) (S.trees store.now) s.now (S.trees store.now)) }
+    ensures made { IfOk result (ArePremises (ImplyR j) (S.trees store.now) s.now (S.trees store.now)) }
     ensures fault { IfErr result (IsRuleFault (FirstAgainst (ImplyR j) (sequent_at (S.trees store.now) s.now))) }
 {
     let (f, g) = kids_at(store, &s.succ, j, &Op::Imply, steps)?;
@@ -233,9 +233,9 @@ pub(crate) fn equiv_left<S: Store, L: Ledger>(
     i: u32,
     s: &Sequent,
     steps: &mut Steps<L>,
-) -> Result<Listed<Sequent>, RuleFault>
+) -> Result<Vec<Sequent>, RuleFault>
     requires { IsKnown (S.trees store.old) s.now }
-    ensures made { IfOk result (AreMade (EquivL i) (S.trees store.old) s.now (S.trees store.new)) }
+    ensures made { IfOk result (ArePremises (EquivL i) (S.trees store.old) s.now (S.trees store.new)) }
     ensures fault { IfErr result (IsRuleFault (FirstAgainst (EquivL i) (sequent_at (S.trees store.old) s.now))) }
     ensures grows { S.grows store.old store.new }
 {
@@ -260,9 +260,9 @@ pub(crate) fn equiv_right<S: Store, L: Ledger>(
     j: u32,
     s: &Sequent,
     steps: &mut Steps<L>,
-) -> Result<Listed<Sequent>, RuleFault>
+) -> Result<Vec<Sequent>, RuleFault>
     requires { IsKnown (S.trees store.old) s.now }
-    ensures made { IfOk result (AreMade (EquivR j) (S.trees store.old) s.now (S.trees store.new)) }
+    ensures made { IfOk result (ArePremises (EquivR j) (S.trees store.old) s.now (S.trees store.new)) }
     ensures fault { IfErr result (IsRuleFault (FirstAgainst (EquivR j) (sequent_at (S.trees store.old) s.now))) }
     ensures grows { S.grows store.old store.new }
 {

@@ -3,12 +3,12 @@
 ghost use Rattle.std.specs.Prelude.{IfOk, IfErr};
 ghost use Rattle.dlk_calculus.specs.Rules.{EquivifyR, CommuteEquivL, CommuteEquivR, FirstAgainst};
 ghost use Rattle.dlk_sequent.specs.Sequents.{sequent_at, IsKnown};
-ghost use Rattle.dlk_rules.specs.Steps.{AreMade, IsRuleFault};
+ghost use Rattle.dlk_rules.specs.Steps.{ArePremises, IsRuleFault};
 
 use crate::look::kids_at;
 use crate::made::{equiv, one};
 use crate::rule::RuleFault;
-use dlk_sequent::{Listed, Sequent};
+use dlk_sequent::Sequent;
 use dlk_store::{Steps, Store};
 use dlk_tree::Op;
 use std::alloc::Global;
@@ -27,9 +27,9 @@ pub(crate) fn equivify_right<S: Store, L: Ledger>(
     j: u32,
     s: &Sequent,
     steps: &mut Steps<L>,
-) -> Result<Listed<Sequent>, RuleFault>
+) -> Result<Vec<Sequent>, RuleFault>
     requires { IsKnown (S.trees store.old) s.now }
-    ensures made { IfOk result (AreMade (EquivifyR j) (S.trees store.old) s.now (S.trees store.new)) }
+    ensures made { IfOk result (ArePremises (EquivifyR j) (S.trees store.old) s.now (S.trees store.new)) }
     ensures fault { IfErr result (IsRuleFault (FirstAgainst (EquivifyR j) (sequent_at (S.trees store.old) s.now))) }
     ensures grows { S.grows store.old store.new }
 {
@@ -53,9 +53,9 @@ pub(crate) fn commute_left<S: Store, L: Ledger>(
     i: u32,
     s: &Sequent,
     steps: &mut Steps<L>,
-) -> Result<Listed<Sequent>, RuleFault>
+) -> Result<Vec<Sequent>, RuleFault>
     requires { IsKnown (S.trees store.old) s.now }
-    ensures made { IfOk result (AreMade (CommuteEquivL i) (S.trees store.old) s.now (S.trees store.new)) }
+    ensures made { IfOk result (ArePremises (CommuteEquivL i) (S.trees store.old) s.now (S.trees store.new)) }
     ensures fault { IfErr result (IsRuleFault (FirstAgainst (CommuteEquivL i) (sequent_at (S.trees store.old) s.now))) }
     ensures grows { S.grows store.old store.new }
 {
@@ -79,9 +79,9 @@ pub(crate) fn commute_right<S: Store, L: Ledger>(
     j: u32,
     s: &Sequent,
     steps: &mut Steps<L>,
-) -> Result<Listed<Sequent>, RuleFault>
+) -> Result<Vec<Sequent>, RuleFault>
     requires { IsKnown (S.trees store.old) s.now }
-    ensures made { IfOk result (AreMade (CommuteEquivR j) (S.trees store.old) s.now (S.trees store.new)) }
+    ensures made { IfOk result (ArePremises (CommuteEquivR j) (S.trees store.old) s.now (S.trees store.new)) }
     ensures fault { IfErr result (IsRuleFault (FirstAgainst (CommuteEquivR j) (sequent_at (S.trees store.old) s.now))) }
     ensures grows { S.grows store.old store.new }
 {

@@ -1,17 +1,19 @@
 //! The sequent rules and the steps of a proof, over the ids of a store.
 #![tactic(auto)]
 
+mod arguments;
 mod closing;
 mod connectives;
 mod equivalences;
+mod laws;
 mod look;
 mod made;
 mod quantifiers;
 mod rule;
-mod sequent_rules;
 mod step;
 mod structural;
 
-pub use rule::{Rule, RuleFault};
-pub use sequent_rules::premises;
+pub use arguments::{Arguments, Shape};
+pub use laws::{rule_is_its_word_and_arguments, word_wants_one_shape};
+pub use rule::{Rule, RuleFault, RuleWord, premises};
 pub use step::Step;

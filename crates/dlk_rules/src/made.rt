@@ -6,7 +6,7 @@ ghost use Rattle.dlk_tree.specs.Trees.{node, kid, no_kids, sort};
 ghost use Rattle.dlk_store.specs.Stores.{IsId, tree, StandsFor};
 ghost use Rattle.dlk_calculus.specs.Rules.{imply, equiv};
 
-use dlk_sequent::{Listed, Sequent};
+use dlk_sequent::Sequent;
 use dlk_store::{Id, Store, StoreFault};
 use dlk_tree::Op;
 use std::alloc::{AllocError, Global};
@@ -56,17 +56,17 @@ pub(crate) fn both_ways<S: Store>(
 }
 
 /// One premise.
-pub(crate) fn one(alloc: Global, s: Sequent) -> Result<Listed<Sequent>, AllocError>
-    ensures { IfOk result (λ all. all ≡ s ∷ []) }
+pub(crate) fn one(alloc: Global, s: Sequent) -> Result<Vec<Sequent>, AllocError>
+    ensures { IfOk result (λ all. all.items ≡ s ∷ []) }
 {
-    let mut all = Listed::new(alloc);
+    let mut all = Vec::new(alloc);
     all.push(s)?;
     Ok(all)
 }
 
 /// Two premises.
-pub(crate) fn two(alloc: Global, s: Sequent, t: Sequent) -> Result<Listed<Sequent>, AllocError>
-    ensures { IfOk result (λ all. all ≡ s ∷ t ∷ []) }
+pub(crate) fn two(alloc: Global, s: Sequent, t: Sequent) -> Result<Vec<Sequent>, AllocError>
+    ensures { IfOk result (λ all. all.items ≡ s ∷ t ∷ []) }
 {
     let mut all = one(alloc, s)?;
     all.push(t)?;

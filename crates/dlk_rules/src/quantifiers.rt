@@ -1,19 +1,20 @@
 //! The rules on bound variables, a function a rule. Each is drawn with its premise over its conclusion, in which A is the left side of the
 //! sequent and S the right side.
-ghost use Rattle.std.specs.Prelude.{◌≡◌, ◌∷◌, ◌||◌, [], All, map, None, Some, MatchOption, OnSome, IfOk, IfErr};
+ghost use Rattle.std.specs.Prelude.{◌≡◌, ◌∷◌, ◌||◌, [], All, List, ℕ, map, MatchOption, OnSome, IfOk, IfErr};
 ghost use Rattle.std.specs.List.{list_any};
 ghost use Rattle.dlk_tree.specs.declared.op.Sort.TheVariants.{Formula};
 ghost use Rattle.dlk_tree.specs.Table.{kid_sorts};
-ghost use Rattle.dlk_tree.specs.Trees.{root};
+ghost use Rattle.dlk_tree.specs.Trees.{Tree};
 ghost use Rattle.dlk_tree.specs.Statics.{free, plain};
 ghost use Rattle.dlk_store.specs.Stores.{IsId, tree};
+ghost use Rattle.dlk_calculus.specs.Notation.{one};
 ghost use Rattle.dlk_calculus.specs.Places.{IsPlace, without_place};
-ghost use Rattle.dlk_calculus.specs.Rules.{SkolemL, SkolemR, BoundL, BoundR, without_left, without_right, FirstAgainst, HasName, HasBinder, IsFreshBinder};
+ghost use Rattle.dlk_calculus.specs.Sequents.{◌==>◌};
+ghost use Rattle.dlk_calculus.specs.Rules.{SkolemL, SkolemR, BoundL, BoundR, FirstAgainst};
 ghost use Rattle.dlk_sequent.specs.Sequents.{sequent_at, IsKnown};
-ghost use Rattle.dlk_rules.specs.Looks as looks;
-ghost use Rattle.dlk_rules.specs.Looks.{IsShapeFault, IsFreshFault};
-ghost use Rattle.dlk_rules.specs.Quantifiers.{bound_name, is_read, IsQuantifiedAt, IsReboundAt};
-ghost use Rattle.dlk_rules.specs.Steps.{AreMade, IsRuleFault};
+ghost use Rattle.dlk_rules.specs.Looks.{IsFormFault};
+ghost use Rattle.dlk_rules.specs.Quantifiers.{quantifier_of, IsOther, is_read, IsQuantifiedAt, IsReboundAt, IsReboundFault};
+ghost use Rattle.dlk_rules.specs.Steps.{ArePremises, IsRuleFault};
 
 use crate::look::{formula_at, top_at};
 use crate::made::one;
@@ -22,7 +23,7 @@ use dlk_rename::bound;
 use dlk_sequent::{Listed, Sequent};
 use dlk_store::{Id, Steps, Store};
 use dlk_tree::{Name, Op, Var};
-use std::alloc::{AllocError, Global};
+use std::alloc::Global;
 use std::sync::ledger::Ledger;
 
 /// One of the two quantifiers of a variable.
@@ -36,7 +37,7 @@ enum Quantifier {
 
 /// The name of the variable of an operator that is this quantifier, which has a kid.
 fn bound_name<'a>(quantifier: Quantifier, op: &'a Op) -> Option<&'a Name>
-    ensures name { MatchOption result (bound_name quantifier op.now ≡ None) (λ x. bound_name quantifier op.now ≡ Some x.now) }
+    ensures name { MatchOption result (IsOther quantifier op.now) (λ x. op.now ≡ quantifier_of quantifier x.now) }
     ensures kid { OnSome result (kid_sorts op.now ≡ Formula ∷ []) }
 {
     match (quantifier, op) {
@@ -44,17 +45,6 @@ fn bound_name<'a>(quantifier: Quantifier, op: &'a Op) -> Option<&'a Name>
         (Quantifier::Forall, Op::Forall(x)) => Some(x),
         _ => None,
     }
-}
-
-/// The variable of this name, without a prime.
-fn plain(name: &Name) -> Result<Var, AllocError>
-    ensures { IfOk result (λ v. v ≡ plain name.now) }
-{
-    let name = name.clone()?;
-    Ok(Var {
-        name,
-        primed: false,
-    })
 }
 
 /// The variable and the kid of the formula at a place, which has this quantifier at its top: `WrongShape` where it hasn't.
@@ -67,14 +57,13 @@ fn quantified_at<S: Store, L: Ledger>(
 ) -> Result<(Var, Id), RuleFault>
     requires { All (IsId (S.trees store.now)) side.now }
     ensures ok { IfOk result (λ made. IsQuantifiedAt (S.trees store.now) (map (tree (S.trees store.now)) side.now) place quantifier made.0 made.1) }
-    ensures fault { IfErr result (IsShapeFault (IsPlace (map (tree (S.trees store.now)) side.now) place) (HasName (bound_name quantifier (root (looks.formula_at (map (tree (S.trees store.now)) side.now) place))))) }
+    ensures fault { IfErr result (IsFormFault (S.trees store.now) side.now place (List ℕ × Tree) (λ p. one (quantifier_of quantifier p.0) p.1)) }
 {
     let top = top_at(store, side, place, steps)?;
     let Some(x) = bound_name(quantifier, top.op) else {
         return Err(RuleFault::WrongShape);
     };
-    let v = plain(x)?;
-    Ok((v, top.kids[0]))
+    Ok((Var::plain(x.clone()?), top.kids[0]))
 }
 
 /// Whether the variable is free in one of the formulas.
@@ -104,7 +93,7 @@ fn is_read_by_others<S: Store>(store: &S, formulas: &[Id], place: u32, v: &Var) 
 fn is_read_beside_left<S: Store>(store: &S, i: u32, s: &Sequent, v: &Var) -> bool
     requires known { IsKnown (S.trees store.now) s.now }
     requires place { IsPlace s.now.ante i }
-    ensures { result ≡ is_read (without_left i (sequent_at (S.trees store.now) s.now)) v.now }
+    ensures { result ≡ is_read (without_place (sequent_at (S.trees store.now) s.now).ante i ==> (sequent_at (S.trees store.now) s.now).succ) v.now }
 {
     is_read_by_others(store, s.ante.as_slice(), i, v) || is_read_by_any(store, s.succ.as_slice(), v)
 }
@@ -113,7 +102,7 @@ fn is_read_beside_left<S: Store>(store: &S, i: u32, s: &Sequent, v: &Var) -> boo
 fn is_read_beside_right<S: Store>(store: &S, j: u32, s: &Sequent, v: &Var) -> bool
     requires known { IsKnown (S.trees store.now) s.now }
     requires place { IsPlace s.now.succ j }
-    ensures { result ≡ is_read (without_right j (sequent_at (S.trees store.now) s.now)) v.now }
+    ensures { result ≡ is_read ((sequent_at (S.trees store.now) s.now).ante ==> without_place (sequent_at (S.trees store.now) s.now).succ j) v.now }
 {
     is_read_by_any(store, s.ante.as_slice(), v) || is_read_by_others(store, s.succ.as_slice(), j, v)
 }
@@ -129,10 +118,11 @@ fn rebound_at<S: Store, L: Ledger>(
 ) -> Result<Id, RuleFault>
     requires { All (IsId (S.trees store.old)) side.now }
     ensures ok { IfOk result (IsReboundAt (map (tree (S.trees store.old)) side.now) place y.now (S.trees store.new)) }
-    ensures fault { IfErr result (IsFreshFault (IsPlace (map (tree (S.trees store.old)) side.now) place) (HasBinder y.now (looks.formula_at (map (tree (S.trees store.old)) side.now) place)) (IsFreshBinder y.now (looks.formula_at (map (tree (S.trees store.old)) side.now) place))) }
+    ensures fault { IfErr result (IsReboundFault (S.trees store.old) side.now place y.now) }
     ensures grows { S.grows store.old store.new }
 {
     let id = formula_at(store, side, place)?;
+    prove!(y.is_name());
     Ok(bound(alloc, store, id, y, steps)?)
 }
 
@@ -157,9 +147,9 @@ pub(crate) fn skolem_left<S: Store, L: Ledger>(
     i: u32,
     s: &Sequent,
     steps: &mut Steps<L>,
-) -> Result<Listed<Sequent>, RuleFault>
+) -> Result<Vec<Sequent>, RuleFault>
     requires { IsKnown (S.trees store.now) s.now }
-    ensures made { IfOk result (AreMade (SkolemL i) (S.trees store.now) s.now (S.trees store.now)) }
+    ensures made { IfOk result (ArePremises (SkolemL i) (S.trees store.now) s.now (S.trees store.now)) }
     ensures fault { IfErr result (IsRuleFault (FirstAgainst (SkolemL i) (sequent_at (S.trees store.now) s.now))) }
 {
     let (v, f) = quantified_at(store, &s.ante, i, Quantifier::Exists, steps)?;
@@ -192,9 +182,9 @@ pub(crate) fn skolem_right<S: Store, L: Ledger>(
     j: u32,
     s: &Sequent,
     steps: &mut Steps<L>,
-) -> Result<Listed<Sequent>, RuleFault>
+) -> Result<Vec<Sequent>, RuleFault>
     requires { IsKnown (S.trees store.now) s.now }
-    ensures made { IfOk result (AreMade (SkolemR j) (S.trees store.now) s.now (S.trees store.now)) }
+    ensures made { IfOk result (ArePremises (SkolemR j) (S.trees store.now) s.now (S.trees store.now)) }
     ensures fault { IfErr result (IsRuleFault (FirstAgainst (SkolemR j) (sequent_at (S.trees store.now) s.now))) }
 {
     let (v, f) = quantified_at(store, &s.succ, j, Quantifier::Forall, steps)?;
@@ -228,9 +218,9 @@ pub(crate) fn bound_left<S: Store, L: Ledger>(
     y: &Name,
     s: &Sequent,
     steps: &mut Steps<L>,
-) -> Result<Listed<Sequent>, RuleFault>
+) -> Result<Vec<Sequent>, RuleFault>
     requires { IsKnown (S.trees store.old) s.now }
-    ensures made { IfOk result (AreMade (BoundL i y.now) (S.trees store.old) s.now (S.trees store.new)) }
+    ensures made { IfOk result (ArePremises (BoundL i y.now) (S.trees store.old) s.now (S.trees store.new)) }
     ensures fault { IfErr result (IsRuleFault (FirstAgainst (BoundL i y.now) (sequent_at (S.trees store.old) s.now))) }
     ensures grows { S.grows store.old store.new }
 {
@@ -262,9 +252,9 @@ pub(crate) fn bound_right<S: Store, L: Ledger>(
     y: &Name,
     s: &Sequent,
     steps: &mut Steps<L>,
-) -> Result<Listed<Sequent>, RuleFault>
+) -> Result<Vec<Sequent>, RuleFault>
     requires { IsKnown (S.trees store.old) s.now }
-    ensures made { IfOk result (AreMade (BoundR j y.now) (S.trees store.old) s.now (S.trees store.new)) }
+    ensures made { IfOk result (ArePremises (BoundR j y.now) (S.trees store.old) s.now (S.trees store.new)) }
     ensures fault { IfErr result (IsRuleFault (FirstAgainst (BoundR j y.now) (sequent_at (S.trees store.old) s.now))) }
     ensures grows { S.grows store.old store.new }
 {

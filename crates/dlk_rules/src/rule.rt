@@ -1,10 +1,29 @@
-ghost use Rattle.std.specs.Prelude.{◌≡◌};
+//! The sequent rules: their words, their arguments and their premises.
+ghost use Rattle.std.specs.Prelude.{◌≡◌, ◌≢◌, List, IfSome, IfNone, MatchOption, IfOk, IfErr};
+ghost use Rattle.dlk_tree.specs.Trees.{Tree};
+ghost use Rattle.dlk_calculus.specs.Rules.{Rule as TreeRule, word_of, arguments_of, FirstAgainst};
+ghost use Rattle.dlk_sequent.specs.Sequents.{sequent_at};
 ghost use Rattle.dlk_rules.specs.declared.rule.RuleFault.TheVariants.{Memory};
+ghost use Rattle.dlk_rules.specs.Steps.{rule_at, RuleIsKnown, IsOfFormulas, ArePremises, IsRuleFault};
+ghost use Rattle.dlk_rules.specs.Words.{shape_in, arguments_at, ArgumentsAreKnown, text_of, wanted, named, IsCall};
 
+use crate::arguments::{Arguments, Shape};
+use crate::closing::{close, close_false, close_true};
+use crate::connectives::{
+    and_left, and_right, equiv_left, equiv_right, imply_left, imply_right, not_left, not_right,
+    or_left, or_right,
+};
+use crate::equivalences::{commute_left, commute_right, equivify_right};
+use crate::quantifiers::{bound_left, bound_right, skolem_left, skolem_right};
+use crate::structural::{
+    co_hide_right, cut, cut_left, cut_right, exchange_left, exchange_right, hide_left, hide_right,
+};
 use dlk_rename::RenameFault;
-use dlk_store::{Id, StoreFault};
+use dlk_sequent::Sequent;
+use dlk_store::{Id, Steps, Store, StoreFault};
 use dlk_tree::Name;
-use std::alloc::{AllocError, AllocFailed};
+use std::alloc::{AllocError, AllocFailed, Global};
+use std::sync::ledger::Ledger;
 use thiserror::Error;
 
 /// A rule with its places, counted from 1: `i` is a place on the left, `j` one on the right, and `k` another one on the same side.
@@ -67,6 +86,312 @@ pub enum Rule {
     CommuteEquivL(u32),
     /// `commuteEquivR(j)`
     CommuteEquivR(u32),
+}
+
+/// The word of a rule, which says what arguments it wants.
+#[derive(Clone, Copy, Debug, PartialEq, Eq)]
+pub enum RuleWord {
+    Close,
+    CloseTrue,
+    CloseFalse,
+    NotL,
+    NotR,
+    AndL,
+    AndR,
+    OrL,
+    OrR,
+    ImplyL,
+    ImplyR,
+    EquivL,
+    EquivR,
+    Cut,
+    CutL,
+    CutR,
+    HideL,
+    HideR,
+    CoHideR,
+    ExchangeL,
+    ExchangeR,
+    SkolemL,
+    SkolemR,
+    BoundL,
+    BoundR,
+    EquivifyR,
+    CommuteEquivL,
+    CommuteEquivR,
+}
+
+const RULE_WORDS: [RuleWord; 28] = [
+    RuleWord::Close,
+    RuleWord::CloseTrue,
+    RuleWord::CloseFalse,
+    RuleWord::NotL,
+    RuleWord::NotR,
+    RuleWord::AndL,
+    RuleWord::AndR,
+    RuleWord::OrL,
+    RuleWord::OrR,
+    RuleWord::ImplyL,
+    RuleWord::ImplyR,
+    RuleWord::EquivL,
+    RuleWord::EquivR,
+    RuleWord::Cut,
+    RuleWord::CutL,
+    RuleWord::CutR,
+    RuleWord::HideL,
+    RuleWord::HideR,
+    RuleWord::CoHideR,
+    RuleWord::ExchangeL,
+    RuleWord::ExchangeR,
+    RuleWord::SkolemL,
+    RuleWord::SkolemR,
+    RuleWord::BoundL,
+    RuleWord::BoundR,
+    RuleWord::EquivifyR,
+    RuleWord::CommuteEquivL,
+    RuleWord::CommuteEquivR,
+];
+
+impl RuleWord {
+    /// The word as it is written.
+    pub fn text(self) -> &'static str
+        ensures { result.now ≡ text_of self }
+    {
+        let (text, _) = self.row();
+        text
+    }
+
+    /// The shape of the arguments that stand behind it.
+    pub fn shape(self) -> Shape
+        ensures { result ≡ wanted self }
+    {
+        let (_, shape) = self.row();
+        shape
+    }
+
+    /// The word as it is written, and the shape of its arguments: a row a rule.
+    fn row(self) -> (&'static str, Shape)
+        ensures text { result.0.now ≡ text_of self }
+        ensures shape { result.1 ≡ wanted self }
+    {
+        match self {
+            RuleWord::Close => ("close", Shape::TwoPlaces),
+            RuleWord::CloseTrue => ("closeTrue", Shape::OnePlace),
+            RuleWord::CloseFalse => ("closeFalse", Shape::OnePlace),
+            RuleWord::NotL => ("notL", Shape::OnePlace),
+            RuleWord::NotR => ("notR", Shape::OnePlace),
+            RuleWord::AndL => ("andL", Shape::OnePlace),
+            RuleWord::AndR => ("andR", Shape::OnePlace),
+            RuleWord::OrL => ("orL", Shape::OnePlace),
+            RuleWord::OrR => ("orR", Shape::OnePlace),
+            RuleWord::ImplyL => ("implyL", Shape::OnePlace),
+            RuleWord::ImplyR => ("implyR", Shape::OnePlace),
+            RuleWord::EquivL => ("equivL", Shape::OnePlace),
+            RuleWord::EquivR => ("equivR", Shape::OnePlace),
+            RuleWord::Cut => ("cut", Shape::OneFormula),
+            RuleWord::CutL => ("cutL", Shape::PlaceAndFormula),
+            RuleWord::CutR => ("cutR", Shape::PlaceAndFormula),
+            RuleWord::HideL => ("hideL", Shape::OnePlace),
+            RuleWord::HideR => ("hideR", Shape::OnePlace),
+            RuleWord::CoHideR => ("coHideR", Shape::OnePlace),
+            RuleWord::ExchangeL => ("exchangeL", Shape::TwoPlaces),
+            RuleWord::ExchangeR => ("exchangeR", Shape::TwoPlaces),
+            RuleWord::SkolemL => ("skolemL", Shape::OnePlace),
+            RuleWord::SkolemR => ("skolemR", Shape::OnePlace),
+            RuleWord::BoundL => ("boundL", Shape::PlaceAndName),
+            RuleWord::BoundR => ("boundR", Shape::PlaceAndName),
+            RuleWord::EquivifyR => ("equivifyR", Shape::OnePlace),
+            RuleWord::CommuteEquivL => ("commuteEquivL", Shape::OnePlace),
+            RuleWord::CommuteEquivR => ("commuteEquivR", Shape::OnePlace),
+        }
+    }
+
+    /// The word that the text is. None comes where no rule has it.
+    pub fn of(text: &str) -> Option<RuleWord>
+        ensures found { IfSome result (λ word. text_of word ≡ text.now) }
+        ensures none { IfNone result ((rule : TreeRule) → word_of rule ≢ text.now) }
+    {
+        RuleWord::named(text)
+    }
+
+    /// The first of the words that is the text.
+    fn named(text: &str) -> Option<RuleWord>
+        ensures { result ≡ named text.now }
+    {
+        RULE_WORDS.iter().copied().find(|word| word.text() == text)
+    }
+
+    /// The rule of this word with these arguments. None comes where the word wants arguments of another shape.
+    pub fn rule(self, arguments: Arguments<Name>) -> Option<Rule>
+        ensures { MatchOption result (shape_in arguments ≢ wanted self) (λ rule. (trees : List Tree) → IsCall trees self arguments rule) }
+    {
+        match self {
+            RuleWord::Close => {
+                let (i, k) = arguments.two_places()?;
+                Some(Rule::Close(i, k))
+            }
+            RuleWord::CloseTrue => Some(Rule::CloseTrue(arguments.place()?)),
+            RuleWord::CloseFalse => Some(Rule::CloseFalse(arguments.place()?)),
+            RuleWord::NotL => Some(Rule::NotL(arguments.place()?)),
+            RuleWord::NotR => Some(Rule::NotR(arguments.place()?)),
+            RuleWord::AndL => Some(Rule::AndL(arguments.place()?)),
+            RuleWord::AndR => Some(Rule::AndR(arguments.place()?)),
+            RuleWord::OrL => Some(Rule::OrL(arguments.place()?)),
+            RuleWord::OrR => Some(Rule::OrR(arguments.place()?)),
+            RuleWord::ImplyL => Some(Rule::ImplyL(arguments.place()?)),
+            RuleWord::ImplyR => Some(Rule::ImplyR(arguments.place()?)),
+            RuleWord::EquivL => Some(Rule::EquivL(arguments.place()?)),
+            RuleWord::EquivR => Some(Rule::EquivR(arguments.place()?)),
+            RuleWord::Cut => Some(Rule::Cut(arguments.formula()?)),
+            RuleWord::CutL => {
+                let (i, h) = arguments.place_and_formula()?;
+                Some(Rule::CutL(i, h))
+            }
+            RuleWord::CutR => {
+                let (i, h) = arguments.place_and_formula()?;
+                Some(Rule::CutR(i, h))
+            }
+            RuleWord::HideL => Some(Rule::HideL(arguments.place()?)),
+            RuleWord::HideR => Some(Rule::HideR(arguments.place()?)),
+            RuleWord::CoHideR => Some(Rule::CoHideR(arguments.place()?)),
+            RuleWord::ExchangeL => {
+                let (i, k) = arguments.two_places()?;
+                Some(Rule::ExchangeL(i, k))
+            }
+            RuleWord::ExchangeR => {
+                let (i, k) = arguments.two_places()?;
+                Some(Rule::ExchangeR(i, k))
+            }
+            RuleWord::SkolemL => Some(Rule::SkolemL(arguments.place()?)),
+            RuleWord::SkolemR => Some(Rule::SkolemR(arguments.place()?)),
+            RuleWord::BoundL => {
+                let (i, y) = arguments.place_and_name()?;
+                Some(Rule::BoundL(i, y))
+            }
+            RuleWord::BoundR => {
+                let (i, y) = arguments.place_and_name()?;
+                Some(Rule::BoundR(i, y))
+            }
+            RuleWord::EquivifyR => Some(Rule::EquivifyR(arguments.place()?)),
+            RuleWord::CommuteEquivL => Some(Rule::CommuteEquivL(arguments.place()?)),
+            RuleWord::CommuteEquivR => Some(Rule::CommuteEquivR(arguments.place()?)),
+        }
+    }
+}
+
+impl Rule {
+    /// Its word.
+    pub fn word(&self) -> RuleWord
+        ensures { (trees : List Tree) → text_of result ≡ word_of (rule_at trees self.now) }
+    {
+        let (word, _) = self.parts();
+        word
+    }
+
+    /// Its arguments.
+    pub fn arguments(&self) -> Arguments<&Name>
+        ensures arguments { (trees : List Tree) → arguments_at (λ y. y.now) trees result ≡ arguments_of (rule_at trees self.now) }
+        ensures known { (trees : List Tree) → RuleIsKnown trees self.now → ArgumentsAreKnown trees result }
+    {
+        let (_, arguments) = self.parts();
+        arguments
+    }
+
+    /// Its word and its arguments: a row a rule.
+    fn parts(&self) -> (RuleWord, Arguments<&Name>)
+        ensures word { (trees : List Tree) → text_of result.0 ≡ word_of (rule_at trees self.now) }
+        ensures arguments { (trees : List Tree) → arguments_at (λ y. y.now) trees result.1 ≡ arguments_of (rule_at trees self.now) }
+        ensures known { (trees : List Tree) → RuleIsKnown trees self.now → ArgumentsAreKnown trees result.1 }
+    {
+        match self {
+            Rule::Close(i, k) => (RuleWord::Close, Arguments::TwoPlaces(*i, *k)),
+            Rule::CloseTrue(i) => (RuleWord::CloseTrue, Arguments::OnePlace(*i)),
+            Rule::CloseFalse(i) => (RuleWord::CloseFalse, Arguments::OnePlace(*i)),
+            Rule::NotL(i) => (RuleWord::NotL, Arguments::OnePlace(*i)),
+            Rule::NotR(i) => (RuleWord::NotR, Arguments::OnePlace(*i)),
+            Rule::AndL(i) => (RuleWord::AndL, Arguments::OnePlace(*i)),
+            Rule::AndR(i) => (RuleWord::AndR, Arguments::OnePlace(*i)),
+            Rule::OrL(i) => (RuleWord::OrL, Arguments::OnePlace(*i)),
+            Rule::OrR(i) => (RuleWord::OrR, Arguments::OnePlace(*i)),
+            Rule::ImplyL(i) => (RuleWord::ImplyL, Arguments::OnePlace(*i)),
+            Rule::ImplyR(i) => (RuleWord::ImplyR, Arguments::OnePlace(*i)),
+            Rule::EquivL(i) => (RuleWord::EquivL, Arguments::OnePlace(*i)),
+            Rule::EquivR(i) => (RuleWord::EquivR, Arguments::OnePlace(*i)),
+            Rule::Cut(h) => (RuleWord::Cut, Arguments::OneFormula(*h)),
+            Rule::CutL(i, h) => (RuleWord::CutL, Arguments::PlaceAndFormula(*i, *h)),
+            Rule::CutR(i, h) => (RuleWord::CutR, Arguments::PlaceAndFormula(*i, *h)),
+            Rule::HideL(i) => (RuleWord::HideL, Arguments::OnePlace(*i)),
+            Rule::HideR(i) => (RuleWord::HideR, Arguments::OnePlace(*i)),
+            Rule::CoHideR(i) => (RuleWord::CoHideR, Arguments::OnePlace(*i)),
+            Rule::ExchangeL(i, k) => (RuleWord::ExchangeL, Arguments::TwoPlaces(*i, *k)),
+            Rule::ExchangeR(i, k) => (RuleWord::ExchangeR, Arguments::TwoPlaces(*i, *k)),
+            Rule::SkolemL(i) => (RuleWord::SkolemL, Arguments::OnePlace(*i)),
+            Rule::SkolemR(i) => (RuleWord::SkolemR, Arguments::OnePlace(*i)),
+            Rule::BoundL(i, y) => (RuleWord::BoundL, Arguments::PlaceAndName(*i, y)),
+            Rule::BoundR(i, y) => (RuleWord::BoundR, Arguments::PlaceAndName(*i, y)),
+            Rule::EquivifyR(i) => (RuleWord::EquivifyR, Arguments::OnePlace(*i)),
+            Rule::CommuteEquivL(i) => (RuleWord::CommuteEquivL, Arguments::OnePlace(*i)),
+            Rule::CommuteEquivR(i) => (RuleWord::CommuteEquivR, Arguments::OnePlace(*i)),
+        }
+    }
+}
+
+/// The premises that a rule makes of a sequent. The ids of the rule and of the sequent are those of the store, and those of the sequent
+/// stand for trees of formula sort.
+///
+/// # Errors
+///
+/// The first of these that applies, or `Memory`; the store may have more nodes then:
+///
+/// - `NoPlace`: a place of the rule isn't there.
+/// - `WrongShape`: a formula at a place hasn't the form that the rule wants, or the rule's own formula isn't one, or a dot or `_`
+///   stands in it.
+/// - `NotEqual`: two formulas that the rule wants to be the same are not.
+/// - `NotFresh`: a variable that the rule wants to be fresh is not.
+pub fn premises<S: Store, L: Ledger>(
+    alloc: Global,
+    store: &mut S,
+    rule: &Rule,
+    s: &Sequent,
+    steps: &mut Steps<L>,
+) -> Result<Vec<Sequent>, RuleFault>
+    requires rule { RuleIsKnown (S.trees store.old) rule.now }
+    requires sequent { IsOfFormulas (S.trees store.old) s.now }
+
+    ensures made { IfOk result (ArePremises (rule_at (S.trees store.old) rule.now) (S.trees store.old) s.now (S.trees store.new)) }
+    ensures fault { IfErr result (IsRuleFault (FirstAgainst (rule_at (S.trees store.old) rule.now) (sequent_at (S.trees store.old) s.now))) }
+    ensures grows { S.grows store.old store.new }
+{
+    match rule {
+        Rule::Close(i, j) => close(alloc, store, *i, *j, s),
+        Rule::CloseTrue(j) => close_true(alloc, store, *j, s, steps),
+        Rule::CloseFalse(i) => close_false(alloc, store, *i, s, steps),
+        Rule::NotL(i) => not_left(alloc, store, *i, s, steps),
+        Rule::NotR(j) => not_right(alloc, store, *j, s, steps),
+        Rule::AndL(i) => and_left(alloc, store, *i, s, steps),
+        Rule::AndR(j) => and_right(alloc, store, *j, s, steps),
+        Rule::OrL(i) => or_left(alloc, store, *i, s, steps),
+        Rule::OrR(j) => or_right(alloc, store, *j, s, steps),
+        Rule::ImplyL(i) => imply_left(alloc, store, *i, s, steps),
+        Rule::ImplyR(j) => imply_right(alloc, store, *j, s, steps),
+        Rule::EquivL(i) => equiv_left(alloc, store, *i, s, steps),
+        Rule::EquivR(j) => equiv_right(alloc, store, *j, s, steps),
+        Rule::Cut(h) => cut(alloc, store, *h, s, steps),
+        Rule::CutL(i, h) => cut_left(alloc, store, *i, *h, s, steps),
+        Rule::CutR(j, h) => cut_right(alloc, store, *j, *h, s, steps),
+        Rule::HideL(i) => hide_left(alloc, store, *i, s),
+        Rule::HideR(j) => hide_right(alloc, store, *j, s),
+        Rule::CoHideR(j) => co_hide_right(alloc, store, *j, s),
+        Rule::ExchangeL(i, k) => exchange_left(alloc, store, *i, *k, s),
+        Rule::ExchangeR(j, k) => exchange_right(alloc, store, *j, *k, s),
+        Rule::SkolemL(i) => skolem_left(alloc, store, *i, s, steps),
+        Rule::SkolemR(j) => skolem_right(alloc, store, *j, s, steps),
+        Rule::BoundL(i, y) => bound_left(alloc, store, *i, y, s, steps),
+        Rule::BoundR(j, y) => bound_right(alloc, store, *j, y, s, steps),
+        Rule::EquivifyR(j) => equivify_right(alloc, store, *j, s, steps),
+        Rule::CommuteEquivL(i) => commute_left(alloc, store, *i, s, steps),
+        Rule::CommuteEquivR(j) => commute_right(alloc, store, *j, s, steps),
+    }
 }
 
 /// Why a rule does not apply to a sequent, in the order in which it is looked for.

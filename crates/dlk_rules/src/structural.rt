@@ -2,10 +2,9 @@
 //! is the left side of the sequent and S the right side.
 ghost use Rattle.std.specs.Prelude.{IfOk, IfErr};
 ghost use Rattle.dlk_store.specs.Stores.{IsId, tree};
-ghost use Rattle.dlk_calculus.specs.Sequents.{IsSequent};
 ghost use Rattle.dlk_calculus.specs.Rules.{Cut, CutL, CutR, HideL, HideR, CoHideR, ExchangeL, ExchangeR, FirstAgainst};
 ghost use Rattle.dlk_sequent.specs.Sequents.{sequent_at, IsKnown};
-ghost use Rattle.dlk_rules.specs.Steps.{AreMade, IsRuleFault};
+ghost use Rattle.dlk_rules.specs.Steps.{IsOfFormulas, ArePremises, IsRuleFault};
 
 use crate::look::formula_at;
 use crate::made::{imply, one, two};
@@ -28,10 +27,10 @@ pub(crate) fn cut<S: Store, L: Ledger>(
     h: Id,
     s: &Sequent,
     steps: &mut Steps<L>,
-) -> Result<Listed<Sequent>, RuleFault>
+) -> Result<Vec<Sequent>, RuleFault>
     requires formula { IsId (S.trees store.now) h }
     requires known { IsKnown (S.trees store.now) s.now }
-    ensures made { IfOk result (AreMade (Cut (tree (S.trees store.now) h)) (S.trees store.now) s.now (S.trees store.now)) }
+    ensures made { IfOk result (ArePremises (Cut (tree (S.trees store.now) h)) (S.trees store.now) s.now (S.trees store.now)) }
     ensures fault { IfErr result (IsRuleFault (FirstAgainst (Cut (tree (S.trees store.now) h)) (sequent_at (S.trees store.now) s.now))) }
 {
     if !is_formula(store, h, steps) {
@@ -58,11 +57,10 @@ pub(crate) fn cut_left<S: Store, L: Ledger>(
     h: Id,
     s: &Sequent,
     steps: &mut Steps<L>,
-) -> Result<Listed<Sequent>, RuleFault>
+) -> Result<Vec<Sequent>, RuleFault>
     requires formula { IsId (S.trees store.old) h }
-    requires known { IsKnown (S.trees store.old) s.now }
-    requires formulas { IsSequent (sequent_at (S.trees store.old) s.now) }
-    ensures made { IfOk result (AreMade (CutL i (tree (S.trees store.old) h)) (S.trees store.old) s.now (S.trees store.new)) }
+    requires sequent { IsOfFormulas (S.trees store.old) s.now }
+    ensures made { IfOk result (ArePremises (CutL i (tree (S.trees store.old) h)) (S.trees store.old) s.now (S.trees store.new)) }
     ensures fault { IfErr result (IsRuleFault (FirstAgainst (CutL i (tree (S.trees store.old) h)) (sequent_at (S.trees store.old) s.now))) }
     ensures grows { S.grows store.old store.new }
 {
@@ -93,11 +91,10 @@ pub(crate) fn cut_right<S: Store, L: Ledger>(
     h: Id,
     s: &Sequent,
     steps: &mut Steps<L>,
-) -> Result<Listed<Sequent>, RuleFault>
+) -> Result<Vec<Sequent>, RuleFault>
     requires formula { IsId (S.trees store.old) h }
-    requires known { IsKnown (S.trees store.old) s.now }
-    requires formulas { IsSequent (sequent_at (S.trees store.old) s.now) }
-    ensures made { IfOk result (AreMade (CutR j (tree (S.trees store.old) h)) (S.trees store.old) s.now (S.trees store.new)) }
+    requires sequent { IsOfFormulas (S.trees store.old) s.now }
+    ensures made { IfOk result (ArePremises (CutR j (tree (S.trees store.old) h)) (S.trees store.old) s.now (S.trees store.new)) }
     ensures fault { IfErr result (IsRuleFault (FirstAgainst (CutR j (tree (S.trees store.old) h)) (sequent_at (S.trees store.old) s.now))) }
     ensures grows { S.grows store.old store.new }
 {
@@ -125,9 +122,9 @@ pub(crate) fn hide_left<S: Store>(
     store: &S,
     i: u32,
     s: &Sequent,
-) -> Result<Listed<Sequent>, RuleFault>
+) -> Result<Vec<Sequent>, RuleFault>
     requires { IsKnown (S.trees store.now) s.now }
-    ensures made { IfOk result (AreMade (HideL i) (S.trees store.now) s.now (S.trees store.now)) }
+    ensures made { IfOk result (ArePremises (HideL i) (S.trees store.now) s.now (S.trees store.now)) }
     ensures fault { IfErr result (IsRuleFault (FirstAgainst (HideL i) (sequent_at (S.trees store.now) s.now))) }
 {
     formula_at(store, &s.ante, i)?;
@@ -148,9 +145,9 @@ pub(crate) fn hide_right<S: Store>(
     store: &S,
     j: u32,
     s: &Sequent,
-) -> Result<Listed<Sequent>, RuleFault>
+) -> Result<Vec<Sequent>, RuleFault>
     requires { IsKnown (S.trees store.now) s.now }
-    ensures made { IfOk result (AreMade (HideR j) (S.trees store.now) s.now (S.trees store.now)) }
+    ensures made { IfOk result (ArePremises (HideR j) (S.trees store.now) s.now (S.trees store.now)) }
     ensures fault { IfErr result (IsRuleFault (FirstAgainst (HideR j) (sequent_at (S.trees store.now) s.now))) }
 {
     formula_at(store, &s.succ, j)?;
@@ -171,16 +168,13 @@ pub(crate) fn co_hide_right<S: Store>(
     store: &S,
     j: u32,
     s: &Sequent,
-) -> Result<Listed<Sequent>, RuleFault>
+) -> Result<Vec<Sequent>, RuleFault>
     requires { IsKnown (S.trees store.now) s.now }
-    ensures made { IfOk result (AreMade (CoHideR j) (S.trees store.now) s.now (S.trees store.now)) }
+    ensures made { IfOk result (ArePremises (CoHideR j) (S.trees store.now) s.now (S.trees store.now)) }
     ensures fault { IfErr result (IsRuleFault (FirstAgainst (CoHideR j) (sequent_at (S.trees store.now) s.now))) }
 {
     let f = formula_at(store, &s.succ, j)?;
-    let ante = Listed::new(alloc);
-    let mut succ = Listed::new(alloc);
-    succ.push(f)?;
-    Ok(one(alloc, Sequent { ante, succ })?)
+    Ok(one(alloc, Sequent::alone_right(alloc, f)?)?)
 }
 
 /// The rule `exchangeL(i,k)`:
@@ -196,9 +190,9 @@ pub(crate) fn exchange_left<S: Store>(
     i: u32,
     k: u32,
     s: &Sequent,
-) -> Result<Listed<Sequent>, RuleFault>
+) -> Result<Vec<Sequent>, RuleFault>
     requires { IsKnown (S.trees store.now) s.now }
-    ensures made { IfOk result (AreMade (ExchangeL i k) (S.trees store.now) s.now (S.trees store.now)) }
+    ensures made { IfOk result (ArePremises (ExchangeL i k) (S.trees store.now) s.now (S.trees store.now)) }
     ensures fault { IfErr result (IsRuleFault (FirstAgainst (ExchangeL i k) (sequent_at (S.trees store.now) s.now))) }
 {
     let f = formula_at(store, &s.ante, i)?;
@@ -222,9 +216,9 @@ pub(crate) fn exchange_right<S: Store>(
     j: u32,
     k: u32,
     s: &Sequent,
-) -> Result<Listed<Sequent>, RuleFault>
+) -> Result<Vec<Sequent>, RuleFault>
     requires { IsKnown (S.trees store.now) s.now }
-    ensures made { IfOk result (AreMade (ExchangeR j k) (S.trees store.now) s.now (S.trees store.now)) }
+    ensures made { IfOk result (ArePremises (ExchangeR j k) (S.trees store.now) s.now (S.trees store.now)) }
     ensures fault { IfErr result (IsRuleFault (FirstAgainst (ExchangeR j k) (sequent_at (S.trees store.now) s.now))) }
 {
     let f = formula_at(store, &s.succ, j)?;

@@ -3,12 +3,13 @@ use Rattle.std.proofs.Common.{◌≡◌, ◌∙◌, List, [], ◌∷◌, Bool, c
 use Rattle.std.specs.List.{list_any}
 use Rattle.dlk_tree.specs.declared.op.Sym.{Sym}
 use Rattle.dlk_tree.specs.Tests.{sym_eq}
+use Rattle.dlk_tree.specs.Table.{kind_row}
 use Rattle.dlk_tree.specs.Trees.{Tree}
 use Rattle.dlk_tree.specs.Occurs.{has, has_hole}
 use Rattle.dlk_store.specs.Stores.{tree}
 use Rattle.dlk_calculus.specs.declared.why.Why.{Why}
 use Rattle.dlk_calculus.specs.declared.why.Why.TheVariants as Why'
-use Rattle.dlk_calculus.specs.Pairs.{Pair as TreePair, is_of_kind, is_dot_from, may_have_hole, touched, has_taboo, why}
+use Rattle.dlk_calculus.specs.Pairs.{Pair as TreePair, is_of_kind, is_dot_from, touched, has_taboo, why}
 use Rattle.dlk_sequent.specs.declared.subst.Pair.{Pair}
 use Rattle.dlk_sequent.specs.Substitutions.{pair_at, pairs_at}
 
@@ -25,7 +26,7 @@ pub chosen_is : (trees : List Tree) (earlier : List Pair) (p : Pair) {is_sorted 
     is_sorted ≡ is_of_kind p.sym.kind (tree trees p.by) →
     is_twice ≡ list_any (λ (q : Pair). sym_eq p.sym q.sym) earlier →
     has_dots ≡ has (is_dot_from p.sym.arity) (tree trees p.by) →
-    is_stray ≡ (has_hole (tree trees p.by) && not (may_have_hole p.sym.kind)) →
+    is_stray ≡ (has_hole (tree trees p.by) && not (kind_row p.sym.kind).hole) →
     is_taboo ≡ has_taboo p.sym.taboo (touched p.sym.kind (tree trees p.by)) →
     chosen is_sorted is_twice has_dots is_stray is_taboo ≡ why (pairs_at trees earlier) (pair_at trees p)
 chosen_is trees earlier p sorted twice dots stray taboo =

@@ -1,11 +1,11 @@
 -- What pairs of ids stand for, and when they are a substitution.
-use Rattle.std.specs.Prelude.{◌≡◌, ◌↔◌, List, Bool, IsTrue, map, All, Some}
+use Rattle.std.specs.Prelude.{◌↔◌, List, Bool, IsTrue, map, All}
 use Rattle.dlk_tree.specs.Trees.{Tree}
 use Rattle.dlk_store.specs.Stores.{IsId, tree}
-use Rattle.dlk_calculus.specs.Pairs.{Pair as TreePair, IsFreeIn, IsWellFormed, first_ill}
+use Rattle.dlk_calculus.specs.Pairs.{Pair as TreePair, IsFreeIn, IsWellFormed, FirstIll}
 use Rattle.dlk_sequent.specs.declared.subst.Pair.{Pair}
-use Rattle.dlk_sequent.specs.declared.subst.SubstFault.{SubstFault}
-use Rattle.dlk_sequent.specs.declared.subst.SubstFault.TheVariants.{Ill, Memory}
+use Rattle.dlk_sequent.specs.declared.fault.SubstFault.{SubstFault}
+use Rattle.dlk_sequent.specs.declared.fault.SubstFault.TheVariants.{Ill, Memory}
 
 -- what contracts see of a substitution: its pairs, and whether some variable is free in a replacement of a function or predicate
 pub record Checked : Type 0 where
@@ -31,5 +31,5 @@ pub record IsMadeOver (trees : List Tree) (sigma : Checked) : Type 0 where
 
 -- the pairs' fault: want of memory always may be
 abbrev pub IsIllFault : List Tree → List Pair → SubstFault → Type 0
-IsIllFault trees pairs (Ill n why) = first_ill (pairs_at trees pairs) ≡ Some (record { pair = n; reason = why })
+IsIllFault trees pairs (Ill n why) = FirstIll (pairs_at trees pairs) n why
 IsIllFault trees pairs Memory = Unit {0}

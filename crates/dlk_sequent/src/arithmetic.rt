@@ -50,6 +50,7 @@ fn is_arithmetic(op: &Op) -> bool
         | Op::Dia
         | Op::Const(_)
         | Op::Assign(_)
+        | Op::Any(_)
         | Op::Test
         | Op::System(_)
         | Op::Choice

@@ -2,7 +2,9 @@
 #![tactic(auto)]
 
 mod arithmetic;
+mod fault;
 mod formula;
+pub mod laws;
 mod listed;
 mod same;
 mod sequent;
@@ -10,8 +12,10 @@ mod subst;
 mod why;
 
 pub use arithmetic::is_arith;
+pub use dlk_calculus::Why;
+pub use fault::{ApplyFault, SubstFault};
 pub use formula::{is_formula, is_sequent};
 pub use listed::{Listed, item_at};
 pub use same::same_sequent;
 pub use sequent::{Place, Sequent};
-pub use subst::{Pair, Subst, SubstFault};
+pub use subst::{Pair, Subst};

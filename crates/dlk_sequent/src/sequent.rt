@@ -1,4 +1,4 @@
-ghost use Rattle.std.specs.Prelude.{◌≡◌, ◌++◌, IfOk, OnOk};
+ghost use Rattle.std.specs.Prelude.{◌≡◌, [], ◌∷◌, ◌++◌, IfOk, OnOk};
 ghost use Rattle.dlk_calculus.specs.Places.{IsPlace, put_all};
 
 use crate::listed::Listed;
@@ -20,6 +20,18 @@ pub enum Place {
 }
 
 impl Sequent {
+    /// The sequent with nothing on the left and one formula on the right.
+    pub fn alone_right(alloc: Global, formula: Id) -> Result<Sequent, AllocError>
+        ensures { IfOk result (λ s. s ≡ record { ante = []; succ = formula ∷ [] }) }
+    {
+        let mut succ = Listed::new(alloc);
+        succ.push(formula)?;
+        Ok(Sequent {
+            ante: Listed::new(alloc),
+            succ,
+        })
+    }
+
     /// The same sequent once more.
     pub fn copy(&self, alloc: Global) -> Result<Sequent, AllocError>
         ensures { IfOk result (λ s. s ≡ self.now) }

@@ -1,20 +1,20 @@
 //! Substitutions: well-formed lists of pairs.
-ghost use Rattle.std.specs.Prelude.{◌≡◌, ◌↔◌, ◌+◌, ◌*◌, ◌≤◌, length, IsTrue, IfOk, IfErr};
+ghost use Rattle.std.specs.Prelude.{◌≡◌, ◌↔◌, ◌+◌, ◌*◌, ◌≤◌, List, length, IsTrue, IfOk, IfErr};
+ghost use Rattle.dlk_tree.specs.Table.{kind_row};
 ghost use Rattle.dlk_tree.specs.Listed.{IsInhabited};
 ghost use Rattle.dlk_tree.specs.Statics.{free};
+ghost use Rattle.dlk_tree.specs.Trees.{Tree};
 ghost use Rattle.dlk_store.specs.Stores.{IsId, tree};
-ghost use Rattle.dlk_calculus.specs.Pairs.{takes_arguments, IsFreeIn};
+ghost use Rattle.dlk_calculus.specs.Pairs.{IsFreeIn};
 ghost use Rattle.dlk_sequent.specs.Substitutions.{pairs_at, AreKnownPairs, IsMadeOver, IsIllFault};
-ghost use Rattle.dlk_sequent.specs.declared.subst.SubstFault.TheVariants.{Memory};
 
+use crate::fault::SubstFault;
 use crate::why::why;
-use dlk_calculus::Why;
 use dlk_store::{Id, Steps, Store};
-use dlk_tree::{Kind, Sym};
-use std::alloc::{AllocError, AllocFailed, Global};
+use dlk_tree::{Sym, kind_row};
+use std::alloc::Global;
 use std::marker::Model;
 use std::sync::ledger::Ledger;
-use thiserror::Error;
 
 /// A symbol, and the tree that replaces it. In the tree for a function or a predicate a dot stands for each argument, and in
 /// that for a predicational `_` stands for the formula.
@@ -22,33 +22,6 @@ use thiserror::Error;
 pub struct Pair {
     pub sym: Sym,
     pub by: Id,
-}
-
-/// Why pairs make no substitution.
-#[derive(Clone, Copy, Debug, PartialEq, Eq, Error)]
-pub enum SubstFault {
-    /// The first bad pair, counted from 1, and the first reason against it.
-    #[error("pair {pair} is not well formed")]
-    Ill { pair: usize, why: Why },
-    /// No memory was left.
-    #[error("out of memory")]
-    Memory,
-}
-
-impl From<AllocError> for SubstFault {
-    ghost from_gives = { λ _ e. e ≡ Memory };
-
-    fn from(_: AllocError) -> SubstFault {
-        SubstFault::Memory
-    }
-}
-
-impl<T: Drop> From<AllocFailed<T>> for SubstFault {
-    ghost from_gives = { λ _ e. e ≡ Memory };
-
-    fn from(_: AllocFailed<T>) -> SubstFault {
-        SubstFault::Memory
-    }
 }
 
 /// A uniform substitution: pairs that are well formed over the store that they were made over, and over that store however
@@ -70,9 +43,9 @@ impl Model for Subst {
 /// Whether the pair replaces a function or a predicate, and some variable is free in the replacement.
 fn is_free<S: Store>(store: &S, pair: &Pair) -> bool
     requires { IsId (S.trees store.now) pair.now.by }
-    ensures { IsTrue result ↔ (IsTrue (takes_arguments pair.now.sym.kind) × IsInhabited (free (tree (S.trees store.now) pair.now.by))) }
+    ensures { IsTrue result ↔ (IsTrue (kind_row pair.now.sym.kind).arguments × IsInhabited (free (tree (S.trees store.now) pair.now.by))) }
 {
-    matches!(pair.sym.kind, Kind::Func | Kind::Pred) && store.any_free(pair.by)
+    kind_row(pair.sym.kind).arguments && store.any_free(pair.by)
 }
 
 /// Whether one of the pairs does so, with such a replacement.
@@ -125,9 +98,11 @@ impl Subst {
     }
 
     /// Whether some variable is free in the replacement of a function or a predicate, for rules that forbid such a
-    /// substitution. It was found at making: it takes no step and no memory.
+    /// substitution. It was found at making, and holds over each store that this is a substitution over. It takes no step and no
+    /// memory.
     pub fn free(&self) -> bool
-        ensures { result ≡ self.now.free }
+        ensures value { result ≡ self.now.free }
+        ensures over { (trees : List Tree) → IsMadeOver trees self.now → (IsTrue result ↔ IsFreeIn (pairs_at trees self.now.pairs)) }
     {
         self.free
     }

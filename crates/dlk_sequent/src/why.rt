@@ -2,17 +2,18 @@
 ghost use Rattle.std.specs.Prelude.{◌≡◌, ◌+◌, ◌≤◌, ◌&&◌, not, All, IfOk};
 ghost use Rattle.std.specs.List.{list_any};
 ghost use Rattle.dlk_tree.specs.Tests.{sym_eq};
-ghost use Rattle.dlk_tree.specs.Trees.{root};
+ghost use Rattle.dlk_tree.specs.Table.{kind_row};
+ghost use Rattle.dlk_tree.specs.Trees.{node, root};
 ghost use Rattle.dlk_tree.specs.Occurs.{has, has_hole};
 ghost use Rattle.dlk_store.specs.Stores.{IsId, tree, kid_trees};
 ghost use Rattle.dlk_calculus.specs.Kids.{last};
-ghost use Rattle.dlk_calculus.specs.Pairs.{is_true, is_of_kind, is_dot_from, may_have_hole, touched, has_taboo, why};
+ghost use Rattle.dlk_calculus.specs.Pairs.{is_true, is_system_without_domain, is_of_kind, is_dot_from, touched, has_taboo, why};
 ghost use Rattle.dlk_sequent.specs.Substitutions.{pair_at, pairs_at};
 
 use crate::subst::Pair;
 use dlk_calculus::Why;
 use dlk_store::{Id, Steps, Store};
-use dlk_tree::{Kind, Op, Sort, Sym, Var, same_sym, sort_of};
+use dlk_tree::{Kind, Op, Sym, Var, kind_row, same_sym, sort_of};
 use std::alloc::AllocError;
 use std::sync::ledger::Ledger;
 
@@ -28,6 +29,20 @@ fn ends_in_true<S: Store, L: Ledger>(store: &S, kids: &[Id], steps: &mut Steps<L
     }
 }
 
+/// Whether the operator over these kids is a system whose domain is `true`.
+fn is_system_without_domain<S: Store, L: Ledger>(
+    store: &S,
+    op: &Op,
+    kids: &[Id],
+    steps: &mut Steps<L>,
+) -> bool
+    requires { All (IsId (S.trees store.now)) kids.now }
+    ensures value { result ≡ is_system_without_domain (node op.now (kid_trees (S.trees store.now) kids.now)) }
+    ensures cost { steps.new ≤ steps.old + 1 }
+{
+    matches!(op, Op::System(_)) && ends_in_true(store, kids, steps)
+}
+
 /// Whether the tree is of the sort of a symbol of this kind. For an ODE constant it is to be a system whose domain is `true`.
 fn is_of_kind<S: Store, L: Ledger>(store: &S, kind: Kind, id: Id, steps: &mut Steps<L>) -> bool
     requires { IsId (S.trees store.now) id }
@@ -35,12 +50,10 @@ fn is_of_kind<S: Store, L: Ledger>(store: &S, kind: Kind, id: Id, steps: &mut St
     ensures cost { steps.new ≤ steps.old + 2 }
 {
     let node = store.look(id, steps);
-    match kind {
-        Kind::Func | Kind::UnitFunc => sort_of(node.op) == Sort::Term,
-        Kind::Pred | Kind::UnitPred | Kind::Quant => sort_of(node.op) == Sort::Formula,
-        Kind::Prog => sort_of(node.op) == Sort::Program,
-        Kind::Ode => matches!(node.op, Op::System(_)) && ends_in_true(store, node.kids, steps),
+    if kind == Kind::Ode && !is_system_without_domain(store, node.op, node.kids, steps) {
+        return false;
     }
+    sort_of(node.op) == kind_row(kind).sort
 }
 
 /// Whether one of the pairs has the symbol.
@@ -71,9 +84,9 @@ pub(crate) fn has_dot_from<S: Store>(store: &S, arity: u8, id: Id) -> bool
 /// Whether `_` stands in the tree, and a symbol of this kind doesn't allow it.
 fn has_stray_hole<S: Store>(store: &S, kind: Kind, id: Id) -> bool
     requires { IsId (S.trees store.now) id }
-    ensures { result ≡ (has_hole (tree (S.trees store.now) id) && not (may_have_hole kind)) }
+    ensures { result ≡ (has_hole (tree (S.trees store.now) id) && not (kind_row kind).hole) }
 {
-    kind != Kind::Quant && store.has_hole(id)
+    store.has_hole(id) && !kind_row(kind).hole
 }
 
 /// Whether the variable is free in the tree, or where the symbol is an ODE constant free or bound.
@@ -92,10 +105,7 @@ fn has_taboo<S: Store>(store: &S, s: &Sym, id: Id) -> Result<bool, AllocError>
     let Some(y) = &s.taboo else {
         return Ok(false);
     };
-    let plain = Var {
-        name: y.clone()?,
-        primed: false,
-    };
+    let plain = Var::plain(y.clone()?);
     if touches(store, s.kind, id, &plain) {
         return Ok(true);
     }

@@ -3,12 +3,12 @@ use Rattle.std.proofs.Common.{List, [], ◌∷◌, Bool, ◌&&◌, map}
 use Rattle.std.specs.Prelude.{All, IsTrue}
 use Rattle.std.proofs.lemmas.List.Elements.{All-nil, All-cons, All-head, All-tail, All-map}
 use Rattle.dlk_tree.specs.declared.op.Var.{Var}
+use Rattle.dlk_tree.specs.Table.{kind_row}
 use Rattle.dlk_tree.specs.Trees.{Tree, Forest}
 use Rattle.dlk_tree.specs.Statics.{free}
 use Rattle.dlk_tree.specs.Occurs.{any_has, has_symbol}
 use Rattle.dlk_store.specs.Stores.{tree}
 use Rattle.dlk_calculus.specs.Captures.{AreApart}
-use Rattle.dlk_calculus.specs.Pairs.{takes_arguments}
 use Rattle.dlk_calculus.specs.Pairs.{Pair as TreePair}
 use Rattle.dlk_calculus.specs.Subst.{IsAdmissible}
 use Rattle.dlk_sequent.specs.declared.subst.Pair.{Pair}
@@ -20,10 +20,10 @@ All-unmap P f (y ∷ ys) all = All-cons (λ y. P (f y)) y ys (All-head P (f y) (
 
 module _ (trees : List Tree) (set : Var → Bool) (kids : Forest) where
   abbrev pub IsSafe : Pair → Type 0
-  IsSafe p = IsTrue (takes_arguments p.sym.kind && any_has (has_symbol p.sym) kids) → AreApart set (free (tree trees p.by))
+  IsSafe p = IsTrue ((kind_row p.sym.kind).arguments && any_has (has_symbol p.sym) kids) → AreApart set (free (tree trees p.by))
 
   abbrev IsSafeTree : TreePair → Type 0
-  IsSafeTree p = IsTrue (takes_arguments p.sym.kind && any_has (has_symbol p.sym) kids) → AreApart set (free p.by)
+  IsSafeTree p = IsTrue ((kind_row p.sym.kind).arguments && any_has (has_symbol p.sym) kids) → AreApart set (free p.by)
 
   pub all_safe : (pairs : List Pair) → All IsSafe pairs → IsAdmissible (pairs_at trees pairs) set kids
   all_safe pairs all = All-map IsSafeTree (pair_at trees) pairs all

@@ -9,7 +9,7 @@ use Rattle.dlk_store.specs.Stores.{IsId, tree}
 use Rattle.dlk_calculus.specs.Pairs.{replacement}
 use Rattle.dlk_sequent.specs.declared.subst.Pair.{Pair}
 use Rattle.dlk_sequent.specs.Substitutions.{pairs_at, AreKnownPairs}
-use Rattle.dlk_subst.specs.Roles.{found}
+use Rattle.dlk_subst.specs.Effects.{found}
 
 abbrev pub tree_of : List Tree → Option Id → Option Tree
 tree_of trees (Some id) = Some (tree trees id)

@@ -4,10 +4,10 @@ pub mod Admissible
 pub mod Filled
 pub mod Arguments
 pub mod Staying
-pub mod Related
+pub mod Results
 pub mod Plugged
 pub mod Found
 pub mod Splicing
 pub mod Systems
-pub mod Roles
+pub mod Effects
 pub mod Substituted

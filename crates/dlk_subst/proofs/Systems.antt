@@ -10,36 +10,43 @@ use Rattle.dlk_tree.specs.Trees.{Tree, node, Forest, no_kids, sorts, WellMade}
 use Rattle.dlk_store.specs.declared.Id.{Id}
 use Rattle.dlk_store.specs.Stores.{kid_trees, sorts_at}
 use Rattle.dlk_store.proofs.Kids.{sorts-kid_trees}
+use Rattle.dlk_calculus.specs.Kids.{last}
 use Rattle.dlk_calculus.specs.Captures.{Stays}
-use Rattle.dlk_calculus.specs.Pairs.{Pair as TreePair, AreMade}
-use Rattle.dlk_calculus.specs.Subst.{IsAdmissible, SubstAt, new_items, new_kids}
+use Rattle.dlk_calculus.specs.Pairs.{Pair as TreePair, AreWellMade}
+use Rattle.dlk_calculus.specs.Subst.{IsAdmissible, SubstAt, new_members, items_of, kids_of}
 use Rattle.dlk_calculus.proofs.Systems.{system_fits}
 use Rattle.dlk_sequent.specs.declared.subst.Pair.{Pair}
 use Rattle.dlk_sequent.specs.Substitutions.{pair_at, pairs_at, AreKnownPairs}
 use Rattle.dlk_subst.specs.Results.{IsResult, HasNone}
 
 -- replacements in a store are well made
-pub pairs_made : (trees : List Tree) (pairs : List Pair) → All WellMade trees → AreKnownPairs trees pairs → AreMade (pairs_at trees pairs)
+pub pairs_made : (trees : List Tree) (pairs : List Pair) → All WellMade trees → AreKnownPairs trees pairs → AreWellMade (pairs_at trees pairs)
 pairs_made trees pairs made known = All-map (λ (p : TreePair). WellMade p.by) (pair_at trees) pairs (λ i p h. made _ (node True no_kids) (known i p h))
 
 -- a system with these items and kids, which are those that stand for the old ones
 module _ (trees : List Tree) (pairs : List TreePair) (items others put : List OdeItem) (old : Forest) (new slice ids : List Id)
-    (p : others ≡ put) (p' : put ≡ new_items pairs items) (q : slice ≡ ids) (q' : kid_trees trees ids ≡ new_kids pairs items (kid_trees trees new)) where
-  items_are : others ≡ new_items pairs items
+    (p : others ≡ put) (p' : put ≡ items_of (new_members pairs items (kid_trees trees new)))
+    (q : slice ≡ ids) (q' : kid_trees trees ids ≡ kids_of (new_members pairs items (kid_trees trees new)) (last (kid_trees trees new))) where
+  items_are : others ≡ items_of (new_members pairs items (kid_trees trees new))
   items_are = p ∙ p'
 
-  kids_are : kid_trees trees slice ≡ new_kids pairs items (kid_trees trees new)
+  kids_are : kid_trees trees slice ≡ kids_of (new_members pairs items (kid_trees trees new)) (last (kid_trees trees new))
   kids_are = ap (kid_trees trees) q ∙ q'
 
   -- items that a system may have fit the kids
-  pub spliced_fits : AreMade pairs → Fits (Op'.System items) (sorts_at trees new) → IsTrue (are_items others) → Fits (Op'.System others) (sorts_at trees slice)
+  pub spliced_fits : AreWellMade pairs → Fits (Op'.System items) (sorts_at trees new) → IsTrue (are_items others) →
+      Fits (Op'.System others) (sorts_at trees slice)
   spliced_fits made fits good =
       let before = subst (Fits (Op'.System items)) (sym (sorts-kid_trees trees new)) fits in
       let after = (system_fits pairs made items (kid_trees trees new) before).1 (subst (λ l. IsTrue (are_items l)) items_are good) in
       subst (Fits (Op'.System others)) (sorts-kid_trees trees slice) (subst (λ X. X) (λ i. Fits (Op'.System (sym items_are i)) (sorts (sym kids_are i))) after)
 
-  pub spliced_ok : {E : Type 0} (now : List Tree) (result : Result Id E) → IfOk result (IsResult (Stays (IsAdmissible pairs) (Op'.System others) old (kid_trees trees slice)) now) → IfOk result (IsResult (SubstAt pairs (Op'.System items) old (kid_trees trees new)) now)
-  spliced_ok now result ok = subst (λ X. X) (λ i. IfOk result (IsResult (Stays (IsAdmissible pairs) (Op'.System (items_are i)) old (kids_are i)) now)) ok
+  pub spliced_ok : {E : Type 0} (now : List Tree) (result : Result Id E)
+      → IfOk result (IsResult (Stays (IsAdmissible pairs) (Op'.System others) old (kid_trees trees slice)) now)
+      → IfOk result (IsResult (SubstAt pairs (Op'.System items) old (kid_trees trees new)) now)
+  spliced_ok now result ok =
+      subst (λ X. X) (λ i. IfOk result (IsResult (Stays (IsAdmissible pairs) (Op'.System (items_are i)) old (kids_are i)) now)) ok
 
-  pub spliced_none : HasNone (Stays (IsAdmissible pairs) (Op'.System others) old (kid_trees trees slice)) → HasNone (λ t. SubstAt pairs (Op'.System items) old (kid_trees trees new) t × WellMade t)
+  pub spliced_none : HasNone (Stays (IsAdmissible pairs) (Op'.System others) old (kid_trees trees slice))
+      → HasNone (λ t. SubstAt pairs (Op'.System items) old (kid_trees trees new) t × WellMade t)
   spliced_none none = λ t made. none t (subst (λ X. X) (λ i. Stays (IsAdmissible pairs) (Op'.System (sym items_are i)) old (sym kids_are i) t) made.0)

@@ -1,4 +1,4 @@
 pub mod Results
 pub mod Scopes
-pub mod Roles
+pub mod Effects
 pub mod Splices

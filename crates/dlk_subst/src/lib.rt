@@ -1,7 +1,6 @@
 //! Uniform substitution by plain recursion, over any store.
 #![tactic(auto)]
 
-mod fault;
 mod fill;
 mod pairs;
 mod plug;
@@ -9,7 +8,5 @@ mod scope;
 mod splice;
 mod subst;
 
-pub use dlk_calculus::Why;
-pub use dlk_sequent::{Pair, Subst, SubstFault};
-pub use fault::ApplyFault;
+pub use dlk_sequent::{ApplyFault, Pair, Subst, SubstFault, Why};
 pub use subst::apply;

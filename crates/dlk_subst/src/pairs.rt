@@ -1,28 +1,26 @@
 //! The pairs of a substitution: what it does at an operator, and what is admissible.
 ghost use Rattle.std.specs.Prelude.{◌≡◌, ◌↔◌, ◌&&◌, IsTrue, IfOk, All, Err};
-ghost use Rattle.dlk_tree.specs.Table.{Fits};
+ghost use Rattle.dlk_tree.specs.Table.{kind_row, Fits};
 ghost use Rattle.dlk_tree.specs.Statics.{free};
 ghost use Rattle.dlk_tree.specs.Occurs.{any_has, has_symbol};
 ghost use Rattle.dlk_store.specs.Stores.{IsId, tree, kid_trees, sorts_at};
 ghost use Rattle.dlk_calculus.specs.Captures.{AreApart, Stays};
-ghost use Rattle.dlk_calculus.specs.Pairs.{takes_arguments};
 ghost use Rattle.dlk_calculus.specs.Subst.{IsAdmissible};
 ghost use Rattle.dlk_sequent.specs.Substitutions.{pairs_at, AreKnownPairs};
 ghost use Rattle.dlk_subst.specs.Results.{IsResult, HasNone};
 ghost use Rattle.dlk_subst.specs.Scopes.{scope_set, IsKnownScope};
-ghost use Rattle.dlk_subst.specs.Roles.{found, role_of};
-ghost use Rattle.dlk_subst.specs.declared.fault.ApplyFault.TheVariants.{NotAdmissible};
+ghost use Rattle.dlk_subst.specs.Effects.{found, effect_of};
+ghost use Rattle.dlk_sequent.specs.declared.fault.ApplyFault.TheVariants.{NotAdmissible};
 
-use crate::fault::ApplyFault;
 use crate::scope::{Scope, is_apart, reach, scope_of};
-use dlk_sequent::Pair;
+use dlk_sequent::{ApplyFault, Pair};
 use dlk_store::{Id, Store};
-use dlk_tree::{Kind, Op, Sym, same_sym};
+use dlk_tree::{Op, Sym, kind_row, same_sym};
 use std::alloc::Global;
 
 /// What a substitution does at an operator.
 #[derive(Clone, Copy, Debug)]
-pub(crate) enum Role {
+pub(crate) enum Effect {
     /// The replacement stands in its place.
     Gives(Id),
     /// The replacement does, with the kids in place of its dots.
@@ -46,23 +44,17 @@ pub(crate) fn find(pairs: &[Pair], s: &Sym) -> Option<Id>
 }
 
 /// What the substitution does at the operator. It is no system: those are for `splice`.
-pub(crate) fn role_at(pairs: &[Pair], op: &Op) -> Role
-    ensures { result ≡ role_of pairs.now op.now }
+pub(crate) fn effect_at(pairs: &[Pair], op: &Op) -> Effect
+    ensures { result ≡ effect_of pairs.now op.now }
 {
     match op {
         Op::UnitFun(s) | Op::UnitPred(s) | Op::Const(s) => {
-            find(pairs, s).map_or(Role::Stays, Role::Gives)
+            find(pairs, s).map_or(Effect::Stays, Effect::Gives)
         }
-        Op::Apply(s) | Op::Holds(s) => find(pairs, s).map_or(Role::Stays, Role::Plugs),
-        Op::Predicational(s) => find(pairs, s).map_or(Role::Stays, Role::Fills),
-        _ => Role::Stays,
+        Op::Apply(s) | Op::Holds(s) => find(pairs, s).map_or(Effect::Stays, Effect::Plugs),
+        Op::Predicational(s) => find(pairs, s).map_or(Effect::Stays, Effect::Fills),
+        _ => Effect::Stays,
     }
-}
-
-fn takes_arguments(kind: Kind) -> bool
-    ensures { result ≡ takes_arguments kind }
-{
-    matches!(kind, Kind::Func | Kind::Pred)
 }
 
 /// Whether the symbol occurs in one of the trees.
@@ -83,9 +75,9 @@ fn is_safe<S: Store>(store: &S, pair: &Pair, scope: &Scope, kids: &[Id]) -> bool
     requires by { IsId (S.trees store.now) pair.now.by }
     requires scope { IsKnownScope (S.trees store.now) scope.now }
     requires kids { All (IsId (S.trees store.now)) kids.now }
-    ensures { IsTrue result ↔ (IsTrue (takes_arguments pair.now.sym.kind && any_has (has_symbol pair.now.sym) (kid_trees (S.trees store.now) kids.now)) → AreApart (scope_set (S.trees store.now) scope.now) (free (tree (S.trees store.now) pair.now.by))) }
+    ensures { IsTrue result ↔ (IsTrue ((kind_row pair.now.sym.kind).arguments && any_has (has_symbol pair.now.sym) (kid_trees (S.trees store.now) kids.now)) → AreApart (scope_set (S.trees store.now) scope.now) (free (tree (S.trees store.now) pair.now.by))) }
 {
-    let occurs = takes_arguments(pair.sym.kind) && any_mentions(store, kids, &pair.sym);
+    let occurs = kind_row(pair.sym.kind).arguments && any_mentions(store, kids, &pair.sym);
     !occurs || is_apart(store, scope, pair.by)
 }
 

@@ -10,10 +10,10 @@ ghost use Rattle.dlk_calculus.specs.Captures.{AreApart, Stays};
 ghost use Rattle.dlk_calculus.specs.Plug.{IsClear, PlugAt, Plug};
 ghost use Rattle.dlk_subst.specs.Results.{IsResult, HasNone, args_at};
 ghost use Rattle.dlk_subst.specs.Scopes.{scope_set, IsKnownScope};
-ghost use Rattle.dlk_subst.specs.declared.fault.ApplyFault.TheVariants.{NotAdmissible};
+ghost use Rattle.dlk_sequent.specs.declared.fault.ApplyFault.TheVariants.{NotAdmissible};
 
-use crate::fault::ApplyFault;
 use crate::scope::{Scope, is_apart, reach, scope_of};
+use dlk_sequent::ApplyFault;
 use dlk_store::{Id, Steps, Store};
 use dlk_tree::Op;
 use std::alloc::Global;

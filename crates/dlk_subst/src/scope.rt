@@ -25,10 +25,7 @@ pub(crate) fn scope_of(op: &Op, new: &[Id], made: Id) -> Result<Scope, AllocErro
 {
     Ok(match op {
         Op::Diff | Op::DiffF | Op::Predicational(_) => Scope::Every,
-        Op::Forall(x) | Op::Exists(x) => Scope::Only(Var {
-            name: x.clone()?,
-            primed: false,
-        }),
+        Op::Forall(x) | Op::Exists(x) => Scope::Only(Var::plain(x.clone()?)),
         Op::Box | Op::Dia | Op::Seq | Op::Loop => bound_by_first(new),
         Op::System(_) => Scope::BoundBy(made),
         _ => Scope::Nothing,

@@ -4,16 +4,16 @@ ghost use Rattle.dlk_tree.specs.Table.{are_items, Fits};
 ghost use Rattle.dlk_tree.specs.Trees.{Tree, WellMade};
 ghost use Rattle.dlk_tree.specs.declared.op.OdeItem.{OdeItem};
 ghost use Rattle.dlk_store.specs.Stores.{IsId, tree, kid_trees, sorts_at};
+ghost use Rattle.dlk_calculus.specs.Kids.{last};
 ghost use Rattle.dlk_calculus.specs.Pairs.{Pair as TreePair, replacement};
-ghost use Rattle.dlk_calculus.specs.Subst.{SubstAt, items_for, sides_for, new_items, new_kids};
+ghost use Rattle.dlk_calculus.specs.Subst.{SubstAt, members_for, new_members, items_of, kids_of};
 ghost use Rattle.dlk_sequent.specs.Substitutions.{pairs_at, AreKnownPairs};
 ghost use Rattle.dlk_subst.specs.Results.{IsResult, HasNone};
 ghost use Rattle.dlk_subst.specs.Splices.{Puts, PutsItem};
-ghost use Rattle.dlk_subst.specs.declared.fault.ApplyFault.TheVariants.{NotAdmissible};
+ghost use Rattle.dlk_sequent.specs.declared.fault.ApplyFault.TheVariants.{NotAdmissible};
 
-use crate::fault::ApplyFault;
 use crate::pairs::{find, keep_admissible};
-use dlk_sequent::Pair;
+use dlk_sequent::{ApplyFault, Pair};
 use dlk_store::{Id, Steps, Store};
 use dlk_tree::{Items, Name, OdeItem, Op, Sort, Sym, arity_of, fits};
 use std::alloc::{AllocError, Global};
@@ -65,7 +65,7 @@ impl Spliced {
         steps: &mut Steps<L>,
     ) -> Result<(), AllocError>
         requires { IsId (S.trees store.now) by }
-        ensures { OnOk result (Puts (S.trees store.now) (items_for s.now (Some (tree (S.trees store.now) by))) (sides_for (Some (tree (S.trees store.now) by))) self.old self.new) }
+        ensures { OnOk result (Puts (S.trees store.now) (members_for s.now (Some (tree (S.trees store.now) by))) self.old self.new) }
     {
         let node = store.look(by, steps);
         match node.op {
@@ -83,7 +83,7 @@ impl Spliced {
         steps: &mut Steps<L>,
     ) -> Result<(), AllocError>
         requires { AreKnownPairs (S.trees store.now) pairs.now }
-        ensures { OnOk result (Puts (S.trees store.now) (items_for s.now (replacement (pairs_at (S.trees store.now) pairs.now) s.now)) (sides_for (replacement (pairs_at (S.trees store.now) pairs.now) s.now)) self.old self.new) }
+        ensures { OnOk result (Puts (S.trees store.now) (members_for s.now (replacement (pairs_at (S.trees store.now) pairs.now) s.now)) self.old self.new) }
     {
         match find(pairs, s) {
             Some(by) => self.put_replacement(store, s, by, steps),
@@ -138,8 +138,9 @@ fn all_spliced<S: Store, L: Ledger>(
 ) -> Result<Spliced, AllocError>
     requires pairs { AreKnownPairs (S.trees store.now) pairs.now }
     requires kids { All (IsId (S.trees store.now)) kids.now }
-    ensures items { IfOk result (λ new. new.items.items ≡ new_items (pairs_at (S.trees store.now) pairs.now) items.now) }
-    ensures kids { IfOk result (λ new. kid_trees (S.trees store.now) new.kids.items ≡ new_kids (pairs_at (S.trees store.now) pairs.now) items.now (kid_trees (S.trees store.now) kids.now)) }
+    requires fits { Fits (Op.System items.now) (sorts_at (S.trees store.now) kids.now) }
+    ensures items { IfOk result (λ new. new.items.items ≡ items_of (new_members (pairs_at (S.trees store.now) pairs.now) items.now (kid_trees (S.trees store.now) kids.now))) }
+    ensures kids { IfOk result (λ new. kid_trees (S.trees store.now) new.kids.items ≡ kids_of (new_members (pairs_at (S.trees store.now) pairs.now) items.now (kid_trees (S.trees store.now) kids.now)) (last (kid_trees (S.trees store.now) kids.now))) }
     ensures known { IfOk result (λ new. All (IsId (S.trees store.now)) new.kids.items) }
 {
     let mut new = Spliced {

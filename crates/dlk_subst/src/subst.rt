@@ -11,15 +11,14 @@ ghost use Rattle.dlk_calculus.specs.Plug.{filled};
 ghost use Rattle.dlk_calculus.specs.Subst.{IsAdmissible, SubstAt, Subst as IsSubst};
 ghost use Rattle.dlk_sequent.specs.Substitutions.{pairs_at, AreKnownPairs, IsMadeOver};
 ghost use Rattle.dlk_subst.specs.Results.{IsResult, HasNone};
-ghost use Rattle.dlk_subst.specs.declared.fault.ApplyFault.TheVariants.{NotAdmissible};
+ghost use Rattle.dlk_sequent.specs.declared.fault.ApplyFault.TheVariants.{NotAdmissible};
 
-use crate::fault::ApplyFault;
 use crate::fill::fill;
-use crate::pairs::{Role, is_admissible, keep_admissible, role_at};
+use crate::pairs::{Effect, effect_at, is_admissible, keep_admissible};
 use crate::plug::plug;
 use crate::scope::Scope;
 use crate::splice::splice;
-use dlk_sequent::{Pair, Subst};
+use dlk_sequent::{ApplyFault, Pair, Subst};
 use dlk_store::{Id, Steps, Store};
 use dlk_tree::Op;
 use std::alloc::Global;
@@ -73,11 +72,11 @@ fn subst_at<S: Store, L: Ledger>(
     if let Op::System(items) = op {
         return splice(alloc, store, pairs, items.items(), old, new, steps);
     }
-    match role_at(pairs, op) {
-        Role::Gives(by) => Ok(by),
-        Role::Plugs(by) => plug(alloc, store, new, by, steps),
-        Role::Fills(by) => fill_admissible(alloc, store, pairs, by, old, new, steps),
-        Role::Stays => keep_admissible(alloc, store, pairs, op, old, new),
+    match effect_at(pairs, op) {
+        Effect::Gives(by) => Ok(by),
+        Effect::Plugs(by) => plug(alloc, store, new, by, steps),
+        Effect::Fills(by) => fill_admissible(alloc, store, pairs, by, old, new, steps),
+        Effect::Stays => keep_admissible(alloc, store, pairs, op, old, new),
     }
 }
 

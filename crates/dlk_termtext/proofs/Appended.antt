@@ -2,15 +2,11 @@
 use Rattle.std.proofs.Common.{ℕ, List, ◌++◌, append_assoc}
 use Rattle.std.specs.Prelude.{codes}
 use Rattle.dlk_print.proofs.Left.{Left, unbegun}
-use Rattle.dlk_termtext.specs.Written.{call, both}
+use Rattle.dlk_termtext.specs.Written.{call}
 
--- a word with one argument
-pub unbegun_one : (old word argument : List ℕ) → Left old (call word argument) old (word ++ ((codes "(" ++ argument) ++ codes ")"))
-unbegun_one old word argument = unbegun old (simp append_assoc)
-
--- a word with two arguments
-pub unbegun_two : (old word first second : List ℕ) → Left old (call word (both first second)) old ((word ++ codes "(" ++ first) ++ ((codes "," ++ second) ++ codes ")"))
-unbegun_two old word first second = unbegun old (simp append_assoc)
+-- a word with arguments
+pub unbegun_call : (old word arguments : List ℕ) → Left old (call word arguments) old (word ++ (codes "(" ++ (arguments ++ codes ")")))
+unbegun_call old word arguments = unbegun old (simp append_assoc)
 
 -- a number and a step
 pub unbegun_line : (old number step : List ℕ) → Left old (number ++ codes " " ++ step) old (number ++ (codes " " ++ step))

@@ -1,17 +1,23 @@
 -- The forms of rules, from the front of a text on.
-use Rattle.std.proofs.Common.{◌≡◌, ℕ, Bool, List, ◌++◌, Option, Some, None, refl, ap, sym, ◌∙◌, append_assoc}
+use Rattle.std.proofs.Common.{◌≡◌, ◌≢◌, ℕ, List, ◌++◌, Option, Some, None, refl, ap, sym, subst, ◌∙◌, append_assoc}
 use Rattle.std.specs.Prelude.{codes, IsTrue, IfNone}
 use Rattle.std.specs.Str.{IsUtf8}
-use Rattle.std.proofs.lemmas.Option.{same_Some}
 use Rattle.dlk_tree.specs.Names.{is_name}
 use Rattle.dlk_tree.specs.Trees.{Tree}
-use Rattle.dlk_calculus.specs.Rules.{Rule}
+use Rattle.dlk_calculus.specs.Rules.{Rule, Arguments, OnePlace, TwoPlaces, PlaceAndFormula, OneFormula, PlaceAndName, word_of, arguments_of}
 use Rattle.dlk_grammar.specs.declared.token.Form.TheVariants.{Formula}
 use Rattle.dlk_grammar.specs.declared.token.Dots.TheVariants.{Refused}
 use Rattle.dlk_machine.proofs.TextLaws.{one_tree_text}
-use Rattle.dlk_termtext.specs.Words.{Template, Place, TwoPlaces, PlaceAndName, PlaceAndFormula, OneFormula, template_of, wants_place, wants_two_places, wants_more}
-use Rattle.dlk_termtext.specs.Lines.{IsNumber, IsFormulaText, IsArguments, place, two_places, place_and_name, place_and_formula, one_formula, IsRule, rule}
-use Rattle.dlk_termtext.specs.Parts.{NumberThen, Bracketed, IsCall}
+use Rattle.dlk_rules.specs.declared.arguments.Shape.{Shape}
+use Rattle.dlk_rules.specs.declared.arguments.Shape.TheVariants as shape
+use Rattle.dlk_rules.specs.declared.arguments.Arguments.{Arguments as IdArguments}
+use Rattle.dlk_rules.specs.declared.rule.Rule.{Rule as IdRule}
+use Rattle.dlk_rules.specs.declared.rule.RuleWord.{RuleWord}
+use Rattle.dlk_rules.specs.Steps.{rule_at}
+use Rattle.dlk_rules.specs.Words.{shape_of, text_of, wanted, arguments_at, IsCall}
+use Rattle.dlk_rules.proofs.WordLaws.{one_shape, shape_wanted, one_rule as one_rule_called}
+use Rattle.dlk_termtext.specs.Lines.{IsNumber, IsFormulaText, IsArguments, one_place, two_places, place_and_name, place_and_formula, one_formula, IsRule, rule}
+use Rattle.dlk_termtext.specs.Parts.{NumberThen, Bracketed}
 use Rattle.dlk_termtext.proofs.Cuts.{one_bracketed}
 use Rattle.dlk_termtext.proofs.Numbers.{one_number, one_number_then}
 use Rattle.dlk_termtext.proofs.WordLaws.{word_lacks, word_utf8}
@@ -20,132 +26,153 @@ pub if_none : {X : Type 0} {P : Type 0} (o : Option X) → P → IfNone o P
 if_none None p = p
 if_none (Some x) p = tt
 
--- what the arguments of a rule are made of
-abbrev pub ArgumentParts : Template → List ℕ → Rule → Type 0
-ArgumentParts (Place r) text made = (at : ℕ) × IsNumber text at × (made ≡ r at)
-ArgumentParts (TwoPlaces r) text made = (first : ℕ) × (second : ℕ) × (rest : List ℕ) × NumberThen text 44 first rest × IsNumber rest second × (made ≡ r first second)
-ArgumentParts (PlaceAndName r) text made = (at : ℕ) × (y : List ℕ) × NumberThen text 44 at y × IsTrue (is_name y) × (made ≡ r at y)
-ArgumentParts (PlaceAndFormula r) text made = (at : ℕ) × (h : Tree) × (rest : List ℕ) × NumberThen text 44 at rest × IsFormulaText rest h × (made ≡ r at h)
-ArgumentParts (OneFormula r) text made = (h : Tree) × IsFormulaText text h × (made ≡ r h)
+-- what arguments are made of
+abbrev pub ArgumentParts : List ℕ → Arguments → Type 0
+ArgumentParts text (OnePlace i) = IsNumber text i
+ArgumentParts text (TwoPlaces i k) = (rest : List ℕ) × NumberThen text 44 i rest × IsNumber rest k
+ArgumentParts text (PlaceAndFormula i h) = (rest : List ℕ) × NumberThen text 44 i rest × IsFormulaText rest h
+ArgumentParts text (OneFormula h) = IsFormulaText text h
+ArgumentParts text (PlaceAndName i y) = NumberThen text 44 i y × IsTrue (is_name y)
 
 -- a number before a comma
 before_comma : (i rest : List ℕ) (n : ℕ) → IsNumber i n → NumberThen (i ++ codes "," ++ rest) 44 n rest
 before_comma i rest n is = record { digits = i; is_number = is; text_is = simp append_assoc }
 
-pub argument_parts : (template : Template) (text : List ℕ) (made : Rule) → IsArguments template text made → ArgumentParts template text made
-argument_parts _ _ _ (place {i} {at} {rule} is) = (at, is, refl)
-argument_parts _ _ _ (two_places {i} {k} {first} {second} {rule} a b) = (first, second, k, before_comma i k first a, b, refl)
-argument_parts _ _ _ (place_and_name {i} {at} {rule} y a b) = (at, y, before_comma i y at a, b, refl)
-argument_parts _ _ _ (place_and_formula {i} {text} {at} {h} {rule} a b) = (at, h, text, before_comma i text at a, b, refl)
-argument_parts _ _ _ (one_formula {text} {h} {rule} a) = (h, a, refl)
+pub argument_parts : (text : List ℕ) (arguments : Arguments) → IsArguments text arguments → ArgumentParts text arguments
+argument_parts _ _ (one_place is) = is
+argument_parts _ _ (two_places {i} {k} {first} {second} a b) = (k, before_comma i k first a, b)
+argument_parts _ _ (place_and_formula {i} {text} {at} {h} a b) = (text, before_comma i text at a, b)
+argument_parts _ _ (one_formula is) = is
+argument_parts _ _ (place_and_name {i} {at} y a b) = (before_comma i y at a, b)
 
 -- and are made of them
 comma_is : (text rest : List ℕ) (n : ℕ) (h : NumberThen text 44 n rest) → text ≡ h.digits ++ codes "," ++ rest
 comma_is text rest n h = h.text_is ∙ simp append_assoc
 
-pub two_places_are : (text rest : List ℕ) (first second : ℕ) → NumberThen text 44 first rest → IsNumber rest second → (r : ℕ → ℕ → Rule) → IsArguments (TwoPlaces r) text (r first second)
-two_places_are text rest first second a b r = rw (comma_is text rest first a) (two_places a.is_number b)
+pub two_places_are : (text rest : List ℕ) (i k : ℕ) → NumberThen text 44 i rest → IsNumber rest k → IsArguments text (TwoPlaces i k)
+two_places_are text rest i k a b = rw (comma_is text rest i a) (two_places a.is_number b)
 
-pub place_and_name_are : (text y : List ℕ) (at : ℕ) → NumberThen text 44 at y → IsTrue (is_name y) → (r : ℕ → List ℕ → Rule) → IsArguments (PlaceAndName r) text (r at y)
-place_and_name_are text y at a b r = rw (comma_is text y at a) (place_and_name y a.is_number b)
+pub place_and_formula_are : (text rest : List ℕ) (i : ℕ) (h : Tree) → NumberThen text 44 i rest → IsFormulaText rest h → IsArguments text (PlaceAndFormula i h)
+place_and_formula_are text rest i h a b = rw (comma_is text rest i a) (place_and_formula a.is_number b)
 
-pub place_and_formula_are : (text rest : List ℕ) (at : ℕ) (h : Tree) → NumberThen text 44 at rest → IsFormulaText rest h → (r : ℕ → Tree → Rule) → IsArguments (PlaceAndFormula r) text (r at h)
-place_and_formula_are text rest at h a b r = rw (comma_is text rest at a) (place_and_formula a.is_number b)
+pub place_and_name_are : (text y : List ℕ) (i : ℕ) → NumberThen text 44 i y → IsTrue (is_name y) → IsArguments text (PlaceAndName i y)
+place_and_name_are text y i a b = rw (comma_is text y i a) (place_and_name y a.is_number b)
 
 -- without what stands behind the comma there are no arguments
-pub no_name_behind : (text rest : List ℕ) (at : ℕ) → NumberThen text 44 at rest → (¬ IsTrue (is_name rest)) → (r : ℕ → List ℕ → Rule) (made : Rule) → ¬ IsArguments (PlaceAndName r) text made
-no_name_behind text rest at number none r made is =
-    let p = argument_parts (PlaceAndName r) text made is in
-    none (rw (one_number_then text 44 at p.0 rest p.1 refl number p.2).1 p.3)
+pub no_place_behind : (text rest : List ℕ) (first : ℕ) → NumberThen text 44 first rest → ((n : ℕ) → ¬ IsNumber rest n) →
+    (i k : ℕ) → ¬ IsArguments text (TwoPlaces i k)
+no_place_behind text rest first number none i k is =
+    let p = argument_parts text (TwoPlaces i k) is in
+    none k (rw (one_number_then text 44 first i rest p.0 refl number p.1).1 p.2)
 
-pub no_formula_behind : (text rest : List ℕ) (at : ℕ) → NumberThen text 44 at rest → ((h : Tree) → ¬ IsFormulaText rest h) → (r : ℕ → Tree → Rule) (made : Rule) → ¬ IsArguments (PlaceAndFormula r) text made
-no_formula_behind text rest at number none r made is =
-    let p = argument_parts (PlaceAndFormula r) text made is in
-    none p.1 (rw (one_number_then text 44 at p.0 rest p.2 refl number p.3).1 p.4)
+pub no_formula_behind : (text rest : List ℕ) (at : ℕ) → NumberThen text 44 at rest → ((h : Tree) → ¬ IsFormulaText rest h) →
+    (i : ℕ) (h : Tree) → ¬ IsArguments text (PlaceAndFormula i h)
+no_formula_behind text rest at number none i h is =
+    let p = argument_parts text (PlaceAndFormula i h) is in
+    none h (rw (one_number_then text 44 at i rest p.0 refl number p.1).1 p.2)
 
--- a template has one rule for a text
-pub one_made : (template : Template) (text : List ℕ) (r s : Rule) → IsArguments template text r → IsArguments template text s → r ≡ s
-one_made (Place make) text r s a b =
-    let p = argument_parts (Place make) text r a in
-    let q = argument_parts (Place make) text s b in
-    p.2 ∙ ap make (one_number text p.0 q.0 p.1 q.1) ∙ sym q.2
-one_made (TwoPlaces make) text r s a b =
-    let p = argument_parts (TwoPlaces make) text r a in
-    let q = argument_parts (TwoPlaces make) text s b in
-    let first = one_number_then text 44 p.0 q.0 p.2 q.2 refl p.3 q.3 in
-    let second = one_number q.2 p.1 q.1 (rw (← first.1) p.4) q.4 in
-    p.5 ∙ (λ i. make (first.0 i) (second i)) ∙ sym q.5
-one_made (PlaceAndName make) text r s a b =
-    let p = argument_parts (PlaceAndName make) text r a in
-    let q = argument_parts (PlaceAndName make) text s b in
-    let first = one_number_then text 44 p.0 q.0 p.1 q.1 refl p.2 q.2 in
-    p.4 ∙ (λ i. make (first.0 i) (first.1 i)) ∙ sym q.4
-one_made (PlaceAndFormula make) text r s a b =
-    let p = argument_parts (PlaceAndFormula make) text r a in
-    let q = argument_parts (PlaceAndFormula make) text s b in
-    let first = one_number_then text 44 p.0 q.0 p.2 q.2 refl p.3 q.3 in
-    let second = one_tree_text Formula Refused q.2 p.1 q.1 (rw (← first.1) p.4) q.4 in
-    p.5 ∙ (λ i. make (first.0 i) (second i)) ∙ sym q.5
-one_made (OneFormula make) text r s a b =
-    let p = argument_parts (OneFormula make) text r a in
-    let q = argument_parts (OneFormula make) text s b in
-    p.2 ∙ ap make (one_tree_text Formula Refused text p.0 q.0 p.1 q.1) ∙ sym q.2
+pub no_name_behind : (text rest : List ℕ) (at : ℕ) → NumberThen text 44 at rest → (¬ IsTrue (is_name rest)) →
+    (i : ℕ) (y : List ℕ) → ¬ IsArguments text (PlaceAndName i y)
+no_name_behind text rest at number none i y is =
+    let p = argument_parts text (PlaceAndName i y) is in
+    none (rw (one_number_then text 44 at i rest y refl number p.0).1 p.1)
+
+-- no arguments of a shape are the text
+abbrev pub Lack : List ℕ → Shape → Type 0
+Lack text shape.OnePlace = (i : ℕ) → ¬ IsNumber text i
+Lack text shape.TwoPlaces = (i k : ℕ) → ¬ IsArguments text (TwoPlaces i k)
+Lack text shape.PlaceAndFormula = (i : ℕ) (h : Tree) → ¬ IsArguments text (PlaceAndFormula i h)
+Lack text shape.OneFormula = (h : Tree) → ¬ IsFormulaText text h
+Lack text shape.PlaceAndName = (i : ℕ) (y : List ℕ) → ¬ IsArguments text (PlaceAndName i y)
+
+pub lacking : (text : List ℕ) (s : Shape) → Lack text s → (arguments : Arguments) → s ≡ shape_of arguments → ¬ IsArguments text arguments
+lacking text s none arguments e = by_shape arguments (subst (λ s. Lack text s) e none)
+  where
+    by_shape : (a : Arguments) → Lack text (shape_of a) → IsArguments text a → ⊥
+    by_shape (OnePlace i) lack is = lack i (argument_parts text (OnePlace i) is)
+    by_shape (TwoPlaces i k) lack is = lack i k is
+    by_shape (PlaceAndFormula i h) lack is = lack i h is
+    by_shape (OneFormula h) lack is = lack h (argument_parts text (OneFormula h) is)
+    by_shape (PlaceAndName i y) lack is = lack i y is
+
+-- a text says arguments of a shape in one way
+pub one_arguments : (text : List ℕ) (a b : Arguments) → shape_of a ≡ shape_of b → IsArguments text a → IsArguments text b → a ≡ b
+one_arguments text (OnePlace i) (OnePlace j) e a b = ap OnePlace (one_number text i j (argument_parts text (OnePlace i) a) (argument_parts text (OnePlace j) b))
+one_arguments text (TwoPlaces i k) (TwoPlaces j l) e a b =
+    let p = argument_parts text (TwoPlaces i k) a in
+    let q = argument_parts text (TwoPlaces j l) b in
+    let first = one_number_then text 44 i j p.0 q.0 refl p.1 q.1 in
+    let second = one_number q.0 k l (rw (← first.1) p.2) q.2 in
+    λ n. TwoPlaces (first.0 n) (second n)
+one_arguments text (PlaceAndFormula i h) (PlaceAndFormula j g) e a b =
+    let p = argument_parts text (PlaceAndFormula i h) a in
+    let q = argument_parts text (PlaceAndFormula j g) b in
+    let first = one_number_then text 44 i j p.0 q.0 refl p.1 q.1 in
+    let second = one_tree_text Formula Refused q.0 h g (rw (← first.1) p.2) q.2 in
+    λ n. PlaceAndFormula (first.0 n) (second n)
+one_arguments text (OneFormula h) (OneFormula g) e a b =
+    ap OneFormula (one_tree_text Formula Refused text h g (argument_parts text (OneFormula h) a) (argument_parts text (OneFormula g) b))
+one_arguments text (PlaceAndName i y) (PlaceAndName j z) e a b =
+    let p = argument_parts text (PlaceAndName i y) a in
+    let q = argument_parts text (PlaceAndName j z) b in
+    let both = one_number_then text 44 i j y z refl p.0 q.0 in
+    λ n. PlaceAndName (both.0 n) (both.1 n)
+one_arguments text _ _ e a b = cc
 
 -- what a rule's text is made of
 pub record RuleParts (text : List ℕ) (made : Rule) : Type 0 where
-  pub word : List ℕ
   pub arguments : List ℕ
-  pub template : Template
-  pub brackets : Bracketed text word arguments
-  pub is_word : template_of word ≡ Some template
-  pub are_arguments : IsArguments template arguments made
+  pub brackets : Bracketed text (word_of made) arguments
+  pub are_arguments : IsArguments arguments (arguments_of made)
 
 pub rule_parts : (text : List ℕ) (made : Rule) → IsRule text made → RuleParts text made
-rule_parts _ _ (rule {arguments} {template} {made} word is are) = record {
-  word = word;
+rule_parts _ _ (rule {arguments} made are) = record {
   arguments = arguments;
-  template = template;
-  brackets = record { text_is = refl; first = word_lacks word template is };
-  is_word = is;
+  brackets = record { text_is = refl; first = word_lacks made };
   are_arguments = are;
 }
 
-pub made_rule : (text word arguments : List ℕ) (template : Template) (made : Rule) → Bracketed text word arguments → template_of word ≡ Some template → IsArguments template arguments made → IsRule text made
-made_rule text word arguments template made brackets is are = rw brackets.text_is (rule word is are)
+-- a text whose word and arguments are those of a rule, and only such a text, is the rule
+pub made_rule : (text word arguments : List ℕ) (made : Rule) → Bracketed text word arguments → word_of made ≡ word →
+    IsArguments arguments (arguments_of made) → IsRule text made
+made_rule text word arguments made brackets is are =
+    let e : text ≡ word_of made ++ codes "(" ++ arguments ++ codes ")" = brackets.text_is ∙ ap (λ w. w ++ codes "(" ++ arguments ++ codes ")") (sym is) in
+    rw e (rule made are)
 
--- the word and the arguments of a bracketed text are those of its rule
-pub bracketed_rule : (text word arguments : List ℕ) (made : Rule) → Bracketed text word arguments → IsRule text made → (template : Template) × (template_of word ≡ Some template) × IsArguments template arguments made
+pub bracketed_rule : (text word arguments : List ℕ) (made : Rule) → Bracketed text word arguments → IsRule text made →
+    (word_of made ≡ word) × IsArguments arguments (arguments_of made)
 bracketed_rule text word arguments made brackets is =
     let h = rule_parts text made is in
-    let same = one_bracketed text h.word word h.arguments arguments h.brackets brackets in
-    (h.template, rw (← same.0) h.is_word, rw (← same.1) h.are_arguments)
+    let same = one_bracketed text (word_of made) word h.arguments arguments h.brackets brackets in
+    (same.0, rw (← same.1) h.are_arguments)
 
 -- a text says one rule
 pub one_rule : (text : List ℕ) (r s : Rule) → IsRule text r → IsRule text s → r ≡ s
 one_rule text r s a b =
     let h = rule_parts text r a in
-    let k = bracketed_rule text h.word h.arguments s h.brackets b in
-    let same : k.0 ≡ h.template = same_Some k.0 h.template (sym k.1 ∙ h.is_word) in
-    one_made h.template h.arguments r s h.are_arguments (rw same at k.2)
+    let k = bracketed_rule text (word_of r) h.arguments s h.brackets b in
+    let words : word_of r ≡ word_of s = sym k.0 in
+    one_rule_called r s words (one_arguments h.arguments (arguments_of r) (arguments_of s) (one_shape r s words) h.are_arguments k.1)
 
--- without brackets, or where what stands before and in them makes none, a text is no rule
+-- without brackets, or where what stands before or in them is none of a rule, a text is no rule
 pub no_brackets : (text : List ℕ) → ((word arguments : List ℕ) → ¬ Bracketed text word arguments) → (made : Rule) → ¬ IsRule text made
-no_brackets text none made is = let h = rule_parts text made is in none h.word h.arguments h.brackets
+no_brackets text none made is = let h = rule_parts text made is in none (word_of made) h.arguments h.brackets
 
-pub no_word : (text word arguments : List ℕ) → Bracketed text word arguments → (¬ IsUtf8 word) → (made : Rule) → ¬ IsRule text made
-no_word text word arguments brackets none made is = let h = bracketed_rule text word arguments made brackets is in none (word_utf8 word h.0 h.1)
+pub no_letters : (text word arguments : List ℕ) → Bracketed text word arguments → (¬ IsUtf8 word) → (made : Rule) → ¬ IsRule text made
+no_letters text word arguments brackets none made is = none (subst IsUtf8 (bracketed_rule text word arguments made brackets is).0 (word_utf8 made))
 
-pub no_rule : (text word arguments : List ℕ) → Bracketed text word arguments → ((r : Rule) → ¬ IsCall wants_place word arguments r) → ((r : Rule) → ¬ IsCall wants_two_places word arguments r) →
-    ((r : Rule) → ¬ IsCall wants_more word arguments r) → (made : Rule) → ¬ IsRule text made
-no_rule text word arguments brackets one two more made is = let h = bracketed_rule text word arguments made brackets is in by_kind h.0 h.1 h.2
-  where
-    by_kind : (t : Template) → template_of word ≡ Some t → IsArguments t arguments made → ⊥
-    by_kind (Place r) e are = one made (record { template = Place r; is_word = e; is_kind = refl; are_arguments = are })
-    by_kind (TwoPlaces r) e are = two made (record { template = TwoPlaces r; is_word = e; is_kind = refl; are_arguments = are })
-    by_kind (PlaceAndName r) e are = more made (record { template = PlaceAndName r; is_word = e; is_kind = refl; are_arguments = are })
-    by_kind (PlaceAndFormula r) e are = more made (record { template = PlaceAndFormula r; is_word = e; is_kind = refl; are_arguments = are })
-    by_kind (OneFormula r) e are = more made (record { template = OneFormula r; is_word = e; is_kind = refl; are_arguments = are })
+pub no_word : (text word arguments : List ℕ) → Bracketed text word arguments → ((made : Rule) → word_of made ≢ word) → (made : Rule) → ¬ IsRule text made
+no_word text word arguments brackets none made is = none made (bracketed_rule text word arguments made brackets is).0
 
--- a call in brackets is a rule
-pub called_rule : (kind : Template → Bool) (text word arguments : List ℕ) (made : Rule) → Bracketed text word arguments → IsCall kind word arguments made → IsRule text made
-called_rule kind text word arguments made brackets call = made_rule text word arguments call.template made brackets call.is_word call.are_arguments
+pub no_arguments : (text word arguments : List ℕ) (w : RuleWord) (s : Shape) → Bracketed text word arguments → text_of w ≡ word → s ≡ wanted w →
+    ((a : Arguments) → s ≡ shape_of a → ¬ IsArguments arguments a) → (made : Rule) → ¬ IsRule text made
+no_arguments text word arguments w s brackets same wants none made is =
+    let h = bracketed_rule text word arguments made brackets is in
+    none (arguments_of made) (wants ∙ sym (shape_wanted w made (h.0 ∙ sym same))) h.1
+
+-- a rule that is called by the word and the arguments of a text is what the text says
+pub called_rule : (trees : List Tree) (text word arguments : List ℕ) (w : RuleWord) (a : IdArguments (List ℕ)) (made : IdRule) →
+    Bracketed text word arguments → text_of w ≡ word → IsArguments arguments (arguments_at (λ y. y) trees a) → IsCall trees w a made →
+    IsRule text (rule_at trees made)
+called_rule trees text word arguments w a made brackets same are call =
+    made_rule text word arguments (rule_at trees made) brackets (call.word_is ∙ same) (subst (IsArguments arguments) (sym call.arguments_are) are)

@@ -3,8 +3,8 @@ pub mod Numbers
 pub mod WordLaws
 pub mod Refusals
 pub mod Forms
-pub mod Calls
 pub mod StepForms
 pub mod LineForms
 pub mod Appended
 pub mod Readback
+pub mod Proper

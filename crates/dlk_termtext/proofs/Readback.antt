@@ -1,17 +1,15 @@
 -- The written form of a line is read as that line.
-use Rattle.std.proofs.Common.{◌≡◌, ◌≢◌, ℕ, ◌≤◌, ◌<◌, ◌%◌, ◌/◌, ◌*◌, ◌+◌, ◌-◌, ◌^◌, true, IsTrue, List, [], ◌∷◌, ◌++◌, length, get_or, Some, refl, subst, arith}
-use Rattle.std.specs.Prelude.{codes}
+use Rattle.std.proofs.Common.{◌≡◌, ◌≢◌, ℕ, ◌≤◌, ◌<◌, ◌%◌, ◌/◌, ◌*◌, ◌+◌, ◌-◌, ◌^◌, true, List, [], ◌∷◌, ◌++◌, length, get_or, refl, subst, arith}
 use Rattle.std.specs.Fmt.{decimal}
 use Rattle.std.specs.List.{list_all}
 use Rattle.std.proofs.lemmas.Bool.Decides.{nat_tests}
 use Rattle.std.proofs.lemmas.Fmt.{decimal_by_steps, length-decimal-le, decimal_nonempty, first_decimal}
 use Rattle.std.proofs.lemmas.List.Folds.{list_all-append}
 use Rattle.std.proofs.lemmas.List.Sums.{fold_push}
-use Rattle.dlk_tree.specs.Names.{is_name}
 use Rattle.dlk_tree.specs.Trees.{Tree}
 use Rattle.dlk_tree.specs.declared.op.Sort.{Sort}
 use Rattle.dlk_calculus.specs.Sequents.{Sequent}
-use Rattle.dlk_calculus.specs.Rules.{Rule, Close, CloseTrue, CloseFalse, NotL, NotR, AndL, AndR, OrL, OrR, ImplyL, ImplyR, EquivL, EquivR, Cut, CutL, CutR, HideL, HideR, CoHideR, ExchangeL, ExchangeR, SkolemL, SkolemR, BoundL, BoundR, EquivifyR, CommuteEquivL, CommuteEquivR}
+use Rattle.dlk_calculus.specs.Rules.{Rule, Arguments, OnePlace, TwoPlaces, PlaceAndFormula, OneFormula, PlaceAndName, arguments_of}
 use Rattle.dlk_calculus.specs.Steps.{Step, Start, UseAxiom, UseRule, Leaf, Apply, Merge, Substitute, Rename}
 use Rattle.dlk_grammar.specs.declared.token.Dots.TheVariants.{Refused}
 use Rattle.dlk_grammar.specs.Texts.{TreeText, SequentText}
@@ -20,9 +18,8 @@ use Rattle.dlk_readback.specs.Readable.{form_of}
 use Rattle.dlk_readback.proofs.Whole.{tree_text}
 use Rattle.dlk_readback.proofs.Turned.{sequent_text as sequent_read}
 use Rattle.dlk_readback.proofs.Paired.{pairs_text as pairs_read}
-use Rattle.dlk_termtext.specs.Words.{Place, TwoPlaces, PlaceAndName, PlaceAndFormula, template_of}
-use Rattle.dlk_termtext.specs.Lines.{IsNumber, IsFormulaText, place, two_places, place_and_name, place_and_formula, one_formula, IsRule, rule, IsStep, start, use_axiom, use_rule, leaf, apply, merge, substitute, rename, IsLine, numbered, Numbered}
-use Rattle.dlk_termtext.specs.Written.{call, both, formula_text, sequent_text, rule_text, step_text, line_text, IsLineNumber, IsReadableFormula, IsReadableSequent, IsWritableRule, IsWritable}
+use Rattle.dlk_termtext.specs.Lines.{IsNumber, IsFormulaText, IsArguments, one_place, two_places, place_and_name, place_and_formula, one_formula, IsRule, rule, IsStep, start, use_axiom, use_rule, leaf, apply, merge, substitute, rename, IsLine, numbered, Numbered}
+use Rattle.dlk_termtext.specs.Written.{formula_text, sequent_text, arguments_text, rule_text, step_text, line_text, IsLineNumber, IsReadableFormula, IsReadableSequent, AreWritable, IsWritableRule, IsWritable}
 use Rattle.dlk_termtext.proofs.Numbers.{number_from_parts}
 
 -- digits that say a number
@@ -61,49 +58,16 @@ formula_read h r =
     let f = r.is_formula in
     subst (λ (s : Sort). TreeText (form_of s) Refused (formula_text h) h) f.sort_is (tree_text Refused h (record { well_made = f.well_made; limits = r.limits; permitted = (f.no_dot, f.no_hole) }))
 
-one_place : (word : List ℕ) (make : ℕ → Rule) → template_of word ≡ Some (Place make) → (i : ℕ) → IsLineNumber i → IsRule (call word (decimal i)) (make i)
-one_place word make is i h = rule word is (place {rule = make} (number_read i h))
-
-two : (word : List ℕ) (make : ℕ → ℕ → Rule) → template_of word ≡ Some (TwoPlaces make) → (i k : ℕ) → IsLineNumber i × IsLineNumber k → IsRule (call word (both (decimal i) (decimal k))) (make i k)
-two word make is i k h = rule word is (two_places {rule = make} (number_read i h.0) (number_read k h.1))
-
-with_name : (word : List ℕ) (make : ℕ → List ℕ → Rule) → template_of word ≡ Some (PlaceAndName make) → (i : ℕ) (y : List ℕ) → IsLineNumber i × IsTrue (is_name y) → IsRule (call word (both (decimal i) y)) (make i y)
-with_name word make is i y h = rule word is (place_and_name {rule = make} y (number_read i h.0) h.1)
-
-with_formula : (word : List ℕ) (make : ℕ → Tree → Rule) → template_of word ≡ Some (PlaceAndFormula make) → (i : ℕ) (f : Tree) → IsLineNumber i × IsReadableFormula f → IsRule (call word (both (decimal i) (formula_text f))) (make i f)
-with_formula word make is i f h = rule word is (place_and_formula {rule = make} (number_read i h.0) (formula_read f h.1))
+arguments_read : (arguments : Arguments) → AreWritable arguments → IsArguments (arguments_text arguments) arguments
+arguments_read (OnePlace i) h = one_place (number_read i h)
+arguments_read (TwoPlaces i k) h = two_places (number_read i h.0) (number_read k h.1)
+arguments_read (PlaceAndFormula i f) h = place_and_formula (number_read i h.0) (formula_read f h.1)
+arguments_read (OneFormula f) h = one_formula (formula_read f h)
+arguments_read (PlaceAndName i y) h = place_and_name y (number_read i h.0) h.1
 
 -- a rule is read from its word and its arguments
 rule_read : (r : Rule) → IsWritableRule r → IsRule (rule_text r) r
-unfolding template_of
-rule_read (Close i j) h = two (codes "close") Close refl i j h
-rule_read (CloseTrue j) h = one_place (codes "closeTrue") CloseTrue refl j h
-rule_read (CloseFalse i) h = one_place (codes "closeFalse") CloseFalse refl i h
-rule_read (NotL i) h = one_place (codes "notL") NotL refl i h
-rule_read (NotR j) h = one_place (codes "notR") NotR refl j h
-rule_read (AndL i) h = one_place (codes "andL") AndL refl i h
-rule_read (AndR j) h = one_place (codes "andR") AndR refl j h
-rule_read (OrL i) h = one_place (codes "orL") OrL refl i h
-rule_read (OrR j) h = one_place (codes "orR") OrR refl j h
-rule_read (ImplyL i) h = one_place (codes "implyL") ImplyL refl i h
-rule_read (ImplyR j) h = one_place (codes "implyR") ImplyR refl j h
-rule_read (EquivL i) h = one_place (codes "equivL") EquivL refl i h
-rule_read (EquivR j) h = one_place (codes "equivR") EquivR refl j h
-rule_read (Cut f) h = rule (codes "cut") refl (one_formula {rule = Cut} (formula_read f h))
-rule_read (CutL i f) h = with_formula (codes "cutL") CutL refl i f h
-rule_read (CutR j f) h = with_formula (codes "cutR") CutR refl j f h
-rule_read (HideL i) h = one_place (codes "hideL") HideL refl i h
-rule_read (HideR j) h = one_place (codes "hideR") HideR refl j h
-rule_read (CoHideR j) h = one_place (codes "coHideR") CoHideR refl j h
-rule_read (ExchangeL i k) h = two (codes "exchangeL") ExchangeL refl i k h
-rule_read (ExchangeR j l) h = two (codes "exchangeR") ExchangeR refl j l h
-rule_read (SkolemL i) h = one_place (codes "skolemL") SkolemL refl i h
-rule_read (SkolemR j) h = one_place (codes "skolemR") SkolemR refl j h
-rule_read (BoundL i y) h = with_name (codes "boundL") BoundL refl i y h
-rule_read (BoundR j y) h = with_name (codes "boundR") BoundR refl j y h
-rule_read (EquivifyR j) h = one_place (codes "equivifyR") EquivifyR refl j h
-rule_read (CommuteEquivL i) h = one_place (codes "commuteEquivL") CommuteEquivL refl i h
-rule_read (CommuteEquivR j) h = one_place (codes "commuteEquivR") CommuteEquivR refl j h
+rule_read r h = rule r (arguments_read (arguments_of r) h)
 
 the_sequent : (s : Sequent) → IsReadableSequent s → SequentText (sequent_text s) s
 the_sequent s h = sequent_read s h.is_sequent h.ante h.succ

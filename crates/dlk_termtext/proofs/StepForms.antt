@@ -14,8 +14,8 @@ use Rattle.dlk_rules.specs.Steps.{step_at}
 use Rattle.dlk_rules.specs.declared.step.Step.{Step as IdStep}
 use Rattle.dlk_termtext.specs.declared.line.LineFault.{LineFault}
 use Rattle.dlk_termtext.specs.Lines.{IsNumber, IsRule, IsStep, start, use_axiom, use_rule, leaf, apply, merge, substitute, rename}
-use Rattle.dlk_termtext.specs.Parts.{CutAt, NumberThen, FactGoal, FactGoalRule, FactGoalFact, FactPairs, FactNames, word_of, Behind, WordAndRest}
-use Rattle.dlk_termtext.specs.Read.{IsFaultOf}
+use Rattle.dlk_termtext.specs.Parts.{CutAt, NumberThen, FactGoal, FactGoalRule, FactGoalFact, FactPairs, FactNames, step_word, Behind, WordAndRest}
+use Rattle.dlk_termtext.specs.Read.{IsLineFaultOf}
 use Rattle.dlk_termtext.proofs.Cuts.{lacks_if, lacks_name, one_cut}
 use Rattle.dlk_termtext.proofs.Numbers.{one_number, one_number_then}
 use Rattle.dlk_termtext.proofs.Refusals.{fault_of_whole}
@@ -44,27 +44,27 @@ kind_of word =
     if bytes_eq word (codes "subst") then 6 else
     if bytes_eq word (codes "rename") then 7 else 8
 
-kind_of_word : (step : Step) → kind_of (word_of step) ≡ kind step
+kind_of_word : (step : Step) → kind_of (step_word step) ≡ kind step
 unfolding kind_of
 kind_of_word (Start s) = refl
 kind_of_word _ = refl
 
-same_kind : (s t : Step) → word_of s ≡ word_of t → kind s ≡ kind t
+same_kind : (s t : Step) → step_word s ≡ step_word t → kind s ≡ kind t
 same_kind s t e = sym (kind_of_word s) ∙ ap kind_of e ∙ kind_of_word t
 
 -- the words are of letters
-word_letters : (step : Step) → IsTrue (list_all is_letter (word_of step))
+word_letters : (step : Step) → IsTrue (list_all is_letter (step_word step))
 word_letters (Start s) = refl
 word_letters _ = refl
 
 -- what a step's text is made of
 pub record StepParts (text : List ℕ) (step : Step) : Type 0 where
   pub rest : List ℕ
-  pub cut : CutAt text 32 (word_of step) rest
+  pub cut : CutAt text 32 (step_word step) rest
   pub behind : Behind rest step
 
-step_cut : (text rest : List ℕ) (step : Step) → text ≡ word_of step ++ 32 ∷ rest → CutAt text 32 (word_of step) rest
-step_cut text rest step e = record { text_is = e; first = lacks_if is_letter 32 refl (word_of step) (word_letters step) }
+step_cut : (text rest : List ℕ) (step : Step) → text ≡ step_word step ++ 32 ∷ rest → CutAt text 32 (step_word step) rest
+step_cut text rest step e = record { text_is = e; first = lacks_if is_letter 32 refl (step_word step) (word_letters step) }
 
 -- a number before a space
 pub before_space : (i rest : List ℕ) (n : ℕ) → IsNumber i n → NumberThen (i ++ codes " " ++ rest) 32 n rest
@@ -123,7 +123,7 @@ step_parts _ _ (rename {f} {x} {y} {fact} a b c) = record {
   };
 }
 
-pub made_step : (text rest : List ℕ) (step : Step) → text ≡ word_of step ++ 32 ∷ rest → Behind rest step → IsStep text step
+pub made_step : (text rest : List ℕ) (step : Step) → text ≡ step_word step ++ 32 ∷ rest → Behind rest step → IsStep text step
 made_step text rest (Start s) begins is = rw begins (start is)
 made_step text rest (UseAxiom name) begins is = rw (begins, is.0) (use_axiom is.1)
 made_step text rest (UseRule name) begins is = rw (begins, is.0) (use_rule is.1)
@@ -189,14 +189,14 @@ worded_step text word rest step cut p = made_step text rest step (cut.text_is �
 pub step_worded : (text word rest : List ℕ) (step : Step) → CutAt text 32 word rest → IsStep text step → WordAndRest word rest step
 step_worded text word rest step cut is =
     let h = step_parts text step is in
-    let same = one_cut text 32 word (word_of step) rest h.rest cut h.cut in
+    let same = one_cut text 32 word (step_word step) rest h.rest cut h.cut in
     record { word_is = same.0; behind = subst (λ r. Behind r step) (sym same.1) h.behind }
 
 pub no_space : (text : List ℕ) → ((word rest : List ℕ) → text ≢ word ++ 32 ∷ rest) → (step : Step) → ¬ IsStep text step
-no_space text none step is = let h = step_parts text step is in none (word_of step) h.rest h.cut.text_is
+no_space text none step is = let h = step_parts text step is in none (step_word step) h.rest h.cut.text_is
 
 pub no_step_word : (text word rest : List ℕ) → CutAt text 32 word rest → (¬ IsUtf8 word) → (step : Step) → ¬ IsStep text step
-no_step_word text word rest cut none step is = none (rw (step_worded text word rest step cut is).word_is (letters_utf8 (word_of step) (word_letters step)))
+no_step_word text word rest cut none step is = none (rw (step_worded text word rest step cut is).word_is (letters_utf8 (step_word step) (word_letters step)))
 
 -- what is answered to a word and what stands behind it, as an answer to a text
 pub step_or_none : (trees : List Tree) (text word rest : List ℕ) → CutAt text 32 word rest → (r : Result IdStep LineFault) → IfOk r (λ step. WordAndRest word rest (step_at trees step)) →
@@ -204,8 +204,8 @@ pub step_or_none : (trees : List Tree) (text word rest : List ℕ) → CutAt tex
 step_or_none trees text word rest cut (Ok step) p = worded_step text word rest (step_at trees step) cut p
 step_or_none trees text word rest cut (Err why) p = tt
 
-pub no_step_or_none : (text word rest : List ℕ) → CutAt text 32 word rest → (r : Result IdStep LineFault) → IfErr r (IsFaultOf ((step : Step) → ¬ WordAndRest word rest step)) →
-    IfErr r (IsFaultOf ((step : Step) → ¬ IsStep text step))
+pub no_step_or_none : (text word rest : List ℕ) → CutAt text 32 word rest → (r : Result IdStep LineFault) → IfErr r (IsLineFaultOf ((step : Step) → ¬ WordAndRest word rest step)) →
+    IfErr r (IsLineFaultOf ((step : Step) → ¬ IsStep text step))
 no_step_or_none text word rest cut (Ok step) fault = tt
 no_step_or_none text word rest cut (Err why) fault = fault_of_whole {part = (step : Step) → ¬ WordAndRest word rest step} (λ none step is. none step (step_worded text word rest step cut is)) why fault
 
@@ -238,5 +238,5 @@ pub one_step : (text : List ℕ) (s t : Step) → IsStep text s → IsStep text 
 one_step text s t a b =
     let h = step_parts text s a in
     let k = step_parts text t b in
-    let same = one_cut text 32 (word_of s) (word_of t) h.rest k.rest h.cut k.cut in
+    let same = one_cut text 32 (step_word s) (step_word t) h.rest k.rest h.cut k.cut in
     one_behind k.rest s t (same_kind s t same.0) (subst (λ r. Behind r s) same.1 h.behind) k.behind

@@ -1,17 +1,16 @@
 -- The lines of a proof-term file, one case a form.
-use Rattle.std.specs.Prelude.{◌≡◌, ℕ, ◌≤◌, IsTrue, List, ◌∷◌, ◌++◌, length, codes, Some}
+use Rattle.std.specs.Prelude.{ℕ, ◌≤◌, IsTrue, List, ◌∷◌, ◌++◌, length, codes}
 use Rattle.std.specs.List.{list_all}
 use Rattle.dlk_tree.specs.Names.{is_between, is_name}
 use Rattle.dlk_tree.specs.Trees.{Tree}
 use Rattle.dlk_calculus.specs.Sequents.{Sequent}
-use Rattle.dlk_calculus.specs.Rules.{Rule}
+use Rattle.dlk_calculus.specs.Rules.{Rule, Arguments, OnePlace, TwoPlaces, PlaceAndFormula, OneFormula, PlaceAndName, word_of, arguments_of}
 use Rattle.dlk_calculus.specs.Pairs.{Pair}
 use Rattle.dlk_calculus.specs.Steps.{Step, Start, UseAxiom, UseRule, Leaf, Apply, Merge, Substitute, Rename}
 use Rattle.dlk_grammar.specs.declared.token.Form.TheVariants.{Formula}
 use Rattle.dlk_grammar.specs.declared.token.Dots.TheVariants.{Refused}
 use Rattle.dlk_grammar.specs.Tokens.{is_digit, value}
 use Rattle.dlk_grammar.specs.Texts.{TreeText, SequentText, PairsText}
-use Rattle.dlk_termtext.specs.Words.{Template, Place, TwoPlaces, PlaceAndName, PlaceAndFormula, OneFormula, template_of}
 
 -- what a line says
 pub data Line : Type 0 where
@@ -29,19 +28,17 @@ pub data IsNumber : List ℕ → ℕ → Type 0 where
 abbrev pub IsFormulaText : List ℕ → Tree → Type 0
 IsFormulaText text h = TreeText Formula Refused text h
 
--- IsArguments template text rule: what stands in the brackets behind the word of the template, and the rule that it makes
-pub data IsArguments : Template → List ℕ → Rule → Type 0 where
-  place : {i : List ℕ} {at : ℕ} {rule : ℕ → Rule} → IsNumber i at → IsArguments (Place rule) i (rule at)
-  two_places : {i k : List ℕ} {first second : ℕ} {rule : ℕ → ℕ → Rule} → IsNumber i first → IsNumber k second → IsArguments (TwoPlaces rule) (i ++ codes "," ++ k) (rule first second)
-  place_and_name : {i : List ℕ} {at : ℕ} {rule : ℕ → List ℕ → Rule} (y : List ℕ) → IsNumber i at → IsTrue (is_name y) → IsArguments (PlaceAndName rule) (i ++ codes "," ++ y) (rule at y)
-  place_and_formula : {i text : List ℕ} {at : ℕ} {h : Tree} {rule : ℕ → Tree → Rule} → IsNumber i at → IsFormulaText text h →
-      IsArguments (PlaceAndFormula rule) (i ++ codes "," ++ text) (rule at h)
-  one_formula : {text : List ℕ} {h : Tree} {rule : Tree → Rule} → IsFormulaText text h → IsArguments (OneFormula rule) text (rule h)
+-- IsArguments text arguments: what stands in the brackets behind the word of a rule
+pub data IsArguments : List ℕ → Arguments → Type 0 where
+  one_place : {i : List ℕ} {at : ℕ} → IsNumber i at → IsArguments i (OnePlace at)
+  two_places : {i k : List ℕ} {first second : ℕ} → IsNumber i first → IsNumber k second → IsArguments (i ++ codes "," ++ k) (TwoPlaces first second)
+  place_and_formula : {i text : List ℕ} {at : ℕ} {h : Tree} → IsNumber i at → IsFormulaText text h → IsArguments (i ++ codes "," ++ text) (PlaceAndFormula at h)
+  one_formula : {text : List ℕ} {h : Tree} → IsFormulaText text h → IsArguments text (OneFormula h)
+  place_and_name : {i : List ℕ} {at : ℕ} (y : List ℕ) → IsNumber i at → IsTrue (is_name y) → IsArguments (i ++ codes "," ++ y) (PlaceAndName at y)
 
 -- IsRule text rule: the word of the rule, and its arguments in brackets
 pub data IsRule : List ℕ → Rule → Type 0 where
-  rule : {arguments : List ℕ} {template : Template} {made : Rule} (word : List ℕ) → template_of word ≡ Some template → IsArguments template arguments made →
-      IsRule (word ++ codes "(" ++ arguments ++ codes ")") made
+  rule : {arguments : List ℕ} (made : Rule) → IsArguments arguments (arguments_of made) → IsRule (word_of made ++ codes "(" ++ arguments ++ codes ")") made
 
 -- IsStep text step: the word of the step, and what it wants behind it
 pub data IsStep : List ℕ → Step → Type 0 where

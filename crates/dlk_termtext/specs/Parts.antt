@@ -1,13 +1,12 @@
 -- The parts of a line, from the front on.
-use Rattle.std.specs.Prelude.{◌≡◌, ℕ, ◌==◌, IsTrue, Bool, not, List, ◌∷◌, ◌++◌, codes, Some}
+use Rattle.std.specs.Prelude.{◌≡◌, ℕ, ◌==◌, IsTrue, not, List, ◌∷◌, ◌++◌, codes}
 use Rattle.std.specs.List.{list_all}
 use Rattle.dlk_tree.specs.Names.{is_name}
 use Rattle.dlk_calculus.specs.Pairs.{Pair}
 use Rattle.dlk_calculus.specs.Rules.{Rule}
 use Rattle.dlk_calculus.specs.Steps.{Step, Start, UseAxiom, UseRule, Leaf, Apply, Merge, Substitute, Rename}
 use Rattle.dlk_grammar.specs.Texts.{SequentText, PairsText}
-use Rattle.dlk_termtext.specs.Words.{Template, template_of}
-use Rattle.dlk_termtext.specs.Lines.{IsNumber, IsArguments, IsRule}
+use Rattle.dlk_termtext.specs.Lines.{IsNumber, IsRule}
 
 -- no byte of the text is this one
 abbrev pub Lacks : List ℕ → ℕ → Type 0
@@ -28,13 +27,6 @@ pub record NumberThen (text : List ℕ) (stop n : ℕ) (rest : List ℕ) : Type 
 pub record Bracketed (text word arguments : List ℕ) : Type 0 where
   pub text_is : text ≡ word ++ codes "(" ++ arguments ++ codes ")"
   pub first : Lacks word 40
-
--- a rule of this kind, with its arguments
-pub record IsCall (kind : Template → Bool) (word arguments : List ℕ) (rule : Rule) : Type 0 where
-  pub template : Template
-  pub is_word : template_of word ≡ Some template
-  pub is_kind : IsTrue (kind template)
-  pub are_arguments : IsArguments template arguments rule
 
 -- a fact and a goal, each with a space behind it, and what comes then
 pub record FactGoal (text : List ℕ) (fact goal : ℕ) (rest : List ℕ) : Type 0 where
@@ -69,15 +61,15 @@ pub record FactNames (text : List ℕ) (fact : ℕ) (x y : List ℕ) : Type 0 wh
   pub names_are : behind_fact ≡ x ++ codes " " ++ y
 
 -- the word of a step
-abbrev pub word_of : Step → List ℕ
-word_of (Start s) = codes "start"
-word_of (UseAxiom name) = codes "axiom"
-word_of (UseRule name) = codes "rule"
-word_of (Leaf s) = codes "leaf"
-word_of (Apply fact goal rule) = codes "apply"
-word_of (Merge fact goal by) = codes "merge"
-word_of (Substitute fact pairs) = codes "subst"
-word_of (Rename fact x y) = codes "rename"
+abbrev pub step_word : Step → List ℕ
+step_word (Start s) = codes "start"
+step_word (UseAxiom name) = codes "axiom"
+step_word (UseRule name) = codes "rule"
+step_word (Leaf s) = codes "leaf"
+step_word (Apply fact goal rule) = codes "apply"
+step_word (Merge fact goal by) = codes "merge"
+step_word (Substitute fact pairs) = codes "subst"
+step_word (Rename fact x y) = codes "rename"
 
 -- what stands behind the word of a step and a space
 abbrev pub Behind : List ℕ → Step → Type 0
@@ -92,5 +84,5 @@ Behind rest (Rename fact x y) = FactNames rest fact x y
 
 -- the word of a step, and what stands behind it
 pub record WordAndRest (word rest : List ℕ) (step : Step) : Type 0 where
-  pub word_is : word ≡ word_of step
+  pub word_is : word ≡ step_word step
   pub behind : Behind rest step

@@ -25,9 +25,9 @@ LineIsKnown trees (line.Step number step) = HasKnownIds trees step
 LineIsKnown trees line.Done = Unit {0}
 
 -- The error tells that this holds; want of memory is free.
-abbrev pub IsFaultOf : Type 0 → LineFault → Type 0
-IsFaultOf holds fault.Malformed = holds
-IsFaultOf holds fault.Memory = Unit {0}
+abbrev pub IsLineFaultOf : Type 0 → LineFault → Type 0
+IsLineFaultOf holds fault.Malformed = holds
+IsLineFaultOf holds fault.Memory = Unit {0}
 
 -- tokens that are not read make their line Malformed
 abbrev pub of_parse : ParseFault → LineFault

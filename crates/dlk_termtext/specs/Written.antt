@@ -5,7 +5,7 @@ use Rattle.dlk_tree.specs.Names.{is_name}
 use Rattle.dlk_tree.specs.Trees.{Tree}
 use Rattle.dlk_calculus.specs.Pairs.{Pair}
 use Rattle.dlk_calculus.specs.Sequents.{Sequent, IsFormula, IsSequent}
-use Rattle.dlk_calculus.specs.Rules.{Rule, Close, CloseTrue, CloseFalse, NotL, NotR, AndL, AndR, OrL, OrR, ImplyL, ImplyR, EquivL, EquivR, Cut, CutL, CutR, HideL, HideR, CoHideR, ExchangeL, ExchangeR, SkolemL, SkolemR, BoundL, BoundR, EquivifyR, CommuteEquivL, CommuteEquivR}
+use Rattle.dlk_calculus.specs.Rules.{Rule, Arguments, OnePlace, TwoPlaces, PlaceAndFormula, OneFormula, PlaceAndName, word_of, arguments_of}
 use Rattle.dlk_calculus.specs.Steps.{Step, Start, UseAxiom, UseRule, Leaf, Apply, Merge, Substitute, Rename}
 use Rattle.dlk_grammar.specs.Shown.{spell, shown, shown_sequent}
 use Rattle.dlk_grammar.specs.Symbols.{shown_pairs}
@@ -28,36 +28,16 @@ sequent_text s = spell (shown_sequent s)
 abbrev pub pairs_text : List Pair → List ℕ
 pairs_text pairs = spell (shown_pairs pairs)
 
+abbrev pub arguments_text : Arguments → List ℕ
+arguments_text (OnePlace i) = decimal i
+arguments_text (TwoPlaces i k) = both (decimal i) (decimal k)
+arguments_text (PlaceAndFormula i h) = both (decimal i) (formula_text h)
+arguments_text (OneFormula h) = formula_text h
+arguments_text (PlaceAndName i y) = both (decimal i) y
+
 -- a rule by its word and its arguments
 abbrev pub rule_text : Rule → List ℕ
-rule_text (Close i j) = call (codes "close") (both (decimal i) (decimal j))
-rule_text (CloseTrue j) = call (codes "closeTrue") (decimal j)
-rule_text (CloseFalse i) = call (codes "closeFalse") (decimal i)
-rule_text (NotL i) = call (codes "notL") (decimal i)
-rule_text (NotR j) = call (codes "notR") (decimal j)
-rule_text (AndL i) = call (codes "andL") (decimal i)
-rule_text (AndR j) = call (codes "andR") (decimal j)
-rule_text (OrL i) = call (codes "orL") (decimal i)
-rule_text (OrR j) = call (codes "orR") (decimal j)
-rule_text (ImplyL i) = call (codes "implyL") (decimal i)
-rule_text (ImplyR j) = call (codes "implyR") (decimal j)
-rule_text (EquivL i) = call (codes "equivL") (decimal i)
-rule_text (EquivR j) = call (codes "equivR") (decimal j)
-rule_text (Cut h) = call (codes "cut") (formula_text h)
-rule_text (CutL i h) = call (codes "cutL") (both (decimal i) (formula_text h))
-rule_text (CutR j h) = call (codes "cutR") (both (decimal j) (formula_text h))
-rule_text (HideL i) = call (codes "hideL") (decimal i)
-rule_text (HideR j) = call (codes "hideR") (decimal j)
-rule_text (CoHideR j) = call (codes "coHideR") (decimal j)
-rule_text (ExchangeL i k) = call (codes "exchangeL") (both (decimal i) (decimal k))
-rule_text (ExchangeR j l) = call (codes "exchangeR") (both (decimal j) (decimal l))
-rule_text (SkolemL i) = call (codes "skolemL") (decimal i)
-rule_text (SkolemR j) = call (codes "skolemR") (decimal j)
-rule_text (BoundL i y) = call (codes "boundL") (both (decimal i) y)
-rule_text (BoundR j y) = call (codes "boundR") (both (decimal j) y)
-rule_text (EquivifyR j) = call (codes "equivifyR") (decimal j)
-rule_text (CommuteEquivL i) = call (codes "commuteEquivL") (decimal i)
-rule_text (CommuteEquivR j) = call (codes "commuteEquivR") (decimal j)
+rule_text rule = call (word_of rule) (arguments_text (arguments_of rule))
 
 -- a step by its word and what it wants behind it
 abbrev pub step_text : Step → List ℕ
@@ -93,35 +73,15 @@ pub record IsReadableSequent (s : Sequent) : Type 0 where
   pub succ : All IsWithinLimits s.succ
 
 -- the places, the formula and the name of a rule are read
+abbrev pub AreWritable : Arguments → Type 0
+AreWritable (OnePlace i) = IsLineNumber i
+AreWritable (TwoPlaces i k) = IsLineNumber i × IsLineNumber k
+AreWritable (PlaceAndFormula i h) = IsLineNumber i × IsReadableFormula h
+AreWritable (OneFormula h) = IsReadableFormula h
+AreWritable (PlaceAndName i y) = IsLineNumber i × IsTrue (is_name y)
+
 abbrev pub IsWritableRule : Rule → Type 0
-IsWritableRule (Close i j) = IsLineNumber i × IsLineNumber j
-IsWritableRule (CloseTrue j) = IsLineNumber j
-IsWritableRule (CloseFalse i) = IsLineNumber i
-IsWritableRule (NotL i) = IsLineNumber i
-IsWritableRule (NotR j) = IsLineNumber j
-IsWritableRule (AndL i) = IsLineNumber i
-IsWritableRule (AndR j) = IsLineNumber j
-IsWritableRule (OrL i) = IsLineNumber i
-IsWritableRule (OrR j) = IsLineNumber j
-IsWritableRule (ImplyL i) = IsLineNumber i
-IsWritableRule (ImplyR j) = IsLineNumber j
-IsWritableRule (EquivL i) = IsLineNumber i
-IsWritableRule (EquivR j) = IsLineNumber j
-IsWritableRule (Cut h) = IsReadableFormula h
-IsWritableRule (CutL i h) = IsLineNumber i × IsReadableFormula h
-IsWritableRule (CutR j h) = IsLineNumber j × IsReadableFormula h
-IsWritableRule (HideL i) = IsLineNumber i
-IsWritableRule (HideR j) = IsLineNumber j
-IsWritableRule (CoHideR j) = IsLineNumber j
-IsWritableRule (ExchangeL i k) = IsLineNumber i × IsLineNumber k
-IsWritableRule (ExchangeR j l) = IsLineNumber j × IsLineNumber l
-IsWritableRule (SkolemL i) = IsLineNumber i
-IsWritableRule (SkolemR j) = IsLineNumber j
-IsWritableRule (BoundL i y) = IsLineNumber i × IsTrue (is_name y)
-IsWritableRule (BoundR j y) = IsLineNumber j × IsTrue (is_name y)
-IsWritableRule (EquivifyR j) = IsLineNumber j
-IsWritableRule (CommuteEquivL i) = IsLineNumber i
-IsWritableRule (CommuteEquivR j) = IsLineNumber j
+IsWritableRule rule = AreWritable (arguments_of rule)
 
 -- the numbers, the formulas and the names of a step are read
 abbrev pub IsWritable : Step → Type 0

@@ -10,7 +10,6 @@ mod parts;
 mod reading;
 mod rule;
 mod step;
-mod words;
 mod writing;
 mod writing_rule;
 

@@ -1,7 +1,7 @@
 //! Lines of bytes.
 ghost use Rattle.std.specs.Prelude.{IfOk, IfErr};
 ghost use Rattle.dlk_termtext.specs.Lines.{Line as TreeLine, IsLine};
-ghost use Rattle.dlk_termtext.specs.Read.{line_at, LineIsKnown, IsFaultOf};
+ghost use Rattle.dlk_termtext.specs.Read.{line_at, LineIsKnown, IsLineFaultOf};
 
 use crate::line::{Line, LineFault};
 use crate::number::number_before;
@@ -16,7 +16,7 @@ use std::alloc::Global;
 pub fn read_line<S: Store>(alloc: Global, line: &[u8], store: &mut S) -> Result<Line, LineFault>
     ensures found { IfOk result (λ l. IsLine line.now (line_at (S.trees store.new) l)) }
     ensures known { IfOk result (LineIsKnown (S.trees store.new)) }
-    ensures fault { IfErr result (IsFaultOf ((l : TreeLine) → ¬ IsLine line.now l)) }
+    ensures fault { IfErr result (IsLineFaultOf ((l : TreeLine) → ¬ IsLine line.now l)) }
     ensures grows { S.grows store.old store.new }
 {
     if line == b"done".as_slice() {

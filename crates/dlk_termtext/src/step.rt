@@ -7,7 +7,7 @@ ghost use Rattle.dlk_sequent.specs.Substitutions.{pairs_at, AreKnownPairs};
 ghost use Rattle.dlk_rules.specs.Steps.{rule_at, RuleIsKnown, step_at, HasKnownIds};
 ghost use Rattle.dlk_termtext.specs.Lines.{IsStep};
 ghost use Rattle.dlk_termtext.specs.Parts.{FactGoal, FactGoalRule, FactGoalFact, FactPairs, FactNames, WordAndRest};
-ghost use Rattle.dlk_termtext.specs.Read.{IsFaultOf};
+ghost use Rattle.dlk_termtext.specs.Read.{IsLineFaultOf};
 
 use crate::arguments::{name, sequent, substitution};
 use crate::line::LineFault;
@@ -28,7 +28,7 @@ pub(crate) fn read_step<S: Store>(
 ) -> Result<Step, LineFault>
     ensures found { IfOk result (λ step. IsStep text.now (step_at (S.trees store.new) step)) }
     ensures known { IfOk result (HasKnownIds (S.trees store.new)) }
-    ensures fault { IfErr result (IsFaultOf ((step : TreeStep) → ¬ IsStep text.now step)) }
+    ensures fault { IfErr result (IsLineFaultOf ((step : TreeStep) → ¬ IsStep text.now step)) }
     ensures grows { S.grows store.old store.new }
 {
     let Some((word, rest)) = cut_at(text, b' ') else {
@@ -49,7 +49,7 @@ fn step_of_word<S: Store>(
 ) -> Result<Step, LineFault>
     ensures found { IfOk result (λ step. WordAndRest word.now rest.now (step_at (S.trees store.new) step)) }
     ensures known { IfOk result (HasKnownIds (S.trees store.new)) }
-    ensures fault { IfErr result (IsFaultOf ((step : TreeStep) → ¬ WordAndRest word.now rest.now step)) }
+    ensures fault { IfErr result (IsLineFaultOf ((step : TreeStep) → ¬ WordAndRest word.now rest.now step)) }
     ensures grows { S.grows store.old store.new }
 {
     match word {
@@ -97,7 +97,7 @@ fn read_apply<S: Store>(
 ) -> Result<(u32, u32, Rule), LineFault>
     ensures found { IfOk result (λ p. FactGoalRule text.now p.0 p.1 (rule_at (S.trees store.new) p.2)) }
     ensures known { IfOk result (λ p. RuleIsKnown (S.trees store.new) p.2) }
-    ensures fault { IfErr result (IsFaultOf ((fact goal : ℕ) (rule : TreeRule) → ¬ FactGoalRule text.now fact goal rule)) }
+    ensures fault { IfErr result (IsLineFaultOf ((fact goal : ℕ) (rule : TreeRule) → ¬ FactGoalRule text.now fact goal rule)) }
     ensures grows { S.grows store.old store.new }
 {
     let Some((fact, goal, rest)) = fact_and_goal(text) else {
@@ -125,7 +125,7 @@ fn read_subst<S: Store>(
 ) -> Result<(u32, Listed<Pair>), LineFault>
     ensures found { IfOk result (λ p. FactPairs text.now p.0 (pairs_at (S.trees store.new) p.1)) }
     ensures known { IfOk result (λ p. AreKnownPairs (S.trees store.new) p.1) }
-    ensures fault { IfErr result (IsFaultOf ((fact : ℕ) (pairs : List TreePair) → ¬ FactPairs text.now fact pairs)) }
+    ensures fault { IfErr result (IsLineFaultOf ((fact : ℕ) (pairs : List TreePair) → ¬ FactPairs text.now fact pairs)) }
     ensures grows { S.grows store.old store.new }
 {
     let Some((fact, rest)) = number_before(text, b' ') else {
@@ -138,7 +138,7 @@ fn read_subst<S: Store>(
 /// A fact and two names.
 fn read_rename(alloc: Global, text: &[u8]) -> Result<(u32, Name, Name), LineFault>
     ensures found { IfOk result (λ p. FactNames text.now p.0 p.1 p.2) }
-    ensures fault { IfErr result (IsFaultOf ((fact : ℕ) (x y : List ℕ) → ¬ FactNames text.now fact x y)) }
+    ensures fault { IfErr result (IsLineFaultOf ((fact : ℕ) (x y : List ℕ) → ¬ FactNames text.now fact x y)) }
 {
     let Some((fact, names)) = number_before(text, b' ') else {
         return Err(LineFault::Malformed);

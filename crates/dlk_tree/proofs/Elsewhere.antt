@@ -129,6 +129,7 @@ module _ (v w : Var) where
     statics_alike Op'.Dia hv hw = record { free = in_turn_alike kids h; bound = bound_in_kids_alike kids h; must = refl }
     statics_alike (Op'.Const s) hv hw = record { free = refl; bound = refl; must = refl }
     statics_alike (Op'.Assign u) hv hw = record { free = free_in_kids_alike kids h; bound = just_alike u hv hw; must = just_alike u hv hw }
+    statics_alike (Op'.Any x) hv hw = record { free = refl; bound = just_alike (plain x) hv hw; must = just_alike (plain x) hv hw }
     statics_alike Op'.Test hv hw = record { free = free_in_kids_alike kids h; bound = refl; must = refl }
     statics_alike (Op'.System items) hv hw = record {
       free = λ i. items_alike free_in_item free_in_item_alike items hv hw i || free_in_kids_alike kids h i;

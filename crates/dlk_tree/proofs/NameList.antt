@@ -36,6 +36,7 @@ op_names (Op'.UnitPred s) = taboo_names s.taboo
 op_names (Op'.Forall x) = x ∷ []
 op_names (Op'.Exists x) = x ∷ []
 op_names (Op'.Assign v) = v.name ∷ []
+op_names (Op'.Any x) = x ∷ []
 op_names (Op'.System items) = items_names items
 op_names _ = []
 
@@ -74,6 +75,7 @@ module _ (test : List ℕ → Bool) where
   op_listed (Op'.Forall x) = one_listed x
   op_listed (Op'.Exists x) = one_listed x
   op_listed (Op'.Assign v) = one_listed v.name
+  op_listed (Op'.Any x) = one_listed x
   op_listed (Op'.System items) = items_listed items
   op_listed _ = refl
 
@@ -118,6 +120,7 @@ op_real (Op'.UnitPred s) h = sym_real UnitPred s h
 op_real (Op'.Forall x) h = one_real x h
 op_real (Op'.Exists x) h = one_real x h
 op_real (Op'.Assign v) h = one_real v.name h
+op_real (Op'.Any x) h = one_real x h
 op_real (Op'.System items) h =
     let p = and_parts _ _ h in
     items_real items (and_parts _ _ p.0).1

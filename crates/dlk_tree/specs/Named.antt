@@ -27,6 +27,7 @@ any_name test (Op'.UnitPred s) = any_taboo test s.taboo
 any_name test (Op'.Forall x) = test x
 any_name test (Op'.Exists x) = test x
 any_name test (Op'.Assign v) = test v.name
+any_name test (Op'.Any x) = test x
 any_name test (Op'.System items) = list_any (any_item_name test) items
 any_name test _ = false
 

@@ -62,6 +62,7 @@ symbols_of Op'.Box = []
 symbols_of Op'.Dia = []
 symbols_of (Op'.Const s) = s ∷ []
 symbols_of (Op'.Assign v) = []
+symbols_of (Op'.Any x) = []
 symbols_of Op'.Test = []
 symbols_of (Op'.System items) = constants items
 symbols_of Op'.Choice = []

@@ -154,6 +154,7 @@ statics Op'.Box kids = sets_are (free_in_turn kids) (bound_in_kids kids) none
 statics Op'.Dia kids = sets_are (free_in_turn kids) (bound_in_kids kids) none
 statics (Op'.Const s) kids = sets_are all all none
 statics (Op'.Assign v) kids = sets_are (free_in_kids kids) (just v) (just v)
+statics (Op'.Any x) kids = sets_are none (just (plain x)) (just (plain x))
 statics Op'.Test kids = sets_are (free_in_kids kids) none none
 statics (Op'.System items) kids = sets_are (either (free_in_items items) (free_in_kids kids)) (bound_in_items items) (must_in_items items)
 statics Op'.Choice kids = sets_are (free_in_kids kids) (bound_in_kids kids) (must_in_both kids)

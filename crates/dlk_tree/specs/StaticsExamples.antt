@@ -36,6 +36,32 @@ loop_not_must_y = refl
 loop_none_free : (x : List ℕ) → free (node Op'.Loop (kid choice no_kids)) (plain x) ≡ false
 loop_none_free x = refl
 
+-- x:=*;
+abbrev anything : Tree
+anything = node (Op'.Any (codes "x")) no_kids
+
+any_none_free : (x : List ℕ) → free anything (plain x) ≡ false
+any_none_free x = refl
+
+any_bound_x : bound anything (plain (codes "x")) ≡ true
+any_bound_x = refl
+
+any_must_x : must anything (plain (codes "x")) ≡ true
+any_must_x = refl
+
+any_not_bound_x' : bound anything (prime (codes "x")) ≡ false
+any_not_bound_x' = refl
+
+-- x isn't free in [x:=*;]x>=1, and in [y:=*;]x>=1 it is
+abbrev behind_any : List ℕ → Tree
+behind_any y = node Op'.Box (two (node (Op'.Any y) no_kids) (node Op'.Ge (two (node (Op'.Variable (plain (codes "x"))) no_kids) (num 1))))
+
+any_covers_x : free (behind_any (codes "x")) (plain (codes "x")) ≡ false
+any_covers_x = refl
+
+any_leaves_x : free (behind_any (codes "y")) (plain (codes "x")) ≡ true
+any_leaves_x = refl
+
 -- [{c{|y|}&p(|y|)}]q()
 abbrev c_ode : Sym
 c_ode = record { kind = Ode; name = codes "c"; arity = 0; taboo = Some (codes "y") }

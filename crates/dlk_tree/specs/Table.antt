@@ -1,5 +1,5 @@
--- The table of operators: the sort of each, and the sorts of its kids.
-use Rattle.std.specs.Prelude.{◌≡◌, ℕ, ◌^◌, ◌%◌, List, [], ◌∷◌, ◌++◌, replicate, length, Bool, true, false, ◌&&◌, ◌||◌, not, nat_le, nat_lt, ◌==◌, IsTrue, Option, Some, None, is_none}
+-- The table of kinds of symbols, and that of operators: the sort of each, and the sorts of its kids.
+use Rattle.std.specs.Prelude.{◌≡◌, ℕ, ◌^◌, ◌%◌, List, [], ◌∷◌, ◌++◌, replicate, length, Bool, true, false, ◌&&◌, ◌||◌, not, nat_le, nat_lt, ◌==◌, if◌then◌else◌, IsTrue, Option, Some, None, is_none}
 use Rattle.std.specs.List.{list_all, list_any}
 use Rattle.std.specs.Str.{bytes_eq}
 use Rattle.dlk_tree.specs.Names.{is_name}
@@ -8,6 +8,7 @@ use Rattle.dlk_tree.specs.declared.op.Sym.{Sym}
 use Rattle.dlk_tree.specs.declared.op.Num.{Num}
 use Rattle.dlk_tree.specs.declared.op.Kind.{Kind}
 use Rattle.dlk_tree.specs.declared.op.Kind.TheVariants.{Func, UnitFunc, Pred, UnitPred, Quant, Prog, Ode}
+use Rattle.dlk_tree.specs.declared.op.KindRow.{KindRow}
 use Rattle.dlk_tree.specs.declared.op.Sort.{Sort}
 use Rattle.dlk_tree.specs.declared.op.Sort.TheVariants.{Term, Formula, Program}
 use Rattle.dlk_tree.specs.declared.op.OdeItem.{OdeItem}
@@ -21,37 +22,26 @@ evolved [] = []
 evolved (Item.Evolve x ∷ items) = x ∷ evolved items
 evolved (Item.Const s ∷ items) = evolved items
 
-abbrev pub is_term : Sort → Bool
-is_term Term = true
-is_term Formula = false
-is_term Program = false
-
 abbrev pub taboo_is_name : Option (List ℕ) → Bool
 taboo_is_name None = true
 taboo_is_name (Some y) = is_name y
 
--- how many arguments a symbol of this kind may have
-abbrev pub has_arity : Kind → ℕ → Bool
-has_arity Func n = nat_le n 8
-has_arity UnitFunc n = n == 0
-has_arity Pred n = nat_le n 8
-has_arity UnitPred n = n == 0
-has_arity Quant n = n == 0
-has_arity Prog n = n == 0
-has_arity Ode n = n == 0
+-- the table of kinds of symbols
+abbrev pub kind_row : Kind → KindRow
+kind_row Func = record { sort = Term; arguments = true; taboo = false; hole = false }
+kind_row UnitFunc = record { sort = Term; arguments = false; taboo = true; hole = false }
+kind_row Pred = record { sort = Formula; arguments = true; taboo = false; hole = false }
+kind_row UnitPred = record { sort = Formula; arguments = false; taboo = true; hole = false }
+kind_row Quant = record { sort = Formula; arguments = false; taboo = false; hole = true }
+kind_row Prog = record { sort = Program; arguments = false; taboo = false; hole = false }
+kind_row Ode = record { sort = Program; arguments = false; taboo = true; hole = false }
 
--- which kinds of symbols may have a taboo
-abbrev pub may_have_taboo : Kind → Bool
-may_have_taboo Func = false
-may_have_taboo UnitFunc = true
-may_have_taboo Pred = false
-may_have_taboo UnitPred = true
-may_have_taboo Quant = false
-may_have_taboo Prog = false
-may_have_taboo Ode = true
+-- how many arguments a symbol of this kind may have: up to 8, or none
+abbrev pub has_arity : Kind → ℕ → Bool
+has_arity kind n = if (kind_row kind).arguments then nat_le n 8 else n == 0
 
 abbrev pub is_sym : Sym → Bool
-is_sym s = is_name s.name && has_arity s.kind s.arity && taboo_is_name s.taboo && (is_none s.taboo || may_have_taboo s.kind)
+is_sym s = is_name s.name && has_arity s.kind s.arity && taboo_is_name s.taboo && (is_none s.taboo || (kind_row s.kind).taboo)
 
 abbrev pub is_sym_of : Kind → Sym → Bool
 is_sym_of kind s = kind_rank s.kind == kind_rank kind && is_sym s
@@ -125,6 +115,7 @@ row Op'.Box = formula (Program ∷ Formula ∷ []) true
 row Op'.Dia = formula (Program ∷ Formula ∷ []) true
 row (Op'.Const s) = program [] (is_sym_of Prog s)
 row (Op'.Assign v) = program (Term ∷ []) (is_name v.name)
+row (Op'.Any x) = program [] (is_name x)
 row Op'.Test = program (Formula ∷ []) true
 row (Op'.System items) = program (replicate (length (evolved items)) Term ++ Formula ∷ []) (are_items items)
 row Op'.Choice = program (Program ∷ Program ∷ []) true

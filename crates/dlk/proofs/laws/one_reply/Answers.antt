@@ -1,4 +1,4 @@
-use Rattle.dlk.proofs.OneReply.{one_reply}
+use Rattle.dlk.proofs.OneAnswer.{one_reply}
 use Rattle.dlk.proofs.laws.one_reply.Goals as goal
 
 pub returns : goal.returns

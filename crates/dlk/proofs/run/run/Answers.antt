@@ -1,18 +1,61 @@
-use Rattle.std.proofs.Common.{rules, map, string_bytes}
-use Rattle.dlk.specs.Shown.{reply_of}
-use Rattle.dlk.proofs.Truly.{reply_truly}
+use Rattle.std.proofs.Common.{◌++◌, List, ℕ, map, string_bytes, option_copied, refl, sym, ap, subst, ◌∙◌, inl, inr}
+use Rattle.dlk_answers.specs.Shown.{reply_of}
+use Rattle.dlk.specs.Headline.{ClosedTruly, JudgesTruly}
+use Rattle.dlk.proofs.Truly.{whole_truly, front_truly}
 use Rattle.dlk.proofs.Judged.{answer_judges}
+use Rattle.dlk.proofs.Ran.{breaks_off, grows_from, asks_given}
 use Rattle.dlk.proofs.run.run.Goals as goal
 
-pub returns-in-Ok-print_all-clause-closed_truly : goal.returns-in-Ok-print_all-clause-closed_truly
-returns-in-Ok-print_all-clause-closed_truly g c = λ told.
-    reply_truly (map string_bytes c.args.words.now) (g.D.Desk.outside c.args.desk.now) (g.D.Desk.outside c.print_all.new.desk) (reply_of c.in-Ok.reply) (search rules) (search rules)
+pub returns-in-Ok-give-clause-closed_truly : goal.returns-in-Ok-give-clause-closed_truly
+returns-in-Ok-give-clause-closed_truly g c = λ t.
+    let words = map string_bytes c.args.words.now in
+    let old = g.D.Desk.outside c.args.desk.now in
+    let new = g.D.Desk.outside c.give.new.desk in
+    let reply = reply_of c.in-Ok.reply in
+    let printed = c.in-Ok-give.ensures.printed t ∙ ap (λ (l : List ℕ). l ++ reply.printed) (c.in-Ok.ensures.only.printed t) in
+    subst (λ status. ClosedTruly words status old new) (sym c.code.ensures) (whole_truly words old new reply (c.in-Ok.ensures.ok t) printed)
 
-pub returns-in-Ok-print_all-clause-judges_truly : goal.returns-in-Ok-print_all-clause-judges_truly
-returns-in-Ok-print_all-clause-judges_truly g c = λ told.
-    let judges = answer_judges (map string_bytes c.args.words.now) (g.D.Desk.outside c.args.desk.now) (g.D.Desk.outside c.print_all.new.desk) (reply_of c.in-Ok.reply) (search rules) (search rules) in
-    rw c.code.ensures judges
+pub returns-in-Ok-give-clause-judges_truly : goal.returns-in-Ok-give-clause-judges_truly
+returns-in-Ok-give-clause-judges_truly g c = λ t.
+    let words = map string_bytes c.args.words.now in
+    let old = g.D.Desk.outside c.args.desk.now in
+    let new = g.D.Desk.outside c.give.new.desk in
+    let reply = reply_of c.in-Ok.reply in
+    let printed = c.in-Ok-give.ensures.printed t ∙ ap (λ (l : List ℕ). l ++ reply.printed) (c.in-Ok.ensures.only.printed t) in
+    subst (λ status. JudgesTruly words status old new) (sym c.code.ensures) (answer_judges words old new reply (c.in-Ok.ensures.ok t) printed)
+
+pub returns-in-Ok-give-clause-asks : goal.returns-in-Ok-give-clause-asks
+returns-in-Ok-give-clause-asks g c =
+    asks_given g.D.Desk.tells (map string_bytes c.args.words.now) c.code.result (g.D.Desk.outside c.args.desk.now) (g.D.Desk.outside c.work.new.desk) (g.D.Desk.outside c.give.new.desk)
+    c.in-Ok.ensures.asks c.in-Ok.ensures.all c.give.ensures.only
 
 pub returns-clause-closed_truly : goal.returns-clause-closed_truly
-returns-clause-closed_truly g c = λ told.
-    reply_truly (map string_bytes c.args.words.now) (g.D.Desk.outside c.args.desk.now) (g.D.Desk.outside c.print_all.new.desk) (reply_of c.in-Ok.reply) (search rules) (search rules)
+returns-clause-closed_truly g c = λ t.
+    let old = g.D.Desk.outside c.args.desk.now in
+    let mid = g.D.Desk.outside c.work.new.desk in
+    let new = g.D.Desk.outside c.give.new.desk in
+    let reply = reply_of c.in-Ok.reply in
+    front_truly (map string_bytes c.args.words.now) old new reply (c.in-Ok.ensures.ok t)
+    (grows_from old.printed mid.printed new.printed reply.printed (c.in-Ok.ensures.only.printed t) (c.give.ensures.front t))
+
+pub returns-clause-asks : goal.returns-clause-asks
+returns-clause-asks g c =
+    asks_given g.D.Desk.tells (map string_bytes c.args.words.now) 5 (g.D.Desk.outside c.args.desk.now) (g.D.Desk.outside c.work.new.desk) (g.D.Desk.outside c.give.new.desk)
+    c.in-Ok.ensures.asks c.in-Ok.ensures.all c.give.ensures.only
+
+pub returns-clause-answered : goal.returns-clause-answered
+returns-clause-answered g c = λ t has.
+    let old = g.D.Desk.outside c.args.desk.now in
+    let mid = g.D.Desk.outside c.work.new.desk in
+    let new = g.D.Desk.outside c.give.new.desk in
+    let reply = reply_of c.in-Ok.reply in
+    let given = c.give.ensures in
+    let reads = c.in-Ok.ensures.only in
+    inr (inr (inl (
+      refl,
+      (
+        reply,
+        breaks_off (map string_bytes c.args.words.now) old mid new reply (option_copied c.output.result) c.output.ensures
+            (c.in-Ok.ensures.ok t) (reads.files t) (reads.printed t) (given.part t) (given.front t) (given.file_first t),
+      ),
+    )))

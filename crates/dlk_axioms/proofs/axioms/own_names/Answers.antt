@@ -1,4 +1,4 @@
-use Rattle.dlk_axioms.proofs.Texts.{own_names_are_names}
+use Rattle.dlk_axioms.proofs.RowLaws.{own_names_are_names}
 use Rattle.dlk_axioms.proofs.axioms.own_names.Goals as goal
 
 pub names_of-requires : goal.names_of-requires

@@ -12,4 +12,5 @@ pub returns-clause-against : goal.returns-clause-against
 returns-clause-against c = verdict_cases
 
 pub returns-clause-limits : goal.returns-clause-limits
-returns-clause-limits c = λ rows step why limit f. limit_gives rows step why (elim (cases_lt 11 (rank why)) [ inl lt ↦ lt | inr le ↦ absurd (limit (omega (arith, le))) ]) f
+returns-clause-limits c = λ rows step why proper limit f.
+    limit_gives rows step why proper (elim (cases_lt 11 (rank why)) [ inl lt ↦ lt | inr le ↦ absurd (limit (omega (arith, le))) ]) f

@@ -1,8 +1,8 @@
 use Rattle.dlk_store.specs.declared.Id.{Id}
 use Rattle.dlk_sequent.proofs.Kept.{IsId-kept}
 use Rattle.dlk_sequent.proofs.KeptPairs.{IsMadeOver-kept}
-use Rattle.dlk_subst.specs.declared.fault.ApplyFault.TheVariants.{NotAdmissible}
-use Rattle.dlk_subst.proofs.Related.{handed_on}
+use Rattle.dlk_sequent.specs.declared.fault.ApplyFault.TheVariants.{NotAdmissible}
+use Rattle.dlk_subst.proofs.Results.{handed_on}
 use Rattle.dlk_kernel.proofs.Renamed.{one_more_known_id}
 use Rattle.dlk_kernel.proofs.Substituted.{no_id, one_more_id}
 use Rattle.dlk_kernel.proofs.substituting.subst_ids.Goals as goal

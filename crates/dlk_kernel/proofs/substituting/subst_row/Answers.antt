@@ -2,8 +2,8 @@ use Rattle.std.proofs.lemmas.List.Elements.{All-weaker}
 use Rattle.dlk_sequent.specs.Sequents.{IsKnown}
 use Rattle.dlk_sequent.proofs.Kept.{IsKnown-kept}
 use Rattle.dlk_sequent.proofs.KeptPairs.{IsMadeOver-kept}
-use Rattle.dlk_subst.specs.declared.fault.ApplyFault.TheVariants.{NotAdmissible}
-use Rattle.dlk_subst.proofs.Related.{handed_on}
+use Rattle.dlk_sequent.specs.declared.fault.ApplyFault.TheVariants.{NotAdmissible}
+use Rattle.dlk_subst.proofs.Results.{handed_on}
 use Rattle.dlk_kernel.proofs.Substituted.{no_goals, whole_row, whole_known}
 use Rattle.dlk_kernel.proofs.substituting.subst_row.Goals as goal
 

@@ -1,6 +1,6 @@
 use Rattle.dlk_sequent.proofs.KeptPairs.{IsMadeOver-kept}
-use Rattle.dlk_subst.specs.declared.fault.ApplyFault.TheVariants.{NotAdmissible}
-use Rattle.dlk_subst.proofs.Related.{handed_on}
+use Rattle.dlk_sequent.specs.declared.fault.ApplyFault.TheVariants.{NotAdmissible}
+use Rattle.dlk_subst.proofs.Results.{handed_on}
 use Rattle.dlk_kernel.proofs.Substituted.{no_succ, both_sides}
 use Rattle.dlk_kernel.proofs.substituting.subst_sequent.Goals as goal
 

@@ -1,7 +1,7 @@
 use Rattle.dlk_sequent.proofs.Kept.{IsKnown-kept}
 use Rattle.dlk_sequent.proofs.KeptPairs.{IsMadeOver-kept}
-use Rattle.dlk_subst.specs.declared.fault.ApplyFault.TheVariants.{NotAdmissible}
-use Rattle.dlk_subst.proofs.Related.{handed_on}
+use Rattle.dlk_sequent.specs.declared.fault.ApplyFault.TheVariants.{NotAdmissible}
+use Rattle.dlk_subst.proofs.Results.{handed_on}
 use Rattle.dlk_kernel.proofs.Renamed.{one_more_known}
 use Rattle.dlk_kernel.proofs.Substituted.{no_sequent, one_more_sequent}
 use Rattle.dlk_kernel.proofs.substituting.subst_sequents.Goals as goal

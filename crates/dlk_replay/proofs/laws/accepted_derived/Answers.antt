@@ -6,4 +6,4 @@ pub returns-clause-history : goal.returns-clause-history
 returns-clause-history c = accepted_history
 
 pub returns-clause-derived : goal.returns-clause-derived
-returns-clause-derived c = λ lines rows is. History-derives rows (accepted_history lines rows is)
+returns-clause-derived c = λ lines rows last is. History-derives rows (accepted_history lines rows last is)

@@ -67,8 +67,8 @@ returns-in-Done-clause-ok g c =
     let taken = rw c.in-Done.is at c.in_ok-take_line.ensures.taken in
     let count : length rows ≡ c.rows-rows.result = ap length (sym taken.1) ∙ length-map _ _ ∙ sym c.rows-rows.ensures.count in
     let none = no_lines_left c.first_line.result.1.now c.is_empty-in-Done.result c.is_empty-in-Done.ensures c.if-not-is_empty.false in
-    rw taken.1 (all_accepted (file_lines c.args.bytes.now) c.first_line.result.0.now rows
-    (rw (c.first_line.ensures.lines, none) at c.loop-left.invariant.reached) (omega (arith, count, c.if-rows-eq0.false)) taken.0)
+    rw taken.1 (all_accepted (file_lines c.args.bytes.now) c.first_line.result.0.now rows c.rows-rows.result
+    (rw (c.first_line.ensures.lines, none) at c.loop-left.invariant.reached) (omega (arith, count, c.if-rows-eq0.false)) taken.0 (sym count))
 
 pub returns-clause-bad : goal.returns-clause-bad
 returns-clause-bad g c =

@@ -11,6 +11,6 @@ returns-clause-made g c =
     let s = stands_kept (g.met.S.Store.grows_keeps c.args.store.now c.both_ways.new.store c.both_ways.ensures.grows) c.args.s.now c.requires in
     let there = stands_imply two.there m.f_stands.tree_is m.g_stands.tree_is in
     let back = stands_imply two.back m.g_stands.tree_is m.f_stands.tree_is in
-    made (EquivL c.args.i) old new c.args.s.now c.in_ok-one.field-0 m.place_is m.root_is tt tt
+    made (EquivL c.args.i) old new c.args.s.now c.in_ok-one.field-0 m.place_is (m.f, m.g) m.at tt tt
     (one_stands (left_last (left_put s there c.args.i) back)
     (rw (c.in_ok-push.ensures.ok, c.set.ensures, c.in_ok-premise.ensures) at c.in_ok-one.ensures))

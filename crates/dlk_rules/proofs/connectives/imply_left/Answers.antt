@@ -7,6 +7,6 @@ returns-clause-made g c =
     let trees = g.S.Store.trees c.args.store.now in
     let m = c.in_ok-f.ensures.ok in
     let s = stands_old trees c.args.s.now c.requires in
-    made (ImplyL c.args.i) trees trees c.args.s.now c.in_ok-two.field-0 m.place_is m.root_is tt tt
+    made (ImplyL c.args.i) trees trees c.args.s.now c.in_ok-two.field-0 m.place_is (m.f, m.g) m.at tt tt
     (two_stand (right_last (left_without s c.args.i) m.f_stands) (left_put s m.g_stands c.args.i)
     (rw (c.in_ok-push.ensures.ok, c.remove.ensures, c.set.ensures, c.in_ok-first.ensures, c.in_ok-second.ensures) at c.in_ok-two.ensures))

@@ -7,6 +7,6 @@ returns-clause-made g c =
     let trees = g.S.Store.trees c.args.store.now in
     let m = c.in_ok-f.ensures.ok in
     let s = stands_old trees c.args.s.now c.requires in
-    made (NotL c.args.i) trees trees c.args.s.now c.in_ok-one.field-0 m.place_is m.root_is tt tt
+    made (NotL c.args.i) trees trees c.args.s.now c.in_ok-one.field-0 m.place_is m.f m.at tt tt
     (one_stands (right_last (left_without s c.args.i) m.f_stands)
     (rw (c.in_ok-push.ensures.ok, c.remove.ensures, c.in_ok-premise.ensures) at c.in_ok-one.ensures))

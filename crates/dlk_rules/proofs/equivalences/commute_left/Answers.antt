@@ -9,6 +9,6 @@ returns-clause-made g c =
     let m = c.in_ok-f.ensures.ok in
     let s = stands_kept (g.met.S.Store.grows_keeps c.args.store.now c.equiv.new.store c.equiv.ensures.grows) c.args.s.now c.requires in
     let formula = stands_equiv c.in_ok-new.ensures.made m.g_stands.tree_is m.f_stands.tree_is in
-    made (CommuteEquivL c.args.i) old new c.args.s.now c.in_ok-one.field-0 m.place_is m.root_is tt tt
+    made (CommuteEquivL c.args.i) old new c.args.s.now c.in_ok-one.field-0 m.place_is (m.f, m.g) m.at tt tt
     (one_stands (left_put s formula c.args.i)
     (rw (c.set.ensures, c.in_ok-premise.ensures) at c.in_ok-one.ensures))

@@ -9,6 +9,6 @@ returns-clause-made g c =
     let m = c.in_ok-f.ensures.ok in
     let s = stands_kept (g.met.S.Store.grows_keeps c.args.store.now c.equiv.new.store c.equiv.ensures.grows) c.args.s.now c.requires in
     let formula = stands_equiv c.in_ok-new.ensures.made m.g_stands.tree_is m.f_stands.tree_is in
-    made (CommuteEquivR c.args.j) old new c.args.s.now c.in_ok-one.field-0 m.place_is m.root_is tt tt
+    made (CommuteEquivR c.args.j) old new c.args.s.now c.in_ok-one.field-0 m.place_is (m.f, m.g) m.at tt tt
     (one_stands (right_put s formula c.args.j)
     (rw (c.set.ensures, c.in_ok-premise.ensures) at c.in_ok-one.ensures))

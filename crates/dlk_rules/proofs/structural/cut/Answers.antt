@@ -7,6 +7,6 @@ returns-clause-made g c =
     let trees = g.S.Store.trees c.args.store.now in
     let s = stands_old trees c.args.s.now c.requires.known in
     let h = stands_itself trees c.args.h c.requires.formula in
-    made (Cut _) trees trees c.args.s.now c.in_ok-two.field-0 tt (c.is_formula.ensures.0 c.if-not-is_formula.false) tt tt
+    made (Cut _) trees trees c.args.s.now c.in_ok-two.field-0 tt tt (c.is_formula.ensures.0 c.if-not-is_formula.false) tt tt
     (two_stand (left_last s h) (right_last s h)
     (rw (c.in_ok-push.ensures.ok, c.in_ok-push-2.ensures.ok, c.in_ok-first.ensures, c.in_ok-second.ensures) at c.in_ok-two.ensures))

@@ -1,10 +1,8 @@
-use Rattle.std.proofs.Common.{◌≡◌}
-use Rattle.std.specs.Prelude.{All}
-use Rattle.dlk_tree.specs.Trees.{node, size}
-use Rattle.dlk_store.specs.Stores.{IsId, tree, kid_trees}
+use Rattle.dlk_tree.specs.Trees.{size}
+use Rattle.dlk_store.specs.Stores.{tree}
+use Rattle.dlk_store.proofs.Made.{Made}
 use Rattle.dlk_calculus.specs.Plug.{Plug}
 use Rattle.dlk_subst.specs.Results.{args_at}
-use Rattle.dlk_subst.proofs.Related.{Related}
 use Rattle.dlk_subst.proofs.plug.+plug.Given as goal
 
 abbrev pub decreases-plug : goal.decreases-plug
@@ -16,7 +14,5 @@ invariant-loop-kid g l =
     let before = g.S.Store.trees l.fn.store in
     record {
       grows : g.S.Store.grows l.fn.store l.store;
-      related : Related (Plug (args_at before l.fn.args)) before (g.S.Store.trees l.store) l.kid-items l.new.items l.kid-index;
-      known : All (IsId before) l.kid-items;
-      node_is : tree before l.fn.id ≡ node l.op (kid_trees before l.kid-items);
+      made : Made (Plug (args_at before l.fn.args)) before (g.S.Store.trees l.store) l.fn.id l.op l.kid-items l.new.items l.kid-index;
     }

@@ -1,13 +1,13 @@
 use Rattle.std.proofs.lemmas.Result.{err_from_is_err_and}
-use Rattle.dlk_termtext.specs.Words.{PlaceAndFormula}
+use Rattle.dlk_calculus.specs.Rules.{PlaceAndFormula}
 use Rattle.dlk_termtext.proofs.Forms.{argument_parts, place_and_formula_are, no_formula_behind}
 use Rattle.dlk_termtext.proofs.Refusals.{fault_of_whole}
 use Rattle.dlk_termtext.proofs.arguments.place_and_formula.Goals as goal
 
 pub returns-in_default-clause-fault : goal.returns-in_default-clause-fault
-returns-in_default-clause-fault g c = λ rule made is.
-    let p = argument_parts (PlaceAndFormula rule) c.args.text.now made is in
-    c.in_default.ensures.none p.0 p.2 p.3
+returns-in_default-clause-fault g c = λ i h is.
+    let p = argument_parts c.args.text.now (PlaceAndFormula i h) is in
+    c.in_default.ensures.none i p.0 p.1
 
 pub returns-in_err-formula-clause-fault : goal.returns-in_err-formula-clause-fault
 returns-in_err-formula-clause-fault g c =

@@ -1,13 +1,13 @@
 use Rattle.std.proofs.lemmas.Result.{err_from_is_err_and}
-use Rattle.dlk_termtext.specs.Words.{PlaceAndName}
+use Rattle.dlk_calculus.specs.Rules.{PlaceAndName}
 use Rattle.dlk_termtext.proofs.Forms.{argument_parts, place_and_name_are, no_name_behind}
 use Rattle.dlk_termtext.proofs.Refusals.{fault_of_whole}
 use Rattle.dlk_termtext.proofs.arguments.place_and_name.Goals as goal
 
 pub returns-in_default-clause-fault : goal.returns-in_default-clause-fault
-returns-in_default-clause-fault c = λ rule made is.
-    let p = argument_parts (PlaceAndName rule) c.args.text.now made is in
-    c.in_default.ensures.none p.0 p.1 p.2
+returns-in_default-clause-fault c = λ i y is.
+    let p = argument_parts c.args.text.now (PlaceAndName i y) is in
+    c.in_default.ensures.none i y p.0
 
 pub returns-in_err-name-clause-fault : goal.returns-in_err-name-clause-fault
 returns-in_err-name-clause-fault c =

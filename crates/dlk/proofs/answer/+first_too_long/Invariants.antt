@@ -1,5 +1,0 @@
-use Rattle.std.proofs.Common.{length}
-use Rattle.dlk.proofs.answer.+first_too_long.Given as goal
-
-abbrev pub decreases-first_too_long : goal.decreases-first_too_long
-decreases-first_too_long l = length l.names.now

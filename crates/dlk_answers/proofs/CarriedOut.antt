@@ -1,0 +1,76 @@
+-- What a command answers is no refusal of its words, and a refusal writes no file.
+use Rattle.std.proofs.Common.{◌≡◌, ◌<◌, ℕ, Bool, true, false, List, [], ◌∷◌, None, refl, arith}
+use Rattle.dlk_grammar.specs.Readings.{Literal, Nesting, Syntax, Shape, TooBig, TooDeep}
+use Rattle.dlk_grammar.specs.Texts.{TextFault, BadByte, Unread}
+use Rattle.dlk_report.specs.Reports.{is_closed}
+use Rattle.dlk_answers.specs.declared.command.Command.{Command}
+use Rattle.dlk_answers.specs.declared.command.Command.TheVariants.{Check, Print, Vars, Subst, Report}
+use Rattle.dlk_answers.specs.declared.form.Role.{Role}
+use Rattle.dlk_answers.specs.declared.form.Role.TheVariants.{Model, File, Substitution}
+use Rattle.dlk_answers.specs.declared.reply.Layout.{Layout}
+use Rattle.dlk_answers.specs.declared.reply.Layout.TheVariants.{Text, Json}
+use Rattle.dlk_answers.specs.declared.reply.Status.{Status}
+use Rattle.dlk_answers.specs.Forms.{Word}
+use Rattle.dlk_answers.specs.Replies.{Reply, code_of, printing}
+use Rattle.dlk_answers.specs.Refusals.{text_refused}
+use Rattle.dlk_answers.specs.Checks.{Checks, bad_model, bad_line, bad_conclusion, reports, status_of}
+use Rattle.dlk_answers.specs.Prints.{Prints, bad_text, prints}
+use Rattle.dlk_answers.specs.Lists.{Lists, lists, bad_text as lists_fault}
+use Rattle.dlk_answers.specs.Substitutes.{Substitutes, bad_file, bad_subst, bad_pair, not_admissible, too_big, too_deep, prints as prints_result}
+use Rattle.dlk_answers.specs.Answers.{Does, Responds, refuses, does}
+
+-- the reply of a command that was carried out
+pub record IsCarriedOut (reply : Reply) : Type 0 where
+  pub status : code_of reply.status < 3
+  pub refusal : code_of reply.status ≡ 2 → reply.written ≡ None
+
+printed_only : (status : Status) (bytes : List ℕ) → code_of status < 3 → IsCarriedOut (printing status bytes)
+printed_only status bytes less = record { status = less; refusal = λ e. refl }
+
+text_carried_out : (role : Role) (why : TextFault) → IsCarriedOut (text_refused role why)
+text_carried_out role (BadByte at) = printed_only _ _ (omega arith)
+text_carried_out role (Unread (Literal at)) = printed_only _ _ (omega arith)
+text_carried_out role (Unread (Nesting at)) = printed_only _ _ (omega arith)
+text_carried_out role (Unread Syntax) = printed_only _ _ (omega arith)
+text_carried_out role (Unread (Shape at)) = printed_only _ _ (omega arith)
+text_carried_out role (Unread (TooBig size)) = printed_only _ _ (omega arith)
+text_carried_out role (Unread (TooDeep depth)) = printed_only _ _ (omega arith)
+
+closed_or_open : (b : Bool) → code_of (status_of b) < 3
+closed_or_open true = omega arith
+closed_or_open false = omega arith
+
+check_carried_out : (layout : Layout) (model term : List ℕ) (reply : Reply) → Checks layout model term reply → IsCarriedOut reply
+check_carried_out layout model term reply (bad_model why fault) = text_carried_out Model why
+check_carried_out layout model term reply (bad_line f t n why v) = printed_only _ _ (omega arith)
+check_carried_out layout model term reply (bad_conclusion f t rows p a ne) = printed_only _ _ (omega arith)
+check_carried_out layout model term reply (reports f t rows p a e) = printed_only _ _ (closed_or_open (is_closed p.goals))
+
+print_carried_out : (file : List ℕ) (reply : Reply) → Prints file reply → IsCarriedOut reply
+print_carried_out file reply (bad_text why fault) = text_carried_out File why
+print_carried_out file reply (prints t reads) = printed_only _ _ (omega arith)
+
+list_carried_out : (file : List ℕ) (reply : Reply) → Lists file reply → IsCarriedOut reply
+list_carried_out file reply (lists_fault why fault) = text_carried_out File why
+list_carried_out file reply (lists t reads f b m s wf wb wm ws) = printed_only _ _ (omega arith)
+
+substitute_carried_out : (file substitution : List ℕ) (reply : Reply) → Substitutes file substitution reply → IsCarriedOut reply
+substitute_carried_out file substitution reply (bad_file why fault) = text_carried_out File why
+substitute_carried_out file substitution reply (bad_subst e reads why fault) = text_carried_out Substitution why
+substitute_carried_out file substitution reply (bad_pair e pairs read n why is) = printed_only _ _ (omega arith)
+substitute_carried_out file substitution reply (not_admissible e pairs read good none) = printed_only _ _ (omega arith)
+substitute_carried_out file substitution reply (too_big e pairs read t has past) = printed_only _ _ (omega arith)
+substitute_carried_out file substitution reply (too_deep e pairs read t has small past) = printed_only _ _ (omega arith)
+substitute_carried_out file substitution reply (prints_result e pairs read t has small shallow) = printed_only _ _ (omega arith)
+
+job_carried_out : (command : Command) (others : List Word) (texts : List (List ℕ)) (reply : Reply) → Does command others texts reply → IsCarriedOut reply
+job_carried_out Check [] (model ∷ term ∷ []) reply h = check_carried_out Text model term reply h
+job_carried_out Print [] (file ∷ []) reply h = print_carried_out file reply h
+job_carried_out Vars [] (file ∷ []) reply h = list_carried_out file reply h
+job_carried_out Subst [] (file ∷ substitution ∷ []) reply h = substitute_carried_out file substitution reply h
+job_carried_out Report [] (model ∷ term ∷ []) reply h = check_carried_out Json model term reply h
+job_carried_out _ _ _ reply h = absurd h
+
+pub carried_out : (command : Command) (words : List Word) (texts : List (List ℕ)) (reply : Reply) → Responds command words texts reply → IsCarriedOut reply
+carried_out command words texts reply (refuses name long) = printed_only _ _ (omega arith)
+carried_out command words texts reply (does short r h) = job_carried_out command _ texts r h

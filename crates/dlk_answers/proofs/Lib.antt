@@ -1,0 +1,11 @@
+pub mod Fits
+pub mod CarriedOut
+pub mod TextAnswers
+pub mod PrintAnswers
+pub mod ListTexts
+pub mod ListAnswers
+pub mod SubstAnswers
+pub mod OneSubstitution
+pub mod OneReply
+pub mod ConclusionText
+pub mod Judging

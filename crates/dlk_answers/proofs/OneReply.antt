@@ -1,0 +1,150 @@
+-- There is one answer to words and texts.
+use Rattle.std.proofs.Common.{◌≡◌, ℕ, List, [], ◌∷◌, ◌++◌, length, Bool, None, Some, refl, sym, ap, ◌∙◌, subst}
+use Rattle.dlk_tree.specs.Trees.{Tree}
+use Rattle.dlk_tree.specs.Statics.{free, bound, must}
+use Rattle.dlk_tree.specs.declared.op.Var.{Var}
+use Rattle.dlk_tree.proofs.Listing.{one_listing, one_signature}
+use Rattle.dlk_calculus.specs.Provables.{Provable}
+use Rattle.dlk_grammar.specs.declared.token.Dots.TheVariants.{Refused, Allowed}
+use Rattle.dlk_grammar.specs.declared.token.Form.TheVariants.{Formula, Expression}
+use Rattle.dlk_grammar.specs.Texts.{TextFault}
+use Rattle.dlk_machine.proofs.TextLaws.{one_tree_text, tree_or_fault, one_tree_fault}
+use Rattle.dlk_replay.specs.Files.{file_lines, Verdict, Answer, accepted, bad}
+use Rattle.dlk_replay.specs.declared.fault.LineWhy.{LineWhy}
+use Rattle.dlk_replay.proofs.Verdicts.{one_verdict}
+use Rattle.dlk_answers.specs.Forms.{Word}
+use Rattle.dlk_answers.specs.Replies.{Reply}
+use Rattle.dlk_answers.specs.declared.form.Role.TheVariants.{Model, File}
+use Rattle.dlk_answers.specs.Refusals.{text_refused}
+use Rattle.dlk_answers.specs.Checks.{Checks, bad_model, bad_line, bad_conclusion, reports, Accepts, ModelText, ModelFault, proves, line_refused, other_conclusion, reported}
+use Rattle.dlk_answers.specs.Prints.{Prints, bad_text, prints, printed}
+use Rattle.dlk_answers.specs.Lists.{Lists, lists, bad_text as lists_fault, IsWritten, AreWritten, set_listed, symbols_listed, set_text, signature_text, four_lines}
+use Rattle.dlk_answers.proofs.OneSubstitution.{one_substitution}
+use Rattle.dlk_answers.specs.Answers.{Does, Responds, refuses, does, too_long}
+use Rattle.dlk_answers.specs.declared.command.Command.{Command}
+use Rattle.dlk_answers.specs.declared.command.Command.TheVariants.{Check, Print, Vars, Subst, Report}
+use Rattle.dlk_answers.specs.declared.reply.Layout.{Layout}
+use Rattle.dlk_answers.specs.declared.reply.Layout.TheVariants.{Text, Json}
+
+-- the same rows, and the same last one at the same line
+pub record SameEnd (rows others : List Provable) (line place : ℕ) (p q : Provable) : Type 0 where
+  pub rows_are : rows ≡ others
+  pub line_is : line ≡ place
+  pub last_is : p ≡ q
+
+rows_of : Answer → List Provable
+rows_of (accepted rows line) = rows
+rows_of (bad n why) = []
+
+not_both : {rows : List Provable} {line n : ℕ} {why : LineWhy} → accepted rows line ≡ bad n why → ⊥
+not_both e = cc
+
+one_accepted : {rows others : List Provable} {line place : ℕ} → accepted rows line ≡ accepted others place → rows ≡ others
+one_accepted e = cc
+
+one_place : {rows others : List Provable} {line place : ℕ} → accepted rows line ≡ accepted others place → line ≡ place
+one_place e = cc
+
+one_bad : {n m : ℕ} {why other : LineWhy} → bad n why ≡ bad m other → line_refused n why ≡ line_refused m other
+one_bad {n} {m} {why} {other} e =
+    let number : n ≡ m = cc in
+    let reason : why ≡ other = cc in
+    λ i. line_refused (number i) (reason i)
+
+-- a list has one last item
+one_last : {A : Type 0} (xs ys : List A) (x y : A) → xs ++ x ∷ [] ≡ ys ++ y ∷ [] → x ≡ y
+one_last [] [] x y e = cc
+one_last [] (z ∷ []) x y e = cc
+one_last [] (z ∷ w ∷ ys) x y e = cc
+one_last (z ∷ []) [] x y e = cc
+one_last (z ∷ w ∷ xs) [] x y e = cc
+one_last (z ∷ xs) (w ∷ ys) x y e = let tail : xs ++ x ∷ [] ≡ ys ++ y ∷ [] = cc in one_last xs ys x y tail
+
+-- an accepted term has one end
+pub one_end : {term : List ℕ} {rows others : List Provable} {p q : Provable} → (a : Accepts term rows p) → (b : Accepts term others q) → SameEnd rows others a.line b.line p q
+one_end {term} {rows} {others} {p} {q} a b =
+    let one = one_verdict (file_lines term) (accepted rows a.line) (accepted others b.line) a.verdict b.verdict in
+    let same : rows ≡ others = one_accepted one in
+    record { rows_are = same; line_is = one_place one; last_is = one_last a.before b.before p q (sym a.last ∙ same ∙ b.last) }
+
+accepted_not_bad : {term : List ℕ} {rows : List Provable} {p : Provable} {n : ℕ} {why : LineWhy} → Accepts term rows p → Verdict (file_lines term) (bad n why) → ⊥
+accepted_not_bad {term} {rows} {p} {n} {why} a v = not_both (one_verdict (file_lines term) (accepted rows a.line) (bad n why) a.verdict v)
+
+-- a model is one formula, or has one fault
+pub one_model : {model : List ℕ} {f g : Tree} → ModelText model f → ModelText model g → f ≡ g
+one_model {model} {f} {g} a b = one_tree_text Formula Refused model f g a b
+
+pub model_or_fault : {model : List ℕ} {f : Tree} (why : TextFault) → ModelText model f → ModelFault model why → ⊥
+model_or_fault {model} {f} why a b = tree_or_fault Formula Refused model f why a b
+
+module _ (layout : Layout) (model term : List ℕ) where
+  pub one_check : (r s : Reply) → Checks layout model term r → Checks layout model term s → r ≡ s
+  one_check r s (bad_model why a) (bad_model other b) = ap (text_refused Model) (one_tree_fault Formula Refused model why other a b)
+  one_check r s (bad_model why a) (bad_line g u m other w) = absurd (model_or_fault why u a)
+  one_check r s (bad_model why a) (bad_conclusion g u others q b ne) = absurd (model_or_fault why u a)
+  one_check r s (bad_model why a) (reports g u others q b e) = absurd (model_or_fault why u a)
+  one_check r s (bad_line f t n why v) (bad_model other b) = absurd (model_or_fault other t b)
+  one_check r s (bad_line f t n why v) (bad_line g u m other w) = one_bad (one_verdict (file_lines term) (bad n why) (bad m other) v w)
+  one_check r s (bad_line f t n why v) (bad_conclusion g u others q b ne) = absurd (accepted_not_bad b v)
+  one_check r s (bad_line f t n why v) (reports g u others q b e) = absurd (accepted_not_bad b v)
+  one_check r s (bad_conclusion f t rows p a ne) (bad_model other b) = absurd (model_or_fault other t b)
+  one_check r s (bad_conclusion f t rows p a ne) (bad_line g u m other w) = absurd (accepted_not_bad a w)
+  one_check r s (bad_conclusion f t rows p a ne) (bad_conclusion g u others q b ne2) =
+      let end = one_end a b in
+      let same = one_model t u in
+      λ i. other_conclusion (end.line_is i) (same i) (end.last_is i).conclusion
+  one_check r s (bad_conclusion f t rows p a ne) (reports g u others q b e) =
+      absurd (ne (ap (λ (x : Provable). x.conclusion) (one_end a b).last_is ∙ e ∙ ap proves (sym (one_model t u))))
+  one_check r s (reports f t rows p a e) (bad_model other b) = absurd (model_or_fault other t b)
+  one_check r s (reports f t rows p a e) (bad_line g u m other w) = absurd (accepted_not_bad a w)
+  one_check r s (reports f t rows p a e) (bad_conclusion g u others q b ne) =
+      absurd (ne (ap (λ (x : Provable). x.conclusion) (sym (one_end a b).last_is) ∙ e ∙ ap proves (one_model t u)))
+  one_check r s (reports f t rows p a e) (reports g u others q b e2) =
+      let end = one_end a b in
+      λ i. reported layout (end.last_is i) (length (end.rows_are i))
+
+pub one_print : (file : List ℕ) (r s : Reply) → Prints file r → Prints file s → r ≡ s
+one_print file r s (bad_text why a) (bad_text other b) = ap (text_refused File) (one_tree_fault Expression Allowed file why other a b)
+one_print file r s (bad_text why a) (prints u b) = absurd (tree_or_fault Expression Allowed file u why b a)
+one_print file r s (prints t a) (bad_text other b) = absurd (tree_or_fault Expression Allowed file t other a b)
+one_print file r s (prints t a) (prints u b) = ap printed (one_tree_text Expression Allowed file t u a b)
+
+one_set : (set : Var → Bool) (x y : List ℕ) → IsWritten set x → IsWritten set y → x ≡ y
+one_set set x y (set_listed b vs l) (set_listed c ws m) =
+    let same = one_listing set b c vs ws l m in
+    λ i. set_text (same.0 i) (same.1 i)
+
+one_symbols : (t : Tree) (x y : List ℕ) → AreWritten t x → AreWritten t y → x ≡ y
+one_symbols t x y (symbols_listed ss a) (symbols_listed ts b) = ap signature_text (one_signature t ss ts a b)
+
+pub one_list : (file : List ℕ) (r s : Reply) → Lists file r → Lists file s → r ≡ s
+one_list file r s (lists_fault why a) (lists_fault other b) = ap (text_refused File) (one_tree_fault Expression Allowed file why other a b)
+one_list file r s (lists_fault why a) (lists u b f' b' m' s' wf wb wm ws) = absurd (tree_or_fault Expression Allowed file u why b a)
+one_list file r s (lists t a f b m s' wf wb wm ws) (lists_fault other e) = absurd (tree_or_fault Expression Allowed file t other a e)
+one_list file r s (lists t a f b m syms wf wb wm ws) (lists u a' f' b' m' syms' wf' wb' wm' ws') =
+    let same = one_tree_text Expression Allowed file t u a a' in
+    let free_is = one_set (free u) f f' (subst (λ v. IsWritten (free v) f) same wf) wf' in
+    let bound_is = one_set (bound u) b b' (subst (λ v. IsWritten (bound v) b) same wb) wb' in
+    let must_is = one_set (must u) m m' (subst (λ v. IsWritten (must v) m) same wm) wm' in
+    let symbols_are = one_symbols u syms syms' (subst (λ v. AreWritten v syms) same ws) ws' in
+    λ i. four_lines (free_is i) (bound_is i) (must_is i) (symbols_are i)
+
+one_job : (c : Command) (others : List Word) (texts : List (List ℕ)) (r s : Reply) → Does c others texts r → Does c others texts s → r ≡ s
+one_job Check [] (model ∷ term ∷ []) r s a b = one_check Text model term r s a b
+one_job Print [] (file ∷ []) r s a b = one_print file r s a b
+one_job Vars [] (file ∷ []) r s a b = one_list file r s a b
+one_job Subst [] (file ∷ substitution ∷ []) r s a b = one_substitution file substitution r s a b
+one_job Report [] (model ∷ term ∷ []) r s a b = one_check Json model term r s a b
+one_job _ _ _ r s a b = absurd a
+
+one_name : {name other : Word} → Some name ≡ Some other → name ≡ other
+one_name e = cc
+
+none_or_some : {A : Type 0} {x : A} → None ≡ Some x → ⊥
+none_or_some e = cc
+
+pub one_response : (c : Command) (words : List Word) (texts : List (List ℕ)) (r s : Reply) → Responds c words texts r → Responds c words texts s → r ≡ s
+one_response c words texts r s (refuses name a) (refuses other b) = ap too_long (one_name (sym a ∙ b))
+one_response c words texts r s (refuses name a) (does b s' job) = absurd (none_or_some (sym b ∙ a))
+one_response c words texts r s (does a r' job) (refuses other b) = absurd (none_or_some (sym a ∙ b))
+one_response c words texts r s (does a r' job) (does b s' other) = one_job c _ texts r s job other

@@ -1,0 +1,5 @@
+use Rattle.dlk_answers.proofs.OneReply.{one_response}
+use Rattle.dlk_answers.proofs.laws.one_response.Goals as goal
+
+pub returns : goal.returns
+returns c = one_response

@@ -1,0 +1,32 @@
+-- What the program answers to its words and to the texts of its inputs.
+use Rattle.std.specs.Prelude.{◌≡◌, ℕ, List, [], ◌∷◌, ◌++◌, Some, None, codes}
+use Rattle.dlk_answers.specs.declared.command.Command.{Command}
+use Rattle.dlk_answers.specs.declared.command.Command.TheVariants.{Check, Print, Vars, Subst, Report}
+use Rattle.dlk_answers.specs.declared.reply.Layout.TheVariants.{Text, Json}
+use Rattle.dlk_answers.specs.Forms.{Word, inputs_of, others_of, limits_of}
+use Rattle.dlk_answers.specs.Inputs.{first_too_long}
+use Rattle.dlk_answers.specs.Replies.{Reply, refusal}
+use Rattle.dlk_answers.specs.Checks.{Checks}
+use Rattle.dlk_answers.specs.Prints.{Prints}
+use Rattle.dlk_answers.specs.Lists.{Lists}
+use Rattle.dlk_answers.specs.Substitutes.{Substitutes}
+
+abbrev pub too_long : Word → Reply
+too_long name = refusal (codes "too-long " ++ name)
+
+-- Does command others texts reply: what a command answers to the words behind its inputs and to the inputs' texts, each within its limit.
+-- One row a command. That there is a reply to words and texts of its form is a law, so a row that is forgotten here is found.
+abbrev pub Does : Command → List Word → List (List ℕ) → Reply → Type 0
+Does Check [] (model ∷ term ∷ []) reply = Checks Text model term reply
+Does Print [] (file ∷ []) reply = Prints file reply
+Does Vars [] (file ∷ []) reply = Lists file reply
+Does Subst [] (file ∷ substitution ∷ []) reply = Substitutes file substitution reply
+Does Report [] (model ∷ term ∷ []) reply = Checks Json model term reply
+Does _ _ _ reply = ⊥
+
+-- what a command answers to its words and its inputs' texts
+pub data Responds (command : Command) (words : List Word) (texts : List (List ℕ)) : Reply → Type 0 where
+  -- the first input that is longer than its limit
+  refuses : (name : Word) → first_too_long (inputs_of command words) (limits_of command) texts ≡ Some name → Responds command words texts (too_long name)
+  does : first_too_long (inputs_of command words) (limits_of command) texts ≡ None → (reply : Reply) → Does command (others_of command words) texts reply →
+      Responds command words texts reply

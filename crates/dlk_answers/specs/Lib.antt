@@ -1,0 +1,12 @@
+pub mod Forms
+pub mod Replies
+pub mod Inputs
+pub mod Refusals
+pub mod Refused
+pub mod Checks
+pub mod Judged
+pub mod Prints
+pub mod Lists
+pub mod Substitutes
+pub mod Answers
+pub mod Shown

@@ -1,0 +1,206 @@
+// `check MODEL TERM` and `report MODEL TERM`: replay a term, and compare its conclusion with the model.
+ghost use Rattle.std.specs.Prelude.{◌≡◌, ◌<◌, [], ◌↔◌, IfOk, IfSome, IsTrue};
+ghost use Rattle.dlk_calculus.specs.Places.{at, IsPlace};
+ghost use Rattle.dlk_store.specs.Stores.{IsId, tree};
+ghost use Rattle.dlk_sequent.specs.Sequents.{sequent_at, IsKnown};
+ghost use Rattle.dlk_kernel.specs.Kernel.{facts};
+ghost use Rattle.dlk_report.specs.Reports.{HasAsciiTexts};
+ghost use Rattle.dlk_report.specs.Shown.{parts};
+ghost use Rattle.dlk_answers.specs.Checks.{proves, reason_text, why_text, line_refused, other_conclusion, laid_out, reported, Checks};
+ghost use Rattle.dlk_answers.specs.Judged.{judged};
+ghost use Rattle.dlk_answers.specs.Shown.{reply_of};
+
+use crate::fault::NoReply;
+use crate::form::Role;
+use crate::refusal::{refuse_text, refused};
+use crate::reply::{Layout, Reply, Status, printing};
+use dlk_kernel::{Fact, Kernel, Reason};
+use dlk_parse::read_formula;
+use dlk_plain::PlainStore;
+use dlk_print::sequent_text;
+use dlk_replay::{LineWhy, Outcome, ReplayFault, replay};
+use dlk_report::{Report, report_json, report_text, shown};
+use dlk_sequent::Sequent;
+use dlk_store::{Id, Steps, Store};
+use std::alloc::Global;
+use std::sync::ledger::Ledger;
+
+/// The word for a reason, as it is printed.
+fn reason_word(why: Reason) -> &'static str
+    ensures { result.now ≡ reason_text why }
+{
+    match why {
+        Reason::NoFact => "NoFact",
+        Reason::NoGoal => "NoGoal",
+        Reason::UnknownName => "UnknownName",
+        Reason::NoPlace => "NoPlace",
+        Reason::WrongShape => "WrongShape",
+        Reason::NotEqual => "NotEqual",
+        Reason::NotFresh => "NotFresh",
+        Reason::NotArith => "NotArith",
+        Reason::IllSubst => "IllSubst",
+        Reason::FreeInSubst => "FreeInSubst",
+        Reason::NotAdmissible => "NotAdmissible",
+        Reason::TooBig => "TooBig",
+        Reason::TooDeep => "TooDeep",
+        Reason::SideFull => "SideFull",
+        Reason::GoalsFull => "GoalsFull",
+        Reason::LeavesFull => "LeavesFull",
+        Reason::LinesFull => "LinesFull",
+    }
+}
+
+/// The word for what is wrong with a line, as it is printed.
+fn why_word(why: LineWhy) -> &'static str
+    ensures { result.now ≡ why_text why }
+{
+    match why {
+        LineWhy::Malformed => "Malformed",
+        LineWhy::WrongNumber => "WrongNumber",
+        LineWhy::NoEnd => "NoEnd",
+        LineWhy::Step(why) => reason_word(why),
+    }
+}
+
+/// The answer to a term whose first wrong line this is.
+fn refuse_line(alloc: Global, line: usize, why: LineWhy) -> Result<Reply, NoReply>
+    ensures { IfOk result (λ r. reply_of r ≡ line_refused line why) }
+{
+    let word = why_word(why);
+    let why = format!(in alloc; "line {line}: {word}")?;
+    refused(alloc, why.as_str())
+}
+
+/// Whether a sequent is what a proof of the formula shows.
+fn is_proof_of<S: Store>(store: &S, s: &Sequent, formula: Id) -> bool
+    requires known { IsKnown (S.trees store.now) s.now }
+    requires formula { IsId (S.trees store.now) formula }
+    ensures { IsTrue result ↔ (sequent_at (S.trees store.now) s.now ≡ proves (tree (S.trees store.now) formula)) }
+{
+    match s.succ.as_slice() {
+        [f] => s.ante.as_slice().is_empty() && store.same(*f, formula),
+        _ => false,
+    }
+}
+
+/// The answer to a term whose lines are all steps and that ends in another conclusion.
+fn refuse_conclusion<S: Store, L: Ledger>(
+    alloc: Global,
+    store: &S,
+    formula: Id,
+    found: &Sequent,
+    line: usize,
+    steps: &mut Steps<L>,
+) -> Result<Reply, NoReply>
+    requires formula { IsId (S.trees store.now) formula }
+    requires found { IsKnown (S.trees store.now) found.now }
+    ensures { IfOk result (λ r. reply_of r ≡ other_conclusion line (tree (S.trees store.now) formula) (sequent_at (S.trees store.now) found.now)) }
+{
+    let expected = Sequent::alone_right(alloc, formula)?;
+    let first = format!(in alloc; "refused: other-conclusion {line}\nexpected ")?;
+    let mut printed = first.into_bytes();
+    sequent_text(store, &expected, &mut printed, steps)?;
+    printed.extend_from_slice(b"\nfound ")?;
+    sequent_text(store, found, &mut printed, steps)?;
+    printed.push(b'\n')?;
+    Ok(printing(Status::Refused, printed))
+}
+
+/// The bytes of a report.
+fn lay_out(alloc: Global, layout: Layout, report: &Report) -> Result<Vec<u8>, NoReply>
+    requires { HasAsciiTexts (parts report.now) }
+    ensures { IfOk result (λ bytes. bytes.items ≡ laid_out layout (parts report.now)) }
+{
+    match layout {
+        Layout::Text => Ok(report_text(alloc, report)?),
+        Layout::Json => {
+            let mut bytes = report_json(alloc, report)?;
+            bytes.push(b'\n')?;
+            Ok(bytes)
+        }
+    }
+}
+
+/// The report of a fact that so many lines have shown.
+fn report<S: Store, L: Ledger>(
+    alloc: Global,
+    layout: Layout,
+    kernel: &Kernel<S>,
+    fact: Fact,
+    lines: u32,
+    steps: &mut Steps<L>,
+) -> Result<Reply, NoReply>
+    requires { IsPlace kernel.now.rows fact }
+    ensures { IfOk result (λ r. IfSome (at (facts S.trees kernel.now) fact) (λ p. reply_of r ≡ reported layout p lines)) }
+{
+    let report = shown(alloc, kernel, fact, lines, steps)?;
+    let printed = lay_out(alloc, layout, &report)?;
+    let status = if report.closed {
+        Status::Closed
+    } else {
+        Status::Open
+    };
+    Ok(printing(status, printed))
+}
+
+/// The answer to a term whose lines are all steps.
+fn judge<S: Store, L: Ledger>(
+    alloc: Global,
+    layout: Layout,
+    kernel: &Kernel<S>,
+    formula: Id,
+    outcome: Outcome,
+    steps: &mut Steps<L>,
+) -> Result<Reply, NoReply>
+    requires formula { IsId (S.trees kernel.now.store) formula }
+    requires fact { IsPlace kernel.now.rows outcome.fact }
+    ensures { IfOk result (λ r. IfSome (at (facts S.trees kernel.now) outcome.fact) (judged layout (tree (S.trees kernel.now.store) formula) outcome.lines outcome.line (reply_of r))) }
+{
+    let found = kernel.conclusion(outcome.fact);
+    if is_proof_of(kernel, found, formula) {
+        report(alloc, layout, kernel, outcome.fact, outcome.lines, steps)
+    } else {
+        refuse_conclusion(alloc, kernel, formula, found, outcome.line, steps)
+    }
+}
+
+/// Checks a term on a kernel without rows.
+fn check_on<S: Store, L: Ledger>(
+    alloc: Global,
+    layout: Layout,
+    kernel: &mut Kernel<S>,
+    model: &[u8],
+    term: &[u8],
+    steps: &mut Steps<L>,
+) -> Result<Reply, NoReply>
+    requires { kernel.old.rows ≡ [] }
+    ensures { IfOk result (λ r. Checks layout model.now term.now (reply_of r)) }
+{
+    let formula = match read_formula(alloc, model, kernel) {
+        Ok(formula) => formula,
+        Err(fault) => return refuse_text(alloc, Role::Model, fault),
+    };
+    match replay(alloc, term, kernel, steps) {
+        Ok(outcome) => judge(alloc, layout, kernel, formula, outcome, steps),
+        Err(ReplayFault::Bad { line, why }) => refuse_line(alloc, line, why),
+        Err(ReplayFault::Memory) => Err(NoReply::Memory),
+    }
+}
+
+/// Checks a term against a model, and reports so.
+///
+/// # Errors
+///
+/// `Memory` alone: each refusal is a reply.
+pub fn check<L: Ledger>(
+    alloc: Global,
+    layout: Layout,
+    model: &[u8],
+    term: &[u8],
+    steps: &mut Steps<L>,
+) -> Result<Reply, NoReply>
+    ensures { IfOk result (λ r. Checks layout model.now term.now (reply_of r)) }
+{
+    let mut kernel = Kernel::new(alloc, PlainStore::new(alloc));
+    check_on(alloc, layout, &mut kernel, model, term, steps)
+}

@@ -1,0 +1,95 @@
+// `subst FILE SUBST`: what a substitution makes of an expression.
+ghost use Rattle.std.specs.Prelude.{◌≡◌, ◌<◌, IfOk};
+ghost use Rattle.dlk_answers.specs.Substitutes.{why_word, pair_refused, Substitutes};
+ghost use Rattle.dlk_answers.specs.Shown.{reply_of};
+
+use crate::fault::NoReply;
+use crate::form::Role;
+use crate::jobs::print::print_tree;
+use crate::refusal::{refuse_text, refused};
+use crate::reply::Reply;
+use dlk_calculus::{GREATEST_DEPTH, MOST_NODES, Why};
+use dlk_grammar::Dots;
+use dlk_parse::{read_expression, read_substitution};
+use dlk_plain::PlainStore;
+use dlk_sequent::{Subst, SubstFault};
+use dlk_store::{Steps, Store};
+use dlk_subst::{ApplyFault, apply};
+use std::alloc::Global;
+use std::sync::ledger::Ledger;
+
+/// The word for a reason against a pair, as it is printed.
+fn why_word(why: Why) -> &'static str
+    ensures { result.now ≡ why_word why }
+{
+    match why {
+        Why::Sort => "sort",
+        Why::Twice => "twice",
+        Why::Dot => "dot",
+        Why::Hole => "hole",
+        Why::Taboo => "taboo",
+    }
+}
+
+/// The answer to pairs of which this is the first bad one.
+fn refuse_pair(alloc: Global, pair: usize, why: Why) -> Result<Reply, NoReply>
+    ensures { IfOk result (λ r. reply_of r ≡ pair_refused pair why) }
+{
+    let word = why_word(why);
+    let why = format!(in alloc; "subst pair {pair}: {word}")?;
+    refused(alloc, why.as_str())
+}
+
+/// Substitutes in an expression by a store.
+fn subst_on<S: Store, L: Ledger>(
+    alloc: Global,
+    store: &mut S,
+    file: &[u8],
+    substitution: &[u8],
+    steps: &mut Steps<L>,
+) -> Result<Reply, NoReply>
+    ensures { IfOk result (λ r. Substitutes file.now substitution.now (reply_of r)) }
+{
+    let expression = match read_expression(alloc, file, Dots::Refused, store) {
+        Ok(expression) => expression,
+        Err(fault) => return refuse_text(alloc, Role::File, fault),
+    };
+    let pairs = match read_substitution(alloc, substitution, store) {
+        Ok(pairs) => pairs,
+        Err(fault) => return refuse_text(alloc, Role::Substitution, fault),
+    };
+    let sigma = match Subst::new(alloc, store, pairs, steps) {
+        Ok(sigma) => sigma,
+        Err(SubstFault::Ill { pair, why }) => return refuse_pair(alloc, pair, why),
+        Err(SubstFault::Memory) => return Err(NoReply::Memory),
+    };
+    let result = match apply(alloc, store, &sigma, expression, steps) {
+        Ok(result) => result,
+        Err(ApplyFault::NotAdmissible) => return refused(alloc, "not-admissible"),
+        Err(ApplyFault::Memory) => return Err(NoReply::Memory),
+    };
+    if store.size(result) > MOST_NODES {
+        return refused(alloc, "result-too-big");
+    }
+    if store.depth(result) > GREATEST_DEPTH {
+        return refused(alloc, "result-too-deep");
+    }
+    print_tree(alloc, store, result, steps)
+}
+
+/// Prints what a substitution makes of an expression, and a line feed.
+///
+/// # Errors
+///
+/// `Memory` alone: each refusal is a reply.
+pub fn subst<L: Ledger>(
+    alloc: Global,
+    file: &[u8],
+    substitution: &[u8],
+    steps: &mut Steps<L>,
+) -> Result<Reply, NoReply>
+    ensures { IfOk result (λ r. Substitutes file.now substitution.now (reply_of r)) }
+{
+    let mut store = PlainStore::new(alloc);
+    subst_on(alloc, &mut store, file, substitution, steps)
+}

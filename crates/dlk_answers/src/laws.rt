@@ -1,0 +1,20 @@
+//! The laws of answers. Each is a contract of a function that does nothing.
+ghost use Rattle.std.specs.Prelude.{◌≡◌, ◌<◌, ℕ, List, None};
+ghost use Rattle.dlk_answers.specs.declared.command.Command.{Command as TheCommand};
+ghost use Rattle.dlk_answers.specs.Forms.{Word};
+ghost use Rattle.dlk_answers.specs.Replies.{Reply as TheReply, code_of};
+ghost use Rattle.dlk_answers.specs.Answers.{Responds};
+
+/// A command has one answer to words and texts.
+pub fn one_response()
+    ensures { (command : TheCommand) (words : List Word) (texts : List (List ℕ)) (one other : TheReply) →
+        Responds command words texts one → Responds command words texts other → one ≡ other }
+{}
+
+/// A command answers with a status below 3, and a refusal writes no file.
+pub fn refusals_write_nothing()
+    ensures status { (command : TheCommand) (words : List Word) (texts : List (List ℕ)) (reply : TheReply) →
+        Responds command words texts reply → code_of reply.status < 3 }
+    ensures refusal { (command : TheCommand) (words : List Word) (texts : List (List ℕ)) (reply : TheReply) →
+        Responds command words texts reply → code_of reply.status ≡ 2 → reply.written ≡ None }
+{}

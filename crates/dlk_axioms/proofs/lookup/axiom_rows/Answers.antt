@@ -1,7 +1,0 @@
-use Rattle.std.proofs.Common.{refl}
-use Rattle.std.specs.Fmt.{digits}
-use Rattle.dlk_axioms.proofs.lookup.axiom_rows.Goals as goal
-
-pub returns : goal.returns
-unfolding digits
-returns c = refl

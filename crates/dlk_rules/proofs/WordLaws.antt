@@ -1,0 +1,67 @@
+-- A rule is its word and its arguments, and a word has arguments of one shape.
+use Rattle.std.proofs.Common.{◌≡◌, ◌≢◌, ℕ, Bool, true, List, [], ◌∷◌, Option, Some, None, refl, sym, ap, ◌∙◌, inl, inr}
+use Rattle.std.specs.Prelude.{option_map, option_and_then, find, IfSome, IfNone}
+use Rattle.std.specs.Str.{bytes_eq}
+use Rattle.std.proofs.lemmas.Bool.{cases_Bool, cond-true, cond-false}
+use Rattle.std.proofs.lemmas.Option.{none-some, same_Some}
+use Rattle.std.proofs.lemmas.Slice.Eq.{bytes_eq-Decides}
+use Rattle.dlk_calculus.specs.Rules.{Rule, Close, Arguments, OnePlace, TwoPlaces, PlaceAndFormula, OneFormula, PlaceAndName, word_of, arguments_of}
+use Rattle.dlk_rules.specs.declared.rule.RuleWord.{RuleWord}
+use Rattle.dlk_rules.specs.declared.rule.TheConstants.{RULE_WORDS}
+use Rattle.dlk_rules.specs.declared.rule.RuleWord.TheVariants as word
+use Rattle.dlk_rules.specs.Steps.{Template, WantsPlace, WantsTwoPlaces, WantsPlaceAndFormula, WantsFormula, WantsPlaceAndName, template}
+use Rattle.dlk_rules.specs.Words.{shape_of, text_of, wanted, named}
+
+-- a template with arguments of its shape
+abbrev filled : Template → Arguments → Option Rule
+filled (WantsPlace make) (OnePlace i) = Some (make i)
+filled (WantsTwoPlaces make) (TwoPlaces i k) = Some (make i k)
+filled (WantsPlaceAndFormula make) (PlaceAndFormula i h) = Some (make i h)
+filled (WantsFormula make) (OneFormula h) = Some (make h)
+filled (WantsPlaceAndName make) (PlaceAndName i y) = Some (make i y)
+filled _ _ = None
+
+abbrev called : List ℕ → Arguments → Option Rule
+called text arguments = option_and_then (λ w. filled (template w) arguments) (named text)
+
+-- a rule is found by its word and its arguments
+rule_called : (rule : Rule) → called (word_of rule) (arguments_of rule) ≡ Some rule
+rule_called (Close i j) = refl
+rule_called _ = refl
+
+-- and their shape by its word
+shape_named : (rule : Rule) → option_map wanted (named (word_of rule)) ≡ Some (shape_of (arguments_of rule))
+shape_named (Close i j) = refl
+shape_named _ = refl
+
+word_named : (w : RuleWord) → named (text_of w) ≡ Some w
+word_named word.Close = refl
+word_named _ = refl
+
+pub one_rule : (r s : Rule) → word_of r ≡ word_of s → arguments_of r ≡ arguments_of s → r ≡ s
+one_rule r s e a = same_Some r s (sym (rule_called r) ∙ (λ n. called (e n) (a n)) ∙ rule_called s)
+
+pub one_shape : (r s : Rule) → word_of r ≡ word_of s → shape_of (arguments_of r) ≡ shape_of (arguments_of s)
+one_shape r s e = same_Some _ _ (sym (shape_named r) ∙ ap (λ text. option_map wanted (named text)) e ∙ shape_named s)
+
+pub shape_wanted : (w : RuleWord) (rule : Rule) → word_of rule ≡ text_of w → shape_of (arguments_of rule) ≡ wanted w
+shape_wanted w rule e = same_Some _ _ (sym (shape_named rule) ∙ ap (λ text. option_map wanted (named text)) e ∙ ap (option_map wanted) (word_named w))
+
+-- what is found passes the test
+passes : (p : RuleWord → Bool) (ws : List RuleWord) (w : RuleWord) → find p ws ≡ Some w → p w ≡ true
+passes p [] w e = absurd (none-some w e)
+passes p (v ∷ vs) w e =
+    elim (cases_Bool (p v)) [
+      | inl same ↦ let found : v ≡ w = same_Some v w (sym (cond-true (p v) (Some v) (find p vs) same) ∙ e) in ap p (sym found) ∙ same
+      | inr other ↦ passes p vs w (sym (cond-false (p v) (Some v) (find p vs) other) ∙ e)
+    ]
+
+-- the word that is found is the text, and where none is found no rule has it
+pub found_word : (text : List ℕ) (found : Option RuleWord) → found ≡ named text → IfSome found (λ w. text_of w ≡ text)
+found_word text None e = tt
+found_word text (Some w) e = (bytes_eq-Decides (text_of w) text).0 (passes (λ v. bytes_eq (text_of v) text) RULE_WORDS w (sym e))
+
+pub no_such_word : (text : List ℕ) (found : Option RuleWord) → found ≡ named text → IfNone found ((rule : Rule) → word_of rule ≢ text)
+no_such_word text (Some w) e = tt
+no_such_word text None e = λ rule same.
+    none-some (shape_of (arguments_of rule)) (ap (option_map wanted) e ∙ ap (λ t. option_map wanted (named t)) (sym same) ∙ shape_named rule)

@@ -1,0 +1,85 @@
+#!/usr/bin/env python3
+"""Compares the examples of README.md and docs/ with what the program prints.
+
+    python3 docs/examples.py     exits 1 where an example differs, and 0 where the program isn't built
+
+An example is a block between fences with lines that begin with `$ `: commands, each with what it prints behind it. The
+commands of a document are run one after another. A folder of their own stands for /tmp, and the built program for ./dlk.
+A command is passed over where a tool behind a `|` isn't there.
+"""
+
+import shutil
+import subprocess
+import sys
+import tempfile
+from pathlib import Path
+
+ROOT = Path(__file__).resolve().parent.parent
+PROGRAM = ROOT / "crates" / "dlk" / "out" / "dlk"
+PROMPT = "$ "
+
+
+def blocks(text):
+    """The lines of each block between fences."""
+    inside, found = False, []
+    for line in text.split("\n"):
+        if line.startswith("```"):
+            inside = not inside
+            if inside:
+                found.append([])
+        elif inside:
+            found[-1].append(line)
+    return found
+
+
+def examples(text):
+    """Each command with the lines that it prints, in the order of the text."""
+    found = []
+    for block in blocks(text):
+        if not block or not block[0].startswith(PROMPT):
+            continue
+        for line in block:
+            if line.startswith(PROMPT):
+                found.append((line.removeprefix(PROMPT), []))
+            else:
+                found[-1][1].append(line)
+    return found
+
+
+def printed_by(command, folder):
+    """The lines that a command prints."""
+    command = command.replace("./dlk", str(PROGRAM)).replace("/tmp/", f"{folder}/")
+    run = subprocess.run(["bash", "-c", command], cwd=ROOT, capture_output=True, check=False)
+    return run.stdout.decode("utf-8", "replace").splitlines()
+
+
+def has_tools(command):
+    """Whether the tool behind each `|` is there."""
+    return all(shutil.which(part.split()[0]) for part in command.split(" | ")[1:])
+
+
+def differences(document):
+    """The commands of a document that print something else, each with what it prints."""
+    with tempfile.TemporaryDirectory() as folder:
+        for command, expected in examples(document.read_text(encoding="utf-8")):
+            printed = printed_by(command, folder) if has_tools(command) else expected
+            if printed != expected:
+                yield command, printed
+
+
+def main():
+    """Prints each example that differs, and exits 1 where there is one."""
+    if not PROGRAM.is_file():
+        print("examples.py: the program isn't built, so no example is tried")
+        return
+    wrong = False
+    for document in [ROOT / "README.md", *sorted((ROOT / "docs").glob("*.md"))]:
+        for command, printed in differences(document):
+            wrong = True
+            print(f"{document.relative_to(ROOT)}: $ {command}", *printed, sep="\n")
+    if wrong:
+        sys.exit(1)
+
+
+if __name__ == "__main__":
+    main()
