@@ -1,0 +1,8 @@
+//! A store that keeps each tree once.
+#![tactic(auto)]
+
+mod kids;
+mod node;
+
+
+
