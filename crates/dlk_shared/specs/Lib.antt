@@ -1,1 +1,6 @@
 pub mod Ids
+pub mod Rows
+pub mod Growth
+pub mod Nodes
+pub mod Sound
+pub mod Unique

@@ -3,6 +3,6 @@
 
 mod kids;
 mod node;
+mod store;
 
-
-
+pub use store::SharedStore;

@@ -1,0 +1,30 @@
+use Rattle.std.proofs.Common.{sym, ap, ◌∙◌}
+use Rattle.std.proofs.lemmas.Option.{slice_get_within, get_or_from_slice_get}
+use Rattle.dlk_tree.proofs.Same.{op_decides}
+use Rattle.dlk_tree.specs.contracts.op.OpPartialEq.TheImpl as OpEq
+use Rattle.dlk_tree.specs.declared.op.Op.TheVariants.{True}
+use Rattle.dlk_shared.specs.Rows.{trees_of_rows}
+use Rattle.dlk_shared.specs.Sound.{tried_keeps, rows_kept, nodes_kept}
+use Rattle.dlk_shared.proofs.store.SharedStore.number.Goals as goal
+
+pub invariant_of-self-clause-sound : goal.invariant_of-self-clause-sound
+invariant_of-self-clause-sound c =
+    let s = c.args.self.now in
+    nodes_kept (tried_keeps OpEq.ghosts.eq s.ops.keys c.args.op c.insert_full.result c.insert_full.new.self.keys c.insert_full.ensures.keys c.insert_full.ensures.err)
+    s.nodes.entries s.sound
+
+pub returns-clause-op : goal.returns-clause-op
+returns-clause-op c =
+    let stored = c.in_ok-n.ensures.stored in
+    get_or_from_slice_get c.insert_full.new.self.keys c.in_ok-n.n stored.0 True stored.1 ∙ sym ((op_decides c.args.op stored.0).0 stored.2)
+
+pub returns-clause-known : goal.returns-clause-known
+returns-clause-known c =
+    let stored = c.in_ok-n.ensures.stored in
+    slice_get_within c.insert_full.new.self.keys c.in_ok-n.n stored.0 stored.1
+
+pub returns-clause-trees : goal.returns-clause-trees
+returns-clause-trees c =
+    let s = c.args.self.now in
+    ap trees_of_rows (rows_kept (tried_keeps OpEq.ghosts.eq s.ops.keys c.args.op c.insert_full.result c.insert_full.new.self.keys c.insert_full.ensures.keys c.insert_full.ensures.err)
+    s.nodes.entries s.sound.known)

@@ -1,0 +1,168 @@
+//! The shared store.
+ghost use Rattle.std.specs.Prelude.{◌≡◌, ◌↔◌, ◌+◌, ◌<◌, ◌-◌, ◌^◌, min, IsTrue, IfOk, [], List, All, length, Some, None, slice_get};
+ghost use Rattle.std.proofs.Props.{props};
+ghost use Rattle.std.specs.List.{IsDistinct};
+ghost use Rattle.std.specs.Map.{keys_of};
+ghost use Rattle.std.proofs.lemmas.Map.Keys.{IsDistinct-prop};
+ghost use Rattle.indexmap.specs.IndexMap.{get};
+ghost use Rattle.dlk_tree.specs.Table.{Fits};
+ghost use Rattle.dlk_tree.specs.Trees.{node, size, size_all, depth, depth_all};
+ghost use Rattle.dlk_store.specs.Stores.{IsId, tree, kid_trees, sorts_at, StandsFor, Keeps};
+ghost use Rattle.dlk_shared.specs.Nodes.{op_at, trees_of, capped, AreSoundNodes, IsMeasureOf, IsMeasureOver};
+
+use crate::kids::Kids;
+use crate::node::{Key, Measure};
+use dlk_store::{Id, Node, Steps, StoreFault};
+use dlk_tree::Op;
+use indexmap::{IndexMap, IndexSet};
+use std::alloc::Global;
+use std::sync::ledger::Ledger;
+
+/// A store that keeps each operator once and each node once, with the measures of its tree. Its ids are the nodes' places.
+#[derive(Drop)]
+pub struct SharedStore {
+    ops: IndexSet<Op>,
+    nodes: IndexMap<Key, Measure>,
+    ghost ops_apart: { IsDistinct ⟦<Op as PartialEq>⟧.eq ops.keys } by { IsDistinct-prop ⟦<Op as PartialEq>⟧.eq ops.keys },
+    ghost nodes_apart: { IsDistinct ⟦<Key as PartialEq>⟧.eq (keys_of nodes.entries) } by { IsDistinct-prop ⟦<Key as PartialEq>⟧.eq (keys_of nodes.entries) },
+    ghost sound: { AreSoundNodes ops.keys nodes.entries } by { Prim.hlevel props },
+}
+
+impl SharedStore {
+    /// A store without nodes.
+    pub fn new(alloc: Global) -> SharedStore
+        ensures { trees_of result.ops.keys result.nodes.entries ≡ [] }
+    {
+        SharedStore {
+            ops: IndexSet::new(alloc),
+            nodes: IndexMap::new(alloc),
+        }
+    }
+
+    /// What is kept of the node.
+    fn kept(&self, id: Id) -> (&Key, &Measure)
+        requires { IsId (trees_of self.now.ops.keys self.now.nodes.entries) id }
+        ensures { slice_get self.now.nodes.entries id.0 ≡ Some (result.0.now, result.1.now) }
+    {
+        self.nodes.get_index(id.0).unwrap()
+    }
+
+    fn key(&self, id: Id) -> &Key
+        requires { IsId (trees_of self.now.ops.keys self.now.nodes.entries) id }
+        ensures node { tree (trees_of self.now.ops.keys self.now.nodes.entries) id ≡ node (op_at self.now.ops.keys result.now.op) (kid_trees (trees_of self.now.ops.keys self.now.nodes.entries) result.now.kids) }
+        ensures op { result.now.op < length self.now.ops.keys }
+        ensures kids { All (IsId (trees_of self.now.ops.keys self.now.nodes.entries)) result.now.kids }
+    {
+        self.kept(id).0
+    }
+
+    fn measure(&self, id: Id) -> Measure
+        requires { IsId (trees_of self.now.ops.keys self.now.nodes.entries) id }
+        ensures { IsMeasureOf (tree (trees_of self.now.ops.keys self.now.nodes.entries) id) result }
+    {
+        *self.kept(id).1
+    }
+
+    /// The measures of a node over these kids.
+    fn measure_over(&self, kids: &[Id]) -> Measure
+        requires { All (IsId (trees_of self.now.ops.keys self.now.nodes.entries)) kids.now }
+        ensures { IsMeasureOver (kid_trees (trees_of self.now.ops.keys self.now.nodes.entries) kids.now) result }
+    {
+        let mut size: u32 = 1;
+        let mut depth: u32 = 0;
+        for k in kids {
+            let kid = self.measure(*k);
+            size = size.saturating_add(kid.size);
+            depth = depth.max(kid.depth);
+        }
+        Measure {
+            size,
+            depth: depth.saturating_add(1),
+        }
+    }
+
+    /// The number of the operator, which is kept if it isn't yet.
+    fn number(&mut self, op: Op) -> Result<usize, StoreFault>
+        ensures op { IfOk result (λ n. op_at self.new.ops.keys n ≡ op) }
+        ensures known { IfOk result (λ n. n < length self.new.ops.keys) }
+        ensures trees { trees_of self.new.ops.keys self.new.nodes.entries ≡ trees_of self.old.ops.keys self.old.nodes.entries }
+    {
+        let (n, _) = self.ops.insert_full(op)?;
+        Ok(n)
+    }
+
+    /// Keeps a node that isn't kept yet.
+    fn keep(&mut self, key: Key) -> Result<Id, StoreFault>
+        requires absent { get ⟦<Key as PartialEq>⟧.eq self.old.nodes key ≡ None }
+        requires op { key.op < length self.old.ops.keys }
+        requires known { All (IsId (trees_of self.old.ops.keys self.old.nodes.entries)) key.kids }
+        requires fits { Fits (op_at self.old.ops.keys key.op) (sorts_at (trees_of self.old.ops.keys self.old.nodes.entries) key.kids) }
+        ensures made { IfOk result (λ id. StandsFor (trees_of self.new.ops.keys self.new.nodes.entries) id (node (op_at self.old.ops.keys key.op) (kid_trees (trees_of self.old.ops.keys self.old.nodes.entries) key.kids))) }
+        ensures grows { Keeps (trees_of self.old.ops.keys self.old.nodes.entries) (trees_of self.new.ops.keys self.new.nodes.entries) }
+    {
+        let measure = self.measure_over(key.kids.as_slice());
+        let id = Id(self.nodes.len());
+        self.nodes.insert(key, measure)?;
+        Ok(id)
+    }
+
+    /// An id of the tree with this operator and these kids, the one that it has. Where the node is there, nothing is kept.
+    ///
+    /// # Errors
+    ///
+    /// `Memory` alone; every id is as it was then.
+    pub fn make(&mut self, alloc: Global, op: Op, kids: &[Id]) -> Result<Id, StoreFault>
+        requires known { All (IsId (trees_of self.old.ops.keys self.old.nodes.entries)) kids.now }
+        requires fits { Fits op (sorts_at (trees_of self.old.ops.keys self.old.nodes.entries) kids.now) }
+        ensures made { IfOk result (λ id. StandsFor (trees_of self.new.ops.keys self.new.nodes.entries) id (node op (kid_trees (trees_of self.old.ops.keys self.old.nodes.entries) kids.now))) }
+        ensures grows { Keeps (trees_of self.old.ops.keys self.old.nodes.entries) (trees_of self.new.ops.keys self.new.nodes.entries) }
+    {
+        let kids = Kids::new(alloc, kids)?;
+        let op = self.number(op)?;
+        let key = Key { op, kids };
+        match self.nodes.get_index_of(&key) {
+            Some(place) => Ok(Id(place)),
+            None => self.keep(key),
+        }
+    }
+
+    /// The root of the tree, in one step.
+    pub fn look<L: Ledger>(&self, id: Id, steps: &mut Steps<L>) -> Node<'_>
+        requires { IsId (trees_of self.now.ops.keys self.now.nodes.entries) id }
+        ensures node { tree (trees_of self.now.ops.keys self.now.nodes.entries) id ≡ node result.op.now (kid_trees (trees_of self.now.ops.keys self.now.nodes.entries) result.kids.now) }
+        ensures known { All (IsId (trees_of self.now.ops.keys self.now.nodes.entries)) result.kids.now }
+        ensures step { steps.new ≡ steps.old + 1 }
+    {
+        steps.tick();
+        let key = self.key(id);
+        Node {
+            op: &self.ops.as_slice()[key.op],
+            kids: key.kids.as_slice(),
+        }
+    }
+
+    /// Whether the two trees are equal: whether the two ids are.
+    pub fn same(&self, a: Id, b: Id) -> bool
+        requires first { IsId (trees_of self.now.ops.keys self.now.nodes.entries) a }
+        requires second { IsId (trees_of self.now.ops.keys self.now.nodes.entries) b }
+        ensures { IsTrue result ↔ (tree (trees_of self.now.ops.keys self.now.nodes.entries) a ≡ tree (trees_of self.now.ops.keys self.now.nodes.entries) b) }
+    {
+        a == b
+    }
+
+    /// The number of nodes, at most the greatest `u32`.
+    pub fn size(&self, id: Id) -> u32
+        requires { IsId (trees_of self.now.ops.keys self.now.nodes.entries) id }
+        ensures { result ≡ min (size (tree (trees_of self.now.ops.keys self.now.nodes.entries) id)) (2 ^ 32 - 1) }
+    {
+        self.measure(id).size
+    }
+
+    /// The depth, at most the greatest `u32`.
+    pub fn depth(&self, id: Id) -> u32
+        requires { IsId (trees_of self.now.ops.keys self.now.nodes.entries) id }
+        ensures { result ≡ min (depth (tree (trees_of self.now.ops.keys self.now.nodes.entries) id)) (2 ^ 32 - 1) }
+    {
+        self.measure(id).depth
+    }
+}
