@@ -4,5 +4,7 @@
 mod kids;
 mod node;
 mod store;
+#[cfg(test)]
+mod tests;
 
 pub use store::SharedStore;
