@@ -2,5 +2,6 @@ pub mod Ids
 pub mod Rows
 pub mod Growth
 pub mod Nodes
+pub mod Kept
 pub mod Sound
 pub mod Unique

@@ -1,5 +1,11 @@
 //! What is kept of a node.
+ghost use Rattle.std.specs.Prelude.{◌≡◌, IsTrue};
+ghost use Rattle.dlk_tree.specs.Table.{has_parts};
+ghost use Rattle.dlk_tree.specs.Occurs.{is_hole};
+ghost use Rattle.dlk_shared.specs.Kept.{dot_bit};
+
 use crate::kids::Kids;
+use dlk_tree::Op;
 
 /// What a node is known by: the number of its operator, and its kids.
 #[derive(PartialEq, Eq, Hash, Drop)]
@@ -8,9 +14,32 @@ pub struct Key {
     pub kids: Kids,
 }
 
-/// The measures of a node's tree, each at most the greatest `u32`.
+/// What is kept of a node's tree.
 #[derive(Clone, Copy)]
-pub struct Measure {
+pub struct Facts {
+    /// The number of nodes, at most the greatest `u32`.
     pub size: u32,
+    /// The depth, at most the greatest `u32`.
     pub depth: u32,
+    /// A bit for each number of an argument dot, whether that dot stands in the tree.
+    pub dots: u8,
+    /// Whether `_` stands in the tree.
+    pub hole: bool,
+}
+
+/// The bit of an operator that is an argument dot, and else none.
+pub fn dot_bit(op: &Op) -> u8
+    requires { IsTrue (has_parts op.now) }
+    ensures { result ≡ dot_bit op.now }
+{
+    match op {
+        Op::Dot(n) => 1 << n,
+        _ => 0,
+    }
+}
+
+pub fn is_hole(op: &Op) -> bool
+    ensures { result ≡ is_hole op.now }
+{
+    matches!(op, Op::Hole)
 }

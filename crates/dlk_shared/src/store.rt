@@ -5,13 +5,15 @@ ghost use Rattle.std.specs.List.{IsDistinct};
 ghost use Rattle.std.specs.Map.{keys_of};
 ghost use Rattle.std.proofs.lemmas.Map.Keys.{IsDistinct-prop};
 ghost use Rattle.indexmap.specs.IndexMap.{get};
-ghost use Rattle.dlk_tree.specs.Table.{Fits};
+ghost use Rattle.dlk_tree.specs.Table.{Fits, has_parts};
 ghost use Rattle.dlk_tree.specs.Trees.{node, size, size_all, depth, depth_all};
 ghost use Rattle.dlk_store.specs.Stores.{IsId, tree, kid_trees, sorts_at, StandsFor, Keeps};
-ghost use Rattle.dlk_shared.specs.Nodes.{op_at, trees_of, capped, AreSoundNodes, IsMeasureOf, IsMeasureOver};
+ghost use Rattle.dlk_shared.specs.Nodes.{op_at, trees_of, AreSoundNodes, EachIs};
+ghost use Rattle.dlk_shared.specs.Kept.{capped, AreDotsOf, IsFactsOf};
+ghost use Rattle.dlk_tree.specs.Occurs.{has_dot, has_hole};
 
 use crate::kids::Kids;
-use crate::node::{Key, Measure};
+use crate::node::{Facts, Key, dot_bit, is_hole};
 use dlk_store::{Id, Node, Steps, StoreFault};
 use dlk_tree::Op;
 use indexmap::{IndexMap, IndexSet};
@@ -22,10 +24,11 @@ use std::sync::ledger::Ledger;
 #[derive(Drop)]
 pub struct SharedStore {
     ops: IndexSet<Op>,
-    nodes: IndexMap<Key, Measure>,
+    nodes: IndexMap<Key, Facts>,
     ghost ops_apart: { IsDistinct ⟦<Op as PartialEq>⟧.eq ops.keys } by { IsDistinct-prop ⟦<Op as PartialEq>⟧.eq ops.keys },
     ghost nodes_apart: { IsDistinct ⟦<Key as PartialEq>⟧.eq (keys_of nodes.entries) } by { IsDistinct-prop ⟦<Key as PartialEq>⟧.eq (keys_of nodes.entries) },
     ghost sound: { AreSoundNodes ops.keys nodes.entries } by { Prim.hlevel props },
+    ghost facts: { EachIs IsFactsOf (trees_of ops.keys nodes.entries) nodes.entries } by { Prim.hlevel props },
 }
 
 impl SharedStore {
@@ -40,7 +43,7 @@ impl SharedStore {
     }
 
     /// What is kept of the node.
-    fn kept(&self, id: Id) -> (&Key, &Measure)
+    fn kept(&self, id: Id) -> (&Key, &Facts)
         requires { IsId (trees_of self.now.ops.keys self.now.nodes.entries) id }
         ensures { slice_get self.now.nodes.entries id.0 ≡ Some (result.0.now, result.1.now) }
     {
@@ -56,29 +59,70 @@ impl SharedStore {
         self.kept(id).0
     }
 
-    fn measure(&self, id: Id) -> Measure
+    fn facts(&self, id: Id) -> Facts
         requires { IsId (trees_of self.now.ops.keys self.now.nodes.entries) id }
-        ensures { IsMeasureOf (tree (trees_of self.now.ops.keys self.now.nodes.entries) id) result }
+        ensures { IsFactsOf (tree (trees_of self.now.ops.keys self.now.nodes.entries) id) result }
     {
         *self.kept(id).1
     }
 
-    /// The measures of a node over these kids.
-    fn measure_over(&self, kids: &[Id]) -> Measure
-        requires { All (IsId (trees_of self.now.ops.keys self.now.nodes.entries)) kids.now }
-        ensures { IsMeasureOver (kid_trees (trees_of self.now.ops.keys self.now.nodes.entries) kids.now) result }
+    /// What is kept of a node with this operator and these kids.
+    fn facts_over(&self, op: &Op, kids: &[Id]) -> Facts
+        requires parts { IsTrue (has_parts op.now) }
+        requires known { All (IsId (trees_of self.now.ops.keys self.now.nodes.entries)) kids.now }
+        ensures { IsFactsOf (node op.now (kid_trees (trees_of self.now.ops.keys self.now.nodes.entries) kids.now)) result }
     {
-        let mut size: u32 = 1;
-        let mut depth: u32 = 0;
+        Facts {
+            size: self.size_over(kids),
+            depth: self.depth_over(kids),
+            dots: self.dots_over(op, kids),
+            hole: self.hole_over(op, kids),
+        }
+    }
+
+    fn size_over(&self, kids: &[Id]) -> u32
+        requires { All (IsId (trees_of self.now.ops.keys self.now.nodes.entries)) kids.now }
+        ensures { result ≡ capped (1 + size_all (kid_trees (trees_of self.now.ops.keys self.now.nodes.entries) kids.now)) }
+    {
+        let mut n: u32 = 1;
         for k in kids {
-            let kid = self.measure(*k);
-            size = size.saturating_add(kid.size);
-            depth = depth.max(kid.depth);
+            n = n.saturating_add(self.facts(*k).size);
         }
-        Measure {
-            size,
-            depth: depth.saturating_add(1),
+        n
+    }
+
+    fn depth_over(&self, kids: &[Id]) -> u32
+        requires { All (IsId (trees_of self.now.ops.keys self.now.nodes.entries)) kids.now }
+        ensures { result ≡ capped (1 + depth_all (kid_trees (trees_of self.now.ops.keys self.now.nodes.entries) kids.now)) }
+    {
+        let mut n: u32 = 0;
+        for k in kids {
+            n = n.max(self.facts(*k).depth);
         }
+        n.saturating_add(1)
+    }
+
+    fn dots_over(&self, op: &Op, kids: &[Id]) -> u8
+        requires parts { IsTrue (has_parts op.now) }
+        requires known { All (IsId (trees_of self.now.ops.keys self.now.nodes.entries)) kids.now }
+        ensures { AreDotsOf (node op.now (kid_trees (trees_of self.now.ops.keys self.now.nodes.entries) kids.now)) result }
+    {
+        let mut dots = dot_bit(op);
+        for k in kids {
+            dots |= self.facts(*k).dots;
+        }
+        dots
+    }
+
+    fn hole_over(&self, op: &Op, kids: &[Id]) -> bool
+        requires { All (IsId (trees_of self.now.ops.keys self.now.nodes.entries)) kids.now }
+        ensures { result ≡ has_hole (node op.now (kid_trees (trees_of self.now.ops.keys self.now.nodes.entries) kids.now)) }
+    {
+        let mut hole = is_hole(op);
+        for k in kids {
+            hole |= self.facts(*k).hole;
+        }
+        hole
     }
 
     /// The number of the operator, which is kept if it isn't yet.
@@ -100,9 +144,9 @@ impl SharedStore {
         ensures made { IfOk result (λ id. StandsFor (trees_of self.new.ops.keys self.new.nodes.entries) id (node (op_at self.old.ops.keys key.op) (kid_trees (trees_of self.old.ops.keys self.old.nodes.entries) key.kids))) }
         ensures grows { Keeps (trees_of self.old.ops.keys self.old.nodes.entries) (trees_of self.new.ops.keys self.new.nodes.entries) }
     {
-        let measure = self.measure_over(key.kids.as_slice());
+        let facts = self.facts_over(&self.ops.as_slice()[key.op], key.kids.as_slice());
         let id = Id(self.nodes.len());
-        self.nodes.insert(key, measure)?;
+        self.nodes.insert(key, facts)?;
         Ok(id)
     }
 
@@ -155,7 +199,7 @@ impl SharedStore {
         requires { IsId (trees_of self.now.ops.keys self.now.nodes.entries) id }
         ensures { result ≡ min (size (tree (trees_of self.now.ops.keys self.now.nodes.entries) id)) (2 ^ 32 - 1) }
     {
-        self.measure(id).size
+        self.facts(id).size
     }
 
     /// The depth, at most the greatest `u32`.
@@ -163,6 +207,23 @@ impl SharedStore {
         requires { IsId (trees_of self.now.ops.keys self.now.nodes.entries) id }
         ensures { result ≡ min (depth (tree (trees_of self.now.ops.keys self.now.nodes.entries) id)) (2 ^ 32 - 1) }
     {
-        self.measure(id).depth
+        self.facts(id).depth
+    }
+
+    /// Whether the argument dot of this number stands in the tree.
+    pub fn has_dot(&self, id: Id, n: u8) -> bool
+        requires { IsId (trees_of self.now.ops.keys self.now.nodes.entries) id }
+        ensures { result ≡ has_dot n (tree (trees_of self.now.ops.keys self.now.nodes.entries) id) }
+    {
+        let dots = self.facts(id).dots;
+        n < 8 && (dots >> n) & 1 == 1
+    }
+
+    /// Whether `_` stands in the tree.
+    pub fn has_hole(&self, id: Id) -> bool
+        requires { IsId (trees_of self.now.ops.keys self.now.nodes.entries) id }
+        ensures { result ≡ has_hole (tree (trees_of self.now.ops.keys self.now.nodes.entries) id) }
+    {
+        self.facts(id).hole
     }
 }

@@ -1,10 +1,12 @@
-use Rattle.std.proofs.Common.{◌≡◌, ◌+◌, IfOk, Result, Ok, Err, List, ap, ◌∙◌}
+use Rattle.std.proofs.Common.{◌≡◌, IfOk, Result, Ok, Err, get_or, subst, ap, ◌∙◌}
 use Rattle.indexmap.proofs.CallerLemmas.{insert_entry-new}
-use Rattle.dlk_tree.specs.Trees.{size_all, depth_all}
-use Rattle.dlk_store.specs.declared.Id.{Id}
+use Rattle.std.proofs.lemmas.List.{get_or_default}
+use Rattle.dlk_tree.specs.declared.op.Op.TheVariants.{True}
+use Rattle.dlk_tree.specs.Trees.{node}
 use Rattle.dlk_store.specs.Stores.{kid_trees}
-use Rattle.dlk_shared.specs.Nodes.{trees_of, capped}
-use Rattle.dlk_shared.specs.Sound.{tried_sound, push_keeps, push_stands}
+use Rattle.dlk_shared.specs.Kept.{IsFactsOf}
+use Rattle.dlk_shared.specs.Nodes.{op_at, trees_of}
+use Rattle.dlk_shared.specs.Sound.{tried_sound, tried_facts, push_keeps, push_stands}
 use Rattle.dlk_shared.specs.contracts.node.KeyPartialEq.TheImpl as KeyEq
 use Rattle.dlk_shared.proofs.store.SharedStore.keep.Goals as goal
 
@@ -15,26 +17,34 @@ on_ok (Err t) x y z h e = tt
 pub invariant_of-self-clause-sound : goal.invariant_of-self-clause-sound
 invariant_of-self-clause-sound c =
     let s = c.args.self.now in
-    let m = c.measure_over-measure.result in
-    let new = insert_entry-new KeyEq.ghosts.eq s.nodes c.args.key m c.requires.absent in
-    let over = λ (ks : List Id). kid_trees (trees_of s.ops.keys s.nodes.entries) ks in
-    tried_sound s.ops.keys s.nodes.entries c.args.key m s.sound c.requires.op c.requires.known c.requires.fits
-    (record {
-      size_is = c.measure_over-measure.ensures.size_is ∙ ap (λ ks. capped (1 + size_all (over ks))) c.as_slice.ensures;
-      depth_is = c.measure_over-measure.ensures.depth_is ∙ ap (λ ks. capped (1 + depth_all (over ks))) c.as_slice.ensures;
-    })
+    let f = c.facts_over-facts.result in
+    let new = insert_entry-new KeyEq.ghosts.eq s.nodes c.args.key f c.requires.absent in
+    tried_sound s.ops.keys s.nodes.entries c.args.key f s.sound c.requires.op c.requires.known c.requires.fits
+    c.insert.result c.insert.new.self.entries (on_ok c.insert.result _ _ _ c.insert.ensures.entries new) c.insert.ensures.err
+
+pub invariant_of-self-clause-facts : goal.invariant_of-self-clause-facts
+invariant_of-self-clause-facts c =
+    let s = c.args.self.now in
+    let f = c.facts_over-facts.result in
+    let new = insert_entry-new KeyEq.ghosts.eq s.nodes c.args.key f c.requires.absent in
+    let trees = trees_of s.ops.keys s.nodes.entries in
+    let op : c.index-as_slice-key.result ≡ op_at s.ops.keys c.args.key.op =
+    c.index-as_slice-key.is ∙ ap (λ l. get_or l c.args.key.op c.index-as_slice-key.result) c.as_slice.ensures.keys
+    ∙ get_or_default s.ops.keys c.args.key.op c.index-as_slice-key.result True c.requires.op in
+    let here = subst (λ t. IsFactsOf t f) (λ i. node (op i) (kid_trees trees (c.as_slice-2.ensures i))) c.facts_over-facts.ensures in
+    tried_facts s.ops.keys s.nodes.entries c.args.key f IsFactsOf s.facts here
     c.insert.result c.insert.new.self.entries (on_ok c.insert.result _ _ _ c.insert.ensures.entries new) c.insert.ensures.err
 
 pub returns-clause-made : goal.returns-clause-made
 returns-clause-made c =
     let s = c.args.self.now in
-    let m = c.measure_over-measure.result in
-    let new = c.in_ok-insert.ensures.entries ∙ insert_entry-new KeyEq.ghosts.eq s.nodes c.args.key m c.requires.absent in
-    rw new (push_stands s.ops.keys s.nodes.entries c.args.key m (record { 0 = c.len.result }) c.len.ensures.len)
+    let f = c.facts_over-facts.result in
+    let new = c.in_ok-insert.ensures.entries ∙ insert_entry-new KeyEq.ghosts.eq s.nodes c.args.key f c.requires.absent in
+    rw new (push_stands s.ops.keys s.nodes.entries c.args.key f (record { 0 = c.len.result }) c.len.ensures.len)
 
 pub returns-clause-grows : goal.returns-clause-grows
 returns-clause-grows c =
     let s = c.args.self.now in
-    let m = c.measure_over-measure.result in
-    let new = c.in_ok-insert.ensures.entries ∙ insert_entry-new KeyEq.ghosts.eq s.nodes c.args.key m c.requires.absent in
-    rw new (push_keeps s.ops.keys s.nodes.entries c.args.key m)
+    let f = c.facts_over-facts.result in
+    let new = c.in_ok-insert.ensures.entries ∙ insert_entry-new KeyEq.ghosts.eq s.nodes c.args.key f c.requires.absent in
+    rw new (push_keeps s.ops.keys s.nodes.entries c.args.key f)

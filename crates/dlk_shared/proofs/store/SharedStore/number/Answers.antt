@@ -1,9 +1,11 @@
-use Rattle.std.proofs.Common.{sym, ap, ◌∙◌}
+use Rattle.std.proofs.Common.{sym, subst, ap, ◌∙◌}
 use Rattle.std.proofs.lemmas.Option.{slice_get_within, get_or_from_slice_get}
 use Rattle.dlk_tree.proofs.Same.{op_decides}
 use Rattle.dlk_tree.specs.contracts.op.OpPartialEq.TheImpl as OpEq
 use Rattle.dlk_tree.specs.declared.op.Op.TheVariants.{True}
 use Rattle.dlk_shared.specs.Rows.{trees_of_rows}
+use Rattle.dlk_shared.specs.Kept.{IsFactsOf}
+use Rattle.dlk_shared.specs.Nodes.{EachIs}
 use Rattle.dlk_shared.specs.Sound.{tried_keeps, rows_kept, nodes_kept}
 use Rattle.dlk_shared.proofs.store.SharedStore.number.Goals as goal
 
@@ -12,6 +14,13 @@ invariant_of-self-clause-sound c =
     let s = c.args.self.now in
     nodes_kept (tried_keeps OpEq.ghosts.eq s.ops.keys c.args.op c.insert_full.result c.insert_full.new.self.keys c.insert_full.ensures.keys c.insert_full.ensures.err)
     s.nodes.entries s.sound
+
+pub invariant_of-self-clause-facts : goal.invariant_of-self-clause-facts
+invariant_of-self-clause-facts c =
+    let s = c.args.self.now in
+    let same = rows_kept (tried_keeps OpEq.ghosts.eq s.ops.keys c.args.op c.insert_full.result c.insert_full.new.self.keys c.insert_full.ensures.keys c.insert_full.ensures.err)
+    s.nodes.entries s.sound.known in
+    subst (λ rows. EachIs IsFactsOf (trees_of_rows rows) s.nodes.entries) (sym same) s.facts
 
 pub returns-clause-op : goal.returns-clause-op
 returns-clause-op c =
