@@ -1,0 +1,20 @@
+-- Sets of numbers as the code has them: a row of words, and a flag for all numbers past the row's end.
+use Rattle.std.specs.Prelude.{◌≡◌, ℕ, ◌/◌, ◌%◌, ◌^◌, ◌-◌, ◌==◌, Bool, List, if◌then◌else◌, slice_index_or}
+use Rattle.std.specs.Int.{bit_at}
+
+pub record Row : Type 0 where
+  pub words : List ℕ
+  pub others : Bool
+
+-- the k-th word of the row. Past its end each bit is the flag
+abbrev pub word : Row → ℕ → ℕ
+word r k = slice_index_or r.words k (if r.others then 2 ^ 64 - 1 else 0)
+
+-- whether the number is in the set
+abbrev pub has_number : Row → ℕ → Bool
+has_number r n = bit_at (word r (n / 64)) (n % 64) == 1
+
+-- r has the numbers that the test picks, by what two sets say of each
+pub record ByNumber (test : Bool → Bool → Bool) (one other r : Row) : Type 0 where
+  pub numbers : (n : ℕ) → has_number r n ≡ test (has_number one n) (has_number other n)
+  pub others : r.others ≡ test one.others other.others

@@ -1,0 +1,11 @@
+//! Sets of variables: a table that numbers variables in order of first use, and sets of numbers as rows of bits with a flag
+//! for all variables past the row's end.
+#![tactic(auto)]
+
+mod fault;
+mod set;
+mod table;
+
+pub use fault::VarFault;
+pub use set::VarSet;
+pub use table::{VarNo, VarTable};
