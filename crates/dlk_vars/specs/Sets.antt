@@ -1,5 +1,5 @@
 -- Sets of variables: what a set of numbers stands for, by a table that numbers variables.
-use Rattle.std.specs.Prelude.{◌≡◌, ℕ, ◌<◌, ◌≤◌, ◌↔◌, Bool, List, Some, length, IsTrue, IsFalse}
+use Rattle.std.specs.Prelude.{◌≡◌, ℕ, ◌<◌, ◌≤◌, ◌↔◌, Bool, List, Some, length, IsTrue}
 use Rattle.std.specs.Option.{option_map_or}
 use Rattle.dlk_tree.specs.Statics.{just, either, both}
 use Rattle.dlk_tree.specs.Listed.{IsInhabited}

@@ -168,11 +168,11 @@ impl VarSet {
         self.others && other.others
     }
 
-    /// Whether no variable is in the set.
+    /// Whether no variable is in the set. A set meets itself unless it is empty.
     pub fn is_empty(&self) -> bool
         ensures numbers { IsTrue (not result) ↔ ((n : ℕ) × IsTrue (has_number self.now n)) }
         ensures vars { IsNonempty (not result) self.now }
     {
-        !self.others && self.words.iter().all(|word| *word == 0)
+        !self.meets(self)
     }
 }

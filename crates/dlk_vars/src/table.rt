@@ -57,6 +57,7 @@ impl VarTable {
         if let Some(n) = self.find(v) {
             return Ok(n);
         }
+        prove!(v.name.is_name());
         let (n, _) = self.vars.insert_full(v.clone()?)?;
         Ok(VarNo(n))
     }
