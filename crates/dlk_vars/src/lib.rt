@@ -3,9 +3,11 @@
 #![tactic(auto)]
 
 mod fault;
+mod laws;
 mod set;
 mod table;
 
 pub use fault::VarFault;
+pub use laws::{number_stays, one_variable, set_stays};
 pub use set::VarSet;
 pub use table::{VarNo, VarTable};

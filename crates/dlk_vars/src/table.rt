@@ -70,4 +70,12 @@ impl VarTable {
         let n = self.vars.get_index_of(v)?;
         Some(VarNo(n))
     }
+
+    /// The variables in order of their numbers.
+    pub fn as_slice(&self) -> &[Var]
+        ensures vars { result.now ≡ self.now }
+        ensures table { IsTable self.now }
+    {
+        self.vars.as_slice()
+    }
 }
