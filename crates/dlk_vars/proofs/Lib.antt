@@ -2,3 +2,4 @@ pub mod Bits
 pub mod Words
 pub mod Numbering
 pub mod Members
+pub mod Lanes

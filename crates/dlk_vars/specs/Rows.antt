@@ -1,5 +1,5 @@
 -- Sets of numbers as the code has them: a row of words, and a flag for all numbers past the row's end.
-use Rattle.std.specs.Prelude.{◌≡◌, ℕ, ◌/◌, ◌%◌, ◌^◌, ◌-◌, ◌==◌, Bool, List, if◌then◌else◌, slice_index_or}
+use Rattle.std.specs.Prelude.{◌≡◌, ℕ, ◌+◌, ◌/◌, ◌%◌, ◌^◌, ◌-◌, ◌==◌, Bool, List, [], ◌∷◌, if◌then◌else◌, slice_index_or}
 use Rattle.std.specs.Int.{bit_at}
 
 pub record Row : Type 0 where
@@ -9,6 +9,10 @@ pub record Row : Type 0 where
 -- the k-th word of the row. Past its end each bit is the flag
 abbrev pub word : Row → ℕ → ℕ
 word r k = slice_index_or r.words k (if r.others then 2 ^ 64 - 1 else 0)
+
+-- the four words from the k-th on
+abbrev pub four_words : Row → ℕ → List ℕ
+four_words r k = word r k ∷ word r (k + 1) ∷ word r (k + 2) ∷ word r (k + 3) ∷ []
 
 -- whether the number is in the set
 abbrev pub has_number : Row → ℕ → Bool

@@ -1,5 +1,6 @@
 use Rattle.std.proofs.Common.{◌≡◌, ◌≤◌, ◌&&◌, refl, sym, ap, subst, ◌∙◌, arith, bit_and, length, ◌<◌, ◌^◌}
 use Rattle.std.specs.Int.Bits.{and_lt}
+use Rattle.std.proofs.lemmas.Bool.{OnTrue_at}
 use Rattle.dlk_vars.specs.Rows.{word}
 use Rattle.dlk_vars.proofs.Words.{apart_meets, words_meet}
 use Rattle.dlk_vars.proofs.Members.{some_meeting}
@@ -18,13 +19,16 @@ returns-then-word-ne0-clause-numbers c =
 pub returns-then-word-ne0-clause-vars : goal.returns-then-word-ne0-clause-vars
 returns-then-word-ne0-clause-vars c = some_meeting _ c.args.self.now c.args.other.now (returns-then-word-ne0-clause-numbers c)
 
+pub returns-then-four_meet-clause-vars : goal.returns-then-four_meet-clause-vars
+returns-then-four_meet-clause-vars c = some_meeting _ c.args.self.now c.args.other.now (λ _. OnTrue_at c.if-four_meet.true c.four_meet.ensures.meeting, λ _. refl)
+
 pub returns-then-self-clause-numbers : goal.returns-then-self-clause-numbers
 returns-then-self-clause-numbers c =
     let s = c.args.self.now in
     let o = c.args.other.now in
     let k = c.loop-k.k in
-    let left : length s.words ≤ k = omega (arith, ap (λ t. length t.words) c.self.view_is, c.len.ensures, c.max-k-end.ensures, c.loop-k-test.false) in
-    let right : length o.words ≤ k = omega (arith, ap (λ t. length t.words) c.other.view_is, c.len-2.ensures, c.max-k-end.ensures, c.loop-k-test.false) in
+    let left : length s.words ≤ k = omega (arith, ap (λ t. length t.words) c.self.view_is, c.len.ensures, c.max-len.ensures, c.loop-k-test.false) in
+    let right : length o.words ≤ k = omega (arith, ap (λ t. length t.words) c.other.view_is, c.len-2.ensures, c.max-len.ensures, c.loop-k-test.false) in
     let a : c.self.inside.others ≡ s.others = ap (λ t. t.others) c.self.view_is in
     let b : c.other.inside.others ≡ o.others = ap (λ t. t.others) c.other.view_is in
     let both : (s.others && o.others) ≡ c.other.inside.others = ap (λ t. t && o.others) (sym a ∙ c.if-self.true) ∙ sym b in
@@ -39,8 +43,8 @@ returns-else-self-clause-numbers c =
     let s = c.args.self.now in
     let o = c.args.other.now in
     let k = c.loop-k.k in
-    let left : length s.words ≤ k = omega (arith, ap (λ t. length t.words) c.self.view_is, c.len.ensures, c.max-k-end.ensures, c.loop-k-test.false) in
-    let right : length o.words ≤ k = omega (arith, ap (λ t. length t.words) c.other.view_is, c.len-2.ensures, c.max-k-end.ensures, c.loop-k-test.false) in
+    let left : length s.words ≤ k = omega (arith, ap (λ t. length t.words) c.self.view_is, c.len.ensures, c.max-len.ensures, c.loop-k-test.false) in
+    let right : length o.words ≤ k = omega (arith, ap (λ t. length t.words) c.other.view_is, c.len-2.ensures, c.max-len.ensures, c.loop-k-test.false) in
     let a : c.self.inside.others ≡ s.others = ap (λ t. t.others) c.self.view_is in
     let b : c.other.inside.others ≡ o.others = ap (λ t. t.others) c.other.view_is in
     let both : (s.others && o.others) ≡ c.self.inside.others = ap (λ t. t && o.others) (sym a ∙ c.if-self.false) ∙ sym c.if-self.false in

@@ -11,8 +11,8 @@ returns-clause-numbers c =
     let o = c.args.other.now in
     let r : Row = record { words = c.loop-k.words.items; others = c.if-self.result } in
     let k = c.loop-k.k in
-    let left : length s.words ≤ k = omega (arith, ap (λ t. length t.words) c.self.view_is, c.len.ensures, c.max-k-end.ensures, c.loop-k-test.false) in
-    let right : length o.words ≤ k = omega (arith, ap (λ t. length t.words) c.other.view_is, c.len-2.ensures, c.max-k-end.ensures, c.loop-k-test.false) in
+    let left : length s.words ≤ k = omega (arith, ap (λ t. length t.words) c.self.view_is, c.len.ensures, c.max-len.ensures, c.loop-k-test.false) in
+    let right : length o.words ≤ k = omega (arith, ap (λ t. length t.words) c.other.view_is, c.len-2.ensures, c.max-len.ensures, c.loop-k-test.false) in
     let a : c.self.inside.others ≡ s.others = ap (λ t. t.others) c.self.view_is in
     let b : c.other.inside.others ≡ o.others = ap (λ t. t.others) c.other.view_is in
     let flag : c.if-self.result ≡ (s.others || o.others) =
