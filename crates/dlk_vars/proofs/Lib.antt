@@ -2,4 +2,4 @@ pub mod Bits
 pub mod Words
 pub mod Numbering
 pub mod Members
-pub mod Lanes
+pub mod FourWords

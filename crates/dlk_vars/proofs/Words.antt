@@ -4,7 +4,14 @@ use Rattle.std.specs.Int.{bit_at, bit_not, trailing_zeros}
 use Rattle.std.proofs.lemmas.Bool.{cases_lt, ne_eqb}
 use Rattle.std.proofs.Math.ListN.{get_or-eq_default}
 use Rattle.std.proofs.lemmas.Nat.Bits.{bit_at_ones, bit_at_set_same, bit_at_set_other, bit_at-zero, bit_at-trailing_zeros}
-use Rattle.dlk_vars.specs.Rows.{Row, word, has_number, ByNumber}
+use Rattle.std.specs.Bool.{beq}
+use Rattle.std.specs.Cmp.{booleans_Decides}
+use Rattle.std.specs.Cmp.Lexicographic.{pointwise}
+use Rattle.std.specs.Prelude.{nat_eq}
+use Rattle.std.proofs.lemmas.Bool.{and_parts}
+use Rattle.std.proofs.lemmas.Bool.Decides.{Decides-eqb}
+use Rattle.std.proofs.lemmas.Slice.Eq.{slice_eq-Decides}
+use Rattle.dlk_vars.specs.Rows.{Row, word, has_number, ByNumber, row_eq}
 use Rattle.dlk_vars.proofs.Bits.{or_bit, and_bit, and_not_bit}
 
 -- the word past the end of a row with this flag
@@ -190,3 +197,11 @@ module _ (s r : Row) (n k : ℕ) (left : length s.words ≤ k) (within : n / 64 
           ap (λ t. t == 1) (bit_at_set_other w64 (word s (m / 64)) (n % 64) (omega arith) (m % 64) other) ∙ sym (or_false (has_number s m))
       by false p true q = absurd (true≢false (sym (eq-eqb (m / 64) (n / 64) (ap (λ t. t / 64) (eqb-true m n q))) ∙ p))
       by false p false q = sym (or_false (has_number s m))
+
+-- rows that the test finds the same
+pub row_same : (a b : Row) → row_eq a b ≡ true → a ≡ b
+row_same a b e =
+    let p = and_parts (pointwise nat_eq a.words b.words) (beq a.others b.others) e in
+    let words = (slice_eq-Decides Decides-eqb a.words b.words (pointwise nat_eq a.words b.words) refl).0 p.0 in
+    let others = (booleans_Decides a.others b.others).0 p.1 in
+    λ i. record { words = words i; others = others i }

@@ -1,5 +1,7 @@
 -- Sets of numbers as the code has them: a row of words, and a flag for all numbers past the row's end.
-use Rattle.std.specs.Prelude.{◌≡◌, ℕ, ◌+◌, ◌/◌, ◌%◌, ◌^◌, ◌-◌, ◌==◌, Bool, List, [], ◌∷◌, if◌then◌else◌, slice_index_or}
+use Rattle.std.specs.Prelude.{◌≡◌, ℕ, ◌+◌, ◌/◌, ◌%◌, ◌^◌, ◌-◌, ◌==◌, nat_eq, ◌&&◌, Bool, List, [], ◌∷◌, if◌then◌else◌, slice_index_or}
+use Rattle.std.specs.Bool.{beq}
+use Rattle.std.specs.Cmp.Lexicographic.{pointwise}
 use Rattle.std.specs.Int.{bit_at}
 
 pub record Row : Type 0 where
@@ -22,3 +24,7 @@ has_number r n = bit_at (word r (n / 64)) (n % 64) == 1
 pub record ByNumber (test : Bool → Bool → Bool) (one other r : Row) : Type 0 where
   pub numbers : (n : ℕ) → has_number r n ≡ test (has_number one n) (has_number other n)
   pub others : r.others ≡ test one.others other.others
+
+-- the same row and the same flag
+abbrev pub row_eq : Row → Row → Bool
+row_eq a b = pointwise nat_eq a.words b.words && beq a.others b.others

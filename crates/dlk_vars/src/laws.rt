@@ -1,6 +1,7 @@
 //! Laws of tables and sets: calls that do nothing, for their contracts.
-ghost use Rattle.std.specs.Prelude.{◌≡◌, Some};
+ghost use Rattle.std.specs.Prelude.{◌≡◌, Some, IsTrue};
 ghost use Rattle.dlk_tree.specs.declared.op.Var.{Var};
+ghost use Rattle.dlk_vars.specs.Rows.{row_eq};
 ghost use Rattle.dlk_vars.specs.Tables.{number_of, Grows};
 ghost use Rattle.dlk_vars.specs.Sets.{has, IsWithin};
 
@@ -28,4 +29,10 @@ pub fn set_stays(old: &VarTable, new: &VarTable, set: &VarSet)
     requires within { IsWithin old.now set.now }
     ensures members { (v : Var) → has new.now set.now v ≡ has old.now set.now v }
     ensures within { IsWithin new.now set.now }
+{}
+
+/// Sets with the same row and the same flag are one.
+pub fn same_rows(a: &VarSet, b: &VarSet)
+    requires { IsTrue (row_eq a.now b.now) }
+    ensures { a.now ≡ b.now }
 {}

@@ -3,11 +3,16 @@
 #![tactic(auto)]
 
 mod fault;
+mod lanes;
 mod laws;
+mod same;
 mod set;
 mod table;
 
 pub use fault::VarFault;
-pub use laws::{number_stays, one_variable, set_stays};
+pub use laws::{number_stays, one_variable, same_rows, set_stays};
 pub use set::VarSet;
 pub use table::{VarNo, VarTable};
+
+#[cfg(test)]
+mod tests;

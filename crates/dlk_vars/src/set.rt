@@ -1,22 +1,20 @@
 //! Sets of variables by their numbers.
-ghost use Rattle.std.specs.Prelude.{◌≡◌, ℕ, ◌+◌, ◌^◌, ◌<◌, ◌≤◌, bit_and, All, ◌↔◌, ◌&&◌, ◌||◌, ◌==◌, not, true, false, IfOk, IsTrue};
+ghost use Rattle.std.specs.Prelude.{◌≡◌, ℕ, ◌↔◌, ◌&&◌, ◌||◌, ◌==◌, not, true, false, IfOk, IsTrue};
 ghost use Rattle.dlk_tree.specs.Statics.{none, all, either, both, without};
-ghost use Rattle.std.specs.Bool.{OnTrue, OnFalse};
-ghost use Rattle.dlk_vars.specs.Rows.{word, four_words, has_number, ByNumber};
+ghost use Rattle.dlk_vars.specs.Rows.{word, has_number, ByNumber};
 ghost use Rattle.dlk_vars.specs.Sets.{StandsFor, Gains, Picks, IsNonempty, AreMeeting};
 
 use crate::fault::VarFault;
 use crate::table::VarNo;
 use std::alloc::Global;
 use std::marker::Model;
-use std::simd::prelude::*;
 
 /// A set of variables, by their numbers in a table: a row of bits, and a flag for all variables past the row's end, those
 /// without a number among them. So a set may hold all variables but some.
 #[derive(Drop, Debug)]
 pub struct VarSet {
-    words: Vec<u64>,
-    others: bool,
+    pub(crate) words: Vec<u64>,
+    pub(crate) others: bool,
 }
 
 impl Model for VarSet {
@@ -65,7 +63,7 @@ impl VarSet {
     }
 
     /// The k-th word of the row, and past its end 64 times the flag.
-    fn word(&self, k: usize) -> u64
+    pub(crate) fn word(&self, k: usize) -> u64
         ensures { result ≡ word self.now k }
     {
         match self.words.get(k) {
@@ -73,33 +71,6 @@ impl VarSet {
             None if self.others => u64::MAX,
             None => 0,
         }
-    }
-
-    /// Four words from `at` on, some or all of which may be past the row's end.
-    fn four(&self, at: usize) -> u64x4
-        requires { at + 4 < 2 ^ 64 }
-        ensures words { result ≡ four_words self.now at }
-        ensures small { All (λ w. w < 2 ^ 64) result }
-    {
-        if at + 4 <= self.words.len() {
-            u64x4::from_slice(&self.words[at..])
-        } else {
-            u64x4::from_array([
-                self.word(at),
-                self.word(at + 1),
-                self.word(at + 2),
-                self.word(at + 3),
-            ])
-        }
-    }
-
-    /// Whether some of four words from `at` on has a bit in common with that of the other row.
-    fn four_meet(&self, other: &VarSet, at: usize) -> bool
-        requires { at + 4 < 2 ^ 64 }
-        ensures meeting { OnTrue result ((n : ℕ) × IsTrue (has_number self.now n && has_number other.now n)) }
-        ensures apart { OnFalse result ((j : ℕ) → at ≤ j → j < at + 4 → bit_and (word self.now j) (word other.now j) ≡ 0) }
-    {
-        (self.four(at) & other.four(at)).reduce_or() != 0
     }
 
     /// The set with the variable of this number.

@@ -2,7 +2,7 @@ use Rattle.std.proofs.Common.{◌≡◌, ℕ, ◌+◌, ◌<◌, ◌≤◌, ◌^�
 use Rattle.std.specs.Prelude.{IsTrue, All, ◌&&◌}
 use Rattle.std.proofs.lemmas.Bool.{OnTrue_from, OnFalse_from, not-true, not-false, eqb-true, eqb-false}
 use Rattle.dlk_vars.specs.Rows.{word, four_words, has_number}
-use Rattle.dlk_vars.proofs.Lanes.{lanes, lanes_apart, lanes_meet}
+use Rattle.dlk_vars.proofs.FourWords.{lanes, lanes_apart, lanes_meet}
 use Rattle.dlk_vars.proofs.set.VarSet.four_meet.Goals as goal
 
 pub returns-clause-meeting : goal.returns-clause-meeting
