@@ -5,3 +5,5 @@ pub mod Nodes
 pub mod Kept
 pub mod Sound
 pub mod Unique
+pub mod Shapes
+pub mod SetTables

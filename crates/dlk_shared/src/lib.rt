@@ -3,6 +3,8 @@
 
 mod kids;
 mod node;
+mod sets;
+mod shape;
 mod store;
 #[cfg(test)]
 mod tests;

@@ -27,6 +27,14 @@ pub struct Facts {
     pub hole: bool,
 }
 
+/// The numbers of the three sets of a node's tree.
+#[derive(Clone, Copy)]
+pub struct NodeSets {
+    pub free: usize,
+    pub bound: usize,
+    pub must: usize,
+}
+
 /// The bit of an operator that is an argument dot, and else none.
 pub fn dot_bit(op: &Op) -> u8
     requires { IsTrue (has_parts op.now) }

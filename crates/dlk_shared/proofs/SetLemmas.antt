@@ -1,0 +1,94 @@
+-- What sets stand for while their table grows, and what is made of them.
+use Rattle.std.proofs.Common.{◌≡◌, ℕ, ◌<◌, ◌≤◌, Bool, true, false, cond, ◌||◌, ◌&&◌, List, [], ◌∷◌, ◌++◌, length, Some, Result, Ok, Err, IfOk, refl, sym, ap, subst, ◌∙◌, arith, length-append}
+use Rattle.std.proofs.lemmas.List.{append-nil, append_assoc, get_or_append_left}
+use Rattle.std.proofs.lemmas.List.Quantifiers.{position-Some}
+use Rattle.std.specs.Bool.{beq}
+use Rattle.std.specs.Str.{bytes_eq}
+use Rattle.std.specs.List.{list_any}
+use Rattle.indexmap.specs.IndexSet.{insert_key}
+use Rattle.dlk_tree.specs.Tests.{var_eq}
+use Rattle.dlk_tree.specs.Statics.{none, just, plain, prime, with_prime, either}
+use Rattle.dlk_tree.specs.declared.op.Var.{Var}
+use Rattle.dlk_vars.specs.Rows.{Row}
+use Rattle.dlk_vars.specs.Tables.{number_of, Grows}
+use Rattle.dlk_vars.specs.Sets.{StandsFor, Gains}
+use Rattle.dlk_vars.proofs.Members.{has_stays, within_stays}
+use Rattle.dlk_shared.specs.SetTables.{SetTable, row_at, Holds, Means, Keeps}
+
+pub Grows-refl : (vars : List Var) → Grows vars vars
+Grows-refl vars = record { more = []; is = sym (append-nil vars) }
+
+pub Grows-trans : {a b c : List Var} → Grows a b → Grows b c → Grows a c
+Grows-trans {a} p q = record { more = p.more ++ q.more; is = q.is ∙ ap (λ l. l ++ q.more) p.is ∙ append_assoc a p.more q.more }
+
+pub keeps_refl : (t : SetTable) → Keeps t t
+keeps_refl t = record { vars = Grows-refl t.vars; sets = omega arith; same = λ n h. refl }
+
+pub keeps_trans : {a b c : SetTable} → Keeps a b → Keeps b c → Keeps a c
+keeps_trans p q = record {
+  vars = Grows-trans p.vars q.vars;
+  sets = omega (arith, p.sets, q.sets);
+  same = λ n h. q.same n (omega (arith, p.sets)) ∙ p.same n h;
+}
+
+pub holds_kept : {old new : List Var} {r : Row} {set : Var → Bool} → Grows old new → Holds old r set → Holds new r set
+holds_kept {old} {new} {r} g h = record { members = λ v. has_stays old new r g h.within v ∙ h.members v; within = within_stays old new r g h.within }
+
+pub means_kept : {old new : SetTable} {n : ℕ} {set : Var → Bool} → Keeps old new → Means old n set → Means new n set
+means_kept {old} {new} {n} {set} k m = record {
+  known = omega (arith, k.sets, m.known);
+  holds = subst (λ r. Holds new.vars r set) (sym (k.same n m.known)) (holds_kept k.vars m.holds);
+}
+
+pub means_same : {t : SetTable} {n : ℕ} {s r : Var → Bool} → ((v : Var) → s v ≡ r v) → Means t n s → Means t n r
+means_same same m = record { known = m.known; holds = record { members = λ v. m.holds.members v ∙ same v; within = m.holds.within } }
+
+-- a set that is kept stands for what it did
+pub kept_means : {E : Type 0} (r : Result ℕ E) (new : SetTable) (vars : List Var) (row : Row) (set : Var → Bool)
+    → IfOk r (λ n. n < length new.sets) → IfOk r (λ n. row_at new.sets n ≡ row) → new.vars ≡ vars → Holds vars row set → IfOk r (λ n. Means new n set)
+kept_means (Ok n) new vars row set known is same h = record {
+  known = known;
+  holds = subst (λ q. Holds new.vars q set) (sym is) (subst (λ vs. Holds vs row set) (sym same) h);
+}
+kept_means (Err e) new vars row set known is same h = tt
+
+-- one variable
+pub just_holds : (vars : List Var) (v : Var) (n : ℕ) (empty row : Row) → number_of vars v ≡ Some n → StandsFor empty none → Gains empty n row → Holds vars row (just v)
+just_holds vars v n empty row number stands gains = record {
+  members = λ w. gains.members vars v number w ∙ ap (λ b. b || just v w) (stands.members vars w);
+  within = gains.within vars (position-Some (var_eq v) vars n v number).0 (stands.within vars);
+}
+
+-- what holds of the result of a call that may fail
+pub mapped : {T E : Type 0} (P Q : T → Type 0) (r : Result T E) → ((t : T) → P t → Q t) → IfOk r P → IfOk r Q
+mapped P Q (Ok t) f h = f t h
+mapped P Q (Err e) f h = tt
+
+-- both variables of a name
+pub both_marks : (x : List ℕ) (v : Var) → either (just (plain x)) (just (prime x)) v ≡ with_prime x v
+both_marks x v = by (bytes_eq v.name x) v.primed
+  where
+    by : (b p : Bool) → ((b && beq p false) || (b && beq p true)) ≡ b
+    by true true = refl
+    by true false = refl
+    by false p = refl
+
+-- ---- a set more
+
+module _ (eq : Row → Row → Bool) (sets : List Row) (r : Row) where
+  pub record KeepsRows (new : List Row) : Type 0 where
+    pub long : length sets ≤ length new
+    pub same : (n : ℕ) → n < length sets → row_at new n ≡ row_at sets n
+
+  pub inserted_rows : KeepsRows (insert_key eq sets r)
+  inserted_rows = elim (list_any (eq r) sets) as (λ b. KeepsRows (cond b sets (sets ++ r ∷ []))) [
+    | true ↦ record { long = omega arith; same = λ n h. refl }
+    | false ↦ record { long = omega (arith, length-append sets (r ∷ [])); same = λ n h. get_or_append_left sets (r ∷ []) (record { words = []; others = false }) n h }
+  ]
+
+pub inserted_keeps : (eq : Row → Row → Bool) (old : SetTable) (vars : List Var) (sets new : List Row) (r : Row) → vars ≡ old.vars → sets ≡ old.sets → new ≡ insert_key eq sets r
+    → Keeps old (record { vars = vars; sets = new })
+inserted_keeps eq old vars sets new r same_vars same_sets is =
+    let k = subst (λ l. KeepsRows eq sets r l) (sym is) (inserted_rows eq sets r) in
+    let from = subst (λ l. (length l ≤ length new) × ((n : ℕ) → n < length l → row_at new n ≡ row_at l n)) same_sets (k.long, k.same) in
+    record { vars = subst (λ vs. Grows vs vars) same_vars (Grows-refl vars); sets = from.0; same = from.1 }
