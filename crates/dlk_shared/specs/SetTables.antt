@@ -1,6 +1,6 @@
 -- A table of sets of variables, over a table that numbers the variables.
 use Rattle.std.specs.Prelude.{◌≡◌, ℕ, ◌<◌, ◌≤◌, Bool, true, false, List, [], length, slice_index_or}
-use Rattle.dlk_tree.specs.Statics.{plain, prime, and_primes, Sets}
+use Rattle.dlk_tree.specs.Statics.{none, plain, prime, either, both, without, Sets, sets_are}
 use Rattle.dlk_tree.specs.Listed.{is_among}
 use Rattle.dlk_tree.specs.declared.op.Var.{Var}
 use Rattle.dlk_vars.specs.Rows.{Row}
@@ -42,9 +42,36 @@ pub record Keeps (old new : SetTable) : Type 0 where
 pub record Makes (make : (Var → Bool) → (Var → Bool) → Var → Bool) (old : SetTable) (a b : ℕ) (new : SetTable) (n : ℕ) : Type 0 where
   pub means : (s r : Var → Bool) → Means old a s → Means old b r → Means new n (make s r)
 
--- n is a number for what the other stands for, and x' for each x in it
-pub record MakesPrimes (old : SetTable) (a : ℕ) (new : SetTable) (n : ℕ) : Type 0 where
-  pub means : (s : Var → Bool) → Means old a s → Means new n (and_primes s)
+-- the numbers are of sets in the table
+pub record AreKnown (t : SetTable) (n : NodeSets) : Type 0 where
+  pub free : n.free < length t.sets
+  pub bound : n.bound < length t.sets
+  pub must : n.must < length t.sets
+
+-- of two kids, where the second comes after the first: n is a number for what they read
+pub record MakesTurn (old : SetTable) (a b : NodeSets) (new : SetTable) (n : ℕ) : Type 0 where
+  pub means : (s t : Sets) → MeanSets old a s → MeanSets old b t → Means new n (either s.free (without t.free s.must))
+
+-- n are the numbers of what `make` gives of the sets of two nodes
+pub record MakesSets (make : Sets → Sets → Sets) (old : SetTable) (a b : NodeSets) (new : SetTable) (n : NodeSets) : Type 0 where
+  pub means : (s t : Sets) → MeanSets old a s → MeanSets old b t → MeanSets new n (make s t)
+
+-- a box or a diamond, a sequence, a choice, by the sets of their two kids; a quantifier, by its own sets and its kid's; a system, by
+-- its own sets and its kids' together
+abbrev pub modal : Sets → Sets → Sets
+modal s t = sets_are (either s.free (without t.free s.must)) (either s.bound t.bound) none
+
+abbrev pub sequence : Sets → Sets → Sets
+sequence s t = sets_are (either s.free (without t.free s.must)) (either s.bound t.bound) (either s.must t.must)
+
+abbrev pub choice : Sets → Sets → Sets
+choice s t = sets_are (either s.free t.free) (either s.bound t.bound) (both s.must t.must)
+
+abbrev pub quantified : Sets → Sets → Sets
+quantified own s = sets_are (without s.free own.bound) (either s.bound own.bound) none
+
+abbrev pub evolved : Sets → Sets → Sets
+evolved own s = sets_are (either own.free s.free) own.bound own.must
 
 -- x is numbered where x' is
 pub record ArePlainToo (vars : List Var) : Type 0 where
