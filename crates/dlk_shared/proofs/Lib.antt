@@ -1,4 +1,5 @@
 pub mod Bits
 pub mod Found
 pub mod PlainToo
+pub mod Primes
 pub mod SetLemmas

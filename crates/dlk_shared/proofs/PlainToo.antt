@@ -9,10 +9,10 @@ use Rattle.dlk_vars.specs.Tables.{numbered}
 use Rattle.dlk_vars.proofs.Numbering.{var_same}
 use Rattle.dlk_shared.specs.SetTables.{ArePlainToo}
 
-or_true : (a b : Bool) → a ≡ true → (a || b) ≡ true
+pub or_true : (a b : Bool) → a ≡ true → (a || b) ≡ true
 or_true a b e = ap (λ c. c || b) e
 
-no_more : (b : Bool) → (b || false) ≡ b
+pub no_more : (b : Bool) → (b || false) ≡ b
 no_more true = refl
 no_more false = refl
 

@@ -7,13 +7,13 @@ use Rattle.std.specs.Str.{bytes_eq}
 use Rattle.std.specs.List.{list_any}
 use Rattle.indexmap.specs.IndexSet.{insert_key}
 use Rattle.dlk_tree.specs.Tests.{var_eq}
-use Rattle.dlk_tree.specs.Statics.{none, just, plain, prime, with_prime, either}
+use Rattle.dlk_tree.specs.Statics.{none, just, plain, prime, with_prime, and_primes, either}
 use Rattle.dlk_tree.specs.declared.op.Var.{Var}
 use Rattle.dlk_vars.specs.Rows.{Row}
 use Rattle.dlk_vars.specs.Tables.{number_of, Grows}
 use Rattle.dlk_vars.specs.Sets.{StandsFor, Gains}
 use Rattle.dlk_vars.proofs.Members.{has_stays, within_stays}
-use Rattle.dlk_shared.specs.SetTables.{SetTable, row_at, Holds, Means, Keeps}
+use Rattle.dlk_shared.specs.SetTables.{SetTable, row_at, Holds, Means, Keeps, MakesPrimes}
 
 pub Grows-refl : (vars : List Var) → Grows vars vars
 Grows-refl vars = record { more = []; is = sym (append-nil vars) }
@@ -51,6 +51,18 @@ kept_means (Ok n) new vars row set known is same h = record {
   holds = subst (λ q. Holds new.vars q set) (sym is) (subst (λ vs. Holds vs row set) (sym same) h);
 }
 kept_means (Err e) new vars row set known is same h = tt
+
+-- the same of a set with x' for each x in another
+pub kept_primes : {E : Type 0} (r : Result ℕ E) (old new : SetTable) (a : ℕ) (vars : List Var) (row : Row)
+    → IfOk r (λ n. n < length new.sets) → IfOk r (λ n. row_at new.sets n ≡ row) → new.vars ≡ vars
+    → ((s : Var → Bool) → Means old a s → Holds vars row (and_primes s)) → IfOk r (MakesPrimes old a new)
+kept_primes (Ok n) old new a vars row known is same h = record {
+  means = λ s m. record {
+    known = known;
+    holds = subst (λ q. Holds new.vars q (and_primes s)) (sym is) (subst (λ vs. Holds vs row (and_primes s)) (sym same) (h s m));
+  };
+}
+kept_primes (Err e) old new a vars row known is same h = tt
 
 -- one variable
 pub just_holds : (vars : List Var) (v : Var) (n : ℕ) (empty row : Row) → number_of vars v ≡ Some n → StandsFor empty none → Gains empty n row → Holds vars row (just v)

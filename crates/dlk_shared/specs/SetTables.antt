@@ -1,9 +1,10 @@
 -- A table of sets of variables, over a table that numbers the variables.
-use Rattle.std.specs.Prelude.{◌≡◌, ℕ, ◌<◌, ◌≤◌, Bool, true, false, List, [], length, slice_index_or}
-use Rattle.dlk_tree.specs.Statics.{none, plain, prime, either, both, without, Sets, sets_are}
+use Rattle.std.specs.Prelude.{◌≡◌, ℕ, ◌<◌, ◌≤◌, Bool, true, false, ◌||◌, ◌&&◌, not, List, [], length, slice_index_or}
+use Rattle.dlk_tree.specs.Statics.{none, plain, prime, and_primes, either, both, without, Sets, sets_are}
+use Rattle.dlk_tree.specs.Tests.{var_eq}
 use Rattle.dlk_tree.specs.Listed.{is_among}
 use Rattle.dlk_tree.specs.declared.op.Var.{Var}
-use Rattle.dlk_vars.specs.Rows.{Row}
+use Rattle.dlk_vars.specs.Rows.{Row, has_number}
 use Rattle.dlk_shared.specs.declared.node.NodeSets.{NodeSets}
 use Rattle.dlk_vars.specs.Tables.{Grows}
 use Rattle.dlk_vars.specs.Sets.{has, IsWithin}
@@ -72,6 +73,23 @@ quantified own s = sets_are (without s.free own.bound) (either s.bound own.bound
 
 abbrev pub evolved : Sets → Sets → Sets
 evolved own s = sets_are (either own.free s.free) own.bound own.must
+
+-- n is a number for what the other stands for, and x' for each x in it
+pub record MakesPrimes (old : SetTable) (a : ℕ) (new : SetTable) (n : ℕ) : Type 0 where
+  pub means : (s : Var → Bool) → Means old a s → Means new n (and_primes s)
+
+-- the variable of a number
+abbrev pub var_at : List Var → ℕ → Var
+var_at vars n = slice_index_or vars n (plain [])
+
+-- whether the n-th variable w is an x in the set, and v is its x'
+abbrev pub is_prime_of : Row → ℕ → Var → Var → Bool
+is_prime_of from n w v = (not w.primed && has_number from n) && var_eq v (prime w.name)
+
+-- r is the set with x' where the n-th variable is an x in `from`
+pub record GainsPrime (old : List Var) (set from : Row) (n : ℕ) (new : List Var) (r : Row) : Type 0 where
+  pub members : (v : Var) → has new r v ≡ (has old set v || is_prime_of from n (var_at old n) v)
+  pub within : IsWithin new r
 
 -- x is numbered where x' is
 pub record ArePlainToo (vars : List Var) : Type 0 where

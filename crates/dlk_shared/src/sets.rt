@@ -1,11 +1,13 @@
 //! Sets of variables, each kept once.
-ghost use Rattle.std.specs.Prelude.{◌≡◌, ◌<◌, [], length, IfOk, OnOk, Some, true};
+ghost use Rattle.std.specs.Prelude.{◌≡◌, ◌<◌, [], length, IfOk, OnOk, Some, true, not, ◌&&◌};
 ghost use Rattle.dlk_tree.specs.Statics.{none, all, just, plain, prime, with_prime, all_but, either, both, without};
 ghost use Rattle.dlk_tree.specs.Listed.{is_among};
-ghost use Rattle.dlk_vars.specs.Tables.{number_of};
+ghost use Rattle.dlk_vars.specs.Tables.{number_of, Grows};
+ghost use Rattle.dlk_vars.specs.Sets.{IsWithin};
+ghost use Rattle.dlk_vars.specs.Rows.{has_number};
 ghost use Rattle.dlk_shared.specs.Shapes.{own_sets, in_item, in_items};
 ghost use Rattle.dlk_tree.specs.declared.op.Op.TheVariants.{System};
-ghost use Rattle.dlk_shared.specs.SetTables.{row_at, Means, MeanSets, Keeps, Makes, AreKnown, MakesTurn, MakesSets, modal, sequence, choice, quantified, evolved};
+ghost use Rattle.dlk_shared.specs.SetTables.{row_at, Means, MeanSets, Keeps, Makes, MakesPrimes, GainsPrime, AreKnown, MakesTurn, MakesSets, modal, sequence, choice, quantified, evolved};
 
 use crate::node::NodeSets;
 use dlk_store::Which;
@@ -297,6 +299,38 @@ impl SetTable {
         self.keep(set)
     }
 
+    /// The set with `x'` for each `x` in it.
+    pub fn and_primes(&mut self, a: usize) -> Result<usize, VarFault>
+        requires known { a < length self.old.sets }
+        requires within { IsWithin self.old.vars (row_at self.old.sets a) }
+        ensures makes { IfOk result (MakesPrimes self.old a self.new) }
+        ensures keeps { Keeps self.old self.new }
+    {
+        let mut set = self.set(a).clone()?;
+        for n in 0..self.vars.as_slice().len() {
+            set = self.with_prime_of(set, a, n)?;
+        }
+        self.keep(set)
+    }
+
+    /// The set with `x'` where the n-th variable is an `x` in the set of the number `a`.
+    fn with_prime_of(&mut self, set: VarSet, a: usize, n: usize) -> Result<VarSet, VarFault>
+        requires set { a < length self.old.sets }
+        requires known { n < length self.old.vars }
+        requires within { IsWithin self.old.vars set }
+        ensures gains { IfOk result (GainsPrime self.old.vars set (row_at self.old.sets a) n self.new.vars) }
+        ensures grows { Grows self.old.vars self.new.vars }
+        ensures sets { self.new.sets ≡ self.old.sets }
+    {
+        let v = &self.vars.as_slice()[n];
+        if !is_plain_in(v, self.set(a), n) {
+            return Ok(set);
+        }
+        let prime = primed(v.name.clone()?);
+        let p = self.vars.number(&prime)?;
+        set.with(p)
+    }
+
     /// What two kids read where the second comes after the first.
     fn in_turn(&mut self, a: NodeSets, b: NodeSets) -> Result<usize, VarFault>
         requires first { AreKnown self.old a }
@@ -374,6 +408,13 @@ impl SetTable {
             must: a.must,
         })
     }
+}
+
+/// Whether the variable of this number is an `x` in the set.
+fn is_plain_in(v: &Var, set: &VarSet, n: usize) -> bool
+    ensures { result ≡ (not v.now.primed && has_number set.now n) }
+{
+    !v.primed && set.has(VarNo(n))
 }
 
 /// The variable `x'`.
