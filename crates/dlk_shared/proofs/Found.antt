@@ -33,7 +33,8 @@ key_exact a b h =
     let kids = (kids_decides a.kids b.kids).0 (second_so (eqb a.op b.op) (pointwise IdEq.ghosts.eq a.kids b.kids) h) in
     λ i. record { op = op i; kids = kids i }
 
-pub found_stands : (ops : List Op) (nodes : List (Key × Facts)) (k : Key) (place : ℕ) → AreSoundNodes ops nodes → position (KeyEq.ghosts.eq k) (keys_of nodes) ≡ Some place
+pub found_stands : (ops : List Op) (nodes : List (Key × Facts)) (k : Key) (place : ℕ) → AreSoundNodes ops nodes
+    → position (KeyEq.ghosts.eq k) (keys_of nodes) ≡ Some place
     → StandsFor (trees_of ops nodes) (record { 0 = place }) (tree_of (trees_of ops nodes) (row_of ops k))
 found_stands ops nodes k place sound e =
     let found = position-Some (KeyEq.ghosts.eq k) (keys_of nodes) place k e in
@@ -43,5 +44,6 @@ found_stands ops nodes k place sound e =
     let is : k ≡ n.0 = key_exact k (get_or (keys_of nodes) place k) found.1 ∙ get_or-map (λ (n : Key × Facts). n.0) nodes place d k within in
     record {
       known = omega (arith, within, nodes_length ops nodes);
-      tree_is = kept_tree ops nodes sound (record { 0 = place }) n.0 n.1 (slice_get-get_or nodes place d within) ∙ ap (λ l. tree_of (trees_of ops nodes) (row_of ops l)) (sym is);
+      tree_is = kept_tree ops nodes sound (record { 0 = place }) n.0 n.1 (slice_get-get_or nodes place d within)
+          ∙ ap (λ l. tree_of (trees_of ops nodes) (row_of ops l)) (sym is);
     }

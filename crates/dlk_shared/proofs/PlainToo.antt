@@ -24,7 +24,8 @@ module _ (vars : List Var) (v : Var) (closed : ArePlainToo vars) (too : v.primed
   more_plain_too : ArePlainToo (vars ++ v ∷ [])
   more_plain_too = record { plain_too = λ x h. more_among vars v (plain x) ∙ by x (is_among vars (prime x)) refl (sym (more_among vars v (prime x)) ∙ h) }
     where
-      by : (x : List ℕ) (b : Bool) → is_among vars (prime x) ≡ b → (is_among vars (prime x) || var_eq (prime x) v) ≡ true → (is_among vars (plain x) || var_eq (plain x) v) ≡ true
+      by : (x : List ℕ) (b : Bool) → is_among vars (prime x) ≡ b → (is_among vars (prime x) || var_eq (prime x) v) ≡ true
+          → (is_among vars (plain x) || var_eq (plain x) v) ≡ true
       by x true e h = or_true (is_among vars (plain x)) (var_eq (plain x) v) (closed.plain_too x e)
       by x false e h =
           let is : prime x ≡ v = var_same (prime x) v (ap (λ b. b || var_eq (prime x) v) (sym e) ∙ h) in

@@ -21,7 +21,8 @@ use Rattle.dlk_shared.proofs.PlainToo.{no_more}
 
 -- ---- one variable
 
-pub unchanged : (old : List Var) (set from : Row) (n : ℕ) → (not (var_at old n).primed && has_number from n) ≡ false → IsWithin old set → GainsPrime old set from n old set
+pub unchanged : (old : List Var) (set from : Row) (n : ℕ) → (not (var_at old n).primed && has_number from n) ≡ false → IsWithin old set
+    → GainsPrime old set from n old set
 unchanged old set from n e within = record {
   members = λ v. sym (ap (λ t. has old set v || (t && var_eq v (prime (var_at old n).name))) e ∙ no_more (has old set v));
   within = within;
@@ -32,7 +33,8 @@ pub gained : (old new : List Var) (set from r : Row) (n p : ℕ) → (not (var_a
 gained old new set from r n p e grows number g within =
     let x = prime (var_at old n).name in
     record {
-      members = λ v. g.members new x number v ∙ ap (λ b. b || just x v) (has_stays old new set grows within v) ∙ sym (ap (λ t. has old set v || (t && var_eq v x)) e);
+      members = λ v. g.members new x number v ∙ ap (λ b. b || just x v) (has_stays old new set grows within v)
+          ∙ sym (ap (λ t. has old set v || (t && var_eq v x)) e);
       within = g.within new (position-Some (var_eq x) new p x number).0 (within_stays old new set grows within);
     }
 

@@ -65,7 +65,8 @@ kept_primes (Ok n) old new a vars row known is same h = record {
 kept_primes (Err e) old new a vars row known is same h = tt
 
 -- one variable
-pub just_holds : (vars : List Var) (v : Var) (n : ℕ) (empty row : Row) → number_of vars v ≡ Some n → StandsFor empty none → Gains empty n row → Holds vars row (just v)
+pub just_holds : (vars : List Var) (v : Var) (n : ℕ) (empty row : Row) → number_of vars v ≡ Some n → StandsFor empty none → Gains empty n row
+    → Holds vars row (just v)
 just_holds vars v n empty row number stands gains = record {
   members = λ w. gains.members vars v number w ∙ ap (λ b. b || just v w) (stands.members vars w);
   within = gains.within vars (position-Some (var_eq v) vars n v number).0 (stands.within vars);
@@ -95,10 +96,15 @@ module _ (eq : Row → Row → Bool) (sets : List Row) (r : Row) where
   pub inserted_rows : KeepsRows (insert_key eq sets r)
   inserted_rows = elim (list_any (eq r) sets) as (λ b. KeepsRows (cond b sets (sets ++ r ∷ []))) [
     | true ↦ record { long = omega arith; same = λ n h. refl }
-    | false ↦ record { long = omega (arith, length-append sets (r ∷ [])); same = λ n h. get_or_append_left sets (r ∷ []) (record { words = []; others = false }) n h }
+    | false ↦ record {
+      long = omega (arith, length-append sets (r ∷ []));
+      same = λ n h. get_or_append_left sets (r ∷ [])
+          (record { words = []; others = false }) n h;
+    }
   ]
 
-pub inserted_keeps : (eq : Row → Row → Bool) (old : SetTable) (vars : List Var) (sets new : List Row) (r : Row) → vars ≡ old.vars → sets ≡ old.sets → new ≡ insert_key eq sets r
+pub inserted_keeps : (eq : Row → Row → Bool) (old : SetTable) (vars : List Var) (sets new : List Row) (r : Row) → vars ≡ old.vars → sets ≡ old.sets
+    → new ≡ insert_key eq sets r
     → Keeps old (record { vars = vars; sets = new })
 inserted_keeps eq old vars sets new r same_vars same_sets is =
     let k = subst (λ l. KeepsRows eq sets r l) (sym is) (inserted_rows eq sets r) in

@@ -76,7 +76,8 @@ module _ (rows : List Row) (sound : AreSoundRows rows) where
       let trees = trees_of_rows rows in
       rw (tree_at k d h) (
         subst (λ ss. Fits r.op ss) (sym (sorts-kid_trees trees r.kids)) (sound.fit k d h),
-        kids_made trees r.kids (λ i e less. let under = sound.before k d h i e less in made_below b (get_or r.kids i e).0 d (omega (arith, under)) (omega (arith, under))),
+        kids_made trees r.kids (λ i e less. let under = sound.before k d h i e less in made_below b (get_or r.kids i e).0 d (omega (arith, under))
+            (omega (arith, under))),
       )
 
   -- every tree is well made
@@ -87,7 +88,8 @@ module _ (rows : List Row) (sound : AreSoundRows rows) where
       rw (get_or_default (trees_of_rows rows) k d (node True no_kids) h) (made_below (suc k) k r (omega arith) lt)
 
 pub push_row_keeps : (rows : List Row) (r : Row) → Keeps (trees_of_rows rows) (trees_of_rows (rows ++ r ∷ []))
-push_row_keeps rows r = subst (λ new. Keeps (trees_of_rows rows) new) (sym (after_push [] rows r)) (push_keeps (trees_of_rows rows) (tree_of (trees_of_rows rows) r))
+push_row_keeps rows r = subst (λ new. Keeps (trees_of_rows rows) new) (sym (after_push [] rows r)) (push_keeps (trees_of_rows rows) (tree_of
+    (trees_of_rows rows) r))
 
 -- a row whose kids are there and that fits may come next
 pub push_row_sound : (rows : List Row) (r : Row) → AreSoundRows rows → All (IsId (trees_of_rows rows)) r.kids → Fits r.op (sorts_at (trees_of_rows rows) r.kids)
@@ -100,14 +102,16 @@ push_row_sound rows r sound known fits = record {
       (cases_lt k (length rows));
   fit = λ k d h. ⊎_elim
       (λ (lt : k < length rows).
-      rw (get_or_append_left rows (r ∷ []) d k lt, sorts_at-kept (push_row_keeps rows r) (get_or rows k d).kids (kids_known rows sound k d lt)) (sound.fit k d lt))
+      rw (get_or_append_left rows (r ∷ []) d k lt, sorts_at-kept (push_row_keeps rows r) (get_or rows k d).kids (kids_known rows sound k d lt))
+      (sound.fit k d lt))
       (λ (le : length rows ≤ k). let at : k ≡ length rows = omega (arith, length-append rows (r ∷ [])) in
       rw (at, get_or-append_seam rows r [] d, sorts_at-kept (push_row_keeps rows r) r.kids known) fits)
       (cases_lt k (length rows));
 }
 
 -- and stands for its tree
-pub push_row_stands : (rows : List Row) (r : Row) (id : Id) → id.0 ≡ length rows → StandsFor (trees_of_rows (rows ++ r ∷ [])) id (tree_of (trees_of_rows rows) r)
+pub push_row_stands : (rows : List Row) (r : Row) (id : Id) → id.0 ≡ length rows
+    → StandsFor (trees_of_rows (rows ++ r ∷ [])) id (tree_of (trees_of_rows rows) r)
 push_row_stands rows r id e =
     let at : id.0 ≡ length (trees_of_rows rows) = omega (arith, rows_length rows) in
     record {

@@ -114,7 +114,8 @@ module _ (ops : List Op) (nodes : List (Key × Facts)) (k : Key) (m : Facts) whe
           (cases_lt i (length nodes));
     }
 
-    pub tried_sound : {T E : Type 0} (r : Result T E) (new : List (Key × Facts)) → IfOk r (λ _. new ≡ nodes ++ (k, m) ∷ []) → OnErr r (new ≡ nodes) → AreSoundNodes ops new
+    pub tried_sound : {T E : Type 0} (r : Result T E) (new : List (Key × Facts)) → IfOk r (λ _. new ≡ nodes ++ (k, m) ∷ []) → OnErr r (new ≡ nodes)
+        → AreSoundNodes ops new
     tried_sound (Ok x) new ok err = subst (AreSoundNodes ops) (sym ok) push_sound
     tried_sound (Err y) new ok err = subst (AreSoundNodes ops) (sym err) sound
 
@@ -130,7 +131,8 @@ module _ (ops : List Op) (nodes : List (Key × Facts)) (k : Key) (m : Facts) whe
       (cases_lt i (length nodes))
 
   pub tried_facts : (P : Tree → Facts → Type 0) → EachIs P (trees_of ops nodes) nodes → P (tree_of (trees_of ops nodes) (row_of ops k)) m
-      → {T E : Type 0} (r : Result T E) (new : List (Key × Facts)) → IfOk r (λ _. new ≡ nodes ++ (k, m) ∷ []) → OnErr r (new ≡ nodes) → EachIs P (trees_of ops new) new
+      → {T E : Type 0} (r : Result T E) (new : List (Key × Facts)) → IfOk r (λ _. new ≡ nodes ++ (k, m) ∷ []) → OnErr r (new ≡ nodes)
+      → EachIs P (trees_of ops new) new
   tried_facts P each here (Ok x) new ok err = subst (λ ns. EachIs P (trees_of ops ns) ns) (sym ok) (push_facts P each here)
   tried_facts P each here (Err y) new ok err = subst (λ ns. EachIs P (trees_of ops ns) ns) (sym err) each
 

@@ -48,7 +48,8 @@ module _ (ops : List Op) (nodes : List (Key × Facts)) (ops_apart : IsDistinct O
       let l = (get_or nodes j d).0 in
       let same : row_of ops k ≡ row_of ops l =
       sym (get_or-map (λ (n : Key × Facts). row_of ops n.0) nodes i d r inside) ∙ e ∙ get_or-map (λ (n : Key × Facts). row_of ops n.0) nodes j d r beside in
-      let op : k.op ≡ l.op = place_one OpEq.ghosts.eq (λ o. (op_decides o o).1 (λ t. o)) ops ops_apart k.op l.op True (sound.known i d inside) (sound.known j d beside)
+      let op : k.op ≡ l.op = place_one OpEq.ghosts.eq (λ o. (op_decides o o).1 (λ t. o)) ops ops_apart k.op l.op True (sound.known i d inside)
+      (sound.known j d beside)
       (ap (λ (s : Row). s.op) same) in
       let key : k ≡ l = λ t. record { op = op t; kids = (same t).kids } in
       place_one KeyEq.ghosts.eq laws-law.refl (keys_of nodes) nodes_apart i j d.0 (omega (arith, keys)) (omega (arith, keys))

@@ -12,10 +12,12 @@ returns-in_ok-rest-in-Some-clause-means t c =
     let is : c.args.items.now ≡ item ∷ rest = search rules in
     let new = c.either.new.self in
     subst (λ items. IfOk c.either.result (λ n. Means new n (in_items c.args.which items))) (sym is)
-    (mapped (Makes either c.in_items.new.self c.in_ok-first-in-Some.first c.in_ok-rest-in-Some.rest new) (λ n. Means new n (in_items c.args.which (item ∷ rest))) c.either.result
+    (mapped (Makes either c.in_items.new.self c.in_ok-first-in-Some.first c.in_ok-rest-in-Some.rest new) (λ n. Means new n (in_items c.args.which
+    (item ∷ rest))) c.either.result
     (λ n m. m.means (in_item c.args.which item) (in_items c.args.which rest)
     (means_kept c.in_ok-rest-in-Some.ensures.keeps c.in_ok-first-in-Some.ensures.means) c.in_ok-rest-in-Some.ensures.means)
     c.either.ensures.makes)
 
 pub returns-in_ok-rest-in-Some-clause-keeps : goal.returns-in_ok-rest-in-Some-clause-keeps
-returns-in_ok-rest-in-Some-clause-keeps t c = keeps_trans (keeps_trans c.in_ok-first-in-Some.ensures.keeps c.in_ok-rest-in-Some.ensures.keeps) c.either.ensures.keeps
+returns-in_ok-rest-in-Some-clause-keeps t c = keeps_trans
+    (keeps_trans c.in_ok-first-in-Some.ensures.keeps c.in_ok-rest-in-Some.ensures.keeps) c.either.ensures.keeps

@@ -10,7 +10,8 @@ returns-clause-makes c =
     let new = c.either.new.self in
     mapped (Makes either mid c.args.a.free c.in_ok-rest.rest new) (MakesTurn old c.args.a c.args.b new) c.either.result
     (λ n m. record {
-      means = λ s t p q. m.means s.free (without t.free s.must) (means_kept c.in_ok-rest.ensures.keeps p.free) (c.in_ok-rest.ensures.makes.means t.free s.must q.free p.must);
+      means = λ s t p q. m.means s.free (without t.free s.must) (means_kept c.in_ok-rest.ensures.keeps p.free)
+          (c.in_ok-rest.ensures.makes.means t.free s.must q.free p.must);
     })
     c.either.ensures.makes
 

@@ -12,15 +12,15 @@ use Rattle.dlk_shared.proofs.store.SharedStore.number.Goals as goal
 pub invariant_of-self-clause-sound : goal.invariant_of-self-clause-sound
 invariant_of-self-clause-sound c =
     let s = c.args.self.now in
-    nodes_kept (tried_keeps OpEq.ghosts.eq s.ops.keys c.args.op c.insert_full.result c.insert_full.new.self.keys c.insert_full.ensures.keys c.insert_full.ensures.err)
-    s.nodes.entries s.sound
+    let tried = c.insert_full.ensures in
+    nodes_kept (tried_keeps OpEq.ghosts.eq s.ops.keys c.args.op c.insert_full.result c.insert_full.new.self.keys tried.keys tried.err) s.nodes.entries s.sound
 
 pub invariant_of-self-clause-facts : goal.invariant_of-self-clause-facts
 invariant_of-self-clause-facts c =
     let s = c.args.self.now in
-    let same = rows_kept (tried_keeps OpEq.ghosts.eq s.ops.keys c.args.op c.insert_full.result c.insert_full.new.self.keys c.insert_full.ensures.keys c.insert_full.ensures.err)
-    s.nodes.entries s.sound.known in
-    subst (λ rows. EachIs IsFactsOf (trees_of_rows rows) s.nodes.entries) (sym same) s.facts
+    let tried = c.insert_full.ensures in
+    let keeps = tried_keeps OpEq.ghosts.eq s.ops.keys c.args.op c.insert_full.result c.insert_full.new.self.keys tried.keys tried.err in
+    subst (λ rows. EachIs IsFactsOf (trees_of_rows rows) s.nodes.entries) (sym (rows_kept keeps s.nodes.entries s.sound.known)) s.facts
 
 pub returns-clause-op : goal.returns-clause-op
 returns-clause-op c =
@@ -35,5 +35,6 @@ returns-clause-known c =
 pub returns-clause-trees : goal.returns-clause-trees
 returns-clause-trees c =
     let s = c.args.self.now in
-    ap trees_of_rows (rows_kept (tried_keeps OpEq.ghosts.eq s.ops.keys c.args.op c.insert_full.result c.insert_full.new.self.keys c.insert_full.ensures.keys c.insert_full.ensures.err)
-    s.nodes.entries s.sound.known)
+    let tried = c.insert_full.ensures in
+    let keeps = tried_keeps OpEq.ghosts.eq s.ops.keys c.args.op c.insert_full.result c.insert_full.new.self.keys tried.keys tried.err in
+    ap trees_of_rows (rows_kept keeps s.nodes.entries s.sound.known)
