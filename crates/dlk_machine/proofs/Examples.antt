@@ -8,9 +8,9 @@ use Rattle.dlk_grammar.specs.Lexemes.{Word, Name, Number, Dot, Bang, True, Invar
 use Rattle.dlk_grammar.specs.Phrases.{Everywhere, Literal, Variable, Negate, Truth, Holds, Not, Dia, Binary, Const, Assign, AssignAny, Then, Loop, System, Noted, none, snoc, Any, Evolve, Flow, no_items, add}
 use Rattle.dlk_grammar.specs.Grammar.{Turned}
 use Rattle.dlk_grammar.specs.Erased.{ills, lowest}
-use Rattle.dlk_machine.proofs.Parse.{parse, reader}
-use Rattle.dlk_machine.proofs.Sequents.{sequent_reader}
-use Rattle.dlk_machine.proofs.Expressions.{expression_reader}
+use Rattle.dlk_machine.specs.Parse.{parse, reader}
+use Rattle.dlk_machine.specs.Sequents.{sequent_reader}
+use Rattle.dlk_machine.specs.Expressions.{expression_reader}
 
 abbrev x : Word
 x = codes "x"

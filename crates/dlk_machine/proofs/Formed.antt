@@ -26,7 +26,7 @@ use Rattle.dlk_grammar.specs.Phrases.{Space, Everywhere, Except, Phrase, Phrases
 use Rattle.dlk_grammar.specs.Grammar.{Nonterminal, formula, Reads, formula-imp, formula-equiv, imp-disj, imp-imply, disj-conj, disj-or, conj-unf, conj-and, unf-not, unf-forall, unf-exists, unf-box, unf-dia, unf-atom, atom-true, atom-false, atom-hole, atom-compare, atom-nullary, atom-holds, atom-any, atom-except, atom-context, atom-bracket, atom-diff, term-mul, term-add, term-sub, mul-neg, mul-times, mul-over, neg-pow, neg-minus, pow-prim, pow-power, prim-number, prim-dot, prim-name, prim-primed, prim-nullary, prim-apply, prim-any, prim-except, prim-bracket, prim-diff, prog-seq, prog-choice, seq-stmt, seq-then, stmt-const, stmt-assign, stmt-assign_prime, stmt-any, stmt-test, stmt-group, Compares, cmp-equal, cmp-not_equal, cmp-at_least, cmp-greater, cmp-at_most, cmp-less, ReadsList, list-one, list-more, ReadsBrace, brace-prog, brace-items, brace-domain, ReadsItems, items-one, items-more, ReadsItem, item-evolve, item-flow, item-except, ReadsStar, star-none, star-loop, ReadsInv, inv-none, inv-some, ReadsSide, side-nothing, side-list, Sides, Turned, ReadsSequent, sequent-sides, ReadsExpression, as-formula, as-program, as-term}
 use Rattle.dlk_grammar.specs.Erased.{erase, erase_all, item_of, ode_items, item_terms, symbol, taboo, ills, ills_of_all, ills_of_items, count, is_ill_call, is_ill_system, place_if, infix_op}
 use Rattle.dlk_grammar.specs.Readings.{permits, Permitted, erase_sides}
-use Rattle.dlk_machine.proofs.Levels.{form_sort}
+use Rattle.dlk_machine.specs.Levels.{form_sort}
 
 abbrev pub Each : {X : Type 0} → (X → Type 0) → List X → Type 0
 Each P [] = Unit {0}

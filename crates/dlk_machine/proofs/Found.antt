@@ -8,8 +8,8 @@ use Rattle.dlk_grammar.specs.Phrases.{Everywhere, Except, Phrase, Literal, Argum
 use Rattle.dlk_grammar.specs.Grammar.{formula, unf, atom, term, prim, prog, stmt, Reads, atom-true, atom-false, atom-hole, atom-nullary, atom-holds, atom-any, atom-except, atom-context, atom-bracket, atom-diff, prim-number, prim-dot, prim-name, prim-primed, prim-nullary, prim-apply, prim-any, prim-except, prim-bracket, prim-diff, stmt-const, stmt-assign, stmt-assign_prime, stmt-any, stmt-test, ReadsBrace, brace-prog, brace-items, brace-domain, ReadsItems, item-evolve, item-flow, item-except, star-loop}
 use Rattle.dlk_tree.specs.declared.op.Sort.{Sort}
 use Rattle.dlk_tree.specs.declared.op.Sort.TheVariants.{Term, Formula, Program}
-use Rattle.dlk_machine.proofs.Levels.{form_sort, top}
-use Rattle.dlk_machine.proofs.Machine.{◌>>=◌, when, Between, By, Next, Quantifier, ForAll, ForSome, InBox, InDia, Bang', Bound, Modal, Holder, Round, Args, InContext, In, InBrace, Assigns, Tests, Evolves, Domain, Notes, Part, Left, Before, Inside, level, operand_sort, result_sort, Tail, Done, Bare, Grouped, Braced, Starred, Annotated, Piece, Is, Symbol, State, Wants, Has, Calls, Bars, BarsName, Binds, Starts, StartsPrime, StartsGets, StartsStar, Opens, OpensName, OpensPrime, WantsItem, ItemName, ItemPrime, ItemBar, ItemBarName, ItemEnds, Invariants, primes, formula_primes, as_sort, tail_of, with_tail, program_sort, is_program, reduce, round_sort, place, allows, fits, start_operand, start_statement, start, after_operand, items_step, close, close_top, closing, and_top, infix_after, name_after, primed, prime_after, star_after, invariant_after, semi_after, next_after, after_program, after_other, call_step, bars_step, bars_name_step, bind_step, statement_step, statement_prime_step, statement_gets_step, statement_star_step, item_name_step, item_prime_step, items_begin, item_bar_step, item_bar_name_step, opens_step, opens_name_step, opens_prime_step, invariants_step, step, whole, ended}
+use Rattle.dlk_machine.specs.Levels.{form_sort, top}
+use Rattle.dlk_machine.specs.Machine.{◌>>=◌, when, Between, By, Next, Quantifier, ForAll, ForSome, InBox, InDia, Bang', Bound, Modal, Holder, Round, Args, InContext, In, InBrace, Assigns, Tests, Evolves, Domain, Notes, Part, Left, Before, Inside, level, operand_sort, result_sort, Tail, Done, Bare, Grouped, Braced, Starred, Annotated, Piece, Is, Symbol, State, Wants, Has, Calls, Bars, BarsName, Binds, Starts, StartsPrime, StartsGets, StartsStar, Opens, OpensName, OpensPrime, WantsItem, ItemName, ItemPrime, ItemBar, ItemBarName, ItemEnds, Invariants, primes, formula_primes, as_sort, tail_of, with_tail, program_sort, is_program, reduce, round_sort, place, allows, fits, start_operand, start_statement, start, after_operand, items_step, close, close_top, closing, and_top, infix_after, name_after, primed, prime_after, star_after, invariant_after, semi_after, next_after, after_program, after_other, call_step, bars_step, bars_name_step, bind_step, statement_step, statement_prime_step, statement_gets_step, statement_star_step, item_name_step, item_prime_step, items_begin, item_bar_step, item_bar_name_step, opens_step, opens_name_step, opens_prime_step, invariants_step, step, whole, ended}
 use Rattle.dlk_machine.proofs.Opening.{bind_some, when_is}
 use Rattle.dlk_machine.proofs.Climb.{formula_level, program_level, need, need_below, stands}
 use Rattle.dlk_machine.proofs.Only.{place_kind, top_sort}

@@ -1,8 +1,3 @@
-pub mod Levels
-pub mod Machine
-pub mod Parse
-pub mod Sequents
-pub mod Expressions
 pub mod Examples
 pub mod Opening
 pub mod Climb
@@ -27,4 +22,3 @@ pub mod Formed
 pub mod PairsFormed
 pub mod TextLaws
 pub mod SomeText
-pub mod Pairs

@@ -9,9 +9,9 @@ use Rattle.dlk_grammar.specs.Phrases.{Everywhere, Except, Phrase, Literal, Argum
 use Rattle.dlk_grammar.specs.Grammar.{Nonterminal, formula, imp, disj, conj, unf, atom, term, mul, neg, pow, prim, prog, seq, stmt, Reads, formula-imp, formula-equiv, imp-disj, imp-imply, disj-conj, disj-or, conj-unf, conj-and, unf-not, unf-forall, unf-exists, unf-box, unf-dia, unf-atom, atom-true, atom-false, atom-hole, atom-compare, atom-nullary, atom-holds, atom-any, atom-except, atom-context, atom-bracket, atom-diff, term-mul, term-add, term-sub, mul-neg, mul-times, mul-over, neg-pow, neg-minus, pow-prim, pow-power, prim-number, prim-dot, prim-name, prim-primed, prim-nullary, prim-apply, prim-any, prim-except, prim-bracket, prim-diff, prog-seq, prog-choice, seq-stmt, seq-then, stmt-const, stmt-assign, stmt-assign_prime, stmt-any, stmt-test, stmt-group, Compares, cmp-equal, cmp-not_equal, cmp-at_least, cmp-greater, cmp-at_most, cmp-less, ReadsList, list-one, list-more, ReadsBrace, brace-prog, brace-items, brace-domain, ReadsItems, items-one, items-more, ReadsItem, item-evolve, item-flow, item-except, ReadsStar, star-none, star-loop, ReadsInv, inv-none, inv-some, ReadsSemi, semi-none, semi-some}
 use Rattle.dlk_tree.specs.declared.op.Sort.{Sort}
 use Rattle.dlk_tree.specs.declared.op.Sort.TheVariants.{Term, Formula, Program}
-use Rattle.dlk_machine.proofs.Levels.{form_level, form_sort, top}
-use Rattle.dlk_machine.proofs.Machine.{◌>>=◌, when, Between, By, Next, ForAll, ForSome, Modality, InBox, InDia, Prefix, Minus, Bang', Bound, Modal, Holder, Round, Args, InContext, In, InBrace, Assigns, Tests, Evolves, Domain, Notes, Part, Left, Before, Inside, level, right_level, operand_sort, result_sort, binary, prefix_level, prefix_sort, unary, Tail, Done, Bare, Grouped, Braced, Starred, Annotated, Piece, Is, Symbol, State, Wants, Has, Calls, Binds, Starts, StartsGets, Opens, WantsItem, primes, formula_primes, as_sort, with_tail, program_sort, is_program, wanted, join, reduce, round_sort, place, allows, fits, start_operand, start_statement, after_operand, items_step, close, closing, and_top, infix_after, primed, next_after, after_program, after_other, call_step, statement_gets_step, item_name_step, opens_name_step, step, ended}
-use Rattle.dlk_machine.proofs.Parse.{reader}
+use Rattle.dlk_machine.specs.Levels.{form_level, form_sort, top}
+use Rattle.dlk_machine.specs.Machine.{◌>>=◌, when, Between, By, Next, ForAll, ForSome, Modality, InBox, InDia, Prefix, Minus, Bang', Bound, Modal, Holder, Round, Args, InContext, In, InBrace, Assigns, Tests, Evolves, Domain, Notes, Part, Left, Before, Inside, level, right_level, operand_sort, result_sort, binary, prefix_level, prefix_sort, unary, Tail, Done, Bare, Grouped, Braced, Starred, Annotated, Piece, Is, Symbol, State, Wants, Has, Calls, Binds, Starts, StartsGets, Opens, WantsItem, primes, formula_primes, as_sort, with_tail, program_sort, is_program, wanted, join, reduce, round_sort, place, allows, fits, start_operand, start_statement, after_operand, items_step, close, closing, and_top, infix_after, primed, next_after, after_program, after_other, call_step, statement_gets_step, item_name_step, opens_name_step, step, ended}
+use Rattle.dlk_machine.specs.Parse.{reader}
 use Rattle.dlk_machine.proofs.Opening.{some_is, bind_some, when_is, states}
 use Rattle.dlk_machine.proofs.Firsts.{front-query, front-brace, front-const, front-assign, front-assign_prime, is_other, First, first, first_list}
 

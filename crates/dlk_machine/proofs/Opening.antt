@@ -1,11 +1,11 @@
 -- Fronts of texts, and the states that a machine passes through.
 use Rattle.std.proofs.Common.{◌≡◌, Bool, true, false, List, [], ◌∷◌, ◌++◌, Option, Some, None, refl, ap, subst, ◌∙◌, append_assoc}
 use Rattle.dlk_grammar.specs.Lexemes.{Lexeme}
-use Rattle.dlk_machine.proofs.Machine.{◌>>=◌, when}
+use Rattle.dlk_machine.specs.Machine.{◌>>=◌, when}
 use Rattle.dlk_grammar.specs.declared.token.Dots.{Dots}
 use Rattle.dlk_grammar.specs.declared.token.Dots.TheVariants.{Refused, Allowed}
 use Rattle.dlk_grammar.specs.Readings.{Permitted}
-use Rattle.dlk_machine.proofs.Parse.{Machine}
+use Rattle.dlk_machine.specs.Parse.{Machine}
 
 pub some_is : {A : Type 0} (x y : A) → Some x ≡ Some y → x ≡ y
 some_is x y e = cc

@@ -8,7 +8,7 @@ use Rattle.dlk_grammar.specs.Lexemes.{Word, Lexeme, Name, Dot, Blank, RoundBar, 
 use Rattle.dlk_grammar.specs.Phrases.{Phrase, Truth, System, Items}
 use Rattle.dlk_grammar.specs.Grammar.{ReadsItems, items-one, item-evolve, item-flow, item-except}
 use Rattle.dlk_grammar.specs.Substitutions.{Target, function, predicate, PairPhrase, to, ReadsDots, dots-more, ReadsTarget, target-nullary, target-dots, target-except, ReadsPair}
-use Rattle.dlk_machine.proofs.Machine.{State, Wants, ended}
+use Rattle.dlk_machine.specs.Machine.{State, Wants, ended}
 use Rattle.dlk_machine.proofs.Opening.{some_is, bind_some}
 use Rattle.dlk_machine.proofs.Parsing.{known, none_some}
 use Rattle.dlk_machine.proofs.Spelled.{items_joined}
@@ -16,7 +16,7 @@ use Rattle.dlk_machine.proofs.Found.{ends}
 use Rattle.dlk_machine.proofs.Live.{live, zero_reads, true_reads}
 use Rattle.dlk_machine.proofs.Reading.{passed_after}
 use Rattle.dlk_machine.proofs.ExpressionLaws.{no_formula}
-use Rattle.dlk_machine.proofs.Pairs.{Right, EitherOf, TextOf, SystemOf, PairState, Begins, LeftName, TermName, Calls, DotsOf, DotWanted, Bars, BarsName, InContext, ContextHole, FlowOpens, FlowName, FlowBar, FlowBarName, FlowExcept, LeftEnds, InRight, BraceWanted, ItemWanted, ItemName, ItemPrime, InTerm, ItemBar, ItemBarName, ItemEnds, SystemEnds, right_ended, pair_ended}
+use Rattle.dlk_machine.specs.Pairs.{Right, EitherOf, TextOf, SystemOf, PairState, Begins, LeftName, TermName, Calls, DotsOf, DotWanted, Bars, BarsName, InContext, ContextHole, FlowOpens, FlowName, FlowBar, FlowBarName, FlowExcept, LeftEnds, InRight, BraceWanted, ItemWanted, ItemName, ItemPrime, InTerm, ItemBar, ItemBarName, ItemEnds, SystemEnds, right_ended, pair_ended}
 use Rattle.dlk_machine.proofs.PairTargets.{LeftText, left-either, left-context, left-flow, left-flow-except, Behind, behind_append, behind_more, target_left}
 use Rattle.dlk_machine.proofs.PairItems.{RightText, right-formula, right-term, right-text, right-system, pair_joined, chosen_pair}
 use Rattle.dlk_machine.proofs.PairStates.{InText, IsText, either-text, sort-text, InSystem, PairAfter}

@@ -8,8 +8,8 @@ use Rattle.dlk_grammar.specs.Lexemes.{Word, Name, Number, Dot, Blank, Bang, True
 use Rattle.dlk_grammar.specs.Phrases.{Everywhere, Except, Literal, Argument, Variable, Apply, Truth, Hole, Holds, Not, Binary, Assign, System, none, Call, Evolve, Flow, no_items, add}
 use Rattle.dlk_grammar.specs.Erased.{symbol}
 use Rattle.dlk_grammar.specs.Substitutions.{to}
-use Rattle.dlk_machine.proofs.Parse.{parse}
-use Rattle.dlk_machine.proofs.Pairs.{pairs_reader}
+use Rattle.dlk_machine.specs.Parse.{parse}
+use Rattle.dlk_machine.specs.Pairs.{pairs_reader}
 
 abbrev a : Word
 a = codes "a"

@@ -7,9 +7,9 @@ use Rattle.dlk_grammar.specs.Lexemes.{Word, Lexeme, OpenBrace, CloseBrace, Comma
 use Rattle.dlk_grammar.specs.Phrases.{Phrase, Truth, System, Item, Evolve, Items, no_items, add}
 use Rattle.dlk_grammar.specs.Grammar.{formula, term, Reads, ReadsItems, items-one, items-more, ReadsItem, item-evolve, item-flow, item-except}
 use Rattle.dlk_grammar.specs.Substitutions.{Target, function, predicate, PairPhrase, to, ReadsPair, pair-formula, pair-term, pair-function, pair-context, pair-program, pair-flow, pair-flow-except}
-use Rattle.dlk_machine.proofs.Levels.{top}
-use Rattle.dlk_machine.proofs.Machine.{◌>>=◌, State, Wants, step, ended}
-use Rattle.dlk_machine.proofs.Parse.{or_else, reader}
+use Rattle.dlk_machine.specs.Levels.{top}
+use Rattle.dlk_machine.specs.Machine.{◌>>=◌, State, Wants, step, ended}
+use Rattle.dlk_machine.specs.Parse.{or_else, reader}
 use Rattle.dlk_machine.proofs.Opening.{some_is, bind_some, states}
 use Rattle.dlk_machine.proofs.Parsing.{known, none_some}
 use Rattle.dlk_machine.proofs.Only.{only_at}
@@ -17,7 +17,7 @@ use Rattle.dlk_machine.proofs.Spelled.{nothing, After}
 use Rattle.dlk_machine.proofs.Found.{moves, ends}
 use Rattle.dlk_machine.proofs.Reading.{allowed, passed_after}
 use Rattle.dlk_machine.proofs.SequentLaws.{comma_ends}
-use Rattle.dlk_machine.proofs.Pairs.{Right, EitherOf, TextOf, SystemOf, PairState, LeftEnds, InRight, ItemWanted, InTerm, SystemEnds, right_start, right_sort, in_term, pair_step, pair_ended, pair_reader, Begins}
+use Rattle.dlk_machine.specs.Pairs.{Right, EitherOf, TextOf, SystemOf, PairState, LeftEnds, InRight, ItemWanted, InTerm, SystemEnds, right_start, right_sort, in_term, pair_step, pair_ended, pair_reader, Begins}
 use Rattle.dlk_machine.proofs.PairTerms.{no_brace}
 use Rattle.dlk_machine.proofs.PairTargets.{LeftText, left-either, left-term, left-context, left-program, left-flow, left-flow-except, Passes, goes_on, left_passes}
 

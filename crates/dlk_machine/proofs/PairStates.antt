@@ -14,14 +14,14 @@ use Rattle.dlk_grammar.specs.Lexemes.{Word, Lexeme, Name, Dot, Blank, RoundBars,
 use Rattle.dlk_grammar.specs.Phrases.{Everywhere, Except, Phrase, Evolve, Flow, Items, no_items, add}
 use Rattle.dlk_grammar.specs.Grammar.{ReadsItems, item-evolve, item-flow, item-except}
 use Rattle.dlk_grammar.specs.Substitutions.{Target, Over, Unit, ReadsDots, dots-one, dots-more, target-nullary, target-dots, target-any, target-except}
-use Rattle.dlk_machine.proofs.Machine.{◌>>=◌, State, Wants, step, ended}
-use Rattle.dlk_machine.proofs.Parse.{or_else, reader}
+use Rattle.dlk_machine.specs.Machine.{◌>>=◌, State, Wants, step, ended}
+use Rattle.dlk_machine.specs.Parse.{or_else, reader}
 use Rattle.dlk_machine.proofs.Opening.{some_is, bind_some, when_is, states, states_more}
 use Rattle.dlk_machine.proofs.Parsing.{known, none_some}
 use Rattle.dlk_machine.proofs.Spelled.{ItemsBefore, items-begin, items-go_on, items_joined}
 use Rattle.dlk_machine.proofs.Found.{ends}
 use Rattle.dlk_machine.proofs.Reading.{passed_after}
-use Rattle.dlk_machine.proofs.Pairs.{Right, EitherOf, TextOf, SystemOf, right_of, PairState, Begins, LeftName, TermName, Calls, DotsOf, DotWanted, Bars, BarsName, InContext, ContextHole, FlowOpens, FlowName, FlowBar, FlowBarName, FlowExcept, LeftEnds, InRight, BraceWanted, ItemWanted, ItemName, ItemPrime, InTerm, ItemBar, ItemBarName, ItemEnds, SystemEnds, target_step, right_start, right_sort, in_term, pair_step}
+use Rattle.dlk_machine.specs.Pairs.{Right, EitherOf, TextOf, SystemOf, right_of, PairState, Begins, LeftName, TermName, Calls, DotsOf, DotWanted, Bars, BarsName, InContext, ContextHole, FlowOpens, FlowName, FlowBar, FlowBarName, FlowExcept, LeftEnds, InRight, BraceWanted, ItemWanted, ItemName, ItemPrime, InTerm, ItemBar, ItemBarName, ItemEnds, SystemEnds, target_step, right_start, right_sort, in_term, pair_step}
 use Rattle.dlk_machine.proofs.PairTargets.{the-word, LeftText, left-context, left-program, left-flow, left-flow-except, Behind, behind_nothing, behind_more, behind_same, target_left}
 
 -- the text of a right side, up to a state of its reader

@@ -8,7 +8,7 @@ use Rattle.dlk_grammar.specs.Lexemes.{Word, Lexeme, Name, Dot, Blank, BraceBar, 
 use Rattle.dlk_grammar.specs.Phrases.{Everywhere, Except}
 use Rattle.dlk_grammar.specs.Substitutions.{Target, Over, function, ReadsDots, dots-one, dots-more, ReadsTarget, target-nullary, target-dots, target-any, target-except}
 use Rattle.dlk_machine.proofs.Opening.{states, states_then}
-use Rattle.dlk_machine.proofs.Pairs.{Right, EitherOf, TextOf, SystemOf, right_of, PairState, Begins, LeftName, Calls, DotsOf, LeftEnds, pair_reader}
+use Rattle.dlk_machine.specs.Pairs.{Right, EitherOf, TextOf, SystemOf, right_of, PairState, Begins, LeftName, Calls, DotsOf, LeftEnds, pair_reader}
 
 -- the word `term` in front of a left side, or nothing
 pub data TermWord : Bool → List Lexeme → Type 0 where

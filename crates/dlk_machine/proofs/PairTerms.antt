@@ -4,7 +4,7 @@ use Rattle.dlk_grammar.specs.declared.token.Infix.TheVariants.{Add, Sub, Mul, Di
 use Rattle.dlk_grammar.specs.Lexemes.{Lexeme, CloseBrace}
 use Rattle.dlk_tree.specs.declared.op.Sort.{Sort}
 use Rattle.dlk_tree.specs.declared.op.Sort.TheVariants.{Term, Formula, Program}
-use Rattle.dlk_machine.proofs.Machine.{◌>>=◌, Between, By, Next, Prefix, Minus, Holder, Part, operand_sort, result_sort, prefix_sort, Piece, State, Wants, Has, OpensName, ItemName, ItemEnds, program_sort, is_program, reduce, round_sort, held_sort, place, allows, close, close_top, closing, step}
+use Rattle.dlk_machine.specs.Machine.{◌>>=◌, Between, By, Next, Prefix, Minus, Holder, Part, operand_sort, result_sort, prefix_sort, Piece, State, Wants, Has, OpensName, ItemName, ItemEnds, program_sort, is_program, reduce, round_sort, held_sort, place, allows, close, close_top, closing, step}
 use Rattle.dlk_machine.proofs.Parsing.{known}
 use Rattle.dlk_machine.proofs.Spelled.{HolderText, round-text, args-text, context-text, box-text, in_dia-text, brace-text, assigns-text, assigns_prime-text, tests-text, evolves-text, domain-text, notes-text, Spells, nothing, left, before, inside, HasRead, After}
 use Rattle.dlk_machine.proofs.Found.{reduced_all}

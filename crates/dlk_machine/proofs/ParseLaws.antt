@@ -11,12 +11,13 @@ use Rattle.dlk_grammar.specs.Phrases.{Phrase}
 use Rattle.dlk_grammar.specs.Grammar.{Nonterminal, Reads, Sides, ReadsSequent, ReadsExpression}
 use Rattle.dlk_grammar.specs.Readings.{Says, Stops, grammar}
 use Rattle.dlk_grammar.specs.Substitutions.{PairPhrase, ReadsSubstitution}
-use Rattle.dlk_machine.proofs.Levels.{form_sort, top}
-use Rattle.dlk_machine.proofs.Machine.{State}
-use Rattle.dlk_machine.proofs.Parse.{Machine, parse, reader}
-use Rattle.dlk_machine.proofs.Expressions.{ExpressionState, expression_reader}
-use Rattle.dlk_machine.proofs.Sequents.{sequent_reader}
-use Rattle.dlk_machine.proofs.Pairs.{pairs_reader}
+use Rattle.dlk_machine.specs.Levels.{form_sort, top}
+use Rattle.dlk_machine.specs.Machine.{State}
+use Rattle.dlk_machine.specs.Parse.{Machine, parse, reader}
+use Rattle.dlk_machine.specs.Forms.{machine_of}
+use Rattle.dlk_machine.specs.Expressions.{ExpressionState, expression_reader}
+use Rattle.dlk_machine.specs.Sequents.{sequent_reader}
+use Rattle.dlk_machine.specs.Pairs.{pairs_reader}
 use Rattle.dlk_machine.proofs.Climb.{stands}
 use Rattle.dlk_machine.proofs.Opening.{all_permitted}
 use Rattle.dlk_machine.proofs.Only.{top_sort}
@@ -115,19 +116,6 @@ pairs_fault_says_nothing s n e = faulty pairs_reader ReadsSubstitution Allowed p
 
 pub one_pairs_read : (s : List Lexeme) (p q : List PairPhrase) → ReadsSubstitution s p → ReadsSubstitution s q → p ≡ q
 one_pairs_read s p q d e = one pairs_reader ReadsSubstitution pairs_all s p q d e
-
--- the machine of a goal
-abbrev pub FormState : Form → Type 0
-FormState form.Formula = State
-FormState form.Term = State
-FormState form.Program = State
-FormState form.Expression = ExpressionState
-
-abbrev pub machine_of : (wanted : Form) → Machine (FormState wanted) Phrase
-machine_of form.Formula = reader Formula
-machine_of form.Term = reader Term
-machine_of form.Program = reader Program
-machine_of form.Expression = expression_reader
 
 forms_all : (d : Dots) (wanted : Form) → Reader d (machine_of wanted) (grammar wanted)
 forms_all d form.Formula = reads_all d Formula

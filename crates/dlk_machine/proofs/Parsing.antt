@@ -2,10 +2,10 @@
 use Rattle.std.proofs.Common.{◌≡◌, ℕ, ◌+◌, ◌⊎◌, inl, inr, Bool, true, List, [], ◌∷◌, ◌++◌, length, Option, Some, None, Result, Ok, Err, refl, sym, ap, subst, ◌∙◌, append_assoc, length-append}
 use Rattle.std.proofs.lemmas.List.{append-nil}
 use Rattle.dlk_grammar.specs.Lexemes.{Lexeme}
-use Rattle.dlk_machine.proofs.Machine.{◌>>=◌, when}
+use Rattle.dlk_machine.specs.Machine.{◌>>=◌, when}
 use Rattle.dlk_grammar.specs.declared.token.Dots.{Dots}
 use Rattle.dlk_grammar.specs.Readings.{permits, Permitted, Says, Begins, Stops, stops-token, stops-end}
-use Rattle.dlk_machine.proofs.Parse.{Machine, or_else, parse_from, parse}
+use Rattle.dlk_machine.specs.Parse.{Machine, or_else, parse_from, parse}
 use Rattle.dlk_machine.proofs.Opening.{some_is, bind_some, when_is, permitted_append, Begun, states}
 
 -- an option by its cases

@@ -6,11 +6,11 @@ use Rattle.dlk_grammar.specs.Phrases.{Phrase, Phrases, none, snoc}
 use Rattle.dlk_grammar.specs.Grammar.{formula, ReadsList, list-one, list-more}
 use Rattle.dlk_tree.specs.declared.op.Sort.{Sort}
 use Rattle.dlk_tree.specs.declared.op.Sort.TheVariants.{Formula}
-use Rattle.dlk_machine.proofs.Machine.{◌>>=◌, Part, Piece, State, Wants, Has, program_sort, is_program, reduce, place, closing, step, whole, ended}
+use Rattle.dlk_machine.specs.Machine.{◌>>=◌, Part, Piece, State, Wants, Has, program_sort, is_program, reduce, place, closing, step, whole, ended}
 use Rattle.dlk_grammar.specs.declared.token.Dots.{Dots}
-use Rattle.dlk_machine.proofs.Parse.{or_else, reader}
+use Rattle.dlk_machine.specs.Parse.{or_else, reader}
 use Rattle.dlk_grammar.specs.Grammar.{Sides, Turned, ReadsSide, side-nothing, side-list, ReadsSequent, sequent-sides}
-use Rattle.dlk_machine.proofs.Sequents.{Side, LeftSide, RightSide, SequentState, Fresh, Reading, turn, inner, sequent_step, sequent_ended, sequent_reader}
+use Rattle.dlk_machine.specs.Sequents.{Side, LeftSide, RightSide, SequentState, Fresh, Reading, turn, inner, sequent_step, sequent_ended, sequent_reader}
 use Rattle.dlk_machine.proofs.Opening.{some_is, bind_some, Opening, opening_more, begun, states, states_then}
 use Rattle.dlk_machine.proofs.Only.{only_at}
 use Rattle.dlk_machine.proofs.Spelled.{ListBefore, list-begins, list-goes_on, list_joined, nothing, After}

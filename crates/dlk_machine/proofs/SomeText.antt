@@ -22,10 +22,11 @@ use Rattle.dlk_calculus.specs.Limits.{most_nodes, greatest_depth}
 use Rattle.dlk_grammar.specs.Readings.{Says, FirstAt, IsLong, bracket_level, opens, OpensTooDeep, FirstPast, ReadFault, Literal, Nesting, Syntax, Shape, TooBig, TooDeep, fault_rank, SpeaksAgainst, IsReadFault, IsRead, grammar, itself, both_sides, erase_sides}
 use Rattle.dlk_grammar.specs.Substitutions.{PairPhrase, ReadsSubstitution, replacements, erase_pairs}
 use Rattle.dlk_grammar.specs.Texts.{TreeText, SequentText, PairsText, Unread, TreeTextFault, SequentTextFault, PairsTextFault}
-use Rattle.dlk_machine.proofs.Parse.{parse}
-use Rattle.dlk_machine.proofs.Sequents.{sequent_reader}
-use Rattle.dlk_machine.proofs.Pairs.{pairs_reader}
-use Rattle.dlk_machine.proofs.ParseLaws.{machine_of, form_read_says, form_fault_says_nothing, sequent_read_says, sequent_fault_says_nothing, one_sides_read, pairs_read_says, pairs_fault_says_nothing, one_pairs_read}
+use Rattle.dlk_machine.specs.Parse.{parse}
+use Rattle.dlk_machine.specs.Sequents.{sequent_reader}
+use Rattle.dlk_machine.specs.Pairs.{pairs_reader}
+use Rattle.dlk_machine.proofs.ParseLaws.{form_read_says, form_fault_says_nothing, sequent_read_says, sequent_fault_says_nothing, one_sides_read, pairs_read_says, pairs_fault_says_nothing, one_pairs_read}
+use Rattle.dlk_machine.specs.Forms.{machine_of}
 use Rattle.dlk_machine.proofs.Formed.{Each}
 use Rattle.dlk_machine.proofs.TextLaws.{same, sooner, later, seams, token_at, least_below, one_grammar, form_ills_below, sequent_ills_below, pairs_ills_below}
 

@@ -8,8 +8,8 @@ use Rattle.dlk_grammar.specs.Phrases.{Phrase, Variable, Box, Dia, Noted, Phrases
 use Rattle.dlk_grammar.specs.Grammar.{Nonterminal, formula, imp, disj, conj, unf, atom, term, mul, neg, pow, prim, prog, seq, stmt, Reads, formula-equiv, imp-imply, disj-or, conj-and, unf-not, unf-forall, unf-exists, unf-box, unf-dia, atom-compare, term-add, term-sub, mul-times, mul-over, neg-minus, pow-power, prog-choice, seq-then, stmt-group, cmp-equal, cmp-not_equal, cmp-at_least, cmp-greater, cmp-at_most, cmp-less, ReadsList, list-one, list-more, ReadsBrace, ReadsItems, items-one, items-more, ReadsItem, ReadsStar, star-none, ReadsInv, inv-none, inv-some, semi-none, semi-some}
 use Rattle.dlk_tree.specs.declared.op.Sort.{Sort}
 use Rattle.dlk_tree.specs.declared.op.Sort.TheVariants.{Term, Formula, Program}
-use Rattle.dlk_machine.proofs.Levels.{form_level, form_sort}
-use Rattle.dlk_machine.proofs.Machine.{◌>>=◌, Between, By, Next, Quantifier, ForAll, ForSome, InBox, InDia, Prefix, Minus, Bang', Bound, Modal, Holder, Round, Args, InContext, In, InBrace, Assigns, Tests, Evolves, Domain, Notes, Part, Left, Before, Inside, level, right_level, operand_sort, result_sort, binary, prefix_level, prefix_sort, unary, Tail, Done, Bare, Grouped, Braced, Starred, Annotated, Piece, Is, State, Wants, Has, Calls, Bars, BarsName, Binds, Starts, StartsPrime, StartsGets, StartsStar, Opens, OpensName, OpensPrime, WantsItem, ItemName, ItemPrime, ItemBar, ItemBarName, ItemEnds, Invariants, as_sort, tail_of, is_program, wanted, join, reduce, fits}
+use Rattle.dlk_machine.specs.Levels.{form_level, form_sort}
+use Rattle.dlk_machine.specs.Machine.{◌>>=◌, Between, By, Next, Quantifier, ForAll, ForSome, InBox, InDia, Prefix, Minus, Bang', Bound, Modal, Holder, Round, Args, InContext, In, InBrace, Assigns, Tests, Evolves, Domain, Notes, Part, Left, Before, Inside, level, right_level, operand_sort, result_sort, binary, prefix_level, prefix_sort, unary, Tail, Done, Bare, Grouped, Braced, Starred, Annotated, Piece, Is, State, Wants, Has, Calls, Bars, BarsName, Binds, Starts, StartsPrime, StartsGets, StartsStar, Opens, OpensName, OpensPrime, WantsItem, ItemName, ItemPrime, ItemBar, ItemBarName, ItemEnds, Invariants, as_sort, tail_of, is_program, wanted, join, reduce, fits}
 use Rattle.dlk_machine.proofs.Opening.{bind_some}
 use Rattle.dlk_machine.proofs.Climb.{need, stands}
 use Rattle.dlk_machine.proofs.Only.{Loose}

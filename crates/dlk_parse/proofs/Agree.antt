@@ -3,7 +3,7 @@ use Rattle.std.proofs.Common.{◌≡◌, ℕ, zero, suc, true, false, List, [], 
 use Rattle.std.proofs.lemmas.List.{append-nil}
 use Rattle.dlk_tree.specs.declared.op.Sort.{Sort}
 use Rattle.dlk_grammar.specs.Phrases.{Phrase, Head, Apply, Holds}
-use Rattle.dlk_machine.proofs.Machine.{◌>>=◌, Between, By, Next, Prefix, Minus, Bang', Bound, Modal, ForAll, ForSome, InBox, InDia, Part, Left, Before, Inside, Piece, Is, Done, as_sort, join, operand_sort, result_sort, prefix_sort, primes, formula_primes, binary, unary}
+use Rattle.dlk_machine.specs.Machine.{◌>>=◌, Between, By, Next, Prefix, Minus, Bang', Bound, Modal, ForAll, ForSome, InBox, InDia, Part, Left, Before, Inside, Piece, Is, Done, as_sort, join, operand_sort, result_sort, prefix_sort, primes, formula_primes, binary, unary}
 use Rattle.dlk_parse.specs.Codes.{postfix}
 use Rattle.dlk_parse.specs.Shows.{between_of, said, prefix_of, shape, prefix_code, operator_of, operator_before, part_code, piece_code, prime_code, primes_code, IsLast, Agrees, Writes, Joins}
 use Rattle.dlk_parse.specs.declared.stop.StepFault.{StepFault}

@@ -4,9 +4,9 @@ use Rattle.std.specs.Bool.{◌==◌}
 use Rattle.dlk_tree.specs.declared.op.Sort.{Sort}
 use Rattle.dlk_grammar.specs.Lexemes.{Comma}
 use Rattle.dlk_grammar.specs.declared.token.Infix.TheVariants.{Equiv, Imply, Or, And, Equal, NotEqual, AtLeast, Greater, AtMost, Less, Add, Sub, Mul, Div, Pow, Choice}
-use Rattle.dlk_machine.proofs.Machine.{◌>>=◌, Between, By, Next, Part, Left, Before, Inside, Piece, operand_sort, result_sort, prefix_sort, program_sort, is_program, as_sort, wanted, join, reduce, whole, State, Wants, Has, Calls, Bars, BarsName, Binds, Starts, StartsPrime, StartsGets, StartsStar, Opens, OpensName, OpensPrime, WantsItem, ItemName, ItemPrime, ItemBar, ItemBarName, ItemEnds, Invariants, close_top, closing, step, ended}
+use Rattle.dlk_machine.specs.Machine.{◌>>=◌, Between, By, Next, Part, Left, Before, Inside, Piece, operand_sort, result_sort, prefix_sort, program_sort, is_program, as_sort, wanted, join, reduce, whole, State, Wants, Has, Calls, Bars, BarsName, Binds, Starts, StartsPrime, StartsGets, StartsStar, Opens, OpensName, OpensPrime, WantsItem, ItemName, ItemPrime, ItemBar, ItemBarName, ItemEnds, Invariants, close_top, closing, step, ended}
 use Rattle.dlk_machine.proofs.Found.{piece_kind}
-use Rattle.dlk_machine.proofs.Parse.{or_else}
+use Rattle.dlk_machine.specs.Parse.{or_else}
 use Rattle.dlk_parse.specs.declared.ends.Comma.TheVariants as comma
 use Rattle.dlk_parse.specs.declared.parts.Last.{Last}
 use Rattle.dlk_parse.specs.declared.parts.Mode.{Mode}

@@ -7,7 +7,7 @@ use Rattle.dlk_grammar.specs.declared.token.Infix.TheVariants.{And}
 use Rattle.dlk_grammar.specs.Erased.{item_of, ode_items}
 use Rattle.dlk_grammar.specs.Lexemes.{Word, CloseBrace, Comma}
 use Rattle.dlk_grammar.specs.Phrases.{Phrase, Truth, System, Item, Evolve, Items, add}
-use Rattle.dlk_machine.proofs.Machine.{◌>>=◌, when, By, InBox, InDia, Part, Left, Holder, Round, Args, InContext, In, InBrace, Assigns, Tests, Evolves, Domain, Notes, Piece, Is, Tail, Braced, State, Wants, Has, as_sort, fits, held_sort, close, items_step}
+use Rattle.dlk_machine.specs.Machine.{◌>>=◌, when, By, InBox, InDia, Part, Left, Holder, Round, Args, InContext, In, InBrace, Assigns, Tests, Evolves, Domain, Notes, Piece, Is, Tail, Braced, State, Wants, Has, as_sort, fits, held_sort, close, items_step}
 use Rattle.dlk_parse.specs.Codes.{postfix, postfix_terms}
 use Rattle.dlk_parse.specs.Shows.{holder_of, holder_code, equations_of, stack_code, closer_lexeme, left_opened, formulas_joined, last_of, IsNoBracket, IsVariable, IsOpen, Shows, Agrees, Writes}
 use Rattle.dlk_parse.specs.declared.stop.StepFault.{StepFault}

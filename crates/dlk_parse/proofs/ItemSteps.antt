@@ -2,7 +2,7 @@
 use Rattle.std.proofs.Common.{◌≡◌, ℕ, List, refl}
 use Rattle.dlk_grammar.specs.Lexemes.{Word}
 use Rattle.dlk_grammar.specs.Phrases.{Everywhere, Flow, Items, no_items, add}
-use Rattle.dlk_machine.proofs.Machine.{Part, items_step, item_name_step, item_prime_step, opens_name_step, opens_prime_step}
+use Rattle.dlk_machine.specs.Machine.{Part, items_step, item_name_step, item_prime_step, opens_name_step, opens_prime_step}
 use Rattle.dlk_parse.specs.Shows.{seen}
 use Rattle.dlk_parse.specs.declared.lexeme.Lexeme.{Lexeme}
 use Rattle.dlk_parse.specs.declared.lexeme.Lexeme.TheVariants as lexeme

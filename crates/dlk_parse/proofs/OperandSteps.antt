@@ -6,7 +6,7 @@ use Rattle.dlk_grammar.specs.declared.token.Infix.{Infix}
 use Rattle.dlk_grammar.specs.declared.token.Infix.TheVariants.{And, Mul}
 use Rattle.dlk_grammar.specs.Lexemes.{Word}
 use Rattle.dlk_grammar.specs.Phrases.{Phrase, none}
-use Rattle.dlk_machine.proofs.Machine.{◌>>=◌, By, Wants, after_operand, infix_after, Part, Inside, Args, Piece, as_sort, operand_sort, result_sort, fits, Assigns, StartsStar, start_operand, call_step, statement_gets_step}
+use Rattle.dlk_machine.specs.Machine.{◌>>=◌, By, Wants, after_operand, infix_after, Part, Inside, Args, Piece, as_sort, operand_sort, result_sort, fits, Assigns, StartsStar, start_operand, call_step, statement_gets_step}
 use Rattle.dlk_parse.specs.Codes.{postfix}
 use Rattle.dlk_parse.specs.Shows.{seen, is_star, said, shape, shapes, part_code, stack_code, left_opened, IsOpen, Agrees}
 use Rattle.dlk_parse.specs.declared.lexeme.Lexeme.{Lexeme as SeenLexeme}

@@ -4,9 +4,9 @@ use Rattle.dlk_grammar.specs.declared.token.Dots.TheVariants.{Allowed}
 use Rattle.dlk_grammar.specs.Lexemes.{Lexeme}
 use Rattle.dlk_grammar.specs.Readings.{permits}
 use Rattle.dlk_grammar.specs.Substitutions.{PairPhrase}
-use Rattle.dlk_machine.proofs.Machine.{when}
-use Rattle.dlk_machine.proofs.Parse.{parse_from}
-use Rattle.dlk_machine.proofs.Pairs.{PairsState, pairs_step, pairs_ended, pairs_reader}
+use Rattle.dlk_machine.specs.Machine.{when}
+use Rattle.dlk_machine.specs.Parse.{parse_from}
+use Rattle.dlk_machine.specs.Pairs.{PairsState, pairs_step, pairs_ended, pairs_reader}
 use Rattle.dlk_parse.specs.Shows.{Agrees}
 use Rattle.dlk_parse.specs.Readers.{Advances, stop_of, IsParsed, Answers}
 use Rattle.dlk_parse.specs.PairReaders.{ShowsPairs, IsCodeOfPairs, PairsReach, GoesOnPairs}

@@ -6,9 +6,9 @@ use Rattle.dlk_tree.specs.declared.op.Sort.TheVariants.{Term, Formula, Program}
 use Rattle.dlk_grammar.specs.Lexemes.{Word, Comma}
 use Rattle.dlk_grammar.specs.Phrases.{Phrase, Everywhere, Evolve, Flow, Items, add}
 use Rattle.dlk_grammar.specs.Substitutions.{Target, function, predicate, PairPhrase, to}
-use Rattle.dlk_machine.proofs.Machine.{◌>>=◌, Part, Piece, Is, Symbol, as_sort, reduce, whole, State, Wants, Has, Calls, Bars, BarsName, Binds, Starts, StartsPrime, StartsGets, StartsStar, Opens, OpensName, OpensPrime, WantsItem, ItemName, ItemPrime, ItemBar, ItemBarName, ItemEnds, Invariants, step, ended}
-use Rattle.dlk_machine.proofs.Parse.{or_else}
-use Rattle.dlk_machine.proofs.Pairs.{Right, EitherOf, TextOf, SystemOf, PairState, Begins, InRight, ItemWanted, ItemName as NameOfItem, InTerm, ItemEnds as EndOfItem, PairsState, Within, pair_step, pair_ended, pairs_step, right_sort, right_ended, within}
+use Rattle.dlk_machine.specs.Machine.{◌>>=◌, Part, Piece, Is, Symbol, as_sort, reduce, whole, State, Wants, Has, Calls, Bars, BarsName, Binds, Starts, StartsPrime, StartsGets, StartsStar, Opens, OpensName, OpensPrime, WantsItem, ItemName, ItemPrime, ItemBar, ItemBarName, ItemEnds, Invariants, step, ended}
+use Rattle.dlk_machine.specs.Parse.{or_else}
+use Rattle.dlk_machine.specs.Pairs.{Right, EitherOf, TextOf, SystemOf, PairState, Begins, InRight, ItemWanted, ItemName as NameOfItem, InTerm, ItemEnds as EndOfItem, PairsState, Within, pair_step, pair_ended, pairs_step, right_sort, right_ended, within}
 use Rattle.dlk_parse.specs.Shows.{seen, last_of, Shows, Agrees}
 use Rattle.dlk_parse.specs.Ends.{at_comma}
 use Rattle.dlk_parse.specs.PairReaders.{wants, left_state, IsLeft, right_whole, with_pair, KeepsPairs, Rests, ShowsItem, ShowsPair, ShowsWithin}

@@ -13,11 +13,11 @@ use Rattle.dlk_grammar.specs.Phrases.{Phrase}
 use Rattle.dlk_grammar.specs.Readings.{permits}
 use Rattle.dlk_tree.specs.declared.op.Sort.{Sort}
 use Rattle.dlk_tree.specs.declared.op.Sort.TheVariants.{Term, Formula, Program}
-use Rattle.dlk_machine.proofs.Machine.{when, State, step, ended}
-use Rattle.dlk_machine.proofs.Parse.{Machine, or_else, parse_from}
-use Rattle.dlk_machine.proofs.ParseLaws.{FormState, machine_of}
-use Rattle.dlk_machine.proofs.Expressions.{ExpressionState, expression_step, expression_ended}
-use Rattle.dlk_machine.proofs.Sequents.{SequentState, sequent_step, sequent_ended, sequent_reader}
+use Rattle.dlk_machine.specs.Machine.{when, State, step, ended}
+use Rattle.dlk_machine.specs.Parse.{Machine, or_else, parse_from}
+use Rattle.dlk_machine.specs.Forms.{FormState, machine_of}
+use Rattle.dlk_machine.specs.Expressions.{ExpressionState, expression_step, expression_ended}
+use Rattle.dlk_machine.specs.Sequents.{SequentState, sequent_step, sequent_ended, sequent_reader}
 use Rattle.dlk_parse.specs.Codes.{postfix}
 use Rattle.dlk_parse.specs.Shows.{IsWhole, Agrees}
 use Rattle.dlk_parse.specs.Readers.{ShowsOf, ShowsExpression, ShowsTree, ShowsSides, tree_step, Reaches, SidesReach, GoesOn, GoesOnSides, Advances, stop_of, IsCodeOf, IsParsed, Answers}

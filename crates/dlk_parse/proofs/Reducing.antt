@@ -1,6 +1,6 @@
 -- One turn of the loop that closes open parts.
 use Rattle.std.proofs.Common.{◌≡◌, ℕ, Bool, true, false, ltb, List, [], ◌∷◌, ◌++◌, Option, Some, None, Result, Ok, Err, refl, ap, ◌∙◌, append_assoc}
-use Rattle.dlk_machine.proofs.Machine.{◌>>=◌, Part, Piece, wanted, join, reduce}
+use Rattle.dlk_machine.specs.Machine.{◌>>=◌, Part, Piece, wanted, join, reduce}
 use Rattle.dlk_parse.specs.declared.stop.StepFault.{StepFault}
 use Rattle.dlk_parse.specs.declared.code.Code.{Code}
 use Rattle.dlk_parse.specs.declared.parts.Part.{Part as OpenPart}

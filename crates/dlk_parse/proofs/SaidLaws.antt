@@ -21,7 +21,7 @@ use Rattle.dlk_grammar.specs.Grammar.{Nonterminal, Reads, Sides, Turned, ReadsSe
 use Rattle.dlk_grammar.specs.Erased.{erase, erase_all, ills, lowest}
 use Rattle.dlk_grammar.specs.Readings.{grammar, itself, phrases_in, both_sides, erase_sides, IsTree, IsTreeFault, IsSequentOf, IsSequentFault}
 use Rattle.dlk_machine.proofs.Formed.{Each, formed}
-use Rattle.dlk_machine.proofs.Levels.{form_sort}
+use Rattle.dlk_machine.specs.Levels.{form_sort}
 use Rattle.dlk_machine.proofs.ParseLaws.{one_sides_read}
 use Rattle.dlk_machine.proofs.TextLaws.{least_below, one_grammar, form_ills_below, sequent_ills_below, tree_well_made, tree_not_ill, lexemes_real, sequent_formulas}
 use Rattle.dlk_parse.specs.Faults.{IsParseFaultOf}

@@ -14,8 +14,8 @@ use Rattle.dlk_grammar.specs.RealTokens.{AreTokens}
 use Rattle.dlk_grammar.specs.Lexemes.{lexemes}
 use Rattle.dlk_grammar.specs.Erased.{erase, ills}
 use Rattle.dlk_grammar.specs.Substitutions.{PairPhrase, ReadsSubstitution, replacements, erase_pairs, ArePairs, ArePairsFault}
-use Rattle.dlk_machine.proofs.Pairs.{pairs_reader}
-use Rattle.dlk_machine.proofs.Parse.{parse}
+use Rattle.dlk_machine.specs.Pairs.{pairs_reader}
+use Rattle.dlk_machine.specs.Parse.{parse}
 use Rattle.dlk_machine.proofs.ParseLaws.{pairs_read_says, pairs_fault_says_nothing, one_pairs_read}
 use Rattle.dlk_machine.proofs.TextLaws.{pairs_ills_below, pairs_well_made}
 use Rattle.dlk_parse.specs.Faults.{IsParseFaultOf}

@@ -4,9 +4,9 @@ use Rattle.dlk_tree.specs.declared.op.Sort.TheVariants.{Formula}
 use Rattle.dlk_grammar.specs.Lexemes.{Comma}
 use Rattle.dlk_grammar.specs.Phrases.{Phrase, Phrases, none, snoc}
 use Rattle.dlk_grammar.specs.Grammar.{Sides, Turned}
-use Rattle.dlk_machine.proofs.Machine.{◌>>=◌, as_sort, State, Wants, ended}
-use Rattle.dlk_machine.proofs.Parse.{or_else}
-use Rattle.dlk_machine.proofs.Sequents.{Side, LeftSide, RightSide, SequentState, Fresh, Reading, inner, sequent_step, sequent_ended}
+use Rattle.dlk_machine.specs.Machine.{◌>>=◌, as_sort, State, Wants, ended}
+use Rattle.dlk_machine.specs.Parse.{or_else}
+use Rattle.dlk_machine.specs.Sequents.{Side, LeftSide, RightSide, SequentState, Fresh, Reading, inner, sequent_step, sequent_ended}
 use Rattle.dlk_parse.specs.declared.stop.StepFault.{StepFault}
 use Rattle.dlk_parse.specs.declared.stop.StepFault.TheVariants as fault
 use Rattle.dlk_parse.specs.declared.parts.Mode.{Mode}

@@ -4,9 +4,9 @@ use Rattle.dlk_tree.specs.declared.op.Sort.{Sort}
 use Rattle.dlk_tree.specs.declared.op.Sort.TheVariants.{Term, Program}
 use Rattle.dlk_grammar.specs.Lexemes.{Word}
 use Rattle.dlk_grammar.specs.Phrases.{Phrases, none, Variable}
-use Rattle.dlk_machine.proofs.Machine.{◌>>=◌, Done, Bare, Is, State, Wants, Has, Starts, StartsPrime}
-use Rattle.dlk_machine.proofs.Expressions.{ExpressionState, Unread, FirstName, FirstPrime, AsFormula, AsProgram, as_formula, as_program, expression_step}
-use Rattle.dlk_machine.proofs.Sequents.{Side, Fresh, Reading, inner, sequent_step}
+use Rattle.dlk_machine.specs.Machine.{◌>>=◌, Done, Bare, Is, State, Wants, Has, Starts, StartsPrime}
+use Rattle.dlk_machine.specs.Expressions.{ExpressionState, Unread, FirstName, FirstPrime, AsFormula, AsProgram, as_formula, as_program, expression_step}
+use Rattle.dlk_machine.specs.Sequents.{Side, Fresh, Reading, inner, sequent_step}
 use Rattle.dlk_parse.specs.declared.lexeme.Lexeme.{Lexeme as SeenLexeme}
 use Rattle.dlk_parse.specs.declared.lexeme.Lexeme.TheVariants as lexeme
 use Rattle.dlk_parse.specs.declared.stop.StepFault.{StepFault}

@@ -12,9 +12,10 @@ use Rattle.dlk_grammar.specs.Lexemes.{lexemes}
 use Rattle.dlk_grammar.specs.Phrases.{Phrases}
 use Rattle.dlk_grammar.specs.Grammar.{Sides, Turned, ReadsSequent}
 use Rattle.dlk_grammar.specs.Readings.{grammar, itself, phrases_in}
-use Rattle.dlk_machine.proofs.Parse.{parse}
-use Rattle.dlk_machine.proofs.ParseLaws.{machine_of, form_read_says, form_fault_says_nothing, sequent_read_says, sequent_fault_says_nothing}
-use Rattle.dlk_machine.proofs.Sequents.{sequent_reader}
+use Rattle.dlk_machine.specs.Parse.{parse}
+use Rattle.dlk_machine.proofs.ParseLaws.{form_read_says, form_fault_says_nothing, sequent_read_says, sequent_fault_says_nothing}
+use Rattle.dlk_machine.specs.Forms.{machine_of}
+use Rattle.dlk_machine.specs.Sequents.{sequent_reader}
 use Rattle.dlk_parse.specs.Codes.{postfix, postfix_all}
 use Rattle.dlk_parse.specs.Faults.{IsParseFaultOf}
 use Rattle.dlk_parse.specs.Readers.{IsParsed, IsCodeOf, Answers}

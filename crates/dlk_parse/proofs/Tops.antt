@@ -6,7 +6,7 @@ use Rattle.std.proofs.lemmas.Option.{slice_get-get_or}
 use Rattle.std.proofs.Math.Seq.{get_or-append_seam, take-append_seam, take-nil}
 use Rattle.dlk_tree.specs.declared.op.Sort.{Sort}
 use Rattle.dlk_parse.specs.declared.parts.Part.{Part as OpenPart}
-use Rattle.dlk_machine.proofs.Machine.{Part, wanted, place}
+use Rattle.dlk_machine.specs.Machine.{Part, wanted, place}
 use Rattle.dlk_parse.specs.Shows.{shape, shapes, Pops, TakesAbove}
 
 abbrev pub top : List Part → Option OpenPart

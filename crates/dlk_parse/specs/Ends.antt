@@ -4,7 +4,7 @@ use Rattle.dlk_tree.specs.declared.op.Sort.{Sort}
 use Rattle.dlk_tree.specs.declared.op.Sort.TheVariants.{Term, Formula, Program}
 use Rattle.dlk_grammar.specs.Lexemes.{Comma}
 use Rattle.dlk_grammar.specs.Phrases.{Phrase}
-use Rattle.dlk_machine.proofs.Machine.{◌>>=◌, Part, Piece, Is, Symbol, State, Has, reduce, step}
+use Rattle.dlk_machine.specs.Machine.{◌>>=◌, Part, Piece, Is, Symbol, State, Has, reduce, step}
 use Rattle.dlk_parse.specs.Shows.{IsWhole, Stands, Shows}
 use Rattle.dlk_parse.specs.declared.ends.Comma.{Comma as AtComma}
 use Rattle.dlk_parse.specs.declared.ends.Comma.TheVariants as comma

@@ -9,9 +9,9 @@ use Rattle.dlk_grammar.specs.Lexemes.{Word, Lexeme, lexemes}
 use Rattle.dlk_grammar.specs.Readings.{Says, ReadFault, SpeaksAgainst}
 use Rattle.dlk_grammar.specs.declared.token.Dots.TheVariants.{Allowed}
 use Rattle.dlk_grammar.specs.declared.token.Token.{Token}
-use Rattle.dlk_machine.proofs.Machine.{◌>>=◌, Part, Piece, State, whole}
-use Rattle.dlk_machine.proofs.Pairs.{Right, EitherOf, TextOf, SystemOf, PairState, Begins, LeftName, TermName, Calls, DotsOf, DotWanted, Bars, BarsName, InContext, ContextHole, FlowOpens, FlowName, FlowBar, FlowBarName, FlowExcept, LeftEnds, InRight, BraceWanted, ItemWanted, ItemName, ItemPrime, InTerm, ItemBar, ItemBarName, ItemEnds, SystemEnds, PairsState, Fresh, Within, pairs_reader}
-use Rattle.dlk_machine.proofs.Parse.{parse_from, parse}
+use Rattle.dlk_machine.specs.Machine.{◌>>=◌, Part, Piece, State, whole}
+use Rattle.dlk_machine.specs.Pairs.{Right, EitherOf, TextOf, SystemOf, PairState, Begins, LeftName, TermName, Calls, DotsOf, DotWanted, Bars, BarsName, InContext, ContextHole, FlowOpens, FlowName, FlowBar, FlowBarName, FlowExcept, LeftEnds, InRight, BraceWanted, ItemWanted, ItemName, ItemPrime, InTerm, ItemBar, ItemBarName, ItemEnds, SystemEnds, PairsState, Fresh, Within, pairs_reader}
+use Rattle.dlk_machine.specs.Parse.{parse_from, parse}
 use Rattle.dlk_parse.specs.Codes.{postfix, postfix_terms}
 use Rattle.dlk_parse.specs.Shows.{space_of, equations_of, IsOpen, IsWhole, Shows}
 use Rattle.dlk_parse.specs.Ends.{either_sort}

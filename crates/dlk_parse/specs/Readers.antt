@@ -12,11 +12,11 @@ use Rattle.dlk_grammar.specs.Lexemes.{Lexeme, lexemes}
 use Rattle.dlk_grammar.specs.Phrases.{Phrase, Phrases, none, snoc}
 use Rattle.dlk_grammar.specs.Erased.{count}
 use Rattle.dlk_grammar.specs.Grammar.{Sides, Turned}
-use Rattle.dlk_machine.proofs.Machine.{◌>>=◌, State, ended}
-use Rattle.dlk_machine.proofs.Parse.{parse_from, parse}
-use Rattle.dlk_machine.proofs.ParseLaws.{FormState, machine_of}
-use Rattle.dlk_machine.proofs.Expressions.{ExpressionState, Unread, FirstName, FirstPrime, AsFormula, AsProgram}
-use Rattle.dlk_machine.proofs.Sequents.{Side, LeftSide, RightSide, SequentState, Fresh, Reading, sequent_reader}
+use Rattle.dlk_machine.specs.Machine.{◌>>=◌, State, ended}
+use Rattle.dlk_machine.specs.Parse.{parse_from, parse}
+use Rattle.dlk_machine.specs.Forms.{FormState, machine_of}
+use Rattle.dlk_machine.specs.Expressions.{ExpressionState, Unread, FirstName, FirstPrime, AsFormula, AsProgram}
+use Rattle.dlk_machine.specs.Sequents.{Side, LeftSide, RightSide, SequentState, Fresh, Reading, sequent_reader}
 use Rattle.dlk_parse.specs.Codes.{postfix, postfix_all}
 use Rattle.dlk_parse.specs.Shows.{IsOpen, Shows}
 use Rattle.dlk_parse.specs.declared.code.Code.{Code}

@@ -3,7 +3,7 @@ ghost use Rattle.std.specs.Prelude.{◌≡◌, ℕ, Bool, List, [], ◌∷◌, �
 ghost use Rattle.dlk_grammar.specs.Phrases.{Phrase, Context, Items as MachineItems};
 ghost use Rattle.dlk_grammar.specs.Lexemes.{Close, CloseBox, CloseBrace, Comma, Semi, Op as Operator};
 ghost use Rattle.dlk_grammar.specs.declared.token.Infix.TheVariants.{And, Greater};
-ghost use Rattle.dlk_machine.proofs.Machine.{Part as MachinePart, Holder as MachineHolder, Tail as MachineTail, Piece, Is, Has, Round, Evolves, Grouped, with_tail, as_sort, held_sort, close, close_top, closing, and_top, infix_after};
+ghost use Rattle.dlk_machine.specs.Machine.{Part as MachinePart, Holder as MachineHolder, Tail as MachineTail, Piece, Is, Has, Round, Evolves, Grouped, with_tail, as_sort, held_sort, close, close_top, closing, and_top, infix_after};
 ghost use Rattle.dlk_parse.specs.declared.code.Code.{Code as TheCode};
 ghost use Rattle.dlk_parse.specs.declared.parts.Last.TheVariants as last;
 ghost use Rattle.dlk_parse.specs.Codes.{postfix, postfix_terms};

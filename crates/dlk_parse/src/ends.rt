@@ -1,9 +1,9 @@
 //! The end of a text.
 ghost use Rattle.std.specs.Prelude.{◌≡◌, List, Some};
 ghost use Rattle.dlk_grammar.specs.Phrases.{Phrase};
-ghost use Rattle.dlk_machine.proofs.Machine.{Part as MachinePart, Piece, State, as_sort, whole, ended};
-ghost use Rattle.dlk_machine.proofs.Parse.{or_else};
-ghost use Rattle.dlk_machine.proofs.Expressions.{term_or_formula};
+ghost use Rattle.dlk_machine.specs.Machine.{Part as MachinePart, Piece, State, as_sort, whole, ended};
+ghost use Rattle.dlk_machine.specs.Parse.{or_else};
+ghost use Rattle.dlk_machine.specs.Expressions.{term_or_formula};
 ghost use Rattle.dlk_tree.specs.declared.op.Sort.TheVariants as sort_of;
 ghost use Rattle.dlk_parse.specs.Shows.{IsWhole, Shows, Agrees, IsLast, Stands};
 ghost use Rattle.dlk_parse.specs.Ends.{either_sort, at_comma, IsEither, ShowsComma};

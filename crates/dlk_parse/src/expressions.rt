@@ -3,8 +3,8 @@ ghost use Rattle.std.specs.Prelude.{true, [], Some};
 ghost use Rattle.dlk_grammar.specs.Phrases.{Variable};
 ghost use Rattle.dlk_tree.specs.declared.op.Sort.{Sort as TheSort};
 ghost use Rattle.dlk_tree.specs.declared.op.Sort.TheVariants as sort_of;
-ghost use Rattle.dlk_machine.proofs.Machine.{State, Done, Is, Has, step, ended};
-ghost use Rattle.dlk_machine.proofs.Expressions.{ExpressionState, Unread, FirstName, FirstPrime, as_formula, as_program, expression_step, expression_ended};
+ghost use Rattle.dlk_machine.specs.Machine.{State, Done, Is, Has, step, ended};
+ghost use Rattle.dlk_machine.specs.Expressions.{ExpressionState, Unread, FirstName, FirstPrime, as_formula, as_program, expression_step, expression_ended};
 ghost use Rattle.dlk_parse.specs.Shows.{IsWhole, seen, Shows, Agrees, IsOpen};
 ghost use Rattle.dlk_parse.specs.Readers.{ShowsOf, ShowsExpression};
 

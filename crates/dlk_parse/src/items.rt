@@ -2,7 +2,7 @@
 ghost use Rattle.std.specs.Prelude.{◌≡◌, ℕ, List, Some};
 ghost use Rattle.dlk_grammar.specs.Phrases.{Item, Flow, Items as MachineItems, add};
 ghost use Rattle.dlk_grammar.specs.Erased.{item_of};
-ghost use Rattle.dlk_machine.proofs.Machine.{Part as MachinePart, items_step, items_begin, item_name_step, item_prime_step, item_bar_step, item_bar_name_step};
+ghost use Rattle.dlk_machine.specs.Machine.{Part as MachinePart, items_step, items_begin, item_name_step, item_prime_step, item_bar_step, item_bar_name_step};
 ghost use Rattle.dlk_grammar.specs.Lexemes.{CloseBrace};
 ghost use Rattle.dlk_parse.specs.Codes.{postfix_terms};
 ghost use Rattle.dlk_parse.specs.Shows.{seen, equations_of, space_of, IsOpen, Shows, Agrees};

@@ -6,7 +6,7 @@ ghost use Rattle.dlk_parse.specs.declared.parts.Tail.TheVariants as tail;
 ghost use Rattle.dlk_parse.specs.declared.parts.Last.TheVariants as last;
 ghost use Rattle.dlk_parse.specs.declared.parts.Mode.TheVariants as mode;
 ghost use Rattle.dlk_parse.specs.declared.stack.Stack.{Stack as TheStack};
-ghost use Rattle.dlk_machine.proofs.Machine.{when, Part as MachinePart, Quantifier as MachineQuantifier, Piece, Done, Grouped, Bare, Is, Wants, Has, Binds, fits, start_operand, after_operand, primed, name_after, prime_after, call_step, bars_step, bars_name_step, bind_step};
+ghost use Rattle.dlk_machine.specs.Machine.{when, Part as MachinePart, Quantifier as MachineQuantifier, Piece, Done, Grouped, Bare, Is, Wants, Has, Binds, fits, start_operand, after_operand, primed, name_after, prime_after, call_step, bars_step, bars_name_step, bind_step};
 ghost use Rattle.dlk_tree.specs.declared.op.Sort.TheVariants as sort_of;
 ghost use Rattle.dlk_parse.specs.declared.code.Code.TheVariants as code;
 ghost use Rattle.dlk_parse.specs.Codes.{postfix};

@@ -6,8 +6,8 @@ ghost use Rattle.dlk_tree.specs.declared.op.Sort.TheVariants.{Formula};
 ghost use Rattle.dlk_grammar.specs.Erased.{symbol};
 ghost use Rattle.dlk_grammar.specs.Phrases.{Everywhere};
 ghost use Rattle.dlk_grammar.specs.Substitutions.{function, predicate};
-ghost use Rattle.dlk_machine.proofs.Machine.{when};
-ghost use Rattle.dlk_machine.proofs.Pairs.{Begins, LeftName, Calls, DotsOf, DotWanted, Bars, BarsName, InContext, ContextHole, FlowOpens, FlowName, FlowBar, FlowBarName, FlowExcept, LeftEnds as EndsLeft, TextOf as WantsText, SystemOf as WantsSystem, right_of, pair_step, target_step};
+ghost use Rattle.dlk_machine.specs.Machine.{when};
+ghost use Rattle.dlk_machine.specs.Pairs.{Begins, LeftName, Calls, DotsOf, DotWanted, Bars, BarsName, InContext, ContextHole, FlowOpens, FlowName, FlowBar, FlowBarName, FlowExcept, LeftEnds as EndsLeft, TextOf as WantsText, SystemOf as WantsSystem, right_of, pair_step, target_step};
 ghost use Rattle.dlk_parse.specs.Shows.{seen, space_of, Agrees};
 ghost use Rattle.dlk_parse.specs.PairReaders.{target_of, left_state, IsLeft};
 

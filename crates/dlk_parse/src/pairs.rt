@@ -3,8 +3,8 @@ ghost use Rattle.std.specs.Prelude.{◌≡◌, List, [], ◌∷◌, ◌++◌, So
 ghost use Rattle.dlk_grammar.specs.Lexemes.{Comma as CommaLexeme};
 ghost use Rattle.dlk_grammar.specs.Phrases.{Phrase};
 ghost use Rattle.dlk_grammar.specs.Substitutions.{PairPhrase, to, predicate, function};
-ghost use Rattle.dlk_machine.proofs.Machine.{Part as MachinePart, Piece, State};
-ghost use Rattle.dlk_machine.proofs.Pairs.{PairState, PairsState, Within, LeftEnds, InRight, BraceWanted, pair_step, pairs_step, pairs_ended, right_ended, right_sort};
+ghost use Rattle.dlk_machine.specs.Machine.{Part as MachinePart, Piece, State};
+ghost use Rattle.dlk_machine.specs.Pairs.{PairState, PairsState, Within, LeftEnds, InRight, BraceWanted, pair_step, pairs_step, pairs_ended, right_ended, right_sort};
 ghost use Rattle.dlk_parse.specs.Codes.{postfix};
 ghost use Rattle.dlk_parse.specs.Shows.{seen, IsWhole, Stands, Shows, Agrees};
 ghost use Rattle.dlk_parse.specs.PairReaders.{target_of, wants, symbol_as, right_whole, with_pair, KeepsPairs, Rests, IsPairOf, ShowsPair, ShowsWithin, ShowsPairs, IsCodeOfPairs};

@@ -1,8 +1,8 @@
 //! The reader of a sequent: formulas on both sides of `==>`.
 ghost use Rattle.std.specs.Prelude.{Some};
 ghost use Rattle.dlk_grammar.specs.Phrases.{Phrase, Phrases, snoc};
-ghost use Rattle.dlk_machine.proofs.Machine.{State};
-ghost use Rattle.dlk_machine.proofs.Sequents.{Side, SequentState, Reading, sequent_step, sequent_ended, turn, inner};
+ghost use Rattle.dlk_machine.specs.Machine.{State};
+ghost use Rattle.dlk_machine.specs.Sequents.{Side, SequentState, Reading, sequent_step, sequent_ended, turn, inner};
 ghost use Rattle.dlk_grammar.specs.Lexemes.{Comma as CommaLexeme, Turnstile};
 ghost use Rattle.dlk_parse.specs.Shows.{IsWhole, seen, Agrees};
 ghost use Rattle.dlk_parse.specs.Readers.{ShowsBetween, ShowsReading, ShowsSides, KeepsSide, IsCodeOf, finished, both_of};

@@ -1,7 +1,7 @@
 //! What is open, and the operators of what was read.
 ghost use Rattle.std.specs.Prelude.{◌≡◌, ◌+◌, ◌<◌, [], ◌∷◌, ◌++◌, List, Some, OnSome, vec_len};
 ghost use Rattle.dlk_grammar.specs.Phrases.{Variable, Head as MachineHead};
-ghost use Rattle.dlk_machine.proofs.Machine.{Part as MachinePart, Tail as MachineTail, Piece, Symbol, as_sort, join, reduce, fits, place};
+ghost use Rattle.dlk_machine.specs.Machine.{Part as MachinePart, Tail as MachineTail, Piece, Symbol, as_sort, join, reduce, fits, place};
 ghost use Rattle.dlk_parse.specs.declared.code.Code.{Code as TheCode};
 ghost use Rattle.dlk_parse.specs.Codes.{postfix};
 ghost use Rattle.dlk_parse.specs.Shows.{shape, shapes, part_code, piece_code, head_of, head_code, primes_code, symbol_of, unit_code, IsLast, Stands, Agrees, Reduces, Pops, TakesAbove, Writes, Joins};

@@ -3,7 +3,7 @@ ghost use Rattle.std.specs.Prelude.{◌≡◌, List, [], ◌∷◌, Some};
 ghost use Rattle.dlk_grammar.specs.Phrases.{Phrase, Const, no_items};
 ghost use Rattle.dlk_parse.specs.declared.stack.Stack.{Stack as TheStack};
 ghost use Rattle.dlk_parse.specs.declared.code.Code.TheVariants as code;
-ghost use Rattle.dlk_machine.proofs.Machine.{Part as MachinePart, Inside, InBrace, Piece, start_statement, statement_step, statement_prime_step, statement_gets_step, statement_star_step, opens_step, opens_name_step, opens_prime_step, star_after, invariant_after, semi_after, invariants_step};
+ghost use Rattle.dlk_machine.specs.Machine.{Part as MachinePart, Inside, InBrace, Piece, start_statement, statement_step, statement_prime_step, statement_gets_step, statement_star_step, opens_step, opens_name_step, opens_prime_step, star_after, invariant_after, semi_after, invariants_step};
 ghost use Rattle.dlk_parse.specs.Codes.{postfix};
 ghost use Rattle.dlk_parse.specs.Shows.{seen, is_star, equations_of, IsOpen, Stands, Shows, Agrees};
 

@@ -1,6 +1,6 @@
 //! What a lexeme makes of a reader's lists and where it stands.
 ghost use Rattle.std.specs.Prelude.{◌≡◌, List, []};
-ghost use Rattle.dlk_machine.proofs.Machine.{Part as MachinePart, Piece, State, Has, infix_after, next_after, after_program, after_other, start, step, ended};
+ghost use Rattle.dlk_machine.specs.Machine.{Part as MachinePart, Piece, State, Has, infix_after, next_after, after_program, after_other, start, step, ended};
 ghost use Rattle.dlk_parse.specs.Shows.{seen, IsOpen, IsWhole, Stands, Shows, Agrees};
 
 use crate::items::{item_bar_name_step, item_bar_step, items_begin};

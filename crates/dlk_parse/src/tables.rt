@@ -1,8 +1,8 @@
 //! How tightly operators bind, and the sorts.
 ghost use Rattle.std.specs.Prelude.{◌≡◌, List, ◌∷◌};
 ghost use Rattle.dlk_tree.specs.declared.op.Sort.{Sort as TheSort};
-ghost use Rattle.dlk_machine.proofs.Machine.{level, right_level, operand_sort, result_sort, prefix_level, prefix_sort, held_sort, wanted, place, allows};
-ghost use Rattle.dlk_machine.proofs.Machine.{Part as MachinePart, Prefix as MachinePrefix, Holder as MachineHolder};
+ghost use Rattle.dlk_machine.specs.Machine.{level, right_level, operand_sort, result_sort, prefix_level, prefix_sort, held_sort, wanted, place, allows};
+ghost use Rattle.dlk_machine.specs.Machine.{Part as MachinePart, Prefix as MachinePrefix, Holder as MachineHolder};
 ghost use Rattle.dlk_parse.specs.Shows.{shape, said, prefix_of, holder_of, operator_of, operator_before};
 
 use crate::parts::{Between, Holder, Modality, Part, Prefix, Quantifier};

@@ -1,7 +1,7 @@
 use Rattle.std.proofs.Common.{◌≡◌, ap}
 use Rattle.std.proofs.lemmas.Result.{err_from_is_err_and}
 use Rattle.dlk_grammar.specs.Phrases.{Except, Flow, add}
-use Rattle.dlk_machine.proofs.Machine.{item_bar_name_step}
+use Rattle.dlk_machine.specs.Machine.{item_bar_name_step}
 use Rattle.dlk_parse.specs.declared.parts.Equations.{Equations}
 use Rattle.dlk_parse.specs.declared.parts.Mode.TheVariants as mode
 use Rattle.dlk_parse.specs.Shows.{seen, equations_of, Shows}

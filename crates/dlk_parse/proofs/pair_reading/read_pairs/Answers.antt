@@ -2,8 +2,8 @@ use Rattle.std.proofs.Common.{◌+◌, ◌++◌, List, drop, subst}
 use Rattle.std.proofs.lemmas.Result.{err_from_is_err_and}
 use Rattle.dlk_grammar.specs.declared.token.Dots.TheVariants.{Allowed}
 use Rattle.dlk_grammar.specs.Lexemes.{Lexeme, lexeme_of, lexemes, lexemes_from}
-use Rattle.dlk_machine.proofs.Parse.{parse}
-use Rattle.dlk_machine.proofs.Pairs.{pairs_reader}
+use Rattle.dlk_machine.specs.Parse.{parse}
+use Rattle.dlk_machine.specs.Pairs.{pairs_reader}
 use Rattle.dlk_parse.specs.PairReaders.{GoesOnPairs, IsCodeOfPairs}
 use Rattle.dlk_parse.proofs.ReadingSteps.{stopped, next_lexemes, no_lexemes}
 use Rattle.dlk_parse.proofs.PairReading.{pairs_whole, pairs_unended}

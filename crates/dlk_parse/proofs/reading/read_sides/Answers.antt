@@ -2,8 +2,8 @@ use Rattle.std.proofs.Common.{◌+◌, ◌++◌, List, drop, subst}
 use Rattle.std.proofs.lemmas.Result.{err_from_is_err_and}
 use Rattle.dlk_grammar.specs.declared.token.Dots.TheVariants.{Refused}
 use Rattle.dlk_grammar.specs.Lexemes.{Lexeme, lexeme_of, lexemes, lexemes_from}
-use Rattle.dlk_machine.proofs.Parse.{parse}
-use Rattle.dlk_machine.proofs.Sequents.{sequent_reader}
+use Rattle.dlk_machine.specs.Parse.{parse}
+use Rattle.dlk_machine.specs.Sequents.{sequent_reader}
 use Rattle.dlk_parse.specs.Readers.{GoesOnSides, IsCodeOf}
 use Rattle.dlk_parse.proofs.ReadingSteps.{sides_whole, sides_unended, stopped, next_lexemes, no_lexemes}
 use Rattle.dlk_parse.proofs.reading.read_sides.Goals as goal

@@ -1,8 +1,8 @@
 use Rattle.std.proofs.Common.{drop}
 use Rattle.dlk_grammar.specs.declared.token.Dots.TheVariants.{Refused}
 use Rattle.dlk_grammar.specs.Lexemes.{lexemes, lexemes_from}
-use Rattle.dlk_machine.proofs.Parse.{parse}
-use Rattle.dlk_machine.proofs.Sequents.{sequent_reader}
+use Rattle.dlk_machine.specs.Parse.{parse}
+use Rattle.dlk_machine.specs.Sequents.{sequent_reader}
 use Rattle.dlk_parse.specs.Readers.{GoesOnSides}
 use Rattle.dlk_parse.proofs.reading.read_sides.Given as goal
 

@@ -1,7 +1,7 @@
 use Rattle.std.proofs.Common.{drop}
 use Rattle.dlk_grammar.specs.Lexemes.{lexemes, lexemes_from}
-use Rattle.dlk_machine.proofs.Parse.{parse}
-use Rattle.dlk_machine.proofs.ParseLaws.{machine_of}
+use Rattle.dlk_machine.specs.Parse.{parse}
+use Rattle.dlk_machine.specs.Forms.{machine_of}
 use Rattle.dlk_parse.specs.Readers.{GoesOn}
 use Rattle.dlk_parse.proofs.reading.read_tree.Given as goal
 

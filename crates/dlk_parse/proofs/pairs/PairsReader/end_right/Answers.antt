@@ -1,5 +1,5 @@
 use Rattle.std.proofs.Common.{[], Some}
-use Rattle.dlk_machine.proofs.Machine.{reduce}
+use Rattle.dlk_machine.specs.Machine.{reduce}
 use Rattle.dlk_parse.specs.Shows.{Reduces}
 use Rattle.dlk_parse.specs.PairReaders.{wants}
 use Rattle.dlk_parse.proofs.Agree.{agrees_ok}

@@ -1,5 +1,5 @@
 use Rattle.std.proofs.Common.{subst}
-use Rattle.dlk_machine.proofs.Pairs.{pair_step}
+use Rattle.dlk_machine.specs.Pairs.{pair_step}
 use Rattle.dlk_parse.specs.Shows.{seen}
 use Rattle.dlk_parse.specs.PairReaders.{left_state, ShowsPair}
 use Rattle.dlk_parse.specs.declared.pairs.PairMode.{PairMode}

@@ -1,6 +1,6 @@
 use Rattle.std.proofs.Common.{[], Some}
 use Rattle.std.proofs.lemmas.Result.{err_from_is_err_and}
-use Rattle.dlk_machine.proofs.Pairs.{Begins, Within, right_sort}
+use Rattle.dlk_machine.specs.Pairs.{Begins, Within, right_sort}
 use Rattle.dlk_parse.specs.Ends.{at_comma, ShowsComma}
 use Rattle.dlk_parse.specs.PairReaders.{wants, right_whole, with_pair, Rests, ShowsWithin}
 use Rattle.dlk_parse.proofs.Agree.{agrees_ok, agrees_err}

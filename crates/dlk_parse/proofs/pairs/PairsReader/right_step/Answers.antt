@@ -1,7 +1,7 @@
 use Rattle.std.proofs.Common.{[], Some, refl}
 use Rattle.std.proofs.lemmas.Result.{err_from_is_err_and}
-use Rattle.dlk_machine.proofs.Machine.{step}
-use Rattle.dlk_machine.proofs.Pairs.{InRight, right_sort}
+use Rattle.dlk_machine.specs.Machine.{step}
+use Rattle.dlk_machine.specs.Pairs.{InRight, right_sort}
 use Rattle.dlk_parse.specs.Shows.{seen, Shows}
 use Rattle.dlk_parse.specs.PairReaders.{wants, ShowsPair}
 use Rattle.dlk_parse.specs.declared.pairs.PairMode.TheVariants as pair

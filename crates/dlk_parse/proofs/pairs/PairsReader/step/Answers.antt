@@ -1,5 +1,5 @@
 use Rattle.std.proofs.Common.{Option, [], refl, subst}
-use Rattle.dlk_machine.proofs.Pairs.{Begins, pair_step}
+use Rattle.dlk_machine.specs.Pairs.{Begins, pair_step}
 use Rattle.dlk_parse.specs.Shows.{seen}
 use Rattle.dlk_parse.specs.PairReaders.{ShowsPairs}
 use Rattle.dlk_parse.specs.declared.pairs.PairMode.{PairMode}

@@ -2,8 +2,8 @@ use Rattle.std.proofs.lemmas.Result.{err_from_is_err_and}
 use Rattle.dlk_tree.specs.declared.op.Sort.TheVariants.{Term}
 use Rattle.dlk_grammar.specs.Lexemes.{CloseBrace}
 use Rattle.dlk_grammar.specs.Phrases.{Evolve, add}
-use Rattle.dlk_machine.proofs.Machine.{ended}
-use Rattle.dlk_machine.proofs.Pairs.{InTerm, pair_step}
+use Rattle.dlk_machine.specs.Machine.{ended}
+use Rattle.dlk_machine.specs.Pairs.{InTerm, pair_step}
 use Rattle.dlk_parse.specs.Codes.{postfix_terms}
 use Rattle.dlk_parse.specs.Shows.{IsWhole}
 use Rattle.dlk_parse.specs.PairReaders.{KeepsItems, ShowsPair}

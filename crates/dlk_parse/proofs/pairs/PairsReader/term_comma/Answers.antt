@@ -3,8 +3,8 @@ use Rattle.std.proofs.lemmas.Result.{err_from_is_err_and}
 use Rattle.dlk_tree.specs.declared.op.Sort.TheVariants.{Term}
 use Rattle.dlk_grammar.specs.Lexemes.{Comma}
 use Rattle.dlk_grammar.specs.Phrases.{Evolve, add}
-use Rattle.dlk_machine.proofs.Machine.{as_sort}
-use Rattle.dlk_machine.proofs.Pairs.{ItemWanted, InTerm, pair_step}
+use Rattle.dlk_machine.specs.Machine.{as_sort}
+use Rattle.dlk_machine.specs.Pairs.{ItemWanted, InTerm, pair_step}
 use Rattle.dlk_parse.specs.Codes.{postfix_terms}
 use Rattle.dlk_parse.specs.Shows.{IsWhole}
 use Rattle.dlk_parse.specs.Ends.{at_comma, ShowsComma}

@@ -1,7 +1,7 @@
 use Rattle.std.proofs.Common.{sym, ◌∙◌}
 use Rattle.dlk_grammar.specs.declared.token.Dots.TheVariants.{Refused}
 use Rattle.dlk_grammar.specs.Readings.{permits}
-use Rattle.dlk_machine.proofs.Sequents.{sequent_step}
+use Rattle.dlk_machine.specs.Sequents.{sequent_step}
 use Rattle.dlk_parse.specs.Shows.{seen}
 use Rattle.dlk_parse.specs.Readers.{ShowsSides, SidesReach}
 use Rattle.dlk_parse.specs.declared.reading.SidesReached.{SidesReached}

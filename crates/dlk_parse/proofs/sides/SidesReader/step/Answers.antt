@@ -1,6 +1,6 @@
 use Rattle.std.proofs.Common.{[], refl}
 use Rattle.dlk_grammar.specs.Phrases.{none}
-use Rattle.dlk_machine.proofs.Machine.{Wants}
+use Rattle.dlk_machine.specs.Machine.{Wants}
 use Rattle.dlk_parse.proofs.Steps.{fresh_other, reading_other}
 use Rattle.dlk_parse.proofs.SideSteps.{inside_shown, between_shown}
 use Rattle.dlk_parse.proofs.sides.SidesReader.step.Goals as goal

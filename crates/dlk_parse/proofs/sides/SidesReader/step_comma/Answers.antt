@@ -3,8 +3,8 @@ use Rattle.std.proofs.lemmas.Result.{err_from_is_err_and}
 use Rattle.dlk_tree.specs.declared.op.Sort.TheVariants.{Formula}
 use Rattle.dlk_grammar.specs.Lexemes.{Comma}
 use Rattle.dlk_grammar.specs.Phrases.{snoc}
-use Rattle.dlk_machine.proofs.Machine.{as_sort}
-use Rattle.dlk_machine.proofs.Sequents.{Reading, sequent_step}
+use Rattle.dlk_machine.specs.Machine.{as_sort}
+use Rattle.dlk_machine.specs.Sequents.{Reading, sequent_step}
 use Rattle.dlk_parse.specs.Shows.{IsWhole}
 use Rattle.dlk_parse.specs.Ends.{at_comma}
 use Rattle.dlk_parse.specs.Readers.{ShowsBetween, ShowsSides}

@@ -1,8 +1,8 @@
 use Rattle.std.proofs.Common.{Some, refl}
 use Rattle.std.proofs.lemmas.Result.{err_from_is_err_and}
 use Rattle.dlk_tree.specs.declared.op.Sort.TheVariants.{Formula}
-use Rattle.dlk_machine.proofs.Machine.{step}
-use Rattle.dlk_machine.proofs.Sequents.{Reading}
+use Rattle.dlk_machine.specs.Machine.{step}
+use Rattle.dlk_machine.specs.Sequents.{Reading}
 use Rattle.dlk_parse.specs.Shows.{seen, Shows}
 use Rattle.dlk_parse.specs.Readers.{ShowsSides}
 use Rattle.dlk_parse.proofs.Agree.{agrees_err}

@@ -1,8 +1,8 @@
 use Rattle.std.proofs.lemmas.Result.{err_from_is_err_and}
 use Rattle.dlk_tree.specs.declared.op.Sort.TheVariants.{Formula}
 use Rattle.dlk_grammar.specs.Phrases.{snoc}
-use Rattle.dlk_machine.proofs.Machine.{ended}
-use Rattle.dlk_machine.proofs.Sequents.{turn}
+use Rattle.dlk_machine.specs.Machine.{ended}
+use Rattle.dlk_machine.specs.Sequents.{turn}
 use Rattle.dlk_parse.specs.Readers.{ShowsBetween, ShowsSides}
 use Rattle.dlk_parse.proofs.SideSteps.{finished_ok, finished_err, inside_shown}
 use Rattle.dlk_parse.proofs.sides.SidesReader.step_turnstile.Goals as goal

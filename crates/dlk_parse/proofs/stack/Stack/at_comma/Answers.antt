@@ -1,7 +1,7 @@
 use Rattle.std.proofs.Common.{Some, ap, arith}
 use Rattle.std.proofs.lemmas.Result.{err_from_is_err_and}
 use Rattle.dlk_grammar.specs.Lexemes.{Comma}
-use Rattle.dlk_machine.proofs.Machine.{Has, step}
+use Rattle.dlk_machine.specs.Machine.{Has, step}
 use Rattle.dlk_parse.specs.Shows.{Shows}
 use Rattle.dlk_parse.specs.Ends.{GoesTo, ShowsComma}
 use Rattle.dlk_parse.specs.declared.ends.Comma.TheVariants.{GoesOn}

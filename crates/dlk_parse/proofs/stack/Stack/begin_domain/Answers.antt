@@ -4,7 +4,7 @@ use Rattle.dlk_tree.specs.declared.op.Sort.TheVariants.{Term}
 use Rattle.dlk_grammar.specs.declared.token.Infix.TheVariants.{And}
 use Rattle.dlk_grammar.specs.Lexemes.{Op as Operator}
 use Rattle.dlk_grammar.specs.Phrases.{Evolve, add}
-use Rattle.dlk_machine.proofs.Machine.{Inside, Evolves, Domain, as_sort, items_step, close}
+use Rattle.dlk_machine.specs.Machine.{Inside, Evolves, Domain, as_sort, items_step, close}
 use Rattle.dlk_parse.specs.declared.stack.Stack.{Stack}
 use Rattle.dlk_parse.specs.declared.parts.Holder.TheVariants as holder
 use Rattle.dlk_parse.specs.declared.parts.Part.TheVariants as part

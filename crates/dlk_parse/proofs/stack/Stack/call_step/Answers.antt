@@ -1,6 +1,6 @@
 use Rattle.std.proofs.Common.{◌∷◌, refl}
 use Rattle.dlk_grammar.specs.Phrases.{none}
-use Rattle.dlk_machine.proofs.Machine.{Inside, Args}
+use Rattle.dlk_machine.specs.Machine.{Inside, Args}
 use Rattle.dlk_parse.proofs.OperandSteps.{call_other, opened}
 use Rattle.dlk_parse.proofs.stack.Stack.call_step.Goals as goal
 

@@ -1,6 +1,6 @@
 use Rattle.std.proofs.Common.{◌++◌, refl, sym, ap, ◌∙◌, append_assoc}
 use Rattle.std.proofs.lemmas.Result.{err_from_is_err_and}
-use Rattle.dlk_machine.proofs.Machine.{as_sort}
+use Rattle.dlk_machine.specs.Machine.{as_sort}
 use Rattle.dlk_parse.specs.Shows.{holder_code, piece_code, stack_code, Shows, Writes}
 use Rattle.dlk_parse.specs.declared.stack.Stack.{Stack}
 use Rattle.dlk_parse.proofs.Agree.{agrees_ok}

@@ -1,7 +1,7 @@
 use Rattle.std.proofs.Common.{sym, ◌∙◌}
 use Rattle.std.proofs.lemmas.Result.{err_from_is_err_and}
 use Rattle.dlk_grammar.specs.Lexemes.{CloseBrace}
-use Rattle.dlk_machine.proofs.Machine.{close}
+use Rattle.dlk_machine.specs.Machine.{close}
 use Rattle.dlk_parse.specs.Shows.{Shows}
 use Rattle.dlk_parse.proofs.HolderSteps.{domain_closed, evolves_any_err, evolves_brace}
 use Rattle.dlk_parse.proofs.stack.Stack.close_brace.Goals as goal

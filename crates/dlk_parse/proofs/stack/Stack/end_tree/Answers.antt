@@ -1,7 +1,7 @@
 use Rattle.std.proofs.Common.{[], true, false, refl}
 use Rattle.dlk_tree.specs.declared.op.Sort.TheVariants.{Term}
 use Rattle.dlk_grammar.specs.Phrases.{Variable}
-use Rattle.dlk_machine.proofs.Machine.{Is, Bare, Done, Has}
+use Rattle.dlk_machine.specs.Machine.{Is, Bare, Done, Has}
 use Rattle.dlk_parse.proofs.Steps.{expression_name, expression_prime}
 use Rattle.dlk_parse.proofs.stack.Stack.end_tree.Goals as goal
 

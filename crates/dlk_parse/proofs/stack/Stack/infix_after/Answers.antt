@@ -1,6 +1,6 @@
 use Rattle.std.proofs.Common.{[], List, Some}
 use Rattle.std.proofs.lemmas.Result.{err_from_is_err_and}
-use Rattle.dlk_machine.proofs.Machine.{By, Part, Wants, after_operand}
+use Rattle.dlk_machine.specs.Machine.{By, Part, Wants, after_operand}
 use Rattle.dlk_parse.specs.Shows.{IsOpen, Shows}
 use Rattle.dlk_parse.proofs.Agree.{agrees_err}
 use Rattle.dlk_parse.proofs.OperandSteps.{infix_other}

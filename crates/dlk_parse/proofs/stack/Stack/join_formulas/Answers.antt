@@ -1,7 +1,7 @@
 use Rattle.std.proofs.Common.{[], List, Some}
 use Rattle.std.proofs.lemmas.Result.{err_from_is_err_and}
 use Rattle.dlk_grammar.specs.declared.token.Infix.TheVariants.{And}
-use Rattle.dlk_machine.proofs.Machine.{By, Part, Wants}
+use Rattle.dlk_machine.specs.Machine.{By, Part, Wants}
 use Rattle.dlk_parse.specs.Shows.{left_opened, IsOpen, Shows}
 use Rattle.dlk_parse.proofs.Agree.{agrees_err}
 use Rattle.dlk_parse.proofs.HolderSteps.{formulas_joined_is}

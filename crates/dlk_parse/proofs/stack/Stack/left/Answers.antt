@@ -1,5 +1,5 @@
 use Rattle.std.proofs.Common.{◌≡◌, [], ◌∷◌, ◌++◌, Some, sym, ap, ◌∙◌}
-use Rattle.dlk_machine.proofs.Machine.{as_sort, fits, operand_sort}
+use Rattle.dlk_machine.specs.Machine.{as_sort, fits, operand_sort}
 use Rattle.dlk_parse.specs.Shows.{said, stack_code, Writes}
 use Rattle.dlk_parse.specs.declared.parts.Part.TheVariants as part
 use Rattle.dlk_parse.proofs.Agree.{agrees_ok}

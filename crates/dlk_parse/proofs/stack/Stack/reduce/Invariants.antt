@@ -1,5 +1,5 @@
 use Rattle.std.proofs.Common.{◌≡◌, List, vec_len}
-use Rattle.dlk_machine.proofs.Machine.{Part, Piece, reduce}
+use Rattle.dlk_machine.specs.Machine.{Part, Piece, reduce}
 use Rattle.dlk_parse.specs.Shows.{Stands}
 use Rattle.dlk_parse.proofs.stack.Stack.reduce.Given as goal
 

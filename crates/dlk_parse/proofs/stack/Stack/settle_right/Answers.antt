@@ -1,7 +1,7 @@
 use Rattle.std.proofs.Common.{Some}
 use Rattle.std.proofs.lemmas.Result.{err_from_is_err_and}
 use Rattle.dlk_grammar.specs.Substitutions.{to}
-use Rattle.dlk_machine.proofs.Machine.{whole}
+use Rattle.dlk_machine.specs.Machine.{whole}
 use Rattle.dlk_parse.specs.Shows.{IsWhole}
 use Rattle.dlk_parse.specs.PairReaders.{IsPairOf}
 use Rattle.dlk_parse.proofs.Agree.{agrees_err}

@@ -1,5 +1,5 @@
 use Rattle.std.proofs.Common.{◌∷◌, false, refl, sym, ◌∙◌}
-use Rattle.dlk_machine.proofs.Machine.{Inside, Assigns}
+use Rattle.dlk_machine.specs.Machine.{Inside, Assigns}
 use Rattle.dlk_parse.proofs.OperandSteps.{gets_star, gets_other, opened}
 use Rattle.dlk_parse.proofs.stack.Stack.statement_gets_step.Goals as goal
 

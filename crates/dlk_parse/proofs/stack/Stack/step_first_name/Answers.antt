@@ -1,7 +1,7 @@
 use Rattle.std.proofs.Common.{[], false, refl}
 use Rattle.dlk_tree.specs.declared.op.Sort.TheVariants.{Term}
 use Rattle.dlk_grammar.specs.Phrases.{Variable}
-use Rattle.dlk_machine.proofs.Machine.{Is, Bare, Has, Starts}
+use Rattle.dlk_machine.specs.Machine.{Is, Bare, Has, Starts}
 use Rattle.dlk_parse.proofs.Steps.{first_name_semi, first_name_gets, first_name_other}
 use Rattle.dlk_parse.proofs.stack.Stack.step_first_name.Goals as goal
 

@@ -1,7 +1,7 @@
 use Rattle.std.proofs.Common.{[], true, refl}
 use Rattle.dlk_tree.specs.declared.op.Sort.TheVariants.{Term}
 use Rattle.dlk_grammar.specs.Phrases.{Variable}
-use Rattle.dlk_machine.proofs.Machine.{Is, Done, Has, StartsPrime}
+use Rattle.dlk_machine.specs.Machine.{Is, Done, Has, StartsPrime}
 use Rattle.dlk_parse.proofs.Steps.{first_prime_gets, first_prime_other}
 use Rattle.dlk_parse.proofs.stack.Stack.step_first_prime.Goals as goal
 

@@ -1,5 +1,5 @@
 use Rattle.std.proofs.Common.{refl}
-use Rattle.dlk_machine.proofs.Machine.{step}
+use Rattle.dlk_machine.specs.Machine.{step}
 use Rattle.dlk_parse.specs.Shows.{seen, Shows}
 use Rattle.dlk_parse.specs.Readers.{ShowsOf}
 use Rattle.dlk_parse.specs.declared.expressions.Place.TheVariants as place

@@ -1,5 +1,5 @@
 use Rattle.dlk_tree.specs.declared.op.Sort.TheVariants.{Program}
-use Rattle.dlk_machine.proofs.Machine.{step}
+use Rattle.dlk_machine.specs.Machine.{step}
 use Rattle.dlk_parse.specs.Shows.{seen}
 use Rattle.dlk_parse.proofs.Steps.{as_programs}
 use Rattle.dlk_parse.proofs.stack.Stack.step_program.Goals as goal

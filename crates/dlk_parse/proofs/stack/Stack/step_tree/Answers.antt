@@ -1,7 +1,7 @@
 use Rattle.dlk_tree.specs.declared.op.Sort.{Sort}
 use Rattle.dlk_tree.specs.declared.op.Sort.TheVariants.{Program}
 use Rattle.std.proofs.Common.{subst}
-use Rattle.dlk_machine.proofs.Machine.{step}
+use Rattle.dlk_machine.specs.Machine.{step}
 use Rattle.dlk_parse.specs.Shows.{seen, Agrees}
 use Rattle.dlk_parse.specs.Readers.{ShowsOf}
 use Rattle.dlk_parse.proofs.Steps.{as_programs, expression_of}

@@ -1,5 +1,5 @@
 use Rattle.std.proofs.Common.{[], refl}
-use Rattle.dlk_machine.proofs.Machine.{Wants}
+use Rattle.dlk_machine.specs.Machine.{Wants}
 use Rattle.dlk_parse.proofs.Steps.{unread_query, unread_brace, unread_other}
 use Rattle.dlk_parse.proofs.stack.Stack.step_unread.Goals as goal
 

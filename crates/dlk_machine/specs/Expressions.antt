@@ -3,8 +3,8 @@ use Rattle.std.specs.Prelude.{ℕ, true, false, [], Option, Some, None}
 use Rattle.dlk_tree.specs.declared.op.Sort.TheVariants.{Term, Formula, Program}
 use Rattle.dlk_grammar.specs.Lexemes.{Word, Lexeme, Name, OpenBrace, Prime, Gets, Query, Semi}
 use Rattle.dlk_grammar.specs.Phrases.{Phrase, Variable}
-use Rattle.dlk_machine.proofs.Machine.{◌>>=◌, Done, Bare, Is, State, Wants, Has, Starts, StartsPrime, step, ended}
-use Rattle.dlk_machine.proofs.Parse.{Machine, or_else}
+use Rattle.dlk_machine.specs.Machine.{◌>>=◌, Done, Bare, Is, State, Wants, Has, Starts, StartsPrime, step, ended}
+use Rattle.dlk_machine.specs.Parse.{Machine, or_else}
 
 -- A name, and a name with a prime, leave open what is read.
 pub data ExpressionState : Type 0 where

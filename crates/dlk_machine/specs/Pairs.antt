@@ -1,17 +1,17 @@
 -- The machine of a pair of a substitution, and of its pairs with commas between.
-use Rattle.std.specs.Prelude.{ℕ, ◌+◌, ◌==◌, Bool, true, false, List, [], ◌∷◌, ◌++◌, Option, Some, None, codes}
+use Rattle.std.specs.Prelude.{ℕ, ◌+◌, ◌==◌, nat_lt, Bool, true, false, List, [], ◌∷◌, ◌++◌, Option, Some, None, codes}
 use Rattle.std.specs.Str.{bytes_eq}
 use Rattle.dlk_tree.specs.declared.op.Kind.TheVariants.{Quant, Prog, Ode}
 use Rattle.dlk_tree.specs.declared.op.Sym.{Sym}
 use Rattle.dlk_tree.specs.declared.op.Sort.{Sort}
 use Rattle.dlk_tree.specs.declared.op.Sort.TheVariants.{Term, Formula, Program}
 use Rattle.dlk_grammar.specs.Erased.{symbol}
-use Rattle.dlk_grammar.specs.Lexemes.{Word, Lexeme, Name, Dot, Blank, RoundBars, RoundBar, BarRound, BraceBar, BarBrace, Open, Close, OpenBrace, CloseBrace, Prime, Semi, Comma, Becomes, Op}
-use Rattle.dlk_grammar.specs.declared.token.Infix.TheVariants.{Equal}
-use Rattle.dlk_grammar.specs.Phrases.{Everywhere, Except, Truth, System, Evolve, Flow, Items, no_items, add}
-use Rattle.dlk_grammar.specs.Substitutions.{Target, Over, Unit, function, predicate, PairPhrase, to}
-use Rattle.dlk_machine.proofs.Machine.{◌>>=◌, when, State, Wants, step, ended}
-use Rattle.dlk_machine.proofs.Parse.{Machine, or_else}
+use Rattle.dlk_grammar.specs.Lexemes.{Word, Lexeme, Name, Dot, Blank, RoundBars, RoundBar, BarRound, BraceBar, BarBrace, Open, Close, OpenBrace, CloseBrace, Semi, Comma, Becomes, Op}
+use Rattle.dlk_grammar.specs.declared.token.Infix.TheVariants.{And}
+use Rattle.dlk_grammar.specs.Phrases.{Everywhere, Except, Phrase, no_items}
+use Rattle.dlk_grammar.specs.Substitutions.{Target, Over, Unit, function, predicate, most_dots, PairPhrase, to}
+use Rattle.dlk_machine.specs.Machine.{◌>>=◌, when, Braced, Is, State, Wants, Has, WantsItem, step, ended}
+use Rattle.dlk_machine.specs.Parse.{Machine, or_else}
 
 -- what a left side wants on the right: a formula or else a term, a text of a sort, a system without a domain
 pub data Right : Type 0 where
@@ -47,16 +47,10 @@ pub data PairState : Type 0 where
   -- a whole left side; what is read of the right side
   LeftEnds : Right → PairState
   InRight : Right → State → PairState
-  -- of a system: where its { is wanted, where an item is, x, x ', its term, x {|, x {| y, where an item is whole, and behind its }
+  -- of a system: where its { is wanted, what is read of its items, and behind its }
   BraceWanted : Sym → PairState
-  ItemWanted : Sym → ℕ → Items → PairState
-  ItemName : Sym → ℕ → Items → Word → PairState
-  ItemPrime : Sym → ℕ → Items → Word → PairState
-  InTerm : Sym → ℕ → Items → Word → State → PairState
-  ItemBar : Sym → ℕ → Items → Word → PairState
-  ItemBarName : Sym → ℕ → Items → Word → Word → PairState
-  ItemEnds : Sym → ℕ → Items → PairState
-  SystemEnds : Sym → ℕ → Items → PairState
+  InSystem : Sym → State → PairState
+  SystemEnds : Sym → Phrase → PairState
 
 -- a function or a predicate behind its name
 abbrev pub target_step : Bool → Word → Lexeme → Option PairState
@@ -76,9 +70,10 @@ right_sort (EitherOf h) = Formula
 right_sort (TextOf g s) = g
 right_sort (SystemOf s) = Program
 
--- a token of the term of an item
-abbrev pub in_term : Sym → ℕ → Items → Word → State → Lexeme → Option PairState
-in_term s m l x y k = step Term y k >>= λ z. Some (InTerm s m l x z)
+-- a system without a domain, which is whole behind its brace
+abbrev pub system_state : Sym → State → PairState
+system_state s (Has [] (Is Program t Braced)) = SystemEnds s t
+system_state s y = InSystem s y
 
 abbrev pub pair_step : PairState → Lexeme → Option PairState
 pair_step Begins (Name n x) = Some (LeftName x)
@@ -90,7 +85,7 @@ pair_step (LeftName x) k = target_step false x k
 pair_step (TermName x) k = target_step true x k
 pair_step (Calls e x) Close = Some (LeftEnds (right_of e (Over x 0)))
 pair_step (Calls e x) (Dot n) = when (n == 0) (Some (DotsOf e x 1))
-pair_step (DotsOf e x n) Comma = Some (DotWanted e x n)
+pair_step (DotsOf e x n) Comma = when (nat_lt n most_dots) (Some (DotWanted e x n))
 pair_step (DotsOf e x n) Close = Some (LeftEnds (right_of e (Over x n)))
 pair_step (DotWanted e x n) (Dot m) = when (m == n) (Some (DotsOf e x (n + 1)))
 pair_step (Bars e x) (Name n y) = Some (BarsName e x y)
@@ -105,20 +100,9 @@ pair_step (FlowBarName x y) BarBrace = Some (FlowExcept x y)
 pair_step (FlowExcept x y) CloseBrace = Some (LeftEnds (SystemOf (symbol Ode x 0 (Except y))))
 pair_step (LeftEnds w) Becomes = Some (right_start w)
 pair_step (InRight w y) k = step (right_sort w) y k >>= λ z. Some (InRight w z)
-pair_step (BraceWanted s) (OpenBrace m) = Some (ItemWanted s m no_items)
-pair_step (ItemWanted s m l) (Name n x) = Some (ItemName s m l x)
-pair_step (ItemName s m l x) Prime = Some (ItemPrime s m l x)
-pair_step (ItemName s m l x) BraceBar = Some (ItemBar s m l x)
-pair_step (ItemName s m l x) Comma = Some (ItemWanted s m (add l (Flow x Everywhere)))
-pair_step (ItemName s m l x) CloseBrace = Some (SystemEnds s m (add l (Flow x Everywhere)))
-pair_step (ItemPrime s m l x) (Op Equal) = Some (InTerm s m l x (Wants []))
-pair_step (InTerm s m l x y) Comma = or_else (ended Term y) (in_term s m l x y Comma) (λ t. Some (ItemWanted s m (add l (Evolve x t))))
-pair_step (InTerm s m l x y) CloseBrace = ended Term y >>= λ t. Some (SystemEnds s m (add l (Evolve x t)))
-pair_step (InTerm s m l x y) k = in_term s m l x y k
-pair_step (ItemBar s m l x) (Name n y) = Some (ItemBarName s m l x y)
-pair_step (ItemBarName s m l x y) BarBrace = Some (ItemEnds s m (add l (Flow x (Except y))))
-pair_step (ItemEnds s m l) Comma = Some (ItemWanted s m l)
-pair_step (ItemEnds s m l) CloseBrace = Some (SystemEnds s m l)
+pair_step (BraceWanted s) (OpenBrace m) = Some (InSystem s (WantsItem [] m no_items))
+pair_step (InSystem s y) (Op And) = None
+pair_step (InSystem s y) k = step Program y k >>= λ z. Some (system_state s z)
 pair_step _ _ = None
 
 abbrev pub right_ended : Right → State → Option PairPhrase
@@ -128,7 +112,7 @@ right_ended (SystemOf s) y = None
 
 abbrev pub pair_ended : PairState → Option PairPhrase
 pair_ended (InRight w y) = right_ended w y
-pair_ended (SystemEnds s m l) = Some (to s (System m l Truth))
+pair_ended (SystemEnds s t) = Some (to s t)
 pair_ended _ = None
 
 -- The reader of a pair.

@@ -4,8 +4,8 @@ use Rattle.dlk_tree.specs.declared.op.Sort.TheVariants.{Formula}
 use Rattle.dlk_grammar.specs.Lexemes.{Lexeme, Comma, Turnstile}
 use Rattle.dlk_grammar.specs.Phrases.{Phrases, none, snoc}
 use Rattle.dlk_grammar.specs.Grammar.{Sides, Turned}
-use Rattle.dlk_machine.proofs.Machine.{◌>>=◌, State, Wants, step, ended}
-use Rattle.dlk_machine.proofs.Parse.{Machine, or_else}
+use Rattle.dlk_machine.specs.Machine.{◌>>=◌, State, Wants, step, ended}
+use Rattle.dlk_machine.specs.Parse.{Machine, or_else}
 
 -- the side that is read: the left one, or the right one behind the formulas of the left one
 pub data Side : Type 0 where

@@ -5,7 +5,7 @@ use Rattle.dlk_grammar.specs.declared.token.Dots.{Dots}
 use Rattle.dlk_grammar.specs.Lexemes.{Lexeme}
 use Rattle.dlk_grammar.specs.Phrases.{Phrase}
 use Rattle.dlk_grammar.specs.Readings.{permits}
-use Rattle.dlk_machine.proofs.Machine.{when, State, Wants, step, ended}
+use Rattle.dlk_machine.specs.Machine.{when, State, Wants, step, ended}
 
 -- What reads token by token: where it starts, a step, and what was read at the end.
 pub record Machine (X T : Type 0) : Type 0 where
