@@ -28,7 +28,7 @@ use Rattle.dlk_parse.specs.Faults.{IsParseFaultOf}
 use Rattle.dlk_parse.specs.Limits.{AreWithinTokenLimits}
 use Rattle.dlk_parse.specs.Made.{IsWellMade, AreMade}
 use Rattle.dlk_parse.specs.Said.{SaysCode, IsReadCode, SaysSides, AreReadSides, HasPlaces, IsWithin, IsCodeBeyond, left_count}
-use Rattle.dlk_parse.specs.declared.code.Code.{Code}
+use Rattle.dlk_reader.specs.declared.code.Code.{Code}
 use Rattle.dlk_parse.specs.declared.fault.ParseFault.{ParseFault}
 use Rattle.dlk_parse.specs.declared.said.SaidSides.{SaidSides}
 use Rattle.dlk_parse.proofs.Nodes.{drop-map}

@@ -21,14 +21,14 @@ use Rattle.dlk_machine.proofs.TextLaws.{pairs_ills_below, pairs_well_made}
 use Rattle.dlk_parse.specs.Faults.{IsParseFaultOf}
 use Rattle.dlk_parse.specs.Limits.{AreWithinTokenLimits}
 use Rattle.dlk_parse.specs.Made.{IsWellMade, AreMade}
-use Rattle.dlk_parse.specs.Readers.{IsParsed, Answers}
-use Rattle.dlk_parse.specs.PairReaders.{IsCodeOfPairs, SaysPairs, AreReadPairs}
+use Rattle.dlk_forms.specs.Readers.{IsParsed, Answers}
+use Rattle.dlk_forms.specs.PairReaders.{IsCodeOfPairs, SaysPairs, AreReadPairs}
 use Rattle.dlk_parse.specs.Said.{IsNoText, HasPlaces, IsWithin, IsCodeBeyond}
 use Rattle.dlk_parse.specs.Stops.{of_stop}
 use Rattle.dlk_parse.specs.declared.fault.ParseFault.{ParseFault}
-use Rattle.dlk_parse.specs.declared.pairs.PairsCode.{PairsCode}
-use Rattle.dlk_parse.specs.declared.stop.Stop.{Stop}
-use Rattle.dlk_parse.specs.declared.stop.Stop.TheVariants.{Memory, Syntax}
+use Rattle.dlk_forms.specs.declared.pairs.PairsCode.{PairsCode}
+use Rattle.dlk_reader.specs.declared.stop.Stop.{Stop}
+use Rattle.dlk_reader.specs.declared.stop.Stop.TheVariants.{Memory, Syntax}
 use Rattle.dlk_parse.proofs.Reports.{beyond, faultless}
 use Rattle.dlk_parse.proofs.SaidLaws.{least_among, All-from_map}
 

@@ -16,15 +16,15 @@ use Rattle.dlk_machine.specs.Parse.{parse}
 use Rattle.dlk_machine.proofs.ParseLaws.{form_read_says, form_fault_says_nothing, sequent_read_says, sequent_fault_says_nothing}
 use Rattle.dlk_machine.specs.Forms.{machine_of}
 use Rattle.dlk_machine.specs.Sequents.{sequent_reader}
-use Rattle.dlk_parse.specs.Codes.{postfix, postfix_all}
+use Rattle.dlk_reader.specs.Codes.{postfix, postfix_all}
 use Rattle.dlk_parse.specs.Faults.{IsParseFaultOf}
-use Rattle.dlk_parse.specs.Readers.{IsParsed, IsCodeOf, Answers}
+use Rattle.dlk_forms.specs.Readers.{IsParsed, IsCodeOf, Answers}
 use Rattle.dlk_parse.specs.Said.{SaysCode, IsNoText, SaysSides}
 use Rattle.dlk_parse.specs.Stops.{of_stop}
-use Rattle.dlk_parse.specs.declared.code.Code.{Code}
-use Rattle.dlk_parse.specs.declared.sides.SidesCode.{SidesCode}
-use Rattle.dlk_parse.specs.declared.stop.Stop.{Stop}
-use Rattle.dlk_parse.specs.declared.stop.Stop.TheVariants.{Memory, Syntax}
+use Rattle.dlk_reader.specs.declared.code.Code.{Code}
+use Rattle.dlk_forms.specs.declared.sides.SidesCode.{SidesCode}
+use Rattle.dlk_reader.specs.declared.stop.Stop.{Stop}
+use Rattle.dlk_reader.specs.declared.stop.Stop.TheVariants.{Memory, Syntax}
 use Rattle.dlk_parse.proofs.PhraseParts.{postfix_all_is}
 
 pub tree_said : (d : Dots) (wanted : Form) (tokens : List Token) (code : Vec Code) → IsParsed (λ (v : Vec Code) p. v.items ≡ postfix p) code (parse d (machine_of wanted) (lexemes tokens)) → SaysCode (grammar wanted) itself d tokens code.items

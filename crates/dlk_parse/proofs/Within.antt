@@ -16,7 +16,7 @@ use Rattle.dlk_parse.specs.Measures.{measure, AreMeasures}
 use Rattle.dlk_parse.specs.Measuring.{lesser}
 use Rattle.dlk_parse.specs.Limits.{least_ill, past, IsAmong, KnowsWithin, KnowsBeyond}
 use Rattle.dlk_parse.specs.Said.{HasPlaces}
-use Rattle.dlk_parse.specs.declared.code.Code.{Code}
+use Rattle.dlk_reader.specs.declared.code.Code.{Code}
 use Rattle.dlk_parse.specs.declared.measures.Measure.{Measure}
 use Rattle.dlk_parse.specs.declared.fault.ParseFault.TheVariants as parse
 use Rattle.dlk_parse.proofs.Measuring.{lowest-append, lesser_none, lesser_assoc}

@@ -1,5 +1,4 @@
 pub mod Faults
-pub mod Codes
 pub mod Measures
 pub mod Stacks
 pub mod Measuring
@@ -7,8 +6,4 @@ pub mod Made
 pub mod Making
 pub mod Limits
 pub mod Said
-pub mod Shows
-pub mod Readers
-pub mod Ends
-pub mod PairReaders
 pub mod Stops

@@ -8,9 +8,9 @@ use Rattle.dlk_grammar.specs.Phrases.{Phrase}
 use Rattle.dlk_grammar.specs.Grammar.{Sides, Turned, ReadsSequent}
 use Rattle.dlk_grammar.specs.Erased.{ills, lowest, count}
 use Rattle.dlk_grammar.specs.Readings.{Says, ReadFault, Literal, Nesting, Syntax, Shape, TooBig, TooDeep, SpeaksAgainst, both_sides}
-use Rattle.dlk_parse.specs.Codes.{postfix}
+use Rattle.dlk_reader.specs.Codes.{postfix}
 use Rattle.dlk_parse.specs.Limits.{AreWithin, IsBeyond}
-use Rattle.dlk_parse.specs.declared.code.Code.{Code}
+use Rattle.dlk_reader.specs.declared.code.Code.{Code}
 use Rattle.dlk_parse.specs.declared.fault.ParseFault.{ParseFault}
 use Rattle.dlk_parse.specs.declared.said.SaidSides.{SaidSides}
 

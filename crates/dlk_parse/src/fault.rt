@@ -2,7 +2,7 @@ ghost use Rattle.std.specs.Prelude.{◌≡◌};
 ghost use Rattle.dlk_parse.specs.Faults.{of_lex};
 ghost use Rattle.dlk_parse.specs.declared.fault.ParseFault.TheVariants.{Memory};
 
-use crate::stop::Stop;
+use dlk_reader::Stop;
 use dlk_lex::LexFault;
 use dlk_store::StoreFault;
 use std::alloc::{AllocError, AllocFailed};

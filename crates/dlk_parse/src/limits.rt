@@ -6,7 +6,7 @@ ghost use Rattle.dlk_grammar.specs.Readings.{opens, closes, level_behind, most_l
 ghost use Rattle.dlk_parse.specs.Limits.{HasNone, least_ill, past, KnowsWithin, KnowsBeyond, IsAmong, AreWithinTokenLimits, IsPastTokenLimit};
 ghost use Rattle.dlk_parse.specs.Said.{HasPlaces, IsWithin, IsCodeBeyond};
 
-use crate::code::Code;
+use dlk_reader::Code;
 use crate::fault::ParseFault;
 use crate::measures::{Measure, lesser, measures};
 use dlk_calculus::{GREATEST_DEPTH, MOST_NODES};

@@ -13,14 +13,14 @@ ghost use Rattle.dlk_store.specs.Stores.{IsId, tree};
 ghost use Rattle.dlk_sequent.specs.Sequents.{sequent_at, IsKnown};
 ghost use Rattle.dlk_sequent.specs.Substitutions.{pairs_at, AreKnownPairs};
 ghost use Rattle.dlk_parse.specs.Faults.{IsParseFaultOf, UnlessMemory};
-ghost use Rattle.dlk_parse.specs.PairReaders.{AreReadPairs};
+ghost use Rattle.dlk_forms.specs.PairReaders.{AreReadPairs};
 ghost use Rattle.dlk_parse.specs.Said.{IsReadCode, AreReadSides};
 
-use crate::code::Code;
+use dlk_reader::Code;
 use crate::fault::ParseFault;
 use crate::limits::{check_code, check_tokens};
 use crate::making::make_all;
-use crate::pairs::PairsCode;
+use dlk_forms::PairsCode;
 use crate::said::{SaidSides, said_pairs, said_sides, said_tree};
 use dlk_grammar::{Dots, Form, Token};
 use dlk_sequent::{Listed, Pair, Sequent};

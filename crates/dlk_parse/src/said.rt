@@ -5,15 +5,15 @@ ghost use Rattle.dlk_grammar.specs.Grammar.{ReadsSequent};
 ghost use Rattle.dlk_grammar.specs.Readings.{grammar, itself, both_sides};
 ghost use Rattle.dlk_grammar.specs.Substitutions.{ReadsSubstitution};
 ghost use Rattle.dlk_parse.specs.Faults.{IsParseFaultOf};
-ghost use Rattle.dlk_parse.specs.PairReaders.{SaysPairs};
+ghost use Rattle.dlk_forms.specs.PairReaders.{SaysPairs};
 ghost use Rattle.dlk_parse.specs.Said.{SaysCode, IsNoText, SaysSides};
 
-use crate::code::Code;
+use dlk_reader::Code;
 use crate::fault::ParseFault;
-use crate::pair_reading::read_pairs;
-use crate::pairs::PairsCode;
-use crate::reading::{read_sides, read_tree};
-use crate::sides::SidesCode;
+use dlk_forms::read_pairs;
+use dlk_forms::PairsCode;
+use dlk_forms::{read_sides, read_tree};
+use dlk_forms::SidesCode;
 use dlk_grammar::{Dots, Form, Token};
 use std::alloc::Global;
 

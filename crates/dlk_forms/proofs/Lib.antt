@@ -1,0 +1,5 @@
+pub mod Steps
+mod SideSteps
+mod PairSteps
+mod ReadingSteps
+mod PairReading

@@ -1,0 +1,27 @@
+use Rattle.std.proofs.Common.{Some, refl}
+use Rattle.std.proofs.lemmas.Result.{err_from_is_err_and}
+use Rattle.dlk_tree.specs.declared.op.Sort.TheVariants.{Term}
+use Rattle.dlk_machine.specs.Machine.{step}
+use Rattle.dlk_machine.specs.Pairs.{InTerm}
+use Rattle.dlk_reader.specs.Codes.{postfix_terms}
+use Rattle.dlk_reader.specs.Shows.{seen, Shows}
+use Rattle.dlk_forms.specs.PairReaders.{ShowsPair}
+use Rattle.dlk_forms.specs.declared.pairs.PairMode.TheVariants as pair
+use Rattle.dlk_forms.specs.declared.pair_items.ItemMode.TheVariants as item
+use Rattle.dlk_reader.proofs.Agree.{agrees_err}
+use Rattle.dlk_forms.proofs.Steps.{ok_maps}
+use Rattle.dlk_forms.proofs.PairSteps.{keeps_pairs}
+use Rattle.dlk_forms.proofs.pairs.PairsReader.inner_step.Goals as goal
+
+pub returns-in_err-mode : goal.returns-in_err-mode
+returns-in_err-mode c = λ l n i x e p h.
+    let w = err_from_is_err_and c.from_residual.result c.from_residual.ensures.1 in
+    let new = record c.args.self.now { stack = c.step.new.self } in
+    rw (w.1, w.2) (agrees_err (Shows c.step.new.self) (ShowsPair new l) c.in_err-mode.field-0.0 (step Term x (seen c.args.lexeme)) (λ y. Some (InTerm c.args.symbol n i c.args.name y)) (c.in_err-mode.ensures x h))
+
+pub returns : goal.returns
+returns c = λ l n i x e p h.
+    let mode = c.in_ok-mode.mode in
+    let new = record c.args.self.now { stack = c.step.new.self } in
+    ok_maps (Shows c.step.new.self) (ShowsPair new l) mode (pair.InSystem c.args.symbol c.args.equations (item.InTerm c.args.name mode)) (step Term x (seen c.args.lexeme)) (InTerm c.args.symbol n i c.args.name)
+    (λ y k. record { at = n; items = i; equations = e; shows = record { inner = y; state = refl; pairs = keeps_pairs c.args.self.now c.step.new.self l (postfix_terms i) p; shows = k } }) (c.in_ok-mode.ensures x h)

@@ -1,0 +1,7 @@
+mod Tops
+pub mod Agree
+mod Reducing
+mod OperandSteps
+mod ItemSteps
+mod HolderSteps
+pub mod Commas
