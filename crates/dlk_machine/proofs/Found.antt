@@ -670,7 +670,7 @@ moves g (ItemBarName S n l x z) k y all a e = item_bar_name_moves g S n l x z k 
 moves g (ItemEnds S n l) k y all a e = items_moves g S n l k y all a.0 a.1 a.2 e
 moves g (Invariants S t) k y all a e = invariants_moves g S t k y all a.0 a.1 a.2 e
 
-spells_nothing : {g : Sort} {f : List Lexeme} → Spells g [] f → f ≡ []
+pub spells_nothing : {g : Sort} {f : List Lexeme} → Spells g [] f → f ≡ []
 spells_nothing nothing = refl
 
 top_need : (g : Sort) (n : ℕ) → 1 ≤ n → need (top g) ≤ n

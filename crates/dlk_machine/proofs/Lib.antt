@@ -10,15 +10,15 @@ pub mod Parsing
 pub mod Reading
 pub mod ExpressionLaws
 pub mod SequentLaws
-pub mod PairTerms
+pub mod Formed
 pub mod PairTargets
+pub mod PairSystems
 pub mod PairItems
 pub mod PairStates
 pub mod PairEnds
 pub mod PairLaws
 pub mod PairExamples
 pub mod ParseLaws
-pub mod Formed
 pub mod PairsFormed
 pub mod TextLaws
 pub mod SomeText

@@ -25,7 +25,7 @@ record Fills (g : Sort) (S : List Part) (r : List Lexeme) : Type 0 where
   loose : Loose (form_level form) S
   fit : fits g (form_sort form) S ≡ true
 
-abbrev nought : Num
+abbrev pub nought : Num
 nought = record { digits = 0; scale = 0 }
 
 -- what makes an atom of a term

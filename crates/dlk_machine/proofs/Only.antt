@@ -521,6 +521,13 @@ item_opens (item-evolve d) g S n c rest = refl
 item_opens (item-flow {x = x}) g S n c rest = ap (λ (o : Option State). run_from g o rest) (flow_opens g S n x c)
 item_opens item-except g S n c rest = refl
 
+items_open : {s : List Lexeme} {l : Items} → ReadsItems s l → (g : Sort) (S : List Part) (n : ℕ) {k : Lexeme} → EndsItem k → (rest : List Lexeme)
+    → arrive g (Opens S n) (s ++ (k ∷ rest)) ≡ arrive g (WantsItem S n no_items) (s ++ (k ∷ rest))
+items_open (items-one d) g S n c rest = item_opens d g S n c rest
+items_open (items-more {s = s} {r = r} d e) g S n {k} c rest =
+    let at : (s ++ Comma ∷ r) ++ (k ∷ rest) ≡ s ++ (Comma ∷ (r ++ (k ∷ rest))) = append_assoc s (Comma ∷ r) (k ∷ rest) in
+    ap (arrive g (Opens S n)) at ∙ items_open d g S n item-comma (r ++ (k ∷ rest)) ∙ ap (arrive g (WantsItem S n no_items)) (sym at)
+
 -- after which a star, an invariant or a semicolon may come
 pub data MayNote : Tail → Type 0 where
   note-braced : MayNote Braced
@@ -695,10 +702,12 @@ mutual
   only_item (item-flow {x = x}) g S n l c rest = ap (λ (o : Option State). run_from g o rest) (flow_ends g S n l x c)
   only_item item-except g S n l c rest = refl
 
-  -- Items and the token behind them, behind a brace.
-  only_items : {s : List Lexeme} {l : Items} → ReadsItems s l → (g : Sort) (S : List Part) (n : ℕ) {k : Lexeme} → EndsItem k → (rest : List Lexeme) → arrive g (Opens S n) (s ++ (k ∷ rest)) ≡ run_from g (items_step S n l k) rest
-  only_items (items-one d) g S n c rest = item_opens d g S n c rest ∙ only_item d g S n no_items c rest
-  only_items (items-more {s = s} {r = r} {l = l} d e) g S n {k} c rest = ap (arrive g (Opens S n)) (append_assoc s (Comma ∷ r) (k ∷ rest)) ∙ only_items d g S n item-comma (r ++ (k ∷ rest)) ∙ only_item e g S n l c rest
+  -- Items and the token behind them, where the first item is wanted.
+  pub only_items : {s : List Lexeme} {l : Items} → ReadsItems s l → (g : Sort) (S : List Part) (n : ℕ) {k : Lexeme} → EndsItem k → (rest : List Lexeme)
+      → arrive g (WantsItem S n no_items) (s ++ (k ∷ rest)) ≡ run_from g (items_step S n l k) rest
+  only_items (items-one d) g S n c rest = only_item d g S n no_items c rest
+  only_items (items-more {s = s} {r = r} {l = l} d e) g S n {k} c rest =
+      ap (arrive g (WantsItem S n no_items)) (append_assoc s (Comma ∷ r) (k ∷ rest)) ∙ only_items d g S n item-comma (r ++ (k ∷ rest)) ∙ only_item e g S n l c rest
 
   only_brace : {s : List Lexeme} {a : Phrase} → ReadsBrace s a → (g : Sort) (S : List Part) → fits g Program S ≡ true → (rest : List Lexeme) → arrive g (Wants S) (s ++ rest) ≡ arrive g (Has S (Is Program a Braced)) rest
   only_brace (brace-prog {n = n} {s = s} {a = a} d) g S f rest =
@@ -706,10 +715,10 @@ mutual
       go g (Wants S) (OpenBrace n) ((s ++ CloseBrace ∷ []) ++ rest) (Opens S n) (statement_wanted g S (OpenBrace n) f) ∙ ap (arrive g (Opens S n)) (append_assoc s (CloseBrace ∷ []) rest) ∙ opens_run g S n (CloseBrace ∷ rest) (first d)
       ∙ held g S InBrace s prog a CloseBrace (Has S (Is Program a Braced)) x (program_step g (x.parts ++ Inside InBrace ∷ S) x.last CloseBrace x.kind) (rw x.tree refl) rest
   only_brace (brace-items {n = n} {s = s} {l = l} d) g S f rest =
-      go g (Wants S) (OpenBrace n) ((s ++ CloseBrace ∷ []) ++ rest) (Opens S n) (statement_wanted g S (OpenBrace n) f) ∙ ap (arrive g (Opens S n)) (append_assoc s (CloseBrace ∷ []) rest) ∙ only_items d g S n item-brace rest
+      go g (Wants S) (OpenBrace n) ((s ++ CloseBrace ∷ []) ++ rest) (Opens S n) (statement_wanted g S (OpenBrace n) f) ∙ ap (arrive g (Opens S n)) (append_assoc s (CloseBrace ∷ []) rest) ∙ items_open d g S n item-brace rest ∙ only_items d g S n item-brace rest
   only_brace (brace-domain {n = n} {s = s} {r = r} {l = l} {a = a} d e) g S f rest =
       let x = only e g (Inside (Domain n l) ∷ S) (omega arith) refl in
-      go g (Wants S) (OpenBrace n) ((s ++ Op And ∷ (r ++ CloseBrace ∷ [])) ++ rest) (Opens S n) (statement_wanted g S (OpenBrace n) f) ∙ ap (arrive g (Opens S n)) (append_assoc s (Op And ∷ (r ++ CloseBrace ∷ [])) rest) ∙ only_items d g S n item-and ((r ++ CloseBrace ∷ []) ++ rest)
+      go g (Wants S) (OpenBrace n) ((s ++ Op And ∷ (r ++ CloseBrace ∷ [])) ++ rest) (Opens S n) (statement_wanted g S (OpenBrace n) f) ∙ ap (arrive g (Opens S n)) (append_assoc s (Op And ∷ (r ++ CloseBrace ∷ [])) rest) ∙ items_open d g S n item-and ((r ++ CloseBrace ∷ []) ++ rest) ∙ only_items d g S n item-and ((r ++ CloseBrace ∷ []) ++ rest)
       ∙ ap (arrive g (Wants (Inside (Domain n l) ∷ S))) (append_assoc r (CloseBrace ∷ []) rest) ∙ held g S (Domain n l) r formula a CloseBrace (Has S (Is Program (System n l a) Braced)) x (other_step g (x.parts ++ Inside (Domain n l) ∷ S) x.last CloseBrace x.kind) (rw x.tree refl) rest
 
   only_inv : {i : List Lexeme} {a b : Phrase} → ReadsInv i a b → {l : Tail} → MayNote l → (g : Sort) (S : List Part) → (m : Tail) × MayEnd m × ((rest : List Lexeme) → arrive g (Has S (Is Program a l)) (i ++ rest) ≡ arrive g (Has S (Is Program b m)) rest)

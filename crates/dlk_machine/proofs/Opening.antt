@@ -72,3 +72,11 @@ states_then {X} m (k ∷ s) r x y e =
 
 pub states_more : {X T : Type 0} (m : Machine X T) (s : List Lexeme) (k : Lexeme) (x y z : X) → states m x s ≡ Some y → m.step y k ≡ Some z → states m x (s ++ k ∷ []) ≡ Some z
 states_more {X} m s k x y z e f = states_then m s (k ∷ []) x y e ∙ ap (λ (o : Option X). o >>= λ u. Some u) f
+
+-- the state between two lists of tokens
+pub states_split : {X T : Type 0} (m : Machine X T) (s r : List Lexeme) (x z : X) → states m x (s ++ r) ≡ Some z → (y : X) × (states m x s ≡ Some y) × (states m y r ≡ Some z)
+states_split m [] r x z e = (x, refl, e)
+states_split {X} m (k ∷ s) r x z e =
+    let b = bind_some (m.step x k) (λ u. states m u (s ++ r)) z e in
+    let w = states_split m s r b.0 z b.2 in
+    (w.0, ap (λ (o : Option X). o >>= λ u. states m u s) b.1 ∙ w.1, w.2)

@@ -29,7 +29,7 @@ text_ends (SystemOf s) y p e = absurd (none_some p e)
 
 pair_comma : (x : PairState) (p : PairPhrase) → pair_ended x ≡ Some p → pair_step x Comma ≡ None
 pair_comma (InRight w y) p e = ap (λ (o : Option State). o >>= λ z. Some (InRight w z)) (text_ends w y p e)
-pair_comma (SystemEnds s m l) p e = refl
+pair_comma (SystemEnds s t) p e = refl
 pair_comma _ p e = absurd (none_some p e)
 
 within_is : (l : List PairPhrase) (x : PairState) (k : Lexeme) (y : PairState) → pair_step x k ≡ Some y → within l x k ≡ Some (Within l y)
