@@ -12,9 +12,10 @@ use Rattle.dlk_grammar.specs.declared.token.TokenKind.{TokenKind}
 use Rattle.dlk_grammar.specs.declared.token.TokenKind.TheVariants.{Word, True, False, Number, LongNumber, Dot, Hole, Mark as AMark, End}
 use Rattle.dlk_grammar.specs.Tokens.{is_space, are_digits, literal_number, spelling, Spells, word, true_word, false_word, integer, decimal, long_integer, long_decimal, dot, hole, a_mark}
 use Rattle.dlk_grammar.specs.Splits.{Longest, BeginsComment, EndsLine, at_end, at_feed, IsComment, token, Splits, BadAt}
+use Rattle.dlk_grammar.specs.Fronts.{Piece, Ended, Gap, One, Bad, AtFront, front-ended, front-space, front-comment, front-one, front-bad}
 use Rattle.dlk_grammar.proofs.Marks.{mark_of, mark_of_spelling}
 use Rattle.dlk_grammar.proofs.Spelled.{Class, Letter, Digit, Point, Under, Space, Other, first_class, IsLiteral, whole, pointed, Shape, integer_part, fraction_part, integer_before, fraction_behind, digits_all, shape_at, spelled_some}
-use Rattle.dlk_grammar.proofs.Splitting.{Piece, Ended, Gap, One, Bad, AtFront, front-ended, front-space, front-comment, front-one, front-bad, NoEnd, later_no_end, NoFeed, apart, same_rest, comment_begins, go_on, go_bad, forward}
+use Rattle.dlk_grammar.proofs.Splitting.{NoEnd, later_no_end, NoFeed, apart, same_rest, comment_begins, go_on, go_bad, forward}
 
 decided : {A : Type 0} (b : Bool) → Decides b A → Dec A
 decided true d = yes (d.0 refl)
@@ -154,7 +155,11 @@ block [] = no none
     none w = omega (arith, ap length w.2, length-append w.0 (codes "*/" ++ w.1))
 block (c ∷ tail) = elim (fronts (codes "*/") (c ∷ tail)) [
   | yes f ↦ yes ([], f.0, f.1, λ sooner after e. omega (arith, ap length e, length-append sooner (codes "*/" ++ after)))
-  | no n ↦ elim (block tail) [ yes w ↦ yes (c ∷ w.0, w.1, ap (λ (l : List ℕ). c ∷ l) w.2, no_sooner w.0 w.1 n w.2 w.3) | no m ↦ no (λ w. no_later w.0 w.1 n m w.2 w.3) ]
+  | no n ↦
+      elim (block tail) [
+        | yes w ↦ yes (c ∷ w.0, w.1, ap (λ (l : List ℕ). c ∷ l) w.2, no_sooner w.0 w.1 n w.2 w.3)
+        | no m ↦ no (λ w. no_later w.0 w.1 n m w.2 w.3)
+      ]
 ]
   where
     no_sooner : (inside rest : List ℕ) → ¬ Front (codes "*/") (c ∷ tail) → tail ≡ inside ++ (codes "*/" ++ rest) → NoEnd inside → NoEnd (c ∷ inside)
@@ -191,7 +196,15 @@ module _ (bytes tail : List ℕ) where
   block_front : bytes ≡ codes "/*" ++ tail → (p : Piece) × AtFront bytes p
   block_front e = elim (block tail) [
     | yes w ↦ (_, front-comment _ w.1 (IsComment.block w.0 w.1 (e ∙ ap (λ (l : List ℕ). codes "/*" ++ l) w.2) w.3))
-    | no n ↦ (Bad, front-bad 47 (42 ∷ tail) (record { bytes_are = e; no_space = refl; no_comment = λ s after. no_end n; no_token = λ s k l. subst BeginsComment (sym e) (BeginsComment.block tail) }))
+    | no n ↦ (
+      Bad,
+      front-bad 47 (42 ∷ tail) (record {
+        bytes_are = e;
+        no_space = refl;
+        no_comment = λ s after. no_end n;
+        no_token = λ s k l. subst BeginsComment (sym e) (BeginsComment.block tail);
+      }),
+    )
   ]
     where
       no_end : ¬ Block tail → {s after : List ℕ} → ¬ IsComment bytes s after
@@ -204,7 +217,15 @@ module _ (bytes tail : List ℕ) where
 token_front : (b : ℕ) (bytes : List ℕ) → is_space b ≡ false → ¬ BeginsComment (b ∷ bytes) → (p : Piece) × AtFront (b ∷ bytes) p
 token_front b bytes h none = elim (longest (b ∷ bytes) (length (b ∷ bytes)) (omega arith) (all (b ∷ bytes))) [
   | yes w ↦ (One w.0 w.1 w.2.rest, front-one w.0 w.2.rest w.1 w.2.front none w.2)
-  | no n ↦ (Bad, front-bad b bytes (record { bytes_are = refl; no_space = h; no_comment = λ s after c. none (comment_begins c); no_token = λ s k l. absurd (n (s, k, l)) }))
+  | no n ↦ (
+    Bad,
+    front-bad b bytes (record {
+      bytes_are = refl;
+      no_space = h;
+      no_comment = λ s after c. none (comment_begins c);
+      no_token = λ s k l. absurd (n (s, k, l));
+    }),
+  )
 ]
   where
     all : (l : List ℕ) → AtMost l (length l)

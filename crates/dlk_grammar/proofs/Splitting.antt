@@ -6,7 +6,8 @@ use Rattle.dlk_grammar.specs.declared.token.Token.{Token}
 use Rattle.dlk_grammar.specs.declared.token.TokenKind.{TokenKind}
 use Rattle.dlk_grammar.specs.declared.token.TokenKind.TheVariants.{End}
 use Rattle.dlk_grammar.specs.Tokens.{is_space, Spells}
-use Rattle.dlk_grammar.specs.Splits.{Longest, BeginsComment, EndsLine, at_end, at_feed, IsComment, token, Splits, ended, space, comment, one, BeginsNothing, BadAt, here, after_space, after_comment, after_one}
+use Rattle.dlk_grammar.specs.Splits.{Longest, BeginsComment, EndsLine, at_end, at_feed, IsComment, token, Splits, ended, space, comment, one, BadAt, here, after_space, after_comment, after_one}
+use Rattle.dlk_grammar.specs.Fronts.{Piece, Ended, Gap, One, Bad, AtFront, front-ended, front-space, front-comment, front-one, front-bad}
 use Rattle.dlk_grammar.proofs.Spelled.{one_kind, spelled_some, space_no_token}
 
 -- two longest tokens are one
@@ -111,20 +112,6 @@ token_some {bytes} {s} l e = go s l.front l.spells
     go : (s : List ℕ) {k : TokenKind} → bytes ≡ s ++ l.rest → Spells s k → ⊥
     go [] f p = spelled_some p refl
     go (c ∷ s) f p = cc
-
--- What is at the front of bytes: nothing, as they have ended; a gap of so many bytes; a token; or a bad byte.
-pub data Piece : Type 0 where
-  Ended : Piece
-  Gap : ℕ → List ℕ → Piece
-  One : List ℕ → TokenKind → List ℕ → Piece
-  Bad : Piece
-
-pub data AtFront (bytes : List ℕ) : Piece → Type 0 where
-  front-ended : bytes ≡ [] → AtFront bytes Ended
-  front-space : (b : ℕ) (rest : List ℕ) → bytes ≡ b ∷ rest → is_space b ≡ true → AtFront bytes (Gap 1 rest)
-  front-comment : (s rest : List ℕ) → IsComment bytes s rest → AtFront bytes (Gap (length s) rest)
-  front-one : (s rest : List ℕ) (k : TokenKind) → bytes ≡ s ++ rest → ¬ BeginsComment bytes → Longest bytes s k → AtFront bytes (One s k rest)
-  front-bad : (b : ℕ) (rest : List ℕ) → BeginsNothing bytes b rest → AtFront bytes Bad
 
 both_tests : {b c : ℕ} {l r bytes : List ℕ} → bytes ≡ b ∷ l → bytes ≡ c ∷ r → is_space b ≡ true → is_space c ≡ false → ⊥
 both_tests {b} {c} e f x y = let same : b ≡ c = cc in true≢false (sym x ∙ ap is_space same ∙ y)
