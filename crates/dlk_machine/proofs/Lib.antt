@@ -20,5 +20,6 @@ pub mod PairLaws
 pub mod PairExamples
 pub mod ParseLaws
 pub mod PairsFormed
+pub mod Stopping
 pub mod TextLaws
 pub mod SomeText

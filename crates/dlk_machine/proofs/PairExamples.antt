@@ -102,6 +102,11 @@ in_braces = refl
 other_dot : parse Allowed pairs_reader (Name 0 f ∷ Open ∷ Dot 1 ∷ Close ∷ Becomes ∷ Name 5 x ∷ []) ≡ Err 2
 other_dot = refl
 
+-- f(._0,._1,._2,._3,._4,._5,._6,._7,._0)~>x: at most eight dots, so no text goes on at the comma behind the eighth.
+nine_dots : parse Allowed pairs_reader
+    (Name 0 f ∷ Open ∷ Dot 0 ∷ Comma ∷ Dot 1 ∷ Comma ∷ Dot 2 ∷ Comma ∷ Dot 3 ∷ Comma ∷ Dot 4 ∷ Comma ∷ Dot 5 ∷ Comma ∷ Dot 6 ∷ Comma ∷ Dot 7 ∷ Comma ∷ Dot 0 ∷ Close ∷ Becomes ∷ Name 21 x ∷ []) ≡ Err 17
+nine_dots = refl
+
 -- term a;~>x:=1;: the word stands before a function's left side alone.
 word_and_program : parse Allowed pairs_reader (Name 0 the_word ∷ Name 1 a ∷ Semi ∷ Becomes ∷ Name 4 x ∷ Gets ∷ Number one ∷ Semi ∷ []) ≡ Err 2
 word_and_program = refl

@@ -60,9 +60,6 @@ says_read d g s p h = only_text (reader g) (Reads (top g)) d (reads_all d g) s p
 pub fault_stops : (d : Dots) (g : Sort) (s : List Lexeme) (n : ℕ) → parse d (reader g) s ≡ Err n → Stops d (Reads (top g)) s n
 fault_stops d g s n e = stops_text (reader g) (Reads (top g)) d (reads_all d g) s n e
 
-pub fault_says_nothing : (d : Dots) (g : Sort) (s : List Lexeme) (n : ℕ) → parse d (reader g) s ≡ Err n → (p : Phrase) → ¬ Says d (Reads (top g)) s p
-fault_says_nothing d g s n e = faulty (reader g) (Reads (top g)) d (reads_all d g) s n e
-
 pub one_read : (form : Nonterminal) (s : List Lexeme) (p q : Phrase) → Reads form s p → Reads form s q → p ≡ q
 one_read form s p q d e =
     let g = form_sort form in
@@ -78,9 +75,6 @@ expression_says_read d s p h = only_text expression_reader ReadsExpression d (ex
 
 pub expression_fault_stops : (d : Dots) (s : List Lexeme) (n : ℕ) → parse d expression_reader s ≡ Err n → Stops d ReadsExpression s n
 expression_fault_stops d s n e = stops_text expression_reader ReadsExpression d (expressions_all d) s n e
-
-pub expression_fault_says_nothing : (d : Dots) (s : List Lexeme) (n : ℕ) → parse d expression_reader s ≡ Err n → (p : Phrase) → ¬ Says d ReadsExpression s p
-expression_fault_says_nothing d s n e = faulty expression_reader ReadsExpression d (expressions_all d) s n e
 
 pub one_expression_read : (s : List Lexeme) (p q : Phrase) → ReadsExpression s p → ReadsExpression s q → p ≡ q
 one_expression_read s p q d e = one expression_reader ReadsExpression (expressions_all Allowed) s p q d e

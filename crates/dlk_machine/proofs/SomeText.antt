@@ -13,22 +13,26 @@ use Rattle.dlk_grammar.specs.declared.token.TokenKind.TheVariants as kind
 use Rattle.dlk_grammar.specs.declared.token.Dots.{Dots}
 use Rattle.dlk_grammar.specs.declared.token.Dots.TheVariants.{Refused, Allowed}
 use Rattle.dlk_grammar.specs.declared.token.Form.{Form}
+use Rattle.dlk_grammar.specs.RealTokens.{AreTokens}
 use Rattle.dlk_grammar.specs.Splits.{Splits}
 use Rattle.dlk_grammar.specs.Lexemes.{Lexeme, lexemes}
 use Rattle.dlk_grammar.specs.Phrases.{Phrase}
 use Rattle.dlk_grammar.specs.Grammar.{Sides, ReadsSequent}
 use Rattle.dlk_grammar.specs.Erased.{erase, ills, lowest}
 use Rattle.dlk_calculus.specs.Limits.{most_nodes, greatest_depth}
-use Rattle.dlk_grammar.specs.Readings.{Says, FirstAt, IsLong, bracket_level, opens, OpensTooDeep, FirstPast, ReadFault, Literal, Nesting, Syntax, Shape, TooBig, TooDeep, fault_rank, SpeaksAgainst, IsReadFault, IsRead, grammar, itself, both_sides, erase_sides}
+use Rattle.dlk_grammar.specs.Readings.{Says, Stops, FirstAt, IsLong, bracket_level, opens, OpensTooDeep, FirstPast, ReadFault, Literal, Nesting, Syntax, Shape, TooBig, TooDeep, fault_rank, SpeaksAgainst, IsReadFault, IsRead, grammar, itself, both_sides, erase_sides}
 use Rattle.dlk_grammar.specs.Substitutions.{PairPhrase, ReadsSubstitution, replacements, erase_pairs}
-use Rattle.dlk_grammar.specs.Texts.{TreeText, SequentText, PairsText, Unread, TreeTextFault, SequentTextFault, PairsTextFault}
+use Rattle.dlk_grammar.specs.Texts.{TreeText, SequentText, PairsText, TextFault, BadByte, Unread, TreeTextFault, SequentTextFault, PairsTextFault}
+use Rattle.dlk_grammar.proofs.SomeSplit.{some_split}
+use Rattle.dlk_grammar.proofs.Real.{split_tokens}
 use Rattle.dlk_machine.specs.Parse.{parse}
 use Rattle.dlk_machine.specs.Sequents.{sequent_reader}
 use Rattle.dlk_machine.specs.Pairs.{pairs_reader}
-use Rattle.dlk_machine.proofs.ParseLaws.{form_read_says, form_fault_says_nothing, sequent_read_says, sequent_fault_says_nothing, one_sides_read, pairs_read_says, pairs_fault_says_nothing, one_pairs_read}
+use Rattle.dlk_machine.proofs.ParseLaws.{form_read_says, form_fault_stops, sequent_read_says, sequent_fault_stops, one_sides_read, pairs_read_says, pairs_fault_stops, one_pairs_read}
+use Rattle.dlk_machine.proofs.Stopping.{said_nowhere, stops_within}
 use Rattle.dlk_machine.specs.Forms.{machine_of}
 use Rattle.dlk_machine.proofs.Formed.{Each}
-use Rattle.dlk_machine.proofs.TextLaws.{same, sooner, later, seams, token_at, least_below, one_grammar, form_ills_below, sequent_ills_below, pairs_ills_below}
+use Rattle.dlk_machine.proofs.TextLaws.{same, sooner, later, seams, fewer_lexemes, token_at, least_below, one_grammar, form_ills_below, sequent_ills_below, pairs_ills_below}
 
 -- none, or the first
 data Search {X : Type 0} (Is : X → Type 0) : Type 0 where
@@ -97,7 +101,12 @@ past_in measure limit (t ∷ ts) = elim (cases_lt limit (measure t)) [
   ]
 ]
 
--- A form of text, and that it is known whether lexemes say something.
+-- what is known of lexemes by parsing them
+data SaysOrStops {P : Type 0} (d : Dots) (G : List Lexeme → P → Type 0) (s : List Lexeme) : Type 0 where
+  it_says : (p : P) → Says d G s p → SaysOrStops d G s
+  it_stops : (place : ℕ) → Stops d G s place → SaysOrStops d G s
+
+-- A form of text.
 module _ {P : Type 0} (G : List Lexeme → P → Type 0) (parts : P → List Phrase) (one : (s : List Lexeme) (p q : P) → G s p → G s q → p ≡ q) (d : Dots) (tokens : List Token) where
   -- no fault below a rank applies
   abbrev Free : ℕ → Type 0
@@ -106,7 +115,7 @@ module _ {P : Type 0} (G : List Lexeme → P → Type 0) (parts : P → List Phr
   free_none : Free 1
   free_none (Literal at) h a = absurd (omega arith)
   free_none (Nesting at) h a = absurd (omega arith)
-  free_none Syntax h a = absurd (omega arith)
+  free_none (Syntax at) h a = absurd (omega arith)
   free_none (Shape at) h a = absurd (omega arith)
   free_none (TooBig n) h a = absurd (omega arith)
   free_none (TooDeep n) h a = absurd (omega arith)
@@ -120,23 +129,23 @@ module _ {P : Type 0} (G : List Lexeme → P → Type 0) (parts : P → List Phr
   free_nesting free never (Nesting at) h a = never at a
   free_nesting free never _ h a = absurd (omega arith)
 
-  free_syntax : Free 3 → ¬ SpeaksAgainst G parts d tokens Syntax → Free 4
+  free_syntax : Free 3 → ((at : ℕ) → ¬ SpeaksAgainst G parts d tokens (Syntax at)) → Free 4
   free_syntax free never (Literal at) h a = free (Literal at) (omega arith) a
   free_syntax free never (Nesting at) h a = free (Nesting at) (omega arith) a
-  free_syntax free never Syntax h a = never a
+  free_syntax free never (Syntax at) h a = never at a
   free_syntax free never _ h a = absurd (omega arith)
 
   free_shape : Free 4 → ((at : ℕ) → ¬ SpeaksAgainst G parts d tokens (Shape at)) → Free 5
   free_shape free never (Literal at) h a = free (Literal at) (omega arith) a
   free_shape free never (Nesting at) h a = free (Nesting at) (omega arith) a
-  free_shape free never Syntax h a = free Syntax (omega arith) a
+  free_shape free never (Syntax at) h a = free (Syntax at) (omega arith) a
   free_shape free never (Shape at) h a = never at a
   free_shape free never _ h a = absurd (omega arith)
 
   free_big : Free 5 → ((n : ℕ) → ¬ SpeaksAgainst G parts d tokens (TooBig n)) → Free 6
   free_big free never (Literal at) h a = free (Literal at) (omega arith) a
   free_big free never (Nesting at) h a = free (Nesting at) (omega arith) a
-  free_big free never Syntax h a = free Syntax (omega arith) a
+  free_big free never (Syntax at) h a = free (Syntax at) (omega arith) a
   free_big free never (Shape at) h a = free (Shape at) (omega arith) a
   free_big free never (TooBig n) h a = never n a
   free_big free never (TooDeep n) h a = absurd (omega arith)
@@ -144,10 +153,16 @@ module _ {P : Type 0} (G : List Lexeme → P → Type 0) (parts : P → List Phr
   free_deep : Free 6 → ((n : ℕ) → ¬ SpeaksAgainst G parts d tokens (TooDeep n)) → (why : ReadFault) → ¬ SpeaksAgainst G parts d tokens why
   free_deep free never (Literal at) a = free (Literal at) (omega arith) a
   free_deep free never (Nesting at) a = free (Nesting at) (omega arith) a
-  free_deep free never Syntax a = free Syntax (omega arith) a
+  free_deep free never (Syntax at) a = free (Syntax at) (omega arith) a
   free_deep free never (Shape at) a = free (Shape at) (omega arith) a
   free_deep free never (TooBig n) a = free (TooBig n) (omega arith) a
   free_deep free never (TooDeep n) a = never n a
+
+  -- the tokens say something, or stop at one of them
+  stopped : (place : ℕ) → AreTokens tokens → Stops d G (lexemes tokens) place → (at : ℕ) × SpeaksAgainst G parts d tokens (Syntax at)
+  stopped place real a =
+      let w = token_at tokens place (omega (arith, stops_within d G a, fewer_lexemes tokens real)) in
+      (w.at, (place, a, w.token))
 
   -- what the tokens say is read, or there is a fault
   data Outcome {R : Type 0} (value : P → R) : Type 0 where
@@ -171,7 +186,7 @@ module _ {P : Type 0} (G : List Lexeme → P → Type 0) (parts : P → List Phr
   module _ {R : Type 0} (value : P → R) (below : (p : P) → G (lexemes tokens) p → Each (λ n. n < length tokens) (flat_map ills (parts p))) where
     said : Free 3 → (p : P) → Says d G (lexemes tokens) p → Outcome value
     said free p says =
-        let syntax_free = free_syntax free (λ never. never p says) in
+        let syntax_free = free_syntax free (λ at a. said_nowhere d G p says a.1) in
         elim (ill_or_not p (flat_map ills (parts p)) refl says (below p says.reads)) [
           | found at f ↦ is_fault (Shape at) (record { applies = f; first = syntax_free })
           | missing never ↦
@@ -187,8 +202,8 @@ module _ {P : Type 0} (G : List Lexeme → P → Type 0) (parts : P → List Phr
               ]
         ]
 
-    outcome : Search (λ p. Says d G (lexemes tokens) p) → Outcome value
-    outcome said_or_not =
+    outcome : AreTokens tokens → SaysOrStops d G (lexemes tokens) → Outcome value
+    outcome real said_or_not =
         elim (first_in IsLong long_or_not tokens) [
           | found at f ↦ is_fault (Literal at) (record { applies = f; first = free_none })
           | missing short ↦
@@ -198,43 +213,55 @@ module _ {P : Type 0} (G : List Lexeme → P → Type 0) (parts : P → List Phr
                 | missing shallow ↦
                     let free = free_nesting short_free shallow in
                     elim said_or_not [
-                      | found p says ↦ said free p says
-                      | missing never ↦ is_fault Syntax (record { applies = never; first = free })
+                      | it_says p says ↦ said free p says
+                      | it_stops place a ↦ let w = stopped place real a in is_fault (Syntax w.0) (record { applies = w.1; first = free })
                     ]
               ]
         ]
 
--- whether lexemes say something is seen by parsing them
-parsed_or_not : (form : Form) (d : Dots) (s : List Lexeme) (r : Result Phrase ℕ) → parse d (machine_of form) s ≡ r → Search (λ p. Says d (grammar form) s p)
-parsed_or_not form d s (Ok p) e = found p (form_read_says d form s p e)
-parsed_or_not form d s (Err n) e = missing (form_fault_says_nothing d form s n e)
+parsed_tree : (form : Form) (d : Dots) (s : List Lexeme) (r : Result Phrase ℕ) → parse d (machine_of form) s ≡ r → SaysOrStops d (grammar form) s
+parsed_tree form d s (Ok p) e = it_says p (form_read_says d form s p e)
+parsed_tree form d s (Err n) e = it_stops n (form_fault_stops d form s n e)
 
-sides_or_not : (s : List Lexeme) (r : Result Sides ℕ) → parse Refused sequent_reader s ≡ r → Search (λ p. Says Refused ReadsSequent s p)
-sides_or_not s (Ok p) e = found p (sequent_read_says Refused s p e)
-sides_or_not s (Err n) e = missing (sequent_fault_says_nothing Refused s n e)
+parsed_sides : (s : List Lexeme) (r : Result Sides ℕ) → parse Refused sequent_reader s ≡ r → SaysOrStops Refused ReadsSequent s
+parsed_sides s (Ok p) e = it_says p (sequent_read_says Refused s p e)
+parsed_sides s (Err n) e = it_stops n (sequent_fault_stops Refused s n e)
 
-pairs_or_not : (s : List Lexeme) (r : Result (List PairPhrase) ℕ) → parse Allowed pairs_reader s ≡ r → Search (λ l. Says Allowed ReadsSubstitution s l)
-pairs_or_not s (Ok l) e = found l (pairs_read_says s l e)
-pairs_or_not s (Err n) e = missing (pairs_fault_says_nothing s n e)
+parsed_pairs : (s : List Lexeme) (r : Result (List PairPhrase) ℕ) → parse Allowed pairs_reader s ≡ r → SaysOrStops Allowed ReadsSubstitution s
+parsed_pairs s (Ok l) e = it_says l (pairs_read_says s l e)
+parsed_pairs s (Err n) e = it_stops n (pairs_fault_stops s n e)
 
 -- tokens are those of a tree, or there is a fault
-pub some_tree : (form : Form) (d : Dots) (bytes : List ℕ) (ts : List Token) → Splits 0 bytes ts → ((t : Tree) × TreeText form d bytes t) ⊎ ((why : ReadFault) × TreeTextFault form d bytes (Unread why))
-some_tree form d bytes ts splits =
-    elim (outcome (grammar form) itself (one_grammar form) d ts erase (form_ills_below form ts) (parsed_or_not form d (lexemes ts) (parse d (machine_of form) (lexemes ts)) refl)) [
+split_tree : (form : Form) (d : Dots) (bytes : List ℕ) (ts : List Token) → Splits 0 bytes ts → ((t : Tree) × TreeText form d bytes t) ⊎ ((why : TextFault) × TreeTextFault form d bytes why)
+split_tree form d bytes ts splits =
+    let parsed = parsed_tree form d (lexemes ts) (parse d (machine_of form) (lexemes ts)) refl in
+    elim (outcome (grammar form) itself (one_grammar form) d ts erase (form_ills_below form ts) (split_tokens splits) parsed) [
       | is_read t h ↦ inl (t, record { tokens = ts; splits = splits; reads = h })
-      | is_fault why h ↦ inr (why, (ts, splits, h))
+      | is_fault why h ↦ inr (Unread why, (ts, splits, h))
     ]
 
-pub some_sequent : (bytes : List ℕ) (ts : List Token) → Splits 0 bytes ts → ((s : Sequent) × SequentText bytes s) ⊎ ((why : ReadFault) × SequentTextFault bytes (Unread why))
-some_sequent bytes ts splits =
-    elim (outcome ReadsSequent both_sides one_sides_read Refused ts erase_sides (sequent_ills_below ts) (sides_or_not (lexemes ts) (parse Refused sequent_reader (lexemes ts)) refl)) [
+split_sequent : (bytes : List ℕ) (ts : List Token) → Splits 0 bytes ts → ((s : Sequent) × SequentText bytes s) ⊎ ((why : TextFault) × SequentTextFault bytes why)
+split_sequent bytes ts splits =
+    let parsed = parsed_sides (lexemes ts) (parse Refused sequent_reader (lexemes ts)) refl in
+    elim (outcome ReadsSequent both_sides one_sides_read Refused ts erase_sides (sequent_ills_below ts) (split_tokens splits) parsed) [
       | is_read s h ↦ inl (s, record { tokens = ts; splits = splits; reads = h })
-      | is_fault why h ↦ inr (why, (ts, splits, h))
+      | is_fault why h ↦ inr (Unread why, (ts, splits, h))
     ]
 
-pub some_pairs : (bytes : List ℕ) (ts : List Token) → Splits 0 bytes ts → ((pairs : List Pair) × PairsText bytes pairs) ⊎ ((why : ReadFault) × PairsTextFault bytes (Unread why))
-some_pairs bytes ts splits =
-    elim (outcome ReadsSubstitution replacements one_pairs_read Allowed ts erase_pairs (pairs_ills_below ts) (pairs_or_not (lexemes ts) (parse Allowed pairs_reader (lexemes ts)) refl)) [
+split_pairs : (bytes : List ℕ) (ts : List Token) → Splits 0 bytes ts → ((pairs : List Pair) × PairsText bytes pairs) ⊎ ((why : TextFault) × PairsTextFault bytes why)
+split_pairs bytes ts splits =
+    let parsed = parsed_pairs (lexemes ts) (parse Allowed pairs_reader (lexemes ts)) refl in
+    elim (outcome ReadsSubstitution replacements one_pairs_read Allowed ts erase_pairs (pairs_ills_below ts) (split_tokens splits) parsed) [
       | is_read pairs h ↦ inl (pairs, record { tokens = ts; splits = splits; reads = h })
-      | is_fault why h ↦ inr (why, (ts, splits, h))
+      | is_fault why h ↦ inr (Unread why, (ts, splits, h))
     ]
+
+-- Bytes are a text, or there is a fault.
+pub some_tree : (form : Form) (d : Dots) (bytes : List ℕ) → ((t : Tree) × TreeText form d bytes t) ⊎ ((why : TextFault) × TreeTextFault form d bytes why)
+some_tree form d bytes = elim (some_split 0 bytes) [ inl w ↦ split_tree form d bytes w.0 w.1 | inr w ↦ inr (BadByte w.0, w.1) ]
+
+pub some_sequent : (bytes : List ℕ) → ((s : Sequent) × SequentText bytes s) ⊎ ((why : TextFault) × SequentTextFault bytes why)
+some_sequent bytes = elim (some_split 0 bytes) [ inl w ↦ split_sequent bytes w.0 w.1 | inr w ↦ inr (BadByte w.0, w.1) ]
+
+pub some_pairs : (bytes : List ℕ) → ((pairs : List Pair) × PairsText bytes pairs) ⊎ ((why : TextFault) × PairsTextFault bytes why)
+some_pairs bytes = elim (some_split 0 bytes) [ inl w ↦ split_pairs bytes w.0 w.1 | inr w ↦ inr (BadByte w.0, w.1) ]

@@ -29,6 +29,7 @@ use Rattle.dlk_grammar.specs.Substitutions.{PairPhrase, ReadsSubstitution, repla
 use Rattle.dlk_grammar.specs.Texts.{TreeText, SequentText, PairsText, TextFault, BadByte, Unread, TreeTextFault, SequentTextFault, PairsTextFault}
 use Rattle.dlk_grammar.proofs.Splitting.{one_split, bad_is_no_split, one_bad}
 use Rattle.dlk_grammar.proofs.Real.{split_tokens}
+use Rattle.dlk_machine.proofs.Stopping.{one_stop}
 use Rattle.dlk_machine.proofs.ParseLaws.{one_read, one_expression_read, one_sides_read, one_pairs_read}
 use Rattle.dlk_machine.proofs.PairsFormed.{ills_of_pairs, pairs_below, pairs_formed}
 use Rattle.dlk_machine.proofs.Formed.{Each, each_append, IsReal, AreReal, IsBelow, AreBelow, grown, grown_expression, grown_sides, formed, expression_formed, formula_formed, sequent_formed, ills_of_sides}
@@ -72,6 +73,30 @@ lexeme_below n m kind.End h = tt
 pub lexemes_below : (n m : ℕ) (ts : List Token) → n + length ts ≤ m → AreBelow m (lexemes_from n ts)
 lexemes_below n m [] h = tt
 lexemes_below n m (t ∷ ts) h = each_append (IsBelow m) (lexeme_of n t.kind) (lexemes_from (n + 1) ts) (lexeme_below n m t.kind (omega arith)) (lexemes_below (n + 1) m ts (omega arith))
+
+-- and there are fewer of them, since the end gives none
+one_lexeme : (n : ℕ) (k : TokenKind) → length (lexeme_of n k) ≤ 1
+one_lexeme n (kind.Word x) = omega arith
+one_lexeme n kind.True = omega arith
+one_lexeme n kind.False = omega arith
+one_lexeme n (kind.Number d) = omega arith
+one_lexeme n kind.LongNumber = omega arith
+one_lexeme n (kind.Dot d) = omega arith
+one_lexeme n kind.Hole = omega arith
+one_lexeme n (kind.Mark m) = omega arith
+one_lexeme n kind.End = omega arith
+
+lexemes_before : (n : ℕ) (ts : List Token) (last : Token) → last.kind ≡ kind.End → length (lexemes_from n (ts ++ last ∷ [])) ≤ length ts
+lexemes_before n [] last e = rw e (omega arith)
+lexemes_before n (t ∷ ts) last e =
+    let own = lexeme_of n t.kind in
+    let more = lexemes_from (n + 1) (ts ++ last ∷ []) in
+    omega (arith, length-append own more, one_lexeme n t.kind, lexemes_before (n + 1) ts last e)
+
+pub fewer_lexemes : (ts : List Token) → AreTokens ts → length (lexemes ts) < length ts
+fewer_lexemes ts real =
+    let few : length (lexemes ts) ≤ length real.before = subst (λ (l : List Token). length (lexemes l) ≤ length real.before) (sym real.tokens_are) (lexemes_before 0 real.before real.last real.ends) in
+    omega (arith, ap length real.tokens_are, length-append real.before (real.last ∷ []))
 
 -- the token of a place
 pub record HasToken (ts : List Token) (place : ℕ) : Type 0 where
@@ -155,11 +180,14 @@ module _ {P : Type 0} (G : List Lexeme → P → Type 0) (parts : P → List Phr
   one_measure : (measure : Tree → ℕ) (limit : ℕ) (p q : P) (n m : ℕ) → p ≡ q → FirstPast measure limit (map erase (parts p)) n → FirstPast measure limit (map erase (parts q)) m → n ≡ m
   one_measure measure limit p q n m e a b = past_is measure limit (map erase (parts q)) n m (subst (λ (x : P). FirstPast measure limit (map erase (parts x)) n) e a) b
 
+  one_syntax : (at other : ℕ) → SpeaksAgainst G parts d tokens (Syntax at) → SpeaksAgainst G parts d tokens (Syntax other) → at ≡ other
+  one_syntax at other a b = token_is tokens b.0 at other (subst (λ (n : ℕ). TokenAt tokens n at) (one_stop d G a.1 b.1) a.2) b.2
+
   -- faults of one rank are one
   one_ranked : (why other : ReadFault) → fault_rank why ≡ fault_rank other → SpeaksAgainst G parts d tokens why → SpeaksAgainst G parts d tokens other → why ≡ other
   one_ranked (Literal at) (Literal other) e a b = ap Literal (first_is IsLong tokens at other a b)
   one_ranked (Nesting at) (Nesting other) e a b = ap Nesting (first_is OpensTooDeep tokens at other a b)
-  one_ranked Syntax Syntax e a b = refl
+  one_ranked (Syntax at) (Syntax other) e a b = ap Syntax (one_syntax at other a b)
   one_ranked (Shape at) (Shape other) e a b = ap Shape (one_shape a.0 b.0 at other (one (lexemes tokens) a.0 b.0 a.1.reads b.1.reads) a.2 b.2)
   one_ranked (TooBig n) (TooBig m) e a b = ap TooBig (one_measure size most_nodes a.0 b.0 n m (one (lexemes tokens) a.0 b.0 a.1.reads b.1.reads) a.2 b.2)
   one_ranked (TooDeep n) (TooDeep m) e a b = ap TooDeep (one_measure depth greatest_depth a.0 b.0 n m (one (lexemes tokens) a.0 b.0 a.1.reads b.1.reads) a.2 b.2)
