@@ -3,15 +3,13 @@ use Rattle.std.proofs.Common.{◌≡◌, ℕ, ◌+◌, ◌<◌, Bool, true, List
 use Rattle.std.proofs.lemmas.List.{append-nil}
 use Rattle.dlk_tree.specs.declared.op.Sort.TheVariants.{Term, Formula, Program}
 use Rattle.dlk_tree.specs.declared.op.Sym.{Sym}
-use Rattle.dlk_grammar.specs.declared.token.Infix.TheVariants.{Equal}
-use Rattle.dlk_grammar.specs.Lexemes.{Word, Lexeme, Name, Dot, Blank, RoundBar, BarRound, BraceBar, BarBrace, Open, Close, OpenBrace, CloseBrace, Prime, Comma, Becomes, Op}
-use Rattle.dlk_grammar.specs.Phrases.{Phrase, Truth, System, Items}
-use Rattle.dlk_grammar.specs.Grammar.{ReadsItems, items-one, item-evolve, item-flow, item-except}
+use Rattle.dlk_grammar.specs.Lexemes.{Word, Lexeme, Name, Dot, Blank, RoundBar, BarRound, BraceBar, BarBrace, Open, Close, OpenBrace, CloseBrace, Comma, Becomes}
+use Rattle.dlk_grammar.specs.Phrases.{Phrase, Truth, System}
+use Rattle.dlk_grammar.specs.Grammar.{items-one, item-flow}
 use Rattle.dlk_grammar.specs.Substitutions.{Target, function, predicate, PairPhrase, to, most_dots, ReadsDots, dots-more, ReadsTarget, target-nullary, target-dots, target-except, ReadsPair}
 use Rattle.dlk_machine.specs.Machine.{State, Wants, ended}
 use Rattle.dlk_machine.proofs.Opening.{some_is, bind_some}
 use Rattle.dlk_machine.proofs.Parsing.{known, none_some}
-use Rattle.dlk_machine.proofs.Spelled.{items_joined}
 use Rattle.dlk_machine.proofs.Found.{ends}
 use Rattle.dlk_machine.proofs.Live.{live, zero_reads, true_reads}
 use Rattle.dlk_machine.proofs.Reading.{passed_after}

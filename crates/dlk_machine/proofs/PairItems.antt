@@ -1,22 +1,20 @@
 -- The right side of a pair: how it is read.
-use Rattle.std.proofs.Common.{◌≡◌, ℕ, List, [], ◌∷◌, ◌++◌, Option, Some, None, inl, inr, refl, sym, ap, ◌∙◌}
+use Rattle.std.proofs.Common.{◌≡◌, ℕ, List, [], ◌∷◌, ◌++◌, Option, Some, None, inl, inr, refl, ap, ◌∙◌}
 use Rattle.dlk_tree.specs.declared.op.Sort.{Sort}
 use Rattle.dlk_tree.specs.declared.op.Sort.TheVariants.{Term, Formula, Program}
 use Rattle.dlk_tree.specs.declared.op.Sym.{Sym}
-use Rattle.dlk_grammar.specs.Lexemes.{Word, Lexeme, OpenBrace, CloseBrace, Comma, Becomes}
-use Rattle.dlk_grammar.specs.Phrases.{Phrase, Truth, System, Item, Evolve, Items, no_items, add}
-use Rattle.dlk_grammar.specs.Grammar.{formula, term, Reads, ReadsItems, items-one, items-more, ReadsItem, item-evolve, item-flow, item-except}
+use Rattle.dlk_grammar.specs.Lexemes.{Lexeme, OpenBrace, CloseBrace, Becomes}
+use Rattle.dlk_grammar.specs.Phrases.{Phrase, Truth, System, Items}
+use Rattle.dlk_grammar.specs.Grammar.{formula, term, Reads, ReadsItems}
 use Rattle.dlk_grammar.specs.Substitutions.{Target, function, predicate, PairPhrase, to, ReadsPair, pair-formula, pair-term, pair-function, pair-context, pair-program, pair-flow, pair-flow-except}
 use Rattle.dlk_machine.specs.Levels.{top}
 use Rattle.dlk_machine.specs.Machine.{◌>>=◌, State, Wants, step, ended}
 use Rattle.dlk_machine.specs.Parse.{or_else, reader}
 use Rattle.dlk_machine.proofs.Opening.{some_is, bind_some, states}
-use Rattle.dlk_machine.proofs.Parsing.{known, none_some}
+use Rattle.dlk_machine.proofs.Parsing.{known}
 use Rattle.dlk_machine.proofs.Only.{only_at}
-use Rattle.dlk_machine.proofs.Spelled.{nothing, After}
-use Rattle.dlk_machine.proofs.Found.{moves, ends}
+use Rattle.dlk_machine.proofs.Found.{ends}
 use Rattle.dlk_machine.proofs.Reading.{allowed, passed_after}
-use Rattle.dlk_machine.proofs.SequentLaws.{comma_ends}
 use Rattle.dlk_machine.specs.Pairs.{Right, EitherOf, TextOf, SystemOf, PairState, LeftEnds, InRight, SystemEnds, right_start, right_sort, pair_ended, pair_reader, Begins}
 use Rattle.dlk_machine.proofs.PairSystems.{system_read}
 use Rattle.dlk_machine.proofs.PairTargets.{LeftText, left-either, left-term, left-context, left-program, left-flow, left-flow-except, Passes, goes_on, left_passes}

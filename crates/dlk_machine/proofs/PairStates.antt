@@ -1,5 +1,5 @@
 -- The tokens behind each state of the reader of a pair.
-use Rattle.std.proofs.Common.{◌≡◌, ℕ, ◌+◌, ◌<◌, ◌==◌, Bool, true, false, List, [], ◌∷◌, ◌++◌, Option, Some, inl, inr, refl, sym, ap, subst, ◌∙◌, append_assoc}
+use Rattle.std.proofs.Common.{◌≡◌, ℕ, ◌+◌, ◌<◌, ◌==◌, Bool, true, false, List, [], ◌∷◌, ◌++◌, Some, refl, sym, ap, subst, ◌∙◌, append_assoc}
 use Rattle.std.specs.Prelude.{codes, nat_lt}
 use Rattle.std.specs.Str.{bytes_eq}
 use Rattle.std.proofs.lemmas.Bool.{eqb-true, ltb-true}
@@ -7,20 +7,16 @@ use Rattle.std.proofs.lemmas.Slice.Eq.{bytes_eq-Decides}
 use Rattle.dlk_tree.specs.declared.op.Kind.TheVariants.{Quant, Prog, Ode}
 use Rattle.dlk_tree.specs.declared.op.Sym.{Sym}
 use Rattle.dlk_tree.specs.declared.op.Sort.{Sort}
-use Rattle.dlk_tree.specs.declared.op.Sort.TheVariants.{Term, Formula, Program}
+use Rattle.dlk_tree.specs.declared.op.Sort.TheVariants.{Formula, Program}
 use Rattle.dlk_grammar.specs.Erased.{symbol}
 use Rattle.dlk_grammar.specs.declared.token.Infix.TheVariants.{And}
-use Rattle.dlk_grammar.specs.Lexemes.{Word, Lexeme, Name, Dot, Blank, RoundBars, RoundBar, BarRound, BraceBar, BarBrace, Open, Close, OpenBrace, CloseBrace, Prime, Semi, Comma, Becomes, Op}
-use Rattle.dlk_grammar.specs.Phrases.{Everywhere, Except, Phrase, Evolve, Flow, Items, no_items, add}
-use Rattle.dlk_grammar.specs.Grammar.{ReadsItems, item-evolve, item-flow, item-except}
+use Rattle.dlk_grammar.specs.Lexemes.{Word, Lexeme, Name, Dot, Blank, RoundBars, RoundBar, BarRound, BraceBar, BarBrace, Open, Close, OpenBrace, CloseBrace, Semi, Comma, Becomes, Op}
+use Rattle.dlk_grammar.specs.Phrases.{Everywhere, Except}
 use Rattle.dlk_grammar.specs.Substitutions.{Target, Over, Unit, most_dots, ReadsDots, dots-one, dots-more, target-nullary, target-dots, target-any, target-except}
 use Rattle.dlk_machine.specs.Machine.{◌>>=◌, Braced, Is, State, Wants, Has, step}
-use Rattle.dlk_machine.specs.Parse.{or_else, reader}
+use Rattle.dlk_machine.specs.Parse.{reader}
 use Rattle.dlk_machine.proofs.Opening.{some_is, bind_some, when_is, states, states_more}
-use Rattle.dlk_machine.proofs.Parsing.{known, none_some}
-use Rattle.dlk_machine.proofs.Spelled.{ItemsBefore, items-begin, items-go_on, items_joined}
-use Rattle.dlk_machine.proofs.Found.{ends}
-use Rattle.dlk_machine.proofs.Reading.{passed_after}
+use Rattle.dlk_machine.proofs.Parsing.{none_some}
 use Rattle.dlk_machine.specs.Pairs.{Right, EitherOf, TextOf, SystemOf, right_of, PairState, Begins, LeftName, TermName, Calls, DotsOf, DotWanted, Bars, BarsName, InContext, ContextHole, FlowOpens, FlowName, FlowBar, FlowBarName, FlowExcept, LeftEnds, InRight, BraceWanted, InSystem, SystemEnds, target_step, right_start, right_sort, system_state, pair_step, pair_reader}
 use Rattle.dlk_machine.proofs.PairSystems.{system_start}
 use Rattle.dlk_machine.proofs.PairTargets.{the-word, Passes, LeftText, left-context, left-program, left-flow, left-flow-except, Behind, behind_nothing, behind_more, behind_same, target_left}

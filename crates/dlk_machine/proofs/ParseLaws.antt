@@ -12,10 +12,9 @@ use Rattle.dlk_grammar.specs.Grammar.{Nonterminal, Reads, Sides, ReadsSequent, R
 use Rattle.dlk_grammar.specs.Readings.{Says, Stops, grammar}
 use Rattle.dlk_grammar.specs.Substitutions.{PairPhrase, ReadsSubstitution}
 use Rattle.dlk_machine.specs.Levels.{form_sort, top}
-use Rattle.dlk_machine.specs.Machine.{State}
 use Rattle.dlk_machine.specs.Parse.{Machine, parse, reader}
 use Rattle.dlk_machine.specs.Forms.{machine_of}
-use Rattle.dlk_machine.specs.Expressions.{ExpressionState, expression_reader}
+use Rattle.dlk_machine.specs.Expressions.{expression_reader}
 use Rattle.dlk_machine.specs.Sequents.{sequent_reader}
 use Rattle.dlk_machine.specs.Pairs.{pairs_reader}
 use Rattle.dlk_machine.proofs.Climb.{stands}

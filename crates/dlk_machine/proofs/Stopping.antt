@@ -50,9 +50,9 @@ module _ {P : Type 0} (d : Dots) (G : List Lexeme → P → Type 0) where
     place = refl;
     begins = b;
     never = λ j q c z e.
-      let same : k ≡ j = cc in
-      let at : s ++ j ∷ q ≡ (s ++ k ∷ []) ++ q = sym (ap (λ (l : Lexeme). (s ++ l ∷ []) ++ q) same ∙ append_assoc s (j ∷ []) q) in
-      never (begins_front (s ++ k ∷ []) q (subst (Begins d G) at c));
+        let same : k ≡ j = cc in
+        let at : s ++ j ∷ q ≡ (s ++ k ∷ []) ++ q = sym (ap (λ (l : Lexeme). (s ++ l ∷ []) ++ q) same ∙ append_assoc s (j ∷ []) q) in
+        never (begins_front (s ++ k ∷ []) q (subst (Begins d G) at c));
   }
   stops_at (stops-end {s = s} b never) = record { front = s; behind = []; parts = sym (append-nil s); place = refl; begins = b; never = λ k r c q e. absurd cc }
 
