@@ -27,12 +27,16 @@ pair_is all p q e d = subst (λ (z : PairPhrase). ReadsPair all z) (some_is p q 
 text_pair : {w : Right} {y : State} {all : List Lexeme} {p : PairPhrase} (a : InText w y all) → RightText w a.own p → ReadsPair all p
 text_pair {p = p} a r = subst (λ (z : List Lexeme). ReadsPair z p) (sym a.parts) (pair_joined a.left_text r)
 
-found_either : (h : Target) (y : State) (all : List Lexeme) (p : PairPhrase) → InText (EitherOf h) y all → chosen_pair h y (ended Formula y) ≡ Some p → ReadsPair all p
+found_either : (h : Target) (y : State) (all : List Lexeme) (p : PairPhrase) → InText (EitherOf h) y all → chosen_pair h y (ended Formula y) ≡ Some p
+    → ReadsPair all p
 found_either h y all p a e = elim (known (ended Formula y)) [
-  | inr o ↦ pair_is all (to (predicate h) o.0) p (subst (λ (q : Option Phrase). chosen_pair h y q ≡ Some p) o.1 e) (text_pair a (right-formula (ends Formula Formula y a.own o.0 (passed_after Formula a.own y a.passed) o.1)))
+  | inr o ↦
+      pair_is all (to (predicate h) o.0) p (subst (λ (q : Option Phrase). chosen_pair h y q ≡ Some p) o.1 e)
+      (text_pair a (right-formula (ends Formula Formula y a.own o.0 (passed_after Formula a.own y a.passed) o.1)))
   | inl o ↦
       let b = bind_some (ended Term y) (λ t. Some (to (function h) t)) p (subst (λ (q : Option Phrase). chosen_pair h y q ≡ Some p) o e) in
-      pair_is all (to (function h) b.0) p b.2 (text_pair a (right-term (ends Formula Term y a.own b.0 (passed_after Formula a.own y a.passed) b.1) (no_formula a.own y a.passed o)))
+      pair_is all (to (function h) b.0) p b.2
+      (text_pair a (right-term (ends Formula Term y a.own b.0 (passed_after Formula a.own y a.passed) b.1) (no_formula a.own y a.passed o)))
 ]
 
 found_text : (w : Right) (y : State) (all : List Lexeme) (p : PairPhrase) → InText w y all → right_ended w y ≡ Some p → ReadsPair all p
@@ -46,8 +50,10 @@ found_text (SystemOf s) y all p a e = absurd (none_some p e)
 system_pair : (s : Sym) (t : Phrase) (all : List Lexeme) → SystemText s (SystemEnds s t) all → ReadsPair all (to s t)
 system_pair s t all a =
     let w = found_system s a.place a.own t a.passed in
-    let at : all ≡ a.front ++ Becomes ∷ OpenBrace a.place ∷ (w.front ++ CloseBrace ∷ []) = a.parts ∙ ap (λ (z : List Lexeme). a.front ++ Becomes ∷ OpenBrace a.place ∷ z) w.parts in
-    subst (λ (u : Phrase). ReadsPair all (to s u)) w.tree (subst (λ (z : List Lexeme). ReadsPair z (to s (System a.place w.items Truth))) (sym at) (pair_joined a.left_text (right-system w.reads)))
+    let at : all ≡ a.front ++ Becomes ∷ OpenBrace a.place ∷ (w.front ++ CloseBrace ∷ []) =
+    a.parts ∙ ap (λ (z : List Lexeme). a.front ++ Becomes ∷ OpenBrace a.place ∷ z) w.parts in
+    subst (λ (u : Phrase). ReadsPair all (to s u)) w.tree
+    (subst (λ (z : List Lexeme). ReadsPair z (to s (System a.place w.items Truth))) (sym at) (pair_joined a.left_text (right-system w.reads)))
 
 pub found_pair : (x : PairState) (all : List Lexeme) (p : PairPhrase) → PairAfter x all → pair_ended x ≡ Some p → ReadsPair all p
 found_pair (InRight w y) all p a e = found_text w y all p a.1 e
@@ -89,24 +95,33 @@ target_live e own all r a d = opened_more all r (left_live (target_left (behind_
 
 -- a right side that is begun
 right_live : {p : PairPhrase} (all front own r : List Lexeme) → all ≡ front ++ Becomes ∷ own → ReadsPair (front ++ Becomes ∷ (own ++ r)) p → Opened all
-right_live {p} all front own r e d = opened_is all (front ++ Becomes ∷ own) e (opened (front ++ Becomes ∷ own) r p (subst (λ (z : List Lexeme). ReadsPair z p) (sym (append_assoc front (Becomes ∷ own) r)) d))
+right_live {p} all front own r e d =
+    opened_is all (front ++ Becomes ∷ own) e
+    (opened (front ++ Becomes ∷ own) r p (subst (λ (z : List Lexeme). ReadsPair z p) (sym (append_assoc front (Becomes ∷ own) r)) d))
 
 text_live : {w : Right} → IsText w → (y : State) (all : List Lexeme) → InText w y all → Opened all
-text_live either-text y all a = let b = live Formula y a.own (passed_after Formula a.own y a.passed) in right_live all a.front a.own b.more a.parts (pair_joined a.left_text (right-formula b.reads))
-text_live (sort-text {g = g}) y all a = let b = live g y a.own (passed_after g a.own y a.passed) in right_live all a.front a.own b.more a.parts (pair_joined a.left_text (right-text b.reads))
+text_live either-text y all a =
+    let b = live Formula y a.own (passed_after Formula a.own y a.passed) in
+    right_live all a.front a.own b.more a.parts (pair_joined a.left_text (right-formula b.reads))
+text_live (sort-text {g = g}) y all a =
+    let b = live g y a.own (passed_after g a.own y a.passed) in right_live all a.front a.own b.more a.parts (pair_joined a.left_text (right-text b.reads))
 
 system_live : {s : Sym} (y : State) (all : List Lexeme) → SystemText s (InSystem s y) all → Opened all
 system_live {s} y all a =
     let w = system_front s a.place a.own y a.passed in
     let at : (a.own ++ w.more) ++ CloseBrace ∷ [] ≡ a.own ++ (w.more ++ CloseBrace ∷ []) = append_assoc a.own w.more (CloseBrace ∷ []) in
-    let p : ReadsPair (a.front ++ Becomes ∷ OpenBrace a.place ∷ ((a.own ++ w.more) ++ CloseBrace ∷ [])) (to s (System a.place w.items Truth)) = pair_joined a.left_text (right-system w.reads) in
-    right_live all a.front (OpenBrace a.place ∷ a.own) (w.more ++ CloseBrace ∷ []) a.parts (subst (λ (z : List Lexeme). ReadsPair (a.front ++ Becomes ∷ OpenBrace a.place ∷ z) (to s (System a.place w.items Truth))) at p)
+    let p : ReadsPair (a.front ++ Becomes ∷ OpenBrace a.place ∷ ((a.own ++ w.more) ++ CloseBrace ∷ [])) (to s (System a.place w.items Truth)) =
+    pair_joined a.left_text (right-system w.reads) in
+    right_live all a.front (OpenBrace a.place ∷ a.own) (w.more ++ CloseBrace ∷ []) a.parts
+    (subst (λ (z : List Lexeme). ReadsPair (a.front ++ Becomes ∷ OpenBrace a.place ∷ z) (to s (System a.place w.items Truth))) at p)
 
-dots_live : (e : Bool) (x : Word) (m : ℕ) (all : List Lexeme) (n : ℕ) (s : List Lexeme) → m < most_dots → ReadsDots s m → Behind e (Name n x ∷ Open ∷ (s ++ Comma ∷ [])) all → Opened all
+dots_live : (e : Bool) (x : Word) (m : ℕ) (all : List Lexeme) (n : ℕ) (s : List Lexeme) → m < most_dots → ReadsDots s m
+    → Behind e (Name n x ∷ Open ∷ (s ++ Comma ∷ [])) all → Opened all
 dots_live e x m all n s below d a =
     let at : s ++ Comma ∷ Dot m ∷ [] ≡ (s ++ Comma ∷ []) ++ Dot m ∷ [] = sym (append_assoc s (Comma ∷ []) (Dot m ∷ [])) in
     let dots : ReadsDots ((s ++ Comma ∷ []) ++ Dot m ∷ []) (m + 1) = subst (λ (z : List Lexeme). ReadsDots z (m + 1)) at (dots-more below d) in
-    let own : Behind e (Name n x ∷ Open ∷ ((s ++ Comma ∷ []) ++ Dot m ∷ [])) (all ++ Dot m ∷ []) = behind_more e (Name n x ∷ Open ∷ (s ++ Comma ∷ [])) all (Dot m) a in
+    let own : Behind e (Name n x ∷ Open ∷ ((s ++ Comma ∷ []) ++ Dot m ∷ [])) (all ++ Dot m ∷ []) =
+    behind_more e (Name n x ∷ Open ∷ (s ++ Comma ∷ [])) all (Dot m) a in
     opened_more all (Dot m ∷ []) (target_live e (Name n x ∷ Open ∷ ((s ++ Comma ∷ []) ++ Dot m ∷ [])) (all ++ Dot m ∷ []) (Close ∷ []) own (target-dots dots))
 
 pub pair_live : (x : PairState) (all : List Lexeme) → PairAfter x all → Opened all

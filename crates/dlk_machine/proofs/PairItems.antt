@@ -22,9 +22,11 @@ use Rattle.dlk_machine.proofs.PairTargets.{LeftText, left-either, left-term, lef
 -- The tokens of a right side, and the pair that it makes.
 pub data RightText : Right → List Lexeme → PairPhrase → Type 0 where
   right-formula : {h : Target} {r : List Lexeme} {a : Phrase} → Reads formula r a → RightText (EitherOf h) r (to (predicate h) a)
-  right-term : {h : Target} {r : List Lexeme} {a : Phrase} → Reads term r a → ((b : Phrase) → ¬ Reads formula r b) → RightText (EitherOf h) r (to (function h) a)
+  right-term : {h : Target} {r : List Lexeme} {a : Phrase} → Reads term r a → ((b : Phrase) → ¬ Reads formula r b)
+      → RightText (EitherOf h) r (to (function h) a)
   right-text : {g : Sort} {s : Sym} {r : List Lexeme} {a : Phrase} → Reads (top g) r a → RightText (TextOf g s) r (to s a)
-  right-system : {s : Sym} {k : ℕ} {r : List Lexeme} {l : Items} → ReadsItems r l → RightText (SystemOf s) (OpenBrace k ∷ (r ++ CloseBrace ∷ [])) (to s (System k l Truth))
+  right-system : {s : Sym} {k : ℕ} {r : List Lexeme} {l : Items} → ReadsItems r l
+      → RightText (SystemOf s) (OpenBrace k ∷ (r ++ CloseBrace ∷ [])) (to s (System k l Truth))
 
 -- The two sides of a pair.
 pub pair_joined : {w : Right} {s r : List Lexeme} {p : PairPhrase} → LeftText w s → RightText w r p → ReadsPair (s ++ Becomes ∷ r) p
@@ -78,8 +80,12 @@ right_read (right-formula {h = h} {r = r} {a = a} d) =
     (InRight (EitherOf h) w.0, text_passes (EitherOf h) r (Wants []) w.0 w.1, ap (chosen_pair h w.0) w.2)
 right_read (right-term {h = h} {r = r} {a = a} d never) =
     let w = only_at Formula Term r a d refl in
-    let none : ended Formula w.0 ≡ None = elim (known (ended Formula w.0)) [ inl o ↦ o | inr o ↦ absurd (never o.0 (ends Formula Formula w.0 r o.0 (passed_after Formula r w.0 w.1) o.1)) ] in
-    (InRight (EitherOf h) w.0, text_passes (EitherOf h) r (Wants []) w.0 w.1, ap (chosen_pair h w.0) none ∙ ap (λ (q : Option Phrase). q >>= λ t. Some (to (function h) t)) w.2)
+    let none : ended Formula w.0 ≡ None =
+    elim (known (ended Formula w.0)) [ inl o ↦ o | inr o ↦ absurd (never o.0 (ends Formula Formula w.0 r o.0 (passed_after Formula r w.0 w.1) o.1)) ] in (
+      InRight (EitherOf h) w.0,
+      text_passes (EitherOf h) r (Wants []) w.0 w.1,
+      ap (chosen_pair h w.0) none ∙ ap (λ (q : Option Phrase). q >>= λ t. Some (to (function h) t)) w.2,
+    )
 right_read (right-text {g = g} {s = s} {r = r} {a = a} d) =
     let w = only_at g g r a d (allowed g) in
     (InRight (TextOf g s) w.0, text_passes (TextOf g s) r (Wants []) w.0 w.1, ap (λ (q : Option Phrase). q >>= λ t. Some (to s t)) w.2)

@@ -84,11 +84,13 @@ goes_in : (s : Sym) (z : State) (all : List Lexeme) → After Program z all → 
 goes_in s (Has [] (Is Program t Braced)) all a h = absurd (brace_not_inner a.tail.1 (each_parts Inner a.front a.back (subst (Each Inner) a.parts h)).1)
 goes_in s _ all a h = refl
 
-inner_step : (s : Sym) (x : State) (k : Lexeme) (z : State) → Inner k → step Program x k ≡ Some z → system_state s z ≡ InSystem s z → pair_step (InSystem s x) k ≡ Some (InSystem s z)
+inner_step : (s : Sym) (x : State) (k : Lexeme) (z : State) → Inner k → step Program x k ≡ Some z → system_state s z ≡ InSystem s z
+    → pair_step (InSystem s x) k ≡ Some (InSystem s z)
 inner_step s x (Op And) z h e f = absurd h
 inner_step s x k z h e f = ap (λ (o : Option State). o >>= λ u. Some (system_state s u)) e ∙ ap (λ (p : PairState). Some p) f
 
-inner_passes : (s : Sym) (r : List Lexeme) (x y : State) (all : List Lexeme) → After Program x all → Each Inner all → Each Inner r → states (reader Program) x r ≡ Some y → Passes (InSystem s x) r (InSystem s y)
+inner_passes : (s : Sym) (r : List Lexeme) (x y : State) (all : List Lexeme) → After Program x all → Each Inner all → Each Inner r
+    → states (reader Program) x r ≡ Some y → Passes (InSystem s x) r (InSystem s y)
 inner_passes s [] x y all a h g e = ap (λ (u : State). Some (InSystem s u)) (some_is x y e)
 inner_passes s (k ∷ r) x y all a h g e =
     let b = bind_some (step Program x k) (λ u. states (reader Program) u r) y e in
@@ -97,13 +99,16 @@ inner_passes s (k ∷ r) x y all a h g e =
     let one : pair_step (InSystem s x) k ≡ Some (InSystem s b.0) = inner_step s x k b.0 g.0 b.1 (goes_in s b.0 (all ++ k ∷ []) after own) in
     ap (λ (o : Option PairState). o >>= λ u. states pair_reader u r) one ∙ inner_passes s r b.0 y (all ++ k ∷ []) after own g.1 b.2
 
-pub system_read : {r : List Lexeme} {l : Items} → ReadsItems r l → (s : Sym) (m : ℕ) → Passes (InSystem s (system_start m)) (r ++ CloseBrace ∷ []) (SystemEnds s (System m l Truth))
+pub system_read : {r : List Lexeme} {l : Items} → ReadsItems r l → (s : Sym) (m : ℕ)
+    → Passes (InSystem s (system_start m)) (r ++ CloseBrace ∷ []) (SystemEnds s (System m l Truth))
 system_read {r} {l} d s m =
     let whole : State = Has [] (Is Program (System m l Truth) Braced) in
     let w = states_split (reader Program) r (CloseBrace ∷ []) (system_start m) whole (only_items d Program [] m item-brace []) in
     let b = bind_some (step Program w.0 CloseBrace) (λ u. Some u) whole w.2 in
-    let last : Passes (InSystem s w.0) (CloseBrace ∷ []) (SystemEnds s (System m l Truth)) = ap (λ (o : Option State). (o >>= λ u. Some (system_state s u)) >>= λ u. Some u) (b.1 ∙ b.2) in
-    goes_on (InSystem s (system_start m)) (InSystem s w.0) (SystemEnds s (System m l Truth)) r (CloseBrace ∷ []) (inner_passes s r (system_start m) w.0 (OpenBrace m ∷ []) (begun m) (tt, tt) (items_inner d) w.1) last
+    let last : Passes (InSystem s w.0) (CloseBrace ∷ []) (SystemEnds s (System m l Truth)) =
+    ap (λ (o : Option State). (o >>= λ u. Some (system_state s u)) >>= λ u. Some u) (b.1 ∙ b.2) in
+    goes_on (InSystem s (system_start m)) (InSystem s w.0) (SystemEnds s (System m l Truth)) r (CloseBrace ∷ [])
+    (inner_passes s r (system_start m) w.0 (OpenBrace m ∷ []) (begun m) (tt, tt) (items_inner d) w.1) last
 
 -- The reader of programs has read what is read of a system, which has no &.
 data Shows (s : Sym) : State → PairState → Type 0 where
@@ -124,7 +129,8 @@ record HasPassed (s : Sym) (x : State) (own : List Lexeme) (y : PairState) : Typ
   shown : Shows s state y
   no_domain : Each NotAnd own
 
-one_step : (s : Sym) (x : State) (k : Lexeme) (y : PairState) → pair_step (InSystem s x) k ≡ Some y → (z : State) × (step Program x k ≡ Some z) × Shows s z y × NotAnd k
+one_step : (s : Sym) (x : State) (k : Lexeme) (y : PairState) → pair_step (InSystem s x) k ≡ Some y
+    → (z : State) × (step Program x k ≡ Some z) × Shows s z y × NotAnd k
 one_step s x (Op And) y e = absurd (none_some y e)
 one_step s x k y e =
     let b = bind_some (step Program x k) (λ z. Some (system_state s z)) y e in
@@ -136,7 +142,12 @@ has_passed s (k ∷ r) x _ y inside e =
     let b = bind_some (pair_step (InSystem s x) k) (λ u. states pair_reader u r) y e in
     let c = one_step s x k b.0 b.1 in
     let w = has_passed s r c.0 b.0 y c.2 b.2 in
-    record { state = w.state; run = ap (λ (o : Option State). o >>= λ u. states (reader Program) u r) c.1 ∙ w.run; shown = w.shown; no_domain = (c.3, w.no_domain) }
+    record {
+      state = w.state;
+      run = ap (λ (o : Option State). o >>= λ u. states (reader Program) u r) c.1 ∙ w.run;
+      shown = w.shown;
+      no_domain = (c.3, w.no_domain);
+    }
 has_passed s (k ∷ r) _ _ y behind e = absurd (none_some y e)
 
 whole_is : {s : Sym} {x : State} {y : PairState} → Shows s x y → (r : Sym) (t : Phrase) → y ≡ SystemEnds r t → x ≡ Has [] (Is Program t Braced)
@@ -154,7 +165,8 @@ pub record WholeSystem (m : ℕ) (own : List Lexeme) (t : Phrase) : Type 0 where
 whole_brace : (t : Phrase) (all : List Lexeme) → After Program (Has [] (Is Program t Braced)) all → ReadsBrace all t
 whole_brace t all a =
     let same : a.tail.0 ≡ t = cc in
-    subst (λ (z : List Lexeme). ReadsBrace z t) (sym (a.parts ∙ ap (λ (z : List Lexeme). z ++ a.back) (spells_nothing a.spells))) (subst (ReadsBrace a.back) same a.tail.1)
+    subst (λ (z : List Lexeme). ReadsBrace z t) (sym (a.parts ∙ ap (λ (z : List Lexeme). z ++ a.back) (spells_nothing a.spells)))
+    (subst (ReadsBrace a.back) same a.tail.1)
 
 -- no program is read where an item is wanted
 no_items_read : {s : List Lexeme} → ProgramFront s → (m : ℕ) (r : List Lexeme) (y : State) → states (reader Program) (system_start m) (s ++ r) ≡ Some y → ⊥
@@ -164,7 +176,8 @@ no_items_read front-const m r y e = none_some y e
 no_items_read front-assign m r y e = none_some y e
 no_items_read front-assign_prime m r y e = none_some y e
 
-whole_items : {m : ℕ} {own : List Lexeme} {t : Phrase} → ReadsBrace (OpenBrace m ∷ own) t → Each NotAnd own → (y : State) → states (reader Program) (system_start m) own ≡ Some y → WholeSystem m own t
+whole_items : {m : ℕ} {own : List Lexeme} {t : Phrase} → ReadsBrace (OpenBrace m ∷ own) t → Each NotAnd own → (y : State)
+    → states (reader Program) (system_start m) own ≡ Some y → WholeSystem m own t
 whole_items (brace-items {s = s} {l = l} d) h y e = record { front = s; items = l; reads = d; parts = refl; tree = refl }
 whole_items (brace-domain {s = s} d f) h y e = absurd (each_parts NotAnd s _ h).1.0
 whole_items {m} (brace-prog d) h y e = absurd (no_items_read (first d) m (CloseBrace ∷ []) y e)
@@ -265,7 +278,8 @@ module _ (s : Sym) (m : ℕ) (own : List Lexeme) (y : State) (e : Passes (InSyst
   read_so = has_passed s own (system_start m) (InSystem s (system_start m)) (InSystem s y) inside e
 
   -- the items of a brace go on where the tokens end
-  items_front : {q : List Lexeme} {l : Items} (more : List Lexeme) (k : Lexeme) (r : List Lexeme) → ReadsItems q l → own ++ more ≡ q ++ k ∷ r → ((z : List Lexeme) → ¬ (own ≡ q ++ k ∷ z)) → ItemsFront own
+  items_front : {q : List Lexeme} {l : Items} (more : List Lexeme) (k : Lexeme) (r : List Lexeme) → ReadsItems q l → own ++ more ≡ q ++ k ∷ r
+      → ((z : List Lexeme) → ¬ (own ≡ q ++ k ∷ z)) → ItemsFront own
   items_front {q} {l} more k r d f never = elim (parted q own r more k (sym f)) [
     | inl w ↦ record { more = w.0; items = l; reads = subst (λ (z : List Lexeme). ReadsItems z l) w.1 d }
     | inr w ↦ absurd (never w.0 w.1)
@@ -279,7 +293,8 @@ module _ (s : Sym) (m : ℕ) (own : List Lexeme) (y : State) (e : Passes (InSyst
       let on = states_then pair_reader (q ++ CloseBrace ∷ []) z (InSystem s (system_start m)) whole (system_read d s m) in
       not_over s (System m l Truth) z y (sym on ∙ sym (ap (states pair_reader (InSystem s (system_start m))) at) ∙ e)
 
-  brace_front : {b : List Lexeme} {t : Phrase} (more r : List Lexeme) → ReadsBrace b t → OpenBrace m ∷ (own ++ more) ≡ b ++ r → ((z : List Lexeme) → ¬ ProgramFront (own ++ z)) → ItemsFront own
+  brace_front : {b : List Lexeme} {t : Phrase} (more r : List Lexeme) → ReadsBrace b t → OpenBrace m ∷ (own ++ more) ≡ b ++ r
+      → ((z : List Lexeme) → ¬ ProgramFront (own ++ z)) → ItemsFront own
   brace_front more r (brace-prog {s = q} d) f h =
       let at : own ++ more ≡ (q ++ CloseBrace ∷ []) ++ r = cc in
       absurd (h more (subst ProgramFront (sym (at ∙ append_assoc q (CloseBrace ∷ []) r)) (program_append (CloseBrace ∷ r) (first d))))
@@ -303,7 +318,8 @@ module _ (s : Sym) (m : ℕ) (own : List Lexeme) (y : State) (e : Passes (InSyst
       by at-name g = subst ItemsFront g (record { more = []; items = _; reads = items-one item-flow })
       by at-prime g = subst ItemsFront g (record { more = Op Equal ∷ Number nought ∷ []; items = _; reads = items-one (item-evolve zero_reads) })
       by (told h) g =
-          let b = live Program read_so.state (OpenBrace m ∷ own) (states_after Program (system_start m) (OpenBrace m ∷ []) own read_so.state (begun m) read_so.run) in
+          let b =
+          live Program read_so.state (OpenBrace m ∷ own) (states_after Program (system_start m) (OpenBrace m ∷ []) own read_so.state (begun m) read_so.run) in
           program_front b.more (begins_so b.reads refl) (subst (λ (z : List Lexeme). (more : List Lexeme) → ¬ ProgramFront (z ++ more)) g h)
 
   pub system_front : ItemsFront own

@@ -23,7 +23,8 @@ pub data LeftText : Right → List Lexeme → Type 0 where
   left-context : {n m : ℕ} {x : Word} → LeftText (TextOf Formula (symbol Quant x 0 Everywhere)) (Name n x ∷ OpenBrace m ∷ Blank ∷ CloseBrace ∷ [])
   left-program : {n : ℕ} {x : Word} → LeftText (TextOf Program (symbol Prog x 0 Everywhere)) (Name n x ∷ Semi ∷ [])
   left-flow : {n m : ℕ} {x : Word} → LeftText (SystemOf (symbol Ode x 0 Everywhere)) (OpenBrace m ∷ Name n x ∷ CloseBrace ∷ [])
-  left-flow-except : {n m j : ℕ} {x y : Word} → LeftText (SystemOf (symbol Ode x 0 (Except y))) (OpenBrace m ∷ Name n x ∷ BraceBar ∷ Name j y ∷ BarBrace ∷ CloseBrace ∷ [])
+  left-flow-except : {n m j : ℕ} {x y : Word}
+      → LeftText (SystemOf (symbol Ode x 0 (Except y))) (OpenBrace m ∷ Name n x ∷ BraceBar ∷ Name j y ∷ BarBrace ∷ CloseBrace ∷ [])
 
 -- The reader gets from a state through tokens to a state.
 abbrev pub Passes : PairState → List Lexeme → PairState → Type 0
@@ -47,8 +48,10 @@ begun true = LeftName (codes "term")
 target_passes : {s : List Lexeme} {h : Target} → ReadsTarget s h → (e : Bool) → Passes (begun e) s (LeftEnds (right_of e h))
 target_passes target-nullary true = refl
 target_passes target-nullary false = refl
-target_passes (target-dots {m = m} {x = x} {s = s} d) true = goes_on (Calls true x) (DotsOf true x m) (LeftEnds (right_of true (Over x m))) s (Close ∷ []) (dots_pass d true x) refl
-target_passes (target-dots {m = m} {x = x} {s = s} d) false = goes_on (Calls false x) (DotsOf false x m) (LeftEnds (right_of false (Over x m))) s (Close ∷ []) (dots_pass d false x) refl
+target_passes (target-dots {m = m} {x = x} {s = s} d) true =
+    goes_on (Calls true x) (DotsOf true x m) (LeftEnds (right_of true (Over x m))) s (Close ∷ []) (dots_pass d true x) refl
+target_passes (target-dots {m = m} {x = x} {s = s} d) false =
+    goes_on (Calls false x) (DotsOf false x m) (LeftEnds (right_of false (Over x m))) s (Close ∷ []) (dots_pass d false x) refl
 target_passes target-any true = refl
 target_passes target-any false = refl
 target_passes target-except true = refl

@@ -40,7 +40,8 @@ one_parsed : {P : Type 0} (p q : P) → parsed p ≡ parsed q → p ≡ q
 one_parsed p q e = cc
 
 -- a fault says that the lexemes say nothing
-faulty : {X P : Type 0} (m : Machine X P) (G : List Lexeme → P → Type 0) (d : Dots) → Reader d m G → (s : List Lexeme) (n : ℕ) → parse d m s ≡ Err n → (p : P) → ¬ Says d G s p
+faulty : {X P : Type 0} (m : Machine X P) (G : List Lexeme → P → Type 0) (d : Dots) → Reader d m G → (s : List Lexeme) (n : ℕ) → parse d m s ≡ Err n
+    → (p : P) → ¬ Says d G s p
 faulty m G d c s n e p says = no_fault p n (sym (only_text m G d c s p says) ∙ e)
 
 -- lexemes say one thing
@@ -125,5 +126,6 @@ form_says_read d wanted s p h = only_text (machine_of wanted) (grammar wanted) d
 pub form_fault_stops : (d : Dots) (wanted : Form) (s : List Lexeme) (n : ℕ) → parse d (machine_of wanted) s ≡ Err n → Stops d (grammar wanted) s n
 form_fault_stops d wanted s n e = stops_text (machine_of wanted) (grammar wanted) d (forms_all d wanted) s n e
 
-pub form_fault_says_nothing : (d : Dots) (wanted : Form) (s : List Lexeme) (n : ℕ) → parse d (machine_of wanted) s ≡ Err n → (p : Phrase) → ¬ Says d (grammar wanted) s p
+pub form_fault_says_nothing : (d : Dots) (wanted : Form) (s : List Lexeme) (n : ℕ) → parse d (machine_of wanted) s ≡ Err n → (p : Phrase)
+    → ¬ Says d (grammar wanted) s p
 form_fault_says_nothing d wanted s n e = faulty (machine_of wanted) (grammar wanted) d (forms_all d wanted) s n e

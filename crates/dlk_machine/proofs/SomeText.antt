@@ -68,21 +68,26 @@ clear_more Is b t clear never s after u e is = elim (seams b s t u [] after e) [
   | later rest f ↦ clear s rest u f is
 ]
 
-first_at : (Is : List Token → TokenKind → Type 0) → ((before : List Token) (k : TokenKind) → (Is before k) ⊎ (¬ Is before k)) → (b ts : List Token) → Clear Is b → Search (FirstAt Is (b ++ ts))
+first_at : (Is : List Token → TokenKind → Type 0) → ((before : List Token) (k : TokenKind) → (Is before k) ⊎ (¬ Is before k)) → (b ts : List Token)
+    → Clear Is b → Search (FirstAt Is (b ++ ts))
 first_at Is test b [] clear = missing (λ at f. clear f.before f.behind f.token (sym (append-nil b) ∙ f.tokens_are) f.is)
 first_at Is test b (t ∷ ts) clear = elim (test b t.kind) [
   | inl is ↦ found t.at (record { before = b; token = t; behind = ts; tokens_are = refl; is = is; first = clear; place = refl })
-  | inr never ↦ subst (λ (l : List Token). Search (FirstAt Is l)) (append_assoc b (t ∷ []) ts) (first_at Is test (b ++ t ∷ []) ts (clear_more Is b t clear never))
+  | inr never ↦
+      subst (λ (l : List Token). Search (FirstAt Is l)) (append_assoc b (t ∷ []) ts) (first_at Is test (b ++ t ∷ []) ts (clear_more Is b t clear never))
 ]
 
 nothing_sooner : (Is : List Token → TokenKind → Type 0) → Clear Is []
 nothing_sooner Is s after t e is = absurd (omega (arith, ap length e, length-append s (t ∷ after)))
 
-first_in : (Is : List Token → TokenKind → Type 0) → ((before : List Token) (k : TokenKind) → (Is before k) ⊎ (¬ Is before k)) → (ts : List Token) → Search (FirstAt Is ts)
+first_in : (Is : List Token → TokenKind → Type 0) → ((before : List Token) (k : TokenKind) → (Is before k) ⊎ (¬ Is before k)) → (ts : List Token)
+    → Search (FirstAt Is ts)
 first_in Is test ts = first_at Is test [] ts (nothing_sooner Is)
 
 -- the first tree past a limit
-not_past : (measure : Tree → ℕ) (limit : ℕ) (t : Tree) (ts : List Tree) → measure t ≤ limit → ((n : ℕ) → ¬ FirstPast measure limit ts n) → (n : ℕ) (b : List Tree) (u : Tree) (r : List Tree) → t ∷ ts ≡ b ++ u ∷ r → limit < measure u → All (λ x. measure x ≤ limit) b → n ≡ min (measure u) 4294967295 → ⊥
+not_past : (measure : Tree → ℕ) (limit : ℕ) (t : Tree) (ts : List Tree) → measure t ≤ limit → ((n : ℕ) → ¬ FirstPast measure limit ts n)
+    → (n : ℕ) (b : List Tree) (u : Tree) (r : List Tree) → t ∷ ts ≡ b ++ u ∷ r → limit < measure u → All (λ x. measure x ≤ limit) b
+    → n ≡ min (measure u) 4294967295 → ⊥
 not_past measure limit t ts low never n [] u r e past first number = let f : t ≡ u = cc in absurd (omega (arith, ap measure f))
 not_past measure limit t ts low never n (v ∷ b) u r e past first number =
     let f : ts ≡ b ++ u ∷ r = cc in
@@ -94,9 +99,21 @@ none_past measure limit n f = absurd (omega (arith, ap length f.trees_are, lengt
 past_in : (measure : Tree → ℕ) (limit : ℕ) (ts : List Tree) → Search (FirstPast measure limit ts)
 past_in measure limit [] = missing (none_past measure limit)
 past_in measure limit (t ∷ ts) = elim (cases_lt limit (measure t)) [
-  | inl past ↦ found (min (measure t) 4294967295) (record { before = []; tree = t; behind = ts; trees_are = refl; past = past; first = All-nil (λ x. measure x ≤ limit); number = refl })
+  | inl past ↦
+      found (min (measure t) 4294967295)
+      (record { before = []; tree = t; behind = ts; trees_are = refl; past = past; first = All-nil (λ x. measure x ≤ limit); number = refl })
   | inr low ↦ elim (past_in measure limit ts) [
-    | found n f ↦ found n (record { before = t ∷ f.before; tree = f.tree; behind = f.behind; trees_are = ap (λ (l : List Tree). t ∷ l) f.trees_are; past = f.past; first = All-cons (λ x. measure x ≤ limit) t f.before low f.first; number = f.number })
+    | found n f ↦
+        found n
+        (record {
+          before = t ∷ f.before;
+          tree = f.tree;
+          behind = f.behind;
+          trees_are = ap (λ (l : List Tree). t ∷ l) f.trees_are;
+          past = f.past;
+          first = All-cons (λ x. measure x ≤ limit) t f.before low f.first;
+          number = f.number;
+        })
     | missing never ↦ missing (λ n f. not_past measure limit t ts low never n f.before f.tree f.behind f.trees_are f.past f.first f.number)
   ]
 ]
@@ -107,7 +124,8 @@ data SaysOrStops {P : Type 0} (d : Dots) (G : List Lexeme → P → Type 0) (s :
   it_stops : (place : ℕ) → Stops d G s place → SaysOrStops d G s
 
 -- A form of text.
-module _ {P : Type 0} (G : List Lexeme → P → Type 0) (parts : P → List Phrase) (one : (s : List Lexeme) (p q : P) → G s p → G s q → p ≡ q) (d : Dots) (tokens : List Token) where
+module _ {P : Type 0} (G : List Lexeme → P → Type 0) (parts : P → List Phrase) (one : (s : List Lexeme) (p q : P) → G s p → G s q → p ≡ q) (d : Dots)
+    (tokens : List Token) where
   -- no fault below a rank applies
   abbrev Free : ℕ → Type 0
   Free k = (other : ReadFault) → fault_rank other < k → ¬ SpeaksAgainst G parts d tokens other
@@ -169,15 +187,19 @@ module _ {P : Type 0} (G : List Lexeme → P → Type 0) (parts : P → List Phr
     is_read : (r : R) → IsRead G parts d tokens value r → Outcome value
     is_fault : (why : ReadFault) → IsReadFault G parts d tokens why → Outcome value
 
-  past_or_not : (measure : Tree → ℕ) (limit : ℕ) (p : P) → Says d G (lexemes tokens) p → Search (λ n. (q : P) × Says d G (lexemes tokens) q × FirstPast measure limit (map erase (parts q)) n)
+  past_or_not : (measure : Tree → ℕ) (limit : ℕ) (p : P) → Says d G (lexemes tokens) p
+      → Search (λ n. (q : P) × Says d G (lexemes tokens) q × FirstPast measure limit (map erase (parts q)) n)
   past_or_not measure limit p says = elim (past_in measure limit (map erase (parts p))) [
     | found n f ↦ found n (p, says, f)
-    | missing never ↦ missing (λ n f. never n (subst (λ (q : P). FirstPast measure limit (map erase (parts q)) n) (one (lexemes tokens) f.0 p f.1.reads says.reads) f.2))
+    | missing never ↦
+        missing (λ n f. never n (subst (λ (q : P). FirstPast measure limit (map erase (parts q)) n) (one (lexemes tokens) f.0 p f.1.reads says.reads) f.2))
   ]
 
-  ill_or_not : (p : P) (ns : List ℕ) → flat_map ills (parts p) ≡ ns → Says d G (lexemes tokens) p → Each (λ n. n < length tokens) ns → Search (λ at. SpeaksAgainst G parts d tokens (Shape at))
+  ill_or_not : (p : P) (ns : List ℕ) → flat_map ills (parts p) ≡ ns → Says d G (lexemes tokens) p → Each (λ n. n < length tokens) ns
+      → Search (λ at. SpeaksAgainst G parts d tokens (Shape at))
   ill_or_not p [] e says below = missing (λ at f.
-      let same : lowest (flat_map ills (parts f.0)) ≡ None = ap (λ (q : P). lowest (flat_map ills (parts q))) (one (lexemes tokens) f.0 p f.1.reads says.reads) ∙ ap lowest e in
+      let same : lowest (flat_map ills (parts f.0)) ≡ None =
+      ap (λ (q : P). lowest (flat_map ills (parts q))) (one (lexemes tokens) f.0 p f.1.reads says.reads) ∙ ap lowest e in
       let none : Some f.2.0 ≡ None = sym f.2.1 ∙ same in absurd cc)
   ill_or_not p (n ∷ ns) e says below =
       let at = token_at tokens (fold min n ns) (least_below (length tokens) n ns below.0 below.1) in
@@ -232,7 +254,8 @@ parsed_pairs s (Ok l) e = it_says l (pairs_read_says s l e)
 parsed_pairs s (Err n) e = it_stops n (pairs_fault_stops s n e)
 
 -- tokens are those of a tree, or there is a fault
-split_tree : (form : Form) (d : Dots) (bytes : List ℕ) (ts : List Token) → Splits 0 bytes ts → ((t : Tree) × TreeText form d bytes t) ⊎ ((why : TextFault) × TreeTextFault form d bytes why)
+split_tree : (form : Form) (d : Dots) (bytes : List ℕ) (ts : List Token) → Splits 0 bytes ts
+    → ((t : Tree) × TreeText form d bytes t) ⊎ ((why : TextFault) × TreeTextFault form d bytes why)
 split_tree form d bytes ts splits =
     let parsed = parsed_tree form d (lexemes ts) (parse d (machine_of form) (lexemes ts)) refl in
     elim (outcome (grammar form) itself (one_grammar form) d ts erase (form_ills_below form ts) (split_tokens splits) parsed) [
@@ -240,7 +263,8 @@ split_tree form d bytes ts splits =
       | is_fault why h ↦ inr (Unread why, (ts, splits, h))
     ]
 
-split_sequent : (bytes : List ℕ) (ts : List Token) → Splits 0 bytes ts → ((s : Sequent) × SequentText bytes s) ⊎ ((why : TextFault) × SequentTextFault bytes why)
+split_sequent : (bytes : List ℕ) (ts : List Token) → Splits 0 bytes ts
+    → ((s : Sequent) × SequentText bytes s) ⊎ ((why : TextFault) × SequentTextFault bytes why)
 split_sequent bytes ts splits =
     let parsed = parsed_sides (lexemes ts) (parse Refused sequent_reader (lexemes ts)) refl in
     elim (outcome ReadsSequent both_sides one_sides_read Refused ts erase_sides (sequent_ills_below ts) (split_tokens splits) parsed) [
@@ -248,7 +272,8 @@ split_sequent bytes ts splits =
       | is_fault why h ↦ inr (Unread why, (ts, splits, h))
     ]
 
-split_pairs : (bytes : List ℕ) (ts : List Token) → Splits 0 bytes ts → ((pairs : List Pair) × PairsText bytes pairs) ⊎ ((why : TextFault) × PairsTextFault bytes why)
+split_pairs : (bytes : List ℕ) (ts : List Token) → Splits 0 bytes ts
+    → ((pairs : List Pair) × PairsText bytes pairs) ⊎ ((why : TextFault) × PairsTextFault bytes why)
 split_pairs bytes ts splits =
     let parsed = parsed_pairs (lexemes ts) (parse Allowed pairs_reader (lexemes ts)) refl in
     elim (outcome ReadsSubstitution replacements one_pairs_read Allowed ts erase_pairs (pairs_ills_below ts) (split_tokens splits) parsed) [

@@ -26,7 +26,8 @@ module _ {P : Type 0} (d : Dots) (G : List Lexeme → P → Type 0) where
   said_begins s r p w = record { more = r; said = p; text = w }
 
   pub said_nowhere : {s : List Lexeme} {i : ℕ} (p : P) → Says d G s p → Stops d G s i → ⊥
-  said_nowhere p w (stops-token {s = s} k r b never) = never (said_begins (s ++ k ∷ []) r p (subst (λ (z : List Lexeme). Says d G z p) (sym (append_assoc s (k ∷ []) r)) w))
+  said_nowhere p w (stops-token {s = s} k r b never) =
+      never (said_begins (s ++ k ∷ []) r p (subst (λ (z : List Lexeme). Says d G z p) (sym (append_assoc s (k ∷ []) r)) w))
   said_nowhere p w (stops-end b never) = never p w
 
   pub stops_within : {s : List Lexeme} {i : ℕ} → Stops d G s i → i ≤ length s
@@ -60,7 +61,8 @@ module _ {P : Type 0} (d : Dots) (G : List Lexeme → P → Type 0) where
   not_later : {s : List Lexeme} {i j : ℕ} (a : StopsAt s i) (b : StopsAt s j) (q : List Lexeme) → b.front ≡ a.front ++ q → q ≡ []
   not_later a b [] e = refl
   not_later a b (k ∷ q) e =
-      let at : a.front ++ a.behind ≡ a.front ++ (k ∷ (q ++ b.behind)) = sym a.parts ∙ b.parts ∙ ap (λ (z : List Lexeme). z ++ b.behind) e ∙ append_assoc a.front (k ∷ q) b.behind in
+      let at : a.front ++ a.behind ≡ a.front ++ (k ∷ (q ++ b.behind)) =
+      sym a.parts ∙ b.parts ∙ ap (λ (z : List Lexeme). z ++ b.behind) e ∙ append_assoc a.front (k ∷ q) b.behind in
       absurd (a.never k q (subst (Begins d G) e b.begins) (q ++ b.behind) (append_cancel_left a.front a.behind (k ∷ (q ++ b.behind)) at))
 
   pub one_stop : {s : List Lexeme} {i j : ℕ} → Stops d G s i → Stops d G s j → i ≡ j
