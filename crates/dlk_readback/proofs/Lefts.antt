@@ -59,10 +59,10 @@ pub record Left (make : Target → Sym) (k : Kind) (s : Sym) : Type 0 where
   pub symbol_is : make target ≡ s
 
 pub func_left : (s : Sym) → is_sym_of Func s ≡ true → Left function Func s
-func_left s h = record { target = Over s.name s.arity; reads = λ n. over_dots n s.name s.arity (arity_most Func s h); symbol_is = called Func s s.arity h refl refl }
+func_left s h = record { target = Over s.name s.arity; reads = λ n. over_dots n s.name s.arity (arity_most Func s h (λ m. refl)); symbol_is = called Func s s.arity h refl refl }
 
 pub pred_left : (s : Sym) → is_sym_of Pred s ≡ true → Left predicate Pred s
-pred_left s h = record { target = Over s.name s.arity; reads = λ n. over_dots n s.name s.arity (arity_most Pred s h); symbol_is = called Pred s s.arity h refl refl }
+pred_left s h = record { target = Over s.name s.arity; reads = λ n. over_dots n s.name s.arity (arity_most Pred s h (λ m. refl)); symbol_is = called Pred s s.arity h refl refl }
 
 pub unit_func_left : (s : Sym) → is_sym_of UnitFunc s ≡ true → Left function UnitFunc s
 unit_func_left s h = record { target = UnitOver s.name (space_of s.taboo); reads = λ n. unit_target n s.name s.taboo; symbol_is = unit_symbol UnitFunc s h (λ m. refl) }
