@@ -28,7 +28,8 @@ abbrev two : Num
 two = record { digits = 2; scale = 0 }
 
 -- -x^2*y--x=0: the sign binds tighter than the product and looser than the power.
-signs : parse Refused (reader sort.Formula) (Op Sub ∷ Name 1 x ∷ Op Pow ∷ Number two ∷ Op Mul ∷ Name 5 y ∷ Op Sub ∷ Op Sub ∷ Name 8 x ∷ Op Equal ∷ Number zero' ∷ [])
+signs : parse Refused (reader sort.Formula)
+    (Op Sub ∷ Name 1 x ∷ Op Pow ∷ Number two ∷ Op Mul ∷ Name 5 y ∷ Op Sub ∷ Op Sub ∷ Name 8 x ∷ Op Equal ∷ Number zero' ∷ [])
     ≡ Ok
     (Binary Equal (Binary Sub (Binary Mul (Negate (Binary Pow (Variable x false) (Literal two))) (Variable y false)) (Negate (Variable x false)))
     (Literal zero'))
@@ -40,7 +41,9 @@ prefixes : parse Refused (reader sort.Formula) (Bang ∷ Name 1 x ∷ Op Equal �
 prefixes = refl
 
 -- {x'=y,c&x>0}*@invariant(x>0);
-a_loop : parse Refused (reader sort.Program) (OpenBrace 0 ∷ Name 1 x ∷ Prime ∷ Op Equal ∷ Name 4 y ∷ Comma ∷ Name 6 c ∷ Op And ∷ Name 8 x ∷ Op Greater ∷ Number zero' ∷ CloseBrace ∷ Op Mul ∷ Invariant ∷ Open ∷ Name 15 x ∷ Op Greater ∷ Number zero' ∷ Close ∷ Semi ∷ [])
+a_loop : parse Refused (reader sort.Program)
+    (OpenBrace 0 ∷ Name 1 x ∷ Prime ∷ Op Equal ∷ Name 4 y ∷ Comma ∷ Name 6 c ∷ Op And ∷ Name 8 x ∷ Op Greater ∷ Number zero' ∷ CloseBrace
+    ∷ Op Mul ∷ Invariant ∷ Open ∷ Name 15 x ∷ Op Greater ∷ Number zero' ∷ Close ∷ Semi ∷ [])
     ≡ Ok
     (Noted (Loop (System 0 (add (add no_items (Evolve x (Variable y false))) (Flow c Everywhere)) (Binary Greater (Variable x false) (Literal zero'))))
     (snoc none (Binary Greater (Variable x false) (Literal zero'))))
@@ -75,7 +78,8 @@ a_flow : parse Refused (reader sort.Program) (OpenBrace 0 ∷ Name 1 c ∷ Close
 a_flow = refl
 
 -- <{c}>y(||) & x<y
-a_diamond : parse Refused (reader sort.Formula) (Op Less ∷ OpenBrace 1 ∷ Name 2 c ∷ CloseBrace ∷ Op Greater ∷ Name 5 y ∷ RoundBars ∷ Op And ∷ Name 8 x ∷ Op Less ∷ Name 10 y ∷ [])
+a_diamond : parse Refused (reader sort.Formula)
+    (Op Less ∷ OpenBrace 1 ∷ Name 2 c ∷ CloseBrace ∷ Op Greater ∷ Name 5 y ∷ RoundBars ∷ Op And ∷ Name 8 x ∷ Op Less ∷ Name 10 y ∷ [])
     ≡ Ok (Binary And (Dia (System 1 (add no_items (Flow c Everywhere)) Truth) (Holds (Any y Everywhere))) (Binary Less (Variable x false) (Variable y false)))
 a_diamond = refl
 

@@ -121,7 +121,12 @@ pub part_last : (s r : List Lexeme) (k : Lexeme) → Part r (s ++ k ∷ r)
 part_last s r k P h = (each_parts P s _ h).1.1
 
 pub widen : {s w : List Lexeme} {kinds : List Sort} {places : List ℕ} {ts : List Tree} → Part s w → Grown s kinds places ts → Grown w kinds places ts
-widen part g = record { sorts_are = g.sorts_are; below = λ m h. g.below m (part (IsBelow m) h); made = λ h e. g.made (part IsReal h) e; bare = λ h. g.bare (part IsPlain h) }
+widen part g = record {
+  sorts_are = g.sorts_are;
+  below = λ m h. g.below m (part (IsBelow m) h);
+  made = λ h e. g.made (part IsReal h) e;
+  bare = λ h. g.bare (part IsPlain h);
+}
 
 -- trees of the same lexemes, in order
 join : {w : List Lexeme} {kinds more : List Sort} {places others : List ℕ} {ts us : List Tree} → Grown w kinds places ts → Grown w more others us
@@ -340,7 +345,12 @@ mutual
   grown (unf-atom d) = grown d
   grown atom-true = leaf op.True refl (λ r. refl) refl refl
   grown atom-false = leaf op.False refl (λ r. refl) refl refl
-  grown atom-hole = record { sorts_are = refl; below = λ m h. tt; made = λ r e. ((record { kids_fit = refl; parts_fit = refl }, tt), tt); bare = λ h. absurd (not_plain h.0) }
+  grown atom-hole = record {
+    sorts_are = refl;
+    below = λ m h. tt;
+    made = λ r e. ((record { kids_fit = refl; parts_fit = refl }, tt), tt);
+    bare = λ h. absurd (not_plain h.0);
+  }
   grown (atom-compare c d e) = compared c (grown d) (grown e)
   grown (atom-nullary {n = n} {x = x}) = held n x none (λ m b. b.0) (λ r. r.0) nothing
   grown (atom-holds {n = n} {x = x} {s = s} {l = l} d) = held n x l (λ m b. b.0) (λ r. r.0) (widen (λ P h. part_in Open s (Close ∷ []) P h.1) (grown_list d))

@@ -239,7 +239,12 @@ midway_spells g S T own r all k a sp =
 -- one more token of its own
 midway_more : (g : Sort) (S : List Part) (own : List Lexeme) (r : Sort) (all : List Lexeme) (k : Lexeme) → Midway g S own r all
     → Midway g S (own ++ k ∷ []) r (all ++ k ∷ [])
-midway_more g S own r all k a = record { front = a.front; spells = a.spells; fit = a.fit; parts = ap (λ (l : List Lexeme). l ++ k ∷ []) a.parts ∙ append_assoc a.front own (k ∷ []) }
+midway_more g S own r all k a = record {
+  front = a.front;
+  spells = a.spells;
+  fit = a.fit;
+  parts = ap (λ (l : List Lexeme). l ++ k ∷ []) a.parts ∙ append_assoc a.front own (k ∷ []);
+}
 
 midway_same : (g : Sort) (S : List Part) (own new : List Lexeme) (r : Sort) (all : List Lexeme) → own ≡ new → Midway g S own r all → Midway g S new r all
 midway_same g S own new r all e a = subst (λ (l : List Lexeme). Midway g S l r all) e a
@@ -298,7 +303,8 @@ close_moves g Close (Args m x l) S q y all s k r f n sp (args-text {k = j} begun
     let d = list_joined begun r b.0 (known term b.0 (omega arith) b.1) in
     let at : (Name m x ∷ Open ∷ j) ++ (r ++ Close ∷ []) ≡ Name m x ∷ Open ∷ ((j ++ r) ++ Close ∷ []) =
     ap (λ (z : List Lexeme). Name m x ∷ Open ∷ z) (sym (append_assoc j r (Close ∷ []))) in
-    moved g (Has S (Symbol (Call m x (snoc l b.0)) 0 Done)) y _ b.2 (whole_after g S s (Name m x ∷ Open ∷ j) r Close (Symbol (Call m x (snoc l b.0)) 0 Done) all f sp e a (record {
+    moved g (Has S (Symbol (Call m x (snoc l b.0)) 0 Done)) y _ b.2
+    (whole_after g S s (Name m x ∷ Open ∷ j) r Close (Symbol (Call m x (snoc l b.0)) 0 Done) all f sp e a (record {
       known =
           subst (λ (z : List Lexeme). Known 11 (Symbol (Call m x (snoc l b.0)) 0 Done) z) (sym at)
           (from_symbol (Call m x (snoc l b.0)) _ (prim-apply d) (atom-holds d));
@@ -314,7 +320,8 @@ close_moves g Comma (Args m x l) S q y all s k r f n sp (args-text {k = j} begun
     (subst (λ (z : List Lexeme). Spells g (Inside (Args m x (snoc l b.0)) ∷ S) (s ++ z)) (sym at) (inside sp (args-text (list-goes_on d) fit))))
 close_moves g CloseBrace (InContext x) S q y all s k r f n sp (context-text {n = i} {m = j} fit) e a known low good u =
     let b = bind_some (as_sort Formula q) (λ t. Some (Has S (Is Formula (Context x t) Done))) y u in
-    moved g (Has S (Is Formula (Context x b.0) Done)) y _ b.2 (whole_after g S s (Name i x ∷ OpenBrace j ∷ []) r CloseBrace (Is Formula (Context x b.0) Done) all f sp e a (record {
+    moved g (Has S (Is Formula (Context x b.0) Done)) y _ b.2
+    (whole_after g S s (Name i x ∷ OpenBrace j ∷ []) r CloseBrace (Is Formula (Context x b.0) Done) all f sp e a (record {
       known = from_atom (Context x b.0) Done _ (atom-context (known formula b.0 low b.1));
       tail = tt;
       good = (Formula, Context x b.0, refl, fit);
@@ -337,14 +344,16 @@ close_moves g CloseBrace InBrace S q y all s k r f n sp (brace-text {n = i} fit)
     }))
 close_moves g Semi (Assigns x false) S q y all s k r f n sp (assigns-text {n = i} fit) e a known low good u =
     let b = bind_some (as_sort Term q) (λ t. Some (Has S (Is Program (Assign x false t) Done))) y u in
-    moved g (Has S (Is Program (Assign x false b.0) Done)) y _ b.2 (whole_after g S s (Name i x ∷ Gets ∷ []) r Semi (Is Program (Assign x false b.0) Done) all f sp e a (record {
+    moved g (Has S (Is Program (Assign x false b.0) Done)) y _ b.2
+    (whole_after g S s (Name i x ∷ Gets ∷ []) r Semi (Is Program (Assign x false b.0) Done) all f sp e a (record {
       known = from_stmt (Assign x false b.0) Done _ (stmt-assign (known term b.0 (omega arith) b.1));
       tail = tt;
       good = (Program, Assign x false b.0, refl, fit);
     }))
 close_moves g Semi (Assigns x true) S q y all s k r f n sp (assigns_prime-text {n = i} fit) e a known low good u =
     let b = bind_some (as_sort Term q) (λ t. Some (Has S (Is Program (Assign x true t) Done))) y u in
-    moved g (Has S (Is Program (Assign x true b.0) Done)) y _ b.2 (whole_after g S s (Name i x ∷ Prime ∷ Gets ∷ []) r Semi (Is Program (Assign x true b.0) Done) all f sp e a (record {
+    moved g (Has S (Is Program (Assign x true b.0) Done)) y _ b.2
+    (whole_after g S s (Name i x ∷ Prime ∷ Gets ∷ []) r Semi (Is Program (Assign x true b.0) Done) all f sp e a (record {
       known = from_stmt (Assign x true b.0) Done _ (stmt-assign_prime (known term b.0 (omega arith) b.1));
       tail = tt;
       good = (Program, Assign x true b.0, refl, fit);
@@ -361,7 +370,8 @@ close_moves g CloseBrace (Domain i l) S q y all s k r f n sp (domain-text {s = j
     let d : ReadsBrace (OpenBrace i ∷ (j ++ Op And ∷ (r ++ CloseBrace ∷ []))) (System i l b.0) = brace-domain items (known formula b.0 low b.1) in
     let d' : ReadsBrace ((OpenBrace i ∷ (j ++ Op And ∷ [])) ++ (r ++ CloseBrace ∷ [])) (System i l b.0) =
     subst (λ (z : List Lexeme). ReadsBrace (OpenBrace i ∷ z) (System i l b.0)) (sym (append_assoc j (Op And ∷ []) (r ++ CloseBrace ∷ []))) d in
-    moved g (Has S (Is Program (System i l b.0) Braced)) y _ b.2 (whole_after g S s (OpenBrace i ∷ (j ++ Op And ∷ [])) r CloseBrace (Is Program (System i l b.0) Braced) all f sp e a (record {
+    moved g (Has S (Is Program (System i l b.0) Braced)) y _ b.2
+    (whole_after g S s (OpenBrace i ∷ (j ++ Op And ∷ [])) r CloseBrace (Is Program (System i l b.0) Braced) all f sp e a (record {
       known = from_brace (System i l b.0) _ d';
       tail = (System i l b.0, d', refl);
       good = (Program, System i l b.0, refl, fit);
@@ -369,7 +379,8 @@ close_moves g CloseBrace (Domain i l) S q y all s k r f n sp (domain-text {s = j
 close_moves g Close (Notes p l) S q y all s k r f n sp (notes-text {k = j} note begun fit) e a known low good u =
     let b = bind_some (as_sort Formula q) (λ t. Some (Has S (Is Program (Noted p (snoc l t)) Annotated))) y u in
     let d = end_invariants note begun r b.0 (known formula b.0 low b.1) in
-    moved g (Has S (Is Program (Noted p (snoc l b.0)) Annotated)) y _ b.2 (whole_after g S s _ r Close (Is Program (Noted p (snoc l b.0)) Annotated) all f sp e a (record {
+    moved g (Has S (Is Program (Noted p (snoc l b.0)) Annotated)) y _ b.2
+    (whole_after g S s _ r Close (Is Program (Noted p (snoc l b.0)) Annotated) all f sp e a (record {
       known = from_stmt (Noted p (snoc l b.0)) Annotated _ (end_stmt d);
       tail = (Noted p (snoc l b.0), d, refl);
       good = (Program, Noted p (snoc l b.0), refl, fit);
@@ -588,8 +599,10 @@ primed_known p s i f g = known_from (primed p) (Open ∷ (s ++ Close ∷ Prime �
     [ inl v ↦ subst (λ (x : Phrase). Reads prim (Open ∷ (s ++ Close ∷ Prime ∷ [])) x) v.1 (prim-diff (f w.0 w.1)) | inr v ↦ absurd (term_not_formula v.0) ])
     (λ t e.
     let w = primed_from Formula p t i e in
-    elim w.2
-    [ inr v ↦ subst (λ (x : Phrase). Reads atom (Open ∷ (s ++ Close ∷ Prime ∷ [])) x) v.1 (atom-diff (g w.0 w.1)) | inl v ↦ absurd (term_not_formula (sym v.0)) ])
+    elim w.2 [
+      | inl v ↦ absurd (term_not_formula (sym v.0))
+      | inr v ↦ subst (λ (x : Phrase). Reads atom (Open ∷ (s ++ Close ∷ Prime ∷ [])) x) v.1 (atom-diff (g w.0 w.1))
+    ])
     (λ t e. let w = primed_from Program p t i e in let z = not_program p i in absurd (let v = w.1 in cc))
 
 prime_moves : (g : Sort) (S : List Part) (p : Piece) (y : State) (all : List Lexeme) (h : HasRead g S p all) (l : Tail) → Tailed l p h.back

@@ -274,7 +274,11 @@ module _ (g : Sort) where
   filler : (S : List Part) (p : Sort) → place g S ≡ p → Filler S
   filler S Term e = record { tokens = Number nought ∷ []; plain = (refl, tt); fills = term_fills g S _ _ (rw e refl) (prim-number {n = nought}) }
   filler S Formula e = record { tokens = Number nought ∷ []; plain = (refl, tt); fills = term_fills g S _ _ (rw e refl) (prim-number {n = nought}) }
-  filler S Program e = record { tokens = Query ∷ True ∷ Semi ∷ []; plain = (refl, (refl, (refl, tt))); fills = stmt_fills g S _ _ (rw e refl) (stmt-test true_reads) }
+  filler S Program e = record {
+    tokens = Query ∷ True ∷ Semi ∷ [];
+    plain = (refl, (refl, (refl, tt)));
+    fills = stmt_fills g S _ _ (rw e refl) (stmt-test true_reads);
+  }
 
   wants_live : (S : List Part) (all : List Lexeme) → Spells g S all → Opening (Reads (top g)) all
   wants_live S all a = let w = filler S (place g S) refl in opening_more (Reads (top g)) all w.tokens w.plain (close_text a w.tokens w.fills)

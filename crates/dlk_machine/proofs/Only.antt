@@ -180,13 +180,15 @@ met g S s o n lf a x left_sort sort left_level own_level loose fit =
     let left_is : as_sort (operand_sort o) x.value ≡ Some a = subst (λ (k : Sort). as_sort k x.value ≡ Some a) left_sort x.tree in
     let fit' : fits g (result_sort o) S ≡ true = subst (λ (k : Sort). fits g k S ≡ true) (sym sort) fit in
     let reduced : reduce (level o) (x.parts ++ S) x.last ≡ Some (S, x.value) =
-    reduce-tight (level o) x.parts S x.last x.value (Tight-less _ _ x.parts left_level x.tight) x.folds ∙ reduce-loose (level o) S x.value (Loose-more _ _ S own_level loose) in
+    reduce-tight (level o) x.parts S x.last x.value (Tight-less _ _ x.parts left_level x.tight) x.folds
+    ∙ reduce-loose (level o) S x.value (Loose-more _ _ S own_level loose) in
     rw (reduced, left_is, fit') refl
 
 -- the right operand is read, with the text before it
 both : (g : Sort) (S : List Part) (q r : List Lexeme) (o : Between) (n rf : Nonterminal) (a b : Phrase) → form_sort rf ≡ operand_sort o
     → result_sort o ≡ form_sort n → tightness n < right_level o → tightness n ≤ tightness rf → program_sort (form_sort rf) ≡ program_sort (form_sort n)
-    → ((rest : List Lexeme) → arrive g (Wants S) (q ++ (r ++ rest)) ≡ arrive g (Wants (Left o a ∷ S)) (r ++ rest)) → Ends g (Left o a ∷ S) r rf b → Ends g S (q ++ r) n (binary o a b)
+    → ((rest : List Lexeme) → arrive g (Wants S) (q ++ (r ++ rest)) ≡ arrive g (Wants (Left o a ∷ S)) (r ++ rest))
+    → Ends g (Left o a ∷ S) r rf b → Ends g S (q ++ r) n (binary o a b)
 both g S q r o n rf a b right_sort sort own_tight right_tight kind runs y =
     let e : Part = Left o a in
     let right_is : as_sort (operand_sort o) y.value ≡ Some b = subst (λ (k : Sort). as_sort k y.value ≡ Some b) right_sort y.tree in
@@ -257,12 +259,14 @@ binary_ends g S s r o n lf rf a b c loose fit x y =
     let m = met g S s (By o) n lf a x c.left_sort c.sort c.left_level c.own_level loose fit in
     let st = infix_step g (x.parts ++ S) (Left (By o) a ∷ S) x.last o (program_sort (form_sort lf)) x.kind (ap program_sort (sym c.left_sort)) m in
     let e = both g S (s ++ Op o ∷ []) r (By o) n rf a b c.right_sort c.sort c.own_tight c.right_tight c.kind
-    (λ rest. ap (arrive g (Wants S)) (append_assoc s (Op o ∷ []) (r ++ rest)) ∙ x.runs (Op o ∷ (r ++ rest)) ∙ go g (Has (x.parts ++ S) x.last) (Op o) (r ++ rest) (Wants (Left (By o) a ∷ S)) st) y in
+    (λ rest. ap (arrive g (Wants S)) (append_assoc s (Op o ∷ []) (r ++ rest)) ∙ x.runs (Op o ∷ (r ++ rest))
+    ∙ go g (Has (x.parts ++ S) x.last) (Op o) (r ++ rest) (Wants (Left (By o) a ∷ S)) st) y in
     subst (λ (l : List Lexeme). Ends g S l n (Binary o a b)) (append_assoc s (Op o ∷ []) r) e
 
 -- a prefix with its operand
 before : (g : Sort) (S : List Part) (k s : List Lexeme) (o : Prefix) (n : Nonterminal) (a : Phrase) → prefix_sort o ≡ form_sort n → tightness n < prefix_level o
-    → ((rest : List Lexeme) → arrive g (Wants S) (k ++ rest) ≡ arrive g (Wants (Before o ∷ S)) rest) → Ends g (Before o ∷ S) s n a → Ends g S (k ++ s) n (unary o a)
+    → ((rest : List Lexeme) → arrive g (Wants S) (k ++ rest) ≡ arrive g (Wants (Before o ∷ S)) rest)
+    → Ends g (Before o ∷ S) s n a → Ends g S (k ++ s) n (unary o a)
 before g S k s o n a e tight runs x =
     let operand_is : as_sort (prefix_sort o) x.value ≡ Some a = subst (λ (k : Sort). as_sort k x.value ≡ Some a) (sym e) x.tree in
     let joined : join (Before o) x.value ≡ Some (Is (prefix_sort o) (unary o a) Done) = rw operand_is refl in
@@ -435,14 +439,16 @@ diffed : (g : Sort) (S : List Part) (s : List Lexeme) (n m : Nonterminal) (a b :
 diffed g S s n m a b e k f x h =
     let np = not_program (form_sort n) x.value a k x.tree in
     single g S (Open ∷ (s ++ Close ∷ Prime ∷ [])) m b (primed (with_tail Grouped x.value))
-    (λ rest. go g (Wants S) Open ((s ++ Close ∷ Prime ∷ []) ++ rest) _ (operand_wanted g (form_sort n) S Open k f) ∙ ap (arrive g (Wants (Inside (Round (fits g Formula S)) ∷ S))) (append_assoc s (Close ∷ Prime ∷ []) rest)
+    (λ rest. go g (Wants S) Open ((s ++ Close ∷ Prime ∷ []) ++ rest) _ (operand_wanted g (form_sort n) S Open k f)
+    ∙ ap (arrive g (Wants (Inside (Round (fits g Formula S)) ∷ S))) (append_assoc s (Close ∷ Prime ∷ []) rest)
     ∙ close_round g S _ s n a x k (Prime ∷ rest) ∙ go g (Has S (with_tail Grouped x.value)) Prime rest _ (prime_step g S x.value np))
     h
     (primed_kind x.value Grouped np ∙ sym (sym (ap program_sort e) ∙ k))
 
 -- from a list's first token to behind its last
-list_held : (g : Sort) (h : Phrases → Holder) (f : Nonterminal) (S : List Part) (s : List Lexeme) (l : Phrases) (k : Lexeme) (y : State) (x : EndsList g h f S s l)
-    → ((T : List Part) (p : Piece) → is_program p ≡ false → step g (Has T p) k ≡ closing k T p) → close k (h x.front) S x.value ≡ Some y
+list_held : (g : Sort) (h : Phrases → Holder) (f : Nonterminal) (S : List Part) (s : List Lexeme) (l : Phrases) (k : Lexeme) (y : State)
+    (x : EndsList g h f S s l) → ((T : List Part) (p : Piece) → is_program p ≡ false → step g (Has T p) k ≡ closing k T p)
+    → close k (h x.front) S x.value ≡ Some y
     → (rest : List Lexeme) → arrive g (Wants (Inside (h none) ∷ S)) (s ++ (k ∷ rest)) ≡ arrive g y rest
 list_held g h f S s l k y x st c rest =
     x.runs (k ∷ rest)
@@ -457,8 +463,10 @@ called g S m x s l n t h k f tree y =
     let closed : close Close (Args m x y.front) S y.value ≡ Some (Has S (Symbol (Call m x l) 0 Done)) =
     rw y.is (ap (λ (z : Phrases). Some (Has S (Symbol (Call m x z) 0 Done))) y.list) in
     single g S (Name m x ∷ Open ∷ (s ++ Close ∷ [])) n t (Symbol (Call m x l) 0 Done)
-    (λ rest. go g (Wants S) (Name m x) (Open ∷ ((s ++ Close ∷ []) ++ rest)) (Has S (Is Term (Variable x false) (Bare m x))) (operand_wanted g (form_sort n) S (Name m x) k f)
-    ∙ ap (arrive g (Calls S m x)) (append_assoc s (Close ∷ []) rest) ∙ call_run g S m x s (Close ∷ rest) h ∙ list_held g (Args m x) term S s l Close (Has S (Symbol (Call m x l) 0 Done)) y (λ T p e. other_step g T p Close e) closed rest)
+    (λ rest. go g (Wants S) (Name m x) (Open ∷ ((s ++ Close ∷ []) ++ rest)) (Has S (Is Term (Variable x false) (Bare m x)))
+    (operand_wanted g (form_sort n) S (Name m x) k f)
+    ∙ ap (arrive g (Calls S m x)) (append_assoc s (Close ∷ []) rest) ∙ call_run g S m x s (Close ∷ rest) h
+    ∙ list_held g (Args m x) term S s l Close (Has S (Symbol (Call m x l) 0 Done)) y (λ T p e. other_step g T p Close e) closed rest)
     tree (sym k)
 
 -- a symbol whose tokens are a few
@@ -468,7 +476,8 @@ symbol : (g : Sort) (S : List Part) (m : ℕ) (x : Word) (s : List Lexeme) (h : 
     → Ends g S (Name m x ∷ s) n t
 symbol g S m x s h n t k f tree runs =
     single g S (Name m x ∷ s) n t (Symbol h 0 Done)
-    (λ rest. go g (Wants S) (Name m x) (s ++ rest) (Has S (Is Term (Variable x false) (Bare m x))) (operand_wanted g (form_sort n) S (Name m x) k f) ∙ runs rest)
+    (λ rest. go g (Wants S) (Name m x) (s ++ rest) (Has S (Is Term (Variable x false) (Bare m x)))
+    (operand_wanted g (form_sort n) S (Name m x) k f) ∙ runs rest)
     tree (sym k)
 
 list_first : (g : Sort) (h : Phrases → Holder) (f : Nonterminal) (S : List Part) (s : List Lexeme) (a : Phrase) → program_sort (form_sort f) ≡ false
@@ -518,7 +527,8 @@ notes_lists g b S = record { operand = refl; fit = λ l. refl; comma = λ l p. r
 -- a statement that a holder's last token ends
 statement : (g : Sort) (S : List Part) (q s : List Lexeme) (h : Holder) (n : Nonterminal) (a t : Phrase) → fits g Program S ≡ true
     → ((rest : List Lexeme) → arrive g (Wants S) (q ++ (s ++ rest)) ≡ arrive g (Wants (Inside h ∷ S)) (s ++ rest)) → (x : Ends g (Inside h ∷ S) s n a)
-    → ((rest : List Lexeme) → arrive g (Wants (Inside h ∷ S)) (s ++ (Semi ∷ rest)) ≡ arrive g (Has S (Is Program t Done)) rest) → Ends g S (q ++ (s ++ Semi ∷ [])) stmt t
+    → ((rest : List Lexeme) → arrive g (Wants (Inside h ∷ S)) (s ++ (Semi ∷ rest)) ≡ arrive g (Has S (Is Program t Done)) rest)
+    → Ends g S (q ++ (s ++ Semi ∷ [])) stmt t
 statement g S q s h n a t f begins x ends =
     single g S (q ++ (s ++ Semi ∷ [])) stmt t (Is Program t Done)
     (λ rest. ap (arrive g (Wants S)) (append_assoc q (s ++ Semi ∷ []) rest ∙ ap (λ (z : List Lexeme). q ++ z) (append_assoc s (Semi ∷ []) rest))
@@ -532,7 +542,8 @@ modal : (g : Sort) (S : List Part) (m : Modality) (o c : Lexeme) (s r : List Lex
     → Ends g (Inside (In m) ∷ S) s prog p → Ends g (Before (Modal m p) ∷ S) r unf a → Ends g S (o ∷ (s ++ c ∷ r)) unf (unary (Modal m p) a)
 modal g S m o c s r p a begins st shut x y =
     let z = before g S (o ∷ (s ++ c ∷ [])) r (Modal m p) unf a refl (omega arith)
-    (λ rest. go g (Wants S) o ((s ++ c ∷ []) ++ rest) (Wants (Inside (In m) ∷ S)) begins ∙ ap (arrive g (Wants (Inside (In m) ∷ S))) (append_assoc s (c ∷ []) rest)
+    (λ rest. go g (Wants S) o ((s ++ c ∷ []) ++ rest) (Wants (Inside (In m) ∷ S)) begins
+    ∙ ap (arrive g (Wants (Inside (In m) ∷ S))) (append_assoc s (c ∷ []) rest)
     ∙ held g S (In m) s prog p c (Wants (Before (Modal m p) ∷ S)) x (st (x.parts ++ Inside (In m) ∷ S) x.last x.kind) (shut x.value ∙ rw x.tree refl) rest) y in
     subst (λ (l : List Lexeme). Ends g S (o ∷ l) unf (unary (Modal m p) a)) (append_assoc s (c ∷ []) r) z
 
@@ -542,10 +553,12 @@ context : (g : Sort) (S : List Part) (n m : ℕ) (x : Word) (s : List Lexeme) (a
 context g S n m x s a f y =
     let opened : step g (Has S (Is Term (Variable x false) (Bare n x))) (OpenBrace m) ≡ Some (Wants (Inside (InContext x) ∷ S)) = rw f refl in
     single g S (Name n x ∷ OpenBrace m ∷ (s ++ CloseBrace ∷ [])) atom (Context x a) (Is Formula (Context x a) Done)
-    (λ rest. go g (Wants S) (Name n x) (OpenBrace m ∷ ((s ++ CloseBrace ∷ []) ++ rest)) (Has S (Is Term (Variable x false) (Bare n x))) (operand_wanted g Formula S (Name n x) refl f)
+    (λ rest. go g (Wants S) (Name n x) (OpenBrace m ∷ ((s ++ CloseBrace ∷ []) ++ rest)) (Has S (Is Term (Variable x false) (Bare n x)))
+    (operand_wanted g Formula S (Name n x) refl f)
     ∙ go g (Has S (Is Term (Variable x false) (Bare n x))) (OpenBrace m) ((s ++ CloseBrace ∷ []) ++ rest) (Wants (Inside (InContext x) ∷ S)) opened
     ∙ ap (arrive g (Wants (Inside (InContext x) ∷ S))) (append_assoc s (CloseBrace ∷ []) rest)
-    ∙ held g S (InContext x) s formula a CloseBrace (Has S (Is Formula (Context x a) Done)) y (other_step g (y.parts ++ Inside (InContext x) ∷ S) y.last CloseBrace y.kind) (rw y.tree refl) rest)
+    ∙ held g S (InContext x) s formula a CloseBrace (Has S (Is Formula (Context x a) Done)) y
+    (other_step g (y.parts ++ Inside (InContext x) ∷ S) y.last CloseBrace y.kind) (rw y.tree refl) rest)
     refl refl
 
 -- the tokens that end an item

@@ -52,9 +52,12 @@ pub fn no_stop()
 /// argument dots is wanted, it is one.
 pub fn tree_texts()
     ensures one { (form : TheForm) (d : TheDots) (bytes : List ℕ) (t u : Tree) → TreeText form d bytes t → TreeText form d bytes u → t ≡ u }
-    ensures no_fault { (form : TheForm) (d : TheDots) (bytes : List ℕ) (t : Tree) (why : TextFault) → TreeText form d bytes t → TreeTextFault form d bytes why → ⊥ }
-    ensures one_fault { (form : TheForm) (d : TheDots) (bytes : List ℕ) (why other : TextFault) → TreeTextFault form d bytes why → TreeTextFault form d bytes other → why ≡ other }
-    ensures some { (form : TheForm) (d : TheDots) (bytes : List ℕ) → ((t : Tree) × TreeText form d bytes t) ⊎ ((why : TextFault) × TreeTextFault form d bytes why) }
+    ensures no_fault { (form : TheForm) (d : TheDots) (bytes : List ℕ) (t : Tree) (why : TextFault)
+        → TreeText form d bytes t → TreeTextFault form d bytes why → ⊥ }
+    ensures one_fault { (form : TheForm) (d : TheDots) (bytes : List ℕ) (why other : TextFault)
+        → TreeTextFault form d bytes why → TreeTextFault form d bytes other → why ≡ other }
+    ensures some { (form : TheForm) (d : TheDots) (bytes : List ℕ)
+        → ((t : Tree) × TreeText form d bytes t) ⊎ ((why : TextFault) × TreeTextFault form d bytes why) }
     ensures well_made { (form : TheForm) (d : TheDots) (bytes : List ℕ) (t : Tree) → TreeText form d bytes t → WellMade t }
     ensures formulas { (bytes : List ℕ) (t : Tree) → TreeText Formula Refused bytes t → IsFormula t }
 {}
