@@ -11,9 +11,9 @@ use Rattle.dlk_tree.specs.declared.op.Sort.TheVariants.{Term, Formula, Program}
 use Rattle.dlk_machine.specs.Levels.{form_sort, top}
 use Rattle.dlk_machine.specs.Machine.{◌>>=◌, when, Between, By, Next, Quantifier, ForAll, ForSome, InBox, InDia, Bang', Bound, Modal, Holder, Round, Args, InContext, In, InBrace, Assigns, Tests, Evolves, Domain, Notes, Part, Left, Before, Inside, level, operand_sort, result_sort, Tail, Done, Bare, Grouped, Braced, Starred, Annotated, Piece, Is, Symbol, State, Wants, Has, Calls, Bars, BarsName, Binds, Starts, StartsPrime, StartsGets, StartsStar, Opens, OpensName, OpensPrime, WantsItem, ItemName, ItemPrime, ItemBar, ItemBarName, ItemEnds, Invariants, primes, formula_primes, as_sort, tail_of, with_tail, program_sort, is_program, reduce, round_sort, place, allows, fits, start_operand, start_statement, start, after_operand, items_step, close, close_top, closing, and_top, infix_after, name_after, primed, prime_after, star_after, invariant_after, semi_after, next_after, after_program, after_other, call_step, bars_step, bars_name_step, bind_step, statement_step, statement_prime_step, statement_gets_step, statement_star_step, item_name_step, item_prime_step, items_begin, item_bar_step, item_bar_name_step, opens_step, opens_name_step, opens_prime_step, invariants_step, step, whole, ended}
 use Rattle.dlk_machine.proofs.Opening.{bind_some, when_is}
-use Rattle.dlk_machine.proofs.Climb.{formula_level, program_level, need, need_below, stands}
+use Rattle.dlk_machine.proofs.Climb.{left_form, formula_level, program_level, need, need_below, stands}
 use Rattle.dlk_machine.proofs.Only.{place_kind, top_sort}
-use Rattle.dlk_machine.proofs.Spelled.{left_form, mark, PrefixText, table, list_joined, ItemsBefore, items_joined, Noting, note_brace, end_note, end_stmt, end_semi, end_invariants, HolderText, Spells, Known, tree_of, known_tree, Good, Reduced, left_of_top, chosen, some_eq, reduced, loose_nine, loose_top, loose_formula, Tailed, HasRead, Midway, quantifier_token, After, minus-text, bang-text, forall-text, exists-text, boxed-text, dia-text, list-begins, list-goes_on, items-begin, items-go_on, noting, round-text, args-text, context-text, box-text, in_dia-text, brace-text, assigns-text, assigns_prime-text, tests-text, evolves-text, domain-text, notes-text, nothing, left, before, inside}
+use Rattle.dlk_machine.proofs.Spelled.{mark, PrefixText, table, list_joined, ItemsBefore, items_joined, Noting, note_brace, end_note, end_stmt, end_semi, end_invariants, HolderText, Spells, Known, tree_of, known_tree, Good, Reduced, left_of_top, chosen, some_eq, reduced, loose_nine, loose_top, loose_formula, Tailed, HasRead, Midway, quantifier_token, After, minus-text, bang-text, forall-text, exists-text, boxed-text, dia-text, list-begins, list-goes_on, items-begin, items-go_on, noting, round-text, args-text, context-text, box-text, in_dia-text, brace-text, assigns-text, assigns_prime-text, tests-text, evolves-text, domain-text, notes-text, nothing, left, before, inside}
 
 -- the new state, by the state that the step gives
 moved : (g : Sort) (x y : State) (all : List Lexeme) → Some x ≡ Some y → After g x all → After g y all

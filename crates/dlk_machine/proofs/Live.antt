@@ -12,9 +12,9 @@ use Rattle.dlk_machine.specs.Levels.{form_level, form_sort, top}
 use Rattle.dlk_machine.specs.Machine.{By, Next, Quantifier, ForAll, ForSome, InBox, InDia, Minus, Bang', Bound, Modal, Holder, Round, Args, InContext, In, InBrace, Assigns, Tests, Evolves, Domain, Notes, Part, Left, Before, Inside, binary, unary, Piece, State, Wants, Has, Calls, Bars, BarsName, Binds, Starts, StartsPrime, StartsGets, StartsStar, Opens, OpensName, OpensPrime, WantsItem, ItemName, ItemPrime, ItemBar, ItemBarName, ItemEnds, Invariants, as_sort, round_sort, held_sort, place, allows, fits, step}
 use Rattle.dlk_machine.specs.Parse.{reader}
 use Rattle.dlk_machine.proofs.Opening.{some_is, bind_some, Plain, plain_append, Opening, opening_more, states}
-use Rattle.dlk_machine.proofs.Climb.{formula_level, level_above, need, need_below, stands}
+use Rattle.dlk_machine.proofs.Climb.{own_form, right_form, formula_level, level_above, need, need_below, stands}
 use Rattle.dlk_machine.proofs.Only.{Loose, Loose-more}
-use Rattle.dlk_machine.proofs.Spelled.{own_form, right_form, prefix_form, mark, binary_reads, unary_reads, prefix_table, table, list-begins, list_joined, items_joined, note_brace, end_note, end_stmt, end_invariants, HolderText, round-text, args-text, context-text, box-text, in_dia-text, brace-text, assigns-text, assigns_prime-text, tests-text, evolves-text, domain-text, notes-text, Spells, nothing, left, before, inside, Known, loose_top, loose_formula, Midway, quantifier_token, After}
+use Rattle.dlk_machine.proofs.Spelled.{prefix_form, mark, binary_reads, unary_reads, prefix_table, table, list-begins, list_joined, items_joined, note_brace, end_note, end_stmt, end_invariants, HolderText, round-text, args-text, context-text, box-text, in_dia-text, brace-text, assigns-text, assigns_prime-text, tests-text, evolves-text, domain-text, notes-text, Spells, nothing, left, before, inside, Known, loose_top, loose_formula, Midway, quantifier_token, After}
 use Rattle.dlk_machine.proofs.Found.{moves}
 
 -- a text that can stand under the open parts

@@ -12,6 +12,7 @@ use Rattle.dlk_tree.specs.declared.op.Sort.TheVariants.{Term, Formula, Program}
 use Rattle.dlk_machine.specs.Levels.{form_level, form_sort, top}
 use Rattle.dlk_machine.specs.Machine.{◌>>=◌, when, Between, By, Next, ForAll, ForSome, Modality, InBox, InDia, Prefix, Minus, Bang', Bound, Modal, Holder, Round, Args, InContext, In, InBrace, Assigns, Tests, Evolves, Domain, Notes, Part, Left, Before, Inside, level, right_level, operand_sort, result_sort, binary, prefix_level, prefix_sort, unary, Tail, Done, Bare, Grouped, Braced, Starred, Annotated, Piece, Is, Symbol, State, Wants, Has, Calls, Binds, Starts, StartsGets, Opens, WantsItem, primes, formula_primes, as_sort, with_tail, program_sort, is_program, wanted, join, reduce, round_sort, place, allows, fits, start_operand, start_statement, after_operand, items_step, close, closing, and_top, infix_after, primed, next_after, after_program, after_other, call_step, statement_gets_step, item_name_step, opens_name_step, step, ended}
 use Rattle.dlk_machine.specs.Parse.{reader}
+use Rattle.dlk_machine.proofs.Climb.{own_form, left_form, right_form}
 use Rattle.dlk_machine.proofs.Opening.{some_is, bind_some, when_is, states}
 use Rattle.dlk_machine.proofs.Firsts.{front-query, front-brace, front-const, front-assign, front-assign_prime, is_other, First, first, first_list}
 
@@ -171,6 +172,28 @@ record Fitting (o : Between) (n l r : Nonterminal) : Type 0 where
   own_tight : tightness n < right_level o
   right_tight : tightness n ≤ tightness r
   kind : program_sort (form_sort r) ≡ program_sort (form_sort n)
+
+fitting : (o : Infix) → Fitting (By o) (own_form (By o)) (left_form (By o)) (right_form (By o))
+fitting Equiv = record {
+  left_sort = refl;
+  right_sort = refl;
+  sort = refl;
+  left_level = omega arith;
+  own_level = omega arith;
+  own_tight = omega arith;
+  right_tight = omega arith;
+  kind = refl;
+}
+fitting _ = record {
+  left_sort = refl;
+  right_sort = refl;
+  sort = refl;
+  left_level = omega arith;
+  own_level = omega arith;
+  own_tight = omega arith;
+  right_tight = omega arith;
+  kind = refl;
+}
 
 -- the operator is met: its left operand is closed
 met : (g : Sort) (S : List Part) (s : List Lexeme) (o : Between) (n lf : Nonterminal) (a : Phrase) (x : Ends g S s lf a) → form_sort lf ≡ operand_sort o
@@ -672,66 +695,12 @@ top_sort Formula = refl
 top_sort Program = refl
 
 compare_fits : {o : Infix} → Compares o → Fitting (By o) atom term term
-compare_fits cmp-equal = record {
-  left_sort = refl;
-  right_sort = refl;
-  sort = refl;
-  left_level = omega arith;
-  own_level = omega arith;
-  own_tight = omega arith;
-  right_tight = omega arith;
-  kind = refl;
-}
-compare_fits cmp-not_equal = record {
-  left_sort = refl;
-  right_sort = refl;
-  sort = refl;
-  left_level = omega arith;
-  own_level = omega arith;
-  own_tight = omega arith;
-  right_tight = omega arith;
-  kind = refl;
-}
-compare_fits cmp-at_least = record {
-  left_sort = refl;
-  right_sort = refl;
-  sort = refl;
-  left_level = omega arith;
-  own_level = omega arith;
-  own_tight = omega arith;
-  right_tight = omega arith;
-  kind = refl;
-}
-compare_fits cmp-greater = record {
-  left_sort = refl;
-  right_sort = refl;
-  sort = refl;
-  left_level = omega arith;
-  own_level = omega arith;
-  own_tight = omega arith;
-  right_tight = omega arith;
-  kind = refl;
-}
-compare_fits cmp-at_most = record {
-  left_sort = refl;
-  right_sort = refl;
-  sort = refl;
-  left_level = omega arith;
-  own_level = omega arith;
-  own_tight = omega arith;
-  right_tight = omega arith;
-  kind = refl;
-}
-compare_fits cmp-less = record {
-  left_sort = refl;
-  right_sort = refl;
-  sort = refl;
-  left_level = omega arith;
-  own_level = omega arith;
-  own_tight = omega arith;
-  right_tight = omega arith;
-  kind = refl;
-}
+compare_fits cmp-equal = fitting Equal
+compare_fits cmp-not_equal = fitting NotEqual
+compare_fits cmp-at_least = fitting AtLeast
+compare_fits cmp-greater = fitting Greater
+compare_fits cmp-at_most = fitting AtMost
+compare_fits cmp-less = fitting Less
 
 compare_right : {o : Infix} → Compares o → right_level (By o) ≡ 7
 compare_right cmp-equal = refl
@@ -758,63 +727,19 @@ mutual
       → fits g (form_sort n) S ≡ true → Ends g S s n t
   only (formula-imp d) g S l f = up g S _ imp formula _ refl (omega arith) (only d g S (Loose-more _ _ S (omega arith) l) f)
   only (formula-equiv d e) g S l f =
-      binary_ends g S _ _ Equiv formula imp formula _ _
-      (record {
-        left_sort = refl;
-        right_sort = refl;
-        sort = refl;
-        left_level = omega arith;
-        own_level = omega arith;
-        own_tight = omega arith;
-        right_tight = omega arith;
-        kind = refl;
-      })
-      l f
+      binary_ends g S _ _ Equiv formula imp formula _ _ (fitting Equiv) l f
       (only d g S (Loose-more _ _ S (omega arith) l) f) (only e g _ (omega arith) refl)
   only (imp-disj d) g S l f = up g S _ disj imp _ refl (omega arith) (only d g S (Loose-more _ _ S (omega arith) l) f)
   only (imp-imply d e) g S l f =
-      binary_ends g S _ _ Imply imp disj imp _ _
-      (record {
-        left_sort = refl;
-        right_sort = refl;
-        sort = refl;
-        left_level = omega arith;
-        own_level = omega arith;
-        own_tight = omega arith;
-        right_tight = omega arith;
-        kind = refl;
-      })
-      l f
+      binary_ends g S _ _ Imply imp disj imp _ _ (fitting Imply) l f
       (only d g S (Loose-more _ _ S (omega arith) l) f) (only e g _ (omega arith) refl)
   only (disj-conj d) g S l f = up g S _ conj disj _ refl (omega arith) (only d g S (Loose-more _ _ S (omega arith) l) f)
   only (disj-or d e) g S l f =
-      binary_ends g S _ _ Or disj conj disj _ _
-      (record {
-        left_sort = refl;
-        right_sort = refl;
-        sort = refl;
-        left_level = omega arith;
-        own_level = omega arith;
-        own_tight = omega arith;
-        right_tight = omega arith;
-        kind = refl;
-      })
-      l f
+      binary_ends g S _ _ Or disj conj disj _ _ (fitting Or) l f
       (only d g S (Loose-more _ _ S (omega arith) l) f) (only e g _ (omega arith) refl)
   only (conj-unf d) g S l f = up g S _ unf conj _ refl (omega arith) (only d g S (Loose-more _ _ S (omega arith) l) f)
   only (conj-and d e) g S l f =
-      binary_ends g S _ _ And conj unf conj _ _
-      (record {
-        left_sort = refl;
-        right_sort = refl;
-        sort = refl;
-        left_level = omega arith;
-        own_level = omega arith;
-        own_tight = omega arith;
-        right_tight = omega arith;
-        kind = refl;
-      })
-      l f
+      binary_ends g S _ _ And conj unf conj _ _ (fitting And) l f
       (only d g S (Loose-more _ _ S (omega arith) l) f) (only e g _ (omega arith) refl)
   only (unf-not d) g S l f =
       before g S (Bang ∷ []) _ Bang' unf _ refl (omega arith)
@@ -856,61 +781,17 @@ mutual
       diffed g S s formula atom a (DiffF a) refl refl f x (primed_formula x.value Grouped a x.tree)
   only (term-mul d) g S l f = up g S _ mul term _ refl (omega arith) (only d g S (Loose-more _ _ S (omega arith) l) f)
   only (term-add d e) g S l f =
-      binary_ends g S _ _ Add term term mul _ _
-      (record {
-        left_sort = refl;
-        right_sort = refl;
-        sort = refl;
-        left_level = omega arith;
-        own_level = omega arith;
-        own_tight = omega arith;
-        right_tight = omega arith;
-        kind = refl;
-      })
-      l f
+      binary_ends g S _ _ Add term term mul _ _ (fitting Add) l f
       (only d g S (Loose-more _ _ S (omega arith) l) f) (only e g _ (omega arith) refl)
   only (term-sub d e) g S l f =
-      binary_ends g S _ _ Sub term term mul _ _
-      (record {
-        left_sort = refl;
-        right_sort = refl;
-        sort = refl;
-        left_level = omega arith;
-        own_level = omega arith;
-        own_tight = omega arith;
-        right_tight = omega arith;
-        kind = refl;
-      })
-      l f
+      binary_ends g S _ _ Sub term term mul _ _ (fitting Sub) l f
       (only d g S (Loose-more _ _ S (omega arith) l) f) (only e g _ (omega arith) refl)
   only (mul-neg d) g S l f = up g S _ neg mul _ refl (omega arith) (only d g S (Loose-more _ _ S (omega arith) l) f)
   only (mul-times d e) g S l f =
-      binary_ends g S _ _ Mul mul mul neg _ _
-      (record {
-        left_sort = refl;
-        right_sort = refl;
-        sort = refl;
-        left_level = omega arith;
-        own_level = omega arith;
-        own_tight = omega arith;
-        right_tight = omega arith;
-        kind = refl;
-      })
-      l f
+      binary_ends g S _ _ Mul mul mul neg _ _ (fitting Mul) l f
       (only d g S (Loose-more _ _ S (omega arith) l) f) (only e g _ (omega arith) refl)
   only (mul-over d e) g S l f =
-      binary_ends g S _ _ Div mul mul neg _ _
-      (record {
-        left_sort = refl;
-        right_sort = refl;
-        sort = refl;
-        left_level = omega arith;
-        own_level = omega arith;
-        own_tight = omega arith;
-        right_tight = omega arith;
-        kind = refl;
-      })
-      l f
+      binary_ends g S _ _ Div mul mul neg _ _ (fitting Div) l f
       (only d g S (Loose-more _ _ S (omega arith) l) f) (only e g _ (omega arith) refl)
   only (neg-pow d) g S l f = up g S _ pow neg _ refl (omega arith) (only d g S (Loose-more _ _ S (omega arith) l) f)
   only (neg-minus d) g S l f =
@@ -918,18 +799,7 @@ mutual
       (λ rest. go g (Wants S) (Op Sub) rest (Wants (Before Minus ∷ S)) (operand_wanted g Term S (Op Sub) refl f)) (only d g _ (omega arith) refl)
   only (pow-prim d) g S l f = up g S _ prim pow _ refl (omega arith) (only d g S (Loose-more _ _ S (omega arith) l) f)
   only (pow-power d e) g S l f =
-      binary_ends g S _ _ Pow pow prim neg _ _
-      (record {
-        left_sort = refl;
-        right_sort = refl;
-        sort = refl;
-        left_level = omega arith;
-        own_level = omega arith;
-        own_tight = omega arith;
-        right_tight = omega arith;
-        kind = refl;
-      })
-      l f
+      binary_ends g S _ _ Pow pow prim neg _ _ (fitting Pow) l f
       (only d g S (Loose-more _ _ S (omega arith) l) f) (only e g _ (omega arith) refl)
   only (prim-number {n = k}) g S l f =
       single g S _ prim _ (Is Term (Literal k) Done)
@@ -955,18 +825,7 @@ mutual
       diffed g S s term prim a (Diff a) refl refl f x (primed_term x.value Grouped a x.tree)
   only (prog-seq d) g S l f = up g S _ seq prog _ refl (omega arith) (only d g S (Loose-more _ _ S (omega arith) l) f)
   only (prog-choice d e) g S l f =
-      binary_ends g S _ _ Choice prog seq prog _ _
-      (record {
-        left_sort = refl;
-        right_sort = refl;
-        sort = refl;
-        left_level = omega arith;
-        own_level = omega arith;
-        own_tight = omega arith;
-        right_tight = omega arith;
-        kind = refl;
-      })
-      l f
+      binary_ends g S _ _ Choice prog seq prog _ _ (fitting Choice) l f
       (only d g S (Loose-more _ _ S (omega arith) l) f) (only e g _ (omega arith) refl)
   only (seq-stmt d) g S l f = up g S _ stmt seq _ refl (omega arith) (only d g S (Loose-more _ _ S (omega arith) l) f)
   only (seq-then {s = s} {r = r} {a = a} {b = b} d e) g S l f =

@@ -5,71 +5,14 @@ use Rattle.std.proofs.lemmas.List.{append-nil}
 use Rattle.dlk_grammar.specs.declared.token.Infix.TheVariants.{Equiv, Imply, Or, And, Equal, NotEqual, AtLeast, Greater, AtMost, Less, Add, Sub, Mul, Div, Pow, Choice}
 use Rattle.dlk_grammar.specs.Lexemes.{Word, Lexeme, Name, All, Exist, Invariant, RoundBar, BraceBar, Open, Close, OpenBox, CloseBox, OpenBrace, Bang, Prime, Gets, Query, Semi, Comma, Op}
 use Rattle.dlk_grammar.specs.Phrases.{Phrase, Variable, Box, Dia, Noted, Phrases, none, snoc, Item, Items, no_items, add}
-use Rattle.dlk_grammar.specs.Grammar.{Nonterminal, formula, imp, disj, conj, unf, atom, term, mul, neg, pow, prim, prog, seq, stmt, Reads, formula-equiv, imp-imply, disj-or, conj-and, unf-not, unf-forall, unf-exists, unf-box, unf-dia, atom-compare, term-add, term-sub, mul-times, mul-over, neg-minus, pow-power, prog-choice, seq-then, stmt-group, cmp-equal, cmp-not_equal, cmp-at_least, cmp-greater, cmp-at_most, cmp-less, ReadsList, list-one, list-more, ReadsBrace, ReadsItems, items-one, items-more, ReadsItem, ReadsStar, star-none, ReadsInv, inv-none, inv-some, semi-none, semi-some}
+use Rattle.dlk_grammar.specs.Grammar.{Nonterminal, formula, unf, term, neg, prog, stmt, Reads, formula-equiv, imp-imply, disj-or, conj-and, unf-not, unf-forall, unf-exists, unf-box, unf-dia, atom-compare, term-add, term-sub, mul-times, mul-over, neg-minus, pow-power, prog-choice, seq-then, stmt-group, cmp-equal, cmp-not_equal, cmp-at_least, cmp-greater, cmp-at_most, cmp-less, ReadsList, list-one, list-more, ReadsBrace, ReadsItems, items-one, items-more, ReadsItem, ReadsStar, star-none, ReadsInv, inv-none, inv-some, semi-none, semi-some}
 use Rattle.dlk_tree.specs.declared.op.Sort.{Sort}
 use Rattle.dlk_tree.specs.declared.op.Sort.TheVariants.{Term, Formula, Program}
 use Rattle.dlk_machine.specs.Levels.{form_level, form_sort}
 use Rattle.dlk_machine.specs.Machine.{◌>>=◌, Between, By, Next, Quantifier, ForAll, ForSome, InBox, InDia, Prefix, Minus, Bang', Bound, Modal, Holder, Round, Args, InContext, In, InBrace, Assigns, Tests, Evolves, Domain, Notes, Part, Left, Before, Inside, level, right_level, operand_sort, result_sort, binary, prefix_level, prefix_sort, unary, Tail, Done, Bare, Grouped, Braced, Starred, Annotated, Piece, Is, State, Wants, Has, Calls, Bars, BarsName, Binds, Starts, StartsPrime, StartsGets, StartsStar, Opens, OpensName, OpensPrime, WantsItem, ItemName, ItemPrime, ItemBar, ItemBarName, ItemEnds, Invariants, as_sort, tail_of, is_program, wanted, join, reduce, fits}
 use Rattle.dlk_machine.proofs.Opening.{bind_some}
-use Rattle.dlk_machine.proofs.Climb.{need, stands}
+use Rattle.dlk_machine.proofs.Climb.{own_form, left_form, right_form, need, stands}
 use Rattle.dlk_machine.proofs.Only.{Loose}
-
-abbrev pub own_form : Between → Nonterminal
-own_form (By Equiv) = formula
-own_form (By Imply) = imp
-own_form (By Or) = disj
-own_form (By And) = conj
-own_form (By Equal) = atom
-own_form (By NotEqual) = atom
-own_form (By AtLeast) = atom
-own_form (By Greater) = atom
-own_form (By AtMost) = atom
-own_form (By Less) = atom
-own_form (By Add) = term
-own_form (By Sub) = term
-own_form (By Mul) = mul
-own_form (By Div) = mul
-own_form (By Pow) = pow
-own_form (By Choice) = prog
-own_form Next = seq
-
-abbrev pub left_form : Between → Nonterminal
-left_form (By Equiv) = imp
-left_form (By Imply) = disj
-left_form (By Or) = conj
-left_form (By And) = unf
-left_form (By Equal) = term
-left_form (By NotEqual) = term
-left_form (By AtLeast) = term
-left_form (By Greater) = term
-left_form (By AtMost) = term
-left_form (By Less) = term
-left_form (By Add) = term
-left_form (By Sub) = term
-left_form (By Mul) = mul
-left_form (By Div) = mul
-left_form (By Pow) = prim
-left_form (By Choice) = seq
-left_form Next = stmt
-
-abbrev pub right_form : Between → Nonterminal
-right_form (By Equiv) = formula
-right_form (By Imply) = imp
-right_form (By Or) = disj
-right_form (By And) = conj
-right_form (By Equal) = term
-right_form (By NotEqual) = term
-right_form (By AtLeast) = term
-right_form (By Greater) = term
-right_form (By AtMost) = term
-right_form (By Less) = term
-right_form (By Add) = mul
-right_form (By Sub) = mul
-right_form (By Mul) = neg
-right_form (By Div) = neg
-right_form (By Pow) = neg
-right_form (By Choice) = prog
-right_form Next = seq
 
 abbrev pub prefix_form : Prefix → Nonterminal
 prefix_form Minus = neg
@@ -147,245 +90,59 @@ pub record Table (o : Between) : Type 0 where
   pub left : (need (left_form o) ≤ level o) ⊎ ((need (left_form o) ≤ level o + 1) × (level o ≤ 5)) ⊎ ((need (left_form o) ≤ 11) × (9 ≤ level o))
   pub assoc : (right_level o ≤ level o) ⊎ (6 ≤ level o)
 
+left_need : (o : Between) → (need (left_form o) ≤ level o) ⊎ ((need (left_form o) ≤ level o + 1) × (level o ≤ 5)) ⊎ ((need (left_form o) ≤ 11) × (9 ≤ level o))
+left_need (By Equiv) = inr (inl (omega arith, omega arith))
+left_need (By Imply) = inr (inl (omega arith, omega arith))
+left_need (By Or) = inr (inl (omega arith, omega arith))
+left_need (By And) = inr (inl (omega arith, omega arith))
+left_need (By Choice) = inr (inl (omega arith, omega arith))
+left_need Next = inr (inl (omega arith, omega arith))
+left_need (By Pow) = inr (inr (omega arith, omega arith))
+left_need _ = inl (omega arith)
+
+associates : (o : Between) → (right_level o ≤ level o) ⊎ (6 ≤ level o)
+associates (By Equiv) = inl (omega arith)
+associates (By Imply) = inl (omega arith)
+associates (By Or) = inl (omega arith)
+associates (By And) = inl (omega arith)
+associates (By Pow) = inl (omega arith)
+associates (By Choice) = inl (omega arith)
+associates Next = inl (omega arith)
+associates _ = inr (omega arith)
+
+table_of : (o : Between) → ((need (left_form o) ≤ level o) ⊎ ((need (left_form o) ≤ level o + 1) × (level o ≤ 5)) ⊎ ((need (left_form o) ≤ 11) × (9 ≤ level o)))
+    → (right_level o ≤ level o) ⊎ (6 ≤ level o) → Table o
+table_of (By Equiv) l a = record {
+  left_sort = refl;
+  right_sort = refl;
+  own_sort = refl;
+  own = refl;
+  right_own = refl;
+  right = omega arith;
+  tight = omega arith;
+  above = omega arith;
+  low = omega arith;
+  level_low = omega arith;
+  left = l;
+  assoc = a;
+}
+table_of _ l a = record {
+  left_sort = refl;
+  right_sort = refl;
+  own_sort = refl;
+  own = refl;
+  right_own = refl;
+  right = omega arith;
+  tight = omega arith;
+  above = omega arith;
+  low = omega arith;
+  level_low = omega arith;
+  left = l;
+  assoc = a;
+}
+
 pub table : (o : Between) → Table o
-table (By Equiv) = record {
-  left_sort = refl;
-  right_sort = refl;
-  own_sort = refl;
-  own = refl;
-  right_own = refl;
-  right = omega arith;
-  tight = omega arith;
-  above = omega arith;
-  low = omega arith;
-  level_low = omega arith;
-  left = inr (inl (omega arith, omega arith));
-  assoc = inl (omega arith);
-}
-table (By Imply) = record {
-  left_sort = refl;
-  right_sort = refl;
-  own_sort = refl;
-  own = refl;
-  right_own = refl;
-  right = omega arith;
-  tight = omega arith;
-  above = omega arith;
-  low = omega arith;
-  level_low = omega arith;
-  left = inr (inl (omega arith, omega arith));
-  assoc = inl (omega arith);
-}
-table (By Or) = record {
-  left_sort = refl;
-  right_sort = refl;
-  own_sort = refl;
-  own = refl;
-  right_own = refl;
-  right = omega arith;
-  tight = omega arith;
-  above = omega arith;
-  low = omega arith;
-  level_low = omega arith;
-  left = inr (inl (omega arith, omega arith));
-  assoc = inl (omega arith);
-}
-table (By And) = record {
-  left_sort = refl;
-  right_sort = refl;
-  own_sort = refl;
-  own = refl;
-  right_own = refl;
-  right = omega arith;
-  tight = omega arith;
-  above = omega arith;
-  low = omega arith;
-  level_low = omega arith;
-  left = inr (inl (omega arith, omega arith));
-  assoc = inl (omega arith);
-}
-table (By Equal) = record {
-  left_sort = refl;
-  right_sort = refl;
-  own_sort = refl;
-  own = refl;
-  right_own = refl;
-  right = omega arith;
-  tight = omega arith;
-  above = omega arith;
-  low = omega arith;
-  level_low = omega arith;
-  left = inl (omega arith);
-  assoc = inr (omega arith);
-}
-table (By NotEqual) = record {
-  left_sort = refl;
-  right_sort = refl;
-  own_sort = refl;
-  own = refl;
-  right_own = refl;
-  right = omega arith;
-  tight = omega arith;
-  above = omega arith;
-  low = omega arith;
-  level_low = omega arith;
-  left = inl (omega arith);
-  assoc = inr (omega arith);
-}
-table (By AtLeast) = record {
-  left_sort = refl;
-  right_sort = refl;
-  own_sort = refl;
-  own = refl;
-  right_own = refl;
-  right = omega arith;
-  tight = omega arith;
-  above = omega arith;
-  low = omega arith;
-  level_low = omega arith;
-  left = inl (omega arith);
-  assoc = inr (omega arith);
-}
-table (By Greater) = record {
-  left_sort = refl;
-  right_sort = refl;
-  own_sort = refl;
-  own = refl;
-  right_own = refl;
-  right = omega arith;
-  tight = omega arith;
-  above = omega arith;
-  low = omega arith;
-  level_low = omega arith;
-  left = inl (omega arith);
-  assoc = inr (omega arith);
-}
-table (By AtMost) = record {
-  left_sort = refl;
-  right_sort = refl;
-  own_sort = refl;
-  own = refl;
-  right_own = refl;
-  right = omega arith;
-  tight = omega arith;
-  above = omega arith;
-  low = omega arith;
-  level_low = omega arith;
-  left = inl (omega arith);
-  assoc = inr (omega arith);
-}
-table (By Less) = record {
-  left_sort = refl;
-  right_sort = refl;
-  own_sort = refl;
-  own = refl;
-  right_own = refl;
-  right = omega arith;
-  tight = omega arith;
-  above = omega arith;
-  low = omega arith;
-  level_low = omega arith;
-  left = inl (omega arith);
-  assoc = inr (omega arith);
-}
-table (By Add) = record {
-  left_sort = refl;
-  right_sort = refl;
-  own_sort = refl;
-  own = refl;
-  right_own = refl;
-  right = omega arith;
-  tight = omega arith;
-  above = omega arith;
-  low = omega arith;
-  level_low = omega arith;
-  left = inl (omega arith);
-  assoc = inr (omega arith);
-}
-table (By Sub) = record {
-  left_sort = refl;
-  right_sort = refl;
-  own_sort = refl;
-  own = refl;
-  right_own = refl;
-  right = omega arith;
-  tight = omega arith;
-  above = omega arith;
-  low = omega arith;
-  level_low = omega arith;
-  left = inl (omega arith);
-  assoc = inr (omega arith);
-}
-table (By Mul) = record {
-  left_sort = refl;
-  right_sort = refl;
-  own_sort = refl;
-  own = refl;
-  right_own = refl;
-  right = omega arith;
-  tight = omega arith;
-  above = omega arith;
-  low = omega arith;
-  level_low = omega arith;
-  left = inl (omega arith);
-  assoc = inr (omega arith);
-}
-table (By Div) = record {
-  left_sort = refl;
-  right_sort = refl;
-  own_sort = refl;
-  own = refl;
-  right_own = refl;
-  right = omega arith;
-  tight = omega arith;
-  above = omega arith;
-  low = omega arith;
-  level_low = omega arith;
-  left = inl (omega arith);
-  assoc = inr (omega arith);
-}
-table (By Pow) = record {
-  left_sort = refl;
-  right_sort = refl;
-  own_sort = refl;
-  own = refl;
-  right_own = refl;
-  right = omega arith;
-  tight = omega arith;
-  above = omega arith;
-  low = omega arith;
-  level_low = omega arith;
-  left = inr (inr (omega arith, omega arith));
-  assoc = inl (omega arith);
-}
-table (By Choice) = record {
-  left_sort = refl;
-  right_sort = refl;
-  own_sort = refl;
-  own = refl;
-  right_own = refl;
-  right = omega arith;
-  tight = omega arith;
-  above = omega arith;
-  low = omega arith;
-  level_low = omega arith;
-  left = inr (inl (omega arith, omega arith));
-  assoc = inl (omega arith);
-}
-table Next = record {
-  left_sort = refl;
-  right_sort = refl;
-  own_sort = refl;
-  own = refl;
-  right_own = refl;
-  right = omega arith;
-  tight = omega arith;
-  above = omega arith;
-  low = omega arith;
-  level_low = omega arith;
-  left = inr (inl (omega arith, omega arith));
-  assoc = inl (omega arith);
-}
+table o = table_of o (left_need o) (associates o)
 
 -- What stands before the next of a list, and of items.
 pub data ListBefore (f : Nonterminal) : Phrases → List Lexeme → Type 0 where
