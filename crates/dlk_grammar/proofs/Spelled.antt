@@ -8,7 +8,7 @@ use Rattle.dlk_tree.specs.Names.{is_letter, is_name_byte, is_word, is_name}
 use Rattle.dlk_grammar.specs.declared.token.Mark.{Mark}
 use Rattle.dlk_grammar.specs.declared.token.TokenKind.{TokenKind}
 use Rattle.dlk_grammar.specs.declared.token.TokenKind.TheVariants.{Word, True, False, Number, LongNumber, Dot, Hole, Mark as AMark, End}
-use Rattle.dlk_grammar.specs.Tokens.{is_space, is_digit, are_digits, literal_number, spelling, Spells, word, true_word, false_word, integer, decimal, long_integer, long_decimal, dot, hole, a_mark}
+use Rattle.dlk_grammar.specs.Tokens.{is_space, is_digit, are_digits, literal_number, literal_kind, spelling, Spells, word, true_word, false_word, integer, decimal, long_integer, long_decimal, dot, hole, a_mark}
 use Rattle.dlk_grammar.proofs.Marks.{each_mark, mark_of, mark_of_spelling}
 
 -- what a byte may begin
@@ -100,10 +100,6 @@ integer_part (b ∷ bs) = if is_digit b then b ∷ integer_part bs else []
 abbrev pub fraction_part : List ℕ → List ℕ
 fraction_part [] = []
 fraction_part (b ∷ bs) = if is_digit b then fraction_part bs else bs
-
--- the token of a literal, by the digits before and behind its point
-abbrev pub literal_kind : List ℕ → List ℕ → TokenKind
-literal_kind s f = if nat_le (length s + length f) 38 then Number (literal_number s f) else LongNumber
 
 -- the token that bytes spell, if any
 abbrev pub kind_by : Class → List ℕ → TokenKind

@@ -1,5 +1,7 @@
 pub mod Tokens
+pub mod Marks
 pub mod Splits
+pub mod Fronts
 pub mod RealTokens
 pub mod TokensExamples
 pub mod Lexemes

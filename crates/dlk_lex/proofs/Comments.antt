@@ -7,7 +7,8 @@ use Rattle.std.proofs.lemmas.Bool.{eqb-true, and_parts}
 use Rattle.std.proofs.lemmas.List.{take-append-drop, take_all, length-drop, length-take-le, get_or-append-add}
 use Rattle.std.proofs.lemmas.List.Sums.{prefix_len-le-length}
 use Rattle.dlk_grammar.specs.Splits.{BeginsComment, EndsLine, at_end, at_feed, IsComment}
-use Rattle.dlk_grammar.proofs.Splitting.{Piece, AtFront, front-comment, front-bad, same_rest, apart}
+use Rattle.dlk_grammar.specs.Fronts.{Piece, AtFront, front-comment, front-bad}
+use Rattle.dlk_grammar.proofs.Splitting.{same_rest, apart}
 use Rattle.dlk_lex.proofs.Fronts.{prefix_all}
 use Rattle.dlk_lex.proofs.Texts.{at_front, not_at_front}
 use Rattle.dlk_lex.specs.Fronts.{EndsBlock, HasNoEnd, is_no_feed}

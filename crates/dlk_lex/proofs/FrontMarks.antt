@@ -7,7 +7,8 @@ use Rattle.std.proofs.lemmas.List.Sums.{AllPass-from_list_all}
 use Rattle.dlk_grammar.specs.declared.token.Mark.{Mark}
 use Rattle.dlk_grammar.specs.declared.token.Mark.TheVariants as mark
 use Rattle.dlk_grammar.specs.Tokens.{spelling}
-use Rattle.dlk_grammar.proofs.Marks.{marks, listed}
+use Rattle.dlk_grammar.specs.Marks.{marks}
+use Rattle.dlk_grammar.proofs.Marks.{listed}
 use Rattle.dlk_lex.proofs.Texts.{at_front, not_at_front}
 use Rattle.dlk_lex.specs.Fronts.{IsFrontMark, HasNoMark}
 

@@ -7,9 +7,9 @@ use Rattle.std.proofs.lemmas.Bool.{and_parts, leb-true, ne_eqb, eqb-true, cases_
 use Rattle.std.proofs.lemmas.List.{take-append-drop, length-take-le, drop-drop, take_more}
 use Rattle.std.proofs.lemmas.List.Sums.{prefix_len-le-length}
 use Rattle.dlk_grammar.specs.declared.token.TokenKind.{TokenKind}
-use Rattle.dlk_grammar.specs.Tokens.{is_digit, are_digits, before_digits, trimmed, Spells, integer, decimal, long_integer, long_decimal}
+use Rattle.dlk_grammar.specs.Tokens.{is_digit, are_digits, before_digits, trimmed, literal_kind, Spells, integer, decimal, long_integer, long_decimal}
 use Rattle.dlk_grammar.proofs.Real.{value_below, trimmed_is, digits_trimmed, digits_some}
-use Rattle.dlk_grammar.proofs.Spelled.{Digit, digit_class, IsLiteral, whole, pointed, literal_kind, number_kind, long_kind, digits_all}
+use Rattle.dlk_grammar.proofs.Spelled.{Digit, digit_class, IsLiteral, whole, pointed, number_kind, long_kind, digits_all}
 use Rattle.dlk_lex.proofs.Fronts.{prefix_all, prefix_most, stands, shape_here}
 use Rattle.dlk_lex.specs.Fronts.{fraction_len, StandsInFront}
 

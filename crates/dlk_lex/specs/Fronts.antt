@@ -5,7 +5,7 @@ use Rattle.dlk_grammar.specs.declared.token.Mark.{Mark}
 use Rattle.dlk_grammar.specs.declared.token.TokenKind.{TokenKind}
 use Rattle.dlk_grammar.specs.Tokens.{is_digit, spelling}
 use Rattle.dlk_grammar.specs.Splits.{Longest}
-use Rattle.dlk_grammar.proofs.Splitting.{Piece as FrontPiece, AtFront}
+use Rattle.dlk_grammar.specs.Fronts.{Piece as FrontPiece, AtFront}
 use Rattle.dlk_lex.specs.declared.front.Piece.{Piece}
 use Rattle.dlk_lex.specs.declared.front.Piece.TheVariants.{Gap, Token, Nothing}
 

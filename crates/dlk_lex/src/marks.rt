@@ -1,7 +1,7 @@
 //! The marks and their spellings.
 ghost use Rattle.std.specs.Prelude.{◌≡◌, IfSome, IfNone};
 ghost use Rattle.dlk_grammar.specs.Tokens.{spelling};
-ghost use Rattle.dlk_grammar.proofs.Marks.{marks};
+ghost use Rattle.dlk_grammar.specs.Marks.{marks};
 ghost use Rattle.dlk_lex.specs.Fronts.{IsFrontMark, HasNoMark};
 
 use dlk_grammar::Mark;

@@ -15,7 +15,7 @@ pub data ProgramFront : List Lexeme → Type 0 where
   front-assign : {n : ℕ} {x : Word} {s : List Lexeme} → ProgramFront (Name n x ∷ Gets ∷ s)
   front-assign_prime : {n : ℕ} {x : Word} {s : List Lexeme} → ProgramFront (Name n x ∷ Prime ∷ Gets ∷ s)
 
-program_append : {s : List Lexeme} (r : List Lexeme) → ProgramFront s → ProgramFront (s ++ r)
+pub program_append : {s : List Lexeme} (r : List Lexeme) → ProgramFront s → ProgramFront (s ++ r)
 program_append r front-query = front-query
 program_append r front-brace = front-brace
 program_append r front-const = front-const

@@ -12,10 +12,9 @@ use Rattle.dlk_grammar.specs.Grammar.{Nonterminal, Reads, Sides, ReadsSequent, R
 use Rattle.dlk_grammar.specs.Readings.{Says, Stops, grammar}
 use Rattle.dlk_grammar.specs.Substitutions.{PairPhrase, ReadsSubstitution}
 use Rattle.dlk_machine.specs.Levels.{form_sort, top}
-use Rattle.dlk_machine.specs.Machine.{State}
 use Rattle.dlk_machine.specs.Parse.{Machine, parse, reader}
 use Rattle.dlk_machine.specs.Forms.{machine_of}
-use Rattle.dlk_machine.specs.Expressions.{ExpressionState, expression_reader}
+use Rattle.dlk_machine.specs.Expressions.{expression_reader}
 use Rattle.dlk_machine.specs.Sequents.{sequent_reader}
 use Rattle.dlk_machine.specs.Pairs.{pairs_reader}
 use Rattle.dlk_machine.proofs.Climb.{stands}
@@ -41,7 +40,8 @@ one_parsed : {P : Type 0} (p q : P) → parsed p ≡ parsed q → p ≡ q
 one_parsed p q e = cc
 
 -- a fault says that the lexemes say nothing
-faulty : {X P : Type 0} (m : Machine X P) (G : List Lexeme → P → Type 0) (d : Dots) → Reader d m G → (s : List Lexeme) (n : ℕ) → parse d m s ≡ Err n → (p : P) → ¬ Says d G s p
+faulty : {X P : Type 0} (m : Machine X P) (G : List Lexeme → P → Type 0) (d : Dots) → Reader d m G → (s : List Lexeme) (n : ℕ) → parse d m s ≡ Err n
+    → (p : P) → ¬ Says d G s p
 faulty m G d c s n e p says = no_fault p n (sym (only_text m G d c s p says) ∙ e)
 
 -- lexemes say one thing
@@ -60,9 +60,6 @@ says_read d g s p h = only_text (reader g) (Reads (top g)) d (reads_all d g) s p
 pub fault_stops : (d : Dots) (g : Sort) (s : List Lexeme) (n : ℕ) → parse d (reader g) s ≡ Err n → Stops d (Reads (top g)) s n
 fault_stops d g s n e = stops_text (reader g) (Reads (top g)) d (reads_all d g) s n e
 
-pub fault_says_nothing : (d : Dots) (g : Sort) (s : List Lexeme) (n : ℕ) → parse d (reader g) s ≡ Err n → (p : Phrase) → ¬ Says d (Reads (top g)) s p
-fault_says_nothing d g s n e = faulty (reader g) (Reads (top g)) d (reads_all d g) s n e
-
 pub one_read : (form : Nonterminal) (s : List Lexeme) (p q : Phrase) → Reads form s p → Reads form s q → p ≡ q
 one_read form s p q d e =
     let g = form_sort form in
@@ -78,9 +75,6 @@ expression_says_read d s p h = only_text expression_reader ReadsExpression d (ex
 
 pub expression_fault_stops : (d : Dots) (s : List Lexeme) (n : ℕ) → parse d expression_reader s ≡ Err n → Stops d ReadsExpression s n
 expression_fault_stops d s n e = stops_text expression_reader ReadsExpression d (expressions_all d) s n e
-
-pub expression_fault_says_nothing : (d : Dots) (s : List Lexeme) (n : ℕ) → parse d expression_reader s ≡ Err n → (p : Phrase) → ¬ Says d ReadsExpression s p
-expression_fault_says_nothing d s n e = faulty expression_reader ReadsExpression d (expressions_all d) s n e
 
 pub one_expression_read : (s : List Lexeme) (p q : Phrase) → ReadsExpression s p → ReadsExpression s q → p ≡ q
 one_expression_read s p q d e = one expression_reader ReadsExpression (expressions_all Allowed) s p q d e
@@ -132,5 +126,6 @@ form_says_read d wanted s p h = only_text (machine_of wanted) (grammar wanted) d
 pub form_fault_stops : (d : Dots) (wanted : Form) (s : List Lexeme) (n : ℕ) → parse d (machine_of wanted) s ≡ Err n → Stops d (grammar wanted) s n
 form_fault_stops d wanted s n e = stops_text (machine_of wanted) (grammar wanted) d (forms_all d wanted) s n e
 
-pub form_fault_says_nothing : (d : Dots) (wanted : Form) (s : List Lexeme) (n : ℕ) → parse d (machine_of wanted) s ≡ Err n → (p : Phrase) → ¬ Says d (grammar wanted) s p
+pub form_fault_says_nothing : (d : Dots) (wanted : Form) (s : List Lexeme) (n : ℕ) → parse d (machine_of wanted) s ≡ Err n → (p : Phrase)
+    → ¬ Says d (grammar wanted) s p
 form_fault_says_nothing d wanted s n e = faulty (machine_of wanted) (grammar wanted) d (forms_all d wanted) s n e
