@@ -9,12 +9,12 @@ use Rattle.std.proofs.lemmas.Slice.Eq.{bytes_eq-Decides}
 use Rattle.dlk_tree.specs.Names.{is_word}
 use Rattle.dlk_grammar.specs.declared.token.Token.{Token}
 use Rattle.dlk_grammar.specs.declared.token.TokenKind.{TokenKind}
-use Rattle.dlk_grammar.specs.declared.token.TokenKind.TheVariants.{Word, True, False, Number, LongNumber, Dot, Hole, Mark as AMark, End}
-use Rattle.dlk_grammar.specs.Tokens.{is_space, are_digits, literal_number, spelling, Spells, word, true_word, false_word, integer, decimal, long_integer, long_decimal, dot, hole, a_mark}
+use Rattle.dlk_grammar.specs.declared.token.TokenKind.TheVariants.{Word, True, False, Dot, Hole, Mark as AMark, End}
+use Rattle.dlk_grammar.specs.Tokens.{is_space, are_digits, IsLiteral, whole, pointed, literal_kind, spelling, Spells, word, true_word, false_word, dot, hole, a_mark}
 use Rattle.dlk_grammar.specs.Splits.{Longest, BeginsComment, EndsLine, at_end, at_feed, IsComment, token, Splits, BadAt}
 use Rattle.dlk_grammar.specs.Fronts.{Piece, Ended, Gap, One, Bad, AtFront, front-ended, front-space, front-comment, front-one, front-bad}
 use Rattle.dlk_grammar.proofs.Marks.{mark_of, mark_of_spelling}
-use Rattle.dlk_grammar.proofs.Spelled.{Class, Letter, Digit, Point, Under, Space, Other, first_class, IsLiteral, whole, pointed, Shape, integer_part, fraction_part, integer_before, fraction_behind, digits_all, shape_at, spelled_some}
+use Rattle.dlk_grammar.proofs.Spelled.{Class, Letter, Digit, Point, Under, Space, Other, first_class, Shape, integer_part, fraction_part, integer_before, fraction_behind, digits_all, spells_whole, spells_pointed, shape_at, spelled_some}
 use Rattle.dlk_grammar.proofs.Splitting.{NoEnd, later_no_end, NoFeed, apart, same_rest, comment_begins, go_on, go_bad, forward}
 
 decided : {A : Type 0} (b : Bool) → Decides b A → Dec A
@@ -91,14 +91,8 @@ spelled Letter s w = elim (cases_Bool (bytes_eq s (codes "true"))) [
         | inr g ↦ (Word s, word s (rw (w, h, g) refl))
       ]
 ]
-spelled Digit _ (whole s h) = elim (cases_lt 38 (length s)) [
-  | inl lt ↦ (LongNumber, long_integer s h lt)
-  | inr le ↦ (Number (literal_number s []), integer s h le)
-]
-spelled Digit _ (pointed s f h i) = elim (cases_lt 38 (length s + length f)) [
-  | inl lt ↦ (LongNumber, long_decimal s f h i lt)
-  | inr le ↦ (Number (literal_number s f), decimal s f h i le)
-]
+spelled Digit _ (whole s h) = (literal_kind s [], spells_whole s h)
+spelled Digit _ (pointed s f h i) = (literal_kind s f, spells_pointed s f h i)
 spelled Point s w = (Dot w.0, subst (λ (x : List ℕ). Spells x (Dot w.0)) (sym w.2) (dot w.0 w.1))
 spelled Under s e = (Hole, subst (λ (x : List ℕ). Spells x Hole) (sym e) hole)
 spelled Space s w = absurd w

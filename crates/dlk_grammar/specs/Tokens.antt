@@ -20,6 +20,11 @@ abbrev pub are_digits : List ℕ → Bool
 are_digits [] = false
 are_digits (b ∷ bs) = is_digit b && list_all is_digit bs
 
+-- a literal: digits, or digits, a point and digits
+pub data IsLiteral : List ℕ → Type 0 where
+  whole : (s : List ℕ) → IsTrue (are_digits s) → IsLiteral s
+  pointed : (s f : List ℕ) → IsTrue (are_digits s) → IsTrue (are_digits f) → IsLiteral (s ++ (codes "." ++ f))
+
 -- the number that digits say
 abbrev pub value : List ℕ → ℕ
 value digits = fold (λ n b. 10 * n + (b - 48)) 0 digits

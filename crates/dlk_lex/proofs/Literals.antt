@@ -1,16 +1,15 @@
 -- The literal at the front.
-use Rattle.std.proofs.Common.{◌≡◌, ◌≢◌, ℕ, zero, suc, ◌+◌, ◌-◌, ◌*◌, ◌^◌, ◌<◌, ◌≤◌, Bool, true, false, cond, ◌==◌, List, [], ◌∷◌, ◌++◌, length, take, drop, get_or, refl, sym, ap, subst, ◌∙◌, ◌⊎◌, inl, inr, arith, lit<, codes, append_assoc, length-append, if◌then◌else◌}
+use Rattle.std.proofs.Common.{◌≡◌, ◌≢◌, ℕ, zero, suc, ◌+◌, ◌-◌, ◌*◌, ◌^◌, ◌<◌, ◌≤◌, Bool, true, false, cond, ◌==◌, List, [], ◌∷◌, ◌++◌, length, take, drop, get_or, refl, sym, ap, ◌∙◌, ◌⊎◌, inl, inr, arith, lit<, codes, append_assoc, length-append, if◌then◌else◌}
 use Rattle.std.specs.List.{list_all, prefix_len, fold}
 use Rattle.std.proofs.Math.Nat.{pow-le-pow_right, pow-succ', one-le-pow}
 use Rattle.std.proofs.Math.Seq.{take-append_seam, drop-append_seam}
-use Rattle.std.proofs.lemmas.Bool.{and_parts, leb-true, ne_eqb, eqb-true, cases_lt}
+use Rattle.std.proofs.lemmas.Bool.{and_parts, leb-true, ne_eqb, eqb-true}
 use Rattle.std.proofs.lemmas.List.{take-append-drop, length-take-le, drop-drop, take_more}
 use Rattle.std.proofs.lemmas.List.Sums.{prefix_len-le-length}
-use Rattle.dlk_grammar.specs.declared.token.TokenKind.{TokenKind}
-use Rattle.dlk_grammar.specs.Tokens.{is_digit, are_digits, before_digits, trimmed, literal_kind, Spells, integer, decimal, long_integer, long_decimal}
+use Rattle.dlk_grammar.specs.Tokens.{is_digit, are_digits, IsLiteral, whole, pointed, before_digits, trimmed, literal_kind}
 use Rattle.dlk_grammar.proofs.Real.{value_below, trimmed_is, digits_trimmed, digits_some}
-use Rattle.dlk_grammar.proofs.Spelled.{Digit, digit_class, IsLiteral, whole, pointed, number_kind, long_kind, digits_all}
-use Rattle.dlk_lex.proofs.Fronts.{prefix_all, prefix_most, stands, shape_here}
+use Rattle.dlk_grammar.proofs.Spelled.{digits_all, spells_whole, spells_pointed, literal_here}
+use Rattle.dlk_lex.proofs.Fronts.{prefix_all, prefix_most, stands}
 use Rattle.dlk_lex.specs.Fronts.{fraction_len, StandsInFront}
 
 -- one digit more, of at most 38
@@ -69,19 +68,6 @@ room_behind s n h le =
 pub trimmed_digits : (f : List ℕ) → list_all is_digit f ≡ true → list_all is_digit (trimmed f) ≡ true
 trimmed_digits f h = digits_trimmed (trimmed f) (trimmed_is f h)
 
--- what a literal spells
-pub spells_whole : (s : List ℕ) → are_digits s ≡ true → Spells s (literal_kind s [])
-spells_whole s h = elim (cases_lt 38 (length s)) [
-  | inl lt ↦ subst (Spells s) (sym (long_kind s [] (omega arith))) (long_integer s h lt)
-  | inr le ↦ subst (Spells s) (sym (number_kind s [] (omega arith))) (integer s h le)
-]
-
-pub spells_pointed : (s f : List ℕ) → are_digits s ≡ true → are_digits f ≡ true → Spells (s ++ (codes "." ++ f)) (literal_kind s f)
-spells_pointed s f h i = elim (cases_lt 38 (length s + length f)) [
-  | inl lt ↦ subst (Spells (s ++ (codes "." ++ f))) (sym (long_kind s f lt)) (long_decimal s f h i lt)
-  | inr le ↦ subst (Spells (s ++ (codes "." ++ f))) (sym (number_kind s f le)) (decimal s f h i le)
-]
-
 -- a run of digits, and what stops it
 pub run_is_digits : (bytes : List ℕ) → 0 < prefix_len is_digit bytes → are_digits (take (prefix_len is_digit bytes) bytes) ≡ true
 run_is_digits [] lt = absurd (omega arith)
@@ -128,16 +114,13 @@ fraction_digits bytes n f count some =
     rw (count ∙ w.1) (prefix_all is_digit (drop (n + 1) bytes))
 
 module _ (bytes : List ℕ) (first : is_digit (get_or bytes 0 0) ≡ true) where
-  literal_here : (s after : List ℕ) (k : TokenKind) → bytes ≡ s ++ after → Spells s k → IsLiteral s
-  literal_here s after k e p = shape_here bytes s after Digit (digit_class (get_or bytes 0 0) first) e p
-
   -- the literal is the digits at the front
   pub whole_front : (n : ℕ) → n ≡ prefix_len is_digit bytes → fraction_len (drop n bytes) ≡ 0 → StandsInFront bytes (literal_kind (take n bytes) [], n)
   whole_front n same none =
       let run : are_digits (take n bytes) ≡ true = rw same (run_is_digits bytes (run_some bytes first)) in
       let no : fraction_len (drop (prefix_len is_digit bytes) bytes) ≡ 0 = ap (λ (m : ℕ). fraction_len (drop m bytes)) (sym same) ∙ none in
       stands bytes n (literal_kind (take n bytes) []) (omega (arith, prefix_len-le-length is_digit bytes)) (spells_whole (take n bytes) run) (λ s after other e p.
-      elim (literal_most bytes s after (literal_here s after other e p) e) [ inl le ↦ omega arith | inr w ↦ absurd (omega (arith, w.0)) ])
+      elim (literal_most bytes s after (literal_here bytes s after e p first) e) [ inl le ↦ omega arith | inr w ↦ absurd (omega (arith, w.0)) ])
 
   -- the literal has a point
   pub pointed_front : (n f m : ℕ) → n ≡ prefix_len is_digit bytes → f ≡ fraction_len (drop n bytes) → f ≢ 0 → m ≡ n + 1 + f
@@ -160,5 +143,5 @@ module _ (bytes : List ℕ) (first : is_digit (get_or bytes 0 0) ≡ true) where
       let run-is : fraction_len (drop (prefix_len is_digit bytes) bytes) ≡ f = ap (λ (k : ℕ). fraction_len (drop k bytes)) (sym same) ∙ sym count in (
         le,
         stands bytes m (literal_kind (take n bytes) (take f (drop (n + 1) bytes))) le (rw front (spells_pointed (take n bytes) (take f (drop (n + 1) bytes)) run more)) (λ x after other e p.
-            elim (literal_most bytes x after (literal_here x after other e p) e) [ inl short ↦ omega arith | inr v ↦ omega (arith, v.1) ]),
+            elim (literal_most bytes x after (literal_here bytes x after e p first) e) [ inl short ↦ omega arith | inr v ↦ omega (arith, v.1) ]),
       )
