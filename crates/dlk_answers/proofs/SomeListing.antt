@@ -178,11 +178,14 @@ some_listing set xs alike =
     let others = set nowhere in
     let sorted = sorted_list var_cmp var_total var_exact (picked set others xs) in
     let among : (v : Var) → is_among sorted.0 v ≡ (list_any (bytes_eq v.name) xs && stands_out others (set v)) =
-    λ v. among_keys sorted.0 v ∙ sorted.2 v ∙ sym (among_keys (picked set others xs) v) ∙ picked_members set others xs v in
-    (others, sorted.0, record {
-      ordered = sorted.1;
-      members = λ v. ap (λ b. if others then not b else b) (among v) ∙ listed_as_is others (list_any (bytes_eq v.name) xs) (set v) (alike v);
-    })
+    λ v. among_keys sorted.0 v ∙ sorted.2 v ∙ sym (among_keys (picked set others xs) v) ∙ picked_members set others xs v in (
+      others,
+      sorted.0,
+      record {
+        ordered = sorted.1;
+        members = λ v. ap (λ b. if others then not b else b) (among v) ∙ listed_as_is others (list_any (bytes_eq v.name) xs) (set v) (alike v);
+      },
+    )
 
 -- a variable that isn't named in a tree, by the list of its names
 module _ (t : Tree) (made : WellMade t) where
@@ -239,8 +242,10 @@ mutual
 
 pub some_signature : (t : Tree) → (syms : List Sym) × IsSignature t syms
 some_signature t =
-    let sorted = sorted_list sym_cmp sym_total sym_exact (symbols t) in
-    (sorted.0, record {
-      ordered = sorted.1;
-      members = λ s. sym_keys sorted.0 s ∙ sorted.2 s ∙ sym (sym_keys (symbols t) s) ∙ symbols_listed s t;
-    })
+    let sorted = sorted_list sym_cmp sym_total sym_exact (symbols t) in (
+      sorted.0,
+      record {
+        ordered = sorted.1;
+        members = λ s. sym_keys sorted.0 s ∙ sorted.2 s ∙ sym (sym_keys (symbols t) s) ∙ symbols_listed s t;
+      },
+    )

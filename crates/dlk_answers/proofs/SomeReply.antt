@@ -72,10 +72,11 @@ some_list file = elim (some_tree_text Expression Allowed file) [
         let f = some_free_listing t made in
         let b = some_bound_listing t made in
         let m = some_must_listing t made in
-        let s = some_signature t in
-        (four_lines (set_text f.0 f.1) (set_text b.0 b.1) (set_text m.0 m.1) (signature_text s.0),
+        let s = some_signature t in (
+          four_lines (set_text f.0 f.1) (set_text b.0 b.1) (set_text m.0 m.1) (signature_text s.0),
           lists t reads (set_text f.0 f.1) (set_text b.0 b.1) (set_text m.0 m.1) (signature_text s.0)
-          (set_listed f.0 f.1 f.2) (set_listed b.0 b.1 b.2) (set_listed m.0 m.1 m.2) (symbols_listed s.0 s.1))
+              (set_listed f.0 f.1 f.2) (set_listed b.0 b.1 b.2) (set_listed m.0 m.1 m.2) (symbols_listed s.0 s.1),
+        )
 
 some_substitution : (file substitution : List ℕ) → (reply : Reply) × Substitutes file substitution reply
 some_substitution file substitution = elim (some_tree_text Expression Refused file) [
