@@ -17,7 +17,7 @@ use crate::reply::{Layout, Reply, Status, printing};
 use dlk_kernel::{Fact, Kernel, Reason};
 use dlk_parse::read_formula;
 use dlk_plain::PlainStore;
-use dlk_print::sequent_text;
+use dlk_print::{append_decimal, sequent_text};
 use dlk_replay::{LineWhy, Outcome, ReplayFault, replay};
 use dlk_report::{Report, report_json, report_text, shown};
 use dlk_sequent::Sequent;
@@ -97,8 +97,10 @@ fn refuse_conclusion<S: Store, L: Ledger>(
     ensures { IfOk result (λ r. reply_of r ≡ other_conclusion line (tree (S.trees store.now) formula) (sequent_at (S.trees store.now) found.now)) }
 {
     let expected = Sequent::alone_right(alloc, formula)?;
-    let first = format!(in alloc; "refused: other-conclusion {line}\nexpected ")?;
-    let mut printed = first.into_bytes();
+    let mut printed = Vec::new(alloc);
+    printed.extend_from_slice(b"refused: other-conclusion ")?;
+    append_decimal(&mut printed, line as u128)?;
+    printed.extend_from_slice(b"\nexpected ")?;
     sequent_text(store, &expected, &mut printed, steps)?;
     printed.extend_from_slice(b"\nfound ")?;
     sequent_text(store, found, &mut printed, steps)?;

@@ -1,0 +1,48 @@
+-- Bytes are a text, or have a fault.
+use Rattle.std.proofs.Common.{ℕ, List, ◌⊎◌, inl, inr}
+use Rattle.dlk_tree.specs.Trees.{Tree}
+use Rattle.dlk_calculus.specs.Sequents.{Sequent}
+use Rattle.dlk_calculus.specs.Pairs.{Pair}
+use Rattle.dlk_grammar.specs.declared.token.Dots.{Dots}
+use Rattle.dlk_grammar.specs.declared.token.Form.{Form}
+use Rattle.dlk_grammar.specs.Texts.{TreeText, SequentText, PairsText, TextFault, BadByte, Unread, TreeTextFault, SequentTextFault, PairsTextFault}
+use Rattle.dlk_grammar.proofs.SomeSplit.{some_split}
+use Rattle.dlk_machine.proofs.SomeText.{some_tree, some_sequent, some_pairs}
+use Rattle.dlk_machine.proofs.TextLaws.{tree_or_fault, sequent_or_fault, pairs_or_fault}
+
+pub some_tree_text : (form : Form) (d : Dots) (bytes : List ℕ) → ((t : Tree) × TreeText form d bytes t) ⊎ ((why : TextFault) × TreeTextFault form d bytes why)
+some_tree_text form d bytes = elim (some_split 0 bytes) [
+  | inl split ↦ elim (some_tree form d bytes split.0 split.1) [ inl read ↦ inl read | inr fault ↦ inr (Unread fault.0, fault.1) ]
+  | inr bad ↦ inr (BadByte bad.0, bad.1)
+]
+
+pub some_sequent_text : (bytes : List ℕ) → ((s : Sequent) × SequentText bytes s) ⊎ ((why : TextFault) × SequentTextFault bytes why)
+some_sequent_text bytes = elim (some_split 0 bytes) [
+  | inl split ↦ elim (some_sequent bytes split.0 split.1) [ inl read ↦ inl read | inr fault ↦ inr (Unread fault.0, fault.1) ]
+  | inr bad ↦ inr (BadByte bad.0, bad.1)
+]
+
+pub some_pairs_text : (bytes : List ℕ) → ((pairs : List Pair) × PairsText bytes pairs) ⊎ ((why : TextFault) × PairsTextFault bytes why)
+some_pairs_text bytes = elim (some_split 0 bytes) [
+  | inl split ↦ elim (some_pairs bytes split.0 split.1) [ inl read ↦ inl read | inr fault ↦ inr (Unread fault.0, fault.1) ]
+  | inr bad ↦ inr (BadByte bad.0, bad.1)
+]
+
+-- whether they are a text is decided
+pub tree_text_decided : (form : Form) (d : Dots) (bytes : List ℕ) → Dec ((t : Tree) × TreeText form d bytes t)
+tree_text_decided form d bytes = elim (some_tree_text form d bytes) [
+  | inl read ↦ yes read
+  | inr fault ↦ no (λ read. tree_or_fault form d bytes read.0 fault.0 read.1 fault.1)
+]
+
+pub sequent_text_decided : (bytes : List ℕ) → Dec ((s : Sequent) × SequentText bytes s)
+sequent_text_decided bytes = elim (some_sequent_text bytes) [
+  | inl read ↦ yes read
+  | inr fault ↦ no (λ read. sequent_or_fault bytes read.0 fault.0 read.1 fault.1)
+]
+
+pub pairs_text_decided : (bytes : List ℕ) → Dec ((pairs : List Pair) × PairsText bytes pairs)
+pairs_text_decided bytes = elim (some_pairs_text bytes) [
+  | inl read ↦ yes read
+  | inr fault ↦ no (λ read. pairs_or_fault bytes read.0 fault.0 read.1 fault.1)
+]
