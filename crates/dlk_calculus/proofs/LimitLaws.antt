@@ -368,12 +368,12 @@ given_limited rows (Apply fact goal rule) p h g w =
     let m = given_by rows (Apply fact goal rule) p g in
     let q = At_All IsLimited rows fact m.0 h m.3 in
     record {
-      conclusion = rw m.6 q.conclusion;
+      conclusion = rw m.7 q.conclusion;
       goals = limited_sequents p.goals (all_small (Apply fact goal rule) p w).goals (all_shallow (Apply fact goal rule) p w).goals
           (surely (all_decided HasFewFormulas few p.goals) (λ n. w SideFull (side_full n)));
-      leaves = rw m.6 q.leaves;
+      leaves = rw m.7 q.leaves;
       few_goals = at_the_most most_goals (length p.goals) (λ more. w GoalsFull (goals_applied more));
-      few_leaves = rw m.6 q.few_leaves;
+      few_leaves = rw m.7 q.few_leaves;
     }
 given_limited rows (Merge fact goal by) p h g w =
     let m = given_by rows (Merge fact goal by) p g in
