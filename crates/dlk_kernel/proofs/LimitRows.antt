@@ -7,7 +7,7 @@ use Rattle.dlk_calculus.specs.declared.reason.Reason.TheVariants.{TooBig, TooDee
 use Rattle.dlk_calculus.specs.Places.{at, put_all}
 use Rattle.dlk_calculus.specs.Arithmetic.{is_arithmetic_sequent}
 use Rattle.dlk_calculus.specs.Sequents.{IsSequent, Sequent as TreeSequent}
-use Rattle.dlk_calculus.specs.Rules.{Rule, Premises}
+use Rattle.dlk_calculus.specs.Rules.{Rule, IsProperRule, Premises}
 use Rattle.dlk_calculus.specs.Pairs.{Pair as TreePair}
 use Rattle.dlk_calculus.specs.Limits.{most_goals, most_leaves}
 use Rattle.dlk_calculus.specs.Limited.{IsLimited}
@@ -71,7 +71,8 @@ put_all-length f g items place new =
 
 -- a rule on a goal, over a store that has grown
 module _ (old : List Tree) (rows : List Row) (fact goal : ℕ) (rule : Rule) (row : Row) (s : Sequent) (there : at rows fact ≡ Some row) (goal_there : at row.goals goal ≡ Some s)
-    (limited : All IsLimited (provables_at old rows)) (new : List Tree) (ps : List Sequent) (premises : Premises rule (sequent_at old s) (map (sequent_at new) ps)) where
+    (limited : All IsLimited (provables_at old rows)) (new : List Tree) (ps : List Sequent) (real : IsProperRule rule)
+    (premises : Premises rule (sequent_at old s) (map (sequent_at new) ps)) where
   abbrev q : Provable
   q = provable_at old row
 
@@ -79,7 +80,8 @@ module _ (old : List Tree) (rows : List Row) (fact goal : ℕ) (rule : Rule) (ro
   p = applied q goal (map (sequent_at new) ps)
 
   given : Gives (provables_at old rows) (Apply fact goal rule) p
-  given = apply fact goal rule q (sequent_at old s) (map (sequent_at new) ps) (At-map (provable_at old) rows fact row there) (At-map (sequent_at old) row.goals goal s goal_there) premises
+  given = apply fact goal rule q (sequent_at old s) (map (sequent_at new) ps) (At-map (provable_at old) rows fact row there)
+      (At-map (sequent_at old) row.goals goal s goal_there) real premises
 
   fact_limited : IsLimited q
   fact_limited = At_All IsLimited (provables_at old rows) fact q limited (At-map (provable_at old) rows fact row there)

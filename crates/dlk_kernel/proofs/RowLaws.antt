@@ -10,7 +10,7 @@ use Rattle.dlk_store.specs.Stores.{Keeps}
 use Rattle.dlk_calculus.specs.declared.reason.Reason.TheVariants.{NoGoal, NoPlace, WrongShape, NotEqual, NotFresh}
 use Rattle.dlk_calculus.specs.Places.{at, IsPlace, put_all}
 use Rattle.dlk_calculus.specs.Sequents.{IsSequent}
-use Rattle.dlk_calculus.specs.Rules.{Rule, Premises, FirstAgainst}
+use Rattle.dlk_calculus.specs.Rules.{Rule, IsProperRule, Premises, FirstAgainst}
 use Rattle.dlk_calculus.specs.Provables.{Provable, HasFormulas, applied}
 use Rattle.dlk_calculus.specs.Steps.{Step, Start, Apply, Gives, start, apply, IsGoal, Fault}
 use Rattle.dlk_calculus.proofs.PlaceLaws.{at-map, At-map, At_All, at_none}
@@ -82,8 +82,9 @@ module _ (old : List Tree) (rows : List Row) (fact goal : ℕ) (rule : Rule) (ro
     stands =
         rw (is, put_all-map (sequent_at new) row.goals goal ps, sequents-kept keeps row.goals known.goals, sequent-kept keeps row.conclusion known.conclusion, sequents-kept keeps row.leaves known.leaves)
 
-    pub applied_given : Premises rule (sequent_at old s) (map (sequent_at new) ps) → Gives (provables_at old rows) (Apply fact goal rule) (provable_at new r)
-    applied_given premises = rw stands (apply fact goal rule (provable_at old row) (sequent_at old s) (map (sequent_at new) ps) is_goal.1 is_goal.2 premises)
+    pub applied_given : IsProperRule rule → Premises rule (sequent_at old s) (map (sequent_at new) ps) → Gives (provables_at old rows) (Apply fact goal rule) (provable_at new r)
+    applied_given real premises =
+        rw stands (apply fact goal rule (provable_at old row) (sequent_at old s) (map (sequent_at new) ps) is_goal.1 is_goal.2 real premises)
 
 pub applied_known : (old new : List Tree) → Keeps old new → (row : Row) → IsKnownRow old row → (goal : ℕ) (ps : List Sequent) (r : Row) → All (IsKnown new) ps →
     r ≡ record { conclusion = row.conclusion; goals = put_all row.goals goal ps; leaves = row.leaves } → IsKnownRow new r

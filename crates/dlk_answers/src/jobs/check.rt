@@ -6,7 +6,7 @@ ghost use Rattle.dlk_sequent.specs.Sequents.{sequent_at, IsKnown};
 ghost use Rattle.dlk_kernel.specs.Kernel.{facts};
 ghost use Rattle.dlk_report.specs.Reports.{HasAsciiTexts};
 ghost use Rattle.dlk_report.specs.Shown.{parts};
-ghost use Rattle.dlk_answers.specs.Checks.{proves, reason_text, why_text, line_refused, other_conclusion, laid_out, reported, Checks};
+ghost use Rattle.dlk_answers.specs.Checks.{proves, line_refused, other_conclusion, laid_out, reported, Checks};
 ghost use Rattle.dlk_answers.specs.Judged.{judged};
 ghost use Rattle.dlk_answers.specs.Shown.{reply_of};
 
@@ -14,7 +14,7 @@ use crate::fault::NoReply;
 use crate::form::Role;
 use crate::refusal::{refuse_text, refused};
 use crate::reply::{Layout, Reply, Status, printing};
-use dlk_kernel::{Fact, Kernel, Reason};
+use dlk_kernel::{Fact, Kernel};
 use dlk_parse::read_formula;
 use dlk_plain::PlainStore;
 use dlk_print::sequent_text;
@@ -25,48 +25,11 @@ use dlk_store::{Id, Steps, Store};
 use std::alloc::Global;
 use std::sync::ledger::Ledger;
 
-/// The word for a reason, as it is printed.
-fn reason_word(why: Reason) -> &'static str
-    ensures { result.now ≡ reason_text why }
-{
-    match why {
-        Reason::NoFact => "NoFact",
-        Reason::NoGoal => "NoGoal",
-        Reason::UnknownName => "UnknownName",
-        Reason::NoPlace => "NoPlace",
-        Reason::WrongShape => "WrongShape",
-        Reason::NotEqual => "NotEqual",
-        Reason::NotFresh => "NotFresh",
-        Reason::NotArith => "NotArith",
-        Reason::IllSubst => "IllSubst",
-        Reason::FreeInSubst => "FreeInSubst",
-        Reason::NotAdmissible => "NotAdmissible",
-        Reason::TooBig => "TooBig",
-        Reason::TooDeep => "TooDeep",
-        Reason::SideFull => "SideFull",
-        Reason::GoalsFull => "GoalsFull",
-        Reason::LeavesFull => "LeavesFull",
-        Reason::LinesFull => "LinesFull",
-    }
-}
-
-/// The word for what is wrong with a line, as it is printed.
-fn why_word(why: LineWhy) -> &'static str
-    ensures { result.now ≡ why_text why }
-{
-    match why {
-        LineWhy::Malformed => "Malformed",
-        LineWhy::WrongNumber => "WrongNumber",
-        LineWhy::NoEnd => "NoEnd",
-        LineWhy::Step(why) => reason_word(why),
-    }
-}
-
 /// The answer to a term whose first wrong line this is.
 fn refuse_line(alloc: Global, line: usize, why: LineWhy) -> Result<Reply, NoReply>
     ensures { IfOk result (λ r. reply_of r ≡ line_refused line why) }
 {
-    let word = why_word(why);
+    let word = why.word();
     let why = format!(in alloc; "line {line}: {word}")?;
     refused(alloc, why.as_str())
 }
