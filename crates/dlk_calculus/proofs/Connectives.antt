@@ -40,14 +40,24 @@ two_kids op f g e h =
     let dot = second_false _ _ h.no_dot in
     let hole = second_false _ _ h.no_hole in (
       record { well_made = h.well_made.1.0; sort_is = ap head k; no_dot = first_false _ _ dot; no_hole = first_false _ _ hole },
-      record { well_made = h.well_made.1.1.0; sort_is = ap (λ ss. head (tail ss)) k; no_dot = first_false _ _ (second_false _ _ dot); no_hole = first_false _ _ (second_false _ _ hole) },
+      record {
+        well_made = h.well_made.1.1.0;
+        sort_is = ap (λ ss. head (tail ss)) k;
+        no_dot = first_false _ _ (second_false _ _ dot);
+        no_hole = first_false _ _ (second_false _ _ hole);
+      },
     )
 
 -- an operator over one formula
 pub one_kid : (op : Op) (f : Tree) → kid_sorts op ≡ Formula ∷ [] → IsFormula (one op f) → IsFormula f
 one_kid op f e h =
     let k : sort f ∷ [] ≡ Formula ∷ [] = h.well_made.0.kids_fit ∙ e in
-    record { well_made = h.well_made.1.0; sort_is = ap head k; no_dot = first_false _ _ (second_false _ _ h.no_dot); no_hole = first_false _ _ (second_false _ _ h.no_hole) }
+    record {
+      well_made = h.well_made.1.0;
+      sort_is = ap head k;
+      no_dot = first_false _ _ (second_false _ _ h.no_dot);
+      no_hole = first_false _ _ (second_false _ _ h.no_hole);
+    }
 
 -- ---- formulas under an operator
 
@@ -58,7 +68,8 @@ record IsConnective (op : Op) : Type 0 where
   no_dot : is_some_dot op ≡ false
   no_hole : is_hole op ≡ false
 
-pair_formula : (op : Op) (f g : Tree) → IsConnective op → kid_sorts op ≡ Formula ∷ Formula ∷ [] → IsFormula f → IsFormula g → IsFormula (node op (kid f (kid g no_kids)))
+pair_formula : (op : Op) (f g : Tree) → IsConnective op → kid_sorts op ≡ Formula ∷ Formula ∷ [] → IsFormula f → IsFormula g →
+    IsFormula (node op (kid f (kid g no_kids)))
 pair_formula op f g c kids hf hg = record {
   well_made = (record { kids_fit = (λ i. hf.sort_is i ∷ hg.sort_is i ∷ []) ∙ sym kids; parts_fit = c.parts }, (hf.well_made, (hg.well_made, tt)));
   sort_is = c.sort_is;
@@ -90,7 +101,13 @@ modal_formula op x y e f c kids real h =
     let k : Program ∷ sort f ∷ [] ≡ Program ∷ Formula ∷ [] = h.well_made.0.kids_fit ∙ kids in
     let dot = second_false _ _ h.no_dot in
     let hole = second_false _ _ h.no_hole in
-    let inner : IsFormula f = record { well_made = h.well_made.1.1.0; sort_is = ap (λ ss. head (tail ss)) k; no_dot = first_false _ _ (second_false _ _ dot); no_hole = first_false _ _ (second_false _ _ hole) } in
+    let inner : IsFormula f =
+    record {
+      well_made = h.well_made.1.1.0;
+      sort_is = ap (λ ss. head (tail ss)) k;
+      no_dot = first_false _ _ (second_false _ _ dot);
+      no_hole = first_false _ _ (second_false _ _ hole);
+    } in
     let g = swap_formula x y h.well_made.1.0.0.parts_fit real f inner in
     record {
       well_made = (

@@ -26,7 +26,8 @@ module _ (pairs : List Pair) (well : IsWellFormed pairs) where
   substituted_each [] [] h s = All-nil IsFormula
   substituted_each [] (g ∷ gs) h s = absurd s
   substituted_each (f ∷ fs) [] h s = absurd s
-  substituted_each (f ∷ fs) (g ∷ gs) h s = All-cons IsFormula g gs (subst_formula pairs well f g (All-head IsFormula f fs h) s.0) (substituted_each fs gs (All-tail IsFormula f fs h) s.1)
+  substituted_each (f ∷ fs) (g ∷ gs) h s =
+      All-cons IsFormula g gs (subst_formula pairs well f g (All-head IsFormula f fs h) s.0) (substituted_each fs gs (All-tail IsFormula f fs h) s.1)
 
   substituted_sequent : (s t : Sequent) → IsSequent s → SubstSequent pairs s t → IsSequent t
   substituted_sequent s t h m = record { ante = substituted_each s.ante t.ante h.ante m.0; succ = substituted_each s.succ t.succ h.succ m.1 }
@@ -35,7 +36,8 @@ module _ (pairs : List Pair) (well : IsWellFormed pairs) where
   substituted_sequents [] [] h m = All-nil IsSequent
   substituted_sequents [] (t ∷ ts) h m = absurd m
   substituted_sequents (s ∷ ss) [] h m = absurd m
-  substituted_sequents (s ∷ ss) (t ∷ ts) h m = All-cons IsSequent t ts (substituted_sequent s t (All-head IsSequent s ss h) m.0) (substituted_sequents ss ts (All-tail IsSequent s ss h) m.1)
+  substituted_sequents (s ∷ ss) (t ∷ ts) h m =
+      All-cons IsSequent t ts (substituted_sequent s t (All-head IsSequent s ss h) m.0) (substituted_sequents ss ts (All-tail IsSequent s ss h) m.1)
 
 -- what all have, the new ones among them have; and where the old leaves have it too, all joined ones do
 all_new : (P : Sequent → Type 0) (old more new : List Sequent) → All P more → AreNew old more new → All P new

@@ -1,5 +1,6 @@
 -- Fronts of histories are histories, and a given provable goes on with one. What is derived is what stands in a history.
-use Rattle.std.proofs.Common.{◌≡◌, ℕ, zero, suc, ◌<◌, ◌≤◌, ◌+◌, ◌-◌, List, [], ◌∷◌, ◌++◌, length, take, drop, get_or, sym, ap, subst, ◌∙◌, append_assoc, arith, length-append, Some, ⊎_elim}
+use Rattle.std.proofs.Common.{◌≡◌, ℕ, zero, suc, ◌<◌, ◌≤◌, ◌+◌, ◌-◌, List, [], ◌∷◌, ◌++◌, length, take, drop, get_or, sym, ap, subst, ◌∙◌, append_assoc}
+use Rattle.std.proofs.Common.{arith, length-append, Some, ⊎_elim}
 use Rattle.std.specs.List.{All}
 use Rattle.std.proofs.lemmas.Bool.{cases_lt}
 use Rattle.std.proofs.lemmas.Option.{slice_get_within, get_or_from_slice_get, slice_get-get_or}
@@ -9,7 +10,9 @@ use Rattle.std.proofs.lemmas.List.Elements.{All-nil, All-push}
 use Rattle.dlk_calculus.specs.Places.{At, put_all}
 use Rattle.dlk_calculus.specs.Sequents.{Sequent}
 use Rattle.dlk_calculus.specs.Provables.{Provable, started, known, inferred, assumed, applied, merged, renamed}
-use Rattle.dlk_calculus.specs.Steps.{Derives, by_itself, by_axiom, by_axiomatic_rule, by_arithmetic, by_rule, by_fact, by_substitution, by_renaming, Step, Start, UseAxiom, UseRule, Leaf, Apply, Merge, Substitute, Rename, Gives, start, use_axiom, use_rule, leaf, apply, merge, substitute, rename, History}
+use Rattle.dlk_calculus.specs.Steps.{Derives, by_itself, by_axiom, by_axiomatic_rule, by_arithmetic, by_rule, by_fact, by_substitution, by_renaming, Step}
+use Rattle.dlk_calculus.specs.Steps.{Start, UseAxiom, UseRule, Leaf, Apply, Merge, Substitute, Rename, Gives, start, use_axiom, use_rule, leaf, apply, merge}
+use Rattle.dlk_calculus.specs.Steps.{substitute, rename, History}
 use Rattle.dlk_calculus.proofs.PlaceLaws.{At_All, split_at, At-more, At-behind, At-between, put_between}
 use Rattle.dlk_calculus.proofs.StepLaws.{given_by}
 

@@ -3,7 +3,8 @@ use Rattle.std.proofs.Common.{◌≡◌, ◌≢◌, ℕ, ◌<◌, Bool, true, fa
 use Rattle.std.specs.Prelude.{IsTrue}
 use Rattle.std.proofs.lemmas.Option.{none-some, same_Some}
 use Rattle.dlk_calculus.specs.declared.reason.Reason.{Reason}
-use Rattle.dlk_calculus.specs.declared.reason.Reason.TheVariants.{NoFact, NoGoal, UnknownName, NoPlace, WrongShape, NotEqual, NotFresh, NotArith, IllSubst, FreeInSubst, NotAdmissible, LinesFull}
+use Rattle.dlk_calculus.specs.declared.reason.Reason.TheVariants.{NoFact, NoGoal, UnknownName, NoPlace, WrongShape, NotEqual, NotFresh, NotArith, IllSubst}
+use Rattle.dlk_calculus.specs.declared.reason.Reason.TheVariants.{FreeInSubst, NotAdmissible, LinesFull}
 use Rattle.dlk_calculus.specs.Reasons.{rank, IsOfCalculus}
 use Rattle.dlk_tree.specs.Names.{is_name}
 use Rattle.dlk_calculus.specs.Axioms.{Axiom, AxiomaticRule, axiom_named, rule_named}
@@ -13,8 +14,13 @@ use Rattle.dlk_calculus.specs.Subst.{Subst}
 use Rattle.dlk_calculus.specs.Places.{At, IsPlace}
 use Rattle.dlk_calculus.specs.Sequents.{Sequent, IsSequent}
 use Rattle.dlk_calculus.specs.Rules.{Rule, IsProperRule, Premises, RuleAgainst, FirstAgainst}
-use Rattle.dlk_calculus.specs.Provables.{Provable, started, known, inferred, assumed, applied, IsAmong, AreNew, no_more, there, added, merged, SubstEach, SubstSequent, SubstSequents, Substitutes, HasGoal, renamed}
-use Rattle.dlk_calculus.specs.Steps.{Step, Start, UseAxiom, UseRule, Leaf, Apply, Merge, Substitute, Rename, IsProper, Gives, start, use_axiom, use_rule, leaf, apply, merge, substitute, rename, IsGoal, Exceeds, too_big, too_deep, start_full, leaf_full, side_full, goals_applied, goals_merged, leaves_merged, Against, no_fact_to_apply, no_fact_to_merge, no_fact_to_substitute, no_fact_to_rename, no_goal_to_apply, no_goal_to_merge, unknown_axiom, unknown_rule, against_rule, start_no_formulas, leaf_no_formulas, other_goal, no_arithmetic, ill_pairs, free_over_goals, not_admissible, past_limit, rows_full, Fault}
+use Rattle.dlk_calculus.specs.Provables.{Provable, started, known, inferred, assumed, applied, IsAmong, AreNew, no_more, there, added, merged, SubstEach}
+use Rattle.dlk_calculus.specs.Provables.{SubstSequent, SubstSequents, Substitutes, HasGoal, renamed}
+use Rattle.dlk_calculus.specs.Steps.{Step, Start, UseAxiom, UseRule, Leaf, Apply, Merge, Substitute, Rename, IsProper, Gives, start, use_axiom, use_rule}
+use Rattle.dlk_calculus.specs.Steps.{leaf, apply, merge, substitute, rename, IsGoal, Exceeds, too_big, too_deep, start_full, leaf_full, side_full}
+use Rattle.dlk_calculus.specs.Steps.{goals_applied, goals_merged, leaves_merged, Against, no_fact_to_apply, no_fact_to_merge, no_fact_to_substitute}
+use Rattle.dlk_calculus.specs.Steps.{no_fact_to_rename, no_goal_to_apply, no_goal_to_merge, unknown_axiom, unknown_rule, against_rule, start_no_formulas}
+use Rattle.dlk_calculus.specs.Steps.{leaf_no_formulas, other_goal, no_arithmetic, ill_pairs, free_over_goals, not_admissible, past_limit, rows_full, Fault}
 use Rattle.dlk_calculus.proofs.PlaceLaws.{at_one, At_place, place_cases}
 use Rattle.dlk_calculus.proofs.OneResult.{one_subst}
 use Rattle.dlk_calculus.proofs.Decided.{subst_decided, free_in_decided, good_pairs}
@@ -34,7 +40,8 @@ GivenBy rows (Apply fact goal rule) p =
 GivenBy rows (Merge fact goal by) p =
     (q r : Provable) × (new : List Sequent) × At rows fact q × At rows by r × At q.goals goal r.conclusion × AreNew q.leaves r.leaves new
     × (p ≡ merged q goal r new)
-GivenBy rows (Substitute fact pairs) p = (q : Provable) × At rows fact q × AreWellMade pairs × IsWellFormed pairs × (HasGoal q.goals → ¬ IsFreeIn pairs) × Substitutes pairs q p
+GivenBy rows (Substitute fact pairs) p =
+    (q : Provable) × At rows fact q × AreWellMade pairs × IsWellFormed pairs × (HasGoal q.goals → ¬ IsFreeIn pairs) × Substitutes pairs q p
 GivenBy rows (Rename fact x y) p = (q : Provable) × At rows fact q × IsTrue (is_name x) × IsTrue (is_name y) × (p ≡ renamed x y q)
 
 pub given_by : (rows : List Provable) (step : Step) (p : Provable) → Gives rows step p → GivenBy rows step p
@@ -48,7 +55,8 @@ given_by rows (Substitute fact pairs) p (substitute f w q r h a b c d) = (q, h, 
 given_by rows (Rename fact x y) p (rename f v w q a b c) = (q, a, b, c, refl)
 
 -- the goal of a fact is one sequent
-one_goal : (rows : List Provable) (fact goal : ℕ) (p q : Provable) (s t : Sequent) → At rows fact p → At rows fact q → At p.goals goal s → At q.goals goal t → s ≡ t
+one_goal : (rows : List Provable) (fact goal : ℕ) (p q : Provable) (s t : Sequent) → At rows fact p → At rows fact q → At p.goals goal s →
+    At q.goals goal t → s ≡ t
 one_goal rows fact goal p q s t a b c d =
     let same : p ≡ q = at_one rows fact p q a b in
     at_one q.goals goal s t (subst (λ (x : Provable). At x.goals goal s) same c) d
@@ -389,7 +397,8 @@ decided_sequents pairs (s ∷ ss) = elim (decided_sequent pairs s) [
     no_first s ss n ([], h) = h
     no_first s ss n (t ∷ ts, h) = n (t, h.0)
 
-    no_later : (s : Sequent) (ss : List Sequent) → ¬ ((ts : List Sequent) × SubstSequents pairs ss ts) → ¬ ((ts : List Sequent) × SubstSequents pairs (s ∷ ss) ts)
+    no_later : (s : Sequent) (ss : List Sequent) → ¬ ((ts : List Sequent) × SubstSequents pairs ss ts) →
+        ¬ ((ts : List Sequent) × SubstSequents pairs (s ∷ ss) ts)
     no_later s ss n ([], h) = h
     no_later s ss n (t ∷ ts, h) = n (ts, h.1)
 
@@ -440,7 +449,11 @@ substitute_cases rows fact pairs made =
 -- whether a sequent is one of others is decided, and so which leaves are new
 is_among : (s : Sequent) (ss : List Sequent) → Dec (IsAmong s ss)
 is_among s [] = no (λ a. a)
-is_among s (t ∷ ss) = elim (same_sequent s t) [ yes e ↦ yes (inl e) | no n ↦ elim (is_among s ss) [ yes a ↦ yes (inr a) | no m ↦ no (λ a. elim a [ inl e ↦ n e | inr b ↦ m b ]) ] ]
+is_among s (t ∷ ss) =
+    elim (same_sequent s t) [
+      | yes e ↦ yes (inl e)
+      | no n ↦ elim (is_among s ss) [ yes a ↦ yes (inr a) | no m ↦ no (λ a. elim a [ inl e ↦ n e | inr b ↦ m b ]) ]
+    ]
 
 pub some_new : (old more : List Sequent) → (new : List Sequent) × AreNew old more new
 some_new old [] = ([], no_more)

@@ -33,7 +33,8 @@ list_any_map p f (id ∷ ids) = ap (λ b. p (f id) || b) (list_any_map p f ids)
 
 -- of all but one, whether one before it or one behind it passes the test
 pub list_any_remove : (p : Tree → Bool) (f : Id → Tree) (ids : List Id) (place : ℕ) →
-    (list_any p (map f (take (place - 1) ids)) || list_any p (map f (take (length ids - place) (drop place ids)))) ≡ list_any p (without_place (map f ids) place)
+    (list_any p (map f (take (place - 1) ids)) || list_any p (map f (take (length ids - place) (drop place ids)))) ≡ list_any p
+    (without_place (map f ids) place)
 list_any_remove p f ids place = simp (list_any-append, take-map, drop-map, take_rest)
 
 -- the quantifier at a place, by its operator and its kids

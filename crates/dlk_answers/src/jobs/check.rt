@@ -1,6 +1,7 @@
 // `check MODEL TERM` and `report MODEL TERM`: replay a term, and compare its conclusion with the model.
-ghost use Rattle.std.specs.Prelude.{◌≡◌, ◌<◌, [], ◌↔◌, IfOk, IfSome, IsTrue};
-ghost use Rattle.dlk_calculus.specs.Places.{at, IsPlace};
+ghost use Rattle.std.specs.Prelude.{◌≡◌, ◌<◌, [], ◌↔◌, IfOk, IsTrue};
+ghost use Rattle.dlk_calculus.specs.Places.{At, IsPlace};
+ghost use Rattle.dlk_calculus.specs.Provables.{Provable};
 ghost use Rattle.dlk_store.specs.Stores.{IsId, tree};
 ghost use Rattle.dlk_sequent.specs.Sequents.{sequent_at, IsKnown};
 ghost use Rattle.dlk_kernel.specs.Kernel.{facts};
@@ -94,7 +95,7 @@ fn report<S: Store, L: Ledger>(
     steps: &mut Steps<L>,
 ) -> Result<Reply, NoReply>
     requires { IsPlace kernel.now.rows fact }
-    ensures { IfOk result (λ r. IfSome (at (facts S.trees kernel.now) fact) (λ p. reply_of r ≡ reported layout p lines)) }
+    ensures { IfOk result (λ r. (p : Provable) → At (facts S.trees kernel.now) fact p → reply_of r ≡ reported layout p lines) }
 {
     let report = shown(alloc, kernel, fact, lines, steps)?;
     let printed = lay_out(alloc, layout, &report)?;
@@ -117,7 +118,7 @@ fn judge<S: Store, L: Ledger>(
 ) -> Result<Reply, NoReply>
     requires formula { IsId (S.trees kernel.now.store) formula }
     requires fact { IsPlace kernel.now.rows outcome.fact }
-    ensures { IfOk result (λ r. IfSome (at (facts S.trees kernel.now) outcome.fact) (judged layout (tree (S.trees kernel.now.store) formula) outcome.lines outcome.line (reply_of r))) }
+    ensures { IfOk result (λ r. (p : Provable) → At (facts S.trees kernel.now) outcome.fact p → judged layout (tree (S.trees kernel.now.store) formula) outcome.lines outcome.line (reply_of r) p) }
 {
     let found = kernel.conclusion(outcome.fact);
     if is_proof_of(kernel, found, formula) {
