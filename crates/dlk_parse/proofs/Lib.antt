@@ -7,4 +7,3 @@ pub mod Within
 pub mod Reports
 pub mod SaidLaws
 pub mod SaidPairs
-mod Stopped

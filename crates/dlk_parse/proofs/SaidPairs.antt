@@ -1,5 +1,5 @@
 -- From what the tokens of a substitution say to its pairs.
-use Rattle.std.proofs.Common.{◌≡◌, List, [], ◌∷◌, length, map, Err, refl, sym, ap, subst, ◌∙◌}
+use Rattle.std.proofs.Common.{◌≡◌, List, [], ◌∷◌, length, map, refl, sym, ap, subst, ◌∙◌}
 use Rattle.std.specs.Prelude.{All, flat_map}
 use Rattle.std.proofs.lemmas.List.Elements.{All-map}
 use Rattle.dlk_tree.specs.Trees.{Tree, WellMade}
@@ -11,52 +11,39 @@ use Rattle.dlk_sequent.specs.declared.subst.Pair.{Pair}
 use Rattle.dlk_grammar.specs.declared.token.Token.{Token}
 use Rattle.dlk_grammar.specs.declared.token.Dots.TheVariants.{Allowed}
 use Rattle.dlk_grammar.specs.RealTokens.{AreTokens}
-use Rattle.dlk_grammar.specs.Lexemes.{lexemes}
 use Rattle.dlk_grammar.specs.Erased.{erase, ills}
 use Rattle.dlk_grammar.specs.Substitutions.{PairPhrase, ReadsSubstitution, replacements, erase_pairs, ArePairs, ArePairsFault}
-use Rattle.dlk_machine.specs.Pairs.{pairs_reader}
-use Rattle.dlk_machine.specs.Parse.{parse}
-use Rattle.dlk_machine.proofs.ParseLaws.{pairs_read_says, pairs_fault_says_nothing, one_pairs_read}
+use Rattle.dlk_machine.proofs.ParseLaws.{one_pairs_read}
 use Rattle.dlk_machine.proofs.TextLaws.{pairs_ills_below, pairs_well_made}
 use Rattle.dlk_parse.specs.Faults.{IsParseFaultOf}
-use Rattle.dlk_parse.specs.Limits.{AreWithinTokenLimits}
+use Rattle.dlk_parse.specs.Limits.{starts_of, AreWithinTokenLimits}
 use Rattle.dlk_parse.specs.Made.{IsWellMade, AreMade}
-use Rattle.dlk_forms.specs.Readers.{IsParsed, Answers}
-use Rattle.dlk_forms.specs.PairReaders.{IsCodeOfPairs, SaysPairs, AreReadPairs}
-use Rattle.dlk_parse.specs.Said.{IsNoText, HasPlaces, IsWithin, IsCodeBeyond}
-use Rattle.dlk_parse.specs.Stops.{of_stop}
+use Rattle.dlk_forms.specs.Said.{SaysPairs}
+use Rattle.dlk_parse.specs.Said.{AreReadPairs, HasPlaces, IsWithin, IsCodeBeyond}
 use Rattle.dlk_parse.specs.declared.fault.ParseFault.{ParseFault}
 use Rattle.dlk_forms.specs.declared.pairs.PairsCode.{PairsCode}
-use Rattle.dlk_reader.specs.declared.stop.Stop.{Stop}
-use Rattle.dlk_reader.specs.declared.stop.Stop.TheVariants.{Memory, Syntax}
 use Rattle.dlk_parse.proofs.Reports.{beyond, faultless}
-use Rattle.dlk_parse.proofs.SaidLaws.{least_among, All-from_map}
+use Rattle.dlk_parse.proofs.SaidLaws.{least_among, among_starts, All-from_map}
 
 module _ (tokens : List Token) where
-  pub pairs_said : (c : PairsCode) → IsParsed IsCodeOfPairs c (parse Allowed pairs_reader (lexemes tokens)) → SaysPairs tokens c
-  pairs_said c h = record { said = h.said; says = pairs_read_says (lexemes tokens) h.said h.parsed; shown = h.shown }
-
-  pub pairs_unsaid : (stop : Stop) → Answers {X = PairsCode} IsCodeOfPairs (parse Allowed pairs_reader (lexemes tokens)) (Err stop) → IsParseFaultOf (IsNoText ReadsSubstitution Allowed tokens) (of_stop stop)
-  pairs_unsaid Memory h = tt
-  pairs_unsaid (Syntax place) h = pairs_fault_says_nothing (lexemes tokens) place h
-
   module _ (c : PairsCode) where
-    pub pairs_places : SaysPairs tokens c → HasPlaces c.code.items tokens
+    pub pairs_places : SaysPairs tokens c → HasPlaces c.code.items (starts_of tokens)
     pairs_places h = record {
       phrases = replacements h.said;
-      code_is = h.shown.code;
-      below = λ place e. least_among (length tokens) place (flat_map ills (replacements h.said)) (pairs_ills_below tokens h.said h.says.reads) e;
+      code_is = h.code_is;
+      below = λ place e. among_starts tokens place (least_among (length tokens) place (flat_map ills (replacements h.said)) (pairs_ills_below tokens h.said h.says.reads) e);
     }
 
-    pub pairs_beyond : AreWithinTokenLimits tokens → SaysPairs tokens c → (e : ParseFault) → IsCodeBeyond c.code.items tokens e → IsParseFaultOf (ArePairsFault tokens) e
-    pairs_beyond calm h e b = beyond ReadsSubstitution replacements one_pairs_read Allowed tokens calm h.said h.says e (b.of_phrases (replacements h.said) h.shown.code)
+    pub pairs_beyond : AreWithinTokenLimits tokens → SaysPairs tokens c → (e : ParseFault) → IsCodeBeyond c.code.items (starts_of tokens) e → IsParseFaultOf (ArePairsFault tokens) e
+    pairs_beyond calm h e b = beyond ReadsSubstitution replacements one_pairs_read Allowed tokens calm h.said h.says e (b.of_phrases (replacements h.said) h.code_is)
 
     pub pairs_within : AreWithinTokenLimits tokens → SaysPairs tokens c → IsWithin c.code.items → AreReadPairs tokens c
     pairs_within calm h w = record {
       said = h.said;
       says = h.says;
-      shown = h.shown;
-      no_fault = faultless ReadsSubstitution replacements one_pairs_read Allowed tokens calm h.said h.says (w.of_phrases (replacements h.said) h.shown.code);
+      symbols_are = h.symbols_are;
+      code_is = h.code_is;
+      no_fault = faultless ReadsSubstitution replacements one_pairs_read Allowed tokens calm h.said h.says (w.of_phrases (replacements h.said) h.code_is);
     }
 
     module _ (h : AreReadPairs tokens c) where
@@ -66,15 +53,15 @@ module _ (tokens : List Token) where
       pub pairs_code_made : AreTokens tokens → IsWellMade c.code.items
       pairs_code_made real =
           let made = All-from_map (λ (p : TreePair). WellMade p.by) (λ (p : PairPhrase). record { sym = p.sym; by = erase p.by }) h.said (pairs_well_made tokens (erase_pairs h.said) real are_pairs) in
-          record { phrases = replacements h.said; code_is = h.shown.code; well_made = All-map (λ p. WellMade (erase p)) (λ (p : PairPhrase). p.by) h.said made }
+          record { phrases = replacements h.said; code_is = h.code_is; well_made = All-map (λ p. WellMade (erase p)) (λ (p : PairPhrase). p.by) h.said made }
 
       module _ (trees : List Tree) (ids : List Id) (made : AreMade c.code.items trees ids) where
         made_are : map (tree trees) ids ≡ map erase (replacements h.said)
-        made_are = made.of_phrases (replacements h.said) h.shown.code
+        made_are = made.of_phrases (replacements h.said) h.code_is
 
         pub pairs_found : (pairs : List Pair) → map (λ p. p.sym) pairs ≡ c.symbols.items → map (λ p. p.by) pairs ≡ ids → ArePairs tokens (pairs_at trees pairs)
         pairs_found pairs e f =
-            subst (ArePairs tokens) (sym (same h.said pairs (e ∙ h.shown.symbols) (ap (map (tree trees)) f ∙ made_are))) are_pairs
+            subst (ArePairs tokens) (sym (same h.said pairs (e ∙ h.symbols_are) (ap (map (tree trees)) f ∙ made_are))) are_pairs
           where
             same : (l : List PairPhrase) (pairs : List Pair) → map (λ p. p.sym) pairs ≡ map (λ p. p.sym) l → map (tree trees) (map (λ p. p.by) pairs) ≡ map erase (replacements l) → pairs_at trees pairs ≡ erase_pairs l
             same [] [] e f = refl

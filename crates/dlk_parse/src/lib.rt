@@ -1,12 +1,14 @@
 //! Reads terms, formulas, programs, sequents and substitutions into a store.
 #![tactic(auto)]
 
+mod copies;
 mod fault;
 mod limits;
 mod making;
 mod measures;
+mod owned;
 mod readers;
-mod said;
+mod scan;
 mod texts;
 
 pub use dlk_grammar::{Dots, Form};
