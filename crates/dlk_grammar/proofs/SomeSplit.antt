@@ -10,7 +10,8 @@ use Rattle.dlk_tree.specs.Names.{is_word}
 use Rattle.dlk_grammar.specs.declared.token.Token.{Token}
 use Rattle.dlk_grammar.specs.declared.token.TokenKind.{TokenKind}
 use Rattle.dlk_grammar.specs.declared.token.TokenKind.TheVariants.{Word, True, False, Dot, Hole, Mark as AMark, End}
-use Rattle.dlk_grammar.specs.Tokens.{is_space, are_digits, IsLiteral, whole, pointed, literal_kind, spelling, Spells, word, true_word, false_word, dot, hole, a_mark}
+use Rattle.dlk_grammar.specs.Tokens.{is_space, are_digits, spelling, Spells, word, true_word, false_word, dot, hole, a_mark}
+use Rattle.dlk_grammar.specs.Literals.{IsLiteral, whole, pointed, literal_kind}
 use Rattle.dlk_grammar.specs.Splits.{Longest, BeginsComment, EndsLine, at_end, at_feed, IsComment, token, Splits, BadAt}
 use Rattle.dlk_grammar.specs.Fronts.{Piece, Ended, Gap, One, Bad, AtFront, front-ended, front-space, front-comment, front-one, front-bad}
 use Rattle.dlk_grammar.proofs.Marks.{mark_of, mark_of_spelling}

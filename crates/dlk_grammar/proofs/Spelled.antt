@@ -8,7 +8,8 @@ use Rattle.dlk_tree.specs.Names.{is_letter, is_name_byte, is_word, is_name}
 use Rattle.dlk_grammar.specs.declared.token.Mark.{Mark}
 use Rattle.dlk_grammar.specs.declared.token.TokenKind.{TokenKind}
 use Rattle.dlk_grammar.specs.declared.token.TokenKind.TheVariants.{Word, True, False, Number, LongNumber, Dot, Hole, Mark as AMark, End}
-use Rattle.dlk_grammar.specs.Tokens.{is_space, is_digit, are_digits, IsLiteral, whole, pointed, literal_number, literal_kind, spelling, Spells, word, true_word, false_word, integer, decimal, long_integer, long_decimal, dot, hole, a_mark}
+use Rattle.dlk_grammar.specs.Tokens.{is_space, is_digit, are_digits, literal_number, spelling, Spells, word, true_word, false_word, integer, decimal, long_integer, long_decimal, dot, hole, a_mark}
+use Rattle.dlk_grammar.specs.Literals.{IsLiteral, whole, pointed, literal_kind}
 use Rattle.dlk_grammar.proofs.Marks.{each_mark, mark_of, mark_of_spelling}
 
 -- what a byte may begin
@@ -21,7 +22,9 @@ pub data Class : Type 0 where
   Other : Class
 
 abbrev pub class : ℕ → Class
-class b = if is_letter b then Letter else (if is_digit b then Digit else (if b == 46 then Point else (if b == 95 then Under else (if is_space b then Space else Other))))
+class b =
+    if is_letter b then Letter
+    else (if is_digit b then Digit else (if b == 46 then Point else (if b == 95 then Under else (if is_space b then Space else Other))))
 
 abbrev pub first_class : List ℕ → Class
 first_class s = class (get_or s 0 0)
@@ -184,10 +187,14 @@ seen (word s h) =
     record { class = Letter; class_is = word_class s w; shape = w; kind = name_kind s h }
 seen true_word = record { class = Letter; class_is = refl; shape = refl; kind = refl }
 seen false_word = record { class = Letter; class_is = refl; shape = refl; kind = refl }
-seen (integer s h le) = record { class = Digit; class_is = literal_class (whole s h); shape = whole s h; kind = whole_kind s h ∙ number_kind s [] (omega arith) }
-seen (decimal s f h i le) = record { class = Digit; class_is = literal_class (pointed s f h i); shape = pointed s f h i; kind = pointed_kind s f h ∙ number_kind s f le }
-seen (long_integer s h lt) = record { class = Digit; class_is = literal_class (whole s h); shape = whole s h; kind = whole_kind s h ∙ long_kind s [] (omega arith) }
-seen (long_decimal s f h i lt) = record { class = Digit; class_is = literal_class (pointed s f h i); shape = pointed s f h i; kind = pointed_kind s f h ∙ long_kind s f lt }
+seen (integer s h le) =
+    record { class = Digit; class_is = literal_class (whole s h); shape = whole s h; kind = whole_kind s h ∙ number_kind s [] (omega arith) }
+seen (decimal s f h i le) =
+    record { class = Digit; class_is = literal_class (pointed s f h i); shape = pointed s f h i; kind = pointed_kind s f h ∙ number_kind s f le }
+seen (long_integer s h lt) =
+    record { class = Digit; class_is = literal_class (whole s h); shape = whole s h; kind = whole_kind s h ∙ long_kind s [] (omega arith) }
+seen (long_decimal s f h i lt) =
+    record { class = Digit; class_is = literal_class (pointed s f h i); shape = pointed s f h i; kind = pointed_kind s f h ∙ long_kind s f lt }
 seen (dot n lt) = record { class = Point; class_is = refl; shape = (n, lt, refl); kind = let e : (48 + n) - 48 ≡ n = omega arith in rw e refl }
 seen hole = record { class = Under; class_is = refl; shape = refl; kind = refl }
 seen (a_mark m) = record { class = Other; class_is = mark_class m; shape = (m, refl); kind = ap AMark (mark_of_spelling m) }
@@ -233,7 +240,8 @@ module _ (bytes s after : List ℕ) {k : TokenKind} (e : bytes ≡ s ++ after) (
   pub hole_here : get_or bytes 0 0 ≡ 95 → s ≡ codes "_"
   hole_here h = shape_here bytes s after Under (ap class h) e p
 
-  pub mark_here : is_letter (get_or bytes 0 0) ≡ false → is_digit (get_or bytes 0 0) ≡ false → (get_or bytes 0 0 == 46) ≡ false → (get_or bytes 0 0 == 95) ≡ false
+  pub mark_here : is_letter (get_or bytes 0 0) ≡ false → is_digit (get_or bytes 0 0) ≡ false → (get_or bytes 0 0 == 46) ≡ false
+      → (get_or bytes 0 0 == 95) ≡ false
       → (m : Mark) × (s ≡ spelling m)
   mark_here no_letter no_digit no_point no_under = go (is_space (get_or bytes 0 0)) refl
     where

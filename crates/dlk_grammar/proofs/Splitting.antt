@@ -78,7 +78,8 @@ pub one_comment : {bytes s t r q : List ℕ} → IsComment bytes s r → IsComme
 one_comment (IsComment.block i r e n) (IsComment.block j q f m) =
     let inner : i ++ (codes "*/" ++ r) ≡ j ++ (codes "*/" ++ q) = same_rest (codes "/*") (i ++ (codes "*/" ++ r)) (j ++ (codes "*/" ++ q)) (sym e ∙ f) in
     let same = one_inside i j r q inner n m in
-    let outer : codes "*/" ++ r ≡ codes "*/" ++ q = same_rest i (codes "*/" ++ r) (codes "*/" ++ q) (inner ∙ ap (λ (l : List ℕ). l ++ (codes "*/" ++ q)) (sym same)) in
+    let outer : codes "*/" ++ r ≡ codes "*/" ++ q =
+    same_rest i (codes "*/" ++ r) (codes "*/" ++ q) (inner ∙ ap (λ (l : List ℕ). l ++ (codes "*/" ++ q)) (sym same)) in
     (ap (λ (l : List ℕ). codes "/*" ++ (l ++ codes "*/")) same, cc)
 one_comment (IsComment.block i r e n) (IsComment.line j q f m y) = absurd (apart 42 47 refl (ap (λ (l : List ℕ). get_or l 1 0) (sym e ∙ f)))
 one_comment (IsComment.line i r e n x) (IsComment.block j q f m) = absurd (apart 47 42 refl (ap (λ (l : List ℕ). get_or l 1 0) (sym e ∙ f)))
@@ -164,7 +165,8 @@ pub splits_behind : {at : ℕ} {bytes : List ℕ} {ts : List Token} {p : Piece} 
 splits_behind {at} {bytes} {ts} (ended e) f = subst (SplitsBehind at ts) (one_front (front-ended e) f) refl
 splits_behind {at} {bytes} {ts} (space b rest e h s) f = subst (SplitsBehind at ts) (one_front (front-space b rest e h) f) s
 splits_behind {at} {bytes} {ts} (comment c rest e s) f = subst (SplitsBehind at ts) (one_front (front-comment c rest e) f) s
-splits_behind {at} (one {ts = ts} s rest k e n l p) f = subst (SplitsBehind at (token k at (at + length s) ∷ ts)) (one_front (front-one s rest k e n l) f) (ts, refl, p)
+splits_behind {at} (one {ts = ts} s rest k e n l p) f =
+    subst (SplitsBehind at (token k at (at + length s) ∷ ts)) (one_front (front-one s rest k e n l) f) (ts, refl, p)
 
 pub bad_behind : {at bad : ℕ} {bytes : List ℕ} {p : Piece} → BadAt at bytes bad → AtFront bytes p → BadBehind at bad p
 bad_behind {at} {bad} (here b rest n) f = subst (BadBehind at bad) (one_front (front-bad b rest n) f) refl

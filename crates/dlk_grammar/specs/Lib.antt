@@ -1,4 +1,5 @@
 pub mod Tokens
+pub mod Literals
 pub mod Marks
 pub mod Splits
 pub mod Fronts

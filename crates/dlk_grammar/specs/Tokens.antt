@@ -1,5 +1,5 @@
 -- What a token is, by its spelling.
-use Rattle.std.specs.Prelude.{ℕ, ◌+◌, ◌-◌, ◌*◌, ◌≤◌, ◌<◌, nat_le, ◌==◌, ◌&&◌, ◌||◌, Bool, false, if◌then◌else◌, IsTrue, List, [], ◌∷◌, ◌++◌, length, fold, codes}
+use Rattle.std.specs.Prelude.{ℕ, ◌+◌, ◌-◌, ◌*◌, ◌≤◌, ◌<◌, ◌==◌, ◌&&◌, ◌||◌, Bool, false, if◌then◌else◌, IsTrue, List, [], ◌∷◌, ◌++◌, length, fold, codes}
 use Rattle.std.specs.List.{list_all}
 use Rattle.dlk_tree.specs.Names.{is_between, is_name}
 use Rattle.dlk_tree.specs.declared.op.Num.{Num}
@@ -20,11 +20,6 @@ abbrev pub are_digits : List ℕ → Bool
 are_digits [] = false
 are_digits (b ∷ bs) = is_digit b && list_all is_digit bs
 
--- a literal: digits, or digits, a point and digits
-pub data IsLiteral : List ℕ → Type 0 where
-  whole : (s : List ℕ) → IsTrue (are_digits s) → IsLiteral s
-  pointed : (s f : List ℕ) → IsTrue (are_digits s) → IsTrue (are_digits f) → IsLiteral (s ++ (codes "." ++ f))
-
 -- the number that digits say
 abbrev pub value : List ℕ → ℕ
 value digits = fold (λ n b. 10 * n + (b - 48)) 0 digits
@@ -43,11 +38,6 @@ trimmed (d ∷ ds) = before_digits d (trimmed ds)
 -- those at the end of the fraction.
 abbrev pub literal_number : List ℕ → List ℕ → Num
 literal_number integer fraction = record { digits = value (integer ++ trimmed fraction); scale = length (trimmed fraction) }
-
--- the token of a literal, which is long where it has more than 38 digits as written
-abbrev pub literal_kind : List ℕ → List ℕ → TokenKind
-literal_kind integer fraction =
-    if nat_le (length integer + length fraction) 38 then Number (literal_number integer fraction) else LongNumber
 
 -- the spelling of each mark
 abbrev pub spelling : Mark → List ℕ

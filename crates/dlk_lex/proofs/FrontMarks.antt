@@ -82,16 +82,19 @@ module _ {X : Type 0} (text : X → List ℕ) (mark_of : X → Mark) (bytes : Li
     | inl lt ↦
         let within : r.at < length (take i rows) = omega (arith, r.within, length-take i rows) in
         let missing = rw (get_or-take i rows r.at d lt) at (before r.at d within) in
-        absurd (not_at_front bytes (text (get_or rows r.at d)) after missing (e ∙ ap (λ (l : List ℕ). l ++ after) (sym (spells r.at d r.within ∙ ap spelling r.is))))
+        let is : text (get_or rows r.at d) ≡ spelling m = spells r.at d r.within ∙ ap spelling r.is in
+        absurd (not_at_front bytes (text (get_or rows r.at d)) after missing (e ∙ ap (λ (l : List ℕ). l ++ after) (sym is)))
   ]
 
   no_longer : (i j : ℕ) (d : X) → i ≤ j → j < length rows → length (spelling (mark_of (get_or rows j d))) ≤ length (spelling (mark_of (get_or rows i d)))
   no_longer i j d le lt =
-      let pairs = subst (AllPairs IsAsLong) (sym marks_are) (AllPairs-filter IsAsLong (λ n. get_or (spelling n) 0 0 == get_or bytes 0 0) marks (falling marks refl)) in
+      let pairs =
+      subst (AllPairs IsAsLong) (sym marks_are) (AllPairs-filter IsAsLong (λ n. get_or (spelling n) 0 0 == get_or bytes 0 0) marks (falling marks refl)) in
       elim (cases_lt i j) [
         | inl before ↦
             let le = pairs i j (mark_of d) before (omega (arith, size)) in
-            omega (arith, le, ap (λ (n : Mark). length (spelling n)) (get_or-map mark_of rows i d), ap (λ (n : Mark). length (spelling n)) (get_or-map mark_of rows j d))
+            let same = λ (n : ℕ). ap (λ (m : Mark). length (spelling m)) (get_or-map mark_of rows n d) in
+            omega (arith, le, same i, same j)
         | inr after ↦ let e : i ≡ j = omega arith in omega (arith, ap (λ (n : ℕ). length (spelling (mark_of (get_or rows n d)))) e)
       ]
 

@@ -25,7 +25,8 @@ pub prefix_most : (p : ℕ → Bool) (l r : List ℕ) → list_all p l ≡ true 
 prefix_most p [] r h = omega arith
 prefix_most p (b ∷ l) r h = go (p b) h (prefix_most p l r)
   where
-    go : (c : Bool) → (c && list_all p l) ≡ true → (list_all p l ≡ true → length l ≤ prefix_len p (l ++ r)) → suc (length l) ≤ cond c (1 + prefix_len p (l ++ r)) 0
+    go : (c : Bool) → (c && list_all p l) ≡ true → (list_all p l ≡ true → length l ≤ prefix_len p (l ++ r))
+        → suc (length l) ≤ cond c (1 + prefix_len p (l ++ r)) 0
     go true e h = omega (arith, h e)
     go false e h = absurd cc
 
@@ -56,16 +57,19 @@ run_is_word (b ∷ bs) h =
     let n : 1 + prefix_len is_name_byte bs ≡ suc (prefix_len is_name_byte bs) = omega arith in
     rw (letter_is b h, n) (rw (first, prefix_all is_name_byte bs) refl)
 
-pub word_front : (bytes : List ℕ) (k : TokenKind) → is_letter (get_or bytes 0 0) ≡ true → Spells (take (prefix_len is_name_byte bytes) bytes) k → StandsInFront bytes (k, prefix_len is_name_byte bytes)
+pub word_front : (bytes : List ℕ) (k : TokenKind) → is_letter (get_or bytes 0 0) ≡ true → Spells (take (prefix_len is_name_byte bytes) bytes) k
+    → StandsInFront bytes (k, prefix_len is_name_byte bytes)
 word_front bytes k h spells = stands bytes (prefix_len is_name_byte bytes) k (prefix_len-le-length is_name_byte bytes) spells (λ s after other e p.
     rw e (prefix_most is_name_byte s after (word_bytes s (word_here bytes s after e p h))))
 
 -- three bytes, point, underscore and digit, are a dot
-pub dot_front : (bytes : List ℕ) → 3 ≤ length bytes → get_or bytes 0 0 ≡ 46 → get_or bytes 1 0 ≡ 95 → 48 ≤ get_or bytes 2 0 → get_or bytes 2 0 ≤ 55 → StandsInFront bytes (kind.Dot (get_or bytes 2 0 - 48), 3)
+pub dot_front : (bytes : List ℕ) → 3 ≤ length bytes → get_or bytes 0 0 ≡ 46 → get_or bytes 1 0 ≡ 95 → 48 ≤ get_or bytes 2 0 → get_or bytes 2 0 ≤ 55
+    → StandsInFront bytes (kind.Dot (get_or bytes 2 0 - 48), 3)
 dot_front bytes le e f low high = stands bytes 3 (kind.Dot (get_or bytes 2 0 - 48)) le (go bytes le e f low high) (λ s after other e' p.
     let w = dot_here bytes s after e' p e in omega (arith, ap length w.2))
   where
-    go : (l : List ℕ) → 3 ≤ length l → get_or l 0 0 ≡ 46 → get_or l 1 0 ≡ 95 → 48 ≤ get_or l 2 0 → get_or l 2 0 ≤ 55 → Spells (take 3 l) (kind.Dot (get_or l 2 0 - 48))
+    go : (l : List ℕ) → 3 ≤ length l → get_or l 0 0 ≡ 46 → get_or l 1 0 ≡ 95 → 48 ≤ get_or l 2 0 → get_or l 2 0 ≤ 55
+        → Spells (take 3 l) (kind.Dot (get_or l 2 0 - 48))
     go [] le e f low high = absurd (omega arith)
     go (a ∷ []) le e f low high = absurd (omega arith)
     go (a ∷ b ∷ []) le e f low high = absurd (omega arith)
@@ -79,7 +83,8 @@ hole_front [] e = absurd (omega arith)
 hole_front (b ∷ bs) e = stands (b ∷ bs) 1 kind.Hole (omega arith) (rw e hole) (λ s after other f p.
     omega (arith, ap length (hole_here (b ∷ bs) s after f p e)))
 
-module _ (bytes : List ℕ) (no_letter : is_letter (get_or bytes 0 0) ≡ false) (no_digit : is_digit (get_or bytes 0 0) ≡ false) (no_point : (get_or bytes 0 0 == 46) ≡ false) (no_under : (get_or bytes 0 0 == 95) ≡ false) where
+module _ (bytes : List ℕ) (no_letter : is_letter (get_or bytes 0 0) ≡ false) (no_digit : is_digit (get_or bytes 0 0) ≡ false)
+    (no_point : (get_or bytes 0 0 == 46) ≡ false) (no_under : (get_or bytes 0 0 == 95) ≡ false) where
   pub mark_front : (m : Mark) → IsFrontMark bytes m → StandsInFront bytes (kind.Mark m, length (spelling m))
   mark_front m f =
       let le : length (spelling m) ≤ length bytes = omega (arith, ap length f.front, length-append (spelling m) f.rest) in

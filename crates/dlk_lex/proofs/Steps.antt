@@ -19,7 +19,8 @@ module _ (bytes : List ℕ) (some : 0 < length bytes) where
   pub space_piece : is_space (get_or bytes 0 0) ≡ true → (1 ≤ length bytes) × AtFront bytes (Piece.Gap 1 (drop 1 bytes))
   space_piece h = (omega arith, front-space (get_or bytes 0 0) (drop 1 bytes) first_is h)
 
-  pub token_piece : (n : ℕ) (k : TokenKind) → ¬ BeginsComment bytes → StandsInFront bytes (k, n) → (n ≤ length bytes) × AtFront bytes (Piece.One (take n bytes) k (drop n bytes))
+  pub token_piece : (n : ℕ) (k : TokenKind) → ¬ BeginsComment bytes → StandsInFront bytes (k, n)
+      → (n ≤ length bytes) × AtFront bytes (Piece.One (take n bytes) k (drop n bytes))
   token_piece n k none f = (f.within, front-one (take n bytes) (drop n bytes) k (sym (take-append-drop n bytes)) none f.is)
 
   pub no_piece : is_space (get_or bytes 0 0) ≡ false → ¬ BeginsComment bytes → IsToken bytes None → AtFront bytes Piece.Bad
@@ -47,12 +48,15 @@ module _ (bytes : List ℕ) (at : ℕ) (out : List Token) (reached : Reached byt
         (forward f.1).0,
         record {
           within = le;
-          found = λ ts s. reached.found ts (subst (λ (l : List ℕ). Splits at l ts) same (go_on f.1 (subst (λ (l : List ℕ). Splits (at + n) l ts) (sym behind) s)));
+          found = λ ts s.
+              let further = subst (λ (l : List ℕ). Splits (at + n) l ts) (sym behind) s in
+              reached.found ts (subst (λ (l : List ℕ). Splits at l ts) same (go_on f.1 further));
           bad = λ b s. reached.bad b (subst (λ (l : List ℕ). BadAt at l b) same (go_bad f.1 (subst (λ (l : List ℕ). BadAt (at + n) l b) (sym behind) s)));
         },
       )
 
-  pub past_token : (n : ℕ) (k : TokenKind) → (n ≤ length rest) × AtFront rest (Piece.One (take n rest) k (drop n rest)) → (0 < n) × Reached bytes (at + n) (out ++ token k at (at + n) ∷ [])
+  pub past_token : (n : ℕ) (k : TokenKind) → (n ≤ length rest) × AtFront rest (Piece.One (take n rest) k (drop n rest))
+      → (0 < n) × Reached bytes (at + n) (out ++ token k at (at + n) ∷ [])
   past_token n k f =
       let le : at + n ≤ length bytes = omega (arith, f.0, ap length same, length-drop at bytes, reached.within) in
       let behind : drop n rest ≡ drop (at + n) bytes = ap (drop n) same ∙ drop-drop n at bytes in
@@ -61,9 +65,11 @@ module _ (bytes : List ℕ) (at : ℕ) (out : List Token) (reached : Reached byt
         omega arith,
         record {
           within = le;
-          found = λ ts s. subst (Splits 0 bytes) (sym (append_assoc out (token k at (at + n) ∷ []) ts))
-              (reached.found (token k at (at + n) ∷ ts) (subst (λ (l : List ℕ). Splits at l (token k at (at + n) ∷ ts)) same
-              (go_on f.1 (ts, ap (λ (m : ℕ). token k at (at + m) ∷ ts) (sym size), subst (λ (m : ℕ). Splits (at + m) (drop n rest) ts) (sym size) (subst (λ (l : List ℕ). Splits (at + n) l ts) (sym behind) s)))));
+          found = λ ts s.
+              let further = subst (λ (m : ℕ). Splits (at + m) (drop n rest) ts) (sym size) (subst (λ (l : List ℕ). Splits (at + n) l ts) (sym behind) s) in
+              let here = go_on f.1 (ts, ap (λ (m : ℕ). token k at (at + m) ∷ ts) (sym size), further) in
+              let all = reached.found (token k at (at + n) ∷ ts) (subst (λ (l : List ℕ). Splits at l (token k at (at + n) ∷ ts)) same here) in
+              subst (Splits 0 bytes) (sym (append_assoc out (token k at (at + n) ∷ []) ts)) all;
           bad = λ b s. reached.bad b (subst (λ (l : List ℕ). BadAt at l b) same
               (go_bad f.1 (subst (λ (m : ℕ). BadAt (at + m) (drop n rest) b) (sym size) (subst (λ (l : List ℕ). BadAt (at + n) l b) (sym behind) s))));
         },
