@@ -1,5 +1,5 @@
+pub mod Parsing
 pub mod Steps
+mod TreeSteps
 mod SideSteps
 mod PairSteps
-mod ReadingSteps
-mod PairReading

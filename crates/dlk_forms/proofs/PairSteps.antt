@@ -1,28 +1,26 @@
 -- What lexemes make of the pairs of a substitution.
-use Rattle.std.proofs.Common.{◌≡◌, ℕ, List, [], ◌∷◌, ◌++◌, Option, Some, None, Result, Ok, Err, refl, ap, ◌∙◌}
+use Rattle.std.proofs.Common.{◌≡◌, true, false, List, [], ◌∷◌, ◌++◌, Option, Some, None, Result, Ok, Err, refl, ap, subst, ◌∙◌}
 use Rattle.dlk_tree.specs.declared.op.Sym.{Sym}
 use Rattle.dlk_tree.specs.declared.op.Sort.{Sort}
 use Rattle.dlk_tree.specs.declared.op.Sort.TheVariants.{Term, Formula, Program}
-use Rattle.dlk_grammar.specs.Lexemes.{Word, Comma}
-use Rattle.dlk_grammar.specs.Phrases.{Phrase, Everywhere, Evolve, Flow, Items, add}
+use Rattle.dlk_grammar.specs.declared.token.Infix.TheVariants.{And}
+use Rattle.dlk_grammar.specs.Lexemes.{Lexeme, Comma, Op}
+use Rattle.dlk_grammar.specs.Phrases.{Phrase}
 use Rattle.dlk_grammar.specs.Substitutions.{Target, function, predicate, PairPhrase, to}
-use Rattle.dlk_machine.specs.Machine.{◌>>=◌, Part, Piece, Is, Symbol, as_sort, reduce, whole, State, Wants, Has, Calls, Bars, BarsName, Binds, Starts, StartsPrime, StartsGets, StartsStar, Opens, OpensName, OpensPrime, WantsItem, ItemName, ItemPrime, ItemBar, ItemBarName, ItemEnds, Invariants, step, ended}
+use Rattle.dlk_machine.specs.Machine.{◌>>=◌, Part, Braced, Piece, Is, Symbol, as_sort, reduce, whole, State, Wants, Has, Calls, Bars, BarsName, Binds, Starts, StartsPrime, StartsGets, StartsStar, Opens, OpensName, OpensPrime, WantsItem, ItemName, ItemPrime, ItemBar, ItemBarName, ItemEnds, Invariants, step, ended}
 use Rattle.dlk_machine.specs.Parse.{or_else}
-use Rattle.dlk_machine.specs.Pairs.{Right, EitherOf, TextOf, SystemOf, PairState, Begins, InRight, ItemWanted, ItemName as NameOfItem, InTerm, ItemEnds as EndOfItem, PairsState, Within, pair_step, pair_ended, pairs_step, right_sort, right_ended, within}
+use Rattle.dlk_machine.specs.Pairs.{Right, EitherOf, TextOf, SystemOf, PairState, Begins, InRight, InSystem, system_state, PairsState, Within, pair_step, pair_ended, pairs_step, right_sort, right_ended, within}
 use Rattle.dlk_reader.specs.Shows.{seen, last_of, Shows, Agrees}
 use Rattle.dlk_reader.specs.Ends.{at_comma}
-use Rattle.dlk_forms.specs.PairReaders.{wants, left_state, IsLeft, right_whole, with_pair, KeepsPairs, Rests, ShowsItem, ShowsPair, ShowsWithin}
-use Rattle.dlk_reader.specs.declared.code.Code.{Code}
-use Rattle.dlk_reader.specs.declared.lexeme.Lexeme.{Lexeme}
+use Rattle.dlk_forms.specs.PairReaders.{wants, left_state, IsLeft, right_whole, with_pair, KeepsPairs, Rests, is_and, is_system, ShowsPair, ShowsWithin}
+use Rattle.dlk_reader.specs.declared.lexeme.Lexeme.{Lexeme as SeenLexeme}
 use Rattle.dlk_reader.specs.declared.lexeme.Lexeme.TheVariants as lexeme
 use Rattle.dlk_forms.specs.declared.pair_heads.LeftMode.{LeftMode}
 use Rattle.dlk_forms.specs.declared.pair_heads.LeftMode.TheVariants as left
 use Rattle.dlk_forms.specs.declared.pair_heads.Right.{Right as RightPart}
-use Rattle.dlk_forms.specs.declared.pair_items.ItemMode.{ItemMode}
-use Rattle.dlk_forms.specs.declared.pair_items.ItemMode.TheVariants as item
 use Rattle.dlk_forms.specs.declared.pairs.PairMode.{PairMode}
 use Rattle.dlk_forms.specs.declared.pairs.PairMode.TheVariants as pair
-use Rattle.dlk_forms.specs.declared.pairs.PairsReader.{PairsReader}
+use Rattle.dlk_forms.specs.declared.pairs.PairsSoFar.{PairsSoFar}
 use Rattle.dlk_reader.specs.declared.parts.Last.{Last}
 use Rattle.dlk_reader.specs.declared.parts.Mode.{Mode}
 use Rattle.dlk_reader.specs.declared.parts.Mode.TheVariants as mode
@@ -32,26 +30,36 @@ use Rattle.dlk_reader.specs.declared.stop.StepFault.TheVariants.{Memory, Syntax}
 use Rattle.dlk_reader.proofs.Commas.{ended_by, ended_with, behind, comma_behind, ended_is_with}
 
 -- the pairs do not lie on the stack
-pub keeps_pairs : (r : PairsReader) (k : Stack) (l : List PairPhrase) (behind : List Code) → KeepsPairs r l behind → KeepsPairs (record r { stack = k }) l behind
-keeps_pairs r k l behind h = record { symbols = h.symbols; done = h.done }
+pub keeps_pairs : (r : PairsSoFar) (k : Stack) (l : List PairPhrase) → KeepsPairs r l → KeepsPairs (record r { stack = k }) l
+keeps_pairs r k l h = record { symbols = h.symbols; done = h.done }
 
--- an ODE constant ends where no prime and no taboo follows it
-pub item_name_other : (s : Sym) (n : ℕ) (l : Items) (x : Word) (k : Lexeme) → (k ≡ lexeme.Prime → ⊥) → (k ≡ lexeme.BraceBar → ⊥) → pair_step (NameOfItem s n l x) (seen k) ≡ pair_step (EndOfItem s n (add l (Flow x Everywhere))) (seen k)
-item_name_other s n l x lexeme.Prime p b = absurd (p refl)
-item_name_other s n l x lexeme.BraceBar p b = absurd (b refl)
-item_name_other s n l x _ p b = refl
+-- a system has no domain
+pub system_domain : (s : Sym) (x : State) (k : Lexeme) → is_and k ≡ true → pair_step (InSystem s x) k ≡ None
+system_domain s x (Op And) e = refl
+system_domain s x _ e = absurd cc
 
--- the term of an item, which ends at a comma or goes on
-module _ (s : Sym) (n : ℕ) (i : Items) (x : Word) where
-  abbrev pub next_item : Phrase → Option PairState
-  next_item t = Some (ItemWanted s n (add i (Evolve x t)))
+pub system_other : (s : Sym) (x : State) (k : Lexeme) → is_and k ≡ false → pair_step (InSystem s x) k ≡ (step Program x k >>= λ y. Some (system_state s y))
+system_other s x (Op And) e = absurd cc
+system_other s x _ e = refl
 
-  abbrev pub in_item : State → Option PairState
-  in_item y = Some (InTerm s n i x y)
+-- what is whole behind a brace, and nothing is open
+pub system_whole : (x : State) → is_system x ≡ true → (t : Phrase) × (x ≡ Has [] (Is Program t Braced))
+system_whole (Has [] (Is Program t Braced)) e = (t, refl)
+system_whole _ e = absurd cc
 
-  pub term_at_comma : (y : State) → pair_step (InTerm s n i x y) Comma ≡ (at_comma Term y >>= behind (as_sort Term) next_item in_item)
-  term_at_comma y =
-      ap (λ (o : Option Phrase). or_else o (step Term y Comma >>= in_item) next_item) (ended_is_with Term y) ∙ comma_behind Term (as_sort Term) next_item in_item y
+pub system_goes_on : (s : Sym) (x : State) → is_system x ≡ false → system_state s x ≡ InSystem s x
+system_goes_on s (Has [] (Is Program t Braced)) e = absurd cc
+system_goes_on s _ e = refl
+
+-- a whole system, and one that goes on
+pub system_ends : (r : PairsSoFar) (l : List PairPhrase) (s : Sym) (m : Mode) (x : State) → is_system x ≡ true → KeepsPairs r l → Shows r.stack m x → ShowsPair r l (pair.SystemEnds s) (system_state s x)
+system_ends r l s m x e p h =
+    let w = system_whole x e in
+    let k = subst (λ (y : State). Shows r.stack m y) w.1 h in
+    rw w.1 (record { system = w.0; state = refl; pairs = p; whole = record { parts = k.lists.parts; out = k.lists.out } })
+
+pub in_system : (r : PairsSoFar) (l : List PairPhrase) (s : Sym) (m : Mode) (x : State) → is_system x ≡ false → KeepsPairs r l → Shows r.stack m x → ShowsPair r l (pair.InSystem s m) (system_state s x)
+in_system r l s m x e p h = rw (system_goes_on s x e) (record { inner = x; state = refl; pairs = p; shows = h })
 
 -- the same of a value that is known
 pub agrees_some : {X V Y : Type 0} (s : X → Y → Type 0) (r : X → V → Type 0) (o : Result X StepFault) (y : Y) (v : V) → ((x : X) → s x y → r x v) → Agrees s o (Some y) → Agrees r o (Some v)
@@ -145,33 +153,24 @@ left_unended (left.FlowBar x) = refl
 left_unended (left.FlowBarName x y) = refl
 left_unended (left.FlowExcept x y) = refl
 
-item_unended : (r : PairsReader) (l : List PairPhrase) (s : Sym) (n : ℕ) (i : Items) (m : ItemMode) (x : PairState) → ShowsItem r l s n i m x → pair_ended x ≡ None
-item_unended r l s n i item.Wanted x h = ap pair_ended h.state
-item_unended r l s n i (item.Name y) x h = ap pair_ended h.state
-item_unended r l s n i (item.Prime y) x h = ap pair_ended h.state
-item_unended r l s n i (item.InTerm y m) x h = ap pair_ended h.state
-item_unended r l s n i (item.Bar y) x h = ap pair_ended h.state
-item_unended r l s n i (item.BarName y z) x h = ap pair_ended h.state
-item_unended r l s n i item.Ends x h = ap pair_ended h.state
-
-pub pair_unended : (r : PairsReader) (l : List PairPhrase) (m : PairMode) (x : PairState) → ((w : RightPart) (k : Mode) → m ≡ pair.InRight w k → ⊥) → ((s : Sym) → m ≡ pair.SystemEnds s → ⊥) → ShowsPair r l m x → pair_ended x ≡ None
+pub pair_unended : (r : PairsSoFar) (l : List PairPhrase) (m : PairMode) (x : PairState) → ((w : RightPart) (k : Mode) → m ≡ pair.InRight w k → ⊥) → ((s : Sym) → m ≡ pair.SystemEnds s → ⊥) → ShowsPair r l m x → pair_ended x ≡ None
 pair_unended r l (pair.Left m) x a b h = ap pair_ended h.state ∙ left_unended m
 pair_unended r l (pair.LeftEnds w) x a b h = ap pair_ended h.state
 pair_unended r l (pair.InRight w k) x a b h = absurd (a w k refl)
 pair_unended r l (pair.BraceWanted s) x a b h = ap pair_ended h.state
-pair_unended r l (pair.InSystem s e m) x a b h = item_unended r l s h.at h.items m x h.shows
+pair_unended r l (pair.InSystem s m) x a b h = ap pair_ended h.state
 pair_unended r l (pair.SystemEnds s) x a b h = absurd (b s refl)
 
 -- a left side
-pub left_shown : (r : PairsReader) (l : List PairPhrase) → Rests r l [] → (m : PairMode) (x : PairState) → IsLeft m x → ShowsPair r l m x
+pub left_shown : (r : PairsSoFar) (l : List PairPhrase) → Rests r l → (m : PairMode) (x : PairState) → IsLeft m x → ShowsPair r l m x
 left_shown r l h (pair.Left m) x e = record { state = e; rests = h }
 left_shown r l h (pair.LeftEnds w) x e = record { state = e; rests = h }
 left_shown r l h (pair.InRight w k) x e = absurd e
 left_shown r l h (pair.BraceWanted s) x e = absurd e
-left_shown r l h (pair.InSystem s i m) x e = absurd e
+left_shown r l h (pair.InSystem s m) x e = absurd e
 left_shown r l h (pair.SystemEnds s) x e = absurd e
 
-pub left_agrees : (r : PairsReader) (l : List PairPhrase) → Rests r l [] → (o : Result PairMode StepFault) (u : Option PairState) → Agrees IsLeft o u → Agrees (ShowsPair r l) o u
+pub left_agrees : (r : PairsSoFar) (l : List PairPhrase) → Rests r l → (o : Result PairMode StepFault) (u : Option PairState) → Agrees IsLeft o u → Agrees (ShowsPair r l) o u
 left_agrees r l h (Ok m) (Some x) a = left_shown r l h m x a
 left_agrees r l h (Ok m) None a = a
 left_agrees r l h (Err Memory) u a = tt
@@ -179,10 +178,10 @@ left_agrees r l h (Err Syntax) (Some x) a = absurd a
 left_agrees r l h (Err Syntax) None a = a
 
 -- what is read of the next pair
-pub within_shown : (r : PairsReader) (l : List PairPhrase) (o : Result PairMode StepFault) (u : Option PairState) → Agrees (ShowsPair r l) o u → Agrees (ShowsWithin r) o (u >>= λ y. Some (Within l y))
+pub within_shown : (r : PairsSoFar) (l : List PairPhrase) (o : Result PairMode StepFault) (u : Option PairState) → Agrees (ShowsPair r l) o u → Agrees (ShowsWithin r) o (u >>= λ y. Some (Within l y))
 within_shown r l o u a = agrees_same (ShowsPair r l) (ShowsWithin r) o u (Within l) (λ m x h. record { pairs = l; pair = x; state = refl; shows = h }) a
 
-pub within_other : (l : List PairPhrase) (x : PairState) (k : Lexeme) → (k ≡ lexeme.Comma → ⊥) → pairs_step (Within l x) (seen k) ≡ (pair_step x (seen k) >>= λ y. Some (Within l y))
+pub within_other : (l : List PairPhrase) (x : PairState) (k : SeenLexeme) → (k ≡ lexeme.Comma → ⊥) → pairs_step (Within l x) (seen k) ≡ (pair_step x (seen k) >>= λ y. Some (Within l y))
 within_other l x lexeme.Comma a = absurd (a refl)
 within_other l x _ a = refl
 
@@ -190,8 +189,8 @@ pub pair_end : (l : List PairPhrase) (w : Right) (o : Option PairPhrase) → (o 
 pair_end l w (Some q) = refl
 pair_end l w None = refl
 
-pub next_begins : (r : PairsReader) (l : List PairPhrase) → Rests r l [] → ShowsWithin r (pair.Left left.Begins) (Within l Begins)
+pub next_begins : (r : PairsSoFar) (l : List PairPhrase) → Rests r l → ShowsWithin r (pair.Left left.Begins) (Within l Begins)
 next_begins r l h = record { pairs = l; pair = Begins; state = refl; shows = record { state = refl; rests = h } }
 
-pub right_goes_on : (r : PairsReader) (l : List PairPhrase) (w : RightPart) (m : Mode) (x : State) → KeepsPairs r l [] → Shows r.stack m x → ShowsWithin r (pair.InRight w m) (Within l (InRight (wants w) x))
+pub right_goes_on : (r : PairsSoFar) (l : List PairPhrase) (w : RightPart) (m : Mode) (x : State) → KeepsPairs r l → Shows r.stack m x → ShowsWithin r (pair.InRight w m) (Within l (InRight (wants w) x))
 right_goes_on r l w m x k h = record { pairs = l; pair = InRight (wants w) x; state = refl; shows = record { inner = x; state = refl; pairs = k; shows = h } }

@@ -11,14 +11,14 @@ use Rattle.dlk_reader.specs.declared.stop.StepFault.{StepFault}
 use Rattle.dlk_reader.specs.declared.stop.StepFault.TheVariants as fault
 use Rattle.dlk_reader.specs.declared.parts.Mode.{Mode}
 use Rattle.dlk_reader.specs.declared.parts.Mode.TheVariants as mode
-use Rattle.dlk_forms.specs.declared.sides.SidesReader.{SidesReader}
+use Rattle.dlk_forms.specs.declared.sides.SidesSoFar.{SidesSoFar}
 use Rattle.dlk_reader.specs.Shows.{Agrees}
 use Rattle.dlk_reader.specs.Ends.{at_comma}
-use Rattle.dlk_forms.specs.Readers.{ShowsBetween, ShowsReading, ShowsSides, finished, both_of}
+use Rattle.dlk_forms.specs.Readers.{ShowsBetween, ShowsReading, ShowsSidesAt, finished, both_of}
 use Rattle.dlk_reader.proofs.Commas.{behind, comma_behind, ended_is_with}
 
 -- a formula that ended
-pub finished_ok : (r : SidesReader) (w : Side) (l : Phrases) (x : State) → Agrees {X = Unit {0}} (λ _ m. ShowsBetween r w m) (Ok tt) (finished l x) → (t : Phrase) × (ended Formula x ≡ Some t) × ShowsBetween r w (snoc l t)
+pub finished_ok : (r : SidesSoFar) (w : Side) (l : Phrases) (x : State) → Agrees {X = Unit {0}} (λ _ m. ShowsBetween r w m) (Ok tt) (finished l x) → (t : Phrase) × (ended Formula x ≡ Some t) × ShowsBetween r w (snoc l t)
 finished_ok r w l x a = go (ended Formula x) refl a
   where
     go : (o : Option Phrase) → ended Formula x ≡ o → Agrees {X = Unit {0}} (λ _ m. ShowsBetween r w m) (Ok tt) (o >>= λ t. Some (snoc l t)) → (t : Phrase) × (ended Formula x ≡ Some t) × ShowsBetween r w (snoc l t)
@@ -31,7 +31,7 @@ finished_err s r fault.Syntax l (Some t) g a = absurd a
 finished_err s r fault.Syntax l None g a = tt
 
 -- the next formula begins
-pub begins : (r : SidesReader) (w : Side) (m : Phrases) → ShowsBetween r w m → ShowsSides r (Some mode.Wants) (Reading w m (Wants []))
+pub begins : (r : SidesSoFar) (w : Side) (m : Phrases) → ShowsBetween r w m → ShowsSidesAt r (Some mode.Wants) (Reading w m (Wants []))
 begins r w m h = record { mode = mode.Wants; mode_is = refl; reading = record { side = h.side; shows = record { mode = refl; lists = h.lists } } }
 
 -- a formula, which ends at a comma or goes on
@@ -47,11 +47,11 @@ module _ (w : Side) (l : Phrases) where
       ap (λ (o : Option Phrase). or_else o (inner w l x Comma) next_formula) (ended_is_with Formula x) ∙ comma_behind Formula (as_sort Formula) next_formula in_formula x
 
 -- where the reader stands in a side
-pub inside_shown : (r : SidesReader) (m : Option Mode) (k : Mode) (x : SequentState) → m ≡ Some k → ShowsSides r m x → (w : Side) × (l : Phrases) × (y : State) × (x ≡ Reading w l y) × ShowsReading r k w l y
+pub inside_shown : (r : SidesSoFar) (m : Option Mode) (k : Mode) (x : SequentState) → m ≡ Some k → ShowsSidesAt r m x → (w : Side) × (l : Phrases) × (y : State) × (x ≡ Reading w l y) × ShowsReading r k w l y
 inside_shown r m k (Fresh w) e h = absurd (let i = h.mode in cc)
 inside_shown r m k (Reading w l y) e h = (w, l, y, refl, let same : h.mode ≡ k = (let i = h.mode_is in cc) in subst (λ (o : Mode). ShowsReading r o w l y) same h.reading)
 
-pub between_shown : (r : SidesReader) (m : Option Mode) (x : SequentState) → m ≡ None → ShowsSides r m x → (w : Side) × (x ≡ Fresh w) × ShowsBetween r w none
+pub between_shown : (r : SidesSoFar) (m : Option Mode) (x : SequentState) → m ≡ None → ShowsSidesAt r m x → (w : Side) × (x ≡ Fresh w) × ShowsBetween r w none
 between_shown r m (Fresh w) e h = (w, refl, h.between)
 between_shown r m (Reading w l y) e h = absurd (let i = h.mode_is in cc)
 

@@ -16,7 +16,7 @@ use Rattle.dlk_reader.specs.declared.parts.Mode.{Mode}
 use Rattle.dlk_forms.specs.declared.expressions.Place.{Place}
 use Rattle.dlk_forms.specs.declared.expressions.Place.TheVariants as place
 use Rattle.dlk_reader.specs.Shows.{seen, IsOpen, Shows, Agrees}
-use Rattle.dlk_forms.specs.declared.sides.SidesReader.{SidesReader}
+use Rattle.dlk_forms.specs.declared.sides.SidesSoFar.{SidesSoFar}
 use Rattle.dlk_forms.specs.Readers.{ShowsOf, ShowsExpression, KeepsSide}
 
 -- the same value, shown in another way
@@ -46,7 +46,7 @@ as_programs k (Err Syntax) (Some y) a = a
 as_programs k (Err Syntax) None a = a
 
 -- the side does not lie on the stack
-pub keeps_side : (r : SidesReader) (k : Stack) (w : Side) (l : Phrases) → KeepsSide r w l → KeepsSide (record r { stack = k }) w l
+pub keeps_side : (r : SidesSoFar) (k : Stack) (w : Side) (l : Phrases) → KeepsSide r w l → KeepsSide (record r { stack = k }) w l
 keeps_side r k w l h = record { left = h.left; number = h.number; done = h.done }
 
 -- what begins a program

@@ -1,4 +1,4 @@
-//! The reader of one tree.
+//! A term, a formula, a program or an expression on the reader's stack.
 ghost use Rattle.std.specs.Prelude.{true, [], Some};
 ghost use Rattle.dlk_grammar.specs.Phrases.{Variable};
 ghost use Rattle.dlk_tree.specs.declared.op.Sort.{Sort as TheSort};
@@ -8,10 +8,7 @@ ghost use Rattle.dlk_machine.specs.Expressions.{ExpressionState, Unread, FirstNa
 ghost use Rattle.dlk_reader.specs.Shows.{IsWhole, seen, Shows, Agrees, IsOpen};
 ghost use Rattle.dlk_forms.specs.Readers.{ShowsOf, ShowsExpression};
 
-use dlk_reader::Lexeme;
-use dlk_reader::{Last, Mode, Tail};
-use dlk_reader::{Stack, variable};
-use dlk_reader::StepFault;
+use dlk_reader::{Last, Lexeme, Mode, Stack, StepFault, Tail, variable};
 use dlk_tree::{Name, Sort};
 use std::alloc::Global;
 
@@ -28,127 +25,130 @@ pub(crate) enum Place {
     Of(Sort, Mode),
 }
 
-impl Stack {
-    fn step_of(
-        &mut self,
-        alloc: Global,
-        sort: Sort,
-        mode: Mode,
-        lexeme: Lexeme,
-    ) -> Result<Place, StepFault>
-        ensures { (x : State) → Shows self.old mode x → Agrees (ShowsOf sort self.new) result (step sort x (seen lexeme)) }
-    {
-        Ok(Place::Of(sort, self.step(alloc, sort, mode, lexeme)?))
-    }
+fn step_of(
+    stack: &mut Stack,
+    alloc: Global,
+    sort: Sort,
+    mode: Mode,
+    lexeme: Lexeme,
+) -> Result<Place, StepFault>
+    ensures { (x : State) → Shows stack.old mode x → Agrees (ShowsOf sort stack.new) result (step sort x (seen lexeme)) }
+{
+    Ok(Place::Of(sort, stack.step(alloc, sort, mode, lexeme)?))
+}
 
-    fn step_program(
-        &mut self,
-        alloc: Global,
-        mode: Mode,
-        lexeme: Lexeme,
-    ) -> Result<Place, StepFault>
-        ensures { (x : State) → Shows self.old mode x → Agrees (ShowsExpression self.new) result (as_program x (seen lexeme)) }
-    {
-        self.step_of(alloc, Sort::Program, mode, lexeme)
-    }
+fn step_program(
+    stack: &mut Stack,
+    alloc: Global,
+    mode: Mode,
+    lexeme: Lexeme,
+) -> Result<Place, StepFault>
+    ensures { (x : State) → Shows stack.old mode x → Agrees (ShowsExpression stack.new) result (as_program x (seen lexeme)) }
+{
+    step_of(stack, alloc, Sort::Program, mode, lexeme)
+}
 
-    fn step_either(&mut self, alloc: Global, mode: Mode, lexeme: Lexeme) -> Result<Place, StepFault>
-        ensures { (x : State) → Shows self.old mode x → Agrees (ShowsExpression self.new) result (as_formula x (seen lexeme)) }
-    {
-        Ok(Place::Either(self.step(alloc, Sort::Formula, mode, lexeme)?))
-    }
+fn step_either(
+    stack: &mut Stack,
+    alloc: Global,
+    mode: Mode,
+    lexeme: Lexeme,
+) -> Result<Place, StepFault>
+    ensures { (x : State) → Shows stack.old mode x → Agrees (ShowsExpression stack.new) result (as_formula x (seen lexeme)) }
+{
+    Ok(Place::Either(stack.step(alloc, Sort::Formula, mode, lexeme)?))
+}
 
-    /// The first lexeme of an expression.
-    fn step_unread(&mut self, alloc: Global, lexeme: Lexeme) -> Result<Place, StepFault>
-        ensures { IsOpen self.old [] [] → Agrees (ShowsExpression self.new) result (expression_step Unread (seen lexeme)) }
-    {
-        match lexeme {
-            Lexeme::Name(at, name) => Ok(Place::FirstName { at, name }),
-            Lexeme::Query => self.step_program(alloc, Mode::Wants, lexeme),
-            Lexeme::OpenBrace(_) => self.step_program(alloc, Mode::Wants, lexeme),
-            _ => self.step_either(alloc, Mode::Wants, lexeme),
+/// The first lexeme of an expression.
+fn step_unread(stack: &mut Stack, alloc: Global, lexeme: Lexeme) -> Result<Place, StepFault>
+    ensures { IsOpen stack.old [] [] → Agrees (ShowsExpression stack.new) result (expression_step Unread (seen lexeme)) }
+{
+    match lexeme {
+        Lexeme::Name(at, name) => Ok(Place::FirstName { at, name }),
+        Lexeme::Query => step_program(stack, alloc, Mode::Wants, lexeme),
+        Lexeme::OpenBrace(_) => step_program(stack, alloc, Mode::Wants, lexeme),
+        _ => step_either(stack, alloc, Mode::Wants, lexeme),
+    }
+}
+
+/// A lexeme behind the name with which an expression begins.
+fn step_first_name(
+    stack: &mut Stack,
+    alloc: Global,
+    at: usize,
+    name: Name,
+    lexeme: Lexeme,
+) -> Result<Place, StepFault>
+    ensures { IsOpen stack.old [] [] → Agrees (ShowsExpression stack.new) result (expression_step (FirstName at name) (seen lexeme)) }
+{
+    match lexeme {
+        Lexeme::Prime => Ok(Place::FirstPrime(name)),
+        Lexeme::Semi => step_program(stack, alloc, Mode::Starts(name), lexeme),
+        Lexeme::Gets => step_program(stack, alloc, Mode::Starts(name), lexeme),
+        _ => step_either(stack, alloc, Mode::Has(Last::Name { at, name }), lexeme),
+    }
+}
+
+/// Reads the name and the prime with which an expression begins as a term.
+fn differential(stack: &mut Stack, name: Name) -> Result<Mode, StepFault>
+    ensures { IsOpen stack.old [] [] → Agrees (Shows stack.new) result (Some (Has [] (Is sort_of.Term (Variable name true) Done))) }
+{
+    stack.out.push(variable(name, true))?;
+    Ok(Mode::Has(Last::Tree(Sort::Term, Tail::Done)))
+}
+
+/// A lexeme behind them.
+fn step_first_prime(
+    stack: &mut Stack,
+    alloc: Global,
+    name: Name,
+    lexeme: Lexeme,
+) -> Result<Place, StepFault>
+    ensures { IsOpen stack.old [] [] → Agrees (ShowsExpression stack.new) result (expression_step (FirstPrime name) (seen lexeme)) }
+{
+    if let Lexeme::Gets = lexeme {
+        return step_program(stack, alloc, Mode::StartsPrime(name), lexeme);
+    }
+    let mode = differential(stack, name)?;
+    step_either(stack, alloc, mode, lexeme)
+}
+
+/// What a lexeme makes of what was read of one tree.
+pub(crate) fn step_tree(
+    stack: &mut Stack,
+    alloc: Global,
+    place: Place,
+    lexeme: Lexeme,
+) -> Result<Place, StepFault>
+    ensures expression { (x : ExpressionState) → ShowsExpression stack.old place x
+        → Agrees (ShowsExpression stack.new) result (expression_step x (seen lexeme)) }
+    ensures of { (sort : TheSort) (x : State) → ShowsOf sort stack.old place x
+        → Agrees (ShowsOf sort stack.new) result (step sort x (seen lexeme)) }
+{
+    match place {
+        Place::Unread => step_unread(stack, alloc, lexeme),
+        Place::FirstName { at, name } => step_first_name(stack, alloc, at, name, lexeme),
+        Place::FirstPrime(name) => step_first_prime(stack, alloc, name, lexeme),
+        Place::Either(mode) => step_either(stack, alloc, mode, lexeme),
+        Place::Of(sort, mode) => step_of(stack, alloc, sort, mode, lexeme),
+    }
+}
+
+/// The end of one tree.
+pub(crate) fn end_tree(stack: &mut Stack, place: Place) -> Result<(), StepFault>
+    ensures expression { (x : ExpressionState) → ShowsExpression stack.old place x
+        → Agrees (λ _ t. IsWhole stack.new t) result (expression_ended x) }
+    ensures of { (sort : TheSort) (x : State) → ShowsOf sort stack.old place x
+        → Agrees (λ _ t. IsWhole stack.new t) result (ended sort x) }
+{
+    match place {
+        Place::Unread => Err(StepFault::Syntax),
+        Place::FirstName { at, name } => stack.end_either(Mode::Has(Last::Name { at, name })),
+        Place::FirstPrime(name) => {
+            let mode = differential(stack, name)?;
+            stack.end_either(mode)
         }
-    }
-
-    /// A lexeme behind the name with which an expression begins.
-    fn step_first_name(
-        &mut self,
-        alloc: Global,
-        at: usize,
-        name: Name,
-        lexeme: Lexeme,
-    ) -> Result<Place, StepFault>
-        ensures { IsOpen self.old [] [] → Agrees (ShowsExpression self.new) result (expression_step (FirstName at name) (seen lexeme)) }
-    {
-        match lexeme {
-            Lexeme::Prime => Ok(Place::FirstPrime(name)),
-            Lexeme::Semi => self.step_program(alloc, Mode::Starts(name), lexeme),
-            Lexeme::Gets => self.step_program(alloc, Mode::Starts(name), lexeme),
-            _ => self.step_either(alloc, Mode::Has(Last::Name { at, name }), lexeme),
-        }
-    }
-
-    /// Reads the name and the prime with which an expression begins as a term.
-    fn differential(&mut self, name: Name) -> Result<Mode, StepFault>
-        ensures { IsOpen self.old [] [] → Agrees (Shows self.new) result (Some (Has [] (Is sort_of.Term (Variable name true) Done))) }
-    {
-        self.out.push(variable(name, true))?;
-        Ok(Mode::Has(Last::Tree(Sort::Term, Tail::Done)))
-    }
-
-    /// A lexeme behind them.
-    fn step_first_prime(
-        &mut self,
-        alloc: Global,
-        name: Name,
-        lexeme: Lexeme,
-    ) -> Result<Place, StepFault>
-        ensures { IsOpen self.old [] [] → Agrees (ShowsExpression self.new) result (expression_step (FirstPrime name) (seen lexeme)) }
-    {
-        if let Lexeme::Gets = lexeme {
-            return self.step_program(alloc, Mode::StartsPrime(name), lexeme);
-        }
-        let mode = self.differential(name)?;
-        self.step_either(alloc, mode, lexeme)
-    }
-
-    /// What a lexeme makes of what was read of one tree.
-    pub(crate) fn step_tree(
-        &mut self,
-        alloc: Global,
-        place: Place,
-        lexeme: Lexeme,
-    ) -> Result<Place, StepFault>
-        ensures expression { (x : ExpressionState) → ShowsExpression self.old place x
-            → Agrees (ShowsExpression self.new) result (expression_step x (seen lexeme)) }
-        ensures of { (sort : TheSort) (x : State) → ShowsOf sort self.old place x
-            → Agrees (ShowsOf sort self.new) result (step sort x (seen lexeme)) }
-    {
-        match place {
-            Place::Unread => self.step_unread(alloc, lexeme),
-            Place::FirstName { at, name } => self.step_first_name(alloc, at, name, lexeme),
-            Place::FirstPrime(name) => self.step_first_prime(alloc, name, lexeme),
-            Place::Either(mode) => self.step_either(alloc, mode, lexeme),
-            Place::Of(sort, mode) => self.step_of(alloc, sort, mode, lexeme),
-        }
-    }
-
-    /// The end of one tree.
-    pub(crate) fn end_tree(&mut self, place: Place) -> Result<(), StepFault>
-        ensures expression { (x : ExpressionState) → ShowsExpression self.old place x
-            → Agrees (λ _ t. IsWhole self.new t) result (expression_ended x) }
-        ensures of { (sort : TheSort) (x : State) → ShowsOf sort self.old place x
-            → Agrees (λ _ t. IsWhole self.new t) result (ended sort x) }
-    {
-        match place {
-            Place::Unread => Err(StepFault::Syntax),
-            Place::FirstName { at, name } => self.end_either(Mode::Has(Last::Name { at, name })),
-            Place::FirstPrime(name) => {
-                let mode = self.differential(name)?;
-                self.end_either(mode)
-            }
-            Place::Either(mode) => self.end_either(mode),
-            Place::Of(sort, mode) => self.end(sort, mode),
-        }
+        Place::Either(mode) => stack.end_either(mode),
+        Place::Of(sort, mode) => stack.end(sort, mode),
     }
 }

@@ -11,10 +11,12 @@ ghost use Rattle.dlk_machine.specs.Pairs.{Begins, LeftName, Calls, DotsOf, DotWa
 ghost use Rattle.dlk_reader.specs.Shows.{seen, space_of, Agrees};
 ghost use Rattle.dlk_forms.specs.PairReaders.{target_of, left_state, IsLeft};
 
-use dlk_reader::Lexeme;
 use crate::pairs::PairMode;
-use dlk_reader::StepFault;
+use dlk_reader::{Lexeme, StepFault};
 use dlk_tree::{Kind, Name, Sort, Sym};
+
+/// How many argument dots there are: `._0` to `._7`.
+const MOST_DOTS: u8 = 8;
 
 /// A function or a predicate on the left of a pair.
 #[derive(Drop)]
@@ -182,7 +184,9 @@ fn dots_step(term: bool, name: Name, count: u8, lexeme: Lexeme) -> Result<PairMo
     ensures { Agrees IsLeft result (pair_step (DotsOf term name count) (seen lexeme)) }
 {
     match lexeme {
-        Lexeme::Comma => Ok(PairMode::Left(LeftMode::DotWanted { term, name, count })),
+        Lexeme::Comma if count < MOST_DOTS => {
+            Ok(PairMode::Left(LeftMode::DotWanted { term, name, count }))
+        }
         Lexeme::Close => Ok(target_ends(term, Target::Over { name, arity: count })),
         _ => Err(StepFault::Syntax),
     }

@@ -1,24 +1,23 @@
 //! The reader of a sequent: formulas on both sides of `==>`.
 ghost use Rattle.std.specs.Prelude.{Some};
 ghost use Rattle.dlk_grammar.specs.Phrases.{Phrase, Phrases, snoc};
-ghost use Rattle.dlk_machine.specs.Machine.{State};
-ghost use Rattle.dlk_machine.specs.Sequents.{Side, SequentState, Reading, sequent_step, sequent_ended, turn, inner};
+ghost use Rattle.dlk_grammar.specs.declared.token.Dots.TheVariants.{Refused};
+ghost use Rattle.dlk_grammar.specs.Readings.{permits};
+ghost use Rattle.dlk_machine.specs.Machine.{State, when};
+ghost use Rattle.dlk_machine.specs.Sequents.{Side, LeftSide, SequentState, Fresh, Reading, sequent_step, sequent_ended, turn, inner};
 ghost use Rattle.dlk_grammar.specs.Lexemes.{Comma as CommaLexeme, Turnstile};
 ghost use Rattle.dlk_reader.specs.Shows.{IsWhole, seen, Agrees};
-ghost use Rattle.dlk_forms.specs.Readers.{ShowsBetween, ShowsReading, ShowsSides, KeepsSide, IsCodeOf, finished, both_of};
+ghost use Rattle.dlk_forms.specs.Readers.{ShowsBetween, ShowsReading, ShowsSidesAt, ShowsSides, SidesComes, KeepsSide, IsCodeOf, finished, both_of};
 
-use dlk_reader::Code;
-use dlk_reader::Comma;
-use dlk_reader::Lexeme;
-use dlk_reader::Mode;
-use dlk_reader::{Stack, one_more};
-use dlk_reader::StepFault;
+use crate::dots::permits;
+use dlk_grammar::Dots;
+use dlk_reader::{Code, Comma, Lexeme, LexemeReader, Mode, Stack, StepFault, one_more};
 use dlk_tree::Sort;
 use std::alloc::Global;
 
-/// A reader of a sequent.
+/// What is read of a sequent.
 #[derive(Drop)]
-pub(crate) struct SidesReader {
+pub(crate) struct SidesSoFar {
     pub(crate) stack: Stack,
     /// The operators of the formulas that are whole, in order.
     pub(crate) done: Vec<Code>,
@@ -28,15 +27,21 @@ pub(crate) struct SidesReader {
     pub(crate) number: usize,
 }
 
-/// The operators of the formulas of both sides in order, each behind its operands, and how many formulas each side has.
+/// The operators of the formulas of both sides in order, each behind its operands, and how many formulas the left side has.
 #[derive(Drop)]
-pub(crate) struct SidesCode {
-    pub(crate) left: usize,
-    pub(crate) right: usize,
-    pub(crate) code: Vec<Code>,
+pub struct SidesCode {
+    pub left: usize,
+    pub code: Vec<Code>,
 }
 
-impl SidesReader {
+/// A reader of a sequent, in which dots are refused. There is no mode where nothing of a side was read.
+#[derive(Drop)]
+pub(crate) struct SidesReader {
+    pub(crate) sides: SidesSoFar,
+    pub(crate) mode: Option<Mode>,
+}
+
+impl SidesSoFar {
     /// A lexeme of the formula that is read.
     fn step_inner(
         &mut self,
@@ -45,7 +50,7 @@ impl SidesReader {
         lexeme: Lexeme,
     ) -> Result<Option<Mode>, StepFault>
         ensures { (w : Side) (l : Phrases) (x : State) → ShowsReading self.old mode w l x
-            → Agrees (ShowsSides self.new) result (inner w l x (seen lexeme)) }
+            → Agrees (ShowsSidesAt self.new) result (inner w l x (seen lexeme)) }
     {
         Ok(Some(self.stack.step(alloc, Sort::Formula, mode, lexeme)?))
     }
@@ -72,7 +77,7 @@ impl SidesReader {
     /// A comma behind a formula that is whole, or in one that is not.
     fn step_comma(&mut self, alloc: Global, mode: Mode) -> Result<Option<Mode>, StepFault>
         ensures { (w : Side) (l : Phrases) (x : State) → ShowsReading self.old mode w l x
-            → Agrees (ShowsSides self.new) result (sequent_step (Reading w l x) CommaLexeme) }
+            → Agrees (ShowsSidesAt self.new) result (sequent_step (Reading w l x) CommaLexeme) }
     {
         match self.stack.at_comma(alloc, Sort::Formula, mode)? {
             Comma::GoesOn(mode) => Ok(Some(mode)),
@@ -87,7 +92,7 @@ impl SidesReader {
     /// The left side ends.
     fn turn(&mut self) -> Result<Option<Mode>, StepFault>
         ensures { (w : Side) (l : Phrases) → ShowsBetween self.old w l
-            → Agrees (ShowsSides self.new) result (turn w l) }
+            → Agrees (ShowsSidesAt self.new) result (turn w l) }
     {
         if self.left.is_some() {
             return Err(StepFault::Syntax);
@@ -99,8 +104,8 @@ impl SidesReader {
 
     /// What `==>` makes of what was read.
     fn step_turnstile(&mut self, mode: Option<Mode>) -> Result<Option<Mode>, StepFault>
-        ensures { (x : SequentState) → ShowsSides self.old mode x
-            → Agrees (ShowsSides self.new) result (sequent_step x Turnstile) }
+        ensures { (x : SequentState) → ShowsSidesAt self.old mode x
+            → Agrees (ShowsSidesAt self.new) result (sequent_step x Turnstile) }
     {
         let Some(mode) = mode else {
             return self.turn();
@@ -109,15 +114,15 @@ impl SidesReader {
         self.turn()
     }
 
-    /// What a lexeme makes of what was read. There is no mode where nothing of a side was read.
-    pub(crate) fn step(
+    /// What a lexeme makes of what was read.
+    fn step(
         &mut self,
         alloc: Global,
         mode: Option<Mode>,
         lexeme: Lexeme,
     ) -> Result<Option<Mode>, StepFault>
-        ensures { (x : SequentState) → ShowsSides self.old mode x
-            → Agrees (ShowsSides self.new) result (sequent_step x (seen lexeme)) }
+        ensures { (x : SequentState) → ShowsSidesAt self.old mode x
+            → Agrees (ShowsSidesAt self.new) result (sequent_step x (seen lexeme)) }
     {
         if let Lexeme::Turnstile = lexeme {
             return self.step_turnstile(mode);
@@ -139,7 +144,6 @@ impl SidesReader {
         match self.left {
             Some(left) => Ok(SidesCode {
                 left,
-                right: self.number,
                 code: self.done,
             }),
             None => Err(StepFault::Syntax),
@@ -147,8 +151,8 @@ impl SidesReader {
     }
 
     /// The end of a sequent.
-    pub(crate) fn end(self, mode: Option<Mode>) -> Result<SidesCode, StepFault>
-        ensures { (x : SequentState) → ShowsSides self mode x
+    fn end(self, mode: Option<Mode>) -> Result<SidesCode, StepFault>
+        ensures { (x : SequentState) → ShowsSidesAt self mode x
             → Agrees IsCodeOf result (sequent_ended x) }
     {
         let Some(mode) = mode else {
@@ -157,5 +161,51 @@ impl SidesReader {
         let mut reader = self;
         reader.finish(mode)?;
         reader.both()
+    }
+}
+
+impl SidesReader {
+    /// A reader where a sequent begins.
+    pub(crate) fn new(alloc: Global) -> SidesReader
+        ensures { ShowsSides result (Fresh LeftSide) }
+    {
+        let stack = Stack {
+            parts: Vec::new(alloc),
+            out: Vec::new(alloc),
+        };
+        let sides = SidesSoFar {
+            stack,
+            done: Vec::new(alloc),
+            left: None,
+            number: 0,
+        };
+        SidesReader { sides, mode: None }
+    }
+
+    /// The reader behind one more lexeme.
+    fn behind(self, alloc: Global, lexeme: Lexeme) -> Result<SidesReader, StepFault>
+        ensures { (x : SequentState) → ShowsSides self x
+            → Agrees ShowsSides result (when (permits Refused (seen lexeme)) (sequent_step x (seen lexeme))) }
+    {
+        let SidesReader { mut sides, mode } = self;
+        if !permits(Dots::Refused, &lexeme) {
+            return Err(StepFault::Syntax);
+        }
+        let mode = sides.step(alloc, mode, lexeme)?;
+        Ok(SidesReader { sides, mode })
+    }
+}
+
+impl LexemeReader for SidesReader {
+    type Output = SidesCode;
+
+    ghost comes = { SidesComes };
+
+    fn step(self, alloc: Global, lexeme: Lexeme) -> Result<Self, StepFault> {
+        self.behind(alloc, lexeme)
+    }
+
+    fn end(self) -> Result<SidesCode, StepFault> {
+        self.sides.end(self.mode)
     }
 }

@@ -129,3 +129,21 @@ module _ (old mid new : List Code) (l : Last) (x : OpenPart) (p : Piece) (before
 pub agrees_memory : {X Y V W : Type 0} (s : X → Y → Type 0) (r : V → W → Type 0) (f : StepFault) (y : Y) (o : Option W) → Agrees s (Err f) (Some y) → Agrees r (Err f) o
 agrees_memory s r Memory y o a = tt
 agrees_memory s r Syntax y o a = absurd a
+
+-- the same value, shown in another way
+pub ok_same : {X Y V : Type 0} (s : X → Y → Type 0) (r : V → Y → Type 0) (x : X) (v : V) (o : Option Y) → ((y : Y) → s x y → r v y) → Agrees s (Ok x) o → Agrees r (Ok v) o
+ok_same s r x v (Some y) f a = f y a
+ok_same s r x v None f a = a
+
+-- a value made of it
+pub ok_maps : {X Y V W : Type 0} (s : X → Y → Type 0) (r : V → W → Type 0) (x : X) (v : V) (o : Option Y) (g : Y → W)
+    → ((y : Y) → s x y → r v (g y)) → Agrees s (Ok x) o → Agrees r (Ok v) (o >>= λ y. Some (g y))
+ok_maps s r x v (Some y) g f a = f y a
+ok_maps s r x v None g f a = a
+
+-- a fault, whatever a value were to show
+pub err_same : {X Y V : Type 0} (s : X → Y → Type 0) (r : V → Y → Type 0) (f : StepFault) (o : Option Y) → Agrees s (Err f) o → Agrees r (Err f) o
+err_same s r Memory (Some y) a = a
+err_same s r Memory None a = a
+err_same s r Syntax (Some y) a = a
+err_same s r Syntax None a = a

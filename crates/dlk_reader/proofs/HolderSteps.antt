@@ -3,9 +3,9 @@ use Rattle.std.proofs.Common.{◌≡◌, ℕ, Bool, true, false, List, [], ◌�
 use Rattle.dlk_tree.specs.declared.op.Sort.{Sort}
 use Rattle.dlk_tree.specs.declared.op.Sort.TheVariants.{Formula, Program}
 use Rattle.dlk_tree.specs.declared.op.OdeItem.TheVariants as ode
-use Rattle.dlk_grammar.specs.declared.token.Infix.TheVariants.{And}
+use Rattle.dlk_grammar.specs.declared.token.Infix.TheVariants.{And, Greater}
 use Rattle.dlk_grammar.specs.Erased.{item_of, ode_items}
-use Rattle.dlk_grammar.specs.Lexemes.{Word, CloseBrace, Comma}
+use Rattle.dlk_grammar.specs.Lexemes.{Word, Lexeme, Close, CloseBox, CloseBrace, Comma, Semi, Op as Operator}
 use Rattle.dlk_grammar.specs.Phrases.{Phrase, Truth, System, Item, Evolve, Items, add}
 use Rattle.dlk_machine.specs.Machine.{◌>>=◌, when, By, InBox, InDia, Part, Left, Holder, Round, Args, InContext, In, InBrace, Assigns, Tests, Evolves, Domain, Notes, Piece, Is, Tail, Braced, State, Wants, Has, as_sort, fits, held_sort, close, items_step}
 use Rattle.dlk_reader.specs.Codes.{postfix, postfix_terms}
@@ -17,6 +17,7 @@ use Rattle.dlk_reader.specs.declared.code.Code.TheVariants as code
 use Rattle.dlk_reader.specs.declared.parts.Equations.{Equations}
 use Rattle.dlk_reader.specs.declared.parts.Holder.{Holder as HolderPart}
 use Rattle.dlk_reader.specs.declared.parts.Holder.TheVariants as holder
+use Rattle.dlk_reader.specs.declared.parts.Modality.TheVariants as modality
 use Rattle.dlk_reader.specs.declared.parts.Closer.{Closer}
 use Rattle.dlk_reader.specs.declared.parts.Closer.TheVariants as closer
 use Rattle.dlk_reader.specs.declared.parts.Tail.TheVariants as tail
@@ -115,3 +116,54 @@ settled_in S h t k m code at parts out = record {
   parts = parts ∙ at.parts;
   out = out.out ∙ append_assoc (stack_code S) (holder_code h) (postfix t);
 }
+
+-- A holder that no row of the table closes, where a tree of its sort is whole.
+abbrev pub Unclosed : Lexeme → HolderPart → Type 0
+Unclosed k x =
+    (h : Holder) (S : List Part) (p : Piece) (t : Phrase) → x ≡ holder_of h → as_sort (held_sort h) p ≡ Some t → IsNoBracket h
+    → close k h S p ≡ None
+
+pub no_round : (x : HolderPart) → ((n : ℕ) (y : Word) (m : ℕ) → x ≡ holder.Args n y m → ⊥) → ((m : ℕ) → x ≡ holder.Notes m → ⊥) → Unclosed Close x
+no_round x args notes (Round b) S p t is whole none = absurd none
+no_round x args notes (Args n y l) S p t is whole none = absurd (args _ _ _ is)
+no_round x args notes (Notes u l) S p t is whole none = absurd (notes _ is)
+no_round x args notes (Evolves n l y) S p t is whole none = rw whole refl
+no_round x args notes _ S p t is whole none = refl
+
+pub no_comma : (x : HolderPart)
+    → ((n : ℕ) (y : Word) (m : ℕ) → x ≡ holder.Args n y m → ⊥) → ((e : Equations) (y : Word) → x ≡ holder.Evolves e y → ⊥)
+    → ((m : ℕ) → x ≡ holder.Notes m → ⊥) → Unclosed Comma x
+no_comma x args evolves notes (Round b) S p t is whole none = absurd none
+no_comma x args evolves notes (Args n y l) S p t is whole none = absurd (args _ _ _ is)
+no_comma x args evolves notes (Notes u l) S p t is whole none = absurd (notes _ is)
+no_comma x args evolves notes (Evolves n l y) S p t is whole none = absurd (evolves _ _ is)
+no_comma x args evolves notes _ S p t is whole none = refl
+
+pub no_brace : (x : HolderPart)
+    → ((y : Word) → x ≡ holder.InContext y → ⊥) → (x ≡ holder.InBrace → ⊥) → ((e : Equations) (y : Word) → x ≡ holder.Evolves e y → ⊥)
+    → ((e : Equations) → x ≡ holder.Domain e → ⊥) → Unclosed CloseBrace x
+no_brace x context brace evolves domain (Round b) S p t is whole none = absurd none
+no_brace x context brace evolves domain (InContext y) S p t is whole none = absurd (context _ is)
+no_brace x context brace evolves domain InBrace S p t is whole none = absurd (brace is)
+no_brace x context brace evolves domain (Evolves n l y) S p t is whole none = absurd (evolves _ _ is)
+no_brace x context brace evolves domain (Domain n l) S p t is whole none = absurd (domain _ is)
+no_brace x context brace evolves domain _ S p t is whole none = refl
+
+pub no_square : (x : HolderPart) → (x ≡ holder.In modality.InBox → ⊥) → Unclosed CloseBox x
+no_square x box (Round b) S p t is whole none = absurd none
+no_square x box (In InBox) S p t is whole none = absurd (box is)
+no_square x box (Evolves n l y) S p t is whole none = rw whole refl
+no_square x box _ S p t is whole none = refl
+
+pub no_greater : (x : HolderPart) → (x ≡ holder.In modality.InDia → ⊥) → Unclosed (Operator Greater) x
+no_greater x dia (Round b) S p t is whole none = absurd none
+no_greater x dia (In InDia) S p t is whole none = absurd (dia is)
+no_greater x dia (Evolves n l y) S p t is whole none = rw whole refl
+no_greater x dia _ S p t is whole none = refl
+
+pub no_semicolon : (x : HolderPart) → ((y : Word) (b : Bool) → x ≡ holder.Assigns y b → ⊥) → (x ≡ holder.Tests → ⊥) → Unclosed Semi x
+no_semicolon x assigns tests (Round b) S p t is whole none = absurd none
+no_semicolon x assigns tests (Assigns y b) S p t is whole none = absurd (assigns _ _ is)
+no_semicolon x assigns tests Tests S p t is whole none = absurd (tests is)
+no_semicolon x assigns tests (Evolves n l y) S p t is whole none = rw whole refl
+no_semicolon x assigns tests _ S p t is whole none = refl

@@ -5,3 +5,4 @@ mod OperandSteps
 mod ItemSteps
 mod HolderSteps
 pub mod Commas
+mod Tokens

@@ -79,12 +79,10 @@ abbrev pub is_star : SeenLexeme → Bool
 is_star (lexeme.Op Mul) = true
 is_star _ = false
 
--- The lexemes of one token; want of memory is free.
-abbrev pub IsSeen : List Lexeme → Result (Option SeenLexeme) StepFault → Type 0
-IsSeen s (Ok (Some k)) = s ≡ seen k ∷ []
-IsSeen s (Ok None) = s ≡ []
-IsSeen s (Err Memory) = Unit {0}
-IsSeen s (Err Syntax) = ⊥
+-- the lexemes of one token
+abbrev pub IsSeen : List Lexeme → Option SeenLexeme → Type 0
+IsSeen s (Some k) = s ≡ seen k ∷ []
+IsSeen s None = s ≡ []
 
 -- The parts of the code, without their phrases.
 abbrev pub between_of : Between → BetweenPart

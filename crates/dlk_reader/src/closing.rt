@@ -1,8 +1,8 @@
 //! Lexemes that close what they stand in.
 ghost use Rattle.std.specs.Prelude.{◌≡◌, ℕ, Bool, List, [], ◌∷◌, ◌++◌, Some};
 ghost use Rattle.dlk_grammar.specs.Phrases.{Phrase, Context, Items as MachineItems};
-ghost use Rattle.dlk_grammar.specs.Lexemes.{Close, CloseBox, CloseBrace, Comma, Semi, Op as Operator};
-ghost use Rattle.dlk_grammar.specs.declared.token.Infix.TheVariants.{And, Greater};
+ghost use Rattle.dlk_grammar.specs.Lexemes.{Op as Operator};
+ghost use Rattle.dlk_grammar.specs.declared.token.Infix.TheVariants.{And};
 ghost use Rattle.dlk_machine.specs.Machine.{Part as MachinePart, Holder as MachineHolder, Tail as MachineTail, Piece, Is, Has, Round, Evolves, Grouped, with_tail, as_sort, held_sort, close, close_top, closing, and_top, infix_after};
 ghost use Rattle.dlk_reader.specs.declared.code.Code.{Code as TheCode};
 ghost use Rattle.dlk_reader.specs.declared.parts.Last.TheVariants as last;
@@ -22,7 +22,7 @@ use dlk_tree::{Kind, Name, OdeItem, Op, Sort, Sym, Var};
 
 impl Stack {
     /// A lexeme that closes the innermost holder.
-    pub fn closing(&mut self, closer: Closer, last: Last) -> Result<Mode, StepFault>
+    pub(crate) fn closing(&mut self, closer: Closer, last: Last) -> Result<Mode, StepFault>
         ensures { (S : List MachinePart) (p : Piece) → Stands self.old last S p
             → Agrees (Shows self.new) result (closing (closer_lexeme closer) S p) }
     {
@@ -30,20 +30,21 @@ impl Stack {
         self.close_top(closer, last)
     }
 
+    /// The innermost open part is to be a holder.
     fn close_top(&mut self, closer: Closer, last: Last) -> Result<Mode, StepFault>
         ensures { (S : List MachinePart) (p : Piece) → Stands self.old last S p
             → Agrees (Shows self.new) result (close_top (closer_lexeme closer) S p) }
     {
         match pop(&mut self.parts) {
             Some(Part::Inside(holder)) => self.close(closer, holder, last),
-            Some(Part::Left(_)) => Err(StepFault::Syntax),
-            Some(Part::Before(_)) => Err(StepFault::Syntax),
-            None => Err(StepFault::Syntax),
+            _ => Err(StepFault::Syntax),
         }
     }
 
+    /// What stands in the holder is to be whole, and of its sort.
     fn close(&mut self, closer: Closer, holder: Holder, last: Last) -> Result<Mode, StepFault>
-        ensures { (S : List MachinePart) (h : MachineHolder) (p : Piece) → holder ≡ holder_of h → IsLast last p → IsOpen self.old S (holder_code h ++ piece_code p)
+        ensures { (S : List MachinePart) (h : MachineHolder) (p : Piece) → holder ≡ holder_of h → IsLast last p
+            → IsOpen self.old S (holder_code h ++ piece_code p)
             → Agrees (Shows self.new) result (close (closer_lexeme closer) h S p) }
     {
         if let Holder::Round(_) = holder {
@@ -60,14 +61,11 @@ impl Stack {
     {
         match closer {
             Closer::Round => self.group(last),
-            Closer::Square => Err(StepFault::Syntax),
-            Closer::Brace => Err(StepFault::Syntax),
-            Closer::Greater => Err(StepFault::Syntax),
-            Closer::Comma => Err(StepFault::Syntax),
-            Closer::Semicolon => Err(StepFault::Syntax),
+            _ => Err(StepFault::Syntax),
         }
     }
 
+    /// What was read last, in brackets.
     fn group(&mut self, last: Last) -> Result<Mode, StepFault>
         ensures { (S : List MachinePart) (p : Piece) → Stands self.old last S p
             → Agrees (Shows self.new) result (Some (Has S (with_tail Grouped p))) }
@@ -88,25 +86,12 @@ impl Stack {
 
     /// A lexeme that closes a holder, in which a tree of its sort is whole.
     fn close_settled(&mut self, closer: Closer, holder: Holder) -> Result<Mode, StepFault>
-        ensures { (S : List MachinePart) (h : MachineHolder) (p : Piece) (t : Phrase) → holder ≡ holder_of h → as_sort (held_sort h) p ≡ Some t → IsNoBracket h → IsOpen self.old S (holder_code h ++ postfix t)
+        ensures { (S : List MachinePart) (h : MachineHolder) (p : Piece) (t : Phrase) → holder ≡ holder_of h
+            → as_sort (held_sort h) p ≡ Some t → IsNoBracket h → IsOpen self.old S (holder_code h ++ postfix t)
             → Agrees (Shows self.new) result (close (closer_lexeme closer) h S p) }
     {
-        match closer {
-            Closer::Round => self.close_round(holder),
-            Closer::Square => self.close_square(holder),
-            Closer::Brace => self.close_brace(holder),
-            Closer::Greater => self.close_greater(holder),
-            Closer::Comma => self.close_comma(holder),
-            Closer::Semicolon => self.close_semicolon(holder),
-        }
-    }
-
-    fn close_round(&mut self, holder: Holder) -> Result<Mode, StepFault>
-        ensures { (S : List MachinePart) (h : MachineHolder) (p : Piece) (t : Phrase) → holder ≡ holder_of h → as_sort (held_sort h) p ≡ Some t → IsNoBracket h → IsOpen self.old S (holder_code h ++ postfix t)
-            → Agrees (Shows self.new) result (close Close h S p) }
-    {
-        match holder {
-            Holder::Args { at, name, count } => {
+        match (closer, holder) {
+            (Closer::Round, Holder::Args { at, name, count }) => {
                 let count = one_more(count)?;
                 Ok(Mode::Has(Last::Symbol {
                     head: Head::Call { at, name, count },
@@ -114,135 +99,58 @@ impl Stack {
                     tail: Tail::Done,
                 }))
             }
-            Holder::Notes(count) => {
+            (Closer::Comma, Holder::Args { at, name, count }) => {
+                let count = one_more(count)?;
+                self.open(Part::Inside(Holder::Args { at, name, count }))
+            }
+            (Closer::Brace, Holder::InContext(name)) => {
+                self.made(predicational(name), Sort::Formula, Tail::Done)
+            }
+            (Closer::Square, Holder::In(Modality::InBox)) => {
+                self.open(Part::Before(Prefix::Modal(Modality::InBox)))
+            }
+            (Closer::Greater, Holder::In(Modality::InDia)) => {
+                self.open(Part::Before(Prefix::Modal(Modality::InDia)))
+            }
+            (Closer::Brace, Holder::InBrace) => {
+                Ok(Mode::Has(Last::Tree(Sort::Program, Tail::Braced)))
+            }
+            (Closer::Semicolon, Holder::Assigns { name, primed }) => {
+                let code = Code::Operator(Op::Assign(Var { name, primed }));
+                self.made(code, Sort::Program, Tail::Done)
+            }
+            (Closer::Semicolon, Holder::Tests) => {
+                self.made(Code::Operator(Op::Test), Sort::Program, Tail::Done)
+            }
+            (Closer::Brace, Holder::Evolves(equations, name)) => {
+                let equations = add_item(equations, OdeItem::Evolve(name))?;
+                self.end_system(equations)
+            }
+            (Closer::Comma, Holder::Evolves(equations, name)) => {
+                let equations = add_item(equations, OdeItem::Evolve(name))?;
+                Ok(Mode::WantsItem(equations))
+            }
+            (Closer::Brace, Holder::Domain(equations)) => {
+                let Equations { at, items } = equations;
+                self.made(Code::System { at, items }, Sort::Program, Tail::Braced)
+            }
+            (Closer::Round, Holder::Notes(count)) => {
                 let count = one_more(count)?;
                 self.out.push(Code::EndNotes(count))?;
                 Ok(Mode::Has(Last::Tree(Sort::Program, Tail::Annotated)))
             }
-            Holder::Round(_) => Err(StepFault::Syntax),
-            Holder::InContext(_) => Err(StepFault::Syntax),
-            Holder::In(_) => Err(StepFault::Syntax),
-            Holder::InBrace => Err(StepFault::Syntax),
-            Holder::Assigns { .. } => Err(StepFault::Syntax),
-            Holder::Tests => Err(StepFault::Syntax),
-            Holder::Evolves(_, _) => Err(StepFault::Syntax),
-            Holder::Domain(_) => Err(StepFault::Syntax),
-        }
-    }
-
-    fn close_square(&mut self, holder: Holder) -> Result<Mode, StepFault>
-        ensures { (S : List MachinePart) (h : MachineHolder) (p : Piece) (t : Phrase) → holder ≡ holder_of h → as_sort (held_sort h) p ≡ Some t → IsNoBracket h → IsOpen self.old S (holder_code h ++ postfix t)
-            → Agrees (Shows self.new) result (close CloseBox h S p) }
-    {
-        match holder {
-            Holder::In(Modality::InBox) => self.open(Part::Before(Prefix::Modal(Modality::InBox))),
-            Holder::In(Modality::InDia) => Err(StepFault::Syntax),
-            Holder::Round(_) => Err(StepFault::Syntax),
-            Holder::Args { .. } => Err(StepFault::Syntax),
-            Holder::InContext(_) => Err(StepFault::Syntax),
-            Holder::InBrace => Err(StepFault::Syntax),
-            Holder::Assigns { .. } => Err(StepFault::Syntax),
-            Holder::Tests => Err(StepFault::Syntax),
-            Holder::Evolves(_, _) => Err(StepFault::Syntax),
-            Holder::Domain(_) => Err(StepFault::Syntax),
-            Holder::Notes(_) => Err(StepFault::Syntax),
-        }
-    }
-
-    fn close_greater(&mut self, holder: Holder) -> Result<Mode, StepFault>
-        ensures { (S : List MachinePart) (h : MachineHolder) (p : Piece) (t : Phrase) → holder ≡ holder_of h → as_sort (held_sort h) p ≡ Some t → IsNoBracket h → IsOpen self.old S (holder_code h ++ postfix t)
-            → Agrees (Shows self.new) result (close (Operator Greater) h S p) }
-    {
-        match holder {
-            Holder::In(Modality::InDia) => self.open(Part::Before(Prefix::Modal(Modality::InDia))),
-            Holder::In(Modality::InBox) => Err(StepFault::Syntax),
-            Holder::Round(_) => Err(StepFault::Syntax),
-            Holder::Args { .. } => Err(StepFault::Syntax),
-            Holder::InContext(_) => Err(StepFault::Syntax),
-            Holder::InBrace => Err(StepFault::Syntax),
-            Holder::Assigns { .. } => Err(StepFault::Syntax),
-            Holder::Tests => Err(StepFault::Syntax),
-            Holder::Evolves(_, _) => Err(StepFault::Syntax),
-            Holder::Domain(_) => Err(StepFault::Syntax),
-            Holder::Notes(_) => Err(StepFault::Syntax),
-        }
-    }
-
-    fn close_brace(&mut self, holder: Holder) -> Result<Mode, StepFault>
-        ensures { (S : List MachinePart) (h : MachineHolder) (p : Piece) (t : Phrase) → holder ≡ holder_of h → as_sort (held_sort h) p ≡ Some t → IsNoBracket h → IsOpen self.old S (holder_code h ++ postfix t)
-            → Agrees (Shows self.new) result (close CloseBrace h S p) }
-    {
-        match holder {
-            Holder::InContext(name) => self.made(predicational(name), Sort::Formula, Tail::Done),
-            Holder::InBrace => Ok(Mode::Has(Last::Tree(Sort::Program, Tail::Braced))),
-            Holder::Domain(equations) => {
-                let Equations { at, items } = equations;
-                self.made(Code::System { at, items }, Sort::Program, Tail::Braced)
-            }
-            Holder::Evolves(equations, name) => {
-                let equations = add_item(equations, OdeItem::Evolve(name))?;
-                self.end_system(equations)
-            }
-            Holder::Round(_) => Err(StepFault::Syntax),
-            Holder::Args { .. } => Err(StepFault::Syntax),
-            Holder::In(_) => Err(StepFault::Syntax),
-            Holder::Assigns { .. } => Err(StepFault::Syntax),
-            Holder::Tests => Err(StepFault::Syntax),
-            Holder::Notes(_) => Err(StepFault::Syntax),
-        }
-    }
-
-    fn close_comma(&mut self, holder: Holder) -> Result<Mode, StepFault>
-        ensures { (S : List MachinePart) (h : MachineHolder) (p : Piece) (t : Phrase) → holder ≡ holder_of h → as_sort (held_sort h) p ≡ Some t → IsNoBracket h → IsOpen self.old S (holder_code h ++ postfix t)
-            → Agrees (Shows self.new) result (close Comma h S p) }
-    {
-        match holder {
-            Holder::Args { at, name, count } => {
-                let count = one_more(count)?;
-                self.open(Part::Inside(Holder::Args { at, name, count }))
-            }
-            Holder::Notes(count) => {
+            (Closer::Comma, Holder::Notes(count)) => {
                 let count = one_more(count)?;
                 self.open(Part::Inside(Holder::Notes(count)))
             }
-            Holder::Evolves(equations, name) => {
-                let equations = add_item(equations, OdeItem::Evolve(name))?;
-                Ok(Mode::WantsItem(equations))
-            }
-            Holder::Round(_) => Err(StepFault::Syntax),
-            Holder::InContext(_) => Err(StepFault::Syntax),
-            Holder::In(_) => Err(StepFault::Syntax),
-            Holder::InBrace => Err(StepFault::Syntax),
-            Holder::Assigns { .. } => Err(StepFault::Syntax),
-            Holder::Tests => Err(StepFault::Syntax),
-            Holder::Domain(_) => Err(StepFault::Syntax),
-        }
-    }
-
-    fn close_semicolon(&mut self, holder: Holder) -> Result<Mode, StepFault>
-        ensures { (S : List MachinePart) (h : MachineHolder) (p : Piece) (t : Phrase) → holder ≡ holder_of h → as_sort (held_sort h) p ≡ Some t → IsNoBracket h → IsOpen self.old S (holder_code h ++ postfix t)
-            → Agrees (Shows self.new) result (close Semi h S p) }
-    {
-        match holder {
-            Holder::Assigns { name, primed } => {
-                let code = Code::Operator(Op::Assign(Var { name, primed }));
-                self.made(code, Sort::Program, Tail::Done)
-            }
-            Holder::Tests => self.made(Code::Operator(Op::Test), Sort::Program, Tail::Done),
-            Holder::Round(_) => Err(StepFault::Syntax),
-            Holder::Args { .. } => Err(StepFault::Syntax),
-            Holder::InContext(_) => Err(StepFault::Syntax),
-            Holder::In(_) => Err(StepFault::Syntax),
-            Holder::InBrace => Err(StepFault::Syntax),
-            Holder::Evolves(_, _) => Err(StepFault::Syntax),
-            Holder::Domain(_) => Err(StepFault::Syntax),
-            Holder::Notes(_) => Err(StepFault::Syntax),
+            _ => Err(StepFault::Syntax),
         }
     }
 
     /// A tree of an operator, whose operands are on the list.
     fn made(&mut self, code: Code, sort: Sort, tail: Tail) -> Result<Mode, StepFault>
-        ensures { (S : List MachinePart) (operands : List TheCode) (t : Phrase) (k : MachineTail) → postfix t ≡ operands ++ code ∷ [] → IsOpen self.old S operands → last.Tree sort tail ≡ last_of (Is sort t k) → IsVariable k (Is sort t k)
+        ensures { (S : List MachinePart) (operands : List TheCode) (t : Phrase) (k : MachineTail) → postfix t ≡ operands ++ code ∷ []
+            → IsOpen self.old S operands → last.Tree sort tail ≡ last_of (Is sort t k) → IsVariable k (Is sort t k)
             → Agrees (Shows self.new) result (Some (Has S (Is sort t k))) }
     {
         self.out.push(code)?;
@@ -250,7 +158,7 @@ impl Stack {
     }
 
     /// The lexeme `&` behind an operand.
-    pub fn and(&mut self, goal: Sort, last: Last) -> Result<Mode, StepFault>
+    pub(crate) fn and(&mut self, goal: Sort, last: Last) -> Result<Mode, StepFault>
         ensures { (S : List MachinePart) (p : Piece) → Stands self.old last S p
             → Agrees (Shows self.new) result (infix_after goal And S p) }
     {
@@ -282,7 +190,8 @@ impl Stack {
         name: Name,
         last: Last,
     ) -> Result<Mode, StepFault>
-        ensures { (S : List MachinePart) (n : ℕ) (l : MachineItems) (p : Piece) → equations ≡ equations_of n l → IsLast last p → IsOpen self.old S (postfix_terms l ++ piece_code p)
+        ensures { (S : List MachinePart) (n : ℕ) (l : MachineItems) (p : Piece) → equations ≡ equations_of n l → IsLast last p
+            → IsOpen self.old S (postfix_terms l ++ piece_code p)
             → Agrees (Shows self.new) result (close (Operator And) (Evolves n l name) S p) }
     {
         settle(&mut self.out, last, Sort::Term)?;
@@ -290,6 +199,7 @@ impl Stack {
         self.open(Part::Inside(Holder::Domain(equations)))
     }
 
+    /// A formula stands before the lexeme.
     fn join_formulas(&mut self, goal: Sort, last: Last) -> Result<Mode, StepFault>
         ensures { (S : List MachinePart) (p : Piece) → Stands self.old last S p
             → Agrees (Shows self.new) result (formulas_joined goal S p) }

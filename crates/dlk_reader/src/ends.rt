@@ -72,12 +72,7 @@ impl Stack {
     }
 
     /// A comma behind what is read, or in it.
-    pub fn at_comma(
-        &mut self,
-        alloc: Global,
-        goal: Sort,
-        mode: Mode,
-    ) -> Result<Comma, StepFault>
+    pub fn at_comma(&mut self, alloc: Global, goal: Sort, mode: Mode) -> Result<Comma, StepFault>
         ensures { (x : State) → Shows self.old mode x
             → Agrees (ShowsComma self.new) result (at_comma goal x) }
     {

@@ -17,7 +17,7 @@ use dlk_grammar::Infix;
 use dlk_tree::{Items, Kind, Name, OdeItem, Op, Sort, Sym};
 
 /// One item more.
-pub fn add_item(equations: Equations, item: OdeItem) -> Result<Equations, StepFault>
+pub(crate) fn add_item(equations: Equations, item: OdeItem) -> Result<Equations, StepFault>
     ensures { (n : ℕ) (l : MachineItems) (i : Item) → equations ≡ equations_of n l → item ≡ item_of i
         → Agrees (λ e m. e ≡ equations_of n m) result (Some (add l i)) }
 {
@@ -30,7 +30,7 @@ pub fn add_item(equations: Equations, item: OdeItem) -> Result<Equations, StepFa
 }
 
 /// An ODE constant more, and the variable on which it does not depend.
-pub fn add_constant(
+pub(crate) fn add_constant(
     equations: Equations,
     name: Name,
     taboo: Option<Name>,
@@ -49,7 +49,7 @@ pub fn add_constant(
 
 impl Stack {
     /// A system without a domain is whole.
-    pub fn end_system(&mut self, equations: Equations) -> Result<Mode, StepFault>
+    pub(crate) fn end_system(&mut self, equations: Equations) -> Result<Mode, StepFault>
         ensures { (S : List MachinePart) (n : ℕ) (l : MachineItems) → equations ≡ equations_of n l → IsOpen self.old S (postfix_terms l)
             → Agrees (Shows self.new) result (items_step S n l CloseBrace) }
     {
@@ -62,7 +62,7 @@ impl Stack {
     }
 
     /// A lexeme behind whole items.
-    pub fn items_step(
+    pub(crate) fn items_step(
         &mut self,
         equations: Equations,
         lexeme: Lexeme,
@@ -79,7 +79,7 @@ impl Stack {
     }
 
     /// A lexeme behind the name of an item.
-    pub fn item_name_step(
+    pub(crate) fn item_name_step(
         &mut self,
         equations: Equations,
         name: Name,
@@ -99,7 +99,7 @@ impl Stack {
     }
 
     /// A lexeme behind the name of an item and a prime.
-    pub fn item_prime_step(
+    pub(crate) fn item_prime_step(
         &mut self,
         equations: Equations,
         name: Name,
@@ -116,7 +116,7 @@ impl Stack {
 }
 
 /// A lexeme where an item is wanted.
-pub fn items_begin(equations: Equations, lexeme: Lexeme) -> Result<Mode, StepFault>
+pub(crate) fn items_begin(equations: Equations, lexeme: Lexeme) -> Result<Mode, StepFault>
     ensures { (k : TheStack) (S : List MachinePart) (n : ℕ) (l : MachineItems) → equations ≡ equations_of n l → IsOpen k S (postfix_terms l)
         → Agrees (Shows k) result (items_begin S n l (seen lexeme)) }
 {
@@ -127,7 +127,7 @@ pub fn items_begin(equations: Equations, lexeme: Lexeme) -> Result<Mode, StepFau
 }
 
 /// A lexeme behind the name of an item and `{|`.
-pub fn item_bar_step(
+pub(crate) fn item_bar_step(
     equations: Equations,
     name: Name,
     lexeme: Lexeme,
@@ -146,7 +146,7 @@ pub fn item_bar_step(
 }
 
 /// A lexeme behind the name of an item, `{|` and a name.
-pub fn item_bar_name_step(
+pub(crate) fn item_bar_name_step(
     equations: Equations,
     name: Name,
     taboo: Name,

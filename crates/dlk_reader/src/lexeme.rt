@@ -3,7 +3,6 @@ ghost use Rattle.std.specs.Prelude.{◌≡◌};
 ghost use Rattle.dlk_grammar.specs.Lexemes.{lexeme_of, lexeme_of_mark};
 ghost use Rattle.dlk_reader.specs.Shows.{IsSeen, seen};
 
-use crate::stop::StepFault;
 use dlk_grammar::{Infix, Mark, TokenKind};
 use dlk_tree::{Name, Num};
 
@@ -43,23 +42,23 @@ pub enum Lexeme {
 }
 
 /// The token at a place, which is none at the end.
-pub fn lexeme_at(place: usize, kind: &TokenKind) -> Result<Option<Lexeme>, StepFault>
-    ensures { IsSeen (lexeme_of place kind.now) result }
+pub(crate) fn lexeme_at(place: usize, kind: TokenKind) -> Option<Lexeme>
+    ensures { IsSeen (lexeme_of place kind) result }
 {
-    Ok(match kind {
-        TokenKind::Word(name) => Some(Lexeme::Name(place, name.clone()?)),
+    match kind {
+        TokenKind::Word(name) => Some(Lexeme::Name(place, name)),
         TokenKind::True => Some(Lexeme::True),
         TokenKind::False => Some(Lexeme::False),
-        TokenKind::Number(number) => Some(Lexeme::Number(*number)),
+        TokenKind::Number(number) => Some(Lexeme::Number(number)),
         TokenKind::LongNumber => Some(Lexeme::Number(Num {
             digits: 0,
             scale: 0,
         })),
-        TokenKind::Dot(number) => Some(Lexeme::Dot(*number)),
+        TokenKind::Dot(number) => Some(Lexeme::Dot(number)),
         TokenKind::Hole => Some(Lexeme::Blank),
-        TokenKind::Mark(mark) => Some(lexeme_of_mark(place, *mark)),
+        TokenKind::Mark(mark) => Some(lexeme_of_mark(place, mark)),
         TokenKind::End => None,
-    })
+    }
 }
 
 fn lexeme_of_mark(place: usize, mark: Mark) -> Lexeme

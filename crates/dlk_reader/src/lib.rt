@@ -8,6 +8,7 @@ mod items;
 mod lexeme;
 mod operands;
 mod parts;
+mod reading;
 mod stack;
 mod statements;
 mod step;
@@ -16,7 +17,8 @@ mod tables;
 
 pub use code::Code;
 pub use ends::Comma;
-pub use lexeme::{Lexeme, lexeme_at};
+pub use lexeme::Lexeme;
 pub use parts::{Equations, Last, Mode, Tail};
+pub use reading::{LexemeReader, read};
 pub use stack::{Stack, one_more, variable};
 pub use stop::{StepFault, Stop};

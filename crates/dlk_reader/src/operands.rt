@@ -23,7 +23,7 @@ use dlk_tree::{Name, Op, Sort};
 
 impl Stack {
     /// Opens a part.
-    pub fn open(&mut self, part: Part) -> Result<Mode, StepFault>
+    pub(crate) fn open(&mut self, part: Part) -> Result<Mode, StepFault>
         ensures { (S : List MachinePart) (e : MachinePart) → part ≡ shape e → IsOpen self.old S (part_code e)
             → Agrees (Shows self.new) result (Some (Wants (e ∷ S))) }
     {
@@ -43,7 +43,7 @@ impl Stack {
     }
 
     /// A tree of one operator.
-    pub fn leaf(&mut self, op: Op, sort: Sort) -> Result<Mode, StepFault>
+    pub(crate) fn leaf(&mut self, op: Op, sort: Sort) -> Result<Mode, StepFault>
         ensures { (S : List MachinePart) (t : Phrase) → postfix t ≡ code.Operator op ∷ [] → IsOpen self.old S []
             → Agrees (Shows self.new) result (Some (Has S (Is sort t Done))) }
     {
@@ -72,7 +72,7 @@ impl Stack {
     }
 
     /// A lexeme where an operand is wanted.
-    pub fn start_operand(&mut self, goal: Sort, lexeme: Lexeme) -> Result<Mode, StepFault>
+    pub(crate) fn start_operand(&mut self, goal: Sort, lexeme: Lexeme) -> Result<Mode, StepFault>
         ensures { (S : List MachinePart) → IsOpen self.old S []
             → Agrees (Shows self.new) result (start_operand goal S (seen lexeme)) }
     {
@@ -100,7 +100,7 @@ impl Stack {
     }
 
     /// An operator behind its left operand, which is whole.
-    pub fn left(&mut self, goal: Sort, between: Between, last: Last) -> Result<(), StepFault>
+    pub(crate) fn left(&mut self, goal: Sort, between: Between, last: Last) -> Result<(), StepFault>
         ensures { (S : List MachinePart) (p : Piece) → Stands self.old last S p
             → Agrees (λ _ T. IsOpen self.new T []) result (left_opened goal (said between) S p) }
     {
@@ -112,7 +112,7 @@ impl Stack {
     }
 
     /// An operator after an operand.
-    pub fn after_operand(
+    pub(crate) fn after_operand(
         &mut self,
         goal: Sort,
         between: Between,
@@ -126,7 +126,7 @@ impl Stack {
     }
 
     /// A name before a bracket.
-    pub fn name_after(
+    pub(crate) fn name_after(
         &mut self,
         goal: Sort,
         last: Last,
@@ -162,7 +162,7 @@ impl Stack {
     }
 
     /// A prime behind a name or a bracket.
-    pub fn prime_after(&mut self, last: Last) -> Result<Mode, StepFault>
+    pub(crate) fn prime_after(&mut self, last: Last) -> Result<Mode, StepFault>
         ensures { (S : List MachinePart) (p : Piece) → Stands self.old last S p
             → Agrees (Shows self.new) result (prime_after S p (tail_of p)) }
     {
@@ -208,7 +208,7 @@ impl Stack {
     }
 
     /// A lexeme behind a name and `(`.
-    pub fn call_step(
+    pub(crate) fn call_step(
         &mut self,
         goal: Sort,
         at: usize,
@@ -232,7 +232,7 @@ impl Stack {
     }
 
     /// A lexeme behind a quantifier.
-    pub fn bind_step(
+    pub(crate) fn bind_step(
         &mut self,
         quantifier: Quantifier,
         lexeme: Lexeme,
@@ -259,7 +259,7 @@ fn any(name: Name, taboo: Option<Name>) -> Mode
 }
 
 /// A lexeme behind a name and `(|`.
-pub fn bars_step(name: Name, lexeme: Lexeme) -> Result<Mode, StepFault>
+pub(crate) fn bars_step(name: Name, lexeme: Lexeme) -> Result<Mode, StepFault>
     ensures { (k : TheStack) (S : List MachinePart) → IsOpen k S []
         → Agrees (Shows k) result (bars_step S name (seen lexeme)) }
 {
@@ -270,7 +270,7 @@ pub fn bars_step(name: Name, lexeme: Lexeme) -> Result<Mode, StepFault>
 }
 
 /// A lexeme behind a name, `(|` and a name.
-pub fn bars_name_step(name: Name, taboo: Name, lexeme: Lexeme) -> Result<Mode, StepFault>
+pub(crate) fn bars_name_step(name: Name, taboo: Name, lexeme: Lexeme) -> Result<Mode, StepFault>
     ensures { (k : TheStack) (S : List MachinePart) → IsOpen k S []
         → Agrees (Shows k) result (bars_name_step S name taboo (seen lexeme)) }
 {

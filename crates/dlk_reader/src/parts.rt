@@ -1,6 +1,11 @@
 //! What a reader keeps of a text that is not yet whole. The operators of what was read stand on a list beside it.
+ghost use Rattle.std.specs.Prelude.{◌≡◌};
+ghost use Rattle.dlk_grammar.specs.Phrases.{no_items};
+ghost use Rattle.dlk_reader.specs.Shows.{equations_of};
+
 use dlk_grammar::Infix;
 use dlk_tree::{Items, Name, Sort};
+use std::alloc::Global;
 
 /// What stands between two operands: an operator with a lexeme, or none between two statements.
 #[derive(Clone, Copy)]
@@ -9,12 +14,14 @@ pub enum Between {
     Next,
 }
 
+/// `\forall` and `\exists`.
 #[derive(Clone, Copy)]
 pub enum Quantifier {
     ForAll,
     ForSome,
 }
 
+/// `[` and `<` before a program.
 #[derive(Clone, Copy)]
 pub enum Modality {
     InBox,
@@ -33,8 +40,22 @@ pub enum Prefix {
 /// A system that is being read: the place of its brace, and its items so far. Their right sides are on the list.
 #[derive(Drop)]
 pub struct Equations {
+    /// The place of its brace.
     pub at: usize,
+    /// Its items so far.
     pub items: Items,
+}
+
+impl Equations {
+    /// A system without items.
+    pub fn new(alloc: Global, at: usize) -> Equations
+        ensures { result ≡ equations_of at no_items }
+    {
+        Equations {
+            at,
+            items: Items::new(Vec::new(alloc)),
+        }
+    }
 }
 
 /// What is closed by a lexeme of its own.

@@ -4,7 +4,7 @@ ghost use Rattle.dlk_grammar.specs.Phrases.{Variable, Head as MachineHead};
 ghost use Rattle.dlk_machine.specs.Machine.{Part as MachinePart, Tail as MachineTail, Piece, Symbol, as_sort, join, reduce, fits, place};
 ghost use Rattle.dlk_reader.specs.declared.code.Code.{Code as TheCode};
 ghost use Rattle.dlk_reader.specs.Codes.{postfix};
-ghost use Rattle.dlk_reader.specs.Shows.{shape, shapes, part_code, piece_code, head_of, head_code, primes_code, symbol_of, unit_code, IsLast, Stands, Agrees, Reduces, Pops, TakesAbove, Writes, Joins};
+ghost use Rattle.dlk_reader.specs.Shows.{shape, shapes, part_code, piece_code, head_of, head_code, primes_code, symbol_of, unit_code, IsLast, IsOpen, Stands, Agrees, Reduces, Pops, TakesAbove, Writes, Joins};
 
 use crate::code::Code;
 use crate::parts::{Head, Last, Part, Tail};
@@ -13,11 +13,14 @@ use crate::tables::{
     allows, operand_sort, operator, prefix_operator, prefix_sort, result_sort, sort_in, wanted,
 };
 use dlk_tree::{Kind, Name, Op, Sort, Sym, Var};
+use std::alloc::Global;
 
 /// What is open, innermost last, and the operators of what was read, each behind its operands.
 #[derive(Drop)]
 pub struct Stack {
+    /// What is open.
     pub parts: Vec<Part>,
+    /// The operators.
     pub out: Vec<Code>,
 }
 
@@ -32,7 +35,7 @@ pub fn one_more(count: usize) -> Result<usize, StepFault>
 }
 
 /// Takes the last open part.
-pub fn pop(parts: &mut Vec<Part>) -> Option<Part>
+pub(crate) fn pop(parts: &mut Vec<Part>) -> Option<Part>
     ensures popped { (S : List MachinePart) → parts.old.items ≡ shapes S → Pops S result parts.new.items }
     ensures shorter { OnSome result (vec_len parts.new < vec_len parts.old) }
 {
@@ -54,7 +57,7 @@ fn take_above(parts: &mut Vec<Part>, level: u8) -> Option<Part>
 }
 
 /// What is to stand under these open parts.
-pub fn place(goal: Sort, parts: &[Part]) -> Sort
+pub(crate) fn place(goal: Sort, parts: &[Part]) -> Sort
     ensures { (S : List MachinePart) → parts.now ≡ shapes S → result ≡ place goal S }
 {
     match parts.last() {
@@ -80,6 +83,7 @@ fn write_symbol(out: &mut Vec<Code>, head: Head, holds: bool) -> Result<(), Step
     Ok(out.push(code)?)
 }
 
+/// The operator of a unit symbol, as a predicate's where it holds.
 fn unit_symbol(name: Name, taboo: Option<Name>, holds: bool) -> Code
     ensures { result ≡ unit_code holds name taboo }
 {
@@ -136,7 +140,7 @@ fn settle_symbol(
 }
 
 /// Writes the operators of what was read last, once its sort is known.
-pub fn settle(out: &mut Vec<Code>, last: Last, sort: Sort) -> Result<(), StepFault>
+pub(crate) fn settle(out: &mut Vec<Code>, last: Last, sort: Sort) -> Result<(), StepFault>
     ensures { (p : Piece) (before : List TheCode) → IsLast last p → out.old.items ≡ before ++ piece_code p
         → Agrees (λ _ t. Writes out.new.items before t) result (as_sort sort p) }
 {
@@ -181,6 +185,16 @@ fn join(out: &mut Vec<Code>, part: Part, last: Last) -> Result<Last, StepFault>
 }
 
 impl Stack {
+    /// Nothing is open, and nothing was read.
+    pub fn new(alloc: Global) -> Stack
+        ensures { IsOpen result [] [] }
+    {
+        Stack {
+            parts: Vec::new(alloc),
+            out: Vec::new(alloc),
+        }
+    }
+
     /// Closes the open parts that want more than a level.
     pub fn reduce(&mut self, level: u8, last: Last) -> Result<Last, StepFault>
         ensures { (S : List MachinePart) (p : Piece) → Stands self.old last S p
@@ -194,7 +208,7 @@ impl Stack {
     }
 
     /// Whether what is of a sort may stand under the open parts.
-    pub fn fits(&self, goal: Sort, sort: Sort) -> bool
+    pub(crate) fn fits(&self, goal: Sort, sort: Sort) -> bool
         ensures { (S : List MachinePart) → self.now.parts.items ≡ shapes S → result ≡ fits goal sort S }
     {
         allows(place(goal, self.parts.as_slice()), sort)

@@ -1,11 +1,11 @@
 //! Statements, and what stands behind a brace.
 ghost use Rattle.std.specs.Prelude.{◌≡◌, List, [], ◌∷◌, Some};
-ghost use Rattle.dlk_grammar.specs.Phrases.{Phrase, Const, no_items};
+ghost use Rattle.dlk_grammar.specs.Phrases.{Phrase, Const};
 ghost use Rattle.dlk_reader.specs.declared.stack.Stack.{Stack as TheStack};
 ghost use Rattle.dlk_reader.specs.declared.code.Code.TheVariants as code;
 ghost use Rattle.dlk_machine.specs.Machine.{Part as MachinePart, Inside, InBrace, Piece, start_statement, statement_step, statement_prime_step, statement_gets_step, statement_star_step, opens_step, opens_name_step, opens_prime_step, star_after, invariant_after, semi_after, invariants_step};
 ghost use Rattle.dlk_reader.specs.Codes.{postfix};
-ghost use Rattle.dlk_reader.specs.Shows.{seen, is_star, equations_of, IsOpen, Stands, Shows, Agrees};
+ghost use Rattle.dlk_reader.specs.Shows.{seen, is_star, IsOpen, Stands, Shows, Agrees};
 
 use crate::code::Code;
 use crate::lexeme::Lexeme;
@@ -13,12 +13,12 @@ use crate::parts::{Equations, Holder, Last, Mode, Part, Tail};
 use crate::stack::Stack;
 use crate::stop::StepFault;
 use dlk_grammar::Infix;
-use dlk_tree::{Items, Kind, Name, Op, Sort, Sym};
+use dlk_tree::{Kind, Name, Op, Sort, Sym};
 use std::alloc::Global;
 
 impl Stack {
     /// A lexeme where a statement is wanted.
-    pub fn start_statement(&mut self, lexeme: Lexeme) -> Result<Mode, StepFault>
+    pub(crate) fn start_statement(&mut self, lexeme: Lexeme) -> Result<Mode, StepFault>
         ensures { (S : List MachinePart) → IsOpen self.old S []
             → Agrees (Shows self.new) result (start_statement S (seen lexeme)) }
     {
@@ -31,7 +31,7 @@ impl Stack {
     }
 
     /// A lexeme behind the name of a statement.
-    pub fn statement_step(&mut self, name: Name, lexeme: Lexeme) -> Result<Mode, StepFault>
+    pub(crate) fn statement_step(&mut self, name: Name, lexeme: Lexeme) -> Result<Mode, StepFault>
         ensures { (S : List MachinePart) → IsOpen self.old S []
             → Agrees (Shows self.new) result (statement_step S name (seen lexeme)) }
     {
@@ -44,7 +44,7 @@ impl Stack {
     }
 
     /// A lexeme behind the name of a statement and a prime.
-    pub fn statement_prime_step(
+    pub(crate) fn statement_prime_step(
         &mut self,
         name: Name,
         lexeme: Lexeme,
@@ -59,7 +59,7 @@ impl Stack {
     }
 
     /// A lexeme behind `:=`: a star, which stands for any value, or one that begins a term.
-    pub fn statement_gets_step(
+    pub(crate) fn statement_gets_step(
         &mut self,
         goal: Sort,
         name: Name,
@@ -80,7 +80,7 @@ impl Stack {
     }
 
     /// The semicolon behind `:=` and a star.
-    pub fn statement_star_step(
+    pub(crate) fn statement_star_step(
         &mut self,
         name: Name,
         lexeme: Lexeme,
@@ -103,7 +103,7 @@ impl Stack {
     }
 
     /// A lexeme behind a brace.
-    pub fn opens_step(&mut self, at: usize, lexeme: Lexeme) -> Result<Mode, StepFault>
+    pub(crate) fn opens_step(&mut self, at: usize, lexeme: Lexeme) -> Result<Mode, StepFault>
         ensures { (S : List MachinePart) → IsOpen self.old S []
             → Agrees (Shows self.new) result (opens_step S at (seen lexeme)) }
     {
@@ -122,7 +122,7 @@ impl Stack {
     }
 
     /// A lexeme behind a brace and a name.
-    pub fn opens_name_step(
+    pub(crate) fn opens_name_step(
         &mut self,
         alloc: Global,
         at: usize,
@@ -142,12 +142,12 @@ impl Stack {
                 self.open_brace()?;
                 self.statement_step(name, Lexeme::Gets)
             }
-            lexeme => self.item_name_step(no_equations(alloc, at), name, lexeme),
+            lexeme => self.item_name_step(Equations::new(alloc, at), name, lexeme),
         }
     }
 
     /// A lexeme behind a brace, a name and a prime.
-    pub fn opens_prime_step(
+    pub(crate) fn opens_prime_step(
         &mut self,
         alloc: Global,
         at: usize,
@@ -162,12 +162,12 @@ impl Stack {
                 self.open_brace()?;
                 self.statement_prime_step(name, Lexeme::Gets)
             }
-            lexeme => self.item_prime_step(no_equations(alloc, at), name, lexeme),
+            lexeme => self.item_prime_step(Equations::new(alloc, at), name, lexeme),
         }
     }
 
     /// A star behind a brace.
-    pub fn star_after(&mut self, last: Last) -> Result<Mode, StepFault>
+    pub(crate) fn star_after(&mut self, last: Last) -> Result<Mode, StepFault>
         ensures { (S : List MachinePart) (p : Piece) → Stands self.old last S p
             → Agrees (Shows self.new) result (star_after S p) }
     {
@@ -183,7 +183,7 @@ impl Stack {
     }
 
     /// The bracket behind `@invariant`.
-    pub fn invariants_step(&mut self, lexeme: Lexeme) -> Result<Mode, StepFault>
+    pub(crate) fn invariants_step(&mut self, lexeme: Lexeme) -> Result<Mode, StepFault>
         ensures { (S : List MachinePart) (t : Phrase) → IsOpen self.old S (postfix t)
             → Agrees (Shows self.new) result (invariants_step S t (seen lexeme)) }
     {
@@ -216,18 +216,8 @@ fn program_constant(name: Name) -> Op
     })
 }
 
-/// A system without items.
-fn no_equations(alloc: Global, at: usize) -> Equations
-    ensures { result ≡ equations_of at no_items }
-{
-    Equations {
-        at,
-        items: Items::new(Vec::new(alloc)),
-    }
-}
-
 /// `@invariant` behind a brace or its star.
-pub fn invariant_after(last: Last) -> Result<Mode, StepFault>
+pub(crate) fn invariant_after(last: Last) -> Result<Mode, StepFault>
     ensures { (k : TheStack) (S : List MachinePart) (p : Piece) → Stands k last S p
         → Agrees (Shows k) result (invariant_after S p) }
 {
@@ -241,7 +231,7 @@ pub fn invariant_after(last: Last) -> Result<Mode, StepFault>
 }
 
 /// A semicolon behind a brace, its star or its invariants.
-pub fn semi_after(last: Last) -> Result<Mode, StepFault>
+pub(crate) fn semi_after(last: Last) -> Result<Mode, StepFault>
     ensures { (k : TheStack) (S : List MachinePart) (p : Piece) → Stands k last S p
         → Agrees (Shows k) result (semi_after S p) }
 {

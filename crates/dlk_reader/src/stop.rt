@@ -16,8 +16,8 @@ pub enum StepFault {
 #[derive(Clone, Copy)]
 pub enum Stop {
     Memory,
-    /// The number of lexemes before the first at which no text of the grammar goes on, or the number of all.
-    Syntax { place: usize },
+    /// The byte of the first token at which no text of the grammar goes on, which may be the end.
+    Syntax { at: usize },
 }
 
 impl From<AllocError> for StepFault {

@@ -10,7 +10,7 @@ use dlk_grammar::Infix;
 use dlk_tree::{Op, Sort};
 
 /// How tightly an operator binds.
-pub fn level(between: Between) -> u8
+pub(crate) fn level(between: Between) -> u8
     ensures { result ≡ level (said between) }
 {
     match between {
@@ -59,7 +59,7 @@ fn right_level(between: Between) -> u8
     }
 }
 
-pub fn operand_sort(between: Between) -> Sort
+pub(crate) fn operand_sort(between: Between) -> Sort
     ensures { result ≡ operand_sort (said between) }
 {
     match between {
@@ -83,7 +83,7 @@ pub fn operand_sort(between: Between) -> Sort
     }
 }
 
-pub fn result_sort(between: Between) -> Sort
+pub(crate) fn result_sort(between: Between) -> Sort
     ensures { result ≡ result_sort (said between) }
 {
     match between {
@@ -108,7 +108,7 @@ pub fn result_sort(between: Between) -> Sort
 }
 
 /// The operator of a tree that it makes.
-pub fn operator(between: Between) -> Op
+pub(crate) fn operator(between: Between) -> Op
     ensures { result ≡ operator_of (said between) }
 {
     match between {
@@ -143,7 +143,7 @@ fn prefix_level(prefix: &Prefix) -> u8
     }
 }
 
-pub fn prefix_sort(prefix: &Prefix) -> Sort
+pub(crate) fn prefix_sort(prefix: &Prefix) -> Sort
     ensures { (p : MachinePrefix) → prefix.now ≡ prefix_of p → result ≡ prefix_sort p }
 {
     match prefix {
@@ -155,7 +155,7 @@ pub fn prefix_sort(prefix: &Prefix) -> Sort
 }
 
 /// The operator of a tree that a prefix makes.
-pub fn prefix_operator(prefix: Prefix) -> Op
+pub(crate) fn prefix_operator(prefix: Prefix) -> Op
     ensures { (p : MachinePrefix) → prefix ≡ prefix_of p → result ≡ operator_before p }
 {
     match prefix {
@@ -169,7 +169,7 @@ pub fn prefix_operator(prefix: Prefix) -> Op
 }
 
 /// The level that an open part wants.
-pub fn wanted(part: &Part) -> u8
+pub(crate) fn wanted(part: &Part) -> u8
     ensures { (e : MachinePart) → part.now ≡ shape e → result ≡ wanted e }
 {
     match part {
@@ -180,7 +180,7 @@ pub fn wanted(part: &Part) -> u8
 }
 
 /// What is to stand in a holder.
-pub fn held_sort(holder: &Holder) -> Sort
+pub(crate) fn held_sort(holder: &Holder) -> Sort
     ensures { (h : MachineHolder) → holder.now ≡ holder_of h → result ≡ held_sort h }
 {
     match holder {
@@ -199,7 +199,7 @@ pub fn held_sort(holder: &Holder) -> Sort
 }
 
 /// What is to stand in an open part.
-pub fn sort_in(part: &Part) -> Sort
+pub(crate) fn sort_in(part: &Part) -> Sort
     ensures { (g : TheSort) (e : MachinePart) (S : List MachinePart) → part.now ≡ shape e → result ≡ place g (e ∷ S) }
 {
     match part {
@@ -210,7 +210,7 @@ pub fn sort_in(part: &Part) -> Sort
 }
 
 /// Whether what is of a sort may stand where this sort is to stand. A formula may begin with a term.
-pub fn allows(place: Sort, sort: Sort) -> bool
+pub(crate) fn allows(place: Sort, sort: Sort) -> bool
     ensures { result ≡ allows place sort }
 {
     match (place, sort) {

@@ -6,8 +6,7 @@ use Rattle.dlk_reader.specs.Shows.{Shows}
 use Rattle.dlk_reader.specs.Ends.{GoesTo, ShowsComma}
 use Rattle.dlk_reader.specs.declared.ends.Comma.TheVariants.{GoesOn}
 use Rattle.dlk_reader.specs.declared.parts.Mode.TheVariants as mode
-use Rattle.dlk_reader.proofs.Agree.{agrees_err}
-use Rattle.dlk_forms.proofs.Steps.{ok_maps}
+use Rattle.dlk_reader.proofs.Agree.{agrees_err, ok_maps}
 use Rattle.dlk_reader.proofs.Commas.{has_shown, comma_open}
 use Rattle.dlk_reader.proofs.stack.Stack.at_comma.Goals as goal
 
