@@ -27,8 +27,7 @@ one_more f old now next items made n d r lt kept before is =
       take_more items n d lt,
       map-append next made (r ∷ []),
       map-append old (take n items) (get_or items n d ∷ []),
-      map-append f
-          (map old (take n items)) (old (get_or items n d) ∷ []),
+      map-append f (map old (take n items)) (old (get_or items n d) ∷ []),
       kept,
       before,
       is,

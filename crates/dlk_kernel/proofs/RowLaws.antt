@@ -93,8 +93,7 @@ module _ (old : List Tree) (rows : List Row) (fact goal : ℕ) (rule : Rule) (ro
           is,
           put_all-map (sequent_at new) row.goals goal ps,
           sequents-kept keeps row.goals known.goals,
-          sequent-kept keeps row.conclusion
-              known.conclusion,
+          sequent-kept keeps row.conclusion known.conclusion,
           sequents-kept keeps row.leaves known.leaves,
         )
 

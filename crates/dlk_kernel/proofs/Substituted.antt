@@ -124,8 +124,7 @@ module _ (old now : List Tree) (first : Keeps old now) (pairs : List Pair) (are_
           take_more ids n d lt,
           map-append (tree old) (take n ids) (get_or ids n d ∷ []),
           map-append (tree next) made (r ∷ []),
-          trees-kept then made
-              made_known,
+          trees-kept then made made_known,
         )
         (each_more (pairs_at old pairs) _ _ _ _ before one)
 
