@@ -13,7 +13,7 @@ use Rattle.dlk_grammar.specs.Readings.{Says, FirstPast, TokenAt, ReadFault, Lite
 use Rattle.dlk_machine.proofs.Stopping.{said_nowhere}
 use Rattle.dlk_reader.specs.declared.stop.Stop.{Stop}
 use Rattle.dlk_reader.specs.declared.stop.Stop.TheVariants as stop
-use Rattle.dlk_forms.specs.Said.{IsStopAt}
+use Rattle.dlk_forms.specs.Said.{IsStop}
 use Rattle.dlk_parse.specs.Faults.{IsParseFaultOf, of_stop}
 use Rattle.dlk_parse.specs.Limits.{starts_of, AreWithinTokenLimits, IsPastTokenLimit, AreWithin, IsBeyond}
 use Rattle.dlk_parse.specs.declared.fault.ParseFault.{ParseFault}
@@ -75,7 +75,7 @@ module _ {P : Type 0} (G : List Lexeme → P → Type 0) (parts : P → List Phr
     no_text (TooDeep k) l a = omega arith
 
     -- what is no text
-    pub unread : (stop : Stop) → IsStopAt (λ at. SpeaksAgainst G parts d tokens (Syntax at)) stop → IsParseFaultOf (IsReadFault G parts d tokens) (of_stop stop)
+    pub unread : (stop : Stop) → IsStop G parts d tokens stop → IsParseFaultOf (IsReadFault G parts d tokens) (of_stop stop)
     unread stop.Memory h = tt
     unread (stop.Syntax at) h = record { applies = h; first = no_text }
 

@@ -30,20 +30,19 @@ module _ (tokens : List Token) where
     pub pairs_places : SaysPairs tokens c → HasPlaces c.code.items (starts_of tokens)
     pairs_places h = record {
       phrases = replacements h.said;
-      code_is = h.code_is;
+      code_is = h.shown.code;
       below = λ place e. among_starts tokens place (least_among (length tokens) place (flat_map ills (replacements h.said)) (pairs_ills_below tokens h.said h.says.reads) e);
     }
 
     pub pairs_beyond : AreWithinTokenLimits tokens → SaysPairs tokens c → (e : ParseFault) → IsCodeBeyond c.code.items (starts_of tokens) e → IsParseFaultOf (ArePairsFault tokens) e
-    pairs_beyond calm h e b = beyond ReadsSubstitution replacements one_pairs_read Allowed tokens calm h.said h.says e (b.of_phrases (replacements h.said) h.code_is)
+    pairs_beyond calm h e b = beyond ReadsSubstitution replacements one_pairs_read Allowed tokens calm h.said h.says e (b.of_phrases (replacements h.said) h.shown.code)
 
     pub pairs_within : AreWithinTokenLimits tokens → SaysPairs tokens c → IsWithin c.code.items → AreReadPairs tokens c
     pairs_within calm h w = record {
       said = h.said;
       says = h.says;
-      symbols_are = h.symbols_are;
-      code_is = h.code_is;
-      no_fault = faultless ReadsSubstitution replacements one_pairs_read Allowed tokens calm h.said h.says (w.of_phrases (replacements h.said) h.code_is);
+      shown = h.shown;
+      no_fault = faultless ReadsSubstitution replacements one_pairs_read Allowed tokens calm h.said h.says (w.of_phrases (replacements h.said) h.shown.code);
     }
 
     module _ (h : AreReadPairs tokens c) where
@@ -53,15 +52,15 @@ module _ (tokens : List Token) where
       pub pairs_code_made : AreTokens tokens → IsWellMade c.code.items
       pairs_code_made real =
           let made = All-from_map (λ (p : TreePair). WellMade p.by) (λ (p : PairPhrase). record { sym = p.sym; by = erase p.by }) h.said (pairs_well_made tokens (erase_pairs h.said) real are_pairs) in
-          record { phrases = replacements h.said; code_is = h.code_is; well_made = All-map (λ p. WellMade (erase p)) (λ (p : PairPhrase). p.by) h.said made }
+          record { phrases = replacements h.said; code_is = h.shown.code; well_made = All-map (λ p. WellMade (erase p)) (λ (p : PairPhrase). p.by) h.said made }
 
       module _ (trees : List Tree) (ids : List Id) (made : AreMade c.code.items trees ids) where
         made_are : map (tree trees) ids ≡ map erase (replacements h.said)
-        made_are = made.of_phrases (replacements h.said) h.code_is
+        made_are = made.of_phrases (replacements h.said) h.shown.code
 
         pub pairs_found : (pairs : List Pair) → map (λ p. p.sym) pairs ≡ c.symbols.items → map (λ p. p.by) pairs ≡ ids → ArePairs tokens (pairs_at trees pairs)
         pairs_found pairs e f =
-            subst (ArePairs tokens) (sym (same h.said pairs (e ∙ h.symbols_are) (ap (map (tree trees)) f ∙ made_are))) are_pairs
+            subst (ArePairs tokens) (sym (same h.said pairs (e ∙ h.shown.symbols) (ap (map (tree trees)) f ∙ made_are))) are_pairs
           where
             same : (l : List PairPhrase) (pairs : List Pair) → map (λ p. p.sym) pairs ≡ map (λ p. p.sym) l → map (tree trees) (map (λ p. p.by) pairs) ≡ map erase (replacements l) → pairs_at trees pairs ≡ erase_pairs l
             same [] [] e f = refl

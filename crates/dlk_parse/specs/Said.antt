@@ -1,5 +1,5 @@
 -- What a text says, as a code. A form of text is given by its grammar and the phrases of its trees in order.
-use Rattle.std.specs.Prelude.{◌≡◌, ℕ, ◌<◌, List, length, map, flat_map, Some}
+use Rattle.std.specs.Prelude.{◌≡◌, ℕ, ◌<◌, List, length, flat_map, Some}
 use Rattle.dlk_grammar.specs.declared.token.Token.{Token}
 use Rattle.dlk_grammar.specs.declared.token.Dots.{Dots}
 use Rattle.dlk_grammar.specs.declared.token.Dots.TheVariants.{Allowed, Refused}
@@ -11,7 +11,7 @@ use Rattle.dlk_grammar.specs.Readings.{Says, ReadFault, SpeaksAgainst, both_side
 use Rattle.dlk_grammar.specs.Substitutions.{PairPhrase, replacements, ReadsSubstitution}
 use Rattle.dlk_reader.specs.Codes.{postfix}
 use Rattle.dlk_reader.specs.declared.code.Code.{Code}
-use Rattle.dlk_forms.specs.Said.{left_count}
+use Rattle.dlk_forms.specs.Said.{left_count, IsCodeOfPairs}
 use Rattle.dlk_forms.specs.declared.pairs.PairsCode.{PairsCode}
 use Rattle.dlk_forms.specs.declared.sides.SidesCode.{SidesCode}
 use Rattle.dlk_parse.specs.Limits.{AreWithin, IsBeyond}
@@ -50,6 +50,5 @@ pub record AreReadSides (tokens : List Token) (s : SidesCode) : Type 0 where
 pub record AreReadPairs (tokens : List Token) (c : PairsCode) : Type 0 where
   pub said : List PairPhrase
   pub says : Says Allowed ReadsSubstitution (lexemes tokens) said
-  pub symbols_are : c.symbols.items ≡ map (λ p. p.sym) said
-  pub code_is : c.code.items ≡ flat_map postfix (replacements said)
+  pub shown : IsCodeOfPairs c said
   pub no_fault : (why : ReadFault) → ¬ SpeaksAgainst ReadsSubstitution replacements Allowed tokens why
