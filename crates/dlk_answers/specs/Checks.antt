@@ -56,7 +56,7 @@ report_in layout p lines = laid_out layout (parts_of p lines)
 abbrev pub reported : Layout → Provable → ℕ → Reply
 reported layout p lines = printing (status_of (is_closed p.goals)) (report_in layout p lines)
 
--- the term is accepted: each of its lines is a step, and the last of the rows is p, at this line
+-- the term is accepted: each of its lines but `done` is a step, and the last of the rows is p, at this line
 pub record Accepts (term : List ℕ) (rows : List Provable) (p : Provable) : Type 0 where
   pub before : List Provable
   pub last : rows ≡ before ++ p ∷ []

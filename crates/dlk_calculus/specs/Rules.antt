@@ -117,7 +117,7 @@ IsFreshIn s x = (list_any (λ t. free t (plain x)) s.ante || list_any (λ t. fre
 pub record Figure : Type 1 where
   -- the places are there
   pub places : Type 0
-  -- what the rule reads at its places: a formula, or its kids
+  -- what the rule reads at its places: a formula, its kids, or a variable with the formula that it is bound over; nothing for `cut`
   pub Parts : Type 0
   -- the formulas there have the form that the rule wants, of these parts
   pub shape : Parts → Type 0
@@ -140,7 +140,7 @@ plain_figure places Parts shape premises = record {
 
 -- Figures by what is to stand at a place of a side:
 
--- what this form makes of the parts
+-- the formula that this form makes of the parts stands there
 abbrev pub form_at : List Tree → ℕ → (Parts : Type 0) → (Parts → Tree) → (Parts → List Sequent) → Figure
 form_at side i Parts form premises = plain_figure (IsPlace side i) Parts (λ p. At side i (form p)) premises
 

@@ -104,7 +104,7 @@ EachNew P (Merge fact goal by) p = Unit {0}
 EachNew P (Substitute fact pairs) p = All (λ pair. P pair.by) pairs × InProvable P p
 EachNew P (Rename fact x y) p = Unit {0}
 
--- Exceeds why step p: p, which a rule of the calculus gives, is past this limit
+-- Exceeds why step p: p, as what the step gives, is past this limit
 pub data Exceeds : Reason → Step → Provable → Type 0 where
   too_big : {step : Step} {p : Provable} → ¬ EachNew IsSmall step p → Exceeds TooBig step p
   too_deep : {step : Step} {p : Provable} → ¬ EachNew IsShallow step p → Exceeds TooDeep step p
@@ -115,13 +115,13 @@ pub data Exceeds : Reason → Step → Provable → Type 0 where
   goals_merged : {fact goal by : ℕ} {p : Provable} → most_goals < length p.goals → Exceeds GoalsFull (Merge fact goal by) p
   leaves_merged : {fact goal by : ℕ} {p : Provable} → most_leaves < length p.leaves → Exceeds LeavesFull (Merge fact goal by) p
 
--- no limit is exceeded
+-- no limit but that of the number of rows is exceeded
 abbrev pub IsWithin : Step → Provable → Type 0
 IsWithin step p = (why : Reason) → ¬ Exceeds why step p
 
--- Against rows step why: this speaks against the step. One case for each reason and kind of step, one for all reasons against a rule, and
--- one for all limits of what is given. That a proper step gives something wherever no other case speaks against it is a law, so a case that
--- is forgotten here is found.
+-- Against rows step why: this speaks against the step. One case for each reason and kind of step, one for all reasons against a rule, one
+-- for all limits of what is given, and one for the number of rows. That a proper step gives something wherever none but the last two speaks
+-- against it is a law, so a case that is forgotten here is found.
 pub data Against (rows : List Provable) : Step → Reason → Type 0 where
   no_fact_to_apply : {fact goal : ℕ} {rule : Rule} → ¬ IsPlace rows fact → Against rows (Apply fact goal rule) NoFact
   no_fact_to_merge : {fact goal by : ℕ} → ¬ (IsPlace rows fact × IsPlace rows by) → Against rows (Merge fact goal by) NoFact

@@ -37,7 +37,7 @@ pub record Begins {P : Type 0} (d : Dots) (G : List Lexeme → P → Type 0) (s 
   pub said : P
   pub text : Says d G (s ++ more) said
 
--- A text stops at the first lexeme at which no text goes on, or at its end.
+-- Lexemes stop at the first of them at which no text goes on; or at their end, where they are the front of a text and none themselves.
 pub data Stops {P : Type 0} (d : Dots) (G : List Lexeme → P → Type 0) : List Lexeme → ℕ → Type 0 where
   stops-token : {s : List Lexeme} (k : Lexeme) (r : List Lexeme) → Begins d G s → ¬ Begins d G (s ++ k ∷ []) → Stops d G (s ++ k ∷ r) (length s)
   stops-end : {s : List Lexeme} → Begins d G s → ((p : P) → ¬ Says d G s p) → Stops d G s (length s)
@@ -63,7 +63,7 @@ level_behind level k = if opens k then level + 1 else (if closes k then level - 
 abbrev pub bracket_level : List Token → ℕ
 bracket_level tokens = fold (λ n t. level_behind n t.kind) 0 tokens
 
--- at is the place of the first token with the property, which may speak of the tokens before it
+-- the first token with the property, which may speak of the tokens before it, is at this byte
 pub record FirstAt (Is : List Token → TokenKind → Type 0) (tokens : List Token) (at : ℕ) : Type 0 where
   pub before : List Token
   pub token : Token
