@@ -1,5 +1,6 @@
-pub mod Parsing
-pub mod Steps
+mod Parsing
+mod SaidLaws
+mod Steps
 mod TreeSteps
 mod SideSteps
 mod PairSteps

@@ -7,9 +7,12 @@ use Rattle.dlk_grammar.specs.declared.token.Infix.TheVariants.{And}
 use Rattle.dlk_grammar.specs.Lexemes.{Lexeme, Comma, Op}
 use Rattle.dlk_grammar.specs.Phrases.{Phrase}
 use Rattle.dlk_grammar.specs.Substitutions.{Target, function, predicate, PairPhrase, to}
-use Rattle.dlk_machine.specs.Machine.{◌>>=◌, Part, Braced, Piece, Is, Symbol, as_sort, reduce, whole, State, Wants, Has, Calls, Bars, BarsName, Binds, Starts, StartsPrime, StartsGets, StartsStar, Opens, OpensName, OpensPrime, WantsItem, ItemName, ItemPrime, ItemBar, ItemBarName, ItemEnds, Invariants, step, ended}
+use Rattle.dlk_machine.specs.Machine.{◌>>=◌, Part, Braced, Piece, Is, Symbol, as_sort, reduce, whole, State, Wants, Has, Calls, Bars, BarsName}
+use Rattle.dlk_machine.specs.Machine.{Binds, Starts, StartsPrime, StartsGets, StartsStar, Opens, OpensName, OpensPrime, WantsItem, ItemName}
+use Rattle.dlk_machine.specs.Machine.{ItemPrime, ItemBar, ItemBarName, ItemEnds, Invariants, step, ended}
 use Rattle.dlk_machine.specs.Parse.{or_else}
-use Rattle.dlk_machine.specs.Pairs.{Right, EitherOf, TextOf, SystemOf, PairState, Begins, InRight, InSystem, system_state, PairsState, Within, pair_step, pair_ended, pairs_step, right_sort, right_ended, within}
+use Rattle.dlk_machine.specs.Pairs.{Right, EitherOf, TextOf, SystemOf, PairState, Begins, InRight, InSystem, system_state, PairsState, Within}
+use Rattle.dlk_machine.specs.Pairs.{pair_step, pair_ended, pairs_step, right_sort, right_ended, within}
 use Rattle.dlk_reader.specs.Shows.{seen, last_of, Shows, Agrees}
 use Rattle.dlk_reader.specs.Ends.{at_comma}
 use Rattle.dlk_forms.specs.PairReaders.{wants, left_state, IsLeft, right_whole, with_pair, KeepsPairs, Rests, is_and, is_system, ShowsPair, ShowsWithin}
@@ -52,22 +55,26 @@ system_goes_on s (Has [] (Is Program t Braced)) e = absurd cc
 system_goes_on s _ e = refl
 
 -- a whole system, and one that goes on
-pub system_ends : (r : PairsSoFar) (l : List PairPhrase) (s : Sym) (m : Mode) (x : State) → is_system x ≡ true → KeepsPairs r l → Shows r.stack m x → ShowsPair r l (pair.SystemEnds s) (system_state s x)
+pub system_ends : (r : PairsSoFar) (l : List PairPhrase) (s : Sym) (m : Mode) (x : State) → is_system x ≡ true → KeepsPairs r l → Shows r.stack m x
+    → ShowsPair r l (pair.SystemEnds s) (system_state s x)
 system_ends r l s m x e p h =
     let w = system_whole x e in
     let k = subst (λ (y : State). Shows r.stack m y) w.1 h in
     rw w.1 (record { system = w.0; state = refl; pairs = p; whole = record { parts = k.lists.parts; out = k.lists.out } })
 
-pub in_system : (r : PairsSoFar) (l : List PairPhrase) (s : Sym) (m : Mode) (x : State) → is_system x ≡ false → KeepsPairs r l → Shows r.stack m x → ShowsPair r l (pair.InSystem s m) (system_state s x)
+pub in_system : (r : PairsSoFar) (l : List PairPhrase) (s : Sym) (m : Mode) (x : State) → is_system x ≡ false → KeepsPairs r l → Shows r.stack m x
+    → ShowsPair r l (pair.InSystem s m) (system_state s x)
 in_system r l s m x e p h = rw (system_goes_on s x e) (record { inner = x; state = refl; pairs = p; shows = h })
 
 -- the same of a value that is known
-pub agrees_some : {X V Y : Type 0} (s : X → Y → Type 0) (r : X → V → Type 0) (o : Result X StepFault) (y : Y) (v : V) → ((x : X) → s x y → r x v) → Agrees s o (Some y) → Agrees r o (Some v)
+pub agrees_some : {X V Y : Type 0} (s : X → Y → Type 0) (r : X → V → Type 0) (o : Result X StepFault) (y : Y) (v : V) → ((x : X) → s x y → r x v)
+    → Agrees s o (Some y) → Agrees r o (Some v)
 agrees_some s r (Ok x) y v f a = f x a
 agrees_some s r (Err Memory) y v f a = tt
 agrees_some s r (Err Syntax) y v f a = absurd a
 
-pub agrees_same : {X Y V : Type 0} (s : X → Y → Type 0) (r : X → V → Type 0) (o : Result X StepFault) (u : Option Y) (g : Y → V) → ((x : X) (y : Y) → s x y → r x (g y)) → Agrees s o u → Agrees r o (u >>= λ y. Some (g y))
+pub agrees_same : {X Y V : Type 0} (s : X → Y → Type 0) (r : X → V → Type 0) (o : Result X StepFault) (u : Option Y) (g : Y → V)
+    → ((x : X) (y : Y) → s x y → r x (g y)) → Agrees s o u → Agrees r o (u >>= λ y. Some (g y))
 agrees_same s r (Ok x) (Some y) g f a = f x y a
 agrees_same s r (Ok x) None g f a = a
 agrees_same s r (Err Memory) u g f a = tt
@@ -81,14 +88,16 @@ right_by (EitherOf h) (e ∷ T) q = refl
 right_by (TextOf g s) (e ∷ T) q = refl
 right_by (SystemOf s) (e ∷ T) q = refl
 
-either_is : (h : Target) (T : List Part) (q : Piece) → or_else {B = Option PairPhrase} (whole Formula T q) (whole Term T q >>= λ t. Some (to (function h) t)) (λ t. Some (to (predicate h) t)) ≡ right_whole (EitherOf h) T q
+either_is : (h : Target) (T : List Part) (q : Piece) → or_else {B = Option PairPhrase} (whole Formula T q)
+    (whole Term T q >>= λ t. Some (to (function h) t)) (λ t. Some (to (predicate h) t)) ≡ right_whole (EitherOf h) T q
 either_is h [] (Is Term t k) = refl
 either_is h [] (Is Formula t k) = refl
 either_is h [] (Is Program t k) = refl
 either_is h [] (Symbol d n k) = refl
 either_is h (e ∷ T) q = refl
 
-pub right_reduced : (w : Right) (S : List Part) (p : Piece) (o : Option (List Part × Piece)) → reduce 0 S p ≡ o → right_ended w (Has S p) ≡ (o >>= λ r. right_whole w r.0 r.1)
+pub right_reduced : (w : Right) (S : List Part) (p : Piece) (o : Option (List Part × Piece)) → reduce 0 S p ≡ o
+    → right_ended w (Has S p) ≡ (o >>= λ r. right_whole w r.0 r.1)
 right_reduced (EitherOf h) S p (Some r) e = rw e (either_is h r.0 r.1)
 right_reduced (EitherOf h) S p None e = rw e refl
 right_reduced (TextOf g s) S p (Some r) e = rw e refl
@@ -153,7 +162,8 @@ left_unended (left.FlowBar x) = refl
 left_unended (left.FlowBarName x y) = refl
 left_unended (left.FlowExcept x y) = refl
 
-pub pair_unended : (r : PairsSoFar) (l : List PairPhrase) (m : PairMode) (x : PairState) → ((w : RightPart) (k : Mode) → m ≡ pair.InRight w k → ⊥) → ((s : Sym) → m ≡ pair.SystemEnds s → ⊥) → ShowsPair r l m x → pair_ended x ≡ None
+pub pair_unended : (r : PairsSoFar) (l : List PairPhrase) (m : PairMode) (x : PairState) → ((w : RightPart) (k : Mode) → m ≡ pair.InRight w k → ⊥)
+    → ((s : Sym) → m ≡ pair.SystemEnds s → ⊥) → ShowsPair r l m x → pair_ended x ≡ None
 pair_unended r l (pair.Left m) x a b h = ap pair_ended h.state ∙ left_unended m
 pair_unended r l (pair.LeftEnds w) x a b h = ap pair_ended h.state
 pair_unended r l (pair.InRight w k) x a b h = absurd (a w k refl)
@@ -170,7 +180,8 @@ left_shown r l h (pair.BraceWanted s) x e = absurd e
 left_shown r l h (pair.InSystem s m) x e = absurd e
 left_shown r l h (pair.SystemEnds s) x e = absurd e
 
-pub left_agrees : (r : PairsSoFar) (l : List PairPhrase) → Rests r l → (o : Result PairMode StepFault) (u : Option PairState) → Agrees IsLeft o u → Agrees (ShowsPair r l) o u
+pub left_agrees : (r : PairsSoFar) (l : List PairPhrase) → Rests r l → (o : Result PairMode StepFault) (u : Option PairState) → Agrees IsLeft o u
+    → Agrees (ShowsPair r l) o u
 left_agrees r l h (Ok m) (Some x) a = left_shown r l h m x a
 left_agrees r l h (Ok m) None a = a
 left_agrees r l h (Err Memory) u a = tt
@@ -178,10 +189,12 @@ left_agrees r l h (Err Syntax) (Some x) a = absurd a
 left_agrees r l h (Err Syntax) None a = a
 
 -- what is read of the next pair
-pub within_shown : (r : PairsSoFar) (l : List PairPhrase) (o : Result PairMode StepFault) (u : Option PairState) → Agrees (ShowsPair r l) o u → Agrees (ShowsWithin r) o (u >>= λ y. Some (Within l y))
+pub within_shown : (r : PairsSoFar) (l : List PairPhrase) (o : Result PairMode StepFault) (u : Option PairState) → Agrees (ShowsPair r l) o u
+    → Agrees (ShowsWithin r) o (u >>= λ y. Some (Within l y))
 within_shown r l o u a = agrees_same (ShowsPair r l) (ShowsWithin r) o u (Within l) (λ m x h. record { pairs = l; pair = x; state = refl; shows = h }) a
 
-pub within_other : (l : List PairPhrase) (x : PairState) (k : SeenLexeme) → (k ≡ lexeme.Comma → ⊥) → pairs_step (Within l x) (seen k) ≡ (pair_step x (seen k) >>= λ y. Some (Within l y))
+pub within_other : (l : List PairPhrase) (x : PairState) (k : SeenLexeme) → (k ≡ lexeme.Comma → ⊥)
+    → pairs_step (Within l x) (seen k) ≡ (pair_step x (seen k) >>= λ y. Some (Within l y))
 within_other l x lexeme.Comma a = absurd (a refl)
 within_other l x _ a = refl
 
@@ -192,5 +205,6 @@ pair_end l w None = refl
 pub next_begins : (r : PairsSoFar) (l : List PairPhrase) → Rests r l → ShowsWithin r (pair.Left left.Begins) (Within l Begins)
 next_begins r l h = record { pairs = l; pair = Begins; state = refl; shows = record { state = refl; rests = h } }
 
-pub right_goes_on : (r : PairsSoFar) (l : List PairPhrase) (w : RightPart) (m : Mode) (x : State) → KeepsPairs r l → Shows r.stack m x → ShowsWithin r (pair.InRight w m) (Within l (InRight (wants w) x))
+pub right_goes_on : (r : PairsSoFar) (l : List PairPhrase) (w : RightPart) (m : Mode) (x : State) → KeepsPairs r l → Shows r.stack m x
+    → ShowsWithin r (pair.InRight w m) (Within l (InRight (wants w) x))
 right_goes_on r l w m x k h = record { pairs = l; pair = InRight (wants w) x; state = refl; shows = record { inner = x; state = refl; pairs = k; shows = h } }

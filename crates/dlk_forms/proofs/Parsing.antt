@@ -45,12 +45,14 @@ module _ {X T : Type 0} (d : Dots) (m : Machine X T) where
   parsed_on x y k s e = ap (goes 0 s) e ∙ parsed_later s y 0
 
   module _ {R V : Type 0} (shows : R → X → Type 0) (is_code : V → T → Type 0) where
-    gives_on : (x y : X) (k : Lexeme) (s : List Lexeme) (o : Outcome V) → when (permits d k) (m.step x k) ≡ Some y → Gives d m y s is_code o → Gives d m x (k ∷ s) is_code (after_one o)
+    gives_on : (x y : X) (k : Lexeme) (s : List Lexeme) (o : Outcome V) → when (permits d k) (m.step x k) ≡ Some y → Gives d m y s is_code o
+        → Gives d m x (k ∷ s) is_code (after_one o)
     gives_on x y k s (Whole v) e g = record { said = g.said; parsed = parsed_on x y k s e ∙ ap later g.parsed; code = g.code }
     gives_on x y k s (Stopped place) e g = parsed_on x y k s e ∙ ap later g
 
     -- a reader whose step agrees with the machine's
-    pub steps : (r : R) (k : Lexeme) (result : Result R StepFault) → ((x : X) → shows r x → Agrees shows result (when (permits d k) (m.step x k))) → Steps (Comes d m shows is_code) r k result
+    pub steps : (r : R) (k : Lexeme) (result : Result R StepFault) → ((x : X) → shows r x → Agrees shows result (when (permits d k) (m.step x k)))
+        → Steps (Comes d m shows is_code) r k result
     steps r k (Ok next) f = λ s o h x w.
         let a = agrees_ok shows next (when (permits d k) (m.step x k)) (f x w) in
         gives_on x a.0 k s o a.1 (h a.0 a.2)
@@ -66,7 +68,8 @@ module _ {X T : Type 0} (d : Dots) (m : Machine X T) where
     ends r (Err fault.Syntax) f = λ x w. ap (λ (o : Option T). or_else {B = Result T ℕ} o (Err 0) (λ t. Ok t)) (none_from is_code (m.ended x) (f x w))
 
     -- what comes of tokens
-    pub reads : (r : R) (tokens : List Token) (result : Result V Stop) → shows r m.start → ReadsTokens (Comes d m shows is_code) r tokens result → ReadsAs d m is_code tokens result
+    pub reads : (r : R) (tokens : List Token) (result : Result V Stop) → shows r m.start → ReadsTokens (Comes d m shows is_code) r tokens result
+        → ReadsAs d m is_code tokens result
     reads r tokens (Ok v) w h = h m.start w
     reads r tokens (Err Memory) w h = tt
     reads r tokens (Err (Syntax at)) w h = (h.0, h.1 m.start w, h.2)

@@ -18,14 +18,17 @@ use Rattle.dlk_forms.specs.Readers.{ShowsBetween, ShowsReading, ShowsSidesAt, fi
 use Rattle.dlk_reader.proofs.Commas.{behind, comma_behind, ended_is_with}
 
 -- a formula that ended
-pub finished_ok : (r : SidesSoFar) (w : Side) (l : Phrases) (x : State) → Agrees {X = Unit {0}} (λ _ m. ShowsBetween r w m) (Ok tt) (finished l x) → (t : Phrase) × (ended Formula x ≡ Some t) × ShowsBetween r w (snoc l t)
+pub finished_ok : (r : SidesSoFar) (w : Side) (l : Phrases) (x : State) → Agrees {X = Unit {0}} (λ _ m. ShowsBetween r w m) (Ok tt) (finished l x)
+    → (t : Phrase) × (ended Formula x ≡ Some t) × ShowsBetween r w (snoc l t)
 finished_ok r w l x a = go (ended Formula x) refl a
   where
-    go : (o : Option Phrase) → ended Formula x ≡ o → Agrees {X = Unit {0}} (λ _ m. ShowsBetween r w m) (Ok tt) (o >>= λ t. Some (snoc l t)) → (t : Phrase) × (ended Formula x ≡ Some t) × ShowsBetween r w (snoc l t)
+    go : (o : Option Phrase) → ended Formula x ≡ o → Agrees {X = Unit {0}} (λ _ m. ShowsBetween r w m) (Ok tt) (o >>= λ t. Some (snoc l t))
+        → (t : Phrase) × (ended Formula x ≡ Some t) × ShowsBetween r w (snoc l t)
     go (Some t) e a = (t, e, a)
     go None e a = absurd a
 
-pub finished_err : {V W : Type 0} (s : Unit {0} → Phrases → Type 0) (r : V → W → Type 0) (f : StepFault) (l : Phrases) (o : Option Phrase) (g : Phrase → Option W) → Agrees s (Err f) (o >>= λ t. Some (snoc l t)) → Agrees r (Err f) (o >>= g)
+pub finished_err : {V W : Type 0} (s : Unit {0} → Phrases → Type 0) (r : V → W → Type 0) (f : StepFault) (l : Phrases) (o : Option Phrase)
+    (g : Phrase → Option W) → Agrees s (Err f) (o >>= λ t. Some (snoc l t)) → Agrees r (Err f) (o >>= g)
 finished_err s r fault.Memory l o g a = tt
 finished_err s r fault.Syntax l (Some t) g a = absurd a
 finished_err s r fault.Syntax l None g a = tt
@@ -44,12 +47,21 @@ module _ (w : Side) (l : Phrases) where
 
   pub formula_at_comma : (x : State) → sequent_step (Reading w l x) Comma ≡ (at_comma Formula x >>= behind (as_sort Formula) next_formula in_formula)
   formula_at_comma x =
-      ap (λ (o : Option Phrase). or_else o (inner w l x Comma) next_formula) (ended_is_with Formula x) ∙ comma_behind Formula (as_sort Formula) next_formula in_formula x
+      ap (λ (o : Option Phrase). or_else o (inner w l x Comma) next_formula) (ended_is_with Formula x) ∙ comma_behind Formula
+      (as_sort Formula) next_formula in_formula x
 
 -- where the reader stands in a side
-pub inside_shown : (r : SidesSoFar) (m : Option Mode) (k : Mode) (x : SequentState) → m ≡ Some k → ShowsSidesAt r m x → (w : Side) × (l : Phrases) × (y : State) × (x ≡ Reading w l y) × ShowsReading r k w l y
+pub inside_shown : (r : SidesSoFar) (m : Option Mode) (k : Mode) (x : SequentState) → m ≡ Some k → ShowsSidesAt r m x
+    → (w : Side) × (l : Phrases) × (y : State) × (x ≡ Reading w l y) × ShowsReading r k w l y
 inside_shown r m k (Fresh w) e h = absurd (let i = h.mode in cc)
-inside_shown r m k (Reading w l y) e h = (w, l, y, refl, let same : h.mode ≡ k = (let i = h.mode_is in cc) in subst (λ (o : Mode). ShowsReading r o w l y) same h.reading)
+inside_shown r m k (Reading w l y) e h = (
+  w,
+  l,
+  y,
+  refl,
+  let same : h.mode ≡ k = (let i = h.mode_is in cc) in subst
+      (λ (o : Mode). ShowsReading r o w l y) same h.reading,
+)
 
 pub between_shown : (r : SidesSoFar) (m : Option Mode) (x : SequentState) → m ≡ None → ShowsSidesAt r m x → (w : Side) × (x ≡ Fresh w) × ShowsBetween r w none
 between_shown r m (Fresh w) e h = (w, refl, h.between)
@@ -64,7 +76,8 @@ pub fresh_ended : (w : Side) → sequent_ended (Fresh w) ≡ both_of w none
 fresh_ended LeftSide = refl
 fresh_ended (RightSide m) = refl
 
-pub unfinished : {V : Type 0} (s : Unit {0} → Phrases → Type 0) (r : V → Sides → Type 0) (f : StepFault) (w : Side) (l : Phrases) (x : State) → Agrees s (Err f) (finished l x) → Agrees r (Err f) (sequent_ended (Reading w l x))
+pub unfinished : {V : Type 0} (s : Unit {0} → Phrases → Type 0) (r : V → Sides → Type 0) (f : StepFault) (w : Side) (l : Phrases) (x : State)
+    → Agrees s (Err f) (finished l x) → Agrees r (Err f) (sequent_ended (Reading w l x))
 unfinished s r fault.Memory w l x a = tt
 unfinished s r fault.Syntax LeftSide l x a = tt
 unfinished s r fault.Syntax (RightSide m) l x a = finished_err s r fault.Syntax l (ended Formula x) (λ t. Some (Turned m (snoc l t))) a

@@ -19,25 +19,9 @@ use Rattle.dlk_reader.specs.Shows.{seen, IsOpen, Shows, Agrees}
 use Rattle.dlk_forms.specs.declared.sides.SidesSoFar.{SidesSoFar}
 use Rattle.dlk_forms.specs.Readers.{ShowsOf, ShowsExpression, KeepsSide}
 
--- the same value, shown in another way
-pub ok_same : {X Y V : Type 0} (s : X → Y → Type 0) (r : V → Y → Type 0) (x : X) (v : V) (o : Option Y) → ((y : Y) → s x y → r v y) → Agrees s (Ok x) o → Agrees r (Ok v) o
-ok_same s r x v (Some y) f a = f y a
-ok_same s r x v None f a = a
-
--- a value made of it
-pub ok_maps : {X Y V W : Type 0} (s : X → Y → Type 0) (r : V → W → Type 0) (x : X) (v : V) (o : Option Y) (g : Y → W) → ((y : Y) → s x y → r v (g y)) → Agrees s (Ok x) o → Agrees r (Ok v) (o >>= λ y. Some (g y))
-ok_maps s r x v (Some y) g f a = f y a
-ok_maps s r x v None g f a = a
-
--- a fault, whatever a value were to show
-pub err_same : {X Y V : Type 0} (s : X → Y → Type 0) (r : V → Y → Type 0) (f : StepFault) (o : Option Y) → Agrees s (Err f) o → Agrees r (Err f) o
-err_same s r Memory (Some y) a = a
-err_same s r Memory None a = a
-err_same s r Syntax (Some y) a = a
-err_same s r Syntax None a = a
-
 -- a program of an expression
-pub as_programs : (k : Stack) (r : Result Place StepFault) (o : Option State) → Agrees (ShowsOf Program k) r o → Agrees (ShowsExpression k) r (o >>= λ y. Some (AsProgram y))
+pub as_programs : (k : Stack) (r : Result Place StepFault) (o : Option State) → Agrees (ShowsOf Program k) r o
+    → Agrees (ShowsExpression k) r (o >>= λ y. Some (AsProgram y))
 as_programs k (Ok p) (Some y) a = a
 as_programs k (Ok p) None a = a
 as_programs k (Err Memory) (Some y) a = a
@@ -66,19 +50,22 @@ pub first_prime_gets : (x : Word) (k : SeenLexeme) → k ≡ lexeme.Gets → exp
 first_prime_gets x k e = rw e refl
 
 -- Of a machine that names some lexemes, each other one.
-pub unread_other : (k : SeenLexeme) → ((n : ℕ) (x : Word) → k ≡ lexeme.Name n x → ⊥) → ((n : ℕ) → k ≡ lexeme.OpenBrace n → ⊥) → (k ≡ lexeme.Query → ⊥) → expression_step Unread (seen k) ≡ as_formula (Wants []) (seen k)
+pub unread_other : (k : SeenLexeme) → ((n : ℕ) (x : Word) → k ≡ lexeme.Name n x → ⊥) → ((n : ℕ) → k ≡ lexeme.OpenBrace n → ⊥)
+    → (k ≡ lexeme.Query → ⊥) → expression_step Unread (seen k) ≡ as_formula (Wants []) (seen k)
 unread_other (lexeme.Name n x) a b c = absurd (a n x refl)
 unread_other (lexeme.OpenBrace n) a b c = absurd (b n refl)
 unread_other lexeme.Query a b c = absurd (c refl)
 unread_other _ a b c = refl
 
-pub first_name_other : (n : ℕ) (x : Word) (k : SeenLexeme) → (k ≡ lexeme.Prime → ⊥) → (k ≡ lexeme.Gets → ⊥) → (k ≡ lexeme.Semi → ⊥) → expression_step (FirstName n x) (seen k) ≡ as_formula (Has [] (Is Term (Variable x false) (Bare n x))) (seen k)
+pub first_name_other : (n : ℕ) (x : Word) (k : SeenLexeme) → (k ≡ lexeme.Prime → ⊥) → (k ≡ lexeme.Gets → ⊥) → (k ≡ lexeme.Semi → ⊥)
+    → expression_step (FirstName n x) (seen k) ≡ as_formula (Has [] (Is Term (Variable x false) (Bare n x))) (seen k)
 first_name_other n x lexeme.Prime a b c = absurd (a refl)
 first_name_other n x lexeme.Gets a b c = absurd (b refl)
 first_name_other n x lexeme.Semi a b c = absurd (c refl)
 first_name_other n x _ a b c = refl
 
-pub first_prime_other : (x : Word) (k : SeenLexeme) → (k ≡ lexeme.Gets → ⊥) → expression_step (FirstPrime x) (seen k) ≡ as_formula (Has [] (Is Term (Variable x true) Done)) (seen k)
+pub first_prime_other : (x : Word) (k : SeenLexeme) → (k ≡ lexeme.Gets → ⊥)
+    → expression_step (FirstPrime x) (seen k) ≡ as_formula (Has [] (Is Term (Variable x true) Done)) (seen k)
 first_prime_other x lexeme.Gets a = absurd (a refl)
 first_prime_other x _ a = refl
 
@@ -86,13 +73,15 @@ pub fresh_other : (w : Side) (k : SeenLexeme) → (k ≡ lexeme.Turnstile → �
 fresh_other w lexeme.Turnstile a = absurd (a refl)
 fresh_other w _ a = refl
 
-pub reading_other : (w : Side) (l : Phrases) (x : State) (k : SeenLexeme) → (k ≡ lexeme.Turnstile → ⊥) → (k ≡ lexeme.Comma → ⊥) → sequent_step (Reading w l x) (seen k) ≡ inner w l x (seen k)
+pub reading_other : (w : Side) (l : Phrases) (x : State) (k : SeenLexeme) → (k ≡ lexeme.Turnstile → ⊥) → (k ≡ lexeme.Comma → ⊥)
+    → sequent_step (Reading w l x) (seen k) ≡ inner w l x (seen k)
 reading_other w l x lexeme.Turnstile a b = absurd (a refl)
 reading_other w l x lexeme.Comma a b = absurd (b refl)
 reading_other w l x _ a b = refl
 
 -- a program of an expression stands as a tree
-pub expression_of : (k : Stack) (sort : Sort) (m : Mode) (p : Place) (x : ExpressionState) → p ≡ place.Of sort m → ShowsExpression k p x → (y : State) × (x ≡ AsProgram y) × (sort ≡ Program) × Shows k m y
+pub expression_of : (k : Stack) (sort : Sort) (m : Mode) (p : Place) (x : ExpressionState) → p ≡ place.Of sort m → ShowsExpression k p x
+    → (y : State) × (x ≡ AsProgram y) × (sort ≡ Program) × Shows k m y
 expression_of k sort m p Unread e h = absurd (let i = h.place in cc)
 expression_of k sort m p (FirstName n x) e h = absurd (let i = h.place in cc)
 expression_of k sort m p (FirstPrime x) e h = absurd (let i = h.place in cc)
@@ -102,14 +91,16 @@ expression_of k sort m p (AsProgram y) e h =
     let same : h.mode ≡ m = (let i = h.place in cc) in
     (y, refl, s, subst (λ (o : Mode). Shows k o y) same h.shows)
 
-pub expression_name : (k : Stack) (n : ℕ) (x : Word) (p : Place) (y : ExpressionState) → p ≡ place.FirstName n x → ShowsExpression k p y → (y ≡ FirstName n x) × IsOpen k [] []
+pub expression_name : (k : Stack) (n : ℕ) (x : Word) (p : Place) (y : ExpressionState) → p ≡ place.FirstName n x → ShowsExpression k p y
+    → (y ≡ FirstName n x) × IsOpen k [] []
 expression_name k n x p Unread e h = absurd (let i = h.place in cc)
 expression_name k n x p (FirstName m z) e h = ((let i = h.place in cc), h.lists)
 expression_name k n x p (FirstPrime z) e h = absurd (let i = h.place in cc)
 expression_name k n x p (AsFormula y) e h = absurd (let i = h.place in cc)
 expression_name k n x p (AsProgram y) e h = absurd (let i = h.place in cc)
 
-pub expression_prime : (k : Stack) (x : Word) (p : Place) (y : ExpressionState) → p ≡ place.FirstPrime x → ShowsExpression k p y → (y ≡ FirstPrime x) × IsOpen k [] []
+pub expression_prime : (k : Stack) (x : Word) (p : Place) (y : ExpressionState) → p ≡ place.FirstPrime x → ShowsExpression k p y
+    → (y ≡ FirstPrime x) × IsOpen k [] []
 expression_prime k x p Unread e h = absurd (let i = h.place in cc)
 expression_prime k x p (FirstName m z) e h = absurd (let i = h.place in cc)
 expression_prime k x p (FirstPrime z) e h = ((let i = h.place in cc), h.lists)

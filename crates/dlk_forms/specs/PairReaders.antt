@@ -9,7 +9,9 @@ use Rattle.dlk_grammar.specs.Lexemes.{Lexeme, Op}
 use Rattle.dlk_grammar.specs.declared.token.Infix.TheVariants.{And}
 use Rattle.dlk_grammar.specs.declared.token.Dots.TheVariants.{Allowed}
 use Rattle.dlk_machine.specs.Machine.{◌>>=◌, Part, Piece, Is, Braced, State, Has, whole}
-use Rattle.dlk_machine.specs.Pairs.{Right, EitherOf, TextOf, SystemOf, PairState, Begins, LeftName, TermName, Calls, DotsOf, DotWanted, Bars, BarsName, InContext, ContextHole, FlowOpens, FlowName, FlowBar, FlowBarName, FlowExcept, LeftEnds, InRight, BraceWanted, InSystem, SystemEnds, PairsState, Fresh, Within, pairs_reader}
+use Rattle.dlk_machine.specs.Pairs.{Right, EitherOf, TextOf, SystemOf, PairState, Begins, LeftName, TermName, Calls, DotsOf, DotWanted, Bars}
+use Rattle.dlk_machine.specs.Pairs.{BarsName, InContext, ContextHole, FlowOpens, FlowName, FlowBar, FlowBarName, FlowExcept, LeftEnds, InRight}
+use Rattle.dlk_machine.specs.Pairs.{BraceWanted, InSystem, SystemEnds, PairsState, Fresh, Within, pairs_reader}
 use Rattle.dlk_reader.specs.Codes.{postfix}
 use Rattle.dlk_reader.specs.Outcomes.{Outcome}
 use Rattle.dlk_reader.specs.Shows.{space_of, IsOpen, IsWhole, Shows}

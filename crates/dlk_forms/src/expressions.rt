@@ -25,6 +25,7 @@ pub(crate) enum Place {
     Of(Sort, Mode),
 }
 
+/// A lexeme of a tree of a sort.
 fn step_of(
     stack: &mut Stack,
     alloc: Global,
@@ -37,6 +38,7 @@ fn step_of(
     Ok(Place::Of(sort, stack.step(alloc, sort, mode, lexeme)?))
 }
 
+/// A lexeme of an expression that is a program.
 fn step_program(
     stack: &mut Stack,
     alloc: Global,
@@ -48,6 +50,7 @@ fn step_program(
     step_of(stack, alloc, Sort::Program, mode, lexeme)
 }
 
+/// A lexeme of an expression that is a formula or a term.
 fn step_either(
     stack: &mut Stack,
     alloc: Global,

@@ -7,7 +7,9 @@ ghost use Rattle.dlk_grammar.specs.Erased.{symbol};
 ghost use Rattle.dlk_grammar.specs.Phrases.{Everywhere};
 ghost use Rattle.dlk_grammar.specs.Substitutions.{function, predicate};
 ghost use Rattle.dlk_machine.specs.Machine.{when};
-ghost use Rattle.dlk_machine.specs.Pairs.{Begins, LeftName, Calls, DotsOf, DotWanted, Bars, BarsName, InContext, ContextHole, FlowOpens, FlowName, FlowBar, FlowBarName, FlowExcept, LeftEnds as EndsLeft, TextOf as WantsText, SystemOf as WantsSystem, right_of, pair_step, target_step};
+ghost use Rattle.dlk_machine.specs.Pairs.{Begins, LeftName, Calls, DotsOf, DotWanted, Bars, BarsName, InContext, ContextHole, FlowOpens, FlowName};
+ghost use Rattle.dlk_machine.specs.Pairs.{FlowBar, FlowBarName, FlowExcept, LeftEnds as EndsLeft, TextOf as WantsText, SystemOf as WantsSystem};
+ghost use Rattle.dlk_machine.specs.Pairs.{right_of, pair_step, target_step};
 ghost use Rattle.dlk_reader.specs.Shows.{seen, space_of, Agrees};
 ghost use Rattle.dlk_forms.specs.PairReaders.{target_of, left_state, IsLeft};
 

@@ -6,9 +6,11 @@ ghost use Rattle.dlk_grammar.specs.Substitutions.{PairPhrase, to, predicate, fun
 ghost use Rattle.dlk_machine.specs.Machine.{Part as MachinePart, Piece, State, when};
 ghost use Rattle.dlk_grammar.specs.declared.token.Dots.TheVariants.{Allowed};
 ghost use Rattle.dlk_grammar.specs.Readings.{permits};
-ghost use Rattle.dlk_machine.specs.Pairs.{PairState, PairsState, Fresh, Within, LeftEnds, InRight, BraceWanted, InSystem, pair_step, pairs_step, pairs_ended, right_ended, right_sort};
+ghost use Rattle.dlk_machine.specs.Pairs.{PairState, PairsState, Fresh, Within, LeftEnds, InRight, BraceWanted, InSystem, pair_step, pairs_step};
+ghost use Rattle.dlk_machine.specs.Pairs.{pairs_ended, right_ended, right_sort};
 ghost use Rattle.dlk_reader.specs.Shows.{seen, IsWhole, Stands, Shows, Agrees};
-ghost use Rattle.dlk_forms.specs.PairReaders.{target_of, wants, symbol_as, right_whole, with_pair, KeepsPairs, Rests, IsPairOf, is_and, is_system, ShowsPair, ShowsWithin, ShowsPairsAt, ShowsPairs, PairsComes};
+ghost use Rattle.dlk_forms.specs.PairReaders.{target_of, wants, symbol_as, right_whole, with_pair, KeepsPairs, Rests, IsPairOf, is_and, is_system};
+ghost use Rattle.dlk_forms.specs.PairReaders.{ShowsPair, ShowsWithin, ShowsPairsAt, ShowsPairs, PairsComes};
 ghost use Rattle.dlk_forms.specs.Said.{IsCodeOfPairs};
 ghost use Rattle.dlk_forms.specs.declared.pairs.PairsSoFar.{PairsSoFar as TheReader};
 
@@ -18,7 +20,7 @@ use dlk_grammar::{Dots, Infix};
 use dlk_reader::{
     Code, Comma, Equations, Last, Lexeme, LexemeReader, Mode, Stack, StepFault, Tail,
 };
-use dlk_tree::{Items, Sort, Sym};
+use dlk_tree::{Sort, Sym};
 use std::alloc::Global;
 
 /// Where the reader of a pair stands.
@@ -47,7 +49,9 @@ pub(crate) struct PairsSoFar {
 /// The symbols of pairs in order, and the operators of their replacements in order, each behind its operands.
 #[derive(Drop)]
 pub struct PairsCode {
+    /// The symbols.
     pub symbols: Vec<Sym>,
+    /// The operators.
     pub code: Vec<Code>,
 }
 
@@ -79,8 +83,7 @@ fn brace_step(alloc: Global, symbol: Sym, lexeme: Lexeme) -> Result<PairMode, St
 {
     match lexeme {
         Lexeme::OpenBrace(at) => {
-            let items = Items::new(Vec::new(alloc));
-            let equations = Equations { at, items };
+            let equations = Equations::new(alloc, at);
             Ok(PairMode::InSystem(symbol, Mode::WantsItem(equations)))
         }
         _ => Err(StepFault::Syntax),
@@ -325,12 +328,8 @@ impl PairsReader {
     pub(crate) fn new(alloc: Global) -> PairsReader
         ensures { ShowsPairs result Fresh }
     {
-        let stack = Stack {
-            parts: Vec::new(alloc),
-            out: Vec::new(alloc),
-        };
         let pairs = PairsSoFar {
-            stack,
+            stack: Stack::new(alloc),
             symbols: Vec::new(alloc),
             done: Vec::new(alloc),
         };

@@ -1,12 +1,11 @@
 //! Reads the tokens of a text.
+ghost use Rattle.std.specs.Prelude.{IfOk, IfErr};
 ghost use Rattle.dlk_grammar.specs.declared.token.Dots.TheVariants.{Allowed, Refused};
 ghost use Rattle.dlk_grammar.specs.RealTokens.{AreTokens};
-ghost use Rattle.dlk_machine.specs.Forms.{machine_of};
-ghost use Rattle.dlk_machine.specs.Pairs.{pairs_reader};
-ghost use Rattle.dlk_machine.specs.Sequents.{sequent_reader};
-ghost use Rattle.dlk_forms.specs.Parsing.{ReadsAs};
-ghost use Rattle.dlk_forms.specs.Readers.{IsTreeCode, IsCodeOf};
-ghost use Rattle.dlk_forms.specs.Said.{IsCodeOfPairs};
+ghost use Rattle.dlk_grammar.specs.Grammar.{ReadsSequent};
+ghost use Rattle.dlk_grammar.specs.Readings.{grammar, itself, both_sides};
+ghost use Rattle.dlk_grammar.specs.Substitutions.{ReadsSubstitution, replacements};
+ghost use Rattle.dlk_forms.specs.Said.{SaysCode, SaysSides, SaysPairs, IsStop};
 
 use crate::pairs::{PairsCode, PairsReader};
 use crate::sides::{SidesCode, SidesReader};
@@ -15,11 +14,12 @@ use dlk_grammar::{Dots, Form, Token};
 use dlk_reader::{Code, Stop, read};
 use std::alloc::Global;
 
-/// Reads one tree. Its operators stand behind their operands.
+/// Reads one tree from tokens of a text, of which the end is the last. Its operators stand behind their operands.
 ///
 /// # Errors
 ///
-/// `Syntax` comes exactly where the tokens stop as a text of the form: the byte of the first token at which no text goes on.
+/// `Syntax` comes exactly where the tokens stop as a text of the form: the byte of the first token at which no text goes on. `Memory` comes
+/// where memory runs out.
 pub fn read_tree(
     alloc: Global,
     form: Form,
@@ -27,31 +27,36 @@ pub fn read_tree(
     tokens: Vec<Token>,
 ) -> Result<Vec<Code>, Stop>
     requires { AreTokens tokens.items }
-    ensures { ReadsAs dots (machine_of form) IsTreeCode tokens.items result }
+    ensures says { IfOk result (λ v. SaysCode (grammar form) itself dots tokens.items v.items) }
+    ensures stops { IfErr result (IsStop (grammar form) itself dots tokens.items) }
 {
     read(alloc, TreeReader::new(alloc, form, dots), tokens)
 }
 
-/// Reads the formulas of both sides of a sequent, in which argument dots and the hole are refused.
+/// Reads the formulas of both sides of a sequent from tokens of a text, of which the end is the last. Argument dots and the hole are refused.
 ///
 /// # Errors
 ///
-/// `Syntax` comes exactly where the tokens stop as a sequent: the byte of the first token at which none goes on.
+/// `Syntax` comes exactly where the tokens stop as a sequent: the byte of the first token at which none goes on. `Memory` comes where
+/// memory runs out.
 pub fn read_sides(alloc: Global, tokens: Vec<Token>) -> Result<SidesCode, Stop>
     requires { AreTokens tokens.items }
-    ensures { ReadsAs Refused sequent_reader IsCodeOf tokens.items result }
+    ensures says { IfOk result (SaysSides tokens.items) }
+    ensures stops { IfErr result (IsStop ReadsSequent both_sides Refused tokens.items) }
 {
     read(alloc, SidesReader::new(alloc), tokens)
 }
 
-/// Reads the pairs of a substitution, in which argument dots and the hole are allowed.
+/// Reads the pairs of a substitution from tokens of a text, of which the end is the last. Argument dots and the hole are allowed.
 ///
 /// # Errors
 ///
-/// `Syntax` comes exactly where the tokens stop as a substitution: the byte of the first token at which none goes on.
+/// `Syntax` comes exactly where the tokens stop as a substitution: the byte of the first token at which none goes on. `Memory` comes where
+/// memory runs out.
 pub fn read_pairs(alloc: Global, tokens: Vec<Token>) -> Result<PairsCode, Stop>
     requires { AreTokens tokens.items }
-    ensures { ReadsAs Allowed pairs_reader IsCodeOfPairs tokens.items result }
+    ensures says { IfOk result (SaysPairs tokens.items) }
+    ensures stops { IfErr result (IsStop ReadsSubstitution replacements Allowed tokens.items) }
 {
     read(alloc, PairsReader::new(alloc), tokens)
 }

@@ -30,7 +30,9 @@ pub(crate) struct SidesSoFar {
 /// The operators of the formulas of both sides in order, each behind its operands, and how many formulas the left side has.
 #[derive(Drop)]
 pub struct SidesCode {
+    /// How many formulas the left side has.
     pub left: usize,
+    /// The operators.
     pub code: Vec<Code>,
 }
 
@@ -169,12 +171,8 @@ impl SidesReader {
     pub(crate) fn new(alloc: Global) -> SidesReader
         ensures { ShowsSides result (Fresh LeftSide) }
     {
-        let stack = Stack {
-            parts: Vec::new(alloc),
-            out: Vec::new(alloc),
-        };
         let sides = SidesSoFar {
-            stack,
+            stack: Stack::new(alloc),
             done: Vec::new(alloc),
             left: None,
             number: 0,

@@ -41,12 +41,11 @@ impl TreeReader {
     pub(crate) fn new(alloc: Global, form: Form, dots: Dots) -> TreeReader
         ensures { ShowsTree dots form result (tree_start form) }
     {
-        let stack = Stack {
-            parts: Vec::new(alloc),
-            out: Vec::new(alloc),
-        };
-        let place = start(form);
-        TreeReader { dots, stack, place }
+        TreeReader {
+            dots,
+            stack: Stack::new(alloc),
+            place: start(form),
+        }
     }
 
     /// The reader behind one more lexeme.

@@ -20,7 +20,8 @@ use Rattle.dlk_reader.specs.declared.parts.Last.{Last}
 use Rattle.dlk_reader.specs.declared.parts.Last.TheVariants as last
 
 -- a fault of the first step
-pub agrees_err : {X Y V W : Type 0} (s : X → Y → Type 0) (r : V → W → Type 0) (f : StepFault) (o : Option Y) (g : Y → Option W) → Agrees s (Err f) o → Agrees r (Err f) (o >>= g)
+pub agrees_err : {X Y V W : Type 0} (s : X → Y → Type 0) (r : V → W → Type 0) (f : StepFault) (o : Option Y) (g : Y → Option W) → Agrees s (Err f) o
+    → Agrees r (Err f) (o >>= g)
 agrees_err s r Memory o g a = tt
 agrees_err s r Syntax (Some y) g a = absurd a
 agrees_err s r Syntax None g a = tt
@@ -44,20 +45,30 @@ said_is b o e = ap said e ∙ said_of o
 -- the operators of primes
 pub postfix_primes : (n : ℕ) (t : Phrase) → postfix (primes n t) ≡ postfix t ++ primes_code false n
 postfix_primes zero t = sym (append-nil (postfix t))
-postfix_primes (suc n) t = ap (λ (l : List Code). l ++ prime_code false ∷ []) (postfix_primes n t) ∙ append_assoc (postfix t) (primes_code false n) (prime_code false ∷ [])
+postfix_primes (suc n) t = ap (λ (l : List Code). l ++ prime_code false ∷ []) (postfix_primes n t)
+    ∙ append_assoc (postfix t) (primes_code false n) (prime_code false ∷ [])
 
 pub postfix_formula_primes : (n : ℕ) (t : Phrase) → postfix (formula_primes n t) ≡ postfix t ++ primes_code true n
 postfix_formula_primes zero t = sym (append-nil (postfix t))
-postfix_formula_primes (suc n) t = ap (λ (l : List Code). l ++ prime_code true ∷ []) (postfix_formula_primes n t) ∙ append_assoc (postfix t) (primes_code true n) (prime_code true ∷ [])
+postfix_formula_primes (suc n) t = ap (λ (l : List Code). l ++ prime_code true ∷ []) (postfix_formula_primes n t)
+    ∙ append_assoc (postfix t) (primes_code true n) (prime_code true ∷ [])
 
 -- primes behind a symbol
-pub primes_written : (h : Head) (n : ℕ) (before mid new : List Code) (r : Result (Unit {0}) StepFault) → mid ≡ before ++ postfix (Apply h) → Agrees (λ _ c. new ≡ mid ++ c) r (Some (primes_code false n)) → Agrees (λ _ t. Writes new before t) r (Some (primes n (Apply h)))
-primes_written h n before mid new (Ok x) m a = record { out = a ∙ ap (λ (l : List Code). l ++ primes_code false n) m ∙ append_assoc before (postfix (Apply h)) (primes_code false n) ∙ ap (λ (l : List Code). before ++ l) (sym (postfix_primes n (Apply h))) }
+pub primes_written : (h : Head) (n : ℕ) (before mid new : List Code) (r : Result (Unit {0}) StepFault) → mid ≡ before ++ postfix (Apply h)
+    → Agrees (λ _ c. new ≡ mid ++ c) r (Some (primes_code false n)) → Agrees (λ _ t. Writes new before t) r (Some (primes n (Apply h)))
+primes_written h n before mid new (Ok x) m a = record {
+  out = a ∙ ap (λ (l : List Code). l ++ primes_code false n) m ∙ append_assoc before (postfix (Apply h)) (primes_code false n)
+      ∙ ap (λ (l : List Code). before ++ l) (sym (postfix_primes n (Apply h)));
+}
 primes_written h n before mid new (Err Memory) m a = tt
 primes_written h n before mid new (Err Syntax) m a = absurd a
 
-pub formula_primes_written : (h : Head) (n : ℕ) (before mid new : List Code) (r : Result (Unit {0}) StepFault) → mid ≡ before ++ postfix (Holds h) → Agrees (λ _ c. new ≡ mid ++ c) r (Some (primes_code true n)) → Agrees (λ _ t. Writes new before t) r (Some (formula_primes n (Holds h)))
-formula_primes_written h n before mid new (Ok x) m a = record { out = a ∙ ap (λ (l : List Code). l ++ primes_code true n) m ∙ append_assoc before (postfix (Holds h)) (primes_code true n) ∙ ap (λ (l : List Code). before ++ l) (sym (postfix_formula_primes n (Holds h))) }
+pub formula_primes_written : (h : Head) (n : ℕ) (before mid new : List Code) (r : Result (Unit {0}) StepFault) → mid ≡ before ++ postfix (Holds h)
+    → Agrees (λ _ c. new ≡ mid ++ c) r (Some (primes_code true n)) → Agrees (λ _ t. Writes new before t) r (Some (formula_primes n (Holds h)))
+formula_primes_written h n before mid new (Ok x) m a = record {
+  out = a ∙ ap (λ (l : List Code). l ++ primes_code true n) m ∙ append_assoc before (postfix (Holds h)) (primes_code true n)
+      ∙ ap (λ (l : List Code). before ++ l) (sym (postfix_formula_primes n (Holds h)));
+}
 formula_primes_written h n before mid new (Err Memory) m a = tt
 formula_primes_written h n before mid new (Err Syntax) m a = absurd a
 
@@ -79,21 +90,27 @@ postfix_unary (Modal InDia p) a = refl
 
 -- an operator behind its right operand
 behind : (before a b mid new c : List Code) (x : Code) → mid ≡ (before ++ a) ++ b → new ≡ mid ++ x ∷ [] → c ≡ a ++ (b ++ x ∷ []) → new ≡ before ++ c
-behind before a b mid new c x m n e = n ∙ ap (λ (l : List Code). l ++ x ∷ []) m ∙ append_assoc (before ++ a) b (x ∷ []) ∙ append_assoc before a (b ++ x ∷ []) ∙ ap (λ (l : List Code). before ++ l) (sym e)
+behind before a b mid new c x m n e = n ∙ ap (λ (l : List Code). l ++ x ∷ []) m ∙ append_assoc (before ++ a) b (x ∷ [])
+    ∙ append_assoc before a (b ++ x ∷ []) ∙ ap (λ (l : List Code). before ++ l) (sym e)
 
 module _ (old mid new : List Code) (l : Last) (x : OpenPart) (p : Piece) (before : List Code) (is : IsLast l p) where
-  pub left_err : (b : BetweenPart) (so : Sort) (f : StepFault) (e : Part) → so ≡ operand_sort (said b) → x ≡ part.Left b → x ≡ shape e → old ≡ before ++ (part_code e ++ piece_code p) → Settles old new l so (Err f) → Agrees (Joins new before) (Err f) (join e p)
+  pub left_err : (b : BetweenPart) (so : Sort) (f : StepFault) (e : Part) → so ≡ operand_sort (said b) → x ≡ part.Left b → x ≡ shape e
+      → old ≡ before ++ (part_code e ++ piece_code p) → Settles old new l so (Err f) → Agrees (Joins new before) (Err f) (join e p)
   left_err b so f (Left o a) z y k at c =
       let same : said b ≡ o = said_is b o cc in
       let a' = c p (before ++ postfix a) is (at ∙ sym (append_assoc before (postfix a) (piece_code p))) in
-      agrees_err {X = Unit {0}} (λ _ t. Writes new (before ++ postfix a) t) (Joins new before) f (as_sort (operand_sort o) p) (λ b. Some (Is (result_sort o) (binary o a b) Done)) (rw (← same, ← z) a')
+      agrees_err {X = Unit {0}} (λ _ t. Writes new (before ++ postfix a) t) (Joins new before) f (as_sort (operand_sort o) p)
+      (λ b. Some (Is (result_sort o) (binary o a b) Done)) (rw (← same, ← z) a')
   left_err b so f (Before o) z y k at c = absurd cc
   left_err b so f (Inside o) z y k at c = absurd cc
 
-  pub left_ok : (b : BetweenPart) (so rs : Sort) (e : Part) → so ≡ operand_sort (said b) → rs ≡ result_sort (said b) → x ≡ part.Left b → x ≡ shape e → old ≡ before ++ (part_code e ++ piece_code p) → Settles old mid l so (Ok tt) → new ≡ mid ++ code.Operator (operator_of (said b)) ∷ [] → Agrees (Joins new before) (Ok (last.Tree rs tail.Done)) (join e p)
+  pub left_ok : (b : BetweenPart) (so rs : Sort) (e : Part) → so ≡ operand_sort (said b) → rs ≡ result_sort (said b) → x ≡ part.Left b → x ≡ shape e
+      → old ≡ before ++ (part_code e ++ piece_code p) → Settles old mid l so (Ok tt) → new ≡ mid ++ code.Operator (operator_of (said b)) ∷ []
+      → Agrees (Joins new before) (Ok (last.Tree rs tail.Done)) (join e p)
   left_ok b so rs (Left o a) z z' y k at c n =
       let same : said b ≡ o = said_is b o cc in
-      let w = agrees_ok {X = Unit {0}} (λ _ t. Writes mid (before ++ postfix a) t) tt (as_sort so p) (c p (before ++ postfix a) is (at ∙ sym (append_assoc before (postfix a) (piece_code p)))) in
+      let w = agrees_ok {X = Unit {0}} (λ _ t. Writes mid (before ++ postfix a) t) tt (as_sort so p)
+      (c p (before ++ postfix a) is (at ∙ sym (append_assoc before (postfix a) (piece_code p)))) in
       let n' : new ≡ mid ++ code.Operator (operator_of o) ∷ [] = rw (← same) n in
       let so' : so ≡ operand_sort o = z ∙ ap operand_sort same in
       let rs' : rs ≡ result_sort o = z' ∙ ap result_sort same in
@@ -104,19 +121,25 @@ module _ (old mid new : List Code) (l : Last) (x : OpenPart) (p : Piece) (before
   left_ok b so rs (Before o) z z' y k at c n = absurd cc
   left_ok b so rs (Inside o) z z' y k at c n = absurd cc
 
-  pub before_err : (b : PrefixPart) (so : Sort) (f : StepFault) (e : Part) → ((q : Prefix) → b ≡ prefix_of q → so ≡ prefix_sort q) → x ≡ part.Before b → x ≡ shape e → old ≡ before ++ (part_code e ++ piece_code p) → Settles old new l so (Err f) → Agrees (Joins new before) (Err f) (join e p)
+  pub before_err : (b : PrefixPart) (so : Sort) (f : StepFault) (e : Part) → ((q : Prefix) → b ≡ prefix_of q → so ≡ prefix_sort q) → x ≡ part.Before b
+      → x ≡ shape e → old ≡ before ++ (part_code e ++ piece_code p) → Settles old new l so (Err f) → Agrees (Joins new before) (Err f) (join e p)
   before_err b so f (Before o) z y k at c =
       let z' : so ≡ prefix_sort o = z o cc in
       let a' = c p (before ++ prefix_code o) is (at ∙ sym (append_assoc before (prefix_code o) (piece_code p))) in
-      agrees_err {X = Unit {0}} (λ _ t. Writes new (before ++ prefix_code o) t) (Joins new before) f (as_sort (prefix_sort o) p) (λ b. Some (Is (prefix_sort o) (unary o b) Done)) (rw (← z') a')
+      agrees_err {X = Unit {0}} (λ _ t. Writes new (before ++ prefix_code o) t) (Joins new before) f (as_sort (prefix_sort o) p)
+      (λ b. Some (Is (prefix_sort o) (unary o b) Done)) (rw (← z') a')
   before_err b so f (Left o a) z y k at c = absurd cc
   before_err b so f (Inside o) z y k at c = absurd cc
 
-  pub before_ok : (b : PrefixPart) (so : Sort) (z : Code) (e : Part) → ((q : Prefix) → b ≡ prefix_of q → so ≡ prefix_sort q) → ((q : Prefix) → b ≡ prefix_of q → z ≡ code.Operator (operator_before q)) → x ≡ part.Before b → x ≡ shape e → old ≡ before ++ (part_code e ++ piece_code p) → Settles old mid l so (Ok tt) → new ≡ mid ++ z ∷ [] → Agrees (Joins new before) (Ok (last.Tree so tail.Done)) (join e p)
+  pub before_ok : (b : PrefixPart) (so : Sort) (z : Code) (e : Part) → ((q : Prefix) → b ≡ prefix_of q → so ≡ prefix_sort q)
+      → ((q : Prefix) → b ≡ prefix_of q → z ≡ code.Operator (operator_before q)) → x ≡ part.Before b → x ≡ shape e
+      → old ≡ before ++ (part_code e ++ piece_code p) → Settles old mid l so (Ok tt) → new ≡ mid ++ z ∷ []
+      → Agrees (Joins new before) (Ok (last.Tree so tail.Done)) (join e p)
   before_ok b so v (Before o) z d y k at c n =
       let z' : so ≡ prefix_sort o = z o cc in
       let d' : v ≡ code.Operator (operator_before o) = d o cc in
-      let w = agrees_ok {X = Unit {0}} (λ _ t. Writes mid (before ++ prefix_code o) t) tt (as_sort so p) (c p (before ++ prefix_code o) is (at ∙ sym (append_assoc before (prefix_code o) (piece_code p)))) in
+      let w = agrees_ok {X = Unit {0}} (λ _ t. Writes mid (before ++ prefix_code o) t) tt (as_sort so p)
+      (c p (before ++ prefix_code o) is (at ∙ sym (append_assoc before (prefix_code o) (piece_code p)))) in
       let n' : new ≡ mid ++ code.Operator (operator_before o) ∷ [] = rw (← d') n in
       rw (← z', w.1) (record {
         last = record { same = refl; lone = tt };
@@ -126,12 +149,14 @@ module _ (old mid new : List Code) (l : Last) (x : OpenPart) (p : Piece) (before
   before_ok b so v (Inside o) z d y k at c n = absurd cc
 
 -- a fault where there is a value is want of memory
-pub agrees_memory : {X Y V W : Type 0} (s : X → Y → Type 0) (r : V → W → Type 0) (f : StepFault) (y : Y) (o : Option W) → Agrees s (Err f) (Some y) → Agrees r (Err f) o
+pub agrees_memory : {X Y V W : Type 0} (s : X → Y → Type 0) (r : V → W → Type 0) (f : StepFault) (y : Y) (o : Option W) → Agrees s (Err f) (Some y)
+    → Agrees r (Err f) o
 agrees_memory s r Memory y o a = tt
 agrees_memory s r Syntax y o a = absurd a
 
 -- the same value, shown in another way
-pub ok_same : {X Y V : Type 0} (s : X → Y → Type 0) (r : V → Y → Type 0) (x : X) (v : V) (o : Option Y) → ((y : Y) → s x y → r v y) → Agrees s (Ok x) o → Agrees r (Ok v) o
+pub ok_same : {X Y V : Type 0} (s : X → Y → Type 0) (r : V → Y → Type 0) (x : X) (v : V) (o : Option Y) → ((y : Y) → s x y → r v y) → Agrees s (Ok x) o
+    → Agrees r (Ok v) o
 ok_same s r x v (Some y) f a = f y a
 ok_same s r x v None f a = a
 

@@ -6,7 +6,7 @@ use Rattle.dlk_tree.specs.declared.op.Sort.TheVariants.{Term, Formula, Program}
 use Rattle.dlk_grammar.specs.Lexemes.{Comma}
 use Rattle.dlk_grammar.specs.Phrases.{Phrase}
 use Rattle.dlk_grammar.specs.declared.token.Infix.TheVariants.{Equiv, Imply, Or, And, Equal, NotEqual, AtLeast, Greater, AtMost, Less, Add, Sub, Mul, Div, Pow, Choice}
-use Rattle.dlk_machine.specs.Machine.{◌>>=◌, Between, By, Next, Part, Left, Before, Inside, Piece, Is, Symbol, operand_sort, result_sort, prefix_sort, program_sort, is_program, as_sort, wanted, join, reduce, whole, State, Wants, Has, Calls, Bars, BarsName, Binds, Starts, StartsPrime, StartsGets, StartsStar, Opens, OpensName, OpensPrime, WantsItem, ItemName, ItemPrime, ItemBar, ItemBarName, ItemEnds, Invariants, close_top, closing, step, ended}
+use Rattle.dlk_machine.specs.Machine.{◌>>=◌, Between, By, Next, Part, Left, Before, Inside, Piece, Is, Symbol, operand_sort, result_sort, prefix_sort, program_sort, is_program, as_sort, wanted, join, reduce, whole, State, Has, close_top, closing, step, ended}
 use Rattle.dlk_machine.specs.Parse.{or_else}
 use Rattle.dlk_reader.specs.declared.ends.Comma.TheVariants as comma
 use Rattle.dlk_reader.specs.declared.parts.Last.{Last}
@@ -19,7 +19,8 @@ use Rattle.dlk_reader.specs.Ends.{CommaState, EndsAt, GoesTo, goes_on, closed_at
 use Rattle.dlk_reader.proofs.Agree.{agrees_ok}
 
 -- what was read last
-pub has_shown : (k : Stack) (m : Mode) (last : Last) (x : State) → m ≡ mode.Has last → Shows k m x → (S : List Part) × (p : Piece) × (x ≡ Has S p) × Stands k last S p
+pub has_shown : (k : Stack) (m : Mode) (last : Last) (x : State) → m ≡ mode.Has last → Shows k m x
+    → (S : List Part) × (p : Piece) × (x ≡ Has S p) × Stands k last S p
 has_shown k m last (Has S p) e h = (S, p, refl, record { last = record { same = (let i = h.mode in cc); lone = h.lone }; lists = h.lists })
 has_shown k m last _ e h = absurd (let i = h.mode in cc)
 
@@ -86,7 +87,9 @@ closed [] p T q e =
     (ap is_program k, rw (← s) refl)
 closed (x ∷ S) p T q e = go (λ v. closed S v T q) (nat_lt 0 (wanted x)) refl (join x p) refl e
   where
-    go : ((v : Piece) → reduce 0 S v ≡ Some (T, q) → (is_program v ≡ is_program q) × (reduce 0 T q ≡ Some (T, q))) → (b : Bool) → nat_lt 0 (wanted x) ≡ b → (o : Option Piece) → join x p ≡ o → cond b (o >>= λ v. reduce 0 S v) (Some (x ∷ S, p)) ≡ Some (T, q) → (is_program p ≡ is_program q) × (reduce 0 T q ≡ Some (T, q))
+    go : ((v : Piece) → reduce 0 S v ≡ Some (T, q) → (is_program v ≡ is_program q) × (reduce 0 T q ≡ Some (T, q))) → (b : Bool) → nat_lt 0 (wanted x) ≡ b
+        → (o : Option Piece) → join x p ≡ o → cond b (o >>= λ v. reduce 0 S v) (Some (x ∷ S, p)) ≡ Some (T, q)
+        → (is_program p ≡ is_program q) × (reduce 0 T q ≡ Some (T, q))
     go rest true h (Some v) j e = let w = rest v e in (join_kind x p v j ∙ w.0, w.1)
     go rest true h None j e = absurd cc
     go rest false h o j e =
@@ -111,7 +114,9 @@ closed_open : (g : Sort) (T : List Part) (q : Piece) → T ≢ [] → closed_at 
 closed_open g [] q some = absurd (some refl)
 closed_open g (e ∷ T) q some = refl
 
-pub comma_open : (g : Sort) (S : List Part) (p : Piece) (k : Stack) (last : Last) → Agrees (Reduces k) (Ok last) (reduce 0 S p) → vec_len k.parts ≡ length k.parts.items → false ≡ (vec_len k.parts == 0) → (T : List Part) × (q : Piece) × Stands k last T q × (at_comma g (Has S p) ≡ goes_on g (Has T q))
+pub comma_open : (g : Sort) (S : List Part) (p : Piece) (k : Stack) (last : Last) → Agrees (Reduces k) (Ok last) (reduce 0 S p)
+    → vec_len k.parts ≡ length k.parts.items → false ≡ (vec_len k.parts == 0)
+    → (T : List Part) × (q : Piece) × Stands k last T q × (at_comma g (Has S p) ≡ goes_on g (Has T q))
 comma_open g S p k last a z h =
     let r = agrees_ok (Reduces k) last (reduce 0 S p) a in
     let some = some_open r.0.0 k.parts.items r.2.lists.parts (vec_len k.parts) z h in
@@ -146,7 +151,8 @@ module _ {A B : Type 0} (g : Sort) (w : Piece → Option A) (k : A → Option B)
   at_end q None u e = rw e refl
 
   module _ (S : List Part) (p : Piece) where
-    reduced : (o : Option (List Part × Piece)) → reduce 0 S p ≡ o → or_else (o >>= λ r. ended_by w r.0 r.1) (step g (Has S p) Comma >>= f) k ≡ ((o >>= λ r. closed_at g r.0 r.1) >>= behind w k f)
+    reduced : (o : Option (List Part × Piece)) → reduce 0 S p ≡ o
+        → or_else (o >>= λ r. ended_by w r.0 r.1) (step g (Has S p) Comma >>= f) k ≡ ((o >>= λ r. closed_at g r.0 r.1) >>= behind w k f)
     reduced None e = stuck (is_program p) refl
       where
         stuck : (b : Bool) → is_program p ≡ b → (step g (Has S p) Comma >>= f) ≡ None
@@ -178,7 +184,8 @@ goes_to k m (Some (GoesTo y)) a = (y, refl, a)
 goes_to k m (Some (EndsAt p)) a = absurd a
 goes_to k m None a = absurd a
 
-pub ends_at : (k : Stack) (last : Last) (o : Option CommaState) → Agrees (ShowsComma k) (Ok (comma.Ends last)) o → (p : Piece) × (o ≡ Some (EndsAt p)) × Stands k last [] p
+pub ends_at : (k : Stack) (last : Last) (o : Option CommaState) → Agrees (ShowsComma k) (Ok (comma.Ends last)) o
+    → (p : Piece) × (o ≡ Some (EndsAt p)) × Stands k last [] p
 ends_at k last (Some (EndsAt p)) a = (p, refl, a)
 ends_at k last (Some (GoesTo y)) a = absurd a
 ends_at k last None a = absurd a

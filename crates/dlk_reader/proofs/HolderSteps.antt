@@ -31,7 +31,8 @@ pub domain_is : (e : Equations) (h : Holder) → holder.Domain e ≡ holder_of h
 domain_is e (Domain n l) k = (n, l, refl, cc)
 domain_is e _ k = absurd cc
 
-pub evolves_is : (e : Equations) (x : Word) (h : Holder) → holder.Evolves e x ≡ holder_of h → (n : ℕ) × (l : Items) × (h ≡ Evolves n l x) × (e ≡ equations_of n l)
+pub evolves_is : (e : Equations) (x : Word) (h : Holder) → holder.Evolves e x ≡ holder_of h
+    → (n : ℕ) × (l : Items) × (h ≡ Evolves n l x) × (e ≡ equations_of n l)
 evolves_is e x (Evolves n l y) k = let same : x ≡ y = cc in (n, l, ap (Evolves n l) (sym same), cc)
 evolves_is e x _ k = absurd cc
 
@@ -39,12 +40,15 @@ evolves_is e x _ k = absurd cc
 abbrev pub Adds : Equations → Word → Result Equations StepFault → Type 0
 Adds e x r = (n : ℕ) (l : Items) (i : Item) → e ≡ equations_of n l → ode.Evolve x ≡ item_of i → Agrees (λ e m. e ≡ equations_of n m) r (Some (add l i))
 
-pub evolves_err : {V W : Type 0} (r : V → W → Type 0) (e : Equations) (x : Word) (n : ℕ) (l : Items) (f : StepFault) (o : Option W) → e ≡ equations_of n l → Adds e x (Err f) → Agrees r (Err f) o
+pub evolves_err : {V W : Type 0} (r : V → W → Type 0) (e : Equations) (x : Word) (n : ℕ) (l : Items) (f : StepFault) (o : Option W) → e ≡ equations_of n l
+    → Adds e x (Err f) → Agrees r (Err f) o
 evolves_err r e x n l f o k a = agrees_memory (λ (e : Equations) m. e ≡ equations_of n m) r f (add l (Evolve x Truth)) o (a n l (Evolve x Truth) k refl)
 
 -- how the code puts the operator of a system behind its operands
-pub system_code : (e : Equations) (n : ℕ) (l : Items) (t : Phrase) → e ≡ equations_of n l → postfix (System n l t) ≡ (postfix_terms l ++ postfix t) ++ code.System e.at e.items ∷ []
-system_code e n l t k = sym (append_assoc (postfix_terms l) (postfix t) (code.System n (ode_items l) ∷ [])) ∙ ap (λ (x : Equations). (postfix_terms l ++ postfix t) ++ code.System x.at x.items ∷ []) (sym k)
+pub system_code : (e : Equations) (n : ℕ) (l : Items) (t : Phrase) → e ≡ equations_of n l
+    → postfix (System n l t) ≡ (postfix_terms l ++ postfix t) ++ code.System e.at e.items ∷ []
+system_code e n l t k = sym (append_assoc (postfix_terms l) (postfix t) (code.System n (ode_items l) ∷ []))
+    ∙ ap (λ (x : Equations). (postfix_terms l ++ postfix t) ++ code.System x.at x.items ∷ []) (sym k)
 
 unsettled : (c : Closer) (h : Holder) (S : List Part) (p : Piece) → IsNoBracket h → as_sort (held_sort h) p ≡ None → close (closer_lexeme c) h S p ≡ None
 unsettled c (Round b) S p n e = absurd n
@@ -62,7 +66,8 @@ unsettled closer.Round (Notes b l) S p w e = rw e refl
 unsettled closer.Comma (Notes b l) S p w e = rw e refl
 unsettled _ _ S p w e = refl
 
-pub close_err : {X V : Type 0} (s : X → Phrase → Type 0) (r : V → State → Type 0) (c : Closer) (h : Holder) (S : List Part) (p : Piece) (f : StepFault) → IsNoBracket h → Agrees s (Err f) (as_sort (held_sort h) p) → Agrees r (Err f) (close (closer_lexeme c) h S p)
+pub close_err : {X V : Type 0} (s : X → Phrase → Type 0) (r : V → State → Type 0) (c : Closer) (h : Holder) (S : List Part) (p : Piece) (f : StepFault)
+    → IsNoBracket h → Agrees s (Err f) (as_sort (held_sort h) p) → Agrees r (Err f) (close (closer_lexeme c) h S p)
 close_err s r c h S p Memory n a = tt
 close_err s r c h S p Syntax n a = rw (unsettled c h S p n (none (as_sort (held_sort h) p) a)) tt
   where
@@ -77,33 +82,42 @@ no_bracket x _ k n = tt
 pub formulas_joined_is : (g : Sort) (S : List Part) (p : Piece) → formulas_joined g S p ≡ (left_opened g (By And) S p >>= λ T. Some (Wants T))
 formulas_joined_is g S p = go (as_sort Formula p) (fits g Formula S)
   where
-    go : (o : Option Phrase) (b : Bool) → (o >>= λ a. when b (Some (Wants (Left (By And) a ∷ S)))) ≡ ((o >>= λ a. when b (Some (Left (By And) a ∷ S))) >>= λ T. Some (Wants T))
+    go : (o : Option Phrase) (b : Bool) → (o >>= λ a. when b (Some (Wants (Left (By And) a ∷ S))))
+        ≡ ((o >>= λ a. when b (Some (Left (By And) a ∷ S))) >>= λ T. Some (Wants T))
     go None b = refl
     go (Some a) true = refl
     go (Some a) false = refl
 
 -- what a call of made answers for the operator of a system
 abbrev pub Makes : Equations → Stack → Stack → Result Mode StepFault → Type 0
-Makes e k m r = (S : List Part) (operands : List Code) (t : Phrase) (j : Tail) → postfix t ≡ operands ++ code.System e.at e.items ∷ [] → IsOpen k S operands → last.Tree Program tail.Braced ≡ last_of (Is Program t j) → IsVariable j (Is Program t j) → Agrees (Shows m) r (Some (Has S (Is Program t j)))
+Makes e k m r = (S : List Part) (operands : List Code) (t : Phrase) (j : Tail) → postfix t ≡ operands ++ code.System e.at e.items ∷ [] → IsOpen k S operands
+    → last.Tree Program tail.Braced ≡ last_of (Is Program t j) → IsVariable j (Is Program t j) → Agrees (Shows m) r (Some (Has S (Is Program t j)))
 
-pub domain_closed : (e : Equations) (k m : Stack) (r : Result Mode StepFault) (S : List Part) (h : Holder) (p : Piece) (t : Phrase) → holder.Domain e ≡ holder_of h → as_sort (held_sort h) p ≡ Some t → IsOpen k S (holder_code h ++ postfix t) → Makes e k m r → Agrees (Shows m) r (close CloseBrace h S p)
+pub domain_closed : (e : Equations) (k m : Stack) (r : Result Mode StepFault) (S : List Part) (h : Holder) (p : Piece) (t : Phrase)
+    → holder.Domain e ≡ holder_of h → as_sort (held_sort h) p ≡ Some t → IsOpen k S (holder_code h ++ postfix t) → Makes e k m r
+    → Agrees (Shows m) r (close CloseBrace h S p)
 domain_closed e k m r S (Domain n l) p t is w at makes =
     let same : e ≡ equations_of n l = cc in
     rw w (makes S (postfix_terms l ++ postfix t) (System n l t) Braced (system_code e n l t same) at refl tt)
 domain_closed e k m r S _ p t is w at makes = absurd cc
 
-pub evolves_any_err : {V W : Type 0} (r : V → W → Type 0) (e : Equations) (x : Word) (h : Holder) (f : StepFault) (o : Option W) → holder.Evolves e x ≡ holder_of h → Adds e x (Err f) → Agrees r (Err f) o
+pub evolves_any_err : {V W : Type 0} (r : V → W → Type 0) (e : Equations) (x : Word) (h : Holder) (f : StepFault) (o : Option W)
+    → holder.Evolves e x ≡ holder_of h → Adds e x (Err f) → Agrees r (Err f) o
 evolves_any_err r e x h f o is a = let w = evolves_is e x h is in evolves_err r e x w.0 w.1 f o w.3 a
 
-pub evolves_brace : (e d : Equations) (x : Word) (k m : Stack) (r : Result Mode StepFault) (S : List Part) (h : Holder) (p : Piece) (t : Phrase) → holder.Evolves e x ≡ holder_of h → as_sort (held_sort h) p ≡ Some t → IsOpen k S (holder_code h ++ postfix t) → Adds e x (Ok d)
-    → ((S : List Part) (n : ℕ) (l : Items) → d ≡ equations_of n l → IsOpen k S (postfix_terms l) → Agrees (Shows m) r (items_step S n l CloseBrace)) → Agrees (Shows m) r (close CloseBrace h S p)
+pub evolves_brace : (e d : Equations) (x : Word) (k m : Stack) (r : Result Mode StepFault) (S : List Part) (h : Holder) (p : Piece) (t : Phrase)
+    → holder.Evolves e x ≡ holder_of h → as_sort (held_sort h) p ≡ Some t → IsOpen k S (holder_code h ++ postfix t) → Adds e x (Ok d)
+    → ((S : List Part) (n : ℕ) (l : Items) → d ≡ equations_of n l → IsOpen k S (postfix_terms l) → Agrees (Shows m) r (items_step S n l CloseBrace))
+    → Agrees (Shows m) r (close CloseBrace h S p)
 evolves_brace e d x k m r S (Evolves n l y) p t is w at adds ends =
     let same : e ≡ equations_of n l = cc in
     let name : x ≡ y = cc in
     rw w (ends S n (add l (Evolve y t)) (adds n l (Evolve y t) same (ap ode.Evolve name)) at)
 evolves_brace e d x k m r S _ p t is w at adds ends = absurd cc
 
-pub evolves_comma : (e d : Equations) (x : Word) (k : Stack) (S : List Part) (h : Holder) (p : Piece) (t : Phrase) → holder.Evolves e x ≡ holder_of h → as_sort (held_sort h) p ≡ Some t → IsOpen k S (holder_code h ++ postfix t) → Adds e x (Ok d) → Agrees (Shows k) (Ok (mode.WantsItem d)) (close Comma h S p)
+pub evolves_comma : (e d : Equations) (x : Word) (k : Stack) (S : List Part) (h : Holder) (p : Piece) (t : Phrase) → holder.Evolves e x ≡ holder_of h
+    → as_sort (held_sort h) p ≡ Some t → IsOpen k S (holder_code h ++ postfix t) → Adds e x (Ok d)
+    → Agrees (Shows k) (Ok (mode.WantsItem d)) (close Comma h S p)
 evolves_comma e d x k S (Evolves n l y) p t is w at adds =
     let same : e ≡ equations_of n l = cc in
     let name : x ≡ y = cc in
@@ -111,7 +125,8 @@ evolves_comma e d x k S (Evolves n l y) p t is w at adds =
 evolves_comma e d x k S _ p t is w at adds = absurd cc
 
 -- what was settled in a holder
-pub settled_in : (S : List Part) (h : Holder) (t : Phrase) (k m : Stack) (code : List Code) → IsOpen k S (holder_code h ++ code) → m.parts.items ≡ k.parts.items → Writes m.out.items (stack_code S ++ holder_code h) t → IsOpen m S (holder_code h ++ postfix t)
+pub settled_in : (S : List Part) (h : Holder) (t : Phrase) (k m : Stack) (code : List Code) → IsOpen k S (holder_code h ++ code)
+    → m.parts.items ≡ k.parts.items → Writes m.out.items (stack_code S ++ holder_code h) t → IsOpen m S (holder_code h ++ postfix t)
 settled_in S h t k m code at parts out = record {
   parts = parts ∙ at.parts;
   out = out.out ∙ append_assoc (stack_code S) (holder_code h) (postfix t);

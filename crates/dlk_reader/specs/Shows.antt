@@ -74,6 +74,11 @@ seen lexeme.Becomes = Becomes
 seen lexeme.Swaps = Swaps
 seen (lexeme.Op o) = Operator o
 
+-- the name that a lexeme is
+abbrev pub IsNameOf : Lexeme → Result Word StepFault → Type 0
+IsNameOf (Name n x) result = result ≡ Ok x
+IsNameOf _ result = result ≡ Err Syntax
+
 -- the star, which behind `:=` stands for any value
 abbrev pub is_star : SeenLexeme → Bool
 is_star (lexeme.Op Mul) = true

@@ -26,6 +26,10 @@ pub enum Comma {
 
 impl Stack {
     /// The tree, where nothing is open any more.
+    ///
+    /// # Errors
+    ///
+    /// `Syntax` comes exactly where something is open or what was read last is of another sort, and `Memory` where memory ran out.
     pub fn settle_whole(&mut self, goal: Sort, last: Last) -> Result<(), StepFault>
         ensures { (S : List MachinePart) (p : Piece) → Stands self.old last S p
             → Agrees (λ _ t. IsWhole self.new t) result (whole goal S p) }
@@ -37,6 +41,10 @@ impl Stack {
     }
 
     /// The end of a term, a formula or a program.
+    ///
+    /// # Errors
+    ///
+    /// `Syntax` comes exactly where what was read is none of that sort, and `Memory` where memory ran out.
     pub fn end(&mut self, goal: Sort, mode: Mode) -> Result<(), StepFault>
         ensures { (x : State) → Shows self.old mode x
             → Agrees (λ _ t. IsWhole self.new t) result (ended goal x) }
@@ -49,6 +57,10 @@ impl Stack {
     }
 
     /// The end of a formula, or of a term that is no formula.
+    ///
+    /// # Errors
+    ///
+    /// `Syntax` comes exactly where what was read is neither, and `Memory` where memory ran out.
     pub fn end_either(&mut self, mode: Mode) -> Result<(), StepFault>
         ensures { (x : State) → Shows self.old mode x
             → Agrees (λ _ t. IsWhole self.new t) result (term_or_formula x) }
@@ -62,6 +74,10 @@ impl Stack {
     }
 
     /// What was read last as a formula where it can be one, and else as a term, where nothing is open any more: its sort.
+    ///
+    /// # Errors
+    ///
+    /// `Syntax` comes exactly where something is open or a program was read last, and `Memory` where memory ran out.
     pub fn settle_either(&mut self, last: Last) -> Result<Sort, StepFault>
         ensures { (S : List MachinePart) (p : Piece) → Stands self.old last S p
             → Agrees (IsEither self.new p) result (whole (either_sort p) S p) }
@@ -72,6 +88,10 @@ impl Stack {
     }
 
     /// A comma behind what is read, or in it.
+    ///
+    /// # Errors
+    ///
+    /// `Syntax` comes exactly where what stands before the comma can not be closed, or no text goes on with it, and `Memory` where memory ran out.
     pub fn at_comma(&mut self, alloc: Global, goal: Sort, mode: Mode) -> Result<Comma, StepFault>
         ensures { (x : State) → Shows self.old mode x
             → Agrees (ShowsComma self.new) result (at_comma goal x) }

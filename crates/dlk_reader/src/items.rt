@@ -2,7 +2,7 @@
 ghost use Rattle.std.specs.Prelude.{◌≡◌, ℕ, List, Some};
 ghost use Rattle.dlk_grammar.specs.Phrases.{Item, Flow, Items as MachineItems, add};
 ghost use Rattle.dlk_grammar.specs.Erased.{item_of};
-ghost use Rattle.dlk_machine.specs.Machine.{Part as MachinePart, items_step, items_begin, item_name_step, item_prime_step, item_bar_step, item_bar_name_step};
+ghost use Rattle.dlk_machine.specs.Machine.{Part as MachinePart, items_step, item_name_step, item_prime_step, item_bar_name_step};
 ghost use Rattle.dlk_grammar.specs.Lexemes.{CloseBrace};
 ghost use Rattle.dlk_reader.specs.Codes.{postfix_terms};
 ghost use Rattle.dlk_reader.specs.Shows.{seen, equations_of, space_of, IsOpen, Shows, Agrees};
@@ -112,36 +112,6 @@ impl Stack {
             Lexeme::Op(Infix::Equal) => self.open(Part::Inside(Holder::Evolves(equations, name))),
             _ => Err(StepFault::Syntax),
         }
-    }
-}
-
-/// A lexeme where an item is wanted.
-pub(crate) fn items_begin(equations: Equations, lexeme: Lexeme) -> Result<Mode, StepFault>
-    ensures { (k : TheStack) (S : List MachinePart) (n : ℕ) (l : MachineItems) → equations ≡ equations_of n l → IsOpen k S (postfix_terms l)
-        → Agrees (Shows k) result (items_begin S n l (seen lexeme)) }
-{
-    match lexeme {
-        Lexeme::Name(_, name) => Ok(Mode::ItemName(equations, name)),
-        _ => Err(StepFault::Syntax),
-    }
-}
-
-/// A lexeme behind the name of an item and `{|`.
-pub(crate) fn item_bar_step(
-    equations: Equations,
-    name: Name,
-    lexeme: Lexeme,
-) -> Result<Mode, StepFault>
-    ensures { (k : TheStack) (S : List MachinePart) (n : ℕ) (l : MachineItems) → equations ≡ equations_of n l → IsOpen k S (postfix_terms l)
-        → Agrees (Shows k) result (item_bar_step S n l name (seen lexeme)) }
-{
-    match lexeme {
-        Lexeme::Name(_, taboo) => Ok(Mode::ItemBarName {
-            equations,
-            name,
-            taboo,
-        }),
-        _ => Err(StepFault::Syntax),
     }
 }
 

@@ -1,8 +1,9 @@
 //! Tokens as the grammar sees them.
 ghost use Rattle.std.specs.Prelude.{◌≡◌};
 ghost use Rattle.dlk_grammar.specs.Lexemes.{lexeme_of, lexeme_of_mark};
-ghost use Rattle.dlk_reader.specs.Shows.{IsSeen, seen};
+ghost use Rattle.dlk_reader.specs.Shows.{IsNameOf, IsSeen, seen};
 
+use crate::stop::StepFault;
 use dlk_grammar::{Infix, Mark, TokenKind};
 use dlk_tree::{Name, Num};
 
@@ -39,6 +40,22 @@ pub enum Lexeme {
     Becomes,
     Swaps,
     Op(Infix),
+}
+
+impl Lexeme {
+    /// The name that it is.
+    ///
+    /// # Errors
+    ///
+    /// `Syntax` comes exactly where it is no name.
+    pub fn into_name(self) -> Result<Name, StepFault>
+        ensures { IsNameOf (seen self) result }
+    {
+        match self {
+            Lexeme::Name(_, name) => Ok(name),
+            _ => Err(StepFault::Syntax),
+        }
+    }
 }
 
 /// The token at a place, which is none at the end.

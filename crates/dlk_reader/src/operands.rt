@@ -6,7 +6,7 @@ ghost use Rattle.dlk_reader.specs.declared.parts.Tail.TheVariants as tail;
 ghost use Rattle.dlk_reader.specs.declared.parts.Last.TheVariants as last;
 ghost use Rattle.dlk_reader.specs.declared.parts.Mode.TheVariants as mode;
 ghost use Rattle.dlk_reader.specs.declared.stack.Stack.{Stack as TheStack};
-ghost use Rattle.dlk_machine.specs.Machine.{when, Part as MachinePart, Quantifier as MachineQuantifier, Piece, Done, Grouped, Bare, Is, Wants, Has, Binds, fits, start_operand, after_operand, primed, name_after, prime_after, call_step, bars_step, bars_name_step, bind_step};
+ghost use Rattle.dlk_machine.specs.Machine.{when, Part as MachinePart, Quantifier as MachineQuantifier, Piece, Done, Grouped, Bare, Is, Wants, Has, Binds, fits, start_operand, after_operand, primed, name_after, prime_after, call_step, bars_name_step, bind_step};
 ghost use Rattle.dlk_tree.specs.declared.op.Sort.TheVariants as sort_of;
 ghost use Rattle.dlk_reader.specs.declared.code.Code.TheVariants as code;
 ghost use Rattle.dlk_reader.specs.Codes.{postfix};
@@ -240,10 +240,8 @@ impl Stack {
         ensures { (S : List MachinePart) (q : MachineQuantifier) → quantifier ≡ quantifier_of q → IsOpen self.old S []
             → Agrees (Shows self.new) result (bind_step S q (seen lexeme)) }
     {
-        match lexeme {
-            Lexeme::Name(_, name) => self.open(Part::Before(Prefix::Bound(quantifier, name))),
-            _ => Err(StepFault::Syntax),
-        }
+        let name = lexeme.into_name()?;
+        self.open(Part::Before(Prefix::Bound(quantifier, name)))
     }
 }
 
@@ -256,17 +254,6 @@ fn any(name: Name, taboo: Option<Name>) -> Mode
         primes: 0,
         tail: Tail::Done,
     })
-}
-
-/// A lexeme behind a name and `(|`.
-pub(crate) fn bars_step(name: Name, lexeme: Lexeme) -> Result<Mode, StepFault>
-    ensures { (k : TheStack) (S : List MachinePart) → IsOpen k S []
-        → Agrees (Shows k) result (bars_step S name (seen lexeme)) }
-{
-    match lexeme {
-        Lexeme::Name(_, taboo) => Ok(Mode::BarsName { name, taboo }),
-        _ => Err(StepFault::Syntax),
-    }
 }
 
 /// A lexeme behind a name, `(|` and a name.

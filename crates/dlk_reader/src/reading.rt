@@ -22,7 +22,7 @@ pub trait LexemeReader: Sized + Drop {
     ///
     /// # Errors
     ///
-    /// `Syntax` comes exactly where no text goes on with the lexeme.
+    /// `Syntax` comes exactly where no text goes on with the lexeme, and `Memory` where memory ran out.
     fn step(self, alloc: Global, lexeme: Lexeme) -> Result<Self, StepFault>
         ensures { Steps comes self (seen lexeme) result };
 
@@ -30,7 +30,7 @@ pub trait LexemeReader: Sized + Drop {
     ///
     /// # Errors
     ///
-    /// `Syntax` comes exactly where what was read is no whole text.
+    /// `Syntax` comes exactly where what was read is no whole text, and `Memory` where memory ran out.
     fn end(self) -> Result<Self::Output, StepFault>
         ensures { Ends comes self result };
 }
@@ -64,7 +64,7 @@ fn stop(fault: StepFault, at: usize) -> Stop
 ///
 /// # Errors
 ///
-/// `Syntax` comes exactly where the lexemes stop at a token; its byte.
+/// `Syntax` comes exactly where the lexemes stop, with the byte of the token at which they do, and `Memory` where memory ran out.
 pub fn read<R: LexemeReader>(
     alloc: Global,
     reader: R,

@@ -25,6 +25,10 @@ pub struct Stack {
 }
 
 /// One more than a number of things in memory.
+///
+/// # Errors
+///
+/// `Memory` comes where no more fit into memory.
 pub fn one_more(count: usize) -> Result<usize, StepFault>
     ensures { Agrees (λ m n. m ≡ n) result (Some (count + 1)) }
 {
@@ -196,6 +200,10 @@ impl Stack {
     }
 
     /// Closes the open parts that want more than a level.
+    ///
+    /// # Errors
+    ///
+    /// `Syntax` comes exactly where an operand is of another sort, and `Memory` where memory ran out.
     pub fn reduce(&mut self, level: u8, last: Last) -> Result<Last, StepFault>
         ensures { (S : List MachinePart) (p : Piece) → Stands self.old last S p
             → Agrees (Reduces self.new) result (reduce level S p) }

@@ -3,9 +3,9 @@ ghost use Rattle.std.specs.Prelude.{◌≡◌, List, []};
 ghost use Rattle.dlk_machine.specs.Machine.{Part as MachinePart, Piece, State, Has, infix_after, next_after, after_program, after_other, start, step, ended};
 ghost use Rattle.dlk_reader.specs.Shows.{seen, IsOpen, IsWhole, Stands, Shows, Agrees};
 
-use crate::items::{item_bar_name_step, item_bar_step, items_begin};
+use crate::items::item_bar_name_step;
 use crate::lexeme::Lexeme;
-use crate::operands::{bars_name_step, bars_step};
+use crate::operands::bars_name_step;
 use crate::parts::{Between, Closer, Last, Mode};
 use crate::stack::{Stack, place, settle};
 use crate::statements::{invariant_after, semi_after};
@@ -102,6 +102,10 @@ impl Stack {
     }
 
     /// What the next lexeme makes of the lists, and where the reader then stands.
+    ///
+    /// # Errors
+    ///
+    /// `Syntax` comes exactly where no text goes on with the lexeme, and `Memory` where memory ran out.
     pub fn step(
         &mut self,
         alloc: Global,
@@ -116,7 +120,10 @@ impl Stack {
             Mode::Wants => self.start(goal, lexeme),
             Mode::Has(last) => self.after(goal, last, lexeme),
             Mode::Calls { at, name } => self.call_step(goal, at, name, lexeme),
-            Mode::Bars(name) => bars_step(name, lexeme),
+            Mode::Bars(name) => {
+                let taboo = lexeme.into_name()?;
+                Ok(Mode::BarsName { name, taboo })
+            }
             Mode::BarsName { name, taboo } => bars_name_step(name, taboo, lexeme),
             Mode::Binds(quantifier) => self.bind_step(quantifier, lexeme),
             Mode::Starts(name) => self.statement_step(name, lexeme),
@@ -126,10 +133,17 @@ impl Stack {
             Mode::Opens(at) => self.opens_step(at, lexeme),
             Mode::OpensName { at, name } => self.opens_name_step(alloc, at, name, lexeme),
             Mode::OpensPrime { at, name } => self.opens_prime_step(alloc, at, name, lexeme),
-            Mode::WantsItem(equations) => items_begin(equations, lexeme),
+            Mode::WantsItem(equations) => Ok(Mode::ItemName(equations, lexeme.into_name()?)),
             Mode::ItemName(equations, name) => self.item_name_step(equations, name, lexeme),
             Mode::ItemPrime(equations, name) => self.item_prime_step(equations, name, lexeme),
-            Mode::ItemBar(equations, name) => item_bar_step(equations, name, lexeme),
+            Mode::ItemBar(equations, name) => {
+                let taboo = lexeme.into_name()?;
+                Ok(Mode::ItemBarName {
+                    equations,
+                    name,
+                    taboo,
+                })
+            }
             Mode::ItemBarName {
                 equations,
                 name,

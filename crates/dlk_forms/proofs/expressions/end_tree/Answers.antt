@@ -8,7 +8,8 @@ use Rattle.dlk_forms.proofs.expressions.end_tree.Goals as goal
 pub returns-in-FirstName-clause-expression : goal.returns-in-FirstName-clause-expression
 returns-in-FirstName-clause-expression c = λ x h.
     let s = expression_name c.args.stack.now c.in-FirstName.at c.in-FirstName.name c.args.place x c.in-FirstName.is h in
-    rw s.0 (c.end_either.ensures (Has [] (Is Term (Variable c.in-FirstName.name false) (Bare c.in-FirstName.at c.in-FirstName.name))) (record { mode = refl; lone = refl; lists = s.1 }))
+    rw s.0 (c.end_either.ensures (Has [] (Is Term (Variable c.in-FirstName.name false) (Bare c.in-FirstName.at c.in-FirstName.name)))
+    (record { mode = refl; lone = refl; lists = s.1 }))
 
 pub returns-in_ok-mode-in-FirstPrime-clause-expression : goal.returns-in_ok-mode-in-FirstPrime-clause-expression
 returns-in_ok-mode-in-FirstPrime-clause-expression c = λ x h.

@@ -10,4 +10,6 @@ use Rattle.dlk_forms.proofs.pairs.settle_right.Goals as goal
 pub returns-in_err-settle_whole-in-TextOf : goal.returns-in_err-settle_whole-in-TextOf
 returns-in_err-settle_whole-in-TextOf c = λ S p h.
     let w = err_from_is_err_and c.from_residual-in_err-settle_whole-in-TextOf.result c.from_residual-in_err-settle_whole-in-TextOf.ensures.1 in
-    rw (w.1, w.2, c.in-TextOf.is) (agrees_err {X = Unit {0}} (λ _ t. IsWhole c.settle_whole.new.self t) (IsPairOf c.settle_whole.new.self) c.in_err-settle_whole-in-TextOf.field-0.0 (whole c.in-TextOf.sort S p) (λ t. Some (to c.in-TextOf.symbol t)) (c.in_err-settle_whole-in-TextOf.ensures S p h))
+    rw (w.1, w.2, c.in-TextOf.is) (agrees_err {X = Unit {0}} (λ _ t. IsWhole c.settle_whole.new.self t)
+    (IsPairOf c.settle_whole.new.self) c.in_err-settle_whole-in-TextOf.field-0.0 (whole c.in-TextOf.sort S p)
+    (λ t. Some (to c.in-TextOf.symbol t)) (c.in_err-settle_whole-in-TextOf.ensures S p h))

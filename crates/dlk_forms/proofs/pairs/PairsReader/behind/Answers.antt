@@ -14,7 +14,8 @@ returns-in_err-step c = λ x h.
     let e = err_from_is_err_and c.from_residual.result c.from_residual.ensures.1 in
     let k = seen c.args.lexeme in
     let permitted = sym c.permits.ensures ∙ c.if-not-permits.false in
-    rw (e.1, e.2) (when_err (ShowsWithin c.step.new.self) ShowsPairs c.in_err-step.field-0.0 (permits Allowed k) (pairs_step x k) permitted (c.in_err-step.ensures x h))
+    rw (e.1, e.2) (when_err (ShowsWithin c.step.new.self) ShowsPairs c.in_err-step.field-0.0 (permits Allowed k) (pairs_step x k) permitted
+    (c.in_err-step.ensures x h))
 
 pub returns : goal.returns
 returns c = λ x h.

@@ -14,4 +14,5 @@ pub returns : goal.returns
 returns c = λ l x k h.
     let s = has_shown c.args.self.now.stack c.args.mode c.in-Has.last x c.in-Has.is h in
     let r = agrees_ok (Reduces c.reduce.new.self) c.in_ok-last.last (reduce 0 s.0 s.1) (c.in_ok-last.ensures s.0 s.1 s.3) in
-    rw (s.2, right_reduced (wants c.args.right) s.0 s.1 (Some r.0) r.1) (c.keep_right.ensures l r.0.0 r.0.1 (keeps_pairs c.args.self.now c.reduce.new.self l k) r.2)
+    rw (s.2, right_reduced (wants c.args.right) s.0 s.1 (Some r.0) r.1)
+    (c.keep_right.ensures l r.0.0 r.0.1 (keeps_pairs c.args.self.now c.reduce.new.self l k) r.2)

@@ -14,11 +14,13 @@ returns-in_err-mode c = λ x h.
     let e = err_from_is_err_and c.from_residual.result c.from_residual.ensures.1 in
     let k = seen c.args.lexeme in
     let permitted = sym c.permits.ensures ∙ c.if-not-permits.false in
-    rw (e.1, e.2) (when_err (ShowsSidesAt c.step.new.self) ShowsSides c.in_err-mode.field-0.0 (permits Refused k) (sequent_step x k) permitted (c.in_err-mode.ensures x h))
+    rw (e.1, e.2) (when_err (ShowsSidesAt c.step.new.self) ShowsSides c.in_err-mode.field-0.0 (permits Refused k) (sequent_step x k) permitted
+    (c.in_err-mode.ensures x h))
 
 pub returns : goal.returns
 returns c = λ x h.
     let k = seen c.args.lexeme in
     let permitted = sym c.permits.ensures ∙ c.if-not-permits.false in
     let next : SidesReader = record { sides = c.step.new.self; mode = c.in_ok-mode.mode } in
-    when_ok (ShowsSidesAt c.step.new.self) ShowsSides c.in_ok-mode.mode next (permits Refused k) (sequent_step x k) permitted (λ y s. s) (c.in_ok-mode.ensures x h)
+    when_ok (ShowsSidesAt c.step.new.self) ShowsSides c.in_ok-mode.mode next (permits Refused k) (sequent_step x k) permitted (λ y s. s)
+    (c.in_ok-mode.ensures x h)

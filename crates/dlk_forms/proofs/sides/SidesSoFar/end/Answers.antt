@@ -13,7 +13,8 @@ pub returns-in_err-finish : goal.returns-in_err-finish
 returns-in_err-finish c = λ x h.
     let s = inside_shown c.args.self c.args.mode c.in-Some.mode x c.in-Some.is h in
     let e = err_from_is_err_and c.from_residual.result c.from_residual.ensures.1 in
-    rw (e.1, e.2, s.3) (unfinished (λ _ m. ShowsBetween c.finish.new.self s.0 m) IsCodeOf c.in_err-finish.field-0.0 s.0 s.1 s.2 (c.in_err-finish.ensures s.0 s.1 s.2 s.4))
+    rw (e.1, e.2, s.3) (unfinished (λ _ m. ShowsBetween c.finish.new.self s.0 m) IsCodeOf c.in_err-finish.field-0.0 s.0 s.1 s.2
+    (c.in_err-finish.ensures s.0 s.1 s.2 s.4))
 
 pub returns : goal.returns
 returns c = λ x h.

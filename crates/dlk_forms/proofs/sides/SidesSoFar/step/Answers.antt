@@ -8,7 +8,8 @@ use Rattle.dlk_forms.proofs.sides.SidesSoFar.step.Goals as goal
 pub returns-in_default-mode : goal.returns-in_default-mode
 returns-in_default-mode c = λ x h.
     let s = between_shown c.args.self.now c.args.mode x c.in_default-mode.is h in
-    rw (s.1, fresh_other s.0 c.args.lexeme c.in_default.not-Turnstile) (c.step_inner.ensures s.0 none (Wants []) (record { side = s.2.side; shows = record { mode = refl; lists = s.2.lists } }))
+    rw (s.1, fresh_other s.0 c.args.lexeme c.in_default.not-Turnstile)
+    (c.step_inner.ensures s.0 none (Wants []) (record { side = s.2.side; shows = record { mode = refl; lists = s.2.lists } }))
 
 pub returns : goal.returns
 returns c = λ x h.

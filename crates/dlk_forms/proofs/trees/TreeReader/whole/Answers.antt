@@ -1,8 +1,8 @@
 use Rattle.std.proofs.Common.{Ok, Err}
 use Rattle.std.proofs.lemmas.Result.{err_from_is_err_and}
 use Rattle.dlk_reader.specs.Shows.{IsWhole}
+use Rattle.dlk_reader.proofs.Agree.{ok_same, err_same}
 use Rattle.dlk_forms.specs.Readers.{IsTreeCode, tree_ended}
-use Rattle.dlk_forms.proofs.Steps.{ok_same, err_same}
 use Rattle.dlk_forms.proofs.TreeSteps.{tree_ends}
 use Rattle.dlk_forms.proofs.trees.TreeReader.whole.Goals as goal
 
@@ -10,7 +10,8 @@ pub returns-in_err-end_tree : goal.returns-in_err-end_tree
 returns-in_err-end_tree c = λ d wanted x h.
     let e = err_from_is_err_and c.from_residual.result c.from_residual.ensures.1 in
     let new = c.end_tree.new.stack in
-    let a = tree_ends wanted c.args.self.stack new c.args.self.place (Err c.in_err-end_tree.field-0.0) c.in_err-end_tree.ensures.expression c.in_err-end_tree.ensures.of x h.place in
+    let a = tree_ends wanted c.args.self.stack new c.args.self.place (Err c.in_err-end_tree.field-0.0) c.in_err-end_tree.ensures.expression
+    c.in_err-end_tree.ensures.of x h.place in
     rw (e.1, e.2) (err_same {X = Unit {0}} (λ _ t. IsWhole new t) IsTreeCode c.in_err-end_tree.field-0.0 (tree_ended wanted x) a)
 
 pub returns : goal.returns

@@ -1,6 +1,5 @@
 use Rattle.std.proofs.Common.{sym, ◌∙◌}
 use Rattle.std.proofs.lemmas.Result.{err_from_is_err_and}
-use Rattle.dlk_grammar.specs.Lexemes.{CloseBrace, Comma}
 use Rattle.dlk_machine.specs.Machine.{close}
 use Rattle.dlk_reader.specs.Shows.{closer_lexeme, Shows}
 use Rattle.dlk_reader.proofs.HolderSteps.{no_round, no_comma, no_brace, no_square, no_greater, no_semicolon}
@@ -23,7 +22,8 @@ returns-in_err-equations-in-Brace-Evolves c = λ S h p t k e b at.
     let f = c.in_err-equations-in-Brace-Evolves in
     let r = c.from_residual-in_err-equations-in-Brace-Evolves in
     let w = err_from_is_err_and r.result r.ensures.1 in
-    rw (w.1, w.2) (evolves_any_err (Shows c.args.self.now) i.equations i.name h f.field-0.0 (close (closer_lexeme c.args.closer) h S p) (sym i.is-1 ∙ k) f.ensures)
+    rw (w.1, w.2) (evolves_any_err (Shows c.args.self.now) i.equations i.name h f.field-0.0 (close (closer_lexeme c.args.closer) h S p)
+    (sym i.is-1 ∙ k) f.ensures)
 
 pub returns-in_err-equations-in-Comma-Evolves : goal.returns-in_err-equations-in-Comma-Evolves
 returns-in_err-equations-in-Comma-Evolves c = λ S h p t k e b at.
@@ -31,7 +31,8 @@ returns-in_err-equations-in-Comma-Evolves c = λ S h p t k e b at.
     let f = c.in_err-equations-in-Comma-Evolves in
     let r = c.from_residual-in_err-equations-in-Comma-Evolves in
     let w = err_from_is_err_and r.result r.ensures.1 in
-    rw (w.1, w.2) (evolves_any_err (Shows c.args.self.now) i.equations i.name h f.field-0.0 (close (closer_lexeme c.args.closer) h S p) (sym i.is-1 ∙ k) f.ensures)
+    rw (w.1, w.2) (evolves_any_err (Shows c.args.self.now) i.equations i.name h f.field-0.0 (close (closer_lexeme c.args.closer) h S p)
+    (sym i.is-1 ∙ k) f.ensures)
 
 pub returns-in_ok-equations-in-Brace-Evolves : goal.returns-in_ok-equations-in-Brace-Evolves
 returns-in_ok-equations-in-Brace-Evolves c = λ S h p t k e b at.

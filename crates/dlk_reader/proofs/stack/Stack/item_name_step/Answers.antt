@@ -11,7 +11,8 @@ use Rattle.dlk_reader.proofs.stack.Stack.item_name_step.Goals as goal
 pub returns-in_err-equations-in_default : goal.returns-in_err-equations-in_default
 returns-in_err-equations-in_default c = λ S n l e h.
     let w = err_from_is_err_and c.from_residual.result c.from_residual.ensures.1 in
-    rw (w.1, w.2) (agrees_memory (λ (x : Equations) m. x ≡ equations_of n m) (Shows c.args.self.now) c.in_err-equations-in_default.field-0.0 (add l (Flow c.args.name Everywhere)) (item_name_step S n l c.args.name (seen c.args.lexeme)) (c.in_err-equations-in_default.ensures n l e))
+    rw (w.1, w.2) (agrees_memory (λ (x : Equations) m. x ≡ equations_of n m) (Shows c.args.self.now) c.in_err-equations-in_default.field-0.0
+    (add l (Flow c.args.name Everywhere)) (item_name_step S n l c.args.name (seen c.args.lexeme)) (c.in_err-equations-in_default.ensures n l e))
 
 pub returns-in_ok-equations-in_default : goal.returns-in_ok-equations-in_default
 returns-in_ok-equations-in_default c = λ S n l e h.
