@@ -1,4 +1,4 @@
-use Rattle.std.proofs.Common.{ap, subst, map, sym, ◌∙◌}
+use Rattle.std.proofs.Common.{ap, subst}
 use Rattle.dlk_calculus.specs.Provables.{Provable}
 use Rattle.dlk_calculus.specs.Sequents.{IsSequent}
 use Rattle.dlk_calculus.specs.Steps.{Derives}

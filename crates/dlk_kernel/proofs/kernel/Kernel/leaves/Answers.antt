@@ -1,5 +1,5 @@
-use Rattle.std.proofs.Common.{ap, subst, map, sym, ◌∙◌}
-use Rattle.dlk_calculus.specs.Provables.{Provable, HasLeaves}
+use Rattle.std.proofs.Common.{ap, subst}
+use Rattle.dlk_calculus.specs.Provables.{Provable}
 use Rattle.dlk_calculus.specs.Sequents.{IsSequent}
 use Rattle.dlk_calculus.specs.Steps.{Derives}
 use Rattle.dlk_calculus.proofs.Leaves.{Derives-leaves}
