@@ -7,9 +7,8 @@ use Rattle.dlk_grammar.specs.declared.token.Infix.TheVariants.{And}
 use Rattle.dlk_grammar.specs.Lexemes.{Lexeme, Comma, Op}
 use Rattle.dlk_grammar.specs.Phrases.{Phrase}
 use Rattle.dlk_grammar.specs.Substitutions.{Target, function, predicate, PairPhrase, to}
-use Rattle.dlk_machine.specs.Machine.{◌>>=◌, Part, Braced, Piece, Is, Symbol, as_sort, reduce, whole, State, Wants, Has, Calls, Bars, BarsName}
-use Rattle.dlk_machine.specs.Machine.{Binds, Starts, StartsPrime, StartsGets, StartsStar, Opens, OpensName, OpensPrime, WantsItem, ItemName}
-use Rattle.dlk_machine.specs.Machine.{ItemPrime, ItemBar, ItemBarName, ItemEnds, Invariants, step, ended}
+use Rattle.dlk_machine.specs.Machine.{◌>>=◌, Part, Braced, Piece, Is, Symbol, reduce, whole, State, Has}
+use Rattle.dlk_machine.specs.Machine.{step, ended}
 use Rattle.dlk_machine.specs.Parse.{or_else}
 use Rattle.dlk_machine.specs.Pairs.{Right, EitherOf, TextOf, SystemOf, PairState, Begins, InRight, InSystem, system_state, PairsState, Within}
 use Rattle.dlk_machine.specs.Pairs.{pair_step, pair_ended, pairs_step, right_sort, right_ended, within}
@@ -30,7 +29,7 @@ use Rattle.dlk_reader.specs.declared.parts.Mode.TheVariants as mode
 use Rattle.dlk_reader.specs.declared.stack.Stack.{Stack}
 use Rattle.dlk_reader.specs.declared.stop.StepFault.{StepFault}
 use Rattle.dlk_reader.specs.declared.stop.StepFault.TheVariants.{Memory, Syntax}
-use Rattle.dlk_reader.proofs.Commas.{ended_by, ended_with, behind, comma_behind, ended_is_with}
+use Rattle.dlk_reader.proofs.Commas.{ended_by, ended_with, behind, comma_behind}
 
 -- the pairs do not lie on the stack
 pub keeps_pairs : (r : PairsSoFar) (k : Stack) (l : List PairPhrase) → KeepsPairs r l → KeepsPairs (record r { stack = k }) l

@@ -1,5 +1,5 @@
 -- Reading goes on by a lexeme, or stops at it, as parsing does.
-use Rattle.std.proofs.Common.{◌≡◌, ℕ, ◌+◌, List, [], ◌∷◌, Option, Some, None, Result, Ok, Err, refl, sym, ap, ◌∙◌}
+use Rattle.std.proofs.Common.{◌≡◌, ℕ, ◌+◌, List, [], ◌∷◌, Option, Some, None, Result, Ok, Err, refl, ap, ◌∙◌}
 use Rattle.dlk_grammar.specs.declared.token.Dots.{Dots}
 use Rattle.dlk_grammar.specs.declared.token.Token.{Token}
 use Rattle.dlk_grammar.specs.Lexemes.{Lexeme}
@@ -13,7 +13,7 @@ use Rattle.dlk_reader.specs.declared.stop.StepFault.TheVariants as fault
 use Rattle.dlk_reader.specs.declared.stop.Stop.{Stop}
 use Rattle.dlk_reader.specs.declared.stop.Stop.TheVariants.{Memory, Syntax}
 use Rattle.dlk_reader.proofs.Agree.{agrees_ok}
-use Rattle.dlk_forms.specs.Parsing.{IsParsed, Gives, Comes, ReadsAs}
+use Rattle.dlk_forms.specs.Parsing.{Gives, Comes, ReadsAs}
 
 none_from : {X Y : Type 0} (s : X → Y → Type 0) (o : Option Y) → Agrees s (Err fault.Syntax) o → o ≡ None
 none_from s (Some y) a = absurd a

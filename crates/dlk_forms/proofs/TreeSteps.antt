@@ -1,5 +1,5 @@
 -- What a lexeme and the end make of the reader of a tree, for each form.
-use Rattle.std.proofs.Common.{◌≡◌, Bool, true, Option, Some, None, Result, Ok, Err}
+use Rattle.std.proofs.Common.{◌≡◌, Bool, true, Option, Result, Ok, Err}
 use Rattle.dlk_grammar.specs.declared.token.Form.{Form}
 use Rattle.dlk_grammar.specs.declared.token.Form.TheVariants as form
 use Rattle.dlk_grammar.specs.Lexemes.{Lexeme}

@@ -1,4 +1,4 @@
-use Rattle.std.proofs.Common.{[], Some}
+use Rattle.std.proofs.Common.{Some}
 use Rattle.dlk_machine.specs.Machine.{reduce}
 use Rattle.dlk_reader.specs.Shows.{Reduces}
 use Rattle.dlk_forms.specs.PairReaders.{wants}

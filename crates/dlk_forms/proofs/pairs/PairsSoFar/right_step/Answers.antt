@@ -1,4 +1,4 @@
-use Rattle.std.proofs.Common.{[], Some, refl}
+use Rattle.std.proofs.Common.{Some, refl}
 use Rattle.std.proofs.lemmas.Result.{err_from_is_err_and}
 use Rattle.dlk_machine.specs.Machine.{step}
 use Rattle.dlk_machine.specs.Pairs.{InRight, right_sort}
