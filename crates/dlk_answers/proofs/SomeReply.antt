@@ -10,7 +10,7 @@ use Rattle.dlk_calculus.proofs.WellFormed.{well_formed_or_ill}
 use Rattle.dlk_grammar.specs.declared.token.Dots.TheVariants.{Refused, Allowed}
 use Rattle.dlk_grammar.specs.declared.token.Form.TheVariants.{Formula, Expression}
 use Rattle.dlk_machine.proofs.TextLaws.{tree_text_well_made}
-use Rattle.dlk_termtext.proofs.SomeTexts.{some_tree_text, some_pairs_text}
+use Rattle.dlk_machine.proofs.SomeText.{some_tree, some_pairs}
 use Rattle.dlk_replay.specs.Files.{file_lines, Verdict, Answer, accepted, bad}
 use Rattle.dlk_replay.proofs.Verdicts.{some_verdict, accepted_some}
 use Rattle.dlk_answers.specs.declared.command.Command.{Command}
@@ -39,7 +39,7 @@ last_of (x ∷ y ∷ ys) some =
     (x ∷ rest.0, rest.1, ap (λ l. x ∷ l) rest.2)
 
 some_check : (layout : Layout) (model term : List ℕ) → (reply : Reply) × Checks layout model term reply
-some_check layout model term = elim (some_tree_text Formula Refused model) [
+some_check layout model term = elim (some_tree Formula Refused model) [
   | inl read ↦ by_verdict read.0 read.1 (some_verdict (file_lines term))
   | inr fault ↦ (text_refused Model fault.0, bad_model fault.0 fault.1)
 ]
@@ -55,13 +55,13 @@ some_check layout model term = elim (some_tree_text Formula Refused model) [
         ]
 
 some_print : (file : List ℕ) → (reply : Reply) × Prints file reply
-some_print file = elim (some_tree_text Expression Allowed file) [
+some_print file = elim (some_tree Expression Allowed file) [
   | inl read ↦ (printed read.0, prints read.0 read.1)
   | inr fault ↦ (text_refused File fault.0, bad_text fault.0 fault.1)
 ]
 
 some_list : (file : List ℕ) → (reply : Reply) × Lists file reply
-some_list file = elim (some_tree_text Expression Allowed file) [
+some_list file = elim (some_tree Expression Allowed file) [
   | inl read ↦ listed read.0 read.1
   | inr fault ↦ (text_refused File fault.0, lists_fault fault.0 fault.1)
 ]
@@ -79,9 +79,9 @@ some_list file = elim (some_tree_text Expression Allowed file) [
         )
 
 some_substitution : (file substitution : List ℕ) → (reply : Reply) × Substitutes file substitution reply
-some_substitution file substitution = elim (some_tree_text Expression Refused file) [
+some_substitution file substitution = elim (some_tree Expression Refused file) [
   | inr fault ↦ (text_refused File fault.0, bad_file fault.0 fault.1)
-  | inl e ↦ elim (some_pairs_text substitution) [
+  | inl e ↦ elim (some_pairs substitution) [
     | inr fault ↦ (text_refused Substitution fault.0, bad_subst e.0 e.1 fault.0 fault.1)
     | inl pairs ↦ by_pairs e.0 pairs.0 (record { expression = e.1; substitution = pairs.1 })
   ]

@@ -39,11 +39,6 @@ no_fault p n e = absurd cc
 one_parsed : {P : Type 0} (p q : P) → parsed p ≡ parsed q → p ≡ q
 one_parsed p q e = cc
 
--- a fault says that the lexemes say nothing
-faulty : {X P : Type 0} (m : Machine X P) (G : List Lexeme → P → Type 0) (d : Dots) → Reader d m G → (s : List Lexeme) (n : ℕ) → parse d m s ≡ Err n
-    → (p : P) → ¬ Says d G s p
-faulty m G d c s n e p says = no_fault p n (sym (only_text m G d c s p says) ∙ e)
-
 -- lexemes say one thing
 one : {X P : Type 0} (m : Machine X P) (G : List Lexeme → P → Type 0) → Reader Allowed m G → (s : List Lexeme) (p q : P) → G s p → G s q → p ≡ q
 one {X} {P} m G c s p q d e =
@@ -89,9 +84,6 @@ sequent_says_read d s p h = only_text sequent_reader ReadsSequent d (sequents_al
 pub sequent_fault_stops : (d : Dots) (s : List Lexeme) (n : ℕ) → parse d sequent_reader s ≡ Err n → Stops d ReadsSequent s n
 sequent_fault_stops d s n e = stops_text sequent_reader ReadsSequent d (sequents_all d) s n e
 
-pub sequent_fault_says_nothing : (d : Dots) (s : List Lexeme) (n : ℕ) → parse d sequent_reader s ≡ Err n → (p : Sides) → ¬ Says d ReadsSequent s p
-sequent_fault_says_nothing d s n e = faulty sequent_reader ReadsSequent d (sequents_all d) s n e
-
 pub one_sides_read : (s : List Lexeme) (p q : Sides) → ReadsSequent s p → ReadsSequent s q → p ≡ q
 one_sides_read s p q d e = one sequent_reader ReadsSequent (sequents_all Allowed) s p q d e
 
@@ -104,9 +96,6 @@ pairs_says_read s p h = only_text pairs_reader ReadsSubstitution Allowed pairs_a
 
 pub pairs_fault_stops : (s : List Lexeme) (n : ℕ) → parse Allowed pairs_reader s ≡ Err n → Stops Allowed ReadsSubstitution s n
 pairs_fault_stops s n e = stops_text pairs_reader ReadsSubstitution Allowed pairs_all s n e
-
-pub pairs_fault_says_nothing : (s : List Lexeme) (n : ℕ) → parse Allowed pairs_reader s ≡ Err n → (p : List PairPhrase) → ¬ Says Allowed ReadsSubstitution s p
-pairs_fault_says_nothing s n e = faulty pairs_reader ReadsSubstitution Allowed pairs_all s n e
 
 pub one_pairs_read : (s : List Lexeme) (p q : List PairPhrase) → ReadsSubstitution s p → ReadsSubstitution s q → p ≡ q
 one_pairs_read s p q d e = one pairs_reader ReadsSubstitution pairs_all s p q d e
@@ -125,7 +114,3 @@ form_says_read d wanted s p h = only_text (machine_of wanted) (grammar wanted) d
 
 pub form_fault_stops : (d : Dots) (wanted : Form) (s : List Lexeme) (n : ℕ) → parse d (machine_of wanted) s ≡ Err n → Stops d (grammar wanted) s n
 form_fault_stops d wanted s n e = stops_text (machine_of wanted) (grammar wanted) d (forms_all d wanted) s n e
-
-pub form_fault_says_nothing : (d : Dots) (wanted : Form) (s : List Lexeme) (n : ℕ) → parse d (machine_of wanted) s ≡ Err n → (p : Phrase)
-    → ¬ Says d (grammar wanted) s p
-form_fault_says_nothing d wanted s n e = faulty (machine_of wanted) (grammar wanted) d (forms_all d wanted) s n e

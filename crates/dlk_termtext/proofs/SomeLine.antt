@@ -14,7 +14,7 @@ use Rattle.dlk_termtext.specs.Lines.{IsStep, Line, Numbered, Done, IsLine, done}
 use Rattle.dlk_termtext.specs.Parts.{CutAt, NumberThen, FactGoal, FactGoalRule, FactGoalFact, FactPairs, FactNames, step_word, Behind}
 use Rattle.dlk_termtext.proofs.StepForms.{kind, same_kind, step_parts, step_worded, worded_step, names_cut, names_are, no_rule_behind, no_fact_behind, no_pairs_behind, no_first_name, no_second_name}
 use Rattle.dlk_termtext.proofs.LineForms.{numbered_line, no_line, no_step}
-use Rattle.dlk_termtext.proofs.SomeTexts.{tree_text_decided, sequent_text_decided, pairs_text_decided}
+use Rattle.dlk_termtext.proofs.TextsDecided.{tree_text_decided, sequent_text_decided, pairs_text_decided}
 use Rattle.dlk_termtext.proofs.SomeParts.{same_bytes, cut_decided, number_decided, number_then_decided}
 use Rattle.dlk_termtext.proofs.SomeRule.{rule_decided}
 use Rattle.dlk_termtext.proofs.Numbers.{one_number_then}
