@@ -1,13 +1,13 @@
 -- Four words of two rows at once.
 use Rattle.std.proofs.Common.{◌≡◌, ℕ, ◌+◌, ◌<◌, ◌≤◌, ◌^◌, ◌≢◌, max, List, bit_or, bit_and, sym, ap, ◌∙◌, inl, inr, ◌⊎◌, arith}
-use Rattle.std.specs.Prelude.{IsTrue, All, ◌&&◌}
+use Rattle.std.specs.Prelude.{All}
 use Rattle.std.specs.Int.{bit_at}
 use Rattle.std.specs.Int.Bits.{and_lt}
 use Rattle.std.specs.Simd.Lanes.{zip2, fold_l}
 use Rattle.std.proofs.lemmas.Bool.{cases_eq}
 use Rattle.std.proofs.lemmas.Nat.Bits.{bit_at_or, bit_at-zero, same_from_bits}
-use Rattle.dlk_vars.specs.Rows.{Row, word, four_words, has_number}
-use Rattle.dlk_vars.proofs.Words.{words_meet}
+use Rattle.dlk_vars.specs.Rows.{Row, word, four_words}
+use Rattle.dlk_vars.proofs.Words.{words_meet, SomeShared}
 
 -- two numbers whose or is 0
 or_zero : (x y : ℕ) → bit_or x y ≡ 0 → (x ≡ 0) × (y ≡ 0)
@@ -89,16 +89,16 @@ module _ (one other : Row) (at : ℕ) where
       by (inr (inr (inr p))) = ap (λ k. bit_and (word one k) (word other k)) p ∙ zeros.3
 
   pub lanes_meet : All (λ w. w < 2 ^ 64) (four_words one at) → All (λ w. w < 2 ^ 64) (four_words other at) → lanes (four_words one at) (four_words other at) ≢ 0
-      → (n : ℕ) × IsTrue (has_number one n && has_number other n)
+      → SomeShared one other
   lanes_meet left right ne =
       by (one_not_zero (bit_and (word one at) (word other at)) (bit_and (word one (at + 1)) (word other (at + 1)))
       (bit_and (word one (at + 2)) (word other (at + 2))) (bit_and (word one (at + 3)) (word other (at + 3))) ne)
     where
-      found : (j : ℕ) → word one j < 2 ^ 64 → word other j < 2 ^ 64 → bit_and (word one j) (word other j) ≢ 0 → (n : ℕ) × IsTrue (has_number one n && has_number other n)
+      found : (j : ℕ) → word one j < 2 ^ 64 → word other j < 2 ^ 64 → bit_and (word one j) (word other j) ≢ 0 → SomeShared one other
       found j p q some = words_meet one other j (and_lt 64 (word one j) (word other j) p q) some
 
-      by : (bit_and (word one at) (word other at) ≢ 0) ⊎ ((bit_and (word one (at + 1)) (word other (at + 1)) ≢ 0) ⊎ ((bit_and (word one (at + 2)) (word other (at + 2)) ≢ 0)
-          ⊎ (bit_and (word one (at + 3)) (word other (at + 3)) ≢ 0))) → (n : ℕ) × IsTrue (has_number one n && has_number other n)
+      by : (bit_and (word one at) (word other at) ≢ 0) ⊎ ((bit_and (word one (at + 1)) (word other (at + 1)) ≢ 0)
+          ⊎ ((bit_and (word one (at + 2)) (word other (at + 2)) ≢ 0) ⊎ (bit_and (word one (at + 3)) (word other (at + 3)) ≢ 0))) → SomeShared one other
       by (inl p) = found at (left 0 0 (omega arith)) (right 0 0 (omega arith)) p
       by (inr (inl p)) = found (at + 1) (left 1 0 (omega arith)) (right 1 0 (omega arith)) p
       by (inr (inr (inl p))) = found (at + 2) (left 2 0 (omega arith)) (right 2 0 (omega arith)) p

@@ -31,7 +31,8 @@ holds_alike r b numbers flag = record {
 
 -- two sets joined
 module _ (test : Bool → Bool → Bool) (one other r : Row) (joined : ByNumber test one other r) where
-  joined_at : (o : Option ℕ) → option_map_or (has_number r) o r.others ≡ test (option_map_or (has_number one) o one.others) (option_map_or (has_number other) o other.others)
+  joined_at : (o : Option ℕ) → option_map_or (has_number r) o r.others
+      ≡ test (option_map_or (has_number one) o one.others) (option_map_or (has_number other) o other.others)
   joined_at None = joined.others
   joined_at (Some n) = joined.numbers n
 

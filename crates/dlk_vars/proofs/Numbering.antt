@@ -33,8 +33,8 @@ pub number_within : (table : List Var) (v : Var) (n : ℕ) → number_of table v
 number_within table v n e = (position-Some (var_eq v) table n v e).0
 
 -- the first place at which it stands
-first_at : (table : List Var) (v : Var) (n : ℕ) → n < length table → ((k : ℕ) → k < n → var_eq v (get_or table k v) ≡ false) → var_eq v (get_or table n v) ≡ true
-    → number_of table v ≡ Some n
+first_at : (table : List Var) (v : Var) (n : ℕ) → n < length table → ((k : ℕ) → k < n → var_eq v (get_or table k v) ≡ false)
+    → var_eq v (get_or table n v) ≡ true → number_of table v ≡ Some n
 first_at table v n within before here =
     let at = position_or_len_is (var_eq v) table n v (omega (arith, within)) before (λ _. here) in
     ap (λ k. cond (nat_lt k (length table)) (Some k) None) at ∙ cond-true (nat_lt n (length table)) (Some n) None (lt-ltb n (length table) within)
@@ -111,7 +111,9 @@ one_more table v ok none real = record { once = once; named = named }
         within = slice_get_within (table ++ v ∷ []) i w e
 
         by : (i < length table) ⊎ (length table ≤ i) → (slice_get table i ≡ Some w) ⊎ ((i ≡ length table) × (w ≡ v))
-        by (inl h) = inl (slice_get-get_or table i w h ∙ ap Some (sym (get_or_append_left table (v ∷ []) w i h) ∙ get_or_from_slice_get (table ++ v ∷ []) i w w e))
+        by (inl h) =
+            let same = sym (get_or_append_left table (v ∷ []) w i h) ∙ get_or_from_slice_get (table ++ v ∷ []) i w w e in
+            inl (slice_get-get_or table i w h ∙ ap Some same)
         by (inr h) =
             let last : i ≡ length table = omega (arith, within, h, length-append table (v ∷ [])) in
             inr (last, sym (get_or_from_slice_get (table ++ v ∷ []) i w w e) ∙ get_or_push table v w i (sym last))

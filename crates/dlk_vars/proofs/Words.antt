@@ -53,7 +53,9 @@ module _ (one other r : Row) (k : ℕ) (left : length one.words ≤ k) (right : 
             let q = past_word other j (omega (arith, right, h)) in
             past_word r j (omega (arith, made.count, h)) ∙ fills ∙ sym (λ i. f (p i) (q i))
 
-    joined_number : (test : Bool → Bool → Bool) → ((n : ℕ) → (bit_at (f (word one (n / 64)) (word other (n / 64))) (n % 64) == 1) ≡ test (has_number one n) (has_number other n)) → r.others ≡ test one.others other.others → ByNumber test one other r
+    joined_number : (test : Bool → Bool → Bool)
+        → ((n : ℕ) → (bit_at (f (word one (n / 64)) (word other (n / 64))) (n % 64) == 1) ≡ test (has_number one n) (has_number other n))
+        → r.others ≡ test one.others other.others → ByNumber test one other r
     joined_number test bits flag = record {
       numbers = λ n. ap (λ w. bit_at w (n % 64) == 1) (joined_word (n / 64)) ∙ bits n;
       others = flag;
@@ -80,8 +82,8 @@ module _ (one other r : Row) (k : ℕ) (left : length one.words ≤ k) (right : 
       fills false false = refl
 
   -- the other row's words are words
-  pub minus_numbers : ((j : ℕ) → j < k → word other j < 2 ^ 64) → Joined (λ x y. bit_and x (bit_not w64 y)) one other r.words k → r.others ≡ (one.others && not other.others)
-      → ByNumber (λ a b. a && not b) one other r
+  pub minus_numbers : ((j : ℕ) → j < k → word other j < 2 ^ 64) → Joined (λ x y. bit_and x (bit_not w64 y)) one other r.words k
+      → r.others ≡ (one.others && not other.others) → ByNumber (λ a b. a && not b) one other r
   minus_numbers small made flag =
       joined_number (λ x y. bit_and x (bit_not w64 y)) made (ap fill flag ∙ fills one.others other.others) (λ a b. a && not b)
       (λ n. and_not_bit (word one (n / 64)) (word other (n / 64)) (n % 64) (every (n / 64)) (omega arith)) flag
@@ -105,6 +107,10 @@ module _ (one other r : Row) (k : ℕ) (left : length one.words ≤ k) (right : 
 
 -- ---- two sets that meet
 
+-- some number is in both
+abbrev pub SomeShared : Row → Row → Type 0
+SomeShared one other = (n : ℕ) × IsTrue (has_number one n && has_number other n)
+
 common : (one other : Row) (n : ℕ) → (has_number one n && has_number other n) ≡ true → bit_and (word one (n / 64)) (word other (n / 64)) ≢ 0
 common one other n h e =
     let i = n % 64 in
@@ -113,7 +119,7 @@ common one other n h e =
 
 -- where no word so far has a common bit, they meet where both flags are up
 pub apart_meets : (one other : Row) (k : ℕ) → length one.words ≤ k → length other.words ≤ k → ((j : ℕ) → j < k → bit_and (word one j) (word other j) ≡ 0)
-    → (IsTrue (one.others && other.others) → (n : ℕ) × IsTrue (has_number one n && has_number other n)) × (((n : ℕ) × IsTrue (has_number one n && has_number other n)) → IsTrue (one.others && other.others))
+    → IsTrue (one.others && other.others) ↔ SomeShared one other
 apart_meets one other k left right none = (
   λ h. (64 * k, (λ i. past (64 * k) (omega arith) i) ∙ h),
   λ w. by w (cases_lt (w.0 / 64) k),
@@ -140,7 +146,7 @@ number_at r k i h =
     λ t. bit_at (word r (high t)) (low t) == 1
 
 -- words with a common bit
-pub words_meet : (one other : Row) (k : ℕ) → bit_and (word one k) (word other k) < 2 ^ 64 → bit_and (word one k) (word other k) ≢ 0 → (n : ℕ) × IsTrue (has_number one n && has_number other n)
+pub words_meet : (one other : Row) (k : ℕ) → bit_and (word one k) (word other k) < 2 ^ 64 → bit_and (word one k) (word other k) ≢ 0 → SomeShared one other
 words_meet one other k small some =
     let b = some_bit (bit_and (word one k) (word other k)) small some in
     let p = number_at one k b.0 b.1 in
@@ -148,7 +154,7 @@ words_meet one other k small some =
     (64 * k + b.0, (λ t. p t && q t) ∙ sym (and_bit (word one k) (word other k) b.0) ∙ b.2)
 
 -- a set that meets itself
-pub meets_itself : (answer : Bool) (r : Row) → IsTrue answer ↔ ((n : ℕ) × IsTrue (has_number r n && has_number r n)) → IsTrue (not (not answer)) ↔ ((n : ℕ) × IsTrue (has_number r n))
+pub meets_itself : (answer : Bool) (r : Row) → IsTrue answer ↔ SomeShared r r → IsTrue (not (not answer)) ↔ ((n : ℕ) × IsTrue (has_number r n))
 meets_itself answer r h = (
   λ t. let w = h.0 (sym (not_not answer) ∙ t) in (w.0, sym (twice (has_number r w.0)) ∙ w.1),
   λ w. not_not answer ∙ h.1 (w.0, twice (has_number r w.0) ∙ w.1),
@@ -191,7 +197,8 @@ module _ (s r : Row) (n k : ℕ) (left : length s.words ≤ k) (within : n / 64 
           → (bit_at (cond c (bit_or (word s (m / 64)) (1 * 2 ^ (n % 64) % 2 ^ 64)) (word s (m / 64))) (m % 64) == 1) ≡ (has_number s m || e)
       by true p true q =
           let low : m % 64 ≡ n % 64 = ap (λ t. t % 64) (eqb-true m n q) in
-          ap (λ t. bit_at (bit_or (word s (m / 64)) (1 * 2 ^ (n % 64) % 2 ^ 64)) t == 1) low ∙ eq-eqb _ 1 (bit_at_set_same w64 (word s (m / 64)) (n % 64) (omega arith)) ∙ sym (or_true (has_number s m))
+          ap (λ t. bit_at (bit_or (word s (m / 64)) (1 * 2 ^ (n % 64) % 2 ^ 64)) t == 1) low
+          ∙ eq-eqb _ 1 (bit_at_set_same w64 (word s (m / 64)) (n % 64) (omega arith)) ∙ sym (or_true (has_number s m))
       by true p false q =
           let other : m % 64 ≢ n % 64 = λ e. absurd (true≢false (sym (eq-eqb m n (omega (arith, e, eqb-true (m / 64) (n / 64) p))) ∙ q)) in
           ap (λ t. t == 1) (bit_at_set_other w64 (word s (m / 64)) (n % 64) (omega arith) (m % 64) other) ∙ sym (or_false (has_number s m))

@@ -25,6 +25,20 @@ fn all_but(rt: &HostRuntime, numbers: &[usize]) -> Result<VarSet, VarFault> {
     VarSet::all(rt.alloc()).minus(&some(rt, numbers)?)
 }
 
+/// The numbers that variables get in turn, each a name with a prime or without.
+fn number_all(
+    rt: &HostRuntime,
+    table: &mut VarTable,
+    vars: &[(&str, bool)],
+) -> Result<Vec<usize>, Fail> {
+    let mut numbers = Vec::new(rt.alloc());
+    for (name, primed) in vars {
+        let v = var(rt, name, *primed)?;
+        numbers.push(table.number(&v)?.0)?;
+    }
+    Ok(numbers)
+}
+
 fn var(rt: &HostRuntime, name: &str, primed: bool) -> Result<Var, Fail> {
     let name = Name::new(rt.alloc(), name.as_bytes())?;
     Ok(Var { name, primed })
@@ -84,13 +98,12 @@ fn differences(rt: HostRuntime) -> Result<(), Fail> {
 #[test]
 fn numbers(rt: HostRuntime) -> Result<(), Fail> {
     let mut table = VarTable::new(rt.alloc());
-    let (x, x_primed) = (var(&rt, "x", false)?, var(&rt, "x", true)?);
-    assert_eq!(rt; table.find(&x), None);
-    assert_eq!(rt; table.number(&x)?, VarNo(0));
-    assert_eq!(rt; table.number(&x_primed)?, VarNo(1));
-    assert_eq!(rt; table.number(&x)?, VarNo(0));
-    assert_eq!(rt; table.find(&x_primed), Some(VarNo(1)));
-    assert!(rt; table.as_slice() == [x, x_primed].as_slice());
+    let vars = [("x", false), ("x", true), ("x", false), ("y", true)];
+    let numbers = number_all(&rt, &mut table, &vars)?;
+    assert_eq!(rt; numbers.as_slice(), [0, 1, 0, 2].as_slice());
+    let y = var(&rt, "y", false)?;
+    assert_eq!(rt; table.find(&y), None);
+    assert_eq!(rt; table.as_slice().len(), 3);
     Ok(())
 }
 
@@ -98,17 +111,15 @@ fn numbers(rt: HostRuntime) -> Result<(), Fail> {
 #[test]
 fn a_variable_comes_later(rt: HostRuntime) -> Result<(), Fail> {
     let mut table = VarTable::new(rt.alloc());
-    let taboo = VarSet::empty(rt.alloc())
-        .with(table.number(&var(&rt, "y", false)?)?)?
-        .with(table.number(&var(&rt, "y", true)?)?)?;
-    let free = VarSet::all(rt.alloc()).minus(&taboo)?;
-    for (name, want) in [("z", true), ("y", false)] {
-        for primed in [false, true] {
-            let n = table.number(&var(&rt, name, primed)?)?;
-            assert_eq!(rt; free.has(n), want, "{name}");
-        }
+    let taboo = number_all(&rt, &mut table, &[("y", false), ("y", true)])?;
+    let free = all_but(&rt, taboo.as_slice())?;
+    let later = number_all(&rt, &mut table, &[("z", false), ("z", true)])?;
+    for n in taboo {
+        assert!(rt; !free.has(VarNo(n)));
     }
-    assert!(rt; free.has_others());
+    for n in later {
+        assert!(rt; free.has(VarNo(n)));
+    }
     Ok(())
 }
 

@@ -6,4 +6,6 @@ use Rattle.dlk_vars.proofs.laws.one_variable.Goals as goal
 pub returns : goal.returns
 returns c =
     let table = c.args.table.now in
-    same_Some c.args.v.now c.args.w.now (sym (stands_at table c.args.v.now c.args.n.0 c.requires.first) ∙ stands_at table c.args.w.now c.args.n.0 c.requires.second)
+    let v = c.args.v.now in
+    let w = c.args.w.now in
+    same_Some v w (sym (stands_at table v c.args.n.0 c.requires.first) ∙ stands_at table w c.args.n.0 c.requires.second)

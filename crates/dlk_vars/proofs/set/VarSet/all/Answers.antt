@@ -8,4 +8,4 @@ returns-clause-numbers c = no_words (record { words = c.new.result.items; others
 
 pub returns-clause-vars : goal.returns-clause-vars
 returns-clause-vars c =
-    holds_alike (record { words = c.new.result.items; others = true }) true (no_words (record { words = c.new.result.items; others = true }) c.new.ensures.items) refl
+    holds_alike (record { words = c.new.result.items; others = true }) true (returns-clause-numbers c) refl

@@ -13,7 +13,8 @@ returns-clause-meeting c =
     let both = lanes c.four.result c.four-2.result in
     let same : both ≡ lanes (four_words s at) (four_words o at) = λ i. lanes (c.four.ensures.words i) (c.four-2.ensures.words i) in
     OnTrue_from (not (both == 0)) ((n : ℕ) × IsTrue (has_number s n && has_number o n)) (λ t.
-    lanes_meet s o at (subst (All (λ w. w < 2 ^ 64)) c.four.ensures.words c.four.ensures.small) (subst (All (λ w. w < 2 ^ 64)) c.four-2.ensures.words c.four-2.ensures.small)
+    lanes_meet s o at (subst (All (λ w. w < 2 ^ 64)) c.four.ensures.words c.four.ensures.small)
+    (subst (All (λ w. w < 2 ^ 64)) c.four-2.ensures.words c.four-2.ensures.small)
     (λ z. eqb-false both 0 (not-true (both == 0) t) (same ∙ z)))
 
 pub returns-clause-apart : goal.returns-clause-apart

@@ -11,8 +11,9 @@ returns-then-word-ne0-clause-numbers c =
     let s = c.args.self.now in
     let o = c.args.other.now in
     let k = c.loop-k.k in
+    let small = and_lt 64 c.word.result c.word-in-loop-k.result c.word.type_inv c.word-in-loop-k.type_inv in
     let e : bit_and c.word.result c.word-in-loop-k.result ≡ bit_and (word s k) (word o k) = λ i. bit_and (c.word.ensures i) (c.word-in-loop-k.ensures i) in (
-      λ _. words_meet s o k (subst (λ m. m < 2 ^ 64) e (and_lt 64 c.word.result c.word-in-loop-k.result c.word.type_inv c.word-in-loop-k.type_inv)) (λ z. c.if-word-ne0.true (e ∙ z)),
+      λ _. words_meet s o k (subst (λ m. m < 2 ^ 64) e small) (λ z. c.if-word-ne0.true (e ∙ z)),
       λ _. refl,
     )
 
@@ -20,7 +21,8 @@ pub returns-then-word-ne0-clause-vars : goal.returns-then-word-ne0-clause-vars
 returns-then-word-ne0-clause-vars c = some_meeting _ c.args.self.now c.args.other.now (returns-then-word-ne0-clause-numbers c)
 
 pub returns-then-four_meet-clause-vars : goal.returns-then-four_meet-clause-vars
-returns-then-four_meet-clause-vars c = some_meeting _ c.args.self.now c.args.other.now (λ _. OnTrue_at c.if-four_meet.true c.four_meet.ensures.meeting, λ _. refl)
+returns-then-four_meet-clause-vars c =
+    some_meeting _ c.args.self.now c.args.other.now (λ _. OnTrue_at c.if-four_meet.true c.four_meet.ensures.meeting, λ _. refl)
 
 pub returns-then-self-clause-numbers : goal.returns-then-self-clause-numbers
 returns-then-self-clause-numbers c =

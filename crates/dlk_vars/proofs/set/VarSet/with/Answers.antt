@@ -16,4 +16,5 @@ returns-clause-numbers c =
 
 pub returns-clause-vars : goal.returns-clause-vars
 returns-clause-vars c =
-    with_gains c.args.self.now (record { words = c.loop-k.words.items; others = c.self.inside.others }) c.args.n.0 (returns-clause-numbers c) (ap (λ t. t.others) c.self.view_is)
+    let r : Row = record { words = c.loop-k.words.items; others = c.self.inside.others } in
+    with_gains c.args.self.now r c.args.n.0 (returns-clause-numbers c) (ap (λ t. t.others) c.self.view_is)
