@@ -3,3 +3,4 @@ pub mod Found
 pub mod PlainToo
 pub mod Primes
 pub mod SetLemmas
+pub mod KidSets

@@ -1,5 +1,5 @@
 -- What sets stand for while their table grows, and what is made of them.
-use Rattle.std.proofs.Common.{◌≡◌, ℕ, ◌<◌, ◌≤◌, Bool, true, false, cond, ◌||◌, ◌&&◌, List, [], ◌∷◌, ◌++◌, length, Some, Result, Ok, Err, IfOk, refl, sym, ap, subst, ◌∙◌, arith, length-append}
+use Rattle.std.proofs.Common.{◌≡◌, ℕ, suc, ◌<◌, ◌≤◌, Bool, true, false, cond, ◌||◌, ◌&&◌, List, [], ◌∷◌, ◌++◌, length, Some, Result, Ok, Err, IfOk, refl, sym, ap, subst, ◌∙◌, arith, length-append}
 use Rattle.std.proofs.lemmas.List.{append-nil, append_assoc, get_or_append_left}
 use Rattle.std.proofs.lemmas.List.Quantifiers.{position-Some}
 use Rattle.std.specs.Bool.{beq}
@@ -13,7 +13,11 @@ use Rattle.dlk_vars.specs.Rows.{Row}
 use Rattle.dlk_vars.specs.Tables.{number_of, Grows}
 use Rattle.dlk_vars.specs.Sets.{StandsFor, Gains}
 use Rattle.dlk_vars.proofs.Members.{has_stays, within_stays}
-use Rattle.dlk_shared.specs.SetTables.{SetTable, row_at, Holds, Means, Keeps, MakesPrimes}
+use Rattle.std.specs.Prelude.{All, map}
+use Rattle.dlk_store.specs.declared.listing.Which.{Which}
+use Rattle.dlk_store.specs.declared.listing.Which.TheVariants.{Free, Bound, Must}
+use Rattle.dlk_shared.specs.declared.node.NodeSets.{NodeSets}
+use Rattle.dlk_shared.specs.SetTables.{SetTable, row_at, Holds, Means, Keeps, MakesPrimes, set_at, sets_at, IsSet, AreSets, number_in, set_in}
 
 pub Grows-refl : (vars : List Var) → Grows vars vars
 Grows-refl vars = record { more = []; is = sym (append-nil vars) }
@@ -110,3 +114,51 @@ inserted_keeps eq old vars sets new r same_vars same_sets is =
     let k = subst (λ l. KeepsRows eq sets r l) (sym is) (inserted_rows eq sets r) in
     let from = subst (λ l. (length l ≤ length new) × ((n : ℕ) → n < length l → row_at new n ≡ row_at l n)) same_sets (k.long, k.same) in
     record { vars = subst (λ vs. Grows vs vars) same_vars (Grows-refl vars); sets = from.0; same = from.1 }
+
+-- ---- what numbers stand for, whatever it is
+
+pub set_itself : {t : SetTable} {n : ℕ} → IsSet t n → Means t n (set_at t n)
+set_itself h = record { known = h.known; holds = record { members = λ v. refl; within = h.within } }
+
+pub means_set : {t : SetTable} {n : ℕ} {set : Var → Bool} → Means t n set → IsSet t n
+means_set m = record { known = m.known; within = m.holds.within }
+
+pub means_is : {t : SetTable} {n : ℕ} {set : Var → Bool} → Means t n set → set_at t n ≡ set
+means_is m = λ i v. m.holds.members v i
+
+pub is_set_kept : {old new : SetTable} {n : ℕ} → Keeps old new → IsSet old n → IsSet new n
+is_set_kept k h = means_set (means_kept k (set_itself h))
+
+pub set_at_kept : {old new : SetTable} {n : ℕ} → Keeps old new → IsSet old n → set_at new n ≡ set_at old n
+set_at_kept k h = means_is (means_kept k (set_itself h))
+
+pub are_sets_kept : {old new : SetTable} {n : NodeSets} → Keeps old new → AreSets old n → AreSets new n
+are_sets_kept k h = record { free = is_set_kept k h.free; bound = is_set_kept k h.bound; must = is_set_kept k h.must }
+
+pub sets_at_kept : {old new : SetTable} {n : NodeSets} → Keeps old new → AreSets old n → sets_at new n ≡ sets_at old n
+sets_at_kept k h =
+    let free = set_at_kept k h.free in
+    let bound = set_at_kept k h.bound in
+    let must = set_at_kept k h.must in
+    λ i. record { free = free i; bound = bound i; must = must i }
+
+pub all_sets_kept : {old new : SetTable} → Keeps old new → (ns : List NodeSets) → All (AreSets old) ns → All (AreSets new) ns
+all_sets_kept k ns all = λ i d h. are_sets_kept k (all i d h)
+
+pub kids_sets_kept : {old new : SetTable} → Keeps old new → (ns : List NodeSets) → All (AreSets old) ns → map (sets_at new) ns ≡ map (sets_at old) ns
+kids_sets_kept k [] all = refl
+kids_sets_kept k (n ∷ ns) all =
+    let first = sets_at_kept k (all 0 n (omega arith)) in
+    let rest = kids_sets_kept k ns (λ i d h. all (suc i) d (omega arith)) in
+    λ i. first i ∷ rest i
+
+-- one of the three
+pub set_in_at : (t : SetTable) (which : Which) (n : NodeSets) → set_at t (number_in which n) ≡ set_in which (sets_at t n)
+set_in_at t Free n = refl
+set_in_at t Bound n = refl
+set_in_at t Must n = refl
+
+pub is_set_in : (t : SetTable) (which : Which) (n : NodeSets) → AreSets t n → IsSet t (number_in which n)
+is_set_in t Free n h = h.free
+is_set_in t Bound n h = h.bound
+is_set_in t Must n h = h.must

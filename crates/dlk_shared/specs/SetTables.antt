@@ -1,11 +1,14 @@
 -- A table of sets of variables, over a table that numbers the variables.
 use Rattle.std.specs.Prelude.{◌≡◌, ℕ, ◌<◌, ◌≤◌, Bool, true, false, ◌||◌, ◌&&◌, not, List, [], length, slice_index_or}
-use Rattle.dlk_tree.specs.Statics.{none, plain, prime, and_primes, either, both, without, Sets, sets_are}
+use Rattle.dlk_tree.specs.Statics.{plain, prime, and_primes, Sets, sets_are}
+use Rattle.std.specs.List.{list_any}
 use Rattle.dlk_tree.specs.Tests.{var_eq}
 use Rattle.dlk_tree.specs.Listed.{is_among}
 use Rattle.dlk_tree.specs.declared.op.Var.{Var}
 use Rattle.dlk_vars.specs.Rows.{Row, has_number}
 use Rattle.dlk_shared.specs.declared.node.NodeSets.{NodeSets}
+use Rattle.dlk_store.specs.declared.listing.Which.{Which}
+use Rattle.dlk_store.specs.declared.listing.Which.TheVariants.{Free, Bound, Must}
 use Rattle.dlk_vars.specs.Tables.{Grows}
 use Rattle.dlk_vars.specs.Sets.{has, IsWithin}
 
@@ -43,36 +46,37 @@ pub record Keeps (old new : SetTable) : Type 0 where
 pub record Makes (make : (Var → Bool) → (Var → Bool) → Var → Bool) (old : SetTable) (a b : ℕ) (new : SetTable) (n : ℕ) : Type 0 where
   pub means : (s r : Var → Bool) → Means old a s → Means old b r → Means new n (make s r)
 
--- the numbers are of sets in the table
-pub record AreKnown (t : SetTable) (n : NodeSets) : Type 0 where
-  pub free : n.free < length t.sets
-  pub bound : n.bound < length t.sets
-  pub must : n.must < length t.sets
+-- what the number stands for, whatever it is
+abbrev pub set_at : SetTable → ℕ → Var → Bool
+set_at t n v = has t.vars (row_at t.sets n) v
 
--- of two kids, where the second comes after the first: n is a number for what they read
-pub record MakesTurn (old : SetTable) (a b : NodeSets) (new : SetTable) (n : ℕ) : Type 0 where
-  pub means : (s t : Sets) → MeanSets old a s → MeanSets old b t → Means new n (either s.free (without t.free s.must))
+abbrev pub sets_at : SetTable → NodeSets → Sets
+sets_at t n = sets_are (set_at t n.free) (set_at t n.bound) (set_at t n.must)
 
--- n are the numbers of what `make` gives of the sets of two nodes
-pub record MakesSets (make : Sets → Sets → Sets) (old : SetTable) (a b : NodeSets) (new : SetTable) (n : NodeSets) : Type 0 where
-  pub means : (s t : Sets) → MeanSets old a s → MeanSets old b t → MeanSets new n (make s t)
+-- the number is that of a set in the table
+pub record IsSet (t : SetTable) (n : ℕ) : Type 0 where
+  pub known : n < length t.sets
+  pub within : IsWithin t.vars (row_at t.sets n)
 
--- a box or a diamond, a sequence, a choice, by the sets of their two kids; a quantifier, by its own sets and its kid's; a system, by
--- its own sets and its kids' together
-abbrev pub modal : Sets → Sets → Sets
-modal s t = sets_are (either s.free (without t.free s.must)) (either s.bound t.bound) none
+pub record AreSets (t : SetTable) (n : NodeSets) : Type 0 where
+  pub free : IsSet t n.free
+  pub bound : IsSet t n.bound
+  pub must : IsSet t n.must
 
-abbrev pub sequence : Sets → Sets → Sets
-sequence s t = sets_are (either s.free (without t.free s.must)) (either s.bound t.bound) (either s.must t.must)
+-- the number of one of the three sets
+abbrev pub number_in : Which → NodeSets → ℕ
+number_in Free n = n.free
+number_in Bound n = n.bound
+number_in Must n = n.must
 
-abbrev pub choice : Sets → Sets → Sets
-choice s t = sets_are (either s.free t.free) (either s.bound t.bound) (both s.must t.must)
+-- what is in one of the three sets of some kid
+abbrev pub set_in : Which → Sets → Var → Bool
+set_in Free s = s.free
+set_in Bound s = s.bound
+set_in Must s = s.must
 
-abbrev pub quantified : Sets → Sets → Sets
-quantified own s = sets_are (without s.free own.bound) (either s.bound own.bound) none
-
-abbrev pub evolved : Sets → Sets → Sets
-evolved own s = sets_are (either own.free s.free) own.bound own.must
+abbrev pub in_kids : Which → List Sets → Var → Bool
+in_kids which kids v = list_any (λ k. set_in which k v) kids
 
 -- n is a number for what the other stands for, and x' for each x in it
 pub record MakesPrimes (old : SetTable) (a : ℕ) (new : SetTable) (n : ℕ) : Type 0 where

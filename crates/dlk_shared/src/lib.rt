@@ -8,5 +8,6 @@ mod shape;
 mod store;
 #[cfg(test)]
 mod tests;
+mod together;
 
 pub use store::SharedStore;

@@ -3,8 +3,10 @@ ghost use Rattle.std.specs.Prelude.{◌≡◌, IsTrue};
 ghost use Rattle.dlk_tree.specs.Table.{has_parts};
 ghost use Rattle.dlk_tree.specs.Occurs.{is_hole};
 ghost use Rattle.dlk_shared.specs.Kept.{dot_bit};
+ghost use Rattle.dlk_shared.specs.SetTables.{number_in};
 
 use crate::kids::Kids;
+use dlk_store::Which;
 use dlk_tree::Op;
 
 /// What a node is known by: the number of its operator, and its kids.
@@ -33,6 +35,19 @@ pub struct NodeSets {
     pub free: usize,
     pub bound: usize,
     pub must: usize,
+}
+
+impl NodeSets {
+    /// The number of one of the three sets.
+    pub fn of(&self, which: Which) -> usize
+        ensures { result ≡ number_in which self.now }
+    {
+        match which {
+            Which::Free => self.free,
+            Which::Bound => self.bound,
+            Which::Must => self.must,
+        }
+    }
 }
 
 /// The bit of an operator that is an argument dot, and else none.

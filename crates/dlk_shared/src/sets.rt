@@ -7,7 +7,7 @@ ghost use Rattle.dlk_vars.specs.Sets.{IsWithin};
 ghost use Rattle.dlk_vars.specs.Rows.{has_number};
 ghost use Rattle.dlk_shared.specs.Shapes.{own_sets, in_item, in_items};
 ghost use Rattle.dlk_tree.specs.declared.op.Op.TheVariants.{System};
-ghost use Rattle.dlk_shared.specs.SetTables.{row_at, Means, MeanSets, Keeps, Makes, MakesPrimes, GainsPrime, AreKnown, MakesTurn, MakesSets, modal, sequence, choice, quantified, evolved};
+ghost use Rattle.dlk_shared.specs.SetTables.{row_at, Means, MeanSets, Keeps, Makes, MakesPrimes, GainsPrime};
 
 use crate::node::NodeSets;
 use dlk_store::Which;
@@ -329,84 +329,6 @@ impl SetTable {
         let prime = primed(v.name.clone()?);
         let p = self.vars.number(&prime)?;
         set.with(p)
-    }
-
-    /// What two kids read where the second comes after the first.
-    fn in_turn(&mut self, a: NodeSets, b: NodeSets) -> Result<usize, VarFault>
-        requires first { AreKnown self.old a }
-        requires second { AreKnown self.old b }
-        ensures makes { IfOk result (MakesTurn self.old a b self.new) }
-        ensures keeps { Keeps self.old self.new }
-    {
-        let rest = self.without(b.free, a.must)?;
-        self.either(a.free, rest)
-    }
-
-    /// A box or a diamond of this program and this formula.
-    pub fn modal(&mut self, a: NodeSets, b: NodeSets) -> Result<NodeSets, VarFault>
-        requires first { AreKnown self.old a }
-        requires second { AreKnown self.old b }
-        ensures makes { IfOk result (MakesSets modal self.old a b self.new) }
-        ensures keeps { Keeps self.old self.new }
-    {
-        let free = self.in_turn(a, b)?;
-        let bound = self.either(a.bound, b.bound)?;
-        let must = self.none()?;
-        Ok(NodeSets { free, bound, must })
-    }
-
-    /// A sequence of these two programs.
-    pub fn sequence(&mut self, a: NodeSets, b: NodeSets) -> Result<NodeSets, VarFault>
-        requires first { AreKnown self.old a }
-        requires second { AreKnown self.old b }
-        ensures makes { IfOk result (MakesSets sequence self.old a b self.new) }
-        ensures keeps { Keeps self.old self.new }
-    {
-        let free = self.in_turn(a, b)?;
-        let bound = self.either(a.bound, b.bound)?;
-        let must = self.either(a.must, b.must)?;
-        Ok(NodeSets { free, bound, must })
-    }
-
-    /// A choice of these two programs.
-    pub fn choice(&mut self, a: NodeSets, b: NodeSets) -> Result<NodeSets, VarFault>
-        requires first { AreKnown self.old a }
-        requires second { AreKnown self.old b }
-        ensures makes { IfOk result (MakesSets choice self.old a b self.new) }
-        ensures keeps { Keeps self.old self.new }
-    {
-        let free = self.either(a.free, b.free)?;
-        let bound = self.either(a.bound, b.bound)?;
-        let must = self.both(a.must, b.must)?;
-        Ok(NodeSets { free, bound, must })
-    }
-
-    /// A quantifier with these sets of its own over this kid.
-    pub fn quantified(&mut self, a: NodeSets, b: NodeSets) -> Result<NodeSets, VarFault>
-        requires first { AreKnown self.old a }
-        requires second { AreKnown self.old b }
-        ensures makes { IfOk result (MakesSets quantified self.old a b self.new) }
-        ensures keeps { Keeps self.old self.new }
-    {
-        let free = self.without(b.free, a.bound)?;
-        let bound = self.either(b.bound, a.bound)?;
-        let must = self.none()?;
-        Ok(NodeSets { free, bound, must })
-    }
-
-    /// A system with these sets of its own over its kids together.
-    pub fn evolved(&mut self, a: NodeSets, b: NodeSets) -> Result<NodeSets, VarFault>
-        requires first { AreKnown self.old a }
-        requires second { AreKnown self.old b }
-        ensures makes { IfOk result (MakesSets evolved self.old a b self.new) }
-        ensures keeps { Keeps self.old self.new }
-    {
-        let free = self.either(a.free, b.free)?;
-        Ok(NodeSets {
-            free,
-            bound: a.bound,
-            must: a.must,
-        })
     }
 }
 

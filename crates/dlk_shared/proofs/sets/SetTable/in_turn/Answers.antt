@@ -1,19 +1,7 @@
-use Rattle.dlk_tree.specs.Statics.{either, without}
-use Rattle.dlk_shared.specs.SetTables.{Makes, MakesTurn}
-use Rattle.dlk_shared.proofs.SetLemmas.{mapped, means_kept, keeps_trans}
+use Rattle.dlk_shared.proofs.KidSets.{turn_means}
 use Rattle.dlk_shared.proofs.sets.SetTable.in_turn.Goals as goal
 
-pub returns-clause-makes : goal.returns-clause-makes
-returns-clause-makes c =
-    let old = c.args.self.now in
-    let mid = c.without.new.self in
-    let new = c.either.new.self in
-    mapped (Makes either mid c.args.a.free c.in_ok-rest.rest new) (MakesTurn old c.args.a c.args.b new) c.either.result
-    (λ n m. record {
-      means = λ s t p q. m.means s.free (without t.free s.must) (means_kept c.in_ok-rest.ensures.keeps p.free)
-          (c.in_ok-rest.ensures.makes.means t.free s.must q.free p.must);
-    })
-    c.either.ensures.makes
-
-pub returns-clause-keeps : goal.returns-clause-keeps
-returns-clause-keeps c = keeps_trans c.in_ok-rest.ensures.keeps c.either.ensures.keeps
+pub returns-in_ok-rest-in-len2-up-clause-means : goal.returns-in_ok-rest-in-len2-up-clause-means
+returns-in_ok-rest-in-len2-up-clause-means c =
+    turn_means c.either.result c.args.self.now c.either.new.self c.args.kids.now _ _ c.requires c.in-len2-up.len_at_least
+    c.without.new.self c.in_ok-rest-in-len2-up.rest c.in_ok-rest-in-len2-up.ensures.keeps c.in_ok-rest-in-len2-up.ensures.makes c.either.ensures.makes
