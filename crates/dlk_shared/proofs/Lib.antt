@@ -4,3 +4,5 @@ pub mod PlainToo
 pub mod Primes
 pub mod SetLemmas
 pub mod KidSets
+pub mod SetsGrow
+pub mod KidNodes

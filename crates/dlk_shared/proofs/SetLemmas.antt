@@ -7,7 +7,7 @@ use Rattle.std.specs.Str.{bytes_eq}
 use Rattle.std.specs.List.{list_any}
 use Rattle.indexmap.specs.IndexSet.{insert_key}
 use Rattle.dlk_tree.specs.Tests.{var_eq}
-use Rattle.dlk_tree.specs.Statics.{none, just, plain, prime, with_prime, and_primes, either}
+use Rattle.dlk_tree.specs.Statics.{none, just, plain, prime, with_prime, and_primes, either, Sets}
 use Rattle.dlk_tree.specs.declared.op.Var.{Var}
 use Rattle.dlk_vars.specs.Rows.{Row}
 use Rattle.dlk_vars.specs.Tables.{number_of, Grows}
@@ -17,7 +17,7 @@ use Rattle.std.specs.Prelude.{All, map}
 use Rattle.dlk_store.specs.declared.listing.Which.{Which}
 use Rattle.dlk_store.specs.declared.listing.Which.TheVariants.{Free, Bound, Must}
 use Rattle.dlk_shared.specs.declared.node.NodeSets.{NodeSets}
-use Rattle.dlk_shared.specs.SetTables.{SetTable, row_at, Holds, Means, Keeps, MakesPrimes, set_at, sets_at, IsSet, AreSets, number_in, set_in}
+use Rattle.dlk_shared.specs.SetTables.{SetTable, row_at, Holds, Means, MeanSets, Keeps, MakesPrimes, set_at, sets_at, IsSet, AreSets, number_in, set_in}
 
 pub Grows-refl : (vars : List Var) → Grows vars vars
 Grows-refl vars = record { more = []; is = sym (append-nil vars) }
@@ -162,3 +162,18 @@ pub is_set_in : (t : SetTable) (which : Which) (n : NodeSets) → AreSets t n �
 is_set_in t Free n h = h.free
 is_set_in t Bound n h = h.bound
 is_set_in t Must n h = h.must
+
+-- ---- the three sets of a node
+
+pub mean_sets_kept : {old new : SetTable} {n : NodeSets} {s : Sets} → Keeps old new → MeanSets old n s → MeanSets new n s
+mean_sets_kept k m = record { free = means_kept k m.free; bound = means_kept k m.bound; must = means_kept k m.must }
+
+pub mean_are_sets : {t : SetTable} {n : NodeSets} {s : Sets} → MeanSets t n s → AreSets t n
+mean_are_sets m = record { free = means_set m.free; bound = means_set m.bound; must = means_set m.must }
+
+pub mean_sets_is : {t : SetTable} {n : NodeSets} {s : Sets} → MeanSets t n s → sets_at t n ≡ s
+mean_sets_is m =
+    let free = means_is m.free in
+    let bound = means_is m.bound in
+    let must = means_is m.must in
+    λ i. record { free = free i; bound = bound i; must = must i }

@@ -2,8 +2,8 @@ pub mod Ids
 pub mod Rows
 pub mod Growth
 pub mod Nodes
+pub mod Shapes
+pub mod SetTables
 pub mod Kept
 pub mod Sound
 pub mod Unique
-pub mod Shapes
-pub mod SetTables

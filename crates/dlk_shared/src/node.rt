@@ -16,19 +16,6 @@ pub struct Key {
     pub kids: Kids,
 }
 
-/// What is kept of a node's tree.
-#[derive(Clone, Copy)]
-pub struct Facts {
-    /// The number of nodes, at most the greatest `u32`.
-    pub size: u32,
-    /// The depth, at most the greatest `u32`.
-    pub depth: u32,
-    /// A bit for each number of an argument dot, whether that dot stands in the tree.
-    pub dots: u8,
-    /// Whether `_` stands in the tree.
-    pub hole: bool,
-}
-
 /// The numbers of the three sets of a node's tree.
 #[derive(Clone, Copy)]
 pub struct NodeSets {
@@ -48,6 +35,20 @@ impl NodeSets {
             Which::Must => self.must,
         }
     }
+}
+
+/// What is kept of a node's tree.
+#[derive(Clone, Copy)]
+pub struct Facts {
+    /// The number of nodes, at most the greatest `u32`.
+    pub size: u32,
+    /// The depth, at most the greatest `u32`.
+    pub depth: u32,
+    /// A bit for each number of an argument dot, whether that dot stands in the tree.
+    pub dots: u8,
+    /// Whether `_` stands in the tree.
+    pub hole: bool,
+    pub sets: NodeSets,
 }
 
 /// The bit of an operator that is an argument dot, and else none.

@@ -1,13 +1,13 @@
 //! Sets of variables, each kept once.
-ghost use Rattle.std.specs.Prelude.{◌≡◌, ◌<◌, [], length, IfOk, OnOk, Some, true, not, ◌&&◌};
+ghost use Rattle.std.specs.Prelude.{◌≡◌, ◌<◌, [], length, IfOk, OnOk, Some, true, not, ◌&&◌, ◌↔◌, IsTrue};
 ghost use Rattle.dlk_tree.specs.Statics.{none, all, just, plain, prime, with_prime, all_but, either, both, without};
-ghost use Rattle.dlk_tree.specs.Listed.{is_among};
+ghost use Rattle.dlk_tree.specs.Listed.{is_among, IsInhabited};
 ghost use Rattle.dlk_vars.specs.Tables.{number_of, Grows};
 ghost use Rattle.dlk_vars.specs.Sets.{IsWithin};
 ghost use Rattle.dlk_vars.specs.Rows.{has_number};
 ghost use Rattle.dlk_shared.specs.Shapes.{own_sets, in_item, in_items};
 ghost use Rattle.dlk_tree.specs.declared.op.Op.TheVariants.{System};
-ghost use Rattle.dlk_shared.specs.SetTables.{row_at, Means, MeanSets, Keeps, Makes, MakesPrimes, GainsPrime};
+ghost use Rattle.dlk_shared.specs.SetTables.{row_at, set_at, IsSet, Means, MeanSets, Keeps, Makes, MakesPrimes, GainsPrime};
 
 use crate::node::NodeSets;
 use dlk_store::Which;
@@ -56,6 +56,36 @@ impl SetTable {
         ensures { result.now ≡ row_at self.now.sets n }
     {
         &self.sets.as_slice()[n]
+    }
+
+    /// Whether the variable is in the set.
+    pub fn has(&self, n: usize, v: &Var) -> bool
+        requires { n < length self.now.sets }
+        ensures { result ≡ set_at self.now n v.now }
+    {
+        match self.vars.find(v) {
+            Some(number) => self.set(n).has(number),
+            None => self.set(n).has_others(),
+        }
+    }
+
+    /// Whether some variable is in the set.
+    pub fn has_any(&self, n: usize) -> bool
+        requires { IsSet self.now n }
+        ensures { IsTrue result ↔ IsInhabited (set_at self.now n) }
+    {
+        let _ = self.vars.as_slice();
+        !self.set(n).is_empty()
+    }
+
+    /// Whether some variable is in both sets.
+    pub fn meet(&self, a: usize, b: usize) -> bool
+        requires first { IsSet self.now a }
+        requires second { IsSet self.now b }
+        ensures { IsTrue result ↔ IsInhabited (both (set_at self.now a) (set_at self.now b)) }
+    {
+        let _ = self.vars.as_slice();
+        self.set(a).meets(self.set(b))
     }
 
     /// The number of a set, which is kept if it isn't yet.

@@ -1,5 +1,5 @@
 //! The shared store.
-ghost use Rattle.std.specs.Prelude.{◌≡◌, ◌↔◌, ◌+◌, ◌<◌, ◌-◌, ◌^◌, min, IsTrue, IfOk, [], List, All, length, Some, None, slice_get};
+ghost use Rattle.std.specs.Prelude.{◌≡◌, ◌↔◌, ◌+◌, ◌<◌, ◌-◌, ◌^◌, min, IsTrue, IfOk, [], List, All, length, Some, None, slice_get, map};
 ghost use Rattle.std.proofs.Props.{props};
 ghost use Rattle.std.specs.List.{IsDistinct};
 ghost use Rattle.std.specs.Map.{keys_of};
@@ -11,11 +11,16 @@ ghost use Rattle.dlk_store.specs.Stores.{IsId, tree, kid_trees, sorts_at, Stands
 ghost use Rattle.dlk_shared.specs.Nodes.{op_at, trees_of, AreSoundNodes, EachIs};
 ghost use Rattle.dlk_shared.specs.Kept.{capped, AreDotsOf, IsFactsOf};
 ghost use Rattle.dlk_tree.specs.Occurs.{has_dot, has_hole};
+ghost use Rattle.dlk_tree.specs.Statics.{sets as sets_of, sets_all, free, bound, must, both};
+ghost use Rattle.dlk_tree.specs.Listed.{IsInhabited};
+ghost use Rattle.dlk_shared.specs.SetTables.{MeanSets, AreSets, sets_at};
 
 use crate::kids::Kids;
-use crate::node::{Facts, Key, dot_bit, is_hole};
+use crate::node::{Facts, Key, NodeSets, dot_bit, is_hole};
+use crate::sets::SetTable;
 use dlk_store::{Id, Node, Steps, StoreFault};
-use dlk_tree::Op;
+use dlk_tree::{Op, Var};
+use dlk_vars::VarFault;
 use indexmap::{IndexMap, IndexSet};
 use std::alloc::Global;
 use std::sync::ledger::Ledger;
@@ -25,10 +30,11 @@ use std::sync::ledger::Ledger;
 pub struct SharedStore {
     ops: IndexSet<Op>,
     nodes: IndexMap<Key, Facts>,
+    sets: SetTable,
     ghost ops_apart: { IsDistinct ⟦<Op as PartialEq>⟧.eq ops.keys } by { IsDistinct-prop ⟦<Op as PartialEq>⟧.eq ops.keys },
     ghost nodes_apart: { IsDistinct ⟦<Key as PartialEq>⟧.eq (keys_of nodes.entries) } by { IsDistinct-prop ⟦<Key as PartialEq>⟧.eq (keys_of nodes.entries) },
     ghost sound: { AreSoundNodes ops.keys nodes.entries } by { Prim.hlevel props },
-    ghost facts: { EachIs IsFactsOf (trees_of ops.keys nodes.entries) nodes.entries } by { Prim.hlevel props },
+    ghost facts: { EachIs (IsFactsOf sets) (trees_of ops.keys nodes.entries) nodes.entries } by { Prim.hlevel props },
 }
 
 impl SharedStore {
@@ -39,6 +45,7 @@ impl SharedStore {
         SharedStore {
             ops: IndexSet::new(alloc),
             nodes: IndexMap::new(alloc),
+            sets: SetTable::new(alloc),
         }
     }
 
@@ -61,22 +68,55 @@ impl SharedStore {
 
     fn facts(&self, id: Id) -> Facts
         requires { IsId (trees_of self.now.ops.keys self.now.nodes.entries) id }
-        ensures { IsFactsOf (tree (trees_of self.now.ops.keys self.now.nodes.entries) id) result }
+        ensures { IsFactsOf self.now.sets (tree (trees_of self.now.ops.keys self.now.nodes.entries) id) result }
     {
         *self.kept(id).1
     }
 
-    /// What is kept of a node with this operator and these kids.
-    fn facts_over(&self, op: &Op, kids: &[Id]) -> Facts
+    /// The sets of these trees.
+    fn kid_sets(&self, alloc: Global, kids: &[Id]) -> Result<Vec<NodeSets>, StoreFault>
+        requires { All (IsId (trees_of self.now.ops.keys self.now.nodes.entries)) kids.now }
+        ensures are { IfOk result (λ found. map (sets_at self.now.sets) found.items ≡ sets_all (kid_trees (trees_of self.now.ops.keys self.now.nodes.entries) kids.now)) }
+        ensures known { IfOk result (λ found. All (AreSets self.now.sets) found.items) }
+    {
+        let mut found = Vec::with_capacity(alloc, kids.len())?;
+        for k in kids {
+            found.push(self.facts(*k).sets)?;
+        }
+        Ok(found)
+    }
+
+    /// The sets of a node. Its variables are numbered, and no node is kept.
+    fn sets_over(&mut self, alloc: Global, key: &Key) -> Result<NodeSets, StoreFault>
+        requires op { key.now.op < length self.old.ops.keys }
+        requires known { All (IsId (trees_of self.old.ops.keys self.old.nodes.entries)) key.now.kids }
+        ensures means { IfOk result (λ n. MeanSets self.new.sets n (sets_of (node (op_at self.old.ops.keys key.now.op) (kid_trees (trees_of self.old.ops.keys self.old.nodes.entries) key.now.kids)))) }
+        ensures ops { self.new.ops ≡ self.old.ops }
+        ensures nodes { self.new.nodes ≡ self.old.nodes }
+    {
+        let kids = self.kid_sets(alloc, key.kids.as_slice())?;
+        match self
+            .sets
+            .node_sets(&self.ops.as_slice()[key.op], kids.as_slice())
+        {
+            Ok(sets) => Ok(sets),
+            Err(VarFault::Memory) => Err(StoreFault::Memory),
+        }
+    }
+
+    /// What is kept of a node with this operator, these kids and these sets.
+    fn facts_over(&self, op: &Op, kids: &[Id], sets: NodeSets) -> Facts
         requires parts { IsTrue (has_parts op.now) }
         requires known { All (IsId (trees_of self.now.ops.keys self.now.nodes.entries)) kids.now }
-        ensures { IsFactsOf (node op.now (kid_trees (trees_of self.now.ops.keys self.now.nodes.entries) kids.now)) result }
+        requires sets { MeanSets self.now.sets sets (sets_of (node op.now (kid_trees (trees_of self.now.ops.keys self.now.nodes.entries) kids.now))) }
+        ensures { IsFactsOf self.now.sets (node op.now (kid_trees (trees_of self.now.ops.keys self.now.nodes.entries) kids.now)) result }
     {
         Facts {
             size: self.size_over(kids),
             depth: self.depth_over(kids),
             dots: self.dots_over(op, kids),
             hole: self.hole_over(op, kids),
+            sets,
         }
     }
 
@@ -135,8 +175,8 @@ impl SharedStore {
         Ok(n)
     }
 
-    /// Keeps a node that isn't kept yet.
-    fn keep(&mut self, key: Key) -> Result<Id, StoreFault>
+    /// Keeps a node that isn't kept yet, and first numbers its variables.
+    fn keep(&mut self, alloc: Global, key: Key) -> Result<Id, StoreFault>
         requires absent { get ⟦<Key as PartialEq>⟧.eq self.old.nodes key ≡ None }
         requires op { key.op < length self.old.ops.keys }
         requires known { All (IsId (trees_of self.old.ops.keys self.old.nodes.entries)) key.kids }
@@ -144,7 +184,21 @@ impl SharedStore {
         ensures made { IfOk result (λ id. StandsFor (trees_of self.new.ops.keys self.new.nodes.entries) id (node (op_at self.old.ops.keys key.op) (kid_trees (trees_of self.old.ops.keys self.old.nodes.entries) key.kids))) }
         ensures grows { Keeps (trees_of self.old.ops.keys self.old.nodes.entries) (trees_of self.new.ops.keys self.new.nodes.entries) }
     {
-        let facts = self.facts_over(&self.ops.as_slice()[key.op], key.kids.as_slice());
+        let sets = self.sets_over(alloc, &key)?;
+        self.push(key, sets)
+    }
+
+    /// Keeps a node that isn't kept yet, with these sets.
+    fn push(&mut self, key: Key, sets: NodeSets) -> Result<Id, StoreFault>
+        requires absent { get ⟦<Key as PartialEq>⟧.eq self.old.nodes key ≡ None }
+        requires op { key.op < length self.old.ops.keys }
+        requires known { All (IsId (trees_of self.old.ops.keys self.old.nodes.entries)) key.kids }
+        requires fits { Fits (op_at self.old.ops.keys key.op) (sorts_at (trees_of self.old.ops.keys self.old.nodes.entries) key.kids) }
+        requires sets { MeanSets self.old.sets sets (sets_of (node (op_at self.old.ops.keys key.op) (kid_trees (trees_of self.old.ops.keys self.old.nodes.entries) key.kids))) }
+        ensures made { IfOk result (λ id. StandsFor (trees_of self.new.ops.keys self.new.nodes.entries) id (node (op_at self.old.ops.keys key.op) (kid_trees (trees_of self.old.ops.keys self.old.nodes.entries) key.kids))) }
+        ensures grows { Keeps (trees_of self.old.ops.keys self.old.nodes.entries) (trees_of self.new.ops.keys self.new.nodes.entries) }
+    {
+        let facts = self.facts_over(&self.ops.as_slice()[key.op], key.kids.as_slice(), sets);
         let id = Id(self.nodes.len());
         self.nodes.insert(key, facts)?;
         Ok(id)
@@ -166,7 +220,7 @@ impl SharedStore {
         let key = Key { op, kids };
         match self.nodes.get_index_of(&key) {
             Some(place) => Ok(Id(place)),
-            None => self.keep(key),
+            None => self.keep(alloc, key),
         }
     }
 
@@ -225,5 +279,47 @@ impl SharedStore {
         ensures { result ≡ has_hole (tree (trees_of self.now.ops.keys self.now.nodes.entries) id) }
     {
         self.facts(id).hole
+    }
+
+    /// Whether the variable is free in the tree: the tree reads it.
+    pub fn frees(&self, id: Id, v: &Var) -> bool
+        requires { IsId (trees_of self.now.ops.keys self.now.nodes.entries) id }
+        ensures { result ≡ free (tree (trees_of self.now.ops.keys self.now.nodes.entries) id) v.now }
+    {
+        self.sets.has(self.facts(id).sets.free, v)
+    }
+
+    /// Whether the variable is bound in the tree: the tree may change it.
+    pub fn binds(&self, id: Id, v: &Var) -> bool
+        requires { IsId (trees_of self.now.ops.keys self.now.nodes.entries) id }
+        ensures { result ≡ bound (tree (trees_of self.now.ops.keys self.now.nodes.entries) id) v.now }
+    {
+        self.sets.has(self.facts(id).sets.bound, v)
+    }
+
+    /// Whether the variable is must-bound in the program: each run changes it. False for a term and a formula.
+    pub fn must(&self, id: Id, v: &Var) -> bool
+        requires { IsId (trees_of self.now.ops.keys self.now.nodes.entries) id }
+        ensures { result ≡ must (tree (trees_of self.now.ops.keys self.now.nodes.entries) id) v.now }
+    {
+        self.sets.has(self.facts(id).sets.must, v)
+    }
+
+    /// Whether some variable is free in the tree.
+    pub fn any_free(&self, id: Id) -> bool
+        requires { IsId (trees_of self.now.ops.keys self.now.nodes.entries) id }
+        ensures { IsTrue result ↔ IsInhabited (free (tree (trees_of self.now.ops.keys self.now.nodes.entries) id)) }
+    {
+        self.sets.has_any(self.facts(id).sets.free)
+    }
+
+    /// Whether some variable is free in `e` and bound in `a`.
+    pub fn free_meets_bound(&self, e: Id, a: Id) -> bool
+        requires first { IsId (trees_of self.now.ops.keys self.now.nodes.entries) e }
+        requires second { IsId (trees_of self.now.ops.keys self.now.nodes.entries) a }
+        ensures { IsTrue result ↔ IsInhabited (both (free (tree (trees_of self.now.ops.keys self.now.nodes.entries) e)) (bound (tree (trees_of self.now.ops.keys self.now.nodes.entries) a))) }
+    {
+        self.sets
+            .meet(self.facts(e).sets.free, self.facts(a).sets.bound)
     }
 }

@@ -1,13 +1,14 @@
 //! The three sets of a node, of those that its operator brings and those of its kids.
 ghost use Rattle.std.specs.Prelude.{IfOk, All, map};
-ghost use Rattle.dlk_tree.specs.Statics.{free_in_turn, must_in_both, must_in_one};
+ghost use Rattle.dlk_tree.specs.Statics.{free_in_turn, must_in_both, must_in_one, statics};
 ghost use Rattle.dlk_shared.specs.Shapes.{put_together};
 ghost use Rattle.dlk_shared.specs.SetTables.{Means, MeanSets, Keeps, AreSets, sets_at, in_kids};
 
 use crate::node::NodeSets;
 use crate::sets::SetTable;
-use crate::shape::Shape;
+use crate::shape::{Shape, shape_of};
 use dlk_store::Which;
+use dlk_tree::Op;
 use dlk_vars::VarFault;
 
 impl SetTable {
@@ -167,5 +168,15 @@ impl SetTable {
         let bound = self.bound_over(shape, own, kids)?;
         let must = self.must_over(shape, own, kids)?;
         Ok(NodeSets { free, bound, must })
+    }
+
+    /// The three sets of a node with this operator over kids with these sets.
+    pub fn node_sets(&mut self, op: &Op, kids: &[NodeSets]) -> Result<NodeSets, VarFault>
+        requires { All (AreSets self.old) kids.now }
+        ensures means { IfOk result (λ n. MeanSets self.new n (statics op.now (map (sets_at self.old) kids.now))) }
+        ensures keeps { Keeps self.old self.new }
+    {
+        let own = self.own_sets(op)?;
+        self.together(shape_of(op), own, kids)
     }
 }

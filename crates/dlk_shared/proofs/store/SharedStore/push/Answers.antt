@@ -8,7 +8,7 @@ use Rattle.dlk_shared.specs.Kept.{IsFactsOf}
 use Rattle.dlk_shared.specs.Nodes.{op_at, trees_of}
 use Rattle.dlk_shared.specs.Sound.{tried_sound, tried_facts, push_keeps, push_stands}
 use Rattle.dlk_shared.specs.contracts.node.KeyPartialEq.TheImpl as KeyEq
-use Rattle.dlk_shared.proofs.store.SharedStore.keep.Goals as goal
+use Rattle.dlk_shared.proofs.store.SharedStore.push.Goals as goal
 
 on_ok : {T E A : Type 0} (r : Result T E) (x y z : A) → IfOk r (λ _. x ≡ y) → y ≡ z → IfOk r (λ _. x ≡ z)
 on_ok (Ok t) x y z h e = h ∙ e
@@ -31,8 +31,8 @@ invariant_of-self-clause-facts c =
     let op : c.index-as_slice-key.result ≡ op_at s.ops.keys c.args.key.op =
     c.index-as_slice-key.is ∙ ap (λ l. get_or l c.args.key.op c.index-as_slice-key.result) c.as_slice.ensures.keys
     ∙ get_or_default s.ops.keys c.args.key.op c.index-as_slice-key.result True c.requires.op in
-    let here = subst (λ t. IsFactsOf t f) (λ i. node (op i) (kid_trees trees (c.as_slice-2.ensures i))) c.facts_over-facts.ensures in
-    tried_facts s.ops.keys s.nodes.entries c.args.key f IsFactsOf s.facts here
+    let here = subst (λ t. IsFactsOf s.sets t f) (λ i. node (op i) (kid_trees trees (c.as_slice-2.ensures i))) c.facts_over-facts.ensures in
+    tried_facts s.ops.keys s.nodes.entries c.args.key f (IsFactsOf s.sets) s.facts here
     c.insert.result c.insert.new.self.entries (on_ok c.insert.result _ _ _ c.insert.ensures.entries new) c.insert.ensures.err
 
 pub returns-clause-made : goal.returns-clause-made
