@@ -6,3 +6,4 @@ pub mod SetLemmas
 pub mod KidSets
 pub mod SetsGrow
 pub mod KidNodes
+pub mod Told

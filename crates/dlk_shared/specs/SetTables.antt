@@ -2,6 +2,7 @@
 use Rattle.std.specs.Prelude.{◌≡◌, ℕ, ◌<◌, ◌≤◌, Bool, true, false, ◌||◌, ◌&&◌, not, List, [], length, slice_index_or}
 use Rattle.dlk_tree.specs.Statics.{plain, prime, and_primes, Sets, sets_are}
 use Rattle.std.specs.List.{list_any}
+use Rattle.std.specs.Bool.{beq}
 use Rattle.dlk_tree.specs.Tests.{var_eq}
 use Rattle.dlk_tree.specs.Listed.{is_among}
 use Rattle.dlk_tree.specs.declared.op.Var.{Var}
@@ -98,3 +99,11 @@ pub record GainsPrime (old : List Var) (set from : Row) (n : ℕ) (new : List Va
 -- x is numbered where x' is
 pub record ArePlainToo (vars : List Var) : Type 0 where
   pub plain_too : (x : List ℕ) → is_among vars (prime x) ≡ true → is_among vars (plain x) ≡ true
+
+-- whether the number is in the set where others aren't, or the other way round
+abbrev pub stands_out : Row → ℕ → Bool
+stands_out r n = not (beq (has_number r n) r.others)
+
+-- the variable comes to those in the list, where it is wanted
+pub record AddsWhere (wanted : Bool) (v : Var) (old new : List Var) : Type 0 where
+  pub adds : (w : Var) → is_among new w ≡ (is_among old w || (var_eq w v && wanted))

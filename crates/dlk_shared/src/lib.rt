@@ -2,6 +2,7 @@
 #![tactic(auto)]
 
 mod kids;
+mod listed;
 mod node;
 mod sets;
 mod shape;

@@ -2,6 +2,7 @@
 ghost use Rattle.std.specs.Prelude.{◌≡◌, ◌<◌, [], length, IfOk, OnOk, Some, true, not, ◌&&◌, ◌↔◌, IsTrue};
 ghost use Rattle.dlk_tree.specs.Statics.{none, all, just, plain, prime, with_prime, all_but, either, both, without};
 ghost use Rattle.dlk_tree.specs.Listed.{is_among, IsInhabited};
+ghost use Rattle.dlk_store.specs.Listings.{IsListingOf};
 ghost use Rattle.dlk_vars.specs.Tables.{number_of, Grows};
 ghost use Rattle.dlk_vars.specs.Sets.{IsWithin};
 ghost use Rattle.dlk_vars.specs.Rows.{has_number};
@@ -9,12 +10,14 @@ ghost use Rattle.dlk_shared.specs.Shapes.{own_sets, in_item, in_items};
 ghost use Rattle.dlk_tree.specs.declared.op.Op.TheVariants.{System};
 ghost use Rattle.dlk_shared.specs.SetTables.{row_at, set_at, IsSet, Means, MeanSets, Keeps, Makes, MakesPrimes, GainsPrime};
 
+use crate::listed::{list_var, vars_in_order};
 use crate::node::NodeSets;
-use dlk_store::Which;
+use dlk_store::{Listing, Vars, Which};
 use dlk_tree::{Name, OdeItem, Op, Var};
 use dlk_vars::{VarFault, VarNo, VarSet, VarTable};
 use indexmap::IndexSet;
 use std::alloc::Global;
+use std::collections::BTreeSet;
 use std::marker::Model;
 
 /// Sets of variables, each kept once and known by its number, over a table that numbers the variables.
@@ -86,6 +89,24 @@ impl SetTable {
     {
         let _ = self.vars.as_slice();
         self.set(a).meets(self.set(b))
+    }
+
+    /// The set, listed.
+    pub fn list(&self, alloc: Global, n: usize) -> Result<Listing, VarFault>
+        requires { IsSet self.now n }
+        ensures { IfOk result (IsListingOf (set_at self.now n)) }
+    {
+        let set = self.set(n);
+        let vars = self.vars.as_slice();
+        let mut listed = BTreeSet::new(alloc);
+        for k in 0..vars.len() {
+            list_var(&mut listed, set, &vars[k], k)?;
+        }
+        let listed = vars_in_order(alloc, listed)?;
+        Ok(Listing {
+            all_but: set.has_others(),
+            vars: Vars::new(listed),
+        })
     }
 
     /// The number of a set, which is kept if it isn't yet.

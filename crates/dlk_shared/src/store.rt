@@ -13,12 +13,13 @@ ghost use Rattle.dlk_shared.specs.Kept.{capped, AreDotsOf, IsFactsOf};
 ghost use Rattle.dlk_tree.specs.Occurs.{has_dot, has_hole};
 ghost use Rattle.dlk_tree.specs.Statics.{sets as sets_of, sets_all, free, bound, must, both};
 ghost use Rattle.dlk_tree.specs.Listed.{IsInhabited};
+ghost use Rattle.dlk_store.specs.Listings.{set_of, IsListingOf};
 ghost use Rattle.dlk_shared.specs.SetTables.{MeanSets, AreSets, sets_at};
 
 use crate::kids::Kids;
 use crate::node::{Facts, Key, NodeSets, dot_bit, is_hole};
 use crate::sets::SetTable;
-use dlk_store::{Id, Node, Steps, StoreFault};
+use dlk_store::{Id, Listing, Node, Steps, StoreFault, Which};
 use dlk_tree::{Op, Var};
 use dlk_vars::VarFault;
 use indexmap::{IndexMap, IndexSet};
@@ -321,5 +322,20 @@ impl SharedStore {
     {
         self.sets
             .meet(self.facts(e).sets.free, self.facts(a).sets.bound)
+    }
+
+    /// One of the three sets of the tree, listed; there is one listing of it (`one_listing`).
+    ///
+    /// # Errors
+    ///
+    /// `Memory` alone.
+    pub fn list(&self, alloc: Global, id: Id, which: Which) -> Result<Listing, StoreFault>
+        requires { IsId (trees_of self.now.ops.keys self.now.nodes.entries) id }
+        ensures { IfOk result (IsListingOf (set_of which (tree (trees_of self.now.ops.keys self.now.nodes.entries) id))) }
+    {
+        match self.sets.list(alloc, self.facts(id).sets.of(which)) {
+            Ok(listing) => Ok(listing),
+            Err(VarFault::Memory) => Err(StoreFault::Memory),
+        }
     }
 }
