@@ -7,3 +7,4 @@ pub mod KidSets
 pub mod SetsGrow
 pub mod KidNodes
 pub mod Told
+pub mod SignLemmas

@@ -4,6 +4,7 @@ pub mod Growth
 pub mod Nodes
 pub mod Shapes
 pub mod SetTables
+pub mod Signs
 pub mod Kept
 pub mod Sound
 pub mod Unique

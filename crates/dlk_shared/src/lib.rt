@@ -6,6 +6,7 @@ mod listed;
 mod node;
 mod sets;
 mod shape;
+mod signs;
 mod store;
 #[cfg(test)]
 mod tests;
