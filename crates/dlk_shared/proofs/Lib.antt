@@ -8,3 +8,4 @@ pub mod SetsGrow
 pub mod KidNodes
 pub mod Told
 pub mod SignLemmas
+pub mod SignsFound

@@ -1,5 +1,8 @@
 -- A table of signatures: sets of symbols, over a table that numbers the symbols.
 use Rattle.std.specs.Prelude.{◌≡◌, ℕ, suc, ◌<◌, ◌≤◌, Bool, false, ◌||◌, ◌&&◌, List, [], ◌∷◌, ◌++◌, length}
+use Rattle.std.specs.List.{list_any}
+use Rattle.std.specs.List.Sorted.{IsStrictlySortedBy}
+use Rattle.dlk_tree.specs.Listed.{sym_cmp}
 use Rattle.dlk_tree.specs.Tests.{sym_eq}
 use Rattle.dlk_tree.specs.declared.op.Sym.{Sym}
 use Rattle.dlk_vars.specs.Rows.{Row, has_number}
@@ -34,3 +37,12 @@ pub record KeepsSigns (old new : SignTable) : Type 0 where
   pub syms : new.syms ≡ old.syms ++ more
   pub signs : length old.signs ≤ length new.signs
   pub same : (n : ℕ) → n < length old.signs → row_at new.signs n ≡ row_at old.signs n
+
+-- the symbol comes to those in the list, where it is wanted
+pub record AddsSymbol (wanted : Bool) (s : Sym) (old new : List Sym) : Type 0 where
+  pub adds : (t : Sym) → list_any (sym_eq t) new ≡ (list_any (sym_eq t) old || (sym_eq t s && wanted))
+
+-- the list is in order, and has these symbols
+pub record AreSymbols (set : Sym → Bool) (syms : List Sym) : Type 0 where
+  pub ordered : IsStrictlySortedBy sym_cmp syms
+  pub members : (s : Sym) → list_any (sym_eq s) syms ≡ set s

@@ -4,12 +4,14 @@ ghost use Rattle.std.specs.List.{list_any};
 ghost use Rattle.dlk_tree.specs.Occurs.{constants, has_symbol};
 ghost use Rattle.dlk_tree.specs.Tests.{sym_eq};
 ghost use Rattle.dlk_shared.specs.SetTables.{row_at};
-ghost use Rattle.dlk_shared.specs.Signs.{sign_at, IsSign, Signs, KeepsSigns};
+ghost use Rattle.dlk_shared.specs.Signs.{sign_at, IsSign, Signs, KeepsSigns, AreSymbols};
 
+use crate::listed::{list_symbol, symbols_in_order};
 use dlk_tree::{OdeItem, Op, Sym};
 use dlk_vars::{VarFault, VarNo, VarSet};
 use indexmap::IndexSet;
 use std::alloc::Global;
+use std::collections::BTreeSet;
 use std::marker::Model;
 
 /// Signatures, each kept once and known by its number, over a table that numbers the symbols.
@@ -165,5 +167,32 @@ impl SignTable {
     {
         let own = self.own(op)?;
         self.with_kids(own, kids)
+    }
+
+    /// Whether the symbol is in the signature.
+    pub fn has(&self, n: usize, s: &Sym) -> bool
+        requires { n < length self.now.signs }
+        ensures { result ≡ sign_at self.now n s.now }
+    {
+        let _ = self.syms.as_slice();
+        match self.syms.get_index_of(s) {
+            Some(k) => self.sign(n).has(VarNo(k)),
+            None => false,
+        }
+    }
+
+    /// The symbols of a signature in order.
+    pub fn list(&self, alloc: Global, n: usize) -> Result<Vec<Sym>, VarFault>
+        requires { IsSign self.now n }
+        ensures { IfOk result (λ listed. AreSymbols (sign_at self.now n) listed.items) }
+    {
+        let sign = self.sign(n);
+        let syms = self.syms.as_slice();
+        let mut listed = BTreeSet::new(alloc);
+        for k in 0..syms.len() {
+            list_symbol(&mut listed, &syms[k], sign.has(VarNo(k)))?;
+        }
+        let listed = symbols_in_order(alloc, listed)?;
+        Ok(listed)
     }
 }
