@@ -49,6 +49,8 @@ pub struct Facts {
     /// Whether `_` stands in the tree.
     pub hole: bool,
     pub sets: NodeSets,
+    /// The number of its signature.
+    pub sign: usize,
 }
 
 /// The bit of an operator that is an argument dot, and else none.

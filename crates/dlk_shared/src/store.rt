@@ -1,7 +1,7 @@
 //! The shared store.
 ghost use Rattle.std.specs.Prelude.{◌≡◌, ◌↔◌, ◌+◌, ◌<◌, ◌-◌, ◌^◌, min, IsTrue, IfOk, [], List, All, length, Some, None, slice_get, map};
 ghost use Rattle.std.proofs.Props.{props};
-ghost use Rattle.std.specs.List.{IsDistinct};
+ghost use Rattle.std.specs.List.{IsDistinct, list_any};
 ghost use Rattle.std.specs.Map.{keys_of};
 ghost use Rattle.std.proofs.lemmas.Map.Keys.{IsDistinct-prop};
 ghost use Rattle.indexmap.specs.IndexMap.{get};
@@ -10,17 +10,20 @@ ghost use Rattle.dlk_tree.specs.Trees.{node, size, size_all, depth, depth_all};
 ghost use Rattle.dlk_store.specs.Stores.{IsId, tree, kid_trees, sorts_at, StandsFor, Keeps};
 ghost use Rattle.dlk_shared.specs.Nodes.{op_at, trees_of, AreSoundNodes, EachIs};
 ghost use Rattle.dlk_shared.specs.Kept.{capped, AreDotsOf, IsFactsOf};
-ghost use Rattle.dlk_tree.specs.Occurs.{has_dot, has_hole};
+ghost use Rattle.dlk_tree.specs.Occurs.{occurs, any_has, has_symbol, has_dot, has_hole};
 ghost use Rattle.dlk_tree.specs.Statics.{sets as sets_of, sets_all, free, bound, must, both};
-ghost use Rattle.dlk_tree.specs.Listed.{IsInhabited};
+ghost use Rattle.dlk_tree.specs.Listed.{IsInhabited, IsSignature};
 ghost use Rattle.dlk_store.specs.Listings.{set_of, IsListingOf};
 ghost use Rattle.dlk_shared.specs.SetTables.{MeanSets, AreSets, sets_at};
+ghost use Rattle.dlk_shared.specs.Signs.{sign_at, IsSign, Signs};
+ghost use Rattle.dlk_tree.specs.declared.op.Sym.{Sym};
 
 use crate::kids::Kids;
 use crate::node::{Facts, Key, NodeSets, dot_bit, is_hole};
 use crate::sets::SetTable;
+use crate::signs::SignTable;
 use dlk_store::{Id, Listing, Node, Steps, StoreFault, Which};
-use dlk_tree::{Op, Var};
+use dlk_tree::{Op, Sym, Var};
 use dlk_vars::VarFault;
 use indexmap::{IndexMap, IndexSet};
 use std::alloc::Global;
@@ -32,10 +35,11 @@ pub struct SharedStore {
     ops: IndexSet<Op>,
     nodes: IndexMap<Key, Facts>,
     sets: SetTable,
+    signs: SignTable,
     ghost ops_apart: { IsDistinct ⟦<Op as PartialEq>⟧.eq ops.keys } by { IsDistinct-prop ⟦<Op as PartialEq>⟧.eq ops.keys },
     ghost nodes_apart: { IsDistinct ⟦<Key as PartialEq>⟧.eq (keys_of nodes.entries) } by { IsDistinct-prop ⟦<Key as PartialEq>⟧.eq (keys_of nodes.entries) },
     ghost sound: { AreSoundNodes ops.keys nodes.entries } by { Prim.hlevel props },
-    ghost facts: { EachIs (IsFactsOf sets) (trees_of ops.keys nodes.entries) nodes.entries } by { Prim.hlevel props },
+    ghost facts: { EachIs (IsFactsOf sets signs) (trees_of ops.keys nodes.entries) nodes.entries } by { Prim.hlevel props },
 }
 
 impl SharedStore {
@@ -47,6 +51,7 @@ impl SharedStore {
             ops: IndexSet::new(alloc),
             nodes: IndexMap::new(alloc),
             sets: SetTable::new(alloc),
+            signs: SignTable::new(alloc),
         }
     }
 
@@ -69,7 +74,7 @@ impl SharedStore {
 
     fn facts(&self, id: Id) -> Facts
         requires { IsId (trees_of self.now.ops.keys self.now.nodes.entries) id }
-        ensures { IsFactsOf self.now.sets (tree (trees_of self.now.ops.keys self.now.nodes.entries) id) result }
+        ensures { IsFactsOf self.now.sets self.now.signs (tree (trees_of self.now.ops.keys self.now.nodes.entries) id) result }
     {
         *self.kept(id).1
     }
@@ -105,12 +110,45 @@ impl SharedStore {
         }
     }
 
-    /// What is kept of a node with this operator, these kids and these sets.
-    fn facts_over(&self, op: &Op, kids: &[Id], sets: NodeSets) -> Facts
+    /// The signatures of these trees.
+    fn kid_signs(&self, alloc: Global, kids: &[Id]) -> Result<Vec<usize>, StoreFault>
+        requires { All (IsId (trees_of self.now.ops.keys self.now.nodes.entries)) kids.now }
+        ensures are { IfOk result (λ found. (s : Sym) → list_any (λ k. sign_at self.now.signs k s) found.items ≡ any_has (has_symbol s) (kid_trees (trees_of self.now.ops.keys self.now.nodes.entries) kids.now)) }
+        ensures known { IfOk result (λ found. All (IsSign self.now.signs) found.items) }
+    {
+        let mut found = Vec::with_capacity(alloc, kids.len())?;
+        for k in kids {
+            found.push(self.facts(*k).sign)?;
+        }
+        Ok(found)
+    }
+
+    /// The signature of a node. Its symbols are numbered, and no node is kept.
+    fn sign_over(&mut self, alloc: Global, key: &Key) -> Result<usize, StoreFault>
+        requires op { key.now.op < length self.old.ops.keys }
+        requires known { All (IsId (trees_of self.old.ops.keys self.old.nodes.entries)) key.now.kids }
+        ensures signs { IfOk result (λ n. Signs self.new.signs n (λ s. occurs s (node (op_at self.old.ops.keys key.now.op) (kid_trees (trees_of self.old.ops.keys self.old.nodes.entries) key.now.kids)))) }
+        ensures ops { self.new.ops ≡ self.old.ops }
+        ensures nodes { self.new.nodes ≡ self.old.nodes }
+        ensures sets { self.new.sets ≡ self.old.sets }
+    {
+        let kids = self.kid_signs(alloc, key.kids.as_slice())?;
+        match self
+            .signs
+            .node_sign(&self.ops.as_slice()[key.op], kids.as_slice())
+        {
+            Ok(sign) => Ok(sign),
+            Err(VarFault::Memory) => Err(StoreFault::Memory),
+        }
+    }
+
+    /// What is kept of a node with this operator, these kids, these sets and this signature.
+    fn facts_over(&self, op: &Op, kids: &[Id], sets: NodeSets, sign: usize) -> Facts
         requires parts { IsTrue (has_parts op.now) }
         requires known { All (IsId (trees_of self.now.ops.keys self.now.nodes.entries)) kids.now }
         requires sets { MeanSets self.now.sets sets (sets_of (node op.now (kid_trees (trees_of self.now.ops.keys self.now.nodes.entries) kids.now))) }
-        ensures { IsFactsOf self.now.sets (node op.now (kid_trees (trees_of self.now.ops.keys self.now.nodes.entries) kids.now)) result }
+        requires sign { Signs self.now.signs sign (λ s. occurs s (node op.now (kid_trees (trees_of self.now.ops.keys self.now.nodes.entries) kids.now))) }
+        ensures { IsFactsOf self.now.sets self.now.signs (node op.now (kid_trees (trees_of self.now.ops.keys self.now.nodes.entries) kids.now)) result }
     {
         Facts {
             size: self.size_over(kids),
@@ -118,6 +156,7 @@ impl SharedStore {
             dots: self.dots_over(op, kids),
             hole: self.hole_over(op, kids),
             sets,
+            sign,
         }
     }
 
@@ -176,7 +215,7 @@ impl SharedStore {
         Ok(n)
     }
 
-    /// Keeps a node that isn't kept yet, and first numbers its variables.
+    /// Keeps a node that isn't kept yet, and first numbers its variables and symbols.
     fn keep(&mut self, alloc: Global, key: Key) -> Result<Id, StoreFault>
         requires absent { get ⟦<Key as PartialEq>⟧.eq self.old.nodes key ≡ None }
         requires op { key.op < length self.old.ops.keys }
@@ -186,20 +225,27 @@ impl SharedStore {
         ensures grows { Keeps (trees_of self.old.ops.keys self.old.nodes.entries) (trees_of self.new.ops.keys self.new.nodes.entries) }
     {
         let sets = self.sets_over(alloc, &key)?;
-        self.push(key, sets)
+        let sign = self.sign_over(alloc, &key)?;
+        self.push(key, sets, sign)
     }
 
-    /// Keeps a node that isn't kept yet, with these sets.
-    fn push(&mut self, key: Key, sets: NodeSets) -> Result<Id, StoreFault>
+    /// Keeps a node that isn't kept yet, with these sets and this signature.
+    fn push(&mut self, key: Key, sets: NodeSets, sign: usize) -> Result<Id, StoreFault>
         requires absent { get ⟦<Key as PartialEq>⟧.eq self.old.nodes key ≡ None }
         requires op { key.op < length self.old.ops.keys }
         requires known { All (IsId (trees_of self.old.ops.keys self.old.nodes.entries)) key.kids }
         requires fits { Fits (op_at self.old.ops.keys key.op) (sorts_at (trees_of self.old.ops.keys self.old.nodes.entries) key.kids) }
         requires sets { MeanSets self.old.sets sets (sets_of (node (op_at self.old.ops.keys key.op) (kid_trees (trees_of self.old.ops.keys self.old.nodes.entries) key.kids))) }
+        requires sign { Signs self.old.signs sign (λ s. occurs s (node (op_at self.old.ops.keys key.op) (kid_trees (trees_of self.old.ops.keys self.old.nodes.entries) key.kids))) }
         ensures made { IfOk result (λ id. StandsFor (trees_of self.new.ops.keys self.new.nodes.entries) id (node (op_at self.old.ops.keys key.op) (kid_trees (trees_of self.old.ops.keys self.old.nodes.entries) key.kids))) }
         ensures grows { Keeps (trees_of self.old.ops.keys self.old.nodes.entries) (trees_of self.new.ops.keys self.new.nodes.entries) }
     {
-        let facts = self.facts_over(&self.ops.as_slice()[key.op], key.kids.as_slice(), sets);
+        let facts = self.facts_over(
+            &self.ops.as_slice()[key.op],
+            key.kids.as_slice(),
+            sets,
+            sign,
+        );
         let id = Id(self.nodes.len());
         self.nodes.insert(key, facts)?;
         Ok(id)
@@ -335,6 +381,30 @@ impl SharedStore {
     {
         match self.sets.list(alloc, self.facts(id).sets.of(which)) {
             Ok(listing) => Ok(listing),
+            Err(VarFault::Memory) => Err(StoreFault::Memory),
+        }
+    }
+
+    /// Whether the symbol occurs in the tree, with this kind, name, arity and taboo.
+    pub fn mentions(&self, id: Id, s: &Sym) -> bool
+        requires { IsId (trees_of self.now.ops.keys self.now.nodes.entries) id }
+        ensures { result ≡ occurs s.now (tree (trees_of self.now.ops.keys self.now.nodes.entries) id) }
+    {
+        self.signs.has(self.facts(id).sign, s)
+    }
+
+    /// The symbols that occur in the tree, in order of kind, name, arity and taboo, no taboo first; there is one such list
+    /// (`one_signature`).
+    ///
+    /// # Errors
+    ///
+    /// `Memory` alone.
+    pub fn symbols(&self, alloc: Global, id: Id) -> Result<Vec<Sym>, StoreFault>
+        requires { IsId (trees_of self.now.ops.keys self.now.nodes.entries) id }
+        ensures { IfOk result (λ syms. IsSignature (tree (trees_of self.now.ops.keys self.now.nodes.entries) id) syms.items) }
+    {
+        match self.signs.list(alloc, self.facts(id).sign) {
+            Ok(syms) => Ok(syms),
             Err(VarFault::Memory) => Err(StoreFault::Memory),
         }
     }

@@ -20,7 +20,7 @@ invariant_of-self-clause-facts c =
     let s = c.args.self.now in
     let tried = c.insert_full.ensures in
     let keeps = tried_keeps OpEq.ghosts.eq s.ops.keys c.args.op c.insert_full.result c.insert_full.new.self.keys tried.keys tried.err in
-    subst (λ rows. EachIs (IsFactsOf s.sets) (trees_of_rows rows) s.nodes.entries) (sym (rows_kept keeps s.nodes.entries s.sound.known)) s.facts
+    subst (λ rows. EachIs (IsFactsOf s.sets s.signs) (trees_of_rows rows) s.nodes.entries) (sym (rows_kept keeps s.nodes.entries s.sound.known)) s.facts
 
 pub returns-clause-op : goal.returns-clause-op
 returns-clause-op c =

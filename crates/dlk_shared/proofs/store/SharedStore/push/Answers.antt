@@ -31,8 +31,8 @@ invariant_of-self-clause-facts c =
     let op : c.index-as_slice-key.result ≡ op_at s.ops.keys c.args.key.op =
     c.index-as_slice-key.is ∙ ap (λ l. get_or l c.args.key.op c.index-as_slice-key.result) c.as_slice.ensures.keys
     ∙ get_or_default s.ops.keys c.args.key.op c.index-as_slice-key.result True c.requires.op in
-    let here = subst (λ t. IsFactsOf s.sets t f) (λ i. node (op i) (kid_trees trees (c.as_slice-2.ensures i))) c.facts_over-facts.ensures in
-    tried_facts s.ops.keys s.nodes.entries c.args.key f (IsFactsOf s.sets) s.facts here
+    let here = subst (λ t. IsFactsOf s.sets s.signs t f) (λ i. node (op i) (kid_trees trees (c.as_slice-2.ensures i))) c.facts_over-facts.ensures in
+    tried_facts s.ops.keys s.nodes.entries c.args.key f (IsFactsOf s.sets s.signs) s.facts here
     c.insert.result c.insert.new.self.entries (on_ok c.insert.result _ _ _ c.insert.ensures.entries new) c.insert.ensures.err
 
 pub returns-clause-made : goal.returns-clause-made
