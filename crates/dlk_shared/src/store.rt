@@ -22,7 +22,7 @@ use crate::kids::Kids;
 use crate::node::{Facts, Key, NodeSets, dot_bit, is_hole};
 use crate::sets::SetTable;
 use crate::signs::SignTable;
-use dlk_store::{Id, Listing, Node, Steps, StoreFault, Which};
+use dlk_store::{Id, Listing, Node, Steps, Store, StoreFault, Which};
 use dlk_tree::{Op, Sym, Var};
 use dlk_vars::VarFault;
 use indexmap::{IndexMap, IndexSet};
@@ -45,7 +45,7 @@ pub struct SharedStore {
 impl SharedStore {
     /// A store without nodes.
     pub fn new(alloc: Global) -> SharedStore
-        ensures { trees_of result.ops.keys result.nodes.entries ≡ [] }
+        ensures { ⟦<SharedStore as Store>⟧.trees result ≡ [] }
     {
         SharedStore {
             ops: IndexSet::new(alloc),
@@ -250,18 +250,34 @@ impl SharedStore {
         self.nodes.insert(key, facts)?;
         Ok(id)
     }
+}
 
-    /// An id of the tree with this operator and these kids, the one that it has. Where the node is there, nothing is kept.
-    ///
-    /// # Errors
-    ///
-    /// `Memory` alone; every id is as it was then.
-    pub fn make(&mut self, alloc: Global, op: Op, kids: &[Id]) -> Result<Id, StoreFault>
-        requires known { All (IsId (trees_of self.old.ops.keys self.old.nodes.entries)) kids.now }
-        requires fits { Fits op (sorts_at (trees_of self.old.ops.keys self.old.nodes.entries) kids.now) }
-        ensures made { IfOk result (λ id. StandsFor (trees_of self.new.ops.keys self.new.nodes.entries) id (node op (kid_trees (trees_of self.old.ops.keys self.old.nodes.entries) kids.now))) }
-        ensures grows { Keeps (trees_of self.old.ops.keys self.old.nodes.entries) (trees_of self.new.ops.keys self.new.nodes.entries) }
-    {
+impl Store for SharedStore {
+    ghost use Rattle.dlk_shared.specs.Nodes.{trees_of};
+    ghost use Rattle.dlk_shared.specs.Sound.{nodes_made};
+    ghost use Rattle.dlk_shared.specs.Unique.{nodes_one_id};
+    ghost use Rattle.dlk_store.specs.Stores.{Keeps};
+    ghost use Rattle.dlk_store.proofs.Kids.{Keeps-refl, Keeps-trans};
+    ghost use Rattle.std.specs.Prelude.{true};
+
+    ghost trees = { λ s. trees_of s.ops.keys s.nodes.entries };
+
+    ghost unique = { true };
+
+    ghost grows = { λ a b. Keeps (trees_of a.ops.keys a.nodes.entries) (trees_of b.ops.keys b.nodes.entries) };
+
+    ghost grows_refl = { λ a. Keeps-refl (trees_of a.ops.keys a.nodes.entries) };
+
+    ghost grows_trans = { λ a b c p q. Keeps-trans p q };
+
+    ghost grows_keeps = { λ a b p. p };
+
+    ghost one_id = { λ h s. nodes_one_id s.ops.keys s.nodes.entries s.ops_apart s.nodes_apart s.sound };
+
+    ghost well_made = { λ s. nodes_made s.ops.keys s.nodes.entries s.sound };
+
+    /// Where the node is there, its id is given and nothing is kept. Else its variables and symbols are numbered first.
+    fn make(&mut self, alloc: Global, op: Op, kids: &[Id]) -> Result<Id, StoreFault> {
         let kids = Kids::new(alloc, kids)?;
         let op = self.number(op)?;
         let key = Key { op, kids };
@@ -271,13 +287,7 @@ impl SharedStore {
         }
     }
 
-    /// The root of the tree, in one step.
-    pub fn look<L: Ledger>(&self, id: Id, steps: &mut Steps<L>) -> Node<'_>
-        requires { IsId (trees_of self.now.ops.keys self.now.nodes.entries) id }
-        ensures node { tree (trees_of self.now.ops.keys self.now.nodes.entries) id ≡ node result.op.now (kid_trees (trees_of self.now.ops.keys self.now.nodes.entries) result.kids.now) }
-        ensures known { All (IsId (trees_of self.now.ops.keys self.now.nodes.entries)) result.kids.now }
-        ensures step { steps.new ≡ steps.old + 1 }
-    {
+    fn look<L: Ledger>(&self, id: Id, steps: &mut Steps<L>) -> Node<'_> {
         steps.tick();
         let key = self.key(id);
         Node {
@@ -286,123 +296,60 @@ impl SharedStore {
         }
     }
 
-    /// Whether the two trees are equal: whether the two ids are.
-    pub fn same(&self, a: Id, b: Id) -> bool
-        requires first { IsId (trees_of self.now.ops.keys self.now.nodes.entries) a }
-        requires second { IsId (trees_of self.now.ops.keys self.now.nodes.entries) b }
-        ensures { IsTrue result ↔ (tree (trees_of self.now.ops.keys self.now.nodes.entries) a ≡ tree (trees_of self.now.ops.keys self.now.nodes.entries) b) }
-    {
+    fn same(&self, a: Id, b: Id) -> bool {
         a == b
     }
 
-    /// The number of nodes, at most the greatest `u32`.
-    pub fn size(&self, id: Id) -> u32
-        requires { IsId (trees_of self.now.ops.keys self.now.nodes.entries) id }
-        ensures { result ≡ min (size (tree (trees_of self.now.ops.keys self.now.nodes.entries) id)) (2 ^ 32 - 1) }
-    {
+    fn size(&self, id: Id) -> u32 {
         self.facts(id).size
     }
 
-    /// The depth, at most the greatest `u32`.
-    pub fn depth(&self, id: Id) -> u32
-        requires { IsId (trees_of self.now.ops.keys self.now.nodes.entries) id }
-        ensures { result ≡ min (depth (tree (trees_of self.now.ops.keys self.now.nodes.entries) id)) (2 ^ 32 - 1) }
-    {
+    fn depth(&self, id: Id) -> u32 {
         self.facts(id).depth
     }
 
-    /// Whether the argument dot of this number stands in the tree.
-    pub fn has_dot(&self, id: Id, n: u8) -> bool
-        requires { IsId (trees_of self.now.ops.keys self.now.nodes.entries) id }
-        ensures { result ≡ has_dot n (tree (trees_of self.now.ops.keys self.now.nodes.entries) id) }
-    {
+    fn has_dot(&self, id: Id, n: u8) -> bool {
         let dots = self.facts(id).dots;
         n < 8 && (dots >> n) & 1 == 1
     }
 
-    /// Whether `_` stands in the tree.
-    pub fn has_hole(&self, id: Id) -> bool
-        requires { IsId (trees_of self.now.ops.keys self.now.nodes.entries) id }
-        ensures { result ≡ has_hole (tree (trees_of self.now.ops.keys self.now.nodes.entries) id) }
-    {
+    fn has_hole(&self, id: Id) -> bool {
         self.facts(id).hole
     }
 
-    /// Whether the variable is free in the tree: the tree reads it.
-    pub fn frees(&self, id: Id, v: &Var) -> bool
-        requires { IsId (trees_of self.now.ops.keys self.now.nodes.entries) id }
-        ensures { result ≡ free (tree (trees_of self.now.ops.keys self.now.nodes.entries) id) v.now }
-    {
+    fn frees(&self, id: Id, v: &Var) -> bool {
         self.sets.has(self.facts(id).sets.free, v)
     }
 
-    /// Whether the variable is bound in the tree: the tree may change it.
-    pub fn binds(&self, id: Id, v: &Var) -> bool
-        requires { IsId (trees_of self.now.ops.keys self.now.nodes.entries) id }
-        ensures { result ≡ bound (tree (trees_of self.now.ops.keys self.now.nodes.entries) id) v.now }
-    {
+    fn binds(&self, id: Id, v: &Var) -> bool {
         self.sets.has(self.facts(id).sets.bound, v)
     }
 
-    /// Whether the variable is must-bound in the program: each run changes it. False for a term and a formula.
-    pub fn must(&self, id: Id, v: &Var) -> bool
-        requires { IsId (trees_of self.now.ops.keys self.now.nodes.entries) id }
-        ensures { result ≡ must (tree (trees_of self.now.ops.keys self.now.nodes.entries) id) v.now }
-    {
+    fn must(&self, id: Id, v: &Var) -> bool {
         self.sets.has(self.facts(id).sets.must, v)
     }
 
-    /// Whether some variable is free in the tree.
-    pub fn any_free(&self, id: Id) -> bool
-        requires { IsId (trees_of self.now.ops.keys self.now.nodes.entries) id }
-        ensures { IsTrue result ↔ IsInhabited (free (tree (trees_of self.now.ops.keys self.now.nodes.entries) id)) }
-    {
+    fn any_free(&self, id: Id) -> bool {
         self.sets.has_any(self.facts(id).sets.free)
     }
 
-    /// Whether some variable is free in `e` and bound in `a`.
-    pub fn free_meets_bound(&self, e: Id, a: Id) -> bool
-        requires first { IsId (trees_of self.now.ops.keys self.now.nodes.entries) e }
-        requires second { IsId (trees_of self.now.ops.keys self.now.nodes.entries) a }
-        ensures { IsTrue result ↔ IsInhabited (both (free (tree (trees_of self.now.ops.keys self.now.nodes.entries) e)) (bound (tree (trees_of self.now.ops.keys self.now.nodes.entries) a))) }
-    {
+    fn free_meets_bound(&self, e: Id, a: Id) -> bool {
         self.sets
             .meet(self.facts(e).sets.free, self.facts(a).sets.bound)
     }
 
-    /// One of the three sets of the tree, listed; there is one listing of it (`one_listing`).
-    ///
-    /// # Errors
-    ///
-    /// `Memory` alone.
-    pub fn list(&self, alloc: Global, id: Id, which: Which) -> Result<Listing, StoreFault>
-        requires { IsId (trees_of self.now.ops.keys self.now.nodes.entries) id }
-        ensures { IfOk result (IsListingOf (set_of which (tree (trees_of self.now.ops.keys self.now.nodes.entries) id))) }
-    {
+    fn list(&self, alloc: Global, id: Id, which: Which) -> Result<Listing, StoreFault> {
         match self.sets.list(alloc, self.facts(id).sets.of(which)) {
             Ok(listing) => Ok(listing),
             Err(VarFault::Memory) => Err(StoreFault::Memory),
         }
     }
 
-    /// Whether the symbol occurs in the tree, with this kind, name, arity and taboo.
-    pub fn mentions(&self, id: Id, s: &Sym) -> bool
-        requires { IsId (trees_of self.now.ops.keys self.now.nodes.entries) id }
-        ensures { result ≡ occurs s.now (tree (trees_of self.now.ops.keys self.now.nodes.entries) id) }
-    {
+    fn mentions(&self, id: Id, s: &Sym) -> bool {
         self.signs.has(self.facts(id).sign, s)
     }
 
-    /// The symbols that occur in the tree, in order of kind, name, arity and taboo, no taboo first; there is one such list
-    /// (`one_signature`).
-    ///
-    /// # Errors
-    ///
-    /// `Memory` alone.
-    pub fn symbols(&self, alloc: Global, id: Id) -> Result<Vec<Sym>, StoreFault>
-        requires { IsId (trees_of self.now.ops.keys self.now.nodes.entries) id }
-        ensures { IfOk result (λ syms. IsSignature (tree (trees_of self.now.ops.keys self.now.nodes.entries) id) syms.items) }
-    {
+    fn symbols(&self, alloc: Global, id: Id) -> Result<Vec<Sym>, StoreFault> {
         match self.signs.list(alloc, self.facts(id).sign) {
             Ok(syms) => Ok(syms),
             Err(VarFault::Memory) => Err(StoreFault::Memory),

@@ -1,17 +1,16 @@
 ghost use Rattle.std.specs.Prelude.{IfOk};
-ghost use Rattle.dlk_store.specs.Stores.{IsId, Keeps};
-ghost use Rattle.dlk_shared.specs.Nodes.{trees_of};
+ghost use Rattle.dlk_store.specs.Stores.{IsId};
 
 use crate::SharedStore;
-use dlk_store::{Id, StoreFault};
+use dlk_store::{Id, Store, StoreFault};
 use dlk_tree::Op;
 use std::alloc::Global;
 use std::test::Fail;
 
 /// `true & !true`.
 fn conjunction(alloc: Global, store: &mut SharedStore) -> Result<Id, StoreFault>
-    ensures known { IfOk result (IsId (trees_of store.new.ops.keys store.new.nodes.entries)) }
-    ensures grows { Keeps (trees_of store.old.ops.keys store.old.nodes.entries) (trees_of store.new.ops.keys store.new.nodes.entries) }
+    ensures known { IfOk result (IsId (⟦<SharedStore as Store>⟧.trees store.new)) }
+    ensures grows { ⟦<SharedStore as Store>⟧.grows store.old store.new }
 {
     let t = store.make(alloc, Op::True, &[])?;
     let not = store.make(alloc, Op::Not, &[t])?;

@@ -5,7 +5,7 @@ use Rattle.dlk_shared.specs.Rows.{tree_of}
 use Rattle.dlk_shared.specs.Nodes.{row_of, trees_of}
 use Rattle.dlk_shared.specs.declared.node.Key.{Key}
 use Rattle.dlk_shared.proofs.Found.{found_stands}
-use Rattle.dlk_shared.proofs.store.SharedStore.make.Goals as goal
+use Rattle.dlk_shared.proofs.store.SharedStoreStore.make.Goals as goal
 
 pub returns-in-Some-clause-made : goal.returns-in-Some-clause-made
 returns-in-Some-clause-made c =

@@ -1,6 +1,6 @@
 use Rattle.std.proofs.Common.{◌≡◌, ◌<◌, ◌^◌, ◌==◌, false, nat_lt, sym, ap, ◌∙◌, arith, rules}
 use Rattle.std.proofs.lemmas.Nat.Bits.{bit_at_above}
-use Rattle.dlk_shared.proofs.store.SharedStore.has_dot.Goals as goal
+use Rattle.dlk_shared.proofs.store.SharedStoreStore.has_dot.Goals as goal
 
 pub returns-else-n-lt8 : goal.returns-else-n-lt8
 returns-else-n-lt8 c =

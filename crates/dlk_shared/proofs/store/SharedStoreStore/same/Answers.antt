@@ -3,7 +3,7 @@ use Rattle.dlk_store.specs.Stores.{tree}
 use Rattle.dlk_store.specs.declared.Id.{Id}
 use Rattle.dlk_shared.specs.Nodes.{trees_of}
 use Rattle.dlk_shared.specs.Unique.{nodes_one_id}
-use Rattle.dlk_shared.proofs.store.SharedStore.same.Goals as goal
+use Rattle.dlk_shared.proofs.store.SharedStoreStore.same.Goals as goal
 
 pub returns : goal.returns
 returns c =
