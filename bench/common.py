@@ -8,9 +8,9 @@ TOP = pathlib.Path(__file__).resolve().parent.parent
 PROGRAM = TOP / "crates" / "dlk" / "out" / "dlk"
 
 
-def answer(*words):
+def answer(*words, program=PROGRAM):
     """What the program answers to these words: the run, with its status and what it printed."""
-    return subprocess.run([PROGRAM, *words], capture_output=True, check=False)
+    return subprocess.run([program, *words], capture_output=True, check=False)
 
 
 def spent_by_children():
@@ -19,21 +19,21 @@ def spent_by_children():
     return usage.ru_utime + usage.ru_stime
 
 
-def least(clock, runs, words, accepts):
+def least(clock, runs, words, accepts, program=PROGRAM):
     """The least time of some runs by a clock. Each answer must be accepted."""
     best = float("inf")
     for _ in range(runs):
         begin = clock()
-        run = answer(*words)
+        run = answer(*words, program=program)
         best = min(best, clock() - begin)
         if not accepts(run):
             raise SystemExit(f"{words}: status {run.returncode}, {run.stdout[:200]!r}")
     return best
 
 
-def least_processor_time(runs, words, accepts):
+def least_processor_time(runs, words, accepts, program=PROGRAM):
     """The least processor time of some runs."""
-    return least(spent_by_children, runs, words, accepts)
+    return least(spent_by_children, runs, words, accepts, program)
 
 
 def least_time(runs, words, accepts):

@@ -2,6 +2,7 @@ pub mod Asked
 pub mod Cut
 pub mod Answered
 pub mod OneAnswer
+pub mod SomeAnswer
 pub mod Given
 pub mod Ran
 pub mod Truly

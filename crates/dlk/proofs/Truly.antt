@@ -72,7 +72,7 @@ module _ (model term said : List ℕ) (status : ℕ) where
   refused_fault n (BadByte at) h = not_refused n _ _ h
   refused_fault n (Unread (Literal at)) h = not_refused n _ _ h
   refused_fault n (Unread (Nesting at)) h = not_refused n _ _ h
-  refused_fault n (Unread Syntax) h = not_refused n _ _ h
+  refused_fault n (Unread (Syntax at)) h = not_refused n _ _ h
   refused_fault n (Unread (Shape at)) h = not_refused n _ _ h
   refused_fault n (Unread (TooBig size)) h = not_refused n _ _ h
   refused_fault n (Unread (TooDeep depth)) h = not_refused n _ _ h

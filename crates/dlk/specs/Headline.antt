@@ -34,7 +34,7 @@ pub data IsGiven (whole : List ℕ) : ℕ → List ℕ → Type 0 where
 pub record IsDerived (model term : List ℕ) (status : ℕ) (said : List ℕ) : Type 0 where
   pub formula : Tree
   pub reads : ModelText model formula
-  -- the last of the rows that the lines of the term give
+  -- the rows that the lines of the term give, and the last of them
   pub rows : List Provable
   pub proof : Provable
   pub accepts : Accepts term rows proof

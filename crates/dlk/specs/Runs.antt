@@ -39,7 +39,7 @@ pub record StartsNoWrite (tells : Type 0) (old new : Outside) : Type 0 where
   pub files : tells → SameFiles old.files new.files
 
 -- On every desk: without an output, and where an input is refused, no write is started. With a read fault or for want of memory nothing is
--- printed either, and no count of write faults has risen.
+-- printed either, and the count of write faults hasn't risen.
 pub record Keeps (tells : Type 0) (words : List Word) (status : ℕ) (old new : Outside) : Type 0 where
   pub no_output : IsNone (output words) → StartsNoWrite tells old new
   pub refused : status ≡ 2 → StartsNoWrite tells old new

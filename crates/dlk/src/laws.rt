@@ -1,11 +1,17 @@
 //! The laws of the program's answers. Each is a contract of a function that does nothing.
-ghost use Rattle.std.specs.Prelude.{◌≡◌, ℕ, List};
+ghost use Rattle.std.specs.Prelude.{◌≡◌, List, IsSome};
 ghost use Rattle.dlk_desk.specs.Outside.{Files};
 ghost use Rattle.dlk_answers.specs.Forms.{Word};
+ghost use Rattle.dlk_answers.specs.Inputs.{inputs};
 ghost use Rattle.dlk_answers.specs.Replies.{Reply as TheReply};
-ghost use Rattle.dlk.specs.Answers.{Answers};
+ghost use Rattle.dlk.specs.Answers.{bytes_of, Answers};
 
 /// There is one answer to words and files.
 pub fn one_reply()
     ensures { (words : List Word) (files : Files) (one other : TheReply) → Answers words files one → Answers words files other → one ≡ other }
+{}
+
+/// Where each input is there, something is answered to words and files.
+pub fn some_reply()
+    ensures { (words : List Word) (files : Files) → IsSome (bytes_of files (inputs words)) → (reply : TheReply) × Answers words files reply }
 {}

@@ -64,7 +64,7 @@ fn runs_each_command(rt: HostRuntime) -> Result<(), Fail> {
         (
             &["subst", "model", "model"].as_slice(),
             2,
-            "refused: subst: syntax\n",
+            "refused: subst at 1: syntax\n",
         ),
     ] {
         let mut desk = desk_of(alloc, b"x>=0", b"1 start ==> x>=0\ndone\n", 7, &[])?;

@@ -31,7 +31,7 @@ text_carried_out : (role : Role) (why : TextFault) → IsCarriedOut (text_refuse
 text_carried_out role (BadByte at) = printed_only _ _ (omega arith)
 text_carried_out role (Unread (Literal at)) = printed_only _ _ (omega arith)
 text_carried_out role (Unread (Nesting at)) = printed_only _ _ (omega arith)
-text_carried_out role (Unread Syntax) = printed_only _ _ (omega arith)
+text_carried_out role (Unread (Syntax at)) = printed_only _ _ (omega arith)
 text_carried_out role (Unread (Shape at)) = printed_only _ _ (omega arith)
 text_carried_out role (Unread (TooBig size)) = printed_only _ _ (omega arith)
 text_carried_out role (Unread (TooDeep depth)) = printed_only _ _ (omega arith)

@@ -23,15 +23,23 @@ conclusion_text a b c number expected found p q r s t p_is q_is r_is s_is t_is =
     t_is ∙ ap (λ x. x ++ 10 ∷ []) (s_is ∙ ap (λ x. x ++ found) (r_is ∙ ap (λ x. x ++ 10 ∷ c) (q_is ∙ ap (λ x. x ++ expected) p_is)))
     ∙ three_lines a b c number expected found (10 ∷ [])
 
+-- the pieces before the first conclusion
+first_pieces : (a number b none one two p : List ℕ) → none ≡ [] → one ≡ none ++ a → two ≡ one ++ number → p ≡ two ++ b → p ≡ a ++ (number ++ b)
+first_pieces a number b none one two p none_is one_is two_is p_is =
+    p_is ∙ ap (λ x. x ++ b) (two_is ∙ ap (λ x. x ++ number) (one_is ∙ ap (λ x. x ++ a) none_is)) ∙ append_assoc a number b
+
 -- the sequent of one formula on the right, by ids
 pub proved_at : (trees : List Tree) (f : Id) (s : Sequent) → s ≡ record { ante = []; succ = f ∷ [] } →
     spell (shown_sequent (sequent_at trees s)) ≡ spell (shown_sequent (proves (tree trees f)))
 proved_at trees f s e = ap (λ x. spell (shown_sequent (sequent_at trees x))) e
 
-pub conclusion_reply : (lines : ℕ) (f : Tree) (found : TreeSequent) (expected p q r s t : List ℕ) → expected ≡ spell (shown_sequent (proves f)) →
-    p ≡ codes "refused: other-conclusion " ++ (decimal lines ++ codes "\nexpected ") →
+pub conclusion_reply : (lines : ℕ) (f : Tree) (found : TreeSequent) (expected none one two p q r s t : List ℕ) → expected ≡ spell (shown_sequent (proves f)) →
+    none ≡ [] → one ≡ none ++ codes "refused: other-conclusion " → two ≡ one ++ decimal lines → p ≡ two ++ codes "\nexpected " →
     q ≡ p ++ expected → r ≡ q ++ codes "\nfound " → s ≡ r ++ spell (shown_sequent found) → t ≡ s ++ 10 ∷ [] →
     printing Refused t ≡ other_conclusion lines f found
-conclusion_reply lines f found expected p q r s t e p_is q_is r_is s_is t_is =
+conclusion_reply lines f found expected none one two p q r s t e none_is one_is two_is p_is q_is r_is s_is t_is =
     ap (printing Refused)
-    (conclusion_text (codes "refused: other-conclusion ") (codes "expected ") (codes "found ") (decimal lines) (spell (shown_sequent (proves f))) (spell (shown_sequent found)) p q r s t p_is (q_is ∙ ap (λ x. p ++ x) e) r_is s_is t_is)
+    (conclusion_text (codes "refused: other-conclusion ") (codes "expected ") (codes "found ") (decimal lines) (spell (shown_sequent (proves f)))
+    (spell (shown_sequent found)) p q r s t
+    (first_pieces (codes "refused: other-conclusion ") (decimal lines) (codes "\nexpected ") none one two p none_is one_is two_is p_is)
+    (q_is ∙ ap (λ x. p ++ x) e) r_is s_is t_is)

@@ -5,7 +5,7 @@ use Rattle.std.proofs.lemmas.List.{length-map, take-map}
 use Rattle.std.specs.List.{drop-map}
 use Rattle.std.proofs.lemmas.Bool.{and_parts, leb-true, le-leb}
 use Rattle.std.specs.declared.alloc.Global.{Global}
-use Rattle.dlk_answers.specs.Forms.{Word, Form, form_of, ends_in, has_form, limits_of, inputs_of, command_of, commands, limit_of}
+use Rattle.dlk_answers.specs.Forms.{Word, Form, form_of, ends_in, has_form, limits_of, inputs_of, others_of, command_of, commands, limit_of}
 use Rattle.dlk_answers.specs.Inputs.{first_too_long}
 use Rattle.dlk_answers.specs.Shown.{form_shown}
 use Rattle.dlk_answers.specs.declared.command.Command.{Command}
@@ -38,6 +38,10 @@ behind_command words command h = behind words (form_of command) (found_passes (�
 
 pub long_enough : (words : List (List ℕ)) (command : Command) → command_of words ≡ Some command → 1 + length (form_of command).inputs ≤ length words
 long_enough words command h = (behind_command words command h).room
+
+-- and the words behind the inputs are those of the form
+pub others_end : (words : List (List ℕ)) (command : Command) → command_of words ≡ Some command → IsTrue (ends_in (form_of command).last (others_of command words))
+others_end words command h = (behind_command words command h).ends
 
 -- there is room for the inputs after the verb
 pub room : (words : List (String Global)) (command : Command) (n : ℕ) → n ≡ length (form_of command).inputs → command_of (map string_bytes words) ≡ Some command → 1 + n ≤ length words

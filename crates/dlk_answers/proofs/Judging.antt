@@ -1,9 +1,9 @@
 -- From what replaying and judging answer to what `check` and `report` answer.
-use Rattle.std.proofs.Common.{◌≡◌, ◌≤◌, ℕ, ◌+◌, List, [], ◌∷◌, ◌++◌, length, map, get_or, ◌-◌, Option, Some, IfSome, refl, sym, ap, ◌∙◌, subst, inl, inr, arith}
+use Rattle.std.proofs.Common.{◌≡◌, ◌≤◌, ℕ, ◌+◌, List, [], ◌∷◌, ◌++◌, length, map, get_or, ◌-◌, refl, sym, ap, ◌∙◌, subst, inl, inr, arith}
 use Rattle.std.proofs.lemmas.List.{length_push, length-map}
 use Rattle.std.proofs.Math.Seq.{get_or-append_seam}
 use Rattle.dlk_tree.specs.Trees.{Tree}
-use Rattle.dlk_calculus.specs.Places.{at}
+use Rattle.dlk_calculus.specs.Places.{At}
 use Rattle.dlk_calculus.specs.Provables.{Provable}
 use Rattle.dlk_calculus.proofs.PlaceLaws.{At_read}
 use Rattle.dlk_kernel.specs.declared.row.Row.{Row}
@@ -31,7 +31,7 @@ ended (x ∷ y ∷ items) some =
     let rest = ended (y ∷ items) (omega arith) in
     record { before = x ∷ rest.before; last = rest.last; is = ap (λ xs. x ∷ xs) rest.is }
 
-last_item : {A : Type 0} (items before : List A) (x : A) → items ≡ before ++ x ∷ [] → at items (length items) ≡ Some x
+last_item : {A : Type 0} (items before : List A) (x : A) → items ≡ before ++ x ∷ [] → At items (length items) x
 last_item items before x is =
     let count : length items ≡ length before + 1 = ap length is ∙ length_push before x in
     let place : length items - 1 ≡ length before = omega (arith, count) in
@@ -43,20 +43,20 @@ module _ (layout : Layout) (model term : List ℕ) (f : Tree) (reads : ModelText
   by_end before p reply is (inl same) = subst (λ (r : Reply). Checks layout model term r) (sym same.1) (reports f reads rows p (record { before = before; last = is; line = line; verdict = verdict }) same.0)
   by_end before p reply is (inr other) = subst (λ (r : Reply). Checks layout model term r) (sym other.1) (bad_conclusion f reads rows p (record { before = before; last = is; line = line; verdict = verdict }) other.0)
 
-  pub end_answer : (reply : Reply) → 1 ≤ length rows → IfSome (at rows (length rows)) (judged layout f (length rows) line reply) → Checks layout model term reply
+  pub end_answer : (reply : Reply) → 1 ≤ length rows → ((p : Provable) → At rows (length rows) p → judged layout f (length rows) line reply p) →
+      Checks layout model term reply
   end_answer reply some says =
       let end = ended rows some in
-      by_end end.before end.last reply end.is (subst (λ (o : Option Provable). IfSome o (judged layout f (length rows) line reply)) (last_item rows end.before end.last end.is) says)
+      by_end end.before end.last reply end.is (says end.last (last_item rows end.before end.last end.is))
 
 -- the same by the rows that the provables are of
 pub judged_answer : (layout : Layout) (model term : List ℕ) (f g : Tree) → ModelText model f → g ≡ f → (rows : List Row) (stands : Row → Provable) (line : ℕ) →
     Verdict (file_lines term) (accepted (map stands rows) line) → 1 ≤ length rows → (fact lines : ℕ) → fact ≡ length rows → lines ≡ length rows → (reply : Reply) →
-    IfSome (at (map stands rows) fact) (judged layout g lines line reply) → Checks layout model term reply
+    ((p : Provable) → At (map stands rows) fact p → judged layout g lines line reply p) → Checks layout model term reply
 judged_answer layout model term f g reads same rows stands line verdict some fact lines fact_is lines_is reply says =
     let count = length-map rows stands in
-    let f_says : IfSome (at (map stands rows) fact) (judged layout f lines line reply) = subst (λ (t : Tree). IfSome (at (map stands rows) fact) (judged layout t lines line reply)) same says in
-    let here : IfSome (at (map stands rows) (length (map stands rows))) (judged layout f lines line reply) =
-    subst (λ (n : ℕ). IfSome (at (map stands rows) n) (judged layout f lines line reply)) (fact_is ∙ sym count) f_says in
-    let there : IfSome (at (map stands rows) (length (map stands rows))) (judged layout f (length (map stands rows)) line reply) =
-    subst (λ (n : ℕ). IfSome (at (map stands rows) (length (map stands rows))) (judged layout f n line reply)) (lines_is ∙ sym count) here in
+    let there : (p : Provable) → At (map stands rows) (length (map stands rows)) p → judged layout f (length (map stands rows)) line reply p =
+    λ p at. subst (λ (t : Tree). judged layout t (length (map stands rows)) line reply p) same
+    (subst (λ (n : ℕ). judged layout g n line reply p) (lines_is ∙ sym count)
+    (says p (subst (λ (n : ℕ). At (map stands rows) n p) (count ∙ sym fact_is) at))) in
     end_answer layout model term f reads (map stands rows) line verdict reply (rw count some) there

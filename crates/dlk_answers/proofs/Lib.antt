@@ -7,5 +7,7 @@ pub mod ListAnswers
 pub mod SubstAnswers
 pub mod OneSubstitution
 pub mod OneReply
+pub mod SomeListing
+pub mod SomeReply
 pub mod ConclusionText
 pub mod Judging

@@ -1,5 +1,5 @@
 -- There is one answer to words and texts.
-use Rattle.std.proofs.Common.{◌≡◌, ℕ, List, [], ◌∷◌, ◌++◌, length, Bool, None, Some, refl, sym, ap, ◌∙◌, subst}
+use Rattle.std.proofs.Common.{◌≡◌, ℕ, List, [], ◌∷◌, ◌++◌, length, Bool, None, Some, sym, ap, ◌∙◌, subst}
 use Rattle.dlk_tree.specs.Trees.{Tree}
 use Rattle.dlk_tree.specs.Statics.{free, bound, must}
 use Rattle.dlk_tree.specs.declared.op.Var.{Var}

@@ -19,8 +19,9 @@ module _ (role : Role) (IsFault : TextFault → Type 0) (IsAnswer : Reply → Ty
   text_answer (text_fault.BadByte at) reply fault is = by_fault (BadByte at) reply fault is
   text_answer (text_fault.Unread (parse.Literal at)) reply fault is = by_fault (Unread (Literal at)) reply fault is
   text_answer (text_fault.Unread (parse.Nesting at)) reply fault is = by_fault (Unread (Nesting at)) reply fault is
-  text_answer (text_fault.Unread parse.Syntax) reply fault is = by_fault (Unread Syntax) reply fault is
+  text_answer (text_fault.Unread (parse.Syntax at)) reply fault is = by_fault (Unread (Syntax at)) reply fault is
   text_answer (text_fault.Unread (parse.Shape at)) reply fault is = by_fault (Unread (Shape at)) reply fault is
   text_answer (text_fault.Unread (parse.TooBig size)) reply fault is = by_fault (Unread (TooBig size)) reply fault is
   text_answer (text_fault.Unread (parse.TooDeep depth)) reply fault is = by_fault (Unread (TooDeep depth)) reply fault is
   text_answer (text_fault.Unread parse.Memory) reply fault is = absurd is
+  text_answer text_fault.Memory reply fault is = absurd is

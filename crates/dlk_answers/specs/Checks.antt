@@ -1,17 +1,14 @@
 -- What `check` and `report` answer to a model and a term.
 use Rattle.std.specs.Prelude.{◌≡◌, ◌≢◌, ℕ, Bool, true, false, List, [], ◌∷◌, ◌++◌, length, codes, decimal}
 use Rattle.dlk_tree.specs.Trees.{Tree}
-use Rattle.dlk_calculus.specs.declared.reason.Reason.{Reason}
-use Rattle.dlk_calculus.specs.declared.reason.Reason.TheVariants.{NoFact, NoGoal, UnknownName, NoPlace, WrongShape, NotEqual, NotFresh, NotArith, IllSubst, FreeInSubst, NotAdmissible, TooBig, TooDeep, SideFull, GoalsFull, LeavesFull, LinesFull}
 use Rattle.dlk_calculus.specs.Sequents.{Sequent}
 use Rattle.dlk_calculus.specs.Provables.{Provable}
 use Rattle.dlk_grammar.specs.declared.token.Dots.TheVariants as dots
 use Rattle.dlk_grammar.specs.declared.token.Form.TheVariants as form
 use Rattle.dlk_grammar.specs.Texts.{TreeText, TreeTextFault, TextFault}
 use Rattle.dlk_grammar.specs.Shown.{spell, shown_sequent}
-use Rattle.dlk_replay.specs.Files.{Verdict, accepted, bad, file_lines}
+use Rattle.dlk_replay.specs.Files.{Verdict, accepted, bad, file_lines, line_why_text}
 use Rattle.dlk_replay.specs.declared.fault.LineWhy.{LineWhy}
-use Rattle.dlk_replay.specs.declared.fault.LineWhy.TheVariants.{Malformed, WrongNumber, NoEnd, Step}
 use Rattle.dlk_report.specs.Reports.{line, Parts, is_closed, parts_of, report_of}
 use Rattle.dlk_report.specs.Json.{json_of}
 use Rattle.dlk_answers.specs.declared.reply.Layout.{Layout}
@@ -34,34 +31,9 @@ ModelFault model why = TreeTextFault form.Formula dots.Refused model why
 abbrev pub proves : Tree → Sequent
 proves f = record { ante = []; succ = f ∷ [] }
 
-abbrev pub reason_text : Reason → List ℕ
-reason_text NoFact = codes "NoFact"
-reason_text NoGoal = codes "NoGoal"
-reason_text UnknownName = codes "UnknownName"
-reason_text NoPlace = codes "NoPlace"
-reason_text WrongShape = codes "WrongShape"
-reason_text NotEqual = codes "NotEqual"
-reason_text NotFresh = codes "NotFresh"
-reason_text NotArith = codes "NotArith"
-reason_text IllSubst = codes "IllSubst"
-reason_text FreeInSubst = codes "FreeInSubst"
-reason_text NotAdmissible = codes "NotAdmissible"
-reason_text TooBig = codes "TooBig"
-reason_text TooDeep = codes "TooDeep"
-reason_text SideFull = codes "SideFull"
-reason_text GoalsFull = codes "GoalsFull"
-reason_text LeavesFull = codes "LeavesFull"
-reason_text LinesFull = codes "LinesFull"
-
-abbrev pub why_text : LineWhy → List ℕ
-why_text Malformed = codes "Malformed"
-why_text WrongNumber = codes "WrongNumber"
-why_text NoEnd = codes "NoEnd"
-why_text (Step why) = reason_text why
-
 -- refused: line N: WHY
 abbrev pub line_refused : ℕ → LineWhy → Reply
-line_refused n why = refusal (codes "line " ++ (decimal n ++ (codes ": " ++ why_text why)))
+line_refused n why = refusal (codes "line " ++ (decimal n ++ (codes ": " ++ line_why_text why)))
 
 -- refused: other-conclusion N, and both conclusions
 abbrev pub other_conclusion : ℕ → Tree → Sequent → Reply
@@ -84,7 +56,7 @@ report_in layout p lines = laid_out layout (parts_of p lines)
 abbrev pub reported : Layout → Provable → ℕ → Reply
 reported layout p lines = printing (status_of (is_closed p.goals)) (report_in layout p lines)
 
--- the term is accepted: each of its lines is a step, and the last of the rows is p, at this line
+-- the term is accepted: each of its lines but `done` is a step, and the last of the rows is p, at this line
 pub record Accepts (term : List ℕ) (rows : List Provable) (p : Provable) : Type 0 where
   pub before : List Provable
   pub last : rows ≡ before ++ p ∷ []

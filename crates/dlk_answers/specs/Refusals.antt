@@ -14,16 +14,12 @@ refused_at role at why = refusal (word_of role ++ (codes " at " ++ (decimal at +
 abbrev pub refused_past : Role → List ℕ → ℕ → Reply
 refused_past role measure n = refusal (word_of role ++ (codes ": " ++ (measure ++ (codes " " ++ decimal n))))
 
--- refused: model: syntax
-abbrev pub refused_syntax : Role → Reply
-refused_syntax role = refusal (word_of role ++ codes ": syntax")
-
 -- One row a fault.
 abbrev pub text_refused : Role → TextFault → Reply
 text_refused role (BadByte at) = refused_at role at (codes "byte")
 text_refused role (Unread (Literal at)) = refused_at role at (codes "literal")
 text_refused role (Unread (Nesting at)) = refused_at role at (codes "nesting")
-text_refused role (Unread Syntax) = refused_syntax role
+text_refused role (Unread (Syntax at)) = refused_at role at (codes "syntax")
 text_refused role (Unread (Shape at)) = refused_at role at (codes "shape")
 text_refused role (Unread (TooBig size)) = refused_past role (codes "size") size
 text_refused role (Unread (TooDeep depth)) = refused_past role (codes "depth") depth

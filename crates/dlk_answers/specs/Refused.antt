@@ -14,7 +14,7 @@ use Rattle.dlk_answers.specs.Refusals.{text_refused}
 abbrev pub IsUnreadRefused : Role → ParseFault → Reply → Type 0
 IsUnreadRefused role (parse.Literal at) reply = reply ≡ text_refused role (Unread (Literal at))
 IsUnreadRefused role (parse.Nesting at) reply = reply ≡ text_refused role (Unread (Nesting at))
-IsUnreadRefused role parse.Syntax reply = reply ≡ text_refused role (Unread Syntax)
+IsUnreadRefused role (parse.Syntax at) reply = reply ≡ text_refused role (Unread (Syntax at))
 IsUnreadRefused role (parse.Shape at) reply = reply ≡ text_refused role (Unread (Shape at))
 IsUnreadRefused role (parse.TooBig size) reply = reply ≡ text_refused role (Unread (TooBig size))
 IsUnreadRefused role (parse.TooDeep depth) reply = reply ≡ text_refused role (Unread (TooDeep depth))
@@ -24,3 +24,4 @@ IsUnreadRefused role parse.Memory reply = ⊥
 abbrev pub IsTextRefused : Role → FaultOfText → Reply → Type 0
 IsTextRefused role (text.BadByte at) reply = reply ≡ text_refused role (BadByte at)
 IsTextRefused role (text.Unread why) reply = IsUnreadRefused role why reply
+IsTextRefused role text.Memory reply = ⊥

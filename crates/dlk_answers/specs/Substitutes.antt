@@ -1,10 +1,9 @@
 -- What `subst` answers to an expression and a substitution.
 use Rattle.std.specs.Prelude.{◌<◌, ◌≤◌, ℕ, List, ◌++◌, codes, decimal}
 use Rattle.dlk_tree.specs.Trees.{Tree, size, depth}
-use Rattle.dlk_calculus.specs.Pairs.{Pair, FirstIll, IsWellFormed}
+use Rattle.dlk_calculus.specs.Pairs.{Pair, FirstIll, IsWellFormed, why_text}
 use Rattle.dlk_calculus.specs.Subst.{Subst}
 use Rattle.dlk_calculus.specs.declared.why.Why.{Why}
-use Rattle.dlk_calculus.specs.declared.why.Why.TheVariants as reason
 use Rattle.dlk_grammar.specs.declared.token.Dots.TheVariants.{Refused}
 use Rattle.dlk_grammar.specs.declared.token.Form.TheVariants.{Expression}
 use Rattle.dlk_calculus.specs.Limits.{most_nodes, greatest_depth}
@@ -14,17 +13,9 @@ use Rattle.dlk_answers.specs.Replies.{Reply, refusal}
 use Rattle.dlk_answers.specs.Refusals.{text_refused}
 use Rattle.dlk_answers.specs.Prints.{printed}
 
--- the word for a reason against a pair
-abbrev pub why_word : Why → List ℕ
-why_word reason.Sort = codes "sort"
-why_word reason.Twice = codes "twice"
-why_word reason.Dot = codes "dot"
-why_word reason.Hole = codes "hole"
-why_word reason.Taboo = codes "taboo"
-
 -- refused: subst pair N: WHY
 abbrev pub pair_refused : ℕ → Why → Reply
-pair_refused n why = refusal (codes "subst pair " ++ (decimal n ++ (codes ": " ++ why_word why)))
+pair_refused n why = refusal (codes "subst pair " ++ (decimal n ++ (codes ": " ++ why_text why)))
 
 -- the file is a text of this formula, program or term, without argument dots and `_`
 abbrev pub PlainText : List ℕ → Tree → Type 0

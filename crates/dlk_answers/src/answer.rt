@@ -13,6 +13,7 @@ use crate::jobs::check::check;
 use crate::jobs::print::print;
 use crate::jobs::subst::subst;
 use crate::jobs::vars::vars;
+use crate::refusal::refused;
 use crate::reply::{Layout, Reply, Status, printing};
 use dlk_store::Steps;
 use std::alloc::Global;
@@ -30,8 +31,8 @@ pub fn words_refused(alloc: Global) -> Result<Reply, NoReply>
 fn refused_too_long(alloc: Global, name: &str) -> Result<Reply, NoReply>
     ensures { IfOk result (λ r. reply_of r ≡ too_long name.now) }
 {
-    let text = format!(in alloc; "refused: too-long {name}\n")?;
-    Ok(printing(Status::Refused, text.into_bytes()))
+    let why = format!(in alloc; "too-long {name}")?;
+    refused(alloc, why.as_str())
 }
 
 /// The name of the first input that is longer than its limit.

@@ -1,7 +1,7 @@
 //! The laws of answers. Each is a contract of a function that does nothing.
-ghost use Rattle.std.specs.Prelude.{◌≡◌, ◌<◌, ℕ, List, None};
+ghost use Rattle.std.specs.Prelude.{◌≡◌, ◌<◌, ℕ, List, length, None, Some};
 ghost use Rattle.dlk_answers.specs.declared.command.Command.{Command as TheCommand};
-ghost use Rattle.dlk_answers.specs.Forms.{Word};
+ghost use Rattle.dlk_answers.specs.Forms.{Word, command_of, form_of};
 ghost use Rattle.dlk_answers.specs.Replies.{Reply as TheReply, code_of};
 ghost use Rattle.dlk_answers.specs.Answers.{Responds};
 
@@ -9,6 +9,12 @@ ghost use Rattle.dlk_answers.specs.Answers.{Responds};
 pub fn one_response()
     ensures { (command : TheCommand) (words : List Word) (texts : List (List ℕ)) (one other : TheReply) →
         Responds command words texts one → Responds command words texts other → one ≡ other }
+{}
+
+/// A command answers something to words of its form and to as many texts as it has inputs.
+pub fn some_response()
+    ensures { (command : TheCommand) (words : List Word) (texts : List (List ℕ)) → command_of words ≡ Some command →
+        length texts ≡ length (form_of command).inputs → (reply : TheReply) × Responds command words texts reply }
 {}
 
 /// A command answers with a status below 3, and a refusal writes no file.

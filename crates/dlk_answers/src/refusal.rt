@@ -1,7 +1,7 @@
 // Refusals of one line, and those of texts that are not read.
 ghost use Rattle.std.specs.Prelude.{◌≡◌, ◌<◌, IfOk};
 ghost use Rattle.dlk_answers.specs.Replies.{refusal};
-ghost use Rattle.dlk_answers.specs.Refusals.{refused_at, refused_past, refused_syntax};
+ghost use Rattle.dlk_answers.specs.Refusals.{refused_at, refused_past};
 ghost use Rattle.dlk_answers.specs.Refused.{IsTextRefused, IsUnreadRefused};
 ghost use Rattle.dlk_answers.specs.Shown.{reply_of};
 
@@ -37,15 +37,6 @@ fn refuse_past(alloc: Global, role: Role, measure: &str, number: u32) -> Result<
     refused(alloc, why.as_str())
 }
 
-/// The answer to an input whose tokens are not in the grammar.
-fn refuse_syntax(alloc: Global, role: Role) -> Result<Reply, NoReply>
-    ensures { IfOk result (λ r. reply_of r ≡ refused_syntax role) }
-{
-    let word = role.word();
-    let why = format!(in alloc; "{word}: syntax")?;
-    refused(alloc, why.as_str())
-}
-
 /// The answer to an input whose tokens are not read.
 fn refuse_unread(alloc: Global, role: Role, fault: ParseFault) -> Result<Reply, NoReply>
     ensures { IfOk result (λ r. IsUnreadRefused role fault (reply_of r)) }
@@ -53,7 +44,7 @@ fn refuse_unread(alloc: Global, role: Role, fault: ParseFault) -> Result<Reply, 
     match fault {
         ParseFault::Literal { at } => refuse_at(alloc, role, at, "literal"),
         ParseFault::Nesting { at } => refuse_at(alloc, role, at, "nesting"),
-        ParseFault::Syntax => refuse_syntax(alloc, role),
+        ParseFault::Syntax { at } => refuse_at(alloc, role, at, "syntax"),
         ParseFault::Shape { at } => refuse_at(alloc, role, at, "shape"),
         ParseFault::TooBig { size } => refuse_past(alloc, role, "size", size),
         ParseFault::TooDeep { depth } => refuse_past(alloc, role, "depth", depth),
@@ -72,5 +63,6 @@ pub fn refuse_text(alloc: Global, role: Role, fault: TextFault) -> Result<Reply,
     match fault {
         TextFault::BadByte { at } => refuse_at(alloc, role, at, "byte"),
         TextFault::Unread(why) => refuse_unread(alloc, role, why),
+        TextFault::Memory => Err(NoReply::Memory),
     }
 }

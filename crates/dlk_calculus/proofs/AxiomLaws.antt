@@ -53,7 +53,12 @@ formula t h =
     let halves = both_true (is_made t && SortEq.ghosts.eq (sort t) Formula) (not (has_dots t) && not (has_hole t)) h in
     let shape = both_true (is_made t) (SortEq.ghosts.eq (sort t) Formula) halves.0 in
     let none = both_true (not (has_dots t)) (not (has_hole t)) halves.1 in
-    record { well_made = made t shape.0; sort_is = (sort_decides (sort t) Formula).0 shape.1; no_dot = not_true (has_dots t) none.0; no_hole = not_true (has_hole t) none.1 }
+    record {
+      well_made = made t shape.0;
+      sort_is = (sort_decides (sort t) Formula).0 shape.1;
+      no_dot = not_true (has_dots t) none.0;
+      no_hole = not_true (has_hole t) none.1;
+    }
 
 all_formulas : (ts : List Tree) → IsTrue (list_all is_formula ts) → All IsFormula ts
 all_formulas [] h = All-nil IsFormula
@@ -82,12 +87,16 @@ all_of_map P f [] h = All-nil (λ x. P (f x))
 all_of_map P f (x ∷ xs) h = All-cons (λ x. P (f x)) x xs (All-head P (f x) (map f xs) h) (all_of_map P f xs (All-tail P (f x) (map f xs) h))
 
 pub axiom_formula : (name : List ℕ) (a : Axiom) → axiom_named name ≡ Some a → IsFormula a.formula
-axiom_formula name a e = found_has (λ (x : Axiom). IsFormula x.formula) (λ (x : Axiom). bytes_eq x.name name) axioms a (all_of_map IsFormula (λ (x : Axiom). x.formula) axioms axioms_formulas) e
+axiom_formula name a e =
+    found_has (λ (x : Axiom). IsFormula x.formula) (λ (x : Axiom). bytes_eq x.name name) axioms a
+    (all_of_map IsFormula (λ (x : Axiom). x.formula) axioms axioms_formulas) e
 
 pub rule_formulas : (name : List ℕ) (r : AxiomaticRule) → rule_named name ≡ Some r → IsFormula r.premise × IsFormula r.conclusion
 rule_formulas name r e = (
-  found_has (λ (x : AxiomaticRule). IsFormula x.premise) (λ (x : AxiomaticRule). bytes_eq x.name name) axiomatic_rules r (all_of_map IsFormula (λ (x : AxiomaticRule). x.premise) axiomatic_rules premises_formulas) e,
-  found_has (λ (x : AxiomaticRule). IsFormula x.conclusion) (λ (x : AxiomaticRule). bytes_eq x.name name) axiomatic_rules r (all_of_map IsFormula (λ (x : AxiomaticRule). x.conclusion) axiomatic_rules conclusions_formulas) e,
+  found_has (λ (x : AxiomaticRule). IsFormula x.premise) (λ (x : AxiomaticRule). bytes_eq x.name name) axiomatic_rules r
+      (all_of_map IsFormula (λ (x : AxiomaticRule). x.premise) axiomatic_rules premises_formulas) e,
+  found_has (λ (x : AxiomaticRule). IsFormula x.conclusion) (λ (x : AxiomaticRule). bytes_eq x.name name) axiomatic_rules r
+      (all_of_map IsFormula (λ (x : AxiomaticRule). x.conclusion) axiomatic_rules conclusions_formulas) e,
 )
 
 -- ---- none of them is too big or too deep
@@ -110,7 +119,8 @@ axiom_sized name a e =
     found_has (λ (x : Axiom). IsSized x.formula) (λ (x : Axiom). bytes_eq x.name name) axioms a
     (all_of_map IsSized (λ (x : Axiom). x.formula) axioms (all_sized (map (λ (x : Axiom). x.formula) axioms) refl)) e
 
-pub rule_sized : (name : List ℕ) (r : AxiomaticRule) → rule_named name ≡ Some r → (IsSmall r.premise × IsShallow r.premise) × (IsSmall r.conclusion × IsShallow r.conclusion)
+pub rule_sized : (name : List ℕ) (r : AxiomaticRule) → rule_named name ≡ Some r → (IsSmall r.premise × IsShallow r.premise)
+    × (IsSmall r.conclusion × IsShallow r.conclusion)
 rule_sized name r e = (
   found_has (λ (x : AxiomaticRule). IsSized x.premise) (λ (x : AxiomaticRule). bytes_eq x.name name) axiomatic_rules r
       (all_of_map IsSized (λ (x : AxiomaticRule). x.premise) axiomatic_rules (all_sized (map (λ (x : AxiomaticRule). x.premise) axiomatic_rules) refl)) e,

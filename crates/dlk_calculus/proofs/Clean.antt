@@ -74,10 +74,12 @@ dot_from_none : (op : Op) → is_dot_from 0 op ≡ false → is_some_dot op ≡ 
 dot_from_none (Op'.Dot n) h = let below = leb-false 0 n h in absurd (omega arith)
 dot_from_none _ h = refl
 
-module _ (pairs : List Pair) (well : IsWellFormed pairs) (k : Kind) (s : Sym) (r : Tree) (is : IsTrue (is_sym_of k s)) (found : replacement pairs s ≡ Some r) where
+module _ (pairs : List Pair) (well : IsWellFormed pairs) (k : Kind) (s : Sym) (r : Tree) (is : IsTrue (is_sym_of k s))
+    (found : replacement pairs s ≡ Some r) where
   filling : IsFilling s r
   filling = replacement_has IsFilling pairs s r
-      (All-weaker IsGood (λ p. IsFilling p.sym p.by) (λ p good. record { dots = good.1 Why'.Dot; holes = good.1 Why'.Hole }) pairs (good_pairs pairs well)) found
+      (All-weaker IsGood (λ p. IsFilling p.sym p.by) (λ p good. record { dots = good.1 Why'.Dot; holes = good.1 Why'.Hole }) pairs
+      (good_pairs pairs well)) found
 
   pub replacement_no_hole : (kind_row k).hole ≡ false → has_hole r ≡ false
   replacement_no_hole h = not_both (has_hole r) (kind_row k).hole (subst (λ l. has_hole r && not (kind_row l).hole ≡ false) (kind_is k s is) filling.holes) h

@@ -23,7 +23,8 @@ use Rattle.dlk_calculus.specs.Subst.{IsAdmissible, Replaced, Member, Equation, C
 use Rattle.dlk_calculus.proofs.Sorts.{argument_has, subst_sort}
 use Rattle.dlk_calculus.proofs.Lacks.{trees_lack}
 use Rattle.dlk_calculus.proofs.Systems.{Each, Any, each_spliced, each_for}
-use Rattle.dlk_calculus.proofs.Clean.{TakesNone, is_gap, IsClean, AreClean, clean, clean-no_dot, clean-no_hole, replacement_no_hole, replacement_no_dot, replacement_clean}
+use Rattle.dlk_calculus.proofs.Clean.{TakesNone, is_gap, IsClean, AreClean, clean, clean-no_dot, clean-no_hole, replacement_no_hole, replacement_no_dot}
+use Rattle.dlk_calculus.proofs.Clean.{replacement_clean}
 
 -- an operator that stays
 stays_clean : (op : Op) (new : Forest) (t : Tree) → is_gap op ≡ false → AreClean new → t ≡ node op new → IsClean t
@@ -119,7 +120,8 @@ module _ (pairs : List Pair) (well : IsWellFormed pairs) where
   given_clean : (k : Kind) (s : Sym) (op : Op) (old new : Forest) (t : Tree) → TakesNone k → (kind_row k).hole ≡ false → IsTrue (is_sym_of k s)
       → is_gap op ≡ false → AreClean new → Replaced (replacement pairs s) (λ r. t ≡ r) (Stays (IsAdmissible pairs) op old new t) → IsClean t
   given_clean k s op old new t none h is gap clean p =
-      replaced_clean (replacement pairs s) op old new t (λ r. t ≡ r) (λ r found e. ap (has is_gap) e ∙ replacement_clean pairs well k s r is found none h) gap clean p
+      replaced_clean (replacement pairs s) op old new t (λ r. t ≡ r)
+      (λ r found e. ap (has is_gap) e ∙ replacement_clean pairs well k s r is found none h) gap clean p
 
   plugged_clean : (k : Kind) (s : Sym) (op : Op) (old new : Forest) (t : Tree) → (kind_row k).hole ≡ false → IsTrue (is_sym_of k s)
       → is_gap op ≡ false → AreClean new → Replaced (replacement pairs s) (λ r. Plug (trees_in new) r t) (Stays (IsAdmissible pairs) op old new t) → IsClean t
@@ -131,7 +133,8 @@ module _ (pairs : List Pair) (well : IsWellFormed pairs) where
       → Replaced (replacement pairs s) (λ r. IsAdmissible pairs all old × (t ≡ filled (first new) r)) (Stays (IsAdmissible pairs) op old new t) → IsClean t
   filled_clean s op old new t is gap clean p =
       replaced_clean (replacement pairs s) op old new t (λ r. IsAdmissible pairs all old × (t ≡ filled (first new) r))
-      (λ r found q. ap (has is_gap) q.1 ∙ fill_clean (first new) (first_clean new clean) r (replacement_no_dot pairs well Quant s r is found zero_only)) gap clean p
+      (λ r found q. ap (has is_gap) q.1
+      ∙ fill_clean (first new) (first_clean new clean) r (replacement_no_dot pairs well Quant s r is found zero_only)) gap clean p
 
   -- an operator's result over new kids
   subst_at_clean : (op : Op) (old new : Forest) (t : Tree) → IsTrue (has_parts op) → is_gap op ≡ false → AreClean new → SubstAt pairs op old new t → IsClean t

@@ -38,7 +38,8 @@ same_tree s t = decided (tree_eq s t) (tree_decides s t)
 
 fits_decided : (op : Op) (kids : Forest) → Dec (Fits op (sorts kids))
 fits_decided op kids =
-    both (λ k p. record { kids_fit = k; parts_fit = p }) (λ f. f.kids_fit) (λ f. f.parts_fit) (decided _ (sorts_decides (sorts kids) (kid_sorts op))) (is_true (has_parts op))
+    both (λ k p. record { kids_fit = k; parts_fit = p }) (λ f. f.kids_fit) (λ f. f.parts_fit) (decided _ (sorts_decides (sorts kids) (kid_sorts op)))
+    (is_true (has_parts op))
 
 mutual
   pub well_made_decided : (t : Tree) → Dec (WellMade t)
@@ -56,7 +57,8 @@ IsMadeFormula t = WellMade t × (sort t ≡ Formula)
 
 pub is_formula : (t : Tree) → Dec (IsFormula t)
 is_formula t =
-    both {A = IsMadeFormula t} {B = NoDotNorHole t} (λ m n. record { well_made = m.0; sort_is = m.1; no_dot = n.0; no_hole = n.1 }) (λ f. (f.well_made, f.sort_is)) (λ f. (f.no_dot, f.no_hole))
+    both {A = IsMadeFormula t} {B = NoDotNorHole t} (λ m n. record { well_made = m.0; sort_is = m.1; no_dot = n.0; no_hole = n.1 })
+    (λ f. (f.well_made, f.sort_is)) (λ f. (f.no_dot, f.no_hole))
     (both (λ w s. (w, s)) (λ m. m.0) (λ m. m.1) (well_made_decided t) (decided _ (sort_decides (sort t) Formula)))
     (both (λ d h. (d, h)) (λ m. m.0) (λ m. m.1) (is_false (has_dots t)) (is_false (has_hole t)))
 
@@ -74,4 +76,5 @@ same_trees (s ∷ ss) [] = no (λ e. cc)
 same_trees (s ∷ ss) (t ∷ ts) = both (λ p q i. p i ∷ q i) (λ e. cc) (λ e. cc) (same_tree s t) (same_trees ss ts)
 
 pub same_sequent : (s t : Sequent) → Dec (s ≡ t)
-same_sequent s t = both (λ p q i. record { ante = p i; succ = q i }) (λ e i. (e i).ante) (λ e i. (e i).succ) (same_trees s.ante t.ante) (same_trees s.succ t.succ)
+same_sequent s t =
+    both (λ p q i. record { ante = p i; succ = q i }) (λ e i. (e i).ante) (λ e i. (e i).succ) (same_trees s.ante t.ante) (same_trees s.succ t.succ)

@@ -55,7 +55,8 @@ only_decided : {A : Type 0} (r : Tree) → Dec A → Dec ((t : Tree) × (A × (t
 only_decided r = same_decided (λ a. (r, (a, refl))) (λ h. h.1.0)
 
 -- a list of kids, by its first and the others
-kids_decided : (T : Tree → Type 0) (Ts K : Forest → Type 0) → ((t : Tree) (ts : Forest) → K (kid t ts) ↔ (T t × Ts ts)) → (K no_kids → ⊥) → Dec ((t : Tree) × T t) → Dec ((ts : Forest) × Ts ts) → Dec ((ts : Forest) × K ts)
+kids_decided : (T : Tree → Type 0) (Ts K : Forest → Type 0) → ((t : Tree) (ts : Forest) → K (kid t ts) ↔ (T t × Ts ts)) → (K no_kids → ⊥) →
+    Dec ((t : Tree) × T t) → Dec ((ts : Forest) × Ts ts) → Dec ((ts : Forest) × K ts)
 kids_decided T Ts K parts none = both (λ p q. (kid p.0 q.0, (parts p.0 q.0).1 (p.1, q.1))) (λ h. front h.0 h.1) (λ h. behind h.0 h.1)
   where
     front : (ts : Forest) → K ts → (t : Tree) × T t
@@ -78,7 +79,8 @@ module _ (args : List Tree) where
   clear_decided : (set : Var → Bool) → Told set → (trees : Forest) → Dec (IsClear args set trees)
   clear_decided set told trees =
       same_decided (λ h. record { clear = h }) (λ c. c.clear)
-      (at_decided (λ n a. IsTrue (any_has (is_dot n) trees) → AreApart set (free a)) (λ n a. implied_decided (is_true _) (apart_decided set (free a) told (free_told a))) args)
+      (at_decided (λ n a. IsTrue (any_has (is_dot n) trees) → AreApart set (free a))
+      (λ n a. implied_decided (is_true _) (apart_decided set (free a) told (free_told a))) args)
 
   found_decided : (o : Option Tree) → Dec ((t : Tree) × (o ≡ Some t))
   found_decided None = no (λ h. none-some h.0 h.1)
@@ -116,10 +118,12 @@ module _ (pairs : List Pair) where
   replaced_decided With each (Some r) op old new = each r
   replaced_decided With each None op old new = kept_decided op old new
 
-  given_decided : (s : Sym) (op : Op) (old new : Forest) → Dec ((t : Tree) × Replaced (replacement pairs s) (λ r. t ≡ r) (Stays (IsAdmissible pairs) op old new t))
+  given_decided : (s : Sym) (op : Op) (old new : Forest) →
+      Dec ((t : Tree) × Replaced (replacement pairs s) (λ r. t ≡ r) (Stays (IsAdmissible pairs) op old new t))
   given_decided s = replaced_decided (λ r t. t ≡ r) (λ r. yes (r, refl)) (replacement pairs s)
 
-  plugged_decided : (s : Sym) (op : Op) (old new : Forest) → Dec ((t : Tree) × Replaced (replacement pairs s) (λ r. Plug (trees_in new) r t) (Stays (IsAdmissible pairs) op old new t))
+  plugged_decided : (s : Sym) (op : Op) (old new : Forest) →
+      Dec ((t : Tree) × Replaced (replacement pairs s) (λ r. Plug (trees_in new) r t) (Stays (IsAdmissible pairs) op old new t))
   plugged_decided s op old new = replaced_decided (Plug (trees_in new)) (plug_decided (trees_in new)) (replacement pairs s) op old new
 
   subst_at_decided : (op : Op) (old new : Forest) → Dec ((t : Tree) × SubstAt pairs op old new t)
@@ -129,7 +133,8 @@ module _ (pairs : List Pair) where
   subst_at_decided (Op'.Apply s) old new = plugged_decided s (Op'.Apply s) old new
   subst_at_decided (Op'.Holds s) old new = plugged_decided s (Op'.Holds s) old new
   subst_at_decided (Op'.Predicational s) old new =
-      replaced_decided (λ r t. IsAdmissible pairs all old × (t ≡ filled (first new) r)) (λ r. only_decided (filled (first new) r) (admissible_decided all (free_told (node Op'.Hole no_kids)) old))
+      replaced_decided (λ r t. IsAdmissible pairs all old × (t ≡ filled (first new) r))
+      (λ r. only_decided (filled (first new) r) (admissible_decided all (free_told (node Op'.Hole no_kids)) old))
       (replacement pairs s) (Op'.Predicational s) old new
   subst_at_decided (Op'.System items) old new =
       kept_decided (Op'.System (items_of (new_members pairs items new))) old (kids_of (new_members pairs items new) (last new))
@@ -165,7 +170,9 @@ well_formed_decided pairs = elim (well_formed_or_ill pairs) [ inl well ↦ yes w
 
 all_made_decided : (pairs : List Pair) → Dec (AreWellMade pairs)
 all_made_decided [] = yes (All-nil (λ (p : Pair). WellMade p.by))
-all_made_decided (p ∷ pairs) = both (All-cons (λ (p : Pair). WellMade p.by) p pairs) (All-head (λ (p : Pair). WellMade p.by) p pairs) (All-tail (λ (p : Pair). WellMade p.by) p pairs) (well_made_decided p.by) (all_made_decided pairs)
+all_made_decided (p ∷ pairs) =
+    both (All-cons (λ (p : Pair). WellMade p.by) p pairs) (All-head (λ (p : Pair). WellMade p.by) p pairs)
+    (All-tail (λ (p : Pair). WellMade p.by) p pairs) (well_made_decided p.by) (all_made_decided pairs)
 
 pub good_pairs : (pairs : List Pair) → Dec (AreWellMade pairs × IsWellFormed pairs)
 good_pairs pairs = both (λ a b. (a, b)) (λ c. c.0) (λ c. c.1) (all_made_decided pairs) (well_formed_decided pairs)

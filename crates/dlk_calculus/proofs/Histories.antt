@@ -1,5 +1,6 @@
 -- Fronts of histories are histories, and a given provable goes on with one. What is derived is what stands in a history.
-use Rattle.std.proofs.Common.{◌≡◌, ℕ, zero, suc, ◌<◌, ◌≤◌, ◌+◌, ◌-◌, List, [], ◌∷◌, ◌++◌, length, take, drop, get_or, sym, ap, subst, ◌∙◌, append_assoc, arith, length-append, Some, ⊎_elim}
+use Rattle.std.proofs.Common.{◌≡◌, ℕ, zero, suc, ◌<◌, ◌≤◌, ◌+◌, ◌-◌, List, [], ◌∷◌, ◌++◌, length, take, drop, get_or, sym, ap, subst, ◌∙◌, append_assoc}
+use Rattle.std.proofs.Common.{arith, length-append, Some, ⊎_elim}
 use Rattle.std.specs.List.{All}
 use Rattle.std.proofs.lemmas.Bool.{cases_lt}
 use Rattle.std.proofs.lemmas.Option.{slice_get_within, get_or_from_slice_get, slice_get-get_or}
@@ -9,7 +10,9 @@ use Rattle.std.proofs.lemmas.List.Elements.{All-nil, All-push}
 use Rattle.dlk_calculus.specs.Places.{At, put_all}
 use Rattle.dlk_calculus.specs.Sequents.{Sequent}
 use Rattle.dlk_calculus.specs.Provables.{Provable, started, known, inferred, assumed, applied, merged, renamed}
-use Rattle.dlk_calculus.specs.Steps.{Derives, by_itself, by_axiom, by_axiomatic_rule, by_arithmetic, by_rule, by_fact, by_substitution, by_renaming, Step, Start, UseAxiom, UseRule, Leaf, Apply, Merge, Substitute, Rename, Gives, start, use_axiom, use_rule, leaf, apply, merge, substitute, rename, History}
+use Rattle.dlk_calculus.specs.Steps.{Derives, by_itself, by_axiom, by_axiomatic_rule, by_arithmetic, by_rule, by_fact, by_substitution, by_renaming, Step}
+use Rattle.dlk_calculus.specs.Steps.{Start, UseAxiom, UseRule, Leaf, Apply, Merge, Substitute, Rename, Gives, start, use_axiom, use_rule, leaf, apply, merge}
+use Rattle.dlk_calculus.specs.Steps.{substitute, rename, History}
 use Rattle.dlk_calculus.proofs.PlaceLaws.{At_All, split_at, At-more, At-behind, At-between, put_between}
 use Rattle.dlk_calculus.proofs.StepLaws.{given_by}
 
@@ -72,7 +75,7 @@ given_derived rows (UseRule name) p h g = let m = given_by rows (UseRule name) p
 given_derived rows (Leaf s) p h g = let m = given_by rows (Leaf s) p g in rw m.2 (by_arithmetic m.0 m.1)
 given_derived rows (Apply fact goal rule) p h g =
     let m = given_by rows (Apply fact goal rule) p g in
-    rw m.6 (by_rule (take (goal - 1) m.0.goals) (drop goal m.0.goals) (placed m.0 goal m.1 m.4 (At_All Derives rows fact m.0 h m.3)) m.5)
+    rw m.7 (by_rule (take (goal - 1) m.0.goals) (drop goal m.0.goals) (placed m.0 goal m.1 m.4 (At_All Derives rows fact m.0 h m.3)) m.5 m.6)
 given_derived rows (Merge fact goal by) p h g =
     let m = given_by rows (Merge fact goal by) p g in
     let first = placed m.0 goal m.1.conclusion m.5 (At_All Derives rows fact m.0 h m.3) in
@@ -106,8 +109,8 @@ shifted_gives front rows _ _ (start s h) = start s h
 shifted_gives front rows _ _ (use_axiom name a e) = use_axiom name a e
 shifted_gives front rows _ _ (use_rule name r e) = use_rule name r e
 shifted_gives front rows _ _ (leaf s h k) = leaf s h k
-shifted_gives front rows _ _ (apply fact goal rule p s premises h k m) =
-    apply (length front + fact) goal rule p s premises (At-behind front rows fact p h) k m
+shifted_gives front rows _ _ (apply fact goal rule p s premises h k real m) =
+    apply (length front + fact) goal rule p s premises (At-behind front rows fact p h) k real m
 shifted_gives front rows _ _ (merge fact goal by p q new h k e j) =
     merge (length front + fact) goal (length front + by) p q new (At-behind front rows fact p h) (At-behind front rows by q k) e j
 shifted_gives front rows _ _ (substitute fact pairs p q h made well free is) =
@@ -147,13 +150,13 @@ Derives-ends _ (by_itself {s} h) = alone (Start s) (started s) (start s h)
 Derives-ends _ (by_axiom name a e) = alone (UseAxiom name) (known a.formula) (use_axiom name a e)
 Derives-ends _ (by_axiomatic_rule name r e) = alone (UseRule name) (inferred r.premise r.conclusion) (use_rule name r e)
 Derives-ends _ (by_arithmetic {s} h k) = alone (Leaf s) (assumed s) (leaf s h k)
-Derives-ends _ (by_rule {c} {s} {premises} {leaves} {rule} before after d made) =
+Derives-ends _ (by_rule {c} {s} {premises} {leaves} {rule} before after d real made) =
     let q : Provable = record { conclusion = c; goals = before ++ s ∷ after; leaves = leaves } in
     let e = Derives-ends q d in
     let rows = e.0 ++ q ∷ [] in
     let fact = length e.0 + 1 in
     let goal = length before + 1 in
-    let given = apply fact goal rule q s premises (At-between e.0 q []) (At-between before s after) made in
+    let given = apply fact goal rule q s premises (At-between e.0 q []) (At-between before s after) real made in
     replaced c before after premises leaves s (rows, History-more rows (Apply fact goal rule) (applied q goal premises) e.1 given)
 Derives-ends _ (by_fact {c} {leaves} {new} {p} before after d k joined) =
     let q : Provable = record { conclusion = c; goals = before ++ p.conclusion ∷ after; leaves = leaves } in

@@ -46,7 +46,7 @@ Derives-leaves _ (by_itself {s} h) = record { arithmetic = All-nil IsArithmetic;
 Derives-leaves _ (by_axiom name a e) = record { arithmetic = All-nil IsArithmetic; distinct = tt }
 Derives-leaves _ (by_axiomatic_rule name r e) = record { arithmetic = All-nil IsArithmetic; distinct = tt }
 Derives-leaves _ (by_arithmetic {s} h k) = record { arithmetic = All-cons IsArithmetic s [] k (All-nil IsArithmetic); distinct = ((λ a. a), tt) }
-Derives-leaves _ (by_rule {c} {s} {premises} {leaves} {rule} before after d made) =
+Derives-leaves _ (by_rule {c} {s} {premises} {leaves} {rule} before after d real made) =
     let h = Derives-leaves (record { conclusion = c; goals = before ++ s ∷ after; leaves = leaves }) d in
     record { arithmetic = h.arithmetic; distinct = h.distinct }
 Derives-leaves _ (by_fact {c} {leaves} {new} {p} before after d e joined) =

@@ -9,6 +9,8 @@ pub mod Swapped
 pub mod AxiomLaws
 pub mod Forms
 pub mod Binders
+pub mod Connectives
+pub mod Figures
 pub mod RuleLaws
 pub mod StepLaws
 pub mod Histories

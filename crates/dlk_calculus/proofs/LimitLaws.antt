@@ -16,7 +16,9 @@ use Rattle.dlk_calculus.specs.Rules.{Rule}
 use Rattle.dlk_calculus.specs.Provables.{Provable, SubstEach, SubstSequent, SubstSequents, swap_sequent}
 use Rattle.dlk_calculus.specs.Limits.{most_nodes, greatest_depth, most_formulas, most_goals, most_leaves, most_rows, IsSmall, IsShallow}
 use Rattle.dlk_calculus.specs.Limited.{InSequent, InProvable, HasFewFormulas, IsLimitedSequent, IsLimited}
-use Rattle.dlk_calculus.specs.Steps.{Step, Start, UseAxiom, UseRule, Leaf, Apply, Merge, Substitute, Rename, IsProper, Gives, EachNew, Exceeds, too_big, too_deep, start_full, leaf_full, side_full, goals_applied, goals_merged, leaves_merged, IsWithin, Against, against_rule, past_limit, rows_full, Fault, StepOf}
+use Rattle.dlk_calculus.specs.Steps.{Step, Start, UseAxiom, UseRule, Leaf, Apply, Merge, Substitute, Rename, IsProper, Gives, EachNew, Exceeds, too_big}
+use Rattle.dlk_calculus.specs.Steps.{too_deep, start_full, leaf_full, side_full, goals_applied, goals_merged, leaves_merged, IsWithin, Against, against_rule}
+use Rattle.dlk_calculus.specs.Steps.{past_limit, rows_full, Fault, StepOf}
 use Rattle.dlk_calculus.proofs.PlaceLaws.{At_All}
 use Rattle.dlk_calculus.proofs.Decide.{both}
 use Rattle.dlk_calculus.proofs.AxiomLaws.{axiom_sized, rule_sized}
@@ -48,7 +50,9 @@ module _ (P : Tree → Type 0) (decide : (t : Tree) → Dec (P t)) where
   in_sequent s = both (λ a b. record { ante = a; succ = b }) (λ h. h.ante) (λ h. h.succ) (all_decided P decide s.ante) (all_decided P decide s.succ)
 
   in_provable : (p : Provable) → Dec (InProvable P p)
-  in_provable p = both (λ a b. record { conclusion = a; goals = b }) (λ h. h.conclusion) (λ h. h.goals) (in_sequent p.conclusion) (all_decided (InSequent P) in_sequent p.goals)
+  in_provable p =
+      both (λ a b. record { conclusion = a; goals = b }) (λ h. h.conclusion) (λ h. h.goals) (in_sequent p.conclusion)
+      (all_decided (InSequent P) in_sequent p.goals)
 
   each_new : (step : Step) (p : Provable) → Dec (EachNew P step p)
   each_new (Start s) p = in_provable p
@@ -57,7 +61,8 @@ module _ (P : Tree → Type 0) (decide : (t : Tree) → Dec (P t)) where
   each_new (Leaf s) p = in_provable p
   each_new (Apply fact goal rule) p = in_provable p
   each_new (Merge fact goal by) p = yes tt
-  each_new (Substitute fact pairs) p = both (λ a b. (a, b)) (λ h. h.0) (λ h. h.1) (all_decided (λ (pair : Pair). P pair.by) (λ (pair : Pair). decide pair.by) pairs) (in_provable p)
+  each_new (Substitute fact pairs) p =
+      both (λ a b. (a, b)) (λ h. h.0) (λ h. h.1) (all_decided (λ (pair : Pair). P pair.by) (λ (pair : Pair). decide pair.by) pairs) (in_provable p)
   each_new (Rename fact x y) p = yes tt
 
 small : (t : Tree) → Dec (IsSmall t)
@@ -252,7 +257,8 @@ pub given_without_reason : (rows : List Provable) (step : Step) → IsProper ste
 given_without_reason rows step proper none = elim (step_cases rows step proper) [ inl g ↦ g | inr f ↦ absurd (none f.0 f.1 f.2.against) ]
 
 -- a step is taken exactly where a rule gives something within the limits, and there is room for a row
-pub taken_as_given : (rows : List Provable) (step : Step) (p : Provable) → StepOf rows step p ↔ (Gives rows step p × IsWithin step p × (length rows < most_rows))
+pub taken_as_given : (rows : List Provable) (step : Step) (p : Provable) →
+    StepOf rows step p ↔ (Gives rows step p × IsWithin step p × (length rows < most_rows))
 taken_as_given rows step p = (λ s. StepOf-taken rows step p s.given s, λ t. StepOf-within rows step p t.0 t.1 t.2)
 
 -- ---- what stays within the limits
@@ -260,7 +266,9 @@ taken_as_given rows step p = (λ s. StepOf-taken rows step p s.given s, λ t. St
 module _ {A : Type 0} (P Q R T : A → Type 0) (all : (x : A) → P x → Q x → R x → T x) where
   all_three : (xs : List A) → All P xs → All Q xs → All R xs → All T xs
   all_three [] p q r = All-nil T
-  all_three (x ∷ xs) p q r = All-cons T x xs (all x (All-head P x xs p) (All-head Q x xs q) (All-head R x xs r)) (all_three xs (All-tail P x xs p) (All-tail Q x xs q) (All-tail R x xs r))
+  all_three (x ∷ xs) p q r =
+      All-cons T x xs (all x (All-head P x xs p) (All-head Q x xs q) (All-head R x xs r))
+      (all_three xs (All-tail P x xs p) (All-tail Q x xs q) (All-tail R x xs r))
 
 limited_sequent : (s : Sequent) → InSequent IsSmall s → InSequent IsShallow s → HasFewFormulas s → IsLimitedSequent s
 limited_sequent s small shallow few = record { small = small; shallow = shallow; few = few }
@@ -308,7 +316,8 @@ subst_all_few : (pairs : List Pair) (ss ts : List Sequent) → SubstSequents pai
 subst_all_few pairs [] [] h f = none HasFewFormulas
 subst_all_few pairs [] (t ∷ ts) h f = absurd h
 subst_all_few pairs (s ∷ ss) [] h f = absurd h
-subst_all_few pairs (s ∷ ss) (t ∷ ts) h f = All-cons HasFewFormulas t ts (subst_few pairs s t h.0 (All-head HasFewFormulas s ss f)) (subst_all_few pairs ss ts h.1 (All-tail HasFewFormulas s ss f))
+subst_all_few pairs (s ∷ ss) (t ∷ ts) h f =
+    All-cons HasFewFormulas t ts (subst_few pairs s t h.0 (All-head HasFewFormulas s ss f)) (subst_all_few pairs ss ts h.1 (All-tail HasFewFormulas s ss f))
 
 -- two names that are exchanged leave all sizes
 module _ (x y : List ℕ) where
@@ -328,7 +337,9 @@ module _ (x y : List ℕ) where
 
   swap_all_limited : (all : List Sequent) → All IsLimitedSequent all → All IsLimitedSequent (map (swap_sequent x y) all)
   swap_all_limited [] h = none IsLimitedSequent
-  swap_all_limited (s ∷ all) h = All-cons IsLimitedSequent (swap_sequent x y s) (map (swap_sequent x y) all) (swap_limited s (All-head IsLimitedSequent s all h)) (swap_all_limited all (All-tail IsLimitedSequent s all h))
+  swap_all_limited (s ∷ all) h =
+      All-cons IsLimitedSequent (swap_sequent x y s) (map (swap_sequent x y) all) (swap_limited s (All-head IsLimitedSequent s all h))
+      (swap_all_limited all (All-tail IsLimitedSequent s all h))
 
 all_small : (step : Step) (p : Provable) → IsWithin step p → EachNew IsSmall step p
 all_small step p w = surely (each_new IsSmall small step p) (λ n. w TooBig (too_big n))
@@ -337,7 +348,8 @@ all_shallow : (step : Step) (p : Provable) → IsWithin step p → EachNew IsSha
 all_shallow step p w = surely (each_new IsShallow shallow step p) (λ n. w TooDeep (too_deep n))
 
 -- premises in the place of a goal
-replaced : (goals : List Sequent) (goal : ℕ) (new : List Sequent) → All IsLimitedSequent goals → All IsLimitedSequent new → All IsLimitedSequent (put_all goals goal new)
+replaced : (goals : List Sequent) (goal : ℕ) (new : List Sequent) → All IsLimitedSequent goals → All IsLimitedSequent new →
+    All IsLimitedSequent (put_all goals goal new)
 replaced goals goal new h k =
     All-append IsLimitedSequent _ _ (All-append IsLimitedSequent _ _ (All-take IsLimitedSequent (goal - 1) goals h) k) (All-drop IsLimitedSequent goal goals h)
 
@@ -352,11 +364,23 @@ given_limited rows (Start s) p h g w =
     rw m.1 (record { conclusion = all; goals = one IsLimitedSequent s all; leaves = none IsLimitedSequent; few_goals = omega arith; few_leaves = omega arith })
 given_limited rows (UseAxiom name) p h g w =
     let m = given_by rows (UseAxiom name) p g in
-    rw m.2 (record { conclusion = alone m.0.formula (axiom_sized name m.0 m.1); goals = none IsLimitedSequent; leaves = none IsLimitedSequent; few_goals = omega arith; few_leaves = omega arith })
+    rw m.2 (record {
+      conclusion = alone m.0.formula (axiom_sized name m.0 m.1);
+      goals = none IsLimitedSequent;
+      leaves = none IsLimitedSequent;
+      few_goals = omega arith;
+      few_leaves = omega arith;
+    })
 given_limited rows (UseRule name) p h g w =
     let m = given_by rows (UseRule name) p g in
     let sized = rule_sized name m.0 m.1 in
-    rw m.2 (record { conclusion = alone m.0.conclusion sized.1; goals = one IsLimitedSequent (alone_right m.0.premise) (alone m.0.premise sized.0); leaves = none IsLimitedSequent; few_goals = omega arith; few_leaves = omega arith })
+    rw m.2 (record {
+      conclusion = alone m.0.conclusion sized.1;
+      goals = one IsLimitedSequent (alone_right m.0.premise) (alone m.0.premise sized.0);
+      leaves = none IsLimitedSequent;
+      few_goals = omega arith;
+      few_leaves = omega arith;
+    })
 given_limited rows (Leaf s) p h g w =
     let m = given_by rows (Leaf s) p g in
     let big = (rw m.2 at (all_small (Leaf s) p w)).conclusion in
@@ -368,12 +392,12 @@ given_limited rows (Apply fact goal rule) p h g w =
     let m = given_by rows (Apply fact goal rule) p g in
     let q = At_All IsLimited rows fact m.0 h m.3 in
     record {
-      conclusion = rw m.6 q.conclusion;
+      conclusion = rw m.7 q.conclusion;
       goals = limited_sequents p.goals (all_small (Apply fact goal rule) p w).goals (all_shallow (Apply fact goal rule) p w).goals
           (surely (all_decided HasFewFormulas few p.goals) (λ n. w SideFull (side_full n)));
-      leaves = rw m.6 q.leaves;
+      leaves = rw m.7 q.leaves;
       few_goals = at_the_most most_goals (length p.goals) (λ more. w GoalsFull (goals_applied more));
-      few_leaves = rw m.6 q.few_leaves;
+      few_leaves = rw m.7 q.few_leaves;
     }
 given_limited rows (Merge fact goal by) p h g w =
     let m = given_by rows (Merge fact goal by) p g in

@@ -110,7 +110,8 @@ module _ (pairs : List Pair) (pairs_made : AreWellMade pairs) where
   subst_at_made (Op'.Const s) old new t fits made good p = given_made s (Op'.Const s) old new t fits made p
   subst_at_made (Op'.Apply s) old new t fits made good p = plugged_made s (Op'.Apply s) old new t fits made (terms_replicated new s.arity fits.kids_fit) p
   subst_at_made (Op'.Holds s) old new t fits made good p = plugged_made s (Op'.Holds s) old new t fits made (terms_replicated new s.arity fits.kids_fit) p
-  subst_at_made (Op'.Predicational s) old new t fits made good p = filled_made s (Op'.Predicational s) old new t fits made (first_sort new Formula fits.kids_fit) p
+  subst_at_made (Op'.Predicational s) old new t fits made good p =
+      filled_made s (Op'.Predicational s) old new t fits made (first_sort new Formula fits.kids_fit) p
   subst_at_made (Op'.System items) old new t fits made good p =
       let now = (system_fits pairs pairs_made items new fits).1 good in
       stays_made (Op'.System (items_of (new_members pairs items new))) (kids_of (new_members pairs items new) (last new)) t now

@@ -46,9 +46,11 @@ module _ (pairs : List Pair) where
       → Replaced (replacement pairs f) (λ r. t ≡ r) (Stays (IsAdmissible pairs) op old new t) → s ≡ t
   one_given f op old new s t p q = one_replaced (replacement pairs f) op old new (λ r u. u ≡ r) s t (λ r a b. a ∙ sym b) p q
 
-  one_plugged : (f : Sym) (op : Op) (old new : Forest) (s t : Tree) → Replaced (replacement pairs f) (λ r. Plug (trees_in new) r s) (Stays (IsAdmissible pairs) op old new s)
+  one_plugged : (f : Sym) (op : Op) (old new : Forest) (s t : Tree) →
+      Replaced (replacement pairs f) (λ r. Plug (trees_in new) r s) (Stays (IsAdmissible pairs) op old new s)
       → Replaced (replacement pairs f) (λ r. Plug (trees_in new) r t) (Stays (IsAdmissible pairs) op old new t) → s ≡ t
-  one_plugged f op old new s t p q = one_replaced (replacement pairs f) op old new (λ r u. Plug (trees_in new) r u) s t (λ r a b. one_plug (trees_in new) r s t a b) p q
+  one_plugged f op old new s t p q =
+      one_replaced (replacement pairs f) op old new (λ r u. Plug (trees_in new) r u) s t (λ r a b. one_plug (trees_in new) r s t a b) p q
 
   pub one_subst_at : (op : Op) (old new : Forest) (s t : Tree) → SubstAt pairs op old new s → SubstAt pairs op old new t → s ≡ t
   one_subst_at (Op'.UnitFun f) old new s t p q = one_given f (Op'.UnitFun f) old new s t p q
@@ -57,7 +59,8 @@ module _ (pairs : List Pair) where
   one_subst_at (Op'.Apply f) old new s t p q = one_plugged f (Op'.Apply f) old new s t p q
   one_subst_at (Op'.Holds f) old new s t p q = one_plugged f (Op'.Holds f) old new s t p q
   one_subst_at (Op'.Predicational f) old new s t p q =
-      one_replaced (replacement pairs f) (Op'.Predicational f) old new (λ r u. IsAdmissible pairs all old × (u ≡ filled (first new) r)) s t (λ r a b. a.1 ∙ sym b.1) p q
+      one_replaced (replacement pairs f) (Op'.Predicational f) old new (λ r u. IsAdmissible pairs all old × (u ≡ filled (first new) r)) s t
+      (λ r a b. a.1 ∙ sym b.1) p q
   one_subst_at _ old new s t p q = p.1 ∙ sym q.1
 
   mutual

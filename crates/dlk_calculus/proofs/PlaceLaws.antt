@@ -1,5 +1,6 @@
 -- Items by their places.
-use Rattle.std.proofs.Common.{◌≡◌, ℕ, suc, zero, ◌+◌, ◌-◌, List, [], ◌∷◌, ◌++◌, map, length, take, drop, get_or, refl, sym, subst, ap, ◌∙◌, Some, None, nat_eq, true, false, cond, arith, ◌⊎◌, inl, inr, length-append}
+use Rattle.std.proofs.Common.{◌≡◌, ℕ, suc, zero, ◌+◌, ◌-◌, List, [], ◌∷◌, ◌++◌, map, length, take, drop, get_or, refl, sym, subst, ap, ◌∙◌, Some, None}
+use Rattle.std.proofs.Common.{nat_eq, true, false, cond, arith, ◌⊎◌, inl, inr, length-append}
 use Rattle.std.specs.List.{All, slice_get}
 use Rattle.std.specs.Option.{option_map}
 use Rattle.std.proofs.lemmas.Option.{slice_get-map, get_or_from_slice_get, slice_get_within, slice_get_cases, slice_get-get_or}
@@ -64,8 +65,7 @@ At-behind front items (suc n) x h =
     let here : slice_get items n ≡ Some x = sym (at_suc items n) ∙ h in
     let lt = slice_get_within items n x here in
     let is : get_or (front ++ items) (length front + n) x ≡ x = get_or-append-add front items n x ∙ get_or_from_slice_get items n x x here in
-    let at_place : At (front ++ items) (suc (length front + n)) x =
-    at_suc (front ++ items) (length front + n)
+    let at_place : At (front ++ items) (suc (length front + n)) x = at_suc (front ++ items) (length front + n)
     ∙ slice_get-get_or (front ++ items) (length front + n) x (omega (arith, lt, length-append front items)) ∙ ap Some is in
     let same : suc (length front + n) ≡ length front + suc n = omega arith in
     subst (λ k. At (front ++ items) k x) same at_place

@@ -1,5 +1,6 @@
 -- Plugging, filling and substitution keep the sort.
-use Rattle.std.proofs.Common.{◌≡◌, refl, sym, ap, subst, ◌∙◌, ℕ, zero, suc, List, [], ◌∷◌, replicate, Bool, true, false, ◌&&◌, ◌||◌, not, ◌==◌, Option, None, Some, slice_get, cond}
+use Rattle.std.proofs.Common.{◌≡◌, refl, sym, ap, subst, ◌∙◌, ℕ, zero, suc, List, [], ◌∷◌, replicate, Bool, true, false, ◌&&◌, ◌||◌, not, ◌==◌, Option, None}
+use Rattle.std.proofs.Common.{Some, slice_get, cond}
 use Rattle.std.specs.Prelude.{All, IsTrue}
 use Rattle.std.proofs.lemmas.List.Elements.{All-cons, All-nil}
 use Rattle.std.proofs.lemmas.Option.{slice_get_within, get_or_from_slice_get}
@@ -139,13 +140,15 @@ module _ (pairs : List Pair) (well : IsWellFormed pairs) where
       replaced_sort (replacement pairs s) (kind_row k).sort op old new t (λ r. t ≡ r) (λ r found h. ap sort h ∙ replacement_sort pairs k s r well is found) e p
 
   plugged_sort : (k : Kind) (s : Sym) (op : Op) (old new : Forest) (t : Tree) → IsTrue (is_sym_of k s) → sort_of op ≡ (kind_row k).sort
-      → AreTerms (trees_in new) → Replaced (replacement pairs s) (λ r. Plug (trees_in new) r t) (Stays (IsAdmissible pairs) op old new t) → sort t ≡ (kind_row k).sort
+      → AreTerms (trees_in new) → Replaced (replacement pairs s) (λ r. Plug (trees_in new) r t) (Stays (IsAdmissible pairs) op old new t) →
+      sort t ≡ (kind_row k).sort
   plugged_sort k s op old new t is e terms p =
       replaced_sort (replacement pairs s) (kind_row k).sort op old new t (λ r. Plug (trees_in new) r t)
       (λ r found h. plug_sort (trees_in new) r t terms h ∙ replacement_sort pairs k s r well is found) e p
 
   filled_sort : (s : Sym) (op : Op) (old new : Forest) (t : Tree) → IsTrue (is_sym_of Quant s) → sort_of op ≡ Formula → sort (first new) ≡ Formula
-      → Replaced (replacement pairs s) (λ r. IsAdmissible pairs all old × (t ≡ filled (first new) r)) (Stays (IsAdmissible pairs) op old new t) → sort t ≡ Formula
+      → Replaced (replacement pairs s) (λ r. IsAdmissible pairs all old × (t ≡ filled (first new) r)) (Stays (IsAdmissible pairs) op old new t) →
+      sort t ≡ Formula
   filled_sort s op old new t is e f p =
       replaced_sort (replacement pairs s) Formula op old new t (λ r. IsAdmissible pairs all old × (t ≡ filled (first new) r))
       (λ r found h. ap sort h.1 ∙ fill_sort (first new) r f ∙ replacement_sort pairs Quant s r well is found) e p
@@ -157,7 +160,8 @@ module _ (pairs : List Pair) (well : IsWellFormed pairs) where
   subst_at_sort (Op'.Const s) old new t fits p = given_sort Prog s (Op'.Const s) old new t fits.parts_fit refl p
   subst_at_sort (Op'.Apply s) old new t fits p = plugged_sort Func s (Op'.Apply s) old new t fits.parts_fit refl (terms_replicated new s.arity fits.kids_fit) p
   subst_at_sort (Op'.Holds s) old new t fits p = plugged_sort Pred s (Op'.Holds s) old new t fits.parts_fit refl (terms_replicated new s.arity fits.kids_fit) p
-  subst_at_sort (Op'.Predicational s) old new t fits p = filled_sort s (Op'.Predicational s) old new t fits.parts_fit refl (first_sort new Formula fits.kids_fit) p
+  subst_at_sort (Op'.Predicational s) old new t fits p =
+      filled_sort s (Op'.Predicational s) old new t fits.parts_fit refl (first_sort new Formula fits.kids_fit) p
   subst_at_sort _ old new t fits p = ap sort p.1
 
   mutual

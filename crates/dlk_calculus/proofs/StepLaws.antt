@@ -3,7 +3,8 @@ use Rattle.std.proofs.Common.{◌≡◌, ◌≢◌, ℕ, ◌<◌, Bool, true, fa
 use Rattle.std.specs.Prelude.{IsTrue}
 use Rattle.std.proofs.lemmas.Option.{none-some, same_Some}
 use Rattle.dlk_calculus.specs.declared.reason.Reason.{Reason}
-use Rattle.dlk_calculus.specs.declared.reason.Reason.TheVariants.{NoFact, NoGoal, UnknownName, NoPlace, WrongShape, NotEqual, NotFresh, NotArith, IllSubst, FreeInSubst, NotAdmissible, LinesFull}
+use Rattle.dlk_calculus.specs.declared.reason.Reason.TheVariants.{NoFact, NoGoal, UnknownName, NoPlace, WrongShape, NotEqual, NotFresh, NotArith, IllSubst}
+use Rattle.dlk_calculus.specs.declared.reason.Reason.TheVariants.{FreeInSubst, NotAdmissible, LinesFull}
 use Rattle.dlk_calculus.specs.Reasons.{rank, IsOfCalculus}
 use Rattle.dlk_tree.specs.Names.{is_name}
 use Rattle.dlk_calculus.specs.Axioms.{Axiom, AxiomaticRule, axiom_named, rule_named}
@@ -12,9 +13,14 @@ use Rattle.dlk_calculus.specs.Pairs.{Pair, IsFreeIn, IsWellFormed, AreWellMade}
 use Rattle.dlk_calculus.specs.Subst.{Subst}
 use Rattle.dlk_calculus.specs.Places.{At, IsPlace}
 use Rattle.dlk_calculus.specs.Sequents.{Sequent, IsSequent}
-use Rattle.dlk_calculus.specs.Rules.{Rule, Premises, RuleAgainst, FirstAgainst}
-use Rattle.dlk_calculus.specs.Provables.{Provable, started, known, inferred, assumed, applied, IsAmong, AreNew, no_more, there, added, merged, SubstEach, SubstSequent, SubstSequents, Substitutes, HasGoal, renamed}
-use Rattle.dlk_calculus.specs.Steps.{Step, Start, UseAxiom, UseRule, Leaf, Apply, Merge, Substitute, Rename, IsProper, Gives, start, use_axiom, use_rule, leaf, apply, merge, substitute, rename, IsGoal, Exceeds, too_big, too_deep, start_full, leaf_full, side_full, goals_applied, goals_merged, leaves_merged, Against, no_fact_to_apply, no_fact_to_merge, no_fact_to_substitute, no_fact_to_rename, no_goal_to_apply, no_goal_to_merge, unknown_axiom, unknown_rule, against_rule, start_no_formulas, leaf_no_formulas, other_goal, no_arithmetic, ill_pairs, free_over_goals, not_admissible, past_limit, rows_full, Fault}
+use Rattle.dlk_calculus.specs.Rules.{Rule, IsProperRule, Premises, RuleAgainst, FirstAgainst}
+use Rattle.dlk_calculus.specs.Provables.{Provable, started, known, inferred, assumed, applied, IsAmong, AreNew, no_more, there, added, merged, SubstEach}
+use Rattle.dlk_calculus.specs.Provables.{SubstSequent, SubstSequents, Substitutes, HasGoal, renamed}
+use Rattle.dlk_calculus.specs.Steps.{Step, Start, UseAxiom, UseRule, Leaf, Apply, Merge, Substitute, Rename, IsProper, Gives, start, use_axiom, use_rule}
+use Rattle.dlk_calculus.specs.Steps.{leaf, apply, merge, substitute, rename, IsGoal, Exceeds, too_big, too_deep, start_full, leaf_full, side_full}
+use Rattle.dlk_calculus.specs.Steps.{goals_applied, goals_merged, leaves_merged, Against, no_fact_to_apply, no_fact_to_merge, no_fact_to_substitute}
+use Rattle.dlk_calculus.specs.Steps.{no_fact_to_rename, no_goal_to_apply, no_goal_to_merge, unknown_axiom, unknown_rule, against_rule, start_no_formulas}
+use Rattle.dlk_calculus.specs.Steps.{leaf_no_formulas, other_goal, no_arithmetic, ill_pairs, free_over_goals, not_admissible, past_limit, rows_full, Fault}
 use Rattle.dlk_calculus.proofs.PlaceLaws.{at_one, At_place, place_cases}
 use Rattle.dlk_calculus.proofs.OneResult.{one_subst}
 use Rattle.dlk_calculus.proofs.Decided.{subst_decided, free_in_decided, good_pairs}
@@ -29,11 +35,13 @@ GivenBy rows (UseAxiom name) p = (a : Axiom) × (axiom_named name ≡ Some a) ×
 GivenBy rows (UseRule name) p = (r : AxiomaticRule) × (rule_named name ≡ Some r) × (p ≡ inferred r.premise r.conclusion)
 GivenBy rows (Leaf s) p = IsSequent s × IsTrue (is_arithmetic_sequent s) × (p ≡ assumed s)
 GivenBy rows (Apply fact goal rule) p =
-    (q : Provable) × (s : Sequent) × (premises : List Sequent) × At rows fact q × At q.goals goal s × Premises rule s premises × (p ≡ applied q goal premises)
+    (q : Provable) × (s : Sequent) × (premises : List Sequent) × At rows fact q × At q.goals goal s × IsProperRule rule × Premises rule s premises
+    × (p ≡ applied q goal premises)
 GivenBy rows (Merge fact goal by) p =
     (q r : Provable) × (new : List Sequent) × At rows fact q × At rows by r × At q.goals goal r.conclusion × AreNew q.leaves r.leaves new
     × (p ≡ merged q goal r new)
-GivenBy rows (Substitute fact pairs) p = (q : Provable) × At rows fact q × AreWellMade pairs × IsWellFormed pairs × (HasGoal q.goals → ¬ IsFreeIn pairs) × Substitutes pairs q p
+GivenBy rows (Substitute fact pairs) p =
+    (q : Provable) × At rows fact q × AreWellMade pairs × IsWellFormed pairs × (HasGoal q.goals → ¬ IsFreeIn pairs) × Substitutes pairs q p
 GivenBy rows (Rename fact x y) p = (q : Provable) × At rows fact q × IsTrue (is_name x) × IsTrue (is_name y) × (p ≡ renamed x y q)
 
 pub given_by : (rows : List Provable) (step : Step) (p : Provable) → Gives rows step p → GivenBy rows step p
@@ -41,13 +49,14 @@ given_by rows (Start s) p (start t h) = (h, refl)
 given_by rows (UseAxiom name) p (use_axiom n a h) = (a, h, refl)
 given_by rows (UseRule name) p (use_rule n r h) = (r, h, refl)
 given_by rows (Leaf s) p (leaf t h k) = (h, k, refl)
-given_by rows (Apply fact goal rule) p (apply f g r q s premises a b c) = (q, s, premises, a, b, c, refl)
+given_by rows (Apply fact goal rule) p (apply f g r q s premises a b c d) = (q, s, premises, a, b, c, d, refl)
 given_by rows (Merge fact goal by) p (merge f g b q r new h k e j) = (q, r, new, h, k, e, j, refl)
 given_by rows (Substitute fact pairs) p (substitute f w q r h a b c d) = (q, h, a, b, c, d)
 given_by rows (Rename fact x y) p (rename f v w q a b c) = (q, a, b, c, refl)
 
 -- the goal of a fact is one sequent
-one_goal : (rows : List Provable) (fact goal : ℕ) (p q : Provable) (s t : Sequent) → At rows fact p → At rows fact q → At p.goals goal s → At q.goals goal t → s ≡ t
+one_goal : (rows : List Provable) (fact goal : ℕ) (p q : Provable) (s t : Sequent) → At rows fact p → At rows fact q → At p.goals goal s →
+    At q.goals goal t → s ≡ t
 one_goal rows fact goal p q s t a b c d =
     let same : p ≡ q = at_one rows fact p q a b in
     at_one q.goals goal s t (subst (λ (x : Provable). At x.goals goal s) same c) d
@@ -112,8 +121,8 @@ one_given rows (Apply fact goal rule) p q g h =
     let b = given_by rows (Apply fact goal rule) q h in
     let row : a.0 ≡ b.0 = at_one rows fact a.0 b.0 a.3 b.3 in
     let s : a.1 ≡ b.1 = one_goal rows fact goal a.0 b.0 a.1 b.1 a.3 b.3 a.4 b.4 in
-    let premises : a.2 ≡ b.2 = one_premises rule b.1 a.2 b.2 (subst (λ x. Premises rule x a.2) s a.5) b.5 in
-    a.6 ∙ (λ i. applied (row i) goal (premises i)) ∙ sym b.6
+    let premises : a.2 ≡ b.2 = one_premises rule b.1 a.2 b.2 (subst (λ x. Premises rule x a.2) s a.6) b.6 in
+    a.7 ∙ (λ i. applied (row i) goal (premises i)) ∙ sym b.7
 one_given rows (Merge fact goal by) p q g h =
     let a = given_by rows (Merge fact goal by) p g in
     let b = given_by rows (Merge fact goal by) q h in
@@ -189,7 +198,7 @@ given_unless rows _ p _ lt g (unknown_axiom {name} n) = let b = given_by rows (U
 given_unless rows _ p _ lt g (unknown_rule {name} n) = let b = given_by rows (UseRule name) p g in none-some b.0 (sym n ∙ b.1)
 given_unless rows _ p why lt g (against_rule {fact} {goal} {rule} s h a) =
     let b = given_by rows (Apply fact goal rule) p g in
-    goal_unless rows fact goal b.1 s (RuleAgainst why rule) (b.0, b.3, b.4) h (premises_unless_against rule b.1 b.2 why b.5) a
+    goal_unless rows fact goal b.1 s (RuleAgainst why rule) (b.0, b.3, b.4) h (premises_unless_against rule b.1 b.2 why b.6) a
 given_unless rows _ p _ lt g (start_no_formulas {s} n) = n (given_by rows (Start s) p g).0
 given_unless rows _ p _ lt g (leaf_no_formulas {s} n) = n (given_by rows (Leaf s) p g).0
 given_unless rows _ p _ lt g (other_goal {fact} {goal} {by} s q h k n) =
@@ -388,7 +397,8 @@ decided_sequents pairs (s ∷ ss) = elim (decided_sequent pairs s) [
     no_first s ss n ([], h) = h
     no_first s ss n (t ∷ ts, h) = n (t, h.0)
 
-    no_later : (s : Sequent) (ss : List Sequent) → ¬ ((ts : List Sequent) × SubstSequents pairs ss ts) → ¬ ((ts : List Sequent) × SubstSequents pairs (s ∷ ss) ts)
+    no_later : (s : Sequent) (ss : List Sequent) → ¬ ((ts : List Sequent) × SubstSequents pairs ss ts) →
+        ¬ ((ts : List Sequent) × SubstSequents pairs (s ∷ ss) ts)
     no_later s ss n ([], h) = h
     no_later s ss n (t ∷ ts, h) = n (ts, h.1)
 
@@ -439,7 +449,11 @@ substitute_cases rows fact pairs made =
 -- whether a sequent is one of others is decided, and so which leaves are new
 is_among : (s : Sequent) (ss : List Sequent) → Dec (IsAmong s ss)
 is_among s [] = no (λ a. a)
-is_among s (t ∷ ss) = elim (same_sequent s t) [ yes e ↦ yes (inl e) | no n ↦ elim (is_among s ss) [ yes a ↦ yes (inr a) | no m ↦ no (λ a. elim a [ inl e ↦ n e | inr b ↦ m b ]) ] ]
+is_among s (t ∷ ss) =
+    elim (same_sequent s t) [
+      | yes e ↦ yes (inl e)
+      | no n ↦ elim (is_among s ss) [ yes a ↦ yes (inr a) | no m ↦ no (λ a. elim a [ inl e ↦ n e | inr b ↦ m b ]) ]
+    ]
 
 pub some_new : (old more : List Sequent) → (new : List Sequent) × AreNew old more new
 some_new old [] = ([], no_more)
@@ -488,7 +502,7 @@ step_cases rows (Apply fact goal rule) proper =
       | inl p ↦ elim (place_cases p.0.goals goal) [
         | inr n ↦ inr (NoGoal, omega arith, first_no_goal_to_apply rows fact goal rule p.0 p.1 n)
         | inl s ↦ elim (rule_cases rule s.0) [
-          | inl m ↦ inl (applied p.0 goal m.0, apply fact goal rule p.0 s.0 m.0 p.1 s.1 m.1)
+          | inl m ↦ inl (applied p.0 goal m.0, apply fact goal rule p.0 s.0 m.0 p.1 s.1 proper m.1)
           | inr f ↦
               let g : IsGoal rows fact goal s.0 = (p.0, p.1, s.1) in
               inr (f.0, rule_of_calculus f.0 rule s.0 f.1.against, first_against_rule rows fact goal rule s.0 g f.0 f.1)

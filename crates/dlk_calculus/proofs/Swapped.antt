@@ -1,5 +1,6 @@
 -- Exchanging names keeps what fits, formulas and sequents.
-use Rattle.std.proofs.Common.{◌≡◌, refl, sym, ap, subst, ◌∙◌, ℕ, ◌+◌, max, List, [], ◌∷◌, ◌++◌, map, length, replicate, Bool, true, false, ◌&&◌, ◌||◌, not, ◌==◌, cond, Option, None, Some}
+use Rattle.std.proofs.Common.{◌≡◌, refl, sym, ap, subst, ◌∙◌, ℕ, ◌+◌, max, List, [], ◌∷◌, ◌++◌, map, length, replicate, Bool, true, false, ◌&&◌, ◌||◌, not}
+use Rattle.std.proofs.Common.{◌==◌, cond, Option, None, Some}
 use Rattle.std.specs.Prelude.{All, IsTrue, nat_le, is_none, option_map}
 use Rattle.std.specs.List.{list_all, list_any}
 use Rattle.std.specs.Str.{bytes_eq}
@@ -17,7 +18,8 @@ use Rattle.dlk_tree.specs.declared.op.Op.{Op}
 use Rattle.dlk_tree.specs.declared.op.Op.TheVariants as Op'
 use Rattle.dlk_tree.specs.Names.{is_name}
 use Rattle.dlk_tree.specs.Tests.{kind_rank}
-use Rattle.dlk_tree.specs.Table.{taboo_is_name, has_arity, kind_row, is_sym, is_sym_of, is_item, evolved, all_distinct, are_items, sort_of, kid_sorts, has_parts, Fits}
+use Rattle.dlk_tree.specs.Table.{taboo_is_name, has_arity, kind_row, is_sym, is_sym_of, is_item, evolved, all_distinct, are_items, sort_of, kid_sorts}
+use Rattle.dlk_tree.specs.Table.{has_parts, Fits}
 use Rattle.dlk_tree.specs.Trees.{Tree, node, Forest, no_kids, kid, sort, sorts, size, size_all, depth, depth_all, WellMade, AllWellMade}
 use Rattle.dlk_tree.specs.Occurs.{has, any_has, is_some_dot, is_hole}
 use Rattle.dlk_calculus.specs.Sequents.{Sequent, IsFormula, IsSequent}
@@ -73,7 +75,8 @@ module _ (x y : List ℕ) where
   same_name : (z w : List ℕ) → bytes_eq (swap_name x y z) (swap_name x y w) ≡ bytes_eq z w
   same_name z w = go (bytes_eq z w) refl (bytes_eq (swap_name x y z) (swap_name x y w)) refl
     where
-      go : (a : Bool) → bytes_eq z w ≡ a → (b : Bool) → bytes_eq (swap_name x y z) (swap_name x y w) ≡ b → bytes_eq (swap_name x y z) (swap_name x y w) ≡ bytes_eq z w
+      go : (a : Bool) → bytes_eq z w ≡ a → (b : Bool) → bytes_eq (swap_name x y z) (swap_name x y w) ≡ b →
+          bytes_eq (swap_name x y z) (swap_name x y w) ≡ bytes_eq z w
       go true p b q = (bytes_eq-Decides (swap_name x y z) (swap_name x y w)).1 (ap (swap_name x y) ((bytes_eq-Decides z w).0 p)) ∙ sym p
       go false p false q = q ∙ sym p
       go false p true q =
@@ -96,7 +99,8 @@ module _ (x y : List ℕ) where
 
   swap_kid_sorts : (op : Op) → kid_sorts (swap_op x y op) ≡ kid_sorts op
   swap_kid_sorts (Op'.System items) =
-      let e : length (evolved (map (swap_item x y) items)) ≡ length (evolved items) = ap (λ (l : List (List ℕ)). length l) (swap_evolved items) ∙ length-map (evolved items) (swap_name x y) in
+      let e : length (evolved (map (swap_item x y) items)) ≡ length (evolved items) =
+      ap (λ (l : List (List ℕ)). length l) (swap_evolved items) ∙ length-map (evolved items) (swap_name x y) in
       ap (λ n. replicate n Term ++ Formula ∷ []) e
   swap_kid_sorts _ = refl
 
@@ -190,7 +194,8 @@ module _ (x y : List ℕ) where
 
     mutual
       pub swap_made : (t : Tree) → WellMade t → WellMade (swap x y t)
-      swap_made (node op kids) made = (subst (λ ss. Fits (swap_op x y op) ss) (sym (swap_sorts kids)) (swap_fits op (sorts kids) made.0), swap_all_made kids made.1)
+      swap_made (node op kids) made =
+          (subst (λ ss. Fits (swap_op x y op) ss) (sym (swap_sorts kids)) (swap_fits op (sorts kids) made.0), swap_all_made kids made.1)
 
       swap_all_made : (ts : Forest) → AllWellMade ts → AllWellMade (swap_all x y ts)
       swap_all_made no_kids made = tt
@@ -224,11 +229,13 @@ module _ (x y : List ℕ) where
 
   swap_formulas : IsTrue (is_name x) → IsTrue (is_name y) → (ts : List Tree) → All IsFormula ts → All IsFormula (map (swap x y) ts)
   swap_formulas real_x real_y [] h = All-nil IsFormula
-  swap_formulas real_x real_y (t ∷ ts) h = All-cons IsFormula _ _ (swap_formula real_x real_y t (All-head IsFormula t ts h)) (swap_formulas real_x real_y ts (All-tail IsFormula t ts h))
+  swap_formulas real_x real_y (t ∷ ts) h =
+      All-cons IsFormula _ _ (swap_formula real_x real_y t (All-head IsFormula t ts h)) (swap_formulas real_x real_y ts (All-tail IsFormula t ts h))
 
   pub swap_is_sequent : IsTrue (is_name x) → IsTrue (is_name y) → (s : Sequent) → IsSequent s → IsSequent (swap_sequent x y s)
   swap_is_sequent real_x real_y s h = record { ante = swap_formulas real_x real_y s.ante h.ante; succ = swap_formulas real_x real_y s.succ h.succ }
 
   pub swap_sequents : IsTrue (is_name x) → IsTrue (is_name y) → (all : List Sequent) → All IsSequent all → All IsSequent (map (swap_sequent x y) all)
   swap_sequents real_x real_y [] h = All-nil IsSequent
-  swap_sequents real_x real_y (s ∷ all) h = All-cons IsSequent _ _ (swap_is_sequent real_x real_y s (All-head IsSequent s all h)) (swap_sequents real_x real_y all (All-tail IsSequent s all h))
+  swap_sequents real_x real_y (s ∷ all) h =
+      All-cons IsSequent _ _ (swap_is_sequent real_x real_y s (All-head IsSequent s all h)) (swap_sequents real_x real_y all (All-tail IsSequent s all h))

@@ -51,7 +51,9 @@ module _ (set : Var → Bool) where
 
   -- a member is among the variables that the set tells apart, or one that is not among them is a member too
   pub inhabited_decided : Told set → Dec (IsInhabited set)
-  inhabited_decided told = ⊎_elim (λ e. yes (one_is (fresh told.vars ∷ told.vars) e)) (λ e. no (λ m. none (or_parts _ _ e) m)) (cases_Bool (list_any is_member (fresh told.vars ∷ told.vars)))
+  inhabited_decided told =
+      ⊎_elim (λ e. yes (one_is (fresh told.vars ∷ told.vars) e)) (λ e. no (λ m. none (or_parts _ _ e) m))
+      (cases_Bool (list_any is_member (fresh told.vars ∷ told.vars)))
     where
       none : (is_member (fresh told.vars) ≡ false) × (list_any is_member told.vars ≡ false) → IsInhabited set → ⊥
       none e m = ⊎_elim
@@ -77,7 +79,8 @@ among_vars_of v (x ∷ xs) = go (bytes_eq v.name x) v.primed _ ∙ ap (λ b. byt
 
 alike_in : (t : Tree) (v w : Var) → is_among (vars_of (names t)) v ≡ false → is_among (vars_of (names t)) w ≡ false → Alike (sets t) v w
 alike_in t v w p q =
-    elsewhere t v w (names_listed (bytes_eq v.name) t ∙ sym (among_vars_of v (names t)) ∙ p) (names_listed (bytes_eq w.name) t ∙ sym (among_vars_of w (names t)) ∙ q)
+    elsewhere t v w (names_listed (bytes_eq v.name) t ∙ sym (among_vars_of v (names t)) ∙ p)
+    (names_listed (bytes_eq w.name) t ∙ sym (among_vars_of w (names t)) ∙ q)
 
 pub free_told : (t : Tree) → Told (free t)
 free_told t = record { vars = vars_of (names t); alike = λ v w p q. (alike_in t v w p q).free }
@@ -86,7 +89,8 @@ pub bound_told : (t : Tree) → Told (bound t)
 bound_told t = record { vars = vars_of (names t); alike = λ v w p q. (alike_in t v w p q).bound }
 
 both_told : (set other : Var → Bool) → Told set → Told other → Told (both set other)
-both_told set other s o = record { vars = s.vars ++ o.vars; alike = λ v w p q i. s.alike v w (parts v p).0 (parts w q).0 i && o.alike v w (parts v p).1 (parts w q).1 i }
+both_told set other s o =
+    record { vars = s.vars ++ o.vars; alike = λ v w p q i. s.alike v w (parts v p).0 (parts w q).0 i && o.alike v w (parts v p).1 (parts w q).1 i }
   where
     parts : (v : Var) → is_among (s.vars ++ o.vars) v ≡ false → (is_among s.vars v ≡ false) × (is_among o.vars v ≡ false)
     parts v h = or_parts _ _ (sym (among_append v s.vars o.vars) ∙ h)

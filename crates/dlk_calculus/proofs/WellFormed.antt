@@ -1,6 +1,7 @@
 -- Pairs have at most one first bad one, or are well formed. Nothing speaks against a pair of a well-formed list, and what holds of each pair
 -- holds of the replacement that is found.
-use Rattle.std.proofs.Common.{◌≡◌, ◌∙◌, refl, sym, subst, ap, ℕ, zero, suc, ◌-◌, ◌<◌, List, [], ◌∷◌, length, take, get_or, Bool, true, false, not, cond, Option, None, Some, find, ◌⊎◌, inl, inr, arith}
+use Rattle.std.proofs.Common.{◌≡◌, ◌∙◌, refl, sym, subst, ap, ℕ, zero, suc, ◌-◌, ◌<◌, List, [], ◌∷◌, length, take, get_or, Bool, true, false, not, cond}
+use Rattle.std.proofs.Common.{Option, None, Some, find, ◌⊎◌, inl, inr, arith}
 use Rattle.std.specs.Prelude.{All, IsTrue}
 use Rattle.std.proofs.lemmas.Bool.{cases_order}
 use Rattle.std.proofs.lemmas.Option.{none-some, same_Some, slice_get-get_or}
@@ -63,7 +64,8 @@ pub pairs_of_kind : (pairs : List Pair) → IsWellFormed pairs → All IsOfKind 
 pairs_of_kind pairs e = All-weaker IsGood IsOfKind (λ p good. not_false (is_of_kind p.sym.kind p.by) (good.1 Why'.Sort)) pairs (good_pairs pairs e)
 
 -- what holds of each pair holds of the symbol and its replacement
-pub replacement_has : (P : Sym → Tree → Type 0) (pairs : List Pair) (s : Sym) (r : Tree) → All (λ (p : Pair). P p.sym p.by) pairs → replacement pairs s ≡ Some r → P s r
+pub replacement_has : (P : Sym → Tree → Type 0) (pairs : List Pair) (s : Sym) (r : Tree) → All (λ (p : Pair). P p.sym p.by) pairs →
+    replacement pairs s ≡ Some r → P s r
 replacement_has P [] s r all e = absurd (none-some r e)
 replacement_has P (p ∷ pairs) s r all e =
     go (λ h. replacement_has P pairs s r (All-tail (λ (q : Pair). P q.sym q.by) p pairs all) h) (sym_eq s p.sym) refl e

@@ -1,5 +1,5 @@
 -- The pairs of a substitution, and when a list of them is well formed.
-use Rattle.std.specs.Prelude.{◌≡◌, ℕ, ◌-◌, ◌<◌, ◌⊎◌, List, [], ◌∷◌, take, Bool, true, false, ◌&&◌, ◌||◌, not, nat_le, ◌==◌, if◌then◌else◌, IsTrue, All, Option, Some, None, find}
+use Rattle.std.specs.Prelude.{◌≡◌, ℕ, ◌-◌, ◌<◌, ◌⊎◌, List, [], ◌∷◌, take, Bool, true, false, ◌&&◌, ◌||◌, not, nat_le, ◌==◌, if◌then◌else◌, IsTrue, All, Option, Some, None, find, codes}
 use Rattle.std.specs.List.{list_any}
 use Rattle.dlk_tree.specs.declared.op.Var.{Var}
 use Rattle.dlk_tree.specs.declared.op.Sym.{Sym}
@@ -72,6 +72,14 @@ is_against Why'.Twice earlier p = list_any (λ q. sym_eq p.sym q.sym) earlier
 is_against Why'.Dot earlier p = has (is_dot_from p.sym.arity) p.by
 is_against Why'.Hole earlier p = has_hole p.by && not (kind_row p.sym.kind).hole
 is_against Why'.Taboo earlier p = has_taboo p.sym.taboo (touched p.sym.kind p.by)
+
+-- the word of a reason, as it is printed
+abbrev pub why_text : Why → List ℕ
+why_text Why'.Sort = codes "sort"
+why_text Why'.Twice = codes "twice"
+why_text Why'.Dot = codes "dot"
+why_text Why'.Hole = codes "hole"
+why_text Why'.Taboo = codes "taboo"
 
 -- the first reason that speaks against it
 abbrev pub why : List Pair → Pair → Option Why

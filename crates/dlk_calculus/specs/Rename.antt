@@ -15,7 +15,7 @@ use Rattle.dlk_tree.specs.Statics.{free, plain, prime}
 use Rattle.dlk_tree.specs.Occurs.{has, symbols_of}
 use Rattle.dlk_calculus.specs.Notation.{forall, exists, box, dia, assign}
 
--- The names x and y are exchanged: in variables, binders, evolved variables and taboos. Names of symbols stay.
+-- The names x and y are exchanged: in variables, quantifiers, assigned variables, evolved variables and taboos. Names of symbols stay.
 
 abbrev pub swap_name : List ℕ → List ℕ → List ℕ → List ℕ
 swap_name x y z = if bytes_eq z x then y else if bytes_eq z y then x else z
@@ -90,8 +90,8 @@ hides_variables s = not (kind_row s.kind).arguments
 abbrev pub has_hidden_variables : Tree → Bool
 has_hidden_variables t = has (λ op. list_any hides_variables (symbols_of op)) t
 
--- y may stand for x, which is bound over f: y, y' and x' aren't free in f, and no symbol that may read any variable stands there, even where
--- y, y' and x' are must-bound before it
+-- y may stand for x, which is bound over f: y, y' and x' aren't free in f, and no symbol stands in f that may read variables that aren't
+-- written with it; that y, y' and x' are must-bound before it doesn't help
 abbrev pub may_rename : List ℕ → List ℕ → Tree → Bool
 may_rename x y f = not (free f (plain y) || free f (prime y) || free f (prime x) || has_hidden_variables f)
 

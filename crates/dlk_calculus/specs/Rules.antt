@@ -54,67 +54,53 @@ pub data Arguments : Type 0 where
   OneFormula : (h : Tree) → Arguments
   PlaceAndName : (i : ℕ) (y : List ℕ) → Arguments
 
--- the word of a rule
-abbrev pub word_of : Rule → List ℕ
-word_of (Close i j) = codes "close"
-word_of (CloseTrue j) = codes "closeTrue"
-word_of (CloseFalse i) = codes "closeFalse"
-word_of (NotL i) = codes "notL"
-word_of (NotR j) = codes "notR"
-word_of (AndL i) = codes "andL"
-word_of (AndR j) = codes "andR"
-word_of (OrL i) = codes "orL"
-word_of (OrR j) = codes "orR"
-word_of (ImplyL i) = codes "implyL"
-word_of (ImplyR j) = codes "implyR"
-word_of (EquivL i) = codes "equivL"
-word_of (EquivR j) = codes "equivR"
-word_of (Cut h) = codes "cut"
-word_of (CutL i h) = codes "cutL"
-word_of (CutR j h) = codes "cutR"
-word_of (HideL i) = codes "hideL"
-word_of (HideR j) = codes "hideR"
-word_of (CoHideR j) = codes "coHideR"
-word_of (ExchangeL i k) = codes "exchangeL"
-word_of (ExchangeR j l) = codes "exchangeR"
-word_of (SkolemL i) = codes "skolemL"
-word_of (SkolemR j) = codes "skolemR"
-word_of (BoundL i y) = codes "boundL"
-word_of (BoundR j y) = codes "boundR"
-word_of (EquivifyR j) = codes "equivifyR"
-word_of (CommuteEquivL i) = codes "commuteEquivL"
-word_of (CommuteEquivR j) = codes "commuteEquivR"
+-- the word of a rule, and what stands in the brackets behind it
+abbrev pub call_of : Rule → List ℕ × Arguments
+call_of (Close i j) = (codes "close", TwoPlaces i j)
+call_of (CloseTrue j) = (codes "closeTrue", OnePlace j)
+call_of (CloseFalse i) = (codes "closeFalse", OnePlace i)
+call_of (NotL i) = (codes "notL", OnePlace i)
+call_of (NotR j) = (codes "notR", OnePlace j)
+call_of (AndL i) = (codes "andL", OnePlace i)
+call_of (AndR j) = (codes "andR", OnePlace j)
+call_of (OrL i) = (codes "orL", OnePlace i)
+call_of (OrR j) = (codes "orR", OnePlace j)
+call_of (ImplyL i) = (codes "implyL", OnePlace i)
+call_of (ImplyR j) = (codes "implyR", OnePlace j)
+call_of (EquivL i) = (codes "equivL", OnePlace i)
+call_of (EquivR j) = (codes "equivR", OnePlace j)
+call_of (Cut h) = (codes "cut", OneFormula h)
+call_of (CutL i h) = (codes "cutL", PlaceAndFormula i h)
+call_of (CutR j h) = (codes "cutR", PlaceAndFormula j h)
+call_of (HideL i) = (codes "hideL", OnePlace i)
+call_of (HideR j) = (codes "hideR", OnePlace j)
+call_of (CoHideR j) = (codes "coHideR", OnePlace j)
+call_of (ExchangeL i k) = (codes "exchangeL", TwoPlaces i k)
+call_of (ExchangeR j l) = (codes "exchangeR", TwoPlaces j l)
+call_of (SkolemL i) = (codes "skolemL", OnePlace i)
+call_of (SkolemR j) = (codes "skolemR", OnePlace j)
+call_of (BoundL i y) = (codes "boundL", PlaceAndName i y)
+call_of (BoundR j y) = (codes "boundR", PlaceAndName j y)
+call_of (EquivifyR j) = (codes "equivifyR", OnePlace j)
+call_of (CommuteEquivL i) = (codes "commuteEquivL", OnePlace i)
+call_of (CommuteEquivR j) = (codes "commuteEquivR", OnePlace j)
 
--- what stands in its brackets
+abbrev pub word_of : Rule → List ℕ
+word_of rule = (call_of rule).0
+
 abbrev pub arguments_of : Rule → Arguments
-arguments_of (Close i j) = TwoPlaces i j
-arguments_of (CloseTrue j) = OnePlace j
-arguments_of (CloseFalse i) = OnePlace i
-arguments_of (NotL i) = OnePlace i
-arguments_of (NotR j) = OnePlace j
-arguments_of (AndL i) = OnePlace i
-arguments_of (AndR j) = OnePlace j
-arguments_of (OrL i) = OnePlace i
-arguments_of (OrR j) = OnePlace j
-arguments_of (ImplyL i) = OnePlace i
-arguments_of (ImplyR j) = OnePlace j
-arguments_of (EquivL i) = OnePlace i
-arguments_of (EquivR j) = OnePlace j
-arguments_of (Cut h) = OneFormula h
-arguments_of (CutL i h) = PlaceAndFormula i h
-arguments_of (CutR j h) = PlaceAndFormula j h
-arguments_of (HideL i) = OnePlace i
-arguments_of (HideR j) = OnePlace j
-arguments_of (CoHideR j) = OnePlace j
-arguments_of (ExchangeL i k) = TwoPlaces i k
-arguments_of (ExchangeR j l) = TwoPlaces j l
-arguments_of (SkolemL i) = OnePlace i
-arguments_of (SkolemR j) = OnePlace j
-arguments_of (BoundL i y) = PlaceAndName i y
-arguments_of (BoundR j y) = PlaceAndName j y
-arguments_of (EquivifyR j) = OnePlace j
-arguments_of (CommuteEquivL i) = OnePlace i
-arguments_of (CommuteEquivR j) = OnePlace j
+arguments_of rule = (call_of rule).1
+
+-- the name among the arguments, where there is one, is a name
+abbrev pub AreProper : Arguments → Type 0
+AreProper (OnePlace i) = Unit {0}
+AreProper (TwoPlaces i k) = Unit {0}
+AreProper (PlaceAndFormula i h) = Unit {0}
+AreProper (OneFormula h) = Unit {0}
+AreProper (PlaceAndName i y) = IsTrue (is_name y)
+
+abbrev pub IsProperRule : Rule → Type 0
+IsProperRule rule = AreProper (arguments_of rule)
 
 abbrev pub imply : Tree → Tree → Tree
 imply f g = two Op'.Imply f g
@@ -131,7 +117,7 @@ IsFreshIn s x = (list_any (λ t. free t (plain x)) s.ante || list_any (λ t. fre
 pub record Figure : Type 1 where
   -- the places are there
   pub places : Type 0
-  -- what the rule reads at its places: a formula, or its kids
+  -- what the rule reads at its places: a formula, its kids, or a variable with the formula that it is bound over; nothing for `cut`
   pub Parts : Type 0
   -- the formulas there have the form that the rule wants, of these parts
   pub shape : Parts → Type 0
@@ -154,7 +140,7 @@ plain_figure places Parts shape premises = record {
 
 -- Figures by what is to stand at a place of a side:
 
--- what this form makes of the parts
+-- the formula that this form makes of the parts stands there
 abbrev pub form_at : List Tree → ℕ → (Parts : Type 0) → (Parts → Tree) → (Parts → List Sequent) → Figure
 form_at side i Parts form premises = plain_figure (IsPlace side i) Parts (λ p. At side i (form p)) premises
 
@@ -178,12 +164,12 @@ binary_at side i op premises = form_at side i (Tree × Tree) (λ p. two op p.0 p
 abbrev pub quantifier_at : List Tree → ℕ → (List ℕ → Op) → Sequent → (Tree → List Sequent) → Figure
 quantifier_at side i op rest premises = record (form_at side i (List ℕ × Tree) (λ p. one (op p.0) p.1) (λ p. premises p.1)) { fresh = λ p. IsFreshIn rest p.0 }
 
--- a formula that binds x over f, where y is a name that is fresh for x; g is the same with y for x. In the code each name is one
+-- a formula that binds x over f, where y is fresh for x; g is the same with y for x
 abbrev pub binder_at : List Tree → ℕ → List ℕ → (Tree → List Sequent) → Figure
 binder_at side i y premises = record {
   places = IsPlace side i;
   Parts = Bound;
-  shape = λ p. IsTrue (is_name y) × ((t : Tree) × At side i t × RenamesBound p.x y p.f t p.g);
+  shape = λ p. (t : Tree) × At side i t × RenamesBound p.x y p.f t p.g;
   equals = λ p. Unit {0};
   fresh = λ p. IsTrue (may_rename p.x y p.f);
   premises = λ p. premises p.g;

@@ -10,7 +10,7 @@ use Rattle.dlk_calculus.specs.Arithmetic.{is_arithmetic_sequent}
 use Rattle.dlk_calculus.specs.Pairs.{Pair, IsFreeIn, IsWellFormed, AreWellMade}
 use Rattle.dlk_calculus.specs.Places.{At, IsPlace}
 use Rattle.dlk_calculus.specs.Sequents.{Sequent, IsSequent}
-use Rattle.dlk_calculus.specs.Rules.{Rule, Premises, RuleAgainst}
+use Rattle.dlk_calculus.specs.Rules.{Rule, IsProperRule, Premises, RuleAgainst}
 use Rattle.dlk_calculus.specs.Limits.{most_goals, most_leaves, most_rows, IsSmall, IsShallow}
 use Rattle.dlk_calculus.specs.Limited.{InProvable, HasFewFormulas}
 use Rattle.dlk_calculus.specs.Provables.{Provable, started, known, inferred, assumed, applied, AreNew, merged, HasGoal, Substitutes, renamed}
@@ -27,7 +27,7 @@ pub data Derives : Provable → Type 0 where
   by_arithmetic : {s : Sequent} → IsSequent s → IsTrue (is_arithmetic_sequent s) → Derives (assumed s)
   -- the premises of a rule on a goal stand in its place
   by_rule : {c s : Sequent} {premises leaves : List Sequent} {rule : Rule} (before after : List Sequent) →
-      Derives (record { conclusion = c; goals = before ++ s ∷ after; leaves = leaves }) → Premises rule s premises →
+      Derives (record { conclusion = c; goals = before ++ s ∷ after; leaves = leaves }) → IsProperRule rule → Premises rule s premises →
       Derives (record { conclusion = c; goals = before ++ premises ++ after; leaves = leaves })
   -- the goals of a fact stand in the place of its conclusion, and its new leaves come last
   by_fact : {c : Sequent} {leaves new : List Sequent} {p : Provable} (before after : List Sequent) →
@@ -50,14 +50,14 @@ pub data Step : Type 0 where
   Substitute : (fact : ℕ) (pairs : List Pair) → Step
   Rename : (fact : ℕ) → (x y : List ℕ) → Step
 
--- The names that a step exchanges are names, and its replacements are well made. In the code each name is one, and each id has a well-made
--- tree, so each step there is proper.
+-- The names that a step exchanges or gives to a variable are names, and its replacements are well made. In the code each name is one, and each
+-- id has a well-made tree, so each step there is proper.
 abbrev pub IsProper : Step → Type 0
 IsProper (Start s) = Unit {0}
 IsProper (UseAxiom name) = Unit {0}
 IsProper (UseRule name) = Unit {0}
 IsProper (Leaf s) = Unit {0}
-IsProper (Apply fact goal rule) = Unit {0}
+IsProper (Apply fact goal rule) = IsProperRule rule
 IsProper (Merge fact goal by) = Unit {0}
 IsProper (Substitute fact pairs) = AreWellMade pairs
 IsProper (Rename fact x y) = IsTrue (is_name x) × IsTrue (is_name y)
@@ -74,7 +74,7 @@ pub data Gives (rows : List Provable) : Step → Provable → Type 0 where
   leaf : (s : Sequent) → IsSequent s → IsTrue (is_arithmetic_sequent s) → Gives rows (Leaf s) (assumed s)
   -- the premises of a rule on a goal stand in its place
   apply : (fact goal : ℕ) (rule : Rule) (p : Provable) (s : Sequent) (premises : List Sequent) →
-      At rows fact p → At p.goals goal s → Premises rule s premises → Gives rows (Apply fact goal rule) (applied p goal premises)
+      At rows fact p → At p.goals goal s → IsProperRule rule → Premises rule s premises → Gives rows (Apply fact goal rule) (applied p goal premises)
   -- a fact whose conclusion is a goal of another: its goals stand in that goal's place, and its new leaves come last
   merge : (fact goal by : ℕ) (p q : Provable) (new : List Sequent) → At rows fact p → At rows by q → At p.goals goal q.conclusion →
       AreNew p.leaves q.leaves new → Gives rows (Merge fact goal by) (merged p goal q new)
@@ -104,7 +104,7 @@ EachNew P (Merge fact goal by) p = Unit {0}
 EachNew P (Substitute fact pairs) p = All (λ pair. P pair.by) pairs × InProvable P p
 EachNew P (Rename fact x y) p = Unit {0}
 
--- Exceeds why step p: p, which a rule of the calculus gives, is past this limit
+-- Exceeds why step p: p, as what the step gives, is past this limit
 pub data Exceeds : Reason → Step → Provable → Type 0 where
   too_big : {step : Step} {p : Provable} → ¬ EachNew IsSmall step p → Exceeds TooBig step p
   too_deep : {step : Step} {p : Provable} → ¬ EachNew IsShallow step p → Exceeds TooDeep step p
@@ -115,13 +115,13 @@ pub data Exceeds : Reason → Step → Provable → Type 0 where
   goals_merged : {fact goal by : ℕ} {p : Provable} → most_goals < length p.goals → Exceeds GoalsFull (Merge fact goal by) p
   leaves_merged : {fact goal by : ℕ} {p : Provable} → most_leaves < length p.leaves → Exceeds LeavesFull (Merge fact goal by) p
 
--- no limit is exceeded
+-- no limit but that of the number of rows is exceeded
 abbrev pub IsWithin : Step → Provable → Type 0
 IsWithin step p = (why : Reason) → ¬ Exceeds why step p
 
--- Against rows step why: this speaks against the step. One case for each reason and kind of step, one for all reasons against a rule, and
--- one for all limits of what is given. That a proper step gives something wherever no other case speaks against it is a law, so a case that
--- is forgotten here is found.
+-- Against rows step why: this speaks against the step. One case for each reason and kind of step, one for all reasons against a rule, one
+-- for all limits of what is given, and one for the number of rows. That a proper step gives something wherever none but the last two speaks
+-- against it is a law, so a case that is forgotten here is found.
 pub data Against (rows : List Provable) : Step → Reason → Type 0 where
   no_fact_to_apply : {fact goal : ℕ} {rule : Rule} → ¬ IsPlace rows fact → Against rows (Apply fact goal rule) NoFact
   no_fact_to_merge : {fact goal by : ℕ} → ¬ (IsPlace rows fact × IsPlace rows by) → Against rows (Merge fact goal by) NoFact

@@ -62,7 +62,8 @@ kids_of [] domain = kid domain no_kids
 kids_of (Equation x side ∷ rest) domain = kid side (kids_of rest domain)
 kids_of (Constant s ∷ rest) domain = kids_of rest domain
 
--- The operator over old kids gives t, where these give the new ones. One row where a symbol may have a pair; any other operator stays.
+-- The operator over old kids gives t, where these give the new ones. One row for each operator
+-- with a symbol of its own, of which a system's are its constants; any other operator stays.
 abbrev pub SubstAt : List Pair → Op → Forest → Forest → Tree → Type 0
 SubstAt pairs (Op'.UnitFun s) old new t = Replaced (replacement pairs s) (λ r. t ≡ r) (Stays (IsAdmissible pairs) (Op'.UnitFun s) old new t)
 SubstAt pairs (Op'.UnitPred s) old new t = Replaced (replacement pairs s) (λ r. t ≡ r) (Stays (IsAdmissible pairs) (Op'.UnitPred s) old new t)

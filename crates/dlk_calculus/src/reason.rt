@@ -1,3 +1,6 @@
+ghost use Rattle.std.specs.Prelude.{◌≡◌};
+ghost use Rattle.dlk_calculus.specs.Reasons.{reason_text};
+
 /// Why a step isn't taken, in the order in which it is looked for: the reasons why it is no step of the calculus, and
 /// behind them the limits.
 #[derive(Clone, Copy, Debug, PartialEq, Eq)]
@@ -36,4 +39,31 @@ pub enum Reason {
     LeavesFull,
     /// There are 400,000 rows.
     LinesFull,
+}
+
+impl Reason {
+    /// Its word, as it is printed.
+    pub fn word(self) -> &'static str
+        ensures { result.now ≡ reason_text self }
+    {
+        match self {
+            Reason::NoFact => "NoFact",
+            Reason::NoGoal => "NoGoal",
+            Reason::UnknownName => "UnknownName",
+            Reason::NoPlace => "NoPlace",
+            Reason::WrongShape => "WrongShape",
+            Reason::NotEqual => "NotEqual",
+            Reason::NotFresh => "NotFresh",
+            Reason::NotArith => "NotArith",
+            Reason::IllSubst => "IllSubst",
+            Reason::FreeInSubst => "FreeInSubst",
+            Reason::NotAdmissible => "NotAdmissible",
+            Reason::TooBig => "TooBig",
+            Reason::TooDeep => "TooDeep",
+            Reason::SideFull => "SideFull",
+            Reason::GoalsFull => "GoalsFull",
+            Reason::LeavesFull => "LeavesFull",
+            Reason::LinesFull => "LinesFull",
+        }
+    }
 }

@@ -113,7 +113,8 @@ symbol_low kind s h =
 last_digits_low : (w n : ℕ) → are_low (last_digits w n) ≡ true
 last_digits_low zero n = refl
 last_digits_low (suc w) n =
-    low_append (last_digits w (n / 10)) ((48 + n % 10) ∷ []) (last_digits_low w (n / 10)) (both (is_low (48 + n % 10)) true (lt-ltb (48 + n % 10) 128 (omega arith)) refl)
+    let low : is_low (48 + n % 10) ≡ true = lt-ltb (48 + n % 10) 128 (omega arith) in
+    low_append (last_digits w (n / 10)) ((48 + n % 10) ∷ []) (last_digits_low w (n / 10)) (both (is_low (48 + n % 10)) true low refl)
 
 decimal_low : (n : ℕ) → n < 10 ^ 38 → are_low (decimal n) ≡ true
 decimal_low n h = let wide : 10 ^ 38 < 10 ^ 64 = lit< tt in ascii_low (decimal n) (IsAscii-decimal_wide n (omega (arith, h, wide)))
@@ -134,7 +135,8 @@ literal_low n h = by_scale (n.scale == 0)
     by_scale true = decimal_low n.digits below
     by_scale false =
         let less = div-le_self n.digits (10 ^ n.scale) in
-        low_append (decimal (n.digits / 10 ^ n.scale)) (46 ∷ last_digits n.scale n.digits) (decimal_low (n.digits / 10 ^ n.scale) (omega (arith, less, below))) (last_digits_low n.scale n.digits)
+        let low = decimal_low (n.digits / 10 ^ n.scale) (omega (arith, less, below)) in
+        low_append (decimal (n.digits / 10 ^ n.scale)) (46 ∷ last_digits n.scale n.digits) low (last_digits_low n.scale n.digits)
 
 -- the parts of a style
 abbrev style_is_low : Style → Bool
@@ -177,13 +179,15 @@ items_real (op.System items) h = (and_parts _ (list_all is_item items) (and_part
 items_real _ h = tt
 
 -- texts with another between each two
-more_low : {X : Type 0} (f : X → List Piece) (sep : List Piece) (xs : List X) → text_is_low sep ≡ true → list_all (λ x. text_is_low (f x)) xs ≡ true → text_is_low (flat_map (λ x. sep ++ f x) xs) ≡ true
+more_low : {X : Type 0} (f : X → List Piece) (sep : List Piece) (xs : List X) → text_is_low sep ≡ true → list_all (λ x. text_is_low (f x)) xs ≡ true
+    → text_is_low (flat_map (λ x. sep ++ f x) xs) ≡ true
 more_low f sep [] s h = refl
 more_low f sep (x ∷ xs) s h =
     let w = and_parts (text_is_low (f x)) (list_all (λ y. text_is_low (f y)) xs) h in
     text_append (sep ++ f x) (flat_map (λ y. sep ++ f y) xs) (text_append sep (f x) s w.0) (more_low f sep xs s w.1)
 
-joined_low : {X : Type 0} (f : X → List Piece) (sep : List Piece) (xs : List X) → text_is_low sep ≡ true → list_all (λ x. text_is_low (f x)) xs ≡ true → text_is_low (join_by f sep xs) ≡ true
+joined_low : {X : Type 0} (f : X → List Piece) (sep : List Piece) (xs : List X) → text_is_low sep ≡ true → list_all (λ x. text_is_low (f x)) xs ≡ true
+    → text_is_low (join_by f sep xs) ≡ true
 joined_low f sep [] s h = refl
 joined_low f sep (x ∷ xs) s h =
     let w = and_parts (text_is_low (f x)) (list_all (λ y. text_is_low (f y)) xs) h in
@@ -204,11 +208,13 @@ behind_low (Const s) terms h = h
 behind_low (Evolve x) [] h = refl
 behind_low (Evolve x) (t ∷ terms) h = (and_parts (text_is_low t) (texts_are_low terms) h).1
 
-items_low : (items : List OdeItem) (terms : List (List Piece)) → list_all is_item items ≡ true → texts_are_low terms ≡ true → texts_are_low (item_texts items terms) ≡ true
+items_low : (items : List OdeItem) (terms : List (List Piece)) → list_all is_item items ≡ true → texts_are_low terms ≡ true
+    → texts_are_low (item_texts items terms) ≡ true
 items_low [] terms h t = refl
 items_low (item ∷ items) terms h t =
     let w = and_parts (is_item item) (list_all is_item items) h in
-    both (text_is_low (item_text item terms)) (texts_are_low (item_texts items (terms_behind item terms))) (item_low item terms w.0 t) (items_low items (terms_behind item terms) w.1 (behind_low item terms t))
+    both (text_is_low (item_text item terms)) (texts_are_low (item_texts items (terms_behind item terms))) (item_low item terms w.0 t)
+    (items_low items (terms_behind item terms) w.1 (behind_low item terms t))
 
 domain_low : (domain : Tree) (text : List Piece) → text_is_low text ≡ true → text_is_low (domain_text domain text) ≡ true
 domain_low domain text h = by_test (is_true (root domain))
@@ -217,13 +223,15 @@ domain_low domain text h = by_test (is_true (root domain))
     by_test true = refl
     by_test false = h
 
-inside_low : (items : Option (List OdeItem)) (sep : List Piece) (kids : List Tree) (texts : List (List Piece)) → IfSome items (λ its. list_all is_item its ≡ true) → text_is_low sep ≡ true → texts_are_low texts ≡ true → text_is_low (inside items sep kids texts) ≡ true
+inside_low : (items : Option (List OdeItem)) (sep : List Piece) (kids : List Tree) (texts : List (List Piece))
+    → IfSome items (λ its. list_all is_item its ≡ true) → text_is_low sep ≡ true → texts_are_low texts ≡ true → text_is_low (inside items sep kids texts) ≡ true
 inside_low None sep kids texts h s t = joined_low (λ text. text) sep texts s t
 inside_low (Some items) sep kids texts h s t =
     let terms = item_texts items texts in
     let domain = get_or kids (length (evolved items)) (node op.True no_kids) in
     let last = get_or texts (length (evolved items)) [] in
-    text_append (join_by (λ text. text) sep terms) (domain_text domain last) (joined_low (λ text. text) sep terms s (items_low items texts h t)) (domain_low domain last (some_low texts (length (evolved items)) t))
+    text_append (join_by (λ text. text) sep terms) (domain_text domain last) (joined_low (λ text. text) sep terms s (items_low items texts h t))
+    (domain_low domain last (some_low texts (length (evolved items)) t))
 
 bracketed_low : (b : Bool) (s : Sort) (text : List Piece) → text_is_low text ≡ true → text_is_low (bracketed b s text) ≡ true
 bracketed_low true Term text h = text_append text (mark CloseRound ∷ []) h refl
@@ -238,16 +246,19 @@ mutual
       let v = and_parts (text_is_low (opening o)) (text_is_low (between o)) w.0 in
       let body = inside (items_of o) (between o) (trees_in kids) (shown_kids o 0 kids) in
       let low = inside_low (items_of o) (between o) (trees_in kids) (shown_kids o 0 kids) (items_real o h.0.parts_fit) v.1 (kids_low o 0 kids h.1) in
-      bracketed_low (nat_lt (level o) n) (sort_of o) (opening o ++ (body ++ closing o)) (text_append (opening o) (body ++ closing o) v.0 (text_append body (closing o) low w.1))
+      let all = text_append (opening o) (body ++ closing o) v.0 (text_append body (closing o) low w.1) in
+      bracketed_low (nat_lt (level o) n) (sort_of o) (opening o ++ (body ++ closing o)) all
 
   kids_low : (o : Op) (i : ℕ) (kids : Forest) → AllWellMade kids → texts_are_low (shown_kids o i kids) ≡ true
   kids_low o i no_kids h = refl
-  kids_low o i (kid t rest) h = both (text_is_low (shown_at (least o i) t)) (texts_are_low (shown_kids o (i + 1) rest)) (shown_low (least o i) t h.0) (kids_low o (i + 1) rest h.1)
+  kids_low o i (kid t rest) h =
+      both (text_is_low (shown_at (least o i) t)) (texts_are_low (shown_kids o (i + 1) rest)) (shown_low (least o i) t h.0) (kids_low o (i + 1) rest h.1)
 
 -- sequents
 trees_low : (ts : List Tree) → All WellMade ts → list_all (λ t. text_is_low (shown t)) ts ≡ true
 trees_low [] h = refl
-trees_low (t ∷ ts) h = both (text_is_low (shown t)) (list_all (λ u. text_is_low (shown u)) ts) (shown_low 1 t (All-head WellMade t ts h)) (trees_low ts (All-tail WellMade t ts h))
+trees_low (t ∷ ts) h = both (text_is_low (shown t)) (list_all (λ u. text_is_low (shown u)) ts) (shown_low 1 t (All-head WellMade t ts h))
+    (trees_low ts (All-tail WellMade t ts h))
 
 formulas_low : (ts : List Tree) → All WellMade ts → text_is_low (formulas ts) ≡ true
 formulas_low ts h = joined_low shown (mark Comma ∷ space ∷ []) ts refl (trees_low ts h)
@@ -266,4 +277,5 @@ tree_ascii t h = low_ascii (spell (shown t)) (spell_low (shown t) (shown_low 1 t
 
 pub sequent_ascii : (s : Sequent) → All WellMade s.ante → All WellMade s.succ → IsAscii (spell (shown_sequent s))
 sequent_ascii s h g =
-    low_ascii (spell (shown_sequent s)) (spell_low (shown_sequent s) (text_append (left_side s.ante) (mark Turnstile ∷ right_side s.succ) (left_low s.ante h) (right_low s.succ g)))
+    let low = text_append (left_side s.ante) (mark Turnstile ∷ right_side s.succ) (left_low s.ante h) (right_low s.succ g) in
+    low_ascii (spell (shown_sequent s)) (spell_low (shown_sequent s) low)

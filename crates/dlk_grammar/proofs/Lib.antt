@@ -2,4 +2,5 @@ pub mod Ascii
 pub mod Marks
 pub mod Spelled
 pub mod Splitting
+pub mod SomeSplit
 pub mod Real

@@ -76,8 +76,10 @@ scaled : (s t : List ℕ) → Trimmed t → (length t == 0 || not (value (s ++ t
 scaled s _ none = refl
 scaled s _ (some ds d x y z) =
     let v = value (s ++ ds) in
-    let parts : value (s ++ (ds ++ d ∷ [])) ≡ 10 * value (s ++ ds) + (d - 48) = ap value (sym (append_assoc s ds (d ∷ []))) ∙ fold-append (λ m b. 10 * m + (b - 48)) 0 (s ++ ds) (d ∷ []) in
-    or_right (length (ds ++ d ∷ []) == 0) (not (value (s ++ (ds ++ d ∷ [])) % 10 == 0)) (not_from_false (value (s ++ (ds ++ d ∷ [])) % 10 == 0) (rw parts (last_digit (value (s ++ ds)) d y z)))
+    let parts : value (s ++ (ds ++ d ∷ [])) ≡ 10 * value (s ++ ds) + (d - 48) =
+    ap value (sym (append_assoc s ds (d ∷ []))) ∙ fold-append (λ m b. 10 * m + (b - 48)) 0 (s ++ ds) (d ∷ []) in
+    let last = not_from_false (value (s ++ (ds ++ d ∷ [])) % 10 == 0) (rw parts (last_digit (value (s ++ ds)) d y z)) in
+    or_right (length (ds ++ d ∷ []) == 0) (not (value (s ++ (ds ++ d ∷ [])) % 10 == 0)) last
 
 pub digits_some : (s : List ℕ) → are_digits s ≡ true → 1 ≤ length s
 digits_some [] h = absurd cc
@@ -86,7 +88,8 @@ digits_some (b ∷ l) h = omega arith
 pub number_is : (s f : List ℕ) → are_digits s ≡ true → list_all is_digit f ≡ true → length s + length f ≤ 38 → is_num (literal_number s f) ≡ true
 number_is s f h g le =
     let t = trimmed_is f g in
-    let all : list_all is_digit (s ++ trimmed f) ≡ true = list_all-append is_digit s (trimmed f) ∙ and_from (list_all is_digit s) (list_all is_digit (trimmed f)) (digits_all s h) (digits_trimmed (trimmed f) t) in
+    let all : list_all is_digit (s ++ trimmed f) ≡ true = list_all-append is_digit s (trimmed f)
+    ∙ and_from (list_all is_digit s) (list_all is_digit (trimmed f)) (digits_all s h) (digits_trimmed (trimmed f) t) in
     let below = value_below (s ++ trimmed f) 0 all in
     let size = length-append s (trimmed f) in
     let short = trimmed_short f in

@@ -3,12 +3,13 @@ use Rattle.std.proofs.Common.{◌≡◌, ℕ, ◌+◌, ◌-◌, ◌≤◌, ◌<�
 use Rattle.std.specs.List.{list_all}
 use Rattle.std.specs.Str.{bytes_eq}
 use Rattle.std.specs.Prelude.{not}
-use Rattle.std.proofs.lemmas.Bool.{and_parts, or_cases, leb-true, le-leb, lt-leb, eqb-true}
+use Rattle.std.proofs.lemmas.Bool.{and_parts, or_cases, cases_lt, leb-true, le-leb, lt-leb, eqb-true}
 use Rattle.dlk_tree.specs.Names.{is_letter, is_name_byte, is_word, is_name}
 use Rattle.dlk_grammar.specs.declared.token.Mark.{Mark}
 use Rattle.dlk_grammar.specs.declared.token.TokenKind.{TokenKind}
 use Rattle.dlk_grammar.specs.declared.token.TokenKind.TheVariants.{Word, True, False, Number, LongNumber, Dot, Hole, Mark as AMark, End}
 use Rattle.dlk_grammar.specs.Tokens.{is_space, is_digit, are_digits, literal_number, spelling, Spells, word, true_word, false_word, integer, decimal, long_integer, long_decimal, dot, hole, a_mark}
+use Rattle.dlk_grammar.specs.Literals.{IsLiteral, whole, pointed, literal_kind}
 use Rattle.dlk_grammar.proofs.Marks.{each_mark, mark_of, mark_of_spelling}
 
 -- what a byte may begin
@@ -21,7 +22,9 @@ pub data Class : Type 0 where
   Other : Class
 
 abbrev pub class : ℕ → Class
-class b = if is_letter b then Letter else (if is_digit b then Digit else (if b == 46 then Point else (if b == 95 then Under else (if is_space b then Space else Other))))
+class b =
+    if is_letter b then Letter
+    else (if is_digit b then Digit else (if b == 46 then Point else (if b == 95 then Under else (if is_space b then Space else Other))))
 
 abbrev pub first_class : List ℕ → Class
 first_class s = class (get_or s 0 0)
@@ -78,11 +81,6 @@ pub mark_class : (m : Mark) → first_class (spelling m) ≡ Other
 unfolding begins_mark
 mark_class m = otherwise (first_class (spelling m)) (each_mark (λ m. begins_mark (first_class (spelling m))) refl m)
 
--- digits, or digits, a point and digits
-pub data IsLiteral : List ℕ → Type 0 where
-  whole : (s : List ℕ) → are_digits s ≡ true → IsLiteral s
-  pointed : (s f : List ℕ) → are_digits s ≡ true → are_digits f ≡ true → IsLiteral (s ++ (codes "." ++ f))
-
 -- what a token is whose first byte is of a class
 abbrev pub Shape : Class → List ℕ → Type 0
 Shape Letter s = is_word s ≡ true
@@ -100,10 +98,6 @@ integer_part (b ∷ bs) = if is_digit b then b ∷ integer_part bs else []
 abbrev pub fraction_part : List ℕ → List ℕ
 fraction_part [] = []
 fraction_part (b ∷ bs) = if is_digit b then fraction_part bs else bs
-
--- the token of a literal, by the digits before and behind its point
-abbrev pub literal_kind : List ℕ → List ℕ → TokenKind
-literal_kind s f = if nat_le (length s + length f) 38 then Number (literal_number s f) else LongNumber
 
 -- the token that bytes spell, if any
 abbrev pub kind_by : Class → List ℕ → TokenKind
@@ -158,11 +152,24 @@ whole_kind s h = rw (integer_alone s (digits_all s h), fraction_none s (digits_a
 pointed_kind : (s f : List ℕ) → are_digits s ≡ true → kind_by Digit (s ++ (codes "." ++ f)) ≡ literal_kind s f
 pointed_kind s f h = rw (integer_before s f (digits_all s h), fraction_behind s f (digits_all s h)) refl
 
-pub number_kind : (s f : List ℕ) → length s + length f ≤ 38 → literal_kind s f ≡ Number (literal_number s f)
+number_kind : (s f : List ℕ) → length s + length f ≤ 38 → literal_kind s f ≡ Number (literal_number s f)
 number_kind s f le = rw (le-leb (length s + length f) 38 le) refl
 
-pub long_kind : (s f : List ℕ) → 38 < length s + length f → literal_kind s f ≡ LongNumber
+long_kind : (s f : List ℕ) → 38 < length s + length f → literal_kind s f ≡ LongNumber
 long_kind s f lt = rw (lt-leb (length s + length f) 38 lt) refl
+
+-- what a literal spells
+pub spells_whole : (s : List ℕ) → are_digits s ≡ true → Spells s (literal_kind s [])
+spells_whole s h = elim (cases_lt 38 (length s)) [
+  | inl lt ↦ subst (Spells s) (sym (long_kind s [] (omega arith))) (long_integer s h lt)
+  | inr le ↦ subst (Spells s) (sym (number_kind s [] (omega arith))) (integer s h le)
+]
+
+pub spells_pointed : (s f : List ℕ) → are_digits s ≡ true → are_digits f ≡ true → Spells (s ++ (codes "." ++ f)) (literal_kind s f)
+spells_pointed s f h i = elim (cases_lt 38 (length s + length f)) [
+  | inl lt ↦ subst (Spells (s ++ (codes "." ++ f))) (sym (long_kind s f lt)) (long_decimal s f h i lt)
+  | inr le ↦ subst (Spells (s ++ (codes "." ++ f))) (sym (number_kind s f le)) (decimal s f h i le)
+]
 
 name_kind : (s : List ℕ) → is_name s ≡ true → kind_by Letter s ≡ Word s
 name_kind s h = go (bytes_eq s (codes "true")) (bytes_eq s (codes "false")) (is_word s) h
@@ -180,10 +187,14 @@ seen (word s h) =
     record { class = Letter; class_is = word_class s w; shape = w; kind = name_kind s h }
 seen true_word = record { class = Letter; class_is = refl; shape = refl; kind = refl }
 seen false_word = record { class = Letter; class_is = refl; shape = refl; kind = refl }
-seen (integer s h le) = record { class = Digit; class_is = literal_class (whole s h); shape = whole s h; kind = whole_kind s h ∙ number_kind s [] (omega arith) }
-seen (decimal s f h i le) = record { class = Digit; class_is = literal_class (pointed s f h i); shape = pointed s f h i; kind = pointed_kind s f h ∙ number_kind s f le }
-seen (long_integer s h lt) = record { class = Digit; class_is = literal_class (whole s h); shape = whole s h; kind = whole_kind s h ∙ long_kind s [] (omega arith) }
-seen (long_decimal s f h i lt) = record { class = Digit; class_is = literal_class (pointed s f h i); shape = pointed s f h i; kind = pointed_kind s f h ∙ long_kind s f lt }
+seen (integer s h le) =
+    record { class = Digit; class_is = literal_class (whole s h); shape = whole s h; kind = whole_kind s h ∙ number_kind s [] (omega arith) }
+seen (decimal s f h i le) =
+    record { class = Digit; class_is = literal_class (pointed s f h i); shape = pointed s f h i; kind = pointed_kind s f h ∙ number_kind s f le }
+seen (long_integer s h lt) =
+    record { class = Digit; class_is = literal_class (whole s h); shape = whole s h; kind = whole_kind s h ∙ long_kind s [] (omega arith) }
+seen (long_decimal s f h i lt) =
+    record { class = Digit; class_is = literal_class (pointed s f h i); shape = pointed s f h i; kind = pointed_kind s f h ∙ long_kind s f lt }
 seen (dot n lt) = record { class = Point; class_is = refl; shape = (n, lt, refl); kind = let e : (48 + n) - 48 ≡ n = omega arith in rw e refl }
 seen hole = record { class = Under; class_is = refl; shape = refl; kind = refl }
 seen (a_mark m) = record { class = Other; class_is = mark_class m; shape = (m, refl); kind = ap AMark (mark_of_spelling m) }
@@ -210,3 +221,30 @@ spelled_some {s} p e =
 -- white space begins no token
 pub space_no_token : {s : List ℕ} {k : TokenKind} → Spells s k → is_space (get_or s 0 0) ≡ true → ⊥
 space_no_token {s} p h = shape_at p Space (space_class (get_or s 0 0) h)
+
+-- what a token in front of other bytes is, by the first of them
+shape_here : (bytes s after : List ℕ) {k : TokenKind} (c : Class) → first_class bytes ≡ c → bytes ≡ s ++ after → Spells s k → Shape c s
+shape_here bytes [] after c h e p = absurd (spelled_some p refl)
+shape_here bytes (b ∷ s) after c h e p = shape_at p c (ap first_class (sym e) ∙ h)
+
+module _ (bytes s after : List ℕ) {k : TokenKind} (e : bytes ≡ s ++ after) (p : Spells s k) where
+  pub word_here : is_letter (get_or bytes 0 0) ≡ true → is_word s ≡ true
+  word_here h = shape_here bytes s after Letter (letter_class (get_or bytes 0 0) h) e p
+
+  pub literal_here : is_digit (get_or bytes 0 0) ≡ true → IsLiteral s
+  literal_here h = shape_here bytes s after Digit (digit_class (get_or bytes 0 0) h) e p
+
+  pub dot_here : get_or bytes 0 0 ≡ 46 → (n : ℕ) × (n < 8) × (s ≡ codes "._" ++ (48 + n) ∷ [])
+  dot_here h = shape_here bytes s after Point (ap class h) e p
+
+  pub hole_here : get_or bytes 0 0 ≡ 95 → s ≡ codes "_"
+  hole_here h = shape_here bytes s after Under (ap class h) e p
+
+  pub mark_here : is_letter (get_or bytes 0 0) ≡ false → is_digit (get_or bytes 0 0) ≡ false → (get_or bytes 0 0 == 46) ≡ false
+      → (get_or bytes 0 0 == 95) ≡ false
+      → (m : Mark) × (s ≡ spelling m)
+  mark_here no_letter no_digit no_point no_under = go (is_space (get_or bytes 0 0)) refl
+    where
+      go : (b : Bool) → is_space (get_or bytes 0 0) ≡ b → (m : Mark) × (s ≡ spelling m)
+      go true h = absurd (shape_here bytes s after Space (space_class (get_or bytes 0 0) h) e p)
+      go false h = shape_here bytes s after Other (rw (no_letter, no_digit, no_point, no_under, h) refl) e p

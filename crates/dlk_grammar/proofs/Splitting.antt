@@ -1,12 +1,13 @@
 -- Bytes are split in one way, or come to one bad place.
-use Rattle.std.proofs.Common.{◌≡◌, ℕ, ◌+◌, ◌≤◌, true, false, List, [], ◌∷◌, ◌++◌, length, take, drop, get_or, ◌==◌, refl, sym, ap, subst, ◌∙◌, arith, codes}
+use Rattle.std.proofs.Common.{◌≡◌, ℕ, ◌+◌, ◌<◌, ◌≤◌, true, false, List, [], ◌∷◌, ◌++◌, length, take, drop, get_or, ◌==◌, refl, sym, ap, subst, ◌∙◌, arith, codes, length-append}
 use Rattle.std.proofs.Math.Seq.{take-append_seam, drop-append_seam}
 use Rattle.std.proofs.lemmas.Bool.{true≢false, eq-eqb}
 use Rattle.dlk_grammar.specs.declared.token.Token.{Token}
 use Rattle.dlk_grammar.specs.declared.token.TokenKind.{TokenKind}
 use Rattle.dlk_grammar.specs.declared.token.TokenKind.TheVariants.{End}
 use Rattle.dlk_grammar.specs.Tokens.{is_space, Spells}
-use Rattle.dlk_grammar.specs.Splits.{Longest, BeginsComment, EndsLine, at_end, at_feed, IsComment, token, Splits, ended, space, comment, one, BeginsNothing, BadAt, here, after_space, after_comment, after_one}
+use Rattle.dlk_grammar.specs.Splits.{Longest, BeginsComment, EndsLine, at_end, at_feed, IsComment, token, Splits, ended, space, comment, one, BadAt, here, after_space, after_comment, after_one}
+use Rattle.dlk_grammar.specs.Fronts.{Piece, Ended, Gap, One, Bad, AtFront, front-ended, front-space, front-comment, front-one, front-bad}
 use Rattle.dlk_grammar.proofs.Spelled.{one_kind, spelled_some, space_no_token}
 
 -- two longest tokens are one
@@ -24,10 +25,10 @@ pub same_rest : (s r t : List ℕ) → s ++ r ≡ s ++ t → r ≡ t
 same_rest s r t e = sym (drop-append_seam s r) ∙ (ap (drop (length s)) e ∙ drop-append_seam s t)
 
 -- the end of a comment isn't inside it
-abbrev NoEnd : List ℕ → Type 0
+abbrev pub NoEnd : List ℕ → Type 0
 NoEnd inside = (sooner after : List ℕ) → ¬ (inside ++ codes "*" ≡ sooner ++ (codes "*/" ++ after))
 
-later_no_end : (c : ℕ) (i : List ℕ) → NoEnd (c ∷ i) → NoEnd i
+pub later_no_end : (c : ℕ) (i : List ℕ) → NoEnd (c ∷ i) → NoEnd i
 later_no_end c i n = λ sooner after e. n (c ∷ sooner) after (ap (λ l. c ∷ l) e)
 
 -- two numbers
@@ -52,7 +53,7 @@ one_inside (c ∷ i) (d ∷ j) r t e n m =
     cc
 
 -- nor is a line feed in a line
-abbrev NoFeed : List ℕ → Type 0
+abbrev pub NoFeed : List ℕ → Type 0
 NoFeed inside = (sooner after : List ℕ) → ¬ (inside ≡ sooner ++ 10 ∷ after)
 
 later_no_feed : (c : ℕ) (i : List ℕ) → NoFeed (c ∷ i) → NoFeed i
@@ -77,7 +78,8 @@ pub one_comment : {bytes s t r q : List ℕ} → IsComment bytes s r → IsComme
 one_comment (IsComment.block i r e n) (IsComment.block j q f m) =
     let inner : i ++ (codes "*/" ++ r) ≡ j ++ (codes "*/" ++ q) = same_rest (codes "/*") (i ++ (codes "*/" ++ r)) (j ++ (codes "*/" ++ q)) (sym e ∙ f) in
     let same = one_inside i j r q inner n m in
-    let outer : codes "*/" ++ r ≡ codes "*/" ++ q = same_rest i (codes "*/" ++ r) (codes "*/" ++ q) (inner ∙ ap (λ (l : List ℕ). l ++ (codes "*/" ++ q)) (sym same)) in
+    let outer : codes "*/" ++ r ≡ codes "*/" ++ q =
+    same_rest i (codes "*/" ++ r) (codes "*/" ++ q) (inner ∙ ap (λ (l : List ℕ). l ++ (codes "*/" ++ q)) (sym same)) in
     (ap (λ (l : List ℕ). codes "/*" ++ (l ++ codes "*/")) same, cc)
 one_comment (IsComment.block i r e n) (IsComment.line j q f m y) = absurd (apart 42 47 refl (ap (λ (l : List ℕ). get_or l 1 0) (sym e ∙ f)))
 one_comment (IsComment.line i r e n x) (IsComment.block j q f m) = absurd (apart 47 42 refl (ap (λ (l : List ℕ). get_or l 1 0) (sym e ∙ f)))
@@ -111,20 +113,6 @@ token_some {bytes} {s} l e = go s l.front l.spells
     go : (s : List ℕ) {k : TokenKind} → bytes ≡ s ++ l.rest → Spells s k → ⊥
     go [] f p = spelled_some p refl
     go (c ∷ s) f p = cc
-
--- What is at the front of bytes: nothing, as they have ended; a gap of so many bytes; a token; or a bad byte.
-pub data Piece : Type 0 where
-  Ended : Piece
-  Gap : ℕ → List ℕ → Piece
-  One : List ℕ → TokenKind → List ℕ → Piece
-  Bad : Piece
-
-pub data AtFront (bytes : List ℕ) : Piece → Type 0 where
-  front-ended : bytes ≡ [] → AtFront bytes Ended
-  front-space : (b : ℕ) (rest : List ℕ) → bytes ≡ b ∷ rest → is_space b ≡ true → AtFront bytes (Gap 1 rest)
-  front-comment : (s rest : List ℕ) → IsComment bytes s rest → AtFront bytes (Gap (length s) rest)
-  front-one : (s rest : List ℕ) (k : TokenKind) → bytes ≡ s ++ rest → ¬ BeginsComment bytes → Longest bytes s k → AtFront bytes (One s k rest)
-  front-bad : (b : ℕ) (rest : List ℕ) → BeginsNothing bytes b rest → AtFront bytes Bad
 
 both_tests : {b c : ℕ} {l r bytes : List ℕ} → bytes ≡ b ∷ l → bytes ≡ c ∷ r → is_space b ≡ true → is_space c ≡ false → ⊥
 both_tests {b} {c} e f x y = let same : b ≡ c = cc in true≢false (sym x ∙ ap is_space same ∙ y)
@@ -177,13 +165,49 @@ pub splits_behind : {at : ℕ} {bytes : List ℕ} {ts : List Token} {p : Piece} 
 splits_behind {at} {bytes} {ts} (ended e) f = subst (SplitsBehind at ts) (one_front (front-ended e) f) refl
 splits_behind {at} {bytes} {ts} (space b rest e h s) f = subst (SplitsBehind at ts) (one_front (front-space b rest e h) f) s
 splits_behind {at} {bytes} {ts} (comment c rest e s) f = subst (SplitsBehind at ts) (one_front (front-comment c rest e) f) s
-splits_behind {at} (one {ts = ts} s rest k e n l p) f = subst (SplitsBehind at (token k at (at + length s) ∷ ts)) (one_front (front-one s rest k e n l) f) (ts, refl, p)
+splits_behind {at} (one {ts = ts} s rest k e n l p) f =
+    subst (SplitsBehind at (token k at (at + length s) ∷ ts)) (one_front (front-one s rest k e n l) f) (ts, refl, p)
 
 pub bad_behind : {at bad : ℕ} {bytes : List ℕ} {p : Piece} → BadAt at bytes bad → AtFront bytes p → BadBehind at bad p
 bad_behind {at} {bad} (here b rest n) f = subst (BadBehind at bad) (one_front (front-bad b rest n) f) refl
 bad_behind {at} {bad} (after_space b rest e h s) f = subst (BadBehind at bad) (one_front (front-space b rest e h) f) s
 bad_behind {at} {bad} (after_comment c rest e s) f = subst (BadBehind at bad) (one_front (front-comment c rest e) f) s
 bad_behind {at} {bad} (after_one s rest k e n l p) f = subst (BadBehind at bad) (one_front (front-one s rest k e n l) f) p
+
+-- a split goes on over what is at the front, and so does the way to a bad place
+pub go_on : {at : ℕ} {bytes : List ℕ} {ts : List Token} {p : Piece} → AtFront bytes p → SplitsBehind at ts p → Splits at bytes ts
+go_on {at} {bytes} (front-ended e) s = subst (Splits at bytes) (sym s) (ended e)
+go_on (front-space b rest e h) s = space b rest e h s
+go_on (front-comment c rest e) s = comment c rest e s
+go_on {at} {bytes} (front-one w rest k e n l) s = subst (Splits at bytes) (sym s.1) (one w rest k e n l s.2)
+go_on (front-bad b rest n) s = absurd s
+
+pub go_bad : {at bad : ℕ} {bytes : List ℕ} {p : Piece} → AtFront bytes p → BadBehind at bad p → BadAt at bytes bad
+go_bad (front-ended e) s = absurd s
+go_bad (front-space b rest e h) s = after_space b rest e h s
+go_bad (front-comment c rest e) s = after_comment c rest e s
+go_bad (front-one w rest k e n l) s = after_one w rest k e n l s
+go_bad {at} {bad} {bytes} (front-bad b rest n) s = subst (BadAt at bytes) (sym s) (here b rest n)
+
+-- each step goes forward
+abbrev pub Forward : Piece → List ℕ → Type 0
+Forward Ended bytes = Unit {0}
+Forward (Gap n rest) bytes = (0 < n) × (length rest + n ≡ length bytes)
+Forward (One s k rest) bytes = (0 < length s) × (length rest + length s ≡ length bytes)
+Forward Bad bytes = Unit {0}
+
+comment_forward : {bytes s rest : List ℕ} → IsComment bytes s rest → (0 < length s) × (length rest + length s ≡ length bytes)
+comment_forward (IsComment.block inside rest e n) =
+    (omega arith, omega (arith, ap length e, length-append inside (codes "*/" ++ rest), length-append inside (codes "*/")))
+comment_forward (IsComment.line inside rest e n x) = (omega arith, omega (arith, ap length e, length-append inside rest))
+
+pub forward : {bytes : List ℕ} {p : Piece} → AtFront bytes p → Forward p bytes
+forward (front-ended e) = tt
+forward (front-space b rest e h) = (omega arith, omega (arith, ap length e))
+forward (front-comment s rest c) = comment_forward c
+forward (front-one [] rest k e n l) = absurd (spelled_some l.spells refl)
+forward (front-one (b ∷ s) rest k e n l) = (omega arith, omega (arith, ap length e, length-append (b ∷ s) rest))
+forward (front-bad b rest n) = tt
 
 -- the laws
 pub one_split : {at : ℕ} {bytes : List ℕ} {ts us : List Token} → Splits at bytes ts → Splits at bytes us → ts ≡ us

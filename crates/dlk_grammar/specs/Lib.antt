@@ -1,5 +1,8 @@
 pub mod Tokens
+pub mod Literals
+pub mod Marks
 pub mod Splits
+pub mod Fronts
 pub mod RealTokens
 pub mod TokensExamples
 pub mod Lexemes

@@ -37,7 +37,7 @@ pub record Begins {P : Type 0} (d : Dots) (G : List Lexeme → P → Type 0) (s 
   pub said : P
   pub text : Says d G (s ++ more) said
 
--- A text stops at the first lexeme at which no text goes on, or at its end.
+-- Lexemes stop at the first of them at which no text goes on; or at their end, where they are the front of a text and none themselves.
 pub data Stops {P : Type 0} (d : Dots) (G : List Lexeme → P → Type 0) : List Lexeme → ℕ → Type 0 where
   stops-token : {s : List Lexeme} (k : Lexeme) (r : List Lexeme) → Begins d G s → ¬ Begins d G (s ++ k ∷ []) → Stops d G (s ++ k ∷ r) (length s)
   stops-end : {s : List Lexeme} → Begins d G s → ((p : P) → ¬ Says d G s p) → Stops d G s (length s)
@@ -63,7 +63,7 @@ level_behind level k = if opens k then level + 1 else (if closes k then level - 
 abbrev pub bracket_level : List Token → ℕ
 bracket_level tokens = fold (λ n t. level_behind n t.kind) 0 tokens
 
--- at is the place of the first token with the property, which may speak of the tokens before it
+-- the first token with the property, which may speak of the tokens before it, is at this byte
 pub record FirstAt (Is : List Token → TokenKind → Type 0) (tokens : List Token) (at : ℕ) : Type 0 where
   pub before : List Token
   pub token : Token
@@ -108,8 +108,8 @@ pub data ReadFault : Type 0 where
   Literal : ℕ → ReadFault
   -- the bracket that opens level 1,201 is at this byte
   Nesting : ℕ → ReadFault
-  -- the tokens aren't in the grammar
-  Syntax : ReadFault
+  -- the first token at which no text of the grammar goes on is at this byte
+  Syntax : ℕ → ReadFault
   -- an application of more than 8 arguments, or a system of more than 64 items or that evolves a variable twice, begins at this byte
   Shape : ℕ → ReadFault
   -- a read tree has so many nodes
@@ -121,7 +121,7 @@ pub data ReadFault : Type 0 where
 abbrev pub fault_rank : ReadFault → ℕ
 fault_rank (Literal at) = 1
 fault_rank (Nesting at) = 2
-fault_rank Syntax = 3
+fault_rank (Syntax at) = 3
 fault_rank (Shape at) = 4
 fault_rank (TooBig n) = 5
 fault_rank (TooDeep n) = 6
@@ -131,7 +131,7 @@ fault_rank (TooDeep n) = 6
 abbrev pub SpeaksAgainst : {P : Type 0} → (List Lexeme → P → Type 0) → (P → List Phrase) → Dots → List Token → ReadFault → Type 0
 SpeaksAgainst G parts d tokens (Literal at) = FirstAt IsLong tokens at
 SpeaksAgainst G parts d tokens (Nesting at) = FirstAt OpensTooDeep tokens at
-SpeaksAgainst {P} G parts d tokens Syntax = (p : P) → ¬ Says d G (lexemes tokens) p
+SpeaksAgainst G parts d tokens (Syntax at) = (place : ℕ) × Stops d G (lexemes tokens) place × TokenAt tokens place at
 SpeaksAgainst {P} G parts d tokens (Shape at) = (p : P) × Says d G (lexemes tokens) p × ((place : ℕ) × (lowest (flat_map ills (parts p)) ≡ Some place) × TokenAt tokens place at)
 SpeaksAgainst {P} G parts d tokens (TooBig n) = (p : P) × Says d G (lexemes tokens) p × FirstPast size most_nodes (map erase (parts p)) n
 SpeaksAgainst {P} G parts d tokens (TooDeep n) = (p : P) × Says d G (lexemes tokens) p × FirstPast depth greatest_depth (map erase (parts p)) n

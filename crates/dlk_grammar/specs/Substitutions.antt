@@ -1,5 +1,5 @@
 -- The grammar of substitutions, one case a production, and what their tokens say.
-use Rattle.std.specs.Prelude.{◌≡◌, ℕ, ◌+◌, List, [], ◌∷◌, ◌++◌, map, codes}
+use Rattle.std.specs.Prelude.{◌≡◌, ℕ, ◌+◌, ◌<◌, List, [], ◌∷◌, ◌++◌, map, codes}
 use Rattle.dlk_tree.specs.declared.op.Sym.{Sym}
 use Rattle.dlk_tree.specs.declared.op.Kind.TheVariants.{Func, UnitFunc, Pred, UnitPred, Quant, Prog, Ode}
 use Rattle.dlk_calculus.specs.Pairs.{Pair}
@@ -32,10 +32,14 @@ pub record PairPhrase : Type 0 where
 abbrev pub to : Sym → Phrase → PairPhrase
 to s a = record { sym = s; by = a }
 
--- dot-list = "._0" | "._0" "," "._1" | .., at most eight, since no token is a ninth dot
+-- how many argument dots there are: ._0 to ._7
+abbrev pub most_dots : ℕ
+most_dots = 8
+
+-- dot-list = "._0" | "._0" "," "._1" | .., at most eight
 pub data ReadsDots : List Lexeme → ℕ → Type 0 where
   dots-one : ReadsDots (Dot 0 ∷ []) 1
-  dots-more : {s : List Lexeme} {n : ℕ} → ReadsDots s n → ReadsDots (s ++ Comma ∷ Dot n ∷ []) (n + 1)
+  dots-more : {s : List Lexeme} {n : ℕ} → n < most_dots → ReadsDots s n → ReadsDots (s ++ Comma ∷ Dot n ∷ []) (n + 1)
 
 -- name "(" ")" | name "(" dot-list ")" | name "(||)" | name "(|" name "|)"
 pub data ReadsTarget : List Lexeme → Target → Type 0 where

@@ -35,7 +35,7 @@ pub data TextFault : Type 0 where
   -- the tokens aren't read
   Unread : ReadFault → TextFault
 
--- At most one fault applies.
+-- why the bytes are no text of a tree; by a law at most one fault applies
 abbrev pub TreeTextFault : Form → Dots → List ℕ → TextFault → Type 0
 TreeTextFault form d bytes (BadByte at) = BadAt 0 bytes at
 TreeTextFault form d bytes (Unread why) = (tokens : List Token) × Splits 0 bytes tokens × IsTreeFault form d tokens why

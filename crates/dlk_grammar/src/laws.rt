@@ -1,5 +1,5 @@
 //! The laws of texts. Each is a contract of a function that does nothing.
-ghost use Rattle.std.specs.Prelude.{◌≡◌, ℕ, List, All, IsAscii};
+ghost use Rattle.std.specs.Prelude.{◌≡◌, ◌⊎◌, ℕ, List, All, IsAscii};
 ghost use Rattle.dlk_grammar.specs.declared.token.Token.{Token as TheToken};
 ghost use Rattle.dlk_tree.specs.Trees.{Tree, WellMade};
 ghost use Rattle.dlk_calculus.specs.Sequents.{Sequent};
@@ -10,6 +10,11 @@ ghost use Rattle.dlk_grammar.specs.Shown.{spell, shown, shown_sequent};
 /// Bytes are split into tokens in one way.
 pub fn one_split()
     ensures { (at : ℕ) (bytes : List ℕ) (ts us : List TheToken) → Splits at bytes ts → Splits at bytes us → ts ≡ us }
+{}
+
+/// Bytes are split, or come to a bad place.
+pub fn some_split()
+    ensures { (at : ℕ) (bytes : List ℕ) → ((tokens : List TheToken) × Splits at bytes tokens) ⊎ ((bad : ℕ) × BadAt at bytes bad) }
 {}
 
 /// Bytes that come to a bad place aren't split.

@@ -14,17 +14,20 @@ use Rattle.dlk_kernel.specs.declared.row.Row.{Row}
 use Rattle.dlk_kernel.specs.Kernel.{provable_at, IsKnownRow}
 
 -- an axiom whose formula an id stands for
-pub axiom_given : (trees : List Tree) (id : Id) (row : Row) → row ≡ record { conclusion = record { ante = []; succ = id ∷ [] }; goals = []; leaves = [] } → (name : List ℕ) (a : Axiom) → axiom_named name ≡ Some a →
+pub axiom_given : (trees : List Tree) (id : Id) (row : Row) →
+    row ≡ record { conclusion = record { ante = []; succ = id ∷ [] }; goals = []; leaves = [] } → (name : List ℕ) (a : Axiom) → axiom_named name ≡ Some a →
     StandsFor trees id a.formula → (rows : List Provable) → Gives rows (UseAxiom name) (provable_at trees row)
 axiom_given trees id row is name a there h rows =
     let stands : provable_at trees row ≡ known a.formula = rw (is, h.tree_is) in
     rw stands (use_axiom name a there)
 
 -- an axiomatic rule whose premise and conclusion sequents of ids stand for
-module _ (trees : List Tree) (premises : List Sequent) (conclusion : Sequent) (row : Row) (is : row ≡ record { conclusion = conclusion; goals = premises; leaves = [] }) (r : AxiomaticRule) (h : IsRuleAt trees r premises conclusion) where
+module _ (trees : List Tree) (premises : List Sequent) (conclusion : Sequent) (row : Row)
+    (is : row ≡ record { conclusion = conclusion; goals = premises; leaves = [] }) (r : AxiomaticRule) (h : IsRuleAt trees r premises conclusion) where
   pub rule_given : (name : List ℕ) → rule_named name ≡ Some r → (rows : List Provable) → Gives rows (UseRule name) (provable_at trees row)
   rule_given name there rows =
-      let stands : provable_at trees row ≡ inferred r.premise r.conclusion = rw is (λ i. record { conclusion = h.conclusion_is i; goals = h.premises_are i; leaves = [] }) in
+      let stands : provable_at trees row ≡ inferred r.premise r.conclusion =
+      rw is (λ i. record { conclusion = h.conclusion_is i; goals = h.premises_are i; leaves = [] }) in
       rw stands (use_rule name r there)
 
   pub rule_known : IsKnownRow trees row

@@ -60,7 +60,10 @@ module _ (old new : List Tree) (keeps : Keeps old new) where
     sound_more known = record {
       known = rw added (All-push (IsKnownRow new) rows row (sound_kept rows sound).known known);
       history = subst History (sym after_is) (History-more (provables_at old rows) step (provable_at new row) sound.history given);
-      limited = subst (All IsLimited) (sym after_is) (All-push IsLimited (provables_at old rows) (provable_at new row) sound.limited (step_limited (provables_at old rows) step (provable_at new row) sound.limited step_of));
+      limited =
+          subst (All IsLimited) (sym after_is)
+          (All-push IsLimited (provables_at old rows) (provable_at new row) sound.limited
+          (step_limited (provables_at old rows) step (provable_at new row) sound.limited step_of));
       few = rw (added, length-append rows (row ∷ [])) (omega (arith, room));
     }
 
@@ -68,9 +71,11 @@ module _ (old new : List Tree) (keeps : Keeps old new) where
     adds = record { provable = provable_at new row; is_its = step_of; after_is = after_is }
 
 -- a step is refused where there are as many rows as there may be
-pub rows_full : (old : List Tree) (rows : List Row) (step : Step) (new : List Tree) (row : Row) → Gives (provables_at old rows) step (provable_at new row) → IsWithin step (provable_at new row) →
+pub rows_full : (old : List Tree) (rows : List Row) (step : Step) (new : List Tree) (row : Row) →
+    Gives (provables_at old rows) step (provable_at new row) → IsWithin step (provable_at new row) →
     most_rows ≤ length rows → Fault (provables_at old rows) step LinesFull
-rows_full old rows step new row given within full = rows_fault (provables_at old rows) step (provable_at new row) given within (rw (length-map rows (provable_at old)) full)
+rows_full old rows step new row given within full =
+    rows_fault (provables_at old rows) step (provable_at new row) given within (rw (length-map rows (provable_at old)) full)
 
 pub all_derived : (trees : List Tree) (rows : List Row) → AreSoundRows trees rows → All Derives (provables_at trees rows)
 all_derived trees rows h = History-derives (provables_at trees rows) h.history
@@ -88,14 +93,16 @@ sound_take trees n rows h = record {
 }
 
 -- rows that stay, over a store that has grown
-pub same_rows : {S : Type 0} (trees : S → List Tree) (old new : State S) → Keeps (trees old.store) (trees new.store) → AreSoundRows (trees old.store) old.rows → new.rows ≡ old.rows → SameRows trees old new
+pub same_rows : {S : Type 0} (trees : S → List Tree) (old new : State S) → Keeps (trees old.store) (trees new.store) →
+    AreSoundRows (trees old.store) old.rows → new.rows ≡ old.rows → SameRows trees old new
 same_rows trees old new keeps sound e = record {
   ids = e;
   provables = ap (provables_at (trees new.store)) e ∙ provables_kept (trees old.store) (trees new.store) keeps old.rows sound.known;
 }
 
 -- rows with more after them, over a store that has grown
-pub extends_rows : {S : Type 0} (trees : S → List Tree) (old new : State S) (more : List Row) → Keeps (trees old.store) (trees new.store) → AreSoundRows (trees old.store) old.rows →
+pub extends_rows : {S : Type 0} (trees : S → List Tree) (old new : State S) (more : List Row) → Keeps (trees old.store) (trees new.store) →
+    AreSoundRows (trees old.store) old.rows →
     new.rows ≡ old.rows ++ more → ExtendsRows trees old new
 extends_rows trees old new more keeps sound e =
     let front : take (length old.rows) new.rows ≡ old.rows = ap (take (length old.rows)) e ∙ take-append_seam old.rows more in

@@ -14,7 +14,8 @@ use Rattle.dlk_kernel.specs.declared.row.Row.{Row}
 use Rattle.dlk_kernel.specs.Kernel.{provable_at}
 
 -- a sequent of arithmetic
-pub leaf_given : (trees : List Tree) (s : Sequent) (row : Row) → IsSequent (sequent_at trees s) → IsTrue (is_arithmetic_sequent (sequent_at trees s)) → row ≡ record { conclusion = s; goals = []; leaves = s ∷ [] } →
+pub leaf_given : (trees : List Tree) (s : Sequent) (row : Row) → IsSequent (sequent_at trees s) →
+    IsTrue (is_arithmetic_sequent (sequent_at trees s)) → row ≡ record { conclusion = s; goals = []; leaves = s ∷ [] } →
     (rows : List Provable) → Gives rows (Leaf (sequent_at trees s)) (provable_at trees row)
 leaf_given trees s row formulas arithmetic is rows = rw is (leaf (sequent_at trees s) formulas arithmetic)
 
@@ -37,7 +38,8 @@ module _ (trees : List Tree) (all : List Sequent) (n : ℕ) (s : Sequent) (lt : 
   pub is_here : (t : TreeSequent) → t ≡ sequent_at trees s → IsAmong t (map (sequent_at trees) (drop n all))
   is_here t e = rw rest_is (inl e)
 
-  pub is_behind : (t : TreeSequent) → t ≢ sequent_at trees s → IsAmong t (map (sequent_at trees) (drop n all)) ↔ IsAmong t (map (sequent_at trees) (drop (n + 1) all))
+  pub is_behind : (t : TreeSequent) → t ≢ sequent_at trees s →
+      IsAmong t (map (sequent_at trees) (drop n all)) ↔ IsAmong t (map (sequent_at trees) (drop (n + 1) all))
   is_behind t other = rw rest_is ((λ a. elim a [ inl e ↦ absurd (other e) | inr b ↦ b ]), (λ b. inr b))
 
   front_is : map (sequent_at trees) (take (n + 1) all) ≡ map (sequent_at trees) (take n all) ++ sequent_at trees s ∷ []

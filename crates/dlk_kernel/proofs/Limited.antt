@@ -11,9 +11,11 @@ use Rattle.dlk_calculus.specs.Provables.{Provable, started, assumed, applied}
 use Rattle.dlk_calculus.specs.Limits.{most_goals, most_leaves, IsSmall, IsShallow}
 use Rattle.dlk_calculus.specs.Limited.{InSequent, HasFewFormulas, IsLimitedSequent, IsLimited}
 use Rattle.dlk_calculus.specs.Pairs.{Pair}
-use Rattle.dlk_calculus.specs.Steps.{Step, Start, UseAxiom, UseRule, Leaf, Apply, Merge, Substitute, Rename, Gives, EachNew, Exceeds, too_big, too_deep, start_full, leaf_full, side_full, goals_merged, leaves_merged, IsWithin, Fault}
+use Rattle.dlk_calculus.specs.Steps.{Step, Start, UseAxiom, UseRule, Leaf, Apply, Merge, Substitute, Rename, Gives, EachNew, Exceeds, too_big, too_deep}
+use Rattle.dlk_calculus.specs.Steps.{start_full, leaf_full, side_full, goals_merged, leaves_merged, IsWithin, Fault}
 use Rattle.dlk_calculus.proofs.PlaceLaws.{All-front, All-behind}
-use Rattle.dlk_calculus.proofs.LimitLaws.{is_big, is_deep, start_side, leaf_side, apply_side, merge_goals, merge_leaves, limit_cases, first_big, first_deep, first_side, first_goals, first_leaves}
+use Rattle.dlk_calculus.proofs.LimitLaws.{is_big, is_deep, start_side, leaf_side, apply_side, merge_goals, merge_leaves, limit_cases, first_big, first_deep}
+use Rattle.dlk_calculus.proofs.LimitLaws.{first_side, first_goals, first_leaves}
 use Rattle.dlk_kernel.specs.declared.fault.StepFault.{StepFault}
 use Rattle.dlk_kernel.specs.declared.fault.StepFault.TheVariants.{Refused, Memory}
 use Rattle.dlk_kernel.specs.Faults.{IsStepFault}
@@ -101,13 +103,25 @@ module _ (goal : ℕ) (goals premises : List Sequent) (P : Sequent → Type 0) w
   taken : All P (put_all goals goal premises) → All P premises
   taken h = All-behind P (take (goal - 1) goals) premises (All-front P (take (goal - 1) goals ++ premises) (drop goal goals) h)
 
-pub apply_tells : (q : Provable) → IsLimited q → (fact goal : ℕ) (rule : Rule) (premises : List Sequent) → Tells (Apply fact goal rule) (applied q goal premises) premises
+pub apply_tells : (q : Provable) → IsLimited q → (fact goal : ℕ) (rule : Rule) (premises : List Sequent) →
+    Tells (Apply fact goal rule) (applied q goal premises) premises
 apply_tells q limited fact goal rule premises = record {
-  small = λ h. record { conclusion = limited.conclusion.small; goals = placed goal q.goals premises (InSequent IsSmall) (All-weaker IsLimitedSequent (InSequent IsSmall) (λ s l. l.small) q.goals limited.goals) h };
+  small =
+      λ h. record {
+        conclusion = limited.conclusion.small;
+        goals = placed goal q.goals premises (InSequent IsSmall) (All-weaker IsLimitedSequent (InSequent IsSmall) (λ s l. l.small) q.goals limited.goals) h;
+      };
   all_small = λ e. taken goal q.goals premises (InSequent IsSmall) e.goals;
-  shallow = λ h. record { conclusion = limited.conclusion.shallow; goals = placed goal q.goals premises (InSequent IsShallow) (All-weaker IsLimitedSequent (InSequent IsShallow) (λ s l. l.shallow) q.goals limited.goals) h };
+  shallow =
+      λ h. record {
+        conclusion = limited.conclusion.shallow;
+        goals =
+            placed goal q.goals premises (InSequent IsShallow) (All-weaker IsLimitedSequent (InSequent IsShallow) (λ s l. l.shallow) q.goals limited.goals) h;
+      };
   all_shallow = λ e. taken goal q.goals premises (InSequent IsShallow) e.goals;
-  few = λ h e. apply_side fact goal rule (applied q goal premises) e (placed goal q.goals premises HasFewFormulas (All-weaker IsLimitedSequent HasFewFormulas (λ s l. l.few) q.goals limited.goals) h);
+  few =
+      λ h e. apply_side fact goal rule (applied q goal premises) e
+      (placed goal q.goals premises HasFewFormulas (All-weaker IsLimitedSequent HasFewFormulas (λ s l. l.few) q.goals limited.goals) h);
   full = λ n. side_full (λ h. n (taken goal q.goals premises HasFewFormulas h));
 }
 

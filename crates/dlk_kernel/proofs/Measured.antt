@@ -46,12 +46,15 @@ module _ (measure : Measure) where
   pub sequents_decide : (ss : List Sequent) → Decides (list_all (is_sequent_within measure) ss) (All (InSequent (Passes measure)) ss)
   sequents_decide ss = all (is_sequent_within measure) (InSequent (Passes measure)) sequent_decides ss
 
-  pub substituted_decides : (fact : ℕ) (pairs : List Pair) (p : Provable) → Decides (is_substituted_within measure pairs p) (EachNew (Passes measure) (Substitute fact pairs) p)
+  pub substituted_decides : (fact : ℕ) (pairs : List Pair) (p : Provable) →
+      Decides (is_substituted_within measure pairs p) (EachNew (Passes measure) (Substitute fact pairs) p)
   substituted_decides fact pairs p =
-      both (list_all (λ (pair : Pair). is_within measure pair.by) pairs) (is_sequent_within measure p.conclusion && list_all (is_sequent_within measure) p.goals)
+      both (list_all (λ (pair : Pair). is_within measure pair.by) pairs)
+      (is_sequent_within measure p.conclusion && list_all (is_sequent_within measure) p.goals)
       (λ a b. (a, b)) (λ h. h.0) (λ h. h.1)
       (all (λ (pair : Pair). is_within measure pair.by) (λ (pair : Pair). Passes measure pair.by) (λ (pair : Pair). tree_decides measure pair.by) pairs)
-      (both (is_sequent_within measure p.conclusion) (list_all (is_sequent_within measure) p.goals) (λ a b. record { conclusion = a; goals = b }) (λ h. h.conclusion) (λ h. h.goals)
+      (both (is_sequent_within measure p.conclusion) (list_all (is_sequent_within measure) p.goals) (λ a b. record { conclusion = a; goals = b })
+      (λ h. h.conclusion) (λ h. h.goals)
       (sequent_decides p.conclusion) (sequents_decide p.goals))
 
 few_decides : (ss : List Sequent) → Decides (list_all has_few ss) (All HasFewFormulas ss)
@@ -72,7 +75,8 @@ module _ (ss : List Sequent) where
   pub past_levels : list_all (is_sequent_within Nodes) ss ≡ true → list_all (is_sequent_within Levels) ss ≡ false → IsPast ss TooDeep
   past_levels a n = ((sequents_decide Nodes ss).0 a, fails (list_all (is_sequent_within Levels) ss) (sequents_decide Levels ss) n)
 
-  pub past_sides : list_all (is_sequent_within Nodes) ss ≡ true → list_all (is_sequent_within Levels) ss ≡ true → list_all has_few ss ≡ false → IsPast ss SideFull
+  pub past_sides : list_all (is_sequent_within Nodes) ss ≡ true → list_all (is_sequent_within Levels) ss ≡ true → list_all has_few ss ≡ false →
+      IsPast ss SideFull
   past_sides a b n = ((sequents_decide Nodes ss).0 a, (sequents_decide Levels ss).0 b, fails (list_all has_few ss) (few_decides ss) n)
 
   pub within : list_all (is_sequent_within Nodes) ss ≡ true → list_all (is_sequent_within Levels) ss ≡ true → list_all has_few ss ≡ true → AreWithin ss

@@ -17,7 +17,8 @@ use Rattle.dlk_kernel.specs.declared.row.Row.{Row}
 use Rattle.dlk_kernel.specs.Kernel.{provable_at, provables_at, IsKnownRow}
 use Rattle.dlk_kernel.proofs.RowLaws.{put_all-map}
 
-module _ (trees : List Tree) (rows : List Row) (fact goal by : ℕ) (row proof : Row) (fact_there : at rows fact ≡ Some row) (by_there : at rows by ≡ Some proof) where
+module _ (trees : List Tree) (rows : List Row) (fact goal by : ℕ) (row proof : Row) (fact_there : at rows fact ≡ Some row)
+    (by_there : at rows by ≡ Some proof) where
   abbrev fact_is : at (provables_at trees rows) fact ≡ Some (provable_at trees row)
   fact_is = At-map (provable_at trees) rows fact row fact_there
 
@@ -34,7 +35,8 @@ module _ (trees : List Tree) (rows : List Row) (fact goal by : ℕ) (row proof :
     -- the goal is another sequent
     pub merge_at_other : sequent_at trees s ≢ sequent_at trees proof.conclusion → Fault (provables_at trees rows) (Merge fact goal by) NotEqual
     merge_at_other other =
-        first_other_goal (provables_at trees rows) fact goal by (provable_at trees row) (provable_at trees proof) (sequent_at trees s) fact_is by_is (At-map (sequent_at trees) row.goals goal s goal_there) other
+        first_other_goal (provables_at trees rows) fact goal by (provable_at trees row) (provable_at trees proof) (sequent_at trees s) fact_is by_is
+        (At-map (sequent_at trees) row.goals goal s goal_there) other
 
     -- the row with the goals of the other fact in the goal's place
     pub merged_given : sequent_at trees s ≡ sequent_at trees proof.conclusion →
@@ -48,11 +50,14 @@ module _ (trees : List Tree) (rows : List Row) (fact goal by : ℕ) (row proof :
         rw stands (merge fact goal by (provable_at trees row) (provable_at trees proof) new fact_is by_is
         (At-map (sequent_at trees) row.goals goal s goal_there ∙ ap Some same) are_new)
 
-pub merged_known : (trees : List Tree) (goal : ℕ) (row proof : Row) → IsKnownRow trees row → IsKnownRow trees proof → (leaves : List Sequent) → All (IsKnown trees) leaves →
+pub merged_known : (trees : List Tree) (goal : ℕ) (row proof : Row) → IsKnownRow trees row → IsKnownRow trees proof → (leaves : List Sequent) →
+    All (IsKnown trees) leaves →
     (made : Row) → made ≡ record { conclusion = row.conclusion; goals = put_all row.goals goal proof.goals; leaves = leaves } → IsKnownRow trees made
 merged_known trees goal row proof h k leaves known made is =
     rw is (record {
       conclusion = h.conclusion;
-      goals = All-append (IsKnown trees) _ _ (All-append (IsKnown trees) _ _ (All-take (IsKnown trees) (goal - 1) row.goals h.goals) k.goals) (All-drop (IsKnown trees) goal row.goals h.goals);
+      goals =
+          All-append (IsKnown trees) _ _ (All-append (IsKnown trees) _ _ (All-take (IsKnown trees) (goal - 1) row.goals h.goals) k.goals)
+          (All-drop (IsKnown trees) goal row.goals h.goals);
       leaves = known;
     })

@@ -13,7 +13,8 @@ use Rattle.dlk_kernel.specs.declared.row.Row.{Row}
 use Rattle.dlk_kernel.specs.Kernel.{provable_at, provables_at, IsKnownRow, AreSoundRows}
 use Rattle.dlk_kernel.proofs.Growth.{all_derived}
 
-module _ (trees : List Tree) (rows : List Row) (sound : AreSoundRows trees rows) (fact : ℕ) (row : Row) (there : IsPlace rows fact) (read : row ≡ get_or rows (fact - 1) row) where
+module _ (trees : List Tree) (rows : List Row) (sound : AreSoundRows trees rows) (fact : ℕ) (row : Row) (there : IsPlace rows fact)
+    (read : row ≡ get_or rows (fact - 1) row) where
   at_row : At rows fact row
   at_row = At_read rows fact row there read
 

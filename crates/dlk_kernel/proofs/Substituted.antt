@@ -1,5 +1,6 @@
 -- What a substitution makes of sequents and rows, one after another, over a store that grows.
-use Rattle.std.proofs.Common.{◌≡◌, ℕ, suc, zero, ◌+◌, ◌<◌, List, [], ◌∷◌, ◌++◌, length, map, take, get_or, sym, ap, subst, ◌∙◌, Some, Bool, false, Result, Err, arith}
+use Rattle.std.proofs.Common.{◌≡◌, ℕ, suc, zero, ◌+◌, ◌<◌, List, [], ◌∷◌, ◌++◌, length, map, take, get_or, sym, ap, subst, ◌∙◌, Some, Bool, false, Result}
+use Rattle.std.proofs.Common.{Err, arith}
 use Rattle.std.specs.Prelude.{IsTrue}
 use Rattle.std.specs.List.{All}
 use Rattle.std.proofs.lemmas.List.{take_more, map-append, get_or-map, length-map}
@@ -43,21 +44,24 @@ each_more pairs (e ∷ fs) [] f g h s = absurd h
 each_more pairs (e ∷ fs) (d ∷ gs) f g h s = (h.0, each_more pairs fs gs f g h.1 s)
 
 -- one of the formulas has no result
-each_none : (pairs : List TreePair) (fs : List Tree) (i : ℕ) (d : Tree) → i < length fs → HasNone (Subst pairs (get_or fs i d)) → (gs : List Tree) → SubstEach pairs fs gs → ⊥
+each_none : (pairs : List TreePair) (fs : List Tree) (i : ℕ) (d : Tree) → i < length fs → HasNone (Subst pairs (get_or fs i d)) → (gs : List Tree) →
+    SubstEach pairs fs gs → ⊥
 each_none pairs [] i d lt none gs h = absurd (omega arith)
 each_none pairs (f ∷ fs) i d lt none [] h = h
 each_none pairs (f ∷ fs) zero d lt none (g ∷ gs) h = none g h.0
 each_none pairs (f ∷ fs) (suc i) d lt none (g ∷ gs) h = each_none pairs fs i d (omega arith) none gs h.1
 
 -- one more sequent
-sequents_more : (pairs : List TreePair) (ss ts : List TreeSequent) (s t : TreeSequent) → SubstSequents pairs ss ts → SubstSequent pairs s t → SubstSequents pairs (ss ++ s ∷ []) (ts ++ t ∷ [])
+sequents_more : (pairs : List TreePair) (ss ts : List TreeSequent) (s t : TreeSequent) → SubstSequents pairs ss ts → SubstSequent pairs s t →
+    SubstSequents pairs (ss ++ s ∷ []) (ts ++ t ∷ [])
 sequents_more pairs [] [] s t h one = (one, tt)
 sequents_more pairs [] (d ∷ ts) s t h one = absurd h
 sequents_more pairs (e ∷ ss) [] s t h one = absurd h
 sequents_more pairs (e ∷ ss) (d ∷ ts) s t h one = (h.0, sequents_more pairs ss ts s t h.1 one)
 
 -- one of the sequents has no result
-sequents_none : (pairs : List TreePair) (ss : List TreeSequent) (i : ℕ) (d : TreeSequent) → i < length ss → ((t : TreeSequent) → SubstSequent pairs (get_or ss i d) t → ⊥) → (ts : List TreeSequent) → SubstSequents pairs ss ts → ⊥
+sequents_none : (pairs : List TreePair) (ss : List TreeSequent) (i : ℕ) (d : TreeSequent) → i < length ss →
+    ((t : TreeSequent) → SubstSequent pairs (get_or ss i d) t → ⊥) → (ts : List TreeSequent) → SubstSequents pairs ss ts → ⊥
 sequents_none pairs [] i d lt none ts h = absurd (omega arith)
 sequents_none pairs (s ∷ ss) i d lt none [] h = h
 sequents_none pairs (s ∷ ss) zero d lt none (t ∷ ts) h = none t h.0
@@ -71,10 +75,12 @@ module _ (old now : List Tree) (first : Keeps old now) (pairs : List Pair) (are_
   formula_first : (id : Id) → IsId old id → (t : Tree) → Subst (pairs_at now pairs) (tree now id) t ≡ Subst (pairs_at old pairs) (tree old id) t
   formula_first id known t = let same = first.same id known in λ i. Subst (same_pairs i) (same i) t
 
-  formulas_first : (ids : List Id) → All (IsId old) ids → (ts : List Tree) → SubstEach (pairs_at now pairs) (map (tree now) ids) ts ≡ SubstEach (pairs_at old pairs) (map (tree old) ids) ts
+  formulas_first : (ids : List Id) → All (IsId old) ids → (ts : List Tree) →
+      SubstEach (pairs_at now pairs) (map (tree now) ids) ts ≡ SubstEach (pairs_at old pairs) (map (tree old) ids) ts
   formulas_first ids known ts = let same = trees-kept first ids known in λ i. SubstEach (same_pairs i) (same i) ts
 
-  sequent_first : (s : Sequent) → IsKnown old s → (t : TreeSequent) → SubstSequent (pairs_at now pairs) (sequent_at now s) t ≡ SubstSequent (pairs_at old pairs) (sequent_at old s) t
+  sequent_first : (s : Sequent) → IsKnown old s → (t : TreeSequent) →
+      SubstSequent (pairs_at now pairs) (sequent_at now s) t ≡ SubstSequent (pairs_at old pairs) (sequent_at old s) t
   sequent_first s known t = let same = sequent-kept first s known in λ i. SubstSequent (same_pairs i) (same i) t
 
   sequents_first : (all : List Sequent) → All (IsKnown old) all → (ts : List TreeSequent) →
@@ -86,13 +92,16 @@ module _ (old now : List Tree) (first : Keeps old now) (pairs : List Pair) (are_
       (ts : List Tree) → SubstEach (pairs_at old pairs) (map (tree old) ids) ts → ⊥
   no_id ids n d lt known none =
       each_none (pairs_at old pairs) (map (tree old) ids) n (tree old d) (rw length-map lt)
-      (λ t h. none t (subst (λ X. X) (sym (formula_first (get_or ids n d) known t)) (subst (λ w. Subst (pairs_at old pairs) w t) (get_or-map (tree old) ids n d (tree old d) lt) h)))
+      (λ t h. none t (subst (λ X. X) (sym (formula_first (get_or ids n d) known t))
+      (subst (λ w. Subst (pairs_at old pairs) w t) (get_or-map (tree old) ids n d (tree old d) lt) h)))
 
-  pub no_sequent : (all : List Sequent) (n : ℕ) (d : Sequent) → n < length all → IsKnown old (get_or all n d) → ((t : TreeSequent) → SubstSequent (pairs_at now pairs) (sequent_at now (get_or all n d)) t → ⊥) →
+  pub no_sequent : (all : List Sequent) (n : ℕ) (d : Sequent) → n < length all → IsKnown old (get_or all n d) →
+      ((t : TreeSequent) → SubstSequent (pairs_at now pairs) (sequent_at now (get_or all n d)) t → ⊥) →
       (ts : List TreeSequent) → SubstSequents (pairs_at old pairs) (map (sequent_at old) all) ts → ⊥
   no_sequent all n d lt known none =
       sequents_none (pairs_at old pairs) (map (sequent_at old) all) n (sequent_at old d) (rw length-map lt)
-      (λ t h. none t (subst (λ X. X) (sym (sequent_first (get_or all n d) known t)) (subst (λ w. SubstSequent (pairs_at old pairs) w t) (get_or-map (sequent_at old) all n d (sequent_at old d) lt) h)))
+      (λ t h. none t (subst (λ X. X) (sym (sequent_first (get_or all n d) known t))
+      (subst (λ w. SubstSequent (pairs_at old pairs) w t) (get_or-map (sequent_at old) all n d (sequent_at old d) lt) h)))
 
   pub no_succ : (s : Sequent) → IsKnown old s → ((ts : List Tree) → SubstEach (pairs_at now pairs) (map (tree now) s.succ) ts → ⊥) →
       (t : TreeSequent) → SubstSequent (pairs_at old pairs) (sequent_at old s) t → ⊥
@@ -105,31 +114,47 @@ module _ (old now : List Tree) (first : Keeps old now) (pairs : List Pair) (are_
   module _ (next : List Tree) (then : Keeps now next) where
     -- one more is made
     pub one_more_id : (ids made : List Id) (n : ℕ) (d r : Id) → n < length ids → IsId old (get_or ids n d) → All (IsId now) made →
-        SubstEach (pairs_at old pairs) (map (tree old) (take n ids)) (map (tree now) made) → IsResult (Subst (pairs_at now pairs) (tree now (get_or ids n d))) next r →
+        SubstEach (pairs_at old pairs) (map (tree old) (take n ids)) (map (tree now) made) →
+        IsResult (Subst (pairs_at now pairs) (tree now (get_or ids n d))) next r →
         SubstEach (pairs_at old pairs) (map (tree old) (take (n + 1) ids)) (map (tree next) (made ++ r ∷ []))
     one_more_id ids made n d r lt known made_known before is =
-        let one = subst (λ X. X) (formula_first (get_or ids n d) known (tree next r)) (subst (Subst (pairs_at now pairs) (tree now (get_or ids n d))) (sym is.stands.tree_is) is.is_related) in
-        rw (take_more ids n d lt, map-append (tree old) (take n ids) (get_or ids n d ∷ []), map-append (tree next) made (r ∷ []), trees-kept then made made_known)
+        let one = subst (λ X. X) (formula_first (get_or ids n d) known (tree next r))
+        (subst (Subst (pairs_at now pairs) (tree now (get_or ids n d))) (sym is.stands.tree_is) is.is_related) in
+        rw (
+          take_more ids n d lt,
+          map-append (tree old) (take n ids) (get_or ids n d ∷ []),
+          map-append (tree next) made (r ∷ []),
+          trees-kept then made made_known,
+        )
         (each_more (pairs_at old pairs) _ _ _ _ before one)
 
     pub one_more_sequent : (all made : List Sequent) (n : ℕ) (d r : Sequent) → n < length all → IsKnown old (get_or all n d) → All (IsKnown now) made →
-        SubstSequents (pairs_at old pairs) (map (sequent_at old) (take n all)) (map (sequent_at now) made) → SubstSequent (pairs_at now pairs) (sequent_at now (get_or all n d)) (sequent_at next r) →
+        SubstSequents (pairs_at old pairs) (map (sequent_at old) (take n all)) (map (sequent_at now) made) →
+        SubstSequent (pairs_at now pairs) (sequent_at now (get_or all n d)) (sequent_at next r) →
         SubstSequents (pairs_at old pairs) (map (sequent_at old) (take (n + 1) all)) (map (sequent_at next) (made ++ r ∷ []))
     one_more_sequent all made n d r lt known made_known before is =
         let one = subst (λ X. X) (sequent_first (get_or all n d) known (sequent_at next r)) is in
-        rw (take_more all n d lt, map-append (sequent_at old) (take n all) (get_or all n d ∷ []), map-append (sequent_at next) made (r ∷ []), sequents-kept then made made_known)
+        rw (
+          take_more all n d lt,
+          map-append (sequent_at old) (take n all) (get_or all n d ∷ []),
+          map-append (sequent_at next) made (r ∷ []),
+          sequents-kept then made made_known,
+        )
         (sequents_more (pairs_at old pairs) _ _ _ _ before one)
 
     -- a sequent, one side after the other
-    pub both_sides : (s made : Sequent) → IsKnown old s → SubstEach (pairs_at old pairs) (map (tree old) s.ante) (map (tree now) made.ante) → All (IsId now) made.ante →
-        SubstEach (pairs_at now pairs) (map (tree now) s.succ) (map (tree next) made.succ) → SubstSequent (pairs_at old pairs) (sequent_at old s) (sequent_at next made)
+    pub both_sides : (s made : Sequent) → IsKnown old s → SubstEach (pairs_at old pairs) (map (tree old) s.ante) (map (tree now) made.ante) →
+        All (IsId now) made.ante →
+        SubstEach (pairs_at now pairs) (map (tree now) s.succ) (map (tree next) made.succ) →
+        SubstSequent (pairs_at old pairs) (sequent_at old s) (sequent_at next made)
     both_sides s made known ante made_known succ = (
       subst (SubstEach (pairs_at old pairs) (map (tree old) s.ante)) (sym (trees-kept then made.ante made_known)) ante,
       subst (λ X. X) (formulas_first s.succ known.succ (map (tree next) made.succ)) succ,
     )
 
     -- a row, whose leaves stay
-    pub whole_row : (row made : Row) → IsKnownRow old row → SubstSequent (pairs_at old pairs) (sequent_at old row.conclusion) (sequent_at now made.conclusion) → IsKnown now made.conclusion →
+    pub whole_row : (row made : Row) → IsKnownRow old row →
+        SubstSequent (pairs_at old pairs) (sequent_at old row.conclusion) (sequent_at now made.conclusion) → IsKnown now made.conclusion →
         SubstSequents (pairs_at now pairs) (map (sequent_at now) row.goals) (map (sequent_at next) made.goals) → made.leaves ≡ row.leaves →
         Substitutes (pairs_at old pairs) (provable_at old row) (provable_at next made)
     whole_row row made known conclusion made_known goals leaves = record {
@@ -139,7 +164,8 @@ module _ (old now : List Tree) (first : Keeps old now) (pairs : List Pair) (are_
     }
 
 -- and its ids are known
-pub whole_known : (old now next : List Tree) → Keeps old now → Keeps now next → (row made : Row) → IsKnownRow old row → IsKnown now made.conclusion → All (IsKnown next) made.goals → made.leaves ≡ row.leaves → IsKnownRow next made
+pub whole_known : (old now next : List Tree) → Keeps old now → Keeps now next → (row made : Row) → IsKnownRow old row → IsKnown now made.conclusion →
+    All (IsKnown next) made.goals → made.leaves ≡ row.leaves → IsKnownRow next made
 whole_known old now next first then row made known conclusion goals leaves = record {
   conclusion = IsKnown-kept then made.conclusion conclusion;
   goals = goals;
@@ -148,7 +174,8 @@ whole_known old now next first then row made known conclusion goals leaves = rec
 
 -- what replaces a symbol is well made
 pub are_made : (trees : List Tree) (pairs : List Pair) → All WellMade trees → AreKnownPairs trees pairs → AreWellMade (pairs_at trees pairs)
-are_made trees pairs made known = All-map (λ (p : TreePair). WellMade p.by) (pair_at trees) pairs (λ i d h. made (get_or pairs i d).by.0 (node True no_kids) (known i d h))
+are_made trees pairs made known =
+    All-map (λ (p : TreePair). WellMade p.by) (pair_at trees) pairs (λ i d h. made (get_or pairs i d).by.0 (node True no_kids) (known i d h))
 
 pub not_true : (b : Bool) → b ≡ false → IsTrue b → ⊥
 not_true b is true_too = cc (is, true_too)
@@ -197,7 +224,8 @@ module _ (old : List Tree) (well_made : All WellMade old) (rows : List Row) (fac
         subst (λ (ps : List Pair). Gives (provables_at old rows) (Substitute fact (pairs_at old ps)) q) same
         (substitute fact (pairs_at old sigma.pairs) p q is_fact made over.well_formed none_free is)
 
-    pub none_refused : (result : Result Row ApplyFault) (f : ApplyFault) → result ≡ Err f → (result ≡ Err NotAdmissible → (q : Provable) → Substitutes (pairs_at old sigma.pairs) p q → ⊥) →
+    pub none_refused : (result : Result Row ApplyFault) (f : ApplyFault) → result ≡ Err f →
+        (result ≡ Err NotAdmissible → (q : Provable) → Substitutes (pairs_at old sigma.pairs) p q → ⊥) →
         IsStepFault (Fault (provables_at old rows) (Substitute fact (pairs_at old pairs))) (apply_fault_of f)
     none_refused result NotAdmissible is none =
         subst (λ (ps : List Pair). Fault (provables_at old rows) (Substitute fact (pairs_at old ps)) reason.NotAdmissible) same

@@ -34,10 +34,10 @@ impl<S: Store> Model for Kernel<S> {
 }
 
 impl<S: Store> Kernel<S> {
-    ghost use Rattle.std.specs.Prelude.{◌≡◌, ◌≤◌, [], length, map, take, All, Some, option_map, IfSome, IfOk, OnOk, IfErr, OnErr};
-    ghost use Rattle.dlk_calculus.specs.Places.{at, IsPlace};
+    ghost use Rattle.std.specs.Prelude.{◌≡◌, ◌≤◌, [], length, map, take, All, IfOk, OnOk, IfErr, OnErr};
+    ghost use Rattle.dlk_calculus.specs.Places.{At, IsPlace};
     ghost use Rattle.dlk_calculus.specs.Sequents.{IsSequent};
-    ghost use Rattle.dlk_calculus.specs.Provables.{HasFormulas, HasLeaves};
+    ghost use Rattle.dlk_calculus.specs.Provables.{Provable, HasFormulas, HasLeaves};
     ghost use Rattle.dlk_calculus.specs.Limits.{most_rows};
     ghost use Rattle.dlk_calculus.specs.Limited.{IsLimited, IsLimitedSequent};
     ghost use Rattle.dlk_calculus.specs.Steps.{Derives, Adds, Fault};
@@ -72,7 +72,7 @@ impl<S: Store> Kernel<S> {
     /// The row of a fact.
     fn row(&self, fact: Fact) -> &Row
         requires { IsPlace self.now.rows fact }
-        ensures fact { at (facts S.trees self.now) fact ≡ Some (provable_at (S.trees self.now.store) result.now) }
+        ensures fact { At (facts S.trees self.now) fact (provable_at (S.trees self.now.store) result.now) }
         ensures known { IsKnownRow (S.trees self.now.store) result.now }
         ensures derived { Derives (provable_at (S.trees self.now.store) result.now) }
         ensures formulas { HasFormulas (provable_at (S.trees self.now.store) result.now) }
@@ -83,8 +83,8 @@ impl<S: Store> Kernel<S> {
     /// The conclusion of a fact, which is a row's number from 1 to `rows()`: a sequent of formulas.
     pub fn conclusion(&self, fact: Fact) -> &Sequent
         requires { IsPlace self.now.rows fact }
-        ensures conclusion { option_map (λ p. p.conclusion) (at (facts S.trees self.now) fact) ≡ Some (sequent_at (S.trees self.now.store) result.now) }
-        ensures derived { IfSome (at (facts S.trees self.now) fact) Derives }
+        ensures conclusion { (p : Provable) → At (facts S.trees self.now) fact p → p.conclusion ≡ sequent_at (S.trees self.now.store) result.now }
+        ensures derived { (p : Provable) → At (facts S.trees self.now) fact p → Derives p }
         ensures known { IsKnown (S.trees self.now.store) result.now }
         ensures formulas { IsSequent (sequent_at (S.trees self.now.store) result.now) }
     {
@@ -94,8 +94,8 @@ impl<S: Store> Kernel<S> {
     /// The goals of a fact, which is a row's number from 1 to `rows()`: the sequents that are left to be proved.
     pub fn goals(&self, fact: Fact) -> &[Sequent]
         requires { IsPlace self.now.rows fact }
-        ensures goals { option_map (λ p. p.goals) (at (facts S.trees self.now) fact) ≡ Some (map (sequent_at (S.trees self.now.store)) result.now) }
-        ensures derived { IfSome (at (facts S.trees self.now) fact) Derives }
+        ensures goals { (p : Provable) → At (facts S.trees self.now) fact p → p.goals ≡ map (sequent_at (S.trees self.now.store)) result.now }
+        ensures derived { (p : Provable) → At (facts S.trees self.now) fact p → Derives p }
         ensures known { All (IsKnown (S.trees self.now.store)) result.now }
         ensures formulas { All (λ s. IsSequent (sequent_at (S.trees self.now.store) s)) result.now }
     {
@@ -106,11 +106,11 @@ impl<S: Store> Kernel<S> {
     /// twice.
     pub fn leaves(&self, fact: Fact) -> &[Sequent]
         requires { IsPlace self.now.rows fact }
-        ensures leaves { option_map (λ p. p.leaves) (at (facts S.trees self.now) fact) ≡ Some (map (sequent_at (S.trees self.now.store)) result.now) }
-        ensures derived { IfSome (at (facts S.trees self.now) fact) Derives }
+        ensures leaves { (p : Provable) → At (facts S.trees self.now) fact p → p.leaves ≡ map (sequent_at (S.trees self.now.store)) result.now }
+        ensures derived { (p : Provable) → At (facts S.trees self.now) fact p → Derives p }
         ensures known { All (IsKnown (S.trees self.now.store)) result.now }
         ensures formulas { All (λ s. IsSequent (sequent_at (S.trees self.now.store) s)) result.now }
-        ensures arithmetic { IfSome (at (facts S.trees self.now) fact) HasLeaves }
+        ensures arithmetic { (p : Provable) → At (facts S.trees self.now) fact p → HasLeaves p }
     {
         self.row(fact).leaves.as_slice()
     }

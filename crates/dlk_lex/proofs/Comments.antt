@@ -7,7 +7,8 @@ use Rattle.std.proofs.lemmas.Bool.{eqb-true, and_parts}
 use Rattle.std.proofs.lemmas.List.{take-append-drop, take_all, length-drop, length-take-le, get_or-append-add}
 use Rattle.std.proofs.lemmas.List.Sums.{prefix_len-le-length}
 use Rattle.dlk_grammar.specs.Splits.{BeginsComment, EndsLine, at_end, at_feed, IsComment}
-use Rattle.dlk_grammar.proofs.Splitting.{Piece, AtFront, front-comment, front-bad, same_rest, apart}
+use Rattle.dlk_grammar.specs.Fronts.{Piece, AtFront, front-comment, front-bad}
+use Rattle.dlk_grammar.proofs.Splitting.{same_rest, apart}
 use Rattle.dlk_lex.proofs.Fronts.{prefix_all}
 use Rattle.dlk_lex.proofs.Texts.{at_front, not_at_front}
 use Rattle.dlk_lex.specs.Fronts.{EndsBlock, HasNoEnd, is_no_feed}
@@ -55,16 +56,21 @@ module _ (bytes tail : List ℕ) where
       let rest = drop (n + 2) tail in
       let lt : n + 1 < length tail = b.within in
       let first : drop n tail ≡ 42 ∷ drop (n + 1) tail = drop-cons tail n 0 (omega arith) ∙ rw (b.star, add-one) refl in
-      let second : drop (n + 1) tail ≡ 47 ∷ drop (n + 2) tail = drop-cons tail (n + 1) 0 lt ∙ (let two : suc (n + 1) ≡ n + 2 = omega arith in rw (b.slash, two) refl) in
-      let parts : tail ≡ take n tail ++ (codes "*/" ++ drop (n + 2) tail) = sym (take-append-drop n tail) ∙ ap (λ (l : List ℕ). take n tail ++ l) (first ∙ ap (λ (l : List ℕ). 42 ∷ l) second) in
+      let second : drop (n + 1) tail ≡ 47 ∷ drop (n + 2) tail =
+      drop-cons tail (n + 1) 0 lt ∙ (let two : suc (n + 1) ≡ n + 2 = omega arith in rw (b.slash, two) refl) in
+      let parts : tail ≡ take n tail ++ (codes "*/" ++ drop (n + 2) tail) =
+      sym (take-append-drop n tail) ∙ ap (λ (l : List ℕ). take n tail ++ l) (first ∙ ap (λ (l : List ℕ). 42 ∷ l) second) in
       let size : length (take n tail) ≡ n = length-take-le n tail (omega arith) in
       let none : (sooner after : List ℕ) → ¬ (take n tail ++ codes "*" ≡ sooner ++ (codes "*/" ++ after)) = λ sooner after f.
       let w = end_at sooner (after ++ (codes "/" ++ drop (n + 2) tail)) in
       let whole : tail ≡ sooner ++ (codes "*/" ++ (after ++ (codes "/" ++ drop (n + 2) tail))) =
-      parts ∙ (sym (append_assoc (take n tail) (codes "*") (codes "/" ++ drop (n + 2) tail)) ∙ (ap (λ (l : List ℕ). l ++ (codes "/" ++ drop (n + 2) tail)) f ∙ append_assoc sooner (codes "*/" ++ after) (codes "/" ++ drop (n + 2) tail))) in
+      parts ∙ sym (append_assoc (take n tail) (codes "*") (codes "/" ++ drop (n + 2) tail)) ∙ ap (λ (l : List ℕ). l ++ (codes "/" ++ drop (n + 2) tail)) f
+      ∙ append_assoc sooner (codes "*/" ++ after) (codes "/" ++ drop (n + 2) tail) in
       let k : length sooner < n = omega (arith, ap length f, length-append (take n tail) (codes "*"), length-append sooner (codes "*/" ++ after), size) in
-      b.first (length sooner) k (ap (λ (l : List ℕ). get_or l (length sooner) 0) whole ∙ w.star) (ap (λ (l : List ℕ). get_or l (length sooner + 1) 0) whole ∙ w.slash) in
-      gap_is (n + 4) (IsComment.block (take n tail) (drop (n + 2) tail) (e ∙ ap (λ (l : List ℕ). codes "/*" ++ l) parts) none) (omega (arith, length-append (take n tail) (codes "*/"), size))
+      b.first (length sooner) k (ap (λ (l : List ℕ). get_or l (length sooner) 0) whole ∙ w.star)
+      (ap (λ (l : List ℕ). get_or l (length sooner + 1) 0) whole ∙ w.slash) in
+      gap_is (n + 4) (IsComment.block (take n tail) (drop (n + 2) tail) (e ∙ ap (λ (l : List ℕ). codes "/*" ++ l) parts) none)
+      (omega (arith, length-append (take n tail) (codes "*/"), size))
 
   pub block_missing : bytes ≡ codes "/*" ++ tail → HasNoEnd tail → AtFront bytes Piece.Bad
   block_missing e none = front-bad 47 (42 ∷ tail) (record {
@@ -78,7 +84,8 @@ module _ (bytes tail : List ℕ) where
       go (IsComment.block inside rest f n) =
           let w = end_at inside rest in
           let same : tail ≡ inside ++ (codes "*/" ++ rest) = same_rest (codes "/*") tail (inside ++ (codes "*/" ++ rest)) (sym e ∙ f) in
-          none (length inside) (omega (arith, w.within, ap length same)) (ap (λ (l : List ℕ). get_or l (length inside) 0) same ∙ w.star) (ap (λ (l : List ℕ). get_or l (length inside + 1) 0) same ∙ w.slash)
+          none (length inside) (omega (arith, w.within, ap length same)) (ap (λ (l : List ℕ). get_or l (length inside) 0) same ∙ w.star)
+          (ap (λ (l : List ℕ). get_or l (length inside + 1) 0) same ∙ w.slash)
       go (IsComment.line inside rest f n x) = apart 42 47 refl (ap (λ (l : List ℕ). get_or l 1 0) (sym e ∙ f))
 
 ends_line : (l : List ℕ) → EndsLine (drop (prefix_len is_no_feed l) l)
@@ -93,11 +100,13 @@ no_feed : (sooner after : List ℕ) → list_all is_no_feed (sooner ++ 10 ∷ af
 no_feed [] after h = cc
 no_feed (b ∷ l) after h = no_feed l after (and_parts (is_no_feed b) (list_all is_no_feed (l ++ 10 ∷ after)) h).1
 
-pub line_found : (bytes tail : List ℕ) (n : ℕ) → bytes ≡ codes "//" ++ tail → n ≡ prefix_len is_no_feed tail → (2 + n ≤ length bytes) × AtFront bytes (Piece.Gap (2 + n) (drop (2 + n) bytes))
+pub line_found : (bytes tail : List ℕ) (n : ℕ) → bytes ≡ codes "//" ++ tail → n ≡ prefix_len is_no_feed tail
+    → (2 + n ≤ length bytes) × AtFront bytes (Piece.Gap (2 + n) (drop (2 + n) bytes))
 line_found bytes tail n e same =
     let run = prefix_len is_no_feed tail in
     let le = prefix_len-le-length is_no_feed tail in
     let size : length (take run tail) ≡ run = length-take-le run tail le in
     let none : (sooner after : List ℕ) → ¬ (take run tail ≡ sooner ++ 10 ∷ after) = λ sooner after f.
     absurd (no_feed sooner after (ap (list_all is_no_feed) (sym f) ∙ prefix_all is_no_feed tail)) in
-    gap_is (2 + n) (IsComment.line (take run tail) (drop run tail) (e ∙ ap (λ (l : List ℕ). codes "//" ++ l) (sym (take-append-drop run tail))) none (ends_line tail)) (omega (arith, size, same))
+    let parts = e ∙ ap (λ (l : List ℕ). codes "//" ++ l) (sym (take-append-drop run tail)) in
+    gap_is (2 + n) (IsComment.line (take run tail) (drop run tail) parts none (ends_line tail)) (omega (arith, size, same))

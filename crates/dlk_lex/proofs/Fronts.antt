@@ -9,8 +9,8 @@ use Rattle.dlk_tree.specs.Names.{is_letter, is_name_byte, is_word}
 use Rattle.dlk_grammar.specs.declared.token.TokenKind.{TokenKind}
 use Rattle.dlk_grammar.specs.declared.token.TokenKind.TheVariants as kind
 use Rattle.dlk_grammar.specs.declared.token.Mark.{Mark}
-use Rattle.dlk_grammar.specs.Tokens.{is_space, is_digit, spelling, Spells, dot, hole, a_mark}
-use Rattle.dlk_grammar.proofs.Spelled.{Class, first_class, class, Letter, Point, Under, Space, Other, Shape, shape_at, letter_class, space_class, spelled_some}
+use Rattle.dlk_grammar.specs.Tokens.{is_digit, spelling, Spells, dot, hole, a_mark}
+use Rattle.dlk_grammar.proofs.Spelled.{word_here, dot_here, hole_here, mark_here}
 use Rattle.dlk_lex.specs.Fronts.{IsFrontMark, StandsInFront}
 
 pub prefix_all : {X : Type 0} (p : X → Bool) (bs : List X) → list_all p (take (prefix_len p bs) bs) ≡ true
@@ -25,7 +25,8 @@ pub prefix_most : (p : ℕ → Bool) (l r : List ℕ) → list_all p l ≡ true 
 prefix_most p [] r h = omega arith
 prefix_most p (b ∷ l) r h = go (p b) h (prefix_most p l r)
   where
-    go : (c : Bool) → (c && list_all p l) ≡ true → (list_all p l ≡ true → length l ≤ prefix_len p (l ++ r)) → suc (length l) ≤ cond c (1 + prefix_len p (l ++ r)) 0
+    go : (c : Bool) → (c && list_all p l) ≡ true → (list_all p l ≡ true → length l ≤ prefix_len p (l ++ r))
+        → suc (length l) ≤ cond c (1 + prefix_len p (l ++ r)) 0
     go true e h = omega (arith, h e)
     go false e h = absurd cc
 
@@ -42,11 +43,6 @@ stands bytes n k le spells most = record {
   };
 }
 
--- the shape of a token at the front
-pub shape_here : (bytes s after : List ℕ) {k : TokenKind} (c : Class) → first_class bytes ≡ c → bytes ≡ s ++ after → Spells s k → Shape c s
-shape_here bytes [] after c h e p = absurd (spelled_some p refl)
-shape_here bytes (b ∷ s) after c h e p = shape_at p c (ap first_class (sym e) ∙ h)
-
 letter_is : (b : ℕ) → is_letter b ≡ true → is_name_byte b ≡ true
 letter_is b h = rw h refl
 
@@ -61,20 +57,19 @@ run_is_word (b ∷ bs) h =
     let n : 1 + prefix_len is_name_byte bs ≡ suc (prefix_len is_name_byte bs) = omega arith in
     rw (letter_is b h, n) (rw (first, prefix_all is_name_byte bs) refl)
 
-pub word_front : (bytes : List ℕ) (k : TokenKind) → is_letter (get_or bytes 0 0) ≡ true → Spells (take (prefix_len is_name_byte bytes) bytes) k → StandsInFront bytes (k, prefix_len is_name_byte bytes)
+pub word_front : (bytes : List ℕ) (k : TokenKind) → is_letter (get_or bytes 0 0) ≡ true → Spells (take (prefix_len is_name_byte bytes) bytes) k
+    → StandsInFront bytes (k, prefix_len is_name_byte bytes)
 word_front bytes k h spells = stands bytes (prefix_len is_name_byte bytes) k (prefix_len-le-length is_name_byte bytes) spells (λ s after other e p.
-    let w = shape_here bytes s after Letter (letter_class (get_or bytes 0 0) h) e p in
-    rw e (prefix_most is_name_byte s after (word_bytes s w)))
-
-point_class : (bytes : List ℕ) → get_or bytes 0 0 ≡ 46 → first_class bytes ≡ Point
-point_class bytes h = ap class h
+    rw e (prefix_most is_name_byte s after (word_bytes s (word_here bytes s after e p h))))
 
 -- three bytes, point, underscore and digit, are a dot
-pub dot_front : (bytes : List ℕ) → 3 ≤ length bytes → get_or bytes 0 0 ≡ 46 → get_or bytes 1 0 ≡ 95 → 48 ≤ get_or bytes 2 0 → get_or bytes 2 0 ≤ 55 → StandsInFront bytes (kind.Dot (get_or bytes 2 0 - 48), 3)
+pub dot_front : (bytes : List ℕ) → 3 ≤ length bytes → get_or bytes 0 0 ≡ 46 → get_or bytes 1 0 ≡ 95 → 48 ≤ get_or bytes 2 0 → get_or bytes 2 0 ≤ 55
+    → StandsInFront bytes (kind.Dot (get_or bytes 2 0 - 48), 3)
 dot_front bytes le e f low high = stands bytes 3 (kind.Dot (get_or bytes 2 0 - 48)) le (go bytes le e f low high) (λ s after other e' p.
-    let w = shape_here bytes s after Point (point_class bytes e) e' p in omega (arith, ap length w.2))
+    let w = dot_here bytes s after e' p e in omega (arith, ap length w.2))
   where
-    go : (l : List ℕ) → 3 ≤ length l → get_or l 0 0 ≡ 46 → get_or l 1 0 ≡ 95 → 48 ≤ get_or l 2 0 → get_or l 2 0 ≤ 55 → Spells (take 3 l) (kind.Dot (get_or l 2 0 - 48))
+    go : (l : List ℕ) → 3 ≤ length l → get_or l 0 0 ≡ 46 → get_or l 1 0 ≡ 95 → 48 ≤ get_or l 2 0 → get_or l 2 0 ≤ 55
+        → Spells (take 3 l) (kind.Dot (get_or l 2 0 - 48))
     go [] le e f low high = absurd (omega arith)
     go (a ∷ []) le e f low high = absurd (omega arith)
     go (a ∷ b ∷ []) le e f low high = absurd (omega arith)
@@ -86,22 +81,15 @@ dot_front bytes le e f low high = stands bytes 3 (kind.Dot (get_or bytes 2 0 - 4
 pub hole_front : (bytes : List ℕ) → get_or bytes 0 0 ≡ 95 → StandsInFront bytes (kind.Hole, 1)
 hole_front [] e = absurd (omega arith)
 hole_front (b ∷ bs) e = stands (b ∷ bs) 1 kind.Hole (omega arith) (rw e hole) (λ s after other f p.
-    let w = shape_here (b ∷ bs) s after Under (ap class e) f p in omega (arith, ap length w))
+    omega (arith, ap length (hole_here (b ∷ bs) s after f p e)))
 
-module _ (bytes : List ℕ) (no_letter : is_letter (get_or bytes 0 0) ≡ false) (no_digit : is_digit (get_or bytes 0 0) ≡ false) (no_point : (get_or bytes 0 0 == 46) ≡ false) (no_under : (get_or bytes 0 0 == 95) ≡ false) where
-  -- a token at the front is a mark
-  some_mark : (s after : List ℕ) (k : TokenKind) → bytes ≡ s ++ after → Spells s k → (m : Mark) × (s ≡ spelling m)
-  some_mark s after k e p = go (is_space (get_or bytes 0 0)) refl
-    where
-      go : (b : Bool) → is_space (get_or bytes 0 0) ≡ b → (m : Mark) × (s ≡ spelling m)
-      go true h = absurd (shape_here bytes s after Space (space_class (get_or bytes 0 0) h) e p)
-      go false h = shape_here bytes s after Other (rw (no_letter, no_digit, no_point, no_under, h) refl) e p
-
+module _ (bytes : List ℕ) (no_letter : is_letter (get_or bytes 0 0) ≡ false) (no_digit : is_digit (get_or bytes 0 0) ≡ false)
+    (no_point : (get_or bytes 0 0 == 46) ≡ false) (no_under : (get_or bytes 0 0 == 95) ≡ false) where
   pub mark_front : (m : Mark) → IsFrontMark bytes m → StandsInFront bytes (kind.Mark m, length (spelling m))
   mark_front m f =
       let le : length (spelling m) ≤ length bytes = omega (arith, ap length f.front, length-append (spelling m) f.rest) in
       let same : take (length (spelling m)) bytes ≡ spelling m = ap (take (length (spelling m))) f.front ∙ take-append_seam (spelling m) f.rest in
       stands bytes (length (spelling m)) (kind.Mark m) le (subst (λ (l : List ℕ). Spells l (kind.Mark m)) (sym same) (a_mark m)) (λ s after other e p.
-      let w = some_mark s after other e p in
+      let w = mark_here bytes s after e p no_letter no_digit no_point no_under in
       let most = f.longest w.0 after (e ∙ ap (λ (l : List ℕ). l ++ after) w.1) in
       omega (arith, ap length w.1))

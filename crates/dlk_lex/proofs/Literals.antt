@@ -1,16 +1,16 @@
 -- The literal at the front.
-use Rattle.std.proofs.Common.{◌≡◌, ◌≢◌, ℕ, zero, suc, ◌+◌, ◌-◌, ◌*◌, ◌^◌, ◌<◌, ◌≤◌, Bool, true, false, cond, ◌==◌, List, [], ◌∷◌, ◌++◌, length, take, drop, get_or, refl, sym, ap, subst, ◌∙◌, ◌⊎◌, inl, inr, arith, lit<, codes, append_assoc, length-append, if◌then◌else◌}
+use Rattle.std.proofs.Common.{◌≡◌, ◌≢◌, ℕ, zero, suc, ◌+◌, ◌-◌, ◌*◌, ◌^◌, ◌<◌, ◌≤◌, Bool, true, false, cond, ◌==◌, List, [], ◌∷◌, ◌++◌, length, take, drop, get_or, refl, sym, ap, ◌∙◌, ◌⊎◌, inl, inr, arith, lit<, codes, append_assoc, length-append, if◌then◌else◌}
 use Rattle.std.specs.List.{list_all, prefix_len, fold}
 use Rattle.std.proofs.Math.Nat.{pow-le-pow_right, pow-succ', one-le-pow}
 use Rattle.std.proofs.Math.Seq.{take-append_seam, drop-append_seam}
-use Rattle.std.proofs.lemmas.Bool.{and_parts, leb-true, ne_eqb, eqb-true, cases_lt}
+use Rattle.std.proofs.lemmas.Bool.{and_parts, leb-true, ne_eqb, eqb-true}
 use Rattle.std.proofs.lemmas.List.{take-append-drop, length-take-le, drop-drop, take_more}
 use Rattle.std.proofs.lemmas.List.Sums.{prefix_len-le-length}
-use Rattle.dlk_grammar.specs.declared.token.TokenKind.{TokenKind}
-use Rattle.dlk_grammar.specs.Tokens.{is_digit, are_digits, before_digits, trimmed, Spells, integer, decimal, long_integer, long_decimal}
+use Rattle.dlk_grammar.specs.Tokens.{is_digit, are_digits, before_digits, trimmed, Spells}
+use Rattle.dlk_grammar.specs.Literals.{IsLiteral, whole, pointed, literal_kind}
 use Rattle.dlk_grammar.proofs.Real.{value_below, trimmed_is, digits_trimmed, digits_some}
-use Rattle.dlk_grammar.proofs.Spelled.{Digit, digit_class, IsLiteral, whole, pointed, literal_kind, number_kind, long_kind, digits_all}
-use Rattle.dlk_lex.proofs.Fronts.{prefix_all, prefix_most, stands, shape_here}
+use Rattle.dlk_grammar.proofs.Spelled.{digits_all, spells_whole, spells_pointed, literal_here}
+use Rattle.dlk_lex.proofs.Fronts.{prefix_all, prefix_most, stands}
 use Rattle.dlk_lex.specs.Fronts.{fraction_len, StandsInFront}
 
 -- one digit more, of at most 38
@@ -69,25 +69,13 @@ room_behind s n h le =
 pub trimmed_digits : (f : List ℕ) → list_all is_digit f ≡ true → list_all is_digit (trimmed f) ≡ true
 trimmed_digits f h = digits_trimmed (trimmed f) (trimmed_is f h)
 
--- what a literal spells
-pub spells_whole : (s : List ℕ) → are_digits s ≡ true → Spells s (literal_kind s [])
-spells_whole s h = elim (cases_lt 38 (length s)) [
-  | inl lt ↦ subst (Spells s) (sym (long_kind s [] (omega arith))) (long_integer s h lt)
-  | inr le ↦ subst (Spells s) (sym (number_kind s [] (omega arith))) (integer s h le)
-]
-
-pub spells_pointed : (s f : List ℕ) → are_digits s ≡ true → are_digits f ≡ true → Spells (s ++ (codes "." ++ f)) (literal_kind s f)
-spells_pointed s f h i = elim (cases_lt 38 (length s + length f)) [
-  | inl lt ↦ subst (Spells (s ++ (codes "." ++ f))) (sym (long_kind s f lt)) (long_decimal s f h i lt)
-  | inr le ↦ subst (Spells (s ++ (codes "." ++ f))) (sym (number_kind s f le)) (decimal s f h i le)
-]
-
 -- a run of digits, and what stops it
 pub run_is_digits : (bytes : List ℕ) → 0 < prefix_len is_digit bytes → are_digits (take (prefix_len is_digit bytes) bytes) ≡ true
 run_is_digits [] lt = absurd (omega arith)
 run_is_digits (b ∷ bs) lt = go (is_digit b) refl (prefix_all is_digit bs) lt
   where
-    go : (c : Bool) → is_digit b ≡ c → list_all is_digit (take (prefix_len is_digit bs) bs) ≡ true → 0 < cond c (1 + prefix_len is_digit bs) 0 → are_digits (take (cond c (1 + prefix_len is_digit bs) 0) (b ∷ bs)) ≡ true
+    go : (c : Bool) → is_digit b ≡ c → list_all is_digit (take (prefix_len is_digit bs) bs) ≡ true → 0 < cond c (1 + prefix_len is_digit bs) 0
+        → are_digits (take (cond c (1 + prefix_len is_digit bs) 0) (b ∷ bs)) ≡ true
     go true e h lt = let n : 1 + prefix_len is_digit bs ≡ suc (prefix_len is_digit bs) = omega arith in rw n (rw (e, h) refl)
     go false e h lt = absurd (omega arith)
 
@@ -100,25 +88,33 @@ run_before [] r h = refl
 run_before (b ∷ s) r h = let w = and_parts (is_digit b) (list_all is_digit s) h in rw (w.0, run_before s r w.1) (omega arith)
 
 -- a literal at the front is no longer than the digits there, with the point and the digits behind it where there are some
-pub literal_most : (bytes s after : List ℕ) → IsLiteral s → bytes ≡ s ++ after → (length s ≤ prefix_len is_digit bytes) ⊎ ((0 < fraction_len (drop (prefix_len is_digit bytes) bytes)) × (length s ≤ prefix_len is_digit bytes + 1 + fraction_len (drop (prefix_len is_digit bytes) bytes)))
+abbrev IsShort : List ℕ → ℕ → ℕ → Type 0
+IsShort s digits fraction = (length s ≤ digits) ⊎ ((0 < fraction) × (length s ≤ digits + 1 + fraction))
+
+pub literal_most : (bytes s after : List ℕ) → IsLiteral s → bytes ≡ s ++ after
+    → IsShort s (prefix_len is_digit bytes) (fraction_len (drop (prefix_len is_digit bytes) bytes))
 literal_most bytes _ after (whole s h) e = inl (rw e (prefix_most is_digit s after (digits_all s h)))
 literal_most bytes _ after (pointed s f h i) e =
     let parts : bytes ≡ s ++ (codes "." ++ (f ++ after)) = e ∙ append_assoc s (codes "." ++ f) after in
     let run : prefix_len is_digit bytes ≡ length s = ap (prefix_len is_digit) parts ∙ run_before s (f ++ after) (digits_all s h) in
-    let behind : drop (prefix_len is_digit bytes) bytes ≡ codes "." ++ (f ++ after) = ap (λ (n : ℕ). drop n bytes) run ∙ (ap (drop (length s)) parts ∙ drop-append_seam s (codes "." ++ (f ++ after))) in
+    let behind : drop (prefix_len is_digit bytes) bytes ≡ codes "." ++ (f ++ after) =
+    ap (λ (n : ℕ). drop n bytes) run ∙ (ap (drop (length s)) parts ∙ drop-append_seam s (codes "." ++ (f ++ after))) in
     let most = prefix_most is_digit f after (digits_all f i) in
     let count : fraction_len (drop (prefix_len is_digit bytes) bytes) ≡ prefix_len is_digit (f ++ after) = ap fraction_len behind in
     inr (omega (arith, digits_some f i), omega (arith, length-append s (codes "." ++ f)))
 
 -- the point and what is behind it, where digits are
-pub behind_point : (bytes : List ℕ) (n : ℕ) → fraction_len (drop n bytes) ≢ 0 → (drop n bytes ≡ codes "." ++ drop (n + 1) bytes) × (fraction_len (drop n bytes) ≡ prefix_len is_digit (drop (n + 1) bytes))
+pub behind_point : (bytes : List ℕ) (n : ℕ) → fraction_len (drop n bytes) ≢ 0
+    → (drop n bytes ≡ codes "." ++ drop (n + 1) bytes) × (fraction_len (drop n bytes) ≡ prefix_len is_digit (drop (n + 1) bytes))
 behind_point bytes n some = go (drop n bytes) (drop-drop 1 n bytes) some
   where
-    go : (l : List ℕ) → drop 1 l ≡ drop (n + 1) bytes → fraction_len l ≢ 0 → (l ≡ codes "." ++ drop (n + 1) bytes) × (fraction_len l ≡ prefix_len is_digit (drop (n + 1) bytes))
+    go : (l : List ℕ) → drop 1 l ≡ drop (n + 1) bytes → fraction_len l ≢ 0
+        → (l ≡ codes "." ++ drop (n + 1) bytes) × (fraction_len l ≡ prefix_len is_digit (drop (n + 1) bytes))
     go [] e some = absurd (some refl)
     go (b ∷ bs) e some = at (b == 46) refl some
       where
-        at : (c : Bool) → (b == 46) ≡ c → (if c then prefix_len is_digit bs else 0) ≢ 0 → (b ∷ bs ≡ codes "." ++ drop (n + 1) bytes) × ((if c then prefix_len is_digit bs else 0) ≡ prefix_len is_digit (drop (n + 1) bytes))
+        at : (c : Bool) → (b == 46) ≡ c → (if c then prefix_len is_digit bs else 0) ≢ 0
+            → (b ∷ bs ≡ codes "." ++ drop (n + 1) bytes) × ((if c then prefix_len is_digit bs else 0) ≡ prefix_len is_digit (drop (n + 1) bytes))
         at true h some = (rw (eqb-true b 46 h) (ap (λ (l : List ℕ). 46 ∷ l) e), ap (prefix_len is_digit) e)
         at false h some = absurd (some refl)
 
@@ -128,16 +124,14 @@ fraction_digits bytes n f count some =
     rw (count ∙ w.1) (prefix_all is_digit (drop (n + 1) bytes))
 
 module _ (bytes : List ℕ) (first : is_digit (get_or bytes 0 0) ≡ true) where
-  literal_here : (s after : List ℕ) (k : TokenKind) → bytes ≡ s ++ after → Spells s k → IsLiteral s
-  literal_here s after k e p = shape_here bytes s after Digit (digit_class (get_or bytes 0 0) first) e p
-
   -- the literal is the digits at the front
   pub whole_front : (n : ℕ) → n ≡ prefix_len is_digit bytes → fraction_len (drop n bytes) ≡ 0 → StandsInFront bytes (literal_kind (take n bytes) [], n)
   whole_front n same none =
       let run : are_digits (take n bytes) ≡ true = rw same (run_is_digits bytes (run_some bytes first)) in
       let no : fraction_len (drop (prefix_len is_digit bytes) bytes) ≡ 0 = ap (λ (m : ℕ). fraction_len (drop m bytes)) (sym same) ∙ none in
-      stands bytes n (literal_kind (take n bytes) []) (omega (arith, prefix_len-le-length is_digit bytes)) (spells_whole (take n bytes) run) (λ s after other e p.
-      elim (literal_most bytes s after (literal_here s after other e p) e) [ inl le ↦ omega arith | inr w ↦ absurd (omega (arith, w.0)) ])
+      stands bytes n (literal_kind (take n bytes) []) (omega (arith, prefix_len-le-length is_digit bytes)) (spells_whole (take n bytes) run)
+      (λ s after other e p.
+      elim (literal_most bytes s after (literal_here bytes s after e p first) e) [ inl le ↦ omega arith | inr w ↦ absurd (omega (arith, w.0)) ])
 
   -- the literal has a point
   pub pointed_front : (n f m : ℕ) → n ≡ prefix_len is_digit bytes → f ≡ fraction_len (drop n bytes) → f ≢ 0 → m ≡ n + 1 + f
@@ -153,12 +147,17 @@ module _ (bytes : List ℕ) (first : is_digit (get_or bytes 0 0) ≡ true) where
       let s = take n bytes ++ (codes "." ++ take f (drop (n + 1) bytes)) in
       let split : drop (n + 1) bytes ≡ take f (drop (n + 1) bytes) ++ drop f (drop (n + 1) bytes) = sym (take-append-drop f (drop (n + 1) bytes)) in
       let parts : bytes ≡ s ++ drop f (drop (n + 1) bytes) =
-      sym (take-append-drop n bytes) ∙ (ap (λ (l : List ℕ). take n bytes ++ l) (w.0 ∙ ap (λ (l : List ℕ). codes "." ++ l) split) ∙ sym (append_assoc (take n bytes) (codes "." ++ take f (drop (n + 1) bytes)) (drop f (drop (n + 1) bytes)))) in
-      let size : length s ≡ m = omega (arith, length-append (take n bytes) (codes "." ++ take f (drop (n + 1) bytes)), length-take-le n bytes low, length-take-le f (drop (n + 1) bytes) high) in
-      let front : take m bytes ≡ s = ap (λ (k : ℕ). take k bytes) (sym size) ∙ (ap (take (length s)) parts ∙ take-append_seam s (drop f (drop (n + 1) bytes))) in
+      sym (take-append-drop n bytes) ∙ ap (λ (l : List ℕ). take n bytes ++ l) (w.0 ∙ ap (λ (l : List ℕ). codes "." ++ l) split)
+      ∙ sym (append_assoc (take n bytes) (codes "." ++ take f (drop (n + 1) bytes)) (drop f (drop (n + 1) bytes))) in
+      let f-size = length-take-le f (drop (n + 1) bytes) high in
+      let size : length s ≡ m = omega (arith, length-append (take n bytes) (codes "." ++ take f (drop (n + 1) bytes)), length-take-le n bytes low, f-size) in
+      let front : take m bytes ≡ s =
+      ap (λ (k : ℕ). take k bytes) (sym size) ∙ (ap (take (length s)) parts ∙ take-append_seam s (drop f (drop (n + 1) bytes))) in
       let le : m ≤ length bytes = omega (arith, ap length parts, length-append s (drop f (drop (n + 1) bytes))) in
+      let spelled : Spells (take m bytes) (literal_kind (take n bytes) (take f (drop (n + 1) bytes))) =
+      rw front (spells_pointed (take n bytes) (take f (drop (n + 1) bytes)) run more) in
       let run-is : fraction_len (drop (prefix_len is_digit bytes) bytes) ≡ f = ap (λ (k : ℕ). fraction_len (drop k bytes)) (sym same) ∙ sym count in (
         le,
-        stands bytes m (literal_kind (take n bytes) (take f (drop (n + 1) bytes))) le (rw front (spells_pointed (take n bytes) (take f (drop (n + 1) bytes)) run more)) (λ x after other e p.
-            elim (literal_most bytes x after (literal_here x after other e p) e) [ inl short ↦ omega arith | inr v ↦ omega (arith, v.1) ]),
+        stands bytes m (literal_kind (take n bytes) (take f (drop (n + 1) bytes))) le spelled (λ x after other e p.
+            elim (literal_most bytes x after (literal_here bytes x after e p first) e) [ inl short ↦ omega arith | inr v ↦ omega (arith, v.1) ]),
       )

@@ -7,9 +7,9 @@ use Rattle.dlk_grammar.specs.declared.token.Token.{Token}
 use Rattle.dlk_grammar.specs.declared.token.TokenKind.{TokenKind}
 use Rattle.dlk_grammar.specs.declared.token.TokenKind.TheVariants.{End}
 use Rattle.dlk_grammar.specs.Tokens.{is_space}
-use Rattle.dlk_grammar.specs.Splits.{token, BeginsComment, IsComment, Splits, ended, space, comment, one, BadAt, here, after_space, after_comment, after_one}
-use Rattle.dlk_grammar.proofs.Spelled.{spelled_some}
-use Rattle.dlk_grammar.proofs.Splitting.{Piece, AtFront, front-ended, front-space, front-comment, front-one, front-bad, SplitsBehind, BadBehind, comment_begins}
+use Rattle.dlk_grammar.specs.Splits.{token, BeginsComment, Splits, ended, BadAt}
+use Rattle.dlk_grammar.specs.Fronts.{Piece, AtFront, front-space, front-one, front-bad}
+use Rattle.dlk_grammar.proofs.Splitting.{comment_begins, go_on, go_bad, forward}
 use Rattle.dlk_lex.specs.Fronts.{StandsInFront, IsToken}
 
 module _ (bytes : List ℕ) (some : 0 < length bytes) where
@@ -19,7 +19,8 @@ module _ (bytes : List ℕ) (some : 0 < length bytes) where
   pub space_piece : is_space (get_or bytes 0 0) ≡ true → (1 ≤ length bytes) × AtFront bytes (Piece.Gap 1 (drop 1 bytes))
   space_piece h = (omega arith, front-space (get_or bytes 0 0) (drop 1 bytes) first_is h)
 
-  pub token_piece : (n : ℕ) (k : TokenKind) → ¬ BeginsComment bytes → StandsInFront bytes (k, n) → (n ≤ length bytes) × AtFront bytes (Piece.One (take n bytes) k (drop n bytes))
+  pub token_piece : (n : ℕ) (k : TokenKind) → ¬ BeginsComment bytes → StandsInFront bytes (k, n)
+      → (n ≤ length bytes) × AtFront bytes (Piece.One (take n bytes) k (drop n bytes))
   token_piece n k none f = (f.within, front-one (take n bytes) (drop n bytes) k (sym (take-append-drop n bytes)) none f.is)
 
   pub no_piece : is_space (get_or bytes 0 0) ≡ false → ¬ BeginsComment bytes → IsToken bytes None → AtFront bytes Piece.Bad
@@ -29,40 +30,6 @@ module _ (bytes : List ℕ) (some : 0 < length bytes) where
     no_comment = λ s after c. none (comment_begins c);
     no_token = λ s k l. absurd (missing s k l);
   })
-
--- a split goes on over what is at the front, and so does the way to a bad place
-go_on : {at : ℕ} {bytes : List ℕ} {ts : List Token} {p : Piece} → AtFront bytes p → SplitsBehind at ts p → Splits at bytes ts
-go_on {at} {bytes} (front-ended e) s = subst (Splits at bytes) (sym s) (ended e)
-go_on (front-space b rest e h) s = space b rest e h s
-go_on (front-comment c rest e) s = comment c rest e s
-go_on {at} {bytes} (front-one w rest k e n l) s = subst (Splits at bytes) (sym s.1) (one w rest k e n l s.2)
-go_on (front-bad b rest n) s = absurd s
-
-go_bad : {at bad : ℕ} {bytes : List ℕ} {p : Piece} → AtFront bytes p → BadBehind at bad p → BadAt at bytes bad
-go_bad (front-ended e) s = absurd s
-go_bad (front-space b rest e h) s = after_space b rest e h s
-go_bad (front-comment c rest e) s = after_comment c rest e s
-go_bad (front-one w rest k e n l) s = after_one w rest k e n l s
-go_bad {at} {bad} {bytes} (front-bad b rest n) s = subst (BadAt at bytes) (sym s) (here b rest n)
-
--- each step goes forward
-abbrev Moves : Piece → Type 0
-Moves Piece.Ended = Unit {0}
-Moves (Piece.Gap n rest) = 0 < n
-Moves (Piece.One s k rest) = 0 < length s
-Moves Piece.Bad = Unit {0}
-
-comment_some : {bytes s rest : List ℕ} → IsComment bytes s rest → 0 < length s
-comment_some (IsComment.block inside rest e n) = omega arith
-comment_some (IsComment.line inside rest e n x) = omega arith
-
-moves : {bytes : List ℕ} {p : Piece} → AtFront bytes p → Moves p
-moves (front-ended e) = tt
-moves (front-space b rest e h) = omega arith
-moves (front-comment s rest c) = comment_some c
-moves (front-one [] rest k e n l) = absurd (spelled_some l.spells refl)
-moves (front-one (b ∷ s) rest k e n l) = omega arith
-moves (front-bad b rest n) = tt
 
 -- The bytes before a place split into the tokens so far.
 pub record Reached (bytes : List ℕ) (at : ℕ) (out : List Token) : Type 0 where
@@ -78,26 +45,31 @@ module _ (bytes : List ℕ) (at : ℕ) (out : List Token) (reached : Reached byt
   past_gap n f =
       let le : at + n ≤ length bytes = omega (arith, f.0, ap length same, length-drop at bytes, reached.within) in
       let behind : drop n rest ≡ drop (at + n) bytes = ap (drop n) same ∙ drop-drop n at bytes in (
-        moves f.1,
+        (forward f.1).0,
         record {
           within = le;
-          found = λ ts s. reached.found ts (subst (λ (l : List ℕ). Splits at l ts) same (go_on f.1 (subst (λ (l : List ℕ). Splits (at + n) l ts) (sym behind) s)));
+          found = λ ts s.
+              let further = subst (λ (l : List ℕ). Splits (at + n) l ts) (sym behind) s in
+              reached.found ts (subst (λ (l : List ℕ). Splits at l ts) same (go_on f.1 further));
           bad = λ b s. reached.bad b (subst (λ (l : List ℕ). BadAt at l b) same (go_bad f.1 (subst (λ (l : List ℕ). BadAt (at + n) l b) (sym behind) s)));
         },
       )
 
-  pub past_token : (n : ℕ) (k : TokenKind) → (n ≤ length rest) × AtFront rest (Piece.One (take n rest) k (drop n rest)) → (0 < n) × Reached bytes (at + n) (out ++ token k at (at + n) ∷ [])
+  pub past_token : (n : ℕ) (k : TokenKind) → (n ≤ length rest) × AtFront rest (Piece.One (take n rest) k (drop n rest))
+      → (0 < n) × Reached bytes (at + n) (out ++ token k at (at + n) ∷ [])
   past_token n k f =
       let le : at + n ≤ length bytes = omega (arith, f.0, ap length same, length-drop at bytes, reached.within) in
       let behind : drop n rest ≡ drop (at + n) bytes = ap (drop n) same ∙ drop-drop n at bytes in
       let size : length (take n rest) ≡ n = length-take-le n rest f.0 in
-      let some : 0 < length (take n rest) = moves f.1 in (
+      let some : 0 < length (take n rest) = (forward f.1).0 in (
         omega arith,
         record {
           within = le;
-          found = λ ts s. subst (Splits 0 bytes) (sym (append_assoc out (token k at (at + n) ∷ []) ts))
-              (reached.found (token k at (at + n) ∷ ts) (subst (λ (l : List ℕ). Splits at l (token k at (at + n) ∷ ts)) same
-              (go_on f.1 (ts, ap (λ (m : ℕ). token k at (at + m) ∷ ts) (sym size), subst (λ (m : ℕ). Splits (at + m) (drop n rest) ts) (sym size) (subst (λ (l : List ℕ). Splits (at + n) l ts) (sym behind) s)))));
+          found = λ ts s.
+              let further = subst (λ (m : ℕ). Splits (at + m) (drop n rest) ts) (sym size) (subst (λ (l : List ℕ). Splits (at + n) l ts) (sym behind) s) in
+              let here = go_on f.1 (ts, ap (λ (m : ℕ). token k at (at + m) ∷ ts) (sym size), further) in
+              let all = reached.found (token k at (at + n) ∷ ts) (subst (λ (l : List ℕ). Splits at l (token k at (at + n) ∷ ts)) same here) in
+              subst (Splits 0 bytes) (sym (append_assoc out (token k at (at + n) ∷ []) ts)) all;
           bad = λ b s. reached.bad b (subst (λ (l : List ℕ). BadAt at l b) same
               (go_bad f.1 (subst (λ (m : ℕ). BadAt (at + m) (drop n rest) b) (sym size) (subst (λ (l : List ℕ). BadAt (at + n) l b) (sym behind) s))));
         },

@@ -1,13 +1,18 @@
 -- What is at the front of bytes.
 use Rattle.std.specs.Prelude.{◌≡◌, ℕ, ◌+◌, ◌<◌, ◌≤◌, ◌==◌, Bool, not, List, [], ◌∷◌, ◌++◌, length, take, drop, Option, Some, None, slice_index, if◌then◌else◌}
-use Rattle.std.specs.List.{prefix_len}
+use Rattle.std.specs.List.{filter, prefix_len}
 use Rattle.dlk_grammar.specs.declared.token.Mark.{Mark}
 use Rattle.dlk_grammar.specs.declared.token.TokenKind.{TokenKind}
 use Rattle.dlk_grammar.specs.Tokens.{is_digit, spelling}
+use Rattle.dlk_grammar.specs.Marks.{marks}
 use Rattle.dlk_grammar.specs.Splits.{Longest}
-use Rattle.dlk_grammar.proofs.Splitting.{Piece as FrontPiece, AtFront}
+use Rattle.dlk_grammar.specs.Fronts.{Piece as FrontPiece, AtFront}
 use Rattle.dlk_lex.specs.declared.front.Piece.{Piece}
 use Rattle.dlk_lex.specs.declared.front.Piece.TheVariants.{Gap, Token, Nothing}
+
+-- the marks that begin with a byte, longer ones before shorter ones
+abbrev pub marks_from : ℕ → List Mark
+marks_from first = filter (λ m. slice_index (spelling m) 0 == first) marks
 
 -- the mark is at the front, and no longer one is
 pub record IsFrontMark (bytes : List ℕ) (m : Mark) : Type 0 where

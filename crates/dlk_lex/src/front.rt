@@ -6,7 +6,7 @@ ghost use Rattle.dlk_grammar.specs.Tokens.{Spells};
 ghost use Rattle.dlk_lex.specs.Fronts.{EndsBlock, HasNoEnd, IsToken, IsPiece};
 
 use crate::bytes::{is_digit, is_space, line_run, word_run};
-use crate::marks::{front_mark, spelling};
+use crate::marks::front_mark;
 use crate::numbers::number;
 use dlk_grammar::TokenKind;
 use dlk_tree::{Name, NameFault, is_letter};
@@ -22,21 +22,19 @@ pub(crate) enum Piece {
     Nothing,
 }
 
-/// A word as a token.
+/// A word as a token. One that is no name is `true` or `false`.
 fn word(alloc: Global, bytes: &[u8]) -> Result<TokenKind, AllocError>
     requires { IsTrue (is_word bytes.now) }
     ensures { IfOk result (Spells bytes.now) }
 {
-    if bytes == b"true".as_slice() {
-        return Ok(TokenKind::True);
-    }
-    if bytes == b"false".as_slice() {
-        return Ok(TokenKind::False);
-    }
     match Name::new(alloc, bytes) {
         Ok(name) => Ok(TokenKind::Word(name)),
         Err(NameFault::Memory) => Err(AllocError),
-        Err(NameFault::NotAName) => unreachable!(),
+        Err(NameFault::NotAName) => Ok(if bytes == b"true".as_slice() {
+            TokenKind::True
+        } else {
+            TokenKind::False
+        }),
     }
 }
 
@@ -76,10 +74,10 @@ fn token(alloc: Global, bytes: &[u8]) -> Result<Option<(TokenKind, usize)>, Allo
     if first == b'_' {
         return Ok(Some((TokenKind::Hole, 1)));
     }
-    let Some(mark) = front_mark(bytes) else {
+    let Some((mark, n)) = front_mark(bytes) else {
         return Ok(None);
     };
-    Ok(Some((TokenKind::Mark(mark), spelling(mark).len())))
+    Ok(Some((TokenKind::Mark(mark), n)))
 }
 
 /// How many bytes are before the first `*/`.

@@ -1,113 +1,66 @@
 //! The marks and their spellings.
-ghost use Rattle.std.specs.Prelude.{◌≡◌, IfSome, IfNone};
+ghost use Rattle.std.specs.Prelude.{◌≡◌, ◌<◌, map, IfSome, IfNone, length};
 ghost use Rattle.dlk_grammar.specs.Tokens.{spelling};
-ghost use Rattle.dlk_grammar.proofs.Marks.{marks};
-ghost use Rattle.dlk_lex.specs.Fronts.{IsFrontMark, HasNoMark};
+ghost use Rattle.dlk_lex.specs.Fronts.{marks_from, IsFrontMark, HasNoMark};
 
 use dlk_grammar::Mark;
 
-/// How a mark is written.
-pub(crate) fn spelling(mark: Mark) -> &'static [u8]
-    ensures { result.now ≡ spelling mark }
+/// The marks that begin with a byte, longer ones before shorter ones, and how each is written.
+fn marks_from(first: u8) -> &'static [(&'static [u8], Mark)]
+    ensures marks { map (λ row. row.1) result.now ≡ marks_from first }
+    ensures texts { map (λ row. row.0.now) result.now ≡ map spelling (marks_from first) }
 {
-    match mark {
-        Mark::Forall => b"\\forall",
-        Mark::Exists => b"\\exists",
-        Mark::Invariant => b"@invariant",
-        Mark::RoundBars => b"(||)",
-        Mark::RoundBar => b"(|",
-        Mark::BarRound => b"|)",
-        Mark::BraceBar => b"{|",
-        Mark::BarBrace => b"|}",
-        Mark::OpenRound => b"(",
-        Mark::CloseRound => b")",
-        Mark::OpenSquare => b"[",
-        Mark::CloseSquare => b"]",
-        Mark::OpenBrace => b"{",
-        Mark::CloseBrace => b"}",
-        Mark::Equiv => b"<->",
-        Mark::Imply => b"->",
-        Mark::And => b"&",
-        Mark::Or => b"|",
-        Mark::Not => b"!",
-        Mark::Turnstile => b"==>",
-        Mark::Equal => b"=",
-        Mark::NotEqual => b"!=",
-        Mark::AtLeast => b">=",
-        Mark::Greater => b">",
-        Mark::AtMost => b"<=",
-        Mark::Less => b"<",
-        Mark::Plus => b"+",
-        Mark::Minus => b"-",
-        Mark::Star => b"*",
-        Mark::Slash => b"/",
-        Mark::Caret => b"^",
-        Mark::Prime => b"'",
-        Mark::Gets => b":=",
-        Mark::Choice => b"++",
-        Mark::Query => b"?",
-        Mark::Semicolon => b";",
-        Mark::Comma => b",",
-        Mark::Becomes => b"~>",
-        Mark::Swaps => b"~~",
+    match first {
+        b'!' => &[(b"!=", Mark::NotEqual), (b"!", Mark::Not)],
+        b'&' => &[(b"&", Mark::And)],
+        b'\'' => &[(b"'", Mark::Prime)],
+        b'(' => &[
+            (b"(||)", Mark::RoundBars),
+            (b"(|", Mark::RoundBar),
+            (b"(", Mark::OpenRound),
+        ],
+        b')' => &[(b")", Mark::CloseRound)],
+        b'*' => &[(b"*", Mark::Star)],
+        b'+' => &[(b"++", Mark::Choice), (b"+", Mark::Plus)],
+        b',' => &[(b",", Mark::Comma)],
+        b'-' => &[(b"->", Mark::Imply), (b"-", Mark::Minus)],
+        b'/' => &[(b"/", Mark::Slash)],
+        b':' => &[(b":=", Mark::Gets)],
+        b';' => &[(b";", Mark::Semicolon)],
+        b'<' => &[
+            (b"<->", Mark::Equiv),
+            (b"<=", Mark::AtMost),
+            (b"<", Mark::Less),
+        ],
+        b'=' => &[(b"==>", Mark::Turnstile), (b"=", Mark::Equal)],
+        b'>' => &[(b">=", Mark::AtLeast), (b">", Mark::Greater)],
+        b'?' => &[(b"?", Mark::Query)],
+        b'@' => &[(b"@invariant", Mark::Invariant)],
+        b'[' => &[(b"[", Mark::OpenSquare)],
+        b'\\' => &[(b"\\forall", Mark::Forall), (b"\\exists", Mark::Exists)],
+        b']' => &[(b"]", Mark::CloseSquare)],
+        b'^' => &[(b"^", Mark::Caret)],
+        b'{' => &[(b"{|", Mark::BraceBar), (b"{", Mark::OpenBrace)],
+        b'|' => &[
+            (b"|)", Mark::BarRound),
+            (b"|}", Mark::BarBrace),
+            (b"|", Mark::Or),
+        ],
+        b'}' => &[(b"}", Mark::CloseBrace)],
+        b'~' => &[(b"~>", Mark::Becomes), (b"~~", Mark::Swaps)],
+        _ => &[],
     }
 }
 
-/// The marks, longer ones before shorter ones.
-fn marks() -> &'static [Mark]
-    ensures { result.now ≡ marks }
-{
-    &[
-        Mark::Invariant,
-        Mark::Forall,
-        Mark::Exists,
-        Mark::RoundBars,
-        Mark::Equiv,
-        Mark::Turnstile,
-        Mark::RoundBar,
-        Mark::BarRound,
-        Mark::BraceBar,
-        Mark::BarBrace,
-        Mark::Imply,
-        Mark::NotEqual,
-        Mark::AtLeast,
-        Mark::AtMost,
-        Mark::Gets,
-        Mark::Choice,
-        Mark::Becomes,
-        Mark::Swaps,
-        Mark::OpenRound,
-        Mark::CloseRound,
-        Mark::OpenSquare,
-        Mark::CloseSquare,
-        Mark::OpenBrace,
-        Mark::CloseBrace,
-        Mark::And,
-        Mark::Or,
-        Mark::Not,
-        Mark::Equal,
-        Mark::Greater,
-        Mark::Less,
-        Mark::Plus,
-        Mark::Minus,
-        Mark::Star,
-        Mark::Slash,
-        Mark::Caret,
-        Mark::Prime,
-        Mark::Query,
-        Mark::Semicolon,
-        Mark::Comma,
-    ]
-}
-
-/// The longest mark at the front.
-pub(crate) fn front_mark(bytes: &[u8]) -> Option<Mark>
-    ensures found { IfSome result (IsFrontMark bytes.now) }
+/// The longest mark at the front, and how many bytes it has.
+pub(crate) fn front_mark(bytes: &[u8]) -> Option<(Mark, usize)>
+    requires { 0 < length bytes.now }
+    ensures found { IfSome result (λ found. IsFrontMark bytes.now found.0 × (found.1 ≡ length (spelling found.0))) }
     ensures none { IfNone result (HasNoMark bytes.now) }
 {
-    for mark in marks() {
-        if bytes.starts_with(spelling(*mark)) {
-            return Some(*mark);
+    for (text, mark) in marks_from(bytes[0]) {
+        if bytes.starts_with(text) {
+            return Some((*mark, text.len()));
         }
     }
     None

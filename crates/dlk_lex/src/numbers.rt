@@ -2,7 +2,7 @@
 ghost use Rattle.std.specs.Prelude.{◌≡◌, ◌≢◌, ◌+◌, ◌-◌, ◌*◌, ◌^◌, ◌<◌, ◌≤◌, IsTrue, length, fold, slice_index};
 ghost use Rattle.std.specs.List.{list_all};
 ghost use Rattle.dlk_grammar.specs.Tokens.{is_digit, trimmed};
-ghost use Rattle.dlk_grammar.proofs.Spelled.{literal_kind};
+ghost use Rattle.dlk_grammar.specs.Literals.{literal_kind};
 ghost use Rattle.dlk_lex.specs.Fronts.{fraction_len, StandsInFront};
 
 use crate::bytes::digit_run;

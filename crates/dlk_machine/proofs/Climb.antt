@@ -5,7 +5,9 @@ use Rattle.dlk_grammar.specs.Phrases.{Phrase}
 use Rattle.dlk_grammar.specs.Grammar.{Nonterminal, formula, imp, disj, conj, unf, atom, term, mul, neg, pow, prim, prog, seq, stmt, Reads, formula-imp, imp-disj, disj-conj, conj-unf, unf-atom, term-mul, mul-neg, neg-pow, pow-prim, prog-seq, seq-stmt}
 use Rattle.dlk_tree.specs.declared.op.Sort.{Sort}
 use Rattle.dlk_tree.specs.declared.op.Sort.TheVariants.{Term, Formula, Program}
-use Rattle.dlk_machine.proofs.Levels.{form_level, form_sort}
+use Rattle.dlk_grammar.specs.declared.token.Infix.TheVariants.{Equiv, Imply, Or, And, Equal, NotEqual, AtLeast, Greater, AtMost, Less, Add, Sub, Mul, Div, Pow, Choice}
+use Rattle.dlk_machine.specs.Levels.{form_level, form_sort}
+use Rattle.dlk_machine.specs.Machine.{Between, By, Next}
 
 pub term_level : (m : Nonterminal) → form_sort m ≡ Term → 7 ≤ form_level m
 term_level formula e = absurd cc
@@ -177,3 +179,61 @@ pub stands : (n m : Nonterminal) (s : List Lexeme) (t : Phrase) → need m ≤ f
 stands n m s t h e d =
     let le = need_level n m e h in
     climb (form_level n - form_level m) n m s t (omega arith) e d
+
+-- the nonterminals of an operator, and of its left and right operand
+abbrev pub own_form : Between → Nonterminal
+own_form (By Equiv) = formula
+own_form (By Imply) = imp
+own_form (By Or) = disj
+own_form (By And) = conj
+own_form (By Equal) = atom
+own_form (By NotEqual) = atom
+own_form (By AtLeast) = atom
+own_form (By Greater) = atom
+own_form (By AtMost) = atom
+own_form (By Less) = atom
+own_form (By Add) = term
+own_form (By Sub) = term
+own_form (By Mul) = mul
+own_form (By Div) = mul
+own_form (By Pow) = pow
+own_form (By Choice) = prog
+own_form Next = seq
+
+abbrev pub left_form : Between → Nonterminal
+left_form (By Equiv) = imp
+left_form (By Imply) = disj
+left_form (By Or) = conj
+left_form (By And) = unf
+left_form (By Equal) = term
+left_form (By NotEqual) = term
+left_form (By AtLeast) = term
+left_form (By Greater) = term
+left_form (By AtMost) = term
+left_form (By Less) = term
+left_form (By Add) = term
+left_form (By Sub) = term
+left_form (By Mul) = mul
+left_form (By Div) = mul
+left_form (By Pow) = prim
+left_form (By Choice) = seq
+left_form Next = stmt
+
+abbrev pub right_form : Between → Nonterminal
+right_form (By Equiv) = formula
+right_form (By Imply) = imp
+right_form (By Or) = disj
+right_form (By And) = conj
+right_form (By Equal) = term
+right_form (By NotEqual) = term
+right_form (By AtLeast) = term
+right_form (By Greater) = term
+right_form (By AtMost) = term
+right_form (By Less) = term
+right_form (By Add) = mul
+right_form (By Sub) = mul
+right_form (By Mul) = neg
+right_form (By Div) = neg
+right_form (By Pow) = neg
+right_form (By Choice) = prog
+right_form Next = seq

@@ -8,9 +8,9 @@ use Rattle.dlk_grammar.specs.Lexemes.{Word, Name, Number, Dot, Bang, True, Invar
 use Rattle.dlk_grammar.specs.Phrases.{Everywhere, Literal, Variable, Negate, Truth, Holds, Not, Dia, Binary, Const, Assign, AssignAny, Then, Loop, System, Noted, none, snoc, Any, Evolve, Flow, no_items, add}
 use Rattle.dlk_grammar.specs.Grammar.{Turned}
 use Rattle.dlk_grammar.specs.Erased.{ills, lowest}
-use Rattle.dlk_machine.proofs.Parse.{parse, reader}
-use Rattle.dlk_machine.proofs.Sequents.{sequent_reader}
-use Rattle.dlk_machine.proofs.Expressions.{expression_reader}
+use Rattle.dlk_machine.specs.Parse.{parse, reader}
+use Rattle.dlk_machine.specs.Sequents.{sequent_reader}
+use Rattle.dlk_machine.specs.Expressions.{expression_reader}
 
 abbrev x : Word
 x = codes "x"
@@ -28,8 +28,11 @@ abbrev two : Num
 two = record { digits = 2; scale = 0 }
 
 -- -x^2*y--x=0: the sign binds tighter than the product and looser than the power.
-signs : parse Refused (reader sort.Formula) (Op Sub ∷ Name 1 x ∷ Op Pow ∷ Number two ∷ Op Mul ∷ Name 5 y ∷ Op Sub ∷ Op Sub ∷ Name 8 x ∷ Op Equal ∷ Number zero' ∷ [])
-    ≡ Ok (Binary Equal (Binary Sub (Binary Mul (Negate (Binary Pow (Variable x false) (Literal two))) (Variable y false)) (Negate (Variable x false))) (Literal zero'))
+signs : parse Refused (reader sort.Formula)
+    (Op Sub ∷ Name 1 x ∷ Op Pow ∷ Number two ∷ Op Mul ∷ Name 5 y ∷ Op Sub ∷ Op Sub ∷ Name 8 x ∷ Op Equal ∷ Number zero' ∷ [])
+    ≡ Ok
+    (Binary Equal (Binary Sub (Binary Mul (Negate (Binary Pow (Variable x false) (Literal two))) (Variable y false)) (Negate (Variable x false)))
+    (Literal zero'))
 signs = refl
 
 -- !x=0&true
@@ -38,15 +41,21 @@ prefixes : parse Refused (reader sort.Formula) (Bang ∷ Name 1 x ∷ Op Equal �
 prefixes = refl
 
 -- {x'=y,c&x>0}*@invariant(x>0);
-a_loop : parse Refused (reader sort.Program) (OpenBrace 0 ∷ Name 1 x ∷ Prime ∷ Op Equal ∷ Name 4 y ∷ Comma ∷ Name 6 c ∷ Op And ∷ Name 8 x ∷ Op Greater ∷ Number zero' ∷ CloseBrace ∷ Op Mul ∷ Invariant ∷ Open ∷ Name 15 x ∷ Op Greater ∷ Number zero' ∷ Close ∷ Semi ∷ [])
-    ≡ Ok (Noted (Loop (System 0 (add (add no_items (Evolve x (Variable y false))) (Flow c Everywhere)) (Binary Greater (Variable x false) (Literal zero')))) (snoc none (Binary Greater (Variable x false) (Literal zero'))))
+a_loop : parse Refused (reader sort.Program)
+    (OpenBrace 0 ∷ Name 1 x ∷ Prime ∷ Op Equal ∷ Name 4 y ∷ Comma ∷ Name 6 c ∷ Op And ∷ Name 8 x ∷ Op Greater ∷ Number zero' ∷ CloseBrace
+    ∷ Op Mul ∷ Invariant ∷ Open ∷ Name 15 x ∷ Op Greater ∷ Number zero' ∷ Close ∷ Semi ∷ [])
+    ≡ Ok
+    (Noted (Loop (System 0 (add (add no_items (Evolve x (Variable y false))) (Flow c Everywhere)) (Binary Greater (Variable x false) (Literal zero'))))
+    (snoc none (Binary Greater (Variable x false) (Literal zero'))))
 a_loop = refl
 
 -- {x':=y;} is a program, and {x'=y} a system.
-a_group : parse Refused (reader sort.Program) (OpenBrace 0 ∷ Name 1 x ∷ Prime ∷ Gets ∷ Name 4 y ∷ Semi ∷ CloseBrace ∷ []) ≡ Ok (Assign x true (Variable y false))
+a_group : parse Refused (reader sort.Program) (OpenBrace 0 ∷ Name 1 x ∷ Prime ∷ Gets ∷ Name 4 y ∷ Semi ∷ CloseBrace ∷ [])
+    ≡ Ok (Assign x true (Variable y false))
 a_group = refl
 
-a_system : parse Refused (reader sort.Program) (OpenBrace 0 ∷ Name 1 x ∷ Prime ∷ Op Equal ∷ Name 4 y ∷ CloseBrace ∷ []) ≡ Ok (System 0 (add no_items (Evolve x (Variable y false))) Truth)
+a_system : parse Refused (reader sort.Program) (OpenBrace 0 ∷ Name 1 x ∷ Prime ∷ Op Equal ∷ Name 4 y ∷ CloseBrace ∷ [])
+    ≡ Ok (System 0 (add no_items (Evolve x (Variable y false))) Truth)
 a_system = refl
 
 -- x:=*;{x:=*;}
@@ -69,7 +78,8 @@ a_flow : parse Refused (reader sort.Program) (OpenBrace 0 ∷ Name 1 c ∷ Close
 a_flow = refl
 
 -- <{c}>y(||) & x<y
-a_diamond : parse Refused (reader sort.Formula) (Op Less ∷ OpenBrace 1 ∷ Name 2 c ∷ CloseBrace ∷ Op Greater ∷ Name 5 y ∷ RoundBars ∷ Op And ∷ Name 8 x ∷ Op Less ∷ Name 10 y ∷ [])
+a_diamond : parse Refused (reader sort.Formula)
+    (Op Less ∷ OpenBrace 1 ∷ Name 2 c ∷ CloseBrace ∷ Op Greater ∷ Name 5 y ∷ RoundBars ∷ Op And ∷ Name 8 x ∷ Op Less ∷ Name 10 y ∷ [])
     ≡ Ok (Binary And (Dia (System 1 (add no_items (Flow c Everywhere)) Truth) (Holds (Any y Everywhere))) (Binary Less (Variable x false) (Variable y false)))
 a_diamond = refl
 

@@ -4,8 +4,8 @@ use Rattle.dlk_grammar.specs.declared.token.Infix.TheVariants.{Mul}
 use Rattle.dlk_grammar.specs.Lexemes.{Word, Lexeme, Name, Close, OpenBrace, Prime, Gets, Query, Semi, Op}
 use Rattle.dlk_grammar.specs.Phrases.{Phrase, Phrases}
 use Rattle.dlk_grammar.specs.Grammar.{Nonterminal, term, Reads, formula-imp, formula-equiv, imp-disj, imp-imply, disj-conj, disj-or, conj-unf, conj-and, unf-not, unf-forall, unf-exists, unf-box, unf-dia, unf-atom, atom-true, atom-false, atom-hole, atom-compare, atom-nullary, atom-holds, atom-any, atom-except, atom-context, atom-bracket, atom-diff, term-mul, term-add, term-sub, mul-neg, mul-times, mul-over, neg-pow, neg-minus, pow-prim, pow-power, prim-number, prim-dot, prim-name, prim-primed, prim-nullary, prim-apply, prim-any, prim-except, prim-bracket, prim-diff, prog-seq, prog-choice, seq-stmt, seq-then, stmt-const, stmt-assign, stmt-assign_prime, stmt-any, stmt-test, stmt-group, ReadsList, list-one, list-more, ReadsBrace, brace-prog, brace-items, brace-domain}
-use Rattle.dlk_machine.proofs.Levels.{form_sort}
-use Rattle.dlk_machine.proofs.Machine.{program_sort}
+use Rattle.dlk_machine.specs.Levels.{form_sort}
+use Rattle.dlk_machine.specs.Machine.{program_sort}
 
 -- the first tokens of a program
 pub data ProgramFront : List Lexeme → Type 0 where
@@ -15,7 +15,7 @@ pub data ProgramFront : List Lexeme → Type 0 where
   front-assign : {n : ℕ} {x : Word} {s : List Lexeme} → ProgramFront (Name n x ∷ Gets ∷ s)
   front-assign_prime : {n : ℕ} {x : Word} {s : List Lexeme} → ProgramFront (Name n x ∷ Prime ∷ Gets ∷ s)
 
-program_append : {s : List Lexeme} (r : List Lexeme) → ProgramFront s → ProgramFront (s ++ r)
+pub program_append : {s : List Lexeme} (r : List Lexeme) → ProgramFront s → ProgramFront (s ++ r)
 program_append r front-query = front-query
 program_append r front-brace = front-brace
 program_append r front-const = front-const

@@ -26,7 +26,7 @@ use Rattle.dlk_grammar.specs.Phrases.{Space, Everywhere, Except, Phrase, Phrases
 use Rattle.dlk_grammar.specs.Grammar.{Nonterminal, formula, Reads, formula-imp, formula-equiv, imp-disj, imp-imply, disj-conj, disj-or, conj-unf, conj-and, unf-not, unf-forall, unf-exists, unf-box, unf-dia, unf-atom, atom-true, atom-false, atom-hole, atom-compare, atom-nullary, atom-holds, atom-any, atom-except, atom-context, atom-bracket, atom-diff, term-mul, term-add, term-sub, mul-neg, mul-times, mul-over, neg-pow, neg-minus, pow-prim, pow-power, prim-number, prim-dot, prim-name, prim-primed, prim-nullary, prim-apply, prim-any, prim-except, prim-bracket, prim-diff, prog-seq, prog-choice, seq-stmt, seq-then, stmt-const, stmt-assign, stmt-assign_prime, stmt-any, stmt-test, stmt-group, Compares, cmp-equal, cmp-not_equal, cmp-at_least, cmp-greater, cmp-at_most, cmp-less, ReadsList, list-one, list-more, ReadsBrace, brace-prog, brace-items, brace-domain, ReadsItems, items-one, items-more, ReadsItem, item-evolve, item-flow, item-except, ReadsStar, star-none, star-loop, ReadsInv, inv-none, inv-some, ReadsSide, side-nothing, side-list, Sides, Turned, ReadsSequent, sequent-sides, ReadsExpression, as-formula, as-program, as-term}
 use Rattle.dlk_grammar.specs.Erased.{erase, erase_all, item_of, ode_items, item_terms, symbol, taboo, ills, ills_of_all, ills_of_items, count, is_ill_call, is_ill_system, place_if, infix_op}
 use Rattle.dlk_grammar.specs.Readings.{permits, Permitted, erase_sides}
-use Rattle.dlk_machine.proofs.Levels.{form_sort}
+use Rattle.dlk_machine.specs.Levels.{form_sort}
 
 abbrev pub Each : {X : Type 0} → (X → Type 0) → List X → Type 0
 Each P [] = Unit {0}
@@ -91,7 +91,8 @@ made_append : (ts us : List Tree) → AllWellMade (forest ts) → AllWellMade (f
 made_append [] us h g = g
 made_append (t ∷ ts) us h g = (h.0, made_append ts us h.1 g)
 
-has_append : (test : TreeOp → Bool) (ts us : List Tree) → any_has test (forest ts) ≡ false → any_has test (forest us) ≡ false → any_has test (forest (ts ++ us)) ≡ false
+has_append : (test : TreeOp → Bool) (ts us : List Tree) → any_has test (forest ts) ≡ false → any_has test (forest us) ≡ false
+    → any_has test (forest (ts ++ us)) ≡ false
 has_append test [] us h g = g
 has_append test (t ∷ ts) us h g = let w = or_parts _ (any_has test (forest ts)) h in rw (w.0) (has_append test ts us w.1 g)
 
@@ -120,15 +121,26 @@ pub part_last : (s r : List Lexeme) (k : Lexeme) → Part r (s ++ k ∷ r)
 part_last s r k P h = (each_parts P s _ h).1.1
 
 pub widen : {s w : List Lexeme} {kinds : List Sort} {places : List ℕ} {ts : List Tree} → Part s w → Grown s kinds places ts → Grown w kinds places ts
-widen part g = record { sorts_are = g.sorts_are; below = λ m h. g.below m (part (IsBelow m) h); made = λ h e. g.made (part IsReal h) e; bare = λ h. g.bare (part IsPlain h) }
+widen part g = record {
+  sorts_are = g.sorts_are;
+  below = λ m h. g.below m (part (IsBelow m) h);
+  made = λ h e. g.made (part IsReal h) e;
+  bare = λ h. g.bare (part IsPlain h);
+}
 
 -- trees of the same lexemes, in order
-join : {w : List Lexeme} {kinds more : List Sort} {places others : List ℕ} {ts us : List Tree} → Grown w kinds places ts → Grown w more others us → Grown w (kinds ++ more) (places ++ others) (ts ++ us)
+join : {w : List Lexeme} {kinds more : List Sort} {places others : List ℕ} {ts us : List Tree} → Grown w kinds places ts → Grown w more others us
+    → Grown w (kinds ++ more) (places ++ others) (ts ++ us)
 join {kinds = kinds} {places = places} {others = others} {ts = ts} {us = us} g h = record {
   sorts_are = sorts_append ts us ∙ ap (λ (l : List Sort). l ++ sorts (forest us)) g.sorts_are ∙ ap (λ (l : List Sort). kinds ++ l) h.sorts_are;
   below = λ m b. each_append _ places others (g.below m b) (h.below m b);
   made = λ r e. made_append ts us (g.made r (none_left places others e)) (h.made r (none_right places others e));
-  bare = λ p. record { no_dot = has_append is_some_dot ts us (g.bare p).no_dot (h.bare p).no_dot; no_hole = has_append is_hole ts us (g.bare p).no_hole (h.bare p).no_hole };
+  bare =
+      λ p.
+      record {
+        no_dot = has_append is_some_dot ts us (g.bare p).no_dot (h.bare p).no_dot;
+        no_hole = has_append is_hole ts us (g.bare p).no_hole (h.bare p).no_hole;
+      };
 }
 
 nothing : {w : List Lexeme} → Grown w [] [] []
@@ -139,7 +151,8 @@ resort : {w : List Lexeme} {kinds others : List Sort} {places : List ℕ} {ts : 
 resort e g = record { sorts_are = g.sorts_are ∙ e; below = g.below; made = g.made; bare = g.bare }
 
 -- what leaves nothing in the tree
-noted : {w : List Lexeme} {kinds more : List Sort} {places others : List ℕ} {ts us : List Tree} → Grown w kinds places ts → Grown w more others us → Grown w kinds (places ++ others) ts
+noted : {w : List Lexeme} {kinds more : List Sort} {places others : List ℕ} {ts us : List Tree} → Grown w kinds places ts → Grown w more others us
+    → Grown w kinds (places ++ others) ts
 noted {places = places} {others = others} g h = record {
   sorts_are = g.sorts_are;
   below = λ m b. each_append _ places others (g.below m b) (h.below m b);
@@ -148,7 +161,9 @@ noted {places = places} {others = others} g h = record {
 }
 
 -- A tree over such kids, which may itself be of ill shape.
-over_ill : {w : List Lexeme} {kinds : List Sort} {places : List ℕ} {ts : List Tree} (o : TreeOp) (own : List ℕ) → Grown w kinds places ts → kinds ≡ kid_sorts o → ((m : ℕ) → AreBelow m w → Each (λ n. n < m) own) → (AreReal w → own ≡ [] → IsTrue (has_parts o)) → is_some_dot o ≡ false → is_hole o ≡ false
+over_ill : {w : List Lexeme} {kinds : List Sort} {places : List ℕ} {ts : List Tree} (o : TreeOp) (own : List ℕ) → Grown w kinds places ts
+    → kinds ≡ kid_sorts o → ((m : ℕ) → AreBelow m w → Each (λ n. n < m) own) → (AreReal w → own ≡ [] → IsTrue (has_parts o)) → is_some_dot o ≡ false
+    → is_hole o ≡ false
     → Grown w (sort_of o ∷ []) (own ++ places) (node o (forest ts) ∷ [])
 over_ill {places = places} {ts = ts} o own g k b p d n = record {
   sorts_are = refl;
@@ -158,23 +173,28 @@ over_ill {places = places} {ts = ts} o own g k b p d n = record {
 }
 
 -- A tree over such kids.
-over : {w : List Lexeme} {kinds : List Sort} {places : List ℕ} {ts : List Tree} (o : TreeOp) → Grown w kinds places ts → kinds ≡ kid_sorts o → (AreReal w → IsTrue (has_parts o)) → is_some_dot o ≡ false → is_hole o ≡ false → Grown w (sort_of o ∷ []) places (node o (forest ts) ∷ [])
+over : {w : List Lexeme} {kinds : List Sort} {places : List ℕ} {ts : List Tree} (o : TreeOp) → Grown w kinds places ts → kinds ≡ kid_sorts o
+    → (AreReal w → IsTrue (has_parts o)) → is_some_dot o ≡ false → is_hole o ≡ false → Grown w (sort_of o ∷ []) places (node o (forest ts) ∷ [])
 over o g k p d n = over_ill o [] g k (λ m b. tt) (λ r e. p r) d n
 
 -- a tree without kids
-leaf : {w : List Lexeme} (o : TreeOp) → [] ≡ kid_sorts o → (AreReal w → IsTrue (has_parts o)) → is_some_dot o ≡ false → is_hole o ≡ false → Grown w (sort_of o ∷ []) [] (node o (forest []) ∷ [])
+leaf : {w : List Lexeme} (o : TreeOp) → [] ≡ kid_sorts o → (AreReal w → IsTrue (has_parts o)) → is_some_dot o ≡ false → is_hole o ≡ false
+    → Grown w (sort_of o ∷ []) [] (node o (forest []) ∷ [])
 leaf o k p d n = over o nothing k p d n
 
 -- operators over one and over two trees, with no parts of their own
-one : {s w : List Lexeme} {x : Sort} {places : List ℕ} {t : Tree} (o : TreeOp) → Part s w → Grown s (x ∷ []) places (t ∷ []) → x ∷ [] ≡ kid_sorts o → (AreReal w → IsTrue (has_parts o)) → is_some_dot o ≡ false → is_hole o ≡ false → Grown w (sort_of o ∷ []) places (node o (forest (t ∷ [])) ∷ [])
+one : {s w : List Lexeme} {x : Sort} {places : List ℕ} {t : Tree} (o : TreeOp) → Part s w → Grown s (x ∷ []) places (t ∷ []) → x ∷ [] ≡ kid_sorts o
+    → (AreReal w → IsTrue (has_parts o)) → is_some_dot o ≡ false → is_hole o ≡ false → Grown w (sort_of o ∷ []) places (node o (forest (t ∷ [])) ∷ [])
 one o part g k p d n = over o (widen part g) k p d n
 
-two : {s r w : List Lexeme} {x y : Sort} {places others : List ℕ} {t u : Tree} (o : TreeOp) → Part s w → Part r w → Grown s (x ∷ []) places (t ∷ []) → Grown r (y ∷ []) others (u ∷ []) → x ∷ y ∷ [] ≡ kid_sorts o → IsTrue (has_parts o) → is_some_dot o ≡ false → is_hole o ≡ false
+two : {s r w : List Lexeme} {x y : Sort} {places others : List ℕ} {t u : Tree} (o : TreeOp) → Part s w → Part r w → Grown s (x ∷ []) places (t ∷ [])
+    → Grown r (y ∷ []) others (u ∷ []) → x ∷ y ∷ [] ≡ kid_sorts o → IsTrue (has_parts o) → is_some_dot o ≡ false → is_hole o ≡ false
     → Grown w (sort_of o ∷ []) (places ++ others) (node o (forest (t ∷ u ∷ [])) ∷ [])
 two o front behind g h k p d n = over o (join (widen front g) (widen behind h)) k (λ r. p) d n
 
 -- an operator's token between two operands
-between : {s r : List Lexeme} {x y : Sort} {places others : List ℕ} {t u : Tree} (k : Lexeme) (o : TreeOp) → Grown s (x ∷ []) places (t ∷ []) → Grown r (y ∷ []) others (u ∷ []) → x ∷ y ∷ [] ≡ kid_sorts o → IsTrue (has_parts o) → is_some_dot o ≡ false → is_hole o ≡ false
+between : {s r : List Lexeme} {x y : Sort} {places others : List ℕ} {t u : Tree} (k : Lexeme) (o : TreeOp) → Grown s (x ∷ []) places (t ∷ [])
+    → Grown r (y ∷ []) others (u ∷ []) → x ∷ y ∷ [] ≡ kid_sorts o → IsTrue (has_parts o) → is_some_dot o ≡ false → is_hole o ≡ false
     → Grown (s ++ k ∷ r) (sort_of o ∷ []) (places ++ others) (node o (forest (t ∷ u ∷ [])) ∷ [])
 between {s = s} {r = r} k o g h e p d n = two o (part_front s (k ∷ r)) (part_last s r k) g h e p d n
 
@@ -197,11 +217,17 @@ pred_parts : (x : Word) (l : Phrases) → IsTrue (is_name x) → is_ill_call l �
 pred_parts x l h e = rw (h, few l e) refl
 
 -- applications
-applied : {w : List Lexeme} (n : ℕ) (x : Word) (l : Phrases) → ((m : ℕ) → AreBelow m w → n < m) → (AreReal w → IsTrue (is_name x)) → Grown w (replicate (count l) Term) (ills_of_all l) (erase_all l) → Grown w (Term ∷ []) (ills (Apply (Call n x l))) (erase (Apply (Call n x l)) ∷ [])
-applied n x l b h g = over_ill (op.Apply (symbol Func x (count l) Everywhere)) (place_if (is_ill_call l) n) g refl (λ m c. place_below (is_ill_call l) n m (b m c)) (λ r e. func_parts x l (h r) (no_place (is_ill_call l) n e)) refl refl
+applied : {w : List Lexeme} (n : ℕ) (x : Word) (l : Phrases) → ((m : ℕ) → AreBelow m w → n < m) → (AreReal w → IsTrue (is_name x))
+    → Grown w (replicate (count l) Term) (ills_of_all l) (erase_all l) → Grown w (Term ∷ []) (ills (Apply (Call n x l))) (erase (Apply (Call n x l)) ∷ [])
+applied n x l b h g =
+    over_ill (op.Apply (symbol Func x (count l) Everywhere)) (place_if (is_ill_call l) n) g refl (λ m c. place_below (is_ill_call l) n m (b m c))
+    (λ r e. func_parts x l (h r) (no_place (is_ill_call l) n e)) refl refl
 
-held : {w : List Lexeme} (n : ℕ) (x : Word) (l : Phrases) → ((m : ℕ) → AreBelow m w → n < m) → (AreReal w → IsTrue (is_name x)) → Grown w (replicate (count l) Term) (ills_of_all l) (erase_all l) → Grown w (Formula ∷ []) (ills (Holds (Call n x l))) (erase (Holds (Call n x l)) ∷ [])
-held n x l b h g = over_ill (op.Holds (symbol Pred x (count l) Everywhere)) (place_if (is_ill_call l) n) g refl (λ m c. place_below (is_ill_call l) n m (b m c)) (λ r e. pred_parts x l (h r) (no_place (is_ill_call l) n e)) refl refl
+held : {w : List Lexeme} (n : ℕ) (x : Word) (l : Phrases) → ((m : ℕ) → AreBelow m w → n < m) → (AreReal w → IsTrue (is_name x))
+    → Grown w (replicate (count l) Term) (ills_of_all l) (erase_all l) → Grown w (Formula ∷ []) (ills (Holds (Call n x l))) (erase (Holds (Call n x l)) ∷ [])
+held n x l b h g =
+    over_ill (op.Holds (symbol Pred x (count l) Everywhere)) (place_if (is_ill_call l) n) g refl (λ m c. place_below (is_ill_call l) n m (b m c))
+    (λ r e. pred_parts x l (h r) (no_place (is_ill_call l) n e)) refl refl
 
 -- items of a system
 pub record GrownItems (w : List Lexeme) (l : Items) : Type 0 where
@@ -215,17 +241,27 @@ evolved_append (ode.Const s ∷ xs) ys = evolved_append xs ys
 
 evolved_more : (xs : List OdeItem) (x : Word) → replicate (length (evolved xs)) Term ++ Term ∷ [] ≡ replicate (length (evolved (xs ++ ode.Evolve x ∷ []))) Term
 evolved_more xs x =
-    let count : length (evolved (xs ++ ode.Evolve x ∷ [])) ≡ length (evolved xs) + 1 = ap length (evolved_append xs (ode.Evolve x ∷ [])) ∙ length-append (evolved xs) (x ∷ []) in
+    let count : length (evolved (xs ++ ode.Evolve x ∷ [])) ≡ length (evolved xs) + 1 =
+    ap length (evolved_append xs (ode.Evolve x ∷ [])) ∙ length-append (evolved xs) (x ∷ []) in
     replicate_more (length (evolved xs)) Term ∙ ap (λ n. replicate n Term) (sym count)
 
 add_item : {s r : List Lexeme} (l : Items) (i : Item) → GrownItems s l → GrownItems r (add no_items i) → GrownItems (s ++ Comma ∷ r) (add l i)
 add_item {s = s} {r = r} l (Evolve x a) g h = record {
   grown = resort (evolved_more (ode_items l) x) (join (widen (part_front s (Comma ∷ r)) g.grown) (widen (part_last s r Comma) h.grown));
-  real = λ p. list_all-append is_item (ode_items l) (ode.Evolve x ∷ []) ∙ and_from _ _ (g.real (part_front s (Comma ∷ r) IsReal p)) (h.real (part_last s r Comma IsReal p));
+  real =
+      λ p.
+      list_all-append is_item (ode_items l) (ode.Evolve x ∷ [])
+      ∙ and_from _ _ (g.real (part_front s (Comma ∷ r) IsReal p)) (h.real (part_last s r Comma IsReal p));
 }
 add_item {s = s} {r = r} l (Flow x e) g h = record {
-  grown = resort (ap (λ (k : List Word). replicate (length k) Term) (sym (evolved_append (ode_items l) (item_of (Flow x e) ∷ []) ∙ append-nil (evolved (ode_items l))))) (widen (part_front s (Comma ∷ r)) g.grown);
-  real = λ p. list_all-append is_item (ode_items l) (item_of (Flow x e) ∷ []) ∙ and_from _ _ (g.real (part_front s (Comma ∷ r) IsReal p)) (h.real (part_last s r Comma IsReal p));
+  grown =
+      resort
+      (ap (λ (k : List Word). replicate (length k) Term) (sym (evolved_append (ode_items l) (item_of (Flow x e) ∷ []) ∙ append-nil (evolved (ode_items l)))))
+      (widen (part_front s (Comma ∷ r)) g.grown);
+  real =
+      λ p.
+      list_all-append is_item (ode_items l) (item_of (Flow x e) ∷ [])
+      ∙ and_from _ _ (g.real (part_front s (Comma ∷ r) IsReal p)) (h.real (part_last s r Comma IsReal p));
 }
 
 items_in : {s w : List Lexeme} {l : Items} → Part s w → GrownItems s l → GrownItems w l
@@ -242,8 +278,11 @@ system_parts l some items e =
     let least : nat_le 1 (length (ode_items l)) ≡ true = le-leb 1 _ some in
     rw (least, most, items, not-false _ w.1) refl
 
-system : {w : List Lexeme} (n : ℕ) (l : Items) (a : Phrase) → ((m : ℕ) → AreBelow m w → n < m) → 1 ≤ length (ode_items l) → GrownItems w l → Grown w (Formula ∷ []) (ills a) (erase a ∷ []) → Grown w (Program ∷ []) (ills (System n l a)) (erase (System n l a) ∷ [])
-system n l a b some g h = over_ill (op.System (ode_items l)) (place_if (is_ill_system l) n) (join g.grown h) refl (λ m c. place_below (is_ill_system l) n m (b m c)) (λ r e. system_parts l some (g.real r) (no_place (is_ill_system l) n e)) refl refl
+system : {w : List Lexeme} (n : ℕ) (l : Items) (a : Phrase) → ((m : ℕ) → AreBelow m w → n < m) → 1 ≤ length (ode_items l) → GrownItems w l
+    → Grown w (Formula ∷ []) (ills a) (erase a ∷ []) → Grown w (Program ∷ []) (ills (System n l a)) (erase (System n l a) ∷ [])
+system n l a b some g h =
+    over_ill (op.System (ode_items l)) (place_if (is_ill_system l) n) (join g.grown h) refl (λ m c. place_below (is_ill_system l) n m (b m c))
+    (λ r e. system_parts l some (g.real r) (no_place (is_ill_system l) n e)) refl refl
 
 -- symbols without arguments
 unit_pred : (x : Word) (e : Space) → IsTrue (is_name x) → taboo_is_name (taboo e) ≡ true → is_sym_of UnitPred (symbol UnitPred x 0 e) ≡ true
@@ -267,7 +306,8 @@ prog_parts x h = rw h refl
 not_plain : false ≡ true → ⊥
 not_plain e = absurd cc
 
-compared : {o : Infix} {s r : List Lexeme} {places others : List ℕ} {t u : Tree} → Compares o → Grown s (Term ∷ []) places (t ∷ []) → Grown r (Term ∷ []) others (u ∷ []) → Grown (s ++ Op o ∷ r) (Formula ∷ []) (places ++ others) (node (infix_op o) (forest (t ∷ u ∷ [])) ∷ [])
+compared : {o : Infix} {s r : List Lexeme} {places others : List ℕ} {t u : Tree} → Compares o → Grown s (Term ∷ []) places (t ∷ [])
+    → Grown r (Term ∷ []) others (u ∷ []) → Grown (s ++ Op o ∷ r) (Formula ∷ []) (places ++ others) (node (infix_op o) (forest (t ∷ u ∷ [])) ∷ [])
 compared cmp-equal g h = between (Op Equal) op.Eq g h refl refl refl refl
 compared cmp-not_equal g h = between (Op NotEqual) op.Ne g h refl refl refl refl
 compared cmp-at_least g h = between (Op AtLeast) op.Ge g h refl refl refl refl
@@ -298,18 +338,27 @@ mutual
   grown (unf-not d) = one op.Not (λ P h. h.1) (grown d) refl (λ r. refl) refl refl
   grown (unf-forall {x = x} d) = one (op.Forall x) (λ P h. h.1.1) (grown d) refl (λ r. r.1.0) refl refl
   grown (unf-exists {x = x} d) = one (op.Exists x) (λ P h. h.1.1) (grown d) refl (λ r. r.1.0) refl refl
-  grown (unf-box {s = s} {r = r} d e) = two op.Box (part_in OpenBox s (CloseBox ∷ r)) (λ P h. part_last s r CloseBox P h.1) (grown d) (grown e) refl refl refl refl
-  grown (unf-dia {s = s} {r = r} d e) = two op.Dia (part_in (Op Less) s (Op Greater ∷ r)) (λ P h. part_last s r (Op Greater) P h.1) (grown d) (grown e) refl refl refl refl
+  grown (unf-box {s = s} {r = r} d e) =
+      two op.Box (part_in OpenBox s (CloseBox ∷ r)) (λ P h. part_last s r CloseBox P h.1) (grown d) (grown e) refl refl refl refl
+  grown (unf-dia {s = s} {r = r} d e) =
+      two op.Dia (part_in (Op Less) s (Op Greater ∷ r)) (λ P h. part_last s r (Op Greater) P h.1) (grown d) (grown e) refl refl refl refl
   grown (unf-atom d) = grown d
   grown atom-true = leaf op.True refl (λ r. refl) refl refl
   grown atom-false = leaf op.False refl (λ r. refl) refl refl
-  grown atom-hole = record { sorts_are = refl; below = λ m h. tt; made = λ r e. ((record { kids_fit = refl; parts_fit = refl }, tt), tt); bare = λ h. absurd (not_plain h.0) }
+  grown atom-hole = record {
+    sorts_are = refl;
+    below = λ m h. tt;
+    made = λ r e. ((record { kids_fit = refl; parts_fit = refl }, tt), tt);
+    bare = λ h. absurd (not_plain h.0);
+  }
   grown (atom-compare c d e) = compared c (grown d) (grown e)
   grown (atom-nullary {n = n} {x = x}) = held n x none (λ m b. b.0) (λ r. r.0) nothing
   grown (atom-holds {n = n} {x = x} {s = s} {l = l} d) = held n x l (λ m b. b.0) (λ r. r.0) (widen (λ P h. part_in Open s (Close ∷ []) P h.1) (grown_list d))
   grown (atom-any {x = x}) = leaf (op.UnitPred (symbol UnitPred x 0 Everywhere)) refl (λ r. unit_pred x Everywhere r.0 refl) refl refl
   grown (atom-except {x = x} {y = y}) = leaf (op.UnitPred (symbol UnitPred x 0 (Except y))) refl (λ r. unit_pred x (Except y) r.0 r.1.1.0) refl refl
-  grown (atom-context {m = m} {x = x} {s = s} d) = one (op.Predicational (symbol Quant x 0 Everywhere)) (λ P h. part_in (OpenBrace m) s (CloseBrace ∷ []) P h.1) (grown d) refl (λ r. quant_parts x r.0) refl refl
+  grown (atom-context {m = m} {x = x} {s = s} d) =
+      one (op.Predicational (symbol Quant x 0 Everywhere)) (λ P h. part_in (OpenBrace m) s (CloseBrace ∷ []) P h.1) (grown d) refl (λ r. quant_parts x r.0) refl
+      refl
   grown (atom-bracket {s = s} d) = widen (part_in Open s (Close ∷ [])) (grown d)
   grown (atom-diff {s = s} d) = one op.DiffF (part_in Open s (Close ∷ Prime ∷ [])) (grown d) refl (λ r. refl) refl refl
   grown (term-mul d) = grown d
@@ -323,7 +372,12 @@ mutual
   grown (pow-prim d) = grown d
   grown (pow-power d e) = between (Op Pow) op.Pow (grown d) (grown e) refl refl refl refl
   grown (prim-number {n = d}) = leaf (op.Number d) refl (λ r. r.0) refl refl
-  grown (prim-dot {n = n}) = record { sorts_are = refl; below = λ m h. tt; made = λ r e. ((record { kids_fit = refl; parts_fit = lt-ltb n 8 r.0 }, tt), tt); bare = λ h. absurd (not_plain h.0) }
+  grown (prim-dot {n = n}) = record {
+    sorts_are = refl;
+    below = λ m h. tt;
+    made = λ r e. ((record { kids_fit = refl; parts_fit = lt-ltb n 8 r.0 }, tt), tt);
+    bare = λ h. absurd (not_plain h.0);
+  }
   grown (prim-name {x = x}) = leaf (op.Variable (record { name = x; primed = false })) refl (λ r. r.0) refl refl
   grown (prim-primed {x = x}) = leaf (op.Variable (record { name = x; primed = true })) refl (λ r. r.0) refl refl
   grown (prim-nullary {n = n} {x = x}) = applied n x none (λ m b. b.0) (λ r. r.0) nothing
@@ -337,20 +391,27 @@ mutual
   grown (seq-stmt d) = grown d
   grown (seq-then {s = s} {r = r} d e) = two op.Seq (part_front s r) (part_behind s r) (grown d) (grown e) refl refl refl refl
   grown (stmt-const {x = x}) = leaf (op.Const (symbol Prog x 0 Everywhere)) refl (λ r. prog_parts x r.0) refl refl
-  grown (stmt-assign {x = x} {s = s} d) = one (op.Assign (record { name = x; primed = false })) (λ P h. part_in Gets s (Semi ∷ []) P h.1) (grown d) refl (λ r. r.0) refl refl
-  grown (stmt-assign_prime {x = x} {s = s} d) = one (op.Assign (record { name = x; primed = true })) (λ P h. part_in Gets s (Semi ∷ []) P h.1.1) (grown d) refl (λ r. r.0) refl refl
+  grown (stmt-assign {x = x} {s = s} d) =
+      one (op.Assign (record { name = x; primed = false })) (λ P h. part_in Gets s (Semi ∷ []) P h.1) (grown d) refl (λ r. r.0) refl refl
+  grown (stmt-assign_prime {x = x} {s = s} d) =
+      one (op.Assign (record { name = x; primed = true })) (λ P h. part_in Gets s (Semi ∷ []) P h.1.1) (grown d) refl (λ r. r.0) refl refl
   grown (stmt-any {x = x}) = leaf (op.Any x) refl (λ r. r.0) refl refl
   grown (stmt-test {s = s} d) = one op.Test (part_in Query s (Semi ∷ [])) (grown d) refl (λ r. refl) refl refl
   grown (stmt-group {s = s} {q = q} {i = i} {e = e} d star inv semi) = widen (group_part s q i e) (grown_inv inv (starred star (grown_brace d)))
 
-  pub grown_list : {f : Nonterminal} {s : List Lexeme} {l : Phrases} → ReadsList f s l → Grown s (replicate (count l) (form_sort f)) (ills_of_all l) (erase_all l)
+  pub grown_list : {f : Nonterminal} {s : List Lexeme} {l : Phrases} → ReadsList f s l
+      → Grown s (replicate (count l) (form_sort f)) (ills_of_all l) (erase_all l)
   grown_list (list-one d) = grown d
-  grown_list (list-more {f = f} {s = s} {r = r} {l = l} p d) = resort (replicate_more (count l) (form_sort f)) (join (widen (part_front s (Comma ∷ r)) (grown_list p)) (widen (part_last s r Comma) (grown d)))
+  grown_list (list-more {f = f} {s = s} {r = r} {l = l} p d) =
+      resort (replicate_more (count l) (form_sort f)) (join (widen (part_front s (Comma ∷ r)) (grown_list p)) (widen (part_last s r Comma) (grown d)))
 
   pub grown_brace : {s : List Lexeme} {a : Phrase} → ReadsBrace s a → Grown s (Program ∷ []) (ills a) (erase a ∷ [])
   grown_brace (brace-prog {n = n} {s = s} d) = widen (part_in (OpenBrace n) s (CloseBrace ∷ [])) (grown d)
-  grown_brace (brace-items {n = n} {s = s} {l = l} p) = system n l Truth (λ m b. b.0) (some_items p) (items_in (part_in (OpenBrace n) s (CloseBrace ∷ [])) (grown_items p)) (leaf op.True refl (λ r. refl) refl refl)
-  grown_brace (brace-domain {n = n} {s = s} {r = r} {l = l} {a = a} p d) = system n l a (λ m b. b.0) (some_items p) (items_in (part_in (OpenBrace n) s (Op And ∷ (r ++ CloseBrace ∷ []))) (grown_items p))
+  grown_brace (brace-items {n = n} {s = s} {l = l} p) =
+      system n l Truth (λ m b. b.0) (some_items p) (items_in (part_in (OpenBrace n) s (CloseBrace ∷ [])) (grown_items p))
+      (leaf op.True refl (λ r. refl) refl refl)
+  grown_brace (brace-domain {n = n} {s = s} {r = r} {l = l} {a = a} p d) =
+      system n l a (λ m b. b.0) (some_items p) (items_in (part_in (OpenBrace n) s (Op And ∷ (r ++ CloseBrace ∷ []))) (grown_items p))
       (widen (λ P h. part_front r (CloseBrace ∷ []) P (part_last s (r ++ CloseBrace ∷ []) (Op And) P h.1)) (grown d))
 
   grown_items : {s : List Lexeme} {l : Items} → ReadsItems s l → GrownItems s l
@@ -362,9 +423,12 @@ mutual
   grown_item (item-flow {x = x}) = record { grown = nothing; real = λ r. flow_parts x Everywhere r.0 refl }
   grown_item (item-except {x = x} {y = y}) = record { grown = nothing; real = λ r. flow_parts x (Except y) r.0 r.1.1.0 }
 
-  grown_inv : {s i : List Lexeme} {b c : Phrase} → ReadsInv i b c → Grown s (Program ∷ []) (ills b) (erase b ∷ []) → Grown (s ++ i) (Program ∷ []) (ills c) (erase c ∷ [])
+  grown_inv : {s i : List Lexeme} {b c : Phrase} → ReadsInv i b c → Grown s (Program ∷ []) (ills b) (erase b ∷ [])
+      → Grown (s ++ i) (Program ∷ []) (ills c) (erase c ∷ [])
   grown_inv {s = s} inv-none g = widen (part_front s []) g
-  grown_inv {s = s} (inv-some {s = r} p) g = noted (widen (part_front s (Invariant ∷ Open ∷ (r ++ Close ∷ []))) g) (widen (λ P h. part_in Open r (Close ∷ []) P (part_last s (Open ∷ (r ++ Close ∷ [])) Invariant P h)) (grown_list p))
+  grown_inv {s = s} (inv-some {s = r} p) g =
+      noted (widen (part_front s (Invariant ∷ Open ∷ (r ++ Close ∷ []))) g)
+      (widen (λ P h. part_in Open r (Close ∷ []) P (part_last s (Open ∷ (r ++ Close ∷ [])) Invariant P h)) (grown_list p))
 
 -- a tree that is well made and of a sort
 pub record IsMade (s : Sort) (t : Tree) : Type 0 where
@@ -412,7 +476,8 @@ expression_no_dots {s = s} d p = bare_dot ((grown_expression d).grown.bare (plai
 pub expression_no_hole : {s : List Lexeme} {p : Phrase} → ReadsExpression s p → Permitted Refused s → has_hole (erase p) ≡ false
 expression_no_hole {s = s} d p = bare_hole ((grown_expression d).grown.bare (plain_from s p))
 
-formula_from : {w : List Lexeme} {places : List ℕ} {t : Tree} → Grown w (Formula ∷ []) places (t ∷ []) → AreReal w → Permitted Refused w → places ≡ [] → IsFormula t
+formula_from : {w : List Lexeme} {places : List ℕ} {t : Tree} → Grown w (Formula ∷ []) places (t ∷ []) → AreReal w → Permitted Refused w → places ≡ []
+    → IsFormula t
 formula_from {w = w} g h p e =
     let b = g.bare (plain_from w p) in
     record { well_made = (g.made h e).0; sort_is = sort_from g; no_dot = bare_dot b; no_hole = bare_hole b }
@@ -429,7 +494,8 @@ formulas_in (suc n) (t ∷ ts) e h b =
     let rest : sorts (forest ts) ≡ replicate n Formula = cc in
     let dots = or_parts (has_dots t) (any_has is_some_dot (forest ts)) b.no_dot in
     let holes = or_parts (has_hole t) (any_has is_hole (forest ts)) b.no_hole in
-    All-cons IsFormula t ts (record { well_made = h.0; sort_is = first; no_dot = dots.0; no_hole = holes.0 }) (formulas_in n ts rest h.1 (record { no_dot = dots.1; no_hole = holes.1 }))
+    All-cons IsFormula t ts (record { well_made = h.0; sort_is = first; no_dot = dots.0; no_hole = holes.0 })
+    (formulas_in n ts rest h.1 (record { no_dot = dots.1; no_hole = holes.1 }))
 
 pub list_formed : {s : List Lexeme} {l : Phrases} → ReadsList formula s l → AreReal s → Permitted Refused s → ills_of_all l ≡ [] → AllOf IsFormula (erase_all l)
 list_formed {s = s} {l = l} d h p e = let g = grown_list d in formulas_in (count l) (erase_all l) g.sorts_are (g.made h e) (g.bare (plain_from s p))
@@ -439,10 +505,12 @@ pub grown_side : {s : List Lexeme} {l : Phrases} → ReadsSide s l → Grown s (
 grown_side side-nothing = nothing
 grown_side (side-list d) = grown_list d
 
-pub grown_sides : {s : List Lexeme} {l m : Phrases} → ReadsSequent s (Turned l m) → Grown s (replicate (count l) Formula ++ replicate (count m) Formula) (ills_of_all l ++ ills_of_all m) (erase_all l ++ erase_all m)
+pub grown_sides : {s : List Lexeme} {l m : Phrases} → ReadsSequent s (Turned l m)
+    → Grown s (replicate (count l) Formula ++ replicate (count m) Formula) (ills_of_all l ++ ills_of_all m) (erase_all l ++ erase_all m)
 grown_sides (sequent-sides {s = s} {r = r} d e) = join (widen (part_front s (Turnstile ∷ r)) (grown_side d)) (widen (part_last s r Turnstile) (grown_side e))
 
-sides_formed : {s r : List Lexeme} {l m : Phrases} → ReadsSide s l → ReadsSide r m → AreReal (s ++ Turnstile ∷ r) → ArePlain (s ++ Turnstile ∷ r) → ills_of_all l ++ ills_of_all m ≡ [] → IsSequent (erase_sides (Turned l m))
+sides_formed : {s r : List Lexeme} {l m : Phrases} → ReadsSide s l → ReadsSide r m → AreReal (s ++ Turnstile ∷ r) → ArePlain (s ++ Turnstile ∷ r)
+    → ills_of_all l ++ ills_of_all m ≡ [] → IsSequent (erase_sides (Turned l m))
 sides_formed {s = s} {r = r} {l = l} {m = m} d e h p n =
     let g = widen (part_front s (Turnstile ∷ r)) (grown_side d) in
     let k = widen (part_last s r Turnstile) (grown_side e) in

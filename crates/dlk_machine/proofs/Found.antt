@@ -8,18 +8,19 @@ use Rattle.dlk_grammar.specs.Phrases.{Everywhere, Except, Phrase, Literal, Argum
 use Rattle.dlk_grammar.specs.Grammar.{formula, unf, atom, term, prim, prog, stmt, Reads, atom-true, atom-false, atom-hole, atom-nullary, atom-holds, atom-any, atom-except, atom-context, atom-bracket, atom-diff, prim-number, prim-dot, prim-name, prim-primed, prim-nullary, prim-apply, prim-any, prim-except, prim-bracket, prim-diff, stmt-const, stmt-assign, stmt-assign_prime, stmt-any, stmt-test, ReadsBrace, brace-prog, brace-items, brace-domain, ReadsItems, item-evolve, item-flow, item-except, star-loop}
 use Rattle.dlk_tree.specs.declared.op.Sort.{Sort}
 use Rattle.dlk_tree.specs.declared.op.Sort.TheVariants.{Term, Formula, Program}
-use Rattle.dlk_machine.proofs.Levels.{form_sort, top}
-use Rattle.dlk_machine.proofs.Machine.{◌>>=◌, when, Between, By, Next, Quantifier, ForAll, ForSome, InBox, InDia, Bang', Bound, Modal, Holder, Round, Args, InContext, In, InBrace, Assigns, Tests, Evolves, Domain, Notes, Part, Left, Before, Inside, level, operand_sort, result_sort, Tail, Done, Bare, Grouped, Braced, Starred, Annotated, Piece, Is, Symbol, State, Wants, Has, Calls, Bars, BarsName, Binds, Starts, StartsPrime, StartsGets, StartsStar, Opens, OpensName, OpensPrime, WantsItem, ItemName, ItemPrime, ItemBar, ItemBarName, ItemEnds, Invariants, primes, formula_primes, as_sort, tail_of, with_tail, program_sort, is_program, reduce, round_sort, place, allows, fits, start_operand, start_statement, start, after_operand, items_step, close, close_top, closing, and_top, infix_after, name_after, primed, prime_after, star_after, invariant_after, semi_after, next_after, after_program, after_other, call_step, bars_step, bars_name_step, bind_step, statement_step, statement_prime_step, statement_gets_step, statement_star_step, item_name_step, item_prime_step, items_begin, item_bar_step, item_bar_name_step, opens_step, opens_name_step, opens_prime_step, invariants_step, step, whole, ended}
+use Rattle.dlk_machine.specs.Levels.{form_sort, top}
+use Rattle.dlk_machine.specs.Machine.{◌>>=◌, when, Between, By, Next, Quantifier, ForAll, ForSome, InBox, InDia, Bang', Bound, Modal, Holder, Round, Args, InContext, In, InBrace, Assigns, Tests, Evolves, Domain, Notes, Part, Left, Before, Inside, level, operand_sort, result_sort, Tail, Done, Bare, Grouped, Braced, Starred, Annotated, Piece, Is, Symbol, State, Wants, Has, Calls, Bars, BarsName, Binds, Starts, StartsPrime, StartsGets, StartsStar, Opens, OpensName, OpensPrime, WantsItem, ItemName, ItemPrime, ItemBar, ItemBarName, ItemEnds, Invariants, primes, formula_primes, as_sort, tail_of, with_tail, program_sort, is_program, reduce, round_sort, place, allows, fits, start_operand, start_statement, start, after_operand, items_step, close, close_top, closing, and_top, infix_after, name_after, primed, prime_after, star_after, invariant_after, semi_after, next_after, after_program, after_other, call_step, bars_step, bars_name_step, bind_step, statement_step, statement_prime_step, statement_gets_step, statement_star_step, item_name_step, item_prime_step, items_begin, item_bar_step, item_bar_name_step, opens_step, opens_name_step, opens_prime_step, invariants_step, step, whole, ended}
 use Rattle.dlk_machine.proofs.Opening.{bind_some, when_is}
-use Rattle.dlk_machine.proofs.Climb.{formula_level, program_level, need, need_below, stands}
+use Rattle.dlk_machine.proofs.Climb.{left_form, formula_level, program_level, need, need_below, stands}
 use Rattle.dlk_machine.proofs.Only.{place_kind, top_sort}
-use Rattle.dlk_machine.proofs.Spelled.{left_form, mark, PrefixText, table, list_joined, ItemsBefore, items_joined, Noting, note_brace, end_note, end_stmt, end_semi, end_invariants, HolderText, Spells, Known, tree_of, known_tree, Good, Reduced, left_of_top, chosen, some_eq, reduced, loose_nine, loose_top, loose_formula, Tailed, HasRead, Midway, quantifier_token, After, minus-text, bang-text, forall-text, exists-text, boxed-text, dia-text, list-begins, list-goes_on, items-begin, items-go_on, noting, round-text, args-text, context-text, box-text, in_dia-text, brace-text, assigns-text, assigns_prime-text, tests-text, evolves-text, domain-text, notes-text, nothing, left, before, inside}
+use Rattle.dlk_machine.proofs.Spelled.{mark, PrefixText, table, list_joined, ItemsBefore, items_joined, Noting, note_brace, end_note, end_stmt, end_semi, end_invariants, HolderText, Spells, Known, tree_of, known_tree, Good, Reduced, left_of_top, chosen, some_eq, reduced, loose_nine, loose_top, loose_formula, Tailed, HasRead, Midway, quantifier_token, After, minus-text, bang-text, forall-text, exists-text, boxed-text, dia-text, list-begins, list-goes_on, items-begin, items-go_on, noting, round-text, args-text, context-text, box-text, in_dia-text, brace-text, assigns-text, assigns_prime-text, tests-text, evolves-text, domain-text, notes-text, nothing, left, before, inside}
 
 -- the new state, by the state that the step gives
 moved : (g : Sort) (x y : State) (all : List Lexeme) → Some x ≡ Some y → After g x all → After g y all
 moved g x y all e a = subst (λ (z : State). After g z all) (some_eq x y e) a
 
-as_text : (g : Sort) (S : List Part) (s r : List Lexeme) (p : Piece) → Spells g S s → Known 11 p r → Tailed (tail_of p) p r → Good g S p → HasRead g S p (s ++ r)
+as_text : (g : Sort) (S : List Part) (s r : List Lexeme) (p : Piece) → Spells g S s → Known 11 p r → Tailed (tail_of p) p r → Good g S p
+    → HasRead g S p (s ++ r)
 as_text g S s r p sp k x o = record { front = s; back = r; spells = sp; known = k; tail = x; good = o; parts = refl }
 
 sort_is : (s : Sort) → (s ≡ Term) ⊎ (s ≡ Formula) ⊎ (s ≡ Program)
@@ -28,7 +29,8 @@ sort_is Formula = inr (inl refl)
 sort_is Program = inr (inr refl)
 
 -- what is a primary of each sort
-known_from : (p : Piece) (s : List Lexeme) → ((t : Phrase) → as_sort Term p ≡ Some t → Reads prim s t) → ((t : Phrase) → as_sort Formula p ≡ Some t → Reads atom s t) → ((t : Phrase) → as_sort Program p ≡ Some t → Reads stmt s t) → Known 11 p s
+known_from : (p : Piece) (s : List Lexeme) → ((t : Phrase) → as_sort Term p ≡ Some t → Reads prim s t)
+    → ((t : Phrase) → as_sort Formula p ≡ Some t → Reads atom s t) → ((t : Phrase) → as_sort Program p ≡ Some t → Reads stmt s t) → Known 11 p s
 known_from p s f g h m t n e =
     elim (sort_is (form_sort m)) [
       | inl w ↦ stands prim m s t n (sym w) (f t (subst (λ (k : Sort). as_sort k p ≡ Some t) w e))
@@ -46,7 +48,9 @@ from_stmt : (t : Phrase) (l : Tail) (s : List Lexeme) → Reads stmt s t → Kno
 from_stmt t l s d = known_from (Is Program t l) s (λ u e. absurd cc) (λ u e. absurd cc) (λ u e. subst (λ (x : Phrase). Reads stmt s x) (some_eq t u e) d)
 
 from_symbol : (x : Head) (s : List Lexeme) → Reads prim s (Apply x) → Reads atom s (Holds x) → Known 11 (Symbol x 0 Done) s
-from_symbol x s d e = known_from (Symbol x 0 Done) s (λ u h. subst (λ (y : Phrase). Reads prim s y) (some_eq (Apply x) u h) d) (λ u h. subst (λ (y : Phrase). Reads atom s y) (some_eq (Holds x) u h) e) (λ u h. absurd cc)
+from_symbol x s d e =
+    known_from (Symbol x 0 Done) s (λ u h. subst (λ (y : Phrase). Reads prim s y) (some_eq (Apply x) u h) d)
+    (λ u h. subst (λ (y : Phrase). Reads atom s y) (some_eq (Holds x) u h) e) (λ u h. absurd cc)
 
 settled_sort : (s : Sort) (p : Piece) (k : Tail) → as_sort s (with_tail k p) ≡ as_sort s p
 settled_sort Term (Is Term t l) k = refl
@@ -86,10 +90,15 @@ fits_statement Program e = refl
 fits_statement Term e = absurd cc
 fits_statement Formula e = absurd cc
 
-pub operand_moves : (g : Sort) (S : List Part) (k : Lexeme) (y : State) (all : List Lexeme) → fits g Term S ≡ true → Spells g S all → start_operand g S k ≡ Some y → After g y (all ++ k ∷ [])
-operand_moves g S (Name n x) y all f a e = moved g _ y _ e (as_text g S all (Name n x ∷ []) (Is Term (Variable x false) (Bare n x)) a (from_prim _ _ _ prim-name) (refl, refl) (Term, Variable x false, refl, f))
-operand_moves g S (Number n) y all f a e = moved g _ y _ e (as_text g S all (Number n ∷ []) (Is Term (Literal n) Done) a (from_prim _ _ _ prim-number) tt (Term, Literal n, refl, f))
-operand_moves g S (Dot n) y all f a e = moved g _ y _ e (as_text g S all (Dot n ∷ []) (Is Term (Argument n) Done) a (from_prim _ _ _ prim-dot) tt (Term, Argument n, refl, f))
+pub operand_moves : (g : Sort) (S : List Part) (k : Lexeme) (y : State) (all : List Lexeme) → fits g Term S ≡ true → Spells g S all
+    → start_operand g S k ≡ Some y → After g y (all ++ k ∷ [])
+operand_moves g S (Name n x) y all f a e =
+    moved g _ y _ e
+    (as_text g S all (Name n x ∷ []) (Is Term (Variable x false) (Bare n x)) a (from_prim _ _ _ prim-name) (refl, refl) (Term, Variable x false, refl, f))
+operand_moves g S (Number n) y all f a e =
+    moved g _ y _ e (as_text g S all (Number n ∷ []) (Is Term (Literal n) Done) a (from_prim _ _ _ prim-number) tt (Term, Literal n, refl, f))
+operand_moves g S (Dot n) y all f a e =
+    moved g _ y _ e (as_text g S all (Dot n ∷ []) (Is Term (Argument n) Done) a (from_prim _ _ _ prim-dot) tt (Term, Argument n, refl, f))
 operand_moves g S True y all f a e =
     let w = when_is (fits g Formula S) (Some (Has S (Is Formula Truth Done))) y e in
     moved g _ y _ w.1 (as_text g S all (True ∷ []) (Is Formula Truth Done) a (from_atom _ _ _ atom-true) tt (Formula, Truth, refl, w.0))
@@ -118,7 +127,8 @@ operand_moves g S Open y all f a e = moved g _ y _ e (inside a (round-text refl 
 operand_moves g S (Op Sub) y all f a e = moved g _ y _ e (before a minus-text (loose_nine S) f)
 operand_moves g S _ y all f a e = absurd cc
 
-pub statement_moves : (g : Sort) (S : List Part) (k : Lexeme) (y : State) (all : List Lexeme) → fits g Program S ≡ true → Spells g S all → start_statement S k ≡ Some y → After g y (all ++ k ∷ [])
+pub statement_moves : (g : Sort) (S : List Part) (k : Lexeme) (y : State) (all : List Lexeme) → fits g Program S ≡ true → Spells g S all
+    → start_statement S k ≡ Some y → After g y (all ++ k ∷ [])
 statement_moves g S (Name n x) y all f a e = moved g (Starts S x) y _ e (n, record { front = all; spells = a; fit = f; parts = refl })
 statement_moves g S Query y all f a e = moved g _ y _ e (inside a (tests-text f))
 statement_moves g S (OpenBrace n) y all f a e = moved g (Opens S n) y _ e (record { front = all; spells = a; fit = f; parts = refl })
@@ -131,12 +141,15 @@ wants_moves g S k y all a e =
       | inr h ↦ operand_moves g S k y all (fits_operand (place g S) h.0) a h.1
     ]
 
-pub reduced_all : (g : Sort) (n : ℕ) (S : List Part) (p : Piece) (all : List Lexeme) (T : List Part) (q : Piece) → HasRead g S p all → reduce n S p ≡ Some (T, q) → Reduced g n T q all
+pub reduced_all : (g : Sort) (n : ℕ) (S : List Part) (p : Piece) (all : List Lexeme) (T : List Part) (q : Piece) → HasRead g S p all
+    → reduce n S p ≡ Some (T, q) → Reduced g n T q all
 reduced_all g n S p all T q h e =
-    subst (λ (l : List Lexeme). Reduced g n T q l) (sym h.parts) (reduced g n 11 S h.front h.back p T q h.spells h.known (loose_top S) (omega arith) (λ o _. left_of_top o) h.good e)
+    subst (λ (l : List Lexeme). Reduced g n T q l) (sym h.parts)
+    (reduced g n 11 S h.front h.back p T q h.spells h.known (loose_top S) (omega arith) (λ o _. left_of_top o) h.good e)
 
 -- an operator behind an operand
-operator_spells : (g : Sort) (o : Between) (S : List Part) (p : Piece) (all : List Lexeme) (T : List Part) → HasRead g S p all → after_operand g o S p ≡ Some T → Spells g T (all ++ mark o)
+operator_spells : (g : Sort) (o : Between) (S : List Part) (p : Piece) (all : List Lexeme) (T : List Part) → HasRead g S p all
+    → after_operand g o S p ≡ Some T → Spells g T (all ++ mark o)
 operator_spells g o S p all T h e =
     let b = bind_some (reduce (level o) S p) (λ r. as_sort (operand_sort o) r.1 >>= λ a. when (fits g (result_sort o) r.0) (Some (Left o a ∷ r.0))) T e in
     let c = bind_some (as_sort (operand_sort o) b.0.1) (λ a. when (fits g (result_sort o) b.0.0) (Some (Left o a ∷ b.0.0))) T b.2 in
@@ -144,9 +157,11 @@ operator_spells g o S p all T h e =
     let r = reduced_all g (level o) S p all b.0.0 b.0.1 h b.1 in
     let operand = r.known (left_form o) c.0 (r.left o refl) (subst (λ (k : Sort). as_sort k b.0.1 ≡ Some c.0) (sym (table o).left_sort) c.1) in
     let at : all ++ mark o ≡ r.front ++ (r.back ++ mark o) = ap (λ (l : List Lexeme). l ++ mark o) r.parts ∙ append_assoc r.front r.back (mark o) in
-    subst (λ (U : List Part). Spells g U (all ++ mark o)) (some_eq _ T w.1) (subst (λ (l : List Lexeme). Spells g (Left o c.0 ∷ b.0.0) l) (sym at) (left r.spells operand r.loose w.0))
+    subst (λ (U : List Part). Spells g U (all ++ mark o)) (some_eq _ T w.1)
+    (subst (λ (l : List Lexeme). Spells g (Left o c.0 ∷ b.0.0) l) (sym at) (left r.spells operand r.loose w.0))
 
-open_inside : {g : Sort} {S : List Part} {f : List Lexeme} {h : Holder} → Spells g (Inside h ∷ S) f → (s k : List Lexeme) × Spells g S s × HolderText g h S k × (f ≡ s ++ k)
+open_inside : {g : Sort} {S : List Part} {f : List Lexeme} {h : Holder} → Spells g (Inside h ∷ S) f
+    → (s k : List Lexeme) × Spells g S s × HolderText g h S k × (f ≡ s ++ k)
 open_inside (inside {s = s} {k = k} sp t) = (s, k, sp, t, refl)
 
 -- the text of a holder's whole, from what stands in it
@@ -155,12 +170,14 @@ record Whole (g : Sort) (S : List Part) (k r : List Lexeme) (c : Lexeme) (p : Pi
   tail : Tailed (tail_of p) p (k ++ (r ++ c ∷ []))
   good : Good g S p
 
-whole_after : (g : Sort) (S : List Part) (s k r : List Lexeme) (c : Lexeme) (p : Piece) (all f : List Lexeme) → Spells g S s → f ≡ s ++ k → all ≡ f ++ r → Whole g S k r c p → HasRead g S p (all ++ c ∷ [])
+whole_after : (g : Sort) (S : List Part) (s k r : List Lexeme) (c : Lexeme) (p : Piece) (all f : List Lexeme) → Spells g S s → f ≡ s ++ k → all ≡ f ++ r
+    → Whole g S k r c p → HasRead g S p (all ++ c ∷ [])
 whole_after g S s k r c p all f sp e a w =
     let at : all ++ c ∷ [] ≡ s ++ (k ++ (r ++ c ∷ [])) = ap (λ (l : List Lexeme). l ++ c ∷ []) (a ∙ ap (λ (l : List Lexeme). l ++ r) e) ∙ simp append_assoc in
     subst (λ (l : List Lexeme). HasRead g S p l) (sym at) (as_text g S s (k ++ (r ++ c ∷ [])) p sp w.known w.tail w.good)
 
-wants_after : (g : Sort) (S : List Part) (s k r : List Lexeme) (c : Lexeme) (h : Part) (all f : List Lexeme) → f ≡ s ++ k → all ≡ f ++ r → Spells g (h ∷ S) (s ++ (k ++ (r ++ c ∷ []))) → Spells g (h ∷ S) (all ++ c ∷ [])
+wants_after : (g : Sort) (S : List Part) (s k r : List Lexeme) (c : Lexeme) (h : Part) (all f : List Lexeme) → f ≡ s ++ k → all ≡ f ++ r
+    → Spells g (h ∷ S) (s ++ (k ++ (r ++ c ∷ []))) → Spells g (h ∷ S) (all ++ c ∷ [])
 wants_after g S s k r c h all f e a w =
     let at : all ++ c ∷ [] ≡ s ++ (k ++ (r ++ c ∷ [])) = ap (λ (l : List Lexeme). l ++ c ∷ []) (a ∙ ap (λ (l : List Lexeme). l ++ r) e) ∙ simp append_assoc in
     subst (λ (l : List Lexeme). Spells g (h ∷ S) l) (sym at) w
@@ -173,7 +190,8 @@ round_fits g S false Term e f h = f
 round_fits g S false Formula e f h = absurd cc
 round_fits g S false Program e f h = absurd cc
 
-good_settled : (g : Sort) (b : Bool) (S : List Part) (q : Piece) (l : Tail) → b ≡ fits g Formula S → fits g Term S ≡ true → Good g (Inside (Round b) ∷ S) q → Good g S (with_tail l q)
+good_settled : (g : Sort) (b : Bool) (S : List Part) (q : Piece) (l : Tail) → b ≡ fits g Formula S → fits g Term S ≡ true → Good g (Inside (Round b) ∷ S) q
+    → Good g S (with_tail l q)
 good_settled g b S q l e f o = (o.0, o.1, settled_sort o.0 q l ∙ o.2, round_fits g S b o.0 e f o.3)
 
 pub piece_kind : (r : Sort) (q : Piece) (t : Phrase) → as_sort r q ≡ Some t → is_program q ≡ program_sort r
@@ -206,19 +224,27 @@ round_known q n r h i k = known_from (with_tail Grouped q) (Open ∷ (r ++ Close
     (λ t e. atom-bracket (k formula t h (sym (settled_sort Formula q Grouped) ∙ e)))
     (λ t e. absurd (let w = not_program q i in let v : as_sort Program q ≡ Some t = sym (settled_sort Program q Grouped) ∙ e in cc))
 
-midway_text : (g : Sort) (S : List Part) (own : List Lexeme) (r : Sort) (all : List Lexeme) (k : Lexeme) (p : Piece) (a : Midway g S own r all) → Known 11 p (own ++ k ∷ []) → Tailed (tail_of p) p (own ++ k ∷ []) → Good g S p → HasRead g S p (all ++ k ∷ [])
+midway_text : (g : Sort) (S : List Part) (own : List Lexeme) (r : Sort) (all : List Lexeme) (k : Lexeme) (p : Piece) (a : Midway g S own r all)
+    → Known 11 p (own ++ k ∷ []) → Tailed (tail_of p) p (own ++ k ∷ []) → Good g S p → HasRead g S p (all ++ k ∷ [])
 midway_text g S own r all k p a kn t o =
     let at : all ++ k ∷ [] ≡ a.front ++ (own ++ k ∷ []) = ap (λ (l : List Lexeme). l ++ k ∷ []) a.parts ∙ append_assoc a.front own (k ∷ []) in
     subst (λ (l : List Lexeme). HasRead g S p l) (sym at) (as_text g S a.front (own ++ k ∷ []) p a.spells kn t o)
 
-midway_spells : (g : Sort) (S T : List Part) (own : List Lexeme) (r : Sort) (all : List Lexeme) (k : Lexeme) (a : Midway g S own r all) → Spells g T (a.front ++ (own ++ k ∷ [])) → Spells g T (all ++ k ∷ [])
+midway_spells : (g : Sort) (S T : List Part) (own : List Lexeme) (r : Sort) (all : List Lexeme) (k : Lexeme) (a : Midway g S own r all)
+    → Spells g T (a.front ++ (own ++ k ∷ [])) → Spells g T (all ++ k ∷ [])
 midway_spells g S T own r all k a sp =
     let at : all ++ k ∷ [] ≡ a.front ++ (own ++ k ∷ []) = ap (λ (l : List Lexeme). l ++ k ∷ []) a.parts ∙ append_assoc a.front own (k ∷ []) in
     subst (λ (l : List Lexeme). Spells g T l) (sym at) sp
 
 -- one more token of its own
-midway_more : (g : Sort) (S : List Part) (own : List Lexeme) (r : Sort) (all : List Lexeme) (k : Lexeme) → Midway g S own r all → Midway g S (own ++ k ∷ []) r (all ++ k ∷ [])
-midway_more g S own r all k a = record { front = a.front; spells = a.spells; fit = a.fit; parts = ap (λ (l : List Lexeme). l ++ k ∷ []) a.parts ∙ append_assoc a.front own (k ∷ []) }
+midway_more : (g : Sort) (S : List Part) (own : List Lexeme) (r : Sort) (all : List Lexeme) (k : Lexeme) → Midway g S own r all
+    → Midway g S (own ++ k ∷ []) r (all ++ k ∷ [])
+midway_more g S own r all k a = record {
+  front = a.front;
+  spells = a.spells;
+  fit = a.fit;
+  parts = ap (λ (l : List Lexeme). l ++ k ∷ []) a.parts ∙ append_assoc a.front own (k ∷ []);
+}
 
 midway_same : (g : Sort) (S : List Part) (own new : List Lexeme) (r : Sort) (all : List Lexeme) → own ≡ new → Midway g S own r all → Midway g S new r all
 midway_same g S own new r all e a = subst (λ (l : List Lexeme). Midway g S l r all) e a
@@ -227,23 +253,34 @@ from_brace : (t : Phrase) (s : List Lexeme) → ReadsBrace s t → Known 11 (Is 
 from_brace t s d = from_stmt t Braced s (end_stmt (end_note (note_brace d)))
 
 -- a token behind whole items
-items_moves : (g : Sort) (S : List Part) (n : ℕ) (l : Items) (k : Lexeme) (y : State) (all s : List Lexeme) → ReadsItems s l → Midway g S (OpenBrace n ∷ s) Program all → items_step S n l k ≡ Some y → After g y (all ++ k ∷ [])
-items_moves g S n l Comma y all s d a e = moved g (WantsItem S n l) y _ e (s ++ Comma ∷ [], items-go_on d, midway_more g S (OpenBrace n ∷ s) Program all Comma a)
-items_moves g S n l (Op And) y all s d a e = moved g (Wants (Inside (Domain n l) ∷ S)) y _ e (midway_spells g S (Inside (Domain n l) ∷ S) (OpenBrace n ∷ s) Program all (Op And) a (inside a.spells (domain-text d a.fit)))
+items_moves : (g : Sort) (S : List Part) (n : ℕ) (l : Items) (k : Lexeme) (y : State) (all s : List Lexeme) → ReadsItems s l
+    → Midway g S (OpenBrace n ∷ s) Program all → items_step S n l k ≡ Some y → After g y (all ++ k ∷ [])
+items_moves g S n l Comma y all s d a e =
+    moved g (WantsItem S n l) y _ e (s ++ Comma ∷ [], items-go_on d, midway_more g S (OpenBrace n ∷ s) Program all Comma a)
+items_moves g S n l (Op And) y all s d a e =
+    moved g (Wants (Inside (Domain n l) ∷ S)) y _ e
+    (midway_spells g S (Inside (Domain n l) ∷ S) (OpenBrace n ∷ s) Program all (Op And) a (inside a.spells (domain-text d a.fit)))
 items_moves g S n l CloseBrace y all s d a e =
     let b : ReadsBrace (OpenBrace n ∷ (s ++ CloseBrace ∷ [])) (System n l Truth) = brace-items d in
-    moved g (Has S (Is Program (System n l Truth) Braced)) y _ e (midway_text g S (OpenBrace n ∷ s) Program all CloseBrace (Is Program (System n l Truth) Braced) a (from_brace _ _ b) (System n l Truth, b, refl) (Program, System n l Truth, refl, a.fit))
+    moved g (Has S (Is Program (System n l Truth) Braced)) y _ e
+    (midway_text g S (OpenBrace n ∷ s) Program all CloseBrace (Is Program (System n l Truth) Braced) a (from_brace _ _ b) (System n l Truth, b, refl)
+    (Program, System n l Truth, refl, a.fit))
 items_moves g S n l _ y all s d a e = absurd cc
 
-evolve_text : (n m : ℕ) (x : Word) (s k r f all : List Lexeme) → f ≡ s ++ (OpenBrace n ∷ (k ++ Name m x ∷ Prime ∷ Op Equal ∷ [])) → all ≡ f ++ r → all ≡ s ++ (OpenBrace n ∷ (k ++ Name m x ∷ Prime ∷ Op Equal ∷ r))
+evolve_text : (n m : ℕ) (x : Word) (s k r f all : List Lexeme) → f ≡ s ++ (OpenBrace n ∷ (k ++ Name m x ∷ Prime ∷ Op Equal ∷ [])) → all ≡ f ++ r
+    → all ≡ s ++ (OpenBrace n ∷ (k ++ Name m x ∷ Prime ∷ Op Equal ∷ r))
 evolve_text n m x s k r f all e a = a ∙ ap (λ (l : List Lexeme). l ++ r) e ∙ simp append_assoc
 
-evolve_moves : {g : Sort} {S : List Part} {n : ℕ} {l : Items} {x : Word} {k : List Lexeme} → HolderText g (Evolves n l x) S k → (c : Lexeme) (y : State) (all s r f : List Lexeme) (t : Phrase) → Spells g S s → f ≡ s ++ k → all ≡ f ++ r → Reads term r t → items_step S n (add l (Evolve x t)) c ≡ Some y → After g y (all ++ c ∷ [])
+evolve_moves : {g : Sort} {S : List Part} {n : ℕ} {l : Items} {x : Word} {k : List Lexeme} → HolderText g (Evolves n l x) S k
+    → (c : Lexeme) (y : State) (all s r f : List Lexeme) (t : Phrase) → Spells g S s → f ≡ s ++ k → all ≡ f ++ r → Reads term r t
+    → items_step S n (add l (Evolve x t)) c ≡ Some y → After g y (all ++ c ∷ [])
 evolve_moves {g = g} {S = S} {n = n} {l = l} {x = x} (evolves-text {k = k} m b fit) c y all s r f t sp e a d u =
     items_moves g S n (add l (Evolve x t)) c y all (k ++ Name m x ∷ Prime ∷ Op Equal ∷ r) (items_joined b (item-evolve d))
     (record { front = s; spells = sp; fit = fit; parts = evolve_text n m x s k r f all e a }) u
 
-close_moves : (g : Sort) (c : Lexeme) (h : Holder) (S : List Part) (q : Piece) (y : State) (all s k r : List Lexeme) (f : List Lexeme) (n : ℕ) → Spells g S s → HolderText g h S k → f ≡ s ++ k → all ≡ f ++ r → Known n q r → 1 ≤ n → Good g (Inside h ∷ S) q → close c h S q ≡ Some y → After g y (all ++ c ∷ [])
+close_moves : (g : Sort) (c : Lexeme) (h : Holder) (S : List Part) (q : Piece) (y : State) (all s k r : List Lexeme) (f : List Lexeme) (n : ℕ)
+    → Spells g S s → HolderText g h S k → f ≡ s ++ k → all ≡ f ++ r → Known n q r → 1 ≤ n → Good g (Inside h ∷ S) q → close c h S q ≡ Some y
+    → After g y (all ++ c ∷ [])
 close_moves g c (Evolves m l x) S q y all s k r f n sp text e a known low good u =
     let b = bind_some (as_sort Term q) (λ t. items_step S m (add l (Evolve x t)) c) y u in
     evolve_moves text c y all s r f b.0 sp e a (known term b.0 (omega arith) b.1) b.2
@@ -251,27 +288,40 @@ close_moves g Close (Round b) S q y all s k r f n sp (round-text same fit) e a k
     let i = good_kind g b S q good in
     moved g (Has S (with_tail Grouped q)) y _ u (whole_after g S s (Open ∷ []) r Close (with_tail Grouped q) all f sp e a (record {
       known = round_known q n r low i known;
-      tail = grouped_tail q Grouped (Open ∷ (r ++ Close ∷ [])) (r, refl, (λ t h. known term t (omega arith) (sym (settled_sort Term q Grouped) ∙ h)), (λ t h. known formula t low (sym (settled_sort Formula q Grouped) ∙ h)), settled_program q Grouped ∙ i);
+      tail =
+          grouped_tail q Grouped (Open ∷ (r ++ Close ∷ [])) (
+            r,
+            refl,
+            (λ t h. known term t (omega arith) (sym (settled_sort Term q Grouped) ∙ h)),
+            (λ t h. known formula t low (sym (settled_sort Formula q Grouped) ∙ h)),
+            settled_program q Grouped ∙ i,
+          );
       good = good_settled g b S q Grouped same fit good;
     }))
 close_moves g Close (Args m x l) S q y all s k r f n sp (args-text {k = j} begun fit) e a known low good u =
     let b = bind_some (as_sort Term q) (λ t. Some (Has S (Symbol (Call m x (snoc l t)) 0 Done))) y u in
     let d = list_joined begun r b.0 (known term b.0 (omega arith) b.1) in
-    let at : (Name m x ∷ Open ∷ j) ++ (r ++ Close ∷ []) ≡ Name m x ∷ Open ∷ ((j ++ r) ++ Close ∷ []) = ap (λ (z : List Lexeme). Name m x ∷ Open ∷ z) (sym (append_assoc j r (Close ∷ []))) in
-    moved g (Has S (Symbol (Call m x (snoc l b.0)) 0 Done)) y _ b.2 (whole_after g S s (Name m x ∷ Open ∷ j) r Close (Symbol (Call m x (snoc l b.0)) 0 Done) all f sp e a (record {
-      known = subst (λ (z : List Lexeme). Known 11 (Symbol (Call m x (snoc l b.0)) 0 Done) z) (sym at) (from_symbol (Call m x (snoc l b.0)) _ (prim-apply d) (atom-holds d));
+    let at : (Name m x ∷ Open ∷ j) ++ (r ++ Close ∷ []) ≡ Name m x ∷ Open ∷ ((j ++ r) ++ Close ∷ []) =
+    ap (λ (z : List Lexeme). Name m x ∷ Open ∷ z) (sym (append_assoc j r (Close ∷ []))) in
+    moved g (Has S (Symbol (Call m x (snoc l b.0)) 0 Done)) y _ b.2
+    (whole_after g S s (Name m x ∷ Open ∷ j) r Close (Symbol (Call m x (snoc l b.0)) 0 Done) all f sp e a (record {
+      known =
+          subst (λ (z : List Lexeme). Known 11 (Symbol (Call m x (snoc l b.0)) 0 Done) z) (sym at)
+          (from_symbol (Call m x (snoc l b.0)) _ (prim-apply d) (atom-holds d));
       tail = tt;
       good = (Term, Apply (Call m x (snoc l b.0)), refl, fit);
     }))
 close_moves g Comma (Args m x l) S q y all s k r f n sp (args-text {k = j} begun fit) e a known low good u =
     let b = bind_some (as_sort Term q) (λ t. Some (Wants (Inside (Args m x (snoc l t)) ∷ S))) y u in
     let d = list_joined begun r b.0 (known term b.0 (omega arith) b.1) in
-    let at : (Name m x ∷ Open ∷ j) ++ (r ++ Comma ∷ []) ≡ Name m x ∷ Open ∷ ((j ++ r) ++ Comma ∷ []) = ap (λ (z : List Lexeme). Name m x ∷ Open ∷ z) (sym (append_assoc j r (Comma ∷ []))) in
+    let at : (Name m x ∷ Open ∷ j) ++ (r ++ Comma ∷ []) ≡ Name m x ∷ Open ∷ ((j ++ r) ++ Comma ∷ []) =
+    ap (λ (z : List Lexeme). Name m x ∷ Open ∷ z) (sym (append_assoc j r (Comma ∷ []))) in
     moved g (Wants (Inside (Args m x (snoc l b.0)) ∷ S)) y _ b.2 (wants_after g S s (Name m x ∷ Open ∷ j) r Comma (Inside (Args m x (snoc l b.0))) all f e a
     (subst (λ (z : List Lexeme). Spells g (Inside (Args m x (snoc l b.0)) ∷ S) (s ++ z)) (sym at) (inside sp (args-text (list-goes_on d) fit))))
 close_moves g CloseBrace (InContext x) S q y all s k r f n sp (context-text {n = i} {m = j} fit) e a known low good u =
     let b = bind_some (as_sort Formula q) (λ t. Some (Has S (Is Formula (Context x t) Done))) y u in
-    moved g (Has S (Is Formula (Context x b.0) Done)) y _ b.2 (whole_after g S s (Name i x ∷ OpenBrace j ∷ []) r CloseBrace (Is Formula (Context x b.0) Done) all f sp e a (record {
+    moved g (Has S (Is Formula (Context x b.0) Done)) y _ b.2
+    (whole_after g S s (Name i x ∷ OpenBrace j ∷ []) r CloseBrace (Is Formula (Context x b.0) Done) all f sp e a (record {
       known = from_atom (Context x b.0) Done _ (atom-context (known formula b.0 low b.1));
       tail = tt;
       good = (Formula, Context x b.0, refl, fit);
@@ -294,14 +344,16 @@ close_moves g CloseBrace InBrace S q y all s k r f n sp (brace-text {n = i} fit)
     }))
 close_moves g Semi (Assigns x false) S q y all s k r f n sp (assigns-text {n = i} fit) e a known low good u =
     let b = bind_some (as_sort Term q) (λ t. Some (Has S (Is Program (Assign x false t) Done))) y u in
-    moved g (Has S (Is Program (Assign x false b.0) Done)) y _ b.2 (whole_after g S s (Name i x ∷ Gets ∷ []) r Semi (Is Program (Assign x false b.0) Done) all f sp e a (record {
+    moved g (Has S (Is Program (Assign x false b.0) Done)) y _ b.2
+    (whole_after g S s (Name i x ∷ Gets ∷ []) r Semi (Is Program (Assign x false b.0) Done) all f sp e a (record {
       known = from_stmt (Assign x false b.0) Done _ (stmt-assign (known term b.0 (omega arith) b.1));
       tail = tt;
       good = (Program, Assign x false b.0, refl, fit);
     }))
 close_moves g Semi (Assigns x true) S q y all s k r f n sp (assigns_prime-text {n = i} fit) e a known low good u =
     let b = bind_some (as_sort Term q) (λ t. Some (Has S (Is Program (Assign x true t) Done))) y u in
-    moved g (Has S (Is Program (Assign x true b.0) Done)) y _ b.2 (whole_after g S s (Name i x ∷ Prime ∷ Gets ∷ []) r Semi (Is Program (Assign x true b.0) Done) all f sp e a (record {
+    moved g (Has S (Is Program (Assign x true b.0) Done)) y _ b.2
+    (whole_after g S s (Name i x ∷ Prime ∷ Gets ∷ []) r Semi (Is Program (Assign x true b.0) Done) all f sp e a (record {
       known = from_stmt (Assign x true b.0) Done _ (stmt-assign_prime (known term b.0 (omega arith) b.1));
       tail = tt;
       good = (Program, Assign x true b.0, refl, fit);
@@ -316,8 +368,10 @@ close_moves g Semi Tests S q y all s k r f n sp (tests-text fit) e a known low g
 close_moves g CloseBrace (Domain i l) S q y all s k r f n sp (domain-text {s = j} items fit) e a known low good u =
     let b = bind_some (as_sort Formula q) (λ t. Some (Has S (Is Program (System i l t) Braced))) y u in
     let d : ReadsBrace (OpenBrace i ∷ (j ++ Op And ∷ (r ++ CloseBrace ∷ []))) (System i l b.0) = brace-domain items (known formula b.0 low b.1) in
-    let d' : ReadsBrace ((OpenBrace i ∷ (j ++ Op And ∷ [])) ++ (r ++ CloseBrace ∷ [])) (System i l b.0) = subst (λ (z : List Lexeme). ReadsBrace (OpenBrace i ∷ z) (System i l b.0)) (sym (append_assoc j (Op And ∷ []) (r ++ CloseBrace ∷ []))) d in
-    moved g (Has S (Is Program (System i l b.0) Braced)) y _ b.2 (whole_after g S s (OpenBrace i ∷ (j ++ Op And ∷ [])) r CloseBrace (Is Program (System i l b.0) Braced) all f sp e a (record {
+    let d' : ReadsBrace ((OpenBrace i ∷ (j ++ Op And ∷ [])) ++ (r ++ CloseBrace ∷ [])) (System i l b.0) =
+    subst (λ (z : List Lexeme). ReadsBrace (OpenBrace i ∷ z) (System i l b.0)) (sym (append_assoc j (Op And ∷ []) (r ++ CloseBrace ∷ []))) d in
+    moved g (Has S (Is Program (System i l b.0) Braced)) y _ b.2
+    (whole_after g S s (OpenBrace i ∷ (j ++ Op And ∷ [])) r CloseBrace (Is Program (System i l b.0) Braced) all f sp e a (record {
       known = from_brace (System i l b.0) _ d';
       tail = (System i l b.0, d', refl);
       good = (Program, System i l b.0, refl, fit);
@@ -325,7 +379,8 @@ close_moves g CloseBrace (Domain i l) S q y all s k r f n sp (domain-text {s = j
 close_moves g Close (Notes p l) S q y all s k r f n sp (notes-text {k = j} note begun fit) e a known low good u =
     let b = bind_some (as_sort Formula q) (λ t. Some (Has S (Is Program (Noted p (snoc l t)) Annotated))) y u in
     let d = end_invariants note begun r b.0 (known formula b.0 low b.1) in
-    moved g (Has S (Is Program (Noted p (snoc l b.0)) Annotated)) y _ b.2 (whole_after g S s _ r Close (Is Program (Noted p (snoc l b.0)) Annotated) all f sp e a (record {
+    moved g (Has S (Is Program (Noted p (snoc l b.0)) Annotated)) y _ b.2
+    (whole_after g S s _ r Close (Is Program (Noted p (snoc l b.0)) Annotated) all f sp e a (record {
       known = from_stmt (Noted p (snoc l b.0)) Annotated _ (end_stmt d);
       tail = (Noted p (snoc l b.0), d, refl);
       good = (Program, Noted p (snoc l b.0), refl, fit);
@@ -338,7 +393,8 @@ close_moves g Comma (Notes p l) S q y all s k r f n sp (notes-text {r = i} {k = 
     (subst (λ (z : List Lexeme). Spells g (Inside (Notes p (snoc l b.0)) ∷ S) (s ++ z)) (sym at) (inside sp (notes-text note (list-goes_on d) fit))))
 close_moves g _ _ S q y all s k r f n sp text e a known low good u = absurd cc
 
-close_top_moves : (g : Sort) (c : Lexeme) (T : List Part) (q : Piece) (y : State) (all : List Lexeme) → Reduced g 0 T q all → close_top c T q ≡ Some y → After g y (all ++ c ∷ [])
+close_top_moves : (g : Sort) (c : Lexeme) (T : List Part) (q : Piece) (y : State) (all : List Lexeme) → Reduced g 0 T q all → close_top c T q ≡ Some y
+    → After g y (all ++ c ∷ [])
 close_top_moves g c [] q y all r e = absurd cc
 close_top_moves g c (Left o a ∷ S) q y all r e = absurd cc
 close_top_moves g c (Before o ∷ S) q y all r e = absurd cc
@@ -346,32 +402,39 @@ close_top_moves g c (Inside h ∷ S) q y all r e =
     let o = open_inside r.spells in
     close_moves g c h S q y all o.0 o.1 r.back r.front r.height o.2 o.3 o.4 r.parts r.known r.some r.good e
 
-closing_moves : (g : Sort) (c : Lexeme) (S : List Part) (p : Piece) (y : State) (all : List Lexeme) → HasRead g S p all → closing c S p ≡ Some y → After g y (all ++ c ∷ [])
+closing_moves : (g : Sort) (c : Lexeme) (S : List Part) (p : Piece) (y : State) (all : List Lexeme) → HasRead g S p all → closing c S p ≡ Some y
+    → After g y (all ++ c ∷ [])
 closing_moves g c S p y all h e =
     let b = bind_some (reduce 0 S p) (λ r. close_top c r.0 r.1) y e in
     close_top_moves g c b.0.0 b.0.1 y all (reduced_all g 0 S p all b.0.0 b.0.1 h b.1) b.2
 
-operator_moves : (g : Sort) (o : Infix) (S : List Part) (p : Piece) (y : State) (all : List Lexeme) → HasRead g S p all → (after_operand g (By o) S p >>= λ T. Some (Wants T)) ≡ Some y → After g y (all ++ Op o ∷ [])
+operator_moves : (g : Sort) (o : Infix) (S : List Part) (p : Piece) (y : State) (all : List Lexeme) → HasRead g S p all
+    → (after_operand g (By o) S p >>= λ T. Some (Wants T)) ≡ Some y → After g y (all ++ Op o ∷ [])
 operator_moves g o S p y all h e =
     let b = bind_some (after_operand g (By o) S p) (λ T. Some (Wants T)) y e in
     moved g (Wants b.0) y _ b.2 (operator_spells g (By o) S p all b.0 h b.1)
 
 -- the token & between formulas
-and_joins : (g : Sort) (T : List Part) (q : Piece) (y : State) (all : List Lexeme) → Reduced g 4 T q all → (as_sort Formula q >>= λ a. when (fits g Formula T) (Some (Wants (Left (By And) a ∷ T)))) ≡ Some y → After g y (all ++ Op And ∷ [])
+and_joins : (g : Sort) (T : List Part) (q : Piece) (y : State) (all : List Lexeme) → Reduced g 4 T q all
+    → (as_sort Formula q >>= λ a. when (fits g Formula T) (Some (Wants (Left (By And) a ∷ T)))) ≡ Some y → After g y (all ++ Op And ∷ [])
 and_joins g T q y all r e =
     let c = bind_some (as_sort Formula q) (λ a. when (fits g Formula T) (Some (Wants (Left (By And) a ∷ T)))) y e in
     let w = when_is (fits g Formula T) (Some (Wants (Left (By And) c.0 ∷ T))) y c.2 in
     let operand = r.known unf c.0 (r.left (By And) refl) c.1 in
-    let at : all ++ Op And ∷ [] ≡ r.front ++ (r.back ++ Op And ∷ []) = ap (λ (l : List Lexeme). l ++ Op And ∷ []) r.parts ∙ append_assoc r.front r.back (Op And ∷ []) in
-    moved g (Wants (Left (By And) c.0 ∷ T)) y _ w.1 (subst (λ (l : List Lexeme). Spells g (Left (By And) c.0 ∷ T) l) (sym at) (left r.spells operand r.loose w.0))
+    let at : all ++ Op And ∷ [] ≡ r.front ++ (r.back ++ Op And ∷ []) =
+    ap (λ (l : List Lexeme). l ++ Op And ∷ []) r.parts ∙ append_assoc r.front r.back (Op And ∷ []) in
+    moved g (Wants (Left (By And) c.0 ∷ T)) y _ w.1
+    (subst (λ (l : List Lexeme). Spells g (Left (By And) c.0 ∷ T) l) (sym at) (left r.spells operand r.loose w.0))
 
-and_top_moves : (g : Sort) (T : List Part) (q : Piece) (y : State) (all : List Lexeme) → Reduced g 4 T q all → and_top g T q ≡ Some y → After g y (all ++ Op And ∷ [])
+and_top_moves : (g : Sort) (T : List Part) (q : Piece) (y : State) (all : List Lexeme) → Reduced g 4 T q all → and_top g T q ≡ Some y
+    → After g y (all ++ Op And ∷ [])
 and_top_moves g (Inside (Evolves n l x) ∷ S) q y all r e =
     let o = open_inside r.spells in
     close_moves g (Op And) (Evolves n l x) S q y all o.0 o.1 r.back r.front r.height o.2 o.3 o.4 r.parts r.known r.some r.good e
 and_top_moves g T q y all r e = and_joins g T q y all r e
 
-infix_moves : (g : Sort) (o : Infix) (S : List Part) (p : Piece) (y : State) (all : List Lexeme) → HasRead g S p all → infix_after g o S p ≡ Some y → After g y (all ++ Op o ∷ [])
+infix_moves : (g : Sort) (o : Infix) (S : List Part) (p : Piece) (y : State) (all : List Lexeme) → HasRead g S p all → infix_after g o S p ≡ Some y
+    → After g y (all ++ Op o ∷ [])
 infix_moves g And S p y all h e =
     let b = bind_some (reduce 4 S p) (λ r. and_top g r.0 r.1) y e in
     and_top_moves g b.0.0 b.0.1 y all (reduced_all g 4 S p all b.0.0 b.0.1 h b.1) b.2
@@ -384,16 +447,19 @@ next_fits g S p T e =
     let w = when_is (fits g Program b.0.0) (Some (Left Next c.0 ∷ b.0.0)) T c.2 in
     subst (λ (U : List Part). fits g Program U ≡ true) (some_eq (Left Next c.0 ∷ b.0.0) T w.1) refl
 
-next_moves : (g : Sort) (k : Lexeme) (S : List Part) (p : Piece) (y : State) (all : List Lexeme) → HasRead g S p all → next_after g S p k ≡ Some y → After g y (all ++ k ∷ [])
+next_moves : (g : Sort) (k : Lexeme) (S : List Part) (p : Piece) (y : State) (all : List Lexeme) → HasRead g S p all → next_after g S p k ≡ Some y
+    → After g y (all ++ k ∷ [])
 next_moves g k S p y all h e =
     let b = bind_some (after_operand g Next S p) (λ T. start_statement T k) y e in
     let sp : Spells g b.0 all = subst (λ (l : List Lexeme). Spells g b.0 l) (append-nil all) (operator_spells g Next S p all b.0 h b.1) in
     statement_moves g b.0 k y all (next_fits g S p b.0 b.1) sp b.2
 
 -- more tokens of the piece
-grows : (g : Sort) (S : List Part) (p q : Piece) (all r : List Lexeme) (c : Lexeme) (h : HasRead g S p all) → h.back ≡ r → Known 11 q (r ++ c ∷ []) → Tailed (tail_of q) q (r ++ c ∷ []) → Good g S q → HasRead g S q (all ++ c ∷ [])
+grows : (g : Sort) (S : List Part) (p q : Piece) (all r : List Lexeme) (c : Lexeme) (h : HasRead g S p all) → h.back ≡ r → Known 11 q (r ++ c ∷ [])
+    → Tailed (tail_of q) q (r ++ c ∷ []) → Good g S q → HasRead g S q (all ++ c ∷ [])
 grows g S p q all r c h e k t o =
-    let at : all ++ c ∷ [] ≡ h.front ++ (r ++ c ∷ []) = ap (λ (l : List Lexeme). l ++ c ∷ []) (h.parts ∙ ap (λ (l : List Lexeme). h.front ++ l) e) ∙ append_assoc h.front r (c ∷ []) in
+    let at : all ++ c ∷ [] ≡ h.front ++ (r ++ c ∷ []) =
+    ap (λ (l : List Lexeme). l ++ c ∷ []) (h.parts ∙ ap (λ (l : List Lexeme). h.front ++ l) e) ∙ append_assoc h.front r (c ∷ []) in
     subst (λ (l : List Lexeme). HasRead g S q l) (sym at) (as_text g S h.front (r ++ c ∷ []) q h.spells k t o)
 
 program_fits : (g : Sort) (S : List Part) (r : Sort) → program_sort r ≡ true → fits g r S ≡ true → fits g Program S ≡ true
@@ -410,10 +476,13 @@ good_term g S p t l e o =
     subst (λ (r : Sort). fits g r S ≡ true) (sym w.0) o.3
 
 -- a token behind a brace
-group_grows : (g : Sort) (S : List Part) (p : Piece) (all : List Lexeme) (h : HasRead g S p all) (c : Lexeme) (t : Phrase) (l : Tail) → is_program p ≡ true → Reads stmt (h.back ++ c ∷ []) t → Tailed l (Is Program t l) (h.back ++ c ∷ []) → HasRead g S (Is Program t l) (all ++ c ∷ [])
-group_grows g S p all h c t l i d tail = grows g S p (Is Program t l) all h.back c h refl (from_stmt t l _ d) tail (Program, t, refl, good_program g S p i h.good)
+group_grows : (g : Sort) (S : List Part) (p : Piece) (all : List Lexeme) (h : HasRead g S p all) (c : Lexeme) (t : Phrase) (l : Tail) → is_program p ≡ true
+    → Reads stmt (h.back ++ c ∷ []) t → Tailed l (Is Program t l) (h.back ++ c ∷ []) → HasRead g S (Is Program t l) (all ++ c ∷ [])
+group_grows g S p all h c t l i d tail =
+    grows g S p (Is Program t l) all h.back c h refl (from_stmt t l _ d) tail (Program, t, refl, good_program g S p i h.good)
 
-star_moves : (g : Sort) (S : List Part) (p : Piece) (y : State) (all : List Lexeme) → HasRead g S p all → star_after S p ≡ Some y → After g y (all ++ Op Mul ∷ [])
+star_moves : (g : Sort) (S : List Part) (p : Piece) (y : State) (all : List Lexeme) → HasRead g S p all → star_after S p ≡ Some y
+    → After g y (all ++ Op Mul ∷ [])
 star_moves g S (Is s t Braced) y all h e =
     let w = h.tail in
     let n : Noting (h.back ++ Op Mul ∷ []) (Loop w.0) = noting w.1 star-loop in
@@ -424,19 +493,33 @@ star_moves g S _ y all h e = absurd cc
 semi_moves : (g : Sort) (S : List Part) (p : Piece) (y : State) (all : List Lexeme) → HasRead g S p all → semi_after S p ≡ Some y → After g y (all ++ Semi ∷ [])
 semi_moves g S (Is s t Braced) y all h e =
     let w = h.tail in
-    moved g (Has S (Is Program w.0 Done)) y _ (sym (ap (semi_after S) w.2) ∙ e) (group_grows g S (Is s t Braced) all h Semi w.0 Done (ap is_program w.2) (end_semi (end_note (note_brace w.1))) tt)
+    moved g (Has S (Is Program w.0 Done)) y _ (sym (ap (semi_after S) w.2) ∙ e)
+    (group_grows g S (Is s t Braced) all h Semi w.0 Done (ap is_program w.2) (end_semi (end_note (note_brace w.1))) tt)
 semi_moves g S (Is s t Starred) y all h e =
     let w = h.tail in
-    moved g (Has S (Is Program w.0 Done)) y _ (sym (ap (semi_after S) w.2) ∙ e) (group_grows g S (Is s t Starred) all h Semi w.0 Done (ap is_program w.2) (end_semi (end_note w.1)) tt)
+    moved g (Has S (Is Program w.0 Done)) y _ (sym (ap (semi_after S) w.2) ∙ e)
+    (group_grows g S (Is s t Starred) all h Semi w.0 Done (ap is_program w.2) (end_semi (end_note w.1)) tt)
 semi_moves g S (Is s t Annotated) y all h e =
     let w = h.tail in
-    moved g (Has S (Is Program w.0 Done)) y _ (sym (ap (semi_after S) w.2) ∙ e) (group_grows g S (Is s t Annotated) all h Semi w.0 Done (ap is_program w.2) (end_semi w.1) tt)
+    moved g (Has S (Is Program w.0 Done)) y _ (sym (ap (semi_after S) w.2) ∙ e)
+    (group_grows g S (Is s t Annotated) all h Semi w.0 Done (ap is_program w.2) (end_semi w.1) tt)
 semi_moves g S _ y all h e = absurd cc
 
-notes_begin : (g : Sort) (S : List Part) (p : Piece) (all : List Lexeme) (h : HasRead g S p all) (t : Phrase) → is_program p ≡ true → Noting h.back t → After g (Invariants S t) (all ++ Invariant ∷ [])
-notes_begin g S p all h t i n = (h.back, n, record { front = h.front; spells = h.spells; fit = good_program g S p i h.good; parts = ap (λ (l : List Lexeme). l ++ Invariant ∷ []) h.parts ∙ append_assoc h.front h.back (Invariant ∷ []) })
+notes_begin : (g : Sort) (S : List Part) (p : Piece) (all : List Lexeme) (h : HasRead g S p all) (t : Phrase) → is_program p ≡ true → Noting h.back t
+    → After g (Invariants S t) (all ++ Invariant ∷ [])
+notes_begin g S p all h t i n = (
+  h.back,
+  n,
+  record {
+    front = h.front;
+    spells = h.spells;
+    fit = good_program g S p i h.good;
+    parts = ap (λ (l : List Lexeme). l ++ Invariant ∷ []) h.parts ∙ append_assoc h.front h.back (Invariant ∷ []);
+  },
+)
 
-invariant_moves : (g : Sort) (S : List Part) (p : Piece) (y : State) (all : List Lexeme) → HasRead g S p all → invariant_after S p ≡ Some y → After g y (all ++ Invariant ∷ [])
+invariant_moves : (g : Sort) (S : List Part) (p : Piece) (y : State) (all : List Lexeme) → HasRead g S p all → invariant_after S p ≡ Some y
+    → After g y (all ++ Invariant ∷ [])
 invariant_moves g S (Is s t Braced) y all h e =
     let w = h.tail in
     moved g (Invariants S w.0) y _ (sym (ap (invariant_after S) w.2) ∙ e) (notes_begin g S (Is s t Braced) all h w.0 (ap is_program w.2) (note_brace w.1))
@@ -446,18 +529,28 @@ invariant_moves g S (Is s t Starred) y all h e =
 invariant_moves g S _ y all h e = absurd cc
 
 -- a token behind a lone name
-name_midway : (g : Sort) (S : List Part) (p : Piece) (all : List Lexeme) (h : HasRead g S p all) (n : ℕ) (x : Word) (k : Lexeme) (r : Sort) → h.back ≡ Name n x ∷ [] → fits g r S ≡ true → Midway g S (Name n x ∷ k ∷ []) r (all ++ k ∷ [])
-name_midway g S p all h n x k r e f = record { front = h.front; spells = h.spells; fit = f; parts = ap (λ (l : List Lexeme). l ++ k ∷ []) (h.parts ∙ ap (λ (l : List Lexeme). h.front ++ l) e) ∙ append_assoc h.front (Name n x ∷ []) (k ∷ []) }
+name_midway : (g : Sort) (S : List Part) (p : Piece) (all : List Lexeme) (h : HasRead g S p all) (n : ℕ) (x : Word) (k : Lexeme) (r : Sort)
+    → h.back ≡ Name n x ∷ [] → fits g r S ≡ true → Midway g S (Name n x ∷ k ∷ []) r (all ++ k ∷ [])
+name_midway g S p all h n x k r e f = record {
+  front = h.front;
+  spells = h.spells;
+  fit = f;
+  parts = ap (λ (l : List Lexeme). l ++ k ∷ []) (h.parts ∙ ap (λ (l : List Lexeme). h.front ++ l) e) ∙ append_assoc h.front (Name n x ∷ []) (k ∷ []);
+}
 
-name_moves : (g : Sort) (S : List Part) (p : Piece) (k : Lexeme) (y : State) (all : List Lexeme) (h : HasRead g S p all) (l : Tail) → Tailed l p h.back → name_after g S k l ≡ Some y → After g y (all ++ k ∷ [])
+name_moves : (g : Sort) (S : List Part) (p : Piece) (k : Lexeme) (y : State) (all : List Lexeme) (h : HasRead g S p all) (l : Tail) → Tailed l p h.back
+    → name_after g S k l ≡ Some y → After g y (all ++ k ∷ [])
 name_moves g S p Open y all h (Bare n x) t e = moved g (Calls S n x) y _ e (name_midway g S p all h n x Open Term t.0 (good_term g S p _ _ t.1 h.good))
 name_moves g S p RoundBar y all h (Bare n x) t e = moved g (Bars S x) y _ e (n, name_midway g S p all h n x RoundBar Term t.0 (good_term g S p _ _ t.1 h.good))
 name_moves g S p RoundBars y all h (Bare n x) t e =
-    moved g (Has S (Symbol (Any x Everywhere) 0 Done)) y _ e (grows g S p (Symbol (Any x Everywhere) 0 Done) all (Name n x ∷ []) RoundBars h t.0 (from_symbol (Any x Everywhere) _ prim-any atom-any) tt (Term, Apply (Any x Everywhere), refl, good_term g S p _ _ t.1 h.good))
+    moved g (Has S (Symbol (Any x Everywhere) 0 Done)) y _ e
+    (grows g S p (Symbol (Any x Everywhere) 0 Done) all (Name n x ∷ []) RoundBars h t.0 (from_symbol (Any x Everywhere) _ prim-any atom-any) tt
+    (Term, Apply (Any x Everywhere), refl, good_term g S p _ _ t.1 h.good))
 name_moves g S p (OpenBrace m) y all h (Bare n x) t e =
     let w = when_is (fits g Formula S) (Some (Wants (Inside (InContext x) ∷ S))) y e in
     let a = name_midway g S p all h n x (OpenBrace m) Formula t.0 w.0 in
-    moved g (Wants (Inside (InContext x) ∷ S)) y _ w.1 (subst (λ (l : List Lexeme). Spells g (Inside (InContext x) ∷ S) l) (sym a.parts) (inside a.spells (context-text a.fit)))
+    moved g (Wants (Inside (InContext x) ∷ S)) y _ w.1
+    (subst (λ (l : List Lexeme). Spells g (Inside (InContext x) ∷ S) l) (sym a.parts) (inside a.spells (context-text a.fit)))
 name_moves g S p _ y all h _ t e = absurd cc
 
 primed_tail : (p : Piece) → is_program p ≡ false → tail_of (primed p) ≡ Done
@@ -466,7 +559,8 @@ primed_tail (Is Formula t l) e = refl
 primed_tail (Is Program t l) e = absurd cc
 primed_tail (Symbol x n l) e = refl
 
-primed_from : (r : Sort) (p : Piece) (t : Phrase) → is_program p ≡ false → as_sort r (primed p) ≡ Some t → (u : Phrase) × (as_sort r p ≡ Some u) × (((r ≡ Term) × (Diff u ≡ t)) ⊎ ((r ≡ Formula) × (DiffF u ≡ t)))
+primed_from : (r : Sort) (p : Piece) (t : Phrase) → is_program p ≡ false → as_sort r (primed p) ≡ Some t
+    → (u : Phrase) × (as_sort r p ≡ Some u) × (((r ≡ Term) × (Diff u ≡ t)) ⊎ ((r ≡ Formula) × (DiffF u ≡ t)))
 primed_from Term (Is Term u l) t i e = (u, refl, inl (refl, some_eq _ t e))
 primed_from Formula (Is Formula u l) t i e = (u, refl, inr (refl, some_eq _ t e))
 primed_from Term (Symbol x n l) t i e = (primes n (Apply x), refl, inl (refl, some_eq _ t e))
@@ -496,24 +590,38 @@ good_primed g S p i o = go o.0 p o.1 i o.2 o.3
 term_not_formula : Term ≡ Formula → ⊥
 term_not_formula e = absurd cc
 
-primed_known : (p : Piece) (s : List Lexeme) → is_program p ≡ false → ((t : Phrase) → as_sort Term p ≡ Some t → Reads term s t) → ((t : Phrase) → as_sort Formula p ≡ Some t → Reads formula s t) → Known 11 (primed p) (Open ∷ (s ++ Close ∷ Prime ∷ []))
+primed_known : (p : Piece) (s : List Lexeme) → is_program p ≡ false → ((t : Phrase) → as_sort Term p ≡ Some t → Reads term s t)
+    → ((t : Phrase) → as_sort Formula p ≡ Some t → Reads formula s t) → Known 11 (primed p) (Open ∷ (s ++ Close ∷ Prime ∷ []))
 primed_known p s i f g = known_from (primed p) (Open ∷ (s ++ Close ∷ Prime ∷ []))
-    (λ t e. let w = primed_from Term p t i e in elim w.2 [ inl v ↦ subst (λ (x : Phrase). Reads prim (Open ∷ (s ++ Close ∷ Prime ∷ [])) x) v.1 (prim-diff (f w.0 w.1)) | inr v ↦ absurd (term_not_formula v.0) ])
-    (λ t e. let w = primed_from Formula p t i e in elim w.2 [ inr v ↦ subst (λ (x : Phrase). Reads atom (Open ∷ (s ++ Close ∷ Prime ∷ [])) x) v.1 (atom-diff (g w.0 w.1)) | inl v ↦ absurd (term_not_formula (sym v.0)) ])
+    (λ t e.
+    let w = primed_from Term p t i e in
+    elim w.2
+    [ inl v ↦ subst (λ (x : Phrase). Reads prim (Open ∷ (s ++ Close ∷ Prime ∷ [])) x) v.1 (prim-diff (f w.0 w.1)) | inr v ↦ absurd (term_not_formula v.0) ])
+    (λ t e.
+    let w = primed_from Formula p t i e in
+    elim w.2 [
+      | inl v ↦ absurd (term_not_formula (sym v.0))
+      | inr v ↦ subst (λ (x : Phrase). Reads atom (Open ∷ (s ++ Close ∷ Prime ∷ [])) x) v.1 (atom-diff (g w.0 w.1))
+    ])
     (λ t e. let w = primed_from Program p t i e in let z = not_program p i in absurd (let v = w.1 in cc))
 
-prime_moves : (g : Sort) (S : List Part) (p : Piece) (y : State) (all : List Lexeme) (h : HasRead g S p all) (l : Tail) → Tailed l p h.back → prime_after S p l ≡ Some y → After g y (all ++ Prime ∷ [])
+prime_moves : (g : Sort) (S : List Part) (p : Piece) (y : State) (all : List Lexeme) (h : HasRead g S p all) (l : Tail) → Tailed l p h.back
+    → prime_after S p l ≡ Some y → After g y (all ++ Prime ∷ [])
 prime_moves g S p y all h (Bare n x) t e =
-    moved g (Has S (Is Term (Variable x true) Done)) y _ e (grows g S p (Is Term (Variable x true) Done) all (Name n x ∷ []) Prime h t.0 (from_prim _ _ _ prim-primed) tt (Term, Variable x true, refl, good_term g S p _ _ t.1 h.good))
+    moved g (Has S (Is Term (Variable x true) Done)) y _ e
+    (grows g S p (Is Term (Variable x true) Done) all (Name n x ∷ []) Prime h t.0 (from_prim _ _ _ prim-primed) tt
+    (Term, Variable x true, refl, good_term g S p _ _ t.1 h.good))
 prime_moves g S p y all h Grouped t e =
-    let at : (Open ∷ (t.0 ++ Close ∷ [])) ++ Prime ∷ [] ≡ Open ∷ (t.0 ++ Close ∷ Prime ∷ []) = ap (λ (l : List Lexeme). Open ∷ l) (append_assoc t.0 (Close ∷ []) (Prime ∷ [])) in
+    let at : (Open ∷ (t.0 ++ Close ∷ [])) ++ Prime ∷ [] ≡ Open ∷ (t.0 ++ Close ∷ Prime ∷ []) =
+    ap (λ (l : List Lexeme). Open ∷ l) (append_assoc t.0 (Close ∷ []) (Prime ∷ [])) in
     moved g (Has S (primed p)) y _ e (grows g S p (primed p) all (Open ∷ (t.0 ++ Close ∷ [])) Prime h t.1
     (subst (λ (l : List Lexeme). Known 11 (primed p) l) (sym at) (primed_known p t.0 t.4 t.2 t.3))
     (subst (λ (k : Tail). Tailed k (primed p) ((Open ∷ (t.0 ++ Close ∷ [])) ++ Prime ∷ [])) (sym (primed_tail p t.4)) tt)
     (good_primed g S p t.4 h.good))
 prime_moves g S p y all h _ t e = absurd cc
 
-program_moves : (g : Sort) (S : List Part) (p : Piece) (k : Lexeme) (y : State) (all : List Lexeme) → HasRead g S p all → after_program g S p k ≡ Some y → After g y (all ++ k ∷ [])
+program_moves : (g : Sort) (S : List Part) (p : Piece) (k : Lexeme) (y : State) (all : List Lexeme) → HasRead g S p all → after_program g S p k ≡ Some y
+    → After g y (all ++ k ∷ [])
 program_moves g S p (Op Mul) y all h e = star_moves g S p y all h e
 program_moves g S p (Op Choice) y all h e = infix_moves g Choice S p y all h e
 program_moves g S p (Op Greater) y all h e = closing_moves g (Op Greater) S p y all h e
@@ -526,7 +634,8 @@ program_moves g S p Query y all h e = next_moves g Query S p y all h e
 program_moves g S p (OpenBrace n) y all h e = next_moves g (OpenBrace n) S p y all h e
 program_moves g S p _ y all h e = absurd cc
 
-other_moves : (g : Sort) (S : List Part) (p : Piece) (k : Lexeme) (y : State) (all : List Lexeme) → HasRead g S p all → after_other g S p k ≡ Some y → After g y (all ++ k ∷ [])
+other_moves : (g : Sort) (S : List Part) (p : Piece) (k : Lexeme) (y : State) (all : List Lexeme) → HasRead g S p all → after_other g S p k ≡ Some y
+    → After g y (all ++ k ∷ [])
 other_moves g S p (Op o) y all h e = infix_moves g o S p y all h e
 other_moves g S p Open y all h e = name_moves g S p Open y all h (tail_of p) h.tail e
 other_moves g S p RoundBars y all h e = name_moves g S p RoundBars y all h (tail_of p) h.tail e
@@ -539,37 +648,59 @@ other_moves g S p Comma y all h e = closing_moves g Comma S p y all h e
 other_moves g S p Semi y all h e = closing_moves g Semi S p y all h e
 other_moves g S p _ y all h e = absurd cc
 
-args_begin : (g : Sort) (S : List Part) (n : ℕ) (x : Word) (k : Lexeme) (y : State) (all : List Lexeme) → Midway g S (Name n x ∷ Open ∷ []) Term all → start_operand g (Inside (Args n x none) ∷ S) k ≡ Some y → After g y (all ++ k ∷ [])
-args_begin g S n x k y all a e = operand_moves g (Inside (Args n x none) ∷ S) k y all refl (subst (λ (l : List Lexeme). Spells g (Inside (Args n x none) ∷ S) l) (sym a.parts) (inside a.spells (args-text list-begins a.fit))) e
+args_begin : (g : Sort) (S : List Part) (n : ℕ) (x : Word) (k : Lexeme) (y : State) (all : List Lexeme) → Midway g S (Name n x ∷ Open ∷ []) Term all
+    → start_operand g (Inside (Args n x none) ∷ S) k ≡ Some y → After g y (all ++ k ∷ [])
+args_begin g S n x k y all a e =
+    operand_moves g (Inside (Args n x none) ∷ S) k y all refl
+    (subst (λ (l : List Lexeme). Spells g (Inside (Args n x none) ∷ S) l) (sym a.parts) (inside a.spells (args-text list-begins a.fit))) e
 
-call_moves : (g : Sort) (S : List Part) (n : ℕ) (x : Word) (k : Lexeme) (y : State) (all : List Lexeme) → Midway g S (Name n x ∷ Open ∷ []) Term all → call_step g S n x k ≡ Some y → After g y (all ++ k ∷ [])
-call_moves g S n x Close y all a e = moved g (Has S (Symbol (Call n x none) 0 Done)) y _ e (midway_text g S (Name n x ∷ Open ∷ []) Term all Close (Symbol (Call n x none) 0 Done) a (from_symbol (Call n x none) _ prim-nullary atom-nullary) tt (Term, Apply (Call n x none), refl, a.fit))
+call_moves : (g : Sort) (S : List Part) (n : ℕ) (x : Word) (k : Lexeme) (y : State) (all : List Lexeme) → Midway g S (Name n x ∷ Open ∷ []) Term all
+    → call_step g S n x k ≡ Some y → After g y (all ++ k ∷ [])
+call_moves g S n x Close y all a e =
+    moved g (Has S (Symbol (Call n x none) 0 Done)) y _ e
+    (midway_text g S (Name n x ∷ Open ∷ []) Term all Close (Symbol (Call n x none) 0 Done) a (from_symbol (Call n x none) _ prim-nullary atom-nullary) tt
+    (Term, Apply (Call n x none), refl, a.fit))
 call_moves g S n x k y all a e = args_begin g S n x k y all a e
 
-bars_moves : (g : Sort) (S : List Part) (x : Word) (k : Lexeme) (y : State) (all : List Lexeme) (n : ℕ) → Midway g S (Name n x ∷ RoundBar ∷ []) Term all → bars_step S x k ≡ Some y → After g y (all ++ k ∷ [])
+bars_moves : (g : Sort) (S : List Part) (x : Word) (k : Lexeme) (y : State) (all : List Lexeme) (n : ℕ) → Midway g S (Name n x ∷ RoundBar ∷ []) Term all
+    → bars_step S x k ≡ Some y → After g y (all ++ k ∷ [])
 bars_moves g S x (Name m z) y all n a e = moved g (BarsName S x z) y _ e (n, m, midway_more g S (Name n x ∷ RoundBar ∷ []) Term all (Name m z) a)
 bars_moves g S x _ y all n a e = absurd cc
 
-bars_name_moves : (g : Sort) (S : List Part) (x z : Word) (k : Lexeme) (y : State) (all : List Lexeme) (n m : ℕ) → Midway g S (Name n x ∷ RoundBar ∷ Name m z ∷ []) Term all → bars_name_step S x z k ≡ Some y → After g y (all ++ k ∷ [])
-bars_name_moves g S x z BarRound y all n m a e = moved g (Has S (Symbol (Any x (Except z)) 0 Done)) y _ e (midway_text g S (Name n x ∷ RoundBar ∷ Name m z ∷ []) Term all BarRound (Symbol (Any x (Except z)) 0 Done) a (from_symbol (Any x (Except z)) _ prim-except atom-except) tt (Term, Apply (Any x (Except z)), refl, a.fit))
+bars_name_moves : (g : Sort) (S : List Part) (x z : Word) (k : Lexeme) (y : State) (all : List Lexeme) (n m : ℕ)
+    → Midway g S (Name n x ∷ RoundBar ∷ Name m z ∷ []) Term all → bars_name_step S x z k ≡ Some y → After g y (all ++ k ∷ [])
+bars_name_moves g S x z BarRound y all n m a e =
+    moved g (Has S (Symbol (Any x (Except z)) 0 Done)) y _ e
+    (midway_text g S (Name n x ∷ RoundBar ∷ Name m z ∷ []) Term all BarRound (Symbol (Any x (Except z)) 0 Done) a
+    (from_symbol (Any x (Except z)) _ prim-except atom-except) tt (Term, Apply (Any x (Except z)), refl, a.fit))
 bars_name_moves g S x z _ y all n m a e = absurd cc
 
 bound_text : (q : Quantifier) (n : ℕ) (x : Word) → PrefixText (Bound q x) (quantifier_token q ∷ Name n x ∷ [])
 bound_text ForAll n x = forall-text
 bound_text ForSome n x = exists-text
 
-bind_moves : (g : Sort) (S : List Part) (q : Quantifier) (k : Lexeme) (y : State) (all : List Lexeme) → Midway g S (quantifier_token q ∷ []) Formula all → bind_step S q k ≡ Some y → After g y (all ++ k ∷ [])
-bind_moves g S q (Name n x) y all a e = moved g (Wants (Before (Bound q x) ∷ S)) y _ e (midway_spells g S (Before (Bound q x) ∷ S) (quantifier_token q ∷ []) Formula all (Name n x) a (before a.spells (bound_text q n x) (loose_formula g S a.fit) a.fit))
+bind_moves : (g : Sort) (S : List Part) (q : Quantifier) (k : Lexeme) (y : State) (all : List Lexeme) → Midway g S (quantifier_token q ∷ []) Formula all
+    → bind_step S q k ≡ Some y → After g y (all ++ k ∷ [])
+bind_moves g S q (Name n x) y all a e =
+    moved g (Wants (Before (Bound q x) ∷ S)) y _ e
+    (midway_spells g S (Before (Bound q x) ∷ S) (quantifier_token q ∷ []) Formula all (Name n x) a
+    (before a.spells (bound_text q n x) (loose_formula g S a.fit) a.fit))
 bind_moves g S q _ y all a e = absurd cc
 
-named_moves : (g : Sort) (S : List Part) (x : Word) (k : Lexeme) (y : State) (all : List Lexeme) (n : ℕ) → Midway g S (Name n x ∷ []) Program all → statement_step S x k ≡ Some y → After g y (all ++ k ∷ [])
-named_moves g S x Semi y all n a e = moved g (Has S (Is Program (Const x) Done)) y _ e (midway_text g S (Name n x ∷ []) Program all Semi (Is Program (Const x) Done) a (from_stmt _ _ _ stmt-const) tt (Program, Const x, refl, a.fit))
+named_moves : (g : Sort) (S : List Part) (x : Word) (k : Lexeme) (y : State) (all : List Lexeme) (n : ℕ) → Midway g S (Name n x ∷ []) Program all
+    → statement_step S x k ≡ Some y → After g y (all ++ k ∷ [])
+named_moves g S x Semi y all n a e =
+    moved g (Has S (Is Program (Const x) Done)) y _ e
+    (midway_text g S (Name n x ∷ []) Program all Semi (Is Program (Const x) Done) a (from_stmt _ _ _ stmt-const) tt (Program, Const x, refl, a.fit))
 named_moves g S x Gets y all n a e = moved g (StartsGets S x) y _ e (n, midway_more g S (Name n x ∷ []) Program all Gets a)
 named_moves g S x Prime y all n a e = moved g (StartsPrime S x) y _ e (n, midway_more g S (Name n x ∷ []) Program all Prime a)
 named_moves g S x _ y all n a e = absurd cc
 
-named_prime_moves : (g : Sort) (S : List Part) (x : Word) (k : Lexeme) (y : State) (all : List Lexeme) (n : ℕ) → Midway g S (Name n x ∷ Prime ∷ []) Program all → statement_prime_step S x k ≡ Some y → After g y (all ++ k ∷ [])
-named_prime_moves g S x Gets y all n a e = moved g (Wants (Inside (Assigns x true) ∷ S)) y _ e (midway_spells g S (Inside (Assigns x true) ∷ S) (Name n x ∷ Prime ∷ []) Program all Gets a (inside a.spells (assigns_prime-text a.fit)))
+named_prime_moves : (g : Sort) (S : List Part) (x : Word) (k : Lexeme) (y : State) (all : List Lexeme) (n : ℕ)
+    → Midway g S (Name n x ∷ Prime ∷ []) Program all → statement_prime_step S x k ≡ Some y → After g y (all ++ k ∷ [])
+named_prime_moves g S x Gets y all n a e =
+    moved g (Wants (Inside (Assigns x true) ∷ S)) y _ e
+    (midway_spells g S (Inside (Assigns x true) ∷ S) (Name n x ∷ Prime ∷ []) Program all Gets a (inside a.spells (assigns_prime-text a.fit)))
 named_prime_moves g S x _ y all n a e = absurd cc
 
 value_begin : (g : Sort) (S : List Part) (x : Word) (k : Lexeme) (y : State) (all : List Lexeme) (n : ℕ)
@@ -592,56 +723,107 @@ named_star_moves g S x Semi y all n a e =
 named_star_moves g S x _ y all n a e = absurd cc
 
 -- the tokens behind a brace as those of its program
-brace_midway : (g : Sort) (S : List Part) (n : ℕ) (own : List Lexeme) (all : List Lexeme) → Midway g S (OpenBrace n ∷ own) Program all → Midway g (Inside InBrace ∷ S) own Program all
-brace_midway g S n own all a = record { front = a.front ++ OpenBrace n ∷ []; spells = inside a.spells (brace-text a.fit); fit = refl; parts = a.parts ∙ sym (append_assoc a.front (OpenBrace n ∷ []) own) }
+brace_midway : (g : Sort) (S : List Part) (n : ℕ) (own : List Lexeme) (all : List Lexeme) → Midway g S (OpenBrace n ∷ own) Program all
+    → Midway g (Inside InBrace ∷ S) own Program all
+brace_midway g S n own all a = record {
+  front = a.front ++ OpenBrace n ∷ [];
+  spells = inside a.spells (brace-text a.fit);
+  fit = refl;
+  parts = a.parts ∙ sym (append_assoc a.front (OpenBrace n ∷ []) own);
+}
 
-flow_moves : (g : Sort) (S : List Part) (n : ℕ) (l : Items) (x : Word) (k : Lexeme) (y : State) (all j : List Lexeme) (m : ℕ) → ItemsBefore l j → Midway g S (OpenBrace n ∷ (j ++ Name m x ∷ [])) Program all → items_step S n (add l (Flow x Everywhere)) k ≡ Some y → After g y (all ++ k ∷ [])
+flow_moves : (g : Sort) (S : List Part) (n : ℕ) (l : Items) (x : Word) (k : Lexeme) (y : State) (all j : List Lexeme) (m : ℕ) → ItemsBefore l j
+    → Midway g S (OpenBrace n ∷ (j ++ Name m x ∷ [])) Program all → items_step S n (add l (Flow x Everywhere)) k ≡ Some y → After g y (all ++ k ∷ [])
 flow_moves g S n l x k y all j m b a e = items_moves g S n (add l (Flow x Everywhere)) k y all (j ++ Name m x ∷ []) (items_joined b item-flow) a e
 
-item_name_moves : (g : Sort) (S : List Part) (n : ℕ) (l : Items) (x : Word) (k : Lexeme) (y : State) (all j : List Lexeme) (m : ℕ) → ItemsBefore l j → Midway g S (OpenBrace n ∷ (j ++ Name m x ∷ [])) Program all → item_name_step S n l x k ≡ Some y → After g y (all ++ k ∷ [])
-item_name_moves g S n l x Prime y all j m b a e = moved g (ItemPrime S n l x) y _ e (j, m, b, midway_same g S _ _ Program _ (ap (λ (z : List Lexeme). OpenBrace n ∷ z) (append_assoc j (Name m x ∷ []) (Prime ∷ []))) (midway_more g S (OpenBrace n ∷ (j ++ Name m x ∷ [])) Program all Prime a))
-item_name_moves g S n l x BraceBar y all j m b a e = moved g (ItemBar S n l x) y _ e (j, m, b, midway_same g S _ _ Program _ (ap (λ (z : List Lexeme). OpenBrace n ∷ z) (append_assoc j (Name m x ∷ []) (BraceBar ∷ []))) (midway_more g S (OpenBrace n ∷ (j ++ Name m x ∷ [])) Program all BraceBar a))
+item_name_moves : (g : Sort) (S : List Part) (n : ℕ) (l : Items) (x : Word) (k : Lexeme) (y : State) (all j : List Lexeme) (m : ℕ) → ItemsBefore l j
+    → Midway g S (OpenBrace n ∷ (j ++ Name m x ∷ [])) Program all → item_name_step S n l x k ≡ Some y → After g y (all ++ k ∷ [])
+item_name_moves g S n l x Prime y all j m b a e =
+    moved g (ItemPrime S n l x) y _ e (
+      j,
+      m,
+      b,
+      midway_same g S _ _ Program _ (ap (λ (z : List Lexeme). OpenBrace n ∷ z) (append_assoc j (Name m x ∷ []) (Prime ∷ [])))
+          (midway_more g S (OpenBrace n ∷ (j ++ Name m x ∷ [])) Program all Prime a),
+    )
+item_name_moves g S n l x BraceBar y all j m b a e =
+    moved g (ItemBar S n l x) y _ e (
+      j,
+      m,
+      b,
+      midway_same g S _ _ Program _ (ap (λ (z : List Lexeme). OpenBrace n ∷ z) (append_assoc j (Name m x ∷ []) (BraceBar ∷ [])))
+          (midway_more g S (OpenBrace n ∷ (j ++ Name m x ∷ [])) Program all BraceBar a),
+    )
 item_name_moves g S n l x k y all j m b a e = flow_moves g S n l x k y all j m b a e
 
-item_prime_moves : (g : Sort) (S : List Part) (n : ℕ) (l : Items) (x : Word) (k : Lexeme) (y : State) (all j : List Lexeme) (m : ℕ) → ItemsBefore l j → Midway g S (OpenBrace n ∷ (j ++ Name m x ∷ Prime ∷ [])) Program all → item_prime_step S n l x k ≡ Some y → After g y (all ++ k ∷ [])
+item_prime_moves : (g : Sort) (S : List Part) (n : ℕ) (l : Items) (x : Word) (k : Lexeme) (y : State) (all j : List Lexeme) (m : ℕ) → ItemsBefore l j
+    → Midway g S (OpenBrace n ∷ (j ++ Name m x ∷ Prime ∷ [])) Program all → item_prime_step S n l x k ≡ Some y → After g y (all ++ k ∷ [])
 item_prime_moves g S n l x (Op Equal) y all j m b a e =
-    let c = midway_same g S _ _ Program _ (ap (λ (z : List Lexeme). OpenBrace n ∷ z) (append_assoc j (Name m x ∷ Prime ∷ []) (Op Equal ∷ []))) (midway_more g S (OpenBrace n ∷ (j ++ Name m x ∷ Prime ∷ [])) Program all (Op Equal) a) in
-    moved g (Wants (Inside (Evolves n l x) ∷ S)) y _ e (subst (λ (z : List Lexeme). Spells g (Inside (Evolves n l x) ∷ S) z) (sym c.parts) (inside c.spells (evolves-text m b c.fit)))
+    let c =
+    midway_same g S _ _ Program _ (ap (λ (z : List Lexeme). OpenBrace n ∷ z) (append_assoc j (Name m x ∷ Prime ∷ []) (Op Equal ∷ [])))
+    (midway_more g S (OpenBrace n ∷ (j ++ Name m x ∷ Prime ∷ [])) Program all (Op Equal) a) in
+    moved g (Wants (Inside (Evolves n l x) ∷ S)) y _ e
+    (subst (λ (z : List Lexeme). Spells g (Inside (Evolves n l x) ∷ S) z) (sym c.parts) (inside c.spells (evolves-text m b c.fit)))
 item_prime_moves g S n l x _ y all j m b a e = absurd cc
 
-items_begin_moves : (g : Sort) (S : List Part) (n : ℕ) (l : Items) (k : Lexeme) (y : State) (all j : List Lexeme) → ItemsBefore l j → Midway g S (OpenBrace n ∷ j) Program all → items_begin S n l k ≡ Some y → After g y (all ++ k ∷ [])
+items_begin_moves : (g : Sort) (S : List Part) (n : ℕ) (l : Items) (k : Lexeme) (y : State) (all j : List Lexeme) → ItemsBefore l j
+    → Midway g S (OpenBrace n ∷ j) Program all → items_begin S n l k ≡ Some y → After g y (all ++ k ∷ [])
 items_begin_moves g S n l (Name m x) y all j b a e = moved g (ItemName S n l x) y _ e (j, m, b, midway_more g S (OpenBrace n ∷ j) Program all (Name m x) a)
 items_begin_moves g S n l _ y all j b a e = absurd cc
 
-item_bar_moves : (g : Sort) (S : List Part) (n : ℕ) (l : Items) (x : Word) (k : Lexeme) (y : State) (all j : List Lexeme) (m : ℕ) → ItemsBefore l j → Midway g S (OpenBrace n ∷ (j ++ Name m x ∷ BraceBar ∷ [])) Program all → item_bar_step S n l x k ≡ Some y → After g y (all ++ k ∷ [])
-item_bar_moves g S n l x (Name o z) y all j m b a e = moved g (ItemBarName S n l x z) y _ e (j, m, o, b, midway_same g S _ _ Program _ (ap (λ (z : List Lexeme). OpenBrace n ∷ z) (append_assoc j (Name m x ∷ BraceBar ∷ []) (Name o z ∷ []))) (midway_more g S (OpenBrace n ∷ (j ++ Name m x ∷ BraceBar ∷ [])) Program all (Name o z) a))
+item_bar_moves : (g : Sort) (S : List Part) (n : ℕ) (l : Items) (x : Word) (k : Lexeme) (y : State) (all j : List Lexeme) (m : ℕ) → ItemsBefore l j
+    → Midway g S (OpenBrace n ∷ (j ++ Name m x ∷ BraceBar ∷ [])) Program all → item_bar_step S n l x k ≡ Some y → After g y (all ++ k ∷ [])
+item_bar_moves g S n l x (Name o z) y all j m b a e =
+    moved g (ItemBarName S n l x z) y _ e (
+      j,
+      m,
+      o,
+      b,
+      midway_same g S _ _ Program _ (ap (λ (z : List Lexeme). OpenBrace n ∷ z) (append_assoc j (Name m x ∷ BraceBar ∷ []) (Name o z ∷ [])))
+          (midway_more g S (OpenBrace n ∷ (j ++ Name m x ∷ BraceBar ∷ [])) Program all (Name o z) a),
+    )
 item_bar_moves g S n l x _ y all j m b a e = absurd cc
 
-item_bar_name_moves : (g : Sort) (S : List Part) (n : ℕ) (l : Items) (x z : Word) (k : Lexeme) (y : State) (all j : List Lexeme) (m o : ℕ) → ItemsBefore l j → Midway g S (OpenBrace n ∷ (j ++ Name m x ∷ BraceBar ∷ Name o z ∷ [])) Program all → item_bar_name_step S n l x z k ≡ Some y → After g y (all ++ k ∷ [])
-item_bar_name_moves g S n l x z BarBrace y all j m o b a e = moved g (ItemEnds S n (add l (Flow x (Except z)))) y _ e (j ++ Name m x ∷ BraceBar ∷ Name o z ∷ BarBrace ∷ [], items_joined b item-except, midway_same g S _ _ Program _ (ap (λ (z : List Lexeme). OpenBrace n ∷ z) (append_assoc j (Name m x ∷ BraceBar ∷ Name o z ∷ []) (BarBrace ∷ []))) (midway_more g S (OpenBrace n ∷ (j ++ Name m x ∷ BraceBar ∷ Name o z ∷ [])) Program all BarBrace a))
+item_bar_name_moves : (g : Sort) (S : List Part) (n : ℕ) (l : Items) (x z : Word) (k : Lexeme) (y : State) (all j : List Lexeme) (m o : ℕ) → ItemsBefore l j
+    → Midway g S (OpenBrace n ∷ (j ++ Name m x ∷ BraceBar ∷ Name o z ∷ [])) Program all → item_bar_name_step S n l x z k ≡ Some y → After g y (all ++ k ∷ [])
+item_bar_name_moves g S n l x z BarBrace y all j m o b a e =
+    moved g (ItemEnds S n (add l (Flow x (Except z)))) y _ e (
+      j ++ Name m x ∷ BraceBar ∷ Name o z ∷ BarBrace ∷ [],
+      items_joined b item-except,
+      midway_same g S _ _ Program _ (ap (λ (z : List Lexeme). OpenBrace n ∷ z) (append_assoc j (Name m x ∷ BraceBar ∷ Name o z ∷ []) (BarBrace ∷ [])))
+          (midway_more g S (OpenBrace n ∷ (j ++ Name m x ∷ BraceBar ∷ Name o z ∷ [])) Program all BarBrace a),
+    )
 item_bar_name_moves g S n l x z _ y all j m o b a e = absurd cc
 
-brace_begin : (g : Sort) (S : List Part) (n : ℕ) (k : Lexeme) (y : State) (all : List Lexeme) → Midway g S (OpenBrace n ∷ []) Program all → start_statement (Inside InBrace ∷ S) k ≡ Some y → After g y (all ++ k ∷ [])
-brace_begin g S n k y all a e = statement_moves g (Inside InBrace ∷ S) k y all refl (subst (λ (z : List Lexeme). Spells g (Inside InBrace ∷ S) z) (sym a.parts) (inside a.spells (brace-text a.fit))) e
+brace_begin : (g : Sort) (S : List Part) (n : ℕ) (k : Lexeme) (y : State) (all : List Lexeme) → Midway g S (OpenBrace n ∷ []) Program all
+    → start_statement (Inside InBrace ∷ S) k ≡ Some y → After g y (all ++ k ∷ [])
+brace_begin g S n k y all a e =
+    statement_moves g (Inside InBrace ∷ S) k y all refl
+    (subst (λ (z : List Lexeme). Spells g (Inside InBrace ∷ S) z) (sym a.parts) (inside a.spells (brace-text a.fit))) e
 
-opens_moves : (g : Sort) (S : List Part) (n : ℕ) (k : Lexeme) (y : State) (all : List Lexeme) → Midway g S (OpenBrace n ∷ []) Program all → opens_step S n k ≡ Some y → After g y (all ++ k ∷ [])
+opens_moves : (g : Sort) (S : List Part) (n : ℕ) (k : Lexeme) (y : State) (all : List Lexeme) → Midway g S (OpenBrace n ∷ []) Program all
+    → opens_step S n k ≡ Some y → After g y (all ++ k ∷ [])
 opens_moves g S n (Name m x) y all a e = moved g (OpensName S n x) y _ e (m, midway_more g S (OpenBrace n ∷ []) Program all (Name m x) a)
 opens_moves g S n k y all a e = brace_begin g S n k y all a e
 
-opens_name_moves : (g : Sort) (S : List Part) (n : ℕ) (x : Word) (k : Lexeme) (y : State) (all : List Lexeme) (m : ℕ) → Midway g S (OpenBrace n ∷ Name m x ∷ []) Program all → opens_name_step S n x k ≡ Some y → After g y (all ++ k ∷ [])
+opens_name_moves : (g : Sort) (S : List Part) (n : ℕ) (x : Word) (k : Lexeme) (y : State) (all : List Lexeme) (m : ℕ)
+    → Midway g S (OpenBrace n ∷ Name m x ∷ []) Program all → opens_name_step S n x k ≡ Some y → After g y (all ++ k ∷ [])
 opens_name_moves g S n x Prime y all m a e = moved g (OpensPrime S n x) y _ e (m, midway_more g S (OpenBrace n ∷ Name m x ∷ []) Program all Prime a)
 opens_name_moves g S n x Semi y all m a e = named_moves g (Inside InBrace ∷ S) x Semi y all m (brace_midway g S n (Name m x ∷ []) all a) e
 opens_name_moves g S n x Gets y all m a e = named_moves g (Inside InBrace ∷ S) x Gets y all m (brace_midway g S n (Name m x ∷ []) all a) e
 opens_name_moves g S n x k y all m a e = item_name_moves g S n no_items x k y all [] m items-begin a e
 
-opens_prime_moves : (g : Sort) (S : List Part) (n : ℕ) (x : Word) (k : Lexeme) (y : State) (all : List Lexeme) (m : ℕ) → Midway g S (OpenBrace n ∷ Name m x ∷ Prime ∷ []) Program all → opens_prime_step S n x k ≡ Some y → After g y (all ++ k ∷ [])
+opens_prime_moves : (g : Sort) (S : List Part) (n : ℕ) (x : Word) (k : Lexeme) (y : State) (all : List Lexeme) (m : ℕ)
+    → Midway g S (OpenBrace n ∷ Name m x ∷ Prime ∷ []) Program all → opens_prime_step S n x k ≡ Some y → After g y (all ++ k ∷ [])
 opens_prime_moves g S n x Gets y all m a e = named_prime_moves g (Inside InBrace ∷ S) x Gets y all m (brace_midway g S n (Name m x ∷ Prime ∷ []) all a) e
 opens_prime_moves g S n x k y all m a e = item_prime_moves g S n no_items x k y all [] m items-begin a e
 
-invariants_moves : (g : Sort) (S : List Part) (t : Phrase) (k : Lexeme) (y : State) (all r : List Lexeme) → Noting r t → Midway g S (r ++ Invariant ∷ []) Program all → invariants_step S t k ≡ Some y → After g y (all ++ k ∷ [])
+invariants_moves : (g : Sort) (S : List Part) (t : Phrase) (k : Lexeme) (y : State) (all r : List Lexeme) → Noting r t
+    → Midway g S (r ++ Invariant ∷ []) Program all → invariants_step S t k ≡ Some y → After g y (all ++ k ∷ [])
 invariants_moves g S t Open y all r n a e =
     let c = midway_same g S _ _ Program _ (append_assoc r (Invariant ∷ []) (Open ∷ [])) (midway_more g S (r ++ Invariant ∷ []) Program all Open a) in
-    moved g (Wants (Inside (Notes t none) ∷ S)) y _ e (subst (λ (z : List Lexeme). Spells g (Inside (Notes t none) ∷ S) z) (sym c.parts) (inside c.spells (notes-text n list-begins c.fit)))
+    moved g (Wants (Inside (Notes t none) ∷ S)) y _ e
+    (subst (λ (z : List Lexeme). Spells g (Inside (Notes t none) ∷ S) z) (sym c.parts) (inside c.spells (notes-text n list-begins c.fit)))
 invariants_moves g S t _ y all r n a e = absurd cc
 
 pub moves : (g : Sort) (x : State) (k : Lexeme) (y : State) (all : List Lexeme) → After g x all → step g x k ≡ Some y → After g y (all ++ k ∷ [])
@@ -670,7 +852,7 @@ moves g (ItemBarName S n l x z) k y all a e = item_bar_name_moves g S n l x z k 
 moves g (ItemEnds S n l) k y all a e = items_moves g S n l k y all a.0 a.1 a.2 e
 moves g (Invariants S t) k y all a e = invariants_moves g S t k y all a.0 a.1 a.2 e
 
-spells_nothing : {g : Sort} {f : List Lexeme} → Spells g [] f → f ≡ []
+pub spells_nothing : {g : Sort} {f : List Lexeme} → Spells g [] f → f ≡ []
 spells_nothing nothing = refl
 
 top_need : (g : Sort) (n : ℕ) → 1 ≤ n → need (top g) ≤ n

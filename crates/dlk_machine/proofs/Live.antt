@@ -8,13 +8,13 @@ use Rattle.dlk_grammar.specs.Grammar.{Nonterminal, formula, unf, atom, term, pri
 use Rattle.dlk_tree.specs.declared.op.Num.{Num}
 use Rattle.dlk_tree.specs.declared.op.Sort.{Sort}
 use Rattle.dlk_tree.specs.declared.op.Sort.TheVariants.{Term, Formula, Program}
-use Rattle.dlk_machine.proofs.Levels.{form_level, form_sort, top}
-use Rattle.dlk_machine.proofs.Machine.{By, Next, Quantifier, ForAll, ForSome, InBox, InDia, Minus, Bang', Bound, Modal, Holder, Round, Args, InContext, In, InBrace, Assigns, Tests, Evolves, Domain, Notes, Part, Left, Before, Inside, binary, unary, Piece, State, Wants, Has, Calls, Bars, BarsName, Binds, Starts, StartsPrime, StartsGets, StartsStar, Opens, OpensName, OpensPrime, WantsItem, ItemName, ItemPrime, ItemBar, ItemBarName, ItemEnds, Invariants, as_sort, round_sort, held_sort, place, allows, fits, step}
-use Rattle.dlk_machine.proofs.Parse.{reader}
+use Rattle.dlk_machine.specs.Levels.{form_level, form_sort, top}
+use Rattle.dlk_machine.specs.Machine.{By, Next, Quantifier, ForAll, ForSome, InBox, InDia, Minus, Bang', Bound, Modal, Holder, Round, Args, InContext, In, InBrace, Assigns, Tests, Evolves, Domain, Notes, Part, Left, Before, Inside, binary, unary, Piece, State, Wants, Has, Calls, Bars, BarsName, Binds, Starts, StartsPrime, StartsGets, StartsStar, Opens, OpensName, OpensPrime, WantsItem, ItemName, ItemPrime, ItemBar, ItemBarName, ItemEnds, Invariants, as_sort, round_sort, held_sort, place, allows, fits, step}
+use Rattle.dlk_machine.specs.Parse.{reader}
 use Rattle.dlk_machine.proofs.Opening.{some_is, bind_some, Plain, plain_append, Opening, opening_more, states}
-use Rattle.dlk_machine.proofs.Climb.{formula_level, level_above, need, need_below, stands}
+use Rattle.dlk_machine.proofs.Climb.{own_form, right_form, formula_level, level_above, need, need_below, stands}
 use Rattle.dlk_machine.proofs.Only.{Loose, Loose-more}
-use Rattle.dlk_machine.proofs.Spelled.{own_form, right_form, prefix_form, mark, binary_reads, unary_reads, prefix_table, table, list-begins, list_joined, items_joined, note_brace, end_note, end_stmt, end_invariants, HolderText, round-text, args-text, context-text, box-text, in_dia-text, brace-text, assigns-text, assigns_prime-text, tests-text, evolves-text, domain-text, notes-text, Spells, nothing, left, before, inside, Known, loose_top, loose_formula, Midway, quantifier_token, After}
+use Rattle.dlk_machine.proofs.Spelled.{prefix_form, mark, binary_reads, unary_reads, prefix_table, table, list-begins, list_joined, items_joined, note_brace, end_note, end_stmt, end_invariants, HolderText, round-text, args-text, context-text, box-text, in_dia-text, brace-text, assigns-text, assigns_prime-text, tests-text, evolves-text, domain-text, notes-text, Spells, nothing, left, before, inside, Known, loose_top, loose_formula, Midway, quantifier_token, After}
 use Rattle.dlk_machine.proofs.Found.{moves}
 
 -- a text that can stand under the open parts
@@ -25,7 +25,7 @@ record Fills (g : Sort) (S : List Part) (r : List Lexeme) : Type 0 where
   loose : Loose (form_level form) S
   fit : fits g (form_sort form) S ≡ true
 
-abbrev nought : Num
+abbrev pub nought : Num
 nought = record { digits = 0; scale = 0 }
 
 -- what makes an atom of a term
@@ -64,7 +64,12 @@ to_form m n r t d a h = go (form_sort m) (form_sort n) refl refl a
     go Term Term e f x = as_it_is (f ∙ sym e)
     go Formula Formula e f x = as_it_is (f ∙ sym e)
     go Program Program e f x = as_it_is (f ∙ sym e)
-    go Formula Term e f x = record { more = below_zero; plain = (refl, (refl, tt)); tree = Binary Less t (Literal nought); reads = stands atom m _ _ (omega (arith, need_below m, formula_level m e)) (sym e) (compared n r t f d) }
+    go Formula Term e f x = record {
+      more = below_zero;
+      plain = (refl, (refl, tt));
+      tree = Binary Less t (Literal nought);
+      reads = stands atom m _ _ (omega (arith, need_below m, formula_level m e)) (sym e) (compared n r t f d);
+    }
     go Term Formula e f x = absurd cc
     go Term Program e f x = absurd cc
     go Formula Program e f x = absurd cc
@@ -112,16 +117,32 @@ record Held (g : Sort) (S : List Part) (k r : List Lexeme) : Type 0 where
   plain : Plain more
   fills : Fills g S (k ++ (r ++ more))
 
-round_held : (g : Sort) (S : List Part) (b : Bool) (r : List Lexeme) (n : Nonterminal) (t : Phrase) → b ≡ fits g Formula S → fits g Term S ≡ true → Reads n r t → allows (round_sort b) (form_sort n) ≡ true → Held g S (Open ∷ []) r
+round_held : (g : Sort) (S : List Part) (b : Bool) (r : List Lexeme) (n : Nonterminal) (t : Phrase) → b ≡ fits g Formula S → fits g Term S ≡ true
+    → Reads n r t → allows (round_sort b) (form_sort n) ≡ true → Held g S (Open ∷ []) r
 round_held g S b r n t same fit d a = go b (form_sort n) refl same a
   where
     term_held : form_sort n ≡ Term → Held g S (Open ∷ []) r
-    term_held e = record { more = Close ∷ []; plain = (refl, tt); fills = record { form = prim; tree = t; reads = prim-bracket (stands n term r t (omega arith) e d); loose = loose_top S; fit = fit } }
+    term_held e = record {
+      more = Close ∷ [];
+      plain = (refl, tt);
+      fills = record { form = prim; tree = t; reads = prim-bracket (stands n term r t (omega arith) e d); loose = loose_top S; fit = fit };
+    }
 
     go : (c : Bool) (q : Sort) → form_sort n ≡ q → c ≡ fits g Formula S → allows (round_sort c) q ≡ true → Held g S (Open ∷ []) r
     go true Term e f x = term_held e
     go false Term e f x = term_held e
-    go true Formula e f x = record { more = Close ∷ []; plain = (refl, tt); fills = record { form = atom; tree = t; reads = atom-bracket (stands n formula r t (level_above n) e d); loose = Loose-more 5 6 S (omega arith) (loose_formula g S (sym f)); fit = sym f } }
+    go true Formula e f x = record {
+      more = Close ∷ [];
+      plain = (refl, tt);
+      fills =
+          record {
+            form = atom;
+            tree = t;
+            reads = atom-bracket (stands n formula r t (level_above n) e d);
+            loose = Loose-more 5 6 S (omega arith) (loose_formula g S (sym f));
+            fit = sym f;
+          };
+    }
     go false Formula e f x = absurd cc
     go true Program e f x = absurd cc
     go false Program e f x = absurd cc
@@ -143,44 +164,58 @@ brace_fills : (g : Sort) (S : List Part) (s : List Lexeme) (t : Phrase) → fits
 brace_fills g S s t f d = stmt_fills g S s t f (end_stmt (end_note (note_brace d)))
 
 -- a few plain tokens behind what made a nonterminal
-held_by : (g : Sort) (S : List Part) (k r new : List Lexeme) (m : Nonterminal) (w : Formed m r) (c : List Lexeme) → Plain c → new ≡ k ++ (r ++ (w.more ++ c)) → Fills g S new → Held g S k r
+held_by : (g : Sort) (S : List Part) (k r new : List Lexeme) (m : Nonterminal) (w : Formed m r) (c : List Lexeme) → Plain c
+    → new ≡ k ++ (r ++ (w.more ++ c)) → Fills g S new → Held g S k r
 held_by g S k r new m w c p e f = record { more = w.more ++ c; plain = plain_append w.more c w.plain p; fills = subst (Fills g S) e f }
 
-hold : (g : Sort) (h : Holder) (S : List Part) (k r : List Lexeme) (n : Nonterminal) (t : Phrase) → HolderText g h S k → Reads n r t → allows (held_sort h) (form_sort n) ≡ true → Held g S k r
+hold : (g : Sort) (h : Holder) (S : List Part) (k r : List Lexeme) (n : Nonterminal) (t : Phrase) → HolderText g h S k → Reads n r t
+    → allows (held_sort h) (form_sort n) ≡ true → Held g S k r
 hold g (Round b) S k r n t (round-text same fit) d a = round_held g S b r n t same fit d a
 hold g (Args m x l) S k r n t (args-text {k = j} begun fit) d a =
     let w = to_form term n r t d a (omega arith) in
-    held_by g S _ r (Name m x ∷ Open ∷ ((j ++ (r ++ w.more)) ++ Close ∷ [])) term w (Close ∷ []) (refl, tt) (ap (λ (z : List Lexeme). Name m x ∷ Open ∷ z) (simp append_assoc)) (term_fills g S _ _ fit (prim-apply (list_joined begun (r ++ w.more) w.tree w.reads)))
+    held_by g S _ r (Name m x ∷ Open ∷ ((j ++ (r ++ w.more)) ++ Close ∷ [])) term w (Close ∷ []) (refl, tt)
+    (ap (λ (z : List Lexeme). Name m x ∷ Open ∷ z) (simp append_assoc)) (term_fills g S _ _ fit (prim-apply (list_joined begun (r ++ w.more) w.tree w.reads)))
 hold g (InContext x) S k r n t (context-text {n = i} {m = j} fit) d a =
     let w = to_form formula n r t d a (level_above n) in
-    held_by g S _ r (Name i x ∷ OpenBrace j ∷ ((r ++ w.more) ++ CloseBrace ∷ [])) formula w (CloseBrace ∷ []) (refl, tt) (ap (λ (z : List Lexeme). Name i x ∷ OpenBrace j ∷ z) (append_assoc r w.more (CloseBrace ∷ []))) (atom_fills g S _ _ fit (atom-context w.reads))
+    held_by g S _ r (Name i x ∷ OpenBrace j ∷ ((r ++ w.more) ++ CloseBrace ∷ [])) formula w (CloseBrace ∷ []) (refl, tt)
+    (ap (λ (z : List Lexeme). Name i x ∷ OpenBrace j ∷ z) (append_assoc r w.more (CloseBrace ∷ []))) (atom_fills g S _ _ fit (atom-context w.reads))
 hold g (In InBox) S k r n t (box-text fit) d a =
     let w = to_form prog n r t d a (level_above n) in
-    held_by g S _ r (OpenBox ∷ ((r ++ w.more) ++ CloseBox ∷ True ∷ [])) prog w (CloseBox ∷ True ∷ []) (refl, (refl, tt)) (ap (λ (z : List Lexeme). OpenBox ∷ z) (append_assoc r w.more (CloseBox ∷ True ∷ []))) (unf_fills g S _ _ fit (unf-box w.reads true_unf))
+    held_by g S _ r (OpenBox ∷ ((r ++ w.more) ++ CloseBox ∷ True ∷ [])) prog w (CloseBox ∷ True ∷ []) (refl, (refl, tt))
+    (ap (λ (z : List Lexeme). OpenBox ∷ z) (append_assoc r w.more (CloseBox ∷ True ∷ []))) (unf_fills g S _ _ fit (unf-box w.reads true_unf))
 hold g (In InDia) S k r n t (in_dia-text fit) d a =
     let w = to_form prog n r t d a (level_above n) in
-    held_by g S _ r (Op Less ∷ ((r ++ w.more) ++ Op Greater ∷ True ∷ [])) prog w (Op Greater ∷ True ∷ []) (refl, (refl, tt)) (ap (λ (z : List Lexeme). Op Less ∷ z) (append_assoc r w.more (Op Greater ∷ True ∷ []))) (unf_fills g S _ _ fit (unf-dia w.reads true_unf))
+    held_by g S _ r (Op Less ∷ ((r ++ w.more) ++ Op Greater ∷ True ∷ [])) prog w (Op Greater ∷ True ∷ []) (refl, (refl, tt))
+    (ap (λ (z : List Lexeme). Op Less ∷ z) (append_assoc r w.more (Op Greater ∷ True ∷ []))) (unf_fills g S _ _ fit (unf-dia w.reads true_unf))
 hold g InBrace S k r n t (brace-text {n = i} fit) d a =
     let w = to_form prog n r t d a (level_above n) in
-    held_by g S _ r (OpenBrace i ∷ ((r ++ w.more) ++ CloseBrace ∷ [])) prog w (CloseBrace ∷ []) (refl, tt) (ap (λ (z : List Lexeme). OpenBrace i ∷ z) (append_assoc r w.more (CloseBrace ∷ []))) (brace_fills g S _ _ fit (brace-prog w.reads))
+    held_by g S _ r (OpenBrace i ∷ ((r ++ w.more) ++ CloseBrace ∷ [])) prog w (CloseBrace ∷ []) (refl, tt)
+    (ap (λ (z : List Lexeme). OpenBrace i ∷ z) (append_assoc r w.more (CloseBrace ∷ []))) (brace_fills g S _ _ fit (brace-prog w.reads))
 hold g (Assigns x false) S k r n t (assigns-text {n = i} fit) d a =
     let w = to_form term n r t d a (omega arith) in
-    held_by g S _ r (Name i x ∷ Gets ∷ ((r ++ w.more) ++ Semi ∷ [])) term w (Semi ∷ []) (refl, tt) (ap (λ (z : List Lexeme). Name i x ∷ Gets ∷ z) (append_assoc r w.more (Semi ∷ []))) (stmt_fills g S _ _ fit (stmt-assign w.reads))
+    held_by g S _ r (Name i x ∷ Gets ∷ ((r ++ w.more) ++ Semi ∷ [])) term w (Semi ∷ []) (refl, tt)
+    (ap (λ (z : List Lexeme). Name i x ∷ Gets ∷ z) (append_assoc r w.more (Semi ∷ []))) (stmt_fills g S _ _ fit (stmt-assign w.reads))
 hold g (Assigns x true) S k r n t (assigns_prime-text {n = i} fit) d a =
     let w = to_form term n r t d a (omega arith) in
-    held_by g S _ r (Name i x ∷ Prime ∷ Gets ∷ ((r ++ w.more) ++ Semi ∷ [])) term w (Semi ∷ []) (refl, tt) (ap (λ (z : List Lexeme). Name i x ∷ Prime ∷ Gets ∷ z) (append_assoc r w.more (Semi ∷ []))) (stmt_fills g S _ _ fit (stmt-assign_prime w.reads))
+    held_by g S _ r (Name i x ∷ Prime ∷ Gets ∷ ((r ++ w.more) ++ Semi ∷ [])) term w (Semi ∷ []) (refl, tt)
+    (ap (λ (z : List Lexeme). Name i x ∷ Prime ∷ Gets ∷ z) (append_assoc r w.more (Semi ∷ []))) (stmt_fills g S _ _ fit (stmt-assign_prime w.reads))
 hold g Tests S k r n t (tests-text fit) d a =
     let w = to_form formula n r t d a (level_above n) in
-    held_by g S _ r (Query ∷ ((r ++ w.more) ++ Semi ∷ [])) formula w (Semi ∷ []) (refl, tt) (ap (λ (z : List Lexeme). Query ∷ z) (append_assoc r w.more (Semi ∷ []))) (stmt_fills g S _ _ fit (stmt-test w.reads))
+    held_by g S _ r (Query ∷ ((r ++ w.more) ++ Semi ∷ [])) formula w (Semi ∷ []) (refl, tt)
+    (ap (λ (z : List Lexeme). Query ∷ z) (append_assoc r w.more (Semi ∷ []))) (stmt_fills g S _ _ fit (stmt-test w.reads))
 hold g (Evolves i l x) S k r n t (evolves-text {k = j} m begun fit) d a =
     let w = to_form term n r t d a (omega arith) in
-    held_by g S _ r (OpenBrace i ∷ ((j ++ Name m x ∷ Prime ∷ Op Equal ∷ (r ++ w.more)) ++ CloseBrace ∷ [])) term w (CloseBrace ∷ []) (refl, tt) (ap (λ (z : List Lexeme). OpenBrace i ∷ z) (simp append_assoc)) (brace_fills g S _ _ fit (brace-items (items_joined begun (item-evolve w.reads))))
+    held_by g S _ r (OpenBrace i ∷ ((j ++ Name m x ∷ Prime ∷ Op Equal ∷ (r ++ w.more)) ++ CloseBrace ∷ [])) term w (CloseBrace ∷ []) (refl, tt)
+    (ap (λ (z : List Lexeme). OpenBrace i ∷ z) (simp append_assoc)) (brace_fills g S _ _ fit (brace-items (items_joined begun (item-evolve w.reads))))
 hold g (Domain i l) S k r n t (domain-text {s = j} items fit) d a =
     let w = to_form formula n r t d a (level_above n) in
-    held_by g S _ r (OpenBrace i ∷ (j ++ Op And ∷ ((r ++ w.more) ++ CloseBrace ∷ []))) formula w (CloseBrace ∷ []) (refl, tt) (ap (λ (z : List Lexeme). OpenBrace i ∷ z) (simp append_assoc)) (brace_fills g S _ _ fit (brace-domain items w.reads))
+    held_by g S _ r (OpenBrace i ∷ (j ++ Op And ∷ ((r ++ w.more) ++ CloseBrace ∷ []))) formula w (CloseBrace ∷ []) (refl, tt)
+    (ap (λ (z : List Lexeme). OpenBrace i ∷ z) (simp append_assoc)) (brace_fills g S _ _ fit (brace-domain items w.reads))
 hold g (Notes p l) S k r n t (notes-text {r = i} {k = j} note begun fit) d a =
     let w = to_form formula n r t d a (level_above n) in
-    held_by g S _ r ((i ++ Invariant ∷ Open ∷ j) ++ ((r ++ w.more) ++ Close ∷ [])) formula w (Close ∷ []) (refl, tt) (ap (λ (z : List Lexeme). (i ++ Invariant ∷ Open ∷ j) ++ z) (append_assoc r w.more (Close ∷ []))) (stmt_fills g S _ _ fit (end_stmt (end_invariants note begun (r ++ w.more) w.tree w.reads)))
+    held_by g S _ r ((i ++ Invariant ∷ Open ∷ j) ++ ((r ++ w.more) ++ Close ∷ [])) formula w (Close ∷ []) (refl, tt)
+    (ap (λ (z : List Lexeme). (i ++ Invariant ∷ Open ∷ j) ++ z) (append_assoc r w.more (Close ∷ [])))
+    (stmt_fills g S _ _ fit (end_stmt (end_invariants note begun (r ++ w.more) w.tree w.reads)))
 
 pub brace_parts : (n : ℕ) (k m : List Lexeme) (c : Lexeme) → OpenBrace n ∷ ((k ++ m) ++ c ∷ []) ≡ (OpenBrace n ∷ k) ++ (m ++ c ∷ [])
 brace_parts n k m c = ap (λ (z : List Lexeme). OpenBrace n ∷ z) (append_assoc k m (c ∷ []))
@@ -198,7 +233,9 @@ module _ (g : Sort) where
       record { more = w.more; plain = w.plain; tree = w.tree; reads = w.reads }
   close_text (left {S = S} {s = s} {r = l} {o = o} {a = a} sp d loose fit) r f =
       let t = table o in
-      let w = to_form (right_form o) f.form r f.tree f.reads (subst (λ (k : Sort). allows k (form_sort f.form) ≡ true) (sym t.right_sort) f.fit) (omega (arith, t.right, f.loose)) in
+      let w =
+      to_form (right_form o) f.form r f.tree f.reads (subst (λ (k : Sort). allows k (form_sort f.form) ≡ true) (sym t.right_sort) f.fit)
+      (omega (arith, t.right, f.loose)) in
       let b = close_text sp (l ++ (mark o ++ (r ++ w.more))) (record {
         form = own_form o;
         tree = binary o a w.tree;
@@ -210,7 +247,9 @@ module _ (g : Sort) where
       opening_more (Reads (top g)) ((s ++ (l ++ mark o)) ++ r) w.more w.plain (subst (Opening (Reads (top g))) at b)
   close_text (before {S = S} {s = s} {k = k} {o = o} sp text loose fit) r f =
       let t = prefix_table o in
-      let w = to_form (prefix_form o) f.form r f.tree f.reads (subst (λ (k : Sort). allows k (form_sort f.form) ≡ true) (sym t.sort) f.fit) (omega (arith, t.operand, f.loose)) in
+      let w =
+      to_form (prefix_form o) f.form r f.tree f.reads (subst (λ (k : Sort). allows k (form_sort f.form) ≡ true) (sym t.sort) f.fit)
+      (omega (arith, t.operand, f.loose)) in
       let b = close_text sp (k ++ (r ++ w.more)) (record {
         form = prefix_form o;
         tree = unary o w.tree;
@@ -235,7 +274,11 @@ module _ (g : Sort) where
   filler : (S : List Part) (p : Sort) → place g S ≡ p → Filler S
   filler S Term e = record { tokens = Number nought ∷ []; plain = (refl, tt); fills = term_fills g S _ _ (rw e refl) (prim-number {n = nought}) }
   filler S Formula e = record { tokens = Number nought ∷ []; plain = (refl, tt); fills = term_fills g S _ _ (rw e refl) (prim-number {n = nought}) }
-  filler S Program e = record { tokens = Query ∷ True ∷ Semi ∷ []; plain = (refl, (refl, (refl, tt))); fills = stmt_fills g S _ _ (rw e refl) (stmt-test true_reads) }
+  filler S Program e = record {
+    tokens = Query ∷ True ∷ Semi ∷ [];
+    plain = (refl, (refl, (refl, tt)));
+    fills = stmt_fills g S _ _ (rw e refl) (stmt-test true_reads);
+  }
 
   wants_live : (S : List Part) (all : List Lexeme) → Spells g S all → Opening (Reads (top g)) all
   wants_live S all a = let w = filler S (place g S) refl in opening_more (Reads (top g)) all w.tokens w.plain (close_text a w.tokens w.fills)
@@ -245,7 +288,8 @@ module _ (g : Sort) where
   has_fills S p r k Formula t e f = atom_fills g S r t f (k atom t (omega arith) e)
   has_fills S p r k Program t e f = stmt_fills g S r t f (k stmt t (omega arith) e)
 
-  midway_live : (S : List Part) (own : List Lexeme) (q : Sort) (all more new : List Lexeme) → Midway g S own q all → Plain more → new ≡ own ++ more → (fits g q S ≡ true → Fills g S new) → Opening (Reads (top g)) all
+  midway_live : (S : List Part) (own : List Lexeme) (q : Sort) (all more new : List Lexeme) → Midway g S own q all → Plain more → new ≡ own ++ more
+      → (fits g q S ≡ true → Fills g S new) → Opening (Reads (top g)) all
   midway_live S own q all more new a p e f =
       let b = close_text a.spells (own ++ more) (subst (Fills g S) e (f a.fit)) in
       let at : a.front ++ (own ++ more) ≡ (a.front ++ own) ++ more = sym (append_assoc a.front own more) in
@@ -256,33 +300,59 @@ module _ (g : Sort) where
   bound_fills ForSome S f = unf_fills g S _ (Exists [] Truth) f (unf-exists true_unf)
 
   -- a system of items, as what ends a state
-  items_fill : (S : List Part) (n : ℕ) (s : List Lexeme) (l : Items) → ReadsItems s l → fits g Program S ≡ true → Fills g S (OpenBrace n ∷ (s ++ CloseBrace ∷ []))
+  items_fill : (S : List Part) (n : ℕ) (s : List Lexeme) (l : Items) → ReadsItems s l → fits g Program S ≡ true
+      → Fills g S (OpenBrace n ∷ (s ++ CloseBrace ∷ []))
   items_fill S n s l d f = brace_fills g S _ (System n l Truth) f (brace-items d)
 
   -- the tokens that lead to a state are the front of a text
   pub live : (x : State) (all : List Lexeme) → After g x all → Opening (Reads (top g)) all
   live (Wants S) all a = wants_live S all a
-  live (Has S p) all a = subst (Opening (Reads (top g))) (sym a.parts) (close_text a.spells a.back (has_fills S p a.back a.known a.good.0 a.good.1 a.good.2 a.good.3))
-  live (Calls S n x) all a = midway_live S _ Term all (Close ∷ []) _ a (refl, tt) refl (λ f. term_fills g S (Name n x ∷ Open ∷ Close ∷ []) (Apply (Call n x none)) f prim-nullary)
-  live (Bars S x) all a = midway_live S _ Term all (Name 0 [] ∷ BarRound ∷ []) _ a.1 (refl, (refl, tt)) refl (λ f. term_fills g S (Name a.0 x ∷ RoundBar ∷ Name 0 [] ∷ BarRound ∷ []) (Apply (Any x (Except []))) f prim-except)
-  live (BarsName S x y) all a = midway_live S _ Term all (BarRound ∷ []) _ a.2 (refl, tt) refl (λ f. term_fills g S (Name a.0 x ∷ RoundBar ∷ Name a.1 y ∷ BarRound ∷ []) (Apply (Any x (Except y))) f prim-except)
+  live (Has S p) all a =
+      subst (Opening (Reads (top g))) (sym a.parts) (close_text a.spells a.back (has_fills S p a.back a.known a.good.0 a.good.1 a.good.2 a.good.3))
+  live (Calls S n x) all a =
+      midway_live S _ Term all (Close ∷ []) _ a (refl, tt) refl (λ f. term_fills g S (Name n x ∷ Open ∷ Close ∷ []) (Apply (Call n x none)) f prim-nullary)
+  live (Bars S x) all a =
+      midway_live S _ Term all (Name 0 [] ∷ BarRound ∷ []) _ a.1 (refl, (refl, tt)) refl
+      (λ f. term_fills g S (Name a.0 x ∷ RoundBar ∷ Name 0 [] ∷ BarRound ∷ []) (Apply (Any x (Except []))) f prim-except)
+  live (BarsName S x y) all a =
+      midway_live S _ Term all (BarRound ∷ []) _ a.2 (refl, tt) refl
+      (λ f. term_fills g S (Name a.0 x ∷ RoundBar ∷ Name a.1 y ∷ BarRound ∷ []) (Apply (Any x (Except y))) f prim-except)
   live (Binds S q) all a = midway_live S _ Formula all (Name 0 [] ∷ True ∷ []) _ a (refl, (refl, tt)) refl (bound_fills q S)
   live (Starts S x) all a = midway_live S _ Program all (Semi ∷ []) _ a.1 (refl, tt) refl (λ f. stmt_fills g S (Name a.0 x ∷ Semi ∷ []) (Const x) f stmt-const)
-  live (StartsPrime S x) all a = midway_live S _ Program all (Gets ∷ Number nought ∷ Semi ∷ []) _ a.1 (refl, (refl, (refl, tt))) refl (λ f. stmt_fills g S (Name a.0 x ∷ Prime ∷ Gets ∷ Number nought ∷ Semi ∷ []) (Assign x true (Literal nought)) f (stmt-assign_prime zero_reads))
+  live (StartsPrime S x) all a =
+      midway_live S _ Program all (Gets ∷ Number nought ∷ Semi ∷ []) _ a.1 (refl, (refl, (refl, tt))) refl
+      (λ f. stmt_fills g S (Name a.0 x ∷ Prime ∷ Gets ∷ Number nought ∷ Semi ∷ []) (Assign x true (Literal nought)) f (stmt-assign_prime zero_reads))
   live (StartsGets S x) all a = midway_live S _ Program all (Op Mul ∷ Semi ∷ []) _ a.1 (refl, (refl, tt)) refl
       (λ f. stmt_fills g S (Name a.0 x ∷ Gets ∷ Op Mul ∷ Semi ∷ []) (AssignAny x) f stmt-any)
   live (StartsStar S x) all a = midway_live S _ Program all (Semi ∷ []) _ a.1 (refl, tt) refl
       (λ f. stmt_fills g S (Name a.0 x ∷ Gets ∷ Op Mul ∷ Semi ∷ []) (AssignAny x) f stmt-any)
-  live (Opens S n) all a = midway_live S _ Program all (Name 0 [] ∷ CloseBrace ∷ []) _ a (refl, (refl, tt)) refl (items_fill S n (Name 0 [] ∷ []) _ (items-one item-flow))
+  live (Opens S n) all a =
+      midway_live S _ Program all (Name 0 [] ∷ CloseBrace ∷ []) _ a (refl, (refl, tt)) refl (items_fill S n (Name 0 [] ∷ []) _ (items-one item-flow))
   live (OpensName S n x) all a = midway_live S _ Program all (CloseBrace ∷ []) _ a.1 (refl, tt) refl (items_fill S n (Name a.0 x ∷ []) _ (items-one item-flow))
-  live (OpensPrime S n x) all a = midway_live S _ Program all (Op Equal ∷ Number nought ∷ CloseBrace ∷ []) _ a.1 (refl, (refl, (refl, tt))) refl (items_fill S n (Name a.0 x ∷ Prime ∷ Op Equal ∷ Number nought ∷ []) _ (items-one (item-evolve zero_reads)))
-  live (WantsItem S n l) all a = midway_live S _ Program all (Name 0 [] ∷ CloseBrace ∷ []) _ a.2 (refl, (refl, tt)) (brace_parts n a.0 (Name 0 [] ∷ []) CloseBrace) (items_fill S n (a.0 ++ Name 0 [] ∷ []) _ (items_joined a.1 item-flow))
-  live (ItemName S n l x) all a = midway_live S _ Program all (CloseBrace ∷ []) _ a.3 (refl, tt) refl (items_fill S n (a.0 ++ Name a.1 x ∷ []) _ (items_joined a.2 item-flow))
-  live (ItemPrime S n l x) all a = midway_live S _ Program all (Op Equal ∷ Number nought ∷ CloseBrace ∷ []) _ a.3 (refl, (refl, (refl, tt))) (item_parts n a.0 (Name a.1 x ∷ Prime ∷ []) (Op Equal ∷ Number nought ∷ []) CloseBrace) (items_fill S n (a.0 ++ Name a.1 x ∷ Prime ∷ Op Equal ∷ Number nought ∷ []) _ (items_joined a.2 (item-evolve zero_reads)))
-  live (ItemBar S n l x) all a = midway_live S _ Program all (Name 0 [] ∷ BarBrace ∷ CloseBrace ∷ []) _ a.3 (refl, (refl, (refl, tt))) (item_parts n a.0 (Name a.1 x ∷ BraceBar ∷ []) (Name 0 [] ∷ BarBrace ∷ []) CloseBrace) (items_fill S n (a.0 ++ Name a.1 x ∷ BraceBar ∷ Name 0 [] ∷ BarBrace ∷ []) _ (items_joined a.2 item-except))
-  live (ItemBarName S n l x y) all a = midway_live S _ Program all (BarBrace ∷ CloseBrace ∷ []) _ a.4 (refl, (refl, tt)) (item_parts n a.0 (Name a.1 x ∷ BraceBar ∷ Name a.2 y ∷ []) (BarBrace ∷ []) CloseBrace) (items_fill S n (a.0 ++ Name a.1 x ∷ BraceBar ∷ Name a.2 y ∷ BarBrace ∷ []) _ (items_joined a.3 item-except))
+  live (OpensPrime S n x) all a =
+      midway_live S _ Program all (Op Equal ∷ Number nought ∷ CloseBrace ∷ []) _ a.1 (refl, (refl, (refl, tt))) refl
+      (items_fill S n (Name a.0 x ∷ Prime ∷ Op Equal ∷ Number nought ∷ []) _ (items-one (item-evolve zero_reads)))
+  live (WantsItem S n l) all a =
+      midway_live S _ Program all (Name 0 [] ∷ CloseBrace ∷ []) _ a.2 (refl, (refl, tt)) (brace_parts n a.0 (Name 0 [] ∷ []) CloseBrace)
+      (items_fill S n (a.0 ++ Name 0 [] ∷ []) _ (items_joined a.1 item-flow))
+  live (ItemName S n l x) all a =
+      midway_live S _ Program all (CloseBrace ∷ []) _ a.3 (refl, tt) refl (items_fill S n (a.0 ++ Name a.1 x ∷ []) _ (items_joined a.2 item-flow))
+  live (ItemPrime S n l x) all a =
+      midway_live S _ Program all (Op Equal ∷ Number nought ∷ CloseBrace ∷ []) _ a.3 (refl, (refl, (refl, tt)))
+      (item_parts n a.0 (Name a.1 x ∷ Prime ∷ []) (Op Equal ∷ Number nought ∷ []) CloseBrace)
+      (items_fill S n (a.0 ++ Name a.1 x ∷ Prime ∷ Op Equal ∷ Number nought ∷ []) _ (items_joined a.2 (item-evolve zero_reads)))
+  live (ItemBar S n l x) all a =
+      midway_live S _ Program all (Name 0 [] ∷ BarBrace ∷ CloseBrace ∷ []) _ a.3 (refl, (refl, (refl, tt)))
+      (item_parts n a.0 (Name a.1 x ∷ BraceBar ∷ []) (Name 0 [] ∷ BarBrace ∷ []) CloseBrace)
+      (items_fill S n (a.0 ++ Name a.1 x ∷ BraceBar ∷ Name 0 [] ∷ BarBrace ∷ []) _ (items_joined a.2 item-except))
+  live (ItemBarName S n l x y) all a =
+      midway_live S _ Program all (BarBrace ∷ CloseBrace ∷ []) _ a.4 (refl, (refl, tt))
+      (item_parts n a.0 (Name a.1 x ∷ BraceBar ∷ Name a.2 y ∷ []) (BarBrace ∷ []) CloseBrace)
+      (items_fill S n (a.0 ++ Name a.1 x ∷ BraceBar ∷ Name a.2 y ∷ BarBrace ∷ []) _ (items_joined a.3 item-except))
   live (ItemEnds S n l) all a = midway_live S _ Program all (CloseBrace ∷ []) _ a.2 (refl, tt) refl (items_fill S n a.0 l a.1)
-  live (Invariants S t) all a = midway_live S _ Program all (Open ∷ True ∷ Close ∷ []) _ a.2 (refl, (refl, (refl, tt))) (invariant_parts a.0) (λ f. stmt_fills g S ((a.0 ++ Invariant ∷ Open ∷ []) ++ (True ∷ Close ∷ [])) _ f (end_stmt (end_invariants a.1 list-begins (True ∷ []) Truth true_reads)))
+  live (Invariants S t) all a =
+      midway_live S _ Program all (Open ∷ True ∷ Close ∷ []) _ a.2 (refl, (refl, (refl, tt))) (invariant_parts a.0)
+      (λ f. stmt_fills g S ((a.0 ++ Invariant ∷ Open ∷ []) ++ (True ∷ Close ∷ [])) _ f (end_stmt (end_invariants a.1 list-begins (True ∷ []) Truth true_reads)))
 
   pub states_after : (x : State) (all s : List Lexeme) (y : State) → After g x all → states (reader g) x s ≡ Some y → After g y (all ++ s)
   states_after x all [] y a e = rw append-nil (subst (λ (z : State). After g z all) (some_is x y e) a)

@@ -1,11 +1,11 @@
 -- Fronts of texts, and the states that a machine passes through.
 use Rattle.std.proofs.Common.{◌≡◌, Bool, true, false, List, [], ◌∷◌, ◌++◌, Option, Some, None, refl, ap, subst, ◌∙◌, append_assoc}
 use Rattle.dlk_grammar.specs.Lexemes.{Lexeme}
-use Rattle.dlk_machine.proofs.Machine.{◌>>=◌, when}
+use Rattle.dlk_machine.specs.Machine.{◌>>=◌, when}
 use Rattle.dlk_grammar.specs.declared.token.Dots.{Dots}
 use Rattle.dlk_grammar.specs.declared.token.Dots.TheVariants.{Refused, Allowed}
 use Rattle.dlk_grammar.specs.Readings.{Permitted}
-use Rattle.dlk_machine.proofs.Parse.{Machine}
+use Rattle.dlk_machine.specs.Parse.{Machine}
 
 pub some_is : {A : Type 0} (x y : A) → Some x ≡ Some y → x ≡ y
 some_is x y e = cc
@@ -47,7 +47,12 @@ pub record Opening {T : Type 0} (G : List Lexeme → T → Type 0) (s : List Lex
   pub reads : G (s ++ more) tree
 
 pub opening_more : {T : Type 0} (G : List Lexeme → T → Type 0) (s r : List Lexeme) → Plain r → Opening G (s ++ r) → Opening G s
-opening_more G s r p b = record { more = r ++ b.more; plain = plain_append r b.more p b.plain; tree = b.tree; reads = subst (λ (l : List Lexeme). G l b.tree) (append_assoc s r b.more) b.reads }
+opening_more G s r p b = record {
+  more = r ++ b.more;
+  plain = plain_append r b.more p b.plain;
+  tree = b.tree;
+  reads = subst (λ (l : List Lexeme). G l b.tree) (append_assoc s r b.more) b.reads;
+}
 
 -- The same, where the tokens behind are permitted.
 pub record Begun {T : Type 0} (d : Dots) (G : List Lexeme → T → Type 0) (s : List Lexeme) : Type 0 where
@@ -70,5 +75,15 @@ states_then {X} m (k ∷ s) r x y e =
     let b = bind_some (m.step x k) (λ z. states m z s) y e in
     ap (λ (o : Option X). o >>= λ z. states m z (s ++ r)) b.1 ∙ states_then m s r b.0 y b.2
 
-pub states_more : {X T : Type 0} (m : Machine X T) (s : List Lexeme) (k : Lexeme) (x y z : X) → states m x s ≡ Some y → m.step y k ≡ Some z → states m x (s ++ k ∷ []) ≡ Some z
+pub states_more : {X T : Type 0} (m : Machine X T) (s : List Lexeme) (k : Lexeme) (x y z : X) → states m x s ≡ Some y → m.step y k ≡ Some z
+    → states m x (s ++ k ∷ []) ≡ Some z
 states_more {X} m s k x y z e f = states_then m s (k ∷ []) x y e ∙ ap (λ (o : Option X). o >>= λ u. Some u) f
+
+-- the state between two lists of tokens
+pub states_split : {X T : Type 0} (m : Machine X T) (s r : List Lexeme) (x z : X) → states m x (s ++ r) ≡ Some z
+    → (y : X) × (states m x s ≡ Some y) × (states m y r ≡ Some z)
+states_split m [] r x z e = (x, refl, e)
+states_split {X} m (k ∷ s) r x z e =
+    let b = bind_some (m.step x k) (λ u. states m u (s ++ r)) z e in
+    let w = states_split m s r b.0 z b.2 in
+    (w.0, ap (λ (o : Option X). o >>= λ u. states m u s) b.1 ∙ w.1, w.2)

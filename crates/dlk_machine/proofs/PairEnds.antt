@@ -1,25 +1,24 @@
 -- What is read of a pair is one, and each state of its reader has a text that ends it.
-use Rattle.std.proofs.Common.{◌≡◌, ℕ, ◌+◌, Bool, true, List, [], ◌∷◌, ◌++◌, Option, Some, inl, inr, refl, sym, subst, ap, ◌∙◌, append_assoc}
+use Rattle.std.proofs.Common.{◌≡◌, ℕ, ◌+◌, ◌<◌, Bool, true, List, [], ◌∷◌, ◌++◌, Option, Some, inl, inr, refl, sym, subst, ap, ◌∙◌, append_assoc}
 use Rattle.std.proofs.lemmas.List.{append-nil}
 use Rattle.dlk_tree.specs.declared.op.Sort.TheVariants.{Term, Formula, Program}
 use Rattle.dlk_tree.specs.declared.op.Sym.{Sym}
-use Rattle.dlk_grammar.specs.declared.token.Infix.TheVariants.{Equal}
-use Rattle.dlk_grammar.specs.Lexemes.{Word, Lexeme, Name, Dot, Blank, RoundBar, BarRound, BraceBar, BarBrace, Open, Close, OpenBrace, CloseBrace, Prime, Comma, Becomes, Op}
-use Rattle.dlk_grammar.specs.Phrases.{Phrase, Truth, System, Items}
-use Rattle.dlk_grammar.specs.Grammar.{ReadsItems, items-one, item-evolve, item-flow, item-except}
-use Rattle.dlk_grammar.specs.Substitutions.{Target, function, predicate, PairPhrase, to, ReadsDots, dots-more, ReadsTarget, target-nullary, target-dots, target-except, ReadsPair}
-use Rattle.dlk_machine.proofs.Machine.{State, Wants, ended}
+use Rattle.dlk_grammar.specs.Lexemes.{Word, Lexeme, Name, Dot, Blank, RoundBar, BarRound, BraceBar, BarBrace, Open, Close, OpenBrace, CloseBrace, Comma, Becomes}
+use Rattle.dlk_grammar.specs.Phrases.{Phrase, Truth, System}
+use Rattle.dlk_grammar.specs.Grammar.{items-one, item-flow}
+use Rattle.dlk_grammar.specs.Substitutions.{Target, function, predicate, PairPhrase, to, most_dots, ReadsDots, dots-more, ReadsTarget, target-nullary, target-dots, target-except, ReadsPair}
+use Rattle.dlk_machine.specs.Machine.{State, Wants, ended}
 use Rattle.dlk_machine.proofs.Opening.{some_is, bind_some}
 use Rattle.dlk_machine.proofs.Parsing.{known, none_some}
-use Rattle.dlk_machine.proofs.Spelled.{items_joined}
 use Rattle.dlk_machine.proofs.Found.{ends}
 use Rattle.dlk_machine.proofs.Live.{live, zero_reads, true_reads}
 use Rattle.dlk_machine.proofs.Reading.{passed_after}
 use Rattle.dlk_machine.proofs.ExpressionLaws.{no_formula}
-use Rattle.dlk_machine.proofs.Pairs.{Right, EitherOf, TextOf, SystemOf, PairState, Begins, LeftName, TermName, Calls, DotsOf, DotWanted, Bars, BarsName, InContext, ContextHole, FlowOpens, FlowName, FlowBar, FlowBarName, FlowExcept, LeftEnds, InRight, BraceWanted, ItemWanted, ItemName, ItemPrime, InTerm, ItemBar, ItemBarName, ItemEnds, SystemEnds, right_ended, pair_ended}
+use Rattle.dlk_machine.specs.Pairs.{Right, EitherOf, TextOf, SystemOf, PairState, Begins, LeftName, TermName, Calls, DotsOf, DotWanted, Bars, BarsName, InContext, ContextHole, FlowOpens, FlowName, FlowBar, FlowBarName, FlowExcept, LeftEnds, InRight, BraceWanted, InSystem, SystemEnds, right_ended, pair_ended}
 use Rattle.dlk_machine.proofs.PairTargets.{LeftText, left-either, left-context, left-flow, left-flow-except, Behind, behind_append, behind_more, target_left}
 use Rattle.dlk_machine.proofs.PairItems.{RightText, right-formula, right-term, right-text, right-system, pair_joined, chosen_pair}
-use Rattle.dlk_machine.proofs.PairStates.{InText, IsText, either-text, sort-text, InSystem, PairAfter}
+use Rattle.dlk_machine.proofs.PairSystems.{found_system, system_front}
+use Rattle.dlk_machine.proofs.PairStates.{InText, IsText, either-text, sort-text, SystemText, PairAfter}
 
 -- What is read of a pair is one.
 pair_is : (all : List Lexeme) (p q : PairPhrase) → Some p ≡ Some q → ReadsPair all p → ReadsPair all q
@@ -28,12 +27,16 @@ pair_is all p q e d = subst (λ (z : PairPhrase). ReadsPair all z) (some_is p q 
 text_pair : {w : Right} {y : State} {all : List Lexeme} {p : PairPhrase} (a : InText w y all) → RightText w a.own p → ReadsPair all p
 text_pair {p = p} a r = subst (λ (z : List Lexeme). ReadsPair z p) (sym a.parts) (pair_joined a.left_text r)
 
-found_either : (h : Target) (y : State) (all : List Lexeme) (p : PairPhrase) → InText (EitherOf h) y all → chosen_pair h y (ended Formula y) ≡ Some p → ReadsPair all p
+found_either : (h : Target) (y : State) (all : List Lexeme) (p : PairPhrase) → InText (EitherOf h) y all → chosen_pair h y (ended Formula y) ≡ Some p
+    → ReadsPair all p
 found_either h y all p a e = elim (known (ended Formula y)) [
-  | inr o ↦ pair_is all (to (predicate h) o.0) p (subst (λ (q : Option Phrase). chosen_pair h y q ≡ Some p) o.1 e) (text_pair a (right-formula (ends Formula Formula y a.own o.0 (passed_after Formula a.own y a.passed) o.1)))
+  | inr o ↦
+      pair_is all (to (predicate h) o.0) p (subst (λ (q : Option Phrase). chosen_pair h y q ≡ Some p) o.1 e)
+      (text_pair a (right-formula (ends Formula Formula y a.own o.0 (passed_after Formula a.own y a.passed) o.1)))
   | inl o ↦
       let b = bind_some (ended Term y) (λ t. Some (to (function h) t)) p (subst (λ (q : Option Phrase). chosen_pair h y q ≡ Some p) o e) in
-      pair_is all (to (function h) b.0) p b.2 (text_pair a (right-term (ends Formula Term y a.own b.0 (passed_after Formula a.own y a.passed) b.1) (no_formula a.own y a.passed o)))
+      pair_is all (to (function h) b.0) p b.2
+      (text_pair a (right-term (ends Formula Term y a.own b.0 (passed_after Formula a.own y a.passed) b.1) (no_formula a.own y a.passed o)))
 ]
 
 found_text : (w : Right) (y : State) (all : List Lexeme) (p : PairPhrase) → InText w y all → right_ended w y ≡ Some p → ReadsPair all p
@@ -44,12 +47,17 @@ found_text (TextOf g s) y all p a e =
 found_text (SystemOf s) y all p a e = absurd (none_some p e)
 
 -- a whole system
-system_pair : (s : Sym) (m : ℕ) (l : Items) (own all : List Lexeme) → ReadsItems own l → InSystem s m (own ++ CloseBrace ∷ []) all → ReadsPair all (to s (System m l Truth))
-system_pair s m l own all d a = subst (λ (z : List Lexeme). ReadsPair z (to s (System m l Truth))) (sym a.parts) (pair_joined a.left_text (right-system d))
+system_pair : (s : Sym) (t : Phrase) (all : List Lexeme) → SystemText s (SystemEnds s t) all → ReadsPair all (to s t)
+system_pair s t all a =
+    let w = found_system s a.place a.own t a.passed in
+    let at : all ≡ a.front ++ Becomes ∷ OpenBrace a.place ∷ (w.front ++ CloseBrace ∷ []) =
+    a.parts ∙ ap (λ (z : List Lexeme). a.front ++ Becomes ∷ OpenBrace a.place ∷ z) w.parts in
+    subst (λ (u : Phrase). ReadsPair all (to s u)) w.tree
+    (subst (λ (z : List Lexeme). ReadsPair z (to s (System a.place w.items Truth))) (sym at) (pair_joined a.left_text (right-system w.reads)))
 
 pub found_pair : (x : PairState) (all : List Lexeme) (p : PairPhrase) → PairAfter x all → pair_ended x ≡ Some p → ReadsPair all p
 found_pair (InRight w y) all p a e = found_text w y all p a.1 e
-found_pair (SystemEnds s m l) all p a e = pair_is all (to s (System m l Truth)) p e (system_pair s m l a.0 all a.1 a.2)
+found_pair (SystemEnds s t) all p a e = pair_is all (to s t) p e (system_pair s t all a)
 found_pair _ all p a e = absurd (none_some p e)
 
 -- The tokens are the front of a pair.
@@ -87,22 +95,34 @@ target_live e own all r a d = opened_more all r (left_live (target_left (behind_
 
 -- a right side that is begun
 right_live : {p : PairPhrase} (all front own r : List Lexeme) → all ≡ front ++ Becomes ∷ own → ReadsPair (front ++ Becomes ∷ (own ++ r)) p → Opened all
-right_live {p} all front own r e d = opened_is all (front ++ Becomes ∷ own) e (opened (front ++ Becomes ∷ own) r p (subst (λ (z : List Lexeme). ReadsPair z p) (sym (append_assoc front (Becomes ∷ own) r)) d))
+right_live {p} all front own r e d =
+    opened_is all (front ++ Becomes ∷ own) e
+    (opened (front ++ Becomes ∷ own) r p (subst (λ (z : List Lexeme). ReadsPair z p) (sym (append_assoc front (Becomes ∷ own) r)) d))
 
 text_live : {w : Right} → IsText w → (y : State) (all : List Lexeme) → InText w y all → Opened all
-text_live either-text y all a = let b = live Formula y a.own (passed_after Formula a.own y a.passed) in right_live all a.front a.own b.more a.parts (pair_joined a.left_text (right-formula b.reads))
-text_live (sort-text {g = g}) y all a = let b = live g y a.own (passed_after g a.own y a.passed) in right_live all a.front a.own b.more a.parts (pair_joined a.left_text (right-text b.reads))
+text_live either-text y all a =
+    let b = live Formula y a.own (passed_after Formula a.own y a.passed) in
+    right_live all a.front a.own b.more a.parts (pair_joined a.left_text (right-formula b.reads))
+text_live (sort-text {g = g}) y all a =
+    let b = live g y a.own (passed_after g a.own y a.passed) in right_live all a.front a.own b.more a.parts (pair_joined a.left_text (right-text b.reads))
 
-system_live : {s : Sym} {m : ℕ} {l : Items} (own r whole all : List Lexeme) → InSystem s m own all → own ++ r ≡ whole → ReadsItems whole l → Opened all
-system_live {s} {m} {l} own r whole all a e d =
-    let at : whole ++ CloseBrace ∷ [] ≡ own ++ (r ++ CloseBrace ∷ []) = ap (λ (z : List Lexeme). z ++ CloseBrace ∷ []) (sym e) ∙ append_assoc own r (CloseBrace ∷ []) in
-    let p : ReadsPair (a.front ++ Becomes ∷ OpenBrace m ∷ (whole ++ CloseBrace ∷ [])) (to s (System m l Truth)) = pair_joined a.left_text (right-system d) in
-    right_live all a.front (OpenBrace m ∷ own) (r ++ CloseBrace ∷ []) a.parts (subst (λ (z : List Lexeme). ReadsPair (a.front ++ Becomes ∷ OpenBrace m ∷ z) (to s (System m l Truth))) at p)
+system_live : {s : Sym} (y : State) (all : List Lexeme) → SystemText s (InSystem s y) all → Opened all
+system_live {s} y all a =
+    let w = system_front s a.place a.own y a.passed in
+    let at : (a.own ++ w.more) ++ CloseBrace ∷ [] ≡ a.own ++ (w.more ++ CloseBrace ∷ []) = append_assoc a.own w.more (CloseBrace ∷ []) in
+    let p : ReadsPair (a.front ++ Becomes ∷ OpenBrace a.place ∷ ((a.own ++ w.more) ++ CloseBrace ∷ [])) (to s (System a.place w.items Truth)) =
+    pair_joined a.left_text (right-system w.reads) in
+    right_live all a.front (OpenBrace a.place ∷ a.own) (w.more ++ CloseBrace ∷ []) a.parts
+    (subst (λ (z : List Lexeme). ReadsPair (a.front ++ Becomes ∷ OpenBrace a.place ∷ z) (to s (System a.place w.items Truth))) at p)
 
-dots_live : (e : Bool) (x : Word) (m : ℕ) (all : List Lexeme) (n : ℕ) (s : List Lexeme) → ReadsDots s m → Behind e (Name n x ∷ Open ∷ (s ++ Comma ∷ [])) all → Opened all
-dots_live e x m all n s d a =
+dots_live : (e : Bool) (x : Word) (m : ℕ) (all : List Lexeme) (n : ℕ) (s : List Lexeme) → m < most_dots → ReadsDots s m
+    → Behind e (Name n x ∷ Open ∷ (s ++ Comma ∷ [])) all → Opened all
+dots_live e x m all n s below d a =
     let at : s ++ Comma ∷ Dot m ∷ [] ≡ (s ++ Comma ∷ []) ++ Dot m ∷ [] = sym (append_assoc s (Comma ∷ []) (Dot m ∷ [])) in
-    opened_more all (Dot m ∷ []) (target_live e (Name n x ∷ Open ∷ ((s ++ Comma ∷ []) ++ Dot m ∷ [])) (all ++ Dot m ∷ []) (Close ∷ []) (behind_more e (Name n x ∷ Open ∷ (s ++ Comma ∷ [])) all (Dot m) a) (target-dots (subst (λ (z : List Lexeme). ReadsDots z (m + 1)) at (dots-more d))))
+    let dots : ReadsDots ((s ++ Comma ∷ []) ++ Dot m ∷ []) (m + 1) = subst (λ (z : List Lexeme). ReadsDots z (m + 1)) at (dots-more below d) in
+    let own : Behind e (Name n x ∷ Open ∷ ((s ++ Comma ∷ []) ++ Dot m ∷ [])) (all ++ Dot m ∷ []) =
+    behind_more e (Name n x ∷ Open ∷ (s ++ Comma ∷ [])) all (Dot m) a in
+    opened_more all (Dot m ∷ []) (target_live e (Name n x ∷ Open ∷ ((s ++ Comma ∷ []) ++ Dot m ∷ [])) (all ++ Dot m ∷ []) (Close ∷ []) own (target-dots dots))
 
 pub pair_live : (x : PairState) (all : List Lexeme) → PairAfter x all → Opened all
 pair_live Begins all a = front_live all [] (Name 0 [] ∷ Open ∷ Close ∷ []) a (left-either target-nullary)
@@ -110,7 +130,7 @@ pair_live (LeftName x) all a = front_live all (Name a.0 x ∷ []) (Open ∷ Clos
 pair_live (TermName x) all a = target_live true (Name a.0 x ∷ []) all (Open ∷ Close ∷ []) a.1 target-nullary
 pair_live (Calls e x) all a = target_live e (Name a.0 x ∷ Open ∷ []) all (Close ∷ []) a.1 target-nullary
 pair_live (DotsOf e x m) all a = target_live e (Name a.0 x ∷ Open ∷ a.1) all (Close ∷ []) a.3 (target-dots a.2)
-pair_live (DotWanted e x m) all a = dots_live e x m all a.0 a.1 a.2 a.3
+pair_live (DotWanted e x m) all a = dots_live e x m all a.0 a.1 a.2 a.3 a.4
 pair_live (Bars e x) all a = target_live e (Name a.0 x ∷ RoundBar ∷ []) all (Name 0 [] ∷ BarRound ∷ []) a.1 target-except
 pair_live (BarsName e x y) all a = target_live e (Name a.0 x ∷ RoundBar ∷ Name a.1 y ∷ []) all (BarRound ∷ []) a.2 target-except
 pair_live (InContext x) all a = front_live all (Name a.0 x ∷ OpenBrace a.1 ∷ []) (Blank ∷ CloseBrace ∷ []) a.2 left-context
@@ -123,13 +143,5 @@ pair_live (FlowExcept x y) all a = front_live all (OpenBrace a.0 ∷ Name a.1 x 
 pair_live (LeftEnds w) all a = left_live a
 pair_live (InRight w y) all a = text_live a.0 y all a.1
 pair_live (BraceWanted s) all a = let r = some_right (SystemOf s) in right_live all a.0 [] r.0 a.2 (pair_joined a.1 r.2)
-pair_live (ItemWanted s m l) all a = system_live a.0 (Name 0 [] ∷ []) _ all a.2 refl (items_joined a.1 item-flow)
-pair_live (ItemName s m l x) all a = system_live (a.0 ++ Name a.1 x ∷ []) [] _ all a.3 (append-nil (a.0 ++ Name a.1 x ∷ [])) (items_joined a.2 item-flow)
-pair_live (ItemPrime s m l x) all a = system_live (a.0 ++ Name a.1 x ∷ Prime ∷ []) _ _ all a.3 (append_assoc a.0 (Name a.1 x ∷ Prime ∷ []) _) (items_joined a.2 (item-evolve zero_reads))
-pair_live (InTerm s m l x y) all a =
-    let b = live Term y a.1 (passed_after Term a.1 y a.4) in
-    system_live (a.0 ++ Name a.2 x ∷ Prime ∷ Op Equal ∷ a.1) b.more _ all a.5 (append_assoc a.0 (Name a.2 x ∷ Prime ∷ Op Equal ∷ a.1) b.more) (items_joined a.3 (item-evolve b.reads))
-pair_live (ItemBar s m l x) all a = system_live (a.0 ++ Name a.1 x ∷ BraceBar ∷ []) (Name 0 [] ∷ BarBrace ∷ []) _ all a.3 (append_assoc a.0 (Name a.1 x ∷ BraceBar ∷ []) (Name 0 [] ∷ BarBrace ∷ [])) (items_joined a.2 item-except)
-pair_live (ItemBarName s m l x y) all a = system_live (a.0 ++ Name a.1 x ∷ BraceBar ∷ Name a.2 y ∷ []) (BarBrace ∷ []) _ all a.4 (append_assoc a.0 (Name a.1 x ∷ BraceBar ∷ Name a.2 y ∷ []) (BarBrace ∷ [])) (items_joined a.3 item-except)
-pair_live (ItemEnds s m l) all a = system_live a.0 [] a.0 all a.2 (append-nil a.0) a.1
-pair_live (SystemEnds s m l) all a = opened all [] (to s (System m l Truth)) (rw append-nil (system_pair s m l a.0 all a.1 a.2))
+pair_live (InSystem s y) all a = system_live y all a
+pair_live (SystemEnds s t) all a = opened all [] (to s t) (rw append-nil (system_pair s t all a))

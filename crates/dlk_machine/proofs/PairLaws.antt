@@ -6,12 +6,12 @@ use Rattle.dlk_grammar.specs.declared.token.Dots.TheVariants.{Allowed}
 use Rattle.dlk_grammar.specs.Lexemes.{Lexeme, Comma}
 use Rattle.dlk_grammar.specs.Phrases.{Phrase}
 use Rattle.dlk_grammar.specs.Substitutions.{function, PairPhrase, to, ReadsPair, ReadsPairs, pairs-one, pairs-more, ReadsSubstitution, subst-nothing, subst-pairs}
-use Rattle.dlk_machine.proofs.Machine.{◌>>=◌, State, step, ended}
-use Rattle.dlk_machine.proofs.Parse.{or_else}
+use Rattle.dlk_machine.specs.Machine.{◌>>=◌, State, step, ended}
+use Rattle.dlk_machine.specs.Parse.{or_else}
 use Rattle.dlk_machine.proofs.Opening.{some_is, bind_some, all_permitted, Begun, states, states_then}
 use Rattle.dlk_machine.proofs.Parsing.{known, none_some, Reader}
 use Rattle.dlk_machine.proofs.SequentLaws.{comma_ends}
-use Rattle.dlk_machine.proofs.Pairs.{Right, EitherOf, TextOf, SystemOf, PairState, Begins, InRight, SystemEnds, right_sort, pair_step, right_ended, pair_ended, pair_reader, PairsState, Fresh, Within, within, pairs_step, pairs_ended, pairs_reader}
+use Rattle.dlk_machine.specs.Pairs.{Right, EitherOf, TextOf, SystemOf, PairState, Begins, InRight, SystemEnds, right_sort, pair_step, right_ended, pair_ended, pair_reader, PairsState, Fresh, Within, within, pairs_step, pairs_ended, pairs_reader}
 use Rattle.dlk_machine.proofs.PairItems.{chosen_pair, pair_read}
 use Rattle.dlk_machine.proofs.PairStates.{PairAfter, pair_moves}
 use Rattle.dlk_machine.proofs.PairEnds.{found_pair, pair_live}
@@ -29,7 +29,7 @@ text_ends (SystemOf s) y p e = absurd (none_some p e)
 
 pair_comma : (x : PairState) (p : PairPhrase) → pair_ended x ≡ Some p → pair_step x Comma ≡ None
 pair_comma (InRight w y) p e = ap (λ (o : Option State). o >>= λ z. Some (InRight w z)) (text_ends w y p e)
-pair_comma (SystemEnds s m l) p e = refl
+pair_comma (SystemEnds s t) p e = refl
 pair_comma _ p e = absurd (none_some p e)
 
 within_is : (l : List PairPhrase) (x : PairState) (k : Lexeme) (y : PairState) → pair_step x k ≡ Some y → within l x k ≡ Some (Within l y)
@@ -46,14 +46,16 @@ within_step : (l : List PairPhrase) (x : PairState) (k : Lexeme) (y : PairState)
 within_step l x Comma y e = within_comma l x y e
 within_step l x k y e = within_is l x k y e
 
-within_states : (l : List PairPhrase) (s : List Lexeme) (x y : PairState) → states pair_reader x s ≡ Some y → states pairs_reader (Within l x) s ≡ Some (Within l y)
+within_states : (l : List PairPhrase) (s : List Lexeme) (x y : PairState) → states pair_reader x s ≡ Some y
+    → states pairs_reader (Within l x) s ≡ Some (Within l y)
 within_states l [] x y e = ap (λ (z : PairState). Some (Within l z)) (some_is x y e)
 within_states l (k ∷ s) x y e =
     let b = bind_some (pair_step x k) (λ z. states pair_reader z s) y e in
     ap (λ (o : Option PairsState). o >>= λ z. states pairs_reader z s) (within_step l x k b.0 b.1) ∙ within_states l s b.0 y b.2
 
 -- the first pair
-fresh_states : (s : List Lexeme) (y : PairState) (p : PairPhrase) → states pair_reader Begins s ≡ Some y → pair_ended y ≡ Some p → states pairs_reader Fresh s ≡ Some (Within [] y)
+fresh_states : (s : List Lexeme) (y : PairState) (p : PairPhrase) → states pair_reader Begins s ≡ Some y → pair_ended y ≡ Some p
+    → states pairs_reader Fresh s ≡ Some (Within [] y)
 fresh_states [] y p e f = absurd (none_some p (ap pair_ended (some_is Begins y e) ∙ f))
 fresh_states (k ∷ s) y p e f =
     let b = bind_some (pair_step Begins k) (λ z. states pair_reader z s) y e in
@@ -75,30 +77,39 @@ pairs_read (pairs-one {s = s} {p = p} d) =
 pairs_read (pairs-more {s = s} {r = r} {l = l} {p = p} ds d) =
     let x = pairs_read ds in
     let y = pair_read d in
-    let comma : pairs_step (Within x.front x.last) Comma ≡ Some (Within (x.front ++ x.pair ∷ []) Begins) = ap (λ (q : Option PairPhrase). or_else q (within x.front x.last Comma) (λ p. Some (Within (x.front ++ p ∷ []) Begins))) x.whole_last in
+    let comma : pairs_step (Within x.front x.last) Comma ≡ Some (Within (x.front ++ x.pair ∷ []) Begins) =
+    ap (λ (q : Option PairPhrase). or_else q (within x.front x.last Comma) (λ p. Some (Within (x.front ++ p ∷ []) Begins))) x.whole_last in
     record {
       front = x.front ++ x.pair ∷ [];
       last = y.0;
       pair = p;
-      passes = states_then pairs_reader s (Comma ∷ r) Fresh (Within x.front x.last) x.passes ∙ ap (λ (o : Option PairsState). o >>= λ z. states pairs_reader z r) comma ∙ within_states (x.front ++ x.pair ∷ []) r Begins y.0 y.1;
+      passes =
+          states_then pairs_reader s (Comma ∷ r) Fresh (Within x.front x.last) x.passes
+          ∙ ap (λ (o : Option PairsState). o >>= λ z. states pairs_reader z r) comma ∙ within_states (x.front ++ x.pair ∷ []) r Begins y.0 y.1;
       whole_last = y.2;
       list = ap (λ (z : List PairPhrase). z ++ p ∷ []) x.list;
     }
 
-only_pairs : {s : List Lexeme} {l : List PairPhrase} → ReadsSubstitution s l → (y : PairsState) × (states pairs_reader Fresh s ≡ Some y) × (pairs_ended y ≡ Some l)
+only_pairs : {s : List Lexeme} {l : List PairPhrase} → ReadsSubstitution s l
+    → (y : PairsState) × (states pairs_reader Fresh s ≡ Some y) × (pairs_ended y ≡ Some l)
 only_pairs subst-nothing = (Fresh, refl, refl)
 only_pairs (subst-pairs d) =
-    let x = pairs_read d in
-    (Within x.front x.last, x.passes, ap (λ (q : Option PairPhrase). q >>= λ p. Some (x.front ++ p ∷ [])) x.whole_last ∙ ap (λ (z : List PairPhrase). Some z) x.list)
+    let x = pairs_read d in (
+      Within x.front x.last,
+      x.passes,
+      ap (λ (q : Option PairPhrase). q >>= λ p. Some (x.front ++ p ∷ [])) x.whole_last ∙ ap (λ (z : List PairPhrase). Some z) x.list,
+    )
 
 -- What stands before the next pair.
 data PairsBefore : List PairPhrase → List Lexeme → Type 0 where
   pairs-begin : PairsBefore [] []
   pairs-go_on : {s : List Lexeme} {l : List PairPhrase} → ReadsPairs s l → PairsBefore l (s ++ Comma ∷ [])
 
-pairs_joined : {l : List PairPhrase} {k : List Lexeme} → PairsBefore l k → {r : List Lexeme} {p : PairPhrase} → ReadsPair r p → ReadsPairs (k ++ r) (l ++ p ∷ [])
+pairs_joined : {l : List PairPhrase} {k : List Lexeme} → PairsBefore l k → {r : List Lexeme} {p : PairPhrase} → ReadsPair r p
+    → ReadsPairs (k ++ r) (l ++ p ∷ [])
 pairs_joined pairs-begin d = pairs-one d
-pairs_joined {l = l} (pairs-go_on {s = s} ds) {r} {p} d = subst (λ (z : List Lexeme). ReadsPairs z (l ++ p ∷ [])) (sym (append_assoc s (Comma ∷ []) r)) (pairs-more ds d)
+pairs_joined {l = l} (pairs-go_on {s = s} ds) {r} {p} d =
+    subst (λ (z : List Lexeme). ReadsPairs z (l ++ p ∷ [])) (sym (append_assoc s (Comma ∷ []) r)) (pairs-more ds d)
 
 record WithinText (l : List PairPhrase) (x : PairState) (all : List Lexeme) : Type 0 where
   listed : List Lexeme
@@ -115,20 +126,39 @@ PairsAfter (Within l x) all = WithinText l x all
 pairs_moved : (x y : PairsState) (all : List Lexeme) → Some x ≡ Some y → PairsAfter x all → PairsAfter y all
 pairs_moved x y all e a = subst (λ (z : PairsState). PairsAfter z all) (some_is x y e) a
 
-within_moves : (l : List PairPhrase) (x : PairState) (k : Lexeme) (y : PairsState) (all : List Lexeme) → WithinText l x all → within l x k ≡ Some y → PairsAfter y (all ++ k ∷ [])
+within_moves : (l : List PairPhrase) (x : PairState) (k : Lexeme) (y : PairsState) (all : List Lexeme) → WithinText l x all → within l x k ≡ Some y
+    → PairsAfter y (all ++ k ∷ [])
 within_moves l x k y all a e =
     let b = bind_some (pair_step x k) (λ z. Some (Within l z)) y e in
-    pairs_moved (Within l b.0) y _ b.2 (record { listed = a.listed; own = a.own ++ k ∷ []; before = a.before; after = pair_moves x k b.0 a.own a.after b.1; parts = ap (λ (z : List Lexeme). z ++ k ∷ []) a.parts ∙ append_assoc a.listed a.own (k ∷ []) })
+    pairs_moved (Within l b.0) y _ b.2
+    (record {
+      listed = a.listed;
+      own = a.own ++ k ∷ [];
+      before = a.before;
+      after = pair_moves x k b.0 a.own a.after b.1;
+      parts = ap (λ (z : List Lexeme). z ++ k ∷ []) a.parts ∙ append_assoc a.listed a.own (k ∷ []);
+    })
 
 -- the pairs with the last one
-all_pairs : (l : List PairPhrase) (x : PairState) (all : List Lexeme) → WithinText l x all → (p : PairPhrase) → pair_ended x ≡ Some p → ReadsPairs all (l ++ p ∷ [])
+all_pairs : (l : List PairPhrase) (x : PairState) (all : List Lexeme) → WithinText l x all → (p : PairPhrase) → pair_ended x ≡ Some p
+    → ReadsPairs all (l ++ p ∷ [])
 all_pairs l x all a p e = subst (λ (z : List Lexeme). ReadsPairs z (l ++ p ∷ [])) (sym a.parts) (pairs_joined a.before (found_pair x a.own p a.after e))
 
-comma_moves : (l : List PairPhrase) (x : PairState) (y : PairsState) (all : List Lexeme) → WithinText l x all → pairs_step (Within l x) Comma ≡ Some y → PairsAfter y (all ++ Comma ∷ [])
+comma_moves : (l : List PairPhrase) (x : PairState) (y : PairsState) (all : List Lexeme) → WithinText l x all → pairs_step (Within l x) Comma ≡ Some y
+    → PairsAfter y (all ++ Comma ∷ [])
 comma_moves l x y all a e = elim (known (pair_ended x)) [
-  | inl o ↦ within_moves l x Comma y all a (subst (λ (q : Option PairPhrase). or_else q (within l x Comma) (λ p. Some (Within (l ++ p ∷ []) Begins)) ≡ Some y) o e)
-  | inr o ↦ pairs_moved (Within (l ++ o.0 ∷ []) Begins) y _ (subst (λ (q : Option PairPhrase). or_else q (within l x Comma) (λ p. Some (Within (l ++ p ∷ []) Begins)) ≡ Some y) o.1 e)
-      (record { listed = all ++ Comma ∷ []; own = []; before = pairs-go_on (all_pairs l x all a o.0 o.1); after = refl; parts = sym (append-nil (all ++ Comma ∷ [])) })
+  | inl o ↦
+      within_moves l x Comma y all a (subst (λ (q : Option PairPhrase). or_else q (within l x Comma) (λ p. Some (Within (l ++ p ∷ []) Begins)) ≡ Some y) o e)
+  | inr o ↦
+      pairs_moved (Within (l ++ o.0 ∷ []) Begins) y _
+      (subst (λ (q : Option PairPhrase). or_else q (within l x Comma) (λ p. Some (Within (l ++ p ∷ []) Begins)) ≡ Some y) o.1 e)
+      (record {
+        listed = all ++ Comma ∷ [];
+        own = [];
+        before = pairs-go_on (all_pairs l x all a o.0 o.1);
+        after = refl;
+        parts = sym (append-nil (all ++ Comma ∷ []));
+      })
 ]
 
 fresh_within : (all : List Lexeme) → all ≡ [] → WithinText [] Begins all
@@ -139,14 +169,16 @@ pairs_moves Fresh k y all a e = within_moves [] Begins k y all (fresh_within all
 pairs_moves (Within l x) Comma y all a e = comma_moves l x y all a e
 pairs_moves (Within l x) k y all a e = within_moves l x k y all a e
 
-pairs_after : (s : List Lexeme) (x : PairsState) (all : List Lexeme) (y : PairsState) → PairsAfter x all → states pairs_reader x s ≡ Some y → PairsAfter y (all ++ s)
+pairs_after : (s : List Lexeme) (x : PairsState) (all : List Lexeme) (y : PairsState) → PairsAfter x all → states pairs_reader x s ≡ Some y
+    → PairsAfter y (all ++ s)
 pairs_after [] x all y a e = rw append-nil (pairs_moved x y all e a)
 pairs_after (k ∷ s) x all y a e =
     let b = bind_some (pairs_step x k) (λ z. states pairs_reader z s) y e in
     subst (λ (z : List Lexeme). PairsAfter y z) (append_assoc all (k ∷ []) s) (pairs_after s b.0 (all ++ k ∷ []) y (pairs_moves x k b.0 all a b.1) b.2)
 
 found_pairs : (x : PairsState) (all : List Lexeme) (l : List PairPhrase) → PairsAfter x all → pairs_ended x ≡ Some l → ReadsSubstitution all l
-found_pairs Fresh all l a e = subst (λ (z : List PairPhrase). ReadsSubstitution all z) (some_is [] l e) (subst (λ (z : List Lexeme). ReadsSubstitution z []) (sym a) subst-nothing)
+found_pairs Fresh all l a e =
+    subst (λ (z : List PairPhrase). ReadsSubstitution all z) (some_is [] l e) (subst (λ (z : List Lexeme). ReadsSubstitution z []) (sym a) subst-nothing)
 found_pairs (Within m x) all l a e =
     let b = bind_some (pair_ended x) (λ p. Some (m ++ p ∷ [])) l e in
     subst (λ (z : List PairPhrase). ReadsSubstitution all z) (some_is (m ++ b.0 ∷ []) l b.2) (subst-pairs (all_pairs m x all a b.0 b.1))
@@ -159,7 +191,8 @@ pairs_live Fresh all a = begun_pairs all [] [] (rw append-nil (subst (λ (z : Li
 pairs_live (Within l x) all a =
     let b = pair_live x a.own a.after in
     let at : a.listed ++ (a.own ++ b.more) ≡ all ++ b.more = sym (ap (λ (z : List Lexeme). z ++ b.more) a.parts ∙ append_assoc a.listed a.own b.more) in
-    begun_pairs all b.more (l ++ b.pair ∷ []) (subst (λ (z : List Lexeme). ReadsSubstitution z (l ++ b.pair ∷ [])) at (subst-pairs (pairs_joined a.before b.reads)))
+    begun_pairs all b.more (l ++ b.pair ∷ [])
+    (subst (λ (z : List Lexeme). ReadsSubstitution z (l ++ b.pair ∷ [])) at (subst-pairs (pairs_joined a.before b.reads)))
 
 -- It reads them where dots and the hole are allowed. Where they are refused, it passes C{, which then begins no text.
 pub pairs_all : Reader Allowed pairs_reader ReadsSubstitution

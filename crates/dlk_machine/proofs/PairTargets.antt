@@ -1,14 +1,15 @@
 -- The left side of a pair: how it is read, and what its tokens are.
 use Rattle.std.proofs.Common.{◌≡◌, ℕ, ◌+◌, Bool, true, false, List, [], ◌∷◌, ◌++◌, Some, refl, sym, ap, subst, ◌∙◌, append_assoc, eq-eqb}
+use Rattle.std.proofs.lemmas.Bool.{lt-ltb}
 use Rattle.std.specs.Prelude.{codes}
 use Rattle.dlk_tree.specs.declared.op.Kind.TheVariants.{Quant, Prog, Ode}
 use Rattle.dlk_tree.specs.declared.op.Sort.TheVariants.{Term, Formula, Program}
 use Rattle.dlk_grammar.specs.Erased.{symbol}
 use Rattle.dlk_grammar.specs.Lexemes.{Word, Lexeme, Name, Dot, Blank, BraceBar, BarBrace, Close, OpenBrace, CloseBrace, Semi, Comma}
 use Rattle.dlk_grammar.specs.Phrases.{Everywhere, Except}
-use Rattle.dlk_grammar.specs.Substitutions.{Target, Over, function, ReadsDots, dots-one, dots-more, ReadsTarget, target-nullary, target-dots, target-any, target-except}
+use Rattle.dlk_grammar.specs.Substitutions.{Target, Over, function, most_dots, ReadsDots, dots-one, dots-more, ReadsTarget, target-nullary, target-dots, target-any, target-except}
 use Rattle.dlk_machine.proofs.Opening.{states, states_then}
-use Rattle.dlk_machine.proofs.Pairs.{Right, EitherOf, TextOf, SystemOf, right_of, PairState, Begins, LeftName, Calls, DotsOf, LeftEnds, pair_reader}
+use Rattle.dlk_machine.specs.Pairs.{Right, EitherOf, TextOf, SystemOf, right_of, PairState, Begins, LeftName, Calls, DotsOf, LeftEnds, pair_reader}
 
 -- the word `term` in front of a left side, or nothing
 pub data TermWord : Bool → List Lexeme → Type 0 where
@@ -22,7 +23,8 @@ pub data LeftText : Right → List Lexeme → Type 0 where
   left-context : {n m : ℕ} {x : Word} → LeftText (TextOf Formula (symbol Quant x 0 Everywhere)) (Name n x ∷ OpenBrace m ∷ Blank ∷ CloseBrace ∷ [])
   left-program : {n : ℕ} {x : Word} → LeftText (TextOf Program (symbol Prog x 0 Everywhere)) (Name n x ∷ Semi ∷ [])
   left-flow : {n m : ℕ} {x : Word} → LeftText (SystemOf (symbol Ode x 0 Everywhere)) (OpenBrace m ∷ Name n x ∷ CloseBrace ∷ [])
-  left-flow-except : {n m j : ℕ} {x y : Word} → LeftText (SystemOf (symbol Ode x 0 (Except y))) (OpenBrace m ∷ Name n x ∷ BraceBar ∷ Name j y ∷ BarBrace ∷ CloseBrace ∷ [])
+  left-flow-except : {n m j : ℕ} {x y : Word}
+      → LeftText (SystemOf (symbol Ode x 0 (Except y))) (OpenBrace m ∷ Name n x ∷ BraceBar ∷ Name j y ∷ BarBrace ∷ CloseBrace ∷ [])
 
 -- The reader gets from a state through tokens to a state.
 abbrev pub Passes : PairState → List Lexeme → PairState → Type 0
@@ -34,8 +36,8 @@ goes_on x y z s r e f = states_then pair_reader s r x y e ∙ f
 -- Each left side is read.
 dots_pass : {s : List Lexeme} {m : ℕ} → ReadsDots s m → (e : Bool) (x : Word) → Passes (Calls e x) s (DotsOf e x m)
 dots_pass dots-one e x = refl
-dots_pass (dots-more {s = s} {n = n} d) e x =
-    let next : Passes (DotsOf e x n) (Comma ∷ Dot n ∷ []) (DotsOf e x (n + 1)) = rw (eq-eqb n n refl) refl in
+dots_pass (dots-more {s = s} {n = n} below d) e x =
+    let next : Passes (DotsOf e x n) (Comma ∷ Dot n ∷ []) (DotsOf e x (n + 1)) = rw (lt-ltb n most_dots below, eq-eqb n n refl) refl in
     goes_on (Calls e x) (DotsOf e x n) (DotsOf e x (n + 1)) s (Comma ∷ Dot n ∷ []) (dots_pass d e x) next
 
 -- where a function or a predicate begins
@@ -46,8 +48,10 @@ begun true = LeftName (codes "term")
 target_passes : {s : List Lexeme} {h : Target} → ReadsTarget s h → (e : Bool) → Passes (begun e) s (LeftEnds (right_of e h))
 target_passes target-nullary true = refl
 target_passes target-nullary false = refl
-target_passes (target-dots {m = m} {x = x} {s = s} d) true = goes_on (Calls true x) (DotsOf true x m) (LeftEnds (right_of true (Over x m))) s (Close ∷ []) (dots_pass d true x) refl
-target_passes (target-dots {m = m} {x = x} {s = s} d) false = goes_on (Calls false x) (DotsOf false x m) (LeftEnds (right_of false (Over x m))) s (Close ∷ []) (dots_pass d false x) refl
+target_passes (target-dots {m = m} {x = x} {s = s} d) true =
+    goes_on (Calls true x) (DotsOf true x m) (LeftEnds (right_of true (Over x m))) s (Close ∷ []) (dots_pass d true x) refl
+target_passes (target-dots {m = m} {x = x} {s = s} d) false =
+    goes_on (Calls false x) (DotsOf false x m) (LeftEnds (right_of false (Over x m))) s (Close ∷ []) (dots_pass d false x) refl
 target_passes target-any true = refl
 target_passes target-any false = refl
 target_passes target-except true = refl

@@ -11,8 +11,8 @@ use Rattle.dlk_grammar.specs.Lexemes.{Lexeme, Comma, Becomes}
 use Rattle.dlk_grammar.specs.Grammar.{brace-items}
 use Rattle.dlk_grammar.specs.Erased.{erase, ills}
 use Rattle.dlk_grammar.specs.Substitutions.{PairPhrase, ReadsPair, ReadsPairs, pairs-one, pairs-more, ReadsSubstitution, subst-nothing, subst-pairs, replacements, erase_pairs}
-use Rattle.dlk_machine.proofs.Levels.{form_sort, top}
-use Rattle.dlk_machine.proofs.Pairs.{Right}
+use Rattle.dlk_machine.specs.Levels.{form_sort, top}
+use Rattle.dlk_machine.specs.Pairs.{Right}
 use Rattle.dlk_machine.proofs.Formed.{Each, each_parts, each_append, AreReal, IsBelow, AreBelow, IsReal, part_last, widen, none_left, none_right, grown, grown_brace, made_from, GrownSome}
 use Rattle.dlk_machine.proofs.PairItems.{RightText, right-formula, right-term, right-text, right-system, pair_parts}
 
@@ -35,7 +35,8 @@ ills_of_pairs l = flat_map ills (replacements l)
 
 ills_more : (l : List PairPhrase) (p : PairPhrase) → ills_of_pairs (l ++ p ∷ []) ≡ ills_of_pairs l ++ ills p.by
 ills_more l p =
-    ap (flat_map ills) (map-append (λ (q : PairPhrase). q.by) l (p ∷ [])) ∙ flat_map-append ills (replacements l) (p.by ∷ []) ∙ ap (λ (ns : List ℕ). ills_of_pairs l ++ ns) (append-nil (ills p.by))
+    ap (flat_map ills) (map-append (λ (q : PairPhrase). q.by) l (p ∷ [])) ∙ flat_map-append ills (replacements l) (p.by ∷ [])
+    ∙ ap (λ (ns : List ℕ). ills_of_pairs l ++ ns) (append-nil (ills p.by))
 
 listed_below : {s : List Lexeme} {l : List PairPhrase} → ReadsPairs s l → (m : ℕ) → AreBelow m s → Each (λ n. n < m) (ills_of_pairs l)
 listed_below (pairs-one {p = p} d) m h = rw (append-nil (ills p.by)) ((grown_pair d).grown.below m h)
@@ -62,7 +63,9 @@ listed_made (pairs-one {p = p} d) h e = made_pair d h (sym (append-nil (ills p.b
 listed_made (pairs-more {s = s} {r = r} {l = l} {p = p} ds d) h e =
     let w = each_parts IsReal s (Comma ∷ r) h in
     let n : ills_of_pairs l ++ ills p.by ≡ [] = sym (ills_more l p) ∙ e in
-    rw (map-append erase_pair l (p ∷ [])) (All-append IsMadePair (erase_pairs l) (erase_pair p ∷ []) (listed_made ds w.0 (none_left (ills_of_pairs l) (ills p.by) n)) (made_pair d w.1.1 (none_right (ills_of_pairs l) (ills p.by) n)))
+    rw (map-append erase_pair l (p ∷ []))
+    (All-append IsMadePair (erase_pairs l) (erase_pair p ∷ []) (listed_made ds w.0 (none_left (ills_of_pairs l) (ills p.by) n))
+    (made_pair d w.1.1 (none_right (ills_of_pairs l) (ills p.by) n)))
 
 pub pairs_formed : {s : List Lexeme} {l : List PairPhrase} → ReadsSubstitution s l → AreReal s → ills_of_pairs l ≡ [] → AreWellMade (erase_pairs l)
 pairs_formed subst-nothing h e = All-nil IsMadePair

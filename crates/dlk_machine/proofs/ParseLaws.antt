@@ -11,12 +11,12 @@ use Rattle.dlk_grammar.specs.Phrases.{Phrase}
 use Rattle.dlk_grammar.specs.Grammar.{Nonterminal, Reads, Sides, ReadsSequent, ReadsExpression}
 use Rattle.dlk_grammar.specs.Readings.{Says, Stops, grammar}
 use Rattle.dlk_grammar.specs.Substitutions.{PairPhrase, ReadsSubstitution}
-use Rattle.dlk_machine.proofs.Levels.{form_sort, top}
-use Rattle.dlk_machine.proofs.Machine.{State}
-use Rattle.dlk_machine.proofs.Parse.{Machine, parse, reader}
-use Rattle.dlk_machine.proofs.Expressions.{ExpressionState, expression_reader}
-use Rattle.dlk_machine.proofs.Sequents.{sequent_reader}
-use Rattle.dlk_machine.proofs.Pairs.{pairs_reader}
+use Rattle.dlk_machine.specs.Levels.{form_sort, top}
+use Rattle.dlk_machine.specs.Parse.{Machine, parse, reader}
+use Rattle.dlk_machine.specs.Forms.{machine_of}
+use Rattle.dlk_machine.specs.Expressions.{expression_reader}
+use Rattle.dlk_machine.specs.Sequents.{sequent_reader}
+use Rattle.dlk_machine.specs.Pairs.{pairs_reader}
 use Rattle.dlk_machine.proofs.Climb.{stands}
 use Rattle.dlk_machine.proofs.Opening.{all_permitted}
 use Rattle.dlk_machine.proofs.Only.{top_sort}
@@ -39,10 +39,6 @@ no_fault p n e = absurd cc
 one_parsed : {P : Type 0} (p q : P) → parsed p ≡ parsed q → p ≡ q
 one_parsed p q e = cc
 
--- a fault says that the lexemes say nothing
-faulty : {X P : Type 0} (m : Machine X P) (G : List Lexeme → P → Type 0) (d : Dots) → Reader d m G → (s : List Lexeme) (n : ℕ) → parse d m s ≡ Err n → (p : P) → ¬ Says d G s p
-faulty m G d c s n e p says = no_fault p n (sym (only_text m G d c s p says) ∙ e)
-
 -- lexemes say one thing
 one : {X P : Type 0} (m : Machine X P) (G : List Lexeme → P → Type 0) → Reader Allowed m G → (s : List Lexeme) (p q : P) → G s p → G s q → p ≡ q
 one {X} {P} m G c s p q d e =
@@ -58,9 +54,6 @@ says_read d g s p h = only_text (reader g) (Reads (top g)) d (reads_all d g) s p
 
 pub fault_stops : (d : Dots) (g : Sort) (s : List Lexeme) (n : ℕ) → parse d (reader g) s ≡ Err n → Stops d (Reads (top g)) s n
 fault_stops d g s n e = stops_text (reader g) (Reads (top g)) d (reads_all d g) s n e
-
-pub fault_says_nothing : (d : Dots) (g : Sort) (s : List Lexeme) (n : ℕ) → parse d (reader g) s ≡ Err n → (p : Phrase) → ¬ Says d (Reads (top g)) s p
-fault_says_nothing d g s n e = faulty (reader g) (Reads (top g)) d (reads_all d g) s n e
 
 pub one_read : (form : Nonterminal) (s : List Lexeme) (p q : Phrase) → Reads form s p → Reads form s q → p ≡ q
 one_read form s p q d e =
@@ -78,9 +71,6 @@ expression_says_read d s p h = only_text expression_reader ReadsExpression d (ex
 pub expression_fault_stops : (d : Dots) (s : List Lexeme) (n : ℕ) → parse d expression_reader s ≡ Err n → Stops d ReadsExpression s n
 expression_fault_stops d s n e = stops_text expression_reader ReadsExpression d (expressions_all d) s n e
 
-pub expression_fault_says_nothing : (d : Dots) (s : List Lexeme) (n : ℕ) → parse d expression_reader s ≡ Err n → (p : Phrase) → ¬ Says d ReadsExpression s p
-expression_fault_says_nothing d s n e = faulty expression_reader ReadsExpression d (expressions_all d) s n e
-
 pub one_expression_read : (s : List Lexeme) (p q : Phrase) → ReadsExpression s p → ReadsExpression s q → p ≡ q
 one_expression_read s p q d e = one expression_reader ReadsExpression (expressions_all Allowed) s p q d e
 
@@ -93,9 +83,6 @@ sequent_says_read d s p h = only_text sequent_reader ReadsSequent d (sequents_al
 
 pub sequent_fault_stops : (d : Dots) (s : List Lexeme) (n : ℕ) → parse d sequent_reader s ≡ Err n → Stops d ReadsSequent s n
 sequent_fault_stops d s n e = stops_text sequent_reader ReadsSequent d (sequents_all d) s n e
-
-pub sequent_fault_says_nothing : (d : Dots) (s : List Lexeme) (n : ℕ) → parse d sequent_reader s ≡ Err n → (p : Sides) → ¬ Says d ReadsSequent s p
-sequent_fault_says_nothing d s n e = faulty sequent_reader ReadsSequent d (sequents_all d) s n e
 
 pub one_sides_read : (s : List Lexeme) (p q : Sides) → ReadsSequent s p → ReadsSequent s q → p ≡ q
 one_sides_read s p q d e = one sequent_reader ReadsSequent (sequents_all Allowed) s p q d e
@@ -110,24 +97,8 @@ pairs_says_read s p h = only_text pairs_reader ReadsSubstitution Allowed pairs_a
 pub pairs_fault_stops : (s : List Lexeme) (n : ℕ) → parse Allowed pairs_reader s ≡ Err n → Stops Allowed ReadsSubstitution s n
 pairs_fault_stops s n e = stops_text pairs_reader ReadsSubstitution Allowed pairs_all s n e
 
-pub pairs_fault_says_nothing : (s : List Lexeme) (n : ℕ) → parse Allowed pairs_reader s ≡ Err n → (p : List PairPhrase) → ¬ Says Allowed ReadsSubstitution s p
-pairs_fault_says_nothing s n e = faulty pairs_reader ReadsSubstitution Allowed pairs_all s n e
-
 pub one_pairs_read : (s : List Lexeme) (p q : List PairPhrase) → ReadsSubstitution s p → ReadsSubstitution s q → p ≡ q
 one_pairs_read s p q d e = one pairs_reader ReadsSubstitution pairs_all s p q d e
-
--- the machine of a goal
-abbrev pub FormState : Form → Type 0
-FormState form.Formula = State
-FormState form.Term = State
-FormState form.Program = State
-FormState form.Expression = ExpressionState
-
-abbrev pub machine_of : (wanted : Form) → Machine (FormState wanted) Phrase
-machine_of form.Formula = reader Formula
-machine_of form.Term = reader Term
-machine_of form.Program = reader Program
-machine_of form.Expression = expression_reader
 
 forms_all : (d : Dots) (wanted : Form) → Reader d (machine_of wanted) (grammar wanted)
 forms_all d form.Formula = reads_all d Formula
@@ -143,6 +114,3 @@ form_says_read d wanted s p h = only_text (machine_of wanted) (grammar wanted) d
 
 pub form_fault_stops : (d : Dots) (wanted : Form) (s : List Lexeme) (n : ℕ) → parse d (machine_of wanted) s ≡ Err n → Stops d (grammar wanted) s n
 form_fault_stops d wanted s n e = stops_text (machine_of wanted) (grammar wanted) d (forms_all d wanted) s n e
-
-pub form_fault_says_nothing : (d : Dots) (wanted : Form) (s : List Lexeme) (n : ℕ) → parse d (machine_of wanted) s ≡ Err n → (p : Phrase) → ¬ Says d (grammar wanted) s p
-form_fault_says_nothing d wanted s n e = faulty (machine_of wanted) (grammar wanted) d (forms_all d wanted) s n e

@@ -2,10 +2,10 @@
 use Rattle.std.proofs.Common.{◌≡◌, ℕ, ◌+◌, ◌⊎◌, inl, inr, Bool, true, List, [], ◌∷◌, ◌++◌, length, Option, Some, None, Result, Ok, Err, refl, sym, ap, subst, ◌∙◌, append_assoc, length-append}
 use Rattle.std.proofs.lemmas.List.{append-nil}
 use Rattle.dlk_grammar.specs.Lexemes.{Lexeme}
-use Rattle.dlk_machine.proofs.Machine.{◌>>=◌, when}
+use Rattle.dlk_machine.specs.Machine.{◌>>=◌, when}
 use Rattle.dlk_grammar.specs.declared.token.Dots.{Dots}
 use Rattle.dlk_grammar.specs.Readings.{permits, Permitted, Says, Begins, Stops, stops-token, stops-end}
-use Rattle.dlk_machine.proofs.Parse.{Machine, or_else, parse_from, parse}
+use Rattle.dlk_machine.specs.Parse.{Machine, or_else, parse_from, parse}
 use Rattle.dlk_machine.proofs.Opening.{some_is, bind_some, when_is, permitted_append, Begun, states}
 
 -- an option by its cases
@@ -56,7 +56,8 @@ module _ {X T : Type 0} (m : Machine X T) (G : List Lexeme → T → Type 0) (d 
       rw w (passes s b.0 (n + 1) y t p.1 b.2 f)
 
   -- What was parsed has passed through states.
-  passed : (s : List Lexeme) (x : X) (n : ℕ) (t : T) → parse_from d m x n s ≡ good t → Permitted d s × ((y : X) × (states m x s ≡ Some y) × (m.ended y ≡ Some t))
+  passed : (s : List Lexeme) (x : X) (n : ℕ) (t : T) → parse_from d m x n s ≡ good t
+      → Permitted d s × ((y : X) × (states m x s ≡ Some y) × (m.ended y ≡ Some t))
   passed [] x n t e = elim (known (m.ended x)) [
     | inl o ↦ absurd (not_ok n t (subst (λ (q : Option T). or_else q (bad n) good ≡ good t) o e))
     | inr o ↦ (tt, (x, refl, o.1 ∙ ap (λ (u : T). Some u) (ok_is o.0 t (subst (λ (q : Option T). or_else q (bad n) good ≡ good t) o.1 e))))
@@ -110,7 +111,8 @@ module _ {X T : Type 0} (m : Machine X T) (G : List Lexeme → T → Type 0) (d 
       let y = bind_some (m.step x k) (λ z. states m z b.more) r.0 s in
       none_some y.0 (sym e ∙ next_is x k y.0 p.0 y.1)
 
-  stopped : (s : List Lexeme) (x : X) (n i : ℕ) (all : List Lexeme) → states m m.start all ≡ Some x → Permitted d all → n ≡ length all → parse_from d m x n s ≡ bad i → Stops d G (all ++ s) i
+  stopped : (s : List Lexeme) (x : X) (n i : ℕ) (all : List Lexeme) → states m m.start all ≡ Some x → Permitted d all → n ≡ length all
+      → parse_from d m x n s ≡ bad i → Stops d G (all ++ s) i
   stopped [] x n i all h p l e = elim (known (m.ended x)) [
     | inl o ↦
         let same : n ≡ i = err_is n i (subst (λ (q : Option T). or_else q (bad n) good ≡ bad i) o e) in
@@ -126,7 +128,9 @@ module _ {X T : Type 0} (m : Machine X T) (G : List Lexeme → T → Type 0) (d 
     | inr o ↦
         let w = when_is (permits d k) (m.step x k) o.0 o.1 in
         subst (λ (z : List Lexeme). Stops d G z i) (append_assoc all (k ∷ []) s)
-        (stopped s o.0 (n + 1) i (all ++ k ∷ []) (states_one all k m.start x o.0 h w.1) (permitted_append d all (k ∷ []) p (w.0, tt)) (ap (λ (j : ℕ). j + 1) l ∙ sym (length-append all (k ∷ []))) (subst (λ (q : Option X). or_else q (bad n) (λ y. parse_from d m y (n + 1) s) ≡ bad i) o.1 e))
+        (stopped s o.0 (n + 1) i (all ++ k ∷ []) (states_one all k m.start x o.0 h w.1) (permitted_append d all (k ∷ []) p (w.0, tt))
+        (ap (λ (j : ℕ). j + 1) l ∙ sym (length-append all (k ∷ [])))
+        (subst (λ (q : Option X). or_else q (bad n) (λ y. parse_from d m y (n + 1) s) ≡ bad i) o.1 e))
   ]
 
   -- A fault is where the text stops.

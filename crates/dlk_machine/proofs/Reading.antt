@@ -4,10 +4,10 @@ use Rattle.dlk_grammar.specs.Lexemes.{Lexeme}
 use Rattle.dlk_grammar.specs.Grammar.{Reads}
 use Rattle.dlk_tree.specs.declared.op.Sort.{Sort}
 use Rattle.dlk_tree.specs.declared.op.Sort.TheVariants.{Term, Formula, Program}
-use Rattle.dlk_machine.proofs.Levels.{top}
-use Rattle.dlk_machine.proofs.Machine.{State, Wants, allows}
+use Rattle.dlk_machine.specs.Levels.{top}
+use Rattle.dlk_machine.specs.Machine.{State, Wants, allows}
 use Rattle.dlk_grammar.specs.declared.token.Dots.{Dots}
-use Rattle.dlk_machine.proofs.Parse.{reader}
+use Rattle.dlk_machine.specs.Parse.{reader}
 use Rattle.dlk_machine.proofs.Opening.{begun, states}
 use Rattle.dlk_machine.proofs.Only.{only_at}
 use Rattle.dlk_machine.proofs.Spelled.{nothing, After}

@@ -5,71 +5,14 @@ use Rattle.std.proofs.lemmas.List.{append-nil}
 use Rattle.dlk_grammar.specs.declared.token.Infix.TheVariants.{Equiv, Imply, Or, And, Equal, NotEqual, AtLeast, Greater, AtMost, Less, Add, Sub, Mul, Div, Pow, Choice}
 use Rattle.dlk_grammar.specs.Lexemes.{Word, Lexeme, Name, All, Exist, Invariant, RoundBar, BraceBar, Open, Close, OpenBox, CloseBox, OpenBrace, Bang, Prime, Gets, Query, Semi, Comma, Op}
 use Rattle.dlk_grammar.specs.Phrases.{Phrase, Variable, Box, Dia, Noted, Phrases, none, snoc, Item, Items, no_items, add}
-use Rattle.dlk_grammar.specs.Grammar.{Nonterminal, formula, imp, disj, conj, unf, atom, term, mul, neg, pow, prim, prog, seq, stmt, Reads, formula-equiv, imp-imply, disj-or, conj-and, unf-not, unf-forall, unf-exists, unf-box, unf-dia, atom-compare, term-add, term-sub, mul-times, mul-over, neg-minus, pow-power, prog-choice, seq-then, stmt-group, cmp-equal, cmp-not_equal, cmp-at_least, cmp-greater, cmp-at_most, cmp-less, ReadsList, list-one, list-more, ReadsBrace, ReadsItems, items-one, items-more, ReadsItem, ReadsStar, star-none, ReadsInv, inv-none, inv-some, semi-none, semi-some}
+use Rattle.dlk_grammar.specs.Grammar.{Nonterminal, formula, unf, term, neg, prog, stmt, Reads, formula-equiv, imp-imply, disj-or, conj-and, unf-not, unf-forall, unf-exists, unf-box, unf-dia, atom-compare, term-add, term-sub, mul-times, mul-over, neg-minus, pow-power, prog-choice, seq-then, stmt-group, cmp-equal, cmp-not_equal, cmp-at_least, cmp-greater, cmp-at_most, cmp-less, ReadsList, list-one, list-more, ReadsBrace, ReadsItems, items-one, items-more, ReadsItem, ReadsStar, star-none, ReadsInv, inv-none, inv-some, semi-none, semi-some}
 use Rattle.dlk_tree.specs.declared.op.Sort.{Sort}
 use Rattle.dlk_tree.specs.declared.op.Sort.TheVariants.{Term, Formula, Program}
-use Rattle.dlk_machine.proofs.Levels.{form_level, form_sort}
-use Rattle.dlk_machine.proofs.Machine.{◌>>=◌, Between, By, Next, Quantifier, ForAll, ForSome, InBox, InDia, Prefix, Minus, Bang', Bound, Modal, Holder, Round, Args, InContext, In, InBrace, Assigns, Tests, Evolves, Domain, Notes, Part, Left, Before, Inside, level, right_level, operand_sort, result_sort, binary, prefix_level, prefix_sort, unary, Tail, Done, Bare, Grouped, Braced, Starred, Annotated, Piece, Is, State, Wants, Has, Calls, Bars, BarsName, Binds, Starts, StartsPrime, StartsGets, StartsStar, Opens, OpensName, OpensPrime, WantsItem, ItemName, ItemPrime, ItemBar, ItemBarName, ItemEnds, Invariants, as_sort, tail_of, is_program, wanted, join, reduce, fits}
+use Rattle.dlk_machine.specs.Levels.{form_level, form_sort}
+use Rattle.dlk_machine.specs.Machine.{◌>>=◌, Between, By, Next, Quantifier, ForAll, ForSome, InBox, InDia, Prefix, Minus, Bang', Bound, Modal, Holder, Round, Args, InContext, In, InBrace, Assigns, Tests, Evolves, Domain, Notes, Part, Left, Before, Inside, level, right_level, operand_sort, result_sort, binary, prefix_level, prefix_sort, unary, Tail, Done, Bare, Grouped, Braced, Starred, Annotated, Piece, Is, State, Wants, Has, Calls, Bars, BarsName, Binds, Starts, StartsPrime, StartsGets, StartsStar, Opens, OpensName, OpensPrime, WantsItem, ItemName, ItemPrime, ItemBar, ItemBarName, ItemEnds, Invariants, as_sort, tail_of, is_program, wanted, join, reduce, fits}
 use Rattle.dlk_machine.proofs.Opening.{bind_some}
-use Rattle.dlk_machine.proofs.Climb.{need, stands}
+use Rattle.dlk_machine.proofs.Climb.{own_form, left_form, right_form, need, stands}
 use Rattle.dlk_machine.proofs.Only.{Loose}
-
-abbrev pub own_form : Between → Nonterminal
-own_form (By Equiv) = formula
-own_form (By Imply) = imp
-own_form (By Or) = disj
-own_form (By And) = conj
-own_form (By Equal) = atom
-own_form (By NotEqual) = atom
-own_form (By AtLeast) = atom
-own_form (By Greater) = atom
-own_form (By AtMost) = atom
-own_form (By Less) = atom
-own_form (By Add) = term
-own_form (By Sub) = term
-own_form (By Mul) = mul
-own_form (By Div) = mul
-own_form (By Pow) = pow
-own_form (By Choice) = prog
-own_form Next = seq
-
-abbrev pub left_form : Between → Nonterminal
-left_form (By Equiv) = imp
-left_form (By Imply) = disj
-left_form (By Or) = conj
-left_form (By And) = unf
-left_form (By Equal) = term
-left_form (By NotEqual) = term
-left_form (By AtLeast) = term
-left_form (By Greater) = term
-left_form (By AtMost) = term
-left_form (By Less) = term
-left_form (By Add) = term
-left_form (By Sub) = term
-left_form (By Mul) = mul
-left_form (By Div) = mul
-left_form (By Pow) = prim
-left_form (By Choice) = seq
-left_form Next = stmt
-
-abbrev pub right_form : Between → Nonterminal
-right_form (By Equiv) = formula
-right_form (By Imply) = imp
-right_form (By Or) = disj
-right_form (By And) = conj
-right_form (By Equal) = term
-right_form (By NotEqual) = term
-right_form (By AtLeast) = term
-right_form (By Greater) = term
-right_form (By AtMost) = term
-right_form (By Less) = term
-right_form (By Add) = mul
-right_form (By Sub) = mul
-right_form (By Mul) = neg
-right_form (By Div) = neg
-right_form (By Pow) = neg
-right_form (By Choice) = prog
-right_form Next = seq
 
 abbrev pub prefix_form : Prefix → Nonterminal
 prefix_form Minus = neg
@@ -79,7 +22,8 @@ abbrev pub mark : Between → List Lexeme
 mark (By o) = Op o ∷ []
 mark Next = []
 
-pub binary_reads : (o : Between) (s r : List Lexeme) (a b : Phrase) → Reads (left_form o) s a → Reads (right_form o) r b → Reads (own_form o) (s ++ (mark o ++ r)) (binary o a b)
+pub binary_reads : (o : Between) (s r : List Lexeme) (a b : Phrase) → Reads (left_form o) s a → Reads (right_form o) r b
+    → Reads (own_form o) (s ++ (mark o ++ r)) (binary o a b)
 binary_reads (By Equiv) s r a b d e = formula-equiv d e
 binary_reads (By Imply) s r a b d e = imp-imply d e
 binary_reads (By Or) s r a b d e = disj-or d e
@@ -107,13 +51,16 @@ pub data PrefixText : Prefix → List Lexeme → Type 0 where
   boxed-text : {s : List Lexeme} {p : Phrase} → Reads prog s p → PrefixText (Modal InBox p) (OpenBox ∷ (s ++ CloseBox ∷ []))
   dia-text : {s : List Lexeme} {p : Phrase} → Reads prog s p → PrefixText (Modal InDia p) (Op Less ∷ (s ++ Op Greater ∷ []))
 
-pub unary_reads : {o : Prefix} {k : List Lexeme} → PrefixText o k → (s : List Lexeme) (a : Phrase) → Reads (prefix_form o) s a → Reads (prefix_form o) (k ++ s) (unary o a)
+pub unary_reads : {o : Prefix} {k : List Lexeme} → PrefixText o k → (s : List Lexeme) (a : Phrase) → Reads (prefix_form o) s a
+    → Reads (prefix_form o) (k ++ s) (unary o a)
 unary_reads minus-text s a d = neg-minus d
 unary_reads bang-text s a d = unf-not d
 unary_reads forall-text s a d = unf-forall d
 unary_reads exists-text s a d = unf-exists d
-unary_reads (boxed-text {s = q} {p = p} e) s a d = subst (λ (l : List Lexeme). Reads unf (OpenBox ∷ l) (Box p a)) (sym (append_assoc q (CloseBox ∷ []) s)) (unf-box e d)
-unary_reads (dia-text {s = q} {p = p} e) s a d = subst (λ (l : List Lexeme). Reads unf (Op Less ∷ l) (Dia p a)) (sym (append_assoc q (Op Greater ∷ []) s)) (unf-dia e d)
+unary_reads (boxed-text {s = q} {p = p} e) s a d =
+    subst (λ (l : List Lexeme). Reads unf (OpenBox ∷ l) (Box p a)) (sym (append_assoc q (CloseBox ∷ []) s)) (unf-box e d)
+unary_reads (dia-text {s = q} {p = p} e) s a d =
+    subst (λ (l : List Lexeme). Reads unf (Op Less ∷ l) (Dia p a)) (sym (append_assoc q (Op Greater ∷ []) s)) (unf-dia e d)
 
 pub record Prefix_table (o : Prefix) : Type 0 where
   pub sort : form_sort (prefix_form o) ≡ prefix_sort o
@@ -143,33 +90,70 @@ pub record Table (o : Between) : Type 0 where
   pub left : (need (left_form o) ≤ level o) ⊎ ((need (left_form o) ≤ level o + 1) × (level o ≤ 5)) ⊎ ((need (left_form o) ≤ 11) × (9 ≤ level o))
   pub assoc : (right_level o ≤ level o) ⊎ (6 ≤ level o)
 
+left_need : (o : Between) → (need (left_form o) ≤ level o) ⊎ ((need (left_form o) ≤ level o + 1) × (level o ≤ 5)) ⊎ ((need (left_form o) ≤ 11) × (9 ≤ level o))
+left_need (By Equiv) = inr (inl (omega arith, omega arith))
+left_need (By Imply) = inr (inl (omega arith, omega arith))
+left_need (By Or) = inr (inl (omega arith, omega arith))
+left_need (By And) = inr (inl (omega arith, omega arith))
+left_need (By Choice) = inr (inl (omega arith, omega arith))
+left_need Next = inr (inl (omega arith, omega arith))
+left_need (By Pow) = inr (inr (omega arith, omega arith))
+left_need _ = inl (omega arith)
+
+associates : (o : Between) → (right_level o ≤ level o) ⊎ (6 ≤ level o)
+associates (By Equiv) = inl (omega arith)
+associates (By Imply) = inl (omega arith)
+associates (By Or) = inl (omega arith)
+associates (By And) = inl (omega arith)
+associates (By Pow) = inl (omega arith)
+associates (By Choice) = inl (omega arith)
+associates Next = inl (omega arith)
+associates _ = inr (omega arith)
+
+table_of : (o : Between) → ((need (left_form o) ≤ level o) ⊎ ((need (left_form o) ≤ level o + 1) × (level o ≤ 5)) ⊎ ((need (left_form o) ≤ 11) × (9 ≤ level o)))
+    → (right_level o ≤ level o) ⊎ (6 ≤ level o) → Table o
+table_of (By Equiv) l a = record {
+  left_sort = refl;
+  right_sort = refl;
+  own_sort = refl;
+  own = refl;
+  right_own = refl;
+  right = omega arith;
+  tight = omega arith;
+  above = omega arith;
+  low = omega arith;
+  level_low = omega arith;
+  left = l;
+  assoc = a;
+}
+table_of _ l a = record {
+  left_sort = refl;
+  right_sort = refl;
+  own_sort = refl;
+  own = refl;
+  right_own = refl;
+  right = omega arith;
+  tight = omega arith;
+  above = omega arith;
+  low = omega arith;
+  level_low = omega arith;
+  left = l;
+  assoc = a;
+}
+
 pub table : (o : Between) → Table o
-table (By Equiv) = record { left_sort = refl; right_sort = refl; own_sort = refl; own = refl; right_own = refl; right = omega arith; tight = omega arith; above = omega arith; low = omega arith; level_low = omega arith; left = inr (inl (omega arith, omega arith)); assoc = inl (omega arith) }
-table (By Imply) = record { left_sort = refl; right_sort = refl; own_sort = refl; own = refl; right_own = refl; right = omega arith; tight = omega arith; above = omega arith; low = omega arith; level_low = omega arith; left = inr (inl (omega arith, omega arith)); assoc = inl (omega arith) }
-table (By Or) = record { left_sort = refl; right_sort = refl; own_sort = refl; own = refl; right_own = refl; right = omega arith; tight = omega arith; above = omega arith; low = omega arith; level_low = omega arith; left = inr (inl (omega arith, omega arith)); assoc = inl (omega arith) }
-table (By And) = record { left_sort = refl; right_sort = refl; own_sort = refl; own = refl; right_own = refl; right = omega arith; tight = omega arith; above = omega arith; low = omega arith; level_low = omega arith; left = inr (inl (omega arith, omega arith)); assoc = inl (omega arith) }
-table (By Equal) = record { left_sort = refl; right_sort = refl; own_sort = refl; own = refl; right_own = refl; right = omega arith; tight = omega arith; above = omega arith; low = omega arith; level_low = omega arith; left = inl (omega arith); assoc = inr (omega arith) }
-table (By NotEqual) = record { left_sort = refl; right_sort = refl; own_sort = refl; own = refl; right_own = refl; right = omega arith; tight = omega arith; above = omega arith; low = omega arith; level_low = omega arith; left = inl (omega arith); assoc = inr (omega arith) }
-table (By AtLeast) = record { left_sort = refl; right_sort = refl; own_sort = refl; own = refl; right_own = refl; right = omega arith; tight = omega arith; above = omega arith; low = omega arith; level_low = omega arith; left = inl (omega arith); assoc = inr (omega arith) }
-table (By Greater) = record { left_sort = refl; right_sort = refl; own_sort = refl; own = refl; right_own = refl; right = omega arith; tight = omega arith; above = omega arith; low = omega arith; level_low = omega arith; left = inl (omega arith); assoc = inr (omega arith) }
-table (By AtMost) = record { left_sort = refl; right_sort = refl; own_sort = refl; own = refl; right_own = refl; right = omega arith; tight = omega arith; above = omega arith; low = omega arith; level_low = omega arith; left = inl (omega arith); assoc = inr (omega arith) }
-table (By Less) = record { left_sort = refl; right_sort = refl; own_sort = refl; own = refl; right_own = refl; right = omega arith; tight = omega arith; above = omega arith; low = omega arith; level_low = omega arith; left = inl (omega arith); assoc = inr (omega arith) }
-table (By Add) = record { left_sort = refl; right_sort = refl; own_sort = refl; own = refl; right_own = refl; right = omega arith; tight = omega arith; above = omega arith; low = omega arith; level_low = omega arith; left = inl (omega arith); assoc = inr (omega arith) }
-table (By Sub) = record { left_sort = refl; right_sort = refl; own_sort = refl; own = refl; right_own = refl; right = omega arith; tight = omega arith; above = omega arith; low = omega arith; level_low = omega arith; left = inl (omega arith); assoc = inr (omega arith) }
-table (By Mul) = record { left_sort = refl; right_sort = refl; own_sort = refl; own = refl; right_own = refl; right = omega arith; tight = omega arith; above = omega arith; low = omega arith; level_low = omega arith; left = inl (omega arith); assoc = inr (omega arith) }
-table (By Div) = record { left_sort = refl; right_sort = refl; own_sort = refl; own = refl; right_own = refl; right = omega arith; tight = omega arith; above = omega arith; low = omega arith; level_low = omega arith; left = inl (omega arith); assoc = inr (omega arith) }
-table (By Pow) = record { left_sort = refl; right_sort = refl; own_sort = refl; own = refl; right_own = refl; right = omega arith; tight = omega arith; above = omega arith; low = omega arith; level_low = omega arith; left = inr (inr (omega arith, omega arith)); assoc = inl (omega arith) }
-table (By Choice) = record { left_sort = refl; right_sort = refl; own_sort = refl; own = refl; right_own = refl; right = omega arith; tight = omega arith; above = omega arith; low = omega arith; level_low = omega arith; left = inr (inl (omega arith, omega arith)); assoc = inl (omega arith) }
-table Next = record { left_sort = refl; right_sort = refl; own_sort = refl; own = refl; right_own = refl; right = omega arith; tight = omega arith; above = omega arith; low = omega arith; level_low = omega arith; left = inr (inl (omega arith, omega arith)); assoc = inl (omega arith) }
+table o = table_of o (left_need o) (associates o)
 
 -- What stands before the next of a list, and of items.
 pub data ListBefore (f : Nonterminal) : Phrases → List Lexeme → Type 0 where
   list-begins : ListBefore f none []
   list-goes_on : {s : List Lexeme} {l : Phrases} → ReadsList f s l → ListBefore f l (s ++ Comma ∷ [])
 
-pub list_joined : {f : Nonterminal} {l : Phrases} {k : List Lexeme} → ListBefore f l k → (r : List Lexeme) (t : Phrase) → Reads f r t → ReadsList f (k ++ r) (snoc l t)
+pub list_joined : {f : Nonterminal} {l : Phrases} {k : List Lexeme} → ListBefore f l k → (r : List Lexeme) (t : Phrase) → Reads f r t
+    → ReadsList f (k ++ r) (snoc l t)
 list_joined list-begins r t d = list-one d
-list_joined {f = f} {l = l} (list-goes_on {s = s} m) r t d = subst (λ (z : List Lexeme). ReadsList f z (snoc l t)) (sym (append_assoc s (Comma ∷ []) r)) (list-more m d)
+list_joined {f = f} {l = l} (list-goes_on {s = s} m) r t d =
+    subst (λ (z : List Lexeme). ReadsList f z (snoc l t)) (sym (append_assoc s (Comma ∷ []) r)) (list-more m d)
 
 pub data ItemsBefore : Items → List Lexeme → Type 0 where
   items-begin : ItemsBefore no_items []
@@ -177,7 +161,8 @@ pub data ItemsBefore : Items → List Lexeme → Type 0 where
 
 pub items_joined : {l : Items} {k : List Lexeme} → ItemsBefore l k → {r : List Lexeme} {i : Item} → ReadsItem r i → ReadsItems (k ++ r) (add l i)
 items_joined items-begin d = items-one d
-items_joined {l = l} (items-go_on {s = s} m) {r} {i} d = subst (λ (z : List Lexeme). ReadsItems z (add l i)) (sym (append_assoc s (Comma ∷ []) r)) (items-more m d)
+items_joined {l = l} (items-go_on {s = s} m) {r} {i} d =
+    subst (λ (z : List Lexeme). ReadsItems z (add l i)) (sym (append_assoc s (Comma ∷ []) r)) (items-more m d)
 
 -- A brace after which an invariant may stand, and a group after which a semicolon may stand.
 pub data Noting : List Lexeme → Phrase → Type 0 where
@@ -190,13 +175,16 @@ pub note_brace : {s : List Lexeme} {a : Phrase} → ReadsBrace s a → Noting s 
 note_brace {s} {a} d = subst (λ (z : List Lexeme). Noting z a) (append-nil s) (noting d star-none)
 
 pub end_note : {r : List Lexeme} {b : Phrase} → Noting r b → Ending r b
-end_note (noting {s = s} {q = q} {b = b} d st) = subst (λ (z : List Lexeme). Ending z b) (ap (λ (z : List Lexeme). s ++ z) (append-nil q)) (ending d st inv-none)
+end_note (noting {s = s} {q = q} {b = b} d st) =
+    subst (λ (z : List Lexeme). Ending z b) (ap (λ (z : List Lexeme). s ++ z) (append-nil q)) (ending d st inv-none)
 
 pub end_stmt : {r : List Lexeme} {c : Phrase} → Ending r c → Reads stmt r c
-end_stmt (ending {s = s} {q = q} {i = i} {c = c} d st inv) = subst (λ (z : List Lexeme). Reads stmt z c) (ap (λ (z : List Lexeme). s ++ (q ++ z)) (append-nil i)) (stmt-group d st inv semi-none)
+end_stmt (ending {s = s} {q = q} {i = i} {c = c} d st inv) =
+    subst (λ (z : List Lexeme). Reads stmt z c) (ap (λ (z : List Lexeme). s ++ (q ++ z)) (append-nil i)) (stmt-group d st inv semi-none)
 
 pub end_semi : {r : List Lexeme} {c : Phrase} → Ending r c → Reads stmt (r ++ Semi ∷ []) c
-end_semi (ending {s = s} {q = q} {i = i} {c = c} d st inv) = subst (λ (z : List Lexeme). Reads stmt z c) (sym (three_parts s q i (Semi ∷ []))) (stmt-group d st inv semi-some)
+end_semi (ending {s = s} {q = q} {i = i} {c = c} d st inv) =
+    subst (λ (z : List Lexeme). Reads stmt z c) (sym (three_parts s q i (Semi ∷ []))) (stmt-group d st inv semi-some)
   where
     three_parts : (s q i e : List Lexeme) → (s ++ (q ++ i)) ++ e ≡ s ++ (q ++ (i ++ e))
     three_parts s q i e = simp append_assoc
@@ -205,13 +193,16 @@ invariants_text : (s q k r : List Lexeme) → s ++ (q ++ Invariant ∷ Open ∷ 
 invariants_text s q k r = sym (simp append_assoc)
 
 -- the last formula of an invariant
-pub end_invariants : {i k : List Lexeme} {b : Phrase} {l : Phrases} → Noting i b → ListBefore formula l k → (r : List Lexeme) (t : Phrase) → Reads formula r t → Ending ((i ++ Invariant ∷ Open ∷ k) ++ (r ++ Close ∷ [])) (Noted b (snoc l t))
-end_invariants {k = k} {b = b} {l = l} (noting {s = s} {q = q} d st) begun r t e = subst (λ (z : List Lexeme). Ending z (Noted b (snoc l t))) (invariants_text s q k r) (ending d st (inv-some (list_joined begun r t e)))
+pub end_invariants : {i k : List Lexeme} {b : Phrase} {l : Phrases} → Noting i b → ListBefore formula l k → (r : List Lexeme) (t : Phrase)
+    → Reads formula r t → Ending ((i ++ Invariant ∷ Open ∷ k) ++ (r ++ Close ∷ [])) (Noted b (snoc l t))
+end_invariants {k = k} {b = b} {l = l} (noting {s = s} {q = q} d st) begun r t e =
+    subst (λ (z : List Lexeme). Ending z (Noted b (snoc l t))) (invariants_text s q k r) (ending d st (inv-some (list_joined begun r t e)))
 
 -- The tokens before what a holder holds, where the holder may stand.
 pub data HolderText (g : Sort) : Holder → List Part → List Lexeme → Type 0 where
   round-text : {S : List Part} {b : Bool} → b ≡ fits g Formula S → fits g Term S ≡ true → HolderText g (Round b) S (Open ∷ [])
-  args-text : {S : List Part} {n : ℕ} {x : Word} {l : Phrases} {k : List Lexeme} → ListBefore term l k → fits g Term S ≡ true → HolderText g (Args n x l) S (Name n x ∷ Open ∷ k)
+  args-text : {S : List Part} {n : ℕ} {x : Word} {l : Phrases} {k : List Lexeme} → ListBefore term l k → fits g Term S ≡ true
+      → HolderText g (Args n x l) S (Name n x ∷ Open ∷ k)
   context-text : {S : List Part} {n m : ℕ} {x : Word} → fits g Formula S ≡ true → HolderText g (InContext x) S (Name n x ∷ OpenBrace m ∷ [])
   box-text : {S : List Part} → fits g Formula S ≡ true → HolderText g (In InBox) S (OpenBox ∷ [])
   in_dia-text : {S : List Part} → fits g Formula S ≡ true → HolderText g (In InDia) S (Op Less ∷ [])
@@ -219,15 +210,20 @@ pub data HolderText (g : Sort) : Holder → List Part → List Lexeme → Type 0
   assigns-text : {S : List Part} {n : ℕ} {x : Word} → fits g Program S ≡ true → HolderText g (Assigns x false) S (Name n x ∷ Gets ∷ [])
   assigns_prime-text : {S : List Part} {n : ℕ} {x : Word} → fits g Program S ≡ true → HolderText g (Assigns x true) S (Name n x ∷ Prime ∷ Gets ∷ [])
   tests-text : {S : List Part} → fits g Program S ≡ true → HolderText g Tests S (Query ∷ [])
-  evolves-text : {S : List Part} {n : ℕ} {l : Items} {x : Word} {k : List Lexeme} (m : ℕ) → ItemsBefore l k → fits g Program S ≡ true → HolderText g (Evolves n l x) S (OpenBrace n ∷ (k ++ Name m x ∷ Prime ∷ Op Equal ∷ []))
-  domain-text : {S : List Part} {n : ℕ} {l : Items} {s : List Lexeme} → ReadsItems s l → fits g Program S ≡ true → HolderText g (Domain n l) S (OpenBrace n ∷ (s ++ Op And ∷ []))
-  notes-text : {S : List Part} {b : Phrase} {l : Phrases} {r k : List Lexeme} → Noting r b → ListBefore formula l k → fits g Program S ≡ true → HolderText g (Notes b l) S (r ++ Invariant ∷ Open ∷ k)
+  evolves-text : {S : List Part} {n : ℕ} {l : Items} {x : Word} {k : List Lexeme} (m : ℕ) → ItemsBefore l k → fits g Program S ≡ true
+      → HolderText g (Evolves n l x) S (OpenBrace n ∷ (k ++ Name m x ∷ Prime ∷ Op Equal ∷ []))
+  domain-text : {S : List Part} {n : ℕ} {l : Items} {s : List Lexeme} → ReadsItems s l → fits g Program S ≡ true
+      → HolderText g (Domain n l) S (OpenBrace n ∷ (s ++ Op And ∷ []))
+  notes-text : {S : List Part} {b : Phrase} {l : Phrases} {r k : List Lexeme} → Noting r b → ListBefore formula l k → fits g Program S ≡ true
+      → HolderText g (Notes b l) S (r ++ Invariant ∷ Open ∷ k)
 
 -- The parts spell the tokens, each where it may stand.
 pub data Spells (g : Sort) : List Part → List Lexeme → Type 0 where
   nothing : Spells g [] []
-  left : {S : List Part} {s r : List Lexeme} {o : Between} {a : Phrase} → Spells g S s → Reads (left_form o) r a → Loose (level o) S → fits g (result_sort o) S ≡ true → Spells g (Left o a ∷ S) (s ++ (r ++ mark o))
-  before : {S : List Part} {s k : List Lexeme} {o : Prefix} → Spells g S s → PrefixText o k → Loose (prefix_level o) S → fits g (prefix_sort o) S ≡ true → Spells g (Before o ∷ S) (s ++ k)
+  left : {S : List Part} {s r : List Lexeme} {o : Between} {a : Phrase} → Spells g S s → Reads (left_form o) r a → Loose (level o) S
+      → fits g (result_sort o) S ≡ true → Spells g (Left o a ∷ S) (s ++ (r ++ mark o))
+  before : {S : List Part} {s k : List Lexeme} {o : Prefix} → Spells g S s → PrefixText o k → Loose (prefix_level o) S → fits g (prefix_sort o) S ≡ true
+      → Spells g (Before o ∷ S) (s ++ k)
   inside : {S : List Part} {s k : List Lexeme} {h : Holder} → Spells g S s → HolderText g h S k → Spells g (Inside h ∷ S) (s ++ k)
 
 -- At a level, the tokens are a text of each nonterminal for which the piece has a tree.
@@ -250,7 +246,8 @@ is_sort Term t l = refl
 is_sort Formula t l = refl
 is_sort Program t l = refl
 
-pub known_tree : (n : Nonterminal) (k : ℕ) (r : Sort) (s : List Lexeme) (t : Phrase) (l : Tail) → form_sort n ≡ r → Reads n s t → k ≡ form_level n → Known k (Is r t l) s
+pub known_tree : (n : Nonterminal) (k : ℕ) (r : Sort) (s : List Lexeme) (t : Phrase) (l : Tail) → form_sort n ≡ r → Reads n s t → k ≡ form_level n
+    → Known k (Is r t l) s
 known_tree n k r s t l e d h m u need_m a =
     let w = tree_of r (form_sort m) t u l a in
     subst (λ (x : Phrase). Reads m s x) w.1 (stands n m s t (omega arith) (e ∙ w.0) d)
@@ -265,7 +262,8 @@ part_level (Before o) = prefix_level o
 part_level (Inside h) = 0
 
 -- a part with its operand
-join_known : (g : Sort) (k : ℕ) (e : Part) (S : List Part) (s r : List Lexeme) (p q : Piece) → Spells g (e ∷ S) s → wanted e ≤ k → Known k p r → join e p ≡ Some q
+join_known : (g : Sort) (k : ℕ) (e : Part) (S : List Part) (s r : List Lexeme) (p q : Piece) → Spells g (e ∷ S) s → wanted e ≤ k → Known k p r
+    → join e p ≡ Some q
     → (s' r' : List Lexeme) × Spells g S s' × Known (part_level e) q r' × Loose (part_level e) S × (1 ≤ part_level e) × (s ++ r ≡ s' ++ r') × Good g S q
 join_known g k (Left o a) S s r p q (left {s = s'} {r = l} sp d loose f) w known j =
     let t = table o in
@@ -275,7 +273,8 @@ join_known g k (Left o a) S s r p q (left {s = s'} {r = l} sp d loose f) w known
       s',
       l ++ (mark o ++ r),
       sp,
-      subst (λ (x : Piece). Known (level o) x (l ++ (mark o ++ r))) q-is (known_tree (own_form o) (level o) (result_sort o) _ _ Done t.own_sort (binary_reads o l r a b.0 d operand) (sym t.own)),
+      subst (λ (x : Piece). Known (level o) x (l ++ (mark o ++ r))) q-is
+          (known_tree (own_form o) (level o) (result_sort o) _ _ Done t.own_sort (binary_reads o l r a b.0 d operand) (sym t.own)),
       loose,
       t.above,
       simp append_assoc,
@@ -289,7 +288,8 @@ join_known g k (Before o) S s r p q (before {s = s'} {k = c} sp text loose f) w 
       s',
       c ++ r,
       sp,
-      subst (λ (x : Piece). Known (prefix_level o) x (c ++ r)) q-is (known_tree (prefix_form o) (prefix_level o) (prefix_sort o) _ _ Done t.sort (unary_reads text r b.0 operand) (sym t.own)),
+      subst (λ (x : Piece). Known (prefix_level o) x (c ++ r)) q-is
+          (known_tree (prefix_form o) (prefix_level o) (prefix_sort o) _ _ Done t.sort (unary_reads text r b.0 operand) (sym t.own)),
       loose,
       t.above,
       append_assoc s' c r,
@@ -345,7 +345,8 @@ pair a b = Some (a, b)
 pub pair_is : {A B : Type 0} (a c : A) (b d : B) → pair a b ≡ pair c d → (a ≡ c) × (b ≡ d)
 pair_is a c b d e = let w = some_eq (a, b) (c, d) e in (ap (λ p. p.0) w, ap (λ p. p.1) w)
 
-pub reduced : (g : Sort) (n k : ℕ) (S : List Part) (s r : List Lexeme) (p : Piece) (T : List Part) (q : Piece) → Spells g S s → Known k p r → Loose k S → 1 ≤ k → ((o : Between) → n ≡ level o → need (left_form o) ≤ k) → Good g S p
+pub reduced : (g : Sort) (n k : ℕ) (S : List Part) (s r : List Lexeme) (p : Piece) (T : List Part) (q : Piece) → Spells g S s → Known k p r → Loose k S
+    → 1 ≤ k → ((o : Between) → n ≡ level o → need (left_form o) ≤ k) → Good g S p
     → reduce n S p ≡ Some (T, q) → Reduced g n T q (s ++ r)
 reduced g n k [] s r p T q sp known loose some lefts good e =
     let w = pair_is [] T p q e in
@@ -426,7 +427,9 @@ loose_formula g (Inside h ∷ S) f = omega arith
 abbrev pub Tailed : Tail → Piece → List Lexeme → Type 0
 Tailed Done p r = Unit {0}
 Tailed (Bare n x) p r = (r ≡ Name n x ∷ []) × (p ≡ Is Term (Variable x false) (Bare n x))
-Tailed Grouped p r = (s : List Lexeme) × (r ≡ Open ∷ (s ++ Close ∷ [])) × ((t : Phrase) → as_sort Term p ≡ Some t → Reads term s t) × ((t : Phrase) → as_sort Formula p ≡ Some t → Reads formula s t) × (is_program p ≡ false)
+Tailed Grouped p r =
+    (s : List Lexeme) × (r ≡ Open ∷ (s ++ Close ∷ [])) × ((t : Phrase) → as_sort Term p ≡ Some t → Reads term s t) ×
+    ((t : Phrase) → as_sort Formula p ≡ Some t → Reads formula s t) × (is_program p ≡ false)
 Tailed Braced p r = (t : Phrase) × ReadsBrace r t × (p ≡ Is Program t Braced)
 Tailed Starred p r = (t : Phrase) × Noting r t × (p ≡ Is Program t Starred)
 Tailed Annotated p r = (t : Phrase) × Ending r t × (p ≡ Is Program t Annotated)
@@ -470,6 +473,7 @@ After g (WantsItem S n l) all = (k : List Lexeme) × ItemsBefore l k × Midway g
 After g (ItemName S n l x) all = (k : List Lexeme) × (m : ℕ) × ItemsBefore l k × Midway g S (OpenBrace n ∷ (k ++ Name m x ∷ [])) Program all
 After g (ItemPrime S n l x) all = (k : List Lexeme) × (m : ℕ) × ItemsBefore l k × Midway g S (OpenBrace n ∷ (k ++ Name m x ∷ Prime ∷ [])) Program all
 After g (ItemBar S n l x) all = (k : List Lexeme) × (m : ℕ) × ItemsBefore l k × Midway g S (OpenBrace n ∷ (k ++ Name m x ∷ BraceBar ∷ [])) Program all
-After g (ItemBarName S n l x y) all = (k : List Lexeme) × (m o : ℕ) × ItemsBefore l k × Midway g S (OpenBrace n ∷ (k ++ Name m x ∷ BraceBar ∷ Name o y ∷ [])) Program all
+After g (ItemBarName S n l x y) all =
+    (k : List Lexeme) × (m o : ℕ) × ItemsBefore l k × Midway g S (OpenBrace n ∷ (k ++ Name m x ∷ BraceBar ∷ Name o y ∷ [])) Program all
 After g (ItemEnds S n l) all = (s : List Lexeme) × ReadsItems s l × Midway g S (OpenBrace n ∷ s) Program all
 After g (Invariants S t) all = (r : List Lexeme) × Noting r t × Midway g S (r ++ Invariant ∷ []) Program all

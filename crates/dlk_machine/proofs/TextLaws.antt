@@ -29,6 +29,7 @@ use Rattle.dlk_grammar.specs.Substitutions.{PairPhrase, ReadsSubstitution, repla
 use Rattle.dlk_grammar.specs.Texts.{TreeText, SequentText, PairsText, TextFault, BadByte, Unread, TreeTextFault, SequentTextFault, PairsTextFault}
 use Rattle.dlk_grammar.proofs.Splitting.{one_split, bad_is_no_split, one_bad}
 use Rattle.dlk_grammar.proofs.Real.{split_tokens}
+use Rattle.dlk_machine.proofs.Stopping.{one_stop}
 use Rattle.dlk_machine.proofs.ParseLaws.{one_read, one_expression_read, one_sides_read, one_pairs_read}
 use Rattle.dlk_machine.proofs.PairsFormed.{ills_of_pairs, pairs_below, pairs_formed}
 use Rattle.dlk_machine.proofs.Formed.{Each, each_append, IsReal, AreReal, IsBelow, AreBelow, grown, grown_expression, grown_sides, formed, expression_formed, formula_formed, sequent_formed, ills_of_sides}
@@ -51,7 +52,9 @@ lexeme_real n kind.End h = tt
 
 pub lexemes_real : (n : ℕ) (ts : List Token) → All (λ t. IsRealToken t.kind) ts → AreReal (lexemes_from n ts)
 lexemes_real n [] h = tt
-lexemes_real n (t ∷ ts) h = each_append IsReal (lexeme_of n t.kind) (lexemes_from (n + 1) ts) (lexeme_real n t.kind (All-head (λ t. IsRealToken t.kind) t ts h)) (lexemes_real (n + 1) ts (All-tail (λ t. IsRealToken t.kind) t ts h))
+lexemes_real n (t ∷ ts) h =
+    each_append IsReal (lexeme_of n t.kind) (lexemes_from (n + 1) ts) (lexeme_real n t.kind (All-head (λ t. IsRealToken t.kind) t ts h))
+    (lexemes_real (n + 1) ts (All-tail (λ t. IsRealToken t.kind) t ts h))
 
 -- and their places are below the number of the tokens
 mark_below : (n m : ℕ) (k : Mark) → n < m → IsBelow m (lexeme_of_mark n k)
@@ -71,7 +74,33 @@ lexeme_below n m kind.End h = tt
 
 pub lexemes_below : (n m : ℕ) (ts : List Token) → n + length ts ≤ m → AreBelow m (lexemes_from n ts)
 lexemes_below n m [] h = tt
-lexemes_below n m (t ∷ ts) h = each_append (IsBelow m) (lexeme_of n t.kind) (lexemes_from (n + 1) ts) (lexeme_below n m t.kind (omega arith)) (lexemes_below (n + 1) m ts (omega arith))
+lexemes_below n m (t ∷ ts) h =
+    each_append (IsBelow m) (lexeme_of n t.kind) (lexemes_from (n + 1) ts) (lexeme_below n m t.kind (omega arith)) (lexemes_below (n + 1) m ts (omega arith))
+
+-- and there are fewer of them, since the end gives none
+one_lexeme : (n : ℕ) (k : TokenKind) → length (lexeme_of n k) ≤ 1
+one_lexeme n (kind.Word x) = omega arith
+one_lexeme n kind.True = omega arith
+one_lexeme n kind.False = omega arith
+one_lexeme n (kind.Number d) = omega arith
+one_lexeme n kind.LongNumber = omega arith
+one_lexeme n (kind.Dot d) = omega arith
+one_lexeme n kind.Hole = omega arith
+one_lexeme n (kind.Mark m) = omega arith
+one_lexeme n kind.End = omega arith
+
+lexemes_before : (n : ℕ) (ts : List Token) (last : Token) → last.kind ≡ kind.End → length (lexemes_from n (ts ++ last ∷ [])) ≤ length ts
+lexemes_before n [] last e = rw e (omega arith)
+lexemes_before n (t ∷ ts) last e =
+    let own = lexeme_of n t.kind in
+    let more = lexemes_from (n + 1) (ts ++ last ∷ []) in
+    omega (arith, length-append own more, one_lexeme n t.kind, lexemes_before (n + 1) ts last e)
+
+pub fewer_lexemes : (ts : List Token) → AreTokens ts → length (lexemes ts) < length ts
+fewer_lexemes ts real =
+    let few : length (lexemes ts) ≤ length real.before =
+    subst (λ (l : List Token). length (lexemes l) ≤ length real.before) (sym real.tokens_are) (lexemes_before 0 real.before real.last real.ends) in
+    omega (arith, ap length real.tokens_are, length-append real.before (real.last ∷ []))
 
 -- the token of a place
 pub record HasToken (ts : List Token) (place : ℕ) : Type 0 where
@@ -84,7 +113,18 @@ token_at (t ∷ ts) zero h = record { at = t.at; token = record { before = []; t
 token_at (t ∷ ts) (suc place) h =
     let w = token_at ts place (omega arith) in
     let x = w.token in
-    record { at = w.at; token = record { before = t ∷ x.before; token = x.token; behind = x.behind; tokens_are = ap (λ (l : List Token). t ∷ l) x.tokens_are; count = ap suc x.count; at_is = x.at_is } }
+    record {
+      at = w.at;
+      token =
+          record {
+            before = t ∷ x.before;
+            token = x.token;
+            behind = x.behind;
+            tokens_are = ap (λ (l : List Token). t ∷ l) x.tokens_are;
+            count = ap suc x.count;
+            at_is = x.at_is;
+          };
+    }
 
 pub least_below : (m n : ℕ) (ns : List ℕ) → n < m → Each (λ k. k < m) ns → fold min n ns < m
 least_below m n [] h g = h
@@ -135,34 +175,45 @@ past_is : (measure : Tree → ℕ) (limit : ℕ) (ts : List Tree) (n m : ℕ) �
 past_is measure limit ts n m a b = elim (seams a.before b.before a.tree b.tree a.behind b.behind (sym a.trees_are ∙ b.trees_are)) [
   | same e f ↦ a.number ∙ ap (λ (t : Tree). min (measure t) 4294967295) f ∙ sym b.number
   | sooner after e ↦
-      let low : measure a.tree ≤ limit = at_seam (λ (t : Tree). measure t ≤ limit) a.before a.tree after (subst (All (λ (t : Tree). measure t ≤ limit)) e b.first) in
+      let low : measure a.tree ≤ limit =
+      at_seam (λ (t : Tree). measure t ≤ limit) a.before a.tree after (subst (All (λ (t : Tree). measure t ≤ limit)) e b.first) in
       absurd (omega (arith, a.past))
   | later after e ↦
-      let low : measure b.tree ≤ limit = at_seam (λ (t : Tree). measure t ≤ limit) b.before b.tree after (subst (All (λ (t : Tree). measure t ≤ limit)) e a.first) in
+      let low : measure b.tree ≤ limit =
+      at_seam (λ (t : Tree). measure t ≤ limit) b.before b.tree after (subst (All (λ (t : Tree). measure t ≤ limit)) e a.first) in
       absurd (omega (arith, b.past))
 ]
 
 -- A form of text: its grammar, the phrases of its trees, and that lexemes say one thing.
-module _ {P : Type 0} (G : List Lexeme → P → Type 0) (parts : P → List Phrase) (one : (s : List Lexeme) (p q : P) → G s p → G s q → p ≡ q) (d : Dots) (tokens : List Token) where
+module _ {P : Type 0} (G : List Lexeme → P → Type 0) (parts : P → List Phrase) (one : (s : List Lexeme) (p q : P) → G s p → G s q → p ≡ q) (d : Dots)
+    (tokens : List Token) where
   one_value : {R : Type 0} (value : P → R) (r q : R) → IsRead G parts d tokens value r → IsRead G parts d tokens value q → r ≡ q
   one_value value r q a b = sym a.value_is ∙ ap value (one (lexemes tokens) a.phrase b.phrase a.says.reads b.says.reads) ∙ b.value_is
 
-  one_shape : (p q : P) (at other : ℕ) → p ≡ q → ((place : ℕ) × (lowest (flat_map ills (parts p)) ≡ Some place) × TokenAt tokens place at) → ((place : ℕ) × (lowest (flat_map ills (parts q)) ≡ Some place) × TokenAt tokens place other) → at ≡ other
+  one_shape : (p q : P) (at other : ℕ) → p ≡ q → ((place : ℕ) × (lowest (flat_map ills (parts p)) ≡ Some place) × TokenAt tokens place at)
+      → ((place : ℕ) × (lowest (flat_map ills (parts q)) ≡ Some place) × TokenAt tokens place other) → at ≡ other
   one_shape p q at other e a b =
       let place : a.0 ≡ b.0 = same_Some a.0 b.0 (sym a.1 ∙ ap (λ (x : P). lowest (flat_map ills (parts x))) e ∙ b.1) in
       token_is tokens b.0 at other (subst (λ (n : ℕ). TokenAt tokens n at) place a.2) b.2
 
-  one_measure : (measure : Tree → ℕ) (limit : ℕ) (p q : P) (n m : ℕ) → p ≡ q → FirstPast measure limit (map erase (parts p)) n → FirstPast measure limit (map erase (parts q)) m → n ≡ m
-  one_measure measure limit p q n m e a b = past_is measure limit (map erase (parts q)) n m (subst (λ (x : P). FirstPast measure limit (map erase (parts x)) n) e a) b
+  one_measure : (measure : Tree → ℕ) (limit : ℕ) (p q : P) (n m : ℕ) → p ≡ q → FirstPast measure limit (map erase (parts p)) n
+      → FirstPast measure limit (map erase (parts q)) m → n ≡ m
+  one_measure measure limit p q n m e a b =
+      past_is measure limit (map erase (parts q)) n m (subst (λ (x : P). FirstPast measure limit (map erase (parts x)) n) e a) b
+
+  one_syntax : (at other : ℕ) → SpeaksAgainst G parts d tokens (Syntax at) → SpeaksAgainst G parts d tokens (Syntax other) → at ≡ other
+  one_syntax at other a b = token_is tokens b.0 at other (subst (λ (n : ℕ). TokenAt tokens n at) (one_stop d G a.1 b.1) a.2) b.2
 
   -- faults of one rank are one
-  one_ranked : (why other : ReadFault) → fault_rank why ≡ fault_rank other → SpeaksAgainst G parts d tokens why → SpeaksAgainst G parts d tokens other → why ≡ other
+  one_ranked : (why other : ReadFault) → fault_rank why ≡ fault_rank other → SpeaksAgainst G parts d tokens why → SpeaksAgainst G parts d tokens other
+      → why ≡ other
   one_ranked (Literal at) (Literal other) e a b = ap Literal (first_is IsLong tokens at other a b)
   one_ranked (Nesting at) (Nesting other) e a b = ap Nesting (first_is OpensTooDeep tokens at other a b)
-  one_ranked Syntax Syntax e a b = refl
+  one_ranked (Syntax at) (Syntax other) e a b = ap Syntax (one_syntax at other a b)
   one_ranked (Shape at) (Shape other) e a b = ap Shape (one_shape a.0 b.0 at other (one (lexemes tokens) a.0 b.0 a.1.reads b.1.reads) a.2 b.2)
   one_ranked (TooBig n) (TooBig m) e a b = ap TooBig (one_measure size most_nodes a.0 b.0 n m (one (lexemes tokens) a.0 b.0 a.1.reads b.1.reads) a.2 b.2)
-  one_ranked (TooDeep n) (TooDeep m) e a b = ap TooDeep (one_measure depth greatest_depth a.0 b.0 n m (one (lexemes tokens) a.0 b.0 a.1.reads b.1.reads) a.2 b.2)
+  one_ranked (TooDeep n) (TooDeep m) e a b =
+      ap TooDeep (one_measure depth greatest_depth a.0 b.0 n m (one (lexemes tokens) a.0 b.0 a.1.reads b.1.reads) a.2 b.2)
   one_ranked _ _ e a b = absurd (omega arith)
 
   one_fault : (why other : ReadFault) → IsReadFault G parts d tokens why → IsReadFault G parts d tokens other → why ≡ other
@@ -173,7 +224,8 @@ module _ {P : Type 0} (G : List Lexeme → P → Type 0) (parts : P → List Phr
   ]
 
   -- where there is no fault, nothing is of ill shape
-  none_ill : (p : P) (ns : List ℕ) → flat_map ills (parts p) ≡ ns → Says d G (lexemes tokens) p → ((why : ReadFault) → ¬ SpeaksAgainst G parts d tokens why) → Each (λ n. n < length tokens) ns → ns ≡ []
+  none_ill : (p : P) (ns : List ℕ) → flat_map ills (parts p) ≡ ns → Says d G (lexemes tokens) p → ((why : ReadFault) → ¬ SpeaksAgainst G parts d tokens why)
+      → Each (λ n. n < length tokens) ns → ns ≡ []
   none_ill p [] e says free below = refl
   none_ill p (n ∷ ns) e says free below =
       let at = token_at tokens (fold min n ns) (least_below (length tokens) n ns below.0 below.1) in
@@ -198,8 +250,10 @@ form_formed Term s p d h e = (formed d h e).well_made
 form_formed Program s p d h e = (formed d h e).well_made
 form_formed Expression s p d h e = expression_formed d h e
 
-pub form_ills_below : (form : Form) (tokens : List Token) (p : Phrase) → grammar form (lexemes tokens) p → Each (λ n. n < length tokens) (flat_map ills (itself p))
-form_ills_below form tokens p d = rw (append-nil (ills p)) (ills_below form (lexemes tokens) p (length tokens) d (lexemes_below 0 (length tokens) tokens (omega arith)))
+pub form_ills_below : (form : Form) (tokens : List Token) (p : Phrase) → grammar form (lexemes tokens) p
+    → Each (λ n. n < length tokens) (flat_map ills (itself p))
+form_ills_below form tokens p d =
+    rw (append-nil (ills p)) (ills_below form (lexemes tokens) p (length tokens) d (lexemes_below 0 (length tokens) tokens (omega arith)))
 
 pub tree_not_ill : (form : Form) (d : Dots) (tokens : List Token) (t : Tree) (a : IsTree form d tokens t) → ills a.phrase ≡ []
 tree_not_ill form d tokens t a =
@@ -207,25 +261,31 @@ tree_not_ill form d tokens t a =
     none_ill (grammar form) itself (one_grammar form) d tokens a.phrase (ills a.phrase) (append-nil (ills a.phrase)) a.says a.no_fault below
 
 pub tree_well_made : (form : Form) (d : Dots) (tokens : List Token) (t : Tree) → AreTokens tokens → IsTree form d tokens t → WellMade t
-tree_well_made form d tokens t real a = subst WellMade a.value_is (form_formed form (lexemes tokens) a.phrase a.says.reads (lexemes_real 0 tokens real.real) (tree_not_ill form d tokens t a))
+tree_well_made form d tokens t real a =
+    subst WellMade a.value_is (form_formed form (lexemes tokens) a.phrase a.says.reads (lexemes_real 0 tokens real.real) (tree_not_ill form d tokens t a))
 
 pub tree_formula : (tokens : List Token) (t : Tree) → AreTokens tokens → IsTree Formula Refused tokens t → IsFormula t
-tree_formula tokens t real a = subst IsFormula a.value_is (formula_formed a.says.reads (lexemes_real 0 tokens real.real) a.says.permitted (tree_not_ill Formula Refused tokens t a))
+tree_formula tokens t real a =
+    subst IsFormula a.value_is (formula_formed a.says.reads (lexemes_real 0 tokens real.real) a.says.permitted (tree_not_ill Formula Refused tokens t a))
 
 pub one_tree_text : (form : Form) (d : Dots) (bytes : List ℕ) (t u : Tree) → TreeText form d bytes t → TreeText form d bytes u → t ≡ u
 one_tree_text form d bytes t u a b =
-    one_value (grammar form) itself (one_grammar form) d a.tokens erase t u a.reads (subst (λ (ts : List Token). IsTree form d ts u) (one_split b.splits a.splits) b.reads)
+    one_value (grammar form) itself (one_grammar form) d a.tokens erase t u a.reads
+    (subst (λ (ts : List Token). IsTree form d ts u) (one_split b.splits a.splits) b.reads)
 
 pub tree_or_fault : (form : Form) (d : Dots) (bytes : List ℕ) (t : Tree) (why : TextFault) → TreeText form d bytes t → TreeTextFault form d bytes why → ⊥
 tree_or_fault form d bytes t (BadByte at) a f = bad_is_no_split f a.splits
-tree_or_fault form d bytes t (Unread why) a f = a.reads.no_fault why (subst (λ (ts : List Token). IsTreeFault form d ts why) (one_split f.1 a.splits) f.2).applies
+tree_or_fault form d bytes t (Unread why) a f =
+    a.reads.no_fault why (subst (λ (ts : List Token). IsTreeFault form d ts why) (one_split f.1 a.splits) f.2).applies
 
-pub one_tree_fault : (form : Form) (d : Dots) (bytes : List ℕ) (why other : TextFault) → TreeTextFault form d bytes why → TreeTextFault form d bytes other → why ≡ other
+pub one_tree_fault : (form : Form) (d : Dots) (bytes : List ℕ) (why other : TextFault) → TreeTextFault form d bytes why → TreeTextFault form d bytes other
+    → why ≡ other
 one_tree_fault form d bytes (BadByte at) (BadByte other) f g = ap BadByte (one_bad f g)
 one_tree_fault form d bytes (BadByte at) (Unread other) f g = absurd (bad_is_no_split f g.1)
 one_tree_fault form d bytes (Unread why) (BadByte other) f g = absurd (bad_is_no_split g f.1)
 one_tree_fault form d bytes (Unread why) (Unread other) f g =
-    ap Unread (one_fault (grammar form) itself (one_grammar form) d f.0 why other f.2 (subst (λ (ts : List Token). IsTreeFault form d ts other) (one_split g.1 f.1) g.2))
+    ap Unread
+    (one_fault (grammar form) itself (one_grammar form) d f.0 why other f.2 (subst (λ (ts : List Token). IsTreeFault form d ts other) (one_split g.1 f.1) g.2))
 
 pub tree_text_well_made : (form : Form) (d : Dots) (bytes : List ℕ) (t : Tree) → TreeText form d bytes t → WellMade t
 tree_text_well_made form d bytes t a = tree_well_made form d a.tokens t (split_tokens a.splits) a.reads
@@ -236,10 +296,14 @@ tree_text_formula bytes t a = tree_formula a.tokens t (split_tokens a.splits) a.
 -- texts of sequents
 ills_in : (l : Phrases) → flat_map ills (phrases_in l) ≡ ills_of_all l
 ills_in none = refl
-ills_in (snoc l p) = flat_map-append ills (phrases_in l) (p ∷ []) ∙ ap (λ (ns : List ℕ). ns ++ (ills p ++ [])) (ills_in l) ∙ ap (λ (ns : List ℕ). ills_of_all l ++ ns) (append-nil (ills p))
+ills_in (snoc l p) =
+    flat_map-append ills (phrases_in l) (p ∷ []) ∙ ap (λ (ns : List ℕ). ns ++ (ills p ++ [])) (ills_in l)
+    ∙ ap (λ (ns : List ℕ). ills_of_all l ++ ns) (append-nil (ills p))
 
 ills_in_sides : (z : Sides) → flat_map ills (both_sides z) ≡ ills_of_sides z
-ills_in_sides (Turned l m) = flat_map-append ills (phrases_in l) (phrases_in m) ∙ ap (λ (ns : List ℕ). ns ++ flat_map ills (phrases_in m)) (ills_in l) ∙ ap (λ (ns : List ℕ). ills_of_all l ++ ns) (ills_in m)
+ills_in_sides (Turned l m) =
+    flat_map-append ills (phrases_in l) (phrases_in m) ∙ ap (λ (ns : List ℕ). ns ++ flat_map ills (phrases_in m)) (ills_in l)
+    ∙ ap (λ (ns : List ℕ). ills_of_all l ++ ns) (ills_in m)
 
 sides_below : (s : List Lexeme) (z : Sides) (m : ℕ) → ReadsSequent s z → AreBelow m s → Each (λ n. n < m) (ills_of_sides z)
 sides_below s (Turned l r) m d h = (grown_sides d).below m h
@@ -253,11 +317,13 @@ sequent_not_ill tokens s a =
     none_ill ReadsSequent both_sides one_sides_read Refused tokens a.phrase (ills_of_sides a.phrase) (ills_in_sides a.phrase) a.says a.no_fault below
 
 pub sequent_formulas : (tokens : List Token) (s : Sequent) → AreTokens tokens → IsSequentOf tokens s → IsSequent s
-sequent_formulas tokens s real a = subst IsSequent a.value_is (sequent_formed a.says.reads (lexemes_real 0 tokens real.real) a.says.permitted (sequent_not_ill tokens s a))
+sequent_formulas tokens s real a =
+    subst IsSequent a.value_is (sequent_formed a.says.reads (lexemes_real 0 tokens real.real) a.says.permitted (sequent_not_ill tokens s a))
 
 pub one_sequent_text : (bytes : List ℕ) (s z : Sequent) → SequentText bytes s → SequentText bytes z → s ≡ z
 one_sequent_text bytes s z a b =
-    one_value ReadsSequent both_sides one_sides_read Refused a.tokens erase_sides s z a.reads (subst (λ (ts : List Token). IsSequentOf ts z) (one_split b.splits a.splits) b.reads)
+    one_value ReadsSequent both_sides one_sides_read Refused a.tokens erase_sides s z a.reads
+    (subst (λ (ts : List Token). IsSequentOf ts z) (one_split b.splits a.splits) b.reads)
 
 pub sequent_or_fault : (bytes : List ℕ) (s : Sequent) (why : TextFault) → SequentText bytes s → SequentTextFault bytes why → ⊥
 sequent_or_fault bytes s (BadByte at) a f = bad_is_no_split f a.splits
@@ -268,7 +334,8 @@ one_sequent_fault bytes (BadByte at) (BadByte other) f g = ap BadByte (one_bad f
 one_sequent_fault bytes (BadByte at) (Unread other) f g = absurd (bad_is_no_split f g.1)
 one_sequent_fault bytes (Unread why) (BadByte other) f g = absurd (bad_is_no_split g f.1)
 one_sequent_fault bytes (Unread why) (Unread other) f g =
-    ap Unread (one_fault ReadsSequent both_sides one_sides_read Refused f.0 why other f.2 (subst (λ (ts : List Token). IsSequentFault ts other) (one_split g.1 f.1) g.2))
+    ap Unread
+    (one_fault ReadsSequent both_sides one_sides_read Refused f.0 why other f.2 (subst (λ (ts : List Token). IsSequentFault ts other) (one_split g.1 f.1) g.2))
 
 pub sequent_text_formulas : (bytes : List ℕ) (s : Sequent) → SequentText bytes s → IsSequent s
 sequent_text_formulas bytes s a = sequent_formulas a.tokens s (split_tokens a.splits) a.reads
@@ -278,14 +345,17 @@ pub pairs_ills_below : (tokens : List Token) (l : List PairPhrase) → ReadsSubs
 pairs_ills_below tokens l d = pairs_below d (length tokens) (lexemes_below 0 (length tokens) tokens (omega arith))
 
 pub pairs_not_ill : (tokens : List Token) (pairs : List Pair) (a : ArePairs tokens pairs) → ills_of_pairs a.phrase ≡ []
-pairs_not_ill tokens pairs a = none_ill ReadsSubstitution replacements one_pairs_read Allowed tokens a.phrase (ills_of_pairs a.phrase) refl a.says a.no_fault (pairs_ills_below tokens a.phrase a.says.reads)
+pairs_not_ill tokens pairs a =
+    none_ill ReadsSubstitution replacements one_pairs_read Allowed tokens a.phrase (ills_of_pairs a.phrase) refl a.says a.no_fault
+    (pairs_ills_below tokens a.phrase a.says.reads)
 
 pub pairs_well_made : (tokens : List Token) (pairs : List Pair) → AreTokens tokens → ArePairs tokens pairs → AreWellMade pairs
 pairs_well_made tokens pairs real a = subst AreWellMade a.value_is (pairs_formed a.says.reads (lexemes_real 0 tokens real.real) (pairs_not_ill tokens pairs a))
 
 pub one_pairs_text : (bytes : List ℕ) (pairs others : List Pair) → PairsText bytes pairs → PairsText bytes others → pairs ≡ others
 one_pairs_text bytes pairs others a b =
-    one_value ReadsSubstitution replacements one_pairs_read Allowed a.tokens erase_pairs pairs others a.reads (subst (λ (ts : List Token). ArePairs ts others) (one_split b.splits a.splits) b.reads)
+    one_value ReadsSubstitution replacements one_pairs_read Allowed a.tokens erase_pairs pairs others a.reads
+    (subst (λ (ts : List Token). ArePairs ts others) (one_split b.splits a.splits) b.reads)
 
 pub pairs_or_fault : (bytes : List ℕ) (pairs : List Pair) (why : TextFault) → PairsText bytes pairs → PairsTextFault bytes why → ⊥
 pairs_or_fault bytes pairs (BadByte at) a f = bad_is_no_split f a.splits
@@ -296,7 +366,9 @@ one_pairs_fault bytes (BadByte at) (BadByte other) f g = ap BadByte (one_bad f g
 one_pairs_fault bytes (BadByte at) (Unread other) f g = absurd (bad_is_no_split f g.1)
 one_pairs_fault bytes (Unread why) (BadByte other) f g = absurd (bad_is_no_split g f.1)
 one_pairs_fault bytes (Unread why) (Unread other) f g =
-    ap Unread (one_fault ReadsSubstitution replacements one_pairs_read Allowed f.0 why other f.2 (subst (λ (ts : List Token). ArePairsFault ts other) (one_split g.1 f.1) g.2))
+    ap Unread
+    (one_fault ReadsSubstitution replacements one_pairs_read Allowed f.0 why other f.2
+    (subst (λ (ts : List Token). ArePairsFault ts other) (one_split g.1 f.1) g.2))
 
 pub pairs_text_well_made : (bytes : List ℕ) (pairs : List Pair) → PairsText bytes pairs → AreWellMade pairs
 pairs_text_well_made bytes pairs a = pairs_well_made a.tokens pairs (split_tokens a.splits) a.reads

@@ -1,0 +1,7 @@
+pub mod Levels
+pub mod Machine
+pub mod Parse
+pub mod Sequents
+pub mod Expressions
+pub mod Pairs
+pub mod Forms

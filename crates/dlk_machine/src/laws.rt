@@ -5,16 +5,14 @@ ghost use Rattle.dlk_calculus.specs.Sequents.{Sequent, IsFormula, IsSequent};
 ghost use Rattle.dlk_calculus.specs.Pairs.{Pair, AreWellMade};
 ghost use Rattle.dlk_grammar.specs.declared.token.Dots.{Dots as TheDots};
 ghost use Rattle.dlk_grammar.specs.declared.token.Dots.TheVariants.{Refused};
-ghost use Rattle.dlk_grammar.specs.declared.token.Token.{Token as TheToken};
 ghost use Rattle.dlk_grammar.specs.declared.token.Form.{Form as TheForm};
 ghost use Rattle.dlk_grammar.specs.declared.token.Form.TheVariants.{Formula};
 ghost use Rattle.dlk_grammar.specs.Lexemes.{Lexeme};
 ghost use Rattle.dlk_grammar.specs.Phrases.{Phrase};
 ghost use Rattle.dlk_grammar.specs.Grammar.{Nonterminal, Reads, Sides, ReadsSequent, ReadsExpression};
-ghost use Rattle.dlk_grammar.specs.Splits.{Splits};
-ghost use Rattle.dlk_grammar.specs.Readings.{ReadFault};
+ghost use Rattle.dlk_grammar.specs.Readings.{Says, Stops, grammar};
 ghost use Rattle.dlk_grammar.specs.Substitutions.{PairPhrase, ReadsSubstitution};
-ghost use Rattle.dlk_grammar.specs.Texts.{TreeText, SequentText, PairsText, TextFault, Unread, TreeTextFault, SequentTextFault, PairsTextFault};
+ghost use Rattle.dlk_grammar.specs.Texts.{TreeText, SequentText, PairsText, TextFault, TreeTextFault, SequentTextFault, PairsTextFault};
 
 /// Lexemes are at most one phrase of each nonterminal.
 pub fn one_phrase()
@@ -36,14 +34,30 @@ pub fn one_pairs()
     ensures { (s : List Lexeme) (p q : List PairPhrase) → ReadsSubstitution s p → ReadsSubstitution s q → p ≡ q }
 {}
 
-/// Bytes are a text of at most one tree or have at most one fault, and never both; where they are split into tokens,
-/// they are such a text or have such a fault. The tree is well made, and where a formula without argument dots is wanted,
-/// it is one.
+/// The first lexeme at which no text of a form goes on is one.
+pub fn one_stop()
+    ensures trees { (form : TheForm) (d : TheDots) (s : List Lexeme) (i j : ℕ) → Stops d (grammar form) s i → Stops d (grammar form) s j → i ≡ j }
+    ensures sequents { (d : TheDots) (s : List Lexeme) (i j : ℕ) → Stops d ReadsSequent s i → Stops d ReadsSequent s j → i ≡ j }
+    ensures pairs { (d : TheDots) (s : List Lexeme) (i j : ℕ) → Stops d ReadsSubstitution s i → Stops d ReadsSubstitution s j → i ≡ j }
+{}
+
+/// A text of a form stops nowhere.
+pub fn no_stop()
+    ensures trees { (form : TheForm) (d : TheDots) (s : List Lexeme) (p : Phrase) (i : ℕ) → Says d (grammar form) s p → Stops d (grammar form) s i → ⊥ }
+    ensures sequents { (d : TheDots) (s : List Lexeme) (p : Sides) (i : ℕ) → Says d ReadsSequent s p → Stops d ReadsSequent s i → ⊥ }
+    ensures pairs { (d : TheDots) (s : List Lexeme) (p : List PairPhrase) (i : ℕ) → Says d ReadsSubstitution s p → Stops d ReadsSubstitution s i → ⊥ }
+{}
+
+/// Bytes are a text of one tree or have one fault, and never both. The tree is well made, and where a formula without
+/// argument dots is wanted, it is one.
 pub fn tree_texts()
     ensures one { (form : TheForm) (d : TheDots) (bytes : List ℕ) (t u : Tree) → TreeText form d bytes t → TreeText form d bytes u → t ≡ u }
-    ensures no_fault { (form : TheForm) (d : TheDots) (bytes : List ℕ) (t : Tree) (why : TextFault) → TreeText form d bytes t → TreeTextFault form d bytes why → ⊥ }
-    ensures one_fault { (form : TheForm) (d : TheDots) (bytes : List ℕ) (why other : TextFault) → TreeTextFault form d bytes why → TreeTextFault form d bytes other → why ≡ other }
-    ensures some { (form : TheForm) (d : TheDots) (bytes : List ℕ) (ts : List TheToken) → Splits 0 bytes ts → ((t : Tree) × TreeText form d bytes t) ⊎ ((why : ReadFault) × TreeTextFault form d bytes (Unread why)) }
+    ensures no_fault { (form : TheForm) (d : TheDots) (bytes : List ℕ) (t : Tree) (why : TextFault)
+        → TreeText form d bytes t → TreeTextFault form d bytes why → ⊥ }
+    ensures one_fault { (form : TheForm) (d : TheDots) (bytes : List ℕ) (why other : TextFault)
+        → TreeTextFault form d bytes why → TreeTextFault form d bytes other → why ≡ other }
+    ensures some { (form : TheForm) (d : TheDots) (bytes : List ℕ)
+        → ((t : Tree) × TreeText form d bytes t) ⊎ ((why : TextFault) × TreeTextFault form d bytes why) }
     ensures well_made { (form : TheForm) (d : TheDots) (bytes : List ℕ) (t : Tree) → TreeText form d bytes t → WellMade t }
     ensures formulas { (bytes : List ℕ) (t : Tree) → TreeText Formula Refused bytes t → IsFormula t }
 {}
@@ -53,7 +67,7 @@ pub fn sequent_texts()
     ensures one { (bytes : List ℕ) (s z : Sequent) → SequentText bytes s → SequentText bytes z → s ≡ z }
     ensures no_fault { (bytes : List ℕ) (s : Sequent) (why : TextFault) → SequentText bytes s → SequentTextFault bytes why → ⊥ }
     ensures one_fault { (bytes : List ℕ) (why other : TextFault) → SequentTextFault bytes why → SequentTextFault bytes other → why ≡ other }
-    ensures some { (bytes : List ℕ) (ts : List TheToken) → Splits 0 bytes ts → ((s : Sequent) × SequentText bytes s) ⊎ ((why : ReadFault) × SequentTextFault bytes (Unread why)) }
+    ensures some { (bytes : List ℕ) → ((s : Sequent) × SequentText bytes s) ⊎ ((why : TextFault) × SequentTextFault bytes why) }
     ensures formulas { (bytes : List ℕ) (s : Sequent) → SequentText bytes s → IsSequent s }
 {}
 
@@ -62,6 +76,6 @@ pub fn pairs_texts()
     ensures one { (bytes : List ℕ) (pairs others : List Pair) → PairsText bytes pairs → PairsText bytes others → pairs ≡ others }
     ensures no_fault { (bytes : List ℕ) (pairs : List Pair) (why : TextFault) → PairsText bytes pairs → PairsTextFault bytes why → ⊥ }
     ensures one_fault { (bytes : List ℕ) (why other : TextFault) → PairsTextFault bytes why → PairsTextFault bytes other → why ≡ other }
-    ensures some { (bytes : List ℕ) (ts : List TheToken) → Splits 0 bytes ts → ((pairs : List Pair) × PairsText bytes pairs) ⊎ ((why : ReadFault) × PairsTextFault bytes (Unread why)) }
+    ensures some { (bytes : List ℕ) → ((pairs : List Pair) × PairsText bytes pairs) ⊎ ((why : TextFault) × PairsTextFault bytes why) }
     ensures well_made { (bytes : List ℕ) (pairs : List Pair) → PairsText bytes pairs → AreWellMade pairs }
 {}

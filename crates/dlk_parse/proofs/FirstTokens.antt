@@ -1,19 +1,16 @@
 -- The first token with a property.
-use Rattle.std.proofs.Common.{◌≡◌, ℕ, suc, ◌+◌, ◌-◌, ◌<◌, ◌≤◌, Bool, true, false, cond, IsTrue, List, [], ◌∷◌, ◌++◌, length, get_or, take, drop, refl, sym, ap, subst, ◌∙◌, arith, rules, inl, inr}
+use Rattle.std.proofs.Common.{◌≡◌, ℕ, suc, ◌+◌, ◌-◌, ◌<◌, ◌≤◌, Bool, true, false, cond, IsTrue, List, [], ◌∷◌, ◌++◌, length, get_or, take, drop, refl, sym, ap, subst, ◌∙◌, arith, rules, inl, inr, Option, Some, None}
 use Rattle.std.specs.Prelude.{◌↔◌}
 use Rattle.std.proofs.lemmas.Bool.{cases_lt}
-use Rattle.std.proofs.lemmas.List.{take_more, take_all, take-append-drop, length-append}
+use Rattle.std.proofs.lemmas.List.{take_more, take-append-drop, length-append, map-append}
 use Rattle.std.proofs.lemmas.List.Sums.{fold-append}
 use Rattle.std.proofs.Math.Seq.{drop-cons}
 use Rattle.dlk_grammar.specs.declared.token.Token.{Token}
 use Rattle.dlk_grammar.specs.declared.token.TokenKind.{TokenKind}
 use Rattle.dlk_grammar.specs.Readings.{FirstAt, OpensTooDeep, opens, closes, bracket_level, level_behind}
 use Rattle.dlk_machine.proofs.TextLaws.{seams, same, sooner, later}
-use Rattle.dlk_parse.specs.Limits.{HasNone}
-
--- none of these tokens has the property
-pub record NoneIn (Is : List Token → TokenKind → Type 0) (before : List Token) : Type 0 where
-  pub none : (front after : List Token) (t : Token) → before ≡ front ++ t ∷ after → ¬ Is front t.kind
+use Rattle.dlk_parse.specs.Limits.{HasNone, starts_of}
+use Rattle.dlk_parse.specs.Scans.{NoneIn, FirstOf}
 
 pub none_yet : (Is : List Token → TokenKind → Type 0) → NoneIn Is []
 none_yet Is = record { none = λ front after t e is. absurd (omega (arith, ap length e, length-append front (t ∷ after))) }
@@ -28,29 +25,37 @@ more Is before t h not = record {
   ];
 }
 
-module _ (Is : List Token → TokenKind → Type 0) (ts : List Token) (i : ℕ) (t : Token) (lt : i < length ts) (at : t ≡ get_or ts i t) (h : NoneIn Is (take i ts)) where
-  pub none_more : ¬ Is (take i ts) t.kind → NoneIn Is (take (i + 1) ts)
-  none_more not = subst (NoneIn Is) (sym (take_more ts i t lt ∙ ap (λ (x : Token). take i ts ++ x ∷ []) (sym at))) (more Is (take i ts) t h not)
+-- the first of all tokens with the property, behind one more token
+module _ (Is : List Token → TokenKind → Type 0) (all seen behind : List Token) (t : Token) (e : all ≡ seen ++ t ∷ behind) where
+  pub first_here : NoneIn Is seen → Is seen t.kind → FirstAt Is all t.at
+  first_here h is = record { before = seen; token = t; behind = behind; tokens_are = e; is = is; first = h.none; place = refl }
 
-  pub first_here : Is (take i ts) t.kind → FirstAt Is ts t.at
-  first_here is = record {
-    before = take i ts;
-    token = t;
-    behind = drop (suc i) ts;
-    tokens_are = sym (take-append-drop i ts) ∙ ap (λ l. take i ts ++ l) (drop-cons ts i t lt ∙ ap (λ (x : Token). x ∷ drop (suc i) ts) (sym at));
-    is = is;
-    first = h.none;
-    place = refl;
-  }
+  pub none_more : (o : Option ℕ) → o ≡ None → ¬ Is seen t.kind → FirstOf Is all seen o → NoneIn Is (seen ++ t ∷ [])
+  none_more (Some at) f not h = absurd cc
+  none_more None f not h = more Is seen t h not
 
-pub none_first : (Is : List Token → TokenKind → Type 0) (ts : List Token) (i : ℕ) → length ts ≤ i → NoneIn Is (take i ts) → HasNone Is ts
-none_first Is ts i le h = record { at_none = λ at f. h.none f.before f.behind f.token (take_all i ts le ∙ f.tokens_are) f.is }
+  pub none_here : (o : Option ℕ) → o ≡ None → FirstOf Is all seen o → NoneIn Is seen
+  none_here (Some at) f h = absurd cc
+  none_here None f h = h
+
+-- the tokens up to one, and with it
+module _ (ts : List Token) (i : ℕ) (t : Token) (lt : i < length ts) (at : t ≡ get_or ts i t) where
+  pub one_more : take (i + 1) ts ≡ take i ts ++ t ∷ []
+  one_more = take_more ts i t lt ∙ ap (λ (x : Token). take i ts ++ x ∷ []) (sym at)
+
+  pub parted : ts ≡ take i ts ++ t ∷ drop (suc i) ts
+  parted = sym (take-append-drop i ts) ∙ ap (λ l. take i ts ++ l) (drop-cons ts i t lt ∙ ap (λ (x : Token). x ∷ drop (suc i) ts) (sym at))
+
+  pub starts_more : (starts new : List ℕ) → starts ≡ starts_of (take i ts) → new ≡ starts ++ t.at ∷ [] → new ≡ starts_of (take (i + 1) ts)
+  starts_more starts new e f =
+      f ∙ ap (λ l. l ++ t.at ∷ []) e ∙ sym (map-append (λ (x : Token). x.at) (take i ts) (t ∷ [])) ∙ ap starts_of (sym one_more)
+
+pub none_at_all : (Is : List Token → TokenKind → Type 0) (ts : List Token) → NoneIn Is ts → HasNone Is ts
+none_at_all Is ts h = record { at_none = λ at f. h.none f.before f.behind f.token f.tokens_are f.is }
 
 -- the level behind one more token
-pub level_more : (ts : List Token) (i : ℕ) (t : Token) → i < length ts → t ≡ get_or ts i t → bracket_level (take (i + 1) ts) ≡ level_behind (bracket_level (take i ts)) t.kind
-level_more ts i t lt at =
-    ap bracket_level (take_more ts i t lt ∙ ap (λ (x : Token). take i ts ++ x ∷ []) (sym at))
-    ∙ fold-append (λ n u. level_behind n u.kind) 0 (take i ts) (t ∷ [])
+pub level_more : (seen : List Token) (t : Token) → bracket_level (seen ++ t ∷ []) ≡ level_behind (bracket_level seen) t.kind
+level_more seen t = fold-append (λ n u. level_behind n u.kind) 0 seen (t ∷ [])
 
 -- what a test that is true or false says
 pub holds_from : {P : Type 0} {b : Bool} → IsTrue b ↔ P → b ≡ true → P

@@ -7,16 +7,3 @@ pub mod Within
 pub mod Reports
 pub mod SaidLaws
 pub mod SaidPairs
-mod Tops
-mod Agree
-mod Reducing
-mod OperandSteps
-mod ItemSteps
-mod HolderSteps
-mod Steps
-mod Commas
-mod SideSteps
-mod PairSteps
-mod ReadingSteps
-mod PairReading
-mod Stopped

@@ -11,11 +11,11 @@ use Rattle.dlk_tree.specs.declared.op.Op.TheVariants as op
 use Rattle.dlk_grammar.specs.Phrases.{Phrase, Phrases, Noted}
 use Rattle.dlk_grammar.specs.Erased.{count, erase, place_if, ills, lowest}
 use Rattle.dlk_grammar.specs.Readings.{phrases_in}
-use Rattle.dlk_parse.specs.Codes.{postfix, postfix_all}
+use Rattle.dlk_reader.specs.Codes.{postfix, postfix_all}
 use Rattle.dlk_parse.specs.Measures.{measure}
 use Rattle.dlk_parse.specs.Measuring.{lesser, place_when, with_kid, raised, over_kids, joined, beside, measure_step, are_ill}
-use Rattle.dlk_parse.specs.declared.code.Code.{Code}
-use Rattle.dlk_parse.specs.declared.code.Code.TheVariants as code
+use Rattle.dlk_reader.specs.declared.code.Code.{Code}
+use Rattle.dlk_reader.specs.declared.code.Code.TheVariants as code
 use Rattle.dlk_parse.specs.declared.measures.Measure.{Measure}
 use Rattle.dlk_parse.proofs.PhraseParts.{parts, of_each, operator, place_of, IsOver, View, over, noted, view, pops, pops_are, count_is, postfix_all_is, ills_of_all_is}
 use Rattle.dlk_parse.proofs.Stacked.{top_is, below_is}

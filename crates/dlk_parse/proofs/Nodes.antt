@@ -15,13 +15,13 @@ use Rattle.dlk_sequent.proofs.Kept.{trees-kept}
 use Rattle.dlk_grammar.specs.Phrases.{Phrase, Phrases, Noted}
 use Rattle.dlk_grammar.specs.Erased.{count, erase}
 use Rattle.dlk_grammar.specs.Readings.{phrases_in}
-use Rattle.dlk_parse.specs.Codes.{postfix, postfix_all}
+use Rattle.dlk_reader.specs.Codes.{postfix, postfix_all}
 use Rattle.dlk_parse.specs.Made.{IsWellMade, AreMade}
 use Rattle.dlk_parse.specs.Stacks.{top, below}
 use Rattle.dlk_parse.specs.Making.{Making, call, put, put_outside, make_step, making_at, AllWellMade}
 use Rattle.dlk_parse.specs.declared.making.Maker.{Maker}
-use Rattle.dlk_parse.specs.declared.code.Code.{Code}
-use Rattle.dlk_parse.specs.declared.code.Code.TheVariants as code
+use Rattle.dlk_reader.specs.declared.code.Code.{Code}
+use Rattle.dlk_reader.specs.declared.code.Code.TheVariants as code
 use Rattle.dlk_parse.proofs.PhraseParts.{parts, of_each, operator, same_some, IsOver, View, over, noted, view, postfix_all_is}
 use Rattle.dlk_parse.proofs.Stacked.{top_is, below_is}
 

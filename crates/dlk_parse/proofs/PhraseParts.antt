@@ -17,10 +17,10 @@ use Rattle.dlk_grammar.specs.declared.token.Infix.TheVariants.{Equiv, Imply, Or,
 use Rattle.dlk_grammar.specs.Phrases.{Everywhere, Phrase, Literal, Argument, Variable, Apply, Negate, Diff, Truth, Falsity, Hole, Holds, Context, Not, DiffF, Forall, Exists, Box, Dia, Binary, Const, Assign, AssignAny, Test, Then, Loop, System, Noted, Phrases, none, snoc, Call, Any, Evolve, Flow, Items, no_items, add}
 use Rattle.dlk_grammar.specs.Erased.{symbol, ode_items, infix_op, count, erase, erase_all, item_terms, place_if, ills, ills_of_all, ills_of_items}
 use Rattle.dlk_grammar.specs.Readings.{phrases_in}
-use Rattle.dlk_parse.specs.Codes.{postfix, postfix_all, postfix_terms}
+use Rattle.dlk_reader.specs.Codes.{postfix, postfix_all, postfix_terms}
 use Rattle.dlk_parse.specs.Measuring.{are_ill}
-use Rattle.dlk_parse.specs.declared.code.Code.{Code}
-use Rattle.dlk_parse.specs.declared.code.Code.TheVariants as code
+use Rattle.dlk_reader.specs.declared.code.Code.{Code}
+use Rattle.dlk_reader.specs.declared.code.Code.TheVariants as code
 
 -- the right sides of the evolved variables
 abbrev pub right_sides : Items → List Phrase

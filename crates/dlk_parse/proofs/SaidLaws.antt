@@ -21,16 +21,17 @@ use Rattle.dlk_grammar.specs.Grammar.{Nonterminal, Reads, Sides, Turned, ReadsSe
 use Rattle.dlk_grammar.specs.Erased.{erase, erase_all, ills, lowest}
 use Rattle.dlk_grammar.specs.Readings.{grammar, itself, phrases_in, both_sides, erase_sides, IsTree, IsTreeFault, IsSequentOf, IsSequentFault}
 use Rattle.dlk_machine.proofs.Formed.{Each, formed}
-use Rattle.dlk_machine.proofs.Levels.{form_sort}
+use Rattle.dlk_machine.specs.Levels.{form_sort}
 use Rattle.dlk_machine.proofs.ParseLaws.{one_sides_read}
 use Rattle.dlk_machine.proofs.TextLaws.{least_below, one_grammar, form_ills_below, sequent_ills_below, tree_well_made, tree_not_ill, lexemes_real, sequent_formulas}
 use Rattle.dlk_parse.specs.Faults.{IsParseFaultOf}
-use Rattle.dlk_parse.specs.Limits.{AreWithinTokenLimits}
+use Rattle.dlk_parse.specs.Limits.{starts_of, AreWithinTokenLimits}
+use Rattle.dlk_forms.specs.Said.{SaysCode, SaysSides, left_count}
 use Rattle.dlk_parse.specs.Made.{IsWellMade, AreMade}
-use Rattle.dlk_parse.specs.Said.{SaysCode, IsReadCode, SaysSides, AreReadSides, HasPlaces, IsWithin, IsCodeBeyond, left_count}
-use Rattle.dlk_parse.specs.declared.code.Code.{Code}
+use Rattle.dlk_parse.specs.Said.{IsReadCode, AreReadSides, HasPlaces, IsWithin, IsCodeBeyond}
+use Rattle.dlk_reader.specs.declared.code.Code.{Code}
 use Rattle.dlk_parse.specs.declared.fault.ParseFault.{ParseFault}
-use Rattle.dlk_parse.specs.declared.said.SaidSides.{SaidSides}
+use Rattle.dlk_forms.specs.declared.sides.SidesCode.{SidesCode}
 use Rattle.dlk_parse.proofs.Nodes.{drop-map}
 use Rattle.dlk_parse.proofs.PhraseParts.{count_is, erase_all_is}
 use Rattle.dlk_parse.proofs.Reports.{beyond, faultless}
@@ -40,16 +41,19 @@ pub least_among : (m place : ℕ) (ns : List ℕ) → Each (λ n. n < m) ns → 
 least_among m place [] h e = absurd cc
 least_among m place (n ∷ ns) h e = subst (λ k. k < m) (same_Some (fold min n ns) place e) (least_below m n ns h.0 h.1)
 
+pub among_starts : (tokens : List Token) (place : ℕ) → place < length tokens → place < length (starts_of tokens)
+among_starts tokens place l = omega (arith, l, length-map tokens (λ (t : Token). t.at))
+
 -- a tree
 module _ (form : Form) (d : Dots) (tokens : List Token) (code : List Code) where
-  pub tree_places : SaysCode (grammar form) itself d tokens code → HasPlaces code tokens
+  pub tree_places : SaysCode (grammar form) itself d tokens code → HasPlaces code (starts_of tokens)
   tree_places s = record {
     phrases = itself s.said;
     code_is = s.code_is;
-    below = λ place e. least_among (length tokens) place (flat_map ills (itself s.said)) (form_ills_below form tokens s.said s.says.reads) e;
+    below = λ place e. among_starts tokens place (least_among (length tokens) place (flat_map ills (itself s.said)) (form_ills_below form tokens s.said s.says.reads) e);
   }
 
-  pub tree_beyond : AreWithinTokenLimits tokens → SaysCode (grammar form) itself d tokens code → (e : ParseFault) → IsCodeBeyond code tokens e → IsParseFaultOf (IsTreeFault form d tokens) e
+  pub tree_beyond : AreWithinTokenLimits tokens → SaysCode (grammar form) itself d tokens code → (e : ParseFault) → IsCodeBeyond code (starts_of tokens) e → IsParseFaultOf (IsTreeFault form d tokens) e
   tree_beyond calm s e b = beyond (grammar form) itself (one_grammar form) d tokens calm s.said s.says e (b.of_phrases (itself s.said) s.code_is)
 
   pub tree_within : AreWithinTokenLimits tokens → SaysCode (grammar form) itself d tokens code → IsWithin code → IsReadCode (grammar form) itself d tokens code
@@ -71,15 +75,15 @@ module _ (form : Form) (d : Dots) (tokens : List Token) (code : List Code) where
   }
 
 -- a sequent
-module _ (tokens : List Token) (s : SaidSides) where
-  pub sides_places : SaysSides tokens s → HasPlaces s.code.items tokens
+module _ (tokens : List Token) (s : SidesCode) where
+  pub sides_places : SaysSides tokens s → HasPlaces s.code.items (starts_of tokens)
   sides_places h = record {
     phrases = both_sides h.said;
     code_is = h.code_is;
-    below = λ place e. least_among (length tokens) place (flat_map ills (both_sides h.said)) (sequent_ills_below tokens h.said h.says.reads) e;
+    below = λ place e. among_starts tokens place (least_among (length tokens) place (flat_map ills (both_sides h.said)) (sequent_ills_below tokens h.said h.says.reads) e);
   }
 
-  pub sides_beyond : AreWithinTokenLimits tokens → SaysSides tokens s → (e : ParseFault) → IsCodeBeyond s.code.items tokens e → IsParseFaultOf (IsSequentFault tokens) e
+  pub sides_beyond : AreWithinTokenLimits tokens → SaysSides tokens s → (e : ParseFault) → IsCodeBeyond s.code.items (starts_of tokens) e → IsParseFaultOf (IsSequentFault tokens) e
   sides_beyond calm h e b = beyond ReadsSequent both_sides one_sides_read Refused tokens calm h.said h.says e (b.of_phrases (both_sides h.said) h.code_is)
 
   pub sides_within : AreWithinTokenLimits tokens → SaysSides tokens s → IsWithin s.code.items → AreReadSides tokens s
@@ -129,7 +133,7 @@ split_sides (Turned l m) ts n e f =
 left_within : (z : Sides) → left_count z ≤ length (both_sides z)
 left_within (Turned l m) = omega (arith, count_is l, length-append (phrases_in l) (phrases_in m))
 
-module _ (tokens : List Token) (s : SaidSides) (h : AreReadSides tokens s) where
+module _ (tokens : List Token) (s : SidesCode) (h : AreReadSides tokens s) where
   sides_read : IsSequentOf tokens (erase_sides h.said)
   sides_read = record { phrase = h.said; says = h.says; value_is = refl; no_fault = h.no_fault }
 

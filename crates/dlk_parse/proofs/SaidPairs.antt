@@ -1,5 +1,5 @@
 -- From what the tokens of a substitution say to its pairs.
-use Rattle.std.proofs.Common.{◌≡◌, List, [], ◌∷◌, length, map, Err, refl, sym, ap, subst, ◌∙◌}
+use Rattle.std.proofs.Common.{◌≡◌, List, [], ◌∷◌, length, map, refl, sym, ap, subst, ◌∙◌}
 use Rattle.std.specs.Prelude.{All, flat_map}
 use Rattle.std.proofs.lemmas.List.Elements.{All-map}
 use Rattle.dlk_tree.specs.Trees.{Tree, WellMade}
@@ -11,44 +11,30 @@ use Rattle.dlk_sequent.specs.declared.subst.Pair.{Pair}
 use Rattle.dlk_grammar.specs.declared.token.Token.{Token}
 use Rattle.dlk_grammar.specs.declared.token.Dots.TheVariants.{Allowed}
 use Rattle.dlk_grammar.specs.RealTokens.{AreTokens}
-use Rattle.dlk_grammar.specs.Lexemes.{lexemes}
 use Rattle.dlk_grammar.specs.Erased.{erase, ills}
 use Rattle.dlk_grammar.specs.Substitutions.{PairPhrase, ReadsSubstitution, replacements, erase_pairs, ArePairs, ArePairsFault}
-use Rattle.dlk_machine.proofs.Pairs.{pairs_reader}
-use Rattle.dlk_machine.proofs.Parse.{parse}
-use Rattle.dlk_machine.proofs.ParseLaws.{pairs_read_says, pairs_fault_says_nothing, one_pairs_read}
+use Rattle.dlk_machine.proofs.ParseLaws.{one_pairs_read}
 use Rattle.dlk_machine.proofs.TextLaws.{pairs_ills_below, pairs_well_made}
 use Rattle.dlk_parse.specs.Faults.{IsParseFaultOf}
-use Rattle.dlk_parse.specs.Limits.{AreWithinTokenLimits}
+use Rattle.dlk_parse.specs.Limits.{starts_of, AreWithinTokenLimits}
 use Rattle.dlk_parse.specs.Made.{IsWellMade, AreMade}
-use Rattle.dlk_parse.specs.Readers.{IsParsed, Answers}
-use Rattle.dlk_parse.specs.PairReaders.{IsCodeOfPairs, SaysPairs, AreReadPairs}
-use Rattle.dlk_parse.specs.Said.{IsNoText, HasPlaces, IsWithin, IsCodeBeyond}
-use Rattle.dlk_parse.specs.Stops.{of_stop}
+use Rattle.dlk_forms.specs.Said.{SaysPairs}
+use Rattle.dlk_parse.specs.Said.{AreReadPairs, HasPlaces, IsWithin, IsCodeBeyond}
 use Rattle.dlk_parse.specs.declared.fault.ParseFault.{ParseFault}
-use Rattle.dlk_parse.specs.declared.pairs.PairsCode.{PairsCode}
-use Rattle.dlk_parse.specs.declared.stop.Stop.{Stop}
-use Rattle.dlk_parse.specs.declared.stop.Stop.TheVariants.{Memory, Syntax}
+use Rattle.dlk_forms.specs.declared.pairs.PairsCode.{PairsCode}
 use Rattle.dlk_parse.proofs.Reports.{beyond, faultless}
-use Rattle.dlk_parse.proofs.SaidLaws.{least_among, All-from_map}
+use Rattle.dlk_parse.proofs.SaidLaws.{least_among, among_starts, All-from_map}
 
 module _ (tokens : List Token) where
-  pub pairs_said : (c : PairsCode) → IsParsed IsCodeOfPairs c (parse Allowed pairs_reader (lexemes tokens)) → SaysPairs tokens c
-  pairs_said c h = record { said = h.said; says = pairs_read_says (lexemes tokens) h.said h.parsed; shown = h.shown }
-
-  pub pairs_unsaid : (stop : Stop) → Answers {X = PairsCode} IsCodeOfPairs (parse Allowed pairs_reader (lexemes tokens)) (Err stop) → IsParseFaultOf (IsNoText ReadsSubstitution Allowed tokens) (of_stop stop)
-  pairs_unsaid Memory h = tt
-  pairs_unsaid (Syntax place) h = pairs_fault_says_nothing (lexemes tokens) place h
-
   module _ (c : PairsCode) where
-    pub pairs_places : SaysPairs tokens c → HasPlaces c.code.items tokens
+    pub pairs_places : SaysPairs tokens c → HasPlaces c.code.items (starts_of tokens)
     pairs_places h = record {
       phrases = replacements h.said;
       code_is = h.shown.code;
-      below = λ place e. least_among (length tokens) place (flat_map ills (replacements h.said)) (pairs_ills_below tokens h.said h.says.reads) e;
+      below = λ place e. among_starts tokens place (least_among (length tokens) place (flat_map ills (replacements h.said)) (pairs_ills_below tokens h.said h.says.reads) e);
     }
 
-    pub pairs_beyond : AreWithinTokenLimits tokens → SaysPairs tokens c → (e : ParseFault) → IsCodeBeyond c.code.items tokens e → IsParseFaultOf (ArePairsFault tokens) e
+    pub pairs_beyond : AreWithinTokenLimits tokens → SaysPairs tokens c → (e : ParseFault) → IsCodeBeyond c.code.items (starts_of tokens) e → IsParseFaultOf (ArePairsFault tokens) e
     pairs_beyond calm h e b = beyond ReadsSubstitution replacements one_pairs_read Allowed tokens calm h.said h.says e (b.of_phrases (replacements h.said) h.shown.code)
 
     pub pairs_within : AreWithinTokenLimits tokens → SaysPairs tokens c → IsWithin c.code.items → AreReadPairs tokens c

@@ -1,22 +1,19 @@
 -- What measures say of the phrases that were measured.
-use Rattle.std.proofs.Common.{◌≡◌, ℕ, suc, ◌<◌, ◌≤◌, min, List, [], ◌∷◌, ◌++◌, length, get_or, take, drop, map, Option, Some, None, true, false, cond, refl, sym, ap, ◌∙◌, arith, fold, inl, inr, lit<}
-use Rattle.std.specs.Prelude.{All, nat_lt, flat_map, ◌⊎◌}
+use Rattle.std.proofs.Common.{◌≡◌, ℕ, zero, suc, ◌<◌, ◌≤◌, min, List, [], ◌∷◌, length, get_or, map, Option, Some, None, true, false, cond, refl, sym, ap, ◌∙◌, arith, fold, inl, inr, lit<}
+use Rattle.std.specs.Prelude.{All, nat_lt, flat_map, slice_get, ◌⊎◌}
 use Rattle.std.proofs.lemmas.Bool.{cases_lt}
-use Rattle.std.proofs.lemmas.List.{take-append-drop, length-take-le}
-use Rattle.std.proofs.Math.Seq.{drop-cons}
 use Rattle.std.proofs.lemmas.Bool.Decides.{nat_tests}
 use Rattle.std.proofs.lemmas.List.Elements.{All-nil, All-cons}
 use Rattle.dlk_tree.specs.Trees.{Tree, size, depth}
-use Rattle.dlk_grammar.specs.declared.token.Token.{Token}
 use Rattle.dlk_grammar.specs.Phrases.{Phrase}
 use Rattle.dlk_grammar.specs.Erased.{erase, ills, lowest}
 use Rattle.dlk_calculus.specs.Limits.{most_nodes, greatest_depth}
-use Rattle.dlk_grammar.specs.Readings.{TokenAt, FirstPast}
+use Rattle.dlk_grammar.specs.Readings.{FirstPast}
 use Rattle.dlk_parse.specs.Measures.{measure, AreMeasures}
 use Rattle.dlk_parse.specs.Measuring.{lesser}
 use Rattle.dlk_parse.specs.Limits.{least_ill, past, IsAmong, KnowsWithin, KnowsBeyond}
 use Rattle.dlk_parse.specs.Said.{HasPlaces}
-use Rattle.dlk_parse.specs.declared.code.Code.{Code}
+use Rattle.dlk_reader.specs.declared.code.Code.{Code}
 use Rattle.dlk_parse.specs.declared.measures.Measure.{Measure}
 use Rattle.dlk_parse.specs.declared.fault.ParseFault.TheVariants as parse
 use Rattle.dlk_parse.proofs.Measuring.{lowest-append, lesser_none, lesser_assoc}
@@ -84,8 +81,8 @@ depths_are (p ∷ ps) = ap (λ ns. min (depth (erase p)) 4294967295 ∷ ns) (dep
 
 -- what the tests answer of measures, said of the phrases
 module _ (ms : List Measure) where
-  pub ill_is : (tokens : List Token) (place at : ℕ) → least_ill ms ≡ Some place → TokenAt tokens place at → KnowsBeyond ms tokens (parse.Shape at)
-  ill_is tokens place at e t = record { of_phrases = λ ps f. (place, sym (least_ill_is ps) ∙ ap least_ill (sym f) ∙ e, t) }
+  pub ill_is : (starts : List ℕ) (place at : ℕ) → least_ill ms ≡ Some place → slice_get starts place ≡ Some at → KnowsBeyond ms starts (parse.Shape at)
+  ill_is starts place at e t = record { of_phrases = λ ps f. (place, sym (least_ill_is ps) ∙ ap least_ill (sym f) ∙ e, t) }
 
   module _ (fine : least_ill ms ≡ None) where
     shape : (ps : List Phrase) → ms ≡ map measure ps → lowest (flat_map ills ps) ≡ None
@@ -97,11 +94,15 @@ module _ (ms : List Measure) where
     depths : (ps : List Phrase) → ms ≡ map measure ps → (o : Option ℕ) → past greatest_depth (map (λ m. m.depth) ms) ≡ o → past greatest_depth (map (λ t. min (depth t) 4294967295) (map erase ps)) ≡ o
     depths ps f o e = ap (past greatest_depth) (sym (depths_are ps)) ∙ ap (λ (l : List Measure). past greatest_depth (map (λ m. m.depth) l)) (sym f) ∙ e
 
-    pub big_is : (tokens : List Token) (n : ℕ) → past most_nodes (map (λ m. m.size) ms) ≡ Some n → KnowsBeyond ms tokens (parse.TooBig n)
-    big_is tokens n e = record { of_phrases = λ ps f. (shape ps f, first_past size most_nodes (lit< tt) (map erase ps) n (sizes ps f (Some n) e)) }
+    pub big_is : (starts : List ℕ) (n : ℕ) → past most_nodes (map (λ m. m.size) ms) ≡ Some n → KnowsBeyond ms starts (parse.TooBig n)
+    big_is starts n e = record { of_phrases = λ ps f. (shape ps f, first_past size most_nodes (lit< tt) (map erase ps) n (sizes ps f (Some n) e)) }
 
-    pub deep_is : (tokens : List Token) (n : ℕ) → past most_nodes (map (λ m. m.size) ms) ≡ None → past greatest_depth (map (λ m. m.depth) ms) ≡ Some n → KnowsBeyond ms tokens (parse.TooDeep n)
-    deep_is tokens n g e = record { of_phrases = λ ps f. (shape ps f, none_past size most_nodes (lit< tt) (map erase ps) (sizes ps f None g), first_past depth greatest_depth (lit< tt) (map erase ps) n (depths ps f (Some n) e)) }
+    pub deep_is : (starts : List ℕ) (n : ℕ) → past most_nodes (map (λ m. m.size) ms) ≡ None → past greatest_depth (map (λ m. m.depth) ms) ≡ Some n →
+        KnowsBeyond ms starts (parse.TooDeep n)
+    deep_is starts n g e = record {
+      of_phrases = λ ps f.
+          (shape ps f, none_past size most_nodes (lit< tt) (map erase ps) (sizes ps f None g), first_past depth greatest_depth (lit< tt) (map erase ps) n (depths ps f (Some n) e));
+    }
 
     pub fine_is : past most_nodes (map (λ m. m.size) ms) ≡ None → past greatest_depth (map (λ m. m.depth) ms) ≡ None → KnowsWithin ms
     fine_is g e = record {
@@ -112,19 +113,17 @@ module _ (ms : List Measure) where
       };
     }
 
--- the token that an index reads is at its place
-pub token_here : (tokens : List Token) (place : ℕ) (d : Token) → place < length tokens → TokenAt tokens place (get_or tokens place d).at
-token_here tokens place d h = record {
-  before = take place tokens;
-  token = get_or tokens place d;
-  behind = drop (suc place) tokens;
-  tokens_are = sym (take-append-drop place tokens) ∙ ap (λ (l : List Token). take place tokens ++ l) (drop-cons tokens place d h);
-  count = length-take-le place tokens (omega arith);
-  at_is = refl;
+pub among : (code : List Code) (starts : List ℕ) (ms : List Measure) → HasPlaces code starts → AreMeasures code ms → IsAmong ms starts
+among code starts ms h m = record {
+  below = λ place e. h.below place (sym (least_ill_is h.phrases) ∙ ap least_ill (sym (m.of_phrases h.phrases h.code_is)) ∙ e);
 }
 
-pub among : (code : List Code) (tokens : List Token) (ms : List Measure) → HasPlaces code tokens → AreMeasures code ms → IsAmong ms tokens
-among code tokens ms h m = record { below = λ place e. h.below place (sym (least_ill_is h.phrases) ∙ ap least_ill (sym (m.of_phrases h.phrases h.code_is)) ∙ e) }
-
-pub ill_at : (ms : List Measure) (tokens : List Token) (place : ℕ) (d : Token) → least_ill ms ≡ Some place → place < length tokens → KnowsBeyond ms tokens (parse.Shape (get_or tokens place d).at)
-ill_at ms tokens place d e h = ill_is ms tokens place (get_or tokens place d).at e (token_here tokens place d h)
+-- the start that an index reads
+pub ill_at : (ms : List Measure) (starts : List ℕ) (place d : ℕ) → least_ill ms ≡ Some place → place < length starts →
+    KnowsBeyond ms starts (parse.Shape (get_or starts place d))
+ill_at ms starts place d e h = ill_is ms starts place (get_or starts place d) e (slice_get_is starts place d h)
+  where
+    slice_get_is : (xs : List ℕ) (i d : ℕ) → i < length xs → slice_get xs i ≡ Some (get_or xs i d)
+    slice_get_is [] i d l = absurd (omega arith)
+    slice_get_is (x ∷ xs) zero d l = refl
+    slice_get_is (x ∷ xs) (suc i) d l = slice_get_is xs i d (omega arith)

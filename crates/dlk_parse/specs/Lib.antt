@@ -1,14 +1,9 @@
 pub mod Faults
-pub mod Codes
 pub mod Measures
 pub mod Stacks
 pub mod Measuring
 pub mod Made
 pub mod Making
 pub mod Limits
+pub mod Scans
 pub mod Said
-pub mod Shows
-pub mod Readers
-pub mod Ends
-pub mod PairReaders
-pub mod Stops

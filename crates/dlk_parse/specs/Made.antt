@@ -5,8 +5,8 @@ use Rattle.dlk_store.specs.declared.Id.{Id}
 use Rattle.dlk_store.specs.Stores.{IsId, tree}
 use Rattle.dlk_grammar.specs.Phrases.{Phrase}
 use Rattle.dlk_grammar.specs.Erased.{erase}
-use Rattle.dlk_parse.specs.Codes.{postfix}
-use Rattle.dlk_parse.specs.declared.code.Code.{Code}
+use Rattle.dlk_reader.specs.Codes.{postfix}
+use Rattle.dlk_reader.specs.declared.code.Code.{Code}
 
 -- the code of phrases whose trees are well made
 pub record IsWellMade (code : List Code) : Type 0 where

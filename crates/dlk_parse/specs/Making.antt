@@ -11,8 +11,8 @@ use Rattle.dlk_grammar.specs.Lexemes.{Word}
 use Rattle.dlk_grammar.specs.Phrases.{Everywhere}
 use Rattle.dlk_grammar.specs.Erased.{symbol}
 use Rattle.dlk_parse.specs.Stacks.{top, below}
-use Rattle.dlk_parse.specs.declared.code.Code.{Code}
-use Rattle.dlk_parse.specs.declared.code.Code.TheVariants as code
+use Rattle.dlk_reader.specs.declared.code.Code.{Code}
+use Rattle.dlk_reader.specs.declared.code.Code.TheVariants as code
 use Rattle.dlk_parse.specs.declared.making.Maker.{Maker}
 
 -- the open notes, and the trees that wait for their operator

@@ -3,8 +3,8 @@ use Rattle.std.specs.Prelude.{◌≡◌, min, List, map, flat_map}
 use Rattle.dlk_tree.specs.Trees.{size, depth}
 use Rattle.dlk_grammar.specs.Phrases.{Phrase}
 use Rattle.dlk_grammar.specs.Erased.{erase, ills, lowest}
-use Rattle.dlk_parse.specs.Codes.{postfix}
-use Rattle.dlk_parse.specs.declared.code.Code.{Code}
+use Rattle.dlk_reader.specs.Codes.{postfix}
+use Rattle.dlk_reader.specs.declared.code.Code.{Code}
 use Rattle.dlk_parse.specs.declared.measures.Measure.{Measure}
 
 -- the least place of ill shape, and the size and the depth of the tree, which stay at the greatest number of 32 bits

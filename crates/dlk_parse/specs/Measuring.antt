@@ -2,8 +2,8 @@
 use Rattle.std.specs.Prelude.{ℕ, ◌+◌, min, max, nat_lt, Bool, cond, not, ◌||◌, List, [], ◌∷◌, ◌++◌, length, fold, Option, Some, None}
 use Rattle.dlk_tree.specs.Table.{kid_sorts, evolved, all_distinct}
 use Rattle.dlk_tree.specs.declared.op.OdeItem.{OdeItem}
-use Rattle.dlk_parse.specs.declared.code.Code.{Code}
-use Rattle.dlk_parse.specs.declared.code.Code.TheVariants as code
+use Rattle.dlk_reader.specs.declared.code.Code.{Code}
+use Rattle.dlk_reader.specs.declared.code.Code.TheVariants as code
 use Rattle.dlk_parse.specs.Stacks.{top, below}
 use Rattle.dlk_parse.specs.declared.measures.Measure.{Measure}
 

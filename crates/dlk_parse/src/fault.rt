@@ -1,9 +1,9 @@
 ghost use Rattle.std.specs.Prelude.{◌≡◌};
-ghost use Rattle.dlk_parse.specs.Faults.{of_lex};
+ghost use Rattle.dlk_parse.specs.Faults.{of_stop, of_lex, of_parse};
 ghost use Rattle.dlk_parse.specs.declared.fault.ParseFault.TheVariants.{Memory};
 
-use crate::stop::Stop;
 use dlk_lex::LexFault;
+use dlk_reader::Stop;
 use dlk_store::StoreFault;
 use std::alloc::{AllocError, AllocFailed};
 use thiserror::Error;
@@ -17,9 +17,10 @@ pub enum ParseFault {
     /// A bracket opens level 1,201; the byte of the first such.
     #[error("the bracket at byte {at} is nested too deeply")]
     Nesting { at: usize },
-    /// The tokens are not in the grammar.
-    #[error("the text is not in the grammar")]
-    Syntax,
+    /// The tokens are not in the grammar; the byte of the first token at which no text of the grammar goes on, which is the
+    /// length of the text where it is the end.
+    #[error("no text goes on at byte {at}")]
+    Syntax { at: usize },
     /// An application has more than 8 arguments, or a system has more than 64 items or evolves a variable twice; the byte
     /// of the first token of the first such.
     #[error("what begins at byte {at} is of ill shape")]
@@ -59,13 +60,11 @@ impl From<StoreFault> for ParseFault {
 }
 
 impl From<Stop> for ParseFault {
-    ghost use Rattle.dlk_parse.specs.Stops.{of_stop};
-
     ghost from_gives = { λ stop e. e ≡ of_stop stop };
 
     fn from(stop: Stop) -> ParseFault {
         match stop {
-            Stop::Syntax { place: _ } => ParseFault::Syntax,
+            Stop::Syntax { at } => ParseFault::Syntax { at },
             Stop::Memory => ParseFault::Memory,
         }
     }
@@ -77,9 +76,11 @@ pub enum TextFault {
     /// No token, space or whole comment begins at this byte.
     #[error("byte {at} begins no token")]
     BadByte { at: usize },
-    /// The tokens were not read.
+    /// The tokens were not read, and memory sufficed.
     #[error(transparent)]
     Unread(ParseFault),
+    #[error("out of memory")]
+    Memory,
 }
 
 impl From<LexFault> for TextFault {
@@ -88,17 +89,18 @@ impl From<LexFault> for TextFault {
     fn from(fault: LexFault) -> TextFault {
         match fault {
             LexFault::BadByte { at } => TextFault::BadByte { at },
-            LexFault::Memory => TextFault::Unread(ParseFault::Memory),
+            LexFault::Memory => TextFault::Memory,
         }
     }
 }
 
 impl From<ParseFault> for TextFault {
-    ghost use Rattle.dlk_parse.specs.declared.fault.TextFault.TheVariants.{Unread};
-
-    ghost from_gives = { λ fault e. e ≡ Unread fault };
+    ghost from_gives = { λ fault e. e ≡ of_parse fault };
 
     fn from(fault: ParseFault) -> TextFault {
-        TextFault::Unread(fault)
+        match fault {
+            ParseFault::Memory => TextFault::Memory,
+            fault => TextFault::Unread(fault),
+        }
     }
 }

@@ -1,31 +1,14 @@
 //! Reads terms, formulas, programs, sequents and substitutions into a store.
 #![tactic(auto)]
 
-mod closing;
-mod code;
-mod ends;
-mod expressions;
+mod copies;
 mod fault;
-mod items;
-mod lexeme;
 mod limits;
 mod making;
 mod measures;
-mod operands;
-mod pair_heads;
-mod pair_items;
-mod pair_reading;
-mod pairs;
-mod parts;
+mod owned;
 mod readers;
-mod reading;
-mod said;
-mod sides;
-mod stack;
-mod statements;
-mod step;
-mod stop;
-mod tables;
+mod scan;
 mod texts;
 
 pub use dlk_grammar::{Dots, Form};

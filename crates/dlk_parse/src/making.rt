@@ -6,7 +6,7 @@ ghost use Rattle.dlk_parse.specs.Made.{IsWellMade, AreMade};
 ghost use Rattle.dlk_parse.specs.Stacks.{top};
 ghost use Rattle.dlk_parse.specs.Making.{call, put, put_outside, make_step, making_at, AllWellMade};
 
-use crate::code::Code;
+use dlk_reader::Code;
 use dlk_store::{Id, Store, StoreFault};
 use dlk_tree::{Kind, Name, Op, Sym, arity_of};
 use std::alloc::Global;

@@ -4,7 +4,7 @@ ghost use Rattle.dlk_parse.specs.Measures.{AreMeasures};
 ghost use Rattle.dlk_parse.specs.Stacks.{top, below};
 ghost use Rattle.dlk_parse.specs.Measuring.{are_ill, lesser, place_when, over_kids, joined, beside, measure_step};
 
-use crate::code::Code;
+use dlk_reader::Code;
 use dlk_tree::{OdeItem, are_distinct, arity_of, count_evolved};
 use std::alloc::{AllocError, Global};
 

@@ -67,11 +67,11 @@ fn reads_formulas(rt: HostRuntime) -> Result<(), Fail> {
             "[{x:=1;}* @invariant(x=1, [{b;}@invariant(x>0)] true)] true",
             Ok((5, 4)),
         ),
-        ("x>=0 & -> y>0", unread(ParseFault::Syntax)),
+        ("x>=0 & -> y>0", unread(ParseFault::Syntax { at: 7 })),
         ("x>=0 # y", Err(TextFault::BadByte { at: 5 })),
-        ("f(._0)>=0", unread(ParseFault::Syntax)),
-        ("_", unread(ParseFault::Syntax)),
-        ("", unread(ParseFault::Syntax)),
+        ("f(._0)>=0", unread(ParseFault::Syntax { at: 2 })),
+        ("_", unread(ParseFault::Syntax { at: 0 })),
+        ("", unread(ParseFault::Syntax { at: 0 })),
         ("f(1,2,3,4,5,6,7,8)=0", Ok((11, 3))),
         (
             "1=0 & f(1,2,3,4,5,6,7,8,9)=0",
@@ -105,7 +105,7 @@ fn reads_up_to_the_limits(rt: HostRuntime) -> Result<(), Fail> {
     // a closing bracket opens no level, and below none there is none
     assert_eq!(rt;
         read(nested(&rt, 1201, ")(", "", "")?),
-        unread(ParseFault::Syntax)
+        unread(ParseFault::Syntax { at: 0 })
     );
     Ok(())
 }
@@ -119,7 +119,7 @@ fn reads_expressions(rt: HostRuntime) -> Result<(), Fail> {
         ("x:=1;", Dots::Refused, Ok(2)),
         ("._0+1", Dots::Allowed, Ok(3)),
         ("!_", Dots::Allowed, Ok(2)),
-        ("._0+1", Dots::Refused, unread(ParseFault::Syntax)),
+        ("._0+1", Dots::Refused, unread(ParseFault::Syntax { at: 0 })),
         (
             "{x'=1,x'=2}",
             Dots::Refused,
@@ -140,11 +140,11 @@ fn reads_sequents(rt: HostRuntime) -> Result<(), Fail> {
         ("x>=0 ==>", Ok((1, 0))),
         ("==> x>=0->y>=0, (1>=x)", Ok((0, 2))),
         ("x>=0,y>=0,z>=0==>0>=0", Ok((3, 1))),
-        ("x>=0, ==>", unread(ParseFault::Syntax)),
-        ("x>=0", unread(ParseFault::Syntax)),
-        ("==> x>=0 ==>", unread(ParseFault::Syntax)),
-        ("==> x>=0 &", unread(ParseFault::Syntax)),
-        ("true ==> {x'=1}", unread(ParseFault::Syntax)),
+        ("x>=0, ==>", unread(ParseFault::Syntax { at: 6 })),
+        ("x>=0", unread(ParseFault::Syntax { at: 4 })),
+        ("==> x>=0 ==>", unread(ParseFault::Syntax { at: 9 })),
+        ("==> x>=0 &", unread(ParseFault::Syntax { at: 10 })),
+        ("true ==> {x'=1}", unread(ParseFault::Syntax { at: 9 })),
     ];
     for (text, want) in rows {
         assert_eq!(rt; sides_of(&rt, text), want, "{text}");
@@ -161,7 +161,7 @@ fn reads_a_term(rt: HostRuntime) -> Result<(), Fail> {
     let whole = tokens(rt.alloc(), b"x=y")?;
     assert_eq!(rt;
         term(rt.alloc(), whole.as_slice(), Dots::Refused, &mut store),
-        Err(ParseFault::Syntax)
+        Err(ParseFault::Syntax { at: 1 })
     );
     Ok(())
 }
@@ -175,7 +175,7 @@ fn reads_a_program(rt: HostRuntime) -> Result<(), Fail> {
     let whole = tokens(rt.alloc(), b"x:=1")?;
     assert_eq!(rt;
         program(rt.alloc(), whole.as_slice(), Dots::Refused, &mut store),
-        Err(ParseFault::Syntax)
+        Err(ParseFault::Syntax { at: 4 })
     );
     Ok(())
 }
@@ -232,14 +232,14 @@ fn reads_substitutions(rt: HostRuntime) -> Result<(), Fail> {
     let unread = |why: ParseFault| Err(TextFault::Unread(why));
     let rows = [
         ("", Ok(0)),
-        ("f()~>1,f()~>x:=1;", unread(ParseFault::Syntax)),
-        ("f()~>1,", unread(ParseFault::Syntax)),
-        ("term p()~>true", unread(ParseFault::Syntax)),
-        ("f(._1)~>1", unread(ParseFault::Syntax)),
-        ("f(._0,._2)~>1", unread(ParseFault::Syntax)),
-        ("{c}~>{x'=1&true}", unread(ParseFault::Syntax)),
-        ("{c}~>d;", unread(ParseFault::Syntax)),
-        ("C{_}~>x", unread(ParseFault::Syntax)),
+        ("f()~>1,f()~>x:=1;", unread(ParseFault::Syntax { at: 13 })),
+        ("f()~>1,", unread(ParseFault::Syntax { at: 7 })),
+        ("term p()~>true", unread(ParseFault::Syntax { at: 10 })),
+        ("f(._1)~>1", unread(ParseFault::Syntax { at: 2 })),
+        ("f(._0,._2)~>1", unread(ParseFault::Syntax { at: 6 })),
+        ("{c}~>{x'=1&true}", unread(ParseFault::Syntax { at: 10 })),
+        ("{c}~>d;", unread(ParseFault::Syntax { at: 5 })),
+        ("C{_}~>x", unread(ParseFault::Syntax { at: 7 })),
         (
             "f()~>1,{c}~>{x'=1,x'=2}",
             unread(ParseFault::Shape { at: 12 }),

@@ -11,8 +11,8 @@ ghost use Rattle.dlk_sequent.specs.Substitutions.{pairs_at, AreKnownPairs};
 ghost use Rattle.dlk_parse.specs.Faults.{IsTextFaultOf, UnlessTextMemory};
 
 use crate::fault::TextFault;
-use crate::readers::{expression, formula, sequent, substitution};
-use dlk_grammar::Dots;
+use crate::owned::{pairs_of, sequent_of, tree_of};
+use dlk_grammar::{Dots, Form};
 use dlk_lex::tokens;
 use dlk_sequent::{Pair, Sequent};
 use dlk_store::{Id, Store};
@@ -23,7 +23,8 @@ use std::alloc::Global;
 /// # Errors
 ///
 /// `BadByte` comes exactly where the split into tokens comes to a byte at which no token, space or whole comment begins.
-/// Else the errors are those of `formula`, in `Unread`. Whatever comes, the store keeps its trees.
+/// Else the errors are those of `formula`, in `Unread`; `Memory` may come at any time. Whatever comes, the store keeps its
+/// trees.
 pub fn read_formula<S: Store>(alloc: Global, bytes: &[u8], store: &mut S) -> Result<Id, TextFault>
     ensures found { IfOk result (λ id. (t : Tree) × TreeText form_of.Formula Refused bytes.now t × StandsFor (S.trees store.new) id t) }
     ensures formula { IfOk result (λ id. IsFormula (tree (S.trees store.new) id)) }
@@ -32,7 +33,7 @@ pub fn read_formula<S: Store>(alloc: Global, bytes: &[u8], store: &mut S) -> Res
     ensures grows { S.grows store.old store.new }
 {
     let tokens = tokens(alloc, bytes)?;
-    let id = formula(alloc, tokens.as_slice(), Dots::Refused, store)?;
+    let id = tree_of(alloc, Form::Formula, tokens, Dots::Refused, store)?;
     Ok(id)
 }
 
@@ -50,7 +51,7 @@ pub fn read_expression<S: Store>(
     ensures grows { S.grows store.old store.new }
 {
     let tokens = tokens(alloc, bytes)?;
-    let id = expression(alloc, tokens.as_slice(), dots, store)?;
+    let id = tree_of(alloc, Form::Expression, tokens, dots, store)?;
     Ok(id)
 }
 
@@ -69,7 +70,7 @@ pub fn read_sequent<S: Store>(
     ensures grows { S.grows store.old store.new }
 {
     let tokens = tokens(alloc, bytes)?;
-    let sequent = sequent(alloc, tokens.as_slice(), store)?;
+    let sequent = sequent_of(alloc, tokens, store)?;
     Ok(sequent)
 }
 
@@ -88,6 +89,6 @@ pub fn read_substitution<S: Store>(
     ensures grows { S.grows store.old store.new }
 {
     let tokens = tokens(alloc, bytes)?;
-    let pairs = substitution(alloc, tokens.as_slice(), store)?;
+    let pairs = pairs_of(alloc, tokens, store)?;
     Ok(pairs)
 }

@@ -11,7 +11,7 @@ use Rattle.dlk_grammar.specs.declared.token.Mark.TheVariants as mark
 use Rattle.dlk_grammar.specs.declared.token.TokenKind.TheVariants as token
 use Rattle.dlk_grammar.specs.declared.token.Dots.TheVariants.{Allowed}
 use Rattle.dlk_grammar.specs.Lexemes.{Lexeme, Dot, Comma}
-use Rattle.dlk_grammar.specs.Substitutions.{Target, Over, Unit as UnitOver, function, predicate, ReadsDots, dots-one, dots-more, ReadsTarget, target-nullary, target-dots, target-any, target-except}
+use Rattle.dlk_grammar.specs.Substitutions.{Target, Over, Unit as UnitOver, function, predicate, most_dots, ReadsDots, dots-one, dots-more, ReadsTarget, target-nullary, target-dots, target-any, target-except}
 use Rattle.dlk_grammar.specs.Shown.{Piece, one, mark as the_mark, word, joined, unit_brackets, ode_brackets}
 use Rattle.dlk_grammar.specs.Symbols.{dots, shown_as}
 use Rattle.dlk_readback.proofs.Kids.{Each, comma}
@@ -29,20 +29,23 @@ abbrev with_commas : List (List Piece) → List Piece
 with_commas xs = flat_map (λ x. comma ++ x) xs
 
 -- the dots behind others
-later_dots : (n : ℕ) (s : List Lexeme) (from k : ℕ) → ReadsDots s from → ReadsDots (s ++ said n (with_commas (dot_texts from k))) (from + k)
-later_dots n s from zero d = let all : from ≡ from + 0 = omega arith in subst₂ (λ (l : List Lexeme) (m : ℕ). ReadsDots l m) (sym (append-nil s)) all d
-later_dots n s from (suc k) d =
+later_dots : (n : ℕ) (s : List Lexeme) (from k : ℕ) → from + k ≤ most_dots → ReadsDots s from → ReadsDots (s ++ said n (with_commas (dot_texts from k))) (from + k)
+later_dots n s from zero most d = let all : from ≡ from + 0 = omega arith in subst₂ (λ (l : List Lexeme) (m : ℕ). ReadsDots l m) (sym (append-nil s)) all d
+later_dots n s from (suc k) most d =
     let more = said (n + 1 + 1) (with_commas (dot_texts (from + 1) k)) in
     let all : (from + 1) + k ≡ from + suc k = omega arith in
-    subst₂ (λ (l : List Lexeme) (m : ℕ). ReadsDots l m) (append_assoc s (Comma ∷ Dot from ∷ []) more) all (later_dots (n + 1 + 1) (s ++ Comma ∷ Dot from ∷ []) (from + 1) k (dots-more d))
+    let dots : ReadsDots (s ++ Comma ∷ Dot from ∷ []) (from + 1) = dots-more (omega (arith, most)) d in
+    subst₂ (λ (l : List Lexeme) (m : ℕ). ReadsDots l m) (append_assoc s (Comma ∷ Dot from ∷ []) more) all
+    (later_dots (n + 1 + 1) (s ++ Comma ∷ Dot from ∷ []) (from + 1) k (omega (arith, most)) dots)
 
 -- a symbol over so many dots
-over_dots : (n : ℕ) (x : List ℕ) (k : ℕ) → ReadsTarget (said n (word x ∷ dots k)) (Over x k)
-over_dots n x zero = target-nullary
-over_dots n x (suc k) =
+over_dots : (n : ℕ) (x : List ℕ) (k : ℕ) → k ≤ most_dots → ReadsTarget (said n (word x ∷ dots k)) (Over x k)
+over_dots n x zero most = target-nullary
+over_dots n x (suc k) most =
     let more = with_commas (dot_texts 1 k) in
     let all : 1 + k ≡ suc k = omega arith in
-    let inside : ReadsDots (Dot 0 ∷ said (n + 1 + 1 + 1) more) (suc k) = subst (λ (m : ℕ). ReadsDots (Dot 0 ∷ said (n + 1 + 1 + 1) more) m) all (later_dots (n + 1 + 1 + 1) (Dot 0 ∷ []) 1 k dots-one) in
+    let later = later_dots (n + 1 + 1 + 1) (Dot 0 ∷ []) 1 k (omega (arith, most)) dots-one in
+    let inside : ReadsDots (Dot 0 ∷ said (n + 1 + 1 + 1) more) (suc k) = subst (λ (m : ℕ). ReadsDots (Dot 0 ∷ said (n + 1 + 1 + 1) more) m) all later in
     rw (said-append (n + 1 + 1 + 1) more (the_mark mark.CloseRound ∷ [])) (target-dots inside)
 
 unit_target : (n : ℕ) (x : List ℕ) (y : Option (List ℕ)) → ReadsTarget (said n (word x ∷ unit_brackets y)) (UnitOver x (space_of y))
@@ -56,10 +59,10 @@ pub record Left (make : Target → Sym) (k : Kind) (s : Sym) : Type 0 where
   pub symbol_is : make target ≡ s
 
 pub func_left : (s : Sym) → is_sym_of Func s ≡ true → Left function Func s
-func_left s h = record { target = Over s.name s.arity; reads = λ n. over_dots n s.name s.arity; symbol_is = called Func s s.arity h refl refl }
+func_left s h = record { target = Over s.name s.arity; reads = λ n. over_dots n s.name s.arity (arity_most Func s h (λ m. refl)); symbol_is = called Func s s.arity h refl refl }
 
 pub pred_left : (s : Sym) → is_sym_of Pred s ≡ true → Left predicate Pred s
-pred_left s h = record { target = Over s.name s.arity; reads = λ n. over_dots n s.name s.arity; symbol_is = called Pred s s.arity h refl refl }
+pred_left s h = record { target = Over s.name s.arity; reads = λ n. over_dots n s.name s.arity (arity_most Pred s h (λ m. refl)); symbol_is = called Pred s s.arity h refl refl }
 
 pub unit_func_left : (s : Sym) → is_sym_of UnitFunc s ≡ true → Left function UnitFunc s
 unit_func_left s h = record { target = UnitOver s.name (space_of s.taboo); reads = λ n. unit_target n s.name s.taboo; symbol_is = unit_symbol UnitFunc s h (λ m. refl) }

@@ -19,6 +19,7 @@ use Rattle.dlk_grammar.specs.Readings.{Says, SpeaksAgainst, Literal, Nesting, Sy
 use Rattle.dlk_grammar.specs.Texts.{TreeText}
 use Rattle.dlk_grammar.specs.Shown.{Piece, one, space, spell, shown}
 use Rattle.dlk_grammar.specs.Symbols.{is_formula_too}
+use Rattle.dlk_machine.proofs.Stopping.{said_nowhere}
 use Rattle.dlk_machine.proofs.ParseLaws.{one_read, one_expression_read}
 use Rattle.dlk_readback.specs.Readable.{form_of, HasNoneRefused, IsReadable}
 use Rattle.dlk_readback.proofs.Ambiguous.{no_formula}
@@ -81,7 +82,7 @@ module _ {P R : Type 0} (G : List Lexeme → P → Type 0) (parts : P → List P
       against : (why : ReadFault) → ¬ SpeaksAgainst G parts d tokens why
       against (Literal at) f = no_literal d tokens calm at f
       against (Nesting at) f = no_nesting d tokens calm at f
-      against Syntax f = f phrase says
+      against (Syntax at) f = said_nowhere d G phrase says f.1
       against (Shape at) f =
           let e : None ≡ Some f.2.0 = sym (ap lowest no_ills) ∙ sym (ap (λ (q : P). lowest (flat_map ills (parts q))) (same f.0 f.1)) ∙ f.2.1 in
           absurd cc

@@ -16,7 +16,8 @@ use Rattle.dlk_calculus.proofs.Swapped.{swap_fits, swap_sort}
 module _ (x y : List ℕ) where
   -- a node, of its operator and its kids with the names exchanged
   pub swapped_node : {before now : List Tree} {id : Id} {op : Op} {ks js : List Id} {n : ℕ}
-      → Made (Gives (swap x y)) before now id op ks js n → n ≡ length ks → (made : Op) → made ≡ swap_op x y op → swap x y (tree before id) ≡ node made (kid_trees now js)
+      → Made (Gives (swap x y)) before now id op ks js n → n ≡ length ks → (made : Op) → made ≡ swap_op x y op →
+      swap x y (tree before id) ≡ node made (kid_trees now js)
   swapped_node m whole made is =
       let kids = all_made m whole (λ ts us. us ≡ swap_all x y ts) refl (λ t u ts us a b. λ i. kid (a i) (b i)) in
       ap (swap x y) m.node_is ∙ (λ i. node (sym is i) (sym kids i))

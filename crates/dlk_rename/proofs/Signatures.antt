@@ -18,7 +18,8 @@ mutual
 
   another_test_all : (p q : Op → Bool) → ((op : Op) → p op ≡ true → q op ≡ true) → (ts : Forest) → any_has p ts ≡ true → any_has q ts ≡ true
   another_test_all p q h no_kids e = e
-  another_test_all p q h (kid t rest) e = ⊎_elim (λ a. or_left _ _ (another_test p q h t a)) (λ b. or_right _ _ (another_test_all p q h rest b)) (or_cases _ _ e)
+  another_test_all p q h (kid t rest) e =
+      ⊎_elim (λ a. or_left _ _ (another_test p q h t a)) (λ b. or_right _ _ (another_test_all p q h rest b)) (or_cases _ _ e)
 
 module _ (test : Sym → Bool) where
   passes_of_one : (s : Sym) (ss : List Sym) → test s ≡ true → list_any (sym_eq s) ss ≡ true → list_any test ss ≡ true
@@ -50,5 +51,7 @@ module _ (test : Sym → Bool) where
   some_symbol t ss is =
       same_from_decides _ _ (λ e. e, λ e. e) (
         λ e. let s = one_occurs t e in passes_of_one s.0 ss s.1 (is.members s.0 ∙ s.2),
-        λ e. let s = one_passes ss e in another_test (has_symbol s.0) (λ op. list_any test (symbols_of op)) (λ op h. passes_of_one s.0 (symbols_of op) s.1 h) t (sym (is.members s.0) ∙ s.2),
+        λ e. let s = one_passes ss e in
+            another_test (has_symbol s.0) (λ op. list_any test (symbols_of op)) (λ op h. passes_of_one s.0 (symbols_of op) s.1 h) t
+            (sym (is.members s.0) ∙ s.2),
       )

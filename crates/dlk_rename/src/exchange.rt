@@ -84,8 +84,8 @@ fn swap_op(alloc: Global, x: &Name, y: &Name, op: &Op) -> Result<Op, AllocError>
     })
 }
 
-/// The tree with the names `x` and `y` exchanged, and so `x'` and `y'`: in variables, binders, evolved variables and taboos
-/// (uniform renaming). Names of symbols stay.
+/// The tree with the names `x` and `y` exchanged, and so `x'` and `y'`: in variables, quantifiers, assigned variables, evolved
+/// variables and taboos (uniform renaming). Names of symbols stay.
 ///
 /// # Errors
 ///

@@ -14,6 +14,7 @@ use Rattle.dlk_calculus.proofs.Histories.{History-none, History-more}
 use Rattle.dlk_termtext.specs.Lines.{Line, Numbered, Done, IsLine}
 use Rattle.dlk_termtext.proofs.LineForms.{one_line}
 use Rattle.dlk_termtext.proofs.Proper.{line_proper}
+use Rattle.dlk_termtext.proofs.SomeLine.{some_line}
 use Rattle.dlk_replay.specs.declared.fault.LineWhy.TheVariants as why
 use Rattle.dlk_replay.specs.Files.{Said, TakesStep, HasOtherNumber, TakesNone, EndsFile, Format, SaysLine, StepLines, no_lines, one_more, no_row, Answer, accepted, bad, Becomes, Verdict, whole, ended, unread, done_first, done_before, misnumbered, faulty}
 
@@ -231,5 +232,9 @@ said_if_line before line (inr none) = inr says_none
     says_none TakesNone is = is
     says_none EndsFile is = none Done is
 
-pub some_verdict : ((line : List ℕ) → ((l : Line) × IsLine line l) ⊎ ((l : Line) → ¬ IsLine line l)) → (lines : List (List ℕ)) → (a : Answer) × Verdict lines a
-some_verdict decided lines = some_becomes SaysLine (λ before line. said_if_line before line (decided line)) (λ before line step is. line_proper line (length before + 1) step is) lines
+pub some_verdict : (lines : List (List ℕ)) → (a : Answer) × Verdict lines a
+some_verdict lines = some_becomes SaysLine (λ before line. said_if_line before line (some_line line)) (λ before line step is. line_proper line (length before + 1) step is) lines
+
+-- an accepted file has a row
+pub accepted_some : (lines : List (List ℕ)) (rows : List Provable) (last : ℕ) → Verdict lines (accepted rows last) → 1 ≤ length rows
+accepted_some _ _ _ (whole is some ends) = some

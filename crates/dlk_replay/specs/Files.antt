@@ -1,8 +1,9 @@
 -- Proof-term files: their lines, and what becomes of them.
-use Rattle.std.specs.Prelude.{◌≢◌, ℕ, ◌+◌, ◌≤◌, ◌==◌, Bool, if◌then◌else◌, List, [], ◌∷◌, ◌++◌, length}
+use Rattle.std.specs.Prelude.{◌≢◌, ℕ, ◌+◌, ◌≤◌, ◌==◌, Bool, if◌then◌else◌, List, [], ◌∷◌, ◌++◌, length, codes}
 use Rattle.dlk_calculus.specs.Provables.{Provable}
 use Rattle.dlk_calculus.specs.Steps.{Step, StepOf, Fault}
 use Rattle.dlk_calculus.specs.declared.reason.Reason.{Reason}
+use Rattle.dlk_calculus.specs.Reasons.{reason_text}
 use Rattle.dlk_termtext.specs.Lines.{Numbered, Done, IsLine}
 use Rattle.dlk_replay.specs.declared.fault.LineWhy.{LineWhy}
 use Rattle.dlk_replay.specs.declared.fault.LineWhy.TheVariants as why
@@ -51,6 +52,13 @@ pub data StepLines (Says : Format) : List (List ℕ) → List Provable → ℕ �
       StepLines Says (lines ++ line ∷ []) (rows ++ p ∷ []) (length lines + 1)
   no_row : {lines : List (List ℕ)} {rows : List Provable} {last : ℕ} {line : List ℕ} →
       StepLines Says lines rows last → Says lines line TakesNone → StepLines Says (lines ++ line ∷ []) rows last
+
+-- the word for what is wrong with a line, as it is printed
+abbrev pub line_why_text : LineWhy → List ℕ
+line_why_text why.Malformed = codes "Malformed"
+line_why_text why.WrongNumber = codes "WrongNumber"
+line_why_text why.NoEnd = codes "NoEnd"
+line_why_text (why.Step reason) = reason_text reason
 
 -- what becomes of a file
 pub data Answer : Type 0 where

@@ -1,5 +1,6 @@
 ghost use Rattle.std.specs.Prelude.{◌≡◌};
 ghost use Rattle.dlk_replay.specs.declared.fault.ReplayFault.TheVariants.{Memory};
+ghost use Rattle.dlk_replay.specs.Files.{line_why_text};
 
 use dlk_calculus::Reason;
 use dlk_kernel::Fact;
@@ -28,6 +29,20 @@ pub enum LineWhy {
     NoEnd,
     /// Its step is no step of the calculus, or passes a limit.
     Step(Reason),
+}
+
+impl LineWhy {
+    /// Its word, as it is printed: that of the reason against its step, where there is one.
+    pub fn word(self) -> &'static str
+        ensures { result.now ≡ line_why_text self }
+    {
+        match self {
+            LineWhy::Malformed => "Malformed",
+            LineWhy::WrongNumber => "WrongNumber",
+            LineWhy::NoEnd => "NoEnd",
+            LineWhy::Step(why) => why.word(),
+        }
+    }
 }
 
 /// Why a file was not accepted.

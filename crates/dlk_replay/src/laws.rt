@@ -1,8 +1,7 @@
 //! The laws of proof-term files. Each is a contract of a function that does nothing.
-ghost use Rattle.std.specs.Prelude.{◌≡◌, ◌⊎◌, ◌++◌, ◌∷◌, [], ℕ, List, All};
+ghost use Rattle.std.specs.Prelude.{◌≡◌, ℕ, List, All};
 ghost use Rattle.dlk_calculus.specs.Provables.{Provable};
 ghost use Rattle.dlk_calculus.specs.Steps.{History, Derives};
-ghost use Rattle.dlk_termtext.specs.Lines.{Line as TreeLine, IsLine};
 ghost use Rattle.dlk_replay.specs.Files.{Answer, accepted, Verdict};
 
 /// One thing becomes of a file.
@@ -10,10 +9,9 @@ pub fn one_verdict()
     ensures { (lines : List (List ℕ)) (a b : Answer) → Verdict lines a → Verdict lines b → a ≡ b }
 {}
 
-/// Where each text is a line or none, something becomes of each file.
+/// Something becomes of each file.
 pub fn some_verdict()
-    ensures { ((line : List ℕ) → ((l : TreeLine) × IsLine line l) ⊎ ((l : TreeLine) → ¬ IsLine line l)) →
-        (lines : List (List ℕ)) → (a : Answer) × Verdict lines a }
+    ensures { (lines : List (List ℕ)) → (a : Answer) × Verdict lines a }
 {}
 
 /// The rows of an accepted file are a history, and so each of them is derived.

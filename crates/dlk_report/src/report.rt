@@ -1,6 +1,7 @@
 //! What a report says.
-ghost use Rattle.std.specs.Prelude.{◌≡◌, All, IfOk, IfSome, map};
-ghost use Rattle.dlk_calculus.specs.Places.{at, IsPlace};
+ghost use Rattle.std.specs.Prelude.{◌≡◌, All, IfOk, map};
+ghost use Rattle.dlk_calculus.specs.Places.{At, IsPlace};
+ghost use Rattle.dlk_calculus.specs.Provables.{Provable};
 ghost use Rattle.dlk_sequent.specs.Sequents.{sequent_at, IsKnown};
 ghost use Rattle.dlk_kernel.specs.Kernel.{facts};
 ghost use Rattle.dlk_report.specs.Reports.{parts_of, text_of, HasAsciiTexts};
@@ -70,7 +71,7 @@ pub fn shown<S: Store, L: Ledger>(
     steps: &mut Steps<L>,
 ) -> Result<Report, ReportFault>
     requires { IsPlace kernel.now.rows fact }
-    ensures parts { IfOk result (λ report. IfSome (at (facts S.trees kernel.now) fact) (λ p. parts report ≡ parts_of p lines)) }
+    ensures parts { IfOk result (λ report. (p : Provable) → At (facts S.trees kernel.now) fact p → parts report ≡ parts_of p lines) }
     ensures ascii { IfOk result (λ report. HasAsciiTexts (parts report)) }
 {
     let conclusion = text(alloc, kernel, kernel.conclusion(fact), steps)?;

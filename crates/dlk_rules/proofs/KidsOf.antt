@@ -49,7 +49,8 @@ one_kid trees side place op (a ∷ []) d n e = record {
   f_stands = record { known = All-head (IsId trees) a [] n.known; tree_is = refl };
 }
 
-pub two_kids : (trees side : List Tree) (place : ℕ) (op : Op) (kids : List Id) (d : Id) → IsNodeAt trees side place op kids → kid_sorts op ≡ Formula ∷ Formula ∷ [] →
+pub two_kids : (trees side : List Tree) (place : ℕ) (op : Op) (kids : List Id) (d : Id) → IsNodeAt trees side place op kids →
+    kid_sorts op ≡ Formula ∷ Formula ∷ [] →
     AreKidsAt trees side place op (get_or kids 0 d) (get_or kids 1 d)
 two_kids trees side place op [] d n e = let k = n.sorts_are ∙ e in cc
 two_kids trees side place op (a ∷ []) d n e = let k = n.sorts_are ∙ e in cc

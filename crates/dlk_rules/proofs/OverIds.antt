@@ -72,13 +72,21 @@ module _ {trees : List Tree} {s : Sequent} {t : TreeSequent} (h : Stands trees s
 
   pub left_without : (i : ℕ) → Stands trees (record { ante = without_place s.ante i; succ = s.succ }) (without_place t.ante i ==> t.succ)
   left_without i = record {
-    known = record { ante = All-append (IsId trees) _ _ (All-take (IsId trees) (i - 1) s.ante h.known.ante) (All-drop (IsId trees) i s.ante h.known.ante); succ = h.known.succ };
+    known =
+        record {
+          ante = All-append (IsId trees) _ _ (All-take (IsId trees) (i - 1) s.ante h.known.ante) (All-drop (IsId trees) i s.ante h.known.ante);
+          succ = h.known.succ;
+        };
     is = (λ n. record { ante = map_remove s.ante i n; succ = map (tree trees) s.succ }) ∙ (λ n. without_place (h.is n).ante i ==> (h.is n).succ);
   }
 
   pub right_without : (j : ℕ) → Stands trees (record { ante = s.ante; succ = without_place s.succ j }) (t.ante ==> without_place t.succ j)
   right_without j = record {
-    known = record { ante = h.known.ante; succ = All-append (IsId trees) _ _ (All-take (IsId trees) (j - 1) s.succ h.known.succ) (All-drop (IsId trees) j s.succ h.known.succ) };
+    known =
+        record {
+          ante = h.known.ante;
+          succ = All-append (IsId trees) _ _ (All-take (IsId trees) (j - 1) s.succ h.known.succ) (All-drop (IsId trees) j s.succ h.known.succ);
+        };
     is = (λ n. record { ante = map (tree trees) s.ante; succ = map_remove s.succ j n }) ∙ (λ n. (h.is n).ante ==> without_place (h.is n).succ j);
   }
 
@@ -122,7 +130,8 @@ one_stands {trees} {s} {t} {all} h is = record {
   are = ap (map (sequent_at trees)) is ∙ (λ n. h.is n ∷ []);
 }
 
-pub two_stand : {trees : List Tree} {s r : Sequent} {t u : TreeSequent} {all : List Sequent} → Stands trees s t → Stands trees r u → all ≡ s ∷ r ∷ [] → AllStand trees all (t ∷ u ∷ [])
+pub two_stand : {trees : List Tree} {s r : Sequent} {t u : TreeSequent} {all : List Sequent} → Stands trees s t → Stands trees r u →
+    all ≡ s ∷ r ∷ [] → AllStand trees all (t ∷ u ∷ [])
 two_stand {trees} {s} {r} {t} {u} {all} h k is = record {
   known = rw is (All-cons (IsKnown trees) s (r ∷ []) h.known (All-cons (IsKnown trees) r [] k.known (All-nil (IsKnown trees))));
   are = ap (map (sequent_at trees)) is ∙ (λ n. h.is n ∷ k.is n ∷ []);

@@ -1,6 +1,5 @@
 -- Quantifiers at places, whether their variable is free in other formulas, and formulas whose variable gets another name.
 use Rattle.std.proofs.Common.{◌≡◌, ℕ, ◌-◌, Bool, true, false, ◌||◌, List, [], ◌∷◌, map, take, drop, length, get_or, refl, ap, sym, subst, ◌∙◌}
-use Rattle.std.specs.Prelude.{IsTrue}
 use Rattle.std.specs.List.{list_any}
 use Rattle.std.proofs.lemmas.Bool.{true≢false}
 use Rattle.std.proofs.lemmas.List.{take-map, drop-map, take_rest}
@@ -8,7 +7,6 @@ use Rattle.std.proofs.lemmas.List.Folds.{list_any-append}
 use Rattle.dlk_tree.specs.declared.op.Op.{Op}
 use Rattle.dlk_tree.specs.declared.op.Sort.TheVariants.{Formula}
 use Rattle.dlk_tree.specs.declared.op.Var.{Var}
-use Rattle.dlk_tree.specs.Names.{is_name}
 use Rattle.dlk_tree.specs.Statics.{plain}
 use Rattle.dlk_tree.specs.Table.{kid_sorts}
 use Rattle.dlk_tree.specs.Trees.{Tree, no_kids, kid}
@@ -35,7 +33,8 @@ list_any_map p f (id ∷ ids) = ap (λ b. p (f id) || b) (list_any_map p f ids)
 
 -- of all but one, whether one before it or one behind it passes the test
 pub list_any_remove : (p : Tree → Bool) (f : Id → Tree) (ids : List Id) (place : ℕ) →
-    (list_any p (map f (take (place - 1) ids)) || list_any p (map f (take (length ids - place) (drop place ids)))) ≡ list_any p (without_place (map f ids) place)
+    (list_any p (map f (take (place - 1) ids)) || list_any p (map f (take (length ids - place) (drop place ids)))) ≡ list_any p
+    (without_place (map f ids) place)
 list_any_remove p f ids place = simp (list_any-append, take-map, drop-map, take_rest)
 
 -- the quantifier at a place, by its operator and its kids
@@ -67,12 +66,12 @@ module _ {trees side : List Tree} {place : ℕ} {quantifier : Quantifier} {v : V
   not_unread s test fresh = true≢false (test ∙ ap (is_read s) at.unprimed ∙ fresh)
 
 -- a formula at a place that gets another name, or doesn't
-module _ (y : List ℕ) (real : IsTrue (is_name y)) {old side : List Tree} {place : ℕ} {id : Id} (at : IsAt old side place id) where
+module _ (y : List ℕ) {old side : List Tree} {place : ℕ} {id : Id} (at : IsAt old side place id) where
   pub rebound : {new : List Tree} {made : Id} → IsRenamed y (tree old id) new made → IsReboundAt side place y new made
   rebound {new} {made} h = record {
     place_is = at.place_is;
     parts = record { x = h.x; f = h.f; g = tree new made };
-    bound = (real, (at.f, at.at, subst (λ t. RenamesBound h.x y h.f t (tree new made)) at.stands.tree_is h.renames));
+    bound = (at.f, at.at, subst (λ t. RenamesBound h.x y h.f t (tree new made)) at.stands.tree_is h.renames);
     fresh = h.fresh;
     g_stands = record { known = h.known; tree_is = refl };
   }
@@ -80,9 +79,9 @@ module _ (y : List ℕ) (real : IsTrue (is_name y)) {old side : List Tree} {plac
   pub not_rebound : (why : RenameFault) → IsRenameFault y (tree old id) why →
       IsFreshFault (IsPlace side place) Bound (IsBoundAt side place y) (IsFreshFor y) (of_rename why)
   not_rebound rename.WrongShape h =
-      let same = λ (p : Bound) (b : IsBoundAt side place y p). at_one side place b.1.0 at.f b.1.1 at.at ∙ sym at.stands.tree_is in
-      (at.place_is, λ p b. h p.x p.f p.g (subst (λ t. RenamesBound p.x y p.f t p.g) (same p b) b.1.2))
+      let same = λ (p : Bound) (b : IsBoundAt side place y p). at_one side place b.0 at.f b.1 at.at ∙ sym at.stands.tree_is in
+      (at.place_is, λ p b. h p.x p.f p.g (subst (λ t. RenamesBound p.x y p.f t p.g) (same p b) b.2))
   not_rebound rename.NotFresh h =
       let is = subst (λ t. RenamesBound h.0 y h.1 t h.2) at.stands.tree_is h.3 in
-      (at.place_is, (record { x = h.0; f = h.1; g = h.2 }, (real, (at.f, at.at, is)), h.4))
+      (at.place_is, (record { x = h.0; f = h.1; g = h.2 }, (at.f, at.at, is), h.4))
   not_rebound rename.Memory h = tt

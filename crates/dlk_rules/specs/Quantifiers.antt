@@ -4,7 +4,6 @@ use Rattle.std.specs.List.{list_any}
 use Rattle.dlk_tree.specs.declared.op.Op.{Op}
 use Rattle.dlk_tree.specs.declared.op.Op.TheVariants as Op'
 use Rattle.dlk_tree.specs.declared.op.Var.{Var}
-use Rattle.dlk_tree.specs.Names.{is_name}
 use Rattle.dlk_tree.specs.Statics.{free, plain}
 use Rattle.dlk_tree.specs.Trees.{Tree}
 use Rattle.dlk_store.specs.declared.Id.{Id}
@@ -42,9 +41,9 @@ pub record IsQuantifiedAt (trees : List Tree) (side : List Tree) (place : ℕ) (
 abbrev pub is_read : Sequent → Var → Bool
 is_read s v = list_any (λ t. free t v) s.ante || list_any (λ t. free t v) s.succ
 
--- the formula there binds x over f, and g is the same with y for x, which is a name
+-- the formula there binds x over f, and g is the same with y for x
 abbrev pub IsBoundAt : List Tree → ℕ → List ℕ → Bound → Type 0
-IsBoundAt side place y p = IsTrue (is_name y) × ((t : Tree) × At side place t × RenamesBound p.x y p.f t p.g)
+IsBoundAt side place y p = (t : Tree) × At side place t × RenamesBound p.x y p.f t p.g
 
 -- y may stand for x
 abbrev pub IsFreshFor : List ℕ → Bound → Type 0

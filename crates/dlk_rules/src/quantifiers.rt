@@ -122,7 +122,6 @@ fn rebound_at<S: Store, L: Ledger>(
     ensures grows { S.grows store.old store.new }
 {
     let id = formula_at(store, side, place)?;
-    prove!(y.is_name());
     Ok(bound(alloc, store, id, y, steps)?)
 }
 

@@ -1,7 +1,7 @@
 //! The sequent rules: their words, their arguments and their premises.
-ghost use Rattle.std.specs.Prelude.{◌≡◌, ◌≢◌, List, IfSome, IfNone, MatchOption, IfOk, IfErr};
+ghost use Rattle.std.specs.Prelude.{◌≡◌, ◌≢◌, List, IfSome, IfNone, MatchOption, IfOk, IfErr, IsTrue};
 ghost use Rattle.dlk_tree.specs.Trees.{Tree};
-ghost use Rattle.dlk_calculus.specs.Rules.{Rule as TreeRule, word_of, arguments_of, FirstAgainst};
+ghost use Rattle.dlk_calculus.specs.Rules.{Rule as TreeRule, IsProperRule, word_of, arguments_of, FirstAgainst};
 ghost use Rattle.dlk_sequent.specs.Sequents.{sequent_at};
 ghost use Rattle.dlk_rules.specs.declared.rule.RuleFault.TheVariants.{Memory};
 ghost use Rattle.dlk_rules.specs.Steps.{rule_at, RuleIsKnown, IsOfFormulas, ArePremises, IsRuleFault};
@@ -295,6 +295,17 @@ impl Rule {
     {
         let (_, arguments) = self.parts();
         arguments
+    }
+
+    /// Every rule is proper: the name among its arguments, where there is one, is a name.
+    pub fn is_proper(&self) -> bool
+        ensures value { IsTrue result }
+        ensures proper { (trees : List Tree) → IsProperRule (rule_at trees self.now) }
+    {
+        match self {
+            Rule::BoundL(_, y) | Rule::BoundR(_, y) => y.is_name(),
+            _ => true,
+        }
     }
 
     /// Its word and its arguments: a row a rule.

@@ -27,7 +27,8 @@ arg_at trees (id ∷ ids) zero d h = refl
 arg_at trees (id ∷ ids) (suc n) d h = arg_at trees ids n d (omega arith)
 
 -- an argument is the tree of its id
-arg_is : (trees : List Tree) (ids : List Id) (n : ℕ) (d : Id) (a : Tree) → slice_get (args_at trees ids) n ≡ Some a → (n < length ids) × (tree trees (get_or ids n d) ≡ a)
+arg_is : (trees : List Tree) (ids : List Id) (n : ℕ) (d : Id) (a : Tree) → slice_get (args_at trees ids) n ≡ Some a → (n < length ids)
+    × (tree trees (get_or ids n d) ≡ a)
 arg_is trees ids n d a e =
     let within : n < length ids = omega (arith, slice_get_within (args_at trees ids) n a e, args_length trees ids) in
     (within, same_Some (tree trees (get_or ids n d)) a (sym (arg_at trees ids n d within) ∙ e))
@@ -46,11 +47,14 @@ module _ (trees : List Tree) (set : Var → Bool) (kids : Forest) where
   safe_of ids n d h clear = λ stands. clear.clear n (tree trees (get_or ids n d)) (arg_at trees ids n d h) stands
 
 -- the argument of a dot
-pub arg_holds : (trees : List Tree) (ids : List Id) (n i : ℕ) (id d : Id) → i ≡ n → i < length ids → id ≡ get_or ids i d → All (IsId trees) ids → IsResult (λ t. slice_get (args_at trees ids) n ≡ Some t) trees id
+pub arg_holds : (trees : List Tree) (ids : List Id) (n i : ℕ) (id d : Id) → i ≡ n → i < length ids → id ≡ get_or ids i d → All (IsId trees) ids →
+    IsResult (λ t. slice_get (args_at trees ids) n ≡ Some t) trees id
 arg_holds trees ids n i id d e h is all = record {
   result = tree trees (get_or ids n d);
   is_related = arg_at trees ids n d (omega (arith, e));
-  stands = subst (λ k. StandsFor trees k (tree trees (get_or ids n d))) (sym is) (subst (λ m. StandsFor trees (get_or ids i d) (tree trees (get_or ids m d))) e (record { known = all i d h; tree_is = refl }));
+  stands =
+      subst (λ k. StandsFor trees k (tree trees (get_or ids n d))) (sym is)
+      (subst (λ m. StandsFor trees (get_or ids i d) (tree trees (get_or ids m d))) e (record { known = all i d h; tree_is = refl }));
 }
 
 pub arg_none : (trees : List Tree) (ids : List Id) (n : ℕ) → length ids ≤ n → HasNone (λ t. slice_get (args_at trees ids) n ≡ Some t)

@@ -20,7 +20,8 @@ first_set trees [] = refl
 first_set trees (id ∷ ids) = refl
 
 -- the scope of a node is what its operator captures
-scope_captures : (trees : List Tree) (op : Op) (new : List Id) (made : Id) → tree trees made ≡ node op (kid_trees trees new) → scope_set trees (scope_of op new made) ≡ (captures op).set (kid_trees trees new)
+scope_captures : (trees : List Tree) (op : Op) (new : List Id) (made : Id) → tree trees made ≡ node op (kid_trees trees new) →
+    scope_set trees (scope_of op new made) ≡ (captures op).set (kid_trees trees new)
 scope_captures trees Op'.Box new made is = first_set trees new
 scope_captures trees Op'.Dia new made is = first_set trees new
 scope_captures trees Op'.Seq new made is = first_set trees new
@@ -32,7 +33,8 @@ first_known : (trees : List Tree) (new : List Id) → All (IsId trees) new → I
 first_known trees [] all = tt
 first_known trees (id ∷ ids) all = all 0 id (omega arith)
 
-scope_known : (trees : List Tree) (op : Op) (new : List Id) (made : Id) → All (IsId trees) new → IsId trees made → Fits op (sorts_at trees new) → IsKnownScope trees (scope_of op new made)
+scope_known : (trees : List Tree) (op : Op) (new : List Id) (made : Id) → All (IsId trees) new → IsId trees made → Fits op (sorts_at trees new) →
+    IsKnownScope trees (scope_of op new made)
 scope_known trees (Op'.Forall x) new made all known fits = fits.parts_fit
 scope_known trees (Op'.Exists x) new made all known fits = fits.parts_fit
 scope_known trees Op'.Box new made all known fits = first_known trees new all
@@ -64,7 +66,8 @@ reach_trees trees Op'.Seq ids = later_trees trees ids
 reach_trees trees _ ids = refl
 
 -- of a node that was made: its scope, and the kids in which it captures
-module _ {before now : List Tree} (kept : Keeps before now) (op copy : Op) (same : op ≡ copy) (new : List Id) (known : All (IsId before) new) (made : Id) (stands : StandsFor now made (node copy (kid_trees before new))) (scope : Scope) (is : scope ≡ scope_of op new made) where
+module _ {before now : List Tree} (kept : Keeps before now) (op copy : Op) (same : op ≡ copy) (new : List Id) (known : All (IsId before) new)
+    (made : Id) (stands : StandsFor now made (node copy (kid_trees before new))) (scope : Scope) (is : scope ≡ scope_of op new made) where
   pub made_scope : scope_set now scope ≡ (captures op).set (kid_trees before new)
   made_scope =
       let kids = kid_trees-kept kept new known in
@@ -72,7 +75,9 @@ module _ {before now : List Tree} (kept : Keeps before now) (op copy : Op) (same
       ap (scope_set now) is ∙ scope_captures now op new made node_is ∙ ap (captures op).set kids
 
   pub made_known : Fits op (sorts_at before new) → IsKnownScope now scope
-  made_known fits = subst (IsKnownScope now) (sym is) (scope_known now op new made (known_kept kept new known) stands.known (subst (Fits op) (sym (sorts_at-kept kept new known)) fits))
+  made_known fits =
+      subst (IsKnownScope now) (sym is)
+      (scope_known now op new made (known_kept kept new known) stands.known (subst (Fits op) (sym (sorts_at-kept kept new known)) fits))
 
 module _ {before now : List Tree} (kept : Keeps before now) (op : Op) (old ids : List Id) (known : All (IsId before) old) (is : ids ≡ reach_of op old) where
   pub reached_trees : kid_trees now ids ≡ (captures op).reach (kid_trees before old)

@@ -19,7 +19,8 @@ pub found_tree : (trees : List Tree) (pairs : List Pair) (s : Sym) → replaceme
 found_tree trees [] s = refl
 found_tree trees (p ∷ pairs) s = at (sym_eq s p.sym) (found_tree trees pairs s)
   where
-    at : (b : Bool) → replacement (pairs_at trees pairs) s ≡ tree_of trees (found pairs s) → cond b (Some (tree trees p.by)) (replacement (pairs_at trees pairs) s) ≡ tree_of trees (cond b (Some p.by) (found pairs s))
+    at : (b : Bool) → replacement (pairs_at trees pairs) s ≡ tree_of trees (found pairs s) →
+        cond b (Some (tree trees p.by)) (replacement (pairs_at trees pairs) s) ≡ tree_of trees (cond b (Some p.by) (found pairs s))
     at true e = refl
     at false e = e
 

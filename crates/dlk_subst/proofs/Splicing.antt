@@ -1,5 +1,6 @@
 -- Items and kids of a system, put together.
-use Rattle.std.proofs.Common.{◌≡◌, refl, sym, ap, subst, ◌∙◌, ℕ, zero, suc, ◌-◌, replicate, List, [], ◌∷◌, ◌++◌, length, take, drop, ◌≤◌, Some, append_assoc, arith, Result, Ok, Err}
+use Rattle.std.proofs.Common.{◌≡◌, refl, sym, ap, subst, ◌∙◌, ℕ, zero, suc, ◌-◌, replicate, List, [], ◌∷◌, ◌++◌, length, take, drop, ◌≤◌, Some, append_assoc}
+use Rattle.std.proofs.Common.{arith, Result, Ok, Err}
 use Rattle.std.specs.Prelude.{All, OnOk}
 use Rattle.std.proofs.lemmas.List.{at_drop_all}
 use Rattle.std.proofs.lemmas.List.Elements.{All-nil, All-append, All-take, All-cons}

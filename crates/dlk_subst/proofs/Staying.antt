@@ -8,7 +8,8 @@ use Rattle.dlk_store.specs.Stores.{StandsFor}
 use Rattle.dlk_calculus.specs.Captures.{captures, Stays}
 use Rattle.dlk_subst.specs.Results.{IsResult, HasNone}
 
-module _ (Admissible : (Var → Bool) → Forest → Type 0) (op : Op) (old new : Forest) {set : Var → Bool} {kids : Forest} (set_is : set ≡ (captures op).set new) (kids_are : kids ≡ (captures op).reach old) where
+module _ (Admissible : (Var → Bool) → Forest → Type 0) (op : Op) (old new : Forest) {set : Var → Bool} {kids : Forest}
+    (set_is : set ≡ (captures op).set new) (kids_are : kids ≡ (captures op).reach old) where
   pub stays : (trees : List Tree) (id : Id) → StandsFor trees id (node op new) → Admissible set kids → IsResult (Stays Admissible op old new) trees id
   stays trees id stands admissible = record {
     result = node op new;

@@ -45,7 +45,7 @@ pub one_cut : (text : List ℕ) (byte : ℕ) (front start rest behind : List ℕ
 one_cut text byte front start rest behind a b = same_cut byte front start rest behind a.first b.first (sym a.text_is ∙ b.text_is)
 
 -- the cut at the first place of the byte
-cut_there : (text : List ℕ) (byte place : ℕ) → position (λ b. b == byte) text ≡ Some place → CutAt text byte (take place text) (drop (place + 1) text)
+pub cut_there : (text : List ℕ) (byte place : ℕ) → position (λ b. b == byte) text ≡ Some place → CutAt text byte (take place text) (drop (place + 1) text)
 cut_there text byte place there =
     let h = position-Some (λ b. b == byte) text place 0 there in
     let same : get_or text place 0 ≡ byte = eqb-true _ byte h.1 in

@@ -8,3 +8,7 @@ pub mod LineForms
 pub mod Appended
 pub mod Readback
 pub mod Proper
+pub mod TextsDecided
+pub mod SomeParts
+pub mod SomeRule
+pub mod SomeLine

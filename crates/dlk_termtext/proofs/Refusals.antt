@@ -15,11 +15,12 @@ pub text_refused : {holds : Type 0} (is_fault : WhyNoText → Type 0) → ((why 
 text_refused is_fault against (text_fault.BadByte at) f = against (BadByte at) f
 text_refused is_fault against (text_fault.Unread (parse.Literal at)) f = against (Unread (Literal at)) f
 text_refused is_fault against (text_fault.Unread (parse.Nesting at)) f = against (Unread (Nesting at)) f
-text_refused is_fault against (text_fault.Unread parse.Syntax) f = against (Unread Syntax) f
+text_refused is_fault against (text_fault.Unread (parse.Syntax at)) f = against (Unread (Syntax at)) f
 text_refused is_fault against (text_fault.Unread (parse.Shape at)) f = against (Unread (Shape at)) f
 text_refused is_fault against (text_fault.Unread (parse.TooBig size)) f = against (Unread (TooBig size)) f
 text_refused is_fault against (text_fault.Unread (parse.TooDeep depth)) f = against (Unread (TooDeep depth)) f
-text_refused is_fault against (text_fault.Unread parse.Memory) f = tt
+text_refused is_fault against (text_fault.Unread parse.Memory) f = absurd f
+text_refused is_fault against text_fault.Memory f = tt
 
 -- a fault of a part is one of the whole, where the whole needs the part
 pub fault_of_whole : {part whole : Type 0} → (part → whole) → (why : LineFault) → IsLineFaultOf part why → IsLineFaultOf whole why

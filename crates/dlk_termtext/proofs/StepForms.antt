@@ -49,7 +49,7 @@ unfolding kind_of
 kind_of_word (Start s) = refl
 kind_of_word _ = refl
 
-same_kind : (s t : Step) → step_word s ≡ step_word t → kind s ≡ kind t
+pub same_kind : (s t : Step) → step_word s ≡ step_word t → kind s ≡ kind t
 same_kind s t e = sym (kind_of_word s) ∙ ap kind_of e ∙ kind_of_word t
 
 -- the words are of letters

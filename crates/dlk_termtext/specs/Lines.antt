@@ -24,7 +24,7 @@ pub data IsNumber : List ℕ → ℕ → Type 0 where
   number : (first : ℕ) (others : List ℕ) → IsTrue (is_between 49 57 first) → IsTrue (list_all is_digit others) → length others ≤ 8 →
       IsNumber (first ∷ others) (value (first ∷ others))
 
--- the text of a formula, in which no dot stands
+-- the text of a formula, in which no argument dot and no `_` stands
 abbrev pub IsFormulaText : List ℕ → Tree → Type 0
 IsFormulaText text h = TreeText Formula Refused text h
 

@@ -33,7 +33,7 @@ IsLineFaultOf holds fault.Memory = Unit {0}
 abbrev pub of_parse : ParseFault → LineFault
 of_parse (parse.Literal at) = fault.Malformed
 of_parse (parse.Nesting at) = fault.Malformed
-of_parse parse.Syntax = fault.Malformed
+of_parse (parse.Syntax at) = fault.Malformed
 of_parse (parse.Shape at) = fault.Malformed
 of_parse (parse.TooBig size) = fault.Malformed
 of_parse (parse.TooDeep depth) = fault.Malformed
@@ -43,6 +43,7 @@ of_parse parse.Memory = fault.Memory
 abbrev pub of_text : TextFault → LineFault
 of_text (text_fault.BadByte at) = fault.Malformed
 of_text (text_fault.Unread why) = of_parse why
+of_text text_fault.Memory = fault.Memory
 
 -- bytes that are no name make their line Malformed
 abbrev pub of_name : NameFault → LineFault

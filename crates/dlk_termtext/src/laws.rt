@@ -1,5 +1,5 @@
 //! The laws of lines. Each is a contract of a function that does nothing.
-ghost use Rattle.std.specs.Prelude.{◌≡◌, ℕ, List};
+ghost use Rattle.std.specs.Prelude.{◌≡◌, ◌⊎◌, ℕ, List};
 ghost use Rattle.dlk_calculus.specs.Steps.{Step, IsProper};
 ghost use Rattle.dlk_termtext.specs.Lines.{Line as TreeLine, Numbered, IsLine};
 ghost use Rattle.dlk_termtext.specs.Written.{line_text, IsLineNumber, IsWritable};
@@ -7,6 +7,11 @@ ghost use Rattle.dlk_termtext.specs.Written.{line_text, IsLineNumber, IsWritable
 /// A text says at most one line.
 pub fn one_line()
     ensures { (text : List ℕ) (l m : TreeLine) → IsLine text l → IsLine text m → l ≡ m }
+{}
+
+/// A text says a line, or it says none.
+pub fn some_line()
+    ensures { (text : List ℕ) → ((l : TreeLine) × IsLine text l) ⊎ ((l : TreeLine) → ¬ IsLine text l) }
 {}
 
 /// The step of a line is a proper one: its names are names, and its replacements are well made.

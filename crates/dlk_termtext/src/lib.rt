@@ -13,7 +13,7 @@ mod step;
 mod writing;
 mod writing_rule;
 
-pub use laws::{one_line, written_line_is_read};
+pub use laws::{one_line, some_line, steps_are_proper, written_line_is_read};
 pub use line::{Line, LineFault};
 pub use reading::read_line;
 pub use writing::write_line;

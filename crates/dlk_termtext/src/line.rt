@@ -50,7 +50,7 @@ impl From<ParseFault> for LineFault {
         match fault {
             ParseFault::Literal { at: _ }
             | ParseFault::Nesting { at: _ }
-            | ParseFault::Syntax
+            | ParseFault::Syntax { at: _ }
             | ParseFault::Shape { at: _ }
             | ParseFault::TooBig { size: _ }
             | ParseFault::TooDeep { depth: _ } => LineFault::Malformed,
@@ -66,6 +66,7 @@ impl From<TextFault> for LineFault {
         match fault {
             TextFault::BadByte { at: _ } => LineFault::Malformed,
             TextFault::Unread(why) => LineFault::from(why),
+            TextFault::Memory => LineFault::Memory,
         }
     }
 }

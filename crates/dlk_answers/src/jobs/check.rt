@@ -1,12 +1,13 @@
 // `check MODEL TERM` and `report MODEL TERM`: replay a term, and compare its conclusion with the model.
-ghost use Rattle.std.specs.Prelude.{◌≡◌, ◌<◌, [], ◌↔◌, IfOk, IfSome, IsTrue};
-ghost use Rattle.dlk_calculus.specs.Places.{at, IsPlace};
+ghost use Rattle.std.specs.Prelude.{◌≡◌, ◌<◌, [], ◌↔◌, IfOk, IsTrue};
+ghost use Rattle.dlk_calculus.specs.Places.{At, IsPlace};
+ghost use Rattle.dlk_calculus.specs.Provables.{Provable};
 ghost use Rattle.dlk_store.specs.Stores.{IsId, tree};
 ghost use Rattle.dlk_sequent.specs.Sequents.{sequent_at, IsKnown};
 ghost use Rattle.dlk_kernel.specs.Kernel.{facts};
 ghost use Rattle.dlk_report.specs.Reports.{HasAsciiTexts};
 ghost use Rattle.dlk_report.specs.Shown.{parts};
-ghost use Rattle.dlk_answers.specs.Checks.{proves, reason_text, why_text, line_refused, other_conclusion, laid_out, reported, Checks};
+ghost use Rattle.dlk_answers.specs.Checks.{proves, line_refused, other_conclusion, laid_out, reported, Checks};
 ghost use Rattle.dlk_answers.specs.Judged.{judged};
 ghost use Rattle.dlk_answers.specs.Shown.{reply_of};
 
@@ -14,10 +15,10 @@ use crate::fault::NoReply;
 use crate::form::Role;
 use crate::refusal::{refuse_text, refused};
 use crate::reply::{Layout, Reply, Status, printing};
-use dlk_kernel::{Fact, Kernel, Reason};
+use dlk_kernel::{Fact, Kernel};
 use dlk_parse::read_formula;
 use dlk_plain::PlainStore;
-use dlk_print::sequent_text;
+use dlk_print::{append_decimal, sequent_text};
 use dlk_replay::{LineWhy, Outcome, ReplayFault, replay};
 use dlk_report::{Report, report_json, report_text, shown};
 use dlk_sequent::Sequent;
@@ -25,48 +26,11 @@ use dlk_store::{Id, Steps, Store};
 use std::alloc::Global;
 use std::sync::ledger::Ledger;
 
-/// The word for a reason, as it is printed.
-fn reason_word(why: Reason) -> &'static str
-    ensures { result.now ≡ reason_text why }
-{
-    match why {
-        Reason::NoFact => "NoFact",
-        Reason::NoGoal => "NoGoal",
-        Reason::UnknownName => "UnknownName",
-        Reason::NoPlace => "NoPlace",
-        Reason::WrongShape => "WrongShape",
-        Reason::NotEqual => "NotEqual",
-        Reason::NotFresh => "NotFresh",
-        Reason::NotArith => "NotArith",
-        Reason::IllSubst => "IllSubst",
-        Reason::FreeInSubst => "FreeInSubst",
-        Reason::NotAdmissible => "NotAdmissible",
-        Reason::TooBig => "TooBig",
-        Reason::TooDeep => "TooDeep",
-        Reason::SideFull => "SideFull",
-        Reason::GoalsFull => "GoalsFull",
-        Reason::LeavesFull => "LeavesFull",
-        Reason::LinesFull => "LinesFull",
-    }
-}
-
-/// The word for what is wrong with a line, as it is printed.
-fn why_word(why: LineWhy) -> &'static str
-    ensures { result.now ≡ why_text why }
-{
-    match why {
-        LineWhy::Malformed => "Malformed",
-        LineWhy::WrongNumber => "WrongNumber",
-        LineWhy::NoEnd => "NoEnd",
-        LineWhy::Step(why) => reason_word(why),
-    }
-}
-
 /// The answer to a term whose first wrong line this is.
 fn refuse_line(alloc: Global, line: usize, why: LineWhy) -> Result<Reply, NoReply>
     ensures { IfOk result (λ r. reply_of r ≡ line_refused line why) }
 {
-    let word = why_word(why);
+    let word = why.word();
     let why = format!(in alloc; "line {line}: {word}")?;
     refused(alloc, why.as_str())
 }
@@ -97,8 +61,10 @@ fn refuse_conclusion<S: Store, L: Ledger>(
     ensures { IfOk result (λ r. reply_of r ≡ other_conclusion line (tree (S.trees store.now) formula) (sequent_at (S.trees store.now) found.now)) }
 {
     let expected = Sequent::alone_right(alloc, formula)?;
-    let first = format!(in alloc; "refused: other-conclusion {line}\nexpected ")?;
-    let mut printed = first.into_bytes();
+    let mut printed = Vec::new(alloc);
+    printed.extend_from_slice(b"refused: other-conclusion ")?;
+    append_decimal(&mut printed, line as u128)?;
+    printed.extend_from_slice(b"\nexpected ")?;
     sequent_text(store, &expected, &mut printed, steps)?;
     printed.extend_from_slice(b"\nfound ")?;
     sequent_text(store, found, &mut printed, steps)?;
@@ -131,7 +97,7 @@ fn report<S: Store, L: Ledger>(
     steps: &mut Steps<L>,
 ) -> Result<Reply, NoReply>
     requires { IsPlace kernel.now.rows fact }
-    ensures { IfOk result (λ r. IfSome (at (facts S.trees kernel.now) fact) (λ p. reply_of r ≡ reported layout p lines)) }
+    ensures { IfOk result (λ r. (p : Provable) → At (facts S.trees kernel.now) fact p → reply_of r ≡ reported layout p lines) }
 {
     let report = shown(alloc, kernel, fact, lines, steps)?;
     let printed = lay_out(alloc, layout, &report)?;
@@ -154,7 +120,7 @@ fn judge<S: Store, L: Ledger>(
 ) -> Result<Reply, NoReply>
     requires formula { IsId (S.trees kernel.now.store) formula }
     requires fact { IsPlace kernel.now.rows outcome.fact }
-    ensures { IfOk result (λ r. IfSome (at (facts S.trees kernel.now) outcome.fact) (judged layout (tree (S.trees kernel.now.store) formula) outcome.lines outcome.line (reply_of r))) }
+    ensures { IfOk result (λ r. (p : Provable) → At (facts S.trees kernel.now) outcome.fact p → judged layout (tree (S.trees kernel.now.store) formula) outcome.lines outcome.line (reply_of r) p) }
 {
     let found = kernel.conclusion(outcome.fact);
     if is_proof_of(kernel, found, formula) {

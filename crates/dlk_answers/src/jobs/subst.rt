@@ -1,6 +1,6 @@
 // `subst FILE SUBST`: what a substitution makes of an expression.
 ghost use Rattle.std.specs.Prelude.{◌≡◌, ◌<◌, IfOk};
-ghost use Rattle.dlk_answers.specs.Substitutes.{why_word, pair_refused, Substitutes};
+ghost use Rattle.dlk_answers.specs.Substitutes.{pair_refused, Substitutes};
 ghost use Rattle.dlk_answers.specs.Shown.{reply_of};
 
 use crate::fault::NoReply;
@@ -18,24 +18,11 @@ use dlk_subst::{ApplyFault, apply};
 use std::alloc::Global;
 use std::sync::ledger::Ledger;
 
-/// The word for a reason against a pair, as it is printed.
-fn why_word(why: Why) -> &'static str
-    ensures { result.now ≡ why_word why }
-{
-    match why {
-        Why::Sort => "sort",
-        Why::Twice => "twice",
-        Why::Dot => "dot",
-        Why::Hole => "hole",
-        Why::Taboo => "taboo",
-    }
-}
-
 /// The answer to pairs of which this is the first bad one.
 fn refuse_pair(alloc: Global, pair: usize, why: Why) -> Result<Reply, NoReply>
     ensures { IfOk result (λ r. reply_of r ≡ pair_refused pair why) }
 {
-    let word = why_word(why);
+    let word = why.word();
     let why = format!(in alloc; "subst pair {pair}: {word}")?;
     refused(alloc, why.as_str())
 }

@@ -293,7 +293,7 @@ fn reports_as_json(rt: HostRuntime) -> Result<(), Fail> {
             2,
             "refused: other-conclusion 1\nexpected ==> x>=1\nfound ==> x>=0\n",
         ),
-        ("x>=0 &", TERM, 2, "refused: model: syntax\n"),
+        ("x>=0 &", TERM, 2, "refused: model at 6: syntax\n"),
         ("x>=0", "", 2, "refused: line 1: NoEnd\n"),
     ] {
         let (found, reply) = replied(

@@ -273,8 +273,8 @@ fn refuses_to_list(rt: HostRuntime) -> Result<(), Fail> {
     let alloc = rt.alloc();
     for (file, text) in [
         ("x>=0 # y", "refused: file at 5: byte\n"),
-        ("x>=0 & -> y>0", "refused: file: syntax\n"),
-        ("", "refused: file: syntax\n"),
+        ("x>=0 & -> y>0", "refused: file at 7: syntax\n"),
+        ("", "refused: file at 0: syntax\n"),
         ("1+f(1,2,3,4,5,6,7,8,9)", "refused: file at 2: shape\n"),
     ] {
         let (status, reply) = listed(alloc, file.as_bytes())?;

@@ -12,17 +12,21 @@ fn refuses_models(rt: HostRuntime) -> Result<(), Fail> {
             "x>=123456789012345678901234567890123456789",
             "refused: model at 3: literal\n",
         ),
-        ("x>=0 & -> y>0", "refused: model: syntax\n"),
-        ("x>=0, y>=0", "refused: model: syntax\n"),
-        ("==> x>=0", "refused: model: syntax\n"),
-        ("", "refused: model: syntax\n"),
-        ("x>=", "refused: model: syntax\n"),
-        ("x>=0 -> (y>=0", "refused: model: syntax\n"),
-        ("x>=0 y>=0", "refused: model: syntax\n"),
-        ("x+1", "refused: model: syntax\n"),
-        ("x:=1;", "refused: model: syntax\n"),
-        ("._0>=0", "refused: model: syntax\n"),
-        ("x>=0 & _", "refused: model: syntax\n"),
+        ("x>=0 & -> y>0", "refused: model at 7: syntax\n"),
+        ("x>=0, y>=0", "refused: model at 4: syntax\n"),
+        ("==> x>=0", "refused: model at 0: syntax\n"),
+        ("", "refused: model at 0: syntax\n"),
+        ("x>=", "refused: model at 3: syntax\n"),
+        ("x>=0 -> (y>=0", "refused: model at 13: syntax\n"),
+        ("x>=0 y>=0", "refused: model at 5: syntax\n"),
+        ("x+1", "refused: model at 3: syntax\n"),
+        ("f(x,)>=0", "refused: model at 4: syntax\n"),
+        ("[x:=1 x>=0", "refused: model at 6: syntax\n"),
+        ("p(||", "refused: model at 3: syntax\n"),
+        ("x>=0 <- y", "refused: model at 5: syntax\n"),
+        ("x:=1;", "refused: model at 1: syntax\n"),
+        ("._0>=0", "refused: model at 0: syntax\n"),
+        ("x>=0 & _", "refused: model at 7: syntax\n"),
         ("x>=0 & [{x'=1,x'=2}]x>=0", "refused: model at 8: shape\n"),
         ("f(1,2,3,4,5,6,7,8,9)>=0", "refused: model at 0: shape\n"),
         // the first fault in the order of the document
@@ -34,12 +38,26 @@ fn refuses_models(rt: HostRuntime) -> Result<(), Fail> {
             "[{x'=1,x'=2}]x>=123456789012345678901234567890123456789",
             "refused: model at 16: literal\n",
         ),
-        ("[{x'=1,x'=2}]x", "refused: model: syntax\n"),
+        ("[{x'=1,x'=2}]x", "refused: model at 14: syntax\n"),
     ] {
         let (status, reply) = checked(alloc, model.as_bytes(), TERM.as_bytes())?;
         assert_eq!(rt; status, 2, "{model}");
         assert_eq!(rt; reply.printed.as_slice(), printed.as_bytes(), "{model}");
     }
+    Ok(())
+}
+
+/// The place of a fault may be the end, behind many open programs.
+#[test]
+fn refuses_opened_programs(rt: HostRuntime) -> Result<(), Fail> {
+    let alloc = rt.alloc();
+    let model = repeated(alloc, "<?", 400_000)?;
+    let (status, reply) = checked(alloc, &model, TERM.as_bytes())?;
+    assert_eq!(rt;
+        reply.printed.as_slice(),
+        b"refused: model at 800000: syntax\n".as_slice()
+    );
+    assert_eq!(rt; status, 2);
     Ok(())
 }
 

@@ -56,11 +56,11 @@ fn refuses_texts(rt: HostRuntime) -> Result<(), Fail> {
         ("x /* y", "refused: file at 2: byte\n"),
         ("x>=0 # y", "refused: file at 5: byte\n"),
         ("._8", "refused: file at 0: byte\n"),
-        ("x>=0 & -> y>0", "refused: file: syntax\n"),
-        ("x>0 ==> y>0", "refused: file: syntax\n"),
-        ("x>0; y>0", "refused: file: syntax\n"),
-        ("x:=*y;", "refused: file: syntax\n"),
-        ("x':=*;", "refused: file: syntax\n"),
+        ("x>=0 & -> y>0", "refused: file at 7: syntax\n"),
+        ("x>0 ==> y>0", "refused: file at 4: syntax\n"),
+        ("x>0; y>0", "refused: file at 3: syntax\n"),
+        ("x:=*y;", "refused: file at 4: syntax\n"),
+        ("x':=*;", "refused: file at 4: syntax\n"),
     ] {
         let (status, reply) = printed(alloc, file.as_bytes())?;
         assert_eq!(rt; reply.printed.as_slice(), text.as_bytes(), "{file}");
@@ -73,11 +73,10 @@ fn refuses_texts(rt: HostRuntime) -> Result<(), Fail> {
 fn refusal_of(byte: u8) -> Option<&'static str> {
     match byte {
         b'a'..=b'z' | b'A'..=b'Z' | b'0'..=b'9' | b'_' => None,
-        b' ' | b'\t' | b'\r' | b'\n' => Some("refused: file: syntax\n"),
-        b'(' | b')' | b'[' | b']' | b'{' | b'}' => Some("refused: file: syntax\n"),
-        b'&' | b'|' | b'!' | b'=' | b'<' | b'>' => Some("refused: file: syntax\n"),
-        b'+' | b'-' | b'*' | b'/' | b'^' | b'\'' => Some("refused: file: syntax\n"),
-        b'?' | b';' | b',' => Some("refused: file: syntax\n"),
+        b' ' | b'\t' | b'\r' | b'\n' => Some("refused: file at 1: syntax\n"),
+        b'(' | b'[' | b'{' | b'<' | b'!' | b'-' | b'?' => Some("refused: file at 1: syntax\n"),
+        b')' | b']' | b'}' | b'>' | b'&' | b'|' | b'=' => Some("refused: file at 0: syntax\n"),
+        b'+' | b'*' | b'/' | b'^' | b'\'' | b';' | b',' => Some("refused: file at 0: syntax\n"),
         _ => Some("refused: file at 0: byte\n"),
     }
 }
@@ -125,7 +124,7 @@ fn reads_opened_programs(rt: HostRuntime) -> Result<(), Fail> {
     let (status, reply) = printed(alloc, &repeated(alloc, "<?", 20_000)?)?;
     assert_eq!(rt;
         reply.printed.as_slice(),
-        b"refused: file: syntax\n".as_slice()
+        b"refused: file at 40000: syntax\n".as_slice()
     );
     assert_eq!(rt; status, 2);
     Ok(())

@@ -43,6 +43,7 @@ pub(super) fn apply<S: Store, L: Ledger>(
     ensures fault { IfErr result (IsStepFault (Fault (provables_at (S.trees store.old) rows.now) (Apply fact goal (rule_at (S.trees store.old) rule.now)))) }
     ensures grows { S.grows store.old store.new }
 {
+    prove!(rule.is_proper());
     let Some(row) = item_at(rows, fact) else {
         return Err(StepFault::Refused(Reason::NoFact));
     };

@@ -7,10 +7,12 @@ pub returns-then-not-are_sequents_within-clause-past : goal.returns-then-not-are
 returns-then-not-are_sequents_within-clause-past g c = past_nodes (map (sequent_at (g.S.Store.trees c.args.store.now)) c.args.all.now) (search rules)
 
 pub returns-then-not-are_sequents_within-2-clause-past : goal.returns-then-not-are_sequents_within-2-clause-past
-returns-then-not-are_sequents_within-2-clause-past g c = past_levels (map (sequent_at (g.S.Store.trees c.args.store.now)) c.args.all.now) (search rules) (search rules)
+returns-then-not-are_sequents_within-2-clause-past g c =
+    past_levels (map (sequent_at (g.S.Store.trees c.args.store.now)) c.args.all.now) (search rules) (search rules)
 
 pub returns-then-not-have_few-clause-past : goal.returns-then-not-have_few-clause-past
-returns-then-not-have_few-clause-past g c = past_sides (map (sequent_at (g.S.Store.trees c.args.store.now)) c.args.all.now) (search rules) (search rules) (search rules)
+returns-then-not-have_few-clause-past g c =
+    past_sides (map (sequent_at (g.S.Store.trees c.args.store.now)) c.args.all.now) (search rules) (search rules) (search rules)
 
 pub returns-clause-within : goal.returns-clause-within
 returns-clause-within g c = within (map (sequent_at (g.S.Store.trees c.args.store.now)) c.args.all.now) (search rules) (search rules) (search rules)

@@ -18,5 +18,8 @@ loop-id-preserved g c =
     record {
       grows = g.met.S.Store.grows_trans c.args.store.now c.loop-id.store c.swap.new.store c.loop-id.invariant.grows c.swap.ensures.grows;
       known = rw c.in_ok-push.ensures.ok (one_more_known_id _ _ then c.loop-id.made _ c.loop-id.invariant.known made.known);
-      made = rw c.in_ok-push.ensures.ok (one_more_id _ _ _ first then c.args.x.now c.args.y.now c.args.ids.now c.loop-id.made n d _ c.loop-id-test.true (c.requires n d c.loop-id-test.true) c.loop-id.invariant.known c.loop-id.invariant.made made);
+      made =
+          rw c.in_ok-push.ensures.ok
+          (one_more_id _ _ _ first then c.args.x.now c.args.y.now c.args.ids.now c.loop-id.made n d _ c.loop-id-test.true
+          (c.requires n d c.loop-id-test.true) c.loop-id.invariant.known c.loop-id.invariant.made made);
     }

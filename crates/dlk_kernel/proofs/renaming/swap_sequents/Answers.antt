@@ -16,5 +16,8 @@ loop-s-preserved g c =
     record {
       grows = g.met.S.Store.grows_trans c.args.store.now c.loop-s.store c.swap_sequent.new.store c.loop-s.invariant.grows c.swap_sequent.ensures.grows;
       known = rw c.in_ok-push.ensures.ok (one_more_known _ _ then c.loop-s.made _ c.loop-s.invariant.known c.in_ok-swapped.ensures.known);
-      made = rw c.in_ok-push.ensures.ok (one_more_sequent _ _ _ first then c.args.x.now c.args.y.now c.args.all.now c.loop-s.made n c.s-item.result _ c.loop-s-test.true (c.requires n c.s-item.result c.loop-s-test.true) c.loop-s.invariant.known c.loop-s.invariant.made made);
+      made =
+          rw c.in_ok-push.ensures.ok
+          (one_more_sequent _ _ _ first then c.args.x.now c.args.y.now c.args.all.now c.loop-s.made n c.s-item.result _ c.loop-s-test.true
+          (c.requires n c.s-item.result c.loop-s-test.true) c.loop-s.invariant.known c.loop-s.invariant.made made);
     }

@@ -8,5 +8,6 @@ abbrev pub invariant-loop-s : goal.invariant-loop-s
 invariant-loop-s g l = record {
   grows : g.S.Store.grows l.initial.store l.store;
   known : All (IsKnown (g.S.Store.trees l.store)) l.made;
-  made : map (sequent_at (g.S.Store.trees l.store)) l.made ≡ map (swap_sequent l.x l.y) (map (sequent_at (g.S.Store.trees l.initial.store)) (take l.s-index l.all));
+  made : map (sequent_at (g.S.Store.trees l.store)) l.made ≡ map (swap_sequent l.x l.y)
+      (map (sequent_at (g.S.Store.trees l.initial.store)) (take l.s-index l.all));
 }

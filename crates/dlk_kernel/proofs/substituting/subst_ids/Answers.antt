@@ -19,10 +19,12 @@ apply-requires-clause-known g c =
 pub returns-in_err-substituted-clause-none : goal.returns-in_err-substituted-clause-none
 returns-in_err-substituted-clause-none g c e =
     let first = g.met.S.Store.grows_keeps c.args.store.now c.loop-id.store c.loop-id.invariant.grows in
-    let failed = handed_on c.apply.result c.from_residual.result c.in_err-substituted.field-0.0 NotAdmissible c.in_err-substituted.was c.from_residual.ensures.1 e in
+    let failed =
+    handed_on c.apply.result c.from_residual.result c.in_err-substituted.field-0.0 NotAdmissible c.in_err-substituted.was c.from_residual.ensures.1 e in
     let n = c.loop-id.id-index in
     let d : Id = record { 0 = 0 } in
-    no_id _ _ first c.args.sigma.now.pairs c.requires.sigma.known c.args.ids.now n d c.loop-id-test.true (c.requires.known n d c.loop-id-test.true) (c.apply.ensures.none failed)
+    no_id _ _ first c.args.sigma.now.pairs c.requires.sigma.known c.args.ids.now n d c.loop-id-test.true (c.requires.known n d c.loop-id-test.true)
+    (c.apply.ensures.none failed)
 
 pub loop-id-preserved : goal.loop-id-preserved
 loop-id-preserved g c =
@@ -34,5 +36,8 @@ loop-id-preserved g c =
     record {
       grows = g.met.S.Store.grows_trans c.args.store.now c.loop-id.store c.apply.new.store c.loop-id.invariant.grows c.apply.ensures.grows;
       known = rw c.in_ok-push.ensures.ok (one_more_known_id _ _ then c.loop-id.made _ c.loop-id.invariant.known made.stands.known);
-      made = rw c.in_ok-push.ensures.ok (one_more_id _ _ first c.args.sigma.now.pairs c.requires.sigma.known _ then c.args.ids.now c.loop-id.made n d _ c.loop-id-test.true (c.requires.known n d c.loop-id-test.true) c.loop-id.invariant.known c.loop-id.invariant.made made);
+      made =
+          rw c.in_ok-push.ensures.ok
+          (one_more_id _ _ first c.args.sigma.now.pairs c.requires.sigma.known _ then c.args.ids.now c.loop-id.made n d _ c.loop-id-test.true
+          (c.requires.known n d c.loop-id-test.true) c.loop-id.invariant.known c.loop-id.invariant.made made);
     }

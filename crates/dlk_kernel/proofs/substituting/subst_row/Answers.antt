@@ -18,20 +18,24 @@ subst_sequents-requires-clause-known g c =
 
 pub returns-in_err-conclusion-clause-none : goal.returns-in_err-conclusion-clause-none
 returns-in_err-conclusion-clause-none g c e q h =
-    let failed = handed_on c.subst_sequent.result c.from_residual.result c.in_err-conclusion.field-0.0 NotAdmissible c.in_err-conclusion.was c.from_residual.ensures.1 e in
+    let failed = handed_on c.subst_sequent.result c.from_residual.result c.in_err-conclusion.field-0.0 NotAdmissible c.in_err-conclusion.was
+    c.from_residual.ensures.1 e in
     c.subst_sequent.ensures.none failed q.conclusion h.conclusion
 
 pub returns-in_err-goals-clause-none : goal.returns-in_err-goals-clause-none
 returns-in_err-goals-clause-none g c e =
     let first = g.met.S.Store.grows_keeps c.args.store.now c.subst_sequent.new.store c.subst_sequent.ensures.grows in
-    let failed = handed_on c.subst_sequents.result c.from_residual-in_err-goals.result c.in_err-goals.field-0.0 NotAdmissible c.in_err-goals.was c.from_residual-in_err-goals.ensures.1 e in
-    no_goals _ _ first c.args.sigma.now.pairs c.requires.sigma.known c.args.row.now c.requires.known (rw c.as_slice.ensures at c.subst_sequents.ensures.none failed)
+    let failed = handed_on c.subst_sequents.result c.from_residual-in_err-goals.result c.in_err-goals.field-0.0 NotAdmissible c.in_err-goals.was
+    c.from_residual-in_err-goals.ensures.1 e in
+    no_goals _ _ first c.args.sigma.now.pairs c.requires.sigma.known c.args.row.now c.requires.known
+    (rw c.as_slice.ensures at c.subst_sequents.ensures.none failed)
 
 pub returns-clause-made : goal.returns-clause-made
 returns-clause-made g c =
     let first = g.met.S.Store.grows_keeps c.args.store.now c.subst_sequent.new.store c.subst_sequent.ensures.grows in
     let then = g.met.S.Store.grows_keeps c.subst_sequent.new.store c.subst_sequents.new.store c.subst_sequents.ensures.grows in
-    whole_row _ _ first c.args.sigma.now.pairs c.requires.sigma.known _ then c.args.row.now _ c.requires.known c.in_ok-conclusion.ensures.made c.in_ok-conclusion.ensures.known (rw c.as_slice.ensures at c.in_ok-goals.ensures.made) c.in_ok-leaves.ensures
+    whole_row _ _ first c.args.sigma.now.pairs c.requires.sigma.known _ then c.args.row.now _ c.requires.known c.in_ok-conclusion.ensures.made
+    c.in_ok-conclusion.ensures.known (rw c.as_slice.ensures at c.in_ok-goals.ensures.made) c.in_ok-leaves.ensures
 
 pub returns-clause-known : goal.returns-clause-known
 returns-clause-known g c =

@@ -16,11 +16,13 @@ returns-in_err-ante-clause-none g c e t h =
 pub returns-in_err-succ-clause-none : goal.returns-in_err-succ-clause-none
 returns-in_err-succ-clause-none g c e =
     let first = g.met.S.Store.grows_keeps c.args.store.now c.subst_ids.new.store c.subst_ids.ensures.grows in
-    let failed = handed_on c.subst_ids-2.result c.from_residual-in_err-succ.result c.in_err-succ.field-0.0 NotAdmissible c.in_err-succ.was c.from_residual-in_err-succ.ensures.1 e in
+    let failed = handed_on c.subst_ids-2.result c.from_residual-in_err-succ.result c.in_err-succ.field-0.0 NotAdmissible c.in_err-succ.was
+    c.from_residual-in_err-succ.ensures.1 e in
     no_succ _ _ first c.args.sigma.now.pairs c.requires.sigma.known c.args.s.now c.requires.known (rw c.as_slice-2.ensures at c.subst_ids-2.ensures.none failed)
 
 pub returns-clause-made : goal.returns-clause-made
 returns-clause-made g c =
     let first = g.met.S.Store.grows_keeps c.args.store.now c.subst_ids.new.store c.subst_ids.ensures.grows in
     let then = g.met.S.Store.grows_keeps c.subst_ids.new.store c.subst_ids-2.new.store c.subst_ids-2.ensures.grows in
-    both_sides _ _ first c.args.sigma.now.pairs c.requires.sigma.known _ then c.args.s.now _ c.requires.known (rw c.as_slice.ensures at c.in_ok-ante.ensures.made) c.in_ok-ante.ensures.known (rw c.as_slice-2.ensures at c.in_ok-succ.ensures.made)
+    both_sides _ _ first c.args.sigma.now.pairs c.requires.sigma.known _ then c.args.s.now _ c.requires.known
+    (rw c.as_slice.ensures at c.in_ok-ante.ensures.made) c.in_ok-ante.ensures.known (rw c.as_slice-2.ensures at c.in_ok-succ.ensures.made)

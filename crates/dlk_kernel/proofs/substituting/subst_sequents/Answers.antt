@@ -18,9 +18,11 @@ subst_sequent-requires-clause-known g c =
 pub returns-in_err-substituted-clause-none : goal.returns-in_err-substituted-clause-none
 returns-in_err-substituted-clause-none g c e =
     let first = g.met.S.Store.grows_keeps c.args.store.now c.loop-s.store c.loop-s.invariant.grows in
-    let failed = handed_on c.subst_sequent.result c.from_residual.result c.in_err-substituted.field-0.0 NotAdmissible c.in_err-substituted.was c.from_residual.ensures.1 e in
+    let failed = handed_on c.subst_sequent.result c.from_residual.result c.in_err-substituted.field-0.0 NotAdmissible c.in_err-substituted.was
+    c.from_residual.ensures.1 e in
     let n = c.loop-s.s-index in
-    no_sequent _ _ first c.args.sigma.now.pairs c.requires.sigma.known c.args.all.now n c.s-item.result c.loop-s-test.true (c.requires.known n c.s-item.result c.loop-s-test.true) (rw c.s-item.is at c.subst_sequent.ensures.none failed)
+    no_sequent _ _ first c.args.sigma.now.pairs c.requires.sigma.known c.args.all.now n c.s-item.result c.loop-s-test.true
+    (c.requires.known n c.s-item.result c.loop-s-test.true) (rw c.s-item.is at c.subst_sequent.ensures.none failed)
 
 pub loop-s-preserved : goal.loop-s-preserved
 loop-s-preserved g c =
@@ -31,5 +33,8 @@ loop-s-preserved g c =
     record {
       grows = g.met.S.Store.grows_trans c.args.store.now c.loop-s.store c.subst_sequent.new.store c.loop-s.invariant.grows c.subst_sequent.ensures.grows;
       known = rw c.in_ok-push.ensures.ok (one_more_known _ _ then c.loop-s.made _ c.loop-s.invariant.known c.in_ok-substituted.ensures.known);
-      made = rw c.in_ok-push.ensures.ok (one_more_sequent _ _ first c.args.sigma.now.pairs c.requires.sigma.known _ then c.args.all.now c.loop-s.made n c.s-item.result _ c.loop-s-test.true (c.requires.known n c.s-item.result c.loop-s-test.true) c.loop-s.invariant.known c.loop-s.invariant.made made);
+      made =
+          rw c.in_ok-push.ensures.ok
+          (one_more_sequent _ _ first c.args.sigma.now.pairs c.requires.sigma.known _ then c.args.all.now c.loop-s.made n c.s-item.result _
+          c.loop-s-test.true (c.requires.known n c.s-item.result c.loop-s-test.true) c.loop-s.invariant.known c.loop-s.invariant.made made);
     }

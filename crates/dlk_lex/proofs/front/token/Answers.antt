@@ -16,5 +16,9 @@ returns-then-first-eq95 c = hole_front c.args.bytes.now c.if-first-eq95.true
 
 pub returns : goal.returns
 returns c =
-    rw c.spelling.ensures (mark_front c.args.bytes.now (sym c.is_letter.ensures ∙ c.if-is_letter.false) (sym c.is_digit.ensures ∙ c.if-is_digit.false) (ne_eqb (get_or c.args.bytes.now 0 0) 46 c.if-first-eq46.false) (ne_eqb (get_or c.args.bytes.now 0 0) 95 c.if-first-eq95.false)
-    c.in-Some.mark c.in-Some.ensures.found)
+    let no_letter = sym c.is_letter.ensures ∙ c.if-is_letter.false in
+    let no_digit = sym c.is_digit.ensures ∙ c.if-is_digit.false in
+    let no_point = ne_eqb (get_or c.args.bytes.now 0 0) 46 c.if-first-eq46.false in
+    let no_under = ne_eqb (get_or c.args.bytes.now 0 0) 95 c.if-first-eq95.false in
+    let found = c.in-Some.ensures.found in
+    rw found.1 (mark_front c.args.bytes.now no_letter no_digit no_point no_under c.in-Some.mark found.0)

@@ -1,13 +1,16 @@
-use Rattle.std.proofs.Common.{◌∙◌, sym, below_more}
+use Rattle.std.proofs.Common.{◌∙◌, sym}
 use Rattle.dlk_lex.proofs.FrontMarks.{mark_found, mark_missing}
 use Rattle.dlk_lex.proofs.marks.front_mark.Goals as goal
 
 pub returns-then-starts_with-clause-found : goal.returns-then-starts_with-clause-found
 returns-then-starts_with-clause-found c =
-    mark_found c.args.bytes.now c.marks-mark-items.result.now c.marks-mark-items.ensures c.loop-mark.mark-index c.loop-mark-test.true c.loop-mark.invariant (rw (← c.spelling.ensures) (sym c.starts_with.ensures.value ∙ c.if-starts_with.true))
-
-pub loop-mark-preserved : goal.loop-mark-preserved
-loop-mark-preserved c = below_more _ _ c.loop-mark.invariant (rw (← c.spelling.ensures) (sym c.starts_with.ensures.value ∙ c.if-starts_with.false))
+    let here = sym c.starts_with.ensures.value ∙ c.if-starts_with.true in
+    mark_found (λ row. row.0.now) (λ row. row.1) c.args.bytes.now c.marks_from-text-items.result.now
+    c.marks_from-text-items.ensures.marks c.marks_from-text-items.ensures.texts
+    c.loop-text.text-index _ c.loop-text-test.true c.loop-text.invariant here
 
 pub returns-clause-none : goal.returns-clause-none
-returns-clause-none c = mark_missing c.args.bytes.now c.marks-mark-items.result.now c.marks-mark-items.ensures c.loop-mark.mark-index c.loop-mark-test.false c.loop-mark.invariant
+returns-clause-none c =
+    mark_missing (λ row. row.0.now) (λ row. row.1) c.args.bytes.now c.marks_from-text-items.result.now
+    c.marks_from-text-items.ensures.marks c.marks_from-text-items.ensures.texts
+    c.loop-text.text-index c.loop-text-test.false c.loop-text.invariant

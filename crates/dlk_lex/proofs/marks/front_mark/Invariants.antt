@@ -1,9 +1,7 @@
-use Rattle.std.proofs.Common.{◌≡◌, ℕ, ◌<◌, eqb, false, get_or}
-use Rattle.std.specs.List.{starts_with}
-use Rattle.dlk_grammar.specs.declared.token.Mark.TheVariants as mark
-use Rattle.dlk_grammar.specs.Tokens.{spelling}
+use Rattle.std.proofs.Common.{◌≡◌, false, eqb, take}
+use Rattle.std.specs.List.{All, starts_with}
 use Rattle.dlk_lex.proofs.marks.front_mark.Given as goal
 
 -- none of the marks so far is at the front
-abbrev pub invariant-loop-mark : goal.invariant-loop-mark
-invariant-loop-mark l = (k : ℕ) → k < l.mark-index → starts_with eqb l.bytes (spelling (get_or l.mark-items k mark.Forall)) ≡ false
+abbrev pub invariant-loop-text : goal.invariant-loop-text
+invariant-loop-text l = All (λ row. starts_with eqb l.bytes row.0.now ≡ false) (take l.text-index l.text-items)

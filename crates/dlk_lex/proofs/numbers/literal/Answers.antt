@@ -1,4 +1,4 @@
-use Rattle.std.proofs.Common.{◌-◌, ap, length, arith}
+use Rattle.std.proofs.Common.{◌+◌, ◌-◌, ◌≤◌, ap, length, arith}
 use Rattle.dlk_grammar.proofs.Real.{trimmed_short}
 use Rattle.dlk_lex.proofs.Literals.{room_for, room_behind, trimmed_digits}
 use Rattle.dlk_lex.proofs.numbers.literal.Goals as goal
@@ -11,7 +11,9 @@ with_digits-requires-clause-few c = omega (arith, trimmed_short c.args.fraction.
 
 pub with_digits-requires-clause-room : goal.with_digits-requires-clause-room
 with_digits-requires-clause-room c =
-    rw c.with_digits-whole.ensures (room_behind c.args.integer.now (length c.without_zeros-kept.result.now) c.requires.integer (omega (arith, trimmed_short c.args.fraction.now, ap length c.without_zeros-kept.ensures)))
+    let few : length c.args.integer.now + length c.without_zeros-kept.result.now ≤ 38 =
+    omega (arith, trimmed_short c.args.fraction.now, ap length c.without_zeros-kept.ensures) in
+    rw c.with_digits-whole.ensures (room_behind c.args.integer.now (length c.without_zeros-kept.result.now) c.requires.integer few)
 
 pub with_digits-requires-clause-digits : goal.with_digits-requires-clause-digits
 with_digits-requires-clause-digits c = rw c.without_zeros-kept.ensures (trimmed_digits c.args.fraction.now c.requires.fraction)

@@ -12,7 +12,8 @@ literal-requires-clause-integer c = rw c.digit_run-integer.ensures.count (prefix
 pub returns-then-fraction-eq0 : goal.returns-then-fraction-eq0
 returns-then-fraction-eq0 c =
     let count = c.fraction_run-fraction.ensures.count ∙ ap fraction_len (rest_from c.args.bytes.now c.digit_run-integer.result) in
-    rw c.literal.ensures (whole_front c.args.bytes.now c.requires c.digit_run-integer.result c.digit_run-integer.ensures.count (sym count ∙ c.if-fraction-eq0.true))
+    let none = sym count ∙ c.if-fraction-eq0.true in
+    rw c.literal.ensures (whole_front c.args.bytes.now c.requires c.digit_run-integer.result c.digit_run-integer.ensures.count none)
 
 pub literal-requires-2-clause-integer : goal.literal-requires-2-clause-integer
 literal-requires-2-clause-integer c = rw c.digit_run-integer.ensures.count (prefix_all is_digit c.args.bytes.now)
@@ -22,11 +23,15 @@ literal-requires-2-clause-fraction c =
     let n = c.digit_run-integer.result in
     let f = c.fraction_run-fraction.result in
     let count = c.fraction_run-fraction.ensures.count ∙ ap fraction_len (rest_from c.args.bytes.now c.digit_run-integer.result) in
-    let size : (c.digit_run-integer.result + 1 + c.fraction_run-fraction.result) - (c.digit_run-integer.result + 1) ≡ c.fraction_run-fraction.result = omega arith in
+    let size : (c.digit_run-integer.result + 1 + c.fraction_run-fraction.result) - (c.digit_run-integer.result + 1) ≡ c.fraction_run-fraction.result =
+    omega arith in
     rw size (fraction_digits c.args.bytes.now c.digit_run-integer.result c.fraction_run-fraction.result count c.if-fraction-eq0.false)
 
 pub returns : goal.returns
 returns c =
     let count = c.fraction_run-fraction.ensures.count ∙ ap fraction_len (rest_from c.args.bytes.now c.digit_run-integer.result) in
-    let size : (c.digit_run-integer.result + 1 + c.fraction_run-fraction.result) - (c.digit_run-integer.result + 1) ≡ c.fraction_run-fraction.result = omega arith in
-    rw (c.literal-2.ensures, size) (pointed_front c.args.bytes.now c.requires c.digit_run-integer.result c.fraction_run-fraction.result (c.digit_run-integer.result + 1 + c.fraction_run-fraction.result) c.digit_run-integer.ensures.count count c.if-fraction-eq0.false refl).1
+    let size : (c.digit_run-integer.result + 1 + c.fraction_run-fraction.result) - (c.digit_run-integer.result + 1) ≡ c.fraction_run-fraction.result =
+    omega arith in
+    let found = pointed_front c.args.bytes.now c.requires c.digit_run-integer.result c.fraction_run-fraction.result _
+    c.digit_run-integer.ensures.count count c.if-fraction-eq0.false refl in
+    rw (c.literal-2.ensures, size) found.1

@@ -20,6 +20,8 @@ loop-digit-preserved c =
     let i = c.loop-digit.digit-index in
     let digit = digit_at c.args.digits.now c.loop-digit.digit-index c.requires.digits (omega arith) in
     let more = fold_more (λ (n b : ℕ). 10 * n + (b - 48)) c.args.number c.args.digits.now c.loop-digit.digit-index 0 (omega arith) in
-    let low = below_more ((38 - length c.args.digits.now) + c.loop-digit.digit-index) c.loop-digit.value c.from.result c.loop-digit.invariant.1 (omega (arith, digit.1)) in
-    let place : ((38 - length c.args.digits.now) + c.loop-digit.digit-index) + 1 ≡ (38 - length c.args.digits.now) + (c.loop-digit.digit-index + 1) = omega arith in
+    let low = below_more ((38 - length c.args.digits.now) + c.loop-digit.digit-index) c.loop-digit.value c.from.result c.loop-digit.invariant.1
+    (omega (arith, digit.1)) in
+    let place : ((38 - length c.args.digits.now) + c.loop-digit.digit-index) + 1 ≡ (38 - length c.args.digits.now) + (c.loop-digit.digit-index + 1) =
+    omega arith in
     (rw (more, ← c.loop-digit.invariant.0, c.from.ensures) refl, rw (← place) low)

@@ -8,6 +8,7 @@ loop-n-preserved c = (omega arith, trims_more c.args.digits.now c.loop-n.n c.loo
 
 pub returns : goal.returns
 returns c = elim c.loop-n-test.branch [
-  | then-loop-n-test+else-digits-n-eq48 w ↦ trims_all c.args.digits.now c.loop-n.n c.loop-n.invariant.0 c.loop-n.invariant.1 w.loop-n-test.true w.if-digits-n-eq48.false
+  | then-loop-n-test+else-digits-n-eq48 w ↦ trims_all c.args.digits.now c.loop-n.n c.loop-n.invariant.0
+      c.loop-n.invariant.1 w.loop-n-test.true w.if-digits-n-eq48.false
   | else-loop-n-test w ↦ (let none : c.loop-n.n ≡ 0 = omega arith in rw none (rw none at c.loop-n.invariant.1))
 ]

@@ -7,4 +7,4 @@ use Rattle.dlk_parse.proofs.readers.program.Goals as goal
 
 pub returns-clause-sort : goal.returns-clause-sort
 returns-clause-sort g c =
-    IfOk-weaker c.read.result _ _ (λ id a. sort_read Program prog (λ s p d. d) c.args.dots c.args.tokens.now (tree (g.S.Store.trees c.read.new.store) id) c.requires a) c.read.ensures.found
+    IfOk-weaker c.tree_of.result _ _ (λ id a. sort_read Program prog (λ s p d. d) c.args.dots c.args.tokens.now (tree (g.S.Store.trees c.tree_of.new.store) id) c.requires a) (rw c.in_ok-tokens.ensures at c.tree_of.ensures.found)

@@ -38,11 +38,15 @@ returns-in_default-2 g c =
     let trees = g.S.Store.trees c.args.store.now in
     let n : IsNode trees c.args.id c.look-node.result.op.now c.look-node.result.kids.now =
     record { made = g.met.S.Store.well_made c.args.store.now; known = c.requires; node_is = c.look-node.ensures.node; kids = c.look-node.ensures.known } in
-    no_modal c.look-node.result.kids.now n (ap kid_sorts c.in-Box.is) (not_some (IsAssignment trees (tree trees (get_or c.look-node.result.kids.now 0 (record { 0 = 0 })))) c.in_ok-a-in-Box.field-0 c.in_ok-a-in-Box.ensures c.in_default-2.not-Some)
+    no_modal c.look-node.result.kids.now n (ap kid_sorts c.in-Box.is)
+    (not_some (IsAssignment trees (tree trees (get_or c.look-node.result.kids.now 0 (record { 0 = 0 })))) c.in_ok-a-in-Box.field-0
+    c.in_ok-a-in-Box.ensures c.in_default-2.not-Some)
 
 pub returns-in_default-3 : goal.returns-in_default-3
 returns-in_default-3 g c =
     let trees = g.S.Store.trees c.args.store.now in
     let n : IsNode trees c.args.id c.look-node.result.op.now c.look-node.result.kids.now =
     record { made = g.met.S.Store.well_made c.args.store.now; known = c.requires; node_is = c.look-node.ensures.node; kids = c.look-node.ensures.known } in
-    no_modal c.look-node.result.kids.now n (ap kid_sorts c.in-Dia.is) (not_some (IsAssignment trees (tree trees (get_or c.look-node.result.kids.now 0 (record { 0 = 0 })))) c.in_ok-a-in-Dia.field-0 c.in_ok-a-in-Dia.ensures c.in_default-3.not-Some)
+    no_modal c.look-node.result.kids.now n (ap kid_sorts c.in-Dia.is)
+    (not_some (IsAssignment trees (tree trees (get_or c.look-node.result.kids.now 0 (record { 0 = 0 })))) c.in_ok-a-in-Dia.field-0
+    c.in_ok-a-in-Dia.ensures c.in_default-3.not-Some)

@@ -30,7 +30,8 @@ loop-kid-preserved g t c =
     let keeps = g.met.S.Store.grows_keeps c.loop-kid.store c.swap.new.store grows in
     let stands = c.in_ok-made.ensures.made in
     let same = next_same made.1 d c.loop-kid-test.true in
-    let more = next_made made.1 d c.loop-kid-test.true c.in_ok-made.made keeps (λ j u. u ≡ swap c.args.x.now c.args.y.now (same j)) stands.known stands.tree_is in
+    let more =
+    next_made made.1 d c.loop-kid-test.true c.in_ok-made.made keeps (λ j u. u ≡ swap c.args.x.now c.args.y.now (same j)) stands.known stands.tree_is in
     record {
       grows = g.met.S.Store.grows_trans c.args.store.now c.loop-kid.store c.swap.new.store c.loop-kid.invariant.grows grows;
       made = rw c.in_ok-push.ensures.items (made.0, more, made.2);

@@ -10,7 +10,8 @@ pub returns-in_err-f-clause-fault : goal.returns-in_err-f-clause-fault
 returns-in_err-f-clause-fault g c =
     let trees = g.S.Store.trees c.args.store.now in
     let r = err_from_is_err_and c.from_residual.result c.from_residual.ensures.1 in
-    rw (r.1, r.2) (place_fault (Close c.args.i c.args.j) (sequent_at trees c.args.s.now) trees c.args.s.now.ante c.args.i c.in_err-f.field-0.0 (λ p. p.0) c.in_err-f.ensures.fault)
+    rw (r.1, r.2) (place_fault (Close c.args.i c.args.j) (sequent_at trees c.args.s.now) trees c.args.s.now.ante c.args.i c.in_err-f.field-0.0
+    (λ p. p.0) c.in_err-f.ensures.fault)
 
 pub returns-then-not-same-clause-fault : goal.returns-then-not-same-clause-fault
 returns-then-not-same-clause-fault g c =

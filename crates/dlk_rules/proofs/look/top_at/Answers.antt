@@ -10,5 +10,7 @@ returns-clause-ok g c =
       place_is = at.place_is;
       at = at.at ∙ ap Some (sym at.stands.tree_is ∙ c.look.ensures.node);
       known = c.look.ensures.known;
-      sorts_are = (node_fits (g.S.Store.trees c.args.store.now) c.in_ok-id.id c.look.result.op.now c.look.result.kids.now made at.stands.known c.look.ensures.node).kids_fit;
+      sorts_are =
+          (node_fits (g.S.Store.trees c.args.store.now) c.in_ok-id.id c.look.result.op.now c.look.result.kids.now made at.stands.known
+          c.look.ensures.node).kids_fit;
     }

@@ -27,8 +27,8 @@ returns-in_err-made-clause-none g t c e =
     let m = c.loop-kid.invariant.made in
     let d : Id = record { 0 = 0 } in
     let args = args_kept m.kept c.args.args.now c.requires.args in
-    let failed =
-    handed_on c.plug.result c.from_residual-in_err-made.result c.in_err-made.field-0.0 NotAdmissible c.in_err-made.was c.from_residual-in_err-made.ensures.1 e in
+    let failed = handed_on c.plug.result c.from_residual-in_err-made.result c.in_err-made.field-0.0 NotAdmissible c.in_err-made.was
+    c.from_residual-in_err-made.ensures.1 e in
     next_without plugging m args d c.loop-kid-test.true (c.plug.ensures.none failed)
 
 pub returns-in_err-made-clause-grows : goal.returns-in_err-made-clause-grows

@@ -15,7 +15,8 @@ returns-then-not-is_safe g c =
     let i = c.loop-arg.arg-index in (
       λ e. cc,
       λ clear.
-          let safe = subst (λ n. IsSafe trees set kids n (get_or c.args.args.now i d)) (sym c.loop-arg.invariant.count) (safe_of trees set kids c.args.args.now i d c.loop-arg-test.true clear) in
+          let safe = subst (λ n. IsSafe trees set kids n (get_or c.args.args.now i d)) (sym c.loop-arg.invariant.count)
+          (safe_of trees set kids c.args.args.now i d c.loop-arg-test.true clear) in
           let yes = c.is_safe.ensures.1 safe in
           cc,
     )
@@ -28,11 +29,16 @@ loop-arg-preserved g c =
     let safe = IsSafe trees (scope_set trees c.args.scope.now) (kid_trees trees c.args.kids.now) in
     record {
       count = omega arith;
-      safe = below_more (λ m. safe m (get_or c.args.args.now m d)) i c.loop-arg.invariant.safe (subst (λ n. safe n (get_or c.args.args.now i d)) c.loop-arg.invariant.count (c.is_safe.ensures.0 c.if-not-is_safe.false));
+      safe =
+          below_more (λ m. safe m (get_or c.args.args.now m d)) i c.loop-arg.invariant.safe
+          (subst (λ n. safe n (get_or c.args.args.now i d)) c.loop-arg.invariant.count (c.is_safe.ensures.0 c.if-not-is_safe.false));
     }
 
 pub returns : goal.returns
 returns g c =
     let trees = g.S.Store.trees c.args.store.now in
-    let d : Id = record { 0 = 0 } in
-    (λ e. clear_of trees (scope_set trees c.args.scope.now) (kid_trees trees c.args.kids.now) c.args.args.now d (λ n h. c.loop-arg.invariant.safe n (omega (arith, h, c.loop-arg-test.false))), λ clear. refl)
+    let d : Id = record { 0 = 0 } in (
+      λ e. clear_of trees (scope_set trees c.args.scope.now) (kid_trees trees c.args.kids.now) c.args.args.now d
+          (λ n h. c.loop-arg.invariant.safe n (omega (arith, h, c.loop-arg-test.false))),
+      λ clear. refl,
+    )

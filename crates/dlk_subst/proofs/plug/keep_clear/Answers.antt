@@ -11,16 +11,19 @@ use Rattle.dlk_subst.proofs.Staying.{stays, stays_not}
 use Rattle.dlk_subst.proofs.plug.keep_clear.Goals as goal
 
 pub is_clear-requires-clause-args : goal.is_clear-requires-clause-args
-is_clear-requires-clause-args g c = known_kept (g.met.S.Store.grows_keeps c.args.store.now c.make.new.self c.in_ok-made.ensures.grows) c.args.args.now c.requires.args
+is_clear-requires-clause-args g c =
+    known_kept (g.met.S.Store.grows_keeps c.args.store.now c.make.new.self c.in_ok-made.ensures.grows) c.args.args.now c.requires.args
 
 pub is_clear-requires-clause-scope : goal.is_clear-requires-clause-scope
 is_clear-requires-clause-scope g c =
     let kept = g.met.S.Store.grows_keeps c.args.store.now c.make.new.self c.in_ok-made.ensures.grows in
-    made_known kept c.args.op.now c.in_ok-clone.field-0 c.in_ok-clone.ensures.cases c.args.new.now c.requires.new c.in_ok-made.made c.in_ok-made.ensures.made c.in_ok-scope.scope c.in_ok-scope.ensures c.requires.fits
+    made_known kept c.args.op.now c.in_ok-clone.field-0 c.in_ok-clone.ensures.cases c.args.new.now c.requires.new c.in_ok-made.made
+    c.in_ok-made.ensures.made c.in_ok-scope.scope c.in_ok-scope.ensures c.requires.fits
 
 pub is_clear-requires-clause-kids : goal.is_clear-requires-clause-kids
 is_clear-requires-clause-kids g c =
-    reached_known (g.met.S.Store.grows_keeps c.args.store.now c.make.new.self c.in_ok-made.ensures.grows) c.args.op.now c.args.old.now c.reach.result.now c.requires.old c.reach.ensures
+    reached_known (g.met.S.Store.grows_keeps c.args.store.now c.make.new.self c.in_ok-made.ensures.grows) c.args.op.now c.args.old.now
+    c.reach.result.now c.requires.old c.reach.ensures
 
 pub returns-then-is_clear-clause-ok : goal.returns-then-is_clear-clause-ok
 returns-then-is_clear-clause-ok g c =
@@ -28,11 +31,15 @@ returns-then-is_clear-clause-ok g c =
     let now = g.S.Store.trees c.make.new.self in
     let op = c.args.op.now in
     let kept = g.met.S.Store.grows_keeps c.args.store.now c.make.new.self c.in_ok-made.ensures.grows in
-    let set = made_scope kept op c.in_ok-clone.field-0 c.in_ok-clone.ensures.cases c.args.new.now c.requires.new c.in_ok-made.made c.in_ok-made.ensures.made c.in_ok-scope.scope c.in_ok-scope.ensures in
+    let set = made_scope kept op c.in_ok-clone.field-0 c.in_ok-clone.ensures.cases c.args.new.now c.requires.new c.in_ok-made.made c.in_ok-made.ensures.made
+    c.in_ok-scope.scope c.in_ok-scope.ensures in
     let kids = reached_trees kept op c.args.old.now c.reach.result.now c.requires.old c.reach.ensures in
-    let stands = subst (λ o. StandsFor now c.in_ok-made.made (node o (kid_trees before c.args.new.now))) (sym c.in_ok-clone.ensures.cases) c.in_ok-made.ensures.made in
-    let holds = subst (λ args. IsClear args (scope_set now c.in_ok-scope.scope) (kid_trees now c.reach.result.now)) (args_kept kept c.args.args.now c.requires.args) (c.is_clear.ensures.0 c.if-is_clear.true) in
-    stays (IsClear (args_at before c.args.args.now)) op (kid_trees before c.args.old.now) (kid_trees before c.args.new.now) set kids now c.in_ok-made.made stands holds
+    let stands =
+    subst (λ o. StandsFor now c.in_ok-made.made (node o (kid_trees before c.args.new.now))) (sym c.in_ok-clone.ensures.cases) c.in_ok-made.ensures.made in
+    let holds = subst (λ args. IsClear args (scope_set now c.in_ok-scope.scope) (kid_trees now c.reach.result.now))
+    (args_kept kept c.args.args.now c.requires.args) (c.is_clear.ensures.0 c.if-is_clear.true) in
+    stays (IsClear (args_at before c.args.args.now)) op (kid_trees before c.args.old.now) (kid_trees before c.args.new.now) set kids now
+    c.in_ok-made.made stands holds
 
 pub returns-clause-none : goal.returns-clause-none
 returns-clause-none g c e =
@@ -40,9 +47,11 @@ returns-clause-none g c e =
     let now = g.S.Store.trees c.make.new.self in
     let op = c.args.op.now in
     let kept = g.met.S.Store.grows_keeps c.args.store.now c.make.new.self c.in_ok-made.ensures.grows in
-    let set = made_scope kept op c.in_ok-clone.field-0 c.in_ok-clone.ensures.cases c.args.new.now c.requires.new c.in_ok-made.made c.in_ok-made.ensures.made c.in_ok-scope.scope c.in_ok-scope.ensures in
+    let set = made_scope kept op c.in_ok-clone.field-0 c.in_ok-clone.ensures.cases c.args.new.now c.requires.new c.in_ok-made.made c.in_ok-made.ensures.made
+    c.in_ok-scope.scope c.in_ok-scope.ensures in
     let kids = reached_trees kept op c.args.old.now c.reach.result.now c.requires.old c.reach.ensures in
     stays_not (IsClear (args_at before c.args.args.now)) op (kid_trees before c.args.old.now) (kid_trees before c.args.new.now) set kids
     (λ holds.
-    let yes = c.is_clear.ensures.1 (subst (λ args. IsClear args (scope_set now c.in_ok-scope.scope) (kid_trees now c.reach.result.now)) (sym (args_kept kept c.args.args.now c.requires.args)) holds) in
+    let yes = c.is_clear.ensures.1 (subst (λ args. IsClear args (scope_set now c.in_ok-scope.scope) (kid_trees now c.reach.result.now))
+    (sym (args_kept kept c.args.args.now c.requires.args)) holds) in
     cc)

@@ -27,8 +27,8 @@ returns-in_err-made-clause-none g t c e =
     let m = c.loop-kid.invariant.made in
     let d : Id = record { 0 = 0 } in
     let pairs = pairs_at-kept m.kept c.args.pairs.now c.requires.pairs in
-    let failed =
-    handed_on c.substitute.result c.from_residual-in_err-made.result c.in_err-made.field-0.0 NotAdmissible c.in_err-made.was c.from_residual-in_err-made.ensures.1 e in
+    let failed = handed_on c.substitute.result c.from_residual-in_err-made.result c.in_err-made.field-0.0 NotAdmissible c.in_err-made.was
+    c.from_residual-in_err-made.ensures.1 e in
     next_without substituting m pairs d c.loop-kid-test.true (c.substitute.ensures.none failed)
 
 pub returns-in_err-made-clause-grows : goal.returns-in_err-made-clause-grows

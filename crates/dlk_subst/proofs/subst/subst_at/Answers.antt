@@ -35,8 +35,14 @@ pub returns-in-Gives-clause-ok : goal.returns-in-Gives-clause-ok
 returns-in-Gives-clause-ok g c =
     let trees = g.S.Store.trees c.args.store.now in
     let is = c.in-Gives.ensures in
-    effect_holds trees c.args.pairs.now c.args.op.now (kid_trees trees c.args.old.now) (kid_trees trees c.args.new.now) (Gives c.in-Gives.by) (no_system c.args.op.now c.in_default.not-System) is trees c.in-Gives.by
-    (record { result = _; is_related = refl; stands = record { known = effect_known trees c.args.pairs.now c.args.op.now (Gives c.in-Gives.by) c.in-Gives.by c.requires.pairs is refl; tree_is = refl } })
+    effect_holds trees c.args.pairs.now c.args.op.now (kid_trees trees c.args.old.now) (kid_trees trees c.args.new.now) (Gives c.in-Gives.by)
+    (no_system c.args.op.now c.in_default.not-System) is trees c.in-Gives.by
+    (record {
+      result = _;
+      is_related = refl;
+      stands =
+          record { known = effect_known trees c.args.pairs.now c.args.op.now (Gives c.in-Gives.by) c.in-Gives.by c.requires.pairs is refl; tree_is = refl };
+    })
 
 pub returns-in-Plugs : goal.returns-in-Plugs
 returns-in-Plugs g c =
@@ -45,7 +51,9 @@ returns-in-Plugs g c =
     let old = kid_trees trees c.args.old.now in
     let new = kid_trees trees c.args.new.now in
     record {
-      ok = effect_ok trees c.args.pairs.now c.args.op.now old new (Plugs c.in-Plugs.by) other c.in-Plugs.ensures (g.S.Store.trees c.plug.new.store) c.plug.result c.plug.ensures.ok;
+      ok =
+          effect_ok trees c.args.pairs.now c.args.op.now old new (Plugs c.in-Plugs.by) other c.in-Plugs.ensures (g.S.Store.trees c.plug.new.store)
+          c.plug.result c.plug.ensures.ok;
       none = λ e. effect_none trees c.args.pairs.now c.args.op.now old new (Plugs c.in-Plugs.by) other c.in-Plugs.ensures WellMade (c.plug.ensures.none e);
       grows = c.plug.ensures.grows;
     }
@@ -57,8 +65,12 @@ returns-in-Fills g c =
     let old = kid_trees trees c.args.old.now in
     let new = kid_trees trees c.args.new.now in
     record {
-      ok = effect_ok trees c.args.pairs.now c.args.op.now old new (Fills c.in-Fills.by) other c.in-Fills.ensures (g.S.Store.trees c.fill_admissible.new.store) c.fill_admissible.result c.fill_admissible.ensures.ok;
-      none = λ e. effect_none trees c.args.pairs.now c.args.op.now old new (Fills c.in-Fills.by) other c.in-Fills.ensures WellMade (c.fill_admissible.ensures.none e);
+      ok =
+          effect_ok trees c.args.pairs.now c.args.op.now old new (Fills c.in-Fills.by) other c.in-Fills.ensures
+          (g.S.Store.trees c.fill_admissible.new.store) c.fill_admissible.result c.fill_admissible.ensures.ok;
+      none =
+          λ e. effect_none trees c.args.pairs.now c.args.op.now old new (Fills c.in-Fills.by) other c.in-Fills.ensures WellMade
+          (c.fill_admissible.ensures.none e);
       grows = c.fill_admissible.ensures.grows;
     }
 
@@ -69,7 +81,9 @@ returns-in-Stays g c =
     let old = kid_trees trees c.args.old.now in
     let new = kid_trees trees c.args.new.now in
     record {
-      ok = effect_ok trees c.args.pairs.now c.args.op.now old new Stays other c.in-Stays.ensures (g.S.Store.trees c.keep_admissible.new.store) c.keep_admissible.result c.keep_admissible.ensures.ok;
+      ok =
+          effect_ok trees c.args.pairs.now c.args.op.now old new Stays other c.in-Stays.ensures (g.S.Store.trees c.keep_admissible.new.store)
+          c.keep_admissible.result c.keep_admissible.ensures.ok;
       none = λ e. effect_none trees c.args.pairs.now c.args.op.now old new Stays other c.in-Stays.ensures WellMade (c.keep_admissible.ensures.none e);
       grows = c.keep_admissible.ensures.grows;
     }

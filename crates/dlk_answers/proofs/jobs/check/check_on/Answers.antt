@@ -1,6 +1,7 @@
-use Rattle.std.proofs.Common.{◌≡◌, IfSome, ◌∙◌}
+use Rattle.std.proofs.Common.{◌≡◌, ◌∙◌}
 use Rattle.std.proofs.lemmas.Result.{IfOk-weaker}
-use Rattle.dlk_calculus.specs.Places.{at}
+use Rattle.dlk_calculus.specs.Places.{At}
+use Rattle.dlk_calculus.specs.Provables.{Provable}
 use Rattle.dlk_store.specs.Stores.{tree}
 use Rattle.dlk_kernel.specs.Kernel.{facts, provable_at}
 use Rattle.dlk_answers.specs.declared.form.Role.TheVariants.{Model}
@@ -26,7 +27,10 @@ returns-in-Ok-replay g c =
     let trees = g.S.Store.trees c.replay.new.kernel.store in
     let keeps = g.met.S.Store.grows_keeps c.read_formula.new.store.store c.replay.new.kernel.store c.in-Ok-replay.ensures.grows in
     let outcome = c.in-Ok-replay.outcome in
-    IfOk-weaker c.judge.result (λ r. IfSome (at (facts g.S.Store.trees c.replay.new.kernel) outcome.fact) (judged c.args.layout (tree trees c.in-Ok.formula) outcome.lines outcome.line (reply_of r))) (λ r. Checks c.args.layout c.args.model.now c.args.term.now (reply_of r))
+    IfOk-weaker c.judge.result
+    (λ r. (p : Provable) → At (facts g.S.Store.trees c.replay.new.kernel) outcome.fact p →
+    judged c.args.layout (tree trees c.in-Ok.formula) outcome.lines outcome.line (reply_of r) p)
+    (λ r. Checks c.args.layout c.args.model.now c.args.term.now (reply_of r))
     (λ r says. judged_answer c.args.layout c.args.model.now c.args.term.now read.0 (tree trees c.in-Ok.formula) read.1 (keeps.same c.in-Ok.formula read.2.known ∙ read.2.tree_is) c.replay.new.kernel.rows (provable_at trees)
     outcome.line c.in-Ok-replay.ensures.ok c.in-Ok-replay.ensures.some outcome.fact outcome.lines c.in-Ok-replay.ensures.fact c.in-Ok-replay.ensures.lines (reply_of r) says) c.judge.ensures
 

@@ -8,4 +8,4 @@ use Rattle.dlk_answers.proofs.jobs.check.refuse_line.Goals as goal
 pub returns : goal.returns
 returns c =
     IfOk-weaker c.refused.result (λ r. reply_of r ≡ refusal c.as_str.result.now) (λ r. reply_of r ≡ line_refused c.args.line c.args.why)
-    (λ r is. is ∙ ap refusal (c.as_str.ensures.value ∙ c.in_ok-why.ensures.ok ∙ ap (λ x. codes "line " ++ (decimal c.args.line ++ (codes ": " ++ x))) c.why_word-word.ensures)) c.refused.ensures
+    (λ r is. is ∙ ap refusal (c.as_str.ensures.value ∙ c.in_ok-why.ensures.ok ∙ ap (λ x. codes "line " ++ (decimal c.args.line ++ (codes ": " ++ x))) c.word-word.ensures)) c.refused.ensures

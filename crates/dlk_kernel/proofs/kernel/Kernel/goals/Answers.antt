@@ -1,7 +1,18 @@
+use Rattle.std.proofs.Common.{ap, subst}
+use Rattle.dlk_calculus.specs.Provables.{Provable}
 use Rattle.dlk_calculus.specs.Sequents.{IsSequent}
+use Rattle.dlk_calculus.specs.Steps.{Derives}
+use Rattle.dlk_calculus.proofs.PlaceLaws.{at_one}
 use Rattle.dlk_sequent.specs.Sequents.{sequent_at}
 use Rattle.dlk_kernel.proofs.Reading.{All-unmap}
 use Rattle.dlk_kernel.proofs.kernel.Kernel.goals.Goals as goal
 
+pub returns-clause-goals : goal.returns-clause-goals
+returns-clause-goals g c = λ p there. rw c.as_slice.ensures (ap (λ (x : Provable). x.goals) (at_one _ c.args.fact p _ there c.row.ensures.fact))
+
+pub returns-clause-derived : goal.returns-clause-derived
+returns-clause-derived g c = λ p there. subst Derives (at_one _ c.args.fact _ p c.row.ensures.fact there) c.row.ensures.derived
+
 pub returns-clause-formulas : goal.returns-clause-formulas
-returns-clause-formulas g c = rw c.as_slice.ensures (All-unmap IsSequent (sequent_at (g.S.Store.trees c.args.self.now.store)) c.row.result.now.goals c.row.ensures.formulas.goals)
+returns-clause-formulas g c =
+    rw c.as_slice.ensures (All-unmap IsSequent (sequent_at (g.S.Store.trees c.args.self.now.store)) c.row.result.now.goals c.row.ensures.formulas.goals)

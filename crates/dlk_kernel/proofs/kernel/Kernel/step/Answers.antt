@@ -14,7 +14,8 @@ pub invariant_of-self : goal.invariant_of-self
 invariant_of-self g c = sound_kept _ _ (g.met.S.Store.grows_keeps c.self.inside.store c.give.new.store c.give.ensures.grows) _ c.self.invariant
 
 pub invariant_of-self-then-len-ge-MOST_ROWS : goal.invariant_of-self-then-len-ge-MOST_ROWS
-invariant_of-self-then-len-ge-MOST_ROWS g c = sound_kept _ _ (g.met.S.Store.grows_keeps c.self.inside.store c.give.new.store c.give.ensures.grows) _ c.self.invariant
+invariant_of-self-then-len-ge-MOST_ROWS g c =
+    sound_kept _ _ (g.met.S.Store.grows_keeps c.self.inside.store c.give.new.store c.give.ensures.grows) _ c.self.invariant
 
 pub invariant_of-self-in_err-push : goal.invariant_of-self-in_err-push
 invariant_of-self-in_err-push g c =
@@ -23,12 +24,14 @@ invariant_of-self-in_err-push g c =
 pub invariant_of-self-2 : goal.invariant_of-self-2
 invariant_of-self-2 g c =
     sound_more _ _ (g.met.S.Store.grows_keeps c.self.inside.store c.give.new.store c.give.ensures.grows) _ _ c.in_ok-row.row c.self.invariant _
-    (rw c.as_slice.ensures.value at c.in_ok-row.ensures.given) c.in_ok-row.ensures.within (omega (arith, c.if-len-ge-MOST_ROWS.false, c.len.ensures)) c.in_ok-push.ensures.items c.in_ok-row.ensures.known
+    (rw c.as_slice.ensures.value at c.in_ok-row.ensures.given) c.in_ok-row.ensures.within (omega (arith, c.if-len-ge-MOST_ROWS.false, c.len.ensures))
+    c.in_ok-push.ensures.items c.in_ok-row.ensures.known
 
 pub returns-in_err-row-clause-err : goal.returns-in_err-row-clause-err
 returns-in_err-row-clause-err g c =
     let p = err_from_is_err_and c.from_residual.result c.from_residual.ensures.1 in
-    rw (p.1, ← c.self.view_is) (same_rows g.S.Store.trees _ _ (g.met.S.Store.grows_keeps c.self.inside.store c.give.new.store c.give.ensures.grows) c.self.invariant refl)
+    rw (p.1, ← c.self.view_is)
+    (same_rows g.S.Store.trees _ _ (g.met.S.Store.grows_keeps c.self.inside.store c.give.new.store c.give.ensures.grows) c.self.invariant refl)
 
 pub returns-then-len-ge-MOST_ROWS-clause-err : goal.returns-then-len-ge-MOST_ROWS-clause-err
 returns-then-len-ge-MOST_ROWS-clause-err g c =
@@ -37,18 +40,23 @@ returns-then-len-ge-MOST_ROWS-clause-err g c =
 
 pub returns-then-len-ge-MOST_ROWS-clause-fault : goal.returns-then-len-ge-MOST_ROWS-clause-fault
 returns-then-len-ge-MOST_ROWS-clause-fault g c =
-    rw (← c.self.view_is) (rows_full _ _ _ _ _ (rw c.as_slice.ensures.value at c.in_ok-row.ensures.given) c.in_ok-row.ensures.within (omega (arith, c.if-len-ge-MOST_ROWS.true, c.len.ensures)))
+    rw (← c.self.view_is) (rows_full _ _ _ _ _ (rw c.as_slice.ensures.value at c.in_ok-row.ensures.given) c.in_ok-row.ensures.within
+    (omega (arith, c.if-len-ge-MOST_ROWS.true, c.len.ensures)))
 
 pub returns-in_err-push-clause-err : goal.returns-in_err-push-clause-err
 returns-in_err-push-clause-err g c =
     let p = err_from_is_err_and c.from_residual-in_err-push.result c.from_residual-in_err-push.ensures.1 in
-    rw (p.1, ← c.self.view_is) (same_rows g.S.Store.trees _ _ (g.met.S.Store.grows_keeps c.self.inside.store c.give.new.store c.give.ensures.grows) c.self.invariant c.in_err-push.ensures.items)
+    rw (p.1, ← c.self.view_is)
+    (same_rows g.S.Store.trees _ _ (g.met.S.Store.grows_keeps c.self.inside.store c.give.new.store c.give.ensures.grows) c.self.invariant
+    c.in_err-push.ensures.items)
 
 pub returns-clause-ok : goal.returns-clause-ok
 returns-clause-ok g c =
     rw (← c.self.view_is) (adds _ _ (g.met.S.Store.grows_keeps c.self.inside.store c.give.new.store c.give.ensures.grows) _ _ c.in_ok-row.row c.self.invariant _
-    (rw c.as_slice.ensures.value at c.in_ok-row.ensures.given) c.in_ok-row.ensures.within (omega (arith, c.if-len-ge-MOST_ROWS.false, c.len.ensures)) c.in_ok-push.ensures.items)
+    (rw c.as_slice.ensures.value at c.in_ok-row.ensures.given) c.in_ok-row.ensures.within (omega (arith, c.if-len-ge-MOST_ROWS.false, c.len.ensures))
+    c.in_ok-push.ensures.items)
 
 pub returns-clause-kept : goal.returns-clause-kept
 returns-clause-kept g c =
-    rw (← c.self.view_is) (extends_rows g.S.Store.trees _ _ (c.in_ok-row.row ∷ []) (g.met.S.Store.grows_keeps c.self.inside.store c.give.new.store c.give.ensures.grows) c.self.invariant c.in_ok-push.ensures.items)
+    rw (← c.self.view_is) (extends_rows g.S.Store.trees _ _ (c.in_ok-row.row ∷ [])
+    (g.met.S.Store.grows_keeps c.self.inside.store c.give.new.store c.give.ensures.grows) c.self.invariant c.in_ok-push.ensures.items)

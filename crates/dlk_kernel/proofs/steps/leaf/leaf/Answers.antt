@@ -17,7 +17,8 @@ returns-then-not-is_arith-clause-fault g c = λ rows.
 pub returns-in_err-limit_sequents-clause-fault : goal.returns-in_err-limit_sequents-clause-fault
 returns-in_err-limit_sequents-clause-fault g c =
     let r = err_from_is_err_and c.from_residual-in_err-limit_sequents.result c.from_residual-in_err-limit_sequents.ensures.1 in
-    rw (r.1, r.2) (leaf_past _ c.args.s.now (c.is_sequent.ensures.0 c.if-not-is_sequent.false) (cc (c.is_arith.ensures, c.if-not-is_arith.false)) c.as_slice.result.now
+    rw (r.1, r.2) (leaf_past _ c.args.s.now (c.is_sequent.ensures.0 c.if-not-is_sequent.false) (cc (c.is_arith.ensures, c.if-not-is_arith.false))
+    c.as_slice.result.now
     (rw (c.as_slice.ensures, c.in_ok-push.ensures.ok, c.new-leaves.ensures, c.in_ok-own.ensures) refl) _ c.in_err-limit_sequents.ensures.past)
 
 pub returns-clause-given : goal.returns-clause-given

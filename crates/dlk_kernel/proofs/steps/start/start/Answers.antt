@@ -13,13 +13,16 @@ returns-then-not-is_sequent-clause-fault g c = λ rows.
 pub returns-in_err-limit_sequents-clause-fault : goal.returns-in_err-limit_sequents-clause-fault
 returns-in_err-limit_sequents-clause-fault g c =
     let r = err_from_is_err_and c.from_residual-in_err-limit_sequents.result c.from_residual-in_err-limit_sequents.ensures.1 in
-    rw (r.1, r.2) (start_past _ c.args.s.now (c.is_sequent.ensures.0 c.if-not-is_sequent.false) c.as_slice.result.now (rw (c.as_slice.ensures, c.in_ok-push.ensures.ok, c.new-goals.ensures, c.in_ok-goal.ensures) refl) _ c.in_err-limit_sequents.ensures.past)
+    rw (r.1, r.2) (start_past _ c.args.s.now (c.is_sequent.ensures.0 c.if-not-is_sequent.false) c.as_slice.result.now
+    (rw (c.as_slice.ensures, c.in_ok-push.ensures.ok, c.new-goals.ensures, c.in_ok-goal.ensures) refl) _ c.in_err-limit_sequents.ensures.past)
 
 pub returns-clause-given : goal.returns-clause-given
 returns-clause-given g c =
-    started_given _ c.args.s.now _ (c.is_sequent.ensures.0 c.if-not-is_sequent.false) (rw (c.in_ok-conclusion.ensures, c.in_ok-push.ensures.ok, c.in_ok-goal.ensures, c.new-goals.ensures, c.new-leaves.ensures) refl)
+    started_given _ c.args.s.now _ (c.is_sequent.ensures.0 c.if-not-is_sequent.false)
+    (rw (c.in_ok-conclusion.ensures, c.in_ok-push.ensures.ok, c.in_ok-goal.ensures, c.new-goals.ensures, c.new-leaves.ensures) refl)
 
 pub returns-clause-within : goal.returns-clause-within
 returns-clause-within g c =
-    start_within _ c.args.s.now (c.is_sequent.ensures.0 c.if-not-is_sequent.false) c.as_slice.result.now (rw (c.as_slice.ensures, c.in_ok-push.ensures.ok, c.new-goals.ensures, c.in_ok-goal.ensures) refl) c.in_ok-limit_sequents.ensures.within _
+    start_within _ c.args.s.now (c.is_sequent.ensures.0 c.if-not-is_sequent.false) c.as_slice.result.now
+    (rw (c.as_slice.ensures, c.in_ok-push.ensures.ok, c.new-goals.ensures, c.in_ok-goal.ensures) refl) c.in_ok-limit_sequents.ensures.within _
     (rw (c.in_ok-conclusion.ensures, c.in_ok-push.ensures.ok, c.in_ok-goal.ensures, c.new-goals.ensures, c.new-leaves.ensures) refl)

@@ -8,13 +8,15 @@ use Rattle.dlk_subst.proofs.Splicing.{symbol_put}
 use Rattle.dlk_subst.proofs.splice.Spliced.put_constant.Goals as goal
 
 pub put_replacement-requires : goal.put_replacement-requires
-put_replacement-requires g c = found_known (g.S.Store.trees c.args.store.now) c.args.pairs.now c.args.s.now c.in-Some.by c.requires (sym c.find.ensures ∙ c.in-Some.is)
+put_replacement-requires g c =
+    found_known (g.S.Store.trees c.args.store.now) c.args.pairs.now c.args.s.now c.in-Some.by c.requires (sym c.find.ensures ∙ c.in-Some.is)
 
 pub returns-in-Some : goal.returns-in-Some
 returns-in-Some g c =
     let trees = g.S.Store.trees c.args.store.now in
     let is = found_tree trees c.args.pairs.now c.args.s.now ∙ ap (tree_of trees) (sym c.find.ensures ∙ c.in-Some.is) in
-    subst (λ (o : Option Tree). OnOk c.put_replacement.result (Puts trees (members_for c.args.s.now o) c.args.self.now c.put_replacement.new.self)) (sym is) c.put_replacement.ensures
+    subst (λ (o : Option Tree). OnOk c.put_replacement.result (Puts trees (members_for c.args.s.now o) c.args.self.now c.put_replacement.new.self))
+    (sym is) c.put_replacement.ensures
 
 pub returns-in-None : goal.returns-in-None
 returns-in-None g c =

@@ -1,0 +1,6 @@
+mod Parsing
+mod SaidLaws
+mod Steps
+mod TreeSteps
+mod SideSteps
+mod PairSteps

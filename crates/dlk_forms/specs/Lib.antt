@@ -1,0 +1,4 @@
+pub mod Said
+pub mod Parsing
+pub mod Readers
+pub mod PairReaders

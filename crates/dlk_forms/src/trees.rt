@@ -1,0 +1,95 @@
+//! The reader of one tree.
+ghost use Rattle.std.specs.Prelude.{[]};
+ghost use Rattle.dlk_grammar.specs.declared.token.Dots.{Dots as TheDots};
+ghost use Rattle.dlk_grammar.specs.declared.token.Form.{Form as TheForm};
+ghost use Rattle.dlk_grammar.specs.Readings.{permits};
+ghost use Rattle.dlk_machine.specs.Machine.{when};
+ghost use Rattle.dlk_machine.specs.Forms.{FormState};
+ghost use Rattle.dlk_reader.specs.declared.stack.Stack.{Stack as TheStack};
+ghost use Rattle.dlk_reader.specs.Shows.{seen, Agrees, IsOpen};
+ghost use Rattle.dlk_forms.specs.Readers.{ShowsPlace, ShowsTree, IsTreeCode, TreeComes, tree_start, tree_step, tree_ended};
+
+use crate::dots::permits;
+use crate::expressions::{Place, end_tree, step_tree};
+use dlk_grammar::{Dots, Form};
+use dlk_reader::{Code, Lexeme, LexemeReader, Mode, Stack, StepFault};
+use dlk_tree::Sort;
+use std::alloc::Global;
+
+/// A reader of a term, a formula, a program or an expression, in which dots are allowed or refused.
+#[derive(Drop)]
+pub(crate) struct TreeReader {
+    pub(crate) dots: Dots,
+    pub(crate) stack: Stack,
+    pub(crate) place: Place,
+}
+
+/// Where the reader of a form starts.
+fn start(form: Form) -> Place
+    ensures { (k : TheStack) → IsOpen k [] [] → ShowsPlace form k result (tree_start form) }
+{
+    match form {
+        Form::Formula => Place::Of(Sort::Formula, Mode::Wants),
+        Form::Term => Place::Of(Sort::Term, Mode::Wants),
+        Form::Program => Place::Of(Sort::Program, Mode::Wants),
+        Form::Expression => Place::Unread,
+    }
+}
+
+impl TreeReader {
+    /// A reader of a form, where it starts.
+    pub(crate) fn new(alloc: Global, form: Form, dots: Dots) -> TreeReader
+        ensures { ShowsTree dots form result (tree_start form) }
+    {
+        TreeReader {
+            dots,
+            stack: Stack::new(alloc),
+            place: start(form),
+        }
+    }
+
+    /// The reader behind one more lexeme.
+    fn behind(self, alloc: Global, lexeme: Lexeme) -> Result<TreeReader, StepFault>
+        ensures { (d : TheDots) (form : TheForm) (x : FormState form) → ShowsTree d form self x
+            → Agrees (ShowsTree d form) result (when (permits d (seen lexeme)) (tree_step form x (seen lexeme))) }
+    {
+        let TreeReader {
+            dots,
+            mut stack,
+            place,
+        } = self;
+        if !permits(dots, &lexeme) {
+            return Err(StepFault::Syntax);
+        }
+        let place = step_tree(&mut stack, alloc, place, lexeme)?;
+        Ok(TreeReader { dots, stack, place })
+    }
+
+    /// The operators of the tree, at the end of its lexemes.
+    fn whole(self) -> Result<Vec<Code>, StepFault>
+        ensures { (d : TheDots) (form : TheForm) (x : FormState form) → ShowsTree d form self x
+            → Agrees IsTreeCode result (tree_ended form x) }
+    {
+        let TreeReader {
+            dots: _,
+            mut stack,
+            place,
+        } = self;
+        end_tree(&mut stack, place)?;
+        Ok(stack.out)
+    }
+}
+
+impl LexemeReader for TreeReader {
+    type Output = Vec<Code>;
+
+    ghost comes = { TreeComes };
+
+    fn step(self, alloc: Global, lexeme: Lexeme) -> Result<Self, StepFault> {
+        self.behind(alloc, lexeme)
+    }
+
+    fn end(self) -> Result<Vec<Code>, StepFault> {
+        self.whole()
+    }
+}

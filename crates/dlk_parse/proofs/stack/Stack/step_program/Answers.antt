@@ -1,8 +1,0 @@
-use Rattle.dlk_tree.specs.declared.op.Sort.TheVariants.{Program}
-use Rattle.dlk_machine.proofs.Machine.{step}
-use Rattle.dlk_parse.specs.Shows.{seen}
-use Rattle.dlk_parse.proofs.Steps.{as_programs}
-use Rattle.dlk_parse.proofs.stack.Stack.step_program.Goals as goal
-
-pub returns : goal.returns
-returns c = λ x h. as_programs c.step_of.new.self c.step_of.result (step Program x (seen c.args.lexeme)) (c.step_of.ensures x h)

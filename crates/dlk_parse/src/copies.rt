@@ -1,0 +1,37 @@
+//! Tokens of one's own.
+ghost use Rattle.std.specs.Prelude.{◌≡◌, IfOk};
+
+use dlk_grammar::{Token, TokenKind};
+use std::alloc::{AllocError, Global};
+
+fn kind_of(kind: &TokenKind) -> Result<TokenKind, AllocError>
+    ensures { IfOk result (λ k. k ≡ kind.now) }
+{
+    Ok(match kind {
+        TokenKind::Word(name) => TokenKind::Word(name.clone()?),
+        TokenKind::True => TokenKind::True,
+        TokenKind::False => TokenKind::False,
+        TokenKind::Number(number) => TokenKind::Number(*number),
+        TokenKind::LongNumber => TokenKind::LongNumber,
+        TokenKind::Dot(number) => TokenKind::Dot(*number),
+        TokenKind::Hole => TokenKind::Hole,
+        TokenKind::Mark(mark) => TokenKind::Mark(*mark),
+        TokenKind::End => TokenKind::End,
+    })
+}
+
+/// The tokens once more.
+pub(crate) fn copies(alloc: Global, tokens: &[Token]) -> Result<Vec<Token>, AllocError>
+    ensures { IfOk result (λ v. v.items ≡ tokens.now) }
+{
+    let mut copies = Vec::new(alloc);
+    for token in tokens {
+        let kind = kind_of(&token.kind)?;
+        copies.push(Token {
+            kind,
+            at: token.at,
+            end: token.end,
+        })?;
+    }
+    Ok(copies)
+}

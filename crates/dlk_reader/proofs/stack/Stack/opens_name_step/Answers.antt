@@ -1,0 +1,8 @@
+use Rattle.dlk_grammar.specs.Phrases.{no_items}
+use Rattle.dlk_reader.proofs.ItemSteps.{opens_name_other}
+use Rattle.dlk_reader.proofs.stack.Stack.opens_name_step.Goals as goal
+
+pub returns-in_default : goal.returns-in_default
+returns-in_default c = λ S h.
+    rw (opens_name_other S c.args.at c.args.name c.args.lexeme c.in_default.not-Prime c.in_default.not-Semi c.in_default.not-Gets)
+    (c.item_name_step.ensures S c.args.at no_items c.new.ensures h)

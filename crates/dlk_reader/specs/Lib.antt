@@ -1,0 +1,4 @@
+pub mod Codes
+pub mod Shows
+pub mod Ends
+pub mod Outcomes

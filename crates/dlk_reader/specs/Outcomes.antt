@@ -1,0 +1,50 @@
+-- What comes of reading on, whatever is read.
+use Rattle.std.specs.Prelude.{◌≡◌, ℕ, ◌+◌, List, [], ◌∷◌, Result, Ok, Err}
+use Rattle.dlk_grammar.specs.declared.token.Token.{Token}
+use Rattle.dlk_grammar.specs.Lexemes.{Lexeme, lexemes}
+use Rattle.dlk_grammar.specs.Readings.{TokenAt}
+use Rattle.dlk_reader.specs.declared.stop.StepFault.{StepFault}
+use Rattle.dlk_reader.specs.declared.stop.StepFault.TheVariants as step
+use Rattle.dlk_reader.specs.declared.stop.Stop.{Stop}
+use Rattle.dlk_reader.specs.declared.stop.Stop.TheVariants.{Memory, Syntax}
+
+-- something is read to the end of the lexemes, or they stop at a place among them
+pub data Outcome (V : Type 0) : Type 0 where
+  Whole : V → Outcome V
+  Stopped : ℕ → Outcome V
+
+-- the same, with one more lexeme in front
+abbrev pub after_one : {V : Type 0} → Outcome V → Outcome V
+after_one (Whole v) = Whole v
+after_one (Stopped n) = Stopped (n + 1)
+
+-- `comes r s o` says that from the reader r on the lexemes s come out as o.
+
+-- What a step answers to a lexeme: a reader from which all comes out as from the first with the lexeme in front, or that the lexemes stop
+-- there. Want of memory is free, here and below.
+abbrev pub Steps : {R V : Type 0} → (R → List Lexeme → Outcome V → Type 0) → R → Lexeme → Result R StepFault → Type 0
+Steps {R} {V} comes r k (Ok next) = (s : List Lexeme) (o : Outcome V) → comes next s o → comes r (k ∷ s) (after_one o)
+Steps comes r k (Err step.Memory) = Unit {0}
+Steps comes r k (Err step.Syntax) = (s : List Lexeme) → comes r (k ∷ s) (Stopped 0)
+
+-- what one token answers, which is no lexeme at the end
+abbrev pub StepsToken : {R V : Type 0} → (R → List Lexeme → Outcome V → Type 0) → R → List Lexeme → Result R StepFault → Type 0
+StepsToken comes r [] result = result ≡ Ok r
+StepsToken comes r (k ∷ s) result = Steps comes r k result
+
+-- what the end answers
+abbrev pub Ends : {R V : Type 0} → (R → List Lexeme → Outcome V → Type 0) → R → Result V StepFault → Type 0
+Ends comes r (Ok v) = comes r [] (Whole v)
+Ends comes r (Err step.Memory) = Unit {0}
+Ends comes r (Err step.Syntax) = comes r [] (Stopped 0)
+
+-- a fault at the token that begins at this byte
+abbrev pub stop_at : StepFault → ℕ → Stop
+stop_at step.Memory at = Memory
+stop_at step.Syntax at = Syntax at
+
+-- what reading tokens answers: a stop has the byte of its token
+abbrev pub ReadsTokens : {R V : Type 0} → (R → List Lexeme → Outcome V → Type 0) → R → List Token → Result V Stop → Type 0
+ReadsTokens comes r tokens (Ok v) = comes r (lexemes tokens) (Whole v)
+ReadsTokens comes r tokens (Err Memory) = Unit {0}
+ReadsTokens comes r tokens (Err (Syntax at)) = (place : ℕ) × comes r (lexemes tokens) (Stopped place) × TokenAt tokens place at

@@ -1,0 +1,132 @@
+//! The items of a system.
+ghost use Rattle.std.specs.Prelude.{◌≡◌, ℕ, List, Some};
+ghost use Rattle.dlk_grammar.specs.Phrases.{Item, Flow, Items as MachineItems, add};
+ghost use Rattle.dlk_grammar.specs.Erased.{item_of};
+ghost use Rattle.dlk_machine.specs.Machine.{Part as MachinePart, items_step, item_name_step, item_prime_step, item_bar_name_step};
+ghost use Rattle.dlk_grammar.specs.Lexemes.{CloseBrace};
+ghost use Rattle.dlk_reader.specs.Codes.{postfix_terms};
+ghost use Rattle.dlk_reader.specs.Shows.{seen, equations_of, space_of, IsOpen, Shows, Agrees};
+ghost use Rattle.dlk_reader.specs.declared.stack.Stack.{Stack as TheStack};
+
+use crate::code::Code;
+use crate::lexeme::Lexeme;
+use crate::parts::{Equations, Holder, Last, Mode, Part, Tail};
+use crate::stack::Stack;
+use crate::stop::StepFault;
+use dlk_grammar::Infix;
+use dlk_tree::{Items, Kind, Name, OdeItem, Op, Sort, Sym};
+
+/// One item more.
+pub(crate) fn add_item(equations: Equations, item: OdeItem) -> Result<Equations, StepFault>
+    ensures { (n : ℕ) (l : MachineItems) (i : Item) → equations ≡ equations_of n l → item ≡ item_of i
+        → Agrees (λ e m. e ≡ equations_of n m) result (Some (add l i)) }
+{
+    let mut items = equations.items.into_vec();
+    items.push(item)?;
+    Ok(Equations {
+        at: equations.at,
+        items: Items::new(items),
+    })
+}
+
+/// An ODE constant more, and the variable on which it does not depend.
+pub(crate) fn add_constant(
+    equations: Equations,
+    name: Name,
+    taboo: Option<Name>,
+) -> Result<Equations, StepFault>
+    ensures { (n : ℕ) (l : MachineItems) → equations ≡ equations_of n l
+        → Agrees (λ e m. e ≡ equations_of n m) result (Some (add l (Flow name (space_of taboo)))) }
+{
+    let symbol = Sym {
+        kind: Kind::Ode,
+        name,
+        arity: 0,
+        taboo,
+    };
+    add_item(equations, OdeItem::Const(symbol))
+}
+
+impl Stack {
+    /// A system without a domain is whole.
+    pub(crate) fn end_system(&mut self, equations: Equations) -> Result<Mode, StepFault>
+        ensures { (S : List MachinePart) (n : ℕ) (l : MachineItems) → equations ≡ equations_of n l → IsOpen self.old S (postfix_terms l)
+            → Agrees (Shows self.new) result (items_step S n l CloseBrace) }
+    {
+        self.out.push(Code::Operator(Op::True))?;
+        self.out.push(Code::System {
+            at: equations.at,
+            items: equations.items,
+        })?;
+        Ok(Mode::Has(Last::Tree(Sort::Program, Tail::Braced)))
+    }
+
+    /// A lexeme behind whole items.
+    pub(crate) fn items_step(
+        &mut self,
+        equations: Equations,
+        lexeme: Lexeme,
+    ) -> Result<Mode, StepFault>
+        ensures { (S : List MachinePart) (n : ℕ) (l : MachineItems) → equations ≡ equations_of n l → IsOpen self.old S (postfix_terms l)
+            → Agrees (Shows self.new) result (items_step S n l (seen lexeme)) }
+    {
+        match lexeme {
+            Lexeme::Comma => Ok(Mode::WantsItem(equations)),
+            Lexeme::Op(Infix::And) => self.open(Part::Inside(Holder::Domain(equations))),
+            Lexeme::CloseBrace => self.end_system(equations),
+            _ => Err(StepFault::Syntax),
+        }
+    }
+
+    /// A lexeme behind the name of an item.
+    pub(crate) fn item_name_step(
+        &mut self,
+        equations: Equations,
+        name: Name,
+        lexeme: Lexeme,
+    ) -> Result<Mode, StepFault>
+        ensures { (S : List MachinePart) (n : ℕ) (l : MachineItems) → equations ≡ equations_of n l → IsOpen self.old S (postfix_terms l)
+            → Agrees (Shows self.new) result (item_name_step S n l name (seen lexeme)) }
+    {
+        match lexeme {
+            Lexeme::Prime => Ok(Mode::ItemPrime(equations, name)),
+            Lexeme::BraceBar => Ok(Mode::ItemBar(equations, name)),
+            lexeme => {
+                let equations = add_constant(equations, name, None)?;
+                self.items_step(equations, lexeme)
+            }
+        }
+    }
+
+    /// A lexeme behind the name of an item and a prime.
+    pub(crate) fn item_prime_step(
+        &mut self,
+        equations: Equations,
+        name: Name,
+        lexeme: Lexeme,
+    ) -> Result<Mode, StepFault>
+        ensures { (S : List MachinePart) (n : ℕ) (l : MachineItems) → equations ≡ equations_of n l → IsOpen self.old S (postfix_terms l)
+            → Agrees (Shows self.new) result (item_prime_step S n l name (seen lexeme)) }
+    {
+        match lexeme {
+            Lexeme::Op(Infix::Equal) => self.open(Part::Inside(Holder::Evolves(equations, name))),
+            _ => Err(StepFault::Syntax),
+        }
+    }
+}
+
+/// A lexeme behind the name of an item, `{|` and a name.
+pub(crate) fn item_bar_name_step(
+    equations: Equations,
+    name: Name,
+    taboo: Name,
+    lexeme: Lexeme,
+) -> Result<Mode, StepFault>
+    ensures { (k : TheStack) (S : List MachinePart) (n : ℕ) (l : MachineItems) → equations ≡ equations_of n l → IsOpen k S (postfix_terms l)
+        → Agrees (Shows k) result (item_bar_name_step S n l name taboo (seen lexeme)) }
+{
+    match lexeme {
+        Lexeme::BarBrace => Ok(Mode::ItemEnds(add_constant(equations, name, Some(taboo))?)),
+        _ => Err(StepFault::Syntax),
+    }
+}

@@ -1,0 +1,268 @@
+//! Operands and the operators between them.
+ghost use Rattle.std.specs.Prelude.{◌≡◌, List, [], ◌∷◌, Some};
+ghost use Rattle.dlk_grammar.specs.Phrases.{Phrase};
+ghost use Rattle.dlk_reader.specs.declared.parts.Head.TheVariants as head;
+ghost use Rattle.dlk_reader.specs.declared.parts.Tail.TheVariants as tail;
+ghost use Rattle.dlk_reader.specs.declared.parts.Last.TheVariants as last;
+ghost use Rattle.dlk_reader.specs.declared.parts.Mode.TheVariants as mode;
+ghost use Rattle.dlk_reader.specs.declared.stack.Stack.{Stack as TheStack};
+ghost use Rattle.dlk_machine.specs.Machine.{when, Part as MachinePart, Quantifier as MachineQuantifier, Piece, Done, Grouped, Bare, Is, Wants, Has, Binds, fits, start_operand, after_operand, primed, name_after, prime_after, call_step, bars_name_step, bind_step};
+ghost use Rattle.dlk_tree.specs.declared.op.Sort.TheVariants as sort_of;
+ghost use Rattle.dlk_reader.specs.declared.code.Code.TheVariants as code;
+ghost use Rattle.dlk_reader.specs.Codes.{postfix};
+ghost use Rattle.dlk_reader.specs.Shows.{seen, said, shape, part_code, quantifier_of, tail_of, left_opened, IsOpen, Stands, Shows, Agrees};
+
+use crate::code::Code;
+use crate::lexeme::Lexeme;
+use crate::parts::{Between, Head, Holder, Last, Modality, Mode, Part, Prefix, Quantifier, Tail};
+use crate::stack::{Stack, one_more, settle, variable};
+use crate::stop::StepFault;
+use crate::tables::{level, operand_sort, result_sort};
+use dlk_grammar::Infix;
+use dlk_tree::{Name, Op, Sort};
+
+impl Stack {
+    /// Opens a part.
+    pub(crate) fn open(&mut self, part: Part) -> Result<Mode, StepFault>
+        ensures { (S : List MachinePart) (e : MachinePart) → part ≡ shape e → IsOpen self.old S (part_code e)
+            → Agrees (Shows self.new) result (Some (Wants (e ∷ S))) }
+    {
+        self.parts.push(part)?;
+        Ok(Mode::Wants)
+    }
+
+    /// Opens a part of a formula.
+    fn open_formula(&mut self, goal: Sort, part: Part) -> Result<Mode, StepFault>
+        ensures { (S : List MachinePart) (e : MachinePart) → part ≡ shape e → IsOpen self.old S (part_code e)
+            → Agrees (Shows self.new) result (when (fits goal sort_of.Formula S) (Some (Wants (e ∷ S)))) }
+    {
+        if !self.fits(goal, Sort::Formula) {
+            return Err(StepFault::Syntax);
+        }
+        self.open(part)
+    }
+
+    /// A tree of one operator.
+    pub(crate) fn leaf(&mut self, op: Op, sort: Sort) -> Result<Mode, StepFault>
+        ensures { (S : List MachinePart) (t : Phrase) → postfix t ≡ code.Operator op ∷ [] → IsOpen self.old S []
+            → Agrees (Shows self.new) result (Some (Has S (Is sort t Done))) }
+    {
+        self.out.push(Code::Operator(op))?;
+        Ok(Mode::Has(Last::Tree(sort, Tail::Done)))
+    }
+
+    fn leaf_formula(&mut self, goal: Sort, op: Op) -> Result<Mode, StepFault>
+        ensures { (S : List MachinePart) (t : Phrase) → postfix t ≡ code.Operator op ∷ [] → IsOpen self.old S []
+            → Agrees (Shows self.new) result (when (fits goal sort_of.Formula S) (Some (Has S (Is sort_of.Formula t Done)))) }
+    {
+        if !self.fits(goal, Sort::Formula) {
+            return Err(StepFault::Syntax);
+        }
+        self.leaf(op, Sort::Formula)
+    }
+
+    fn quantify(&mut self, goal: Sort, quantifier: Quantifier) -> Result<Mode, StepFault>
+        ensures { (S : List MachinePart) (q : MachineQuantifier) → quantifier ≡ quantifier_of q → IsOpen self.old S []
+            → Agrees (Shows self.new) result (when (fits goal sort_of.Formula S) (Some (Binds S q))) }
+    {
+        if !self.fits(goal, Sort::Formula) {
+            return Err(StepFault::Syntax);
+        }
+        Ok(Mode::Binds(quantifier))
+    }
+
+    /// A lexeme where an operand is wanted.
+    pub(crate) fn start_operand(&mut self, goal: Sort, lexeme: Lexeme) -> Result<Mode, StepFault>
+        ensures { (S : List MachinePart) → IsOpen self.old S []
+            → Agrees (Shows self.new) result (start_operand goal S (seen lexeme)) }
+    {
+        match lexeme {
+            Lexeme::Name(at, name) => Ok(Mode::Has(Last::Name { at, name })),
+            Lexeme::Number(number) => self.leaf(Op::Number(number), Sort::Term),
+            Lexeme::Dot(number) => self.leaf(Op::Dot(number), Sort::Term),
+            Lexeme::Open => {
+                let fits = self.fits(goal, Sort::Formula);
+                self.open(Part::Inside(Holder::Round(fits)))
+            }
+            Lexeme::Op(Infix::Sub) => self.open(Part::Before(Prefix::Minus)),
+            Lexeme::True => self.leaf_formula(goal, Op::True),
+            Lexeme::False => self.leaf_formula(goal, Op::False),
+            Lexeme::Blank => self.leaf_formula(goal, Op::Hole),
+            Lexeme::Bang => self.open_formula(goal, Part::Before(Prefix::Not)),
+            Lexeme::All => self.quantify(goal, Quantifier::ForAll),
+            Lexeme::Exist => self.quantify(goal, Quantifier::ForSome),
+            Lexeme::OpenBox => self.open_formula(goal, Part::Inside(Holder::In(Modality::InBox))),
+            Lexeme::Op(Infix::Less) => {
+                self.open_formula(goal, Part::Inside(Holder::In(Modality::InDia)))
+            }
+            _ => Err(StepFault::Syntax),
+        }
+    }
+
+    /// An operator behind its left operand, which is whole.
+    pub(crate) fn left(&mut self, goal: Sort, between: Between, last: Last) -> Result<(), StepFault>
+        ensures { (S : List MachinePart) (p : Piece) → Stands self.old last S p
+            → Agrees (λ _ T. IsOpen self.new T []) result (left_opened goal (said between) S p) }
+    {
+        settle(&mut self.out, last, operand_sort(between))?;
+        if !self.fits(goal, result_sort(between)) {
+            return Err(StepFault::Syntax);
+        }
+        Ok(self.parts.push(Part::Left(between))?)
+    }
+
+    /// An operator after an operand.
+    pub(crate) fn after_operand(
+        &mut self,
+        goal: Sort,
+        between: Between,
+        last: Last,
+    ) -> Result<(), StepFault>
+        ensures { (S : List MachinePart) (p : Piece) → Stands self.old last S p
+            → Agrees (λ _ T. IsOpen self.new T []) result (after_operand goal (said between) S p) }
+    {
+        let last = self.reduce(level(between), last)?;
+        self.left(goal, between, last)
+    }
+
+    /// A name before a bracket.
+    pub(crate) fn name_after(
+        &mut self,
+        goal: Sort,
+        last: Last,
+        lexeme: Lexeme,
+    ) -> Result<Mode, StepFault>
+        ensures { (S : List MachinePart) (p : Piece) → Stands self.old last S p
+            → Agrees (Shows self.new) result (name_after goal S (seen lexeme) (tail_of p)) }
+    {
+        match last {
+            Last::Name { at, name } => self.name_step(goal, at, name, lexeme),
+            Last::Tree(_, _) => Err(StepFault::Syntax),
+            Last::Symbol { .. } => Err(StepFault::Syntax),
+        }
+    }
+
+    fn name_step(
+        &mut self,
+        goal: Sort,
+        at: usize,
+        name: Name,
+        lexeme: Lexeme,
+    ) -> Result<Mode, StepFault>
+        ensures { (S : List MachinePart) → IsOpen self.old S []
+            → Agrees (Shows self.new) result (name_after goal S (seen lexeme) (Bare at name)) }
+    {
+        match lexeme {
+            Lexeme::Open => Ok(Mode::Calls { at, name }),
+            Lexeme::RoundBars => Ok(any(name, None)),
+            Lexeme::RoundBar => Ok(Mode::Bars(name)),
+            Lexeme::OpenBrace(_) => self.open_formula(goal, Part::Inside(Holder::InContext(name))),
+            _ => Err(StepFault::Syntax),
+        }
+    }
+
+    /// A prime behind a name or a bracket.
+    pub(crate) fn prime_after(&mut self, last: Last) -> Result<Mode, StepFault>
+        ensures { (S : List MachinePart) (p : Piece) → Stands self.old last S p
+            → Agrees (Shows self.new) result (prime_after S p (tail_of p)) }
+    {
+        match last {
+            Last::Name { at: _, name } => {
+                self.out.push(variable(name, true))?;
+                Ok(Mode::Has(Last::Tree(Sort::Term, Tail::Done)))
+            }
+            Last::Tree(sort, Tail::Grouped) => self.prime(sort),
+            Last::Symbol {
+                head,
+                primes,
+                tail: Tail::Grouped,
+            } => {
+                let primes = one_more(primes)?;
+                Ok(Mode::Has(Last::Symbol {
+                    head,
+                    primes,
+                    tail: Tail::Done,
+                }))
+            }
+            Last::Tree(_, _) => Err(StepFault::Syntax),
+            Last::Symbol { .. } => Err(StepFault::Syntax),
+        }
+    }
+
+    /// A prime behind a tree in brackets. No program stands in them.
+    fn prime(&mut self, sort: Sort) -> Result<Mode, StepFault>
+        ensures { (S : List MachinePart) (t : Phrase) → IsOpen self.old S (postfix t)
+            → Agrees (Shows self.new) result (Some (Has S (primed (Is sort t Grouped)))) }
+    {
+        match sort {
+            Sort::Term => {
+                self.out.push(Code::Operator(Op::Diff))?;
+                Ok(Mode::Has(Last::Tree(Sort::Term, Tail::Done)))
+            }
+            Sort::Formula => {
+                self.out.push(Code::Operator(Op::DiffF))?;
+                Ok(Mode::Has(Last::Tree(Sort::Formula, Tail::Done)))
+            }
+            Sort::Program => Ok(Mode::Has(Last::Tree(Sort::Program, Tail::Grouped))),
+        }
+    }
+
+    /// A lexeme behind a name and `(`.
+    pub(crate) fn call_step(
+        &mut self,
+        goal: Sort,
+        at: usize,
+        name: Name,
+        lexeme: Lexeme,
+    ) -> Result<Mode, StepFault>
+        ensures { (S : List MachinePart) → IsOpen self.old S []
+            → Agrees (Shows self.new) result (call_step goal S at name (seen lexeme)) }
+    {
+        if let Lexeme::Close = lexeme {
+            let head = Head::Call { at, name, count: 0 };
+            return Ok(Mode::Has(Last::Symbol {
+                head,
+                primes: 0,
+                tail: Tail::Done,
+            }));
+        }
+        self.parts
+            .push(Part::Inside(Holder::Args { at, name, count: 0 }))?;
+        self.start_operand(goal, lexeme)
+    }
+
+    /// A lexeme behind a quantifier.
+    pub(crate) fn bind_step(
+        &mut self,
+        quantifier: Quantifier,
+        lexeme: Lexeme,
+    ) -> Result<Mode, StepFault>
+        ensures { (S : List MachinePart) (q : MachineQuantifier) → quantifier ≡ quantifier_of q → IsOpen self.old S []
+            → Agrees (Shows self.new) result (bind_step S q (seen lexeme)) }
+    {
+        let name = lexeme.into_name()?;
+        self.open(Part::Before(Prefix::Bound(quantifier, name)))
+    }
+}
+
+/// A unit symbol was read.
+fn any(name: Name, taboo: Option<Name>) -> Mode
+    ensures { result ≡ mode.Has (last.Symbol (head.Any name taboo) 0 tail.Done) }
+{
+    Mode::Has(Last::Symbol {
+        head: Head::Any { name, taboo },
+        primes: 0,
+        tail: Tail::Done,
+    })
+}
+
+/// A lexeme behind a name, `(|` and a name.
+pub(crate) fn bars_name_step(name: Name, taboo: Name, lexeme: Lexeme) -> Result<Mode, StepFault>
+    ensures { (k : TheStack) (S : List MachinePart) → IsOpen k S []
+        → Agrees (Shows k) result (bars_name_step S name taboo (seen lexeme)) }
+{
+    match lexeme {
+        Lexeme::BarRound => Ok(any(name, Some(taboo))),
+        _ => Err(StepFault::Syntax),
+    }
+}

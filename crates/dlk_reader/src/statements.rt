@@ -1,0 +1,246 @@
+//! Statements, and what stands behind a brace.
+ghost use Rattle.std.specs.Prelude.{◌≡◌, List, [], ◌∷◌, Some};
+ghost use Rattle.dlk_grammar.specs.Phrases.{Phrase, Const};
+ghost use Rattle.dlk_reader.specs.declared.stack.Stack.{Stack as TheStack};
+ghost use Rattle.dlk_reader.specs.declared.code.Code.TheVariants as code;
+ghost use Rattle.dlk_machine.specs.Machine.{Part as MachinePart, Inside, InBrace, Piece, start_statement, statement_step, statement_prime_step, statement_gets_step, statement_star_step, opens_step, opens_name_step, opens_prime_step, star_after, invariant_after, semi_after, invariants_step};
+ghost use Rattle.dlk_reader.specs.Codes.{postfix};
+ghost use Rattle.dlk_reader.specs.Shows.{seen, is_star, IsOpen, Stands, Shows, Agrees};
+
+use crate::code::Code;
+use crate::lexeme::Lexeme;
+use crate::parts::{Equations, Holder, Last, Mode, Part, Tail};
+use crate::stack::Stack;
+use crate::stop::StepFault;
+use dlk_grammar::Infix;
+use dlk_tree::{Kind, Name, Op, Sort, Sym};
+use std::alloc::Global;
+
+impl Stack {
+    /// A lexeme where a statement is wanted.
+    pub(crate) fn start_statement(&mut self, lexeme: Lexeme) -> Result<Mode, StepFault>
+        ensures { (S : List MachinePart) → IsOpen self.old S []
+            → Agrees (Shows self.new) result (start_statement S (seen lexeme)) }
+    {
+        match lexeme {
+            Lexeme::Name(_, name) => Ok(Mode::Starts(name)),
+            Lexeme::Query => self.open(Part::Inside(Holder::Tests)),
+            Lexeme::OpenBrace(at) => Ok(Mode::Opens(at)),
+            _ => Err(StepFault::Syntax),
+        }
+    }
+
+    /// A lexeme behind the name of a statement.
+    pub(crate) fn statement_step(&mut self, name: Name, lexeme: Lexeme) -> Result<Mode, StepFault>
+        ensures { (S : List MachinePart) → IsOpen self.old S []
+            → Agrees (Shows self.new) result (statement_step S name (seen lexeme)) }
+    {
+        match lexeme {
+            Lexeme::Semi => self.leaf(program_constant(name), Sort::Program),
+            Lexeme::Gets => Ok(Mode::StartsGets(name)),
+            Lexeme::Prime => Ok(Mode::StartsPrime(name)),
+            _ => Err(StepFault::Syntax),
+        }
+    }
+
+    /// A lexeme behind the name of a statement and a prime.
+    pub(crate) fn statement_prime_step(
+        &mut self,
+        name: Name,
+        lexeme: Lexeme,
+    ) -> Result<Mode, StepFault>
+        ensures { (S : List MachinePart) → IsOpen self.old S []
+            → Agrees (Shows self.new) result (statement_prime_step S name (seen lexeme)) }
+    {
+        match lexeme {
+            Lexeme::Gets => self.open(Part::Inside(Holder::Assigns { name, primed: true })),
+            _ => Err(StepFault::Syntax),
+        }
+    }
+
+    /// A lexeme behind `:=`: a star, which stands for any value, or one that begins a term.
+    pub(crate) fn statement_gets_step(
+        &mut self,
+        goal: Sort,
+        name: Name,
+        lexeme: Lexeme,
+    ) -> Result<Mode, StepFault>
+        ensures { (S : List MachinePart) → IsOpen self.old S []
+            → Agrees (Shows self.new) result (statement_gets_step goal S name (seen lexeme)) }
+    {
+        let star = is_star(&lexeme);
+        if star {
+            return Ok(Mode::StartsStar(name));
+        }
+        self.parts.push(Part::Inside(Holder::Assigns {
+            name,
+            primed: false,
+        }))?;
+        self.start_operand(goal, lexeme)
+    }
+
+    /// The semicolon behind `:=` and a star.
+    pub(crate) fn statement_star_step(
+        &mut self,
+        name: Name,
+        lexeme: Lexeme,
+    ) -> Result<Mode, StepFault>
+        ensures { (S : List MachinePart) → IsOpen self.old S []
+            → Agrees (Shows self.new) result (statement_star_step S name (seen lexeme)) }
+    {
+        match lexeme {
+            Lexeme::Semi => self.leaf(Op::Any(name), Sort::Program),
+            _ => Err(StepFault::Syntax),
+        }
+    }
+
+    /// A program stands in a brace.
+    fn open_brace(&mut self) -> Result<(), StepFault>
+        ensures { (S : List MachinePart) → IsOpen self.old S []
+            → Agrees (λ _ T. IsOpen self.new T []) result (Some (Inside InBrace ∷ S)) }
+    {
+        Ok(self.parts.push(Part::Inside(Holder::InBrace))?)
+    }
+
+    /// A lexeme behind a brace.
+    pub(crate) fn opens_step(&mut self, at: usize, lexeme: Lexeme) -> Result<Mode, StepFault>
+        ensures { (S : List MachinePart) → IsOpen self.old S []
+            → Agrees (Shows self.new) result (opens_step S at (seen lexeme)) }
+    {
+        match lexeme {
+            Lexeme::Name(_, name) => Ok(Mode::OpensName { at, name }),
+            Lexeme::Query => {
+                self.open_brace()?;
+                self.start_statement(Lexeme::Query)
+            }
+            Lexeme::OpenBrace(inner) => {
+                self.open_brace()?;
+                self.start_statement(Lexeme::OpenBrace(inner))
+            }
+            _ => Err(StepFault::Syntax),
+        }
+    }
+
+    /// A lexeme behind a brace and a name.
+    pub(crate) fn opens_name_step(
+        &mut self,
+        alloc: Global,
+        at: usize,
+        name: Name,
+        lexeme: Lexeme,
+    ) -> Result<Mode, StepFault>
+        ensures { (S : List MachinePart) → IsOpen self.old S []
+            → Agrees (Shows self.new) result (opens_name_step S at name (seen lexeme)) }
+    {
+        match lexeme {
+            Lexeme::Prime => Ok(Mode::OpensPrime { at, name }),
+            Lexeme::Semi => {
+                self.open_brace()?;
+                self.statement_step(name, Lexeme::Semi)
+            }
+            Lexeme::Gets => {
+                self.open_brace()?;
+                self.statement_step(name, Lexeme::Gets)
+            }
+            lexeme => self.item_name_step(Equations::new(alloc, at), name, lexeme),
+        }
+    }
+
+    /// A lexeme behind a brace, a name and a prime.
+    pub(crate) fn opens_prime_step(
+        &mut self,
+        alloc: Global,
+        at: usize,
+        name: Name,
+        lexeme: Lexeme,
+    ) -> Result<Mode, StepFault>
+        ensures { (S : List MachinePart) → IsOpen self.old S []
+            → Agrees (Shows self.new) result (opens_prime_step S at name (seen lexeme)) }
+    {
+        match lexeme {
+            Lexeme::Gets => {
+                self.open_brace()?;
+                self.statement_prime_step(name, Lexeme::Gets)
+            }
+            lexeme => self.item_prime_step(Equations::new(alloc, at), name, lexeme),
+        }
+    }
+
+    /// A star behind a brace.
+    pub(crate) fn star_after(&mut self, last: Last) -> Result<Mode, StepFault>
+        ensures { (S : List MachinePart) (p : Piece) → Stands self.old last S p
+            → Agrees (Shows self.new) result (star_after S p) }
+    {
+        match last {
+            Last::Tree(sort, Tail::Braced) => {
+                self.out.push(Code::Operator(Op::Loop))?;
+                Ok(Mode::Has(Last::Tree(sort, Tail::Starred)))
+            }
+            Last::Tree(_, _) => Err(StepFault::Syntax),
+            Last::Name { .. } => Err(StepFault::Syntax),
+            Last::Symbol { .. } => Err(StepFault::Syntax),
+        }
+    }
+
+    /// The bracket behind `@invariant`.
+    pub(crate) fn invariants_step(&mut self, lexeme: Lexeme) -> Result<Mode, StepFault>
+        ensures { (S : List MachinePart) (t : Phrase) → IsOpen self.old S (postfix t)
+            → Agrees (Shows self.new) result (invariants_step S t (seen lexeme)) }
+    {
+        match lexeme {
+            Lexeme::Open => {
+                self.out.push(Code::Notes)?;
+                self.open(Part::Inside(Holder::Notes(0)))
+            }
+            _ => Err(StepFault::Syntax),
+        }
+    }
+}
+
+/// Whether it stands for any value.
+fn is_star(lexeme: &Lexeme) -> bool
+    ensures { result ≡ is_star lexeme.now }
+{
+    matches!(lexeme, Lexeme::Op(Infix::Mul))
+}
+
+/// The operator of a program constant.
+fn program_constant(name: Name) -> Op
+    ensures { postfix (Const name) ≡ code.Operator result ∷ [] }
+{
+    Op::Const(Sym {
+        kind: Kind::Prog,
+        name,
+        arity: 0,
+        taboo: None,
+    })
+}
+
+/// `@invariant` behind a brace or its star.
+pub(crate) fn invariant_after(last: Last) -> Result<Mode, StepFault>
+    ensures { (k : TheStack) (S : List MachinePart) (p : Piece) → Stands k last S p
+        → Agrees (Shows k) result (invariant_after S p) }
+{
+    match last {
+        Last::Tree(_, Tail::Braced) => Ok(Mode::Invariants),
+        Last::Tree(_, Tail::Starred) => Ok(Mode::Invariants),
+        Last::Tree(_, _) => Err(StepFault::Syntax),
+        Last::Name { .. } => Err(StepFault::Syntax),
+        Last::Symbol { .. } => Err(StepFault::Syntax),
+    }
+}
+
+/// A semicolon behind a brace, its star or its invariants.
+pub(crate) fn semi_after(last: Last) -> Result<Mode, StepFault>
+    ensures { (k : TheStack) (S : List MachinePart) (p : Piece) → Stands k last S p
+        → Agrees (Shows k) result (semi_after S p) }
+{
+    match last {
+        Last::Tree(sort, Tail::Braced) => Ok(Mode::Has(Last::Tree(sort, Tail::Done))),
+        Last::Tree(sort, Tail::Starred) => Ok(Mode::Has(Last::Tree(sort, Tail::Done))),
+        Last::Tree(sort, Tail::Annotated) => Ok(Mode::Has(Last::Tree(sort, Tail::Done))),
+        Last::Tree(_, _) => Err(StepFault::Syntax),
+        Last::Name { .. } => Err(StepFault::Syntax),
+        Last::Symbol { .. } => Err(StepFault::Syntax),
+    }
+}

@@ -1,0 +1,11 @@
+pub mod Bits
+pub mod Found
+pub mod PlainToo
+pub mod Primes
+pub mod SetLemmas
+pub mod KidSets
+pub mod SetsGrow
+pub mod KidNodes
+pub mod Told
+pub mod SignLemmas
+pub mod SignsFound

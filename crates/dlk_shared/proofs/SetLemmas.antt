@@ -1,0 +1,179 @@
+-- What sets stand for while their table grows, and what is made of them.
+use Rattle.std.proofs.Common.{◌≡◌, ℕ, suc, ◌<◌, ◌≤◌, Bool, true, false, cond, ◌||◌, ◌&&◌, List, [], ◌∷◌, ◌++◌, length, Some, Result, Ok, Err, IfOk, refl, sym, ap, subst, ◌∙◌, arith, length-append}
+use Rattle.std.proofs.lemmas.List.{append-nil, append_assoc, get_or_append_left}
+use Rattle.std.proofs.lemmas.List.Quantifiers.{position-Some}
+use Rattle.std.specs.Bool.{beq}
+use Rattle.std.specs.Str.{bytes_eq}
+use Rattle.std.specs.List.{list_any}
+use Rattle.indexmap.specs.IndexSet.{insert_key}
+use Rattle.dlk_tree.specs.Tests.{var_eq}
+use Rattle.dlk_tree.specs.Statics.{none, just, plain, prime, with_prime, and_primes, either, Sets}
+use Rattle.dlk_tree.specs.declared.op.Var.{Var}
+use Rattle.dlk_vars.specs.Rows.{Row}
+use Rattle.dlk_vars.specs.Tables.{number_of, Grows}
+use Rattle.dlk_vars.specs.Sets.{StandsFor, Gains}
+use Rattle.dlk_vars.proofs.Members.{has_stays, within_stays}
+use Rattle.std.specs.Prelude.{All, map}
+use Rattle.dlk_store.specs.declared.listing.Which.{Which}
+use Rattle.dlk_store.specs.declared.listing.Which.TheVariants.{Free, Bound, Must}
+use Rattle.dlk_shared.specs.declared.node.NodeSets.{NodeSets}
+use Rattle.dlk_shared.specs.SetTables.{SetTable, row_at, Holds, Means, MeanSets, Keeps, MakesPrimes, set_at, sets_at, IsSet, AreSets, number_in, set_in}
+
+pub Grows-refl : (vars : List Var) → Grows vars vars
+Grows-refl vars = record { more = []; is = sym (append-nil vars) }
+
+pub Grows-trans : {a b c : List Var} → Grows a b → Grows b c → Grows a c
+Grows-trans {a} p q = record { more = p.more ++ q.more; is = q.is ∙ ap (λ l. l ++ q.more) p.is ∙ append_assoc a p.more q.more }
+
+pub keeps_refl : (t : SetTable) → Keeps t t
+keeps_refl t = record { vars = Grows-refl t.vars; sets = omega arith; same = λ n h. refl }
+
+pub keeps_trans : {a b c : SetTable} → Keeps a b → Keeps b c → Keeps a c
+keeps_trans p q = record {
+  vars = Grows-trans p.vars q.vars;
+  sets = omega (arith, p.sets, q.sets);
+  same = λ n h. q.same n (omega (arith, p.sets)) ∙ p.same n h;
+}
+
+pub holds_kept : {old new : List Var} {r : Row} {set : Var → Bool} → Grows old new → Holds old r set → Holds new r set
+holds_kept {old} {new} {r} g h = record { members = λ v. has_stays old new r g h.within v ∙ h.members v; within = within_stays old new r g h.within }
+
+pub means_kept : {old new : SetTable} {n : ℕ} {set : Var → Bool} → Keeps old new → Means old n set → Means new n set
+means_kept {old} {new} {n} {set} k m = record {
+  known = omega (arith, k.sets, m.known);
+  holds = subst (λ r. Holds new.vars r set) (sym (k.same n m.known)) (holds_kept k.vars m.holds);
+}
+
+pub means_same : {t : SetTable} {n : ℕ} {s r : Var → Bool} → ((v : Var) → s v ≡ r v) → Means t n s → Means t n r
+means_same same m = record { known = m.known; holds = record { members = λ v. m.holds.members v ∙ same v; within = m.holds.within } }
+
+-- a set that is kept stands for what it did
+pub kept_means : {E : Type 0} (r : Result ℕ E) (new : SetTable) (vars : List Var) (row : Row) (set : Var → Bool)
+    → IfOk r (λ n. n < length new.sets) → IfOk r (λ n. row_at new.sets n ≡ row) → new.vars ≡ vars → Holds vars row set → IfOk r (λ n. Means new n set)
+kept_means (Ok n) new vars row set known is same h = record {
+  known = known;
+  holds = subst (λ q. Holds new.vars q set) (sym is) (subst (λ vs. Holds vs row set) (sym same) h);
+}
+kept_means (Err e) new vars row set known is same h = tt
+
+-- the same of a set with x' for each x in another
+pub kept_primes : {E : Type 0} (r : Result ℕ E) (old new : SetTable) (a : ℕ) (vars : List Var) (row : Row)
+    → IfOk r (λ n. n < length new.sets) → IfOk r (λ n. row_at new.sets n ≡ row) → new.vars ≡ vars
+    → ((s : Var → Bool) → Means old a s → Holds vars row (and_primes s)) → IfOk r (MakesPrimes old a new)
+kept_primes (Ok n) old new a vars row known is same h = record {
+  means = λ s m. record {
+    known = known;
+    holds = subst (λ q. Holds new.vars q (and_primes s)) (sym is) (subst (λ vs. Holds vs row (and_primes s)) (sym same) (h s m));
+  };
+}
+kept_primes (Err e) old new a vars row known is same h = tt
+
+-- one variable
+pub just_holds : (vars : List Var) (v : Var) (n : ℕ) (empty row : Row) → number_of vars v ≡ Some n → StandsFor empty none → Gains empty n row
+    → Holds vars row (just v)
+just_holds vars v n empty row number stands gains = record {
+  members = λ w. gains.members vars v number w ∙ ap (λ b. b || just v w) (stands.members vars w);
+  within = gains.within vars (position-Some (var_eq v) vars n v number).0 (stands.within vars);
+}
+
+-- what holds of the result of a call that may fail
+pub mapped : {T E : Type 0} (P Q : T → Type 0) (r : Result T E) → ((t : T) → P t → Q t) → IfOk r P → IfOk r Q
+mapped P Q (Ok t) f h = f t h
+mapped P Q (Err e) f h = tt
+
+-- both variables of a name
+pub both_marks : (x : List ℕ) (v : Var) → either (just (plain x)) (just (prime x)) v ≡ with_prime x v
+both_marks x v = by (bytes_eq v.name x) v.primed
+  where
+    by : (b p : Bool) → ((b && beq p false) || (b && beq p true)) ≡ b
+    by true true = refl
+    by true false = refl
+    by false p = refl
+
+-- ---- a set more
+
+module _ (eq : Row → Row → Bool) (sets : List Row) (r : Row) where
+  pub record KeepsRows (new : List Row) : Type 0 where
+    pub long : length sets ≤ length new
+    pub same : (n : ℕ) → n < length sets → row_at new n ≡ row_at sets n
+
+  pub inserted_rows : KeepsRows (insert_key eq sets r)
+  inserted_rows = elim (list_any (eq r) sets) as (λ b. KeepsRows (cond b sets (sets ++ r ∷ []))) [
+    | true ↦ record { long = omega arith; same = λ n h. refl }
+    | false ↦ record {
+      long = omega (arith, length-append sets (r ∷ []));
+      same = λ n h. get_or_append_left sets (r ∷ [])
+          (record { words = []; others = false }) n h;
+    }
+  ]
+
+pub inserted_keeps : (eq : Row → Row → Bool) (old : SetTable) (vars : List Var) (sets new : List Row) (r : Row) → vars ≡ old.vars → sets ≡ old.sets
+    → new ≡ insert_key eq sets r
+    → Keeps old (record { vars = vars; sets = new })
+inserted_keeps eq old vars sets new r same_vars same_sets is =
+    let k = subst (λ l. KeepsRows eq sets r l) (sym is) (inserted_rows eq sets r) in
+    let from = subst (λ l. (length l ≤ length new) × ((n : ℕ) → n < length l → row_at new n ≡ row_at l n)) same_sets (k.long, k.same) in
+    record { vars = subst (λ vs. Grows vs vars) same_vars (Grows-refl vars); sets = from.0; same = from.1 }
+
+-- ---- what numbers stand for, whatever it is
+
+pub set_itself : {t : SetTable} {n : ℕ} → IsSet t n → Means t n (set_at t n)
+set_itself h = record { known = h.known; holds = record { members = λ v. refl; within = h.within } }
+
+pub means_set : {t : SetTable} {n : ℕ} {set : Var → Bool} → Means t n set → IsSet t n
+means_set m = record { known = m.known; within = m.holds.within }
+
+pub means_is : {t : SetTable} {n : ℕ} {set : Var → Bool} → Means t n set → set_at t n ≡ set
+means_is m = λ i v. m.holds.members v i
+
+pub is_set_kept : {old new : SetTable} {n : ℕ} → Keeps old new → IsSet old n → IsSet new n
+is_set_kept k h = means_set (means_kept k (set_itself h))
+
+pub set_at_kept : {old new : SetTable} {n : ℕ} → Keeps old new → IsSet old n → set_at new n ≡ set_at old n
+set_at_kept k h = means_is (means_kept k (set_itself h))
+
+pub are_sets_kept : {old new : SetTable} {n : NodeSets} → Keeps old new → AreSets old n → AreSets new n
+are_sets_kept k h = record { free = is_set_kept k h.free; bound = is_set_kept k h.bound; must = is_set_kept k h.must }
+
+pub sets_at_kept : {old new : SetTable} {n : NodeSets} → Keeps old new → AreSets old n → sets_at new n ≡ sets_at old n
+sets_at_kept k h =
+    let free = set_at_kept k h.free in
+    let bound = set_at_kept k h.bound in
+    let must = set_at_kept k h.must in
+    λ i. record { free = free i; bound = bound i; must = must i }
+
+pub all_sets_kept : {old new : SetTable} → Keeps old new → (ns : List NodeSets) → All (AreSets old) ns → All (AreSets new) ns
+all_sets_kept k ns all = λ i d h. are_sets_kept k (all i d h)
+
+pub kids_sets_kept : {old new : SetTable} → Keeps old new → (ns : List NodeSets) → All (AreSets old) ns → map (sets_at new) ns ≡ map (sets_at old) ns
+kids_sets_kept k [] all = refl
+kids_sets_kept k (n ∷ ns) all =
+    let first = sets_at_kept k (all 0 n (omega arith)) in
+    let rest = kids_sets_kept k ns (λ i d h. all (suc i) d (omega arith)) in
+    λ i. first i ∷ rest i
+
+-- one of the three
+pub set_in_at : (t : SetTable) (which : Which) (n : NodeSets) → set_at t (number_in which n) ≡ set_in which (sets_at t n)
+set_in_at t Free n = refl
+set_in_at t Bound n = refl
+set_in_at t Must n = refl
+
+pub is_set_in : (t : SetTable) (which : Which) (n : NodeSets) → AreSets t n → IsSet t (number_in which n)
+is_set_in t Free n h = h.free
+is_set_in t Bound n h = h.bound
+is_set_in t Must n h = h.must
+
+-- ---- the three sets of a node
+
+pub mean_sets_kept : {old new : SetTable} {n : NodeSets} {s : Sets} → Keeps old new → MeanSets old n s → MeanSets new n s
+mean_sets_kept k m = record { free = means_kept k m.free; bound = means_kept k m.bound; must = means_kept k m.must }
+
+pub mean_are_sets : {t : SetTable} {n : NodeSets} {s : Sets} → MeanSets t n s → AreSets t n
+mean_are_sets m = record { free = means_set m.free; bound = means_set m.bound; must = means_set m.must }
+
+pub mean_sets_is : {t : SetTable} {n : NodeSets} {s : Sets} → MeanSets t n s → sets_at t n ≡ s
+mean_sets_is m =
+    let free = means_is m.free in
+    let bound = means_is m.bound in
+    let must = means_is m.must in
+    λ i. record { free = free i; bound = bound i; must = must i }

@@ -1,0 +1,12 @@
+use Rattle.dlk_shared.proofs.SetLemmas.{means_kept, keeps_trans}
+use Rattle.dlk_shared.proofs.sets.SetTable.system_sets.Goals as goal
+
+pub returns-clause-means : goal.returns-clause-means
+returns-clause-means c = record {
+  free = means_kept (keeps_trans c.in_ok-bound.ensures.keeps c.in_ok-must.ensures.keeps) c.in_ok-free.ensures.means;
+  bound = means_kept c.in_ok-must.ensures.keeps c.in_ok-bound.ensures.means;
+  must = c.in_ok-must.ensures.means;
+}
+
+pub returns-clause-keeps : goal.returns-clause-keeps
+returns-clause-keeps c = keeps_trans (keeps_trans c.in_ok-free.ensures.keeps c.in_ok-bound.ensures.keeps) c.in_ok-must.ensures.keeps

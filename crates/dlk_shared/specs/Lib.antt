@@ -1,0 +1,10 @@
+pub mod Ids
+pub mod Rows
+pub mod Growth
+pub mod Nodes
+pub mod Shapes
+pub mod SetTables
+pub mod Signs
+pub mod Kept
+pub mod Sound
+pub mod Unique

@@ -1,0 +1,15 @@
+//! A store that keeps each tree once.
+#![tactic(auto)]
+
+mod kids;
+mod listed;
+mod node;
+mod sets;
+mod shape;
+mod signs;
+mod store;
+#[cfg(test)]
+mod tests;
+mod together;
+
+pub use store::SharedStore;

@@ -1,0 +1,182 @@
+//! The three sets of a node, of those that its operator brings and those of its kids.
+ghost use Rattle.std.specs.Prelude.{IfOk, All, map};
+ghost use Rattle.dlk_tree.specs.Statics.{free_in_turn, must_in_both, must_in_one, statics};
+ghost use Rattle.dlk_shared.specs.Shapes.{put_together};
+ghost use Rattle.dlk_shared.specs.SetTables.{Means, MeanSets, Keeps, AreSets, sets_at, in_kids};
+
+use crate::node::NodeSets;
+use crate::sets::SetTable;
+use crate::shape::{Shape, shape_of};
+use dlk_store::Which;
+use dlk_tree::Op;
+use dlk_vars::VarFault;
+
+impl SetTable {
+    /// What some kid reads, binds or must-binds.
+    fn in_kids(&mut self, which: Which, kids: &[NodeSets]) -> Result<usize, VarFault>
+        requires { All (AreSets self.old) kids.now }
+        ensures means { IfOk result (λ n. Means self.new n (in_kids which (map (sets_at self.old) kids.now))) }
+        ensures keeps { Keeps self.old self.new }
+    {
+        match kids {
+            [] => self.none(),
+            [kid] => Ok(kid.of(which)),
+            [kid, rest @ ..] => {
+                let rest = self.in_kids(which, rest)?;
+                self.either(kid.of(which), rest)
+            }
+        }
+    }
+
+    /// What two kids read where the second comes after the first.
+    fn in_turn(&mut self, kids: &[NodeSets]) -> Result<usize, VarFault>
+        requires { All (AreSets self.old) kids.now }
+        ensures means { IfOk result (λ n. Means self.new n (free_in_turn (map (sets_at self.old) kids.now))) }
+        ensures keeps { Keeps self.old self.new }
+    {
+        match kids {
+            [first, second, ..] => {
+                let rest = self.without(second.free, first.must)?;
+                self.either(first.free, rest)
+            }
+            _ => self.none(),
+        }
+    }
+
+    /// What both of two kids must-bind.
+    fn must_in_both(&mut self, kids: &[NodeSets]) -> Result<usize, VarFault>
+        requires { All (AreSets self.old) kids.now }
+        ensures means { IfOk result (λ n. Means self.new n (must_in_both (map (sets_at self.old) kids.now))) }
+        ensures keeps { Keeps self.old self.new }
+    {
+        match kids {
+            [first, second, ..] => self.both(first.must, second.must),
+            _ => self.none(),
+        }
+    }
+
+    /// What one of two kids must-binds.
+    fn must_in_one(&mut self, kids: &[NodeSets]) -> Result<usize, VarFault>
+        requires { All (AreSets self.old) kids.now }
+        ensures means { IfOk result (λ n. Means self.new n (must_in_one (map (sets_at self.old) kids.now))) }
+        ensures keeps { Keeps self.old self.new }
+    {
+        match kids {
+            [first, second, ..] => self.either(first.must, second.must),
+            _ => self.none(),
+        }
+    }
+
+    /// What the node reads.
+    fn free_over(
+        &mut self,
+        shape: Shape,
+        own: NodeSets,
+        kids: &[NodeSets],
+    ) -> Result<usize, VarFault>
+        requires own { AreSets self.old own }
+        requires kids { All (AreSets self.old) kids.now }
+        ensures means { IfOk result (λ n. Means self.new n (put_together shape (sets_at self.old own) (map (sets_at self.old) kids.now)).free) }
+        ensures keeps { Keeps self.old self.new }
+    {
+        match shape {
+            Shape::Own => Ok(own.free),
+            Shape::Differential => {
+                let free = self.in_kids(Which::Free, kids)?;
+                self.and_primes(free)
+            }
+            Shape::Quantified => {
+                let free = self.in_kids(Which::Free, kids)?;
+                self.without(free, own.bound)
+            }
+            Shape::Evolved => {
+                let free = self.in_kids(Which::Free, kids)?;
+                self.either(own.free, free)
+            }
+            Shape::Modal | Shape::Sequence => self.in_turn(kids),
+            Shape::AsKids | Shape::Assigned | Shape::Tested | Shape::Branching => self.in_kids(
+                Which::Free,
+                kids,
+            ),
+        }
+    }
+
+    /// What the node binds.
+    fn bound_over(
+        &mut self,
+        shape: Shape,
+        own: NodeSets,
+        kids: &[NodeSets],
+    ) -> Result<usize, VarFault>
+        requires own { AreSets self.old own }
+        requires kids { All (AreSets self.old) kids.now }
+        ensures means { IfOk result (λ n. Means self.new n (put_together shape (sets_at self.old own) (map (sets_at self.old) kids.now)).bound) }
+        ensures keeps { Keeps self.old self.new }
+    {
+        match shape {
+            Shape::Own | Shape::Assigned | Shape::Evolved => Ok(own.bound),
+            Shape::Tested => self.none(),
+            Shape::Quantified => {
+                let bound = self.in_kids(Which::Bound, kids)?;
+                self.either(bound, own.bound)
+            }
+            Shape::AsKids
+            | Shape::Differential
+            | Shape::Modal
+            | Shape::Branching
+            | Shape::Sequence => self.in_kids(Which::Bound, kids),
+        }
+    }
+
+    /// What the node must-binds.
+    fn must_over(
+        &mut self,
+        shape: Shape,
+        own: NodeSets,
+        kids: &[NodeSets],
+    ) -> Result<usize, VarFault>
+        requires own { AreSets self.old own }
+        requires kids { All (AreSets self.old) kids.now }
+        ensures means { IfOk result (λ n. Means self.new n (put_together shape (sets_at self.old own) (map (sets_at self.old) kids.now)).must) }
+        ensures keeps { Keeps self.old self.new }
+    {
+        match shape {
+            Shape::Own | Shape::Assigned | Shape::Evolved => Ok(own.must),
+            Shape::Branching => self.must_in_both(kids),
+            Shape::Sequence => self.must_in_one(kids),
+            Shape::AsKids
+            | Shape::Differential
+            | Shape::Quantified
+            | Shape::Modal
+            | Shape::Tested => self.none(),
+        }
+    }
+
+    /// The three sets of a node whose operator has this shape and these sets of its own, over kids with these sets.
+    pub fn together(
+        &mut self,
+        shape: Shape,
+        own: NodeSets,
+        kids: &[NodeSets],
+    ) -> Result<NodeSets, VarFault>
+        requires own { AreSets self.old own }
+        requires kids { All (AreSets self.old) kids.now }
+        ensures means { IfOk result (λ n. MeanSets self.new n (put_together shape (sets_at self.old own) (map (sets_at self.old) kids.now))) }
+        ensures keeps { Keeps self.old self.new }
+    {
+        let free = self.free_over(shape, own, kids)?;
+        let bound = self.bound_over(shape, own, kids)?;
+        let must = self.must_over(shape, own, kids)?;
+        Ok(NodeSets { free, bound, must })
+    }
+
+    /// The three sets of a node with this operator over kids with these sets.
+    pub fn node_sets(&mut self, op: &Op, kids: &[NodeSets]) -> Result<NodeSets, VarFault>
+        requires { All (AreSets self.old) kids.now }
+        ensures means { IfOk result (λ n. MeanSets self.new n (statics op.now (map (sets_at self.old) kids.now))) }
+        ensures keeps { Keeps self.old self.new }
+    {
+        let own = self.own_sets(op)?;
+        self.together(shape_of(op), own, kids)
+    }
+}
