@@ -1,5 +1,5 @@
 -- What a kernel's rows stand for, and what its type keeps of them.
-use Rattle.std.specs.Prelude.{◌≡◌, ◌≤◌, List, map, take, length, All}
+use Rattle.std.specs.Prelude.{◌≡◌, ◌≤◌, Bool, IsTrue, List, map, take, length, All}
 use Rattle.dlk_tree.specs.Trees.{Tree}
 use Rattle.dlk_calculus.specs.Provables.{Provable}
 use Rattle.dlk_calculus.specs.Limits.{most_rows}
@@ -35,13 +35,17 @@ pub record IsKnownRow (trees : List Tree) (row : Row) : Type 0 where
   pub goals : All (IsKnown trees) row.goals
   pub leaves : All (IsKnown trees) row.leaves
 
--- what the type keeps: the rows' ids are known, each row is given by a step from those before it and within the limits, and there aren't
--- too many
+-- the rows' ids are known, each row is given by a step from those before it and within the limits, and there aren't too many
 pub record AreSoundRows (trees : List Tree) (rows : List Row) : Type 0 where
   pub known : All (IsKnownRow trees) rows
   pub history : History (provables_at trees rows)
   pub limited : All IsLimited (provables_at trees rows)
   pub few : length rows ≤ most_rows
+
+-- what the type keeps: a tree has at most one id in the store, and the rows are sound
+pub record IsSound (unique : Bool) (trees : List Tree) (rows : List Row) : Type 0 where
+  pub unique : IsTrue unique
+  pub rows : AreSoundRows trees rows
 
 -- the rows are as before, and stand for what they stood for
 pub record SameRows {S : Type 0} (trees : S → List Tree) (old new : State S) : Type 0 where

@@ -13,8 +13,8 @@ use std::sync::ledger::Ledger;
 /// The number of a row, from 1 on.
 pub type Fact = u32;
 
-/// A store and the rows of a proof. Each row is a provable that the calculus derives: only `step` makes rows, and the
-/// type keeps that each is given by a step from those before it.
+/// A store, in which a tree has at most one id, and the rows of a proof. Each row is a provable that the calculus derives: only
+/// `step` makes rows, and the type keeps that each is given by a step from those before it.
 ///
 /// Contracts see a kernel as its store and its rows, and by `facts` as the list of what the rows stand for.
 #[derive(Drop)]
@@ -24,17 +24,17 @@ pub struct Kernel<S: Store> {
 }
 
 impl<S: Store> Model for Kernel<S> {
-    ghost use Rattle.dlk_kernel.specs.Kernel.{State, AreSoundRows};
+    ghost use Rattle.dlk_kernel.specs.Kernel.{State, IsSound};
 
     ghost Value = { State S };
 
     ghost view = { λ k. record { store = k.store; rows = k.rows.items } };
 
-    ghost invariant = { λ k. AreSoundRows (S.trees k.store) k.rows.items };
+    ghost invariant = { λ k. IsSound S.unique (S.trees k.store) k.rows.items };
 }
 
 impl<S: Store> Kernel<S> {
-    ghost use Rattle.std.specs.Prelude.{◌≡◌, ◌≤◌, [], length, map, take, All, IfOk, OnOk, IfErr, OnErr};
+    ghost use Rattle.std.specs.Prelude.{◌≡◌, ◌≤◌, [], length, map, take, All, IsTrue, IfOk, OnOk, IfErr, OnErr};
     ghost use Rattle.dlk_calculus.specs.Places.{At, IsPlace};
     ghost use Rattle.dlk_calculus.specs.Sequents.{IsSequent};
     ghost use Rattle.dlk_calculus.specs.Provables.{Provable, HasFormulas, HasLeaves};
@@ -46,8 +46,9 @@ impl<S: Store> Kernel<S> {
     ghost use Rattle.dlk_kernel.specs.Faults.{IsStepFault};
     ghost use Rattle.dlk_kernel.specs.Kernel.{facts, provable_at, IsKnownRow, SameRows, ExtendsRows};
 
-    /// A kernel without rows over a store.
+    /// A kernel without rows over a store, in which a tree has at most one id.
     pub fn new(alloc: Global, store: S) -> Self
+        requires { IsTrue S.unique }
         ensures rows { result.rows ≡ [] }
         ensures store { result.store ≡ store }
     {
@@ -65,6 +66,7 @@ impl<S: Store> Kernel<S> {
         ensures few { result ≤ most_rows }
         ensures derived { All Derives (facts S.trees self.now) }
         ensures limited { All IsLimited (facts S.trees self.now) }
+        ensures unique { IsTrue S.unique }
     {
         self.rows.len() as u32
     }
