@@ -48,7 +48,7 @@ module _ (old new : List Tree) (keeps : Keeps old new) where
   }
 
   pub still_sound : (unique : Bool) (rows : List Row) → IsSound unique old rows → IsSound unique new rows
-  still_sound unique rows h = record { unique = h.unique; rows = sound_kept rows h.rows }
+  still_sound unique rows h = record { is_unique = h.is_unique; are_sound = sound_kept rows h.are_sound }
 
   -- a row that a step gives comes last
   module _ (rows after : List Row) (row : Row) (sound : AreSoundRows old rows) (step : Step) (given : Gives (provables_at old rows) step (provable_at new row))
@@ -96,7 +96,7 @@ sound_take trees n rows h = record {
 }
 
 pub still_sound_take : (unique : Bool) (trees : List Tree) (n : ℕ) (rows : List Row) → IsSound unique trees rows → IsSound unique trees (take n rows)
-still_sound_take unique trees n rows h = record { unique = h.unique; rows = sound_take trees n rows h.rows }
+still_sound_take unique trees n rows h = record { is_unique = h.is_unique; are_sound = sound_take trees n rows h.are_sound }
 
 -- rows that stay, over a store that has grown
 pub same_rows : {S : Type 0} (trees : S → List Tree) (old new : State S) → Keeps (trees old.store) (trees new.store) →

@@ -44,8 +44,8 @@ pub record AreSoundRows (trees : List Tree) (rows : List Row) : Type 0 where
 
 -- what the type keeps: a tree has at most one id in the store, and the rows are sound
 pub record IsSound (unique : Bool) (trees : List Tree) (rows : List Row) : Type 0 where
-  pub unique : IsTrue unique
-  pub rows : AreSoundRows trees rows
+  pub is_unique : IsTrue unique
+  pub are_sound : AreSoundRows trees rows
 
 -- the rows are as before, and stand for what they stood for
 pub record SameRows {S : Type 0} (trees : S → List Tree) (old new : State S) : Type 0 where

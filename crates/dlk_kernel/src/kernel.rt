@@ -45,6 +45,7 @@ impl<S: Store> Kernel<S> {
     ghost use Rattle.dlk_rules.specs.Steps.{step_at, HasKnownIds};
     ghost use Rattle.dlk_kernel.specs.Faults.{IsStepFault};
     ghost use Rattle.dlk_kernel.specs.Kernel.{facts, provable_at, IsKnownRow, SameRows, ExtendsRows};
+    ghost use Rattle.dlk_kernel.specs.Looks.{LooksAtFew};
 
     /// A kernel without rows over a store, in which a tree has at most one id.
     pub fn new(alloc: Global, store: S) -> Self
@@ -118,7 +119,9 @@ impl<S: Store> Kernel<S> {
     }
 
     /// Takes a step: the row that it gives comes last, and its number is answered. The ids of the step are those of this
-    /// kernel's store. After a fault the rows are as they were.
+    /// kernel's store. After a fault the rows are as they were. A substitution takes at most two looks at nodes a pair, and beside them
+    /// `n * (1 + m)` for each formula of the fact's conclusion and goals, with `n` unlike subtrees of the formula and `m` of all
+    /// replacements.
     ///
     /// # Errors
     ///
@@ -159,6 +162,9 @@ impl<S: Store> Kernel<S> {
         // Want of memory aside, a refusal is the fault of the step.
         ensures fault { IfErr result (IsStepFault (Fault (facts S.trees self.old) (step_at (S.trees self.old.store) step.now))) }
         ensures err { OnErr result (SameRows S.trees self.old self.new) }
+
+        // A substitution looks at few nodes, whatever comes of it.
+        ensures looks { LooksAtFew (facts S.trees self.old) (step_at (S.trees self.old.store) step.now) steps.old steps.new }
 
         ensures grows { S.grows self.old.store self.new.store }
     {

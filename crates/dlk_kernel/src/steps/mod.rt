@@ -1,11 +1,12 @@
 //! The steps of the calculus, a file for each, and the row that one gives.
-ghost use Rattle.std.specs.Prelude.{All, IfOk, IfErr};
+ghost use Rattle.std.specs.Prelude.{All, IsTrue, IfOk, IfErr};
 ghost use Rattle.dlk_calculus.specs.Provables.{HasFormulas};
 ghost use Rattle.dlk_calculus.specs.Limited.{IsLimited};
 ghost use Rattle.dlk_calculus.specs.Steps.{Gives, IsWithin, Fault};
 ghost use Rattle.dlk_rules.specs.Steps.{step_at, HasKnownIds};
 ghost use Rattle.dlk_kernel.specs.Faults.{IsStepFault};
 ghost use Rattle.dlk_kernel.specs.Kernel.{provable_at, provables_at, IsKnownRow};
+ghost use Rattle.dlk_kernel.specs.Looks.{LooksAtFew};
 
 mod apply;
 mod axiom;
@@ -40,6 +41,7 @@ pub(crate) fn give<S: Store, L: Ledger>(
     ensures known { IfOk result (IsKnownRow (S.trees store.new)) }
     ensures fault { IfErr result (IsStepFault (Fault (provables_at (S.trees store.old) rows.now) (step_at (S.trees store.old) step.now))) }
     ensures grows { S.grows store.old store.new }
+    ensures looks { IsTrue S.unique → LooksAtFew (provables_at (S.trees store.old) rows.now) (step_at (S.trees store.old) step.now) steps.old steps.new }
 {
     match step {
         Step::Start(s) => start::start(alloc, store, s, steps),

@@ -4,6 +4,7 @@ use Rattle.dlk.specs.Answers.{Answers, no_form}
 use Rattle.dlk_answers.specs.Shown.{texts_of, reply_of}
 use Rattle.dlk_answers.proofs.CarriedOut.{carried_out}
 use Rattle.dlk.proofs.Answered.{answered, have_inputs, words_known, none_written, asks_words}
+use Rattle.dlk.proofs.Looked.{none_looked, command_looked}
 use Rattle.dlk.proofs.run.work.Goals as goal
 
 pub returns-in_default-clause-ok : goal.returns-in_default-clause-ok
@@ -24,14 +25,14 @@ pub returns-clause-words : goal.returns-clause-words
 returns-clause-words g c =
     let words = map string_bytes c.args.words.now in
     let reply = c.in_ok-respond.field-0 in
-    let carried = carried_out c.in-Some.command words (texts_of c.deref.result.now) (reply_of reply) c.in_ok-respond.ensures in
+    let carried = carried_out c.in-Some.command words (texts_of c.deref.result.now) (reply_of reply) c.in_ok-respond.ensures.reply in
     words_known words c.in-Some.command (code_of reply.status) (search rules) carried.status
 
 pub returns-clause-refusal : goal.returns-clause-refusal
 returns-clause-refusal g c = λ two.
     let words = map string_bytes c.args.words.now in
     let reply = c.in_ok-respond.field-0 in
-    let carried = carried_out c.in-Some.command words (texts_of c.deref.result.now) (reply_of reply) c.in_ok-respond.ensures in
+    let carried = carried_out c.in-Some.command words (texts_of c.deref.result.now) (reply_of reply) c.in_ok-respond.ensures.reply in
     none_written reply.written (carried.refusal two)
 
 pub returns-clause-asks : goal.returns-clause-asks

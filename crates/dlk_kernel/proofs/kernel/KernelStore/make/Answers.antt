@@ -10,5 +10,5 @@ pub returns-clause-grows : goal.returns-clause-grows
 returns-clause-grows g c =
     rw (← c.self.view_is) (
       c.make.ensures.grows,
-      same_rows g.S.Store.trees _ _ (g.met.S.Store.grows_keeps c.self.inside.store c.make.new.self c.make.ensures.grows) c.self.invariant.rows refl,
+      same_rows g.S.Store.trees _ _ (g.met.S.Store.grows_keeps c.self.inside.store c.make.new.self c.make.ensures.grows) c.self.invariant.are_sound refl,
     )
