@@ -1,4 +1,4 @@
-use Rattle.std.proofs.Common.{sym, subst, map, string_bytes, rules}
+use Rattle.std.proofs.Common.{sym, subst, map, string_bytes, refl, rules}
 use Rattle.dlk_answers.specs.Replies.{Reply, code_of}
 use Rattle.dlk.specs.Answers.{Answers, no_form}
 use Rattle.dlk_answers.specs.Shown.{texts_of, reply_of}
@@ -39,3 +39,11 @@ pub returns-clause-asks : goal.returns-clause-asks
 returns-clause-asks g c =
     asks_words g.D.Desk.tells (map string_bytes c.args.words.now) (map string_bytes c.inputs.result.now) c.in-Some.command c.form.result (g.D.Desk.outside c.args.desk.now) (g.D.Desk.outside c.read_inputs.new.desk)
     (search rules) c.inputs.ensures.names c.form.ensures c.in_ok-inputs.ensures.asks
+
+pub returns-in_default-clause-looks : goal.returns-in_default-clause-looks
+returns-in_default-clause-looks g c = λ told. none_looked (map string_bytes c.args.words.now) (g.D.Desk.outside c.args.desk.now).files _ _ refl
+
+pub returns-clause-looks : goal.returns-clause-looks
+returns-clause-looks g c = λ told.
+    command_looked (map string_bytes c.args.words.now) c.in-Some.command (g.D.Desk.outside c.args.desk.now).files (texts_of c.in_ok-inputs.inputs.items) _ _
+    (search rules) (search rules) (search rules) (search rules)
