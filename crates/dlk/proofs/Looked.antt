@@ -28,7 +28,7 @@ none_or_some : {A : Type 0} {x : A} → None ≡ Some x → ⊥
 none_or_some e = cc
 
 -- the first letter of why something is refused
-letter : Reply → ℕ
+abbrev letter : Reply → ℕ
 letter reply = get_or reply.printed 9 0
 
 -- an input that is too long is no result

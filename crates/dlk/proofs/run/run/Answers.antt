@@ -73,10 +73,13 @@ returns-in-Ok-give-clause-looks g c = λ t.
     (given_looked words old new _ _ (c.work.ensures.looks t) reply (c.in-Ok.ensures.ok t) (λ two. none_written c.in-Ok.reply.written (c.in-Ok.ensures.refusal two)) printed)
 
 pub returns-clause-looks : goal.returns-clause-looks
-returns-clause-looks g c = λ t. ungiven_looked (map string_bytes c.args.words.now) _ _ _ _ (c.work.ensures.looks t) 5 (λ e. absurd (omega (arith, e)))
+returns-clause-looks g c = λ t.
+    ungiven_looked (map string_bytes c.args.words.now) (g.D.Desk.outside c.args.desk.now) (g.D.Desk.outside c.give.new.desk) _ _ (c.work.ensures.looks t) 5 (λ e. absurd (omega (arith, e)))
 
 pub returns-in-Err-Memory-clause-looks : goal.returns-in-Err-Memory-clause-looks
-returns-in-Err-Memory-clause-looks g c = λ t. ungiven_looked (map string_bytes c.args.words.now) _ _ _ _ (c.work.ensures.looks t) 6 (λ e. absurd (omega (arith, e)))
+returns-in-Err-Memory-clause-looks g c = λ t.
+    ungiven_looked (map string_bytes c.args.words.now) (g.D.Desk.outside c.args.desk.now) (g.D.Desk.outside c.work.new.desk) _ _ (c.work.ensures.looks t) 6 (λ e. absurd (omega (arith, e)))
 
 pub returns-in-Err-Fault-clause-looks : goal.returns-in-Err-Fault-clause-looks
-returns-in-Err-Fault-clause-looks g c = λ t. ungiven_looked (map string_bytes c.args.words.now) _ _ _ _ (c.work.ensures.looks t) 4 (λ e. absurd (omega (arith, e)))
+returns-in-Err-Fault-clause-looks g c = λ t.
+    ungiven_looked (map string_bytes c.args.words.now) (g.D.Desk.outside c.args.desk.now) (g.D.Desk.outside c.work.new.desk) _ _ (c.work.ensures.looks t) 4 (λ e. absurd (omega (arith, e)))

@@ -46,4 +46,9 @@ returns-in_default-clause-looks g c = λ told. none_looked (map string_bytes c.a
 pub returns-clause-looks : goal.returns-clause-looks
 returns-clause-looks g c = λ told.
     command_looked (map string_bytes c.args.words.now) c.in-Some.command (g.D.Desk.outside c.args.desk.now).files (texts_of c.in_ok-inputs.inputs.items) _ _
-    (search rules) (search rules) (search rules) (search rules)
+    (search rules) (search rules) (search rules) (rw c.deref.ensures.value at c.respond.ensures.looks)
+
+pub returns-in_err-respond-clause-looks : goal.returns-in_err-respond-clause-looks
+returns-in_err-respond-clause-looks g c = λ told.
+    command_looked (map string_bytes c.args.words.now) c.in-Some.command (g.D.Desk.outside c.args.desk.now).files (texts_of c.in_ok-inputs.inputs.items) _ _
+    (search rules) (search rules) (search rules) (rw c.deref.ensures.value at c.respond.ensures.looks)
