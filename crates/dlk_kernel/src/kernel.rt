@@ -1,3 +1,4 @@
+use crate::axioms::NamedAxioms;
 use crate::fault::StepFault;
 use crate::row::Row;
 use crate::steps::give;
@@ -21,6 +22,7 @@ pub type Fact = u32;
 pub struct Kernel<S: Store> {
     store: S,
     rows: Vec<Row>,
+    named: NamedAxioms,
 }
 
 impl<S: Store> Model for Kernel<S> {
@@ -30,7 +32,7 @@ impl<S: Store> Model for Kernel<S> {
 
     ghost view = { λ k. record { store = k.store; rows = k.rows.items } };
 
-    ghost invariant = { λ k. IsSound S.unique (S.trees k.store) k.rows.items };
+    ghost invariant = { λ k. IsSound S.unique (S.trees k.store) k.rows.items k.named };
 }
 
 impl<S: Store> Kernel<S> {
@@ -56,6 +58,7 @@ impl<S: Store> Kernel<S> {
         Kernel {
             store,
             rows: Vec::new(alloc),
+            named: NamedAxioms::new(alloc),
         }
     }
 
@@ -168,7 +171,14 @@ impl<S: Store> Kernel<S> {
 
         ensures grows { S.grows self.old.store self.new.store }
     {
-        let row = give(alloc, &mut self.store, self.rows.as_slice(), step, steps)?;
+        let row = give(
+            alloc,
+            &mut self.store,
+            &mut self.named,
+            self.rows.as_slice(),
+            step,
+            steps,
+        )?;
         if self.rows.len() >= MOST_ROWS {
             return Err(StepFault::Refused(Reason::LinesFull));
         }

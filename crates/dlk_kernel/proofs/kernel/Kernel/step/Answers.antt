@@ -11,15 +11,15 @@ give-requires-clause-formulas g c = rw c.as_slice.ensures.value (all_formulas _ 
 
 -- a refused step may have made nodes
 pub invariant_of-self : goal.invariant_of-self
-invariant_of-self g c = still_sound _ _ (g.met.S.Store.grows_keeps c.self.inside.store c.give.new.store c.give.ensures.grows) _ _ c.self.invariant
+invariant_of-self g c = still_sound _ _ (g.met.S.Store.grows_keeps c.self.inside.store c.give.new.store c.give.ensures.grows) _ _ _ _ c.self.invariant c.give.ensures.named
 
 pub invariant_of-self-then-len-ge-MOST_ROWS : goal.invariant_of-self-then-len-ge-MOST_ROWS
 invariant_of-self-then-len-ge-MOST_ROWS g c =
-    still_sound _ _ (g.met.S.Store.grows_keeps c.self.inside.store c.give.new.store c.give.ensures.grows) _ _ c.self.invariant
+    still_sound _ _ (g.met.S.Store.grows_keeps c.self.inside.store c.give.new.store c.give.ensures.grows) _ _ _ _ c.self.invariant c.give.ensures.named
 
 pub invariant_of-self-in_err-push : goal.invariant_of-self-in_err-push
 invariant_of-self-in_err-push g c =
-    rw c.in_err-push.ensures.items (still_sound _ _ (g.met.S.Store.grows_keeps c.self.inside.store c.give.new.store c.give.ensures.grows) _ _ c.self.invariant)
+    rw c.in_err-push.ensures.items (still_sound _ _ (g.met.S.Store.grows_keeps c.self.inside.store c.give.new.store c.give.ensures.grows) _ _ _ _ c.self.invariant c.give.ensures.named)
 
 pub invariant_of-self-2 : goal.invariant_of-self-2
 invariant_of-self-2 g c =
@@ -29,6 +29,7 @@ invariant_of-self-2 g c =
           sound_more _ _ (g.met.S.Store.grows_keeps c.self.inside.store c.give.new.store c.give.ensures.grows) _ _ c.in_ok-row.row c.self.invariant.are_sound _
           (rw c.as_slice.ensures.value at c.in_ok-row.ensures.given) c.in_ok-row.ensures.within (omega (arith, c.if-len-ge-MOST_ROWS.false, c.len.ensures))
           c.in_ok-push.ensures.items c.in_ok-row.ensures.known;
+      are_formulas = c.give.ensures.named;
     }
 
 pub returns-in_err-row-clause-err : goal.returns-in_err-row-clause-err
@@ -64,3 +65,6 @@ pub returns-clause-kept : goal.returns-clause-kept
 returns-clause-kept g c =
     rw (← c.self.view_is) (extends_rows g.S.Store.trees _ _ (c.in_ok-row.row ∷ [])
     (g.met.S.Store.grows_keeps c.self.inside.store c.give.new.store c.give.ensures.grows) c.self.invariant.are_sound c.in_ok-push.ensures.items)
+
+pub give-requires-clause-named : goal.give-requires-clause-named
+give-requires-clause-named g c = c.self.invariant.are_formulas
