@@ -187,7 +187,10 @@ fn refuses_a_result(rt: HostRuntime) -> Result<(), Fail> {
         pairs.extend_from_slice(b"+._0")?;
     }
     let mut desk = desk_of(alloc, &file, &pairs, 100, &[])?;
-    assert_eq!(rt; status_of(alloc, &["subst", "model", "term"], &mut desk)?, 2);
+    assert_eq!(rt;
+        status_of(alloc, &["subst", "model", "term"], &mut desk)?,
+        2
+    );
     assert_eq!(rt; desk.printed(), b"refused: result-too-big\n".as_slice());
     Ok(())
 }
