@@ -1,3 +1,5 @@
 pub mod Kernel
 pub mod Faults
 pub mod Limits
+pub mod Named
+pub mod Looks

@@ -1,0 +1,7 @@
+//! Uniform substitution with a table of results, over any store.
+#![tactic(auto)]
+
+mod memo;
+
+pub use memo::apply;
+pub use dlk_sequent::{ApplyFault, Pair, Subst, SubstFault, Why};
