@@ -13,6 +13,9 @@ use std::test::Fail;
 
 const LEVELS: u32 = 1_000_000;
 
+/// What is true of a variable behind signs, of what `told` asks.
+const TRUTHS: [bool; 9] = [true, false, false, true, false, false, false, false, true];
+
 /// `true & !true`.
 fn conjunction(alloc: Global, store: &mut SharedStore) -> Result<Id, StoreFault>
     ensures known { IfOk result (IsId (⟦<SharedStore as Store>⟧.trees store.new)) }
@@ -64,25 +67,6 @@ fn behind_signs<S: Store>(alloc: Global, store: &mut S, name: Name) -> Result<Id
     Ok(id)
 }
 
-/// The size and the depth of a tree, how many variables are free in it, how many symbols occur in it, and how many kids its root has.
-fn counted<S: Store, L: Ledger>(
-    alloc: Global,
-    store: &S,
-    id: Id,
-    blank: Blank,
-) -> Result<(u32, u32, [usize; 3]), StoreFault>
-    requires known { IsId (S.trees store.now) id }
-    requires name { blank.name ≡ L.name }
-    requires parts { blank.parts ≡ L.parts }
-    requires some { 0 < blank.parts }
-{
-    let mut steps = Steps::<L>::new(blank);
-    let free = store.list(alloc, id, Which::Free)?.vars.as_slice().len();
-    let symbols = store.symbols(alloc, id)?.len();
-    let kids = store.look(id, &mut steps).kids.len();
-    Ok((store.size(id), store.depth(id), [free, symbols, kids]))
-}
-
 /// What a store says of a tree, a variable and a symbol by a truth value.
 fn told<S: Store>(store: &S, id: Id, x: &Var, s: &Sym) -> [bool; 9]
     requires { IsId (S.trees store.now) id }
@@ -98,6 +82,52 @@ fn told<S: Store>(store: &S, id: Id, x: &Var, s: &Sym) -> [bool; 9]
         store.has_hole(id),
         store.same(id, id),
     ]
+}
+
+/// The size and the depth of a tree, how many variables are free in it, and how many symbols occur in it.
+fn counted<S: Store>(alloc: Global, store: &S, id: Id) -> Result<[usize; 4], StoreFault>
+    requires { IsId (S.trees store.now) id }
+{
+    let free = store.list(alloc, id, Which::Free)?;
+    let symbols = store.symbols(alloc, id)?;
+    Ok([
+        store.size(id) as usize,
+        store.depth(id) as usize,
+        free.vars.as_slice().len(),
+        symbols.len(),
+    ])
+}
+
+/// How many kids a root has.
+fn looked<S: Store, L: Ledger>(store: &S, id: Id, blank: Blank) -> usize
+    requires known { IsId (S.trees store.now) id }
+    requires name { blank.name ≡ L.name }
+    requires parts { blank.parts ≡ L.parts }
+    requires some { 0 < blank.parts }
+{
+    let mut steps = Steps::<L>::new(blank);
+    store.look(id, &mut steps).kids.len()
+}
+
+/// What a store says of a variable behind many signs: the counts, how many kids the root has, and of the truth values those that are wanted.
+fn asked<S: Store>(
+    alloc: Global,
+    store: &mut S,
+    x: &Var,
+    f: &Sym,
+) -> Result<[usize; 6], StoreFault> {
+    let id = behind_signs(alloc, store, x.name.clone()?)?;
+    let [size, depth, free, symbols] = counted(alloc, store, id)?;
+    let kids = looked::<S, Brand>(store, id, Blank::new(1));
+    let truths = told(store, id, x, f);
+    Ok([
+        size,
+        depth,
+        free,
+        symbols,
+        kids,
+        usize::from(truths == TRUTHS),
+    ])
 }
 
 /// A nullary function.
@@ -117,14 +147,7 @@ fn a_million_levels(rt: HostRuntime) -> Result<(), Fail> {
     let x = Var::plain(Name::new(alloc, b"x")?);
     let f = constant(Name::new(alloc, b"f")?);
     let mut store = SharedStore::new(alloc);
-    let id = behind_signs(alloc, &mut store, x.name.clone()?)?;
-    assert_eq!(rt;
-        counted::<SharedStore, Brand>(alloc, &store, id, Blank::new(1))?,
-        (LEVELS + 1, LEVELS + 1, [1, 0, 1])
-    );
-    assert_eq!(rt;
-        told(&store, id, &x, &f),
-        [true, false, false, true, false, false, false, false, true]
-    );
+    let told = asked(alloc, &mut store, &x, &f)?;
+    assert_eq!(rt; told, [1_000_001, 1_000_001, 1, 0, 1, 1]);
     Ok(())
 }

@@ -9,7 +9,7 @@ use dlk_store::{Id, StoreFault, Which};
 
 /// Each group of operators, with symbols that have a taboo, systems with constants, loops, quantifiers, dots and the hole.
 const TEXTS: [&str; 24] = [
-    "x+2.5*-y'",
+    "-x+2.5*y'",
     "(x*y')'/f(x,y)^2",
     "f(|y|)-f(||)",
     "._0+g(._1,._7)",
@@ -23,14 +23,14 @@ const TEXTS: [&str; 24] = [
     "x:=1;y:=x;",
     "x:=1;++y:=x;++x:=2;?y>x;",
     "{{x:=1;++y:=2;}{x:=y;++?x>0;}}*",
-    "a;?x>0;{a{|y|};}*",
+    "a;?x>0;{b;}*",
     "{x'=y,y'=x&x>=0}",
     "{x'=f(||),c&q(||)}",
     "{c,d{|y|},z'=2}",
     "[{x'=y,c{|x|}&true}]p(|y|)",
     "[a;b;]<{c,x'=1}>(x>=y)'",
     "[{x:=1;x':=2;}*]x'>=x",
-    "[?x=y;y:=z;]\\forall y' true",
+    "[?x=y;y:=z;]\\forall y true",
     "\\forall x [{y'=x}]x*._0>=y",
     "[y:=1;]C{_}&p(._0)",
 ];
