@@ -3,7 +3,8 @@ ghost use Rattle.std.specs.Prelude.{IfOk};
 ghost use Rattle.dlk_store.specs.Stores.{IsId};
 
 use super::*;
-use dlk_parse::TextFault;
+use dlk_grammar::Dots;
+use dlk_parse::{TextFault, read_expression};
 use dlk_shared::SharedStore;
 use dlk_store::{Id, StoreFault, Which};
 
