@@ -5,6 +5,7 @@ mod listing;
 mod models;
 mod printing;
 mod rules;
+mod stores;
 mod substituting;
 mod terms;
 
