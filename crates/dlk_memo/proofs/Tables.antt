@@ -14,8 +14,9 @@ use Rattle.dlk_store.proofs.Kids.{Keeps-trans}
 use Rattle.dlk_store.proofs.Made.{Made, next_same}
 use Rattle.dlk_subst.specs.Results.{IsResult}
 use Rattle.dlk_subst.proofs.Results.{holds_tree}
-use Rattle.dlk_memo.specs.Looks.{subtrees, subtrees_of}
-use Rattle.dlk_memo.specs.Tables.{Table, same_id, found, HasEachOnce, Puts, Opened, Unopened, IsRight, IsOpenAbove, OpensNone, Spends}
+use Rattle.dlk_subst.specs.Counts.{subtrees, subtrees_of}
+use Rattle.dlk_subst.specs.Looked.{same_id}
+use Rattle.dlk_memo.specs.Tables.{Table, found, HasEachOnce, Puts, Opened, Unopened, IsRight, IsOpenAbove, OpensNone, Spends}
 
 -- a new entry makes the table one longer
 pub one_more : (n m : ℕ) (old o : Option (Option Id)) → n ≡ m + cond (is_some old) 0 1 → old ≡ o → o ≡ None → n ≡ m + 1

@@ -1,18 +1,16 @@
 -- Tables of results by ids, and what they have while a tree is walked.
-use Rattle.std.specs.Prelude.{◌≡◌, ℕ, ◌+◌, ◌*◌, ◌<◌, ◌≤◌, ◌⊎◌, ◌==◌, Bool, cond, IsTrue, IsSome, List, length, Option, None, Some, Contains}
+use Rattle.std.specs.Prelude.{◌≡◌, ℕ, ◌+◌, ◌*◌, ◌<◌, ◌≤◌, ◌⊎◌, Bool, cond, IsTrue, IsSome, List, length, Option, None, Some, Contains}
 use Rattle.std.specs.List.{IsDistinct}
 use Rattle.std.specs.Map.{lookup, keys_of}
 use Rattle.dlk_tree.specs.Trees.{Tree, size}
 use Rattle.dlk_store.specs.declared.Id.{Id}
 use Rattle.dlk_store.specs.Stores.{IsId, tree}
-use Rattle.dlk_memo.specs.Looks.{subtrees}
+use Rattle.dlk_subst.specs.Counts.{subtrees}
+use Rattle.dlk_subst.specs.Looked.{same_id}
 
 -- an id with its result, or with none as yet
 abbrev pub Table : Type 0
 Table = List (Id × Option Id)
-
-abbrev pub same_id : Id → Id → Bool
-same_id a b = a.0 == b.0
 
 -- what the table has for an id
 abbrev pub found : Table → Id → Option (Option Id)

@@ -1,9 +1,12 @@
 //! Uniform substitution with a table of results, over any store.
 #![tactic(auto)]
 
+mod filling;
 mod memo;
+mod plugging;
 mod results;
 mod rule;
+mod substituting;
 mod walk;
 
 pub use memo::apply;
