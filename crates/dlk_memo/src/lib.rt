@@ -9,5 +9,5 @@ mod rule;
 mod substituting;
 mod walk;
 
-pub use memo::apply;
 pub use dlk_sequent::{ApplyFault, Pair, Subst, SubstFault, Why};
+pub use memo::apply;

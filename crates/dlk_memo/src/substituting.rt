@@ -113,15 +113,7 @@ impl Rule for Substituting<'_> {
         steps: &mut Steps<L>,
     ) -> Result<Id, ApplyFault> {
         if let Op::System(items) = op {
-            return splice_at(
-                alloc,
-                store,
-                self.pairs,
-                items.items(),
-                old,
-                new,
-                steps,
-            );
+            return splice_at(alloc, store, self.pairs, items.items(), old, new, steps);
         }
         match effect_at(self.pairs, op) {
             Effect::Gives(by) => Ok(by),

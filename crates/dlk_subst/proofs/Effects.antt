@@ -110,7 +110,7 @@ module _ (trees : List Tree) (pairs : List Pair) (op : Op) (old new : Forest) (e
 
 -- ---- what an effect says of the operator
 
-abbrev effect_id : Effect → Option Id
+abbrev pub effect_id : Effect → Option Id
 effect_id (Effect'.Gives id) = Some id
 effect_id (Effect'.Plugs id) = Some id
 effect_id (Effect'.Fills id) = Some id
