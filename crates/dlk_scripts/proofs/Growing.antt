@@ -1,0 +1,77 @@
+-- What grows with a part has that part at its end, and stays within the limits.
+use Rattle.std.proofs.Common.{◌≡◌, ℕ, ◌+◌, ◌≤◌, nat_lt, nat_le, Bool, true, false, List, [], ◌∷◌, ◌++◌, Option, Some, None, refl, sym, append_assoc, arith}
+use Rattle.std.proofs.lemmas.Bool.{leb-true, ltb-true}
+use Rattle.std.proofs.lemmas.List.{append-nil}
+use Rattle.dlk_scripts.specs.declared.part.Part.{Part}
+use Rattle.dlk_scripts.specs.declared.part.PartKind.{PartKind}
+use Rattle.dlk_scripts.specs.declared.part.PartKind.TheVariants as kind
+use Rattle.dlk_scripts.specs.Parts.{part}
+use Rattle.dlk_scripts.specs.Scripts.{Word, Place, Right, Left, Below, Argument, At, AnyLeft, AnyRight, Word', Quoted, Arguments, OneArgument, ThenArgument, Script, OneSequence, OrSequence, Sequence, OneRepeat, ThenRepeat, ThenBranch, Scripts, OneScript, ThenScript, Repeat, Once, Times, Primary, Group, Atom, Call, place_parts, argument_parts, arguments_parts, script_parts, sequence_parts, scripts_parts, repeat_parts, primary_parts, most_repeats, repeats, PlaceFits, ArgumentFits, ArgumentsFit, ScriptFits, SequenceFits, ScriptsFit, RepeatFits, PrimaryFits}
+use Rattle.dlk_scripts.specs.Table.{when}
+use Rattle.dlk_scripts.proofs.Grown.{Bars, NoBar, Bar, Semis, NoSemi, Semi, Commas, NoComma, Comma, Stack, Top, InGroup, InFork, ArgumentCommas, NoArgument, Before, Callee, callee, Piece, Begun, Signed, InPlace, Dotted, Whole, Grown, Wanting, Come, Stars, Branched, InCall, sequence_of, script_of, scripts_of, arguments_of, grow_comma, grow_close, grow_joins, grow_call, grow_come, grow_wants, grow_next, grow_wanting, grow_stars, grow_argued, grow_argument, grow_signed, grow_place, grow_dotted, grow_in_call, grow, bars_parts, semis_parts, commas_parts, stack_parts, argument_commas_parts, callee_parts, piece_parts, grown_parts, BarsFit, SemisFit, CommasFit, StackFits, ArgumentCommasFit, CalleeFits, PieceFits, GrownFits}
+
+sequence_parts_of : (Q : Semis) (r : Repeat) → sequence_parts (sequence_of Q r) ≡ semis_parts Q ++ repeat_parts r
+sequence_parts_of NoSemi r = refl
+sequence_parts_of (Semi q at) r = sym (append_assoc (sequence_parts q) (part at kind.Semicolon ∷ []) (repeat_parts r))
+
+script_parts_of : (A : Bars) (q : Sequence) → script_parts (script_of A q) ≡ bars_parts A ++ sequence_parts q
+script_parts_of NoBar q = refl
+script_parts_of (Bar t at) q = sym (append_assoc (script_parts t) (part at kind.Bar ∷ []) (sequence_parts q))
+
+scripts_parts_of : (c : Commas) (t : Script) → scripts_parts (scripts_of c t) ≡ commas_parts c ++ script_parts t
+scripts_parts_of NoComma t = refl
+scripts_parts_of (Comma l at) t = sym (append_assoc (scripts_parts l) (part at kind.Comma ∷ []) (script_parts t))
+
+arguments_parts_of : (B : ArgumentCommas) (a : Argument) → arguments_parts (arguments_of B a) ≡ argument_commas_parts B ++ argument_parts a
+arguments_parts_of NoArgument a = refl
+arguments_parts_of (Before l at) a = sym (append_assoc (arguments_parts l) (part at kind.Comma ∷ []) (argument_parts a))
+
+sequence_fits : (Q : Semis) (r : Repeat) → SemisFit Q → RepeatFits r → SequenceFits (sequence_of Q r)
+sequence_fits NoSemi r u v = v
+sequence_fits (Semi q at) r u v = (u, v)
+
+script_fits : (A : Bars) (q : Sequence) → BarsFit A → SequenceFits q → ScriptFits (script_of A q)
+script_fits NoBar q u v = v
+script_fits (Bar t at) q u v = (u, v)
+
+scripts_fit : (c : Commas) (t : Script) → CommasFit c → ScriptFits t → ScriptsFit (scripts_of c t)
+scripts_fit NoComma t u v = v
+scripts_fit (Comma l at) t u v = (u, v)
+
+arguments_fit : (B : ArgumentCommas) (a : Argument) → ArgumentCommasFit B → ArgumentFits a → ArgumentsFit (arguments_of B a)
+arguments_fit NoArgument a u v = v
+arguments_fit (Before l at) a u v = (u, v)
+
+-- where something has grown, it has these parts, and is within the limits where F holds
+abbrev pub Kept : List Part → Type 0 → Option Grown → Type 0
+Kept s F None = Unit {0}
+Kept s F (Some y) = (grown_parts y ≡ s) × (F → GrownFits y)
+
+kept_when : (b : Bool) (s : List Part) (F : Type 0) (o : Option Grown) → (b ≡ true → Kept s F o) → Kept s F (when b o)
+kept_when true s F o h = h refl
+kept_when false s F o h = tt
+
+kept_comma : (S : Stack) (t : Script) (at : ℕ) → Kept (stack_parts S ++ script_parts t ++ part at kind.Comma ∷ []) (StackFits S × ScriptFits t) (grow_comma S t at)
+kept_comma Top t at = tt
+kept_comma (InGroup S A Q o) t at = tt
+kept_comma (InFork S A q s f c) t at = (simp (append_assoc, append-nil, scripts_parts_of c t) refl, λ w. ((w.0.0, w.0.1, w.0.2, scripts_fit c t w.0.3 w.1), tt, tt))
+
+kept_close : (S : Stack) (t : Script) (at : ℕ) → Kept (stack_parts S ++ script_parts t ++ part at kind.Close ∷ []) (StackFits S × ScriptFits t) (grow_close S t at)
+kept_close Top t at = tt
+kept_close (InGroup S A Q o) t at = (simp (append_assoc, append-nil) refl, λ w. (w.0.0, w.0.1, w.0.2, w.1))
+kept_close (InFork S A q s f c) t at =
+    (simp (append_assoc, append-nil, scripts_parts_of c t) refl, λ w. (w.0.0, w.0.1, (w.0.2, scripts_fit c t w.0.3 w.1)))
+
+kept_weak : (s z : List Part) (F G : Type 0) (o : Option Grown) → s ≡ z → (G → F) → Kept s F o → Kept z G o
+kept_weak s z F G None e f h = tt
+kept_weak s z F G (Some y) e f h = (rw (← e) h.0, λ w. h.1 (f w))
+
+kept_joins : (S : Stack) (A : Bars) (q : Sequence) (at : ℕ) (k : PartKind) →
+    Kept (stack_parts S ++ bars_parts A ++ sequence_parts q ++ part at k ∷ []) (StackFits S × BarsFit A × SequenceFits q) (grow_joins S A q at k)
+kept_joins S A q at kind.Semicolon = (simp append_assoc refl, λ w. w)
+kept_joins S A q at kind.Bar = (simp (append_assoc, append-nil, script_parts_of A q) refl, λ w. (w.0, script_fits A q w.1 w.2, tt))
+kept_joins S A q at kind.Comma = kept_weak _ _ _ _ (grow_comma S (script_of A q) at) (simp (append_assoc, script_parts_of A q) refl)
+    (λ w. (w.0, script_fits A q w.1 w.2)) (kept_comma S (script_of A q) at)
+kept_joins S A q at kind.Close = kept_weak _ _ _ _ (grow_close S (script_of A q) at) (simp (append_assoc, script_parts_of A q) refl)
+    (λ w. (w.0, script_fits A q w.1 w.2)) (kept_close S (script_of A q) at)
+kept_joins S A q at _ = tt
