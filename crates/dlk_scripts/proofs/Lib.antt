@@ -3,3 +3,8 @@ pub mod Grown
 pub mod Growing
 pub mod Agreeing
 pub mod Running
+pub mod Reached
+pub mod Stepped
+pub mod Reading
+pub mod Asking
+pub mod Completed
