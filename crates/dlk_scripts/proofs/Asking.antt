@@ -18,7 +18,7 @@ use Rattle.dlk_scripts.specs.declared.state.State.{State}
 use Rattle.dlk_scripts.specs.Parts.{part, is_no_quote, most_digits, Spells, slash_first, holds_end, IsComment, comment, Spelled}
 use Rattle.dlk_scripts.specs.Parts as spell
 use Rattle.dlk_scripts.specs.Table.{when, top, leads, changed, wants_name, wants_number, wants_first, wants_argument, wants_fork}
-use Rattle.dlk_scripts.specs.Steps.{turned, take, moves, begins, digits_go_on, start, ends_name, ends_number, then_starts, step_in, step, settle_in, settle, first_state}
+use Rattle.dlk_scripts.specs.Steps.{turned, take, moves, begins, grows, digits_go_on, start, ends_name, ends_number, then_starts, step_in, step, settle_in, settle, first_state}
 use Rattle.dlk_scripts.proofs.Grown.{Grown, grow}
 use Rattle.dlk_scripts.proofs.Agreeing.{opens_of, stack_of, mode_of, Agree, agrees}
 use Rattle.dlk_scripts.proofs.Running.{seed, run, run_append, or_none}
@@ -147,11 +147,16 @@ after_number y z e =
     let w = took_turn y (kind.Number (value y.buffer)) y.begin z e in
     ap wants_number (sym w.mode_is) ∙ no_number_at _ w.there (number_turn y.mode (top y.opens) (value y.buffer)) w.leads_there
 
+number_stops : (y z : State) (n b : ℕ) → ends_number y ≡ Some z → is_digit b ≡ false → step_in Number y n b ≡ start z n b
+number_stops y z n b e h =
+    ap (λ (v : Bool). if v then when (digits_go_on y.mode (y.buffer ++ b ∷ [])) (Some (grows y b)) else then_starts (ends_number y) n b) h
+    ∙ ap (λ (o : Option State). then_starts o n b) e
+
 -- a byte behind whole parts, where it goes on with no name and no number
 pub clear : (w : Within) (y z : State) (n b : ℕ) → settle_in w y ≡ Some z → is_name_byte b ≡ false → step_in w y n b ≡ start z n b
 clear Between y z n b e h = ap (λ (u : State). start u n b) (same_some y z e)
 clear Name y z n b e h = rw (h, e) refl
-clear Number y z n b e h = rw (no_name_no_digit b h, e) refl
+clear Number y z n b e h = number_stops y z n b e (no_name_no_digit b h)
 clear Slash y z n b e h = absurd (cc)
 clear Comment y z n b e h = absurd (cc)
 clear CommentStar y z n b e h = absurd (cc)
@@ -162,7 +167,7 @@ clear Quote y z n b e h = absurd (cc)
 pub begins_name : (w : Within) (y z : State) (n b : ℕ) → settle_in w y ≡ Some z → is_letter b ≡ true → wants_name z.mode ≡ true → step_in w y n b ≡ start z n b
 begins_name Between y z n b e l h = ap (λ (u : State). start u n b) (same_some y z e)
 begins_name Name y z n b e l h = absurd (both_ways (wants_name z.mode) (after_name y z e).0 h)
-begins_name Number y z n b e l h = rw ((letter_is b l).2, e) refl
+begins_name Number y z n b e l h = number_stops y z n b e (letter_is b l).2
 begins_name Slash y z n b e l h = absurd (cc)
 begins_name Comment y z n b e l h = absurd (cc)
 begins_name CommentStar y z n b e l h = absurd (cc)

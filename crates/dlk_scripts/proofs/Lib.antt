@@ -8,3 +8,7 @@ pub mod Stepped
 pub mod Reading
 pub mod Asking
 pub mod Completed
+pub mod Living
+pub mod Answered
+pub mod Stopping
+pub mod Parting

@@ -58,7 +58,7 @@ starts_then : (bytes : List ℕ) (z : State) (b : ℕ) (o : Option State) → ((
 starts_then bytes z b None f e = absurd (cc)
 starts_then bytes z b (Some y) f e = started bytes y z b (f y refl) e
 
-word_more : (s : List ℕ) (b : ℕ) → is_word s ≡ true → is_name_byte b ≡ true → is_word (s ++ b ∷ []) ≡ true
+pub word_more : (s : List ℕ) (b : ℕ) → is_word s ≡ true → is_name_byte b ≡ true → is_word (s ++ b ∷ []) ≡ true
 word_more [] b w n = absurd (cc)
 word_more (c ∷ s) b w n =
     let p = and_parts (is_letter c) (list_all is_name_byte s) w in

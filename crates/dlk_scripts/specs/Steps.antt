@@ -14,6 +14,8 @@ use Rattle.dlk_scripts.specs.declared.state.Within.TheVariants.{Between, Slash, 
 use Rattle.dlk_scripts.specs.declared.state.State.{State}
 use Rattle.dlk_scripts.specs.declared.state.StepFault.{StepFault}
 use Rattle.dlk_scripts.specs.declared.state.StepFault.TheVariants.{Memory, Syntax}
+use Rattle.dlk_scripts.specs.declared.fault.PartsFault.{PartsFault}
+use Rattle.dlk_scripts.specs.declared.fault.PartsFault.TheVariants as parts
 use Rattle.dlk_scripts.specs.Parts.{part, most_digits}
 use Rattle.dlk_scripts.specs.Table.{when, top, leads, changed, wants_name, wants_number, wants_first, wants_argument, wants_fork, is_whole, nothing_open}
 
@@ -126,6 +128,11 @@ abbrev pub Does : Option State → Result (Unit {0}) StepFault → State → Typ
 Does o (Ok u) new = o ≡ Some new
 Does o (Err Syntax) new = o ≡ None
 Does o (Err Memory) new = Unit {0}
+
+-- the fault at this place
+abbrev pub stop_at : StepFault → ℕ → PartsFault
+stop_at Memory at = parts.Memory
+stop_at Syntax at = parts.Syntax at
 
 -- within a number there are at most nine digits
 abbrev pub DigitsIn : Within → List ℕ → Type 0

@@ -377,4 +377,11 @@ impl State {
             Err(StepFault::Syntax)
         }
     }
+
+    /// The parts that were read.
+    pub(crate) fn into_parts(self) -> Vec<Part>
+        ensures { result.items ≡ self.parts }
+    {
+        self.parts.into_vec()
+    }
 }
