@@ -1,15 +1,10 @@
 -- What each part leads to is what the table says.
-use Rattle.std.proofs.Common.{◌≡◌, ℕ, ◌+◌, ◌≤◌, nat_lt, nat_le, Bool, true, false, List, [], ◌∷◌, ◌++◌, Option, Some, None, refl, sym, append_assoc, arith}
-use Rattle.std.proofs.lemmas.Bool.{leb-true, ltb-true}
-use Rattle.std.proofs.lemmas.List.{append-nil}
-use Rattle.dlk_scripts.specs.declared.part.Part.{Part}
+use Rattle.std.proofs.Common.{◌≡◌, ℕ, ◌+◌, nat_lt, nat_le, Bool, true, false, List, [], ◌∷◌, Option, Some, None, refl}
 use Rattle.dlk_scripts.specs.declared.part.PartKind.{PartKind}
 use Rattle.dlk_scripts.specs.declared.part.PartKind.TheVariants as kind
-use Rattle.dlk_scripts.specs.Parts.{part}
-use Rattle.dlk_scripts.specs.Scripts.{Word, Place, Right, Left, Below, Argument, At, AnyLeft, AnyRight, Word', Quoted, Arguments, OneArgument, ThenArgument, Script, OneSequence, OrSequence, Sequence, OneRepeat, ThenRepeat, ThenBranch, Scripts, OneScript, ThenScript, Repeat, Once, Times, Primary, Group, Atom, Call, place_parts, argument_parts, arguments_parts, script_parts, sequence_parts, scripts_parts, repeat_parts, primary_parts, most_repeats, repeats, PlaceFits, ArgumentFits, ArgumentsFit, ScriptFits, SequenceFits, ScriptsFit, RepeatFits, PrimaryFits}
-use Rattle.dlk_scripts.specs.Table.{when, top, joins, repeated, named, wants, next, number, first_number, argument, argued, place, leads, changed, is_whole, nothing_open}
-use Rattle.dlk_scripts.proofs.Grown.{Bars, NoBar, Bar, Semis, NoSemi, Semi, Commas, NoComma, Comma, Stack, Top, InGroup, InFork, ArgumentCommas, NoArgument, Before, Callee, callee, Piece, Begun, Signed, InPlace, Dotted, Whole, Grown, Wanting, Come, Stars, Branched, InCall, sequence_of, script_of, scripts_of, arguments_of, grow_comma, grow_close, grow_joins, grow_call, grow_come, grow_wants, grow_next, grow_wanting, grow_stars, grow_argued, grow_argument, grow_signed, grow_place, grow_dotted, grow_in_call, grow, bars_parts, semis_parts, commas_parts, stack_parts, argument_commas_parts, callee_parts, piece_parts, grown_parts, BarsFit, SemisFit, CommasFit, StackFits, ArgumentCommasFit, CalleeFits, PieceFits, GrownFits}
-
+use Rattle.dlk_scripts.specs.Scripts.{Word, Place, Right, Left, Argument, At, Sequence, Repeat, Once, Times, Group, Atom, Call, most_repeats, repeats}
+use Rattle.dlk_scripts.specs.Table.{when, top, joins, repeated, wants, next, number, first_number, argument, argued, place, leads, changed}
+use Rattle.dlk_scripts.proofs.Grown.{Bars, Semis, NoSemi, Semi, Stack, Top, InGroup, InFork, ArgumentCommas, callee, Piece, Begun, Signed, InPlace, Dotted, Whole, Grown, Wanting, Come, Stars, Branched, InCall, sequence_of, grow_joins, grow_come, grow_wants, grow_next, grow_wanting, grow_stars, grow_argued, grow_argument, grow_signed, grow_place, grow_dotted, grow_in_call, grow}
 use Rattle.dlk_scripts.specs.declared.mode.Mode.{Mode}
 use Rattle.dlk_scripts.specs.declared.mode.Mode.TheVariants as mode
 use Rattle.dlk_scripts.specs.declared.mode.Opening.{Opening}

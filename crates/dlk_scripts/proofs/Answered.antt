@@ -1,28 +1,27 @@
 -- What reading to the end tells of a text.
-use Rattle.std.proofs.Common.{◌≡◌, ℕ, ◌+◌, ◌≤◌, ◌<◌, ◌&&◌, Bool, true, false, List, [], ◌∷◌, ◌++◌, length, Option, Some, None, refl, sym, ap, subst, ◌∙◌, append_assoc, length-append, arith, ◌⊎◌, inl, inr, zero-add}
+use Rattle.std.proofs.Common.{◌≡◌, ℕ, ◌+◌, ◌&&◌, Bool, true, false, List, [], ◌∷◌, ◌++◌, length, Option, Some, None, refl, sym, ap, subst, ◌∙◌, append_assoc, length-append, ◌⊎◌, inl, inr, zero-add}
 use Rattle.std.specs.List.{list_all}
 use Rattle.std.proofs.lemmas.Bool.{and_parts}
-use Rattle.std.proofs.lemmas.List.{append-nil, append_cancel_left}
+use Rattle.std.proofs.lemmas.List.{append-nil}
 use Rattle.dlk_grammar.specs.Tokens.{is_digit, are_digits}
 use Rattle.dlk_scripts.specs.declared.part.Part.{Part}
-use Rattle.dlk_scripts.specs.declared.mode.Mode.TheVariants as mode
 use Rattle.dlk_scripts.specs.declared.state.Within.{Within}
 use Rattle.dlk_scripts.specs.declared.state.Within.TheVariants.{Between, Slash, Comment, CommentStar, Name, Number, Quoted, Less, Quote}
 use Rattle.dlk_scripts.specs.declared.state.State.{State}
 use Rattle.dlk_scripts.specs.Parts.{Spelled}
-use Rattle.dlk_scripts.specs.Scripts.{Script, Once, Times, Group, Atom, Call, Repeat, script_parts, ScriptFits}
+use Rattle.dlk_scripts.specs.Scripts.{Script, Once, Times, Group, Atom, Call, Repeat, script_parts}
 use Rattle.dlk_scripts.specs.Texts.{IsScript, HasParts, Begins, Stops, stops-byte, stops-end}
 use Rattle.dlk_scripts.specs.Table.{when, is_whole, nothing_open}
 use Rattle.dlk_scripts.specs.Steps.{step, settle, is_closed, when_closed, ended, first_state, HasDigits, DigitsIn}
-use Rattle.dlk_scripts.proofs.Grown.{Grown, Wanting, Come, Stars, Branched, InCall, NoSemi, Semi, Stack, Top, InGroup, InFork, Begun, Signed, InPlace, Dotted, Whole, callee, grown_parts, GrownFits}
+use Rattle.dlk_scripts.proofs.Grown.{Grown, Wanting, Come, Stars, Branched, InCall, NoSemi, Semi, Top, InGroup, InFork, Begun, Signed, InPlace, Dotted, Whole}
 use Rattle.dlk_scripts.proofs.Growing.{finished, FinishedAs, finished_as}
-use Rattle.dlk_scripts.proofs.Agreeing.{opens_of, stack_of, mode_of, come_mode, wanting_mode, piece_mode}
+use Rattle.dlk_scripts.proofs.Agreeing.{opens_of, stack_of, mode_of, come_mode}
 use Rattle.dlk_scripts.proofs.Running.{seed, run, runs}
 use Rattle.dlk_scripts.proofs.Reached.{Settled, ReachedIn, Reached, reached_first}
 use Rattle.dlk_scripts.proofs.Stepped.{stepped, settles}
 use Rattle.dlk_scripts.proofs.Reading.{read, or_stop, read_append, read_more}
 use Rattle.dlk_scripts.proofs.Completed.{Done, complete}
-use Rattle.dlk_scripts.proofs.Living.{Lives, lives}
+use Rattle.dlk_scripts.proofs.Living.{lives}
 
 -- what is closed is finished, and the other way round
 abbrev Closed : Grown → Bool

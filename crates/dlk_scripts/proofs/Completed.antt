@@ -1,31 +1,28 @@
 -- The bytes of a text are read to its end.
-use Rattle.std.proofs.Common.{◌≡◌, ℕ, ◌+◌, ◌≤◌, ◌<◌, ◌==◌, ◌&&◌, ◌||◌, not, nat_lt, nat_le, Bool, true, false, List, [], ◌∷◌, ◌++◌, length, Option, Some, None, refl, sym, ap, subst, ◌∙◌, append_assoc, length-append, arith, codes, if◌then◌else◌, option_and_then}
+use Rattle.std.proofs.Common.{◌≡◌, ℕ, ◌+◌, ◌≤◌, ◌==◌, ◌&&◌, ◌||◌, not, nat_lt, nat_le, Bool, true, false, List, [], ◌∷◌, ◌++◌, length, Option, Some, None, refl, sym, ap, subst, ◌∙◌, append_assoc, length-append, arith, if◌then◌else◌}
 use Rattle.std.specs.List.{list_all}
 use Rattle.std.proofs.lemmas.List.{append-nil}
-use Rattle.std.proofs.lemmas.Bool.{and_parts, leb-true, eqb-true, ne_eqb, le-leb, lt-leb, lt-ltb, not-true}
-use Rattle.dlk_tree.specs.Names.{is_between, is_letter, is_name_byte, is_word, is_name}
+use Rattle.std.proofs.lemmas.Bool.{and_parts, le-leb, lt-ltb, not-true}
+use Rattle.dlk_tree.specs.Names.{is_letter, is_name_byte, is_word, is_name}
 use Rattle.dlk_grammar.specs.Tokens.{is_space, is_digit, are_digits, value}
 use Rattle.dlk_scripts.specs.declared.part.Part.{Part}
 use Rattle.dlk_scripts.specs.declared.part.PartKind.{PartKind}
 use Rattle.dlk_scripts.specs.declared.part.PartKind.TheVariants as kind
 use Rattle.dlk_scripts.specs.declared.mode.Mode.{Mode}
-use Rattle.dlk_scripts.specs.declared.mode.Mode.TheVariants as mode
-use Rattle.dlk_scripts.specs.declared.mode.Opening.{Opening}
 use Rattle.dlk_scripts.specs.declared.mode.Turn.{Turn}
 use Rattle.dlk_scripts.specs.declared.state.Within.{Within}
 use Rattle.dlk_scripts.specs.declared.state.Within.TheVariants.{Between, Slash, Comment, CommentStar, Name, Number, Quoted, Less, Quote}
 use Rattle.dlk_scripts.specs.declared.state.State.{State}
 use Rattle.dlk_scripts.specs.Parts.{part, is_no_quote, most_digits, Spells, slash_first, holds_end, IsComment, comment, Spelled}
 use Rattle.dlk_scripts.specs.Parts as spell
-use Rattle.dlk_scripts.specs.Table.{when, top, leads, changed, wants_name, wants_number, wants_first, wants_argument, wants_fork}
-use Rattle.dlk_scripts.specs.Steps.{turned, take, moves, begins, digits_go_on, start, ends_name, ends_number, then_starts, step_in, step, settle_in, settle, first_state}
+use Rattle.dlk_scripts.specs.Table.{when, top, leads, wants_name, wants_number, wants_first}
+use Rattle.dlk_scripts.specs.Steps.{turned, take, moves, begins, digits_go_on, start, step, settle_in, settle, first_state}
 use Rattle.dlk_scripts.proofs.Grown.{Grown, grow}
 use Rattle.dlk_scripts.proofs.Agreeing.{opens_of, stack_of, mode_of, Agree, agrees}
 use Rattle.dlk_scripts.proofs.Running.{seed, run, run_append, or_none}
-use Rattle.dlk_scripts.proofs.Stepped.{same_some, or_else_false}
-use Rattle.dlk_scripts.proofs.Reading.{read, or_stop, read_more, space_is, letter_is, digit_is, no_name_no_digit}
-
-use Rattle.dlk_scripts.proofs.Asking.{Asks, FitsFirst, asked, name_asks, fork_asks, left_asks, right_asks, string_asks, number_asks, clear, begins_name, begins_number}
+use Rattle.dlk_scripts.proofs.Stepped.{or_else_false}
+use Rattle.dlk_scripts.proofs.Reading.{read, or_stop, read_more, space_is, letter_is, digit_is}
+use Rattle.dlk_scripts.proofs.Asking.{asked, name_asks, fork_asks, left_asks, right_asks, string_asks, number_asks, clear, begins_name, begins_number}
 
 -- what is taken where it grows
 pub record Taken (z : State) (k : PartKind) (at : ℕ) (x : Grown) : Type 0 where

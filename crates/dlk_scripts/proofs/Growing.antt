@@ -1,12 +1,12 @@
 -- What grows with a part has that part at its end, and stays within the limits.
-use Rattle.std.proofs.Common.{◌≡◌, ℕ, ◌+◌, ◌≤◌, nat_lt, nat_le, Bool, true, false, List, [], ◌∷◌, ◌++◌, Option, Some, None, refl, sym, append_assoc, arith}
+use Rattle.std.proofs.Common.{◌≡◌, ℕ, nat_lt, nat_le, Bool, true, false, List, [], ◌∷◌, ◌++◌, Option, Some, None, refl, sym, append_assoc, arith}
 use Rattle.std.proofs.lemmas.Bool.{leb-true, ltb-true}
 use Rattle.std.proofs.lemmas.List.{append-nil}
 use Rattle.dlk_scripts.specs.declared.part.Part.{Part}
 use Rattle.dlk_scripts.specs.declared.part.PartKind.{PartKind}
 use Rattle.dlk_scripts.specs.declared.part.PartKind.TheVariants as kind
 use Rattle.dlk_scripts.specs.Parts.{part}
-use Rattle.dlk_scripts.specs.Scripts.{Word, Place, Right, Left, Below, Argument, At, AnyLeft, AnyRight, Word', Quoted, Arguments, OneArgument, ThenArgument, Script, OneSequence, OrSequence, Sequence, OneRepeat, ThenRepeat, ThenBranch, Scripts, OneScript, ThenScript, Repeat, Once, Times, Primary, Group, Atom, Call, place_parts, argument_parts, arguments_parts, script_parts, sequence_parts, scripts_parts, repeat_parts, primary_parts, most_repeats, repeats, PlaceFits, ArgumentFits, ArgumentsFit, ScriptFits, SequenceFits, ScriptsFit, RepeatFits, PrimaryFits}
+use Rattle.dlk_scripts.specs.Scripts.{Place, Right, Left, Argument, At, Script, Sequence, Repeat, Once, Times, Group, Atom, Call, place_parts, argument_parts, arguments_parts, script_parts, sequence_parts, scripts_parts, repeat_parts, most_repeats, repeats, PlaceFits, ArgumentFits, ArgumentsFit, ScriptFits, SequenceFits, ScriptsFit, RepeatFits}
 use Rattle.dlk_scripts.specs.Table.{when}
 use Rattle.dlk_scripts.proofs.Grown.{Bars, NoBar, Bar, Semis, NoSemi, Semi, Commas, NoComma, Comma, Stack, Top, InGroup, InFork, ArgumentCommas, NoArgument, Before, Callee, callee, Piece, Begun, Signed, InPlace, Dotted, Whole, Grown, Wanting, Come, Stars, Branched, InCall, sequence_of, script_of, scripts_of, arguments_of, grow_comma, grow_close, grow_joins, grow_call, grow_come, grow_wants, grow_next, grow_wanting, grow_stars, grow_argued, grow_argument, grow_signed, grow_place, grow_dotted, grow_in_call, grow, bars_parts, semis_parts, commas_parts, stack_parts, argument_commas_parts, callee_parts, piece_parts, grown_parts, BarsFit, SemisFit, CommasFit, StackFits, ArgumentCommasFit, CalleeFits, PieceFits, GrownFits}
 
@@ -190,7 +190,9 @@ FinishedAs x None = Unit {0}
 FinishedAs x (Some t) = (script_parts t ≡ grown_parts x) × (GrownFits x → ScriptFits t)
 
 pub finished_as : (x : Grown) → FinishedAs x (finished x)
-finished_as (Come Top A Q r) = (simp (append_assoc, script_parts_of A (sequence_of Q r), sequence_parts_of Q r) refl,
-    λ w. script_fits A (sequence_of Q r) w.1 (sequence_fits Q r w.2 w.3))
+finished_as (Come Top A Q r) = (
+  simp (append_assoc, script_parts_of A (sequence_of Q r), sequence_parts_of Q r) refl,
+  λ w. script_fits A (sequence_of Q r) w.1 (sequence_fits Q r w.2 w.3),
+)
 finished_as (Branched Top A q) = (script_parts_of A q, λ w. script_fits A q w.1 w.2)
 finished_as _ = tt

@@ -1,11 +1,10 @@
 -- The trees that grow part by part, and the parts that they have.
-use Rattle.std.proofs.Common.{◌≡◌, ℕ, ◌+◌, ◌≤◌, nat_lt, nat_le, Bool, true, false, List, [], ◌∷◌, ◌++◌, Option, Some, None, refl, sym, append_assoc, leb-true, ltb-true}
-use Rattle.std.proofs.lemmas.List.{append-nil}
+use Rattle.std.proofs.Common.{ℕ, ◌+◌, ◌≤◌, nat_lt, nat_le, List, [], ◌∷◌, ◌++◌, Option, Some, None}
 use Rattle.dlk_scripts.specs.declared.part.Part.{Part}
 use Rattle.dlk_scripts.specs.declared.part.PartKind.{PartKind}
 use Rattle.dlk_scripts.specs.declared.part.PartKind.TheVariants as kind
 use Rattle.dlk_scripts.specs.Parts.{part}
-use Rattle.dlk_scripts.specs.Scripts.{Word, Place, Right, Left, Below, Argument, At, AnyLeft, AnyRight, Word', Quoted, Arguments, OneArgument, ThenArgument, Script, OneSequence, OrSequence, Sequence, OneRepeat, ThenRepeat, ThenBranch, Scripts, OneScript, ThenScript, Repeat, Once, Times, Primary, Group, Atom, Call, place_parts, argument_parts, arguments_parts, script_parts, sequence_parts, scripts_parts, repeat_parts, primary_parts, most_repeats, repeats, PlaceFits, ArgumentFits, ArgumentsFit, ScriptFits, SequenceFits, ScriptsFit, RepeatFits, PrimaryFits}
+use Rattle.dlk_scripts.specs.Scripts.{Word, Place, Right, Left, Below, Argument, At, AnyLeft, AnyRight, Word', Quoted, Arguments, OneArgument, ThenArgument, Script, OneSequence, OrSequence, Sequence, OneRepeat, ThenRepeat, ThenBranch, Scripts, OneScript, ThenScript, Repeat, Once, Times, Group, Atom, Call, place_parts, argument_parts, arguments_parts, script_parts, sequence_parts, scripts_parts, repeat_parts, most_repeats, repeats, PlaceFits, ArgumentFits, ArgumentsFit, ScriptFits, SequenceFits, ScriptsFit, RepeatFits}
 use Rattle.dlk_scripts.specs.Table.{when}
 
 -- what stands up to the last "|", up to the last ";" and up to the last "," in the innermost bracket

@@ -12,3 +12,4 @@ pub mod Living
 pub mod Answered
 pub mod Stopping
 pub mod Parting
+pub mod Examples

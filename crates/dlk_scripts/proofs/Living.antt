@@ -1,11 +1,11 @@
 -- Whatever has been reached can be gone on with to the end of a text.
-use Rattle.std.proofs.Common.{◌≡◌, ℕ, ◌+◌, ◌*◌, ◌-◌, ◌≤◌, ◌<◌, ◌==◌, ◌&&◌, ◌||◌, not, nat_lt, nat_le, Bool, true, false, List, [], ◌∷◌, ◌++◌, length, Option, Some, None, refl, sym, ap, subst, ◌∙◌, append_assoc, length-append, arith, codes, if◌then◌else◌, option_and_then}
-use Rattle.std.specs.List.{list_all, fold}
+use Rattle.std.proofs.Common.{◌≡◌, ℕ, ◌+◌, ◌*◌, ◌-◌, ◌≤◌, ◌&&◌, ◌||◌, nat_lt, nat_le, Bool, true, false, List, [], ◌∷◌, ◌++◌, length, Option, Some, refl, sym, ap, ◌∙◌, length-append, arith, codes}
+use Rattle.std.specs.List.{fold}
 use Rattle.std.specs.Str.{bytes_eq}
-use Rattle.std.proofs.lemmas.Bool.{and_parts, leb-true, le-leb, leb-false, ltb-true, cases_Bool, true≢false}
+use Rattle.std.proofs.lemmas.Bool.{and_parts, leb-true, le-leb, ltb-true, true≢false}
 use Rattle.std.proofs.lemmas.Slice.Eq.{bytes_eq-Decides}
-use Rattle.dlk_tree.specs.Names.{is_letter, is_name_byte, is_word, is_name}
-use Rattle.dlk_grammar.specs.Tokens.{is_space, is_digit, are_digits, value}
+use Rattle.dlk_tree.specs.Names.{is_word, is_name}
+use Rattle.dlk_grammar.specs.Tokens.{value}
 use Rattle.dlk_scripts.specs.declared.part.PartKind.{PartKind}
 use Rattle.dlk_scripts.specs.declared.part.PartKind.TheVariants as kind
 use Rattle.dlk_scripts.specs.declared.mode.Mode.{Mode}
@@ -18,9 +18,9 @@ use Rattle.dlk_scripts.specs.declared.state.Within.{Within}
 use Rattle.dlk_scripts.specs.declared.state.Within.TheVariants.{Between, Slash, Comment, CommentStar, Name, Number, Quoted, Less, Quote}
 use Rattle.dlk_scripts.specs.declared.state.State.{State}
 use Rattle.dlk_scripts.specs.Parts.{most_digits}
-use Rattle.dlk_scripts.specs.Table.{when, top, leads, keeps, at_close, changed, without_top, wants_name, wants_number, wants_first, wants_argument, wants_fork, is_whole, nothing_open}
-use Rattle.dlk_scripts.specs.Steps.{turned, take, moves, begins, grows, digits_go_on, start, ends_name, ends_number, then_starts, step_in, step, settle_in, settle, when_closed, ended}
-use Rattle.dlk_scripts.proofs.Reached.{Pending, Wanted, ReachedIn, Reached}
+use Rattle.dlk_scripts.specs.Table.{top, leads, keeps, at_close, without_top, wants_name, wants_number, wants_first, wants_argument, wants_fork, is_whole}
+use Rattle.dlk_scripts.specs.Steps.{turned, moves, begins, grows, digits_go_on, step_in, step, settle_in, when_closed, ended}
+use Rattle.dlk_scripts.proofs.Reached.{Pending, Wanted, Reached}
 use Rattle.dlk_scripts.proofs.Stepped.{word_more}
 use Rattle.dlk_scripts.proofs.Reading.{read, or_stop}
 

@@ -1,14 +1,12 @@
 -- What has been read byte by byte: the bytes are parts of something that grows, and the front of one more part.
-use Rattle.std.proofs.Common.{◌≡◌, ℕ, ◌+◌, ◌≤◌, ◌==◌, ◌&&◌, ◌||◌, not, nat_lt, nat_le, Bool, true, false, List, [], ◌∷◌, ◌++◌, length, Option, Some, None, refl, sym, ap, subst, ◌∙◌, append_assoc, length-append, arith, codes, if◌then◌else◌, option_and_then}
+use Rattle.std.proofs.Common.{◌≡◌, ℕ, ◌≤◌, ◌==◌, ◌&&◌, ◌||◌, not, nat_le, Bool, true, false, List, [], ◌∷◌, ◌++◌, length, Option, Some, None, refl, sym, ap, subst, ◌∙◌, arith, if◌then◌else◌, option_and_then}
 use Rattle.std.specs.List.{list_all}
-use Rattle.std.proofs.lemmas.Bool.{and_parts, leb-true, ltb-true, eqb-true, ne_eqb}
+use Rattle.std.proofs.lemmas.Bool.{eqb-true}
 use Rattle.std.proofs.lemmas.List.{append-nil}
-use Rattle.std.proofs.lemmas.List.Folds.{list_all-append}
-use Rattle.dlk_tree.specs.Names.{is_letter, is_name_byte, is_word, is_name}
+use Rattle.dlk_tree.specs.Names.{is_letter, is_word}
 use Rattle.dlk_grammar.specs.Tokens.{is_space, is_digit, are_digits, value}
 use Rattle.dlk_scripts.specs.declared.part.Part.{Part}
 use Rattle.dlk_scripts.specs.declared.part.PartKind.{PartKind}
-use Rattle.dlk_scripts.specs.declared.part.PartKind.TheVariants as kind
 use Rattle.dlk_scripts.specs.declared.mode.Mode.{Mode}
 use Rattle.dlk_scripts.specs.declared.mode.Turn.{Turn}
 use Rattle.dlk_scripts.specs.declared.state.Within.{Within}
@@ -17,7 +15,7 @@ use Rattle.dlk_scripts.specs.declared.state.State.{State}
 use Rattle.dlk_scripts.specs.Parts.{part, is_no_quote, most_digits, Spells, slash_first, holds_end, IsComment, Spelled}
 use Rattle.dlk_scripts.specs.Parts as spell
 use Rattle.dlk_scripts.specs.Table.{when, top, leads, changed, wants_name, wants_number, wants_first, wants_argument, wants_fork}
-use Rattle.dlk_scripts.specs.Steps.{mark_of, turned, take, moves, begins, grows, digits_go_on, takes_mark, start, ends_name, ends_number, then_starts, step_in, step, first_state}
+use Rattle.dlk_scripts.specs.Steps.{mark_of, turned, take, moves, begins, digits_go_on, takes_mark, start, first_state}
 use Rattle.dlk_scripts.proofs.Grown.{Grown, grow, grown_parts, GrownFits}
 use Rattle.dlk_scripts.proofs.Growing.{Kept, kept}
 use Rattle.dlk_scripts.proofs.Agreeing.{opens_of, stack_of, mode_of, Agree, agrees}

@@ -1,11 +1,10 @@
 -- Reading many bytes, and which bytes are which.
-use Rattle.std.proofs.Common.{◌≡◌, ℕ, ◌+◌, ◌≤◌, ◌<◌, ◌==◌, ◌&&◌, ◌||◌, nat_le, Bool, true, false, List, [], ◌∷◌, ◌++◌, length, Option, Some, None, refl, sym, ap, ◌∙◌, arith, ◌⊎◌, inl, inr, zero-add}
-use Rattle.std.proofs.lemmas.Bool.{and_parts, leb-true, eqb-true, ne_eqb, le-leb, lt-leb, or_cases}
+use Rattle.std.proofs.Common.{◌≡◌, ℕ, ◌+◌, ◌≤◌, ◌==◌, ◌&&◌, ◌||◌, nat_le, Bool, true, false, List, [], ◌∷◌, ◌++◌, length, Option, Some, None, refl, ap, ◌∙◌, arith, inl, inr, zero-add}
+use Rattle.std.proofs.lemmas.Bool.{and_parts, leb-true, eqb-true, ne_eqb, lt-leb, or_cases}
 use Rattle.dlk_tree.specs.Names.{is_between, is_letter, is_name_byte}
 use Rattle.dlk_grammar.specs.Tokens.{is_space, is_digit}
 use Rattle.dlk_scripts.specs.declared.state.State.{State}
 use Rattle.dlk_scripts.specs.Steps.{step}
-use Rattle.dlk_scripts.proofs.Stepped.{or_else_false}
 
 abbrev pub or_stop : Option State → (State → Option State) → Option State
 or_stop None f = None

@@ -1,15 +1,12 @@
 -- The parts of a script within the limits grow to it.
-use Rattle.std.proofs.Common.{◌≡◌, ℕ, ◌+◌, ◌≤◌, nat_lt, nat_le, Bool, true, false, List, [], ◌∷◌, ◌++◌, Option, Some, None, refl, sym, ap, ◌∙◌, append_assoc, arith}
-use Rattle.std.proofs.lemmas.Bool.{leb-true, ltb-true}
+use Rattle.std.proofs.Common.{◌≡◌, ℕ, ◌+◌, ◌≤◌, List, [], ◌∷◌, ◌++◌, Option, Some, None, refl, sym, ap, ◌∙◌, append_assoc, arith}
 use Rattle.std.proofs.lemmas.List.{append-nil}
 use Rattle.dlk_scripts.specs.declared.part.Part.{Part}
 use Rattle.dlk_scripts.specs.declared.part.PartKind.{PartKind}
 use Rattle.dlk_scripts.specs.declared.part.PartKind.TheVariants as kind
 use Rattle.dlk_scripts.specs.Parts.{part}
 use Rattle.dlk_scripts.specs.Scripts.{Word, Place, Right, Left, Below, Argument, At, AnyLeft, AnyRight, Word', Quoted, Arguments, OneArgument, ThenArgument, Script, OneSequence, OrSequence, Sequence, OneRepeat, ThenRepeat, ThenBranch, Scripts, OneScript, ThenScript, Repeat, Once, Times, Primary, Group, Atom, Call, place_parts, argument_parts, arguments_parts, script_parts, sequence_parts, scripts_parts, repeat_parts, primary_parts, most_repeats, repeats, PlaceFits, ArgumentFits, ArgumentsFit, ScriptFits, SequenceFits, ScriptsFit, RepeatFits, PrimaryFits}
-use Rattle.dlk_scripts.specs.Table.{when}
-use Rattle.dlk_scripts.proofs.Grown.{Bars, NoBar, Bar, Semis, NoSemi, Semi, Commas, NoComma, Comma, Stack, Top, InGroup, InFork, ArgumentCommas, NoArgument, Before, Callee, callee, Piece, Begun, Signed, InPlace, Dotted, Whole, Grown, Wanting, Come, Stars, Branched, InCall, sequence_of, script_of, scripts_of, arguments_of, grow_comma, grow_close, grow_joins, grow_call, grow_come, grow_wants, grow_next, grow_wanting, grow_stars, grow_argued, grow_argument, grow_signed, grow_place, grow_dotted, grow_in_call, grow, bars_parts, semis_parts, commas_parts, stack_parts, argument_commas_parts, callee_parts, piece_parts, grown_parts, BarsFit, SemisFit, CommasFit, StackFits, ArgumentCommasFit, CalleeFits, PieceFits, GrownFits}
-
+use Rattle.dlk_scripts.proofs.Grown.{Bars, NoBar, Bar, Semis, NoSemi, Semi, NoComma, Comma, Stack, Top, InGroup, InFork, ArgumentCommas, NoArgument, Before, Callee, callee, Piece, Begun, InPlace, Whole, Grown, Wanting, Come, Stars, Branched, InCall, script_of, arguments_of, grow_comma, grow_close, grow}
 use Rattle.std.proofs.lemmas.Bool.{lt-ltb, le-leb}
 use Rattle.dlk_scripts.proofs.Growing.{finished}
 
@@ -230,6 +227,8 @@ script_finished (OrSequence t b q) = sequence_finished (Bar t b) q
 
 -- the parts of a script within the limits grow to something finished, which is the script
 pub runs : (t : Script) → ScriptFits t → (x : Grown) × (run seed (script_parts t) ≡ Some x) × (finished x ≡ Some t)
-runs t fits = (script_state Top t,
-    ap (run seed) (sym (append-nil (script_parts t))) ∙ script_runs t fits Top [],
-    script_finished t)
+runs t fits = (
+  script_state Top t,
+  ap (run seed) (sym (append-nil (script_parts t))) ∙ script_runs t fits Top [],
+  script_finished t,
+)

@@ -1,22 +1,19 @@
 -- A step leads from what has been reached to what has been reached with one more byte.
-use Rattle.std.proofs.Common.{◌≡◌, ℕ, ◌+◌, ◌≤◌, ◌==◌, ◌&&◌, ◌||◌, not, nat_lt, nat_le, Bool, true, false, List, [], ◌∷◌, ◌++◌, length, Option, Some, None, refl, sym, ap, subst, ◌∙◌, append_assoc, length-append, arith, codes, if◌then◌else◌, option_and_then}
+use Rattle.std.proofs.Common.{◌≡◌, ℕ, ◌==◌, ◌&&◌, ◌||◌, nat_le, Bool, true, false, List, [], ◌∷◌, ◌++◌, length, Option, Some, None, refl, sym, ap, subst, ◌∙◌, append_assoc, codes, if◌then◌else◌}
 use Rattle.std.specs.List.{list_all}
-use Rattle.std.proofs.lemmas.Bool.{and_parts, leb-true, ltb-true, eqb-true, ne_eqb}
+use Rattle.std.proofs.lemmas.Bool.{and_parts, leb-true, eqb-true}
 use Rattle.std.proofs.lemmas.List.{append-nil}
 use Rattle.std.proofs.lemmas.List.Folds.{list_all-append}
 use Rattle.dlk_tree.specs.Names.{is_letter, is_name_byte, is_word, is_name}
-use Rattle.dlk_grammar.specs.Tokens.{is_space, is_digit, are_digits, value}
-use Rattle.dlk_scripts.specs.declared.part.Part.{Part}
+use Rattle.dlk_grammar.specs.Tokens.{is_digit, are_digits, value}
 use Rattle.dlk_scripts.specs.declared.part.PartKind.{PartKind}
 use Rattle.dlk_scripts.specs.declared.part.PartKind.TheVariants as kind
-use Rattle.dlk_scripts.specs.declared.mode.Mode.{Mode}
 use Rattle.dlk_scripts.specs.declared.state.Within.{Within}
 use Rattle.dlk_scripts.specs.declared.state.Within.TheVariants.{Between, Slash, Comment, CommentStar, Name, Number, Quoted, Less, Quote}
 use Rattle.dlk_scripts.specs.declared.state.State.{State}
 use Rattle.dlk_scripts.specs.Parts.{part, is_no_quote, most_digits, Spells, slash_first, holds_end, IsComment, Spelled}
 use Rattle.dlk_scripts.specs.Parts as spell
-use Rattle.dlk_scripts.specs.Table.{when, top, leads, wants_name, wants_number, wants_first, wants_argument, wants_fork}
-use Rattle.dlk_scripts.specs.Steps.{take, moves, begins, grows, digits_go_on, start, ends_name, ends_number, then_starts, step_in, step, settle_in, settle}
+use Rattle.dlk_scripts.specs.Steps.{take, moves, digits_go_on, ends_name, ends_number, then_starts, step_in, step, settle_in, settle}
 use Rattle.dlk_scripts.proofs.Reached.{Held, Settled, took, star_last, InComment, Pending, Wanted, Placed, ReachedIn, Reached, settled_reached, branches, when_so, started}
 
 -- a byte more in the same place, with the rest the same
@@ -167,9 +164,11 @@ stepped_in Name bytes y z b r i e =
 stepped_in Number bytes y z b r i e =
     branches (is_digit b) _ _ z e
     (λ t h. when_so (digits_go_on y.mode (y.buffer ++ b ∷ [])) _ z h (λ g j.
-    subst (Reached (bytes ++ b ∷ [])) (same_some _ z j) (rw i (longer Number Number bytes y b (y.buffer ++ b ∷ []) r
-    (ap (λ (x : List ℕ). x ++ b ∷ []) r.pending.0, digits_more y.buffer b r.pending.1 t,
-    leb-true _ _ (and_parts (nat_le (length (y.buffer ++ b ∷ [])) most_digits) _ g).0) (r.wanted.0, g) r.placed))))
+    subst (Reached (bytes ++ b ∷ [])) (same_some _ z j) (rw i (longer Number Number bytes y b (y.buffer ++ b ∷ []) r (
+      ap (λ (x : List ℕ). x ++ b ∷ []) r.pending.0,
+      digits_more y.buffer b r.pending.1 t,
+      leb-true _ _ (and_parts (nat_le (length (y.buffer ++ b ∷ [])) most_digits) _ g).0,
+    ) (r.wanted.0, g) r.placed))))
     (λ t h. starts_then bytes z b (ends_number y) (λ u g. number_ends bytes y u r g) h)
 stepped_in Quoted bytes y z b r i e =
     branches (b == 34) _ _ z e

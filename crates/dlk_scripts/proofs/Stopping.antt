@@ -1,5 +1,5 @@
 -- A text stops at one place, and a text that says a script stops nowhere.
-use Rattle.std.proofs.Common.{◌≡◌, ℕ, ◌≤◌, ◌⊎◌, inl, inr, List, [], ◌∷◌, ◌++◌, length, refl, sym, ap, subst, ◌∙◌, arith, append_assoc, length-append}
+use Rattle.std.proofs.Common.{◌≡◌, ℕ, ◌⊎◌, inl, inr, List, [], ◌∷◌, ◌++◌, length, refl, sym, ap, subst, ◌∙◌, arith, append_assoc, length-append}
 use Rattle.std.proofs.lemmas.List.{append-nil, append_cancel_left}
 use Rattle.dlk_scripts.specs.Scripts.{Script}
 use Rattle.dlk_scripts.specs.Texts.{IsScript, Begins, Stops, stops-byte, stops-end}

@@ -10,6 +10,8 @@ mod part;
 mod splitting;
 mod state;
 mod table;
+#[cfg(test)]
+mod tests;
 
 pub use fault::PartsFault;
 pub use part::{Part, PartKind, Quoted};

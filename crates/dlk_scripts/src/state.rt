@@ -12,7 +12,9 @@ use crate::bytes::{is_digit, is_space, mark, number};
 use crate::listed::Listed;
 use crate::mode::{Change, Mode, Openings};
 use crate::part::{Part, PartKind, Quoted};
-use crate::table::{is_whole, leads, wants_argument, wants_first, wants_fork, wants_name, wants_number};
+use crate::table::{
+    is_whole, leads, wants_argument, wants_first, wants_fork, wants_name, wants_number,
+};
 use dlk_tree::{Name, NameFault, is_letter, is_name_byte};
 use std::alloc::{AllocError, AllocFailed, Global};
 
@@ -142,7 +144,13 @@ impl State {
     }
 
     /// A part of several bytes begins here without bytes, where it may.
-    fn begins(&mut self, alloc: Global, may: bool, within: Within, at: usize) -> Result<(), StepFault>
+    fn begins(
+        &mut self,
+        alloc: Global,
+        may: bool,
+        within: Within,
+        at: usize,
+    ) -> Result<(), StepFault>
         ensures { Does (when may (Some (begins self.old within at []))) result self.new }
     {
         if !may {
@@ -155,7 +163,14 @@ impl State {
     }
 
     /// A part of several bytes begins here with its first byte, where it may.
-    fn begins_with(&mut self, alloc: Global, may: bool, within: Within, at: usize, byte: u8) -> Result<(), StepFault>
+    fn begins_with(
+        &mut self,
+        alloc: Global,
+        may: bool,
+        within: Within,
+        at: usize,
+        byte: u8,
+    ) -> Result<(), StepFault>
         ensures { Does (when may (Some (begins self.old within at (byte ∷ [])))) result self.new }
     {
         self.begins(alloc, may, within, at)?;
@@ -295,10 +310,10 @@ impl State {
     fn slash(&mut self, byte: u8) -> Result<(), StepFault>
         ensures { Does (step_in Slash self.old 0 byte) result self.new }
     {
-        if byte != b'*' {
-            return Err(StepFault::Syntax);
+        if byte == b'*' {
+            return self.moves(Within::Comment);
         }
-        self.moves(Within::Comment)
+        Err(StepFault::Syntax)
     }
 
     /// A byte of a comment.

@@ -116,10 +116,9 @@ fn argument(kind: &PartKind) -> Option<Turn>
 {
     match kind {
         PartKind::Minus => keeps(Mode::Signed),
-        PartKind::AnyLeft
-        | PartKind::AnyRight
-        | PartKind::Name(_)
-        | PartKind::Quoted(_) => keeps(Mode::Argued),
+        PartKind::AnyLeft | PartKind::AnyRight | PartKind::Name(_) | PartKind::Quoted(_) => keeps(
+            Mode::Argued,
+        ),
         _ => first_number(kind),
     }
 }
@@ -172,7 +171,10 @@ pub(crate) fn wants_name(mode: Mode) -> bool
 pub(crate) fn wants_number(mode: Mode) -> bool
     ensures { result ≡ wants_number mode }
 {
-    matches!(mode, Mode::Starred(_) | Mode::Argument | Mode::Signed | Mode::Pointed)
+    matches!(
+        mode,
+        Mode::Starred(_) | Mode::Argument | Mode::Signed | Mode::Pointed
+    )
 }
 
 /// Whether a number would be the first of a place.

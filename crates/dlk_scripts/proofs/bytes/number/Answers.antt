@@ -1,4 +1,4 @@
-use Rattle.std.proofs.Common.{◌≡◌, ℕ, ◌+◌, ◌-◌, ◌*◌, refl, length, arith}
+use Rattle.std.proofs.Common.{ℕ, ◌+◌, ◌-◌, ◌*◌, refl, arith}
 use Rattle.std.proofs.lemmas.List.Sums.{fold_more}
 use Rattle.dlk_scripts.proofs.Digits.{digit_more, below_more, digit_at}
 use Rattle.dlk_scripts.proofs.bytes.number.Goals as goal
