@@ -24,13 +24,13 @@ use Rattle.dlk_scripts.proofs.Completed.{Done, complete}
 use Rattle.dlk_scripts.proofs.Living.{lives}
 
 -- what is closed is finished, and the other way round
-abbrev Closed : Grown → Bool
-Closed x = is_whole (mode_of x) && nothing_open (opens_of (stack_of x))
+abbrev shut : Grown → Bool
+shut x = is_whole (mode_of x) && nothing_open (opens_of (stack_of x))
 
 not_open : (b : Bool) → (b && false) ≡ true → ⊥
 not_open b e = let p = and_parts b false e in cc
 
-closed_finished : (x : Grown) → Closed x ≡ true → (t : Script) × (finished x ≡ Some t)
+closed_finished : (x : Grown) → shut x ≡ true → (t : Script) × (finished x ≡ Some t)
 closed_finished (Come Top A Q r) e = (_, refl)
 closed_finished (Come (InGroup S B P o) A Q r) e = absurd (not_open (is_whole (come_mode r)) e)
 closed_finished (Come (InFork S B q s f c) A Q r) e = absurd (not_open (is_whole (come_mode r)) e)
@@ -52,7 +52,7 @@ come_whole (Once (Atom n w)) = refl
 come_whole (Once (Call n w o l c)) = refl
 come_whole (Times r s n v) = refl
 
-finished_closed : (x : Grown) (t : Script) → finished x ≡ Some t → Closed x ≡ true
+finished_closed : (x : Grown) (t : Script) → finished x ≡ Some t → shut x ≡ true
 finished_closed (Come Top A Q r) t e = rw (come_whole r) refl
 finished_closed (Come (InGroup S B P o) A Q r) t e = absurd (cc)
 finished_closed (Come (InFork S B q s f c) A Q r) t e = absurd (cc)
@@ -175,7 +175,8 @@ end_answer bytes y r e = from (ended y) refl
     from None f = inr (length bytes, stops_at_end bytes y r e f)
     from (Some z) f = let p = said bytes y z r f in inl (p.script, p.says)
 
-pub step_read : (bytes : List ℕ) (y z : State) (b : ℕ) → read first_state 0 bytes ≡ Some y → step y (length bytes) b ≡ Some z → read first_state 0 (bytes ++ b ∷ []) ≡ Some z
+pub step_read : (bytes : List ℕ) (y z : State) (b : ℕ) → read first_state 0 bytes ≡ Some y → step y (length bytes) b ≡ Some z →
+    read first_state 0 (bytes ++ b ∷ []) ≡ Some z
 step_read bytes y z b e s = read_more first_state y z bytes (b ∷ []) e (ap (λ (o : Option State). or_stop o (λ u. Some u)) s)
 
 answer_from : (bytes rest : List ℕ) (y : State) → Reached bytes y → read first_state 0 bytes ≡ Some y → Answer (bytes ++ rest)

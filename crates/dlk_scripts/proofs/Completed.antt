@@ -71,7 +71,8 @@ or_stop_some None = refl
 or_stop_some (Some y) = refl
 
 -- a part has been taken
-done_taken : (s : List ℕ) (ps : List Part) (x y : Grown) (d : Done s ps x) (p : List ℕ) (k : PartKind) (v : State) → v.parts ≡ ps → (t : Taken v k (length s) y) →
+done_taken : (s : List ℕ) (ps : List Part) (x y : Grown) (d : Done s ps x) (p : List ℕ) (k : PartKind) (v : State) → v.parts ≡ ps →
+    (t : Taken v k (length s) y) →
     read d.last (length s) p ≡ take v k (length s) → Done (s ++ p) (ps ++ part (length s) k ∷ []) y
 done_taken s ps x y d p k v w t e = record {
   last = t.after;
@@ -90,14 +91,16 @@ done_mark s ps x y d b k g h e = done_taken s ps x y d (b ∷ []) k d.settled d.
     (or_stop_some (step d.last (length s) b) ∙ clear d.last.within d.last d.settled (length s) b d.settles h ∙ e d.settled (length s))
 
 -- a part of two bytes
-done_two : (s : List ℕ) (ps : List Part) (x y : Grown) (d : Done s ps x) (b c : ℕ) (w : Within) (k : PartKind) → grow x (length s) k ≡ Some y → is_name_byte b ≡ false →
+done_two : (s : List ℕ) (ps : List Part) (x y : Grown) (d : Done s ps x) (b c : ℕ) (w : Within) (k : PartKind) → grow x (length s) k ≡ Some y →
+    is_name_byte b ≡ false →
     start d.settled (length s) b ≡ Some (begins d.settled w (length s) []) →
     ((z : State) (n m : ℕ) → step (begins z w m []) n c ≡ take (begins z w m []) k m) → Done (s ++ b ∷ c ∷ []) (ps ++ part (length s) k ∷ []) y
 done_two s ps x y d b c w k g h e f =
     let v = begins d.settled w (length s) [] in
     let first : step d.last (length s) b ≡ Some v = clear d.last.within d.last d.settled (length s) b d.settles h ∙ e in
     done_taken s ps x y d (b ∷ c ∷ []) k v d.parts (taken v x y k (length s) d.mode d.opens g)
-    (ap (λ (o : Option State). or_stop o (λ z. read z (length s + 1) (c ∷ []))) first ∙ or_stop_some (step v (length s + 1) c) ∙ f d.settled (length s + 1) (length s))
+    (ap (λ (o : Option State). or_stop o (λ z. read z (length s + 1) (c ∷ []))) first ∙ or_stop_some (step v (length s + 1) c) ∙ f d.settled (length s + 1)
+    (length s))
 
 text_reads : (w buffer : List ℕ) (z : State) (n m : ℕ) → list_all is_no_quote w ≡ true →
     read (begins z Quoted m buffer) n (w ++ 34 ∷ []) ≡ take (begins z Quoted m (buffer ++ w)) (kind.Quoted (buffer ++ w)) m
@@ -128,7 +131,8 @@ name_reads (c ∷ r) buffer z n m h =
     rw p.0 (name_reads r (buffer ++ c ∷ []) z (n + 1) m p.1 ∙ ap (λ (v : List ℕ). Some (begins z Name m v)) (append_assoc buffer (c ∷ []) r))
 
 -- a name or a number has come, and ends when it is settled
-done_begun : (s : List ℕ) (ps : List Part) (x y : Grown) (d : Done s ps x) (p : List ℕ) (k : PartKind) (v : State) → v.parts ≡ ps → (t : Taken v k (length s) y) →
+done_begun : (s : List ℕ) (ps : List Part) (x y : Grown) (d : Done s ps x) (p : List ℕ) (k : PartKind) (v : State) → v.parts ≡ ps →
+    (t : Taken v k (length s) y) →
     read d.last (length s) p ≡ Some v → settle v ≡ take v k (length s) → Done (s ++ p) (ps ++ part (length s) k ∷ []) y
 done_begun s ps x y d p k v w t e f = record {
   last = v;
@@ -193,7 +197,8 @@ digits_read (c ∷ r) buffer z n m h few least =
     let p = and_parts (is_digit c) (list_all is_digit r) h in
     let same = append_assoc buffer (c ∷ []) r in
     let few_more : length ((buffer ++ c ∷ []) ++ r) ≤ most_digits = subst (λ (v : List ℕ). length v ≤ most_digits) (sym same) few in
-    let least_more : wants_first z.mode ≡ true → 1 ≤ value ((buffer ++ c ∷ []) ++ r) = subst (λ (v : List ℕ). wants_first z.mode ≡ true → 1 ≤ value v) (sym same) least in
+    let least_more : wants_first z.mode ≡ true → 1 ≤ value ((buffer ++ c ∷ []) ++ r) = subst (λ (v : List ℕ). wants_first z.mode ≡ true → 1 ≤ value v)
+    (sym same) least in
     rw (p.0, goes_on z.mode (buffer ++ c ∷ []) r few_more least_more)
     (digits_read r (buffer ++ c ∷ []) z (n + 1) m p.1 few_more least_more ∙ ap (λ (v : List ℕ). Some (begins z Number m v)) same)
 

@@ -22,7 +22,8 @@ abbrev stop_from : State → ℕ → List ℕ → Option ℕ
 stop_from y n [] = place_of_end (ended y) n
 stop_from y n (b ∷ s) = then_place (step y n b) n (λ z. stop_from z (n + 1) s)
 
-stop_is : (bytes rest : List ℕ) (y : State) (i : ℕ) → Reached bytes y → read first_state 0 bytes ≡ Some y → stop_from y (length bytes) rest ≡ Some i → Stops (bytes ++ rest) i
+stop_is : (bytes rest : List ℕ) (y : State) (i : ℕ) → Reached bytes y → read first_state 0 bytes ≡ Some y → stop_from y (length bytes) rest ≡ Some i →
+    Stops (bytes ++ rest) i
 stop_is bytes [] y i r e h = rw (append-nil bytes) (from (ended y) refl h)
   where
     from : (o : Option State) → ended y ≡ o → place_of_end o (length bytes) ≡ Some i → Stops bytes i
@@ -33,7 +34,8 @@ stop_is bytes (b ∷ rest) y i r e h = from (step y (length bytes) b) refl h
     (ap (λ (n : ℕ). stop_from u n rest) (length-append bytes (b ∷ [])) ∙ g))
   where
     from : (o : Option State) → step y (length bytes) b ≡ o → then_place o (length bytes) (λ z. stop_from z (length bytes + 1) rest) ≡ Some i →
-        ((u : State) → step y (length bytes) b ≡ Some u → stop_from u (length bytes + 1) rest ≡ Some i → Stops ((bytes ++ b ∷ []) ++ rest) i) → Stops (bytes ++ b ∷ rest) i
+        ((u : State) → step y (length bytes) b ≡ Some u → stop_from u (length bytes + 1) rest ≡ Some i → Stops ((bytes ++ b ∷ []) ++ rest) i) →
+        Stops (bytes ++ b ∷ rest) i
     from None s g f = let same : length bytes ≡ i = cc in subst (Stops (bytes ++ b ∷ rest)) same (stops_here bytes rest b y r e s)
     from (Some u) s g f = subst (λ (x : List ℕ). Stops x i) (append_assoc bytes (b ∷ []) rest) (f u s g)
 

@@ -51,12 +51,15 @@ kept_when : (b : Bool) (s : List Part) (F : Type 0) (o : Option Grown) → (b �
 kept_when true s F o h = h refl
 kept_when false s F o h = tt
 
-kept_comma : (S : Stack) (t : Script) (at : ℕ) → Kept (stack_parts S ++ script_parts t ++ part at kind.Comma ∷ []) (StackFits S × ScriptFits t) (grow_comma S t at)
+kept_comma : (S : Stack) (t : Script) (at : ℕ) →
+    Kept (stack_parts S ++ script_parts t ++ part at kind.Comma ∷ []) (StackFits S × ScriptFits t) (grow_comma S t at)
 kept_comma Top t at = tt
 kept_comma (InGroup S A Q o) t at = tt
-kept_comma (InFork S A q s f c) t at = (simp (append_assoc, append-nil, scripts_parts_of c t) refl, λ w. ((w.0.0, w.0.1, w.0.2, scripts_fit c t w.0.3 w.1), tt, tt))
+kept_comma (InFork S A q s f c) t at =
+    (simp (append_assoc, append-nil, scripts_parts_of c t) refl, λ w. ((w.0.0, w.0.1, w.0.2, scripts_fit c t w.0.3 w.1), tt, tt))
 
-kept_close : (S : Stack) (t : Script) (at : ℕ) → Kept (stack_parts S ++ script_parts t ++ part at kind.Close ∷ []) (StackFits S × ScriptFits t) (grow_close S t at)
+kept_close : (S : Stack) (t : Script) (at : ℕ) →
+    Kept (stack_parts S ++ script_parts t ++ part at kind.Close ∷ []) (StackFits S × ScriptFits t) (grow_close S t at)
 kept_close Top t at = tt
 kept_close (InGroup S A Q o) t at = (simp append_assoc refl, λ w. (w.0.0, w.0.1, w.0.2, w.1))
 kept_close (InFork S A q s f c) t at =

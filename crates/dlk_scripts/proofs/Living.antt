@@ -57,9 +57,6 @@ whole_close mode.Argued o e = absurd (cc)
 close_step : (z : State) (n : ℕ) (t : Turn) → z.within ≡ Between → leads z.mode (top z.opens) kind.Close ≡ Some t → step z n 41 ≡ Some (turned z kind.Close n t)
 close_step z n t i e = ap (λ (w : Within). step_in w z n 41) i ∙ rw e refl
 
-turn_of : Mode → Turn
-turn_of m = record { mode = m; change = Close }
-
 closes : (os : List Opening) (z : State) (n : ℕ) → z.within ≡ Between → z.opens ≡ os → is_whole z.mode ≡ true → Lives z n
 closes [] z n i o w = record {
   more = [];
@@ -85,7 +82,8 @@ argued_lives z n i e =
     (closes z.opens (turned z kind.Close n t) (n + 1) refl refl refl)
 
 -- the number 1 comes
-number_lives : (z : State) (n : ℕ) (m : Mode) → z.within ≡ Between → wants_number z.mode ≡ true → ((o : Option Opening) → leads z.mode o (kind.Number 1) ≡ keeps m) →
+number_lives : (z : State) (n : ℕ) (m : Mode) → z.within ≡ Between → wants_number z.mode ≡ true →
+    ((o : Option Opening) → leads z.mode o (kind.Number 1) ≡ keeps m) →
     ((u : State) (k : ℕ) → u.within ≡ Between → u.mode ≡ m → Lives u k) → Lives z n
 number_lives z n m i w e f =
     let v = begins z Number n (49 ∷ []) in
@@ -95,7 +93,8 @@ number_lives z n m i w e f =
     (lives_step v u (n + 1) 32 (rw (e (top z.opens)) refl) (f u (n + 1 + 1) refl refl))
 
 -- the name `a` comes
-name_lives : (z : State) (n : ℕ) → z.within ≡ Between → wants_name z.mode ≡ true → ((o : Option Opening) → leads z.mode o (kind.Name (97 ∷ [])) ≡ keeps mode.Named) → Lives z n
+name_lives : (z : State) (n : ℕ) → z.within ≡ Between → wants_name z.mode ≡ true →
+    ((o : Option Opening) → leads z.mode o (kind.Name (97 ∷ [])) ≡ keeps mode.Named) → Lives z n
 name_lives z n i w e =
     let v = begins z Name n (97 ∷ []) in
     let t : Turn = record { mode = mode.Named; change = Keep } in

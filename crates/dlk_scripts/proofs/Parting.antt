@@ -52,7 +52,8 @@ come_end bytes at y z c ge e = subst (λ (x : List ℕ). HasParts x z.parts) (al
 pub come_open : (bytes : List ℕ) (at : ℕ) (y : State) → Come bytes at y → length bytes ≤ at → ended y ≡ None → Stops bytes at
 come_open bytes at y c ge e =
     let stop = stops_at_end (take at bytes) y c.reached c.reads e in
-    subst (λ (n : ℕ). Stops bytes n) (length-take-le at bytes c.within) (subst (λ (x : List ℕ). Stops x (length (take at bytes))) (all_taken bytes at c.within ge) stop)
+    subst (λ (n : ℕ). Stops bytes n) (length-take-le at bytes c.within)
+    (subst (λ (x : List ℕ). Stops x (length (take at bytes))) (all_taken bytes at c.within ge) stop)
 
 pub come_digits : (bytes : List ℕ) (at : ℕ) (y : State) → Come bytes at y → HasDigits y
 come_digits bytes at y c = has_digits (take at bytes) y c.reached

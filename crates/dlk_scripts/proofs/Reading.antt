@@ -51,7 +51,13 @@ letter_within b e = elim (or_cases (is_between 65 90 b) (is_between 97 122 b) e)
 
 no_space : (b : ℕ) → 33 ≤ b → is_space b ≡ false
 no_space b h =
-    rw (ne_eqb b 32 (λ e. omega (arith, e, h)), ne_eqb b 9 (λ e. omega (arith, e, h)), ne_eqb b 13 (λ e. omega (arith, e, h)), ne_eqb b 10 (λ e. omega (arith, e, h))) refl
+    rw (
+      ne_eqb b 32 (λ e. omega (arith, e, h)),
+      ne_eqb b 9 (λ e. omega (arith, e, h)),
+      ne_eqb b 13 (λ e. omega (arith, e, h)),
+      ne_eqb b 10
+          (λ e. omega (arith, e, h)),
+    ) refl
 
 -- a letter is no white space, no slash and no digit
 pub letter_is : (b : ℕ) → is_letter b ≡ true → (is_space b ≡ false) × ((b == 47) ≡ false) × (is_digit b ≡ false)

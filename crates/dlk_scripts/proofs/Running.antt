@@ -153,7 +153,8 @@ arguments_runs C (OneArgument a) fits r = argument_runs C NoArgument a fits r
 arguments_runs C (ThenArgument l c a) fits r =
     ap (run (InCall C NoArgument Begun)) (append_assoc (arguments_parts l) (part c kind.Comma ∷ argument_parts a) r)
     ∙ arguments_runs C l fits.0 (part c kind.Comma ∷ (argument_parts a ++ r))
-    ∙ turn (arguments_state C l) (InCall C (Before l c) Begun) c kind.Comma (argument_parts a ++ r) (arguments_comma C l c) (argument_runs C (Before l c) a fits.1 r)
+    ∙ turn (arguments_state C l) (InCall C (Before l c) Begun) c kind.Comma (argument_parts a ++ r) (arguments_comma C l c)
+    (argument_runs C (Before l c) a fits.1 r)
 
 regroup : (q l : List Part) (s f c : Part) (r : List Part) →
     (q ++ s ∷ f ∷ l ++ c ∷ []) ++ r ≡ q ++ (s ∷ f ∷ (l ++ c ∷ r))
@@ -173,13 +174,15 @@ mutual
   sequence_runs (ThenRepeat q s p) fits S A r =
       ap (run (Wanting S A NoSemi)) (append_assoc (sequence_parts q) (part s kind.Semicolon ∷ repeat_parts p) r)
       ∙ sequence_runs q fits.0 S A (part s kind.Semicolon ∷ (repeat_parts p ++ r))
-      ∙ turn (sequence_state S A q) (Wanting S A (Semi q s)) s kind.Semicolon (repeat_parts p ++ r) (sequence_semi S A q s) (repeat_runs p fits.1 S A (Semi q s) r)
+      ∙ turn (sequence_state S A q) (Wanting S A (Semi q s)) s kind.Semicolon (repeat_parts p ++ r) (sequence_semi S A q s)
+      (repeat_runs p fits.1 S A (Semi q s) r)
   sequence_runs (ThenBranch q s f l c) fits S A r =
       ap (run (Wanting S A NoSemi)) (regroup (sequence_parts q) (scripts_parts l) (part s kind.Semicolon) (part f kind.Fork) (part c kind.Close) r)
       ∙ sequence_runs q fits.0 S A (part s kind.Semicolon ∷ part f kind.Fork ∷ (scripts_parts l ++ part c kind.Close ∷ r))
       ∙ turn (sequence_state S A q) (Wanting S A (Semi q s)) s kind.Semicolon (part f kind.Fork ∷ (scripts_parts l ++ part c kind.Close ∷ r))
       (sequence_semi S A q s)
-      (scripts_runs l fits.1 S A q s f (part c kind.Close ∷ r) ∙ turn (scripts_state S A q s f l) (Branched S A (ThenBranch q s f l c)) c kind.Close r (scripts_close S A q s f l c) refl)
+      (scripts_runs l fits.1 S A q s f (part c kind.Close ∷ r) ∙ turn (scripts_state S A q s f l) (Branched S A (ThenBranch q s f l c)) c kind.Close r
+      (scripts_close S A q s f l c) refl)
 
   scripts_runs : (l : Scripts) → ScriptsFit l → (S : Stack) (A : Bars) (q : Sequence) (s f : ℕ) (r : List Part) →
       run (Wanting (InFork S A q s f NoComma) NoBar NoSemi) (scripts_parts l ++ r) ≡ run (scripts_state S A q s f l) r

@@ -20,7 +20,8 @@ use Rattle.dlk_scripts.proofs.Reached.{Held, Settled, took, star_last, InComment
 held_as : (y z : State) → z.parts ≡ y.parts → z.mode ≡ y.mode → z.opens ≡ y.opens → Held y → Held z
 held_as y z p m o h = record { grown = h.grown; parts = h.parts ∙ sym p; fits = h.fits; mode = m ∙ h.mode; opens = o ∙ h.opens }
 
-longer : (v w : Within) (bytes : List ℕ) (y : State) (b : ℕ) (buffer : List ℕ) (r : ReachedIn v bytes y) → Pending w buffer (r.tail ++ b ∷ []) → Wanted w y.mode buffer →
+longer : (v w : Within) (bytes : List ℕ) (y : State) (b : ℕ) (buffer : List ℕ) (r : ReachedIn v bytes y) → Pending w buffer (r.tail ++ b ∷ []) →
+    Wanted w y.mode buffer →
     Placed w y.begin (length r.front) → Reached (bytes ++ b ∷ []) (record y { within = w; buffer = buffer })
 longer v w bytes y b buffer r p q l = record {
   front = r.front;
@@ -37,7 +38,8 @@ longer v w bytes y b buffer r p q l = record {
 ends : (w : Within) (bytes : List ℕ) (y z : State) (r : ReachedIn w bytes y) (p last : List ℕ) (k : PartKind) → r.tail ++ last ≡ p → Spells p k →
     y.begin ≡ length r.front → take y k y.begin ≡ Some z → Settled (bytes ++ last) z
 ends w bytes y z r p last k t s l e =
-    let whole : r.front ++ p ≡ bytes ++ last = sym (ap (λ (x : List ℕ). x ++ last) r.bytes_are ∙ append_assoc r.front r.tail last ∙ ap (λ (x : List ℕ). r.front ++ x) t) in
+    let whole : r.front ++ p ≡ bytes ++ last = sym
+    (ap (λ (x : List ℕ). x ++ last) r.bytes_are ∙ append_assoc r.front r.tail last ∙ ap (λ (x : List ℕ). r.front ++ x) t) in
     subst (λ (x : List ℕ). Settled x z) whole (took y r.front p k y.begin z r.spelled r.held s l e)
 
 pub name_ends : (bytes : List ℕ) (y z : State) → ReachedIn Name bytes y → ends_name y ≡ Some z → Settled bytes z
@@ -48,7 +50,8 @@ name_ends bytes y z r e = when_so (is_name y.buffer) _ z e (λ t h.
 pub number_ends : (bytes : List ℕ) (y z : State) → ReachedIn Number bytes y → ends_number y ≡ Some z → Settled bytes z
 number_ends bytes y z r e =
     subst (λ (x : List ℕ). Settled x z) (append-nil bytes)
-    (ends Number bytes y z r y.buffer [] (kind.Number (value y.buffer)) (append-nil r.tail ∙ r.pending.0) (spell.number y.buffer r.pending.1 r.pending.2) r.placed e)
+    (ends Number bytes y z r y.buffer [] (kind.Number (value y.buffer)) (append-nil r.tail ∙ r.pending.0) (spell.number y.buffer r.pending.1 r.pending.2)
+    r.placed e)
 
 starts_then : (bytes : List ℕ) (z : State) (b : ℕ) (o : Option State) → ((y : State) → o ≡ Some y → Settled bytes y) → then_starts o (length bytes) b ≡ Some z →
     Reached (bytes ++ b ∷ []) z
@@ -118,7 +121,8 @@ comment_whole tail c =
     let w = without_star c.inside c.last in
     let no : holds_end (w.0 ++ 42 ∷ []) ≡ false = subst (λ (x : List ℕ). holds_end x ≡ false) w.1 c.no_end in
     let shape : (47 ∷ 42 ∷ (w.0 ++ 42 ∷ 47 ∷ [])) ≡ tail ++ 47 ∷ [] =
-    sym (ap (λ (x : List ℕ). x ++ 47 ∷ []) (c.tail_is ∙ ap (λ (x : List ℕ). 47 ∷ 42 ∷ x) w.1) ∙ ap (λ (x : List ℕ). 47 ∷ 42 ∷ x) (append_assoc w.0 (42 ∷ []) (47 ∷ []))) in
+    sym (ap (λ (x : List ℕ). x ++ 47 ∷ []) (c.tail_is ∙ ap (λ (x : List ℕ). 47 ∷ 42 ∷ x) w.1) ∙ ap (λ (x : List ℕ). 47 ∷ 42 ∷ x)
+    (append_assoc w.0 (42 ∷ []) (47 ∷ []))) in
     subst IsComment shape (spell.comment w.0 (end_less w.0 42 no))
 
 comment_ends : (bytes : List ℕ) (y : State) → ReachedIn CommentStar bytes y → Settled (bytes ++ 47 ∷ []) (moves y Between)

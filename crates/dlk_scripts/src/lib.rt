@@ -10,8 +10,6 @@ mod part;
 mod splitting;
 mod state;
 mod table;
-#[cfg(test)]
-mod tests;
 
 pub use fault::PartsFault;
 pub use part::{Part, PartKind, Quoted};
