@@ -13,3 +13,4 @@ pub mod Answered
 pub mod Stopping
 pub mod Parting
 pub mod Examples
+pub mod Rising

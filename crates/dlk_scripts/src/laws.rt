@@ -1,6 +1,7 @@
 //! The laws of the texts of strategies. Each is a contract of a function that does nothing.
-ghost use Rattle.std.specs.Prelude.{◌≡◌, ◌⊎◌, ℕ, List};
+ghost use Rattle.std.specs.Prelude.{◌≡◌, ◌⊎◌, ℕ, List, length};
 ghost use Rattle.dlk_scripts.specs.declared.part.Part.{Part as ThePart};
+ghost use Rattle.dlk_scripts.specs.Parts.{RiseTo};
 ghost use Rattle.dlk_scripts.specs.Scripts.{Script};
 ghost use Rattle.dlk_scripts.specs.Texts.{IsScript, HasParts, Stops};
 
@@ -27,4 +28,9 @@ pub fn no_stop()
 /// Each text says a script or stops.
 pub fn script_or_stop()
     ensures { (bytes : List ℕ) → ((t : Script) × IsScript bytes t) ⊎ ((at : ℕ) × Stops bytes at) }
+{}
+
+/// The places of a text's parts rise, and are places of its bytes.
+pub fn parts_rise()
+    ensures { (bytes : List ℕ) (parts : List ThePart) → HasParts bytes parts → RiseTo 0 parts (length bytes) }
 {}
