@@ -1,0 +1,2 @@
+pub mod Tactics
+pub mod Ties
