@@ -1,4 +1,5 @@
 pub mod Tactics
 pub mod Rows
 pub mod Faults
+pub mod Strategies
 pub mod Ties

@@ -1,6 +1,7 @@
 //! The strategy language: its trees, its atoms, and the reading of its texts.
 #![tactic(auto)]
 
+mod argument;
 mod fault;
 mod kind;
 mod tactic;
