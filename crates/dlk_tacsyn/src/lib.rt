@@ -3,6 +3,7 @@
 
 mod argument;
 mod fault;
+mod frame;
 mod kind;
 mod tactic;
 
