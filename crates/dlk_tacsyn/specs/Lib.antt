@@ -4,3 +4,4 @@ pub mod Faults
 pub mod Strategies
 pub mod Steps
 pub mod Ties
+pub mod States

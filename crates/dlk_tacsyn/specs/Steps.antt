@@ -9,6 +9,7 @@ use Rattle.dlk_tacsyn.specs.declared.argument.Written.{Written}
 use Rattle.dlk_tacsyn.specs.declared.argument.Written.TheVariants as written
 use Rattle.dlk_tacsyn.specs.declared.argument.Current.{Current}
 use Rattle.dlk_tacsyn.specs.declared.argument.Current.TheVariants as current
+use Rattle.dlk_tacsyn.specs.declared.argument.Call.{Call}
 use Rattle.dlk_tacsyn.specs.declared.frame.Opened.{Opened}
 use Rattle.dlk_tacsyn.specs.declared.frame.Opened.TheVariants.{Group, Fork}
 use Rattle.dlk_tacsyn.specs.Tactics.{Tactic, Choice, Sequence, Branch, Repeat}
@@ -27,13 +28,6 @@ pub record Frame : Type 0 where
 pub data Stack : Type 0 where
   bottom : Stack
   within : Stack → Frame → Stack
-
--- an atom whose bracket is open
-pub record Call : Type 0 where
-  pub at : ℕ
-  pub name : List ℕ
-  pub before : List Written
-  pub current : Current
 
 -- what stands behind the last `;`, `|`, `,` or bracket
 pub data Last : Type 0 where

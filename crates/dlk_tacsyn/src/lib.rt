@@ -2,9 +2,11 @@
 #![tactic(auto)]
 
 mod argument;
+mod atom;
 mod fault;
 mod frame;
 mod kind;
+mod reader;
 mod tactic;
 
 pub use dlk_sequent::Place;
