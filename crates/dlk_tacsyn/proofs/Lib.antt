@@ -1,3 +1,6 @@
 pub mod Words
 pub mod Chains
 pub mod Runs
+pub mod Kept
+pub mod Quoted
+pub mod Stacked

@@ -2,7 +2,7 @@
 ghost use Rattle.std.specs.Prelude.{◌≡◌, ◌++◌, ◌∷◌, [], List, ℕ, Option, None, Some, All, map, IfOk, OnOk, IfErr, MatchOption};
 ghost use Rattle.dlk_tree.specs.Trees.{Tree};
 ghost use Rattle.dlk_store.specs.Stores.{IsId, tree};
-ghost use Rattle.dlk_tacsyn.specs.Faults.{Arguments, IsTacSyntaxOf};
+ghost use Rattle.dlk_tacsyn.specs.Faults.{Arguments, IsTacSyntaxOf, of_text};
 ghost use Rattle.dlk_tacsyn.specs.Strategies.{IsReading, argument_of, arguments_of};
 ghost use Rattle.dlk_tacsyn.specs.Ties.{argument_at, ArgumentIsKnown};
 ghost use Rattle.dlk_tacsyn.specs.States.{ByReading};
@@ -214,7 +214,16 @@ fn quoted<S: Store>(
     tree_texts();
     match read_formula(alloc, text, store) {
         Ok(id) => Ok(id),
-        Err(TextFault::Memory) => Err(TacSyntax::Memory),
-        Err(_) => Err(TacSyntax::Arguments { at }),
+        Err(fault) => Err(unread(at, fault)),
+    }
+}
+
+/// The fault of an atom at this byte with a quoted text that isn't read.
+fn unread(at: usize, fault: TextFault) -> TacSyntax
+    ensures { result ≡ of_text at fault }
+{
+    match fault {
+        TextFault::BadByte { at: _ } | TextFault::Unread(_) => TacSyntax::Arguments { at },
+        TextFault::Memory => TacSyntax::Memory,
     }
 }

@@ -251,8 +251,9 @@ fn after_name<S: Store>(
     ensures fault { IfErr result (IsTacSyntaxOf (λ f. ByReading (λ read. after_name read part.at part.kind (stack_at (S.trees store.old) brackets.outer.items) (frame_at (S.trees store.old) brackets.inner) at name ≡ Fails f))) }
     ensures grows { S.grows store.old store.new }
 {
-    if matches!(part.kind, PartKind::Open) {
-        return Ok(Reader {
+    let Part { kind, at: behind } = part;
+    match kind {
+        PartKind::Open => Ok(Reader {
             brackets,
             last: Last::Called(Call {
                 at,
@@ -260,10 +261,12 @@ fn after_name<S: Store>(
                 before: Listed::new(alloc),
                 current: Current::Nothing,
             }),
-        });
+        }),
+        kind => {
+            let t = atom(alloc, at, name, Listed::new(alloc), store)?;
+            after_whole(alloc, brackets, t, Part { kind, at: behind })
+        }
     }
-    let t = atom(alloc, at, name, Listed::new(alloc), store)?;
-    after_whole(alloc, brackets, t, part)
 }
 
 /// In the brackets of an atom.
