@@ -1,6 +1,6 @@
 -- Strategies over ids stay what they stand for while the store grows, and are made of their parts.
 use Rattle.std.proofs.Common.{◌≡◌, ◌≢◌, ℕ, ◌<◌, List, [], ◌∷◌, ◌++◌, length, map, fold, All, Vec, Global, Result, Ok, Err, refl, sym, ap, ◌∙◌, subst, arith, ◌≤◌}
-use Rattle.std.specs.Prelude.{IfOk}
+use Rattle.std.specs.Prelude.{IfOk, IfErr}
 use Rattle.std.proofs.lemmas.List.{length-map, map-append}
 use Rattle.std.proofs.lemmas.List.Elements.{All-nil, All-cons, All-head, All-tail, All-push, All-same}
 use mathlib.Core.Former.{Count}
@@ -17,6 +17,10 @@ use Rattle.dlk_tacsyn.specs.Strategies.{parts, whole}
 use Rattle.dlk_tacsyn.specs.Ties.{argument_at, ArgumentIsKnown, tactic_at, tactics_at, TacticIsKnown, TacticsAreKnown}
 use Rattle.dlk_tacsyn.specs.Steps.{Stack, bottom, within}
 use Rattle.dlk_tacsyn.specs.States.{frame_at, stack_at, FrameIsKnown, BracketsAreKnown}
+
+pub err_map : {A E : Type 0} (P Q : E → Type 0) → ((e : E) → P e → Q e) → (r : Result A E) → IfErr r P → IfErr r Q
+err_map P Q h (Ok a) p = tt
+err_map P Q h (Err e) p = h e p
 
 pub ok_map : {A E : Type 0} (P Q : A → Type 0) → ((a : A) → P a → Q a) → (r : Result A E) → IfOk r P → IfOk r Q
 ok_map P Q h (Ok a) p = h a p
@@ -152,7 +156,7 @@ module _ (old new : List Tree) (keeps : Keeps old new) where
     steps = tactics_kept f.steps.items k.steps i;
   }
 
-  frame_known : (f : Frame) → FrameIsKnown old f → FrameIsKnown new f
+  pub frame_known : (f : Frame) → FrameIsKnown old f → FrameIsKnown new f
   frame_known f k = record {
     branches = all_still (TacticIsKnown old) (TacticIsKnown new) tactic_known f.branches.items k.branches;
     choices = all_still (TacticIsKnown old) (TacticIsKnown new) tactic_known f.choices.items k.choices;

@@ -4,3 +4,4 @@ pub mod Runs
 pub mod Kept
 pub mod Quoted
 pub mod Stacked
+pub mod Behind

@@ -1,5 +1,5 @@
 -- Quoted texts and arguments, whatever function reads the texts.
-use Rattle.std.proofs.Common.{◌≡◌, ℕ, List, [], ◌∷◌, ◌++◌, Option, Some, None, map, refl, sym, ap, ◌∙◌, append_assoc}
+use Rattle.std.proofs.Common.{◌≡◌, ℕ, List, [], ◌∷◌, ◌++◌, Option, Some, None, map, refl, sym, ap, ◌∙◌, append_assoc, length, arith, ◌<◌}
 use Rattle.std.specs.Prelude.{option_map, option_and_then, MatchOption}
 use Rattle.dlk_tree.specs.Trees.{Tree}
 use Rattle.dlk_grammar.specs.declared.token.Form.TheVariants.{Formula}
@@ -86,3 +86,14 @@ module _ (read : List ℕ → Option Tree) where
   pub atom_unfit : (at : ℕ) (name : List ℕ) (ws : List Written) (kinds : List Kind) →
       row_of name ≡ Some kinds → arguments_of read kinds ws ≡ None → atom_of read at name ws ≡ Fails (Arguments at)
   atom_unfit at name ws kinds row found = ap (atom_by read at name ws) row ∙ ap (atom_given read at name) found
+
+  pub arguments_step : (kinds rest : List Kind) (ws its : List Written) (old before : List Argument) (kind : Kind) (others : List Kind) (w : Written) (after : List Written) (a : Argument) (final : List Argument) →
+      arguments_of read kinds ws ≡ behind old (arguments_of read rest its) → old ≡ before → rest ≡ kind ∷ others → its ≡ w ∷ after →
+      argument_of read kind w ≡ Some a → before ++ a ∷ [] ≡ final → arguments_of read kinds ws ≡ behind final (arguments_of read others after)
+  arguments_step kinds rest ws its old before kind others w after a final goes kept kinds_are items_are found ends =
+      goes ∙ (λ i. behind (kept i) (arguments_of read (kinds_are i) (items_are i))) ∙ arguments_next before kind others w after a found ∙ ap (λ z. behind z (arguments_of read others after)) ends
+
+  pub arguments_left : (before : List Argument) (rest : List Kind) (its : List Written) → length its ≡ 0 → 0 < length rest → behind before (arguments_of read rest its) ≡ None
+  arguments_left before [] its none some = absurd (omega arith)
+  arguments_left before (k ∷ ks) [] none some = refl
+  arguments_left before (k ∷ ks) (w ∷ ws) none some = absurd (omega arith)

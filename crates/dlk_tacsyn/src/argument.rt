@@ -155,7 +155,7 @@ pub(crate) fn arguments<S: Store>(
         all.push(argument)?;
         rest = others;
     }
-    if !rest.is_empty() {
+    if rest.len() > 0 {
         return Err(TacSyntax::Arguments { at });
     }
     Ok(Listed::from_vec(all))

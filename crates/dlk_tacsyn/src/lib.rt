@@ -7,9 +7,11 @@ mod fault;
 mod frame;
 mod kind;
 mod reader;
+mod reading;
 mod tactic;
 
 pub use dlk_sequent::Place;
 pub use fault::TacSyntax;
 pub use kind::Kind;
+pub use reading::strategy;
 pub use tactic::{Arg, Atom, Tactic};

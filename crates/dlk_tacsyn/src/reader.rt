@@ -5,8 +5,8 @@ ghost use Rattle.dlk_scripts.specs.declared.part.PartKind.TheVariants as kind;
 ghost use Rattle.dlk_tacsyn.specs.Faults.{IsTacSyntaxOf};
 ghost use Rattle.dlk_tacsyn.specs.Strategies.{Says, Fails};
 ghost use Rattle.dlk_tacsyn.specs.Ties.{tactic_at, TacticIsKnown};
-ghost use Rattle.dlk_tacsyn.specs.Steps.{start, step, finish, behind_close, behind_open, after_nothing, after_whole, after_name, after_call};
-ghost use Rattle.dlk_tacsyn.specs.States.{ByReading, frame_at, stack_at, state_at, FrameIsKnown, BracketsAreKnown, ReaderIsKnown};
+ghost use Rattle.dlk_tacsyn.specs.Steps.{start, step, settled, finish, behind_close, behind_open, after_nothing, after_whole, after_name, after_call};
+ghost use Rattle.dlk_tacsyn.specs.States.{ByReading, frame_at, stack_at, last_at, state_at, LastIsKnown, BracketsAreKnown, ReaderIsKnown};
 
 use crate::argument::{Call, Current, given};
 use crate::atom::atom;
@@ -92,13 +92,24 @@ impl Reader {
         ensures grows { S.grows store.old store.new }
     {
         let Reader { brackets, last } = self;
-        let t = match last {
-            Last::Named { at, name } => atom(alloc, at, name, Listed::new(alloc), store)?,
-            Last::Whole(t) => t,
-            Last::Nothing | Last::Called(_) => return Err(TacSyntax::Syntax { at: 0 }),
-        };
+        let t = settled(alloc, last, store)?;
         let inner = brackets.inner.end_choice(alloc, t)?;
         Ok(inner.closed())
+    }
+}
+
+/// The strategy that stands last. Where none does, no text ends so, and the fault's place is free.
+fn settled<S: Store>(alloc: Global, last: Last, store: &mut S) -> Result<Tactic, TacSyntax>
+    requires { LastIsKnown (S.trees store.old) last }
+    ensures found { IfOk result (λ t. ByReading (λ read. settled read (last_at (S.trees store.old) last) ≡ Says (tactic_at (S.trees store.new) t))) }
+    ensures known { IfOk result (TacticIsKnown (S.trees store.new)) }
+    ensures fault { IfErr result (IsTacSyntaxOf (λ f. ByReading (λ read. settled read (last_at (S.trees store.old) last) ≡ Fails f))) }
+    ensures grows { S.grows store.old store.new }
+{
+    match last {
+        Last::Named { at, name } => atom(alloc, at, name, Listed::new(alloc), store),
+        Last::Whole(t) => Ok(t),
+        Last::Nothing | Last::Called(_) => Err(TacSyntax::Syntax { at: 0 }),
     }
 }
 
