@@ -5,3 +5,4 @@ pub mod Kept
 pub mod Quoted
 pub mod Stacked
 pub mod Behind
+pub mod Later

@@ -162,3 +162,7 @@ module _ (read : List ℕ → Option Tree) where
   -- the strategy of the text, where its parts end
   abbrev pub finish : State → Outcome Tactic
   finish s = settled s.last >>= (λ t. Says (closed s.inner.opened (end_choice s.inner t).branches))
+
+  -- what becomes of parts
+  abbrev pub outcome_of : List Part → Outcome Tactic
+  outcome_of ps = run start ps >>= (λ s. finish s)

@@ -1,9 +1,9 @@
 //! Reads the texts of strategies.
 ghost use Rattle.std.specs.Prelude.{◌≡◌, IfOk, IfErr};
 ghost use Rattle.dlk_tacsyn.specs.Faults.{IsTacSyntaxOf};
-ghost use Rattle.dlk_tacsyn.specs.Strategies.{Says, Fails, ◌>>=◌, StrategyText, StrategyFault};
+ghost use Rattle.dlk_tacsyn.specs.Strategies.{Says, Fails, StrategyText, StrategyFault};
 ghost use Rattle.dlk_tacsyn.specs.Ties.{tactic_at, TacticIsKnown};
-ghost use Rattle.dlk_tacsyn.specs.Steps.{start, run, finish};
+ghost use Rattle.dlk_tacsyn.specs.Steps.{outcome_of};
 ghost use Rattle.dlk_tacsyn.specs.States.{ByReading};
 
 use crate::fault::TacSyntax;
@@ -42,9 +42,9 @@ fn read_parts<S: Store>(
     parts: Vec<Part>,
     store: &mut S,
 ) -> Result<Tactic, TacSyntax>
-    ensures found { IfOk result (λ t. ByReading (λ read. (run read start parts.items >>= (λ s. finish read s)) ≡ Says (tactic_at (S.trees store.new) t))) }
+    ensures found { IfOk result (λ t. ByReading (λ read. outcome_of read parts.items ≡ Says (tactic_at (S.trees store.new) t))) }
     ensures known { IfOk result (TacticIsKnown (S.trees store.new)) }
-    ensures fault { IfErr result (IsTacSyntaxOf (λ f. ByReading (λ read. (run read start parts.items >>= (λ s. finish read s)) ≡ Fails f))) }
+    ensures fault { IfErr result (IsTacSyntaxOf (λ f. ByReading (λ read. outcome_of read parts.items ≡ Fails f))) }
     ensures grows { S.grows store.old store.new }
 {
     let mut reader = Reader::new(alloc);

@@ -21,6 +21,13 @@ loop-next-preserved g c =
           (map (argument_at old) c.loop-next.all.items) (map (argument_at new) c.loop-next.all.items)
           c.in-Some-split_first.kind.now c.in-Some-split_first.others.now c.in-Some.next (into_iter_items c.next.new.self) (argument_at new c.in_ok-argument.argument) (map (argument_at new) c.push.new.self.items)
           (c.loop-next.invariant.goes read reading) (sym (arguments_kept old new keeps c.loop-next.all.items c.loop-next.invariant.known))
-          c.in-Some-split_first.ensures.cases c.in-Some.ensures.steps.0 (c.in_ok-argument.ensures.found read reading)
+          c.in-Some-split_first.ensures.cases.0 c.in-Some.ensures.steps.0 (c.in_ok-argument.ensures.found read reading)
           (sym (ap (map (argument_at new)) c.in_ok-push.ensures.items ∙ map-append (argument_at new) c.loop-next.all.items (c.in_ok-argument.argument ∷ [])));
     }
+
+pub returns-then-rest-gt0-clause-fault : goal.returns-then-rest-gt0-clause-fault
+returns-then-rest-gt0-clause-fault g c =
+    let none : length (into_iter_items c.loop-next.next-iterator) ≡ 0 = sym c.loop-next.next-iterator.rest.ok.0 ∙ c.in-None.ensures.steps.0 in
+    let some : 0 < length c.loop-next.rest.now = omega arith in
+    (refl, λ read reading. c.loop-next.invariant.goes read reading
+      ∙ arguments_left read (map (argument_at (g.S.Store.trees c.loop-next.store)) c.loop-next.all.items) c.loop-next.rest.now (into_iter_items c.loop-next.next-iterator) none some)

@@ -26,7 +26,7 @@ returns-in_ok-t-in_default g c =
           (λ r p read reading.
             (λ i. after_name read c.args.part.at c.args.part.kind (sym stacks i) (sym frames i) c.args.at c.args.name)
             ∙ name_ended read c.args.part.at c.args.part.kind kind (stack_at new c.args.brackets.outer.items) (frame_at new c.args.brackets.inner) c.args.at c.args.name (tactic_at new t) (Says (state_at new r))
-              c.in_default.kind-is c.in_default.not-Open (ap (atom_of read c.args.at c.args.name) (sym c.new-in_default.ensures) ∙ c.in_ok-t-in_default.ensures.found read reading) (p new))
+              (sym c.in_default.kind-is) c.in_default.not-Open (ap (atom_of read c.args.at c.args.name) (sym c.new-in_default.ensures) ∙ c.in_ok-t-in_default.ensures.found read reading) (p new))
           c.after_whole.result c.after_whole.ensures.found;
       known = ok_map
           (λ r. (trees : List Tree) → BracketsAreKnown trees c.args.brackets → TacticIsKnown trees t → ReaderIsKnown trees r) (ReaderIsKnown new)
@@ -41,7 +41,7 @@ returns-in_ok-t-in_default g c =
             (λ f w read reading.
               (λ i. after_name read c.args.part.at c.args.part.kind (sym stacks i) (sym frames i) c.args.at c.args.name)
               ∙ name_ended read c.args.part.at c.args.part.kind kind (stack_at new c.args.brackets.outer.items) (frame_at new c.args.brackets.inner) c.args.at c.args.name (tactic_at new t) (Fails f)
-                c.in_default.kind-is c.in_default.not-Open (ap (atom_of read c.args.at c.args.name) (sym c.new-in_default.ensures) ∙ c.in_ok-t-in_default.ensures.found read reading) (w new))
+                (sym c.in_default.kind-is) c.in_default.not-Open (ap (atom_of read c.args.at c.args.name) (sym c.new-in_default.ensures) ∙ c.in_ok-t-in_default.ensures.found read reading) (w new))
             e p)
           c.after_whole.result c.after_whole.ensures.fault;
       grows = c.in_ok-t-in_default.ensures.grows;
