@@ -1,4 +1,4 @@
-use Rattle.std.proofs.Common.{◌≡◌, ℕ, List, Option, sym, ap, ◌∙◌}
+use Rattle.std.proofs.Common.{◌≡◌, ℕ, List, Option, refl, sym, ap, ◌∙◌}
 use Rattle.dlk_tree.specs.Trees.{Tree}
 use Rattle.dlk_tacsyn.specs.Faults.{IsTacSyntaxOf}
 use Rattle.dlk_tacsyn.specs.Strategies.{Says, Fails, atom_of}
@@ -18,7 +18,7 @@ returns-in_ok-t-in_default g c =
     let keeps = g.met.S.Store.grows_keeps c.args.store.now c.atom.new.store c.in_ok-t-in_default.ensures.grows in
     let stacks = stack_kept old new keeps c.args.brackets.outer.items c.requires.outer in
     let frames = frame_kept old new keeps c.args.brackets.inner c.requires.inner in
-    let kind = c.in_default.kind in
+    let kind = c.args.part.kind in
     record {
       found = ok_map
           (λ r. (trees : List Tree) → after_whole c.args.part.at kind (stack_at trees c.args.brackets.outer.items) (frame_at trees c.args.brackets.inner) (tactic_at trees t) ≡ Says (state_at trees r))
@@ -26,7 +26,7 @@ returns-in_ok-t-in_default g c =
           (λ r p read reading.
             (λ i. after_name read c.args.part.at c.args.part.kind (sym stacks i) (sym frames i) c.args.at c.args.name)
             ∙ name_ended read c.args.part.at c.args.part.kind kind (stack_at new c.args.brackets.outer.items) (frame_at new c.args.brackets.inner) c.args.at c.args.name (tactic_at new t) (Says (state_at new r))
-              (sym c.in_default.kind-is) c.in_default.not-Open (ap (atom_of read c.args.at c.args.name) (sym c.new-in_default.ensures) ∙ c.in_ok-t-in_default.ensures.found read reading) (p new))
+              refl c.in_default.not-Open (ap (atom_of read c.args.at c.args.name) (sym c.new-in_default.ensures) ∙ c.in_ok-t-in_default.ensures.found read reading) (p new))
           c.after_whole.result c.after_whole.ensures.found;
       known = ok_map
           (λ r. (trees : List Tree) → BracketsAreKnown trees c.args.brackets → TacticIsKnown trees t → ReaderIsKnown trees r) (ReaderIsKnown new)
@@ -41,7 +41,7 @@ returns-in_ok-t-in_default g c =
             (λ f w read reading.
               (λ i. after_name read c.args.part.at c.args.part.kind (sym stacks i) (sym frames i) c.args.at c.args.name)
               ∙ name_ended read c.args.part.at c.args.part.kind kind (stack_at new c.args.brackets.outer.items) (frame_at new c.args.brackets.inner) c.args.at c.args.name (tactic_at new t) (Fails f)
-                (sym c.in_default.kind-is) c.in_default.not-Open (ap (atom_of read c.args.at c.args.name) (sym c.new-in_default.ensures) ∙ c.in_ok-t-in_default.ensures.found read reading) (w new))
+                refl c.in_default.not-Open (ap (atom_of read c.args.at c.args.name) (sym c.new-in_default.ensures) ∙ c.in_ok-t-in_default.ensures.found read reading) (w new))
             e p)
           c.after_whole.result c.after_whole.ensures.fault;
       grows = c.in_ok-t-in_default.ensures.grows;
