@@ -44,3 +44,16 @@ abbrev mutual
   pub tactics_at : {m : _} → List Tree → Row_of-Tactic m → Tactics
   tactics_at trees end_of-Tactic = no_parts
   tactics_at trees (more_of-Tactic t rest) = part (tactic_at trees t) (tactics_at trees rest)
+
+-- its ids are those of the store
+abbrev mutual
+  pub TacticIsKnown : List Tree → Tactic → Type 0
+  TacticIsKnown trees (Choice' shape all) = TacticsAreKnown trees all
+  TacticIsKnown trees (Seq' shape all) = TacticsAreKnown trees all
+  TacticIsKnown trees (Branch' at shape all) = TacticsAreKnown trees all
+  TacticIsKnown trees (Repeat' place body times) = TacticIsKnown trees body
+  TacticIsKnown trees (One atom) = AtomIsKnown trees atom
+
+  pub TacticsAreKnown : {m : _} → List Tree → Row_of-Tactic m → Type 0
+  TacticsAreKnown trees end_of-Tactic = Unit {0}
+  TacticsAreKnown trees (more_of-Tactic t rest) = TacticIsKnown trees t × TacticsAreKnown trees rest
