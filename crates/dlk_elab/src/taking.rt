@@ -7,7 +7,7 @@ ghost use Rattle.dlk_rules.specs.Steps.{step_at, HasKnownIds};
 ghost use Rattle.dlk_elab.specs.Atoms.{FirstFault};
 
 use dlk_kernel::{Kernel, StepFault};
-use dlk_rules::Step;
+use dlk_rules::{Step, step_stays};
 use dlk_store::{Steps, Store};
 use std::alloc::Global;
 use std::sync::ledger::Ledger;
@@ -25,6 +25,7 @@ pub(crate) fn take_in_turn<S: Store, L: Ledger>(
     ensures kept { ExtendsRows S.trees kernel.old kernel.new }
     ensures grows { S.grows kernel.old.store kernel.new.store }
 {
+    step_stays();
     for step in plan {
         kernel.step(alloc, step, steps)?;
     }
