@@ -18,9 +18,9 @@ use Rattle.dlk_rules.specs.declared.rule.RuleWord.{RuleWord}
 use Rattle.dlk_rules.specs.declared.rule.RuleWord.TheVariants as word
 use Rattle.dlk_rules.specs.Steps.{side_of}
 use Rattle.dlk_rules.specs.Words.{shape_of, text_of, wanted, named}
+use Rattle.dlk_rules.proofs.WordLaws.{word_named}
 use Rattle.dlk_tacsyn.specs.Tactics.{Argument, AtPlace, Word, GivenFormula, Atom}
 use Rattle.dlk_elab.specs.Atoms.{AtomWhy, NoPlace, AtStep, IsThere, IsElsewhere, further, across, AreFor, one_place, two_places, place_and_formula, one_formula, place_and_name, AreSame, AreFirstSame, Asked, Steps, Refused, Asks, nil, close, nothing_same, leaf, a_rule, elsewhere}
-use Rattle.dlk_elab.proofs.Names.{word_named}
 
 there_one : (side : Option Side) (i k : ℕ) (a : Argument) → IsThere side i a → IsThere side k a → i ≡ k
 there_one None i k a s t = absurd s
@@ -55,8 +55,8 @@ for_one side _ _ _ (place_and_name y s) (two_places {i} t v) = absurd (no_name s
 for_one side _ _ _ (place_and_name {a} {i} y s) (place_and_name {i = k} z t) = ap (λ n. PlaceAndName n y) (there_one side i k a s t)
 
 any_one : (P : Argument → Type 0) (a : Argument) → Any P (a ∷ []) → P a
-any_one P a (zero, (x, (less, (is, h)))) = subst P (sym is) h
-any_one P a (suc k, (x, (less, (is, h)))) = absurd (omega arith)
+any_one P a (zero, x, less, is, h) = subst P (sym is) h
+any_one P a (suc k, x, less, is, h) = absurd (omega arith)
 
 any_two : (P : Argument → Type 0) (a b : Argument) → Any P (a ∷ b ∷ []) → P a ⊎ P b
 any_two P a b h = any_at h.0 h.1 h.2 h.3 h.4

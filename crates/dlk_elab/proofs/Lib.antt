@@ -7,3 +7,8 @@ pub mod Rows
 pub mod TakenLaws
 pub mod Replaced
 pub mod AskLaws
+pub mod Plans
+pub mod Decided
+pub mod AtomLaws
+pub mod RuleArguments
+pub mod Elaborates

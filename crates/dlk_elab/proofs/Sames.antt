@@ -2,13 +2,15 @@
 use Rattle.std.proofs.Common.{◌≡◌, ◌≢◌, ℕ, zero, suc, ◌+◌, ◌-◌, ◌<◌, ◌≤◌, List, map, length, get_or, Option, Some, None, refl, sym, ap, subst, ◌∙◌, ◌⊎◌, inl, inr, arith}
 use Rattle.std.specs.List.{slice_get}
 use Rattle.std.specs.Option.{option_map}
-use Rattle.std.proofs.lemmas.Option.{slice_get-map, slice_get_read, slice_get_within, same_Some}
+use Rattle.std.proofs.lemmas.Option.{slice_get-map, slice_get-get_or, slice_get_read, slice_get_within, same_Some}
 use Rattle.std.proofs.lemmas.Bool.{cases_order, cases_lt}
 use Rattle.dlk_tree.specs.Trees.{Tree}
 use Rattle.dlk_store.specs.declared.Id.{Id}
 use Rattle.dlk_store.specs.Stores.{tree}
 use Rattle.dlk_calculus.specs.Places.{At}
 use Rattle.dlk_calculus.specs.Sequents.{Sequent}
+use Rattle.dlk_sequent.specs.declared.sequent.Sequent.{Sequent as IdSequent}
+use Rattle.dlk_sequent.specs.Sequents.{sequent_at}
 use Rattle.dlk_elab.specs.Atoms.{AreSame, AreFirstSame}
 use Rattle.dlk_elab.specs.Ties.{IsFirstPlace}
 use Rattle.dlk_elab.proofs.Places.{at_suc}
@@ -102,3 +104,31 @@ first_same_found s i j f clear here first = record {
               | inr under ↦ absurd (clear (k - 1) same.0 (omega arith) h.1 l same.2)
             ]
         ]
+
+-- the same over the ids of a store, where one was read
+module _ (trees : List Tree) (ids : List Id) (i : ℕ) (id : Id) (within : i < length ids) where
+  pub ids_found : (x : Tree) → Clear (map (tree trees) ids) i x → tree trees (get_or ids i id) ≡ x → IsFirstPlace (map (tree trees) ids) (i + 1) x
+  ids_found x clear same = first_found (map (tree trees) ids) i x clear (slice_get-map (tree trees) ids i ∙ ap (option_map (tree trees)) (slice_get-get_or ids i id within) ∙ ap Some same)
+
+  pub ids_more : (x : Tree) → Clear (map (tree trees) ids) i x → tree trees (get_or ids i id) ≢ x → Clear (map (tree trees) ids) (i + 1) x
+  ids_more x clear other =
+      clear_more (map (tree trees) ids) i x clear
+      (λ found. other (same_Some _ _ (sym (slice_get-map (tree trees) ids i ∙ ap (option_map (tree trees)) (slice_get-get_or ids i id within)) ∙ found)))
+
+module _ (trees : List Tree) (s : IdSequent) (left right : List Id) (i : ℕ) (id : Id) (left_is : left ≡ s.ante) (right_is : right ≡ s.succ) (within : i < length left) where
+  read : slice_get (map (tree trees) s.ante) i ≡ Some (tree trees (get_or left i id))
+  read =
+      ap (λ ids. slice_get (map (tree trees) ids) i) (sym left_is) ∙ slice_get-map (tree trees) left i
+      ∙ ap (option_map (tree trees)) (slice_get-get_or left i id within)
+
+  pub sides_found : (j : ℕ) → ClearLeft (sequent_at trees s) i → IsFirstPlace (map (tree trees) right) j (tree trees (get_or left i id)) →
+      AreFirstSame (sequent_at trees s) (i + 1) j
+  sides_found j clear first =
+      first_same_found (sequent_at trees s) i j (tree trees (get_or left i id)) clear read
+      (subst (λ ids. IsFirstPlace (map (tree trees) ids) j (tree trees (get_or left i id))) right_is first)
+
+  pub sides_more : ClearLeft (sequent_at trees s) i → ((j : ℕ) → ¬ At (map (tree trees) right) j (tree trees (get_or left i id))) →
+      ClearLeft (sequent_at trees s) (i + 1)
+  sides_more clear none =
+      left_more (sequent_at trees s) i (tree trees (get_or left i id)) clear read
+      (λ j. subst (λ ids. ¬ At (map (tree trees) ids) j (tree trees (get_or left i id))) right_is (none j))

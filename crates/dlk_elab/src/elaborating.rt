@@ -12,7 +12,7 @@ use crate::fault::TacFault;
 use crate::plan::{Target, plan};
 use crate::taking::take_in_turn;
 use dlk_kernel::{Fact, Kernel, StepFault};
-use dlk_rules::Step;
+use dlk_rules::{Step, step_stays};
 use dlk_store::{Steps, Store};
 use dlk_tacsyn::Atom;
 use std::alloc::Global;
@@ -64,6 +64,7 @@ pub fn elaborate<S: Store, L: Ledger>(
 
     ensures grows { S.grows kernel.old.store kernel.new.store }
 {
+    step_stays();
     let rows = kernel.rows();
     let s = &kernel.goals(fact)[goal as usize - 1];
     let target = Target { rows, fact, goal };

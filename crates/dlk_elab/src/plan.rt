@@ -131,6 +131,7 @@ fn rule_plan(alloc: Global, target: Target, word: RuleWord, atom: &Atom) -> Resu
     let Some(rule) = word.rule(arguments) else {
         return Err(TacFault::NoPlace);
     };
+    prove!(rule.is_proper());
     let mut plan = Vec::new(alloc);
     plan.push(target.apply(rule))?;
     Ok(plan)
