@@ -66,10 +66,10 @@ module _ (rows : List Provable) (count fact goal : ℕ) (atom : Atom) (s : TreeS
   plan_fault (fault.Step why) h = asks_none s is_goal (subst (λ n. Asks n fact goal s atom (Refused (AtStep why))) counted h)
   plan_fault fault.Memory h = tt
 
-  pub step_fault : (steps : List TreeStep) → Asks count fact goal s atom (Steps steps) → (e : StepFault) → IsStepFault (FirstFault rows steps) e →
+  pub fault_of_step : (steps : List TreeStep) → Asks count fact goal s atom (Steps steps) → (e : StepFault) → IsStepFault (FirstFault rows steps) e →
       IsTacFault (AtomFault rows fact goal atom) (of_step e)
-  step_fault steps asks (step_fault.Refused why) h = not_taken s steps is_goal (subst (λ n. Asks n fact goal s atom (Steps steps)) counted asks) h
-  step_fault steps asks step_fault.Memory h = tt
+  fault_of_step steps asks (step_fault.Refused why) h = not_taken s steps is_goal (subst (λ n. Asks n fact goal s atom (Steps steps)) counted asks) h
+  fault_of_step steps asks step_fault.Memory h = tt
 
   pub steps_made : (steps same : List TreeStep) (after : List Provable) → same ≡ steps → Asks count fact goal s atom (Steps steps) → Takes rows steps after →
       AtomSteps rows fact goal atom same after

@@ -103,10 +103,10 @@ module _ (side : Option Side) where
   name_said _ _ e (place_and_name {i = i} y h) = says_name i h
 
   place_of : (xs : List Argument) (a : Argument) → SaysPlace side xs → xs ≡ a ∷ [] → (i : ℕ) × IsThere side i a
-  place_of _ a (says_place {x} i h) e = let f : x ≡ a = cc in (i, subst (IsThere side i) f h)
+  place_of _ a (says_place {a = x} i h) e = let f : x ≡ a = cc in (i, subst (IsThere side i) f h)
 
   first_place_of : (xs : List Argument) (a b : Argument) → SaysPlaces side xs → xs ≡ a ∷ b ∷ [] → (i : ℕ) × IsThere side i a
-  first_place_of _ a b (says_places {x} i k h j) e = let f : x ≡ a = cc in (i, subst (IsThere side i) f h)
+  first_place_of _ a b (says_places {a = x} i k h j) e = let f : x ≡ a = cc in (i, subst (IsThere side i) f h)
 
   second_place_of : (xs : List Argument) (a b : Argument) → SaysPlaces side xs → xs ≡ a ∷ b ∷ [] → (k : ℕ) × IsThere side k b
   second_place_of _ a b (says_places {b = y} i k h j) e = let f : y ≡ b = cc in (k, subst (IsThere side k) f j)

@@ -4,9 +4,11 @@
 mod arguments;
 mod elaborating;
 mod fault;
+mod laws;
 mod plan;
 mod same;
 mod taking;
 
 pub use elaborating::{Elaborated, elaborate};
 pub use fault::TacFault;
+pub use laws::{atom_replaces_goal, one_atom, some_atom};

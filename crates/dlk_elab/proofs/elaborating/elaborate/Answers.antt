@@ -8,7 +8,7 @@ use Rattle.dlk_rules.specs.Steps.{step_at}
 use Rattle.dlk_tacsyn.specs.Ties.{atom_at}
 use Rattle.dlk_kernel.specs.Kernel.{facts, provable_at}
 use Rattle.dlk_elab.proofs.Rows.{rows_back}
-use Rattle.dlk_elab.proofs.Elaborates.{goal_within, goal_read, few_formulas, steps_same, plan_fault, step_fault, steps_made}
+use Rattle.dlk_elab.proofs.Elaborates.{goal_within, goal_read, few_formulas, steps_same, plan_fault, fault_of_step, steps_made}
 use Rattle.dlk_elab.proofs.elaborating.elaborate.Goals as goal
 
 pub plan-requires-clause-sequent : goal.plan-requires-clause-sequent
@@ -63,7 +63,7 @@ returns-in-Err-clause-fault g c =
     let rows = facts g.S.Store.trees c.args.kernel.now in
     let is_goal = goal_read trees rows c.args.fact c.args.goal c.goals.result.now c.index-goals-goal.result c.requires.goal c.goals.ensures.goals c.index-goals-goal.is in
     let counted = c.rows-rows.ensures.count ∙ sym (length-map c.args.kernel.now.rows (provable_at trees)) in
-    rw c.from.ensures (step_fault rows c.rows-rows.result c.args.fact c.args.goal (atom_at trees c.args.atom.now) (sequent_at trees c.index-goals-goal.result)
+    rw c.from.ensures (fault_of_step rows c.rows-rows.result c.args.fact c.args.goal (atom_at trees c.args.atom.now) (sequent_at trees c.index-goals-goal.result)
     counted is_goal (map (step_at trees) c.in_ok-plan.plan.items) c.in_ok-plan.ensures.plan.asks c.in-Err.why
     (rw c.as_slice.ensures.value at c.in-Err.ensures.fault))
 
