@@ -1,6 +1,7 @@
 -- What an atom leaves of the last row.
 use Rattle.std.proofs.Common.{◌≡◌, ℕ, ◌+◌, ◌-◌, ◌≤◌, List, [], ◌∷◌, ◌++◌, length, take, drop, Some, refl, sym, ap, subst, ◌∙◌, arith, length-append, append_assoc}
-use Rattle.dlk_calculus.specs.Places.{At, put_all}
+use Rattle.std.proofs.lemmas.List.{length-take-le, length-drop}
+use Rattle.dlk_calculus.specs.Places.{At, IsPlace, put_all}
 use Rattle.dlk_calculus.specs.Sequents.{Sequent}
 use Rattle.dlk_calculus.specs.Provables.{Provable, assumed, applied, merged}
 use Rattle.dlk_calculus.specs.Rules.{Rule, Close}
@@ -95,3 +96,20 @@ replaced_by rows after goal p s atom steps _ stands here asks e taken = absurd (
 pub replaced : (rows after : List Provable) (goal : ℕ) (atom : Atom) (steps : List Step) → AtomSteps rows (length rows) goal atom steps after →
     (new : List Sequent) × Replaces rows goal after new
 replaced rows after goal atom steps made = replaced_by rows after goal made.is_goal.0 made.s atom steps (Steps steps) made.is_goal.1 made.is_goal.2 made.asks refl made.takes
+
+-- as many goals more as stand in the goal's place, but for the goal
+put_length : {A : Type 0} (items new : List A) (place : ℕ) → IsPlace items place → length (put_all items place new) + 1 ≡ length items + length new
+put_length items new place there =
+    omega (arith, there.0, there.1, length-append (take (place - 1) items ++ new) (drop place items), length-append (take (place - 1) items) new, length-take-le (place - 1) items (omega (arith, there.0, there.1)), length-drop place items)
+
+pub counted : (rows after : List Provable) (goal : ℕ) (atom : Atom) (steps : List Step) (new : List Sequent) (p q : Provable) →
+    AtomSteps rows (length rows) goal atom steps after → Replaces rows goal after new → At rows (length rows) p → At after (length after) q →
+    length q.goals + 1 ≡ length p.goals + length new
+counted rows after goal atom steps new p q made replaces first last =
+    let old : replaces.old_last ≡ p = at_one rows (length rows) replaces.old_last p replaces.old_is first in
+    let now : replaces.new_last ≡ q = at_one after (length after) replaces.new_last q replaces.new_is last in
+    let row : made.is_goal.0 ≡ p = at_one rows (length rows) made.is_goal.0 p made.is_goal.1 first in
+    let here : At p.goals goal made.s = subst (λ (r : Provable). At r.goals goal made.s) row made.is_goal.2 in
+    let goals : q.goals ≡ put_all p.goals goal new =
+    sym (ap (λ (r : Provable). r.goals) now) ∙ replaces.goals ∙ ap (λ (r : Provable). put_all r.goals goal new) old in
+    ap (λ (l : List Sequent). length l + 1) goals ∙ put_length p.goals new goal (At_place p.goals goal made.s here)

@@ -1,5 +1,6 @@
 //! The laws of atoms. Each is a contract of a function that does nothing but call laws of the calculus.
-ghost use Rattle.std.specs.Prelude.{◌≡◌, ◌⊎◌, ℕ, List, length};
+ghost use Rattle.std.specs.Prelude.{◌≡◌, ◌+◌, ◌⊎◌, ℕ, List, length};
+ghost use Rattle.dlk_calculus.specs.Places.{At};
 ghost use Rattle.dlk_calculus.specs.Provables.{Provable};
 ghost use Rattle.dlk_calculus.specs.Sequents.{Sequent};
 ghost use Rattle.dlk_calculus.specs.Steps.{Step};
@@ -29,7 +30,9 @@ pub fn some_atom()
     given_unless_against();
 }
 
-/// The last row after an atom on a goal of the last row is that one, with other goals in the goal's place.
+/// The last row after an atom on a goal of the last row is that one, with other goals in the goal's place, which are as many as there are
+/// goals more, and one.
 pub fn atom_replaces_goal()
-    ensures { (rows : List Provable) (goal : ℕ) (atom : Atom) (s : List Step) (a : List Provable) → AtomSteps rows (length rows) goal atom s a → (new : List Sequent) × Replaces rows goal a new }
+    ensures count { (rows : List Provable) (goal : ℕ) (atom : Atom) (s : List Step) (a : List Provable) (new : List Sequent) (p q : Provable) → AtomSteps rows (length rows) goal atom s a → Replaces rows goal a new → At rows (length rows) p → At a (length a) q → length q.goals + 1 ≡ length p.goals + length new }
+    ensures new { (rows : List Provable) (goal : ℕ) (atom : Atom) (s : List Step) (a : List Provable) → AtomSteps rows (length rows) goal atom s a → (new : List Sequent) × Replaces rows goal a new }
 {}
