@@ -5,12 +5,9 @@ use Rattle.std.specs.List.{Any, slice_index_or}
 use Rattle.std.specs.Str.{bytes_eq}
 use Rattle.std.proofs.lemmas.Option.{none-some, same_Some}
 use Rattle.dlk_tree.specs.Trees.{Tree}
-use Rattle.dlk_calculus.specs.declared.reason.Reason.TheVariants.{NotEqual}
 use Rattle.dlk_calculus.specs.Sequents.{Sequent}
-use Rattle.dlk_calculus.specs.Rules.{Rule, Close, Arguments, OnePlace, TwoPlaces, PlaceAndFormula, OneFormula, PlaceAndName, word_of, arguments_of}
-use Rattle.dlk_calculus.specs.Steps.{Step, Leaf, Apply, Merge}
-use Rattle.dlk_sequent.specs.declared.sequent.Place.{Place}
-use Rattle.dlk_sequent.specs.declared.sequent.Place.TheVariants.{Ante, Succ}
+use Rattle.dlk_calculus.specs.Rules.{Rule, Close, Arguments, OnePlace, TwoPlaces, PlaceAndFormula, PlaceAndName, word_of, arguments_of}
+use Rattle.dlk_calculus.specs.Steps.{Apply}
 use Rattle.dlk_rules.specs.declared.arguments.Shape.TheVariants as shape
 use Rattle.dlk_rules.specs.declared.arguments.Side.{Side}
 use Rattle.dlk_rules.specs.declared.arguments.Side.TheVariants.{Left, Right}
@@ -19,8 +16,8 @@ use Rattle.dlk_rules.specs.declared.rule.RuleWord.TheVariants as word
 use Rattle.dlk_rules.specs.Steps.{side_of}
 use Rattle.dlk_rules.specs.Words.{shape_of, text_of, wanted, named}
 use Rattle.dlk_rules.proofs.WordLaws.{word_named}
-use Rattle.dlk_tacsyn.specs.Tactics.{Argument, AtPlace, Word, GivenFormula, Atom}
-use Rattle.dlk_elab.specs.Atoms.{AtomWhy, NoPlace, AtStep, IsThere, IsElsewhere, further, across, AreFor, one_place, two_places, place_and_formula, one_formula, place_and_name, AreSame, AreFirstSame, Asked, Steps, Refused, Asks, nil, close, nothing_same, leaf, a_rule, elsewhere}
+use Rattle.dlk_tacsyn.specs.Tactics.{Argument, Word, GivenFormula, Atom}
+use Rattle.dlk_elab.specs.Atoms.{IsThere, IsElsewhere, further, across, AreFor, one_place, two_places, place_and_formula, one_formula, place_and_name, AreFirstSame, Asked, Steps, Asks, nil, close, nothing_same, leaf, a_rule, elsewhere}
 
 there_one : (side : Option Side) (i k : ℕ) (a : Argument) → IsThere side i a → IsThere side k a → i ≡ k
 there_one None i k a s t = absurd s

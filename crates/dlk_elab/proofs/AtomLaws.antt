@@ -1,10 +1,8 @@
 -- An atom gives steps or has a fault, and one of these alone.
-use Rattle.std.proofs.Common.{◌≡◌, ◌≢◌, ℕ, ◌+◌, Bool, true, false, List, [], ◌∷◌, length, Option, Some, refl, sym, ap, subst, ◌∙◌, ◌⊎◌, inl, inr}
-use Rattle.std.specs.Prelude.{codes}
+use Rattle.std.proofs.Common.{◌≡◌, ◌≢◌, ℕ, ◌+◌, false, List, [], ◌∷◌, length, Option, refl, sym, ap, subst, ◌∙◌, ◌⊎◌, inl, inr}
 use Rattle.std.specs.List.{All}
 use Rattle.std.proofs.lemmas.Bool.{cases_Bool}
-use Rattle.std.proofs.lemmas.Option.{same_Some}
-use Rattle.std.proofs.lemmas.List.Elements.{All-nil, All-cons, All-head, All-tail}
+use Rattle.std.proofs.lemmas.List.Elements.{All-nil, All-cons, All-head}
 use Rattle.dlk_calculus.specs.declared.reason.Reason.{Reason}
 use Rattle.dlk_calculus.specs.declared.reason.Reason.TheVariants.{NotEqual}
 use Rattle.dlk_calculus.specs.Places.{At}
@@ -26,7 +24,7 @@ use Rattle.dlk_elab.proofs.Places.{at_one}
 use Rattle.dlk_elab.proofs.TakenLaws.{takes_one, taken_or_fault, fault_one, all_or_fault}
 use Rattle.dlk_elab.proofs.AskLaws.{asks_one}
 use Rattle.dlk_elab.proofs.Names.{Bare, is_nil, is_close, is_leaf, bare, Named, named_rule}
-use Rattle.dlk_elab.proofs.Fitting.{Said, HasElsewhere, answers}
+use Rattle.dlk_elab.proofs.Fitting.{answers}
 use Rattle.dlk_elab.proofs.Decided.{same_decided}
 
 -- a fact has one sequent at a goal
@@ -139,10 +137,10 @@ module _ (rows fact goal : ℕ) (s : Sequent) (atom : Atom) where
   wants_bare (is_close name) =
       elim (same_decided s) [
         | inl found ↦ record {
-            asked = Steps (Apply fact goal (Close found.0 found.1) ∷ []);
-            asks = close name found.2;
-            proper = alone (Apply fact goal (Close found.0 found.1)) tt;
-          }
+          asked = Steps (Apply fact goal (Close found.0 found.1) ∷ []);
+          asks = close name found.2;
+          proper = alone (Apply fact goal (Close found.0 found.1)) tt;
+        }
         | inr none ↦ record { asked = Refused (AtStep NotEqual); asks = nothing_same name none; proper = tt }
       ]
   wants_bare (is_leaf name) = record {

@@ -1,10 +1,9 @@
 -- An atom's steps on a kernel.
-use Rattle.std.proofs.Common.{◌≡◌, ℕ, ◌-◌, ◌<◌, ◌≤◌, List, [], ◌∷◌, map, length, get_or, Some, sym, ap, subst, ◌∙◌, refl, arith}
+use Rattle.std.proofs.Common.{◌≡◌, ℕ, ◌-◌, ◌<◌, List, [], ◌∷◌, map, length, get_or, sym, ap, subst, ◌∙◌, refl, arith}
 use Rattle.std.specs.List.{All}
 use Rattle.std.proofs.lemmas.List.{length-map}
 use Rattle.std.proofs.lemmas.List.Elements.{All-head, All-tail}
 use Rattle.dlk_tree.specs.Trees.{Tree}
-use Rattle.dlk_calculus.specs.declared.reason.Reason.{Reason}
 use Rattle.dlk_calculus.specs.Places.{At}
 use Rattle.dlk_calculus.specs.Sequents.{Sequent as TreeSequent}
 use Rattle.dlk_calculus.specs.Provables.{Provable}
@@ -21,9 +20,9 @@ use Rattle.dlk_kernel.specs.Faults.{IsStepFault}
 use Rattle.dlk_kernel.specs.Taken.{Takes}
 use Rattle.dlk_elab.specs.declared.fault.TacFault.{TacFault}
 use Rattle.dlk_elab.specs.declared.fault.TacFault.TheVariants as fault
-use Rattle.dlk_elab.specs.Atoms.{AtomWhy, NoPlace, AtStep, HasGoalAt, Steps, Refused, Asks, AtomSteps, FirstFault, AtomFault, asks_none, not_taken}
+use Rattle.dlk_elab.specs.Atoms.{NoPlace, AtStep, HasGoalAt, Steps, Refused, Asks, AtomSteps, FirstFault, AtomFault, asks_none, not_taken}
 use Rattle.dlk_elab.specs.Ties.{IsTacFault, of_step}
-use Rattle.dlk_elab.proofs.Places.{at_one, At_All, At_place, At-map, At_read}
+use Rattle.dlk_elab.proofs.Places.{At_All, At_place, At-map, At_read}
 
 pub goal_within : (trees : List Tree) (rows : List Provable) (fact goal : ℕ) (goals : List Sequent) → HasGoalAt rows fact goal →
     ((p : Provable) → At rows fact p → p.goals ≡ map (sequent_at trees) goals) → goal - 1 < length goals

@@ -1,5 +1,5 @@
 -- What fitting arguments say: those of a rule, or a place elsewhere.
-use Rattle.std.proofs.Common.{◌≡◌, ◌≢◌, ℕ, zero, suc, ◌+◌, ◌<◌, List, [], ◌∷◌, length, Option, Some, None, refl, sym, ap, subst, ◌∙◌, ◌⊎◌, inl, inr, arith}
+use Rattle.std.proofs.Common.{◌≡◌, ◌≢◌, ℕ, List, [], ◌∷◌, Option, Some, refl, sym, subst, ◌⊎◌, inl, inr, arith}
 use Rattle.std.specs.List.{All, Any}
 use Rattle.std.proofs.lemmas.List.Elements.{All-head, All-tail}
 use Rattle.dlk_calculus.specs.Rules.{Arguments, OnePlace, TwoPlaces, PlaceAndFormula, OneFormula, PlaceAndName}
@@ -16,7 +16,7 @@ use Rattle.dlk_rules.specs.Words.{shape_of, wanted}
 use Rattle.dlk_tacsyn.specs.declared.kind.Kind.TheVariants.{FixedPlace, AnyPlace}
 use Rattle.dlk_tacsyn.specs.Tactics.{Argument, AtPlace, AnyLeft, AnyRight, Word, GivenFormula, GivenTerm}
 use Rattle.dlk_tacsyn.specs.Rows.{kinds_of, IsOfKind, AreOfKinds}
-use Rattle.dlk_elab.specs.Atoms.{place_on, IsThere, IsElsewhere, further, across, AreFor, one_place, two_places, place_and_formula, one_formula, place_and_name, IsFixed}
+use Rattle.dlk_elab.specs.Atoms.{IsThere, IsElsewhere, further, across, AreFor, one_place, two_places, place_and_formula, one_formula, place_and_name, IsFixed}
 
 abbrev Found : Side → Argument → Type 0
 Found side a = ((i : ℕ) × IsThere (Some side) i a) ⊎ IsElsewhere side a
@@ -84,9 +84,9 @@ places_fit side (a ∷ []) h = absurd h.1
 places_fit side (a ∷ b ∷ []) h =
     elim (fixed_place side a h.0) [
       | inl t ↦ elim (fixed_place side b h.1.0) [
-          | inl u ↦ inl (record { arguments = TwoPlaces t.0 u.0; shape_is = refl; for = two_places t.1 u.1 })
-          | inr e ↦ inr (any_second (IsElsewhere side) a b [] e)
-        ]
+        | inl u ↦ inl (record { arguments = TwoPlaces t.0 u.0; shape_is = refl; for = two_places t.1 u.1 })
+        | inr e ↦ inr (any_second (IsElsewhere side) a b [] e)
+      ]
       | inr e ↦ inr (any_first (IsElsewhere side) a (b ∷ []) e)
     ]
 places_fit side (a ∷ b ∷ x ∷ rest) h = absurd h.1.1
@@ -166,7 +166,7 @@ answers w given other h fixed =
       | is_close e ↦ absurd (other e)
       | no_place e ↦ inl (subst (λ s. Said s (side_of w) given) (sym e) (formula_said (side_of w) given (subst (λ s. AreOfKinds (kinds_of s) given) e h)))
       | on_side side e ↦ elim (fits (wanted w) side given h fixed) [
-          | inl said ↦ inl (subst (λ s. Said (wanted w) s given) (sym e) said)
-          | inr one ↦ inr (record { side = side; side_is = e; one = one })
-        ]
+        | inl said ↦ inl (subst (λ s. Said (wanted w) s given) (sym e) said)
+        | inr one ↦ inr (record { side = side; side_is = e; one = one })
+      ]
     ]

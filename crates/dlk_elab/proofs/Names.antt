@@ -1,5 +1,5 @@
 -- The names of atoms.
-use Rattle.std.proofs.Common.{◌≡◌, ◌≢◌, ℕ, zero, suc, ◌<◌, ◌≤◌, nat_le, arith, Bool, true, false, List, [], ◌∷◌, Option, Some, None, refl, sym, ap, subst, ◌∙◌, ◌⊎◌, inl, inr}
+use Rattle.std.proofs.Common.{◌≡◌, ◌≢◌, ℕ, zero, suc, ◌<◌, ◌≤◌, nat_le, arith, Bool, true, false, List, [], ◌∷◌, Option, Some, None, refl, sym, ap, subst, ◌∙◌, inl, inr}
 use Rattle.std.specs.Prelude.{option_map, codes, ◌||◌, IsTrue}
 use Rattle.std.specs.Str.{bytes_eq, IsAscii, IsUtf8}
 use Rattle.std.specs.List.{list_all}
@@ -88,9 +88,9 @@ pub bare : (name : List ℕ) → is_bare name ≡ true → Bare name
 bare name h =
     elim (or_cases (bytes_eq name (codes "nil") || bytes_eq name (codes "close")) (bytes_eq name (codes "leaf")) h) [
       | inl first ↦ elim (or_cases (bytes_eq name (codes "nil")) (bytes_eq name (codes "close")) first) [
-          | inl nil ↦ is_nil ((bytes_eq-Decides name (codes "nil")).0 nil)
-          | inr close ↦ is_close ((bytes_eq-Decides name (codes "close")).0 close)
-        ]
+        | inl nil ↦ is_nil ((bytes_eq-Decides name (codes "nil")).0 nil)
+        | inr close ↦ is_close ((bytes_eq-Decides name (codes "close")).0 close)
+      ]
       | inr leaf ↦ is_leaf ((bytes_eq-Decides name (codes "leaf")).0 leaf)
     ]
 

@@ -1,5 +1,5 @@
 -- Items by their places.
-use Rattle.std.proofs.Common.{◌≡◌, ℕ, suc, zero, ◌+◌, ◌-◌, List, [], ◌∷◌, ◌++◌, map, length, take, drop, get_or, refl, sym, subst, ap, ◌∙◌, Some, None}
+use Rattle.std.proofs.Common.{◌≡◌, ℕ, suc, zero, ◌+◌, ◌-◌, List, ◌∷◌, ◌++◌, map, length, take, drop, get_or, refl, sym, subst, ap, ◌∙◌, Some, None}
 use Rattle.std.proofs.Common.{nat_eq, true, false, cond, arith, length-append}
 use Rattle.std.specs.List.{All, slice_get}
 use Rattle.std.specs.Option.{option_map}
@@ -88,4 +88,3 @@ At_read items zero x p e = absurd (omega arith)
 At_read items (suc n) x p e =
     let one : suc n - 1 ≡ n = omega arith in
     at_suc items n ∙ slice_get-get_or items n x (omega (arith, p.1)) ∙ ap Some (sym (e ∙ ap (λ k. get_or items k x) one))
-

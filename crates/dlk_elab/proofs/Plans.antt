@@ -1,13 +1,12 @@
 -- What atoms ask for, over ids.
-use Rattle.std.proofs.Common.{◌≡◌, ◌≢◌, ℕ, ◌+◌, ◌++◌, false, List, [], ◌∷◌, map, refl, sym, ap, subst, ◌∙◌, inl, inr}
+use Rattle.std.proofs.Common.{◌≡◌, ◌≢◌, ℕ, ◌+◌, ◌++◌, false, List, [], ◌∷◌, map, sym, subst, ◌∙◌, inl, inr}
 use Rattle.std.specs.Prelude.{codes, Result, Ok, Err, IfErr}
 use Rattle.std.specs.Global.{Vec}
-use Rattle.std.specs.List.{All}
 use Rattle.std.proofs.lemmas.List.Elements.{All-nil, All-cons}
 use Rattle.dlk_tree.specs.Trees.{Tree}
 use Rattle.dlk_calculus.specs.Sequents.{Sequent as TreeSequent}
 use Rattle.dlk_calculus.specs.Rules.{IsProperRule}
-use Rattle.dlk_calculus.specs.Steps.{Step as TreeStep, IsProper}
+use Rattle.dlk_calculus.specs.Steps.{IsProper}
 use Rattle.dlk_sequent.specs.declared.sequent.Sequent.{Sequent}
 use Rattle.dlk_sequent.specs.Sequents.{sequent_at, IsKnown}
 use Rattle.dlk_rules.specs.declared.arguments.Arguments.{Arguments}
@@ -17,7 +16,7 @@ use Rattle.dlk_rules.specs.declared.rule.RuleWord.{RuleWord}
 use Rattle.dlk_rules.specs.declared.rule.RuleWord.TheVariants as word
 use Rattle.dlk_rules.specs.declared.step.Step.{Step}
 use Rattle.dlk_rules.specs.declared.step.Step.TheVariants as step
-use Rattle.dlk_rules.specs.Steps.{rule_at, RuleIsKnown, step_at, HasKnownIds, side_of}
+use Rattle.dlk_rules.specs.Steps.{rule_at, step_at, HasKnownIds, side_of}
 use Rattle.dlk_rules.specs.Words.{text_of, wanted, arguments_at, ArgumentsAreKnown, IsCall}
 use Rattle.dlk_tacsyn.specs.declared.tactic.Atom.{Atom}
 use Rattle.dlk_tacsyn.specs.Tactics.{Atom as TreeAtom}
@@ -28,7 +27,7 @@ use Rattle.dlk_elab.specs.declared.fault.TacFault.{TacFault}
 use Rattle.dlk_elab.specs.declared.fault.TacFault.TheVariants as fault
 use Rattle.dlk_elab.specs.Ties.{HasNone, IsPlan, IsTacFault}
 use Rattle.dlk_elab.proofs.Names.{row_of_word}
-use Rattle.dlk_elab.proofs.Fitting.{Said, HasElsewhere, answers}
+use Rattle.dlk_elab.proofs.Fitting.{answers}
 
 module _ (rows fact goal : ℕ) (trees : List Tree) (s : Sequent) (atom : Atom) where
   pub plan_nil : atom.name ≡ codes "nil" → IsPlan rows fact goal trees s atom []

@@ -1,12 +1,12 @@
 -- What an atom leaves of the last row.
-use Rattle.std.proofs.Common.{◌≡◌, ℕ, ◌+◌, ◌-◌, ◌≤◌, List, [], ◌∷◌, ◌++◌, length, take, drop, Some, refl, sym, ap, subst, ◌∙◌, arith, length-append, append_assoc}
+use Rattle.std.proofs.Common.{◌≡◌, ℕ, ◌+◌, ◌-◌, List, [], ◌∷◌, ◌++◌, length, take, drop, refl, sym, ap, subst, ◌∙◌, arith, length-append, append_assoc}
 use Rattle.std.proofs.lemmas.List.{length-take-le, length-drop}
 use Rattle.dlk_calculus.specs.Places.{At, IsPlace, put_all}
 use Rattle.dlk_calculus.specs.Sequents.{Sequent}
-use Rattle.dlk_calculus.specs.Provables.{Provable, assumed, applied, merged}
+use Rattle.dlk_calculus.specs.Provables.{Provable}
 use Rattle.dlk_calculus.specs.Rules.{Rule, Close}
-use Rattle.dlk_calculus.specs.Steps.{Step, Leaf, Apply, Merge, Gives, IsGoal, StepOf}
-use Rattle.dlk_calculus.specs.Steps.{leaf as by_leaf, apply as by_apply, merge as by_merge}
+use Rattle.dlk_calculus.specs.Steps.{Step, Leaf, Apply, Merge, Gives}
+use Rattle.dlk_calculus.specs.Steps.{apply as by_apply, merge as by_merge}
 use Rattle.dlk_tacsyn.specs.Tactics.{Atom}
 use Rattle.dlk_kernel.specs.Taken.{Takes}
 use Rattle.dlk_elab.specs.Atoms.{Asked, Steps, Asks, nil, close, leaf, a_rule, AtomSteps, Replaces}
@@ -41,15 +41,17 @@ one_step : (rows after : List Provable) (goal : ℕ) (p : Provable) (rule : Rule
 one_step rows after goal p rule stands taken =
     let f = takes_first rows after (Apply (length rows) goal rule) [] taken in
     let ends : after ≡ rows ++ f.row ∷ [] = takes_none (rows ++ f.row ∷ []) after f.others in
-    let l = by_rule rows (length rows) goal rule p f.row stands f.is_its.given in
-    (l.new, record {
-      old_last = p;
-      new_last = f.row;
-      old_is = stands;
-      new_is = subst (λ r. At r (length r) f.row) (sym ends) (last rows f.row);
-      conclusion = l.conclusion;
-      goals = l.goals;
-    })
+    let l = by_rule rows (length rows) goal rule p f.row stands f.is_its.given in (
+      l.new,
+      record {
+        old_last = p;
+        new_last = f.row;
+        old_is = stands;
+        new_is = subst (λ r. At r (length r) f.row) (sym ends) (last rows f.row);
+        conclusion = l.conclusion;
+        goals = l.goals;
+      },
+    )
 
 two_steps : (rows after : List Provable) (goal by : ℕ) (p : Provable) (s : Sequent) → At rows (length rows) p →
     Takes rows (Leaf s ∷ Merge (length rows) goal by ∷ []) after → (new : List Sequent) × Replaces rows goal after new
@@ -58,30 +60,34 @@ two_steps rows after goal by p s stands taken =
     let mid = rows ++ f.row ∷ [] in
     let g = takes_first mid after (Merge (length rows) goal by) [] f.others in
     let ends : after ≡ mid ++ g.row ∷ [] = takes_none (mid ++ g.row ∷ []) after g.others in
-    let l = by_fact mid (length rows) goal by p g.row (At-more rows (f.row ∷ []) (length rows) p stands) g.is_its.given in
-    (l.new, record {
-      old_last = p;
-      new_last = g.row;
-      old_is = stands;
-      new_is = subst (λ r. At r (length r) g.row) (sym ends) (last mid g.row);
-      conclusion = l.conclusion;
-      goals = l.goals;
-    })
+    let l = by_fact mid (length rows) goal by p g.row (At-more rows (f.row ∷ []) (length rows) p stands) g.is_its.given in (
+      l.new,
+      record {
+        old_last = p;
+        new_last = g.row;
+        old_is = stands;
+        new_is = subst (λ r. At r (length r) g.row) (sym ends) (last mid g.row);
+        conclusion = l.conclusion;
+        goals = l.goals;
+      },
+    )
 
 replaced_by : (rows after : List Provable) (goal : ℕ) (p : Provable) (s : Sequent) (atom : Atom) (steps : List Step) (asked : Asked) →
     At rows (length rows) p → At p.goals goal s → Asks (length rows) (length rows) goal s atom asked → asked ≡ Steps steps → Takes rows steps after →
     (new : List Sequent) × Replaces rows goal after new
 replaced_by rows after goal p s atom steps _ stands here (nil name) e taken =
     let none : [] ≡ steps = cc in
-    let ends : after ≡ rows = takes_none rows after (subst (λ xs. Takes rows xs after) (sym none) taken) in
-    (s ∷ [], record {
-      old_last = p;
-      new_last = p;
-      old_is = stands;
-      new_is = subst (λ r. At r (length r) p) (sym ends) stands;
-      conclusion = refl;
-      goals = same_goals p.goals goal s here;
-    })
+    let ends : after ≡ rows = takes_none rows after (subst (λ xs. Takes rows xs after) (sym none) taken) in (
+      s ∷ [],
+      record {
+        old_last = p;
+        new_last = p;
+        old_is = stands;
+        new_is = subst (λ r. At r (length r) p) (sym ends) stands;
+        conclusion = refl;
+        goals = same_goals p.goals goal s here;
+      },
+    )
 replaced_by rows after goal p s atom steps _ stands here (close {i} {j} name first) e taken =
     let are : Apply (length rows) goal (Close i j) ∷ [] ≡ steps = cc in
     one_step rows after goal p (Close i j) stands (subst (λ xs. Takes rows xs after) (sym are) taken)

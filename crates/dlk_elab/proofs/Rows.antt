@@ -28,12 +28,12 @@ module _ {S : Type 0} (trees : S → List Tree) where
   }
 
   pub rows_longer : (a b c : State S) → ExtendsRows trees a b → ExtendsRows trees b c → ExtendsRows trees a c
-  rows_longer a b c e f = 
-    let few : length a.rows ≤ length b.rows = rows_first a b e in
-    record {
-      ids = sym (take_less (length a.rows) (length b.rows) few c.rows) ∙ ap (take (length a.rows)) f.ids ∙ e.ids;
-      provables = sym (take_less (length a.rows) (length b.rows) few (facts trees c)) ∙ ap (take (length a.rows)) f.provables ∙ e.provables;
-    }
+  rows_longer a b c e f =
+      let few : length a.rows ≤ length b.rows = rows_first a b e in
+      record {
+        ids = sym (take_less (length a.rows) (length b.rows) few c.rows) ∙ ap (take (length a.rows)) f.ids ∙ e.ids;
+        provables = sym (take_less (length a.rows) (length b.rows) few (facts trees c)) ∙ ap (take (length a.rows)) f.provables ∙ e.provables;
+      }
 
   -- rows that are cut back are as they were
   pub rows_back : (a b c : State S) → ExtendsRows trees a b → c.rows ≡ take (length a.rows) b.rows → c.store ≡ b.store → SameRows trees a c

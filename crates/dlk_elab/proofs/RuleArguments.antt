@@ -1,5 +1,5 @@
 -- The arguments of atoms over ids.
-use Rattle.std.proofs.Common.{◌≡◌, ◌≢◌, ℕ, ◌<◌, ◌≤◌, List, [], ◌∷◌, map, length, get_or, Option, Some, None, refl, sym, ap, subst, ◌∙◌, arith}
+use Rattle.std.proofs.Common.{◌≡◌, ◌≢◌, ℕ, ◌<◌, ◌≤◌, List, [], ◌∷◌, map, length, get_or, Option, refl, sym, ap, subst, ◌∙◌, arith}
 use Rattle.dlk_tree.specs.Trees.{Tree}
 use Rattle.dlk_store.specs.declared.Id.{Id}
 use Rattle.dlk_store.specs.Stores.{tree}
@@ -14,7 +14,7 @@ use Rattle.dlk_tacsyn.specs.Tactics.{Argument, Word, GivenFormula}
 use Rattle.dlk_tacsyn.specs.Ties.{argument_at}
 use Rattle.dlk_elab.specs.declared.fault.TacFault.{TacFault}
 use Rattle.dlk_elab.specs.declared.fault.TacFault.TheVariants as fault
-use Rattle.dlk_elab.specs.Atoms.{AtomWhy, NoPlace, AtStep, IsThere, AreFor, one_place, two_places, place_and_formula, one_formula, place_and_name}
+use Rattle.dlk_elab.specs.Atoms.{NoPlace, IsThere, AreFor, one_place, two_places, place_and_formula, one_formula, place_and_name}
 use Rattle.dlk_elab.specs.Ties.{IsTacFault, HasNone}
 
 -- a list of one item, and one of two

@@ -1,5 +1,5 @@
 -- The first formulas that are the same.
-use Rattle.std.proofs.Common.{◌≡◌, ◌≢◌, ℕ, zero, suc, ◌+◌, ◌-◌, ◌<◌, ◌≤◌, List, map, length, get_or, Option, Some, None, refl, sym, ap, subst, ◌∙◌, ◌⊎◌, inl, inr, arith}
+use Rattle.std.proofs.Common.{◌≡◌, ◌≢◌, ℕ, zero, suc, ◌+◌, ◌-◌, ◌<◌, ◌≤◌, List, map, length, get_or, Some, refl, sym, ap, subst, ◌∙◌, ◌⊎◌, inl, inr, arith}
 use Rattle.std.specs.List.{slice_get}
 use Rattle.std.specs.Option.{option_map}
 use Rattle.std.proofs.lemmas.Option.{slice_get-map, slice_get-get_or, slice_get_read, slice_get_within, same_Some}
@@ -34,9 +34,9 @@ clear_more items i x before other k less found =
     elim (cases_order k i) [
       | inl same ↦ other (subst (λ n. slice_get items n ≡ Some x) same found)
       | inr apart ↦ elim apart [
-          | inl under ↦ before k under found
-          | inr over ↦ absurd (omega arith)
-        ]
+        | inl under ↦ before k under found
+        | inr over ↦ absurd (omega arith)
+      ]
     ]
 
 pub clear_end : {A : Type 0} (items : List A) (i : ℕ) (x : A) → length items ≤ i → Clear items i x → (j : ℕ) → ¬ At items j x
@@ -74,9 +74,9 @@ left_more s i f before here none k g less found =
           let g_is : f ≡ g = same_Some f g (sym here ∙ subst (λ n. slice_get s.ante n ≡ Some g) same found) in
           λ j stands. none j (subst (λ x. At s.succ j x) (sym g_is) stands)
       | inr apart ↦ elim apart [
-          | inl under ↦ before k g under found
-          | inr over ↦ absurd (omega arith)
-        ]
+        | inl under ↦ before k g under found
+        | inr over ↦ absurd (omega arith)
+      ]
     ]
 
 pub none_same : (s : Sequent) (i : ℕ) → length s.ante ≤ i → ClearLeft s i → (k l : ℕ) → ¬ AreSame s k l
@@ -100,9 +100,9 @@ first_same_found s i j f clear here first = record {
               let f_is : same.0 ≡ f = same_Some same.0 f (sym h.1 ∙ ap (slice_get s.ante) place ∙ here) in
               inr (e, first.least l (subst (λ x. At s.succ l x) f_is same.2))
           | inr apart ↦ elim apart [
-              | inl over ↦ inl over
-              | inr under ↦ absurd (clear (k - 1) same.0 (omega arith) h.1 l same.2)
-            ]
+            | inl over ↦ inl over
+            | inr under ↦ absurd (clear (k - 1) same.0 (omega arith) h.1 l same.2)
+          ]
         ]
 
 -- the same over the ids of a store, where one was read

@@ -1,17 +1,17 @@
 -- Steps taken in turn by a kernel.
-use Rattle.std.proofs.Common.{◌≡◌, ℕ, suc, ◌+◌, ◌<◌, List, [], ◌∷◌, ◌++◌, map, take, drop, length, get_or, refl, sym, ap, subst, ◌∙◌, add-one, arith}
+use Rattle.std.proofs.Common.{◌≡◌, ℕ, suc, ◌+◌, ◌<◌, List, [], ◌∷◌, ◌++◌, map, take, drop, length, get_or, sym, ap, subst, ◌∙◌}
 use Rattle.std.proofs.lemmas.List.{take_more, length-map, get_or-map, take-append-drop}
 use Rattle.std.proofs.Math.Seq.{drop-cons}
 use Rattle.dlk_tree.specs.Trees.{Tree}
 use Rattle.dlk_calculus.specs.declared.reason.Reason.{Reason}
 use Rattle.dlk_calculus.specs.Provables.{Provable}
-use Rattle.dlk_calculus.specs.Steps.{Step as TreeStep, StepOf, Adds, Fault}
+use Rattle.dlk_calculus.specs.Steps.{Adds, Fault}
 use Rattle.dlk_rules.specs.declared.step.Step.{Step}
 use Rattle.dlk_rules.specs.Steps.{step_at}
 use Rattle.dlk_kernel.specs.declared.fault.StepFault.{StepFault}
 use Rattle.dlk_kernel.specs.declared.fault.StepFault.TheVariants as step_fault
 use Rattle.dlk_kernel.specs.Faults.{IsStepFault}
-use Rattle.dlk_kernel.specs.Taken.{Takes, none, more}
+use Rattle.dlk_kernel.specs.Taken.{Takes, more}
 use Rattle.dlk_elab.specs.Atoms.{FirstFault}
 
 module _ (old new : List Tree) (plan : List Step) (i : ℕ) (s : Step) (less : i < length plan) (read : s ≡ get_or plan i s) (same : step_at new s ≡ step_at old s) where

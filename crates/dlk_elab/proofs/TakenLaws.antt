@@ -125,15 +125,15 @@ module _ (one : (rows : List Provable) (step : Step) (p q : Provable) → Gives 
   fault_one once rows (x ∷ xs) why other f g =
       elim (fault_from rows x xs why f) [
         | at_once here ↦ elim (fault_from rows x xs other g) [
-            | at_once there ↦ once rows x why other here there
-            | later row is behind ↦ absurd (is.allowed why here.against)
-          ]
+          | at_once there ↦ once rows x why other here there
+          | later row is behind ↦ absurd (is.allowed why here.against)
+        ]
         | later row is behind ↦ elim (fault_from rows x xs other g) [
-            | at_once there ↦ absurd (is.allowed other there.against)
-            | later row' is' behind' ↦
-                let same : row ≡ row' = one rows x row row' is.given is'.given in
-                fault_one once (rows ++ row' ∷ []) xs why other (subst (λ p. FirstFault (rows ++ p ∷ []) xs why) same behind) behind'
-          ]
+          | at_once there ↦ absurd (is.allowed other there.against)
+          | later row' is' behind' ↦
+              let same : row ≡ row' = one rows x row row' is.given is'.given in
+              fault_one once (rows ++ row' ∷ []) xs why other (subst (λ p. FirstFault (rows ++ p ∷ []) xs why) same behind) behind'
+        ]
       ]
 
 -- proper steps are taken, or have a fault
@@ -143,8 +143,8 @@ all_or_fault decide rows [] proper = inl (rows, none)
 all_or_fault decide rows (x ∷ xs) proper =
     elim (decide rows x (All-head IsProper x xs proper)) [
       | inl taken ↦ elim (all_or_fault decide (rows ++ taken.0 ∷ []) xs (All-tail IsProper x xs proper)) [
-          | inl others ↦ inl (others.0, takes_before rows others.0 taken.0 x xs taken.1 others.1)
-          | inr fault ↦ inr (fault.0, fault_later rows taken.0 x xs fault.0 taken.1 fault.1)
-        ]
+        | inl others ↦ inl (others.0, takes_before rows others.0 taken.0 x xs taken.1 others.1)
+        | inr fault ↦ inr (fault.0, fault_later rows taken.0 x xs fault.0 taken.1 fault.1)
+      ]
       | inr fault ↦ inr (fault.0, fault_here rows x xs fault.0 fault.1)
     ]

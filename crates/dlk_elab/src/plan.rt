@@ -123,7 +123,12 @@ fn leaf_plan(alloc: Global, target: Target, s: &Sequent) -> Result<Vec<Step>, Ta
 }
 
 /// The rule of the word, with the atom's arguments.
-fn rule_plan(alloc: Global, target: Target, word: RuleWord, atom: &Atom) -> Result<Vec<Step>, TacFault>
+fn rule_plan(
+    alloc: Global,
+    target: Target,
+    word: RuleWord,
+    atom: &Atom,
+) -> Result<Vec<Step>, TacFault>
     ensures plan { IfOk result (λ steps. (trees : List Tree) (s : Sequent) → AtomIsKnown trees atom.now → atom.now.name ≡ text_of word → IsPlan target.rows target.fact target.goal trees s atom.now steps.items) }
     ensures fault { IfErr result (IsTacFault (λ why. (why ≡ NoPlace) × ((trees : List Tree) → HasNone (wanted word) (side_of word) (map (argument_at trees) atom.now.args)))) }
 {

@@ -60,9 +60,11 @@ returns-in_default-word-clause-fault c =
     let are : c.args.args.now ≡ c.named-item.result ∷ c.at-item-then-args-lt3-3.result ∷ [] =
     two_items c.args.args.now c.named-item.result c.at-item-then-args-lt3-3.result c.in-len2-args-2.len_at_least c.in-len2-args-2.len_below c.named-item.is
     c.at-item-then-args-lt3-3.is in
-    let wants = sym c.shape.ensures ∙ c.in-PlaceAndName.is in
-    (refl, λ trees. no_word trees (side_of c.args.rule) c.args.args.now (wanted c.args.rule) c.named-item.result c.at-item-then-args-lt3-3.result are wants
-    c.in_default-word.ensures.none)
+    let wants = sym c.shape.ensures ∙ c.in-PlaceAndName.is in (
+      refl,
+      λ trees. no_word trees (side_of c.args.rule) c.args.args.now (wanted c.args.rule) c.named-item.result c.at-item-then-args-lt3-3.result are wants
+          c.in_default-word.ensures.none,
+    )
 
 pub returns-in_ok-i-in-OnePlace-clause-found : goal.returns-in_ok-i-in-OnePlace-clause-found
 returns-in_ok-i-in-OnePlace-clause-found c = λ trees.

@@ -1,7 +1,6 @@
-use Rattle.std.proofs.Common.{◌≡◌, sym, ◌∙◌}
+use Rattle.std.proofs.Common.{sym, ◌∙◌}
 use Rattle.std.specs.Prelude.{codes}
 use Rattle.std.proofs.lemmas.Result.{IfOk-weaker}
-use Rattle.dlk_tacsyn.specs.Ties.{atom_at}
 use Rattle.dlk_sequent.specs.Sequents.{sequent_at}
 use Rattle.dlk_elab.proofs.Plans.{plan_nil, same_plan, plan_place_fault}
 use Rattle.dlk_elab.proofs.Names.{name_utf8, no_rule, name_is, not_bare}

@@ -1,4 +1,4 @@
-use Rattle.std.proofs.Common.{◌≡◌, length, ◌<◌, get_or, subst, sym, arith}
+use Rattle.std.proofs.Common.{subst, sym}
 use Rattle.std.proofs.lemmas.Result.{err_from_is_err_and}
 use Rattle.dlk_rules.specs.Steps.{HasKnownIds}
 use Rattle.dlk_kernel.specs.Kernel.{facts}
