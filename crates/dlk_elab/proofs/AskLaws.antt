@@ -148,7 +148,8 @@ module _ (one_rule : (r s : Rule) → word_of r ≡ word_of s → arguments_of r
     asks_one _ _ (a_rule w r n its for) (leaf m) = absurd (not_leaf w (sym n ∙ m))
     asks_one _ _ (a_rule w r n its for) (a_rule v q m its' for') =
         let e = same_word v w (sym m ∙ n) in
-        let same = for_one (side_of w) atom.arguments (arguments_of r) (arguments_of q) for (subst (λ x. AreFor (side_of x) atom.arguments (arguments_of q)) e for') in
+        let same = for_one (side_of w) atom.arguments (arguments_of r) (arguments_of q) for (subst (λ x. AreFor (side_of x) atom.arguments (arguments_of
+        q)) e for') in
         ap (λ x. Steps (Apply fact goal x ∷ [])) (one_rule r q (its ∙ sym n ∙ m ∙ sym its') same)
     asks_one _ _ (a_rule w r n its for) (elsewhere v side m is any) =
         let e = same_word v w (sym m ∙ n) in

@@ -155,7 +155,8 @@ module _ (rows fact goal : ℕ) (s : Sequent) (atom : Atom) where
       elim (answers w atom.arguments other kinds fixed) [
         | inl said ↦
             let made = by_shape w said.arguments (sym said.shape_is) in
-            let for : AreFor (side_of w) atom.arguments (arguments_of made.rule) = subst (AreFor (side_of w) atom.arguments) (sym made.arguments_are) said.for in
+            let for : AreFor (side_of w) atom.arguments (arguments_of made.rule) = subst (AreFor (side_of w) atom.arguments) (sym made.arguments_are)
+            said.for in
             record {
               asked = Steps (Apply fact goal made.rule ∷ []);
               asks = a_rule w made.rule (sym name) made.word_is for;

@@ -91,7 +91,8 @@ places_fit side (a ∷ b ∷ []) h =
     ]
 places_fit side (a ∷ b ∷ x ∷ rest) h = absurd h.1.1
 
-quoted_fits : (side : Side) (given : List Argument) → AreOfKinds (kinds_of shape.PlaceAndFormula) given → All IsFixed given → Fits shape.PlaceAndFormula side given
+quoted_fits : (side : Side) (given : List Argument) → AreOfKinds (kinds_of shape.PlaceAndFormula) given → All IsFixed given →
+    Fits shape.PlaceAndFormula side given
 quoted_fits side [] h fixed = absurd h
 quoted_fits side (a ∷ []) h fixed = absurd h.1
 quoted_fits side (GivenFormula t ∷ b ∷ []) h fixed =

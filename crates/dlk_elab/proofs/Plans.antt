@@ -52,10 +52,12 @@ module _ (rows fact goal : ℕ) (trees : List Tree) (s : Sequent) (atom : Atom) 
       record {
         asks = leaf name;
         known = All-cons (HasKnownIds trees) (step.Leaf s) (merge ∷ []) known (All-cons (HasKnownIds trees) merge [] tt (All-nil (HasKnownIds trees)));
-        proper = All-cons IsProper (step_at trees (step.Leaf s)) (step_at trees merge ∷ []) tt (All-cons IsProper (step_at trees merge) [] tt (All-nil IsProper));
+        proper = All-cons IsProper (step_at trees (step.Leaf s)) (step_at trees merge ∷ []) tt (All-cons IsProper (step_at trees merge) [] tt (All-nil
+            IsProper));
       }
 
-  pub plan_rule : (w : RuleWord) (a : Arguments (List ℕ)) (rule : Rule) → AreFor (side_of w) (map (argument_at trees) atom.args) (arguments_at (λ y. y) trees a) →
+  pub plan_rule : (w : RuleWord) (a : Arguments (List ℕ)) (rule : Rule) →
+      AreFor (side_of w) (map (argument_at trees) atom.args) (arguments_at (λ y. y) trees a) →
       ArgumentsAreKnown trees a → IsCall trees w a rule → IsProperRule (rule_at trees rule) → atom.name ≡ text_of w →
       IsPlan rows fact goal trees s atom (step.Apply fact goal rule ∷ [])
   plan_rule w a rule for known call proper name = record {
@@ -84,7 +86,8 @@ pub pushed : (none more : List Step) (step one : Step) → more ≡ none ++ step
 pushed none more step one e empty same = e ∙ (λ i. empty i ++ same i ∷ [])
 
 -- the fault of an atom for a rule
-pub plan_place_fault : (rows fact goal : ℕ) (trees : List Tree) (s : TreeSequent) (atom : Atom) (w : RuleWord) → atom.name ≡ text_of w → is_bare (text_of w) ≡ false →
+pub plan_place_fault : (rows fact goal : ℕ) (trees : List Tree) (s : TreeSequent) (atom : Atom) (w : RuleWord) → atom.name ≡ text_of w →
+    is_bare (text_of w) ≡ false →
     IsFitting (atom_at trees atom) → HasNoLocator (atom_at trees atom) → (r : Result (Vec Step) TacFault) →
     IfErr r (IsTacFault (λ why. (why ≡ NoPlace) × ((ts : List Tree) → HasNone (wanted w) (side_of w) (map (argument_at ts) atom.args)))) →
     IfErr r (IsTacFault (λ why. Asks rows fact goal s (atom_at trees atom) (Refused why)))

@@ -31,12 +31,14 @@ by_fact rows fact goal by p q stands (by_merge _ _ _ r other new row other_row i
 
 -- the last of some rows
 last : (rows : List Provable) (p : Provable) → At (rows ++ p ∷ []) (length (rows ++ p ∷ [])) p
-last rows p = let n : length rows + 1 ≡ length (rows ++ p ∷ []) = sym (length-append rows (p ∷ [])) in subst (λ k. At (rows ++ p ∷ []) k p) n (At-between rows p [])
+last rows p = let n : length rows + 1 ≡ length (rows ++ p ∷ []) = sym (length-append rows (p ∷ [])) in subst (λ k. At (rows ++ p ∷ []) k p) n (At-between
+    rows p [])
 
 same_goals : (goals : List Sequent) (goal : ℕ) (s : Sequent) → At goals goal s → goals ≡ put_all goals goal (s ∷ [])
 same_goals goals goal s stands = split_at goals goal s stands ∙ sym (append_assoc (take (goal - 1) goals) (s ∷ []) (drop goal goals))
 
-one_step : (rows after : List Provable) (goal : ℕ) (p : Provable) (rule : Rule) → At rows (length rows) p → Takes rows (Apply (length rows) goal rule ∷ []) after →
+one_step : (rows after : List Provable) (goal : ℕ) (p : Provable) (rule : Rule) → At rows (length rows) p →
+    Takes rows (Apply (length rows) goal rule ∷ []) after →
     (new : List Sequent) × Replaces rows goal after new
 one_step rows after goal p rule stands taken =
     let f = takes_first rows after (Apply (length rows) goal rule) [] taken in
@@ -101,12 +103,21 @@ replaced_by rows after goal p s atom steps _ stands here asks e taken = absurd (
 
 pub replaced : (rows after : List Provable) (goal : ℕ) (atom : Atom) (steps : List Step) → AtomSteps rows (length rows) goal atom steps after →
     (new : List Sequent) × Replaces rows goal after new
-replaced rows after goal atom steps made = replaced_by rows after goal made.is_goal.0 made.s atom steps (Steps steps) made.is_goal.1 made.is_goal.2 made.asks refl made.takes
+replaced rows after goal atom steps made = replaced_by rows after goal made.is_goal.0 made.s atom steps (Steps steps) made.is_goal.1 made.is_goal.2
+    made.asks refl made.takes
 
 -- as many goals more as stand in the goal's place, but for the goal
 put_length : {A : Type 0} (items new : List A) (place : ℕ) → IsPlace items place → length (put_all items place new) + 1 ≡ length items + length new
 put_length items new place there =
-    omega (arith, there.0, there.1, length-append (take (place - 1) items ++ new) (drop place items), length-append (take (place - 1) items) new, length-take-le (place - 1) items (omega (arith, there.0, there.1)), length-drop place items)
+    omega (
+      arith,
+      there.0,
+      there.1,
+      length-append (take (place - 1) items ++ new) (drop place items),
+      length-append (take (place - 1) items) new,
+      length-take-le (place - 1) items (omega (arith, there.0, there.1)),
+      length-drop place items,
+    )
 
 pub counted : (rows after : List Provable) (goal : ℕ) (atom : Atom) (steps : List Step) (new : List Sequent) (p q : Provable) →
     AtomSteps rows (length rows) goal atom steps after → Replaces rows goal after new → At rows (length rows) p → At after (length after) q →

@@ -40,10 +40,12 @@ module _ (trees : List Tree) (side : Option Side) (args : List Arg) where
   pub for_formula : (x y : Arg) (id : Id) (i : ℕ) → args ≡ x ∷ y ∷ [] → x ≡ arg.Formula id → IsThere side i (argument_at trees y) →
       AreFor side (map (argument_at trees) args) (PlaceAndFormula i (tree trees id))
   for_formula x y id i e is h =
-      subst (λ xs. AreFor side (map (argument_at trees) xs) (PlaceAndFormula i (tree trees id))) (sym (e ∙ ap (λ z. z ∷ y ∷ []) is)) (place_and_formula (tree trees id) h)
+      subst (λ xs. AreFor side (map (argument_at trees) xs) (PlaceAndFormula i (tree trees id))) (sym (e ∙ ap (λ z. z ∷ y ∷ []) is)) (place_and_formula
+      (tree trees id) h)
 
   pub for_formula_alone : (x : Arg) (id : Id) → args ≡ x ∷ [] → x ≡ arg.Formula id → AreFor side (map (argument_at trees) args) (OneFormula (tree trees id))
-  for_formula_alone x id e is = subst (λ xs. AreFor side (map (argument_at trees) xs) (OneFormula (tree trees id))) (sym (e ∙ ap (λ z. z ∷ []) is)) (one_formula (tree trees id))
+  for_formula_alone x id e is = subst (λ xs. AreFor side (map (argument_at trees) xs) (OneFormula (tree trees id))) (sym (e ∙ ap (λ z. z ∷ []) is))
+      (one_formula (tree trees id))
 
   pub for_name : (x y : Arg) (name : List ℕ) (i : ℕ) → args ≡ x ∷ y ∷ [] → x ≡ arg.Word name → IsThere side i (argument_at trees y) →
       AreFor side (map (argument_at trees) args) (PlaceAndName i name)
@@ -143,9 +145,11 @@ is_word trees (arg.Formula id) y e = absurd (cc e)
 is_word trees (arg.Term id) y e = absurd (cc e)
 
 module _ (trees : List Tree) (side : Option Side) (args : List Arg) (s : Shape) where
-  pub no_place : (x : Arg) → s ≡ shape.OnePlace → args ≡ x ∷ [] → ((i : ℕ) → ¬ IsThere side i (argument_at trees x)) → HasNone s side (map (argument_at trees) args)
+  pub no_place : (x : Arg) → s ≡ shape.OnePlace → args ≡ x ∷ [] → ((i : ℕ) → ¬ IsThere side i (argument_at trees x)) →
+      HasNone s side (map (argument_at trees) args)
   no_place x e are none b shape_is for =
-      let h = place_of side (map (argument_at trees) args) (argument_at trees x) (place_said side _ b (shape_is ∙ e) for) (ap (map (argument_at trees)) are) in none h.0 h.1
+      let h = place_of side (map (argument_at trees) args) (argument_at trees x) (place_said side _ b (shape_is ∙ e) for) (ap (map (argument_at trees))
+      are) in none h.0 h.1
 
   module _ (x y : Arg) (are : args ≡ x ∷ y ∷ []) where
     all : map (argument_at trees) args ≡ argument_at trees x ∷ argument_at trees y ∷ []

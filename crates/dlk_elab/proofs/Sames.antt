@@ -57,7 +57,8 @@ first_found items i x clear found = record {
 }
 
 -- what an id of a list stands for
-pub item_is : (trees : List Tree) (ids : List Id) (i : ℕ) (id : Id) → i < length ids → id ≡ get_or ids i id → slice_get (map (tree trees) ids) i ≡ Some (tree trees id)
+pub item_is : (trees : List Tree) (ids : List Id) (i : ℕ) (id : Id) → i < length ids → id ≡ get_or ids i id →
+    slice_get (map (tree trees) ids) i ≡ Some (tree trees id)
 item_is trees ids i id within same = slice_get-map (tree trees) ids i ∙ ap (option_map (tree trees)) (slice_get_read ids (length ids) i id refl within same)
 
 -- no formula of the first ones on the left stands on the right
@@ -108,14 +109,16 @@ first_same_found s i j f clear here first = record {
 -- the same over the ids of a store, where one was read
 module _ (trees : List Tree) (ids : List Id) (i : ℕ) (id : Id) (within : i < length ids) where
   pub ids_found : (x : Tree) → Clear (map (tree trees) ids) i x → tree trees (get_or ids i id) ≡ x → IsFirstPlace (map (tree trees) ids) (i + 1) x
-  ids_found x clear same = first_found (map (tree trees) ids) i x clear (slice_get-map (tree trees) ids i ∙ ap (option_map (tree trees)) (slice_get-get_or ids i id within) ∙ ap Some same)
+  ids_found x clear same = first_found (map (tree trees) ids) i x clear (slice_get-map (tree trees) ids i ∙ ap (option_map (tree trees)) (slice_get-get_or
+      ids i id within) ∙ ap Some same)
 
   pub ids_more : (x : Tree) → Clear (map (tree trees) ids) i x → tree trees (get_or ids i id) ≢ x → Clear (map (tree trees) ids) (i + 1) x
   ids_more x clear other =
       clear_more (map (tree trees) ids) i x clear
       (λ found. other (same_Some _ _ (sym (slice_get-map (tree trees) ids i ∙ ap (option_map (tree trees)) (slice_get-get_or ids i id within)) ∙ found)))
 
-module _ (trees : List Tree) (s : IdSequent) (left right : List Id) (i : ℕ) (id : Id) (left_is : left ≡ s.ante) (right_is : right ≡ s.succ) (within : i < length left) where
+module _ (trees : List Tree) (s : IdSequent) (left right : List Id) (i : ℕ) (id : Id) (left_is : left ≡ s.ante) (right_is : right ≡ s.succ) (within : i <
+    length left) where
   read : slice_get (map (tree trees) s.ante) i ≡ Some (tree trees (get_or left i id))
   read =
       ap (λ ids. slice_get (map (tree trees) ids) i) (sym left_is) ∙ slice_get-map (tree trees) left i

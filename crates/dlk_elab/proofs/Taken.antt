@@ -14,7 +14,8 @@ use Rattle.dlk_kernel.specs.Faults.{IsStepFault}
 use Rattle.dlk_kernel.specs.Taken.{Takes, more}
 use Rattle.dlk_elab.specs.Atoms.{FirstFault}
 
-module _ (old new : List Tree) (plan : List Step) (i : ℕ) (s : Step) (less : i < length plan) (read : s ≡ get_or plan i s) (same : step_at new s ≡ step_at old s) where
+module _ (old new : List Tree) (plan : List Step) (i : ℕ) (s : Step) (less : i < length plan) (read : s ≡ get_or plan i s) (same : step_at new s ≡ step_at
+    old s) where
   -- the next step over trees
   here : get_or (map (step_at old) plan) i (step_at old s) ≡ step_at new s
   here = get_or-map (step_at old) plan i s (step_at old s) less ∙ ap (step_at old) (sym read) ∙ sym same
@@ -33,7 +34,8 @@ module _ (old new : List Tree) (plan : List Step) (i : ℕ) (s : Step) (less : i
   split =
       sym (take-append-drop i (map (step_at old) plan))
       ∙ ap (λ l. take i (map (step_at old) plan) ++ l)
-      (drop-cons (map (step_at old) plan) i (step_at old s) (rw (length-map plan (step_at old)) less) ∙ ap (λ x. x ∷ drop (suc i) (map (step_at old) plan)) here)
+      (drop-cons (map (step_at old) plan) i (step_at old s) (rw (length-map plan (step_at old)) less) ∙ ap (λ x. x ∷ drop (suc i) (map (step_at old) plan))
+      here)
 
   pub fault_next : (rows mid : List Provable) → Takes rows (take i (map (step_at old) plan)) mid → (why : Reason) → Fault mid (step_at new s) why →
       FirstFault rows (map (step_at old) plan) why

@@ -49,7 +49,8 @@ pub takes_first : (rows after : List Provable) (step : Step) (steps : List Step)
 takes_first rows after step steps taken = first_of_those rows after (step ∷ steps) steps step taken refl
 
 -- a step before those that are taken
-pub takes_before : (rows after : List Provable) (row : Provable) (step : Step) (steps : List Step) → StepOf rows step row → Takes (rows ++ row ∷ []) steps after → Takes rows (step ∷ steps) after
+pub takes_before : (rows after : List Provable) (row : Provable) (step : Step) (steps : List Step) → StepOf rows step row →
+    Takes (rows ++ row ∷ []) steps after → Takes rows (step ∷ steps) after
 takes_before rows after row step steps is taken = led after steps taken
   where
     led : (end : List Provable) (ss : List Step) → Takes (rows ++ row ∷ []) ss end → Takes rows (step ∷ ss) end
@@ -138,7 +139,8 @@ module _ (one : (rows : List Provable) (step : Step) (p q : Provable) → Gives 
 
 -- proper steps are taken, or have a fault
 pub all_or_fault : ((rows : List Provable) (step : Step) → IsProper step → ((p : Provable) × StepOf rows step p) ⊎ ((why : Reason) × Fault rows step why)) →
-    (rows : List Provable) (steps : List Step) → All IsProper steps → ((after : List Provable) × Takes rows steps after) ⊎ ((why : Reason) × FirstFault rows steps why)
+    (rows : List Provable) (steps : List Step) → All IsProper steps →
+    ((after : List Provable) × Takes rows steps after) ⊎ ((why : Reason) × FirstFault rows steps why)
 all_or_fault decide rows [] proper = inl (rows, none)
 all_or_fault decide rows (x ∷ xs) proper =
     elim (decide rows x (All-head IsProper x xs proper)) [

@@ -33,8 +33,11 @@ returns-in_default-formula-clause-fault c =
     two_items c.args.args.now c.quoted-item.result c.at-item-then-args-lt3-2.result c.in-len2-args.len_at_least c.in-len2-args.len_below c.quoted-item.is
     c.at-item-then-args-lt3-2.is in
     let wants = sym c.shape.ensures ∙ c.in-PlaceAndFormula.is in
-    let none = c.in_default-formula.ensures.none in
-    (refl, λ trees. no_formula trees (side_of c.args.rule) c.args.args.now (wanted c.args.rule) c.quoted-item.result c.at-item-then-args-lt3-2.result are wants none)
+    let none = c.in_default-formula.ensures.none in (
+      refl,
+      λ trees. no_formula trees (side_of c.args.rule) c.args.args.now (wanted c.args.rule) c.quoted-item.result c.at-item-then-args-lt3-2.result are
+          wants none,
+    )
 
 pub returns-in_err-i-in-PlaceAndFormula-clause-fault : goal.returns-in_err-i-in-PlaceAndFormula-clause-fault
 returns-in_err-i-in-PlaceAndFormula-clause-fault c =
@@ -88,7 +91,8 @@ returns-in_ok-i-in-PlaceAndFormula-clause-found c = λ trees.
     let y = c.at-item-then-args-lt3-2.result in
     let are : c.args.args.now ≡ x ∷ y ∷ [] =
     two_items c.args.args.now x y c.in-len2-args.len_at_least c.in-len2-args.len_below c.quoted-item.is c.at-item-then-args-lt3-2.is in
-    let there = subst (λ side. IsThere side c.in_ok-i-in-PlaceAndFormula.i (argument_at trees y)) c.side-side.ensures (c.in_ok-i-in-PlaceAndFormula.ensures.ok trees) in
+    let there = subst (λ side. IsThere side c.in_ok-i-in-PlaceAndFormula.i (argument_at trees y)) c.side-side.ensures
+    (c.in_ok-i-in-PlaceAndFormula.ensures.ok trees) in
     for_formula trees (side_of c.args.rule) c.args.args.now x y c.in-Some.h c.in_ok-i-in-PlaceAndFormula.i are c.in-Some.ensures.found there
 
 pub returns-in-Some-formula-clause-found : goal.returns-in-Some-formula-clause-found
@@ -103,6 +107,7 @@ returns-in_ok-y-in-PlaceAndName-clause-found c = λ trees.
     let y = c.at-item-then-args-lt3-3.result in
     let are : c.args.args.now ≡ x ∷ y ∷ [] =
     two_items c.args.args.now x y c.in-len2-args-2.len_at_least c.in-len2-args-2.len_below c.named-item.is c.at-item-then-args-lt3-3.is in
-    let there = subst (λ side. IsThere side c.in_ok-i-in-PlaceAndName.i (argument_at trees y)) c.side-side.ensures (c.in_ok-i-in-PlaceAndName.ensures.ok trees) in
+    let there = subst (λ side. IsThere side c.in_ok-i-in-PlaceAndName.i (argument_at trees y)) c.side-side.ensures (c.in_ok-i-in-PlaceAndName.ensures.ok
+    trees) in
     let named = c.in-Some-word.ensures.found ∙ ap Word c.in_ok-y-in-PlaceAndName.ensures.cases in
     for_name trees (side_of c.args.rule) c.args.args.now x y c.in_ok-y-in-PlaceAndName.y c.in_ok-i-in-PlaceAndName.i are named there

@@ -21,14 +21,16 @@ pub plan-requires-clause-few : goal.plan-requires-clause-few
 plan-requires-clause-few g c =
     let trees = g.S.Store.trees c.args.kernel.now.store in
     let rows = facts g.S.Store.trees c.args.kernel.now in
-    let is_goal = goal_read trees rows c.args.fact c.args.goal c.goals.result.now c.index-goals-goal.result c.requires.goal c.goals.ensures.goals c.index-goals-goal.is in
+    let is_goal = goal_read trees rows c.args.fact c.args.goal c.goals.result.now c.index-goals-goal.result c.requires.goal c.goals.ensures.goals
+    c.index-goals-goal.is in
     few_formulas rows c.args.fact c.args.goal (sequent_at trees c.index-goals-goal.result) c.rows-rows.ensures.limited is_goal
 
 pub returns-in_err-plan-clause-fault : goal.returns-in_err-plan-clause-fault
 returns-in_err-plan-clause-fault g c =
     let trees = g.S.Store.trees c.args.kernel.now.store in
     let rows = facts g.S.Store.trees c.args.kernel.now in
-    let is_goal = goal_read trees rows c.args.fact c.args.goal c.goals.result.now c.index-goals-goal.result c.requires.goal c.goals.ensures.goals c.index-goals-goal.is in
+    let is_goal = goal_read trees rows c.args.fact c.args.goal c.goals.result.now c.index-goals-goal.result c.requires.goal c.goals.ensures.goals
+    c.index-goals-goal.is in
     let counted = c.rows-rows.ensures.count ∙ sym (length-map c.args.kernel.now.rows (provable_at trees)) in
     let p = err_from_is_err_and c.from_residual.result c.from_residual.ensures.1 in
     rw (p.1, p.2) (plan_fault rows c.rows-rows.result c.args.fact c.args.goal (atom_at trees c.args.atom.now) (sequent_at trees c.index-goals-goal.result)
@@ -40,7 +42,8 @@ returns-in-Ok-clause-made g c =
     let new = g.S.Store.trees c.take_in_turn.new.kernel.store in
     let rows = facts g.S.Store.trees c.args.kernel.now in
     let plan = c.in_ok-plan.plan.items in
-    let is_goal = goal_read trees rows c.args.fact c.args.goal c.goals.result.now c.index-goals-goal.result c.requires.goal c.goals.ensures.goals c.index-goals-goal.is in
+    let is_goal = goal_read trees rows c.args.fact c.args.goal c.goals.result.now c.index-goals-goal.result c.requires.goal c.goals.ensures.goals
+    c.index-goals-goal.is in
     let counted = c.rows-rows.ensures.count ∙ sym (length-map c.args.kernel.now.rows (provable_at trees)) in
     let keeps = g.met.S.Store.grows_keeps c.args.kernel.now.store c.take_in_turn.new.kernel.store c.take_in_turn.ensures.grows in
     let same = steps_same trees new (λ s k. c.step_stays.ensures.same trees new s keeps k) plan c.in_ok-plan.ensures.plan.known in
@@ -61,9 +64,11 @@ pub returns-in-Err-clause-fault : goal.returns-in-Err-clause-fault
 returns-in-Err-clause-fault g c =
     let trees = g.S.Store.trees c.args.kernel.now.store in
     let rows = facts g.S.Store.trees c.args.kernel.now in
-    let is_goal = goal_read trees rows c.args.fact c.args.goal c.goals.result.now c.index-goals-goal.result c.requires.goal c.goals.ensures.goals c.index-goals-goal.is in
+    let is_goal = goal_read trees rows c.args.fact c.args.goal c.goals.result.now c.index-goals-goal.result c.requires.goal c.goals.ensures.goals
+    c.index-goals-goal.is in
     let counted = c.rows-rows.ensures.count ∙ sym (length-map c.args.kernel.now.rows (provable_at trees)) in
-    rw c.from.ensures (fault_of_step rows c.rows-rows.result c.args.fact c.args.goal (atom_at trees c.args.atom.now) (sequent_at trees c.index-goals-goal.result)
+    rw c.from.ensures (fault_of_step rows c.rows-rows.result c.args.fact c.args.goal (atom_at trees c.args.atom.now) (sequent_at trees
+    c.index-goals-goal.result)
     counted is_goal (map (step_at trees) c.in_ok-plan.plan.items) c.in_ok-plan.ensures.plan.asks c.in-Err.why
     (rw c.as_slice.ensures.value at c.in-Err.ensures.fault))
 

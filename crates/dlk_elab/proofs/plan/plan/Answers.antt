@@ -13,18 +13,21 @@ returns-in_default-clause-fault g c =
 pub returns-then-eq-clause-plan : goal.returns-then-eq-clause-plan
 returns-then-eq-clause-plan g c =
     let trees = g.S.Store.trees c.args.store.now in
-    let name = name_is c.args.atom.now.name c.bytes.result.now c.in-Ok.name.now (codes "nil") c.in-Ok.ensures.cases.0 c.bytes.ensures.bytes (sym c.eq.ensures ∙ c.if-eq.true) in
+    let name = name_is c.args.atom.now.name c.bytes.result.now c.in-Ok.name.now (codes "nil") c.in-Ok.ensures.cases.0 c.bytes.ensures.bytes (sym
+    c.eq.ensures ∙ c.if-eq.true) in
     same_plan c.args.target.rows c.args.target.fact c.args.target.goal trees c.args.s.now c.args.atom.now _ c.new.result.items c.new.ensures.items
     (plan_nil c.args.target.rows c.args.target.fact c.args.target.goal trees c.args.s.now c.args.atom.now name)
 
 pub returns-then-eq-2-clause-plan : goal.returns-then-eq-2-clause-plan
 returns-then-eq-2-clause-plan g c =
-    let name = name_is c.args.atom.now.name c.bytes.result.now c.in-Ok.name.now (codes "close") c.in-Ok.ensures.cases.0 c.bytes.ensures.bytes (sym c.eq-2.ensures ∙ c.if-eq-2.true) in
+    let name = name_is c.args.atom.now.name c.bytes.result.now c.in-Ok.name.now (codes "close") c.in-Ok.ensures.cases.0 c.bytes.ensures.bytes (sym
+    c.eq-2.ensures ∙ c.if-eq-2.true) in
     IfOk-weaker c.close_plan.result _ _ (λ steps h. h c.args.atom.now name) c.close_plan.ensures.plan
 
 pub returns-then-eq-3-clause-plan : goal.returns-then-eq-3-clause-plan
 returns-then-eq-3-clause-plan g c =
-    let name = name_is c.args.atom.now.name c.bytes.result.now c.in-Ok.name.now (codes "leaf") c.in-Ok.ensures.cases.0 c.bytes.ensures.bytes (sym c.eq-3.ensures ∙ c.if-eq-3.true) in
+    let name = name_is c.args.atom.now.name c.bytes.result.now c.in-Ok.name.now (codes "leaf") c.in-Ok.ensures.cases.0 c.bytes.ensures.bytes (sym
+    c.eq-3.ensures ∙ c.if-eq-3.true) in
     IfOk-weaker c.leaf_plan.result _ _ (λ steps h. h (g.S.Store.trees c.args.store.now) c.args.atom.now c.requires.sequent name) c.leaf_plan.ensures.plan
 
 pub returns-in_default-of-clause-fault : goal.returns-in_default-of-clause-fault

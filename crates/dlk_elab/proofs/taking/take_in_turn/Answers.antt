@@ -19,11 +19,13 @@ returns-in_err-step-clause-fault g c =
     let old = g.S.Store.trees c.args.kernel.now.store in
     let new = g.S.Store.trees c.loop-step.kernel.store in
     let keeps = g.met.S.Store.grows_keeps c.args.kernel.now.store c.loop-step.kernel.store c.loop-step.invariant.grows in
-    let known : HasKnownIds old c.step-item.result = subst (HasKnownIds old) (sym c.step-item.is) (c.requires c.loop-step.step-index c.step-item.result c.loop-step-test.true) in
+    let known : HasKnownIds old c.step-item.result = subst (HasKnownIds old) (sym c.step-item.is) (c.requires c.loop-step.step-index c.step-item.result
+    c.loop-step-test.true) in
     let same = c.step_stays.ensures.same old new c.step-item.result keeps known in
     let p = err_from_is_err_and c.from_residual.result c.from_residual.ensures.1 in
     rw (p.1, p.2) (step_fault_weaker _ _
-    (fault_next old new c.args.plan.now c.loop-step.step-index c.step-item.result c.loop-step-test.true c.step-item.is same (facts g.S.Store.trees c.args.kernel.now)
+    (fault_next old new c.args.plan.now c.loop-step.step-index c.step-item.result c.loop-step-test.true c.step-item.is same (facts g.S.Store.trees
+    c.args.kernel.now)
     (facts g.S.Store.trees c.loop-step.kernel) c.loop-step.invariant.taken) c.in_err-step.field-0.0 c.in_err-step.ensures.fault)
 
 pub loop-step-preserved : goal.loop-step-preserved
@@ -31,7 +33,8 @@ loop-step-preserved g c =
     let old = g.S.Store.trees c.args.kernel.now.store in
     let new = g.S.Store.trees c.loop-step.kernel.store in
     let keeps = g.met.S.Store.grows_keeps c.args.kernel.now.store c.loop-step.kernel.store c.loop-step.invariant.grows in
-    let known : HasKnownIds old c.step-item.result = subst (HasKnownIds old) (sym c.step-item.is) (c.requires c.loop-step.step-index c.step-item.result c.loop-step-test.true) in
+    let known : HasKnownIds old c.step-item.result = subst (HasKnownIds old) (sym c.step-item.is) (c.requires c.loop-step.step-index c.step-item.result
+    c.loop-step-test.true) in
     let same = c.step_stays.ensures.same old new c.step-item.result keeps known in
     record {
       taken = takes_next old new c.args.plan.now c.loop-step.step-index c.step-item.result c.loop-step-test.true c.step-item.is same
