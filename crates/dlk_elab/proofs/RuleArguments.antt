@@ -110,9 +110,6 @@ module _ (side : Option Side) where
   first_place_of : (xs : List Argument) (a b : Argument) → SaysPlaces side xs → xs ≡ a ∷ b ∷ [] → (i : ℕ) × IsThere side i a
   first_place_of _ a b (says_places {a = x} i k h j) e = let f : x ≡ a = cc in (i, subst (IsThere side i) f h)
 
-  second_place_of : (xs : List Argument) (a b : Argument) → SaysPlaces side xs → xs ≡ a ∷ b ∷ [] → (k : ℕ) × IsThere side k b
-  second_place_of _ a b (says_places {b = y} i k h j) e = let f : y ≡ b = cc in (k, subst (IsThere side k) f j)
-
   formula_of : (xs : List Argument) (a b : Argument) → SaysFormula side xs → xs ≡ a ∷ b ∷ [] → (t : Tree) × (a ≡ GivenFormula t)
   formula_of _ a b (says_formula {t = t} i h) e = (t, cc)
 
@@ -124,9 +121,6 @@ module _ (side : Option Side) where
 
   name_of : (xs : List Argument) (a b : Argument) → SaysName side xs → xs ≡ a ∷ b ∷ [] → (y : List ℕ) × (a ≡ Word y)
   name_of _ a b (says_name {y = y} i h) e = (y, cc)
-
-  place_of_name : (xs : List Argument) (a b : Argument) → SaysName side xs → xs ≡ a ∷ b ∷ [] → (i : ℕ) × IsThere side i b
-  place_of_name _ a b (says_name {a = y} i h) e = let f : y ≡ b = cc in (i, subst (IsThere side i) f h)
 
 is_formula : (trees : List Tree) (x : Arg) (t : Tree) → argument_at trees x ≡ GivenFormula t → (id : Id) × (x ≡ arg.Formula id)
 is_formula trees (arg.At place path) t e = absurd (cc e)
@@ -158,9 +152,6 @@ module _ (trees : List Tree) (side : Option Side) (args : List Arg) (s : Shape) 
     pub no_first : s ≡ shape.TwoPlaces → ((i : ℕ) → ¬ IsThere side i (argument_at trees x)) → HasNone s side (map (argument_at trees) args)
     no_first e none b shape_is for = let h = first_place_of side _ _ _ (places_said side _ b (shape_is ∙ e) for) all in none h.0 h.1
 
-    pub no_second : s ≡ shape.TwoPlaces → ((i : ℕ) → ¬ IsThere side i (argument_at trees y)) → HasNone s side (map (argument_at trees) args)
-    no_second e none b shape_is for = let h = second_place_of side _ _ _ (places_said side _ b (shape_is ∙ e) for) all in none h.0 h.1
-
     pub no_formula : s ≡ shape.PlaceAndFormula → ((id : Id) → x ≢ arg.Formula id) → HasNone s side (map (argument_at trees) args)
     no_formula e none b shape_is for =
         let h = formula_of side _ _ _ (formula_said side _ b (shape_is ∙ e) for) all in
@@ -173,9 +164,6 @@ module _ (trees : List Tree) (side : Option Side) (args : List Arg) (s : Shape) 
     no_word e none b shape_is for =
         let h = name_of side _ _ _ (name_said side _ b (shape_is ∙ e) for) all in
         let f = is_word trees x h.0 h.1 in none f.0 f.1
-
-    pub no_place_behind_word : s ≡ shape.PlaceAndName → ((i : ℕ) → ¬ IsThere side i (argument_at trees y)) → HasNone s side (map (argument_at trees) args)
-    no_place_behind_word e none b shape_is for = let h = place_of_name side _ _ _ (name_said side _ b (shape_is ∙ e) for) all in none h.0 h.1
 
   pub no_formula_alone : (x : Arg) → s ≡ shape.OneFormula → args ≡ x ∷ [] → ((id : Id) → x ≢ arg.Formula id) → HasNone s side (map (argument_at trees) args)
   no_formula_alone x e are none b shape_is for =

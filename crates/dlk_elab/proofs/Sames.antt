@@ -2,7 +2,7 @@
 use Rattle.std.proofs.Common.{◌≡◌, ◌≢◌, ℕ, zero, suc, ◌+◌, ◌-◌, ◌<◌, ◌≤◌, List, map, length, get_or, Some, refl, sym, ap, subst, ◌∙◌, ◌⊎◌, inl, inr, arith}
 use Rattle.std.specs.List.{slice_get}
 use Rattle.std.specs.Option.{option_map}
-use Rattle.std.proofs.lemmas.Option.{slice_get-map, slice_get-get_or, slice_get_read, slice_get_within, same_Some}
+use Rattle.std.proofs.lemmas.Option.{slice_get-map, slice_get-get_or, slice_get_within, same_Some}
 use Rattle.std.proofs.lemmas.Bool.{cases_order, cases_lt}
 use Rattle.dlk_tree.specs.Trees.{Tree}
 use Rattle.dlk_store.specs.declared.Id.{Id}
@@ -55,11 +55,6 @@ first_found items i x clear found = record {
         | inr over ↦ omega arith
       ];
 }
-
--- what an id of a list stands for
-pub item_is : (trees : List Tree) (ids : List Id) (i : ℕ) (id : Id) → i < length ids → id ≡ get_or ids i id →
-    slice_get (map (tree trees) ids) i ≡ Some (tree trees id)
-item_is trees ids i id within same = slice_get-map (tree trees) ids i ∙ ap (option_map (tree trees)) (slice_get_read ids (length ids) i id refl within same)
 
 -- no formula of the first ones on the left stands on the right
 abbrev pub ClearLeft : Sequent → ℕ → Type 0
