@@ -3,3 +3,4 @@ pub mod Faults
 pub mod Limits
 pub mod Named
 pub mod Looks
+pub mod Taken
