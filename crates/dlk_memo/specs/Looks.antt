@@ -1,27 +1,8 @@
 -- How many nodes a substitution looks at, at most.
-use Rattle.std.specs.Prelude.{ℕ, ◌+◌, ◌*◌, List, [], ◌∷◌, ◌++◌}
-use Rattle.std.specs.List.{flat_map}
-use Rattle.std.specs.Set as set
-use Rattle.dlk_tree.specs.Trees.{Tree, node, Forest, no_kids, kid}
-use Rattle.dlk_tree.proofs.TreeSame.{tree_eq}
+pub use Rattle.dlk_subst.specs.Counts.{subtrees, subtrees_of, replacement_subtrees, distinct_count}
+use Rattle.std.specs.Prelude.{ℕ, ◌+◌, ◌*◌, List}
+use Rattle.dlk_tree.specs.Trees.{Tree}
 use Rattle.dlk_calculus.specs.Pairs.{Pair}
-
--- the trees within a tree, itself first, each as often as it stands there
-abbrev mutual
-  pub subtrees : Tree → List Tree
-  subtrees (node op kids) = node op kids ∷ subtrees_of kids
-
-  pub subtrees_of : Forest → List Tree
-  subtrees_of no_kids = []
-  subtrees_of (kid t rest) = subtrees t ++ subtrees_of rest
-
--- and within the replacements
-abbrev pub replacement_subtrees : List Pair → List Tree
-replacement_subtrees pairs = flat_map (λ (p : Pair). subtrees p.by) pairs
-
--- how many trees there are in the list, equal ones counted once
-abbrev pub distinct_count : List Tree → ℕ
-distinct_count trees = set.distinct_count tree_eq trees
 
 -- one look for each subtree of the tree, and for each subtree of a replacement beside it
 abbrev pub most_looks : List Pair → Tree → ℕ

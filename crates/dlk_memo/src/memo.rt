@@ -7,6 +7,8 @@ ghost use Rattle.dlk_subst.specs.Results.{IsResult, HasNone};
 ghost use Rattle.dlk_memo.specs.Looks.{most_looks};
 ghost use Rattle.dlk_sequent.specs.declared.fault.ApplyFault.TheVariants.{NotAdmissible};
 
+use crate::substituting::Substituting;
+use crate::walk::run;
 use dlk_sequent::{ApplyFault, Subst};
 use dlk_store::{Id, Steps, Store};
 use std::alloc::Global;
@@ -40,5 +42,8 @@ pub fn apply<S: Store, L: Ledger>(
     ensures grows { S.grows store.old store.new }
     ensures cost { IsTrue S.unique → steps.new ≤ steps.old + most_looks (pairs_at (S.trees store.old) sigma.now.pairs) (tree (S.trees store.old) id) }
 {
-    Err(ApplyFault::Memory)
+    let substituting = Substituting {
+        pairs: sigma.pairs(),
+    };
+    run(alloc, store, &substituting, id, steps)
 }

@@ -2,7 +2,7 @@ use Rattle.std.proofs.Common.{refl}
 use Rattle.dlk_store.specs.Stores.{kid_trees}
 use Rattle.dlk_sequent.specs.Substitutions.{pairs_at}
 use Rattle.dlk_subst.proofs.Systems.{pairs_made, spliced_fits, spliced_ok, spliced_none}
-use Rattle.dlk_subst.proofs.splice.splice.Goals as goal
+use Rattle.dlk_subst.proofs.splice.splice_at.Goals as goal
 
 pub keep_admissible-requires-clause-fits : goal.keep_admissible-requires-clause-fits
 keep_admissible-requires-clause-fits g c =
