@@ -1,5 +1,5 @@
 -- What strategies over ids stand for.
-use Rattle.std.specs.Prelude.{ℕ, List, map, All}
+use Rattle.std.specs.Prelude.{List, map, All}
 use Rattle.dlk_tree.specs.Trees.{Tree}
 use Rattle.dlk_store.specs.Stores.{IsId, tree}
 use Rattle.dlk_tacsyn.specs.declared.tactic.Arg.{Arg}
