@@ -19,7 +19,8 @@ use Rattle.dlk_tacsyn.specs.Tactics.{Argument, Atom, Tactic, Tactics, Choice, Se
 use Rattle.dlk_tacsyn.specs.Rows.{row_of, IsOfKind, AreOfKinds, IsFitting, AreFitting, IsNamed, HasNames}
 use Rattle.dlk_tacsyn.specs.Faults.{Nesting}
 use Rattle.dlk_tacsyn.specs.Faults as fault
-use Rattle.dlk_tacsyn.specs.Strategies.{Says, most_open, most_times, parts, whole, all_written, argument_of, arguments_of, atom_given, atom_by, atom_of, opened, choices_of, sequence_of, branches_of, repeat_of, primary_of, strategy_of, StrategyText}
+use Rattle.dlk_tacsyn.specs.Strategies.{Says, most_open, most_times, parts, whole, all_written, argument_of, arguments_of, atom_given, atom_by}
+use Rattle.dlk_tacsyn.specs.Strategies.{atom_of, opened, choices_of, sequence_of, branches_of, repeat_of, primary_of, strategy_of, StrategyText}
 use Rattle.dlk_tacsyn.proofs.Given.{Gives, bind_gives, if_gives, said_gives}
 use Rattle.dlk_tacsyn.proofs.Named.{AreNamedParts, named_front, named_behind, named_parts, IsNamedWritten, AreNamedWritten, all_named}
 
@@ -139,7 +140,8 @@ module _ (read : List ℕ → Option Tree) where
   given_named at name None h = tt
   given_named at name (Some all) h = h
 
-  by_named : (at : ℕ) (name : List ℕ) (ws : List Written) → AreNamedWritten ws → (row : Option (List Kind)) → Gives (EachAtom HasNames) (atom_by read at name ws row)
+  by_named : (at : ℕ) (name : List ℕ) (ws : List Written) → AreNamedWritten ws → (row : Option (List Kind)) →
+      Gives (EachAtom HasNames) (atom_by read at name ws row)
   by_named at name ws h None = tt
   by_named at name ws h (Some kinds) = given_named at name (arguments_of read kinds ws) (arguments_named kinds ws h)
 
@@ -178,7 +180,8 @@ module _ (read : List ℕ → Option Tree) where
     given_fits at name kinds row None h = tt
     given_fits at name kinds row (Some all) h = record { kinds = kinds; row = row; arguments = h }
 
-    by_fits : (at : ℕ) (name : List ℕ) (ws : List Written) (row : Option (List Kind)) → row_of name ≡ row → Gives (EachAtom IsFitting) (atom_by read at name ws row)
+    by_fits : (at : ℕ) (name : List ℕ) (ws : List Written) (row : Option (List Kind)) → row_of name ≡ row →
+        Gives (EachAtom IsFitting) (atom_by read at name ws row)
     by_fits at name ws None e = tt
     by_fits at name ws (Some kinds) e = given_fits at name kinds e (arguments_of read kinds ws) (arguments_kinds kinds ws)
 

@@ -5,7 +5,8 @@ use Rattle.dlk_tree.specs.Names.{is_name}
 use Rattle.dlk_scripts.specs.declared.part.Part.{Part}
 use Rattle.dlk_scripts.specs.declared.part.PartKind.{PartKind}
 use Rattle.dlk_scripts.specs.declared.part.PartKind.TheVariants as kind
-use Rattle.dlk_scripts.specs.Parts.{Spells, open_bracket, close_bracket, fork, semicolon, bar, comma, star, minus, point, any_left, any_right, name, number, string, Spelled, nothing, then_space, then_comment, then_part}
+use Rattle.dlk_scripts.specs.Parts.{Spells, open_bracket, close_bracket, fork, semicolon, bar, comma, star, minus, point, any_left, any_right, name}
+use Rattle.dlk_scripts.specs.Parts.{number, string, Spelled, nothing, then_space, then_comment, then_part}
 use Rattle.dlk_scripts.specs.Scripts as script
 use Rattle.dlk_scripts.specs.Scripts.{argument_parts, arguments_parts}
 use Rattle.dlk_tacsyn.specs.declared.argument.Written.{Written}

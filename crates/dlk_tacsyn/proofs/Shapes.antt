@@ -5,11 +5,13 @@ use Rattle.dlk_tree.specs.Trees.{Tree}
 use Rattle.dlk_scripts.specs.Scripts as script
 use Rattle.dlk_tacsyn.specs.declared.kind.Kind.{Kind}
 use Rattle.dlk_tacsyn.specs.declared.argument.Written.{Written}
-use Rattle.dlk_tacsyn.specs.Tactics.{Argument, Tactic, Tactics, Choice, Sequence, Branch, Repeat, One, count, Position, Behind, Elsewhere, StandsAt, StandAt, IsShaped}
+use Rattle.dlk_tacsyn.specs.Tactics.{Argument, Tactic, Tactics, Choice, Sequence, Branch, Repeat, One, count, Position, Behind, Elsewhere, StandsAt}
+use Rattle.dlk_tacsyn.specs.Tactics.{StandAt, IsShaped}
 use Rattle.dlk_tacsyn.specs.Rows.{row_of}
 use Rattle.dlk_tacsyn.specs.Faults.{Nesting}
 use Rattle.dlk_tacsyn.specs.Faults as fault
-use Rattle.dlk_tacsyn.specs.Strategies.{Says, most_open, most_times, parts, whole, all_written, arguments_of, atom_given, atom_by, opened, choices_of, sequence_of, branches_of, repeat_of, primary_of, strategy_of, StrategyText}
+use Rattle.dlk_tacsyn.specs.Strategies.{Says, most_open, most_times, parts, whole, all_written, arguments_of, atom_given, atom_by, opened, choices_of}
+use Rattle.dlk_tacsyn.specs.Strategies.{sequence_of, branches_of, repeat_of, primary_of, strategy_of, StrategyText}
 use Rattle.dlk_tacsyn.proofs.Given.{Gives, bind_gives, if_gives, said_gives}
 
 -- at least one, the first of which stands at one position and each that follows at another
@@ -24,7 +26,8 @@ behind_too (Branch at ps) h = absurd h
 behind_too (Repeat body times) h = h
 behind_too (One atom) h = tt
 
-others_last : (others : Position) (ts : List Tactic) (t : Tactic) → StandAt others others (parts ts) → StandsAt others t → StandAt others others (parts (ts ++ t ∷ []))
+others_last : (others : Position) (ts : List Tactic) (t : Tactic) → StandAt others others (parts ts) → StandsAt others t →
+    StandAt others others (parts (ts ++ t ∷ []))
 others_last others [] t h k = (k, tt)
 others_last others (u ∷ ts) t h k = (h.0, others_last others ts t h.1 k)
 
@@ -71,7 +74,8 @@ module _ (read : List ℕ → Option Tree) where
         bind_gives IsShaped (AreParts Elsewhere Behind) (repeat_of read n r) _ (repeat_stands n r) (λ t k. one_part Behind t k)
     sequence_stand n (script.ThenRepeat q semicolon r) =
         bind_gives (AreParts Elsewhere Behind) (AreParts Elsewhere Behind) (sequence_of read n q) _ (sequence_stand n q)
-        (λ ts j. bind_gives IsShaped (AreParts Elsewhere Behind) (repeat_of read n r) _ (repeat_stands n r) (λ t k. parts_last Elsewhere Behind ts t j (behind_too t k)))
+        (λ ts j. bind_gives IsShaped (AreParts Elsewhere Behind) (repeat_of read n r) _ (repeat_stands n r)
+        (λ t k. parts_last Elsewhere Behind ts t j (behind_too t k)))
     sequence_stand n (script.ThenBranch q semicolon fork l close) =
         bind_gives (AreParts Elsewhere Behind) (AreParts Elsewhere Behind) (sequence_of read n q) _ (sequence_stand n q)
         (λ ts j. bind_gives (AreParts Elsewhere Elsewhere) (AreParts Elsewhere Behind) (opened n fork (branches_of read (n + 1) l)) _
@@ -90,7 +94,8 @@ module _ (read : List ℕ → Option Tree) where
     repeat_stands : (n : ℕ) (r : script.Repeat) → Gives IsShaped (repeat_of read n r)
     repeat_stands n (script.Once p) = primary_stands n p
     repeat_stands n (script.Times r star at m) =
-        bind_gives IsShaped IsShaped (repeat_of read n r) _ (repeat_stands n r) (λ t k. if_gives IsShaped (nat_le m most_times) (Says (Repeat t m)) (fault.Repeat at) k)
+        bind_gives IsShaped IsShaped (repeat_of read n r) _ (repeat_stands n r)
+        (λ t k. if_gives IsShaped (nat_le m most_times) (Says (Repeat t m)) (fault.Repeat at) k)
 
     primary_stands : (n : ℕ) (p : script.Primary) → Gives IsShaped (primary_of read n p)
     primary_stands n (script.Group opens s close) =
