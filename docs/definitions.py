@@ -50,9 +50,10 @@ class Reference(NamedTuple):
         return self.path.replace(".", "/")
 
     def rust_type(self):
-        """The name of the type of the code: of it, or of the type that has it as a variant."""
+        """The name of the type of the code: of it, or of the type that has it as a variant. A constant is listed by its own."""
         parts = self.path.split(".")[1:]
-        return [part for part in parts if part[0].isupper() and part != "TheVariants"][-1]
+        types = [part for part in parts if part[0].isupper() and part not in ("TheVariants", "TheConstants")]
+        return types[-1] if types else self.name
 
 
 @dataclass(frozen=True)
@@ -232,7 +233,7 @@ def reference_of(word, definition, spec_file):
         if name in spec_file.imports:
             return spec_file.imports[name]
     module, _, name = word.partition(".")
-    return Reference(*spec_file.modules[module], name) if module in spec_file.modules else None
+    return Reference(*spec_file.modules[module], name) if name and module in spec_file.modules else None
 
 
 def starts_of(data):
@@ -256,6 +257,11 @@ def types_of(section):
     return section.get("types", [])
 
 
+def crate_of(section, rust_type):
+    """The crate of a type that a section lists: that of the section, or the one it names."""
+    return rust_type.get("crate", section["crate"])
+
+
 def other_sources_of(section):
     """The definitions of a section whose source is not that of the section, with their sources."""
     groups = section.get("other_sources", {})
@@ -277,7 +283,7 @@ def check_all_listed(walk, sections):
         if (definition.crate, definition.file) not in listed_files:
             place = spec_path(definition.crate, definition.file)
             stop(f"{definition.names[0]} is reached, but no section lists {place}")
-    listed_types = {(section["crate"], rust_type["name"]) for section in sections for rust_type in types_of(section)}
+    listed_types = {(crate_of(section, rust_type), rust_type["name"]) for section in sections for rust_type in types_of(section)}
     for crate, name in sorted(walk.rust_types - listed_types):
         stop(f"the type {name} of {crate} is reached, but no section lists it")
 
@@ -294,7 +300,7 @@ def check_all_reached(walk, sections):
             if name not in reached:
                 stop(f"the section of {place} lists {name}, which is not reached")
         for rust_type in types_of(section):
-            if is_named(rust_type) and (section["crate"], rust_type["name"]) not in walk.rust_types:
+            if is_named(rust_type) and (crate_of(section, rust_type), rust_type["name"]) not in walk.rust_types:
                 stop(f"the section of {place} lists the type {rust_type['name']}, which is not reached")
 
 
@@ -302,7 +308,7 @@ def check_reading_order(walk, sections):
     """Stops where a definition refers to something of a later section."""
     places = {(section["crate"], section["file"]): number for number, section in enumerate(sections)}
     for number, section in enumerate(sections):
-        places.update({(section["crate"], "type", rust_type["name"]): number for rust_type in types_of(section)})
+        places.update({(crate_of(section, rust_type), "type", rust_type["name"]): number for rust_type in types_of(section)})
     for definition, references in walk.references.items():
         for reference in references:
             if reference.path.startswith(DECLARED):
@@ -320,7 +326,8 @@ def check_reading_order(walk, sections):
 def type_label(rust_type):
     """The name of a type of the code, or of a member of a trait, with its file."""
     front = f"`{rust_type['trait']}`: " if "trait" in rust_type else ""
-    return f"{front}`{rust_type['name']}` in `src/{rust_type['file']}`"
+    folder = f"crates/{rust_type['crate']}/src" if "crate" in rust_type else "src"
+    return f"{front}`{rust_type['name']}` in `{folder}/{rust_type['file']}`"
 
 
 def type_lines(crate, rust_type):
@@ -336,7 +343,7 @@ def type_lines(crate, rust_type):
         code = line.strip()
         if code and not code.startswith(("//", "#[", "ghost use")):
             count += 1
-        if line.startswith("}") or (is_member and code.endswith("};")):
+        if line.startswith(("}", "];")) or (is_member and code.endswith("};")):
             break
     return count
 
@@ -363,7 +370,7 @@ def rows_of(section, walk):
     """The rows of a section: what is defined, what it says, its source, and its lines."""
     rows = []
     for rust_type in types_of(section):
-        lines = type_lines(section["crate"], rust_type)
+        lines = type_lines(crate_of(section, rust_type), rust_type)
         rows.append((type_label(rust_type), rust_type["says"], rust_type["source"], lines))
     other_sources = other_sources_of(section)
     for definition in walk.reached_in(section):
