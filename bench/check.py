@@ -6,12 +6,14 @@ and its leaf, is done anew, cut into a main proof, and merged into it. The last 
 400,000 lines about 60 MB. Printed are the growth from 10,000 to 100,000 lines and over the last two terms, and the peak of memory a byte
 of term. Last come 400,001 lines of one axiom, which are one too many.
 
-Run it after `./dlk` has built the program. `metamath` and `set.mm` are those of Debian's packages metamath and metamath-databases.
+Run it after `./dlk` has built the program. Arguments are paths of programs, each timed in turn in the place of the built one: the
+last one is set against metamath. `metamath` and `set.mm` are those of Debian's packages metamath and metamath-databases.
 """
 import os
 import pathlib
 import re
 import subprocess
+import sys
 import tempfile
 
 from common import PROGRAM, TOP
@@ -68,31 +70,39 @@ def spent(words, expected, runs=RUNS):
     return best, peak
 
 
-def checked(folder, title, text, expected, runs=RUNS):
-    """The processor time of `check` on a term, which is printed as a rate."""
+def checked(folder, title, text, expected, program, runs=RUNS):
+    """The processor time of the program's `check` on a term, which is printed as a rate."""
     model, file = folder / "model", folder / "term"
     model.write_text("x>=0 -> x>=0\n")
     file.write_text(text)
-    seconds, peak = spent([PROGRAM, "check", model, file], expected, runs)
+    seconds, peak = spent([program, "check", model, file], expected, runs)
     print(f"{title}, {len(text)} bytes: {len(text) / seconds / 1e6:.2f} million bytes a second, peak {peak / len(text):.0f} bytes a byte", flush=True)
     return seconds, len(text) / seconds
 
 
-def main():
-    """Prints a line for each term, and one for metamath."""
+def rates_of(program):
+    """Prints a line for each term, and answers the rates."""
     times, rates = {}, {}
     with tempfile.TemporaryDirectory() as name:
         folder = pathlib.Path(name)
         for count in COUNTS:
             text, lines = term(count)
-            times[count], rates[count] = checked(folder, f"{lines} lines", text, "closed")
+            times[count], rates[count] = checked(folder, f"{lines} lines", text, "closed", program)
         print(f"from 10,000 to 100,000 lines the time grows {times[100_000] / times[10_000]:.1f} times")
         for count in LONG_COUNTS:
             text, lines = term(count, LONG_NAME)
-            times[count], rates[count] = checked(folder, f"{lines} long lines", text, "closed", 1)
+            times[count], rates[count] = checked(folder, f"{lines} long lines", text, "closed", program, 1)
         print(f"from 40,000 to 400,000 long lines the time grows {times[400_000] / times[40_000]:.1f} times")
         axioms = "".join(f"{k} axiom eqrefl\n" for k in range(1, 400_002)) + "done\n"
-        checked(folder, "400001 lines of one axiom", axioms, "refused: line 400001: LinesFull")
+        checked(folder, "400001 lines of one axiom", axioms, "refused: line 400001: LinesFull", program)
+    return rates
+
+
+def main():
+    """Times each program, and metamath."""
+    for program in [pathlib.Path(word) for word in sys.argv[1:]] or [PROGRAM]:
+        print(program)
+        rates = rates_of(program)
     if SET_MM.exists():
         size = SET_MM.stat().st_size
         seconds, peak = spent(["metamath", f"read '{SET_MM}'", "verify proof *", "exit"], "All proofs in the database were verified")
