@@ -5,6 +5,7 @@ ghost use Rattle.dlk_store.specs.Stores.{IsId};
 use super::*;
 use dlk_grammar::Dots;
 use dlk_parse::{TextFault, read_expression};
+use dlk_plain::PlainStore;
 use dlk_shared::SharedStore;
 use dlk_store::{Id, StoreFault, Which};
 
