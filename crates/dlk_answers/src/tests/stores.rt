@@ -2,6 +2,7 @@
 use super::*;
 use dlk_grammar::Dots;
 use dlk_parse::{TextFault, read_expression};
+use dlk_plain::PlainStore;
 use dlk_shared::SharedStore;
 
 /// Each group of operators, with symbols that have a taboo, systems with constants, loops, quantifiers, dots and the hole.
