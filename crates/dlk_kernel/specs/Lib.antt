@@ -1,3 +1,4 @@
 pub mod Kernel
 pub mod Faults
 pub mod Limits
+pub mod Taken
