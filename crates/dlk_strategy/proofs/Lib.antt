@@ -1,1 +1,3 @@
-
+mod OneFate
+mod TakenSteps
+mod MainGoals

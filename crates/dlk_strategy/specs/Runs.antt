@@ -160,9 +160,9 @@ abbrev mutual
   Runs (Repeat body times) = OnEach (Again (Runs body 1) times)
   Runs (One atom) = OnEach (RunAtom atom)
 
-  -- the first of these that doesn't fail, and else the last
+  -- the first of these that doesn't fail, and else the last; none of them does nothing
   pub Alternatives : Tactics → Run
-  Alternatives no_parts = λ goal now outcome. ⊥
+  Alternatives no_parts = λ goal. Ends 1
   Alternatives (part t no_parts) = Runs t 1
   Alternatives (part t (part u rest)) = λ goal. Else (Runs t 1 goal) (Alternatives (part u rest) goal)
 

@@ -2,5 +2,8 @@
 #![tactic(auto)]
 
 mod fault;
+mod laws;
+mod trace;
 
 pub use fault::{FailWhy, RunFault};
+pub use laws::run_is_taken;
