@@ -1,3 +1,6 @@
 mod OneFate
 mod TakenSteps
 mod MainGoals
+mod StepsKept
+mod States
+mod Locators

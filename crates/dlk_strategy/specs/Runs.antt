@@ -111,10 +111,15 @@ side_of (Word name) = None
 side_of (GivenFormula h) = None
 side_of (GivenTerm t) = None
 
+-- the first, and where there is none the other
+abbrev pub or_other : Option Side → Option Side → Option Side
+or_other (Some side) other = Some side
+or_other None other = other
+
 -- the side of the first locator of these
 abbrev pub side : List Argument → Option Side
 side [] = None
-side (argument ∷ rest) = elim (side_of argument) [ Some s ↦ Some s | None ↦ side rest ]
+side (argument ∷ rest) = or_other (side_of argument) (side rest)
 
 -- the argument with this place for a locator
 abbrev pub put_place : ℕ → Argument → Argument

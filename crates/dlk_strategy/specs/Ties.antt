@@ -85,10 +85,12 @@ BecomesTried fate before after (Err (fault.Fails at why)) = ⊥
 BecomesTried fate before after (Err (fault.Budget at)) = fate before (Budget at)
 BecomesTried fate before after (Err fault.Memory) = Unit {0}
 
--- there are as many goals as the answer says
-abbrev pub HasLeft : (before goals after : ℕ) → Result ℕ RunFault → Type 0
-HasLeft before goals after (Ok left) = after + goals ≡ before + left
-HasLeft before goals after (Err e) = Unit {0}
+-- so much holds where a goal is done or fails
+abbrev pub UnlessOver : {T : Type 0} → Type 0 → Result T RunFault → Type 0
+UnlessOver holds (Ok answer) = holds
+UnlessOver holds (Err (fault.Fails at why)) = holds
+UnlessOver holds (Err (fault.Budget at)) = Unit {0}
+UnlessOver holds (Err fault.Memory) = Unit {0}
 
 -- a failure leaves what was there
 abbrev pub IsBackOnFailure : Type 0 → Result ℕ RunFault → Type 0
@@ -96,6 +98,16 @@ IsBackOnFailure back (Ok left) = Unit {0}
 IsBackOnFailure back (Err (fault.Fails at why)) = back
 IsBackOnFailure back (Err (fault.Budget at)) = Unit {0}
 IsBackOnFailure back (Err fault.Memory) = Unit {0}
+
+-- none leaves what was there
+abbrev pub IsBackOnNone : Type 0 → Result (Option ℕ) RunFault → Type 0
+IsBackOnNone back (Ok (Some left)) = Unit {0}
+IsBackOnNone back (Ok None) = back
+IsBackOnNone back (Err e) = Unit {0}
+
+-- there are as many goals as the answer says
+abbrev pub HasLeft : (before goals after : ℕ) → ℕ → Type 0
+HasLeft before goals after left = after + goals ≡ before + left
 
 -- a strategy on one goal
 abbrev pub on_one : TreeTactic → Run

@@ -1,6 +1,7 @@
 //! Runs strategies.
 #![tactic(auto)]
 
+mod atoms;
 mod fault;
 mod laws;
 mod trace;
