@@ -4,3 +4,5 @@ mod MainGoals
 mod StepsKept
 mod States
 mod Locators
+mod Trying
+mod FixedAtoms

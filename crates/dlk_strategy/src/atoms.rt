@@ -157,3 +157,60 @@ fn places_on<S: Store>(kernel: &Kernel<S>, side: Side, goal: u32) -> u32
         Side::Right => goal.succ.as_slice().len() as u32,
     }
 }
+
+/// Tries the places of a side of a goal in order, each a run of its own, until one doesn't fail.
+fn try_places<S: Store, L: Ledger>(
+    alloc: Global,
+    kernel: &mut Kernel<S>,
+    trace: &mut Trace,
+    atom: &Atom,
+    side: Side,
+    goal: u32,
+    steps: &mut Steps<L>,
+) -> Result<u32, RunFault>
+    requires ready { IsReady S.trees kernel.old trace.old goal 1 }
+    requires known { AtomIsKnown (S.trees kernel.old.store) atom.now }
+    requires fitting { IsFitting (atom_at (S.trees kernel.old.store) atom.now) }
+    ensures fate { Becomes (TriesAll (atom_at (S.trees kernel.old.store) atom.now) side goal) (now S.trees kernel.old trace.old) (now S.trees kernel.new trace.new) result }
+    ensures extends { UnlessOver (Extends S.trees kernel.old trace.old kernel.new trace.new) result }
+    ensures left { IfOk result (HasLeft (goals_of S.trees kernel.old) 1 (goals_of S.trees kernel.new)) }
+    ensures few { OnOk result (goals_of S.trees kernel.new ≤ most_goals) }
+    ensures grows { S.grows kernel.old.store kernel.new.store }
+{
+    let places = places_on(kernel, side, goal);
+    let mut why = FailWhy::NoPlace;
+    for place in 0..places {
+        let placed = placed(alloc, atom, place + 1)?;
+        match run_once(alloc, kernel, trace, &placed, goal, steps) {
+            Err(RunFault::Fails { why: last, .. }) => why = last,
+            Ok(left) => return Ok(left),
+            Err(RunFault::Budget { at }) => return Err(RunFault::Budget { at }),
+            Err(RunFault::Memory) => return Err(RunFault::Memory),
+        }
+    }
+    Err(RunFault::Fails { at: atom.at, why })
+}
+
+/// Runs an atom on a goal of the last row; where it has a locator, at the first place at which it doesn't fail.
+pub(crate) fn run_atom<S: Store, L: Ledger>(
+    alloc: Global,
+    kernel: &mut Kernel<S>,
+    trace: &mut Trace,
+    atom: &Atom,
+    goal: u32,
+    steps: &mut Steps<L>,
+) -> Result<u32, RunFault>
+    requires ready { IsReady S.trees kernel.old trace.old goal 1 }
+    requires known { AtomIsKnown (S.trees kernel.old.store) atom.now }
+    requires fitting { IsFitting (atom_at (S.trees kernel.old.store) atom.now) }
+    ensures fate { Becomes (RunAtom (atom_at (S.trees kernel.old.store) atom.now) goal) (now S.trees kernel.old trace.old) (now S.trees kernel.new trace.new) result }
+    ensures extends { UnlessOver (Extends S.trees kernel.old trace.old kernel.new trace.new) result }
+    ensures left { IfOk result (HasLeft (goals_of S.trees kernel.old) 1 (goals_of S.trees kernel.new)) }
+    ensures few { OnOk result (goals_of S.trees kernel.new ≤ most_goals) }
+    ensures grows { S.grows kernel.old.store kernel.new.store }
+{
+    match first_side(atom.args.as_slice()) {
+        None => run_once(alloc, kernel, trace, atom, goal, steps),
+        Some(side) => try_places(alloc, kernel, trace, atom, side, goal, steps),
+    }
+}
