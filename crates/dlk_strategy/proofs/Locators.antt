@@ -52,7 +52,7 @@ placed_more trees place i items args new a x lt is pushed so one =
     let left : map f new ≡ map f args ++ f x ∷ [] = ap (map f) pushed ∙ map-append f args (x ∷ []) in
     let front : take (i + 1) items ≡ take i items ++ a ∷ [] = take_more items i a lt ∙ ap (λ y. take i items ++ y ∷ []) (sym is) in
     let right : map p (map f (take (i + 1) items)) ≡ map p (map f (take i items)) ++ p (f a) ∷ [] =
-        ap (λ xs. map p (map f xs)) front ∙ ap (map p) (map-append f (take i items) (a ∷ [])) ∙ map-append p (map f (take i items)) (f a ∷ []) in
+    ap (λ xs. map p (map f xs)) front ∙ ap (map p) (map-append f (take i items) (a ∷ [])) ∙ map-append p (map f (take i items)) (f a ∷ []) in
     let same : map f args ++ f x ∷ [] ≡ map p (map f (take i items)) ++ p (f a) ∷ [] = λ k. so k ++ one k ∷ [] in
     left ∙ same ∙ sym right
 

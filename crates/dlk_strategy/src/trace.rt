@@ -28,7 +28,12 @@ pub(crate) fn goals_left<S: Store>(kernel: &Kernel<S>) -> u32
 }
 
 /// Takes back what was made since there were so many rows and so many steps.
-pub(crate) fn take_back<S: Store>(kernel: &mut Kernel<S>, trace: &mut Trace, rows: u32, steps: usize)
+pub(crate) fn take_back<S: Store>(
+    kernel: &mut Kernel<S>,
+    trace: &mut Trace,
+    rows: u32,
+    steps: usize,
+)
     requires rows { rows ≤ length kernel.old.rows }
     ensures rows { kernel.new.rows ≡ take rows kernel.old.rows }
     ensures store { kernel.new.store ≡ kernel.old.store }

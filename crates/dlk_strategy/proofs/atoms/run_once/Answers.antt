@@ -25,7 +25,7 @@ overflow_sub-result g c =
     let old = facts trees c.args.kernel.now in
     let is = c.rows-fact.ensures.count ∙ sym (length-map c.args.kernel.now.rows (provable_at (trees c.args.kernel.now.store))) in
     let made = of_last old (facts trees c.elaborate.new.kernel) c.rows-fact.result c.args.goal (atom_at (trees c.args.kernel.now.store) c.args.atom.now)
-        (map (step_at (trees c.elaborate.new.kernel.store)) c.in-Ok.made.steps.items) is c.in-Ok.ensures.made in
+    (map (step_at (trees c.elaborate.new.kernel.store)) c.in-Ok.made.steps.items) is c.in-Ok.ensures.made in
     (counted_as old (facts trees c.elaborate.new.kernel) c.args.goal (atom_at (trees c.args.kernel.now.store) c.args.atom.now)
     (map (step_at (trees c.elaborate.new.kernel.store)) c.in-Ok.made.steps.items) c.goals_left-before.result c.goals_left-after.result c.requires.ready.first c.requires.ready.room made
     c.goals_left-before.ensures.goals c.goals_left-after.ensures.goals).0
@@ -40,7 +40,7 @@ returns-in_ok-append-in-Ok-clause-fate g c =
     let steps = map (step_at (trees c.elaborate.new.kernel.store)) c.in-Ok.made.steps.items in
     let made = of_last old (facts trees c.elaborate.new.kernel) c.rows-fact.result c.args.goal atom steps is c.in-Ok.ensures.made in
     let n = counted_as old (facts trees c.elaborate.new.kernel) c.args.goal atom steps c.goals_left-before.result c.goals_left-after.result c.requires.ready.first c.requires.ready.room made
-        c.goals_left-before.ensures.goals c.goals_left-after.ensures.goals in
+    c.goals_left-before.ensures.goals c.goals_left-after.ensures.goals in
     once_done atom c.args.goal c.args.trace.now.used (c.goals_left-after.result + 1 - c.goals_left-before.result) old (facts trees c.elaborate.new.kernel)
     (map (step_at (trees c.args.kernel.now.store)) c.args.trace.now.steps.items) steps (map (step_at (trees c.elaborate.new.kernel.store)) c.append.new.into.items)
     c.if-trace-ge-MOST_RUNS.false made n.1
