@@ -1,6 +1,7 @@
 -- The atoms of the strategy language: what each asks of the kernel on a goal, the steps that it gives, and its fault.
-use Rattle.std.specs.Prelude.{◌≡◌, ◌<◌, ◌≤◌, ◌+◌, ◌⊎◌, ℕ, List, [], ◌∷◌, ◌++◌, length, Option, Some, None, All, Any, codes}
+use Rattle.std.specs.Prelude.{◌≡◌, ◌<◌, ◌≤◌, ◌+◌, ◌⊎◌, ℕ, List, [], ◌∷◌, ◌++◌, length, Option, Some, None, All, Any, IsTrue, codes}
 use Rattle.dlk_tree.specs.Trees.{Tree}
+use Rattle.dlk_tree.specs.Names.{is_name}
 use Rattle.dlk_calculus.specs.declared.reason.Reason.{Reason}
 use Rattle.dlk_calculus.specs.declared.reason.Reason.TheVariants.{NotEqual}
 use Rattle.dlk_calculus.specs.Places.{At, put_all}
@@ -67,6 +68,18 @@ IsFixed (GivenTerm e) = Unit {0}
 abbrev pub HasNoLocator : Atom → Type 0
 HasNoLocator atom = All IsFixed atom.arguments
 
+-- the name that the argument is, if it is one, is a name
+abbrev pub IsNamed : Argument → Type 0
+IsNamed (AtPlace place path) = Unit {0}
+IsNamed AnyLeft = Unit {0}
+IsNamed AnyRight = Unit {0}
+IsNamed (Word name) = IsTrue (is_name name)
+IsNamed (GivenFormula h) = Unit {0}
+IsNamed (GivenTerm e) = Unit {0}
+
+abbrev pub HasNames : Atom → Type 0
+HasNames atom = All IsNamed atom.arguments
+
 -- Formulas that are the same:
 
 -- the same formula stands at place i on the left and at place j on the right
@@ -77,6 +90,10 @@ AreSame s i j = (f : Tree) × At s.ante i f × At s.succ j f
 pub record AreFirstSame (s : Sequent) (i j : ℕ) : Type 0 where
   pub same : AreSame s i j
   pub least : (k l : ℕ) → AreSame s k l → (i < k) ⊎ ((i ≡ k) × (j ≤ l))
+
+-- the goal is one of the fact's
+abbrev pub HasGoalAt : List Provable → ℕ → ℕ → Type 0
+HasGoalAt rows fact goal = (s : Sequent) × IsGoal rows fact goal s
 
 -- what an atom asks for
 pub data Asked : Type 0 where
