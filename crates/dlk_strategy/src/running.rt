@@ -1,5 +1,5 @@
 //! Runs of strategies on goals.
-ghost use Rattle.std.specs.Prelude.{◌≡◌, ◌≤◌, ◌+◌, ℕ, List, length, map, take, All, Option, Some, None, IfOk, OnOk, IfSome};
+ghost use Rattle.std.specs.Prelude.{◌≡◌, ◌≤◌, ◌+◌, ◌++◌, ℕ, List, length, map, take, reverse, replicate, All, Option, Some, None, IfOk, OnOk, IfSome};
 ghost use Rattle.dlk_calculus.specs.Limits.{most_goals};
 ghost use Rattle.dlk_kernel.specs.Kernel.{facts};
 ghost use Rattle.dlk_tacsyn.specs.Ties.{tactic_at};
@@ -12,7 +12,7 @@ use crate::trace::{Trace, take_back};
 use dlk_kernel::Kernel;
 use dlk_store::{Steps, Store};
 use dlk_tacsyn::Tactic;
-use std::alloc::Global;
+use std::alloc::{AllocError, Global};
 use std::sync::ledger::Ledger;
 
 /// Runs a strategy on so many goals of the last row, from this one on, and answers how many goals stand in their place.
@@ -221,13 +221,25 @@ fn repeat<S: Store, L: Ledger>(
         }
         let used = trace.used;
         match attempt(alloc, kernel, trace, body, goal + left, steps)? {
-            Some(new) if trace.used != used => {
-                for _ in 0..new {
-                    waiting.push(turns - 1)?;
+            None => left += 1,
+            Some(new) => {
+                if trace.used == used {
+                    left += 1;
+                } else {
+                    wait(&mut waiting, turns - 1, new)?;
                 }
             }
-            _ => left += 1,
         }
     }
     Ok(left)
+}
+
+/// So many more goals wait, each with so many turns.
+fn wait(waiting: &mut Vec<u32>, turns: u32, goals: u32) -> Result<(), AllocError>
+    ensures { OnOk result (reverse waiting.new.items ≡ replicate goals turns ++ reverse waiting.old.items) }
+{
+    for _ in 0..goals {
+        waiting.push(turns)?;
+    }
+    Ok(())
 }
