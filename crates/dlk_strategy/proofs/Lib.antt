@@ -6,3 +6,6 @@ mod States
 mod Locators
 mod Trying
 mod FixedAtoms
+mod Walking
+mod Reached
+mod Parts
