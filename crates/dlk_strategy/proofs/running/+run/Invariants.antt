@@ -1,0 +1,20 @@
+use Rattle.std.proofs.Common.{◌-◌, List, drop}
+use Rattle.dlk_tacsyn.specs.Ties.{tactic_at}
+use Rattle.dlk_strategy.specs.Runs.{Each, InTurn, OnOwn}
+use Rattle.dlk_strategy.specs.Ties.{on_one, tactics_of}
+use Rattle.dlk_strategy.proofs.Reached.{Reached}
+use Rattle.dlk_strategy.proofs.running.+run.Given as goal
+
+abbrev pub invariant-in_turn-loop-t : goal.invariant-in_turn-loop-t
+invariant-in_turn-loop-t g l = record {
+  grows : g.S.Store.grows l.initial.kernel.store l.kernel.store;
+  reached : Reached g.S.Store.trees l.initial.kernel l.initial.trace l.kernel l.trace 1 l.goals (InTurn (tactics_of (g.S.Store.trees l.initial.kernel.store) l.parts) 1 l.goal)
+      (InTurn (tactics_of (g.S.Store.trees l.initial.kernel.store) (drop l.t-index l.parts)) l.goals l.goal);
+}
+
+abbrev pub invariant-branch-loop-t : goal.invariant-branch-loop-t
+invariant-branch-loop-t g l = record {
+  grows : g.S.Store.grows l.initial.kernel.store l.kernel.store;
+  reached : Reached g.S.Store.trees l.initial.kernel l.initial.trace l.kernel l.trace l.t-index l.left (OnOwn (tactics_of (g.S.Store.trees l.initial.kernel.store) l.parts) l.goal 0)
+      (OnOwn (tactics_of (g.S.Store.trees l.initial.kernel.store) (drop l.t-index l.parts)) l.goal l.left);
+}
