@@ -56,7 +56,7 @@ prefix_on xs ys zs p q =
     let few : length xs ≤ length ys = omega (arith, n, ap length p) in
     sym (take-take (length xs) (length ys) zs few) ∙ ap (take (length xs)) q ∙ p
 
-facts_length : {S : Type 0} (trees : S → List Tree) (k : State S) → length (facts trees k) ≡ length k.rows
+pub facts_length : {S : Type 0} (trees : S → List Tree) (k : State S) → length (facts trees k) ≡ length k.rows
 facts_length trees k = length-map k.rows (provable_at (trees k.store))
 
 module _ {S : Type 0} (trees : S → List Tree) where
