@@ -1,0 +1,14 @@
+mod OneFate
+mod TakenSteps
+mod MainGoals
+mod StepsKept
+mod States
+mod Locators
+mod Trying
+mod FixedAtoms
+mod Walking
+mod Reached
+mod Parts
+mod Counted
+mod Repeating
+mod Choosing
