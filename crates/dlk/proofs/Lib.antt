@@ -7,3 +7,4 @@ pub mod Given
 pub mod Ran
 pub mod Truly
 pub mod Judged
+pub mod Looked

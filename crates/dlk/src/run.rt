@@ -11,6 +11,7 @@ ghost use Rattle.dlk.specs.Cuts.{cut_bytes_of};
 ghost use Rattle.dlk.specs.Answers.{Answers};
 ghost use Rattle.dlk.specs.Runs.{Caused, AsksFor, Asks, Keeps, HasInputs, Answered, Completes};
 ghost use Rattle.dlk.specs.Headline.{ClosedTruly, JudgesTruly};
+ghost use Rattle.dlk.specs.Looks.{LooksAtFewFor, LooksAtFew};
 
 use crate::fault::NoAnswer;
 use crate::give::give;
@@ -70,6 +71,7 @@ fn work<D: Desk, L: Ledger>(
     ensures all { OnOk result ((D.outside desk.new).asked ≡ (D.outside desk.old).asked ++ inputs_named (map string_bytes words.now)) }
     ensures asks { (count : ℕ) × AsksFor D.tells (inputs_named (map string_bytes words.now)) (limits_named (map string_bytes words.now)) count (D.outside desk.old) (D.outside desk.new) }
     ensures only { OnlyReads D.tells (D.outside desk.old) (D.outside desk.new) }
+    ensures looks { D.tells → LooksAtFewFor (map string_bytes words.now) (D.outside desk.old).files steps.old steps.new }
 {
     let Some(command) = Command::parse(words) else {
         return Ok(words_refused(alloc)?);
@@ -105,6 +107,8 @@ pub fn run<D: Desk, L: Ledger>(
     ensures answered { D.tells → HasInputs (map string_bytes words.now) (D.outside desk.old) → Answered (map string_bytes words.now) result (D.outside desk.old) (D.outside desk.new) }
     // Where moreover no count of faults rose: the answer, or want of memory.
     ensures completes { D.tells → HasInputs (map string_bytes words.now) (D.outside desk.old) → Completes (map string_bytes words.now) result (D.outside desk.old) (D.outside desk.new) }
+    // Where the result of a substitution is refused, few nodes were looked at.
+    ensures looks { D.tells → LooksAtFew (map string_bytes words.now) result (D.outside desk.old) (D.outside desk.new) steps.old steps.new }
 {
     let reply = match work(alloc, words, desk, steps) {
         Ok(reply) => reply,

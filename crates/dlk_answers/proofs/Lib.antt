@@ -6,6 +6,7 @@ pub mod ListTexts
 pub mod ListAnswers
 pub mod SubstAnswers
 pub mod OneSubstitution
+pub mod FewLooks
 pub mod OneReply
 pub mod SomeListing
 pub mod SomeReply

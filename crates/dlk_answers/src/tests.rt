@@ -5,6 +5,7 @@ mod listing;
 mod models;
 mod printing;
 mod rules;
+mod stores;
 mod substituting;
 mod terms;
 
@@ -13,7 +14,7 @@ ghost use Rattle.std.specs.Prelude.{◌≡◌, ◌<◌, ◌≤◌};
 use super::*;
 use dlk_kernel::{Kernel, Step};
 use dlk_parse::{read_formula, read_sequent};
-use dlk_plain::PlainStore;
+use dlk_shared::SharedStore;
 use dlk_store::{Steps, Store};
 use dlk_tree::{Items, Kind, Name, OdeItem, Op, Sym, Var, same_op};
 use std::alloc::{AllocError, Global};
@@ -251,7 +252,7 @@ fn stepped_back<L: Ledger>(alloc: Global, blank: Blank) -> Option<[u32; 4]>
     requires some { 0 < blank.parts }
 {
     let mut steps = Steps::<L>::new(blank);
-    let mut kernel = Kernel::new(alloc, PlainStore::new(alloc));
+    let mut kernel = Kernel::new(alloc, SharedStore::new(alloc));
     let formula = read_formula(alloc, b"x>=0 -> x>=0", &mut kernel).ok()?;
     let sequent = read_sequent(alloc, b"==> x>=0", &mut kernel).ok()?;
     let mark = kernel.mark();

@@ -1,5 +1,9 @@
 -- Why a text is no strategy.
 use Rattle.std.specs.Prelude.{ℕ}
+use Rattle.dlk_parse.specs.declared.fault.TextFault.{TextFault}
+use Rattle.dlk_parse.specs.declared.fault.TextFault.TheVariants as text
+use Rattle.dlk_scripts.specs.declared.fault.PartsFault.{PartsFault}
+use Rattle.dlk_scripts.specs.declared.fault.PartsFault.TheVariants as parts
 use Rattle.dlk_tacsyn.specs.declared.fault.TacSyntax.{TacSyntax}
 use Rattle.dlk_tacsyn.specs.declared.fault.TacSyntax.TheVariants as fault
 
@@ -24,3 +28,14 @@ IsTacSyntaxOf is_fault (fault.Repeat at) = is_fault (Repeat at)
 IsTacSyntaxOf is_fault (fault.UnknownAtom at) = is_fault (UnknownAtom at)
 IsTacSyntaxOf is_fault (fault.Arguments at) = is_fault (Arguments at)
 IsTacSyntaxOf is_fault fault.Memory = Unit {0}
+
+-- a quoted text that isn't read is a fault of the arguments of the atom at this byte
+abbrev pub of_text : ℕ → TextFault → TacSyntax
+of_text at (text.BadByte b) = fault.Arguments at
+of_text at (text.Unread why) = fault.Arguments at
+of_text at text.Memory = fault.Memory
+
+-- a fault of the grammar
+abbrev pub of_parts : PartsFault → TacSyntax
+of_parts (parts.Syntax at) = fault.Syntax at
+of_parts parts.Memory = fault.Memory

@@ -1,6 +1,8 @@
 ghost use Rattle.std.specs.Prelude.{◌≡◌};
 ghost use Rattle.dlk_tacsyn.specs.declared.fault.TacSyntax.TheVariants.{Memory};
+ghost use Rattle.dlk_tacsyn.specs.Faults.{of_parts};
 
+use dlk_scripts::PartsFault;
 use std::alloc::{AllocError, AllocFailed};
 use thiserror::Error;
 
@@ -40,5 +42,16 @@ impl<T: Drop> From<AllocFailed<T>> for TacSyntax {
 
     fn from(_: AllocFailed<T>) -> TacSyntax {
         TacSyntax::Memory
+    }
+}
+
+impl From<PartsFault> for TacSyntax {
+    ghost from_gives = { λ fault e. e ≡ of_parts fault };
+
+    fn from(fault: PartsFault) -> TacSyntax {
+        match fault {
+            PartsFault::Syntax { at } => TacSyntax::Syntax { at },
+            PartsFault::Memory => TacSyntax::Memory,
+        }
     }
 }

@@ -14,7 +14,7 @@ fn goals_of<L: Ledger>(alloc: Global, term: &[u8], blank: Blank) -> Option<Vec<u
     requires parts { blank.parts ≡ L.parts }
     requires some { 0 < blank.parts }
 {
-    let mut kernel = Kernel::new(alloc, PlainStore::new(alloc));
+    let mut kernel = Kernel::new(alloc, SharedStore::new(alloc));
     let mut steps = Steps::<L>::new(blank);
     let outcome = match replay(alloc, term, &mut kernel, &mut steps) {
         Ok(outcome) => outcome,
@@ -350,7 +350,7 @@ fn cut_refused<L: Ledger>(alloc: Global, text: &[u8], blank: Blank) -> Option<[S
     requires some { 0 < blank.parts }
 {
     let mut steps = Steps::<L>::new(blank);
-    let mut kernel = Kernel::new(alloc, PlainStore::new(alloc));
+    let mut kernel = Kernel::new(alloc, SharedStore::new(alloc));
     let sequent = read_sequent(alloc, b"p() ==> q()", &mut kernel).ok()?;
     let fact = kernel.step(alloc, &Step::Start(sequent), &mut steps).ok()?;
     let h = read_expression(alloc, text, Dots::Allowed, &mut kernel).ok()?;
@@ -382,7 +382,7 @@ fn start_refused<L: Ledger>(alloc: Global, text: &[u8], blank: Blank) -> Option<
     requires some { 0 < blank.parts }
 {
     let mut steps = Steps::<L>::new(blank);
-    let mut kernel = Kernel::new(alloc, PlainStore::new(alloc));
+    let mut kernel = Kernel::new(alloc, SharedStore::new(alloc));
     let h = read_expression(alloc, text, Dots::Allowed, &mut kernel).ok()?;
     let ante = Listed::new(alloc);
     let succ = Listed::from_vec([h].to_vec(alloc).ok()?);
