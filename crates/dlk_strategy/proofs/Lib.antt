@@ -2,6 +2,10 @@ mod OneFate
 mod TakenSteps
 mod MainGoals
 mod StepsKept
+mod Walking
+mod Starting
+mod OneOnce
+mod SomeFate
 mod States
 mod Locators
 mod Trying
