@@ -4,6 +4,7 @@ mod MainGoals
 mod StepsKept
 mod Walking
 mod Starting
+mod Begun
 mod OneOnce
 mod SomeFate
 mod States

@@ -4,12 +4,11 @@ use Rattle.std.specs.List.{All}
 use Rattle.std.proofs.lemmas.List.Elements.{All-nil, All-cons}
 use Rattle.dlk_tree.specs.Trees.{Tree}
 use Rattle.dlk_calculus.specs.declared.reason.Reason.{Reason}
-use Rattle.dlk_calculus.specs.Limits.{IsSmall, IsShallow, most_goals}
+use Rattle.dlk_calculus.specs.Limits.{IsSmall, IsShallow}
 use Rattle.dlk_calculus.specs.Limited.{InSequent, InProvable, HasFewFormulas}
 use Rattle.dlk_calculus.specs.Sequents.{Sequent, alone_right, IsFormula, IsSequent}
 use Rattle.dlk_calculus.specs.Provables.{Provable, started}
 use Rattle.dlk_calculus.specs.Steps.{Step, Start, Gives, start, Exceeds, too_big, too_deep, start_full, Against, start_no_formulas, past_limit, rows_full, StepOf, Adds}
-use Rattle.dlk_strategy.specs.Runs.{main_goals}
 
 alone_is : (formula : Tree) → IsFormula formula → IsSequent (alone_right formula)
 alone_is formula is = record { ante = All-nil IsFormula; succ = All-cons IsFormula formula [] is (All-nil IsFormula) }
@@ -47,8 +46,6 @@ starts formula is small shallow = record {
   allowed = λ why. none_against formula why is small shallow;
 }
 
--- and it gives a row with one goal
-pub one_goal : (s : Sequent) (after : List Provable) → Adds [] (Start s) after → length (main_goals after) ≡ 1
-one_goal s after adds =
-    let same : adds.provable ≡ started s = started_is s adds.provable adds.is_its.given in
-    ap (λ rows. length (main_goals rows)) adds.after_is ∙ ap (λ (p : Provable). length p.goals) same
+-- and it gives a row
+pub one_row : (s : Sequent) (after : List Provable) → Adds [] (Start s) after → after ≡ started s ∷ []
+one_row s after adds = adds.after_is ∙ ap (λ (p : Provable). p ∷ []) (started_is s adds.provable adds.is_its.given)
