@@ -2,6 +2,11 @@ mod OneFate
 mod TakenSteps
 mod MainGoals
 mod StepsKept
+mod Walking
+mod Starting
+mod Begun
+mod OneOnce
+mod SomeFate
 mod States
 mod Locators
 mod Trying

@@ -5,8 +5,7 @@ use Rattle.dlk_calculus.specs.Places.{At}
 use Rattle.dlk_calculus.specs.Places.{at as item_at}
 use Rattle.dlk_calculus.specs.Sequents.{Sequent}
 use Rattle.dlk_calculus.specs.Provables.{Provable}
-use Rattle.dlk_calculus.specs.Steps.{Step, Start, StepOf}
-use Rattle.dlk_calculus.proofs.StepLaws.{one_given}
+use Rattle.dlk_calculus.specs.Steps.{Step, Start, Gives, StepOf}
 use Rattle.dlk_rules.specs.declared.arguments.Side.{Side}
 use Rattle.dlk_tacsyn.specs.Tactics.{Atom, Tactic, Choice, Sequence, Branch, Repeat, One, Tactics, no_parts, part, count}
 use Rattle.dlk_strategy.specs.declared.fault.FailWhy.{FailWhy}
@@ -137,9 +136,10 @@ module _ (one_once : (atom : Atom) (goal : ℕ) → IsOne (Once atom goal)) wher
   start : Tree → Step
   start formula = Start (record { ante = []; succ = formula ∷ [] })
 
-  pub one_run : (t : Tactic) (formula : Tree) (a b : Outcome) → RunsModel t formula a → RunsModel t formula b → a ≡ b
+  pub one_run : ((rows : List Provable) (step : Step) (p q : Provable) → Gives rows step p → Gives rows step q → p ≡ q) →
+      (t : Tactic) (formula : Tree) (a b : Outcome) → RunsModel t formula a → RunsModel t formula b → a ≡ b
   unfolding start
-  one_run t formula a b p q =
+  one_run one_given t formula a b p q =
       let same : p.provable ≡ q.provable = one_given [] (start formula) p.provable q.provable p.start.given q.start.given in
       one_fate t 1 1 (record { steps = start formula ∷ []; rows = q.provable ∷ []; used = 0 }) a b
       (subst (λ (r : Provable). Runs t 1 1 (record { steps = start formula ∷ []; rows = r ∷ []; used = 0 }) a) same p.run) q.run

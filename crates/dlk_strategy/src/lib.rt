@@ -9,5 +9,5 @@ mod strategy;
 mod trace;
 
 pub use fault::{FailWhy, RunFault};
-pub use laws::run_is_taken;
+pub use laws::{one_outcome, run_is_taken, some_outcome};
 pub use strategy::{Done, run_strategy};

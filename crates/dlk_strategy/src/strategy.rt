@@ -88,8 +88,10 @@ fn run_model<S: Store, L: Ledger>(
     ensures grows { S.grows kernel.old.store kernel.new.store }
 {
     let start = Step::Start(Sequent::alone_right(alloc, model)?);
-    if let Err(StepFault::Memory) = kernel.step(alloc, &start, steps) {
-        return Err(RunFault::Memory);
+    match kernel.step(alloc, &start, steps) {
+        Ok(_) => {}
+        Err(StepFault::Memory) => return Err(RunFault::Memory),
+        Err(StepFault::Refused(_)) => unreachable!(),
     }
     let mut trace = Trace {
         steps: Vec::new(alloc),
