@@ -11,9 +11,9 @@ mod States
 mod Locators
 mod Trying
 mod FixedAtoms
-mod Walking
 mod Reached
 mod Parts
 mod Counted
 mod Repeating
 mod Choosing
+mod Depths
