@@ -8,5 +8,6 @@ pub mod Judged
 pub mod Prints
 pub mod Lists
 pub mod Substitutes
+pub mod Proves
 pub mod Answers
 pub mod Shown
