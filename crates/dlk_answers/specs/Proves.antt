@@ -8,7 +8,7 @@ use Rattle.dlk_grammar.specs.Texts.{TextFault}
 use Rattle.dlk_report.specs.Reports.{is_closed}
 use Rattle.dlk_tacsyn.specs.Tactics.{Tactic}
 use Rattle.dlk_tacsyn.specs.Faults.{Fault, Syntax, Nesting, Repeat, UnknownAtom, Arguments}
-use Rattle.dlk_tacsyn.specs.Strategies.{IsStrategy, IsNoStrategy}
+use Rattle.dlk_tacsyn.specs.Strategies.{StrategyText, StrategyFault}
 use Rattle.dlk_strategy.specs.declared.fault.FailWhy.{FailWhy}
 use Rattle.dlk_strategy.specs.declared.fault.FailWhy.TheVariants as fail
 use Rattle.dlk_strategy.specs.Runs.{Progress, Outcome, Done, Fails, Budget, RunsModel}
@@ -55,7 +55,7 @@ pub record RunsTo (model strategy : List ℕ) (outcome : Outcome) : Type 0 where
   pub formula : Tree
   pub reads : ModelText model formula
   pub tactic : Tactic
-  pub says : IsStrategy strategy tactic
+  pub says : StrategyText strategy tactic
   pub run : RunsModel tactic formula outcome
 
 -- the last of the rows
@@ -66,7 +66,7 @@ pub record IsLast (rows : List Provable) (p : Provable) : Type 0 where
 -- Proves model strategy reply: this is what is answered to the two texts. One case an answer, the first that applies.
 pub data Proves (model strategy : List ℕ) : Reply → Type 0 where
   bad_model : (why : TextFault) → ModelFault model why → Proves model strategy (text_refused Model why)
-  bad_strategy : (f : Tree) → ModelText model f → (why : Fault) → IsNoStrategy strategy why → Proves model strategy (strategy_refused why)
+  bad_strategy : (f : Tree) → ModelText model f → (why : Fault) → StrategyFault strategy why → Proves model strategy (strategy_refused why)
   fails : (at used : ℕ) (why : FailWhy) → RunsTo model strategy (Fails at why used) → Proves model strategy (failed at why)
   spent : (at : ℕ) → RunsTo model strategy (Budget at) → Proves model strategy (over_budget at)
   too_long : (made : Progress) (left : ℕ) → RunsTo model strategy (Done made left) → limit_of Term < length (term_text made.steps) →

@@ -74,7 +74,7 @@ record TakenLines (steps : List Step) (rows : List Provable) : Type 0 where
 
 taken_lines : (steps : List Step) (rows : List Provable) → Takes [] steps rows → All HasSymbols steps → TakenLines steps rows
 taken_lines _ _ none symbols = record { limited = All-nil IsLimited; as_many = refl; lines = no_lines; count = refl; one_line = tt }
-taken_lines _ _ (more {steps} {rows} {step} {p} before is) symbols =
+taken_lines _ _ (more {steps} {mid = rows} {step} {p} before is) symbols =
     let t = taken_lines steps rows before (All-front HasSymbols steps (step ∷ []) symbols) in
     let few = (taken_as_given rows step p).0 is in
     let number : IsLineNumber (1 + length steps) = record { some = omega arith; few = omega (arith, t.as_many, few.2) } in

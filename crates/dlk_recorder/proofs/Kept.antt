@@ -1,5 +1,5 @@
 -- A text that is kept while it is within a limit.
-use Rattle.std.proofs.Common.{◌≡◌, ℕ, ◌+◌, ◌<◌, ◌≤◌, List, [], ◌∷◌, ◌++◌, length, map, drop, codes, refl, sym, ap, ◌∙◌, append_assoc, append-nil, length-append, drop-cons, add-one, arith}
+use Rattle.std.proofs.Common.{◌≡◌, ℕ, ◌+◌, ◌<◌, ◌≤◌, List, [], ◌∷◌, ◌++◌, length, map, drop, codes, refl, sym, ap, ◌∙◌, append_assoc, append-nil, length-append, drop-cons, suc, get_or, arith}
 use Rattle.dlk_calculus.specs.Steps.{Step}
 use Rattle.dlk_termtext.specs.Written.{line_text}
 use Rattle.dlk_recorder.specs.Terms.{lines_text}
@@ -10,7 +10,7 @@ pub record Kept (text : List ℕ) (bytes limit : ℕ) (left whole : List ℕ) : 
   pub count : bytes + length left ≡ length whole
 
 pub kept_none : (limit : ℕ) (whole : List ℕ) → Kept [] 0 limit whole whole
-kept_none limit whole = record { kept = λ le. refl; count = refl }
+kept_none limit whole = record { kept = λ le. refl; count = omega arith }
 
 pub kept_more : (text more new left rest whole : List ℕ) (bytes after limit : ℕ) → Kept text bytes limit left whole → left ≡ more ++ rest → after ≡ bytes + length more →
     (after ≤ limit → new ≡ text ++ more) → Kept new after limit rest whole
@@ -32,3 +32,9 @@ next_line stands steps i step within next =
     let others = lines_text (i + 1 + 1) (map stands (drop (i + 1) steps)) in
     ap (λ (l : List _). lines_text (i + 1) (map stands l) ++ codes "done\n") next
     ∙ append_assoc line (10 ∷ others) (codes "done\n") ∙ sym (append_assoc line (10 ∷ []) (others ++ codes "done\n"))
+
+-- the item at a place, before those behind it
+pub next_item : {A : Type 0} (items : List A) (i : ℕ) (item : A) → i < length items → item ≡ get_or items i item → drop i items ≡ item ∷ drop (i + 1) items
+next_item {A} items i item within is =
+    let one : suc i ≡ i + 1 = omega arith in
+    drop-cons items i item within ∙ ap (λ (x : A). x ∷ drop (suc i) items) (sym is) ∙ ap (λ (k : ℕ). item ∷ drop k items) one

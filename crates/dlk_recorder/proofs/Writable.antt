@@ -55,14 +55,15 @@ sequent_readable s is l = record {
 found_name : {A : Type 0} (name_of : A → List ℕ) (rows : List A) (name : List ℕ) (row : A) → list_all (λ r. is_name (name_of r)) rows ≡ true →
     find (λ r. bytes_eq (name_of r) name) rows ≡ Some row → is_name name ≡ true
 found_name name_of [] name row names found = absurd cc
-found_name name_of (r ∷ rows) name row names found = by_test (bytes_eq (name_of r) name) refl found
+found_name name_of (r ∷ rows) name row names found = by_test (bytes_eq (name_of r) name) refl found (λ later. found_name name_of rows name row w.1 later)
   where
     w : (is_name (name_of r) ≡ true) × (list_all (λ r. is_name (name_of r)) rows ≡ true)
     w = and_parts (is_name (name_of r)) (list_all (λ r. is_name (name_of r)) rows) names
 
-    by_test : (b : Bool) → bytes_eq (name_of r) name ≡ b → cond b (Some r) (find (λ r. bytes_eq (name_of r) name) rows) ≡ Some row → is_name name ≡ true
-    by_test true same is = subst (λ n. is_name n ≡ true) ((bytes_eq-Decides (name_of r) name).0 same) w.0
-    by_test false other is = found_name name_of rows name row w.1 is
+    by_test : (b : Bool) → bytes_eq (name_of r) name ≡ b → cond b (Some r) (find (λ r. bytes_eq (name_of r) name) rows) ≡ Some row →
+        (find (λ r. bytes_eq (name_of r) name) rows ≡ Some row → is_name name ≡ true) → is_name name ≡ true
+    by_test true same is later = subst (λ n. is_name n ≡ true) ((bytes_eq-Decides (name_of r) name).0 same) w.0
+    by_test false other is later = later is
 
 axiom_name : (name : List ℕ) (a : Axiom) → axiom_named name ≡ Some a → is_name name ≡ true
 axiom_name name a found = found_name (λ (x : Axiom). x.name) axioms name a refl found
