@@ -38,3 +38,14 @@ pub next_item : {A : Type 0} (items : List A) (i : ℕ) (item : A) → i < lengt
 next_item {A} items i item within is =
     let one : suc i ≡ i + 1 = omega arith in
     drop-cons items i item within ∙ ap (λ (x : A). x ∷ drop (suc i) items) (sym is) ∙ ap (λ (k : ℕ). item ∷ drop k items) one
+
+-- the next line is kept, too
+pub kept_line : {A : Type 0} (stands : A → Step) (steps : List A) (i : ℕ) (step : A) (text written new whole : List ℕ) (bytes after limit : ℕ) →
+    i < length steps → step ≡ get_or steps i step → Kept text bytes limit (lines_text (i + 1) (map stands (drop i steps)) ++ codes "done\n") whole →
+    written ≡ line_text (i + 1) (stands step) ++ 10 ∷ [] → after ≡ bytes + length written → (after ≤ limit → new ≡ text ++ written) →
+    Kept new after limit (lines_text (i + 1 + 1) (map stands (drop (i + 1) steps)) ++ codes "done\n") whole
+kept_line stands steps i step text written new whole bytes after limit within is so_far written_is after_is kept =
+    let left = lines_text (i + 1) (map stands (drop i steps)) ++ codes "done\n" in
+    let rest = lines_text (i + 1 + 1) (map stands (drop (i + 1) steps)) ++ codes "done\n" in
+    let next : left ≡ written ++ rest = next_line stands steps i step within (next_item steps i step within is) ∙ ap (λ (l : List ℕ). l ++ rest) (sym written_is) in
+    kept_more text written new left rest whole bytes after limit so_far next after_is kept
