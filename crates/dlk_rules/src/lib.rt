@@ -13,7 +13,7 @@ mod rule;
 mod step;
 mod structural;
 
-pub use arguments::{Arguments, Shape};
+pub use arguments::{Arguments, Shape, Side};
 pub use laws::{rule_is_its_word_and_arguments, word_wants_one_shape};
 pub use rule::{Rule, RuleFault, RuleWord, premises};
 pub use step::Step;

@@ -1,0 +1,4 @@
+pub mod Tactics
+pub mod Rows
+pub mod Faults
+pub mod Ties

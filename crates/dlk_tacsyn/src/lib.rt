@@ -1,0 +1,11 @@
+//! The strategy language: its trees, its atoms, and the reading of its texts.
+#![tactic(auto)]
+
+mod fault;
+mod kind;
+mod tactic;
+
+pub use dlk_sequent::Place;
+pub use fault::TacSyntax;
+pub use kind::Kind;
+pub use tactic::{Arg, Atom, Tactic};
