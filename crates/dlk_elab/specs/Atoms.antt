@@ -78,6 +78,10 @@ pub record AreFirstSame (s : Sequent) (i j : ℕ) : Type 0 where
   pub same : AreSame s i j
   pub least : (k l : ℕ) → AreSame s k l → (i < k) ⊎ ((i ≡ k) × (j ≤ l))
 
+-- the goal is one of the fact's
+abbrev pub HasGoalAt : List Provable → ℕ → ℕ → Type 0
+HasGoalAt rows fact goal = (s : Sequent) × IsGoal rows fact goal s
+
 -- what an atom asks for
 pub data Asked : Type 0 where
   -- these steps, in turn
