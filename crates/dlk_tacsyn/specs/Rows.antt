@@ -22,7 +22,7 @@ is_bare name = bytes_eq name (codes "nil") || bytes_eq name (codes "close") || b
 
 -- The arguments of the atom of this name: none for `nil`, `close` and `leaf`, and for each rule but `close` those of its shape. No
 -- other name is known.
-abbrev pub row_of : List ℕ → Option (List Kind)
+unfoldable pub row_of : List ℕ → Option (List Kind)
 row_of name = if is_bare name then Some [] else option_map (λ word. kinds_of (wanted word)) (named name)
 
 -- an argument of the kind: a place may have a path and lie on either side, a quoted formula has no dots

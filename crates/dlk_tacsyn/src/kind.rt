@@ -3,6 +3,7 @@ ghost use Rattle.std.specs.Prelude.{◌≡◌, IfNone, IfSome, None, Some};
 ghost use Rattle.dlk_tacsyn.specs.Rows.{is_bare, kinds_of, row_of};
 
 use dlk_rules::{RuleWord, Shape};
+use dlk_tree::Name;
 
 /// What an argument of an atom must be.
 #[derive(Clone, Copy, Debug, PartialEq, Eq)]
@@ -38,13 +39,19 @@ fn is_bare(name: &str) -> bool
 }
 
 /// The arguments that the atom of this name wants, in their order. None comes where no atom has the name.
-pub(crate) fn row_of(name: &str) -> Option<&'static [Kind]>
+pub(crate) fn row_of(name: &Name) -> Option<&'static [Kind]>
     ensures none { IfNone result (row_of name.now ≡ None) }
     ensures found { IfSome result (λ kinds. row_of name.now ≡ Some kinds.now) }
 {
-    if is_bare(name) {
+    name.is_name();
+    let Ok(text) = str::from_utf8(name.bytes()) else {
+        return None;
+    };
+    if is_bare(text) {
         return Some(&[]);
     }
-    let word = RuleWord::of(name)?;
+    let Some(word) = RuleWord::of(text) else {
+        return None;
+    };
     Some(kinds_of(word.shape()))
 }

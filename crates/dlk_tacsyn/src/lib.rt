@@ -1,7 +1,9 @@
 //! The strategy language: its trees, its atoms, and the reading of its texts.
 #![tactic(auto)]
 
+mod argument;
 mod fault;
+mod frame;
 mod kind;
 mod tactic;
 
