@@ -9,5 +9,6 @@ pub mod Prints
 pub mod Lists
 pub mod Substitutes
 pub mod Proves
+pub mod Proved
 pub mod Answers
 pub mod Shown

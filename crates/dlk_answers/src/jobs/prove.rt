@@ -1,7 +1,12 @@
 // `prove MODEL STRATEGY TERM`: run a strategy on a model, write the term that it makes, and report.
-ghost use Rattle.std.specs.Prelude.{◌≡◌, [], IfOk};
+ghost use Rattle.std.specs.Prelude.{◌≡◌, ◌≤◌, [], length, map, All, IfOk};
+ghost use Rattle.dlk_calculus.specs.Limits.{most_rows};
+ghost use Rattle.dlk_calculus.specs.Places.{At, IsPlace};
+ghost use Rattle.dlk_calculus.specs.Provables.{Provable};
 ghost use Rattle.dlk_kernel.specs.Kernel.{facts};
-ghost use Rattle.dlk_answers.specs.Proves.{fail_text, Proves};
+ghost use Rattle.dlk_rules.specs.Steps.{step_at, HasKnownIds};
+ghost use Rattle.dlk_answers.specs.Proves.{fail_text, term_too_long, Proves};
+ghost use Rattle.dlk_answers.specs.Proved.{IsStrategyRefused, IsRunRefused, finished};
 ghost use Rattle.dlk_answers.specs.Shown.{reply_of};
 
 use crate::fault::NoReply;
@@ -20,7 +25,9 @@ use std::alloc::Global;
 use std::sync::ledger::Ledger;
 
 /// The answer to a text that is no strategy.
-fn refuse_strategy(alloc: Global, fault: TacSyntax) -> Result<Reply, NoReply> {
+fn refuse_strategy(alloc: Global, fault: TacSyntax) -> Result<Reply, NoReply>
+    ensures { IfOk result (λ r. IsStrategyRefused fault (reply_of r)) }
+{
     match fault {
         TacSyntax::Syntax { at } => refuse_at(alloc, Role::Strategy, at, "syntax"),
         TacSyntax::Nesting { at } => refuse_at(alloc, Role::Strategy, at, "nesting"),
@@ -43,7 +50,9 @@ fn fail_word(why: FailWhy) -> &'static str
 }
 
 /// The answer to a run that isn't done.
-fn refuse_run(alloc: Global, fault: RunFault) -> Result<Reply, NoReply> {
+fn refuse_run(alloc: Global, fault: RunFault) -> Result<Reply, NoReply>
+    ensures { IfOk result (λ r. IsRunRefused fault (reply_of r)) }
+{
     match fault {
         RunFault::Fails { at, why } => {
             let word = fail_word(why);
@@ -72,7 +81,12 @@ fn finish<S: Store, L: Ledger>(
     kernel: &Kernel<S>,
     done: &Done,
     steps: &mut Steps<L>,
-) -> Result<Reply, NoReply> {
+) -> Result<Reply, NoReply>
+    requires fact { IsPlace kernel.now.rows done.now.fact }
+    requires known { All (HasKnownIds (S.trees kernel.now.store)) done.now.steps.items }
+    requires few { length done.now.steps.items ≤ most_rows }
+    ensures { IfOk result (λ r. (p : Provable) → At (facts S.trees kernel.now) done.now.fact p → finished p (map (step_at (S.trees kernel.now.store)) done.now.steps.items) (reply_of r)) }
+{
     let taken = done.steps.as_slice();
     let term = match record(alloc, kernel, taken, Role::Term.limit(), steps)? {
         Recorded::Whole(term) => term,
