@@ -50,7 +50,7 @@ one_answer (AtRun (Budget at)) r s a b = a ∙ sym b
 one_answer (AtRun (Done made left)) r s (inl a) (inl b) = a.1 ∙ sym b.1
 one_answer (AtRun (Done made left)) r s (inl a) (inr b) = absurd (omega (arith, a.0, b.0))
 one_answer (AtRun (Done made left)) r s (inr a) (inl b) = absurd (omega (arith, a.0, b.0))
-one_answer (AtRun (Done made left)) r s (inr (short, p, ended, a)) (inr (also_short, q, other, b)) =
+one_answer (AtRun (Done made left)) r s (inr (short, (p, ended, a))) (inr (also_short, (q, other, b))) =
     let same : p ≡ q = one_last ended.before other.before p q (sym ended.rows_are ∙ other.rows_are) in
     a ∙ ap (λ (x : Provable). proved x made.steps) same ∙ sym b
 
@@ -66,7 +66,7 @@ reached model strategy _ (bad_strategy f reads why is) = record { end = AtStrate
 reached model strategy _ (fails at used why run) = record { end = AtRun (Fails at why used); comes = run; answers = refl }
 reached model strategy _ (spent at run) = record { end = AtRun (Budget at); comes = run; answers = refl }
 reached model strategy _ (too_long made left run long) = record { end = AtRun (Done made left); comes = run; answers = inl (long, refl) }
-reached model strategy _ (proves made left run short p ended) = record { end = AtRun (Done made left); comes = run; answers = inr (short, p, ended, refl) }
+reached model strategy _ (proves made left run short p ended) = record { end = AtRun (Done made left); comes = run; answers = inr (short, (p, ended, refl)) }
 
 module _ (one_text : (bytes : List ℕ) (t u : Tactic) → StrategyText bytes t → StrategyText bytes u → t ≡ u)
     (text_or_fault : (bytes : List ℕ) (t : Tactic) (why : Fault) → StrategyText bytes t → StrategyFault bytes why → ⊥)

@@ -1,7 +1,12 @@
 -- From what reading, running and recording a strategy answer to what `prove` answers.
-use Rattle.std.proofs.Common.{◌≡◌, ◌≤◌, ℕ, List, [], ◌∷◌, ◌++◌, length, map, sym, subst, ap, ◌∙◌, inl, inr}
+use Rattle.std.proofs.Common.{◌≡◌, ◌≤◌, ℕ, List, [], ◌∷◌, ◌++◌, length, map, refl, sym, subst, ap, ◌∙◌, inl, inr}
+use Rattle.std.specs.Prelude.{min}
+use Rattle.std.proofs.lemmas.Bool.{cases_lt}
 use Rattle.std.proofs.lemmas.List.{length-map}
-use Rattle.dlk_tree.specs.Trees.{Tree}
+use Rattle.std.proofs.lemmas.List.Elements.{All-nil}
+use Rattle.dlk_tree.specs.Trees.{Tree, size, depth}
+use Rattle.dlk_calculus.specs.Limits.{most_nodes, greatest_depth}
+use Rattle.dlk_grammar.specs.Readings.{TooBig, TooDeep}
 use Rattle.dlk_calculus.specs.Places.{At}
 use Rattle.dlk_calculus.specs.Provables.{Provable}
 use Rattle.dlk_kernel.specs.declared.row.Row.{Row}
@@ -22,18 +27,53 @@ use Rattle.dlk_answers.proofs.Ends.{last_of}
 use Rattle.dlk_answers.proofs.Judging.{last_item}
 use Rattle.dlk_answers.proofs.RunSteps.{some_rows}
 
+-- a model's formula is within the limits of what is read
+pub model_small : (model : List ℕ) (f : Tree) → ModelText model f → size f ≤ most_nodes
+model_small model f reads = elim (cases_lt most_nodes (size f)) [
+  | inr le ↦ le
+  | inl past ↦
+      let r = reads.reads in
+      absurd (r.no_fault (TooBig (min (size f) 4294967295))
+      (r.phrase, r.says, record {
+        before = [];
+        tree = f;
+        behind = [];
+        trees_are = ap (λ (t : Tree). t ∷ []) r.value_is;
+        past = past;
+        first = All-nil (λ (t : Tree). size t ≤ most_nodes);
+        number = refl;
+      }))
+]
+
+pub model_shallow : (model : List ℕ) (f : Tree) → ModelText model f → depth f ≤ greatest_depth
+model_shallow model f reads = elim (cases_lt greatest_depth (depth f)) [
+  | inr le ↦ le
+  | inl past ↦
+      let r = reads.reads in
+      absurd (r.no_fault (TooDeep (min (depth f) 4294967295))
+      (r.phrase, r.says, record {
+        before = [];
+        tree = f;
+        behind = [];
+        trees_are = ap (λ (t : Tree). t ∷ []) r.value_is;
+        past = past;
+        first = All-nil (λ (t : Tree). depth t ≤ greatest_depth);
+        number = refl;
+      }))
+]
+
 module _ (model text : List ℕ) (f : Tree) (reads : ModelText model f) where
   by_fault : (why : Fault) (reply : Reply) → StrategyFault text why → reply ≡ strategy_refused why → Proves model text reply
   by_fault why reply fault is = subst (Proves model text) (sym is) (bad_strategy f reads why fault)
 
   -- a text that is no strategy
-  pub text_answer : (why : TacSyntax) (reply : Reply) → IsTacSyntaxOf (StrategyFault text) why → IsStrategyRefused why reply → Proves model text reply
-  text_answer (syntax.Syntax at) reply fault is = by_fault (Syntax at) reply fault is
-  text_answer (syntax.Nesting at) reply fault is = by_fault (Nesting at) reply fault is
-  text_answer (syntax.Repeat at) reply fault is = by_fault (Repeat at) reply fault is
-  text_answer (syntax.UnknownAtom at) reply fault is = by_fault (UnknownAtom at) reply fault is
-  text_answer (syntax.Arguments at) reply fault is = by_fault (Arguments at) reply fault is
-  text_answer syntax.Memory reply fault is = absurd is
+  pub strategy_answer : (why : TacSyntax) (reply : Reply) → IsTacSyntaxOf (StrategyFault text) why → IsStrategyRefused why reply → Proves model text reply
+  strategy_answer (syntax.Syntax at) reply fault is = by_fault (Syntax at) reply fault is
+  strategy_answer (syntax.Nesting at) reply fault is = by_fault (Nesting at) reply fault is
+  strategy_answer (syntax.Repeat at) reply fault is = by_fault (Repeat at) reply fault is
+  strategy_answer (syntax.UnknownAtom at) reply fault is = by_fault (UnknownAtom at) reply fault is
+  strategy_answer (syntax.Arguments at) reply fault is = by_fault (Arguments at) reply fault is
+  strategy_answer syntax.Memory reply fault is = absurd is
 
   module _ (t : Tactic) (says : StrategyText text t) where
     -- a run that fails, or has no more atoms to run

@@ -7,14 +7,17 @@ use Rattle.dlk_tree.specs.Trees.{Tree}
 use Rattle.dlk_calculus.specs.Provables.{Provable}
 use Rattle.dlk_calculus.specs.Sequents.{Sequent}
 use Rattle.dlk_calculus.specs.Places.{At}
-use Rattle.dlk_calculus.specs.Steps.{Step, Start, Gives, start}
+use Rattle.dlk_calculus.specs.Steps.{Step, Start, Leaf, Apply, Merge, Gives, start}
+use Rattle.dlk_calculus.specs.Rules.{Close}
 use Rattle.dlk_calculus.proofs.PlaceLaws.{at_one}
 use Rattle.dlk_kernel.specs.Taken.{Takes, none, more}
 use Rattle.dlk_tacsyn.specs.Tactics.{Atom, Tactic, Choice, Sequence, Branch, Repeat, One, Tactics, no_parts, part, count}
 use Rattle.dlk_elab.specs.Atoms.{Asks, Steps, nil, close, leaf, a_rule}
 use Rattle.dlk_strategy.specs.declared.fault.FailWhy.{FailWhy}
-use Rattle.dlk_strategy.specs.Runs.{Progress, Outcome, Done, Fails, Budget, Fate, Run, Follow, done, fails, spent, Ends, FailsAt, Then, Else, Each, OnEach, Again, Once, Side, formulas, side, placed, Tries, TriesAll, RunAtomOn, RunAtom, Branched, as_many, another_count, Runs, Alternatives, InTurn, OnOwn, RunsModel}
+use Rattle.dlk_strategy.specs.declared.fault.FailWhy.TheVariants.{NoPlace}
+use Rattle.dlk_strategy.specs.Runs.{Progress, Outcome, Done, Fails, Budget, Fate, Run, Follow, done, fails, spent, Ends, FailsAt, Then, Else, Each, OnEach, Again, Once, formulas, side, placed, Tries, TriesAll, RunAtomOn, RunAtom, Branched, as_many, another_count, Runs, Alternatives, InTurn, OnOwn, RunsModel}
 use Rattle.dlk_strategy.specs.Runs.{steps as gives_steps}
+use Rattle.dlk_rules.specs.declared.arguments.Side.{Side}
 use Rattle.dlk_recorder.specs.Terms.{HasSymbols}
 use Rattle.dlk_answers.specs.Checks.{proves}
 use Rattle.dlk_answers.proofs.StrategyLaws.{atom_replaces}
@@ -39,9 +42,11 @@ takes_behind front mid _ _ first (more {steps} {mid = between} {step} {p} before
 -- an atom asks for no substitution
 no_pairs : (rows fact goal : ℕ) (s : Sequent) (atom : Atom) (asked : List Step) → Asks rows fact goal s atom (Steps asked) → All HasSymbols asked
 no_pairs rows fact goal s atom _ (nil name) = All-nil HasSymbols
-no_pairs rows fact goal s atom _ (close name same) = All-cons HasSymbols _ [] tt (All-nil HasSymbols)
-no_pairs rows fact goal s atom _ (leaf name) = All-cons HasSymbols _ _ tt (All-cons HasSymbols _ [] tt (All-nil HasSymbols))
-no_pairs rows fact goal s atom _ (a_rule word rule name is args) = All-cons HasSymbols _ [] tt (All-nil HasSymbols)
+no_pairs rows fact goal s atom _ (close {i} {j} name same) = All-cons HasSymbols (Apply fact goal (Close i j)) [] tt (All-nil HasSymbols)
+no_pairs rows fact goal s atom _ (leaf name) =
+    let merge : Step = Merge fact goal (rows + 1) in
+    All-cons HasSymbols (Leaf s) (merge ∷ []) tt (All-cons HasSymbols merge [] tt (All-nil HasSymbols))
+no_pairs rows fact goal s atom _ (a_rule word rule name is args) = All-cons HasSymbols (Apply fact goal rule) [] tt (All-nil HasSymbols)
 
 -- a start shows its formula
 start_shows : (formula : Tree) (rows : List Provable) (s : Sequent) (p : Provable) → s ≡ proves formula → Gives rows (Start s) p → p.conclusion ≡ proves formula
@@ -98,13 +103,19 @@ module _ (formula : Tree) where
       follow_keeps (Once (placed place atom) goal) Ends (λ at last. Tries atom goal places (place + 1) last) (once_keeps (placed place atom) goal) ends_keep
       (λ at last. tries_keep atom goal places (place + 1) last)
 
+  tries_all_keep : (atom : Atom) (on : Side) (goal : ℕ) → Keeps (TriesAll atom on goal)
+  tries_all_keep atom on goal now outcome t (s, at, run) = tries_keep atom goal (length (formulas on s)) 1 NoPlace now outcome t run
+
   atom_keeps : (atom : Atom) (on : Option Side) (goal : ℕ) → Keeps (RunAtomOn atom on goal)
   atom_keeps atom None goal = once_keeps atom goal
-  atom_keeps atom (Some on) goal now outcome t (s, at, run) = tries_keep atom goal (length (formulas on s)) 1 _ now outcome t run
+  atom_keeps atom (Some on) goal = tries_all_keep atom on goal
 
   branched_keeps : (at parts goals : ℕ) (each : Fate) → Keeps each → Keeps (Branched at parts goals each)
   branched_keeps at parts goals each f now outcome t (as_many same run) = f now outcome t run
   branched_keeps at parts goals each f now _ t (another_count other) = tt
+
+  nothing_keeps : Keeps (λ now outcome. ⊥)
+  nothing_keeps now outcome t nothing = absurd nothing
 
   mutual
     runs_keep : (t : Tactic) (goals goal : ℕ) → Keeps (Runs t goals goal)
@@ -115,7 +126,7 @@ module _ (formula : Tree) where
     runs_keep (One atom) goals goal = each_keeps (RunAtom atom) (atom_keeps atom (side atom.arguments)) goals goal 0
 
     alternatives_keep : (parts : Tactics) (goal : ℕ) → Keeps (Alternatives parts goal)
-    alternatives_keep no_parts goal now outcome t nothing = absurd nothing
+    alternatives_keep no_parts goal = nothing_keeps
     alternatives_keep (part t no_parts) goal = runs_keep t 1 goal
     alternatives_keep (part t (part u rest)) goal =
         follow_keeps (Runs t 1 goal) Ends (λ at why. Alternatives (part u rest) goal) (runs_keep t 1 goal) ends_keep (λ at why. alternatives_keep (part u rest) goal)

@@ -1,6 +1,5 @@
 // `prove MODEL STRATEGY TERM`: run a strategy on a model, write the term that it makes, and report.
-ghost use Rattle.std.specs.Prelude.{◌≡◌, ◌≤◌, [], length, map, All, IfOk};
-ghost use Rattle.dlk_calculus.specs.Limits.{most_rows};
+ghost use Rattle.std.specs.Prelude.{◌≡◌, [], length, map, All, IfOk};
 ghost use Rattle.dlk_calculus.specs.Places.{At, IsPlace};
 ghost use Rattle.dlk_calculus.specs.Provables.{Provable};
 ghost use Rattle.dlk_kernel.specs.Kernel.{facts};
@@ -84,15 +83,16 @@ fn finish<S: Store, L: Ledger>(
 ) -> Result<Reply, NoReply>
     requires fact { IsPlace kernel.now.rows done.now.fact }
     requires known { All (HasKnownIds (S.trees kernel.now.store)) done.now.steps.items }
-    requires few { length done.now.steps.items ≤ most_rows }
+    requires few { length done.now.steps.items ≡ length kernel.now.rows }
     ensures { IfOk result (λ r. (p : Provable) → At (facts S.trees kernel.now) done.now.fact p → finished p (map (step_at (S.trees kernel.now.store)) done.now.steps.items) (reply_of r)) }
 {
+    let lines = kernel.rows();
     let taken = done.steps.as_slice();
     let term = match record(alloc, kernel, taken, Role::Term.limit(), steps)? {
         Recorded::Whole(term) => term,
         Recorded::TooLong(bytes) => return refuse_length(alloc, bytes),
     };
-    let mut reply = report(alloc, Layout::Text, kernel, done.fact, taken.len() as u32, steps)?;
+    let mut reply = report(alloc, Layout::Text, kernel, done.fact, lines, steps)?;
     reply.written = Some(term);
     Ok(reply)
 }
