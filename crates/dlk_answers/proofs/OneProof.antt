@@ -71,13 +71,13 @@ reached model strategy _ (proves made left run short p ended) = record { end = A
 module _ (one_text : (bytes : List ℕ) (t u : Tactic) → StrategyText bytes t → StrategyText bytes u → t ≡ u)
     (text_or_fault : (bytes : List ℕ) (t : Tactic) (why : Fault) → StrategyText bytes t → StrategyFault bytes why → ⊥)
     (one_fault : (bytes : List ℕ) (why other : Fault) → StrategyFault bytes why → StrategyFault bytes other → why ≡ other)
-    (one_run : (t : Tactic) (f : Tree) (a b : Outcome) → RunsModel t f a → RunsModel t f b → a ≡ b)
+    (one_run : (bytes : List ℕ) (t : Tactic) (f : Tree) (a b : Outcome) → StrategyText bytes t → RunsModel t f a → RunsModel t f b → a ≡ b)
     (model strategy : List ℕ) where
   one_outcome : (a b : Outcome) → RunsTo model strategy a → RunsTo model strategy b → a ≡ b
   one_outcome a b r s =
       let formula : s.formula ≡ r.formula = one_model s.reads r.reads in
       let tactic : s.tactic ≡ r.tactic = one_text strategy s.tactic r.tactic s.says r.says in
-      one_run r.tactic r.formula a b r.run (subst (λ (t : Tactic). RunsModel t r.formula b) tactic (subst (λ (f : Tree). RunsModel s.tactic f b) formula s.run))
+      one_run strategy r.tactic r.formula a b r.says r.run (subst (λ (t : Tactic). RunsModel t r.formula b) tactic (subst (λ (f : Tree). RunsModel s.tactic f b) formula s.run))
 
   one_ending : (a b : Ending) → Comes model strategy a → Comes model strategy b → a ≡ b
   one_ending (AtModel why) (AtModel other) x y = ap AtModel (one_tree_fault Formula Refused model why other x y)
