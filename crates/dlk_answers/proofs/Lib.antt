@@ -7,6 +7,7 @@ pub mod ListAnswers
 pub mod SubstAnswers
 pub mod OneSubstitution
 pub mod Ends
+pub mod StrategyTexts
 pub mod StrategyLaws
 pub mod OneProof
 pub mod SomeProof

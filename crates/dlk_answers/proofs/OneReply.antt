@@ -22,7 +22,8 @@ use Rattle.dlk_answers.specs.Lists.{Lists, lists, bad_text as lists_fault, IsWri
 use Rattle.dlk_answers.proofs.Ends.{one_last, one_model, model_or_fault}
 use Rattle.dlk_answers.proofs.OneSubstitution.{one_substitution}
 use Rattle.dlk_answers.proofs.OneProof.{one_prove}
-use Rattle.dlk_answers.proofs.StrategyLaws.{one_text, text_or_fault, one_fault, one_run}
+use Rattle.dlk_answers.proofs.StrategyTexts.{one_text, text_or_fault, one_fault}
+use Rattle.dlk_answers.proofs.StrategyLaws.{one_run}
 use Rattle.dlk_answers.specs.Answers.{Does, Responds, refuses, does, too_long}
 use Rattle.dlk_answers.specs.declared.command.Command.{Command}
 use Rattle.dlk_answers.specs.declared.command.Command.TheVariants.{Check, Print, Vars, Subst, Report, Prove}

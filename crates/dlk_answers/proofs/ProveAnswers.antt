@@ -33,16 +33,19 @@ model_small model f reads = elim (cases_lt most_nodes (size f)) [
   | inr le ↦ le
   | inl past ↦
       let r = reads.reads in
-      absurd (r.no_fault (TooBig (min (size f) 4294967295))
-      (r.phrase, r.says, record {
-        before = [];
-        tree = f;
-        behind = [];
-        trees_are = ap (λ (t : Tree). t ∷ []) r.value_is;
-        past = past;
-        first = All-nil (λ (t : Tree). size t ≤ most_nodes);
-        number = refl;
-      }))
+      absurd (r.no_fault (TooBig (min (size f) 4294967295)) (
+        r.phrase,
+        r.says,
+        record {
+          before = [];
+          tree = f;
+          behind = [];
+          trees_are = ap (λ (t : Tree). t ∷ []) r.value_is;
+          past = past;
+          first = All-nil (λ (t : Tree). size t ≤ most_nodes);
+          number = refl;
+        },
+      ))
 ]
 
 pub model_shallow : (model : List ℕ) (f : Tree) → ModelText model f → depth f ≤ greatest_depth
@@ -50,16 +53,19 @@ model_shallow model f reads = elim (cases_lt greatest_depth (depth f)) [
   | inr le ↦ le
   | inl past ↦
       let r = reads.reads in
-      absurd (r.no_fault (TooDeep (min (depth f) 4294967295))
-      (r.phrase, r.says, record {
-        before = [];
-        tree = f;
-        behind = [];
-        trees_are = ap (λ (t : Tree). t ∷ []) r.value_is;
-        past = past;
-        first = All-nil (λ (t : Tree). depth t ≤ greatest_depth);
-        number = refl;
-      }))
+      absurd (r.no_fault (TooDeep (min (depth f) 4294967295)) (
+        r.phrase,
+        r.says,
+        record {
+          before = [];
+          tree = f;
+          behind = [];
+          trees_are = ap (λ (t : Tree). t ∷ []) r.value_is;
+          past = past;
+          first = All-nil (λ (t : Tree). depth t ≤ greatest_depth);
+          number = refl;
+        },
+      ))
 ]
 
 module _ (model text : List ℕ) (f : Tree) (reads : ModelText model f) where

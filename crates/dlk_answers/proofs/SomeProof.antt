@@ -15,7 +15,8 @@ use Rattle.dlk_answers.specs.Checks.{ModelText}
 use Rattle.dlk_answers.specs.Proves.{Proves, bad_model, bad_strategy, fails, spent, too_long, proves, strategy_refused, failed, over_budget, term_too_long, proved, RunsTo, IsLast}
 use Rattle.dlk_answers.proofs.Ends.{last_of}
 use Rattle.dlk_answers.proofs.RunSteps.{IsTaken, run_taken, some_rows}
-use Rattle.dlk_answers.proofs.StrategyLaws.{some_text, some_run}
+use Rattle.dlk_answers.proofs.StrategyTexts.{some_text}
+use Rattle.dlk_answers.proofs.StrategyLaws.{some_run}
 
 module _ (model strategy : List ℕ) where
   by_outcome : (o : Outcome) → RunsTo model strategy o → (reply : Reply) × Proves model strategy reply

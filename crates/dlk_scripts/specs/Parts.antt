@@ -1,5 +1,5 @@
 -- The parts of a text of a strategy, and how bytes are spelled.
-use Rattle.std.specs.Prelude.{◌≡◌, ℕ, ◌≤◌, ◌==◌, ◌&&◌, ◌||◌, Bool, true, false, not, IsTrue, List, [], ◌∷◌, ◌++◌, length, codes}
+use Rattle.std.specs.Prelude.{◌≡◌, ℕ, ◌+◌, ◌≤◌, ◌==◌, ◌&&◌, ◌||◌, Bool, true, false, not, IsTrue, List, [], ◌∷◌, ◌++◌, length, codes}
 use Rattle.std.specs.List.{list_all}
 use Rattle.dlk_tree.specs.Names.{is_name}
 use Rattle.dlk_grammar.specs.Tokens.{is_space, are_digits, value}
@@ -59,3 +59,8 @@ pub data Spelled : List ℕ → List Part → Type 0 where
   then_comment : {s : List ℕ} {ps : List Part} (c : List ℕ) → Spelled s ps → IsComment c → Spelled (s ++ c) ps
   then_part : {s : List ℕ} {ps : List Part} (p : List ℕ) (kind : PartKind) → Spelled s ps → Spells p kind →
       Spelled (s ++ p) (ps ++ part (length s) kind ∷ [])
+
+-- RiseTo least ps end: the places of the parts rise, from the least on and below the end.
+abbrev pub RiseTo : ℕ → List Part → ℕ → Type 0
+RiseTo least [] end = least ≤ end
+RiseTo least (p ∷ ps) end = (least ≤ p.at) × RiseTo (p.at + 1) ps end

@@ -20,7 +20,7 @@ impl Model for Quoted {
 
 impl Quoted {
     /// A string of these bytes, which takes no memory.
-    pub fn new(bytes: Vec<u8>) -> Self
+    pub(crate) fn new(bytes: Vec<u8>) -> Self
         ensures { result ≡ bytes.items }
     {
         Quoted { bytes }

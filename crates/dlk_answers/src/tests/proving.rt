@@ -21,7 +21,11 @@ fn proof(
     let term = reply.written.unwrap_or(Vec::new(alloc));
     let (checked_status, checked_reply) = checked(alloc, model.as_bytes(), &term)?;
     assert_eq!(rt; checked_status, status, "{model} by {strategy}");
-    assert_eq!(rt; checked_reply.printed.as_slice(), reply.printed.as_slice(), "{model} by {strategy}");
+    assert_eq!(rt;
+        checked_reply.printed.as_slice(),
+        reply.printed.as_slice(),
+        "{model} by {strategy}"
+    );
     Ok((status, reply.printed, term))
 }
 
@@ -85,7 +89,11 @@ fn writes_terms(rt: HostRuntime) -> Result<(), Fail> {
     ] {
         let (found, report, lines) = proof(&rt, alloc, model, strategy)?;
         assert_eq!(rt; found, status, "{model} by {strategy}");
-        assert_eq!(rt; report.as_slice(), printed.as_bytes(), "{model} by {strategy}");
+        assert_eq!(rt;
+            report.as_slice(),
+            printed.as_bytes(),
+            "{model} by {strategy}"
+        );
         assert_eq!(rt; lines.as_slice(), term.as_bytes(), "{model} by {strategy}");
     }
     Ok(())
@@ -100,7 +108,11 @@ fn refuses_strategies(rt: HostRuntime) -> Result<(), Fail> {
         ("x>=0", "(nil", "refused: strategy at 4: syntax\n"),
         ("x>=0", "nil*1001", "refused: strategy at 4: repeat\n"),
         ("x>=0", "foo(1)", "refused: strategy at 0: unknown\n"),
-        ("x>=0", "nil; implyR(x)", "refused: strategy at 5: arguments\n"),
+        (
+            "x>=0",
+            "nil; implyR(x)",
+            "refused: strategy at 5: arguments\n",
+        ),
         (
             "x>=0",
             "nil; implyR(1)",
@@ -123,15 +135,15 @@ fn refuses_strategies(rt: HostRuntime) -> Result<(), Fail> {
             "nil; <(nil, nil)",
             "refused: fails at 5: WrongCount\n",
         ),
-        (
-            "x>=0",
-            "((nil*1000)*1000)*1000",
-            "refused: budget at 2\n",
-        ),
+        ("x>=0", "((nil*1000)*1000)*1000", "refused: budget at 2\n"),
     ] {
         let (status, reply) = proved(alloc, model.as_bytes(), strategy.as_bytes())?;
         assert_eq!(rt; status, 2, "{model} by {strategy}");
-        assert_eq!(rt; reply.printed.as_slice(), printed.as_bytes(), "{model} by {strategy}");
+        assert_eq!(rt;
+            reply.printed.as_slice(),
+            printed.as_bytes(),
+            "{model} by {strategy}"
+        );
         assert!(rt; reply.written.is_none(), "{model} by {strategy}");
     }
     Ok(())
@@ -142,7 +154,10 @@ fn refuses_long_strategies_and_terms(rt: HostRuntime) -> Result<(), Fail> {
     let alloc = rt.alloc();
     let (status, reply) = proved(alloc, b"x>=0", &padded(alloc, "nil", 1_048_577)?)?;
     assert_eq!(rt; status, 2);
-    assert_eq!(rt; reply.printed.as_slice(), b"refused: too-long strategy\n".as_slice());
+    assert_eq!(rt;
+        reply.printed.as_slice(),
+        b"refused: too-long strategy\n".as_slice()
+    );
     let (status, _) = proved(alloc, b"x>=0", &padded(alloc, "nil", 1_048_576)?)?;
     assert_eq!(rt; status, 1);
 
@@ -150,7 +165,10 @@ fn refuses_long_strategies_and_terms(rt: HostRuntime) -> Result<(), Fail> {
     let strategy = joined(alloc, b"cut(\"", &name, b">=0\")*255")?;
     let (status, reply) = proved(alloc, b"x>=0", &strategy)?;
     assert_eq!(rt; status, 2);
-    assert_eq!(rt; reply.printed.as_slice(), b"refused: term-too-long 76506183\n".as_slice());
+    assert_eq!(rt;
+        reply.printed.as_slice(),
+        b"refused: term-too-long 76506183\n".as_slice()
+    );
     assert!(rt; reply.written.is_none());
     Ok(())
 }

@@ -38,6 +38,9 @@ returns-in-Err-strategy g c =
     IfOk-weaker c.refuse_strategy.result (λ r. IsStrategyRefused c.in-Err-strategy.fault (reply_of r)) (λ r. Proves model text (reply_of r))
     (λ r is. strategy_answer model text read.0 read.1 c.in-Err-strategy.fault (reply_of r) c.in-Err-strategy.ensures.fault is) c.refuse_strategy.ensures
 
+pub run_strategy-requires-clause-runnable : goal.run_strategy-requires-clause-runnable
+run_strategy-requires-clause-runnable g c = record { known = c.in-Ok-strategy.ensures.known; fitting = c.in-Ok-strategy.ensures.fitting }
+
 pub run_strategy-requires-clause-small : goal.run_strategy-requires-clause-small
 run_strategy-requires-clause-small g c =
     let read = c.in-Ok.ensures.found in
@@ -52,7 +55,7 @@ run_strategy-requires-clause-shallow g c =
 
 pub finish-requires-clause-fact : goal.finish-requires-clause-fact
 finish-requires-clause-fact g c =
-    let run = c.in-Ok-run_strategy.ensures.ok in
+    let run = c.in-Ok-run_strategy.ensures.done in
     let rows = c.run_strategy.new.kernel.rows in
     let some = some_rows _ _ _ _ run.2 in
     let count = length-map rows (provable_at (g.S.Store.trees c.run_strategy.new.kernel.store)) in
@@ -60,7 +63,7 @@ finish-requires-clause-fact g c =
 
 pub finish-requires-clause-few : goal.finish-requires-clause-few
 finish-requires-clause-few g c =
-    let run = c.in-Ok-run_strategy.ensures.ok in
+    let run = c.in-Ok-run_strategy.ensures.done in
     let rows = c.run_strategy.new.kernel.rows in
     let trees = g.S.Store.trees c.run_strategy.new.kernel.store in
     let steps = c.in-Ok-run_strategy.done.steps.items in
@@ -80,13 +83,13 @@ returns-in-Ok-run_strategy g c =
     let same = keeps.same c.in-Ok.formula read.2.known ∙ read.2.tree_is in
     let tactic = tactic_at old c.in-Ok-strategy.tactic in
     let done = c.in-Ok-run_strategy.done in
-    let run = c.in-Ok-run_strategy.ensures.ok in
+    let run = c.in-Ok-run_strategy.ensures.done in
     let made = progress_at g.S.Store.trees c.run_strategy.new.kernel done.steps.items run.0 in
     let is_run = subst (λ (t : Tree). RunsModel tactic t (Done made run.1)) same run.2 in
     IfOk-weaker c.finish.result
     (λ r. (p : Provable) → At (facts g.S.Store.trees c.run_strategy.new.kernel) done.fact p → finished p (map (step_at trees) done.steps.items) (reply_of r))
     (λ r. Proves model text (reply_of r))
-    (λ r says. done_answer model text read.0 read.1 tactic c.in-Ok-strategy.ensures.ok made run.1 is_run c.run_strategy.new.kernel.rows (provable_at trees) refl
+    (λ r says. done_answer model text read.0 read.1 tactic c.in-Ok-strategy.ensures.found made run.1 is_run c.run_strategy.new.kernel.rows (provable_at trees) refl
     done.fact c.in-Ok-run_strategy.ensures.fact (reply_of r) says) c.finish.ensures
 
 pub returns : goal.returns
@@ -101,4 +104,4 @@ returns g c =
     let fault = c.in-Err-run_strategy.fault in
     let becomes = subst (λ (t : Tree). IsRunFaultOf (RunsModel tactic t) fault) same c.in-Err-run_strategy.ensures.fault in
     IfOk-weaker c.refuse_run.result (λ r. IsRunRefused fault (reply_of r)) (λ r. Proves model text (reply_of r))
-    (λ r is. fault_answer model text read.0 read.1 tactic c.in-Ok-strategy.ensures.ok fault (reply_of r) becomes is) c.refuse_run.ensures
+    (λ r is. fault_answer model text read.0 read.1 tactic c.in-Ok-strategy.ensures.found fault (reply_of r) becomes is) c.refuse_run.ensures
