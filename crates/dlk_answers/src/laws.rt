@@ -1,8 +1,12 @@
 //! The laws of answers. Each is a contract of a function that does nothing.
-ghost use Rattle.std.specs.Prelude.{◌≡◌, ◌<◌, ℕ, List, length, None, Some};
+ghost use Rattle.std.specs.Prelude.{◌≡◌, ◌<◌, ◌≤◌, ℕ, List, length, None, Some};
 ghost use Rattle.dlk_answers.specs.declared.command.Command.{Command as TheCommand};
-ghost use Rattle.dlk_answers.specs.Forms.{Word, command_of, form_of};
-ghost use Rattle.dlk_answers.specs.Replies.{Reply as TheReply, code_of};
+ghost use Rattle.dlk_answers.specs.declared.form.Role.TheVariants.{Term};
+ghost use Rattle.dlk_answers.specs.declared.reply.Layout.TheVariants.{Text};
+ghost use Rattle.dlk_answers.specs.Forms.{Word, command_of, form_of, limit_of};
+ghost use Rattle.dlk_answers.specs.Replies.{Reply as TheReply, code_of, printing};
+ghost use Rattle.dlk_answers.specs.Checks.{Checks};
+ghost use Rattle.dlk_answers.specs.Proves.{Proves};
 ghost use Rattle.dlk_answers.specs.Answers.{Responds};
 
 /// A command has one answer to words and texts.
@@ -23,4 +27,10 @@ pub fn refusals_write_nothing()
         Responds command words texts reply → code_of reply.status < 3 }
     ensures refusal { (command : TheCommand) (words : List Word) (texts : List (List ℕ)) (reply : TheReply) →
         Responds command words texts reply → code_of reply.status ≡ 2 → reply.written ≡ None }
+{}
+
+/// What `prove` writes is no longer than a term may be, and `check` answers the same to it: the same status, and the same report.
+pub fn proved_is_checked()
+    ensures { (model strategy term : List ℕ) (reply : TheReply) → Proves model strategy reply → reply.written ≡ Some term →
+        (length term ≤ limit_of Term) × Checks Text model term (printing reply.status reply.printed) }
 {}

@@ -1,0 +1,6 @@
+//! Runs strategies.
+#![tactic(auto)]
+
+mod fault;
+
+pub use fault::{FailWhy, RunFault};
