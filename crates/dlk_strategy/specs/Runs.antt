@@ -111,10 +111,15 @@ side_of (Word name) = None
 side_of (GivenFormula h) = None
 side_of (GivenTerm t) = None
 
+-- the first, and where there is none the other
+abbrev pub or_other : Option Side → Option Side → Option Side
+or_other (Some side) other = Some side
+or_other None other = other
+
 -- the side of the first locator of these
 abbrev pub side : List Argument → Option Side
 side [] = None
-side (argument ∷ rest) = elim (side_of argument) [ Some s ↦ Some s | None ↦ side rest ]
+side (argument ∷ rest) = or_other (side_of argument) (side rest)
 
 -- the argument with this place for a locator
 abbrev pub put_place : ℕ → Argument → Argument
@@ -160,9 +165,9 @@ abbrev mutual
   Runs (Repeat body times) = OnEach (Again (Runs body 1) times)
   Runs (One atom) = OnEach (RunAtom atom)
 
-  -- the first of these that doesn't fail, and else the last
+  -- the first of these that doesn't fail, and else the last; none of them does nothing
   pub Alternatives : Tactics → Run
-  Alternatives no_parts = λ goal now outcome. ⊥
+  Alternatives no_parts = λ goal. Ends 1
   Alternatives (part t no_parts) = Runs t 1
   Alternatives (part t (part u rest)) = λ goal. Else (Runs t 1 goal) (Alternatives (part u rest) goal)
 

@@ -2,5 +2,8 @@
 #![tactic(auto)]
 
 mod fault;
+mod strategy;
+mod trace;
 
 pub use fault::{FailWhy, RunFault};
+pub use strategy::{Done, run_strategy};
