@@ -15,8 +15,8 @@ use crate::refusal::{refuse_at, refuse_text, refused};
 use crate::reply::{Layout, Reply};
 use dlk_kernel::Kernel;
 use dlk_parse::read_formula;
-use dlk_plain::PlainStore;
 use dlk_recorder::{Recorded, record};
+use dlk_shared::SharedStore;
 use dlk_store::{Steps, Store};
 use dlk_strategy::{Done, FailWhy, RunFault, run_strategy};
 use dlk_tacsyn::{TacSyntax, strategy};
@@ -135,6 +135,6 @@ pub fn prove<L: Ledger>(
 ) -> Result<Reply, NoReply>
     ensures { IfOk result (λ r. Proves model.now strategy.now (reply_of r)) }
 {
-    let mut kernel = Kernel::new(alloc, PlainStore::new(alloc));
+    let mut kernel = Kernel::new(alloc, SharedStore::new(alloc));
     prove_on(alloc, &mut kernel, model, strategy, steps)
 }
