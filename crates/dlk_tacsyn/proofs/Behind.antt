@@ -9,7 +9,7 @@ use Rattle.dlk_tacsyn.specs.declared.argument.Call.{Call}
 use Rattle.dlk_tacsyn.specs.Tactics.{Tactic}
 use Rattle.dlk_tacsyn.specs.Faults.{Fault}
 use Rattle.dlk_tacsyn.specs.Strategies.{Outcome, Says, Fails, ◌>>=◌, atom_of}
-use Rattle.dlk_tacsyn.specs.Steps.{Frame, Stack, Last, Whole, State, state, end_choice, closed, given, after_whole, after_name, after_call, end_call, step, run, settled, finish}
+use Rattle.dlk_tacsyn.specs.Steps.{Frame, Stack, Whole, State, state, end_choice, closed, given, after_whole, after_name, after_call, end_call, step, run, settled, finish}
 
 pub nil_of : {A : Type 0} (xs : List A) → length xs ≡ 0 → xs ≡ []
 nil_of [] e = refl

@@ -1,11 +1,11 @@
 -- Strategies over ids stay what they stand for while the store grows, and are made of their parts.
-use Rattle.std.proofs.Common.{◌≡◌, ◌≢◌, ℕ, ◌<◌, List, [], ◌∷◌, ◌++◌, length, map, fold, All, Vec, Global, Result, Ok, Err, refl, sym, ap, ◌∙◌, subst, arith, ◌≤◌}
+use Rattle.std.proofs.Common.{◌≡◌, ◌≢◌, ℕ, ◌<◌, List, [], ◌∷◌, length, map, fold, All, Vec, Global, Result, Ok, Err, refl, sym, ap, ◌∙◌, subst, arith, ◌≤◌}
 use Rattle.std.specs.Prelude.{IfOk, IfErr}
-use Rattle.std.proofs.lemmas.List.{length-map, map-append}
-use Rattle.std.proofs.lemmas.List.Elements.{All-nil, All-cons, All-head, All-tail, All-push, All-same}
+use Rattle.std.proofs.lemmas.List.{length-map}
+use Rattle.std.proofs.lemmas.List.Elements.{All-nil, All-cons, All-head, All-tail}
 use mathlib.Core.Former.{Count}
 use Rattle.dlk_tree.specs.Trees.{Tree}
-use Rattle.dlk_store.specs.Stores.{IsId, tree, Keeps}
+use Rattle.dlk_store.specs.Stores.{Keeps}
 use Rattle.dlk_tacsyn.specs.declared.tactic.Arg.{Arg}
 use Rattle.dlk_tacsyn.specs.declared.tactic.Arg.TheVariants as arg
 use Rattle.dlk_tacsyn.specs.declared.tactic.Tactic.{Tactic, Choice, Seq, Branch, One, Choice', Seq', Branch', Repeat', Row_of-Tactic, end_of-Tactic, more_of-Tactic, items-the_row-Tactic, items_hidden-the_row-Tactic-0}

@@ -1,5 +1,5 @@
 -- No strategy of the grammar has a fault of the grammar, and each text is read by some function.
-use Rattle.std.proofs.Common.{◌≡◌, ℕ, ◌+◌, Bool, true, false, List, [], Option, Some, None, refl, sym, ap, ◌∙◌, subst, inl, inr, ◌⊎◌}
+use Rattle.std.proofs.Common.{◌≡◌, ℕ, ◌+◌, Bool, true, false, List, [], Option, Some, None, sym, ap, ◌∙◌, subst, inl, inr, ◌⊎◌}
 use Rattle.std.specs.Prelude.{if◌then◌else◌, nat_lt, nat_le, MatchOption}
 use Rattle.dlk_tree.specs.Trees.{Tree}
 use Rattle.dlk_grammar.specs.declared.token.Form.TheVariants.{Formula}
@@ -17,7 +17,7 @@ use Rattle.dlk_tacsyn.specs.Tactics.{Argument, Tactic, Repeat}
 use Rattle.dlk_tacsyn.specs.Rows.{row_of}
 use Rattle.dlk_tacsyn.specs.Faults.{Fault, Nesting, UnknownAtom, Arguments, IsTacSyntaxOf, of_parts}
 use Rattle.dlk_tacsyn.specs.Faults as fault
-use Rattle.dlk_tacsyn.specs.Strategies.{Outcome, Says, Fails, ◌>>=◌, most_open, most_times, opened, repeated, all_written, arguments_of, atom_given, atom_by, atom_of, choices_of, sequence_of, branches_of, repeat_of, primary_of, strategy_of, IsReading, HasOutcome, StrategyFault}
+use Rattle.dlk_tacsyn.specs.Strategies.{Outcome, Says, Fails, ◌>>=◌, most_open, most_times, opened, all_written, arguments_of, atom_given, atom_by, choices_of, sequence_of, branches_of, repeat_of, primary_of, strategy_of, IsReading, HasOutcome, StrategyFault}
 use Rattle.dlk_tacsyn.specs.Steps.{outcome_of}
 use Rattle.dlk_tacsyn.proofs.Runs.{machine_answers}
 

@@ -7,3 +7,7 @@ pub mod Stacked
 pub mod Behind
 pub mod Later
 pub mod OneStrategy
+pub mod Given
+pub mod Named
+pub mod Fit
+pub mod Shapes

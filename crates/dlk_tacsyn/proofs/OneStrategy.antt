@@ -11,7 +11,7 @@ use Rattle.dlk_scripts.specs.Texts.{IsScript, Stops}
 use Rattle.dlk_tacsyn.specs.Tactics.{Tactic}
 use Rattle.dlk_tacsyn.specs.Faults.{Fault, Nesting, UnknownAtom, Arguments}
 use Rattle.dlk_tacsyn.specs.Faults as fault
-use Rattle.dlk_tacsyn.specs.Strategies.{Outcome, Says, Fails, strategy_of, IsReading, HasOutcome, StrategyText, StrategyFault}
+use Rattle.dlk_tacsyn.specs.Strategies.{Outcome, Says, Fails, strategy_of, HasOutcome, StrategyText, StrategyFault}
 use Rattle.dlk_tacsyn.proofs.Later.{IsLater, strategy_later, reads, reads_all}
 
 said : Tactic → Outcome Tactic → Tactic

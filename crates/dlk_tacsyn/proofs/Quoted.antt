@@ -1,10 +1,10 @@
 -- Quoted texts and arguments, whatever function reads the texts.
-use Rattle.std.proofs.Common.{◌≡◌, ℕ, List, [], ◌∷◌, ◌++◌, Option, Some, None, map, refl, sym, ap, ◌∙◌, append_assoc, length, arith, ◌<◌}
+use Rattle.std.proofs.Common.{◌≡◌, ℕ, List, [], ◌∷◌, ◌++◌, Option, Some, None, refl, sym, ap, ◌∙◌, append_assoc, length, arith, ◌<◌}
 use Rattle.std.specs.Prelude.{option_map, option_and_then, MatchOption}
 use Rattle.dlk_tree.specs.Trees.{Tree}
 use Rattle.dlk_grammar.specs.declared.token.Form.TheVariants.{Formula}
 use Rattle.dlk_grammar.specs.declared.token.Dots.TheVariants.{Refused}
-use Rattle.dlk_grammar.specs.Texts.{TreeText, TreeTextFault, BadByte, Unread}
+use Rattle.dlk_grammar.specs.Texts.{TreeText, BadByte, Unread}
 use Rattle.dlk_grammar.specs.Texts.{TextFault as WhyNoText}
 use Rattle.dlk_grammar.specs.Readings as why
 use Rattle.dlk_parse.specs.Faults.{IsTextFaultOf}
@@ -15,10 +15,10 @@ use Rattle.dlk_tacsyn.specs.declared.argument.Written.{Written}
 use Rattle.dlk_tacsyn.specs.declared.kind.Kind.{Kind}
 use Rattle.dlk_tacsyn.specs.declared.fault.TacSyntax.{TacSyntax}
 use Rattle.dlk_tacsyn.specs.declared.fault.TacSyntax.TheVariants as fault
-use Rattle.dlk_tacsyn.specs.Tactics.{Argument, Tactic, One}
+use Rattle.dlk_tacsyn.specs.Tactics.{Argument, One}
 use Rattle.dlk_tacsyn.specs.Rows.{row_of}
 use Rattle.dlk_tacsyn.specs.Faults.{Fault, Arguments, UnknownAtom, IsTacSyntaxOf, of_text}
-use Rattle.dlk_tacsyn.specs.Strategies.{Outcome, Says, Fails, argument_of, arguments_of, atom_given, atom_by, atom_of}
+use Rattle.dlk_tacsyn.specs.Strategies.{Says, Fails, argument_of, arguments_of, atom_given, atom_by, atom_of}
 
 pub text_read : (s : List ℕ) → ((t u : Tree) → TreeText Formula Refused s t → TreeText Formula Refused s u → t ≡ u) →
     (found : Option Tree) → MatchOption found ((h : Tree) → ¬ TreeText Formula Refused s h) (λ h. TreeText Formula Refused s h) →

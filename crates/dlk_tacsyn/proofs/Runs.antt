@@ -1,5 +1,5 @@
 -- The machine answers what the definition says of the parts of a script.
-use Rattle.std.proofs.Common.{◌≡◌, ℕ, ◌+◌, List, [], ◌∷◌, ◌++◌, Option, refl, sym, ap, ◌∙◌, subst, append_assoc}
+use Rattle.std.proofs.Common.{◌≡◌, ℕ, ◌+◌, List, [], ◌∷◌, ◌++◌, Option, refl, sym, ap, ◌∙◌, append_assoc}
 use Rattle.dlk_tree.specs.Trees.{Tree}
 use Rattle.dlk_scripts.specs.declared.part.Part.{Part}
 use Rattle.dlk_scripts.specs.declared.part.PartKind.{PartKind}
@@ -16,7 +16,7 @@ use Rattle.dlk_tacsyn.specs.declared.frame.Opened.TheVariants.{Group, Fork}
 use Rattle.dlk_tacsyn.specs.Tactics.{Tactic, Choice, Sequence, Branch}
 use Rattle.dlk_tacsyn.specs.Faults.{Fault}
 use Rattle.dlk_tacsyn.specs.Strategies.{Outcome, Says, Fails, ◌>>=◌, side_of, path_of, written_of, all_written, parts, whole, opened, repeated, atom_of, choices_of, sequence_of, branches_of, repeat_of, primary_of, strategy_of}
-use Rattle.dlk_tacsyn.specs.Steps.{Frame, Stack, bottom, within, Last, Nothing, Named, Called, Whole, State, state, empty_frame, start, after_whole, after_name, step, run, finish}
+use Rattle.dlk_tacsyn.specs.Steps.{Frame, Stack, bottom, within, Nothing, Named, Called, Whole, State, state, empty_frame, start, after_whole, after_name, step, run, finish}
 use Rattle.dlk_tacsyn.proofs.Chains.{bind_assoc, bind_same, bind_says, bind_at, bind_opened}
 
 abbrev frame : Opened → ℕ → List Tactic → List Tactic → List Tactic → Frame

@@ -1,5 +1,6 @@
 -- The names of atoms, and the arguments that each wants.
-use Rattle.std.specs.Prelude.{◌≡◌, ℕ, List, [], ◌∷◌, Option, Some, None, option_map, ◌||◌, if◌then◌else◌, Bool, bytes_eq, codes}
+use Rattle.std.specs.Prelude.{◌≡◌, ℕ, List, [], ◌∷◌, Option, Some, option_map, ◌||◌, if◌then◌else◌, Bool, All, IsTrue, bytes_eq, codes}
+use Rattle.dlk_tree.specs.Names.{is_name}
 use Rattle.dlk_calculus.specs.Sequents.{IsFormula}
 use Rattle.dlk_rules.specs.declared.arguments.Shape.{Shape}
 use Rattle.dlk_rules.specs.declared.arguments.Shape.TheVariants as shape
@@ -51,3 +52,16 @@ pub record IsFitting (atom : Atom) : Type 0 where
 -- each atom of the strategy is fitting
 abbrev pub AreFitting : Tactic → Type 0
 AreFitting t = EachAtom IsFitting t
+
+-- the name that the argument is, if it is one, is a name
+abbrev pub IsNamed : Argument → Type 0
+IsNamed (AtPlace place path) = Unit {0}
+IsNamed AnyLeft = Unit {0}
+IsNamed AnyRight = Unit {0}
+IsNamed (Word name) = IsTrue (is_name name)
+IsNamed (GivenFormula h) = Unit {0}
+IsNamed (GivenTerm e) = Unit {0}
+
+-- each name among the arguments is one
+abbrev pub HasNames : Atom → Type 0
+HasNames atom = All IsNamed atom.arguments

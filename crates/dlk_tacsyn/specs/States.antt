@@ -1,7 +1,6 @@
 -- What the machine over ids stands for.
-use Rattle.std.specs.Prelude.{◌≡◌, ℕ, List, Option, map, fold, All}
+use Rattle.std.specs.Prelude.{ℕ, List, Option, map, fold, All}
 use Rattle.dlk_tree.specs.Trees.{Tree}
-use Rattle.dlk_tacsyn.specs.declared.tactic.Tactic.{Tactic}
 use Rattle.dlk_tacsyn.specs.declared.frame.Frame.{Frame}
 use Rattle.dlk_tacsyn.specs.declared.frame.Brackets.{Brackets}
 use Rattle.dlk_tacsyn.specs.declared.reader.Last.{Last}

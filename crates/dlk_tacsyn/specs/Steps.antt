@@ -1,5 +1,5 @@
 -- Strategies part by part: a machine that keeps what is open. It answers what the definition says of the parts of a script.
-use Rattle.std.specs.Prelude.{◌≡◌, ℕ, ◌+◌, List, [], ◌∷◌, ◌++◌, Option, Some, None}
+use Rattle.std.specs.Prelude.{ℕ, ◌+◌, List, [], ◌∷◌, ◌++◌, Option, Some, None}
 use Rattle.dlk_tree.specs.Trees.{Tree}
 use Rattle.dlk_sequent.specs.declared.sequent.Place.TheVariants.{Ante, Succ}
 use Rattle.dlk_scripts.specs.declared.part.Part.{Part}
@@ -12,7 +12,7 @@ use Rattle.dlk_tacsyn.specs.declared.argument.Current.TheVariants as current
 use Rattle.dlk_tacsyn.specs.declared.argument.Call.{Call}
 use Rattle.dlk_tacsyn.specs.declared.frame.Opened.{Opened}
 use Rattle.dlk_tacsyn.specs.declared.frame.Opened.TheVariants.{Group, Fork}
-use Rattle.dlk_tacsyn.specs.Tactics.{Tactic, Choice, Sequence, Branch, Repeat}
+use Rattle.dlk_tacsyn.specs.Tactics.{Tactic, Choice, Sequence, Branch}
 use Rattle.dlk_tacsyn.specs.Faults.{Syntax}
 use Rattle.dlk_tacsyn.specs.Strategies.{Outcome, Says, Fails, ◌>>=◌, parts, whole, opened, repeated, atom_of}
 

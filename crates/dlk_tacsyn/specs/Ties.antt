@@ -1,5 +1,5 @@
 -- What strategies over ids stand for.
-use Rattle.std.specs.Prelude.{ℕ, List, map, All}
+use Rattle.std.specs.Prelude.{List, map, All}
 use Rattle.dlk_tree.specs.Trees.{Tree}
 use Rattle.dlk_store.specs.Stores.{IsId, tree}
 use Rattle.dlk_tacsyn.specs.declared.tactic.Arg.{Arg}
@@ -7,7 +7,8 @@ use Rattle.dlk_tacsyn.specs.declared.tactic.Arg.TheVariants as arg
 use Rattle.dlk_tacsyn.specs.declared.tactic.Atom.{Atom}
 use Rattle.dlk_tacsyn.specs.declared.tactic.Tactic.{Tactic, One, Choice', Seq', Branch', Repeat', Row_of-Tactic, end_of-Tactic, more_of-Tactic}
 use Rattle.dlk_tacsyn.specs.Tactics.{Argument, AtPlace, AnyLeft, AnyRight, Word, GivenFormula, GivenTerm}
-use Rattle.dlk_tacsyn.specs.Tactics.{Atom as TreeAtom, Tactic as TreeTactic, Choice as TheChoice, Sequence, Branch as TheBranch, Repeat as TheRepeat, One as TheOne, Tactics, no_parts, part}
+use Rattle.dlk_tacsyn.specs.Tactics.{Atom as TreeAtom, Tactic as TreeTactic, Choice as TheChoice, Sequence, Branch as TheBranch, Repeat as TheRepeat}
+use Rattle.dlk_tacsyn.specs.Tactics.{One as TheOne, Tactics, no_parts, part}
 
 -- the argument over the tree of its id
 abbrev pub argument_at : List Tree → Arg → Argument

@@ -1,12 +1,14 @@
 //! Reads the texts of strategies.
 ghost use Rattle.std.specs.Prelude.{◌≡◌, IfOk, IfErr};
 ghost use Rattle.dlk_tacsyn.specs.Faults.{IsTacSyntaxOf};
+ghost use Rattle.dlk_tacsyn.specs.Rows.{AreFitting};
 ghost use Rattle.dlk_tacsyn.specs.Strategies.{Says, Fails, StrategyText, StrategyFault};
 ghost use Rattle.dlk_tacsyn.specs.Ties.{tactic_at, TacticIsKnown};
 ghost use Rattle.dlk_tacsyn.specs.Steps.{outcome_of};
 ghost use Rattle.dlk_tacsyn.specs.States.{ByReading};
 
 use crate::fault::TacSyntax;
+use crate::laws::fit_strategy;
 use crate::reader::Reader;
 use crate::tactic::Tactic;
 use dlk_machine::laws::tree_texts;
@@ -24,10 +26,12 @@ use std::alloc::Global;
 pub fn strategy<S: Store>(alloc: Global, bytes: &[u8], store: &mut S) -> Result<Tactic, TacSyntax>
     ensures found { IfOk result (λ t. StrategyText bytes.now (tactic_at (S.trees store.new) t)) }
     ensures known { IfOk result (TacticIsKnown (S.trees store.new)) }
+    ensures fitting { IfOk result (λ t. AreFitting (tactic_at (S.trees store.new) t)) }
     ensures fault { IfErr result (IsTacSyntaxOf (StrategyFault bytes.now)) }
     ensures grows { S.grows store.old store.new }
 {
     tree_texts();
+    fit_strategy();
     let parts = parts(alloc, bytes)?;
     read_parts(alloc, parts, store)
 }

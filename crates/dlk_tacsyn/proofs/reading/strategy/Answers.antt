@@ -2,6 +2,7 @@ use Rattle.std.proofs.Common.{◌≡◌}
 use Rattle.dlk_grammar.specs.declared.token.Form.TheVariants.{Formula}
 use Rattle.dlk_grammar.specs.declared.token.Dots.TheVariants.{Refused}
 use Rattle.dlk_tacsyn.specs.Faults.{IsTacSyntaxOf}
+use Rattle.dlk_tacsyn.specs.Rows.{AreFitting}
 use Rattle.dlk_tacsyn.specs.Strategies.{Says, Fails, StrategyText, StrategyFault}
 use Rattle.dlk_tacsyn.specs.Steps.{outcome_of}
 use Rattle.dlk_tacsyn.specs.Ties.{tactic_at}
@@ -16,6 +17,15 @@ returns-clause-found g c =
     ok_map (λ t. ByReading (λ read. outcome_of read c.in_ok-parts.parts.items ≡ Says (tactic_at (g.S.Store.trees c.read_parts.new.store) t)))
     (λ t. StrategyText c.args.bytes.now (tactic_at (g.S.Store.trees c.read_parts.new.store) t))
     (λ t h. outcome (c.tree_texts.ensures.some Formula Refused) (c.tree_texts.ensures.no_fault Formula Refused) c.args.bytes.now c.in_ok-parts.parts.items (Says (tactic_at (g.S.Store.trees c.read_parts.new.store) t)) c.in_ok-parts.ensures.found h)
+    c.read_parts.result c.read_parts.ensures.found
+
+pub returns-clause-fitting : goal.returns-clause-fitting
+returns-clause-fitting g c =
+    ok_map (λ t. ByReading (λ read. outcome_of read c.in_ok-parts.parts.items ≡ Says (tactic_at (g.S.Store.trees c.read_parts.new.store) t)))
+    (λ t. AreFitting (tactic_at (g.S.Store.trees c.read_parts.new.store) t))
+    (λ t h. c.fit_strategy.ensures.fitting c.args.bytes.now (tactic_at (g.S.Store.trees c.read_parts.new.store) t)
+    (outcome (c.tree_texts.ensures.some Formula Refused) (c.tree_texts.ensures.no_fault Formula Refused) c.args.bytes.now c.in_ok-parts.parts.items
+    (Says (tactic_at (g.S.Store.trees c.read_parts.new.store) t)) c.in_ok-parts.ensures.found h))
     c.read_parts.result c.read_parts.ensures.found
 
 pub returns-clause-fault : goal.returns-clause-fault
