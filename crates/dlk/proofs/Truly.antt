@@ -1,5 +1,5 @@
 -- Where `closed` is printed, the model is derived from the printed leaves.
-use Rattle.std.proofs.Common.{◌≡◌, ℕ, zero, suc, List, [], ◌∷◌, ◌++◌, length, take, None, Some, codes, refl, sym, ap, subst, ◌∙◌, append-nil, arith, Bool, true, cond, inl, inr}
+use Rattle.std.proofs.Common.{◌≡◌, ℕ, zero, suc, List, [], ◌∷◌, ◌++◌, ◌≤◌, length, take, None, Some, codes, refl, sym, ap, subst, ◌∙◌, append-nil, arith, Bool, true, cond, inl, inr}
 use Rattle.std.specs.Prelude.{bytes_eq}
 use Rattle.std.proofs.lemmas.Slice.Eq.{bytes_eq-Decides}
 use Rattle.std.proofs.lemmas.List.{append_cancel_left, take_all}
@@ -20,15 +20,14 @@ use Rattle.dlk_report.specs.Reports.{is_closed, line, first_word, text_report}
 use Rattle.dlk_answers.specs.declared.command.Command.{Command}
 use Rattle.dlk_answers.specs.declared.command.Command.TheVariants.{Check, Print, Vars, Subst, Report, Prove}
 use Rattle.dlk_answers.specs.declared.reply.Layout.TheVariants.{Text}
-use Rattle.dlk_answers.specs.declared.form.Role.TheVariants.{Model}
-use Rattle.dlk_answers.specs.Forms.{Word, command_of, inputs_of}
+use Rattle.dlk_answers.specs.declared.form.Role.TheVariants.{Model, Term}
+use Rattle.dlk_answers.specs.Forms.{Word, command_of, inputs_of, limit_of}
 use Rattle.dlk_answers.specs.Inputs.{inputs, inputs_of_form, output}
 use Rattle.dlk_answers.specs.Replies.{Reply, code_of, printing}
 use Rattle.dlk_answers.specs.Refusals.{text_refused}
 use Rattle.dlk_answers.specs.Checks.{Checks, bad_model, bad_line, bad_conclusion, reports, Accepts, reported, status_of}
 use Rattle.dlk_answers.specs.Proves.{Proves, bad_model as proves_fault, bad_strategy, fails, spent, too_long, proves, strategy_refused, proved}
 use Rattle.dlk_answers.specs.Answers.{Does, Responds, refuses, does, too_long as too_long_reply}
-use Rattle.dlk_answers.proofs.Rechecked.{rechecks}
 use Rattle.dlk.specs.Answers.{bytes_of, Answers, no_form, command}
 use Rattle.dlk.specs.Outputs.{output_with, after}
 use Rattle.dlk.specs.Runs.{output_to, GivesWhole, BreaksOff}
@@ -87,7 +86,12 @@ file_holds words old new reply name bytes term named written same there =
     let e : Some bytes ≡ Some term = sym holds ∙ there in
     cc
 
-module _ (model term said : List ℕ) (status : ℕ) where
+-- `check` answers the same to what `prove` writes
+abbrev pub ProvedIsChecked : Type 0
+ProvedIsChecked = (model strategy term : List ℕ) (reply : Reply) → Proves model strategy reply → reply.written ≡ Some term →
+    (length term ≤ limit_of Term) × Checks Text model term (printing reply.status reply.printed)
+
+module _ (checked_too : ProvedIsChecked) (model term said : List ℕ) (status : ℕ) where
   abbrev Says : Reply → ℕ → Type 0
   Says reply n = take n reply.printed ≡ codes "closed" ++ said
 
@@ -146,7 +150,7 @@ module _ (model term said : List ℕ) (status : ℕ) where
   prove_truly strategy _ (proves made left run short p ended) n h holds given =
       let r = proved p made.steps in
       let same : term_text made.steps ≡ term = holds (term_text made.steps) refl in
-      let checks = (rechecks model strategy term r (proves made left run short p ended) (ap Some same)).checks in
+      let checks = (checked_too model strategy term r (proves made left run short p ended) (ap Some same)).1 in
       check_truly (printing r.status r.printed) checks n h (printed_given r given)
 
   -- the words have `check` and these files
@@ -197,17 +201,17 @@ silent_not old new said same says =
     absurd (cc)
 
 -- a reply that was given whole, and one that was broken off
-pub whole_truly : (words : List Word) (status : ℕ) (old new : Outside) (reply : Reply) → GivesWhole words status old new reply → ClosedTruly words status old new
-whole_truly words status old new reply gives c model term said form there says =
+pub whole_truly : ProvedIsChecked → (words : List Word) (status : ℕ) (old new : Outside) (reply : Reply) → GivesWhole words status old new reply → ClosedTruly words status old new
+whole_truly checked_too words status old new reply gives c model term said form there says =
     let same : codes "closed" ++ said ≡ reply.printed = append_cancel_left old.printed (codes "closed" ++ said) reply.printed (sym says ∙ gives.printed) in
-    speaks_truly model term said status words old new reply c gives.answer form there gives.files (whole gives.status_is same)
+    speaks_truly checked_too model term said status words old new reply c gives.answer form there gives.files (whole gives.status_is same)
 
-pub front_truly : (words : List Word) (old new : Outside) (reply : Reply) → BreaksOff words old new reply → ClosedTruly words 5 old new
-front_truly words old new reply breaks c model term said form there says = elim breaks.file_first [
+pub front_truly : ProvedIsChecked → (words : List Word) (old new : Outside) (reply : Reply) → BreaksOff words old new reply → ClosedTruly words 5 old new
+front_truly checked_too words old new reply breaks c model term said form there says = elim breaks.file_first [
   | inl files ↦
       let same : codes "closed" ++ said ≡ take breaks.printed.0 reply.printed =
       append_cancel_left old.printed (codes "closed" ++ said) (take breaks.printed.0 reply.printed) (sym says ∙ breaks.printed.1) in
-      speaks_truly model term said 5 words old new reply c breaks.answer form there files (broken_off refl breaks.printed.0 same)
+      speaks_truly checked_too model term said 5 words old new reply c breaks.answer form there files (broken_off refl breaks.printed.0 same)
   | inr none ↦ absurd (silent_not old.printed new.printed said none says)
 ]
 

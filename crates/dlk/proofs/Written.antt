@@ -15,12 +15,11 @@ use Rattle.dlk_answers.specs.Replies.{Reply, code_of, printing}
 use Rattle.dlk_answers.specs.Refusals.{text_refused}
 use Rattle.dlk_answers.specs.Proves.{Proves, bad_model, bad_strategy, fails, spent, too_long, proves, strategy_refused, proved}
 use Rattle.dlk_answers.specs.Answers.{Does, Responds, refuses, does}
-use Rattle.dlk_answers.proofs.Rechecked.{rechecks}
 use Rattle.dlk.specs.Answers.{bytes_of, Answers, no_form, command}
 use Rattle.dlk.specs.Outputs.{after}
 use Rattle.dlk.specs.Runs.{output_to, GivesWhole}
 use Rattle.dlk.specs.Headline.{WritesTerm, IsAccepted, ProvesTruly}
-use Rattle.dlk.proofs.Truly.{file_holds}
+use Rattle.dlk.proofs.Truly.{ProvedIsChecked, file_holds}
 
 model_two : (why : TextFault) → code_of (text_refused Model why).status ≡ 2
 model_two (BadByte at) = refl
@@ -38,7 +37,7 @@ strategy_two (Repeat at) = refl
 strategy_two (UnknownAtom at) = refl
 strategy_two (Arguments at) = refl
 
-module _ (model term : List ℕ) where
+module _ (checked_too : ProvedIsChecked) (model term : List ℕ) where
   accepted : (strategy : List ℕ) (reply : Reply) → Proves model strategy reply → ((bytes : List ℕ) → reply.written ≡ Some bytes → bytes ≡ term) → code_of reply.status < 2 →
       IsAccepted model term (code_of reply.status) reply.printed
   accepted strategy _ (bad_model why is) holds less = absurd (omega (arith, less, model_two why))
@@ -49,8 +48,8 @@ module _ (model term : List ℕ) where
   accepted strategy _ (proves made left run short p ended) holds less =
       let r = proved p made.steps in
       let same : term_text made.steps ≡ term = holds (term_text made.steps) refl in
-      let again = rechecks model strategy term r (proves made left run short p ended) (ap Some same) in
-      record { short = again.short; reply = printing r.status r.printed; checks = again.checks; status_is = refl; said_is = refl }
+      let again = checked_too model strategy term r (proves made left run short p ended) (ap Some same) in
+      record { short = again.0; reply = printing r.status r.printed; checks = again.1; status_is = refl; said_is = refl }
 
   answer_accepted : (words : List Word) (old new : Outside) (reply : Reply) → Answers words old.files reply → command_of words ≡ Some Prove → WritesTerm words old new model term →
       SameFiles (after (output_to words reply) old.files) new.files → code_of reply.status < 2 → IsAccepted model term (code_of reply.status) reply.printed
@@ -73,12 +72,12 @@ module _ (model term : List ℕ) where
       by_response _ (refuses name long) files less = absurd (omega (arith, less))
       by_response _ (does short r job) files less = by_job _ r job files less
 
-pub whole_proves : (words : List Word) (status : ℕ) (old new : Outside) (reply : Reply) → GivesWhole words status old new reply → ProvesTruly words status old new
-whole_proves words status old new reply gives model term said form there less says =
+pub whole_proves : ProvedIsChecked → (words : List Word) (status : ℕ) (old new : Outside) (reply : Reply) → GivesWhole words status old new reply → ProvesTruly words status old new
+whole_proves checked_too words status old new reply gives model term said form there less says =
     let same : reply.printed ≡ said = append_cancel_left old.printed reply.printed said (sym gives.printed ∙ says) in
     let few : code_of reply.status < 2 = omega (arith, less, gives.status_is) in
     subst (λ (n : ℕ). IsAccepted model term n said) (sym gives.status_is)
-    (subst (λ (x : List ℕ). IsAccepted model term (code_of reply.status) x) same (answer_accepted model term words old new reply gives.answer form there gives.files few))
+    (subst (λ (x : List ℕ). IsAccepted model term (code_of reply.status) x) same (answer_accepted checked_too model term words old new reply gives.answer form there gives.files few))
 
 -- with another status there is nothing to be accepted
 pub fault_proves : (words : List Word) (status : ℕ) (old new : Outside) → 2 < status → ProvesTruly words status old new

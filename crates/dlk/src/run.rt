@@ -15,6 +15,7 @@ ghost use Rattle.dlk.specs.Looks.{LooksAtFewFor, LooksAtFew};
 
 use crate::fault::NoAnswer;
 use crate::give::give;
+use dlk_answers::laws::proved_is_checked;
 use dlk_answers::{Command, Reply, Role, output, respond, words_refused};
 use dlk_desk::Desk;
 use dlk_store::Steps;
@@ -112,6 +113,7 @@ pub fn run<D: Desk, L: Ledger>(
     // Where the result of a substitution is refused, few nodes were looked at.
     ensures looks { D.tells → LooksAtFew (map string_bytes words.now) result (D.outside desk.old) (D.outside desk.new) steps.old steps.new }
 {
+    proved_is_checked();
     let reply = match work(alloc, words, desk, steps) {
         Ok(reply) => reply,
         Err(NoAnswer::Memory) => return NO_MEMORY,

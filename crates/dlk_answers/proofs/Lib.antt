@@ -8,7 +8,6 @@ pub mod SubstAnswers
 pub mod OneSubstitution
 pub mod FewLooks
 pub mod Ends
-pub mod StrategyTexts
 pub mod StrategyLaws
 pub mod OneProof
 pub mod SomeProof

@@ -9,7 +9,7 @@ use Rattle.dlk_grammar.specs.Texts.{TextFault}
 use Rattle.dlk_machine.proofs.TextLaws.{one_tree_fault}
 use Rattle.dlk_tacsyn.specs.Tactics.{Tactic}
 use Rattle.dlk_tacsyn.specs.Faults.{Fault}
-use Rattle.dlk_tacsyn.specs.Strategies.{StrategyText, StrategyFault}
+use Rattle.dlk_tacsyn.specs.Strategies.{StrategyFault}
 use Rattle.dlk_strategy.specs.declared.fault.FailWhy.{FailWhy}
 use Rattle.dlk_strategy.specs.Runs.{Progress, Outcome, Done, Fails, Budget, RunsModel}
 use Rattle.dlk_recorder.specs.Terms.{term_text}
@@ -20,6 +20,7 @@ use Rattle.dlk_answers.specs.Refusals.{text_refused}
 use Rattle.dlk_answers.specs.Checks.{ModelText, ModelFault}
 use Rattle.dlk_answers.specs.Proves.{Proves, bad_model, bad_strategy, fails, spent, too_long, proves, strategy_refused, failed, over_budget, term_too_long, proved, RunsTo, IsLast}
 use Rattle.dlk_answers.proofs.Ends.{one_last, one_model, model_or_fault}
+use Rattle.dlk_answers.proofs.StrategyLaws.{OneText, TextOrFault, OneFault, OneRun}
 
 -- how far it comes
 data Ending : Type 0 where
@@ -68,16 +69,12 @@ reached model strategy _ (spent at run) = record { end = AtRun (Budget at); come
 reached model strategy _ (too_long made left run long) = record { end = AtRun (Done made left); comes = run; answers = inl (long, refl) }
 reached model strategy _ (proves made left run short p ended) = record { end = AtRun (Done made left); comes = run; answers = inr (short, (p, ended, refl)) }
 
-module _ (one_text : (bytes : List ℕ) (t u : Tactic) → StrategyText bytes t → StrategyText bytes u → t ≡ u)
-    (text_or_fault : (bytes : List ℕ) (t : Tactic) (why : Fault) → StrategyText bytes t → StrategyFault bytes why → ⊥)
-    (one_fault : (bytes : List ℕ) (why other : Fault) → StrategyFault bytes why → StrategyFault bytes other → why ≡ other)
-    (one_run : (bytes : List ℕ) (t : Tactic) (f : Tree) (a b : Outcome) → StrategyText bytes t → RunsModel t f a → RunsModel t f b → a ≡ b)
-    (model strategy : List ℕ) where
+module _ (one_text : OneText) (text_or_fault : TextOrFault) (one_fault : OneFault) (one_run : OneRun) (model strategy : List ℕ) where
   one_outcome : (a b : Outcome) → RunsTo model strategy a → RunsTo model strategy b → a ≡ b
   one_outcome a b r s =
       let formula : s.formula ≡ r.formula = one_model s.reads r.reads in
       let tactic : s.tactic ≡ r.tactic = one_text strategy s.tactic r.tactic s.says r.says in
-      one_run strategy r.tactic r.formula a b r.says r.run (subst (λ (t : Tactic). RunsModel t r.formula b) tactic (subst (λ (f : Tree). RunsModel s.tactic f b) formula s.run))
+      one_run r.tactic r.formula a b r.run (subst (λ (t : Tactic). RunsModel t r.formula b) tactic (subst (λ (f : Tree). RunsModel s.tactic f b) formula s.run))
 
   one_ending : (a b : Ending) → Comes model strategy a → Comes model strategy b → a ≡ b
   one_ending (AtModel why) (AtModel other) x y = ap AtModel (one_tree_fault Formula Refused model why other x y)

@@ -22,8 +22,7 @@ use Rattle.dlk_answers.specs.Lists.{Lists, lists, bad_text as lists_fault, IsWri
 use Rattle.dlk_answers.proofs.Ends.{one_last, one_model, model_or_fault}
 use Rattle.dlk_answers.proofs.OneSubstitution.{one_substitution}
 use Rattle.dlk_answers.proofs.OneProof.{one_prove}
-use Rattle.dlk_answers.proofs.StrategyTexts.{one_text, text_or_fault, one_fault}
-use Rattle.dlk_answers.proofs.StrategyLaws.{one_run}
+use Rattle.dlk_answers.proofs.StrategyLaws.{OneText, TextOrFault, OneFault, OneRun}
 use Rattle.dlk_answers.specs.Answers.{Does, Responds, refuses, does, too_long}
 use Rattle.dlk_answers.specs.declared.command.Command.{Command}
 use Rattle.dlk_answers.specs.declared.command.Command.TheVariants.{Check, Print, Vars, Subst, Report, Prove}
@@ -117,23 +116,24 @@ one_list file r s (lists t a f b m syms wf wb wm ws) (lists u a' f' b' m' syms' 
     let symbols_are = one_symbols u syms syms' (subst (λ v. AreWritten v syms) same ws) ws' in
     λ i. four_lines (free_is i) (bound_is i) (must_is i) (symbols_are i)
 
-one_job : (c : Command) (others : List Word) (texts : List (List ℕ)) (r s : Reply) → Does c others texts r → Does c others texts s → r ≡ s
-one_job Check [] (model ∷ term ∷ []) r s a b = one_check Text model term r s a b
-one_job Print [] (file ∷ []) r s a b = one_print file r s a b
-one_job Vars [] (file ∷ []) r s a b = one_list file r s a b
-one_job Subst [] (file ∷ substitution ∷ []) r s a b = one_substitution file substitution r s a b
-one_job Report [] (model ∷ term ∷ []) r s a b = one_check Json model term r s a b
-one_job Prove (term ∷ []) (model ∷ strategy ∷ []) r s a b = one_prove one_text text_or_fault one_fault one_run model strategy r s a b
-one_job _ _ _ r s a b = absurd a
-
 one_name : {name other : Word} → Some name ≡ Some other → name ≡ other
 one_name e = cc
 
 none_or_some : {A : Type 0} {x : A} → None ≡ Some x → ⊥
 none_or_some e = cc
 
-pub one_response : (c : Command) (words : List Word) (texts : List (List ℕ)) (r s : Reply) → Responds c words texts r → Responds c words texts s → r ≡ s
-one_response c words texts r s (refuses name a) (refuses other b) = ap too_long (one_name (sym a ∙ b))
-one_response c words texts r s (refuses name a) (does b s' job) = absurd (none_or_some (sym b ∙ a))
-one_response c words texts r s (does a r' job) (refuses other b) = absurd (none_or_some (sym a ∙ b))
-one_response c words texts r s (does a r' job) (does b s' other) = one_job c _ texts r s job other
+module _ (one_text : OneText) (text_or_fault : TextOrFault) (one_fault : OneFault) (one_run : OneRun) where
+  one_job : (c : Command) (others : List Word) (texts : List (List ℕ)) (r s : Reply) → Does c others texts r → Does c others texts s → r ≡ s
+  one_job Check [] (model ∷ term ∷ []) r s a b = one_check Text model term r s a b
+  one_job Print [] (file ∷ []) r s a b = one_print file r s a b
+  one_job Vars [] (file ∷ []) r s a b = one_list file r s a b
+  one_job Subst [] (file ∷ substitution ∷ []) r s a b = one_substitution file substitution r s a b
+  one_job Report [] (model ∷ term ∷ []) r s a b = one_check Json model term r s a b
+  one_job Prove (term ∷ []) (model ∷ strategy ∷ []) r s a b = one_prove one_text text_or_fault one_fault one_run model strategy r s a b
+  one_job _ _ _ r s a b = absurd a
+
+  pub one_response : (c : Command) (words : List Word) (texts : List (List ℕ)) (r s : Reply) → Responds c words texts r → Responds c words texts s → r ≡ s
+  one_response c words texts r s (refuses name a) (refuses other b) = ap too_long (one_name (sym a ∙ b))
+  one_response c words texts r s (refuses name a) (does b s' job) = absurd (none_or_some (sym b ∙ a))
+  one_response c words texts r s (does a r' job) (refuses other b) = absurd (none_or_some (sym a ∙ b))
+  one_response c words texts r s (does a r' job) (does b s' other) = one_job c _ texts r s job other

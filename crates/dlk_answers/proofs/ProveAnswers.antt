@@ -25,7 +25,6 @@ use Rattle.dlk_answers.specs.Proves.{Proves, bad_strategy, fails, spent, too_lon
 use Rattle.dlk_answers.specs.Proved.{IsStrategyRefused, IsRunRefused, finished}
 use Rattle.dlk_answers.proofs.Ends.{last_of}
 use Rattle.dlk_answers.proofs.Judging.{last_item}
-use Rattle.dlk_answers.proofs.RunSteps.{some_rows}
 
 -- a model's formula is within the limits of what is read
 pub model_small : (model : List ℕ) (f : Tree) → ModelText model f → size f ≤ most_nodes
@@ -90,10 +89,10 @@ module _ (model text : List ℕ) (f : Tree) (reads : ModelText model f) where
     fault_answer run.Memory reply is_run is = absurd is
 
     -- a run that is done
-    pub done_answer : (made : Progress) (left : ℕ) → RunsModel t f (Done made left) → (rows : List Row) (stands : Row → Provable) → made.rows ≡ map stands rows →
+    pub done_answer : (made : Progress) (left : ℕ) → RunsModel t f (Done made left) → 1 ≤ length made.rows → (rows : List Row) (stands : Row → Provable) → made.rows ≡ map stands rows →
         (fact : ℕ) → fact ≡ length rows → (reply : Reply) → ((p : Provable) → At (map stands rows) fact p → finished p made.steps reply) → Proves model text reply
-    done_answer made left is_run rows stands rows_are fact fact_is reply says_so =
-        let end = last_of made.rows (some_rows t f made left is_run) in
+    done_answer made left is_run some rows stands rows_are fact fact_is reply says_so =
+        let end = last_of made.rows some in
         let whole : RunsTo model text (Done made left) = record { formula = f; reads = reads; tactic = t; says = says; run = is_run } in
         let count : length made.rows ≡ fact = ap length rows_are ∙ length-map rows stands ∙ sym fact_is in
         let there : At (map stands rows) fact end.1 = subst (λ (l : List Provable). At l fact end.1) rows_are (subst (λ n. At made.rows n end.1) count (last_item made.rows end.0 end.1 end.2)) in

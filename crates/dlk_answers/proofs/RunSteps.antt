@@ -20,7 +20,7 @@ use Rattle.dlk_strategy.specs.Runs.{steps as gives_steps}
 use Rattle.dlk_rules.specs.declared.arguments.Side.{Side}
 use Rattle.dlk_recorder.specs.Terms.{HasSymbols}
 use Rattle.dlk_answers.specs.Checks.{proves}
-use Rattle.dlk_answers.proofs.StrategyLaws.{atom_replaces}
+use Rattle.dlk_answers.proofs.StrategyLaws.{AtomsReplace}
 
 -- the last row shows the formula
 abbrev Shows : Tree → List Provable → Type 0
@@ -52,7 +52,7 @@ no_pairs rows fact goal s atom _ (a_rule word rule name is args) = All-cons HasS
 start_shows : (formula : Tree) (rows : List Provable) (s : Sequent) (p : Provable) → s ≡ proves formula → Gives rows (Start s) p → p.conclusion ≡ proves formula
 start_shows formula rows _ _ same (start s is) = same
 
-module _ (formula : Tree) where
+module _ (atom_replaces : AtomsReplace) (formula : Tree) where
   -- so of what is done
   abbrev IsSound : Outcome → Type 0
   IsSound (Done made left) = IsTaken formula made
@@ -92,7 +92,7 @@ module _ (formula : Tree) where
     symbols = All-append HasSymbols now.steps new t.symbols (no_pairs _ _ goal atoms.s atom new atoms.asks);
     some = omega (arith, length-append now.steps new, t.some);
     shows = λ p at.
-        let r = (atom_replaces now.rows rows goal atom new atoms).1 in
+        let r = (atom_replaces now.rows goal atom new rows atoms).1 in
         ap (λ (x : Provable). x.conclusion) (at_one rows (length rows) p r.new_last at r.new_is) ∙ r.conclusion ∙ t.shows r.old_last r.old_is;
   }
   once_keeps atom goal now _ t _ = tt
@@ -114,9 +114,6 @@ module _ (formula : Tree) where
   branched_keeps at parts goals each f now outcome t (as_many same run) = f now outcome t run
   branched_keeps at parts goals each f now _ t (another_count other) = tt
 
-  nothing_keeps : Keeps (λ now outcome. ⊥)
-  nothing_keeps now outcome t nothing = absurd nothing
-
   mutual
     runs_keep : (t : Tactic) (goals goal : ℕ) → Keeps (Runs t goals goal)
     runs_keep (Choice parts) goals goal = each_keeps (Alternatives parts) (alternatives_keep parts) goals goal 0
@@ -126,7 +123,7 @@ module _ (formula : Tree) where
     runs_keep (One atom) goals goal = each_keeps (RunAtom atom) (atom_keeps atom (side atom.arguments)) goals goal 0
 
     alternatives_keep : (parts : Tactics) (goal : ℕ) → Keeps (Alternatives parts goal)
-    alternatives_keep no_parts goal = nothing_keeps
+    alternatives_keep no_parts goal = ends_keep 1
     alternatives_keep (part t no_parts) goal = runs_keep t 1 goal
     alternatives_keep (part t (part u rest)) goal =
         follow_keeps (Runs t 1 goal) Ends (λ at why. Alternatives (part u rest) goal) (runs_keep t 1 goal) ends_keep (λ at why. alternatives_keep (part u rest) goal)
@@ -145,21 +142,22 @@ taken_count : (steps : List Step) (rows : List Provable) → Takes [] steps rows
 taken_count _ _ none = refl
 taken_count _ _ (more {steps} {mid} {step} {p} before is) = length_push steps step ∙ ap (λ n. n + 1) (taken_count steps mid before) ∙ sym (length_push mid p)
 
--- the run of a model
-pub run_taken : (strategy : Tactic) (formula : Tree) (made : Progress) (left : ℕ) → RunsModel strategy formula (Done made left) → IsTaken formula made
-run_taken strategy formula made left r =
-    let begun : Progress = record { steps = Start (proves formula) ∷ []; rows = r.provable ∷ []; used = 0 } in
-    let first : IsTaken formula begun = record {
-      takes = more none r.start;
-      symbols = All-cons HasSymbols (Start (proves formula)) [] tt (All-nil HasSymbols);
-      some = omega arith;
-      shows = λ p at. ap (λ (x : Provable). x.conclusion) (at_one (r.provable ∷ []) 1 p r.provable at refl) ∙ start_shows formula [] (proves formula) r.provable refl r.start.given;
-    } in
-    runs_keep formula strategy 1 1 begun (Done made left) first r.run
+module _ (atom_replaces : AtomsReplace) where
+  -- the run of a model
+  pub run_taken : (strategy : Tactic) (formula : Tree) (made : Progress) (left : ℕ) → RunsModel strategy formula (Done made left) → IsTaken formula made
+  run_taken strategy formula made left r =
+      let begun : Progress = record { steps = Start (proves formula) ∷ []; rows = r.provable ∷ []; used = 0 } in
+      let first : IsTaken formula begun = record {
+        takes = more none r.start;
+        symbols = All-cons HasSymbols (Start (proves formula)) [] tt (All-nil HasSymbols);
+        some = omega arith;
+        shows = λ p at. ap (λ (x : Provable). x.conclusion) (at_one (r.provable ∷ []) 1 p r.provable at refl) ∙ start_shows formula [] (proves formula) r.provable refl r.start.given;
+      } in
+      runs_keep atom_replaces formula strategy 1 1 begun (Done made left) first r.run
 
--- each step of a run has its row, and the start is one of them
-pub run_count : (strategy : Tactic) (formula : Tree) (made : Progress) (left : ℕ) → RunsModel strategy formula (Done made left) → length made.steps ≡ length made.rows
-run_count strategy formula made left r = taken_count made.steps made.rows (run_taken strategy formula made left r).takes
+  -- each step of a run has its row, and the start is one of them
+  pub run_count : (strategy : Tactic) (formula : Tree) (made : Progress) (left : ℕ) → RunsModel strategy formula (Done made left) → length made.steps ≡ length made.rows
+  run_count strategy formula made left r = taken_count made.steps made.rows (run_taken strategy formula made left r).takes
 
-pub some_rows : (strategy : Tactic) (formula : Tree) (made : Progress) (left : ℕ) → RunsModel strategy formula (Done made left) → 1 ≤ length made.rows
-some_rows strategy formula made left r = omega (arith, (run_taken strategy formula made left r).some, run_count strategy formula made left r)
+  pub some_rows : (strategy : Tactic) (formula : Tree) (made : Progress) (left : ℕ) → RunsModel strategy formula (Done made left) → 1 ≤ length made.rows
+  some_rows strategy formula made left r = omega (arith, (run_taken strategy formula made left r).some, run_count strategy formula made left r)

@@ -31,6 +31,7 @@ use Rattle.dlk_answers.specs.Answers.{Does, Responds, refuses, does, too_long}
 use Rattle.dlk_answers.proofs.Ends.{last_of}
 use Rattle.dlk_answers.proofs.Fits.{others_end}
 use Rattle.dlk_answers.proofs.SomeProof.{some_prove}
+use Rattle.dlk_answers.proofs.StrategyLaws.{SomeText, SomeRun, AtomsReplace}
 use Rattle.dlk_answers.proofs.SomeListing.{some_free_listing, some_bound_listing, some_must_listing, some_signature}
 
 some_check : (layout : Layout) (model term : List ℕ) → (reply : Reply) × Checks layout model term reply
@@ -123,37 +124,38 @@ done_of : (command : Command) (others words : List Word) (texts same : List (Lis
 done_of command others words texts same words_are is done =
     (done.0, subst (λ os. Does command os texts done.0) (sym words_are) (subst (λ ts. Does command words ts done.0) (sym is) done.1))
 
-some_job : (command : Command) (others : List Word) (texts : List (List ℕ)) → IsTrue (ends_in (form_of command).last others) →
-    length texts ≡ length (form_of command).inputs →
-    (reply : Reply) × Does command others texts reply
-some_job Check others texts ends count =
-    let t = two_texts texts count in
-    done_of Check others [] texts (t.0 ∷ t.1 ∷ []) (no_others others ends) t.2 (some_check Text t.0 t.1)
-some_job Print others texts ends count =
-    let t = one_text texts count in
-    done_of Print others [] texts (t.0 ∷ []) (no_others others ends) t.1 (some_print t.0)
-some_job Vars others texts ends count =
-    let t = one_text texts count in
-    done_of Vars others [] texts (t.0 ∷ []) (no_others others ends) t.1 (some_list t.0)
-some_job Subst others texts ends count =
-    let t = two_texts texts count in
-    done_of Subst others [] texts (t.0 ∷ t.1 ∷ []) (no_others others ends) t.2 (some_substitution t.0 t.1)
-some_job Report others texts ends count =
-    let t = two_texts texts count in
-    done_of Report others [] texts (t.0 ∷ t.1 ∷ []) (no_others others ends) t.2 (some_check Json t.0 t.1)
-some_job Prove others texts ends count =
-    let t = two_texts texts count in
-    let w = one_other others ends in
-    done_of Prove others (w.0 ∷ []) texts (t.0 ∷ t.1 ∷ []) w.1 t.2 (some_prove t.0 t.1)
+module _ (some_text : SomeText) (some_run : SomeRun) (atom_replaces : AtomsReplace) where
+  some_job : (command : Command) (others : List Word) (texts : List (List ℕ)) → IsTrue (ends_in (form_of command).last others) →
+      length texts ≡ length (form_of command).inputs →
+      (reply : Reply) × Does command others texts reply
+  some_job Check others texts ends count =
+      let t = two_texts texts count in
+      done_of Check others [] texts (t.0 ∷ t.1 ∷ []) (no_others others ends) t.2 (some_check Text t.0 t.1)
+  some_job Print others texts ends count =
+      let t = one_text texts count in
+      done_of Print others [] texts (t.0 ∷ []) (no_others others ends) t.1 (some_print t.0)
+  some_job Vars others texts ends count =
+      let t = one_text texts count in
+      done_of Vars others [] texts (t.0 ∷ []) (no_others others ends) t.1 (some_list t.0)
+  some_job Subst others texts ends count =
+      let t = two_texts texts count in
+      done_of Subst others [] texts (t.0 ∷ t.1 ∷ []) (no_others others ends) t.2 (some_substitution t.0 t.1)
+  some_job Report others texts ends count =
+      let t = two_texts texts count in
+      done_of Report others [] texts (t.0 ∷ t.1 ∷ []) (no_others others ends) t.2 (some_check Json t.0 t.1)
+  some_job Prove others texts ends count =
+      let t = two_texts texts count in
+      let w = one_other others ends in
+      done_of Prove others (w.0 ∷ []) texts (t.0 ∷ t.1 ∷ []) w.1 t.2 (some_prove some_text some_run atom_replaces t.0 t.1)
 
-pub some_response : (command : Command) (words : List Word) (texts : List (List ℕ)) → command_of words ≡ Some command →
-    length texts ≡ length (form_of command).inputs →
-    (reply : Reply) × Responds command words texts reply
-some_response command words texts form count = by_length (first_too_long (inputs_of command words) (limits_of command) texts) refl
-  where
-    by_length : (long : Option Word) → first_too_long (inputs_of command words) (limits_of command) texts ≡ long →
-        (reply : Reply) × Responds command words texts reply
-    by_length (Some name) is = (too_long name, refuses name is)
-    by_length None is =
-        let job = some_job command (others_of command words) texts (others_end words command form) count in
-        (job.0, does is job.0 job.1)
+  pub some_response : (command : Command) (words : List Word) (texts : List (List ℕ)) → command_of words ≡ Some command →
+      length texts ≡ length (form_of command).inputs →
+      (reply : Reply) × Responds command words texts reply
+  some_response command words texts form count = by_length (first_too_long (inputs_of command words) (limits_of command) texts) refl
+    where
+      by_length : (long : Option Word) → first_too_long (inputs_of command words) (limits_of command) texts ≡ long →
+          (reply : Reply) × Responds command words texts reply
+      by_length (Some name) is = (too_long name, refuses name is)
+      by_length None is =
+          let job = some_job command (others_of command words) texts (others_end words command form) count in
+          (job.0, does is job.0 job.1)

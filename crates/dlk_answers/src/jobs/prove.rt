@@ -13,6 +13,7 @@ use crate::form::Role;
 use crate::jobs::check::report;
 use crate::refusal::{refuse_at, refuse_text, refused};
 use crate::reply::{Layout, Reply};
+use dlk_elab::atom_replaces_goal;
 use dlk_kernel::Kernel;
 use dlk_parse::read_formula;
 use dlk_recorder::{Recorded, record};
@@ -108,6 +109,7 @@ fn prove_on<S: Store, L: Ledger>(
     requires { kernel.old.rows ≡ [] }
     ensures { IfOk result (λ r. Proves model.now text.now (reply_of r)) }
 {
+    atom_replaces_goal();
     let formula = match read_formula(alloc, model, kernel) {
         Ok(formula) => formula,
         Err(fault) => return refuse_text(alloc, Role::Model, fault),

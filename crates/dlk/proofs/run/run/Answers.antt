@@ -17,7 +17,7 @@ returns-in-Ok-give-clause-closed_truly g c = λ t.
     let new = g.D.Desk.outside c.give.new.desk in
     let reply = reply_of c.in-Ok.reply in
     let reads = c.in-Ok.ensures.only in
-    whole_truly words c.code.result old new reply
+    whole_truly c.proved_is_checked.ensures words c.code.result old new reply
     (gives_whole words old mid new reply (option_copied c.output.result) c.output.ensures (c.in-Ok.ensures.ok t) (reads.files t) (reads.printed t)
     (c.in-Ok-give.ensures.file t) (c.in-Ok-give.ensures.printed t) c.code.result c.code.ensures)
 
@@ -29,7 +29,7 @@ returns-in-Ok-give-clause-proves_truly g c = λ t.
     let new = g.D.Desk.outside c.give.new.desk in
     let reply = reply_of c.in-Ok.reply in
     let reads = c.in-Ok.ensures.only in
-    whole_proves words c.code.result old new reply
+    whole_proves c.proved_is_checked.ensures words c.code.result old new reply
     (gives_whole words old mid new reply (option_copied c.output.result) c.output.ensures (c.in-Ok.ensures.ok t) (reads.files t) (reads.printed t)
     (c.in-Ok-give.ensures.file t) (c.in-Ok-give.ensures.printed t) c.code.result c.code.ensures)
 
@@ -55,7 +55,7 @@ returns-clause-closed_truly g c = λ t.
     let reply = reply_of c.in-Ok.reply in
     let given = c.give.ensures in
     let reads = c.in-Ok.ensures.only in
-    front_truly (map string_bytes c.args.words.now) old new reply
+    front_truly c.proved_is_checked.ensures (map string_bytes c.args.words.now) old new reply
     (breaks_off (map string_bytes c.args.words.now) old mid new reply (option_copied c.output.result) c.output.ensures
     (c.in-Ok.ensures.ok t) (reads.files t) (reads.printed t) (given.part t) (given.front t) (given.file_first t))
 
