@@ -9,7 +9,10 @@ ghost use Rattle.dlk_strategy.specs.Runs.{Done as IsDone, RunsModel};
 ghost use Rattle.dlk_strategy.specs.Ties.{progress_at, IsRunnable, IsRunFaultOf};
 
 use crate::fault::RunFault;
-use dlk_kernel::{Fact, Kernel, Step};
+use crate::running::run_on;
+use crate::trace::Trace;
+use dlk_kernel::{Fact, Kernel, Step, StepFault};
+use dlk_sequent::Sequent;
 use dlk_store::{Id, Steps, Store};
 use dlk_tacsyn::Tactic;
 use std::alloc::Global;
@@ -53,8 +56,48 @@ pub fn run_strategy<S: Store, L: Ledger>(
     ensures err { OnErr result (kernel.new.rows ≡ []) }
     ensures grows { S.grows kernel.old.store kernel.new.store }
 {
-    let mut made: Vec<u8> = Vec::new(alloc);
-    made.push(1)?;
-    kernel.release(0);
-    Err(RunFault::Memory)
+    match run_model(alloc, strategy, kernel, model, steps) {
+        Ok(trace) => Ok(Done {
+            fact: kernel.rows(),
+            steps: trace.steps,
+        }),
+        Err(fault) => {
+            kernel.release(0);
+            Err(fault)
+        }
+    }
+}
+
+/// The same, but for the rows that a refusal leaves.
+fn run_model<S: Store, L: Ledger>(
+    alloc: Global,
+    strategy: &Tactic,
+    kernel: &mut Kernel<S>,
+    model: Id,
+    steps: &mut Steps<L>,
+) -> Result<Trace, RunFault>
+    requires none { kernel.old.rows ≡ [] }
+    requires runnable { IsRunnable (S.trees kernel.old.store) strategy.now }
+    requires model { IsId (S.trees kernel.old.store) model }
+    requires formula { IsFormula (tree (S.trees kernel.old.store) model) }
+    requires small { IsSmall (tree (S.trees kernel.old.store) model) }
+    requires shallow { IsShallow (tree (S.trees kernel.old.store) model) }
+    ensures done { IfOk result (λ trace. (left : ℕ) × RunsModel (tactic_at (S.trees kernel.old.store) strategy.now) (tree (S.trees kernel.old.store) model) (IsDone (progress_at S.trees kernel.new trace.steps.items trace.used) left)) }
+    ensures known { IfOk result (λ trace. All (HasKnownIds (S.trees kernel.new.store)) trace.steps.items) }
+    ensures fault { IfErr result (IsRunFaultOf (RunsModel (tactic_at (S.trees kernel.old.store) strategy.now) (tree (S.trees kernel.old.store) model))) }
+    ensures grows { S.grows kernel.old.store kernel.new.store }
+{
+    let start = Step::Start(Sequent::alone_right(alloc, model)?);
+    match kernel.step(alloc, &start, steps) {
+        Ok(_) => {}
+        Err(StepFault::Memory) => return Err(RunFault::Memory),
+        Err(StepFault::Refused(_)) => unreachable!(),
+    }
+    let mut trace = Trace {
+        steps: Vec::new(alloc),
+        used: 0,
+    };
+    trace.steps.push(start)?;
+    run_on(alloc, kernel, &mut trace, strategy, 1, 1, steps)?;
+    Ok(trace)
 }

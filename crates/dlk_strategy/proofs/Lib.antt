@@ -1,0 +1,13 @@
+mod OneFate
+mod TakenSteps
+mod MainGoals
+mod StepsKept
+mod Walking
+mod Starting
+mod Begun
+mod OneOnce
+mod SomeFate
+mod States
+mod Locators
+mod Trying
+mod FixedAtoms
