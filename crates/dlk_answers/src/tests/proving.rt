@@ -1,5 +1,6 @@
 // What `prove` answers, and the terms that it writes.
 use super::*;
+use std::process::Abort;
 
 /// What `prove` answers to the bytes of a model and of a strategy.
 fn proved(alloc: Global, model: &[u8], strategy: &[u8]) -> Result<(u8, Reply), NoReply> {
