@@ -9,5 +9,7 @@ pub mod Prints
 pub mod Lists
 pub mod Substitutes
 pub mod Looks
+pub mod Proves
+pub mod Proved
 pub mod Answers
 pub mod Shown

@@ -12,6 +12,7 @@ use crate::fault::NoReply;
 use crate::form::Role;
 use crate::jobs::check::check;
 use crate::jobs::print::print;
+use crate::jobs::prove::prove;
 use crate::jobs::subst::subst;
 use crate::jobs::vars::vars;
 use crate::refusal::refused;
@@ -74,6 +75,7 @@ fn job<L: Ledger>(
         (Command::Vars, [], [file]) => vars(alloc, file),
         (Command::Subst, [], [file, substitution]) => subst(alloc, file, substitution, steps),
         (Command::Report, [], [model, term]) => check(alloc, Layout::Json, model, term, steps),
+        (Command::Prove, [_], [model, strategy]) => prove(alloc, model, strategy, steps),
         _ => unreachable!(),
     }
 }

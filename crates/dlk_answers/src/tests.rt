@@ -4,6 +4,7 @@ mod limits;
 mod listing;
 mod models;
 mod printing;
+mod proving;
 mod rules;
 mod stores;
 mod substituting;

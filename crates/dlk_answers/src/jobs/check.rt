@@ -88,7 +88,7 @@ fn lay_out(alloc: Global, layout: Layout, report: &Report) -> Result<Vec<u8>, No
 }
 
 /// The report of a fact that so many lines have shown.
-fn report<S: Store, L: Ledger>(
+pub(super) fn report<S: Store, L: Ledger>(
     alloc: Global,
     layout: Layout,
     kernel: &Kernel<S>,
