@@ -121,7 +121,11 @@ fn stores_say_alike(rt: HostRuntime) -> Result<(), Fail> {
             numbers_of(alloc, &shared, other, &vars, &syms)?,
             "{text}"
         );
-        assert_eq!(rt; plain.symbols(alloc, one)?, shared.symbols(alloc, other)?, "{text}");
+        assert_eq!(rt;
+            plain.symbols(alloc, one)?,
+            shared.symbols(alloc, other)?,
+            "{text}"
+        );
         for which in [Which::Free, Which::Bound, Which::Must] {
             let one = plain.list(alloc, one, which)?;
             let other = shared.list(alloc, other, which)?;
