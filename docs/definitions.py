@@ -30,7 +30,7 @@ LIBRARY = "std"
 # Paths with this front are types of the code.
 DECLARED = "declared."
 
-IMPORT = re.compile(r"^use Rattle\.(\w+)\.specs\.([\w.]+?)(?:\.\{(.*)\}| as (\S+))$", re.MULTILINE)
+IMPORT = re.compile(r"^(?:pub )?use Rattle\.(\w+)\.specs\.([\w.]+?)(?:\.\{(.*)\}| as (\S+))$", re.MULTILINE)
 TYPE_NAME = re.compile(r"^\s*(?:abbrev )?(?:pub )?(?:data|record) (\S+)")
 FUNCTION_NAME = re.compile(r"^(?:abbrev|unfoldable) (?:pub )?(\S+) :")
 MUTUAL_FUNCTION_NAME = re.compile(r"^\s+pub (\S+) :")
@@ -122,7 +122,7 @@ def paragraphs(text):
 
 def is_code(line):
     """Whether a line counts: no comment, no import, not empty."""
-    return bool(line.strip()) and not line.strip().startswith("--") and not line.startswith("use ")
+    return bool(line.strip()) and not line.strip().startswith("--") and not line.startswith(("use ", "pub use "))
 
 
 def defined_names(code):
@@ -139,7 +139,7 @@ def comment_above(paragraph):
     for line in paragraph:
         if line.startswith("--"):
             comment.append(line[2:].strip())
-        elif line.startswith("use "):
+        elif line.startswith(("use ", "pub use ")):
             comment = []
         else:
             break

@@ -21,14 +21,14 @@ use Rattle.dlk_tacsyn.specs.Strategies.{Outcome, Says, Fails, ◌>>=◌, most_op
 use Rattle.dlk_tacsyn.specs.Steps.{outcome_of}
 use Rattle.dlk_tacsyn.proofs.Runs.{machine_answers}
 
-abbrev IsLaterFault : Fault → Type 0
+abbrev pub IsLaterFault : Fault → Type 0
 IsLaterFault (fault.Syntax at) = ⊥
 IsLaterFault (fault.Nesting at) = Unit {0}
 IsLaterFault (fault.Repeat at) = Unit {0}
 IsLaterFault (fault.UnknownAtom at) = Unit {0}
 IsLaterFault (fault.Arguments at) = Unit {0}
 
-abbrev IsLater : {A : Type 0} → Outcome A → Type 0
+abbrev pub IsLater : {A : Type 0} → Outcome A → Type 0
 IsLater (Says a) = Unit {0}
 IsLater (Fails f) = IsLaterFault f
 
@@ -79,12 +79,12 @@ module _ (read : List ℕ → Option Tree) where
     primary_later n (script.Atom at x) = by_later at x [] (row_of x)
     primary_later n (script.Call at x opens l close) = by_later at x (all_written l) (row_of x)
 
-  strategy_later : (s : script.Script) → IsLater (strategy_of read s)
+  pub strategy_later : (s : script.Script) → IsLater (strategy_of read s)
   strategy_later s = bind_later (choices_of read 0 s) _ (choices_later 0 s) (λ ts. tt)
 
 -- some function reads all quoted texts
 module _ (some : (s : List ℕ) → ((t : Tree) × TreeText Formula Refused s t) ⊎ ((w : WhyNoText) × TreeTextFault Formula Refused s w))
-         (apart : (s : List ℕ) (t : Tree) (w : WhyNoText) → TreeText Formula Refused s t → TreeTextFault Formula Refused s w → ⊥) where
+    (apart : (s : List ℕ) (t : Tree) (w : WhyNoText) → TreeText Formula Refused s t → TreeTextFault Formula Refused s w → ⊥) where
   pick : (s : List ℕ) → ((t : Tree) × TreeText Formula Refused s t) ⊎ ((w : WhyNoText) × TreeTextFault Formula Refused s w) → Option Tree
   pick s (inl p) = Some p.0
   pick s (inr q) = None
@@ -95,10 +95,10 @@ module _ (some : (s : List ℕ) → ((t : Tree) × TreeText Formula Refused s t)
   picked s (inl p) = p.1
   picked s (inr q) = λ h r. apart s h q.0 r q.1
 
-  reads : List ℕ → Option Tree
+  pub reads : List ℕ → Option Tree
   reads s = pick s (some s)
 
-  reads_all : IsReading reads
+  pub reads_all : IsReading reads
   unfolding reads
   reads_all s = picked s (some s)
 

@@ -6,3 +6,4 @@ pub mod Quoted
 pub mod Stacked
 pub mod Behind
 pub mod Later
+pub mod OneStrategy

@@ -112,9 +112,9 @@ module _ (read : List ℕ → Option Tree) where
       (R : Outcome State) (o : Outcome A) → Comes outer G add R o → Comes outer H put R (o >>= (λ a. Says (h a)))
   lift outer G add H put i h frames adds R o (named b at x q w) =
       named (i b) at x (q ∙ ap (λ f. Says (state outer f (Named at x))) (frames b)) (
-        bind_at o (atom_of read at x [] >>= (λ t. Says (add b t))) (λ a. Says (h a)) w
-        ∙ bind_assoc (atom_of read at x []) (λ t. Says (add b t)) (λ a. Says (h a))
-        ∙ bind_same (atom_of read at x []) (λ t. Says (h (add b t))) (λ t. Says (put (i b) t)) (λ t. ap (λ z. Says z) (adds b t))
+      bind_at o (atom_of read at x [] >>= (λ t. Says (add b t))) (λ a. Says (h a)) w
+      ∙ bind_assoc (atom_of read at x []) (λ t. Says (add b t)) (λ a. Says (h a))
+      ∙ bind_same (atom_of read at x []) (λ t. Says (h (add b t))) (λ t. Says (put (i b) t)) (λ t. ap (λ z. Says z) (adds b t))
       )
   lift outer G add H put i h frames adds R o (ended b t q w) =
       ended (i b) t (q ∙ ap (λ f. Says (state outer f (Whole t))) (frames b)) (bind_at o (Says (add b t)) (λ a. Says (h a)) w ∙ ap (λ z. Says z) (adds b t))
@@ -154,7 +154,7 @@ module _ (read : List ℕ → Option Tree) where
       let inner = state (within outer f) (empty_frame by (f.level + 1)) Nothing in
       bind_opened f.level at (Says inner) (λ s. run read s (ps ++ part place kind.Close ∷ []))
       ∙ ap (opened f.level at) (
-        next_run (within outer f) G add inner ps o comes place kind.Close [] (λ g a x. refl) (λ a. Says (state outer f (Whole (make a)))) h
+      next_run (within outer f) G add inner ps o comes place kind.Close [] (λ g a x. refl) (λ a. Says (state outer f (Whole (make a)))) h
       )
       ∙ sym (bind_opened f.level at o (λ a. Says (state outer f (Whole (make a)))))
 
@@ -194,9 +194,9 @@ module _ (read : List ℕ → Option Tree) where
         (atom_of read at x (all_written l))
         (atom_of read at x (inside.front ++ inside.last ∷ []) >>= (λ t. Says t))
         (
-          run_append (in_call outer f at x [] current.Nothing) (arguments_parts l) (part close kind.Close ∷ [])
-          ∙ bind_at _ (Says (in_call outer f at x inside.front (current.Given inside.last))) (λ t. run read t (part close kind.Close ∷ [])) inside.runs
-          ∙ bind_says (atom_of read at x (inside.front ++ inside.last ∷ []) >>= (λ t. Says (state outer f (Whole t))))
+        run_append (in_call outer f at x [] current.Nothing) (arguments_parts l) (part close kind.Close ∷ [])
+        ∙ bind_at _ (Says (in_call outer f at x inside.front (current.Given inside.last))) (λ t. run read t (part close kind.Close ∷ [])) inside.runs
+        ∙ bind_says (atom_of read at x (inside.front ++ inside.last ∷ []) >>= (λ t. Says (state outer f (Whole t))))
         )
         (ap (atom_of read at x) inside.all ∙ sym (bind_says (atom_of read at x (inside.front ++ inside.last ∷ []))))
         (ends_as outer (λ (u : Unit {0}). f) alone tt (atom_of read at x (inside.front ++ inside.last ∷ [])) (λ t. t))
@@ -208,7 +208,7 @@ module _ (read : List ℕ → Option Tree) where
         (primary_of read f.level (script.Group opens s close))
         (inside >>= (λ ts. Says (whole Choice ts)))
         (bracket_run outer f Group opens (λ (b : List Tactic × List Tactic). frame Group (f.level + 1) [] b.0 b.1) behind_choices (script_parts s) (choices_of read (f.level + 1) s) close (λ ts. whole Choice ts) (λ b t. refl)
-          (script_comes s (within outer f) Group (f.level + 1) []))
+        (script_comes s (within outer f) Group (f.level + 1) []))
         refl
         (ends_as outer (λ (u : Unit {0}). f) alone tt inside (λ ts. whole Choice ts))
 
@@ -223,11 +223,11 @@ module _ (read : List ℕ → Option Tree) where
         (before >>= (λ t. repeated at n t))
         ((before >>= (λ t. repeated at n t)) >>= (λ t. Says t))
         (
-          next_run outer (λ (u : Unit {0}). f) alone (state outer f Nothing) (repeat_parts r) before (repeat_comes r outer f) star kind.Star (part at (kind.Number n) ∷ [])
-          (λ g a x. refl) (λ t. Says (state outer f (Whole t))) (λ b t. refl)
-          ∙ bind_same before (λ t. (repeated at n t >>= (λ u. Says (state outer f (Whole u)))) >>= (λ u. Says u)) (λ t. repeated at n t >>= (λ u. Says (state outer f (Whole u))))
-            (λ t. bind_says (repeated at n t >>= (λ u. Says (state outer f (Whole u)))))
-          ∙ sym (bind_assoc before (λ t. repeated at n t) (λ t. Says (state outer f (Whole t))))
+        next_run outer (λ (u : Unit {0}). f) alone (state outer f Nothing) (repeat_parts r) before (repeat_comes r outer f) star kind.Star (part at (kind.Number n) ∷ [])
+        (λ g a x. refl) (λ t. Says (state outer f (Whole t))) (λ b t. refl)
+        ∙ bind_same before (λ t. (repeated at n t >>= (λ u. Says (state outer f (Whole u)))) >>= (λ u. Says u)) (λ t. repeated at n t >>= (λ u. Says (state outer f (Whole u))))
+        (λ t. bind_says (repeated at n t >>= (λ u. Says (state outer f (Whole u)))))
+        ∙ sym (bind_assoc before (λ t. repeated at n t) (λ t. Says (state outer f (Whole t))))
         )
         (sym (bind_says (before >>= (λ t. repeated at n t))))
         (ends_as outer (λ (u : Unit {0}). f) alone tt (before >>= (λ t. repeated at n t)) (λ t. t))
@@ -244,10 +244,10 @@ module _ (read : List ℕ → Option Tree) where
         (sequence_of read level (script.ThenRepeat q semicolon r))
         (sequence_of read level (script.ThenRepeat q semicolon r))
         (next_run outer G behind_steps (state outer (G []) Nothing) (sequence_parts q) (sequence_of read level q) (sequence_comes q outer by level bs cs) semicolon kind.Semicolon (repeat_parts r)
-          (λ g a x. refl) (λ ts. Says (state outer (G ts) Nothing)) (λ b t. refl))
+        (λ g a x. refl) (λ ts. Says (state outer (G ts) Nothing)) (λ b t. refl))
         refl
         (then_comes outer G behind_steps (sequence_of read level q) (λ ts. run read (state outer (G ts) Nothing) (repeat_parts r)) (λ ts. repeat_of read level r >>= (λ t. Says (ts ++ t ∷ [])))
-          (λ ts. step_comes ts r outer by level bs cs (repeat_comes r outer (frame by level bs cs ts))))
+        (λ ts. step_comes ts r outer by level bs cs (repeat_comes r outer (frame by level bs cs ts))))
     sequence_comes (script.ThenBranch q semicolon fork l close) outer by level bs cs =
         let G = λ (ss : List Tactic). frame by level bs cs ss in
         let inside = opened level fork (branches_of read (level + 1) l) in
@@ -258,21 +258,21 @@ module _ (read : List ℕ → Option Tree) where
         (sequence_of read level (script.ThenBranch q semicolon fork l close))
         (sequence_of read level (script.ThenBranch q semicolon fork l close))
         (
-          ap (run read (state outer (G []) Nothing)) (append_assoc (sequence_parts q) (part semicolon kind.Semicolon ∷ part fork kind.Fork ∷ scripts_parts l) (part close kind.Close ∷ []))
-          ∙ next_run outer G behind_steps (state outer (G []) Nothing) (sequence_parts q) (sequence_of read level q) (sequence_comes q outer by level bs cs) semicolon kind.Semicolon rest
-          (λ g a x. refl) (λ ts. Says (state outer (G ts) Nothing)) (λ b t. refl)
+        ap (run read (state outer (G []) Nothing)) (append_assoc (sequence_parts q) (part semicolon kind.Semicolon ∷ part fork kind.Fork ∷ scripts_parts l) (part close kind.Close ∷ []))
+        ∙ next_run outer G behind_steps (state outer (G []) Nothing) (sequence_parts q) (sequence_of read level q) (sequence_comes q outer by level bs cs) semicolon kind.Semicolon rest
+        (λ g a x. refl) (λ ts. Says (state outer (G ts) Nothing)) (λ b t. refl)
         )
         refl
         (then_comes outer G behind_steps (sequence_of read level q) (λ ts. run read (state outer (G ts) Nothing) rest) (λ ts. inside >>= (λ us. Says (ts ++ Branch fork (parts us) ∷ [])))
-          (λ ts. comes_at outer G behind_steps
-            (run read (state outer (G ts) Nothing) rest)
-            (inside >>= (λ us. Says (state outer (G ts) (Whole (Branch fork (parts us))))))
-            (inside >>= (λ us. Says (ts ++ Branch fork (parts us) ∷ [])))
-            (inside >>= (λ us. Says (ts ++ Branch fork (parts us) ∷ [])))
-            (bracket_run outer (G ts) (Fork fork) fork (λ (b : List Tactic × List Tactic × List Tactic). frame (Fork fork) (level + 1) b.0 b.1 b.2) behind_branches (scripts_parts l) (branches_of read (level + 1) l) close (λ us. Branch fork (parts us)) (λ b t. refl)
-              (scripts_comes l (within outer (G ts)) (Fork fork) (level + 1)))
-            refl
-            (ends_as outer G behind_steps ts inside (λ us. Branch fork (parts us)))))
+        (λ ts. comes_at outer G behind_steps
+        (run read (state outer (G ts) Nothing) rest)
+        (inside >>= (λ us. Says (state outer (G ts) (Whole (Branch fork (parts us))))))
+        (inside >>= (λ us. Says (ts ++ Branch fork (parts us) ∷ [])))
+        (inside >>= (λ us. Says (ts ++ Branch fork (parts us) ∷ [])))
+        (bracket_run outer (G ts) (Fork fork) fork (λ (b : List Tactic × List Tactic × List Tactic). frame (Fork fork) (level + 1) b.0 b.1 b.2) behind_branches (scripts_parts l) (branches_of read (level + 1) l) close (λ us. Branch fork (parts us)) (λ b t. refl)
+        (scripts_comes l (within outer (G ts)) (Fork fork) (level + 1)))
+        refl
+        (ends_as outer G behind_steps ts inside (λ us. Branch fork (parts us)))))
 
     script_comes : (s : script.Script) (outer : Stack) (by : Opened) (level : ℕ) (bs : List Tactic) →
         Comes outer (λ (b : List Tactic × List Tactic). frame by level bs b.0 b.1) behind_choices (run read (state outer (frame by level bs [] []) Nothing) (script_parts s)) (choices_of read level s)
@@ -285,10 +285,10 @@ module _ (read : List ℕ → Option Tree) where
         (choices_of read level (script.OrSequence s bar q))
         (choices_of read level (script.OrSequence s bar q))
         (next_run outer G behind_choices (state outer (frame by level bs [] []) Nothing) (script_parts s) (choices_of read level s) (script_comes s outer by level bs) bar kind.Bar (sequence_parts q)
-          (λ g a x. refl) (λ us. Says (state outer (frame by level bs us []) Nothing)) (λ b t. refl))
+        (λ g a x. refl) (λ us. Says (state outer (frame by level bs us []) Nothing)) (λ b t. refl))
         refl
         (then_comes outer G behind_choices (choices_of read level s) (λ us. run read (state outer (frame by level bs us []) Nothing) (sequence_parts q)) (λ us. sequence_of read level q >>= (λ ts. Says (us ++ whole Sequence ts ∷ [])))
-          (λ us. choice_comes us q outer by level bs (sequence_comes q outer by level bs us)))
+        (λ us. choice_comes us q outer by level bs (sequence_comes q outer by level bs us)))
 
     scripts_comes : (l : script.Scripts) (outer : Stack) (by : Opened) (level : ℕ) →
         Comes outer (λ (b : List Tactic × List Tactic × List Tactic). frame by level b.0 b.1 b.2) behind_branches (run read (state outer (frame by level [] [] []) Nothing) (scripts_parts l)) (branches_of read level l)
@@ -301,10 +301,10 @@ module _ (read : List ℕ → Option Tree) where
         (branches_of read level (script.ThenScript l comma s))
         (branches_of read level (script.ThenScript l comma s))
         (next_run outer G behind_branches (state outer (frame by level [] [] []) Nothing) (scripts_parts l) (branches_of read level l) (scripts_comes l outer by level) comma kind.Comma (script_parts s)
-          (λ g a x. refl) (λ us. Says (state outer (frame by level us [] []) Nothing)) (λ b t. refl))
+        (λ g a x. refl) (λ us. Says (state outer (frame by level us [] []) Nothing)) (λ b t. refl))
         refl
         (then_comes outer G behind_branches (branches_of read level l) (λ us. run read (state outer (frame by level us [] []) Nothing) (script_parts s)) (λ us. choices_of read level s >>= (λ ts. Says (us ++ whole Choice ts ∷ [])))
-          (λ us. branch_comes us s outer by level (script_comes s outer by level us)))
+        (λ us. branch_comes us s outer by level (script_comes s outer by level us)))
 
   -- the parts of a script, to their end
   finished : {B : Type 0} (G : B → Frame) (add : B → Tactic → List Tactic) (R : Outcome State) (o : Outcome (List Tactic)) →

@@ -200,12 +200,7 @@ fn argument<S: Store>(
 }
 
 /// The formula of a quoted text.
-fn quoted<S: Store>(
-    alloc: Global,
-    at: usize,
-    text: &[u8],
-    store: &mut S,
-) -> Result<Id, TacSyntax>
+fn quoted<S: Store>(alloc: Global, at: usize, text: &[u8], store: &mut S) -> Result<Id, TacSyntax>
     ensures found { IfOk result (λ id. ByReading (λ read. read text.now ≡ Some (tree (S.trees store.new) id))) }
     ensures known { IfOk result (IsId (S.trees store.new)) }
     ensures fault { IfErr result (IsTacSyntaxOf (λ f. (f ≡ Arguments at) × ByReading (λ read. read text.now ≡ None))) }

@@ -6,6 +6,7 @@ mod atom;
 mod fault;
 mod frame;
 mod kind;
+pub mod laws;
 mod reader;
 mod reading;
 mod tactic;

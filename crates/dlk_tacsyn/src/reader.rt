@@ -30,10 +30,7 @@ const MOST_TIMES: u32 = 1000;
 pub(crate) enum Last {
     Nothing,
     /// A name, at this byte, that may still get arguments.
-    Named {
-        at: usize,
-        name: Name,
-    },
+    Named { at: usize, name: Name },
     Called(Call),
     /// A strategy, that may still be repeated.
     Whole(Tactic),
@@ -114,12 +111,7 @@ fn settled<S: Store>(alloc: Global, last: Last, store: &mut S) -> Result<Tactic,
 }
 
 /// Opens a bracket at this byte.
-fn open(
-    alloc: Global,
-    at: usize,
-    brackets: Brackets,
-    opened: Opened,
-) -> Result<Reader, TacSyntax>
+fn open(alloc: Global, at: usize, brackets: Brackets, opened: Opened) -> Result<Reader, TacSyntax>
     ensures found { IfOk result (λ r. (trees : List Tree) → behind_open at (stack_at trees brackets.outer.items) (frame_at trees brackets.inner) opened ≡ Says (state_at trees r)) }
     ensures known { IfOk result (λ r. (trees : List Tree) → BracketsAreKnown trees brackets → ReaderIsKnown trees r) }
     ensures fault { IfErr result (IsTacSyntaxOf (λ f. (trees : List Tree) → behind_open at (stack_at trees brackets.outer.items) (frame_at trees brackets.inner) opened ≡ Fails f)) }

@@ -21,11 +21,7 @@ use std::alloc::Global;
 /// `Syntax` comes exactly where the bytes are no text of the grammar of strategies. In a text of the grammar the first fault
 /// is answered: `Nesting`, `Repeat`, `UnknownAtom` or `Arguments`, with its byte. `Memory` may come at any time. Whatever
 /// comes, the store keeps its trees.
-pub fn strategy<S: Store>(
-    alloc: Global,
-    bytes: &[u8],
-    store: &mut S,
-) -> Result<Tactic, TacSyntax>
+pub fn strategy<S: Store>(alloc: Global, bytes: &[u8], store: &mut S) -> Result<Tactic, TacSyntax>
     ensures found { IfOk result (λ t. StrategyText bytes.now (tactic_at (S.trees store.new) t)) }
     ensures known { IfOk result (TacticIsKnown (S.trees store.new)) }
     ensures fault { IfErr result (IsTacSyntaxOf (StrategyFault bytes.now)) }
@@ -37,11 +33,7 @@ pub fn strategy<S: Store>(
 }
 
 /// The strategy that parts of a text say.
-fn read_parts<S: Store>(
-    alloc: Global,
-    parts: Vec<Part>,
-    store: &mut S,
-) -> Result<Tactic, TacSyntax>
+fn read_parts<S: Store>(alloc: Global, parts: Vec<Part>, store: &mut S) -> Result<Tactic, TacSyntax>
     ensures found { IfOk result (λ t. ByReading (λ read. outcome_of read parts.items ≡ Says (tactic_at (S.trees store.new) t))) }
     ensures known { IfOk result (TacticIsKnown (S.trees store.new)) }
     ensures fault { IfErr result (IsTacSyntaxOf (λ f. ByReading (λ read. outcome_of read parts.items ≡ Fails f))) }

@@ -28,6 +28,8 @@ loop-next-preserved g c =
 pub returns-then-rest-gt0-clause-fault : goal.returns-then-rest-gt0-clause-fault
 returns-then-rest-gt0-clause-fault g c =
     let none : length (into_iter_items c.loop-next.next-iterator) ≡ 0 = sym c.loop-next.next-iterator.rest.ok.0 ∙ c.in-None.ensures.steps.0 in
-    let some : 0 < length c.loop-next.rest.now = omega arith in
-    (refl, λ read reading. c.loop-next.invariant.goes read reading
-      ∙ arguments_left read (map (argument_at (g.S.Store.trees c.loop-next.store)) c.loop-next.all.items) c.loop-next.rest.now (into_iter_items c.loop-next.next-iterator) none some)
+    let some : 0 < length c.loop-next.rest.now = omega arith in (
+      refl,
+      λ read reading. c.loop-next.invariant.goes read reading
+          ∙ arguments_left read (map (argument_at (g.S.Store.trees c.loop-next.store)) c.loop-next.all.items) c.loop-next.rest.now (into_iter_items c.loop-next.next-iterator) none some,
+    )

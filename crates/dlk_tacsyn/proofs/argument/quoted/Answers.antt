@@ -1,4 +1,4 @@
-use Rattle.std.proofs.Common.{◌≡◌, Option, Some, None, List, ℕ, sym, ap, ◌∙◌}
+use Rattle.std.proofs.Common.{◌≡◌, Some, None, sym, ap, ◌∙◌}
 use Rattle.dlk_grammar.specs.declared.token.Form.TheVariants.{Formula}
 use Rattle.dlk_grammar.specs.declared.token.Dots.TheVariants.{Refused}
 use Rattle.dlk_grammar.specs.Texts.{TreeTextFault}
@@ -14,7 +14,7 @@ returns-in-Ok-clause-found g c = λ read reading.
 pub returns-in-Err-clause-fault : goal.returns-in-Err-clause-fault
 returns-in-Err-clause-fault g c =
     rw c.unread.ensures (
-      unread_fault c.args.at (TreeTextFault Formula Refused c.args.text.now) (ByReading (λ read. read c.args.text.now ≡ None))
-      (λ w is read reading. text_unread c.args.text.now w (λ t r. c.tree_texts.ensures.no_fault Formula Refused c.args.text.now t w r is) (read c.args.text.now) (reading c.args.text.now))
-      c.in-Err.fault c.in-Err.ensures.fault
+    unread_fault c.args.at (TreeTextFault Formula Refused c.args.text.now) (ByReading (λ read. read c.args.text.now ≡ None))
+    (λ w is read reading. text_unread c.args.text.now w (λ t r. c.tree_texts.ensures.no_fault Formula Refused c.args.text.now t w r is) (read c.args.text.now) (reading c.args.text.now))
+    c.in-Err.fault c.in-Err.ensures.fault
     )

@@ -1,4 +1,4 @@
-use Rattle.std.proofs.Common.{◌≡◌, sym, ◌∙◌, Some, ap, subst}
+use Rattle.std.proofs.Common.{sym, ◌∙◌, Some, ap, subst}
 use Rattle.std.specs.Str.{IsUtf8}
 use Rattle.dlk_tacsyn.specs.Rows.{kinds_of, row_of}
 use Rattle.dlk_tacsyn.proofs.Words.{row_bare, row_named, row_unnamed, name_utf8}

@@ -1,4 +1,3 @@
-use Rattle.dlk_tacsyn.specs.States.{FrameIsKnown}
 use Rattle.dlk_tacsyn.proofs.Stacked.{known_before, known_last}
 use Rattle.dlk_tacsyn.proofs.reader.close.Goals as goal
 

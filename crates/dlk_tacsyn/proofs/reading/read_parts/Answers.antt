@@ -1,4 +1,4 @@
-use Rattle.std.proofs.Common.{◌≡◌, [], length, sym, ap, ◌∙◌}
+use Rattle.std.proofs.Common.{◌≡◌, [], length, sym, ◌∙◌}
 use Rattle.std.specs.Vec.Iter.{into_iter_items}
 use Rattle.dlk_tacsyn.specs.Faults.{IsTacSyntaxOf}
 use Rattle.dlk_tacsyn.specs.Strategies.{Says, Fails}
@@ -35,8 +35,8 @@ returns-clause-found g c =
     ok_map (λ t. ByReading (λ read. finish read (state_at (g.S.Store.trees c.loop-part.store) c.loop-part.reader) ≡ Says (tactic_at (g.S.Store.trees c.finish.new.store) t)))
     (λ t. ByReading (λ read. outcome_of read c.args.parts.items ≡ Says (tactic_at (g.S.Store.trees c.finish.new.store) t)))
     (λ t h read reading.
-      run_ended read (run read start c.args.parts.items) (state_at (g.S.Store.trees c.loop-part.store) c.loop-part.reader) (into_iter_items c.loop-part.part-iterator) (Says (tactic_at (g.S.Store.trees c.finish.new.store) t))
-      (c.loop-part.invariant.goes read reading) ended (h read reading))
+    run_ended read (run read start c.args.parts.items) (state_at (g.S.Store.trees c.loop-part.store) c.loop-part.reader) (into_iter_items c.loop-part.part-iterator) (Says (tactic_at (g.S.Store.trees c.finish.new.store) t))
+    (c.loop-part.invariant.goes read reading) ended (h read reading))
     c.finish.result c.finish.ensures.found
 
 pub returns-clause-fault : goal.returns-clause-fault
@@ -46,8 +46,8 @@ returns-clause-fault g c =
     err_map (IsTacSyntaxOf (λ f. ByReading (λ read. finish read (state_at (g.S.Store.trees c.loop-part.store) c.loop-part.reader) ≡ Fails f)))
     (IsTacSyntaxOf (λ f. ByReading (λ read. outcome_of read c.args.parts.items ≡ Fails f)))
     (λ e h. weaken (λ f. ByReading (λ read. finish read (state_at (g.S.Store.trees c.loop-part.store) c.loop-part.reader) ≡ Fails f)) (λ f. ByReading (λ read. outcome_of read c.args.parts.items ≡ Fails f))
-      (λ f w read reading.
-        run_ended read (run read start c.args.parts.items) (state_at (g.S.Store.trees c.loop-part.store) c.loop-part.reader) (into_iter_items c.loop-part.part-iterator) (Fails f)
-        (c.loop-part.invariant.goes read reading) ended (w read reading))
-      e h)
+    (λ f w read reading.
+    run_ended read (run read start c.args.parts.items) (state_at (g.S.Store.trees c.loop-part.store) c.loop-part.reader) (into_iter_items c.loop-part.part-iterator) (Fails f)
+    (c.loop-part.invariant.goes read reading) ended (w read reading))
+    e h)
     c.finish.result c.finish.ensures.fault

@@ -1,5 +1,4 @@
 use Rattle.std.proofs.Common.{◌≡◌}
-use Rattle.std.proofs.lemmas.Result.{err_from_is_err_and}
 use Rattle.dlk_grammar.specs.declared.token.Form.TheVariants.{Formula}
 use Rattle.dlk_grammar.specs.declared.token.Dots.TheVariants.{Refused}
 use Rattle.dlk_tacsyn.specs.Faults.{IsTacSyntaxOf}
@@ -9,7 +8,7 @@ use Rattle.dlk_tacsyn.specs.Ties.{tactic_at}
 use Rattle.dlk_tacsyn.specs.States.{ByReading}
 use Rattle.dlk_tacsyn.proofs.Kept.{ok_map, err_map}
 use Rattle.dlk_tacsyn.proofs.Quoted.{weaken}
-use Rattle.dlk_tacsyn.proofs.Later.{outcome, outcome_fault, stopped}
+use Rattle.dlk_tacsyn.proofs.Later.{outcome, outcome_fault}
 use Rattle.dlk_tacsyn.proofs.reading.strategy.Goals as goal
 
 pub returns-clause-found : goal.returns-clause-found
@@ -23,6 +22,6 @@ pub returns-clause-fault : goal.returns-clause-fault
 returns-clause-fault g c =
     err_map (IsTacSyntaxOf (λ f. ByReading (λ read. outcome_of read c.in_ok-parts.parts.items ≡ Fails f))) (IsTacSyntaxOf (StrategyFault c.args.bytes.now))
     (λ e h. weaken (λ f. ByReading (λ read. outcome_of read c.in_ok-parts.parts.items ≡ Fails f)) (StrategyFault c.args.bytes.now)
-      (λ f w. outcome_fault (c.tree_texts.ensures.some Formula Refused) (c.tree_texts.ensures.no_fault Formula Refused) c.args.bytes.now c.in_ok-parts.parts.items c.in_ok-parts.ensures.found f w)
-      e h)
+    (λ f w. outcome_fault (c.tree_texts.ensures.some Formula Refused) (c.tree_texts.ensures.no_fault Formula Refused) c.args.bytes.now c.in_ok-parts.parts.items c.in_ok-parts.ensures.found f w)
+    e h)
     c.read_parts.result c.read_parts.ensures.fault
