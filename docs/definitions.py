@@ -30,6 +30,12 @@ LIBRARY = "std"
 # Paths with this front are types of the code.
 DECLARED = "declared."
 
+# The constants of a file of code, among its types.
+CONSTANTS = "TheConstants"
+
+# The head of a module without a name begins so.
+MODULE_HEAD = "module _"
+
 IMPORT = re.compile(r"^(?:pub )?use Rattle\.(\w+)\.specs\.([\w.]+?)(?:\.\{(.*)\}| as (\S+))$", re.MULTILINE)
 TYPE_NAME = re.compile(r"^\s*(?:abbrev )?(?:pub )?(?:data|record) (\S+)")
 FUNCTION_NAME = re.compile(r"^(?:abbrev|unfoldable) (?:pub )?(\S+) :")
@@ -50,10 +56,11 @@ class Reference(NamedTuple):
         return self.path.replace(".", "/")
 
     def rust_type(self):
-        """The name of the type of the code: of it, or of the type that has it as a variant. A constant is listed by its own."""
+        """The name of the type of the code: of it, or of the type that has it as a variant. A constant has its own."""
+        if self.path.endswith(CONSTANTS):
+            return self.name
         parts = self.path.split(".")[1:]
-        types = [part for part in parts if part[0].isupper() and part not in ("TheVariants", "TheConstants")]
-        return types[-1] if types else self.name
+        return [part for part in parts if part[0].isupper() and part != "TheVariants"][-1]
 
 
 @dataclass(frozen=True)
@@ -121,9 +128,20 @@ def paragraphs(text):
     return found + [current] if current else found
 
 
+def without_modules(text):
+    """The text with what stands in a module without a name as if it stood outside: an empty line behind its head, and no indent."""
+    lines, inside = [], False
+    for line in text.split("\n"):
+        inside = line.startswith(MODULE_HEAD) or (inside and (line.startswith("  ") or not line.strip()))
+        lines.append(line.removeprefix("  ") if inside else line)
+        if line.startswith(MODULE_HEAD):
+            lines.append("")
+    return "\n".join(lines)
+
+
 def is_code(line):
-    """Whether a line counts: no comment, no import, not empty."""
-    return bool(line.strip()) and not line.strip().startswith("--") and not line.startswith(("use ", "pub use "))
+    """Whether a line counts: no comment, no import, no head of a module, not empty."""
+    return bool(line.strip()) and not line.strip().startswith("--") and not line.startswith(("use ", "pub use ", MODULE_HEAD))
 
 
 def defined_names(code):
@@ -163,7 +181,7 @@ def read_spec_file(crate, file):
     """Reads a file of definitions."""
     text = read(spec_path(crate, file))
     definitions, by_name = [], {}
-    for paragraph in paragraphs(text):
+    for paragraph in paragraphs(without_modules(text)):
         code = tuple(line for line in paragraph if is_code(line))
         if not code:
             continue
@@ -257,20 +275,20 @@ def types_of(section):
     return section.get("types", [])
 
 
-def crate_of(section, rust_type):
-    """The crate of a type that a section lists: that of the section, or the one it names."""
-    return rust_type.get("crate", section["crate"])
-
-
 def other_sources_of(section):
     """The definitions of a section whose source is not that of the section, with their sources."""
     groups = section.get("other_sources", {})
     return {name: source for source, names in groups.items() for name in names}
 
 
+def crate_of(rust_type, section):
+    """The crate of a type of the code: that of the section, unless the type has its own."""
+    return rust_type.get("crate", section["crate"])
+
+
 def is_named(rust_type):
     """Whether definitions name a type of the code. A model and a member of a trait are seen without their names."""
-    return rust_type["start"].startswith("pub ")
+    return rust_type["start"].startswith(("pub ", "const "))
 
 
 # The checks
@@ -283,7 +301,7 @@ def check_all_listed(walk, sections):
         if (definition.crate, definition.file) not in listed_files:
             place = spec_path(definition.crate, definition.file)
             stop(f"{definition.names[0]} is reached, but no section lists {place}")
-    listed_types = {(crate_of(section, rust_type), rust_type["name"]) for section in sections for rust_type in types_of(section)}
+    listed_types = {(crate_of(rust_type, section), rust_type["name"]) for section in sections for rust_type in types_of(section)}
     for crate, name in sorted(walk.rust_types - listed_types):
         stop(f"the type {name} of {crate} is reached, but no section lists it")
 
@@ -300,7 +318,7 @@ def check_all_reached(walk, sections):
             if name not in reached:
                 stop(f"the section of {place} lists {name}, which is not reached")
         for rust_type in types_of(section):
-            if is_named(rust_type) and (crate_of(section, rust_type), rust_type["name"]) not in walk.rust_types:
+            if is_named(rust_type) and (crate_of(rust_type, section), rust_type["name"]) not in walk.rust_types:
                 stop(f"the section of {place} lists the type {rust_type['name']}, which is not reached")
 
 
@@ -308,7 +326,7 @@ def check_reading_order(walk, sections):
     """Stops where a definition refers to something of a later section."""
     places = {(section["crate"], section["file"]): number for number, section in enumerate(sections)}
     for number, section in enumerate(sections):
-        places.update({(crate_of(section, rust_type), "type", rust_type["name"]): number for rust_type in types_of(section)})
+        places.update({(crate_of(rust_type, section), "type", rust_type["name"]): number for rust_type in types_of(section)})
     for definition, references in walk.references.items():
         for reference in references:
             if reference.path.startswith(DECLARED):
@@ -326,8 +344,7 @@ def check_reading_order(walk, sections):
 def type_label(rust_type):
     """The name of a type of the code, or of a member of a trait, with its file."""
     front = f"`{rust_type['trait']}`: " if "trait" in rust_type else ""
-    folder = f"crates/{rust_type['crate']}/src" if "crate" in rust_type else "src"
-    return f"{front}`{rust_type['name']}` in `{folder}/{rust_type['file']}`"
+    return f"{front}`{rust_type['name']}` in `src/{rust_type['file']}`"
 
 
 def type_lines(crate, rust_type):
@@ -370,7 +387,7 @@ def rows_of(section, walk):
     """The rows of a section: what is defined, what it says, its source, and its lines."""
     rows = []
     for rust_type in types_of(section):
-        lines = type_lines(crate_of(section, rust_type), rust_type)
+        lines = type_lines(crate_of(rust_type, section), rust_type)
         rows.append((type_label(rust_type), rust_type["says"], rust_type["source"], lines))
     other_sources = other_sources_of(section)
     for definition in walk.reached_in(section):
