@@ -252,12 +252,20 @@ fn stepped_back<L: Ledger>(alloc: Global, blank: Blank) -> Option<[u32; 4]>
     requires parts { blank.parts ≡ L.parts }
     requires some { 0 < blank.parts }
 {
-    let mut steps = Steps::<L>::new(blank);
     let mut kernel = Kernel::new(alloc, SharedStore::new(alloc));
-    let formula = read_formula(alloc, b"x>=0 -> x>=0", &mut kernel).ok()?;
-    let sequent = read_sequent(alloc, b"==> x>=0", &mut kernel).ok()?;
+    stepped_back_on(alloc, &mut kernel, &mut Steps::<L>::new(blank))
+}
+
+/// The same on a kernel.
+fn stepped_back_on<S: Store, L: Ledger>(
+    alloc: Global,
+    kernel: &mut Kernel<S>,
+    steps: &mut Steps<L>,
+) -> Option<[u32; 4]> {
+    let formula = read_formula(alloc, b"x>=0 -> x>=0", kernel).ok()?;
+    let sequent = read_sequent(alloc, b"==> x>=0", kernel).ok()?;
     let mark = kernel.mark();
-    kernel.step(alloc, &Step::Start(sequent), &mut steps).ok()?;
+    kernel.step(alloc, &Step::Start(sequent), steps).ok()?;
     let rows = kernel.rows();
     kernel.release(mark);
     Some([
