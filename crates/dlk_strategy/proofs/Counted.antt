@@ -28,23 +28,27 @@ counted_failure n at why now o e =
     subst (λ (x : Outcome). Counts n now x) (sym e) stays
 
 counts_on : (n first : ℕ) (rest : ℕ → ℕ) (left : ℕ) (now made : Progress) (o : Outcome) → Counts first now (Done made left) → Counts (rest left) made o → rest first ≡ n → Counts n now o
-counts_on n first rest left now made (Done after m) a b e =
-    (omega (arith, a.0, b.0), λ same.
-    let mid : made.used ≡ now.used = omega (arith, a.0, b.0, same) in
-    let end : after.used ≡ made.used = omega (arith, same, mid) in
-    let one = a.1 mid in
-    let two = b.1 end in
-    (two.0 ∙ one.0, two.1 ∙ ap rest one.1 ∙ e))
+counts_on n first rest left now made (Done after m) a b e = (
+  omega (arith, a.0, b.0),
+  λ same.
+      let mid : made.used ≡ now.used = omega (arith, a.0, b.0, same) in
+      let end : after.used ≡ made.used = omega (arith, same, mid) in
+      let one = a.1 mid in
+      let two = b.1 end in
+      (two.0 ∙ one.0, two.1 ∙ ap rest one.1 ∙ e),
+)
 counts_on n first rest left now made (Fails at why used) a b e = omega (arith, a.0, b)
 counts_on n first rest left now made (Budget at) a b e = tt
 
 counts_else : (n used : ℕ) (now : Progress) (o : Outcome) → now.used ≤ used → Counts n (record now { used = used }) o → Counts n now o
-counts_else n used now (Done made left) a b =
-    (omega (arith, a, b.0), λ same.
-    let up : used ≡ now.used = omega (arith, a, b.0, same) in
-    let is = b.1 (same ∙ sym up) in
-    let back : record now { used = used } ≡ now = λ i. record now { used = up i } in
-    (is.0 ∙ back, is.1))
+counts_else n used now (Done made left) a b = (
+  omega (arith, a, b.0),
+  λ same.
+      let up : used ≡ now.used = omega (arith, a, b.0, same) in
+      let is = b.1 (same ∙ sym up) in
+      let back : record now { used = used } ≡ now = λ i. record now { used = up i } in
+      (is.0 ∙ back, is.1),
+)
 counts_else n used now (Fails at why more) a b = omega (arith, a, b)
 counts_else n used now (Budget at) a b = tt
 

@@ -74,9 +74,9 @@ module _ {S : Type 0} (trees : S → List Tree) where
     rows = record {
       ids = prefix_on k.rows k'.rows k''.rows a.rows.ids b.rows.ids;
       provables =
-        let p = ap (λ n. take n (facts trees k')) (facts_length trees k) ∙ a.rows.provables in
-        let q = ap (λ n. take n (facts trees k'')) (facts_length trees k') ∙ b.rows.provables in
-        ap (λ n. take n (facts trees k'')) (sym (facts_length trees k)) ∙ prefix_on (facts trees k) (facts trees k') (facts trees k'') p q;
+          let p = ap (λ n. take n (facts trees k')) (facts_length trees k) ∙ a.rows.provables in
+          let q = ap (λ n. take n (facts trees k'')) (facts_length trees k') ∙ b.rows.provables in
+          ap (λ n. take n (facts trees k'')) (sym (facts_length trees k)) ∙ prefix_on (facts trees k) (facts trees k') (facts trees k'') p q;
     };
     steps = prefix_on t.steps.items t'.steps.items t''.steps.items a.steps b.steps;
     known = b.known;
@@ -97,7 +97,7 @@ module _ {S : Type 0} (trees : S → List Tree) where
   taken_back old before mid t k after rows steps extends is_rows is_steps e_rows e_store e_steps e_used =
       let store : facts trees k ≡ map (provable_at (trees mid.store)) k.rows = ap (λ s. map (provable_at (trees s)) k.rows) e_store in
       let kept : map (provable_at (trees mid.store)) k.rows ≡ take (length old.rows) (facts trees mid) =
-          ap (map (provable_at (trees mid.store))) (e_rows ∙ ap (λ n. take n mid.rows) is_rows) ∙ sym (take-map (provable_at (trees mid.store)) (length old.rows) mid.rows) in
+      ap (map (provable_at (trees mid.store))) (e_rows ∙ ap (λ n. take n mid.rows) is_rows) ∙ sym (take-map (provable_at (trees mid.store)) (length old.rows) mid.rows) in
       record {
         rows = record { ids = e_rows ∙ ap (λ n. take n mid.rows) is_rows ∙ extends.rows.ids; provables = store ∙ kept ∙ extends.rows.provables };
         steps = e_steps ∙ ap (λ n. take n t.steps.items) is_steps ∙ extends.steps;

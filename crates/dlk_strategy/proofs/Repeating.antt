@@ -67,7 +67,7 @@ waits_on run n rest goal left new all first here made leads r o p =
     let e : left ≡ left + 0 = omega arith in
     let p' = subst (λ l. Waits run (replicate new n ++ rest) goal l made o) e p in
     leads o (then_in (run (goal + left)) (λ x. Each (Again run n) x (goal + left) 0) (λ x. Waits run rest goal (left + x)) (λ at why. Ends 1) here made new o r
-        (each_waits run n rest goal left new 0 made o p'))
+    (each_waits run n rest goal left new 0 made o p'))
 
 -- a turn that fails is the last one there
 pub again_fails : (run : Run) (n goal at used : ℕ) (why : FailWhy) (here next : Progress) → run goal here (Fails at why used) →
@@ -114,9 +114,9 @@ module _ {S : Type 0} (trees : S → List Tree) (old : State S) (before : Trace)
       let here = length-replicate new n in
       let behind = length-reverse rest in
       let shape : Waits run (reverse waiting) goal left ≡ Waits run (suc n ∷ reverse rest) goal left =
-          ap (λ xs. Waits run xs goal left) (turned waiting rest turns is) ∙ ap (λ m. Waits run (m ∷ reverse rest) goal left) (sym one_less) in
+      ap (λ xs. Waits run xs goal left) (turned waiting rest turns is) ∙ ap (λ m. Waits run (m ∷ reverse rest) goal left) (sym one_less) in
       let leads : Leads all (Waits run (suc n ∷ reverse rest) goal left) (now trees old before) (now trees k t) =
-          subst (λ (f : Fate). Leads all f (now trees old before) (now trees k t)) shape r.leads in
+      subst (λ (f : Fate). Leads all f (now trees old before) (now trees k t)) shape r.leads in
       let on = waits_on run n (reverse rest) goal left new all (now trees old before) (now trees k t) (now trees k' t') leads made in
       record {
         extends = extends_on trees old before k t k' t' r.extends extends;
@@ -129,9 +129,9 @@ module _ {S : Type 0} (trees : S → List Tree) (old : State S) (before : Trace)
       waiting ≡ rest ++ turns ∷ [] → suc n ≡ turns → run (goal + left) (now trees k t) (Budget at) → all (now trees old before) (Budget at)
   waits_spent k t waiting rest turns n goal left at all run r is one_less over =
       let shape : Waits run (reverse waiting) goal left ≡ Waits run (suc n ∷ reverse rest) goal left =
-          ap (λ xs. Waits run xs goal left) (turned waiting rest turns is) ∙ ap (λ m. Waits run (m ∷ reverse rest) goal left) (sym one_less) in
+      ap (λ xs. Waits run xs goal left) (turned waiting rest turns is) ∙ ap (λ m. Waits run (m ∷ reverse rest) goal left) (sym one_less) in
       let leads : Leads all (Waits run (suc n ∷ reverse rest) goal left) (now trees old before) (now trees k t) =
-          subst (λ (f : Fate). Leads all f (now trees old before) (now trees k t)) shape r.leads in
+      subst (λ (f : Fate). Leads all f (now trees old before) (now trees k t)) shape r.leads in
       leads (Budget at) (spent (spent over))
 
   pub waits_end : (k : State S) (t : Trace) (waiting : List ℕ) (goal left : ℕ) (all : Fate) (run : Run) → Waiting k t waiting all run goal left → waiting ≡ [] →

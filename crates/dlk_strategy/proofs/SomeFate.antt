@@ -86,8 +86,8 @@ some_each run some (suc more) goal left first now room =
     let here = some (goal + left) (omega (arith, first)) now (omega (arith, room)) in
     some_follow 1 (left + suc more) (run (goal + left)) (λ new. Each run more goal (left + new)) FailsAt now here.0 here.1 here.2
     (λ new made e.
-      let rest = some_each run some more goal (left + new) first made (omega (arith, room, e)) in
-      (rest.0, rest.1, leaves_as (left + new + more) (goals_in made) (left + suc more) (goals_in now) (omega (arith, e)) rest.0 rest.2))
+    let rest = some_each run some more goal (left + new) first made (omega (arith, room, e)) in
+    (rest.0, rest.1, leaves_as (left + new + more) (goals_in made) (left + suc more) (goals_in now) (omega (arith, e)) rest.0 rest.2))
     (λ at used why. some_failure (left + suc more) at why (record now { used = used }))
 
 -- none stands before them
@@ -106,17 +106,17 @@ some_again run some (suc times) goal first now room =
     let here = some goal first now room in
     some_follow 1 1 (run goal) (λ left. Each (Again run times) left goal 0) (λ at why. Ends 1) now here.0 here.1 here.2
     (λ left made e.
-      let rest = some_on_each (Again run times) (some_again run some times) left goal first made (omega (arith, room, e)) in
-      (rest.0, rest.1, leaves_as left (goals_in made) 1 (goals_in now) (omega (arith, e)) rest.0 rest.2))
+    let rest = some_on_each (Again run times) (some_again run some times) left goal first made (omega (arith, room, e)) in
+    (rest.0, rest.1, leaves_as left (goals_in made) 1 (goals_in now) (omega (arith, e)) rest.0 rest.2))
     (λ at used why. (Done (record now { used = used }) 1, refl, refl))
 
 some_branched : (at parts goals goal : ℕ) (each : Fate) → IsSome parts (goal + parts) each → IsSome goals (goal + goals) (Branched at parts goals each)
 some_branched at parts goals goal each some now room =
     elim (cases_order goals parts) [
       | inl same ↦
-        let all = some now (omega (arith, room, same)) in
-        (all.0, as_many same all.1, leaves_as parts (goals_in now) goals (goals_in now) (omega (arith, same)) all.0 all.2)
-      | inr other ↦ (Fails at WrongCount now.used, another_count (λ e. elim other [ | inl less ↦ absurd (omega (arith, less, e)) | inr more ↦ absurd (omega (arith, more, e)) ]), tt)
+          let all = some now (omega (arith, room, same)) in
+          (all.0, as_many same all.1, leaves_as parts (goals_in now) goals (goals_in now) (omega (arith, same)) all.0 all.2)
+      | inr other ↦ (Fails at WrongCount now.used, another_count (λ e. elim other [ inl less ↦ absurd (omega (arith, less, e)) | inr more ↦ absurd (omega (arith, more, e)) ]), tt)
     ]
 
 -- where a fitting atom gives steps or has a fault
@@ -126,12 +126,12 @@ module _ (some_atom : (rows : List Provable) (fact goal : ℕ) (atom : Atom) →
   some_once atom is fixed goal first now room =
       elim (cases_lt now.used most_runs) [
         | inl free ↦
-          elim (some_atom now.rows (length now.rows) goal atom (goal_there now.rows (length now.rows) goal refl first room) is.fitting fixed is.names) [
-            | inl made ↦
-              let new = counted now.rows made.1 goal atom made.0 first room made.2 in
-              (Done (record { steps = now.steps ++ made.0; rows = made.1; used = now.used + 1 }) new.0, steps free made.2 new.1, new.1)
-            | inr fault_there ↦ (Fails atom.at (fail_of fault_there.0) (now.used + 1), fault free fault_there.1, tt)
-          ]
+            elim (some_atom now.rows (length now.rows) goal atom (goal_there now.rows (length now.rows) goal refl first room) is.fitting fixed is.names) [
+              | inl made ↦
+                  let new = counted now.rows made.1 goal atom made.0 first room made.2 in
+                  (Done (record { steps = now.steps ++ made.0; rows = made.1; used = now.used + 1 }) new.0, steps free made.2 new.1, new.1)
+              | inr fault_there ↦ (Fails atom.at (fail_of fault_there.0) (now.used + 1), fault free fault_there.1, tt)
+            ]
         | inr full ↦ (Budget atom.at, once_spent full, tt)
       ]
 
@@ -173,8 +173,8 @@ module _ (some_atom : (rows : List Provable) (fact goal : ℕ) (atom : Atom) →
         let here = some_fate t is.0 goals goal first now room in
         some_follow goals goals (Runs t goals goal) (λ left. InTurn rest left goal) FailsAt now here.0 here.1 here.2
         (λ left made e.
-          let others = some_turn rest is.1 left goal first made (omega (arith, room, e)) in
-          (others.0, others.1, leaves_as left (goals_in made) goals (goals_in now) (omega (arith, e)) others.0 others.2))
+        let others = some_turn rest is.1 left goal first made (omega (arith, room, e)) in
+        (others.0, others.1, leaves_as left (goals_in made) goals (goals_in now) (omega (arith, e)) others.0 others.2))
         (λ at used why. some_failure goals at why (record now { used = used }))
 
     some_own : (parts : Tactics) → EachAtomOf IsRun parts → (goal left : ℕ) → 1 ≤ goal → IsSome (left + count parts) (goal + left + count parts) (OnOwn parts goal left)
@@ -183,8 +183,8 @@ module _ (some_atom : (rows : List Provable) (fact goal : ℕ) (atom : Atom) →
         let here = some_fate t is.0 1 (goal + left) (omega (arith, first)) now (omega (arith, room)) in
         some_follow 1 (left + (count rest + 1)) (Runs t 1 (goal + left)) (λ new. OnOwn rest goal (left + new)) FailsAt now here.0 here.1 here.2
         (λ new made e.
-          let others = some_own rest is.1 goal (left + new) first made (omega (arith, room, e)) in
-          (others.0, others.1, leaves_as (left + new + count rest) (goals_in made) (left + (count rest + 1)) (goals_in now) (omega (arith, e)) others.0 others.2))
+        let others = some_own rest is.1 goal (left + new) first made (omega (arith, room, e)) in
+        (others.0, others.1, leaves_as (left + new + count rest) (goals_in made) (left + (count rest + 1)) (goals_in now) (omega (arith, e)) others.0 others.2))
         (λ at used why. some_failure (left + (count rest + 1)) at why (record now { used = used }))
 
   pub some_model : (t : Tactic) (formula : Tree) → EachAtom IsRun t → IsFormula formula → IsSmall formula → IsShallow formula → (o : Outcome) × RunsModel t formula o

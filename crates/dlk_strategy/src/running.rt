@@ -35,7 +35,16 @@ pub(crate) fn run_on<S: Store, L: Ledger>(
     ensures grows { S.grows kernel.old.store kernel.new.store }
 {
     if let Tactic::Branch { at, parts } = t {
-        return branch(alloc, kernel, trace, *at, parts.as_slice(), goal, goals, steps);
+        return branch(
+            alloc,
+            kernel,
+            trace,
+            *at,
+            parts.as_slice(),
+            goal,
+            goals,
+            steps,
+        );
     }
     let mut left = 0;
     for _ in 0..goals {

@@ -160,7 +160,7 @@ repeat-attempt-requires g t c κs within =
     let items : c.loop-turns.waiting.items ≡ c.pop.new.self.items ++ c.in-Some.turns ∷ [] = search rules in
     let run = Runs (tactic_at (trees old.store) c.args.body.now) 1 in
     let ready = waits_ready trees old c.args.trace.now mid c.loop-turns.trace c.loop-turns.waiting.items c.pop.new.self.items c.in-Some.turns c.args.goal c.loop-turns.left
-        (Again run c.args.times c.args.goal) run c.requires.ready c.loop-turns.invariant.reached items in
+    (Again run c.args.times c.args.goal) run c.requires.ready c.loop-turns.invariant.reached items in
     (search rules, (search rules, (search rules, (ready, runnable_kept (trees old.store) (trees mid.store) keeps c.args.body.now c.requires.runnable))))
 
 pub repeat-returns-in_err-attempt-clause-fate : goal.repeat-returns-in_err-attempt-clause-fate
@@ -177,7 +177,7 @@ repeat-returns-in_err-attempt-clause-fate g t c =
     let e = err_from_is_err_and c.from_residual-in_err-attempt.result c.from_residual-in_err-attempt.ensures.1 in
     let becomes = subst (λ (a : TreeTactic). BecomesTried (Runs a 1 (c.args.goal + c.loop-turns.left)) here after (Err c.in_err-attempt.field-0.0)) same c.in_err-attempt.ensures.fate in
     rw (e.1, e.2) (turn_err trees old c.args.trace.now mid c.loop-turns.trace c.attempt.new.kernel c.attempt.new.trace c.loop-turns.waiting.items c.pop.new.self.items c.in-Some.turns c.args.goal
-        c.loop-turns.left (Again run c.args.times c.args.goal) run c.in_err-attempt.field-0.0 c.loop-turns.invariant.reached items c.if-turns-eq0.false becomes)
+    c.loop-turns.left (Again run c.args.times c.args.goal) run c.in_err-attempt.field-0.0 c.loop-turns.invariant.reached items c.if-turns-eq0.false becomes)
 
 pub repeat-loop-turns-preserved-in-None : goal.repeat-loop-turns-preserved-in-None
 repeat-loop-turns-preserved-in-None g t c =
@@ -284,7 +284,7 @@ branch-run_on-requires g t c κs within =
     let all = OnOwn (tactics_of (trees old.store) items) c.args.goal 0 in
     let rest = OnOwn (tactics_of (trees old.store) (drop i items)) c.args.goal c.loop-t.left in
     let ready = reached_ready trees old c.args.trace.now mid c.loop-t.trace i c.loop-t.left all rest (c.args.goal + c.loop-t.left) 1 c.loop-t.invariant.reached
-        (omega (arith, c.requires.ready.first)) (omega (arith, c.requires.ready.room, c.loop-t-test.true, c.if-parts-goals.false)) in
+    (omega (arith, c.requires.ready.first)) (omega (arith, c.requires.ready.room, c.loop-t-test.true, c.if-parts-goals.false)) in
     (omega (arith, at_most the_size items i c.t-item.result c.loop-t-test.true, ap the_size c.t-item.is, c.decreases), (search rules, (search rules, (ready, runnable_kept (trees old.store) (trees mid.store) keeps c.t-item.result part))))
 
 pub branch-returns-in_err-left-clause-fate : goal.branch-returns-in_err-left-clause-fate
@@ -356,7 +356,7 @@ in_turn-run_on-requires g t c κs within =
     let all = InTurn (tactics_of (trees old.store) items) 1 c.args.goal in
     let rest = InTurn (tactics_of (trees old.store) (drop i items)) c.loop-t.goals c.args.goal in
     let ready = reached_ready trees old c.args.trace.now mid c.loop-t.trace 1 c.loop-t.goals all rest c.args.goal c.loop-t.goals c.loop-t.invariant.reached
-        c.requires.ready.first (omega (arith, c.requires.ready.room)) in
+    c.requires.ready.first (omega (arith, c.requires.ready.room)) in
     (omega (arith, at_most the_size items i c.t-item.result c.loop-t-test.true, ap the_size c.t-item.is, c.decreases), (search rules, (search rules, (ready, runnable_kept (trees old.store) (trees mid.store) keeps c.t-item.result part))))
 
 pub in_turn-returns-in_err-goals-clause-fate : goal.in_turn-returns-in_err-goals-clause-fate
@@ -426,7 +426,7 @@ run_on-returns-in-Branch-clause-fate g t c =
     let trees = g.S.Store.trees c.args.kernel.now.store in
     let same = ap (tactic_at trees) c.in-Branch.is ∙ branch_at trees c.in-Branch.at c.in-Branch.parts ∙ ap (λ xs. the.Branch c.in-Branch.at (tactics_of trees xs)) (sym c.as_slice.ensures.value) in
     let counted = subst (λ (n : ℕ). Becomes (Branched c.in-Branch.at n c.args.goals (OnOwn (tactics_of trees c.as_slice.result.now) c.args.goal 0)) (now g.S.Store.trees c.args.kernel.now c.args.trace.now)
-        (now g.S.Store.trees c.branch-alloc.new.kernel c.branch-alloc.new.trace) c.branch-alloc.result) (sym (count_of trees c.as_slice.result.now)) c.branch-alloc.ensures.fate in
+    (now g.S.Store.trees c.branch-alloc.new.kernel c.branch-alloc.new.trace) c.branch-alloc.result) (sym (count_of trees c.as_slice.result.now)) c.branch-alloc.ensures.fate in
     subst (λ (a : TreeTactic). Becomes (Runs a c.args.goals c.args.goal) (now g.S.Store.trees c.args.kernel.now c.args.trace.now) (now g.S.Store.trees c.branch-alloc.new.kernel c.branch-alloc.new.trace) c.branch-alloc.result) (sym same) counted
 
 pub run_on-run_one-requires : goal.run_on-run_one-requires
@@ -440,7 +440,7 @@ run_on-run_one-requires g t c κs within =
     let rest = Each run (c.args.goals - i) c.args.goal c.loop.left in
     let keeps = g.met.S.Store.grows_keeps old.store mid.store c.loop.invariant.grows in
     let ready = reached_ready trees old c.args.trace.now mid c.loop.trace i c.loop.left all rest (c.args.goal + c.loop.left) 1 c.loop.invariant.reached
-        (omega (arith, c.requires.ready.first)) (omega (arith, c.requires.ready.room, c.loop-test.true)) in
+    (omega (arith, c.requires.ready.first)) (omega (arith, c.requires.ready.room, c.loop-test.true)) in
     (search rules, (search rules, (search rules, (ready, runnable_kept (trees old.store) (trees mid.store) keeps c.args.t.now c.requires.runnable))))
 
 pub run_on-returns-in_err-left : goal.run_on-returns-in_err-left
@@ -546,5 +546,5 @@ run_one-returns-in-Branch-clause-fate g t c =
     let trees = g.S.Store.trees c.args.kernel.now.store in
     let same = ap (tactic_at trees) c.in-Branch.is ∙ branch_at trees c.in-Branch.at c.in-Branch.parts ∙ ap (λ xs. the.Branch c.in-Branch.at (tactics_of trees xs)) (sym c.as_slice-in-Branch.ensures.value) in
     let counted = subst (λ (n : ℕ). Becomes (Branched c.in-Branch.at n 1 (OnOwn (tactics_of trees c.as_slice-in-Branch.result.now) c.args.goal 0)) (now g.S.Store.trees c.args.kernel.now c.args.trace.now)
-        (now g.S.Store.trees c.branch-alloc.new.kernel c.branch-alloc.new.trace) c.branch-alloc.result) (sym (count_of trees c.as_slice-in-Branch.result.now)) c.branch-alloc.ensures.fate in
+    (now g.S.Store.trees c.branch-alloc.new.kernel c.branch-alloc.new.trace) c.branch-alloc.result) (sym (count_of trees c.as_slice-in-Branch.result.now)) c.branch-alloc.ensures.fate in
     subst (λ (a : TreeTactic). Becomes (on_one a c.args.goal) (now g.S.Store.trees c.args.kernel.now c.args.trace.now) (now g.S.Store.trees c.branch-alloc.new.kernel c.branch-alloc.new.trace) c.branch-alloc.result) (sym same) counted

@@ -68,12 +68,13 @@ returns-clause-done g c =
     let rows = begun_rows trees old (facts trees new) c.in_ok-alone_right.field-0 c.args.model c.requires.none c.in_ok-alone_right.ensures c.in-Ok.ensures.ok in
     let made = c.in_ok-push.ensures.items ∙ ap (λ xs. xs ++ step.Start c.in_ok-alone_right.field-0 ∷ []) c.new.ensures.items in
     let steps = begun_steps (trees old.store) (trees new.store) c.push.new.self.items c.in_ok-alone_right.field-0 c.args.model keeps c.requires.model c.in_ok-alone_right.ensures made in
-    let same = tactic_same (trees old.store) (trees new.store) keeps c.args.strategy.now c.requires.runnable.known in
-    (c.in_ok-run_on.field-0,
-    model_done (tactic_at (trees old.store) c.args.strategy.now) (tactic_at (trees new.store) c.args.strategy.now) (tree (trees old.store) c.args.model)
-    (now trees new (record { steps = c.push.new.self; used = 0 }))
-    (record { formed = c.requires.formula; small = c.requires.small; shallow = c.requires.shallow }) same (λ i. record { steps = steps i; rows = rows i; used = 0 })
-    (now trees c.run_on.new.kernel c.run_on.new.trace) c.in_ok-run_on.field-0 c.in_ok-run_on.ensures.fate)
+    let same = tactic_same (trees old.store) (trees new.store) keeps c.args.strategy.now c.requires.runnable.known in (
+      c.in_ok-run_on.field-0,
+      model_done (tactic_at (trees old.store) c.args.strategy.now) (tactic_at (trees new.store) c.args.strategy.now) (tree (trees old.store) c.args.model)
+          (now trees new (record { steps = c.push.new.self; used = 0 }))
+          (record { formed = c.requires.formula; small = c.requires.small; shallow = c.requires.shallow }) same (λ i. record { steps = steps i; rows = rows i; used = 0 })
+          (now trees c.run_on.new.kernel c.run_on.new.trace) c.in_ok-run_on.field-0 c.in_ok-run_on.ensures.fate,
+    )
 
 pub returns-clause-grows : goal.returns-clause-grows
 returns-clause-grows g c =
