@@ -6,12 +6,14 @@ and its leaf, is done anew, cut into a main proof, and merged into it. The last 
 400,000 lines about 60 MB. Printed are the growth from 10,000 to 100,000 lines and over the last two terms, and the peak of memory a byte
 of term. Last come 400,001 lines of one axiom, which are one too many.
 
-Run it after `./dlk` has built the program. `metamath` and `set.mm` are those of Debian's packages metamath and metamath-databases.
+A small program runs each in a process of its own, since a process that Python starts counts Python's memory as its own. Run it after
+`./dlk` has built the program. It needs a C compiler. Arguments are paths of programs, each timed in turn in the place of the built one: the
+last one is set against metamath. `metamath` and `set.mm` are those of Debian's packages metamath and metamath-databases.
 """
-import os
 import pathlib
 import re
 import subprocess
+import sys
 import tempfile
 
 from common import PROGRAM, TOP
@@ -22,6 +24,27 @@ COUNTS = (1_000, 3_000, 10_000, 30_000, 100_000)
 LONG_COUNTS = (40_000, 400_000)
 LONG_NAME = "x" * 120
 RUNS = 3
+SPENT = r"""
+#define _DEFAULT_SOURCE
+#include <stdio.h>
+#include <sys/resource.h>
+#include <sys/wait.h>
+#include <unistd.h>
+static double of(struct timeval t) { return t.tv_sec + t.tv_usec / 1e6; }
+int main(int count, char **words) {
+  pid_t child = fork();
+  if (child == 0) {
+    execvp(words[2], words + 2);
+    _exit(127);
+  }
+  int status;
+  struct rusage used;
+  FILE *to = fopen(words[1], "w");
+  if (child < 0 || !to || wait4(child, &status, 0, &used) != child) return 1;
+  fprintf(to, "%f %ld", of(used.ru_utime) + of(used.ru_stime), used.ru_maxrss);
+  return fclose(to) != 0;
+}
+"""
 
 
 def shifted(line, by):
@@ -52,47 +75,64 @@ def term(count, name="x"):
     return "\n".join(lines) + "\ndone\n", len(lines)
 
 
+def built(folder):
+    """The small program that runs another one, and writes its processor time and its peak of memory to a file."""
+    (folder / "spent.c").write_text(SPENT)
+    program = folder / "spent"
+    subprocess.run(["cc", "-o", program, folder / "spent.c"], check=True)
+    return program
+
+
 def spent(words, expected, runs=RUNS):
     """The least processor time of some runs, and the peak of memory in bytes."""
     best, peak = float("inf"), 0
-    for _ in range(runs):
-        with tempfile.TemporaryFile() as out:
-            run = subprocess.Popen(words, stdout=out, stderr=subprocess.STDOUT)
-            _, _, used = os.wait4(run.pid, 0)
-            out.seek(0)
-            printed = out.read().decode(errors="replace")
-        if expected not in printed:
-            raise SystemExit(f"check.py: {words}: {printed[:200]}")
-        best = min(best, used.ru_utime + used.ru_stime)
-        peak = max(peak, used.ru_maxrss * 1024)
+    with tempfile.TemporaryDirectory() as name:
+        folder = pathlib.Path(name)
+        program = built(folder)
+        for _ in range(runs):
+            run = subprocess.run([program, folder / "used", *words], stdout=subprocess.PIPE, stderr=subprocess.STDOUT, check=True)
+            printed = run.stdout.decode(errors="replace")
+            if expected not in printed:
+                raise SystemExit(f"check.py: {words}: {printed[:200]}")
+            seconds, kilobytes = (folder / "used").read_text().split()
+            best = min(best, float(seconds))
+            peak = max(peak, int(kilobytes) * 1024)
     return best, peak
 
 
-def checked(folder, title, text, expected, runs=RUNS):
-    """The processor time of `check` on a term, which is printed as a rate."""
+def checked(folder, title, text, expected, program, runs=RUNS):
+    """The processor time of the program's `check` on a term, which is printed as a rate."""
     model, file = folder / "model", folder / "term"
     model.write_text("x>=0 -> x>=0\n")
     file.write_text(text)
-    seconds, peak = spent([PROGRAM, "check", model, file], expected, runs)
+    seconds, peak = spent([program, "check", model, file], expected, runs)
     print(f"{title}, {len(text)} bytes: {len(text) / seconds / 1e6:.2f} million bytes a second, peak {peak / len(text):.0f} bytes a byte", flush=True)
     return seconds, len(text) / seconds
 
 
-def main():
-    """Prints a line for each term, and one for metamath."""
+def rates_of(program):
+    """Prints a line for each term, and answers the rates."""
     times, rates = {}, {}
     with tempfile.TemporaryDirectory() as name:
         folder = pathlib.Path(name)
         for count in COUNTS:
             text, lines = term(count)
-            times[count], rates[count] = checked(folder, f"{lines} lines", text, "closed")
+            times[count], rates[count] = checked(folder, f"{lines} lines", text, "closed", program)
         print(f"from 10,000 to 100,000 lines the time grows {times[100_000] / times[10_000]:.1f} times")
         for count in LONG_COUNTS:
             text, lines = term(count, LONG_NAME)
-            times[count], rates[count] = checked(folder, f"{lines} long lines", text, "closed", 1)
+            times[count], rates[count] = checked(folder, f"{lines} long lines", text, "closed", program, 1)
         print(f"from 40,000 to 400,000 long lines the time grows {times[400_000] / times[40_000]:.1f} times")
         axioms = "".join(f"{k} axiom eqrefl\n" for k in range(1, 400_002)) + "done\n"
-        checked(folder, "400001 lines of one axiom", axioms, "refused: line 400001: LinesFull")
+        checked(folder, "400001 lines of one axiom", axioms, "refused: line 400001: LinesFull", program)
+    return rates
+
+
+def main():
+    """Times each program, and metamath."""
+    for program in [pathlib.Path(word) for word in sys.argv[1:]] or [PROGRAM]:
+        print(program)
+        rates = rates_of(program)
     if SET_MM.exists():
         size = SET_MM.stat().st_size
         seconds, peak = spent(["metamath", f"read '{SET_MM}'", "verify proof *", "exit"], "All proofs in the database were verified")

@@ -3,22 +3,26 @@
 
 Each time is the least processor time of some runs, less that of a file of one variable. Run it after `./dlk` has built the
 program.
-A number as argument is the greatest number of nodes.
+A number as argument is the greatest number of nodes. More arguments are paths of programs, each timed in turn in the place of the
+built one: so an old program runs beside a new one. A result that doubles at each level is timed last, for the built program or
+the last one that is given; without a table of results it never ends.
 """
 import pathlib
 import sys
 import tempfile
 
-from common import least_processor_time
+from common import PROGRAM, least_processor_time
 
 # numbers of nodes, each four times the one before
 SIZES = (1000, 4000, 16000, 64000)
 BINDERS = (0, 10, 100)
-# loops cost nodes times nodes
+# without a table of results loops cost nodes times nodes
 FEW_SIZES = (250, 1000, 4000)
-FEW_BINDERS = (0, 10)
+FEW_BINDERS = (0, 10, 100)
 # the applications of one conjunct
 LENGTH = 100
+# a result that doubles at each of so many levels
+LEVELS = 40
 
 
 def body(nodes):
@@ -52,35 +56,46 @@ SHAPES = (
 )
 
 
-def seconds(folder, text, pairs, runs):
-    """The least time of a run on this text and these pairs."""
+def seconds(folder, text, pairs, runs, program):
+    """The least time of a run of the program on this text and these pairs."""
     file = folder / "file"
     subst = folder / "subst"
     file.write_text(text)
     subst.write_text(pairs)
     is_too_big = b"refused: result-too-big"
-    return least_processor_time(runs, ["subst", file, subst], lambda run: run.returncode == 0 or run.stdout.startswith(is_too_big))
+    return least_processor_time(runs, ["subst", file, subst], lambda run: run.returncode == 0 or run.stdout.startswith(is_too_big), program)
 
 
 def main():
-    """Prints a line for each shape, number of binders and size."""
+    """Times each program, and at last the result that doubles."""
     most = int(sys.argv[1]) if len(sys.argv) > 1 else SIZES[-1]
     with tempfile.TemporaryDirectory() as name:
         folder = pathlib.Path(name)
-        base = seconds(folder, "x", "", 20)
-        for title, text_of, pairs, sizes, all_binders in SHAPES:
-            bare = {}
-            for binders in all_binders:
-                last = None
-                for nodes in sizes:
-                    if nodes > most:
-                        continue
-                    took = seconds(folder, text_of(nodes, binders), pairs, 5) - base
-                    bare.setdefault(nodes, took)
-                    ratio = f", {took / last:.1f} times that of a quarter of the nodes" if last else ""
-                    more = f", {took / bare[nodes]:.1f} times that under none" if binders else ""
-                    print(f"{title}: {nodes} nodes under {binders} binders, {took / base:.2f} of a run on one variable{ratio}{more}")
-                    last = took
+        programs = [pathlib.Path(word) for word in sys.argv[2:]] or [PROGRAM]
+        for program in programs:
+            print(program)
+            time_shapes(folder, most, program)
+        base = seconds(folder, "x", "", 20, programs[-1])
+        took = seconds(folder, "f(" * LEVELS + "x" + ")" * LEVELS + ">=0", "f(._0)~>._0+._0", 5, programs[-1])
+        print(f"a result that doubles {LEVELS} times is refused in {took / base:.2f} of a run on one variable")
+
+
+def time_shapes(folder, most, program):
+    """Prints a line for each shape, number of binders and size."""
+    base = seconds(folder, "x", "", 20, program)
+    for title, text_of, pairs, sizes, all_binders in SHAPES:
+        bare = {}
+        for binders in all_binders:
+            last = None
+            for nodes in sizes:
+                if nodes > most:
+                    continue
+                took = seconds(folder, text_of(nodes, binders), pairs, 5, program) - base
+                bare.setdefault(nodes, took)
+                ratio = f", {took / last:.1f} times that of a quarter of the nodes" if last else ""
+                more = f", {took / bare[nodes]:.1f} times that under none" if binders else ""
+                print(f"{title}: {nodes} nodes under {binders} binders, {took / base:.2f} of a run on one variable{ratio}{more}")
+                last = took
 
 
 if __name__ == "__main__":

@@ -1,16 +1,16 @@
 #!/usr/bin/env python3
 """How the time of `dlk vars` grows with its file and with the number of names: ratios of one run.
 
-The store asks for each name, plain and primed, of the whole tree, so the time grows with nodes times names. Each time is the
-processor time of the program, the least of some runs, less that of a file of one variable. Run it after `./dlk` has built the
-program. A number as argument is the greatest number of nodes.
+The time is to grow with the nodes, whatever the number of names. Each time is the processor time of the program, the least of
+some runs, less that of a file of one variable. Run it after `./dlk` has built the program. A number as argument is the greatest
+number of nodes. More arguments are paths of programs, each timed in turn in the place of the built one.
 """
 import itertools
 import pathlib
 import sys
 import tempfile
 
-from common import least_processor_time
+from common import PROGRAM, least_processor_time
 
 # numbers of nodes, each four times the one before
 SIZES = (1000, 4000, 16000, 64000)
@@ -84,36 +84,42 @@ SHAPES = (
 )
 
 
-def seconds(path, text):
-    """The least time of a run on this text: of many runs where one is short."""
+def seconds(path, text, program):
+    """The least time of a run of the program on this text: of many runs where one is short."""
     path.write_text(text)
-    return least_processor_time(20 if len(text) < 20000 else 5, ["vars", path], lambda run: run.returncode == 0)
+    return least_processor_time(20 if len(text) < 20000 else 5, ["vars", path], lambda run: run.returncode == 0, program)
 
 
-def growth(path, title, texts, base):
+def growth(path, title, texts, base, program):
     """Prints a line for each number of nodes, with its number of names and its text, and answers the times."""
     times = []
     for nodes, count, text in texts:
-        took = seconds(path, text) - base
+        took = seconds(path, text, program) - base
         ratio = f", {took / times[-1]:.1f} times that of the line above" if times else ""
         print(f"{title}: {nodes} nodes, {count} names, {took / base:.2f} of a run on one variable{ratio}")
         times.append(took)
     return times
 
 
-def main():
+def time_shapes(path, sizes, program):
     """Prints the lines of each shape with few names and with many, and how much the many cost."""
+    base = seconds(path, "x", program)
+    for title, text_of in SHAPES:
+        few = [(nodes, FEW, text_of(nodes, FEW)) for nodes in sizes]
+        many = [(nodes, nodes // NODES_OF_A_NAME, text_of(nodes, nodes // NODES_OF_A_NAME)) for nodes in sizes]
+        times = zip(many, growth(path, title, few, base, program), growth(path, title, many, base, program))
+        for (nodes, count, _), one, other in times:
+            print(f"{title}: {nodes} nodes, {count} names cost {other / one:.1f} times what {FEW} names cost")
+
+
+def main():
+    """Times each program."""
     most = int(sys.argv[1]) if len(sys.argv) > 1 else SIZES[-1]
     sizes = [nodes for nodes in SIZES if nodes <= most]
     with tempfile.TemporaryDirectory() as folder:
-        path = pathlib.Path(folder) / "file"
-        base = seconds(path, "x")
-        for title, text_of in SHAPES:
-            few = [(nodes, FEW, text_of(nodes, FEW)) for nodes in sizes]
-            many = [(nodes, nodes // NODES_OF_A_NAME, text_of(nodes, nodes // NODES_OF_A_NAME)) for nodes in sizes]
-            times = zip(many, growth(path, title, few, base), growth(path, title, many, base))
-            for (nodes, count, _), one, other in times:
-                print(f"{title}: {nodes} nodes, {count} names cost {other / one:.1f} times what {FEW} names cost")
+        for program in [pathlib.Path(word) for word in sys.argv[2:]] or [PROGRAM]:
+            print(program)
+            time_shapes(pathlib.Path(folder) / "file", sizes, program)
 
 
 if __name__ == "__main__":

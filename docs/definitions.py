@@ -30,7 +30,13 @@ LIBRARY = "std"
 # Paths with this front are types of the code.
 DECLARED = "declared."
 
-IMPORT = re.compile(r"^use Rattle\.(\w+)\.specs\.([\w.]+?)(?:\.\{(.*)\}| as (\S+))$", re.MULTILINE)
+# The constants of a file of code, among its types.
+CONSTANTS = "TheConstants"
+
+# The head of a module without a name begins so.
+MODULE_HEAD = "module _"
+
+IMPORT = re.compile(r"^(?:pub )?use Rattle\.(\w+)\.specs\.([\w.]+?)(?:\.\{(.*)\}| as (\S+))$", re.MULTILINE)
 TYPE_NAME = re.compile(r"^\s*(?:abbrev )?(?:pub )?(?:data|record) (\S+)")
 FUNCTION_NAME = re.compile(r"^(?:abbrev|unfoldable) (?:pub )?(\S+) :")
 MUTUAL_FUNCTION_NAME = re.compile(r"^\s+pub (\S+) :")
@@ -50,7 +56,9 @@ class Reference(NamedTuple):
         return self.path.replace(".", "/")
 
     def rust_type(self):
-        """The name of the type of the code: of it, or of the type that has it as a variant."""
+        """The name of the type of the code: of it, or of the type that has it as a variant. A constant has its own."""
+        if self.path.endswith(CONSTANTS):
+            return self.name
         parts = self.path.split(".")[1:]
         return [part for part in parts if part[0].isupper() and part != "TheVariants"][-1]
 
@@ -120,9 +128,20 @@ def paragraphs(text):
     return found + [current] if current else found
 
 
+def without_modules(text):
+    """The text with what stands in a module without a name as if it stood outside: an empty line behind its head, and no indent."""
+    lines, inside = [], False
+    for line in text.split("\n"):
+        inside = line.startswith(MODULE_HEAD) or (inside and (line.startswith("  ") or not line.strip()))
+        lines.append(line.removeprefix("  ") if inside else line)
+        if line.startswith(MODULE_HEAD):
+            lines.append("")
+    return "\n".join(lines)
+
+
 def is_code(line):
-    """Whether a line counts: no comment, no import, not empty."""
-    return bool(line.strip()) and not line.strip().startswith("--") and not line.startswith("use ")
+    """Whether a line counts: no comment, no import, no head of a module, not empty."""
+    return bool(line.strip()) and not line.strip().startswith("--") and not line.startswith(("use ", "pub use ", MODULE_HEAD))
 
 
 def defined_names(code):
@@ -139,7 +158,7 @@ def comment_above(paragraph):
     for line in paragraph:
         if line.startswith("--"):
             comment.append(line[2:].strip())
-        elif line.startswith("use "):
+        elif line.startswith(("use ", "pub use ")):
             comment = []
         else:
             break
@@ -162,7 +181,7 @@ def read_spec_file(crate, file):
     """Reads a file of definitions."""
     text = read(spec_path(crate, file))
     definitions, by_name = [], {}
-    for paragraph in paragraphs(text):
+    for paragraph in paragraphs(without_modules(text)):
         code = tuple(line for line in paragraph if is_code(line))
         if not code:
             continue
@@ -232,7 +251,7 @@ def reference_of(word, definition, spec_file):
         if name in spec_file.imports:
             return spec_file.imports[name]
     module, _, name = word.partition(".")
-    return Reference(*spec_file.modules[module], name) if module in spec_file.modules else None
+    return Reference(*spec_file.modules[module], name) if name and module in spec_file.modules else None
 
 
 def starts_of(data):
@@ -262,9 +281,14 @@ def other_sources_of(section):
     return {name: source for source, names in groups.items() for name in names}
 
 
+def crate_of(rust_type, section):
+    """The crate of a type of the code: that of the section, unless the type has its own."""
+    return rust_type.get("crate", section["crate"])
+
+
 def is_named(rust_type):
     """Whether definitions name a type of the code. A model and a member of a trait are seen without their names."""
-    return rust_type["start"].startswith("pub ")
+    return rust_type["start"].startswith(("pub ", "const "))
 
 
 # The checks
@@ -277,7 +301,7 @@ def check_all_listed(walk, sections):
         if (definition.crate, definition.file) not in listed_files:
             place = spec_path(definition.crate, definition.file)
             stop(f"{definition.names[0]} is reached, but no section lists {place}")
-    listed_types = {(section["crate"], rust_type["name"]) for section in sections for rust_type in types_of(section)}
+    listed_types = {(crate_of(rust_type, section), rust_type["name"]) for section in sections for rust_type in types_of(section)}
     for crate, name in sorted(walk.rust_types - listed_types):
         stop(f"the type {name} of {crate} is reached, but no section lists it")
 
@@ -294,7 +318,7 @@ def check_all_reached(walk, sections):
             if name not in reached:
                 stop(f"the section of {place} lists {name}, which is not reached")
         for rust_type in types_of(section):
-            if is_named(rust_type) and (section["crate"], rust_type["name"]) not in walk.rust_types:
+            if is_named(rust_type) and (crate_of(rust_type, section), rust_type["name"]) not in walk.rust_types:
                 stop(f"the section of {place} lists the type {rust_type['name']}, which is not reached")
 
 
@@ -302,7 +326,7 @@ def check_reading_order(walk, sections):
     """Stops where a definition refers to something of a later section."""
     places = {(section["crate"], section["file"]): number for number, section in enumerate(sections)}
     for number, section in enumerate(sections):
-        places.update({(section["crate"], "type", rust_type["name"]): number for rust_type in types_of(section)})
+        places.update({(crate_of(rust_type, section), "type", rust_type["name"]): number for rust_type in types_of(section)})
     for definition, references in walk.references.items():
         for reference in references:
             if reference.path.startswith(DECLARED):
@@ -336,7 +360,7 @@ def type_lines(crate, rust_type):
         code = line.strip()
         if code and not code.startswith(("//", "#[", "ghost use")):
             count += 1
-        if line.startswith("}") or (is_member and code.endswith("};")):
+        if line.startswith(("}", "];")) or (is_member and code.endswith("};")):
             break
     return count
 
@@ -363,7 +387,7 @@ def rows_of(section, walk):
     """The rows of a section: what is defined, what it says, its source, and its lines."""
     rows = []
     for rust_type in types_of(section):
-        lines = type_lines(section["crate"], rust_type)
+        lines = type_lines(crate_of(rust_type, section), rust_type)
         rows.append((type_label(rust_type), rust_type["says"], rust_type["source"], lines))
     other_sources = other_sources_of(section)
     for definition in walk.reached_in(section):

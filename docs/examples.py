@@ -8,6 +8,7 @@ commands of a document are run one after another. A folder of their own stands f
 A command is passed over where a tool behind a `|` isn't there.
 """
 
+import shlex
 import shutil
 import subprocess
 import sys
@@ -54,8 +55,9 @@ def printed_by(command, folder):
 
 
 def has_tools(command):
-    """Whether the tool behind each `|` is there."""
-    return all(shutil.which(part.split()[0]) for part in command.split(" | ")[1:])
+    """Whether the tool behind each `|` is there. One between quotes pipes nothing."""
+    words = shlex.split(command, posix=False)
+    return all(shutil.which(tool) for bar, tool in zip(words, words[1:]) if bar == "|")
 
 
 def differences(document):

@@ -1,5 +1,6 @@
 #!/usr/bin/env python3
-"""Checks each term of `examples` by the program: each must be closed, and `report` must say the same as `check`.
+"""Checks each term of `examples` by the program: each must be closed, and `report` must say the same as `check`. Where a strategy
+stands beside it, `prove` must print the same report, and what it writes must be accepted with it.
 
 It also looks whether the tests of `dlk_answers` have the same terms. Those of `unsound` and `constants` stand in no test: they
 are run by this script alone. Those of `unsound` must be closed, too, and their models must be `false`: that is what they
@@ -8,6 +9,7 @@ show. Run it after `./dlk` has built the program.
 import json
 import pathlib
 import subprocess
+import tempfile
 
 EXAMPLES = pathlib.Path(__file__).resolve().parent
 PROGRAM = EXAMPLES.parent / "crates" / "dlk" / "out" / "dlk"
@@ -38,6 +40,16 @@ def as_text(report):
     return "\n".join(lines) + "\n"
 
 
+def proved(example, text):
+    """Proves an example by its strategy: the report must be this one, and that of what is written, too."""
+    with tempfile.TemporaryDirectory() as folder:
+        term = pathlib.Path(folder) / "term"
+        for words in (["prove", example / "model", example / "strategy", term], ["check", example / "model", term]):
+            run = subprocess.run([PROGRAM, *words], capture_output=True, check=False)
+            if run.stdout.decode() != text:
+                stop(example, f"{words[0]}: status {run.returncode}, {run.stdout.decode().strip()}")
+
+
 def checked(example):
     """The report of an example, which must be closed, and the same in both layouts."""
     text = printed("check", example)
@@ -46,6 +58,8 @@ def checked(example):
     report = json.loads(printed("report", example))
     if as_text(report) != text:
         stop(example, "the two reports differ")
+    if (example / "strategy").exists():
+        proved(example, text)
     return report
 
 

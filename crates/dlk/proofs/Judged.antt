@@ -16,7 +16,8 @@ use Rattle.dlk_answers.specs.Inputs.{first_too_long, inputs, inputs_of_form}
 use Rattle.dlk_answers.specs.Replies.{Reply, code_of}
 use Rattle.dlk_answers.specs.Checks.{Checks, bad_model, bad_line, bad_conclusion, reports, ModelText, proves, status_of, line_refused, other_conclusion, reported}
 use Rattle.dlk_answers.specs.Answers.{Does, Responds, refuses, does}
-use Rattle.dlk_answers.proofs.OneReply.{one_check, one_model, model_or_fault}
+use Rattle.dlk_answers.proofs.Ends.{one_model, model_or_fault}
+use Rattle.dlk_answers.proofs.OneReply.{one_check}
 use Rattle.dlk.specs.Answers.{bytes_of, Answers, no_form, command}
 use Rattle.dlk.specs.Headline.{command_in, RunsCheck, IsReported, NamesLine, NamesConclusion, Judges, JudgesTruly}
 use Rattle.dlk.proofs.Truly.{accepted_derived}

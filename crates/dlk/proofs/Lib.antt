@@ -6,4 +6,6 @@ pub mod SomeAnswer
 pub mod Given
 pub mod Ran
 pub mod Truly
+pub mod Written
 pub mod Judged
+pub mod Looked

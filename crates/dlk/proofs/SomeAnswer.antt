@@ -6,7 +6,7 @@ use Rattle.dlk_answers.specs.Forms.{Word, form_of, command_of, inputs_of}
 use Rattle.dlk_answers.specs.Inputs.{inputs, inputs_of_form}
 use Rattle.dlk_answers.specs.Replies.{Reply, refused_words}
 use Rattle.dlk_answers.proofs.Fits.{long_enough}
-use Rattle.dlk_answers.proofs.SomeReply.{some_response}
+use Rattle.dlk_answers.specs.Answers.{Responds}
 use Rattle.dlk.specs.Answers.{bytes_of, Answers, no_form, command}
 
 there : {A : Type 0} (o : Option A) → IsSome o → (x : A) × (o ≡ Some x)
@@ -36,8 +36,13 @@ names_fit words c is =
     let enough : 1 + length (form_of c).inputs ≤ length words = long_enough words c is in
     omega (arith, enough, length-take (length (form_of c).inputs) (drop 1 words), length-drop 1 words)
 
-pub some_reply : (words : List Word) (files : Files) → IsSome (bytes_of files (inputs words)) → (reply : Reply) × Answers words files reply
-some_reply words files have = by_form (command_of words) refl
+-- a command answers something to words of its form and to as many texts as it has inputs
+abbrev pub SomeResponse : Type 0
+SomeResponse = (command : Command) (words : List Word) (texts : List (List ℕ)) → command_of words ≡ Some command → length texts ≡ length (form_of command).inputs →
+    (reply : Reply) × Responds command words texts reply
+
+pub some_reply : SomeResponse → (words : List Word) (files : Files) → IsSome (bytes_of files (inputs words)) → (reply : Reply) × Answers words files reply
+some_reply some_response words files have = by_form (command_of words) refl
   where
     by_form : (form : Option Command) → command_of words ≡ form → (reply : Reply) × Answers words files reply
     by_form None is = (refused_words, no_form is)

@@ -8,22 +8,33 @@ use Rattle.dlk_replay.specs.Files.{Verdict, bad, file_lines}
 use Rattle.dlk_replay.specs.declared.fault.LineWhy.{LineWhy}
 use Rattle.dlk_report.specs.Reports.{text_report}
 use Rattle.dlk_answers.specs.declared.command.Command.{Command}
-use Rattle.dlk_answers.specs.declared.command.Command.TheVariants.{Check, Print, Vars, Subst, Report}
+use Rattle.dlk_answers.specs.declared.command.Command.TheVariants.{Check, Print, Vars, Subst, Report, Prove}
 use Rattle.dlk_answers.specs.declared.reply.Layout.{Layout}
 use Rattle.dlk_answers.specs.declared.reply.Layout.TheVariants.{Text, Json}
 use Rattle.dlk_answers.specs.declared.form.Role.TheVariants.{Model, Term}
 use Rattle.dlk_answers.specs.Forms.{Word, command_of, limit_of}
-use Rattle.dlk_answers.specs.Inputs.{inputs}
-use Rattle.dlk_answers.specs.Checks.{ModelText, proves, Accepts, report_in, line_refused, other_conclusion}
+use Rattle.dlk_answers.specs.Inputs.{inputs, output}
+use Rattle.dlk_answers.specs.Replies.{Reply, code_of}
+use Rattle.dlk_answers.specs.Checks.{Checks, ModelText, proves, Accepts, report_in, line_refused, other_conclusion}
 use Rattle.dlk.specs.Answers.{bytes_of}
 
--- The model and the term of which a command speaks where it prints `closed`: `check` has read both. The others print no report as text.
+-- `prove` was run on this model and a strategy, and this term stands in the file that it writes.
+pub record WritesTerm (words : List Word) (old new : Outside) (model term : List ℕ) : Type 0 where
+  pub strategy : List ℕ
+  pub texts : bytes_of old.files (inputs words) ≡ Some (model ∷ strategy ∷ [])
+  pub name : Word
+  pub named : output words ≡ Some name
+  pub written : new.files name ≡ Some term
+
+-- The model and the term of which a command speaks where it prints `closed`: `check` has read both, and `prove` has read the one and written
+-- the other. The others print no report as text.
 abbrev pub SpeaksOf : Command → List Word → Outside → Outside → List ℕ → List ℕ → Type 0
 SpeaksOf Check words old new model term = bytes_of old.files (inputs words) ≡ Some (model ∷ term ∷ [])
 SpeaksOf Print words old new model term = ⊥
 SpeaksOf Vars words old new model term = ⊥
 SpeaksOf Subst words old new model term = ⊥
 SpeaksOf Report words old new model term = ⊥
+SpeaksOf Prove words old new model term = WritesTerm words old new model term
 
 -- what is printed of a text by the status: with 0 the whole, and with 5 a front
 pub data IsGiven (whole : List ℕ) : ℕ → List ℕ → Type 0 where
@@ -102,3 +113,17 @@ abbrev pub JudgesTruly : List Word → ℕ → Outside → Outside → Type 0
 JudgesTruly words status old new =
     (layout : Layout) (model term said : List ℕ) (f : Tree) → RunsCheck layout words old model term → length model ≤ limit_of Model → length term ≤ limit_of Term →
     ModelText model f → new.printed ≡ old.printed ++ said → Judges layout term f status said
+
+-- The term is within the limit, and `check` answers to it with this status and what is printed.
+pub record IsAccepted (model term : List ℕ) (status : ℕ) (said : List ℕ) : Type 0 where
+  pub short : length term ≤ limit_of Term
+  pub reply : Reply
+  pub checks : Checks Text model term reply
+  pub status_is : code_of reply.status ≡ status
+  pub said_is : reply.printed ≡ said
+
+-- What `prove` writes is accepted by `check`, with the same report and the same status.
+abbrev pub ProvesTruly : List Word → ℕ → Outside → Outside → Type 0
+ProvesTruly words status old new =
+    (model term said : List ℕ) → command_of words ≡ Some Prove → WritesTerm words old new model term → status < 2 →
+    new.printed ≡ old.printed ++ said → IsAccepted model term status said

@@ -4,3 +4,4 @@ pub mod Runs
 pub mod Headline
 pub mod Cuts
 pub mod NoAnswers
+pub mod Looks

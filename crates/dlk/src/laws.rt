@@ -1,4 +1,4 @@
-//! The laws of the program's answers. Each is a contract of a function that does nothing.
+//! The laws of the program's answers. Each is a contract of a function that does nothing but call the law below it.
 ghost use Rattle.std.specs.Prelude.{◌≡◌, List, IsSome};
 ghost use Rattle.dlk_desk.specs.Outside.{Files};
 ghost use Rattle.dlk_answers.specs.Forms.{Word};
@@ -6,12 +6,18 @@ ghost use Rattle.dlk_answers.specs.Inputs.{inputs};
 ghost use Rattle.dlk_answers.specs.Replies.{Reply as TheReply};
 ghost use Rattle.dlk.specs.Answers.{bytes_of, Answers};
 
+use dlk_answers::laws::{one_response, some_response};
+
 /// There is one answer to words and files.
 pub fn one_reply()
     ensures { (words : List Word) (files : Files) (one other : TheReply) → Answers words files one → Answers words files other → one ≡ other }
-{}
+{
+    one_response();
+}
 
 /// Where each input is there, something is answered to words and files.
 pub fn some_reply()
     ensures { (words : List Word) (files : Files) → IsSome (bytes_of files (inputs words)) → (reply : TheReply) × Answers words files reply }
-{}
+{
+    some_response();
+}

@@ -10,10 +10,12 @@ ghost use Rattle.dlk_answers.specs.Shown.{texts_of, reply_of};
 ghost use Rattle.dlk.specs.Cuts.{cut_bytes_of};
 ghost use Rattle.dlk.specs.Answers.{Answers};
 ghost use Rattle.dlk.specs.Runs.{Caused, AsksFor, Asks, Keeps, HasInputs, Answered, Completes};
-ghost use Rattle.dlk.specs.Headline.{ClosedTruly, JudgesTruly};
+ghost use Rattle.dlk.specs.Headline.{ClosedTruly, JudgesTruly, ProvesTruly};
+ghost use Rattle.dlk.specs.Looks.{LooksAtFewFor, LooksAtFew};
 
 use crate::fault::NoAnswer;
 use crate::give::give;
+use dlk_answers::laws::proved_is_checked;
 use dlk_answers::{Command, Reply, Role, output, respond, words_refused};
 use dlk_desk::Desk;
 use dlk_store::Steps;
@@ -70,6 +72,7 @@ fn work<D: Desk, L: Ledger>(
     ensures all { OnOk result ((D.outside desk.new).asked ≡ (D.outside desk.old).asked ++ inputs_named (map string_bytes words.now)) }
     ensures asks { (count : ℕ) × AsksFor D.tells (inputs_named (map string_bytes words.now)) (limits_named (map string_bytes words.now)) count (D.outside desk.old) (D.outside desk.new) }
     ensures only { OnlyReads D.tells (D.outside desk.old) (D.outside desk.new) }
+    ensures looks { D.tells → LooksAtFewFor (map string_bytes words.now) (D.outside desk.old).files steps.old steps.new }
 {
     let Some(command) = Command::parse(words) else {
         return Ok(words_refused(alloc)?);
@@ -93,6 +96,8 @@ pub fn run<D: Desk, L: Ledger>(
     ensures closed_truly { D.tells → ClosedTruly (map string_bytes words.now) result (D.outside desk.old) (D.outside desk.new) }
     // A term is accepted exactly where each of its lines is a step, and else its first wrong line is named.
     ensures judges_truly { D.tells → JudgesTruly (map string_bytes words.now) result (D.outside desk.old) (D.outside desk.new) }
+    // What `prove` writes is accepted by `check`, with the same report and the same status.
+    ensures proves_truly { D.tells → ProvesTruly (map string_bytes words.now) result (D.outside desk.old) (D.outside desk.new) }
     // On every desk: each status has its cause.
     ensures caused { Caused (map string_bytes words.now) result (D.outside desk.old) (D.outside desk.new) }
     // On every desk: what is asked for are the inputs of the words in their order, and of the last of them little is taken.
@@ -105,7 +110,10 @@ pub fn run<D: Desk, L: Ledger>(
     ensures answered { D.tells → HasInputs (map string_bytes words.now) (D.outside desk.old) → Answered (map string_bytes words.now) result (D.outside desk.old) (D.outside desk.new) }
     // Where moreover no count of faults rose: the answer, or want of memory.
     ensures completes { D.tells → HasInputs (map string_bytes words.now) (D.outside desk.old) → Completes (map string_bytes words.now) result (D.outside desk.old) (D.outside desk.new) }
+    // Where the result of a substitution is refused, few nodes were looked at.
+    ensures looks { D.tells → LooksAtFew (map string_bytes words.now) result (D.outside desk.old) (D.outside desk.new) steps.old steps.new }
 {
+    proved_is_checked();
     let reply = match work(alloc, words, desk, steps) {
         Ok(reply) => reply,
         Err(NoAnswer::Memory) => return NO_MEMORY,

@@ -160,3 +160,37 @@ fn gives_files_first(rt: HostRuntime) -> Result<(), Fail> {
     }
     Ok(())
 }
+
+/// A product of two equal products, and so on, so many times.
+fn squared(alloc: Global, times: usize) -> Result<Vec<u8>, AllocError> {
+    let mut text = b"f(x)".as_slice().to_vec(alloc)?;
+    for _ in 0..times {
+        let mut next = b"(".as_slice().to_vec(alloc)?;
+        next.extend_from_slice(&text)?;
+        next.extend_from_slice(b")*(")?;
+        next.extend_from_slice(&text)?;
+        next.push(b')')?;
+        text = next;
+    }
+    Ok(text)
+}
+
+/// A file of 3,073 nodes, of which 14 are unlike, and a replacement of 64 unlike ones. The result would have 131,073 nodes. By the clause
+/// `looks` of `run` no more than 14 * (1 + 64) + 2 are looked at.
+#[test]
+fn refuses_a_result(rt: HostRuntime) -> Result<(), Fail> {
+    let alloc = rt.alloc();
+    let mut file = squared(alloc, 10)?;
+    file.extend_from_slice(b">=0")?;
+    let mut pairs = b"f(._0)~>._0".as_slice().to_vec(alloc)?;
+    for _ in 1..64 {
+        pairs.extend_from_slice(b"+._0")?;
+    }
+    let mut desk = desk_of(alloc, &file, &pairs, 100, &[])?;
+    assert_eq!(rt;
+        status_of(alloc, &["subst", "model", "term"], &mut desk)?,
+        2
+    );
+    assert_eq!(rt; desk.printed(), b"refused: result-too-big\n".as_slice());
+    Ok(())
+}

@@ -3,8 +3,9 @@ use Rattle.std.proofs.Common.{◌≡◌, ◌<◌, ℕ, Bool, true, false, List, 
 use Rattle.dlk_grammar.specs.Readings.{Literal, Nesting, Syntax, Shape, TooBig, TooDeep}
 use Rattle.dlk_grammar.specs.Texts.{TextFault, BadByte, Unread}
 use Rattle.dlk_report.specs.Reports.{is_closed}
+use Rattle.dlk_tacsyn.specs.Faults.{Fault, Syntax as Syntax', Nesting as Nesting', Repeat, UnknownAtom, Arguments}
 use Rattle.dlk_answers.specs.declared.command.Command.{Command}
-use Rattle.dlk_answers.specs.declared.command.Command.TheVariants.{Check, Print, Vars, Subst, Report}
+use Rattle.dlk_answers.specs.declared.command.Command.TheVariants.{Check, Print, Vars, Subst, Report, Prove}
 use Rattle.dlk_answers.specs.declared.form.Role.{Role}
 use Rattle.dlk_answers.specs.declared.form.Role.TheVariants.{Model, File, Substitution}
 use Rattle.dlk_answers.specs.declared.reply.Layout.{Layout}
@@ -17,6 +18,7 @@ use Rattle.dlk_answers.specs.Checks.{Checks, bad_model, bad_line, bad_conclusion
 use Rattle.dlk_answers.specs.Prints.{Prints, bad_text, prints}
 use Rattle.dlk_answers.specs.Lists.{Lists, lists, bad_text as lists_fault}
 use Rattle.dlk_answers.specs.Substitutes.{Substitutes, bad_file, bad_subst, bad_pair, not_admissible, too_big, too_deep, prints as prints_result}
+use Rattle.dlk_answers.specs.Proves.{Proves, bad_model as proves_fault, bad_strategy, fails, spent, too_long as term_long, proves, strategy_refused}
 use Rattle.dlk_answers.specs.Answers.{Does, Responds, refuses, does}
 
 -- the reply of a command that was carried out
@@ -63,12 +65,35 @@ substitute_carried_out file substitution reply (too_big e pairs read t has past)
 substitute_carried_out file substitution reply (too_deep e pairs read t has small past) = printed_only _ _ (omega arith)
 substitute_carried_out file substitution reply (prints_result e pairs read t has small shallow) = printed_only _ _ (omega arith)
 
+strategy_carried_out : (why : Fault) → IsCarriedOut (strategy_refused why)
+strategy_carried_out (Syntax' at) = printed_only _ _ (omega arith)
+strategy_carried_out (Nesting' at) = printed_only _ _ (omega arith)
+strategy_carried_out (Repeat at) = printed_only _ _ (omega arith)
+strategy_carried_out (UnknownAtom at) = printed_only _ _ (omega arith)
+strategy_carried_out (Arguments at) = printed_only _ _ (omega arith)
+
+no_refusal : (b : Bool) → code_of (status_of b) ≡ 2 → ⊥
+no_refusal true e = omega (arith, e)
+no_refusal false e = omega (arith, e)
+
+prove_carried_out : (model strategy : List ℕ) (reply : Reply) → Proves model strategy reply → IsCarriedOut reply
+prove_carried_out model strategy reply (proves_fault why fault) = text_carried_out Model why
+prove_carried_out model strategy reply (bad_strategy f t why fault) = strategy_carried_out why
+prove_carried_out model strategy reply (fails at used why run) = printed_only _ _ (omega arith)
+prove_carried_out model strategy reply (spent at run) = printed_only _ _ (omega arith)
+prove_carried_out model strategy reply (term_long made left run long) = printed_only _ _ (omega arith)
+prove_carried_out model strategy reply (proves made left run short p ended) = record {
+  status = closed_or_open (is_closed p.goals);
+  refusal = λ e. absurd (no_refusal (is_closed p.goals) e);
+}
+
 job_carried_out : (command : Command) (others : List Word) (texts : List (List ℕ)) (reply : Reply) → Does command others texts reply → IsCarriedOut reply
 job_carried_out Check [] (model ∷ term ∷ []) reply h = check_carried_out Text model term reply h
 job_carried_out Print [] (file ∷ []) reply h = print_carried_out file reply h
 job_carried_out Vars [] (file ∷ []) reply h = list_carried_out file reply h
 job_carried_out Subst [] (file ∷ substitution ∷ []) reply h = substitute_carried_out file substitution reply h
 job_carried_out Report [] (model ∷ term ∷ []) reply h = check_carried_out Json model term reply h
+job_carried_out Prove (term ∷ []) (model ∷ strategy ∷ []) reply h = prove_carried_out model strategy reply h
 job_carried_out _ _ _ reply h = absurd h
 
 pub carried_out : (command : Command) (words : List Word) (texts : List (List ℕ)) (reply : Reply) → Responds command words texts reply → IsCarriedOut reply

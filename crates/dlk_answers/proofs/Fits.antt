@@ -1,7 +1,7 @@
 -- Words that have a form are as many as it has.
 use Rattle.std.proofs.Common.{◌≡◌, ℕ, ◌+◌, ◌-◌, ◌≤◌, Bool, true, false, cond, List, [], ◌∷◌, length, map, take, drop, get_or, Some, IsTrue, find, String, string_bytes, refl, sym, ap, ◌∙◌, arith, bytes_eq}
 use Rattle.std.specs.Prelude.{◌&&◌, nat_le}
-use Rattle.std.proofs.lemmas.List.{length-map, take-map}
+use Rattle.std.proofs.lemmas.List.{length-map, take-map, take_all, drop-drop, length-drop}
 use Rattle.std.specs.List.{drop-map}
 use Rattle.std.proofs.lemmas.Bool.{and_parts, leb-true, le-leb}
 use Rattle.std.specs.declared.alloc.Global.{Global}
@@ -53,6 +53,14 @@ names_there words command n count =
     let k = length (form_of command).inputs in
     let same : 1 + n - 1 ≡ k = omega (arith, count) in
     ap (λ (m : ℕ). map string_bytes (take m (drop 1 words))) same ∙ sym (take-map string_bytes k (drop 1 words)) ∙ ap (λ (ws : List (List ℕ)). take k ws) (sym (drop-map string_bytes 1 words))
+
+pub others_there : (words : List (String Global)) (command : Command) (n : ℕ) → n ≡ length (form_of command).inputs →
+    map string_bytes (take (length words - (1 + n)) (drop (1 + n) words)) ≡ others_of command (map string_bytes words)
+others_there words command n count =
+    let whole : take (length words - (1 + n)) (drop (1 + n) words) ≡ drop (1 + n) words = take_all (length words - (1 + n)) (drop (1 + n) words) (omega (arith, length-drop (1 + n) words)) in
+    let twice : drop (1 + n) words ≡ drop n (drop 1 words) = sym (drop-drop n 1 words) in
+    ap (map string_bytes) (whole ∙ twice) ∙ sym (drop-map string_bytes n (drop 1 words)) ∙ ap (λ (ws : List (List ℕ)). drop n ws) (sym (drop-map string_bytes 1 words))
+    ∙ ap (λ (m : ℕ). drop m (drop 1 (map string_bytes words))) count
 
 -- the first input that is too long is sought among these names and roles
 pub same_sought : (c : Command) (words names : List Word) (form : CodeForm) (texts : List (List ℕ)) → names ≡ inputs_of c words → form_shown form ≡ form_of c →

@@ -31,7 +31,7 @@ ended (x ∷ y ∷ items) some =
     let rest = ended (y ∷ items) (omega arith) in
     record { before = x ∷ rest.before; last = rest.last; is = ap (λ xs. x ∷ xs) rest.is }
 
-last_item : {A : Type 0} (items before : List A) (x : A) → items ≡ before ++ x ∷ [] → At items (length items) x
+pub last_item : {A : Type 0} (items before : List A) (x : A) → items ≡ before ++ x ∷ [] → At items (length items) x
 last_item items before x is =
     let count : length items ≡ length before + 1 = ap length is ∙ length_push before x in
     let place : length items - 1 ≡ length before = omega (arith, count) in

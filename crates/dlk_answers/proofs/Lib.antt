@@ -6,8 +6,16 @@ pub mod ListTexts
 pub mod ListAnswers
 pub mod SubstAnswers
 pub mod OneSubstitution
+pub mod FewLooks
+pub mod Ends
+pub mod StrategyLaws
+pub mod OneProof
+pub mod SomeProof
+pub mod ProveAnswers
 pub mod OneReply
 pub mod SomeListing
 pub mod SomeReply
 pub mod ConclusionText
 pub mod Judging
+pub mod RunSteps
+pub mod Rechecked

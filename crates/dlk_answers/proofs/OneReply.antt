@@ -19,10 +19,13 @@ use Rattle.dlk_answers.specs.Refusals.{text_refused}
 use Rattle.dlk_answers.specs.Checks.{Checks, bad_model, bad_line, bad_conclusion, reports, Accepts, ModelText, ModelFault, proves, line_refused, other_conclusion, reported}
 use Rattle.dlk_answers.specs.Prints.{Prints, bad_text, prints, printed}
 use Rattle.dlk_answers.specs.Lists.{Lists, lists, bad_text as lists_fault, IsWritten, AreWritten, set_listed, symbols_listed, set_text, signature_text, four_lines}
+use Rattle.dlk_answers.proofs.Ends.{one_last, one_model, model_or_fault}
 use Rattle.dlk_answers.proofs.OneSubstitution.{one_substitution}
+use Rattle.dlk_answers.proofs.OneProof.{one_prove}
+use Rattle.dlk_answers.proofs.StrategyLaws.{OneText, TextOrFault, OneFault, OneRun}
 use Rattle.dlk_answers.specs.Answers.{Does, Responds, refuses, does, too_long}
 use Rattle.dlk_answers.specs.declared.command.Command.{Command}
-use Rattle.dlk_answers.specs.declared.command.Command.TheVariants.{Check, Print, Vars, Subst, Report}
+use Rattle.dlk_answers.specs.declared.command.Command.TheVariants.{Check, Print, Vars, Subst, Report, Prove}
 use Rattle.dlk_answers.specs.declared.reply.Layout.{Layout}
 use Rattle.dlk_answers.specs.declared.reply.Layout.TheVariants.{Text, Json}
 
@@ -51,15 +54,6 @@ one_bad {n} {m} {why} {other} e =
     let reason : why ≡ other = cc in
     λ i. line_refused (number i) (reason i)
 
--- a list has one last item
-one_last : {A : Type 0} (xs ys : List A) (x y : A) → xs ++ x ∷ [] ≡ ys ++ y ∷ [] → x ≡ y
-one_last [] [] x y e = cc
-one_last [] (z ∷ []) x y e = cc
-one_last [] (z ∷ w ∷ ys) x y e = cc
-one_last (z ∷ []) [] x y e = cc
-one_last (z ∷ w ∷ xs) [] x y e = cc
-one_last (z ∷ xs) (w ∷ ys) x y e = let tail : xs ++ x ∷ [] ≡ ys ++ y ∷ [] = cc in one_last xs ys x y tail
-
 -- an accepted term has one end
 pub one_end : {term : List ℕ} {rows others : List Provable} {p q : Provable} → (a : Accepts term rows p) → (b : Accepts term others q) → SameEnd rows others a.line b.line p q
 one_end {term} {rows} {others} {p} {q} a b =
@@ -69,13 +63,6 @@ one_end {term} {rows} {others} {p} {q} a b =
 
 accepted_not_bad : {term : List ℕ} {rows : List Provable} {p : Provable} {n : ℕ} {why : LineWhy} → Accepts term rows p → Verdict (file_lines term) (bad n why) → ⊥
 accepted_not_bad {term} {rows} {p} {n} {why} a v = not_both (one_verdict (file_lines term) (accepted rows a.line) (bad n why) a.verdict v)
-
--- a model is one formula, or has one fault
-pub one_model : {model : List ℕ} {f g : Tree} → ModelText model f → ModelText model g → f ≡ g
-one_model {model} {f} {g} a b = one_tree_text Formula Refused model f g a b
-
-pub model_or_fault : {model : List ℕ} {f : Tree} (why : TextFault) → ModelText model f → ModelFault model why → ⊥
-model_or_fault {model} {f} why a b = tree_or_fault Formula Refused model f why a b
 
 module _ (layout : Layout) (model term : List ℕ) where
   pub one_check : (r s : Reply) → Checks layout model term r → Checks layout model term s → r ≡ s
@@ -129,22 +116,24 @@ one_list file r s (lists t a f b m syms wf wb wm ws) (lists u a' f' b' m' syms' 
     let symbols_are = one_symbols u syms syms' (subst (λ v. AreWritten v syms) same ws) ws' in
     λ i. four_lines (free_is i) (bound_is i) (must_is i) (symbols_are i)
 
-one_job : (c : Command) (others : List Word) (texts : List (List ℕ)) (r s : Reply) → Does c others texts r → Does c others texts s → r ≡ s
-one_job Check [] (model ∷ term ∷ []) r s a b = one_check Text model term r s a b
-one_job Print [] (file ∷ []) r s a b = one_print file r s a b
-one_job Vars [] (file ∷ []) r s a b = one_list file r s a b
-one_job Subst [] (file ∷ substitution ∷ []) r s a b = one_substitution file substitution r s a b
-one_job Report [] (model ∷ term ∷ []) r s a b = one_check Json model term r s a b
-one_job _ _ _ r s a b = absurd a
-
 one_name : {name other : Word} → Some name ≡ Some other → name ≡ other
 one_name e = cc
 
 none_or_some : {A : Type 0} {x : A} → None ≡ Some x → ⊥
 none_or_some e = cc
 
-pub one_response : (c : Command) (words : List Word) (texts : List (List ℕ)) (r s : Reply) → Responds c words texts r → Responds c words texts s → r ≡ s
-one_response c words texts r s (refuses name a) (refuses other b) = ap too_long (one_name (sym a ∙ b))
-one_response c words texts r s (refuses name a) (does b s' job) = absurd (none_or_some (sym b ∙ a))
-one_response c words texts r s (does a r' job) (refuses other b) = absurd (none_or_some (sym a ∙ b))
-one_response c words texts r s (does a r' job) (does b s' other) = one_job c _ texts r s job other
+module _ (one_text : OneText) (text_or_fault : TextOrFault) (one_fault : OneFault) (one_run : OneRun) where
+  one_job : (c : Command) (others : List Word) (texts : List (List ℕ)) (r s : Reply) → Does c others texts r → Does c others texts s → r ≡ s
+  one_job Check [] (model ∷ term ∷ []) r s a b = one_check Text model term r s a b
+  one_job Print [] (file ∷ []) r s a b = one_print file r s a b
+  one_job Vars [] (file ∷ []) r s a b = one_list file r s a b
+  one_job Subst [] (file ∷ substitution ∷ []) r s a b = one_substitution file substitution r s a b
+  one_job Report [] (model ∷ term ∷ []) r s a b = one_check Json model term r s a b
+  one_job Prove (term ∷ []) (model ∷ strategy ∷ []) r s a b = one_prove one_text text_or_fault one_fault one_run model strategy r s a b
+  one_job _ _ _ r s a b = absurd a
+
+  pub one_response : (c : Command) (words : List Word) (texts : List (List ℕ)) (r s : Reply) → Responds c words texts r → Responds c words texts s → r ≡ s
+  one_response c words texts r s (refuses name a) (refuses other b) = ap too_long (one_name (sym a ∙ b))
+  one_response c words texts r s (refuses name a) (does b s' job) = absurd (none_or_some (sym b ∙ a))
+  one_response c words texts r s (does a r' job) (refuses other b) = absurd (none_or_some (sym a ∙ b))
+  one_response c words texts r s (does a r' job) (does b s' other) = one_job c _ texts r s job other

@@ -14,8 +14,9 @@ use Rattle.dlk_machine.proofs.SomeText.{some_tree, some_pairs}
 use Rattle.dlk_replay.specs.Files.{file_lines, Verdict, Answer, accepted, bad}
 use Rattle.dlk_replay.proofs.Verdicts.{some_verdict, accepted_some}
 use Rattle.dlk_answers.specs.declared.command.Command.{Command}
-use Rattle.dlk_answers.specs.declared.command.Command.TheVariants.{Check, Print, Vars, Subst, Report}
+use Rattle.dlk_answers.specs.declared.command.Command.TheVariants.{Check, Print, Vars, Subst, Report, Prove}
 use Rattle.dlk_answers.specs.declared.form.Role.TheVariants.{Model, File, Substitution}
+use Rattle.dlk_answers.specs.declared.form.Last.TheVariants.{Output}
 use Rattle.dlk_answers.specs.declared.reply.Layout.{Layout}
 use Rattle.dlk_answers.specs.declared.reply.Layout.TheVariants.{Text, Json}
 use Rattle.dlk_answers.specs.Forms.{Word, form_of, command_of, inputs_of, others_of, limits_of, ends_in}
@@ -27,16 +28,11 @@ use Rattle.dlk_answers.specs.Prints.{Prints, bad_text, prints, printed, FileText
 use Rattle.dlk_answers.specs.Lists.{Lists, lists, bad_text as lists_fault, set_listed, symbols_listed, set_text, signature_text, four_lines}
 use Rattle.dlk_answers.specs.Substitutes.{Substitutes, bad_file, bad_subst, bad_pair, not_admissible, too_big, too_deep, prints as prints_result, pair_refused, AreRead}
 use Rattle.dlk_answers.specs.Answers.{Does, Responds, refuses, does, too_long}
+use Rattle.dlk_answers.proofs.Ends.{last_of}
 use Rattle.dlk_answers.proofs.Fits.{others_end}
+use Rattle.dlk_answers.proofs.SomeProof.{some_prove}
+use Rattle.dlk_answers.proofs.StrategyLaws.{SomeText, SomeRun, AtomsReplace}
 use Rattle.dlk_answers.proofs.SomeListing.{some_free_listing, some_bound_listing, some_must_listing, some_signature}
-
--- a list with an item has a last one
-last_of : {A : Type 0} (xs : List A) → 1 ≤ length xs → (before : List A) × (x : A) × (xs ≡ before ++ x ∷ [])
-last_of [] some = absurd (omega (arith, some))
-last_of (x ∷ []) some = ([], x, refl)
-last_of (x ∷ y ∷ ys) some =
-    let rest = last_of (y ∷ ys) (omega arith) in
-    (x ∷ rest.0, rest.1, ap (λ l. x ∷ l) rest.2)
 
 some_check : (layout : Layout) (model term : List ℕ) → (reply : Reply) × Checks layout model term reply
 some_check layout model term = elim (some_tree Formula Refused model) [
@@ -117,39 +113,49 @@ two_texts (a ∷ []) count = absurd (omega (arith, count))
 two_texts (a ∷ b ∷ []) count = (a, b, refl)
 two_texts (a ∷ b ∷ c ∷ texts) count = absurd (omega (arith, count))
 
+one_other : (others : List Word) → IsTrue (ends_in (Some Output) others) → (name : Word) × (others ≡ name ∷ [])
+one_other [] ends = absurd cc
+one_other (name ∷ []) ends = (name, refl)
+one_other (name ∷ word ∷ words) ends = absurd cc
+
 -- the same words and texts
-done_of : (command : Command) (others : List Word) (texts same : List (List ℕ)) → others ≡ [] → texts ≡ same →
-    (reply : Reply) × Does command [] same reply → (reply : Reply) × Does command others texts reply
-done_of command others texts same no_words is done =
-    (done.0, subst (λ os. Does command os texts done.0) (sym no_words) (subst (λ ts. Does command [] ts done.0) (sym is) done.1))
+done_of : (command : Command) (others words : List Word) (texts same : List (List ℕ)) → others ≡ words → texts ≡ same →
+    (reply : Reply) × Does command words same reply → (reply : Reply) × Does command others texts reply
+done_of command others words texts same words_are is done =
+    (done.0, subst (λ os. Does command os texts done.0) (sym words_are) (subst (λ ts. Does command words ts done.0) (sym is) done.1))
 
-some_job : (command : Command) (others : List Word) (texts : List (List ℕ)) → IsTrue (ends_in (form_of command).last others) →
-    length texts ≡ length (form_of command).inputs →
-    (reply : Reply) × Does command others texts reply
-some_job Check others texts ends count =
-    let t = two_texts texts count in
-    done_of Check others texts (t.0 ∷ t.1 ∷ []) (no_others others ends) t.2 (some_check Text t.0 t.1)
-some_job Print others texts ends count =
-    let t = one_text texts count in
-    done_of Print others texts (t.0 ∷ []) (no_others others ends) t.1 (some_print t.0)
-some_job Vars others texts ends count =
-    let t = one_text texts count in
-    done_of Vars others texts (t.0 ∷ []) (no_others others ends) t.1 (some_list t.0)
-some_job Subst others texts ends count =
-    let t = two_texts texts count in
-    done_of Subst others texts (t.0 ∷ t.1 ∷ []) (no_others others ends) t.2 (some_substitution t.0 t.1)
-some_job Report others texts ends count =
-    let t = two_texts texts count in
-    done_of Report others texts (t.0 ∷ t.1 ∷ []) (no_others others ends) t.2 (some_check Json t.0 t.1)
+module _ (some_text : SomeText) (some_run : SomeRun) (atom_replaces : AtomsReplace) where
+  some_job : (command : Command) (others : List Word) (texts : List (List ℕ)) → IsTrue (ends_in (form_of command).last others) →
+      length texts ≡ length (form_of command).inputs →
+      (reply : Reply) × Does command others texts reply
+  some_job Check others texts ends count =
+      let t = two_texts texts count in
+      done_of Check others [] texts (t.0 ∷ t.1 ∷ []) (no_others others ends) t.2 (some_check Text t.0 t.1)
+  some_job Print others texts ends count =
+      let t = one_text texts count in
+      done_of Print others [] texts (t.0 ∷ []) (no_others others ends) t.1 (some_print t.0)
+  some_job Vars others texts ends count =
+      let t = one_text texts count in
+      done_of Vars others [] texts (t.0 ∷ []) (no_others others ends) t.1 (some_list t.0)
+  some_job Subst others texts ends count =
+      let t = two_texts texts count in
+      done_of Subst others [] texts (t.0 ∷ t.1 ∷ []) (no_others others ends) t.2 (some_substitution t.0 t.1)
+  some_job Report others texts ends count =
+      let t = two_texts texts count in
+      done_of Report others [] texts (t.0 ∷ t.1 ∷ []) (no_others others ends) t.2 (some_check Json t.0 t.1)
+  some_job Prove others texts ends count =
+      let t = two_texts texts count in
+      let w = one_other others ends in
+      done_of Prove others (w.0 ∷ []) texts (t.0 ∷ t.1 ∷ []) w.1 t.2 (some_prove some_text some_run atom_replaces t.0 t.1)
 
-pub some_response : (command : Command) (words : List Word) (texts : List (List ℕ)) → command_of words ≡ Some command →
-    length texts ≡ length (form_of command).inputs →
-    (reply : Reply) × Responds command words texts reply
-some_response command words texts form count = by_length (first_too_long (inputs_of command words) (limits_of command) texts) refl
-  where
-    by_length : (long : Option Word) → first_too_long (inputs_of command words) (limits_of command) texts ≡ long →
-        (reply : Reply) × Responds command words texts reply
-    by_length (Some name) is = (too_long name, refuses name is)
-    by_length None is =
-        let job = some_job command (others_of command words) texts (others_end words command form) count in
-        (job.0, does is job.0 job.1)
+  pub some_response : (command : Command) (words : List Word) (texts : List (List ℕ)) → command_of words ≡ Some command →
+      length texts ≡ length (form_of command).inputs →
+      (reply : Reply) × Responds command words texts reply
+  some_response command words texts form count = by_length (first_too_long (inputs_of command words) (limits_of command) texts) refl
+    where
+      by_length : (long : Option Word) → first_too_long (inputs_of command words) (limits_of command) texts ≡ long →
+          (reply : Reply) × Responds command words texts reply
+      by_length (Some name) is = (too_long name, refuses name is)
+      by_length None is =
+          let job = some_job command (others_of command words) texts (others_end words command form) count in
+          (job.0, does is job.0 job.1)

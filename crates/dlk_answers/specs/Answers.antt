@@ -1,7 +1,7 @@
 -- What the program answers to its words and to the texts of its inputs.
 use Rattle.std.specs.Prelude.{◌≡◌, ℕ, List, [], ◌∷◌, ◌++◌, Some, None, codes}
 use Rattle.dlk_answers.specs.declared.command.Command.{Command}
-use Rattle.dlk_answers.specs.declared.command.Command.TheVariants.{Check, Print, Vars, Subst, Report}
+use Rattle.dlk_answers.specs.declared.command.Command.TheVariants.{Check, Print, Vars, Subst, Report, Prove}
 use Rattle.dlk_answers.specs.declared.reply.Layout.TheVariants.{Text, Json}
 use Rattle.dlk_answers.specs.Forms.{Word, inputs_of, others_of, limits_of}
 use Rattle.dlk_answers.specs.Inputs.{first_too_long}
@@ -10,6 +10,7 @@ use Rattle.dlk_answers.specs.Checks.{Checks}
 use Rattle.dlk_answers.specs.Prints.{Prints}
 use Rattle.dlk_answers.specs.Lists.{Lists}
 use Rattle.dlk_answers.specs.Substitutes.{Substitutes}
+use Rattle.dlk_answers.specs.Proves.{Proves}
 
 abbrev pub too_long : Word → Reply
 too_long name = refusal (codes "too-long " ++ name)
@@ -22,6 +23,8 @@ Does Print [] (file ∷ []) reply = Prints file reply
 Does Vars [] (file ∷ []) reply = Lists file reply
 Does Subst [] (file ∷ substitution ∷ []) reply = Substitutes file substitution reply
 Does Report [] (model ∷ term ∷ []) reply = Checks Json model term reply
+-- the word behind the inputs is the name of the term's file
+Does Prove (term ∷ []) (model ∷ strategy ∷ []) reply = Proves model strategy reply
 Does _ _ _ reply = ⊥
 
 -- what a command answers to its words and its inputs' texts

@@ -3,9 +3,9 @@ use Rattle.std.specs.Prelude.{ℕ, ◌&&◌, ◌||◌, Bool, true, false, List, 
 use Rattle.dlk_tree.specs.Names.{is_between}
 use Rattle.dlk_grammar.specs.Tokens.{is_digit}
 use Rattle.dlk_answers.specs.declared.command.Command.{Command}
-use Rattle.dlk_answers.specs.declared.command.Command.TheVariants.{Check, Print, Vars, Subst, Report}
+use Rattle.dlk_answers.specs.declared.command.Command.TheVariants.{Check, Print, Vars, Subst, Report, Prove}
 use Rattle.dlk_answers.specs.declared.form.Role.{Role}
-use Rattle.dlk_answers.specs.declared.form.Role.TheVariants.{Model, Term, File, Substitution}
+use Rattle.dlk_answers.specs.declared.form.Role.TheVariants.{Model, Term, File, Substitution, Strategy}
 use Rattle.dlk_answers.specs.declared.form.Last.{Last}
 use Rattle.dlk_answers.specs.declared.form.Last.TheVariants.{Output, Number}
 
@@ -24,6 +24,7 @@ form_of Print = record { verb = codes "print"; inputs = File ∷ []; last = None
 form_of Vars = record { verb = codes "vars"; inputs = File ∷ []; last = None }
 form_of Subst = record { verb = codes "subst"; inputs = File ∷ Substitution ∷ []; last = None }
 form_of Report = record { verb = codes "report"; inputs = Model ∷ Term ∷ []; last = None }
+form_of Prove = record { verb = codes "prove"; inputs = Model ∷ Strategy ∷ []; last = Some Output }
 
 -- the word for an input in a refusal
 abbrev pub word_of : Role → Word
@@ -31,6 +32,7 @@ word_of Model = codes "model"
 word_of Term = codes "term"
 word_of File = codes "file"
 word_of Substitution = codes "subst"
+word_of Strategy = codes "strategy"
 
 -- the greatest length of an input, in bytes
 abbrev pub limit_of : Role → ℕ
@@ -38,6 +40,7 @@ limit_of Model = 1048576
 limit_of Term = 67108864
 limit_of File = 1048576
 limit_of Substitution = 1048576
+limit_of Strategy = 1048576
 
 -- a number from 1 to 500 without leading zeros: from 1 to 9, from 10 to 99, from 100 to 499, or 500
 abbrev pub is_count : Word → Bool
@@ -63,7 +66,7 @@ has_form [] form = false
 has_form (verb ∷ rest) form = bytes_eq verb form.verb && (nat_le (length form.inputs) (length rest) && ends_in form.last (drop (length form.inputs) rest))
 
 abbrev pub commands : List Command
-commands = Check ∷ Print ∷ Vars ∷ Subst ∷ Report ∷ []
+commands = Check ∷ Print ∷ Vars ∷ Subst ∷ Report ∷ Prove ∷ []
 
 -- the command of the words, if they have one of the forms
 abbrev pub command_of : List Word → Option Command

@@ -8,5 +8,8 @@ pub mod Judged
 pub mod Prints
 pub mod Lists
 pub mod Substitutes
+pub mod Looks
+pub mod Proves
+pub mod Proved
 pub mod Answers
 pub mod Shown

@@ -4,6 +4,7 @@ ghost use Rattle.dlk_answers.specs.Forms.{form_of, limit_of, ends_in, command_of
 ghost use Rattle.dlk_answers.specs.Inputs.{first_too_long as first_too_long_of};
 ghost use Rattle.dlk_answers.specs.Replies.{refused_words};
 ghost use Rattle.dlk_answers.specs.Answers.{Does, Responds, too_long};
+ghost use Rattle.dlk_answers.specs.Looks.{CommandLooksAtFew};
 ghost use Rattle.dlk_answers.specs.Shown.{texts_of, reply_of};
 
 use crate::command::Command;
@@ -11,6 +12,7 @@ use crate::fault::NoReply;
 use crate::form::Role;
 use crate::jobs::check::check;
 use crate::jobs::print::print;
+use crate::jobs::prove::prove;
 use crate::jobs::subst::subst;
 use crate::jobs::vars::vars;
 use crate::refusal::refused;
@@ -64,7 +66,8 @@ fn job<L: Ledger>(
 ) -> Result<Reply, NoReply>
     requires words { IsTrue (ends_in (form_of command).last (map string_bytes others.now)) }
     requires inputs { length inputs.now ≡ length (form_of command).inputs }
-    ensures { IfOk result (λ r. Does command (map string_bytes others.now) (texts_of inputs.now) (reply_of r)) }
+    ensures reply { IfOk result (λ r. Does command (map string_bytes others.now) (texts_of inputs.now) (reply_of r)) }
+    ensures looks { CommandLooksAtFew command (texts_of inputs.now) steps.old steps.new }
 {
     match (command, others, inputs) {
         (Command::Check, [], [model, term]) => check(alloc, Layout::Text, model, term, steps),
@@ -72,6 +75,7 @@ fn job<L: Ledger>(
         (Command::Vars, [], [file]) => vars(alloc, file),
         (Command::Subst, [], [file, substitution]) => subst(alloc, file, substitution, steps),
         (Command::Report, [], [model, term]) => check(alloc, Layout::Json, model, term, steps),
+        (Command::Prove, [_], [model, strategy]) => prove(alloc, model, strategy, steps),
         _ => unreachable!(),
     }
 }
@@ -86,7 +90,8 @@ pub fn respond<L: Ledger>(
 ) -> Result<Reply, NoReply>
     requires form { command_of (map string_bytes words.now) ≡ Some command }
     requires inputs { length inputs.now ≡ length (form_of command).inputs }
-    ensures { IfOk result (λ r. Responds command (map string_bytes words.now) (texts_of inputs.now) (reply_of r)) }
+    ensures reply { IfOk result (λ r. Responds command (map string_bytes words.now) (texts_of inputs.now) (reply_of r)) }
+    ensures looks { CommandLooksAtFew command (texts_of inputs.now) steps.old steps.new }
 {
     match first_too_long(command.inputs(words), command.form().inputs, inputs) {
         Some(name) => refused_too_long(alloc, name),

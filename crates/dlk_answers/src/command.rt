@@ -19,14 +19,17 @@ pub enum Command {
     Subst,
     /// Replays a term, and prints the report as JSON.
     Report,
+    /// Runs a strategy on a model, writes the term that it makes, and prints the report.
+    Prove,
 }
 
-const COMMANDS: [Command; 5] = [
+const COMMANDS: [Command; 6] = [
     Command::Check,
     Command::Print,
     Command::Vars,
     Command::Subst,
     Command::Report,
+    Command::Prove,
 ];
 
 /// The form of a command that ends with its inputs.
@@ -37,6 +40,17 @@ fn reading(verb: &'static str, inputs: &'static [Role]) -> Form
         verb,
         inputs,
         last: None,
+    }
+}
+
+/// The form of a command that ends with the file that it writes.
+fn writing(verb: &'static str, inputs: &'static [Role]) -> Form
+    ensures { form_shown result ≡ record { verb = verb.now; inputs = inputs.now; last = Some Last.Output } }
+{
+    Form {
+        verb,
+        inputs,
+        last: Some(Last::Output),
     }
 }
 
@@ -51,6 +65,7 @@ impl Command {
             Command::Vars => reading("vars", &[Role::File]),
             Command::Subst => reading("subst", &[Role::File, Role::Substitution]),
             Command::Report => reading("report", &[Role::Model, Role::Term]),
+            Command::Prove => writing("prove", &[Role::Model, Role::Strategy]),
         }
     }
 

@@ -16,6 +16,8 @@ pub enum Role {
     File,
     /// A file of a substitution's pairs.
     Substitution,
+    /// A file of a strategy.
+    Strategy,
 }
 
 impl Role {
@@ -28,6 +30,7 @@ impl Role {
             Role::Term => "term",
             Role::File => "file",
             Role::Substitution => "subst",
+            Role::Strategy => "strategy",
         }
     }
 
@@ -37,7 +40,7 @@ impl Role {
         ensures small { result < 2 ^ 32 }
     {
         match self {
-            Role::Model | Role::File | Role::Substitution => 1_048_576,
+            Role::Model | Role::File | Role::Substitution | Role::Strategy => 1_048_576,
             Role::Term => 67_108_864,
         }
     }

@@ -1,21 +1,40 @@
-//! The laws of answers. Each is a contract of a function that does nothing.
-ghost use Rattle.std.specs.Prelude.{◌≡◌, ◌<◌, ℕ, List, length, None, Some};
+//! The laws of answers. Each is a contract of a function that does nothing but call the laws below it.
+ghost use Rattle.std.specs.Prelude.{◌≡◌, ◌<◌, ◌≤◌, ℕ, List, length, None, Some};
 ghost use Rattle.dlk_answers.specs.declared.command.Command.{Command as TheCommand};
-ghost use Rattle.dlk_answers.specs.Forms.{Word, command_of, form_of};
-ghost use Rattle.dlk_answers.specs.Replies.{Reply as TheReply, code_of};
+ghost use Rattle.dlk_answers.specs.declared.form.Role.TheVariants.{Term};
+ghost use Rattle.dlk_answers.specs.declared.reply.Layout.TheVariants.{Text};
+ghost use Rattle.dlk_answers.specs.Forms.{Word, command_of, form_of, limit_of};
+ghost use Rattle.dlk_answers.specs.Replies.{Reply as TheReply, code_of, printing};
+ghost use Rattle.dlk_answers.specs.Checks.{Checks};
+ghost use Rattle.dlk_answers.specs.Proves.{Proves};
 ghost use Rattle.dlk_answers.specs.Answers.{Responds};
+
+use dlk_elab::atom_replaces_goal;
+use dlk_machine::laws::tree_texts;
+use dlk_recorder::recorded_is_accepted;
+use dlk_strategy::{one_outcome, some_outcome};
+use dlk_tacsyn::laws::{fit_strategy, one_strategy, strategy_or_fault};
 
 /// A command has one answer to words and texts.
 pub fn one_response()
     ensures { (command : TheCommand) (words : List Word) (texts : List (List ℕ)) (one other : TheReply) →
         Responds command words texts one → Responds command words texts other → one ≡ other }
-{}
+{
+    one_strategy();
+    one_outcome();
+}
 
 /// A command answers something to words of its form and to as many texts as it has inputs.
 pub fn some_response()
     ensures { (command : TheCommand) (words : List Word) (texts : List (List ℕ)) → command_of words ≡ Some command →
         length texts ≡ length (form_of command).inputs → (reply : TheReply) × Responds command words texts reply }
-{}
+{
+    tree_texts();
+    strategy_or_fault();
+    fit_strategy();
+    some_outcome();
+    atom_replaces_goal();
+}
 
 /// A command answers with a status below 3, and a refusal writes no file.
 pub fn refusals_write_nothing()
@@ -24,3 +43,12 @@ pub fn refusals_write_nothing()
     ensures refusal { (command : TheCommand) (words : List Word) (texts : List (List ℕ)) (reply : TheReply) →
         Responds command words texts reply → code_of reply.status ≡ 2 → reply.written ≡ None }
 {}
+
+/// What `prove` writes is no longer than a term may be, and `check` answers the same to it: the same status, and the same report.
+pub fn proved_is_checked()
+    ensures { (model strategy term : List ℕ) (reply : TheReply) → Proves model strategy reply → reply.written ≡ Some term →
+        (length term ≤ limit_of Term) × Checks Text model term (printing reply.status reply.printed) }
+{
+    atom_replaces_goal();
+    recorded_is_accepted();
+}

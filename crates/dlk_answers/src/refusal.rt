@@ -20,7 +20,7 @@ pub fn refused(alloc: Global, why: &str) -> Result<Reply, NoReply>
 }
 
 /// The answer to an input that is refused at a byte.
-fn refuse_at(alloc: Global, role: Role, at: usize, why: &str) -> Result<Reply, NoReply>
+pub(crate) fn refuse_at(alloc: Global, role: Role, at: usize, why: &str) -> Result<Reply, NoReply>
     ensures { IfOk result (λ r. reply_of r ≡ refused_at role at why.now) }
 {
     let word = role.word();

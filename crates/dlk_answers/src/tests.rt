@@ -4,7 +4,9 @@ mod limits;
 mod listing;
 mod models;
 mod printing;
+mod proving;
 mod rules;
+mod stores;
 mod substituting;
 mod terms;
 
@@ -13,7 +15,7 @@ ghost use Rattle.std.specs.Prelude.{◌≡◌, ◌<◌, ◌≤◌};
 use super::*;
 use dlk_kernel::{Kernel, Step};
 use dlk_parse::{read_formula, read_sequent};
-use dlk_plain::PlainStore;
+use dlk_shared::SharedStore;
 use dlk_store::{Steps, Store};
 use dlk_tree::{Items, Kind, Name, OdeItem, Op, Sym, Var, same_op};
 use std::alloc::{AllocError, Global};
@@ -250,12 +252,20 @@ fn stepped_back<L: Ledger>(alloc: Global, blank: Blank) -> Option<[u32; 4]>
     requires parts { blank.parts ≡ L.parts }
     requires some { 0 < blank.parts }
 {
-    let mut steps = Steps::<L>::new(blank);
-    let mut kernel = Kernel::new(alloc, PlainStore::new(alloc));
-    let formula = read_formula(alloc, b"x>=0 -> x>=0", &mut kernel).ok()?;
-    let sequent = read_sequent(alloc, b"==> x>=0", &mut kernel).ok()?;
+    let mut kernel = Kernel::new(alloc, SharedStore::new(alloc));
+    stepped_back_on(alloc, &mut kernel, &mut Steps::<L>::new(blank))
+}
+
+/// The same on a kernel.
+fn stepped_back_on<S: Store, L: Ledger>(
+    alloc: Global,
+    kernel: &mut Kernel<S>,
+    steps: &mut Steps<L>,
+) -> Option<[u32; 4]> {
+    let formula = read_formula(alloc, b"x>=0 -> x>=0", kernel).ok()?;
+    let sequent = read_sequent(alloc, b"==> x>=0", kernel).ok()?;
     let mark = kernel.mark();
-    kernel.step(alloc, &Step::Start(sequent), &mut steps).ok()?;
+    kernel.step(alloc, &Step::Start(sequent), steps).ok()?;
     let rows = kernel.rows();
     kernel.release(mark);
     Some([

@@ -1,5 +1,5 @@
 -- What stays true of rows when the store grows.
-use Rattle.std.proofs.Common.{◌≡◌, ℕ, ◌<◌, ◌≤◌, List, [], ◌∷◌, ◌++◌, length, length-append, length-take, take, sym, ap, subst, ◌∙◌, arith}
+use Rattle.std.proofs.Common.{◌≡◌, ℕ, Bool, ◌<◌, ◌≤◌, List, [], ◌∷◌, ◌++◌, length, length-append, length-take, take, sym, ap, subst, ◌∙◌, arith}
 use Rattle.std.specs.List.{All}
 use Rattle.std.proofs.lemmas.List.{take-map, map-append, length-map}
 use Rattle.std.proofs.lemmas.List.Elements.{All-weaker, All-push, All-take}
@@ -15,9 +15,11 @@ use Rattle.dlk_calculus.proofs.LimitLaws.{StepOf-within, step_limited, rows_faul
 use Rattle.dlk_calculus.proofs.Histories.{History-derives, History-more, History-take}
 use Rattle.dlk_calculus.proofs.Formulas.{Derives-formulas}
 use Rattle.dlk_sequent.specs.Sequents.{IsKnown}
-use Rattle.dlk_sequent.proofs.Kept.{map-agree, sequent-kept, sequents-kept, IsKnown-kept}
+use Rattle.dlk_sequent.proofs.Kept.{IsId-kept, map-agree, sequent-kept, sequents-kept, IsKnown-kept}
 use Rattle.dlk_kernel.specs.declared.row.Row.{Row}
-use Rattle.dlk_kernel.specs.Kernel.{State, provable_at, provables_at, IsKnownRow, AreSoundRows, SameRows, ExtendsRows}
+use Rattle.dlk_kernel.specs.Kernel.{State, provable_at, provables_at, IsKnownRow, AreSoundRows, IsSound, SameRows, ExtendsRows}
+use Rattle.dlk_kernel.specs.declared.axioms.NamedFormula.{NamedFormula}
+use Rattle.dlk_kernel.specs.Named.{IsFormulaOf, AreFormulas}
 
 module _ (old new : List Tree) (keeps : Keeps old new) where
   provable_kept : (row : Row) → IsKnownRow old row → provable_at new row ≡ provable_at old row
@@ -46,6 +48,19 @@ module _ (old new : List Tree) (keeps : Keeps old new) where
     limited = subst (All IsLimited) (sym (provables_kept rows h.known)) h.limited;
     few = h.few;
   }
+
+  formula_kept : (n : NamedFormula) → IsFormulaOf old n.name n.formula → IsFormulaOf new n.name n.formula
+  formula_kept n h = record {
+    found = h.found;
+    named = h.named;
+    stands = record { known = IsId-kept keeps n.formula h.stands.known; tree_is = keeps.same n.formula h.stands.known ∙ h.stands.tree_is };
+  }
+
+  pub formulas_kept : (all : List NamedFormula) → AreFormulas old all → AreFormulas new all
+  formulas_kept all h = All-weaker (λ (n : NamedFormula). IsFormulaOf old n.name n.formula) (λ n. IsFormulaOf new n.name n.formula) formula_kept all h
+
+  pub still_sound : (unique : Bool) (rows : List Row) (before now : List NamedFormula) → IsSound unique old rows before → AreFormulas new now → IsSound unique new rows now
+  still_sound unique rows before now h formulas = record { is_unique = h.is_unique; are_sound = sound_kept rows h.are_sound; are_formulas = formulas }
 
   -- a row that a step gives comes last
   module _ (rows after : List Row) (row : Row) (sound : AreSoundRows old rows) (step : Step) (given : Gives (provables_at old rows) step (provable_at new row))
@@ -84,13 +99,17 @@ pub all_formulas : (trees : List Tree) (rows : List Row) → AreSoundRows trees 
 all_formulas trees rows h = All-weaker Derives HasFormulas Derives-formulas (provables_at trees rows) (all_derived trees rows h)
 
 -- the first rows are sound too
-pub sound_take : (trees : List Tree) (n : ℕ) (rows : List Row) → AreSoundRows trees rows → AreSoundRows trees (take n rows)
+sound_take : (trees : List Tree) (n : ℕ) (rows : List Row) → AreSoundRows trees rows → AreSoundRows trees (take n rows)
 sound_take trees n rows h = record {
   known = All-take (IsKnownRow trees) n rows h.known;
   history = subst History (take-map (provable_at trees) n rows) (History-take n (provables_at trees rows) h.history);
   limited = subst (All IsLimited) (take-map (provable_at trees) n rows) (All-take IsLimited n (provables_at trees rows) h.limited);
   few = omega (arith, h.few, length-take n rows);
 }
+
+pub still_sound_take : (unique : Bool) (trees : List Tree) (n : ℕ) (rows : List Row) (named : List NamedFormula) → IsSound unique trees rows named →
+    IsSound unique trees (take n rows) named
+still_sound_take unique trees n rows named h = record { is_unique = h.is_unique; are_sound = sound_take trees n rows h.are_sound; are_formulas = h.are_formulas }
 
 -- rows that stay, over a store that has grown
 pub same_rows : {S : Type 0} (trees : S → List Tree) (old new : State S) → Keeps (trees old.store) (trees new.store) →

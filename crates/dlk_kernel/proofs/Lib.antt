@@ -9,3 +9,4 @@ pub mod MergeLaws
 pub mod Reading
 pub mod Renamed
 pub mod Substituted
+pub mod Looked

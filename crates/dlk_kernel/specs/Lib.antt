@@ -1,3 +1,6 @@
 pub mod Kernel
 pub mod Faults
 pub mod Limits
+pub mod Named
+pub mod Looks
+pub mod Taken

@@ -3,9 +3,9 @@ ghost use Rattle.dlk_kernel.specs.declared.fault.StepFault.TheVariants.{Memory};
 ghost use Rattle.dlk_kernel.specs.Faults.{fault_of, apply_fault_of};
 
 use dlk_calculus::Reason;
+use dlk_memo::ApplyFault;
 use dlk_rules::RuleFault;
 use dlk_store::StoreFault;
-use dlk_subst::ApplyFault;
 use std::alloc::{AllocError, AllocFailed};
 use thiserror::Error;
 

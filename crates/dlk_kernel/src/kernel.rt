@@ -1,3 +1,4 @@
+use crate::axioms::NamedAxioms;
 use crate::fault::StepFault;
 use crate::row::Row;
 use crate::steps::give;
@@ -13,28 +14,29 @@ use std::sync::ledger::Ledger;
 /// The number of a row, from 1 on.
 pub type Fact = u32;
 
-/// A store and the rows of a proof. Each row is a provable that the calculus derives: only `step` makes rows, and the
-/// type keeps that each is given by a step from those before it.
+/// A store, in which a tree has at most one id, and the rows of a proof. Each row is a provable that the calculus derives: only
+/// `step` makes rows, and the type keeps that each is given by a step from those before it.
 ///
 /// Contracts see a kernel as its store and its rows, and by `facts` as the list of what the rows stand for.
 #[derive(Drop)]
 pub struct Kernel<S: Store> {
     store: S,
     rows: Vec<Row>,
+    named: NamedAxioms,
 }
 
 impl<S: Store> Model for Kernel<S> {
-    ghost use Rattle.dlk_kernel.specs.Kernel.{State, AreSoundRows};
+    ghost use Rattle.dlk_kernel.specs.Kernel.{State, IsSound};
 
     ghost Value = { State S };
 
     ghost view = { λ k. record { store = k.store; rows = k.rows.items } };
 
-    ghost invariant = { λ k. AreSoundRows (S.trees k.store) k.rows.items };
+    ghost invariant = { λ k. IsSound S.unique (S.trees k.store) k.rows.items k.named };
 }
 
 impl<S: Store> Kernel<S> {
-    ghost use Rattle.std.specs.Prelude.{◌≡◌, ◌≤◌, [], length, map, take, All, IfOk, OnOk, IfErr, OnErr};
+    ghost use Rattle.std.specs.Prelude.{◌≡◌, ◌≤◌, [], length, map, take, All, IsTrue, IfOk, OnOk, IfErr, OnErr};
     ghost use Rattle.dlk_calculus.specs.Places.{At, IsPlace};
     ghost use Rattle.dlk_calculus.specs.Sequents.{IsSequent};
     ghost use Rattle.dlk_calculus.specs.Provables.{Provable, HasFormulas, HasLeaves};
@@ -45,15 +47,18 @@ impl<S: Store> Kernel<S> {
     ghost use Rattle.dlk_rules.specs.Steps.{step_at, HasKnownIds};
     ghost use Rattle.dlk_kernel.specs.Faults.{IsStepFault};
     ghost use Rattle.dlk_kernel.specs.Kernel.{facts, provable_at, IsKnownRow, SameRows, ExtendsRows};
+    ghost use Rattle.dlk_kernel.specs.Looks.{LooksAtFew};
 
-    /// A kernel without rows over a store.
+    /// A kernel without rows over a store, in which a tree has at most one id.
     pub fn new(alloc: Global, store: S) -> Self
+        requires { IsTrue S.unique }
         ensures rows { result.rows ≡ [] }
         ensures store { result.store ≡ store }
     {
         Kernel {
             store,
             rows: Vec::new(alloc),
+            named: NamedAxioms::new(alloc),
         }
     }
 
@@ -65,6 +70,7 @@ impl<S: Store> Kernel<S> {
         ensures few { result ≤ most_rows }
         ensures derived { All Derives (facts S.trees self.now) }
         ensures limited { All IsLimited (facts S.trees self.now) }
+        ensures unique { IsTrue S.unique }
     {
         self.rows.len() as u32
     }
@@ -116,7 +122,9 @@ impl<S: Store> Kernel<S> {
     }
 
     /// Takes a step: the row that it gives comes last, and its number is answered. The ids of the step are those of this
-    /// kernel's store. After a fault the rows are as they were.
+    /// kernel's store. After a fault the rows are as they were. A substitution takes at most two looks at nodes a pair, and beside them
+    /// `n * (1 + m)` for each formula of the fact's conclusion and goals, with `n` unlike subtrees of the formula and `m` of all
+    /// replacements.
     ///
     /// # Errors
     ///
@@ -158,9 +166,19 @@ impl<S: Store> Kernel<S> {
         ensures fault { IfErr result (IsStepFault (Fault (facts S.trees self.old) (step_at (S.trees self.old.store) step.now))) }
         ensures err { OnErr result (SameRows S.trees self.old self.new) }
 
+        // A substitution looks at few nodes, whatever comes of it.
+        ensures looks { LooksAtFew (facts S.trees self.old) (step_at (S.trees self.old.store) step.now) steps.old steps.new }
+
         ensures grows { S.grows self.old.store self.new.store }
     {
-        let row = give(alloc, &mut self.store, self.rows.as_slice(), step, steps)?;
+        let row = give(
+            alloc,
+            &mut self.store,
+            &mut self.named,
+            self.rows.as_slice(),
+            step,
+            steps,
+        )?;
         if self.rows.len() >= MOST_ROWS {
             return Err(StepFault::Refused(Reason::LinesFull));
         }

@@ -1,6 +1,7 @@
 //! The kernel: provables that it alone makes, each by a step of the calculus.
 #![tactic(auto)]
 
+mod axioms;
 mod fault;
 mod kernel;
 mod leaves;

@@ -1,5 +1,6 @@
 //! What a substitution makes of a row.
-ghost use Rattle.std.specs.Prelude.{◌≡◌, ◌↔◌, ◌<◌, List, length, map, All, IsTrue, Err, IfOk, IfErr};
+ghost use Rattle.std.specs.Prelude.{◌≡◌, ◌↔◌, ◌+◌, ◌*◌, ◌<◌, ◌≤◌, List, length, map, All, IsTrue, Err, IfOk, IfErr};
+ghost use Rattle.std.specs.List.{sum_by};
 ghost use Rattle.dlk_tree.specs.Trees.{Tree};
 ghost use Rattle.dlk_store.specs.Stores.{IsId, tree};
 ghost use Rattle.dlk_calculus.specs.declared.reason.Reason.TheVariants.{IllSubst};
@@ -11,13 +12,15 @@ ghost use Rattle.dlk_sequent.specs.Substitutions.{pairs_at, AreKnownPairs, IsMad
 ghost use Rattle.dlk_sequent.specs.declared.fault.ApplyFault.TheVariants.{NotAdmissible};
 ghost use Rattle.dlk_kernel.specs.Faults.{IsStepFault};
 ghost use Rattle.dlk_kernel.specs.Kernel.{provable_at, IsKnownRow};
+ghost use Rattle.dlk_kernel.specs.Looks.{sequent_looks, provable_looks};
+ghost use Rattle.dlk_memo.specs.Looks.{most_looks};
 
 use crate::fault::StepFault;
 use crate::row::Row;
 use dlk_calculus::Reason;
+use dlk_memo::{ApplyFault, apply};
 use dlk_sequent::{Listed, Pair, Sequent, Subst, SubstFault};
 use dlk_store::{Id, Steps, Store};
-use dlk_subst::{ApplyFault, apply};
 use std::alloc::{AllocError, Global};
 use std::sync::ledger::Ledger;
 
@@ -44,6 +47,7 @@ pub(crate) fn substitution<S: Store, L: Ledger>(
     ensures pairs { IfOk result (λ sigma. sigma.pairs ≡ pairs.now) }
     ensures made { IfOk result (IsMadeOver (S.trees store.now)) }
     ensures ill { IfErr result (IsStepFault (λ why. (why ≡ IllSubst) × (¬ IsWellFormed (pairs_at (S.trees store.now) pairs.now)))) }
+    ensures looks { steps.new ≤ steps.old + 2 * length pairs.now }
 {
     let copies = copy_pairs(alloc, pairs)?;
     match Subst::new(alloc, store, copies, steps) {
@@ -71,6 +75,7 @@ fn subst_ids<S: Store, L: Ledger>(
     ensures known { IfOk result (All (IsId (S.trees store.new))) }
     ensures none { result ≡ Err NotAdmissible → (made : List Tree) → ¬ SubstEach (pairs_at (S.trees store.old) sigma.now.pairs) (map (tree (S.trees store.old)) ids.now) made }
     ensures grows { S.grows store.old store.new }
+    ensures looks { IsTrue S.unique → steps.new ≤ steps.old + sum_by (most_looks (pairs_at (S.trees store.old) sigma.now.pairs)) (map (tree (S.trees store.old)) ids.now) }
 {
     let mut made = Listed::new(alloc);
     for id in ids {
@@ -98,6 +103,7 @@ fn subst_sequent<S: Store, L: Ledger>(
     ensures known { IfOk result (IsKnown (S.trees store.new)) }
     ensures none { result ≡ Err NotAdmissible → (made : TreeSequent) → ¬ SubstSequent (pairs_at (S.trees store.old) sigma.now.pairs) (sequent_at (S.trees store.old) s.now) made }
     ensures grows { S.grows store.old store.new }
+    ensures looks { IsTrue S.unique → steps.new ≤ steps.old + sequent_looks (pairs_at (S.trees store.old) sigma.now.pairs) (sequent_at (S.trees store.old) s.now) }
 {
     let ante = subst_ids(alloc, store, sigma, s.ante.as_slice(), steps)?;
     let succ = subst_ids(alloc, store, sigma, s.succ.as_slice(), steps)?;
@@ -122,6 +128,7 @@ fn subst_sequents<S: Store, L: Ledger>(
     ensures known { IfOk result (All (IsKnown (S.trees store.new))) }
     ensures none { result ≡ Err NotAdmissible → (made : List TreeSequent) → ¬ SubstSequents (pairs_at (S.trees store.old) sigma.now.pairs) (map (sequent_at (S.trees store.old)) all.now) made }
     ensures grows { S.grows store.old store.new }
+    ensures looks { IsTrue S.unique → steps.new ≤ steps.old + sum_by (sequent_looks (pairs_at (S.trees store.old) sigma.now.pairs)) (map (sequent_at (S.trees store.old)) all.now) }
 {
     let mut made = Listed::new(alloc);
     for s in all {
@@ -149,6 +156,7 @@ pub(crate) fn subst_row<S: Store, L: Ledger>(
     ensures known { IfOk result (IsKnownRow (S.trees store.new)) }
     ensures none { result ≡ Err NotAdmissible → (made : Provable) → ¬ Substitutes (pairs_at (S.trees store.old) sigma.now.pairs) (provable_at (S.trees store.old) row.now) made }
     ensures grows { S.grows store.old store.new }
+    ensures looks { IsTrue S.unique → steps.new ≤ steps.old + provable_looks (pairs_at (S.trees store.old) sigma.now.pairs) (provable_at (S.trees store.old) row.now) }
 {
     let conclusion = subst_sequent(alloc, store, sigma, &row.conclusion, steps)?;
     let goals = subst_sequents(alloc, store, sigma, row.goals.as_slice(), steps)?;

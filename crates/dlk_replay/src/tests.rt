@@ -3,7 +3,7 @@ ghost use Rattle.std.specs.Prelude.{◌≡◌, ◌<◌};
 use crate::{LineWhy, Outcome, ReplayFault, replay};
 use dlk_calculus::Reason;
 use dlk_kernel::Kernel;
-use dlk_plain::PlainStore;
+use dlk_shared::SharedStore;
 use dlk_store::Steps;
 use std::alloc::Global;
 use std::marker::Brand;
@@ -16,7 +16,7 @@ fn uncounted<L: Ledger>(alloc: Global, file: &[u8], blank: Blank) -> Result<Outc
     requires parts { blank.parts ≡ L.parts }
     requires some { 0 < blank.parts }
 {
-    let mut kernel = Kernel::new(alloc, PlainStore::new(alloc));
+    let mut kernel = Kernel::new(alloc, SharedStore::new(alloc));
     let mut steps = Steps::<L>::new(blank);
     replay(alloc, file, &mut kernel, &mut steps)
 }

@@ -2,3 +2,5 @@ pub mod OverIds
 mod KidsOf
 mod Quantified
 pub mod WordLaws
+mod StepsKept
+mod SideLaws

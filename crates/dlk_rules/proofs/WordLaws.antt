@@ -34,7 +34,7 @@ shape_named : (rule : Rule) → option_map wanted (named (word_of rule)) ≡ Som
 shape_named (Close i j) = refl
 shape_named _ = refl
 
-word_named : (w : RuleWord) → named (text_of w) ≡ Some w
+pub word_named : (w : RuleWord) → named (text_of w) ≡ Some w
 word_named word.Close = refl
 word_named _ = refl
 

@@ -1,5 +1,5 @@
 -- What rules and steps over ids stand for.
-use Rattle.std.specs.Prelude.{◌≡◌, ℕ, List, map, All}
+use Rattle.std.specs.Prelude.{◌≡◌, ℕ, List, map, Option, Some, None, All}
 use Rattle.std.specs.Global.{Vec}
 use Rattle.dlk_tree.specs.declared.op.Sort.TheVariants.{Formula}
 use Rattle.dlk_tree.specs.Trees.{Tree, sort}
@@ -12,6 +12,8 @@ use Rattle.dlk_calculus.specs.Steps.{Step as TreeStep, Start, UseAxiom, UseRule,
 use Rattle.dlk_sequent.specs.declared.sequent.Sequent.{Sequent}
 use Rattle.dlk_sequent.specs.Sequents.{sequent_at, IsKnown}
 use Rattle.dlk_sequent.specs.Substitutions.{pairs_at, AreKnownPairs}
+use Rattle.dlk_rules.specs.declared.arguments.Side.{Side}
+use Rattle.dlk_rules.specs.declared.arguments.Side.TheVariants.{Left, Right}
 use Rattle.dlk_rules.specs.declared.rule.Rule.{Rule}
 use Rattle.dlk_rules.specs.declared.rule.Rule.TheVariants as rule
 use Rattle.dlk_rules.specs.declared.rule.RuleWord.{RuleWord}
@@ -89,36 +91,42 @@ pub data Template : Type 0 where
   WantsFormula : (Tree → TreeRule) → Template
   WantsPlaceAndName : (ℕ → List ℕ → TreeRule) → Template
 
--- the rule of a word
+-- The rule of each word, and the side that all its places are on: `close` has one on each side, and `cut` has none.
+abbrev pub entry : RuleWord → Template × Option Side
+entry word.Close = (WantsTwoPlaces Close, None)
+entry word.CloseTrue = (WantsPlace CloseTrue, Some Right)
+entry word.CloseFalse = (WantsPlace CloseFalse, Some Left)
+entry word.NotL = (WantsPlace NotL, Some Left)
+entry word.NotR = (WantsPlace NotR, Some Right)
+entry word.AndL = (WantsPlace AndL, Some Left)
+entry word.AndR = (WantsPlace AndR, Some Right)
+entry word.OrL = (WantsPlace OrL, Some Left)
+entry word.OrR = (WantsPlace OrR, Some Right)
+entry word.ImplyL = (WantsPlace ImplyL, Some Left)
+entry word.ImplyR = (WantsPlace ImplyR, Some Right)
+entry word.EquivL = (WantsPlace EquivL, Some Left)
+entry word.EquivR = (WantsPlace EquivR, Some Right)
+entry word.Cut = (WantsFormula Cut, None)
+entry word.CutL = (WantsPlaceAndFormula CutL, Some Left)
+entry word.CutR = (WantsPlaceAndFormula CutR, Some Right)
+entry word.HideL = (WantsPlace HideL, Some Left)
+entry word.HideR = (WantsPlace HideR, Some Right)
+entry word.CoHideR = (WantsPlace CoHideR, Some Right)
+entry word.ExchangeL = (WantsTwoPlaces ExchangeL, Some Left)
+entry word.ExchangeR = (WantsTwoPlaces ExchangeR, Some Right)
+entry word.SkolemL = (WantsPlace SkolemL, Some Left)
+entry word.SkolemR = (WantsPlace SkolemR, Some Right)
+entry word.BoundL = (WantsPlaceAndName BoundL, Some Left)
+entry word.BoundR = (WantsPlaceAndName BoundR, Some Right)
+entry word.EquivifyR = (WantsPlace EquivifyR, Some Right)
+entry word.CommuteEquivL = (WantsPlace CommuteEquivL, Some Left)
+entry word.CommuteEquivR = (WantsPlace CommuteEquivR, Some Right)
+
 abbrev pub template : RuleWord → Template
-template word.Close = WantsTwoPlaces Close
-template word.CloseTrue = WantsPlace CloseTrue
-template word.CloseFalse = WantsPlace CloseFalse
-template word.NotL = WantsPlace NotL
-template word.NotR = WantsPlace NotR
-template word.AndL = WantsPlace AndL
-template word.AndR = WantsPlace AndR
-template word.OrL = WantsPlace OrL
-template word.OrR = WantsPlace OrR
-template word.ImplyL = WantsPlace ImplyL
-template word.ImplyR = WantsPlace ImplyR
-template word.EquivL = WantsPlace EquivL
-template word.EquivR = WantsPlace EquivR
-template word.Cut = WantsFormula Cut
-template word.CutL = WantsPlaceAndFormula CutL
-template word.CutR = WantsPlaceAndFormula CutR
-template word.HideL = WantsPlace HideL
-template word.HideR = WantsPlace HideR
-template word.CoHideR = WantsPlace CoHideR
-template word.ExchangeL = WantsTwoPlaces ExchangeL
-template word.ExchangeR = WantsTwoPlaces ExchangeR
-template word.SkolemL = WantsPlace SkolemL
-template word.SkolemR = WantsPlace SkolemR
-template word.BoundL = WantsPlaceAndName BoundL
-template word.BoundR = WantsPlaceAndName BoundR
-template word.EquivifyR = WantsPlace EquivifyR
-template word.CommuteEquivL = WantsPlace CommuteEquivL
-template word.CommuteEquivR = WantsPlace CommuteEquivR
+template word = (entry word).0
+
+abbrev pub side_of : RuleWord → Option Side
+side_of word = (entry word).1
 
 -- the step over the trees of its ids
 abbrev pub step_at : List Tree → Step → TreeStep

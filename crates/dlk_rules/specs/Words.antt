@@ -4,7 +4,10 @@ use Rattle.dlk_tree.specs.declared.op.Op.TheVariants.{True}
 use Rattle.dlk_tree.specs.Trees.{Tree}
 use Rattle.dlk_store.specs.Stores.{IsId, tree}
 use Rattle.dlk_calculus.specs.Notation.{leaf}
+use Rattle.dlk_calculus.specs.Places.{IsPlace}
 use Rattle.dlk_calculus.specs.Rules.{Arguments as TreeArguments, OnePlace, TwoPlaces, PlaceAndFormula, OneFormula, PlaceAndName, word_of, arguments_of}
+use Rattle.dlk_rules.specs.declared.arguments.Side.{Side}
+use Rattle.dlk_rules.specs.declared.arguments.Side.TheVariants.{Left, Right}
 use Rattle.dlk_rules.specs.declared.arguments.Shape.{Shape}
 use Rattle.dlk_rules.specs.declared.arguments.Shape.TheVariants as shape
 use Rattle.dlk_rules.specs.declared.arguments.Arguments.{Arguments}
@@ -63,6 +66,19 @@ wanted_by (WantsPlaceAndName make) = shape.PlaceAndName
 
 abbrev pub wanted : RuleWord → Shape
 wanted word = wanted_by (template word)
+
+-- the formulas of a side
+abbrev pub formulas_of : Side → List Tree → List Tree → List Tree
+formulas_of Left A S = A
+formulas_of Right A S = S
+
+-- each place among the arguments is one of these formulas
+abbrev pub ArePlaces : List Tree → TreeArguments → Type 0
+ArePlaces formulas (OnePlace i) = IsPlace formulas i
+ArePlaces formulas (TwoPlaces i k) = IsPlace formulas i × IsPlace formulas k
+ArePlaces formulas (PlaceAndFormula i h) = IsPlace formulas i
+ArePlaces formulas (OneFormula h) = Unit {0}
+ArePlaces formulas (PlaceAndName i y) = IsPlace formulas i
 
 -- the word that a text is, if it is one
 abbrev pub named : List ℕ → Option RuleWord

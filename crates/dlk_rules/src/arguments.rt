@@ -15,6 +15,13 @@ pub enum Shape {
     PlaceAndName,
 }
 
+/// A side of a sequent.
+#[derive(Clone, Copy, Debug, PartialEq, Eq)]
+pub enum Side {
+    Left,
+    Right,
+}
+
 /// The arguments of a rule: places, counted from 1, a formula, and a name as `N` has it.
 #[derive(Drop, Debug)]
 pub enum Arguments<N> {

@@ -13,7 +13,9 @@ mod rule;
 mod step;
 mod structural;
 
-pub use arguments::{Arguments, Shape};
-pub use laws::{rule_is_its_word_and_arguments, word_wants_one_shape};
+pub use arguments::{Arguments, Shape, Side};
+pub use laws::{
+    places_are_on_one_side, rule_is_its_word_and_arguments, step_stays, word_wants_one_shape,
+};
 pub use rule::{Rule, RuleFault, RuleWord, premises};
 pub use step::Step;

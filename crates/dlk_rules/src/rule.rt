@@ -4,10 +4,10 @@ ghost use Rattle.dlk_tree.specs.Trees.{Tree};
 ghost use Rattle.dlk_calculus.specs.Rules.{Rule as TreeRule, IsProperRule, word_of, arguments_of, FirstAgainst};
 ghost use Rattle.dlk_sequent.specs.Sequents.{sequent_at};
 ghost use Rattle.dlk_rules.specs.declared.rule.RuleFault.TheVariants.{Memory};
-ghost use Rattle.dlk_rules.specs.Steps.{rule_at, RuleIsKnown, IsOfFormulas, ArePremises, IsRuleFault};
+ghost use Rattle.dlk_rules.specs.Steps.{rule_at, RuleIsKnown, side_of, IsOfFormulas, ArePremises, IsRuleFault};
 ghost use Rattle.dlk_rules.specs.Words.{shape_in, arguments_at, ArgumentsAreKnown, text_of, wanted, named, IsCall};
 
-use crate::arguments::{Arguments, Shape};
+use crate::arguments::{Arguments, Shape, Side};
 use crate::closing::{close, close_false, close_true};
 use crate::connectives::{
     and_left, and_right, equiv_left, equiv_right, imply_left, imply_right, not_left, not_right,
@@ -157,7 +157,7 @@ impl RuleWord {
     pub fn text(self) -> &'static str
         ensures { result.now ≡ text_of self }
     {
-        let (text, _) = self.row();
+        let (text, _, _) = self.row();
         text
     }
 
@@ -165,44 +165,53 @@ impl RuleWord {
     pub fn shape(self) -> Shape
         ensures { result ≡ wanted self }
     {
-        let (_, shape) = self.row();
+        let (_, shape, _) = self.row();
         shape
     }
 
-    /// The word as it is written, and the shape of its arguments: a row a rule.
-    fn row(self) -> (&'static str, Shape)
+    /// The side that its places are on. None comes for `close`, which has one on each side, and for `cut`, which has none.
+    pub fn side(self) -> Option<Side>
+        ensures { result ≡ side_of self }
+    {
+        let (_, _, side) = self.row();
+        side
+    }
+
+    /// The word as it is written, the shape of its arguments, and the side of its places: a row a rule.
+    fn row(self) -> (&'static str, Shape, Option<Side>)
         ensures text { result.0.now ≡ text_of self }
         ensures shape { result.1 ≡ wanted self }
+        ensures side { result.2 ≡ side_of self }
     {
         match self {
-            RuleWord::Close => ("close", Shape::TwoPlaces),
-            RuleWord::CloseTrue => ("closeTrue", Shape::OnePlace),
-            RuleWord::CloseFalse => ("closeFalse", Shape::OnePlace),
-            RuleWord::NotL => ("notL", Shape::OnePlace),
-            RuleWord::NotR => ("notR", Shape::OnePlace),
-            RuleWord::AndL => ("andL", Shape::OnePlace),
-            RuleWord::AndR => ("andR", Shape::OnePlace),
-            RuleWord::OrL => ("orL", Shape::OnePlace),
-            RuleWord::OrR => ("orR", Shape::OnePlace),
-            RuleWord::ImplyL => ("implyL", Shape::OnePlace),
-            RuleWord::ImplyR => ("implyR", Shape::OnePlace),
-            RuleWord::EquivL => ("equivL", Shape::OnePlace),
-            RuleWord::EquivR => ("equivR", Shape::OnePlace),
-            RuleWord::Cut => ("cut", Shape::OneFormula),
-            RuleWord::CutL => ("cutL", Shape::PlaceAndFormula),
-            RuleWord::CutR => ("cutR", Shape::PlaceAndFormula),
-            RuleWord::HideL => ("hideL", Shape::OnePlace),
-            RuleWord::HideR => ("hideR", Shape::OnePlace),
-            RuleWord::CoHideR => ("coHideR", Shape::OnePlace),
-            RuleWord::ExchangeL => ("exchangeL", Shape::TwoPlaces),
-            RuleWord::ExchangeR => ("exchangeR", Shape::TwoPlaces),
-            RuleWord::SkolemL => ("skolemL", Shape::OnePlace),
-            RuleWord::SkolemR => ("skolemR", Shape::OnePlace),
-            RuleWord::BoundL => ("boundL", Shape::PlaceAndName),
-            RuleWord::BoundR => ("boundR", Shape::PlaceAndName),
-            RuleWord::EquivifyR => ("equivifyR", Shape::OnePlace),
-            RuleWord::CommuteEquivL => ("commuteEquivL", Shape::OnePlace),
-            RuleWord::CommuteEquivR => ("commuteEquivR", Shape::OnePlace),
+            RuleWord::Close => ("close", Shape::TwoPlaces, None),
+            RuleWord::CloseTrue => ("closeTrue", Shape::OnePlace, Some(Side::Right)),
+            RuleWord::CloseFalse => ("closeFalse", Shape::OnePlace, Some(Side::Left)),
+            RuleWord::NotL => ("notL", Shape::OnePlace, Some(Side::Left)),
+            RuleWord::NotR => ("notR", Shape::OnePlace, Some(Side::Right)),
+            RuleWord::AndL => ("andL", Shape::OnePlace, Some(Side::Left)),
+            RuleWord::AndR => ("andR", Shape::OnePlace, Some(Side::Right)),
+            RuleWord::OrL => ("orL", Shape::OnePlace, Some(Side::Left)),
+            RuleWord::OrR => ("orR", Shape::OnePlace, Some(Side::Right)),
+            RuleWord::ImplyL => ("implyL", Shape::OnePlace, Some(Side::Left)),
+            RuleWord::ImplyR => ("implyR", Shape::OnePlace, Some(Side::Right)),
+            RuleWord::EquivL => ("equivL", Shape::OnePlace, Some(Side::Left)),
+            RuleWord::EquivR => ("equivR", Shape::OnePlace, Some(Side::Right)),
+            RuleWord::Cut => ("cut", Shape::OneFormula, None),
+            RuleWord::CutL => ("cutL", Shape::PlaceAndFormula, Some(Side::Left)),
+            RuleWord::CutR => ("cutR", Shape::PlaceAndFormula, Some(Side::Right)),
+            RuleWord::HideL => ("hideL", Shape::OnePlace, Some(Side::Left)),
+            RuleWord::HideR => ("hideR", Shape::OnePlace, Some(Side::Right)),
+            RuleWord::CoHideR => ("coHideR", Shape::OnePlace, Some(Side::Right)),
+            RuleWord::ExchangeL => ("exchangeL", Shape::TwoPlaces, Some(Side::Left)),
+            RuleWord::ExchangeR => ("exchangeR", Shape::TwoPlaces, Some(Side::Right)),
+            RuleWord::SkolemL => ("skolemL", Shape::OnePlace, Some(Side::Left)),
+            RuleWord::SkolemR => ("skolemR", Shape::OnePlace, Some(Side::Right)),
+            RuleWord::BoundL => ("boundL", Shape::PlaceAndName, Some(Side::Left)),
+            RuleWord::BoundR => ("boundR", Shape::PlaceAndName, Some(Side::Right)),
+            RuleWord::EquivifyR => ("equivifyR", Shape::OnePlace, Some(Side::Right)),
+            RuleWord::CommuteEquivL => ("commuteEquivL", Shape::OnePlace, Some(Side::Left)),
+            RuleWord::CommuteEquivR => ("commuteEquivR", Shape::OnePlace, Some(Side::Right)),
         }
     }
 

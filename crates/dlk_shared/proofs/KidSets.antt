@@ -1,12 +1,13 @@
 -- The sets of kids, by their numbers.
-use Rattle.std.proofs.Common.{◌≡◌, ℕ, ◌≤◌, ◌||◌, List, [], ◌∷◌, length, get_or, take, drop, ◌-◌, Result, IfOk, refl, sym, subst, arith}
+use Rattle.std.proofs.Common.{◌≡◌, ℕ, ◌+◌, ◌<◌, ◌≤◌, ◌||◌, ◌∙◌, Bool, List, [], ◌∷◌, length, get_or, take, Result, IfOk, refl, sym, ap, subst, arith}
 use Rattle.std.specs.Prelude.{All, map}
-use Rattle.std.proofs.lemmas.List.{take_all}
+use Rattle.std.specs.List.{list_any}
+use Rattle.dlk_tree.specs.declared.op.Var.{Var}
 use Rattle.dlk_tree.specs.Statics.{either, both, without, free_in_turn, must_in_both, must_in_one}
 use Rattle.dlk_store.specs.declared.listing.Which.{Which}
 use Rattle.dlk_shared.specs.declared.node.NodeSets.{NodeSets}
-use Rattle.dlk_shared.specs.SetTables.{SetTable, set_at, sets_at, Means, Makes, Keeps, AreSets, number_in, in_kids}
-use Rattle.dlk_shared.proofs.SetLemmas.{mapped, set_itself, means_kept, set_in_at, is_set_in}
+use Rattle.dlk_shared.specs.SetTables.{SetTable, set_at, sets_at, Means, Makes, Keeps, AreSets, number_in, set_in, in_kids}
+use Rattle.dlk_shared.proofs.SetLemmas.{mapped, set_itself, means_kept, means_same, set_in_at, is_set_in, any_more}
 
 -- ---- of two kids, or of the first two
 
@@ -54,22 +55,22 @@ module _ {E : Type 0} (r : Result ℕ E) (old new : SetTable) (ks : List NodeSet
 
 -- ---- of all kids
 
-kids_of : (t : SetTable) (which : Which) (d : NodeSets) (ks : List NodeSets) → 2 ≤ length ks
-    → in_kids which (map (sets_at t) ks) ≡ either (set_at t (number_in which (get_or ks 0 d))) (in_kids which (map (sets_at t) (drop 1 ks)))
-kids_of t which d [] h = absurd (omega arith)
-kids_of t which d (k ∷ ks) h = λ i v. sym (set_in_at t which k) i v || in_kids which (map (sets_at t) ks) v
+any_kid : (t : SetTable) (which : Which) (ks : List NodeSets) (v : Var) → in_kids which (map (sets_at t) ks) v ≡ list_any (λ k. set_in which (sets_at t k) v) ks
+any_kid t which [] v = refl
+any_kid t which (k ∷ ks) v = ap (λ b. set_in which (sets_at t k) v || b) (any_kid t which ks v)
 
-rest_all : (ks : List NodeSets) → 2 ≤ length ks → take (length ks - 1) (drop 1 ks) ≡ drop 1 ks
-rest_all [] h = absurd (omega arith)
-rest_all (k ∷ ks) h = take_all (length (k ∷ ks) - 1) ks (omega arith)
+kids_take : (t : SetTable) (which : Which) (ks : List NodeSets) (i : ℕ) (d : NodeSets) → i < length ks → (v : Var)
+    → in_kids which (map (sets_at t) (take (i + 1) ks)) v ≡ (in_kids which (map (sets_at t) (take i ks)) v || set_in which (sets_at t (get_or ks i d)) v)
+kids_take t which ks i d lt v =
+    let f : NodeSets → Bool = λ k. set_in which (sets_at t k) v in
+    any_kid t which (take (i + 1) ks) v ∙ any_more f ks i d lt ∙ ap (λ b. b || f (get_or ks i d)) (sym (any_kid t which (take i ks) v))
 
-pub kids_mean : {E : Type 0} (r : Result ℕ E) (old mid new : SetTable) (which : Which) (ks : List NodeSets) (d : NodeSets) (first rest : ℕ) → All (AreSets old) ks
-    → 2 ≤ length ks → first ≡ number_in which (get_or ks 0 d) → Keeps old mid → Means mid rest (in_kids which (map (sets_at old) (take (length ks - 1) (drop 1 ks))))
-    → IfOk r (Makes either mid first rest new) → IfOk r (λ n. Means new n (in_kids which (map (sets_at old) ks)))
-kids_mean r old mid new which ks d first rest sound some is keeps later =
-    let k = get_or ks 0 d in
-    mapped (Makes either mid first rest new) (λ n. Means new n (in_kids which (map (sets_at old) ks))) r
-    (λ n m. subst (Means new n) (sym (kids_of old which d ks some))
-    (m.means (set_at old (number_in which k)) (in_kids which (map (sets_at old) (drop 1 ks)))
-    (means_kept keeps (subst (λ f. Means old f (set_at old (number_in which k))) (sym is) (set_itself (is_set_in old which k (sound 0 d (omega arith))))))
-    (subst (λ l. Means mid rest (in_kids which (map (sets_at old) l))) (rest_all ks some) later)))
+pub kid_more : (old mid new : SetTable) (which : Which) (ks : List NodeSets) (i : ℕ) (d : NodeSets) (one all more : ℕ) → All (AreSets old) ks
+    → i < length ks → one ≡ number_in which (get_or ks i d) → Keeps old mid → Means mid all (in_kids which (map (sets_at old) (take i ks)))
+    → Makes either mid all one new more → Means new more (in_kids which (map (sets_at old) (take (i + 1) ks)))
+kid_more old mid new which ks i d one all more sound lt is keeps so_far makes =
+    let k = get_or ks i d in
+    let own : Means old (number_in which k) (set_in which (sets_at old k)) =
+    subst (Means old (number_in which k)) (set_in_at old which k) (set_itself (is_set_in old which k (sound i d lt))) in
+    let now : Means mid one (set_in which (sets_at old k)) = means_kept keeps (subst (λ n. Means old n (set_in which (sets_at old k))) (sym is) own) in
+    means_same (λ v. sym (kids_take old which ks i d lt v)) (makes.means (in_kids which (map (sets_at old) (take i ks))) (set_in which (sets_at old k)) so_far now)

@@ -1,15 +1,17 @@
 -- What sets stand for while their table grows, and what is made of them.
-use Rattle.std.proofs.Common.{◌≡◌, ℕ, suc, ◌<◌, ◌≤◌, Bool, true, false, cond, ◌||◌, ◌&&◌, List, [], ◌∷◌, ◌++◌, length, Some, Result, Ok, Err, IfOk, refl, sym, ap, subst, ◌∙◌, arith, length-append}
-use Rattle.std.proofs.lemmas.List.{append-nil, append_assoc, get_or_append_left}
+use Rattle.std.proofs.Common.{◌≡◌, ◌↔◌, IsTrue, not, true≢false, take, get_or, Option, None, ◌+◌, ℕ, suc, ◌<◌, ◌≤◌, Bool, true, false, cond, ◌||◌, ◌&&◌, List, [], ◌∷◌, ◌++◌, length, Some, Result, Ok, Err, IfOk, refl, sym, ap, subst, ◌∙◌, arith, length-append}
+use Rattle.std.proofs.lemmas.List.{append-nil, append_assoc, get_or_append_left, take_more}
 use Rattle.std.proofs.lemmas.List.Quantifiers.{position-Some}
 use Rattle.std.specs.Bool.{beq}
 use Rattle.std.specs.Str.{bytes_eq}
 use Rattle.std.specs.List.{list_any}
 use Rattle.indexmap.specs.IndexSet.{insert_key}
 use Rattle.dlk_tree.specs.Tests.{var_eq}
-use Rattle.dlk_tree.specs.Statics.{none, just, plain, prime, with_prime, and_primes, either, Sets}
+use Rattle.dlk_tree.specs.Statics.{none, just, plain, prime, with_prime, and_primes, either, without, Sets}
 use Rattle.dlk_tree.specs.declared.op.Var.{Var}
-use Rattle.dlk_vars.specs.Rows.{Row}
+use Rattle.dlk_vars.specs.Rows.{Row, has_number}
+use Rattle.std.specs.Option.{option_map_or}
+use Rattle.std.proofs.lemmas.List.Folds.{list_any-append}
 use Rattle.dlk_vars.specs.Tables.{number_of, Grows}
 use Rattle.dlk_vars.specs.Sets.{StandsFor, Gains}
 use Rattle.dlk_vars.proofs.Members.{has_stays, within_stays}
@@ -17,7 +19,7 @@ use Rattle.std.specs.Prelude.{All, map}
 use Rattle.dlk_store.specs.declared.listing.Which.{Which}
 use Rattle.dlk_store.specs.declared.listing.Which.TheVariants.{Free, Bound, Must}
 use Rattle.dlk_shared.specs.declared.node.NodeSets.{NodeSets}
-use Rattle.dlk_shared.specs.SetTables.{SetTable, row_at, Holds, Means, MeanSets, Keeps, MakesPrimes, set_at, sets_at, IsSet, AreSets, number_in, set_in}
+use Rattle.dlk_shared.specs.SetTables.{SetTable, row_at, Holds, Means, MeanSets, Keeps, Makes, MakesPrimes, IsNone, set_at, sets_at, IsSet, AreSets, number_in, set_in}
 
 pub Grows-refl : (vars : List Var) → Grows vars vars
 Grows-refl vars = record { more = []; is = sym (append-nil vars) }
@@ -177,3 +179,42 @@ mean_sets_is m =
     let bound = means_is m.bound in
     let must = means_is m.must in
     λ i. record { free = free i; bound = bound i; must = must i }
+
+-- ---- an empty set
+
+and_true : (b : Bool) → (b && true) ≡ b
+and_true true = refl
+and_true false = refl
+
+or_false : (b : Bool) → (b || false) ≡ b
+or_false true = refl
+or_false false = refl
+
+pub no_number : (r : Row) (answer : Bool) → IsTrue (not answer) ↔ ((m : ℕ) × IsTrue (has_number r m)) → IsTrue answer → (m : ℕ) → has_number r m ≡ false
+no_number r answer some told m = by (has_number r m) refl
+  where
+    by : (b : Bool) → has_number r m ≡ b → b ≡ false
+    by true e = absurd (true≢false (sym (some.1 (m, e)) ∙ ap not told))
+    by false e = refl
+
+module _ (t : SetTable) (n : ℕ) (answer : Bool) (some : IsTrue (not answer) ↔ ((m : ℕ) × IsTrue (has_number (row_at t.sets n) m))) (told : IsTrue answer) where
+  no_member : {set : Var → Bool} → Means t n set → (o : Option ℕ) → option_map_or (has_number (row_at t.sets n)) o (row_at t.sets n).others ≡ false
+  no_member m (Some k) = no_number (row_at t.sets n) answer some told k
+  no_member m None = sym (m.holds.within (length t.vars) (omega arith)) ∙ no_number (row_at t.sets n) answer some told (length t.vars)
+
+  pub none_in : IsNone t n
+  none_in = record { none = λ set m v. sym (m.holds.members v) ∙ no_member m (number_of t.vars v) }
+
+pub either_none : {t : SetTable} {a b : ℕ} → IsNone t b → Makes either t a b t a
+either_none empty = record { means = λ s r m k. means_same (λ v. sym (ap (λ x. s v || x) (empty.none r k v) ∙ or_false (s v))) m }
+
+pub none_either : {t : SetTable} {a b : ℕ} → IsNone t a → Makes either t a b t b
+none_either empty = record { means = λ s r m k. means_same (λ v. sym (ap (λ x. x || r v) (empty.none s m v))) k }
+
+pub without_none : {t : SetTable} {a b : ℕ} → IsNone t b → Makes without t a b t a
+without_none empty = record { means = λ s r m k. means_same (λ v. sym (ap (λ x. s v && not x) (empty.none r k v) ∙ and_true (s v))) m }
+
+-- ---- one item or kid more
+
+pub any_more : {A : Type 0} (p : A → Bool) (xs : List A) (k : ℕ) (d : A) → k < length xs → list_any p (take (k + 1) xs) ≡ (list_any p (take k xs) || p (get_or xs k d))
+any_more p xs k d lt = ap (list_any p) (take_more xs k d lt) ∙ list_any-append p (take k xs) (get_or xs k d ∷ []) ∙ ap (λ b. list_any p (take k xs) || b) (or_false (p (get_or xs k d)))

@@ -1,12 +1,16 @@
 -- What signatures stand for while their table grows, and what is made of them.
-use Rattle.std.proofs.Common.{◌≡◌, ℕ, zero, suc, ◌+◌, ◌<◌, ◌≤◌, ◌==◌, Bool, true, false, cond, ◌||◌, ◌&&◌, List, [], ◌∷◌, ◌++◌, length, Some, slice_get, Result, Ok, Err, IfOk, refl, sym, ap, ◌∙◌, arith, length-append}
+use Rattle.std.proofs.Common.{take, get_or, ◌≡◌, ℕ, zero, suc, ◌+◌, ◌<◌, ◌≤◌, ◌==◌, Bool, true, false, cond, ◌||◌, ◌&&◌, List, [], ◌∷◌, ◌++◌, length, Some, slice_get, Result, Ok, Err, IfOk, refl, sym, ap, ◌∙◌, arith, length-append}
 use Rattle.std.proofs.lemmas.Bool.{eq-eqb, ne_eqb}
-use Rattle.std.proofs.lemmas.List.{append-nil, append_assoc}
+use Rattle.std.proofs.lemmas.List.{append-nil, append_assoc, take_more}
+use Rattle.std.proofs.lemmas.List.Folds.{list_any-append}
 use Rattle.std.proofs.lemmas.Option.{none-some, same_Some}
 use Rattle.std.specs.List.{list_any}
 use Rattle.std.specs.Prelude.{All}
 use Rattle.indexmap.specs.IndexSet.{insert_key}
+use Rattle.dlk_tree.specs.Occurs.{constants}
 use Rattle.dlk_tree.specs.Tests.{sym_eq}
+use Rattle.dlk_tree.specs.declared.op.OdeItem.{OdeItem}
+use Rattle.dlk_tree.specs.declared.op.OdeItem.TheVariants.{Evolve, Const}
 use Rattle.dlk_tree.specs.declared.op.Sym.{Sym}
 use Rattle.dlk_vars.specs.Rows.{Row, has_number}
 use Rattle.dlk_shared.specs.SetTables.{row_at}
@@ -20,7 +24,7 @@ and_true : (b : Bool) → (b && true) ≡ b
 and_true true = refl
 and_true false = refl
 
-or_false : (b : Bool) → (b || false) ≡ b
+pub or_false : (b : Bool) → (b || false) ≡ b
 or_false true = refl
 or_false false = refl
 
@@ -141,5 +145,25 @@ in_kids_kept k (n ∷ ns) all s =
     let rest = in_kids_kept k ns (λ i d h. all (suc i) d (omega arith)) s in
     λ i. first i || rest i
 
-pub all_kept : {old new : SignTable} → KeepsSigns old new → (ks : List ℕ) → All (IsSign old) ks → All (IsSign new) ks
-all_kept k ks all = λ i d h. sign_kept k (all i d h)
+pub turned : (a b : Bool) → (a || b) ≡ (b || a)
+turned true true = refl
+turned true false = refl
+turned false true = refl
+turned false false = refl
+
+pub grouped : (a b c : Bool) → ((a || b) || c) ≡ (a || (b || c))
+grouped true b c = refl
+grouped false b c = refl
+
+-- ---- constants of items, one after another
+
+constants_append : (xs ys : List OdeItem) → constants (xs ++ ys) ≡ constants xs ++ constants ys
+constants_append [] ys = refl
+constants_append (Evolve x ∷ xs) ys = constants_append xs ys
+constants_append (Const x ∷ xs) ys = ap (λ l. x ∷ l) (constants_append xs ys)
+
+pub constants_more : (xs : List OdeItem) (k : ℕ) (d : OdeItem) (s : Sym) → k < length xs
+    → list_any (sym_eq s) (constants (take (k + 1) xs)) ≡ (list_any (sym_eq s) (constants (take k xs)) || list_any (sym_eq s) (constants (get_or xs k d ∷ [])))
+constants_more xs k d s lt =
+    ap (λ l. list_any (sym_eq s) (constants l)) (take_more xs k d lt) ∙ ap (list_any (sym_eq s)) (constants_append (take k xs) (get_or xs k d ∷ []))
+    ∙ list_any-append (sym_eq s) (constants (take k xs)) (constants (get_or xs k d ∷ []))

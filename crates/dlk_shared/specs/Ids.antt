@@ -8,4 +8,4 @@ abbrev pub ids_in : Ids → List Id
 ids_in In.None = []
 ids_in (In.One ids) = ids
 ids_in (In.Two ids) = ids
-ids_in (In.More ids) = ids.items
+ids_in (In.More ids) = ids.value.items

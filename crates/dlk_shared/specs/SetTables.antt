@@ -59,6 +59,10 @@ pub record IsSet (t : SetTable) (n : ℕ) : Type 0 where
   pub known : n < length t.sets
   pub within : IsWithin t.vars (row_at t.sets n)
 
+-- no variable is in the set of this number
+pub record IsNone (t : SetTable) (n : ℕ) : Type 0 where
+  pub none : (set : Var → Bool) → Means t n set → (v : Var) → set v ≡ false
+
 pub record AreSets (t : SetTable) (n : NodeSets) : Type 0 where
   pub free : IsSet t n.free
   pub bound : IsSet t n.bound

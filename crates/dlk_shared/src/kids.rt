@@ -6,13 +6,13 @@ use std::alloc::{AllocError, Global};
 use std::hash::{Hash, Hasher};
 use std::marker::Model;
 
-/// Ids in a row. Up to two stand in the value itself, as almost every node has no more.
+/// Ids in a row. Up to two stand in the value itself, as almost every node has no more; further ones stand elsewhere, so that the value stays small.
 #[derive(Drop)]
 pub enum Ids {
     None,
     One([Id; 1]),
     Two([Id; 2]),
-    More(Vec<Id>),
+    More(Box<Vec<Id>>),
 }
 
 /// The kids of a node, which contracts see as the list of their ids.
@@ -44,9 +44,12 @@ impl Kids {
             [a, b] => Ok(Kids {
                 ids: Ids::Two([*a, *b]),
             }),
-            _ => Ok(Kids {
-                ids: Ids::More(Vec::from_slice(alloc, ids)?),
-            }),
+            _ => {
+                let ids = Vec::from_slice(alloc, ids)?;
+                Ok(Kids {
+                    ids: Ids::More(Box::new(alloc, ids)?),
+                })
+            }
         }
     }
 

@@ -1,5 +1,5 @@
 //! What is kept of a node.
-ghost use Rattle.std.specs.Prelude.{◌≡◌, IsTrue};
+ghost use Rattle.std.specs.Prelude.{◌≡◌, IfOk, IsTrue};
 ghost use Rattle.dlk_tree.specs.Table.{has_parts};
 ghost use Rattle.dlk_tree.specs.Occurs.{is_hole};
 ghost use Rattle.dlk_shared.specs.Kept.{dot_bit};
@@ -8,25 +8,36 @@ ghost use Rattle.dlk_shared.specs.SetTables.{number_in};
 use crate::kids::Kids;
 use dlk_store::Which;
 use dlk_tree::Op;
+use dlk_vars::VarFault;
+
+/// A place in a table in four bytes. A table is full where its places need more, which counts as want of memory.
+pub fn narrow(n: usize) -> Result<u32, VarFault>
+    ensures { IfOk result (λ m. m ≡ n) }
+{
+    match u32::try_from(n) {
+        Ok(m) => Ok(m),
+        Err(_) => Err(VarFault::Memory),
+    }
+}
 
 /// What a node is known by: the number of its operator, and its kids.
 #[derive(PartialEq, Eq, Hash, Drop)]
 pub struct Key {
-    pub op: usize,
+    pub op: u32,
     pub kids: Kids,
 }
 
 /// The numbers of the three sets of a node's tree.
 #[derive(Clone, Copy)]
 pub struct NodeSets {
-    pub free: usize,
-    pub bound: usize,
-    pub must: usize,
+    pub free: u32,
+    pub bound: u32,
+    pub must: u32,
 }
 
 impl NodeSets {
     /// The number of one of the three sets.
-    pub fn of(&self, which: Which) -> usize
+    pub fn of(&self, which: Which) -> u32
         ensures { result ≡ number_in which self.now }
     {
         match which {
@@ -50,7 +61,7 @@ pub struct Facts {
     pub hole: bool,
     pub sets: NodeSets,
     /// The number of its signature.
-    pub sign: usize,
+    pub sign: u32,
 }
 
 /// The bit of an operator that is an argument dot, and else none.

@@ -8,10 +8,10 @@ ghost use Rattle.dlk_vars.specs.Sets.{IsWithin};
 ghost use Rattle.dlk_vars.specs.Rows.{has_number};
 ghost use Rattle.dlk_shared.specs.Shapes.{own_sets, in_item, in_items};
 ghost use Rattle.dlk_tree.specs.declared.op.Op.TheVariants.{System};
-ghost use Rattle.dlk_shared.specs.SetTables.{row_at, set_at, IsSet, Means, MeanSets, Keeps, Makes, MakesPrimes, GainsPrime};
+ghost use Rattle.dlk_shared.specs.SetTables.{row_at, set_at, IsSet, IsNone, Means, MeanSets, Keeps, Makes, MakesPrimes, GainsPrime};
 
 use crate::listed::{list_var, vars_in_order};
-use crate::node::NodeSets;
+use crate::node::{NodeSets, narrow};
 use dlk_store::{Listing, Vars, Which};
 use dlk_tree::{Name, OdeItem, Op, Var};
 use dlk_vars::{VarFault, VarNo, VarSet, VarTable};
@@ -54,15 +54,15 @@ impl SetTable {
     }
 
     /// The set of a number.
-    pub fn set(&self, n: usize) -> &VarSet
+    pub fn set(&self, n: u32) -> &VarSet
         requires { n < length self.now.sets }
         ensures { result.now ≡ row_at self.now.sets n }
     {
-        &self.sets.as_slice()[n]
+        &self.sets.as_slice()[n as usize]
     }
 
     /// Whether the variable is in the set.
-    pub fn has(&self, n: usize, v: &Var) -> bool
+    pub fn has(&self, n: u32, v: &Var) -> bool
         requires { n < length self.now.sets }
         ensures { result ≡ set_at self.now n v.now }
     {
@@ -73,7 +73,7 @@ impl SetTable {
     }
 
     /// Whether some variable is in the set.
-    pub fn has_any(&self, n: usize) -> bool
+    pub fn has_any(&self, n: u32) -> bool
         requires { IsSet self.now n }
         ensures { IsTrue result ↔ IsInhabited (set_at self.now n) }
     {
@@ -82,7 +82,7 @@ impl SetTable {
     }
 
     /// Whether some variable is in both sets.
-    pub fn meet(&self, a: usize, b: usize) -> bool
+    pub fn meet(&self, a: u32, b: u32) -> bool
         requires first { IsSet self.now a }
         requires second { IsSet self.now b }
         ensures { IsTrue result ↔ IsInhabited (both (set_at self.now a) (set_at self.now b)) }
@@ -92,7 +92,7 @@ impl SetTable {
     }
 
     /// The set, listed.
-    pub fn list(&self, alloc: Global, n: usize) -> Result<Listing, VarFault>
+    pub fn list(&self, alloc: Global, n: u32) -> Result<Listing, VarFault>
         requires { IsSet self.now n }
         ensures { IfOk result (IsListingOf (set_at self.now n)) }
     {
@@ -110,18 +110,18 @@ impl SetTable {
     }
 
     /// The number of a set, which is kept if it isn't yet.
-    fn keep(&mut self, set: VarSet) -> Result<usize, VarFault>
+    fn keep(&mut self, set: VarSet) -> Result<u32, VarFault>
         ensures known { IfOk result (λ n. n < length self.new.sets) }
         ensures row { IfOk result (λ n. row_at self.new.sets n ≡ set) }
         ensures vars { self.new.vars ≡ self.old.vars }
         ensures keeps { Keeps self.old self.new }
     {
         let (n, _) = self.sets.insert_full(set)?;
-        Ok(n)
+        narrow(n)
     }
 
     /// The empty set.
-    pub fn none(&mut self) -> Result<usize, VarFault>
+    pub fn none(&mut self) -> Result<u32, VarFault>
         ensures means { IfOk result (λ n. Means self.new n none) }
         ensures keeps { Keeps self.old self.new }
     {
@@ -130,7 +130,7 @@ impl SetTable {
     }
 
     /// The set of all variables.
-    pub fn all(&mut self) -> Result<usize, VarFault>
+    pub fn all(&mut self) -> Result<u32, VarFault>
         ensures means { IfOk result (λ n. Means self.new n all) }
         ensures keeps { Keeps self.old self.new }
     {
@@ -161,7 +161,7 @@ impl SetTable {
     }
 
     /// The variable alone.
-    pub fn just(&mut self, v: &Var) -> Result<usize, VarFault>
+    pub fn just(&mut self, v: &Var) -> Result<u32, VarFault>
         ensures means { IfOk result (λ n. Means self.new n (just v.now)) }
         ensures keeps { Keeps self.old self.new }
     {
@@ -171,7 +171,7 @@ impl SetTable {
     }
 
     /// The unprimed variable of a name alone.
-    fn just_plain(&mut self, x: &Name) -> Result<usize, VarFault>
+    fn just_plain(&mut self, x: &Name) -> Result<u32, VarFault>
         ensures means { IfOk result (λ n. Means self.new n (just (plain x.now))) }
         ensures keeps { Keeps self.old self.new }
     {
@@ -180,7 +180,7 @@ impl SetTable {
     }
 
     /// The primed variable of a name alone.
-    fn just_prime(&mut self, x: &Name) -> Result<usize, VarFault>
+    fn just_prime(&mut self, x: &Name) -> Result<u32, VarFault>
         ensures means { IfOk result (λ n. Means self.new n (just (prime x.now))) }
         ensures keeps { Keeps self.old self.new }
     {
@@ -189,7 +189,7 @@ impl SetTable {
     }
 
     /// Both variables of a name.
-    fn with_prime(&mut self, x: &Name) -> Result<usize, VarFault>
+    fn with_prime(&mut self, x: &Name) -> Result<u32, VarFault>
         ensures means { IfOk result (λ n. Means self.new n (with_prime x.now)) }
         ensures keeps { Keeps self.old self.new }
     {
@@ -199,7 +199,7 @@ impl SetTable {
     }
 
     /// All variables but the two of a name.
-    fn all_but_name(&mut self, y: &Name) -> Result<usize, VarFault>
+    fn all_but_name(&mut self, y: &Name) -> Result<u32, VarFault>
         ensures means { IfOk result (λ n. Means self.new n (all_but (Some y.now))) }
         ensures keeps { Keeps self.old self.new }
     {
@@ -209,7 +209,7 @@ impl SetTable {
     }
 
     /// All variables, or with a taboo all but its two variables.
-    fn all_but(&mut self, taboo: &Option<Name>) -> Result<usize, VarFault>
+    fn all_but(&mut self, taboo: &Option<Name>) -> Result<u32, VarFault>
         ensures means { IfOk result (λ n. Means self.new n (all_but taboo.now)) }
         ensures keeps { Keeps self.old self.new }
     {
@@ -220,7 +220,8 @@ impl SetTable {
     }
 
     /// What an item of a system reads, binds or must-binds.
-    fn in_item(&mut self, which: Which, item: &OdeItem) -> Result<usize, VarFault>
+    fn in_item(&mut self, which: Which, item: &OdeItem, empty: u32) -> Result<u32, VarFault>
+        requires { Means self.old empty none }
         ensures means { IfOk result (λ n. Means self.new n (in_item which item.now)) }
         ensures keeps { Keeps self.old self.new }
     {
@@ -233,83 +234,91 @@ impl SetTable {
             OdeItem::Const(s) => match which {
                 Which::Free => self.all_but(&s.taboo),
                 Which::Bound => self.all_but(&s.taboo),
-                Which::Must => self.none(),
+                Which::Must => Ok(empty),
             },
         }
     }
 
     /// What the items of a system read, bind or must-bind.
-    fn in_items(&mut self, which: Which, items: &[OdeItem]) -> Result<usize, VarFault>
+    fn in_items(&mut self, which: Which, items: &[OdeItem], empty: u32) -> Result<u32, VarFault>
+        requires { Means self.old empty none }
         ensures means { IfOk result (λ n. Means self.new n (in_items which items.now)) }
         ensures keeps { Keeps self.old self.new }
     {
-        match items.split_first() {
-            None => self.none(),
-            Some((item, rest)) => {
-                let first = self.in_item(which, item)?;
-                let rest = self.in_items(which, rest)?;
-                self.either(first, rest)
-            }
+        let mut all = empty;
+        for item in items {
+            let one = self.in_item(which, item, empty)?;
+            all = self.either(all, one)?;
         }
+        Ok(all)
     }
 
     /// What a system reads, binds and must-binds by itself.
-    fn system_sets(&mut self, items: &[OdeItem]) -> Result<NodeSets, VarFault>
+    fn system_sets(&mut self, items: &[OdeItem], empty: u32) -> Result<NodeSets, VarFault>
+        requires { Means self.old empty none }
         ensures means { IfOk result (λ n. MeanSets self.new n (own_sets (System items.now))) }
         ensures keeps { Keeps self.old self.new }
     {
-        let free = self.in_items(Which::Free, items)?;
-        let bound = self.in_items(Which::Bound, items)?;
-        let must = self.in_items(Which::Must, items)?;
+        let free = self.in_items(Which::Free, items, empty)?;
+        let bound = self.in_items(Which::Bound, items, empty)?;
+        let must = self.in_items(Which::Must, items, empty)?;
         Ok(NodeSets { free, bound, must })
     }
 
-    /// What the operator reads, binds and must-binds by itself.
-    pub fn own_sets(&mut self, op: &Op) -> Result<NodeSets, VarFault>
+    /// What the operator reads, binds and must-binds by itself. Most operators have the empty set alone.
+    pub fn own_sets(&mut self, op: &Op, empty: u32) -> Result<NodeSets, VarFault>
+        requires { Means self.old empty none }
         ensures means { IfOk result (λ n. MeanSets self.new n (own_sets op.now)) }
         ensures keeps { Keeps self.old self.new }
     {
-        let none = self.none()?;
         match op {
             Op::Variable(v) => {
                 let free = self.just(v)?;
-                Ok(reads(free, none))
+                Ok(reads(free, empty))
             }
             Op::UnitFun(s) | Op::UnitPred(s) => {
                 let free = self.all_but(&s.taboo)?;
-                Ok(reads(free, none))
+                Ok(reads(free, empty))
             }
             Op::Hole | Op::Predicational(_) | Op::Const(_) => {
                 let all = self.all()?;
                 Ok(NodeSets {
                     free: all,
                     bound: all,
-                    must: none,
+                    must: empty,
                 })
             }
             Op::Forall(x) | Op::Exists(x) => {
                 let bound = self.just_plain(x)?;
                 Ok(NodeSets {
-                    free: none,
+                    free: empty,
                     bound,
-                    must: none,
+                    must: empty,
                 })
             }
             Op::Assign(v) => {
                 let v = self.just(v)?;
-                Ok(assigns(v, none))
+                Ok(assigns(v, empty))
             }
             Op::Any(x) => {
                 let v = self.just_plain(x)?;
-                Ok(assigns(v, none))
+                Ok(assigns(v, empty))
             }
-            Op::System(items) => self.system_sets(items.items()),
-            _ => Ok(reads(none, none)),
+            Op::System(items) => self.system_sets(items.items(), empty),
+            _ => Ok(reads(empty, empty)),
         }
     }
 
+    /// Whether the set is empty.
+    fn is_none(&self, n: u32) -> bool
+        requires { n < length self.now.sets }
+        ensures { IsTrue result → IsNone self.now n }
+    {
+        self.set(n).is_empty()
+    }
+
     /// What is in one of the two sets.
-    pub fn either(&mut self, a: usize, b: usize) -> Result<usize, VarFault>
+    pub fn either(&mut self, a: u32, b: u32) -> Result<u32, VarFault>
         requires first { a < length self.old.sets }
         requires second { b < length self.old.sets }
         ensures known { IfOk result (λ n. n < length self.new.sets) }
@@ -319,12 +328,18 @@ impl SetTable {
         if a == b {
             return Ok(a);
         }
+        if self.is_none(b) {
+            return Ok(a);
+        }
+        if self.is_none(a) {
+            return Ok(b);
+        }
         let set = self.set(a).union(self.set(b))?;
         self.keep(set)
     }
 
     /// What is in both sets.
-    pub fn both(&mut self, a: usize, b: usize) -> Result<usize, VarFault>
+    pub fn both(&mut self, a: u32, b: u32) -> Result<u32, VarFault>
         requires first { a < length self.old.sets }
         requires second { b < length self.old.sets }
         ensures known { IfOk result (λ n. n < length self.new.sets) }
@@ -339,19 +354,22 @@ impl SetTable {
     }
 
     /// What is in the first set and not in the second.
-    pub fn without(&mut self, a: usize, b: usize) -> Result<usize, VarFault>
+    pub fn without(&mut self, a: u32, b: u32) -> Result<u32, VarFault>
         requires first { a < length self.old.sets }
         requires second { b < length self.old.sets }
         ensures known { IfOk result (λ n. n < length self.new.sets) }
         ensures makes { IfOk result (Makes without self.old a b self.new) }
         ensures keeps { Keeps self.old self.new }
     {
+        if self.is_none(b) {
+            return Ok(a);
+        }
         let set = self.set(a).minus(self.set(b))?;
         self.keep(set)
     }
 
     /// The set with `x'` for each `x` in it.
-    pub fn and_primes(&mut self, a: usize) -> Result<usize, VarFault>
+    pub fn and_primes(&mut self, a: u32) -> Result<u32, VarFault>
         requires known { a < length self.old.sets }
         requires within { IsWithin self.old.vars (row_at self.old.sets a) }
         ensures makes { IfOk result (MakesPrimes self.old a self.new) }
@@ -365,7 +383,7 @@ impl SetTable {
     }
 
     /// The set with `x'` where the n-th variable is an `x` in the set of the number `a`.
-    fn with_prime_of(&mut self, set: VarSet, a: usize, n: usize) -> Result<VarSet, VarFault>
+    fn with_prime_of(&mut self, set: VarSet, a: u32, n: usize) -> Result<VarSet, VarFault>
         requires set { a < length self.old.sets }
         requires known { n < length self.old.vars }
         requires within { IsWithin self.old.vars set }
@@ -401,7 +419,7 @@ fn primed(x: Name) -> Var
 }
 
 /// An operator that reads these variables, and binds none.
-fn reads(free: usize, none: usize) -> NodeSets
+fn reads(free: u32, none: u32) -> NodeSets
     ensures { result ≡ record { free = free; bound = none; must = none } }
 {
     NodeSets {
@@ -412,7 +430,7 @@ fn reads(free: usize, none: usize) -> NodeSets
 }
 
 /// An operator that assigns to this variable.
-fn assigns(v: usize, none: usize) -> NodeSets
+fn assigns(v: u32, none: u32) -> NodeSets
     ensures { result ≡ record { free = none; bound = v; must = v } }
 {
     NodeSets {

@@ -1,12 +1,13 @@
 //! Signatures, each kept once.
-ghost use Rattle.std.specs.Prelude.{◌≡◌, ◌<◌, ◌||◌, ◌∷◌, [], false, length, IfOk, All, Some, slice_get};
+ghost use Rattle.std.specs.Prelude.{◌≡◌, ◌<◌, ◌||◌, ◌∷◌, [], false, length, IfOk, IsTrue, All, Some, slice_get};
 ghost use Rattle.std.specs.List.{list_any};
 ghost use Rattle.dlk_tree.specs.Occurs.{constants, has_symbol};
 ghost use Rattle.dlk_tree.specs.Tests.{sym_eq};
 ghost use Rattle.dlk_shared.specs.SetTables.{row_at};
-ghost use Rattle.dlk_shared.specs.Signs.{sign_at, IsSign, Signs, KeepsSigns, AreSymbols};
+ghost use Rattle.dlk_shared.specs.Signs.{sign_at, IsSign, HasNone, Signs, KeepsSigns, AreSymbols};
 
 use crate::listed::{list_symbol, symbols_in_order};
+use crate::node::narrow;
 use dlk_tree::{OdeItem, Op, Sym};
 use dlk_vars::{VarFault, VarNo, VarSet};
 use indexmap::IndexSet;
@@ -42,22 +43,22 @@ impl SignTable {
     }
 
     /// The signature of a number.
-    fn sign(&self, n: usize) -> &VarSet
+    fn sign(&self, n: u32) -> &VarSet
         requires { n < length self.now.signs }
         ensures { result.now ≡ row_at self.now.signs n }
     {
-        &self.signs.as_slice()[n]
+        &self.signs.as_slice()[n as usize]
     }
 
     /// The number of a signature, which is kept if it isn't yet.
-    fn keep(&mut self, set: VarSet) -> Result<usize, VarFault>
+    fn keep(&mut self, set: VarSet) -> Result<u32, VarFault>
         ensures known { IfOk result (λ n. n < length self.new.signs) }
         ensures row { IfOk result (λ n. row_at self.new.signs n ≡ set) }
         ensures syms { self.new.syms ≡ self.old.syms }
         ensures keeps { KeepsSigns self.old self.new }
     {
         let (n, _) = self.signs.insert_full(set)?;
-        Ok(n)
+        narrow(n)
     }
 
     /// The number of a symbol.
@@ -70,7 +71,7 @@ impl SignTable {
     }
 
     /// No symbols.
-    fn none(&mut self) -> Result<usize, VarFault>
+    fn none(&mut self) -> Result<u32, VarFault>
         ensures signs { IfOk result (λ n. Signs self.new n (λ _. false)) }
         ensures keeps { KeepsSigns self.old self.new }
     {
@@ -79,7 +80,7 @@ impl SignTable {
     }
 
     /// The signature with this symbol.
-    fn with(&mut self, n: usize, s: &Sym) -> Result<usize, VarFault>
+    fn with(&mut self, n: u32, s: &Sym) -> Result<u32, VarFault>
         requires { IsSign self.old n }
         ensures signs { IfOk result (λ m. Signs self.new m (λ t. sym_eq t s.now || sign_at self.old n t)) }
         ensures keeps { KeepsSigns self.old self.new }
@@ -89,36 +90,60 @@ impl SignTable {
         self.keep(set)
     }
 
+    /// Whether the signature has no symbol.
+    fn is_none(&self, n: u32) -> bool
+        requires { n < length self.now.signs }
+        ensures { IsTrue result → HasNone self.now n }
+    {
+        self.sign(n).is_empty()
+    }
+
     /// The symbols of either signature.
-    fn either(&mut self, a: usize, b: usize) -> Result<usize, VarFault>
+    fn either(&mut self, a: u32, b: u32) -> Result<u32, VarFault>
         requires first { IsSign self.old a }
         requires second { IsSign self.old b }
         ensures signs { IfOk result (λ n. Signs self.new n (λ t. sign_at self.old a t || sign_at self.old b t)) }
         ensures keeps { KeepsSigns self.old self.new }
     {
+        if a == b {
+            return Ok(a);
+        }
+        if self.is_none(b) {
+            return Ok(a);
+        }
+        if self.is_none(a) {
+            return Ok(b);
+        }
         let set = self.sign(a).union(self.sign(b))?;
         self.keep(set)
     }
 
-    /// The constants of a system's items.
-    fn constants(&mut self, items: &[OdeItem]) -> Result<usize, VarFault>
-        ensures signs { IfOk result (λ n. Signs self.new n (λ s. list_any (sym_eq s) (constants items.now))) }
+    /// The signature with the constant that the item may be.
+    fn with_item(&mut self, n: u32, item: &OdeItem) -> Result<u32, VarFault>
+        requires { IsSign self.old n }
+        ensures signs { IfOk result (λ m. Signs self.new m (λ t. sign_at self.old n t || list_any (sym_eq t) (constants (item.now ∷ [])))) }
         ensures keeps { KeepsSigns self.old self.new }
     {
-        match items.split_first() {
-            None => self.none(),
-            Some((item, rest)) => {
-                let rest = self.constants(rest)?;
-                match item {
-                    OdeItem::Evolve(_) => Ok(rest),
-                    OdeItem::Const(s) => self.with(rest, s),
-                }
-            }
+        match item {
+            OdeItem::Evolve(_) => Ok(n),
+            OdeItem::Const(s) => self.with(n, s),
         }
     }
 
+    /// The constants of a system's items.
+    fn constants(&mut self, items: &[OdeItem]) -> Result<u32, VarFault>
+        ensures signs { IfOk result (λ n. Signs self.new n (λ s. list_any (sym_eq s) (constants items.now))) }
+        ensures keeps { KeepsSigns self.old self.new }
+    {
+        let mut all = self.none()?;
+        for item in items {
+            all = self.with_item(all, item)?;
+        }
+        Ok(all)
+    }
+
     /// A symbol alone.
-    fn just(&mut self, s: &Sym) -> Result<usize, VarFault>
+    fn just(&mut self, s: &Sym) -> Result<u32, VarFault>
         ensures signs { IfOk result (λ n. Signs self.new n (λ t. list_any (sym_eq t) (s.now ∷ []))) }
         ensures keeps { KeepsSigns self.old self.new }
     {
@@ -127,7 +152,7 @@ impl SignTable {
     }
 
     /// The symbols of the operator.
-    fn own(&mut self, op: &Op) -> Result<usize, VarFault>
+    fn own(&mut self, op: &Op) -> Result<u32, VarFault>
         ensures signs { IfOk result (λ n. Signs self.new n (λ s. has_symbol s op.now)) }
         ensures keeps { KeepsSigns self.old self.new }
     {
@@ -144,23 +169,21 @@ impl SignTable {
     }
 
     /// A signature with those of kids.
-    fn with_kids(&mut self, own: usize, kids: &[usize]) -> Result<usize, VarFault>
+    fn with_kids(&mut self, own: u32, kids: &[u32]) -> Result<u32, VarFault>
         requires own { IsSign self.old own }
         requires kids { All (IsSign self.old) kids.now }
         ensures signs { IfOk result (λ n. Signs self.new n (λ s. sign_at self.old own s || list_any (λ k. sign_at self.old k s) kids.now)) }
         ensures keeps { KeepsSigns self.old self.new }
     {
-        match kids.split_first() {
-            None => Ok(own),
-            Some((kid, rest)) => {
-                let own = self.either(own, *kid)?;
-                self.with_kids(own, rest)
-            }
+        let mut all = own;
+        for kid in kids {
+            all = self.either(all, *kid)?;
         }
+        Ok(all)
     }
 
     /// The symbols of a node with this operator over kids with these signatures.
-    pub fn node_sign(&mut self, op: &Op, kids: &[usize]) -> Result<usize, VarFault>
+    pub fn node_sign(&mut self, op: &Op, kids: &[u32]) -> Result<u32, VarFault>
         requires { All (IsSign self.old) kids.now }
         ensures signs { IfOk result (λ n. Signs self.new n (λ s. has_symbol s op.now || list_any (λ k. sign_at self.old k s) kids.now)) }
         ensures keeps { KeepsSigns self.old self.new }
@@ -170,7 +193,7 @@ impl SignTable {
     }
 
     /// Whether the symbol is in the signature.
-    pub fn has(&self, n: usize, s: &Sym) -> bool
+    pub fn has(&self, n: u32, s: &Sym) -> bool
         requires { n < length self.now.signs }
         ensures { result ≡ sign_at self.now n s.now }
     {
@@ -182,7 +205,7 @@ impl SignTable {
     }
 
     /// The symbols of a signature in order.
-    pub fn list(&self, alloc: Global, n: usize) -> Result<Vec<Sym>, VarFault>
+    pub fn list(&self, alloc: Global, n: u32) -> Result<Vec<Sym>, VarFault>
         requires { IsSign self.now n }
         ensures { IfOk result (λ listed. AreSymbols (sign_at self.now n) listed.items) }
     {

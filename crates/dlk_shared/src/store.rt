@@ -19,7 +19,7 @@ ghost use Rattle.dlk_shared.specs.Signs.{sign_at, IsSign, Signs};
 ghost use Rattle.dlk_tree.specs.declared.op.Sym.{Sym};
 
 use crate::kids::Kids;
-use crate::node::{Facts, Key, NodeSets, dot_bit, is_hole};
+use crate::node::{Facts, Key, NodeSets, dot_bit, is_hole, narrow};
 use crate::sets::SetTable;
 use crate::signs::SignTable;
 use dlk_store::{Id, Listing, Node, Steps, Store, StoreFault, Which};
@@ -103,7 +103,7 @@ impl SharedStore {
         let kids = self.kid_sets(alloc, key.kids.as_slice())?;
         match self
             .sets
-            .node_sets(&self.ops.as_slice()[key.op], kids.as_slice())
+            .node_sets(&self.ops.as_slice()[key.op as usize], kids.as_slice())
         {
             Ok(sets) => Ok(sets),
             Err(VarFault::Memory) => Err(StoreFault::Memory),
@@ -111,7 +111,7 @@ impl SharedStore {
     }
 
     /// The signatures of these trees.
-    fn kid_signs(&self, alloc: Global, kids: &[Id]) -> Result<Vec<usize>, StoreFault>
+    fn kid_signs(&self, alloc: Global, kids: &[Id]) -> Result<Vec<u32>, StoreFault>
         requires { All (IsId (trees_of self.now.ops.keys self.now.nodes.entries)) kids.now }
         ensures are { IfOk result (λ found. (s : Sym) → list_any (λ k. sign_at self.now.signs k s) found.items ≡ any_has (has_symbol s) (kid_trees (trees_of self.now.ops.keys self.now.nodes.entries) kids.now)) }
         ensures known { IfOk result (λ found. All (IsSign self.now.signs) found.items) }
@@ -124,7 +124,7 @@ impl SharedStore {
     }
 
     /// The signature of a node. Its symbols are numbered, and no node is kept.
-    fn sign_over(&mut self, alloc: Global, key: &Key) -> Result<usize, StoreFault>
+    fn sign_over(&mut self, alloc: Global, key: &Key) -> Result<u32, StoreFault>
         requires op { key.now.op < length self.old.ops.keys }
         requires known { All (IsId (trees_of self.old.ops.keys self.old.nodes.entries)) key.now.kids }
         ensures signs { IfOk result (λ n. Signs self.new.signs n (λ s. occurs s (node (op_at self.old.ops.keys key.now.op) (kid_trees (trees_of self.old.ops.keys self.old.nodes.entries) key.now.kids)))) }
@@ -135,7 +135,7 @@ impl SharedStore {
         let kids = self.kid_signs(alloc, key.kids.as_slice())?;
         match self
             .signs
-            .node_sign(&self.ops.as_slice()[key.op], kids.as_slice())
+            .node_sign(&self.ops.as_slice()[key.op as usize], kids.as_slice())
         {
             Ok(sign) => Ok(sign),
             Err(VarFault::Memory) => Err(StoreFault::Memory),
@@ -143,7 +143,7 @@ impl SharedStore {
     }
 
     /// What is kept of a node with this operator, these kids, these sets and this signature.
-    fn facts_over(&self, op: &Op, kids: &[Id], sets: NodeSets, sign: usize) -> Facts
+    fn facts_over(&self, op: &Op, kids: &[Id], sets: NodeSets, sign: u32) -> Facts
         requires parts { IsTrue (has_parts op.now) }
         requires known { All (IsId (trees_of self.now.ops.keys self.now.nodes.entries)) kids.now }
         requires sets { MeanSets self.now.sets sets (sets_of (node op.now (kid_trees (trees_of self.now.ops.keys self.now.nodes.entries) kids.now))) }
@@ -206,13 +206,16 @@ impl SharedStore {
     }
 
     /// The number of the operator, which is kept if it isn't yet.
-    fn number(&mut self, op: Op) -> Result<usize, StoreFault>
+    fn number(&mut self, op: Op) -> Result<u32, StoreFault>
         ensures op { IfOk result (λ n. op_at self.new.ops.keys n ≡ op) }
         ensures known { IfOk result (λ n. n < length self.new.ops.keys) }
         ensures trees { trees_of self.new.ops.keys self.new.nodes.entries ≡ trees_of self.old.ops.keys self.old.nodes.entries }
     {
         let (n, _) = self.ops.insert_full(op)?;
-        Ok(n)
+        match narrow(n) {
+            Ok(n) => Ok(n),
+            Err(VarFault::Memory) => Err(StoreFault::Memory),
+        }
     }
 
     /// Keeps a node that isn't kept yet, and first numbers its variables and symbols.
@@ -230,7 +233,7 @@ impl SharedStore {
     }
 
     /// Keeps a node that isn't kept yet, with these sets and this signature.
-    fn push(&mut self, key: Key, sets: NodeSets, sign: usize) -> Result<Id, StoreFault>
+    fn push(&mut self, key: Key, sets: NodeSets, sign: u32) -> Result<Id, StoreFault>
         requires absent { get ⟦<Key as PartialEq>⟧.eq self.old.nodes key ≡ None }
         requires op { key.op < length self.old.ops.keys }
         requires known { All (IsId (trees_of self.old.ops.keys self.old.nodes.entries)) key.kids }
@@ -241,7 +244,7 @@ impl SharedStore {
         ensures grows { Keeps (trees_of self.old.ops.keys self.old.nodes.entries) (trees_of self.new.ops.keys self.new.nodes.entries) }
     {
         let facts = self.facts_over(
-            &self.ops.as_slice()[key.op],
+            &self.ops.as_slice()[key.op as usize],
             key.kids.as_slice(),
             sets,
             sign,
@@ -291,7 +294,7 @@ impl Store for SharedStore {
         steps.tick();
         let key = self.key(id);
         Node {
-            op: &self.ops.as_slice()[key.op],
+            op: &self.ops.as_slice()[key.op as usize],
             kids: key.kids.as_slice(),
         }
     }

@@ -1,6 +1,6 @@
 //! The three sets of a node, of those that its operator brings and those of its kids.
 ghost use Rattle.std.specs.Prelude.{IfOk, All, map};
-ghost use Rattle.dlk_tree.specs.Statics.{free_in_turn, must_in_both, must_in_one, statics};
+ghost use Rattle.dlk_tree.specs.Statics.{none, free_in_turn, must_in_both, must_in_one, statics};
 ghost use Rattle.dlk_shared.specs.Shapes.{put_together};
 ghost use Rattle.dlk_shared.specs.SetTables.{Means, MeanSets, Keeps, AreSets, sets_at, in_kids};
 
@@ -13,24 +13,23 @@ use dlk_vars::VarFault;
 
 impl SetTable {
     /// What some kid reads, binds or must-binds.
-    fn in_kids(&mut self, which: Which, kids: &[NodeSets]) -> Result<usize, VarFault>
-        requires { All (AreSets self.old) kids.now }
+    fn in_kids(&mut self, which: Which, kids: &[NodeSets], empty: u32) -> Result<u32, VarFault>
+        requires empty { Means self.old empty none }
+        requires kids { All (AreSets self.old) kids.now }
         ensures means { IfOk result (λ n. Means self.new n (in_kids which (map (sets_at self.old) kids.now))) }
         ensures keeps { Keeps self.old self.new }
     {
-        match kids {
-            [] => self.none(),
-            [kid] => Ok(kid.of(which)),
-            [kid, rest @ ..] => {
-                let rest = self.in_kids(which, rest)?;
-                self.either(kid.of(which), rest)
-            }
+        let mut all = empty;
+        for kid in kids {
+            all = self.either(all, kid.of(which))?;
         }
+        Ok(all)
     }
 
     /// What two kids read where the second comes after the first.
-    fn in_turn(&mut self, kids: &[NodeSets]) -> Result<usize, VarFault>
-        requires { All (AreSets self.old) kids.now }
+    fn in_turn(&mut self, kids: &[NodeSets], empty: u32) -> Result<u32, VarFault>
+        requires empty { Means self.old empty none }
+        requires kids { All (AreSets self.old) kids.now }
         ensures means { IfOk result (λ n. Means self.new n (free_in_turn (map (sets_at self.old) kids.now))) }
         ensures keeps { Keeps self.old self.new }
     {
@@ -39,31 +38,33 @@ impl SetTable {
                 let rest = self.without(second.free, first.must)?;
                 self.either(first.free, rest)
             }
-            _ => self.none(),
+            _ => Ok(empty),
         }
     }
 
     /// What both of two kids must-bind.
-    fn must_in_both(&mut self, kids: &[NodeSets]) -> Result<usize, VarFault>
-        requires { All (AreSets self.old) kids.now }
+    fn must_in_both(&mut self, kids: &[NodeSets], empty: u32) -> Result<u32, VarFault>
+        requires empty { Means self.old empty none }
+        requires kids { All (AreSets self.old) kids.now }
         ensures means { IfOk result (λ n. Means self.new n (must_in_both (map (sets_at self.old) kids.now))) }
         ensures keeps { Keeps self.old self.new }
     {
         match kids {
             [first, second, ..] => self.both(first.must, second.must),
-            _ => self.none(),
+            _ => Ok(empty),
         }
     }
 
     /// What one of two kids must-binds.
-    fn must_in_one(&mut self, kids: &[NodeSets]) -> Result<usize, VarFault>
-        requires { All (AreSets self.old) kids.now }
+    fn must_in_one(&mut self, kids: &[NodeSets], empty: u32) -> Result<u32, VarFault>
+        requires empty { Means self.old empty none }
+        requires kids { All (AreSets self.old) kids.now }
         ensures means { IfOk result (λ n. Means self.new n (must_in_one (map (sets_at self.old) kids.now))) }
         ensures keeps { Keeps self.old self.new }
     {
         match kids {
             [first, second, ..] => self.either(first.must, second.must),
-            _ => self.none(),
+            _ => Ok(empty),
         }
     }
 
@@ -73,30 +74,33 @@ impl SetTable {
         shape: Shape,
         own: NodeSets,
         kids: &[NodeSets],
-    ) -> Result<usize, VarFault>
+        empty: u32,
+    ) -> Result<u32, VarFault>
         requires own { AreSets self.old own }
         requires kids { All (AreSets self.old) kids.now }
+        requires empty { Means self.old empty none }
         ensures means { IfOk result (λ n. Means self.new n (put_together shape (sets_at self.old own) (map (sets_at self.old) kids.now)).free) }
         ensures keeps { Keeps self.old self.new }
     {
         match shape {
             Shape::Own => Ok(own.free),
             Shape::Differential => {
-                let free = self.in_kids(Which::Free, kids)?;
+                let free = self.in_kids(Which::Free, kids, empty)?;
                 self.and_primes(free)
             }
             Shape::Quantified => {
-                let free = self.in_kids(Which::Free, kids)?;
+                let free = self.in_kids(Which::Free, kids, empty)?;
                 self.without(free, own.bound)
             }
             Shape::Evolved => {
-                let free = self.in_kids(Which::Free, kids)?;
+                let free = self.in_kids(Which::Free, kids, empty)?;
                 self.either(own.free, free)
             }
-            Shape::Modal | Shape::Sequence => self.in_turn(kids),
+            Shape::Modal | Shape::Sequence => self.in_turn(kids, empty),
             Shape::AsKids | Shape::Assigned | Shape::Tested | Shape::Branching => self.in_kids(
                 Which::Free,
                 kids,
+                empty,
             ),
         }
     }
@@ -107,24 +111,26 @@ impl SetTable {
         shape: Shape,
         own: NodeSets,
         kids: &[NodeSets],
-    ) -> Result<usize, VarFault>
+        empty: u32,
+    ) -> Result<u32, VarFault>
         requires own { AreSets self.old own }
         requires kids { All (AreSets self.old) kids.now }
+        requires empty { Means self.old empty none }
         ensures means { IfOk result (λ n. Means self.new n (put_together shape (sets_at self.old own) (map (sets_at self.old) kids.now)).bound) }
         ensures keeps { Keeps self.old self.new }
     {
         match shape {
             Shape::Own | Shape::Assigned | Shape::Evolved => Ok(own.bound),
-            Shape::Tested => self.none(),
+            Shape::Tested => Ok(empty),
             Shape::Quantified => {
-                let bound = self.in_kids(Which::Bound, kids)?;
+                let bound = self.in_kids(Which::Bound, kids, empty)?;
                 self.either(bound, own.bound)
             }
             Shape::AsKids
             | Shape::Differential
             | Shape::Modal
             | Shape::Branching
-            | Shape::Sequence => self.in_kids(Which::Bound, kids),
+            | Shape::Sequence => self.in_kids(Which::Bound, kids, empty),
         }
     }
 
@@ -134,21 +140,23 @@ impl SetTable {
         shape: Shape,
         own: NodeSets,
         kids: &[NodeSets],
-    ) -> Result<usize, VarFault>
+        empty: u32,
+    ) -> Result<u32, VarFault>
         requires own { AreSets self.old own }
         requires kids { All (AreSets self.old) kids.now }
+        requires empty { Means self.old empty none }
         ensures means { IfOk result (λ n. Means self.new n (put_together shape (sets_at self.old own) (map (sets_at self.old) kids.now)).must) }
         ensures keeps { Keeps self.old self.new }
     {
         match shape {
             Shape::Own | Shape::Assigned | Shape::Evolved => Ok(own.must),
-            Shape::Branching => self.must_in_both(kids),
-            Shape::Sequence => self.must_in_one(kids),
+            Shape::Branching => self.must_in_both(kids, empty),
+            Shape::Sequence => self.must_in_one(kids, empty),
             Shape::AsKids
             | Shape::Differential
             | Shape::Quantified
             | Shape::Modal
-            | Shape::Tested => self.none(),
+            | Shape::Tested => Ok(empty),
         }
     }
 
@@ -158,15 +166,17 @@ impl SetTable {
         shape: Shape,
         own: NodeSets,
         kids: &[NodeSets],
+        empty: u32,
     ) -> Result<NodeSets, VarFault>
         requires own { AreSets self.old own }
         requires kids { All (AreSets self.old) kids.now }
+        requires empty { Means self.old empty none }
         ensures means { IfOk result (λ n. MeanSets self.new n (put_together shape (sets_at self.old own) (map (sets_at self.old) kids.now))) }
         ensures keeps { Keeps self.old self.new }
     {
-        let free = self.free_over(shape, own, kids)?;
-        let bound = self.bound_over(shape, own, kids)?;
-        let must = self.must_over(shape, own, kids)?;
+        let free = self.free_over(shape, own, kids, empty)?;
+        let bound = self.bound_over(shape, own, kids, empty)?;
+        let must = self.must_over(shape, own, kids, empty)?;
         Ok(NodeSets { free, bound, must })
     }
 
@@ -176,7 +186,8 @@ impl SetTable {
         ensures means { IfOk result (λ n. MeanSets self.new n (statics op.now (map (sets_at self.old) kids.now))) }
         ensures keeps { Keeps self.old self.new }
     {
-        let own = self.own_sets(op)?;
-        self.together(shape_of(op), own, kids)
+        let empty = self.none()?;
+        let own = self.own_sets(op, empty)?;
+        self.together(shape_of(op), own, kids, empty)
     }
 }

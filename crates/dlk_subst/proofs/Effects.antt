@@ -110,7 +110,7 @@ module _ (trees : List Tree) (pairs : List Pair) (op : Op) (old new : Forest) (e
 
 -- ---- what an effect says of the operator
 
-abbrev effect_id : Effect → Option Id
+abbrev pub effect_id : Effect → Option Id
 effect_id (Effect'.Gives id) = Some id
 effect_id (Effect'.Plugs id) = Some id
 effect_id (Effect'.Fills id) = Some id
@@ -120,19 +120,24 @@ or_stays_id : (effect : Id → Effect) → ((id : Id) → effect_id (effect id) 
 or_stays_id effect is (Some id) = is id
 or_stays_id effect is None = refl
 
-id_known : (trees : List Tree) (pairs : List Pair) (op : Op) (id : Id) → AreKnownPairs trees pairs → effect_id (effect_of pairs op) ≡ Some id → IsId trees id
-id_known trees pairs (Op'.UnitFun s) id all e = found_known trees pairs s id all (sym (or_stays_id Effect'.Gives (λ i. refl) (found pairs s)) ∙ e)
-id_known trees pairs (Op'.UnitPred s) id all e = found_known trees pairs s id all (sym (or_stays_id Effect'.Gives (λ i. refl) (found pairs s)) ∙ e)
-id_known trees pairs (Op'.Const s) id all e = found_known trees pairs s id all (sym (or_stays_id Effect'.Gives (λ i. refl) (found pairs s)) ∙ e)
-id_known trees pairs (Op'.Apply s) id all e = found_known trees pairs s id all (sym (or_stays_id Effect'.Plugs (λ i. refl) (found pairs s)) ∙ e)
-id_known trees pairs (Op'.Holds s) id all e = found_known trees pairs s id all (sym (or_stays_id Effect'.Plugs (λ i. refl) (found pairs s)) ∙ e)
-id_known trees pairs (Op'.Predicational s) id all e = found_known trees pairs s id all (sym (or_stays_id Effect'.Fills (λ i. refl) (found pairs s)) ∙ e)
-id_known trees pairs _ id all e = cc
+-- the id of an effect was found for a symbol
+id_found : (pairs : List Pair) (op : Op) (id : Id) → effect_id (effect_of pairs op) ≡ Some id → (s : Sym) × (found pairs s ≡ Some id)
+id_found pairs (Op'.UnitFun s) id e = (s, sym (or_stays_id Effect'.Gives (λ i. refl) (found pairs s)) ∙ e)
+id_found pairs (Op'.UnitPred s) id e = (s, sym (or_stays_id Effect'.Gives (λ i. refl) (found pairs s)) ∙ e)
+id_found pairs (Op'.Const s) id e = (s, sym (or_stays_id Effect'.Gives (λ i. refl) (found pairs s)) ∙ e)
+id_found pairs (Op'.Apply s) id e = (s, sym (or_stays_id Effect'.Plugs (λ i. refl) (found pairs s)) ∙ e)
+id_found pairs (Op'.Holds s) id e = (s, sym (or_stays_id Effect'.Plugs (λ i. refl) (found pairs s)) ∙ e)
+id_found pairs (Op'.Predicational s) id e = (s, sym (or_stays_id Effect'.Fills (λ i. refl) (found pairs s)) ∙ e)
+id_found pairs _ id e = cc
+
+pub effect_found : (pairs : List Pair) (op : Op) (effect : Effect) (id : Id) → effect ≡ effect_of pairs op → effect_id effect ≡ Some id
+    → (s : Sym) × (found pairs s ≡ Some id)
+effect_found pairs op effect id e h = id_found pairs op id (ap effect_id (sym e) ∙ h)
 
 -- the replacement of an effect is one of the store
 pub effect_known : (trees : List Tree) (pairs : List Pair) (op : Op) (effect : Effect) (id : Id) → AreKnownPairs trees pairs →
     effect ≡ effect_of pairs op → effect_id effect ≡ Some id → IsId trees id
-effect_known trees pairs op effect id all e h = id_known trees pairs op id all (ap effect_id (sym e) ∙ h)
+effect_known trees pairs op effect id all e h = let f = effect_found pairs op effect id e h in found_known trees pairs f.0 id all f.1
 
 abbrev is_plug : Effect → Bool
 is_plug (Effect'.Plugs id) = true

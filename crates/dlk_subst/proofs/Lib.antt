@@ -7,6 +7,8 @@ pub mod Staying
 pub mod Results
 pub mod Plugged
 pub mod Found
+pub mod Counted
+pub mod Looked
 pub mod Splicing
 pub mod Systems
 pub mod Effects

@@ -1,5 +1,5 @@
 -- Items and kids of a system, put together.
-use Rattle.std.proofs.Common.{◌≡◌, refl, sym, ap, subst, ◌∙◌, ℕ, zero, suc, ◌-◌, replicate, List, [], ◌∷◌, ◌++◌, length, take, drop, ◌≤◌, Some, append_assoc}
+use Rattle.std.proofs.Common.{◌≡◌, refl, sym, ap, subst, ◌∙◌, ℕ, zero, suc, ◌-◌, replicate, List, [], ◌∷◌, ◌++◌, length, take, drop, ◌≤◌, Some, append_assoc, ◌+◌, ◌<◌, get_or, drop-cons, add-one}
 use Rattle.std.proofs.Common.{arith, Result, Ok, Err}
 use Rattle.std.specs.Prelude.{All, OnOk}
 use Rattle.std.proofs.lemmas.List.{at_drop_all}
@@ -18,7 +18,7 @@ use Rattle.dlk_calculus.specs.Kids.{last}
 use Rattle.dlk_calculus.specs.Pairs.{Pair, replacement}
 use Rattle.dlk_calculus.specs.Subst.{Member, Equation, Constant, members, members_for, new_members, items_of, kids_of}
 use Rattle.dlk_calculus.proofs.Sorts.{tail}
-use Rattle.dlk_subst.specs.Splices.{append, Puts, PutsItem, AreKidsOf, whole_kids}
+use Rattle.dlk_subst.specs.Splices.{append, Puts, PutsItem, AreKidsOf, whole_items, whole_kids}
 use Rattle.dlk_subst.specs.declared.splice.Spliced.{Spliced}
 
 trees_append : (trees : List Tree) (xs ys : List Id) → kid_trees trees (xs ++ ys) ≡ append (kid_trees trees xs) (kid_trees trees ys)
@@ -173,3 +173,24 @@ whole_put trees pairs items n put left all kids past e fits h =
     let domain : AreKidsOf trees [] left = fits ∙ at_drop_all (λ (more : List OdeItem). kid_sorts (Op'.System more)) items n past in
     ap (kid_trees trees) e ∙ trees_append trees put.kids.items left
     ∙ ap (append (kid_trees trees put.kids.items)) (sym (domain_left trees left domain)) ∙ sym none ∙ h
+
+dropped : (l : List OdeItem) (k : ℕ) (i : OdeItem) → k < length l → drop k l ≡ get_or l k i ∷ drop (k + 1) l
+dropped l k i below = rw (drop-cons l k i, add-one) refl
+
+-- one more item was put
+module _ (trees : List Tree) (pairs : List Pair) (items : List OdeItem) (n : ℕ) (item : OdeItem) (is : item ≡ get_or items n item) (h : n < length items)
+    {old new : Spliced} {kids left : List Id} (put : PutsItem trees pairs item kids old new left) (fits : AreKidsOf trees (drop n items) kids) where
+  abbrev rest : List OdeItem
+  rest = drop (n + 1) items
+
+  first : drop n items ≡ item ∷ rest
+  first = dropped items n item h ∙ ap (λ i. i ∷ rest) (sym is)
+
+  pub next_fits : AreKidsOf trees rest left
+  next_fits = put.left_are rest (subst (λ l. AreKidsOf trees l kids) first fits)
+
+  pub next_items : whole_items trees pairs new rest left ≡ whole_items trees pairs old (drop n items) kids
+  next_items = put.items_are rest (subst (λ l. AreKidsOf trees l kids) first fits) ∙ ap (λ l. whole_items trees pairs old l kids) (sym first)
+
+  pub next_kids : whole_kids trees pairs new rest left ≡ whole_kids trees pairs old (drop n items) kids
+  next_kids = put.kids_are rest (subst (λ l. AreKidsOf trees l kids) first fits) ∙ ap (λ l. whole_kids trees pairs old l kids) (sym first)

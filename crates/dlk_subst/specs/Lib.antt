@@ -2,3 +2,5 @@ pub mod Results
 pub mod Scopes
 pub mod Effects
 pub mod Splices
+pub mod Counts
+pub mod Looked

@@ -20,7 +20,7 @@ use std::alloc::Global;
 
 /// What a substitution does at an operator.
 #[derive(Clone, Copy, Debug)]
-pub(crate) enum Effect {
+pub enum Effect {
     /// The replacement stands in its place.
     Gives(Id),
     /// The replacement does, with the kids in place of its dots.
@@ -44,7 +44,7 @@ pub(crate) fn find(pairs: &[Pair], s: &Sym) -> Option<Id>
 }
 
 /// What the substitution does at the operator. It is no system: those are for `splice`.
-pub(crate) fn effect_at(pairs: &[Pair], op: &Op) -> Effect
+pub fn effect_at(pairs: &[Pair], op: &Op) -> Effect
     ensures { result ≡ effect_of pairs.now op.now }
 {
     match op {
@@ -82,7 +82,7 @@ fn is_safe<S: Store>(store: &S, pair: &Pair, scope: &Scope, kids: &[Id]) -> bool
 }
 
 /// Whether no variable of the scope is free in the replacement of a function or predicate that occurs in the kids.
-pub(crate) fn is_admissible<S: Store>(store: &S, pairs: &[Pair], scope: &Scope, kids: &[Id]) -> bool
+pub fn is_admissible<S: Store>(store: &S, pairs: &[Pair], scope: &Scope, kids: &[Id]) -> bool
     requires pairs { AreKnownPairs (S.trees store.now) pairs.now }
     requires scope { IsKnownScope (S.trees store.now) scope.now }
     requires kids { All (IsId (S.trees store.now)) kids.now }
@@ -97,7 +97,7 @@ pub(crate) fn is_admissible<S: Store>(store: &S, pairs: &[Pair], scope: &Scope, 
 }
 
 /// The operator over new kids, where what it captures is admissible for the kids of before.
-pub(crate) fn keep_admissible<S: Store>(
+pub fn keep_admissible<S: Store>(
     alloc: Global,
     store: &mut S,
     pairs: &[Pair],

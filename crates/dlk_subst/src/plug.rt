@@ -88,7 +88,7 @@ fn keep_clear<S: Store>(
 }
 
 /// The argument in place of a dot, or the operator over new kids.
-fn plug_at<S: Store>(
+pub fn plug_at<S: Store>(
     alloc: Global,
     store: &mut S,
     args: &[Id],

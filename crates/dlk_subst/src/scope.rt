@@ -11,7 +11,7 @@ use std::alloc::AllocError;
 
 /// A set of variables.
 #[derive(Drop)]
-pub(crate) enum Scope {
+pub enum Scope {
     Nothing,
     Every,
     Only(Var),

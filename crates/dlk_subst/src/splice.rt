@@ -1,5 +1,5 @@
 //! A system whose constants give way to items.
-ghost use Rattle.std.specs.Prelude.{◌≡◌, ◌↔◌, ◌++◌, ◌∷◌, [], ◌-◌, IsTrue, OnOk, IfOk, All, Err, Some, List, length, take};
+ghost use Rattle.std.specs.Prelude.{◌≡◌, ◌+◌, ◌≤◌, ◌↔◌, ◌++◌, ◌∷◌, [], ◌-◌, IsTrue, OnOk, IfOk, All, Err, Some, List, length, take};
 ghost use Rattle.dlk_tree.specs.Table.{are_items, Fits};
 ghost use Rattle.dlk_tree.specs.Trees.{Tree, WellMade};
 ghost use Rattle.dlk_tree.specs.declared.op.OdeItem.{OdeItem};
@@ -8,11 +8,14 @@ ghost use Rattle.dlk_calculus.specs.Kids.{last};
 ghost use Rattle.dlk_calculus.specs.Pairs.{Pair as TreePair, replacement};
 ghost use Rattle.dlk_calculus.specs.Subst.{SubstAt, members_for, new_members, items_of, kids_of};
 ghost use Rattle.dlk_sequent.specs.Substitutions.{pairs_at, AreKnownPairs};
+ghost use Rattle.dlk_subst.specs.Counts.{replacement_subtrees, distinct_count};
+ghost use Rattle.dlk_subst.specs.Looked.{IsSeen, AreSeen, SeesMore};
 ghost use Rattle.dlk_subst.specs.Results.{IsResult, HasNone};
 ghost use Rattle.dlk_subst.specs.Splices.{Puts, PutsItem};
 ghost use Rattle.dlk_sequent.specs.declared.fault.ApplyFault.TheVariants.{NotAdmissible};
 
 use crate::pairs::{find, keep_admissible};
+use crate::seen::{Seen, look_once};
 use dlk_sequent::{ApplyFault, Pair};
 use dlk_store::{Id, Steps, Store};
 use dlk_tree::{Items, Name, OdeItem, Op, Sort, Sym, arity_of, fits};
@@ -56,39 +59,35 @@ impl Spliced {
         Ok(())
     }
 
-    /// What stands for a constant that has this replacement.
-    fn put_replacement<S: Store, L: Ledger>(
-        &mut self,
-        store: &S,
-        s: &Sym,
-        by: Id,
-        steps: &mut Steps<L>,
-    ) -> Result<(), AllocError>
-        requires { IsId (S.trees store.now) by }
-        ensures { OnOk result (Puts (S.trees store.now) (members_for s.now (Some (tree (S.trees store.now) by))) self.old self.new) }
+    /// What stands for a constant whose replacement has this node.
+    fn put_replacement(&mut self, s: &Sym, seen: &Seen<'_>) -> Result<(), AllocError>
+        ensures { (trees : List Tree) → All WellMade trees → IsSeen trees seen.now → OnOk result (Puts trees (members_for s.now (Some (tree trees seen.now.id))) self.old self.new) }
     {
-        let node = store.look(by, steps);
-        match node.op {
-            Op::System(items) => self.put_system(items.items(), node.kids),
+        match seen.op {
+            Op::System(items) => self.put_system(items.items(), seen.kids),
             _ => self.put_symbol(s),
         }
     }
 
     /// What stands for a constant.
-    fn put_constant<S: Store, L: Ledger>(
+    fn put_constant<'b, S: Store, L: Ledger>(
         &mut self,
-        store: &S,
+        store: &'b S,
         pairs: &[Pair],
         s: &Sym,
+        seen: &mut Vec<Seen<'b>>,
         steps: &mut Steps<L>,
     ) -> Result<(), AllocError>
-        requires { AreKnownPairs (S.trees store.now) pairs.now }
-        ensures { OnOk result (Puts (S.trees store.now) (members_for s.now (replacement (pairs_at (S.trees store.now) pairs.now) s.now)) self.old self.new) }
+        requires pairs { AreKnownPairs (S.trees store.now) pairs.now }
+        requires seen { AreSeen (S.trees store.now) (replacement_subtrees (pairs_at (S.trees store.now) pairs.now)) seen.old.items }
+        ensures puts { OnOk result (Puts (S.trees store.now) (members_for s.now (replacement (pairs_at (S.trees store.now) pairs.now) s.now)) self.old self.new) }
+        ensures sees { SeesMore (S.trees store.now) (replacement_subtrees (pairs_at (S.trees store.now) pairs.now)) seen.old.items seen.new.items steps.old steps.new }
     {
-        match find(pairs, s) {
-            Some(by) => self.put_replacement(store, s, by, steps),
-            None => self.put_symbol(s),
-        }
+        let Some(by) = find(pairs, s) else {
+            return self.put_symbol(s);
+        };
+        let node = look_once(store, seen, by, steps)?;
+        self.put_replacement(s, &node)
     }
 
     /// An evolved variable stays, with the first of these kids as its right side; the others are left.
@@ -106,28 +105,31 @@ impl Spliced {
     }
 
     /// What stands for an item, whose right side is the first of these kids, if it has one; the others are left.
-    fn put<'a, S: Store, L: Ledger>(
+    fn put<'a, 'b, S: Store, L: Ledger>(
         &mut self,
-        store: &S,
+        store: &'b S,
         pairs: &[Pair],
         item: &OdeItem,
         kids: &'a [Id],
+        seen: &mut Vec<Seen<'b>>,
         steps: &mut Steps<L>,
     ) -> Result<&'a [Id], AllocError>
-        requires { AreKnownPairs (S.trees store.now) pairs.now }
-        ensures { IfOk result (λ left. PutsItem (S.trees store.now) (pairs_at (S.trees store.now) pairs.now) item.now kids.now self.old self.new left.now) }
+        requires pairs { AreKnownPairs (S.trees store.now) pairs.now }
+        requires seen { AreSeen (S.trees store.now) (replacement_subtrees (pairs_at (S.trees store.now) pairs.now)) seen.old.items }
+        ensures puts { IfOk result (λ left. PutsItem (S.trees store.now) (pairs_at (S.trees store.now) pairs.now) item.now kids.now self.old self.new left.now) }
+        ensures sees { SeesMore (S.trees store.now) (replacement_subtrees (pairs_at (S.trees store.now) pairs.now)) seen.old.items seen.new.items steps.old steps.new }
     {
         match item {
             OdeItem::Evolve(x) => self.put_evolved(x, kids),
             OdeItem::Const(s) => {
-                self.put_constant(store, pairs, s, steps)?;
+                self.put_constant(store, pairs, s, seen, steps)?;
                 Ok(kids)
             }
         }
     }
 }
 
-/// The new items of a system, and its new kids made of these.
+/// The new items of a system, and its new kids made of these. Each replacement is looked at once, however many constants have it.
 fn all_spliced<S: Store, L: Ledger>(
     alloc: Global,
     store: &S,
@@ -142,14 +144,16 @@ fn all_spliced<S: Store, L: Ledger>(
     ensures items { IfOk result (λ new. new.items.items ≡ items_of (new_members (pairs_at (S.trees store.now) pairs.now) items.now (kid_trees (S.trees store.now) kids.now))) }
     ensures kids { IfOk result (λ new. kid_trees (S.trees store.now) new.kids.items ≡ kids_of (new_members (pairs_at (S.trees store.now) pairs.now) items.now (kid_trees (S.trees store.now) kids.now)) (last (kid_trees (S.trees store.now) kids.now))) }
     ensures known { IfOk result (λ new. All (IsId (S.trees store.now)) new.kids.items) }
+    ensures cost { IsTrue S.unique → steps.new ≤ steps.old + distinct_count (replacement_subtrees (pairs_at (S.trees store.now) pairs.now)) }
 {
     let mut new = Spliced {
         items: Vec::new(alloc),
         kids: Vec::new(alloc),
     };
+    let mut seen = Vec::new(alloc);
     let mut left = kids;
     for item in items {
-        left = new.put(store, pairs, item, left, steps)?;
+        left = new.put(store, pairs, item, left, &mut seen, steps)?;
     }
     new.kids.extend_from_slice(left)?;
     Ok(new)
@@ -166,7 +170,7 @@ fn has_items(alloc: Global, system: &Op) -> Result<bool, AllocError>
 
 /// The system with its new items over its new kids, where a system may have these items and what it binds is admissible for
 /// the kids of before.
-pub(crate) fn splice<S: Store, L: Ledger>(
+pub fn splice_at<S: Store, L: Ledger>(
     alloc: Global,
     store: &mut S,
     pairs: &[Pair],
@@ -182,6 +186,7 @@ pub(crate) fn splice<S: Store, L: Ledger>(
     ensures ok { IfOk result (IsResult (SubstAt (pairs_at (S.trees store.old) pairs.now) (Op.System items.now) (kid_trees (S.trees store.old) old.now) (kid_trees (S.trees store.old) new.now)) (S.trees store.new)) }
     ensures none { result ≡ Err NotAdmissible → HasNone (λ t. SubstAt (pairs_at (S.trees store.old) pairs.now) (Op.System items.now) (kid_trees (S.trees store.old) old.now) (kid_trees (S.trees store.old) new.now) t × WellMade t) }
     ensures grows { S.grows store.old store.new }
+    ensures cost { IsTrue S.unique → steps.new ≤ steps.old + distinct_count (replacement_subtrees (pairs_at (S.trees store.old) pairs.now)) }
 {
     let spliced = all_spliced(alloc, store, pairs, items, new, steps)?;
     let system = Op::System(Items::new(spliced.items));

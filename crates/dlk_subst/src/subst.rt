@@ -17,7 +17,7 @@ use crate::fill::fill;
 use crate::pairs::{Effect, effect_at, is_admissible, keep_admissible};
 use crate::plug::plug;
 use crate::scope::Scope;
-use crate::splice::splice;
+use crate::splice::splice_at;
 use dlk_sequent::{ApplyFault, Pair, Subst};
 use dlk_store::{Id, Steps, Store};
 use dlk_tree::Op;
@@ -70,7 +70,7 @@ fn subst_at<S: Store, L: Ledger>(
     ensures grows { S.grows store.old store.new }
 {
     if let Op::System(items) = op {
-        return splice(alloc, store, pairs, items.items(), old, new, steps);
+        return splice_at(alloc, store, pairs, items.items(), old, new, steps);
     }
     match effect_at(pairs, op) {
         Effect::Gives(by) => Ok(by),

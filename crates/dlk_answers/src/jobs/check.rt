@@ -17,11 +17,11 @@ use crate::refusal::{refuse_text, refused};
 use crate::reply::{Layout, Reply, Status, printing};
 use dlk_kernel::{Fact, Kernel};
 use dlk_parse::read_formula;
-use dlk_plain::PlainStore;
 use dlk_print::{append_decimal, sequent_text};
 use dlk_replay::{LineWhy, Outcome, ReplayFault, replay};
 use dlk_report::{Report, report_json, report_text, shown};
 use dlk_sequent::Sequent;
+use dlk_shared::SharedStore;
 use dlk_store::{Id, Steps, Store};
 use std::alloc::Global;
 use std::sync::ledger::Ledger;
@@ -88,7 +88,7 @@ fn lay_out(alloc: Global, layout: Layout, report: &Report) -> Result<Vec<u8>, No
 }
 
 /// The report of a fact that so many lines have shown.
-fn report<S: Store, L: Ledger>(
+pub(super) fn report<S: Store, L: Ledger>(
     alloc: Global,
     layout: Layout,
     kernel: &Kernel<S>,
@@ -167,6 +167,6 @@ pub fn check<L: Ledger>(
 ) -> Result<Reply, NoReply>
     ensures { IfOk result (λ r. Checks layout model.now term.now (reply_of r)) }
 {
-    let mut kernel = Kernel::new(alloc, PlainStore::new(alloc));
+    let mut kernel = Kernel::new(alloc, SharedStore::new(alloc));
     check_on(alloc, layout, &mut kernel, model, term, steps)
 }

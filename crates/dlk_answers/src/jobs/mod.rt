@@ -1,4 +1,5 @@
 pub mod check;
 pub mod print;
+pub mod prove;
 pub mod subst;
 pub mod vars;

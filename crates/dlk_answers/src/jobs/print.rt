@@ -10,8 +10,8 @@ use crate::refusal::refuse_text;
 use crate::reply::{Reply, Status, printing};
 use dlk_grammar::Dots;
 use dlk_parse::read_expression;
-use dlk_plain::PlainStore;
 use dlk_print::text;
+use dlk_shared::SharedStore;
 use dlk_store::{Id, Steps, Store};
 use std::alloc::Global;
 use std::sync::ledger::Ledger;
@@ -56,6 +56,6 @@ fn print_on<S: Store, L: Ledger>(
 pub fn print<L: Ledger>(alloc: Global, file: &[u8], steps: &mut Steps<L>) -> Result<Reply, NoReply>
     ensures { IfOk result (λ r. Prints file.now (reply_of r)) }
 {
-    let mut store = PlainStore::new(alloc);
+    let mut store = SharedStore::new(alloc);
     print_on(alloc, &mut store, file, steps)
 }

@@ -1,5 +1,6 @@
 // `subst FILE SUBST`: what a substitution makes of an expression.
-ghost use Rattle.std.specs.Prelude.{◌≡◌, ◌<◌, IfOk};
+ghost use Rattle.std.specs.Prelude.{◌≡◌, ◌<◌, IsTrue, IfOk};
+ghost use Rattle.dlk_answers.specs.Looks.{LooksAtFew};
 ghost use Rattle.dlk_answers.specs.Substitutes.{pair_refused, Substitutes};
 ghost use Rattle.dlk_answers.specs.Shown.{reply_of};
 
@@ -10,11 +11,11 @@ use crate::refusal::{refuse_text, refused};
 use crate::reply::Reply;
 use dlk_calculus::{GREATEST_DEPTH, MOST_NODES, Why};
 use dlk_grammar::Dots;
+use dlk_memo::{ApplyFault, apply};
 use dlk_parse::{read_expression, read_substitution};
-use dlk_plain::PlainStore;
 use dlk_sequent::{Subst, SubstFault};
+use dlk_shared::SharedStore;
 use dlk_store::{Steps, Store};
-use dlk_subst::{ApplyFault, apply};
 use std::alloc::Global;
 use std::sync::ledger::Ledger;
 
@@ -27,7 +28,7 @@ fn refuse_pair(alloc: Global, pair: usize, why: Why) -> Result<Reply, NoReply>
     refused(alloc, why.as_str())
 }
 
-/// Substitutes in an expression by a store.
+/// Substitutes in an expression by a store in which a tree has at most one id.
 fn subst_on<S: Store, L: Ledger>(
     alloc: Global,
     store: &mut S,
@@ -35,7 +36,9 @@ fn subst_on<S: Store, L: Ledger>(
     substitution: &[u8],
     steps: &mut Steps<L>,
 ) -> Result<Reply, NoReply>
-    ensures { IfOk result (λ r. Substitutes file.now substitution.now (reply_of r)) }
+    requires { IsTrue S.unique }
+    ensures reply { IfOk result (λ r. Substitutes file.now substitution.now (reply_of r)) }
+    ensures looks { LooksAtFew file.now substitution.now steps.old steps.new }
 {
     let expression = match read_expression(alloc, file, Dots::Refused, store) {
         Ok(expression) => expression,
@@ -64,7 +67,8 @@ fn subst_on<S: Store, L: Ledger>(
     print_tree(alloc, store, result, steps)
 }
 
-/// Prints what a substitution makes of an expression, and a line feed.
+/// Prints what a substitution makes of an expression, and a line feed. Where it makes nothing, or a tree past a limit, few nodes are
+/// looked at: each subtree of the expression once, and for it each of the replacements' subtrees at most once.
 ///
 /// # Errors
 ///
@@ -75,8 +79,9 @@ pub fn subst<L: Ledger>(
     substitution: &[u8],
     steps: &mut Steps<L>,
 ) -> Result<Reply, NoReply>
-    ensures { IfOk result (λ r. Substitutes file.now substitution.now (reply_of r)) }
+    ensures reply { IfOk result (λ r. Substitutes file.now substitution.now (reply_of r)) }
+    ensures looks { LooksAtFew file.now substitution.now steps.old steps.new }
 {
-    let mut store = PlainStore::new(alloc);
+    let mut store = SharedStore::new(alloc);
     subst_on(alloc, &mut store, file, substitution, steps)
 }

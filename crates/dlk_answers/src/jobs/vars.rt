@@ -10,8 +10,8 @@ use crate::refusal::refuse_text;
 use crate::reply::{Reply, Status, printing};
 use dlk_grammar::Dots;
 use dlk_parse::read_expression;
-use dlk_plain::PlainStore;
 use dlk_print::{symbol_text, variable_text};
+use dlk_shared::SharedStore;
 use dlk_store::{Listing, Store, Which};
 use dlk_tree::{Kind, Sym, Var};
 use std::alloc::Global;
@@ -128,6 +128,6 @@ fn vars_on<S: Store>(alloc: Global, store: &mut S, file: &[u8]) -> Result<Reply,
 pub fn vars(alloc: Global, file: &[u8]) -> Result<Reply, NoReply>
     ensures { IfOk result (λ r. Lists file.now (reply_of r)) }
 {
-    let mut store = PlainStore::new(alloc);
+    let mut store = SharedStore::new(alloc);
     vars_on(alloc, &mut store, file)
 }

@@ -184,7 +184,7 @@ fn leaves_full<L: Ledger>(alloc: Global, term: &[u8], blank: Blank) -> Option<[u
     requires parts { blank.parts ≡ L.parts }
     requires some { 0 < blank.parts }
 {
-    let mut kernel = Kernel::new(alloc, PlainStore::new(alloc));
+    let mut kernel = Kernel::new(alloc, SharedStore::new(alloc));
     let mut steps = Steps::<L>::new(blank);
     let line = match replay(alloc, term, &mut kernel, &mut steps) {
         Err(

@@ -1,12 +1,13 @@
 // The sequent rules: what each makes of a goal, and what speaks against it.
-ghost use Rattle.std.specs.Prelude.{◌≡◌, ◌<◌};
+ghost use Rattle.std.specs.Prelude.{◌≡◌, ◌<◌, []};
+ghost use Rattle.dlk_rules.specs.Steps.{RuleIsKnown};
 
 use super::*;
-use dlk_kernel::{Reason, Rule, StepFault};
+use dlk_kernel::{Fact, Reason, Rule, StepFault};
 use dlk_parse::{Dots, read_expression};
 use dlk_replay::{LineWhy, ReplayFault, replay};
 use dlk_report::shown;
-use dlk_sequent::{Listed, Sequent};
+use dlk_sequent::Sequent;
 
 /// The texts of the goals that a term leaves, with `; ` between, or the reason against its second line.
 fn goals_of<L: Ledger>(alloc: Global, term: &[u8], blank: Blank) -> Option<Vec<u8>>
@@ -14,9 +15,20 @@ fn goals_of<L: Ledger>(alloc: Global, term: &[u8], blank: Blank) -> Option<Vec<u
     requires parts { blank.parts ≡ L.parts }
     requires some { 0 < blank.parts }
 {
-    let mut kernel = Kernel::new(alloc, PlainStore::new(alloc));
-    let mut steps = Steps::<L>::new(blank);
-    let outcome = match replay(alloc, term, &mut kernel, &mut steps) {
+    let mut kernel = Kernel::new(alloc, SharedStore::new(alloc));
+    goals_on(alloc, &mut kernel, term, &mut Steps::<L>::new(blank))
+}
+
+/// The same on a kernel.
+fn goals_on<S: Store, L: Ledger>(
+    alloc: Global,
+    kernel: &mut Kernel<S>,
+    term: &[u8],
+    steps: &mut Steps<L>,
+) -> Option<Vec<u8>>
+    requires { kernel.old.rows ≡ [] }
+{
+    let outcome = match replay(alloc, term, kernel, steps) {
         Ok(outcome) => outcome,
         Err(
             ReplayFault::Bad {
@@ -28,7 +40,7 @@ fn goals_of<L: Ledger>(alloc: Global, term: &[u8], blank: Blank) -> Option<Vec<u
         }
         Err(_) => return None,
     };
-    let report = shown(alloc, &kernel, outcome.fact, outcome.lines, &mut steps).ok()?;
+    let report = shown(alloc, kernel, outcome.fact, outcome.lines, steps).ok()?;
     let mut goals = Vec::new(alloc);
     for text in &report.goals {
         if !goals.is_empty() {
@@ -343,36 +355,53 @@ fn renames_bound_variables(rt: HostRuntime) -> Result<(), Fail> {
     Ok(())
 }
 
-/// The reason against a cut with a formula that no file can give: one with a dot, a hole, or another sort.
-fn cut_refused<L: Ledger>(alloc: Global, text: &[u8], blank: Blank) -> Option<[StepFault; 3]>
+/// What speaks against each of the three cuts with a formula that no file can give: one with a dot, a hole, or another sort.
+fn cut_refused<L: Ledger>(
+    alloc: Global,
+    text: &[u8],
+    blank: Blank,
+) -> Option<[Option<StepFault>; 3]>
     requires name { blank.name ≡ L.name }
     requires parts { blank.parts ≡ L.parts }
     requires some { 0 < blank.parts }
 {
-    let mut steps = Steps::<L>::new(blank);
-    let mut kernel = Kernel::new(alloc, PlainStore::new(alloc));
-    let sequent = read_sequent(alloc, b"p() ==> q()", &mut kernel).ok()?;
-    let fact = kernel.step(alloc, &Step::Start(sequent), &mut steps).ok()?;
-    let h = read_expression(alloc, text, Dots::Allowed, &mut kernel).ok()?;
-    let cut = Step::Apply {
-        fact,
-        goal: 1,
-        rule: Rule::Cut(h),
-    };
-    let cut = kernel.step(alloc, &cut, &mut steps).err()?;
-    let left = Step::Apply {
-        fact,
-        goal: 1,
-        rule: Rule::CutL(1, h),
-    };
-    let left = kernel.step(alloc, &left, &mut steps).err()?;
-    let right = Step::Apply {
-        fact,
-        goal: 1,
-        rule: Rule::CutR(1, h),
-    };
-    let right = kernel.step(alloc, &right, &mut steps).err()?;
+    let mut kernel = Kernel::new(alloc, SharedStore::new(alloc));
+    cut_refused_on(alloc, &mut kernel, text, &mut Steps::<L>::new(blank))
+}
+
+/// The same on a kernel.
+fn cut_refused_on<S: Store, L: Ledger>(
+    alloc: Global,
+    kernel: &mut Kernel<S>,
+    text: &[u8],
+    steps: &mut Steps<L>,
+) -> Option<[Option<StepFault>; 3]> {
+    let sequent = read_sequent(alloc, b"p() ==> q()", kernel).ok()?;
+    let fact = kernel.step(alloc, &Step::Start(sequent), steps).ok()?;
+    let h = read_expression(alloc, text, Dots::Allowed, kernel).ok()?;
+    let cut = applied(alloc, kernel, fact, Rule::Cut(h), steps);
+    let left = applied(alloc, kernel, fact, Rule::CutL(1, h), steps);
+    let right = applied(alloc, kernel, fact, Rule::CutR(1, h), steps);
     Some([cut, left, right])
+}
+
+/// What speaks against a rule on the first goal of a fact.
+fn applied<S: Store, L: Ledger>(
+    alloc: Global,
+    kernel: &mut Kernel<S>,
+    fact: Fact,
+    rule: Rule,
+    steps: &mut Steps<L>,
+) -> Option<StepFault>
+    requires { RuleIsKnown (S.trees kernel.old.store) rule }
+    ensures { S.grows kernel.old.store kernel.new.store }
+{
+    let step = Step::Apply {
+        fact,
+        goal: 1,
+        rule,
+    };
+    kernel.step(alloc, &step, steps).err()
 }
 
 /// The reason against a start with such a formula.
@@ -381,13 +410,20 @@ fn start_refused<L: Ledger>(alloc: Global, text: &[u8], blank: Blank) -> Option<
     requires parts { blank.parts ≡ L.parts }
     requires some { 0 < blank.parts }
 {
-    let mut steps = Steps::<L>::new(blank);
-    let mut kernel = Kernel::new(alloc, PlainStore::new(alloc));
-    let h = read_expression(alloc, text, Dots::Allowed, &mut kernel).ok()?;
-    let ante = Listed::new(alloc);
-    let succ = Listed::from_vec([h].to_vec(alloc).ok()?);
-    let start = Step::Start(Sequent { ante, succ });
-    kernel.step(alloc, &start, &mut steps).err()
+    let mut kernel = Kernel::new(alloc, SharedStore::new(alloc));
+    start_refused_on(alloc, &mut kernel, text, &mut Steps::<L>::new(blank))
+}
+
+/// The same on a kernel.
+fn start_refused_on<S: Store, L: Ledger>(
+    alloc: Global,
+    kernel: &mut Kernel<S>,
+    text: &[u8],
+    steps: &mut Steps<L>,
+) -> Option<StepFault> {
+    let h = read_expression(alloc, text, Dots::Allowed, kernel).ok()?;
+    let start = Step::Start(Sequent::alone_right(alloc, h).ok()?);
+    kernel.step(alloc, &start, steps).err()
 }
 
 #[test]
@@ -397,7 +433,7 @@ fn refuses_what_no_file_can_say(rt: HostRuntime) -> Result<(), Fail> {
     for text in ["._0>=0", "p()&_", "x+1", "x:=1;"] {
         assert_eq!(rt;
             cut_refused::<Brand>(alloc, text.as_bytes(), Blank::new(1)),
-            Some([shape, shape, shape]),
+            Some([Some(shape), Some(shape), Some(shape)]),
             "{text}"
         );
         assert_eq!(rt;

@@ -1,5 +1,12 @@
 // What `subst` prints.
+ghost use Rattle.std.specs.Prelude.{◌≡◌, ◌<◌};
+
 use super::*;
+use dlk_grammar::Dots;
+use dlk_parse::{read_expression, read_substitution};
+use dlk_plain::PlainStore;
+use dlk_print::text;
+use dlk_sequent::Subst;
 
 /// What `subst` answers to the bytes of an expression and of a substitution.
 fn substituted(alloc: Global, file: &[u8], substitution: &[u8]) -> Result<(u8, Reply), NoReply> {
@@ -513,6 +520,118 @@ fn keeps_results_shallow(rt: HostRuntime) -> Result<(), Fail> {
             b"refused: result-too-big\n".as_slice()
         );
         assert_eq!(rt; status, 2);
+    }
+    Ok(())
+}
+
+/// A result whose plain tree has more than 2^40 nodes is refused, or isn't needed, as fast as a small one.
+#[test]
+fn looks_at_each_subtree_once(rt: HostRuntime) -> Result<(), Fail> {
+    let alloc = rt.alloc();
+    for (front, back, more, status, printed) in [
+        ("", ">=0", "", 2, "refused: result-too-big\n"),
+        ("g(", ")>=0", ",g(._0)~>1", 0, "1>=0\n"),
+        (
+            "p(",
+            ")",
+            ",p(._0)~>\\exists z z>._0",
+            2,
+            "refused: result-too-big\n",
+        ),
+    ] {
+        let file = nested(alloc, front, 40, back)?;
+        let by = joined(alloc, b"f(._0)~>._0+._0", more.as_bytes(), b"")?;
+        let (found, reply) = substituted(alloc, &file, &by)?;
+        assert_eq!(rt; reply.printed.as_slice(), printed.as_bytes(), "{front}");
+        assert_eq!(rt; found, status, "{front}");
+    }
+    Ok(())
+}
+
+/// 500 nested predicationals, each of which becomes 500 negations: 250,000 levels.
+#[test]
+fn makes_deep_results(rt: HostRuntime) -> Result<(), Fail> {
+    let alloc = rt.alloc();
+    let front = joined(alloc, &repeated(alloc, "C{", 500)?, b"p()", b"")?;
+    let file = joined(alloc, &front, &repeated(alloc, "}", 500)?, b"")?;
+    let by = joined(alloc, b"C{_}~>", &repeated(alloc, "!", 500)?, b"_")?;
+    let (status, reply) = substituted(alloc, &file, &by)?;
+    assert_eq!(rt;
+        reply.printed.as_slice(),
+        b"refused: result-too-big\n".as_slice()
+    );
+    assert_eq!(rt; status, 2);
+    let start = joined(alloc, b"1 start ==> ", &file, b"\n")?;
+    let subst = joined(alloc, b"2 subst 1 ", &by, b"\ndone\n")?;
+    let (status, reply) = checked(alloc, b"p()", &joined(alloc, &start, &subst, b"")?)?;
+    assert_eq!(rt;
+        reply.printed.as_slice(),
+        b"refused: line 2: TooBig\n".as_slice()
+    );
+    assert_eq!(rt; status, 2);
+    Ok(())
+}
+
+/// What plain recursion makes of the two texts in the plain store, printed; nothing where it makes none.
+fn plainly<L: Ledger>(
+    alloc: Global,
+    file: &[u8],
+    substitution: &[u8],
+    blank: Blank,
+) -> Option<Vec<u8>>
+    requires name { blank.name ≡ L.name }
+    requires parts { blank.parts ≡ L.parts }
+    requires some { 0 < blank.parts }
+{
+    let mut steps = Steps::<L>::new(blank);
+    let mut store = PlainStore::new(alloc);
+    let expression = read_expression(alloc, file, Dots::Refused, &mut store).ok()?;
+    let pairs = read_substitution(alloc, substitution, &mut store).ok()?;
+    let sigma = Subst::new(alloc, &store, pairs, &mut steps).ok()?;
+    let result = dlk_subst::apply(alloc, &mut store, &sigma, expression, &mut steps).ok()?;
+    let mut printed = Vec::new(alloc);
+    text(&store, result, &mut printed, &mut steps).ok()?;
+    printed.push(b'\n').ok()?;
+    Some(printed)
+}
+
+/// The plain form and the table of results make the same.
+#[test]
+fn substitutes_as_plainly(rt: HostRuntime) -> Result<(), Fail> {
+    let alloc = rt.alloc();
+    for (file, substitution) in [
+        ("[x:=f();]p(x) <-> p(f())", "p(._0)~>._0>=1, f()~>x+1"),
+        ("f(x)+f(y)+f(f(x))>f(f(y))", "f(._0)~>._0*._0"),
+        ("p(x,y)&p(y,x)&p(x,y)", "p(._0,._1)~>._0>._1|._1>._0"),
+        ("C{D{x>0}}&C{x>0}", "C{_}~>!_&_,D{_}~>(_)'"),
+        ("{x'=f(),c,z'=f()}", "{c}~>{y'=2,d},f()~>1"),
+        ("{c,c}", "{c}~>{x'=1}"),
+        ("p(x)&\\forall y p(x)", "p(._0)~>\\exists y ._0<y"),
+        ("p(x)&p(y)", "p(._0)~>\\exists y ._0<y"),
+        ("p() -> [a;]p()", "p()~>x>0, a;~>x:=1;"),
+        ("[a;{a;}*]p(||)", "a;~>x:=*;,p(||)~>x>0"),
+    ] {
+        let plain = plainly::<Brand>(
+            alloc,
+            file.as_bytes(),
+            substitution.as_bytes(),
+            Blank::new(1),
+        );
+        let (status, reply) = substituted(alloc, file.as_bytes(), substitution.as_bytes())?;
+        match &plain {
+            Some(text) => {
+                assert_eq!(rt; reply.printed.as_slice(), text.as_slice(), "{file}");
+                assert_eq!(rt; status, 0, "{file}");
+            }
+            None => {
+                assert_eq!(rt;
+                    reply.printed.as_slice(),
+                    b"refused: not-admissible\n".as_slice(),
+                    "{file}"
+                );
+                assert_eq!(rt; status, 2, "{file}");
+            }
+        }
     }
     Ok(())
 }

@@ -1,11 +1,13 @@
 //! The steps of the calculus, a file for each, and the row that one gives.
-ghost use Rattle.std.specs.Prelude.{All, IfOk, IfErr};
+ghost use Rattle.std.specs.Prelude.{All, IsTrue, IfOk, IfErr};
 ghost use Rattle.dlk_calculus.specs.Provables.{HasFormulas};
 ghost use Rattle.dlk_calculus.specs.Limited.{IsLimited};
 ghost use Rattle.dlk_calculus.specs.Steps.{Gives, IsWithin, Fault};
 ghost use Rattle.dlk_rules.specs.Steps.{step_at, HasKnownIds};
 ghost use Rattle.dlk_kernel.specs.Faults.{IsStepFault};
 ghost use Rattle.dlk_kernel.specs.Kernel.{provable_at, provables_at, IsKnownRow};
+ghost use Rattle.dlk_kernel.specs.Looks.{LooksAtFew};
+ghost use Rattle.dlk_kernel.specs.Named.{AreFormulas};
 
 mod apply;
 mod axiom;
@@ -16,6 +18,7 @@ mod rename;
 mod start;
 mod substitute;
 
+use crate::axioms::NamedAxioms;
 use crate::fault::StepFault;
 use crate::row::Row;
 use dlk_rules::Step;
@@ -27,11 +30,13 @@ use std::sync::ledger::Ledger;
 pub(crate) fn give<S: Store, L: Ledger>(
     alloc: Global,
     store: &mut S,
+    axioms: &mut NamedAxioms,
     rows: &[Row],
     step: &Step,
     steps: &mut Steps<L>,
 ) -> Result<Row, StepFault>
     requires known { HasKnownIds (S.trees store.old) step.now }
+    requires named { AreFormulas (S.trees store.old) axioms.old }
     requires rows { All (IsKnownRow (S.trees store.old)) rows.now }
     requires formulas { All HasFormulas (provables_at (S.trees store.old) rows.now) }
     requires limited { All IsLimited (provables_at (S.trees store.old) rows.now) }
@@ -39,11 +44,13 @@ pub(crate) fn give<S: Store, L: Ledger>(
     ensures within { IfOk result (λ row. IsWithin (step_at (S.trees store.old) step.now) (provable_at (S.trees store.new) row)) }
     ensures known { IfOk result (IsKnownRow (S.trees store.new)) }
     ensures fault { IfErr result (IsStepFault (Fault (provables_at (S.trees store.old) rows.now) (step_at (S.trees store.old) step.now))) }
+    ensures named { AreFormulas (S.trees store.new) axioms.new }
     ensures grows { S.grows store.old store.new }
+    ensures looks { IsTrue S.unique → LooksAtFew (provables_at (S.trees store.old) rows.now) (step_at (S.trees store.old) step.now) steps.old steps.new }
 {
     match step {
         Step::Start(s) => start::start(alloc, store, s, steps),
-        Step::Axiom(name) => axiom::axiom(alloc, store, name),
+        Step::Axiom(name) => axiom::axiom(alloc, store, axioms, name),
         Step::AxRule(name) => axiomatic_rule::axiomatic_rule(alloc, store, name),
         Step::Leaf(s) => leaf::leaf(alloc, store, s, steps),
         Step::Apply { fact, goal, rule } => {

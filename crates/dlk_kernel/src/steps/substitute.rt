@@ -1,9 +1,10 @@
 //! A substitution in a fact.
-ghost use Rattle.std.specs.Prelude.{All, IfOk, IfErr};
+ghost use Rattle.std.specs.Prelude.{All, IsTrue, IfOk, IfErr};
 ghost use Rattle.dlk_calculus.specs.Steps.{Substitute, Gives, IsWithin, Fault};
 ghost use Rattle.dlk_sequent.specs.Substitutions.{pairs_at, AreKnownPairs};
 ghost use Rattle.dlk_kernel.specs.Faults.{IsStepFault};
 ghost use Rattle.dlk_kernel.specs.Kernel.{provable_at, provables_at, IsKnownRow};
+ghost use Rattle.dlk_kernel.specs.Looks.{LooksAtFew};
 
 use crate::fault::StepFault;
 use crate::limits::{Measure, is_substituted_within};
@@ -38,6 +39,7 @@ pub(super) fn substitute<S: Store, L: Ledger>(
     ensures known { IfOk result (IsKnownRow (S.trees store.new)) }
     ensures fault { IfErr result (IsStepFault (Fault (provables_at (S.trees store.old) rows.now) (Substitute fact (pairs_at (S.trees store.old) pairs.now)))) }
     ensures grows { S.grows store.old store.new }
+    ensures looks { IsTrue S.unique → LooksAtFew (provables_at (S.trees store.old) rows.now) (Substitute fact (pairs_at (S.trees store.old) pairs.now)) steps.old steps.new }
 {
     let Some(row) = item_at(rows, fact) else {
         return Err(StepFault::Refused(Reason::NoFact));

@@ -1,19 +1,37 @@
-use Rattle.std.proofs.Common.{◌++◌, List, ℕ, map, string_bytes, option_copied, refl, sym, ap, subst, ◌∙◌, inl, inr}
+use Rattle.std.proofs.Common.{◌++◌, List, ℕ, map, string_bytes, option_copied, refl, sym, ap, subst, ◌∙◌, inl, inr, arith}
 use Rattle.dlk_answers.specs.Shown.{reply_of}
-use Rattle.dlk.specs.Headline.{ClosedTruly, JudgesTruly}
+use Rattle.dlk.specs.Headline.{JudgesTruly}
 use Rattle.dlk.proofs.Truly.{whole_truly, front_truly}
 use Rattle.dlk.proofs.Judged.{answer_judges}
-use Rattle.dlk.proofs.Ran.{breaks_off, grows_from, asks_given}
+use Rattle.dlk.proofs.Ran.{gives_whole, breaks_off, grows_from, asks_given}
+use Rattle.dlk.specs.Looks.{LooksAtFew}
+use Rattle.dlk.proofs.Looked.{none_written, given_looked, ungiven_looked}
+use Rattle.dlk.proofs.Written.{whole_proves}
 use Rattle.dlk.proofs.run.run.Goals as goal
 
 pub returns-in-Ok-give-clause-closed_truly : goal.returns-in-Ok-give-clause-closed_truly
 returns-in-Ok-give-clause-closed_truly g c = λ t.
     let words = map string_bytes c.args.words.now in
     let old = g.D.Desk.outside c.args.desk.now in
+    let mid = g.D.Desk.outside c.work.new.desk in
     let new = g.D.Desk.outside c.give.new.desk in
     let reply = reply_of c.in-Ok.reply in
-    let printed = c.in-Ok-give.ensures.printed t ∙ ap (λ (l : List ℕ). l ++ reply.printed) (c.in-Ok.ensures.only.printed t) in
-    subst (λ status. ClosedTruly words status old new) (sym c.code.ensures) (whole_truly words old new reply (c.in-Ok.ensures.ok t) printed)
+    let reads = c.in-Ok.ensures.only in
+    whole_truly c.proved_is_checked.ensures words c.code.result old new reply
+    (gives_whole words old mid new reply (option_copied c.output.result) c.output.ensures (c.in-Ok.ensures.ok t) (reads.files t) (reads.printed t)
+    (c.in-Ok-give.ensures.file t) (c.in-Ok-give.ensures.printed t) c.code.result c.code.ensures)
+
+pub returns-in-Ok-give-clause-proves_truly : goal.returns-in-Ok-give-clause-proves_truly
+returns-in-Ok-give-clause-proves_truly g c = λ t.
+    let words = map string_bytes c.args.words.now in
+    let old = g.D.Desk.outside c.args.desk.now in
+    let mid = g.D.Desk.outside c.work.new.desk in
+    let new = g.D.Desk.outside c.give.new.desk in
+    let reply = reply_of c.in-Ok.reply in
+    let reads = c.in-Ok.ensures.only in
+    whole_proves c.proved_is_checked.ensures words c.code.result old new reply
+    (gives_whole words old mid new reply (option_copied c.output.result) c.output.ensures (c.in-Ok.ensures.ok t) (reads.files t) (reads.printed t)
+    (c.in-Ok-give.ensures.file t) (c.in-Ok-give.ensures.printed t) c.code.result c.code.ensures)
 
 pub returns-in-Ok-give-clause-judges_truly : goal.returns-in-Ok-give-clause-judges_truly
 returns-in-Ok-give-clause-judges_truly g c = λ t.
@@ -35,8 +53,11 @@ returns-clause-closed_truly g c = λ t.
     let mid = g.D.Desk.outside c.work.new.desk in
     let new = g.D.Desk.outside c.give.new.desk in
     let reply = reply_of c.in-Ok.reply in
-    front_truly (map string_bytes c.args.words.now) old new reply (c.in-Ok.ensures.ok t)
-    (grows_from old.printed mid.printed new.printed reply.printed (c.in-Ok.ensures.only.printed t) (c.give.ensures.front t))
+    let given = c.give.ensures in
+    let reads = c.in-Ok.ensures.only in
+    front_truly c.proved_is_checked.ensures (map string_bytes c.args.words.now) old new reply
+    (breaks_off (map string_bytes c.args.words.now) old mid new reply (option_copied c.output.result) c.output.ensures
+    (c.in-Ok.ensures.ok t) (reads.files t) (reads.printed t) (given.part t) (given.front t) (given.file_first t))
 
 pub returns-clause-asks : goal.returns-clause-asks
 returns-clause-asks g c =
@@ -59,3 +80,25 @@ returns-clause-answered g c = λ t has.
             (c.in-Ok.ensures.ok t) (reads.files t) (reads.printed t) (given.part t) (given.front t) (given.file_first t),
       ),
     )))
+
+pub returns-in-Ok-give-clause-looks : goal.returns-in-Ok-give-clause-looks
+returns-in-Ok-give-clause-looks g c = λ t.
+    let words = map string_bytes c.args.words.now in
+    let old = g.D.Desk.outside c.args.desk.now in
+    let new = g.D.Desk.outside c.give.new.desk in
+    let reply = reply_of c.in-Ok.reply in
+    let printed = c.in-Ok-give.ensures.printed t ∙ ap (λ (l : List ℕ). l ++ reply.printed) (c.in-Ok.ensures.only.printed t) in
+    subst (λ status. LooksAtFew words status old new c.args.steps.now c.work.new.steps) (sym c.code.ensures)
+    (given_looked words old new _ _ (c.work.ensures.looks t) reply (c.in-Ok.ensures.ok t) (λ two. none_written c.in-Ok.reply.written (c.in-Ok.ensures.refusal two)) printed)
+
+pub returns-clause-looks : goal.returns-clause-looks
+returns-clause-looks g c = λ t.
+    ungiven_looked (map string_bytes c.args.words.now) (g.D.Desk.outside c.args.desk.now) (g.D.Desk.outside c.give.new.desk) _ _ (c.work.ensures.looks t) 5 (λ e. absurd (omega (arith, e)))
+
+pub returns-in-Err-Memory-clause-looks : goal.returns-in-Err-Memory-clause-looks
+returns-in-Err-Memory-clause-looks g c = λ t.
+    ungiven_looked (map string_bytes c.args.words.now) (g.D.Desk.outside c.args.desk.now) (g.D.Desk.outside c.work.new.desk) _ _ (c.work.ensures.looks t) 6 (λ e. absurd (omega (arith, e)))
+
+pub returns-in-Err-Fault-clause-looks : goal.returns-in-Err-Fault-clause-looks
+returns-in-Err-Fault-clause-looks g c = λ t.
+    ungiven_looked (map string_bytes c.args.words.now) (g.D.Desk.outside c.args.desk.now) (g.D.Desk.outside c.work.new.desk) _ _ (c.work.ensures.looks t) 4 (λ e. absurd (omega (arith, e)))

@@ -1,9 +1,10 @@
-use Rattle.std.proofs.Common.{sym, subst, map, string_bytes, rules}
+use Rattle.std.proofs.Common.{sym, subst, map, string_bytes, refl, rules}
 use Rattle.dlk_answers.specs.Replies.{Reply, code_of}
 use Rattle.dlk.specs.Answers.{Answers, no_form}
 use Rattle.dlk_answers.specs.Shown.{texts_of, reply_of}
 use Rattle.dlk_answers.proofs.CarriedOut.{carried_out}
 use Rattle.dlk.proofs.Answered.{answered, have_inputs, words_known, none_written, asks_words}
+use Rattle.dlk.proofs.Looked.{none_looked, command_looked}
 use Rattle.dlk.proofs.run.work.Goals as goal
 
 pub returns-in_default-clause-ok : goal.returns-in_default-clause-ok
@@ -24,17 +25,30 @@ pub returns-clause-words : goal.returns-clause-words
 returns-clause-words g c =
     let words = map string_bytes c.args.words.now in
     let reply = c.in_ok-respond.field-0 in
-    let carried = carried_out c.in-Some.command words (texts_of c.deref.result.now) (reply_of reply) c.in_ok-respond.ensures in
+    let carried = carried_out c.in-Some.command words (texts_of c.deref.result.now) (reply_of reply) c.in_ok-respond.ensures.reply in
     words_known words c.in-Some.command (code_of reply.status) (search rules) carried.status
 
 pub returns-clause-refusal : goal.returns-clause-refusal
 returns-clause-refusal g c = λ two.
     let words = map string_bytes c.args.words.now in
     let reply = c.in_ok-respond.field-0 in
-    let carried = carried_out c.in-Some.command words (texts_of c.deref.result.now) (reply_of reply) c.in_ok-respond.ensures in
+    let carried = carried_out c.in-Some.command words (texts_of c.deref.result.now) (reply_of reply) c.in_ok-respond.ensures.reply in
     none_written reply.written (carried.refusal two)
 
 pub returns-clause-asks : goal.returns-clause-asks
 returns-clause-asks g c =
     asks_words g.D.Desk.tells (map string_bytes c.args.words.now) (map string_bytes c.inputs.result.now) c.in-Some.command c.form.result (g.D.Desk.outside c.args.desk.now) (g.D.Desk.outside c.read_inputs.new.desk)
     (search rules) c.inputs.ensures.names c.form.ensures c.in_ok-inputs.ensures.asks
+
+pub returns-in_default-clause-looks : goal.returns-in_default-clause-looks
+returns-in_default-clause-looks g c = λ told. none_looked (map string_bytes c.args.words.now) (g.D.Desk.outside c.args.desk.now).files _ _ refl
+
+pub returns-clause-looks : goal.returns-clause-looks
+returns-clause-looks g c = λ told.
+    command_looked (map string_bytes c.args.words.now) c.in-Some.command (g.D.Desk.outside c.args.desk.now).files (texts_of c.in_ok-inputs.inputs.items) _ _
+    (search rules) (search rules) (search rules) (rw c.deref.ensures.value at c.respond.ensures.looks)
+
+pub returns-in_err-respond-clause-looks : goal.returns-in_err-respond-clause-looks
+returns-in_err-respond-clause-looks g c = λ told.
+    command_looked (map string_bytes c.args.words.now) c.in-Some.command (g.D.Desk.outside c.args.desk.now).files (texts_of c.in_ok-inputs.inputs.items) _ _
+    (search rules) (search rules) (search rules) (rw c.deref.ensures.value at c.respond.ensures.looks)

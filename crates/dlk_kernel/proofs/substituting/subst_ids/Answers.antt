@@ -5,6 +5,7 @@ use Rattle.dlk_sequent.specs.declared.fault.ApplyFault.TheVariants.{NotAdmissibl
 use Rattle.dlk_subst.proofs.Results.{handed_on}
 use Rattle.dlk_kernel.proofs.Renamed.{one_more_known_id}
 use Rattle.dlk_kernel.proofs.Substituted.{no_id, one_more_id}
+use Rattle.dlk_kernel.proofs.Looked.{id_looked, ids_stopped, front_counts}
 use Rattle.dlk_kernel.proofs.substituting.subst_ids.Goals as goal
 
 pub apply-requires-clause-made : goal.apply-requires-clause-made
@@ -36,8 +37,26 @@ loop-id-preserved g c =
     record {
       grows = g.met.S.Store.grows_trans c.args.store.now c.loop-id.store c.apply.new.store c.loop-id.invariant.grows c.apply.ensures.grows;
       known = rw c.in_ok-push.ensures.ok (one_more_known_id _ _ then c.loop-id.made _ c.loop-id.invariant.known made.stands.known);
+      looks = λ u. id_looked first c.args.sigma.now.pairs c.requires.sigma.known _ _ _ n c.args.ids.now d c.loop-id-test.true
+          (c.requires.known n d c.loop-id-test.true) (c.loop-id.invariant.looks u) (c.apply.ensures.cost u);
       made =
           rw c.in_ok-push.ensures.ok
           (one_more_id _ _ first c.args.sigma.now.pairs c.requires.sigma.known _ then c.args.ids.now c.loop-id.made n d _ c.loop-id-test.true
           (c.requires.known n d c.loop-id-test.true) c.loop-id.invariant.known c.loop-id.invariant.made made);
     }
+
+pub returns-in_err-substituted-clause-looks : goal.returns-in_err-substituted-clause-looks
+returns-in_err-substituted-clause-looks g c = λ u.
+    let first = g.met.S.Store.grows_keeps c.args.store.now c.loop-id.store c.loop-id.invariant.grows in
+    let n = c.loop-id.id-index in
+    let d : Id = record { 0 = 0 } in
+    ids_stopped first c.args.sigma.now.pairs c.requires.sigma.known _ _ _ n c.args.ids.now d c.loop-id-test.true (c.requires.known n d c.loop-id-test.true)
+    (c.loop-id.invariant.looks u) (c.apply.ensures.cost u)
+
+pub returns-in_err-push-clause-looks : goal.returns-in_err-push-clause-looks
+returns-in_err-push-clause-looks g c = λ u.
+    let first = g.met.S.Store.grows_keeps c.args.store.now c.loop-id.store c.loop-id.invariant.grows in
+    let n = c.loop-id.id-index in
+    let d : Id = record { 0 = 0 } in
+    ids_stopped first c.args.sigma.now.pairs c.requires.sigma.known _ _ _ n c.args.ids.now d c.loop-id-test.true (c.requires.known n d c.loop-id-test.true)
+    (c.loop-id.invariant.looks u) (c.apply.ensures.cost u)

@@ -5,6 +5,7 @@ use Rattle.dlk_sequent.proofs.KeptPairs.{IsMadeOver-kept}
 use Rattle.dlk_sequent.specs.declared.fault.ApplyFault.TheVariants.{NotAdmissible}
 use Rattle.dlk_subst.proofs.Results.{handed_on}
 use Rattle.dlk_kernel.proofs.Substituted.{no_goals, whole_row, whole_known}
+use Rattle.dlk_kernel.proofs.Looked.{row_looked}
 use Rattle.dlk_kernel.proofs.substituting.subst_row.Goals as goal
 
 pub subst_sequents-requires-clause-sigma : goal.subst_sequents-requires-clause-sigma
@@ -42,3 +43,21 @@ returns-clause-known g c =
     let first = g.met.S.Store.grows_keeps c.args.store.now c.subst_sequent.new.store c.subst_sequent.ensures.grows in
     let then = g.met.S.Store.grows_keeps c.subst_sequent.new.store c.subst_sequents.new.store c.subst_sequents.ensures.grows in
     whole_known _ _ _ first then c.args.row.now _ c.requires.known c.in_ok-conclusion.ensures.known c.in_ok-goals.ensures.known c.in_ok-leaves.ensures
+
+pub returns-in_err-goals-clause-looks : goal.returns-in_err-goals-clause-looks
+returns-in_err-goals-clause-looks g c = λ u.
+    let first = g.met.S.Store.grows_keeps c.args.store.now c.subst_sequent.new.store c.subst_sequent.ensures.grows in
+    row_looked first c.args.sigma.now.pairs c.requires.sigma.known _ _ _ c.args.row.now c.requires.known (c.subst_sequent.ensures.looks u)
+    (rw c.as_slice.ensures at (c.subst_sequents.ensures.looks u))
+
+pub returns-in_err-leaves-clause-looks : goal.returns-in_err-leaves-clause-looks
+returns-in_err-leaves-clause-looks g c = λ u.
+    let first = g.met.S.Store.grows_keeps c.args.store.now c.subst_sequent.new.store c.subst_sequent.ensures.grows in
+    row_looked first c.args.sigma.now.pairs c.requires.sigma.known _ _ _ c.args.row.now c.requires.known (c.subst_sequent.ensures.looks u)
+    (rw c.as_slice.ensures at (c.subst_sequents.ensures.looks u))
+
+pub returns-clause-looks : goal.returns-clause-looks
+returns-clause-looks g c = λ u.
+    let first = g.met.S.Store.grows_keeps c.args.store.now c.subst_sequent.new.store c.subst_sequent.ensures.grows in
+    row_looked first c.args.sigma.now.pairs c.requires.sigma.known _ _ _ c.args.row.now c.requires.known (c.subst_sequent.ensures.looks u)
+    (rw c.as_slice.ensures at (c.subst_sequents.ensures.looks u))

@@ -2,6 +2,7 @@ use Rattle.dlk_sequent.proofs.KeptPairs.{IsMadeOver-kept}
 use Rattle.dlk_sequent.specs.declared.fault.ApplyFault.TheVariants.{NotAdmissible}
 use Rattle.dlk_subst.proofs.Results.{handed_on}
 use Rattle.dlk_kernel.proofs.Substituted.{no_succ, both_sides}
+use Rattle.dlk_kernel.proofs.Looked.{both_looked}
 use Rattle.dlk_kernel.proofs.substituting.subst_sequent.Goals as goal
 
 pub subst_ids-requires-2-clause-sigma : goal.subst_ids-requires-2-clause-sigma
@@ -26,3 +27,15 @@ returns-clause-made g c =
     let then = g.met.S.Store.grows_keeps c.subst_ids.new.store c.subst_ids-2.new.store c.subst_ids-2.ensures.grows in
     both_sides _ _ first c.args.sigma.now.pairs c.requires.sigma.known _ then c.args.s.now _ c.requires.known
     (rw c.as_slice.ensures at c.in_ok-ante.ensures.made) c.in_ok-ante.ensures.known (rw c.as_slice-2.ensures at c.in_ok-succ.ensures.made)
+
+pub returns-in_err-succ-clause-looks : goal.returns-in_err-succ-clause-looks
+returns-in_err-succ-clause-looks g c = λ u.
+    let first = g.met.S.Store.grows_keeps c.args.store.now c.subst_ids.new.store c.subst_ids.ensures.grows in
+    both_looked first c.args.sigma.now.pairs c.requires.sigma.known _ _ _ c.args.s.now c.requires.known (rw c.as_slice.ensures at (c.subst_ids.ensures.looks u))
+    (rw c.as_slice-2.ensures at (c.subst_ids-2.ensures.looks u))
+
+pub returns-clause-looks : goal.returns-clause-looks
+returns-clause-looks g c = λ u.
+    let first = g.met.S.Store.grows_keeps c.args.store.now c.subst_ids.new.store c.subst_ids.ensures.grows in
+    both_looked first c.args.sigma.now.pairs c.requires.sigma.known _ _ _ c.args.s.now c.requires.known (rw c.as_slice.ensures at (c.subst_ids.ensures.looks u))
+    (rw c.as_slice-2.ensures at (c.subst_ids-2.ensures.looks u))

@@ -4,6 +4,7 @@ use Rattle.dlk_sequent.specs.declared.fault.ApplyFault.TheVariants.{NotAdmissibl
 use Rattle.dlk_subst.proofs.Results.{handed_on}
 use Rattle.dlk_kernel.proofs.Renamed.{one_more_known}
 use Rattle.dlk_kernel.proofs.Substituted.{no_sequent, one_more_sequent}
+use Rattle.dlk_kernel.proofs.Looked.{sequent_looked, sequents_stopped}
 use Rattle.dlk_kernel.proofs.substituting.subst_sequents.Goals as goal
 
 pub subst_sequent-requires-clause-sigma : goal.subst_sequent-requires-clause-sigma
@@ -33,8 +34,24 @@ loop-s-preserved g c =
     record {
       grows = g.met.S.Store.grows_trans c.args.store.now c.loop-s.store c.subst_sequent.new.store c.loop-s.invariant.grows c.subst_sequent.ensures.grows;
       known = rw c.in_ok-push.ensures.ok (one_more_known _ _ then c.loop-s.made _ c.loop-s.invariant.known c.in_ok-substituted.ensures.known);
+      looks = λ u. sequent_looked first c.args.sigma.now.pairs c.requires.sigma.known _ _ _ n c.args.all.now c.s-item.result c.loop-s-test.true
+          (c.requires.known n c.s-item.result c.loop-s-test.true) (c.loop-s.invariant.looks u) (rw c.s-item.is at (c.subst_sequent.ensures.looks u));
       made =
           rw c.in_ok-push.ensures.ok
           (one_more_sequent _ _ first c.args.sigma.now.pairs c.requires.sigma.known _ then c.args.all.now c.loop-s.made n c.s-item.result _
           c.loop-s-test.true (c.requires.known n c.s-item.result c.loop-s-test.true) c.loop-s.invariant.known c.loop-s.invariant.made made);
     }
+
+pub returns-in_err-substituted-clause-looks : goal.returns-in_err-substituted-clause-looks
+returns-in_err-substituted-clause-looks g c = λ u.
+    let first = g.met.S.Store.grows_keeps c.args.store.now c.loop-s.store c.loop-s.invariant.grows in
+    let n = c.loop-s.s-index in
+    sequents_stopped first c.args.sigma.now.pairs c.requires.sigma.known _ _ _ n c.args.all.now c.s-item.result c.loop-s-test.true
+    (c.requires.known n c.s-item.result c.loop-s-test.true) (c.loop-s.invariant.looks u) (rw c.s-item.is at (c.subst_sequent.ensures.looks u))
+
+pub returns-in_err-push-clause-looks : goal.returns-in_err-push-clause-looks
+returns-in_err-push-clause-looks g c = λ u.
+    let first = g.met.S.Store.grows_keeps c.args.store.now c.loop-s.store c.loop-s.invariant.grows in
+    let n = c.loop-s.s-index in
+    sequents_stopped first c.args.sigma.now.pairs c.requires.sigma.known _ _ _ n c.args.all.now c.s-item.result c.loop-s-test.true
+    (c.requires.known n c.s-item.result c.loop-s-test.true) (c.loop-s.invariant.looks u) (rw c.s-item.is at (c.subst_sequent.ensures.looks u))

@@ -1,9 +1,11 @@
-use Rattle.std.proofs.Common.{◌≡◌, drop}
+use Rattle.std.proofs.Common.{◌≡◌, [], drop}
 use Rattle.std.specs.Prelude.{All}
 use Rattle.dlk_store.specs.Stores.{IsId, kid_trees}
 use Rattle.dlk_calculus.specs.Kids.{last}
 use Rattle.dlk_calculus.specs.Subst.{new_members, items_of, kids_of}
 use Rattle.dlk_sequent.specs.Substitutions.{pairs_at}
+use Rattle.dlk_subst.specs.Counts.{replacement_subtrees}
+use Rattle.dlk_subst.specs.Looked.{SeesMore}
 use Rattle.dlk_subst.specs.Splices.{AreKidsOf, whole_items, whole_kids}
 use Rattle.dlk_subst.proofs.splice.all_spliced.Given as goal
 
@@ -19,4 +21,5 @@ invariant-loop-item g l =
       left_are : AreKidsOf trees (drop l.item-index l.items) l.left;
       known : All (IsId trees) l.new.kids.items;
       left_known : All (IsId trees) l.left;
+      sees : SeesMore trees (replacement_subtrees pairs) [] l.seen.items l.fn.steps l.steps;
     }

@@ -7,7 +7,7 @@ use Rattle.dlk_kernel.proofs.steps.axiom.axiom.Goals as goal
 
 pub returns-clause-given : goal.returns-clause-given
 returns-clause-given g c =
-    let found = rw (c.bytes.ensures.bytes, c.in-Some.is) at c.in_ok-formula.ensures.axiom in
+    let found = rw c.in-Some.is at c.in_ok-formula.ensures.axiom in
     axiom_given _ c.in-Some.formula _ (rw (c.in_ok-conclusion.ensures, c.new-goals.ensures, c.new-leaves.ensures) refl) c.args.name.now found.0 found.1 found.2
 
 pub returns-clause-within : goal.returns-clause-within
@@ -15,5 +15,5 @@ returns-clause-within g c = axiom_within c.args.name.now _
 
 pub returns-in_default-clause-fault : goal.returns-in_default-clause-fault
 returns-in_default-clause-fault g c = λ rows.
-    let none : axiom_named c.args.name.now ≡ None = rw (c.bytes.ensures.bytes, c.in_default.is) at c.in_ok-formula.ensures.axiom in
+    let none : axiom_named c.args.name.now ≡ None = rw c.in_default.is at c.in_ok-formula.ensures.axiom in
     first_unknown_axiom rows c.args.name.now none

@@ -1,3 +1,4 @@
+use Rattle.std.proofs.Common.{refl}
 use Rattle.std.proofs.lemmas.Result.{err_from_is_err_and}
 use Rattle.dlk_calculus.proofs.PlaceLaws.{At_All}
 use Rattle.dlk_kernel.specs.Kernel.{IsKnownRow}
@@ -6,6 +7,7 @@ use Rattle.dlk_kernel.proofs.RowLaws.{no_such_fact}
 use Rattle.dlk_kernel.proofs.Substituted.{not_true, ill_refused, free_refused, substituted_given, none_refused}
 use Rattle.dlk_sequent.proofs.KeptPairs.{pairs_at-kept, AreKnownPairs-kept}
 use Rattle.dlk_kernel.proofs.LimitRows.{subst_big, subst_deep, subst_within}
+use Rattle.dlk_kernel.proofs.Looked.{unlooked, pairs_looked, fact_looked}
 use Rattle.dlk_kernel.proofs.steps.substitute.substitute.Goals as goal
 
 pub returns-in_default-clause-fault : goal.returns-in_default-clause-fault
@@ -82,3 +84,34 @@ returns-clause-within g c =
     _ c.in_ok-made.ensures.made)
     (cc (c.is_substituted_within.ensures, c.if-not-is_substituted_within.false))
     (cc (c.is_substituted_within-2.ensures, c.if-not-is_substituted_within-2.false))
+
+pub returns-in_default-clause-looks : goal.returns-in_default-clause-looks
+returns-in_default-clause-looks g c = λ u. unlooked (g.S.Store.trees c.args.store.now) c.args.rows.now c.args.fact c.args.pairs.now _ _ refl
+
+pub returns-in_err-sigma-clause-looks : goal.returns-in_err-sigma-clause-looks
+returns-in_err-sigma-clause-looks g c = λ u.
+    pairs_looked (g.S.Store.trees c.args.store.now) c.args.rows.now c.args.fact c.args.pairs.now _ _ c.substitution.ensures.looks
+
+pub returns-then-is_free_over_goals-clause-looks : goal.returns-then-is_free_over_goals-clause-looks
+returns-then-is_free_over_goals-clause-looks g c = λ u.
+    pairs_looked (g.S.Store.trees c.args.store.now) c.args.rows.now c.args.fact c.args.pairs.now _ _ c.substitution.ensures.looks
+
+pub returns-in_err-made-clause-looks : goal.returns-in_err-made-clause-looks
+returns-in_err-made-clause-looks g c = λ u.
+    fact_looked (g.S.Store.trees c.args.store.now) c.args.rows.now c.args.fact c.args.pairs.now _ c.in-Some.row.now c.in-Some.ensures
+    c.in_ok-sigma.sigma.pairs c.in_ok-sigma.ensures.pairs _ _ c.substitution.ensures.looks (c.subst_row.ensures.looks u)
+
+pub returns-then-not-is_substituted_within-clause-looks : goal.returns-then-not-is_substituted_within-clause-looks
+returns-then-not-is_substituted_within-clause-looks g c = λ u.
+    fact_looked (g.S.Store.trees c.args.store.now) c.args.rows.now c.args.fact c.args.pairs.now _ c.in-Some.row.now c.in-Some.ensures
+    c.in_ok-sigma.sigma.pairs c.in_ok-sigma.ensures.pairs _ _ c.substitution.ensures.looks (c.subst_row.ensures.looks u)
+
+pub returns-then-not-is_substituted_within-2-clause-looks : goal.returns-then-not-is_substituted_within-2-clause-looks
+returns-then-not-is_substituted_within-2-clause-looks g c = λ u.
+    fact_looked (g.S.Store.trees c.args.store.now) c.args.rows.now c.args.fact c.args.pairs.now _ c.in-Some.row.now c.in-Some.ensures
+    c.in_ok-sigma.sigma.pairs c.in_ok-sigma.ensures.pairs _ _ c.substitution.ensures.looks (c.subst_row.ensures.looks u)
+
+pub returns-clause-looks : goal.returns-clause-looks
+returns-clause-looks g c = λ u.
+    fact_looked (g.S.Store.trees c.args.store.now) c.args.rows.now c.args.fact c.args.pairs.now _ c.in-Some.row.now c.in-Some.ensures
+    c.in_ok-sigma.sigma.pairs c.in_ok-sigma.ensures.pairs _ _ c.substitution.ensures.looks (c.subst_row.ensures.looks u)

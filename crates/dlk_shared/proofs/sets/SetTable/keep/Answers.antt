@@ -1,19 +1,29 @@
-use Rattle.std.proofs.Common.{◌≡◌, sym, ap, ◌∙◌, rules, false, []}
+use Rattle.std.proofs.Common.{◌≡◌, ◌<◌, length, sym, ap, ◌∙◌, rules, arith, false, []}
 use Rattle.std.specs.Bool.{Decides}
-use Rattle.std.proofs.lemmas.Option.{get_or_from_slice_get}
+use Rattle.std.proofs.lemmas.Option.{slice_get_within, get_or_from_slice_get}
 use Rattle.dlk_vars.specs.Rows.{Row, row_eq}
-use Rattle.dlk_shared.specs.SetTables.{SetTable}
-use Rattle.dlk_shared.proofs.SetLemmas.{inserted_keeps}
+use Rattle.dlk_shared.specs.SetTables.{SetTable, row_at}
+use Rattle.dlk_shared.proofs.SetLemmas.{mapped, inserted_keeps}
 use Rattle.dlk_shared.proofs.sets.SetTable.keep.Goals as goal
 
 row_decides : (a b : Row) → Decides (row_eq a b) (a ≡ b)
 row_decides a b = search rules
 
+pub returns-clause-known : goal.returns-clause-known
+returns-clause-known c =
+    let stored = c.in_ok-n.ensures.stored in
+    let sets = c.insert_full.new.self.keys in
+    mapped (λ m. m ≡ c.in_ok-n.n) (λ m. m < length sets) c.narrow.result
+    (λ m e. omega (arith, e, slice_get_within sets c.in_ok-n.n stored.0 stored.1)) c.narrow.ensures
+
 pub returns-clause-row : goal.returns-clause-row
 returns-clause-row c =
     let stored = c.in_ok-n.ensures.stored in
-    get_or_from_slice_get c.insert_full.new.self.keys c.in_ok-n.n stored.0 (record { words = []; others = false }) stored.1
-    ∙ sym ((row_decides c.args.set stored.0).0 stored.2)
+    let sets = c.insert_full.new.self.keys in
+    let row : row_at sets c.in_ok-n.n ≡ c.args.set =
+    get_or_from_slice_get sets c.in_ok-n.n stored.0 (record { words = []; others = false }) stored.1
+    ∙ sym ((row_decides c.args.set stored.0).0 stored.2) in
+    mapped (λ m. m ≡ c.in_ok-n.n) (λ m. row_at sets m ≡ c.args.set) c.narrow.result (λ m e. ap (row_at sets) e ∙ row) c.narrow.ensures
 
 pub returns-clause-keeps : goal.returns-clause-keeps
 returns-clause-keeps c =

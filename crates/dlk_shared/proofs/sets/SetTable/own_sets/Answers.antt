@@ -6,18 +6,15 @@ use Rattle.dlk_tree.specs.declared.op.Sym.{Sym}
 use Rattle.dlk_shared.specs.SetTables.{MeanSets}
 use Rattle.dlk_shared.specs.Shapes.{own_sets}
 use Rattle.dlk_shared.specs.declared.node.NodeSets.{NodeSets}
-use Rattle.dlk_shared.proofs.SetLemmas.{means_kept, keeps_trans}
+use Rattle.dlk_shared.proofs.SetLemmas.{means_kept}
 use Rattle.dlk_shared.proofs.sets.SetTable.own_sets.Goals as goal
 
 pub returns-in_ok-free-in-Variable-clause-means : goal.returns-in_ok-free-in-Variable-clause-means
 returns-in_ok-free-in-Variable-clause-means c =
-    let none = means_kept c.in_ok-free-in-Variable.ensures.keeps c.in_ok-none.ensures.means in
+    let none = means_kept c.in_ok-free-in-Variable.ensures.keeps c.requires in
     subst (λ o. MeanSets c.just.new.self c.reads.result (own_sets o)) (sym c.in-Variable.is)
     (subst (λ n. MeanSets c.just.new.self n (own_sets (Variable c.in-Variable.v))) (sym c.reads.ensures)
     (record { free = c.in_ok-free-in-Variable.ensures.means; bound = none; must = none }))
-
-pub returns-in_ok-free-in-Variable-clause-keeps : goal.returns-in_ok-free-in-Variable-clause-keeps
-returns-in_ok-free-in-Variable-clause-keeps c = keeps_trans c.in_ok-none.ensures.keeps c.in_ok-free-in-Variable.ensures.keeps
 
 pub returns-in_ok-v-in-Assign-clause-means : goal.returns-in_ok-v-in-Assign-clause-means
 returns-in_ok-v-in-Assign-clause-means c =
@@ -25,10 +22,7 @@ returns-in_ok-v-in-Assign-clause-means c =
     let t = c.just-in-Assign.new.self in
     subst (λ o. MeanSets t c.assigns.result (own_sets o)) (sym c.in-Assign.is)
     (subst (λ n. MeanSets t n (own_sets (Assign c.in-Assign.v))) (sym c.assigns.ensures)
-    (record { free = means_kept c.in_ok-v-in-Assign.ensures.keeps c.in_ok-none.ensures.means; bound = v; must = v }))
-
-pub returns-in_ok-v-in-Assign-clause-keeps : goal.returns-in_ok-v-in-Assign-clause-keeps
-returns-in_ok-v-in-Assign-clause-keeps c = keeps_trans c.in_ok-none.ensures.keeps c.in_ok-v-in-Assign.ensures.keeps
+    (record { free = means_kept c.in_ok-v-in-Assign.ensures.keeps c.requires; bound = v; must = v }))
 
 pub returns-in_ok-v-in-Any-clause-means : goal.returns-in_ok-v-in-Any-clause-means
 returns-in_ok-v-in-Any-clause-means c =
@@ -36,10 +30,7 @@ returns-in_ok-v-in-Any-clause-means c =
     let t = c.just_plain.new.self in
     subst (λ o. MeanSets t c.assigns-in-Any.result (own_sets o)) (sym c.in-Any.is)
     (subst (λ n. MeanSets t n (own_sets (Any c.in-Any.x))) (sym c.assigns-in-Any.ensures)
-    (record { free = means_kept c.in_ok-v-in-Any.ensures.keeps c.in_ok-none.ensures.means; bound = v; must = v }))
-
-pub returns-in_ok-v-in-Any-clause-keeps : goal.returns-in_ok-v-in-Any-clause-keeps
-returns-in_ok-v-in-Any-clause-keeps c = keeps_trans c.in_ok-none.ensures.keeps c.in_ok-v-in-Any.ensures.keeps
+    (record { free = means_kept c.in_ok-v-in-Any.ensures.keeps c.requires; bound = v; must = v }))
 
 -- operators of one group have like sets of their own
 whole : (op : Op) → (op ≡ Hole) ⊎ (((s : Sym) × (op ≡ Predicational s)) ⊎ ((s : Sym) × (op ≡ Const s))) → own_sets op ≡ sets_are all all none
@@ -58,23 +49,20 @@ unit op s (inr e) = ap own_sets e
 pub returns-in_ok-all-in-Hole-clause-means : goal.returns-in_ok-all-in-Hole-clause-means
 returns-in_ok-all-in-Hole-clause-means c =
     let all = c.in_ok-all-in-Hole.ensures.means in
-    let n : NodeSets = record { free = c.in_ok-all-in-Hole.all; bound = c.in_ok-all-in-Hole.all; must = c.in_ok-none.none } in
+    let n : NodeSets = record { free = c.in_ok-all-in-Hole.all; bound = c.in_ok-all-in-Hole.all; must = c.args.empty } in
     subst (MeanSets c.all.new.self n) (sym (whole c.args.op.now c.in-Hole.is))
-    (record { free = all; bound = all; must = means_kept c.in_ok-all-in-Hole.ensures.keeps c.in_ok-none.ensures.means })
+    (record { free = all; bound = all; must = means_kept c.in_ok-all-in-Hole.ensures.keeps c.requires })
 
 pub returns-in_ok-bound-in-Forall-clause-means : goal.returns-in_ok-bound-in-Forall-clause-means
 returns-in_ok-bound-in-Forall-clause-means c =
-    let none = means_kept c.in_ok-bound-in-Forall.ensures.keeps c.in_ok-none.ensures.means in
-    let n : NodeSets = record { free = c.in_ok-none.none; bound = c.in_ok-bound-in-Forall.bound; must = c.in_ok-none.none } in
+    let none = means_kept c.in_ok-bound-in-Forall.ensures.keeps c.requires in
+    let n : NodeSets = record { free = c.args.empty; bound = c.in_ok-bound-in-Forall.bound; must = c.args.empty } in
     subst (MeanSets c.just_plain-in-Forall.new.self n) (sym (quantified c.args.op.now c.in-Forall.x c.in-Forall.is))
     (record { free = none; bound = c.in_ok-bound-in-Forall.ensures.means; must = none })
 
 pub returns-in_ok-free-in-UnitFun-clause-means : goal.returns-in_ok-free-in-UnitFun-clause-means
 returns-in_ok-free-in-UnitFun-clause-means c =
-    let none = means_kept c.in_ok-free-in-UnitFun.ensures.keeps c.in_ok-none.ensures.means in
+    let none = means_kept c.in_ok-free-in-UnitFun.ensures.keeps c.requires in
     subst (MeanSets c.all_but.new.self c.reads-in-UnitFun.result) (sym (unit c.args.op.now c.in-UnitFun.s c.in-UnitFun.is))
     (subst (λ n. MeanSets c.all_but.new.self n (sets_are (all_but c.in-UnitFun.s.taboo) (λ _. false) (λ _. false))) (sym c.reads-in-UnitFun.ensures)
     (record { free = c.in_ok-free-in-UnitFun.ensures.means; bound = none; must = none }))
-
-pub returns-in_ok-free-in-UnitFun-clause-keeps : goal.returns-in_ok-free-in-UnitFun-clause-keeps
-returns-in_ok-free-in-UnitFun-clause-keeps c = keeps_trans c.in_ok-none.ensures.keeps c.in_ok-free-in-UnitFun.ensures.keeps

@@ -10,6 +10,12 @@ bound_over-requires-clause-own c = are_sets_kept c.in_ok-free.ensures.keeps c.re
 pub bound_over-requires-clause-kids : goal.bound_over-requires-clause-kids
 bound_over-requires-clause-kids c = all_sets_kept c.in_ok-free.ensures.keeps c.args.kids.now c.requires.kids
 
+pub bound_over-requires-clause-empty : goal.bound_over-requires-clause-empty
+bound_over-requires-clause-empty c = means_kept c.in_ok-free.ensures.keeps c.requires.empty
+
+pub must_over-requires-clause-empty : goal.must_over-requires-clause-empty
+must_over-requires-clause-empty c = means_kept (keeps_trans c.in_ok-free.ensures.keeps c.in_ok-bound.ensures.keeps) c.requires.empty
+
 pub must_over-requires-clause-own : goal.must_over-requires-clause-own
 must_over-requires-clause-own c = are_sets_kept (keeps_trans c.in_ok-free.ensures.keeps c.in_ok-bound.ensures.keeps) c.requires.own
 

@@ -1,4 +1,4 @@
-use Rattle.std.proofs.Common.{◌≡◌, ℕ, ◌==◌, ◌||◌, Bool, true, false, refl, ◌∙◌, arith}
+use Rattle.std.proofs.Common.{◌≡◌, ℕ, ◌==◌, ◌||◌, ◌∙◌, arith}
 use Rattle.std.proofs.lemmas.Bool.{ne_eqb}
 use Rattle.std.proofs.lemmas.Option.{slice_get_within}
 use Rattle.dlk_tree.specs.Tests.{sym_eq}
@@ -6,14 +6,8 @@ use Rattle.dlk_tree.specs.declared.op.Sym.{Sym}
 use Rattle.dlk_vars.specs.Rows.{has_number}
 use Rattle.dlk_shared.specs.SetTables.{row_at}
 use Rattle.dlk_shared.specs.Signs.{sign_at}
-use Rattle.dlk_shared.proofs.SignLemmas.{row_signs, stands_or, stands_first, sign_kept, sign_at_kept, keeps_trans}
+use Rattle.dlk_shared.proofs.SignLemmas.{row_signs, stands_or, stands_first, sign_kept, sign_at_kept, keeps_trans, turned}
 use Rattle.dlk_shared.proofs.signs.SignTable.with.Goals as goal
-
-turned : (a b : Bool) → (a || b) ≡ (b || a)
-turned true true = refl
-turned true false = refl
-turned false true = refl
-turned false false = refl
 
 pub returns-clause-signs : goal.returns-clause-signs
 returns-clause-signs c =

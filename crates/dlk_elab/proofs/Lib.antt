@@ -1,0 +1,14 @@
+pub mod Places
+pub mod Names
+pub mod Fitting
+pub mod Sames
+pub mod Taken
+pub mod Rows
+pub mod TakenLaws
+pub mod Replaced
+pub mod AskLaws
+pub mod Plans
+pub mod Decided
+pub mod AtomLaws
+pub mod RuleArguments
+pub mod Elaborates

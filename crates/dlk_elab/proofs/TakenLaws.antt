@@ -1,0 +1,152 @@
+-- Steps taken in turn, from the first on.
+use Rattle.std.proofs.Common.{◌≡◌, List, [], ◌∷◌, ◌++◌, refl, sym, ap, subst, ◌∙◌, ◌⊎◌, inl, inr}
+use Rattle.std.specs.List.{All}
+use Rattle.std.proofs.lemmas.List.Elements.{All-head, All-tail}
+use Rattle.dlk_calculus.specs.declared.reason.Reason.{Reason}
+use Rattle.dlk_calculus.specs.Provables.{Provable}
+use Rattle.dlk_calculus.specs.Steps.{Step, IsProper, Gives, Fault, StepOf}
+use Rattle.dlk_kernel.specs.Taken.{Takes, none, more}
+use Rattle.dlk_elab.specs.Atoms.{FirstFault}
+
+nil_or_not : (x y : Step) (xs ys : List Step) → x ∷ xs ≡ y ∷ ys → (x ≡ y) × (xs ≡ ys)
+nil_or_not x y xs ys e = (cc, cc)
+
+-- no steps
+empty : (rows after : List Provable) (steps : List Step) → Takes rows steps after → steps ≡ [] → after ≡ rows
+empty rows after steps none e = refl
+empty rows after steps (more {steps = []} taken is) e = absurd (cc e)
+empty rows after steps (more {steps = x ∷ xs} taken is) e = absurd (cc e)
+
+pub takes_none : (rows after : List Provable) → Takes rows [] after → after ≡ rows
+takes_none rows after taken = empty rows after [] taken refl
+
+-- the first step and those behind it
+pub record First (rows : List Provable) (step : Step) (steps : List Step) (after : List Provable) : Type 0 where
+  pub row : Provable
+  pub is_its : StepOf rows step row
+  pub others : Takes (rows ++ row ∷ []) steps after
+
+first_of_those : (rows after : List Provable) (all steps : List Step) (step : Step) → Takes rows all after → all ≡ step ∷ steps → First rows step steps after
+first_of_those rows after all steps step none e = absurd (cc e)
+first_of_those rows after all steps step (more {steps = []} {mid} {step = s} {p} taken is) e =
+    let m : mid ≡ rows = takes_none rows mid taken in
+    let parts = nil_or_not s step [] steps e in
+    record {
+      row = p;
+      is_its = subst (λ t. StepOf rows t p) parts.0 (subst (λ r. StepOf r s p) m is);
+      others = subst (λ xs. Takes (rows ++ p ∷ []) xs (mid ++ p ∷ [])) parts.1 (subst (λ r. Takes (rows ++ p ∷ []) [] (r ++ p ∷ [])) (sym m) none);
+    }
+first_of_those rows after all steps step (more {steps = x ∷ xs} {mid} {step = s} {p} taken is) e =
+    let parts = nil_or_not x step (xs ++ s ∷ []) steps e in
+    let f : First rows x xs mid = first_of_those rows mid (x ∷ xs) xs x taken refl in
+    record {
+      row = f.row;
+      is_its = subst (λ t. StepOf rows t f.row) parts.0 f.is_its;
+      others = subst (λ ys. Takes (rows ++ f.row ∷ []) ys (mid ++ p ∷ [])) parts.1 (more f.others is);
+    }
+
+pub takes_first : (rows after : List Provable) (step : Step) (steps : List Step) → Takes rows (step ∷ steps) after → First rows step steps after
+takes_first rows after step steps taken = first_of_those rows after (step ∷ steps) steps step taken refl
+
+-- a step before those that are taken
+pub takes_before : (rows after : List Provable) (row : Provable) (step : Step) (steps : List Step) → StepOf rows step row →
+    Takes (rows ++ row ∷ []) steps after → Takes rows (step ∷ steps) after
+takes_before rows after row step steps is taken = led after steps taken
+  where
+    led : (end : List Provable) (ss : List Step) → Takes (rows ++ row ∷ []) ss end → Takes rows (step ∷ ss) end
+    led end ss none = more none is
+    led end ss (more taken' is') = more (led _ _ taken') is'
+
+-- the first step is refused, or it is taken and one behind it is refused
+pub data FaultFrom (rows : List Provable) (step : Step) (steps : List Step) (why : Reason) : Type 0 where
+  at_once : Fault rows step why → FaultFrom rows step steps why
+  later : (row : Provable) → StepOf rows step row → FirstFault (rows ++ row ∷ []) steps why → FaultFrom rows step steps why
+
+fault_of_those : (rows between : List Provable) (step s : Step) (steps before behind : List Step) (why : Reason) → step ∷ steps ≡ before ++ s ∷ behind →
+    Takes rows before between → Fault between s why → FaultFrom rows step steps why
+fault_of_those rows between step s steps [] behind why e taken fault =
+    let parts = nil_or_not step s steps behind e in
+    at_once (subst (λ t. Fault rows t why) (sym parts.0) (subst (λ r. Fault r s why) (takes_none rows between taken) fault))
+fault_of_those rows between step s steps (x ∷ xs) behind why e taken fault =
+    let parts = nil_or_not step x steps (xs ++ s ∷ behind) e in
+    let f : First rows x xs between = takes_first rows between x xs taken in
+    later f.row (subst (λ t. StepOf rows t f.row) (sym parts.0) f.is_its)
+    (record { before = xs; step = s; behind = behind; steps_are = parts.1; between = between; takes = f.others; fault = fault })
+
+pub fault_from : (rows : List Provable) (step : Step) (steps : List Step) (why : Reason) → FirstFault rows (step ∷ steps) why → FaultFrom rows step steps why
+fault_from rows step steps why f = fault_of_those rows f.between step f.step steps f.before f.behind why f.steps_are f.takes f.fault
+
+pub no_fault : (rows : List Provable) (why : Reason) → ¬ FirstFault rows [] why
+no_fault rows why f = empty_is f.before f.steps_are
+  where
+    empty_is : (before : List Step) → [] ≡ before ++ f.step ∷ f.behind → ⊥
+    empty_is [] e = cc e
+    empty_is (x ∷ xs) e = cc e
+
+pub fault_here : (rows : List Provable) (step : Step) (steps : List Step) (why : Reason) → Fault rows step why → FirstFault rows (step ∷ steps) why
+fault_here rows step steps why fault = record { before = []; step = step; behind = steps; steps_are = refl; between = rows; takes = none; fault = fault }
+
+pub fault_later : (rows : List Provable) (row : Provable) (step : Step) (steps : List Step) (why : Reason) → StepOf rows step row →
+    FirstFault (rows ++ row ∷ []) steps why → FirstFault rows (step ∷ steps) why
+fault_later rows row step steps why is f = record {
+  before = step ∷ f.before;
+  step = f.step;
+  behind = f.behind;
+  steps_are = ap (λ xs. step ∷ xs) f.steps_are;
+  between = f.between;
+  takes = takes_before rows f.between row step f.before is f.takes;
+  fault = f.fault;
+}
+
+-- steps give at most one list of rows
+module _ (one : (rows : List Provable) (step : Step) (p q : Provable) → Gives rows step p → Gives rows step q → p ≡ q) where
+  pub takes_one : (rows a b : List Provable) (steps : List Step) → Takes rows steps a → Takes rows steps b → a ≡ b
+  takes_one rows a b [] s t = takes_none rows a s ∙ sym (takes_none rows b t)
+  takes_one rows a b (x ∷ xs) s t =
+      let f = takes_first rows a x xs s in
+      let g = takes_first rows b x xs t in
+      let same : f.row ≡ g.row = one rows x f.row g.row f.is_its.given g.is_its.given in
+      takes_one (rows ++ g.row ∷ []) a b xs (subst (λ p. Takes (rows ++ p ∷ []) xs a) same f.others) g.others
+
+  -- and where they give one they have no fault
+  pub taken_or_fault : (rows after : List Provable) (steps : List Step) (why : Reason) → Takes rows steps after → FirstFault rows steps why → ⊥
+  taken_or_fault rows after [] why taken fault = no_fault rows why fault
+  taken_or_fault rows after (x ∷ xs) why taken fault =
+      let f = takes_first rows after x xs taken in
+      elim (fault_from rows x xs why fault) [
+        | at_once here ↦ f.is_its.allowed why here.against
+        | later row is behind ↦
+            let same : row ≡ f.row = one rows x row f.row is.given f.is_its.given in
+            taken_or_fault (rows ++ f.row ∷ []) after xs why f.others (subst (λ p. FirstFault (rows ++ p ∷ []) xs why) same behind)
+      ]
+
+  pub fault_one : ((rows : List Provable) (step : Step) (why other : Reason) → Fault rows step why → Fault rows step other → why ≡ other) →
+      (rows : List Provable) (steps : List Step) (why other : Reason) → FirstFault rows steps why → FirstFault rows steps other → why ≡ other
+  fault_one once rows [] why other f g = absurd (no_fault rows why f)
+  fault_one once rows (x ∷ xs) why other f g =
+      elim (fault_from rows x xs why f) [
+        | at_once here ↦ elim (fault_from rows x xs other g) [
+          | at_once there ↦ once rows x why other here there
+          | later row is behind ↦ absurd (is.allowed why here.against)
+        ]
+        | later row is behind ↦ elim (fault_from rows x xs other g) [
+          | at_once there ↦ absurd (is.allowed other there.against)
+          | later row' is' behind' ↦
+              let same : row ≡ row' = one rows x row row' is.given is'.given in
+              fault_one once (rows ++ row' ∷ []) xs why other (subst (λ p. FirstFault (rows ++ p ∷ []) xs why) same behind) behind'
+        ]
+      ]
+
+-- proper steps are taken, or have a fault
+pub all_or_fault : ((rows : List Provable) (step : Step) → IsProper step → ((p : Provable) × StepOf rows step p) ⊎ ((why : Reason) × Fault rows step why)) →
+    (rows : List Provable) (steps : List Step) → All IsProper steps →
+    ((after : List Provable) × Takes rows steps after) ⊎ ((why : Reason) × FirstFault rows steps why)
+all_or_fault decide rows [] proper = inl (rows, none)
+all_or_fault decide rows (x ∷ xs) proper =
+    elim (decide rows x (All-head IsProper x xs proper)) [
+      | inl taken ↦ elim (all_or_fault decide (rows ++ taken.0 ∷ []) xs (All-tail IsProper x xs proper)) [
+        | inl others ↦ inl (others.0, takes_before rows others.0 taken.0 x xs taken.1 others.1)
+        | inr fault ↦ inr (fault.0, fault_later rows taken.0 x xs fault.0 taken.1 fault.1)
+      ]
+      | inr fault ↦ inr (fault.0, fault_here rows x xs fault.0 fault.1)
+    ]

@@ -1,0 +1,5 @@
+use Rattle.dlk_elab.proofs.AtomLaws.{some_atom}
+use Rattle.dlk_elab.proofs.laws.some_atom.Goals as goal
+
+pub returns : goal.returns
+returns c = some_atom c.given_unless_against.ensures.against

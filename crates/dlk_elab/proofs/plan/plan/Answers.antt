@@ -1,0 +1,46 @@
+use Rattle.std.proofs.Common.{sym, ◌∙◌}
+use Rattle.std.specs.Prelude.{codes}
+use Rattle.std.proofs.lemmas.Result.{IfOk-weaker}
+use Rattle.dlk_sequent.specs.Sequents.{sequent_at}
+use Rattle.dlk_elab.proofs.Plans.{plan_nil, same_plan, plan_place_fault}
+use Rattle.dlk_elab.proofs.Names.{name_utf8, no_rule, name_is, not_bare}
+use Rattle.dlk_elab.proofs.plan.plan.Goals as goal
+
+pub returns-in_default-clause-fault : goal.returns-in_default-clause-fault
+returns-in_default-clause-fault g c =
+    absurd (c.in_default.ensures.cases.0 (rw c.bytes.ensures.bytes (name_utf8 c.args.atom.now.name c.requires.fitting.kinds c.requires.fitting.row)))
+
+pub returns-then-eq-clause-plan : goal.returns-then-eq-clause-plan
+returns-then-eq-clause-plan g c =
+    let trees = g.S.Store.trees c.args.store.now in
+    let name = name_is c.args.atom.now.name c.bytes.result.now c.in-Ok.name.now (codes "nil") c.in-Ok.ensures.cases.0 c.bytes.ensures.bytes (sym
+    c.eq.ensures ∙ c.if-eq.true) in
+    same_plan c.args.target.rows c.args.target.fact c.args.target.goal trees c.args.s.now c.args.atom.now _ c.new.result.items c.new.ensures.items
+    (plan_nil c.args.target.rows c.args.target.fact c.args.target.goal trees c.args.s.now c.args.atom.now name)
+
+pub returns-then-eq-2-clause-plan : goal.returns-then-eq-2-clause-plan
+returns-then-eq-2-clause-plan g c =
+    let name = name_is c.args.atom.now.name c.bytes.result.now c.in-Ok.name.now (codes "close") c.in-Ok.ensures.cases.0 c.bytes.ensures.bytes (sym
+    c.eq-2.ensures ∙ c.if-eq-2.true) in
+    IfOk-weaker c.close_plan.result _ _ (λ steps h. h c.args.atom.now name) c.close_plan.ensures.plan
+
+pub returns-then-eq-3-clause-plan : goal.returns-then-eq-3-clause-plan
+returns-then-eq-3-clause-plan g c =
+    let name = name_is c.args.atom.now.name c.bytes.result.now c.in-Ok.name.now (codes "leaf") c.in-Ok.ensures.cases.0 c.bytes.ensures.bytes (sym
+    c.eq-3.ensures ∙ c.if-eq-3.true) in
+    IfOk-weaker c.leaf_plan.result _ _ (λ steps h. h (g.S.Store.trees c.args.store.now) c.args.atom.now c.requires.sequent name) c.leaf_plan.ensures.plan
+
+pub returns-in_default-of-clause-fault : goal.returns-in_default-of-clause-fault
+returns-in_default-of-clause-fault g c =
+    let same = c.in-Ok.ensures.cases.0 ∙ c.bytes.ensures.bytes in
+    let bare = not_bare c.in-Ok.name.now (sym c.eq.ensures ∙ c.if-eq.false) (sym c.eq-2.ensures ∙ c.if-eq-2.false) (sym c.eq-3.ensures ∙ c.if-eq-3.false) in
+    absurd (no_rule c.args.atom.now.name c.requires.fitting.kinds (rw same at bare) c.requires.fitting.row (rw same at c.in_default-of.ensures.none))
+
+pub returns-clause-fault : goal.returns-clause-fault
+returns-clause-fault g c =
+    let trees = g.S.Store.trees c.args.store.now in
+    let same = c.in-Ok.ensures.cases.0 ∙ c.bytes.ensures.bytes in
+    let bare = not_bare c.in-Ok.name.now (sym c.eq.ensures ∙ c.if-eq.false) (sym c.eq-2.ensures ∙ c.if-eq-2.false) (sym c.eq-3.ensures ∙ c.if-eq-3.false) in
+    let name = sym same ∙ sym c.in-Some.ensures.found in
+    plan_place_fault c.args.target.rows c.args.target.fact c.args.target.goal trees (sequent_at trees c.args.s.now) c.args.atom.now c.in-Some.word name
+    (rw (← c.in-Some.ensures.found) at bare) c.requires.fitting c.requires.fixed c.rule_plan.result c.rule_plan.ensures.fault

@@ -1,0 +1,20 @@
+use Rattle.std.proofs.Common.{◌∷◌, []}
+use Rattle.std.proofs.lemmas.Result.{err_from_is_err_and}
+use Rattle.dlk_rules.specs.declared.step.Step.{Step}
+use Rattle.dlk_rules.specs.declared.step.Step.TheVariants.{Apply}
+use Rattle.dlk_elab.proofs.Plans.{plan_rule, same_plan, pushed}
+use Rattle.dlk_elab.proofs.plan.rule_plan.Goals as goal
+
+pub returns-in_err-arguments-clause-fault : goal.returns-in_err-arguments-clause-fault
+returns-in_err-arguments-clause-fault c =
+    let p = err_from_is_err_and c.from_residual.result c.from_residual.ensures.1 in rw (p.1, p.2, ← c.as_slice.ensures) c.in_err-arguments.ensures.fault
+
+pub returns-clause-plan : goal.returns-clause-plan
+returns-clause-plan c = λ trees s known name.
+    let one : Step = Apply c.args.target.fact c.args.target.goal c.in-Some.rule in
+    let are = pushed c.new-plan.result.items c.push.new.self.items c.apply.result one c.in_ok-push.ensures.items c.new-plan.ensures.items c.apply.ensures in
+    let found = rw c.as_slice.ensures at c.in_ok-arguments.ensures.found trees in
+    let ids = c.in_ok-arguments.ensures.known trees (rw c.as_slice.ensures known) in
+    same_plan c.args.target.rows c.args.target.fact c.args.target.goal trees s c.args.atom.now (one ∷ []) c.push.new.self.items are
+    (plan_rule c.args.target.rows c.args.target.fact c.args.target.goal trees s c.args.atom.now c.args.word c.in_ok-arguments.arguments c.in-Some.rule found ids
+    (c.in-Some.ensures trees) (c.if-prove.ensures.proper trees) name)

@@ -1,0 +1,82 @@
+//! Atoms on a kernel.
+ghost use Rattle.std.specs.Prelude.{◌≡◌, length, map, All, IfOk, OnOk, IfErr, OnErr};
+ghost use Rattle.dlk_calculus.specs.Steps.{IsProper};
+ghost use Rattle.dlk_kernel.specs.Kernel.{facts, SameRows, ExtendsRows};
+ghost use Rattle.dlk_rules.specs.Steps.{step_at, HasKnownIds};
+ghost use Rattle.dlk_tacsyn.specs.Rows.{IsFitting};
+ghost use Rattle.dlk_tacsyn.specs.Ties.{atom_at, AtomIsKnown};
+ghost use Rattle.dlk_elab.specs.Atoms.{HasNoLocator, HasGoalAt, AtomSteps, AtomFault};
+ghost use Rattle.dlk_elab.specs.Ties.{IsTacFault};
+
+use crate::fault::TacFault;
+use crate::plan::{Target, plan};
+use crate::taking::take_in_turn;
+use dlk_kernel::{Fact, Kernel, StepFault};
+use dlk_rules::{Step, step_stays};
+use dlk_store::{Steps, Store};
+use dlk_tacsyn::Atom;
+use std::alloc::Global;
+use std::sync::ledger::Ledger;
+
+/// What an atom made.
+#[derive(Drop, Debug)]
+pub struct Elaborated {
+    /// The last row, which stands for the fact now.
+    pub fact: Fact,
+    /// The steps of the new rows, in order.
+    pub steps: Vec<Step>,
+}
+
+/// Takes the steps that an atom asks for on a goal of the last row. The atom is fitting and has no locator, and its ids are those of
+/// this kernel's store. After a fault the rows are as they were. After it the last row is that of the fact before, with other goals in
+/// the goal's place.
+///
+/// # Errors
+///
+/// - `NoPlace`: the atom is for a rule, and one of its places has a path, or is on the other side.
+/// - `Step`: the kernel does not take a step of the atom: the first reason against the first such step. For `close` it is `NotEqual`
+///   where no formula stands on both sides.
+/// - `Memory`: for want of memory.
+pub fn elaborate<S: Store, L: Ledger>(
+    alloc: Global,
+    kernel: &mut Kernel<S>,
+    fact: Fact,
+    goal: u32,
+    atom: &Atom,
+    steps: &mut Steps<L>,
+) -> Result<Elaborated, TacFault>
+    requires last { fact ≡ length kernel.old.rows }
+    requires goal { HasGoalAt (facts S.trees kernel.old) fact goal }
+    requires known { AtomIsKnown (S.trees kernel.old.store) atom.now }
+    requires fitting { IsFitting (atom_at (S.trees kernel.old.store) atom.now) }
+    requires fixed { HasNoLocator (atom_at (S.trees kernel.old.store) atom.now) }
+
+    // The steps are those of the atom, and the rows those that they give. Names in them are names.
+    ensures made { IfOk result (λ made. AtomSteps (facts S.trees kernel.old) fact goal (atom_at (S.trees kernel.old.store) atom.now) (map (step_at (S.trees kernel.new.store)) made.steps.items) (facts S.trees kernel.new)) }
+    ensures fact { IfOk result (λ made. made.fact ≡ length kernel.new.rows) }
+    ensures known { IfOk result (λ made. All (HasKnownIds (S.trees kernel.new.store)) made.steps.items) }
+    ensures proper { IfOk result (λ made. All IsProper (map (step_at (S.trees kernel.new.store)) made.steps.items)) }
+    ensures kept { OnOk result (ExtendsRows S.trees kernel.old kernel.new) }
+
+    // Want of memory aside, the fault is the atom's.
+    ensures fault { IfErr result (IsTacFault (AtomFault (facts S.trees kernel.old) fact goal (atom_at (S.trees kernel.old.store) atom.now))) }
+    ensures err { OnErr result (SameRows S.trees kernel.old kernel.new) }
+
+    ensures grows { S.grows kernel.old.store kernel.new.store }
+{
+    step_stays();
+    let rows = kernel.rows();
+    let s = &kernel.goals(fact)[goal as usize - 1];
+    let target = Target { rows, fact, goal };
+    let plan = plan(alloc, &*kernel, target, s, atom)?;
+    match take_in_turn(alloc, kernel, plan.as_slice(), steps) {
+        Ok(()) => Ok(Elaborated {
+            fact: kernel.rows(),
+            steps: plan,
+        }),
+        Err(why) => {
+            kernel.release(rows);
+            Err(TacFault::from(why))
+        }
+    }
+}

@@ -1,0 +1,38 @@
+//! The laws of atoms. Each is a contract of a function that does nothing but call laws of the calculus.
+ghost use Rattle.std.specs.Prelude.{◌≡◌, ◌+◌, ◌⊎◌, ℕ, List, length};
+ghost use Rattle.dlk_calculus.specs.Places.{At};
+ghost use Rattle.dlk_calculus.specs.Provables.{Provable};
+ghost use Rattle.dlk_calculus.specs.Sequents.{Sequent};
+ghost use Rattle.dlk_calculus.specs.Steps.{Step};
+ghost use Rattle.dlk_tacsyn.specs.Rows.{IsFitting};
+ghost use Rattle.dlk_tacsyn.specs.Tactics.{Atom};
+ghost use Rattle.dlk_elab.specs.Atoms.{AtomWhy, HasNoLocator, HasNames, HasGoalAt, AtomSteps, AtomFault, Replaces};
+
+use dlk_calculus::laws::{given_unless_against, one_fault, one_provable};
+use dlk_rules::{rule_is_its_word_and_arguments, word_wants_one_shape};
+
+/// An atom gives at most one list of steps with one list of rows, or it has at most one fault.
+pub fn one_atom()
+    ensures steps { (rows : List Provable) (fact goal : ℕ) (atom : Atom) (s t : List Step) (a b : List Provable) → AtomSteps rows fact goal atom s a → AtomSteps rows fact goal atom t b → (s ≡ t) × (a ≡ b) }
+    ensures fault { (rows : List Provable) (fact goal : ℕ) (atom : Atom) (why other : AtomWhy) → AtomFault rows fact goal atom why → AtomFault rows fact goal atom other → why ≡ other }
+    ensures not_both { (rows : List Provable) (fact goal : ℕ) (atom : Atom) (s : List Step) (a : List Provable) (why : AtomWhy) → AtomSteps rows fact goal atom s a → AtomFault rows fact goal atom why → ⊥ }
+{
+    one_provable();
+    one_fault();
+    rule_is_its_word_and_arguments();
+    word_wants_one_shape();
+}
+
+/// A fitting atom without a locator, whose names are names, gives steps on a goal that is there, or has a fault.
+pub fn some_atom()
+    ensures { (rows : List Provable) (fact goal : ℕ) (atom : Atom) → HasGoalAt rows fact goal → IsFitting atom → HasNoLocator atom → HasNames atom → ((s : List Step) × (a : List Provable) × AtomSteps rows fact goal atom s a) ⊎ ((why : AtomWhy) × AtomFault rows fact goal atom why) }
+{
+    given_unless_against();
+}
+
+/// The last row after an atom on a goal of the last row is that one, with other goals in the goal's place, which are as many as there are
+/// goals more, and one.
+pub fn atom_replaces_goal()
+    ensures count { (rows : List Provable) (goal : ℕ) (atom : Atom) (s : List Step) (a : List Provable) (new : List Sequent) (p q : Provable) → AtomSteps rows (length rows) goal atom s a → Replaces rows goal a new → At rows (length rows) p → At a (length a) q → length q.goals + 1 ≡ length p.goals + length new }
+    ensures new { (rows : List Provable) (goal : ℕ) (atom : Atom) (s : List Step) (a : List Provable) → AtomSteps rows (length rows) goal atom s a → (new : List Sequent) × Replaces rows goal a new }
+{}

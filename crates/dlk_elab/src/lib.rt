@@ -1,0 +1,14 @@
+//! Atoms of the strategy language as steps on a kernel.
+#![tactic(auto)]
+
+mod arguments;
+mod elaborating;
+mod fault;
+mod laws;
+mod plan;
+mod same;
+mod taking;
+
+pub use elaborating::{Elaborated, elaborate};
+pub use fault::TacFault;
+pub use laws::{atom_replaces_goal, one_atom, some_atom};

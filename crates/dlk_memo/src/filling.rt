@@ -1,0 +1,56 @@
+//! A formula in place of `_`.
+ghost use Rattle.dlk_tree.specs.Trees.{Tree};
+ghost use Rattle.dlk_store.specs.Stores.{tree};
+ghost use Rattle.dlk_memo.specs.Rules.{IsReadyFormula, Fills, FillsAll, FillsAt, filling, ready_formula_kept, formula_same, fill_sort_kept};
+
+use crate::rule::Rule;
+use dlk_sequent::ApplyFault;
+use dlk_store::{Id, Steps, Store};
+use dlk_tree::Op;
+use std::alloc::Global;
+use std::sync::ledger::Ledger;
+
+/// The formula comes in place of each `_`.
+#[derive(Drop)]
+pub(crate) struct Filling {
+    pub formula: Id,
+}
+
+impl Rule for Filling {
+    ghost Job = { Tree };
+
+    ghost job = { λ r trees. tree trees r.formula };
+
+    ghost Makes = { Fills };
+
+    ghost MakesAll = { FillsAll };
+
+    ghost MakesAt = { FillsAt };
+
+    ghost IsReady = { λ r trees. IsReadyFormula trees r.formula };
+
+    ghost looks = { λ job. 0 };
+
+    ghost rows = { filling };
+
+    ghost ready_kept = { λ r old new keeps ready. ready_formula_kept keeps r.formula ready };
+
+    ghost job_kept = { λ r old new keeps ready. formula_same keeps r.formula ready };
+
+    ghost sort_kept = { λ r trees t u ready well made. fill_sort_kept trees r.formula t u ready made };
+
+    fn at<S: Store, L: Ledger>(
+        &self,
+        alloc: Global,
+        store: &mut S,
+        op: &Op,
+        _old: &[Id],
+        new: &[Id],
+        _steps: &mut Steps<L>,
+    ) -> Result<Id, ApplyFault> {
+        if matches!(op, Op::Hole) {
+            return Ok(self.formula);
+        }
+        Ok(store.make(alloc, op.clone()?, new)?)
+    }
+}

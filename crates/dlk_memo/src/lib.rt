@@ -1,0 +1,13 @@
+//! Uniform substitution with a table of results, over any store.
+#![tactic(auto)]
+
+mod filling;
+mod memo;
+mod plugging;
+mod results;
+mod rule;
+mod substituting;
+mod walk;
+
+pub use dlk_sequent::{ApplyFault, Pair, Subst, SubstFault, Why};
+pub use memo::apply;

@@ -1,0 +1,57 @@
+//! Arguments in place of argument dots.
+ghost use Rattle.std.specs.Prelude.{List};
+ghost use Rattle.dlk_tree.specs.Trees.{Tree};
+ghost use Rattle.dlk_calculus.specs.Plug.{Plug, PlugAll, PlugAt};
+ghost use Rattle.dlk_subst.specs.Results.{args_at};
+ghost use Rattle.dlk_subst.proofs.Plugged.{plugging};
+ghost use Rattle.dlk_memo.specs.Rules.{AreReadyArgs, ready_args_kept, args_same, plug_sort_kept};
+
+use crate::rule::Rule;
+use dlk_sequent::ApplyFault;
+use dlk_store::{Id, Steps, Store};
+use dlk_subst::plug_at;
+use dlk_tree::Op;
+use std::alloc::Global;
+use std::sync::ledger::Ledger;
+
+/// The arguments come in place of the dots.
+#[derive(Drop)]
+pub(crate) struct Plugging<'a> {
+    pub args: &'a [Id],
+}
+
+impl Rule for Plugging<'_> {
+    ghost Job = { List Tree };
+
+    ghost job = { λ r trees. args_at trees r.args.now };
+
+    ghost Makes = { Plug };
+
+    ghost MakesAll = { PlugAll };
+
+    ghost MakesAt = { PlugAt };
+
+    ghost IsReady = { λ r trees. AreReadyArgs trees r.args.now };
+
+    ghost looks = { λ job. 0 };
+
+    ghost rows = { plugging };
+
+    ghost ready_kept = { λ r old new keeps ready. ready_args_kept keeps r.args.now ready };
+
+    ghost job_kept = { λ r old new keeps ready. args_same keeps r.args.now ready };
+
+    ghost sort_kept = { λ r trees t u ready well made. plug_sort_kept trees r.args.now t u ready made };
+
+    fn at<S: Store, L: Ledger>(
+        &self,
+        alloc: Global,
+        store: &mut S,
+        op: &Op,
+        old: &[Id],
+        new: &[Id],
+        _steps: &mut Steps<L>,
+    ) -> Result<Id, ApplyFault> {
+        plug_at(alloc, store, self.args, op, old, new)
+    }
+}

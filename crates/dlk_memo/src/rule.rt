@@ -1,0 +1,64 @@
+//! What a walk makes of a node.
+ghost use Rattle.std.specs.Prelude.{◌≡◌, ◌+◌, ◌≤◌, ℕ, IsTrue, IfOk, All, Err, List};
+ghost use Rattle.dlk_tree.specs.Table.{Fits};
+ghost use Rattle.dlk_tree.specs.Trees.{Tree, Forest, sort, WellMade};
+ghost use Rattle.dlk_tree.specs.declared.op.Op.{Op as TheOp};
+ghost use Rattle.dlk_store.specs.Stores.{IsId, Keeps, kid_trees, sorts_at};
+ghost use Rattle.dlk_store.proofs.Made.{GoesByRows};
+ghost use Rattle.dlk_subst.specs.Results.{IsResult, HasNone};
+ghost use Rattle.dlk_sequent.specs.declared.fault.ApplyFault.TheVariants.{NotAdmissible};
+
+use dlk_sequent::ApplyFault;
+use dlk_store::{Id, Steps, Store};
+use dlk_tree::Op;
+use std::alloc::Global;
+use std::sync::ledger::Ledger;
+
+/// A rule by which a walk makes a tree of a tree, node by node. It depends on the node alone and never on the path to it.
+pub(crate) trait Rule {
+    /// What it stands for over trees.
+    ghost Job: { Type 0 };
+
+    ghost job: { Self → List Tree → Job };
+
+    /// What it makes of a tree, of kids, and of an operator over old kids, of which the new ones were made.
+    ghost Makes: { Job → Tree → Tree → Type 0 };
+
+    ghost MakesAll: { Job → Forest → Forest → Type 0 };
+
+    ghost MakesAt: { Job → TheOp → Forest → Forest → Tree → Type 0 };
+
+    /// When it can be followed over a store with these trees.
+    ghost IsReady: { Self → List Tree → Type 0 };
+
+    /// How many looks it takes at a node, beside the one at the node.
+    ghost looks: { Job → ℕ };
+
+    /// What it makes of the operator over old kids, of which it made the new ones.
+    fn at<S: Store, L: Ledger>(
+        &self,
+        alloc: Global,
+        store: &mut S,
+        op: &Op,
+        old: &[Id],
+        new: &[Id],
+        steps: &mut Steps<L>,
+    ) -> Result<Id, ApplyFault>
+        requires ready { IsReady self.now (S.trees store.old) }
+        requires old { All (IsId (S.trees store.old)) old.now }
+        requires new { All (IsId (S.trees store.old)) new.now }
+        requires fits { Fits op.now (sorts_at (S.trees store.old) new.now) }
+        ensures ok { IfOk result (IsResult (MakesAt (job self.now (S.trees store.old)) op.now (kid_trees (S.trees store.old) old.now) (kid_trees (S.trees store.old) new.now)) (S.trees store.new)) }
+        ensures none { result ≡ Err NotAdmissible → HasNone (MakesAt (job self.now (S.trees store.old)) op.now (kid_trees (S.trees store.old) old.now) (kid_trees (S.trees store.old) new.now)) }
+        ensures grows { S.grows store.old store.new }
+        ensures cost { IsTrue S.unique → steps.new ≤ steps.old + looks (job self.now (S.trees store.old)) };
+
+    ghost rows: { GoesByRows Makes MakesAll MakesAt };
+
+    // It stands for the same while the store grows.
+    ghost ready_kept: { (r : Self) (old new : List Tree) → Keeps old new → IsReady r old → IsReady r new };
+
+    ghost job_kept: { (r : Self) (old new : List Tree) → Keeps old new → IsReady r old → job r new ≡ job r old };
+
+    ghost sort_kept: { (r : Self) (trees : List Tree) (t u : Tree) → IsReady r trees → WellMade t → Makes (job r trees) t u → sort u ≡ sort t };
+}

@@ -1,0 +1,125 @@
+//! Replacements in place of symbols.
+ghost use Rattle.std.specs.Prelude.{◌≡◌, ◌+◌, ◌≤◌, ◌<◌, IsTrue, IfOk, All, Err, List, length};
+ghost use Rattle.dlk_tree.specs.Trees.{sort};
+ghost use Rattle.dlk_tree.specs.Statics.{all};
+ghost use Rattle.dlk_tree.specs.declared.op.Sort.TheVariants.{Formula};
+ghost use Rattle.dlk_store.specs.Stores.{IsId, tree, kid_trees};
+ghost use Rattle.dlk_calculus.specs.Kids.{first};
+ghost use Rattle.dlk_calculus.specs.Pairs.{Pair as TreePair};
+ghost use Rattle.dlk_calculus.specs.Plug.{Plug, filled};
+ghost use Rattle.dlk_calculus.specs.Subst.{IsAdmissible, Subst, SubstAll};
+ghost use Rattle.dlk_sequent.specs.Substitutions.{pairs_at, AreKnownPairs};
+ghost use Rattle.dlk_subst.specs.Results.{IsResult, HasNone, args_at};
+ghost use Rattle.dlk_subst.proofs.Substituted.{SubstRow, substituting};
+ghost use Rattle.dlk_memo.specs.Looks.{subtrees, replacement_subtrees, distinct_count};
+ghost use Rattle.dlk_memo.specs.Rules.{AreReadyArgs, AreReadyPairs, ready_pairs_kept, pairs_same, subst_sort_kept};
+ghost use Rattle.dlk_sequent.specs.declared.fault.ApplyFault.TheVariants.{NotAdmissible};
+
+use crate::filling::Filling;
+use crate::plugging::Plugging;
+use crate::rule::Rule;
+use crate::walk::run;
+use dlk_sequent::{ApplyFault, Pair};
+use dlk_store::{Id, Steps, Store};
+use dlk_subst::{Effect, Scope, effect_at, is_admissible, keep_admissible, splice_at};
+use dlk_tree::Op;
+use std::alloc::Global;
+use std::sync::ledger::Ledger;
+
+/// The replacements of these pairs come in place of their symbols.
+#[derive(Drop)]
+pub(crate) struct Substituting<'a> {
+    pub pairs: &'a [Pair],
+}
+
+/// The replacement of a predicational, with the new kid in place of each `_`, where every variable is admissible for the kids of
+/// before.
+fn fill_admissible<S: Store, L: Ledger>(
+    alloc: Global,
+    store: &mut S,
+    pairs: &[Pair],
+    by: Id,
+    old: &[Id],
+    new: &[Id],
+    steps: &mut Steps<L>,
+) -> Result<Id, ApplyFault>
+    requires pairs { AreKnownPairs (S.trees store.old) pairs.now }
+    requires by { IsId (S.trees store.old) by }
+    requires old { All (IsId (S.trees store.old)) old.now }
+    requires new { All (IsId (S.trees store.old)) new.now }
+    requires some { 0 < length new.now }
+    requires formula { sort (first (kid_trees (S.trees store.old) new.now)) ≡ Formula }
+    ensures ok { IfOk result (IsResult (λ t. IsAdmissible (pairs_at (S.trees store.old) pairs.now) all (kid_trees (S.trees store.old) old.now) × (t ≡ filled (first (kid_trees (S.trees store.old) new.now)) (tree (S.trees store.old) by))) (S.trees store.new)) }
+    ensures none { result ≡ Err NotAdmissible → HasNone (λ t. IsAdmissible (pairs_at (S.trees store.old) pairs.now) all (kid_trees (S.trees store.old) old.now) × (t ≡ filled (first (kid_trees (S.trees store.old) new.now)) (tree (S.trees store.old) by))) }
+    ensures grows { S.grows store.old store.new }
+    ensures cost { IsTrue S.unique → steps.new ≤ steps.old + distinct_count (subtrees (tree (S.trees store.old) by)) }
+{
+    if !is_admissible(store, pairs, &Scope::Every, old) {
+        return Err(ApplyFault::NotAdmissible);
+    }
+    let filling = Filling { formula: new[0] };
+    run(alloc, store, &filling, by, steps)
+}
+
+/// The replacement of a function or predicate, with these arguments in place of its dots.
+fn plug_in<S: Store, L: Ledger>(
+    alloc: Global,
+    store: &mut S,
+    args: &[Id],
+    by: Id,
+    steps: &mut Steps<L>,
+) -> Result<Id, ApplyFault>
+    requires ready { AreReadyArgs (S.trees store.old) args.now }
+    requires by { IsId (S.trees store.old) by }
+    ensures ok { IfOk result (IsResult (Plug (args_at (S.trees store.old) args.now) (tree (S.trees store.old) by)) (S.trees store.new)) }
+    ensures none { result ≡ Err NotAdmissible → HasNone (Plug (args_at (S.trees store.old) args.now) (tree (S.trees store.old) by)) }
+    ensures grows { S.grows store.old store.new }
+    ensures cost { IsTrue S.unique → steps.new ≤ steps.old + distinct_count (subtrees (tree (S.trees store.old) by)) }
+{
+    let plugging = Plugging { args };
+    run(alloc, store, &plugging, by, steps)
+}
+
+impl Rule for Substituting<'_> {
+    ghost Job = { List TreePair };
+
+    ghost job = { λ r trees. pairs_at trees r.pairs.now };
+
+    ghost Makes = { Subst };
+
+    ghost MakesAll = { SubstAll };
+
+    ghost MakesAt = { SubstRow };
+
+    ghost IsReady = { λ r trees. AreReadyPairs trees r.pairs.now };
+
+    ghost looks = { λ job. distinct_count (replacement_subtrees job) };
+
+    ghost rows = { substituting };
+
+    ghost ready_kept = { λ r old new keeps ready. ready_pairs_kept keeps r.pairs.now ready };
+
+    ghost job_kept = { λ r old new keeps ready. pairs_same keeps r.pairs.now ready };
+
+    ghost sort_kept = { λ r trees t u ready well made. subst_sort_kept trees r.pairs.now t u ready well made };
+
+    fn at<S: Store, L: Ledger>(
+        &self,
+        alloc: Global,
+        store: &mut S,
+        op: &Op,
+        old: &[Id],
+        new: &[Id],
+        steps: &mut Steps<L>,
+    ) -> Result<Id, ApplyFault> {
+        if let Op::System(items) = op {
+            return splice_at(alloc, store, self.pairs, items.items(), old, new, steps);
+        }
+        match effect_at(self.pairs, op) {
+            Effect::Gives(by) => Ok(by),
+            Effect::Plugs(by) => plug_in(alloc, store, new, by, steps),
+            Effect::Fills(by) => fill_admissible(alloc, store, self.pairs, by, old, new, steps),
+            Effect::Stays => keep_admissible(alloc, store, self.pairs, op, old, new),
+        }
+    }
+}

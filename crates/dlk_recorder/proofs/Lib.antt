@@ -1,0 +1,4 @@
+pub mod OneLine
+pub mod Writable
+pub mod Accepted
+pub mod Kept

@@ -1,0 +1,16 @@
+pub mod Digits
+pub mod Grown
+pub mod Growing
+pub mod Agreeing
+pub mod Running
+pub mod Reached
+pub mod Stepped
+pub mod Reading
+pub mod Asking
+pub mod Completed
+pub mod Living
+pub mod Answered
+pub mod Stopping
+pub mod Parting
+pub mod Examples
+pub mod Rising

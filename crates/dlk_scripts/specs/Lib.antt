@@ -1,0 +1,5 @@
+pub mod Parts
+pub mod Scripts
+pub mod Texts
+pub mod Table
+pub mod Steps

@@ -1,5 +1,0 @@
-use Rattle.std.proofs.Common.{length}
-use Rattle.dlk_shared.proofs.sets.SetTable.+in_items.Given as goal
-
-abbrev pub decreases-in_items : goal.decreases-in_items
-decreases-in_items l = length l.items.now

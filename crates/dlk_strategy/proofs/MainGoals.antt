@@ -1,0 +1,54 @@
+-- The goals of the last row.
+use Rattle.std.proofs.Common.{◌≡◌, ℕ, zero, suc, ◌+◌, ◌≤◌, List, [], ◌∷◌, length, get_or, refl, sym, ap, subst, ◌∙◌, arith}
+use Rattle.std.specs.List.{All, slice_get}
+use Rattle.std.specs.Prelude.{Some, None}
+use Rattle.std.proofs.lemmas.List.Elements.{All-head, All-tail}
+use Rattle.std.proofs.Math.Dec.{eqb-suc-zero}
+use Rattle.std.proofs.Common.{cond, false, nat_eq, ◌-◌}
+use Rattle.dlk_calculus.specs.Places.{at, At}
+use Rattle.dlk_calculus.specs.Provables.{Provable}
+use Rattle.dlk_calculus.specs.Limits.{most_goals}
+use Rattle.dlk_calculus.specs.Limited.{IsLimited, IsLimitedSequent, HasFewFormulas}
+use Rattle.dlk_calculus.specs.Sequents.{Sequent}
+use Rattle.dlk_sequent.specs.declared.sequent.Sequent.{Sequent as Shown}
+use Rattle.dlk_elab.proofs.Places.{At_All, At_place}
+use Rattle.std.proofs.Common.{map}
+use Rattle.dlk_strategy.specs.Runs.{main_goals}
+
+pub at_suc : {A : Type 0} (items : List A) (n : ℕ) → at items (suc n) ≡ slice_get items n
+at_suc items n = let e : suc n - 1 ≡ n = omega arith in rw (eqb-suc-zero n, e)
+
+at_last : (q r : Provable) (rows : List Provable) → at (q ∷ (r ∷ rows)) (length (q ∷ (r ∷ rows))) ≡ at (r ∷ rows) (length (r ∷ rows))
+at_last q r rows = at_suc (q ∷ (r ∷ rows)) (suc (length rows)) ∙ sym (at_suc (r ∷ rows) (length rows))
+
+pub last_goals : (rows : List Provable) (p : Provable) → At rows (length rows) p → main_goals rows ≡ p.goals
+last_goals [] p h = absurd (cc h)
+last_goals (q ∷ []) p h = let e : Some q ≡ Some p = h in let same : q ≡ p = cc in ap (λ (r : Provable). r.goals) same
+last_goals (q ∷ (r ∷ rows)) p h = last_goals (r ∷ rows) p (sym (at_last q r rows) ∙ h)
+
+pub some_last : (rows : List Provable) → 1 ≤ length rows → (p : Provable) × At rows (length rows) p
+some_last [] h = absurd (omega (arith, h))
+some_last (q ∷ []) h = (q, refl)
+some_last (q ∷ (r ∷ rows)) h = let found = some_last (r ∷ rows) (omega arith) in (found.0, at_last q r rows ∙ found.1)
+
+pub few_goals : (rows : List Provable) → All IsLimited rows → length (main_goals rows) ≤ most_goals
+few_goals [] h = omega arith
+few_goals (q ∷ []) h = (All-head IsLimited q [] h).few_goals
+few_goals (q ∷ (r ∷ rows)) h = few_goals (r ∷ rows) (All-tail IsLimited q (r ∷ rows) h)
+
+no_item : (goal : ℕ) (s : Sequent) → At [] goal s → ⊥
+no_item goal s h = let there = At_place [] goal s h in absurd (omega (arith, there.0, there.1))
+
+-- the goals that are shown are those of the last row
+pub shown_goals : (rows : List Provable) (shown : List Shown) (f : Shown → Sequent) (fact : ℕ) → fact ≡ length rows → 1 ≤ length rows →
+    ((p : Provable) → At rows fact p → p.goals ≡ map f shown) → main_goals rows ≡ map f shown
+shown_goals rows shown f fact is some shows =
+    let found = some_last rows some in
+    let stands : At rows fact found.0 = rw is found.1 in
+    last_goals rows found.0 found.1 ∙ shows found.0 stands
+
+-- each of them within the limits
+pub few_formulas : (rows : List Provable) → All IsLimited rows → (goal : ℕ) (s : Sequent) → At (main_goals rows) goal s → HasFewFormulas s
+few_formulas [] h goal s stands = absurd (no_item goal s stands)
+few_formulas (q ∷ []) h goal s stands = (At_All IsLimitedSequent q.goals goal s (All-head IsLimited q [] h).goals stands).few
+few_formulas (q ∷ (r ∷ rows)) h goal s stands = few_formulas (r ∷ rows) (All-tail IsLimited q (r ∷ rows) h) goal s stands

@@ -1,0 +1,9 @@
+use Rattle.std.proofs.Common.{[]}
+use Rattle.dlk_strategy.proofs.TakenSteps.{run_taken, taken_proper}
+use Rattle.dlk_strategy.proofs.laws.run_is_taken.Goals as goal
+
+pub returns : goal.returns
+returns c = record {
+  taken = run_taken;
+  proper = λ t formula made left r. taken_proper [] made.rows made.steps (run_taken t formula made left r);
+}

@@ -1,0 +1,46 @@
+ghost use Rattle.std.specs.Prelude.{◌≡◌};
+ghost use Rattle.dlk_strategy.specs.declared.fault.RunFault.TheVariants.{Memory};
+
+use dlk_calculus::Reason;
+use std::alloc::{AllocError, AllocFailed};
+use thiserror::Error;
+
+/// Why a strategy fails.
+#[derive(Clone, Copy, Debug, PartialEq, Eq)]
+pub enum FailWhy {
+    /// A branch has another number of parts than there are goals.
+    WrongCount,
+    /// An atom's place isn't there.
+    NoPlace,
+    /// The kernel doesn't take a step of an atom.
+    Step(Reason),
+}
+
+/// Why a run ended without a proof.
+#[derive(Clone, Copy, Debug, PartialEq, Eq, Error)]
+pub enum RunFault {
+    /// The strategy fails, at a byte of its text.
+    #[error("fails at {at}: {why:?}")]
+    Fails { at: usize, why: FailWhy },
+    /// The 16,001st run of an atom would start at this byte.
+    #[error("budget at {at}")]
+    Budget { at: usize },
+    #[error("out of memory")]
+    Memory,
+}
+
+impl From<AllocError> for RunFault {
+    ghost from_gives = { λ _ e. e ≡ Memory };
+
+    fn from(_: AllocError) -> RunFault {
+        RunFault::Memory
+    }
+}
+
+impl<T: Drop> From<AllocFailed<T>> for RunFault {
+    ghost from_gives = { λ _ e. e ≡ Memory };
+
+    fn from(_: AllocFailed<T>) -> RunFault {
+        RunFault::Memory
+    }
+}

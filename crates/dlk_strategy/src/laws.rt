@@ -1,0 +1,35 @@
+//! The laws of runs. Each is a contract of a function that does nothing but call laws of atoms and of the calculus.
+ghost use Rattle.std.specs.Prelude.{◌≡◌, ℕ, [], All};
+ghost use Rattle.dlk_tree.specs.Trees.{Tree};
+ghost use Rattle.dlk_calculus.specs.Limits.{IsSmall, IsShallow};
+ghost use Rattle.dlk_calculus.specs.Sequents.{IsFormula};
+ghost use Rattle.dlk_calculus.specs.Steps.{IsProper};
+ghost use Rattle.dlk_kernel.specs.Taken.{Takes};
+ghost use Rattle.dlk_tacsyn.specs.Rows.{AreFitting};
+ghost use Rattle.dlk_tacsyn.specs.Tactics.{Tactic, EachAtom};
+ghost use Rattle.dlk_elab.specs.Atoms.{HasNames};
+ghost use Rattle.dlk_strategy.specs.Runs.{Progress, Outcome, Done, RunsModel};
+
+use dlk_calculus::laws::one_provable;
+use dlk_elab::{one_atom, some_atom};
+
+/// The steps of a run that is done are taken in turn, and give its rows. Their names are names, and their replacements well made.
+pub fn run_is_taken()
+    ensures taken { (t : Tactic) (formula : Tree) (made : Progress) (left : ℕ) → RunsModel t formula (Done made left) → Takes [] made.steps made.rows }
+    ensures proper { (t : Tactic) (formula : Tree) (made : Progress) (left : ℕ) → RunsModel t formula (Done made left) → All IsProper made.steps }
+{}
+
+/// A strategy on a model has at most one outcome.
+pub fn one_outcome()
+    ensures { (t : Tactic) (formula : Tree) (a b : Outcome) → RunsModel t formula a → RunsModel t formula b → a ≡ b }
+{
+    one_atom();
+    one_provable();
+}
+
+/// A strategy whose atoms are fitting, with names that are names, has an outcome on each formula within the limits.
+pub fn some_outcome()
+    ensures { (t : Tactic) (formula : Tree) → AreFitting t → EachAtom HasNames t → IsFormula formula → IsSmall formula → IsShallow formula → (o : Outcome) × RunsModel t formula o }
+{
+    some_atom();
+}

@@ -1,0 +1,13 @@
+//! Runs strategies.
+#![tactic(auto)]
+
+mod atoms;
+mod fault;
+mod laws;
+mod running;
+mod strategy;
+mod trace;
+
+pub use fault::{FailWhy, RunFault};
+pub use laws::{one_outcome, run_is_taken, some_outcome};
+pub use strategy::{Done, run_strategy};

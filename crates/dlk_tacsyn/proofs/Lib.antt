@@ -1,0 +1,13 @@
+pub mod Words
+pub mod Chains
+pub mod Runs
+pub mod Kept
+pub mod Quoted
+pub mod Stacked
+pub mod Behind
+pub mod Later
+pub mod OneStrategy
+pub mod Given
+pub mod Named
+pub mod Fit
+pub mod Shapes

@@ -1,0 +1,94 @@
+-- The row of a name is that of the word that it is.
+use Rattle.std.proofs.Common.{◌≡◌, ◌≢◌, ℕ, zero, suc, ◌<◌, ◌≤◌, true, false, List, [], ◌∷◌, Option, Some, None, refl, sym, ap, ◌∙◌, inl, inr, arith}
+use Rattle.std.specs.Prelude.{option_map, IsTrue, ◌||◌, ◌==◌}
+use Rattle.std.specs.Str.{IsAscii, IsUtf8}
+use Rattle.std.specs.List.{list_all}
+use Rattle.std.proofs.lemmas.Bool.{cond-true, cond-false, and_parts, leb-true, or_cases}
+use Rattle.std.proofs.lemmas.Str.{IsUtf8-from_ascii}
+use Rattle.dlk_tree.specs.Names.{is_between, is_letter, is_name_byte, is_word, is_name}
+use Rattle.dlk_tree.specs.declared.op.Op.TheVariants.{True}
+use Rattle.dlk_calculus.specs.Notation.{leaf}
+use Rattle.dlk_calculus.specs.Rules.{Rule, word_of}
+use Rattle.dlk_rules.specs.declared.rule.RuleWord.{RuleWord}
+use Rattle.dlk_rules.specs.declared.rule.RuleWord.TheVariants as word
+use Rattle.dlk_rules.specs.Steps.{Template, WantsPlace, WantsTwoPlaces, WantsPlaceAndFormula, WantsFormula, WantsPlaceAndName, template}
+use Rattle.dlk_rules.specs.Words.{text_made, text_of, wanted, named}
+use Rattle.dlk_rules.proofs.WordLaws.{found_word}
+use Rattle.dlk_tacsyn.specs.Rows.{is_bare, kinds_of, row_of}
+
+word_named : (w : RuleWord) → named (text_of w) ≡ Some w
+word_named word.Close = refl
+word_named _ = refl
+
+-- some rule has the word
+some_rule : Template → Rule
+some_rule (WantsPlace make) = make 0
+some_rule (WantsTwoPlaces make) = make 0 0
+some_rule (WantsPlaceAndFormula make) = make 0 (leaf True)
+some_rule (WantsFormula make) = make (leaf True)
+some_rule (WantsPlaceAndName make) = make 0 []
+
+word_made : (made : Template) → word_of (some_rule made) ≡ text_made made
+unfolding some_rule
+word_made (WantsPlace make) = refl
+word_made (WantsTwoPlaces make) = refl
+word_made (WantsPlaceAndFormula make) = refl
+word_made (WantsFormula make) = refl
+word_made (WantsPlaceAndName make) = refl
+
+unnamed : (name : List ℕ) → ((rule : Rule) → word_of rule ≢ name) → named name ≡ None
+unnamed name none = by (named name) refl
+  where
+    by : (found : Option RuleWord) → named name ≡ found → named name ≡ None
+    by None e = e
+    by (Some w) e =
+        absurd (none (some_rule (template w)) (word_made (template w) ∙ found_word name (Some w) (sym e)))
+
+pub row_bare : (name : List ℕ) → is_bare name ≡ true → row_of name ≡ Some []
+unfolding row_of
+row_bare name bare = cond-true (is_bare name) _ _ bare
+
+pub row_named : (name : List ℕ) (w : RuleWord) → is_bare name ≡ false → text_of w ≡ name → row_of name ≡ Some (kinds_of (wanted w))
+unfolding row_of
+row_named name w other same =
+    cond-false (is_bare name) _ _ other ∙ ap (option_map (λ v. kinds_of (wanted v))) (ap named (sym same) ∙ word_named w)
+
+pub row_unnamed : (name : List ℕ) → is_bare name ≡ false → ((rule : Rule) → word_of rule ≢ name) → row_of name ≡ None
+unfolding row_of
+row_unnamed name other none = cond-false (is_bare name) _ _ other ∙ ap (option_map (λ v. kinds_of (wanted v))) (unnamed name none)
+
+-- names are texts
+between_low : (low high c : ℕ) → high < 128 → is_between low high c ≡ true → c < 128
+between_low low high c small h = let most : c ≤ high = leb-true c high (and_parts _ _ h).1 in omega arith
+
+letter_low : (c : ℕ) → is_letter c ≡ true → c < 128
+letter_low c h = elim (or_cases (is_between 65 90 c) (is_between 97 122 c) h) [
+  | inl upper ↦ between_low 65 90 c (omega arith) upper
+  | inr lower ↦ between_low 97 122 c (omega arith) lower
+]
+
+byte_low : (c : ℕ) → is_name_byte c ≡ true → c < 128
+byte_low c h = elim (or_cases (is_letter c || is_between 48 57 c) (c == 95) h) [
+  | inl other ↦ elim (or_cases (is_letter c) (is_between 48 57 c) other) [
+    | inl letter ↦ letter_low c letter
+    | inr digit ↦ between_low 48 57 c (omega arith) digit
+  ]
+  | inr same ↦ let e : c ≡ 95 = grind (arith) in omega arith
+]
+
+ascii_front : (b : ℕ) (bs : List ℕ) → b < 128 → IsAscii bs → IsAscii (b ∷ bs)
+ascii_front b bs low more zero = low
+ascii_front b bs low more (suc i) = more i
+
+ascii_bytes : (bs : List ℕ) → IsTrue (list_all is_name_byte bs) → IsAscii bs
+ascii_bytes [] all = λ i. omega arith
+ascii_bytes (b ∷ bs) all =
+    let h = and_parts (is_name_byte b) (list_all is_name_byte bs) all in
+    ascii_front b bs (byte_low b h.0) (ascii_bytes bs h.1)
+
+ascii_word : (bs : List ℕ) → is_word bs ≡ true → IsAscii bs
+ascii_word [] h = λ i. omega arith
+ascii_word (b ∷ bs) h = let both = and_parts (is_letter b) (list_all is_name_byte bs) h in ascii_front b bs (letter_low b both.0) (ascii_bytes bs both.1)
+
+pub name_utf8 : (name : List ℕ) → IsTrue (is_name name) → IsUtf8 name
+name_utf8 name h = IsUtf8-from_ascii name (ascii_word name (and_parts _ _ (and_parts _ _ h).0).0)

@@ -1,0 +1,57 @@
+-- What the machine over ids stands for.
+use Rattle.std.specs.Prelude.{ℕ, List, Option, map, fold, All}
+use Rattle.dlk_tree.specs.Trees.{Tree}
+use Rattle.dlk_tacsyn.specs.declared.frame.Frame.{Frame}
+use Rattle.dlk_tacsyn.specs.declared.frame.Brackets.{Brackets}
+use Rattle.dlk_tacsyn.specs.declared.reader.Last.{Last}
+use Rattle.dlk_tacsyn.specs.declared.reader.Last.TheVariants as last
+use Rattle.dlk_tacsyn.specs.declared.reader.Reader.{Reader}
+use Rattle.dlk_tacsyn.specs.Strategies.{IsReading}
+use Rattle.dlk_tacsyn.specs.Ties.{tactic_at, TacticIsKnown}
+use Rattle.dlk_tacsyn.specs.Steps.{Frame as TreeFrame, Stack, bottom, within, Last as TreeLast, Nothing, Named, Called, Whole, State, state}
+
+-- it holds, whatever function reads the quoted texts
+abbrev pub ByReading : ((List ℕ → Option Tree) → Type 0) → Type 0
+ByReading holds = (read : List ℕ → Option Tree) → IsReading read → holds read
+
+-- a bracket over the trees of its ids
+abbrev pub frame_at : List Tree → Frame → TreeFrame
+frame_at trees f = record {
+  opened = f.opened;
+  level = f.level;
+  branches = map (tactic_at trees) f.branches.items;
+  choices = map (tactic_at trees) f.choices.items;
+  steps = map (tactic_at trees) f.steps.items;
+}
+
+abbrev pub stack_at : List Tree → List Frame → Stack
+stack_at trees frames = fold (λ s f. within s (frame_at trees f)) bottom frames
+
+abbrev pub last_at : List Tree → Last → TreeLast
+last_at trees last.Nothing = Nothing
+last_at trees (last.Named at x) = Named at x
+last_at trees (last.Called call) = Called call
+last_at trees (last.Whole t) = Whole (tactic_at trees t)
+
+abbrev pub state_at : List Tree → Reader → State
+state_at trees r = state (stack_at trees r.brackets.outer.items) (frame_at trees r.brackets.inner) (last_at trees r.last)
+
+-- its ids are those of the store
+pub record FrameIsKnown (trees : List Tree) (f : Frame) : Type 0 where
+  pub branches : All (TacticIsKnown trees) f.branches.items
+  pub choices : All (TacticIsKnown trees) f.choices.items
+  pub steps : All (TacticIsKnown trees) f.steps.items
+
+pub record BracketsAreKnown (trees : List Tree) (b : Brackets) : Type 0 where
+  pub outer : All (FrameIsKnown trees) b.outer.items
+  pub inner : FrameIsKnown trees b.inner
+
+abbrev pub LastIsKnown : List Tree → Last → Type 0
+LastIsKnown trees last.Nothing = Unit {0}
+LastIsKnown trees (last.Named at x) = Unit {0}
+LastIsKnown trees (last.Called call) = Unit {0}
+LastIsKnown trees (last.Whole t) = TacticIsKnown trees t
+
+pub record ReaderIsKnown (trees : List Tree) (r : Reader) : Type 0 where
+  pub brackets : BracketsAreKnown trees r.brackets
+  pub last : LastIsKnown trees r.last
