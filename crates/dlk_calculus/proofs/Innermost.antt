@@ -89,12 +89,17 @@ innermost_here e path is none = record { parts = refl; stands = subtree_nil e; i
 
 -- one further inside
 innermost_further : (e d : Tree) (k : ℕ) (path : List ℕ) → subtree e (k ∷ []) ≡ Some d → Innermost d path → Innermost e (k ∷ path)
-innermost_further e d k path h p = (k ∷ p.0, p.1, p.2, record {
-  parts = ap (λ rest. k ∷ rest) p.3.parts;
-  stands = subtree_join e (k ∷ []) p.0 d h ∙ p.3.stands;
-  is_formula = p.3.is_formula;
-  smallest = p.3.smallest;
-})
+innermost_further e d k path h p = (
+  k ∷ p.0,
+  p.1,
+  p.2,
+  record {
+    parts = ap (λ rest. k ∷ rest) p.3.parts;
+    stands = subtree_join e (k ∷ []) p.0 d h ∙ p.3.stands;
+    is_formula = p.3.is_formula;
+    smallest = p.3.smallest;
+  },
+)
 
 pub innermost_or_not : (path : List ℕ) (e s : Tree) → subtree e path ≡ Some s → Innermost e path ⊎ ((sort e ≢ Formula) × NoneBelow e path)
 innermost_or_not [] e s h =

@@ -163,7 +163,7 @@ module _ (f : Tree) where
         let others = fill_all_without rest p.1 in
         λ i. kid (first i) (others i)
 
-  hole : Tree
+  abbrev hole : Tree
   hole = node Op'.Hole no_kids
 
   mutual
@@ -209,8 +209,16 @@ module _ (args : List Tree) where
         let others = plug_all_without es ts p.1 parts.1 in
         λ i. kid (first i) (others i)
 
+  plug_first : (e : Tree) (es other : Forest) (new : Forest) → has_dots e ≡ false → ((ts : Forest) → PlugAll args es ts → ts ≡ other)
+      → PlugAll args (kid e es) new → new ≡ kid e other
+  plug_first e es other no_kids none rest p = absurd p
+  plug_first e es other (kid t ts) none rest p =
+      let first = plug_without e t p.0 none in
+      let others = rest ts p.1 in
+      λ i. kid (first i) (others i)
+
 module _ (a : Tree) where
-  dot : Tree
+  abbrev dot : Tree
   dot = node (Op'.Dot 0) no_kids
 
   mutual
@@ -230,13 +238,6 @@ module _ (a : Tree) where
         let others = plug_all_without (a ∷ []) es ts p.1 parts.1 in
         λ i. kid (first i) (others i)
     put_in_plug (kid e es) (suc n) path new none p =
-        later e es n path new none (subst (λ ks. PlugAll (a ∷ []) ks new) (put_later e es n path dot) p) ∙ sym (put_later e es n path a)
-
-    later : (e : Tree) (es : Forest) (n : ℕ) (path : List ℕ) (new : Forest) → any_has is_some_dot (kid e es) ≡ false
-        → PlugAll (a ∷ []) (kid e (put_in es n path dot)) new → new ≡ kid e (put_in es n path a)
-    later e es n path no_kids none p = absurd p
-    later e es n path (kid t ts) none p =
         let parts = or_parts _ _ none in
-        let first = plug_without (a ∷ []) e t p.0 parts.0 in
-        let others = put_in_plug es n path ts parts.1 p.1 in
-        λ i. kid (first i) (others i)
+        let now = subst (λ ks. PlugAll (a ∷ []) ks new) (put_later e es n path dot) p in
+        plug_first (a ∷ []) e (put_in es n path dot) (put_in es n path a) new parts.0 (λ ts q. put_in_plug es n path ts parts.1 q) now ∙ sym (put_later e es n path a)
