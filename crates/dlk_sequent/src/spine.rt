@@ -1,5 +1,6 @@
 //! The nodes on the way to a subtree, found in one walk.
-ghost use Rattle.std.specs.Prelude.{◌≡◌, ◌≢◌, [], ◌∷◌, Err, None, MatchOption, IfOk, IfErr};
+ghost use Rattle.std.specs.Prelude.{◌≡◌, ◌≢◌, ◌↔◌, IsTrue, [], ◌∷◌, Err, None, MatchOption, IfOk, IfErr};
+ghost use Rattle.dlk_tree.specs.declared.op.Sort.TheVariants.{Formula};
 ghost use Rattle.dlk_tree.specs.Trees.{sort};
 ghost use Rattle.dlk_store.specs.Stores.{IsId, tree, StandsFor};
 ghost use Rattle.dlk_calculus.specs.Paths.{subtree, put_at};
@@ -44,12 +45,21 @@ pub struct Innermost {
     pub formula: Id,
 }
 
-/// The sort of the tree, in one step.
-fn sort_at<S: Store, L: Ledger>(store: &S, id: Id, steps: &mut Steps<L>) -> Sort
+/// Whether the tree is of the sort of formulas, in one step.
+fn has_formula_sort<S: Store, L: Ledger>(store: &S, id: Id, steps: &mut Steps<L>) -> bool
     requires { IsId (S.trees store.now) id }
-    ensures { result ≡ sort (tree (S.trees store.now) id) }
+    ensures { IsTrue result ↔ (sort (tree (S.trees store.now) id) ≡ Formula) }
 {
-    sort_of(store.look(id, steps).op)
+    sort_of(store.look(id, steps).op) == Sort::Formula
+}
+
+/// Whether the two trees are of the same sort, in two steps.
+fn have_one_sort<S: Store, L: Ledger>(store: &S, a: Id, b: Id, steps: &mut Steps<L>) -> bool
+    requires first { IsId (S.trees store.now) a }
+    requires second { IsId (S.trees store.now) b }
+    ensures { IsTrue result ↔ (sort (tree (S.trees store.now) a) ≡ sort (tree (S.trees store.now) b)) }
+{
+    sort_of(store.look(a, steps).op) == sort_of(store.look(b, steps).op)
 }
 
 /// The node with another kid of the same sort, instead of one that is there.
@@ -134,7 +144,7 @@ impl Spine {
         ensures there { result ≢ Err NoPlace }
         ensures grows { S.grows store.old store.new }
     {
-        if sort_at(store, new, steps) != sort_at(store, self.found, steps) {
+        if !have_one_sort(store, new, self.found, steps) {
             return Err(PutFault::WrongSort);
         }
         let mut made = new;
@@ -158,7 +168,7 @@ impl Spine {
     {
         let mut outer = self.turns.len();
         let mut formula = self.found;
-        while sort_at(store, formula, steps) != Sort::Formula {
+        while !has_formula_sort(store, formula, steps) {
             if outer == 0 {
                 return None;
             }
