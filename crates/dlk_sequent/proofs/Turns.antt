@@ -22,6 +22,12 @@ pub start_known : (trees : List Tree) (turns : List Turn) (found : Id) → AreTu
 start_known trees [] found are = are
 start_known trees (turn ∷ turns) found are = are.0
 
+-- the first part of a way begins where it does
+pub earlier_start : (n : ℕ) (turns : List Turn) (found : Id) → start (take n turns) (start (drop n turns) found) ≡ start turns found
+earlier_start zero turns found = refl
+earlier_start (suc n) [] found = refl
+earlier_start (suc n) (turn ∷ turns) found = refl
+
 pub found_known : (trees : List Tree) (turns : List Turn) (found : Id) → AreTurns trees turns found → IsId trees found
 found_known trees [] found are = are
 found_known trees (turn ∷ turns) found are = found_known trees turns found are.2
@@ -56,13 +62,24 @@ pub later_next : (trees : List Tree) (way : Way) (n m : ℕ) (turn : Turn) → I
 later_next trees way n m turn are within one is =
     subst (λ turns. AreTurns trees turns way.found) (next_turn way n m turn within one is) (later_turns trees m way.turns way.found are)
 
+-- the way to a later node
+pub earlier_turns : (trees : List Tree) (n : ℕ) (turns : List Turn) (found : Id) → AreTurns trees turns found
+    → AreTurns trees (take n turns) (start (drop n turns) found)
+earlier_turns trees zero turns found are = start_known trees turns found are
+earlier_turns trees (suc n) [] found are = are
+earlier_turns trees (suc n) (turn ∷ turns) found are = (
+  are.0,
+  are.1 ∙ ap (λ id. Some (tree trees id)) (sym (earlier_start n turns found)),
+  earlier_turns trees n turns found are.2,
+)
+
 -- over a store that has grown
 pub turns_kept : {old new : List Tree} → Keeps old new → (turns : List Turn) (found : Id) → AreTurns old turns found → AreTurns new turns found
 turns_kept keeps [] found are = IsId-kept keeps found are
 turns_kept {old} {new} keeps (turn ∷ turns) found are = (
   IsId-kept keeps turn.node are.0,
   ap (λ t. subtree t (turn.kid ∷ [])) (keeps.same turn.node are.0) ∙ are.1
-  ∙ ap Some (sym (keeps.same (start turns found) (start_known old turns found are.2))),
+      ∙ ap Some (sym (keeps.same (start turns found) (start_known old turns found are.2))),
   turns_kept keeps turns found are.2,
 )
 
@@ -111,6 +128,10 @@ walked_all trees id path at i w past = record {
 }
 
 -- one more turn at the end
+pub start_stays : (turns : List Turn) (turn : Turn) (next : Id) → start (turns ++ turn ∷ []) next ≡ start turns turn.node
+start_stays [] turn next = refl
+start_stays (other ∷ turns) turn next = refl
+
 pub kids_more : (turns more : List Turn) (turn : Turn) (path : List ℕ) (i d : ℕ) → more ≡ turns ++ turn ∷ [] → kids_of turns ≡ take i path → i < length path
     → turn.kid ≡ get_or path i d → kids_of more ≡ take (i + 1) path
 kids_more turns more turn path i d is goes less kid =
@@ -120,15 +141,7 @@ pub one_turn : (trees : List Tree) (turns : List Turn) (turn : Turn) (next : Id)
     → AreTurns trees (turns ++ turn ∷ []) next
 one_turn trees [] turn next are to = (are, to.stands, to.known)
 one_turn trees (first ∷ turns) turn next are to =
-    (are.0, are.1 ∙ ap (λ id. Some (tree trees id)) (sym (same_start turns turn next)), one_turn trees turns turn next are.2 to)
-  where
-    same_start : (turns : List Turn) (turn : Turn) (next : Id) → start (turns ++ turn ∷ []) next ≡ start turns turn.node
-    same_start [] turn next = refl
-    same_start (other ∷ turns) turn next = refl
-
-pub start_stays : (turns : List Turn) (turn : Turn) (next : Id) → start (turns ++ turn ∷ []) next ≡ start turns turn.node
-start_stays [] turn next = refl
-start_stays (other ∷ turns) turn next = refl
+    (are.0, are.1 ∙ ap (λ id. Some (tree trees id)) (sym (start_stays turns turn next)), one_turn trees turns turn next are.2 to)
 
 -- ---- putting
 
