@@ -1,3 +1,4 @@
 pub mod Targets
 pub mod Plugged
 pub mod Turns
+pub mod AtOnce

@@ -1,21 +1,10 @@
--- Names exchanged in turn: over an operator, part by part; and each name of an axiom as if all were exchanged at once.
-use Rattle.std.proofs.Common.{◌≡◌, refl, sym, ap, subst, ◌∙◌, ℕ, List, [], ◌∷◌, map, Bool, true, false, cond, not, ◌||◌, ◌&&◌, Option, Some, None, if◌then◌else◌}
-use Rattle.std.specs.Prelude.{All, IsTrue, option_map}
-use Rattle.std.specs.List.{list_any}
+-- Names exchanged in turn: part by part.
+use Rattle.std.proofs.Common.{◌≡◌, refl, sym, ap, ◌∙◌, ℕ, List, [], ◌∷◌, Bool, true, false, cond, if◌then◌else◌}
 use Rattle.std.specs.Str.{bytes_eq}
-use Rattle.std.proofs.lemmas.Bool.{or_parts, and_parts}
-use Rattle.std.proofs.lemmas.Slice.Eq.{bytes_eq-Decides}
-use Rattle.std.proofs.lemmas.List.Elements.{All-head, All-tail}
-use Rattle.dlk_tree.specs.declared.op.Var.{Var}
-use Rattle.dlk_tree.specs.declared.op.Sym.{Sym}
-use Rattle.dlk_tree.specs.declared.op.OdeItem.{OdeItem}
-use Rattle.dlk_tree.specs.declared.op.OdeItem.TheVariants as Item
 use Rattle.dlk_tree.specs.declared.op.Op.{Op}
-use Rattle.dlk_tree.specs.declared.op.Op.TheVariants as Op'
-use Rattle.dlk_tree.specs.Table.{all_distinct}
 use Rattle.dlk_tree.specs.Trees.{Tree, node, Forest, no_kids, kid}
-use Rattle.dlk_calculus.specs.Rename.{swap_name, swap_var, swap_sym, swap_item, swap_op, swap, swap_all}
-use Rattle.dlk_match.specs.Matching.{is_own, old_names, new_names, AreGiven, AreApart, renamed_to, renamed_taboo, renamed_symbol, exchanged}
+use Rattle.dlk_calculus.specs.Rename.{swap_op, swap, swap_all}
+use Rattle.dlk_match.specs.Matching.{exchanged}
 
 abbrev pub Names : Type 0
 Names = List (List ℕ × List ℕ)
@@ -82,41 +71,3 @@ exchanged_two op same renames l r =
     let last = exchanged_kid renames r no_kids ∙ ap (kid (exchanged renames r)) none in
     let both = exchanged_kid renames l (kid r no_kids) ∙ ap (kid (exchanged renames l)) last in
     exchanged_node renames op (kid l (kid r no_kids)) ∙ (λ i. node (o i) (both i))
-
--- ---- names
-
--- a name that is no old one and no new one stays
-settled : (renames : Names) (z : List ℕ) → list_any (bytes_eq z) (old_names renames) ≡ false → list_any (bytes_eq z) (new_names renames) ≡ false →
-    in_turn swap_name renames z ≡ z
-settled [] z old new = refl
-settled (r ∷ renames) z old new =
-    let a = or_parts _ _ old in
-    let b = or_parts _ _ new in
-    ap (in_turn swap_name renames) (go (bytes_eq r.0 r.1) (bytes_eq z r.0) (bytes_eq z r.1) a.0 b.0) ∙ settled renames z a.1 b.1
-  where
-    go : (t a b : Bool) → a ≡ false → b ≡ false → cond t z (cond a r.1 (cond b r.0 z)) ≡ z
-    go true a b p q = refl
-    go false false false p q = refl
-    go false true b p q = cc
-    go false false true p q = cc
-
-not_true : (b : Bool) → (b ≡ true → ⊥) → b ≡ false
-not_true true h = absurd (h refl)
-not_true false h = refl
-
--- a name among the old ones is own
-own_old : (own : List (List ℕ)) (renames : Names) (z : List ℕ) → All (λ (r : List ℕ × List ℕ). IsTrue (is_own own r.0)) renames →
-    list_any (bytes_eq z) (old_names renames) ≡ true → IsTrue (is_own own z)
-own_old own [] z all e = cc
-own_old own (r ∷ renames) z all e =
-    go (λ h. own_old own renames z (All-tail (λ (q : List ℕ × List ℕ). IsTrue (is_own own q.0)) r renames all) h) (bytes_eq z r.0) refl e
-  where
-    go : (list_any (bytes_eq z) (old_names renames) ≡ true → IsTrue (is_own own z)) → (b : Bool) → bytes_eq z r.0 ≡ b →
-        b || list_any (bytes_eq z) (old_names renames) ≡ true → IsTrue (is_own own z)
-    go rest true same h =
-        subst (λ w. IsTrue (is_own own w)) (sym ((bytes_eq-Decides z r.0).0 same)) (All-head (λ (q : List ℕ × List ℕ). IsTrue (is_own own q.0)) r renames all)
-    go rest false same h = rest h
-
-not_among : (b : Bool) (bs : Bool) → IsTrue (cond (not b) bs false) → b ≡ false
-not_among true bs h = cc
-not_among false bs h = refl
