@@ -12,12 +12,14 @@ use Rattle.dlk_tree.specs.declared.op.Kind.{Kind}
 use Rattle.dlk_tree.specs.declared.op.Kind.TheVariants.{Func, UnitFunc, Pred, UnitPred, Quant, Prog, Ode}
 use Rattle.dlk_tree.specs.declared.op.OdeItem.{OdeItem}
 use Rattle.dlk_tree.specs.declared.op.OdeItem.TheVariants as Item
+use Rattle.dlk_tree.specs.declared.op.Op.TheVariants as Op'
 use Rattle.dlk_tree.specs.Tests.{kind_rank}
 use Rattle.dlk_tree.specs.Table.{all_distinct, kind_row, is_sym, is_sym_of}
+use Rattle.dlk_tree.specs.Trees.{node, no_kids}
 use Rattle.dlk_tree.specs.Named.{any_taboo, any_item_name}
-use Rattle.dlk_calculus.specs.Rename.{swap_name, swap_var, swap_sym, swap_item}
-use Rattle.dlk_match.specs.Matching.{is_own, old_names, new_names, AreGiven, AreApart, renamed_to, renamed_taboo, renamed_symbol}
-use Rattle.dlk_match.proofs.Turns.{Names, in_turn, unchanged, carried, carried_both}
+use Rattle.dlk_calculus.specs.Rename.{swap_name, swap_var, swap_sym, swap_item, swap_op}
+use Rattle.dlk_match.specs.Matching.{is_own, old_names, new_names, AreGiven, AreApart, renamed_to, renamed_taboo, renamed_symbol, exchanged}
+use Rattle.dlk_match.proofs.Turns.{Names, in_turn, unchanged, carried, carried_both, exchanged_node, exchanged_none}
 
 -- a name that is no old one and no new one stays
 settled : (renames : Names) (z : List ℕ) → list_any (bytes_eq z) (old_names renames) ≡ false → list_any (bytes_eq z) (new_names renames) ≡ false →
@@ -119,6 +121,9 @@ taboo_is renames y = go (renamed_to renames y) refl
     go None e = rw e refl
     go (Some z) e = rw e refl
 
+pub taboo_named : (renames : Names) (x y : List ℕ) → renamed_to renames x ≡ Some y → renamed_taboo renames x ≡ y
+taboo_named renames x y e = taboo_is renames x ∙ ap (taboo_of x) e
+
 -- each own name becomes the one that it gets
 pub name_at_once : (own : List (List ℕ)) (renames : Names) (z : List ℕ) → AreGiven own renames → AreApart own renames → IsTrue (is_own own z) →
     in_turn swap_name renames z ≡ renamed_taboo renames z
@@ -150,12 +155,19 @@ renamed_item renames (Item.Evolve x) = Item.Evolve (renamed_taboo renames x)
 renamed_item renames (Item.Const s) = Item.Const (renamed_symbol renames s)
 
 module _ (own : List (List ℕ)) (renames : Names) (given : AreGiven own renames) (apart : AreApart own renames) where
-  pub variable_at_once : (v : Var) → IsTrue (is_own own v.name) → in_turn swap_var renames v ≡ record { name = renamed_taboo renames v.name; primed = v.primed }
+  variable_at_once : (v : Var) → IsTrue (is_own own v.name) → in_turn swap_var renames v ≡ record { name = renamed_taboo renames v.name; primed = v.primed }
   variable_at_once v is =
       carried (λ (x : List ℕ). record { name = x; primed = v.primed }) swap_name swap_var (λ x y z. refl) renames v.name
       ∙ ap (λ x. record { name = x; primed = v.primed }) (name_at_once own renames v.name given apart is)
 
-  pub taboo_at_once : (o : Option (List ℕ)) → IsOwnTaboo own o → in_turn (λ x y. option_map (swap_name x y)) renames o ≡ option_map (renamed_taboo renames) o
+  pub leaf_at_once : (v : Var) → IsTrue (is_own own v.name) →
+      exchanged renames (node (Op'.Variable v) no_kids) ≡ node (Op'.Variable (record { name = renamed_taboo renames v.name; primed = v.primed })) no_kids
+  leaf_at_once v is =
+      let op = carried Op'.Variable swap_var swap_op (λ x y w. refl) renames v ∙ ap Op'.Variable (variable_at_once v is) in
+      let none = exchanged_none renames in
+      exchanged_node renames (Op'.Variable v) no_kids ∙ (λ i. node (op i) (none i))
+
+  taboo_at_once : (o : Option (List ℕ)) → IsOwnTaboo own o → in_turn (λ x y. option_map (swap_name x y)) renames o ≡ option_map (renamed_taboo renames) o
   taboo_at_once None is = unchanged (λ x y. option_map (swap_name x y)) None (λ x y. refl) renames
   taboo_at_once (Some z) is =
       carried Some swap_name (λ x y. option_map (swap_name x y)) (λ x y w. refl) renames z ∙ ap Some (name_at_once own renames z given apart (not_not _ is))

@@ -5,3 +5,4 @@ pub mod AtOnce
 pub mod AxiomNames
 pub mod Replacing
 pub mod Growing
+pub mod SystemsBack
