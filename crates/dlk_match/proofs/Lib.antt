@@ -6,3 +6,4 @@ pub mod AxiomNames
 pub mod Replacing
 pub mod Growing
 pub mod SystemsBack
+pub mod Back
