@@ -1,5 +1,6 @@
 -- Each name of an axiom becomes, by names exchanged in turn, the one that it gets: as if all were exchanged at once.
-use Rattle.std.proofs.Common.{◌≡◌, refl, sym, ap, subst, ◌∙◌, ℕ, List, [], ◌∷◌, map, Bool, true, false, cond, not, ◌||◌, ◌&&◌, Option, Some, None, ◌==◌, is_none}
+use Rattle.std.proofs.Common.{◌≡◌, refl, sym, ap, subst, ◌∙◌, ℕ, List, [], ◌∷◌, map, Bool, true, false, cond, not, ◌||◌, ◌&&◌, Option, Some}
+use Rattle.std.proofs.Common.{None, ◌==◌, is_none}
 use Rattle.std.specs.Prelude.{All, IsTrue, option_map}
 use Rattle.std.specs.List.{list_any}
 use Rattle.std.specs.Str.{bytes_eq}
@@ -14,7 +15,7 @@ use Rattle.dlk_tree.specs.declared.op.OdeItem.{OdeItem}
 use Rattle.dlk_tree.specs.declared.op.OdeItem.TheVariants as Item
 use Rattle.dlk_tree.specs.declared.op.Op.TheVariants as Op'
 use Rattle.dlk_tree.specs.Tests.{kind_rank}
-use Rattle.dlk_tree.specs.Table.{all_distinct, kind_row, is_sym, is_sym_of}
+use Rattle.dlk_tree.specs.Table.{kind_row, is_sym_of}
 use Rattle.dlk_tree.specs.Trees.{node, no_kids}
 use Rattle.dlk_tree.specs.Named.{any_taboo, any_item_name}
 use Rattle.dlk_calculus.specs.Rename.{swap_name, swap_var, swap_sym, swap_item, swap_op}

@@ -1,12 +1,12 @@
 -- In an axiom only its own names stand, and it is well made. What has both has it in each kid.
-use Rattle.std.proofs.Common.{◌≡◌, refl, subst, ℕ, List, [], ◌∷◌, map, Bool, true, false, not, ◌&&◌, cond, Option, Some, None, find}
+use Rattle.std.proofs.Common.{◌≡◌, refl, subst, ℕ, List, [], ◌∷◌, map, Bool, true, false, not, cond, Some, find}
 use Rattle.std.specs.Prelude.{All, IsTrue}
 use Rattle.std.specs.List.{list_all}
 use Rattle.std.specs.Str.{bytes_eq}
 use Rattle.std.proofs.lemmas.Bool.{or_parts, and_parts}
 use Rattle.std.proofs.lemmas.Option.{none-some, same_Some}
 use Rattle.std.proofs.lemmas.List.Elements.{All-nil, All-cons, All-head, All-tail}
-use Rattle.dlk_tree.specs.Trees.{Tree, Forest, no_kids, kid, trees_in, WellMade, AllWellMade}
+use Rattle.dlk_tree.specs.Trees.{Forest, no_kids, kid, trees_in, WellMade, AllWellMade}
 use Rattle.dlk_tree.specs.Occurs.{has, any_has}
 use Rattle.dlk_calculus.specs.Axioms.{Axiom, axioms, axiom_named}
 use Rattle.dlk_calculus.specs.Sequents.{IsFormula}

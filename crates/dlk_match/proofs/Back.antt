@@ -1,5 +1,5 @@
 -- With the names and the pairs with which a key matches a target, the key becomes the target, or nothing.
-use Rattle.std.proofs.Common.{◌≡◌, ◌∙◌, refl, sym, ap, subst, ℕ, List, [], ◌∷◌, ◌++◌, map, append-nil, Bool, false, not, Option, Some, None}
+use Rattle.std.proofs.Common.{◌≡◌, ◌∙◌, refl, sym, ap, subst, ℕ, List, [], ◌∷◌, ◌++◌, map, append-nil, false, not, Some}
 use Rattle.std.specs.Prelude.{IsTrue}
 use Rattle.std.specs.List.{list_any}
 use Rattle.std.proofs.lemmas.Bool.{or_parts}
@@ -7,21 +7,21 @@ use Rattle.dlk_tree.specs.declared.op.Var.{Var}
 use Rattle.dlk_tree.specs.declared.op.Sym.{Sym}
 use Rattle.dlk_tree.specs.declared.op.Kind.TheVariants.{Func, Pred, Prog}
 use Rattle.dlk_tree.specs.declared.op.OdeItem.{OdeItem}
-use Rattle.dlk_tree.specs.declared.op.OdeItem.TheVariants as Item
 use Rattle.dlk_tree.specs.declared.op.Op.{Op}
 use Rattle.dlk_tree.specs.declared.op.Op.TheVariants as Op'
-use Rattle.dlk_tree.specs.Table.{is_sym_of, Fits}
+use Rattle.dlk_tree.specs.Table.{Fits}
 use Rattle.dlk_tree.specs.Trees.{Tree, node, Forest, no_kids, kid, forest, trees_in, sorts, WellMade, AllWellMade}
-use Rattle.dlk_tree.specs.Occurs.{has_dots, any_has}
+use Rattle.dlk_tree.specs.Occurs.{any_has}
 use Rattle.dlk_tree.specs.Named.{any_item_name}
 use Rattle.dlk_calculus.specs.Kids.{last}
 use Rattle.dlk_calculus.specs.Pairs.{Pair, Extra, replacement, IsWellFormed}
 use Rattle.dlk_calculus.specs.Plug.{Plug}
 use Rattle.dlk_calculus.specs.Rename.{swap_name, swap_sym, swap_item, swap_op, swap_all}
-use Rattle.dlk_calculus.specs.Subst.{Replaced, SubstAt, Subst, SubstAll, Member, Equation, members, members_for, spliced, new_members, items_of, kids_of}
+use Rattle.dlk_calculus.specs.Subst.{Replaced, SubstAt, Subst, SubstAll, Member, Equation, members_for, new_members, items_of, kids_of}
 use Rattle.dlk_match.specs.Abstract.{abstracted}
-use Rattle.dlk_match.specs.Matching.{is_own, renamed_to, GetsName, GetsReplacement, Over, IsAppliedTo, Application, of_nothing, of_variable, system_of}
-use Rattle.dlk_match.specs.Matching.{TakeMembers, constant, equation, equation_first, equation_last, two_constants, SystemMatches, MatchesAt, Matches, MatchesAll}
+use Rattle.dlk_match.specs.Matching.{is_own, GetsName, GetsReplacement, Over, IsAppliedTo, Application, of_nothing, of_variable, system_of}
+use Rattle.dlk_match.specs.Matching.{TakeMembers, constant, equation, equation_first, equation_last, two_constants, SystemMatches}
+use Rattle.dlk_match.specs.Matching.{MatchesAt, Matches, MatchesAll}
 use Rattle.dlk_match.specs.Matching.{AreGiven, AreApart, Match, renamed_taboo, renamed_symbol, renamed_pairs, exchanged}
 use Rattle.dlk_match.specs.Instances.{has_other_name, HasOwnNames}
 use Rattle.dlk_match.proofs.Targets.{IsTarget, AreTargets, target_kids, target_first, target_rest, plug_plain}
@@ -101,7 +101,6 @@ module _ (own : List (List ℕ)) (found : Extra) (given : AreGiven own found.ren
   -- the operator of a key over kids, of which the new ones are made; they are the target's where the kids match
   module _ (kids news : Forest) (e t : Tree) (Kids : Forest → Extra → Extra → Type 0) (old new : Extra) (target : IsTarget e)
       (rest : (es : Forest) (mid : Extra) → Kids es mid new → Grows own mid new × (AreTargets es → news ≡ es)) (grown : Grows own new found) where
-
     over_back : (from to : Op) (mid : Extra) → in_turn swap_op found.renames from ≡ to → ((o : Forest) → SubstAt pairs to o news t → t ≡ node to news) →
         Over to e Kids mid new → SubstAt pairs (in_turn swap_op found.renames from) (in_turn swap_all found.renames kids) news t → t ≡ e
     over_back from to mid same stays over p =

@@ -1,6 +1,6 @@
 -- Matching keeps the names and the replacements that are there, and gives names to an axiom's own names alone.
-use Rattle.std.proofs.Common.{◌≡◌, refl, sym, ap, subst, ◌∙◌, ℕ, List, [], ◌∷◌, ◌++◌, map, Bool, true, false, cond, not, ◌||◌, ◌&&◌, Option, Some, None}
-use Rattle.std.specs.Prelude.{All, IsTrue}
+use Rattle.std.proofs.Common.{◌≡◌, refl, sym, ap, subst, ◌∙◌, ℕ, List, [], ◌∷◌, ◌++◌, Bool, true, false, cond, not, ◌||◌, ◌&&◌, Option, Some, None}
+use Rattle.std.specs.Prelude.{IsTrue}
 use Rattle.std.specs.List.{list_any}
 use Rattle.std.specs.Str.{bytes_eq}
 use Rattle.std.proofs.lemmas.Bool.{or_parts, or_from, and_parts}
@@ -11,18 +11,17 @@ use Rattle.std.proofs.lemmas.List.Folds.{list_any-append}
 use Rattle.std.proofs.lemmas.List.Elements.{All-push}
 use Rattle.dlk_tree.specs.declared.op.Sym.{Sym}
 use Rattle.dlk_tree.specs.declared.op.OdeItem.{OdeItem}
-use Rattle.dlk_tree.specs.declared.op.OdeItem.TheVariants as Item
 use Rattle.dlk_tree.specs.declared.op.Op.{Op}
 use Rattle.dlk_tree.specs.declared.op.Op.TheVariants as Op'
 use Rattle.dlk_tree.specs.Tests.{sym_eq}
 use Rattle.dlk_tree.specs.Table.{all_distinct}
 use Rattle.dlk_tree.specs.Trees.{Tree, node, Forest, no_kids, kid}
-use Rattle.dlk_tree.specs.Occurs.{has, any_has}
+use Rattle.dlk_tree.specs.Occurs.{any_has}
 use Rattle.dlk_tree.specs.Named.{any_item_name}
 use Rattle.dlk_calculus.specs.Pairs.{Pair, Extra, replacement}
 use Rattle.dlk_calculus.specs.Subst.{Member}
-use Rattle.dlk_match.specs.Matching.{is_own, renamed_to, NameIs, GetsName, ReplacementIs, GetsReplacement, Over, IsAppliedTo, Application, of_nothing, of_variable}
-use Rattle.dlk_match.specs.Matching.{TakeMembers, constant, equation, equation_first, equation_last, two_constants, system_of, SystemMatches}
+use Rattle.dlk_match.specs.Matching.{is_own, renamed_to, NameIs, GetsName, ReplacementIs, GetsReplacement, Over, Application, of_nothing, of_variable}
+use Rattle.dlk_match.specs.Matching.{TakeMembers, constant, equation, equation_first, equation_last, two_constants, system_of}
 use Rattle.dlk_match.specs.Abstract.{abstracted}
 use Rattle.dlk_match.specs.Matching.{MatchesAt, Matches, MatchesAll, old_names, AreGiven}
 use Rattle.dlk_match.specs.Instances.{has_other_name, HasOwnNames}
@@ -118,9 +117,10 @@ gets_name own x y old new is h = go (renamed_to old.renames x) refl h
     go (Some z) e g = (grows_same own old new g.1, ap (λ n. renamed_to n.renames x) g.1 ∙ e ∙ ap Some g.0)
     go None e g =
         let more : Extra = record { renames = old.renames ++ (x, y) ∷ []; pairs = old.pairs } in
-        subst (λ n. Grows own old n × (renamed_to n.renames x ≡ Some y)) (sym g)
-        (record { names = λ z w k. named_still old.renames ((x, y) ∷ []) z w k; replacements = λ s r k. k; given = given_push own old.renames x y is e },
-         named_last old.renames x y e)
+        subst (λ n. Grows own old n × (renamed_to n.renames x ≡ Some y)) (sym g) (
+          record { names = λ z w k. named_still old.renames ((x, y) ∷ []) z w k; replacements = λ s r k. k; given = given_push own old.renames x y is e },
+          named_last old.renames x y e,
+        )
 
 -- ---- replacements
 
@@ -153,9 +153,10 @@ gets_replacement own s e old new h = go (replacement old.pairs s) refl h.1
     go : (o : Option Tree) → replacement old.pairs s ≡ o → ReplacementIs o s e old new → Grows own old new × (replacement new.pairs s ≡ Some e)
     go (Some r) k g = (grows_same own old new g.1, ap (λ n. replacement n.pairs s) g.1 ∙ k ∙ ap Some g.0)
     go None k g =
-        subst (λ n. Grows own old n × (replacement n.pairs s ≡ Some e)) (sym g)
-        (record { names = λ z w j. j; replacements = λ t r j. replaced_still old.pairs (record { sym = s; by = e } ∷ []) t r j; given = λ j. j },
-         replaced_last old.pairs s e k)
+        subst (λ n. Grows own old n × (replacement n.pairs s ≡ Some e)) (sym g) (
+          record { names = λ z w j. j; replacements = λ t r j. replaced_still old.pairs (record { sym = s; by = e } ∷ []) t r j; given = λ j. j },
+          replaced_last old.pairs s e k,
+        )
 
 -- ---- matching
 
@@ -177,7 +178,8 @@ module _ (own : List (List ℕ)) where
   take_grows (two_constants {s = s} {t = t} {m = m} {n = n} {ms = ms} {old = old} {new = new} mid g h) is =
       grows_on (gets_replacement own s (system_of (m ∷ [])) old mid g).0 (gets_replacement own t (system_of (n ∷ ms)) mid new h).0
 
-  module _ (e : Tree) (Kids : Forest → Extra → Extra → Type 0) (old new : Extra) (rest : (es : Forest) (mid : Extra) → Kids es mid new → Grows own mid new) where
+  module _ (e : Tree) (Kids : Forest → Extra → Extra → Type 0) (old new : Extra)
+      (rest : (es : Forest) (mid : Extra) → Kids es mid new → Grows own mid new) where
     named_grows : (make : List ℕ → Op) (x : List ℕ) → not (is_own own x) ≡ false →
         (y : List ℕ) × (mid : Extra) × GetsName x y old mid × Over (make y) e Kids mid new → Grows own old new
     named_grows make x is m = grows_on (gets_name own x m.0 old m.1 (not_not _ is) m.2).0 (rest m.3.0 m.1 m.3.2)

@@ -1,20 +1,19 @@
 -- A variable plugged into what abstracts a tree by it gives the tree back.
-use Rattle.std.proofs.Common.{◌≡◌, refl, sym, ap, subst, ◌∙◌, ℕ, ◌+◌, List, [], ◌∷◌, Bool, true, false, cond, ◌⊎◌, inl, inr, Some, slice_get, ◌==◌, eq-eqb, ne_eqb, arith, rules}
+use Rattle.std.proofs.Common.{◌≡◌, refl, sym, ap, subst, ◌∙◌, ◌+◌, List, [], ◌∷◌, Bool, true, false, cond, ◌⊎◌, inl, inr, ◌==◌, eq-eqb, ne_eqb, arith, rules}
 use Rattle.std.specs.Bool.{Decides}
 use Rattle.std.proofs.lemmas.Bool.{or_parts}
 use Rattle.std.proofs.lemmas.Option.{same_Some}
 use Rattle.dlk_tree.specs.declared.op.Var.{Var}
-use Rattle.dlk_tree.specs.declared.op.Sort.{Sort}
 use Rattle.dlk_tree.specs.declared.op.Op.{Op}
 use Rattle.dlk_tree.specs.declared.op.Op.TheVariants as Op'
 use Rattle.dlk_tree.specs.Tests.{var_eq}
 use Rattle.dlk_tree.specs.Trees.{Tree, node, Forest, no_kids, kid, sorts, WellMade}
-use Rattle.dlk_tree.specs.Occurs.{has_dots, any_has, is_some_dot}
+use Rattle.dlk_tree.specs.Occurs.{any_has, is_some_dot}
 use Rattle.dlk_calculus.specs.Kids.{later}
 use Rattle.dlk_calculus.specs.Captures.{captures}
-use Rattle.dlk_calculus.specs.Plug.{PlugAt, Plug, PlugAll}
+use Rattle.dlk_calculus.specs.Plug.{Plug, PlugAll}
 use Rattle.dlk_match.specs.Abstract.{count, ending_in, is_variable, with_dot, abstracted, abstracted_all}
-use Rattle.dlk_match.proofs.Targets.{IsTarget, AreTargets, target_kids, target_first, target_rest, plain_at, plug_plain, plug_all_plain}
+use Rattle.dlk_match.proofs.Targets.{IsTarget, AreTargets, target_kids, target_first, target_rest, plain_at, plug_all_plain}
 
 var_eq_decides : (a b : Var) → Decides (var_eq a b) (a ≡ b)
 var_eq_decides a b = search rules
@@ -101,7 +100,8 @@ module _ (v : Var) where
   kids_back op es ts true plain each p = captured_back op es ts plain each p
   kids_back op es ts false plain each p = all_back es ts each p
 
-  node_back : (op : Op) (es new : Forest) (t : Tree) → IsTarget (node op es) → EachBack es → Plug args (with_dot v op es (abstracted_all v es)) t → t ≡ node op es
+  node_back : (op : Op) (es new : Forest) (t : Tree) → IsTarget (node op es) → EachBack es →
+      Plug args (with_dot v op es (abstracted_all v es)) t → t ≡ node op es
   node_back op es new t target each p = go (is_variable v op) refl p
     where
       rest : Forest

@@ -1,5 +1,5 @@
 -- Where no two symbols of renamed pairs are equal, the replacement of a symbol is that of the renamed symbol.
-use Rattle.std.proofs.Common.{◌≡◌, refl, sym, ap, subst, ◌∙◌, ℕ, zero, suc, ◌-◌, ◌+◌, List, [], ◌∷◌, map, take, slice_get, Bool, true, false, cond, ◌||◌, nat_eq, arith, rules}
+use Rattle.std.proofs.Common.{◌≡◌, refl, sym, ap, subst, ◌∙◌, ℕ, zero, suc, ◌-◌, List, [], ◌∷◌, map, take, slice_get, Bool, true, false, cond, arith, rules}
 use Rattle.std.proofs.Common.{Option, None, Some, find}
 use Rattle.std.specs.List.{list_any}
 use Rattle.std.specs.Bool.{Decides}

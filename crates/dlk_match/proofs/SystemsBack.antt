@@ -1,14 +1,13 @@
 -- A system is that of its members; the right sides that are left of members are targets where the system is one.
-use Rattle.std.proofs.Common.{◌≡◌, ◌∙◌, refl, ap, subst, ℕ, zero, suc, List, [], ◌∷◌, ◌++◌, length, replicate, Bool, false}
+use Rattle.std.proofs.Common.{◌≡◌, ◌∙◌, refl, ap, subst, ℕ, zero, suc, List, [], ◌∷◌, ◌++◌, length, replicate}
 use Rattle.std.proofs.lemmas.Bool.{or_from}
-use Rattle.dlk_tree.specs.declared.op.Sort.{Sort}
-use Rattle.dlk_tree.specs.declared.op.Sort.TheVariants.{Term, Formula, Program}
+use Rattle.dlk_tree.specs.declared.op.Sort.TheVariants.{Term, Formula}
 use Rattle.dlk_tree.specs.declared.op.OdeItem.{OdeItem}
 use Rattle.dlk_tree.specs.declared.op.OdeItem.TheVariants as Item
 use Rattle.dlk_tree.specs.declared.op.Op.TheVariants as Op'
 use Rattle.dlk_tree.specs.Table.{evolved, kid_sorts}
-use Rattle.dlk_tree.specs.Trees.{Tree, node, Forest, no_kids, kid, forest, sort, sorts}
-use Rattle.dlk_calculus.specs.Kids.{first, later, last}
+use Rattle.dlk_tree.specs.Trees.{Tree, node, Forest, no_kids, kid, forest, sorts}
+use Rattle.dlk_calculus.specs.Kids.{later, last}
 use Rattle.dlk_calculus.specs.Pairs.{Extra}
 use Rattle.dlk_calculus.specs.Subst.{Member, Equation, Constant, members, items_of, kids_of}
 use Rattle.dlk_match.specs.Matching.{TakeMembers, constant, equation, equation_first, equation_last, two_constants}

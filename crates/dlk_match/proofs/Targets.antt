@@ -1,5 +1,5 @@
 -- Targets of matching: well-made trees without argument dots. Where no dot stands, plugging changes nothing.
-use Rattle.std.proofs.Common.{◌≡◌, refl, ap, ◌∙◌, List, Bool, true, false}
+use Rattle.std.proofs.Common.{◌≡◌, refl, ap, ◌∙◌, List, false}
 use Rattle.std.proofs.lemmas.Bool.{or_parts}
 use Rattle.dlk_tree.specs.declared.op.Op.{Op}
 use Rattle.dlk_tree.specs.declared.op.Op.TheVariants.{Dot}

@@ -19,7 +19,8 @@ exchanged_in_turn [] e = refl
 exchanged_in_turn (r ∷ renames) e = exchanged_in_turn renames (cond (bytes_eq r.0 r.1) e (swap r.0 r.1 e))
 
 -- what a change leaves alone stays
-pub unchanged : {A : Type 0} (change : List ℕ → List ℕ → A → A) (a : A) → ((x y : List ℕ) → change x y a ≡ a) → (renames : Names) → in_turn change renames a ≡ a
+pub unchanged : {A : Type 0} (change : List ℕ → List ℕ → A → A) (a : A) → ((x y : List ℕ) → change x y a ≡ a) → (renames : Names) →
+    in_turn change renames a ≡ a
 unchanged change a same [] = refl
 unchanged change a same (r ∷ renames) = ap (in_turn change renames) (go (bytes_eq r.0 r.1)) ∙ unchanged change a same renames
   where
@@ -52,7 +53,8 @@ carried_both {A = A} {B = B} make one two whole same (r ∷ renames) a b = go (c
 
 -- ---- trees
 
-pub exchanged_node : (renames : Names) (op : Op) (kids : Forest) → exchanged renames (node op kids) ≡ node (in_turn swap_op renames op) (in_turn swap_all renames kids)
+pub exchanged_node : (renames : Names) (op : Op) (kids : Forest) →
+    exchanged renames (node op kids) ≡ node (in_turn swap_op renames op) (in_turn swap_all renames kids)
 exchanged_node renames op kids = exchanged_in_turn renames (node op kids) ∙ carried_both node swap_op swap_all swap (λ x y o ts. refl) renames op kids
 
 pub exchanged_none : (renames : Names) → in_turn swap_all renames no_kids ≡ no_kids

@@ -3,4 +3,7 @@
 
 mod instances;
 
-pub use instances::{axioms_have_own_names, exchanged_at_once, exchanged_over_kids, match_gives_target, plugged_back, subst_over_kids};
+pub use instances::{
+    axioms_have_own_names, exchanged_at_once, exchanged_over_kids, match_gives_target,
+    plugged_back, subst_over_kids,
+};
