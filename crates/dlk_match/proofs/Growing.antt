@@ -87,7 +87,7 @@ not_or true b h e = cc
 not_or false true h e = cc
 not_or false false h e = refl
 
-and_from : (a b : Bool) → a ≡ true → b ≡ true → a && b ≡ true
+pub and_from : (a b : Bool) → a ≡ true → b ≡ true → a && b ≡ true
 and_from true b p q = q
 and_from false b p q = cc
 

@@ -7,3 +7,6 @@ pub mod Replacing
 pub mod Growing
 pub mod SystemsBack
 pub mod Back
+pub mod AbstractMade
+pub mod SystemsMade
+pub mod Proper

@@ -18,7 +18,7 @@ use Rattle.dlk_match.proofs.Targets.{IsTarget, AreTargets, target_kids, target_f
 var_eq_decides : (a b : Var) → Decides (var_eq a b) (a ≡ b)
 var_eq_decides a b = search rules
 
-variable_is : (v : Var) (op : Op) → is_variable v op ≡ true → op ≡ Op'.Variable v
+pub variable_is : (v : Var) (op : Op) → is_variable v op ≡ true → op ≡ Op'.Variable v
 variable_is v (Op'.Variable w) e = ap Op'.Variable (sym ((var_eq_decides v w).0 e))
 variable_is v _ e = cc
 
@@ -33,7 +33,7 @@ leaf_is v op kids e made =
     λ i. node (e i) (none i)
 
 -- the kids that an operator reaches are all, or all but the first
-reached : (op : Op) (kids : Forest) → ((captures op).reach kids ≡ kids) ⊎ ((captures op).reach kids ≡ later kids)
+pub reached : (op : Op) (kids : Forest) → ((captures op).reach kids ≡ kids) ⊎ ((captures op).reach kids ≡ later kids)
 reached Op'.Box kids = inr refl
 reached Op'.Dia kids = inr refl
 reached Op'.Seq kids = inr refl
@@ -47,13 +47,13 @@ module _ (v : Var) where
   same_count no_kids = refl
   same_count (kid t rest) = ap (λ n. n + 1) (same_count rest)
 
-  ending_whole : (ts : Forest) → ending_in ts (abstracted_all v ts) ≡ ts
+  pub ending_whole : (ts : Forest) → ending_in ts (abstracted_all v ts) ≡ ts
   ending_whole no_kids = refl
   ending_whole (kid t rest) =
       ap (λ b. cond b (kid t rest) (kid (abstracted v t) (ending_in (kid t rest) (abstracted_all v rest))))
       (eq-eqb _ _ (ap (λ n. n + 1) (same_count rest)))
 
-  ending_later : (t : Tree) (rest : Forest) → ending_in rest (abstracted_all v (kid t rest)) ≡ kid (abstracted v t) rest
+  pub ending_later : (t : Tree) (rest : Forest) → ending_in rest (abstracted_all v (kid t rest)) ≡ kid (abstracted v t) rest
   ending_later t rest =
       let longer : (count (abstracted_all v rest) + 1 == count rest) ≡ false = ne_eqb _ _ (λ e. let same = same_count rest in omega (arith, e, same)) in
       ap (λ b. cond b rest (kid (abstracted v t) (ending_in rest (abstracted_all v rest)))) longer ∙ ap (kid (abstracted v t)) (ending_whole rest)

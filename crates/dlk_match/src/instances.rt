@@ -7,13 +7,13 @@ ghost use Rattle.dlk_tree.specs.Trees.{Tree, node, Forest, no_kids, trees_in, We
 ghost use Rattle.dlk_tree.specs.Occurs.{has_dots};
 ghost use Rattle.dlk_calculus.specs.Axioms.{Axiom, axiom_named};
 ghost use Rattle.dlk_calculus.specs.Notation.{eq};
-ghost use Rattle.dlk_calculus.specs.Pairs.{Pair, Extra, IsWellFormed};
+ghost use Rattle.dlk_calculus.specs.Pairs.{Pair, Extra, IsWellFormed, AreWellMade};
 ghost use Rattle.dlk_calculus.specs.Plug.{Plug};
 ghost use Rattle.dlk_calculus.specs.Rules.{imply, equiv};
 ghost use Rattle.dlk_calculus.specs.Subst.{Subst};
 ghost use Rattle.dlk_match.specs.Abstract.{abstracted};
 ghost use Rattle.dlk_match.specs.Matching.{Match, AreGiven, AreApart, is_own, renamed_taboo, exchanged};
-ghost use Rattle.dlk_match.specs.Instances.{HasOwnNames};
+ghost use Rattle.dlk_match.specs.Instances.{HasOwnNames, AreNames};
 
 use dlk_calculus::laws::axiom_formulas;
 
@@ -21,6 +21,14 @@ use dlk_calculus::laws::axiom_formulas;
 /// well made, and only the axiom's own names stand in it; the target is well made, and no argument dot stands in it.
 pub fn match_gives_target()
     ensures { (own : List (List ℕ)) (key target : Tree) (given extra : Extra) (t : Tree) → HasOwnNames own key → WellMade key → WellMade target → has_dots target ≡ false → Match key own target given extra → IsWellFormed extra.pairs → Subst extra.pairs (exchanged extra.renames key) t → t ≡ target }
+{}
+
+/// The names that an axiom gets by a match are given to its own names alone, to each at most one; no two of them are one, and none is
+/// another of the axiom's own. Where the given names are names and the given replacements well made, all are.
+pub fn match_is_proper()
+    ensures given { (own : List (List ℕ)) (key target : Tree) (given extra : Extra) → HasOwnNames own key → Match key own target given extra → AreGiven own extra.renames × AreApart own extra.renames }
+    ensures names { (own : List (List ℕ)) (key target : Tree) (given extra : Extra) → WellMade key → WellMade target → has_dots target ≡ false → AreNames given.renames → Match key own target given extra → AreNames extra.renames }
+    ensures made { (own : List (List ℕ)) (key target : Tree) (given extra : Extra) → WellMade key → WellMade target → has_dots target ≡ false → AreWellMade given.pairs → Match key own target given extra → AreWellMade extra.pairs }
 {}
 
 /// In an axiom only its own names stand, and it is well made. What has both has it in each kid.
