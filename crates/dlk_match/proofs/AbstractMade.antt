@@ -1,10 +1,9 @@
 -- What abstracts a well-made tree is well made, and of its sort.
-use Rattle.std.proofs.Common.{◌≡◌, refl, sym, ap, subst, ◌∙◌, List, ◌∷◌, Bool, true, false, cond, inl, inr}
+use Rattle.std.proofs.Common.{◌≡◌, refl, sym, ap, subst, ◌∙◌, ◌∷◌, Bool, true, false, cond, inl, inr}
 use Rattle.dlk_tree.specs.declared.op.Var.{Var}
-use Rattle.dlk_tree.specs.declared.op.Sort.{Sort}
 use Rattle.dlk_tree.specs.declared.op.Op.{Op}
 use Rattle.dlk_tree.specs.declared.op.Op.TheVariants as Op'
-use Rattle.dlk_tree.specs.Table.{sort_of, Fits}
+use Rattle.dlk_tree.specs.Table.{sort_of}
 use Rattle.dlk_tree.specs.Trees.{Tree, node, Forest, no_kids, kid, sort, sorts, WellMade, AllWellMade}
 use Rattle.dlk_calculus.specs.Captures.{captures}
 use Rattle.dlk_calculus.specs.Kids.{later}
@@ -28,7 +27,8 @@ module _ (v : Var) where
   same_sorts (kid e es) = let a = same_sort e in let b = same_sorts es in λ i. a i ∷ b i
 
   -- all stay as they were, or all but the first
-  captured_made : (op : Op) (es : Forest) → AllWellMade es → AllWellMade (abstracted_all v es) → AreMadeLike es (ending_in ((captures op).reach es) (abstracted_all v es))
+  captured_made : (op : Op) (es : Forest) → AllWellMade es → AllWellMade (abstracted_all v es) →
+      AreMadeLike es (ending_in ((captures op).reach es) (abstracted_all v es))
   captured_made op es made new = elim (reached op es) [
     | inl e ↦ subst (λ tail. AreMadeLike es (ending_in tail (abstracted_all v es))) (sym e) (whole es made)
     | inr e ↦ subst (λ tail. AreMadeLike es (ending_in tail (abstracted_all v es))) (sym e) (first_alone es made new)

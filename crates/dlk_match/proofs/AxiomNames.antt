@@ -1,4 +1,4 @@
--- In an axiom only its own names stand, and it is well made. What has both has it in each kid.
+-- In an axiom only its own names stand, and it is well made. What has both has it in each kid, in the first and in the last.
 use Rattle.std.proofs.Common.{◌≡◌, refl, subst, ℕ, List, [], ◌∷◌, map, Bool, true, false, not, cond, Some, find}
 use Rattle.std.specs.Prelude.{All, IsTrue}
 use Rattle.std.specs.List.{list_all}
@@ -6,8 +6,10 @@ use Rattle.std.specs.Str.{bytes_eq}
 use Rattle.std.proofs.lemmas.Bool.{or_parts, and_parts}
 use Rattle.std.proofs.lemmas.Option.{none-some, same_Some}
 use Rattle.std.proofs.lemmas.List.Elements.{All-nil, All-cons, All-head, All-tail}
-use Rattle.dlk_tree.specs.Trees.{Forest, no_kids, kid, trees_in, WellMade, AllWellMade}
+use Rattle.dlk_tree.specs.declared.op.Op.TheVariants.{True}
+use Rattle.dlk_tree.specs.Trees.{node, Forest, no_kids, kid, trees_in, WellMade, AllWellMade}
 use Rattle.dlk_tree.specs.Occurs.{has, any_has}
+use Rattle.dlk_calculus.specs.Kids.{first, last}
 use Rattle.dlk_calculus.specs.Axioms.{Axiom, axioms, axiom_named}
 use Rattle.dlk_calculus.specs.Sequents.{IsFormula}
 use Rattle.dlk_match.specs.Instances.{has_other_name, HasOwnNames}
@@ -46,3 +48,17 @@ each_own own (kid t rest) h = let parts = or_parts _ _ h in All-cons (HasOwnName
 pub each_made : (kids : Forest) → AllWellMade kids → All WellMade (trees_in kids)
 each_made no_kids h = All-nil WellMade
 each_made (kid t rest) h = All-cons WellMade t (trees_in rest) h.0 (each_made rest h.1)
+
+-- the first kid and the last, and `true` where there is none
+pub ends_own : (own : List (List ℕ)) (kids : Forest) → any_has (has_other_name own) kids ≡ false → HasOwnNames own (first kids) × HasOwnNames own (last kids)
+ends_own own no_kids h = (refl, refl)
+ends_own own (kid t no_kids) h = let parts = or_parts _ _ h in (parts.0, parts.0)
+ends_own own (kid t (kid u rest)) h = let parts = or_parts _ _ h in (parts.0, (ends_own own (kid u rest) parts.1).1)
+
+true_made : WellMade (node True no_kids)
+true_made = (record { kids_fit = refl; parts_fit = refl }, tt)
+
+pub ends_made : (kids : Forest) → AllWellMade kids → WellMade (first kids) × WellMade (last kids)
+ends_made no_kids h = (true_made, true_made)
+ends_made (kid t no_kids) h = (h.0, h.0)
+ends_made (kid t (kid u rest)) h = (h.0, (ends_made (kid u rest) h.1).1)

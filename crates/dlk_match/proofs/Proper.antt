@@ -1,18 +1,17 @@
 -- Matching a well-made target gives names that are names and replacements that are well made.
-use Rattle.std.proofs.Common.{◌≡◌, ◌∙◌, refl, sym, ap, subst, ℕ, ◌≤◌, List, [], ◌∷◌, ◌++◌, length, length-append, Bool, Option, Some, None, arith}
-use Rattle.std.specs.Prelude.{All, IsTrue}
+use Rattle.std.proofs.Common.{◌≡◌, ◌∙◌, sym, ap, subst, ℕ, List, [], ◌∷◌, ◌++◌, length, length-append, Option, Some, None, arith}
+use Rattle.std.specs.Prelude.{IsTrue}
 use Rattle.std.specs.List.{list_all}
 use Rattle.std.proofs.lemmas.Bool.{and_parts}
 use Rattle.std.proofs.lemmas.List.Elements.{All-push, All-map}
 use Rattle.dlk_tree.specs.declared.op.Var.{Var}
 use Rattle.dlk_tree.specs.declared.op.Sym.{Sym}
 use Rattle.dlk_tree.specs.declared.op.OdeItem.{OdeItem}
-use Rattle.dlk_tree.specs.declared.op.OdeItem.TheVariants as Item
 use Rattle.dlk_tree.specs.declared.op.Op.{Op}
 use Rattle.dlk_tree.specs.declared.op.Op.TheVariants as Op'
 use Rattle.dlk_tree.specs.Names.{is_name}
-use Rattle.dlk_tree.specs.Table.{is_item, Fits, has_parts}
-use Rattle.dlk_tree.specs.Trees.{Tree, node, Forest, no_kids, kid, forest, sorts, WellMade, AllWellMade}
+use Rattle.dlk_tree.specs.Table.{is_item, has_parts}
+use Rattle.dlk_tree.specs.Trees.{Tree, node, Forest, no_kids, kid, forest, WellMade, AllWellMade}
 use Rattle.dlk_calculus.specs.Kids.{last}
 use Rattle.dlk_calculus.specs.Pairs.{Pair, Extra, replacement, AreWellMade}
 use Rattle.dlk_calculus.specs.Subst.{Member, Equation}
@@ -92,7 +91,6 @@ take_proper (two_constants {s = s} {t = t} {m = m} {n = n} {ms = ms} {old = old}
 
 module _ (e : Tree) (Kids : Forest → Extra → Extra → Type 0) (old new : Extra) (target : IsTarget e)
     (rest : (es : Forest) (mid : Extra) → Kids es mid new → AreTargets es → KeepsProper mid new) where
-
   over_proper : (op : Op) (mid : Extra) → Over op e Kids mid new → KeepsProper mid new
   over_proper op mid m = rest m.0 mid m.2 (target_kids op m.0 (subst IsTarget m.1 target))
 

@@ -1,18 +1,18 @@
 -- A system of some members of a well-made one is well made.
-use Rattle.std.proofs.Common.{◌≡◌, ◌∙◌, refl, sym, ap, subst, ℕ, ◌+◌, ◌≤◌, List, [], ◌∷◌, ◌++◌, length, replicate, Bool, true, false, not, ◌||◌, ◌&&◌, nat_le, length-append}
+use Rattle.std.proofs.Common.{◌≡◌, ◌∙◌, refl, sym, ap, ℕ, ◌≤◌, List, [], ◌∷◌, ◌++◌, length, Bool, true, false, not, ◌&&◌}
 use Rattle.std.proofs.Common.{arith, suc, le-leb, leb-true}
 use Rattle.std.specs.Prelude.{IsTrue}
 use Rattle.std.specs.List.{list_all, list_any}
 use Rattle.std.specs.Str.{bytes_eq}
 use Rattle.std.proofs.lemmas.Bool.{or_parts, or_from, and_parts}
 use Rattle.dlk_tree.specs.declared.op.Kind.TheVariants.{Ode}
-use Rattle.dlk_tree.specs.declared.op.Sort.TheVariants.{Term, Formula}
+use Rattle.dlk_tree.specs.declared.op.Sort.TheVariants.{Term}
 use Rattle.dlk_tree.specs.declared.op.OdeItem.{OdeItem}
 use Rattle.dlk_tree.specs.declared.op.OdeItem.TheVariants as Item
 use Rattle.dlk_tree.specs.declared.op.Op.TheVariants as Op'
 use Rattle.dlk_tree.specs.Names.{is_name}
-use Rattle.dlk_tree.specs.Table.{evolved, all_distinct, is_item, is_sym_of, are_items, kid_sorts}
-use Rattle.dlk_tree.specs.Trees.{Tree, node, Forest, no_kids, kid, sort, sorts, WellMade, AllWellMade}
+use Rattle.dlk_tree.specs.Table.{evolved, all_distinct, is_item, is_sym_of, kid_sorts}
+use Rattle.dlk_tree.specs.Trees.{node, Forest, no_kids, kid, sort, sorts, WellMade, AllWellMade}
 use Rattle.dlk_calculus.specs.Subst.{Member, Equation, Constant, members, items_of, kids_of}
 use Rattle.dlk_match.specs.Matching.{system_of}
 use Rattle.dlk_match.proofs.Growing.{and_from}
@@ -21,7 +21,8 @@ use Rattle.dlk_match.proofs.SystemsBack.{items_back}
 -- members of a system: names that are evolved once, right sides that are well-made terms, and constants
 abbrev pub AreMembers : List Member → Type 0
 AreMembers [] = Unit {0}
-AreMembers (Equation x side ∷ ms) = IsTrue (is_name x) × (list_any (bytes_eq x) (evolved (items_of ms)) ≡ false) × (sort side ≡ Term) × WellMade side × AreMembers ms
+AreMembers (Equation x side ∷ ms) =
+    IsTrue (is_name x) × (list_any (bytes_eq x) (evolved (items_of ms)) ≡ false) × (sort side ≡ Term) × WellMade side × AreMembers ms
 AreMembers (Constant s ∷ ms) = IsTrue (is_sym_of Ode s) × AreMembers ms
 
 not_any : (b c : Bool) → IsTrue (not b && c) → b ≡ false
@@ -44,7 +45,8 @@ members_made (Item.Const s ∷ items) kids all once fit made =
 
 -- ---- some of them
 
-none_of_some : (x : List ℕ) (ms ns : List Member) → list_any (bytes_eq x) (evolved (items_of (ms ++ ns))) ≡ false → list_any (bytes_eq x) (evolved (items_of ms)) ≡ false
+none_of_some : (x : List ℕ) (ms ns : List Member) → list_any (bytes_eq x) (evolved (items_of (ms ++ ns))) ≡ false →
+    list_any (bytes_eq x) (evolved (items_of ms)) ≡ false
 none_of_some x [] ns h = refl
 none_of_some x (Equation y side ∷ ms) ns h = let parts = or_parts _ _ h in or_from _ _ parts.0 (none_of_some x ms ns parts.1)
 none_of_some x (Constant s ∷ ms) ns h = none_of_some x ms ns h
@@ -90,11 +92,13 @@ pub system_made : (ms : List Member) → AreMembers ms → 1 ≤ length ms → l
 system_made ms h some few =
     let count = as_many ms in
     let one_at_least : 1 ≤ length (items_of ms) = omega (arith, count, some) in
-    let at_most : length (items_of ms) ≤ 64 = omega (arith, count, few) in
-    (record {
-      kids_fit = sides_sorts ms h;
-      parts_fit = true_and _ _ _ _ (le-leb _ _ one_at_least) (le-leb _ _ at_most) (each_item ms h) (each_once ms h);
-    }, sides_made ms h)
+    let at_most : length (items_of ms) ≤ 64 = omega (arith, count, few) in (
+      record {
+        kids_fit = sides_sorts ms h;
+        parts_fit = true_and _ _ _ _ (le-leb _ _ one_at_least) (le-leb _ _ at_most) (each_item ms h) (each_once ms h);
+      },
+      sides_made ms h,
+    )
 
 -- the members of a well-made system
 pub record HasMembers (ms : List Member) : Type 0 where

@@ -30,7 +30,8 @@ unchanged change a same (r ∷ renames) = ap (in_turn change renames) (go (bytes
 
 -- a change that goes to the one part, and one that goes to both
 pub carried : {A B : Type 0} (make : A → B) (part : List ℕ → List ℕ → A → A) (whole : List ℕ → List ℕ → B → B) →
-    ((x y : List ℕ) (a : A) → whole x y (make a) ≡ make (part x y a)) → (renames : Names) (a : A) → in_turn whole renames (make a) ≡ make (in_turn part renames a)
+    ((x y : List ℕ) (a : A) → whole x y (make a) ≡ make (part x y a)) → (renames : Names) (a : A) →
+    in_turn whole renames (make a) ≡ make (in_turn part renames a)
 carried {A = A} {B = B} make part whole same [] a = refl
 carried {A = A} {B = B} make part whole same (r ∷ renames) a = go (carried make part whole same renames) (bytes_eq r.0 r.1)
   where

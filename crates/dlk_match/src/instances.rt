@@ -6,6 +6,7 @@ ghost use Rattle.dlk_tree.specs.declared.op.Var.{Var};
 ghost use Rattle.dlk_tree.specs.Trees.{Tree, node, Forest, no_kids, trees_in, WellMade};
 ghost use Rattle.dlk_tree.specs.Occurs.{has_dots};
 ghost use Rattle.dlk_calculus.specs.Axioms.{Axiom, axiom_named};
+ghost use Rattle.dlk_calculus.specs.Kids.{first, last};
 ghost use Rattle.dlk_calculus.specs.Notation.{eq};
 ghost use Rattle.dlk_calculus.specs.Pairs.{Pair, Extra, IsWellFormed, AreWellMade};
 ghost use Rattle.dlk_calculus.specs.Plug.{Plug};
@@ -31,12 +32,15 @@ pub fn match_is_proper()
     ensures made { (own : List (List ℕ)) (key target : Tree) (given extra : Extra) → WellMade key → WellMade target → has_dots target ≡ false → AreWellMade given.pairs → Match key own target given extra → AreWellMade extra.pairs }
 {}
 
-/// In an axiom only its own names stand, and it is well made. What has both has it in each kid.
+/// In an axiom only its own names stand, and it is well made. What has both has it in each kid, and in the first and the last where
+/// there may be none.
 pub fn axioms_have_own_names()
     ensures names { (name : List ℕ) (a : Axiom) → axiom_named name ≡ Some a → HasOwnNames a.own_names a.formula }
     ensures made { (name : List ℕ) (a : Axiom) → axiom_named name ≡ Some a → WellMade a.formula }
     ensures kids_names { (own : List (List ℕ)) (op : Op) (kids : Forest) → HasOwnNames own (node op kids) → All (HasOwnNames own) (trees_in kids) }
     ensures kids_made { (op : Op) (kids : Forest) → WellMade (node op kids) → All WellMade (trees_in kids) }
+    ensures ends_names { (own : List (List ℕ)) (op : Op) (kids : Forest) → HasOwnNames own (node op kids) → HasOwnNames own (first kids) × HasOwnNames own (last kids) }
+    ensures ends_made { (op : Op) (kids : Forest) → WellMade (node op kids) → WellMade (first kids) × WellMade (last kids) }
 {
     axiom_formulas();
 }
