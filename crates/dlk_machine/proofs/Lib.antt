@@ -18,6 +18,7 @@ pub mod PairStates
 pub mod PairEnds
 pub mod PairLaws
 pub mod PairExamples
+pub mod ExtraExamples
 pub mod ParseLaws
 pub mod PairsFormed
 pub mod Stopping
