@@ -1,7 +1,7 @@
 -- Texts of renames and pairs with what they say, and texts that are none, with where they stop.
 use Rattle.std.specs.Prelude.{◌≡◌, refl, false, [], ◌∷◌, Ok, Err, codes}
 use Rattle.dlk_tree.specs.declared.op.Num.{Num}
-use Rattle.dlk_tree.specs.declared.op.Kind.TheVariants.{Pred, UnitFunc, UnitPred}
+use Rattle.dlk_tree.specs.declared.op.Kind.TheVariants.{UnitFunc, UnitPred}
 use Rattle.dlk_grammar.specs.declared.token.Dots.TheVariants.{Allowed}
 use Rattle.dlk_grammar.specs.declared.token.Infix.TheVariants.{Greater, AtLeast}
 use Rattle.dlk_grammar.specs.Lexemes.{Word, Name, Number, RoundBar, BarRound, RoundBars, Open, Close, Comma, Becomes, Swaps, Op}
