@@ -28,7 +28,7 @@ HasOtherSort s (Some t) = sort t ≢ s
 -- the tree of an id with that of a new one at the path, where one of the same sort stands
 pub record IsPut (before after : List Tree) (id : Id) (path : List ℕ) (new made : Id) : Type 0 where
   pub same_sort : HasSort (sort (tree before new)) (subtree (tree before id) path)
-  pub made : StandsFor after made (put_at (tree before id) path (tree before new))
+  pub stands : StandsFor after made (put_at (tree before id) path (tree before new))
 
 -- why there is none: want of memory always may be
 abbrev pub IsPutFault : List Tree → Id → List ℕ → Id → PutFault → Type 0
@@ -68,6 +68,13 @@ pub record IsSpineOf (trees : List Tree) (id : Id) (path : List ℕ) (way : Way)
   pub starts : top way ≡ id
   pub goes : path_of way ≡ path
   pub spine : IsSpine trees way
+
+-- the way along the first kids, and the way on from its end
+abbrev pub outer_part : Way → ℕ → Way
+outer_part way n = record { turns = take n way.turns; found = start (drop n way.turns) way.found }
+
+abbrev pub inner_part : Way → ℕ → Way
+inner_part way n = record { turns = drop n way.turns; found = way.found }
 
 -- the smallest formula round what is found
 pub record IsInnermostOf (trees : List Tree) (way : Way) (i : Innermost) : Type 0 where
