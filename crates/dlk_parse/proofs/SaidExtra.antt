@@ -3,18 +3,17 @@ use Rattle.std.proofs.Common.{◌≡◌, List, length, map, refl, sym, ap, subst
 use Rattle.std.specs.Prelude.{flat_map}
 use Rattle.std.proofs.lemmas.List.Elements.{All-map}
 use Rattle.dlk_tree.specs.Trees.{Tree, WellMade}
-use Rattle.dlk_calculus.specs.Pairs.{Pair as TreePair, Extra as TreeExtra}
+use Rattle.dlk_calculus.specs.Pairs.{Pair as TreePair}
 use Rattle.dlk_store.specs.declared.Id.{Id}
 use Rattle.dlk_store.specs.Stores.{tree}
 use Rattle.dlk_sequent.specs.Substitutions.{pairs_at}
 use Rattle.dlk_sequent.specs.Extras.{extra_at}
-use Rattle.dlk_sequent.specs.declared.subst.Pair.{Pair}
 use Rattle.dlk_sequent.specs.declared.extra.Extra.{Extra}
 use Rattle.dlk_grammar.specs.declared.token.Token.{Token}
 use Rattle.dlk_grammar.specs.declared.token.Dots.TheVariants.{Allowed}
 use Rattle.dlk_grammar.specs.RealTokens.{AreTokens}
 use Rattle.dlk_grammar.specs.Erased.{erase, ills}
-use Rattle.dlk_grammar.specs.Substitutions.{PairPhrase, replacements, erase_pairs}
+use Rattle.dlk_grammar.specs.Substitutions.{PairPhrase, erase_pairs}
 use Rattle.dlk_grammar.specs.Extras.{ReadsExtra, extra_replacements, erase_extra, AreExtra, AreExtraFault}
 use Rattle.dlk_machine.proofs.ParseLaws.{one_extra_read}
 use Rattle.dlk_machine.proofs.TextLaws.{extra_ills_below, extra_well_made}

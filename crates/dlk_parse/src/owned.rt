@@ -17,9 +17,7 @@ use crate::fault::ParseFault;
 use crate::limits::check_code;
 use crate::making::make_all;
 use crate::scan::scan;
-use dlk_forms::{
-    ExtraCode, PairsCode, SidesCode, read_extra, read_pairs, read_sides, read_tree,
-};
+use dlk_forms::{ExtraCode, PairsCode, SidesCode, read_extra, read_pairs, read_sides, read_tree};
 use dlk_grammar::{Dots, Form, Token};
 use dlk_reader::Code;
 use dlk_sequent::{Extra, Listed, Pair, Sequent};

@@ -150,11 +150,7 @@ pub fn substitution<S: Store>(
 /// What the tokens give a use of an axiom beside its name: renames joined by `,`, each a name, `~~` and the name that it
 /// gets, and behind them the pairs of a substitution, joined by `,`; or one of these alone, or nothing. Argument dots and
 /// `_` are in the grammar. The tokens and the errors are those of `substitution`.
-pub fn extra<S: Store>(
-    alloc: Global,
-    tokens: &[Token],
-    store: &mut S,
-) -> Result<Extra, ParseFault>
+pub fn extra<S: Store>(alloc: Global, tokens: &[Token], store: &mut S) -> Result<Extra, ParseFault>
     requires { AreTokens tokens.now }
     ensures found { IfOk result (λ extra. AreExtra tokens.now (extra_at (S.trees store.new) extra)) }
     ensures known { IfOk result (IsKnownExtra (S.trees store.new)) }

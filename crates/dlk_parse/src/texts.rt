@@ -96,11 +96,7 @@ pub fn read_substitution<S: Store>(
 
 /// What the bytes give a use of an axiom beside its name, by the grammar of `extra`. The errors are those of
 /// `read_substitution`.
-pub fn read_extra<S: Store>(
-    alloc: Global,
-    bytes: &[u8],
-    store: &mut S,
-) -> Result<Extra, TextFault>
+pub fn read_extra<S: Store>(alloc: Global, bytes: &[u8], store: &mut S) -> Result<Extra, TextFault>
     ensures found { IfOk result (λ extra. ExtraText bytes.now (extra_at (S.trees store.new) extra)) }
     ensures known { IfOk result (IsKnownExtra (S.trees store.new)) }
     ensures fault { IfErr result (IsTextFaultOf (ExtraTextFault bytes.now)) }
