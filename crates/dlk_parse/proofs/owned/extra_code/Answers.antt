@@ -9,7 +9,8 @@ use Rattle.dlk_parse.proofs.owned.extra_code.Goals as goal
 pub returns-in_err-starts-clause-fault : goal.returns-in_err-starts-clause-fault
 returns-in_err-starts-clause-fault c =
     let w = err_from_is_err_and c.from_residual.result c.from_residual.ensures.1 in
-    rw (w.1, w.2) (unruly ReadsExtra extra_replacements one_extra_read Allowed c.args.tokens.items c.in_err-starts.field-0.0 (rw c.as_slice.ensures.value at c.in_err-starts.ensures.limits))
+    rw (w.1, w.2) (unruly ReadsExtra extra_replacements one_extra_read Allowed c.args.tokens.items c.in_err-starts.field-0.0
+    (rw c.as_slice.ensures.value at c.in_err-starts.ensures.limits))
 
 pub returns-in_err-extra-clause-fault : goal.returns-in_err-extra-clause-fault
 returns-in_err-extra-clause-fault c =

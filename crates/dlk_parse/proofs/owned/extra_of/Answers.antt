@@ -9,8 +9,8 @@ make_all-requires g c = extra_code_made c.args.tokens.items c.in_ok-renames.fiel
 
 pub returns-clause-found : goal.returns-clause-found
 returns-clause-found g c =
-    extra_found c.args.tokens.items c.in_ok-renames.field-0 c.in_ok-renames.ensures.read (g.S.Store.trees c.make_all.new.store) c.in_ok-ids.ids.items c.in_ok-ids.ensures.made
-    (record { renames = c.from_vec.result; pairs = c.from_vec-2.result }) c.from_vec.ensures
+    extra_found c.args.tokens.items c.in_ok-renames.field-0 c.in_ok-renames.ensures.read (g.S.Store.trees c.make_all.new.store)
+    c.in_ok-ids.ids.items c.in_ok-ids.ensures.made (record { renames = c.from_vec.result; pairs = c.from_vec-2.result }) c.from_vec.ensures
     (ap (map (λ (p : Pair). p.sym)) c.from_vec-2.ensures ∙ c.in_ok-pairs.ensures.symbols)
     (ap (map (λ (p : Pair). p.by)) c.from_vec-2.ensures ∙ c.in_ok-pairs.ensures.ids ∙ c.as_slice.ensures.value)
 
