@@ -1,5 +1,5 @@
 -- Steps of which none is refused for unlike formulas.
-use Rattle.std.proofs.Common.{◌≡◌, ℕ, ◌+◌, List, [], ◌∷◌, ◌++◌, length, refl, sym, ap, subst, ◌∙◌, arith, length-append, Some}
+use Rattle.std.proofs.Common.{◌≡◌, ℕ, suc, ◌+◌, List, [], ◌∷◌, ◌++◌, length, refl, sym, ap, subst, ◌∙◌, arith, length-append, Some}
 use Rattle.dlk_calculus.specs.declared.reason.Reason.TheVariants.{NotEqual}
 use Rattle.dlk_calculus.specs.Axioms.{AxiomaticRule, rule_named}
 use Rattle.dlk_calculus.specs.Pairs.{Pair, IsWellFormed}
@@ -10,7 +10,7 @@ use Rattle.dlk_calculus.specs.Rules.{Rule, RuleAgainst, Premises}
 use Rattle.dlk_calculus.specs.Steps.{Step, Start, UseAxiom, UseRule, Leaf, Apply, Merge, Substitute, IsGoal, StepOf, Gives}
 use Rattle.dlk_calculus.specs.Steps.{start as by_start, use_rule as by_rule, leaf as by_leaf, apply as by_apply, merge as by_merge, substitute as by_substitution}
 use Rattle.dlk_uses.specs.Taking.{FirstFault}
-use Rattle.dlk_uses.proofs.Places.{at_one, At-more, At-between, put_first, put_second}
+use Rattle.dlk_uses.proofs.Places.{at_one, At-more, At-between, put_first, put_second, put_later}
 use Rattle.dlk_uses.proofs.Taking.{FaultFrom, at_once, later, fault_from, no_fault}
 use Rattle.dlk_uses.proofs.Unequal.{Unlike, unlike_fault}
 
@@ -33,6 +33,10 @@ added rows n row e = record {
 
 pub goal_kept : (rows after : List Provable) (n m goal : ℕ) (row : Provable) (s : Sequent) → Added rows n row after → IsGoal rows m goal s → IsGoal after m goal s
 goal_kept rows after n m goal row s is g = (g.0, is.keeps m g.0 g.1, g.2)
+
+-- a goal that stands so many places behind another, and one more
+abbrev pub IsBehind : List Provable → ℕ → ℕ → ℕ → Sequent → Type 0
+IsBehind rows m goal k z = IsGoal rows m (goal + suc k) z
 
 pub no_steps : (rows : List Provable) → Fit rows []
 no_steps rows = no_fault rows NotEqual
@@ -155,3 +159,36 @@ premises_fit rows n m goal rule s a b steps e g like are others =
       let now = subst (λ x. Added rows n (applied g.0 goal x) after) (are premises makes) added in
       let row = applied g.0 goal (a ∷ b ∷ []) in
       others row after now (row, now.last, put_first g.0.goals goal s a (b ∷ []) g.2) (row, now.last, put_second g.0.goals goal s a b [] g.2))
+
+-- two premises, with what stands behind the goal
+pub premises_fit_before : (rows : List Provable) (n m goal k : ℕ) (rule : Rule) (s a b z : Sequent) (steps : List Step) → n ≡ length rows →
+    IsGoal rows m goal s → IsBehind rows m goal k z → ¬ RuleAgainst NotEqual rule s →
+    ((premises : List Sequent) → Premises rule s premises → premises ≡ a ∷ b ∷ []) →
+    ((row : Provable) (after : List Provable) → Added rows n row after → IsGoal after (n + 1) goal a → IsGoal after (n + 1) (goal + 1) b →
+      IsBehind after (n + 1) goal (suc k) z → Fit after steps) →
+    Fit rows (Apply m goal rule ∷ steps)
+premises_fit_before rows n m goal k rule s a b z steps e g behind like are others =
+    apply_fits rows n m goal rule g.0 s steps e g.1 g.2 like
+    (λ premises after makes added.
+      let now = subst (λ x. Added rows n (applied g.0 goal x) after) (are premises makes) added in
+      let row = applied g.0 goal (a ∷ b ∷ []) in
+      let same : behind.0 ≡ g.0 = at_one rows m behind.0 g.0 behind.1 g.1 in
+      let later : At g.0.goals (goal + suc k) z = subst (λ (p : Provable). At p.goals (goal + suc k) z) same behind.2 in
+      others row after now (row, now.last, put_first g.0.goals goal s a (b ∷ []) g.2) (row, now.last, put_second g.0.goals goal s a b [] g.2)
+      (row, now.last, put_later g.0.goals goal s (a ∷ b ∷ []) k (goal + suc (suc k)) z g.2 later (omega arith)))
+
+-- no premises: what stands behind the goal comes one place nearer
+pub closing_fits : (rows : List Provable) (n m goal : ℕ) (rule : Rule) (s : Sequent) (steps : List Step) → n ≡ length rows →
+    IsGoal rows m goal s → ¬ RuleAgainst NotEqual rule s → ((premises : List Sequent) → Premises rule s premises → premises ≡ []) →
+    ((after : List Provable) (row : Provable) → Added rows n row after →
+      ((k : ℕ) (z : Sequent) → IsBehind rows m goal k z → IsGoal after (n + 1) (goal + k) z) → Fit after steps) →
+    Fit rows (Apply m goal rule ∷ steps)
+closing_fits rows n m goal rule s steps e g like are others =
+    apply_fits rows n m goal rule g.0 s steps e g.1 g.2 like
+    (λ premises after makes added.
+      let now = subst (λ x. Added rows n (applied g.0 goal x) after) (are premises makes) added in
+      others after (applied g.0 goal []) now
+      (λ k z behind.
+        let same : behind.0 ≡ g.0 = at_one rows m behind.0 g.0 behind.1 g.1 in
+        let later : At g.0.goals (goal + suc k) z = subst (λ (p : Provable). At p.goals (goal + suc k) z) same behind.2 in
+        (applied g.0 goal [], now.last, put_later g.0.goals goal s [] k (goal + k) z g.2 later (omega arith))))

@@ -4,3 +4,7 @@ pub mod Unequal
 pub mod Fitting
 pub mod Premises
 pub mod Exchanging
+pub mod Conditional
+pub mod Substituted
+pub mod Terms
+pub mod Blocks

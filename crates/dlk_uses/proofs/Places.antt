@@ -1,5 +1,5 @@
 -- Items by their places.
-use Rattle.std.proofs.Common.{◌≡◌, ℕ, suc, zero, ◌+◌, ◌-◌, List, ◌∷◌, ◌++◌, length, take, drop, get_or, refl, sym, subst, ap, ◌∙◌, Some, None}
+use Rattle.std.proofs.Common.{◌≡◌, ℕ, suc, zero, ◌+◌, ◌-◌, List, [], ◌∷◌, ◌++◌, length, take, drop, get_or, refl, sym, subst, ap, ◌∙◌, Some, None}
 use Rattle.std.proofs.Common.{nat_eq, true, false, cond, arith, length-append, append_assoc}
 use Rattle.std.specs.List.{All, slice_get, slice_set}
 use Rattle.std.proofs.lemmas.Option.{get_or_from_slice_get, slice_get_within, slice_get-get_or}
@@ -89,3 +89,27 @@ put_there items (suc n) x y h =
     at_suc (put items (suc n) y) n ∙ ap (λ k. slice_get (slice_set items k y) n) one
     ∙ slice_get-get_or (slice_set items n y) n x (omega (arith, slice_get_within items n x here, length-set items n y))
     ∙ ap Some (get_or-set_at items n n y x refl (slice_get_within items n x here))
+
+-- an item behind others, and one behind the item that gives way
+At-back : {A : Type 0} (front items : List A) (n : ℕ) (x : A) → At (front ++ items) (length front + suc n) x → At items (suc n) x
+At-back front items n x h =
+    let same : length front + suc n ≡ suc (length front + n) = omega arith in
+    let here : slice_get (front ++ items) (length front + n) ≡ Some x =
+    sym (at_suc (front ++ items) (length front + n)) ∙ subst (λ k. At (front ++ items) k x) same h in
+    let lt = slice_get_within (front ++ items) (length front + n) x here in
+    let is : get_or items n x ≡ x = sym (get_or-append-add front items n x) ∙ get_or_from_slice_get (front ++ items) (length front + n) x x here in
+    at_suc items n ∙ slice_get-get_or items n x (omega (arith, lt, length-append front items)) ∙ ap Some is
+
+pub put_later : {A : Type 0} (items : List A) (place : ℕ) (x : A) (new : List A) (k m : ℕ) (z : A) → At items place x → At items (place + suc k) z →
+    m + 1 ≡ place + length new + suc k → At (put_all items place new) m z
+put_later items place x new k m z h later e =
+    let front = take (place - 1) items in
+    let back = drop place items in
+    let there = At_place items place x h in
+    let n : length front + 1 ≡ place = omega (arith, there.0, there.1, length-take-le (place - 1) items (omega (arith, there.0, there.1))) in
+    let split : items ≡ (front ++ x ∷ []) ++ back = split_at items place x h ∙ sym (append_assoc front (x ∷ []) back) in
+    let long : place + suc k ≡ length (front ++ x ∷ []) + suc k = omega (arith, n, length-append front (x ∷ [])) in
+    let its : At back (suc k) z = At-back (front ++ x ∷ []) back k z (subst (λ l. At l (length (front ++ x ∷ []) + suc k) z) split
+    (subst (λ i. At items i z) long later)) in
+    let at : length (front ++ new) + suc k ≡ m = omega (arith, n, e, length-append front new) in
+    subst (λ i. At ((front ++ new) ++ back) i z) at (At-behind (front ++ new) back (suc k) z its)
