@@ -58,7 +58,7 @@ pub record PathLaws : Type 0 where
   pub dot : (e : Tree) (path : List ℕ) (a t : Tree) → has_dots e ≡ false → Plug (a ∷ []) (put_at e path (node (Op'.Dot 0) no_kids)) t → t ≡ put_at e path a
 
 module _ (laws : PathLaws) where
-  put_side : (direction : Direction) (e : Tree) (path : List ℕ) (l r : Tree) → subtree e path ≡ Some (old_side direction l r) →
+  pub put_side : (direction : Direction) (e : Tree) (path : List ℕ) (l r : Tree) → subtree e path ≡ Some (old_side direction l r) →
       old_side direction (put_at e path l) (put_at e path r) ≡ e
   put_side Forwards e path l r h = laws.itself e path l h
   put_side Backwards e path l r h = laws.itself e path r h

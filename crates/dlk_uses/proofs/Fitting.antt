@@ -1,14 +1,14 @@
 -- Steps of which none is refused for unlike formulas.
 use Rattle.std.proofs.Common.{◌≡◌, ℕ, suc, ◌+◌, List, [], ◌∷◌, ◌++◌, length, refl, sym, ap, subst, ◌∙◌, arith, length-append, Some}
 use Rattle.dlk_calculus.specs.declared.reason.Reason.TheVariants.{NotEqual}
-use Rattle.dlk_calculus.specs.Axioms.{AxiomaticRule, rule_named}
+use Rattle.dlk_calculus.specs.Axioms.{Axiom, AxiomaticRule, axiom_named, rule_named}
 use Rattle.dlk_calculus.specs.Pairs.{Pair, IsWellFormed}
 use Rattle.dlk_calculus.specs.Places.{At}
 use Rattle.dlk_calculus.specs.Sequents.{Sequent}
-use Rattle.dlk_calculus.specs.Provables.{Provable, started, assumed, inferred, applied, merged, Substitutes}
+use Rattle.dlk_calculus.specs.Provables.{Provable, started, known, assumed, inferred, applied, merged, Substitutes}
 use Rattle.dlk_calculus.specs.Rules.{Rule, RuleAgainst, Premises}
 use Rattle.dlk_calculus.specs.Steps.{Step, Start, UseAxiom, UseRule, Leaf, Apply, Merge, Substitute, IsGoal, StepOf, Gives}
-use Rattle.dlk_calculus.specs.Steps.{start as by_start, use_rule as by_rule, leaf as by_leaf, apply as by_apply, merge as by_merge, substitute as by_substitution}
+use Rattle.dlk_calculus.specs.Steps.{start as by_start, use_axiom as by_axiom, use_rule as by_rule, leaf as by_leaf, apply as by_apply, merge as by_merge, substitute as by_substitution}
 use Rattle.dlk_uses.specs.Taking.{FirstFault}
 use Rattle.dlk_uses.proofs.Places.{at_one, At-more, At-between, put_first, put_second, put_later}
 use Rattle.dlk_uses.proofs.Taking.{FaultFrom, at_once, later, fault_from, no_fault}
@@ -58,6 +58,15 @@ pub rule_fits : (rows : List Provable) (n : ℕ) (name : List ℕ) (r : Axiomati
 rule_fits rows n name r steps e is others =
     step_fits rows n (UseRule name) steps e (λ u. u)
     (λ row after gives added. others after (subst (λ x. Added rows n x after) (gives_rule rows name r row is gives) added))
+
+gives_axiom : (rows : List Provable) (name : List ℕ) (a : Axiom) (p : Provable) → axiom_named name ≡ Some a → Gives rows (UseAxiom name) p → p ≡ known a.formula
+gives_axiom rows name a _ e (by_axiom _ other is) = let same : other ≡ a = cc in ap (λ (x : Axiom). known x.formula) same
+
+pub axiom_fits : (rows : List Provable) (n : ℕ) (name : List ℕ) (a : Axiom) (steps : List Step) → n ≡ length rows → axiom_named name ≡ Some a →
+    ((after : List Provable) → Added rows n (known a.formula) after → Fit after steps) → Fit rows (UseAxiom name ∷ steps)
+axiom_fits rows n name a steps e is others =
+    step_fits rows n (UseAxiom name) steps e (λ u. u)
+    (λ row after gives added. others after (subst (λ x. Added rows n x after) (gives_axiom rows name a row is gives) added))
 
 gives_start : (rows : List Provable) (s : Sequent) (p : Provable) → Gives rows (Start s) p → p ≡ started s
 gives_start rows s _ (by_start _ is) = refl

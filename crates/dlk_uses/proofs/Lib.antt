@@ -8,3 +8,5 @@ pub mod Conditional
 pub mod Substituted
 pub mod Terms
 pub mod Blocks
+pub mod Equations
+pub mod Boxes

@@ -1,9 +1,9 @@
 -- Items by their places.
-use Rattle.std.proofs.Common.{◌≡◌, ℕ, suc, zero, ◌+◌, ◌-◌, List, [], ◌∷◌, ◌++◌, length, take, drop, get_or, refl, sym, subst, ap, ◌∙◌, Some, None}
+use Rattle.std.proofs.Common.{◌≡◌, ℕ, suc, zero, ◌+◌, ◌-◌, ◌<◌, List, [], ◌∷◌, ◌++◌, length, take, drop, get_or, refl, sym, subst, ap, ◌∙◌, Some, None}
 use Rattle.std.proofs.Common.{nat_eq, true, false, cond, arith, length-append, append_assoc}
 use Rattle.std.specs.List.{All, slice_get, slice_set}
 use Rattle.std.proofs.lemmas.Option.{get_or_from_slice_get, slice_get_within, slice_get-get_or}
-use Rattle.std.proofs.lemmas.List.{take-append-drop, get_or_append_left, get_or-append-add, length-take-le, length-set}
+use Rattle.std.proofs.lemmas.List.{take-append-drop, get_or_append_left, get_or-append-add, get_or-take, length-take, length-take-le, length-set}
 use Rattle.std.proofs.lemmas.Grind.{get_or-set_at}
 use Rattle.std.proofs.Math.Dec.{eqb-suc-zero}
 use Rattle.std.proofs.Math.Seq.{drop-cons, take-append_seam, drop-append-add}
@@ -80,6 +80,17 @@ put_second items place x y z new h =
     let n : length front + 2 ≡ place + 1 = omega (arith, there.0, there.1, length-take-le (place - 1) items (omega (arith, there.0, there.1))) in
     subst (λ l. At l (place + 1) z) (sym (append_assoc front (y ∷ z ∷ new) (drop place items)))
     (subst (λ k. At (front ++ y ∷ z ∷ (new ++ drop place items)) k z) n (At-behind front (y ∷ z ∷ (new ++ drop place items)) 2 z refl))
+
+pub put_before : {A : Type 0} (items : List A) (place : ℕ) (new : List A) (k : ℕ) (z : A) → At items k z → k < place → At (put_all items place new) k z
+put_before items place new zero z h lt = absurd (cc h)
+put_before items place new (suc n) z h lt =
+    let front = take (place - 1) items in
+    let here : slice_get items n ≡ Some z = sym (at_suc items n) ∙ h in
+    let within = slice_get_within items n z here in
+    let in_front : n < length front = omega (arith, lt, within, length-take (place - 1) items) in
+    let is : get_or front n z ≡ z = get_or-take (place - 1) items n z (omega (arith, lt)) ∙ get_or_from_slice_get items n z z here in
+    let at : At front (suc n) z = at_suc front n ∙ slice_get-get_or front n z in_front ∙ ap Some is in
+    subst (λ l. At l (suc n) z) (sym (append_assoc front new (drop place items))) (At-more front (new ++ drop place items) (suc n) z at)
 
 pub put_there : {A : Type 0} (items : List A) (place : ℕ) (x y : A) → At items place x → At (put items place y) place y
 put_there items zero x y h = absurd (cc h)
