@@ -24,7 +24,7 @@ pub record Added (rows : List Provable) (n : ℕ) (row : Provable) (after : List
   pub last : At after (n + 1) row
   pub keeps : (k : ℕ) (p : Provable) → At rows k p → At after k p
 
-added : (rows : List Provable) (n : ℕ) (row : Provable) → n ≡ length rows → Added rows n row (rows ++ row ∷ [])
+pub added : (rows : List Provable) (n : ℕ) (row : Provable) → n ≡ length rows → Added rows n row (rows ++ row ∷ [])
 added rows n row e = record {
   counted = omega (arith, e, length-append rows (row ∷ []));
   last = subst (λ k. At (rows ++ row ∷ []) (k + 1) row) (sym e) (At-between rows row []);
@@ -59,7 +59,7 @@ rule_fits rows n name r steps e is others =
     step_fits rows n (UseRule name) steps e (λ u. u)
     (λ row after gives added. others after (subst (λ x. Added rows n x after) (gives_rule rows name r row is gives) added))
 
-gives_axiom : (rows : List Provable) (name : List ℕ) (a : Axiom) (p : Provable) → axiom_named name ≡ Some a → Gives rows (UseAxiom name) p → p ≡ known a.formula
+pub gives_axiom : (rows : List Provable) (name : List ℕ) (a : Axiom) (p : Provable) → axiom_named name ≡ Some a → Gives rows (UseAxiom name) p → p ≡ known a.formula
 gives_axiom rows name a _ e (by_axiom _ other is) = let same : other ≡ a = cc in ap (λ (x : Axiom). known x.formula) same
 
 pub axiom_fits : (rows : List Provable) (n : ℕ) (name : List ℕ) (a : Axiom) (steps : List Step) → n ≡ length rows → axiom_named name ≡ Some a →
@@ -85,11 +85,11 @@ leaf_fits rows n s steps e others =
     step_fits rows n (Leaf s) steps e (λ u. u) (λ row after gives added. others after (subst (λ x. Added rows n x after) (gives_leaf rows s row gives) added))
 
 -- what a substitution gives of a row
-record OfRow (pairs : List Pair) (p q : Provable) : Type 0 where
-  formed : IsWellFormed pairs
-  makes : Substitutes pairs p q
+pub record OfRow (pairs : List Pair) (p q : Provable) : Type 0 where
+  pub formed : IsWellFormed pairs
+  pub makes : Substitutes pairs p q
 
-gives_substituted : (rows : List Provable) (m : ℕ) (pairs : List Pair) (p q : Provable) → At rows m p → Gives rows (Substitute m pairs) q → OfRow pairs p q
+pub gives_substituted : (rows : List Provable) (m : ℕ) (pairs : List Pair) (p q : Provable) → At rows m p → Gives rows (Substitute m pairs) q → OfRow pairs p q
 gives_substituted rows m pairs p _ row (by_substitution _ _ other q there made formed bound makes) =
     let same : other ≡ p = at_one rows m other p there row in record { formed = formed; makes = subst (λ x. Substitutes pairs x q) same makes }
 

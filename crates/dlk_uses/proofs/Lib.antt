@@ -10,3 +10,4 @@ pub mod Terms
 pub mod Blocks
 pub mod Equations
 pub mod Boxes
+pub mod Instance

@@ -33,7 +33,7 @@ pub record Alone (pairs : List Pair) (f : Tree) (s : Sequent) : Type 0 where
   pub made : Subst pairs f new
   pub is : s ≡ alone_right new
 
-alone_of_alone : (pairs : List Pair) (f : Tree) (s : Sequent) → SubstSequent pairs (alone_right f) s → Alone pairs f s
+pub alone_of_alone : (pairs : List Pair) (f : Tree) (s : Sequent) → SubstSequent pairs (alone_right f) s → Alone pairs f s
 alone_of_alone pairs f s h =
     let left : s.ante ≡ [] = none_of_none pairs s.ante h.0 in
     let right = one_of_one pairs f s.succ h.1 in
