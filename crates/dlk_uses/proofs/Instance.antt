@@ -11,7 +11,8 @@ use Rattle.dlk_calculus.specs.Places.{At, at}
 use Rattle.dlk_calculus.specs.Provables.{Provable, known, renamed}
 use Rattle.dlk_calculus.specs.Rename.{swap}
 use Rattle.dlk_calculus.specs.Sequents.{alone_right}
-use Rattle.dlk_calculus.specs.Steps.{Step, UseAxiom, Substitute, Rename, Gives}
+use Rattle.dlk_calculus.specs.Steps.{Step, UseAxiom, Substitute, Rename, Gives, Derives}
+use Rattle.dlk_calculus.specs.Steps.{by_axiom as derives_axiom, by_renaming as derives_renamed}
 use Rattle.dlk_calculus.specs.Steps.{rename as by_renaming}
 use Rattle.dlk_calculus.specs.Subst.{Subst}
 use Rattle.dlk_match.specs.Matching.{exchanged}
@@ -60,47 +61,53 @@ record Reaches (rows : List Provable) (n : ℕ) (g : Tree) (more : List Step) (a
   mid : List Provable
   counted : n ≡ length mid
   last : At mid n (known g)
+  derived : Derives (known g)
   keeps : (k : ℕ) (p : Provable) → At rows k p → At mid k p
   others : Takes mid more after
 
-gives_renamed : (rows : List Provable) (m : ℕ) (x y : List ℕ) (p q : Provable) → At rows m p → Gives rows (Rename m x y) q → q ≡ renamed x y p
-gives_renamed rows m x y p _ row (by_renaming _ _ _ other there x_is y_is) = ap (renamed x y) (at_one rows m other p there row)
+gives_renamed : (rows : List Provable) (m : ℕ) (x y : List ℕ) (p q : Provable) → At rows m p → Gives rows (Rename m x y) q →
+    (q ≡ renamed x y p) × (Derives p → Derives (renamed x y p))
+gives_renamed rows m x y p _ row (by_renaming _ _ _ other there x_is y_is) =
+    (ap (renamed x y) (at_one rows m other p there row), λ derived. derives_renamed x y derived x_is y_is)
 
 abbrev Renames : List (List ℕ × List ℕ) → Type 0
 Renames renames = (rows : List Provable) (n : ℕ) (g : Tree) (more : List Step) (after : List Provable) → n ≡ length rows → At rows n (known g) →
-    Takes rows (renaming n renames ++ more) after → Reaches rows (n + length (renaming n renames)) (exchanged renames g) more after
+    Derives (known g) → Takes rows (renaming n renames ++ more) after → Reaches rows (n + length (renaming n renames)) (exchanged renames g) more after
 
 one_renaming : (b : Bool) (x y : List ℕ) (renames : List (List ℕ × List ℕ)) → Renames renames → (rows : List Provable) (n : ℕ) (g : Tree)
-    (more : List Step) (after : List Provable) → n ≡ length rows → At rows n (known g) →
+    (more : List Step) (after : List Provable) → n ≡ length rows → At rows n (known g) → Derives (known g) →
     Takes rows ((if b then renaming n renames else Rename n x y ∷ renaming (n + 1) renames) ++ more) after →
     Reaches rows (n + length (if b then renaming n renames else Rename n x y ∷ renaming (n + 1) renames)) (exchanged renames (if b then g else swap x y g)) more after
-one_renaming true x y renames others rows n g more after counted last taken = others rows n g more after counted last taken
-one_renaming false x y renames others rows n g more after counted last taken =
+one_renaming true x y renames others rows n g more after counted last derived taken = others rows n g more after counted last derived taken
+one_renaming false x y renames others rows n g more after counted last derived taken =
     let f = takes_first rows after (Rename n x y) (renaming (n + 1) renames ++ more) taken in
-    let is : f.row ≡ known (swap x y g) = gives_renamed rows n x y (known g) f.row last f.is_its.given in
+    let is = gives_renamed rows n x y (known g) f.row last f.is_its.given in
     let now = added rows n f.row counted in
-    let r = others (rows ++ f.row ∷ []) (n + 1) (swap x y g) more after now.counted (subst (λ p. At (rows ++ f.row ∷ []) (n + 1) p) is now.last) f.others in
+    let r = others (rows ++ f.row ∷ []) (n + 1) (swap x y g) more after now.counted (subst (λ p. At (rows ++ f.row ∷ []) (n + 1) p) is.0 now.last)
+    (is.1 derived) f.others in
     let same : n + 1 + length (renaming (n + 1) renames) ≡ n + length (Rename n x y ∷ renaming (n + 1) renames) = omega arith in
     record {
       mid = r.mid;
       counted = sym same ∙ r.counted;
       last = subst (λ k. At r.mid k (known (exchanged renames (swap x y g)))) same r.last;
+      derived = r.derived;
       keeps = λ k p h. r.keeps k p (now.keeps k p h);
       others = r.others;
     }
 
 renamed_in_turn : (renames : List (List ℕ × List ℕ)) → Renames renames
-renamed_in_turn [] rows n g more after counted last taken =
+renamed_in_turn [] rows n g more after counted last derived taken =
     let same : n ≡ n + 0 = omega arith in
     record {
       mid = rows;
       counted = sym same ∙ counted;
       last = subst (λ k. At rows k (known g)) same last;
+      derived = derived;
       keeps = λ k p h. h;
       others = taken;
     }
-renamed_in_turn (r ∷ renames) rows n g more after counted last taken =
-    one_renaming (bytes_eq r.0 r.1) r.0 r.1 renames (renamed_in_turn renames) rows n g more after counted last taken
+renamed_in_turn (r ∷ renames) rows n g more after counted last derived taken =
+    one_renaming (bytes_eq r.0 r.1) r.0 r.1 renames (renamed_in_turn renames) rows n g more after counted last derived taken
 
 -- the last of the rows proves an instance of the formula
 pub record Instantiates (rows : List Provable) (pairs : List Pair) (g : Tree) (between : List Provable) : Type 0 where
@@ -145,7 +152,7 @@ substituted_last (p ∷ pairs) mid between k g counted last itself taken =
     }
 
 pub instantiates : (rows between : List Provable) (name : List ℕ) (extra : Extra) (a : Axiom) → axiom_named name ≡ Some a →
-    Subst [] (exchanged extra.renames a.formula) (exchanged extra.renames a.formula) →
+    (Derives (known (exchanged extra.renames a.formula)) → Subst [] (exchanged extra.renames a.formula) (exchanged extra.renames a.formula)) →
     Takes rows (instance (length rows) name extra) between → Instantiates rows extra.pairs (exchanged extra.renames a.formula) between
 instantiates rows between name extra a named itself taken =
     let n = length rows in
@@ -155,10 +162,11 @@ instantiates rows between name extra a named itself taken =
     let is : f.row ≡ known a.formula = gives_axiom rows name a f.row named f.is_its.given in
     let now = added rows n f.row refl in
     let r = renamed_in_turn extra.renames (rows ++ f.row ∷ []) (n + 1) a.formula (substituting k extra.pairs) between now.counted
-    (subst (λ p. At (rows ++ f.row ∷ []) (n + 1) p) is now.last) f.others in
+    (subst (λ p. At (rows ++ f.row ∷ []) (n + 1) p) is now.last)
+    (derives_axiom name a named) f.others in
     let same : n + 1 + length renames ≡ k = omega arith in
     let i = substituted_last extra.pairs r.mid between k (exchanged extra.renames a.formula) (sym same ∙ r.counted)
-    (subst (λ m. At r.mid m (known (exchanged extra.renames a.formula))) same r.last) itself r.others in
+    (subst (λ m. At r.mid m (known (exchanged extra.renames a.formula))) same r.last) (itself r.derived) r.others in
     record {
       f = i.f;
       row = i.row;

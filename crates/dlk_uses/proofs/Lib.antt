@@ -11,3 +11,4 @@ pub mod Blocks
 pub mod Equations
 pub mod Boxes
 pub mod Instance
+pub mod Shapes
