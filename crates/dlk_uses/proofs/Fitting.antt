@@ -7,11 +7,11 @@ use Rattle.dlk_calculus.specs.Places.{At}
 use Rattle.dlk_calculus.specs.Sequents.{Sequent}
 use Rattle.dlk_calculus.specs.Provables.{Provable, started, known, assumed, inferred, applied, merged, Substitutes}
 use Rattle.dlk_calculus.specs.Rules.{Rule, RuleAgainst, Premises}
-use Rattle.dlk_calculus.specs.Steps.{Step, Start, UseAxiom, UseRule, Leaf, Apply, Merge, Substitute, IsGoal, StepOf, Gives}
+use Rattle.dlk_calculus.specs.Steps.{Step, Start, UseAxiom, UseRule, Leaf, Apply, Merge, Substitute, IsGoal, Gives}
 use Rattle.dlk_calculus.specs.Steps.{start as by_start, use_axiom as by_axiom, use_rule as by_rule, leaf as by_leaf, apply as by_apply, merge as by_merge, substitute as by_substitution}
 use Rattle.dlk_uses.specs.Taking.{FirstFault}
 use Rattle.dlk_uses.proofs.Places.{at_one, At-more, At-between, put_first, put_second, put_later}
-use Rattle.dlk_uses.proofs.Taking.{FaultFrom, at_once, later, fault_from, no_fault}
+use Rattle.dlk_uses.proofs.Taking.{at_once, later, fault_from, no_fault}
 use Rattle.dlk_uses.proofs.Unequal.{Unlike, unlike_fault}
 
 -- none of the steps is refused for unlike formulas
@@ -129,7 +129,7 @@ apply_fits rows n m goal rule p s steps e row here like others =
     step_fits rows n (Apply m goal rule) steps e
     (λ u. like (subst (RuleAgainst NotEqual rule) (same_goal rows m goal u.0 s u.1 (p, row, here)) u.2))
     (λ q after gives added.
-      let on = gives_applied rows m goal rule p q s row here gives in others on.premises after on.makes (subst (λ x. Added rows n x after) on.is added))
+    let on = gives_applied rows m goal rule p q s row here gives in others on.premises after on.makes (subst (λ x. Added rows n x after) on.is added))
 
 gives_merged : (rows : List Provable) (m goal by : ℕ) (p q r : Provable) → At rows m p → At rows by q → Gives rows (Merge m goal by) r →
     (new : List Sequent) × (r ≡ merged p goal q new)
@@ -155,8 +155,8 @@ pub premise_fits : (rows : List Provable) (n m goal : ℕ) (rule : Rule) (s a : 
 premise_fits rows n m goal rule s a steps e g like are others =
     apply_fits rows n m goal rule g.0 s steps e g.1 g.2 like
     (λ premises after makes added.
-      let now = subst (λ x. Added rows n (applied g.0 goal x) after) (are premises makes) added in
-      others (applied g.0 goal (a ∷ [])) after now (applied g.0 goal (a ∷ []), now.last, put_first g.0.goals goal s a [] g.2))
+    let now = subst (λ x. Added rows n (applied g.0 goal x) after) (are premises makes) added in
+    others (applied g.0 goal (a ∷ [])) after now (applied g.0 goal (a ∷ []), now.last, put_first g.0.goals goal s a [] g.2))
 
 pub premises_fit : (rows : List Provable) (n m goal : ℕ) (rule : Rule) (s a b : Sequent) (steps : List Step) → n ≡ length rows → IsGoal rows m goal s →
     ¬ RuleAgainst NotEqual rule s → ((premises : List Sequent) → Premises rule s premises → premises ≡ a ∷ b ∷ []) →
@@ -165,39 +165,39 @@ pub premises_fit : (rows : List Provable) (n m goal : ℕ) (rule : Rule) (s a b 
 premises_fit rows n m goal rule s a b steps e g like are others =
     apply_fits rows n m goal rule g.0 s steps e g.1 g.2 like
     (λ premises after makes added.
-      let now = subst (λ x. Added rows n (applied g.0 goal x) after) (are premises makes) added in
-      let row = applied g.0 goal (a ∷ b ∷ []) in
-      others row after now (row, now.last, put_first g.0.goals goal s a (b ∷ []) g.2) (row, now.last, put_second g.0.goals goal s a b [] g.2))
+    let now = subst (λ x. Added rows n (applied g.0 goal x) after) (are premises makes) added in
+    let row = applied g.0 goal (a ∷ b ∷ []) in
+    others row after now (row, now.last, put_first g.0.goals goal s a (b ∷ []) g.2) (row, now.last, put_second g.0.goals goal s a b [] g.2))
 
 -- two premises, with what stands behind the goal
 pub premises_fit_before : (rows : List Provable) (n m goal k : ℕ) (rule : Rule) (s a b z : Sequent) (steps : List Step) → n ≡ length rows →
     IsGoal rows m goal s → IsBehind rows m goal k z → ¬ RuleAgainst NotEqual rule s →
     ((premises : List Sequent) → Premises rule s premises → premises ≡ a ∷ b ∷ []) →
     ((row : Provable) (after : List Provable) → Added rows n row after → IsGoal after (n + 1) goal a → IsGoal after (n + 1) (goal + 1) b →
-      IsBehind after (n + 1) goal (suc k) z → Fit after steps) →
+    IsBehind after (n + 1) goal (suc k) z → Fit after steps) →
     Fit rows (Apply m goal rule ∷ steps)
 premises_fit_before rows n m goal k rule s a b z steps e g behind like are others =
     apply_fits rows n m goal rule g.0 s steps e g.1 g.2 like
     (λ premises after makes added.
-      let now = subst (λ x. Added rows n (applied g.0 goal x) after) (are premises makes) added in
-      let row = applied g.0 goal (a ∷ b ∷ []) in
-      let same : behind.0 ≡ g.0 = at_one rows m behind.0 g.0 behind.1 g.1 in
-      let later : At g.0.goals (goal + suc k) z = subst (λ (p : Provable). At p.goals (goal + suc k) z) same behind.2 in
-      others row after now (row, now.last, put_first g.0.goals goal s a (b ∷ []) g.2) (row, now.last, put_second g.0.goals goal s a b [] g.2)
-      (row, now.last, put_later g.0.goals goal s (a ∷ b ∷ []) k (goal + suc (suc k)) z g.2 later (omega arith)))
+    let now = subst (λ x. Added rows n (applied g.0 goal x) after) (are premises makes) added in
+    let row = applied g.0 goal (a ∷ b ∷ []) in
+    let same : behind.0 ≡ g.0 = at_one rows m behind.0 g.0 behind.1 g.1 in
+    let later : At g.0.goals (goal + suc k) z = subst (λ (p : Provable). At p.goals (goal + suc k) z) same behind.2 in
+    others row after now (row, now.last, put_first g.0.goals goal s a (b ∷ []) g.2) (row, now.last, put_second g.0.goals goal s a b [] g.2)
+    (row, now.last, put_later g.0.goals goal s (a ∷ b ∷ []) k (goal + suc (suc k)) z g.2 later (omega arith)))
 
 -- no premises: what stands behind the goal comes one place nearer
 pub closing_fits : (rows : List Provable) (n m goal : ℕ) (rule : Rule) (s : Sequent) (steps : List Step) → n ≡ length rows →
     IsGoal rows m goal s → ¬ RuleAgainst NotEqual rule s → ((premises : List Sequent) → Premises rule s premises → premises ≡ []) →
     ((after : List Provable) (row : Provable) → Added rows n row after →
-      ((k : ℕ) (z : Sequent) → IsBehind rows m goal k z → IsGoal after (n + 1) (goal + k) z) → Fit after steps) →
+    ((k : ℕ) (z : Sequent) → IsBehind rows m goal k z → IsGoal after (n + 1) (goal + k) z) → Fit after steps) →
     Fit rows (Apply m goal rule ∷ steps)
 closing_fits rows n m goal rule s steps e g like are others =
     apply_fits rows n m goal rule g.0 s steps e g.1 g.2 like
     (λ premises after makes added.
-      let now = subst (λ x. Added rows n (applied g.0 goal x) after) (are premises makes) added in
-      others after (applied g.0 goal []) now
-      (λ k z behind.
-        let same : behind.0 ≡ g.0 = at_one rows m behind.0 g.0 behind.1 g.1 in
-        let later : At g.0.goals (goal + suc k) z = subst (λ (p : Provable). At p.goals (goal + suc k) z) same behind.2 in
-        (applied g.0 goal [], now.last, put_later g.0.goals goal s [] k (goal + k) z g.2 later (omega arith))))
+    let now = subst (λ x. Added rows n (applied g.0 goal x) after) (are premises makes) added in
+    others after (applied g.0 goal []) now
+    (λ k z behind.
+    let same : behind.0 ≡ g.0 = at_one rows m behind.0 g.0 behind.1 g.1 in
+    let later : At g.0.goals (goal + suc k) z = subst (λ (p : Provable). At p.goals (goal + suc k) z) same behind.2 in
+    (applied g.0 goal [], now.last, put_later g.0.goals goal s [] k (goal + k) z g.2 later (omega arith))))

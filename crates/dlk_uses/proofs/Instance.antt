@@ -7,7 +7,7 @@ use Rattle.dlk_tree.specs.Trees.{Tree}
 use Rattle.dlk_calculus.specs.declared.reason.Reason.TheVariants.{NotEqual}
 use Rattle.dlk_calculus.specs.Axioms.{Axiom, axiom_named}
 use Rattle.dlk_calculus.specs.Pairs.{Pair, Extra, IsWellFormed}
-use Rattle.dlk_calculus.specs.Places.{At, at}
+use Rattle.dlk_calculus.specs.Places.{At}
 use Rattle.dlk_calculus.specs.Provables.{Provable, known, renamed}
 use Rattle.dlk_calculus.specs.Rename.{swap}
 use Rattle.dlk_calculus.specs.Sequents.{alone_right}
@@ -20,9 +20,9 @@ use Rattle.dlk_kernel.specs.Taken.{Takes}
 use Rattle.dlk_uses.specs.Taking.{FirstFault}
 use Rattle.dlk_uses.specs.Uses.{renaming, substituting, instance, first_of, proved}
 use Rattle.dlk_uses.proofs.Places.{at_one, At_place}
-use Rattle.dlk_uses.proofs.Taking.{First, takes_first, takes_none}
+use Rattle.dlk_uses.proofs.Taking.{takes_first, takes_none}
 use Rattle.dlk_uses.proofs.Unequal.{Unlike, unlike_fault}
-use Rattle.dlk_uses.proofs.Fitting.{Added, added, gives_axiom, gives_substituted}
+use Rattle.dlk_uses.proofs.Fitting.{added, gives_axiom, gives_substituted}
 use Rattle.dlk_uses.proofs.Substituted.{alone_of_alone}
 
 -- Lines that put nothing in the place of anything can't fail for unlike formulas.
@@ -165,8 +165,9 @@ instantiates rows between name extra a named itself taken =
     (subst (λ p. At (rows ++ f.row ∷ []) (n + 1) p) is now.last)
     (derives_axiom name a named) f.others in
     let same : n + 1 + length renames ≡ k = omega arith in
-    let i = substituted_last extra.pairs r.mid between k (exchanged extra.renames a.formula) (sym same ∙ r.counted)
-    (subst (λ m. At r.mid m (known (exchanged extra.renames a.formula))) same r.last) (itself r.derived) r.others in
+    let counted : k ≡ length r.mid = subst (λ m. m ≡ length r.mid) same r.counted in
+    let last : At r.mid k (known (exchanged extra.renames a.formula)) = subst (λ m. At r.mid m (known (exchanged extra.renames a.formula))) same r.last in
+    let i = substituted_last extra.pairs r.mid between k (exchanged extra.renames a.formula) counted last (itself r.derived) r.others in
     record {
       f = i.f;
       row = i.row;

@@ -12,3 +12,5 @@ pub mod Equations
 pub mod Boxes
 pub mod Instance
 pub mod Shapes
+pub mod Uses
+pub mod Behind

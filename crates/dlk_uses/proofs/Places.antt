@@ -6,7 +6,7 @@ use Rattle.std.proofs.lemmas.Option.{get_or_from_slice_get, slice_get_within, sl
 use Rattle.std.proofs.lemmas.List.{take-append-drop, get_or_append_left, get_or-append-add, get_or-take, length-take, length-take-le, length-set}
 use Rattle.std.proofs.lemmas.Grind.{get_or-set_at}
 use Rattle.std.proofs.Math.Dec.{eqb-suc-zero}
-use Rattle.std.proofs.Math.Seq.{drop-cons, take-append_seam, drop-append-add}
+use Rattle.std.proofs.Math.Seq.{drop-cons}
 use Rattle.dlk_calculus.specs.Places.{at, At, IsPlace, put, put_all}
 
 pub at_one : {A : Type 0} (items : List A) (place : ℕ) (x y : A) → At items place x → At items place y → x ≡ y

@@ -1,9 +1,9 @@
 -- The premises of rules on the sequents that uses of axioms meet.
-use Rattle.std.proofs.Common.{◌≡◌, ℕ, ◌+◌, List, [], ◌∷◌, ◌++◌, length, refl, sym, ap, subst, ◌∙◌}
+use Rattle.std.proofs.Common.{◌≡◌, ℕ, List, [], ◌∷◌, ◌++◌, sym, ap, ◌∙◌}
 use Rattle.dlk_tree.specs.Trees.{Tree}
 use Rattle.dlk_calculus.specs.Places.{At, put, without_place}
 use Rattle.dlk_calculus.specs.Sequents.{Sequent, ◌==>◌, alone_right}
-use Rattle.dlk_calculus.specs.Rules.{Rule, Close, Cut, CutL, CutR, CoHideR, EquivifyR, CommuteEquivR, ImplyL, ImplyR, imply, equiv, Premises, RuleAgainst}
+use Rattle.dlk_calculus.specs.Rules.{Close, Cut, CutL, CutR, CoHideR, EquivifyR, CommuteEquivR, ImplyL, ImplyR, imply, equiv, Premises, RuleAgainst}
 use Rattle.dlk_calculus.specs.declared.reason.Reason.TheVariants.{NotEqual}
 use Rattle.dlk_uses.proofs.Places.{at_one}
 

@@ -1,13 +1,13 @@
 -- What substitutions make of the axiomatic rules that uses of axioms name.
-use Rattle.std.proofs.Common.{◌≡◌, List, [], ◌∷◌, refl, sym, ap, subst, ◌∙◌}
+use Rattle.std.proofs.Common.{◌≡◌, List, [], ◌∷◌, refl, ap, ◌∙◌}
 use Rattle.dlk_tree.specs.declared.op.Op.{Op}
 use Rattle.dlk_tree.specs.declared.op.Op.TheVariants as Op'
-use Rattle.dlk_tree.specs.Trees.{Tree, node, Forest, no_kids, kid, trees_in, WellMade}
+use Rattle.dlk_tree.specs.Trees.{Tree, node, Forest, no_kids, kid, WellMade}
 use Rattle.dlk_calculus.specs.Kids.{first}
-use Rattle.dlk_calculus.specs.Notation.{leaf, one, two, eq, box, a, p, q, f, g, p_of, c_of}
+use Rattle.dlk_calculus.specs.Notation.{two, eq, box, a, p, q, f, g, p_of, c_of}
 use Rattle.dlk_calculus.specs.Pairs.{Pair}
-use Rattle.dlk_calculus.specs.Plug.{Plug, filled}
-use Rattle.dlk_calculus.specs.Provables.{Provable, inferred, known, SubstEach, SubstSequent, SubstSequents, Substitutes}
+use Rattle.dlk_calculus.specs.Plug.{filled}
+use Rattle.dlk_calculus.specs.Provables.{Provable, inferred, SubstEach, SubstSequent, SubstSequents, Substitutes}
 use Rattle.dlk_calculus.specs.Rules.{imply, equiv}
 use Rattle.dlk_calculus.specs.Sequents.{Sequent, alone_right}
 use Rattle.dlk_calculus.specs.Subst.{Subst, SubstAll, SubstAt}
@@ -188,6 +188,6 @@ of_k b h e s made =
     let a_made : Makes pairs a b = λ t m. (parts pairs (Op'.Const program_a) no_kids t m).at in
     of_fact pairs (imply (box a (imply p q)) (imply (box a p) (box a q))) (imply (box b (imply h e)) (imply (box b h) (box b e))) s
     (makes_imply pairs (box a (imply p q)) (imply (box a p) (box a q)) (box b (imply h e)) (imply (box b h) (box b e))
-      (makes_box pairs a (imply p q) b (imply h e) a_made (makes_imply pairs p q h e p_made q_made))
-      (makes_imply pairs (box a p) (box a q) (box b h) (box b e) (makes_box pairs a p b h a_made p_made) (makes_box pairs a q b e a_made q_made)))
+    (makes_box pairs a (imply p q) b (imply h e) a_made (makes_imply pairs p q h e p_made q_made))
+    (makes_imply pairs (box a p) (box a q) (box b h) (box b e) (makes_box pairs a p b h a_made p_made) (makes_box pairs a q b e a_made q_made)))
     made

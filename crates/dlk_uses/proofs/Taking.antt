@@ -1,5 +1,5 @@
 -- Steps taken in turn, from the first on.
-use Rattle.std.proofs.Common.{◌≡◌, List, [], ◌∷◌, ◌++◌, refl, sym, ap, subst}
+use Rattle.std.proofs.Common.{◌≡◌, List, [], ◌∷◌, ◌++◌, refl, sym, subst}
 use Rattle.dlk_calculus.specs.declared.reason.Reason.{Reason}
 use Rattle.dlk_calculus.specs.Provables.{Provable}
 use Rattle.dlk_calculus.specs.Steps.{Step, Fault, StepOf}

@@ -1,9 +1,8 @@
 -- In a term a predicate has nothing to replace.
-use Rattle.std.proofs.Common.{◌≡◌, ℕ, suc, zero, List, [], ◌∷◌, replicate, refl, sym, ap, ◌∙◌, Bool, false, Option}
+use Rattle.std.proofs.Common.{◌≡◌, ℕ, suc, zero, List, [], ◌∷◌, replicate, refl, ap, ◌∙◌, false}
 use Rattle.std.specs.Prelude.{IsTrue}
 use Rattle.dlk_tree.specs.declared.op.Kind.{Kind}
 use Rattle.dlk_tree.specs.declared.op.Kind.TheVariants.{Func, UnitFunc, Pred, UnitPred, Quant, Prog, Ode}
-use Rattle.dlk_tree.specs.declared.op.Sort.{Sort}
 use Rattle.dlk_tree.specs.declared.op.Sort.TheVariants.{Term}
 use Rattle.dlk_tree.specs.declared.op.Sym.{Sym}
 use Rattle.dlk_tree.specs.declared.op.Op.{Op}
@@ -13,9 +12,8 @@ use Rattle.dlk_tree.specs.Tests.{sym_eq}
 use Rattle.dlk_tree.specs.Trees.{Tree, node, Forest, no_kids, kid, sort, sorts, WellMade, AllWellMade}
 use Rattle.dlk_calculus.specs.Pairs.{Pair, replacement}
 use Rattle.dlk_calculus.specs.Subst.{Subst, SubstAll, SubstAt, Replaced}
-use Rattle.dlk_calculus.specs.Captures.{Stays}
 use Rattle.dlk_uses.specs.Uses.{◌~>◌, p_of_one}
-use Rattle.dlk_uses.proofs.Substituted.{Parts, parts}
+use Rattle.dlk_uses.proofs.Substituted.{parts}
 
 -- a symbol of another kind isn't p(._0)
 abbrev named : Kind → Sym → Sym

@@ -215,10 +215,10 @@ abbrev pub by_conditional_equivalence : ℕ → Spot → ℕ → (b l r : Tree) 
 by_conditional_equivalence now spot j b l r =
     let third = spot.goal + 2
     in closed_by now spot.fact now (
-        (spot.goal, CutR j r) ∷ (spot.goal + 1, CutR j b) ∷
-        (third, CoHideR j) ∷ (third, ImplyR 1) ∷ (third, EquivifyR 1) ∷ (third, CommuteEquivR 1) ∷
-        (third, Cut (imply b (equiv l r))) ∷ (third, ImplyL 2) ∷ (third, Close 1 2) ∷ (third, Close 2 1) ∷ (third, CoHideR 2) ∷ []
-      ) third
+    (spot.goal, CutR j r) ∷ (spot.goal + 1, CutR j b) ∷
+    (third, CoHideR j) ∷ (third, ImplyR 1) ∷ (third, EquivifyR 1) ∷ (third, CommuteEquivR 1) ∷
+    (third, Cut (imply b (equiv l r))) ∷ (third, ImplyL 2) ∷ (third, Close 1 2) ∷ (third, Close 2 1) ∷ (third, CoHideR 2) ∷ []
+    ) third
 
 -- The row `now` proves b -> h: on the right h comes to be b, and on the left b comes to be h.
 abbrev pub by_implication : ℕ → Spot → Place → (b h : Tree) → List Step
