@@ -31,7 +31,8 @@ added rows n row e = record {
   keeps = λ k p h. At-more rows (row ∷ []) k p h;
 }
 
-pub goal_kept : (rows after : List Provable) (n m goal : ℕ) (row : Provable) (s : Sequent) → Added rows n row after → IsGoal rows m goal s → IsGoal after m goal s
+pub goal_kept : (rows after : List Provable) (n m goal : ℕ) (row : Provable) (s : Sequent) → Added rows n row after → IsGoal rows m goal s →
+    IsGoal after m goal s
 goal_kept rows after n m goal row s is g = (g.0, is.keeps m g.0 g.1, g.2)
 
 -- a goal that stands so many places behind another, and one more
@@ -59,7 +60,8 @@ rule_fits rows n name r steps e is others =
     step_fits rows n (UseRule name) steps e (λ u. u)
     (λ row after gives added. others after (subst (λ x. Added rows n x after) (gives_rule rows name r row is gives) added))
 
-pub gives_axiom : (rows : List Provable) (name : List ℕ) (a : Axiom) (p : Provable) → axiom_named name ≡ Some a → Gives rows (UseAxiom name) p → p ≡ known a.formula
+pub gives_axiom : (rows : List Provable) (name : List ℕ) (a : Axiom) (p : Provable) → axiom_named name ≡ Some a → Gives rows (UseAxiom name) p →
+    p ≡ known a.formula
 gives_axiom rows name a _ e (by_axiom _ other is) = let same : other ≡ a = cc in ap (λ (x : Axiom). known x.formula) same
 
 pub axiom_fits : (rows : List Provable) (n : ℕ) (name : List ℕ) (a : Axiom) (steps : List Step) → n ≡ length rows → axiom_named name ≡ Some a →
@@ -145,7 +147,8 @@ pub merge_fits : (rows : List Provable) (n m goal by : ℕ) (p q : Provable) (s 
 merge_fits rows n m goal by p q s steps e row here other equal others =
     step_fits rows n (Merge m goal by) steps e
     (λ u. u.4 (same_goal rows m goal u.0 s u.2 (p, row, here) ∙ equal ∙ ap (λ (x : Provable). x.conclusion) (at_one rows by q u.1 other u.3)))
-    (λ r after gives added. let made = gives_merged rows m goal by p q r row other gives in others made.0 after (subst (λ x. Added rows n x after) made.1 added))
+    (λ r after gives added.
+    let made = gives_merged rows m goal by p q r row other gives in others made.0 after (subst (λ x. Added rows n x after) made.1 added))
 
 -- rules with one premise and with two
 pub premise_fits : (rows : List Provable) (n m goal : ℕ) (rule : Rule) (s a : Sequent) (steps : List Step) → n ≡ length rows → IsGoal rows m goal s →

@@ -77,7 +77,8 @@ Renames renames = (rows : List Provable) (n : ℕ) (g : Tree) (more : List Step)
 one_renaming : (b : Bool) (x y : List ℕ) (renames : List (List ℕ × List ℕ)) → Renames renames → (rows : List Provable) (n : ℕ) (g : Tree)
     (more : List Step) (after : List Provable) → n ≡ length rows → At rows n (known g) → Derives (known g) →
     Takes rows ((if b then renaming n renames else Rename n x y ∷ renaming (n + 1) renames) ++ more) after →
-    Reaches rows (n + length (if b then renaming n renames else Rename n x y ∷ renaming (n + 1) renames)) (exchanged renames (if b then g else swap x y g)) more after
+    Reaches rows (n + length (if b then renaming n renames else Rename n x y ∷ renaming (n + 1) renames))
+    (exchanged renames (if b then g else swap x y g)) more after
 one_renaming true x y renames others rows n g more after counted last derived taken = others rows n g more after counted last derived taken
 one_renaming false x y renames others rows n g more after counted last derived taken =
     let f = takes_first rows after (Rename n x y) (renaming (n + 1) renames ++ more) taken in

@@ -169,7 +169,8 @@ abbrev pub pairs_of_g : (b f : Tree) → List Pair
 pairs_of_g b f = (program_a ~> b) ∷ (any_p ~> f) ∷ []
 
 module _ (b h : Tree) where
-  pub of_g : (row : Provable) → Substitutes (pairs_of_g b h) (inferred p (box a p)) row → (row.conclusion ≡ alone_right (box b h)) × (row.goals ≡ alone_right h ∷ [])
+  pub of_g : (row : Provable) → Substitutes (pairs_of_g b h) (inferred p (box a p)) row →
+      (row.conclusion ≡ alone_right (box b h)) × (row.goals ≡ alone_right h ∷ [])
   of_g row made =
       let pairs = pairs_of_g b h in
       let p_made : Makes pairs p h = λ t m. (parts pairs (Op'.UnitPred any_p) no_kids t m).at in

@@ -41,9 +41,12 @@ pub record Laws : Type 0 where
   pub exchanged_equiv : (renames : List (List ℕ × List ℕ)) (l r : Tree) → exchanged renames (equiv l r) ≡ equiv (exchanged renames l) (exchanged renames r)
   pub exchanged_imply : (renames : List (List ℕ × List ℕ)) (l r : Tree) → exchanged renames (imply l r) ≡ imply (exchanged renames l) (exchanged renames r)
   pub exchanged_eq : (renames : List (List ℕ × List ℕ)) (l r : Tree) → exchanged renames (eq l r) ≡ eq (exchanged renames l) (exchanged renames r)
-  pub subst_equiv : (pairs : List Pair) (l r t : Tree) → Subst pairs (equiv l r) t → (m : Tree) × (s : Tree) × (t ≡ equiv m s) × Subst pairs l m × Subst pairs r s
-  pub subst_imply : (pairs : List Pair) (l r t : Tree) → Subst pairs (imply l r) t → (m : Tree) × (s : Tree) × (t ≡ imply m s) × Subst pairs l m × Subst pairs r s
-  pub subst_eq : (pairs : List Pair) (l r t : Tree) → Subst pairs (eq l r) t → (m : Tree) × (s : Tree) × (t ≡ eq m s) × Subst pairs l m × Subst pairs r s
+  pub subst_equiv : (pairs : List Pair) (l r t : Tree) → Subst pairs (equiv l r) t →
+      (m : Tree) × (s : Tree) × (t ≡ equiv m s) × Subst pairs l m × Subst pairs r s
+  pub subst_imply : (pairs : List Pair) (l r t : Tree) → Subst pairs (imply l r) t →
+      (m : Tree) × (s : Tree) × (t ≡ imply m s) × Subst pairs l m × Subst pairs r s
+  pub subst_eq : (pairs : List Pair) (l r t : Tree) → Subst pairs (eq l r) t →
+      (m : Tree) × (s : Tree) × (t ≡ eq m s) × Subst pairs l m × Subst pairs r s
   pub paths : PathLaws
   pub inside_made : (e : Tree) (path : List ℕ) (s : Tree) → WellMade e → subtree e path ≡ Some s → WellMade s
   pub inside_lacks : (test : Op → Bool) (e : Tree) (path : List ℕ) (s : Tree) → has test e ≡ false → subtree e path ≡ Some s → has test s ≡ false
