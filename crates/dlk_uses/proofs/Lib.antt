@@ -14,3 +14,4 @@ pub mod Instance
 pub mod Shapes
 pub mod Uses
 pub mod Behind
+pub mod Goals

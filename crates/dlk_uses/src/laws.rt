@@ -1,5 +1,5 @@
 //! The laws of uses. Each is a contract of a function that does nothing but call laws of the calculus and of matching.
-ghost use Rattle.std.specs.Prelude.{◌≡◌, ℕ, List, length, Some};
+ghost use Rattle.std.specs.Prelude.{◌≡◌, ◌≢◌, ◌+◌, ℕ, List, [], ◌∷◌, length, Some};
 ghost use Rattle.dlk_tree.specs.Trees.{Tree};
 ghost use Rattle.dlk_calculus.specs.declared.reason.Reason.TheVariants.{NotEqual};
 ghost use Rattle.dlk_calculus.specs.Axioms.{axiom_named};
@@ -7,7 +7,9 @@ ghost use Rattle.dlk_calculus.specs.Notation.{box};
 ghost use Rattle.dlk_calculus.specs.Pairs.{Extra};
 ghost use Rattle.dlk_calculus.specs.Places.{At};
 ghost use Rattle.dlk_calculus.specs.Provables.{Provable};
-ghost use Rattle.dlk_calculus.specs.Steps.{Step, IsGoal};
+ghost use Rattle.dlk_calculus.specs.Rules.{Rule, Close};
+ghost use Rattle.dlk_calculus.specs.Sequents.{Sequent};
+ghost use Rattle.dlk_calculus.specs.Steps.{Step, Leaf, Apply, Merge, IsGoal};
 ghost use Rattle.dlk_kernel.specs.Taken.{Takes};
 ghost use Rattle.dlk_uses.specs.Applying.{Applies};
 ghost use Rattle.dlk_uses.specs.Taking.{FirstFault};
@@ -44,4 +46,10 @@ pub fn uses_fit()
 pub fn boxes_fit()
     ensures generalizing { (rows : List Provable) (spot : Spot) (j : ℕ) (b f : Tree) → IsGoal rows spot.fact spot.goal spot.s → At spot.s.succ j (box b f) → FirstFault rows (generalizing (length rows) spot j b f) NotEqual → ⊥ }
     ensures cutting { (rows : List Provable) (spot : Spot) (j : ℕ) (b f h : Tree) → IsGoal rows spot.fact spot.goal spot.s → At spot.s.succ j (box b f) → FirstFault rows (cutting_box (length rows) spot j b f h) NotEqual → ⊥ }
+{}
+
+/// The same of a leaf that is merged into the goal that it is, and of each rule but the one that closes by two formulas.
+pub fn goals_fit()
+    ensures leaf { (rows : List Provable) (fact goal : ℕ) (s : Sequent) → IsGoal rows fact goal s → FirstFault rows (Leaf s ∷ Merge fact goal (length rows + 1) ∷ []) NotEqual → ⊥ }
+    ensures rule { (rows : List Provable) (fact goal : ℕ) (rule : Rule) → ((i j : ℕ) → rule ≢ Close i j) → FirstFault rows (Apply fact goal rule ∷ []) NotEqual → ⊥ }
 {}
