@@ -10,3 +10,4 @@ pub mod Back
 pub mod AbstractMade
 pub mod SystemsMade
 pub mod Proper
+pub mod Nothing

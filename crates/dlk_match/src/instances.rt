@@ -71,3 +71,8 @@ pub fn subst_over_kids()
     ensures implication { (pairs : List Pair) (l r t : Tree) → Subst pairs (imply l r) t → (m : Tree) × (s : Tree) × (t ≡ imply m s) × Subst pairs l m × Subst pairs r s }
     ensures equation { (pairs : List Pair) (l r t : Tree) → Subst pairs (eq l r) t → (m : Tree) × (s : Tree) × (t ≡ eq m s) × Subst pairs l m × Subst pairs r s }
 {}
+
+/// A substitution without pairs makes of a well-made tree that tree.
+pub fn nothing_replaced()
+    ensures { (e : Tree) → WellMade e → Subst [] e e }
+{}

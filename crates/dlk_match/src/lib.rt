@@ -5,5 +5,5 @@ mod instances;
 
 pub use instances::{
     axioms_have_own_names, exchanged_at_once, exchanged_over_kids, match_gives_target,
-    match_is_proper, plugged_back, subst_over_kids,
+    match_is_proper, nothing_replaced, plugged_back, subst_over_kids,
 };
