@@ -1,6 +1,8 @@
 //! The names of atoms and the arguments that they want.
-ghost use Rattle.std.specs.Prelude.{◌≡◌, IfNone, IfSome, None, Some};
+ghost use Rattle.std.specs.Prelude.{◌≡◌, ◌∷◌, List, IfNone, IfSome, None, Some};
+ghost use Rattle.dlk_tacsyn.specs.declared.argument.Written.{Written};
 ghost use Rattle.dlk_tacsyn.specs.Rows.{is_bare, is_use, kinds_of, row_of, wants};
+ghost use Rattle.dlk_tacsyn.specs.Strategies.{Reading, followed, arguments_of};
 ghost use Rattle.dlk_tacsyn.specs.Ties.{row_at};
 
 use dlk_rules::{RuleWord, Shape};
@@ -26,6 +28,25 @@ pub enum Kind {
 pub(crate) struct Row {
     pub wanted: &'static [Kind],
     pub optional: Option<Kind>,
+}
+
+impl Row {
+    /// The kind of the next argument, and the row of those behind it. None comes where no more may follow.
+    pub fn split(self) -> Option<(Kind, Row)>
+        ensures none { IfNone result ((read : Reading) (w : Written) (ws : List Written) → arguments_of read self.wanted.now self.optional (w ∷ ws) ≡ None) }
+        ensures found { IfSome result (λ next. (read : Reading) (w : Written) (ws : List Written) → arguments_of read self.wanted.now self.optional (w ∷ ws) ≡ followed read next.0 w (arguments_of read next.1.wanted.now next.1.optional ws)) }
+    {
+        let Row { wanted, optional } = self;
+        if let Some((kind, others)) = wanted.split_first() {
+            let rest = Row {
+                wanted: others,
+                optional,
+            };
+            return Some((*kind, rest));
+        }
+        let kind = optional?;
+        Some((kind, wants(&[])))
+    }
 }
 
 /// A row that nothing may follow.
