@@ -46,7 +46,7 @@ module _ (Is : Atom → Type 0) where
   each_sequence : (ts : List Tactic) → EachAtomOf Is (parts ts) → EachAtom Is (whole Sequence ts)
   each_sequence ts h = each_whole Sequence (λ ps k. k) ts h
 
-  module _ (read : List ℕ → Option Tree)
+  module _ (read : Reading)
       (has : (at : ℕ) (x : List ℕ) (ws : List Written) → AreNamedWritten ws → Gives (EachAtom Is) (atom_of read at x ws)) where
     mutual
       choices_each : (n : ℕ) (s : script.Script) → AreNamedParts (script_parts s) → Gives (λ ts. EachAtomOf Is (parts ts)) (choices_of read n s)
@@ -110,7 +110,7 @@ formula_named : (found : Option Tree) → Holds IsNamed (option_map GivenFormula
 formula_named None = tt
 formula_named (Some f) = tt
 
-module _ (read : List ℕ → Option Tree) where
+module _ (read : Reading) where
   argument_named : (kind : Kind) (w : Written) → IsNamedWritten w → Holds IsNamed (argument_of read kind w)
   argument_named FixedPlace (written.At place path) h = tt
   argument_named AnyPlace (written.At place path) h = tt

@@ -64,7 +64,7 @@ behind_next : (before : List Argument) (a : Argument) (more : Option (List Argum
 behind_next before a None = refl
 behind_next before a (Some rest) = ap (λ z. Some z) (sym (append_assoc before (a ∷ []) rest))
 
-module _ (read : List ℕ → Option Tree) where
+module _ (read : Reading) where
   pub arguments_next : (before : List Argument) (kind : Kind) (others : List Kind) (w : Written) (ws : List Written) (a : Argument) →
       argument_of read kind w ≡ Some a → behind before (arguments_of read (kind ∷ others) (w ∷ ws)) ≡ behind (before ++ a ∷ []) (arguments_of read others ws)
   arguments_next before kind others w ws a e =
