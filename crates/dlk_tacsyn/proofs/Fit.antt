@@ -101,9 +101,9 @@ module _ (Is : Atom → Type 0) where
     strategy_each s h = bind_gives (λ ts. EachAtomOf Is (parts ts)) _ (choices_of read 0 s) _ (choices_each 0 s h) (λ ts k. each_choice ts k)
 
 -- the arguments of each kind
-said_holds : {A : Type 0} (Says P : A → Type 0) → ((a : A) → Says a → P a) → (found : Option A) → IsSaid Says found → Holds P found
-said_holds Says P law None m = tt
-said_holds Says P law (Some a) m = law a m
+said_holds : {A : Type 0} (Is P : A → Type 0) → ((a : A) → Is a → P a) → (found : Option A) → IsSaid Is found → Holds P found
+said_holds Is P law None m = tt
+said_holds Is P law (Some a) m = law a m
 
 module _ (P : Argument → Type 0) where
   place_holds : (w : Written) → ((p : Place) (path : List ℕ) → P (AtPlace p path)) → Holds P (place_of w)

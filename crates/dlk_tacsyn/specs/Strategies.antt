@@ -178,7 +178,7 @@ module _ (read : Reading) where
 
 -- what is read is what is said, where something is
 abbrev pub IsSaid : {A : Type 0} → (A → Type 0) → Option A → Type 0
-IsSaid {A} Says found = MatchOption found ((a : A) → ¬ Says a) Says
+IsSaid {A} Is found = MatchOption found ((a : A) → ¬ Is a) Is
 
 -- each text as the formula that it says, in which no argument dot and no `_` stands, if it says one, and as the names with new names and the
 -- pairs that it says, if it says these
