@@ -1,13 +1,15 @@
-//! Trees, sequents and pairs of tokens that are used up.
+//! Trees, sequents, pairs and extras of tokens that are used up.
 ghost use Rattle.std.specs.Prelude.{◌≡◌, IfOk, IfErr, length, map};
 ghost use Rattle.dlk_calculus.specs.Sequents.{IsSequent};
 ghost use Rattle.dlk_grammar.specs.declared.token.Dots.TheVariants.{Refused};
 ghost use Rattle.dlk_grammar.specs.RealTokens.{AreTokens};
 ghost use Rattle.dlk_grammar.specs.Readings.{grammar, itself, IsTree, IsTreeFault, IsSequentOf, IsSequentFault};
 ghost use Rattle.dlk_grammar.specs.Substitutions.{ArePairs, ArePairsFault};
+ghost use Rattle.dlk_grammar.specs.Extras.{AreExtra, AreExtraFault};
 ghost use Rattle.dlk_store.specs.Stores.{IsId, tree};
 ghost use Rattle.dlk_sequent.specs.Sequents.{sequent_at, IsKnown};
 ghost use Rattle.dlk_sequent.specs.Substitutions.{pairs_at, AreKnownPairs};
+ghost use Rattle.dlk_sequent.specs.Extras.{extra_at, IsKnownExtra};
 ghost use Rattle.dlk_parse.specs.Faults.{IsParseFaultOf, UnlessMemory};
 ghost use Rattle.dlk_parse.specs.Said.{IsReadCode, AreReadSides, AreReadPairs};
 
@@ -18,7 +20,7 @@ use crate::scan::scan;
 use dlk_forms::{PairsCode, SidesCode, read_pairs, read_sides, read_tree};
 use dlk_grammar::{Dots, Form, Token};
 use dlk_reader::Code;
-use dlk_sequent::{Listed, Pair, Sequent};
+use dlk_sequent::{Extra, Listed, Pair, Sequent};
 use dlk_store::{Id, Store};
 use dlk_tree::Sym;
 use std::alloc::{AllocError, Global};
@@ -138,4 +140,20 @@ pub(crate) fn pairs_of<S: Store>(
     let ids = make_all(alloc, code, store)?;
     let pairs = pairs(alloc, symbols, ids.as_slice())?;
     Ok(pairs)
+}
+
+/// The renames and the pairs that the tokens are a text of.
+pub(crate) fn extra_of<S: Store>(
+    _alloc: Global,
+    _tokens: Vec<Token>,
+    _store: &mut S,
+) -> Result<Extra, ParseFault>
+    requires { AreTokens _tokens.items }
+    ensures found { IfOk result (λ extra. AreExtra _tokens.items (extra_at (S.trees _store.new) extra)) }
+    ensures known { IfOk result (IsKnownExtra (S.trees _store.new)) }
+    ensures fault { IfErr result (IsParseFaultOf (AreExtraFault _tokens.items)) }
+    ensures unmade { IfErr result (UnlessMemory (_store.new ≡ _store.old)) }
+    ensures grows { S.grows _store.old _store.new }
+{
+    Err(ParseFault::Memory)
 }

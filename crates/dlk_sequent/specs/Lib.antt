@@ -1,4 +1,3 @@
 pub mod Sequents
 pub mod Substitutions
-pub mod Spines
 pub mod Extras

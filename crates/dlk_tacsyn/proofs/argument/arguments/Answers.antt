@@ -27,7 +27,7 @@ loop-next-preserved g c =
           (sym (ap (map (argument_at new)) c.in_ok-push.ensures.items ∙ map-append (argument_at new) c.loop-next.all.items (c.in_ok-argument.argument ∷ [])));
     }
 
-pub returns-then-rest-gt0-clause-fault : goal.returns-then-wanted-gt0-clause-fault
+pub returns-then-rest-gt0-clause-fault : goal.returns-then-rest-gt0-clause-fault
 returns-then-rest-gt0-clause-fault g c =
     let none : length (into_iter_items c.loop-next.next-iterator) ≡ 0 = sym c.loop-next.next-iterator.rest.ok.0 ∙ c.in-None.ensures.steps.0 in
     let some : 0 < length c.loop-next.rest.wanted.now = omega arith in (
