@@ -222,12 +222,7 @@ fn formula<S: Store>(alloc: Global, at: usize, text: &[u8], store: &mut S) -> Re
 }
 
 /// The names with their new names and the pairs of a quoted text.
-fn extra<S: Store>(
-    alloc: Global,
-    at: usize,
-    text: &[u8],
-    store: &mut S,
-) -> Result<Extra, TacSyntax>
+fn extra<S: Store>(alloc: Global, at: usize, text: &[u8], store: &mut S) -> Result<Extra, TacSyntax>
     ensures found { IfOk result (λ extra. ByReading (λ read. read.extra text.now ≡ Some (extra_at (S.trees store.new) extra))) }
     ensures known { IfOk result (IsKnownExtra (S.trees store.new)) }
     ensures fault { IfErr result (IsTacSyntaxOf (λ f. (f ≡ Arguments at) × ByReading (λ read. read.extra text.now ≡ None))) }

@@ -15,14 +15,14 @@ use Rattle.dlk_tacsyn.proofs.reading.strategy.Goals as goal
 
 pub returns-clause-found : goal.returns-clause-found
 returns-clause-found g c =
-  let laws : QuotedLaws = record {
-    formulas = record {
-      one = c.tree_texts.ensures.one Formula Refused;
-      no_fault = c.tree_texts.ensures.no_fault Formula Refused;
-      some = c.tree_texts.ensures.some Formula Refused;
-    };
-    extras = record { one = c.extra_texts.ensures.one; no_fault = c.extra_texts.ensures.no_fault; some = c.extra_texts.ensures.some };
-  } in
+    let laws : QuotedLaws = record {
+      formulas = record {
+        one = c.tree_texts.ensures.one Formula Refused;
+        no_fault = c.tree_texts.ensures.no_fault Formula Refused;
+        some = c.tree_texts.ensures.some Formula Refused;
+      };
+      extras = record { one = c.extra_texts.ensures.one; no_fault = c.extra_texts.ensures.no_fault; some = c.extra_texts.ensures.some };
+    } in
     ok_map (λ t. ByReading (λ read. outcome_of read c.in_ok-parts.parts.items ≡ Says (tactic_at (g.S.Store.trees c.read_parts.new.store) t)))
     (λ t. StrategyText c.args.bytes.now (tactic_at (g.S.Store.trees c.read_parts.new.store) t))
     (λ t h. outcome laws c.args.bytes.now c.in_ok-parts.parts.items (Says (tactic_at (g.S.Store.trees c.read_parts.new.store) t)) c.in_ok-parts.ensures.found h)
@@ -30,14 +30,14 @@ returns-clause-found g c =
 
 pub returns-clause-fitting : goal.returns-clause-fitting
 returns-clause-fitting g c =
-  let laws : QuotedLaws = record {
-    formulas = record {
-      one = c.tree_texts.ensures.one Formula Refused;
-      no_fault = c.tree_texts.ensures.no_fault Formula Refused;
-      some = c.tree_texts.ensures.some Formula Refused;
-    };
-    extras = record { one = c.extra_texts.ensures.one; no_fault = c.extra_texts.ensures.no_fault; some = c.extra_texts.ensures.some };
-  } in
+    let laws : QuotedLaws = record {
+      formulas = record {
+        one = c.tree_texts.ensures.one Formula Refused;
+        no_fault = c.tree_texts.ensures.no_fault Formula Refused;
+        some = c.tree_texts.ensures.some Formula Refused;
+      };
+      extras = record { one = c.extra_texts.ensures.one; no_fault = c.extra_texts.ensures.no_fault; some = c.extra_texts.ensures.some };
+    } in
     ok_map (λ t. ByReading (λ read. outcome_of read c.in_ok-parts.parts.items ≡ Says (tactic_at (g.S.Store.trees c.read_parts.new.store) t)))
     (λ t. AreFitting (tactic_at (g.S.Store.trees c.read_parts.new.store) t))
     (λ t h. c.fit_strategy.ensures.fitting c.args.bytes.now (tactic_at (g.S.Store.trees c.read_parts.new.store) t)
@@ -47,14 +47,14 @@ returns-clause-fitting g c =
 
 pub returns-clause-fault : goal.returns-clause-fault
 returns-clause-fault g c =
-  let laws : QuotedLaws = record {
-    formulas = record {
-      one = c.tree_texts.ensures.one Formula Refused;
-      no_fault = c.tree_texts.ensures.no_fault Formula Refused;
-      some = c.tree_texts.ensures.some Formula Refused;
-    };
-    extras = record { one = c.extra_texts.ensures.one; no_fault = c.extra_texts.ensures.no_fault; some = c.extra_texts.ensures.some };
-  } in
+    let laws : QuotedLaws = record {
+      formulas = record {
+        one = c.tree_texts.ensures.one Formula Refused;
+        no_fault = c.tree_texts.ensures.no_fault Formula Refused;
+        some = c.tree_texts.ensures.some Formula Refused;
+      };
+      extras = record { one = c.extra_texts.ensures.one; no_fault = c.extra_texts.ensures.no_fault; some = c.extra_texts.ensures.some };
+    } in
     err_map (IsTacSyntaxOf (λ f. ByReading (λ read. outcome_of read c.in_ok-parts.parts.items ≡ Fails f))) (IsTacSyntaxOf (StrategyFault c.args.bytes.now))
     (λ e h. weaken (λ f. ByReading (λ read. outcome_of read c.in_ok-parts.parts.items ≡ Fails f)) (StrategyFault c.args.bytes.now)
     (λ f w. outcome_fault laws c.args.bytes.now c.in_ok-parts.parts.items c.in_ok-parts.ensures.found f w)
