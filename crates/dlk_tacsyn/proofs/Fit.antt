@@ -17,11 +17,13 @@ use Rattle.dlk_tacsyn.specs.declared.kind.Kind.{Kind}
 use Rattle.dlk_tacsyn.specs.declared.kind.Kind.TheVariants.{FixedPlace, AnyPlace, QuotedFormula, AName, QuotedExtra}
 use Rattle.dlk_tacsyn.specs.declared.argument.Written.{Written}
 use Rattle.dlk_tacsyn.specs.declared.argument.Written.TheVariants as written
-use Rattle.dlk_tacsyn.specs.Tactics.{Argument, Atom, Tactic, Tactics, Choice, Sequence, Branch, Repeat, EachAtom, EachAtomOf, AtPlace, AnyLeft, AnyRight, Word, GivenFormula, GivenExtra}
+use Rattle.dlk_tacsyn.specs.Tactics.{Argument, Atom, Tactic, Tactics, Choice, Sequence, Branch, Repeat, EachAtom, EachAtomOf, AtPlace, AnyLeft}
+use Rattle.dlk_tacsyn.specs.Tactics.{AnyRight, Word, GivenFormula, GivenExtra}
 use Rattle.dlk_tacsyn.specs.Rows.{Row, row_of, IsOfKind, AreOfKinds, IsFitting, AreFitting, IsRename, IsNamed, HasNames}
 use Rattle.dlk_tacsyn.specs.Faults.{Nesting}
 use Rattle.dlk_tacsyn.specs.Faults as fault
-use Rattle.dlk_tacsyn.specs.Strategies.{Says, Reading, IsReading, IsSaid, most_open, most_times, parts, whole, all_written, place_of, place_or_locator_of, word_of}
+use Rattle.dlk_tacsyn.specs.Strategies.{Says, Reading, IsReading, IsSaid, most_open, most_times, parts, whole, all_written, place_of}
+use Rattle.dlk_tacsyn.specs.Strategies.{place_or_locator_of, word_of}
 use Rattle.dlk_tacsyn.specs.Strategies.{quoted_of, argument_of, followed, arguments_of, atom_given, atom_by}
 use Rattle.dlk_tacsyn.specs.Strategies.{atom_of, opened, choices_of, sequence_of, branches_of, repeat_of, primary_of, strategy_of, StrategyText}
 use Rattle.dlk_tacsyn.proofs.Given.{Gives, bind_gives, if_gives, said_gives}
@@ -229,7 +231,8 @@ module _ (read : Reading) where
     atom_fits at name ws h = by_fits at name ws h (row_of name) refl
 
 -- what is read of a quoted text that says names and pairs
-extra_holds : (P : Extra → Type 0) → ((s : List ℕ) (e : Extra) → ExtraText s e → P e) → (read : Reading) → IsReading read → (s : List ℕ) → Holds P (read.extra s)
+extra_holds : (P : Extra → Type 0) → ((s : List ℕ) (e : Extra) → ExtraText s e → P e) → (read : Reading) → IsReading read → (s : List ℕ) →
+    Holds P (read.extra s)
 extra_holds P law read reading s = said_holds (λ (e : Extra). ExtraText s e) P (law s) (read.extra s) (reading.extras s)
 
 formula_holds : ((s : List ℕ) (h : Tree) → TreeText Formula Refused s h → IsFormula h) → (read : Reading) → IsReading read → (s : List ℕ) →

@@ -11,7 +11,9 @@ use Rattle.dlk_tacsyn.specs.Tactics.{Argument, Tactic, Repeat}
 use Rattle.dlk_tacsyn.specs.Rows.{Row, row_of}
 use Rattle.dlk_tacsyn.specs.Faults.{Fault, Nesting, UnknownAtom, Arguments, IsTacSyntaxOf, of_parts}
 use Rattle.dlk_tacsyn.specs.Faults as fault
-use Rattle.dlk_tacsyn.specs.Strategies.{Outcome, Reading, Says, Fails, ◌>>=◌, most_open, most_times, opened, all_written, arguments_of, atom_given, atom_by, choices_of, sequence_of, branches_of, repeat_of, primary_of, strategy_of, IsReading, HasOutcome, StrategyFault}
+use Rattle.dlk_tacsyn.specs.Strategies.{Outcome, Reading, Says, Fails, ◌>>=◌, most_open, most_times, opened, all_written, arguments_of, atom_given}
+use Rattle.dlk_tacsyn.specs.Strategies.{atom_by, choices_of, sequence_of, branches_of, repeat_of, primary_of, strategy_of, IsReading, HasOutcome}
+use Rattle.dlk_tacsyn.specs.Strategies.{StrategyFault}
 use Rattle.dlk_tacsyn.specs.Steps.{outcome_of}
 use Rattle.dlk_tacsyn.proofs.Runs.{machine_answers}
 use Rattle.dlk_tacsyn.proofs.Read.{QuotedLaws, reads, reads_all}
@@ -78,7 +80,8 @@ module _ (read : Reading) where
   strategy_later s = bind_later (choices_of read 0 s) _ (choices_later 0 s) (λ ts. tt)
 
 module _ (laws : QuotedLaws) where
-  pub outcome : (bytes : List ℕ) (ps : List Part) (o : Outcome Tactic) → HasParts bytes ps → ((read : Reading) → IsReading read → outcome_of read ps ≡ o) → HasOutcome bytes o
+  pub outcome : (bytes : List ℕ) (ps : List Part) (o : Outcome Tactic) → HasParts bytes ps →
+      ((read : Reading) → IsReading read → outcome_of read ps ≡ o) → HasOutcome bytes o
   outcome bytes ps o has h = record {
     script = has.script;
     says = has.says;
@@ -87,7 +90,8 @@ module _ (laws : QuotedLaws) where
     outcome_is = sym (machine_answers (reads laws) has.script) ∙ ap (outcome_of (reads laws)) has.parts_are ∙ h (reads laws) (reads_all laws);
   }
 
-  pub outcome_fault : (bytes : List ℕ) (ps : List Part) → HasParts bytes ps → (f : Fault) → ((read : Reading) → IsReading read → outcome_of read ps ≡ Fails f) → StrategyFault bytes f
+  pub outcome_fault : (bytes : List ℕ) (ps : List Part) → HasParts bytes ps → (f : Fault) →
+      ((read : Reading) → IsReading read → outcome_of read ps ≡ Fails f) → StrategyFault bytes f
   outcome_fault bytes ps has (fault.Syntax at) h =
       let told = outcome bytes ps (Fails (fault.Syntax at)) has h in
       absurd (subst (IsLater {A = Tactic}) told.outcome_is (strategy_later told.read told.script))

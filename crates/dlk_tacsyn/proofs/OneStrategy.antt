@@ -76,14 +76,17 @@ module _ (laws : QuotedLaws) (one_script : (bytes : List ℕ) (s u : Script) →
       one_fault bytes f e h k = one_told bytes f e (told bytes f h) (told bytes e k)
 
 module _ (laws : QuotedLaws) where
+  read_so : (bytes : List ℕ) (s : Script) (o : Outcome Tactic) → IsScript bytes s → strategy_of (reads laws) s ≡ o → HasOutcome bytes o
+  read_so bytes s o is e = record { script = s; says = is; read = reads laws; reading = reads_all laws; outcome_is = e }
+
   by_outcome : (bytes : List ℕ) (s : Script) → IsScript bytes s → (o : Outcome Tactic) → strategy_of (reads laws) s ≡ o → IsLater o →
       ((t : Tactic) × StrategyText bytes t) ⊎ ((f : Fault) × StrategyFault bytes f)
-  by_outcome bytes s is (Says t) e later = inl (t, record { script = s; says = is; read = reads laws; reading = reads_all laws; outcome_is = e })
+  by_outcome bytes s is (Says t) e later = inl (t, read_so bytes s (Says t) is e)
   by_outcome bytes s is (Fails (fault.Syntax at)) e later = absurd later
-  by_outcome bytes s is (Fails (fault.Nesting at)) e later = inr (Nesting at, record { script = s; says = is; read = reads laws; reading = reads_all laws; outcome_is = e })
-  by_outcome bytes s is (Fails (fault.Repeat at)) e later = inr (fault.Repeat at, record { script = s; says = is; read = reads laws; reading = reads_all laws; outcome_is = e })
-  by_outcome bytes s is (Fails (fault.UnknownAtom at)) e later = inr (UnknownAtom at, record { script = s; says = is; read = reads laws; reading = reads_all laws; outcome_is = e })
-  by_outcome bytes s is (Fails (fault.Arguments at)) e later = inr (Arguments at, record { script = s; says = is; read = reads laws; reading = reads_all laws; outcome_is = e })
+  by_outcome bytes s is (Fails (fault.Nesting at)) e later = inr (Nesting at, read_so bytes s (Fails (Nesting at)) is e)
+  by_outcome bytes s is (Fails (fault.Repeat at)) e later = inr (fault.Repeat at, read_so bytes s (Fails (fault.Repeat at)) is e)
+  by_outcome bytes s is (Fails (fault.UnknownAtom at)) e later = inr (UnknownAtom at, read_so bytes s (Fails (UnknownAtom at)) is e)
+  by_outcome bytes s is (Fails (fault.Arguments at)) e later = inr (Arguments at, read_so bytes s (Fails (Arguments at)) is e)
 
   pub says_or_fails : (bytes : List ℕ) → (((s : Script) × IsScript bytes s) ⊎ ((at : ℕ) × Stops bytes at)) → ((t : Tactic) × StrategyText bytes t) ⊎ ((f : Fault) × StrategyFault bytes f)
   says_or_fails bytes (inl p) = by_outcome bytes p.0 p.1 (strategy_of (reads laws) p.0) refl (strategy_later (reads laws) p.0)

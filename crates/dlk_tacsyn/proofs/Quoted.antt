@@ -61,7 +61,8 @@ behind_next before a (Some rest) = ap (λ z. Some z) (sym (append_assoc before (
 
 module _ (read : Reading) where
   -- One argument more is read, where this is left to read, and then that.
-  pub arguments_step : (whole : Option (List Argument)) (rest others : List Written → Option (List Argument)) (its : List Written) (old before : List Argument) (kind : Kind) (w : Written) (after : List Written) (a : Argument) (final : List Argument) →
+  pub arguments_step : (whole : Option (List Argument)) (rest others : List Written → Option (List Argument)) (its : List Written)
+      (old before : List Argument) (kind : Kind) (w : Written) (after : List Written) (a : Argument) (final : List Argument) →
       whole ≡ behind old (rest its) → old ≡ before → its ≡ w ∷ after → rest (w ∷ after) ≡ followed read kind w (others after) →
       argument_of read kind w ≡ Some a → before ++ a ∷ [] ≡ final → whole ≡ behind final (others after)
   arguments_step whole rest others its old before kind w after a final goes kept items_are split found ends =
@@ -69,15 +70,9 @@ module _ (read : Reading) where
       ∙ ap (λ o. behind before (option_and_then (λ x. option_map (λ all. x ∷ all) (others after)) o)) found
       ∙ behind_next before a (others after) ∙ ap (λ z. behind z (others after)) ends
 
-  -- One more isn't read.
-  pub arguments_none : (whole : Option (List Argument)) (rest others : List Written → Option (List Argument)) (its : List Written) (old : List Argument) (kind : Kind) (w : Written) (after : List Written) →
-      whole ≡ behind old (rest its) → its ≡ w ∷ after → rest (w ∷ after) ≡ followed read kind w (others after) → argument_of read kind w ≡ None → whole ≡ None
-  arguments_none whole rest others its old kind w after goes items_are split none =
-      goes ∙ (λ i. behind old (rest (items_are i))) ∙ ap (behind old) split
-      ∙ ap (λ o. behind old (option_and_then (λ x. option_map (λ all. x ∷ all) (others after)) o)) none
-
   pub atom_found : (at : ℕ) (name : List ℕ) (ws : List Written) (row : Row) (all : List Argument) →
-      row_of name ≡ Some row → arguments_of read row.wanted row.optional ws ≡ Some all → atom_of read at name ws ≡ Says (One (record { name = name; arguments = all; at = at }))
+      row_of name ≡ Some row → arguments_of read row.wanted row.optional ws ≡ Some all →
+      atom_of read at name ws ≡ Says (One (record { name = name; arguments = all; at = at }))
   atom_found at name ws row all row_is found = ap (atom_by read at name ws) row_is ∙ ap (atom_given read at name) found
 
   pub atom_unknown : (at : ℕ) (name : List ℕ) (ws : List Written) → row_of name ≡ None → atom_of read at name ws ≡ Fails (UnknownAtom at)

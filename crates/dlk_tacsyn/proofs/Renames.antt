@@ -11,7 +11,8 @@ use Rattle.dlk_grammar.specs.declared.token.TokenKind.{TokenKind}
 use Rattle.dlk_grammar.specs.Tokens.{Spells, word, true_word, false_word, integer, decimal, long_integer, long_decimal, dot, hole, a_mark}
 use Rattle.dlk_grammar.specs.Splits.{Splits, ended, space, comment, one}
 use Rattle.dlk_grammar.specs.Lexemes.{Lexeme, Name, lexeme_of_mark, lexeme_of, lexemes_from}
-use Rattle.dlk_grammar.specs.Extras.{Rename, ExtraPhrase, rename-names, ReadsRenames, renames-one, renames-more, ReadsExtra, extra-subst, extra-renames, extra-both}
+use Rattle.dlk_grammar.specs.Extras.{Rename, ExtraPhrase, rename-names, ReadsRenames, renames-one, renames-more, ReadsExtra, extra-subst}
+use Rattle.dlk_grammar.specs.Extras.{extra-renames, extra-both}
 use Rattle.dlk_grammar.specs.Texts.{ExtraText}
 use Rattle.dlk_tacsyn.specs.Rows.{IsRename}
 

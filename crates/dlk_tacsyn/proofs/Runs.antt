@@ -14,8 +14,10 @@ use Rattle.dlk_tacsyn.specs.declared.frame.Opened.{Opened}
 use Rattle.dlk_tacsyn.specs.declared.frame.Opened.TheVariants.{Group, Fork}
 use Rattle.dlk_tacsyn.specs.Tactics.{Tactic, Choice, Sequence, Branch}
 use Rattle.dlk_tacsyn.specs.Faults.{Fault}
-use Rattle.dlk_tacsyn.specs.Strategies.{Outcome, Reading, Says, Fails, ◌>>=◌, side_of, path_of, written_of, all_written, parts, whole, opened, repeated, atom_of, choices_of, sequence_of, branches_of, repeat_of, primary_of, strategy_of}
-use Rattle.dlk_tacsyn.specs.Steps.{Frame, Stack, bottom, within, Nothing, Named, Called, Whole, State, state, empty_frame, start, after_whole, after_name, step, run, finish}
+use Rattle.dlk_tacsyn.specs.Strategies.{Outcome, Reading, Says, Fails, ◌>>=◌, side_of, path_of, written_of, all_written, parts, whole, opened}
+use Rattle.dlk_tacsyn.specs.Strategies.{repeated, atom_of, choices_of, sequence_of, branches_of, repeat_of, primary_of, strategy_of}
+use Rattle.dlk_tacsyn.specs.Steps.{Frame, Stack, bottom, within, Nothing, Named, Called, Whole, State, state, empty_frame, start, after_whole}
+use Rattle.dlk_tacsyn.specs.Steps.{after_name, step, run, finish}
 use Rattle.dlk_tacsyn.proofs.Chains.{bind_assoc, bind_same, bind_says, bind_at, bind_opened}
 
 abbrev frame : Opened → ℕ → List Tactic → List Tactic → List Tactic → Frame

@@ -13,7 +13,8 @@ use Rattle.dlk_tacsyn.specs.declared.kind.Kind.{Kind}
 use Rattle.dlk_tacsyn.specs.declared.kind.Kind.TheVariants.{FixedPlace, AnyPlace, QuotedFormula, AName, QuotedExtra}
 use Rattle.dlk_tacsyn.specs.declared.argument.Written.{Written}
 use Rattle.dlk_tacsyn.specs.declared.argument.Written.TheVariants as written
-use Rattle.dlk_tacsyn.specs.Tactics.{Argument, AtPlace, AnyLeft, AnyRight, Word, GivenFormula, GivenExtra, Tactic, Choice, Sequence, Branch, Repeat, One, Tactics}
+use Rattle.dlk_tacsyn.specs.Tactics.{Argument, AtPlace, AnyLeft, AnyRight, Word, GivenFormula, GivenExtra, Tactic, Choice, Sequence, Branch, Repeat}
+use Rattle.dlk_tacsyn.specs.Tactics.{One, Tactics}
 use Rattle.dlk_tacsyn.specs.Tactics.{no_parts, part}
 use Rattle.dlk_tacsyn.specs.Rows.{Row, row_of}
 use Rattle.dlk_tacsyn.specs.Faults.{Fault, Nesting, UnknownAtom, Arguments}

@@ -19,11 +19,14 @@ loop-next-preserved g c =
           (All-push (ArgumentIsKnown new) c.loop-next.all.items c.in_ok-argument.argument (arguments_known old new keeps c.loop-next.all.items c.loop-next.invariant.known) c.in_ok-argument.ensures.known);
       goes = λ read reading.
           arguments_step read (arguments_of read c.args.row.wanted.now c.args.row.optional c.args.written)
-          (arguments_of read c.loop-next.rest.wanted.now c.loop-next.rest.optional) (arguments_of read c.in-Some-split.others.wanted.now c.in-Some-split.others.optional)
-          (into_iter_items c.loop-next.next-iterator) (map (argument_at old) c.loop-next.all.items) (map (argument_at new) c.loop-next.all.items)
-          c.in-Some-split.kind c.in-Some.next (into_iter_items c.next.new.self) (argument_at new c.in_ok-argument.argument) (map (argument_at new) c.push.new.self.items)
+          (arguments_of read c.loop-next.rest.wanted.now c.loop-next.rest.optional)
+          (arguments_of read c.in-Some-split.others.wanted.now c.in-Some-split.others.optional) (into_iter_items c.loop-next.next-iterator)
+          (map (argument_at old) c.loop-next.all.items) (map (argument_at new) c.loop-next.all.items)
+          c.in-Some-split.kind c.in-Some.next (into_iter_items c.next.new.self) (argument_at new c.in_ok-argument.argument)
+          (map (argument_at new) c.push.new.self.items)
           (c.loop-next.invariant.goes read reading) (sym (arguments_kept old new keeps c.loop-next.all.items c.loop-next.invariant.known))
-          c.in-Some.ensures.steps.0 (c.in-Some-split.ensures.found read c.in-Some.next (into_iter_items c.next.new.self)) (c.in_ok-argument.ensures.found read reading)
+          c.in-Some.ensures.steps.0 (c.in-Some-split.ensures.found read c.in-Some.next (into_iter_items c.next.new.self))
+          (c.in_ok-argument.ensures.found read reading)
           (sym (ap (map (argument_at new)) c.in_ok-push.ensures.items ∙ map-append (argument_at new) c.loop-next.all.items (c.in_ok-argument.argument ∷ [])));
     }
 
@@ -33,5 +36,6 @@ returns-then-rest-gt0-clause-fault g c =
     let some : 0 < length c.loop-next.rest.wanted.now = omega arith in (
       refl,
       λ read reading. c.loop-next.invariant.goes read reading
-          ∙ arguments_left read (map (argument_at (g.S.Store.trees c.loop-next.store)) c.loop-next.all.items) c.loop-next.rest.wanted.now c.loop-next.rest.optional (into_iter_items c.loop-next.next-iterator) none some,
+          ∙ arguments_left read (map (argument_at (g.S.Store.trees c.loop-next.store)) c.loop-next.all.items) c.loop-next.rest.wanted.now
+          c.loop-next.rest.optional (into_iter_items c.loop-next.next-iterator) none some,
     )
