@@ -1,2 +1,9 @@
 //! Matching: with which names and replacements a tree is an instance of an axiom's key.
 #![tactic(auto)]
+
+mod instances;
+
+pub use instances::{
+    axioms_have_own_names, exchanged_at_once, exchanged_over_kids, match_gives_target,
+    match_is_proper, plugged_back, subst_over_kids,
+};
