@@ -11,13 +11,15 @@ ghost use Rattle.dlk_sequent.specs.Sequents.{sequent_at, IsKnown};
 ghost use Rattle.dlk_sequent.specs.Substitutions.{pairs_at, AreKnownPairs};
 ghost use Rattle.dlk_sequent.specs.Extras.{extra_at, IsKnownExtra};
 ghost use Rattle.dlk_parse.specs.Faults.{IsParseFaultOf, UnlessMemory};
-ghost use Rattle.dlk_parse.specs.Said.{IsReadCode, AreReadSides, AreReadPairs};
+ghost use Rattle.dlk_parse.specs.Said.{IsReadCode, AreReadSides, AreReadPairs, IsReadExtra};
 
 use crate::fault::ParseFault;
 use crate::limits::check_code;
 use crate::making::make_all;
 use crate::scan::scan;
-use dlk_forms::{PairsCode, SidesCode, read_pairs, read_sides, read_tree};
+use dlk_forms::{
+    ExtraCode, PairsCode, SidesCode, read_extra, read_pairs, read_sides, read_tree,
+};
 use dlk_grammar::{Dots, Form, Token};
 use dlk_reader::Code;
 use dlk_sequent::{Extra, Listed, Pair, Sequent};
@@ -64,6 +66,18 @@ fn pairs_code(alloc: Global, tokens: Vec<Token>) -> Result<PairsCode, ParseFault
     let pairs = read_pairs(alloc, tokens)?;
     check_code(alloc, starts.as_slice(), pairs.code.as_slice())?;
     Ok(pairs)
+}
+
+/// The code of the renames and the pairs that the tokens are a text of.
+fn extra_code(alloc: Global, tokens: Vec<Token>) -> Result<ExtraCode, ParseFault>
+    requires { AreTokens tokens.items }
+    ensures read { IfOk result (IsReadExtra tokens.items) }
+    ensures fault { IfErr result (IsParseFaultOf (AreExtraFault tokens.items)) }
+{
+    let starts = scan(alloc, tokens.as_slice())?;
+    let extra = read_extra(alloc, tokens)?;
+    check_code(alloc, starts.as_slice(), extra.pairs.code.as_slice())?;
+    Ok(extra)
 }
 
 /// The tree that the tokens are a text of.
@@ -144,16 +158,25 @@ pub(crate) fn pairs_of<S: Store>(
 
 /// The renames and the pairs that the tokens are a text of.
 pub(crate) fn extra_of<S: Store>(
-    _alloc: Global,
-    _tokens: Vec<Token>,
-    _store: &mut S,
+    alloc: Global,
+    tokens: Vec<Token>,
+    store: &mut S,
 ) -> Result<Extra, ParseFault>
-    requires { AreTokens _tokens.items }
-    ensures found { IfOk result (λ extra. AreExtra _tokens.items (extra_at (S.trees _store.new) extra)) }
-    ensures known { IfOk result (IsKnownExtra (S.trees _store.new)) }
-    ensures fault { IfErr result (IsParseFaultOf (AreExtraFault _tokens.items)) }
-    ensures unmade { IfErr result (UnlessMemory (_store.new ≡ _store.old)) }
-    ensures grows { S.grows _store.old _store.new }
+    requires { AreTokens tokens.items }
+    ensures found { IfOk result (λ extra. AreExtra tokens.items (extra_at (S.trees store.new) extra)) }
+    ensures known { IfOk result (IsKnownExtra (S.trees store.new)) }
+    ensures fault { IfErr result (IsParseFaultOf (AreExtraFault tokens.items)) }
+    ensures unmade { IfErr result (UnlessMemory (store.new ≡ store.old)) }
+    ensures grows { S.grows store.old store.new }
 {
-    Err(ParseFault::Memory)
+    let ExtraCode {
+        renames,
+        pairs: PairsCode { symbols, code },
+    } = extra_code(alloc, tokens)?;
+    let ids = make_all(alloc, code, store)?;
+    let pairs = pairs(alloc, symbols, ids.as_slice())?;
+    Ok(Extra {
+        renames: Listed::from_vec(renames),
+        pairs: Listed::from_vec(pairs),
+    })
 }
