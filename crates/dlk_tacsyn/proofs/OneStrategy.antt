@@ -1,5 +1,5 @@
 -- Bytes are one strategy or have one fault.
-use Rattle.std.proofs.Common.{◌≡◌, ℕ, List, Option, Some, None, refl, sym, ap, ◌∙◌, subst, inl, inr, ◌⊎◌}
+use Rattle.std.proofs.Common.{◌≡◌, ℕ, List, refl, sym, ap, ◌∙◌, subst, inl, inr, ◌⊎◌}
 use Rattle.dlk_scripts.specs.Scripts.{Script}
 use Rattle.dlk_scripts.specs.Texts.{IsScript, Stops}
 use Rattle.dlk_tacsyn.specs.Tactics.{Tactic}

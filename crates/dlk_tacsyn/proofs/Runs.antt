@@ -1,5 +1,5 @@
 -- The machine answers what the definition says of the parts of a script.
-use Rattle.std.proofs.Common.{◌≡◌, ℕ, ◌+◌, List, [], ◌∷◌, ◌++◌, Option, refl, sym, ap, ◌∙◌, append_assoc}
+use Rattle.std.proofs.Common.{◌≡◌, ℕ, ◌+◌, List, [], ◌∷◌, ◌++◌, refl, sym, ap, ◌∙◌, append_assoc}
 use Rattle.dlk_scripts.specs.declared.part.Part.{Part}
 use Rattle.dlk_scripts.specs.declared.part.PartKind.{PartKind}
 use Rattle.dlk_scripts.specs.declared.part.PartKind.TheVariants as kind

@@ -78,7 +78,7 @@ opened level at inside = if nat_lt level most_open then inside else Fails (Nesti
 abbrev pub repeated : ℕ → ℕ → Tactic → Outcome Tactic
 repeated at n t = if nat_le n most_times then Says (Repeat t n) else Fails (fault.Repeat at)
 
--- the argument of a kind, where what is written is one
+-- What is written as an argument of each kind, where it is one:
 abbrev pub place_of : Written → Option Argument
 place_of (written.At place path) = Some (AtPlace place path)
 place_of written.AnyLeft = None
@@ -100,7 +100,7 @@ word_of written.AnyRight = None
 word_of (written.Word x) = Some (Word x)
 word_of (written.Quoted text) = None
 
--- quoted, and read so
+-- what is quoted, as it is read
 abbrev pub quoted_of : {A : Type 0} → (A → Argument) → (List ℕ → Option A) → Written → Option Argument
 quoted_of make read (written.At place path) = None
 quoted_of make read written.AnyLeft = None
