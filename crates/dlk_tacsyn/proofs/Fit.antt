@@ -19,7 +19,7 @@ use Rattle.dlk_tacsyn.specs.declared.argument.Written.{Written}
 use Rattle.dlk_tacsyn.specs.declared.argument.Written.TheVariants as written
 use Rattle.dlk_tacsyn.specs.Tactics.{Argument, Atom, Tactic, Tactics, Choice, Sequence, Branch, Repeat, EachAtom, EachAtomOf, AtPlace, AnyLeft}
 use Rattle.dlk_tacsyn.specs.Tactics.{AnyRight, Word, GivenFormula, GivenExtra}
-use Rattle.dlk_tacsyn.specs.Rows.{Row, row_of, IsOfKind, AreOfKinds, IsFitting, AreFitting, IsRename, IsNamed, HasNames}
+use Rattle.dlk_tacsyn.specs.Rows.{Row, row_of, IsOfKind, AreOfKinds, IsFitting, AreFitting, IsNamedExtra, IsNamed, HasNames}
 use Rattle.dlk_tacsyn.specs.Faults.{Nesting}
 use Rattle.dlk_tacsyn.specs.Faults as fault
 use Rattle.dlk_tacsyn.specs.Strategies.{Says, Reading, IsReading, IsSaid, most_open, most_times, parts, whole, all_written, place_of}
@@ -28,7 +28,7 @@ use Rattle.dlk_tacsyn.specs.Strategies.{quoted_of, argument_of, followed, argume
 use Rattle.dlk_tacsyn.specs.Strategies.{atom_of, opened, choices_of, sequence_of, branches_of, repeat_of, primary_of, strategy_of, StrategyText}
 use Rattle.dlk_tacsyn.proofs.Given.{Gives, bind_gives, if_gives, said_gives}
 use Rattle.dlk_tacsyn.proofs.Named.{AreNamedParts, named_front, named_behind, named_parts, IsNamedWritten, AreNamedWritten, all_named}
-use Rattle.dlk_tacsyn.proofs.Renames.{text_renames}
+use Rattle.dlk_tacsyn.proofs.Renames.{extra_text_named}
 
 -- what holds of a value, if there is one
 abbrev Holds : {A : Type 0} → (A → Type 0) → Option A → Type 0
@@ -152,7 +152,7 @@ any_formula None = tt
 any_formula (Some h) = tt
 
 module _ (read : Reading) where
-  module _ (renames : (s : List ℕ) → Holds (λ (e : Extra). All IsRename e.renames) (read.extra s)) where
+  module _ (renames : (s : List ℕ) → Holds (λ (e : Extra). IsNamedExtra e) (read.extra s)) where
     argument_named : (kind : Kind) (w : Written) → IsNamedWritten w → Holds IsNamed (argument_of read kind w)
     argument_named FixedPlace w h = place_holds IsNamed w (λ p path. tt)
     argument_named AnyPlace w h = locator_holds IsNamed w (λ p path. tt) tt tt
@@ -243,7 +243,7 @@ pub text_named : (bytes : List ℕ) (t : Tactic) → StrategyText bytes t → Ea
 text_named bytes t is =
     said_gives (EachAtom HasNames) (strategy_of is.read is.script) t is.outcome_is
     (strategy_each HasNames is.read
-    (atom_named is.read (extra_holds (λ (e : Extra). All IsRename e.renames) text_renames is.read is.reading)) is.script (named_parts bytes _ is.says.spelled))
+    (atom_named is.read (extra_holds (λ (e : Extra). IsNamedExtra e) extra_text_named is.read is.reading)) is.script (named_parts bytes _ is.says.spelled))
 
 pub text_fits : ((s : List ℕ) (h : Tree) → TreeText Formula Refused s h → IsFormula h) →
     ((s : List ℕ) (e : Extra) → ExtraText s e → AreWellMade e.pairs) → (bytes : List ℕ) (t : Tactic) → StrategyText bytes t → AreFitting t

@@ -1,7 +1,8 @@
 -- The names of atoms, and the arguments that each wants.
-use Rattle.std.specs.Prelude.{◌≡◌, ℕ, List, [], ◌∷◌, Option, Some, None, option_map, ◌||◌, if◌then◌else◌, Bool, All, IsTrue, bytes_eq, codes}
+use Rattle.std.specs.Prelude.{◌≡◌, ℕ, List, [], ◌∷◌, Option, Some, None, option_map, ◌||◌, if◌then◌else◌, Bool, true, All, IsTrue, bytes_eq, codes}
 use Rattle.dlk_tree.specs.Names.{is_name}
-use Rattle.dlk_calculus.specs.Pairs.{AreWellMade}
+use Rattle.dlk_tree.specs.Table.{is_sym}
+use Rattle.dlk_calculus.specs.Pairs.{Pair, Extra, AreWellMade}
 use Rattle.dlk_calculus.specs.Sequents.{IsFormula}
 use Rattle.dlk_rules.specs.declared.arguments.Shape.{Shape}
 use Rattle.dlk_rules.specs.declared.arguments.Shape.TheVariants as shape
@@ -125,7 +126,15 @@ AreFitting t = EachAtom IsFitting t
 abbrev pub IsRename : List ℕ × List ℕ → Type 0
 IsRename r = IsTrue (is_name r.0) × IsTrue (is_name r.1)
 
--- each name that the argument is, or that it renames or gives, is a name
+-- what the pair replaces is a symbol
+abbrev pub ReplacesSymbol : Pair → Type 0
+ReplacesSymbol p = is_sym p.sym ≡ true
+
+-- the names are names, and what is replaced are symbols
+abbrev pub IsNamedExtra : Extra → Type 0
+IsNamedExtra extra = All IsRename extra.renames × All ReplacesSymbol extra.pairs
+
+-- each name that the argument is, or that it renames or gives, is a name, and each symbol that it replaces is one
 abbrev pub IsNamed : Argument → Type 0
 IsNamed (AtPlace place path) = Unit {0}
 IsNamed AnyLeft = Unit {0}
@@ -133,7 +142,7 @@ IsNamed AnyRight = Unit {0}
 IsNamed (Word name) = IsTrue (is_name name)
 IsNamed (GivenFormula h) = Unit {0}
 IsNamed (GivenTerm e) = Unit {0}
-IsNamed (GivenExtra extra) = All IsRename extra.renames
+IsNamed (GivenExtra extra) = IsNamedExtra extra
 
 -- each name among the arguments is one
 abbrev pub HasNames : Atom → Type 0
