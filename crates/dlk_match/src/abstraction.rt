@@ -1,8 +1,9 @@
 //! A variable as an argument.
-ghost use Rattle.std.specs.Prelude.{◌≡◌, IfOk, All};
-ghost use Rattle.dlk_tree.specs.Trees.{node};
+ghost use Rattle.std.specs.Prelude.{◌≡◌, ◌-◌, IfOk, All, List};
+ghost use Rattle.dlk_tree.specs.Trees.{Tree, node};
 ghost use Rattle.dlk_store.specs.Stores.{IsId, tree, kid_trees, StandsFor};
-ghost use Rattle.dlk_match.specs.Abstract.{is_variable, abstracted};
+ghost use Rattle.dlk_calculus.specs.Captures.{captures};
+ghost use Rattle.dlk_match.specs.Abstract.{count, is_variable, abstracted};
 ghost use Rattle.dlk_match.specs.Entered.{entered};
 
 use dlk_store::{Id, Steps, Store, StoreFault};
@@ -20,14 +21,14 @@ fn is_variable(v: &Var, op: &Op) -> bool
     }
 }
 
-/// How many kids of the node, from the first on, are outside the scope of a binder of the variable.
-fn entered<S: Store>(store: &S, id: Id, op: &Op, kids: &[Id], v: &Var) -> usize
+/// Whether the node binds the variable over some of its kids, or reads it there where it stands for no argument.
+fn captures<S: Store>(store: &S, id: Id, op: &Op, kids: &[Id], v: &Var) -> bool
     requires known { IsId (S.trees store.now) id }
     requires kids { All (IsId (S.trees store.now)) kids.now }
     requires node { tree (S.trees store.now) id ≡ node op.now (kid_trees (S.trees store.now) kids.now) }
-    ensures { result ≡ entered v.now op.now (kid_trees (S.trees store.now) kids.now) }
+    ensures { result ≡ (captures op.now).set (kid_trees (S.trees store.now) kids.now) v.now }
 {
-    let captured = match op {
+    match op {
         Op::Diff | Op::DiffF | Op::Predicational(_) => true,
         Op::Forall(x) | Op::Exists(x) => !v.primed && v.name == *x,
         Op::System(_) => store.binds(id, v),
@@ -36,11 +37,30 @@ fn entered<S: Store>(store: &S, id: Id, op: &Op, kids: &[Id], v: &Var) -> usize
             None => false,
         },
         _ => false,
-    };
+    }
+}
+
+/// How many kids are outside of what the operator captures, from the first on.
+fn outside(op: &Op, kids: &[Id]) -> usize
+    ensures { (trees : List Tree) → result ≡ count (kid_trees trees kids.now) - count ((captures op.now).reach (kid_trees trees kids.now)) }
+{
     match op {
-        _ if !captured => kids.len(),
         Op::Box | Op::Dia | Op::Seq if !kids.is_empty() => 1,
         _ => 0,
+    }
+}
+
+/// How many kids of the node, from the first on, are outside the scope of a binder of the variable.
+fn entered<S: Store>(store: &S, id: Id, op: &Op, kids: &[Id], v: &Var) -> usize
+    requires known { IsId (S.trees store.now) id }
+    requires kids { All (IsId (S.trees store.now)) kids.now }
+    requires node { tree (S.trees store.now) id ≡ node op.now (kid_trees (S.trees store.now) kids.now) }
+    ensures { result ≡ entered v.now op.now (kid_trees (S.trees store.now) kids.now) }
+{
+    if captures(store, id, op, kids, v) {
+        outside(op, kids)
+    } else {
+        kids.len()
     }
 }
 
