@@ -1,4 +1,5 @@
 pub mod Abstract
 pub mod Entered
 pub mod Matching
+pub mod Tried
 pub mod Found

@@ -3,7 +3,11 @@
 
 mod abstraction;
 mod found;
+mod head;
 mod laws;
+mod members;
+mod taking;
+mod walk;
 
 pub use abstraction::abstract_var;
 pub use found::matching;
