@@ -1,2 +1,4 @@
 pub mod Abstracted
 pub mod OneMatch
+pub mod Taken
+pub mod Heads

@@ -109,7 +109,7 @@ assigned_of primed y z e =
     let vars : record { name = y; primed = primed } ≡ record { name = z; primed = primed } = cc in
     ap (λ (v : Var). v.name) vars
 
-one_node : {op other : Op} {ks ls : Forest} {e : Tree} → e ≡ node op ks → e ≡ node other ls → (op ≡ other) × (ks ≡ ls)
+pub one_node : {op other : Op} {ks ls : Forest} {e : Tree} → e ≡ node op ks → e ≡ node other ls → (op ≡ other) × (ks ≡ ls)
 one_node p q = (cc, cc)
 
 module _ (keys : Forest) (e : Tree) (Kids : Forest → Extra → Extra → Type 0)
