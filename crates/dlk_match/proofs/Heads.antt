@@ -1,6 +1,6 @@
 -- A node of the key whose operator is no symbol's and no system's.
-use Rattle.std.proofs.Common.{◌≡◌, refl, sym, ap, subst, ◌∙◌, ℕ, List, [], ◌∷◌, Bool, true, false, Option, Some, None}
-use Rattle.std.specs.Prelude.{◌↔◌, IsTrue, All}
+use Rattle.std.proofs.Common.{◌≡◌, refl, sym, ap, subst, ◌∙◌, ℕ, List, [], ◌∷◌, Bool, true, false, Option, Some, None, Result, Ok, Err}
+use Rattle.std.specs.Prelude.{◌↔◌, IsTrue, IfOk}
 use Rattle.std.proofs.lemmas.Option.{same_Some, none-some}
 use Rattle.dlk_tree.specs.declared.op.Op.{Op}
 use Rattle.dlk_tree.specs.declared.op.Op.TheVariants as Op'
@@ -56,16 +56,21 @@ module _ (key target : Op) (old : Extra) where
       its_name : (z : List ℕ) → target ≡ with_name z key → z ≡ y
       its_name z same = same_Some z y (sym (target_named z same) ∙ is)
 
-      pub unlike_named : (target ≡ with_name y key → ⊥) → (other : Extra) → IsLike key target old other → ⊥
-      unlike_named unlike other p =
+      pub unlike_named : (is : Bool) → is ≡ false → (IsTrue is ↔ (target ≡ with_name y key)) → (other : Extra) → IsLike key target old other → ⊥
+      unlike_named is no_truth same other p =
           let like = given_name (name_in key) named other p in
-          unlike (like.1 ∙ ap (λ z. with_name z key) (its_name like.0 like.1))
+          let true_one = same.1 (like.1 ∙ ap (λ z. with_name z key) (its_name like.0 like.1)) in
+          not_true (subst IsTrue no_truth true_one)
 
       pub like_named : target ≡ with_name y key → (new : Extra) (tried : Bool) → Tried (GetsName x y) old new tried → Tried (IsLike key target) old new tried
       like_named same new true p = gives_name (name_in key) named new y same p
       like_named same new false p = λ other q.
           let like = given_name (name_in key) named other q in
           p other (subst (λ z. GetsName x z old other) (its_name like.0 like.1) like.2)
+
+pub if_ok_weaker : {T E : Type 0} (r : Result T E) (P Q : T → Type 0) → ((x : T) → P x → Q x) → IfOk r P → IfOk r Q
+if_ok_weaker (Ok x) P Q weaker p = weaker x p
+if_ok_weaker (Err e) P Q weaker p = tt
 
 one_named_like : (o : Option (List ℕ)) (key target : Op) (old a b : Extra) → name_in key ≡ o → IsNamedLike o key target old a → IsNamedLike o key target old b → a ≡ b
 one_named_like None key target old a b is p q = p.1 ∙ sym q.1

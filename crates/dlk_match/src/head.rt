@@ -1,5 +1,5 @@
 //! A node of the key: its operator, and what is left to match.
-ghost use Rattle.std.specs.Prelude.{◌≡◌, List, None, Some, MatchOption, IfOk, IsTrue, All};
+ghost use Rattle.std.specs.Prelude.{◌≡◌, ◌↔◌, List, None, Some, MatchOption, IfOk, IsTrue, All};
 ghost use Rattle.dlk_tree.specs.Trees.{Tree, Forest};
 ghost use Rattle.dlk_store.specs.Stores.{IsId, tree, kid_trees};
 ghost use Rattle.dlk_sequent.specs.Extras.{extra_at, IsKnownExtra};
@@ -52,6 +52,14 @@ fn with_name(y: &Name, op: &Op) -> Result<Op, AllocError>
     })
 }
 
+/// Whether the target's operator is the key's with this name.
+fn is_with_name(y: &Name, key: &Op, target: &Op) -> Result<bool, AllocError>
+    ensures { IfOk result (λ is. IsTrue is ↔ (target.now ≡ with_name y.now key.now)) }
+{
+    let named = with_name(y, key)?;
+    Ok(same_op(target, &named))
+}
+
 /// The key's operator is the target's, with the name that its name gets.
 fn like(extra: &mut Extra, key: &Op, target: &Op) -> Result<bool, AllocError>
     ensures matched { IfOk result (λ is. (trees : List Tree) → Tried (IsLike key.now target.now) (extra_at trees extra.old) (extra_at trees extra.new) is) }
@@ -63,8 +71,7 @@ fn like(extra: &mut Extra, key: &Op, target: &Op) -> Result<bool, AllocError>
     let Some(y) = name_in(target) else {
         return Ok(false);
     };
-    let named = with_name(y, key)?;
-    if !same_op(&named, target) {
+    if !is_with_name(y, key, target)? {
         return Ok(false);
     }
     rename(extra, x, y)
