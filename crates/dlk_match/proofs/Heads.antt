@@ -1,14 +1,19 @@
 -- A node of the key whose operator is no symbol's and no system's.
-use Rattle.std.proofs.Common.{◌≡◌, refl, sym, ap, subst, ◌∙◌, ℕ, List, [], ◌∷◌, Bool, true, false, Option, Some, None, Result, Ok, Err}
-use Rattle.std.specs.Prelude.{◌↔◌, IsTrue, IfOk}
+use Rattle.std.proofs.Common.{◌≡◌, refl, sym, ap, subst, ◌∙◌, ℕ, List, [], ◌∷◌, length, get_or, arith, ◌⊎◌, ⊎_elim, Bool, true, false, Option, Some, None}
+use Rattle.std.specs.Prelude.{◌↔◌, IsTrue}
 use Rattle.std.proofs.lemmas.Option.{same_Some, none-some}
 use Rattle.dlk_tree.specs.declared.op.Op.{Op}
 use Rattle.dlk_tree.specs.declared.op.Op.TheVariants as Op'
-use Rattle.dlk_tree.specs.Trees.{Tree, node, Forest}
+use Rattle.dlk_tree.specs.declared.op.Var.{Var}
+use Rattle.dlk_tree.specs.declared.op.Sym.{Sym}
+use Rattle.dlk_tree.specs.Trees.{Tree, node, Forest, no_kids, kid}
+use Rattle.dlk_store.specs.declared.Id.{Id}
+use Rattle.dlk_store.specs.Stores.{tree, kid_trees, sorts_at}
 use Rattle.dlk_calculus.specs.Pairs.{Extra}
-use Rattle.dlk_match.specs.Matching.{GetsName, Over, MatchesAt, MatchesAll, Matches}
-use Rattle.dlk_match.specs.Tried.{Tried, name_in, with_name, IsNamedLike, IsLike, is_other}
-use Rattle.dlk_match.proofs.OneMatch.{one_name, one_node}
+use Rattle.dlk_match.specs.Abstract.{abstracted}
+use Rattle.dlk_match.specs.Matching.{renamed_to, GetsName, GetsReplacement, Application, of_nothing, of_variable, Over, MatchesAt, MatchesAll, Matches}
+use Rattle.dlk_match.specs.Tried.{Tried, name_in, with_name, IsNamedLike, IsLike, is_other, IsArgument, IsNoArgument, HeadIs, taken}
+use Rattle.dlk_match.proofs.OneMatch.{one_name, one_node, one_variable}
 
 pub not_true : IsTrue false → ⊥
 not_true h = cc
@@ -67,10 +72,6 @@ module _ (key target : Op) (old : Extra) where
       like_named same new false p = λ other q.
           let like = given_name (name_in key) named other q in
           p other (subst (λ z. GetsName x z old other) (its_name like.0 like.1) like.2)
-
-pub if_ok_weaker : {T E : Type 0} (r : Result T E) (P Q : T → Type 0) → ((x : T) → P x → Q x) → IfOk r P → IfOk r Q
-if_ok_weaker (Ok x) P Q weaker p = weaker x p
-if_ok_weaker (Err e) P Q weaker p = tt
 
 one_named_like : (o : Option (List ℕ)) (key target : Op) (old a b : Extra) → name_in key ≡ o → IsNamedLike o key target old a → IsNamedLike o key target old b → a ≡ b
 one_named_like None key target old a b is p q = p.1 ∙ sym q.1
@@ -143,3 +144,117 @@ module _ (keys : Forest) (e : Tree) (old new : Extra) (op target : Op) (kids : F
       let mid = one_like op target old via.mid new (subst (λ (o : Op). IsLike op o old via.mid) same.0 via.like) like in
       subst (λ (m : Extra). MatchesAll keys kids m last) mid (subst (λ ks. MatchesAll keys ks via.mid last) same.1 via.rest),
       λ q. up keys e (MatchesAll keys) old last op other (record { mid = new; target = target; kids = kids; node_is = is; like = like; rest = q }))
+
+-- ---- symbols
+
+no_kid : {t : Tree} {rest ks : Forest} → ks ≡ no_kids → ks ≡ kid t rest → ⊥
+no_kid p q = cc
+
+module _ (s : Sym) (kids : Forest) (e : Tree) (old new : Extra) where
+  pub applied_to_nothing : kids ≡ no_kids → (is : Bool) → Tried (GetsReplacement s e) old new is → Tried (Application s kids e) old new is
+  applied_to_nothing none true p = of_nothing none p
+  applied_to_nothing none false p = λ other q. refused other q
+    where
+      refused : (other : Extra) → Application s kids e old other → ⊥
+      refused other (of_nothing is q) = p other q
+      refused other (of_variable q) = no_kid none q.kids_are
+
+  pub applied_to_none : (kids ≡ no_kids → ⊥) → IsNoArgument old.renames kids → Application s kids e old new → ⊥
+  applied_to_none some none (of_nothing is q) = some is
+  applied_to_none some none (of_variable q) =
+      none (record { name = q.y; primed = q.v.primed }) (record { v = q.v; kids_are = q.kids_are; name_is = q.name_is; primed_is = refl })
+
+  module _ (w : Var) (a : IsArgument old.renames kids w) where
+    body_is : (v : Var) (y : List ℕ) → kids ≡ kid (node (Op'.Variable v) no_kids) no_kids → renamed_to old.renames v.name ≡ Some y
+        → abstracted (record { name = y; primed = v.primed }) e ≡ abstracted w e
+    body_is v y is named =
+        let same : v ≡ a.v = one_variable is a.kids_are in
+        let y_is : y ≡ w.name = same_Some y w.name (sym named ∙ ap (λ (u : Var). renamed_to old.renames u.name) same ∙ a.name_is) in
+        let primed : v.primed ≡ w.primed = ap (λ (u : Var). u.primed) same ∙ sym a.primed_is in
+        λ i. abstracted (record { name = y_is i; primed = primed i }) e
+
+    pub applied_to_variable : (is : Bool) → Tried (GetsReplacement s (abstracted w e)) old new is → Tried (Application s kids e) old new is
+    applied_to_variable true p =
+        of_variable (record {
+          v = a.v;
+          kids_are = a.kids_are;
+          y = w.name;
+          name_is = a.name_is;
+          replaced = subst (λ t. GetsReplacement s t old new) (sym (body_is a.v w.name a.kids_are a.name_is)) p;
+        })
+    applied_to_variable false p = λ other q. refused other q
+      where
+        refused : (other : Extra) → Application s kids e old other → ⊥
+        refused other (of_nothing is q) = no_kid is a.kids_are
+        refused other (of_variable q) = p other (subst (λ t. GetsReplacement s t old other) (body_is q.v q.y q.kids_are q.name_is) q.replaced)
+
+module _ (keys : Forest) (e : Tree) (trees : List Tree) (old new : Extra) (s : Sym) (is : Bool) where
+  unit_rows : (op : Op) → ((k : Extra) → Matches (node op keys) e old k ≡ GetsReplacement s e old k) → Tried (GetsReplacement s e) old new is → HeadIs op keys e trees old new (taken is)
+  unit_rows op row p = at is p
+    where
+      at : (b : Bool) → Tried (GetsReplacement s e) old new b → HeadIs op keys e trees old new (taken b)
+      at true q = subst (λ Z. Z) (sym (row new)) q
+      at false q = λ other r. q other (subst (λ Z. Z) (row other) r)
+
+  pub unit_head : (op : Op) → (op ≡ Op'.UnitFun s) ⊎ ((op ≡ Op'.UnitPred s) ⊎ (op ≡ Op'.Const s)) → Tried (GetsReplacement s e) old new is → HeadIs op keys e trees old new (taken is)
+  unit_head op at p =
+      let goal = λ (o : Op). HeadIs o keys e trees old new (taken is) in
+      ⊎_elim (λ q. subst goal (sym q) (unit_rows (Op'.UnitFun s) (λ k. refl) p))
+      (⊎_elim (λ q. subst goal (sym q) (unit_rows (Op'.UnitPred s) (λ k. refl) p)) (λ q. subst goal (sym q) (unit_rows (Op'.Const s) (λ k. refl) p))) at
+
+  applied_rows : (op : Op) → ((k : Extra) → Matches (node op keys) e old k ≡ Application s keys e old k) → Tried (Application s keys e) old new is → HeadIs op keys e trees old new (taken is)
+  applied_rows op row p = at is p
+    where
+      at : (b : Bool) → Tried (Application s keys e) old new b → HeadIs op keys e trees old new (taken b)
+      at true q = subst (λ Z. Z) (sym (row new)) q
+      at false q = λ other r. q other (subst (λ Z. Z) (row other) r)
+
+  pub applied_head : (op : Op) → (op ≡ Op'.Apply s) ⊎ (op ≡ Op'.Holds s) → Tried (Application s keys e) old new is → HeadIs op keys e trees old new (taken is)
+  applied_head op at p =
+      let goal = λ (o : Op). HeadIs o keys e trees old new (taken is) in
+      ⊎_elim (λ q. subst goal (sym q) (applied_rows (Op'.Apply s) (λ k. refl) p)) (λ q. subst goal (sym q) (applied_rows (Op'.Holds s) (λ k. refl) p)) at
+
+-- ---- the one argument
+
+pub one_kid : (trees : List Tree) (ks : List Id) (d : Id) → length ks ≡ 1 → kid_trees trees ks ≡ kid (tree trees (get_or ks 0 d)) no_kids
+one_kid trees [] d h = absurd (omega arith)
+one_kid trees (k ∷ []) d h = refl
+one_kid trees (k ∷ j ∷ ks) d h = absurd (omega arith)
+
+pub none_in : (trees : List Tree) (ks : List Id) → sorts_at trees ks ≡ [] → kid_trees trees ks ≡ no_kids
+none_in trees [] e = refl
+none_in trees (k ∷ ks) e = absurd (cons-nil e)
+  where
+    cons-nil : {A : Type 0} {x : A} {xs : List A} → x ∷ xs ≡ [] → ⊥
+    cons-nil p = cc
+
+first_of : Forest → Tree
+first_of no_kids = node Op'.True no_kids
+first_of (kid t rest) = t
+
+module _ (renames : List (List ℕ × List ℕ)) (kids : Forest) (t : Tree) (one : kids ≡ kid t no_kids) (op : Op) (below : Forest) (is : t ≡ node op below) where
+  its_op : (w : Var) (a : IsArgument renames kids w) → op ≡ Op'.Variable a.v
+  its_op w a =
+      let kids_same : kid t no_kids ≡ kid (node (Op'.Variable a.v) no_kids) no_kids = sym one ∙ a.kids_are in
+      let same : t ≡ node (Op'.Variable a.v) no_kids = cc in
+      (one_node is same).0
+
+  pub no_variable : ((v : Var) → op ≡ Op'.Variable v → ⊥) → IsNoArgument renames kids
+  no_variable none w a = none a.v (its_op w a)
+
+  pub no_new_name : (v : Var) → op ≡ Op'.Variable v → renamed_to renames v.name ≡ None → IsNoArgument renames kids
+  no_new_name v op_is none w a =
+      let same : v ≡ a.v = variable_of v a.v (sym op_is ∙ its_op w a) in
+      none-some w.name (sym none ∙ ap (λ (u : Var). renamed_to renames u.name) same ∙ a.name_is)
+    where
+      variable_of : (u v : Var) → Op'.Variable u ≡ Op'.Variable v → u ≡ v
+      variable_of u v e = cc
+
+  pub its_argument : (v : Var) (y : List ℕ) → op ≡ Op'.Variable v → below ≡ no_kids → renamed_to renames v.name ≡ Some y
+      → IsArgument renames kids (record { name = y; primed = v.primed })
+  its_argument v y op_is bare named = record {
+    v = v;
+    kids_are = one ∙ ap (λ u. kid u no_kids) (is ∙ λ i. node (op_is i) (bare i));
+    name_is = named;
+    primed_is = refl;
+  }

@@ -35,7 +35,7 @@ one_replacement s e old a b p q = one_replacement_is (replacement old.pairs s) s
 no_kid : {t : Tree} {rest ks : Forest} → ks ≡ no_kids → ks ≡ kid t rest → ⊥
 no_kid p q = cc
 
-one_variable : {v w : Var} {ks : Forest} → ks ≡ kid (node (Op'.Variable v) no_kids) no_kids → ks ≡ kid (node (Op'.Variable w) no_kids) no_kids → v ≡ w
+pub one_variable : {v w : Var} {ks : Forest} → ks ≡ kid (node (Op'.Variable v) no_kids) no_kids → ks ≡ kid (node (Op'.Variable w) no_kids) no_kids → v ≡ w
 one_variable p q = cc
 
 one_of : {A : Type 0} {o : Option A} {s t : A} → o ≡ Some s → o ≡ Some t → s ≡ t
