@@ -1,6 +1,6 @@
 -- A node of the key whose operator is no symbol's and no system's.
 use Rattle.std.proofs.Common.{◌≡◌, refl, sym, ap, subst, ◌∙◌, ℕ, List, [], ◌∷◌, length, get_or, arith, ◌⊎◌, ⊎_elim, Bool, true, false, Option, Some, None}
-use Rattle.std.specs.Prelude.{◌↔◌, IsTrue}
+use Rattle.std.specs.Prelude.{◌↔◌, ◌==◌, IsTrue}
 use Rattle.std.proofs.lemmas.Option.{same_Some, none-some}
 use Rattle.dlk_tree.specs.declared.op.Op.{Op}
 use Rattle.dlk_tree.specs.declared.op.Op.TheVariants as Op'
@@ -258,3 +258,21 @@ module _ (renames : List (List ℕ × List ℕ)) (kids : Forest) (t : Tree) (one
     name_is = named;
     primed_is = refl;
   }
+
+-- ---- whether there are kids
+
+pub not_empty : (trees : List Tree) (ks : List Id) (is : Bool) → is ≡ false → is ≡ (length ks == 0) → kid_trees trees ks ≡ no_kids → ⊥
+not_empty trees [] is no_truth e q = not_true (sym no_truth ∙ e)
+not_empty trees (k ∷ ks) is no_truth e q = no_kid q refl
+
+pub is_bare : (trees : List Tree) (ks : List Id) (is : Bool) → is ≡ true → is ≡ (length ks == 0) → kid_trees trees ks ≡ no_kids
+is_bare trees [] is truth e = refl
+is_bare trees (k ∷ ks) is truth e = absurd (not_true (sym e ∙ truth))
+
+pub not_one : (renames : List (List ℕ × List ℕ)) (trees : List Tree) (ks : List Id) → (length ks ≡ 1 → ⊥) → IsNoArgument renames (kid_trees trees ks)
+not_one renames trees [] h w a = no_kid refl a.kids_are
+not_one renames trees (k ∷ []) h w a = h refl
+not_one renames trees (k ∷ j ∷ ks) h w a = later_kid a.kids_are
+  where
+    later_kid : {s t u : Tree} {rest : Forest} → kid s (kid t rest) ≡ kid u no_kids → ⊥
+    later_kid e = cc
