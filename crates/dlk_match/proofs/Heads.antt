@@ -267,7 +267,7 @@ not_empty trees (k ∷ ks) is no_truth e q = no_kid q refl
 
 pub is_bare : (trees : List Tree) (ks : List Id) (is : Bool) → is ≡ true → is ≡ (length ks == 0) → kid_trees trees ks ≡ no_kids
 is_bare trees [] is truth e = refl
-is_bare trees (k ∷ ks) is truth e = absurd (not_true (sym e ∙ truth))
+is_bare trees (k ∷ ks) is truth e = absurd (grind (arith, truth, e))
 
 pub not_one : (renames : List (List ℕ × List ℕ)) (trees : List Tree) (ks : List Id) → (length ks ≡ 1 → ⊥) → IsNoArgument renames (kid_trees trees ks)
 not_one renames trees [] h w a = no_kid refl a.kids_are
@@ -276,3 +276,6 @@ not_one renames trees (k ∷ j ∷ ks) h w a = later_kid a.kids_are
   where
     later_kid : {s t u : Tree} {rest : Forest} → kid s (kid t rest) ≡ kid u no_kids → ⊥
     later_kid e = cc
+
+pub no_predicational : (keys : Forest) (e : Tree) (old : Extra) (op : Op) (s : Sym) → op ≡ Op'.Predicational s → (other : Extra) → Matches (node op keys) e old other → ⊥
+no_predicational keys e old op s is other p = subst (λ (o : Op). Matches (node o keys) e old other) is p

@@ -78,7 +78,7 @@ as_many : (trees now : List Tree) (ks es : List Id) (old new : TreeExtra) → Ma
 as_many trees now [] [] old new p = refl
 as_many trees now [] (e ∷ es) old new p = absurd p
 as_many trees now (k ∷ ks) [] old new p = absurd p
-as_many trees now (k ∷ ks) (e ∷ es) old new p = ap (λ n. n + 1) (as_many trees now ks es p.0 new p.2)
+as_many trees now (k ∷ ks) (e ∷ es) old new p = omega (arith, as_many trees now ks es p.0 new p.2)
 
 pub unlike_many : (key target : Tree) (old new : TreeExtra) (trees now : List Tree) (ks es : List Id)
     → ((other : TreeExtra) → Matches key target old other ↔ MatchesAll (kid_trees trees ks) (kid_trees now es) new other)
