@@ -7,7 +7,6 @@ mod head;
 mod laws;
 mod members;
 mod taking;
-mod walk;
 
 pub use abstraction::abstract_var;
 pub use found::matching;
