@@ -138,12 +138,14 @@ module _ (keys : Forest) (e : Tree) (old new : Extra) (op target : Op) (kids : F
       none via.mid (subst (λ (o : Op). IsLike op o old via.mid) (same_target via.node_is).0 via.like)
 
   pub head_left : IsLike op target old new → (last : Extra) → Matches (node op keys) e old last ↔ MatchesAll keys kids new last
-  head_left like last = (λ p.
-      let via = down keys e (MatchesAll keys) old last op other p in
-      let same = same_target via.node_is in
-      let mid = one_like op target old via.mid new (subst (λ (o : Op). IsLike op o old via.mid) same.0 via.like) like in
-      subst (λ (m : Extra). MatchesAll keys kids m last) mid (subst (λ ks. MatchesAll keys ks via.mid last) same.1 via.rest),
-      λ q. up keys e (MatchesAll keys) old last op other (record { mid = new; target = target; kids = kids; node_is = is; like = like; rest = q }))
+  head_left like last = (
+    λ p.
+        let via = down keys e (MatchesAll keys) old last op other p in
+        let same = same_target via.node_is in
+        let mid = one_like op target old via.mid new (subst (λ (o : Op). IsLike op o old via.mid) same.0 via.like) like in
+        subst (λ (m : Extra). MatchesAll keys kids m last) mid (subst (λ ks. MatchesAll keys ks via.mid last) same.1 via.rest),
+    λ q. up keys e (MatchesAll keys) old last op other (record { mid = new; target = target; kids = kids; node_is = is; like = like; rest = q }),
+  )
 
 -- ---- symbols
 

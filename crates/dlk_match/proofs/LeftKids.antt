@@ -53,11 +53,13 @@ module _ (key target : Tree) (old new : TreeExtra) (trees : List Tree) (ks es : 
 
   -- the next kid matches
   pub left_next : (next : TreeExtra) → Matches (tree trees (get_or ks i d)) (tree trees (get_or es i f)) new next → IsLeft key target old trees ks es (i + 1) next
-  left_next next matches other = (λ p.
-      let q = subst (λ Z. Z) (opened other) ((left other).0 p) in
-      let same = one_matches (tree trees (get_or ks i d)) (tree trees (get_or es i f)) new q.0 next q.1 matches in
-      subst (λ (mid : TreeExtra). MatchesAll (kid_trees trees (drop (i + 1) ks)) (kid_trees trees (drop (i + 1) es)) mid other) same q.2,
-      λ q. (left other).1 (subst (λ Z. Z) (sym (opened other)) (next, matches, q)))
+  left_next next matches other = (
+    λ p.
+        let q = subst (λ Z. Z) (opened other) ((left other).0 p) in
+        let same = one_matches (tree trees (get_or ks i d)) (tree trees (get_or es i f)) new q.0 next q.1 matches in
+        subst (λ (mid : TreeExtra). MatchesAll (kid_trees trees (drop (i + 1) ks)) (kid_trees trees (drop (i + 1) es)) mid other) same q.2,
+    λ q. (left other).1 (subst (λ Z. Z) (sym (opened other)) (next, matches, q)),
+  )
 
   -- or doesn't
   pub left_nowhere : ((next : TreeExtra) → Matches (tree trees (get_or ks i d)) (tree trees (get_or es i f)) new next → ⊥) → (other : TreeExtra) → Matches key target old other → ⊥

@@ -43,10 +43,16 @@ fn with_name(y: &Name, op: &Op) -> Result<Op, AllocError>
 {
     let name = y.clone()?;
     Ok(match op {
-        Op::Variable(v) => Op::Variable(Var { name, primed: v.primed }),
+        Op::Variable(v) => Op::Variable(Var {
+            name,
+            primed: v.primed,
+        }),
         Op::Forall(_) => Op::Forall(name),
         Op::Exists(_) => Op::Exists(name),
-        Op::Assign(v) => Op::Assign(Var { name, primed: v.primed }),
+        Op::Assign(v) => Op::Assign(Var {
+            name,
+            primed: v.primed,
+        }),
         Op::Any(_) => Op::Any(name),
         other => other.clone()?,
     })

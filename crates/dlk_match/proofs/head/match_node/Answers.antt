@@ -15,7 +15,7 @@ returns-in_ok-apply-in-Apply-clause-matched g c =
     let now = g.S.Store.trees c.apply.new.store in
     let is = c.in_ok-apply-in-Apply.field-0 in
     rw c.taken.ensures (applied_head (kid_trees before c.args.keys.now) (tree before c.args.target) now (extra_at before c.args.extra.now)
-        (extra_at now c.apply.new.extra) c.in-Apply.s is c.args.op.now c.in-Apply.is c.in_ok-apply-in-Apply.ensures.matched)
+    (extra_at now c.apply.new.extra) c.in-Apply.s is c.args.op.now c.in-Apply.is c.in_ok-apply-in-Apply.ensures.matched)
 
 pub returns-in-Predicational-clause-matched : goal.returns-in-Predicational-clause-matched
 returns-in-Predicational-clause-matched g c =
