@@ -11,3 +11,8 @@ pub mod AbstractMade
 pub mod SystemsMade
 pub mod Proper
 pub mod Nothing
+pub mod Abstracted
+pub mod OneMatch
+pub mod Taken
+pub mod Heads
+pub mod LeftKids
