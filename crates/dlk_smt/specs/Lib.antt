@@ -1,0 +1,2 @@
+pub mod Smt
+pub mod Examples

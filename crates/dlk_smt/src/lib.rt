@@ -1,0 +1,2 @@
+//! Sequents of arithmetic as SMT-LIB text.
+#![tactic(auto)]
