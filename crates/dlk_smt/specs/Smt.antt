@@ -9,7 +9,7 @@ use Rattle.std.specs.BTreeSet.{insert_key}
 use Rattle.dlk_tree.specs.Names.{is_between}
 use Rattle.dlk_tree.specs.Listed.{var_cmp}
 use Rattle.dlk_tree.specs.Statics.{free, plain}
-use Rattle.dlk_tree.specs.Trees.{Tree, node, root, Forest, no_kids, kid}
+use Rattle.dlk_tree.specs.Trees.{Tree, node, root, Forest, no_kids, kid, forest}
 use Rattle.dlk_tree.specs.declared.op.Num.{Num}
 use Rattle.dlk_tree.specs.declared.op.Var.{Var}
 use Rattle.dlk_tree.specs.declared.op.Op.{Op}
@@ -175,11 +175,11 @@ abbrev mutual
   any_has_other_power no_kids = false
   any_has_other_power (kid t rest) = has_other_power t || any_has_other_power rest
 
-abbrev pub formulas_of : Sequent → List Tree
-formulas_of s = s.ante ++ s.succ
+abbrev pub in_some_formula : (Tree → Bool) → Sequent → Bool
+in_some_formula test s = list_any test s.ante || list_any test s.succ
 
 abbrev pub is_power : Sequent → Bool
-is_power s = list_any has_other_power (formulas_of s)
+is_power s = in_some_formula has_other_power s
 
 -- the number of the first sequent with one, from i on
 abbrev pub first_power : ℕ → List Sequent → Option ℕ
@@ -205,9 +205,8 @@ abbrev mutual
   everywhere_in own no_kids = []
   everywhere_in own (kid t rest) = everywhere own t ++ everywhere_in own rest
 
-abbrev pub in_formulas : {A : Type 0} → (Op → List A) → List Tree → List A
-in_formulas own [] = []
-in_formulas own (t ∷ ts) = everywhere own t ++ in_formulas own ts
+abbrev pub in_formulas : {A : Type 0} → (Op → List A) → Sequent → List A
+in_formulas own s = everywhere_in own (forest s.ante) ++ everywhere_in own (forest s.succ)
 
 -- the keys, each once, put in order among those that are there
 abbrev pub put_all : {A : Type 0} → (A → A → Ordering) → List A → List A → List A
@@ -216,11 +215,11 @@ put_all cmp keys (k ∷ ks) = put_all cmp (insert_key cmp keys k) ks
 
 -- the variables that are free in some formula, in order of name bytes and the unprimed first
 abbrev pub free_variables : Sequent → List Var
-free_variables s = filter (λ v. list_any (λ t. free t v) (formulas_of s)) (put_all var_cmp [] (in_formulas own_variables (formulas_of s)))
+free_variables s = filter (λ v. in_some_formula (λ t. free t v) s) (put_all var_cmp [] (in_formulas own_variables s))
 
 -- the functions, in order of name bytes
 abbrev pub functions : Sequent → List (List ℕ)
-functions s = put_all (slice_cmp nat_cmp) [] (in_formulas own_functions (formulas_of s))
+functions s = put_all (slice_cmp nat_cmp) [] (in_formulas own_functions s)
 
 -- ---- scripts
 
