@@ -1,1 +1,4 @@
 mod Kids
+mod Parts
+mod Gained
+mod Leaves

@@ -223,24 +223,34 @@ functions s = put_all (slice_cmp nat_cmp) [] (in_formulas own_functions s)
 
 -- ---- scripts
 
+-- that the formula is false
+abbrev pub denied : Tree → Expr
+denied t = negation (next (expression t) none)
+
 -- the symbols that a sequent's script declares, and the expressions that it asserts: each formula on the left, and that each on the
 -- right is false
 abbrev pub declared : Sequent → List (List ℕ)
 declared s = map variable_symbol (free_variables s) ++ map function_symbol (functions s)
 
 abbrev pub asserted : Sequent → List Expr
-asserted s = map expression s.ante ++ map (λ t. negation (next (expression t) none)) s.succ
+asserted s = map expression s.ante ++ map denied s.succ
 
 abbrev pub line : List ℕ → List ℕ
 line text = text ++ 10 ∷ []
 
+abbrev pub declaration : List ℕ → List ℕ
+declaration s = line (codes "(declare-const " ++ (s ++ codes " Real)"))
+
 abbrev pub declarations : List (List ℕ) → List ℕ
 declarations [] = []
-declarations (s ∷ ss) = line (codes "(declare-const " ++ (s ++ codes " Real)")) ++ declarations ss
+declarations (s ∷ ss) = declaration s ++ declarations ss
+
+abbrev pub assertion : Expr → List ℕ
+assertion e = line (codes "(assert " ++ (shown e ++ codes ")"))
 
 abbrev pub assertions : List Expr → List ℕ
 assertions [] = []
-assertions (e ∷ es) = line (codes "(assert " ++ (shown e ++ codes ")")) ++ assertions es
+assertions (e ∷ es) = assertion e ++ assertions es
 
 -- the text of one sequent
 abbrev pub smt : Sequent → List ℕ

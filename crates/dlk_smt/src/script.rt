@@ -1,5 +1,5 @@
 //! The script of one sequent: declarations and assertions.
-ghost use Rattle.std.specs.Prelude.{◌≡◌, ◌++◌, [], ◌∷◌, IfOk, OnOk, All, map, filter, if◌then◌else◌};
+ghost use Rattle.std.specs.Prelude.{◌≡◌, ◌++◌, [], IfOk, OnOk, All, map, filter, if◌then◌else◌};
 ghost use Rattle.std.specs.List.{list_any};
 ghost use Rattle.std.specs.Ordering.{nat_cmp};
 ghost use Rattle.std.specs.Cmp.Lexicographic.{slice_cmp};
@@ -7,7 +7,7 @@ ghost use Rattle.dlk_tree.specs.Listed.{var_cmp};
 ghost use Rattle.dlk_tree.specs.Statics.{free};
 ghost use Rattle.dlk_store.specs.Stores.{IsId, tree};
 ghost use Rattle.dlk_sequent.specs.Sequents.{sequent_at, IsKnown};
-ghost use Rattle.dlk_smt.specs.Smt.{variable_symbol, function_symbol, in_some_formula, in_formulas, own_variables, own_functions, put_all, declarations, assertions, expression, negation, next, none, smt};
+ghost use Rattle.dlk_smt.specs.Smt.{variable_symbol, function_symbol, in_some_formula, in_formulas, own_variables, own_functions, put_all, declaration, declarations, assertion, assertions, expression, denied, smt};
 
 use crate::collected::Symbols;
 use crate::symbol::{append_function, append_variable};
@@ -69,6 +69,15 @@ fn is_free<S: Store>(store: &S, s: &Sequent, v: &Var) -> bool
     is_free_in_any(store, s.ante.as_slice(), v) || is_free_in_any(store, s.succ.as_slice(), v)
 }
 
+/// Declares a variable.
+fn declare_variable(v: &Var, out: &mut Vec<u8>) -> Result<(), PrintFault>
+    ensures { OnOk result (out.new.items ≡ out.old.items ++ declaration (variable_symbol v.now)) }
+{
+    append(out, b"(declare-const ")?;
+    append_variable(out, v)?;
+    append(out, b" Real)\n")
+}
+
 /// Declares a variable, if it is free in some formula.
 fn declare_free<S: Store>(
     store: &S,
@@ -77,14 +86,13 @@ fn declare_free<S: Store>(
     out: &mut Vec<u8>,
 ) -> Result<(), PrintFault>
     requires { IsKnown (S.trees store.now) s.now }
-    ensures { OnOk result (out.new.items ≡ out.old.items ++ (if in_some_formula (λ t. free t v.now) (sequent_at (S.trees store.now) s.now) then declarations (variable_symbol v.now ∷ []) else [])) }
+    ensures { OnOk result (out.new.items ≡ out.old.items ++ (if in_some_formula (λ t. free t v.now) (sequent_at (S.trees store.now) s.now) then declaration (variable_symbol v.now) else [])) }
 {
-    if !is_free(store, s, v) {
-        return Ok(());
+    if is_free(store, s, v) {
+        declare_variable(v, out)
+    } else {
+        append(out, b"")
     }
-    append(out, b"(declare-const ")?;
-    append_variable(out, v)?;
-    append(out, b" Real)\n")
 }
 
 /// Declares those of the variables that are free in some formula.
@@ -103,20 +111,57 @@ fn declare_variables<S: Store>(
     Ok(())
 }
 
+/// Declares a function.
+fn declare_function(name: &Name, out: &mut Vec<u8>) -> Result<(), PrintFault>
+    ensures { OnOk result (out.new.items ≡ out.old.items ++ declaration (function_symbol name.now)) }
+{
+    append(out, b"(declare-const ")?;
+    append_function(out, name)?;
+    append(out, b" Real)\n")
+}
+
 /// Declares the functions.
 fn declare_functions(names: &[Name], out: &mut Vec<u8>) -> Result<(), PrintFault>
     ensures { OnOk result (out.new.items ≡ out.old.items ++ declarations (map function_symbol names.now)) }
 {
     for name in names {
-        append(out, b"(declare-const ")?;
-        append_function(out, name)?;
-        append(out, b" Real)\n")?;
+        declare_function(name, out)?;
     }
     Ok(())
 }
 
+/// Asserts a formula.
+fn assert<S: Store, L: Ledger>(
+    store: &S,
+    id: Id,
+    out: &mut Vec<u8>,
+    steps: &mut Steps<L>,
+) -> Result<(), PrintFault>
+    requires { IsId (S.trees store.now) id }
+    ensures { OnOk result (out.new.items ≡ out.old.items ++ assertion (expression (tree (S.trees store.now) id))) }
+{
+    append(out, b"(assert ")?;
+    append_expression(store, id, out, steps)?;
+    append(out, b")\n")
+}
+
+/// Asserts that a formula is false.
+fn deny<S: Store, L: Ledger>(
+    store: &S,
+    id: Id,
+    out: &mut Vec<u8>,
+    steps: &mut Steps<L>,
+) -> Result<(), PrintFault>
+    requires { IsId (S.trees store.now) id }
+    ensures { OnOk result (out.new.items ≡ out.old.items ++ assertion (denied (tree (S.trees store.now) id))) }
+{
+    append(out, b"(assert (not ")?;
+    append_expression(store, id, out, steps)?;
+    append(out, b"))\n")
+}
+
 /// Asserts the formulas on the left.
-fn assert_left<S: Store, L: Ledger>(
+fn assert_all<S: Store, L: Ledger>(
     store: &S,
     ids: &[Id],
     out: &mut Vec<u8>,
@@ -126,27 +171,23 @@ fn assert_left<S: Store, L: Ledger>(
     ensures { OnOk result (out.new.items ≡ out.old.items ++ assertions (map expression (map (tree (S.trees store.now)) ids.now))) }
 {
     for id in ids {
-        append(out, b"(assert ")?;
-        append_expression(store, *id, out, steps)?;
-        append(out, b")\n")?;
+        assert(store, *id, out, steps)?;
     }
     Ok(())
 }
 
 /// Asserts that the formulas on the right are false.
-fn assert_right<S: Store, L: Ledger>(
+fn deny_all<S: Store, L: Ledger>(
     store: &S,
     ids: &[Id],
     out: &mut Vec<u8>,
     steps: &mut Steps<L>,
 ) -> Result<(), PrintFault>
     requires { All (IsId (S.trees store.now)) ids.now }
-    ensures { OnOk result (out.new.items ≡ out.old.items ++ assertions (map (λ t. negation (next (expression t) none)) (map (tree (S.trees store.now)) ids.now))) }
+    ensures { OnOk result (out.new.items ≡ out.old.items ++ assertions (map denied (map (tree (S.trees store.now)) ids.now))) }
 {
     for id in ids {
-        append(out, b"(assert (not ")?;
-        append_expression(store, *id, out, steps)?;
-        append(out, b"))\n")?;
+        deny(store, *id, out, steps)?;
     }
     Ok(())
 }
@@ -168,7 +209,7 @@ pub(crate) fn append_script<S: Store, L: Ledger>(
     append(out, b"(set-logic NRA)\n")?;
     declare_variables(store, s, variables.as_slice(), out)?;
     declare_functions(functions.as_slice(), out)?;
-    assert_left(store, s.ante.as_slice(), out, steps)?;
-    assert_right(store, s.succ.as_slice(), out, steps)?;
+    assert_all(store, s.ante.as_slice(), out, steps)?;
+    deny_all(store, s.succ.as_slice(), out, steps)?;
     append(out, b"(check-sat)\n")
 }
