@@ -10,7 +10,9 @@ use Rattle.dlk_tree.specs.declared.op.Op.{Op}
 use Rattle.dlk_tree.specs.Trees.{Tree, node, no_kids, kid, forest}
 use Rattle.dlk_store.specs.declared.Id.{Id}
 use Rattle.dlk_store.specs.Stores.{tree, kid_trees}
-use Rattle.dlk_smt.specs.Smt.{put_all, own_variables, own_functions, everywhere_in}
+use Rattle.dlk_sequent.specs.Sequents.{sequent_at}
+use Rattle.dlk_sequent.specs.declared.sequent.Sequent.{Sequent}
+use Rattle.dlk_smt.specs.Smt.{put_all, own_variables, own_functions, everywhere_in, in_formulas}
 use Rattle.dlk_smt.specs.Collected.{Gains}
 use Rattle.dlk_smt.specs.declared.collected.Symbols.{Symbols}
 
@@ -48,3 +50,15 @@ Gains-node a b c d trees ks i op js h e p q r =
     let fs = everywhere_node own_functions trees ks i op js h e in
     let all = Gains-both a b d _ _ _ _ p (Gains-both b c d _ _ _ _ q r) in
     subst (λ l. Gains a d l (everywhere_in own_functions (kid_trees trees ks))) vs (subst (λ l. Gains a d (own_variables op ++ (everywhere_in own_variables (kid_trees trees js) ++ everywhere_in own_variables (kid_trees trees (drop 1 ks)))) l) fs all)
+
+-- a sequent's sides one after the other
+pub Gains-sequent : (a b c : Symbols) (trees : List Tree) (s : Sequent) (ls rs : List Id) → ls ≡ s.ante → rs ≡ s.succ → a.variables.keys ≡ [] → a.functions.keys ≡ []
+    → Gains a b (everywhere_in own_variables (kid_trees trees ls)) (everywhere_in own_functions (kid_trees trees ls))
+    → Gains b c (everywhere_in own_variables (kid_trees trees rs)) (everywhere_in own_functions (kid_trees trees rs))
+    → (c.variables.keys ≡ put_all var_cmp [] (in_formulas own_variables (sequent_at trees s))) × (c.functions.keys ≡ put_all (slice_cmp nat_cmp) [] (in_formulas own_functions (sequent_at trees s)))
+Gains-sequent a b c trees s ls rs l r v f p q =
+    let all = Gains-both a b c _ _ _ _ p q in
+    let left = kid_trees-forest trees ls ∙ ap (λ ks. forest (map (tree trees) ks)) l in
+    let right = kid_trees-forest trees rs ∙ ap (λ ks. forest (map (tree trees) ks)) r in
+    (all.variables_are ∙ (λ i. put_all var_cmp (v i) (everywhere_in own_variables (left i) ++ everywhere_in own_variables (right i))),
+    all.functions_are ∙ (λ i. put_all (slice_cmp nat_cmp) (f i) (everywhere_in own_functions (left i) ++ everywhere_in own_functions (right i))))

@@ -1,5 +1,6 @@
 -- The parts of the texts of a script.
-use Rattle.std.proofs.Common.{◌≡◌, ◌≢◌, ℕ, zero, suc, ◌+◌, ◌-◌, ◌<◌, length, get_or, drop, drop-cons, add-one, Bool, true, false, cond, ne_eqb, List, [], ◌∷◌, ◌++◌, map, filter, Option, Some, refl, sym, ap, ◌∙◌, append_assoc, codes}
+use Rattle.std.proofs.Common.{◌≡◌, ◌≢◌, ℕ, zero, suc, ◌+◌, ◌-◌, ◌<◌, length, get_or, drop, drop-cons, add-one, Bool, true, false, cond, ne_eqb, List, [], ◌∷◌, ◌++◌, map, filter, Option, Some, refl, sym, ap, ◌∙◌, append_assoc, arith, codes}
+use Rattle.std.specs.Prelude.{if◌then◌else◌, ◌==◌}
 use Rattle.std.proofs.lemmas.List.{append-nil}
 use Rattle.dlk_tree.specs.Trees.{Tree, Forest, node, no_kids, kid, root, WellMade}
 use Rattle.dlk_tree.specs.declared.op.Num.{Num}
@@ -8,12 +9,13 @@ use Rattle.dlk_tree.specs.Table.{kid_sorts}
 use Rattle.dlk_tree.specs.Trees.{sort, sorts}
 use Rattle.dlk_grammar.specs.Shown as canonical
 use Rattle.dlk_calculus.specs.Sequents.{Sequent}
-use Rattle.dlk_smt.specs.Smt.{Expr, bind, call, power, line, shown, shown_all, times, symbol, base_symbol, declaration, declarations, assertion, assertions, variable_symbol, function_symbol, free_variables, functions, expression, denied, smt}
+use Rattle.dlk_print.proofs.Left.{Left}
+use Rattle.dlk_smt.specs.Smt.{Expr, real, bind, call, power, line, shown, shown_all, times, symbol, base_symbol, declaration, declarations, assertion, assertions, variable_symbol, function_symbol, free_variables, functions, expression, denied, smt}
 
 -- one name of a power's base more
 pub one_base : (n : ℕ) → n ≢ 0 → codes " |e|" ++ shown_all (times (n - 1) (symbol base_symbol)) ≡ shown_all (times n (symbol base_symbol))
 one_base zero h = absurd (h refl)
-one_base (suc n) h = refl
+one_base (suc n) h = let less : suc n - 1 ≡ n = omega arith in ap (λ k. codes " |e|" ++ shown_all (times k (symbol base_symbol))) less
 
 -- a number's canonical text
 pub number_text : (t : Tree) (n : Num) → WellMade t → root t ≡ Number n → canonical.spell (canonical.shown t) ≡ canonical.literal n
@@ -26,17 +28,27 @@ number_text (node op kids) n w e = ap (λ o. canonical.spell (canonical.shown (n
 power_text : (n : ℕ) (e : Expr) → codes "(let ((|e| " ++ (shown e ++ (codes ")) (*" ++ (shown_all (times n (symbol base_symbol)) ++ codes "))"))) ≡ shown (bind base_symbol e (call (codes "*") (times n (symbol base_symbol))))
 power_text n e = ap (λ l. codes "(let ((|e| " ++ (shown e ++ (codes ")) (*" ++ l))) (sym (append_assoc (shown_all (times n (symbol base_symbol))) (codes ")") (codes ")")))
 
+pub number_parts : (n : Num) (text end : List ℕ) → text ≡ canonical.literal n → end ≡ if◌then◌else◌ (n.scale == 0) (codes ".0") [] → text ++ end ≡ real n
+number_parts n text end t e = λ i. t i ++ e i
+
 -- a power whose exponent isn't 1
 pub power_parts : (n : ℕ) (m : Option ℕ) (e : Expr) → Some n ≡ m → n ≢ 1 →
     codes "(let ((|e| " ++ (shown e ++ (codes ")) (*" ++ (shown_all (times n (symbol base_symbol)) ++ codes "))"))) ≡ shown (power m e)
 power_parts n m e h g = power_text n e ∙ ap (λ b. shown (cond b e (bind base_symbol e (call (codes "*") (times n (symbol base_symbol)))))) (sym (ne_eqb n 1 g)) ∙ ap (λ o. shown (power o e)) h
 
+-- nothing is left of a text
+pub all_left : {old text now : List ℕ} → Left old text now [] → now ≡ old ++ text
+all_left {old} {text} {now} a = sym (append-nil now) ∙ a.left
+
 -- a line in three parts
 pub line_parts : (a s b : List ℕ) → a ++ (s ++ (b ++ 10 ∷ [])) ≡ line (a ++ (s ++ b))
 line_parts a s b = sym (simp append_assoc)
 
-pub denial_parts : (e : List ℕ) → codes "(assert (not " ++ (e ++ codes "))" ++ 10 ∷ []) ≡ line (codes "(assert " ++ ((codes "(not " ++ ((e ++ []) ++ codes ")")) ++ codes ")"))
-denial_parts e = rw (append-nil e) (sym (simp append_assoc))
+denied_end : (e : List ℕ) → e ++ (codes "))" ++ 10 ∷ []) ≡ (((e ++ []) ++ codes ")") ++ codes ")") ++ 10 ∷ []
+denied_end e = sym (ap (λ l. ((l ++ codes ")") ++ codes ")") ++ 10 ∷ []) (append-nil e) ∙ append_assoc (e ++ codes ")") (codes ")") (10 ∷ []) ∙ append_assoc e (codes ")") (codes ")" ++ 10 ∷ []))
+
+pub denial_parts : (e : List ℕ) → codes "(assert (not " ++ (e ++ (codes "))" ++ 10 ∷ [])) ≡ line (codes "(assert " ++ ((codes "(not " ++ ((e ++ []) ++ codes ")")) ++ codes ")"))
+denial_parts e = ap (λ l. codes "(assert (not " ++ l) (denied_end e)
 
 pub declarations-append : (xs ys : List (List ℕ)) → declarations (xs ++ ys) ≡ declarations xs ++ declarations ys
 declarations-append [] ys = refl

@@ -1,5 +1,6 @@
-use Rattle.std.proofs.Common.{◌++◌, ◌∷◌, ◌+◌, ap, sym, ◌∙◌, append_assoc, map, filter, drop}
+use Rattle.std.proofs.Common.{Bool, ◌++◌, ◌∷◌, ◌+◌, ap, sym, ◌∙◌, append_assoc, map, filter, drop}
 use Rattle.dlk_tree.specs.Statics.{free}
+use Rattle.dlk_tree.specs.declared.op.Var.{Var}
 use Rattle.dlk_sequent.specs.Sequents.{sequent_at}
 use Rattle.dlk_smt.specs.Smt.{in_some_formula, declarations, variable_symbol}
 use Rattle.dlk_smt.proofs.Parts.{drop_next, declarations-filter}
@@ -8,7 +9,7 @@ use Rattle.dlk_smt.proofs.script.declare_variables.Goals as goal
 pub loop-v-preserved : goal.loop-v-preserved
 loop-v-preserved g c =
     let s = sequent_at (g.S.Store.trees c.args.store.now) c.args.s.now in
-    let is_free = λ v. in_some_formula (λ t. free t v) s in
+    let is_free : Var → Bool = λ v. in_some_formula (λ t. free t v) s in
     let vars = c.args.vars.now in
     let v = c.v-item.result in
     let later = filter is_free (drop (c.loop-v.v-index + 1) vars) in

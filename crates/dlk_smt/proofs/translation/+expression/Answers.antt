@@ -1,5 +1,6 @@
-use Rattle.std.proofs.Common.{◌++◌, [], ◌∷◌, arith, rules, codes, sym}
-use Rattle.std.proofs.lemmas.List.Elements.{All-drop}
+use Rattle.std.proofs.Common.{◌++◌, [], ◌∷◌, ◌-◌, length, drop, arith, rules, codes, sym}
+use Rattle.std.proofs.lemmas.List.Elements.{All-drop, All-take}
+use Rattle.std.proofs.lemmas.List.{take_rest}
 use Rattle.dlk_tree.specs.Statics.{plain}
 use Rattle.dlk_store.specs.Stores.{IsId, kid_trees}
 use Rattle.dlk_print.proofs.Left.{unbegun, appended, last}
@@ -10,8 +11,10 @@ use Rattle.dlk_smt.proofs.translation.+expression.Goals as goal
 
 pub append_kids-append_kids-requires : goal.append_kids-append_kids-requires
 append_kids-append_kids-requires g t c κs within =
-    let less = rest_smaller (g.S.Store.trees c.args.store.now) c.args.kids.now c.in-len1-up.len_at_least in
-    (omega (arith, less), (search rules, (search rules, search rules)))
+    let trees = g.S.Store.trees c.args.store.now in
+    let ks = c.args.kids.now in
+    let less = rw (← take_rest ks 1) at (rest_smaller trees ks c.in-len1-up.len_at_least) in
+    (omega (arith, less), (search rules, (search rules, All-take (IsId trees) (length ks - 1) (drop 1 ks) (All-drop (IsId trees) 1 ks c.requires))))
 
 pub append_power-returns : goal.append_power-returns
 append_power-returns g t c =
