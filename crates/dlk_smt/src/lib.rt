@@ -3,6 +3,7 @@
 
 mod collected;
 mod fault;
+pub mod laws;
 mod leaf;
 mod power;
 mod script;
