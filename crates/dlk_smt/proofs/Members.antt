@@ -107,7 +107,8 @@ module _ {A : Type 0} (cmp : A → A → Ordering) where
   Has-inserted q [] k h = absurd h
   Has-inserted q (x ∷ xs) k h = by (cmp k x) h (Has-inserted q xs k)
     where
-      by : (o : Ordering) → (q ≡ x) ⊎ Has q xs → (Has q xs → Has q (insert_key cmp xs k)) → Has q (match_ordering o (k ∷ x ∷ xs) (x ∷ xs) (x ∷ insert_key cmp xs k))
+      by : (o : Ordering) → (q ≡ x) ⊎ Has q xs → (Has q xs → Has q (insert_key cmp xs k))
+          → Has q (match_ordering o (k ∷ x ∷ xs) (x ∷ xs) (x ∷ insert_key cmp xs k))
       by Less there later = inr there
       by Equal there later = there
       by Greater (inl e) later = inl e
@@ -138,7 +139,8 @@ module _ {A : Type 0} (cmp : A → A → Ordering) where
     sorted-insert [] k s = (tt, tt)
     sorted-insert (x ∷ xs) k s = by (cmp k x) refl s (sorted-insert xs k s.1)
       where
-        by : (o : Ordering) → cmp k x ≡ o → IsStrictlySortedBy cmp (x ∷ xs) → IsStrictlySortedBy cmp (insert_key cmp xs k) → IsStrictlySortedBy cmp (match_ordering o (k ∷ x ∷ xs) (x ∷ xs) (x ∷ insert_key cmp xs k))
+        by : (o : Ordering) → cmp k x ≡ o → IsStrictlySortedBy cmp (x ∷ xs) → IsStrictlySortedBy cmp (insert_key cmp xs k)
+            → IsStrictlySortedBy cmp (match_ordering o (k ∷ x ∷ xs) (x ∷ xs) (x ∷ insert_key cmp xs k))
         by Less e s later = ((e, Each-weaker (λ y h. total.trans k x y e h) xs s.0), s)
         by Equal e s later = s
         by Greater e s later = (Each-insert (λ y. cmp x y ≡ Less) xs k s.0 (total.antisymm x k ∙ ap ordering_reverse e), later)
@@ -164,7 +166,8 @@ pub present : (x : List ℕ) (ys : List (List ℕ)) → Has x ys → list_any (b
 present x ys h = any_Has (bytes_eq x) x ys ((bytes_eq-Decides x x).1 refl) h
 
 -- texts of keys in order, each key with another one, stand once
-module _ {A : Type 0} (cmp : A → A → Ordering) (total : IsTotalOrder cmp) (f : A → List ℕ) (Good : A → Type 0) (one : (x y : A) → Good x → Good y → f x ≡ f y → x ≡ y)
+module _ {A : Type 0} (cmp : A → A → Ordering) (total : IsTotalOrder cmp) (f : A → List ℕ) (Good : A → Type 0)
+    (one : (x y : A) → Good x → Good y → f x ≡ f y → x ≡ y)
     (rest : List (List ℕ)) (apart : (x : A) → Has (f x) rest → ⊥) where
   fresh_text : (x : A) (xs : List A) → IsStrictlySortedBy cmp (x ∷ xs) → AllByRecursion Good (x ∷ xs) → Has (f x) (map f xs ++ rest) → ⊥
   unfolding IsStrictlySortedBy

@@ -62,21 +62,26 @@ true_false : {b : Bool} → b ≡ true → b ≡ false → ⊥
 true_false {b} t f = let wrong : true ≡ false = sym t ∙ f in absurd cc
 
 -- a quantifier over y
-unbound : (x y : List ℕ) (kids : Forest) → Names x (free_in_kids (sets_all kids)) (everywhere_in own_variables kids) (everywhere_in own_functions kids) → bytes_eq x (variable_symbol (plain y)) ≡ false
+unbound : (x y : List ℕ) (kids : Forest)
+    → Names x (free_in_kids (sets_all kids)) (everywhere_in own_variables kids) (everywhere_in own_functions kids)
+    → bytes_eq x (variable_symbol (plain y)) ≡ false
     → Names x (λ v. free_in_kids (sets_all kids) v && not (var_eq v (plain y))) (everywhere_in own_variables kids) (everywhere_in own_functions kids)
 unbound x y kids (inr g) f = inr g
 unbound x y kids (inl (v, e, is_free, there)) f =
-    let apart : var_eq v (plain y) ≡ false = other (var_eq v (plain y)) (var_eq_decides v (plain y)) (λ same. true_false ((bytes_eq-Decides x (variable_symbol (plain y))).1 (e ∙ ap variable_symbol same)) f) in
+    let apart : var_eq v (plain y) ≡ false = other (var_eq v (plain y)) (var_eq_decides v (plain y))
+        (λ same. true_false ((bytes_eq-Decides x (variable_symbol (plain y))).1 (e ∙ ap variable_symbol same)) f) in
     inl (v, e, (λ i. is_free i && not (apart i)), there)
 
-quantified : (x y : List ℕ) (kids : Forest) → (any_uses x (expressions kids) ≡ true → Names x (free_in_kids (sets_all kids)) (everywhere_in own_variables kids) (everywhere_in own_functions kids))
+quantified : (x y : List ℕ) (kids : Forest)
+    → (any_uses x (expressions kids) ≡ true → Names x (free_in_kids (sets_all kids)) (everywhere_in own_variables kids) (everywhere_in own_functions kids))
     → cond (bytes_eq x (variable_symbol (plain y))) false (uses x (first (expressions kids))) ≡ true
     → Names x (λ v. free_in_kids (sets_all kids) v && not (var_eq v (plain y))) (everywhere_in own_variables kids) (everywhere_in own_functions kids)
 quantified x y kids ih h =
     let free_there = outside (bytes_eq x (variable_symbol (plain y))) (uses x (first (expressions kids))) h in
     unbound x y kids (ih (first_uses x (expressions kids) free_there.1)) free_there.0
 
-by_op : (o : Op) (kids : Forest) (x : List ℕ) → (any_uses x (expressions kids) ≡ true → Names x (free_in_kids (sets_all kids)) (everywhere_in own_variables kids) (everywhere_in own_functions kids))
+by_op : (o : Op) (kids : Forest) (x : List ℕ)
+    → (any_uses x (expressions kids) ≡ true → Names x (free_in_kids (sets_all kids)) (everywhere_in own_variables kids) (everywhere_in own_functions kids))
     → uses x (translated o kids (expressions kids)) ≡ true
     → Names x (free (node o kids)) (own_variables o ++ everywhere_in own_variables kids) (own_functions o ++ everywhere_in own_functions kids)
 by_op (op.Variable v) kids x ih h = inl (v, (bytes_eq-Decides x (variable_symbol v)).0 h, (var_eq_decides v v).1 refl, inl refl)
@@ -124,21 +129,26 @@ by_op op.Loop kids x ih h = false_true h
 
 in_first : (x : List ℕ) (t : Tree) (rest : Forest) → Names x (free t) (everywhere own_variables t) (everywhere own_functions t)
     → Names x (free_in_kids (sets_all (kid t rest))) (everywhere_in own_variables (kid t rest)) (everywhere_in own_functions (kid t rest))
-in_first x t rest (inl (v, e, is_free, there)) = inl (v, e, ap (λ b. b || free_in_kids (sets_all rest) v) is_free, Has-left v (everywhere own_variables t) (everywhere_in own_variables rest) there)
+in_first x t rest (inl (v, e, is_free, there)) = inl (v, e, ap (λ b. b || free_in_kids (sets_all rest) v) is_free, Has-left v
+    (everywhere own_variables t) (everywhere_in own_variables rest) there)
 in_first x t rest (inr (g, e, there)) = inr (g, e, Has-left g (everywhere own_functions t) (everywhere_in own_functions rest) there)
 
-in_rest : (x : List ℕ) (t : Tree) (rest : Forest) → Names x (free_in_kids (sets_all rest)) (everywhere_in own_variables rest) (everywhere_in own_functions rest)
+in_rest : (x : List ℕ) (t : Tree) (rest : Forest)
+    → Names x (free_in_kids (sets_all rest)) (everywhere_in own_variables rest) (everywhere_in own_functions rest)
     → Names x (free_in_kids (sets_all (kid t rest))) (everywhere_in own_variables (kid t rest)) (everywhere_in own_functions (kid t rest))
-in_rest x t rest (inl (v, e, is_free, there)) = inl (v, e, or_right (free t v) _ is_free, Has-right v (everywhere own_variables t) (everywhere_in own_variables rest) there)
+in_rest x t rest (inl (v, e, is_free, there)) = inl (v, e, or_right (free t v) _ is_free, Has-right v (everywhere own_variables t)
+    (everywhere_in own_variables rest) there)
 in_rest x t rest (inr (g, e, there)) = inr (g, e, Has-right g (everywhere own_functions t) (everywhere_in own_functions rest) there)
 
 mutual
   pub used : (t : Tree) (x : List ℕ) → uses x (expression t) ≡ true → Names x (free t) (everywhere own_variables t) (everywhere own_functions t)
   used (node o kids) x h = by_op o kids x (used_all kids x) h
 
-  used_all : (kids : Forest) (x : List ℕ) → any_uses x (expressions kids) ≡ true → Names x (free_in_kids (sets_all kids)) (everywhere_in own_variables kids) (everywhere_in own_functions kids)
+  used_all : (kids : Forest) (x : List ℕ) → any_uses x (expressions kids) ≡ true
+      → Names x (free_in_kids (sets_all kids)) (everywhere_in own_variables kids) (everywhere_in own_functions kids)
   used_all no_kids x h = false_true h
-  used_all (kid t rest) x h = either (uses x (expression t)) (any_uses x (expressions rest)) h (λ u. in_first x t rest (used t x u)) (λ u. in_rest x t rest (used_all rest x u))
+  used_all (kid t rest) x h = either (uses x (expression t)) (any_uses x (expressions rest)) h (λ u. in_first x t rest (used t x u))
+      (λ u. in_rest x t rest (used_all rest x u))
 
 pub denied_uses : (t : Tree) (x : List ℕ) → uses x (denied t) ≡ true → uses x (expression t) ≡ true
 denied_uses t x h = either (uses x (expression t)) false h (λ u. u) false_true
