@@ -22,11 +22,11 @@ use Rattle.dlk_grammar.specs.Shown.{literal}
 -- an expression of SMT-LIB. Symbols are bytes, with their bars.
 mutual
   pub data Expr : Type 0 where
-    constant : List ℕ → Expr                      -- a number, `true` or `false`
+    constant : List ℕ → Expr  -- a number, `true` or `false`
     symbol : List ℕ → Expr
-    call : List ℕ → Exprs → Expr                  -- (word A B ..)
-    bind : List ℕ → Expr → Expr → Expr            -- (let ((symbol A)) B)
-    quantify : List ℕ → List ℕ → Expr → Expr      -- (word ((symbol Real)) F)
+    call : List ℕ → Exprs → Expr  -- (word A B ..)
+    bind : List ℕ → Expr → Expr → Expr  -- (let ((symbol A)) B)
+    quantify : List ℕ → List ℕ → Expr → Expr  -- (word ((symbol Real)) F)
 
   pub data Exprs : Type 0 where
     none : Exprs
