@@ -4,7 +4,7 @@ use Rattle.dlk_grammar.specs.declared.token.Dots.TheVariants.{Refused}
 use Rattle.dlk_grammar.specs.Texts.{TreeTextFault}
 use Rattle.dlk_tacsyn.specs.States.{ByReading}
 use Rattle.dlk_tacsyn.proofs.Quoted.{text_read, text_unread, unread_fault}
-use Rattle.dlk_tacsyn.proofs.argument.quoted.Goals as goal
+use Rattle.dlk_tacsyn.proofs.argument.formula.Goals as goal
 
 pub returns-in-Ok-clause-found : goal.returns-in-Ok-clause-found
 returns-in-Ok-clause-found g c = λ read reading.
