@@ -28,7 +28,7 @@ HasOtherSort s (Some t) = sort t ≢ s
 -- the tree of an id with that of a new one at the path, where one of the same sort stands
 pub record IsPut (before after : List Tree) (id : Id) (path : List ℕ) (new made : Id) : Type 0 where
   pub same_sort : HasSort (sort (tree before new)) (subtree (tree before id) path)
-  pub made : StandsFor after made (put_at (tree before id) path (tree before new))
+  pub stands : StandsFor after made (put_at (tree before id) path (tree before new))
 
 -- why there is none: want of memory always may be
 abbrev pub IsPutFault : List Tree → Id → List ℕ → Id → PutFault → Type 0
