@@ -1,2 +1,4 @@
 pub mod Abstract
+pub mod Entered
 pub mod Matching
+pub mod Found

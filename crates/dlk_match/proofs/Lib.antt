@@ -1,0 +1,2 @@
+pub mod Abstracted
+pub mod OneMatch
