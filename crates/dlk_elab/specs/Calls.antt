@@ -1,0 +1,40 @@
+-- What atoms say, by the code's parts of them.
+use Rattle.std.specs.Prelude.{◌≡◌, List, [], ◌∷◌, Bool, false, Option, Some, None, codes}
+use Rattle.std.specs.Str.{bytes_eq}
+use Rattle.dlk_tree.specs.Trees.{Tree}
+use Rattle.dlk_store.specs.Stores.{tree}
+use Rattle.dlk_calculus.specs.Pairs.{Extra as TreeExtra}
+use Rattle.dlk_sequent.specs.declared.extra.Extra.{Extra}
+use Rattle.dlk_sequent.specs.Extras.{extra_at}
+use Rattle.dlk_tacsyn.specs.Rows.{is_use}
+use Rattle.dlk_tacsyn.specs.Tactics.{GivenFormula, Atom}
+use Rattle.dlk_tacsyn.specs.Ties.{argument_at}
+use Rattle.dlk_uses.specs.Uses.{Direction as TheDirection, Forwards, Backwards}
+use Rattle.dlk_elab.specs.declared.calls.Direction.{Direction}
+use Rattle.dlk_elab.specs.declared.calls.Direction.TheVariants as direction
+use Rattle.dlk_elab.specs.declared.calls.Call.{Call}
+use Rattle.dlk_elab.specs.declared.calls.Call.TheVariants as call
+use Rattle.dlk_elab.specs.Atoms.{NamesAxiom}
+
+abbrev pub direction_of : Direction → TheDirection
+direction_of direction.Forwards = Forwards
+direction_of direction.Backwards = Backwards
+
+-- what is given, over the trees of its ids
+abbrev pub given_at : List Tree → Option Extra → TreeExtra
+given_at trees None = record { renames = []; pairs = [] }
+given_at trees (Some extra) = extra_at trees extra
+
+-- the name of an atom that is for no box and uses no axiom
+pub record IsPlain (name : List ℕ) : Type 0 where
+  pub no_generalize : bytes_eq name (codes "G") ≡ false
+  pub no_cut : bytes_eq name (codes "boxCut") ≡ false
+  pub no_use : is_use name ≡ false
+
+-- this is what the atom says
+abbrev pub IsCall : List Tree → Atom → Call → Type 0
+IsCall trees atom call.Plain = IsPlain atom.name
+IsCall trees atom (call.Generalize at) = (atom.name ≡ codes "G") × (atom.arguments ≡ argument_at trees at.now ∷ [])
+IsCall trees atom (call.CutBox h at) =
+    (atom.name ≡ codes "boxCut") × (atom.arguments ≡ GivenFormula (tree trees h) ∷ argument_at trees at.now ∷ [])
+IsCall trees atom (call.Use u) = NamesAxiom atom (direction_of u.direction) u.name.now u.place u.path.now (given_at trees u.given)
