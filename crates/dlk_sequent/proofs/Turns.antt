@@ -1,6 +1,6 @@
 -- Ways through the nodes of a store.
 use Rattle.std.proofs.Common.{◌≡◌, ◌≢◌, refl, sym, ap, subst, ◌∙◌, ℕ, zero, suc, ◌+◌, ◌<◌, ◌≤◌, List, [], ◌∷◌, ◌++◌, length, map, take, drop, get_or, Option, None, Some, arith, ◌⊎◌, inl, inr, ⊎_elim}
-use Rattle.std.proofs.lemmas.List.{drop_more, drop_all, drop-map, take-append-drop}
+use Rattle.std.proofs.lemmas.List.{drop_more, drop_all, drop-map, take-append-drop, take_more, map-append}
 use Rattle.dlk_tree.specs.declared.op.Sort.TheVariants.{Formula}
 use Rattle.dlk_tree.specs.Trees.{Tree, sort}
 use Rattle.dlk_store.specs.declared.Id.{Id}
@@ -21,6 +21,12 @@ kids_of turns = map (λ (turn : Turn). turn.kid) turns
 pub start_known : (trees : List Tree) (turns : List Turn) (found : Id) → AreTurns trees turns found → IsId trees (start turns found)
 start_known trees [] found are = are
 start_known trees (turn ∷ turns) found are = are.0
+
+-- the first part of a way begins where it does
+pub earlier_start : (n : ℕ) (turns : List Turn) (found : Id) → start (take n turns) (start (drop n turns) found) ≡ start turns found
+earlier_start zero turns found = refl
+earlier_start (suc n) [] found = refl
+earlier_start (suc n) (turn ∷ turns) found = refl
 
 pub found_known : (trees : List Tree) (turns : List Turn) (found : Id) → AreTurns trees turns found → IsId trees found
 found_known trees [] found are = are
@@ -46,13 +52,34 @@ later_stands trees (suc n) (turn ∷ turns) found are le =
     subtree_join (tree trees turn.node) (turn.kid ∷ []) (take n (kids_of turns)) (tree trees (start turns found)) are.1
     ∙ later_stands trees n turns found are.2 (omega (arith, le))
 
+-- the turn before those from n on
+pub next_turn : (way : Way) (n m : ℕ) (turn : Turn) → n ≤ length way.turns → m + 1 ≡ n → turn ≡ get_or way.turns m turn
+    → drop m way.turns ≡ turn ∷ drop n way.turns
+next_turn way n m turn within one is = drop_more way.turns m turn (omega (arith, within, one)) ∙ (λ i. sym is i ∷ drop (one i) way.turns)
+
+pub later_next : (trees : List Tree) (way : Way) (n m : ℕ) (turn : Turn) → IsSpine trees way → n ≤ length way.turns → m + 1 ≡ n → turn ≡ get_or way.turns m turn
+    → AreTurns trees (turn ∷ drop n way.turns) way.found
+later_next trees way n m turn are within one is =
+    subst (λ turns. AreTurns trees turns way.found) (next_turn way n m turn within one is) (later_turns trees m way.turns way.found are)
+
+-- the way to a later node
+pub earlier_turns : (trees : List Tree) (n : ℕ) (turns : List Turn) (found : Id) → AreTurns trees turns found
+    → AreTurns trees (take n turns) (start (drop n turns) found)
+earlier_turns trees zero turns found are = start_known trees turns found are
+earlier_turns trees (suc n) [] found are = are
+earlier_turns trees (suc n) (turn ∷ turns) found are = (
+  are.0,
+  are.1 ∙ ap (λ id. Some (tree trees id)) (sym (earlier_start n turns found)),
+  earlier_turns trees n turns found are.2,
+)
+
 -- over a store that has grown
 pub turns_kept : {old new : List Tree} → Keeps old new → (turns : List Turn) (found : Id) → AreTurns old turns found → AreTurns new turns found
 turns_kept keeps [] found are = IsId-kept keeps found are
 turns_kept {old} {new} keeps (turn ∷ turns) found are = (
   IsId-kept keeps turn.node are.0,
   ap (λ t. subtree t (turn.kid ∷ [])) (keeps.same turn.node are.0) ∙ are.1
-  ∙ ap Some (sym (keeps.same (start turns found) (start_known old turns found are.2))),
+      ∙ ap Some (sym (keeps.same (start turns found) (start_known old turns found are.2))),
   turns_kept keeps turns found are.2,
 )
 
@@ -76,9 +103,12 @@ missing_further e k path none =
     (λ (h : (t : Tree) × (subtree e (k ∷ path) ≡ Some t)). let before = subtree_before e (k ∷ []) path h.0 h.1 in let first = before.1 in absurd (cc (none, first)))
     (none_or_some (subtree e (k ∷ path)))
 
-module _ (trees : List Tree) (id : Id) (path : List ℕ) (at : Id) (i k : ℕ) (w : Walked trees id path at i) (less : i < length path) (is : k ≡ get_or path i k) where
+module _ (trees : List Tree) (id : Id) (path : List ℕ) (at : Id) (i d : ℕ) (w : Walked trees id path at i) (less : i < length path) where
+  abbrev k : ℕ
+  k = get_or path i d
+
   next_kid : drop i path ≡ k ∷ drop (i + 1) path
-  next_kid = drop_more path i k less ∙ ap (λ n. n ∷ drop (i + 1) path) (sym is)
+  next_kid = drop_more path i d less
 
   pub walked_out : subtree (tree trees at) (k ∷ []) ≡ None → subtree (tree trees id) path ≡ None
   walked_out none = w.rest ∙ ap (subtree (tree trees at)) next_kid ∙ missing_further (tree trees at) k (drop (i + 1) path) none
@@ -98,19 +128,20 @@ walked_all trees id path at i w past = record {
 }
 
 -- one more turn at the end
+pub start_stays : (turns : List Turn) (turn : Turn) (next : Id) → start (turns ++ turn ∷ []) next ≡ start turns turn.node
+start_stays [] turn next = refl
+start_stays (other ∷ turns) turn next = refl
+
+pub kids_more : (turns more : List Turn) (turn : Turn) (path : List ℕ) (i d : ℕ) → more ≡ turns ++ turn ∷ [] → kids_of turns ≡ take i path → i < length path
+    → turn.kid ≡ get_or path i d → kids_of more ≡ take (i + 1) path
+kids_more turns more turn path i d is goes less kid =
+    ap kids_of is ∙ map-append (λ (t : Turn). t.kid) turns (turn ∷ []) ∙ (λ j. goes j ++ kid j ∷ []) ∙ sym (take_more path i d less)
+
 pub one_turn : (trees : List Tree) (turns : List Turn) (turn : Turn) (next : Id) → AreTurns trees turns turn.node → LeadsTo trees turn.node (turn.kid ∷ []) next
     → AreTurns trees (turns ++ turn ∷ []) next
 one_turn trees [] turn next are to = (are, to.stands, to.known)
 one_turn trees (first ∷ turns) turn next are to =
-    (are.0, are.1 ∙ ap (λ id. Some (tree trees id)) (sym (same_start turns turn next)), one_turn trees turns turn next are.2 to)
-  where
-    same_start : (turns : List Turn) (turn : Turn) (next : Id) → start (turns ++ turn ∷ []) next ≡ start turns turn.node
-    same_start [] turn next = refl
-    same_start (other ∷ turns) turn next = refl
-
-pub start_stays : (turns : List Turn) (turn : Turn) (next : Id) → start (turns ++ turn ∷ []) next ≡ start turns turn.node
-start_stays [] turn next = refl
-start_stays (other ∷ turns) turn next = refl
+    (are.0, are.1 ∙ ap (λ id. Some (tree trees id)) (sym (start_stays turns turn next)), one_turn trees turns turn next are.2 to)
 
 -- ---- putting
 
@@ -178,12 +209,15 @@ none_yet trees way =
       none = subst (λ turns. NoneBelow (tree trees way.found) (kids_of turns)) (sym end) (none_at_end (tree trees way.found));
     }
 
+pub none_known : (trees : List Tree) (way : Way) (n : ℕ) (formula : Id) → IsSpine trees way → NoneSoFar trees way n formula → IsId trees formula
+none_known trees way n formula are p =
+    subst (IsId trees) (sym p.at) (start_known trees (drop n way.turns) way.found (later_turns trees n way.turns way.found are))
+
 pub none_before : (trees : List Tree) (way : Way) (n m : ℕ) (formula : Id) (turn : Turn) → IsSpine trees way → NoneSoFar trees way n formula
     → sort (tree trees formula) ≢ Formula → m + 1 ≡ n → turn ≡ get_or way.turns m turn → NoneSoFar trees way m turn.node
 none_before trees way n m formula turn are p other one is =
-    let next : drop m way.turns ≡ turn ∷ drop n way.turns =
-    drop_more way.turns m turn (omega (arith, p.within, one)) ∙ (λ i. sym is i ∷ drop (one i) way.turns) in
-    let stands = (subst (λ turns. AreTurns trees turns way.found) next (later_turns trees m way.turns way.found are)).1 in
+    let next = next_turn way n m turn p.within one is in
+    let stands = (later_next trees way n m turn are p.within one is).1 in
     let here : subtree (tree trees turn.node) (turn.kid ∷ []) ≡ Some (tree trees formula) = stands ∙ ap (λ id. Some (tree trees id)) (sym p.at) in
     record {
       within = omega (arith, p.within, one);
@@ -195,7 +229,7 @@ none_before trees way n m formula turn are p other one is =
 pub innermost_found : (trees : List Tree) (way : Way) (outer : ℕ) (formula : Id) → IsSpine trees way → NoneSoFar trees way outer formula
     → sort (tree trees formula) ≡ Formula → IsInnermostOf trees way (record { outer = outer; formula = formula })
 innermost_found trees way outer formula are p is = record {
-  known = subst (IsId trees) (sym p.at) (start_known trees (drop outer way.turns) way.found (later_turns trees outer way.turns way.found are));
+  known = none_known trees way outer formula are p;
   within = p.within;
   innermost = record {
     parts = sym (take-append-drop outer (path_of way));

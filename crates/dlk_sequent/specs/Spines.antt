@@ -69,6 +69,13 @@ pub record IsSpineOf (trees : List Tree) (id : Id) (path : List ℕ) (way : Way)
   pub goes : path_of way ≡ path
   pub spine : IsSpine trees way
 
+-- the way along the first kids, and the way on from its end
+abbrev pub outer_part : Way → ℕ → Way
+outer_part way n = record { turns = take n way.turns; found = start (drop n way.turns) way.found }
+
+abbrev pub inner_part : Way → ℕ → Way
+inner_part way n = record { turns = drop n way.turns; found = way.found }
+
 -- the smallest formula round what is found
 pub record IsInnermostOf (trees : List Tree) (way : Way) (i : Innermost) : Type 0 where
   pub known : IsId trees i.formula

@@ -10,7 +10,7 @@ use dlk_store::{Id, Steps, Store};
 use std::alloc::Global;
 use std::sync::ledger::Ledger;
 
-/// The kid of this number, counted from 0, in one step. None comes where there is no such kid.
+/// The kid of this number, counted from 0. None comes where there is no such kid.
 pub(crate) fn kid_at<S: Store, L: Ledger>(
     store: &S,
     id: Id,
@@ -27,7 +27,7 @@ pub(crate) fn kid_at<S: Store, L: Ledger>(
 }
 
 /// The subtree at a path: the numbers of the kids that lead to it, counted from 0. None comes exactly where the path leaves the
-/// tree. It takes no memory, and at most one step for each kid.
+/// tree. It takes no memory.
 pub fn subtree<S: Store, L: Ledger>(
     store: &S,
     id: Id,

@@ -1,9 +1,10 @@
 //! The nodes on the way to a subtree, found in one walk.
-ghost use Rattle.std.specs.Prelude.{◌≡◌, ◌≢◌, [], ◌∷◌, Err, None, MatchOption, IfOk, IfErr};
+ghost use Rattle.std.specs.Prelude.{◌≡◌, ◌≢◌, ◌↔◌, ◌≤◌, length, IsTrue, [], ◌∷◌, Err, None, MatchOption, IfOk, IfErr};
+ghost use Rattle.dlk_tree.specs.declared.op.Sort.TheVariants.{Formula};
 ghost use Rattle.dlk_tree.specs.Trees.{sort};
 ghost use Rattle.dlk_store.specs.Stores.{IsId, tree, StandsFor};
 ghost use Rattle.dlk_calculus.specs.Paths.{subtree, put_at};
-ghost use Rattle.dlk_sequent.specs.Spines.{HasSort, IsPut, IsPutFault, top, path_of, IsSpine, IsSpineOf, IsInnermostOf, HasNoInnermost};
+ghost use Rattle.dlk_sequent.specs.Spines.{HasSort, IsPut, IsPutFault, top, path_of, IsSpine, IsSpineOf, outer_part, inner_part, IsInnermostOf, HasNoInnermost};
 ghost use Rattle.dlk_sequent.specs.declared.fault.PutFault.TheVariants.{NoPlace};
 
 use crate::fault::PutFault;
@@ -22,7 +23,7 @@ pub struct Turn {
 }
 
 /// The nodes on the way to a subtree, for who wants the subtree and trees with others in its place. A spine stays one while its
-/// store grows (`spine_stays`). Only `Spine::of` makes one.
+/// store grows (`spine_stays`), and its parts are spines (`spine_parts`).
 #[derive(Drop, Debug)]
 pub struct Spine {
     turns: Vec<Turn>,
@@ -44,12 +45,21 @@ pub struct Innermost {
     pub formula: Id,
 }
 
-/// The sort of the tree, in one step.
-fn sort_at<S: Store, L: Ledger>(store: &S, id: Id, steps: &mut Steps<L>) -> Sort
+/// Whether the tree is of the sort of formulas.
+fn has_formula_sort<S: Store, L: Ledger>(store: &S, id: Id, steps: &mut Steps<L>) -> bool
     requires { IsId (S.trees store.now) id }
-    ensures { result ≡ sort (tree (S.trees store.now) id) }
+    ensures { IsTrue result ↔ (sort (tree (S.trees store.now) id) ≡ Formula) }
 {
-    sort_of(store.look(id, steps).op)
+    sort_of(store.look(id, steps).op) == Sort::Formula
+}
+
+/// Whether the two trees are of the same sort.
+fn have_one_sort<S: Store, L: Ledger>(store: &S, a: Id, b: Id, steps: &mut Steps<L>) -> bool
+    requires first { IsId (S.trees store.now) a }
+    requires second { IsId (S.trees store.now) b }
+    ensures { IsTrue result ↔ (sort (tree (S.trees store.now) a) ≡ sort (tree (S.trees store.now) b)) }
+{
+    sort_of(store.look(a, steps).op) == sort_of(store.look(b, steps).op)
 }
 
 /// The node with another kid of the same sort, instead of one that is there.
@@ -76,7 +86,7 @@ fn with_kid<S: Store, L: Ledger>(
 
 impl Spine {
     /// The spine of a path: the numbers of the kids that lead to the subtree, counted from 0. None comes exactly where the path
-    /// leaves the tree. It takes at most one step for each kid.
+    /// leaves the tree.
     ///
     /// # Errors
     ///
@@ -104,6 +114,32 @@ impl Spine {
             at = next;
         }
         Ok(Some(Spine { turns, found: at }))
+    }
+
+    /// The spine of the first kids of the path, `outer` of them, at whose end the spine of the others begins.
+    pub fn outer(&self, alloc: Global, outer: usize) -> Result<Spine, AllocError>
+        requires { outer ≤ length self.now.turns }
+        ensures { IfOk result (λ s. s ≡ outer_part self.now outer) }
+    {
+        let turns = Vec::from_slice(alloc, &self.turns[..outer])?;
+        let found = if outer == self.turns.len() {
+            self.found
+        } else {
+            self.turns[outer].node
+        };
+        Ok(Spine { turns, found })
+    }
+
+    /// The spine of the other kids of the path, behind the first `outer` of them.
+    pub fn inner(&self, alloc: Global, outer: usize) -> Result<Spine, AllocError>
+        requires { outer ≤ length self.now.turns }
+        ensures { IfOk result (λ s. s ≡ inner_part self.now outer) }
+    {
+        let turns = Vec::from_slice(alloc, &self.turns[outer..])?;
+        Ok(Spine {
+            turns,
+            found: self.found,
+        })
     }
 
     /// The subtree. It takes no step and no memory.
@@ -134,7 +170,7 @@ impl Spine {
         ensures there { result ≢ Err NoPlace }
         ensures grows { S.grows store.old store.new }
     {
-        if sort_at(store, new, steps) != sort_at(store, self.found, steps) {
+        if !have_one_sort(store, new, self.found, steps) {
             return Err(PutFault::WrongSort);
         }
         let mut made = new;
@@ -158,7 +194,7 @@ impl Spine {
     {
         let mut outer = self.turns.len();
         let mut formula = self.found;
-        while sort_at(store, formula, steps) != Sort::Formula {
+        while !has_formula_sort(store, formula, steps) {
             if outer == 0 {
                 return None;
             }
