@@ -1,12 +1,12 @@
 -- Axioms at inner positions: what an atom that uses an axiom looks for, and the steps that each form of an axiom asks for.
-use Rattle.std.specs.Prelude.{◌≡◌, ◌≢◌, ◌+◌, ◌==◌, ℕ, List, [], ◌∷◌, ◌++◌, length, Bool, true, false, ◌&&◌, if◌then◌else◌, Option, Some, None, codes}
+use Rattle.std.specs.Prelude.{◌≡◌, ◌≢◌, ◌+◌, ℕ, List, [], ◌∷◌, ◌++◌, length, Bool, true, false, ◌&&◌, if◌then◌else◌, Option, Some, None, codes}
 use Rattle.std.specs.Str.{bytes_eq}
 use Rattle.dlk_tree.specs.declared.op.Sym.{Sym}
 use Rattle.dlk_tree.specs.declared.op.Kind.{Kind}
 use Rattle.dlk_tree.specs.declared.op.Kind.TheVariants.{UnitFunc, Pred, UnitPred, Quant, Prog}
 use Rattle.dlk_tree.specs.declared.op.Op.TheVariants.{Dot, Hole, True, Eq}
 use Rattle.dlk_tree.specs.declared.op.Sort.TheVariants.{Formula}
-use Rattle.dlk_tree.specs.Trees.{Tree, node, Forest, no_kids, kid, sort}
+use Rattle.dlk_tree.specs.Trees.{Tree, node, sort}
 use Rattle.dlk_calculus.specs.declared.form.AxiomForm.{AxiomForm}
 use Rattle.dlk_calculus.specs.declared.form.AxiomForm.TheVariants.{E, Q, C, R, I, F}
 use Rattle.dlk_calculus.specs.Axioms.{Axiom}
@@ -29,7 +29,7 @@ pub data Direction : Type 0 where
 
 -- what an atom that uses an axiom says: the axiom, which side of it is looked for, where, and what is given beside its name
 pub record Use : Type 0 where
-  pub axiom : Axiom
+  pub its_axiom : Axiom
   pub direction : Direction
   pub place : Place
   pub path : List ℕ
@@ -235,21 +235,21 @@ pub data IsAround (e : Tree) (path : List ℕ) : (outer inner : List ℕ) → Tr
   smallest : {outer inner : List ℕ} {d : Tree} → sort e ≡ Formula → IsInnermost e path outer inner d → IsAround e path outer inner d
   whole : sort e ≢ Formula → IsAround e path [] path e
 
--- Finishes now spot use e f steps: behind an instance of the axiom, which the row `now` proves and which is the formula f, these steps use it
+-- Finishes now spot used e f steps: behind an instance of the axiom, which the row `now` proves and which is the formula f, these steps use it
 -- on the formula e at the place. One row a form.
-pub data Finishes (now : ℕ) (spot : Spot) (use : Use) (e f : Tree) : List Step → Type 0 where
-  equivalence : use.axiom.form ≡ E →
-      Finishes now spot use e f (by_equivalence now spot use.place use.direction e use.path (left_of f) (right_of f))
-  equation : (outer inner : List ℕ) (d : Tree) → use.axiom.form ≡ Q → IsAround e use.path outer inner d →
-      Finishes now spot use e f (by_equation now spot use.place use.direction e outer inner d (left_of f) (right_of f))
-  conditional_equivalence : (j : ℕ) → use.axiom.form ≡ C → use.place ≡ Succ j →
-      Finishes now spot use e f (by_conditional_equivalence now spot j (left_of f) (left_of (right_of f)) (right_of (right_of f)))
-  conditional_equation : (outer inner : List ℕ) (d : Tree) → use.axiom.form ≡ R → IsAround e use.path outer inner d →
-      Finishes now spot use e f (by_conditional_equation now spot use.place use.direction e outer inner d (left_of f) (left_of (right_of f)) (right_of (right_of f)))
-  implication : use.axiom.form ≡ I →
-      Finishes now spot use e f (by_implication now spot use.place (left_of f) (right_of f))
-  fact : (j : ℕ) → use.axiom.form ≡ F → use.place ≡ Succ j →
-      Finishes now spot use e f (by_fact now spot j)
+pub data Finishes (now : ℕ) (spot : Spot) (used : Use) (e f : Tree) : List Step → Type 0 where
+  equivalence : used.its_axiom.form ≡ E →
+      Finishes now spot used e f (by_equivalence now spot used.place used.direction e used.path (left_of f) (right_of f))
+  equation : (outer inner : List ℕ) (d : Tree) → used.its_axiom.form ≡ Q → IsAround e used.path outer inner d →
+      Finishes now spot used e f (by_equation now spot used.place used.direction e outer inner d (left_of f) (right_of f))
+  conditional_equivalence : (j : ℕ) → used.its_axiom.form ≡ C → used.place ≡ Succ j →
+      Finishes now spot used e f (by_conditional_equivalence now spot j (left_of f) (left_of (right_of f)) (right_of (right_of f)))
+  conditional_equation : (outer inner : List ℕ) (d : Tree) → used.its_axiom.form ≡ R → IsAround e used.path outer inner d →
+      Finishes now spot used e f (by_conditional_equation now spot used.place used.direction e outer inner d (left_of f) (left_of (right_of f)) (right_of (right_of f)))
+  implication : used.its_axiom.form ≡ I →
+      Finishes now spot used e f (by_implication now spot used.place (left_of f) (right_of f))
+  fact : (j : ℕ) → used.its_axiom.form ≡ F → used.place ≡ Succ j →
+      Finishes now spot used e f (by_fact now spot j)
 
 -- what the last of the rows proves: the first formula on the right of its conclusion
 abbrev pub proved : List Provable → Tree
@@ -273,7 +273,8 @@ generalizing now spot j b f =
 -- [b]f follows from [b]h and h -> f
 abbrev pub cutting_box : ℕ → Spot → ℕ → (b f h : Tree) → List Step
 cutting_box now spot j b f h =
-    let second = spot.goal + 1; third = spot.goal + 2
+    let second = spot.goal + 1
+    in let third = spot.goal + 2
     in UseAxiom (codes "K") ∷
     Substitute (now + 1) ((program_a ~> b) ∷ (any_p ~> h) ∷ (any_q ~> f) ∷ []) ∷
     UseRule (codes "G") ∷
