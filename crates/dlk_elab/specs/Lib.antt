@@ -1,2 +1,4 @@
 pub mod Atoms
 pub mod Ties
+pub mod Calls
+pub mod Plans

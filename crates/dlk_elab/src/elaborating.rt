@@ -64,19 +64,44 @@ pub fn elaborate<S: Store, L: Ledger>(
 
     ensures grows { S.grows kernel.old.store kernel.new.store }
 {
-    step_stays();
     let rows = kernel.rows();
-    let s = &kernel.goals(fact)[goal as usize - 1];
     let target = Target { rows, fact, goal };
-    let plan = plan(alloc, &*kernel, target, s, atom)?;
-    match take_in_turn(alloc, kernel, plan.as_slice(), steps) {
-        Ok(()) => Ok(Elaborated {
+    match atom_steps(alloc, kernel, target, atom, steps) {
+        Ok(made) => Ok(Elaborated {
             fact: kernel.rows(),
-            steps: plan,
+            steps: made,
         }),
         Err(why) => {
             kernel.release(rows);
-            Err(TacFault::from(why))
+            Err(why)
         }
     }
+}
+
+/// Takes the steps of an atom. After a fault the rows of those before it stay.
+fn atom_steps<S: Store, L: Ledger>(
+    alloc: Global,
+    kernel: &mut Kernel<S>,
+    target: Target,
+    atom: &Atom,
+    steps: &mut Steps<L>,
+) -> Result<Vec<Step>, TacFault>
+    requires rows { target.rows ≡ length kernel.old.rows }
+    requires goal { HasGoalAt (facts S.trees kernel.old) target.fact target.goal }
+    requires known { AtomIsKnown (S.trees kernel.old.store) atom.now }
+    requires fitting { IsFitting (atom_at (S.trees kernel.old.store) atom.now) }
+    requires fixed { HasNoLocator (atom_at (S.trees kernel.old.store) atom.now) }
+    ensures made { IfOk result (λ made. AreMade (facts S.trees kernel.old) target.fact target.goal (atom_at (S.trees kernel.old.store) atom.now) (S.trees kernel.new.store) made.items (facts S.trees kernel.new)) }
+    ensures fault { IfErr result (IsTacFault (AtomFault (facts S.trees kernel.old) target.fact target.goal (atom_at (S.trees kernel.old.store) atom.now))) }
+    ensures kept { ExtendsRows S.trees kernel.old kernel.new }
+    ensures grows { S.grows kernel.old.store kernel.new.store }
+{
+    step_stays();
+    let call = call_of(atom);
+    if let Call::Use(used) = call {
+        return use_axiom(alloc, kernel, target, used, steps);
+    }
+    let plan = planned(alloc, kernel, target, atom, call, steps)?;
+    take_in_turn(alloc, kernel, plan.as_slice(), steps)?;
+    Ok(plan)
 }
