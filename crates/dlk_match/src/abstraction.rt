@@ -1,5 +1,5 @@
 //! A variable as an argument.
-ghost use Rattle.std.specs.Prelude.{◌≡◌, ◌-◌, IfOk, All, List};
+ghost use Rattle.std.specs.Prelude.{◌≡◌, ◌-◌, ◌≤◌, IfOk, All, List, length};
 ghost use Rattle.dlk_tree.specs.Trees.{Tree, node};
 ghost use Rattle.dlk_store.specs.Stores.{IsId, tree, kid_trees, StandsFor};
 ghost use Rattle.dlk_calculus.specs.Captures.{captures};
@@ -42,7 +42,8 @@ fn captures<S: Store>(store: &S, id: Id, op: &Op, kids: &[Id], v: &Var) -> bool
 
 /// How many kids are outside of what the operator captures, from the first on.
 fn outside(op: &Op, kids: &[Id]) -> usize
-    ensures { (trees : List Tree) → result ≡ count (kid_trees trees kids.now) - count ((captures op.now).reach (kid_trees trees kids.now)) }
+    ensures value { (trees : List Tree) → result ≡ count (kid_trees trees kids.now) - count ((captures op.now).reach (kid_trees trees kids.now)) }
+    ensures few { result ≤ length kids.now }
 {
     match op {
         Op::Box | Op::Dia | Op::Seq if !kids.is_empty() => 1,
@@ -55,7 +56,8 @@ fn entered<S: Store>(store: &S, id: Id, op: &Op, kids: &[Id], v: &Var) -> usize
     requires known { IsId (S.trees store.now) id }
     requires kids { All (IsId (S.trees store.now)) kids.now }
     requires node { tree (S.trees store.now) id ≡ node op.now (kid_trees (S.trees store.now) kids.now) }
-    ensures { result ≡ entered v.now op.now (kid_trees (S.trees store.now) kids.now) }
+    ensures value { result ≡ entered v.now op.now (kid_trees (S.trees store.now) kids.now) }
+    ensures few { result ≤ length kids.now }
 {
     if captures(store, id, op, kids, v) {
         outside(op, kids)
