@@ -9,6 +9,9 @@ pub mod Replaced
 pub mod AskLaws
 pub mod Plans
 pub mod Decided
+pub mod Finishing
 pub mod AtomLaws
 pub mod RuleArguments
 pub mod Elaborates
+pub mod CallsFit
+pub mod BoxPlans
