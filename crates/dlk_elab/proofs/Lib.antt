@@ -5,6 +5,7 @@ pub mod Sames
 pub mod Taken
 pub mod Rows
 pub mod TakenLaws
+pub mod Replacing
 pub mod Replaced
 pub mod AskLaws
 pub mod Plans
