@@ -214,7 +214,7 @@ box_fits b f h made e = let p = (box_sorts b f made).program in record { kids_fi
 pub imply_fits : (b f h : Tree) → WellMade (box b f) → sort h ≡ Formula → Fits op.Imply (sort h ∷ sort f ∷ [])
 imply_fits b f h made e = let p = (box_sorts b f made).formula in record { kids_fit = λ i. e i ∷ p i ∷ []; parts_fit = refl }
 
-id_later : (old new : List Tree) (id : Id) → Keeps old new → IsId old id → IsId new id
+pub id_later : (old new : List Tree) (id : Id) → Keeps old new → IsId old id → IsId new id
 id_later old new id keeps known = omega (arith, keeps.known)
 
 -- a node over two kids, in a store that has grown

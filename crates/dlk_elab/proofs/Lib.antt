@@ -6,6 +6,7 @@ pub mod Taken
 pub mod Rows
 pub mod TakenLaws
 pub mod Replacing
+pub mod FormsReplace
 pub mod Replaced
 pub mod AskLaws
 pub mod Plans
@@ -16,3 +17,4 @@ pub mod RuleArguments
 pub mod Elaborates
 pub mod CallsFit
 pub mod BoxPlans
+pub mod BoxAsks

@@ -2,13 +2,14 @@
 use Rattle.std.proofs.Common.{◌≡◌, ℕ, zero, suc, ◌+◌, ◌-◌, ◌<◌, ◌≤◌, List, [], ◌∷◌, ◌++◌, length, take, drop, refl, sym, ap, subst, ◌∙◌, arith, length-append, append_assoc, inl, inr}
 use Rattle.std.proofs.lemmas.List.{length-take-le, length-drop}
 use Rattle.std.proofs.lemmas.Option.{slice_get_cases}
+use Rattle.dlk_tree.specs.Trees.{Tree}
 use Rattle.dlk_calculus.specs.Places.{At, IsPlace, put_all}
 use Rattle.dlk_calculus.specs.Sequents.{Sequent}
 use Rattle.dlk_calculus.specs.Provables.{Provable}
 use Rattle.dlk_calculus.specs.Rules.{Rule, Premises, Close, Cut, CutL, CutR, CoHideR, ImplyL, ImplyR, EquivifyR, CommuteEquivR}
 use Rattle.dlk_calculus.specs.Steps.{Step, Apply, Merge, Gives}
 use Rattle.dlk_calculus.specs.Steps.{apply as by_apply, merge as by_merge}
-use Rattle.dlk_kernel.specs.Taken.{Takes}
+use Rattle.dlk_kernel.specs.Taken.{Takes, none, more}
 use Rattle.dlk_uses.specs.Uses.{in_turn, closed_by}
 use Rattle.dlk_elab.proofs.Places.{at_one, at_suc, split_at, At_place, At-more, At-between, put_between}
 use Rattle.dlk_elab.proofs.TakenLaws.{First, takes_none, takes_first}
@@ -35,7 +36,7 @@ put_within xs new ys g k x there here =
     ∙ ap (λ l. l ++ back) (append_assoc front (before ++ ys) after)
 
 -- as many goals more as stand in an item's place, but for the item
-put_length : {A : Type 0} (items new : List A) (place : ℕ) → IsPlace items place → length (put_all items place new) + 1 ≡ length items + length new
+pub put_length : {A : Type 0} (items new : List A) (place : ℕ) → IsPlace items place → length (put_all items place new) + 1 ≡ length items + length new
 put_length items new place there =
     omega (
       arith,
@@ -62,6 +63,37 @@ an_item items k n e less =
       | inr h ↦ absurd (omega (arith, h.0, e, less))
     ]
 
+-- the rule makes so many premises
+abbrev pub Makes : Rule → ℕ → Type 0
+Makes rule m = (s : Sequent) (premises : List Sequent) → Premises rule s premises → length premises ≡ m
+
+pub makes_close : (i j : ℕ) → Makes (Close i j) 0
+makes_close i j s premises h = ap length h.premises_are
+
+pub makes_cut : (h : Tree) → Makes (Cut h) 2
+makes_cut h s premises k = ap length k.premises_are
+
+pub makes_cut_left : (i : ℕ) (h : Tree) → Makes (CutL i h) 2
+makes_cut_left i h s premises k = ap length k.premises_are
+
+pub makes_cut_right : (j : ℕ) (h : Tree) → Makes (CutR j h) 2
+makes_cut_right j h s premises k = ap length k.premises_are
+
+pub makes_hide : (j : ℕ) → Makes (CoHideR j) 1
+makes_hide j s premises h = ap length h.premises_are
+
+pub makes_imply_left : (i : ℕ) → Makes (ImplyL i) 2
+makes_imply_left i s premises h = ap length h.premises_are
+
+pub makes_imply_right : (j : ℕ) → Makes (ImplyR j) 1
+makes_imply_right j s premises h = ap length h.premises_are
+
+pub makes_equivify : (j : ℕ) → Makes (EquivifyR j) 1
+makes_equivify j s premises h = ap length h.premises_are
+
+pub makes_commute : (j : ℕ) → Makes (CommuteEquivR j) 1
+makes_commute j s premises h = ap length h.premises_are
+
 module _ (p : Provable) (goal : ℕ) (there : IsPlace p.goals goal) where
   pub behind_put : (n k : ℕ) (q r : Provable) (ys : List Sequent) → Behind p goal n q → k < n → r.conclusion ≡ q.conclusion →
       r.goals ≡ put_all q.goals (goal + k) ys → Behind p goal (n - 1 + length ys) r
@@ -74,10 +106,6 @@ module _ (p : Provable) (goal : ℕ) (there : IsPlace p.goals goal) where
         conclusion = same ∙ b.conclusion;
         goals = goals ∙ ap (λ l. put_all l (goal + k) ys) b.goals ∙ put_within p.goals b.new ys goal k x.0 there x.1;
       }
-
-  -- the rule makes so many premises
-  abbrev pub Makes : Rule → ℕ → Type 0
-  Makes rule m = (s : Sequent) (premises : List Sequent) → Premises rule s premises → length premises ≡ m
 
   pub behind_rule : (rows : List Provable) (fact n k m : ℕ) (rule : Rule) (q r : Provable) → At rows fact q → Behind p goal n q → k < n → Makes rule m →
       Gives rows (Apply fact (goal + k) rule) r → Behind p goal (n - 1 + m) r
@@ -153,3 +181,27 @@ module _ (p : Provable) (goal : ℕ) (there : IsPlace p.goals goal) where
       let far : count + length ((on, rule) ∷ rules) ≡ count + 1 + length rules = omega arith in
       turned rules (rows ++ f.row ∷ []) after (count + 1) (n - 1 + m) z k by at f.row more here next others less e
       (subst (λ c. Takes (rows ++ f.row ∷ []) (in_turn (count + 1) (count + 1) rules ++ Merge c at by ∷ []) after) far f.others)
+
+-- rows from which the steps are taken, so many, among which a fact's row is this one
+pub record From (after : List Provable) (fact n : ℕ) (q : Provable) (steps : List Step) : Type 0 where
+  pub rows : List Provable
+  pub count : n ≡ length rows
+  pub stands : At rows fact q
+  pub taken : Takes rows steps after
+
+-- a step on other rows passes
+pub pass : (after : List Provable) (fact n : ℕ) (q : Provable) (step : Step) (steps : List Step) → From after fact n q (step ∷ steps) →
+    From after fact (n + 1) q steps
+pass after fact n q step steps h =
+    let f = takes_first h.rows after step steps h.taken in
+    record {
+      rows = h.rows ++ f.row ∷ [];
+      count = omega (arith, h.count, length-append h.rows (f.row ∷ []));
+      stands = At-more h.rows (f.row ∷ []) fact q h.stands;
+      taken = f.others;
+    }
+
+-- rows stay while steps are taken
+pub rows_kept : (rows after : List Provable) (steps : List Step) (n : ℕ) (q : Provable) → Takes rows steps after → At rows n q → At after n q
+rows_kept rows _ _ n q none h = h
+rows_kept rows _ _ n q (more {steps} {mid} {step} {r} taken is) h = At-more mid (r ∷ []) n q (rows_kept rows mid steps n q taken h)
