@@ -8,6 +8,7 @@ use Rattle.std.proofs.lemmas.List.Elements.{All-head, All-tail}
 use Rattle.std.proofs.lemmas.Slice.Eq.{bytes_eq-Decides}
 use Rattle.dlk_tree.specs.Trees.{Tree}
 use Rattle.dlk_store.specs.declared.Id.{Id}
+use Rattle.dlk_calculus.specs.Sequents.{IsFormula}
 use Rattle.dlk_sequent.specs.declared.extra.Extra.{Extra}
 use Rattle.dlk_sequent.specs.declared.sequent.Place.{Place}
 use Rattle.dlk_tacsyn.specs.declared.kind.Kind.TheVariants.{AnyPlace, QuotedFormula, AName, QuotedExtra}
@@ -15,9 +16,13 @@ use Rattle.dlk_tacsyn.specs.declared.tactic.Arg.{Arg}
 use Rattle.dlk_tacsyn.specs.declared.tactic.Arg.TheVariants as arg
 use Rattle.dlk_tacsyn.specs.declared.tactic.Atom.{Atom}
 use Rattle.dlk_tacsyn.specs.Rows.{Row, row_of, wants, AreOfKinds, IsFitting, IsWord, IsPlaceOrLocator, IsGivenFormula, IsGivenExtra}
+use Rattle.dlk_tacsyn.specs.Tactics.{Argument, GivenFormula}
 use Rattle.dlk_tacsyn.specs.Ties.{argument_at, atom_at}
 use Rattle.dlk_elab.specs.Atoms.{IsFixed, HasNoLocator}
-use Rattle.dlk_elab.specs.Calls.{HasNoUse}
+use Rattle.dlk_elab.specs.Calls.{HasNoUse, UsesNone}
+use Rattle.dlk_elab.specs.declared.calls.UseCall.{UseCall}
+use Rattle.dlk_elab.specs.declared.calls.Call.{Call}
+use Rattle.dlk_elab.specs.declared.calls.Call.TheVariants as call
 
 row_of_generalize : row_of (codes "G") ≡ Some (wants (AnyPlace ∷ []))
 unfolding row_of
@@ -107,6 +112,11 @@ module _ (trees : List Tree) where
     kinds_are row e =
         subst (λ (r : Row). AreOfKinds r.wanted r.optional (map (argument_at trees) atom.args)) (same_Some _ _ (sym fitting.row_is ∙ e)) fitting.arguments
 
+    pub cut_formula : (t : Tree) (a : Argument) → atom.name ≡ codes "boxCut" → map (argument_at trees) atom.args ≡ GivenFormula t ∷ a ∷ [] → IsFormula t
+    cut_formula t a name are =
+        let h = kinds_are (wants (QuotedFormula ∷ AnyPlace ∷ [])) (ap row_of name ∙ row_of_cut) in
+        (subst (λ (xs : List Argument). AreOfKinds (QuotedFormula ∷ AnyPlace ∷ []) None xs) are h).0
+
     pub generalize_fits : atom.name ≡ codes "G" → ((a : Arg) → atom.args ≢ a ∷ []) → ⊥
     generalize_fits name none = let f = one_fits atom.args (kinds_are (wants (AnyPlace ∷ [])) (ap row_of name ∙ row_of_generalize)) in none f.0 f.1
 
@@ -123,3 +133,10 @@ module _ (trees : List Tree) where
 -- a name by a test of its bytes
 pub bytes_are : (name bytes word : List ℕ) → bytes ≡ name → bytes_eq bytes word ≡ true → name ≡ word
 bytes_are name bytes word e same = sym e ∙ (bytes_eq-Decides bytes word).0 same
+
+-- a call that is no use
+pub uses_none : (k : Call) → ((u : UseCall) → k ≢ call.Use u) → UsesNone k
+uses_none call.Plain other = tt
+uses_none (call.Generalize at) other = tt
+uses_none (call.CutBox h at) other = tt
+uses_none (call.Use u) other = other u refl

@@ -60,6 +60,13 @@ steps_same old new same (x ∷ xs) known =
     let rest = steps_same old new same xs (All-tail (HasKnownIds old) x xs known) in
     λ i. first i ∷ rest i
 
+-- and their ids are those of that one
+pub known_later : (old new : List Tree) → ((step : Step) → HasKnownIds old step → HasKnownIds new step) → (plan : List Step) → All (HasKnownIds old) plan →
+    All (HasKnownIds new) plan
+known_later old new later [] known = All-nil (HasKnownIds new)
+known_later old new later (x ∷ xs) known =
+    All-cons (HasKnownIds new) x xs (later x (All-head (HasKnownIds old) x xs known)) (known_later old new later xs (All-tail (HasKnownIds old) x xs known))
+
 -- what a fault says, weakened
 pub tac_fault_weaker : (P R : AtomWhy → Type 0) → ((why : AtomWhy) → P why → R why) → (e : TacFault) → IsTacFault P e → IsTacFault R e
 tac_fault_weaker P R weaker fault.UnknownName h = weaker UnknownName h

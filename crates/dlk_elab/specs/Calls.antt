@@ -3,10 +3,10 @@ use Rattle.std.specs.Prelude.{◌≡◌, ◌≢◌, ℕ, List, [], ◌∷◌, Bo
 use Rattle.std.specs.Option.{option_copied}
 use Rattle.std.specs.Str.{bytes_eq}
 use Rattle.dlk_tree.specs.Trees.{Tree}
-use Rattle.dlk_store.specs.Stores.{tree}
+use Rattle.dlk_store.specs.Stores.{IsId, tree}
 use Rattle.dlk_calculus.specs.Pairs.{Extra as TreeExtra}
 use Rattle.dlk_sequent.specs.declared.extra.Extra.{Extra}
-use Rattle.dlk_sequent.specs.Extras.{extra_at}
+use Rattle.dlk_sequent.specs.Extras.{extra_at, IsKnownExtra}
 use Rattle.dlk_sequent.specs.declared.sequent.Place.{Place}
 use Rattle.dlk_tacsyn.specs.declared.tactic.Arg.{Arg}
 use Rattle.dlk_tacsyn.specs.declared.tactic.Arg.TheVariants as arg
@@ -53,6 +53,10 @@ abbrev pub HasNoUse : List Arg → Type 0
 HasNoUse args =
     (y : List ℕ) (place : Place) (path : List ℕ) → (args ≢ arg.Word y ∷ arg.At place path ∷ []) × ((extra : Extra) → args ≢ arg.Word y ∷ arg.At place path ∷ arg.With extra ∷ [])
 
+abbrev pub GivenIsKnown : List Tree → Option Extra → Type 0
+GivenIsKnown trees None = Unit {0}
+GivenIsKnown trees (Some extra) = IsKnownExtra trees extra
+
 -- the name of an atom that is for no box and uses no axiom
 pub record IsPlain (name : List ℕ) : Type 0 where
   pub no_generalize : bytes_eq name (codes "G") ≡ false
@@ -73,3 +77,10 @@ UsesNone call.Plain = Unit {0}
 UsesNone (call.Generalize at) = Unit {0}
 UsesNone (call.CutBox h at) = Unit {0}
 UsesNone (call.Use u) = ⊥
+
+-- its ids are those of the store
+abbrev pub CallIsKnown : List Tree → Call → Type 0
+CallIsKnown trees call.Plain = Unit {0}
+CallIsKnown trees (call.Generalize at) = Unit {0}
+CallIsKnown trees (call.CutBox h at) = IsId trees h
+CallIsKnown trees (call.Use u) = GivenIsKnown trees (option_copied u.given)

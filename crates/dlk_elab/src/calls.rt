@@ -2,9 +2,9 @@
 ghost use Rattle.std.specs.Prelude.{◌≡◌, ◌≢◌, ℕ, List, [], ◌∷◌, None, IfSome, IfNone};
 ghost use Rattle.dlk_tree.specs.Trees.{Tree};
 ghost use Rattle.dlk_tacsyn.specs.Rows.{IsFitting};
-ghost use Rattle.dlk_tacsyn.specs.Ties.{atom_at};
+ghost use Rattle.dlk_tacsyn.specs.Ties.{atom_at, AtomIsKnown};
 ghost use Rattle.dlk_elab.specs.Atoms.{HasNoLocator};
-ghost use Rattle.dlk_elab.specs.Calls.{SaysUse, IsUseCall, HasNoUse, IsCall};
+ghost use Rattle.dlk_elab.specs.Calls.{SaysUse, IsUseCall, HasNoUse, IsCall, CallIsKnown};
 
 use dlk_sequent::{Extra, Place};
 use dlk_store::Id;
@@ -108,7 +108,8 @@ fn use_call(direction: Direction, args: &[Arg]) -> Option<UseCall<'_>>
 
 /// What a fitting atom without a locator says.
 pub(crate) fn call_of(atom: &Atom) -> Call<'_>
-    ensures { (trees : List Tree) → IsFitting (atom_at trees atom.now) → HasNoLocator (atom_at trees atom.now) → IsCall trees (atom_at trees atom.now) result }
+    ensures call { (trees : List Tree) → IsFitting (atom_at trees atom.now) → HasNoLocator (atom_at trees atom.now) → IsCall trees (atom_at trees atom.now) result }
+    ensures known { (trees : List Tree) → AtomIsKnown trees atom.now → CallIsKnown trees result }
 {
     let name = atom.name.bytes();
     let args = atom.args.as_slice();

@@ -8,7 +8,7 @@ ghost use Rattle.dlk_rules.specs.Steps.{step_at, HasKnownIds};
 ghost use Rattle.dlk_tacsyn.specs.Rows.{IsFitting};
 ghost use Rattle.dlk_tacsyn.specs.Ties.{atom_at, AtomIsKnown};
 ghost use Rattle.dlk_elab.specs.Atoms.{HasNoLocator, HasGoalAt, AtomSteps, AtomFault};
-ghost use Rattle.dlk_elab.specs.Calls.{IsPlain, IsCall, UsesNone};
+ghost use Rattle.dlk_elab.specs.Calls.{IsPlain, IsCall, CallIsKnown, UsesNone};
 ghost use Rattle.dlk_elab.specs.Ties.{IsTacFault, AreAsked, AreMade};
 
 use crate::boxes::{box_at, cut_trees, cutting_box, generalizing};
@@ -130,6 +130,7 @@ fn planned<S: Store, L: Ledger>(
     requires fitting { IsFitting (atom_at (S.trees kernel.old.store) atom.now) }
     requires fixed { HasNoLocator (atom_at (S.trees kernel.old.store) atom.now) }
     requires call { IsCall (S.trees kernel.old.store) (atom_at (S.trees kernel.old.store) atom.now) call }
+    requires call_known { CallIsKnown (S.trees kernel.old.store) call }
     requires no_use { UsesNone call }
     ensures plan { IfOk result (λ plan. AreAsked (facts S.trees kernel.old) target.fact target.goal (atom_at (S.trees kernel.old.store) atom.now) (S.trees kernel.new.store) plan.items) }
     ensures fault { IfErr result (IsTacFault (AtomFault (facts S.trees kernel.old) target.fact target.goal (atom_at (S.trees kernel.old.store) atom.now))) }
