@@ -206,7 +206,7 @@ module _ (p : Provable) (goal : ℕ) (there : IsPlace p.goals goal) (after : Lis
   cut_rules : (rows : List Provable) (main m instance by : ℕ) (d : Provable) (one two three four : Rule) → m ≡ length rows → At rows main p → At rows by d →
       length d.goals ≡ 1 → Behind p goal 1 p → Makes one 2 → Makes two 1 → Makes three 2 → Makes four 1 →
       Takes rows (Apply main goal one ∷ Apply (m + 1) (goal + 1) two ∷ Apply (m + 1 + 1) (goal + 1) three ∷ Merge (m + 1 + 1 + 1) (goal + 2) instance ∷
-          Merge (m + 1 + 1 + 1 + 1) (goal + 1) by ∷ Apply (m + 1 + 1 + 1 + 1 + 1) (goal + 1) four ∷ []) after → Ends p goal there after
+      Merge (m + 1 + 1 + 1 + 1) (goal + 1) by ∷ Apply (m + 1 + 1 + 1 + 1 + 1) (goal + 1) four ∷ []) after → Ends p goal there after
   cut_rules rows main m instance by d one two three four counted stands by_at single behind m1 m2 m3 m4 taken =
       let zero_more : goal ≡ goal + 0 = omega arith in
       let a = next rows after m (m + 1) (Apply main goal one) _ counted refl taken in
@@ -225,8 +225,8 @@ module _ (p : Provable) (goal : ℕ) (there : IsPlace p.goals goal) (after : Lis
   cut_rule : (rows : List Provable) (main m instance : ℕ) (name : List ℕ) (pairs : List Pair) (one two three four : Rule) → m ≡ length rows → At rows main p →
       Behind p goal 1 p → Makes one 2 → Makes two 1 → Makes three 2 → Makes four 1 →
       Takes rows (UseRule name ∷ Substitute (m + 1) pairs ∷ Apply main goal one ∷ Apply (m + 1 + 1 + 1) (goal + 1) two ∷
-          Apply (m + 1 + 1 + 1 + 1) (goal + 1) three ∷ Merge (m + 1 + 1 + 1 + 1 + 1) (goal + 2) instance ∷
-          Merge (m + 1 + 1 + 1 + 1 + 1 + 1) (goal + 1) (m + 1 + 1) ∷ Apply (m + 1 + 1 + 1 + 1 + 1 + 1 + 1) (goal + 1) four ∷ []) after → Ends p goal there after
+      Apply (m + 1 + 1 + 1 + 1) (goal + 1) three ∷ Merge (m + 1 + 1 + 1 + 1 + 1) (goal + 2) instance ∷
+      Merge (m + 1 + 1 + 1 + 1 + 1 + 1) (goal + 1) (m + 1 + 1) ∷ Apply (m + 1 + 1 + 1 + 1 + 1 + 1 + 1) (goal + 1) four ∷ []) after → Ends p goal there after
   cut_rule rows main m instance name pairs one two three four counted stands behind m1 m2 m3 m4 taken =
       let a = next rows after m (m + 1) (UseRule name) _ counted refl taken in
       let rows_a = rows ++ a.row ∷ [] in
