@@ -117,7 +117,7 @@ first_one s i j k l f g =
 
 -- What an atom asks for, by its kind: one for a rule or without arguments, one for a box, one that uses an axiom.
 
-data AsksPlainly (rows fact goal : ℕ) (s : Sequent) (atom : Atom) : Asked → Type 0 where
+pub data AsksPlainly (rows fact goal : ℕ) (s : Sequent) (atom : Atom) : Asked → Type 0 where
   by_nil : atom.name ≡ codes "nil" → AsksPlainly rows fact goal s atom (Steps [])
   by_close : {i j : ℕ} → atom.name ≡ codes "close" → AreFirstSame s i j → AsksPlainly rows fact goal s atom (Steps (Apply fact goal (Close i j) ∷ []))
   by_nothing_same : atom.name ≡ codes "close" → ((i j : ℕ) → ¬ AreSame s i j) → AsksPlainly rows fact goal s atom (Refused (AtStep NotEqual))
@@ -127,7 +127,7 @@ data AsksPlainly (rows fact goal : ℕ) (s : Sequent) (atom : Atom) : Asked → 
   by_elsewhere : (word : RuleWord) (side : Side) → atom.name ≡ text_of word → side_of word ≡ Some side → Any (IsElsewhere side) atom.arguments →
       AsksPlainly rows fact goal s atom (Refused NoPlace)
 
-data AsksBox (rows fact goal : ℕ) (s : Sequent) (atom : Atom) : Asked → Type 0 where
+pub data AsksBox (rows fact goal : ℕ) (s : Sequent) (atom : Atom) : Asked → Type 0 where
   by_generalize : (j : ℕ) (b f : Tree) → atom.name ≡ codes "G" → atom.arguments ≡ AtPlace (Succ j) [] ∷ [] → At s.succ j (box b f) →
       AsksBox rows fact goal s atom (Steps (generalizing rows (record { fact = fact; goal = goal; s = s }) j b f))
   by_cut_box : (j : ℕ) (b f h : Tree) → atom.name ≡ codes "boxCut" → atom.arguments ≡ GivenFormula h ∷ AtPlace (Succ j) [] ∷ [] →
@@ -136,7 +136,7 @@ data AsksBox (rows fact goal : ℕ) (s : Sequent) (atom : Atom) : Asked → Type
       AsksBox rows fact goal s atom (Refused (AtStep WrongShape))
   by_not_on_the_right : (p : Argument) → IsForBox atom p → ((j : ℕ) (e : Tree) → ¬ IsOnTheRight s p j e) → AsksBox rows fact goal s atom (Refused NoPlace)
 
-data AsksUse (rows fact goal : ℕ) (s : Sequent) (atom : Atom) : Asked → Type 0 where
+pub data AsksUse (rows fact goal : ℕ) (s : Sequent) (atom : Atom) : Asked → Type 0 where
   by_use_axiom : (used : Use) (e t : Tree) (extra : Extra) → IsUse atom used → StandsThere s used e t →
       IsTrue (may_stand used.its_axiom.form used.direction used.place used.path) → MatchesThere used t extra →
       AsksUse rows fact goal s atom (Instance used extra e)
@@ -147,13 +147,13 @@ data AsksUse (rows fact goal : ℕ) (s : Sequent) (atom : Atom) : Asked → Type
       (IsTrue (may_stand used.its_axiom.form used.direction used.place used.path) → (extra : Extra) → ¬ MatchesThere used t extra) →
       AsksUse rows fact goal s atom (Refused NoMatch)
 
-data View (rows fact goal : ℕ) (s : Sequent) (atom : Atom) (asked : Asked) : Type 0 where
+pub data View (rows fact goal : ℕ) (s : Sequent) (atom : Atom) (asked : Asked) : Type 0 where
   plainly : AsksPlainly rows fact goal s atom asked → View rows fact goal s atom asked
   for_box : AsksBox rows fact goal s atom asked → View rows fact goal s atom asked
   for_use : AsksUse rows fact goal s atom asked → View rows fact goal s atom asked
 
 module _ (rows fact goal : ℕ) (s : Sequent) (atom : Atom) where
-  view : (x : Asked) → Asks rows fact goal s atom x → View rows fact goal s atom x
+  pub view : (x : Asked) → Asks rows fact goal s atom x → View rows fact goal s atom x
   view _ (nil n) = plainly (by_nil n)
   view _ (close n f) = plainly (by_close n f)
   view _ (nothing_same n f) = plainly (by_nothing_same n f)
@@ -202,7 +202,7 @@ module _ (rows fact goal : ℕ) (s : Sequent) (atom : Atom) where
   use_name _ (by_not_there used is none) = use_of atom used.direction is.names.0
   use_name _ (by_no_match used e t is there none) = use_of atom used.direction is.names.0
 
-  plain_other : (name : List ℕ) → bytes_eq (codes "nil") name ≡ false → bytes_eq (codes "close") name ≡ false → bytes_eq (codes "leaf") name ≡ false →
+  pub plain_other : (name : List ℕ) → bytes_eq (codes "nil") name ≡ false → bytes_eq (codes "close") name ≡ false → bytes_eq (codes "leaf") name ≡ false →
       bytes_eq name name ≡ true → named name ≡ None → (x : Asked) → AsksPlainly rows fact goal s atom x → atom.name ≡ name → ⊥
   plain_other name a b d same none _ (by_nil n) e = apart (codes "nil") name a refl (sym n ∙ e)
   plain_other name a b d same none _ (by_close n f) e = apart (codes "close") name b refl (sym n ∙ e)

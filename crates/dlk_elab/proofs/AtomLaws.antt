@@ -41,7 +41,7 @@ goal_one rows fact goal s t p q =
     at_one q.0.goals goal s t (subst (λ (r : Provable). At r.goals goal s) same p.2) q.2
 
 -- the parts of what uses an axiom
-same_instance : (u v : Use) (x y : Extra) (e f : Tree) → Instance u x e ≡ Instance v y f → (u ≡ v) × (x ≡ y) × (e ≡ f)
+pub same_instance : (u v : Use) (x y : Extra) (e f : Tree) → Instance u x e ≡ Instance v y f → (u ≡ v) × (x ≡ y) × (e ≡ f)
 same_instance u v x y e f h = (cc, cc, cc)
 
 -- behind an instance: the rows so far, the goal, the use and the formula

@@ -13,6 +13,7 @@ pub mod Plans
 pub mod Decided
 pub mod Finishing
 pub mod AtomLaws
+pub mod MergesFit
 pub mod SomeAtom
 pub mod RuleArguments
 pub mod Elaborates

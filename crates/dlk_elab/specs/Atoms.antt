@@ -128,6 +128,10 @@ pub record StandsThere (s : Sequent) (used : Use) (e subtree_there : Tree) : Typ
 abbrev pub MatchesThere : Use → Tree → Extra → Type 0
 MatchesThere used t extra = Match (key used.its_axiom.form used.direction used.place used.its_axiom.formula) used.its_axiom.own_names t used.given extra
 
+-- the name of an atom whose steps use axioms or axiomatic rules
+abbrev pub IsByAxioms : List ℕ → Type 0
+IsByAxioms name = (name ≡ codes "G") ⊎ ((name ≡ codes "boxCut") ⊎ ((name ≡ codes "useAt") ⊎ (name ≡ codes "useBack")))
+
 -- Boxes:
 
 -- the atom is one for a box, and this is its place
