@@ -1,5 +1,5 @@
 -- The smallest formula round a subtree.
-use Rattle.std.proofs.Common.{◌≡◌, ◌≢◌, refl, sym, ap, subst, ◌∙◌, ℕ, List, [], ◌∷◌, ◌++◌, Option, Some, None, ◌⊎◌, inl, inr, ⊎_elim}
+use Rattle.std.proofs.Common.{◌≡◌, ◌≢◌, refl, sym, ap, ◌∙◌, ℕ, List, [], ◌∷◌, ◌++◌, Option, Some, ◌⊎◌, inl, inr, ⊎_elim}
 use Rattle.dlk_tree.specs.declared.op.Sort.{Sort}
 use Rattle.dlk_tree.specs.declared.op.Sort.TheVariants.{Term, Formula, Program}
 use Rattle.dlk_tree.specs.Trees.{Tree, sort}
@@ -70,7 +70,8 @@ module _ (e : Tree) (path : List ℕ) where
   pub one_innermost : (a b c d : List ℕ) (f g : Tree) → IsInnermost e path a b f → IsInnermost e path c d g → (a ≡ c) × (b ≡ d) × (f ≡ g)
   one_innermost a b c d f g p q =
       ⊎_elim (λ (h : (a ≡ c) × (b ≡ d)). (h.0, h.1, one_of (ap (subtree e) (sym h.0) ∙ p.stands) q.stands))
-      (λ (h : Longer c a b d ⊎ Longer a c d b). absurd (⊎_elim (λ (l : Longer c a b d). not_longer a b c d f g p q l) (λ (l : Longer a c d b). not_longer c d a b g f q p l) h))
+      (λ (h : Longer c a b d ⊎ Longer a c d b).
+      absurd (⊎_elim (λ (l : Longer c a b d). not_longer a b c d f g p q l) (λ (l : Longer a c d b). not_longer c d a b g f q p l) h))
       (cuts a b c d (sym p.parts ∙ q.parts))
 
 -- ---- one, or no formula

@@ -1,16 +1,19 @@
 -- Subtrees at paths, and what is put there.
-use Rattle.std.proofs.Common.{◌≡◌, ◌≢◌, refl, sym, ap, subst, ◌∙◌, ℕ, suc, zero, ◌-◌, List, [], ◌∷◌, ◌++◌, Bool, true, false, ◌||◌, Option, Some, None, cond, arith, ◌⊎◌, inl, inr, ⊎_elim}
-use Rattle.std.proofs.lemmas.Bool.{or_parts, or_from}
+use Rattle.std.proofs.Common.{◌≡◌, refl, sym, ap, subst, ◌∙◌, ℕ, suc, zero, ◌-◌, List, [], ◌∷◌, ◌++◌, Bool}
+use Rattle.std.proofs.Common.{false, Some, None, cond, arith}
+use Rattle.std.proofs.lemmas.Bool.{or_parts, both_ways}
 use Rattle.std.proofs.Math.Dec.{eqb-suc-zero}
-use Rattle.dlk_tree.specs.declared.op.Sort.{Sort}
-use Rattle.dlk_tree.specs.declared.op.Sort.TheVariants.{Term, Formula, Program}
+use Rattle.dlk_tree.specs.declared.op.Var.{Var}
 use Rattle.dlk_tree.specs.declared.op.Op.{Op}
 use Rattle.dlk_tree.specs.declared.op.Op.TheVariants as Op'
 use Rattle.dlk_tree.specs.Trees.{Tree, node, Forest, no_kids, kid, sort, sorts, WellMade, AllWellMade}
-use Rattle.dlk_tree.specs.Occurs.{has, any_has, is_some_dot, is_hole, has_dots, has_hole}
-use Rattle.dlk_calculus.specs.Plug.{PlugAt, Plug, PlugAll, filled, filled_all}
-use Rattle.dlk_calculus.specs.Paths.{subtree, subtree_in, put_at, put_in, IsInnermost}
+use Rattle.dlk_tree.specs.Occurs.{has, any_has, is_dot, is_some_dot, is_hole, has_dots, has_hole}
+use Rattle.dlk_calculus.specs.Kids.{later}
+use Rattle.dlk_calculus.specs.Captures.{captures, Stays}
+use Rattle.dlk_calculus.specs.Plug.{IsClear, PlugAt, Plug, PlugAll, filled, filled_all}
+use Rattle.dlk_calculus.specs.Paths.{subtree, subtree_in, put_at, put_in}
 use Rattle.dlk_calculus.proofs.Sorts.{fits_still}
+use Rattle.dlk_calculus.proofs.Lacks.{all_lack}
 
 -- ---- one step of a path
 
@@ -50,7 +53,8 @@ mutual
   put_there (node op kids) [] s new h = subtree_nil new
   put_there (node op kids) (n ∷ path) s new h = put_in_there kids n path s new h
 
-  put_in_there : (kids : Forest) (n : ℕ) (path : List ℕ) (s new : Tree) → subtree_in kids n path ≡ Some s → subtree_in (put_in kids n path new) n path ≡ Some new
+  put_in_there : (kids : Forest) (n : ℕ) (path : List ℕ) (s new : Tree) → subtree_in kids n path ≡ Some s
+      → subtree_in (put_in kids n path new) n path ≡ Some new
   put_in_there no_kids n path s new h = absurd (none_some h)
   put_in_there (kid t rest) zero path s new h = put_there t path s new h
   put_in_there (kid t rest) (suc n) path s new h =
@@ -113,14 +117,16 @@ mutual
   subtree_join (node op kids) [] inner d h = ap (λ t. subtree t inner) (some_same h)
   subtree_join (node op kids) (n ∷ outer) inner d h = subtree_in_join kids n outer inner d h
 
-  subtree_in_join : (kids : Forest) (n : ℕ) (outer inner : List ℕ) (d : Tree) → subtree_in kids n outer ≡ Some d → subtree_in kids n (outer ++ inner) ≡ subtree d inner
+  subtree_in_join : (kids : Forest) (n : ℕ) (outer inner : List ℕ) (d : Tree) → subtree_in kids n outer ≡ Some d
+      → subtree_in kids n (outer ++ inner) ≡ subtree d inner
   subtree_in_join no_kids n outer inner d h = absurd (none_some h)
   subtree_in_join (kid t rest) zero outer inner d h = subtree_join t outer inner d h
   subtree_in_join (kid t rest) (suc n) outer inner d h =
       subtree_later t rest n (outer ++ inner) ∙ subtree_in_join rest n outer inner d (sym (subtree_later t rest n outer) ∙ h)
 
 mutual
-  pub put_join : (e : Tree) (outer inner : List ℕ) (d new : Tree) → subtree e outer ≡ Some d → put_at e (outer ++ inner) new ≡ put_at e outer (put_at d inner new)
+  pub put_join : (e : Tree) (outer inner : List ℕ) (d new : Tree) → subtree e outer ≡ Some d
+      → put_at e (outer ++ inner) new ≡ put_at e outer (put_at d inner new)
   put_join (node op kids) [] inner d new h = ap (λ t. put_at t inner new) (some_same h)
   put_join (node op kids) (n ∷ outer) inner d new h = ap (node op) (put_in_join kids n outer inner d new h)
 
@@ -217,6 +223,45 @@ module _ (args : List Tree) where
       let others = rest ts p.1 in
       λ i. kid (first i) (others i)
 
+-- a tree without argument dots is its own result
+module _ (test : Op → Bool) where
+  later_lack : (kids : Forest) → any_has test kids ≡ false → any_has test (later kids) ≡ false
+  later_lack no_kids none = refl
+  later_lack (kid t rest) none = (or_parts _ _ none).1
+
+  reached_lack : (op : Op) (kids : Forest) → any_has test kids ≡ false → any_has test ((captures op).reach kids) ≡ false
+  reached_lack Op'.Box kids none = later_lack kids none
+  reached_lack Op'.Dia kids none = later_lack kids none
+  reached_lack Op'.Seq kids none = later_lack kids none
+  reached_lack _ kids none = none
+
+dot_is_some : (n : ℕ) (op : Op) → is_some_dot op ≡ false → is_dot n op ≡ false
+dot_is_some n (Op'.Dot m) none = absurd (cc none)
+dot_is_some n _ none = refl
+
+clear_without : (args : List Tree) (set : Var → Bool) (kids : Forest) → any_has is_some_dot kids ≡ false → IsClear args set kids
+clear_without args set kids none = record {
+  clear = λ n a e stands.
+      let not = all_lack is_some_dot is_some_dot (is_dot n) (λ op p q. dot_is_some n op p) kids none none in
+      absurd (both_ways (any_has (is_dot n) kids) not stands);
+}
+
+plug_at_stays : (args : List Tree) (op : Op) (old new : Forest) (t : Tree) → is_some_dot op ≡ false → Stays (IsClear args) op old new t → PlugAt args op old new t
+plug_at_stays args (Op'.Dot n) old new t none p = absurd (cc none)
+plug_at_stays args _ old new t none p = p
+
+module _ (args : List Tree) where
+  mutual
+    pub plug_itself : (e : Tree) → has_dots e ≡ false → Plug args e e
+    plug_itself (node op kids) none =
+        let parts = or_parts _ _ none in
+        let clear = clear_without args ((captures op).set kids) ((captures op).reach kids) (reached_lack is_some_dot op kids parts.1) in
+        (kids, plug_all_itself kids parts.1, plug_at_stays args op kids kids (node op kids) parts.0 (clear, refl))
+
+    plug_all_itself : (es : Forest) → any_has is_some_dot es ≡ false → PlugAll args es es
+    plug_all_itself no_kids none = tt
+    plug_all_itself (kid e es) none = let parts = or_parts _ _ none in (plug_itself e parts.0, plug_all_itself es parts.1)
+
 module _ (a : Tree) where
   abbrev dot : Tree
   dot = node (Op'.Dot 0) no_kids
@@ -240,4 +285,5 @@ module _ (a : Tree) where
     put_in_plug (kid e es) (suc n) path new none p =
         let parts = or_parts _ _ none in
         let now = subst (λ ks. PlugAll (a ∷ []) ks new) (put_later e es n path dot) p in
-        plug_first (a ∷ []) e (put_in es n path dot) (put_in es n path a) new parts.0 (λ ts q. put_in_plug es n path ts parts.1 q) now ∙ sym (put_later e es n path a)
+        let rest = λ (ts : Forest) (q : PlugAll (a ∷ []) (put_in es n path dot) ts). put_in_plug es n path ts parts.1 q in
+        plug_first (a ∷ []) e (put_in es n path dot) (put_in es n path a) new parts.0 rest now ∙ sym (put_later e es n path a)

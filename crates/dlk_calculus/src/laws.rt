@@ -30,6 +30,11 @@ pub fn plug_without_dots()
     ensures { (args : List Tree) (e t : Tree) → Plug args e t → has_dots e ≡ false → t ≡ e }
 {}
 
+/// A replacement without argument dots is its own result.
+pub fn plug_is_itself()
+    ensures { (args : List Tree) (e : Tree) → has_dots e ≡ false → Plug args e e }
+{}
+
 /// What is put at a path is there, and a tree with its own subtree put there is the same. With another tree of the same sort it is
 /// as well made as before, and of the same sort as before.
 pub fn put_is_there()

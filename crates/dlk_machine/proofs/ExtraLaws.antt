@@ -67,13 +67,15 @@ data RenamesBefore : List Rename → List Lexeme → Type 0 where
   renames-begin : RenamesBefore [] []
   renames-go_on : {s : List Lexeme} {n : List Rename} → ReadsRenames s n → RenamesBefore n (s ++ Comma ∷ [])
 
-rename_joined : {n : List Rename} {f : List Lexeme} → RenamesBefore n f → (i j : ℕ) (x y : Word) → ReadsRenames (f ++ Name i x ∷ Swaps ∷ Name j y ∷ []) (n ++ (x, y) ∷ [])
+rename_joined : {n : List Rename} {f : List Lexeme} → RenamesBefore n f → (i j : ℕ) (x y : Word)
+    → ReadsRenames (f ++ Name i x ∷ Swaps ∷ Name j y ∷ []) (n ++ (x, y) ∷ [])
 rename_joined renames-begin i j x y = renames-one rename-names
 rename_joined {n = n} (renames-go_on {s = s} d) i j x y =
     let own = Name i x ∷ Swaps ∷ Name j y ∷ [] in
     subst (λ (z : List Lexeme). ReadsRenames z (n ++ (x, y) ∷ [])) (sym (append_assoc s (Comma ∷ []) own)) (renames-more d rename-names)
 
-extra_joined : {n : List Rename} {f : List Lexeme} → RenamesBefore n f → {r : List Lexeme} {l : List PairPhrase} → ReadsPairs r l → ReadsExtra (f ++ r) (with_pairs n l)
+extra_joined : {n : List Rename} {f : List Lexeme} → RenamesBefore n f → {r : List Lexeme} {l : List PairPhrase} → ReadsPairs r l
+    → ReadsExtra (f ++ r) (with_pairs n l)
 extra_joined renames-begin ds = extra-subst (subst-pairs ds)
 extra_joined {n = n} (renames-go_on {s = s} d) {r} {l} ds =
     subst (λ (z : List Lexeme). ReadsExtra z (with_pairs n l)) (sym (append_assoc s (Comma ∷ []) r)) (extra-both d ds)
@@ -207,7 +209,8 @@ found_extra (InPairs n Fresh) all e a h = extra_is all (with_pairs n []) e h (no
 found_extra (InPairs n (Within l x)) all e a h =
     let b = bind_some (pairs_ended (Within l x)) (λ p. Some (with_pairs n p)) e h in
     let c = bind_some (pair_ended x) (λ p. Some (l ++ p ∷ [])) b.0 b.1 in
-    let ds : ReadsPairs a.own b.0 = subst (λ (z : List PairPhrase). ReadsPairs a.own z) (some_is (l ++ c.0 ∷ []) b.0 c.2) (all_pairs l x a.own a.after c.0 c.1) in
+    let ds : ReadsPairs a.own b.0 =
+    subst (λ (z : List PairPhrase). ReadsPairs a.own z) (some_is (l ++ c.0 ∷ []) b.0 c.2) (all_pairs l x a.own a.after c.0 c.1) in
     extra_is all (with_pairs n b.0) e b.2 (subst (λ (z : List Lexeme). ReadsExtra z (with_pairs n b.0)) (sym a.parts) (extra_joined a.before ds))
 found_extra (NewWanted n x) all e a h = absurd (none_some e h)
 found_extra (Renamed n) all e a h = extra_is all (with_pairs n []) e h (extra-renames a)
@@ -222,7 +225,8 @@ pairs_text_live n l x all a =
     let b = pair_live x w.own w.after in
     let own : w.listed ++ (w.own ++ b.more) ≡ a.own ++ b.more = sym (ap (λ (z : List Lexeme). z ++ b.more) w.parts ∙ append_assoc w.listed w.own b.more) in
     let at : a.front ++ (a.own ++ b.more) ≡ all ++ b.more = sym (ap (λ (z : List Lexeme). z ++ b.more) a.parts ∙ append_assoc a.front a.own b.more) in
-    let ds : ReadsPairs (a.own ++ b.more) (l ++ b.pair ∷ []) = subst (λ (z : List Lexeme). ReadsPairs z (l ++ b.pair ∷ [])) own (pairs_joined w.before b.reads) in
+    let ds : ReadsPairs (a.own ++ b.more) (l ++ b.pair ∷ []) =
+    subst (λ (z : List Lexeme). ReadsPairs z (l ++ b.pair ∷ [])) own (pairs_joined w.before b.reads) in
     begun_extra all b.more (with_pairs n (l ++ b.pair ∷ []))
     (subst (λ (z : List Lexeme). ReadsExtra z (with_pairs n (l ++ b.pair ∷ []))) at (extra_joined a.before ds))
 

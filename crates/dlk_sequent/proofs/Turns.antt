@@ -1,16 +1,16 @@
 -- Ways through the nodes of a store.
-use Rattle.std.proofs.Common.{◌≡◌, ◌≢◌, refl, sym, ap, subst, ◌∙◌, ℕ, zero, suc, ◌+◌, ◌<◌, ◌≤◌, List, [], ◌∷◌, ◌++◌, length, map, take, drop, get_or, Option, None, Some, arith, ◌⊎◌, inl, inr, ⊎_elim}
+use Rattle.std.proofs.Common.{◌≡◌, ◌≢◌, refl, sym, ap, subst, ◌∙◌, ℕ, zero, suc, ◌+◌, ◌<◌, ◌≤◌, List, [], ◌∷◌, ◌++◌, length}
+use Rattle.std.proofs.Common.{map, take, drop, get_or, Option, None, Some, arith, ◌⊎◌, inl, inr, ⊎_elim}
 use Rattle.std.proofs.lemmas.List.{drop_more, drop_all, drop-map, take-append-drop, take_more, map-append}
 use Rattle.dlk_tree.specs.declared.op.Sort.TheVariants.{Formula}
 use Rattle.dlk_tree.specs.Trees.{Tree, sort}
 use Rattle.dlk_store.specs.declared.Id.{Id}
 use Rattle.dlk_store.specs.Stores.{IsId, tree, StandsFor, Keeps}
-use Rattle.dlk_calculus.specs.Paths.{subtree, put_at, IsInnermost}
+use Rattle.dlk_calculus.specs.Paths.{subtree, put_at}
 use Rattle.dlk_calculus.proofs.PathLaws.{subtree_nil, subtree_join, subtree_before, put_nil, put_join, put_sort}
 use Rattle.dlk_calculus.proofs.Innermost.{NoneBelow, none_at_end, none_further, no_innermost}
 use Rattle.dlk_sequent.specs.declared.spine.Turn.{Turn}
-use Rattle.dlk_sequent.specs.declared.spine.Innermost.{Innermost}
-use Rattle.dlk_sequent.specs.Spines.{LeadsTo, HasSort, HasOtherSort, IsPut, Way, start, top, path_of, AreTurns, IsSpine, IsSpineOf, IsInnermostOf, HasNoInnermost}
+use Rattle.dlk_sequent.specs.Spines.{LeadsTo, HasSort, HasOtherSort, IsPut, Way, start, top, path_of, AreTurns, IsSpine, IsInnermostOf, HasNoInnermost}
 use Rattle.dlk_sequent.proofs.Kept.{IsId-kept}
 
 abbrev pub kids_of : List Turn → List ℕ
@@ -100,7 +100,10 @@ none_or_some (Some t) = inr (t, refl)
 missing_further : (e : Tree) (k : ℕ) (path : List ℕ) → subtree e (k ∷ []) ≡ None → subtree e (k ∷ path) ≡ None
 missing_further e k path none =
     ⊎_elim (λ (h : subtree e (k ∷ path) ≡ None). h)
-    (λ (h : (t : Tree) × (subtree e (k ∷ path) ≡ Some t)). let before = subtree_before e (k ∷ []) path h.0 h.1 in let first = before.1 in absurd (cc (none, first)))
+    (λ (h : (t : Tree) × (subtree e (k ∷ path) ≡ Some t)).
+    let before = subtree_before e (k ∷ []) path h.0 h.1 in
+    let first = before.1 in
+    absurd (cc (none, first)))
     (none_or_some (subtree e (k ∷ path)))
 
 module _ (trees : List Tree) (id : Id) (path : List ℕ) (at : Id) (i d : ℕ) (w : Walked trees id path at i) (less : i < length path) where

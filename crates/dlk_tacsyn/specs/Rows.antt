@@ -1,7 +1,7 @@
 -- The names of atoms, and the arguments that each wants.
 use Rattle.std.specs.Prelude.{◌≡◌, ℕ, List, [], ◌∷◌, Option, Some, None, option_map, ◌||◌, if◌then◌else◌, Bool, All, IsTrue, bytes_eq, codes}
 use Rattle.dlk_tree.specs.Names.{is_name}
-use Rattle.dlk_calculus.specs.Pairs.{Extra, AreWellMade}
+use Rattle.dlk_calculus.specs.Pairs.{AreWellMade}
 use Rattle.dlk_calculus.specs.Sequents.{IsFormula}
 use Rattle.dlk_rules.specs.declared.arguments.Shape.{Shape}
 use Rattle.dlk_rules.specs.declared.arguments.Shape.TheVariants as shape
@@ -35,8 +35,9 @@ is_bare name = bytes_eq name (codes "nil") || bytes_eq name (codes "close") || b
 abbrev pub is_use : List ℕ → Bool
 is_use name = bytes_eq name (codes "useAt") || bytes_eq name (codes "useBack")
 
--- The arguments of the atom of this name: none for `nil`, `close` and `leaf`, and for each rule but `close` those of its shape. A use of an
--- axiom is given its name, and maybe names with new names and pairs. No other name is known.
+-- The arguments of the atom of this name: none for `nil`, `close` and `leaf`, a place for `G`, a formula and a place for `boxCut`, and for each
+-- rule but `close` those of its shape. A use of an axiom is given its name and a place, and maybe names with new names, and pairs. No other
+-- name is known.
 unfoldable pub row_of : List ℕ → Option Row
 row_of name =
     if is_bare name then Some (wants [])

@@ -13,7 +13,8 @@ use Rattle.dlk_tacsyn.specs.declared.kind.Kind.{Kind}
 use Rattle.dlk_tacsyn.specs.declared.kind.Kind.TheVariants.{FixedPlace, AnyPlace, QuotedFormula, AName, QuotedExtra}
 use Rattle.dlk_tacsyn.specs.declared.argument.Written.{Written}
 use Rattle.dlk_tacsyn.specs.declared.argument.Written.TheVariants as written
-use Rattle.dlk_tacsyn.specs.Tactics.{Argument, AtPlace, AnyLeft, AnyRight, Word, GivenFormula, GivenExtra, Tactic, Choice, Sequence, Branch, Repeat, One, Tactics}
+use Rattle.dlk_tacsyn.specs.Tactics.{Argument, AtPlace, AnyLeft, AnyRight, Word, GivenFormula, GivenExtra, Tactic, Choice, Sequence, Branch, Repeat}
+use Rattle.dlk_tacsyn.specs.Tactics.{One, Tactics}
 use Rattle.dlk_tacsyn.specs.Tactics.{no_parts, part}
 use Rattle.dlk_tacsyn.specs.Rows.{Row, row_of}
 use Rattle.dlk_tacsyn.specs.Faults.{Fault, Nesting, UnknownAtom, Arguments}
@@ -77,7 +78,7 @@ opened level at inside = if nat_lt level most_open then inside else Fails (Nesti
 abbrev pub repeated : ℕ → ℕ → Tactic → Outcome Tactic
 repeated at n t = if nat_le n most_times then Says (Repeat t n) else Fails (fault.Repeat at)
 
--- the argument of a kind, where what is written is one
+-- What is written as an argument of each kind, where it is one:
 abbrev pub place_of : Written → Option Argument
 place_of (written.At place path) = Some (AtPlace place path)
 place_of written.AnyLeft = None
@@ -99,7 +100,7 @@ word_of written.AnyRight = None
 word_of (written.Word x) = Some (Word x)
 word_of (written.Quoted text) = None
 
--- quoted, and read so
+-- what is quoted, as it is read
 abbrev pub quoted_of : {A : Type 0} → (A → Argument) → (List ℕ → Option A) → Written → Option Argument
 quoted_of make read (written.At place path) = None
 quoted_of make read written.AnyLeft = None
@@ -178,7 +179,7 @@ module _ (read : Reading) where
 
 -- what is read is what is said, where something is
 abbrev pub IsSaid : {A : Type 0} → (A → Type 0) → Option A → Type 0
-IsSaid {A} Says found = MatchOption found ((a : A) → ¬ Says a) Says
+IsSaid {A} Is found = MatchOption found ((a : A) → ¬ Is a) Is
 
 -- each text as the formula that it says, in which no argument dot and no `_` stands, if it says one, and as the names with new names and the
 -- pairs that it says, if it says these

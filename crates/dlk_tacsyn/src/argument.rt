@@ -141,7 +141,8 @@ pub(crate) fn arguments<S: Store>(
     written: Listed<Written>,
     store: &mut S,
 ) -> Result<Listed<Arg>, TacSyntax>
-    ensures found { IfOk result (λ all. ByReading (λ read. arguments_of read row.wanted.now row.optional written ≡ Some (map (argument_at (S.trees store.new)) all))) }
+    ensures found { IfOk result (λ all. ByReading (λ read.
+        arguments_of read row.wanted.now row.optional written ≡ Some (map (argument_at (S.trees store.new)) all))) }
     ensures known { IfOk result (λ all. All (ArgumentIsKnown (S.trees store.new)) all) }
     ensures fault { IfErr result (IsTacSyntaxOf (λ f. (f ≡ Arguments at) × ByReading (λ read. arguments_of read row.wanted.now row.optional written ≡ None))) }
     ensures grows { S.grows store.old store.new }
@@ -222,12 +223,7 @@ fn formula<S: Store>(alloc: Global, at: usize, text: &[u8], store: &mut S) -> Re
 }
 
 /// The names with their new names and the pairs of a quoted text.
-fn extra<S: Store>(
-    alloc: Global,
-    at: usize,
-    text: &[u8],
-    store: &mut S,
-) -> Result<Extra, TacSyntax>
+fn extra<S: Store>(alloc: Global, at: usize, text: &[u8], store: &mut S) -> Result<Extra, TacSyntax>
     ensures found { IfOk result (λ extra. ByReading (λ read. read.extra text.now ≡ Some (extra_at (S.trees store.new) extra))) }
     ensures known { IfOk result (IsKnownExtra (S.trees store.new)) }
     ensures fault { IfErr result (IsTacSyntaxOf (λ f. (f ≡ Arguments at) × ByReading (λ read. read.extra text.now ≡ None))) }

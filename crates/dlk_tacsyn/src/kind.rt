@@ -34,7 +34,8 @@ impl Row {
     /// The kind of the next argument, and the row of those behind it. None comes where no more may follow.
     pub fn split(self) -> Option<(Kind, Row)>
         ensures none { IfNone result ((read : Reading) (w : Written) (ws : List Written) → arguments_of read self.wanted.now self.optional (w ∷ ws) ≡ None) }
-        ensures found { IfSome result (λ next. (read : Reading) (w : Written) (ws : List Written) → arguments_of read self.wanted.now self.optional (w ∷ ws) ≡ followed read next.0 w (arguments_of read next.1.wanted.now next.1.optional ws)) }
+        ensures found { IfSome result (λ next. (read : Reading) (w : Written) (ws : List Written)
+            → arguments_of read self.wanted.now self.optional (w ∷ ws) ≡ followed read next.0 w (arguments_of read next.1.wanted.now next.1.optional ws)) }
     {
         let Row { wanted, optional } = self;
         if let Some((kind, others)) = wanted.split_first() {
