@@ -16,4 +16,4 @@ mod uses;
 
 pub use elaborating::{Elaborated, elaborate};
 pub use fault::TacFault;
-pub use laws::{atom_replaces_goal, one_atom, some_atom};
+pub use laws::{atom_replaces_goal, merges_fit, one_atom, some_atom};
