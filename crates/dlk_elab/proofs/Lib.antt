@@ -12,3 +12,5 @@ pub mod Decided
 pub mod AtomLaws
 pub mod RuleArguments
 pub mod Elaborates
+pub mod CallsFit
+pub mod BoxPlans

@@ -1,5 +1,6 @@
 -- The atoms of the strategy language: what each asks of the kernel on a goal, the steps that it gives, and its fault.
 pub use Rattle.dlk_tacsyn.specs.Rows.{IsNamed, HasNames}
+pub use Rattle.dlk_uses.specs.Taking.{FirstFault}
 use Rattle.std.specs.Prelude.{◌≡◌, ◌≢◌, IsTrue, ◌<◌, ◌≤◌, ◌+◌, ◌⊎◌, ℕ, List, [], ◌∷◌, ◌++◌, length, Option, Some, None, All, Any, codes}
 use Rattle.dlk_tree.specs.Trees.{Tree}
 use Rattle.dlk_calculus.specs.declared.reason.Reason.{Reason}
@@ -23,7 +24,6 @@ use Rattle.dlk_rules.specs.Words.{text_of}
 use Rattle.dlk_kernel.specs.Taken.{Takes}
 use Rattle.dlk_tacsyn.specs.Tactics.{Argument, AtPlace, AnyLeft, AnyRight, Word, GivenFormula, GivenTerm, GivenExtra, Atom}
 use Rattle.dlk_uses.specs.Uses.{Direction, Forwards, Backwards, Use, key, may_stand, formula_at, instance, generalizing, cutting_box, Finishes, proved}
-use Rattle.dlk_uses.specs.Taking.{FirstFault}
 use Rattle.dlk_match.specs.Matching.{Match}
 
 -- why an atom gives no steps

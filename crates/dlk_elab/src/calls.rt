@@ -1,9 +1,10 @@
 //! Atoms by their names and arguments.
-ghost use Rattle.std.specs.Prelude.{List};
+ghost use Rattle.std.specs.Prelude.{◌≡◌, ◌≢◌, ℕ, List, [], ◌∷◌, None, IfSome, IfNone};
 ghost use Rattle.dlk_tree.specs.Trees.{Tree};
 ghost use Rattle.dlk_tacsyn.specs.Rows.{IsFitting};
 ghost use Rattle.dlk_tacsyn.specs.Ties.{atom_at};
-ghost use Rattle.dlk_elab.specs.Calls.{IsCall};
+ghost use Rattle.dlk_elab.specs.Atoms.{HasNoLocator};
+ghost use Rattle.dlk_elab.specs.Calls.{SaysUse, IsUseCall, HasNoUse, IsCall};
 
 use dlk_sequent::{Extra, Place};
 use dlk_store::Id;
@@ -40,7 +41,10 @@ pub(crate) enum Call<'a> {
 }
 
 /// The arguments of `G`.
-fn generalize_call(args: &[Arg]) -> Option<&Arg> {
+fn generalize_call(args: &[Arg]) -> Option<&Arg>
+    ensures found { IfSome result (λ at. args.now ≡ at.now ∷ []) }
+    ensures none { IfNone result ((a : Arg) → args.now ≢ a ∷ []) }
+{
     let [at] = args else {
         return None;
     };
@@ -48,7 +52,10 @@ fn generalize_call(args: &[Arg]) -> Option<&Arg> {
 }
 
 /// The arguments of `boxCut`.
-fn cut_box_call(args: &[Arg]) -> Option<(Id, &Arg)> {
+fn cut_box_call(args: &[Arg]) -> Option<(Id, &Arg)>
+    ensures found { IfSome result (λ p. args.now ≡ Arg.Formula p.0 ∷ p.1.now ∷ []) }
+    ensures none { IfNone result ((h : Id) (a : Arg) → args.now ≢ Arg.Formula h ∷ a ∷ []) }
+{
     let [quoted, at] = args else {
         return None;
     };
@@ -59,7 +66,10 @@ fn cut_box_call(args: &[Arg]) -> Option<(Id, &Arg)> {
 }
 
 /// The arguments of a use without what may be given beside them.
-fn plain_use<'a>(direction: Direction, named: &'a Arg, at: &'a Arg) -> Option<UseCall<'a>> {
+fn plain_use<'a>(direction: Direction, named: &'a Arg, at: &'a Arg) -> Option<UseCall<'a>>
+    ensures found { IfSome result (λ u. SaysUse direction named.now at.now u × (u.given ≡ None)) }
+    ensures none { IfNone result ((y : List ℕ) (place : Place) (path : List ℕ) → ¬ ((named.now ≡ Arg.Word y) × (at.now ≡ Arg.At place path))) }
+{
     let Arg::Word(name) = named else {
         return None;
     };
@@ -76,7 +86,10 @@ fn plain_use<'a>(direction: Direction, named: &'a Arg, at: &'a Arg) -> Option<Us
 }
 
 /// The arguments of a use.
-fn use_call(direction: Direction, args: &[Arg]) -> Option<UseCall<'_>> {
+fn use_call(direction: Direction, args: &[Arg]) -> Option<UseCall<'_>>
+    ensures found { IfSome result (λ u. IsUseCall direction args.now u) }
+    ensures none { IfNone result (HasNoUse args.now) }
+{
     if let [named, at] = args {
         return plain_use(direction, named, at);
     }
@@ -91,4 +104,37 @@ fn use_call(direction: Direction, args: &[Arg]) -> Option<UseCall<'_>> {
         given: Some(extra),
         ..call
     })
+}
+
+/// What a fitting atom without a locator says.
+pub(crate) fn call_of(atom: &Atom) -> Call<'_>
+    ensures { (trees : List Tree) → IsFitting (atom_at trees atom.now) → HasNoLocator (atom_at trees atom.now) → IsCall trees (atom_at trees atom.now) result }
+{
+    let name = atom.name.bytes();
+    let args = atom.args.as_slice();
+    if name == b"G".as_slice() {
+        return match generalize_call(args) {
+            Some(at) => Call::Generalize(at),
+            None => Call::Plain,
+        };
+    }
+    if name == b"boxCut".as_slice() {
+        return match cut_box_call(args) {
+            Some((h, at)) => Call::CutBox(h, at),
+            None => Call::Plain,
+        };
+    }
+    if name == b"useAt".as_slice() {
+        return match use_call(Direction::Forwards, args) {
+            Some(used) => Call::Use(used),
+            None => Call::Plain,
+        };
+    }
+    if name == b"useBack".as_slice() {
+        return match use_call(Direction::Backwards, args) {
+            Some(used) => Call::Use(used),
+            None => Call::Plain,
+        };
+    }
+    Call::Plain
 }

@@ -9,6 +9,7 @@ ghost use Rattle.dlk_tacsyn.specs.Tactics.{Atom};
 ghost use Rattle.dlk_elab.specs.Atoms.{AtomWhy, HasNoLocator, HasNames, HasGoalAt, AtomSteps, AtomFault, Replaces};
 
 use dlk_calculus::laws::{given_unless_against, one_fault, one_provable};
+use dlk_match::one_match;
 use dlk_rules::{rule_is_its_word_and_arguments, word_wants_one_shape};
 
 /// An atom gives at most one list of steps with one list of rows, or it has at most one fault.
@@ -21,6 +22,7 @@ pub fn one_atom()
     one_fault();
     rule_is_its_word_and_arguments();
     word_wants_one_shape();
+    one_match();
 }
 
 /// A fitting atom without a locator, whose names are names, gives steps on a goal that is there, or has a fault.

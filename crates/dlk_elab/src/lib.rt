@@ -2,12 +2,17 @@
 #![tactic(auto)]
 
 mod arguments;
+mod boxes;
+mod calls;
 mod elaborating;
 mod fault;
 mod laws;
 mod plan;
 mod same;
+mod spot;
+mod symbols;
 mod taking;
+mod uses;
 
 pub use elaborating::{Elaborated, elaborate};
 pub use fault::TacFault;
