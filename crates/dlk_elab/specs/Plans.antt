@@ -36,6 +36,6 @@ goal_at target s = record { fact = target.fact; goal = target.goal; s = s }
 pub record AreCutTrees (trees : List Tree) (boxed : Boxed) (h : Id) (cut : Cut) : Type 0 where
   pub formula_is : cut.formula ≡ h
   pub known : IsId trees cut.formula
-  pub boxed : StandsFor trees cut.boxed (box (tree trees boxed.program) (tree trees h))
+  pub box_of : StandsFor trees cut.boxed (box (tree trees boxed.program) (tree trees h))
   pub implied : StandsFor trees cut.implied (imply (tree trees h) (tree trees boxed.formula))
   pub box_implied : StandsFor trees cut.box_implied (box (tree trees boxed.program) (imply (tree trees h) (tree trees boxed.formula)))

@@ -6,6 +6,7 @@ mod boxes;
 mod calls;
 mod elaborating;
 mod fault;
+mod forms;
 mod laws;
 mod plan;
 mod same;
