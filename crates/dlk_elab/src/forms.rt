@@ -59,6 +59,47 @@ pub(crate) fn by_fact(
     closed_by(alloc, now, spot, now, rules, spot.goal)
 }
 
+/// On the right the conclusion of an implication comes to be its condition.
+fn by_implication_right(
+    alloc: Global,
+    now: Fact,
+    spot: Spot,
+    j: u32,
+    condition: Id,
+) -> Result<Vec<Step>, AllocError>
+    requires now { now < 2 ^ 31 }
+    requires goal { spot.goal < 2 ^ 31 }
+    ensures { IfOk result (λ steps. (trees : List Tree) (s : TreeSequent) (h : Tree) → IsId trees condition → ArePlanned trees steps.items (by_implication now (spot_at spot s) (Place.Succ j) (tree trees condition) h)) }
+{
+    let second = spot.goal + 1;
+    let rules = vec![in alloc;
+        (spot.goal, Rule::CutR(j, condition)),
+        (second, Rule::CoHideR(j)),
+    ]?;
+    closed_by(alloc, now, spot, now, rules, second)
+}
+
+/// On the left the condition of an implication comes to be its conclusion.
+fn by_implication_left(
+    alloc: Global,
+    now: Fact,
+    spot: Spot,
+    i: u32,
+    conclusion: Id,
+) -> Result<Vec<Step>, AllocError>
+    requires now { now < 2 ^ 31 }
+    requires goal { spot.goal < 2 ^ 31 }
+    requires right { spot.right < 2 ^ 31 }
+    ensures { IfOk result (λ steps. (trees : List Tree) (s : TreeSequent) (b : Tree) → IsId trees conclusion → spot.right ≡ length s.succ → ArePlanned trees steps.items (by_implication now (spot_at spot s) (Place.Ante i) b (tree trees conclusion))) }
+{
+    let second = spot.goal + 1;
+    let rules = vec![in alloc;
+        (spot.goal, Rule::CutL(i, conclusion)),
+        (second, Rule::CoHideR(spot.right + 1)),
+    ]?;
+    closed_by(alloc, now, spot, now, rules, second)
+}
+
 /// On the right the conclusion of an implication comes to be its condition, and on the left the condition its conclusion.
 pub(crate) fn by_implication(
     alloc: Global,
@@ -73,16 +114,10 @@ pub(crate) fn by_implication(
     requires right { spot.right < 2 ^ 31 }
     ensures { IfOk result (λ steps. (trees : List Tree) (s : TreeSequent) → IsId trees condition → IsId trees conclusion → spot.right ≡ length s.succ → ArePlanned trees steps.items (by_implication now (spot_at spot s) place (tree trees condition) (tree trees conclusion))) }
 {
-    let second = spot.goal + 1;
-    let rules = match place {
-        Place::Succ(j) => {
-            vec![in alloc; (spot.goal, Rule::CutR(j, condition)), (second, Rule::CoHideR(j))]?
-        }
-        Place::Ante(i) => {
-            vec![in alloc; (spot.goal, Rule::CutL(i, conclusion)), (second, Rule::CoHideR(spot.right + 1))]?
-        }
-    };
-    closed_by(alloc, now, spot, now, rules, second)
+    match place {
+        Place::Succ(j) => by_implication_right(alloc, now, spot, j, condition),
+        Place::Ante(i) => by_implication_left(alloc, now, spot, i, conclusion),
+    }
 }
 
 /// The left side of a conditional equivalence comes to be its right side, and its condition is a goal behind that.
