@@ -5,7 +5,7 @@ use Rattle.std.specs.Prelude.{Result, Ok, Err, IfOk}
 use Rattle.std.proofs.lemmas.List.{map-append, length-map}
 use Rattle.std.proofs.lemmas.List.Elements.{All-cons, All-nil, All-head, All-tail, All-append}
 use Rattle.dlk_calculus.specs.Rules.{Rule as TreeRule}
-use Rattle.dlk_calculus.specs.Steps.{Apply, Merge}
+use Rattle.dlk_calculus.specs.Steps.{Step as TreeStep, Apply, Merge}
 use Rattle.dlk_rules.specs.declared.rule.Rule.{Rule}
 use Rattle.dlk_rules.specs.declared.step.Step.{Step}
 use Rattle.dlk_rules.specs.declared.step.Step.TheVariants as step
@@ -69,3 +69,29 @@ no_more trees = All-nil (Known trees)
 
 pub and_known : (trees : List Tree) (r : ℕ × Rule) (rules : List (ℕ × Rule)) → RuleIsKnown trees r.1 → All (Known trees) rules → All (Known trees) (r ∷ rules)
 and_known trees r rules one others = All-cons (Known trees) r rules one others
+
+-- the same of all of them, as one tuple
+abbrev pub AreKnown : List Tree → List (ℕ × Rule) → Type 0
+AreKnown trees [] = Unit {0}
+AreKnown trees (r ∷ rules) = RuleIsKnown trees r.1 × AreKnown trees rules
+
+pub all_known : (trees : List Tree) (rules : List (ℕ × Rule)) → AreKnown trees rules → All (Known trees) rules
+all_known trees [] known = no_more trees
+all_known trees (r ∷ rules) known = and_known trees r rules known.0 (all_known trees rules known.1)
+
+-- steps behind steps
+pub both_planned : (trees : List Tree) (steps more all : List Step) (wanted others : List TreeStep) →
+    ArePlanned trees steps wanted → ArePlanned trees more others → all ≡ steps ++ more → ArePlanned trees all (wanted ++ others)
+both_planned trees steps more all wanted others p q is = record {
+  are = ap (map (step_at trees)) is ∙ map-append (step_at trees) steps more ∙ (λ i. p.are i ++ q.are i);
+  known = subst (All (HasKnownIds trees)) (sym is) (All-append (HasKnownIds trees) steps more p.known q.known);
+}
+
+-- the same of steps, as one tuple
+abbrev pub AreKnownSteps : List Tree → List Step → Type 0
+AreKnownSteps trees [] = Unit {0}
+AreKnownSteps trees (s ∷ steps) = HasKnownIds trees s × AreKnownSteps trees steps
+
+pub steps_known : (trees : List Tree) (steps : List Step) → AreKnownSteps trees steps → All (HasKnownIds trees) steps
+steps_known trees [] known = All-nil (HasKnownIds trees)
+steps_known trees (s ∷ steps) known = All-cons (HasKnownIds trees) s steps known.0 (steps_known trees steps known.1)

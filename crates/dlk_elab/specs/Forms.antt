@@ -1,15 +1,19 @@
 -- The trees that the plans of uses need.
-use Rattle.std.specs.Prelude.{◌≡◌, ◌+◌, ℕ, List, [], ◌∷◌, length}
+use Rattle.std.specs.Prelude.{◌≡◌, ◌+◌, ℕ, List, [], ◌∷◌, length, codes}
 use Rattle.dlk_tree.specs.declared.op.Op.TheVariants.{Dot, Hole}
 use Rattle.dlk_tree.specs.Trees.{Tree}
 use Rattle.dlk_store.specs.declared.Id.{Id}
 use Rattle.dlk_store.specs.Stores.{IsId, tree, StandsFor}
 use Rattle.dlk_calculus.specs.Notation.{leaf}
 use Rattle.dlk_calculus.specs.Paths.{put_at}
+use Rattle.dlk_sequent.specs.declared.sequent.Place.{Place}
+use Rattle.dlk_sequent.specs.declared.sequent.Place.TheVariants.{Ante, Succ}
 use Rattle.dlk_rules.specs.declared.rule.Rule.{Rule}
+use Rattle.dlk_rules.specs.declared.rule.Rule.TheVariants as rule
 use Rattle.dlk_rules.specs.declared.step.Step.{Step}
 use Rattle.dlk_rules.specs.declared.step.Step.TheVariants as step
-use Rattle.dlk_uses.specs.Uses.{Direction, Forwards, Backwards}
+use Rattle.dlk_uses.specs.Uses.{Direction, Forwards, Backwards, any_p, any_q, any_f, any_g, p_of_one, context_c}
+use Rattle.dlk_elab.specs.declared.spot.Spot.{Spot}
 use Rattle.dlk_elab.specs.declared.forms.Exchanged.{Exchanged}
 use Rattle.dlk_elab.specs.declared.forms.Equated.{Equated}
 
@@ -22,6 +26,41 @@ applying fact rows (r ∷ rules) = step.Apply fact r.0 r.1 ∷ applying (rows + 
 abbrev pub row_behind : ℕ → ℕ → List (ℕ × Rule) → ℕ
 row_behind fact rows [] = fact
 row_behind fact rows (r ∷ rules) = row_behind (rows + 1) (rows + 1) rules
+
+-- the rules of an exchange, over ids
+abbrev pub exchange_rules : Spot → Place → Direction → Id → List (ℕ × Rule)
+exchange_rules spot (Succ j) Forwards new =
+    (spot.goal, rule.CutR j new) ∷ (spot.goal + 1, rule.CoHideR j) ∷ (spot.goal + 1, rule.EquivifyR 1) ∷ (spot.goal + 1, rule.CommuteEquivR 1) ∷ []
+exchange_rules spot (Succ j) Backwards new =
+    (spot.goal, rule.CutR j new) ∷ (spot.goal + 1, rule.CoHideR j) ∷ (spot.goal + 1, rule.EquivifyR 1) ∷ []
+exchange_rules spot (Ante i) Forwards new =
+    (spot.goal, rule.CutL i new) ∷ (spot.goal + 1, rule.CoHideR (spot.right + 1)) ∷ (spot.goal + 1, rule.EquivifyR 1) ∷ []
+exchange_rules spot (Ante i) Backwards new =
+    (spot.goal, rule.CutL i new) ∷ (spot.goal + 1, rule.CoHideR (spot.right + 1)) ∷ (spot.goal + 1, rule.EquivifyR 1) ∷ (spot.goal + 1, rule.CommuteEquivR 1) ∷ []
+
+-- the steps by which a context of equivalent formulas is equivalent
+abbrev pub contextual : ℕ → Exchanged → List Step
+contextual now x =
+    step.AxRule (codes "CE") ∷
+    step.Subst (now + 1) ((record { sym = any_p; by = x.left }) ∷ (record { sym = any_q; by = x.right }) ∷ (record { sym = context_c; by = x.context }) ∷ []) ∷
+    step.Merge (now + 2) 1 now ∷ []
+
+-- the steps by which formulas with equal terms are equivalent
+abbrev pub with_equal_terms : ℕ → Equated → List Step
+with_equal_terms now y =
+    step.AxRule (codes "CQ") ∷
+    step.Subst (now + 1) ((record { sym = any_f; by = y.left }) ∷ (record { sym = any_g; by = y.right }) ∷ []) ∷
+    step.Merge (now + 2) 1 now ∷
+    step.Subst (now + 3) ((record { sym = p_of_one; by = y.context }) ∷ []) ∷ []
+
+-- the steps by which an equation holds under a condition that is a leaf
+abbrev pub under_condition : ℕ → (equation condition : Id) → List Step
+under_condition now equation condition =
+    step.Start (record { ante = []; succ = equation ∷ [] }) ∷
+    step.Apply (now + 1) 1 (rule.CutR 1 condition) ∷
+    step.Merge (now + 2) 2 now ∷
+    step.Leaf (record { ante = []; succ = condition ∷ [] }) ∷
+    step.Merge (now + 3) 1 (now + 4) ∷ []
 
 -- of l and r, that which comes to stand there
 abbrev pub new_side : Direction → Tree → Tree → Tree
