@@ -1,11 +1,13 @@
 -- The trees that the plans of uses need.
-use Rattle.std.specs.Prelude.{◌≡◌, ◌+◌, ℕ, List, [], ◌∷◌, length, codes}
+use Rattle.std.specs.Str.{bytes_eq}
+use Rattle.std.specs.Prelude.{if◌then◌else◌, ◌≡◌, ◌+◌, ℕ, List, [], ◌∷◌, length, codes}
 use Rattle.dlk_tree.specs.declared.op.Op.TheVariants.{Dot, Hole}
 use Rattle.dlk_tree.specs.Trees.{Tree}
 use Rattle.dlk_store.specs.declared.Id.{Id}
 use Rattle.dlk_store.specs.Stores.{IsId, tree, StandsFor}
 use Rattle.dlk_calculus.specs.Notation.{leaf}
 use Rattle.dlk_calculus.specs.Paths.{put_at}
+use Rattle.dlk_sequent.specs.declared.subst.Pair.{Pair}
 use Rattle.dlk_sequent.specs.declared.sequent.Place.{Place}
 use Rattle.dlk_sequent.specs.declared.sequent.Place.TheVariants.{Ante, Succ}
 use Rattle.dlk_rules.specs.declared.rule.Rule.{Rule}
@@ -26,6 +28,16 @@ applying fact rows (r ∷ rules) = step.Apply fact r.0 r.1 ∷ applying (rows + 
 abbrev pub row_behind : ℕ → ℕ → List (ℕ × Rule) → ℕ
 row_behind fact rows [] = fact
 row_behind fact rows (r ∷ rules) = row_behind (rows + 1) (rows + 1) rules
+
+-- unlike names exchanged in turn, where there are so many rows
+abbrev pub renamed : ℕ → List (List ℕ × List ℕ) → List Step
+renamed rows [] = []
+renamed rows (r ∷ renames) = if bytes_eq r.0 r.1 then renamed rows renames else step.Rename rows r.0 r.1 ∷ renamed (rows + 1) renames
+
+-- and a substitution, unless there are no pairs
+abbrev pub substituted : ℕ → List Pair → List Step
+substituted rows [] = []
+substituted rows (p ∷ pairs) = step.Subst rows (p ∷ pairs) ∷ []
 
 -- the rules of an exchange, over ids
 abbrev pub exchange_rules : Spot → Place → Direction → Id → List (ℕ × Rule)

@@ -6,6 +6,7 @@ mod boxes;
 mod calls;
 mod elaborating;
 mod fault;
+mod instance;
 mod forms;
 mod laws;
 mod plan;
