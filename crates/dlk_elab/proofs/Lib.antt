@@ -1,4 +1,8 @@
 pub mod Places
+pub mod Instances
+pub mod FormPlans
+pub mod Exchanges
+pub mod Turns
 pub mod Names
 pub mod Fitting
 pub mod Sames

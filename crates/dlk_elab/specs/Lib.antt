@@ -2,3 +2,4 @@ pub mod Atoms
 pub mod Ties
 pub mod Calls
 pub mod Plans
+pub mod Forms

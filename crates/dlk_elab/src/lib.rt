@@ -6,6 +6,8 @@ mod boxes;
 mod calls;
 mod elaborating;
 mod fault;
+mod instance;
+mod forms;
 mod laws;
 mod plan;
 mod same;
