@@ -1,6 +1,7 @@
 #!/usr/bin/env python3
 """Checks each term of `examples` by the program: each must be closed, and `report` must say the same as `check`. Where a strategy
-stands beside it, `prove` must print the same report, and what it writes must be accepted with it.
+stands beside it, `prove` must print the same report, but for the number of lines, and what it writes must be accepted with
+the report that was printed.
 
 It also looks whether the tests of `dlk_answers` have the same terms. Those of `unsound` and `constants` stand in no test: they
 are run by this script alone. Those of `unsound` must be closed, too, and their models must be `false`: that is what they
@@ -40,14 +41,24 @@ def as_text(report):
     return "\n".join(lines) + "\n"
 
 
+def but_lines(text):
+    """A report without its number of lines."""
+    return text[:text.rindex("lines ")]
+
+
 def proved(example, text):
-    """Proves an example by its strategy: the report must be this one, and that of what is written, too."""
+    """Proves an example by its strategy: the report must be this one but for the number of lines, and what is written must be
+    accepted with the same report."""
     with tempfile.TemporaryDirectory() as folder:
         term = pathlib.Path(folder) / "term"
+        reports = []
         for words in (["prove", example / "model", example / "strategy", term], ["check", example / "model", term]):
             run = subprocess.run([PROGRAM, *words], capture_output=True, check=False)
-            if run.stdout.decode() != text:
+            if run.returncode != 0 or but_lines(run.stdout.decode()) != but_lines(text):
                 stop(example, f"{words[0]}: status {run.returncode}, {run.stdout.decode().strip()}")
+            reports.append(run.stdout)
+        if reports[0] != reports[1]:
+            stop(example, "the written term has another report")
 
 
 def checked(example):

@@ -1,2 +1,15 @@
 pub mod Abstracted
 pub mod OneMatch
+pub mod Targets
+pub mod Plugged
+pub mod Turns
+pub mod AtOnce
+pub mod AxiomNames
+pub mod Replacing
+pub mod Growing
+pub mod SystemsBack
+pub mod Back
+pub mod AbstractMade
+pub mod SystemsMade
+pub mod Proper
+pub mod Nothing

@@ -1,11 +1,10 @@
 -- The kid of a number, by the ids of a node's kids.
-use Rattle.std.proofs.Common.{◌≡◌, refl, sym, ap, subst, ◌∙◌, ℕ, zero, suc, ◌<◌, List, [], ◌∷◌, length, Option, None, Some, slice_get, slice_set, get_or, arith}
+use Rattle.std.proofs.Common.{◌≡◌, refl, sym, ap, subst, ◌∙◌, ℕ, zero, suc, ◌<◌, List, [], ◌∷◌, length, Option, None, Some, slice_get, slice_set, arith}
 use Rattle.std.specs.Prelude.{All}
 use Rattle.std.proofs.lemmas.Option.{slice_get_within, get_or_from_slice_get}
 use Rattle.dlk_tree.specs.declared.op.Sort.{Sort}
 use Rattle.dlk_tree.specs.declared.op.Op.{Op}
-use Rattle.dlk_tree.specs.Table.{Fits}
-use Rattle.dlk_tree.specs.Trees.{Tree, node, Forest, no_kids, kid, sort, sorts}
+use Rattle.dlk_tree.specs.Trees.{Tree, node, kid, sort, sorts}
 use Rattle.dlk_store.specs.declared.Id.{Id}
 use Rattle.dlk_store.specs.Stores.{IsId, tree, kid_trees, sorts_at}
 use Rattle.dlk_store.proofs.Kids.{sorts-kid_trees}

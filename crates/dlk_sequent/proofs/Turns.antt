@@ -5,12 +5,11 @@ use Rattle.dlk_tree.specs.declared.op.Sort.TheVariants.{Formula}
 use Rattle.dlk_tree.specs.Trees.{Tree, sort}
 use Rattle.dlk_store.specs.declared.Id.{Id}
 use Rattle.dlk_store.specs.Stores.{IsId, tree, StandsFor, Keeps}
-use Rattle.dlk_calculus.specs.Paths.{subtree, put_at, IsInnermost}
+use Rattle.dlk_calculus.specs.Paths.{subtree, put_at}
 use Rattle.dlk_calculus.proofs.PathLaws.{subtree_nil, subtree_join, subtree_before, put_nil, put_join, put_sort}
 use Rattle.dlk_calculus.proofs.Innermost.{NoneBelow, none_at_end, none_further, no_innermost}
 use Rattle.dlk_sequent.specs.declared.spine.Turn.{Turn}
-use Rattle.dlk_sequent.specs.declared.spine.Innermost.{Innermost}
-use Rattle.dlk_sequent.specs.Spines.{LeadsTo, HasSort, HasOtherSort, IsPut, Way, start, top, path_of, AreTurns, IsSpine, IsSpineOf, IsInnermostOf, HasNoInnermost}
+use Rattle.dlk_sequent.specs.Spines.{LeadsTo, HasSort, HasOtherSort, IsPut, Way, start, top, path_of, AreTurns, IsSpine, IsInnermostOf, HasNoInnermost}
 use Rattle.dlk_sequent.proofs.Kept.{IsId-kept}
 
 abbrev pub kids_of : List Turn → List ℕ

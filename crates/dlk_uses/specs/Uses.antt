@@ -169,13 +169,22 @@ pub record Spot : Type 0 where
 -- leave the goal with the new formula, and one that the row proves.
 abbrev pub exchange : ℕ → ℕ → Spot → Place → Direction → Tree → List Step
 exchange by rows spot (Succ j) Forwards new =
-    closed_by by spot.fact rows ((spot.goal, CutR j new) ∷ (spot.goal + 1, CoHideR j) ∷ (spot.goal + 1, EquivifyR 1) ∷ (spot.goal + 1, CommuteEquivR 1) ∷ []) (spot.goal + 1)
+    closed_by by spot.fact rows (
+    (spot.goal, CutR j new) ∷ (spot.goal + 1, CoHideR j) ∷ (spot.goal + 1, EquivifyR 1) ∷ (spot.goal + 1, CommuteEquivR 1) ∷ []
+    ) (spot.goal + 1)
 exchange by rows spot (Succ j) Backwards new =
-    closed_by by spot.fact rows ((spot.goal, CutR j new) ∷ (spot.goal + 1, CoHideR j) ∷ (spot.goal + 1, EquivifyR 1) ∷ []) (spot.goal + 1)
+    closed_by by spot.fact rows (
+    (spot.goal, CutR j new) ∷ (spot.goal + 1, CoHideR j) ∷ (spot.goal + 1, EquivifyR 1) ∷ []
+    ) (spot.goal + 1)
 exchange by rows spot (Ante i) Forwards new =
-    closed_by by spot.fact rows ((spot.goal, CutL i new) ∷ (spot.goal + 1, CoHideR (length spot.s.succ + 1)) ∷ (spot.goal + 1, EquivifyR 1) ∷ []) (spot.goal + 1)
+    closed_by by spot.fact rows (
+    (spot.goal, CutL i new) ∷ (spot.goal + 1, CoHideR (length spot.s.succ + 1)) ∷ (spot.goal + 1, EquivifyR 1) ∷ []
+    ) (spot.goal + 1)
 exchange by rows spot (Ante i) Backwards new =
-    closed_by by spot.fact rows ((spot.goal, CutL i new) ∷ (spot.goal + 1, CoHideR (length spot.s.succ + 1)) ∷ (spot.goal + 1, EquivifyR 1) ∷ (spot.goal + 1, CommuteEquivR 1) ∷ []) (spot.goal + 1)
+    closed_by by spot.fact rows (
+    (spot.goal, CutL i new) ∷ (spot.goal + 1, CoHideR (length spot.s.succ + 1)) ∷ (spot.goal + 1, EquivifyR 1) ∷
+    (spot.goal + 1, CommuteEquivR 1) ∷ []
+    ) (spot.goal + 1)
 
 -- The row `now`, the last of so many, proves l <-> r: in the formula e one side stands at the path, and comes to be the other one. First that
 -- the equivalence holds of the whole formulas, and then the exchange.
@@ -215,15 +224,17 @@ abbrev pub by_conditional_equivalence : ℕ → Spot → ℕ → (b l r : Tree) 
 by_conditional_equivalence now spot j b l r =
     let third = spot.goal + 2
     in closed_by now spot.fact now (
-        (spot.goal, CutR j r) ∷ (spot.goal + 1, CutR j b) ∷
-        (third, CoHideR j) ∷ (third, ImplyR 1) ∷ (third, EquivifyR 1) ∷ (third, CommuteEquivR 1) ∷
-        (third, Cut (imply b (equiv l r))) ∷ (third, ImplyL 2) ∷ (third, Close 1 2) ∷ (third, Close 2 1) ∷ (third, CoHideR 2) ∷ []
-      ) third
+    (spot.goal, CutR j r) ∷ (spot.goal + 1, CutR j b) ∷
+    (third, CoHideR j) ∷ (third, ImplyR 1) ∷ (third, EquivifyR 1) ∷ (third, CommuteEquivR 1) ∷
+    (third, Cut (imply b (equiv l r))) ∷ (third, ImplyL 2) ∷ (third, Close 1 2) ∷ (third, Close 2 1) ∷ (third, CoHideR 2) ∷ []
+    ) third
 
 -- The row `now` proves b -> h: on the right h comes to be b, and on the left b comes to be h.
 abbrev pub by_implication : ℕ → Spot → Place → (b h : Tree) → List Step
-by_implication now spot (Succ j) b h = closed_by now spot.fact now ((spot.goal, CutR j b) ∷ (spot.goal + 1, CoHideR j) ∷ []) (spot.goal + 1)
-by_implication now spot (Ante i) b h = closed_by now spot.fact now ((spot.goal, CutL i h) ∷ (spot.goal + 1, CoHideR (length spot.s.succ + 1)) ∷ []) (spot.goal + 1)
+by_implication now spot (Succ j) b h =
+    closed_by now spot.fact now ((spot.goal, CutR j b) ∷ (spot.goal + 1, CoHideR j) ∷ []) (spot.goal + 1)
+by_implication now spot (Ante i) b h =
+    closed_by now spot.fact now ((spot.goal, CutL i h) ∷ (spot.goal + 1, CoHideR (length spot.s.succ + 1)) ∷ []) (spot.goal + 1)
 
 -- The row `now` proves the formula at place j on the right.
 abbrev pub by_fact : ℕ → Spot → ℕ → List Step
@@ -245,7 +256,8 @@ pub data Finishes (now : ℕ) (spot : Spot) (used : Use) (e f : Tree) : List Ste
   conditional_equivalence : (j : ℕ) → used.its_axiom.form ≡ C → used.place ≡ Succ j →
       Finishes now spot used e f (by_conditional_equivalence now spot j (left_of f) (left_of (right_of f)) (right_of (right_of f)))
   conditional_equation : (outer inner : List ℕ) (d : Tree) → used.its_axiom.form ≡ R → IsAround e used.path outer inner d →
-      Finishes now spot used e f (by_conditional_equation now spot used.place used.direction e outer inner d (left_of f) (left_of (right_of f)) (right_of (right_of f)))
+      Finishes now spot used e f
+      (by_conditional_equation now spot used.place used.direction e outer inner d (left_of f) (left_of (right_of f)) (right_of (right_of f)))
   implication : used.its_axiom.form ≡ I →
       Finishes now spot used e f (by_implication now spot used.place (left_of f) (right_of f))
   fact : (j : ℕ) → used.its_axiom.form ≡ F → used.place ≡ Succ j →

@@ -1,7 +1,7 @@
 use Rattle.std.proofs.Common.{◌≡◌, ◌∙◌, sym, ap, subst, slice_set, arith, rules}
 use Rattle.dlk_tree.specs.Table.{Fits as FitsKids}
 use Rattle.dlk_tree.specs.Trees.{node}
-use Rattle.dlk_store.specs.Stores.{StandsFor, kid_trees, sorts_at}
+use Rattle.dlk_store.specs.Stores.{kid_trees, sorts_at}
 use Rattle.dlk_store.proofs.Kids.{node_fits}
 use Rattle.dlk_sequent.proofs.KidAt.{is_kid, same_sorts, put_is}
 use Rattle.dlk_sequent.proofs.spine.with_kid.Goals as goal

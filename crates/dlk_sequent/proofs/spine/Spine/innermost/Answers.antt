@@ -1,7 +1,7 @@
 use Rattle.std.proofs.Common.{◌≡◌, ◌-◌, get_or, subst, arith}
 use Rattle.std.proofs.lemmas.Bool.{both_ways}
 use Rattle.dlk_sequent.specs.Spines.{Way}
-use Rattle.dlk_sequent.proofs.Turns.{none_known, none_before, innermost_found, innermost_missing}
+use Rattle.dlk_sequent.proofs.Turns.{none_known, none_before, innermost_found}
 use Rattle.dlk_sequent.proofs.spine.Spine.innermost.Goals as goal
 
 pub has_formula_sort-requires : goal.has_formula_sort-requires

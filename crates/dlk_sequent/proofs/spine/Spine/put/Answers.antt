@@ -1,4 +1,4 @@
-use Rattle.std.proofs.Common.{◌≡◌, ◌+◌, ◌-◌, ◌∷◌, sym, subst, drop, arith}
+use Rattle.std.proofs.Common.{◌≡◌, ◌+◌, ◌-◌, sym, subst, drop, arith}
 use Rattle.std.proofs.lemmas.Bool.{both_ways}
 use Rattle.dlk_tree.specs.Trees.{sort}
 use Rattle.dlk_store.specs.Stores.{tree}

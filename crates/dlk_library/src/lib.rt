@@ -1,0 +1,2 @@
+//! The library of strategies, and the generated problems of a size.
+#![tactic(auto)]

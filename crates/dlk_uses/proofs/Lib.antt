@@ -1,0 +1,17 @@
+pub mod Places
+pub mod Taking
+pub mod Unequal
+pub mod Fitting
+pub mod Premises
+pub mod Exchanging
+pub mod Conditional
+pub mod Substituted
+pub mod Terms
+pub mod Blocks
+pub mod Equations
+pub mod Boxes
+pub mod Instance
+pub mod Shapes
+pub mod Uses
+pub mod Behind
+pub mod Goals
