@@ -1,4 +1,5 @@
 pub mod Places
+pub mod Kids
 pub mod Instances
 pub mod FormPlans
 pub mod Exchanges

@@ -16,6 +16,7 @@ mod spot;
 mod symbols;
 mod taking;
 mod uses;
+mod ways;
 
 pub use elaborating::{Elaborated, elaborate};
 pub use fault::TacFault;
