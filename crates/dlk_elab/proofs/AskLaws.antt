@@ -1,5 +1,5 @@
 -- An atom asks for one thing.
-use Rattle.std.proofs.Common.{◌≡◌, ℕ, zero, suc, ◌+◌, ◌<◌, true, false, List, [], ◌∷◌, length, Option, Some, None, refl, sym, ap, subst, ◌∙◌, ◌⊎◌, inl, inr, arith}
+use Rattle.std.proofs.Common.{◌≡◌, ◌≢◌, ℕ, zero, suc, ◌+◌, ◌<◌, true, false, List, [], ◌∷◌, length, Option, Some, None, refl, sym, ap, subst, ◌∙◌, ◌⊎◌, inl, inr, arith}
 use Rattle.std.specs.Prelude.{codes, IsTrue}
 use Rattle.std.specs.List.{Any, slice_index_or}
 use Rattle.std.specs.Str.{bytes_eq}
@@ -302,7 +302,7 @@ module _ (rows fact goal : ℕ) (s : Sequent) (atom : Atom) where
       absurd (none j (box b f) (record { place = sym (place_one atom (AtPlace (Succ j) []) q (cuts h n are) is); stands = here }))
   boxes_one _ _ (by_not_on_the_right p is none) (by_no_box q k e its there other) =
       absurd (none k e (record { place = place_one atom p q is its ∙ there.place; stands = there.stands }))
-  boxes_one _ _ (by_not_on_the_right q is none) (by_not_on_the_right p its no) = refl
+  boxes_one _ _ (by_not_on_the_right q is none) (by_not_on_the_right p its lacks) = refl
 
 -- ---- uses
 
@@ -372,20 +372,20 @@ module _ (one_match : (key : Tree) (own : List (List ℕ)) (e : Tree) (given a b
       absurd (none e t (subst (λ (w : Use). StandsThere s w e t) (use_one atom u v is its) there))
   uses_one _ _ (by_use_axiom u e t extra is there may match) (by_no_match v f r its here none) = absurd (unmatched atom s u e t extra v f r is its there here may match none)
   uses_one _ _ (by_no_axiom d n p pa g names none) (by_use_axiom u e t extra is there may match) = absurd (no_such atom u d n p pa g is names none)
-  uses_one _ _ (by_no_axiom d n p pa g names none) (by_no_axiom c m q qa h also no) = refl
-  uses_one _ _ (by_no_axiom d n p pa g names none) (by_not_there u is no) = absurd (no_such atom u d n p pa g is names none)
-  uses_one _ _ (by_no_axiom d n p pa g names none) (by_no_match u e t is there no) = absurd (no_such atom u d n p pa g is names none)
+  uses_one _ _ (by_no_axiom d n p pa g names none) (by_no_axiom c m q qa h also lacks) = refl
+  uses_one _ _ (by_no_axiom d n p pa g names none) (by_not_there u is lacks) = absurd (no_such atom u d n p pa g is names none)
+  uses_one _ _ (by_no_axiom d n p pa g names none) (by_no_match u e t is there lacks) = absurd (no_such atom u d n p pa g is names none)
   uses_one _ _ (by_not_there v its none) (by_use_axiom u e t extra is there may match) =
       absurd (none e t (subst (λ (w : Use). StandsThere s w e t) (use_one atom u v is its) there))
-  uses_one _ _ (by_not_there u is no) (by_no_axiom d n p pa g names none) = absurd (no_such atom u d n p pa g is names none)
-  uses_one _ _ (by_not_there u is no) (by_not_there v its none) = refl
-  uses_one _ _ (by_not_there v its none) (by_no_match u e t is there no) =
+  uses_one _ _ (by_not_there u is lacks) (by_no_axiom d n p pa g names none) = absurd (no_such atom u d n p pa g is names none)
+  uses_one _ _ (by_not_there u is lacks) (by_not_there v its none) = refl
+  uses_one _ _ (by_not_there v its none) (by_no_match u e t is there lacks) =
       absurd (none e t (subst (λ (w : Use). StandsThere s w e t) (use_one atom u v is its) there))
   uses_one _ _ (by_no_match v f r its here none) (by_use_axiom u e t extra is there may match) = absurd (unmatched atom s u e t extra v f r is its there here may match none)
-  uses_one _ _ (by_no_match u e t is there no) (by_no_axiom d n p pa g names none) = absurd (no_such atom u d n p pa g is names none)
-  uses_one _ _ (by_no_match u e t is there no) (by_not_there v its none) =
+  uses_one _ _ (by_no_match u e t is there lacks) (by_no_axiom d n p pa g names none) = absurd (no_such atom u d n p pa g is names none)
+  uses_one _ _ (by_no_match u e t is there lacks) (by_not_there v its none) =
       absurd (none e t (subst (λ (w : Use). StandsThere s w e t) (use_one atom u v is its) there))
-  uses_one _ _ (by_no_match u e t is there no) (by_no_match v f r its here none) = refl
+  uses_one _ _ (by_no_match u e t is there lacks) (by_no_match v f r its here none) = refl
 
 module _ (one_rule : (r s : Rule) → word_of r ≡ word_of s → arguments_of r ≡ arguments_of s → r ≡ s)
     (one_shape : (w : RuleWord) (rule : Rule) → word_of rule ≡ text_of w → shape_of (arguments_of rule) ≡ wanted w) where

@@ -2,12 +2,14 @@
 use Rattle.std.proofs.Common.{◌≡◌, ◌≢◌, ℕ, List, [], ◌∷◌, map, Option, Some, None, refl, sym, ap, subst, ◌∙◌, true, false}
 use Rattle.std.specs.Prelude.{codes}
 use Rattle.std.specs.List.{All}
+use Rattle.std.specs.Option.{option_copied}
 use Rattle.std.specs.Str.{bytes_eq}
 use Rattle.std.proofs.lemmas.Option.{same_Some}
 use Rattle.std.proofs.lemmas.List.Elements.{All-head, All-tail}
 use Rattle.std.proofs.lemmas.Slice.Eq.{bytes_eq-Decides}
 use Rattle.dlk_tree.specs.Trees.{Tree}
 use Rattle.dlk_store.specs.declared.Id.{Id}
+use Rattle.dlk_store.specs.Stores.{IsId}
 use Rattle.dlk_calculus.specs.Sequents.{IsFormula}
 use Rattle.dlk_sequent.specs.declared.extra.Extra.{Extra}
 use Rattle.dlk_sequent.specs.declared.sequent.Place.{Place}
@@ -17,9 +19,10 @@ use Rattle.dlk_tacsyn.specs.declared.tactic.Arg.TheVariants as arg
 use Rattle.dlk_tacsyn.specs.declared.tactic.Atom.{Atom}
 use Rattle.dlk_tacsyn.specs.Rows.{Row, row_of, wants, AreOfKinds, IsFitting, IsWord, IsPlaceOrLocator, IsGivenFormula, IsGivenExtra}
 use Rattle.dlk_tacsyn.specs.Tactics.{Argument, GivenFormula}
-use Rattle.dlk_tacsyn.specs.Ties.{argument_at, atom_at}
-use Rattle.dlk_elab.specs.Atoms.{IsFixed, HasNoLocator}
-use Rattle.dlk_elab.specs.Calls.{HasNoUse, UsesNone}
+use Rattle.dlk_tacsyn.specs.Ties.{argument_at, ArgumentIsKnown, atom_at}
+use Rattle.dlk_elab.specs.Atoms.{IsFixed, HasNoLocator, UseArguments, alone, with_extra, word_of_direction}
+use Rattle.dlk_elab.specs.Calls.{HasNoUse, UsesNone, IsUseCall, GivenBehind, GivenIsKnown, given_at, direction_of}
+use Rattle.dlk_elab.specs.declared.calls.Direction.{Direction as CodeDirection}
 use Rattle.dlk_elab.specs.declared.calls.UseCall.{UseCall}
 use Rattle.dlk_elab.specs.declared.calls.Call.{Call}
 use Rattle.dlk_elab.specs.declared.calls.Call.TheVariants as call
@@ -140,3 +143,41 @@ uses_none call.Plain other = tt
 uses_none (call.Generalize at) other = tt
 uses_none (call.CutBox h at) other = tt
 uses_none (call.Use u) other = other u refl
+
+-- what a use says
+module _ (trees : List Tree) (args : List Arg) (named at : Arg) (y : List ℕ) (place : Place) (path : List ℕ) (name_is : named ≡ arg.Word y)
+    (place_is : at ≡ arg.At place path) where
+  given_said : (o : Option Extra) → GivenBehind args named at o → UseArguments (map (argument_at trees) args) y place path (given_at trees o)
+  given_said None e =
+      subst (λ (xs : List Arg). UseArguments (map (argument_at trees) xs) y place path (given_at trees None)) (sym (e ∙ (λ i. name_is i ∷ place_is i ∷ []))) alone
+  given_said (Some extra) e =
+      subst (λ (xs : List Arg). UseArguments (map (argument_at trees) xs) y place path (given_at trees (Some extra)))
+      (sym (e ∙ (λ i. name_is i ∷ place_is i ∷ arg.With extra ∷ []))) with_extra
+
+given_known : (trees : List Tree) (args : List Arg) (named at : Arg) (o : Option Extra) → GivenBehind args named at o → All (ArgumentIsKnown trees) args →
+    GivenIsKnown trees o
+given_known trees args named at None e known = tt
+given_known trees args named at (Some extra) e known =
+    let K = ArgumentIsKnown trees in
+    let all = subst (All K) e known in
+    All-head K (arg.With extra) [] (All-tail K at (arg.With extra ∷ []) (All-tail K named (at ∷ arg.With extra ∷ []) all))
+
+pub use_said : (trees : List Tree) (d : CodeDirection) (args all : List Arg) (u : UseCall) → all ≡ args → IsUseCall d all u →
+    UseArguments (map (argument_at trees) args) u.name.now u.place u.path.now (given_at trees (option_copied u.given))
+use_said trees d args all u same h =
+    subst (λ (xs : List Arg). UseArguments (map (argument_at trees) xs) u.name.now u.place u.path.now (given_at trees (option_copied u.given))) same
+    (given_said trees all h.named h.at u.name.now u.place u.path.now h.says.name_is h.says.place_is (option_copied u.given) h.given)
+
+pub use_named : (d : CodeDirection) (args : List Arg) (u : UseCall) (name : List ℕ) → IsUseCall d args u → name ≡ word_of_direction (direction_of d) →
+    name ≡ word_of_direction (direction_of u.direction)
+use_named d args u name h e = e ∙ ap (λ (x : CodeDirection). word_of_direction (direction_of x)) (sym h.says.direction_is)
+
+pub use_known : (trees : List Tree) (d : CodeDirection) (args all : List Arg) (u : UseCall) → all ≡ args → IsUseCall d all u → All (ArgumentIsKnown trees) args →
+    GivenIsKnown trees (option_copied u.given)
+use_known trees d args all u same h known =
+    given_known trees all h.named h.at (option_copied u.given) h.given (subst (All (ArgumentIsKnown trees)) (sym same) known)
+
+pub cut_known : (trees : List Tree) (args all : List Arg) (h : Id) (a : Arg) → all ≡ args → all ≡ arg.Formula h ∷ a ∷ [] → All (ArgumentIsKnown trees) args →
+    IsId trees h
+cut_known trees args all h a same e known =
+    All-head (ArgumentIsKnown trees) (arg.Formula h) (a ∷ []) (subst (All (ArgumentIsKnown trees)) (sym same ∙ e) known)

@@ -1,5 +1,5 @@
 -- An atom's steps on a kernel.
-use Rattle.std.proofs.Common.{◌≡◌, ℕ, ◌-◌, ◌<◌, List, [], ◌∷◌, ◌++◌, map, length, get_or, sym, ap, subst, ◌∙◌, refl, arith}
+use Rattle.std.proofs.Common.{◌≡◌, ℕ, ◌-◌, ◌<◌, ◌≤◌, List, [], ◌∷◌, ◌++◌, map, length, get_or, sym, ap, subst, ◌∙◌, refl, arith}
 use Rattle.std.specs.List.{All}
 use Rattle.std.proofs.lemmas.List.{length-map}
 use Rattle.std.proofs.lemmas.List.Elements.{All-head, All-tail, All-nil, All-cons, All-append}
@@ -7,6 +7,7 @@ use Rattle.dlk_tree.specs.Trees.{Tree}
 use Rattle.dlk_calculus.specs.Places.{At}
 use Rattle.dlk_calculus.specs.Sequents.{Sequent as TreeSequent}
 use Rattle.dlk_calculus.specs.Provables.{Provable}
+use Rattle.dlk_calculus.specs.Limits.{most_goals}
 use Rattle.dlk_calculus.specs.Limited.{HasFewFormulas, IsLimitedSequent, IsLimited}
 use Rattle.dlk_calculus.specs.Steps.{Step as TreeStep, IsGoal, IsProper, Gives, start, use_axiom, use_rule, leaf, apply, merge, substitute, rename}
 use Rattle.dlk_sequent.specs.declared.sequent.Sequent.{Sequent}
@@ -50,6 +51,13 @@ few_formulas rows fact goal s limited is =
     let row : IsLimited is.0 = At_All IsLimited rows fact is.0 limited is.1 in
     let one : IsLimitedSequent s = At_All IsLimitedSequent is.0.goals goal s row.goals is.2 in
     one.few
+
+-- a goal's number is small
+pub goal_small : (rows : List Provable) (fact goal : ℕ) → All IsLimited rows → HasGoalAt rows fact goal → goal ≤ most_goals
+goal_small rows fact goal limited there =
+    let row : IsLimited there.1.0 = At_All IsLimited rows fact there.1.0 limited there.1.1 in
+    let place = At_place there.1.0.goals goal there.0 there.1.2 in
+    omega (arith, place.1, row.few_goals)
 
 -- steps stand for the same in a store that has grown
 pub steps_same : (old new : List Tree) → ((step : Step) → HasKnownIds old step → step_at new step ≡ step_at old step) → (plan : List Step) →

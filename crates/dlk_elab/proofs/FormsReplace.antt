@@ -1,6 +1,8 @@
 -- Each use of an axiom, and each atom for a box, leaves the fact's row but for goals in the goal's place.
 use Rattle.std.proofs.Common.{◌≡◌, ℕ, suc, ◌+◌, ◌-◌, ◌<◌, List, [], ◌∷◌, ◌++◌, length, refl, sym, ap, subst, ◌∙◌, arith, length-append}
+use Rattle.std.specs.Prelude.{codes}
 use Rattle.dlk_tree.specs.Trees.{Tree}
+use Rattle.dlk_calculus.specs.Notation.{box}
 use Rattle.dlk_calculus.specs.Places.{At, IsPlace}
 use Rattle.dlk_calculus.specs.Sequents.{Sequent}
 use Rattle.dlk_calculus.specs.Provables.{Provable, SubstSequents}
@@ -10,7 +12,7 @@ use Rattle.dlk_calculus.specs.Steps.{Step, Apply, Merge, UseRule, Substitute, Gi
 use Rattle.dlk_sequent.specs.declared.sequent.Place.{Place}
 use Rattle.dlk_sequent.specs.declared.sequent.Place.TheVariants.{Ante, Succ}
 use Rattle.dlk_kernel.specs.Taken.{Takes}
-use Rattle.dlk_uses.specs.Uses.{Direction, Forwards, Backwards, Use, Spot, closed_by, exchange, by_equivalence, by_equation, by_conditional_equation, by_conditional_equivalence, by_implication, by_fact, generalizing, cutting_box, Finishes, equivalence, equation, conditional_equivalence, conditional_equation, implication, fact}
+use Rattle.dlk_uses.specs.Uses.{Direction, Forwards, Backwards, Use, Spot, closed_by, exchange, by_equivalence, by_equation, by_conditional_equation, by_conditional_equivalence, by_implication, by_fact, generalizing, cutting_box, ◌~>◌, program_a, any_p, Finishes, equivalence, equation, conditional_equivalence, conditional_equation, implication, fact}
 use Rattle.dlk_elab.proofs.Places.{at_one, At-more, At-between}
 use Rattle.dlk_elab.proofs.TakenLaws.{takes_none, takes_first}
 use Rattle.dlk_elab.proofs.Replacing.{Behind, Makes, Turns, no_more, turn, Ends, closed, last_at, behind_rule, behind_merge, From, pass, makes_close, makes_cut, makes_cut_left, makes_cut_right, makes_hide, makes_imply_left, makes_imply_right, makes_equivify, makes_commute}
@@ -166,42 +168,108 @@ goals_kept : (rows : List Provable) (main : ℕ) (pairs : List Pair) (q r : Prov
 goals_kept rows main pairs q _ stands (substitute _ _ x r at made well free gives) =
     as_many pairs x.goals r.goals gives.goals ∙ ap (λ (y : Provable). length y.goals) (at_one rows main x q at stands)
 
-module _ (p : Provable) (goal : ℕ) (there : IsPlace p.goals goal) (after : List Provable) (main : ℕ) (s : Sequent) (b : Behind p goal 1 p) where
-  pub cutting_box_ends : (now n j : ℕ) (c f h : Tree) → n ≡ now → From after main n p (cutting_box now (record { fact = main; goal = goal; s = s }) j c f h) →
-      Ends p goal there after
-  cutting_box_ends now n j c f h same from =
-      let w = pass after main (n + 1) p _ _ (pass after main n p _ _ from) in
-      let a = next w.rows after (n + 1 + 1) (now + 3) _ _ w.count (omega (arith, same)) w.taken in
-      let rows3 = w.rows ++ a.row ∷ [] in
-      let d = next rows3 after (now + 3) (now + 4) _ _ a.count (omega arith) a.others in
-      let rows4 = rows3 ++ d.row ∷ [] in
-      let one : length d.row.goals ≡ 1 = goals_kept rows3 (now + 3) _ a.row d.row a.at d.gives ∙ one_goal w.rows _ a.row a.gives in
-      let main4 : At rows4 main p = At-more rows3 (d.row ∷ []) main p (At-more w.rows (a.row ∷ []) main p w.stands) in
-      let e = next rows4 after (now + 4) (now + 5) _ _ d.count (omega arith) d.others in
-      let rows5 = rows4 ++ e.row ∷ [] in
+-- Behind the four first steps of `boxCut`: a row of so many goals is left, and the other rows are taken one after another.
+module _ (p : Provable) (goal : ℕ) (there : IsPlace p.goals goal) (after : List Provable) where
+  -- the last rule, on a goal that is left
+  cut_last : (rows : List Provable) (m n : ℕ) (q : Provable) (rule : Rule) → At rows m q → Behind p goal n q → 1 < n → Makes rule 1 →
+      Takes rows (Apply m (goal + 1) rule ∷ []) after → Ends p goal there after
+  cut_last rows m n q rule stands behind less makes taken =
+      let f = takes_first rows after (Apply m (goal + 1) rule) [] taken in
+      let ends : after ≡ rows ++ f.row ∷ [] = takes_none (rows ++ f.row ∷ []) after f.others in
+      record {
+        last = f.row;
+        is_last = subst (λ (t : List Provable). At t (length t) f.row) (sym ends) (last_at p goal there rows f.row);
+        n = n - 1 + 1;
+        behind = behind_rule p goal there rows m n 1 1 rule q f.row stands behind less makes f.is_its.given;
+      }
+
+  -- the merge of a row with one goal, and what follows
+  cut_second : (rows : List Provable) (m by n : ℕ) (q d : Provable) (rule : Rule) → m ≡ length rows → At rows m q → At rows by d → length d.goals ≡ 1 →
+      Behind p goal n q → 1 < n → Makes rule 1 → Takes rows (Merge m (goal + 1) by ∷ Apply (m + 1) (goal + 1) rule ∷ []) after → Ends p goal there after
+  cut_second rows m by n q d rule counted stands by_at one behind less makes taken =
+      let o = next rows after m (m + 1) (Merge m (goal + 1) by) (Apply (m + 1) (goal + 1) rule ∷ []) counted refl taken in
+      let h = behind_merge p goal there rows m n 1 by q o.row stands behind less o.gives in
+      let only : length h.0.goals ≡ 1 = ap (λ (y : Provable). length y.goals) (at_one rows by h.0 d h.1 by_at) ∙ one in
+      cut_last (rows ++ o.row ∷ []) (m + 1) (n - 1 + length h.0.goals) o.row rule o.at h.2 (omega (arith, only, less)) makes o.others
+
+  -- the merge of a row with any goals, and what follows
+  cut_first : (rows : List Provable) (m instance by n : ℕ) (q d : Provable) (rule : Rule) → m ≡ length rows → At rows m q → At rows by d → length d.goals ≡ 1 →
+      Behind p goal n q → n ≡ 3 → Makes rule 1 →
+      Takes rows (Merge m (goal + 2) instance ∷ Merge (m + 1) (goal + 1) by ∷ Apply (m + 1 + 1) (goal + 1) rule ∷ []) after → Ends p goal there after
+  cut_first rows m instance by n q d rule counted stands by_at one behind three makes taken =
+      let o = next rows after m (m + 1) (Merge m (goal + 2) instance) (Merge (m + 1) (goal + 1) by ∷ Apply (m + 1 + 1) (goal + 1) rule ∷ []) counted refl taken in
+      let h = behind_merge p goal there rows m n 2 instance q o.row stands behind (omega (arith, three)) o.gives in
+      cut_second (rows ++ o.row ∷ []) (m + 1) by (n - 1 + length h.0.goals) o.row d rule o.count o.at (At-more rows (o.row ∷ []) by d by_at) one h.2
+      (omega (arith, three)) makes o.others
+
+  -- three rules, and what follows
+  cut_rules : (rows : List Provable) (main m instance by : ℕ) (d : Provable) (one two three four : Rule) → m ≡ length rows → At rows main p → At rows by d →
+      length d.goals ≡ 1 → Behind p goal 1 p → Makes one 2 → Makes two 1 → Makes three 2 → Makes four 1 →
+      Takes rows (Apply main goal one ∷ Apply (m + 1) (goal + 1) two ∷ Apply (m + 1 + 1) (goal + 1) three ∷ Merge (m + 1 + 1 + 1) (goal + 2) instance ∷
+      Merge (m + 1 + 1 + 1 + 1) (goal + 1) by ∷ Apply (m + 1 + 1 + 1 + 1 + 1) (goal + 1) four ∷ []) after → Ends p goal there after
+  cut_rules rows main m instance by d one two three four counted stands by_at single behind m1 m2 m3 m4 taken =
       let zero_more : goal ≡ goal + 0 = omega arith in
-      let b5 : Behind p goal 2 e.row =
-      behind_rule p goal there rows4 main 1 0 2 (CutR j _) p e.row main4 b (omega arith) (makes_cut_right j _)
-      (subst (λ k. Gives rows4 (Apply main k (CutR j _)) e.row) zero_more e.gives) in
-      let k = next rows5 after (now + 5) (now + 6) _ _ e.count (omega arith) e.others in
-      let rows6 = rows5 ++ k.row ∷ [] in
-      let b6 : Behind p goal 2 k.row = behind_rule p goal there rows5 (now + 5) 2 1 1 (CoHideR j) e.row k.row e.at b5 (omega arith) (makes_hide j) k.gives in
-      let l = next rows6 after (now + 6) (now + 7) _ _ k.count (omega arith) k.others in
-      let rows7 = rows6 ++ l.row ∷ [] in
-      let b7 : Behind p goal 3 l.row =
-      behind_rule p goal there rows6 (now + 6) 2 1 2 (CutR 1 _) k.row l.row k.at b6 (omega arith) (makes_cut_right 1 _) l.gives in
-      let m = next rows7 after (now + 7) (now + 8) _ _ l.count (omega arith) l.others in
-      let rows8 = rows7 ++ m.row ∷ [] in
-      let b8 = behind_merge p goal there rows7 (now + 7) 3 2 (now + 2) l.row m.row l.at b7 (omega arith) m.gives in
-      let o = next rows8 after (now + 8) (now + 9) _ _ m.count (omega arith) m.others in
-      let rows9 = rows8 ++ o.row ∷ [] in
-      let b9 = behind_merge p goal there rows8 (now + 8) (3 - 1 + length b8.0.goals) 1 (now + 4) m.row o.row m.at b8.2 (omega arith) o.gives in
-      let d8 : At rows8 (now + 4) d.row =
-      At-more rows7 (m.row ∷ []) (now + 4) d.row (At-more rows6 (l.row ∷ []) (now + 4) d.row (At-more rows5 (k.row ∷ []) (now + 4) d.row
-      (At-more rows4 (e.row ∷ []) (now + 4) d.row d.at))) in
-      let only : length b9.0.goals ≡ 1 = ap (λ (y : Provable). length y.goals) (at_one rows8 (now + 4) b9.0 d.row b9.1 d8) ∙ one in
-      let z = takes_first rows9 after _ [] o.others in
-      let ends : after ≡ rows9 ++ z.row ∷ [] = takes_none (rows9 ++ z.row ∷ []) after z.others in
-      let last = behind_rule p goal there rows9 (now + 9) (3 - 1 + length b8.0.goals - 1 + length b9.0.goals) 1 1 (ImplyR 1) o.row z.row o.at b9.2
-      (omega (arith, only)) (makes_imply_right 1) z.is_its.given in
-      record { last = z.row; is_last = subst (λ t. At t (length t) z.row) (sym ends) (last_at p goal there rows9 z.row); n = _; behind = last }
+      let a = next rows after m (m + 1) (Apply main goal one) _ counted refl taken in
+      let ba : Behind p goal 2 a.row = behind_rule p goal there rows main 1 0 2 one p a.row stands behind (omega arith) m1 (subst (λ k. Gives rows (Apply main k one)
+      a.row) zero_more a.gives) in
+      let rows_a = rows ++ a.row ∷ [] in
+      let e = next rows_a after (m + 1) (m + 1 + 1) (Apply (m + 1) (goal + 1) two) _ a.count refl a.others in
+      let be : Behind p goal 2 e.row = behind_rule p goal there rows_a (m + 1) 2 1 1 two a.row e.row a.at ba (omega arith) m2 e.gives in
+      let rows_e = rows_a ++ e.row ∷ [] in
+      let k = next rows_e after (m + 1 + 1) (m + 1 + 1 + 1) (Apply (m + 1 + 1) (goal + 1) three) _ e.count refl e.others in
+      let bk : Behind p goal 3 k.row = behind_rule p goal there rows_e (m + 1 + 1) 2 1 2 three e.row k.row e.at be (omega arith) m3 k.gives in
+      cut_first (rows_e ++ k.row ∷ []) (m + 1 + 1 + 1) instance by 3 k.row d four k.count k.at
+      (At-more rows_e (k.row ∷ []) by d (At-more rows_a (e.row ∷ []) by d (At-more rows (a.row ∷ []) by d by_at))) single bk refl m4 k.others
+
+  -- the rule, its instance, and what follows
+  cut_rule : (rows : List Provable) (main m instance : ℕ) (name : List ℕ) (pairs : List Pair) (one two three four : Rule) → m ≡ length rows → At rows main p →
+      Behind p goal 1 p → Makes one 2 → Makes two 1 → Makes three 2 → Makes four 1 →
+      Takes rows (UseRule name ∷ Substitute (m + 1) pairs ∷ Apply main goal one ∷ Apply (m + 1 + 1 + 1) (goal + 1) two ∷
+      Apply (m + 1 + 1 + 1 + 1) (goal + 1) three ∷ Merge (m + 1 + 1 + 1 + 1 + 1) (goal + 2) instance ∷
+      Merge (m + 1 + 1 + 1 + 1 + 1 + 1) (goal + 1) (m + 1 + 1) ∷ Apply (m + 1 + 1 + 1 + 1 + 1 + 1 + 1) (goal + 1) four ∷ []) after → Ends p goal there after
+  cut_rule rows main m instance name pairs one two three four counted stands behind m1 m2 m3 m4 taken =
+      let a = next rows after m (m + 1) (UseRule name) _ counted refl taken in
+      let rows_a = rows ++ a.row ∷ [] in
+      let d = next rows_a after (m + 1) (m + 1 + 1) (Substitute (m + 1) pairs) _ a.count refl a.others in
+      let single : length d.row.goals ≡ 1 = goals_kept rows_a (m + 1) pairs a.row d.row a.at d.gives ∙ one_goal rows name a.row a.gives in
+      cut_rules (rows_a ++ d.row ∷ []) main (m + 1 + 1) instance (m + 1 + 1) d.row one two three four d.count
+      (At-more rows_a (d.row ∷ []) main p (At-more rows (a.row ∷ []) main p stands)) d.at single behind m1 m2 m3 m4 d.others
+
+-- the numbers of rows one after another
+record Numbers (n : ℕ) : Type 0 where
+  three : n + 3 ≡ n + 1 + 1 + 1
+  four : n + 4 ≡ n + 1 + 1 + 1 + 1
+  five : n + 5 ≡ n + 1 + 1 + 1 + 1 + 1
+  six : n + 6 ≡ n + 1 + 1 + 1 + 1 + 1 + 1
+  seven : n + 7 ≡ n + 1 + 1 + 1 + 1 + 1 + 1 + 1
+  eight : n + 8 ≡ n + 1 + 1 + 1 + 1 + 1 + 1 + 1 + 1
+  nine : n + 9 ≡ n + 1 + 1 + 1 + 1 + 1 + 1 + 1 + 1 + 1
+
+numbers : (n : ℕ) → Numbers n
+numbers n = record {
+  three = omega arith;
+  four = omega arith;
+  five = omega arith;
+  six = omega arith;
+  seven = omega arith;
+  eight = omega arith;
+  nine = omega arith;
+}
+
+-- the steps behind the instance of the axiom, by the numbers of their rows
+abbrev CutSteps : (main goal instance : ℕ) (pairs : List Pair) (j : ℕ) (h g : Tree) → (three four five six seven eight nine : ℕ) → List Step
+CutSteps main goal instance pairs j h g three four five six seven eight nine =
+    UseRule (codes "G") ∷ Substitute three pairs ∷ Apply main goal (CutR j h) ∷ Apply five (goal + 1) (CoHideR j) ∷ Apply six (goal + 1) (CutR 1 g) ∷
+    Merge seven (goal + 2) instance ∷ Merge eight (goal + 1) four ∷ Apply nine (goal + 1) (ImplyR 1) ∷ []
+
+pub cutting_box_ends : (p : Provable) (goal : ℕ) (there : IsPlace p.goals goal) (after : List Provable) (main : ℕ) (s : Sequent) → Behind p goal 1 p →
+    (now j : ℕ) (c f h : Tree) → From after main now p (cutting_box now (record { fact = main; goal = goal; s = s }) j c f h) → Ends p goal there after
+cutting_box_ends p goal there after main s b now j c f h from =
+    let w = pass after main (now + 1) p _ _ (pass after main now p _ _ from) in
+    let k = numbers now in
+    cut_rule p goal there after w.rows main (now + 1 + 1) (now + 2) (codes "G") ((program_a ~> c) ∷ (any_p ~> imply h f) ∷ []) (CutR j (box c h)) (CoHideR j)
+    (CutR 1 (box c (imply h f))) (ImplyR 1) w.count w.stands b (makes_cut_right j (box c h)) (makes_hide j) (makes_cut_right 1 (box c (imply h f)))
+    (makes_imply_right 1)
+    (subst (λ xs. Takes w.rows xs after)
+    (λ i. CutSteps main goal (now + 2) ((program_a ~> c) ∷ (any_p ~> imply h f) ∷ []) j (box c h) (box c (imply h f)) (k.three i) (k.four i) (k.five i) (k.six i)
+    (k.seven i) (k.eight i) (k.nine i)) w.taken)

@@ -18,6 +18,7 @@ pub mod Plans
 pub mod Decided
 pub mod Finishing
 pub mod AtomLaws
+pub mod SomeAtom
 pub mod RuleArguments
 pub mod Elaborates
 pub mod CallsFit

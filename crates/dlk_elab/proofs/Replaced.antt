@@ -132,7 +132,7 @@ replaced_by rows after goal p s atom steps _ stands here (generalize j b f name 
 replaced_by rows after goal p s atom steps _ stands here (cut_box j b f h name given at) e taken =
     let are = steps_are (cutting_box (length rows) (record { fact = length rows; goal = goal; s = s }) j b f h) steps e in
     let there = At_place p.goals goal s here in
-    ended_replaces rows after goal p there stands (cutting_box_ends p goal there after (length rows) s (begun p goal s here) (length rows) (length rows) j b f h refl
+    ended_replaces rows after goal p there stands (cutting_box_ends p goal there after (length rows) s (begun p goal s here) (length rows) j b f h
     (record { rows = rows; count = refl; stands = stands; taken = subst (λ xs. Takes rows xs after) (sym are) taken }))
 replaced_by rows after goal p s atom steps _ stands here asks e taken = absurd (cc e)
 

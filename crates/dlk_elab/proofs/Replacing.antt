@@ -204,4 +204,4 @@ pass after fact n q step steps h =
 -- rows stay while steps are taken
 pub rows_kept : (rows after : List Provable) (steps : List Step) (n : ℕ) (q : Provable) → Takes rows steps after → At rows n q → At after n q
 rows_kept rows _ _ n q none h = h
-rows_kept rows _ _ n q (more {steps} {mid} {step} {r} taken is) h = At-more mid (r ∷ []) n q (rows_kept rows mid steps n q taken h)
+rows_kept rows _ _ n q (more {steps} {mid} {p} taken is) h = At-more mid (p ∷ []) n q (rows_kept rows mid steps n q taken h)

@@ -31,7 +31,7 @@ returns-in_err-take_in_turn-clause-fault g c =
     let trees = g.S.Store.trees c.planned.new.kernel.store in
     let rows = facts g.S.Store.trees c.args.kernel.now in
     let plan = c.in_ok-plan.plan.items in
-    let p = err_from_is_err_and c.from_residual.result c.from_residual.ensures.1 in
+    let p = err_from_is_err_and c.from_residual-in_err-take_in_turn.result c.from_residual-in_err-take_in_turn.ensures.1 in
     rw (p.1, p.2) (fault_of_step rows c.args.target.fact c.args.target.goal (atom_at (g.S.Store.trees c.args.kernel.now.store) c.args.atom.now) trees plan
     c.in_ok-plan.ensures.plan c.in_err-take_in_turn.field-0.0
     (subst (λ (r : List Provable). IsStepFault (FirstFault r (map (step_at trees) plan)) c.in_err-take_in_turn.field-0.0) c.planned.ensures.same.provables

@@ -1,6 +1,6 @@
 use Rattle.std.proofs.Common.{subst}
 use Rattle.dlk_tacsyn.specs.Ties.{atom_at}
-use Rattle.dlk_elab.specs.Calls.{IsCall, CallIsKnown, UsesNone}
+use Rattle.dlk_elab.specs.Calls.{IsCall, CallIsKnown}
 use Rattle.dlk_elab.proofs.CallsFit.{cut_formula}
 use Rattle.dlk_elab.proofs.elaborating.planned.Goals as goal
 
@@ -24,6 +24,3 @@ cut_box-requires-clause-formula g c =
 pub cut_box-requires-clause-call : goal.cut_box-requires-clause-call
 cut_box-requires-clause-call g c =
     let trees = g.S.Store.trees c.args.kernel.now.store in subst (IsCall trees (atom_at trees c.args.atom.now)) c.in-CutBox.is c.requires.call
-
-pub prove-unreachable-requires : goal.prove-unreachable-requires
-prove-unreachable-requires g c = subst UsesNone c.in-Use.is c.requires.no_use
