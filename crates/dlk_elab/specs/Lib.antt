@@ -3,3 +3,4 @@ pub mod Ties
 pub mod Calls
 pub mod Plans
 pub mod Forms
+pub mod Finishing

@@ -6,6 +6,7 @@ mod boxes;
 mod calls;
 mod elaborating;
 mod fault;
+mod finishing;
 mod instance;
 mod forms;
 mod laws;
