@@ -4,3 +4,4 @@ pub mod Calls
 pub mod Plans
 pub mod Forms
 pub mod Uses
+pub mod Finishing

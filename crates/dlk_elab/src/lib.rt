@@ -6,6 +6,7 @@ mod boxes;
 mod calls;
 mod elaborating;
 mod fault;
+mod finishing;
 mod forms;
 mod instance;
 mod keys;
