@@ -1,4 +1,5 @@
 pub mod Places
+pub mod Instances
 pub mod Taking
 pub mod Unequal
 pub mod Fitting

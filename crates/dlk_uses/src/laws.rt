@@ -2,7 +2,7 @@
 ghost use Rattle.std.specs.Prelude.{◌≡◌, ◌≢◌, ◌+◌, ℕ, List, [], ◌∷◌, length, Some};
 ghost use Rattle.dlk_tree.specs.Trees.{Tree};
 ghost use Rattle.dlk_calculus.specs.declared.reason.Reason.TheVariants.{NotEqual};
-ghost use Rattle.dlk_calculus.specs.Axioms.{axiom_named};
+ghost use Rattle.dlk_calculus.specs.Axioms.{Axiom, axiom_named};
 ghost use Rattle.dlk_calculus.specs.Notation.{box};
 ghost use Rattle.dlk_calculus.specs.Pairs.{Extra};
 ghost use Rattle.dlk_calculus.specs.Places.{At};
@@ -13,7 +13,7 @@ ghost use Rattle.dlk_calculus.specs.Steps.{Step, Leaf, Apply, Merge, IsGoal};
 ghost use Rattle.dlk_kernel.specs.Taken.{Takes};
 ghost use Rattle.dlk_uses.specs.Applying.{Applies};
 ghost use Rattle.dlk_uses.specs.Taking.{FirstFault};
-ghost use Rattle.dlk_uses.specs.Uses.{Use, Spot, instance, proved, Finishes, generalizing, cutting_box};
+ghost use Rattle.dlk_uses.specs.Uses.{Use, Spot, instance, proved, Finishes, HasShape, ProvesLast, generalizing, cutting_box};
 
 use dlk_calculus::laws::{
     derived_formulas, paths_join, put_is_filled, put_is_there, subtrees_keep,
@@ -37,6 +37,18 @@ pub fn uses_fit()
     paths_join();
     match_gives_target();
     axioms_have_own_names();
+    exchanged_over_kids();
+    subst_over_kids();
+    nothing_replaced();
+}
+
+/// An axiom has the shape that its form says, and so has its instance, which the last row proves where it is taken.
+pub fn uses_have_shapes()
+    ensures axioms { (name : List ℕ) (a : Axiom) → axiom_named name ≡ Some a → HasShape a.form a.formula }
+    ensures instances { (rows between : List Provable) (name : List ℕ) (extra : Extra) (a : Axiom) → axiom_named name ≡ Some a → Takes rows (instance (length rows) name extra) between → (f : Tree) × ProvesLast between f × HasShape a.form f }
+    ensures proved { (rows : List Provable) (f : Tree) → ProvesLast rows f → proved rows ≡ f }
+{
+    derived_formulas();
     exchanged_over_kids();
     subst_over_kids();
     nothing_replaced();
