@@ -56,7 +56,7 @@ shape_of I f h = imply_is f h
 shape_of F f h = tt
 
 -- what is found passes a test that all pass
-found_passes : {A : Type 0} (passes test : A → Bool) (xs : List A) (x : A) → IsTrue (list_all passes xs) → find test xs ≡ Some x → IsTrue (passes x)
+pub found_passes : {A : Type 0} (passes test : A → Bool) (xs : List A) (x : A) → IsTrue (list_all passes xs) → find test xs ≡ Some x → IsTrue (passes x)
 found_passes passes test [] x all e = absurd (none-some x e)
 found_passes passes test (y ∷ xs) x all e =
     let both = and_parts (passes y) (list_all passes xs) all in go both.0 (λ h. found_passes passes test xs x both.1 h) (test y) e
