@@ -1,4 +1,9 @@
 pub mod Places
+pub mod Kids
+pub mod Instances
+pub mod FormPlans
+pub mod Exchanges
+pub mod Turns
 pub mod Names
 pub mod Fitting
 pub mod Sames

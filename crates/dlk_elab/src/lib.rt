@@ -6,6 +6,10 @@ mod boxes;
 mod calls;
 mod elaborating;
 mod fault;
+mod finishing;
+mod forms;
+mod instance;
+mod keys;
 mod laws;
 mod plan;
 mod same;
@@ -13,6 +17,7 @@ mod spot;
 mod symbols;
 mod taking;
 mod uses;
+mod ways;
 
 pub use elaborating::{Elaborated, elaborate};
 pub use fault::TacFault;

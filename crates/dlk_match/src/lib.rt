@@ -3,14 +3,13 @@
 
 mod abstraction;
 mod found;
+mod instances;
 mod laws;
 
 pub use abstraction::abstract_var;
 pub use found::matching;
-pub use laws::one_match;
-mod instances;
-
 pub use instances::{
     axioms_have_own_names, exchanged_at_once, exchanged_over_kids, match_gives_target,
     match_is_proper, nothing_replaced, plugged_back, subst_over_kids,
 };
+pub use laws::one_match;
