@@ -1,3 +1,5 @@
+pub mod Abstracted
+pub mod OneMatch
 pub mod Targets
 pub mod Plugged
 pub mod Turns
@@ -11,3 +13,6 @@ pub mod AbstractMade
 pub mod SystemsMade
 pub mod Proper
 pub mod Nothing
+pub mod Taken
+pub mod Heads
+pub mod LeftKids

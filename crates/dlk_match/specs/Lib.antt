@@ -1,3 +1,6 @@
 pub mod Abstract
+pub mod Entered
 pub mod Matching
 pub mod Instances
+pub mod Tried
+pub mod Found

@@ -10,7 +10,7 @@ use Rattle.dlk_calculus.specs.Sequents.{Sequent, alone_right, IsFormula}
 use Rattle.dlk_calculus.specs.Provables.{Provable, started}
 use Rattle.dlk_calculus.specs.Steps.{Step, Start}
 use Rattle.dlk_rules.specs.declared.arguments.Side.{Side}
-use Rattle.dlk_tacsyn.specs.Tactics.{Argument, AtPlace, AnyLeft, AnyRight, Word, GivenFormula, GivenTerm, Atom, Tactic, Choice, Sequence, Branch, Repeat, One, Tactics, no_parts, part, count, EachAtom, EachAtomOf}
+use Rattle.dlk_tacsyn.specs.Tactics.{Argument, AtPlace, AnyLeft, AnyRight, Word, GivenFormula, GivenTerm, GivenExtra, Atom, Tactic, Choice, Sequence, Branch, Repeat, One, Tactics, no_parts, part, count, EachAtom, EachAtomOf}
 use Rattle.dlk_tacsyn.specs.Rows.{IsFitting}
 use Rattle.dlk_elab.specs.Atoms.{AtomWhy, AtomSteps, AtomFault, HasGoalAt, HasNoLocator, IsNamed, HasNames}
 use Rattle.dlk_strategy.specs.declared.fault.FailWhy.{FailWhy}
@@ -31,6 +31,7 @@ put_named n AnyRight h = tt
 put_named n (Word name) h = h
 put_named n (GivenFormula f) h = h
 put_named n (GivenTerm t) h = h
+put_named n (GivenExtra x) h = h
 
 all_named : (n : ℕ) (args : List Argument) → All IsNamed args → All IsNamed (map (put_place n) args)
 all_named n [] h = All-nil IsNamed

@@ -44,7 +44,9 @@ fn fail_word(why: FailWhy) -> &'static str
 {
     match why {
         FailWhy::WrongCount => "WrongCount",
+        FailWhy::UnknownName => "UnknownName",
         FailWhy::NoPlace => "NoPlace",
+        FailWhy::NoMatch => "NoMatch",
         FailWhy::Step(reason) => reason.word(),
     }
 }
