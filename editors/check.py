@@ -7,7 +7,7 @@ The keywords, operators and brackets of models come from the table of docs/LANGU
 docs/FILES.md, rules from there and from the drawings of docs/CALCULUS.md, axioms and axiomatic rules from its tables, and
 atoms from docs/STRATEGIES.md. Each set must be the same in the files for Vim and in those for editors that take TextMate
 grammars. The numbers of premises in tools/prooftree.py are compared with the drawings, and the commands of the man page
-with those that the completions have.
+and of the completions with those of README.md.
 """
 import json
 import re
@@ -169,12 +169,13 @@ def second_axioms():
 
 
 def commands():
-    """The commands of the man page and of the completions."""
-    page = text_of("docs", "dlk.1")
-    page = page[page.index(".Sh SYNOPSIS"):page.index(".Sh DESCRIPTION")]
+    """The commands of README.md, and those of the man page and of the completions."""
+    table = {spans(row[0])[0].split(" ")[0] for row in rows(text_of("README.md"), "| Words | What it does |")}
+    brief, _, told = text_of("docs", "dlk.1").partition(".Sh DESCRIPTION")
     bash = re.search(r"compgen -W '([^']*)'", text_of("completions", "dlk.bash")).group(1)
     zsh = re.findall(r"^  '(\w+):", text_of("completions", "_dlk"), re.M)
-    return set(re.findall(r"^\.Cm (\w+)$", page, re.M)), {"bash": set(bash.split()), "zsh": set(zsh)}
+    synopsis, items = re.findall(r"^\.Cm (\w+)$", brief, re.M), re.findall(r"^\.It Cm (\w+)", told, re.M)
+    return table, {"synopsis of docs/dlk.1": set(synopsis), "docs/dlk.1": set(items), "bash": set(bash.split()), "zsh": set(zsh)}
 
 
 def differences():
@@ -182,8 +183,8 @@ def differences():
     words = documented()
     pairs = [(kind, name, words[kind], found[kind]) for name, found in (("vim", vim()), ("textmate", textmate())) for kind in words]
     pairs += [("axioms of strategies", name, words["axioms"], found) for name, found in second_axioms().items()]
-    page, completions = commands()
-    pairs += [("commands", name, page, found) for name, found in completions.items()]
+    table, others = commands()
+    pairs += [("commands", name, table, found) for name, found in others.items()]
     pairs += [("rules that are drawn", "docs/CALCULUS.md", words["rules"], set(drawings())),
               ("axiomatic rules", "tools/prooftree.py", words["axiomatic rules"], set(prooftree.AXIOMATIC)),
               ("numbers of premises", "tools/prooftree.py", set(drawings().items()), set(prooftree.PREMISES.items()))]
