@@ -13,6 +13,7 @@ pub mod Proper
 pub mod Nothing
 pub mod Abstracted
 pub mod OneMatch
+pub mod Deciding
 pub mod Taken
 pub mod Heads
 pub mod LeftKids
