@@ -18,10 +18,10 @@ use Rattle.dlk_tree.specs.Trees.{Tree, node, Forest, no_kids, kid, forest, sort}
 use Rattle.dlk_tree.proofs.Same.{sort_decides}
 use Rattle.dlk_calculus.specs.Kids.{last}
 use Rattle.dlk_calculus.specs.Pairs.{Extra, replacement}
-use Rattle.dlk_calculus.specs.Subst.{Member, Equation, Constant, members}
+use Rattle.dlk_calculus.specs.Subst.{Member, Equation, members}
 use Rattle.dlk_calculus.proofs.Decide.{is_true, both, same_op, same_tree}
 use Rattle.dlk_match.specs.Abstract.{abstracted}
-use Rattle.dlk_match.specs.Matching.{renamed_to, NameIs, GetsName, ReplacementIs, GetsReplacement, Over, IsAppliedTo, Application, of_nothing, of_variable, system_of, TakeMembers, constant, equation, equation_first, equation_last, two_constants, SystemMatches, MatchesAt, Matches, MatchesAll, is_own, old_names, new_names, AreGiven, AreApart, renamed_pairs, Match}
+use Rattle.dlk_match.specs.Matching.{renamed_to, NameIs, GetsName, ReplacementIs, GetsReplacement, Over, IsAppliedTo, Application, of_nothing, of_variable, system_of, TakeMembers, constant, equation, equation_first, equation_last, two_constants, SystemMatches, MatchesAt, Matches, MatchesAll, is_own, old_names, new_names, AreGiven, AreApart, Match}
 use Rattle.dlk_match.specs.Tried.{name_in}
 use Rattle.dlk_match.proofs.OneMatch.{one_name, one_replacement, one_variable, one_taken, one_node, one_matches, last_of, front_of, last_is, front_is}
 
@@ -139,7 +139,8 @@ TakenLast s x _ _ old new = ⊥
 abbrev TakenBy : List OdeItem → List Member → Extra → Extra → Type 0
 TakenBy (Item.Const s ∷ []) ms old new = GetsReplacement s (system_of ms) old new
 TakenBy (Item.Evolve x ∷ []) (Equation y e ∷ []) old new = GetsName x y old new
-TakenBy (Item.Evolve x ∷ Item.Const s ∷ []) (Equation y e ∷ m ∷ ms) old new = (mid : Extra) × GetsName x y old mid × GetsReplacement s (system_of (m ∷ ms)) mid new
+TakenBy (Item.Evolve x ∷ Item.Const s ∷ []) (Equation y e ∷ m ∷ ms) old new =
+    (mid : Extra) × GetsName x y old mid × GetsReplacement s (system_of (m ∷ ms)) mid new
 TakenBy (Item.Const s ∷ Item.Evolve x ∷ []) ms old new = TakenLast s x (front_of ms) (last_of ms) old new
 TakenBy (Item.Const s ∷ Item.Const t ∷ []) (m ∷ n ∷ ms) old new =
     (mid : Extra) × GetsReplacement s (system_of (m ∷ [])) old mid × GetsReplacement t (system_of (n ∷ ms)) mid new
@@ -163,7 +164,8 @@ split m n (k ∷ ms) = ap (λ rest. m ∷ rest) (split n k ms)
 module _ (s : Sym) (x : List ℕ) (old : Extra) where
   last_leads : (front : List Member) (l : Member) → Leads (TakenLast s x front l old)
   last_leads (m ∷ ms) (Equation y e) =
-      in_turn (GetsReplacement s (system_of (m ∷ ms)) old) (GetsName x y) (one_replacement s (system_of (m ∷ ms)) old) (gets_replacement s (system_of (m ∷ ms)) old) (gets_name x y)
+      in_turn (GetsReplacement s (system_of (m ∷ ms)) old) (GetsName x y) (one_replacement s (system_of (m ∷ ms)) old)
+      (gets_replacement s (system_of (m ∷ ms)) old) (gets_name x y)
   last_leads _ _ = no (λ q. q.1)
 
   behind_front : (all front : List Member) (l : Member) (new : Extra) → all ≡ front ++ l ∷ [] → TakenLast s x front l old new
@@ -222,9 +224,9 @@ module _ (Kids : Forest → Extra → Extra → Type 0) (decide : (es : Forest) 
     | yes h ↦ by_same (in_turn (GetsName x h.0 old) (Kids ks) (one_name x h.0 old) (gets_name x h.0 old) (decide ks))
         (λ p. (p.0, (h.0, p.1.0, p.1.1, (ks, ap (λ (o : Op). node o ks) h.1, p.1.2))))
         (λ q.
-            let nodes = one_node q.1.3.1 refl in
-            let name = same_Some q.1.0 h.0 (sym (its q.1.0) ∙ ap name_in (nodes.0 ∙ h.1) ∙ its h.0) in
-            (q.0, (q.1.1, subst (λ y. GetsName x y old q.1.1) name q.1.2, subst (λ es. Kids es q.1.1 q.0) nodes.1 q.1.3.2)))
+        let nodes = one_node q.1.3.1 refl in
+        let name = same_Some q.1.0 h.0 (sym (its q.1.0) ∙ ap name_in (nodes.0 ∙ h.1) ∙ its h.0) in
+        (q.0, (q.1.1, subst (λ y. GetsName x y old q.1.1) name q.1.2, subst (λ es. Kids es q.1.1 q.0) nodes.1 q.1.3.2)))
     | no n ↦ no (λ q. n (q.1.0, sym (one_node q.1.3.1 refl).0))
   ]
 
@@ -309,7 +311,8 @@ match_leads own key e given = elim (given_decided own given.renames) [
   ]
 ]
 
-pub some_match : (own : List (List ℕ)) (key e : Tree) (given : Extra) → ((extra : Extra) × Match key own e given extra) ⊎ ((extra : Extra) → ¬ Match key own e given extra)
+pub some_match : (own : List (List ℕ)) (key e : Tree) (given : Extra)
+    → ((extra : Extra) × Match key own e given extra) ⊎ ((extra : Extra) → ¬ Match key own e given extra)
 some_match own key e given = elim (match_leads own key e given) [
   | yes p ↦ inl p
   | no n ↦ inr (λ extra q. n (extra, q))
