@@ -16,3 +16,4 @@ pub mod Nothing
 pub mod Taken
 pub mod Heads
 pub mod LeftKids
+pub mod SameSort
