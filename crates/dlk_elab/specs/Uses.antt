@@ -12,7 +12,9 @@ use Rattle.dlk_sequent.specs.declared.sequent.Place.{Place}
 use Rattle.dlk_sequent.specs.declared.sequent.Sequent.{Sequent}
 use Rattle.dlk_sequent.specs.Sequents.{sequent_at, IsKnown}
 use Rattle.dlk_sequent.specs.Spines.{Way, IsSpineOf}
-use Rattle.dlk_uses.specs.Uses.{right_of, formula_at}
+use Rattle.dlk_uses.specs.Uses.{right_of, formula_at, key, may_stand}
+use Rattle.dlk_elab.specs.Calls.{direction_of}
+use Rattle.dlk_elab.specs.declared.calls.UseCall.{UseCall}
 use Rattle.dlk_elab.specs.declared.keys.Named.{Named}
 
 -- the tree has a kid
@@ -52,3 +54,11 @@ pub record IsWayAt (trees : List Tree) (s : Sequent) (place : Place) (path : Lis
 -- there is no such way
 abbrev pub HasNoWay : List Tree → Sequent → Place → List ℕ → Type 0
 HasNoWay trees s place path = (e t : Tree) → formula_at (sequent_at trees s) place ≡ Some e → ¬ (subtree e path ≡ Some t)
+
+-- what is looked for of the axiom
+abbrev pub wanted : List Tree → Named → UseCall → Tree
+wanted trees named u = key named.form (direction_of u.direction) u.place (tree trees named.formula)
+
+-- it may be used so
+abbrev pub MayBeUsed : Named → UseCall → Type 0
+MayBeUsed named u = IsTrue (may_stand named.form (direction_of u.direction) u.place u.path.now)
