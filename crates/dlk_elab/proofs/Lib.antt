@@ -1,5 +1,6 @@
 pub mod Places
 pub mod Kids
+pub mod Finding
 pub mod Instances
 pub mod FormPlans
 pub mod Exchanges
