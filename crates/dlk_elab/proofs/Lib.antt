@@ -25,3 +25,4 @@ pub mod Elaborates
 pub mod CallsFit
 pub mod BoxPlans
 pub mod BoxAsks
+pub mod Reaching

@@ -1,21 +1,28 @@
 -- What a use of an axiom finds, over the ids of a store.
 use Rattle.std.specs.Prelude.{◌≡◌, ◌≤◌, ℕ, List, [], length, Option, Some, IsTrue}
 use Rattle.std.specs.Option.{option_copied}
-use Rattle.dlk_tree.specs.Trees.{Tree, node, Forest, no_kids, kid}
+use Rattle.dlk_tree.specs.declared.op.Sort.TheVariants.{Formula}
+use Rattle.dlk_tree.specs.Trees.{Tree, sort, node, Forest, no_kids, kid}
 use Rattle.dlk_store.specs.declared.Id.{Id}
 use Rattle.dlk_store.specs.Stores.{IsId, tree, StandsFor}
 use Rattle.dlk_calculus.specs.declared.form.AxiomForm.{AxiomForm}
 use Rattle.dlk_calculus.specs.declared.form.AxiomForm.TheVariants.{E, Q, C, R, I, F}
 use Rattle.dlk_calculus.specs.Axioms.{Axiom, axiom_named}
+use Rattle.dlk_calculus.specs.Limits.{most_formulas}
 use Rattle.dlk_calculus.specs.Paths.{subtree}
+use Rattle.dlk_calculus.specs.Provables.{Provable}
+use Rattle.dlk_calculus.specs.Sequents.{Sequent as TreeSequent}
+use Rattle.dlk_calculus.specs.Steps.{IsGoal}
 use Rattle.dlk_sequent.specs.declared.sequent.Place.{Place}
 use Rattle.dlk_sequent.specs.declared.sequent.Sequent.{Sequent}
 use Rattle.dlk_sequent.specs.Sequents.{sequent_at, IsKnown}
-use Rattle.dlk_sequent.specs.Spines.{Way, IsSpineOf}
+use Rattle.dlk_sequent.specs.Spines.{Way, top, path_of, IsSpine, IsSpineOf}
 use Rattle.dlk_uses.specs.Uses.{right_of, formula_at, key, may_stand}
 use Rattle.dlk_elab.specs.Calls.{direction_of}
 use Rattle.dlk_elab.specs.declared.calls.UseCall.{UseCall}
 use Rattle.dlk_elab.specs.declared.keys.Named.{Named}
+use Rattle.dlk_elab.specs.declared.plan.Target.{Target}
+use Rattle.dlk_elab.specs.declared.ways.Reached.{Reached}
 
 -- the tree has a kid
 abbrev pub HasKids : Tree → Type 0
@@ -54,6 +61,23 @@ pub record IsWayAt (trees : List Tree) (s : Sequent) (place : Place) (path : Lis
 -- there is no such way
 abbrev pub HasNoWay : List Tree → Sequent → Place → List ℕ → Type 0
 HasNoWay trees s place path = (e t : Tree) → formula_at (sequent_at trees s) place ≡ Some e → ¬ (subtree e path ≡ Some t)
+
+-- where a use acts: the formula at the place of the goal, and the way along the path in it
+pub record IsReached (rows : List Provable) (target : Target) (trees : List Tree) (place : Place) (path : List ℕ) (reached : Reached) : Type 0 where
+  pub s : TreeSequent
+  pub is_goal : IsGoal rows target.fact target.goal s
+  pub stands : formula_at s place ≡ Some (tree trees (top reached.way))
+  pub formula : sort (tree trees (top reached.way)) ≡ Formula
+  pub spine : IsSpine trees reached.way
+  pub goes : path_of reached.way ≡ path
+  pub right : reached.right ≡ length s.succ
+  pub few : reached.right ≤ most_formulas
+
+-- there is no such place in the goal
+pub record IsNotThere (rows : List Provable) (target : Target) (place : Place) (path : List ℕ) : Type 0 where
+  pub s : TreeSequent
+  pub is_goal : IsGoal rows target.fact target.goal s
+  pub none : (e t : Tree) → formula_at s place ≡ Some e → ¬ (subtree e path ≡ Some t)
 
 -- what is looked for of the axiom
 abbrev pub wanted : List Tree → Named → UseCall → Tree
