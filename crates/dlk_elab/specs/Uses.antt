@@ -17,12 +17,16 @@ use Rattle.dlk_sequent.specs.declared.sequent.Place.{Place}
 use Rattle.dlk_sequent.specs.declared.sequent.Sequent.{Sequent}
 use Rattle.dlk_sequent.specs.Sequents.{sequent_at, IsKnown}
 use Rattle.dlk_sequent.specs.Spines.{Way, top, path_of, IsSpine, IsSpineOf}
-use Rattle.dlk_uses.specs.Uses.{right_of, formula_at, key, may_stand}
+use Rattle.dlk_sequent.specs.Extras.{extra_at, IsKnownExtra}
+use Rattle.dlk_tacsyn.specs.Tactics.{Atom}
+use Rattle.dlk_uses.specs.Uses.{Use, right_of, formula_at, key, may_stand}
+use Rattle.dlk_elab.specs.Atoms.{Asks, Instance, MatchesThere}
 use Rattle.dlk_elab.specs.Calls.{direction_of}
 use Rattle.dlk_elab.specs.declared.calls.UseCall.{UseCall}
 use Rattle.dlk_elab.specs.declared.keys.Named.{Named}
 use Rattle.dlk_elab.specs.declared.plan.Target.{Target}
 use Rattle.dlk_elab.specs.declared.ways.Reached.{Reached}
+use Rattle.dlk_elab.specs.declared.uses.Found.{Found}
 
 -- the tree has a kid
 abbrev pub HasKids : Tree → Type 0
@@ -86,3 +90,23 @@ wanted trees named u = key named.form (direction_of u.direction) u.place (tree t
 -- it may be used so
 abbrev pub MayBeUsed : Named → UseCall → Type 0
 MayBeUsed named u = IsTrue (may_stand named.form (direction_of u.direction) u.place u.path.now)
+
+-- What a use finds on a goal: it asks for the instance with these names and replacements, on the formula at the way's top; and what the
+-- steps need of that.
+pub record IsFound (rows : List Provable) (target : Target) (atom : Atom) (trees : List Tree) (u : UseCall) (found : Found) : Type 0 where
+  pub s : TreeSequent
+  pub is_goal : IsGoal rows target.fact target.goal s
+  pub used : Use
+  pub asks : Asks (length rows) target.fact target.goal s atom (Instance used (extra_at trees found.extra) (tree trees (top found.way)))
+  pub is_axiom : axiom_named u.name.now ≡ Some used.its_axiom
+  pub form : used.its_axiom.form ≡ found.form
+  pub direction : used.direction ≡ direction_of u.direction
+  pub place : used.place ≡ u.place
+  pub path : used.path ≡ path_of found.way
+  pub may : IsTrue (may_stand used.its_axiom.form used.direction used.place used.path)
+  pub matches : MatchesThere used (tree trees found.way.found) (extra_at trees found.extra)
+  pub known : IsKnownExtra trees found.extra
+  pub spine : IsSpine trees found.way
+  pub formula : sort (tree trees (top found.way)) ≡ Formula
+  pub right : found.right ≡ length s.succ
+  pub few : found.right ≤ most_formulas
