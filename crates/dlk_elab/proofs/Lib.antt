@@ -26,3 +26,4 @@ pub mod CallsFit
 pub mod BoxPlans
 pub mod BoxAsks
 pub mod Reaching
+pub mod UseFound
