@@ -18,3 +18,4 @@ pub mod RuleArguments
 pub mod Elaborates
 pub mod CallsFit
 pub mod BoxPlans
+pub mod FinishPlans

@@ -77,6 +77,7 @@ fn sides_of<S: Store, L: Ledger>(store: &S, id: Id, steps: &mut Steps<L>) -> Sid
     ensures { AreSides (S.trees store.now) (tree (S.trees store.now) id) result }
 {
     let node = store.look(id, steps);
+    prove!(node.kids.len() == 2);
     let [left, right] = node.kids else {
         unreachable!();
     };
