@@ -40,25 +40,25 @@ generalizes_planned : (trees : List Tree) (target : Target) (boxed : Boxed) (s :
 generalizes_planned trees target boxed s h k = record {
   are = refl;
   known =
-    let K = HasKnownIds trees in
-    let last : Step = step.Merge (target.rows + 3) target.goal (target.rows + 2) in
-    let third : Step = step.Apply target.fact target.goal (rule.CoHideR boxed.place) in
-    let p : Pair = record { sym = program_a; by = boxed.program } in
-    let q : Pair = record { sym = any_p; by = boxed.formula } in
-    let second : Step = step.Subst (target.rows + 1) (p ∷ q ∷ []) in
-    All-cons K (step.AxRule (codes "G")) (second ∷ third ∷ last ∷ []) tt
-    (All-cons K second (third ∷ last ∷ []) (known_two trees p q h k) (All-cons K third (last ∷ []) tt (All-cons K last [] tt (All-nil K))));
+      let K = HasKnownIds trees in
+      let last : Step = step.Merge (target.rows + 3) target.goal (target.rows + 2) in
+      let third : Step = step.Apply target.fact target.goal (rule.CoHideR boxed.place) in
+      let p : Pair = record { sym = program_a; by = boxed.program } in
+      let q : Pair = record { sym = any_p; by = boxed.formula } in
+      let second : Step = step.Subst (target.rows + 1) (p ∷ q ∷ []) in
+      All-cons K (step.AxRule (codes "G")) (second ∷ third ∷ last ∷ []) tt
+      (All-cons K second (third ∷ last ∷ []) (known_two trees p q h k) (All-cons K third (last ∷ []) tt (All-cons K last [] tt (All-nil K))));
 }
 
 pub generalizing_planned : (trees : List Tree) (target : Target) (boxed : Boxed) (s : Sequent) (steps : List Step) (name : List ℕ) (pairs : List Pair) →
     name ≡ codes "G" → pairs ≡ (record { sym = program_a; by = boxed.program }) ∷ (record { sym = any_p; by = boxed.formula }) ∷ [] →
     steps ≡ step.AxRule name ∷ step.Subst (target.rows + 1) pairs ∷ step.Apply target.fact target.goal (rule.CoHideR boxed.place) ∷
-        step.Merge (target.rows + 3) target.goal (target.rows + 2) ∷ [] →
+    step.Merge (target.rows + 3) target.goal (target.rows + 2) ∷ [] →
     IsId trees boxed.program → IsId trees boxed.formula →
     ArePlanned trees steps (generalizing target.rows (goal_at target s) boxed.place (tree trees boxed.program) (tree trees boxed.formula))
 generalizing_planned trees target boxed s steps name pairs name_is pairs_are steps_are h k =
     let e : steps ≡ generalizes target boxed = steps_are ∙ (λ i. step.AxRule (name_is i) ∷ step.Subst (target.rows + 1) (pairs_are i) ∷
-        step.Apply target.fact target.goal (rule.CoHideR boxed.place) ∷ step.Merge (target.rows + 3) target.goal (target.rows + 2) ∷ []) in
+    step.Apply target.fact target.goal (rule.CoHideR boxed.place) ∷ step.Merge (target.rows + 3) target.goal (target.rows + 2) ∷ []) in
     subst (λ xs. ArePlanned trees xs (generalizing target.rows (goal_at target s) boxed.place (tree trees boxed.program) (tree trees boxed.formula))) (sym e)
     (generalizes_planned trees target boxed s h k)
 

@@ -1,7 +1,6 @@
 -- The steps behind an instance: the trees that they need, over a store that grows, and the uses that they finish.
-use Rattle.std.proofs.Common.{◌≡◌, ℕ, List, [], ◌∷◌, length, map, refl, sym, ap, subst, ◌∙◌, arith}
+use Rattle.std.proofs.Common.{◌≡◌, ℕ, List, [], ◌∷◌, length, refl, sym, ap, subst, ◌∙◌, arith}
 use Rattle.dlk_tree.specs.declared.op.Op.{Op}
-use Rattle.dlk_tree.specs.declared.op.Sort.{Sort}
 use Rattle.dlk_tree.specs.declared.op.Sort.TheVariants.{Formula}
 use Rattle.dlk_tree.specs.Trees.{Tree, node, sort, kids_of, trees_in}
 use Rattle.dlk_store.specs.declared.Id.{Id}
@@ -11,8 +10,7 @@ use Rattle.dlk_calculus.specs.Paths.{IsInnermost}
 use Rattle.dlk_calculus.specs.Sequents.{Sequent}
 use Rattle.dlk_sequent.specs.declared.sequent.Place.TheVariants.{Succ}
 use Rattle.dlk_rules.specs.declared.step.Step.{Step}
-use Rattle.dlk_rules.specs.Steps.{step_at}
-use Rattle.dlk_uses.specs.Uses.{Direction, Forwards, Backwards, Finishes, IsAround, smallest, equivalence, equation, conditional_equivalence, conditional_equation, implication, fact, left_of, right_of, by_equivalence, by_equation, by_conditional_equivalence, by_conditional_equation, by_implication, by_fact}
+use Rattle.dlk_uses.specs.Uses.{Direction, Forwards, Backwards, Finishes, smallest, equivalence, equation, conditional_equivalence, conditional_equation, implication, fact, left_of, right_of, by_equivalence, by_equation, by_conditional_equivalence, by_conditional_equation, by_implication, by_fact}
 use Rattle.dlk_elab.specs.declared.forms.Aim.{Aim}
 use Rattle.dlk_elab.specs.declared.forms.Exchanged.{Exchanged}
 use Rattle.dlk_elab.specs.declared.forms.Equated.{Equated}
@@ -52,12 +50,12 @@ pub exchange_same : {trees : List Tree} {direction : Direction} {path : List ℕ
     AreExchangeTrees trees direction e path l r x → AreExchangeTrees trees direction e' path l' r' x
 exchange_same {trees} {direction} {path} {e} {e'} {l} {l'} {r} {r'} x ee ll rr are =
     subst (λ t. AreExchangeTrees trees direction t path l' r' x) ee
-      (subst (λ t. AreExchangeTrees trees direction e path t r' x) ll (subst (λ t. AreExchangeTrees trees direction e path l t x) rr are))
+    (subst (λ t. AreExchangeTrees trees direction e path t r' x) ll (subst (λ t. AreExchangeTrees trees direction e path l t x) rr are))
 
 pub equated_on : {old new : List Tree} {path : List ℕ} {d d' l r : Tree} (y : Equated) → Keeps old new → d ≡ d' → AreEquatedTrees old d path l r y → AreEquatedTrees new d' path l r y
 equated_on {old} {new} {path} {d} {d'} {l} {r} y keeps dd are =
     subst (λ t. AreEquatedTrees new t path l r y) dd
-      (record { left = stands_on keeps y.left are.left; right = stands_on keeps y.right are.right; context = stands_on keeps y.context are.context })
+    (record { left = stands_on keeps y.left are.left; right = stands_on keeps y.right are.right; context = stands_on keeps y.context are.context })
 
 -- ---- uses
 
@@ -67,8 +65,8 @@ module _ (trees : List Tree) (now : ℕ) (aim : Aim) (path : List ℕ) (e f : Tr
       FinishUses trees now aim E path e f steps
   equivalence_finished l r ll rr planned s used right says = record {
     finishes = subst (Finishes now (spot_at aim.spot s) used e f)
-      ((λ i. by_equivalence now (spot_at aim.spot s) (says.place_is i) (says.direction_is i) e (says.path_is i) (sym ll i) (sym rr i)) ∙ sym (planned s right).are)
-      (equivalence says.form_is);
+        ((λ i. by_equivalence now (spot_at aim.spot s) (says.place_is i) (says.direction_is i) e (says.path_is i) (sym ll i) (sym rr i)) ∙ sym (planned s right).are)
+        (equivalence says.form_is);
     known = (planned s right).known;
   }
 
@@ -77,20 +75,20 @@ module _ (trees : List Tree) (now : ℕ) (aim : Aim) (path : List ℕ) (e f : Tr
       FinishUses trees now aim Q path e f steps
   equation_finished outer inner d l r ll rr formula innermost planned s used right says = record {
     finishes = subst (Finishes now (spot_at aim.spot s) used e f)
-      ((λ i. by_equation now (spot_at aim.spot s) (says.place_is i) (says.direction_is i) e outer inner d (sym ll i) (sym rr i)) ∙ sym (planned s right).are)
-      (equation outer inner d says.form_is (smallest formula (subst (λ p. IsInnermost e p outer inner d) (sym says.path_is) innermost)));
+        ((λ i. by_equation now (spot_at aim.spot s) (says.place_is i) (says.direction_is i) e outer inner d (sym ll i) (sym rr i)) ∙ sym (planned s right).are)
+        (equation outer inner d says.form_is (smallest formula (subst (λ p. IsInnermost e p outer inner d) (sym says.path_is) innermost)));
     known = (planned s right).known;
   }
 
   pub conditional_equation_finished : (outer inner : List ℕ) (d b l r : Tree) → b ≡ left_of f → l ≡ left_of (right_of f) → r ≡ right_of (right_of f) → sort e ≡ Formula →
       IsInnermost e path outer inner d →
       ((s : Sequent) → aim.spot.right ≡ length s.succ →
-        ArePlanned trees steps (by_conditional_equation now (spot_at aim.spot s) aim.place (direction_of aim.direction) e outer inner d b l r)) →
+      ArePlanned trees steps (by_conditional_equation now (spot_at aim.spot s) aim.place (direction_of aim.direction) e outer inner d b l r)) →
       FinishUses trees now aim R path e f steps
   conditional_equation_finished outer inner d b l r bb ll rr formula innermost planned s used right says = record {
     finishes = subst (Finishes now (spot_at aim.spot s) used e f)
-      ((λ i. by_conditional_equation now (spot_at aim.spot s) (says.place_is i) (says.direction_is i) e outer inner d (sym bb i) (sym ll i) (sym rr i)) ∙ sym (planned s right).are)
-      (conditional_equation outer inner d says.form_is (smallest formula (subst (λ p. IsInnermost e p outer inner d) (sym says.path_is) innermost)));
+        ((λ i. by_conditional_equation now (spot_at aim.spot s) (says.place_is i) (says.direction_is i) e outer inner d (sym bb i) (sym ll i) (sym rr i)) ∙ sym (planned s right).are)
+        (conditional_equation outer inner d says.form_is (smallest formula (subst (λ p. IsInnermost e p outer inner d) (sym says.path_is) innermost)));
     known = (planned s right).known;
   }
 
@@ -98,8 +96,8 @@ module _ (trees : List Tree) (now : ℕ) (aim : Aim) (path : List ℕ) (e f : Tr
       ((s : Sequent) → ArePlanned trees steps (by_conditional_equivalence now (spot_at aim.spot s) j b l r)) → FinishUses trees now aim C path e f steps
   conditional_equivalence_finished j b l r place bb ll rr planned s used right says = record {
     finishes = subst (Finishes now (spot_at aim.spot s) used e f)
-      ((λ i. by_conditional_equivalence now (spot_at aim.spot s) j (sym bb i) (sym ll i) (sym rr i)) ∙ sym (planned s).are)
-      (conditional_equivalence j says.form_is (says.place_is ∙ place));
+        ((λ i. by_conditional_equivalence now (spot_at aim.spot s) j (sym bb i) (sym ll i) (sym rr i)) ∙ sym (planned s).are)
+        (conditional_equivalence j says.form_is (says.place_is ∙ place));
     known = (planned s).known;
   }
 
@@ -107,8 +105,8 @@ module _ (trees : List Tree) (now : ℕ) (aim : Aim) (path : List ℕ) (e f : Tr
       ((s : Sequent) → aim.spot.right ≡ length s.succ → ArePlanned trees steps (by_implication now (spot_at aim.spot s) aim.place b h)) → FinishUses trees now aim I path e f steps
   implication_finished b h bb hh planned s used right says = record {
     finishes = subst (Finishes now (spot_at aim.spot s) used e f)
-      ((λ i. by_implication now (spot_at aim.spot s) (says.place_is i) (sym bb i) (sym hh i)) ∙ sym (planned s right).are)
-      (implication says.form_is);
+        ((λ i. by_implication now (spot_at aim.spot s) (says.place_is i) (sym bb i) (sym hh i)) ∙ sym (planned s right).are)
+        (implication says.form_is);
     known = (planned s right).known;
   }
 

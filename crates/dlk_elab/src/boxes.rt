@@ -121,9 +121,16 @@ pub(crate) fn generalizing(
     let pairs = generalized(alloc, boxed)?;
     let steps = vec![in alloc;
         Step::AxRule(rule),
-        Step::Subst { fact: now + 1, pairs },
+        Step::Subst {
+            fact: now + 1,
+            pairs
+        },
         target.apply(Rule::CoHideR(boxed.place)),
-        Step::Merge { fact: now + 3, goal: target.goal, by: now + 2 },
+        Step::Merge {
+            fact: now + 3,
+            goal: target.goal,
+            by: now + 2
+        },
     ]?;
     Ok(steps)
 }
@@ -182,15 +189,41 @@ pub(crate) fn cutting_box(
     let generalizes = implying(alloc, boxed, cut)?;
     let steps = vec![in alloc;
         Step::Axiom(axiom),
-        Step::Subst { fact: now + 1, pairs: distributes },
+        Step::Subst {
+            fact: now + 1,
+            pairs: distributes
+        },
         Step::AxRule(rule),
-        Step::Subst { fact: now + 3, pairs: generalizes },
+        Step::Subst {
+            fact: now + 3,
+            pairs: generalizes
+        },
         target.apply(Rule::CutR(boxed.place, cut.boxed)),
-        Step::Apply { fact: now + 5, goal: second, rule: Rule::CoHideR(boxed.place) },
-        Step::Apply { fact: now + 6, goal: second, rule: Rule::CutR(1, cut.box_implied) },
-        Step::Merge { fact: now + 7, goal: target.goal + 2, by: now + 2 },
-        Step::Merge { fact: now + 8, goal: second, by: now + 4 },
-        Step::Apply { fact: now + 9, goal: second, rule: Rule::ImplyR(1) },
+        Step::Apply {
+            fact: now + 5,
+            goal: second,
+            rule: Rule::CoHideR(boxed.place)
+        },
+        Step::Apply {
+            fact: now + 6,
+            goal: second,
+            rule: Rule::CutR(1, cut.box_implied)
+        },
+        Step::Merge {
+            fact: now + 7,
+            goal: target.goal + 2,
+            by: now + 2
+        },
+        Step::Merge {
+            fact: now + 8,
+            goal: second,
+            by: now + 4
+        },
+        Step::Apply {
+            fact: now + 9,
+            goal: second,
+            rule: Rule::ImplyR(1)
+        },
     ]?;
     Ok(steps)
 }

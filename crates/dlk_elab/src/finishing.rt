@@ -14,7 +14,10 @@ ghost use Rattle.dlk_elab.specs.Finishing.{HasForm, FinishUses, AreSides, AreAro
 ghost use Rattle.dlk_elab.specs.Forms.{new_side, AreExchangeTrees, AreEquatedTrees};
 
 use crate::calls::Direction;
-use crate::forms::{Aim, Equated, Exchanged, by_conditional_equation, by_conditional_equivalence, by_equation, by_equivalence, by_fact, by_implication};
+use crate::forms::{
+    Aim, Equated, Exchanged, by_conditional_equation, by_conditional_equivalence, by_equation,
+    by_equivalence, by_fact, by_implication,
+};
 use dlk_calculus::AxiomForm;
 use dlk_calculus::laws::{one_innermost, put_is_there};
 use dlk_kernel::Fact;
@@ -306,7 +309,15 @@ fn finish_conditional_equation<S: Store, L: Ledger>(
     let sides = sides_of(store, whole.right, steps);
     let around = ways_round(alloc, store, spine, steps)?;
     let x = equation_trees(alloc, store, &around, sides, aim.direction, steps)?;
-    let made = by_conditional_equation(alloc, now, aim, whole.left, whole.right, x.equated, x.exchanged)?;
+    let made = by_conditional_equation(
+        alloc,
+        now,
+        aim,
+        whole.left,
+        whole.right,
+        x.equated,
+        x.exchanged,
+    )?;
     Ok(made)
 }
 

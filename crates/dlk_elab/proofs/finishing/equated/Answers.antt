@@ -1,9 +1,9 @@
-use Rattle.std.proofs.Common.{◌≡◌, ◌∙◌}
+use Rattle.std.proofs.Common.{◌≡◌}
 use Rattle.dlk_tree.specs.declared.op.Op.TheVariants.{Dot}
 use Rattle.dlk_store.specs.Stores.{tree}
 use Rattle.dlk_calculus.specs.Notation.{leaf}
 use Rattle.dlk_calculus.specs.Paths.{put_at}
-use Rattle.dlk_sequent.specs.Spines.{top, path_of}
+use Rattle.dlk_sequent.specs.Spines.{path_of}
 use Rattle.dlk_elab.proofs.FinishPlans.{stands_itself, stands_as}
 use Rattle.dlk_elab.proofs.finishing.equated.Goals as goal
 

@@ -1,4 +1,4 @@
-use Rattle.std.proofs.Common.{◌≡◌, ap, sym, ◌∙◌}
+use Rattle.std.proofs.Common.{ap, sym, ◌∙◌}
 use Rattle.dlk_tree.specs.Trees.{sort}
 use Rattle.dlk_store.specs.Stores.{tree}
 use Rattle.dlk_calculus.specs.Paths.{put_at}
@@ -61,7 +61,7 @@ exchanged-requires-clause-first g c =
     let found = ap sort (c.spine_stays.ensures.found old now way ab c.requires.inner) ∙ c.requires.term in
     let side = ap sort (ab.same c.args.sides.left c.requires.left) ∙ c.requires.first in
     let put = c.put_is_there.ensures.sort (tree now (top way)) (path_of way) (tree now way.found) (tree now c.args.sides.left) (c.spine_leads.ensures.leads now way spine)
-          (side ∙ sym found) in
+    (side ∙ sym found) in
     ap sort c.in_ok-both.ensures.left.tree_is ∙ put ∙ ap sort (c.spine_stays.ensures.top old now way ab c.requires.inner ∙ c.requires.joins) ∙ c.requires.formula
 
 pub exchanged-requires-clause-second : goal.exchanged-requires-clause-second
@@ -74,7 +74,7 @@ exchanged-requires-clause-second g c =
     let found = ap sort (c.spine_stays.ensures.found old now way ab c.requires.inner) ∙ c.requires.term in
     let side = ap sort (ab.same c.args.sides.right c.requires.right) ∙ c.requires.second in
     let put = c.put_is_there.ensures.sort (tree now (top way)) (path_of way) (tree now way.found) (tree now c.args.sides.right) (c.spine_leads.ensures.leads now way spine)
-          (side ∙ sym found) in
+    (side ∙ sym found) in
     ap sort c.in_ok-both.ensures.right.tree_is ∙ put ∙ ap sort (c.spine_stays.ensures.top old now way ab c.requires.inner ∙ c.requires.joins) ∙ c.requires.formula
 
 pub returns-in_err-exchanged-clause-grows : goal.returns-in_err-exchanged-clause-grows
@@ -97,9 +97,9 @@ returns-clause-made g c =
     record {
       equated = equated_on c.in_ok-equated.equated be c.requires.joins c.in_ok-equated.ensures.made;
       exchanged = exchange_same c.in_ok-exchanged.exchanged (c.spine_stays.ensures.top old (g.S.Store.trees d) outer ad c.requires.outer)
-        (c.in_ok-both.ensures.left.tree_is ∙ (λ i. put_at (top_is i) (path_of inner) (l i)))
-        (c.in_ok-both.ensures.right.tree_is ∙ (λ i. put_at (top_is i) (path_of inner) (r i)))
-        c.in_ok-exchanged.ensures.made;
+          (c.in_ok-both.ensures.left.tree_is ∙ (λ i. put_at (top_is i) (path_of inner) (l i)))
+          (c.in_ok-both.ensures.right.tree_is ∙ (λ i. put_at (top_is i) (path_of inner) (r i)))
+          c.in_ok-exchanged.ensures.made;
     }
 
 pub returns-clause-grows : goal.returns-clause-grows

@@ -14,7 +14,7 @@ returns-in-C-clause-made g c =
     let trees = g.S.Store.trees c.args.store.now in
     let way = c.args.spine.now in
     if_ok c.finish_conditional_equivalence.result _ _ c.finish_conditional_equivalence.ensures
-      (λ steps made. rw c.in-C.is (made (path_of way) (tree trees (top way))))
+    (λ steps made. rw c.in-C.is (made (path_of way) (tree trees (top way))))
 
 pub returns-in-R-clause-made : goal.returns-in-R-clause-made
 returns-in-R-clause-made g c = if_ok c.finish_conditional_equation.result _ _ c.finish_conditional_equation.ensures.made (λ steps made. rw c.in-R.is made)
@@ -30,4 +30,4 @@ returns-in-F-clause-made g c =
     let trees = g.S.Store.trees c.args.store.now in
     let way = c.args.spine.now in
     if_ok c.finish_fact.result _ _ c.finish_fact.ensures
-      (λ steps made. rw c.in-F.is (made trees (path_of way) (tree trees (top way)) (tree trees c.args.f)))
+    (λ steps made. rw c.in-F.is (made trees (path_of way) (tree trees (top way)) (tree trees c.args.f)))

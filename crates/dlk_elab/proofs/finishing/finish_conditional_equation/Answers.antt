@@ -1,12 +1,10 @@
-use Rattle.std.proofs.Common.{◌≡◌, ap, sym, subst, ◌∙◌}
-use Rattle.dlk_store.specs.Stores.{tree, StandsFor, IsId}
+use Rattle.std.proofs.Common.{◌≡◌, ap, sym, ◌∙◌}
+use Rattle.dlk_store.specs.Stores.{tree, StandsFor}
 use Rattle.dlk_sequent.specs.Spines.{top, path_of}
 use Rattle.dlk_calculus.specs.Notation.{eq}
 use Rattle.dlk_calculus.specs.Paths.{put_at}
-use Rattle.dlk_uses.specs.Uses.{left_of, right_of, by_conditional_equation}
-use Rattle.dlk_elab.specs.Calls.{direction_of}
-use Rattle.dlk_elab.specs.Plans.{ArePlanned, spot_at}
-use Rattle.dlk_elab.proofs.FinishPlans.{conditional_equation_finished, exchange_same, stands_on, stands_as, known_on}
+use Rattle.dlk_uses.specs.Uses.{left_of, right_of}
+use Rattle.dlk_elab.proofs.FinishPlans.{conditional_equation_finished, exchange_same, stands_on, stands_as}
 use Rattle.dlk_elab.proofs.finishing.finish_conditional_equation.Goals as goal
 
 pub returns-clause-made : goal.returns-clause-made
@@ -32,6 +30,6 @@ returns-clause-made g c =
     let right_is : right_of f ≡ eq l r = ap right_of c.requires.form.0 ∙ (λ i. eq (sym ll i) (sym rr i)) in
     let stands : StandsFor new c.sides_of-whole.result.right (eq l r) = stands_as c.sides_of-whole.result.right right_is (stands_on keeps c.sides_of-whole.result.right whole.right) in
     conditional_equation_finished new c.args.now c.args.aim (path_of way) e f c.in_ok-made.made.items outer inner d (tree new c.sides_of-whole.result.left) l r
-      condition.tree_is ll rr c.requires.formula round.innermost
-      (λ s right. c.in_ok-made.ensures new s e outer inner d l r condition.known stands made.equated
-        (exchange_same c.in_ok-x.x.exchanged (ap (tree old) round.starts) (λ i. put_at d inner l) (λ i. put_at d inner r) made.exchanged) right)
+    condition.tree_is ll rr c.requires.formula round.innermost
+    (λ s right. c.in_ok-made.ensures new s e outer inner d l r condition.known stands made.equated
+    (exchange_same c.in_ok-x.x.exchanged (ap (tree old) round.starts) (λ i. put_at d inner l) (λ i. put_at d inner r) made.exchanged) right)

@@ -37,7 +37,7 @@ returns g c path e =
     let sides = c.sides_of-sides.ensures in
     let r : tree trees c.sides_of-sides.result.right ≡ right_of (right_of f) = sides.right.tree_is ∙ ap right_of whole.right.tree_is in
     let instance : StandsFor trees c.args.f (imply (tree trees c.sides_of-whole.result.left) (equiv (left_of (right_of f)) (tree trees c.sides_of-sides.result.right))) =
-          record { known = c.requires.instance; tree_is = is ∙ (λ i. imply (sym whole.left.tree_is i) (equiv (left_of (right_of f)) (sym r i))) } in
+    record { known = c.requires.instance; tree_is = is ∙ (λ i. imply (sym whole.left.tree_is i) (equiv (left_of (right_of f)) (sym r i))) } in
     conditional_equivalence_finished trees c.args.now c.args.aim path e f c.in_ok-made.made.items c.in-Succ.j (tree trees c.sides_of-whole.result.left) (left_of (right_of f))
-      (tree trees c.sides_of-sides.result.right) c.in-Succ.is whole.left.tree_is (λ i. left_of (right_of f)) r
-      (λ s. c.in_ok-made.ensures trees s (left_of (right_of f)) whole.left.known sides.right.known instance)
+    (tree trees c.sides_of-sides.result.right) c.in-Succ.is whole.left.tree_is (λ i. left_of (right_of f)) r
+    (λ s. c.in_ok-made.ensures trees s (left_of (right_of f)) whole.left.known sides.right.known instance)

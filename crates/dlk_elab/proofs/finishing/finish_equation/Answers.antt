@@ -1,5 +1,4 @@
-use Rattle.std.proofs.Common.{ap, subst}
-use Rattle.dlk_store.specs.declared.Id.{Id}
+use Rattle.std.proofs.Common.{ap}
 use Rattle.dlk_store.specs.Stores.{tree}
 use Rattle.dlk_sequent.specs.Spines.{top, path_of}
 use Rattle.dlk_calculus.specs.Paths.{put_at}
@@ -21,6 +20,6 @@ returns-clause-made g c =
     let e = tree old (top way) in
     let made = c.in_ok-x.ensures.made in
     equation_finished new c.args.now c.args.aim (path_of way) e (tree old c.args.f) c.in_ok-made.made.items outer inner d l r sides.left.tree_is sides.right.tree_is
-      c.requires.formula round.innermost
-      (λ s right. c.in_ok-made.ensures new s e outer inner d l r made.equated
-        (exchange_same c.in_ok-x.x.exchanged (ap (tree old) round.starts) (λ i. put_at d inner l) (λ i. put_at d inner r) made.exchanged) right)
+    c.requires.formula round.innermost
+    (λ s right. c.in_ok-made.ensures new s e outer inner d l r made.equated
+    (exchange_same c.in_ok-x.x.exchanged (ap (tree old) round.starts) (λ i. put_at d inner l) (λ i. put_at d inner r) made.exchanged) right)

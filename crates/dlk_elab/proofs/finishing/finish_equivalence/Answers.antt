@@ -13,4 +13,4 @@ returns-clause-made g c =
     let r = tree old c.sides_of-sides.result.right in
     let e = tree old (top way) in
     equivalence_finished new c.args.now c.args.aim (path_of way) e (tree old c.args.f) c.in_ok-made.made.items l r sides.left.tree_is sides.right.tree_is
-      (λ s right. c.in_ok-made.ensures new s e (path_of way) l r c.in_ok-x.ensures.made right)
+    (λ s right. c.in_ok-made.ensures new s e (path_of way) l r c.in_ok-x.ensures.made right)
