@@ -27,3 +27,4 @@ pub mod BoxPlans
 pub mod BoxAsks
 pub mod Reaching
 pub mod UseFound
+pub mod FinishPlans
