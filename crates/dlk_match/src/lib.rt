@@ -8,6 +8,7 @@ mod instances;
 mod laws;
 mod members;
 mod taking;
+mod walk;
 
 pub use abstraction::abstract_var;
 pub use found::matching;
