@@ -7,6 +7,7 @@ mod head;
 mod instances;
 mod laws;
 mod members;
+mod naming;
 mod taking;
 mod walk;
 
