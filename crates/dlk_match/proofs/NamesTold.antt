@@ -30,6 +30,10 @@ all_apart own renames = are_each (name_apart own) (λ r. r.1) renames
 
 -- ---- one by one
 
+pub each_none : (test : List ℕ × List ℕ → Bool) (name : List ℕ × List ℕ → List ℕ) (rest : Names) → length rest ≡ 0 → are_each test name rest ≡ true
+each_none test name [] e = refl
+each_none test name (r ∷ rest) e = absurd (omega (arith, e))
+
 pub each_next : (test : List ℕ × List ℕ → Bool) (name : List ℕ × List ℕ → List ℕ) (r : List ℕ × List ℕ) (rest : Names)
     → test r ≡ true → list_any (bytes_eq (name r)) (map name rest) ≡ false → are_each test name (r ∷ rest) ≡ are_each test name rest
 each_next test name r rest p q = go (test r) (list_any (bytes_eq (name r)) (map name rest)) p q
