@@ -18,3 +18,5 @@ pub mod Taken
 pub mod Heads
 pub mod LeftKids
 pub mod SameSort
+pub mod NamesTold
+pub mod FoundMatch

@@ -7,7 +7,9 @@ mod head;
 mod instances;
 mod laws;
 mod members;
+mod naming;
 mod taking;
+mod walk;
 
 pub use abstraction::abstract_var;
 pub use found::matching;
