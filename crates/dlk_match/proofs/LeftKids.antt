@@ -1,19 +1,24 @@
 -- The walk over key and target: what is left to match of their kids.
 use Rattle.std.proofs.Common.{◌≡◌, refl, sym, ap, subst, ◌∙◌, ℕ, ◌+◌, ◌<◌, ◌≤◌, List, [], ◌∷◌, length, get_or, drop, arith, Bool, true, false}
-use Rattle.std.specs.Prelude.{◌↔◌, All}
+use Rattle.std.specs.Prelude.{◌↔◌, ◌==◌, if◌then◌else◌, All}
+use Rattle.std.specs.Global.{Vec}
 use Rattle.std.proofs.lemmas.List.{drop_all}
 use Rattle.std.proofs.lemmas.List.Elements.{All-weaker, All-drop}
 use Rattle.dlk_tree.specs.declared.op.Op.{Op}
-use Rattle.dlk_tree.specs.Trees.{Tree, node, Forest, no_kids, kid}
+use Rattle.dlk_tree.specs.Trees.{Tree, node, Forest, no_kids, kid, size}
 use Rattle.dlk_store.specs.declared.Id.{Id}
 use Rattle.dlk_store.specs.Stores.{IsId, tree, kid_trees, Keeps}
-use Rattle.dlk_store.proofs.Kids.{kid_trees-drop, kid_trees-kept}
+use Rattle.dlk_store.proofs.Kids.{kid_trees-drop, kid_trees-kept, kid_smaller}
 use Rattle.dlk_calculus.specs.Pairs.{Extra as TreeExtra}
 use Rattle.dlk_sequent.specs.declared.extra.Extra.{Extra}
 use Rattle.dlk_sequent.specs.Extras.{extra_at, IsKnownExtra}
 use Rattle.dlk_sequent.proofs.KeptPairs.{pairs_at-kept, AreKnownPairs-kept}
 use Rattle.dlk_match.specs.Matching.{Matches, MatchesAll}
-use Rattle.dlk_match.specs.Tried.{Tried}
+use Rattle.dlk_match.specs.Tried.{Tried, HeadIs}
+use Rattle.dlk_match.specs.Rests.{rest_of, RestIs}
+use Rattle.dlk_match.specs.declared.head.Head.{Head}
+use Rattle.dlk_match.specs.declared.head.Head.TheVariants.{Refused, Taken, Left}
+use Rattle.dlk_match.specs.declared.walk.Rest.TheVariants.{Over, Kids}
 use Rattle.dlk_match.proofs.OneMatch.{one_matches}
 
 pub extra_kept : {old new : List Tree} → Keeps old new → (extra : Extra) → IsKnownExtra old extra → extra_at new extra ≡ extra_at old extra
@@ -88,17 +93,66 @@ pub unlike_many : (key target : Tree) (old new : TreeExtra) (trees now : List Tr
 unlike_many key target old new trees now ks es left unlike other p = unlike (as_many trees now ks es new other ((left other).0 p))
 
 -- at first all are left
-pub left_first : (key target : Tree) (old new : TreeExtra) {before now : List Tree} → Keeps before now → (op : Op) (ks es : List Id) → All (IsId before) ks
-    → key ≡ node op (kid_trees before ks)
-    → ((other : TreeExtra) → Matches (node op (kid_trees before ks)) target old other ↔ MatchesAll (kid_trees before ks) (kid_trees now es) new other)
+pub left_first : (key target : Tree) (old new : TreeExtra) {before now : List Tree} → Keeps before now → (ks es : List Id) → All (IsId before) ks
+    → ((other : TreeExtra) → Matches key target old other ↔ MatchesAll (kid_trees before ks) (kid_trees now es) new other)
     → IsLeft key target old now ks es 0 new
-left_first key target old new {before} {now} keeps op ks es known is left other =
+left_first key target old new {before} {now} keeps ks es known left other =
     let a = kid_trees-kept keeps ks known in
-    subst (λ Z. Z) (λ j. Matches (sym is j) target old other ↔ MatchesAll (sym a j) (kid_trees now es) new other) (left other)
+    subst (λ Z. Z) (λ j. Matches key target old other ↔ MatchesAll (sym a j) (kid_trees now es) new other) (left other)
 
--- the answer for the next kid
-pub tried_next : (key e : Tree) (old new : TreeExtra) (is : Bool) → is ≡ true → Tried (Matches key e) old new is → Matches key e old new
-tried_next key e old new is h p = subst (Tried (Matches key e) old new) h p
+-- the i-th kid, which is this one
+module _ (before mid : List Tree) (keeps : Keeps before mid) (ks : List Id) (i : ℕ) (k : Id) (within : i < length ks) (k_is : k ≡ get_or ks i k) (known : All (IsId before) ks) where
+  was_known : IsId before k
+  was_known = subst (IsId before) (sym k_is) (known i k within)
 
-pub tried_nowhere : (key e : Tree) (old new : TreeExtra) (is : Bool) → is ≡ false → Tried (Matches key e) old new is → (other : TreeExtra) → Matches key e old other → ⊥
-tried_nowhere key e old new is h p = subst (Tried (Matches key e) old new) h p
+  pub kid_known : IsId mid k
+  kid_known = omega (arith, was_known, keeps.known)
+
+  pub kid_less : (key : Tree) (op : Op) → key ≡ node op (kid_trees before ks) → size (tree mid k) < size key
+  kid_less key op is =
+      let less = kid_smaller before key op ks i k is within in
+      subst (λ t. size t < size key) (ap (tree before) (sym k_is) ∙ sym (keeps.same k was_known)) less
+
+-- the i-th kids, which are these, were tried
+module _ (key target : Tree) (old new : TreeExtra) (mid : List Tree) (ks es : List Id) (i : ℕ) (k e : Id) (within : i < length ks) (beside : i < length es)
+    (k_is : k ≡ get_or ks i k) (e_is : e ≡ get_or es i e) (left : IsLeft key target old mid ks es i new) where
+  these : (other : TreeExtra) → Matches (tree mid k) (tree mid e) new other ≡ Matches (tree mid (get_or ks i k)) (tree mid (get_or es i e)) new other
+  these other = λ j. Matches (tree mid (k_is j)) (tree mid (e_is j)) new other
+
+  pub kid_matches : {next : List Tree} → Keeps mid next → All (IsId mid) ks → All (IsId mid) es → (after : TreeExtra) (is : Bool) → is ≡ true
+      → Tried (Matches (tree mid k) (tree mid e)) new after is → IsLeft key target old next ks es (i + 1) after
+  kid_matches keeps ks_known es_known after is h tried =
+      let matches = subst (λ Z. Z) (these after) (subst (Tried (Matches (tree mid k) (tree mid e)) new after) h tried) in
+      left_kept key target old after keeps ks es (i + 1) ks_known es_known (left_next key target old new mid ks es i k e within beside left after matches)
+
+  pub kid_differs : (after : TreeExtra) (is : Bool) → is ≡ false → Tried (Matches (tree mid k) (tree mid e)) new after is
+      → (other : TreeExtra) → Matches key target old other → ⊥
+  kid_differs after is h tried =
+      let none = subst (Tried (Matches (tree mid k) (tree mid e)) new after) h tried in
+      left_nowhere key target old new mid ks es i k e within beside left (λ next p. none next (subst (λ Z. Z) (sym (these next)) p))
+
+-- ---- the roots
+
+module _ (before now : List Tree) (op : Op) (key target : Tree) (old new : TreeExtra) (keys : Vec Id) (node_is : key ≡ node op (kid_trees before keys.items))
+    (known : All (IsId before) keys.items) where
+  moved : (X : Tree → Type 0) → X (node op (kid_trees before keys.items)) → X key
+  moved X x = subst X (sym node_is) x
+
+  some_rest : (targets : Vec Id) (many : Bool) → (length keys.items == length targets.items) ≡ many → HeadIs op (kid_trees before keys.items) target now old new (Left targets)
+      → RestIs before now key target old new (if many then Kids keys targets else Over false)
+  some_rest targets true e h = record {
+    op = op;
+    node_is = node_is;
+    keys_known = known;
+    targets_known = h.0;
+    as_many = grind (arith, e);
+    left = moved (λ k. (other : TreeExtra) → Matches k target old other ↔ MatchesAll (kid_trees before keys.items) (kid_trees now targets.items) new other) h.1;
+  }
+  some_rest targets false e h =
+      let left = moved (λ k. (other : TreeExtra) → Matches k target old other ↔ MatchesAll (kid_trees before keys.items) (kid_trees now targets.items) new other) h.1 in
+      unlike_many key target old new before now keys.items targets.items left (λ same. absurd (grind (arith, e, same)))
+
+  pub rest_is : (head : Head) → HeadIs op (kid_trees before keys.items) target now old new head → RestIs before now key target old new (rest_of keys head)
+  rest_is Refused h = moved (λ k. (other : TreeExtra) → Matches k target old other → ⊥) h
+  rest_is Taken h = moved (λ k. Matches k target old new) h
+  rest_is (Left targets) h = some_rest targets (length keys.items == length targets.items) refl h

@@ -13,6 +13,10 @@ pub mod AbstractMade
 pub mod SystemsMade
 pub mod Proper
 pub mod Nothing
+pub mod Deciding
 pub mod Taken
 pub mod Heads
 pub mod LeftKids
+pub mod SameSort
+pub mod NamesTold
+pub mod FoundMatch
