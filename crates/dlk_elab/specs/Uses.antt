@@ -19,7 +19,9 @@ use Rattle.dlk_sequent.specs.Sequents.{sequent_at, IsKnown}
 use Rattle.dlk_sequent.specs.Spines.{Way, top, path_of, IsSpine, IsSpineOf}
 use Rattle.dlk_sequent.specs.Extras.{extra_at, IsKnownExtra}
 use Rattle.dlk_tacsyn.specs.Tactics.{Atom}
-use Rattle.dlk_uses.specs.Uses.{Use, right_of, formula_at, key, may_stand}
+use Rattle.dlk_uses.specs.Uses.{Use, ProvesLast, right_of, formula_at, key, may_stand}
+use Rattle.dlk_elab.specs.Finishing.{HasForm}
+use Rattle.dlk_elab.specs.declared.forms.Aim.{Aim}
 use Rattle.dlk_elab.specs.Atoms.{Asks, Instance, MatchesThere}
 use Rattle.dlk_elab.specs.Calls.{direction_of}
 use Rattle.dlk_elab.specs.declared.calls.UseCall.{UseCall}
@@ -110,3 +112,13 @@ pub record IsFound (rows : List Provable) (target : Target) (atom : Atom) (trees
   pub formula : sort (tree trees (top found.way)) ≡ Formula
   pub right : found.right ≡ length s.succ
   pub few : found.right ≤ most_formulas
+
+-- the last row proves an instance of an axiom of this form alone, which may be used at this place, where this tree is
+pub record ProvesForm (rows : List Provable) (form : AxiomForm) (place : Place) (t : Tree) : Type 0 where
+  pub f : Tree
+  pub last : ProvesLast rows f
+  pub has_form : HasForm form place t f
+
+-- where the use acts
+abbrev pub aim_of : Target → UseCall → ℕ → Aim
+aim_of target u right = record { spot = record { fact = target.fact; goal = target.goal; right = right }; place = u.place; direction = u.direction }

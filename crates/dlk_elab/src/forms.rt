@@ -198,7 +198,7 @@ fn exchange(alloc: Global, by: Fact, aim: Aim, new: Id) -> Result<Vec<Step>, All
 }
 
 /// Steps, and others behind them.
-fn joined(mut steps: Vec<Step>, more: Vec<Step>) -> Result<Vec<Step>, AllocError>
+pub(crate) fn joined(mut steps: Vec<Step>, more: Vec<Step>) -> Result<Vec<Step>, AllocError>
     ensures { IfOk result (λ all. all.items ≡ steps.items ++ more.items) }
 {
     for step in more {
