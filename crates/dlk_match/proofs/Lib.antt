@@ -1,4 +1,6 @@
 pub mod Targets
+pub mod NamesTold
+pub mod FoundMatch
 pub mod Plugged
 pub mod Turns
 pub mod AtOnce
@@ -16,5 +18,3 @@ pub mod OneMatch
 pub mod Taken
 pub mod Heads
 pub mod LeftKids
-pub mod NamesTold
-pub mod FoundMatch
