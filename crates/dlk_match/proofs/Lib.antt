@@ -1,6 +1,7 @@
 pub mod Targets
 pub mod NamesTold
 pub mod FoundMatch
+pub mod MatchingExamples
 pub mod Plugged
 pub mod Turns
 pub mod AtOnce
