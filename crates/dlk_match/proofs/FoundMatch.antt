@@ -1,6 +1,6 @@
 -- What was found by matching, against the definition of a match.
 use Rattle.std.proofs.Common.{◌≡◌, refl, sym, ap, subst, ◌∙◌, ℕ, List, [], ◌∷◌, Bool, true, false}
-use Rattle.std.specs.Prelude.{◌↔◌, IsTrue, All}
+use Rattle.std.specs.Prelude.{◌↔◌, IsTrue}
 use Rattle.std.proofs.lemmas.List.Elements.{All-map}
 use Rattle.dlk_tree.specs.Trees.{Tree}
 use Rattle.dlk_store.specs.Stores.{IsId}
@@ -9,7 +9,7 @@ use Rattle.dlk_sequent.specs.declared.subst.Pair.{Pair}
 use Rattle.dlk_sequent.specs.declared.extra.Extra.{Extra}
 use Rattle.dlk_sequent.specs.Substitutions.{pairs_at, pair_at, AreKnownPairs}
 use Rattle.dlk_sequent.specs.Extras.{extra_at, IsKnownExtra}
-use Rattle.dlk_match.specs.Matching.{Matches, Match, AreGiven, AreApart, renamed_symbol, renamed_pairs}
+use Rattle.dlk_match.specs.Matching.{Matches, AreGiven, AreApart, renamed_symbol, renamed_pairs}
 use Rattle.dlk_match.specs.Found.{HasNoMatch, IsMatch, pairs_renamed}
 use Rattle.dlk_match.proofs.Turns.{Names}
 use Rattle.dlk_match.proofs.OneMatch.{one_matches}

@@ -5,7 +5,7 @@ use Rattle.std.specs.Global.{Vec}
 use Rattle.std.proofs.lemmas.List.{drop_all}
 use Rattle.std.proofs.lemmas.List.Elements.{All-weaker, All-drop}
 use Rattle.dlk_tree.specs.declared.op.Op.{Op}
-use Rattle.dlk_tree.specs.Trees.{Tree, node, Forest, no_kids, kid, size}
+use Rattle.dlk_tree.specs.Trees.{Tree, node, kid, size}
 use Rattle.dlk_store.specs.declared.Id.{Id}
 use Rattle.dlk_store.specs.Stores.{IsId, tree, kid_trees, Keeps}
 use Rattle.dlk_store.proofs.Kids.{kid_trees-drop, kid_trees-kept, kid_smaller}

@@ -1,6 +1,9 @@
 pub mod Abstracted
 pub mod OneMatch
 pub mod Targets
+pub mod NamesTold
+pub mod FoundMatch
+pub mod MatchingExamples
 pub mod Plugged
 pub mod Turns
 pub mod AtOnce
@@ -18,5 +21,3 @@ pub mod Taken
 pub mod Heads
 pub mod LeftKids
 pub mod SameSort
-pub mod NamesTold
-pub mod FoundMatch

@@ -1,5 +1,5 @@
 -- Names that are given and names that are apart, told one by one.
-use Rattle.std.proofs.Common.{◌≡◌, refl, sym, ap, subst, ◌∙◌, ℕ, suc, zero, ◌+◌, ◌<◌, List, [], ◌∷◌, length, get_or, map, arith, Bool, true, false, not, ◌&&◌, ◌||◌}
+use Rattle.std.proofs.Common.{◌≡◌, refl, sym, ap, ℕ, suc, List, [], ◌∷◌, length, map, arith, Bool, true, false, not, ◌&&◌, ◌||◌}
 use Rattle.std.specs.Prelude.{◌↔◌, All, IsTrue}
 use Rattle.std.specs.List.{list_any}
 use Rattle.std.specs.Str.{bytes_eq}
@@ -7,7 +7,7 @@ use Rattle.std.proofs.lemmas.Bool.{and_parts}
 use Rattle.std.proofs.lemmas.List.Elements.{All-cons, All-nil}
 use Rattle.std.proofs.lemmas.Slice.Eq.{bytes_eq-Decides}
 use Rattle.dlk_tree.specs.Table.{all_distinct}
-use Rattle.dlk_match.specs.Matching.{is_own, old_names, new_names, AreGiven, AreApart}
+use Rattle.dlk_match.specs.Matching.{is_own, AreGiven, AreApart}
 use Rattle.dlk_match.proofs.Turns.{Names}
 use Rattle.dlk_match.proofs.Growing.{and_from}
 
@@ -75,10 +75,10 @@ module _ (test : List ℕ × List ℕ → Bool) (name : List ℕ × List ℕ →
 
 pub given_is : (own : List (List ℕ)) (renames : Names) → IsTrue (all_given own renames) ↔ AreGiven own renames
 given_is own renames = (
-    λ h. let both = each_of (given_name own) (λ r. r.0) (λ r. IsTrue (is_own own r.0)) (λ r. (λ p. p, λ p. p)) renames h in
+  λ h. let both = each_of (given_name own) (λ r. r.0) (λ r. IsTrue (is_own own r.0)) (λ r. (λ p. p, λ p. p)) renames h in
       record { own_ones = both.0; once = both.1 },
-    λ a. of_each (given_name own) (λ r. r.0) (λ r. IsTrue (is_own own r.0)) (λ r. (λ p. p, λ p. p)) renames a.own_ones a.once,
-  )
+  λ a. of_each (given_name own) (λ r. r.0) (λ r. IsTrue (is_own own r.0)) (λ r. (λ p. p, λ p. p)) renames a.own_ones a.once,
+)
 
 tells_apart : (own : List (List ℕ)) (r : List ℕ × List ℕ) → IsTrue (name_apart own r) ↔ (IsTrue (is_own own r.1) → r.1 ≡ r.0)
 tells_apart own r = go (is_own own r.1) (bytes_eq r.0 r.1) (bytes_eq-Decides r.0 r.1).0 (λ (e : r.0 ≡ r.1). (bytes_eq-Decides r.0 r.1).1 e)
@@ -92,7 +92,7 @@ tells_apart own r = go (is_own own r.1) (bytes_eq r.0 r.1) (bytes_eq-Decides r.0
 
 pub apart_is : (own : List (List ℕ)) (renames : Names) → IsTrue (all_apart own renames) ↔ AreApart own renames
 apart_is own renames = (
-    λ h. let both = each_of (name_apart own) (λ r. r.1) (λ r. IsTrue (is_own own r.1) → r.1 ≡ r.0) (tells_apart own) renames h in
+  λ h. let both = each_of (name_apart own) (λ r. r.1) (λ r. IsTrue (is_own own r.1) → r.1 ≡ r.0) (tells_apart own) renames h in
       record { unlike = both.1; not_onto_own = both.0 },
-    λ a. of_each (name_apart own) (λ r. r.1) (λ r. IsTrue (is_own own r.1) → r.1 ≡ r.0) (tells_apart own) renames a.not_onto_own a.unlike,
-  )
+  λ a. of_each (name_apart own) (λ r. r.1) (λ r. IsTrue (is_own own r.1) → r.1 ≡ r.0) (tells_apart own) renames a.not_onto_own a.unlike,
+)

@@ -1,5 +1,5 @@
 -- What the roots of key and target leave to match.
-use Rattle.std.specs.Prelude.{◌≡◌, ◌↔◌, ℕ, List, Bool, ◌==◌, true, false, if◌then◌else◌, length, All}
+use Rattle.std.specs.Prelude.{◌≡◌, ◌↔◌, List, ◌==◌, true, false, if◌then◌else◌, length, All}
 use Rattle.std.specs.Global.{Vec}
 use Rattle.dlk_tree.specs.declared.op.Op.{Op}
 use Rattle.dlk_tree.specs.Trees.{Tree, node}

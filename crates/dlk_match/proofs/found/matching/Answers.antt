@@ -1,4 +1,4 @@
-use Rattle.std.proofs.Common.{◌≡◌, sym, subst, ◌∙◌}
+use Rattle.std.proofs.Common.{◌≡◌, subst}
 use Rattle.std.specs.Prelude.{◌↔◌, IsTrue}
 use Rattle.dlk_store.specs.Stores.{tree}
 use Rattle.dlk_sequent.specs.declared.extra.Extra.{Extra}
@@ -35,6 +35,6 @@ returns-clause-found g c =
     let given = subst (λ rs. IsTrue c.are_given.result ↔ AreGiven own rs) c.as_slice.ensures c.are_given.ensures in
     let apart = subst (λ rs. IsTrue c.are_apart.result ↔ AreApart own rs) c.as_slice-2.ensures c.are_apart.ensures in
     let pairs_are = subst (λ ps. c.in_ok-extra-2.field-0 ≡ pairs_renamed found.renames ps) c.as_slice-4.ensures
-        (subst (λ rs. c.in_ok-extra-2.field-0 ≡ pairs_renamed rs c.as_slice-4.result.now) c.as_slice-3.ensures c.in_ok-extra-2.ensures) in
+    (subst (λ rs. c.in_ok-extra-2.field-0 ≡ pairs_renamed rs c.as_slice-4.result.now) c.as_slice-3.ensures c.in_ok-extra-2.ensures) in
     is_match key own target (extra_at before c.args.given.now) now found c.in_ok-extra-2.field-0 matches c.in_ok-match_tree.ensures.known
     (given.0 c.if-not-are_given.false) (apart.0 c.if-not-are_apart.false) pairs_are

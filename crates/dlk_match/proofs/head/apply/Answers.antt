@@ -1,9 +1,8 @@
-use Rattle.std.proofs.Common.{◌≡◌, sym, subst, ◌∙◌, ap}
+use Rattle.std.proofs.Common.{subst}
 use Rattle.dlk_tree.specs.Trees.{Tree}
 use Rattle.dlk_store.specs.Stores.{tree, kid_trees}
 use Rattle.dlk_calculus.specs.Pairs.{Extra}
 use Rattle.dlk_sequent.specs.Extras.{extra_at}
-use Rattle.dlk_match.specs.Abstract.{abstracted}
 use Rattle.dlk_match.specs.Matching.{GetsReplacement}
 use Rattle.dlk_match.specs.Tried.{Tried, IsArgument, IsNoArgument}
 use Rattle.dlk_match.proofs.Heads.{applied_to_nothing, applied_to_none, applied_to_variable, not_empty, is_bare}

@@ -1,9 +1,8 @@
-use Rattle.std.proofs.Common.{◌≡◌, sym, subst, ◌∙◌, ap, arith, Some}
+use Rattle.std.proofs.Common.{◌∙◌, ap, arith, Some}
 use Rattle.dlk_tree.specs.Table.{kid_sorts}
 use Rattle.dlk_store.specs.declared.Id.{Id}
-use Rattle.dlk_store.specs.Stores.{tree, kid_trees}
+use Rattle.dlk_store.specs.Stores.{kid_trees}
 use Rattle.dlk_store.proofs.Kids.{node_fits}
-use Rattle.dlk_match.specs.Matching.{renamed_to}
 use Rattle.dlk_match.proofs.Heads.{one_kid, none_in, no_variable, no_new_name, its_argument, not_one}
 use Rattle.dlk_match.proofs.head.argument.Goals as goal
 

@@ -1,4 +1,3 @@
-use Rattle.std.proofs.Common.{◌≡◌, sym}
 use Rattle.std.proofs.lemmas.Result.{IfOk-weaker}
 use Rattle.dlk_tree.specs.Trees.{Tree}
 use Rattle.std.proofs.Common.{List, Bool}

@@ -1,4 +1,4 @@
-use Rattle.std.proofs.Common.{◌≡◌, sym, subst, ◌∙◌, ap}
+use Rattle.std.proofs.Common.{sym, subst, ◌∙◌, ap}
 use Rattle.std.specs.Prelude.{IfOk}
 use Rattle.dlk_tree.specs.declared.op.Op.{Op}
 use Rattle.dlk_tree.specs.declared.op.Op.TheVariants as Op'
@@ -6,7 +6,7 @@ use Rattle.dlk_store.specs.Stores.{tree, kid_trees}
 use Rattle.dlk_sequent.specs.Substitutions.{AreKnownPairs}
 use Rattle.dlk_sequent.specs.Extras.{extra_at}
 use Rattle.dlk_match.specs.Tried.{HeadIs}
-use Rattle.dlk_match.proofs.Heads.{unit_head, applied_head, no_predicational}
+use Rattle.dlk_match.proofs.Heads.{applied_head, no_predicational}
 use Rattle.dlk_match.proofs.head.match_node.Goals as goal
 
 pub returns-in_ok-apply-in-Apply-clause-matched : goal.returns-in_ok-apply-in-Apply-clause-matched

@@ -1,9 +1,8 @@
-use Rattle.std.proofs.Common.{◌≡◌, sym, subst, ◌∙◌, ap, rules}
-use Rattle.dlk_tree.specs.Trees.{Tree, node}
+use Rattle.std.proofs.Common.{◌≡◌, subst, rules}
 use Rattle.dlk_store.specs.Stores.{tree, kid_trees}
 use Rattle.dlk_sequent.specs.Extras.{extra_at}
 use Rattle.dlk_match.specs.Tried.{Tried, IsLike}
-use Rattle.dlk_match.proofs.Heads.{head_refused, head_left, not_true}
+use Rattle.dlk_match.proofs.Heads.{head_refused, head_left}
 use Rattle.dlk_match.proofs.head.match_other.Goals as goal
 
 pub returns-then-not-branch-clause-matched : goal.returns-then-not-branch-clause-matched

@@ -1,9 +1,5 @@
-use Rattle.std.proofs.Common.{◌≡◌, sym, ap, ◌∙◌, arith, rules, Some, None, ◌++◌, ◌∷◌, []}
-use Rattle.dlk_tree.specs.Trees.{sort}
-use Rattle.dlk_tree.specs.Table.{kind_row}
+use Rattle.std.proofs.Common.{◌≡◌, sym, ap, ◌∙◌, arith}
 use Rattle.dlk_store.specs.Stores.{tree}
-use Rattle.dlk_calculus.specs.Pairs.{replacement}
-use Rattle.dlk_sequent.specs.Substitutions.{pairs_at, pair_at}
 use Rattle.dlk_sequent.specs.Extras.{extra_at}
 use Rattle.dlk_match.specs.Tried.{id_for}
 use Rattle.dlk_match.proofs.Taken.{id_tree, id_known, tree_of, sorted, before, behind, pairs_pushed}

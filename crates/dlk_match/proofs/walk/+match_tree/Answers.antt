@@ -1,5 +1,4 @@
-use Rattle.std.proofs.Common.{◌≡◌, ◌<◌, ◌≤◌, length, arith, rules, sym, subst}
-use Rattle.dlk_tree.specs.Trees.{size}
+use Rattle.std.proofs.Common.{◌<◌, ◌≤◌, length, arith, rules, sym, subst}
 use Rattle.dlk_store.specs.Stores.{IsId, tree}
 use Rattle.dlk_sequent.specs.Extras.{extra_at}
 use Rattle.dlk_match.specs.Rests.{KidsLeft, RestIs}

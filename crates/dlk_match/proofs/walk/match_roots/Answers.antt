@@ -1,9 +1,8 @@
-use Rattle.std.proofs.Common.{◌≡◌, sym, subst}
+use Rattle.std.proofs.Common.{sym, subst}
 use Rattle.dlk_store.specs.Stores.{tree}
 use Rattle.dlk_sequent.specs.Extras.{extra_at}
 use Rattle.dlk_match.specs.Rests.{RestIs}
 use Rattle.dlk_match.specs.Tried.{HeadIs}
-use Rattle.dlk_match.specs.declared.walk.Rest.{Rest}
 use Rattle.dlk_store.specs.Stores.{kid_trees}
 use Rattle.dlk_match.proofs.LeftKids.{rest_is}
 use Rattle.dlk_match.proofs.walk.match_roots.Goals as goal
