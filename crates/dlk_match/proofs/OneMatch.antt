@@ -80,7 +80,7 @@ front_is (n ∷ k ∷ ms) m = ap (λ rest. n ∷ rest) (front_is (k ∷ ms) m)
 one_equation : {y z : List ℕ} {s t : Tree} → Equation y s ≡ Equation z t → (y ≡ z) × (s ≡ t)
 one_equation e = (cc, cc)
 
-one_taken : {items : List OdeItem} {ms : List Member} {old a b : Extra} {s t : List Tree} → TakeMembers items ms old a s → TakeMembers items ms old b t → (a ≡ b) × (s ≡ t)
+pub one_taken : {items : List OdeItem} {ms : List Member} {old a b : Extra} {s t : List Tree} → TakeMembers items ms old a s → TakeMembers items ms old b t → (a ≡ b) × (s ≡ t)
 one_taken {old = old} {a = a} {b = b} (constant {s = c} {ms = ms} p) (constant q) = (one_replacement c (system_of ms) old a b p q, refl)
 one_taken {old = old} {a = a} {b = b} (equation {x = x} {y = y} p) (equation q) = (one_name x y old a b p q, refl)
 one_taken {old = old} {a = a} {b = b} (equation_first {x = x} {y = y} {s = c} {m = m} {ms = ms} mid p r) (equation_first nid q s) =

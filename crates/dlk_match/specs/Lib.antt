@@ -4,3 +4,4 @@ pub mod Matching
 pub mod Instances
 pub mod Tried
 pub mod Found
+pub mod Members
