@@ -16,3 +16,4 @@ pub mod OneMatch
 pub mod Taken
 pub mod Heads
 pub mod LeftKids
+pub mod SomeMembers

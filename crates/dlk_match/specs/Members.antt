@@ -19,7 +19,7 @@ abbrev pub members_at : List Tree → Members → List Member
 members_at trees ms = members ms.items.now (kid_trees trees ms.kids.now)
 
 -- they may stand in a system: their own is well made, and each equation has its kid
-pub record AreMembers (trees : List Tree) (ms : Members) : Type 0 where
+pub record AreWellMade (trees : List Tree) (ms : Members) : Type 0 where
   pub known : All (IsId trees) ms.kids.now
   pub enough : length (evolved ms.items.now) ≤ length ms.kids.now
   pub well_made : WellMade (system_of (members_at trees ms))
@@ -28,8 +28,8 @@ pub record AreMembers (trees : List Tree) (ms : Members) : Type 0 where
 pub record AreParts (trees : List Tree) (ms : Members) (n : ℕ) (parts : Members × Members) : Type 0 where
   pub whole : members_at trees ms ≡ members_at trees parts.0 ++ members_at trees parts.1
   pub count : length (members_at trees parts.0) ≡ n
-  pub front : AreMembers trees parts.0
-  pub others : AreMembers trees parts.1
+  pub front : AreWellMade trees parts.0
+  pub others : AreWellMade trees parts.1
 
 -- one of the two would have no member
 abbrev pub HasNoParts : Members → ℕ → Type 0

@@ -7,7 +7,7 @@ ghost use Rattle.dlk_tree.specs.declared.op.Op.TheVariants.{System};
 ghost use Rattle.dlk_store.specs.Stores.{IsId, tree, StandsFor};
 ghost use Rattle.dlk_sequent.specs.Extras.{extra_at, IsKnownExtra};
 ghost use Rattle.dlk_match.specs.Matching.{GetsName, GetsReplacement, system_of};
-ghost use Rattle.dlk_match.specs.Members.{members_at, AreMembers, AreParts, HasNoParts, IsEquation, IsNoEquation, TakingIs, leaving_none, leaving, LeftIs};
+ghost use Rattle.dlk_match.specs.Members.{members_at, AreWellMade, AreParts, HasNoParts, IsEquation, IsNoEquation, TakingIs, leaving_none, leaving, LeftIs};
 ghost use Rattle.dlk_match.specs.Tried.{Tried, HeadIs};
 
 use crate::head::Head;
@@ -40,7 +40,7 @@ impl<'a> Members<'a> {
     /// The first members, and the others: at least one each.
     fn split(&self, n: usize) -> Option<(Members<'a>, Members<'a>)>
         requires { length (evolved self.now.items.now) ≤ length self.now.kids.now }
-        ensures { (trees : List Tree) → AreMembers trees self.now → MatchOption result (HasNoParts self.now n) (AreParts trees self.now n) }
+        ensures { (trees : List Tree) → AreWellMade trees self.now → MatchOption result (HasNoParts self.now n) (AreParts trees self.now n) }
     {
         if n == 0 || self.items.len() <= n {
             return None;
@@ -60,7 +60,7 @@ impl<'a> Members<'a> {
     /// The equation that is the only member, with its right side.
     fn equation(&self) -> Option<(&'a Name, Id)>
         requires { length (evolved self.now.items.now) ≤ length self.now.kids.now }
-        ensures { (trees : List Tree) → AreMembers trees self.now → MatchOption result (IsNoEquation trees self.now) (λ found. IsEquation trees self.now found.0.now found.1) }
+        ensures { (trees : List Tree) → AreWellMade trees self.now → MatchOption result (IsNoEquation trees self.now) (λ found. IsEquation trees self.now found.0.now found.1) }
     {
         if self.items.len() != 1 {
             return None;
@@ -73,7 +73,7 @@ impl<'a> Members<'a> {
 
     /// Their system, with the domain `true`.
     fn system<S: Store>(&self, alloc: Global, store: &mut S) -> Result<Id, StoreFault>
-        requires { AreMembers (S.trees store.old) self.now }
+        requires { AreWellMade (S.trees store.old) self.now }
         ensures made { IfOk result (λ id. StandsFor (S.trees store.new) id (system_of (members_at (S.trees store.old) self.now))) }
         ensures grows { S.grows store.old store.new }
     {
@@ -95,7 +95,7 @@ fn take_system<S: Store, L: Ledger>(
     steps: &mut Steps<L>,
 ) -> Result<bool, StoreFault>
     requires extra { IsKnownExtra (S.trees store.old) extra.old }
-    requires members { AreMembers (S.trees store.old) ms.now }
+    requires members { AreWellMade (S.trees store.old) ms.now }
     ensures matched { IfOk result (Tried (GetsReplacement s.now (system_of (members_at (S.trees store.old) ms.now))) (extra_at (S.trees store.old) extra.old) (extra_at (S.trees store.new) extra.new)) }
     ensures known { IsKnownExtra (S.trees store.new) extra.new }
     ensures grows { S.grows store.old store.new }
@@ -125,7 +125,7 @@ fn leaving(is: bool, e: Id) -> Taking
 /// An equation takes the only member.
 fn take_equation(extra: &mut Extra, x: &Name, ms: &Members<'_>) -> Result<Taking, AllocError>
     requires { length (evolved ms.now.items.now) ≤ length ms.now.kids.now }
-    ensures matched { IfOk result (λ taking. (trees : List Tree) → AreMembers trees ms.now → TakingIs (OdeItem.Evolve x.now ∷ []) (members_at trees ms.now) trees (extra_at trees extra.old) (extra_at trees extra.new) taking) }
+    ensures matched { IfOk result (λ taking. (trees : List Tree) → AreWellMade trees ms.now → TakingIs (OdeItem.Evolve x.now ∷ []) (members_at trees ms.now) trees (extra_at trees extra.old) (extra_at trees extra.new) taking) }
     ensures pairs { extra.new.pairs ≡ extra.old.pairs }
 {
     let Some((y, e)) = ms.equation() else {
@@ -145,7 +145,7 @@ fn take_first<S: Store, L: Ledger>(
     steps: &mut Steps<L>,
 ) -> Result<Taking, StoreFault>
     requires extra { IsKnownExtra (S.trees store.old) extra.old }
-    requires members { AreMembers (S.trees store.old) ms.now }
+    requires members { AreWellMade (S.trees store.old) ms.now }
     ensures matched { IfOk result (TakingIs (OdeItem.Evolve x.now ∷ OdeItem.Const s.now ∷ []) (members_at (S.trees store.old) ms.now) (S.trees store.new) (extra_at (S.trees store.old) extra.old) (extra_at (S.trees store.new) extra.new)) }
     ensures known { IsKnownExtra (S.trees store.new) extra.new }
     ensures grows { S.grows store.old store.new }
@@ -174,7 +174,7 @@ fn take_last<S: Store, L: Ledger>(
     steps: &mut Steps<L>,
 ) -> Result<Taking, StoreFault>
     requires extra { IsKnownExtra (S.trees store.old) extra.old }
-    requires members { AreMembers (S.trees store.old) ms.now }
+    requires members { AreWellMade (S.trees store.old) ms.now }
     ensures matched { IfOk result (TakingIs (OdeItem.Const s.now ∷ OdeItem.Evolve x.now ∷ []) (members_at (S.trees store.old) ms.now) (S.trees store.new) (extra_at (S.trees store.old) extra.old) (extra_at (S.trees store.new) extra.new)) }
     ensures known { IsKnownExtra (S.trees store.new) extra.new }
     ensures grows { S.grows store.old store.new }
@@ -202,7 +202,7 @@ fn take_both<S: Store, L: Ledger>(
     steps: &mut Steps<L>,
 ) -> Result<Taking, StoreFault>
     requires extra { IsKnownExtra (S.trees store.old) extra.old }
-    requires members { AreMembers (S.trees store.old) ms.now }
+    requires members { AreWellMade (S.trees store.old) ms.now }
     ensures matched { IfOk result (TakingIs (OdeItem.Const s.now ∷ OdeItem.Const t.now ∷ []) (members_at (S.trees store.old) ms.now) (S.trees store.new) (extra_at (S.trees store.old) extra.old) (extra_at (S.trees store.new) extra.new)) }
     ensures known { IsKnownExtra (S.trees store.new) extra.new }
     ensures grows { S.grows store.old store.new }
@@ -227,7 +227,7 @@ fn take_by_one<S: Store, L: Ledger>(
     steps: &mut Steps<L>,
 ) -> Result<Taking, StoreFault>
     requires extra { IsKnownExtra (S.trees store.old) extra.old }
-    requires members { AreMembers (S.trees store.old) ms.now }
+    requires members { AreWellMade (S.trees store.old) ms.now }
     ensures matched { IfOk result (TakingIs (item.now ∷ []) (members_at (S.trees store.old) ms.now) (S.trees store.new) (extra_at (S.trees store.old) extra.old) (extra_at (S.trees store.new) extra.new)) }
     ensures known { IsKnownExtra (S.trees store.new) extra.new }
     ensures grows { S.grows store.old store.new }
@@ -251,7 +251,7 @@ fn take_by_two<S: Store, L: Ledger>(
     steps: &mut Steps<L>,
 ) -> Result<Taking, StoreFault>
     requires extra { IsKnownExtra (S.trees store.old) extra.old }
-    requires members { AreMembers (S.trees store.old) ms.now }
+    requires members { AreWellMade (S.trees store.old) ms.now }
     ensures matched { IfOk result (TakingIs (first.now ∷ second.now ∷ []) (members_at (S.trees store.old) ms.now) (S.trees store.new) (extra_at (S.trees store.old) extra.old) (extra_at (S.trees store.new) extra.new)) }
     ensures known { IsKnownExtra (S.trees store.new) extra.new }
     ensures grows { S.grows store.old store.new }
@@ -278,7 +278,7 @@ fn take_members<S: Store, L: Ledger>(
     steps: &mut Steps<L>,
 ) -> Result<Taking, StoreFault>
     requires extra { IsKnownExtra (S.trees store.old) extra.old }
-    requires members { AreMembers (S.trees store.old) ms.now }
+    requires members { AreWellMade (S.trees store.old) ms.now }
     ensures matched { IfOk result (TakingIs items.now (members_at (S.trees store.old) ms.now) (S.trees store.new) (extra_at (S.trees store.old) extra.old) (extra_at (S.trees store.new) extra.new)) }
     ensures known { IsKnownExtra (S.trees store.new) extra.new }
     ensures grows { S.grows store.old store.new }
