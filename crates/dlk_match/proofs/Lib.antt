@@ -17,3 +17,4 @@ pub mod Taken
 pub mod Heads
 pub mod LeftKids
 pub mod SomeMembers
+pub mod MembersTaken

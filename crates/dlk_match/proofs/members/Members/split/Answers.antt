@@ -15,7 +15,7 @@ pub slice_bounds-others-start-2 : goal.slice_bounds-others-start-2
 slice_bounds-others-start-2 c =
     let first = evolved_first c.args.self.now.items.now c.args.n in
     let within : c.count_evolved.result ≤ length c.args.self.now.kids.now = omega (arith, first, c.requires, c.count_evolved.ensures.value) in
-    ?
+    search (rules, within)
 
 pub returns : goal.returns
 returns c = λ trees well.
