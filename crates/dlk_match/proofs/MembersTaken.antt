@@ -14,6 +14,38 @@ use Rattle.dlk_match.specs.Members.{TakingIs, leaving_none, leaving}
 use Rattle.dlk_match.specs.Tried.{Tried}
 use Rattle.dlk_match.proofs.OneMatch.{one_name, one_replacement, one_equation, last_of, front_of, last_is, front_is}
 
+-- ---- which items
+
+abbrev Take : List OdeItem → Type 0
+Take [] = ⊥
+Take (Item.Const s ∷ []) = Unit {0}
+Take (Item.Evolve x ∷ []) = Unit {0}
+Take (Item.Evolve x ∷ Item.Const s ∷ []) = Unit {0}
+Take (Item.Const s ∷ Item.Evolve x ∷ []) = Unit {0}
+Take (Item.Const s ∷ Item.Const t ∷ []) = Unit {0}
+Take (Item.Evolve x ∷ Item.Evolve y ∷ []) = ⊥
+Take (a ∷ b ∷ c ∷ rest) = ⊥
+
+take_any : {items : List OdeItem} {ms : List Member} {old new : Extra} {sides : List Tree} → TakeMembers items ms old new sides → Take items
+take_any (constant p) = tt
+take_any (equation p) = tt
+take_any (equation_first mid p q) = tt
+take_any (equation_last y m ms mid is p q) = tt
+take_any (two_constants mid p q) = tt
+
+pub no_two_equations : (x y : List ℕ) (ms : List Member) (old other : Extra) (sides : List Tree) → TakeMembers (Item.Evolve x ∷ Item.Evolve y ∷ []) ms old other sides → ⊥
+no_two_equations x y ms old other sides taken = take_any taken
+
+not_many : (items : List OdeItem) → (length items ≡ 1 → ⊥) → (length items ≡ 2 → ⊥) → Take items → ⊥
+not_many [] one two take = take
+not_many (a ∷ []) one two take = one refl
+not_many (a ∷ b ∷ []) one two take = two refl
+not_many (a ∷ b ∷ c ∷ rest) one two take = take
+
+pub no_other_items : (items : List OdeItem) (ms : List Member) (old other : Extra) (sides : List Tree) → (length items ≡ 1 → ⊥) → (length items ≡ 2 → ⊥) →
+    TakeMembers items ms old other sides → ⊥
+no_other_items items ms old other sides one two taken = not_many items one two (take_any taken)
+
 -- ---- one item
 
 constant_back : {s : Sym} {ms : List Member} {old new : Extra} {sides : List Tree} → TakeMembers (Item.Const s ∷ []) ms old new sides → GetsReplacement s (system_of ms) old new
@@ -53,9 +85,6 @@ by_equation x y e ms trees old new false known same p = λ other sides taken. p 
 
 -- ---- two items
 
-pub no_two_equations : (x y : List ℕ) (ms : List Member) (old other : Extra) (sides : List Tree) → TakeMembers (Item.Evolve x ∷ Item.Evolve y ∷ []) ms old other sides → ⊥
-no_two_equations x y ms old other sides ()
-
 -- lists in two parts
 first_part : (fs os : List Member) (m : Member) (rest : List Member) → length fs ≡ 1 → fs ++ os ≡ m ∷ rest → (fs ≡ m ∷ []) × (os ≡ rest)
 first_part [] os m rest one same = absurd (omega (arith, one))
@@ -69,9 +98,6 @@ last_part fs (o ∷ []) m rest one same = (
   ap (λ (n : Member). n ∷ []) (sym (last_is fs o) ∙ ap last_of same ∙ last_is rest m),
 )
 last_part fs (o ∷ p ∷ os) m rest one same = absurd (omega (arith, one))
-
-two_at_least : {m n : Member} {ms : List Member} → 1 < length (m ∷ n ∷ ms)
-two_at_least {m} {n} {ms} = omega arith
 
 last_more : (m n : Member) (ms : List Member) → 1 < length ((m ∷ ms) ++ n ∷ [])
 last_more m n ms = omega (arith, length-append ms (n ∷ []))
