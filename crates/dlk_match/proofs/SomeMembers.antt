@@ -27,6 +27,9 @@ as_many_members (Item.Evolve x ∷ items) no_kids = ap (λ n. suc n) (as_many_me
 as_many_members (Item.Evolve x ∷ items) (kid t ts) = ap (λ n. suc n) (as_many_members items ts)
 as_many_members (Item.Const s ∷ items) kids = ap (λ n. suc n) (as_many_members items kids)
 
+pub more_items : (trees : List Tree) (ms : Members) → 1 < length (members_at trees ms) → 1 < length ms.items.now
+more_items trees ms h = subst (λ n. 1 < n) (as_many_members ms.items.now (kid_trees trees ms.kids.now)) h
+
 -- those of items in a row
 members_both : (trees : List Tree) (is js : List OdeItem) (ks : List Id) → length (evolved is) ≤ length ks →
     members (is ++ js) (kid_trees trees ks) ≡ members is (kid_trees trees ks) ++ members js (kid_trees trees (drop (length (evolved is)) ks))
