@@ -102,6 +102,11 @@ last_part fs (o ∷ p ∷ os) m rest one same = absurd (omega (arith, one))
 last_more : (m n : Member) (ms : List Member) → 1 < length ((m ∷ ms) ++ n ∷ [])
 last_more m n ms = omega (arith, length-append ms (n ∷ []))
 
+pub one_behind : (ms fs os : List Member) (n : ℕ) → ms ≡ fs ++ os → length ms ≡ n → length fs ≡ n - 1 → 1 ≤ length fs → length os ≡ 1
+one_behind ms fs os n whole many front some =
+    let both = ap (λ (all : List Member). length all) whole ∙ length-append fs os in
+    omega (arith, both, many, front, some)
+
 -- too few members
 pub first_few : {x : List ℕ} {s : Sym} {ms : List Member} {old other : Extra} {sides : List Tree} → TakeMembers (Item.Evolve x ∷ Item.Const s ∷ []) ms old other sides → 1 < length ms
 first_few (equation_first {m = m} {ms = ms} mid p q) = omega arith
