@@ -18,3 +18,4 @@ pub mod Heads
 pub mod LeftKids
 pub mod SomeMembers
 pub mod MembersTaken
+pub mod SystemHeads
