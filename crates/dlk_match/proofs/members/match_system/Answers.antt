@@ -3,7 +3,7 @@ use Rattle.dlk_tree.specs.declared.op.OdeItem.{OdeItem}
 use Rattle.dlk_store.specs.declared.Id.{Id}
 use Rattle.dlk_tree.specs.Trees.{Forest, node, no_kids}
 use Rattle.dlk_tree.specs.declared.op.Op.TheVariants.{True}
-use Rattle.dlk_store.specs.Stores.{tree, kid_trees}
+use Rattle.dlk_store.specs.Stores.{IsId, tree, kid_trees}
 use Rattle.dlk_sequent.specs.Extras.{extra_at}
 use Rattle.dlk_calculus.specs.Subst.{Member, members}
 use Rattle.dlk_match.specs.Members.{TakingIs}
@@ -34,10 +34,10 @@ returns-clause-matched g c = λ keys.
     let there : c.items.result.now ≡ c.in-System.there = c.items.ensures ∙ sym c.in_ok-there.ensures.cases in
     let kids : c.as_slice.result.now ≡ ks = search rules in
     let many = target_many trees _ c.look-node.result.op.now c.in-System.there ks node_is c.in-System.is made in
-    let d : Id = record { 0 = 0 } in
-    let domain : c.index.result.now ≡ get_or ks (length ks - 1) d = search rules in
+    let d = c.index.result.now in
+    let domain : d ≡ get_or ks (length ks - 1) d = (let vec : c.in_ok-kids.kids.items ≡ ks = search rules in let a = c.index.ensures in let b = c.len.ensures in subst (λ all. d ≡ get_or all (length all - 1) d) vec (search rules)) in
     let known = c.look-node.ensures.known (length ks - 1) d (omega (arith, many)) in
-    let domain_known = rw domain (omega (arith, keeps.known, known)) in
+    let domain_known : IsId now d = subst (IsId now) (sym domain) (omega (arith, keeps.known, known)) in
     let domain_is = ap (tree now) domain ∙ keeps.same (get_or ks (length ks - 1) d) known ∙ last_kid trees ks d (omega (arith, many)) in
     let taking = subst (λ (ms : List Member). TakingIs items ms now old new c.in_ok-taking.taking) (λ i. members (there i) (kid_trees trees (kids i))) c.in_ok-taking.ensures.matched in
     system_head items keys _ c.in-System.there (kid_trees trees ks) (target_is trees _ c.look-node.result.op.now c.in-System.there ks node_is c.in-System.is made) old
