@@ -35,7 +35,8 @@ returns-clause-matched g c = λ keys.
     let kids : c.as_slice.result.now ≡ ks = search rules in
     let many = target_many trees _ c.look-node.result.op.now c.in-System.there ks node_is c.in-System.is made in
     let d = c.index.result.now in
-    let domain : d ≡ get_or ks (length ks - 1) d = (let vec : c.in_ok-kids.kids.items ≡ ks = search rules in let a = c.index.ensures in let b = c.len.ensures in subst (λ all. d ≡ get_or all (length all - 1) d) vec (search rules)) in
+    let copied : c.in_ok-kids.kids.items ≡ ks = search rules in
+    let domain : d ≡ get_or ks (length ks - 1) d = subst (λ all. d ≡ get_or all (length all - 1) d) copied (search rules) in
     let known = c.look-node.ensures.known (length ks - 1) d (omega (arith, many)) in
     let domain_known : IsId now d = subst (IsId now) (sym domain) (omega (arith, keeps.known, known)) in
     let domain_is = ap (tree now) domain ∙ keeps.same (get_or ks (length ks - 1) d) known ∙ last_kid trees ks d (omega (arith, many)) in
