@@ -17,7 +17,7 @@ use Rattle.dlk_match.specs.Members.{members_at, AreWellMade, AreParts}
 use Rattle.dlk_match.specs.declared.members.Members.{Members}
 use Rattle.dlk_match.proofs.LeftKids.{ids_known}
 use Rattle.dlk_match.proofs.SystemsBack.{members_back, items_back}
-use Rattle.dlk_match.proofs.SystemsMade.{AreMembers, parts_made, system_made, HasMembers, system_members}
+use Rattle.dlk_match.proofs.SystemsMade.{parts_made, system_made, HasMembers, system_members}
 
 -- ---- parts
 
@@ -85,7 +85,7 @@ are_parts trees ms front others n well some more front_items front_kids other_it
     let front_is : members_at trees front ≡ members is (kid_trees trees ks) = λ i. members (front_items i) (kid_trees trees (front_kids i)) in
     let others_are : members_at trees others ≡ members js (kid_trees trees (drop e ks)) = λ i. members (other_items i) (kid_trees trees (other_kids i)) in
     let whole : members_at trees ms ≡ members_at trees front ++ members_at trees others =
-        ap (λ all. members all (kid_trees trees ks)) (sym (take-append-drop n items)) ∙ members_both trees is js ks within ∙ (λ i. sym front_is i ++ sym others_are i) in
+    ap (λ all. members all (kid_trees trees ks)) (sym (take-append-drop n items)) ∙ members_both trees is js ks within ∙ (λ i. sym front_is i ++ sym others_are i) in
     let count : length (members_at trees front) ≡ n = ap length front_is ∙ as_many_members is (kid_trees trees ks) ∙ length-take-le n items (omega (arith, more)) in
     let rest : length (members_at trees others) ≡ length items - n = ap length others_are ∙ as_many_members js (kid_trees trees (drop e ks)) ∙ length-drop n items in
     let has = subst HasMembers whole (has_members (members_at trees ms) well.well_made) in
@@ -132,7 +132,7 @@ module _ {old new : List Tree} (keeps : Keeps old new) (ms : Members) (well : Ar
   own_system =
       let items = made_is ∙ sym (items_back ms.items.now (kid_trees old ms.kids.now)) in
       let kids = ap (kid_trees new) ids_are ∙ own_kids new ms.items.now ms.kids.now d true_is well.enough ∙
-          ap (λ (all : List Member). kids_of all (node Op'.True no_kids)) (members_kept keeps ms well) in
+      ap (λ (all : List Member). kids_of all (node Op'.True no_kids)) (members_kept keeps ms well) in
       λ i. node (Op'.System (items i)) (kids i)
 
   pub own_fits : Fits (Op'.System made) (sorts_at new ids)

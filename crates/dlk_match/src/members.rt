@@ -233,9 +233,7 @@ fn take_by_one<S: Store, L: Ledger>(
     ensures grows { S.grows store.old store.new }
 {
     match item {
-        OdeItem::Const(s) => Ok(leaving_none(take_system(
-            alloc, store, extra, s, ms, steps,
-        )?)),
+        OdeItem::Const(s) => Ok(leaving_none(take_system(alloc, store, extra, s, ms, steps)?)),
         OdeItem::Evolve(x) => Ok(take_equation(extra, x, ms)?),
     }
 }

@@ -1,7 +1,5 @@
-use Rattle.std.proofs.Common.{◌≡◌, sym, subst, ap, ◌∙◌, ◌-◌, arith, rules, get_or, length, refl, List}
-use Rattle.dlk_tree.specs.declared.op.OdeItem.{OdeItem}
-use Rattle.dlk_store.specs.declared.Id.{Id}
-use Rattle.dlk_tree.specs.Trees.{Forest, node, no_kids}
+use Rattle.std.proofs.Common.{◌≡◌, sym, subst, ap, ◌∙◌, ◌-◌, arith, rules, get_or, length, List}
+use Rattle.dlk_tree.specs.Trees.{node, no_kids}
 use Rattle.dlk_tree.specs.declared.op.Op.TheVariants.{True}
 use Rattle.dlk_store.specs.Stores.{IsId, tree, kid_trees}
 use Rattle.dlk_sequent.specs.Extras.{extra_at}

@@ -1,4 +1,4 @@
-use Rattle.std.proofs.Common.{◌≡◌, subst, arith, List}
+use Rattle.std.proofs.Common.{subst, arith, List}
 use Rattle.dlk_sequent.specs.Extras.{extra_at}
 use Rattle.dlk_calculus.specs.Subst.{Member}
 use Rattle.dlk_match.specs.Matching.{GetsReplacement, system_of}

@@ -1,5 +1,3 @@
-use Rattle.std.proofs.Common.{◌≡◌, [], ◌∷◌}
-use Rattle.dlk_tree.specs.declared.op.OdeItem.TheVariants.{Evolve}
 use Rattle.dlk_sequent.specs.Extras.{extra_at}
 use Rattle.dlk_match.specs.Members.{members_at}
 use Rattle.dlk_match.proofs.MembersTaken.{by_equation}

@@ -1,4 +1,4 @@
-use Rattle.std.proofs.Common.{◌≡◌, ◌∙◌, subst, arith, length}
+use Rattle.std.proofs.Common.{◌∙◌, subst, arith, length}
 use Rattle.dlk_store.specs.Stores.{tree, kid_trees}
 use Rattle.dlk_sequent.specs.Extras.{extra_at}
 use Rattle.dlk_match.specs.Matching.{GetsReplacement, system_of}

@@ -1,4 +1,4 @@
-use Rattle.std.proofs.Common.{◌≡◌, sym, ◌∙◌, ap, arith, length}
+use Rattle.std.proofs.Common.{sym, ◌∙◌, ap, arith, length}
 use Rattle.dlk_store.specs.Stores.{kid_trees}
 use Rattle.dlk_match.proofs.SomeMembers.{as_many_members}
 use Rattle.dlk_match.proofs.members.Members.equation.Goals as goal

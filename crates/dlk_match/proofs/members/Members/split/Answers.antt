@@ -1,8 +1,4 @@
-use Rattle.std.proofs.Common.{◌≡◌, sym, subst, ◌∙◌, ap, rules, arith, take, drop, length, refl, ◌-◌, ◌<◌, ◌≤◌, List}
-use Rattle.std.proofs.lemmas.List.{take_all, length-drop}
-use Rattle.dlk_tree.specs.declared.op.OdeItem.{OdeItem}
-use Rattle.dlk_tree.specs.Table.{evolved}
-use Rattle.dlk_store.specs.declared.Id.{Id}
+use Rattle.std.proofs.Common.{◌∙◌, ap, rules, arith, drop, length, refl, ◌<◌, ◌≤◌}
 use Rattle.dlk_match.proofs.SomeMembers.{evolved_first, are_parts, rest_is}
 use Rattle.dlk_match.proofs.members.Members.split.Goals as goal
 

@@ -1,9 +1,8 @@
-use Rattle.std.proofs.Common.{◌≡◌, sym, subst, ◌∙◌, ap, rules, arith, take, length, ◌++◌, ◌∷◌, [], List}
+use Rattle.std.proofs.Common.{◌≡◌, subst, rules, take, length, ◌++◌, ◌∷◌, []}
 use Rattle.std.specs.Prelude.{IfOk}
 use Rattle.dlk_tree.specs.Table.{evolved}
 use Rattle.dlk_tree.specs.Trees.{Tree}
-use Rattle.dlk_store.specs.declared.Id.{Id}
-use Rattle.dlk_store.specs.Stores.{StandsFor, kid_trees}
+use Rattle.dlk_store.specs.Stores.{StandsFor}
 use Rattle.dlk_match.proofs.SomeMembers.{own_system, own_fits}
 use Rattle.dlk_match.proofs.members.Members.system.Goals as goal
 
