@@ -14,6 +14,10 @@ use Rattle.dlk_match.specs.Members.{TakingIs, leaving_none, leaving}
 use Rattle.dlk_match.specs.Tried.{Tried}
 use Rattle.dlk_match.proofs.OneMatch.{one_name, one_replacement, one_equation, last_of, front_of, last_is, front_is}
 
+-- the items don't take the members
+abbrev pub Refuses : List OdeItem → List Member → Extra → Type 0
+Refuses items ms old = (other : Extra) (sides : List Tree) → TakeMembers items ms old other sides → ⊥
+
 -- ---- which items
 
 abbrev Take : List OdeItem → Type 0
@@ -33,9 +37,6 @@ take_any (equation_first mid p q) = tt
 take_any (equation_last y m ms mid is p q) = tt
 take_any (two_constants mid p q) = tt
 
-pub no_two_equations : (x y : List ℕ) (ms : List Member) (old other : Extra) (sides : List Tree) → TakeMembers (Item.Evolve x ∷ Item.Evolve y ∷ []) ms old other sides → ⊥
-no_two_equations x y ms old other sides taken = take_any taken
-
 not_many : (items : List OdeItem) → (length items ≡ 1 → ⊥) → (length items ≡ 2 → ⊥) → Take items → ⊥
 not_many [] one two take = take
 not_many (a ∷ []) one two take = one refl
@@ -48,7 +49,8 @@ no_other_items items ms old other sides one two taken = not_many items one two (
 
 -- ---- one item
 
-constant_back : {s : Sym} {ms : List Member} {old new : Extra} {sides : List Tree} → TakeMembers (Item.Const s ∷ []) ms old new sides → GetsReplacement s (system_of ms) old new
+constant_back : {s : Sym} {ms : List Member} {old new : Extra} {sides : List Tree} → TakeMembers (Item.Const s ∷ []) ms old new sides →
+    GetsReplacement s (system_of ms) old new
 constant_back (constant p) = p
 
 pub by_constant : (s : Sym) (ms : List Member) (trees : List Tree) (old new : Extra) (is : Bool) → Tried (GetsReplacement s (system_of ms)) old new is →
@@ -67,7 +69,7 @@ equation_back : {x : List ℕ} {ms : List Member} {old new : Extra} {sides : Lis
 equation_back (equation {y = y} {e = e} p) = record { y = y; side = e; member_is = refl; named = p }
 
 pub by_no_equation : (x : List ℕ) (ms : List Member) (trees : List Tree) (old : Extra) → ((y : List ℕ) (e : Tree) → ms ≡ Equation y e ∷ [] → ⊥) →
-    (other : Extra) (sides : List Tree) → TakeMembers (Item.Evolve x ∷ []) ms old other sides → ⊥
+    Refuses (Item.Evolve x ∷ []) ms old
 by_no_equation x ms trees old none other sides taken = let gets = equation_back taken in none gets.y gets.side gets.member_is
 
 name_is : {x y : List ℕ} {e : Tree} {ms : List Member} {old new : Extra} → ms ≡ Equation y e ∷ [] → Gets x ms old new → GetsName x y old new
@@ -77,8 +79,8 @@ name_is {x} {y} {e} {ms} {old} {new} is gets =
     one_of_one : {m n : Member} → m ∷ [] ≡ n ∷ [] → m ≡ n
     one_of_one same = cc
 
-pub by_equation : (x y : List ℕ) (e : Id) (ms : List Member) (trees : List Tree) (old new : Extra) (is : Bool) → IsId trees e → ms ≡ Equation y (tree trees e) ∷ [] →
-    Tried (GetsName x y) old new is → TakingIs (Item.Evolve x ∷ []) ms trees old new (leaving is e)
+pub by_equation : (x y : List ℕ) (e : Id) (ms : List Member) (trees : List Tree) (old new : Extra) (is : Bool) → IsId trees e →
+    ms ≡ Equation y (tree trees e) ∷ [] → Tried (GetsName x y) old new is → TakingIs (Item.Evolve x ∷ []) ms trees old new (leaving is e)
 by_equation x y e ms trees old new true known same p =
     (known, subst (λ (all : List Member). TakeMembers (Item.Evolve x ∷ []) all old new (tree trees e ∷ [])) (sym same) (equation p))
 by_equation x y e ms trees old new false known same p = λ other sides taken. p other (name_is same (equation_back taken))
@@ -108,13 +110,16 @@ one_behind ms fs os n whole many front some =
     omega (arith, both, many, front, some)
 
 -- too few members
-pub first_few : {x : List ℕ} {s : Sym} {ms : List Member} {old other : Extra} {sides : List Tree} → TakeMembers (Item.Evolve x ∷ Item.Const s ∷ []) ms old other sides → 1 < length ms
+pub first_few : {x : List ℕ} {s : Sym} {ms : List Member} {old other : Extra} {sides : List Tree} →
+    TakeMembers (Item.Evolve x ∷ Item.Const s ∷ []) ms old other sides → 1 < length ms
 first_few (equation_first {m = m} {ms = ms} mid p q) = omega arith
 
-pub last_few : {x : List ℕ} {s : Sym} {ms : List Member} {old other : Extra} {sides : List Tree} → TakeMembers (Item.Const s ∷ Item.Evolve x ∷ []) ms old other sides → 1 < length ms
+pub last_few : {x : List ℕ} {s : Sym} {ms : List Member} {old other : Extra} {sides : List Tree} →
+    TakeMembers (Item.Const s ∷ Item.Evolve x ∷ []) ms old other sides → 1 < length ms
 last_few (equation_last {e = e} y m ms mid is p q) = subst (λ (all : List Member). 1 < length all) (sym is) (last_more m (Equation y e) ms)
 
-pub both_few : {s t : Sym} {ms : List Member} {old other : Extra} {sides : List Tree} → TakeMembers (Item.Const s ∷ Item.Const t ∷ []) ms old other sides → 1 < length ms
+pub both_few : {s t : Sym} {ms : List Member} {old other : Extra} {sides : List Tree} →
+    TakeMembers (Item.Const s ∷ Item.Const t ∷ []) ms old other sides → 1 < length ms
 both_few (two_constants {m = m} {n = n} {ms = ms} mid p q) = omega arith
 
 module _ (ms fs os : List Member) (whole : ms ≡ fs ++ os) (old : Extra) where
@@ -135,14 +140,14 @@ module _ (ms fs os : List Member) (whole : ms ≡ fs ++ os) (old : Extra) where
       }
 
   pub first_unlike : (x : List ℕ) (s : Sym) → length fs ≡ 1 → ((y : List ℕ) (e : Tree) → fs ≡ Equation y e ∷ [] → ⊥) →
-      (other : Extra) (sides : List Tree) → TakeMembers (Item.Evolve x ∷ Item.Const s ∷ []) ms old other sides → ⊥
+      Refuses (Item.Evolve x ∷ Item.Const s ∷ []) ms old
   first_unlike x s one none other sides taken =
       let gets = (first_back x s other sides ms one whole taken).gets in
       none gets.y gets.side gets.member_is
 
   module _ (x : List ℕ) (s : Sym) (one : length fs ≡ 1) (y : List ℕ) (e : Tree) (fs_is : fs ≡ Equation y e ∷ []) where
     pub first_unnamed : ((other : Extra) → GetsName x y old other → ⊥) →
-        (other : Extra) (sides : List Tree) → TakeMembers (Item.Evolve x ∷ Item.Const s ∷ []) ms old other sides → ⊥
+        Refuses (Item.Evolve x ∷ Item.Const s ∷ []) ms old
     first_unnamed none other sides taken =
         let first = first_back x s other sides ms one whole taken in
         none first.mid (name_is fs_is first.gets)
@@ -156,8 +161,9 @@ module _ (ms fs os : List Member) (whole : ms ≡ fs ++ os) (old : Extra) where
         Tried (GetsReplacement s (system_of os)) mid new is → TakingIs (Item.Evolve x ∷ Item.Const s ∷ []) ms trees old new (leaving is id)
     first_taken trees id mid new true known same some named p =
         let all : Equation y e ∷ os ≡ ms = sym (whole ∙ ap (λ (front : List Member). front ++ os) fs_is) in
-        let made = subst (λ (members : List Member). TakeMembers (Item.Evolve x ∷ Item.Const s ∷ []) members old new (e ∷ [])) all (first_made os mid new some named p) in
-        (known, subst (λ t. TakeMembers (Item.Evolve x ∷ Item.Const s ∷ []) ms old new (t ∷ [])) (sym same) made)
+        let made = first_made os mid new some named p in
+        let moved = subst (λ (members : List Member). TakeMembers (Item.Evolve x ∷ Item.Const s ∷ []) members old new (e ∷ [])) all made in
+        (known, subst (λ t. TakeMembers (Item.Evolve x ∷ Item.Const s ∷ []) ms old new (t ∷ [])) (sym same) moved)
     first_taken trees id mid new false known same some named p = λ other sides taken.
         let first = first_back x s other sides ms one whole taken in
         let mids = one_name x y old first.mid mid (name_is fs_is first.gets) named in
@@ -180,14 +186,14 @@ module _ (ms fs os : List Member) (whole : ms ≡ fs ++ os) (old : Extra) where
       }
 
   pub last_unlike : (s : Sym) (x : List ℕ) → length os ≡ 1 → ((y : List ℕ) (e : Tree) → os ≡ Equation y e ∷ [] → ⊥) →
-      (other : Extra) (sides : List Tree) → TakeMembers (Item.Const s ∷ Item.Evolve x ∷ []) ms old other sides → ⊥
+      Refuses (Item.Const s ∷ Item.Evolve x ∷ []) ms old
   last_unlike s x one none other sides taken =
       let gets = (last_back s x other sides ms one whole taken).gets in
       none gets.y gets.side gets.member_is
 
   module _ (s : Sym) (x : List ℕ) (one : length os ≡ 1) where
     pub last_unreplaced : ((other : Extra) → GetsReplacement s (system_of fs) old other → ⊥) →
-        (other : Extra) (sides : List Tree) → TakeMembers (Item.Const s ∷ Item.Evolve x ∷ []) ms old other sides → ⊥
+        Refuses (Item.Const s ∷ Item.Evolve x ∷ []) ms old
     last_unreplaced none other sides taken =
         let last = last_back s x other sides ms one whole taken in
         none last.mid last.replaced
@@ -197,8 +203,8 @@ module _ (ms fs os : List Member) (whole : ms ≡ fs ++ os) (old : Extra) where
     last_made [] y e mid new some same p q = absurd (omega (arith, some))
     last_made (m ∷ front) y e mid new some same p q = equation_last y m front mid same p q
 
-    pub last_taken : (y : List ℕ) (e : Tree) → os ≡ Equation y e ∷ [] → (trees : List Tree) (id : Id) (mid new : Extra) (is : Bool) → IsId trees id → tree trees id ≡ e →
-        1 ≤ length fs → GetsReplacement s (system_of fs) old mid →
+    pub last_taken : (y : List ℕ) (e : Tree) → os ≡ Equation y e ∷ [] → (trees : List Tree) (id : Id) (mid new : Extra) (is : Bool) →
+        IsId trees id → tree trees id ≡ e → 1 ≤ length fs → GetsReplacement s (system_of fs) old mid →
         Tried (GetsName x y) mid new is → TakingIs (Item.Const s ∷ Item.Evolve x ∷ []) ms trees old new (leaving is id)
     last_taken y e os_is trees id mid new true known same some replaced p =
         let all : ms ≡ fs ++ Equation y e ∷ [] = whole ∙ ap (λ (end : List Member). fs ++ end) os_is in
@@ -226,13 +232,14 @@ module _ (ms fs os : List Member) (whole : ms ≡ fs ++ os) (old : Extra) where
 
   module _ (s t : Sym) (one : length fs ≡ 1) where
     pub both_unreplaced : ((other : Extra) → GetsReplacement s (system_of fs) old other → ⊥) →
-        (other : Extra) (sides : List Tree) → TakeMembers (Item.Const s ∷ Item.Const t ∷ []) ms old other sides → ⊥
+        Refuses (Item.Const s ∷ Item.Const t ∷ []) ms old
     both_unreplaced none other sides taken =
         let both = both_back s t other sides ms one whole taken in
         none both.mid both.first
 
     both_made : (front more : List Member) (mid new : Extra) → length front ≡ 1 → 1 ≤ length more →
-        GetsReplacement s (system_of front) old mid → GetsReplacement t (system_of more) mid new → TakeMembers (Item.Const s ∷ Item.Const t ∷ []) (front ++ more) old new []
+        GetsReplacement s (system_of front) old mid → GetsReplacement t (system_of more) mid new →
+        TakeMembers (Item.Const s ∷ Item.Const t ∷ []) (front ++ more) old new []
     both_made [] more mid new only some p q = absurd (omega (arith, only))
     both_made (f ∷ []) [] mid new only some p q = absurd (omega (arith, some))
     both_made (f ∷ []) (m ∷ more) mid new only some p q = two_constants mid p q

@@ -63,6 +63,14 @@ evolved_first items n =
     let both = evolved_both (take n items) (drop n items) in
     omega (arith, same, both)
 
+-- a kid for each equation
+pub enough_are : (ms : Members) (items : List OdeItem) (ks : List Id) → ms.items.now ≡ items → ms.kids.now ≡ ks → length (evolved items) ≤ length ks →
+    length (evolved ms.items.now) ≤ length ms.kids.now
+enough_are ms items ks items_are kids_are h =
+    let few = ap (λ all. length (evolved all)) items_are in
+    let many = ap (λ all. length all) kids_are in
+    omega (arith, few, many, h)
+
 -- what is behind a place
 pub rest_is : {A : Type 0} (n : ℕ) (xs : List A) → take (length xs - n) (drop n xs) ≡ drop n xs
 rest_is n xs = take_all (length xs - n) (drop n xs) (omega (arith, length-drop n xs))
@@ -85,9 +93,12 @@ are_parts trees ms front others n well some more front_items front_kids other_it
     let front_is : members_at trees front ≡ members is (kid_trees trees ks) = λ i. members (front_items i) (kid_trees trees (front_kids i)) in
     let others_are : members_at trees others ≡ members js (kid_trees trees (drop e ks)) = λ i. members (other_items i) (kid_trees trees (other_kids i)) in
     let whole : members_at trees ms ≡ members_at trees front ++ members_at trees others =
-    ap (λ all. members all (kid_trees trees ks)) (sym (take-append-drop n items)) ∙ members_both trees is js ks within ∙ (λ i. sym front_is i ++ sym others_are i) in
-    let count : length (members_at trees front) ≡ n = ap length front_is ∙ as_many_members is (kid_trees trees ks) ∙ length-take-le n items (omega (arith, more)) in
-    let rest : length (members_at trees others) ≡ length items - n = ap length others_are ∙ as_many_members js (kid_trees trees (drop e ks)) ∙ length-drop n items in
+    ap (λ all. members all (kid_trees trees ks)) (sym (take-append-drop n items)) ∙ members_both trees is js ks within ∙
+    (λ i. sym front_is i ++ sym others_are i) in
+    let count : length (members_at trees front) ≡ n =
+    ap length front_is ∙ as_many_members is (kid_trees trees ks) ∙ length-take-le n items (omega (arith, more)) in
+    let rest : length (members_at trees others) ≡ length items - n =
+    ap length others_are ∙ as_many_members js (kid_trees trees (drop e ks)) ∙ length-drop n items in
     let has = subst HasMembers whole (has_members (members_at trees ms) well.well_made) in
     let made = system_parts (members_at trees front) (members_at trees others) has (omega (arith, count, some)) (omega (arith, rest, more)) in
     record {
@@ -95,12 +106,12 @@ are_parts trees ms front others n well some more front_items front_kids other_it
       count = count;
       front = record {
         known = subst (All (IsId trees)) (sym front_kids) well.known;
-        enough = subst (λ all. length (evolved all) ≤ length front.kids.now) (sym front_items) (subst (λ all. e ≤ length all) (sym front_kids) within);
+        enough = enough_are front is ks front_items front_kids within;
         well_made = made.0;
       };
       others = record {
         known = subst (All (IsId trees)) (sym other_kids) (All-drop (IsId trees) e ks well.known);
-        enough = subst (λ all. length (evolved all) ≤ length others.kids.now) (sym other_items) (subst (λ all. length (evolved js) ≤ length all) (sym other_kids) left);
+        enough = enough_are others js (drop e ks) other_items other_kids left;
         well_made = made.1;
       };
     }

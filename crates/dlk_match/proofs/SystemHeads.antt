@@ -16,7 +16,7 @@ use Rattle.dlk_calculus.specs.Kids.{last}
 use Rattle.dlk_calculus.specs.Pairs.{Extra}
 use Rattle.dlk_calculus.specs.Subst.{Member, members}
 use Rattle.dlk_match.specs.Matching.{system_of, TakeMembers, SystemMatches, Matches, MatchesAll}
-use Rattle.dlk_match.specs.Members.{AreWellMade, TakingIs, LeftIs}
+use Rattle.dlk_match.specs.Members.{members_at, AreWellMade, TakingIs, LeftIs}
 use Rattle.dlk_match.specs.Tried.{HeadIs}
 use Rattle.dlk_match.specs.declared.head.Head.{Head}
 use Rattle.dlk_match.specs.declared.head.Head.TheVariants as Head'
@@ -24,18 +24,23 @@ use Rattle.dlk_match.specs.declared.members.Members.{Members}
 use Rattle.dlk_match.specs.declared.members.Taking.{Taking}
 use Rattle.dlk_match.specs.declared.members.Taking.TheVariants.{Fails, LeavesNone, Leaves}
 use Rattle.dlk_match.proofs.OneMatch.{one_node, one_taken}
+use Rattle.dlk_match.proofs.SomeMembers.{enough_are}
 use Rattle.dlk_match.proofs.SystemsMade.{system_made, system_members}
 
 -- ---- the members of a system of the store
 
 -- as many kids as equations, and the domain
-kids_many : (trees : List Tree) (items : List OdeItem) (ks : List Id) → WellMade (node (Op'.System items) (kid_trees trees ks)) → length ks ≡ length (evolved items) + 1
+kids_many : (trees : List Tree) (items : List OdeItem) (ks : List Id) → WellMade (node (Op'.System items) (kid_trees trees ks)) →
+    length ks ≡ length (evolved items) + 1
 kids_many trees items ks made =
     let fit : sorts (kid_trees trees ks) ≡ replicate (length (evolved items)) Term ++ Formula ∷ [] = made.0.kids_fit in
-    sym (kids_length trees ks) ∙ ap length (sym (sorts-kid_trees trees ks) ∙ fit) ∙
-    (let front = length-replicate (length (evolved items)) Term in let both = length-append (replicate (length (evolved items)) Term) (Formula ∷ []) in omega (arith, front, both))
+    let same = sym (kids_length trees ks) ∙ ap length (sym (sorts-kid_trees trees ks) ∙ fit) in
+    let front = length-replicate (length (evolved items)) Term in
+    let both = length-append (replicate (length (evolved items)) Term) (Formula ∷ []) in
+    omega (arith, same, front, both)
 
-module _ (trees : List Tree) (e : Tree) (op : Op) (there : List OdeItem) (ks : List Id) (is : e ≡ node op (kid_trees trees ks)) (op_is : op ≡ Op'.System there) (made : WellMade e) where
+module _ (trees : List Tree) (e : Tree) (op : Op) (there : List OdeItem) (ks : List Id)
+    (is : e ≡ node op (kid_trees trees ks)) (op_is : op ≡ Op'.System there) (made : WellMade e) where
   pub target_is : e ≡ node (Op'.System there) (kid_trees trees ks)
   target_is = is ∙ ap (λ (o : Op). node o (kid_trees trees ks)) op_is
 
@@ -44,13 +49,15 @@ module _ (trees : List Tree) (e : Tree) (op : Op) (there : List OdeItem) (ks : L
 
   pub all_members : (ms : Members) → All (IsId trees) ks → ms.items.now ≡ there → ms.kids.now ≡ ks → AreWellMade trees ms
   all_members ms known items_are kids_are =
+      let all = members there (kid_trees trees ks) in
       let has = system_members there (kid_trees trees ks) (subst WellMade target_is made) in
+      let members_are : all ≡ members_at trees ms = λ i. members (sym items_are i) (kid_trees trees (sym kids_are i)) in
       let many = target_many in
       let within : length (evolved there) ≤ length ks = omega (arith, many) in
       record {
         known = subst (All (IsId trees)) (sym kids_are) known;
-        enough = subst (λ all. length (evolved all) ≤ length ms.kids.now) (sym items_are) (subst (λ all. length (evolved there) ≤ length all) (sym kids_are) within);
-        well_made = subst (λ (all : List Member). WellMade (system_of all)) (λ i. members (sym items_are i) (kid_trees trees (sym kids_are i))) (system_made (members there (kid_trees trees ks)) has.members_are has.some has.few);
+        enough = enough_are ms there ks items_are kids_are within;
+        well_made = subst (λ (all : List Member). WellMade (system_of all)) members_are (system_made all has.members_are has.some has.few);
       }
 
 -- the domain
@@ -70,7 +77,8 @@ module _ (items : List OdeItem) (keys : Forest) (e : Tree) (there : List OdeItem
       let items_are : p.target_items ≡ there = (let op = nodes.0 in cc) in
       subst (λ ms. TakeMembers items ms old p.mid p.sides) (λ i. members (items_are i) (nodes.1 i)) p.taken
 
-  refused : ((other : Extra) (sides : List Tree) → TakeMembers items (members there kids) old other sides → ⊥) → (other : Extra) → Matches (node (Op'.System items) keys) e old other → ⊥
+  refused : ((other : Extra) (sides : List Tree) → TakeMembers items (members there kids) old other sides → ⊥) →
+      (other : Extra) → Matches (node (Op'.System items) keys) e old other → ⊥
   refused none other p = none p.mid p.sides (its_members other p)
 
   left : (new : Extra) (sides : List Tree) → TakeMembers items (members there kids) old new sides → (other : Extra) →
@@ -89,11 +97,14 @@ module _ (items : List OdeItem) (keys : Forest) (e : Tree) (there : List OdeItem
       All (IsId trees) found × ((other : Extra) → Matches (node (Op'.System items) keys) e old other ↔ MatchesAll keys (kid_trees trees found) new other)
   left_at trees new sides taken ids found known same are = (
     subst (All (IsId trees)) (sym are) known,
-    λ other. subst (λ es. Matches (node (Op'.System items) keys) e old other ↔ MatchesAll keys es new other) (sym (ap (kid_trees trees) are ∙ same)) (left new sides taken other),
+    λ other.
+        let kids_are = sym (ap (kid_trees trees) are ∙ same) in
+        subst (λ es. Matches (node (Op'.System items) keys) e old other ↔ MatchesAll keys es new other) kids_are (left new sides taken other),
   )
 
   pub system_head : (trees : List Tree) (new : Extra) (domain : Id) → IsId trees domain → tree trees domain ≡ last kids → (taking : Taking) →
-      TakingIs items (members there kids) trees old new taking → (head : Head) → LeftIs taking domain head → HeadIs (Op'.System items) keys e trees old new head
+      TakingIs items (members there kids) trees old new taking → (head : Head) → LeftIs taking domain head →
+      HeadIs (Op'.System items) keys e trees old new head
   system_head trees new domain known same Fails p head is = subst (HeadIs (Op'.System items) keys e trees old new) (sym is) (refused p)
   system_head trees new domain known same LeavesNone p Head'.Refused is = absurd is
   system_head trees new domain known same LeavesNone p Head'.Taken is = absurd is

@@ -45,6 +45,7 @@ returns-clause-matched g c =
     let keeps = g.met.S.Store.grows_keeps c.args.store.now c.take_system.new.store c.in_ok-take_system.ensures.grows in
     let parts = c.in-Some.ensures before c.requires.members in
     let replaced = subst (Tried (GetsReplacement s (system_of first)) old mid) c.if-not-branch.false c.in_ok-take_system.ensures.matched in
-    let tried = subst (λ (ms : List Member). Tried (GetsReplacement t (system_of ms)) mid new c.in_ok-is.is') (members_kept keeps c.in-Some.others parts.others) c.in_ok-is.ensures.matched in
+    let kept = members_kept keeps c.in-Some.others parts.others in
+    let tried = subst (λ (ms : List Member). Tried (GetsReplacement t (system_of ms)) mid new c.in_ok-is.is') kept c.in_ok-is.ensures.matched in
     rw c.leaving_none.ensures (both_taken (members_at before c.args.ms.now) first others parts.whole old s t parts.count now mid new c.in_ok-is.is'
     (some_members others parts.others.well_made) replaced tried)

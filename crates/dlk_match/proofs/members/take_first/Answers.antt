@@ -17,7 +17,8 @@ pub returns-in_default-equation-clause-matched : goal.returns-in_default-equatio
 returns-in_default-equation-clause-matched g c =
     let trees = g.S.Store.trees c.args.store.now in
     let parts = c.in-Some.ensures trees c.requires.members in
-    first_unlike (members_at trees c.args.ms.now) (members_at trees c.in-Some.first) (members_at trees c.in-Some.others) parts.whole (extra_at trees c.args.extra.now)
+    let old = extra_at trees c.args.extra.now in
+    first_unlike (members_at trees c.args.ms.now) (members_at trees c.in-Some.first) (members_at trees c.in-Some.others) parts.whole old
     c.args.x.now c.args.s.now parts.count (c.in_default-equation.ensures trees parts.front)
 
 pub returns-then-not-branch-clause-matched : goal.returns-then-not-branch-clause-matched

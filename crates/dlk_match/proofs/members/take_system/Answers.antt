@@ -17,4 +17,5 @@ returns-clause-matched g c =
     let keeps = g.met.S.Store.grows_keeps c.args.store.now c.system.new.store c.in_ok-system.ensures.grows in
     let old_is = extra_kept keeps c.args.extra.now c.requires.extra in
     let tried = subst (λ (old : Extra). Tried (GetsReplacement s (tree now c.in_ok-system.system)) old new is) old_is c.in_ok-replace.ensures.matched in
-    subst (λ (t : Tree). Tried (GetsReplacement s t) (extra_at (g.S.Store.trees c.args.store.now) c.args.extra.now) new is) c.in_ok-system.ensures.made.tree_is tried
+    let old = extra_at (g.S.Store.trees c.args.store.now) c.args.extra.now in
+    subst (λ (t : Tree). Tried (GetsReplacement s t) old new is) c.in_ok-system.ensures.made.tree_is tried
