@@ -18,35 +18,6 @@ use Rattle.dlk_match.proofs.OneMatch.{one_name, one_replacement, one_equation, l
 abbrev pub Refuses : List OdeItem → List Member → Extra → Type 0
 Refuses items ms old = (other : Extra) (sides : List Tree) → TakeMembers items ms old other sides → ⊥
 
--- ---- which items
-
-abbrev Take : List OdeItem → Type 0
-Take [] = ⊥
-Take (Item.Const s ∷ []) = Unit {0}
-Take (Item.Evolve x ∷ []) = Unit {0}
-Take (Item.Evolve x ∷ Item.Const s ∷ []) = Unit {0}
-Take (Item.Const s ∷ Item.Evolve x ∷ []) = Unit {0}
-Take (Item.Const s ∷ Item.Const t ∷ []) = Unit {0}
-Take (Item.Evolve x ∷ Item.Evolve y ∷ []) = ⊥
-Take (a ∷ b ∷ c ∷ rest) = ⊥
-
-take_any : {items : List OdeItem} {ms : List Member} {old new : Extra} {sides : List Tree} → TakeMembers items ms old new sides → Take items
-take_any (constant p) = tt
-take_any (equation p) = tt
-take_any (equation_first mid p q) = tt
-take_any (equation_last y m ms mid is p q) = tt
-take_any (two_constants mid p q) = tt
-
-not_many : (items : List OdeItem) → (length items ≡ 1 → ⊥) → (length items ≡ 2 → ⊥) → Take items → ⊥
-not_many [] one two take = take
-not_many (a ∷ []) one two take = one refl
-not_many (a ∷ b ∷ []) one two take = two refl
-not_many (a ∷ b ∷ c ∷ rest) one two take = take
-
-pub no_other_items : (items : List OdeItem) (ms : List Member) (old other : Extra) (sides : List Tree) → (length items ≡ 1 → ⊥) → (length items ≡ 2 → ⊥) →
-    TakeMembers items ms old other sides → ⊥
-no_other_items items ms old other sides one two taken = not_many items one two (take_any taken)
-
 -- ---- one item
 
 constant_back : {s : Sym} {ms : List Member} {old new : Extra} {sides : List Tree} → TakeMembers (Item.Const s ∷ []) ms old new sides →
@@ -67,10 +38,6 @@ record Gets (x : List ℕ) (ms : List Member) (old new : Extra) : Type 0 where
 
 equation_back : {x : List ℕ} {ms : List Member} {old new : Extra} {sides : List Tree} → TakeMembers (Item.Evolve x ∷ []) ms old new sides → Gets x ms old new
 equation_back (equation {y = y} {e = e} p) = record { y = y; side = e; member_is = refl; named = p }
-
-pub by_no_equation : (x : List ℕ) (ms : List Member) (trees : List Tree) (old : Extra) → ((y : List ℕ) (e : Tree) → ms ≡ Equation y e ∷ [] → ⊥) →
-    Refuses (Item.Evolve x ∷ []) ms old
-by_no_equation x ms trees old none other sides taken = let gets = equation_back taken in none gets.y gets.side gets.member_is
 
 name_is : {x y : List ℕ} {e : Tree} {ms : List Member} {old new : Extra} → ms ≡ Equation y e ∷ [] → Gets x ms old new → GetsName x y old new
 name_is {x} {y} {e} {ms} {old} {new} is gets =

@@ -39,7 +39,7 @@ returns-clause-matched g c = λ keys.
     let domain_known : IsId now d = subst (IsId now) (sym domain) (omega (arith, keeps.known, known)) in
     let domain_is = ap (tree now) domain ∙ keeps.same (get_or ks (length ks - 1) d) known ∙ last_kid trees ks d (omega (arith, many)) in
     let members_are : members c.items.result.now (kid_trees trees c.as_slice.result.now) ≡ members c.in-System.there (kid_trees trees ks) =
-        λ i. members (there i) (kid_trees trees (kids i)) in
+    λ i. members (there i) (kid_trees trees (kids i)) in
     let taking = subst (λ (ms : List Member). TakingIs items ms now old new c.in_ok-taking.taking) members_are c.in_ok-taking.ensures.matched in
     let system_is = target_is trees _ c.look-node.result.op.now c.in-System.there ks node_is c.in-System.is made in
     system_head items keys _ c.in-System.there (kid_trees trees ks) system_is old
