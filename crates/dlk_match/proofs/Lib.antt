@@ -21,3 +21,6 @@ pub mod Taken
 pub mod Heads
 pub mod LeftKids
 pub mod SameSort
+pub mod SomeMembers
+pub mod MembersTaken
+pub mod SystemHeads

@@ -77,7 +77,7 @@ front_is [] m = refl
 front_is (n ∷ []) m = refl
 front_is (n ∷ k ∷ ms) m = ap (λ rest. n ∷ rest) (front_is (k ∷ ms) m)
 
-one_equation : {y z : List ℕ} {s t : Tree} → Equation y s ≡ Equation z t → (y ≡ z) × (s ≡ t)
+pub one_equation : {y z : List ℕ} {s t : Tree} → Equation y s ≡ Equation z t → (y ≡ z) × (s ≡ t)
 one_equation e = (cc, cc)
 
 pub one_taken : {items : List OdeItem} {ms : List Member} {old a b : Extra} {s t : List Tree} → TakeMembers items ms old a s → TakeMembers items ms old b t → (a ≡ b) × (s ≡ t)

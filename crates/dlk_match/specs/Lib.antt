@@ -5,3 +5,4 @@ pub mod Matching
 pub mod Instances
 pub mod Tried
 pub mod Found
+pub mod Members
