@@ -1,5 +1,6 @@
 pub mod Places
 pub mod Kids
+pub mod Finding
 pub mod Instances
 pub mod FormPlans
 pub mod Exchanges
@@ -25,3 +26,6 @@ pub mod Elaborates
 pub mod CallsFit
 pub mod BoxPlans
 pub mod BoxAsks
+pub mod Reaching
+pub mod UseFound
+pub mod FinishPlans
