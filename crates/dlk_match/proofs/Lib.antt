@@ -13,6 +13,7 @@ pub mod AbstractMade
 pub mod SystemsMade
 pub mod Proper
 pub mod Nothing
+pub mod Deciding
 pub mod Taken
 pub mod Heads
 pub mod LeftKids

@@ -15,4 +15,4 @@ pub use instances::{
     axioms_have_own_names, exchanged_at_once, exchanged_over_kids, match_gives_target,
     match_is_proper, nothing_replaced, plugged_back, subst_over_kids,
 };
-pub use laws::one_match;
+pub use laws::{one_match, some_match};
