@@ -17,3 +17,4 @@ pub mod Deciding
 pub mod Taken
 pub mod Heads
 pub mod LeftKids
+pub mod SameSort
