@@ -110,7 +110,7 @@ on_the_right Forwards (Ante i) path may = absurd (cc may)
 on_the_right Backwards (Ante i) path may = absurd (cc may)
 
 -- behind an instance there are proper steps
-pub Goes : (now : ℕ) (spot : Spot) (used : Use) (e f : Tree) → Type 0
+abbrev pub Goes : (now : ℕ) (spot : Spot) (used : Use) (e f : Tree) → Type 0
 Goes now spot used e f = (rest : List Step) × Finishes now spot used e f rest × All IsProper rest
 
 module _ (laws : Laws) where

@@ -48,7 +48,7 @@ module _ (laws : Laws)
           there = record { formula = stands; inside = inside }
 
           by_may : (b : Bool) → may_stand a.form direction g.place g.path ≡ b → Wants rows fact goal s atom
-          by_may false no = record { asked = Refused NoMatch; asks = no_match used e t is_use there (λ may extra m. absurd (cc may)); proper = tt }
+          by_may false never = record { asked = Refused NoMatch; asks = no_match used e t is_use there (λ may extra m. absurd (cc may)); proper = tt }
           by_may true may =
               elim (decide a.own_names (key a.form direction g.place a.formula) t g.extra) [
                 | inl m ↦
