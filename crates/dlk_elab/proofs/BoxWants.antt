@@ -1,8 +1,6 @@
 -- What an atom for a box asks for is decided.
-use Rattle.std.proofs.Common.{◌≡◌, ℕ, List, [], ◌∷◌, length, Option, None, refl, sym, ap, subst, ◌∙◌, inl, inr}
+use Rattle.std.proofs.Common.{◌≡◌, ℕ, List, [], ◌∷◌, length, None, refl, sym, ap, subst, ◌∙◌, inl, inr}
 use Rattle.std.specs.Prelude.{codes}
-use Rattle.std.specs.List.{All}
-use Rattle.dlk_tree.specs.declared.op.Op.TheVariants.{Box, Imply}
 use Rattle.dlk_tree.specs.declared.op.Sort.TheVariants.{Program, Formula}
 use Rattle.dlk_tree.specs.Trees.{Tree, sort, WellMade}
 use Rattle.dlk_calculus.specs.declared.reason.Reason.TheVariants.{WrongShape}

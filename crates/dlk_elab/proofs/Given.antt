@@ -1,11 +1,9 @@
 -- What atoms for boxes and for uses of axioms are given, if they are fitting and have no locators.
-use Rattle.std.proofs.Common.{◌≡◌, ℕ, List, [], ◌∷◌, Option, Some, None, refl, sym, ap, subst, ◌∙◌}
-use Rattle.std.specs.Prelude.{IsTrue}
+use Rattle.std.proofs.Common.{◌≡◌, ℕ, List, [], ◌∷◌, Some, None, refl, sym, ap, subst}
 use Rattle.std.specs.List.{All}
 use Rattle.std.proofs.lemmas.List.Elements.{All-nil, All-head, All-tail}
-use Rattle.dlk_tree.specs.Names.{is_name}
-use Rattle.dlk_tree.specs.Trees.{Tree, WellMade}
-use Rattle.dlk_calculus.specs.Pairs.{Pair, Extra, AreWellMade}
+use Rattle.dlk_tree.specs.Trees.{Tree}
+use Rattle.dlk_calculus.specs.Pairs.{Extra, AreWellMade}
 use Rattle.dlk_calculus.specs.Sequents.{IsFormula}
 use Rattle.dlk_match.specs.Instances.{AreNames}
 use Rattle.dlk_sequent.specs.declared.sequent.Place.{Place}
@@ -13,6 +11,8 @@ use Rattle.dlk_tacsyn.specs.declared.kind.Kind.TheVariants.{AnyPlace, QuotedForm
 use Rattle.dlk_tacsyn.specs.Rows.{AreOfKinds, IsWord, IsPlaceOrLocator, IsGivenFormula, IsGivenExtra, IsNamed}
 use Rattle.dlk_tacsyn.specs.Tactics.{Argument, AtPlace, AnyLeft, AnyRight, Word, GivenFormula, GivenTerm, GivenExtra}
 use Rattle.dlk_elab.specs.Atoms.{IsFixed, UseArguments, alone, with_extra}
+use Rattle.dlk_elab.proofs.ProperSteps.{IsMade}
+use Rattle.dlk_elab.proofs.ProperUses.{AreBothNames}
 
 a_formula : (a : Argument) → IsGivenFormula a → (h : Tree) × (a ≡ GivenFormula h) × IsFormula h
 a_formula (AtPlace place path) h = absurd h
@@ -105,12 +105,6 @@ pub record UseGiven (given : List Argument) : Type 0 where
   pub are : UseArguments given name place path extra
   pub names : AreNames extra.renames
   pub pairs : AreWellMade extra.pairs
-
-abbrev AreBothNames : List ℕ × List ℕ → Type 0
-AreBothNames r = IsTrue (is_name r.0) × IsTrue (is_name r.1)
-
-abbrev IsMade : Pair → Type 0
-IsMade p = WellMade p.by
 
 pub use_given : (given : List Argument) → AreOfKinds (AName ∷ AnyPlace ∷ []) (Some QuotedExtra) given → All IsFixed given → All IsNamed given → UseGiven given
 use_given [] h fixed named = absurd h

@@ -27,7 +27,7 @@ abbrev EachMade : List Pair → Type 0
 EachMade [] = Unit {0}
 EachMade (p ∷ pairs) = WellMade p.by × EachMade pairs
 
-abbrev IsMade : Pair → Type 0
+abbrev pub IsMade : Pair → Type 0
 IsMade p = WellMade p.by
 
 are_made : (pairs : List Pair) → EachMade pairs → AreWellMade pairs
@@ -43,13 +43,15 @@ exchange_proper by rows spot (Ante i) Backwards new = (tt, (tt, (tt, (tt, (tt, t
 pub equivalence_proper : (now : ℕ) (spot : Spot) (place : Place) (direction : Direction) (e : Tree) (path : List ℕ) (l r : Tree) →
     WellMade l → WellMade r → WellMade (put_at e path (leaf Hole)) → EachProper (by_equivalence now spot place direction e path l r)
 equivalence_proper now spot place Forwards e path l r left right context = (
-  tt, (
+  tt,
+  (
     are_made ((any_p ~> l) ∷ (any_q ~> r) ∷ (context_c ~> put_at e path (leaf Hole)) ∷ []) (left, (right, (context, tt))),
     (tt, exchange_proper (now + 3) (now + 3) spot place Forwards (put_at e path r)),
   ),
 )
 equivalence_proper now spot place Backwards e path l r left right context = (
-  tt, (
+  tt,
+  (
     are_made ((any_p ~> l) ∷ (any_q ~> r) ∷ (context_c ~> put_at e path (leaf Hole)) ∷ []) (left, (right, (context, tt))),
     (tt, exchange_proper (now + 3) (now + 3) spot place Backwards (put_at e path l)),
   ),
@@ -67,9 +69,12 @@ pub record EquationMade (e : Tree) (outer inner : List ℕ) (d l r : Tree) : Typ
 pub equation_proper : (now : ℕ) (spot : Spot) (place : Place) (direction : Direction) (e : Tree) (outer inner : List ℕ) (d l r : Tree) →
     EquationMade e outer inner d l r → EachProper (by_equation now spot place direction e outer inner d l r)
 equation_proper now spot place direction e outer inner d l r m = (
-  tt, (
-    are_made ((any_f ~> l) ∷ (any_g ~> r) ∷ []) (m.left, (m.right, tt)), (
-      tt, (
+  tt,
+  (
+    are_made ((any_f ~> l) ∷ (any_g ~> r) ∷ []) (m.left, (m.right, tt)),
+    (
+      tt,
+      (
         are_made ((p_of_one ~> put_at d inner (leaf (Dot 0))) ∷ []) (m.dot, tt),
         equivalence_proper (now + 4) spot place direction e outer (put_at d inner l) (put_at d inner r) m.left_there m.right_there m.context,
       ),
@@ -99,9 +104,12 @@ generalizing_proper now spot j b f program formula =
 pub cutting_proper : (now : ℕ) (spot : Spot) (j : ℕ) (b f h : Tree) → WellMade b → WellMade f → WellMade h → WellMade (imply h f) →
     EachProper (cutting_box now spot j b f h)
 cutting_proper now spot j b f h program formula cut implied = (
-  tt, (
-    are_made ((program_a ~> b) ∷ (any_p ~> h) ∷ (any_q ~> f) ∷ []) (program, (cut, (formula, tt))), (
-      tt, (
+  tt,
+  (
+    are_made ((program_a ~> b) ∷ (any_p ~> h) ∷ (any_q ~> f) ∷ []) (program, (cut, (formula, tt))),
+    (
+      tt,
+      (
         are_made ((program_a ~> b) ∷ (any_p ~> imply h f) ∷ []) (program, (implied, tt)),
         (tt, (tt, (tt, (tt, (tt, (tt, tt)))))),
       ),

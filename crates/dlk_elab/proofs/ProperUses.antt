@@ -20,7 +20,7 @@ use Rattle.dlk_calculus.specs.Notation.{leaf, two}
 use Rattle.dlk_calculus.specs.Pairs.{Pair, Extra, AreWellMade}
 use Rattle.dlk_calculus.specs.Paths.{subtree, put_at, IsInnermost}
 use Rattle.dlk_calculus.specs.Provables.{Provable}
-use Rattle.dlk_calculus.specs.Sequents.{Sequent, IsFormula}
+use Rattle.dlk_calculus.specs.Sequents.{IsFormula}
 use Rattle.dlk_calculus.specs.Steps.{Step, UseAxiom, Substitute, Rename, IsProper}
 use Rattle.dlk_sequent.specs.declared.sequent.Place.{Place}
 use Rattle.dlk_sequent.specs.declared.sequent.Place.TheVariants.{Ante, Succ}
@@ -59,7 +59,8 @@ pub record Laws : Type 0 where
 
 -- The steps of an instance:
 
-abbrev AreBothNames : List ℕ × List ℕ → Type 0
+-- both of a pair are names
+abbrev pub AreBothNames : List ℕ × List ℕ → Type 0
 AreBothNames r = IsTrue (is_name r.0) × IsTrue (is_name r.1)
 
 renaming_proper : (n : ℕ) (renames : List (List ℕ × List ℕ)) → AreNames renames → All IsProper (renaming n renames)
@@ -238,7 +239,7 @@ module _ (laws : Laws) where
           steps,
           conditional_equation q.outer q.inner q.d is q.round,
           all_proper steps
-          (conditional_equation_proper now spot used.place used.direction e q.outer q.inner q.d (left_of f) (left_of g) (right_of g) q.made),
+              (conditional_equation_proper now spot used.place used.direction e q.outer q.inner q.d (left_of f) (left_of g) (right_of g) q.made),
         )
     goes I is now f shape made =
         let steps = by_implication now spot used.place (left_of f) (right_of f) in

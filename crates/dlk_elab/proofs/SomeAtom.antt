@@ -132,7 +132,7 @@ module _ (rows : List Provable) (fact goal : ℕ) (s : Sequent) (atom : Atom) wh
 
   module _ (laws : Laws)
       (matched : (own : List (List ℕ)) (key e : Tree) (given : Extra) →
-          ((extra : Extra) × Match key own e given extra) ⊎ ((extra : Extra) → ¬ Match key own e given extra))
+      ((extra : Extra) × Match key own e given extra) ⊎ ((extra : Extra) → ¬ Match key own e given extra))
       (formulas : IsSequent s) (fitting : IsFitting atom) (fixed : HasNoLocator atom) (names : HasNames atom) where
     -- the arguments are of the kinds of the name's row
     kinds_are : (row : Row) → row_of atom.name ≡ Some row → AreOfKinds row.wanted row.optional atom.arguments

@@ -1,13 +1,10 @@
 -- What an atom that uses an axiom asks for is decided.
 use Rattle.std.proofs.Common.{◌≡◌, ℕ, Bool, true, false, List, [], ◌∷◌, length, Option, Some, None, refl, sym, ap, ◌∙◌, ◌⊎◌, inl, inr}
-use Rattle.std.specs.Prelude.{IsTrue}
-use Rattle.std.specs.List.{All}
 use Rattle.std.proofs.lemmas.Option.{none-some, same_Some}
 use Rattle.dlk_tree.specs.Trees.{Tree}
 use Rattle.dlk_calculus.specs.Axioms.{Axiom, axiom_named}
 use Rattle.dlk_calculus.specs.Pairs.{Extra}
 use Rattle.dlk_calculus.specs.Paths.{subtree}
-use Rattle.dlk_calculus.specs.Places.{at}
 use Rattle.dlk_calculus.specs.Provables.{Provable}
 use Rattle.dlk_calculus.specs.Sequents.{Sequent, IsFormula, IsSequent}
 use Rattle.dlk_sequent.specs.declared.sequent.Place.{Place}
@@ -58,8 +55,8 @@ module _ (laws : Laws)
                       asked = Instance used m.0 e;
                       asks = use_axiom used e t m.0 is_use there may m.1;
                       proper = (
-                          made_proper laws spot used e t m.0 formula inside may m.1 named (length rows) g.names g.pairs,
-                          λ between takes. goes_on laws spot used e t m.0 formula inside may m.1 named rows between takes,
+                        made_proper laws spot used e t m.0 formula inside may m.1 named (length rows) g.names g.pairs,
+                        λ between takes. goes_on laws spot used e t m.0 formula inside may m.1 named rows between takes,
                       );
                     }
                 | inr none ↦ record { asked = Refused NoMatch; asks = no_match used e t is_use there (λ may extra m. none extra m); proper = tt }

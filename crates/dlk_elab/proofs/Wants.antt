@@ -16,7 +16,7 @@ module _ (rows : List Provable) (fact goal : ℕ) (s : Sequent) where
   AreProperSteps (Steps steps) = All IsProper steps
   AreProperSteps (Instance used extra e) =
       All IsProper (instance_of (length rows) used extra) × ((between : List Provable) → Takes rows (instance_of (length rows) used extra) between →
-          Goes (length between) (record { fact = fact; goal = goal; s = s }) used e (proved between))
+      Goes (length between) (record { fact = fact; goal = goal; s = s }) used e (proved between))
   AreProperSteps (Refused why) = Unit {0}
 
   pub record Wants (atom : Atom) : Type 0 where
