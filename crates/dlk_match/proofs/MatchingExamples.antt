@@ -119,7 +119,8 @@ one_name_for_two : HasNoMatch (eq x y) (x_ ∷ y_ ∷ []) (eq (variable (codes "
 one_name_for_two =
     let both : Extra = record { renames = (x_, codes "x") ∷ (y_, codes "x") ∷ []; pairs = [] } in
     not_apart (eq x y) (x_ ∷ y_ ∷ []) (eq (variable (codes "x")) (variable (codes "x"))) nothing both
-    (equal_matches x y nothing x_to_x both (variable (codes "x")) (variable (codes "x")) (codes "x", x_to_x, refl, (_, refl, refl)) (codes "x", both, refl, (_, refl, refl)))
+    (equal_matches x y nothing x_to_x both (variable (codes "x")) (variable (codes "x")) (codes "x", x_to_x, refl, (_, refl, refl))
+        (codes "x", both, refl, (_, refl, refl)))
     (λ apart. false_true apart.unlike)
 
 -- x_=1 isn't y_=1 where y_ is an own name, too
