@@ -54,7 +54,7 @@ later_stay : (v : Var) (t : Tree) (rest : Forest) → ending_in rest (abstracted
 later_stay v t no_kids = refl
 later_stay v t (kid u rest) =
     test_other (count (abstracted_all v (kid t (kid u rest)))) (count (kid u rest)) _ _ (omega (arith, count_all v (kid u rest)))
-        ∙ ap (kid (abstracted v t)) (all_stay v (kid u rest))
+    ∙ ap (kid (abstracted v t)) (all_stay v (kid u rest))
 
 -- captured or not
 chosen : (v : Var) (is : Bool) (tail kids : Forest) → ending_in tail (abstracted_all v kids) ≡ mixed v (count kids - count tail) kids
@@ -72,8 +72,8 @@ behind_first v (kid t rest) =
     later_stay v t rest ∙ ap (λ n. mixed v n (kid t rest)) (sym one)
 
 kept : (v : Var) (op : Op) (kids : Forest)
-    → (if (captures op).set kids v then ending_in ((captures op).reach kids) (abstracted_all v kids) else abstracted_all v kids) ≡ mixed v
-        (entered v op kids) kids
+    → (if (captures op).set kids v then ending_in ((captures op).reach kids) (abstracted_all v kids) else abstracted_all v kids)
+    ≡ mixed v (entered v op kids) kids
 kept v Op'.Box kids = chosen v _ (later kids) kids (behind_first v kids)
 kept v Op'.Dia kids = chosen v _ (later kids) kids (behind_first v kids)
 kept v Op'.Seq kids = chosen v _ (later kids) kids (behind_first v kids)
@@ -164,7 +164,7 @@ module _ (v : Var) {before now : List Tree} {id : Id} {op : Op} {ks js : List Id
   pub made_abstracted : is_variable v op ≡ false → n ≡ entered v op (kid_trees before ks) → abstracted v (tree before id) ≡ node op (kid_trees now kids)
   made_abstracted other whole =
       ap (abstracted v) m.node_is ∙ abstracted_node v op (kid_trees before ks) other
-          ∙ ap (node op) (ap (λ k. mixed v k (kid_trees before ks)) (sym whole) ∙ sym made_is)
+      ∙ ap (node op) (ap (λ k. mixed v k (kid_trees before ks)) (sym whole) ∙ sym made_is)
 
 pub rest_is : (js ks slice : List Id) (n m : ℕ) → slice ≡ ks → n ≡ m → js ++ take (length slice - n) (drop n slice) ≡ js ++ drop m ks
 rest_is js ks slice n m e same = ap (λ rest. js ++ rest) (take_rest slice n ∙ λ i. drop (same i) (e i))

@@ -105,11 +105,12 @@ module _ (keys : Forest) (e : Tree) (Kids : Forest → Extra → Extra → Type 
   down (Op'.Predicational s) h p = absurd (not_true h)
   down (Op'.Const s) h p = absurd (not_true h)
   down (Op'.System items) h p = absurd (not_true h)
-  down (Op'.Variable v) h p = record { mid = p.1; target = Op'.Variable
-      (record { name = p.0; primed = v.primed }); kids = p.3.0; node_is = p.3.1; like = (p.0, refl, p.2); rest = p.3.2 }
+  down (Op'.Variable v) h p =
+      record { mid = p.1; target = Op'.Variable (record { name = p.0; primed = v.primed }); kids = p.3.0; node_is = p.3.1; like = (p.0, refl, p.2); rest = p.3.2 }
   down (Op'.Forall x) h p = record { mid = p.1; target = Op'.Forall p.0; kids = p.3.0; node_is = p.3.1; like = (p.0, refl, p.2); rest = p.3.2 }
   down (Op'.Exists x) h p = record { mid = p.1; target = Op'.Exists p.0; kids = p.3.0; node_is = p.3.1; like = (p.0, refl, p.2); rest = p.3.2 }
-  down (Op'.Assign v) h p = record { mid = p.1; target = Op'.Assign (record { name = p.0; primed = v.primed }); kids = p.3.0; node_is = p.3.1; like = (p.0, refl, p.2); rest = p.3.2 }
+  down (Op'.Assign v) h p =
+      record { mid = p.1; target = Op'.Assign (record { name = p.0; primed = v.primed }); kids = p.3.0; node_is = p.3.1; like = (p.0, refl, p.2); rest = p.3.2 }
   down (Op'.Any x) h p = record { mid = p.1; target = Op'.Any p.0; kids = p.3.0; node_is = p.3.1; like = (p.0, refl, p.2); rest = p.3.2 }
   down op h p = record { mid = old; target = op; kids = p.0; node_is = p.1; like = (refl, refl); rest = p.2 }
 

@@ -55,7 +55,7 @@ module _ (key target : Tree) (old new : TreeExtra) (trees : List Tree) (ks es : 
   opened : (other : TreeExtra)
       → MatchesAll (kid_trees trees (drop i ks)) (kid_trees trees (drop i es)) new other
       ≡ MatchesAll (kid (tree trees (get_or ks i d)) (kid_trees trees (drop (i + 1) ks)))
-          (kid (tree trees (get_or es i f)) (kid_trees trees (drop (i + 1) es))) new other
+      (kid (tree trees (get_or es i f)) (kid_trees trees (drop (i + 1) es))) new other
   opened other = let a = kid_trees-drop trees ks i d within in let b = kid_trees-drop trees es i f beside in λ j. MatchesAll (a j) (b j) new other
 
   -- the next kid matches
@@ -143,6 +143,9 @@ module _ (before now : List Tree) (op : Op) (key target : Tree) (old new : TreeE
   moved : (X : Tree → Type 0) → X (node op (kid_trees before keys.items)) → X key
   moved X x = subst X (sym node_is) x
 
+  abbrev Leads : Vec Id → Tree → Type 0
+  Leads targets k = (other : TreeExtra) → Matches k target old other ↔ MatchesAll (kid_trees before keys.items) (kid_trees now targets.items) new other
+
   some_rest : (targets : Vec Id) (many : Bool) → (length keys.items == length targets.items) ≡ many
       → HeadIs op (kid_trees before keys.items) target now old new (Left targets)
       → RestIs before now key target old new (if many then Kids keys targets else Over false)
@@ -152,12 +155,10 @@ module _ (before now : List Tree) (op : Op) (key target : Tree) (old new : TreeE
     keys_known = known;
     targets_known = h.0;
     as_many = grind (arith, e);
-    left = moved (λ k. (other : TreeExtra) → Matches k target old other ↔ MatchesAll (kid_trees before keys.items) (kid_trees now targets.items) new other) h.1;
+    left = moved (Leads targets) h.1;
   }
   some_rest targets false e h =
-      let left = moved (λ k. (other : TreeExtra) → Matches k target old other ↔ MatchesAll (kid_trees before keys.items)
-          (kid_trees now targets.items) new other) h.1 in
-      unlike_many key target old new before now keys.items targets.items left (λ same. absurd (grind (arith, e, same)))
+      unlike_many key target old new before now keys.items targets.items (moved (Leads targets) h.1) (λ same. absurd (grind (arith, e, same)))
 
   pub rest_is : (head : Head) → HeadIs op (kid_trees before keys.items) target now old new head → RestIs before now key target old new (rest_of keys head)
   rest_is Refused h = moved (λ k. (other : TreeExtra) → Matches k target old other → ⊥) h

@@ -30,9 +30,9 @@ returns-clause-found g c =
     let target = tree before c.args.target in
     let own = c.args.own.now in
     let found = c.match_tree.new.extra in
-    let tried = subst (Tried (Matches key target) (extra_at before c.in_ok-extra.extra)
-        (extra_at now found)) c.if-not-branch.false c.in_ok-match_tree.ensures.matched in
-    let matches = subst (λ (old : Extra). Matches key target (extra_at before old) (extra_at now found)) c.in_ok-extra.ensures tried in
+    let new = extra_at now found in
+    let tried = subst (Tried (Matches key target) (extra_at before c.in_ok-extra.extra) new) c.if-not-branch.false c.in_ok-match_tree.ensures.matched in
+    let matches = subst (λ (old : Extra). Matches key target (extra_at before old) new) c.in_ok-extra.ensures tried in
     let given = subst (λ rs. IsTrue c.are_given.result ↔ AreGiven own rs) c.as_slice.ensures c.are_given.ensures in
     let apart = subst (λ rs. IsTrue c.are_apart.result ↔ AreApart own rs) c.as_slice-2.ensures c.are_apart.ensures in
     let pairs_are = subst (λ ps. c.in_ok-extra-2.field-0 ≡ pairs_renamed found.renames ps) c.as_slice-4.ensures

@@ -65,7 +65,7 @@ match_tree-requires g t c κs within =
     let upto = g.met.S.Store.grows_keeps c.args.store.now c.loop-i.store inv.grows in
     let known = kid_known before mid upto keys c.loop-i.i c.index.result.now at c.index.ensures inv.keys_known in
     let less = kid_less before mid upto keys c.loop-i.i c.index.result.now at c.index.ensures inv.keys_known
-        (tree before c.args.key) inv.node_is.0 inv.node_is.1 in
+    (tree before c.args.key) inv.node_is.0 inv.node_is.1 in
     let target = subst (IsId mid) (sym c.index-in-loop-i.ensures) (inv.left_known c.loop-i.i c.index-in-loop-i.result.now beside) in
     (omega (arith, less, c.decreases), (search rules, (search rules, (inv.known, (known, target)))))
 
