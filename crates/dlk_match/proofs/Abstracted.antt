@@ -1,5 +1,6 @@
 -- The kids of a node with `._0` for a variable: the first ones are new, and those in which the operator captures it stay.
-use Rattle.std.proofs.Common.{◌≡◌, refl, sym, ap, subst, ◌∙◌, arith, ℕ, suc, zero, ◌+◌, ◌-◌, ◌<◌, ◌≤◌, List, [], ◌∷◌, ◌++◌, length, get_or, take, drop, Bool, true, false}
+use Rattle.std.proofs.Common.{◌≡◌, refl, sym, ap, subst, ◌∙◌, arith, ℕ, suc, zero, ◌+◌, ◌-◌}
+use Rattle.std.proofs.Common.{◌<◌, ◌≤◌, List, [], ◌∷◌, ◌++◌, length, get_or, take, drop, Bool, true, false}
 use Rattle.std.specs.Prelude.{All, ◌==◌, if◌then◌else◌}
 use Rattle.dlk_tree.specs.declared.op.Var.{Var}
 use Rattle.dlk_tree.specs.declared.op.Op.{Op}
@@ -52,7 +53,8 @@ all_stay v (kid t rest) = test_same _ _ _ _ (count_all v (kid t rest))
 later_stay : (v : Var) (t : Tree) (rest : Forest) → ending_in rest (abstracted_all v (kid t rest)) ≡ kid (abstracted v t) rest
 later_stay v t no_kids = refl
 later_stay v t (kid u rest) =
-    test_other (count (abstracted_all v (kid t (kid u rest)))) (count (kid u rest)) _ _ (omega (arith, count_all v (kid u rest))) ∙ ap (kid (abstracted v t)) (all_stay v (kid u rest))
+    test_other (count (abstracted_all v (kid t (kid u rest)))) (count (kid u rest)) _ _ (omega (arith, count_all v (kid u rest)))
+    ∙ ap (kid (abstracted v t)) (all_stay v (kid u rest))
 
 -- captured or not
 chosen : (v : Var) (is : Bool) (tail kids : Forest) → ending_in tail (abstracted_all v kids) ≡ mixed v (count kids - count tail) kids
@@ -70,7 +72,8 @@ behind_first v (kid t rest) =
     later_stay v t rest ∙ ap (λ n. mixed v n (kid t rest)) (sym one)
 
 kept : (v : Var) (op : Op) (kids : Forest)
-    → (if (captures op).set kids v then ending_in ((captures op).reach kids) (abstracted_all v kids) else abstracted_all v kids) ≡ mixed v (entered v op kids) kids
+    → (if (captures op).set kids v then ending_in ((captures op).reach kids) (abstracted_all v kids) else abstracted_all v kids)
+    ≡ mixed v (entered v op kids) kids
 kept v Op'.Box kids = chosen v _ (later kids) kids (behind_first v kids)
 kept v Op'.Dia kids = chosen v _ (later kids) kids (behind_first v kids)
 kept v Op'.Seq kids = chosen v _ (later kids) kids (behind_first v kids)
@@ -124,7 +127,8 @@ module _ (v : Var) {before now : List Tree} (keeps : Keeps before now) where
       λ i. kid (head i) (tail i)
 
   pub mixed_known : (ks js : List Id) (n : ℕ) → All (IsId before) ks → All (IsId now) js → All (IsId now) (js ++ drop n ks)
-  mixed_known ks js n all known = All-append (IsId now) js (drop n ks) known (All-drop (IsId now) n ks (All-weaker (IsId before) (IsId now) (λ id h. omega (arith, keeps.known, h)) ks all))
+  mixed_known ks js n all known = All-append (IsId now) js (drop n ks) known
+      (All-drop (IsId now) n ks (All-weaker (IsId before) (IsId now) (λ id h. omega (arith, keeps.known, h)) ks all))
 
 -- ---- how many are outside
 
@@ -135,7 +139,8 @@ one_outside trees (k ∷ ks) h = omega arith
 pub none_outside : (trees : List Tree) (ks : List Id) → 0 ≡ count (kid_trees trees ks) - count (kid_trees trees ks)
 none_outside trees ks = omega arith
 
-pub nothing_captured : (v : Var) (op : Op) (kids : Forest) (is : Bool) → is ≡ false → is ≡ (captures op).set kids v → (n : ℕ) → n ≡ count kids → n ≡ entered v op kids
+pub nothing_captured : (v : Var) (op : Op) (kids : Forest) (is : Bool) → is ≡ false → is ≡ (captures op).set kids v → (n : ℕ) → n ≡ count kids
+    → n ≡ entered v op kids
 nothing_captured v op kids is free same n e = e ∙ sym (not_of (sym same ∙ free))
   where
     not_of : (captures op).set kids v ≡ false → entered v op kids ≡ count kids
@@ -158,7 +163,8 @@ module _ (v : Var) {before now : List Tree} {id : Id} {op : Op} {ks js : List Id
 
   pub made_abstracted : is_variable v op ≡ false → n ≡ entered v op (kid_trees before ks) → abstracted v (tree before id) ≡ node op (kid_trees now kids)
   made_abstracted other whole =
-      ap (abstracted v) m.node_is ∙ abstracted_node v op (kid_trees before ks) other ∙ ap (node op) (ap (λ k. mixed v k (kid_trees before ks)) (sym whole) ∙ sym made_is)
+      ap (abstracted v) m.node_is ∙ abstracted_node v op (kid_trees before ks) other
+      ∙ ap (node op) (ap (λ k. mixed v k (kid_trees before ks)) (sym whole) ∙ sym made_is)
 
 pub rest_is : (js ks slice : List Id) (n m : ℕ) → slice ≡ ks → n ≡ m → js ++ take (length slice - n) (drop n slice) ≡ js ++ drop m ks
 rest_is js ks slice n m e same = ap (λ rest. js ++ rest) (take_rest slice n ∙ λ i. drop (same i) (e i))

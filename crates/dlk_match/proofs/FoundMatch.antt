@@ -16,7 +16,8 @@ use Rattle.dlk_match.proofs.OneMatch.{one_matches}
 
 -- ---- pairs whose taboos are renamed
 
-trees_renamed : (trees : List Tree) (renames : Names) (pairs : List Pair) → pairs_at trees (pairs_renamed renames pairs) ≡ renamed_pairs renames (pairs_at trees pairs)
+trees_renamed : (trees : List Tree) (renames : Names) (pairs : List Pair)
+    → pairs_at trees (pairs_renamed renames pairs) ≡ renamed_pairs renames (pairs_at trees pairs)
 trees_renamed trees renames [] = refl
 trees_renamed trees renames (p ∷ pairs) =
     ap (λ rest. record { sym = renamed_symbol renames p.sym; by = (pair_at trees p).by } ∷ rest) (trees_renamed trees renames pairs)

@@ -39,13 +39,15 @@ module _ (key target : Op) (old : Extra) where
 
   -- the name that the target's operator has
   module _ (x : List ℕ) (named : name_in key ≡ Some x) where
-    given_name : (o : Option (List ℕ)) → o ≡ Some x → (other : Extra) → IsNamedLike o key target old other → (y : List ℕ) × (target ≡ with_name y key) × GetsName x y old other
+    given_name : (o : Option (List ℕ)) → o ≡ Some x → (other : Extra) → IsNamedLike o key target old other
+        → (y : List ℕ) × (target ≡ with_name y key) × GetsName x y old other
     given_name (Some z) is other p =
         let same = same_Some z x is in
         (p.0, p.1, subst (λ w. GetsName w p.0 old other) same p.2)
     given_name None is other p = absurd (none-some x is)
 
-    gives_name : (o : Option (List ℕ)) → o ≡ Some x → (other : Extra) (y : List ℕ) → target ≡ with_name y key → GetsName x y old other → IsNamedLike o key target old other
+    gives_name : (o : Option (List ℕ)) → o ≡ Some x → (other : Extra) (y : List ℕ) → target ≡ with_name y key → GetsName x y old other
+        → IsNamedLike o key target old other
     gives_name (Some z) is other y same p = (y, same, subst (λ w. GetsName w y old other) (sym (same_Some z x is)) p)
     gives_name None is other y same p = absurd (none-some x is)
 
@@ -73,7 +75,8 @@ module _ (key target : Op) (old : Extra) where
           let like = given_name (name_in key) named other q in
           p other (subst (λ z. GetsName x z old other) (its_name like.0 like.1) like.2)
 
-one_named_like : (o : Option (List ℕ)) (key target : Op) (old a b : Extra) → name_in key ≡ o → IsNamedLike o key target old a → IsNamedLike o key target old b → a ≡ b
+one_named_like : (o : Option (List ℕ)) (key target : Op) (old a b : Extra) → name_in key ≡ o → IsNamedLike o key target old a
+    → IsNamedLike o key target old b → a ≡ b
 one_named_like None key target old a b is p q = p.1 ∙ sym q.1
 one_named_like (Some x) key target old a b is p q =
     let same = same_Some q.0 p.0 (sym (name_in_with key x q.0 is) ∙ ap name_in (sym q.1 ∙ p.1) ∙ name_in_with key x p.0 is) in
@@ -102,10 +105,12 @@ module _ (keys : Forest) (e : Tree) (Kids : Forest → Extra → Extra → Type 
   down (Op'.Predicational s) h p = absurd (not_true h)
   down (Op'.Const s) h p = absurd (not_true h)
   down (Op'.System items) h p = absurd (not_true h)
-  down (Op'.Variable v) h p = record { mid = p.1; target = Op'.Variable (record { name = p.0; primed = v.primed }); kids = p.3.0; node_is = p.3.1; like = (p.0, refl, p.2); rest = p.3.2 }
+  down (Op'.Variable v) h p =
+      record { mid = p.1; target = Op'.Variable (record { name = p.0; primed = v.primed }); kids = p.3.0; node_is = p.3.1; like = (p.0, refl, p.2); rest = p.3.2 }
   down (Op'.Forall x) h p = record { mid = p.1; target = Op'.Forall p.0; kids = p.3.0; node_is = p.3.1; like = (p.0, refl, p.2); rest = p.3.2 }
   down (Op'.Exists x) h p = record { mid = p.1; target = Op'.Exists p.0; kids = p.3.0; node_is = p.3.1; like = (p.0, refl, p.2); rest = p.3.2 }
-  down (Op'.Assign v) h p = record { mid = p.1; target = Op'.Assign (record { name = p.0; primed = v.primed }); kids = p.3.0; node_is = p.3.1; like = (p.0, refl, p.2); rest = p.3.2 }
+  down (Op'.Assign v) h p =
+      record { mid = p.1; target = Op'.Assign (record { name = p.0; primed = v.primed }); kids = p.3.0; node_is = p.3.1; like = (p.0, refl, p.2); rest = p.3.2 }
   down (Op'.Any x) h p = record { mid = p.1; target = Op'.Any p.0; kids = p.3.0; node_is = p.3.1; like = (p.0, refl, p.2); rest = p.3.2 }
   down op h p = record { mid = old; target = op; kids = p.0; node_is = p.1; like = (refl, refl); rest = p.2 }
 
@@ -191,20 +196,23 @@ module _ (s : Sym) (kids : Forest) (e : Tree) (old new : Extra) where
         refused other (of_variable q) = p other (subst (λ t. GetsReplacement s t old other) (body_is q.v q.y q.kids_are q.name_is) q.replaced)
 
 module _ (keys : Forest) (e : Tree) (trees : List Tree) (old new : Extra) (s : Sym) (is : Bool) where
-  unit_rows : (op : Op) → ((k : Extra) → Matches (node op keys) e old k ≡ GetsReplacement s e old k) → Tried (GetsReplacement s e) old new is → HeadIs op keys e trees old new (taken is)
+  unit_rows : (op : Op) → ((k : Extra) → Matches (node op keys) e old k ≡ GetsReplacement s e old k) → Tried (GetsReplacement s e) old new is
+      → HeadIs op keys e trees old new (taken is)
   unit_rows op row p = at is p
     where
       at : (b : Bool) → Tried (GetsReplacement s e) old new b → HeadIs op keys e trees old new (taken b)
       at true q = subst (λ Z. Z) (sym (row new)) q
       at false q = λ other r. q other (subst (λ Z. Z) (row other) r)
 
-  pub unit_head : (op : Op) → (op ≡ Op'.UnitFun s) ⊎ ((op ≡ Op'.UnitPred s) ⊎ (op ≡ Op'.Const s)) → Tried (GetsReplacement s e) old new is → HeadIs op keys e trees old new (taken is)
+  pub unit_head : (op : Op) → (op ≡ Op'.UnitFun s) ⊎ ((op ≡ Op'.UnitPred s) ⊎ (op ≡ Op'.Const s)) → Tried (GetsReplacement s e) old new is
+      → HeadIs op keys e trees old new (taken is)
   unit_head op at p =
       let goal = λ (o : Op). HeadIs o keys e trees old new (taken is) in
       ⊎_elim (λ q. subst goal (sym q) (unit_rows (Op'.UnitFun s) (λ k. refl) p))
       (⊎_elim (λ q. subst goal (sym q) (unit_rows (Op'.UnitPred s) (λ k. refl) p)) (λ q. subst goal (sym q) (unit_rows (Op'.Const s) (λ k. refl) p))) at
 
-  applied_rows : (op : Op) → ((k : Extra) → Matches (node op keys) e old k ≡ Application s keys e old k) → Tried (Application s keys e) old new is → HeadIs op keys e trees old new (taken is)
+  applied_rows : (op : Op) → ((k : Extra) → Matches (node op keys) e old k ≡ Application s keys e old k) → Tried (Application s keys e) old new is
+      → HeadIs op keys e trees old new (taken is)
   applied_rows op row p = at is p
     where
       at : (b : Bool) → Tried (Application s keys e) old new b → HeadIs op keys e trees old new (taken b)
@@ -279,5 +287,6 @@ not_one renames trees (k ∷ j ∷ ks) h w a = later_kid a.kids_are
     later_kid : {s t u : Tree} {rest : Forest} → kid s (kid t rest) ≡ kid u no_kids → ⊥
     later_kid e = cc
 
-pub no_predicational : (keys : Forest) (e : Tree) (old : Extra) (op : Op) (s : Sym) → op ≡ Op'.Predicational s → (other : Extra) → Matches (node op keys) e old other → ⊥
+pub no_predicational : (keys : Forest) (e : Tree) (old : Extra) (op : Op) (s : Sym) → op ≡ Op'.Predicational s → (other : Extra)
+    → Matches (node op keys) e old other → ⊥
 no_predicational keys e old op s is other p = subst (λ (o : Op). Matches (node o keys) e old other) is p

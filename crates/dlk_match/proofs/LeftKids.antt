@@ -39,7 +39,8 @@ pub ids_known : {old new : List Tree} → Keeps old new → (ks : List Id) → A
 ids_known = all_known
 
 -- in a store that has grown
-pub left_kept : (key target : Tree) (old new : TreeExtra) {now next : List Tree} → Keeps now next → (ks es : List Id) (i : ℕ) → All (IsId now) ks → All (IsId now) es
+pub left_kept : (key target : Tree) (old new : TreeExtra) {now next : List Tree} → Keeps now next → (ks es : List Id) (i : ℕ) → All (IsId now) ks
+    → All (IsId now) es
     → IsLeft key target old now ks es i new → IsLeft key target old next ks es i new
 left_kept key target old new {now} {next} keeps ks es i ks_known es_known left other =
     let a = kid_trees-kept keeps (drop i ks) (All-drop (IsId now) i ks ks_known) in
@@ -53,11 +54,13 @@ module _ (key target : Tree) (old new : TreeExtra) (trees : List Tree) (ks es : 
 
   opened : (other : TreeExtra)
       → MatchesAll (kid_trees trees (drop i ks)) (kid_trees trees (drop i es)) new other
-      ≡ MatchesAll (kid (tree trees (get_or ks i d)) (kid_trees trees (drop (i + 1) ks))) (kid (tree trees (get_or es i f)) (kid_trees trees (drop (i + 1) es))) new other
+      ≡ MatchesAll (kid (tree trees (get_or ks i d)) (kid_trees trees (drop (i + 1) ks)))
+      (kid (tree trees (get_or es i f)) (kid_trees trees (drop (i + 1) es))) new other
   opened other = let a = kid_trees-drop trees ks i d within in let b = kid_trees-drop trees es i f beside in λ j. MatchesAll (a j) (b j) new other
 
   -- the next kid matches
-  pub left_next : (next : TreeExtra) → Matches (tree trees (get_or ks i d)) (tree trees (get_or es i f)) new next → IsLeft key target old trees ks es (i + 1) next
+  pub left_next : (next : TreeExtra) → Matches (tree trees (get_or ks i d)) (tree trees (get_or es i f)) new next
+      → IsLeft key target old trees ks es (i + 1) next
   left_next next matches other = (
     λ p.
         let q = subst (λ Z. Z) (opened other) ((left other).0 p) in
@@ -67,7 +70,8 @@ module _ (key target : Tree) (old new : TreeExtra) (trees : List Tree) (ks es : 
   )
 
   -- or doesn't
-  pub left_nowhere : ((next : TreeExtra) → Matches (tree trees (get_or ks i d)) (tree trees (get_or es i f)) new next → ⊥) → (other : TreeExtra) → Matches key target old other → ⊥
+  pub left_nowhere : ((next : TreeExtra) → Matches (tree trees (get_or ks i d)) (tree trees (get_or es i f)) new next → ⊥) → (other : TreeExtra)
+      → Matches key target old other → ⊥
   left_nowhere none other p =
       let q = subst (λ Z. Z) (opened other) ((left other).0 p) in
       none q.0 q.1
@@ -101,7 +105,8 @@ left_first key target old new {before} {now} keeps ks es known left other =
     subst (λ Z. Z) (λ j. Matches key target old other ↔ MatchesAll (sym a j) (kid_trees now es) new other) (left other)
 
 -- the i-th kid, which is this one
-module _ (before mid : List Tree) (keeps : Keeps before mid) (ks : List Id) (i : ℕ) (k : Id) (within : i < length ks) (k_is : k ≡ get_or ks i k) (known : All (IsId before) ks) where
+module _ (before mid : List Tree) (keeps : Keeps before mid) (ks : List Id) (i : ℕ) (k : Id) (within : i < length ks) (k_is : k ≡ get_or ks i k)
+    (known : All (IsId before) ks) where
   was_known : IsId before k
   was_known = subst (IsId before) (sym k_is) (known i k within)
 
@@ -138,7 +143,11 @@ module _ (before now : List Tree) (op : Op) (key target : Tree) (old new : TreeE
   moved : (X : Tree → Type 0) → X (node op (kid_trees before keys.items)) → X key
   moved X x = subst X (sym node_is) x
 
-  some_rest : (targets : Vec Id) (many : Bool) → (length keys.items == length targets.items) ≡ many → HeadIs op (kid_trees before keys.items) target now old new (Left targets)
+  abbrev Leads : Vec Id → Tree → Type 0
+  Leads targets k = (other : TreeExtra) → Matches k target old other ↔ MatchesAll (kid_trees before keys.items) (kid_trees now targets.items) new other
+
+  some_rest : (targets : Vec Id) (many : Bool) → (length keys.items == length targets.items) ≡ many
+      → HeadIs op (kid_trees before keys.items) target now old new (Left targets)
       → RestIs before now key target old new (if many then Kids keys targets else Over false)
   some_rest targets true e h = record {
     op = op;
@@ -146,11 +155,10 @@ module _ (before now : List Tree) (op : Op) (key target : Tree) (old new : TreeE
     keys_known = known;
     targets_known = h.0;
     as_many = grind (arith, e);
-    left = moved (λ k. (other : TreeExtra) → Matches k target old other ↔ MatchesAll (kid_trees before keys.items) (kid_trees now targets.items) new other) h.1;
+    left = moved (Leads targets) h.1;
   }
   some_rest targets false e h =
-      let left = moved (λ k. (other : TreeExtra) → Matches k target old other ↔ MatchesAll (kid_trees before keys.items) (kid_trees now targets.items) new other) h.1 in
-      unlike_many key target old new before now keys.items targets.items left (λ same. absurd (grind (arith, e, same)))
+      unlike_many key target old new before now keys.items targets.items (moved (Leads targets) h.1) (λ same. absurd (grind (arith, e, same)))
 
   pub rest_is : (head : Head) → HeadIs op (kid_trees before keys.items) target now old new head → RestIs before now key target old new (rest_of keys head)
   rest_is Refused h = moved (λ k. (other : TreeExtra) → Matches k target old other → ⊥) h

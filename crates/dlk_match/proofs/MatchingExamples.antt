@@ -1,16 +1,14 @@
 -- Examples of matching: what an axiom's key is to be, with which names and replacements.
-use Rattle.std.proofs.Common.{◌≡◌, refl, sym, ap, ◌∙◌, subst, ℕ, List, [], ◌∷◌, get_or, Bool, true, false, Some, None, arith}
-use Rattle.std.specs.Prelude.{All, IsTrue, codes}
+use Rattle.std.proofs.Common.{◌≡◌, refl, sym, ap, ◌∙◌, subst, ℕ, List, [], ◌∷◌, true, false, None, arith}
+use Rattle.std.specs.Prelude.{IsTrue, codes}
 use Rattle.std.specs.Str.{bytes_eq}
 use Rattle.std.proofs.lemmas.Option.{same_Some}
 use Rattle.std.proofs.lemmas.List.Elements.{All-cons, All-nil}
 use Rattle.dlk_tree.specs.declared.op.Sym.{Sym}
 use Rattle.dlk_tree.specs.declared.op.Kind.TheVariants.{Func, Pred, UnitFunc, UnitPred, Ode}
-use Rattle.dlk_tree.specs.declared.op.OdeItem.TheVariants as Item
 use Rattle.dlk_tree.specs.declared.op.Op.TheVariants as Op'
-use Rattle.dlk_tree.specs.declared.op.Var.{Var}
 use Rattle.dlk_tree.specs.Statics.{plain}
-use Rattle.dlk_tree.specs.Trees.{Tree, node, Forest, no_kids, kid}
+use Rattle.dlk_tree.specs.Trees.{Tree, no_kids, kid}
 use Rattle.dlk_calculus.specs.Notation.{leaf, number, add, eq, ge, box, assign, system, evolve, c_item, x_, y_, x, y, f, q, f0, p_of}
 use Rattle.dlk_calculus.specs.Pairs.{Pair, Extra}
 use Rattle.dlk_match.specs.Matching.{Matches, MatchesAll, of_nothing, of_variable, equation_first, AreGiven, AreApart, is_own, Match}
@@ -119,7 +117,8 @@ one_name_for_two : HasNoMatch (eq x y) (x_ ∷ y_ ∷ []) (eq (variable (codes "
 one_name_for_two =
     let both : Extra = record { renames = (x_, codes "x") ∷ (y_, codes "x") ∷ []; pairs = [] } in
     not_apart (eq x y) (x_ ∷ y_ ∷ []) (eq (variable (codes "x")) (variable (codes "x"))) nothing both
-    (equal_matches x y nothing x_to_x both (variable (codes "x")) (variable (codes "x")) (codes "x", x_to_x, refl, (_, refl, refl)) (codes "x", both, refl, (_, refl, refl)))
+    (equal_matches x y nothing x_to_x both (variable (codes "x")) (variable (codes "x")) (codes "x", x_to_x, refl, (_, refl, refl))
+    (codes "x", both, refl, (_, refl, refl)))
     (λ apart. false_true apart.unlike)
 
 -- x_=1 isn't y_=1 where y_ is an own name, too

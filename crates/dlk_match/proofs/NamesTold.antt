@@ -58,7 +58,8 @@ each_twice test name r rest q = go (test r) (list_any (bytes_eq (name r)) (map n
 
 -- ---- all of them
 
-module _ (test : List ℕ × List ℕ → Bool) (name : List ℕ × List ℕ → List ℕ) (P : List ℕ × List ℕ → Type 0) (tells : (r : List ℕ × List ℕ) → IsTrue (test r) ↔ P r) where
+module _ (test : List ℕ × List ℕ → Bool) (name : List ℕ × List ℕ → List ℕ) (P : List ℕ × List ℕ → Type 0)
+    (tells : (r : List ℕ × List ℕ) → IsTrue (test r) ↔ P r) where
   each_of : (renames : Names) → IsTrue (are_each test name renames) → All P renames × IsTrue (all_distinct (map name renames))
   each_of [] h = (All-nil P, refl)
   each_of (r ∷ rest) h =

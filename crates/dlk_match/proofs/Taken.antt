@@ -54,7 +54,8 @@ module _ (s : Sym) (e : Tree) (old : Extra) where
   replaced_before (Some z) r is same = (same_Some z r is ∙ same, refl)
   replaced_before None r is same = absurd (none-some r is)
 
-  pub before : (r : Tree) → replacement old.pairs s ≡ Some r → sort e ≡ (kind_row s.kind).sort → (is : Bool) → IsTrue is ↔ (r ≡ e) → Tried (GetsReplacement s e) old old is
+  pub before : (r : Tree) → replacement old.pairs s ≡ Some r → sort e ≡ (kind_row s.kind).sort → (is : Bool) → IsTrue is ↔ (r ≡ e)
+      → Tried (GetsReplacement s e) old old is
   before r found of_sort true same = (of_sort, replaced_before (replacement old.pairs s) r found (same.0 refl))
   before r found of_sort false same = λ other p. not_true (same.1 (replaced_by (replacement old.pairs s) r other found p.1))
 

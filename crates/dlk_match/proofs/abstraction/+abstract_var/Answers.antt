@@ -49,19 +49,22 @@ pub make-requires-2-clause-known : goal.make-requires-2-clause-known
 make-requires-2-clause-known g t c =
     let i = c.loop-i.invariant in
     let at : c.entered-count.result ≡ c.loop-i.i = omega (arith, c.loop-i-test.false, c.loop-i.auto.i-end) in
-    let is = c.as_slice.ensures.value ∙ c.in_ok-extend_from_slice.ensures.items ∙ rest_is c.loop-i.new.items c.in_ok-kids.kids.items c.deref.result.now c.entered-count.result c.loop-i.i c.deref.ensures.value at in
+    let is = c.as_slice.ensures.value ∙ c.in_ok-extend_from_slice.ensures.items
+    ∙ rest_is c.loop-i.new.items c.in_ok-kids.kids.items c.deref.result.now c.entered-count.result c.loop-i.i c.deref.ensures.value at in
     made_known c.args.v.now i.made c.as_slice.result.now is (omega (arith, at, i.few))
 
 pub make-requires-2-clause-fits : goal.make-requires-2-clause-fits
 make-requires-2-clause-fits g t c =
     let i = c.loop-i.invariant in
     let at : c.entered-count.result ≡ c.loop-i.i = omega (arith, c.loop-i-test.false, c.loop-i.auto.i-end) in
-    let is = c.as_slice.ensures.value ∙ c.in_ok-extend_from_slice.ensures.items ∙ rest_is c.loop-i.new.items c.in_ok-kids.kids.items c.deref.result.now c.entered-count.result c.loop-i.i c.deref.ensures.value at in
+    let is = c.as_slice.ensures.value ∙ c.in_ok-extend_from_slice.ensures.items
+    ∙ rest_is c.loop-i.new.items c.in_ok-kids.kids.items c.deref.result.now c.entered-count.result c.loop-i.i c.deref.ensures.value at in
     made_fits c.args.v.now i.made c.as_slice.result.now is (omega (arith, at, i.few)) (g.met.S.Store.well_made c.args.store.now) c.requires
 
 pub returns-clause-made : goal.returns-clause-made
 returns-clause-made g t c =
     let i = c.loop-i.invariant in
     let at : c.entered-count.result ≡ c.loop-i.i = omega (arith, c.loop-i-test.false, c.loop-i.auto.i-end) in
-    let is = c.as_slice.ensures.value ∙ c.in_ok-extend_from_slice.ensures.items ∙ rest_is c.loop-i.new.items c.in_ok-kids.kids.items c.deref.result.now c.entered-count.result c.loop-i.i c.deref.ensures.value at in
+    let is = c.as_slice.ensures.value ∙ c.in_ok-extend_from_slice.ensures.items
+    ∙ rest_is c.loop-i.new.items c.in_ok-kids.kids.items c.deref.result.now c.entered-count.result c.loop-i.i c.deref.ensures.value at in
     rw (made_abstracted c.args.v.now i.made c.as_slice.result.now is (omega (arith, at, i.few)) i.other (omega (arith, at, i.count))) c.make-2.ensures.made

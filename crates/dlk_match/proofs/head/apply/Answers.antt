@@ -22,7 +22,8 @@ returns-in_default-clause-matched g c =
 pub returns-then-is_empty-clause-matched : goal.returns-then-is_empty-clause-matched
 returns-then-is_empty-clause-matched g c =
     let trees = g.S.Store.trees c.args.store.now in
-    applied_to_nothing c.args.s.now (kid_trees trees c.args.kids.now) (tree trees c.args.e) (extra_at trees c.args.extra.now) (extra_at trees c.replace.new.extra)
+    applied_to_nothing c.args.s.now (kid_trees trees c.args.kids.now) (tree trees c.args.e) (extra_at trees c.args.extra.now)
+    (extra_at trees c.replace.new.extra)
     (is_bare trees c.args.kids.now c.is_empty.result c.if-is_empty.true c.is_empty.ensures) c.in_ok-replace.field-0 c.in_ok-replace.ensures.matched
 
 pub returns-clause-matched : goal.returns-clause-matched
@@ -40,4 +41,5 @@ returns-clause-matched g c =
     let tried = subst (λ (old : Extra). Tried (GetsReplacement s (tree now c.in_ok-body.body)) old new is) old_is c.in_ok-replace-2.ensures.matched in
     let moved = subst (λ (t : Tree). Tried (GetsReplacement s t) (extra_at before c.args.extra.now) new is) body_is tried in
     let argument = rw c.in-Some.is at c.in_ok-v.ensures in
-    applied_to_variable s kids e (extra_at before c.args.extra.now) new c.in-Some.v (subst (λ rs. IsArgument rs kids c.in-Some.v) c.as_slice.ensures argument) is moved
+    applied_to_variable s kids e (extra_at before c.args.extra.now) new c.in-Some.v
+    (subst (λ rs. IsArgument rs kids c.in-Some.v) c.as_slice.ensures argument) is moved

@@ -31,5 +31,6 @@ returns-clause-matched c =
     (λ (is : Bool). (trees : List Tree) → Tried (GetsName x y) (extra_at trees c.args.extra.now) (extra_at trees c.rename.new.extra) is)
     (λ (is : Bool). (trees : List Tree) → Tried (IsLike key target) (extra_at trees c.args.extra.now) (extra_at trees c.rename.new.extra) is)
     (λ is p trees.
-    like_named key target (extra_at trees c.args.extra.now) x c.in-Some.ensures y c.in-Some-name_in.ensures same (extra_at trees c.rename.new.extra) is (p trees))
+    like_named key target (extra_at trees c.args.extra.now) x c.in-Some.ensures y c.in-Some-name_in.ensures same
+    (extra_at trees c.rename.new.extra) is (p trees))
     c.rename.ensures.matched

@@ -20,7 +20,8 @@ returns-in_ok-apply-in-Apply-clause-matched g c =
 pub returns-in-Predicational-clause-matched : goal.returns-in-Predicational-clause-matched
 returns-in-Predicational-clause-matched g c =
     let trees = g.S.Store.trees c.args.store.now in
-    no_predicational (kid_trees trees c.args.keys.now) (tree trees c.args.target) (extra_at trees c.args.extra.now) c.args.op.now c.in-Predicational.field-0 c.in-Predicational.is
+    no_predicational (kid_trees trees c.args.keys.now) (tree trees c.args.target)
+    (extra_at trees c.args.extra.now) c.args.op.now c.in-Predicational.field-0 c.in-Predicational.is
 
 pub returns-in-System-clause-matched : goal.returns-in-System-clause-matched
 returns-in-System-clause-matched g c =
@@ -28,7 +29,8 @@ returns-in-System-clause-matched g c =
     let now = g.S.Store.trees c.match_system.new.store in
     let keys = kid_trees before c.args.keys.now in
     let op_is = ap Op'.System c.items.ensures ∙ sym c.in-System.is in
-    subst (λ (op : Op). IfOk c.match_system.result (HeadIs op keys (tree before c.args.target) now (extra_at before c.args.extra.now) (extra_at now c.match_system.new.extra))) op_is
+    subst (λ (op : Op). IfOk c.match_system.result (HeadIs op keys (tree before c.args.target) now (extra_at before c.args.extra.now)
+    (extra_at now c.match_system.new.extra))) op_is
     (c.match_system.ensures.matched keys)
 
 pub returns-in_ok-match_other-in_default-clause-matched : goal.returns-in_ok-match_other-in_default-clause-matched

@@ -9,8 +9,10 @@ pub returns-then-not-branch-clause-matched : goal.returns-then-not-branch-clause
 returns-then-not-branch-clause-matched g c = λ keys.
     let trees = g.S.Store.trees c.args.store.now in
     let old = extra_at trees c.args.extra.now in
-    let none = subst (Tried (IsLike c.args.op.now c.look-node.result.op.now) old (extra_at trees c.like.new.extra)) c.if-not-branch.true (c.in_ok-like.ensures.matched trees) in
-    head_refused keys (tree trees c.args.target) old old c.args.op.now c.look-node.result.op.now (kid_trees trees c.look-node.result.kids.now) c.look-node.ensures.node c.requires.other none
+    let none = subst (Tried (IsLike c.args.op.now c.look-node.result.op.now) old (extra_at trees c.like.new.extra)) c.if-not-branch.true
+    (c.in_ok-like.ensures.matched trees) in
+    head_refused keys (tree trees c.args.target) old old c.args.op.now c.look-node.result.op.now
+    (kid_trees trees c.look-node.result.kids.now) c.look-node.ensures.node c.requires.other none
 
 pub returns-clause-matched : goal.returns-clause-matched
 returns-clause-matched g c = λ keys.
@@ -20,5 +22,6 @@ returns-clause-matched g c = λ keys.
     let kids = c.look-node.result.kids.now in
     let items : c.in_ok-to_vec.field-0.items ≡ kids = search rules in
     let like = subst (Tried (IsLike c.args.op.now c.look-node.result.op.now) old new) c.if-not-branch.false (c.in_ok-like.ensures.matched trees) in
-    let left = head_left keys (tree trees c.args.target) old new c.args.op.now c.look-node.result.op.now (kid_trees trees kids) c.look-node.ensures.node c.requires.other like in
+    let left = head_left keys (tree trees c.args.target) old new c.args.op.now c.look-node.result.op.now
+    (kid_trees trees kids) c.look-node.ensures.node c.requires.other like in
     rw items (c.look-node.ensures.known, left)

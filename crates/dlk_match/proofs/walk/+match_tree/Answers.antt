@@ -46,7 +46,8 @@ loop-i-preserved g t c =
       left_known = ids_known keeps targets inv.left_known;
       as_many = inv.as_many;
       node_is = inv.node_is;
-      is_left = kid_matches (tree before c.args.key) (tree before c.args.target) (extra_at before c.args.extra.now) (extra_at mid c.loop-i.extra) mid keys targets
+      is_left = kid_matches (tree before c.args.key) (tree before c.args.target) (extra_at before c.args.extra.now)
+          (extra_at mid c.loop-i.extra) mid keys targets
           c.loop-i.i c.index.result.now c.index-in-loop-i.result.now within beside c.index.ensures c.index-in-loop-i.ensures inv.is_left keeps
           (ids_known upto keys inv.keys_known) inv.left_known (extra_at next c.match_tree.new.extra) c.in_ok-match_tree.field-0 c.if-not-branch.false
           c.in_ok-match_tree.ensures.matched;
@@ -63,7 +64,8 @@ match_tree-requires g t c κs within =
     let beside : c.loop-i.i < length targets = omega (arith, at, inv.as_many) in
     let upto = g.met.S.Store.grows_keeps c.args.store.now c.loop-i.store inv.grows in
     let known = kid_known before mid upto keys c.loop-i.i c.index.result.now at c.index.ensures inv.keys_known in
-    let less = kid_less before mid upto keys c.loop-i.i c.index.result.now at c.index.ensures inv.keys_known (tree before c.args.key) inv.node_is.0 inv.node_is.1 in
+    let less = kid_less before mid upto keys c.loop-i.i c.index.result.now at c.index.ensures inv.keys_known
+    (tree before c.args.key) inv.node_is.0 inv.node_is.1 in
     let target = subst (IsId mid) (sym c.index-in-loop-i.ensures) (inv.left_known c.loop-i.i c.index-in-loop-i.result.now beside) in
     (omega (arith, less, c.decreases), (search rules, (search rules, (inv.known, (known, target)))))
 

@@ -22,5 +22,6 @@ invariant-loop-i g l =
       left_known : All (IsId now) l.targets.items;
       as_many : length l.keys.items ≡ length l.targets.items;
       node_is : (op : Op) × (tree before l.fn.key ≡ node op (kid_trees before l.keys.items));
-      is_left : IsLeft (tree before l.fn.key) (tree before l.fn.target) (extra_at before l.fn.extra) now l.keys.items l.targets.items l.i (extra_at now l.extra);
+      is_left : IsLeft (tree before l.fn.key) (tree before l.fn.target) (extra_at before l.fn.extra) now l.keys.items l.targets.items l.i
+          (extra_at now l.extra);
     }
