@@ -54,7 +54,8 @@ fn exports_leaves(rt: HostRuntime) -> Result<(), Fail> {
 fn exports_leaf_by_leaf(rt: HostRuntime) -> Result<(), Fail> {
     let alloc = rt.alloc();
     let model: &[u8] = b"v>=0 & A>0 -> [{{a:=A;++a:=0;}{x'=v,v'=a&v>=0}}*@invariant(v>=0)]v>=0";
-    let strategy: &[u8] = b"implyR(1); loop(\"v>=0\",1); <(leaf, useAt(composeb,1); useAt(choiceb,1); andR(1); useAt(assignb,1); dW(1); leaf, leaf)";
+    let strategy: &[u8] =
+        b"implyR(1); loop(\"v>=0\",1); <(leaf, useAt(composeb,1); useAt(choiceb,1); andR(1); useAt(assignb,1); dW(1); leaf, leaf)";
     let (_, proved) = replied(
         alloc,
         &["prove", "model", "strategy", "term"],
