@@ -70,11 +70,23 @@ fn job<L: Ledger>(
     ensures looks { CommandLooksAtFew command (texts_of inputs.now) steps.old steps.new }
 {
     match (command, others, inputs) {
-        (Command::Check, [], [model, term]) => check(alloc, Showing::Reported(Layout::Text), model, term, steps),
+        (Command::Check, [], [model, term]) => check(
+            alloc,
+            Showing::Reported(Layout::Text),
+            model,
+            term,
+            steps,
+        ),
         (Command::Print, [], [file]) => print(alloc, file, steps),
         (Command::Vars, [], [file]) => vars(alloc, file),
         (Command::Subst, [], [file, substitution]) => subst(alloc, file, substitution, steps),
-        (Command::Report, [], [model, term]) => check(alloc, Showing::Reported(Layout::Json), model, term, steps),
+        (Command::Report, [], [model, term]) => check(
+            alloc,
+            Showing::Reported(Layout::Json),
+            model,
+            term,
+            steps,
+        ),
         (Command::Smt, [], [model, term]) => check(alloc, Showing::Exported, model, term, steps),
         (Command::Prove, [_], [model, strategy]) => prove(alloc, model, strategy, steps),
         _ => unreachable!(),

@@ -59,13 +59,13 @@ module _ (s : Sequent) where
   declared_of t there x (inl (v, e, is_free, stands)) =
       let among = Has-put var_cmp var_exact v [] (in_formulas own_variables s) (in_formula own_variables v t there stands) in
       let kept = Has-filter (λ w. in_some_formula (λ u. free u w) s) v (put_all var_cmp [] (in_formulas own_variables s))
-          (passes (λ u. free u v) t there is_free) among in
+      (passes (λ u. free u v) t there is_free) among in
       subst (λ z. Has z (declared s)) (sym e) (Has-left (variable_symbol v) (map variable_symbol (free_variables s))
-          (map function_symbol (functions s)) (Has-map variable_symbol v (free_variables s) kept))
+      (map function_symbol (functions s)) (Has-map variable_symbol v (free_variables s) kept))
   declared_of t there x (inr (g, e, stands)) =
       let among = Has-put (slice_cmp nat_cmp) name_exact g [] (in_formulas own_functions s) (in_formula own_functions g t there stands) in
       subst (λ z. Has z (declared s)) (sym e) (Has-right (function_symbol g) (map variable_symbol (free_variables s))
-          (map function_symbol (functions s)) (Has-map function_symbol g (functions s) among))
+      (map function_symbol (functions s)) (Has-map function_symbol g (functions s) among))
 
   -- what an expression uses is declared
   abbrev pub IsCovered : Expr → Type 0
@@ -127,14 +127,14 @@ pub declared_distinct : (s : Sequent) → IsSequent s → all_distinct (declared
 declared_distinct s made =
     let names = functions s in
     let one_each : all_distinct (map function_symbol names ++ []) ≡ true = distinct_texts (slice_cmp nat_cmp) nat_list_cmp_total function_symbol Any
-        (λ g h a b e. one_function g h e) [] (λ g h. h) names
+    (λ g h a b e. one_function g h e) [] (λ g h. h) names
     (sorted-put (slice_cmp nat_cmp) nat_list_cmp_total [] (in_formulas own_functions s) (sorted_none (slice_cmp nat_cmp))) (any_each names) refl in
     let functions_once = ap all_distinct (sym (append-nil (map function_symbol names))) ∙ one_each in
     let is_free : Var → Bool = λ w. in_some_formula (λ u. free u w) s in
     let all = Each-append IsNamed (everywhere_in own_variables (forest s.ante)) (everywhere_in own_variables (forest s.succ))
-        (named_all (forest s.ante) (well_made_side s.ante made.ante)) (named_all (forest s.succ) (well_made_side s.succ made.succ)) in
+    (named_all (forest s.ante) (well_made_side s.ante made.ante)) (named_all (forest s.succ) (well_made_side s.succ made.succ)) in
     let sorted = IsStrictlySortedBy-filter var_cmp is_free (put_all var_cmp [] (in_formulas own_variables s))
-        (sorted-put var_cmp var_total [] (in_formulas own_variables s) (sorted_none var_cmp)) in
+    (sorted-put var_cmp var_total [] (in_formulas own_variables s) (sorted_none var_cmp)) in
     distinct_texts var_cmp var_total variable_symbol IsNamed one_variable (map function_symbol names) (λ v. function_apart v names) (free_variables s) sorted
     (Each-filter IsNamed is_free (put_all var_cmp [] (in_formulas own_variables s)) (Each-put var_cmp IsNamed [] (in_formulas own_variables s) tt all))
-        functions_once
+    functions_once

@@ -53,8 +53,8 @@ Gains-node a b c d trees ks i op js h e p q r =
     let fs = everywhere_node own_functions trees ks i op js h e in
     let all = Gains-both a b d _ _ _ _ p (Gains-both b c d _ _ _ _ q r) in
     subst (λ l. Gains a d l (everywhere_in own_functions (kid_trees trees ks))) vs
-        (subst (λ l. Gains a d (own_variables op ++ (everywhere_in own_variables (kid_trees trees js) ++ everywhere_in own_variables
-        (kid_trees trees (drop 1 ks)))) l) fs all)
+    (subst (λ l. Gains a d (own_variables op ++ (everywhere_in own_variables (kid_trees trees js) ++ everywhere_in own_variables
+    (kid_trees trees (drop 1 ks)))) l) fs all)
 
 -- a sequent's sides one after the other
 pub Gains-sequent : (a b c : Symbols) (trees : List Tree) (s : Sequent) (ls rs : List Id) → ls ≡ s.ante → rs ≡ s.succ → a.variables.keys ≡ []
@@ -62,7 +62,7 @@ pub Gains-sequent : (a b c : Symbols) (trees : List Tree) (s : Sequent) (ls rs :
     → Gains a b (everywhere_in own_variables (kid_trees trees ls)) (everywhere_in own_functions (kid_trees trees ls))
     → Gains b c (everywhere_in own_variables (kid_trees trees rs)) (everywhere_in own_functions (kid_trees trees rs))
     → (c.variables.keys ≡ put_all var_cmp [] (in_formulas own_variables (sequent_at trees s))) ×
-        (c.functions.keys ≡ put_all (slice_cmp nat_cmp) [] (in_formulas own_functions (sequent_at trees s)))
+    (c.functions.keys ≡ put_all (slice_cmp nat_cmp) [] (in_formulas own_functions (sequent_at trees s)))
 Gains-sequent a b c trees s ls rs l r v f p q =
     let all = Gains-both a b c _ _ _ _ p q in
     let left = kid_trees-forest trees ls ∙ ap (λ ks. forest (map (tree trees) ks)) l in

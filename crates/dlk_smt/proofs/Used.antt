@@ -69,7 +69,7 @@ unbound : (x y : List ℕ) (kids : Forest)
 unbound x y kids (inr g) f = inr g
 unbound x y kids (inl (v, e, is_free, there)) f =
     let apart : var_eq v (plain y) ≡ false = other (var_eq v (plain y)) (var_eq_decides v (plain y))
-        (λ same. true_false ((bytes_eq-Decides x (variable_symbol (plain y))).1 (e ∙ ap variable_symbol same)) f) in
+    (λ same. true_false ((bytes_eq-Decides x (variable_symbol (plain y))).1 (e ∙ ap variable_symbol same)) f) in
     inl (v, e, (λ i. is_free i && not (apart i)), there)
 
 quantified : (x y : List ℕ) (kids : Forest)
@@ -129,15 +129,25 @@ by_op op.Loop kids x ih h = false_true h
 
 in_first : (x : List ℕ) (t : Tree) (rest : Forest) → Names x (free t) (everywhere own_variables t) (everywhere own_functions t)
     → Names x (free_in_kids (sets_all (kid t rest))) (everywhere_in own_variables (kid t rest)) (everywhere_in own_functions (kid t rest))
-in_first x t rest (inl (v, e, is_free, there)) = inl (v, e, ap (λ b. b || free_in_kids (sets_all rest) v) is_free, Has-left v
-    (everywhere own_variables t) (everywhere_in own_variables rest) there)
+in_first x t rest (inl (v, e, is_free, there)) = inl (
+  v,
+  e,
+  ap (λ b. b || free_in_kids (sets_all rest) v) is_free,
+  Has-left v
+      (everywhere own_variables t) (everywhere_in own_variables rest) there,
+)
 in_first x t rest (inr (g, e, there)) = inr (g, e, Has-left g (everywhere own_functions t) (everywhere_in own_functions rest) there)
 
 in_rest : (x : List ℕ) (t : Tree) (rest : Forest)
     → Names x (free_in_kids (sets_all rest)) (everywhere_in own_variables rest) (everywhere_in own_functions rest)
     → Names x (free_in_kids (sets_all (kid t rest))) (everywhere_in own_variables (kid t rest)) (everywhere_in own_functions (kid t rest))
-in_rest x t rest (inl (v, e, is_free, there)) = inl (v, e, or_right (free t v) _ is_free, Has-right v (everywhere own_variables t)
-    (everywhere_in own_variables rest) there)
+in_rest x t rest (inl (v, e, is_free, there)) = inl (
+  v,
+  e,
+  or_right (free t v) _ is_free,
+  Has-right v (everywhere own_variables t)
+      (everywhere_in own_variables rest) there,
+)
 in_rest x t rest (inr (g, e, there)) = inr (g, e, Has-right g (everywhere own_functions t) (everywhere_in own_functions rest) there)
 
 mutual

@@ -15,7 +15,7 @@ returns g c =
     let s = sequent_at trees c.args.s.now in
     let is_free : Var → Bool = λ v. in_some_formula (λ t. free t v) s in
     let vars : c.as_slice.result.now ≡ put_all var_cmp [] (in_formulas own_variables s) = c.as_slice.ensures.value ∙ c.in_ok-variables.ensures ∙
-        c.in_ok-symbols.ensures.variables in
+    c.in_ok-symbols.ensures.variables in
     let names : c.as_slice-2.result.now ≡ functions s = c.as_slice-2.ensures.value ∙ c.in_ok-functions.ensures ∙ c.in_ok-symbols.ensures.functions in
     let none = unbegun c.args.out.now.items (smt_parts s) in
     let logic = appended (codes "(set-logic NRA)\n") _ none c.in_ok-append.ensures.ok in
