@@ -45,11 +45,12 @@ use Rattle.dlk_elab.specs.Uses.{IsFound, ProvesForm, aim_of}
 
 named_in : (name : List ℕ) (xs : List Axiom) (a : Axiom) → find (λ (x : Axiom). bytes_eq x.name name) xs ≡ Some a → a.name ≡ name
 named_in name [] a e = absurd (none-some a e)
-named_in name (x ∷ xs) a e = go (bytes_eq x.name name) (bytes_eq-Decides x.name name) e
+named_in name (x ∷ xs) a e = go (λ h. named_in name xs a h) (bytes_eq x.name name) (bytes_eq-Decides x.name name) e
   where
-    go : (b : Bool) → Decides b (x.name ≡ name) → cond b (Some x) (find (λ (y : Axiom). bytes_eq y.name name) xs) ≡ Some a → a.name ≡ name
-    go true d h = subst (λ (z : Axiom). z.name ≡ name) (same_Some x a h) (d.0 refl)
-    go false d h = named_in name xs a h
+    go : (find (λ (y : Axiom). bytes_eq y.name name) xs ≡ Some a → a.name ≡ name) → (b : Bool) → Decides b (x.name ≡ name) →
+        cond b (Some x) (find (λ (y : Axiom). bytes_eq y.name name) xs) ≡ Some a → a.name ≡ name
+    go rest true d h = subst (λ (z : Axiom). z.name ≡ name) (same_Some x a h) (d.0 refl)
+    go rest false d h = rest h
 
 pub has_its_name : (name : List ℕ) (a : Axiom) → axiom_named name ≡ Some a → a.name ≡ name
 has_its_name name a e = named_in name axioms a e
