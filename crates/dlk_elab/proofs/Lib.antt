@@ -20,6 +20,13 @@ pub mod Decided
 pub mod OneFinish
 pub mod AtomLaws
 pub mod MergesFit
+pub mod ProperSteps
+pub mod ProperUses
+pub mod BoxOrNot
+pub mod Given
+pub mod Wants
+pub mod BoxWants
+pub mod UseWants
 pub mod SomeAtom
 pub mod RuleArguments
 pub mod Elaborates
