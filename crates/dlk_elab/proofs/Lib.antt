@@ -35,4 +35,5 @@ pub mod BoxPlans
 pub mod BoxAsks
 pub mod Reaching
 pub mod UseFound
+pub mod UseTaken
 pub mod FinishPlans

@@ -190,8 +190,10 @@ module _ (rows : List Provable) (fact goal : ℕ) (s : Sequent) (atom : Atom) wh
 
 -- an atom gives steps, or has a fault
 pub some_atom : ((rows : List Provable) (step : Step) → IsProper step → ((p : Provable) × StepOf rows step p) ⊎ ((why : Reason) × Fault rows step why)) →
-    Laws → ((own : List (List ℕ)) (key e : Tree) (given : Extra) → ((extra : Extra) × Match key own e given extra) ⊎ ((extra : Extra) → ¬ Match key own e given extra)) →
-    (rows : List Provable) (fact goal : ℕ) (atom : Atom) → HasGoalAt rows fact goal → All HasFormulas rows → IsFitting atom → HasNoLocator atom → HasNames atom →
+    Laws → ((own : List (List ℕ)) (key e : Tree) (given : Extra) →
+    ((extra : Extra) × Match key own e given extra) ⊎ ((extra : Extra) → ¬ Match key own e given extra)) →
+    (rows : List Provable) (fact goal : ℕ) (atom : Atom) → HasGoalAt rows fact goal → All HasFormulas rows → IsFitting atom → HasNoLocator atom →
+    HasNames atom →
     ((s : List Step) × (a : List Provable) × AtomSteps rows fact goal atom s a) ⊎ ((why : AtomWhy) × AtomFault rows fact goal atom why)
 some_atom decide laws matched rows fact goal atom there formulas fitting fixed names =
     let w = wants_some rows fact goal there.0 atom laws matched (goal_formulas rows fact goal there.0 formulas there.1) fitting fixed names in

@@ -22,7 +22,8 @@ use Rattle.dlk_elab.proofs.ProperUses.{Laws, made_proper, goes_on}
 use Rattle.dlk_elab.proofs.Wants.{Wants}
 
 module _ (laws : Laws)
-    (decide : (own : List (List ℕ)) (key e : Tree) (given : Extra) → ((extra : Extra) × Match key own e given extra) ⊎ ((extra : Extra) → ¬ Match key own e given extra))
+    (decide : (own : List (List ℕ)) (key e : Tree) (given : Extra) →
+    ((extra : Extra) × Match key own e given extra) ⊎ ((extra : Extra) → ¬ Match key own e given extra))
     (rows : List Provable) (fact goal : ℕ) (s : Sequent) (atom : Atom) (formulas : IsSequent s) where
   abbrev spot : Spot
   spot = record { fact = fact; goal = goal; s = s }

@@ -26,6 +26,7 @@ use crate::taking::take_in_turn;
 use crate::ways::reach;
 use dlk_axioms::AxiomForm;
 use dlk_kernel::Kernel;
+use dlk_match::{axioms_have_own_names, match_keeps_sort};
 use dlk_rules::{Step, step_stays};
 use dlk_sequent::laws::{spine_leads, spine_stays};
 use dlk_sequent::{Extra, Spine};
@@ -145,6 +146,8 @@ pub(crate) fn use_axiom<S: Store, L: Ledger>(
 {
     uses_have_shapes();
     uses_rename_few();
+    match_keeps_sort();
+    axioms_have_own_names();
     step_stays();
     spine_stays();
     let _ = kernel.rows();
