@@ -1,5 +1,6 @@
 -- The atoms of the strategy language: what each asks of the kernel on a goal, the steps that it gives, and its fault.
 pub use Rattle.dlk_tacsyn.specs.Rows.{IsNamed, HasNames}
+pub use Rattle.dlk_uses.specs.Taking.{FirstFault}
 use Rattle.std.specs.Prelude.{◌≡◌, ◌≢◌, IsTrue, ◌<◌, ◌≤◌, ◌+◌, ◌⊎◌, ℕ, List, [], ◌∷◌, ◌++◌, length, Option, Some, None, All, Any, codes}
 use Rattle.dlk_tree.specs.Trees.{Tree}
 use Rattle.dlk_calculus.specs.declared.reason.Reason.{Reason}
@@ -23,7 +24,6 @@ use Rattle.dlk_rules.specs.Words.{text_of}
 use Rattle.dlk_kernel.specs.Taken.{Takes}
 use Rattle.dlk_tacsyn.specs.Tactics.{Argument, AtPlace, AnyLeft, AnyRight, Word, GivenFormula, GivenTerm, GivenExtra, Atom}
 use Rattle.dlk_uses.specs.Uses.{Direction, Forwards, Backwards, Use, key, may_stand, formula_at, instance, generalizing, cutting_box, Finishes, proved}
-use Rattle.dlk_uses.specs.Taking.{FirstFault}
 use Rattle.dlk_match.specs.Matching.{Match}
 
 -- why an atom gives no steps
@@ -114,19 +114,23 @@ abbrev pub NamesAxiom : Atom → Direction → (name : List ℕ) (place : Place)
 NamesAxiom atom direction name place path given = (atom.name ≡ word_of_direction direction) × UseArguments atom.arguments name place path given
 
 -- and there is one
-pub record IsUse (atom : Atom) (use : Use) : Type 0 where
+pub record IsUse (atom : Atom) (used : Use) : Type 0 where
   pub name : List ℕ
-  pub names : NamesAxiom atom use.direction name use.place use.path use.given
-  pub is_axiom : axiom_named name ≡ Some use.axiom
+  pub names : NamesAxiom atom used.direction name used.place used.path used.given
+  pub is_axiom : axiom_named name ≡ Some used.its_axiom
 
 -- the formula e stands at the place, and the subtree at the path of it
-pub record StandsThere (s : Sequent) (use : Use) (e subtree_there : Tree) : Type 0 where
-  pub formula : formula_at s use.place ≡ Some e
-  pub inside : subtree e use.path ≡ Some subtree_there
+pub record StandsThere (s : Sequent) (used : Use) (e subtree_there : Tree) : Type 0 where
+  pub formula : formula_at s used.place ≡ Some e
+  pub inside : subtree e used.path ≡ Some subtree_there
 
 -- what is looked for of the axiom matches the subtree, with these names and replacements
 abbrev pub MatchesThere : Use → Tree → Extra → Type 0
-MatchesThere use t extra = Match (key use.axiom.form use.direction use.place use.axiom.formula) use.axiom.own_names t use.given extra
+MatchesThere used t extra = Match (key used.its_axiom.form used.direction used.place used.its_axiom.formula) used.its_axiom.own_names t used.given extra
+
+-- the name of an atom whose steps use axioms or axiomatic rules
+abbrev pub IsByAxioms : List ℕ → Type 0
+IsByAxioms name = (name ≡ codes "G") ⊎ ((name ≡ codes "boxCut") ⊎ ((name ≡ codes "useAt") ⊎ (name ≡ codes "useBack")))
 
 -- Boxes:
 
@@ -167,29 +171,29 @@ pub data Asks (rows fact goal : ℕ) (s : Sequent) (atom : Atom) : Asked → Typ
   no_box : (p : Argument) (j : ℕ) (e : Tree) → IsForBox atom p → IsOnTheRight s p j e → ((b f : Tree) → e ≢ box b f) →
       Asks rows fact goal s atom (Refused (AtStep WrongShape))
   not_on_the_right : (p : Argument) → IsForBox atom p → ((j : ℕ) (e : Tree) → ¬ IsOnTheRight s p j e) → Asks rows fact goal s atom (Refused NoPlace)
-  use_axiom : (use : Use) (e t : Tree) (extra : Extra) → IsUse atom use → StandsThere s use e t →
-      IsTrue (may_stand use.axiom.form use.direction use.place use.path) → MatchesThere use t extra →
-      Asks rows fact goal s atom (Instance use extra e)
+  use_axiom : (used : Use) (e t : Tree) (extra : Extra) → IsUse atom used → StandsThere s used e t →
+      IsTrue (may_stand used.its_axiom.form used.direction used.place used.path) → MatchesThere used t extra →
+      Asks rows fact goal s atom (Instance used extra e)
   no_axiom : (direction : Direction) (name : List ℕ) (place : Place) (path : List ℕ) (given : Extra) →
       NamesAxiom atom direction name place path given → axiom_named name ≡ None → Asks rows fact goal s atom (Refused UnknownName)
-  not_there : (use : Use) → IsUse atom use → ((e t : Tree) → ¬ StandsThere s use e t) → Asks rows fact goal s atom (Refused NoPlace)
-  no_match : (use : Use) (e t : Tree) → IsUse atom use → StandsThere s use e t →
-      (IsTrue (may_stand use.axiom.form use.direction use.place use.path) → (extra : Extra) → ¬ MatchesThere use t extra) →
+  not_there : (used : Use) → IsUse atom used → ((e t : Tree) → ¬ StandsThere s used e t) → Asks rows fact goal s atom (Refused NoPlace)
+  no_match : (used : Use) (e t : Tree) → IsUse atom used → StandsThere s used e t →
+      (IsTrue (may_stand used.its_axiom.form used.direction used.place used.path) → (extra : Extra) → ¬ MatchesThere used t extra) →
       Asks rows fact goal s atom (Refused NoMatch)
 
 -- the steps that make the instance of an axiom
 abbrev pub instance_of : ℕ → Use → Extra → List Step
-instance_of rows use extra = instance rows use.axiom.name extra
+instance_of rows used extra = instance rows used.its_axiom.name extra
 
 -- the atom gives these steps on a goal of a fact, and with them these rows
 pub data AtomSteps (rows : List Provable) (fact goal : ℕ) (atom : Atom) : List Step → List Provable → Type 0 where
   asked : {steps : List Step} {after : List Provable} (s : Sequent) → IsGoal rows fact goal s →
       Asks (length rows) fact goal s atom (Steps steps) → Takes rows steps after → AtomSteps rows fact goal atom steps after
-  used : {after : List Provable} (s : Sequent) (use : Use) (extra : Extra) (e : Tree) (between : List Provable) (rest : List Step) →
-      IsGoal rows fact goal s → Asks (length rows) fact goal s atom (Instance use extra e) →
-      Takes rows (instance_of (length rows) use extra) between →
-      Finishes (length between) (record { fact = fact; goal = goal; s = s }) use e (proved between) rest → Takes between rest after →
-      AtomSteps rows fact goal atom (instance_of (length rows) use extra ++ rest) after
+  uses : {after : List Provable} (s : Sequent) (used : Use) (extra : Extra) (e : Tree) (between : List Provable) (rest : List Step) →
+      IsGoal rows fact goal s → Asks (length rows) fact goal s atom (Instance used extra e) →
+      Takes rows (instance_of (length rows) used extra) between →
+      Finishes (length between) (record { fact = fact; goal = goal; s = s }) used e (proved between) rest → Takes between rest after →
+      AtomSteps rows fact goal atom (instance_of (length rows) used extra ++ rest) after
 
 -- the atom gives no steps on a goal of a fact: it asks for none, or one isn't taken
 pub data AtomFault (rows : List Provable) (fact goal : ℕ) (atom : Atom) : AtomWhy → Type 0 where
@@ -197,13 +201,13 @@ pub data AtomFault (rows : List Provable) (fact goal : ℕ) (atom : Atom) : Atom
       AtomFault rows fact goal atom why
   not_taken : {why : Reason} (s : Sequent) (steps : List Step) → IsGoal rows fact goal s → Asks (length rows) fact goal s atom (Steps steps) →
       FirstFault rows steps why → AtomFault rows fact goal atom (AtStep why)
-  not_instantiated : {why : Reason} (s : Sequent) (use : Use) (extra : Extra) (e : Tree) → IsGoal rows fact goal s →
-      Asks (length rows) fact goal s atom (Instance use extra e) → FirstFault rows (instance_of (length rows) use extra) why →
+  not_instantiated : {why : Reason} (s : Sequent) (used : Use) (extra : Extra) (e : Tree) → IsGoal rows fact goal s →
+      Asks (length rows) fact goal s atom (Instance used extra e) → FirstFault rows (instance_of (length rows) used extra) why →
       AtomFault rows fact goal atom (AtStep why)
-  not_used : {why : Reason} (s : Sequent) (use : Use) (extra : Extra) (e : Tree) (between : List Provable) (rest : List Step) →
-      IsGoal rows fact goal s → Asks (length rows) fact goal s atom (Instance use extra e) →
-      Takes rows (instance_of (length rows) use extra) between →
-      Finishes (length between) (record { fact = fact; goal = goal; s = s }) use e (proved between) rest → FirstFault between rest why →
+  not_used : {why : Reason} (s : Sequent) (used : Use) (extra : Extra) (e : Tree) (between : List Provable) (rest : List Step) →
+      IsGoal rows fact goal s → Asks (length rows) fact goal s atom (Instance used extra e) →
+      Takes rows (instance_of (length rows) used extra) between →
+      Finishes (length between) (record { fact = fact; goal = goal; s = s }) used e (proved between) rest → FirstFault between rest why →
       AtomFault rows fact goal atom (AtStep why)
 
 -- Replaces before goal after new: the last row is as it was, but for these goals in the place of one of its goals, and for its leaves.

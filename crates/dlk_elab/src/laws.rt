@@ -1,14 +1,17 @@
 //! The laws of atoms. Each is a contract of a function that does nothing but call laws of the calculus.
-ghost use Rattle.std.specs.Prelude.{◌≡◌, ◌+◌, ◌⊎◌, ℕ, List, length};
+ghost use Rattle.std.specs.Prelude.{◌≡◌, ◌+◌, ◌⊎◌, ℕ, List, length, All};
 ghost use Rattle.dlk_calculus.specs.Places.{At};
-ghost use Rattle.dlk_calculus.specs.Provables.{Provable};
+ghost use Rattle.dlk_calculus.specs.declared.reason.Reason.TheVariants.{NotEqual};
+ghost use Rattle.dlk_calculus.specs.Provables.{Provable, HasFormulas};
 ghost use Rattle.dlk_calculus.specs.Sequents.{Sequent};
 ghost use Rattle.dlk_calculus.specs.Steps.{Step};
 ghost use Rattle.dlk_tacsyn.specs.Rows.{IsFitting};
 ghost use Rattle.dlk_tacsyn.specs.Tactics.{Atom};
-ghost use Rattle.dlk_elab.specs.Atoms.{AtomWhy, HasNoLocator, HasNames, HasGoalAt, AtomSteps, AtomFault, Replaces};
+ghost use Rattle.dlk_elab.specs.Atoms.{AtomWhy, HasNoLocator, HasNames, HasGoalAt, AtStep, AtomSteps, AtomFault, Replaces, IsByAxioms};
 
-use dlk_calculus::laws::{given_unless_against, one_fault, one_provable};
+use dlk_calculus::laws::{given_unless_against, one_fault, one_innermost, one_provable};
+use dlk_match::one_match;
+use dlk_uses::{boxes_fit, uses_fit};
 use dlk_rules::{rule_is_its_word_and_arguments, word_wants_one_shape};
 
 /// An atom gives at most one list of steps with one list of rows, or it has at most one fault.
@@ -21,6 +24,8 @@ pub fn one_atom()
     one_fault();
     rule_is_its_word_and_arguments();
     word_wants_one_shape();
+    one_match();
+    one_innermost();
 }
 
 /// A fitting atom without a locator, whose names are names, gives steps on a goal that is there, or has a fault.
@@ -36,3 +41,12 @@ pub fn atom_replaces_goal()
     ensures count { (rows : List Provable) (goal : ℕ) (atom : Atom) (s : List Step) (a : List Provable) (new : List Sequent) (p q : Provable) → AtomSteps rows (length rows) goal atom s a → Replaces rows goal a new → At rows (length rows) p → At a (length a) q → length q.goals + 1 ≡ length p.goals + length new }
     ensures new { (rows : List Provable) (goal : ℕ) (atom : Atom) (s : List Step) (a : List Provable) → AtomSteps rows (length rows) goal atom s a → (new : List Sequent) × Replaces rows goal a new }
 {}
+
+/// What an atom for a box, or one that uses an axiom, merges proves the goal into which it is merged, and what it closes stands on both
+/// sides: over rows of formulas none of its steps is refused since formulas are unlike.
+pub fn merges_fit()
+    ensures { (rows : List Provable) (fact goal : ℕ) (atom : Atom) → All HasFormulas rows → IsByAxioms atom.name → AtomFault rows fact goal atom (AtStep NotEqual) → ⊥ }
+{
+    uses_fit();
+    boxes_fit();
+}

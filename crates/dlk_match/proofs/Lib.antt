@@ -1,3 +1,5 @@
+pub mod Abstracted
+pub mod OneMatch
 pub mod Targets
 pub mod Plugged
 pub mod Turns

@@ -12,6 +12,8 @@ pub mod Equations
 pub mod Boxes
 pub mod Instance
 pub mod Shapes
+pub mod Instances
+pub mod Renamed
 pub mod Uses
 pub mod Behind
 pub mod Goals

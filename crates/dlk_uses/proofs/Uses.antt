@@ -24,13 +24,12 @@ use Rattle.dlk_match.specs.Instances.{HasOwnNames}
 use Rattle.dlk_match.specs.Matching.{Match, exchanged}
 use Rattle.dlk_sequent.specs.declared.sequent.Place.{Place}
 use Rattle.dlk_sequent.specs.declared.sequent.Place.TheVariants.{Ante, Succ}
-use Rattle.dlk_uses.specs.Uses.{Direction, Forwards, Backwards, Use, left_of, right_of, key, is_forwards, is_whole, may_stand, formula_at, Spot, by_equivalence, by_equation, by_conditional_equation, by_conditional_equivalence, by_implication, by_fact, IsAround, smallest, whole, Finishes, equivalence, equation, conditional_equivalence, conditional_equation, implication, fact}
+use Rattle.dlk_uses.specs.Uses.{HasShape, Direction, Forwards, Backwards, Use, left_of, right_of, key, is_forwards, is_whole, may_stand, formula_at, Spot, by_equivalence, by_equation, by_conditional_equation, by_conditional_equivalence, by_implication, by_fact, IsAround, smallest, whole, Finishes, equivalence, equation, conditional_equivalence, conditional_equation, implication, fact}
 use Rattle.dlk_uses.proofs.Fitting.{Fit}
 use Rattle.dlk_uses.proofs.Exchanging.{Proves, old_side, fact_fits, implication_fits, implication_fits_left}
 use Rattle.dlk_uses.proofs.Conditional.{conditional_equivalence_fits}
 use Rattle.dlk_uses.proofs.Blocks.{PathLaws, equivalence_fits}
 use Rattle.dlk_uses.proofs.Equations.{IsTerm, equation_fits, conditional_equation_fits}
-use Rattle.dlk_uses.proofs.Shapes.{Shaped}
 
 -- what the laws of matching and of paths say
 pub record Laws : Type 0 where
@@ -111,7 +110,7 @@ pub record Used (between : List Provable) (spot : Spot) (used : Use) (e t f : Tr
   pub stands : IsTrue (may_stand used.its_axiom.form used.direction used.place used.path)
   pub matches : Match (key used.its_axiom.form used.direction used.place used.its_axiom.formula) used.its_axiom.own_names t used.given extra
   pub is_key : IsKey used.its_axiom.own_names used.its_axiom.formula
-  pub shaped : Shaped used.its_axiom.form used.its_axiom.formula
+  pub shaped : HasShape used.its_axiom.form used.its_axiom.formula
   pub proves : Proves between (length between) f
   pub makes : Subst extra.pairs (exchanged extra.renames used.its_axiom.formula) f
   pub formed : IsWellFormed extra.pairs
@@ -143,7 +142,7 @@ module _ (laws : Laws) (between : List Provable) (spot : Spot) (used : Use) (e t
   by_equivalence_fits : a.form ≡ E →
       Fit between (by_equivalence (length between) spot used.place used.direction e used.path (left_of f) (right_of f))
   by_equivalence_fits is =
-      let shape : a.formula ≡ equiv (left_of a.formula) (right_of a.formula) = subst (λ x. Shaped x a.formula) is u.shaped in
+      let shape : a.formula ≡ equiv (left_of a.formula) (right_of a.formula) = subst (λ x. HasShape x a.formula) is u.shaped in
       let two = is_two extra.pairs extra.renames equiv a.formula f (laws.exchanged_equiv extra.renames) (laws.subst_equiv extra.pairs) shape u.makes in
       let old = side_is E two.left two.right is refl refl two.makes_left two.makes_right in
       subst (λ x. Fit between (by_equivalence (length between) spot used.place used.direction e used.path (left_of x) (right_of x))) (sym two.is)
@@ -159,7 +158,7 @@ module _ (laws : Laws) (between : List Provable) (spot : Spot) (used : Use) (e t
   by_equation_fits : a.form ≡ Q → (outer inner : List ℕ) (d : Tree) → IsAround e used.path outer inner d →
       Fit between (by_equation (length between) spot used.place used.direction e outer inner d (left_of f) (right_of f))
   by_equation_fits is outer inner d round =
-      let shape : a.formula ≡ eq (left_of a.formula) (right_of a.formula) = subst (λ x. Shaped x a.formula) is u.shaped in
+      let shape : a.formula ≡ eq (left_of a.formula) (right_of a.formula) = subst (λ x. HasShape x a.formula) is u.shaped in
       let two = is_two extra.pairs extra.renames eq a.formula f (laws.exchanged_eq extra.renames) (laws.subst_eq extra.pairs) shape u.makes in
       let old = side_is Q two.left two.right is refl refl two.makes_left two.makes_right in
       let way = around outer inner d round in
@@ -173,7 +172,7 @@ module _ (laws : Laws) (between : List Provable) (spot : Spot) (used : Use) (e t
   by_conditional_equivalence_fits : a.form ≡ C → (j : ℕ) → used.place ≡ Succ j →
       Fit between (by_conditional_equivalence (length between) spot j (left_of f) (left_of (right_of f)) (right_of (right_of f)))
   by_conditional_equivalence_fits is j place =
-      let shape = subst (λ x. Shaped x a.formula) is u.shaped in
+      let shape = subst (λ x. HasShape x a.formula) is u.shaped in
       let stands = subst (λ x. IsTrue (may_stand x used.direction used.place used.path)) is u.stands in
       let path = no_path used.path (and_parts _ (is_whole used.path) stands).1 in
       let two = is_two extra.pairs extra.renames imply a.formula f (laws.exchanged_imply extra.renames) (laws.subst_imply extra.pairs) shape.0 u.makes in
@@ -192,7 +191,7 @@ module _ (laws : Laws) (between : List Provable) (spot : Spot) (used : Use) (e t
       Fit between (by_conditional_equation (length between) spot used.place used.direction e outer inner d (left_of f) (left_of (right_of f))
       (right_of (right_of f)))
   by_conditional_equation_fits is outer inner d round =
-      let shape = subst (λ x. Shaped x a.formula) is u.shaped in
+      let shape = subst (λ x. HasShape x a.formula) is u.shaped in
       let direction = forwards used.direction (subst (λ x. IsTrue (may_stand x used.direction used.place used.path)) is u.stands) in
       let two = is_two extra.pairs extra.renames imply a.formula f (laws.exchanged_imply extra.renames) (laws.subst_imply extra.pairs) shape.0 u.makes in
       let sides = is_two extra.pairs extra.renames eq (right_of a.formula) two.right (laws.exchanged_eq extra.renames) (laws.subst_eq extra.pairs)
@@ -214,7 +213,7 @@ module _ (laws : Laws) (between : List Provable) (spot : Spot) (used : Use) (e t
 
   by_implication_fits : a.form ≡ I → (place : Place) → used.place ≡ place → Fit between (by_implication (length between) spot place (left_of f) (right_of f))
   by_implication_fits is place at_place =
-      let shape : a.formula ≡ imply (left_of a.formula) (right_of a.formula) = subst (λ x. Shaped x a.formula) is u.shaped in
+      let shape : a.formula ≡ imply (left_of a.formula) (right_of a.formula) = subst (λ x. HasShape x a.formula) is u.shaped in
       let stands = subst (λ x. IsTrue (may_stand x used.direction used.place used.path)) is u.stands in
       let path = no_path used.path (and_parts _ (is_whole used.path) stands).1 in
       let two = is_two extra.pairs extra.renames imply a.formula f (laws.exchanged_imply extra.renames) (laws.subst_imply extra.pairs) shape u.makes in

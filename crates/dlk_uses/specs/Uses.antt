@@ -14,7 +14,7 @@ use Rattle.dlk_calculus.specs.Kids.{first, last}
 use Rattle.dlk_calculus.specs.Notation.{leaf, two, box}
 use Rattle.dlk_calculus.specs.Pairs.{Pair, Extra}
 use Rattle.dlk_calculus.specs.Paths.{put_at, IsInnermost}
-use Rattle.dlk_calculus.specs.Places.{at}
+use Rattle.dlk_calculus.specs.Places.{at, At}
 use Rattle.dlk_calculus.specs.Provables.{Provable}
 use Rattle.dlk_calculus.specs.Rules.{Rule, Close, Cut, CutL, CutR, CoHideR, ImplyL, ImplyR, EquivifyR, CommuteEquivR, imply, equiv}
 use Rattle.dlk_calculus.specs.Sequents.{Sequent, alone_right}
@@ -65,6 +65,15 @@ key R direction place f = left_of (right_of f)
 key I direction (Succ j) f = right_of f
 key I direction (Ante i) f = left_of f
 key F direction place f = f
+
+-- what a formula of an axiom of this form is; one row a form
+abbrev pub HasShape : AxiomForm → Tree → Type 0
+HasShape E f = f ≡ equiv (left_of f) (right_of f)
+HasShape Q f = f ≡ two Eq (left_of f) (right_of f)
+HasShape C f = (f ≡ imply (left_of f) (right_of f)) × (right_of f ≡ equiv (left_of (right_of f)) (right_of (right_of f)))
+HasShape R f = (f ≡ imply (left_of f) (right_of f)) × (right_of f ≡ two Eq (left_of (right_of f)) (right_of (right_of f)))
+HasShape I f = f ≡ imply (left_of f) (right_of f)
+HasShape F f = Unit {0}
 
 abbrev pub is_forwards : Direction → Bool
 is_forwards Forwards = true
@@ -270,6 +279,12 @@ proved rows = proved_by (at rows (length rows))
     proved_by : Option Provable → Tree
     proved_by None = leaf True
     proved_by (Some p) = first_of p.conclusion.succ
+
+-- the last of the rows proves f alone
+pub record ProvesLast (rows : List Provable) (f : Tree) : Type 0 where
+  pub row : Provable
+  pub is_last : At rows (length rows) row
+  pub concludes : row.conclusion ≡ alone_right f
 
 -- Boxes at place j on the right:
 

@@ -1,8 +1,8 @@
 //! The laws of uses. Each is a contract of a function that does nothing but call laws of the calculus and of matching.
-ghost use Rattle.std.specs.Prelude.{◌≡◌, ◌≢◌, ◌+◌, ℕ, List, [], ◌∷◌, length, Some};
+ghost use Rattle.std.specs.Prelude.{◌≡◌, ◌≢◌, ◌+◌, ◌≤◌, ℕ, List, [], ◌∷◌, length, Some};
 ghost use Rattle.dlk_tree.specs.Trees.{Tree};
 ghost use Rattle.dlk_calculus.specs.declared.reason.Reason.TheVariants.{NotEqual};
-ghost use Rattle.dlk_calculus.specs.Axioms.{axiom_named};
+ghost use Rattle.dlk_calculus.specs.Axioms.{Axiom, axiom_named};
 ghost use Rattle.dlk_calculus.specs.Notation.{box};
 ghost use Rattle.dlk_calculus.specs.Pairs.{Extra};
 ghost use Rattle.dlk_calculus.specs.Places.{At};
@@ -11,16 +11,18 @@ ghost use Rattle.dlk_calculus.specs.Rules.{Rule, Close};
 ghost use Rattle.dlk_calculus.specs.Sequents.{Sequent};
 ghost use Rattle.dlk_calculus.specs.Steps.{Step, Leaf, Apply, Merge, IsGoal};
 ghost use Rattle.dlk_kernel.specs.Taken.{Takes};
+ghost use Rattle.dlk_match.specs.Matching.{Match};
+ghost use Rattle.dlk_sequent.specs.declared.sequent.Place.{Place};
 ghost use Rattle.dlk_uses.specs.Applying.{Applies};
 ghost use Rattle.dlk_uses.specs.Taking.{FirstFault};
-ghost use Rattle.dlk_uses.specs.Uses.{Use, Spot, instance, proved, Finishes, generalizing, cutting_box};
+ghost use Rattle.dlk_uses.specs.Uses.{Direction, Use, Spot, key, instance, proved, Finishes, HasShape, ProvesLast, generalizing, cutting_box};
 
 use dlk_calculus::laws::{
     derived_formulas, paths_join, put_is_filled, put_is_there, subtrees_keep,
 };
 use dlk_match::{
-    axioms_have_own_names, exchanged_over_kids, match_gives_target, nothing_replaced,
-    subst_over_kids,
+    axioms_have_own_names, exchanged_over_kids, match_gives_target, match_is_proper,
+    nothing_replaced, subst_over_kids,
 };
 
 /// What the steps of a use merge into a goal proves that goal, and what they close stands on both sides, whatever the axiom's form is: no
@@ -40,6 +42,26 @@ pub fn uses_fit()
     exchanged_over_kids();
     subst_over_kids();
     nothing_replaced();
+}
+
+/// An axiom has the shape that its form says, and so has its instance, which the last row proves where it is taken.
+pub fn uses_have_shapes()
+    ensures axioms { (name : List ℕ) (a : Axiom) → axiom_named name ≡ Some a → HasShape a.form a.formula }
+    ensures instances { (rows between : List Provable) (name : List ℕ) (extra : Extra) (a : Axiom) → axiom_named name ≡ Some a → Takes rows (instance (length rows) name extra) between → (f : Tree) × ProvesLast between f × HasShape a.form f }
+    ensures proved { (rows : List Provable) (f : Tree) → ProvesLast rows f → proved rows ≡ f }
+{
+    derived_formulas();
+    exchanged_over_kids();
+    subst_over_kids();
+    nothing_replaced();
+}
+
+/// With the names that a match gives to an axiom at most three are renamed: no axiom has more of its own.
+pub fn uses_rename_few()
+    ensures { (name : List ℕ) (a : Axiom) (direction : Direction) (place : Place) (t : Tree) (given extra : Extra) → axiom_named name ≡ Some a → Match (key a.form direction place a.formula) a.own_names t given extra → length extra.renames ≤ 3 }
+{
+    match_is_proper();
+    axioms_have_own_names();
 }
 
 /// The same of the steps for a box at a place on the right: that it follows from its formula alone, and from another box.

@@ -3,4 +3,4 @@
 
 mod laws;
 
-pub use laws::{boxes_fit, goals_fit, uses_fit};
+pub use laws::{boxes_fit, goals_fit, uses_fit, uses_have_shapes, uses_rename_few};

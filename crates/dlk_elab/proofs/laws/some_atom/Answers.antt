@@ -1,4 +1,4 @@
-use Rattle.dlk_elab.proofs.AtomLaws.{some_atom}
+use Rattle.dlk_elab.proofs.SomeAtom.{some_atom}
 use Rattle.dlk_elab.proofs.laws.some_atom.Goals as goal
 
 pub returns : goal.returns
