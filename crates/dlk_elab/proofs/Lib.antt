@@ -19,6 +19,8 @@ pub mod Decided
 pub mod Finishing
 pub mod AtomLaws
 pub mod MergesFit
+pub mod FormSymbols
+pub mod StepSymbols
 pub mod SomeAtom
 pub mod RuleArguments
 pub mod Elaborates

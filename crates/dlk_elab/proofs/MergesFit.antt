@@ -102,7 +102,7 @@ module _ (rows : List Provable) (fact goal : ℕ) (s : Sequent) (atom : Atom) (i
     box_fits _ steps (by_no_box p j f is there other) e fault = cc
     box_fits _ steps (by_not_on_the_right p is none) e fault = cc
 
-goal_formulas : (rows : List Provable) (fact goal : ℕ) (s : Sequent) → All HasFormulas rows → IsGoal rows fact goal s → IsSequent s
+pub goal_formulas : (rows : List Provable) (fact goal : ℕ) (s : Sequent) → All HasFormulas rows → IsGoal rows fact goal s → IsSequent s
 goal_formulas rows fact goal s all g =
     let row : HasFormulas g.0 = At_All HasFormulas rows fact g.0 all g.1 in At_All IsSequent g.0.goals goal s row.goals g.2
 
