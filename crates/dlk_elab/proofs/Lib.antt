@@ -16,7 +16,7 @@ pub mod Replaced
 pub mod AskLaws
 pub mod Plans
 pub mod Decided
-pub mod Finishing
+pub mod OneFinish
 pub mod AtomLaws
 pub mod MergesFit
 pub mod FormSymbols

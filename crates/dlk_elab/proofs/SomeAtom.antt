@@ -26,7 +26,7 @@ use Rattle.dlk_elab.specs.Atoms.{asked as by_asking}
 use Rattle.dlk_elab.specs.Atoms.{uses, Instance, instance_of, not_instantiated, not_used, AtomWhy, NoPlace, AtStep, AreFor, one_place, two_places, place_and_formula, one_formula, place_and_name, HasNoLocator, IsNamed, HasNames, HasGoalAt, Asked, Steps, Refused, Asks, nil, close, nothing_same, leaf, a_rule, elsewhere, AtomSteps, FirstFault, AtomFault, asks_none, not_taken}
 use Rattle.dlk_uses.specs.Uses.{Use, Finishes, proved}
 use Rattle.dlk_match.specs.Matching.{Match}
-use Rattle.dlk_elab.proofs.Finishing.{finishes_one}
+use Rattle.dlk_elab.proofs.OneFinish.{finishes_one}
 use Rattle.dlk_elab.proofs.Places.{at_one}
 use Rattle.dlk_elab.proofs.TakenLaws.{takes_one, taken_or_fault, fault_one, all_or_fault}
 use Rattle.dlk_elab.proofs.AskLaws.{asks_one}
