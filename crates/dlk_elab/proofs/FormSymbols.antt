@@ -18,7 +18,8 @@ use Rattle.dlk_tacsyn.specs.Rows.{ReplacesSymbol}
 use Rattle.dlk_uses.specs.Uses.{Direction, Forwards, Backwards, Use, Spot, renaming, substituting, instance, in_turn, closed_by}
 use Rattle.dlk_uses.specs.Uses.{program_a, any_p, any_q, any_f, any_g, p_of_one, context_c, ◌~>◌}
 use Rattle.dlk_uses.specs.Uses.{exchange, by_equivalence, by_equation, by_conditional_equation, by_conditional_equivalence, by_implication}
-use Rattle.dlk_uses.specs.Uses.{Finishes, equivalence, equation, conditional_equivalence, conditional_equation, implication, fact, generalizing, cutting_box}
+use Rattle.dlk_uses.specs.Uses.{Finishes, equivalence, equation, conditional_equivalence, conditional_equation, implication, generalizing, cutting_box}
+use Rattle.dlk_uses.specs.Uses.{fact as by_its_fact}
 use Rattle.dlk_elab.specs.Symbols.{ReplacesSymbols}
 
 -- ---- steps that substitute nothing
@@ -197,7 +198,7 @@ finishing_symbols now spot used e f _ (conditional_equivalence j form place) = c
 finishing_symbols now spot used e f _ (conditional_equation outer inner d form around) =
     conditional_equation_symbols now spot used.place used.direction e outer inner d _ _ _
 finishing_symbols now spot used e f _ (implication form) = implication_symbols now spot used.place _ _
-finishing_symbols now spot used e f _ (fact j form place) = closed_symbols now spot.fact now ((spot.goal, CoHideR j) ∷ []) spot.goal
+finishing_symbols now spot used e f _ (by_its_fact j form place) = closed_symbols now spot.fact now ((spot.goal, CoHideR j) ∷ []) spot.goal
 
 -- ---- boxes
 

@@ -1,6 +1,7 @@
 -- The steps of an atom are taken in turn, and what they replace are symbols.
-use Rattle.std.proofs.Common.{◌≡◌, ℕ, ◌+◌, Bool, false, List, [], ◌∷◌, ◌++◌, length, append-nil, append-assoc, Some, refl, sym, subst}
+use Rattle.std.proofs.Common.{◌≡◌, ℕ, ◌+◌, Bool, false, List, [], ◌∷◌, ◌++◌, length, Some, refl, sym, subst}
 use Rattle.std.specs.List.{All}
+use Rattle.std.proofs.lemmas.List.{append-nil, append_assoc}
 use Rattle.std.proofs.lemmas.List.Elements.{All-nil, All-head, All-tail, All-append}
 use Rattle.dlk_tree.specs.declared.op.Op.{Op}
 use Rattle.dlk_tree.specs.Trees.{Tree, node, Forest, WellMade}
@@ -38,7 +39,7 @@ taken_behind : (rows between after : List Provable) (before steps : List Step) �
     Takes rows (before ++ steps) after
 taken_behind rows between _ before _ first none = subst (λ xs. Takes rows xs between) (sym (append-nil before)) first
 taken_behind rows between _ before _ first (more {steps = steps} {mid = mid} {step = step} {p = p} taken is) =
-    subst (λ xs. Takes rows xs (mid ++ p ∷ [])) (append-assoc before steps (step ∷ [])) (more (taken_behind rows between mid before steps first taken) is)
+    subst (λ xs. Takes rows xs (mid ++ p ∷ [])) (append_assoc before steps (step ∷ [])) (more (taken_behind rows between mid before steps first taken) is)
 
 pub atom_taken : (rows : List Provable) (fact goal : ℕ) (atom : Atom) (steps : List Step) (after : List Provable) → AtomSteps rows fact goal atom steps after →
     Takes rows steps after
