@@ -10,12 +10,12 @@ use Rattle.dlk_calculus.specs.declared.form.AxiomForm.{AxiomForm}
 use Rattle.dlk_calculus.specs.declared.form.AxiomForm.TheVariants.{E, Q, C, R, I, F}
 use Rattle.dlk_calculus.specs.Axioms.{Axiom, axiom_named}
 use Rattle.dlk_calculus.specs.Kids.{first, last}
-use Rattle.dlk_calculus.specs.Pairs.{Pair, Extra}
+use Rattle.dlk_calculus.specs.Pairs.{Extra}
 use Rattle.dlk_calculus.specs.Paths.{subtree}
 use Rattle.dlk_calculus.specs.Provables.{Provable, HasFormulas}
 use Rattle.dlk_calculus.specs.Rules.{Close}
 use Rattle.dlk_calculus.specs.Sequents.{Sequent, IsSequent, IsFormula}
-use Rattle.dlk_calculus.specs.Steps.{Step, Leaf, Apply, Merge, StepOf}
+use Rattle.dlk_calculus.specs.Steps.{Step, Leaf, Apply, Merge}
 use Rattle.dlk_sequent.specs.declared.sequent.Place.{Place}
 use Rattle.dlk_sequent.specs.declared.sequent.Place.TheVariants.{Ante, Succ}
 use Rattle.dlk_kernel.specs.Taken.{Takes, none, more}
@@ -24,7 +24,7 @@ use Rattle.dlk_tacsyn.specs.Rows.{IsRename, ReplacesSymbol, IsNamedExtra, IsName
 use Rattle.dlk_match.specs.Matching.{Match}
 use Rattle.dlk_match.specs.Instances.{AreNames}
 use Rattle.dlk_uses.specs.Uses.{Direction, Use, left_of, right_of, side_of, Forwards, Backwards, key, formula_at}
-use Rattle.dlk_elab.specs.Atoms.{UseArguments, alone, with_extra, StandsThere, instance_of}
+use Rattle.dlk_elab.specs.Atoms.{UseArguments, alone, with_extra, instance_of}
 use Rattle.dlk_elab.specs.Atoms.{Asked, Steps, Instance, Asks, nil, close, leaf, a_rule, generalize, cut_box, use_axiom, AtomSteps, asked, uses}
 use Rattle.dlk_elab.specs.Symbols.{ReplacesSymbols}
 use Rattle.dlk_elab.proofs.Places.{At_All}
@@ -86,7 +86,7 @@ module _ (ends_made : (op : Op) (kids : Forest) → WellMade (node op kids) → 
       (inner_made : (e : Tree) (path : List ℕ) (s : Tree) → WellMade e → subtree e path ≡ Some s → WellMade s)
       (inner_lacks : (test : Op → Bool) (e : Tree) (path : List ℕ) (s : Tree) → has test e ≡ false → subtree e path ≡ Some s → has test s ≡ false)
       (match_symbols : (own : List (List ℕ)) (key target : Tree) (given extra : Extra) → WellMade key → WellMade target → has_dots target ≡ false →
-          AreNames given.renames → All ReplacesSymbol given.pairs → Match key own target given extra → All ReplacesSymbol extra.pairs) where
+      AreNames given.renames → All ReplacesSymbol given.pairs → Match key own target given extra → All ReplacesSymbol extra.pairs) where
     used_symbols : (rows fact goal : ℕ) (s : Sequent) (atom : Atom) (u : Use) (x : Extra) (e : Tree) (wanted : Asked) → IsSequent s → HasNames atom →
         Asks rows fact goal s atom wanted → wanted ≡ Instance u x e → All ReplacesSymbol x.pairs
     used_symbols rows fact goal s atom u x e _ formulas names (use_axiom v f t y is there may match) q =

@@ -15,8 +15,8 @@ use dlk_calculus::laws::{
     given_unless_against, one_fault, one_innermost, one_provable, subtrees_keep,
 };
 use dlk_match::{axioms_have_own_names, match_is_proper, one_match};
-use dlk_uses::{boxes_fit, uses_fit};
 use dlk_rules::{rule_is_its_word_and_arguments, word_wants_one_shape};
+use dlk_uses::{boxes_fit, uses_fit};
 
 /// An atom gives at most one list of steps with one list of rows, or it has at most one fault.
 pub fn one_atom()
