@@ -17,12 +17,12 @@ module _ (Holds : Progress → Type 0) (OfAtom : Atom → Type 0)
     (kept : (now : Progress) (goal : ℕ) (atom : Atom) (new : List Step) (rows : List Provable) → OfAtom atom → Holds now →
         AtomSteps now.rows (length now.rows) goal atom new rows → Holds (record { steps = now.steps ++ new; rows = rows; used = now.used + 1 })) where
   -- where a run is done
-  abbrev HoldsIn : Outcome → Type 0
+  abbrev pub HoldsIn : Outcome → Type 0
   HoldsIn (Done made left) = Holds made
   HoldsIn (Fails at why used) = Unit {0}
   HoldsIn (Budget at) = Unit {0}
 
-  abbrev Keeps : Fate → Type 0
+  abbrev pub Keeps : Fate → Type 0
   Keeps fate = (now : Progress) (o : Outcome) → Holds now → fate now o → HoldsIn o
 
   keeps_end : (left : ℕ) → Keeps (Ends left)

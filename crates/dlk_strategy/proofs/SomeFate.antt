@@ -188,8 +188,8 @@ module _ (atom_taken : (rows : List Provable) (fact goal : ℕ) (atom : Atom) (s
         some_follow 1 (left + (count rest + 1)) (Runs t 1 (goal + left)) (λ new. OnOwn rest goal (left + new)) FailsAt now here.0 here.1 here.2
         (λ new made is_taken e.
         let others = some_own rest is.1 goal (left + new) first made is_taken (omega (arith, room, e)) in
-        let left_in_all = omega (arith, e) in
-        (others.0, others.1, leaves_as (left + new + count rest) (goals_in made) (left + (count rest + 1)) (goals_in now) left_in_all others.0 others.2))
+        let counts : goals_in made + (left + (count rest + 1)) ≡ goals_in now + (left + new + count rest) = omega (arith, e) in
+        (others.0, others.1, leaves_as (left + new + count rest) (goals_in made) (left + (count rest + 1)) (goals_in now) counts others.0 others.2))
         (λ at used why. some_failure (left + (count rest + 1)) at why (record now { used = used }))
 
   pub some_model : (t : Tactic) (formula : Tree) → EachAtom IsRun t → IsFormula formula → IsSmall formula → IsShallow formula → (o : Outcome) × RunsModel t formula o

@@ -53,7 +53,7 @@ mutual
   all_any (part t rest) = (each_any t, all_any rest)
 
 -- what the step that states the formula makes
-begun : Tree → Provable → Progress
+abbrev begun : Tree → Provable → Progress
 begun formula p = record { steps = Start (alone_right formula) ∷ []; rows = p ∷ []; used = 0 }
 
 start_shows : (formula : Tree) (rows : List Provable) (p : Provable) (step : Step) → step ≡ Start (alone_right formula) → Gives rows step p →
@@ -106,7 +106,7 @@ module _ (atom_replaces : (rows : List Provable) (goal : ℕ) (atom : Atom) (ste
 
   pub run_shows : (t : Tactic) (formula : Tree) (made : Progress) (left : ℕ) → RunsModel t formula (Done made left) → Shows formula made
   run_shows t formula made left r =
-      let first = (r.provable, refl, start_shows formula [] r.provable (Start (alone_right formula)) refl r.start.given) in
+      let first : Shows formula (begun formula r.provable) = (r.provable, refl, start_shows formula [] r.provable (Start (alone_right formula)) refl r.start.given) in
       keeps_fate (Shows formula) AnyAtom (λ now used h. h) (λ n atom is. tt) (λ now goal atom new rows is h by. shows_on formula now goal atom new rows h by)
       t 1 1 (each_any t) (begun formula r.provable) (Done made left) first r.run
 
