@@ -15,14 +15,14 @@ use Rattle.dlk_answers.specs.Checks.{ModelText}
 use Rattle.dlk_answers.specs.Proves.{Proves, bad_model, bad_strategy, fails, spent, too_long, proves, strategy_refused, failed, over_budget, term_too_long, proved, RunsTo, IsLast}
 use Rattle.dlk_answers.proofs.Ends.{last_of}
 use Rattle.dlk_answers.proofs.RunSteps.{some_rows}
-use Rattle.dlk_answers.proofs.StrategyLaws.{SomeText, SomeRun, AtomsReplace}
+use Rattle.dlk_answers.proofs.StrategyLaws.{SomeText, SomeRun, RunsShow}
 
-module _ (some_text : SomeText) (some_run : SomeRun) (atom_replaces : AtomsReplace) (model strategy : List ℕ) where
+module _ (some_text : SomeText) (some_run : SomeRun) (runs_show : RunsShow) (model strategy : List ℕ) where
   by_outcome : (o : Outcome) → RunsTo model strategy o → (reply : Reply) × Proves model strategy reply
   by_outcome (Fails at why used) run = (failed at why, fails at used why run)
   by_outcome (Budget at) run = (over_budget at, spent at run)
   by_outcome (Done made left) run =
-      let last = last_of made.rows (some_rows atom_replaces run.tactic run.formula made left run.run) in
+      let last = last_of made.rows (some_rows runs_show run.tactic run.formula made left run.run) in
       elim (cases_lt (limit_of Term) (length (term_text made.steps))) [
         | inl long ↦ (term_too_long (length (term_text made.steps)), too_long made left run long)
         | inr short ↦ (proved last.1 made.steps, proves made left run short last.1 (record { before = last.0; rows_are = last.2 }))
