@@ -1,5 +1,5 @@
 -- What `prove` writes is accepted by `check`, which answers the same.
-use Rattle.std.proofs.Common.{◌≡◌, ◌≤◌, ℕ, List, [], ◌∷◌, ◌++◌, length, None, Some, refl, sym, ap, subst, ◌∙◌, arith}
+use Rattle.std.proofs.Common.{◌≡◌, ◌≤◌, ℕ, List, [], length, None, Some, refl, sym, subst, arith}
 use Rattle.std.specs.Prelude.{All}
 use Rattle.dlk_calculus.specs.Provables.{Provable}
 use Rattle.dlk_calculus.specs.Steps.{Step}
@@ -16,7 +16,7 @@ use Rattle.dlk_answers.specs.Forms.{limit_of}
 use Rattle.dlk_answers.specs.Replies.{Reply, printing}
 use Rattle.dlk_answers.specs.Refusals.{text_refused}
 use Rattle.dlk_answers.specs.Checks.{Checks, reports, Accepts, reported}
-use Rattle.dlk_answers.specs.Proves.{Proves, bad_model, bad_strategy, fails, spent, too_long, proves, strategy_refused, proved, RunsTo, IsLast}
+use Rattle.dlk_answers.specs.Proves.{Proves, bad_model, bad_strategy, fails, spent, too_long, proves, strategy_refused, RunsTo, IsLast}
 use Rattle.dlk_answers.proofs.Judging.{last_item}
 use Rattle.dlk_answers.proofs.StrategyLaws.{RunsTaken, RunsReplaceSymbols, RunsShow}
 use Rattle.dlk_answers.proofs.RunSteps.{taken_count, some_rows, run_shows, all_symbols}

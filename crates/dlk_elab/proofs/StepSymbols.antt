@@ -30,7 +30,8 @@ use Rattle.dlk_elab.specs.Symbols.{ReplacesSymbols}
 use Rattle.dlk_elab.proofs.Places.{At_All}
 use Rattle.dlk_elab.proofs.AtomLaws.{same_instance}
 use Rattle.dlk_elab.proofs.MergesFit.{goal_formulas}
-use Rattle.dlk_elab.proofs.FormSymbols.{added, no_steps, leaf_symbols, apply_symbols, merge_symbols, instance_symbols, finishing_symbols, generalizing_symbols, cutting_symbols}
+use Rattle.dlk_elab.proofs.FormSymbols.{added, no_steps, leaf_symbols, apply_symbols, merge_symbols}
+use Rattle.dlk_elab.proofs.FormSymbols.{instance_symbols, finishing_symbols, generalizing_symbols, cutting_symbols}
 
 -- ---- taken in turn
 

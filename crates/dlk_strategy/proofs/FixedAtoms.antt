@@ -1,8 +1,7 @@
 -- Atoms without locators, and with a place for one: they are fitting as before, and their names are names.
-use Rattle.std.proofs.Common.{◌≡◌, ℕ, List, [], ◌∷◌, map, refl, Option, Some, None}
+use Rattle.std.proofs.Common.{◌≡◌, ℕ, List, [], ◌∷◌, map, Option, Some, None}
 use Rattle.std.specs.List.{All}
 use Rattle.std.proofs.lemmas.List.Elements.{All-nil, All-cons, All-head, All-tail}
-use Rattle.dlk_sequent.specs.declared.sequent.Place.TheVariants.{Ante, Succ}
 use Rattle.dlk_tacsyn.specs.declared.kind.Kind.{Kind}
 use Rattle.dlk_tacsyn.specs.declared.kind.Kind.TheVariants.{FixedPlace, AnyPlace, QuotedFormula, AName, QuotedExtra}
 use Rattle.dlk_tacsyn.specs.Tactics.{Argument, AtPlace, AnyLeft, AnyRight, Word, GivenFormula, GivenTerm, GivenExtra, Atom}
@@ -76,4 +75,5 @@ put_named n (GivenExtra x) h = h
 
 pub all_named : (n : ℕ) (args : List Argument) → All IsNamed args → All IsNamed (map (put_place n) args)
 all_named n [] h = All-nil IsNamed
-all_named n (a ∷ rest) h = All-cons IsNamed (put_place n a) (map (put_place n) rest) (put_named n a (All-head IsNamed a rest h)) (all_named n rest (All-tail IsNamed a rest h))
+all_named n (a ∷ rest) h =
+    All-cons IsNamed (put_place n a) (map (put_place n) rest) (put_named n a (All-head IsNamed a rest h)) (all_named n rest (All-tail IsNamed a rest h))

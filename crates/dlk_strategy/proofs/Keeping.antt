@@ -1,5 +1,5 @@
 -- What atoms keep, a run keeps.
-use Rattle.std.proofs.Common.{◌≡◌, ℕ, zero, suc, ◌+◌, List, ◌++◌, length, Option, Some, None, sym, subst}
+use Rattle.std.proofs.Common.{ℕ, zero, suc, ◌+◌, List, ◌++◌, length, Option, Some, None, sym, subst}
 use Rattle.dlk_calculus.specs.Provables.{Provable}
 use Rattle.dlk_calculus.specs.Steps.{Step}
 use Rattle.dlk_rules.specs.declared.arguments.Side.{Side}
@@ -7,7 +7,9 @@ use Rattle.dlk_tacsyn.specs.Tactics.{Atom, Tactic, Choice, Sequence, Branch, Rep
 use Rattle.dlk_elab.specs.Atoms.{AtomSteps}
 use Rattle.dlk_strategy.specs.declared.fault.FailWhy.{FailWhy}
 use Rattle.dlk_strategy.specs.declared.fault.FailWhy.TheVariants.{NoPlace}
-use Rattle.dlk_strategy.specs.Runs.{Progress, Outcome, Done, Fails, Budget, Fate, Run, Follow, done, fails, spent, Ends, FailsAt, Then, Each, Again, Once, steps, fault, side, placed, formulas, Tries, TriesAll, RunAtomOn, RunAtom, Branched, as_many, another_count, Runs, Alternatives, InTurn, OnOwn}
+use Rattle.dlk_strategy.specs.Runs.{Progress, Outcome, Done, Fails, Budget, Fate, Run, Follow, done, fails, spent, Ends, FailsAt, Each, Again, Once}
+use Rattle.dlk_strategy.specs.Runs.{steps, fault, side, placed, formulas, Tries, RunAtomOn}
+use Rattle.dlk_strategy.specs.Runs.{RunAtom, Branched, as_many, another_count, Runs, Alternatives, InTurn, OnOwn}
 use Rattle.dlk_strategy.specs.Runs.{spent as once_spent}
 
 -- Holds is of what is made, whatever the count of runs is, and OfAtom of an atom, whatever its place is. Steps of such an atom keep it.
@@ -42,8 +44,8 @@ module _ (Holds : Progress → Type 0) (OfAtom : Atom → Type 0)
   keeps_each : (run : Run) → ((goal : ℕ) → Keeps (run goal)) → (more goal left : ℕ) → Keeps (Each run more goal left)
   keeps_each run keeps zero goal left = keeps_end left
   keeps_each run keeps (suc more) goal left =
-      keeps_follow (run (goal + left)) (λ new. Each run more goal (left + new)) FailsAt (keeps (goal + left)) (λ new. keeps_each run keeps more goal (left + new))
-      keeps_failure
+      keeps_follow (run (goal + left)) (λ new. Each run more goal (left + new)) FailsAt (keeps (goal + left))
+      (λ new. keeps_each run keeps more goal (left + new)) keeps_failure
 
   keeps_again : (run : Run) → ((goal : ℕ) → Keeps (run goal)) → (times goal : ℕ) → Keeps (Again run times goal)
   keeps_again run keeps zero goal = keeps_end 1

@@ -1,23 +1,24 @@
 -- Something becomes of a goal.
-use Rattle.std.proofs.Common.{◌≡◌, ◌≢◌, ℕ, zero, suc, ◌+◌, ◌<◌, ◌≤◌, List, [], ◌∷◌, ◌++◌, map, length, Option, Some, None, refl, sym, ap, subst, ◌∙◌, arith, ◌⊎◌, inl, inr}
+use Rattle.std.proofs.Common.{◌≡◌, ℕ, zero, suc, ◌+◌, ◌≤◌, List, [], ◌∷◌, ◌++◌, length, Option, Some, None, refl, sym, arith, ◌⊎◌, inl, inr}
 use Rattle.std.specs.List.{All}
 use Rattle.std.proofs.lemmas.Bool.{cases_lt, cases_order}
 use Rattle.dlk_tree.specs.Trees.{Tree}
 use Rattle.dlk_calculus.specs.Limits.{IsSmall, IsShallow}
-use Rattle.dlk_calculus.specs.Places.{At}
 use Rattle.dlk_calculus.specs.Sequents.{Sequent, alone_right, IsFormula}
 use Rattle.dlk_calculus.specs.Provables.{Provable, HasFormulas, started}
 use Rattle.dlk_calculus.specs.Steps.{Step, Start}
 use Rattle.dlk_kernel.specs.Taken.{Takes}
 use Rattle.dlk_kernel.specs.Taken.{none as no_step, more as one_step}
 use Rattle.dlk_rules.specs.declared.arguments.Side.{Side}
-use Rattle.dlk_tacsyn.specs.Tactics.{Argument, AtPlace, AnyLeft, AnyRight, Word, GivenFormula, GivenTerm, GivenExtra, Atom, Tactic, Choice, Sequence, Branch, Repeat, One, Tactics, no_parts, part, count, EachAtom, EachAtomOf}
+use Rattle.dlk_tacsyn.specs.Tactics.{Atom, Tactic, Choice, Sequence, Branch, Repeat, One, Tactics, no_parts, part, count, EachAtom, EachAtomOf}
 use Rattle.dlk_tacsyn.specs.Rows.{IsFitting}
 use Rattle.dlk_elab.specs.Atoms.{AtomWhy, AtomSteps, AtomFault, HasGoalAt, HasNoLocator, HasNames}
 use Rattle.dlk_strategy.specs.declared.fault.FailWhy.{FailWhy}
 use Rattle.dlk_strategy.specs.declared.fault.FailWhy.TheVariants.{WrongCount, NoPlace}
 use Rattle.dlk_strategy.specs.Whys.{fail_of}
-use Rattle.dlk_strategy.specs.Runs.{Progress, Outcome, Done, Fails, Budget, Fate, Run, Follow, done, fails, spent, Ends, FailsAt, Then, Each, Again, Once, steps, fault, most_runs, main_goals, side, put_place, placed, formulas, Tries, TriesAll, RunAtomOn, RunAtom, Branched, as_many, another_count, Runs, Alternatives, InTurn, OnOwn, RunsModel}
+use Rattle.dlk_strategy.specs.Runs.{Progress, Outcome, Done, Fails, Budget, Fate, Run, Follow, done, fails, spent, Ends, FailsAt, Each, Again, Once, steps}
+use Rattle.dlk_strategy.specs.Runs.{fault, most_runs, main_goals, side, placed, formulas, Tries, RunAtomOn}
+use Rattle.dlk_strategy.specs.Runs.{RunAtom, Branched, as_many, another_count, Runs, Alternatives, InTurn, OnOwn, RunsModel}
 use Rattle.dlk_strategy.specs.Runs.{spent as once_spent}
 use Rattle.dlk_strategy.proofs.FixedAtoms.{none_fixed, placed_fixed, placed_fitting, all_named}
 use Rattle.dlk_strategy.proofs.Starting.{starts}
@@ -58,8 +59,10 @@ IsSome goals room fate = (now : Progress) → IsTaken now → room ≤ goals_in 
 abbrev IsSomeRun : Run → Type 0
 IsSomeRun run = (goal : ℕ) → 1 ≤ goal → IsSome 1 (goal + 1) (run goal)
 
-some_follow : (first goals : ℕ) (fate : Fate) (then_on : ℕ → Fate) (else_on : ℕ → FailWhy → Fate) (now : Progress) (o : Outcome) → fate now o → Leaves first (goals_in now) o →
-    ((left : ℕ) (made : Progress) → IsTaken made → goals_in made + first ≡ goals_in now + left → (p : Outcome) × then_on left made p × Leaves goals (goals_in now) p) →
+some_follow : (first goals : ℕ) (fate : Fate) (then_on : ℕ → Fate) (else_on : ℕ → FailWhy → Fate) (now : Progress) (o : Outcome) →
+    fate now o → Leaves first (goals_in now) o →
+    ((left : ℕ) (made : Progress) → IsTaken made → goals_in made + first ≡ goals_in now + left →
+        (p : Outcome) × then_on left made p × Leaves goals (goals_in now) p) →
     ((at used : ℕ) (why : FailWhy) → HasFate goals (else_on at why) (record now { used = used })) → HasFate goals (Follow fate then_on else_on) now
 some_follow first goals fate then_on else_on now (Done made left) f leaves some_then some_else =
     let next = some_then left made leaves.1 leaves.0 in (next.0, done f next.1, next.2)
@@ -117,15 +120,16 @@ some_branched at parts goals goal each some now taken room =
 module _ (atom_taken : (rows : List Provable) (fact goal : ℕ) (atom : Atom) (steps : List Step) (after : List Provable) →
     AtomSteps rows fact goal atom steps after → Takes rows steps after)
     (taken_formulas : (steps : List Step) (rows : List Provable) → Takes [] steps rows → All HasFormulas rows)
-    (some_atom : (rows : List Provable) (fact goal : ℕ) (atom : Atom) → All HasFormulas rows → HasGoalAt rows fact goal → IsFitting atom → HasNoLocator atom →
-        HasNames atom → ((s : List Step) × (a : List Provable) × AtomSteps rows fact goal atom s a) ⊎ ((why : AtomWhy) × AtomFault rows fact goal atom why)) where
+    (some_atom : (rows : List Provable) (fact goal : ℕ) (atom : Atom) → HasGoalAt rows fact goal → All HasFormulas rows → IsFitting atom → HasNoLocator atom →
+        HasNames atom →
+        ((s : List Step) × (a : List Provable) × AtomSteps rows fact goal atom s a) ⊎ ((why : AtomWhy) × AtomFault rows fact goal atom why)) where
   some_once : (atom : Atom) → IsRun atom → HasNoLocator atom → IsSomeRun (Once atom)
   some_once atom is fixed goal first now taken room =
       elim (cases_lt now.used most_runs) [
         | inl free ↦
             let formulas_there = taken_formulas now.steps now.rows taken in
             let here = goal_there now.rows (length now.rows) goal refl first room in
-            elim (some_atom now.rows (length now.rows) goal atom formulas_there here is.fitting fixed is.names) [
+            elim (some_atom now.rows (length now.rows) goal atom here formulas_there is.fitting fixed is.names) [
               | inl made ↦
                   let new = counted now.rows made.1 goal atom made.0 first room made.2 in (
                     Done (record { steps = now.steps ++ made.0; rows = made.1; used = now.used + 1 }) new.0,
@@ -181,7 +185,8 @@ module _ (atom_taken : (rows : List Provable) (fact goal : ℕ) (atom : Atom) (s
         (others.0, others.1, leaves_as left (goals_in made) goals (goals_in now) (omega (arith, e)) others.0 others.2))
         (λ at used why. some_failure goals at why (record now { used = used }))
 
-    some_own : (parts : Tactics) → EachAtomOf IsRun parts → (goal left : ℕ) → 1 ≤ goal → IsSome (left + count parts) (goal + left + count parts) (OnOwn parts goal left)
+    some_own : (parts : Tactics) → EachAtomOf IsRun parts → (goal left : ℕ) → 1 ≤ goal →
+        IsSome (left + count parts) (goal + left + count parts) (OnOwn parts goal left)
     some_own no_parts is goal left first now taken room = (Done now left, refl, (omega arith, taken))
     some_own (part t rest) is goal left first now taken room =
         let here = some_fate t is.0 1 (goal + left) (omega (arith, first)) now taken (omega (arith, room)) in
@@ -192,7 +197,8 @@ module _ (atom_taken : (rows : List Provable) (fact goal : ℕ) (atom : Atom) (s
         (others.0, others.1, leaves_as (left + new + count rest) (goals_in made) (left + (count rest + 1)) (goals_in now) counts others.0 others.2))
         (λ at used why. some_failure (left + (count rest + 1)) at why (record now { used = used }))
 
-  pub some_model : (t : Tactic) (formula : Tree) → EachAtom IsRun t → IsFormula formula → IsSmall formula → IsShallow formula → (o : Outcome) × RunsModel t formula o
+  pub some_model : (t : Tactic) (formula : Tree) → EachAtom IsRun t → IsFormula formula → IsSmall formula → IsShallow formula →
+      (o : Outcome) × RunsModel t formula o
   some_model t formula is formed small shallow =
       let s : Sequent = alone_right formula in
       let first : Progress = record { steps = Start s ∷ []; rows = started s ∷ []; used = 0 } in

@@ -1,5 +1,5 @@
 -- The steps of a run are taken in turn, what they replace are symbols, and the last row shows the formula.
-use Rattle.std.proofs.Common.{◌≡◌, ℕ, ◌+◌, ◌≤◌, List, [], ◌∷◌, ◌++◌, length, Some, None, refl, sym, ap, subst, ◌∙◌, append_assoc, arith}
+use Rattle.std.proofs.Common.{◌≡◌, ℕ, ◌+◌, List, [], ◌∷◌, ◌++◌, length, refl, sym, ap, subst, ◌∙◌, append_assoc}
 use Rattle.std.specs.List.{All}
 use Rattle.std.proofs.lemmas.List.{append-nil}
 use Rattle.std.proofs.lemmas.List.Elements.{All-nil, All-cons, All-push, All-append}
@@ -7,7 +7,7 @@ use Rattle.dlk_tree.specs.Trees.{Tree}
 use Rattle.dlk_calculus.specs.Places.{At}
 use Rattle.dlk_calculus.specs.Sequents.{alone_right}
 use Rattle.dlk_calculus.specs.Provables.{Provable, HasFormulas}
-use Rattle.dlk_calculus.specs.Steps.{Step, Start, UseAxiom, UseRule, Leaf, Apply, Merge, Substitute, Rename, IsProper, Gives, StepOf}
+use Rattle.dlk_calculus.specs.Steps.{Step, Start, IsProper, Gives}
 use Rattle.dlk_calculus.specs.Steps.{start, use_axiom, use_rule, leaf, apply, merge, substitute, rename}
 use Rattle.dlk_kernel.specs.Taken.{Takes}
 use Rattle.dlk_kernel.specs.Taken.{none as no_step, more as one_step}
@@ -15,12 +15,13 @@ use Rattle.dlk_tacsyn.specs.Rows.{HasNames}
 use Rattle.dlk_tacsyn.specs.Tactics.{Atom, Tactic, Choice, Sequence, Branch, Repeat, One, Tactics, no_parts, part, EachAtom, EachAtomOf}
 use Rattle.dlk_elab.specs.Atoms.{AtomSteps, Replaces}
 use Rattle.dlk_elab.specs.Symbols.{ReplacesSymbols}
-use Rattle.dlk_strategy.specs.Runs.{Progress, Done, placed, RunsModel}
+use Rattle.dlk_strategy.specs.Runs.{Progress, Done, RunsModel}
 use Rattle.dlk_strategy.proofs.FixedAtoms.{all_named}
 use Rattle.dlk_strategy.proofs.Keeping.{keeps_fate}
 
 -- steps that are taken behind others are taken with them
-pub takes_both : (rows mid after : List Provable) (first second : List Step) → Takes rows first mid → Takes mid second after → Takes rows (first ++ second) after
+pub takes_both : (rows mid after : List Provable) (first second : List Step) → Takes rows first mid → Takes mid second after →
+    Takes rows (first ++ second) after
 takes_both rows mid _ first _ p no_step = subst (λ xs. Takes rows xs mid) (sym (append-nil first)) p
 takes_both rows mid _ first _ p (one_step {steps = second} {mid = between} {step} {p = row} before is) =
     subst (λ xs. Takes rows xs (between ++ row ∷ [])) (append_assoc first second (step ∷ [])) (one_step (takes_both rows mid between first second p before) is)
@@ -106,7 +107,8 @@ module _ (atom_replaces : (rows : List Provable) (goal : ℕ) (atom : Atom) (ste
 
   pub run_shows : (t : Tactic) (formula : Tree) (made : Progress) (left : ℕ) → RunsModel t formula (Done made left) → Shows formula made
   run_shows t formula made left r =
-      let first : Shows formula (begun formula r.provable) = (r.provable, refl, start_shows formula [] r.provable (Start (alone_right formula)) refl r.start.given) in
+      let shown = start_shows formula [] r.provable (Start (alone_right formula)) refl r.start.given in
+      let first : Shows formula (begun formula r.provable) = (r.provable, refl, shown) in
       keeps_fate (Shows formula) AnyAtom (λ now used h. h) (λ n atom is. tt) (λ now goal atom new rows is h by. shows_on formula now goal atom new rows h by)
       t 1 1 (each_any t) (begun formula r.provable) (Done made left) first r.run
 
@@ -122,4 +124,5 @@ given_proper rows _ _ (rename fact x y p row x_is y_is) = (x_is, y_is)
 
 pub taken_proper : (rows after : List Provable) (steps : List Step) → Takes rows steps after → All IsProper steps
 taken_proper rows _ _ no_step = All-nil IsProper
-taken_proper rows _ _ (one_step {steps = before} {mid} {step} {p} taken is) = All-push IsProper before step (taken_proper rows mid before taken) (given_proper mid step p is.given)
+taken_proper rows _ _ (one_step {steps = before} {mid} {step} {p} taken is) =
+    All-push IsProper before step (taken_proper rows mid before taken) (given_proper mid step p is.given)
