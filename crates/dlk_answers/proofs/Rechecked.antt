@@ -11,6 +11,7 @@ use Rattle.dlk_strategy.specs.Runs.{Progress, Done}
 use Rattle.dlk_replay.specs.Files.{file_lines, accepted, Verdict}
 use Rattle.dlk_recorder.specs.Terms.{term_text, HasSymbols}
 use Rattle.dlk_answers.specs.declared.form.Role.TheVariants.{Model, Term}
+use Rattle.dlk_answers.specs.declared.reply.Showing.TheVariants.{Reported}
 use Rattle.dlk_answers.specs.declared.reply.Layout.TheVariants.{Text}
 use Rattle.dlk_answers.specs.Forms.{limit_of}
 use Rattle.dlk_answers.specs.Replies.{Reply, printing}
@@ -44,7 +45,7 @@ unwritten reply term none some = cc
 -- what `check` answers to the term
 record Rechecks (model term : List ℕ) (reply : Reply) : Type 0 where
   short : length term ≤ limit_of Term
-  checks : Checks Text model term (printing reply.status reply.printed)
+  checks : Checks (Reported Text) model term (printing reply.status reply.printed)
 
 -- the term file of steps that are taken is accepted
 abbrev pub RecordedIsAccepted : Type 0
@@ -53,7 +54,7 @@ RecordedIsAccepted = (steps : List Step) (rows : List Provable) → Takes [] ste
 
 module _ (recorded : RecordedIsAccepted) (runs_taken : RunsTaken) (replace_symbols : RunsReplaceSymbols) (runs_show : RunsShow) where
   whole_checks : (model strategy : List ℕ) (made : Progress) (left : ℕ) → RunsTo model strategy (Done made left) → (p : Provable) → IsLast made.rows p →
-      Checks Text model (term_text made.steps) (reported Text p (length made.steps))
+      Checks (Reported Text) model (term_text made.steps) (reported Text p (length made.steps))
   whole_checks model strategy made left run p ended =
       let takes = runs_taken run.tactic run.formula made left run.run in
       let symbols = all_symbols made.steps (replace_symbols strategy run.tactic run.formula made left run.says run.run) in
@@ -66,7 +67,7 @@ module _ (recorded : RecordedIsAccepted) (runs_taken : RunsTaken) (replace_symbo
         verdict = recorded made.steps made.rows takes symbols some;
       } in
       let shows = run_shows runs_show run.tactic run.formula made left run.run p (last_item made.rows ended.before p ended.rows_are) in
-      subst (λ n. Checks Text model (term_text made.steps) (reported Text p n)) (sym count) (reports run.formula run.reads made.rows p accepts shows)
+      subst (λ n. Checks (Reported Text) model (term_text made.steps) (reported Text p n)) (sym count) (reports run.formula run.reads made.rows p accepts shows)
 
   rechecks : (model strategy term : List ℕ) (reply : Reply) → Proves model strategy reply → reply.written ≡ Some term → Rechecks model term reply
   rechecks model strategy term _ (bad_model why is) written = absurd (unwritten (text_refused Model why) term (model_unwritten why) written)
@@ -78,9 +79,9 @@ module _ (recorded : RecordedIsAccepted) (runs_taken : RunsTaken) (replace_symbo
       let same : term_text made.steps ≡ term = cc in
       record {
         short = subst (λ (l : List ℕ). length l ≤ limit_of Term) same short;
-        checks = subst (λ (l : List ℕ). Checks Text model l (reported Text p (length made.steps))) same (whole_checks model strategy made left run p ended);
+        checks = subst (λ (l : List ℕ). Checks (Reported Text) model l (reported Text p (length made.steps))) same (whole_checks model strategy made left run p ended);
       }
 
   pub proved_is_checked : (model strategy term : List ℕ) (reply : Reply) → Proves model strategy reply → reply.written ≡ Some term →
-      (length term ≤ limit_of Term) × Checks Text model term (printing reply.status reply.printed)
+      (length term ≤ limit_of Term) × Checks (Reported Text) model term (printing reply.status reply.printed)
   proved_is_checked model strategy term reply is written = let r = rechecks model strategy term reply is written in (r.short, r.checks)

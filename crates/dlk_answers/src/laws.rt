@@ -3,6 +3,7 @@ ghost use Rattle.std.specs.Prelude.{◌≡◌, ◌<◌, ◌≤◌, ℕ, List, le
 ghost use Rattle.dlk_answers.specs.declared.command.Command.{Command as TheCommand};
 ghost use Rattle.dlk_answers.specs.declared.form.Role.TheVariants.{Term};
 ghost use Rattle.dlk_answers.specs.declared.reply.Layout.TheVariants.{Text};
+ghost use Rattle.dlk_answers.specs.declared.reply.Showing.TheVariants.{Reported};
 ghost use Rattle.dlk_answers.specs.Forms.{Word, command_of, form_of, limit_of};
 ghost use Rattle.dlk_answers.specs.Replies.{Reply as TheReply, code_of, printing};
 ghost use Rattle.dlk_answers.specs.Checks.{Checks};
@@ -48,7 +49,7 @@ pub fn refusals_write_nothing()
 /// What `prove` writes is no longer than a term may be, and `check` answers the same to it: the same status, and the same report.
 pub fn proved_is_checked()
     ensures { (model strategy term : List ℕ) (reply : TheReply) → Proves model strategy reply → reply.written ≡ Some term →
-        (length term ≤ limit_of Term) × Checks Text model term (printing reply.status reply.printed) }
+        (length term ≤ limit_of Term) × Checks (Reported Text) model term (printing reply.status reply.printed) }
 {
     fit_strategy();
     run_is_taken();

@@ -27,22 +27,22 @@ use Rattle.dlk_elab.specs.declared.calls.UseCall.{UseCall}
 use Rattle.dlk_elab.specs.declared.calls.Call.{Call}
 use Rattle.dlk_elab.specs.declared.calls.Call.TheVariants as call
 
-row_of_generalize : row_of (codes "G") ≡ Some (wants (AnyPlace ∷ []))
+pub row_of_generalize : row_of (codes "G") ≡ Some (wants (AnyPlace ∷ []))
 unfolding row_of
 row_of_generalize = refl
 
-row_of_cut : row_of (codes "boxCut") ≡ Some (wants (QuotedFormula ∷ AnyPlace ∷ []))
+pub row_of_cut : row_of (codes "boxCut") ≡ Some (wants (QuotedFormula ∷ AnyPlace ∷ []))
 unfolding row_of
 row_of_cut = refl
 
-abbrev use_row : Row
+abbrev pub use_row : Row
 use_row = record { wanted = AName ∷ AnyPlace ∷ []; optional = Some QuotedExtra }
 
-row_of_use : row_of (codes "useAt") ≡ Some use_row
+pub row_of_use : row_of (codes "useAt") ≡ Some use_row
 unfolding row_of
 row_of_use = refl
 
-row_of_use_back : row_of (codes "useBack") ≡ Some use_row
+pub row_of_use_back : row_of (codes "useBack") ≡ Some use_row
 unfolding row_of
 row_of_use_back = refl
 

@@ -1,13 +1,11 @@
 -- An exchange, over ids and over trees.
-use Rattle.std.proofs.Common.{◌≡◌, ◌+◌, ℕ, List, [], ◌∷◌, length, map, All, refl, sym, ap, subst}
+use Rattle.std.proofs.Common.{◌≡◌, ◌+◌, ℕ, List, length, All, refl, subst}
 use Rattle.dlk_tree.specs.Trees.{Tree}
 use Rattle.dlk_store.specs.declared.Id.{Id}
 use Rattle.dlk_store.specs.Stores.{IsId, tree}
 use Rattle.dlk_calculus.specs.Sequents.{Sequent}
-use Rattle.dlk_calculus.specs.Rules.{Rule as TreeRule}
 use Rattle.dlk_sequent.specs.declared.sequent.Place.{Place}
 use Rattle.dlk_sequent.specs.declared.sequent.Place.TheVariants.{Ante, Succ}
-use Rattle.dlk_rules.specs.declared.rule.Rule.{Rule}
 use Rattle.dlk_rules.specs.declared.step.Step.{Step}
 use Rattle.dlk_uses.specs.Uses.{Direction, Forwards, Backwards, exchange, closed_by}
 use Rattle.dlk_elab.specs.declared.spot.Spot.{Spot}
@@ -36,5 +34,5 @@ pub exchange_planned : (trees : List Tree) (by rows : ℕ) (spot : Spot) (s : Se
     ArePlanned trees steps (exchange by rows (spot_at spot s) place direction (tree trees new))
 exchange_planned trees by rows spot s place direction new steps right planned =
     subst (ArePlanned trees steps) (exchanged_as trees by rows spot s place direction new)
-      (subst (λ n. ArePlanned trees steps (closed_by by spot.fact rows (goals_and_rules trees (exchange_rules (record { fact = spot.fact; goal = spot.goal; right = n }) place direction new)) (spot.goal + 1)))
-        right planned)
+    (subst (λ n. ArePlanned trees steps (closed_by by spot.fact rows (goals_and_rules trees (exchange_rules (record { fact = spot.fact; goal = spot.goal; right = n }) place direction new)) (spot.goal + 1)))
+    right planned)

@@ -77,15 +77,15 @@ pub instance_planned : (trees : List Tree) (rows last : ℕ) (name : List ℕ) (
 instance_planned trees rows last name renames pairs steps last_is is known =
     let names = renamed_are trees (rows + 1) renames in
     let count : length (renaming (rows + 1) renames) ≡ length (renamed (rows + 1) renames) =
-          sym (ap length names) ∙ length-map (renamed (rows + 1) renames) (step_at trees) in
+    sym (ap length names) ∙ length-map (renamed (rows + 1) renames) (step_at trees) in
     let row : last ≡ rows + suc (length (renaming (rows + 1) renames)) = omega (arith, last_is, count) in
     record {
       are =
-        ap (map (step_at trees)) is ∙ map-append (step_at trees) (step.Axiom name ∷ renamed (rows + 1) renames) (substituted last pairs) ∙
-        (λ i. (UseAxiom name ∷ names i) ++ substituted_are trees last pairs i) ∙
-        (λ i. (UseAxiom name ∷ renaming (rows + 1) renames) ++ substituting (row i) (pairs_at trees pairs));
+          ap (map (step_at trees)) is ∙ map-append (step_at trees) (step.Axiom name ∷ renamed (rows + 1) renames) (substituted last pairs) ∙
+          (λ i. (UseAxiom name ∷ names i) ++ substituted_are trees last pairs i) ∙
+          (λ i. (UseAxiom name ∷ renaming (rows + 1) renames) ++ substituting (row i) (pairs_at trees pairs));
       known = subst (All (HasKnownIds trees)) (sym is)
-        (All-append (HasKnownIds trees) (step.Axiom name ∷ renamed (rows + 1) renames) (substituted last pairs)
+          (All-append (HasKnownIds trees) (step.Axiom name ∷ renamed (rows + 1) renames) (substituted last pairs)
           (All-cons (HasKnownIds trees) (step.Axiom name) (renamed (rows + 1) renames) tt (renamed_known trees (rows + 1) renames))
           (substituted_known trees last pairs known));
     }

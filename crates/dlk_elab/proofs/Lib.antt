@@ -1,5 +1,6 @@
 pub mod Places
 pub mod Kids
+pub mod Finding
 pub mod Instances
 pub mod FormPlans
 pub mod Exchanges
@@ -19,6 +20,13 @@ pub mod Decided
 pub mod OneFinish
 pub mod AtomLaws
 pub mod MergesFit
+pub mod ProperSteps
+pub mod ProperUses
+pub mod BoxOrNot
+pub mod Given
+pub mod Wants
+pub mod BoxWants
+pub mod UseWants
 pub mod FormSymbols
 pub mod StepSymbols
 pub mod SomeAtom
@@ -27,3 +35,7 @@ pub mod Elaborates
 pub mod CallsFit
 pub mod BoxPlans
 pub mod BoxAsks
+pub mod Reaching
+pub mod UseFound
+pub mod UseTaken
+pub mod FinishPlans

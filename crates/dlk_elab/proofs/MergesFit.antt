@@ -35,7 +35,7 @@ found_holds p (x ∷ xs) a e =
     ]
 
 -- an axiom is found by its own name
-named_itself : (name : List ℕ) (a : Axiom) → axiom_named name ≡ Some a → axiom_named a.name ≡ Some a
+pub named_itself : (name : List ℕ) (a : Axiom) → axiom_named name ≡ Some a → axiom_named a.name ≡ Some a
 named_itself name a e =
     let same : a.name ≡ name = (bytes_eq-Decides a.name name).0 (found_holds (λ (x : Axiom). bytes_eq x.name name) axioms a e) in
     ap axiom_named same ∙ e
@@ -91,7 +91,7 @@ module _ (rows : List Provable) (fact goal : ℕ) (s : Sequent) (atom : Atom) (i
   module _ (generalizing_fits : (j : ℕ) (b f : Tree) → At s.succ j (box b f) →
       FirstFault rows (generalizing (length rows) (record { fact = fact; goal = goal; s = s }) j b f) NotEqual → ⊥)
       (cutting_fits : (j : ℕ) (b f h : Tree) → At s.succ j (box b f) →
-          FirstFault rows (cutting_box (length rows) (record { fact = fact; goal = goal; s = s }) j b f h) NotEqual → ⊥) where
+      FirstFault rows (cutting_box (length rows) (record { fact = fact; goal = goal; s = s }) j b f h) NotEqual → ⊥) where
     box_fits : (x : Asked) (steps : List Step) → AsksBox (length rows) fact goal s atom x → x ≡ Steps steps → FirstFault rows steps NotEqual → ⊥
     box_fits _ steps (by_generalize j b f n are here) e fault =
         let same : generalizing (length rows) (record { fact = fact; goal = goal; s = s }) j b f ≡ steps = cc in
@@ -108,12 +108,12 @@ goal_formulas rows fact goal s all g =
 
 module _ (instance_fits : (rows : List Provable) (n : ℕ) (name : List ℕ) (extra : Extra) → FirstFault rows (instance n name extra) NotEqual → ⊥)
     (behind_fits : (rows between : List Provable) (name : List ℕ) (spot : Spot) (used : Use) (e : Tree) (extra : Extra) (rest : List Step) →
-        Applies rows spot used e extra → axiom_named name ≡ Some used.its_axiom → Takes rows (instance (length rows) name extra) between →
-        Finishes (length between) spot used e (proved between) rest → FirstFault between rest NotEqual → ⊥)
+    Applies rows spot used e extra → axiom_named name ≡ Some used.its_axiom → Takes rows (instance (length rows) name extra) between →
+    Finishes (length between) spot used e (proved between) rest → FirstFault between rest NotEqual → ⊥)
     (generalizing_fits : (rows : List Provable) (spot : Spot) (j : ℕ) (b f : Tree) → IsGoal rows spot.fact spot.goal spot.s → At spot.s.succ j (box b f) →
-        FirstFault rows (generalizing (length rows) spot j b f) NotEqual → ⊥)
+    FirstFault rows (generalizing (length rows) spot j b f) NotEqual → ⊥)
     (cutting_fits : (rows : List Provable) (spot : Spot) (j : ℕ) (b f h : Tree) → IsGoal rows spot.fact spot.goal spot.s → At spot.s.succ j (box b f) →
-        FirstFault rows (cutting_box (length rows) spot j b f h) NotEqual → ⊥) where
+    FirstFault rows (cutting_box (length rows) spot j b f h) NotEqual → ⊥) where
   fits : (rows : List Provable) (fact goal : ℕ) (atom : Atom) (why : AtomWhy) → All HasFormulas rows → IsByAxioms atom.name →
       AtomFault rows fact goal atom why → why ≡ AtStep NotEqual → ⊥
   fits rows fact goal atom _ all names (asks_none {why} s p asks) e =

@@ -1,5 +1,5 @@
 -- Rules in turn, over ids and over trees.
-use Rattle.std.proofs.Common.{◌≡◌, ◌+◌, ℕ, zero, suc, List, [], ◌∷◌, ◌++◌, length, map, All, refl, sym, ap, subst, ◌∙◌, arith}
+use Rattle.std.proofs.Common.{◌≡◌, ◌+◌, ℕ, List, [], ◌∷◌, ◌++◌, length, map, All, refl, sym, ap, subst, ◌∙◌, arith}
 use Rattle.dlk_tree.specs.Trees.{Tree}
 use Rattle.std.specs.Prelude.{Result, Ok, Err, IfOk}
 use Rattle.std.proofs.lemmas.List.{map-append, length-map}
@@ -36,8 +36,8 @@ turns_known : (trees : List Tree) (fact rows : ℕ) (rules : List (ℕ × Rule))
 turns_known trees fact rows [] known = All-nil (HasKnownIds trees)
 turns_known trees fact rows (r ∷ rules) known =
     All-cons (HasKnownIds trees) (step.Apply fact r.0 r.1) (applying (rows + 1) (rows + 1) rules)
-      (All-head (λ (r : ℕ × Rule). RuleIsKnown trees r.1) r rules known)
-      (turns_known trees (rows + 1) (rows + 1) rules (All-tail (λ (r : ℕ × Rule). RuleIsKnown trees r.1) r rules known))
+    (All-head (λ (r : ℕ × Rule). RuleIsKnown trees r.1) r rules known)
+    (turns_known trees (rows + 1) (rows + 1) rules (All-tail (λ (r : ℕ × Rule). RuleIsKnown trees r.1) r rules known))
 
 -- and closed by a row
 pub closed_are : (trees : List Tree) (by fact rows : ℕ) (rules : List (ℕ × Rule)) (goal : ℕ) (steps : List Step) →
@@ -45,10 +45,10 @@ pub closed_are : (trees : List Tree) (by fact rows : ℕ) (rules : List (ℕ × 
     ArePlanned trees steps (closed_by by fact rows (goals_and_rules trees rules) goal)
 closed_are trees by fact rows rules goal steps known is = record {
   are =
-    ap (map (step_at trees)) is ∙ map-append (step_at trees) (applying fact rows rules) (step.Merge (rows + length rules) goal by ∷ []) ∙
-    (λ i. turns_are trees fact rows rules i ++ Merge (rows + sym (length-map rules (over trees)) i) goal by ∷ []);
+      ap (map (step_at trees)) is ∙ map-append (step_at trees) (applying fact rows rules) (step.Merge (rows + length rules) goal by ∷ []) ∙
+      (λ i. turns_are trees fact rows rules i ++ Merge (rows + sym (length-map rules (over trees)) i) goal by ∷ []);
   known = subst (All (HasKnownIds trees)) (sym is)
-    (All-append (HasKnownIds trees) (applying fact rows rules) (step.Merge (rows + length rules) goal by ∷ []) (turns_known trees fact rows rules known)
+      (All-append (HasKnownIds trees) (applying fact rows rules) (step.Merge (rows + length rules) goal by ∷ []) (turns_known trees fact rows rules known)
       (All-cons (HasKnownIds trees) (step.Merge (rows + length rules) goal by) [] tt (All-nil (HasKnownIds trees))));
 }
   where

@@ -13,7 +13,7 @@ use Rattle.dlk_calculus.specs.Places.{At, put_all}
 use Rattle.dlk_calculus.specs.Sequents.{Sequent}
 use Rattle.dlk_calculus.specs.Rules.{Rule, Close, Arguments, OnePlace, TwoPlaces, PlaceAndFormula, OneFormula, PlaceAndName, word_of, arguments_of}
 use Rattle.dlk_calculus.specs.Provables.{Provable}
-use Rattle.dlk_calculus.specs.Steps.{Step, Leaf, Apply, Merge, IsGoal, Fault}
+use Rattle.dlk_calculus.specs.Steps.{Step, Leaf, Apply, Merge, IsGoal}
 use Rattle.dlk_sequent.specs.declared.sequent.Place.{Place}
 use Rattle.dlk_sequent.specs.declared.sequent.Place.TheVariants.{Ante, Succ}
 use Rattle.dlk_rules.specs.declared.arguments.Side.{Side}

@@ -2,8 +2,7 @@
 use Rattle.std.specs.Prelude.{◌≡◌, ℕ, List, length, map, All}
 use Rattle.dlk_tree.specs.declared.op.Sort.TheVariants.{Term, Formula}
 use Rattle.dlk_tree.specs.Trees.{Tree, sort}
-use Rattle.dlk_store.specs.declared.Id.{Id}
-use Rattle.dlk_store.specs.Stores.{IsId, tree, StandsFor}
+use Rattle.dlk_store.specs.Stores.{tree, StandsFor}
 use Rattle.dlk_calculus.specs.declared.form.AxiomForm.{AxiomForm}
 use Rattle.dlk_calculus.specs.declared.form.AxiomForm.TheVariants.{E, Q, C, R, I, F}
 use Rattle.dlk_calculus.specs.Notation.{eq}
@@ -17,8 +16,6 @@ use Rattle.dlk_rules.specs.declared.step.Step.{Step}
 use Rattle.dlk_rules.specs.Steps.{step_at, HasKnownIds}
 use Rattle.dlk_uses.specs.Uses.{Direction, Use, Finishes, left_of, right_of}
 use Rattle.dlk_elab.specs.declared.forms.Aim.{Aim}
-use Rattle.dlk_elab.specs.declared.forms.Equated.{Equated}
-use Rattle.dlk_elab.specs.declared.forms.Exchanged.{Exchanged}
 use Rattle.dlk_elab.specs.declared.finishing.Sides.{Sides}
 use Rattle.dlk_elab.specs.declared.finishing.Around.{Around}
 use Rattle.dlk_elab.specs.declared.finishing.Equation.{Equation}

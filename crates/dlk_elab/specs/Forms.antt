@@ -1,10 +1,10 @@
 -- The trees that the plans of uses need.
 use Rattle.std.specs.Str.{bytes_eq}
-use Rattle.std.specs.Prelude.{if◌then◌else◌, ◌≡◌, ◌+◌, ℕ, List, [], ◌∷◌, length, codes}
+use Rattle.std.specs.Prelude.{if◌then◌else◌, ◌+◌, ℕ, List, [], ◌∷◌, codes}
 use Rattle.dlk_tree.specs.declared.op.Op.TheVariants.{Dot, Hole}
 use Rattle.dlk_tree.specs.Trees.{Tree}
 use Rattle.dlk_store.specs.declared.Id.{Id}
-use Rattle.dlk_store.specs.Stores.{IsId, tree, StandsFor}
+use Rattle.dlk_store.specs.Stores.{StandsFor}
 use Rattle.dlk_calculus.specs.Notation.{leaf}
 use Rattle.dlk_calculus.specs.Paths.{put_at}
 use Rattle.dlk_sequent.specs.declared.subst.Pair.{Pair}

@@ -47,12 +47,7 @@ pub(crate) struct Aim {
 }
 
 /// The fact closes the goal.
-pub(crate) fn by_fact(
-    alloc: Global,
-    now: Fact,
-    spot: Spot,
-    j: u32,
-) -> Result<Vec<Step>, AllocError>
+pub(crate) fn by_fact(alloc: Global, now: Fact, spot: Spot, j: u32) -> Result<Vec<Step>, AllocError>
     requires { now < 2 ^ 31 }
     ensures { IfOk result (λ steps. (trees : List Tree) (s : TreeSequent) → ArePlanned trees steps.items (by_fact now (spot_at spot s) j)) }
 {
@@ -153,11 +148,7 @@ pub(crate) fn by_conditional_equivalence(
 }
 
 /// The rules of an exchange.
-fn exchange_rules(
-    alloc: Global,
-    aim: Aim,
-    new: Id,
-) -> Result<Vec<(u32, Rule)>, AllocError>
+fn exchange_rules(alloc: Global, aim: Aim, new: Id) -> Result<Vec<(u32, Rule)>, AllocError>
     requires goal { aim.spot.goal < 2 ^ 31 }
     requires right { aim.spot.right < 2 ^ 31 }
     ensures { IfOk result (λ rules. rules.items ≡ exchange_rules aim.spot aim.place (direction_of aim.direction) new) }
@@ -195,12 +186,7 @@ fn exchange_rules(
 }
 
 /// The formula at the place, which is one side of an equivalence that a row proves, comes to be the other one.
-fn exchange(
-    alloc: Global,
-    by: Fact,
-    aim: Aim,
-    new: Id,
-) -> Result<Vec<Step>, AllocError>
+fn exchange(alloc: Global, by: Fact, aim: Aim, new: Id) -> Result<Vec<Step>, AllocError>
     requires now { by < 2 ^ 31 + 16 }
     requires goal { aim.spot.goal < 2 ^ 31 }
     requires right { aim.spot.right < 2 ^ 31 }
@@ -212,7 +198,7 @@ fn exchange(
 }
 
 /// Steps, and others behind them.
-fn joined(mut steps: Vec<Step>, more: Vec<Step>) -> Result<Vec<Step>, AllocError>
+pub(crate) fn joined(mut steps: Vec<Step>, more: Vec<Step>) -> Result<Vec<Step>, AllocError>
     ensures { IfOk result (λ all. all.items ≡ steps.items ++ more.items) }
 {
     for step in more {
@@ -240,8 +226,15 @@ fn contextual(alloc: Global, now: Fact, x: Exchanged) -> Result<Vec<Step>, Alloc
     let pairs = in_context(alloc, x)?;
     let steps = vec![in alloc;
         Step::AxRule(rule),
-        Step::Subst { fact: now + 1, pairs },
-        Step::Merge { fact: now + 2, goal: 1, by: now },
+        Step::Subst {
+            fact: now + 1,
+            pairs
+        },
+        Step::Merge {
+            fact: now + 2,
+            goal: 1,
+            by: now
+        },
     ]?;
     Ok(steps)
 }
@@ -291,9 +284,19 @@ fn with_equal_terms(alloc: Global, now: Fact, y: Equated) -> Result<Vec<Step>, A
     let formula = of_formula(alloc, y)?;
     let steps = vec![in alloc;
         Step::AxRule(rule),
-        Step::Subst { fact: now + 1, pairs: terms },
-        Step::Merge { fact: now + 2, goal: 1, by: now },
-        Step::Subst { fact: now + 3, pairs: formula },
+        Step::Subst {
+            fact: now + 1,
+            pairs: terms
+        },
+        Step::Merge {
+            fact: now + 2,
+            goal: 1,
+            by: now
+        },
+        Step::Subst {
+            fact: now + 3,
+            pairs: formula
+        },
     ]?;
     Ok(steps)
 }
@@ -331,10 +334,22 @@ fn under_condition(
     let leaf = Sequent::alone_right(alloc, condition)?;
     let steps = vec![in alloc;
         Step::Start(wanted),
-        Step::Apply { fact: now + 1, goal: 1, rule: Rule::CutR(1, condition) },
-        Step::Merge { fact: now + 2, goal: 2, by: now },
+        Step::Apply {
+            fact: now + 1,
+            goal: 1,
+            rule: Rule::CutR(1, condition)
+        },
+        Step::Merge {
+            fact: now + 2,
+            goal: 2,
+            by: now
+        },
         Step::Leaf(leaf),
-        Step::Merge { fact: now + 3, goal: 1, by: now + 4 },
+        Step::Merge {
+            fact: now + 3,
+            goal: 1,
+            by: now + 4
+        },
     ]?;
     Ok(steps)
 }

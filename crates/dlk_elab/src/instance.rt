@@ -12,11 +12,7 @@ use dlk_tree::Name;
 use std::alloc::{AllocError, Global};
 
 /// Puts the exchange of two names behind the steps, unless they are the same, and answers how many rows there are then.
-fn rename_one(
-    steps: &mut Vec<Step>,
-    rows: u32,
-    rename: &(Name, Name),
-) -> Result<u32, AllocError>
+fn rename_one(steps: &mut Vec<Step>, rows: u32, rename: &(Name, Name)) -> Result<u32, AllocError>
     requires { rows + 1 < 2 ^ 32 }
     ensures steps { IfOk result (λ last. steps.new.items ≡ steps.old.items ++ renamed rows (rename.now ∷ [])) }
     ensures last { IfOk result (λ last. last ≡ rows + length (renamed rows (rename.now ∷ []))) }
@@ -32,11 +28,7 @@ fn rename_one(
 }
 
 /// Puts behind the steps those that exchange unlike names in turn, where there are so many rows, and answers how many there are then.
-fn rename(
-    steps: &mut Vec<Step>,
-    rows: u32,
-    renames: &[(Name, Name)],
-) -> Result<u32, AllocError>
+fn rename(steps: &mut Vec<Step>, rows: u32, renames: &[(Name, Name)]) -> Result<u32, AllocError>
     requires { rows + length renames.now < 2 ^ 32 }
     ensures steps { IfOk result (λ last. steps.new.items ≡ steps.old.items ++ renamed rows renames.now) }
     ensures last { IfOk result (λ last. last ≡ rows + length (renamed rows renames.now)) }
@@ -49,11 +41,7 @@ fn rename(
 }
 
 /// Puts a substitution of the last row behind the steps, unless there are no pairs.
-fn substitute(
-    steps: &mut Vec<Step>,
-    rows: u32,
-    pairs: Listed<Pair>,
-) -> Result<(), AllocError>
+fn substitute(steps: &mut Vec<Step>, rows: u32, pairs: Listed<Pair>) -> Result<(), AllocError>
     ensures { IfOk result (λ _. steps.new.items ≡ steps.old.items ++ substituted rows pairs) }
 {
     if pairs.as_slice().is_empty() {

@@ -3,15 +3,19 @@ ghost use Rattle.std.specs.Prelude.{◌≡◌, None, MatchOption, IfOk, IfErr};
 ghost use Rattle.dlk_store.specs.Stores.{IsId, tree, StandsFor};
 ghost use Rattle.dlk_calculus.specs.Axioms.{axiom_named};
 ghost use Rattle.dlk_uses.specs.Uses.{left_of, right_of, key, may_stand};
-ghost use Rattle.dlk_elab.specs.Atoms.{UnknownName};
-ghost use Rattle.dlk_elab.specs.Calls.{direction_of};
+ghost use Rattle.dlk_match.specs.Found.{HasNoMatch, IsMatch};
+ghost use Rattle.dlk_elab.specs.Atoms.{UnknownName, NoMatch};
+ghost use Rattle.dlk_elab.specs.Calls.{direction_of, given_at, GivenIsKnown};
 ghost use Rattle.dlk_elab.specs.Ties.{IsTacFault};
-ghost use Rattle.dlk_elab.specs.Uses.{HasKids, HasParts, IsAxiomAt};
+ghost use Rattle.dlk_elab.specs.Uses.{HasKids, HasParts, IsAxiomAt, wanted, MayBeUsed};
+ghost use Rattle.std.specs.Option.{option_copied};
 
-use crate::calls::Direction;
+use crate::calls::{Direction, UseCall};
 use crate::fault::TacFault;
 use dlk_axioms::{AxiomForm, axiom, form, own_names};
-use dlk_sequent::Place;
+use dlk_match::matching;
+use dlk_sequent::{Extra, Listed, Place};
+use dlk_uses::uses_have_shapes;
 use dlk_store::{Id, Steps, Store};
 use dlk_tree::Name;
 use std::alloc::Global;
@@ -118,4 +122,42 @@ pub(crate) fn key<S: Store, L: Ledger>(
         },
         AxiomForm::F => formula,
     }
+}
+
+/// The names and the replacements with which what is looked for of the axiom is the tree that is found.
+///
+/// # Errors
+///
+/// - `NoMatch`: there are none, or the axiom may not be used so.
+/// - `Memory`: for want of memory.
+pub(crate) fn matched<S: Store, L: Ledger>(
+    alloc: Global,
+    store: &mut S,
+    named: &Named,
+    used: UseCall<'_>,
+    found: Id,
+    steps: &mut Steps<L>,
+) -> Result<Extra, TacFault>
+    requires axiom { IsAxiomAt (S.trees store.old) used.name.now named.now }
+    requires given { GivenIsKnown (S.trees store.old) (option_copied used.given) }
+    requires found { IsId (S.trees store.old) found }
+    ensures may { IfOk result (λ _. MayBeUsed named.now used.entry) }
+    ensures matches { IfOk result (IsMatch (wanted (S.trees store.old) named.now used.entry) named.now.own.items (tree (S.trees store.old) found) (given_at (S.trees store.old) (option_copied used.entry.given)) (S.trees store.new)) }
+    ensures fault { IfErr result (IsTacFault (λ why. (why ≡ NoMatch) × (MayBeUsed named.now used.entry → HasNoMatch (wanted (S.trees store.old) named.now used.entry) named.now.own.items (tree (S.trees store.old) found) (given_at (S.trees store.old) (option_copied used.entry.given))))) }
+    ensures grows { S.grows store.old store.new }
+{
+    uses_have_shapes();
+    if !may_stand(named.form, used.direction, used.place, used.path) {
+        return Err(TacFault::NoMatch);
+    }
+    let none = Extra {
+        renames: Listed::new(alloc),
+        pairs: Listed::new(alloc),
+    };
+    let given = used.given.unwrap_or(&none);
+    let key = key(store, named.form, used.direction, used.place, named.formula, steps);
+    let Some(extra) = matching(alloc, store, key, named.own.as_slice(), found, given, steps)? else {
+        return Err(TacFault::NoMatch);
+    };
+    Ok(extra)
 }

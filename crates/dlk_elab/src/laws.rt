@@ -12,11 +12,12 @@ ghost use Rattle.dlk_elab.specs.Atoms.{AtomWhy, HasNoLocator, HasNames, HasGoalA
 ghost use Rattle.dlk_elab.specs.Symbols.{ReplacesSymbols};
 
 use dlk_calculus::laws::{
-    given_unless_against, one_fault, one_innermost, one_provable, subtrees_keep,
+    given_unless_against, one_fault, one_innermost, one_provable, paths_join, put_is_there,
+    subtrees_keep,
 };
-use dlk_match::{axioms_have_own_names, match_is_proper, one_match};
+use dlk_match::{axioms_have_own_names, match_is_proper, match_keeps_sort, one_match, some_match};
 use dlk_rules::{rule_is_its_word_and_arguments, word_wants_one_shape};
-use dlk_uses::{boxes_fit, uses_fit};
+use dlk_uses::{boxes_fit, uses_fit, uses_have_shapes};
 
 /// An atom gives at most one list of steps with one list of rows, or it has at most one fault.
 pub fn one_atom()
@@ -32,11 +33,21 @@ pub fn one_atom()
     one_innermost();
 }
 
-/// A fitting atom without a locator, whose names are names, gives steps on a goal that is there, or has a fault.
+/// A fitting atom without a locator, whose names are names, gives steps on a goal that is there, or has a fault. The rows are of formulas, as
+/// those of a kernel are: what a use of an axiom puts in the place of symbols is made of what stands in the goal.
 pub fn some_atom()
-    ensures { (rows : List Provable) (fact goal : ℕ) (atom : Atom) → HasGoalAt rows fact goal → IsFitting atom → HasNoLocator atom → HasNames atom → ((s : List Step) × (a : List Provable) × AtomSteps rows fact goal atom s a) ⊎ ((why : AtomWhy) × AtomFault rows fact goal atom why) }
+    ensures { (rows : List Provable) (fact goal : ℕ) (atom : Atom) → HasGoalAt rows fact goal → All HasFormulas rows → IsFitting atom → HasNoLocator atom → HasNames atom → ((s : List Step) × (a : List Provable) × AtomSteps rows fact goal atom s a) ⊎ ((why : AtomWhy) × AtomFault rows fact goal atom why) }
 {
     given_unless_against();
+    one_innermost();
+    paths_join();
+    put_is_there();
+    subtrees_keep();
+    axioms_have_own_names();
+    match_is_proper();
+    match_keeps_sort();
+    some_match();
+    uses_have_shapes();
 }
 
 /// The last row after an atom on a goal of the last row is that one, with other goals in the goal's place, which are as many as there are

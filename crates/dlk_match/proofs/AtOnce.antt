@@ -195,7 +195,7 @@ module _ (own : List (List ℕ)) (renames : Names) (given : AreGiven own renames
 
 -- ---- symbols of kinds without a taboo
 
-kind_of_rank : (k l : Kind) → (kind_rank k == kind_rank l) ≡ true → k ≡ l
+pub kind_of_rank : (k l : Kind) → (kind_rank k == kind_rank l) ≡ true → k ≡ l
 kind_of_rank Func Func e = refl
 kind_of_rank UnitFunc UnitFunc e = refl
 kind_of_rank Pred Pred e = refl

@@ -1,6 +1,9 @@
 pub mod Abstracted
 pub mod OneMatch
 pub mod Targets
+pub mod NamesTold
+pub mod FoundMatch
+pub mod MatchingExamples
 pub mod Plugged
 pub mod Turns
 pub mod AtOnce
@@ -13,3 +16,8 @@ pub mod AbstractMade
 pub mod SystemsMade
 pub mod Proper
 pub mod Nothing
+pub mod Deciding
+pub mod Taken
+pub mod Heads
+pub mod LeftKids
+pub mod SameSort

@@ -35,7 +35,7 @@ one_replacement s e old a b p q = one_replacement_is (replacement old.pairs s) s
 no_kid : {t : Tree} {rest ks : Forest} → ks ≡ no_kids → ks ≡ kid t rest → ⊥
 no_kid p q = cc
 
-one_variable : {v w : Var} {ks : Forest} → ks ≡ kid (node (Op'.Variable v) no_kids) no_kids → ks ≡ kid (node (Op'.Variable w) no_kids) no_kids → v ≡ w
+pub one_variable : {v w : Var} {ks : Forest} → ks ≡ kid (node (Op'.Variable v) no_kids) no_kids → ks ≡ kid (node (Op'.Variable w) no_kids) no_kids → v ≡ w
 one_variable p q = cc
 
 one_of : {A : Type 0} {o : Option A} {s t : A} → o ≡ Some s → o ≡ Some t → s ≡ t
@@ -57,22 +57,22 @@ one_application s kids e old a b (of_variable p) (of_variable q) = one_applied s
 
 -- ---- systems
 
-abbrev last_of : List Member → Member
+abbrev pub last_of : List Member → Member
 last_of [] = Equation [] (node Op'.True no_kids)
 last_of (m ∷ []) = m
 last_of (m ∷ n ∷ ms) = last_of (n ∷ ms)
 
-abbrev front_of : List Member → List Member
+abbrev pub front_of : List Member → List Member
 front_of [] = []
 front_of (m ∷ []) = []
 front_of (m ∷ n ∷ ms) = m ∷ front_of (n ∷ ms)
 
-last_is : (ms : List Member) (m : Member) → last_of (ms ++ m ∷ []) ≡ m
+pub last_is : (ms : List Member) (m : Member) → last_of (ms ++ m ∷ []) ≡ m
 last_is [] m = refl
 last_is (n ∷ []) m = refl
 last_is (n ∷ k ∷ ms) m = last_is (k ∷ ms) m
 
-front_is : (ms : List Member) (m : Member) → front_of (ms ++ m ∷ []) ≡ ms
+pub front_is : (ms : List Member) (m : Member) → front_of (ms ++ m ∷ []) ≡ ms
 front_is [] m = refl
 front_is (n ∷ []) m = refl
 front_is (n ∷ k ∷ ms) m = ap (λ rest. n ∷ rest) (front_is (k ∷ ms) m)
@@ -80,7 +80,7 @@ front_is (n ∷ k ∷ ms) m = ap (λ rest. n ∷ rest) (front_is (k ∷ ms) m)
 one_equation : {y z : List ℕ} {s t : Tree} → Equation y s ≡ Equation z t → (y ≡ z) × (s ≡ t)
 one_equation e = (cc, cc)
 
-one_taken : {items : List OdeItem} {ms : List Member} {old a b : Extra} {s t : List Tree} → TakeMembers items ms old a s → TakeMembers items ms old b t → (a ≡ b) × (s ≡ t)
+pub one_taken : {items : List OdeItem} {ms : List Member} {old a b : Extra} {s t : List Tree} → TakeMembers items ms old a s → TakeMembers items ms old b t → (a ≡ b) × (s ≡ t)
 one_taken {old = old} {a = a} {b = b} (constant {s = c} {ms = ms} p) (constant q) = (one_replacement c (system_of ms) old a b p q, refl)
 one_taken {old = old} {a = a} {b = b} (equation {x = x} {y = y} p) (equation q) = (one_name x y old a b p q, refl)
 one_taken {old = old} {a = a} {b = b} (equation_first {x = x} {y = y} {s = c} {m = m} {ms = ms} mid p r) (equation_first nid q s) =
@@ -109,7 +109,7 @@ assigned_of primed y z e =
     let vars : record { name = y; primed = primed } ≡ record { name = z; primed = primed } = cc in
     ap (λ (v : Var). v.name) vars
 
-one_node : {op other : Op} {ks ls : Forest} {e : Tree} → e ≡ node op ks → e ≡ node other ls → (op ≡ other) × (ks ≡ ls)
+pub one_node : {op other : Op} {ks ls : Forest} {e : Tree} → e ≡ node op ks → e ≡ node other ls → (op ≡ other) × (ks ≡ ls)
 one_node p q = (cc, cc)
 
 module _ (keys : Forest) (e : Tree) (Kids : Forest → Extra → Extra → Type 0)

@@ -1,5 +1,7 @@
 pub mod Abstract
+pub mod Rests
 pub mod Entered
 pub mod Matching
-pub mod Found
 pub mod Instances
+pub mod Tried
+pub mod Found

@@ -1,5 +1,5 @@
 -- Matching: names for an axiom's names and replacements for its symbols, with which its key is a given tree.
-use Rattle.std.specs.Prelude.{◌≡◌, ◌≢◌, ℕ, List, [], ◌∷◌, ◌++◌, map, Bool, ◌&&◌, not, if◌then◌else◌, IsTrue, All, Option, Some, None, option_map}
+use Rattle.std.specs.Prelude.{◌≡◌, ℕ, List, [], ◌∷◌, ◌++◌, map, Bool, if◌then◌else◌, IsTrue, All, Option, Some, None, option_map}
 use Rattle.std.specs.List.{list_any}
 use Rattle.std.specs.Str.{bytes_eq}
 use Rattle.dlk_tree.specs.declared.op.Var.{Var}
@@ -13,7 +13,7 @@ use Rattle.dlk_tree.specs.Trees.{Tree, node, Forest, no_kids, kid, forest, sort}
 use Rattle.dlk_calculus.specs.Kids.{last}
 use Rattle.dlk_calculus.specs.Pairs.{Pair, Extra, replacement}
 use Rattle.dlk_calculus.specs.Rename.{swap}
-use Rattle.dlk_calculus.specs.Subst.{Member, Equation, Constant, members, items_of, kids_of}
+use Rattle.dlk_calculus.specs.Subst.{Member, Equation, members, items_of, kids_of}
 use Rattle.dlk_match.specs.Abstract.{abstracted}
 
 -- Names:

@@ -4,7 +4,7 @@ ghost use Rattle.dlk_tree.specs.declared.op.Op.{Op};
 ghost use Rattle.dlk_tree.specs.declared.op.Op.TheVariants.{Variable};
 ghost use Rattle.dlk_tree.specs.declared.op.Var.{Var};
 ghost use Rattle.dlk_tree.specs.Table.{is_sym};
-ghost use Rattle.dlk_tree.specs.Trees.{Tree, node, Forest, no_kids, trees_in, WellMade};
+ghost use Rattle.dlk_tree.specs.Trees.{Tree, node, Forest, no_kids, trees_in, sort, WellMade};
 ghost use Rattle.dlk_tree.specs.Occurs.{has_dots};
 ghost use Rattle.dlk_calculus.specs.Axioms.{Axiom, axiom_named};
 ghost use Rattle.dlk_calculus.specs.Kids.{first, last};
@@ -33,6 +33,11 @@ pub fn match_is_proper()
     ensures names { (own : List (List ℕ)) (key target : Tree) (given extra : Extra) → WellMade key → WellMade target → has_dots target ≡ false → AreNames given.renames → Match key own target given extra → AreNames extra.renames }
     ensures made { (own : List (List ℕ)) (key target : Tree) (given extra : Extra) → WellMade key → WellMade target → has_dots target ≡ false → AreWellMade given.pairs → Match key own target given extra → AreWellMade extra.pairs }
     ensures symbols { (own : List (List ℕ)) (key target : Tree) (given extra : Extra) → WellMade key → WellMade target → has_dots target ≡ false → AreNames given.renames → All (λ (p : Pair). is_sym p.sym ≡ true) given.pairs → Match key own target given extra → All (λ (p : Pair). is_sym p.sym ≡ true) extra.pairs }
+{}
+
+/// What a well-made key matches is of the key's sort.
+pub fn match_keeps_sort()
+    ensures { (own : List (List ℕ)) (key target : Tree) (given extra : Extra) → WellMade key → Match key own target given extra → sort target ≡ sort key }
 {}
 
 /// In an axiom only its own names stand, and it is well made. What has both has it in each kid, and in the first and the last where

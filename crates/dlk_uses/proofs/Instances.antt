@@ -1,7 +1,7 @@
 -- Instances of axioms have the axioms' shapes.
 use Rattle.std.proofs.Common.{◌≡◌, ℕ, List, [], length, refl, sym, ap, subst, ◌∙◌, Some}
 use Rattle.std.proofs.lemmas.List.Elements.{All-head}
-use Rattle.dlk_tree.specs.Trees.{Tree, WellMade}
+use Rattle.dlk_tree.specs.Trees.{Tree, node, WellMade}
 use Rattle.dlk_calculus.specs.declared.form.AxiomForm.{AxiomForm}
 use Rattle.dlk_calculus.specs.declared.form.AxiomForm.TheVariants.{E, Q, C, R, I, F}
 use Rattle.dlk_calculus.specs.Axioms.{Axiom, axiom_named}
@@ -15,7 +15,7 @@ use Rattle.dlk_calculus.specs.Subst.{Subst}
 use Rattle.dlk_match.specs.Matching.{exchanged}
 use Rattle.dlk_kernel.specs.Taken.{Takes}
 use Rattle.dlk_uses.specs.Uses.{instance, proved, left_of, right_of, HasShape, ProvesLast}
-use Rattle.dlk_uses.proofs.Instance.{instantiates, proved_is}
+use Rattle.dlk_uses.proofs.Instance.{Instantiates, instantiates, proved_is}
 use Rattle.dlk_uses.proofs.Shapes.{axiom_shaped}
 
 -- what the laws of matching say of names exchanged and of what is replaced in a node over two kids
@@ -75,15 +75,30 @@ shaped laws R pairs renames k f shape makes =
 shaped laws I pairs renames k f shape makes = (is_over imply imply_pair laws.exchanged_imply laws.subst_imply pairs renames k f shape makes).is
 shaped laws F pairs renames k f shape makes = tt
 
-pub instance_shaped : KidLaws → ((p : Provable) → Derives p → HasFormulas p) → ((e : Tree) → WellMade e → Subst [] e e) →
-    (rows between : List Provable) (name : List ℕ) (extra : Extra) (a : Axiom) → axiom_named name ≡ Some a → Takes rows (instance (length rows) name extra) between →
-    (f : Tree) × ProvesLast between f × HasShape a.form f
-instance_shaped laws formulas nothing rows between name extra a named takes =
-    let g = exchanged extra.renames a.formula in
-    let itself : Derives (known g) → Subst [] g g = λ derived. nothing g (All-head IsFormula g [] (formulas (known g) derived).conclusion.succ).well_made in
-    let i = instantiates rows between name extra a named itself takes in
-    (i.f, record { row = i.row; is_last = i.last; concludes = i.concludes }, shaped laws a.form extra.pairs extra.renames a.formula i.f (axiom_shaped name a named)
-    i.makes)
+-- what a substitution makes is well made
+subst_made : (pairs : List Pair) (e t : Tree) → Subst pairs e t → WellMade t
+subst_made pairs (node op kids) t made = made.3
+
+-- what is derived is well made, so it is what a substitution without pairs makes of it
+module _ (formulas : (p : Provable) → Derives p → HasFormulas p) (nothing : (e : Tree) → WellMade e → Subst [] e e) (rows between : List Provable)
+    (name : List ℕ) (extra : Extra) (a : Axiom) (named : axiom_named name ≡ Some a) (takes : Takes rows (instance (length rows) name extra) between) where
+  instanced : Instantiates rows extra.pairs (exchanged extra.renames a.formula) between
+  instanced =
+      let g = exchanged extra.renames a.formula in
+      instantiates rows between name extra a named
+      (λ derived. nothing g (All-head IsFormula g [] (formulas (known g) derived).conclusion.succ).well_made) takes
+
+  pub instance_shaped : KidLaws → (f : Tree) × ProvesLast between f × HasShape a.form f
+  instance_shaped laws = (
+    instanced.f,
+    record { row = instanced.row; is_last = instanced.last; concludes = instanced.concludes },
+    shaped laws a.form extra.pairs extra.renames a.formula instanced.f (axiom_shaped name a named) instanced.makes,
+  )
+
+  pub instance_made : WellMade (proved between)
+  instance_made =
+      subst WellMade (sym (proved_is between instanced.row instanced.f instanced.last instanced.concludes))
+      (subst_made extra.pairs (exchanged extra.renames a.formula) instanced.f instanced.makes)
 
 pub proved_last : (rows : List Provable) (f : Tree) → ProvesLast rows f → proved rows ≡ f
 proved_last rows f p = proved_is rows p.row f p.is_last p.concludes

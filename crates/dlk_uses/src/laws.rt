@@ -1,6 +1,6 @@
 //! The laws of uses. Each is a contract of a function that does nothing but call laws of the calculus and of matching.
 ghost use Rattle.std.specs.Prelude.{◌≡◌, ◌≢◌, ◌+◌, ◌≤◌, ℕ, List, [], ◌∷◌, length, Some};
-ghost use Rattle.dlk_tree.specs.Trees.{Tree};
+ghost use Rattle.dlk_tree.specs.Trees.{Tree, WellMade};
 ghost use Rattle.dlk_calculus.specs.declared.reason.Reason.TheVariants.{NotEqual};
 ghost use Rattle.dlk_calculus.specs.Axioms.{Axiom, axiom_named};
 ghost use Rattle.dlk_calculus.specs.Notation.{box};
@@ -44,10 +44,11 @@ pub fn uses_fit()
     nothing_replaced();
 }
 
-/// An axiom has the shape that its form says, and so has its instance, which the last row proves where it is taken.
+/// An axiom has the shape that its form says, and so has its instance, which the last row proves where it is taken, and which is well made.
 pub fn uses_have_shapes()
     ensures axioms { (name : List ℕ) (a : Axiom) → axiom_named name ≡ Some a → HasShape a.form a.formula }
     ensures instances { (rows between : List Provable) (name : List ℕ) (extra : Extra) (a : Axiom) → axiom_named name ≡ Some a → Takes rows (instance (length rows) name extra) between → (f : Tree) × ProvesLast between f × HasShape a.form f }
+    ensures made { (rows between : List Provable) (name : List ℕ) (extra : Extra) (a : Axiom) → axiom_named name ≡ Some a → Takes rows (instance (length rows) name extra) between → WellMade (proved between) }
     ensures proved { (rows : List Provable) (f : Tree) → ProvesLast rows f → proved rows ≡ f }
 {
     derived_formulas();

@@ -7,7 +7,7 @@ use Rattle.dlk_kernel.specs.Taken.{Takes}
 use Rattle.dlk_rules.specs.Steps.{step_at}
 use Rattle.dlk_tacsyn.specs.Ties.{atom_at}
 use Rattle.dlk_elab.specs.Atoms.{FirstFault}
-use Rattle.dlk_elab.specs.Calls.{IsCall}
+use Rattle.dlk_elab.specs.Calls.{IsCall, CallIsKnown}
 use Rattle.dlk_elab.proofs.CallsFit.{uses_none}
 use Rattle.dlk_elab.proofs.Elaborates.{steps_same, known_later, fault_of_step, steps_made}
 use Rattle.dlk_elab.proofs.elaborating.atom_steps.Goals as goal
@@ -16,6 +16,11 @@ pub use_axiom-requires-clause-call : goal.use_axiom-requires-clause-call
 use_axiom-requires-clause-call g c =
     let trees = g.S.Store.trees c.args.kernel.now.store in
     subst (IsCall trees (atom_at trees c.args.atom.now)) c.in-Use.is (c.call_of-call.ensures.call trees c.requires.fitting c.requires.fixed)
+
+pub use_axiom-requires-clause-given : goal.use_axiom-requires-clause-given
+use_axiom-requires-clause-given g c =
+    let trees = g.S.Store.trees c.args.kernel.now.store in
+    subst (CallIsKnown trees) c.in-Use.is (c.call_of-call.ensures.known trees c.requires.known)
 
 pub planned-requires-clause-call : goal.planned-requires-clause-call
 planned-requires-clause-call g c = c.call_of-call.ensures.call (g.S.Store.trees c.args.kernel.now.store) c.requires.fitting c.requires.fixed

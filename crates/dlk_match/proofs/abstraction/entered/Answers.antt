@@ -1,4 +1,4 @@
-use Rattle.std.proofs.Common.{◌≡◌, sym}
+use Rattle.std.proofs.Common.{sym}
 use Rattle.dlk_store.specs.Stores.{kid_trees}
 use Rattle.dlk_match.proofs.Abstracted.{nothing_captured, count_trees}
 use Rattle.dlk_match.proofs.abstraction.entered.Goals as goal

@@ -1,7 +1,5 @@
-use Rattle.std.proofs.Common.{◌≡◌, sym, subst, ⊎_elim, ◌-◌, ◌≤◌, List, length, arith}
+use Rattle.std.proofs.Common.{◌≡◌, sym, subst, ⊎_elim, ◌-◌, ◌≤◌, length, arith}
 use Rattle.dlk_tree.specs.declared.op.Op.{Op}
-use Rattle.dlk_tree.specs.declared.op.Op.TheVariants as Op'
-use Rattle.dlk_tree.specs.Trees.{Tree}
 use Rattle.dlk_store.specs.Stores.{kid_trees}
 use Rattle.dlk_calculus.specs.Captures.{captures}
 use Rattle.dlk_match.specs.Abstract.{count}
