@@ -1,5 +1,5 @@
 -- What `prove` writes is accepted by `check`, which answers the same.
-use Rattle.std.proofs.Common.{◌≡◌, ◌≤◌, ℕ, List, [], ◌∷◌, ◌++◌, length, None, Some, refl, sym, ap, subst, ◌∙◌}
+use Rattle.std.proofs.Common.{◌≡◌, ◌≤◌, ℕ, List, [], length, None, Some, refl, sym, subst, arith}
 use Rattle.std.specs.Prelude.{All}
 use Rattle.dlk_calculus.specs.Provables.{Provable}
 use Rattle.dlk_calculus.specs.Steps.{Step}
@@ -17,10 +17,10 @@ use Rattle.dlk_answers.specs.Forms.{limit_of}
 use Rattle.dlk_answers.specs.Replies.{Reply, printing}
 use Rattle.dlk_answers.specs.Refusals.{text_refused}
 use Rattle.dlk_answers.specs.Checks.{Checks, reports, Accepts, reported}
-use Rattle.dlk_answers.specs.Proves.{Proves, bad_model, bad_strategy, fails, spent, too_long, proves, strategy_refused, proved, RunsTo, IsLast}
+use Rattle.dlk_answers.specs.Proves.{Proves, bad_model, bad_strategy, fails, spent, too_long, proves, strategy_refused, RunsTo, IsLast}
 use Rattle.dlk_answers.proofs.Judging.{last_item}
-use Rattle.dlk_answers.proofs.StrategyLaws.{AtomsReplace}
-use Rattle.dlk_answers.proofs.RunSteps.{IsTaken, run_taken, run_count}
+use Rattle.dlk_answers.proofs.StrategyLaws.{RunsTaken, RunsReplaceSymbols, RunsShow}
+use Rattle.dlk_answers.proofs.RunSteps.{taken_count, some_rows, run_shows, all_symbols}
 
 -- a refusal writes nothing
 model_unwritten : (why : TextFault) → (text_refused Model why).written ≡ None
@@ -52,19 +52,22 @@ abbrev pub RecordedIsAccepted : Type 0
 RecordedIsAccepted = (steps : List Step) (rows : List Provable) → Takes [] steps rows → All HasSymbols steps → 1 ≤ length steps →
     Verdict (file_lines (term_text steps)) (accepted rows (length steps))
 
-module _ (recorded : RecordedIsAccepted) (atom_replaces : AtomsReplace) where
+module _ (recorded : RecordedIsAccepted) (runs_taken : RunsTaken) (replace_symbols : RunsReplaceSymbols) (runs_show : RunsShow) where
   whole_checks : (model strategy : List ℕ) (made : Progress) (left : ℕ) → RunsTo model strategy (Done made left) → (p : Provable) → IsLast made.rows p →
       Checks (Reported Text) model (term_text made.steps) (reported Text p (length made.steps))
   whole_checks model strategy made left run p ended =
-      let t = run_taken atom_replaces run.tactic run.formula made left run.run in
+      let takes = runs_taken run.tactic run.formula made left run.run in
+      let symbols = all_symbols made.steps (replace_symbols strategy run.tactic run.formula made left run.says run.run) in
+      let count = taken_count made.steps made.rows takes in
+      let some : 1 ≤ length made.steps = omega (arith, count, some_rows runs_show run.tactic run.formula made left run.run) in
       let accepts : Accepts (term_text made.steps) made.rows p = record {
         before = ended.before;
         last = ended.rows_are;
         line = length made.steps;
-        verdict = recorded made.steps made.rows t.takes t.symbols t.some;
+        verdict = recorded made.steps made.rows takes symbols some;
       } in
-      subst (λ n. Checks (Reported Text) model (term_text made.steps) (reported Text p n)) (sym (run_count atom_replaces run.tactic run.formula made left run.run))
-      (reports run.formula run.reads made.rows p accepts (t.shows p (last_item made.rows ended.before p ended.rows_are)))
+      let shows = run_shows runs_show run.tactic run.formula made left run.run p (last_item made.rows ended.before p ended.rows_are) in
+      subst (λ n. Checks (Reported Text) model (term_text made.steps) (reported Text p n)) (sym count) (reports run.formula run.reads made.rows p accepts shows)
 
   rechecks : (model strategy term : List ℕ) (reply : Reply) → Proves model strategy reply → reply.written ≡ Some term → Rechecks model term reply
   rechecks model strategy term _ (bad_model why is) written = absurd (unwritten (text_refused Model why) term (model_unwritten why) written)

@@ -1,5 +1,5 @@
 -- A command answers something to the texts of its inputs.
-use Rattle.std.proofs.Common.{◌≡◌, ℕ, ◌≤◌, List, [], ◌∷◌, ◌++◌, length, Option, None, Some, IsTrue, refl, sym, ap, subst, inl, inr, arith, codes}
+use Rattle.std.proofs.Common.{◌≡◌, ℕ, List, [], ◌∷◌, length, Option, None, Some, IsTrue, refl, sym, subst, inl, inr, arith, codes}
 use Rattle.std.proofs.lemmas.Bool.{cases_lt}
 use Rattle.dlk_tree.specs.Trees.{Tree, size, depth}
 use Rattle.dlk_calculus.specs.Limits.{most_nodes, greatest_depth}
@@ -32,7 +32,7 @@ use Rattle.dlk_answers.specs.Answers.{Does, Responds, refuses, does, too_long}
 use Rattle.dlk_answers.proofs.Ends.{last_of}
 use Rattle.dlk_answers.proofs.Fits.{others_end}
 use Rattle.dlk_answers.proofs.SomeProof.{some_prove}
-use Rattle.dlk_answers.proofs.StrategyLaws.{SomeText, SomeRun, AtomsReplace}
+use Rattle.dlk_answers.proofs.StrategyLaws.{SomeText, SomeRun, RunsShow}
 use Rattle.dlk_answers.proofs.SomeListing.{some_free_listing, some_bound_listing, some_must_listing, some_signature}
 
 some_check : (showing : Showing) (model term : List ℕ) → (reply : Reply) × Checks showing model term reply
@@ -125,7 +125,7 @@ done_of : (command : Command) (others words : List Word) (texts same : List (Lis
 done_of command others words texts same words_are is done =
     (done.0, subst (λ os. Does command os texts done.0) (sym words_are) (subst (λ ts. Does command words ts done.0) (sym is) done.1))
 
-module _ (some_text : SomeText) (some_run : SomeRun) (atom_replaces : AtomsReplace) where
+module _ (some_text : SomeText) (some_run : SomeRun) (runs_show : RunsShow) where
   some_job : (command : Command) (others : List Word) (texts : List (List ℕ)) → IsTrue (ends_in (form_of command).last others) →
       length texts ≡ length (form_of command).inputs →
       (reply : Reply) × Does command others texts reply
@@ -150,7 +150,7 @@ module _ (some_text : SomeText) (some_run : SomeRun) (atom_replaces : AtomsRepla
   some_job Prove others texts ends count =
       let t = two_texts texts count in
       let w = one_other others ends in
-      done_of Prove others (w.0 ∷ []) texts (t.0 ∷ t.1 ∷ []) w.1 t.2 (some_prove some_text some_run atom_replaces t.0 t.1)
+      done_of Prove others (w.0 ∷ []) texts (t.0 ∷ t.1 ∷ []) w.1 t.2 (some_prove some_text some_run runs_show t.0 t.1)
 
   pub some_response : (command : Command) (words : List Word) (texts : List (List ℕ)) → command_of words ≡ Some command →
       length texts ≡ length (form_of command).inputs →

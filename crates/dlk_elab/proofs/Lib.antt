@@ -27,6 +27,8 @@ pub mod Given
 pub mod Wants
 pub mod BoxWants
 pub mod UseWants
+pub mod FormSymbols
+pub mod StepSymbols
 pub mod SomeAtom
 pub mod RuleArguments
 pub mod Elaborates

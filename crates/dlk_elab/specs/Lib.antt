@@ -5,3 +5,4 @@ pub mod Plans
 pub mod Forms
 pub mod Uses
 pub mod Finishing
+pub mod Symbols

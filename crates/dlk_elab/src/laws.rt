@@ -5,9 +5,11 @@ ghost use Rattle.dlk_calculus.specs.declared.reason.Reason.TheVariants.{NotEqual
 ghost use Rattle.dlk_calculus.specs.Provables.{Provable, HasFormulas};
 ghost use Rattle.dlk_calculus.specs.Sequents.{Sequent};
 ghost use Rattle.dlk_calculus.specs.Steps.{Step};
+ghost use Rattle.dlk_kernel.specs.Taken.{Takes};
 ghost use Rattle.dlk_tacsyn.specs.Rows.{IsFitting};
 ghost use Rattle.dlk_tacsyn.specs.Tactics.{Atom};
 ghost use Rattle.dlk_elab.specs.Atoms.{AtomWhy, HasNoLocator, HasNames, HasGoalAt, AtStep, AtomSteps, AtomFault, Replaces, IsByAxioms};
+ghost use Rattle.dlk_elab.specs.Symbols.{ReplacesSymbols};
 
 use dlk_calculus::laws::{
     given_unless_against, one_fault, one_innermost, one_provable, paths_join, put_is_there,
@@ -62,4 +64,19 @@ pub fn merges_fit()
 {
     uses_fit();
     boxes_fit();
+}
+
+/// The steps of an atom are taken in turn, and with them the rows come to be those that the atom gives.
+pub fn atom_is_taken()
+    ensures { (rows : List Provable) (fact goal : ℕ) (atom : Atom) (s : List Step) (a : List Provable) → AtomSteps rows fact goal atom s a → Takes rows s a }
+{}
+
+/// What the steps of an atom replace are symbols, over rows of formulas, where the names that the atom is given are names and what it is
+/// given to replace are symbols.
+pub fn atom_has_symbols()
+    ensures { (rows : List Provable) (fact goal : ℕ) (atom : Atom) (s : List Step) (a : List Provable) → All HasFormulas rows → HasNames atom → AtomSteps rows fact goal atom s a → All ReplacesSymbols s }
+{
+    axioms_have_own_names();
+    subtrees_keep();
+    match_is_proper();
 }

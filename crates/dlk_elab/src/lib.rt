@@ -21,4 +21,6 @@ mod ways;
 
 pub use elaborating::{Elaborated, elaborate};
 pub use fault::TacFault;
-pub use laws::{atom_replaces_goal, merges_fit, one_atom, some_atom};
+pub use laws::{
+    atom_has_symbols, atom_is_taken, atom_replaces_goal, merges_fit, one_atom, some_atom,
+};

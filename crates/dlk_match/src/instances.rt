@@ -1,8 +1,9 @@
 //! The laws of instances. Each is a contract of a function that does nothing but call laws of the calculus.
-ghost use Rattle.std.specs.Prelude.{◌≡◌, ℕ, List, [], ◌∷◌, Option, Some, All, IsTrue, false};
+ghost use Rattle.std.specs.Prelude.{◌≡◌, ℕ, List, [], ◌∷◌, Option, Some, All, IsTrue, true, false};
 ghost use Rattle.dlk_tree.specs.declared.op.Op.{Op};
 ghost use Rattle.dlk_tree.specs.declared.op.Op.TheVariants.{Variable};
 ghost use Rattle.dlk_tree.specs.declared.op.Var.{Var};
+ghost use Rattle.dlk_tree.specs.Table.{is_sym};
 ghost use Rattle.dlk_tree.specs.Trees.{Tree, node, Forest, no_kids, trees_in, sort, WellMade};
 ghost use Rattle.dlk_tree.specs.Occurs.{has_dots};
 ghost use Rattle.dlk_calculus.specs.Axioms.{Axiom, axiom_named};
@@ -25,11 +26,13 @@ pub fn match_gives_target()
 {}
 
 /// The names that an axiom gets by a match are given to its own names alone, to each at most one; no two of them are one, and none is
-/// another of the axiom's own. Where the given names are names and the given replacements well made, all are.
+/// another of the axiom's own. Where the given names are names and the given replacements well made, all are; and where given
+/// replacements are of symbols, all are.
 pub fn match_is_proper()
     ensures given { (own : List (List ℕ)) (key target : Tree) (given extra : Extra) → HasOwnNames own key → Match key own target given extra → AreGiven own extra.renames × AreApart own extra.renames }
     ensures names { (own : List (List ℕ)) (key target : Tree) (given extra : Extra) → WellMade key → WellMade target → has_dots target ≡ false → AreNames given.renames → Match key own target given extra → AreNames extra.renames }
     ensures made { (own : List (List ℕ)) (key target : Tree) (given extra : Extra) → WellMade key → WellMade target → has_dots target ≡ false → AreWellMade given.pairs → Match key own target given extra → AreWellMade extra.pairs }
+    ensures symbols { (own : List (List ℕ)) (key target : Tree) (given extra : Extra) → WellMade key → WellMade target → has_dots target ≡ false → AreNames given.renames → All (λ (p : Pair). is_sym p.sym ≡ true) given.pairs → Match key own target given extra → All (λ (p : Pair). is_sym p.sym ≡ true) extra.pairs }
 {}
 
 /// What a well-made key matches is of the key's sort.

@@ -1,13 +1,12 @@
--- Atoms without locators.
-use Rattle.std.proofs.Common.{◌≡◌, ℕ, List, [], ◌∷◌, map, refl, Option, Some, None}
+-- Atoms without locators, and with a place for one: they are fitting as before, and their names are names.
+use Rattle.std.proofs.Common.{◌≡◌, ℕ, List, [], ◌∷◌, map, Option, Some, None}
 use Rattle.std.specs.List.{All}
-use Rattle.std.proofs.lemmas.List.Elements.{All-nil, All-cons}
-use Rattle.dlk_sequent.specs.declared.sequent.Place.TheVariants.{Ante, Succ}
+use Rattle.std.proofs.lemmas.List.Elements.{All-nil, All-cons, All-head, All-tail}
 use Rattle.dlk_tacsyn.specs.declared.kind.Kind.{Kind}
 use Rattle.dlk_tacsyn.specs.declared.kind.Kind.TheVariants.{FixedPlace, AnyPlace, QuotedFormula, AName, QuotedExtra}
 use Rattle.dlk_tacsyn.specs.Tactics.{Argument, AtPlace, AnyLeft, AnyRight, Word, GivenFormula, GivenTerm, GivenExtra, Atom}
 use Rattle.dlk_tacsyn.specs.Rows.{IsOfKind, AreOfKinds, IsFitting}
-use Rattle.dlk_elab.specs.Atoms.{IsFixed, HasNoLocator}
+use Rattle.dlk_elab.specs.Atoms.{IsFixed, HasNoLocator, IsNamed}
 use Rattle.dlk_strategy.specs.Runs.{side, put_place, placed}
 
 -- arguments without a side have no locator
@@ -64,3 +63,17 @@ put_kinds n (kind ∷ kinds) optional (a ∷ rest) h = (put_kind n kind a h.0, p
 
 pub placed_fitting : (n : ℕ) (atom : Atom) → IsFitting atom → IsFitting (placed n atom)
 placed_fitting n atom h = record { row = h.row; row_is = h.row_is; arguments = put_kinds n h.row.wanted h.row.optional atom.arguments h.arguments }
+
+put_named : (n : ℕ) (a : Argument) → IsNamed a → IsNamed (put_place n a)
+put_named n (AtPlace place path) h = h
+put_named n AnyLeft h = tt
+put_named n AnyRight h = tt
+put_named n (Word name) h = h
+put_named n (GivenFormula f) h = h
+put_named n (GivenTerm t) h = h
+put_named n (GivenExtra x) h = h
+
+pub all_named : (n : ℕ) (args : List Argument) → All IsNamed args → All IsNamed (map (put_place n) args)
+all_named n [] h = All-nil IsNamed
+all_named n (a ∷ rest) h =
+    All-cons IsNamed (put_place n a) (map (put_place n) rest) (put_named n a (All-head IsNamed a rest h)) (all_named n rest (All-tail IsNamed a rest h))

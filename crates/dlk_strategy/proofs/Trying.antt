@@ -1,17 +1,16 @@
 -- Tries of places, one after another.
-use Rattle.std.proofs.Common.{◌≡◌, ℕ, zero, suc, ◌+◌, ◌-◌, ◌≤◌, ◌<◌, List, map, take, length, refl, sym, ap, subst, ◌∙◌, arith}
+use Rattle.std.proofs.Common.{◌≡◌, ℕ, suc, ◌+◌, ◌-◌, ◌≤◌, ◌<◌, List, map, take, length, refl, sym, ap, subst, ◌∙◌, arith}
 use Rattle.std.specs.List.{All}
-use Rattle.std.proofs.lemmas.List.{length-map}
 use Rattle.std.proofs.Math.Seq.{take-length}
 use Rattle.dlk_tree.specs.Trees.{Tree}
-use Rattle.dlk_store.specs.Stores.{Keeps}
+use Rattle.dlk_store.specs.Stores.{Keeps, IsId}
 use Rattle.dlk_calculus.specs.Places.{At}
 use Rattle.dlk_calculus.specs.Sequents.{Sequent}
 use Rattle.dlk_rules.specs.declared.arguments.Side.{Side}
 use Rattle.dlk_rules.specs.Steps.{step_at, HasKnownIds}
 use Rattle.dlk_sequent.proofs.Kept.{map-agree}
 use Rattle.std.proofs.lemmas.List.Elements.{All-weaker}
-use Rattle.dlk_kernel.specs.Kernel.{State, facts, ExtendsRows, SameRows}
+use Rattle.dlk_kernel.specs.Kernel.{State, facts}
 use Rattle.dlk_tacsyn.specs.Tactics.{Atom}
 use Rattle.dlk_tacsyn.specs.declared.tactic.Arg.{Arg}
 use Rattle.dlk_tacsyn.specs.declared.tactic.Arg.TheVariants as arg
@@ -23,9 +22,9 @@ use Rattle.dlk_tacsyn.specs.Ties.{argument_at, ArgumentIsKnown, atom_at, AtomIsK
 use Rattle.dlk_strategy.specs.declared.fault.FailWhy.{FailWhy}
 use Rattle.dlk_strategy.specs.declared.fault.FailWhy.TheVariants.{NoPlace}
 use Rattle.dlk_strategy.specs.declared.trace.Trace.{Trace}
-use Rattle.dlk_strategy.specs.Runs.{Progress, Outcome, Done, Fails, Budget, Fate, Follow, done, fails, spent, Ends, Once, placed, formulas, Tries, TriesAll, main_goals, most_runs}
+use Rattle.dlk_strategy.specs.Runs.{Progress, Outcome, Done, Fails, Budget, Follow, done, fails, spent, Ends, Once, placed, formulas, Tries, TriesAll, main_goals}
 use Rattle.dlk_strategy.specs.Ties.{now, Extends, IsBack}
-use Rattle.dlk_strategy.proofs.States.{steps_same, steps_known, same_extends, at_place}
+use Rattle.dlk_strategy.proofs.States.{steps_same, steps_known, same_extends}
 
 module _ (old new : List Tree) (keeps : Keeps old new) where
   pairs_same : (pairs : List Pair) → AreKnownPairs old pairs → pairs_at new pairs ≡ pairs_at old pairs
