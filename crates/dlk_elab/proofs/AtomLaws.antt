@@ -1,38 +1,26 @@
 -- An atom gives steps or has a fault, and one of these alone.
-use Rattle.std.proofs.Common.{◌≡◌, ◌≢◌, ℕ, ◌+◌, false, List, [], ◌∷◌, ◌++◌, length, Option, refl, sym, ap, subst, ◌∙◌, ◌⊎◌, inl, inr}
-use Rattle.std.specs.List.{All}
-use Rattle.std.proofs.lemmas.Bool.{cases_Bool}
-use Rattle.std.proofs.lemmas.List.Elements.{All-nil, All-cons, All-head}
+use Rattle.std.proofs.Common.{◌≡◌, ℕ, List, ◌++◌, length, sym, ap, subst}
 use Rattle.dlk_calculus.specs.declared.reason.Reason.{Reason}
-use Rattle.dlk_calculus.specs.declared.reason.Reason.TheVariants.{NotEqual}
 use Rattle.dlk_calculus.specs.Pairs.{Extra}
 use Rattle.dlk_calculus.specs.Paths.{IsInnermost}
 use Rattle.dlk_calculus.specs.Places.{At}
 use Rattle.dlk_tree.specs.Trees.{Tree}
 use Rattle.dlk_calculus.specs.Sequents.{Sequent}
 use Rattle.dlk_calculus.specs.Provables.{Provable}
-use Rattle.dlk_calculus.specs.Rules.{Rule, Arguments, OnePlace, TwoPlaces, PlaceAndFormula, OneFormula, PlaceAndName, word_of, arguments_of, AreProper}
-use Rattle.dlk_calculus.specs.Rules.{Close, CloseTrue, CloseFalse, NotL, NotR, AndL, AndR, OrL, OrR, ImplyL, ImplyR, EquivL, EquivR, Cut, CutL, CutR, HideL, HideR, CoHideR, ExchangeL, ExchangeR, SkolemL, SkolemR, BoundL, BoundR, EquivifyR, CommuteEquivL, CommuteEquivR}
-use Rattle.dlk_calculus.specs.Steps.{Step, Leaf, Apply, Merge, IsProper, Gives, IsGoal, Fault, StepOf}
+use Rattle.dlk_calculus.specs.Rules.{Rule, word_of, arguments_of}
+use Rattle.dlk_calculus.specs.Steps.{Step, Gives, IsGoal, Fault}
 use Rattle.dlk_rules.specs.declared.rule.RuleWord.{RuleWord}
-use Rattle.dlk_rules.specs.declared.rule.RuleWord.TheVariants as word
-use Rattle.dlk_rules.specs.declared.arguments.Side.{Side}
-use Rattle.dlk_rules.specs.Steps.{side_of}
 use Rattle.dlk_rules.specs.Words.{shape_of, text_of, wanted}
-use Rattle.dlk_tacsyn.specs.Tactics.{Atom, Argument, Word}
-use Rattle.dlk_tacsyn.specs.Rows.{is_bare, kinds_of, AreOfKinds, IsFitting}
+use Rattle.dlk_tacsyn.specs.Tactics.{Atom}
 use Rattle.dlk_kernel.specs.Taken.{Takes}
 use Rattle.dlk_elab.specs.Atoms.{asked as by_asking}
-use Rattle.dlk_elab.specs.Atoms.{uses, Instance, instance_of, not_instantiated, not_used, AtomWhy, NoPlace, AtStep, AreFor, one_place, two_places, place_and_formula, one_formula, place_and_name, HasNoLocator, IsNamed, HasNames, HasGoalAt, Asked, Steps, Refused, Asks, nil, close, nothing_same, leaf, a_rule, elsewhere, AtomSteps, FirstFault, AtomFault, asks_none, not_taken}
+use Rattle.dlk_elab.specs.Atoms.{uses, Instance, instance_of, not_instantiated, not_used, AtomWhy, AtStep, Asked, Steps, Refused, Asks, AtomSteps, FirstFault, AtomFault, asks_none, not_taken}
 use Rattle.dlk_uses.specs.Uses.{Use, Finishes, proved}
 use Rattle.dlk_match.specs.Matching.{Match}
 use Rattle.dlk_elab.proofs.OneFinish.{finishes_one}
 use Rattle.dlk_elab.proofs.Places.{at_one}
-use Rattle.dlk_elab.proofs.TakenLaws.{takes_one, taken_or_fault, fault_one, all_or_fault}
+use Rattle.dlk_elab.proofs.TakenLaws.{takes_one, taken_or_fault, fault_one}
 use Rattle.dlk_elab.proofs.AskLaws.{asks_one}
-use Rattle.dlk_elab.proofs.Names.{Bare, is_nil, is_close, is_leaf, bare, Named, named_rule}
-use Rattle.dlk_elab.proofs.Fitting.{answers}
-use Rattle.dlk_elab.proofs.Decided.{same_decided}
 
 -- a fact has one sequent at a goal
 goal_one : (rows : List Provable) (fact goal : ℕ) (s t : Sequent) → IsGoal rows fact goal s → IsGoal rows fact goal t → s ≡ t

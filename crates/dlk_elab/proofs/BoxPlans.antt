@@ -18,7 +18,6 @@ use Rattle.dlk_sequent.specs.Sequents.{sequent_at}
 use Rattle.dlk_tacsyn.specs.declared.tactic.Arg.{Arg}
 use Rattle.dlk_tacsyn.specs.Tactics.{Argument, AtPlace}
 use Rattle.dlk_tacsyn.specs.Ties.{argument_at}
-use Rattle.dlk_elab.specs.declared.boxes.Parts.{Parts}
 use Rattle.dlk_elab.specs.declared.fault.TacFault.{TacFault}
 use Rattle.dlk_elab.specs.Atoms.{AtomWhy, NoPlace, AtStep, IsOnTheRight, Asks, Refused, no_box, not_on_the_right}
 use Rattle.dlk_elab.specs.Ties.{IsTacFault, NoBox, IsBoxOf, IsBoxAt}

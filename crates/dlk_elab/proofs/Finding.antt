@@ -1,5 +1,5 @@
 -- What a use of an axiom finds.
-use Rattle.std.proofs.Common.{◌≡◌, ℕ, List, [], ◌∷◌, length, Option, Some, None, refl, sym, ap, subst, ◌∙◌, Bor}
+use Rattle.std.proofs.Common.{◌≡◌, ℕ, List, [], Option, Some, None, refl, sym, ap, subst, Bor}
 use Rattle.std.specs.Option.{option_copied, unwrap_or}
 use Rattle.dlk_tree.specs.Trees.{Tree}
 use Rattle.dlk_calculus.specs.declared.form.AxiomForm.{AxiomForm}
@@ -7,9 +7,9 @@ use Rattle.dlk_calculus.specs.declared.form.AxiomForm.TheVariants.{E, Q, C, R, I
 use Rattle.dlk_calculus.specs.Pairs.{Extra as TreeExtra}
 use Rattle.dlk_match.specs.Found.{HasNoMatch, IsMatch}
 use Rattle.dlk_sequent.specs.declared.extra.Extra.{Extra}
-use Rattle.dlk_sequent.specs.Extras.{extra_at, IsKnownExtra}
+use Rattle.dlk_sequent.specs.Extras.{extra_at}
 use Rattle.dlk_uses.specs.Uses.{HasShape}
-use Rattle.dlk_elab.specs.Calls.{given_at, GivenIsKnown}
+use Rattle.dlk_elab.specs.Calls.{given_at}
 use Rattle.dlk_elab.specs.Uses.{HasKids, HasParts}
 
 -- a tree that has the shape of a form has the parts of which one may be looked for

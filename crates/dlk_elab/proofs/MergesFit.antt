@@ -1,13 +1,12 @@
 -- What atoms for boxes and uses of axioms merge fits.
-use Rattle.std.proofs.Common.{◌≡◌, ◌≢◌, ℕ, Bool, true, List, [], ◌∷◌, length, Option, Some, None, refl, sym, ap, subst, ◌∙◌, ◌⊎◌, inl, inr}
-use Rattle.std.specs.Prelude.{codes, IsTrue, find}
+use Rattle.std.proofs.Common.{◌≡◌, ℕ, Bool, true, List, [], ◌∷◌, length, Some, refl, sym, ap, subst, ◌∙◌, inl, inr}
+use Rattle.std.specs.Prelude.{codes, find}
 use Rattle.std.specs.List.{All}
 use Rattle.std.specs.Str.{bytes_eq}
 use Rattle.std.proofs.lemmas.Bool.{cases_Bool, cond-true, cond-false}
 use Rattle.std.proofs.lemmas.Option.{none-some, same_Some}
 use Rattle.std.proofs.lemmas.Slice.Eq.{bytes_eq-Decides}
 use Rattle.dlk_tree.specs.Trees.{Tree}
-use Rattle.dlk_calculus.specs.declared.reason.Reason.{Reason}
 use Rattle.dlk_calculus.specs.declared.reason.Reason.TheVariants.{NotEqual}
 use Rattle.dlk_calculus.specs.Axioms.{Axiom, axioms, axiom_named}
 use Rattle.dlk_calculus.specs.Notation.{box}
@@ -23,7 +22,7 @@ use Rattle.dlk_uses.specs.Taking.{FirstFault}
 use Rattle.dlk_uses.specs.Uses.{Use, Spot, instance, proved, Finishes, generalizing, cutting_box}
 use Rattle.dlk_elab.specs.Atoms.{AtomWhy, AtStep, Asked, Steps, Instance, Refused, Asks, use_axiom, AtomFault, asks_none, not_taken, not_instantiated, not_used, IsByAxioms}
 use Rattle.dlk_elab.proofs.Places.{At_All}
-use Rattle.dlk_elab.proofs.AskLaws.{AsksPlainly, AsksBox, by_generalize, by_cut_box, by_no_box, by_not_on_the_right, AsksUse, by_use_axiom, by_no_axiom, by_not_there, by_no_match, View, plainly, for_box, for_use, view, plain_other}
+use Rattle.dlk_elab.proofs.AskLaws.{AsksPlainly, AsksBox, by_generalize, by_cut_box, by_no_box, by_not_on_the_right, AsksUse, by_use_axiom, by_no_axiom, by_not_there, by_no_match, plainly, for_box, for_use, view, plain_other}
 use Rattle.dlk_elab.proofs.AtomLaws.{same_instance}
 
 found_holds : (p : Axiom → Bool) (xs : List Axiom) (a : Axiom) → find p xs ≡ Some a → p a ≡ true

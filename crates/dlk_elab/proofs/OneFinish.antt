@@ -1,8 +1,6 @@
 -- Behind an instance of an axiom there is one way to go on.
-use Rattle.std.proofs.Common.{◌≡◌, ◌≢◌, ℕ, List, refl, sym, ap, ◌∙◌}
-use Rattle.dlk_tree.specs.Trees.{Tree, sort}
-use Rattle.dlk_tree.specs.declared.op.Sort.TheVariants.{Formula}
-use Rattle.dlk_calculus.specs.declared.form.AxiomForm.TheVariants.{E, Q, C, R, I, F}
+use Rattle.std.proofs.Common.{◌≡◌, ℕ, List, refl, sym, ap, ◌∙◌}
+use Rattle.dlk_tree.specs.Trees.{Tree}
 use Rattle.dlk_calculus.specs.Paths.{IsInnermost}
 use Rattle.dlk_calculus.specs.Steps.{Step}
 use Rattle.dlk_sequent.specs.declared.sequent.Place.{Place}

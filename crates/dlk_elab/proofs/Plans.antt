@@ -14,7 +14,7 @@ use Rattle.dlk_rules.specs.declared.rule.RuleWord.{RuleWord}
 use Rattle.dlk_rules.specs.declared.rule.RuleWord.TheVariants as word
 use Rattle.dlk_rules.specs.declared.step.Step.{Step}
 use Rattle.dlk_rules.specs.declared.step.Step.TheVariants as step
-use Rattle.dlk_rules.specs.Steps.{rule_at, step_at, HasKnownIds, side_of}
+use Rattle.dlk_rules.specs.Steps.{rule_at, HasKnownIds, side_of}
 use Rattle.dlk_rules.specs.Words.{text_of, wanted, arguments_at, ArgumentsAreKnown, IsCall}
 use Rattle.dlk_tacsyn.specs.declared.tactic.Atom.{Atom}
 use Rattle.dlk_tacsyn.specs.Tactics.{Atom as TreeAtom}

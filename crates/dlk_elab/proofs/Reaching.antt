@@ -1,9 +1,7 @@
 -- Where a use of an axiom acts.
-use Rattle.std.proofs.Common.{◌≡◌, ℕ, ◌≤◌, ◌<◌, List, [], length, map, Some, None, refl, sym, ap, subst, ◌∙◌, arith}
-use Rattle.std.specs.List.{All}
+use Rattle.std.proofs.Common.{◌≡◌, ℕ, ◌≤◌, List, length, Some, sym, subst, arith}
 use Rattle.std.proofs.lemmas.List.{length-map}
-use Rattle.dlk_tree.specs.declared.op.Sort.TheVariants.{Formula}
-use Rattle.dlk_tree.specs.Trees.{Tree, sort}
+use Rattle.dlk_tree.specs.Trees.{Tree}
 use Rattle.dlk_store.specs.declared.Id.{Id}
 use Rattle.dlk_store.specs.Stores.{tree}
 use Rattle.dlk_calculus.specs.Limits.{most_formulas}
@@ -19,7 +17,7 @@ use Rattle.dlk_sequent.specs.Spines.{Way, top}
 use Rattle.dlk_uses.specs.Uses.{formula_at}
 use Rattle.dlk_elab.specs.declared.fault.TacFault.{TacFault}
 use Rattle.dlk_elab.specs.declared.plan.Target.{Target}
-use Rattle.dlk_elab.specs.Atoms.{AtomWhy, NoPlace}
+use Rattle.dlk_elab.specs.Atoms.{NoPlace}
 use Rattle.dlk_elab.specs.Ties.{IsTacFault}
 use Rattle.dlk_elab.specs.Uses.{IsWayAt, HasNoWay, IsReached, IsNotThere}
 use Rattle.dlk_elab.proofs.Elaborates.{tac_fault_weaker}
@@ -46,7 +44,7 @@ module _ (rows : List Provable) (target : Target) (trees : List Tree) (s : Seque
   reached way formulas few at =
       let starts = at.spine.starts in
       let stands : formula_at (sequent_at trees s) place ≡ Some (tree trees (top way)) = subst (λ (x : Id). formula_at (sequent_at trees s) place ≡ Some (tree trees
-          x)) (sym starts) at.stands in
+      x)) (sym starts) at.stands in
       record {
         s = sequent_at trees s;
         is_goal = is_goal;

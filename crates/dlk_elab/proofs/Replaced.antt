@@ -1,6 +1,5 @@
 -- What an atom leaves of the last row.
-use Rattle.std.proofs.Common.{◌≡◌, ℕ, ◌+◌, ◌-◌, List, [], ◌∷◌, ◌++◌, length, take, drop, refl, sym, ap, subst, ◌∙◌, arith, length-append, append_assoc}
-use Rattle.std.proofs.lemmas.List.{length-take-le, length-drop}
+use Rattle.std.proofs.Common.{◌≡◌, ℕ, ◌+◌, ◌-◌, List, [], ◌∷◌, ◌++◌, length, take, drop, refl, sym, ap, subst, ◌∙◌, length-append, append_assoc}
 use Rattle.dlk_calculus.specs.Places.{At, IsPlace, put_all}
 use Rattle.dlk_calculus.specs.Sequents.{Sequent}
 use Rattle.dlk_calculus.specs.Provables.{Provable}
@@ -12,7 +11,7 @@ use Rattle.dlk_kernel.specs.Taken.{Takes}
 use Rattle.dlk_elab.specs.Atoms.{Asked, Steps, Asks, nil, close, leaf, a_rule, generalize, cut_box, AtomSteps, uses, instance_of, Replaces}
 use Rattle.dlk_elab.specs.Atoms.{asked as by_asking}
 use Rattle.dlk_uses.specs.Uses.{generalizing, cutting_box, proved}
-use Rattle.dlk_elab.proofs.Replacing.{Behind, Ends, From, rows_kept, put_length}
+use Rattle.dlk_elab.proofs.Replacing.{Behind, Ends, rows_kept, put_length}
 use Rattle.dlk_elab.proofs.FormsReplace.{finishes_ends, generalizing_ends, cutting_box_ends}
 use Rattle.dlk_elab.proofs.Places.{at_one, split_at, At_place, At-more, At-between}
 use Rattle.dlk_elab.proofs.TakenLaws.{takes_none, takes_first}

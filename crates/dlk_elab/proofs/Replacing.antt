@@ -1,5 +1,5 @@
 -- What rules and a merge in turn leave of a fact's row, in the place of one of its goals.
-use Rattle.std.proofs.Common.{◌≡◌, ℕ, zero, suc, ◌+◌, ◌-◌, ◌<◌, ◌≤◌, List, [], ◌∷◌, ◌++◌, length, take, drop, refl, sym, ap, subst, ◌∙◌, arith, length-append, append_assoc, inl, inr}
+use Rattle.std.proofs.Common.{◌≡◌, ℕ, suc, ◌+◌, ◌-◌, ◌<◌, List, [], ◌∷◌, ◌++◌, length, take, drop, sym, ap, subst, ◌∙◌, arith, length-append, append_assoc, inl, inr}
 use Rattle.std.proofs.lemmas.List.{length-take-le, length-drop}
 use Rattle.std.proofs.lemmas.Option.{slice_get_cases}
 use Rattle.dlk_tree.specs.Trees.{Tree}
@@ -12,7 +12,7 @@ use Rattle.dlk_calculus.specs.Steps.{apply as by_apply, merge as by_merge}
 use Rattle.dlk_kernel.specs.Taken.{Takes, none, more}
 use Rattle.dlk_uses.specs.Uses.{in_turn, closed_by}
 use Rattle.dlk_elab.proofs.Places.{at_one, at_suc, split_at, At_place, At-more, At-between, put_between}
-use Rattle.dlk_elab.proofs.TakenLaws.{First, takes_none, takes_first}
+use Rattle.dlk_elab.proofs.TakenLaws.{takes_none, takes_first}
 
 -- others within what stands in an item's place
 pub put_within : {A : Type 0} (xs new ys : List A) (g k : ℕ) (x : A) → IsPlace xs g → At new (k + 1) x →

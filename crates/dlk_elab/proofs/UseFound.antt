@@ -1,26 +1,22 @@
 -- What a use of an axiom finds on a goal, or why it finds nothing.
-use Rattle.std.proofs.Common.{◌≡◌, ℕ, List, [], ◌∷◌, map, length, Option, Some, None, refl, sym, ap, subst, ◌∙◌, arith}
+use Rattle.std.proofs.Common.{◌≡◌, List, [], ◌∷◌, length, Option, Some, None, refl, sym, subst, arith}
 use Rattle.std.specs.Prelude.{IsTrue}
-use Rattle.std.specs.List.{All}
-use Rattle.std.specs.Option.{option_copied}
 use Rattle.std.proofs.lemmas.List.Elements.{All-head, All-tail, All-nil, All-cons}
 use Rattle.dlk_tree.specs.declared.op.Sort.TheVariants.{Formula}
 use Rattle.dlk_tree.specs.Trees.{Tree, sort}
 use Rattle.dlk_store.specs.declared.Id.{Id}
 use Rattle.dlk_store.specs.Stores.{IsId, tree, Keeps}
-use Rattle.dlk_calculus.specs.declared.form.AxiomForm.{AxiomForm}
-use Rattle.dlk_calculus.specs.Axioms.{Axiom, axiom_named}
+use Rattle.dlk_calculus.specs.Axioms.{axiom_named}
 use Rattle.dlk_calculus.specs.Pairs.{Extra as TreeExtra}
 use Rattle.dlk_calculus.specs.Paths.{subtree}
 use Rattle.dlk_calculus.specs.Provables.{Provable}
-use Rattle.dlk_calculus.specs.Steps.{IsGoal}
 use Rattle.dlk_match.specs.Found.{HasNoMatch, IsMatch}
 use Rattle.dlk_match.specs.Matching.{Match}
 use Rattle.dlk_sequent.specs.declared.extra.Extra.{Extra}
 use Rattle.dlk_sequent.specs.declared.subst.Pair.{Pair}
 use Rattle.dlk_sequent.specs.Extras.{extra_at, IsKnownExtra}
 use Rattle.dlk_sequent.specs.Substitutions.{pairs_at, AreKnownPairs}
-use Rattle.dlk_sequent.specs.Spines.{Way, top, path_of, IsSpine}
+use Rattle.dlk_sequent.specs.Spines.{top, path_of, IsSpine}
 use Rattle.dlk_tacsyn.specs.Tactics.{Atom}
 use Rattle.dlk_uses.specs.Uses.{Use, key, may_stand}
 use Rattle.dlk_elab.specs.declared.calls.UseCall.{UseCall}
@@ -28,7 +24,7 @@ use Rattle.dlk_elab.specs.declared.fault.TacFault.{TacFault}
 use Rattle.dlk_elab.specs.declared.keys.Named.{Named}
 use Rattle.dlk_elab.specs.declared.plan.Target.{Target}
 use Rattle.dlk_elab.specs.declared.ways.Reached.{Reached}
-use Rattle.dlk_elab.specs.Atoms.{AtomWhy, UnknownName, NoPlace, NoMatch, HasGoalAt, NamesAxiom, IsUse, StandsThere, MatchesThere, AtomFault, asks_none, Asks, Instance, use_axiom, no_axiom, not_there, no_match}
+use Rattle.dlk_elab.specs.Atoms.{UnknownName, NoPlace, NoMatch, HasGoalAt, NamesAxiom, IsUse, StandsThere, MatchesThere, AtomFault, asks_none, Asks, Instance, use_axiom, no_axiom, not_there, no_match}
 use Rattle.dlk_elab.specs.Calls.{direction_of, given_at, GivenIsKnown}
 use Rattle.dlk_elab.specs.Ties.{IsTacFault}
 use Rattle.dlk_elab.specs.Uses.{IsAxiomAt, IsReached, IsNotThere, wanted, MayBeUsed, IsFound}

@@ -1,5 +1,5 @@
 -- A use of an axiom on a kernel: what the steps of the instance and those behind it need of what was found, and what they give.
-use Rattle.std.proofs.Common.{◌≡◌, ◌+◌, ◌<◌, ◌≤◌, ◌^◌, ℕ, Bool, true, false, List, [], ◌∷◌, ◌++◌, map, length, cond, find, Some, refl, sym, ap, subst, ◌∙◌, arith}
+use Rattle.std.proofs.Common.{◌≡◌, ◌≤◌, ℕ, Bool, true, false, List, [], ◌∷◌, ◌++◌, map, length, cond, find, Some, refl, sym, ap, subst, ◌∙◌}
 use Rattle.std.specs.Prelude.{IsTrue}
 use Rattle.std.specs.Bool.{Decides}
 use Rattle.std.specs.List.{All}
@@ -36,7 +36,7 @@ use Rattle.dlk_elab.specs.declared.calls.UseCall.{UseCall}
 use Rattle.dlk_elab.specs.declared.plan.Target.{Target}
 use Rattle.dlk_elab.specs.declared.uses.Found.{Found}
 use Rattle.dlk_elab.specs.Atoms.{AtomSteps, uses, FirstFault, AtomFault, not_instantiated, not_used, instance_of}
-use Rattle.dlk_elab.specs.Finishing.{HasForm, IsUse, FinishUse, FinishUses}
+use Rattle.dlk_elab.specs.Finishing.{HasForm, FinishUse, FinishUses}
 use Rattle.dlk_elab.specs.Plans.{ArePlanned}
 use Rattle.dlk_elab.specs.Ties.{IsTacFault, of_step, AreMade}
 use Rattle.dlk_elab.specs.Uses.{IsFound, ProvesForm, aim_of}
@@ -118,7 +118,8 @@ pub record Laws : Type 0 where
   pub instances : (rows between : List Provable) (name : List ℕ) (extra : TreeExtra) (a : Axiom) → axiom_named name ≡ Some a →
       Takes rows (instance (length rows) name extra) between → (f : Tree) × ProvesLast between f × HasShape a.form f
 
-module _ (rows : List Provable) (target : Target) (atom : Atom) (mid : List Tree) (u : UseCall) (found : Found) (is : IsFound rows target atom mid u found) where
+module _ (rows : List Provable) (target : Target) (atom : Atom) (mid : List Tree) (u : UseCall) (found : Found)
+    (is : IsFound rows target atom mid u found) where
   abbrev its_extra : TreeExtra
   its_extra = extra_at mid found.extra
 

@@ -1,8 +1,7 @@
 -- What a use of an axiom finds, over the ids of a store.
-use Rattle.std.specs.Prelude.{◌≡◌, ◌≤◌, ℕ, List, [], length, Option, Some, IsTrue}
-use Rattle.std.specs.Option.{option_copied}
+use Rattle.std.specs.Prelude.{◌≡◌, ◌≤◌, ℕ, List, length, Some, IsTrue}
 use Rattle.dlk_tree.specs.declared.op.Sort.TheVariants.{Formula}
-use Rattle.dlk_tree.specs.Trees.{Tree, sort, node, Forest, no_kids, kid}
+use Rattle.dlk_tree.specs.Trees.{Tree, sort, node, no_kids, kid}
 use Rattle.dlk_store.specs.declared.Id.{Id}
 use Rattle.dlk_store.specs.Stores.{IsId, tree, StandsFor}
 use Rattle.dlk_calculus.specs.declared.form.AxiomForm.{AxiomForm}

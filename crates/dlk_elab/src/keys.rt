@@ -15,9 +15,9 @@ use crate::fault::TacFault;
 use dlk_axioms::{AxiomForm, axiom, form, own_names};
 use dlk_match::matching;
 use dlk_sequent::{Extra, Listed, Place};
-use dlk_uses::uses_have_shapes;
 use dlk_store::{Id, Steps, Store};
 use dlk_tree::Name;
+use dlk_uses::uses_have_shapes;
 use std::alloc::Global;
 use std::sync::ledger::Ledger;
 
@@ -57,12 +57,7 @@ pub(crate) fn named_axiom<S: Store>(
 }
 
 /// Whether an axiom of this form may be used so.
-pub(crate) fn may_stand(
-    form: AxiomForm,
-    direction: Direction,
-    place: Place,
-    path: &[u32],
-) -> bool
+pub(crate) fn may_stand(form: AxiomForm, direction: Direction, place: Place, path: &[u32]) -> bool
     ensures { result ≡ may_stand form (direction_of direction) place path.now }
 {
     let forwards = direction == Direction::Forwards;
@@ -155,7 +150,14 @@ pub(crate) fn matched<S: Store, L: Ledger>(
         pairs: Listed::new(alloc),
     };
     let given = used.given.unwrap_or(&none);
-    let key = key(store, named.form, used.direction, used.place, named.formula, steps);
+    let key = key(
+        store,
+        named.form,
+        used.direction,
+        used.place,
+        named.formula,
+        steps,
+    );
     let Some(extra) = matching(alloc, store, key, named.own.as_slice(), found, given, steps)? else {
         return Err(TacFault::NoMatch);
     };

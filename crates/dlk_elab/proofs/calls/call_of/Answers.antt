@@ -1,4 +1,4 @@
-use Rattle.std.proofs.Common.{◌≡◌, rules, subst, sym, ◌∙◌}
+use Rattle.std.proofs.Common.{◌≡◌, rules, subst, ◌∙◌}
 use Rattle.std.specs.Prelude.{codes}
 use Rattle.dlk_elab.specs.Calls.{HasNoUse}
 use Rattle.dlk_elab.specs.declared.calls.Direction.TheVariants as direction

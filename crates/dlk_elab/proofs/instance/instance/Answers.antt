@@ -1,4 +1,4 @@
-use Rattle.std.proofs.Common.{◌≡◌, ◌+◌, ◌++◌, ◌∷◌, [], length, sym, ap, ◌∙◌}
+use Rattle.std.proofs.Common.{◌≡◌, ◌+◌, ◌++◌, ◌∷◌, [], length, sym, ◌∙◌}
 use Rattle.dlk_rules.specs.declared.step.Step.TheVariants as step
 use Rattle.dlk_elab.specs.Forms.{renamed, substituted}
 use Rattle.dlk_elab.proofs.Instances.{instance_planned}

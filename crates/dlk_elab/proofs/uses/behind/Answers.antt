@@ -1,8 +1,7 @@
-use Rattle.std.proofs.Common.{◌≡◌, ℕ, IfOk, length, subst}
+use Rattle.std.proofs.Common.{ℕ, IfOk, length, subst}
 use Rattle.dlk_tree.specs.Trees.{Tree}
 use Rattle.dlk_store.specs.Stores.{tree}
 use Rattle.dlk_sequent.specs.Spines.{top, path_of}
-use Rattle.dlk_kernel.specs.Kernel.{facts}
 use Rattle.dlk_elab.specs.Finishing.{FinishUses}
 use Rattle.dlk_elab.specs.Uses.{aim_of}
 use Rattle.dlk_elab.proofs.uses.behind.Goals as goal

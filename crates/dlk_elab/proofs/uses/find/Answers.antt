@@ -1,4 +1,4 @@
-use Rattle.std.proofs.Common.{◌≡◌, List, Some, refl, sym, ap, subst, ◌∙◌}
+use Rattle.std.proofs.Common.{◌≡◌, List, subst}
 use Rattle.std.specs.Option.{option_copied}
 use Rattle.std.proofs.lemmas.Result.{err_from_is_err_and}
 use Rattle.dlk_calculus.specs.Pairs.{Extra}
@@ -9,7 +9,7 @@ use Rattle.dlk_kernel.specs.Kernel.{facts}
 use Rattle.dlk_match.specs.Found.{HasNoMatch, IsMatch}
 use Rattle.dlk_tacsyn.specs.Ties.{atom_at}
 use Rattle.dlk_elab.specs.Atoms.{NoPlace, NoMatch}
-use Rattle.dlk_elab.specs.Calls.{given_at, GivenIsKnown}
+use Rattle.dlk_elab.specs.Calls.{given_at}
 use Rattle.dlk_elab.specs.Ties.{IsTacFault}
 use Rattle.dlk_elab.specs.Uses.{IsReached, IsNotThere, wanted, MayBeUsed}
 use Rattle.dlk_elab.proofs.UseFound.{given_known, given_kept, unnamed, not_reached, unmatched, found}

@@ -1,7 +1,7 @@
-use Rattle.std.proofs.Common.{◌≡◌, ℕ, List, length, map, sym, ap, subst, ◌∙◌, arith}
+use Rattle.std.proofs.Common.{◌≡◌, List, length, map, sym, ap, subst, ◌∙◌, arith}
 use Rattle.std.proofs.lemmas.List.{length-map}
 use Rattle.std.proofs.lemmas.Result.{err_from_is_err_and}
-use Rattle.dlk_tree.specs.Trees.{Tree, sort}
+use Rattle.dlk_tree.specs.Trees.{sort}
 use Rattle.dlk_calculus.specs.Provables.{Provable}
 use Rattle.dlk_kernel.specs.Faults.{IsStepFault}
 use Rattle.dlk_kernel.specs.Kernel.{provable_at, facts}
@@ -105,7 +105,8 @@ behind-requires-clause-proves g c =
 
 pub returns-in_err-rest-clause-grows : goal.returns-in_err-rest-clause-grows
 returns-in_err-rest-clause-grows g c =
-    let first = g.met.S.Store.grows_trans c.args.kernel.now.store c.find.new.kernel.store c.take_in_turn.new.kernel.store c.find.ensures.grows c.take_in_turn.ensures.grows in
+    let first = g.met.S.Store.grows_trans c.args.kernel.now.store c.find.new.kernel.store c.take_in_turn.new.kernel.store c.find.ensures.grows
+    c.take_in_turn.ensures.grows in
     g.met.S.Store.grows_trans c.args.kernel.now.store c.take_in_turn.new.kernel.store c.behind.new.kernel.store first c.behind.ensures.grows
 
 pub take_in_turn-requires-2 : goal.take_in_turn-requires-2
@@ -130,8 +131,8 @@ take_in_turn-requires-2 g c =
     let now = length c.take_in_turn.new.kernel.rows in
     let as_many : now ≡ length between = sym (length-map c.take_in_turn.new.kernel.rows (provable_at new)) in
     let top_same = c.spine_stays.ensures.top mid new found.way keeps is.spine in
-    rw c.as_slice-2.ensures.value (rest_known rows c.args.target atom mid c.args.used found is plan planned between taken later now (tree new (top found.way)) rest as_many top_same
-    c.in_ok-rest.ensures.made)
+    rw c.as_slice-2.ensures.value (rest_known rows c.args.target atom mid c.args.used found is plan planned between taken later now
+    (tree new (top found.way)) rest as_many top_same c.in_ok-rest.ensures.made)
 
 pub returns-in_err-take_in_turn-2-clause-fault : goal.returns-in_err-take_in_turn-2-clause-fault
 returns-in_err-take_in_turn-2-clause-fault g c =
@@ -157,21 +158,23 @@ returns-in_err-take_in_turn-2-clause-fault g c =
     let top_same = c.spine_stays.ensures.top mid new found.way keeps is.spine in
     let as_behind : facts g.S.Store.trees c.behind.new.kernel ≡ between = c.behind.ensures.same.provables in
     let p = err_from_is_err_and c.from_residual-in_err-take_in_turn-2.result c.from_residual-in_err-take_in_turn-2.ensures.1 in
-    rw (p.1, p.2) (not_finished rows c.args.target atom mid c.args.used found is plan planned between taken later now (tree new (top found.way)) rest as_many top_same
-    c.in_ok-rest.ensures.made
+    rw (p.1, p.2) (not_finished rows c.args.target atom mid c.args.used found is plan planned between taken later now
+    (tree new (top found.way)) rest as_many top_same c.in_ok-rest.ensures.made
     c.in_err-take_in_turn-2.field-0.0
     (subst (λ (r : List Provable). IsStepFault (FirstFault r (map (step_at later) rest)) c.in_err-take_in_turn-2.field-0.0) as_behind
     (rw c.as_slice-2.ensures.value at c.in_err-take_in_turn-2.ensures.fault)))
 
 pub returns-in_err-take_in_turn-2-clause-grows : goal.returns-in_err-take_in_turn-2-clause-grows
 returns-in_err-take_in_turn-2-clause-grows g c =
-    let first = g.met.S.Store.grows_trans c.args.kernel.now.store c.find.new.kernel.store c.take_in_turn.new.kernel.store c.find.ensures.grows c.take_in_turn.ensures.grows in
+    let first = g.met.S.Store.grows_trans c.args.kernel.now.store c.find.new.kernel.store c.take_in_turn.new.kernel.store c.find.ensures.grows
+    c.take_in_turn.ensures.grows in
     let second = g.met.S.Store.grows_trans c.args.kernel.now.store c.take_in_turn.new.kernel.store c.behind.new.kernel.store first c.behind.ensures.grows in
     g.met.S.Store.grows_trans c.args.kernel.now.store c.behind.new.kernel.store c.take_in_turn-2.new.kernel.store second c.take_in_turn-2.ensures.grows
 
 pub returns-in_err-all-clause-grows : goal.returns-in_err-all-clause-grows
 returns-in_err-all-clause-grows g c =
-    let first = g.met.S.Store.grows_trans c.args.kernel.now.store c.find.new.kernel.store c.take_in_turn.new.kernel.store c.find.ensures.grows c.take_in_turn.ensures.grows in
+    let first = g.met.S.Store.grows_trans c.args.kernel.now.store c.find.new.kernel.store c.take_in_turn.new.kernel.store c.find.ensures.grows
+    c.take_in_turn.ensures.grows in
     let second = g.met.S.Store.grows_trans c.args.kernel.now.store c.take_in_turn.new.kernel.store c.behind.new.kernel.store first c.behind.ensures.grows in
     g.met.S.Store.grows_trans c.args.kernel.now.store c.behind.new.kernel.store c.take_in_turn-2.new.kernel.store second c.take_in_turn-2.ensures.grows
 
@@ -201,13 +204,14 @@ returns-clause-made g c =
     let last = g.S.Store.trees c.take_in_turn-2.new.kernel.store in
     let after = facts g.S.Store.trees c.take_in_turn-2.new.kernel in
     let keeps_behind = g.met.S.Store.grows_keeps c.behind.new.kernel.store c.take_in_turn-2.new.kernel.store c.take_in_turn-2.ensures.grows in
-    let since = g.met.S.Store.grows_trans c.find.new.kernel.store c.take_in_turn.new.kernel.store c.behind.new.kernel.store c.take_in_turn.ensures.grows c.behind.ensures.grows in
+    let since = g.met.S.Store.grows_trans c.find.new.kernel.store c.take_in_turn.new.kernel.store c.behind.new.kernel.store c.take_in_turn.ensures.grows
+    c.behind.ensures.grows in
     let keeps_all = g.met.S.Store.grows_keeps c.find.new.kernel.store c.take_in_turn-2.new.kernel.store
     (g.met.S.Store.grows_trans c.find.new.kernel.store c.behind.new.kernel.store c.take_in_turn-2.new.kernel.store since c.take_in_turn-2.ensures.grows) in
-    let others = rest_known rows c.args.target atom mid c.args.used found is plan planned between taken later now (tree new (top found.way)) rest as_many top_same
-    c.in_ok-rest.ensures.made in
-    made_by_use rows c.args.target atom mid c.args.used found is plan planned between taken later now (tree new (top found.way)) rest as_many top_same
-    c.in_ok-rest.ensures.made
+    let others = rest_known rows c.args.target atom mid c.args.used found is plan planned between taken later now
+    (tree new (top found.way)) rest as_many top_same c.in_ok-rest.ensures.made in
+    made_by_use rows c.args.target atom mid c.args.used found is plan planned between taken later now
+    (tree new (top found.way)) rest as_many top_same c.in_ok-rest.ensures.made
     last c.in_ok-all.all.items after c.in_ok-all.ensures
     (steps_same mid last (λ s k. c.step_stays.ensures.same mid last s keeps_all k) plan planned.known)
     (known_later mid last (λ s k. c.step_stays.ensures.known mid last s keeps_all k) plan planned.known)
@@ -218,6 +222,7 @@ returns-clause-made g c =
 
 pub returns-clause-grows : goal.returns-clause-grows
 returns-clause-grows g c =
-    let first = g.met.S.Store.grows_trans c.args.kernel.now.store c.find.new.kernel.store c.take_in_turn.new.kernel.store c.find.ensures.grows c.take_in_turn.ensures.grows in
+    let first = g.met.S.Store.grows_trans c.args.kernel.now.store c.find.new.kernel.store c.take_in_turn.new.kernel.store c.find.ensures.grows
+    c.take_in_turn.ensures.grows in
     let second = g.met.S.Store.grows_trans c.args.kernel.now.store c.take_in_turn.new.kernel.store c.behind.new.kernel.store first c.behind.ensures.grows in
     g.met.S.Store.grows_trans c.args.kernel.now.store c.behind.new.kernel.store c.take_in_turn-2.new.kernel.store second c.take_in_turn-2.ensures.grows

@@ -1,10 +1,8 @@
-use Rattle.std.proofs.Common.{◌≡◌, ◌-◌, List, ℕ, ◌<◌, length, subst, sym, ap, arith}
+use Rattle.std.proofs.Common.{◌-◌, subst, sym, arith}
 use Rattle.std.proofs.lemmas.Result.{err_from_is_err_and}
 use Rattle.dlk_calculus.specs.Sequents.{IsSequent}
-use Rattle.dlk_store.specs.declared.Id.{Id}
 use Rattle.dlk_sequent.specs.Sequents.{sequent_at, IsKnown}
 use Rattle.dlk_kernel.specs.Kernel.{facts}
-use Rattle.dlk_elab.specs.Uses.{IsReached}
 use Rattle.dlk_elab.proofs.Elaborates.{goal_within, goal_read, few_formulas}
 use Rattle.dlk_elab.proofs.Reaching.{not_there, few_right, reached}
 use Rattle.dlk_elab.proofs.ways.reach.Goals as goal
