@@ -12,9 +12,7 @@ ghost use Rattle.dlk_answers.specs.Answers.{Responds};
 
 use dlk_machine::laws::tree_texts;
 use dlk_recorder::recorded_is_accepted;
-use dlk_strategy::{
-    one_outcome, run_has_symbols, run_is_taken, run_shows_formula, some_outcome,
-};
+use dlk_strategy::{one_outcome, run_has_symbols, run_is_taken, run_shows_formula, some_outcome};
 use dlk_tacsyn::laws::{fit_strategy, one_strategy, strategy_or_fault};
 
 /// A command has one answer to words and texts.

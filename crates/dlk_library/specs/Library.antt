@@ -69,20 +69,20 @@ abbrev pub loop_of : ℕ → Tree → Argument → Tactic
 loop_of byte j p = in_turn (
     atom byte (codes "boxCut") (GivenFormula j ∷ p ∷ []) ∷
     branches byte (
-      in_turn (
-        atom byte (codes "cutR") (GivenFormula j ∷ p ∷ []) ∷
-        branches byte (
-          atom byte (codes "nil") [] ∷
-          in_turn (use_at byte (codes "I") p ∷ atom byte (codes "G") (p ∷ []) ∷ imply_first byte ∷ []) ∷
-          []
-        ) ∷
-        []
-      ) ∷
-      atom byte (codes "nil") [] ∷
-      []
+    in_turn (
+    atom byte (codes "cutR") (GivenFormula j ∷ p ∷ []) ∷
+    branches byte (
+    atom byte (codes "nil") [] ∷
+    in_turn (use_at byte (codes "I") p ∷ atom byte (codes "G") (p ∷ []) ∷ imply_first byte ∷ []) ∷
+    []
     ) ∷
     []
-  )
+    ) ∷
+    atom byte (codes "nil") [] ∷
+    []
+    ) ∷
+    []
+    )
 
 -- dW(P): useAt(DWeq,P); G(P); implyR(1)
 abbrev pub weakening_of : ℕ → Argument → Tactic
@@ -93,19 +93,19 @@ abbrev pub invariant_of : ℕ → Argument → Tactic
 invariant_of byte p = in_turn (
     use_at byte (codes "DI") p ∷
     branches byte (
-      in_turn (use_at byte (codes "testb") p ∷ rule_at byte (codes "implyR") p ∷ []) ∷
-      rule_at byte (codes "implyR") p ∷
-      []
+    in_turn (use_at byte (codes "testb") p ∷ rule_at byte (codes "implyR") p ∷ []) ∷
+    rule_at byte (codes "implyR") p ∷
+    []
     ) ∷
     []
-  )
+    )
 
 -- step(P): useAt(assignb,P) | useAt(dassignb,P) | .. | useAt(diamond,P)
 abbrev pub step_of : ℕ → Argument → Tactic
 step_of byte p = first_of (
     use_at byte (codes "assignb") p ∷ use_at byte (codes "dassignb") p ∷ use_at byte (codes "assigneq") p ∷ use_at byte (codes "testb") p ∷
     use_at byte (codes "choiceb") p ∷ use_at byte (codes "composeb") p ∷ use_at byte (codes "randomb") p ∷ use_at byte (codes "diamond") p ∷ []
-  )
+    )
 
 -- prop: (close | closeTrue('R) | .. | equivR('R))*200
 abbrev pub propositional : ℕ → Tactic
@@ -116,7 +116,7 @@ propositional byte = Repeat (first_of (
     rule_at byte (codes "andL") AnyLeft ∷ rule_at byte (codes "orR") AnyRight ∷ rule_at byte (codes "implyR") AnyRight ∷ rule_at byte (codes "equivL") AnyLeft ∷
     rule_at byte (codes "andR") AnyRight ∷ rule_at byte (codes "orL") AnyLeft ∷ rule_at byte (codes "implyL") AnyLeft ∷ rule_at byte (codes "equivR") AnyRight ∷
     []
-  )) 200
+    )) 200
 
 -- Expands atom t: the atom stands for the strategy t. One row a name.
 pub data Expands (atom : Atom) : Tactic → Type 0 where

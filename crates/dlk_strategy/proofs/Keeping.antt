@@ -17,7 +17,7 @@ module _ (Holds : Progress → Type 0) (OfAtom : Atom → Type 0)
     (uncounted : (now : Progress) (used : ℕ) → Holds now → Holds (record now { used = used }))
     (unplaced : (n : ℕ) (atom : Atom) → OfAtom atom → OfAtom (placed n atom))
     (kept : (now : Progress) (goal : ℕ) (atom : Atom) (new : List Step) (rows : List Provable) → OfAtom atom → Holds now →
-        AtomSteps now.rows (length now.rows) goal atom new rows → Holds (record { steps = now.steps ++ new; rows = rows; used = now.used + 1 })) where
+    AtomSteps now.rows (length now.rows) goal atom new rows → Holds (record { steps = now.steps ++ new; rows = rows; used = now.used + 1 })) where
   -- where a run is done
   abbrev pub HoldsIn : Outcome → Type 0
   HoldsIn (Done made left) = Holds made

@@ -62,7 +62,7 @@ IsSomeRun run = (goal : ℕ) → 1 ≤ goal → IsSome 1 (goal + 1) (run goal)
 some_follow : (first goals : ℕ) (fate : Fate) (then_on : ℕ → Fate) (else_on : ℕ → FailWhy → Fate) (now : Progress) (o : Outcome) →
     fate now o → Leaves first (goals_in now) o →
     ((left : ℕ) (made : Progress) → IsTaken made → goals_in made + first ≡ goals_in now + left →
-        (p : Outcome) × then_on left made p × Leaves goals (goals_in now) p) →
+    (p : Outcome) × then_on left made p × Leaves goals (goals_in now) p) →
     ((at used : ℕ) (why : FailWhy) → HasFate goals (else_on at why) (record now { used = used })) → HasFate goals (Follow fate then_on else_on) now
 some_follow first goals fate then_on else_on now (Done made left) f leaves some_then some_else =
     let next = some_then left made leaves.1 leaves.0 in (next.0, done f next.1, next.2)
@@ -121,8 +121,8 @@ module _ (atom_taken : (rows : List Provable) (fact goal : ℕ) (atom : Atom) (s
     AtomSteps rows fact goal atom steps after → Takes rows steps after)
     (taken_formulas : (steps : List Step) (rows : List Provable) → Takes [] steps rows → All HasFormulas rows)
     (some_atom : (rows : List Provable) (fact goal : ℕ) (atom : Atom) → HasGoalAt rows fact goal → All HasFormulas rows → IsFitting atom → HasNoLocator atom →
-        HasNames atom →
-        ((s : List Step) × (a : List Provable) × AtomSteps rows fact goal atom s a) ⊎ ((why : AtomWhy) × AtomFault rows fact goal atom why)) where
+    HasNames atom →
+    ((s : List Step) × (a : List Provable) × AtomSteps rows fact goal atom s a) ⊎ ((why : AtomWhy) × AtomFault rows fact goal atom why)) where
   some_once : (atom : Atom) → IsRun atom → HasNoLocator atom → IsSomeRun (Once atom)
   some_once atom is fixed goal first now taken room =
       elim (cases_lt now.used most_runs) [

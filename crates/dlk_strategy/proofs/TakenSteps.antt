@@ -75,7 +75,7 @@ module _ (atom_taken : (rows : List Provable) (fact goal : ℕ) (atom : Atom) (s
 
   module _ (taken_formulas : (steps : List Step) (rows : List Provable) → Takes [] steps rows → All HasFormulas rows)
       (atom_symbols : (rows : List Provable) (fact goal : ℕ) (atom : Atom) (steps : List Step) (after : List Provable) → All HasFormulas rows → HasNames atom →
-          AtomSteps rows fact goal atom steps after → All ReplacesSymbols steps) where
+      AtomSteps rows fact goal atom steps after → All ReplacesSymbols steps) where
     symbolic_on : (now : Progress) (goal : ℕ) (atom : Atom) (new : List Step) (rows : List Provable) → HasNames atom → IsSymbolic now →
         AtomSteps now.rows (length now.rows) goal atom new rows → Takes [] (now.steps ++ new) rows × All ReplacesSymbols (now.steps ++ new)
     symbolic_on now goal atom new rows names h by =

@@ -30,7 +30,7 @@ module _ (old new : List Tree) (keeps : Keeps old new) where
   pairs_same : (pairs : List Pair) → AreKnownPairs old pairs → pairs_at new pairs ≡ pairs_at old pairs
   pairs_same pairs h =
       map-agree (pair_at new) (pair_at old) pairs
-        (All-weaker (λ (p : Pair). IsId old p.by) (λ p. pair_at new p ≡ pair_at old p) (λ p k i. record { sym = p.sym; by = keeps.same p.by k i }) pairs h)
+      (All-weaker (λ (p : Pair). IsId old p.by) (λ p. pair_at new p ≡ pair_at old p) (λ p k i. record { sym = p.sym; by = keeps.same p.by k i }) pairs h)
 
   pairs_known : (pairs : List Pair) → AreKnownPairs old pairs → AreKnownPairs new pairs
   pairs_known pairs h = All-weaker (λ (p : Pair). IsId old p.by) (λ p. IsId new p.by) (λ p k. omega (arith, keeps.known, k)) pairs h

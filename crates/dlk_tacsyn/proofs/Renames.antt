@@ -73,7 +73,6 @@ renames_named s l (renames-more {s = t} {l = others} before rename-names) h =
 
 -- ---- symbols
 
-
 -- there are at most eight argument dots
 dots_few : (s : List Lexeme) (n : ℕ) → ReadsDots s n → n ≤ 8
 dots_few s n dots-one = omega arith

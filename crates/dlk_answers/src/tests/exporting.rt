@@ -54,7 +54,8 @@ fn exports_leaves(rt: HostRuntime) -> Result<(), Fail> {
 fn exports_leaf_by_leaf(rt: HostRuntime) -> Result<(), Fail> {
     let alloc = rt.alloc();
     let model: &[u8] = b"v>=0 & A>0 -> [{{a:=A;++a:=0;}{x'=v,v'=a&v>=0}}*@invariant(v>=0)]v>=0";
-    let strategy: &[u8] = b"implyR(1); boxCut(\"v>=0\",1); <(cutR(\"v>=0\",1); <(nil, useAt(I,1); G(1); implyR(1)), nil); <(leaf, useAt(composeb,1); useAt(choiceb,1); andR(1); useAt(assignb,1); useAt(DWeq,1); G(1); implyR(1); leaf, leaf)";
+    let strategy: &[u8] =
+        b"implyR(1); boxCut(\"v>=0\",1); <(cutR(\"v>=0\",1); <(nil, useAt(I,1); G(1); implyR(1)), nil); <(leaf, useAt(composeb,1); useAt(choiceb,1); andR(1); useAt(assignb,1); useAt(DWeq,1); G(1); implyR(1); leaf, leaf)";
     let (_, proved) = replied(
         alloc,
         &["prove", "model", "strategy", "term"],

@@ -273,7 +273,11 @@ fn uses_each_form(rt: HostRuntime) -> Result<(), Fail> {
         ),
     ] {
         let (found, report, _) = proof(&rt, alloc, model, strategy)?;
-        assert_eq!(rt; report.as_slice(), printed.as_bytes(), "{model} by {strategy}");
+        assert_eq!(rt;
+            report.as_slice(),
+            printed.as_bytes(),
+            "{model} by {strategy}"
+        );
         assert_eq!(rt; found, status, "{model} by {strategy}");
     }
     Ok(())
@@ -312,7 +316,11 @@ fn refuses_uses(rt: HostRuntime) -> Result<(), Fail> {
     ] {
         let (status, reply) = proved(alloc, model.as_bytes(), strategy.as_bytes())?;
         let printed = format!(in alloc; "refused: fails at 0: {why}\n")?;
-        assert_eq!(rt; reply.printed.as_slice(), printed.as_bytes(), "{model} by {strategy}");
+        assert_eq!(rt;
+            reply.printed.as_slice(),
+            printed.as_bytes(),
+            "{model} by {strategy}"
+        );
         assert_eq!(rt; status, 2, "{model} by {strategy}");
     }
     Ok(())

@@ -17,8 +17,8 @@ pub returns-clause-ok : goal.returns-clause-ok
 returns-clause-ok g c =
     let command = c.in-Some.command in
     let many : length (inputs_of command (map string_bytes c.args.words.now)) ≡ length (limits_of command) =
-          ap length (sym c.inputs.ensures.names) ∙ length-map c.inputs.result.now (string_bytes {Z = Global}) ∙ c.inputs.ensures.count ∙
-          sym (length-map (form_of command).inputs limit_of) in
+    ap length (sym c.inputs.ensures.names) ∙ length-map c.inputs.result.now (string_bytes {Z = Global}) ∙ c.inputs.ensures.count ∙
+    sym (length-map (form_of command).inputs limit_of) in
     λ told.
     answered (map string_bytes c.args.words.now) c.in-Some.command (g.D.Desk.outside c.args.desk.now).files (texts_of c.in_ok-inputs.inputs.items) (reply_of c.in_ok-respond.field-0)
     (search rules) (search rules) (search rules) (search rules)
@@ -27,8 +27,8 @@ pub returns-clause-missing : goal.returns-clause-missing
 returns-clause-missing g c =
     let command = c.in-Some.command in
     let many : length (inputs_of command (map string_bytes c.args.words.now)) ≡ length (limits_of command) =
-          ap length (sym c.inputs.ensures.names) ∙ length-map c.inputs.result.now (string_bytes {Z = Global}) ∙ c.inputs.ensures.count ∙
-          sym (length-map (form_of command).inputs limit_of) in
+    ap length (sym c.inputs.ensures.names) ∙ length-map c.inputs.result.now (string_bytes {Z = Global}) ∙ c.inputs.ensures.count ∙
+    sym (length-map (form_of command).inputs limit_of) in
     λ told.
     have_inputs (map string_bytes c.args.words.now) c.in-Some.command (g.D.Desk.outside c.args.desk.now).files (texts_of c.in_ok-inputs.inputs.items)
     (search rules) (search rules) (search rules)
@@ -59,8 +59,8 @@ pub returns-clause-looks : goal.returns-clause-looks
 returns-clause-looks g c =
     let command = c.in-Some.command in
     let many : length (inputs_of command (map string_bytes c.args.words.now)) ≡ length (limits_of command) =
-          ap length (sym c.inputs.ensures.names) ∙ length-map c.inputs.result.now (string_bytes {Z = Global}) ∙ c.inputs.ensures.count ∙
-          sym (length-map (form_of command).inputs limit_of) in
+    ap length (sym c.inputs.ensures.names) ∙ length-map c.inputs.result.now (string_bytes {Z = Global}) ∙ c.inputs.ensures.count ∙
+    sym (length-map (form_of command).inputs limit_of) in
     λ told.
     command_looked (map string_bytes c.args.words.now) c.in-Some.command (g.D.Desk.outside c.args.desk.now).files (texts_of c.in_ok-inputs.inputs.items) _ _
     (search rules) (search rules) (search rules) (rw c.deref.ensures.value at c.respond.ensures.looks)

@@ -15,6 +15,6 @@ pub returns-clause-names : goal.returns-clause-names
 returns-clause-names c =
     let words = c.args.words.now in
     let count : 1 + length c.form.result.inputs.now - 1 ≡ length (form_of c.args.self).inputs =
-          (let same = ap (λ (f : Form). length f.inputs) c.form.ensures in omega (arith, same)) in
+    (let same = ap (λ (f : Form). length f.inputs) c.form.ensures in omega (arith, same)) in
     sym (take-map (string_bytes {Z = Global}) (1 + length c.form.result.inputs.now - 1) (drop 1 words)) ∙
     (λ i. take (count i) (sym (drop-map (string_bytes {Z = Global}) 1 words) i))
