@@ -5,15 +5,18 @@ the report that was printed.
 
 It also looks whether the tests of `dlk_answers` have the same terms. Those of `unsound` and `constants` stand in no test: they
 are run by this script alone. Those of `unsound` must be closed, too, and their models must be `false`: that is what they
-show. Run it after `./dlk` has built the program.
+show. Where z3 or cvc5 is there, the leaves of each are given to it, and a line says what it answers. Run it after `./dlk` has built the program.
 """
 import json
 import pathlib
+import shutil
 import subprocess
+import sys
 import tempfile
 
 EXAMPLES = pathlib.Path(__file__).resolve().parent
 PROGRAM = EXAMPLES.parent / "crates" / "dlk" / "out" / "dlk"
+LEAVES = EXAMPLES.parent / "tools" / "leaves.py"
 TESTS = EXAMPLES.parent / "crates" / "dlk_answers" / "src"
 
 
@@ -74,6 +77,17 @@ def checked(example):
     return report
 
 
+def solved(example):
+    """What a solver says of the leaves of an example, in a line, where there is one; nothing where it has no leaves."""
+    run = subprocess.run([sys.executable, LEAVES, "--json", example / "model", example / "term"], capture_output=True, check=False)
+    said = json.loads(run.stdout) if run.stdout else {}
+    words = [leaf["answer"] for leaf in said.get("leaves", [])]
+    if words:
+        counts = ", ".join(f"{words.count(word)} {word}" for word in dict.fromkeys(words))
+        solvers = sorted({solver for leaf in said["leaves"] for solver in leaf["by"]})
+        print(f"{example.relative_to(EXAMPLES)}: leaves by {' and '.join(solvers) or 'no solver'}: {counts}")
+
+
 def folders(pattern):
     """The folders with a term."""
     return sorted(term.parent for term in EXAMPLES.glob(pattern))
@@ -94,6 +108,9 @@ def main():
     for example in unsound:
         if checked(example)["conclusion"] != "==> false":
             stop(example, "it proves something else than false")
+    if any(map(shutil.which, ("z3", "cvc5"))):
+        for example in examples + constants + unsound:
+            solved(example)
     print(f"{len(examples) + len(constants)} terms, each closed; and {len(unsound)} of false, which are closed too")
 
 
