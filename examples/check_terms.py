@@ -1,18 +1,22 @@
 #!/usr/bin/env python3
 """Checks each term of `examples` by the program: each must be closed, and `report` must say the same as `check`. Where a strategy
-stands beside it, `prove` must print the same report, and what it writes must be accepted with it.
+stands beside it, `prove` must print the same report, but for the number of lines, and what it writes must be accepted with
+the report that was printed.
 
 It also looks whether the tests of `dlk_answers` have the same terms. Those of `unsound` and `constants` stand in no test: they
 are run by this script alone. Those of `unsound` must be closed, too, and their models must be `false`: that is what they
-show. Run it after `./dlk` has built the program.
+show. Where z3 or cvc5 is there, the leaves of each are given to it, and a line says what it answers. Run it after `./dlk` has built the program.
 """
 import json
 import pathlib
+import shutil
 import subprocess
+import sys
 import tempfile
 
 EXAMPLES = pathlib.Path(__file__).resolve().parent
 PROGRAM = EXAMPLES.parent / "crates" / "dlk" / "out" / "dlk"
+LEAVES = EXAMPLES.parent / "tools" / "leaves.py"
 TESTS = EXAMPLES.parent / "crates" / "dlk_answers" / "src"
 
 
@@ -40,14 +44,24 @@ def as_text(report):
     return "\n".join(lines) + "\n"
 
 
+def but_lines(text):
+    """A report without its number of lines."""
+    return text[:text.rindex("lines ")]
+
+
 def proved(example, text):
-    """Proves an example by its strategy: the report must be this one, and that of what is written, too."""
+    """Proves an example by its strategy: the report must be this one but for the number of lines, and what is written must be
+    accepted with the same report."""
     with tempfile.TemporaryDirectory() as folder:
         term = pathlib.Path(folder) / "term"
+        reports = []
         for words in (["prove", example / "model", example / "strategy", term], ["check", example / "model", term]):
             run = subprocess.run([PROGRAM, *words], capture_output=True, check=False)
-            if run.stdout.decode() != text:
+            if run.returncode != 0 or but_lines(run.stdout.decode()) != but_lines(text):
                 stop(example, f"{words[0]}: status {run.returncode}, {run.stdout.decode().strip()}")
+            reports.append(run.stdout)
+        if reports[0] != reports[1]:
+            stop(example, "the written term has another report")
 
 
 def checked(example):
@@ -61,6 +75,17 @@ def checked(example):
     if (example / "strategy").exists():
         proved(example, text)
     return report
+
+
+def solved(example):
+    """What a solver says of the leaves of an example, in a line, where there is one; nothing where it has no leaves."""
+    run = subprocess.run([sys.executable, LEAVES, "--json", example / "model", example / "term"], capture_output=True, check=False)
+    said = json.loads(run.stdout) if run.stdout else {}
+    words = [leaf["answer"] for leaf in said.get("leaves", [])]
+    if words:
+        counts = ", ".join(f"{words.count(word)} {word}" for word in dict.fromkeys(words))
+        solvers = sorted({solver for leaf in said["leaves"] for solver in leaf["by"]})
+        print(f"{example.relative_to(EXAMPLES)}: leaves by {' and '.join(solvers) or 'no solver'}: {counts}")
 
 
 def folders(pattern):
@@ -83,6 +108,9 @@ def main():
     for example in unsound:
         if checked(example)["conclusion"] != "==> false":
             stop(example, "it proves something else than false")
+    if any(map(shutil.which, ("z3", "cvc5"))):
+        for example in examples + constants + unsound:
+            solved(example)
     print(f"{len(examples) + len(constants)} terms, each closed; and {len(unsound)} of false, which are closed too")
 
 

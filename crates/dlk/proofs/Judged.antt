@@ -10,6 +10,7 @@ use Rattle.dlk_report.specs.Reports.{is_closed}
 use Rattle.dlk_answers.specs.declared.command.Command.{Command}
 use Rattle.dlk_answers.specs.declared.reply.Layout.{Layout}
 use Rattle.dlk_answers.specs.declared.reply.Layout.TheVariants.{Text, Json}
+use Rattle.dlk_answers.specs.declared.reply.Showing.TheVariants.{Reported}
 use Rattle.dlk_answers.specs.declared.form.Role.TheVariants.{Model, Term}
 use Rattle.dlk_answers.specs.Forms.{Word, inputs_of, limits_of, limit_of}
 use Rattle.dlk_answers.specs.Inputs.{first_too_long, inputs, inputs_of_form}
@@ -31,7 +32,7 @@ closed_is_zero [] = ((λ e. refl), (λ e. refl))
 closed_is_zero (s ∷ goals) = ((λ e. absurd (omega (arith, e))), (λ e. cc))
 
 module _ (layout : Layout) (model term : List ℕ) (f : Tree) (reads : ModelText model f) where
-  reported_of : (reply : Reply) → Checks layout model term reply → code_of reply.status < 2 → IsReported layout term f (code_of reply.status) reply.printed
+  reported_of : (reply : Reply) → Checks (Reported layout) model term reply → code_of reply.status < 2 → IsReported layout term f (code_of reply.status) reply.printed
   reported_of reply (bad_model why fault) less = absurd (model_or_fault why reads fault)
   reported_of reply (bad_line g t n why v) less = absurd (omega (arith, less))
   reported_of reply (bad_conclusion g t rows p a ne) less = absurd (omega (arith, less))
@@ -46,7 +47,7 @@ module _ (layout : Layout) (model term : List ℕ) (f : Tree) (reads : ModelText
     report = refl;
   }
 
-  refused_of : (reply : Reply) → Checks layout model term reply → code_of reply.status ≡ 2 → NamesLine term reply.printed ⊎ NamesConclusion term f reply.printed
+  refused_of : (reply : Reply) → Checks (Reported layout) model term reply → code_of reply.status ≡ 2 → NamesLine term reply.printed ⊎ NamesConclusion term f reply.printed
   refused_of reply (bad_model why fault) two = absurd (model_or_fault why reads fault)
   refused_of reply (bad_line g t n why v) two = inl (record { line = n; why = why; verdict = v; refusal = refl })
   refused_of reply (bad_conclusion g t rows p a ne) two =
@@ -61,18 +62,18 @@ module _ (layout : Layout) (model term : List ℕ) (f : Tree) (reads : ModelText
       })
   refused_of reply (reports g t rows p a e) two = absurd (omega (arith, two, closed_or_open (is_closed p.goals)))
 
-  check_judges : (reply : Reply) → Checks layout model term reply → Judges layout term f (code_of reply.status) reply.printed
+  check_judges : (reply : Reply) → Checks (Reported layout) model term reply → Judges layout term f (code_of reply.status) reply.printed
   check_judges reply checks = record {
     accepted = reported_of reply checks;
     refused = refused_of reply checks;
     first_wrong = λ n why v few.
-        let same = one_check layout model term reply (line_refused n why) checks (bad_line f reads n why v) in
+        let same = one_check (Reported layout) model term reply (line_refused n why) checks (bad_line f reads n why v) in
         (ap (λ (r : Reply). code_of r.status) same, ap (λ (r : Reply). r.printed) same);
     all_steps = λ rows p a e few.
-        let same = one_check layout model term reply (reported layout p (length rows)) checks (reports f reads rows p a e) in
+        let same = one_check (Reported layout) model term reply (reported layout p (length rows)) checks (reports f reads rows p a e) in
         subst (λ (r : Reply). code_of r.status < 2) (sym same) (closed_or_open (is_closed p.goals));
     another = λ rows p a ne few.
-        let same = one_check layout model term reply (other_conclusion a.line f p.conclusion) checks (bad_conclusion f reads rows p a ne) in
+        let same = one_check (Reported layout) model term reply (other_conclusion a.line f p.conclusion) checks (bad_conclusion f reads rows p a ne) in
         (ap (λ (r : Reply). code_of r.status) same, ap (λ (r : Reply). r.printed) same);
   }
 
@@ -93,19 +94,19 @@ none_too_long Text = short_enough
 none_too_long Json = short_enough
 
 -- what a command in this layout answers to a model and a term
-job_checks : (layout : Layout) (others : List Word) (model term : List ℕ) (reply : Reply) → Does (command_in layout) others (model ∷ term ∷ []) reply → Checks layout model term reply
+job_checks : (layout : Layout) (others : List Word) (model term : List ℕ) (reply : Reply) → Does (command_in layout) others (model ∷ term ∷ []) reply → Checks (Reported layout) model term reply
 job_checks Text [] model term reply checks = checks
 job_checks Text (w ∷ ws) model term reply checks = absurd checks
 job_checks Json [] model term reply checks = checks
 job_checks Json (w ∷ ws) model term reply checks = absurd checks
 
 module _ (layout : Layout) (model term : List ℕ) (m : length model ≤ limit_of Model) (t : length term ≤ limit_of Term) where
-  response_checks : (words : List Word) (reply : Reply) → Responds (command_in layout) words (model ∷ term ∷ []) reply → Checks layout model term reply
+  response_checks : (words : List Word) (reply : Reply) → Responds (command_in layout) words (model ∷ term ∷ []) reply → Checks (Reported layout) model term reply
   response_checks words reply (refuses name long) =
       let e : None ≡ Some name = sym (none_too_long layout (inputs_of (command_in layout) words) model term m t) ∙ long in absurd cc
   response_checks words reply (does short r job) = job_checks layout _ model term r job
 
-  answer_checks : (words : List Word) (old : Outside) (reply : Reply) → Answers words old.files reply → RunsCheck layout words old model term → Checks layout model term reply
+  answer_checks : (words : List Word) (old : Outside) (reply : Reply) → Answers words old.files reply → RunsCheck layout words old model term → Checks (Reported layout) model term reply
   answer_checks words old reply (no_form none) runs = let e : None ≡ Some (command_in layout) = sym none ∙ runs.form in absurd cc
   answer_checks words old reply (command c is texts there r responds) runs =
       let same : c ≡ command_in layout = let e : Some c ≡ Some (command_in layout) = sym is ∙ runs.form in cc in

@@ -18,8 +18,9 @@ use Rattle.dlk_tacsyn.specs.Faults.{Fault, Syntax as Syntax', Nesting as Nesting
 use Rattle.dlk_recorder.specs.Terms.{term_text}
 use Rattle.dlk_report.specs.Reports.{is_closed, line, first_word, text_report}
 use Rattle.dlk_answers.specs.declared.command.Command.{Command}
-use Rattle.dlk_answers.specs.declared.command.Command.TheVariants.{Check, Print, Vars, Subst, Report, Prove}
+use Rattle.dlk_answers.specs.declared.command.Command.TheVariants.{Check, Print, Vars, Subst, Report, Smt, Prove}
 use Rattle.dlk_answers.specs.declared.reply.Layout.TheVariants.{Text}
+use Rattle.dlk_answers.specs.declared.reply.Showing.TheVariants.{Reported}
 use Rattle.dlk_answers.specs.declared.form.Role.TheVariants.{Model, Term}
 use Rattle.dlk_answers.specs.Forms.{Word, command_of, inputs_of, limit_of}
 use Rattle.dlk_answers.specs.Inputs.{inputs, inputs_of_form, output}
@@ -89,7 +90,7 @@ file_holds words old new reply name bytes term named written same there =
 -- `check` answers the same to what `prove` writes
 abbrev pub ProvedIsChecked : Type 0
 ProvedIsChecked = (model strategy term : List ℕ) (reply : Reply) → Proves model strategy reply → reply.written ≡ Some term →
-    (length term ≤ limit_of Term) × Checks Text model term (printing reply.status reply.printed)
+    (length term ≤ limit_of Term) × Checks (Reported Text) model term (printing reply.status reply.printed)
 
 module _ (checked_too : ProvedIsChecked) (model term said : List ℕ) (status : ℕ) where
   abbrev Says : Reply → ℕ → Type 0
@@ -104,7 +105,7 @@ module _ (checked_too : ProvedIsChecked) (model term said : List ℕ) (status : 
   refused_fault n (Unread (TooBig size)) h = not_refused n _ _ h
   refused_fault n (Unread (TooDeep depth)) h = not_refused n _ _ h
 
-  check_truly : (reply : Reply) → Checks Text model term reply → (n : ℕ) → Says reply n → Given reply status (codes "closed" ++ said) → IsDerived model term status (codes "closed" ++ said)
+  check_truly : (reply : Reply) → Checks (Reported Text) model term reply → (n : ℕ) → Says reply n → Given reply status (codes "closed" ++ said) → IsDerived model term status (codes "closed" ++ said)
   check_truly reply (bad_model why fault) n h given = absurd (refused_fault n why h)
   check_truly reply (bad_line f t line why v) n h given = absurd (not_refused n _ _ h)
   check_truly reply (bad_conclusion f t rows p a ne) n h given = absurd (not_refused n _ _ h)
@@ -192,6 +193,7 @@ module _ (checked_too : ProvedIsChecked) (model term said : List ℕ) (status : 
   speaks_truly words old new reply Vars answers form there files given = absurd there
   speaks_truly words old new reply Subst answers form there files given = absurd there
   speaks_truly words old new reply Report answers form there files given = absurd there
+  speaks_truly words old new reply Smt answers form there files given = absurd there
   speaks_truly words old new reply Prove answers form there files given = wrote_truly words old new reply answers form there files given
 
 -- `closed` was printed where something was

@@ -8,9 +8,10 @@ use Rattle.dlk_replay.specs.Files.{Verdict, bad, file_lines}
 use Rattle.dlk_replay.specs.declared.fault.LineWhy.{LineWhy}
 use Rattle.dlk_report.specs.Reports.{text_report}
 use Rattle.dlk_answers.specs.declared.command.Command.{Command}
-use Rattle.dlk_answers.specs.declared.command.Command.TheVariants.{Check, Print, Vars, Subst, Report, Prove}
+use Rattle.dlk_answers.specs.declared.command.Command.TheVariants.{Check, Print, Vars, Subst, Report, Smt, Prove}
 use Rattle.dlk_answers.specs.declared.reply.Layout.{Layout}
 use Rattle.dlk_answers.specs.declared.reply.Layout.TheVariants.{Text, Json}
+use Rattle.dlk_answers.specs.declared.reply.Showing.TheVariants.{Reported}
 use Rattle.dlk_answers.specs.declared.form.Role.TheVariants.{Model, Term}
 use Rattle.dlk_answers.specs.Forms.{Word, command_of, limit_of}
 use Rattle.dlk_answers.specs.Inputs.{inputs, output}
@@ -34,6 +35,7 @@ SpeaksOf Print words old new model term = ⊥
 SpeaksOf Vars words old new model term = ⊥
 SpeaksOf Subst words old new model term = ⊥
 SpeaksOf Report words old new model term = ⊥
+SpeaksOf Smt words old new model term = ⊥
 SpeaksOf Prove words old new model term = WritesTerm words old new model term
 
 -- what is printed of a text by the status: with 0 the whole, and with 5 a front
@@ -118,7 +120,7 @@ JudgesTruly words status old new =
 pub record IsAccepted (model term : List ℕ) (status : ℕ) (said : List ℕ) : Type 0 where
   pub short : length term ≤ limit_of Term
   pub reply : Reply
-  pub checks : Checks Text model term reply
+  pub checks : Checks (Reported Text) model term reply
   pub status_is : code_of reply.status ≡ status
   pub said_is : reply.printed ≡ said
 

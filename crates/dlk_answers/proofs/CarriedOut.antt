@@ -1,20 +1,23 @@
 -- What a command answers is no refusal of its words, and a refusal writes no file.
-use Rattle.std.proofs.Common.{◌≡◌, ◌<◌, ℕ, Bool, true, false, List, [], ◌∷◌, None, refl, arith}
+use Rattle.std.proofs.Common.{◌≡◌, ◌<◌, ℕ, Bool, true, false, List, [], ◌∷◌, length, Option, Some, None, refl, arith}
 use Rattle.dlk_grammar.specs.Readings.{Literal, Nesting, Syntax, Shape, TooBig, TooDeep}
 use Rattle.dlk_grammar.specs.Texts.{TextFault, BadByte, Unread}
+use Rattle.dlk_calculus.specs.Provables.{Provable}
+use Rattle.dlk_smt.specs.Smt.{first_power}
 use Rattle.dlk_report.specs.Reports.{is_closed}
 use Rattle.dlk_tacsyn.specs.Faults.{Fault, Syntax as Syntax', Nesting as Nesting', Repeat, UnknownAtom, Arguments}
 use Rattle.dlk_answers.specs.declared.command.Command.{Command}
-use Rattle.dlk_answers.specs.declared.command.Command.TheVariants.{Check, Print, Vars, Subst, Report, Prove}
+use Rattle.dlk_answers.specs.declared.command.Command.TheVariants.{Check, Print, Vars, Subst, Report, Smt, Prove}
 use Rattle.dlk_answers.specs.declared.form.Role.{Role}
 use Rattle.dlk_answers.specs.declared.form.Role.TheVariants.{Model, File, Substitution}
-use Rattle.dlk_answers.specs.declared.reply.Layout.{Layout}
+use Rattle.dlk_answers.specs.declared.reply.Showing.{Showing}
+use Rattle.dlk_answers.specs.declared.reply.Showing.TheVariants.{Reported, Exported}
 use Rattle.dlk_answers.specs.declared.reply.Layout.TheVariants.{Text, Json}
 use Rattle.dlk_answers.specs.declared.reply.Status.{Status}
 use Rattle.dlk_answers.specs.Forms.{Word}
 use Rattle.dlk_answers.specs.Replies.{Reply, code_of, printing}
 use Rattle.dlk_answers.specs.Refusals.{text_refused}
-use Rattle.dlk_answers.specs.Checks.{Checks, bad_model, bad_line, bad_conclusion, reports, status_of}
+use Rattle.dlk_answers.specs.Checks.{Checks, bad_model, bad_line, bad_conclusion, reports, status_of, answered, script_or_refusal}
 use Rattle.dlk_answers.specs.Prints.{Prints, bad_text, prints}
 use Rattle.dlk_answers.specs.Lists.{Lists, lists, bad_text as lists_fault}
 use Rattle.dlk_answers.specs.Substitutes.{Substitutes, bad_file, bad_subst, bad_pair, not_admissible, too_big, too_deep, prints as prints_result}
@@ -42,11 +45,19 @@ closed_or_open : (b : Bool) → code_of (status_of b) < 3
 closed_or_open true = omega arith
 closed_or_open false = omega arith
 
-check_carried_out : (layout : Layout) (model term : List ℕ) (reply : Reply) → Checks layout model term reply → IsCarriedOut reply
-check_carried_out layout model term reply (bad_model why fault) = text_carried_out Model why
-check_carried_out layout model term reply (bad_line f t n why v) = printed_only _ _ (omega arith)
-check_carried_out layout model term reply (bad_conclusion f t rows p a ne) = printed_only _ _ (omega arith)
-check_carried_out layout model term reply (reports f t rows p a e) = printed_only _ _ (closed_or_open (is_closed p.goals))
+exported_carried_out : (first : Option ℕ) (p : Provable) → IsCarriedOut (script_or_refusal first p)
+exported_carried_out (Some i) p = printed_only _ _ (omega arith)
+exported_carried_out None p = printed_only _ _ (closed_or_open (is_closed p.goals))
+
+answered_carried_out : (showing : Showing) (p : Provable) (lines : ℕ) → IsCarriedOut (answered showing p lines)
+answered_carried_out (Reported layout) p lines = printed_only _ _ (closed_or_open (is_closed p.goals))
+answered_carried_out Exported p lines = exported_carried_out (first_power 1 p.leaves) p
+
+check_carried_out : (showing : Showing) (model term : List ℕ) (reply : Reply) → Checks showing model term reply → IsCarriedOut reply
+check_carried_out showing model term reply (bad_model why fault) = text_carried_out Model why
+check_carried_out showing model term reply (bad_line f t n why v) = printed_only _ _ (omega arith)
+check_carried_out showing model term reply (bad_conclusion f t rows p a ne) = printed_only _ _ (omega arith)
+check_carried_out showing model term reply (reports f t rows p a e) = answered_carried_out showing p (length rows)
 
 print_carried_out : (file : List ℕ) (reply : Reply) → Prints file reply → IsCarriedOut reply
 print_carried_out file reply (bad_text why fault) = text_carried_out File why
@@ -88,11 +99,12 @@ prove_carried_out model strategy reply (proves made left run short p ended) = re
 }
 
 job_carried_out : (command : Command) (others : List Word) (texts : List (List ℕ)) (reply : Reply) → Does command others texts reply → IsCarriedOut reply
-job_carried_out Check [] (model ∷ term ∷ []) reply h = check_carried_out Text model term reply h
+job_carried_out Check [] (model ∷ term ∷ []) reply h = check_carried_out (Reported Text) model term reply h
 job_carried_out Print [] (file ∷ []) reply h = print_carried_out file reply h
 job_carried_out Vars [] (file ∷ []) reply h = list_carried_out file reply h
 job_carried_out Subst [] (file ∷ substitution ∷ []) reply h = substitute_carried_out file substitution reply h
-job_carried_out Report [] (model ∷ term ∷ []) reply h = check_carried_out Json model term reply h
+job_carried_out Report [] (model ∷ term ∷ []) reply h = check_carried_out (Reported Json) model term reply h
+job_carried_out Smt [] (model ∷ term ∷ []) reply h = check_carried_out Exported model term reply h
 job_carried_out Prove (term ∷ []) (model ∷ strategy ∷ []) reply h = prove_carried_out model strategy reply h
 job_carried_out _ _ _ reply h = absurd h
 

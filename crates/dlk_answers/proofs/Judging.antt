@@ -10,13 +10,13 @@ use Rattle.dlk_kernel.specs.declared.row.Row.{Row}
 use Rattle.dlk_replay.specs.Files.{file_lines, Verdict, accepted, bad}
 use Rattle.dlk_replay.specs.declared.fault.LineWhy.{LineWhy}
 use Rattle.dlk_answers.specs.Replies.{Reply}
-use Rattle.dlk_answers.specs.declared.reply.Layout.{Layout}
+use Rattle.dlk_answers.specs.declared.reply.Showing.{Showing}
 use Rattle.dlk_answers.specs.Checks.{Checks, bad_line, bad_conclusion, reports, ModelText, line_refused}
 use Rattle.dlk_answers.specs.Judged.{judged}
 
-pub line_answer : (layout : Layout) (model term : List ℕ) (f : Tree) → ModelText model f → (line : ℕ) (why : LineWhy) (reply : Reply) →
-    Verdict (file_lines term) (bad line why) → reply ≡ line_refused line why → Checks layout model term reply
-line_answer layout model term f reads line why reply verdict is = subst (λ (r : Reply). Checks layout model term r) (sym is) (bad_line f reads line why verdict)
+pub line_answer : (showing : Showing) (model term : List ℕ) (f : Tree) → ModelText model f → (line : ℕ) (why : LineWhy) (reply : Reply) →
+    Verdict (file_lines term) (bad line why) → reply ≡ line_refused line why → Checks showing model term reply
+line_answer showing model term f reads line why reply verdict is = subst (λ (r : Reply). Checks showing model term r) (sym is) (bad_line f reads line why verdict)
 
 -- a list and its last item
 record Ended {A : Type 0} (items : List A) : Type 0 where
@@ -38,25 +38,25 @@ last_item items before x is =
     At_read items (length items) x (omega (arith, count), omega arith)
     (sym (ap (λ n. get_or items n x) place ∙ ap (λ (l : List _). get_or l (length before) x) is ∙ get_or-append_seam before x [] x))
 
-module _ (layout : Layout) (model term : List ℕ) (f : Tree) (reads : ModelText model f) (rows : List Provable) (line : ℕ) (verdict : Verdict (file_lines term) (accepted rows line)) where
-  by_end : (before : List Provable) (p : Provable) (reply : Reply) → rows ≡ before ++ p ∷ [] → judged layout f (length rows) line reply p → Checks layout model term reply
-  by_end before p reply is (inl same) = subst (λ (r : Reply). Checks layout model term r) (sym same.1) (reports f reads rows p (record { before = before; last = is; line = line; verdict = verdict }) same.0)
-  by_end before p reply is (inr other) = subst (λ (r : Reply). Checks layout model term r) (sym other.1) (bad_conclusion f reads rows p (record { before = before; last = is; line = line; verdict = verdict }) other.0)
+module _ (showing : Showing) (model term : List ℕ) (f : Tree) (reads : ModelText model f) (rows : List Provable) (line : ℕ) (verdict : Verdict (file_lines term) (accepted rows line)) where
+  by_end : (before : List Provable) (p : Provable) (reply : Reply) → rows ≡ before ++ p ∷ [] → judged showing f (length rows) line reply p → Checks showing model term reply
+  by_end before p reply is (inl same) = subst (λ (r : Reply). Checks showing model term r) (sym same.1) (reports f reads rows p (record { before = before; last = is; line = line; verdict = verdict }) same.0)
+  by_end before p reply is (inr other) = subst (λ (r : Reply). Checks showing model term r) (sym other.1) (bad_conclusion f reads rows p (record { before = before; last = is; line = line; verdict = verdict }) other.0)
 
-  pub end_answer : (reply : Reply) → 1 ≤ length rows → ((p : Provable) → At rows (length rows) p → judged layout f (length rows) line reply p) →
-      Checks layout model term reply
+  pub end_answer : (reply : Reply) → 1 ≤ length rows → ((p : Provable) → At rows (length rows) p → judged showing f (length rows) line reply p) →
+      Checks showing model term reply
   end_answer reply some says =
       let end = ended rows some in
       by_end end.before end.last reply end.is (says end.last (last_item rows end.before end.last end.is))
 
 -- the same by the rows that the provables are of
-pub judged_answer : (layout : Layout) (model term : List ℕ) (f g : Tree) → ModelText model f → g ≡ f → (rows : List Row) (stands : Row → Provable) (line : ℕ) →
+pub judged_answer : (showing : Showing) (model term : List ℕ) (f g : Tree) → ModelText model f → g ≡ f → (rows : List Row) (stands : Row → Provable) (line : ℕ) →
     Verdict (file_lines term) (accepted (map stands rows) line) → 1 ≤ length rows → (fact lines : ℕ) → fact ≡ length rows → lines ≡ length rows → (reply : Reply) →
-    ((p : Provable) → At (map stands rows) fact p → judged layout g lines line reply p) → Checks layout model term reply
-judged_answer layout model term f g reads same rows stands line verdict some fact lines fact_is lines_is reply says =
+    ((p : Provable) → At (map stands rows) fact p → judged showing g lines line reply p) → Checks showing model term reply
+judged_answer showing model term f g reads same rows stands line verdict some fact lines fact_is lines_is reply says =
     let count = length-map rows stands in
-    let there : (p : Provable) → At (map stands rows) (length (map stands rows)) p → judged layout f (length (map stands rows)) line reply p =
-    λ p at. subst (λ (t : Tree). judged layout t (length (map stands rows)) line reply p) same
-    (subst (λ (n : ℕ). judged layout g n line reply p) (lines_is ∙ sym count)
+    let there : (p : Provable) → At (map stands rows) (length (map stands rows)) p → judged showing f (length (map stands rows)) line reply p =
+    λ p at. subst (λ (t : Tree). judged showing t (length (map stands rows)) line reply p) same
+    (subst (λ (n : ℕ). judged showing g n line reply p) (lines_is ∙ sym count)
     (says p (subst (λ (n : ℕ). At (map stands rows) n p) (count ∙ sym fact_is) at))) in
-    end_answer layout model term f reads (map stands rows) line verdict reply (rw count some) there
+    end_answer showing model term f reads (map stands rows) line verdict reply (rw count some) there

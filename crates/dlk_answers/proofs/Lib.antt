@@ -8,6 +8,7 @@ pub mod SubstAnswers
 pub mod OneSubstitution
 pub mod FewLooks
 pub mod Ends
+pub mod Exported
 pub mod StrategyLaws
 pub mod OneProof
 pub mod SomeProof

@@ -16,7 +16,7 @@ use Rattle.dlk_answers.specs.Forms.{Word}
 use Rattle.dlk_answers.specs.Replies.{Reply}
 use Rattle.dlk_answers.specs.declared.form.Role.TheVariants.{Model, File}
 use Rattle.dlk_answers.specs.Refusals.{text_refused}
-use Rattle.dlk_answers.specs.Checks.{Checks, bad_model, bad_line, bad_conclusion, reports, Accepts, ModelText, ModelFault, proves, line_refused, other_conclusion, reported}
+use Rattle.dlk_answers.specs.Checks.{Checks, bad_model, bad_line, bad_conclusion, reports, Accepts, ModelText, ModelFault, proves, line_refused, other_conclusion, answered}
 use Rattle.dlk_answers.specs.Prints.{Prints, bad_text, prints, printed}
 use Rattle.dlk_answers.specs.Lists.{Lists, lists, bad_text as lists_fault, IsWritten, AreWritten, set_listed, symbols_listed, set_text, signature_text, four_lines}
 use Rattle.dlk_answers.proofs.Ends.{one_last, one_model, model_or_fault}
@@ -25,8 +25,9 @@ use Rattle.dlk_answers.proofs.OneProof.{one_prove}
 use Rattle.dlk_answers.proofs.StrategyLaws.{OneText, TextOrFault, OneFault, OneRun}
 use Rattle.dlk_answers.specs.Answers.{Does, Responds, refuses, does, too_long}
 use Rattle.dlk_answers.specs.declared.command.Command.{Command}
-use Rattle.dlk_answers.specs.declared.command.Command.TheVariants.{Check, Print, Vars, Subst, Report, Prove}
-use Rattle.dlk_answers.specs.declared.reply.Layout.{Layout}
+use Rattle.dlk_answers.specs.declared.command.Command.TheVariants.{Check, Print, Vars, Subst, Report, Smt, Prove}
+use Rattle.dlk_answers.specs.declared.reply.Showing.{Showing}
+use Rattle.dlk_answers.specs.declared.reply.Showing.TheVariants.{Reported, Exported}
 use Rattle.dlk_answers.specs.declared.reply.Layout.TheVariants.{Text, Json}
 
 -- the same rows, and the same last one at the same line
@@ -64,8 +65,8 @@ one_end {term} {rows} {others} {p} {q} a b =
 accepted_not_bad : {term : List ℕ} {rows : List Provable} {p : Provable} {n : ℕ} {why : LineWhy} → Accepts term rows p → Verdict (file_lines term) (bad n why) → ⊥
 accepted_not_bad {term} {rows} {p} {n} {why} a v = not_both (one_verdict (file_lines term) (accepted rows a.line) (bad n why) a.verdict v)
 
-module _ (layout : Layout) (model term : List ℕ) where
-  pub one_check : (r s : Reply) → Checks layout model term r → Checks layout model term s → r ≡ s
+module _ (showing : Showing) (model term : List ℕ) where
+  pub one_check : (r s : Reply) → Checks showing model term r → Checks showing model term s → r ≡ s
   one_check r s (bad_model why a) (bad_model other b) = ap (text_refused Model) (one_tree_fault Formula Refused model why other a b)
   one_check r s (bad_model why a) (bad_line g u m other w) = absurd (model_or_fault why u a)
   one_check r s (bad_model why a) (bad_conclusion g u others q b ne) = absurd (model_or_fault why u a)
@@ -88,7 +89,7 @@ module _ (layout : Layout) (model term : List ℕ) where
       absurd (ne (ap (λ (x : Provable). x.conclusion) (sym (one_end a b).last_is) ∙ e ∙ ap proves (one_model t u)))
   one_check r s (reports f t rows p a e) (reports g u others q b e2) =
       let end = one_end a b in
-      λ i. reported layout (end.last_is i) (length (end.rows_are i))
+      λ i. answered showing (end.last_is i) (length (end.rows_are i))
 
 pub one_print : (file : List ℕ) (r s : Reply) → Prints file r → Prints file s → r ≡ s
 one_print file r s (bad_text why a) (bad_text other b) = ap (text_refused File) (one_tree_fault Expression Allowed file why other a b)
@@ -124,11 +125,12 @@ none_or_some e = cc
 
 module _ (one_text : OneText) (text_or_fault : TextOrFault) (one_fault : OneFault) (one_run : OneRun) where
   one_job : (c : Command) (others : List Word) (texts : List (List ℕ)) (r s : Reply) → Does c others texts r → Does c others texts s → r ≡ s
-  one_job Check [] (model ∷ term ∷ []) r s a b = one_check Text model term r s a b
+  one_job Check [] (model ∷ term ∷ []) r s a b = one_check (Reported Text) model term r s a b
   one_job Print [] (file ∷ []) r s a b = one_print file r s a b
   one_job Vars [] (file ∷ []) r s a b = one_list file r s a b
   one_job Subst [] (file ∷ substitution ∷ []) r s a b = one_substitution file substitution r s a b
-  one_job Report [] (model ∷ term ∷ []) r s a b = one_check Json model term r s a b
+  one_job Report [] (model ∷ term ∷ []) r s a b = one_check (Reported Json) model term r s a b
+  one_job Smt [] (model ∷ term ∷ []) r s a b = one_check Exported model term r s a b
   one_job Prove (term ∷ []) (model ∷ strategy ∷ []) r s a b = one_prove one_text text_or_fault one_fault one_run model strategy r s a b
   one_job _ _ _ r s a b = absurd a
 

@@ -1,5 +1,5 @@
 -- What `prove` writes is accepted by `check`, which answers the same.
-use Rattle.std.proofs.Common.{◌≡◌, ◌≤◌, ℕ, List, [], ◌∷◌, ◌++◌, length, None, Some, refl, sym, ap, subst, ◌∙◌}
+use Rattle.std.proofs.Common.{◌≡◌, ◌≤◌, ℕ, List, [], length, None, Some, refl, sym, subst, arith}
 use Rattle.std.specs.Prelude.{All}
 use Rattle.dlk_calculus.specs.Provables.{Provable}
 use Rattle.dlk_calculus.specs.Steps.{Step}
@@ -11,15 +11,16 @@ use Rattle.dlk_strategy.specs.Runs.{Progress, Done}
 use Rattle.dlk_replay.specs.Files.{file_lines, accepted, Verdict}
 use Rattle.dlk_recorder.specs.Terms.{term_text, HasSymbols}
 use Rattle.dlk_answers.specs.declared.form.Role.TheVariants.{Model, Term}
+use Rattle.dlk_answers.specs.declared.reply.Showing.TheVariants.{Reported}
 use Rattle.dlk_answers.specs.declared.reply.Layout.TheVariants.{Text}
 use Rattle.dlk_answers.specs.Forms.{limit_of}
 use Rattle.dlk_answers.specs.Replies.{Reply, printing}
 use Rattle.dlk_answers.specs.Refusals.{text_refused}
 use Rattle.dlk_answers.specs.Checks.{Checks, reports, Accepts, reported}
-use Rattle.dlk_answers.specs.Proves.{Proves, bad_model, bad_strategy, fails, spent, too_long, proves, strategy_refused, proved, RunsTo, IsLast}
+use Rattle.dlk_answers.specs.Proves.{Proves, bad_model, bad_strategy, fails, spent, too_long, proves, strategy_refused, RunsTo, IsLast}
 use Rattle.dlk_answers.proofs.Judging.{last_item}
-use Rattle.dlk_answers.proofs.StrategyLaws.{AtomsReplace}
-use Rattle.dlk_answers.proofs.RunSteps.{IsTaken, run_taken, run_count}
+use Rattle.dlk_answers.proofs.StrategyLaws.{RunsTaken, RunsReplaceSymbols, RunsShow}
+use Rattle.dlk_answers.proofs.RunSteps.{taken_count, some_rows, run_shows, all_symbols}
 
 -- a refusal writes nothing
 model_unwritten : (why : TextFault) → (text_refused Model why).written ≡ None
@@ -44,26 +45,29 @@ unwritten reply term none some = cc
 -- what `check` answers to the term
 record Rechecks (model term : List ℕ) (reply : Reply) : Type 0 where
   short : length term ≤ limit_of Term
-  checks : Checks Text model term (printing reply.status reply.printed)
+  checks : Checks (Reported Text) model term (printing reply.status reply.printed)
 
 -- the term file of steps that are taken is accepted
 abbrev pub RecordedIsAccepted : Type 0
 RecordedIsAccepted = (steps : List Step) (rows : List Provable) → Takes [] steps rows → All HasSymbols steps → 1 ≤ length steps →
     Verdict (file_lines (term_text steps)) (accepted rows (length steps))
 
-module _ (recorded : RecordedIsAccepted) (atom_replaces : AtomsReplace) where
+module _ (recorded : RecordedIsAccepted) (runs_taken : RunsTaken) (replace_symbols : RunsReplaceSymbols) (runs_show : RunsShow) where
   whole_checks : (model strategy : List ℕ) (made : Progress) (left : ℕ) → RunsTo model strategy (Done made left) → (p : Provable) → IsLast made.rows p →
-      Checks Text model (term_text made.steps) (reported Text p (length made.steps))
+      Checks (Reported Text) model (term_text made.steps) (reported Text p (length made.steps))
   whole_checks model strategy made left run p ended =
-      let t = run_taken atom_replaces run.tactic run.formula made left run.run in
+      let takes = runs_taken run.tactic run.formula made left run.run in
+      let symbols = all_symbols made.steps (replace_symbols strategy run.tactic run.formula made left run.says run.run) in
+      let count = taken_count made.steps made.rows takes in
+      let some : 1 ≤ length made.steps = omega (arith, count, some_rows runs_show run.tactic run.formula made left run.run) in
       let accepts : Accepts (term_text made.steps) made.rows p = record {
         before = ended.before;
         last = ended.rows_are;
         line = length made.steps;
-        verdict = recorded made.steps made.rows t.takes t.symbols t.some;
+        verdict = recorded made.steps made.rows takes symbols some;
       } in
-      subst (λ n. Checks Text model (term_text made.steps) (reported Text p n)) (sym (run_count atom_replaces run.tactic run.formula made left run.run))
-      (reports run.formula run.reads made.rows p accepts (t.shows p (last_item made.rows ended.before p ended.rows_are)))
+      let shows = run_shows runs_show run.tactic run.formula made left run.run p (last_item made.rows ended.before p ended.rows_are) in
+      subst (λ n. Checks (Reported Text) model (term_text made.steps) (reported Text p n)) (sym count) (reports run.formula run.reads made.rows p accepts shows)
 
   rechecks : (model strategy term : List ℕ) (reply : Reply) → Proves model strategy reply → reply.written ≡ Some term → Rechecks model term reply
   rechecks model strategy term _ (bad_model why is) written = absurd (unwritten (text_refused Model why) term (model_unwritten why) written)
@@ -75,9 +79,9 @@ module _ (recorded : RecordedIsAccepted) (atom_replaces : AtomsReplace) where
       let same : term_text made.steps ≡ term = cc in
       record {
         short = subst (λ (l : List ℕ). length l ≤ limit_of Term) same short;
-        checks = subst (λ (l : List ℕ). Checks Text model l (reported Text p (length made.steps))) same (whole_checks model strategy made left run p ended);
+        checks = subst (λ (l : List ℕ). Checks (Reported Text) model l (reported Text p (length made.steps))) same (whole_checks model strategy made left run p ended);
       }
 
   pub proved_is_checked : (model strategy term : List ℕ) (reply : Reply) → Proves model strategy reply → reply.written ≡ Some term →
-      (length term ≤ limit_of Term) × Checks Text model term (printing reply.status reply.printed)
+      (length term ≤ limit_of Term) × Checks (Reported Text) model term (printing reply.status reply.printed)
   proved_is_checked model strategy term reply is written = let r = rechecks model strategy term reply is written in (r.short, r.checks)

@@ -1,28 +1,28 @@
 -- `prove` answers something to a model and a strategy.
-use Rattle.std.proofs.Common.{◌≡◌, ◌<◌, ◌≤◌, ◌⊎◌, ℕ, List, [], ◌∷◌, ◌++◌, length, inl, inr, arith}
+use Rattle.std.proofs.Common.{ℕ, List, length, inl, inr}
 use Rattle.std.proofs.lemmas.Bool.{cases_lt}
 use Rattle.dlk_tree.specs.Trees.{Tree}
 use Rattle.dlk_grammar.specs.declared.token.Dots.TheVariants.{Refused}
 use Rattle.dlk_grammar.specs.declared.token.Form.TheVariants.{Formula}
 use Rattle.dlk_machine.proofs.SomeText.{some_tree}
-use Rattle.dlk_strategy.specs.Runs.{Progress, Outcome, Done, Fails, Budget}
+use Rattle.dlk_strategy.specs.Runs.{Outcome, Done, Fails, Budget}
 use Rattle.dlk_recorder.specs.Terms.{term_text}
 use Rattle.dlk_answers.specs.declared.form.Role.TheVariants.{Model, Term}
 use Rattle.dlk_answers.specs.Forms.{limit_of}
 use Rattle.dlk_answers.specs.Replies.{Reply}
 use Rattle.dlk_answers.specs.Refusals.{text_refused}
 use Rattle.dlk_answers.specs.Checks.{ModelText}
-use Rattle.dlk_answers.specs.Proves.{Proves, bad_model, bad_strategy, fails, spent, too_long, proves, strategy_refused, failed, over_budget, term_too_long, proved, RunsTo, IsLast}
+use Rattle.dlk_answers.specs.Proves.{Proves, bad_model, bad_strategy, fails, spent, too_long, proves, strategy_refused, failed, over_budget, term_too_long, proved, RunsTo}
 use Rattle.dlk_answers.proofs.Ends.{last_of}
 use Rattle.dlk_answers.proofs.RunSteps.{some_rows}
-use Rattle.dlk_answers.proofs.StrategyLaws.{SomeText, SomeRun, AtomsReplace}
+use Rattle.dlk_answers.proofs.StrategyLaws.{SomeText, SomeRun, RunsShow}
 
-module _ (some_text : SomeText) (some_run : SomeRun) (atom_replaces : AtomsReplace) (model strategy : List ℕ) where
+module _ (some_text : SomeText) (some_run : SomeRun) (runs_show : RunsShow) (model strategy : List ℕ) where
   by_outcome : (o : Outcome) → RunsTo model strategy o → (reply : Reply) × Proves model strategy reply
   by_outcome (Fails at why used) run = (failed at why, fails at used why run)
   by_outcome (Budget at) run = (over_budget at, spent at run)
   by_outcome (Done made left) run =
-      let last = last_of made.rows (some_rows atom_replaces run.tactic run.formula made left run.run) in
+      let last = last_of made.rows (some_rows runs_show run.tactic run.formula made left run.run) in
       elim (cases_lt (limit_of Term) (length (term_text made.steps))) [
         | inl long ↦ (term_too_long (length (term_text made.steps)), too_long made left run long)
         | inr short ↦ (proved last.1 made.steps, proves made left run short last.1 (record { before = last.0; rows_are = last.2 }))

@@ -1,5 +1,5 @@
 -- A command answers something to the texts of its inputs.
-use Rattle.std.proofs.Common.{◌≡◌, ℕ, ◌≤◌, List, [], ◌∷◌, ◌++◌, length, Option, None, Some, IsTrue, refl, sym, ap, subst, inl, inr, arith, codes}
+use Rattle.std.proofs.Common.{◌≡◌, ℕ, List, [], ◌∷◌, length, Option, None, Some, IsTrue, refl, sym, subst, inl, inr, arith, codes}
 use Rattle.std.proofs.lemmas.Bool.{cases_lt}
 use Rattle.dlk_tree.specs.Trees.{Tree, size, depth}
 use Rattle.dlk_calculus.specs.Limits.{most_nodes, greatest_depth}
@@ -14,16 +14,17 @@ use Rattle.dlk_machine.proofs.SomeText.{some_tree, some_pairs}
 use Rattle.dlk_replay.specs.Files.{file_lines, Verdict, Answer, accepted, bad}
 use Rattle.dlk_replay.proofs.Verdicts.{some_verdict, accepted_some}
 use Rattle.dlk_answers.specs.declared.command.Command.{Command}
-use Rattle.dlk_answers.specs.declared.command.Command.TheVariants.{Check, Print, Vars, Subst, Report, Prove}
+use Rattle.dlk_answers.specs.declared.command.Command.TheVariants.{Check, Print, Vars, Subst, Report, Smt, Prove}
 use Rattle.dlk_answers.specs.declared.form.Role.TheVariants.{Model, File, Substitution}
 use Rattle.dlk_answers.specs.declared.form.Last.TheVariants.{Output}
-use Rattle.dlk_answers.specs.declared.reply.Layout.{Layout}
+use Rattle.dlk_answers.specs.declared.reply.Showing.{Showing}
+use Rattle.dlk_answers.specs.declared.reply.Showing.TheVariants.{Reported, Exported}
 use Rattle.dlk_answers.specs.declared.reply.Layout.TheVariants.{Text, Json}
 use Rattle.dlk_answers.specs.Forms.{Word, form_of, command_of, inputs_of, others_of, limits_of, ends_in}
 use Rattle.dlk_answers.specs.Inputs.{first_too_long}
 use Rattle.dlk_answers.specs.Replies.{Reply, refusal}
 use Rattle.dlk_answers.specs.Refusals.{text_refused}
-use Rattle.dlk_answers.specs.Checks.{Checks, bad_model, bad_line, bad_conclusion, reports, Accepts, ModelText, proves, line_refused, other_conclusion, reported}
+use Rattle.dlk_answers.specs.Checks.{Checks, bad_model, bad_line, bad_conclusion, reports, Accepts, ModelText, proves, line_refused, other_conclusion, answered}
 use Rattle.dlk_answers.specs.Prints.{Prints, bad_text, prints, printed, FileText}
 use Rattle.dlk_answers.specs.Lists.{Lists, lists, bad_text as lists_fault, set_listed, symbols_listed, set_text, signature_text, four_lines}
 use Rattle.dlk_answers.specs.Substitutes.{Substitutes, bad_file, bad_subst, bad_pair, not_admissible, too_big, too_deep, prints as prints_result, pair_refused, AreRead}
@@ -31,22 +32,22 @@ use Rattle.dlk_answers.specs.Answers.{Does, Responds, refuses, does, too_long}
 use Rattle.dlk_answers.proofs.Ends.{last_of}
 use Rattle.dlk_answers.proofs.Fits.{others_end}
 use Rattle.dlk_answers.proofs.SomeProof.{some_prove}
-use Rattle.dlk_answers.proofs.StrategyLaws.{SomeText, SomeRun, AtomsReplace}
+use Rattle.dlk_answers.proofs.StrategyLaws.{SomeText, SomeRun, RunsShow}
 use Rattle.dlk_answers.proofs.SomeListing.{some_free_listing, some_bound_listing, some_must_listing, some_signature}
 
-some_check : (layout : Layout) (model term : List ℕ) → (reply : Reply) × Checks layout model term reply
-some_check layout model term = elim (some_tree Formula Refused model) [
+some_check : (showing : Showing) (model term : List ℕ) → (reply : Reply) × Checks showing model term reply
+some_check showing model term = elim (some_tree Formula Refused model) [
   | inl read ↦ by_verdict read.0 read.1 (some_verdict (file_lines term))
   | inr fault ↦ (text_refused Model fault.0, bad_model fault.0 fault.1)
 ]
   where
-    by_verdict : (f : Tree) → ModelText model f → (a : Answer) × Verdict (file_lines term) a → (reply : Reply) × Checks layout model term reply
+    by_verdict : (f : Tree) → ModelText model f → (a : Answer) × Verdict (file_lines term) a → (reply : Reply) × Checks showing model term reply
     by_verdict f reads (bad n why, verdict) = (line_refused n why, bad_line f reads n why verdict)
     by_verdict f reads (accepted rows line, verdict) =
         let last = last_of rows (accepted_some (file_lines term) rows line verdict) in
         let a : Accepts term rows last.1 = record { before = last.0; last = last.2; line = line; verdict = verdict } in
         elim (same_sequent last.1.conclusion (proves f)) [
-          | yes same ↦ (reported layout last.1 (length rows), reports f reads rows last.1 a same)
+          | yes same ↦ (answered showing last.1 (length rows), reports f reads rows last.1 a same)
           | no other ↦ (other_conclusion line f last.1.conclusion, bad_conclusion f reads rows last.1 a other)
         ]
 
@@ -124,13 +125,13 @@ done_of : (command : Command) (others words : List Word) (texts same : List (Lis
 done_of command others words texts same words_are is done =
     (done.0, subst (λ os. Does command os texts done.0) (sym words_are) (subst (λ ts. Does command words ts done.0) (sym is) done.1))
 
-module _ (some_text : SomeText) (some_run : SomeRun) (atom_replaces : AtomsReplace) where
+module _ (some_text : SomeText) (some_run : SomeRun) (runs_show : RunsShow) where
   some_job : (command : Command) (others : List Word) (texts : List (List ℕ)) → IsTrue (ends_in (form_of command).last others) →
       length texts ≡ length (form_of command).inputs →
       (reply : Reply) × Does command others texts reply
   some_job Check others texts ends count =
       let t = two_texts texts count in
-      done_of Check others [] texts (t.0 ∷ t.1 ∷ []) (no_others others ends) t.2 (some_check Text t.0 t.1)
+      done_of Check others [] texts (t.0 ∷ t.1 ∷ []) (no_others others ends) t.2 (some_check (Reported Text) t.0 t.1)
   some_job Print others texts ends count =
       let t = one_text texts count in
       done_of Print others [] texts (t.0 ∷ []) (no_others others ends) t.1 (some_print t.0)
@@ -142,11 +143,14 @@ module _ (some_text : SomeText) (some_run : SomeRun) (atom_replaces : AtomsRepla
       done_of Subst others [] texts (t.0 ∷ t.1 ∷ []) (no_others others ends) t.2 (some_substitution t.0 t.1)
   some_job Report others texts ends count =
       let t = two_texts texts count in
-      done_of Report others [] texts (t.0 ∷ t.1 ∷ []) (no_others others ends) t.2 (some_check Json t.0 t.1)
+      done_of Report others [] texts (t.0 ∷ t.1 ∷ []) (no_others others ends) t.2 (some_check (Reported Json) t.0 t.1)
+  some_job Smt others texts ends count =
+      let t = two_texts texts count in
+      done_of Smt others [] texts (t.0 ∷ t.1 ∷ []) (no_others others ends) t.2 (some_check Exported t.0 t.1)
   some_job Prove others texts ends count =
       let t = two_texts texts count in
       let w = one_other others ends in
-      done_of Prove others (w.0 ∷ []) texts (t.0 ∷ t.1 ∷ []) w.1 t.2 (some_prove some_text some_run atom_replaces t.0 t.1)
+      done_of Prove others (w.0 ∷ []) texts (t.0 ∷ t.1 ∷ []) w.1 t.2 (some_prove some_text some_run runs_show t.0 t.1)
 
   pub some_response : (command : Command) (words : List Word) (texts : List (List ℕ)) → command_of words ≡ Some command →
       length texts ≡ length (form_of command).inputs →

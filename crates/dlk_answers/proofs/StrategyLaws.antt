@@ -1,14 +1,16 @@
 -- The laws of strategies' texts and of their runs, as answers want them.
-use Rattle.std.proofs.Common.{◌≡◌, ◌⊎◌, ℕ, List, length}
+use Rattle.std.proofs.Common.{◌≡◌, ◌⊎◌, ℕ, List, [], length}
+use Rattle.std.specs.Prelude.{All}
 use Rattle.dlk_tree.specs.Trees.{Tree}
 use Rattle.dlk_calculus.specs.Provables.{Provable}
-use Rattle.dlk_calculus.specs.Sequents.{Sequent}
-use Rattle.dlk_calculus.specs.Steps.{Step}
-use Rattle.dlk_tacsyn.specs.Tactics.{Tactic, Atom}
+use Rattle.dlk_calculus.specs.Places.{At}
+use Rattle.dlk_calculus.specs.Sequents.{alone_right}
+use Rattle.dlk_kernel.specs.Taken.{Takes}
+use Rattle.dlk_tacsyn.specs.Tactics.{Tactic}
 use Rattle.dlk_tacsyn.specs.Faults.{Fault}
 use Rattle.dlk_tacsyn.specs.Strategies.{StrategyText, StrategyFault}
-use Rattle.dlk_elab.specs.Atoms.{AtomSteps, Replaces}
-use Rattle.dlk_strategy.specs.Runs.{Outcome, RunsModel}
+use Rattle.dlk_elab.specs.Symbols.{ReplacesSymbols}
+use Rattle.dlk_strategy.specs.Runs.{Progress, Outcome, Done, RunsModel}
 use Rattle.dlk_answers.specs.Checks.{ModelText}
 
 -- a text says one strategy, or has one fault
@@ -32,7 +34,16 @@ OneRun = (t : Tactic) (f : Tree) (a b : Outcome) → RunsModel t f a → RunsMod
 abbrev pub SomeRun : Type 0
 SomeRun = (bytes : List ℕ) (t : Tactic) (model : List ℕ) (f : Tree) → StrategyText bytes t → ModelText model f → (o : Outcome) × RunsModel t f o
 
--- what an atom leaves of the last row
-abbrev pub AtomsReplace : Type 0
-AtomsReplace = (rows : List Provable) (goal : ℕ) (atom : Atom) (steps : List Step) (after : List Provable) → AtomSteps rows (length rows) goal atom steps after →
-    (new : List Sequent) × Replaces rows goal after new
+-- the steps of a run that is done are taken in turn
+abbrev pub RunsTaken : Type 0
+RunsTaken = (t : Tactic) (f : Tree) (made : Progress) (left : ℕ) → RunsModel t f (Done made left) → Takes [] made.steps made.rows
+
+-- what they replace are symbols, if a text says the strategy
+abbrev pub RunsReplaceSymbols : Type 0
+RunsReplaceSymbols = (bytes : List ℕ) (t : Tactic) (f : Tree) (made : Progress) (left : ℕ) → StrategyText bytes t → RunsModel t f (Done made left) →
+    All ReplacesSymbols made.steps
+
+-- and the last row shows the formula
+abbrev pub RunsShow : Type 0
+RunsShow = (t : Tactic) (f : Tree) (made : Progress) (left : ℕ) → RunsModel t f (Done made left) →
+    (p : Provable) × At made.rows (length made.rows) p × (p.conclusion ≡ alone_right f)

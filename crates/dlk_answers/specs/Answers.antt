@@ -1,8 +1,9 @@
 -- What the program answers to its words and to the texts of its inputs.
 use Rattle.std.specs.Prelude.{◌≡◌, ℕ, List, [], ◌∷◌, ◌++◌, Some, None, codes}
 use Rattle.dlk_answers.specs.declared.command.Command.{Command}
-use Rattle.dlk_answers.specs.declared.command.Command.TheVariants.{Check, Print, Vars, Subst, Report, Prove}
+use Rattle.dlk_answers.specs.declared.command.Command.TheVariants.{Check, Print, Vars, Subst, Report, Smt, Prove}
 use Rattle.dlk_answers.specs.declared.reply.Layout.TheVariants.{Text, Json}
+use Rattle.dlk_answers.specs.declared.reply.Showing.TheVariants.{Reported, Exported}
 use Rattle.dlk_answers.specs.Forms.{Word, inputs_of, others_of, limits_of}
 use Rattle.dlk_answers.specs.Inputs.{first_too_long}
 use Rattle.dlk_answers.specs.Replies.{Reply, refusal}
@@ -18,11 +19,12 @@ too_long name = refusal (codes "too-long " ++ name)
 -- Does command others texts reply: what a command answers to the words behind its inputs and to the inputs' texts, each within its limit.
 -- One row a command. That there is a reply to words and texts of its form is a law, so a row that is forgotten here is found.
 abbrev pub Does : Command → List Word → List (List ℕ) → Reply → Type 0
-Does Check [] (model ∷ term ∷ []) reply = Checks Text model term reply
+Does Check [] (model ∷ term ∷ []) reply = Checks (Reported Text) model term reply
 Does Print [] (file ∷ []) reply = Prints file reply
 Does Vars [] (file ∷ []) reply = Lists file reply
 Does Subst [] (file ∷ substitution ∷ []) reply = Substitutes file substitution reply
-Does Report [] (model ∷ term ∷ []) reply = Checks Json model term reply
+Does Report [] (model ∷ term ∷ []) reply = Checks (Reported Json) model term reply
+Does Smt [] (model ∷ term ∷ []) reply = Checks Exported model term reply
 -- the word behind the inputs is the name of the term's file
 Does Prove (term ∷ []) (model ∷ strategy ∷ []) reply = Proves model strategy reply
 Does _ _ _ reply = ⊥

@@ -1,5 +1,5 @@
--- What `check` and `report` answer to a model and a term.
-use Rattle.std.specs.Prelude.{◌≡◌, ◌≢◌, ℕ, Bool, true, false, List, [], ◌∷◌, ◌++◌, length, codes, decimal}
+-- What `check`, `report` and `smt` answer to a model and a term.
+use Rattle.std.specs.Prelude.{◌≡◌, ◌≢◌, ℕ, Bool, true, false, List, [], ◌∷◌, ◌++◌, length, Option, Some, None, codes, decimal}
 use Rattle.dlk_tree.specs.Trees.{Tree}
 use Rattle.dlk_calculus.specs.Sequents.{Sequent}
 use Rattle.dlk_calculus.specs.Provables.{Provable}
@@ -7,12 +7,15 @@ use Rattle.dlk_grammar.specs.declared.token.Dots.TheVariants as dots
 use Rattle.dlk_grammar.specs.declared.token.Form.TheVariants as form
 use Rattle.dlk_grammar.specs.Texts.{TreeText, TreeTextFault, TextFault}
 use Rattle.dlk_grammar.specs.Shown.{spell, shown_sequent}
+use Rattle.dlk_smt.specs.Smt.{first_power, leaves_lines}
 use Rattle.dlk_replay.specs.Files.{Verdict, accepted, bad, file_lines, line_why_text}
 use Rattle.dlk_replay.specs.declared.fault.LineWhy.{LineWhy}
 use Rattle.dlk_report.specs.Reports.{line, Parts, is_closed, parts_of, report_of}
 use Rattle.dlk_report.specs.Json.{json_of}
 use Rattle.dlk_answers.specs.declared.reply.Layout.{Layout}
 use Rattle.dlk_answers.specs.declared.reply.Layout.TheVariants.{Text, Json}
+use Rattle.dlk_answers.specs.declared.reply.Showing.{Showing}
+use Rattle.dlk_answers.specs.declared.reply.Showing.TheVariants.{Reported, Exported}
 use Rattle.dlk_answers.specs.declared.reply.Status.{Status}
 use Rattle.dlk_answers.specs.declared.reply.Status.TheVariants.{Closed, Open, Refused}
 use Rattle.dlk_answers.specs.declared.form.Role.TheVariants.{Model}
@@ -56,6 +59,23 @@ report_in layout p lines = laid_out layout (parts_of p lines)
 abbrev pub reported : Layout → Provable → ℕ → Reply
 reported layout p lines = printing (status_of (is_closed p.goals)) (report_in layout p lines)
 
+-- refused: leaf I: power
+abbrev pub power_refused : ℕ → Reply
+power_refused i = refusal (codes "leaf " ++ (decimal i ++ codes ": power"))
+
+-- the leaves of a provable as a script for a solver, or the first of them that has no text
+abbrev pub script_or_refusal : Option ℕ → Provable → Reply
+script_or_refusal (Some i) p = power_refused i
+script_or_refusal None p = printing (status_of (is_closed p.goals)) (leaves_lines 1 p.leaves)
+
+abbrev pub exported : Provable → Reply
+exported p = script_or_refusal (first_power 1 p.leaves) p
+
+-- what is shown of a provable that so many lines have shown
+abbrev pub answered : Showing → Provable → ℕ → Reply
+answered (Reported layout) p lines = reported layout p lines
+answered Exported p lines = exported p
+
 -- the term is accepted: each of its lines but `done` is a step, and the last of the rows is p, at this line
 pub record Accepts (term : List ℕ) (rows : List Provable) (p : Provable) : Type 0 where
   pub before : List Provable
@@ -63,11 +83,11 @@ pub record Accepts (term : List ℕ) (rows : List Provable) (p : Provable) : Typ
   pub line : ℕ
   pub verdict : Verdict (file_lines term) (accepted rows line)
 
--- Checks layout model term reply: this is what is answered to the model and the term. One case an answer.
-pub data Checks (layout : Layout) (model term : List ℕ) : Reply → Type 0 where
-  bad_model : (why : TextFault) → ModelFault model why → Checks layout model term (text_refused Model why)
-  bad_line : (f : Tree) → ModelText model f → (n : ℕ) (why : LineWhy) → Verdict (file_lines term) (bad n why) → Checks layout model term (line_refused n why)
+-- Checks showing model term reply: this is what is answered to the model and the term. One case an answer.
+pub data Checks (showing : Showing) (model term : List ℕ) : Reply → Type 0 where
+  bad_model : (why : TextFault) → ModelFault model why → Checks showing model term (text_refused Model why)
+  bad_line : (f : Tree) → ModelText model f → (n : ℕ) (why : LineWhy) → Verdict (file_lines term) (bad n why) → Checks showing model term (line_refused n why)
   bad_conclusion : (f : Tree) → ModelText model f → (rows : List Provable) (p : Provable) → (a : Accepts term rows p) →
-      p.conclusion ≢ proves f → Checks layout model term (other_conclusion a.line f p.conclusion)
+      p.conclusion ≢ proves f → Checks showing model term (other_conclusion a.line f p.conclusion)
   reports : (f : Tree) → ModelText model f → (rows : List Provable) (p : Provable) → Accepts term rows p →
-      p.conclusion ≡ proves f → Checks layout model term (reported layout p (length rows))
+      p.conclusion ≡ proves f → Checks showing model term (answered showing p (length rows))

@@ -2,11 +2,11 @@
 use Rattle.std.specs.Prelude.{◌≡◌, ◌≢◌, ◌⊎◌, ℕ}
 use Rattle.dlk_tree.specs.Trees.{Tree}
 use Rattle.dlk_calculus.specs.Provables.{Provable}
-use Rattle.dlk_answers.specs.declared.reply.Layout.{Layout}
+use Rattle.dlk_answers.specs.declared.reply.Showing.{Showing}
 use Rattle.dlk_answers.specs.Replies.{Reply}
-use Rattle.dlk_answers.specs.Checks.{proves, other_conclusion, reported}
+use Rattle.dlk_answers.specs.Checks.{proves, other_conclusion, answered}
 
 -- so many lines of steps show this provable, the last of them at this line
-abbrev pub judged : Layout → Tree → ℕ → ℕ → Reply → Provable → Type 0
-judged layout f lines line reply p =
-    ((p.conclusion ≡ proves f) × (reply ≡ reported layout p lines)) ⊎ ((p.conclusion ≢ proves f) × (reply ≡ other_conclusion line f p.conclusion))
+abbrev pub judged : Showing → Tree → ℕ → ℕ → Reply → Provable → Type 0
+judged showing f lines line reply p =
+    ((p.conclusion ≡ proves f) × (reply ≡ answered showing p lines)) ⊎ ((p.conclusion ≢ proves f) × (reply ≡ other_conclusion line f p.conclusion))

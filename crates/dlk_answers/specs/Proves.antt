@@ -31,7 +31,9 @@ strategy_refused (Arguments at) = refused_at Strategy at (codes "arguments")
 -- the word for why a strategy fails
 abbrev pub fail_text : FailWhy → List ℕ
 fail_text fail.WrongCount = codes "WrongCount"
+fail_text fail.UnknownName = codes "UnknownName"
 fail_text fail.NoPlace = codes "NoPlace"
+fail_text fail.NoMatch = codes "NoMatch"
 fail_text (fail.Step reason) = reason_text reason
 
 -- refused: fails at B: WHY

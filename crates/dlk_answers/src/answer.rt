@@ -16,7 +16,7 @@ use crate::jobs::prove::prove;
 use crate::jobs::subst::subst;
 use crate::jobs::vars::vars;
 use crate::refusal::refused;
-use crate::reply::{Layout, Reply, Status, printing};
+use crate::reply::{Layout, Reply, Showing, Status, printing};
 use dlk_store::Steps;
 use std::alloc::Global;
 use std::sync::ledger::Ledger;
@@ -70,11 +70,24 @@ fn job<L: Ledger>(
     ensures looks { CommandLooksAtFew command (texts_of inputs.now) steps.old steps.new }
 {
     match (command, others, inputs) {
-        (Command::Check, [], [model, term]) => check(alloc, Layout::Text, model, term, steps),
+        (Command::Check, [], [model, term]) => check(
+            alloc,
+            Showing::Reported(Layout::Text),
+            model,
+            term,
+            steps,
+        ),
         (Command::Print, [], [file]) => print(alloc, file, steps),
         (Command::Vars, [], [file]) => vars(alloc, file),
         (Command::Subst, [], [file, substitution]) => subst(alloc, file, substitution, steps),
-        (Command::Report, [], [model, term]) => check(alloc, Layout::Json, model, term, steps),
+        (Command::Report, [], [model, term]) => check(
+            alloc,
+            Showing::Reported(Layout::Json),
+            model,
+            term,
+            steps,
+        ),
+        (Command::Smt, [], [model, term]) => check(alloc, Showing::Exported, model, term, steps),
         (Command::Prove, [_], [model, strategy]) => prove(alloc, model, strategy, steps),
         _ => unreachable!(),
     }

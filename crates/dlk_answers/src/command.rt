@@ -19,16 +19,19 @@ pub enum Command {
     Subst,
     /// Replays a term, and prints the report as JSON.
     Report,
+    /// Replays a term, and prints its leaves as SMT-LIB text.
+    Smt,
     /// Runs a strategy on a model, writes the term that it makes, and prints the report.
     Prove,
 }
 
-const COMMANDS: [Command; 6] = [
+const COMMANDS: [Command; 7] = [
     Command::Check,
     Command::Print,
     Command::Vars,
     Command::Subst,
     Command::Report,
+    Command::Smt,
     Command::Prove,
 ];
 
@@ -65,6 +68,7 @@ impl Command {
             Command::Vars => reading("vars", &[Role::File]),
             Command::Subst => reading("subst", &[Role::File, Role::Substitution]),
             Command::Report => reading("report", &[Role::Model, Role::Term]),
+            Command::Smt => reading("smt", &[Role::Model, Role::Term]),
             Command::Prove => writing("prove", &[Role::Model, Role::Strategy]),
         }
     }

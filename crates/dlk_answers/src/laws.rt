@@ -3,16 +3,16 @@ ghost use Rattle.std.specs.Prelude.{◌≡◌, ◌<◌, ◌≤◌, ℕ, List, le
 ghost use Rattle.dlk_answers.specs.declared.command.Command.{Command as TheCommand};
 ghost use Rattle.dlk_answers.specs.declared.form.Role.TheVariants.{Term};
 ghost use Rattle.dlk_answers.specs.declared.reply.Layout.TheVariants.{Text};
+ghost use Rattle.dlk_answers.specs.declared.reply.Showing.TheVariants.{Reported};
 ghost use Rattle.dlk_answers.specs.Forms.{Word, command_of, form_of, limit_of};
 ghost use Rattle.dlk_answers.specs.Replies.{Reply as TheReply, code_of, printing};
 ghost use Rattle.dlk_answers.specs.Checks.{Checks};
 ghost use Rattle.dlk_answers.specs.Proves.{Proves};
 ghost use Rattle.dlk_answers.specs.Answers.{Responds};
 
-use dlk_elab::atom_replaces_goal;
 use dlk_machine::laws::tree_texts;
 use dlk_recorder::recorded_is_accepted;
-use dlk_strategy::{one_outcome, some_outcome};
+use dlk_strategy::{one_outcome, run_has_symbols, run_is_taken, run_shows_formula, some_outcome};
 use dlk_tacsyn::laws::{fit_strategy, one_strategy, strategy_or_fault};
 
 /// A command has one answer to words and texts.
@@ -33,7 +33,7 @@ pub fn some_response()
     strategy_or_fault();
     fit_strategy();
     some_outcome();
-    atom_replaces_goal();
+    run_shows_formula();
 }
 
 /// A command answers with a status below 3, and a refusal writes no file.
@@ -47,8 +47,11 @@ pub fn refusals_write_nothing()
 /// What `prove` writes is no longer than a term may be, and `check` answers the same to it: the same status, and the same report.
 pub fn proved_is_checked()
     ensures { (model strategy term : List ℕ) (reply : TheReply) → Proves model strategy reply → reply.written ≡ Some term →
-        (length term ≤ limit_of Term) × Checks Text model term (printing reply.status reply.printed) }
+        (length term ≤ limit_of Term) × Checks (Reported Text) model term (printing reply.status reply.printed) }
 {
-    atom_replaces_goal();
+    fit_strategy();
+    run_is_taken();
+    run_has_symbols();
+    run_shows_formula();
     recorded_is_accepted();
 }

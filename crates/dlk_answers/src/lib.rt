@@ -14,7 +14,7 @@ pub use answer::{respond, words_refused};
 pub use command::{Command, output};
 pub use fault::NoReply;
 pub use form::{Form, Last, Role};
-pub use reply::{Layout, Reply, Status};
+pub use reply::{Layout, Reply, Showing, Status};
 
 #[cfg(test)]
 mod tests;

@@ -12,6 +12,15 @@ pub enum Layout {
     Json,
 }
 
+/// What is shown of a proof that is accepted.
+#[derive(Clone, Copy, Debug, PartialEq, Eq)]
+pub enum Showing {
+    /// Its report.
+    Reported(Layout),
+    /// Its leaves, as a script for a solver.
+    Exported,
+}
+
 /// How a command ended that was carried out.
 #[derive(Clone, Copy, Debug, PartialEq, Eq)]
 pub enum Status {

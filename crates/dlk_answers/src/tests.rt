@@ -1,5 +1,6 @@
 // What the program answers, by words and texts.
 mod examples;
+mod exporting;
 mod limits;
 mod listing;
 mod models;

@@ -16,7 +16,7 @@ module _ (one other third : Op → Bool) (each : (op : Op) → one op ≡ false 
         let b = or_parts _ _ q in
         or_from _ _ (each op a.0 b.0) (all_lack kids a.1 b.1)
 
-    all_lack : (ts : Forest) → any_has one ts ≡ false → any_has other ts ≡ false → any_has third ts ≡ false
+    pub all_lack : (ts : Forest) → any_has one ts ≡ false → any_has other ts ≡ false → any_has third ts ≡ false
     all_lack no_kids p q = refl
     all_lack (kid t rest) p q =
         let a = or_parts _ _ p in

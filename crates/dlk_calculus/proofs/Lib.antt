@@ -22,3 +22,5 @@ pub mod WellFormed
 pub mod Sorts
 pub mod Systems
 pub mod MadeResults
+pub mod PathLaws
+pub mod Innermost

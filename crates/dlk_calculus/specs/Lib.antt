@@ -3,6 +3,7 @@ pub mod Places
 pub mod Kids
 pub mod Captures
 pub mod Plug
+pub mod Paths
 pub mod Pairs
 pub mod Subst
 pub mod SubstExamples

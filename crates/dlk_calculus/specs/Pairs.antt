@@ -24,6 +24,11 @@ pub record Pair : Type 0 where
   pub sym : Sym
   pub by : Tree
 
+-- names with the names that they get, and pairs
+pub record Extra : Type 0 where
+  pub renames : List (List ℕ × List ℕ)
+  pub pairs : List Pair
+
 -- what replaces the symbol, if it has a pair
 abbrev pub replacement : List Pair → Sym → Option Tree
 replacement [] s = None

@@ -1,9 +1,14 @@
 //! The laws of the calculus. Each is a contract of a function that does nothing.
-ghost use Rattle.std.specs.Prelude.{◌≡◌, ◌<◌, ◌⊎◌, ◌↔◌, ℕ, List, [], ◌∷◌, ◌++◌, length, All, map};
-ghost use Rattle.dlk_tree.specs.Trees.{Tree, sort, WellMade};
+ghost use Rattle.std.specs.Prelude.{◌≡◌, ◌<◌, ◌⊎◌, ◌↔◌, ℕ, List, [], ◌∷◌, ◌++◌, length, All, map, Bool, false, Some};
+ghost use Rattle.dlk_tree.specs.declared.op.Op.{Op as TheOp};
+ghost use Rattle.dlk_tree.specs.declared.op.Op.TheVariants.{Dot, Hole};
+ghost use Rattle.dlk_tree.specs.declared.op.Sort.TheVariants.{Formula};
+ghost use Rattle.dlk_tree.specs.Trees.{Tree, node, no_kids, sort, WellMade};
+ghost use Rattle.dlk_tree.specs.Occurs.{has, has_dots, has_hole};
 ghost use Rattle.dlk_calculus.specs.declared.why.Why.{Why as TheWhy};
 ghost use Rattle.dlk_calculus.specs.Pairs.{Pair, FirstIll, IsWellFormed};
-ghost use Rattle.dlk_calculus.specs.Plug.{Plug};
+ghost use Rattle.dlk_calculus.specs.Plug.{Plug, filled};
+ghost use Rattle.dlk_calculus.specs.Paths.{subtree, put_at, IsInnermost};
 ghost use Rattle.dlk_calculus.specs.Subst.{Subst};
 ghost use Rattle.dlk_calculus.specs.Rename.{RenamesBound, Bound};
 ghost use Rattle.dlk_calculus.specs.declared.reason.Reason.{Reason as TheReason};
@@ -18,6 +23,51 @@ ghost use Rattle.dlk_calculus.specs.Steps.{Step, IsProper, Gives, IsWithin, Agai
 /// A replacement has at most one result with given arguments.
 pub fn one_plug()
     ensures { (args : List Tree) (r s t : Tree) → Plug args r s → Plug args r t → s ≡ t }
+{}
+
+/// A replacement without argument dots has no result but itself.
+pub fn plug_without_dots()
+    ensures { (args : List Tree) (e t : Tree) → Plug args e t → has_dots e ≡ false → t ≡ e }
+{}
+
+/// A replacement without argument dots is its own result.
+pub fn plug_is_itself()
+    ensures { (args : List Tree) (e : Tree) → has_dots e ≡ false → Plug args e e }
+{}
+
+/// What is put at a path is there, and a tree with its own subtree put there is the same. With another tree of the same sort it is
+/// as well made as before, and of the same sort as before.
+pub fn put_is_there()
+    ensures there { (e : Tree) (path : List ℕ) (s new : Tree) → subtree e path ≡ Some s → subtree (put_at e path new) path ≡ Some new }
+    ensures itself { (e : Tree) (path : List ℕ) (s : Tree) → subtree e path ≡ Some s → put_at e path s ≡ e }
+    ensures made { (e : Tree) (path : List ℕ) (s new : Tree) → WellMade e → WellMade new → subtree e path ≡ Some s → sort new ≡ sort s → WellMade (put_at e path new) }
+    ensures sort { (e : Tree) (path : List ℕ) (s new : Tree) → subtree e path ≡ Some s → sort new ≡ sort s → sort (put_at e path new) ≡ sort e }
+{}
+
+/// A formula in place of the one `_` of a tree, and an argument in place of the one argument dot, come to stand where these were
+/// put.
+pub fn put_is_filled()
+    ensures hole { (e : Tree) (path : List ℕ) (f : Tree) → has_hole e ≡ false → filled f (put_at e path (node Hole no_kids)) ≡ put_at e path f }
+    ensures dot { (e : Tree) (path : List ℕ) (a t : Tree) → has_dots e ≡ false → Plug (a ∷ []) (put_at e path (node (Dot 0) no_kids)) t → t ≡ put_at e path a }
+{}
+
+/// A path that leads on from a subtree leads to the subtree of that one, and what is put there is put into that one.
+pub fn paths_join()
+    ensures subtree { (e : Tree) (outer inner : List ℕ) (d : Tree) → subtree e outer ≡ Some d → subtree e (outer ++ inner) ≡ subtree d inner }
+    ensures put { (e : Tree) (outer inner : List ℕ) (d new : Tree) → subtree e outer ≡ Some d → put_at e (outer ++ inner) new ≡ put_at e outer (put_at d inner new) }
+    ensures way { (e : Tree) (outer inner : List ℕ) (s : Tree) → subtree e (outer ++ inner) ≡ Some s → (d : Tree) × (subtree e outer ≡ Some d) }
+{}
+
+/// A subtree is as well made as its tree, and no operator stands in it that doesn't in the tree.
+pub fn subtrees_keep()
+    ensures made { (e : Tree) (path : List ℕ) (s : Tree) → WellMade e → subtree e path ≡ Some s → WellMade s }
+    ensures lack { (test : TheOp → Bool) (e : Tree) (path : List ℕ) (s : Tree) → has test e ≡ false → subtree e path ≡ Some s → has test s ≡ false }
+{}
+
+/// At most one formula is the smallest round a subtree. One is, where the whole tree is a formula.
+pub fn one_innermost()
+    ensures one { (e : Tree) (path a b c d : List ℕ) (f g : Tree) → IsInnermost e path a b f → IsInnermost e path c d g → (a ≡ c) × (b ≡ d) × (f ≡ g) }
+    ensures some { (e : Tree) (path : List ℕ) (s : Tree) → sort e ≡ Formula → subtree e path ≡ Some s → (outer : List ℕ) × (inner : List ℕ) × (f : Tree) × IsInnermost e path outer inner f }
 {}
 
 /// Pairs are well formed, or there is a first bad one, with one reason against it.

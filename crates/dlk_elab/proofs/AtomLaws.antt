@@ -1,31 +1,26 @@
 -- An atom gives steps or has a fault, and one of these alone.
-use Rattle.std.proofs.Common.{◌≡◌, ◌≢◌, ℕ, ◌+◌, false, List, [], ◌∷◌, length, Option, refl, sym, ap, subst, ◌∙◌, ◌⊎◌, inl, inr}
-use Rattle.std.specs.List.{All}
-use Rattle.std.proofs.lemmas.Bool.{cases_Bool}
-use Rattle.std.proofs.lemmas.List.Elements.{All-nil, All-cons, All-head}
+use Rattle.std.proofs.Common.{◌≡◌, ℕ, List, ◌++◌, length, sym, ap, subst}
 use Rattle.dlk_calculus.specs.declared.reason.Reason.{Reason}
-use Rattle.dlk_calculus.specs.declared.reason.Reason.TheVariants.{NotEqual}
+use Rattle.dlk_calculus.specs.Pairs.{Extra}
+use Rattle.dlk_calculus.specs.Paths.{IsInnermost}
 use Rattle.dlk_calculus.specs.Places.{At}
+use Rattle.dlk_tree.specs.Trees.{Tree}
 use Rattle.dlk_calculus.specs.Sequents.{Sequent}
 use Rattle.dlk_calculus.specs.Provables.{Provable}
-use Rattle.dlk_calculus.specs.Rules.{Rule, Arguments, OnePlace, TwoPlaces, PlaceAndFormula, OneFormula, PlaceAndName, word_of, arguments_of, AreProper}
-use Rattle.dlk_calculus.specs.Rules.{Close, CloseTrue, CloseFalse, NotL, NotR, AndL, AndR, OrL, OrR, ImplyL, ImplyR, EquivL, EquivR, Cut, CutL, CutR, HideL, HideR, CoHideR, ExchangeL, ExchangeR, SkolemL, SkolemR, BoundL, BoundR, EquivifyR, CommuteEquivL, CommuteEquivR}
-use Rattle.dlk_calculus.specs.Steps.{Step, Leaf, Apply, Merge, IsProper, Gives, IsGoal, Fault, StepOf}
+use Rattle.dlk_calculus.specs.Rules.{Rule, word_of, arguments_of}
+use Rattle.dlk_calculus.specs.Steps.{Step, Gives, IsGoal, Fault}
 use Rattle.dlk_rules.specs.declared.rule.RuleWord.{RuleWord}
-use Rattle.dlk_rules.specs.declared.rule.RuleWord.TheVariants as word
-use Rattle.dlk_rules.specs.declared.arguments.Side.{Side}
-use Rattle.dlk_rules.specs.Steps.{side_of}
 use Rattle.dlk_rules.specs.Words.{shape_of, text_of, wanted}
-use Rattle.dlk_tacsyn.specs.Tactics.{Atom, Argument, Word}
-use Rattle.dlk_tacsyn.specs.Rows.{is_bare, kinds_of, AreOfKinds, IsFitting}
+use Rattle.dlk_tacsyn.specs.Tactics.{Atom}
 use Rattle.dlk_kernel.specs.Taken.{Takes}
-use Rattle.dlk_elab.specs.Atoms.{AtomWhy, NoPlace, AtStep, AreFor, one_place, two_places, place_and_formula, one_formula, place_and_name, HasNoLocator, IsNamed, HasNames, HasGoalAt, Asked, Steps, Refused, Asks, nil, close, nothing_same, leaf, a_rule, elsewhere, AtomSteps, FirstFault, AtomFault, asks_none, not_taken}
+use Rattle.dlk_elab.specs.Atoms.{asked as by_asking}
+use Rattle.dlk_elab.specs.Atoms.{uses, Instance, instance_of, not_instantiated, not_used, AtomWhy, AtStep, Asked, Steps, Refused, Asks, AtomSteps, FirstFault, AtomFault, asks_none, not_taken}
+use Rattle.dlk_uses.specs.Uses.{Use, Finishes, proved}
+use Rattle.dlk_match.specs.Matching.{Match}
+use Rattle.dlk_elab.proofs.OneFinish.{finishes_one}
 use Rattle.dlk_elab.proofs.Places.{at_one}
-use Rattle.dlk_elab.proofs.TakenLaws.{takes_one, taken_or_fault, fault_one, all_or_fault}
+use Rattle.dlk_elab.proofs.TakenLaws.{takes_one, taken_or_fault, fault_one}
 use Rattle.dlk_elab.proofs.AskLaws.{asks_one}
-use Rattle.dlk_elab.proofs.Names.{Bare, is_nil, is_close, is_leaf, bare, Named, named_rule}
-use Rattle.dlk_elab.proofs.Fitting.{answers}
-use Rattle.dlk_elab.proofs.Decided.{same_decided}
 
 -- a fact has one sequent at a goal
 goal_one : (rows : List Provable) (fact goal : ℕ) (s t : Sequent) → IsGoal rows fact goal s → IsGoal rows fact goal t → s ≡ t
@@ -33,24 +28,90 @@ goal_one rows fact goal s t p q =
     let same : p.0 ≡ q.0 = at_one rows fact p.0 q.0 p.1 q.1 in
     at_one q.0.goals goal s t (subst (λ (r : Provable). At r.goals goal s) same p.2) q.2
 
+-- the parts of what uses an axiom
+pub same_instance : (u v : Use) (x y : Extra) (e f : Tree) → Instance u x e ≡ Instance v y f → (u ≡ v) × (x ≡ y) × (e ≡ f)
+same_instance u v x y e f h = (cc, cc, cc)
+
+-- behind an instance: the rows so far, the goal, the use and the formula
+record Behind : Type 0 where
+  between : List Provable
+  s : Sequent
+  used : Use
+  e : Tree
+
+abbrev FinishesFrom : ℕ → ℕ → List Step → Behind → Type 0
+FinishesFrom fact goal rest b = Finishes (length b.between) (record { fact = fact; goal = goal; s = b.s }) b.used b.e (proved b.between) rest
+
 module _ (one_provable : (rows : List Provable) (step : Step) (p q : Provable) → Gives rows step p → Gives rows step q → p ≡ q)
     (once : (rows : List Provable) (step : Step) (why other : Reason) → Fault rows step why → Fault rows step other → why ≡ other)
     (one_rule : (r s : Rule) → word_of r ≡ word_of s → arguments_of r ≡ arguments_of s → r ≡ s)
-    (one_shape : (w : RuleWord) (rule : Rule) → word_of rule ≡ text_of w → shape_of (arguments_of rule) ≡ wanted w) where
+    (one_shape : (w : RuleWord) (rule : Rule) → word_of rule ≡ text_of w → shape_of (arguments_of rule) ≡ wanted w)
+    (one_match : (key : Tree) (own : List (List ℕ)) (e : Tree) (given a b : Extra) → Match key own e given a → Match key own e given b → a ≡ b)
+    (one_innermost : (e : Tree) (path a b c d : List ℕ) (f g : Tree) → IsInnermost e path a b f → IsInnermost e path c d g → (a ≡ c) × (b ≡ d) × (f ≡ g)) where
   -- on a goal an atom asks for one thing
   asked_one : (rows : List Provable) (fact goal : ℕ) (atom : Atom) (s t : Sequent) (x y : Asked) → IsGoal rows fact goal s → IsGoal rows fact goal t →
       Asks (length rows) fact goal s atom x → Asks (length rows) fact goal t atom y → x ≡ y
   asked_one rows fact goal atom s t x y p q a b =
-      asks_one one_rule one_shape (length rows) fact goal t atom x y (subst (λ u. Asks (length rows) fact goal u atom x) (goal_one rows fact goal s t p q) a) b
+      asks_one one_rule one_shape (length rows) fact goal t atom one_match x y
+      (subst (λ u. Asks (length rows) fact goal u atom x) (goal_one rows fact goal s t p q) a) b
 
   same_steps : (a b : List Step) → Steps a ≡ Steps b → a ≡ b
   same_steps a b e = cc
 
+  -- what two instances that an atom asks for have in common
+  record SameInstance (rows : List Provable) (s t : Sequent) (u v : Use) (x y : Extra) (e f : Tree) : Type 0 where
+    goal : s ≡ t
+    used : u ≡ v
+    formula : e ≡ f
+    steps : instance_of (length rows) u x ≡ instance_of (length rows) v y
+
+  instance_one : (rows : List Provable) (fact goal : ℕ) (atom : Atom) (s t : Sequent) (u v : Use) (x y : Extra) (e f : Tree) → IsGoal rows fact goal s →
+      IsGoal rows fact goal t → Asks (length rows) fact goal s atom (Instance u x e) → Asks (length rows) fact goal t atom (Instance v y f) →
+      SameInstance rows s t u v x y e f
+  instance_one rows fact goal atom s t u v x y e f p q a b =
+      let h = same_instance u v x y e f (asked_one rows fact goal atom s t (Instance u x e) (Instance v y f) p q a b) in
+      record {
+        goal = goal_one rows fact goal s t p q;
+        used = h.0;
+        formula = h.2;
+        steps = λ i. instance_of (length rows) (h.0 i) (h.1 i);
+      }
+
+  -- two ways to go on behind instances of an axiom are one
+  record SameRest (between other : List Provable) (rest more : List Step) : Type 0 where
+    between_is : between ≡ other
+    rest_is : rest ≡ more
+
+  rest_one : (rows : List Provable) (fact goal : ℕ) (s t : Sequent) (u v : Use) (x y : Extra) (e f : Tree) (between other : List Provable) (rest more : List Step) →
+      SameInstance rows s t u v x y e f → Takes rows (instance_of (length rows) u x) between → Takes rows (instance_of (length rows) v y) other →
+      FinishesFrom fact goal rest (record { between = between; s = s; used = u; e = e }) →
+      FinishesFrom fact goal more (record { between = other; s = t; used = v; e = f }) → SameRest between other rest more
+  rest_one rows fact goal s t u v x y e f between other rest more same first second a b =
+      let m : between ≡ other = takes_one one_provable rows between other (instance_of (length rows) v y) (subst (λ xs. Takes rows xs between) same.steps first) second in
+      let there : FinishesFrom fact goal rest (record { between = other; s = t; used = v; e = f }) =
+      subst (FinishesFrom fact goal rest) (λ i. record { between = m i; s = same.goal i; used = same.used i; e = same.formula i }) a in
+      record {
+        between_is = m;
+        rest_is = finishes_one one_innermost (length other) (record { fact = fact; goal = goal; s = t }) v f (proved other) rest more there b;
+      }
+
   pub one_steps : (rows : List Provable) (fact goal : ℕ) (atom : Atom) (s t : List Step) (a b : List Provable) → AtomSteps rows fact goal atom s a →
       AtomSteps rows fact goal atom t b → (s ≡ t) × (a ≡ b)
-  one_steps rows fact goal atom s t a b f g =
-      let e = same_steps s t (asked_one rows fact goal atom f.s g.s (Steps s) (Steps t) f.is_goal g.is_goal f.asks g.asks) in
-      (e, takes_one one_provable rows a b t (subst (λ x. Takes rows x a) e f.takes) g.takes)
+  one_steps rows fact goal atom _ _ a b (by_asking {steps} s p x taken) (by_asking {steps = more} t q y also) =
+      let e = same_steps steps more (asked_one rows fact goal atom s t (Steps steps) (Steps more) p q x y) in
+      (e, takes_one one_provable rows a b more (subst (λ xs. Takes rows xs a) e taken) also)
+  one_steps rows fact goal atom _ _ a b (by_asking {steps} s p x taken) (uses t v y f other more q z first finishes then_on) =
+      let e = asked_one rows fact goal atom s t (Steps steps) (Instance v y f) p q x z in absurd (cc e)
+  one_steps rows fact goal atom _ _ a b (uses s u x e between rest p z first finishes then_on) (by_asking {steps} t q y taken) =
+      let h = asked_one rows fact goal atom s t (Instance u x e) (Steps steps) p q z y in absurd (cc h)
+  one_steps rows fact goal atom _ _ a b (uses s u x e between rest p z first finishes then_on) (uses t v y f other more q w second ends also) =
+      let same = instance_one rows fact goal atom s t u v x y e f p q z w in
+      let r = rest_one rows fact goal s t u v x y e f between other rest more same first second finishes ends in
+      let steps = same.steps in
+      let rests = r.rest_is in (
+        λ i. steps i ++ rests i,
+        takes_one one_provable other a b more (subst (λ xs. Takes other xs a) r.rest_is (subst (λ (l : List Provable). Takes l rest a) r.between_is then_on)) also,
+      )
 
   pub one_fault : (rows : List Provable) (fact goal : ℕ) (atom : Atom) (why other : AtomWhy) → AtomFault rows fact goal atom why →
       AtomFault rows fact goal atom other → why ≡ other
@@ -58,138 +119,62 @@ module _ (one_provable : (rows : List Provable) (step : Step) (p q : Provable) �
       let e = asked_one rows fact goal atom s t (Refused why) (Refused other) p q a b in cc
   one_fault rows fact goal atom why _ (asks_none s p a) (not_taken t steps q b f) =
       let e = asked_one rows fact goal atom s t (Refused why) (Steps steps) p q a b in absurd (cc e)
+  one_fault rows fact goal atom why _ (asks_none s p a) (not_instantiated t v y f q b h) =
+      let e = asked_one rows fact goal atom s t (Refused why) (Instance v y f) p q a b in absurd (cc e)
+  one_fault rows fact goal atom why _ (asks_none s p a) (not_used t v y f other more q b first ends h) =
+      let e = asked_one rows fact goal atom s t (Refused why) (Instance v y f) p q a b in absurd (cc e)
   one_fault rows fact goal atom _ other (not_taken s steps p a f) (asks_none t q b) =
       let e = asked_one rows fact goal atom s t (Steps steps) (Refused other) p q a b in absurd (cc e)
   one_fault rows fact goal atom _ _ (not_taken {why} s steps p a f) (not_taken {why = other} t more q b g) =
       let e = same_steps steps more (asked_one rows fact goal atom s t (Steps steps) (Steps more) p q a b) in
       ap AtStep (fault_one one_provable once rows more why other (subst (λ x. FirstFault rows x why) e f) g)
+  one_fault rows fact goal atom _ _ (not_taken s steps p a f) (not_instantiated t v y g q b h) =
+      let e = asked_one rows fact goal atom s t (Steps steps) (Instance v y g) p q a b in absurd (cc e)
+  one_fault rows fact goal atom _ _ (not_taken s steps p a f) (not_used t v y g other more q b first ends h) =
+      let e = asked_one rows fact goal atom s t (Steps steps) (Instance v y g) p q a b in absurd (cc e)
+  one_fault rows fact goal atom _ other (not_instantiated s u x e p a h) (asks_none t q b) =
+      let k = asked_one rows fact goal atom s t (Instance u x e) (Refused other) p q a b in absurd (cc k)
+  one_fault rows fact goal atom _ _ (not_instantiated s u x e p a h) (not_taken t steps q b f) =
+      let k = asked_one rows fact goal atom s t (Instance u x e) (Steps steps) p q a b in absurd (cc k)
+  one_fault rows fact goal atom _ _ (not_instantiated {why} s u x e p a h) (not_instantiated {why = other} t v y f q b g) =
+      let same = instance_one rows fact goal atom s t u v x y e f p q a b in
+      ap AtStep (fault_one one_provable once rows (instance_of (length rows) v y) why other (subst (λ xs. FirstFault rows xs why) same.steps h) g)
+  one_fault rows fact goal atom _ _ (not_instantiated {why} s u x e p a h) (not_used t v y f other more q b first ends g) =
+      let same = instance_one rows fact goal atom s t u v x y e f p q a b in
+      absurd (taken_or_fault one_provable rows other (instance_of (length rows) v y) why first (subst (λ xs. FirstFault rows xs why) same.steps h))
+  one_fault rows fact goal atom _ other (not_used s u x e between rest p a first finishes h) (asks_none t q b) =
+      let k = asked_one rows fact goal atom s t (Instance u x e) (Refused other) p q a b in absurd (cc k)
+  one_fault rows fact goal atom _ _ (not_used s u x e between rest p a first finishes h) (not_taken t steps q b f) =
+      let k = asked_one rows fact goal atom s t (Instance u x e) (Steps steps) p q a b in absurd (cc k)
+  one_fault rows fact goal atom _ _ (not_used s u x e between rest p a first finishes h) (not_instantiated {why} t v y f q b g) =
+      let same = instance_one rows fact goal atom s t u v x y e f p q a b in
+      absurd (taken_or_fault one_provable rows between (instance_of (length rows) v y) why (subst (λ xs. Takes rows xs between) same.steps first) g)
+  one_fault rows fact goal atom _ _ (not_used {why} s u x e between rest p a first finishes h) (not_used {why = last} t v y f other more q b second ends g) =
+      let same = instance_one rows fact goal atom s t u v x y e f p q a b in
+      let r = rest_one rows fact goal s t u v x y e f between other rest more same first second finishes ends in
+      ap AtStep (fault_one one_provable once other more why last
+      (subst (λ xs. FirstFault other xs why) r.rest_is (subst (λ (l : List Provable). FirstFault l rest why) r.between_is h)) g)
 
   pub not_both : (rows : List Provable) (fact goal : ℕ) (atom : Atom) (s : List Step) (a : List Provable) (why : AtomWhy) → AtomSteps rows fact goal atom s a →
       AtomFault rows fact goal atom why → ⊥
-  not_both rows fact goal atom s a why made (asks_none t q b) =
-      let e = asked_one rows fact goal atom made.s t (Steps s) (Refused why) made.is_goal q made.asks b in cc
-  not_both rows fact goal atom s a _ made (not_taken {why} t steps q b f) =
-      let e = same_steps s steps (asked_one rows fact goal atom made.s t (Steps s) (Steps steps) made.is_goal q made.asks b) in
-      taken_or_fault one_provable rows a s why made.takes (subst (λ x. FirstFault rows x why) (sym e) f)
-
--- a rule with the word and these arguments, which have its shape
-record Made (w : RuleWord) (a : Arguments) : Type 0 where
-  rule : Rule
-  word_is : word_of rule ≡ text_of w
-  arguments_are : arguments_of rule ≡ a
-
-by_shape : (w : RuleWord) (a : Arguments) → wanted w ≡ shape_of a → Made w a
-by_shape word.Close (TwoPlaces i k) e = record { rule = Close i k; word_is = refl; arguments_are = refl }
-by_shape word.CloseTrue (OnePlace i) e = record { rule = CloseTrue i; word_is = refl; arguments_are = refl }
-by_shape word.CloseFalse (OnePlace i) e = record { rule = CloseFalse i; word_is = refl; arguments_are = refl }
-by_shape word.NotL (OnePlace i) e = record { rule = NotL i; word_is = refl; arguments_are = refl }
-by_shape word.NotR (OnePlace i) e = record { rule = NotR i; word_is = refl; arguments_are = refl }
-by_shape word.AndL (OnePlace i) e = record { rule = AndL i; word_is = refl; arguments_are = refl }
-by_shape word.AndR (OnePlace i) e = record { rule = AndR i; word_is = refl; arguments_are = refl }
-by_shape word.OrL (OnePlace i) e = record { rule = OrL i; word_is = refl; arguments_are = refl }
-by_shape word.OrR (OnePlace i) e = record { rule = OrR i; word_is = refl; arguments_are = refl }
-by_shape word.ImplyL (OnePlace i) e = record { rule = ImplyL i; word_is = refl; arguments_are = refl }
-by_shape word.ImplyR (OnePlace i) e = record { rule = ImplyR i; word_is = refl; arguments_are = refl }
-by_shape word.EquivL (OnePlace i) e = record { rule = EquivL i; word_is = refl; arguments_are = refl }
-by_shape word.EquivR (OnePlace i) e = record { rule = EquivR i; word_is = refl; arguments_are = refl }
-by_shape word.Cut (OneFormula h) e = record { rule = Cut h; word_is = refl; arguments_are = refl }
-by_shape word.CutL (PlaceAndFormula i h) e = record { rule = CutL i h; word_is = refl; arguments_are = refl }
-by_shape word.CutR (PlaceAndFormula i h) e = record { rule = CutR i h; word_is = refl; arguments_are = refl }
-by_shape word.HideL (OnePlace i) e = record { rule = HideL i; word_is = refl; arguments_are = refl }
-by_shape word.HideR (OnePlace i) e = record { rule = HideR i; word_is = refl; arguments_are = refl }
-by_shape word.CoHideR (OnePlace i) e = record { rule = CoHideR i; word_is = refl; arguments_are = refl }
-by_shape word.ExchangeL (TwoPlaces i k) e = record { rule = ExchangeL i k; word_is = refl; arguments_are = refl }
-by_shape word.ExchangeR (TwoPlaces i k) e = record { rule = ExchangeR i k; word_is = refl; arguments_are = refl }
-by_shape word.SkolemL (OnePlace i) e = record { rule = SkolemL i; word_is = refl; arguments_are = refl }
-by_shape word.SkolemR (OnePlace i) e = record { rule = SkolemR i; word_is = refl; arguments_are = refl }
-by_shape word.BoundL (PlaceAndName i y) e = record { rule = BoundL i y; word_is = refl; arguments_are = refl }
-by_shape word.BoundR (PlaceAndName i y) e = record { rule = BoundR i y; word_is = refl; arguments_are = refl }
-by_shape word.EquivifyR (OnePlace i) e = record { rule = EquivifyR i; word_is = refl; arguments_are = refl }
-by_shape word.CommuteEquivL (OnePlace i) e = record { rule = CommuteEquivL i; word_is = refl; arguments_are = refl }
-by_shape word.CommuteEquivR (OnePlace i) e = record { rule = CommuteEquivR i; word_is = refl; arguments_are = refl }
-by_shape _ _ e = absurd (cc e)
-
--- names among the arguments of an atom are those of the rule
-proper_for : (side : Option Side) (given : List Argument) (a : Arguments) → All IsNamed given → AreFor side given a → AreProper a
-proper_for side _ _ names (one_place h) = tt
-proper_for side _ _ names (two_places h j) = tt
-proper_for side _ _ names (place_and_formula t h) = tt
-proper_for side _ _ names (one_formula t) = tt
-proper_for side _ _ names (place_and_name {a} y h) = All-head IsNamed (Word y) (a ∷ []) names
-
--- proper steps, where it asks for any
-abbrev AreProperSteps : Asked → Type 0
-AreProperSteps (Steps steps) = All IsProper steps
-AreProperSteps (Refused why) = Unit {0}
-
--- what is asked for
-record Wants (rows fact goal : ℕ) (s : Sequent) (atom : Atom) : Type 0 where
-  asked : Asked
-  asks : Asks rows fact goal s atom asked
-  proper : AreProperSteps asked
-
-alone : (step : Step) → IsProper step → All IsProper (step ∷ [])
-alone step h = All-cons IsProper step [] h (All-nil IsProper)
-
-module _ (rows fact goal : ℕ) (s : Sequent) (atom : Atom) where
-  wants_bare : Bare atom.name → Wants rows fact goal s atom
-  wants_bare (is_nil name) = record { asked = Steps []; asks = nil name; proper = All-nil IsProper }
-  wants_bare (is_close name) =
-      elim (same_decided s) [
-        | inl found ↦ record {
-          asked = Steps (Apply fact goal (Close found.0 found.1) ∷ []);
-          asks = close name found.2;
-          proper = alone (Apply fact goal (Close found.0 found.1)) tt;
-        }
-        | inr none ↦ record { asked = Refused (AtStep NotEqual); asks = nothing_same name none; proper = tt }
-      ]
-  wants_bare (is_leaf name) = record {
-    asked = Steps (Leaf s ∷ Merge fact goal (rows + 1) ∷ []);
-    asks = leaf name;
-    proper = All-cons IsProper (Leaf s) (Merge fact goal (rows + 1) ∷ []) tt (alone (Merge fact goal (rows + 1)) tt);
-  }
-
-  wants_rule : (w : RuleWord) → text_of w ≡ atom.name → w ≢ word.Close → AreOfKinds (kinds_of (wanted w)) atom.arguments → HasNoLocator atom → HasNames atom →
-      Wants rows fact goal s atom
-  wants_rule w name other kinds fixed names =
-      elim (answers w atom.arguments other kinds fixed) [
-        | inl said ↦
-            let made = by_shape w said.arguments (sym said.shape_is) in
-            let for : AreFor (side_of w) atom.arguments (arguments_of made.rule) = subst (AreFor (side_of w) atom.arguments) (sym made.arguments_are)
-            said.for in
-            record {
-              asked = Steps (Apply fact goal made.rule ∷ []);
-              asks = a_rule w made.rule (sym name) made.word_is for;
-              proper = alone (Apply fact goal made.rule) (proper_for (side_of w) atom.arguments (arguments_of made.rule) names for);
-            }
-        | inr one ↦ record { asked = Refused NoPlace; asks = elsewhere w one.side (sym name) one.side_is one.one; proper = tt }
-      ]
-
-  not_close : (w : RuleWord) → text_of w ≡ atom.name → is_bare atom.name ≡ false → w ≢ word.Close
-  not_close w name other e =
-      let f : is_bare (text_of word.Close) ≡ false = subst (λ n. is_bare n ≡ false) (sym name ∙ ap text_of e) other in cc
-
-  wants : IsFitting atom → HasNoLocator atom → HasNames atom → Wants rows fact goal s atom
-  wants fitting fixed names =
-      elim (cases_Bool (is_bare atom.name)) [
-        | inl b ↦ wants_bare (bare atom.name b)
-        | inr other ↦
-            let n : Named atom.name fitting.kinds = named_rule atom.name fitting.kinds other fitting.row in
-            wants_rule n.word n.text (not_close n.word n.text other) (subst (λ k. AreOfKinds k atom.arguments) n.wants fitting.arguments) fixed names
-      ]
-
--- an atom gives steps, or has a fault
-pub some_atom : ((rows : List Provable) (step : Step) → IsProper step → ((p : Provable) × StepOf rows step p) ⊎ ((why : Reason) × Fault rows step why)) →
-    (rows : List Provable) (fact goal : ℕ) (atom : Atom) → HasGoalAt rows fact goal → IsFitting atom → HasNoLocator atom → HasNames atom →
-    ((s : List Step) × (a : List Provable) × AtomSteps rows fact goal atom s a) ⊎ ((why : AtomWhy) × AtomFault rows fact goal atom why)
-some_atom decide rows fact goal atom there fitting fixed names =
-    let w = wants (length rows) fact goal there.0 atom fitting fixed names in decided w.asked w.asks w.proper
-  where
-    decided : (asked : Asked) → Asks (length rows) fact goal there.0 atom asked → AreProperSteps asked →
-        ((s : List Step) × (a : List Provable) × AtomSteps rows fact goal atom s a) ⊎ ((why : AtomWhy) × AtomFault rows fact goal atom why)
-    decided (Steps steps) asks proper =
-        elim (all_or_fault decide rows steps proper) [
-          | inl taken ↦ inl (steps, taken.0, record { s = there.0; is_goal = there.1; asks = asks; takes = taken.1 })
-          | inr fault ↦ inr (AtStep fault.0, not_taken there.0 steps there.1 asks fault.1)
-        ]
-    decided (Refused why) asks proper = inr (why, asks_none there.0 there.1 asks)
+  not_both rows fact goal atom _ a why (by_asking {steps} s p x taken) (asks_none t q b) =
+      let e = asked_one rows fact goal atom s t (Steps steps) (Refused why) p q x b in cc
+  not_both rows fact goal atom _ a _ (by_asking {steps} s p x taken) (not_taken {why} t more q b f) =
+      let e = same_steps steps more (asked_one rows fact goal atom s t (Steps steps) (Steps more) p q x b) in
+      taken_or_fault one_provable rows a steps why taken (subst (λ xs. FirstFault rows xs why) (sym e) f)
+  not_both rows fact goal atom _ a _ (by_asking {steps} s p x taken) (not_instantiated t v y f q b h) =
+      let e = asked_one rows fact goal atom s t (Steps steps) (Instance v y f) p q x b in cc
+  not_both rows fact goal atom _ a _ (by_asking {steps} s p x taken) (not_used t v y f other more q b first ends h) =
+      let e = asked_one rows fact goal atom s t (Steps steps) (Instance v y f) p q x b in cc
+  not_both rows fact goal atom _ a why (uses s u x e between rest p z first finishes then_on) (asks_none t q b) =
+      let k = asked_one rows fact goal atom s t (Instance u x e) (Refused why) p q z b in cc
+  not_both rows fact goal atom _ a _ (uses s u x e between rest p z first finishes then_on) (not_taken t more q b f) =
+      let k = asked_one rows fact goal atom s t (Instance u x e) (Steps more) p q z b in cc
+  not_both rows fact goal atom _ a _ (uses s u x e between rest p z first finishes then_on) (not_instantiated {why} t v y f q b h) =
+      let same = instance_one rows fact goal atom s t u v x y e f p q z b in
+      taken_or_fault one_provable rows between (instance_of (length rows) v y) why (subst (λ xs. Takes rows xs between) same.steps first) h
+  not_both rows fact goal atom _ a _ (uses s u x e between rest p z first finishes then_on) (not_used {why} t v y f other more q b second ends h) =
+      let same = instance_one rows fact goal atom s t u v x y e f p q z b in
+      let r = rest_one rows fact goal s t u v x y e f between other rest more same first second finishes ends in
+      taken_or_fault one_provable other a more why
+      (subst (λ xs. Takes other xs a) r.rest_is (subst (λ (l : List Provable). Takes l rest a) r.between_is then_on)) h

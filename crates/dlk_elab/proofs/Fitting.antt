@@ -1,5 +1,5 @@
 -- What fitting arguments say: those of a rule, or a place elsewhere.
-use Rattle.std.proofs.Common.{◌≡◌, ◌≢◌, ℕ, List, [], ◌∷◌, Option, Some, refl, sym, subst, ◌⊎◌, inl, inr, arith}
+use Rattle.std.proofs.Common.{◌≡◌, ◌≢◌, ℕ, List, [], ◌∷◌, Option, Some, None, refl, sym, subst, ◌⊎◌, inl, inr, arith}
 use Rattle.std.specs.List.{All, Any}
 use Rattle.std.proofs.lemmas.List.Elements.{All-head, All-tail}
 use Rattle.dlk_calculus.specs.Rules.{Arguments, OnePlace, TwoPlaces, PlaceAndFormula, OneFormula, PlaceAndName}
@@ -14,7 +14,7 @@ use Rattle.dlk_rules.specs.declared.rule.RuleWord.TheVariants as word
 use Rattle.dlk_rules.specs.Steps.{side_of}
 use Rattle.dlk_rules.specs.Words.{shape_of, wanted}
 use Rattle.dlk_tacsyn.specs.declared.kind.Kind.TheVariants.{FixedPlace, AnyPlace}
-use Rattle.dlk_tacsyn.specs.Tactics.{Argument, AtPlace, AnyLeft, AnyRight, Word, GivenFormula, GivenTerm}
+use Rattle.dlk_tacsyn.specs.Tactics.{Argument, AtPlace, AnyLeft, AnyRight, Word, GivenFormula, GivenTerm, GivenExtra}
 use Rattle.dlk_tacsyn.specs.Rows.{kinds_of, IsOfKind, AreOfKinds}
 use Rattle.dlk_elab.specs.Atoms.{IsThere, IsElsewhere, further, across, AreFor, one_place, two_places, place_and_formula, one_formula, place_and_name, IsFixed}
 
@@ -35,6 +35,7 @@ any_place side AnyRight h fixed = absurd fixed
 any_place side (Word y) h fixed = absurd h
 any_place side (GivenFormula t) h fixed = absurd h
 any_place side (GivenTerm t) h fixed = absurd h
+any_place side (GivenExtra e) h fixed = absurd h
 
 fixed_place : (side : Side) (a : Argument) → IsOfKind FixedPlace a → Found side a
 fixed_place side (AtPlace p path) h = place_found side p path
@@ -43,6 +44,7 @@ fixed_place side AnyRight h = absurd h
 fixed_place side (Word y) h = absurd h
 fixed_place side (GivenFormula t) h = absurd h
 fixed_place side (GivenTerm t) h = absurd h
+fixed_place side (GivenExtra e) h = absurd h
 
 any_first : (P : Argument → Type 0) (a : Argument) (rest : List Argument) → P a → Any P (a ∷ rest)
 any_first P a rest h = (0, a, omega arith, refl, h)
@@ -59,7 +61,7 @@ pub record Said (s : Shape) (side : Option Side) (given : List Argument) : Type 
 abbrev Fits : Shape → Side → List Argument → Type 0
 Fits s side given = Said s (Some side) given ⊎ Any (IsElsewhere side) given
 
-formula_said : (side : Option Side) (given : List Argument) → AreOfKinds (kinds_of shape.OneFormula) given → Said shape.OneFormula side given
+formula_said : (side : Option Side) (given : List Argument) → AreOfKinds (kinds_of shape.OneFormula) None given → Said shape.OneFormula side given
 formula_said side [] h = absurd h
 formula_said side (GivenFormula t ∷ []) h = record { arguments = OneFormula t; shape_is = refl; for = one_formula t }
 formula_said side (AtPlace p path ∷ []) h = absurd h.0
@@ -67,9 +69,10 @@ formula_said side (AnyLeft ∷ []) h = absurd h.0
 formula_said side (AnyRight ∷ []) h = absurd h.0
 formula_said side (Word y ∷ []) h = absurd h.0
 formula_said side (GivenTerm t ∷ []) h = absurd h.0
+formula_said side (GivenExtra e ∷ []) h = absurd h.0
 formula_said side (a ∷ b ∷ rest) h = absurd h.1
 
-place_fits : (side : Side) (given : List Argument) → AreOfKinds (kinds_of shape.OnePlace) given → All IsFixed given → Fits shape.OnePlace side given
+place_fits : (side : Side) (given : List Argument) → AreOfKinds (kinds_of shape.OnePlace) None given → All IsFixed given → Fits shape.OnePlace side given
 place_fits side [] h fixed = absurd h
 place_fits side (a ∷ []) h fixed =
     elim (any_place side a h.0 (All-head IsFixed a [] fixed)) [
@@ -78,7 +81,7 @@ place_fits side (a ∷ []) h fixed =
     ]
 place_fits side (a ∷ b ∷ rest) h fixed = absurd h.1
 
-places_fit : (side : Side) (given : List Argument) → AreOfKinds (kinds_of shape.TwoPlaces) given → Fits shape.TwoPlaces side given
+places_fit : (side : Side) (given : List Argument) → AreOfKinds (kinds_of shape.TwoPlaces) None given → Fits shape.TwoPlaces side given
 places_fit side [] h = absurd h
 places_fit side (a ∷ []) h = absurd h.1
 places_fit side (a ∷ b ∷ []) h =
@@ -91,7 +94,7 @@ places_fit side (a ∷ b ∷ []) h =
     ]
 places_fit side (a ∷ b ∷ x ∷ rest) h = absurd h.1.1
 
-quoted_fits : (side : Side) (given : List Argument) → AreOfKinds (kinds_of shape.PlaceAndFormula) given → All IsFixed given →
+quoted_fits : (side : Side) (given : List Argument) → AreOfKinds (kinds_of shape.PlaceAndFormula) None given → All IsFixed given →
     Fits shape.PlaceAndFormula side given
 quoted_fits side [] h fixed = absurd h
 quoted_fits side (a ∷ []) h fixed = absurd h.1
@@ -105,9 +108,10 @@ quoted_fits side (AnyLeft ∷ b ∷ []) h fixed = absurd h.0
 quoted_fits side (AnyRight ∷ b ∷ []) h fixed = absurd h.0
 quoted_fits side (Word y ∷ b ∷ []) h fixed = absurd h.0
 quoted_fits side (GivenTerm t ∷ b ∷ []) h fixed = absurd h.0
+quoted_fits side (GivenExtra e ∷ b ∷ []) h fixed = absurd h.0
 quoted_fits side (a ∷ b ∷ x ∷ rest) h fixed = absurd h.1.1
 
-name_fits : (side : Side) (given : List Argument) → AreOfKinds (kinds_of shape.PlaceAndName) given → All IsFixed given → Fits shape.PlaceAndName side given
+name_fits : (side : Side) (given : List Argument) → AreOfKinds (kinds_of shape.PlaceAndName) None given → All IsFixed given → Fits shape.PlaceAndName side given
 name_fits side [] h fixed = absurd h
 name_fits side (a ∷ []) h fixed = absurd h.1
 name_fits side (Word y ∷ b ∷ []) h fixed =
@@ -120,9 +124,10 @@ name_fits side (AnyLeft ∷ b ∷ []) h fixed = absurd h.0
 name_fits side (AnyRight ∷ b ∷ []) h fixed = absurd h.0
 name_fits side (GivenFormula t ∷ b ∷ []) h fixed = absurd h.0
 name_fits side (GivenTerm t ∷ b ∷ []) h fixed = absurd h.0
+name_fits side (GivenExtra e ∷ b ∷ []) h fixed = absurd h.0
 name_fits side (a ∷ b ∷ x ∷ rest) h fixed = absurd h.1.1
 
-fits : (s : Shape) (side : Side) (given : List Argument) → AreOfKinds (kinds_of s) given → All IsFixed given → Fits s side given
+fits : (s : Shape) (side : Side) (given : List Argument) → AreOfKinds (kinds_of s) None given → All IsFixed given → Fits s side given
 fits shape.OnePlace side given h fixed = place_fits side given h fixed
 fits shape.TwoPlaces side given h fixed = places_fit side given h
 fits shape.PlaceAndFormula side given h fixed = quoted_fits side given h fixed
@@ -161,11 +166,11 @@ sided word.BoundL = on_side Left refl
 sided word.CommuteEquivL = on_side Left refl
 sided _ = on_side Right refl
 
-pub answers : (w : RuleWord) (given : List Argument) → w ≢ word.Close → AreOfKinds (kinds_of (wanted w)) given → All IsFixed given → Answers w given
+pub answers : (w : RuleWord) (given : List Argument) → w ≢ word.Close → AreOfKinds (kinds_of (wanted w)) None given → All IsFixed given → Answers w given
 answers w given other h fixed =
     elim (sided w) [
       | is_close e ↦ absurd (other e)
-      | no_place e ↦ inl (subst (λ s. Said s (side_of w) given) (sym e) (formula_said (side_of w) given (subst (λ s. AreOfKinds (kinds_of s) given) e h)))
+      | no_place e ↦ inl (subst (λ s. Said s (side_of w) given) (sym e) (formula_said (side_of w) given (subst (λ s. AreOfKinds (kinds_of s) None given) e h)))
       | on_side side e ↦ elim (fits (wanted w) side given h fixed) [
         | inl said ↦ inl (subst (λ s. Said (wanted w) s given) (sym e) said)
         | inr one ↦ inr (record { side = side; side_is = e; one = one })

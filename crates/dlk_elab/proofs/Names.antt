@@ -15,8 +15,8 @@ use Rattle.dlk_rules.specs.Words.{text_made, text_of, wanted, named}
 use Rattle.dlk_calculus.specs.Notation.{leaf}
 use Rattle.dlk_tree.specs.declared.op.Op.TheVariants.{True}
 use Rattle.dlk_rules.proofs.WordLaws.{word_named, found_word}
-use Rattle.dlk_tacsyn.specs.declared.kind.Kind.{Kind}
-use Rattle.dlk_tacsyn.specs.Rows.{kinds_of, is_bare, row_of}
+use Rattle.dlk_tacsyn.specs.Rows.{Row, wants, kinds_of, is_bare, is_use, row_of}
+use Rattle.dlk_elab.specs.Calls.{IsPlain}
 
 named_text : (name : List ℕ) (w : RuleWord) → named name ≡ Some w → text_of w ≡ name
 named_text name w e = found_word name (Some w) (sym e)
@@ -29,31 +29,36 @@ rule_made (WantsPlaceAndFormula make) = (make 0 (leaf True), refl)
 rule_made (WantsFormula make) = (make (leaf True), refl)
 rule_made (WantsPlaceAndName make) = (make 0 [], refl)
 
--- the word that names an atom that has arguments
-pub record Named (name : List ℕ) (kinds : List Kind) : Type 0 where
+-- the word that names an atom for a rule with arguments
+pub record Named (name : List ℕ) (row : Row) : Type 0 where
   pub word : RuleWord
   pub text : text_of word ≡ name
-  pub wants : kinds ≡ kinds_of (wanted word)
+  pub wants : row ≡ wants (kinds_of (wanted word))
 
-from_word : (name : List ℕ) (kinds : List Kind) (w : Option RuleWord) → named name ≡ w → option_map (λ v. kinds_of (wanted v)) w ≡ Some kinds → Named name kinds
-from_word name kinds None found e = absurd (none-some kinds e)
-from_word name kinds (Some w) found e = record { word = w; text = named_text name w found; wants = sym (same_Some _ _ e) }
+from_word : (name : List ℕ) (row : Row) (w : Option RuleWord) → named name ≡ w → option_map (λ v. wants (kinds_of (wanted v))) w ≡ Some row → Named name row
+from_word name row None found e = absurd (none-some row e)
+from_word name row (Some w) found e = record { word = w; text = named_text name w found; wants = sym (same_Some _ _ e) }
 
-pub named_rule : (name : List ℕ) (kinds : List Kind) → is_bare name ≡ false → row_of name ≡ Some kinds → Named name kinds
+-- what a name that is none of the others wants, it wants as a rule's
+rule_row : (name : List ℕ) → is_bare name ≡ false → IsPlain name → row_of name ≡ option_map (λ v. wants (kinds_of (wanted v))) (named name)
 unfolding row_of
-named_rule name kinds bare row =
-    from_word name kinds (named name) refl (sym (cond-false (is_bare name) (Some []) (option_map (λ v. kinds_of (wanted v)) (named name)) bare) ∙ row)
+rule_row name bare plain =
+    cond-false (is_bare name) _ _ bare ∙ cond-false (bytes_eq name (codes "G")) _ _ plain.no_generalize
+    ∙ cond-false (bytes_eq name (codes "boxCut")) _ _ plain.no_cut ∙ cond-false (is_use name) _ _ plain.no_use
+
+pub named_rule : (name : List ℕ) (row : Row) → is_bare name ≡ false → IsPlain name → row_of name ≡ Some row → Named name row
+named_rule name row bare plain h = from_word name row (named name) refl (sym (rule_row name bare plain) ∙ h)
 
 -- the arguments of a rule's atom are those that its word wants
-pub row_of_word : (w : RuleWord) (kinds : List Kind) → is_bare (text_of w) ≡ false → row_of (text_of w) ≡ Some kinds → kinds ≡ kinds_of (wanted w)
-unfolding row_of
-row_of_word w kinds bare row =
-    sym (same_Some _ _ (sym (ap (option_map (λ v. kinds_of (wanted v))) (word_named w)) ∙ sym (cond-false (is_bare (text_of w)) (Some []) _ bare) ∙ row))
+pub row_of_word : (w : RuleWord) (row : Row) → is_bare (text_of w) ≡ false → IsPlain (text_of w) → row_of (text_of w) ≡ Some row →
+    row ≡ wants (kinds_of (wanted w))
+row_of_word w row bare plain h =
+    sym (same_Some _ _ (sym (ap (option_map (λ v. wants (kinds_of (wanted v)))) (word_named w)) ∙ sym (rule_row (text_of w) bare plain) ∙ h))
 
 -- a name of which no rule has the word is bare
-pub no_rule : (name : List ℕ) (kinds : List Kind) → is_bare name ≡ false → row_of name ≡ Some kinds → ((rule : Rule) → word_of rule ≢ name) → ⊥
-no_rule name kinds bare row none =
-    let n : Named name kinds = named_rule name kinds bare row in
+pub no_rule : (name : List ℕ) (row : Row) → is_bare name ≡ false → IsPlain name → row_of name ≡ Some row → ((rule : Rule) → word_of rule ≢ name) → ⊥
+no_rule name row bare plain h none =
+    let n : Named name row = named_rule name row bare plain h in
     let made = rule_made (template n.word) in
     none made.0 (made.1 ∙ n.text)
 
@@ -100,11 +105,11 @@ bare_ascii name (is_nil e) = subst (λ t. IsTrue (list_all is_low t)) (sym e) re
 bare_ascii name (is_close e) = subst (λ t. IsTrue (list_all is_low t)) (sym e) refl
 bare_ascii name (is_leaf e) = subst (λ t. IsTrue (list_all is_low t)) (sym e) refl
 
-pub name_utf8 : (name : List ℕ) (kinds : List Kind) → row_of name ≡ Some kinds → IsUtf8 name
-name_utf8 name kinds row = IsUtf8-from_ascii name (ascii name
+pub name_utf8 : (name : List ℕ) (row : Row) → IsPlain name → row_of name ≡ Some row → IsUtf8 name
+name_utf8 name row plain h = IsUtf8-from_ascii name (ascii name
     (elim (cases_Bool (is_bare name)) [
       | inl b ↦ bare_ascii name (bare name b)
-      | inr other ↦ let n : Named name kinds = named_rule name kinds other row in subst (λ t. IsTrue (list_all is_low t)) n.text (text_ascii n.word)
+      | inr other ↦ let n : Named name row = named_rule name row other plain h in subst (λ t. IsTrue (list_all is_low t)) n.text (text_ascii n.word)
     ]))
 
 -- a name by a test of its text

@@ -1,15 +1,18 @@
 -- What an atom leaves of the last row.
-use Rattle.std.proofs.Common.{◌≡◌, ℕ, ◌+◌, ◌-◌, List, [], ◌∷◌, ◌++◌, length, take, drop, refl, sym, ap, subst, ◌∙◌, arith, length-append, append_assoc}
-use Rattle.std.proofs.lemmas.List.{length-take-le, length-drop}
+use Rattle.std.proofs.Common.{◌≡◌, ℕ, ◌+◌, ◌-◌, List, [], ◌∷◌, ◌++◌, length, take, drop, refl, sym, ap, subst, ◌∙◌, length-append, append_assoc}
 use Rattle.dlk_calculus.specs.Places.{At, IsPlace, put_all}
 use Rattle.dlk_calculus.specs.Sequents.{Sequent}
 use Rattle.dlk_calculus.specs.Provables.{Provable}
 use Rattle.dlk_calculus.specs.Rules.{Rule, Close}
-use Rattle.dlk_calculus.specs.Steps.{Step, Leaf, Apply, Merge, Gives}
+use Rattle.dlk_calculus.specs.Steps.{Step, Leaf, Apply, Merge, Gives, IsGoal}
 use Rattle.dlk_calculus.specs.Steps.{apply as by_apply, merge as by_merge}
 use Rattle.dlk_tacsyn.specs.Tactics.{Atom}
 use Rattle.dlk_kernel.specs.Taken.{Takes}
-use Rattle.dlk_elab.specs.Atoms.{Asked, Steps, Asks, nil, close, leaf, a_rule, AtomSteps, Replaces}
+use Rattle.dlk_elab.specs.Atoms.{Asked, Steps, Asks, nil, close, leaf, a_rule, generalize, cut_box, AtomSteps, uses, instance_of, Replaces}
+use Rattle.dlk_elab.specs.Atoms.{asked as by_asking}
+use Rattle.dlk_uses.specs.Uses.{generalizing, cutting_box, proved}
+use Rattle.dlk_elab.proofs.Replacing.{Behind, Ends, rows_kept, put_length}
+use Rattle.dlk_elab.proofs.FormsReplace.{finishes_ends, generalizing_ends, cutting_box_ends}
 use Rattle.dlk_elab.proofs.Places.{at_one, split_at, At_place, At-more, At-between}
 use Rattle.dlk_elab.proofs.TakenLaws.{takes_none, takes_first}
 
@@ -28,6 +31,9 @@ by_fact : (rows : List Provable) (fact goal by : ℕ) (p q : Provable) → At ro
 by_fact rows fact goal by p q stands (by_merge _ _ _ r other new row other_row is_goal are_new) =
     let same : r ≡ p = at_one rows fact r p row stands in
     record { new = other.goals; conclusion = ap (λ (x : Provable). x.conclusion) same; goals = ap (λ (x : Provable). put_all x.goals goal other.goals) same }
+
+steps_are : (xs steps : List Step) → Steps xs ≡ Steps steps → xs ≡ steps
+steps_are xs steps e = cc
 
 -- the last of some rows
 last : (rows : List Provable) (p : Provable) → At (rows ++ p ∷ []) (length (rows ++ p ∷ [])) p
@@ -74,6 +80,24 @@ two_steps rows after goal by p s stands taken =
       },
     )
 
+-- what ends in the goal's place replaces it
+ended_replaces : (rows after : List Provable) (goal : ℕ) (p : Provable) (there : IsPlace p.goals goal) → At rows (length rows) p → Ends p goal there after →
+    (new : List Sequent) × Replaces rows goal after new
+ended_replaces rows after goal p there stands h = (
+  h.behind.new,
+  record {
+    old_last = p;
+    new_last = h.last;
+    old_is = stands;
+    new_is = h.is_last;
+    conclusion = h.behind.conclusion;
+    goals = h.behind.goals;
+  },
+)
+
+begun : (p : Provable) (goal : ℕ) (s : Sequent) → At p.goals goal s → Behind p goal 1 p
+begun p goal s here = record { new = s ∷ []; count = refl; conclusion = refl; goals = same_goals p.goals goal s here }
+
 replaced_by : (rows after : List Provable) (goal : ℕ) (p : Provable) (s : Sequent) (atom : Atom) (steps : List Step) (asked : Asked) →
     At rows (length rows) p → At p.goals goal s → Asks (length rows) (length rows) goal s atom asked → asked ≡ Steps steps → Takes rows steps after →
     (new : List Sequent) × Replaces rows goal after new
@@ -99,25 +123,38 @@ replaced_by rows after goal p s atom steps _ stands here (leaf name) e taken =
 replaced_by rows after goal p s atom steps _ stands here (a_rule word rule name its_word for) e taken =
     let are : Apply (length rows) goal rule ∷ [] ≡ steps = cc in
     one_step rows after goal p rule stands (subst (λ xs. Takes rows xs after) (sym are) taken)
+replaced_by rows after goal p s atom steps _ stands here (generalize j b f name given at) e taken =
+    let are = steps_are (generalizing (length rows) (record { fact = length rows; goal = goal; s = s }) j b f) steps e in
+    let there = At_place p.goals goal s here in
+    ended_replaces rows after goal p there stands (generalizing_ends p goal there after (length rows) s (begun p goal s here) (length rows) (length rows) j b f refl
+    (record { rows = rows; count = refl; stands = stands; taken = subst (λ xs. Takes rows xs after) (sym are) taken }))
+replaced_by rows after goal p s atom steps _ stands here (cut_box j b f h name given at) e taken =
+    let are = steps_are (cutting_box (length rows) (record { fact = length rows; goal = goal; s = s }) j b f h) steps e in
+    let there = At_place p.goals goal s here in
+    ended_replaces rows after goal p there stands (cutting_box_ends p goal there after (length rows) s (begun p goal s here) (length rows) j b f h
+    (record { rows = rows; count = refl; stands = stands; taken = subst (λ xs. Takes rows xs after) (sym are) taken }))
 replaced_by rows after goal p s atom steps _ stands here asks e taken = absurd (cc e)
 
 pub replaced : (rows after : List Provable) (goal : ℕ) (atom : Atom) (steps : List Step) → AtomSteps rows (length rows) goal atom steps after →
     (new : List Sequent) × Replaces rows goal after new
-replaced rows after goal atom steps made = replaced_by rows after goal made.is_goal.0 made.s atom steps (Steps steps) made.is_goal.1 made.is_goal.2
-    made.asks refl made.takes
+replaced rows after goal atom _ (by_asking {steps} s is_goal asks takes) =
+    replaced_by rows after goal is_goal.0 s atom steps (Steps steps) is_goal.1 is_goal.2 asks refl takes
+replaced rows after goal atom _ (uses s used extra e between rest is_goal asks first finishes then_on) =
+    let there = At_place is_goal.0.goals goal s is_goal.2 in
+    ended_replaces rows after goal is_goal.0 there is_goal.1
+    (finishes_ends is_goal.0 goal there after (length rows) s (begun is_goal.0 goal s is_goal.2) (length between) (length between) used e (proved between) rest refl
+    finishes (record {
+      rows = between;
+      count = refl;
+      stands = rows_kept rows between (instance_of (length rows) used extra) (length rows) is_goal.0 first is_goal.1;
+      taken = then_on;
+    }))
 
--- as many goals more as stand in the goal's place, but for the goal
-put_length : {A : Type 0} (items new : List A) (place : ℕ) → IsPlace items place → length (put_all items place new) + 1 ≡ length items + length new
-put_length items new place there =
-    omega (
-      arith,
-      there.0,
-      there.1,
-      length-append (take (place - 1) items ++ new) (drop place items),
-      length-append (take (place - 1) items) new,
-      length-take-le (place - 1) items (omega (arith, there.0, there.1)),
-      length-drop place items,
-    )
+-- the goal that an atom is run on
+its_goal : (rows after : List Provable) (goal : ℕ) (atom : Atom) (steps : List Step) → AtomSteps rows (length rows) goal atom steps after →
+    (s : Sequent) × IsGoal rows (length rows) goal s
+its_goal rows after goal atom _ (by_asking s is_goal asks takes) = (s, is_goal)
+its_goal rows after goal atom _ (uses s used extra e between rest is_goal asks first finishes then_on) = (s, is_goal)
 
 pub counted : (rows after : List Provable) (goal : ℕ) (atom : Atom) (steps : List Step) (new : List Sequent) (p q : Provable) →
     AtomSteps rows (length rows) goal atom steps after → Replaces rows goal after new → At rows (length rows) p → At after (length after) q →
@@ -125,8 +162,9 @@ pub counted : (rows after : List Provable) (goal : ℕ) (atom : Atom) (steps : L
 counted rows after goal atom steps new p q made replaces first last =
     let old : replaces.old_last ≡ p = at_one rows (length rows) replaces.old_last p replaces.old_is first in
     let now : replaces.new_last ≡ q = at_one after (length after) replaces.new_last q replaces.new_is last in
-    let row : made.is_goal.0 ≡ p = at_one rows (length rows) made.is_goal.0 p made.is_goal.1 first in
-    let here : At p.goals goal made.s = subst (λ (r : Provable). At r.goals goal made.s) row made.is_goal.2 in
+    let g = its_goal rows after goal atom steps made in
+    let row : g.1.0 ≡ p = at_one rows (length rows) g.1.0 p g.1.1 first in
+    let here : At p.goals goal g.0 = subst (λ (r : Provable). At r.goals goal g.0) row g.1.2 in
     let goals : q.goals ≡ put_all p.goals goal new =
     sym (ap (λ (r : Provable). r.goals) now) ∙ replaces.goals ∙ ap (λ (r : Provable). put_all r.goals goal new) old in
-    ap (λ (l : List Sequent). length l + 1) goals ∙ put_length p.goals new goal (At_place p.goals goal made.s here)
+    ap (λ (l : List Sequent). length l + 1) goals ∙ put_length p.goals new goal (At_place p.goals goal g.0 here)

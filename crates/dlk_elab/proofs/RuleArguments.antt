@@ -129,6 +129,7 @@ is_formula trees arg.AnyRight t e = absurd (cc e)
 is_formula trees (arg.Word name) t e = absurd (cc e)
 is_formula trees (arg.Formula id) t e = (id, refl)
 is_formula trees (arg.Term id) t e = absurd (cc e)
+is_formula trees (arg.With extra) t e = absurd (cc e)
 
 is_word : (trees : List Tree) (x : Arg) (y : List ℕ) → argument_at trees x ≡ Word y → (z : List ℕ) × (x ≡ arg.Word z)
 is_word trees (arg.At place path) y e = absurd (cc e)
@@ -137,6 +138,7 @@ is_word trees arg.AnyRight y e = absurd (cc e)
 is_word trees (arg.Word name) y e = (name, refl)
 is_word trees (arg.Formula id) y e = absurd (cc e)
 is_word trees (arg.Term id) y e = absurd (cc e)
+is_word trees (arg.With extra) y e = absurd (cc e)
 
 module _ (trees : List Tree) (side : Option Side) (args : List Arg) (s : Shape) where
   pub no_place : (x : Arg) → s ≡ shape.OnePlace → args ≡ x ∷ [] → ((i : ℕ) → ¬ IsThere side i (argument_at trees x)) →
@@ -172,6 +174,8 @@ module _ (trees : List Tree) (side : Option Side) (args : List Arg) (s : Shape) 
 
 -- what a fault at a place says, weakened
 pub place_fault : (P Q : Type 0) → (e : TacFault) → IsTacFault (λ why. (why ≡ NoPlace) × P) e → (P → Q) → IsTacFault (λ why. (why ≡ NoPlace) × Q) e
+place_fault P Q fault.UnknownName h weaker = (h.0, weaker h.1)
 place_fault P Q fault.NoPlace h weaker = (h.0, weaker h.1)
+place_fault P Q fault.NoMatch h weaker = (h.0, weaker h.1)
 place_fault P Q (fault.Step why) h weaker = (h.0, weaker h.1)
 place_fault P Q fault.Memory h weaker = tt

@@ -1,14 +1,19 @@
 -- The atoms of the strategy language: what each asks of the kernel on a goal, the steps that it gives, and its fault.
 pub use Rattle.dlk_tacsyn.specs.Rows.{IsNamed, HasNames}
-use Rattle.std.specs.Prelude.{◌≡◌, ◌<◌, ◌≤◌, ◌+◌, ◌⊎◌, ℕ, List, [], ◌∷◌, ◌++◌, length, Option, Some, None, All, Any, codes}
+pub use Rattle.dlk_uses.specs.Taking.{FirstFault}
+use Rattle.std.specs.Prelude.{◌≡◌, ◌≢◌, IsTrue, ◌<◌, ◌≤◌, ◌+◌, ◌⊎◌, ℕ, List, [], ◌∷◌, ◌++◌, length, Option, Some, None, All, Any, codes}
 use Rattle.dlk_tree.specs.Trees.{Tree}
 use Rattle.dlk_calculus.specs.declared.reason.Reason.{Reason}
-use Rattle.dlk_calculus.specs.declared.reason.Reason.TheVariants.{NotEqual}
+use Rattle.dlk_calculus.specs.declared.reason.Reason.TheVariants.{NotEqual, WrongShape}
+use Rattle.dlk_calculus.specs.Axioms.{axiom_named}
+use Rattle.dlk_calculus.specs.Notation.{box}
+use Rattle.dlk_calculus.specs.Pairs.{Extra}
+use Rattle.dlk_calculus.specs.Paths.{subtree}
 use Rattle.dlk_calculus.specs.Places.{At, put_all}
 use Rattle.dlk_calculus.specs.Sequents.{Sequent}
 use Rattle.dlk_calculus.specs.Rules.{Rule, Close, Arguments, OnePlace, TwoPlaces, PlaceAndFormula, OneFormula, PlaceAndName, word_of, arguments_of}
 use Rattle.dlk_calculus.specs.Provables.{Provable}
-use Rattle.dlk_calculus.specs.Steps.{Step, Leaf, Apply, Merge, IsGoal, Fault}
+use Rattle.dlk_calculus.specs.Steps.{Step, Leaf, Apply, Merge, IsGoal}
 use Rattle.dlk_sequent.specs.declared.sequent.Place.{Place}
 use Rattle.dlk_sequent.specs.declared.sequent.Place.TheVariants.{Ante, Succ}
 use Rattle.dlk_rules.specs.declared.arguments.Side.{Side}
@@ -17,12 +22,18 @@ use Rattle.dlk_rules.specs.declared.rule.RuleWord.{RuleWord}
 use Rattle.dlk_rules.specs.Steps.{side_of}
 use Rattle.dlk_rules.specs.Words.{text_of}
 use Rattle.dlk_kernel.specs.Taken.{Takes}
-use Rattle.dlk_tacsyn.specs.Tactics.{Argument, AtPlace, AnyLeft, AnyRight, Word, GivenFormula, GivenTerm, Atom}
+use Rattle.dlk_tacsyn.specs.Tactics.{Argument, AtPlace, AnyLeft, AnyRight, Word, GivenFormula, GivenTerm, GivenExtra, Atom}
+use Rattle.dlk_uses.specs.Uses.{Direction, Forwards, Backwards, Use, key, may_stand, formula_at, instance, generalizing, cutting_box, Finishes, proved}
+use Rattle.dlk_match.specs.Matching.{Match}
 
 -- why an atom gives no steps
 pub data AtomWhy : Type 0 where
-  -- a place has a path, or is on the other side
+  -- no axiom has the name
+  UnknownName : AtomWhy
+  -- a place or a path isn't there, or the atom doesn't act there: a rule's place has a path, or is on the other side
   NoPlace : AtomWhy
+  -- the axiom doesn't match what stands there, or isn't of a form that may be used there
+  NoMatch : AtomWhy
   -- a step isn't taken, for this reason
   AtStep : Reason → AtomWhy
 
@@ -64,6 +75,7 @@ IsFixed AnyRight = ⊥
 IsFixed (Word name) = Unit {0}
 IsFixed (GivenFormula h) = Unit {0}
 IsFixed (GivenTerm e) = Unit {0}
+IsFixed (GivenExtra extra) = Unit {0}
 
 abbrev pub HasNoLocator : Atom → Type 0
 HasNoLocator atom = All IsFixed atom.arguments
@@ -83,10 +95,61 @@ pub record AreFirstSame (s : Sequent) (i j : ℕ) : Type 0 where
 abbrev pub HasGoalAt : List Provable → ℕ → ℕ → Type 0
 HasGoalAt rows fact goal = (s : Sequent) × IsGoal rows fact goal s
 
+-- Uses of axioms:
+
+-- the arguments of an atom that uses an axiom: its name, a place with a path, and what may be given beside them
+pub data UseArguments : List Argument → (name : List ℕ) (place : Place) (path : List ℕ) (given : Extra) → Type 0 where
+  alone : {name : List ℕ} {place : Place} {path : List ℕ} →
+      UseArguments (Word name ∷ AtPlace place path ∷ []) name place path (record { renames = []; pairs = [] })
+  with_extra : {name : List ℕ} {place : Place} {path : List ℕ} {given : Extra} →
+      UseArguments (Word name ∷ AtPlace place path ∷ GivenExtra given ∷ []) name place path given
+
+-- which side of an axiom an atom of this name looks for
+abbrev pub word_of_direction : Direction → List ℕ
+word_of_direction Forwards = codes "useAt"
+word_of_direction Backwards = codes "useBack"
+
+-- the atom uses the axiom of this name
+abbrev pub NamesAxiom : Atom → Direction → (name : List ℕ) (place : Place) (path : List ℕ) (given : Extra) → Type 0
+NamesAxiom atom direction name place path given = (atom.name ≡ word_of_direction direction) × UseArguments atom.arguments name place path given
+
+-- and there is one
+pub record IsUse (atom : Atom) (used : Use) : Type 0 where
+  pub name : List ℕ
+  pub names : NamesAxiom atom used.direction name used.place used.path used.given
+  pub is_axiom : axiom_named name ≡ Some used.its_axiom
+
+-- the formula e stands at the place, and the subtree at the path of it
+pub record StandsThere (s : Sequent) (used : Use) (e subtree_there : Tree) : Type 0 where
+  pub formula : formula_at s used.place ≡ Some e
+  pub inside : subtree e used.path ≡ Some subtree_there
+
+-- what is looked for of the axiom matches the subtree, with these names and replacements
+abbrev pub MatchesThere : Use → Tree → Extra → Type 0
+MatchesThere used t extra = Match (key used.its_axiom.form used.direction used.place used.its_axiom.formula) used.its_axiom.own_names t used.given extra
+
+-- the name of an atom whose steps use axioms or axiomatic rules
+abbrev pub IsByAxioms : List ℕ → Type 0
+IsByAxioms name = (name ≡ codes "G") ⊎ ((name ≡ codes "boxCut") ⊎ ((name ≡ codes "useAt") ⊎ (name ≡ codes "useBack")))
+
+-- Boxes:
+
+-- the atom is one for a box, and this is its place
+pub data IsForBox : Atom → Argument → Type 0 where
+  generalizes : {atom : Atom} {p : Argument} → atom.name ≡ codes "G" → atom.arguments ≡ p ∷ [] → IsForBox atom p
+  cuts : {atom : Atom} {p : Argument} (h : Tree) → atom.name ≡ codes "boxCut" → atom.arguments ≡ GivenFormula h ∷ p ∷ [] → IsForBox atom p
+
+-- the formula e stands at place j on the right, without a path
+pub record IsOnTheRight (s : Sequent) (p : Argument) (j : ℕ) (e : Tree) : Type 0 where
+  pub place : p ≡ AtPlace (Succ j) []
+  pub stands : At s.succ j e
+
 -- what an atom asks for
 pub data Asked : Type 0 where
   -- these steps, in turn
   Steps : List Step → Asked
+  -- an instance of an axiom with these names and replacements, and then what uses it on the formula at the place
+  Instance : Use → Extra → Tree → Asked
   -- none
   Refused : AtomWhy → Asked
 
@@ -101,23 +164,36 @@ pub data Asks (rows fact goal : ℕ) (s : Sequent) (atom : Atom) : Asked → Typ
       AreFor (side_of word) atom.arguments (arguments_of rule) → Asks rows fact goal s atom (Steps (Apply fact goal rule ∷ []))
   elsewhere : (word : RuleWord) (side : Side) → atom.name ≡ text_of word → side_of word ≡ Some side → Any (IsElsewhere side) atom.arguments →
       Asks rows fact goal s atom (Refused NoPlace)
+  generalize : (j : ℕ) (b f : Tree) → atom.name ≡ codes "G" → atom.arguments ≡ AtPlace (Succ j) [] ∷ [] → At s.succ j (box b f) →
+      Asks rows fact goal s atom (Steps (generalizing rows (record { fact = fact; goal = goal; s = s }) j b f))
+  cut_box : (j : ℕ) (b f h : Tree) → atom.name ≡ codes "boxCut" → atom.arguments ≡ GivenFormula h ∷ AtPlace (Succ j) [] ∷ [] →
+      At s.succ j (box b f) → Asks rows fact goal s atom (Steps (cutting_box rows (record { fact = fact; goal = goal; s = s }) j b f h))
+  no_box : (p : Argument) (j : ℕ) (e : Tree) → IsForBox atom p → IsOnTheRight s p j e → ((b f : Tree) → e ≢ box b f) →
+      Asks rows fact goal s atom (Refused (AtStep WrongShape))
+  not_on_the_right : (p : Argument) → IsForBox atom p → ((j : ℕ) (e : Tree) → ¬ IsOnTheRight s p j e) → Asks rows fact goal s atom (Refused NoPlace)
+  use_axiom : (used : Use) (e t : Tree) (extra : Extra) → IsUse atom used → StandsThere s used e t →
+      IsTrue (may_stand used.its_axiom.form used.direction used.place used.path) → MatchesThere used t extra →
+      Asks rows fact goal s atom (Instance used extra e)
+  no_axiom : (direction : Direction) (name : List ℕ) (place : Place) (path : List ℕ) (given : Extra) →
+      NamesAxiom atom direction name place path given → axiom_named name ≡ None → Asks rows fact goal s atom (Refused UnknownName)
+  not_there : (used : Use) → IsUse atom used → ((e t : Tree) → ¬ StandsThere s used e t) → Asks rows fact goal s atom (Refused NoPlace)
+  no_match : (used : Use) (e t : Tree) → IsUse atom used → StandsThere s used e t →
+      (IsTrue (may_stand used.its_axiom.form used.direction used.place used.path) → (extra : Extra) → ¬ MatchesThere used t extra) →
+      Asks rows fact goal s atom (Refused NoMatch)
+
+-- the steps that make the instance of an axiom
+abbrev pub instance_of : ℕ → Use → Extra → List Step
+instance_of rows used extra = instance rows used.its_axiom.name extra
 
 -- the atom gives these steps on a goal of a fact, and with them these rows
-pub record AtomSteps (rows : List Provable) (fact goal : ℕ) (atom : Atom) (steps : List Step) (after : List Provable) : Type 0 where
-  pub s : Sequent
-  pub is_goal : IsGoal rows fact goal s
-  pub asks : Asks (length rows) fact goal s atom (Steps steps)
-  pub takes : Takes rows steps after
-
--- the steps are taken in turn up to one, against which this is the first reason
-pub record FirstFault (rows : List Provable) (steps : List Step) (why : Reason) : Type 0 where
-  pub before : List Step
-  pub step : Step
-  pub behind : List Step
-  pub steps_are : steps ≡ before ++ step ∷ behind
-  pub between : List Provable
-  pub takes : Takes rows before between
-  pub fault : Fault between step why
+pub data AtomSteps (rows : List Provable) (fact goal : ℕ) (atom : Atom) : List Step → List Provable → Type 0 where
+  asked : {steps : List Step} {after : List Provable} (s : Sequent) → IsGoal rows fact goal s →
+      Asks (length rows) fact goal s atom (Steps steps) → Takes rows steps after → AtomSteps rows fact goal atom steps after
+  uses : {after : List Provable} (s : Sequent) (used : Use) (extra : Extra) (e : Tree) (between : List Provable) (rest : List Step) →
+      IsGoal rows fact goal s → Asks (length rows) fact goal s atom (Instance used extra e) →
+      Takes rows (instance_of (length rows) used extra) between →
+      Finishes (length between) (record { fact = fact; goal = goal; s = s }) used e (proved between) rest → Takes between rest after →
+      AtomSteps rows fact goal atom (instance_of (length rows) used extra ++ rest) after
 
 -- the atom gives no steps on a goal of a fact: it asks for none, or one isn't taken
 pub data AtomFault (rows : List Provable) (fact goal : ℕ) (atom : Atom) : AtomWhy → Type 0 where
@@ -125,6 +201,14 @@ pub data AtomFault (rows : List Provable) (fact goal : ℕ) (atom : Atom) : Atom
       AtomFault rows fact goal atom why
   not_taken : {why : Reason} (s : Sequent) (steps : List Step) → IsGoal rows fact goal s → Asks (length rows) fact goal s atom (Steps steps) →
       FirstFault rows steps why → AtomFault rows fact goal atom (AtStep why)
+  not_instantiated : {why : Reason} (s : Sequent) (used : Use) (extra : Extra) (e : Tree) → IsGoal rows fact goal s →
+      Asks (length rows) fact goal s atom (Instance used extra e) → FirstFault rows (instance_of (length rows) used extra) why →
+      AtomFault rows fact goal atom (AtStep why)
+  not_used : {why : Reason} (s : Sequent) (used : Use) (extra : Extra) (e : Tree) (between : List Provable) (rest : List Step) →
+      IsGoal rows fact goal s → Asks (length rows) fact goal s atom (Instance used extra e) →
+      Takes rows (instance_of (length rows) used extra) between →
+      Finishes (length between) (record { fact = fact; goal = goal; s = s }) used e (proved between) rest → FirstFault between rest why →
+      AtomFault rows fact goal atom (AtStep why)
 
 -- Replaces before goal after new: the last row is as it was, but for these goals in the place of one of its goals, and for its leaves.
 pub record Replaces (before : List Provable) (goal : ℕ) (after : List Provable) (new : List Sequent) : Type 0 where

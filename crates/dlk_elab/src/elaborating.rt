@@ -1,20 +1,26 @@
 //! Atoms on a kernel.
 ghost use Rattle.std.specs.Prelude.{◌≡◌, length, map, All, IfOk, OnOk, IfErr, OnErr};
+ghost use Rattle.dlk_store.specs.Stores.{IsId, tree};
+ghost use Rattle.dlk_calculus.specs.Sequents.{IsFormula};
 ghost use Rattle.dlk_calculus.specs.Steps.{IsProper};
 ghost use Rattle.dlk_kernel.specs.Kernel.{facts, SameRows, ExtendsRows};
 ghost use Rattle.dlk_rules.specs.Steps.{step_at, HasKnownIds};
 ghost use Rattle.dlk_tacsyn.specs.Rows.{IsFitting};
 ghost use Rattle.dlk_tacsyn.specs.Ties.{atom_at, AtomIsKnown};
 ghost use Rattle.dlk_elab.specs.Atoms.{HasNoLocator, HasGoalAt, AtomSteps, AtomFault};
-ghost use Rattle.dlk_elab.specs.Ties.{IsTacFault};
+ghost use Rattle.dlk_elab.specs.Calls.{IsPlain, IsCall, CallIsKnown, UsesNone};
+ghost use Rattle.dlk_elab.specs.Ties.{IsTacFault, AreAsked, AreMade};
 
+use crate::boxes::{box_at, cut_trees, cutting_box, generalizing};
+use crate::calls::{Call, call_of};
 use crate::fault::TacFault;
 use crate::plan::{Target, plan};
 use crate::taking::take_in_turn;
-use dlk_kernel::{Fact, Kernel, StepFault};
+use crate::uses::use_axiom;
+use dlk_kernel::{Fact, Kernel};
 use dlk_rules::{Step, step_stays};
-use dlk_store::{Steps, Store};
-use dlk_tacsyn::Atom;
+use dlk_store::{Id, Steps, Store};
+use dlk_tacsyn::{Arg, Atom};
 use std::alloc::Global;
 use std::sync::ledger::Ledger;
 
@@ -33,9 +39,12 @@ pub struct Elaborated {
 ///
 /// # Errors
 ///
-/// - `NoPlace`: the atom is for a rule, and one of its places has a path, or is on the other side.
+/// - `UnknownName`: the atom uses an axiom, and none has the name.
+/// - `NoPlace`: the atom is for a rule or a box, and one of its places has a path, is on the other side, or, for a box, is not there; or
+///   it uses an axiom, and the place or the path is not there.
+/// - `NoMatch`: the atom uses an axiom that doesn't match what stands at the place, or may not be used there.
 /// - `Step`: the kernel does not take a step of the atom: the first reason against the first such step. For `close` it is `NotEqual`
-///   where no formula stands on both sides.
+///   where no formula stands on both sides, and for a box `WrongShape` where none stands at the place.
 /// - `Memory`: for want of memory.
 pub fn elaborate<S: Store, L: Ledger>(
     alloc: Global,
@@ -64,19 +73,145 @@ pub fn elaborate<S: Store, L: Ledger>(
 
     ensures grows { S.grows kernel.old.store kernel.new.store }
 {
-    step_stays();
     let rows = kernel.rows();
-    let s = &kernel.goals(fact)[goal as usize - 1];
     let target = Target { rows, fact, goal };
-    let plan = plan(alloc, &*kernel, target, s, atom)?;
-    match take_in_turn(alloc, kernel, plan.as_slice(), steps) {
-        Ok(()) => Ok(Elaborated {
+    match atom_steps(alloc, kernel, target, atom, steps) {
+        Ok(made) => Ok(Elaborated {
             fact: kernel.rows(),
-            steps: plan,
+            steps: made,
         }),
         Err(why) => {
             kernel.release(rows);
-            Err(TacFault::from(why))
+            Err(why)
         }
     }
+}
+
+/// Takes the steps of an atom. After a fault the rows of those before it stay.
+fn atom_steps<S: Store, L: Ledger>(
+    alloc: Global,
+    kernel: &mut Kernel<S>,
+    target: Target,
+    atom: &Atom,
+    steps: &mut Steps<L>,
+) -> Result<Vec<Step>, TacFault>
+    requires rows { target.rows ≡ length kernel.old.rows }
+    requires goal { HasGoalAt (facts S.trees kernel.old) target.fact target.goal }
+    requires known { AtomIsKnown (S.trees kernel.old.store) atom.now }
+    requires fitting { IsFitting (atom_at (S.trees kernel.old.store) atom.now) }
+    requires fixed { HasNoLocator (atom_at (S.trees kernel.old.store) atom.now) }
+    ensures made { IfOk result (λ made. AreMade (facts S.trees kernel.old) target.fact target.goal (atom_at (S.trees kernel.old.store) atom.now) (S.trees kernel.new.store) made.items (facts S.trees kernel.new)) }
+    ensures fault { IfErr result (IsTacFault (AtomFault (facts S.trees kernel.old) target.fact target.goal (atom_at (S.trees kernel.old.store) atom.now))) }
+    ensures kept { ExtendsRows S.trees kernel.old kernel.new }
+    ensures grows { S.grows kernel.old.store kernel.new.store }
+{
+    step_stays();
+    let call = call_of(atom);
+    if let Call::Use(used) = call {
+        return use_axiom(alloc, kernel, target, atom, used, steps);
+    }
+    let plan = planned(alloc, kernel, target, atom, call, steps)?;
+    take_in_turn(alloc, kernel, plan.as_slice(), steps)?;
+    Ok(plan)
+}
+
+/// The steps that an atom asks for, where it uses no axiom.
+fn planned<S: Store, L: Ledger>(
+    alloc: Global,
+    kernel: &mut Kernel<S>,
+    target: Target,
+    atom: &Atom,
+    call: Call<'_>,
+    steps: &mut Steps<L>,
+) -> Result<Vec<Step>, TacFault>
+    requires rows { target.rows ≡ length kernel.old.rows }
+    requires goal { HasGoalAt (facts S.trees kernel.old) target.fact target.goal }
+    requires known { AtomIsKnown (S.trees kernel.old.store) atom.now }
+    requires fitting { IsFitting (atom_at (S.trees kernel.old.store) atom.now) }
+    requires fixed { HasNoLocator (atom_at (S.trees kernel.old.store) atom.now) }
+    requires call { IsCall (S.trees kernel.old.store) (atom_at (S.trees kernel.old.store) atom.now) call }
+    requires call_known { CallIsKnown (S.trees kernel.old.store) call }
+    requires no_use { UsesNone call }
+    ensures plan { IfOk result (λ plan. AreAsked (facts S.trees kernel.old) target.fact target.goal (atom_at (S.trees kernel.old.store) atom.now) (S.trees kernel.new.store) plan.items) }
+    ensures fault { IfErr result (IsTacFault (AtomFault (facts S.trees kernel.old) target.fact target.goal (atom_at (S.trees kernel.old.store) atom.now))) }
+    ensures same { SameRows S.trees kernel.old kernel.new }
+    ensures grows { S.grows kernel.old.store kernel.new.store }
+{
+    match call {
+        Call::Plain => plain(alloc, &*kernel, target, atom),
+        Call::Generalize(at) => generalize(alloc, &*kernel, target, atom, at, steps),
+        Call::CutBox(h, at) => cut_box(alloc, kernel, target, atom, h, at, steps),
+        Call::Use(_) => unreachable!(),
+    }
+}
+
+/// The steps of an atom for a rule, or without arguments.
+fn plain<S: Store>(
+    alloc: Global,
+    kernel: &Kernel<S>,
+    target: Target,
+    atom: &Atom,
+) -> Result<Vec<Step>, TacFault>
+    requires rows { target.rows ≡ length kernel.now.rows }
+    requires goal { HasGoalAt (facts S.trees kernel.now) target.fact target.goal }
+    requires known { AtomIsKnown (S.trees kernel.now.store) atom.now }
+    requires fitting { IsFitting (atom_at (S.trees kernel.now.store) atom.now) }
+    requires fixed { HasNoLocator (atom_at (S.trees kernel.now.store) atom.now) }
+    requires plain { IsPlain atom.now.name }
+    ensures plan { IfOk result (λ plan. AreAsked (facts S.trees kernel.now) target.fact target.goal (atom_at (S.trees kernel.now.store) atom.now) (S.trees kernel.now.store) plan.items) }
+    ensures fault { IfErr result (IsTacFault (AtomFault (facts S.trees kernel.now) target.fact target.goal (atom_at (S.trees kernel.now.store) atom.now))) }
+{
+    let _ = kernel.rows();
+    let s = &kernel.goals(target.fact)[target.goal as usize - 1];
+    plan(alloc, kernel, target, s, atom)
+}
+
+/// The steps of `G`.
+fn generalize<S: Store, L: Ledger>(
+    alloc: Global,
+    kernel: &Kernel<S>,
+    target: Target,
+    atom: &Atom,
+    at: &Arg,
+    steps: &mut Steps<L>,
+) -> Result<Vec<Step>, TacFault>
+    requires rows { target.rows ≡ length kernel.now.rows }
+    requires goal { HasGoalAt (facts S.trees kernel.now) target.fact target.goal }
+    requires call { IsCall (S.trees kernel.now.store) (atom_at (S.trees kernel.now.store) atom.now) (Call.Generalize at) }
+    ensures plan { IfOk result (λ plan. AreAsked (facts S.trees kernel.now) target.fact target.goal (atom_at (S.trees kernel.now.store) atom.now) (S.trees kernel.now.store) plan.items) }
+    ensures fault { IfErr result (IsTacFault (AtomFault (facts S.trees kernel.now) target.fact target.goal (atom_at (S.trees kernel.now.store) atom.now))) }
+{
+    let _ = kernel.rows();
+    let s = &kernel.goals(target.fact)[target.goal as usize - 1];
+    let boxed = box_at(kernel, s, at, steps)?;
+    let plan = generalizing(alloc, target, boxed)?;
+    Ok(plan)
+}
+
+/// The steps of `boxCut`.
+fn cut_box<S: Store, L: Ledger>(
+    alloc: Global,
+    kernel: &mut Kernel<S>,
+    target: Target,
+    atom: &Atom,
+    h: Id,
+    at: &Arg,
+    steps: &mut Steps<L>,
+) -> Result<Vec<Step>, TacFault>
+    requires rows { target.rows ≡ length kernel.old.rows }
+    requires goal { HasGoalAt (facts S.trees kernel.old) target.fact target.goal }
+    requires known { IsId (S.trees kernel.old.store) h }
+    requires formula { IsFormula (tree (S.trees kernel.old.store) h) }
+    requires call { IsCall (S.trees kernel.old.store) (atom_at (S.trees kernel.old.store) atom.now) (Call.CutBox h at) }
+    ensures plan { IfOk result (λ plan. AreAsked (facts S.trees kernel.old) target.fact target.goal (atom_at (S.trees kernel.old.store) atom.now) (S.trees kernel.new.store) plan.items) }
+    ensures fault { IfErr result (IsTacFault (AtomFault (facts S.trees kernel.old) target.fact target.goal (atom_at (S.trees kernel.old.store) atom.now))) }
+    ensures same { SameRows S.trees kernel.old kernel.new }
+    ensures grows { S.grows kernel.old.store kernel.new.store }
+{
+    let _ = kernel.rows();
+    let s = &kernel.goals(target.fact)[target.goal as usize - 1];
+    let boxed = box_at(&*kernel, s, at, steps)?;
+    let cut = cut_trees(alloc, kernel, boxed, h)?;
+    let plan = cutting_box(alloc, target, boxed, cut)?;
+    Ok(plan)
 }

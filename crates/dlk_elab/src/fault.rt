@@ -4,15 +4,22 @@ ghost use Rattle.dlk_elab.specs.Ties.{of_step};
 
 use dlk_calculus::Reason;
 use dlk_kernel::StepFault;
+use dlk_store::StoreFault;
 use std::alloc::{AllocError, AllocFailed};
 use thiserror::Error;
 
 /// Why an atom gave no steps.
 #[derive(Clone, Copy, Debug, PartialEq, Eq, Error)]
 pub enum TacFault {
-    /// A place has a path, or is on the other side.
+    /// No axiom has the name.
+    #[error("no axiom has the name")]
+    UnknownName,
+    /// A place or a path isn't there, or the atom doesn't act there.
     #[error("a place is not there")]
     NoPlace,
+    /// The axiom doesn't match what stands at the place, or may not be used there.
+    #[error("the axiom does not match")]
+    NoMatch,
     /// The kernel did not take a step, for this reason.
     #[error("refused: {0:?}")]
     Step(Reason),
@@ -32,6 +39,14 @@ impl<T: Drop> From<AllocFailed<T>> for TacFault {
     ghost from_gives = { λ _ e. e ≡ Memory };
 
     fn from(_: AllocFailed<T>) -> TacFault {
+        TacFault::Memory
+    }
+}
+
+impl From<StoreFault> for TacFault {
+    ghost from_gives = { λ _ e. e ≡ Memory };
+
+    fn from(_: StoreFault) -> TacFault {
         TacFault::Memory
     }
 }

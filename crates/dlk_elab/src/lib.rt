@@ -2,13 +2,25 @@
 #![tactic(auto)]
 
 mod arguments;
+mod boxes;
+mod calls;
 mod elaborating;
 mod fault;
+mod finishing;
+mod forms;
+mod instance;
+mod keys;
 mod laws;
 mod plan;
 mod same;
+mod spot;
+mod symbols;
 mod taking;
+mod uses;
+mod ways;
 
 pub use elaborating::{Elaborated, elaborate};
 pub use fault::TacFault;
-pub use laws::{atom_replaces_goal, one_atom, some_atom};
+pub use laws::{
+    atom_has_symbols, atom_is_taken, atom_replaces_goal, merges_fit, one_atom, some_atom,
+};

@@ -9,6 +9,7 @@ ghost use Rattle.dlk_tacsyn.specs.Tactics.{Atom as TreeAtom};
 ghost use Rattle.dlk_tacsyn.specs.Rows.{IsFitting};
 ghost use Rattle.dlk_tacsyn.specs.Ties.{argument_at, atom_at, AtomIsKnown};
 ghost use Rattle.dlk_elab.specs.Atoms.{HasNoLocator, Asks, Refused, NoPlace};
+ghost use Rattle.dlk_elab.specs.Calls.{IsPlain};
 ghost use Rattle.dlk_elab.specs.Ties.{IsPlan, IsTacFault, HasNone};
 
 use crate::arguments::rule_arguments;
@@ -32,7 +33,7 @@ pub(crate) struct Target {
 
 impl Target {
     /// The step that applies a rule there.
-    fn apply(self, rule: Rule) -> Step
+    pub(crate) fn apply(self, rule: Rule) -> Step
         ensures { result ≡ Step.Apply self.fact self.goal rule }
     {
         Step::Apply {
@@ -43,7 +44,7 @@ impl Target {
     }
 }
 
-/// The steps that an atom asks for on a goal, which is the sequent.
+/// The steps that an atom asks for on a goal, which is the sequent. It is one for a rule, or without arguments.
 ///
 /// # Errors
 ///
@@ -62,6 +63,7 @@ pub(crate) fn plan<S: Store>(
     requires known { AtomIsKnown (S.trees store.now) atom.now }
     requires fitting { IsFitting (atom_at (S.trees store.now) atom.now) }
     requires fixed { HasNoLocator (atom_at (S.trees store.now) atom.now) }
+    requires plain { IsPlain atom.now.name }
     requires room { target.rows < 2 ^ 31 }
     ensures plan { IfOk result (λ steps. IsPlan target.rows target.fact target.goal (S.trees store.now) s.now atom.now steps.items) }
     ensures fault { IfErr result (IsTacFault (λ why. Asks target.rows target.fact target.goal (sequent_at (S.trees store.now) s.now) (atom_at (S.trees store.now) atom.now) (Refused why))) }
@@ -136,7 +138,6 @@ fn rule_plan(
     let Some(rule) = word.rule(arguments) else {
         return Err(TacFault::NoPlace);
     };
-    prove!(rule.is_proper());
     let mut plan = Vec::new(alloc);
     plan.push(target.apply(rule))?;
     Ok(plan)

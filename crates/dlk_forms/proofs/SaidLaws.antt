@@ -13,11 +13,13 @@ use Rattle.dlk_grammar.specs.Phrases.{Phrase, Phrases, none, snoc}
 use Rattle.dlk_grammar.specs.Grammar.{Sides, Turned, ReadsSequent}
 use Rattle.dlk_grammar.specs.Readings.{Stops, grammar, itself, phrases_in, both_sides}
 use Rattle.dlk_grammar.specs.Substitutions.{ReadsSubstitution, replacements}
+use Rattle.dlk_grammar.specs.Extras.{ReadsExtra, extra_replacements}
 use Rattle.dlk_machine.specs.Parse.{Machine, parse}
 use Rattle.dlk_machine.specs.Forms.{machine_of}
 use Rattle.dlk_machine.specs.Sequents.{sequent_reader}
 use Rattle.dlk_machine.specs.Pairs.{pairs_reader}
-use Rattle.dlk_machine.proofs.ParseLaws.{form_read_says, form_fault_stops, sequent_read_says, sequent_fault_stops, pairs_read_says, pairs_fault_stops}
+use Rattle.dlk_machine.specs.Extras.{extra_reader}
+use Rattle.dlk_machine.proofs.ParseLaws.{form_read_says, form_fault_stops, sequent_read_says, sequent_fault_stops, pairs_read_says, pairs_fault_stops, extra_read_says, extra_fault_stops}
 use Rattle.dlk_reader.specs.Codes.{postfix, postfix_all}
 use Rattle.dlk_reader.specs.declared.code.Code.{Code}
 use Rattle.dlk_reader.specs.declared.stop.Stop.{Stop}
@@ -25,8 +27,9 @@ use Rattle.dlk_reader.specs.declared.stop.Stop.TheVariants.{Memory, Syntax}
 use Rattle.dlk_reader.specs.Outcomes.{ReadsTokens}
 use Rattle.dlk_forms.specs.Parsing.{IsParsed, Comes, ReadsAs}
 use Rattle.dlk_forms.specs.Readers.{ShowsTree, IsTreeCode, IsCodeOf, TreeComes, tree_start}
-use Rattle.dlk_forms.specs.Said.{SaysCode, SaysSides, SaysPairs, IsCodeOfPairs, IsStop}
+use Rattle.dlk_forms.specs.Said.{SaysCode, SaysSides, SaysPairs, IsCodeOfPairs, SaysExtra, IsCodeOfExtra, IsStop}
 use Rattle.dlk_forms.specs.declared.pairs.PairsCode.{PairsCode}
+use Rattle.dlk_forms.specs.declared.extras.ExtraCode.{ExtraCode}
 use Rattle.dlk_forms.specs.declared.sides.SidesCode.{SidesCode}
 use Rattle.dlk_forms.specs.declared.trees.TreeReader.{TreeReader}
 use Rattle.dlk_forms.proofs.Parsing.{each, reads, reads_each}
@@ -104,3 +107,12 @@ module _ (tokens : List Token) (result : Result PairsCode Stop) (h : ReadsAs All
 
   pub pairs_stops : IfErr result (IsStop ReadsSubstitution replacements Allowed tokens)
   pairs_stops = stops Allowed pairs_reader IsCodeOfPairs tokens ReadsSubstitution replacements pairs_fault_stops result h
+
+-- renames and pairs
+module _ (tokens : List Token) (result : Result ExtraCode Stop) (h : ReadsAs Allowed extra_reader IsCodeOfExtra tokens result) where
+  pub extra_says : IfOk result (SaysExtra tokens)
+  extra_says = says Allowed extra_reader IsCodeOfExtra tokens (SaysExtra tokens)
+      (λ c p. record { said = p.said; says = extra_read_says (lexemes tokens) p.said p.parsed; shown = p.code }) result h
+
+  pub extra_stops : IfErr result (IsStop ReadsExtra extra_replacements Allowed tokens)
+  extra_stops = stops Allowed extra_reader IsCodeOfExtra tokens ReadsExtra extra_replacements extra_fault_stops result h

@@ -2,3 +2,4 @@ pub mod Said
 pub mod Parsing
 pub mod Readers
 pub mod PairReaders
+pub mod ExtraReaders

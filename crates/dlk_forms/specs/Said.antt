@@ -10,11 +10,13 @@ use Rattle.dlk_grammar.specs.Erased.{count}
 use Rattle.dlk_grammar.specs.Readings.{Says, SpeaksAgainst, both_sides}
 use Rattle.dlk_grammar.specs.Readings.{Syntax as SyntaxFault}
 use Rattle.dlk_grammar.specs.Substitutions.{PairPhrase, ReadsSubstitution, replacements}
+use Rattle.dlk_grammar.specs.Extras.{ExtraPhrase, ReadsExtra}
 use Rattle.dlk_reader.specs.Codes.{postfix}
 use Rattle.dlk_reader.specs.declared.code.Code.{Code}
 use Rattle.dlk_reader.specs.declared.stop.Stop.{Stop}
 use Rattle.dlk_reader.specs.declared.stop.Stop.TheVariants.{Memory, Syntax}
 use Rattle.dlk_forms.specs.declared.pairs.PairsCode.{PairsCode}
+use Rattle.dlk_forms.specs.declared.extras.ExtraCode.{ExtraCode}
 use Rattle.dlk_forms.specs.declared.sides.SidesCode.{SidesCode}
 
 -- the tokens are a text of the form, and this is the code of what they say
@@ -44,6 +46,17 @@ pub record SaysPairs (tokens : List Token) (c : PairsCode) : Type 0 where
   pub said : List PairPhrase
   pub says : Says Allowed ReadsSubstitution (lexemes tokens) said
   pub shown : IsCodeOfPairs c said
+
+-- the renames, and the pairs behind them
+pub record IsCodeOfExtra (c : ExtraCode) (e : ExtraPhrase) : Type 0 where
+  pub renames : c.renames.items ≡ e.renames
+  pub pairs : IsCodeOfPairs c.pairs e.pairs
+
+-- the tokens are a text of renames and pairs, and this is their code
+pub record SaysExtra (tokens : List Token) (c : ExtraCode) : Type 0 where
+  pub said : ExtraPhrase
+  pub says : Says Allowed ReadsExtra (lexemes tokens) said
+  pub shown : IsCodeOfExtra c said
 
 -- the tokens stop as a text of the form at the token of this byte; want of memory is free
 abbrev pub IsStop : {P : Type 0} → (List Lexeme → P → Type 0) → (P → List Phrase) → Dots → List Token → Stop → Type 0

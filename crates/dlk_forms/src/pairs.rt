@@ -274,7 +274,7 @@ impl PairsSoFar {
     }
 
     /// What a lexeme makes of what was read.
-    fn step(
+    pub(crate) fn step(
         &mut self,
         alloc: Global,
         mode: Option<PairMode>,
@@ -308,7 +308,7 @@ impl PairsSoFar {
     }
 
     /// The end of a substitution.
-    fn end(self, mode: Option<PairMode>) -> Result<PairsCode, StepFault>
+    pub(crate) fn end(self, mode: Option<PairMode>) -> Result<PairsCode, StepFault>
         ensures { (x : PairsState) → ShowsPairsAt self mode x
             → Agrees IsCodeOfPairs result (pairs_ended x) }
     {

@@ -5,8 +5,10 @@ ghost use Rattle.dlk_grammar.specs.RealTokens.{AreTokens};
 ghost use Rattle.dlk_grammar.specs.Grammar.{ReadsSequent};
 ghost use Rattle.dlk_grammar.specs.Readings.{grammar, itself, both_sides};
 ghost use Rattle.dlk_grammar.specs.Substitutions.{ReadsSubstitution, replacements};
-ghost use Rattle.dlk_forms.specs.Said.{SaysCode, SaysSides, SaysPairs, IsStop};
+ghost use Rattle.dlk_grammar.specs.Extras.{ReadsExtra, extra_replacements};
+ghost use Rattle.dlk_forms.specs.Said.{SaysCode, SaysSides, SaysPairs, SaysExtra, IsStop};
 
+use crate::extras::{ExtraCode, ExtraReader};
 use crate::pairs::{PairsCode, PairsReader};
 use crate::sides::{SidesCode, SidesReader};
 use crate::trees::TreeReader;
@@ -59,4 +61,18 @@ pub fn read_pairs(alloc: Global, tokens: Vec<Token>) -> Result<PairsCode, Stop>
     ensures stops { IfErr result (IsStop ReadsSubstitution replacements Allowed tokens.items) }
 {
     read(alloc, PairsReader::new(alloc), tokens)
+}
+
+/// Reads renames and the pairs behind them from tokens of a text, of which the end is the last. Argument dots and the hole are allowed.
+///
+/// # Errors
+///
+/// `Syntax` comes exactly where the tokens stop as renames and pairs: the byte of the first token at which none goes on. `Memory` comes
+/// where memory runs out.
+pub fn read_extra(alloc: Global, tokens: Vec<Token>) -> Result<ExtraCode, Stop>
+    requires { AreTokens tokens.items }
+    ensures says { IfOk result (SaysExtra tokens.items) }
+    ensures stops { IfErr result (IsStop ReadsExtra extra_replacements Allowed tokens.items) }
+{
+    read(alloc, ExtraReader::new(alloc), tokens)
 }

@@ -11,6 +11,7 @@ pub mod Grammar
 pub mod Erased
 pub mod Readings
 pub mod Substitutions
+pub mod Extras
 pub mod Texts
 pub mod Shown
 pub mod ShownExamples

@@ -17,7 +17,9 @@ pub mod PairItems
 pub mod PairStates
 pub mod PairEnds
 pub mod PairLaws
+pub mod ExtraLaws
 pub mod PairExamples
+pub mod ExtraExamples
 pub mod ParseLaws
 pub mod PairsFormed
 pub mod Stopping

@@ -62,15 +62,15 @@ fresh_states (k ∷ s) y p e f =
     ap (λ (o : Option PairsState). o >>= λ z. states pairs_reader z s) (within_is [] Begins k b.0 b.1) ∙ within_states [] s b.0 y b.2
 
 -- What is read of some pairs.
-record PairsRead (s : List Lexeme) (l : List PairPhrase) : Type 0 where
-  front : List PairPhrase
-  last : PairState
-  pair : PairPhrase
-  passes : states pairs_reader Fresh s ≡ Some (Within front last)
-  whole_last : pair_ended last ≡ Some pair
-  list : front ++ pair ∷ [] ≡ l
+pub record PairsRead (s : List Lexeme) (l : List PairPhrase) : Type 0 where
+  pub front : List PairPhrase
+  pub last : PairState
+  pub pair : PairPhrase
+  pub passes : states pairs_reader Fresh s ≡ Some (Within front last)
+  pub whole_last : pair_ended last ≡ Some pair
+  pub list : front ++ pair ∷ [] ≡ l
 
-pairs_read : {s : List Lexeme} {l : List PairPhrase} → ReadsPairs s l → PairsRead s l
+pub pairs_read : {s : List Lexeme} {l : List PairPhrase} → ReadsPairs s l → PairsRead s l
 pairs_read (pairs-one {s = s} {p = p} d) =
     let r = pair_read d in
     record { front = []; last = r.0; pair = p; passes = fresh_states s r.0 p r.1 r.2; whole_last = r.2; list = refl }
@@ -90,7 +90,7 @@ pairs_read (pairs-more {s = s} {r = r} {l = l} {p = p} ds d) =
       list = ap (λ (z : List PairPhrase). z ++ p ∷ []) x.list;
     }
 
-only_pairs : {s : List Lexeme} {l : List PairPhrase} → ReadsSubstitution s l
+pub only_pairs : {s : List Lexeme} {l : List PairPhrase} → ReadsSubstitution s l
     → (y : PairsState) × (states pairs_reader Fresh s ≡ Some y) × (pairs_ended y ≡ Some l)
 only_pairs subst-nothing = (Fresh, refl, refl)
 only_pairs (subst-pairs d) =
@@ -101,25 +101,25 @@ only_pairs (subst-pairs d) =
     )
 
 -- What stands before the next pair.
-data PairsBefore : List PairPhrase → List Lexeme → Type 0 where
+pub data PairsBefore : List PairPhrase → List Lexeme → Type 0 where
   pairs-begin : PairsBefore [] []
   pairs-go_on : {s : List Lexeme} {l : List PairPhrase} → ReadsPairs s l → PairsBefore l (s ++ Comma ∷ [])
 
-pairs_joined : {l : List PairPhrase} {k : List Lexeme} → PairsBefore l k → {r : List Lexeme} {p : PairPhrase} → ReadsPair r p
+pub pairs_joined : {l : List PairPhrase} {k : List Lexeme} → PairsBefore l k → {r : List Lexeme} {p : PairPhrase} → ReadsPair r p
     → ReadsPairs (k ++ r) (l ++ p ∷ [])
 pairs_joined pairs-begin d = pairs-one d
 pairs_joined {l = l} (pairs-go_on {s = s} ds) {r} {p} d =
     subst (λ (z : List Lexeme). ReadsPairs z (l ++ p ∷ [])) (sym (append_assoc s (Comma ∷ []) r)) (pairs-more ds d)
 
-record WithinText (l : List PairPhrase) (x : PairState) (all : List Lexeme) : Type 0 where
-  listed : List Lexeme
-  own : List Lexeme
-  before : PairsBefore l listed
-  after : PairAfter x own
-  parts : all ≡ listed ++ own
+pub record WithinText (l : List PairPhrase) (x : PairState) (all : List Lexeme) : Type 0 where
+  pub listed : List Lexeme
+  pub own : List Lexeme
+  pub before : PairsBefore l listed
+  pub after : PairAfter x own
+  pub parts : all ≡ listed ++ own
 
 -- The state after these tokens.
-abbrev PairsAfter : PairsState → List Lexeme → Type 0
+abbrev pub PairsAfter : PairsState → List Lexeme → Type 0
 PairsAfter Fresh all = all ≡ []
 PairsAfter (Within l x) all = WithinText l x all
 
@@ -140,7 +140,7 @@ within_moves l x k y all a e =
     })
 
 -- the pairs with the last one
-all_pairs : (l : List PairPhrase) (x : PairState) (all : List Lexeme) → WithinText l x all → (p : PairPhrase) → pair_ended x ≡ Some p
+pub all_pairs : (l : List PairPhrase) (x : PairState) (all : List Lexeme) → WithinText l x all → (p : PairPhrase) → pair_ended x ≡ Some p
     → ReadsPairs all (l ++ p ∷ [])
 all_pairs l x all a p e = subst (λ (z : List Lexeme). ReadsPairs z (l ++ p ∷ [])) (sym a.parts) (pairs_joined a.before (found_pair x a.own p a.after e))
 
@@ -164,7 +164,7 @@ comma_moves l x y all a e = elim (known (pair_ended x)) [
 fresh_within : (all : List Lexeme) → all ≡ [] → WithinText [] Begins all
 fresh_within all a = record { listed = []; own = all; before = pairs-begin; after = a; parts = refl }
 
-pairs_moves : (x : PairsState) (k : Lexeme) (y : PairsState) (all : List Lexeme) → PairsAfter x all → pairs_step x k ≡ Some y → PairsAfter y (all ++ k ∷ [])
+pub pairs_moves : (x : PairsState) (k : Lexeme) (y : PairsState) (all : List Lexeme) → PairsAfter x all → pairs_step x k ≡ Some y → PairsAfter y (all ++ k ∷ [])
 pairs_moves Fresh k y all a e = within_moves [] Begins k y all (fresh_within all a) e
 pairs_moves (Within l x) Comma y all a e = comma_moves l x y all a e
 pairs_moves (Within l x) k y all a e = within_moves l x k y all a e

@@ -1,4 +1,4 @@
--- The replacements of pairs that are read are well made.
+-- The replacements of pairs that are read are well made, with renames before them or without.
 use Rattle.std.proofs.Common.{◌≡◌, ℕ, ◌<◌, List, [], ◌∷◌, ◌++◌, ap, subst, sym, ◌∙◌}
 use Rattle.std.specs.List.{flat_map}
 use Rattle.std.proofs.lemmas.Grind.{flat_map-append}
@@ -11,6 +11,7 @@ use Rattle.dlk_grammar.specs.Lexemes.{Lexeme, Comma, Becomes}
 use Rattle.dlk_grammar.specs.Grammar.{brace-items}
 use Rattle.dlk_grammar.specs.Erased.{erase, ills}
 use Rattle.dlk_grammar.specs.Substitutions.{PairPhrase, ReadsPair, ReadsPairs, pairs-one, pairs-more, ReadsSubstitution, subst-nothing, subst-pairs, replacements, erase_pairs}
+use Rattle.dlk_grammar.specs.Extras.{ExtraPhrase, ReadsExtra, extra-subst, extra-renames, extra-both}
 use Rattle.dlk_machine.specs.Levels.{form_sort, top}
 use Rattle.dlk_machine.specs.Pairs.{Right}
 use Rattle.dlk_machine.proofs.Formed.{Each, each_parts, each_append, AreReal, IsBelow, AreBelow, IsReal, part_last, widen, none_left, none_right, grown, grown_brace, made_from, GrownSome}
@@ -70,3 +71,13 @@ listed_made (pairs-more {s = s} {r = r} {l = l} {p = p} ds d) h e =
 pub pairs_formed : {s : List Lexeme} {l : List PairPhrase} → ReadsSubstitution s l → AreReal s → ills_of_pairs l ≡ [] → AreWellMade (erase_pairs l)
 pairs_formed subst-nothing h e = All-nil IsMadePair
 pairs_formed (subst-pairs d) h e = listed_made d h e
+
+pub extra_below : {s : List Lexeme} {e : ExtraPhrase} → ReadsExtra s e → (m : ℕ) → AreBelow m s → Each (λ n. n < m) (ills_of_pairs e.pairs)
+extra_below (extra-subst d) m h = pairs_below d m h
+extra_below (extra-renames d) m h = tt
+extra_below (extra-both {s = s} {r = r} d ds) m h = listed_below ds m (each_parts (IsBelow m) s (Comma ∷ r) h).1.1
+
+pub extra_formed : {s : List Lexeme} {e : ExtraPhrase} → ReadsExtra s e → AreReal s → ills_of_pairs e.pairs ≡ [] → AreWellMade (erase_pairs e.pairs)
+extra_formed (extra-subst d) h n = pairs_formed d h n
+extra_formed (extra-renames d) h n = All-nil IsMadePair
+extra_formed (extra-both {s = s} {r = r} d ds) h n = listed_made ds (each_parts IsReal s (Comma ∷ r) h).1.1 n

@@ -11,12 +11,14 @@ use Rattle.dlk_grammar.specs.Phrases.{Phrase}
 use Rattle.dlk_grammar.specs.Grammar.{Nonterminal, Reads, Sides, ReadsSequent, ReadsExpression}
 use Rattle.dlk_grammar.specs.Readings.{Says, Stops, grammar}
 use Rattle.dlk_grammar.specs.Substitutions.{PairPhrase, ReadsSubstitution}
+use Rattle.dlk_grammar.specs.Extras.{ExtraPhrase, ReadsExtra}
 use Rattle.dlk_machine.specs.Levels.{form_sort, top}
 use Rattle.dlk_machine.specs.Parse.{Machine, parse, reader}
 use Rattle.dlk_machine.specs.Forms.{machine_of}
 use Rattle.dlk_machine.specs.Expressions.{expression_reader}
 use Rattle.dlk_machine.specs.Sequents.{sequent_reader}
 use Rattle.dlk_machine.specs.Pairs.{pairs_reader}
+use Rattle.dlk_machine.specs.Extras.{extra_reader}
 use Rattle.dlk_machine.proofs.Climb.{stands}
 use Rattle.dlk_machine.proofs.Opening.{all_permitted}
 use Rattle.dlk_machine.proofs.Only.{top_sort}
@@ -26,6 +28,7 @@ use Rattle.dlk_machine.proofs.Reading.{reads_all}
 use Rattle.dlk_machine.proofs.ExpressionLaws.{expressions_all}
 use Rattle.dlk_machine.proofs.SequentLaws.{sequents_all}
 use Rattle.dlk_machine.proofs.PairLaws.{pairs_all}
+use Rattle.dlk_machine.proofs.ExtraLaws.{extra_all}
 
 abbrev parsed : {P : Type 0} → P → Result P ℕ
 parsed p = Ok p
@@ -99,6 +102,19 @@ pairs_fault_stops s n e = stops_text pairs_reader ReadsSubstitution Allowed pair
 
 pub one_pairs_read : (s : List Lexeme) (p q : List PairPhrase) → ReadsSubstitution s p → ReadsSubstitution s q → p ≡ q
 one_pairs_read s p q d e = one pairs_reader ReadsSubstitution pairs_all s p q d e
+
+-- renames and pairs, likewise
+pub extra_read_says : (s : List Lexeme) (e : ExtraPhrase) → parse Allowed extra_reader s ≡ Ok e → Says Allowed ReadsExtra s e
+extra_read_says s e h = found_text extra_reader ReadsExtra Allowed extra_all s e h
+
+pub extra_says_read : (s : List Lexeme) (e : ExtraPhrase) → Says Allowed ReadsExtra s e → parse Allowed extra_reader s ≡ Ok e
+extra_says_read s e h = only_text extra_reader ReadsExtra Allowed extra_all s e h
+
+pub extra_fault_stops : (s : List Lexeme) (n : ℕ) → parse Allowed extra_reader s ≡ Err n → Stops Allowed ReadsExtra s n
+extra_fault_stops s n e = stops_text extra_reader ReadsExtra Allowed extra_all s n e
+
+pub one_extra_read : (s : List Lexeme) (p q : ExtraPhrase) → ReadsExtra s p → ReadsExtra s q → p ≡ q
+one_extra_read s p q d e = one extra_reader ReadsExtra extra_all s p q d e
 
 forms_all : (d : Dots) (wanted : Form) → Reader d (machine_of wanted) (grammar wanted)
 forms_all d form.Formula = reads_all d Formula

@@ -6,7 +6,7 @@ use Rattle.std.proofs.lemmas.List.{append-nil}
 use Rattle.std.proofs.lemmas.List.Elements.{All-nil, All-cons, All-tail}
 use Rattle.dlk_tree.specs.Trees.{Tree, size, depth}
 use Rattle.dlk_calculus.specs.Sequents.{Sequent}
-use Rattle.dlk_calculus.specs.Pairs.{Pair}
+use Rattle.dlk_calculus.specs.Pairs.{Pair, Extra}
 use Rattle.dlk_grammar.specs.declared.token.Token.{Token}
 use Rattle.dlk_grammar.specs.declared.token.TokenKind.{TokenKind}
 use Rattle.dlk_grammar.specs.declared.token.TokenKind.TheVariants as kind
@@ -22,17 +22,19 @@ use Rattle.dlk_grammar.specs.Erased.{erase, ills, lowest}
 use Rattle.dlk_calculus.specs.Limits.{most_nodes, greatest_depth}
 use Rattle.dlk_grammar.specs.Readings.{Says, Stops, FirstAt, IsLong, bracket_level, opens, OpensTooDeep, FirstPast, ReadFault, Literal, Nesting, Syntax, Shape, TooBig, TooDeep, fault_rank, SpeaksAgainst, IsReadFault, IsRead, grammar, itself, both_sides, erase_sides}
 use Rattle.dlk_grammar.specs.Substitutions.{PairPhrase, ReadsSubstitution, replacements, erase_pairs}
-use Rattle.dlk_grammar.specs.Texts.{TreeText, SequentText, PairsText, TextFault, BadByte, Unread, TreeTextFault, SequentTextFault, PairsTextFault}
+use Rattle.dlk_grammar.specs.Extras.{ExtraPhrase, ReadsExtra, extra_replacements, erase_extra}
+use Rattle.dlk_grammar.specs.Texts.{TreeText, SequentText, PairsText, ExtraText, TextFault, BadByte, Unread, TreeTextFault, SequentTextFault, PairsTextFault, ExtraTextFault}
 use Rattle.dlk_grammar.proofs.SomeSplit.{some_split}
 use Rattle.dlk_grammar.proofs.Real.{split_tokens}
 use Rattle.dlk_machine.specs.Parse.{parse}
 use Rattle.dlk_machine.specs.Sequents.{sequent_reader}
 use Rattle.dlk_machine.specs.Pairs.{pairs_reader}
-use Rattle.dlk_machine.proofs.ParseLaws.{form_read_says, form_fault_stops, sequent_read_says, sequent_fault_stops, one_sides_read, pairs_read_says, pairs_fault_stops, one_pairs_read}
+use Rattle.dlk_machine.specs.Extras.{extra_reader}
+use Rattle.dlk_machine.proofs.ParseLaws.{form_read_says, form_fault_stops, sequent_read_says, sequent_fault_stops, one_sides_read, pairs_read_says, pairs_fault_stops, one_pairs_read, extra_read_says, extra_fault_stops, one_extra_read}
 use Rattle.dlk_machine.proofs.Stopping.{said_nowhere, stops_within}
 use Rattle.dlk_machine.specs.Forms.{machine_of}
 use Rattle.dlk_machine.proofs.Formed.{Each}
-use Rattle.dlk_machine.proofs.TextLaws.{same, sooner, later, seams, fewer_lexemes, token_at, least_below, one_grammar, form_ills_below, sequent_ills_below, pairs_ills_below}
+use Rattle.dlk_machine.proofs.TextLaws.{same, sooner, later, seams, fewer_lexemes, token_at, least_below, one_grammar, form_ills_below, sequent_ills_below, pairs_ills_below, extra_ills_below}
 
 -- none, or the first
 data Search {X : Type 0} (Is : X → Type 0) : Type 0 where
@@ -253,6 +255,10 @@ parsed_pairs : (s : List Lexeme) (r : Result (List PairPhrase) ℕ) → parse Al
 parsed_pairs s (Ok l) e = it_says l (pairs_read_says s l e)
 parsed_pairs s (Err n) e = it_stops n (pairs_fault_stops s n e)
 
+parsed_extra : (s : List Lexeme) (r : Result ExtraPhrase ℕ) → parse Allowed extra_reader s ≡ r → SaysOrStops Allowed ReadsExtra s
+parsed_extra s (Ok l) e = it_says l (extra_read_says s l e)
+parsed_extra s (Err n) e = it_stops n (extra_fault_stops s n e)
+
 -- tokens are those of a tree, or there is a fault
 split_tree : (form : Form) (d : Dots) (bytes : List ℕ) (ts : List Token) → Splits 0 bytes ts
     → ((t : Tree) × TreeText form d bytes t) ⊎ ((why : TextFault) × TreeTextFault form d bytes why)
@@ -281,6 +287,15 @@ split_pairs bytes ts splits =
       | is_fault why h ↦ inr (Unread why, (ts, splits, h))
     ]
 
+split_extra : (bytes : List ℕ) (ts : List Token) → Splits 0 bytes ts
+    → ((extra : Extra) × ExtraText bytes extra) ⊎ ((why : TextFault) × ExtraTextFault bytes why)
+split_extra bytes ts splits =
+    let parsed = parsed_extra (lexemes ts) (parse Allowed extra_reader (lexemes ts)) refl in
+    elim (outcome ReadsExtra extra_replacements one_extra_read Allowed ts erase_extra (extra_ills_below ts) (split_tokens splits) parsed) [
+      | is_read extra h ↦ inl (extra, record { tokens = ts; splits = splits; reads = h })
+      | is_fault why h ↦ inr (Unread why, (ts, splits, h))
+    ]
+
 -- Bytes are a text, or there is a fault.
 pub some_tree : (form : Form) (d : Dots) (bytes : List ℕ) → ((t : Tree) × TreeText form d bytes t) ⊎ ((why : TextFault) × TreeTextFault form d bytes why)
 some_tree form d bytes = elim (some_split 0 bytes) [ inl w ↦ split_tree form d bytes w.0 w.1 | inr w ↦ inr (BadByte w.0, w.1) ]
@@ -290,3 +305,6 @@ some_sequent bytes = elim (some_split 0 bytes) [ inl w ↦ split_sequent bytes w
 
 pub some_pairs : (bytes : List ℕ) → ((pairs : List Pair) × PairsText bytes pairs) ⊎ ((why : TextFault) × PairsTextFault bytes why)
 some_pairs bytes = elim (some_split 0 bytes) [ inl w ↦ split_pairs bytes w.0 w.1 | inr w ↦ inr (BadByte w.0, w.1) ]
+
+pub some_extra : (bytes : List ℕ) → ((extra : Extra) × ExtraText bytes extra) ⊎ ((why : TextFault) × ExtraTextFault bytes why)
+some_extra bytes = elim (some_split 0 bytes) [ inl w ↦ split_extra bytes w.0 w.1 | inr w ↦ inr (BadByte w.0, w.1) ]

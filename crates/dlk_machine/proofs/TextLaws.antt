@@ -8,7 +8,7 @@ use Rattle.std.proofs.lemmas.List.Elements.{All-head, All-tail}
 use Rattle.std.proofs.lemmas.Option.{same_Some}
 use Rattle.dlk_tree.specs.Trees.{Tree, WellMade, size, depth}
 use Rattle.dlk_calculus.specs.Sequents.{Sequent, IsFormula, IsSequent}
-use Rattle.dlk_calculus.specs.Pairs.{Pair, AreWellMade}
+use Rattle.dlk_calculus.specs.Pairs.{Pair, Extra, AreWellMade}
 use Rattle.dlk_grammar.specs.declared.token.Token.{Token}
 use Rattle.dlk_grammar.specs.declared.token.TokenKind.{TokenKind}
 use Rattle.dlk_grammar.specs.declared.token.TokenKind.TheVariants as kind
@@ -26,12 +26,13 @@ use Rattle.dlk_grammar.specs.Erased.{erase, ills, ills_of_all, lowest}
 use Rattle.dlk_calculus.specs.Limits.{most_nodes, greatest_depth}
 use Rattle.dlk_grammar.specs.Readings.{Says, FirstAt, IsLong, OpensTooDeep, TokenAt, FirstPast, ReadFault, Literal, Nesting, Syntax, Shape, TooBig, TooDeep, fault_rank, SpeaksAgainst, IsReadFault, IsRead, grammar, itself, IsTree, IsTreeFault, phrases_in, both_sides, erase_sides, IsSequentOf, IsSequentFault}
 use Rattle.dlk_grammar.specs.Substitutions.{PairPhrase, ReadsSubstitution, replacements, erase_pairs, ArePairs, ArePairsFault}
-use Rattle.dlk_grammar.specs.Texts.{TreeText, SequentText, PairsText, TextFault, BadByte, Unread, TreeTextFault, SequentTextFault, PairsTextFault}
+use Rattle.dlk_grammar.specs.Extras.{ExtraPhrase, ReadsExtra, extra_replacements, erase_extra, AreExtra, AreExtraFault}
+use Rattle.dlk_grammar.specs.Texts.{TreeText, SequentText, PairsText, ExtraText, TextFault, BadByte, Unread, TreeTextFault, SequentTextFault, PairsTextFault, ExtraTextFault}
 use Rattle.dlk_grammar.proofs.Splitting.{one_split, bad_is_no_split, one_bad}
 use Rattle.dlk_grammar.proofs.Real.{split_tokens}
 use Rattle.dlk_machine.proofs.Stopping.{one_stop}
-use Rattle.dlk_machine.proofs.ParseLaws.{one_read, one_expression_read, one_sides_read, one_pairs_read}
-use Rattle.dlk_machine.proofs.PairsFormed.{ills_of_pairs, pairs_below, pairs_formed}
+use Rattle.dlk_machine.proofs.ParseLaws.{one_read, one_expression_read, one_sides_read, one_pairs_read, one_extra_read}
+use Rattle.dlk_machine.proofs.PairsFormed.{ills_of_pairs, pairs_below, pairs_formed, extra_below, extra_formed}
 use Rattle.dlk_machine.proofs.Formed.{Each, each_append, IsReal, AreReal, IsBelow, AreBelow, grown, grown_expression, grown_sides, formed, expression_formed, formula_formed, sequent_formed, ills_of_sides}
 
 -- the lexemes of tokens that are real are real
@@ -372,3 +373,37 @@ one_pairs_fault bytes (Unread why) (Unread other) f g =
 
 pub pairs_text_well_made : (bytes : List ℕ) (pairs : List Pair) → PairsText bytes pairs → AreWellMade pairs
 pairs_text_well_made bytes pairs a = pairs_well_made a.tokens pairs (split_tokens a.splits) a.reads
+
+-- texts of renames and pairs
+pub extra_ills_below : (tokens : List Token) (e : ExtraPhrase) → ReadsExtra (lexemes tokens) e → Each (λ n. n < length tokens) (ills_of_pairs e.pairs)
+extra_ills_below tokens e d = extra_below d (length tokens) (lexemes_below 0 (length tokens) tokens (omega arith))
+
+extra_not_ill : (tokens : List Token) (extra : Extra) (a : AreExtra tokens extra) → ills_of_pairs a.phrase.pairs ≡ []
+extra_not_ill tokens extra a =
+    none_ill ReadsExtra extra_replacements one_extra_read Allowed tokens a.phrase (ills_of_pairs a.phrase.pairs) refl a.says a.no_fault
+    (extra_ills_below tokens a.phrase a.says.reads)
+
+pub extra_well_made : (tokens : List Token) (extra : Extra) → AreTokens tokens → AreExtra tokens extra → AreWellMade extra.pairs
+extra_well_made tokens extra real a =
+    subst (λ (e : Extra). AreWellMade e.pairs) a.value_is (extra_formed a.says.reads (lexemes_real 0 tokens real.real) (extra_not_ill tokens extra a))
+
+pub one_extra_text : (bytes : List ℕ) (extra other : Extra) → ExtraText bytes extra → ExtraText bytes other → extra ≡ other
+one_extra_text bytes extra other a b =
+    one_value ReadsExtra extra_replacements one_extra_read Allowed a.tokens erase_extra extra other a.reads
+    (subst (λ (ts : List Token). AreExtra ts other) (one_split b.splits a.splits) b.reads)
+
+pub extra_or_fault : (bytes : List ℕ) (extra : Extra) (why : TextFault) → ExtraText bytes extra → ExtraTextFault bytes why → ⊥
+extra_or_fault bytes extra (BadByte at) a f = bad_is_no_split f a.splits
+extra_or_fault bytes extra (Unread why) a f = a.reads.no_fault why (subst (λ (ts : List Token). AreExtraFault ts why) (one_split f.1 a.splits) f.2).applies
+
+pub one_extra_fault : (bytes : List ℕ) (why other : TextFault) → ExtraTextFault bytes why → ExtraTextFault bytes other → why ≡ other
+one_extra_fault bytes (BadByte at) (BadByte other) f g = ap BadByte (one_bad f g)
+one_extra_fault bytes (BadByte at) (Unread other) f g = absurd (bad_is_no_split f g.1)
+one_extra_fault bytes (Unread why) (BadByte other) f g = absurd (bad_is_no_split g f.1)
+one_extra_fault bytes (Unread why) (Unread other) f g =
+    ap Unread
+    (one_fault ReadsExtra extra_replacements one_extra_read Allowed f.0 why other f.2
+    (subst (λ (ts : List Token). AreExtraFault ts other) (one_split g.1 f.1) g.2))
+
+pub extra_text_well_made : (bytes : List ℕ) (extra : Extra) → ExtraText bytes extra → AreWellMade extra.pairs
+extra_text_well_made bytes extra a = extra_well_made a.tokens extra (split_tokens a.splits) a.reads

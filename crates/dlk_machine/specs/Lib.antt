@@ -4,4 +4,5 @@ pub mod Parse
 pub mod Sequents
 pub mod Expressions
 pub mod Pairs
+pub mod Extras
 pub mod Forms

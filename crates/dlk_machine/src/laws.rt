@@ -2,7 +2,7 @@
 ghost use Rattle.std.specs.Prelude.{◌≡◌, ◌⊎◌, ℕ, List};
 ghost use Rattle.dlk_tree.specs.Trees.{Tree, WellMade};
 ghost use Rattle.dlk_calculus.specs.Sequents.{Sequent, IsFormula, IsSequent};
-ghost use Rattle.dlk_calculus.specs.Pairs.{Pair, AreWellMade};
+ghost use Rattle.dlk_calculus.specs.Pairs.{Pair, Extra, AreWellMade};
 ghost use Rattle.dlk_grammar.specs.declared.token.Dots.{Dots as TheDots};
 ghost use Rattle.dlk_grammar.specs.declared.token.Dots.TheVariants.{Refused};
 ghost use Rattle.dlk_grammar.specs.declared.token.Form.{Form as TheForm};
@@ -12,7 +12,8 @@ ghost use Rattle.dlk_grammar.specs.Phrases.{Phrase};
 ghost use Rattle.dlk_grammar.specs.Grammar.{Nonterminal, Reads, Sides, ReadsSequent, ReadsExpression};
 ghost use Rattle.dlk_grammar.specs.Readings.{Says, Stops, grammar};
 ghost use Rattle.dlk_grammar.specs.Substitutions.{PairPhrase, ReadsSubstitution};
-ghost use Rattle.dlk_grammar.specs.Texts.{TreeText, SequentText, PairsText, TextFault, TreeTextFault, SequentTextFault, PairsTextFault};
+ghost use Rattle.dlk_grammar.specs.Extras.{ExtraPhrase, ReadsExtra};
+ghost use Rattle.dlk_grammar.specs.Texts.{TreeText, SequentText, PairsText, ExtraText, TextFault, TreeTextFault, SequentTextFault, PairsTextFault, ExtraTextFault};
 
 /// Lexemes are at most one phrase of each nonterminal.
 pub fn one_phrase()
@@ -34,11 +35,17 @@ pub fn one_pairs()
     ensures { (s : List Lexeme) (p q : List PairPhrase) → ReadsSubstitution s p → ReadsSubstitution s q → p ≡ q }
 {}
 
+/// Lexemes are the renames and the pairs of at most one extra.
+pub fn one_extra()
+    ensures { (s : List Lexeme) (p q : ExtraPhrase) → ReadsExtra s p → ReadsExtra s q → p ≡ q }
+{}
+
 /// The first lexeme at which no text of a form goes on is one.
 pub fn one_stop()
     ensures trees { (form : TheForm) (d : TheDots) (s : List Lexeme) (i j : ℕ) → Stops d (grammar form) s i → Stops d (grammar form) s j → i ≡ j }
     ensures sequents { (d : TheDots) (s : List Lexeme) (i j : ℕ) → Stops d ReadsSequent s i → Stops d ReadsSequent s j → i ≡ j }
     ensures pairs { (d : TheDots) (s : List Lexeme) (i j : ℕ) → Stops d ReadsSubstitution s i → Stops d ReadsSubstitution s j → i ≡ j }
+    ensures extras { (d : TheDots) (s : List Lexeme) (i j : ℕ) → Stops d ReadsExtra s i → Stops d ReadsExtra s j → i ≡ j }
 {}
 
 /// A text of a form stops nowhere.
@@ -46,6 +53,7 @@ pub fn no_stop()
     ensures trees { (form : TheForm) (d : TheDots) (s : List Lexeme) (p : Phrase) (i : ℕ) → Says d (grammar form) s p → Stops d (grammar form) s i → ⊥ }
     ensures sequents { (d : TheDots) (s : List Lexeme) (p : Sides) (i : ℕ) → Says d ReadsSequent s p → Stops d ReadsSequent s i → ⊥ }
     ensures pairs { (d : TheDots) (s : List Lexeme) (p : List PairPhrase) (i : ℕ) → Says d ReadsSubstitution s p → Stops d ReadsSubstitution s i → ⊥ }
+    ensures extras { (d : TheDots) (s : List Lexeme) (p : ExtraPhrase) (i : ℕ) → Says d ReadsExtra s p → Stops d ReadsExtra s i → ⊥ }
 {}
 
 /// Bytes are a text of one tree or have one fault, and never both. The tree is well made, and where a formula without
@@ -78,4 +86,13 @@ pub fn pairs_texts()
     ensures one_fault { (bytes : List ℕ) (why other : TextFault) → PairsTextFault bytes why → PairsTextFault bytes other → why ≡ other }
     ensures some { (bytes : List ℕ) → ((pairs : List Pair) × PairsText bytes pairs) ⊎ ((why : TextFault) × PairsTextFault bytes why) }
     ensures well_made { (bytes : List ℕ) (pairs : List Pair) → PairsText bytes pairs → AreWellMade pairs }
+{}
+
+/// The same of the texts of renames with pairs behind them, each of whose replacements is well made.
+pub fn extra_texts()
+    ensures one { (bytes : List ℕ) (extra other : Extra) → ExtraText bytes extra → ExtraText bytes other → extra ≡ other }
+    ensures no_fault { (bytes : List ℕ) (extra : Extra) (why : TextFault) → ExtraText bytes extra → ExtraTextFault bytes why → ⊥ }
+    ensures one_fault { (bytes : List ℕ) (why other : TextFault) → ExtraTextFault bytes why → ExtraTextFault bytes other → why ≡ other }
+    ensures some { (bytes : List ℕ) → ((extra : Extra) × ExtraText bytes extra) ⊎ ((why : TextFault) × ExtraTextFault bytes why) }
+    ensures well_made { (bytes : List ℕ) (extra : Extra) → ExtraText bytes extra → AreWellMade extra.pairs }
 {}

@@ -7,3 +7,4 @@ pub mod Within
 pub mod Reports
 pub mod SaidLaws
 pub mod SaidPairs
+pub mod SaidExtra

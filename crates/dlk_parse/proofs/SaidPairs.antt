@@ -25,6 +25,18 @@ use Rattle.dlk_forms.specs.declared.pairs.PairsCode.{PairsCode}
 use Rattle.dlk_parse.proofs.Reports.{beyond, faultless}
 use Rattle.dlk_parse.proofs.SaidLaws.{least_among, among_starts, All-from_map}
 
+-- pairs with the symbols and the replacements of those that were read
+pub same_pairs : (trees : List Tree) (l : List PairPhrase) (pairs : List Pair) → map (λ p. p.sym) pairs ≡ map (λ p. p.sym) l
+    → map (tree trees) (map (λ p. p.by) pairs) ≡ map erase (replacements l) → pairs_at trees pairs ≡ erase_pairs l
+same_pairs trees [] [] e f = refl
+same_pairs trees [] (p ∷ pairs) e f = absurd cc
+same_pairs trees (q ∷ l) [] e f = absurd cc
+same_pairs trees (q ∷ l) (p ∷ pairs) e f =
+    let s : p.sym ≡ q.sym = cc in
+    let t : tree trees p.by ≡ erase q.by = cc in
+    let r : pairs_at trees pairs ≡ erase_pairs l = same_pairs trees l pairs (cc) (cc) in
+    λ i. record { sym = s i; by = t i } ∷ r i
+
 module _ (tokens : List Token) where
   module _ (c : PairsCode) where
     pub pairs_places : SaysPairs tokens c → HasPlaces c.code.items (starts_of tokens)
@@ -60,17 +72,7 @@ module _ (tokens : List Token) where
 
         pub pairs_found : (pairs : List Pair) → map (λ p. p.sym) pairs ≡ c.symbols.items → map (λ p. p.by) pairs ≡ ids → ArePairs tokens (pairs_at trees pairs)
         pairs_found pairs e f =
-            subst (ArePairs tokens) (sym (same h.said pairs (e ∙ h.shown.symbols) (ap (map (tree trees)) f ∙ made_are))) are_pairs
-          where
-            same : (l : List PairPhrase) (pairs : List Pair) → map (λ p. p.sym) pairs ≡ map (λ p. p.sym) l → map (tree trees) (map (λ p. p.by) pairs) ≡ map erase (replacements l) → pairs_at trees pairs ≡ erase_pairs l
-            same [] [] e f = refl
-            same [] (p ∷ pairs) e f = absurd cc
-            same (q ∷ l) [] e f = absurd cc
-            same (q ∷ l) (p ∷ pairs) e f =
-                let s : p.sym ≡ q.sym = cc in
-                let t : tree trees p.by ≡ erase q.by = cc in
-                let r : pairs_at trees pairs ≡ erase_pairs l = same l pairs (cc) (cc) in
-                λ i. record { sym = s i; by = t i } ∷ r i
+            subst (ArePairs tokens) (sym (same_pairs trees h.said pairs (e ∙ h.shown.symbols) (ap (map (tree trees)) f ∙ made_are))) are_pairs
 
 pub pairs_known : (trees : List Tree) (ids : List Id) (pairs : List Pair) → map (λ p. p.by) pairs ≡ ids → All (IsId trees) ids → AreKnownPairs trees pairs
 pairs_known trees ids pairs e all = All-from_map (IsId trees) (λ (p : Pair). p.by) pairs (subst (All (IsId trees)) (sym e) all)

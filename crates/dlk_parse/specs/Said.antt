@@ -9,10 +9,12 @@ use Rattle.dlk_grammar.specs.Grammar.{Sides, ReadsSequent}
 use Rattle.dlk_grammar.specs.Erased.{ills, lowest}
 use Rattle.dlk_grammar.specs.Readings.{Says, ReadFault, SpeaksAgainst, both_sides}
 use Rattle.dlk_grammar.specs.Substitutions.{PairPhrase, replacements, ReadsSubstitution}
+use Rattle.dlk_grammar.specs.Extras.{ExtraPhrase, extra_replacements, ReadsExtra}
 use Rattle.dlk_reader.specs.Codes.{postfix}
 use Rattle.dlk_reader.specs.declared.code.Code.{Code}
-use Rattle.dlk_forms.specs.Said.{left_count, IsCodeOfPairs}
+use Rattle.dlk_forms.specs.Said.{left_count, IsCodeOfPairs, IsCodeOfExtra}
 use Rattle.dlk_forms.specs.declared.pairs.PairsCode.{PairsCode}
+use Rattle.dlk_forms.specs.declared.extras.ExtraCode.{ExtraCode}
 use Rattle.dlk_forms.specs.declared.sides.SidesCode.{SidesCode}
 use Rattle.dlk_parse.specs.Limits.{AreWithin, IsBeyond}
 use Rattle.dlk_parse.specs.declared.fault.ParseFault.{ParseFault}
@@ -52,3 +54,10 @@ pub record AreReadPairs (tokens : List Token) (c : PairsCode) : Type 0 where
   pub says : Says Allowed ReadsSubstitution (lexemes tokens) said
   pub shown : IsCodeOfPairs c said
   pub no_fault : (why : ReadFault) → ¬ SpeaksAgainst ReadsSubstitution replacements Allowed tokens why
+
+-- the same of renames and pairs
+pub record IsReadExtra (tokens : List Token) (c : ExtraCode) : Type 0 where
+  pub said : ExtraPhrase
+  pub says : Says Allowed ReadsExtra (lexemes tokens) said
+  pub shown : IsCodeOfExtra c said
+  pub no_fault : (why : ReadFault) → ¬ SpeaksAgainst ReadsExtra extra_replacements Allowed tokens why

@@ -1,4 +1,4 @@
-//! Reads terms, formulas, programs, sequents and substitutions into a store.
+//! Reads terms, formulas, programs, sequents, substitutions and extras into a store.
 #![tactic(auto)]
 
 mod copies;
@@ -13,8 +13,8 @@ mod texts;
 
 pub use dlk_grammar::{Dots, Form};
 pub use fault::{ParseFault, TextFault};
-pub use readers::{expression, formula, program, sequent, substitution, term};
-pub use texts::{read_expression, read_formula, read_sequent, read_substitution};
+pub use readers::{expression, extra, formula, program, sequent, substitution, term};
+pub use texts::{read_expression, read_extra, read_formula, read_sequent, read_substitution};
 
 #[cfg(test)]
 mod tests;

@@ -1,24 +1,26 @@
-//! Trees, sequents and pairs of tokens that are used up.
+//! Trees, sequents, pairs and extras of tokens that are used up.
 ghost use Rattle.std.specs.Prelude.{◌≡◌, IfOk, IfErr, length, map};
 ghost use Rattle.dlk_calculus.specs.Sequents.{IsSequent};
 ghost use Rattle.dlk_grammar.specs.declared.token.Dots.TheVariants.{Refused};
 ghost use Rattle.dlk_grammar.specs.RealTokens.{AreTokens};
 ghost use Rattle.dlk_grammar.specs.Readings.{grammar, itself, IsTree, IsTreeFault, IsSequentOf, IsSequentFault};
 ghost use Rattle.dlk_grammar.specs.Substitutions.{ArePairs, ArePairsFault};
+ghost use Rattle.dlk_grammar.specs.Extras.{AreExtra, AreExtraFault};
 ghost use Rattle.dlk_store.specs.Stores.{IsId, tree};
 ghost use Rattle.dlk_sequent.specs.Sequents.{sequent_at, IsKnown};
 ghost use Rattle.dlk_sequent.specs.Substitutions.{pairs_at, AreKnownPairs};
+ghost use Rattle.dlk_sequent.specs.Extras.{extra_at, IsKnownExtra};
 ghost use Rattle.dlk_parse.specs.Faults.{IsParseFaultOf, UnlessMemory};
-ghost use Rattle.dlk_parse.specs.Said.{IsReadCode, AreReadSides, AreReadPairs};
+ghost use Rattle.dlk_parse.specs.Said.{IsReadCode, AreReadSides, AreReadPairs, IsReadExtra};
 
 use crate::fault::ParseFault;
 use crate::limits::check_code;
 use crate::making::make_all;
 use crate::scan::scan;
-use dlk_forms::{PairsCode, SidesCode, read_pairs, read_sides, read_tree};
+use dlk_forms::{ExtraCode, PairsCode, SidesCode, read_extra, read_pairs, read_sides, read_tree};
 use dlk_grammar::{Dots, Form, Token};
 use dlk_reader::Code;
-use dlk_sequent::{Listed, Pair, Sequent};
+use dlk_sequent::{Extra, Listed, Pair, Sequent};
 use dlk_store::{Id, Store};
 use dlk_tree::Sym;
 use std::alloc::{AllocError, Global};
@@ -62,6 +64,18 @@ fn pairs_code(alloc: Global, tokens: Vec<Token>) -> Result<PairsCode, ParseFault
     let pairs = read_pairs(alloc, tokens)?;
     check_code(alloc, starts.as_slice(), pairs.code.as_slice())?;
     Ok(pairs)
+}
+
+/// The code of the renames and the pairs that the tokens are a text of.
+fn extra_code(alloc: Global, tokens: Vec<Token>) -> Result<ExtraCode, ParseFault>
+    requires { AreTokens tokens.items }
+    ensures read { IfOk result (IsReadExtra tokens.items) }
+    ensures fault { IfErr result (IsParseFaultOf (AreExtraFault tokens.items)) }
+{
+    let starts = scan(alloc, tokens.as_slice())?;
+    let extra = read_extra(alloc, tokens)?;
+    check_code(alloc, starts.as_slice(), extra.pairs.code.as_slice())?;
+    Ok(extra)
 }
 
 /// The tree that the tokens are a text of.
@@ -138,4 +152,29 @@ pub(crate) fn pairs_of<S: Store>(
     let ids = make_all(alloc, code, store)?;
     let pairs = pairs(alloc, symbols, ids.as_slice())?;
     Ok(pairs)
+}
+
+/// The renames and the pairs that the tokens are a text of.
+pub(crate) fn extra_of<S: Store>(
+    alloc: Global,
+    tokens: Vec<Token>,
+    store: &mut S,
+) -> Result<Extra, ParseFault>
+    requires { AreTokens tokens.items }
+    ensures found { IfOk result (λ extra. AreExtra tokens.items (extra_at (S.trees store.new) extra)) }
+    ensures known { IfOk result (IsKnownExtra (S.trees store.new)) }
+    ensures fault { IfErr result (IsParseFaultOf (AreExtraFault tokens.items)) }
+    ensures unmade { IfErr result (UnlessMemory (store.new ≡ store.old)) }
+    ensures grows { S.grows store.old store.new }
+{
+    let ExtraCode {
+        renames,
+        pairs: PairsCode { symbols, code },
+    } = extra_code(alloc, tokens)?;
+    let ids = make_all(alloc, code, store)?;
+    let pairs = pairs(alloc, symbols, ids.as_slice())?;
+    Ok(Extra {
+        renames: Listed::from_vec(renames),
+        pairs: Listed::from_vec(pairs),
+    })
 }

@@ -1,4 +1,4 @@
-//! Terms, formulas, programs, expressions, sequents and substitutions of tokens.
+//! Terms, formulas, programs, expressions, sequents, substitutions and extras of tokens.
 ghost use Rattle.std.specs.Prelude.{◌≡◌, IfOk, IfErr};
 ghost use Rattle.dlk_tree.specs.Trees.{sort};
 ghost use Rattle.dlk_tree.specs.declared.op.Sort.TheVariants as sort_of;
@@ -8,16 +8,18 @@ ghost use Rattle.dlk_grammar.specs.declared.token.Dots.TheVariants.{Refused};
 ghost use Rattle.dlk_grammar.specs.RealTokens.{AreTokens};
 ghost use Rattle.dlk_grammar.specs.Readings.{IsTree, IsTreeFault, IsSequentOf, IsSequentFault};
 ghost use Rattle.dlk_grammar.specs.Substitutions.{ArePairs, ArePairsFault};
+ghost use Rattle.dlk_grammar.specs.Extras.{AreExtra, AreExtraFault};
 ghost use Rattle.dlk_store.specs.Stores.{IsId, tree};
 ghost use Rattle.dlk_sequent.specs.Sequents.{sequent_at, IsKnown};
 ghost use Rattle.dlk_sequent.specs.Substitutions.{pairs_at, AreKnownPairs};
+ghost use Rattle.dlk_sequent.specs.Extras.{extra_at, IsKnownExtra};
 ghost use Rattle.dlk_parse.specs.Faults.{IsParseFaultOf, UnlessMemory};
 
 use crate::copies::copies;
 use crate::fault::ParseFault;
-use crate::owned::{pairs_of, sequent_of, tree_of};
+use crate::owned::{extra_of, pairs_of, sequent_of, tree_of};
 use dlk_grammar::{Dots, Form, Token};
-use dlk_sequent::{Pair, Sequent};
+use dlk_sequent::{Extra, Pair, Sequent};
 use dlk_store::{Id, Store};
 use std::alloc::Global;
 
@@ -143,4 +145,19 @@ pub fn substitution<S: Store>(
 {
     let tokens = copies(alloc, tokens)?;
     pairs_of(alloc, tokens, store)
+}
+
+/// What the tokens give a use of an axiom beside its name: renames joined by `,`, each a name, `~~` and the name that it
+/// gets, and behind them the pairs of a substitution, joined by `,`; or one of these alone, or nothing. Argument dots and
+/// `_` are in the grammar. The tokens and the errors are those of `substitution`.
+pub fn extra<S: Store>(alloc: Global, tokens: &[Token], store: &mut S) -> Result<Extra, ParseFault>
+    requires { AreTokens tokens.now }
+    ensures found { IfOk result (λ extra. AreExtra tokens.now (extra_at (S.trees store.new) extra)) }
+    ensures known { IfOk result (IsKnownExtra (S.trees store.new)) }
+    ensures fault { IfErr result (IsParseFaultOf (AreExtraFault tokens.now)) }
+    ensures unmade { IfErr result (UnlessMemory (store.new ≡ store.old)) }
+    ensures grows { S.grows store.old store.new }
+{
+    let tokens = copies(alloc, tokens)?;
+    extra_of(alloc, tokens, store)
 }

@@ -1,6 +1,6 @@
 use crate::{
-    ParseFault, TextFault, expression, program, read_expression, read_formula, read_sequent,
-    read_substitution, term,
+    ParseFault, TextFault, expression, extra, program, read_expression, read_extra, read_formula,
+    read_sequent, read_substitution, term,
 };
 use dlk_grammar::Dots;
 use dlk_lex::tokens;
@@ -247,6 +247,46 @@ fn reads_substitutions(rt: HostRuntime) -> Result<(), Fail> {
     ];
     for (text, want) in rows {
         assert_eq!(rt; pairs_of(&rt, text), want, "{text}");
+    }
+    Ok(())
+}
+
+/// How many renames and pairs an extra has.
+fn extra_of(rt: &HostRuntime, text: &str) -> Result<(usize, usize), TextFault> {
+    let mut store = PlainStore::new(rt.alloc());
+    let read = read_extra(rt.alloc(), text.as_bytes(), &mut store)?;
+    Ok((read.renames.as_slice().len(), read.pairs.as_slice().len()))
+}
+
+#[test]
+fn reads_extras(rt: HostRuntime) -> Result<(), Fail> {
+    let unread = |why: ParseFault| Err(TextFault::Unread(why));
+    let rows = [
+        ("", Ok((0, 0))),
+        ("x_~~y", Ok((1, 0))),
+        ("x_~~y,a(|y|)~>1", Ok((1, 1))),
+        ("r(||)~>x>=0", Ok((0, 1))),
+        ("x_~~y,", unread(ParseFault::Syntax { at: 6 })),
+        ("x_~~", unread(ParseFault::Syntax { at: 4 })),
+        ("x_~~y x", unread(ParseFault::Syntax { at: 6 })),
+        ("p()~>x>0,x_~~y", unread(ParseFault::Syntax { at: 11 })),
+    ];
+    for (text, want) in rows {
+        assert_eq!(rt; extra_of(&rt, text), want, "{text}");
+    }
+    Ok(())
+}
+
+#[test]
+fn reads_renames(rt: HostRuntime) -> Result<(), Fail> {
+    let mut store = PlainStore::new(rt.alloc());
+    let whole = tokens(rt.alloc(), b"x_~~y, term~~x_, r(||)~>x>=0")?;
+    let read = extra(rt.alloc(), whole.as_slice(), &mut store)?;
+    let renames = [("x_", "y"), ("term", "x_")];
+    assert_eq!(rt; read.renames.as_slice().len(), renames.len());
+    for (rename, (name, new)) in read.renames.as_slice().iter().zip(renames) {
+        assert_eq!(rt; rename.0, Name::new(rt.alloc(), name.as_bytes())?, "{name}");
+        assert_eq!(rt; rename.1, Name::new(rt.alloc(), new.as_bytes())?, "{new}");
     }
     Ok(())
 }

@@ -1,20 +1,21 @@
-//! Formulas, expressions, sequents and substitutions of bytes.
+//! Formulas, expressions, sequents, substitutions and extras of bytes.
 ghost use Rattle.std.specs.Prelude.{◌≡◌, IfOk, IfErr};
 ghost use Rattle.dlk_tree.specs.Trees.{Tree};
 ghost use Rattle.dlk_calculus.specs.Sequents.{IsFormula, IsSequent};
 ghost use Rattle.dlk_grammar.specs.declared.token.Form.TheVariants as form_of;
 ghost use Rattle.dlk_grammar.specs.declared.token.Dots.TheVariants.{Refused};
-ghost use Rattle.dlk_grammar.specs.Texts.{TreeText, SequentText, PairsText, TreeTextFault, SequentTextFault, PairsTextFault};
+ghost use Rattle.dlk_grammar.specs.Texts.{TreeText, SequentText, PairsText, ExtraText, TreeTextFault, SequentTextFault, PairsTextFault, ExtraTextFault};
 ghost use Rattle.dlk_store.specs.Stores.{tree, StandsFor};
 ghost use Rattle.dlk_sequent.specs.Sequents.{sequent_at, IsKnown};
 ghost use Rattle.dlk_sequent.specs.Substitutions.{pairs_at, AreKnownPairs};
+ghost use Rattle.dlk_sequent.specs.Extras.{extra_at, IsKnownExtra};
 ghost use Rattle.dlk_parse.specs.Faults.{IsTextFaultOf, UnlessTextMemory};
 
 use crate::fault::TextFault;
-use crate::owned::{pairs_of, sequent_of, tree_of};
+use crate::owned::{extra_of, pairs_of, sequent_of, tree_of};
 use dlk_grammar::{Dots, Form};
 use dlk_lex::tokens;
-use dlk_sequent::{Pair, Sequent};
+use dlk_sequent::{Extra, Pair, Sequent};
 use dlk_store::{Id, Store};
 use std::alloc::Global;
 
@@ -91,4 +92,18 @@ pub fn read_substitution<S: Store>(
     let tokens = tokens(alloc, bytes)?;
     let pairs = pairs_of(alloc, tokens, store)?;
     Ok(pairs)
+}
+
+/// What the bytes give a use of an axiom beside its name, by the grammar of `extra`. The errors are those of
+/// `read_substitution`.
+pub fn read_extra<S: Store>(alloc: Global, bytes: &[u8], store: &mut S) -> Result<Extra, TextFault>
+    ensures found { IfOk result (λ extra. ExtraText bytes.now (extra_at (S.trees store.new) extra)) }
+    ensures known { IfOk result (IsKnownExtra (S.trees store.new)) }
+    ensures fault { IfErr result (IsTextFaultOf (ExtraTextFault bytes.now)) }
+    ensures unmade { IfErr result (UnlessTextMemory (store.new ≡ store.old)) }
+    ensures grows { S.grows store.old store.new }
+{
+    let tokens = tokens(alloc, bytes)?;
+    let extra = extra_of(alloc, tokens, store)?;
+    Ok(extra)
 }

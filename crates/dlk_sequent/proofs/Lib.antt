@@ -6,3 +6,5 @@ mod SameSides
 mod Last
 mod Chosen
 mod Pairs
+mod KidAt
+pub mod Turns

@@ -1,2 +1,4 @@
 pub mod Sequents
 pub mod Substitutions
+pub mod Spines
+pub mod Extras

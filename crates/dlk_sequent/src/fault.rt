@@ -1,7 +1,8 @@
-//! What goes wrong with substitutions.
+//! What goes wrong with substitutions, and where a tree is put into another one.
 ghost use Rattle.std.specs.Prelude.{◌≡◌};
 ghost use Rattle.dlk_sequent.specs.declared.fault.SubstFault.TheVariants as SubstFault';
 ghost use Rattle.dlk_sequent.specs.declared.fault.ApplyFault.TheVariants as ApplyFault';
+ghost use Rattle.dlk_sequent.specs.declared.fault.PutFault.TheVariants as PutFault';
 
 use dlk_calculus::Why;
 use dlk_store::StoreFault;
@@ -67,5 +68,43 @@ impl From<StoreFault> for ApplyFault {
 
     fn from(_: StoreFault) -> ApplyFault {
         ApplyFault::Memory
+    }
+}
+
+/// Why a tree was not put at a path.
+#[derive(Clone, Copy, Debug, PartialEq, Eq, Error)]
+pub enum PutFault {
+    /// The path leaves the tree.
+    #[error("the path leaves the tree")]
+    NoPlace,
+    /// The new tree is of another sort than the one at the path.
+    #[error("the sorts differ")]
+    WrongSort,
+    /// No memory was left.
+    #[error("out of memory")]
+    Memory,
+}
+
+impl From<AllocError> for PutFault {
+    ghost from_gives = { λ _ e. e ≡ PutFault'.Memory };
+
+    fn from(_: AllocError) -> PutFault {
+        PutFault::Memory
+    }
+}
+
+impl<T: Drop> From<AllocFailed<T>> for PutFault {
+    ghost from_gives = { λ _ e. e ≡ PutFault'.Memory };
+
+    fn from(_: AllocFailed<T>) -> PutFault {
+        PutFault::Memory
+    }
+}
+
+impl From<StoreFault> for PutFault {
+    ghost from_gives = { λ _ e. e ≡ PutFault'.Memory };
+
+    fn from(_: StoreFault) -> PutFault {
+        PutFault::Memory
     }
 }

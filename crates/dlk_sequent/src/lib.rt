@@ -1,21 +1,27 @@
-//! Sequents and substitutions over the ids of a store.
+//! Sequents, paths and substitutions over the ids of a store.
 #![tactic(auto)]
 
 mod arithmetic;
+mod extra;
 mod fault;
 mod formula;
 pub mod laws;
 mod listed;
+mod path;
 mod same;
 mod sequent;
+mod spine;
 mod subst;
 mod why;
 
 pub use arithmetic::is_arith;
 pub use dlk_calculus::Why;
-pub use fault::{ApplyFault, SubstFault};
+pub use extra::Extra;
+pub use fault::{ApplyFault, PutFault, SubstFault};
 pub use formula::{is_formula, is_sequent};
 pub use listed::{Listed, item_at};
+pub use path::{put, subtree};
 pub use same::same_sequent;
 pub use sequent::{Place, Sequent};
+pub use spine::{Innermost, Spine, Turn};
 pub use subst::{Pair, Subst};

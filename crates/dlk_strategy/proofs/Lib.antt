@@ -1,5 +1,7 @@
 mod OneFate
+mod Keeping
 mod TakenSteps
+mod TakenFormulas
 mod MainGoals
 mod StepsKept
 mod Walking

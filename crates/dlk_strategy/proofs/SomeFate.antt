@@ -1,40 +1,31 @@
 -- Something becomes of a goal.
-use Rattle.std.proofs.Common.{◌≡◌, ◌≢◌, ℕ, zero, suc, ◌+◌, ◌<◌, ◌≤◌, List, [], ◌∷◌, ◌++◌, map, length, Option, Some, None, refl, sym, ap, subst, ◌∙◌, arith, ◌⊎◌, inl, inr}
+use Rattle.std.proofs.Common.{◌≡◌, ℕ, zero, suc, ◌+◌, ◌≤◌, List, [], ◌∷◌, ◌++◌, length, Option, Some, None, refl, sym, arith, ◌⊎◌, inl, inr}
 use Rattle.std.specs.List.{All}
-use Rattle.std.proofs.lemmas.List.Elements.{All-head, All-tail, All-nil, All-cons}
 use Rattle.std.proofs.lemmas.Bool.{cases_lt, cases_order}
 use Rattle.dlk_tree.specs.Trees.{Tree}
 use Rattle.dlk_calculus.specs.Limits.{IsSmall, IsShallow}
-use Rattle.dlk_calculus.specs.Places.{At}
 use Rattle.dlk_calculus.specs.Sequents.{Sequent, alone_right, IsFormula}
-use Rattle.dlk_calculus.specs.Provables.{Provable, started}
+use Rattle.dlk_calculus.specs.Provables.{Provable, HasFormulas, started}
 use Rattle.dlk_calculus.specs.Steps.{Step, Start}
+use Rattle.dlk_kernel.specs.Taken.{Takes}
+use Rattle.dlk_kernel.specs.Taken.{none as no_step, more as one_step}
 use Rattle.dlk_rules.specs.declared.arguments.Side.{Side}
-use Rattle.dlk_tacsyn.specs.Tactics.{Argument, AtPlace, AnyLeft, AnyRight, Word, GivenFormula, GivenTerm, Atom, Tactic, Choice, Sequence, Branch, Repeat, One, Tactics, no_parts, part, count, EachAtom, EachAtomOf}
+use Rattle.dlk_tacsyn.specs.Tactics.{Atom, Tactic, Choice, Sequence, Branch, Repeat, One, Tactics, no_parts, part, count, EachAtom, EachAtomOf}
 use Rattle.dlk_tacsyn.specs.Rows.{IsFitting}
-use Rattle.dlk_elab.specs.Atoms.{AtomWhy, AtomSteps, AtomFault, HasGoalAt, HasNoLocator, IsNamed, HasNames}
+use Rattle.dlk_elab.specs.Atoms.{AtomWhy, AtomSteps, AtomFault, HasGoalAt, HasNoLocator, HasNames}
 use Rattle.dlk_strategy.specs.declared.fault.FailWhy.{FailWhy}
 use Rattle.dlk_strategy.specs.declared.fault.FailWhy.TheVariants.{WrongCount, NoPlace}
 use Rattle.dlk_strategy.specs.Whys.{fail_of}
-use Rattle.dlk_strategy.specs.Runs.{Progress, Outcome, Done, Fails, Budget, Fate, Run, Follow, done, fails, spent, Ends, FailsAt, Then, Each, Again, Once, steps, fault, most_runs, main_goals, side, put_place, placed, formulas, Tries, TriesAll, RunAtomOn, RunAtom, Branched, as_many, another_count, Runs, Alternatives, InTurn, OnOwn, RunsModel}
+use Rattle.dlk_strategy.specs.Runs.{Progress, Outcome, Done, Fails, Budget, Fate, Run, Follow, done, fails, spent, Ends, FailsAt, Each, Again, Once, steps}
+use Rattle.dlk_strategy.specs.Runs.{fault, most_runs, main_goals, side, placed, formulas, Tries, RunAtomOn}
+use Rattle.dlk_strategy.specs.Runs.{RunAtom, Branched, as_many, another_count, Runs, Alternatives, InTurn, OnOwn, RunsModel}
 use Rattle.dlk_strategy.specs.Runs.{spent as once_spent}
-use Rattle.dlk_strategy.proofs.FixedAtoms.{none_fixed, placed_fixed, placed_fitting}
+use Rattle.dlk_strategy.proofs.FixedAtoms.{none_fixed, placed_fixed, placed_fitting, all_named}
 use Rattle.dlk_strategy.proofs.Starting.{starts}
 use Rattle.dlk_strategy.proofs.States.{goal_there, at_place, counted}
+use Rattle.dlk_strategy.proofs.TakenSteps.{IsTaken, taken_on}
 
 -- An atom that may be run: it is fitting, and its names are names.
-
-put_named : (n : ℕ) (a : Argument) → IsNamed a → IsNamed (put_place n a)
-put_named n (AtPlace place path) h = h
-put_named n AnyLeft h = tt
-put_named n AnyRight h = tt
-put_named n (Word name) h = h
-put_named n (GivenFormula f) h = h
-put_named n (GivenTerm t) h = h
-
-all_named : (n : ℕ) (args : List Argument) → All IsNamed args → All IsNamed (map (put_place n) args)
-all_named n [] h = All-nil IsNamed
-all_named n (a ∷ rest) h = All-cons IsNamed (put_place n a) (map (put_place n) rest) (put_named n a (All-head IsNamed a rest h)) (all_named n rest (All-tail IsNamed a rest h))
 
 pub record IsRun (atom : Atom) : Type 0 where
   pub fitting : IsFitting atom
@@ -43,18 +34,18 @@ pub record IsRun (atom : Atom) : Type 0 where
 placed_run : (n : ℕ) (atom : Atom) → IsRun atom → IsRun (placed n atom)
 placed_run n atom h = record { fitting = placed_fitting n atom h.fitting; names = all_named n atom.arguments h.names }
 
--- What becomes of so many goals, of so many in all, and how many stand in their place.
+-- What becomes of so many goals, of so many in all, and how many stand in their place. What is made is taken.
 
 abbrev goals_in : Progress → ℕ
 goals_in now = length (main_goals now.rows)
 
 abbrev Leaves : ℕ → ℕ → Outcome → Type 0
-Leaves goals before (Done made left) = goals_in made + goals ≡ before + left
+Leaves goals before (Done made left) = (goals_in made + goals ≡ before + left) × IsTaken made
 Leaves goals before (Fails at why used) = Unit {0}
 Leaves goals before (Budget at) = Unit {0}
 
 leaves_as : (goals before more earlier : ℕ) → before + more ≡ earlier + goals → (o : Outcome) → Leaves goals before o → Leaves more earlier o
-leaves_as goals before more earlier e (Done made left) h = omega (arith, e, h)
+leaves_as goals before more earlier e (Done made left) h = let n = h.0 in (omega (arith, e, n), h.1)
 leaves_as goals before more earlier e (Fails at why used) h = tt
 leaves_as goals before more earlier e (Budget at) h = tt
 
@@ -63,16 +54,18 @@ HasFate goals fate now = (o : Outcome) × fate now o × Leaves goals (goals_in n
 
 -- on the goals behind which these stand
 abbrev IsSome : ℕ → ℕ → Fate → Type 0
-IsSome goals room fate = (now : Progress) → room ≤ goals_in now + 1 → HasFate goals fate now
+IsSome goals room fate = (now : Progress) → IsTaken now → room ≤ goals_in now + 1 → HasFate goals fate now
 
 abbrev IsSomeRun : Run → Type 0
 IsSomeRun run = (goal : ℕ) → 1 ≤ goal → IsSome 1 (goal + 1) (run goal)
 
-some_follow : (first goals : ℕ) (fate : Fate) (then_on : ℕ → Fate) (else_on : ℕ → FailWhy → Fate) (now : Progress) (o : Outcome) → fate now o → Leaves first (goals_in now) o →
-    ((left : ℕ) (made : Progress) → goals_in made + first ≡ goals_in now + left → (p : Outcome) × then_on left made p × Leaves goals (goals_in now) p) →
+some_follow : (first goals : ℕ) (fate : Fate) (then_on : ℕ → Fate) (else_on : ℕ → FailWhy → Fate) (now : Progress) (o : Outcome) →
+    fate now o → Leaves first (goals_in now) o →
+    ((left : ℕ) (made : Progress) → IsTaken made → goals_in made + first ≡ goals_in now + left →
+    (p : Outcome) × then_on left made p × Leaves goals (goals_in now) p) →
     ((at used : ℕ) (why : FailWhy) → HasFate goals (else_on at why) (record now { used = used })) → HasFate goals (Follow fate then_on else_on) now
 some_follow first goals fate then_on else_on now (Done made left) f leaves some_then some_else =
-    let next = some_then left made leaves in (next.0, done f next.1, next.2)
+    let next = some_then left made leaves.1 leaves.0 in (next.0, done f next.1, next.2)
 some_follow first goals fate then_on else_on now (Fails at why used) f leaves some_then some_else =
     let next = some_else at used why in (next.0, fails f next.1, next.2)
 some_follow first goals fate then_on else_on now (Budget at) f leaves some_then some_else = (Budget at, spent f, tt)
@@ -81,19 +74,19 @@ some_failure : (goals at : ℕ) (why : FailWhy) (now : Progress) → HasFate goa
 some_failure goals at why now = (Fails at why now.used, refl, tt)
 
 some_each : (run : Run) → IsSomeRun run → (more goal left : ℕ) → 1 ≤ goal → IsSome (left + more) (goal + left + more) (Each run more goal left)
-some_each run some zero goal left first now room = (Done now left, refl, omega arith)
-some_each run some (suc more) goal left first now room =
-    let here = some (goal + left) (omega (arith, first)) now (omega (arith, room)) in
+some_each run some zero goal left first now taken room = (Done now left, refl, (omega arith, taken))
+some_each run some (suc more) goal left first now taken room =
+    let here = some (goal + left) (omega (arith, first)) now taken (omega (arith, room)) in
     some_follow 1 (left + suc more) (run (goal + left)) (λ new. Each run more goal (left + new)) FailsAt now here.0 here.1 here.2
-    (λ new made e.
-    let rest = some_each run some more goal (left + new) first made (omega (arith, room, e)) in
+    (λ new made is_taken e.
+    let rest = some_each run some more goal (left + new) first made is_taken (omega (arith, room, e)) in
     (rest.0, rest.1, leaves_as (left + new + more) (goals_in made) (left + suc more) (goals_in now) (omega (arith, e)) rest.0 rest.2))
     (λ at used why. some_failure (left + suc more) at why (record now { used = used }))
 
 -- none stands before them
 some_first : (goal goals : ℕ) (fate : Fate) → IsSome (0 + goals) (goal + 0 + goals) fate → IsSome goals (goal + goals) fate
-some_first goal goals fate some now room =
-    let all = some now (omega (arith, room)) in
+some_first goal goals fate some now taken room =
+    let all = some now taken (omega (arith, room)) in
     (all.0, all.1, leaves_as (0 + goals) (goals_in now) goals (goals_in now) (omega arith) all.0 all.2)
 
 -- the run on each of so many goals from this one on
@@ -101,98 +94,118 @@ some_on_each : (run : Run) → IsSomeRun run → (goals goal : ℕ) → 1 ≤ go
 some_on_each run some goals goal first = some_first goal goals (Each run goals goal 0) (some_each run some goals goal 0 first)
 
 some_again : (run : Run) → IsSomeRun run → (times : ℕ) → IsSomeRun (Again run times)
-some_again run some zero goal first now room = (Done now 1, refl, refl)
-some_again run some (suc times) goal first now room =
-    let here = some goal first now room in
+some_again run some zero goal first now taken room = (Done now 1, refl, (refl, taken))
+some_again run some (suc times) goal first now taken room =
+    let here = some goal first now taken room in
     some_follow 1 1 (run goal) (λ left. Each (Again run times) left goal 0) (λ at why. Ends 1) now here.0 here.1 here.2
-    (λ left made e.
-    let rest = some_on_each (Again run times) (some_again run some times) left goal first made (omega (arith, room, e)) in
+    (λ left made is_taken e.
+    let rest = some_on_each (Again run times) (some_again run some times) left goal first made is_taken (omega (arith, room, e)) in
     (rest.0, rest.1, leaves_as left (goals_in made) 1 (goals_in now) (omega (arith, e)) rest.0 rest.2))
-    (λ at used why. (Done (record now { used = used }) 1, refl, refl))
+    (λ at used why. (Done (record now { used = used }) 1, refl, (refl, taken)))
 
 some_branched : (at parts goals goal : ℕ) (each : Fate) → IsSome parts (goal + parts) each → IsSome goals (goal + goals) (Branched at parts goals each)
-some_branched at parts goals goal each some now room =
+some_branched at parts goals goal each some now taken room =
     elim (cases_order goals parts) [
       | inl same ↦
-          let all = some now (omega (arith, room, same)) in
+          let all = some now taken (omega (arith, room, same)) in
           (all.0, as_many same all.1, leaves_as parts (goals_in now) goals (goals_in now) (omega (arith, same)) all.0 all.2)
-      | inr other ↦ (Fails at WrongCount now.used, another_count (λ e. elim other [ inl less ↦ absurd (omega (arith, less, e)) | inr more ↦ absurd (omega (arith, more, e)) ]), tt)
+      | inr other ↦ (
+        Fails at WrongCount now.used,
+        another_count (λ e. elim other [ inl less ↦ absurd (omega (arith, less, e)) | inr more ↦ absurd (omega (arith, more, e)) ]),
+        tt,
+      )
     ]
 
--- where a fitting atom gives steps or has a fault
-module _ (some_atom : (rows : List Provable) (fact goal : ℕ) (atom : Atom) → HasGoalAt rows fact goal → IsFitting atom → HasNoLocator atom → HasNames atom →
+-- where a fitting atom gives steps or has a fault on rows of formulas
+module _ (atom_taken : (rows : List Provable) (fact goal : ℕ) (atom : Atom) (steps : List Step) (after : List Provable) →
+    AtomSteps rows fact goal atom steps after → Takes rows steps after)
+    (taken_formulas : (steps : List Step) (rows : List Provable) → Takes [] steps rows → All HasFormulas rows)
+    (some_atom : (rows : List Provable) (fact goal : ℕ) (atom : Atom) → HasGoalAt rows fact goal → All HasFormulas rows → IsFitting atom → HasNoLocator atom →
+    HasNames atom →
     ((s : List Step) × (a : List Provable) × AtomSteps rows fact goal atom s a) ⊎ ((why : AtomWhy) × AtomFault rows fact goal atom why)) where
   some_once : (atom : Atom) → IsRun atom → HasNoLocator atom → IsSomeRun (Once atom)
-  some_once atom is fixed goal first now room =
+  some_once atom is fixed goal first now taken room =
       elim (cases_lt now.used most_runs) [
         | inl free ↦
-            elim (some_atom now.rows (length now.rows) goal atom (goal_there now.rows (length now.rows) goal refl first room) is.fitting fixed is.names) [
+            let formulas_there = taken_formulas now.steps now.rows taken in
+            let here = goal_there now.rows (length now.rows) goal refl first room in
+            elim (some_atom now.rows (length now.rows) goal atom here formulas_there is.fitting fixed is.names) [
               | inl made ↦
-                  let new = counted now.rows made.1 goal atom made.0 first room made.2 in
-                  (Done (record { steps = now.steps ++ made.0; rows = made.1; used = now.used + 1 }) new.0, steps free made.2 new.1, new.1)
+                  let new = counted now.rows made.1 goal atom made.0 first room made.2 in (
+                    Done (record { steps = now.steps ++ made.0; rows = made.1; used = now.used + 1 }) new.0,
+                    steps free made.2 new.1,
+                    (new.1, taken_on atom_taken now goal atom made.0 made.1 taken made.2),
+                  )
               | inr fault_there ↦ (Fails atom.at (fail_of fault_there.0) (now.used + 1), fault free fault_there.1, tt)
             ]
         | inr full ↦ (Budget atom.at, once_spent full, tt)
       ]
 
   some_try : (atom : Atom) → IsRun atom → (goal : ℕ) → 1 ≤ goal → (more place : ℕ) (why : FailWhy) → IsSome 1 (goal + 1) (Tries atom goal more place why)
-  some_try atom is goal first zero place why now room = some_failure 1 atom.at why now
-  some_try atom is goal first (suc more) place why now room =
-      let here = some_once (placed place atom) (placed_run place atom is) (placed_fixed place atom) goal first now room in
+  some_try atom is goal first zero place why now taken room = some_failure 1 atom.at why now
+  some_try atom is goal first (suc more) place why now taken room =
+      let here = some_once (placed place atom) (placed_run place atom is) (placed_fixed place atom) goal first now taken room in
       some_follow 1 1 (Once (placed place atom) goal) Ends (λ at last. Tries atom goal more (place + 1) last) now here.0 here.1 here.2
-      (λ left made e. (Done made left, refl, e))
-      (λ at used last. some_try atom is goal first more (place + 1) last (record now { used = used }) room)
+      (λ left made is_taken e. (Done made left, refl, (e, is_taken)))
+      (λ at used last. some_try atom is goal first more (place + 1) last (record now { used = used }) taken room)
 
   some_run : (atom : Atom) → IsRun atom → (on : Option Side) → (on ≡ side atom.arguments) → IsSomeRun (RunAtomOn atom on)
-  some_run atom is None e goal first now room = some_once atom is (none_fixed atom.arguments (sym e)) goal first now room
-  some_run atom is (Some on) e goal first now room =
+  some_run atom is None e goal first now taken room = some_once atom is (none_fixed atom.arguments (sym e)) goal first now taken room
+  some_run atom is (Some on) e goal first now taken room =
       let here = at_place (main_goals now.rows) goal first (omega (arith, room)) in
-      let tried = some_try atom is goal first (length (formulas on here.0)) 1 NoPlace now room in
+      let tried = some_try atom is goal first (length (formulas on here.0)) 1 NoPlace now taken room in
       (tried.0, (here.0, here.1, tried.1), tried.2)
 
   mutual
     some_fate : (t : Tactic) → EachAtom IsRun t → (goals goal : ℕ) → 1 ≤ goal → IsSome goals (goal + goals) (Runs t goals goal)
     some_fate (Choice parts) is goals goal first = some_on_each (Alternatives parts) (some_alternative parts is) goals goal first
     some_fate (Sequence parts) is goals goal first = some_on_each (InTurn parts 1) (some_turn parts is 1) goals goal first
-    some_fate (Branch at parts) is goals goal first = some_branched at (count parts) goals goal (OnOwn parts goal 0) (some_first goal (count parts) (OnOwn parts goal 0) (some_own parts is goal 0 first))
-    some_fate (Repeat body times) is goals goal first = some_on_each (Again (Runs body 1) times) (some_again (Runs body 1) (some_fate body is 1) times) goals goal first
+    some_fate (Branch at parts) is goals goal first =
+        some_branched at (count parts) goals goal (OnOwn parts goal 0) (some_first goal (count parts) (OnOwn parts goal 0) (some_own parts is goal 0 first))
+    some_fate (Repeat body times) is goals goal first =
+        some_on_each (Again (Runs body 1) times) (some_again (Runs body 1) (some_fate body is 1) times) goals goal first
     some_fate (One atom) is goals goal first = some_on_each (RunAtom atom) (some_run atom is (side atom.arguments) refl) goals goal first
 
     some_alternative : (parts : Tactics) → EachAtomOf IsRun parts → IsSomeRun (Alternatives parts)
-    some_alternative no_parts is goal first now room = (Done now 1, refl, refl)
-    some_alternative (part t no_parts) is goal first now room = some_fate t is.0 1 goal first now room
-    some_alternative (part t (part u rest)) is goal first now room =
-        let here = some_fate t is.0 1 goal first now room in
+    some_alternative no_parts is goal first now taken room = (Done now 1, refl, (refl, taken))
+    some_alternative (part t no_parts) is goal first now taken room = some_fate t is.0 1 goal first now taken room
+    some_alternative (part t (part u rest)) is goal first now taken room =
+        let here = some_fate t is.0 1 goal first now taken room in
         some_follow 1 1 (Runs t 1 goal) Ends (λ at why. Alternatives (part u rest) goal) now here.0 here.1 here.2
-        (λ left made e. (Done made left, refl, e))
-        (λ at used why. some_alternative (part u rest) is.1 goal first (record now { used = used }) room)
+        (λ left made is_taken e. (Done made left, refl, (e, is_taken)))
+        (λ at used why. some_alternative (part u rest) is.1 goal first (record now { used = used }) taken room)
 
     some_turn : (parts : Tactics) → EachAtomOf IsRun parts → (goals goal : ℕ) → 1 ≤ goal → IsSome goals (goal + goals) (InTurn parts goals goal)
-    some_turn no_parts is goals goal first now room = (Done now goals, refl, refl)
-    some_turn (part t rest) is goals goal first now room =
-        let here = some_fate t is.0 goals goal first now room in
+    some_turn no_parts is goals goal first now taken room = (Done now goals, refl, (refl, taken))
+    some_turn (part t rest) is goals goal first now taken room =
+        let here = some_fate t is.0 goals goal first now taken room in
         some_follow goals goals (Runs t goals goal) (λ left. InTurn rest left goal) FailsAt now here.0 here.1 here.2
-        (λ left made e.
-        let others = some_turn rest is.1 left goal first made (omega (arith, room, e)) in
+        (λ left made is_taken e.
+        let others = some_turn rest is.1 left goal first made is_taken (omega (arith, room, e)) in
         (others.0, others.1, leaves_as left (goals_in made) goals (goals_in now) (omega (arith, e)) others.0 others.2))
         (λ at used why. some_failure goals at why (record now { used = used }))
 
-    some_own : (parts : Tactics) → EachAtomOf IsRun parts → (goal left : ℕ) → 1 ≤ goal → IsSome (left + count parts) (goal + left + count parts) (OnOwn parts goal left)
-    some_own no_parts is goal left first now room = (Done now left, refl, omega arith)
-    some_own (part t rest) is goal left first now room =
-        let here = some_fate t is.0 1 (goal + left) (omega (arith, first)) now (omega (arith, room)) in
+    some_own : (parts : Tactics) → EachAtomOf IsRun parts → (goal left : ℕ) → 1 ≤ goal →
+        IsSome (left + count parts) (goal + left + count parts) (OnOwn parts goal left)
+    some_own no_parts is goal left first now taken room = (Done now left, refl, (omega arith, taken))
+    some_own (part t rest) is goal left first now taken room =
+        let here = some_fate t is.0 1 (goal + left) (omega (arith, first)) now taken (omega (arith, room)) in
         some_follow 1 (left + (count rest + 1)) (Runs t 1 (goal + left)) (λ new. OnOwn rest goal (left + new)) FailsAt now here.0 here.1 here.2
-        (λ new made e.
-        let others = some_own rest is.1 goal (left + new) first made (omega (arith, room, e)) in
-        (others.0, others.1, leaves_as (left + new + count rest) (goals_in made) (left + (count rest + 1)) (goals_in now) (omega (arith, e)) others.0 others.2))
+        (λ new made is_taken e.
+        let others = some_own rest is.1 goal (left + new) first made is_taken (omega (arith, room, e)) in
+        let counts : goals_in made + (left + (count rest + 1)) ≡ goals_in now + (left + new + count rest) = omega (arith, e) in
+        (others.0, others.1, leaves_as (left + new + count rest) (goals_in made) (left + (count rest + 1)) (goals_in now) counts others.0 others.2))
         (λ at used why. some_failure (left + (count rest + 1)) at why (record now { used = used }))
 
-  pub some_model : (t : Tactic) (formula : Tree) → EachAtom IsRun t → IsFormula formula → IsSmall formula → IsShallow formula → (o : Outcome) × RunsModel t formula o
+  pub some_model : (t : Tactic) (formula : Tree) → EachAtom IsRun t → IsFormula formula → IsSmall formula → IsShallow formula →
+      (o : Outcome) × RunsModel t formula o
   some_model t formula is formed small shallow =
       let s : Sequent = alone_right formula in
       let first : Progress = record { steps = Start s ∷ []; rows = started s ∷ []; used = 0 } in
-      let all = some_fate t is 1 1 (omega arith) first (omega arith) in
-      (all.0, record { provable = started s; start = starts formula formed small shallow; run = all.1 })
+      let begins = starts formula formed small shallow in
+      let taken : IsTaken first = one_step no_step begins in
+      let all = some_fate t is 1 1 (omega arith) first taken (omega arith) in
+      (all.0, record { provable = started s; start = begins; run = all.1 })
 
 mutual
   pub both : (t : Tactic) → EachAtom IsFitting t → EachAtom HasNames t → EachAtom IsRun t

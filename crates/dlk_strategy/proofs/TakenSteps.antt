@@ -1,110 +1,116 @@
--- The steps of a run are taken in turn.
-use Rattle.std.proofs.Common.{◌≡◌, ℕ, zero, suc, ◌+◌, List, [], ◌∷◌, ◌++◌, length, Option, Some, None, refl, sym, ap, subst, ◌∙◌, append_assoc}
+-- The steps of a run are taken in turn, what they replace are symbols, and the last row shows the formula.
+use Rattle.std.proofs.Common.{◌≡◌, ℕ, ◌+◌, List, [], ◌∷◌, ◌++◌, length, refl, sym, ap, subst, ◌∙◌, append_assoc}
 use Rattle.std.specs.List.{All}
 use Rattle.std.proofs.lemmas.List.{append-nil}
-use Rattle.std.proofs.lemmas.List.Elements.{All-nil, All-push}
+use Rattle.std.proofs.lemmas.List.Elements.{All-nil, All-cons, All-push, All-append}
 use Rattle.dlk_tree.specs.Trees.{Tree}
-use Rattle.dlk_calculus.specs.Provables.{Provable}
-use Rattle.dlk_calculus.specs.Steps.{Step, Start, UseAxiom, UseRule, Leaf, Apply, Merge, Substitute, Rename, IsProper, Gives, StepOf}
+use Rattle.dlk_calculus.specs.Places.{At}
+use Rattle.dlk_calculus.specs.Sequents.{alone_right}
+use Rattle.dlk_calculus.specs.Provables.{Provable, HasFormulas}
+use Rattle.dlk_calculus.specs.Steps.{Step, Start, IsProper, Gives}
 use Rattle.dlk_calculus.specs.Steps.{start, use_axiom, use_rule, leaf, apply, merge, substitute, rename}
 use Rattle.dlk_kernel.specs.Taken.{Takes}
 use Rattle.dlk_kernel.specs.Taken.{none as no_step, more as one_step}
-use Rattle.dlk_rules.specs.declared.arguments.Side.{Side}
-use Rattle.dlk_tacsyn.specs.Tactics.{Atom, Tactic, Choice, Sequence, Branch, Repeat, One, Tactics, no_parts, part, count}
-use Rattle.dlk_strategy.specs.declared.fault.FailWhy.{FailWhy}
-use Rattle.dlk_strategy.specs.declared.fault.FailWhy.TheVariants.{NoPlace}
-use Rattle.dlk_strategy.specs.Runs.{Progress, Outcome, Done, Fails, Budget, Fate, Run, Follow, done, fails, spent, Ends, FailsAt, Then, Each, Again, Once, steps, fault, side, placed, formulas, Tries, TriesAll, RunAtomOn, RunAtom, Branched, as_many, another_count, Runs, Alternatives, InTurn, OnOwn, RunsModel}
-use Rattle.dlk_strategy.specs.Runs.{spent as once_spent}
+use Rattle.dlk_tacsyn.specs.Rows.{HasNames}
+use Rattle.dlk_tacsyn.specs.Tactics.{Atom, Tactic, Choice, Sequence, Branch, Repeat, One, Tactics, no_parts, part, EachAtom, EachAtomOf}
+use Rattle.dlk_elab.specs.Atoms.{AtomSteps, Replaces}
+use Rattle.dlk_elab.specs.Symbols.{ReplacesSymbols}
+use Rattle.dlk_strategy.specs.Runs.{Progress, Done, RunsModel}
+use Rattle.dlk_strategy.proofs.FixedAtoms.{all_named}
+use Rattle.dlk_strategy.proofs.Keeping.{keeps_fate}
 
-takes_both : (rows mid after : List Provable) (first second : List Step) → Takes rows first mid → Takes mid second after → Takes rows (first ++ second) after
+-- steps that are taken behind others are taken with them
+pub takes_both : (rows mid after : List Provable) (first second : List Step) → Takes rows first mid → Takes mid second after →
+    Takes rows (first ++ second) after
 takes_both rows mid _ first _ p no_step = subst (λ xs. Takes rows xs mid) (sym (append-nil first)) p
 takes_both rows mid _ first _ p (one_step {steps = second} {mid = between} {step} {p = row} before is) =
     subst (λ xs. Takes rows xs (between ++ row ∷ [])) (append_assoc first second (step ∷ [])) (one_step (takes_both rows mid between first second p before) is)
 
 -- the rows are what the steps give in turn
-abbrev IsTaken : Progress → Type 0
+abbrev pub IsTaken : Progress → Type 0
 IsTaken now = Takes [] now.steps now.rows
 
--- and so they are where a run is done
-abbrev EndsTaken : Outcome → Type 0
-EndsTaken (Done made left) = IsTaken made
-EndsTaken (Fails at why used) = Unit {0}
-EndsTaken (Budget at) = Unit {0}
+-- and what the steps replace are symbols
+abbrev IsSymbolic : Progress → Type 0
+IsSymbolic now = IsTaken now × All ReplacesSymbols now.steps
 
-abbrev Keeps : Fate → Type 0
-Keeps fate = (now : Progress) (o : Outcome) → IsTaken now → fate now o → EndsTaken o
+-- there are rows, of which the last shows the formula
+abbrev Shows : Tree → Progress → Type 0
+Shows formula now = (p : Provable) × At now.rows (length now.rows) p × (p.conclusion ≡ alone_right formula)
 
-keeps_end : (left : ℕ) → Keeps (Ends left)
-keeps_end left now o taken e = subst EndsTaken (sym e) taken
-
-keeps_failure : (at : ℕ) (why : FailWhy) → Keeps (FailsAt at why)
-keeps_failure at why now o taken e = subst EndsTaken (sym e) tt
-
-keeps_follow : (fate : Fate) (then_on : ℕ → Fate) (else_on : ℕ → FailWhy → Fate) → Keeps fate → ((left : ℕ) → Keeps (then_on left)) →
-    ((at : ℕ) (why : FailWhy) → Keeps (else_on at why)) → Keeps (Follow fate then_on else_on)
-keeps_follow fate then_on else_on keeps keeps_then keeps_else now _ taken (done {left} {made} {outcome = o} p q) = keeps_then left made o (keeps now (Done made left) taken p) q
-keeps_follow fate then_on else_on keeps keeps_then keeps_else now _ taken (fails {at} {why} {used} {outcome = o} p q) = keeps_else at why (record now { used = used }) o taken q
-keeps_follow fate then_on else_on keeps keeps_then keeps_else now _ taken (spent {at} p) = tt
-
-keeps_each : (run : Run) → ((goal : ℕ) → Keeps (run goal)) → (more goal left : ℕ) → Keeps (Each run more goal left)
-keeps_each run keeps zero goal left = keeps_end left
-keeps_each run keeps (suc more) goal left =
-    keeps_follow (run (goal + left)) (λ new. Each run more goal (left + new)) FailsAt (keeps (goal + left)) (λ new. keeps_each run keeps more goal (left + new)) keeps_failure
-
-keeps_again : (run : Run) → ((goal : ℕ) → Keeps (run goal)) → (times goal : ℕ) → Keeps (Again run times goal)
-keeps_again run keeps zero goal = keeps_end 1
-keeps_again run keeps (suc times) goal =
-    keeps_follow (run goal) (λ left. Each (Again run times) left goal 0) (λ at why. Ends 1) (keeps goal)
-    (λ left. keeps_each (Again run times) (keeps_again run keeps times) left goal 0) (λ at why. keeps_end 1)
-
-keeps_branched : (at parts goals : ℕ) (each : Fate) → Keeps each → Keeps (Branched at parts goals each)
-keeps_branched at parts goals each keeps now _ taken (as_many {outcome = o} e p) = keeps now o taken p
-keeps_branched at parts goals each keeps now _ taken (another_count n) = tt
-
-keeps_once : (atom : Atom) (goal : ℕ) → Keeps (Once atom goal)
-keeps_once atom goal now _ taken (steps {steps = new} {rows} {left} room made counted) = takes_both [] now.rows rows now.steps new taken made.takes
-keeps_once atom goal now _ taken (fault room why) = tt
-keeps_once atom goal now _ taken (once_spent full) = tt
-
-keeps_tries : (atom : Atom) (goal more place : ℕ) (why : FailWhy) → Keeps (Tries atom goal more place why)
-keeps_tries atom goal zero place why = keeps_failure atom.at why
-keeps_tries atom goal (suc more) place why =
-    keeps_follow (Once (placed place atom) goal) Ends (λ at last. Tries atom goal more (place + 1) last) (keeps_once (placed place atom) goal) keeps_end
-    (λ at last. keeps_tries atom goal more (place + 1) last)
-
-keeps_atom_on : (atom : Atom) (on : Option Side) (goal : ℕ) → Keeps (RunAtomOn atom on goal)
-keeps_atom_on atom None goal now o taken p = keeps_once atom goal now o taken p
-keeps_atom_on atom (Some on) goal now o taken p = keeps_tries atom goal (length (formulas on p.0)) 1 NoPlace now o taken p.2
+abbrev AnyAtom : Atom → Type 0
+AnyAtom atom = Unit {0}
 
 mutual
-  keeps_fate : (t : Tactic) (goals goal : ℕ) → Keeps (Runs t goals goal)
-  keeps_fate (Choice parts) goals goal = keeps_each (Alternatives parts) (keeps_alternative parts) goals goal 0
-  keeps_fate (Sequence parts) goals goal = keeps_each (InTurn parts 1) (keeps_turn parts 1) goals goal 0
-  keeps_fate (Branch at parts) goals goal = keeps_branched at (count parts) goals (OnOwn parts goal 0) (keeps_own parts goal 0)
-  keeps_fate (Repeat body times) goals goal = keeps_each (Again (Runs body 1) times) (keeps_again (Runs body 1) (keeps_fate body 1) times) goals goal 0
-  keeps_fate (One atom) goals goal = keeps_each (RunAtom atom) (keeps_atom_on atom (side atom.arguments)) goals goal 0
+  each_any : (t : Tactic) → EachAtom AnyAtom t
+  each_any (Choice parts) = all_any parts
+  each_any (Sequence parts) = all_any parts
+  each_any (Branch at parts) = all_any parts
+  each_any (Repeat body times) = each_any body
+  each_any (One atom) = tt
 
-  keeps_alternative : (parts : Tactics) (goal : ℕ) → Keeps (Alternatives parts goal)
-  keeps_alternative no_parts goal = keeps_end 1
-  keeps_alternative (part t no_parts) goal = keeps_fate t 1 goal
-  keeps_alternative (part t (part u rest)) goal =
-      keeps_follow (Runs t 1 goal) Ends (λ at why. Alternatives (part u rest) goal) (keeps_fate t 1 goal) keeps_end (λ at why. keeps_alternative (part u rest) goal)
+  all_any : (parts : Tactics) → EachAtomOf AnyAtom parts
+  all_any no_parts = tt
+  all_any (part t rest) = (each_any t, all_any rest)
 
-  keeps_turn : (parts : Tactics) (goals goal : ℕ) → Keeps (InTurn parts goals goal)
-  keeps_turn no_parts goals goal = keeps_end goals
-  keeps_turn (part t rest) goals goal =
-      keeps_follow (Runs t goals goal) (λ left. InTurn rest left goal) FailsAt (keeps_fate t goals goal) (λ left. keeps_turn rest left goal) keeps_failure
+-- what the step that states the formula makes
+abbrev begun : Tree → Provable → Progress
+begun formula p = record { steps = Start (alone_right formula) ∷ []; rows = p ∷ []; used = 0 }
 
-  keeps_own : (parts : Tactics) (goal left : ℕ) → Keeps (OnOwn parts goal left)
-  keeps_own no_parts goal left = keeps_end left
-  keeps_own (part t rest) goal left =
-      keeps_follow (Runs t 1 (goal + left)) (λ new. OnOwn rest goal (left + new)) FailsAt (keeps_fate t 1 (goal + left)) (λ new. keeps_own rest goal (left + new)) keeps_failure
+start_shows : (formula : Tree) (rows : List Provable) (p : Provable) (step : Step) → step ≡ Start (alone_right formula) → Gives rows step p →
+    p.conclusion ≡ alone_right formula
+start_shows formula rows _ _ e (start s is) = cc
+start_shows formula rows p _ e _ = absurd (cc e)
 
-pub run_taken : (t : Tactic) (formula : Tree) (made : Progress) (left : ℕ) → RunsModel t formula (Done made left) → Takes [] made.steps made.rows
-run_taken t formula made left r =
-    let s : Step = Start (record { ante = []; succ = formula ∷ [] }) in
-    let first : Takes [] (s ∷ []) (r.provable ∷ []) = one_step no_step r.start in
-    keeps_fate t 1 1 (record { steps = s ∷ []; rows = r.provable ∷ []; used = 0 }) (Done made left) first r.run
+module _ (atom_taken : (rows : List Provable) (fact goal : ℕ) (atom : Atom) (steps : List Step) (after : List Provable) →
+    AtomSteps rows fact goal atom steps after → Takes rows steps after) where
+  pub taken_on : (now : Progress) (goal : ℕ) (atom : Atom) (new : List Step) (rows : List Provable) → IsTaken now →
+      AtomSteps now.rows (length now.rows) goal atom new rows → Takes [] (now.steps ++ new) rows
+  taken_on now goal atom new rows taken made = takes_both [] now.rows rows now.steps new taken (atom_taken now.rows (length now.rows) goal atom new rows made)
+
+  pub run_taken : (t : Tactic) (formula : Tree) (made : Progress) (left : ℕ) → RunsModel t formula (Done made left) → Takes [] made.steps made.rows
+  run_taken t formula made left r =
+      keeps_fate IsTaken AnyAtom (λ now used taken. taken) (λ n atom is. tt) (λ now goal atom new rows is taken by. taken_on now goal atom new rows taken by)
+      t 1 1 (each_any t) (begun formula r.provable) (Done made left) (one_step no_step r.start) r.run
+
+  module _ (taken_formulas : (steps : List Step) (rows : List Provable) → Takes [] steps rows → All HasFormulas rows)
+      (atom_symbols : (rows : List Provable) (fact goal : ℕ) (atom : Atom) (steps : List Step) (after : List Provable) → All HasFormulas rows → HasNames atom →
+      AtomSteps rows fact goal atom steps after → All ReplacesSymbols steps) where
+    symbolic_on : (now : Progress) (goal : ℕ) (atom : Atom) (new : List Step) (rows : List Provable) → HasNames atom → IsSymbolic now →
+        AtomSteps now.rows (length now.rows) goal atom new rows → Takes [] (now.steps ++ new) rows × All ReplacesSymbols (now.steps ++ new)
+    symbolic_on now goal atom new rows names h by =
+        let formulas = taken_formulas now.steps now.rows h.0 in (
+          taken_on now goal atom new rows h.0 by,
+          All-append ReplacesSymbols now.steps new h.1 (atom_symbols now.rows (length now.rows) goal atom new rows formulas names by),
+        )
+
+    pub run_symbols : (t : Tactic) (formula : Tree) (made : Progress) (left : ℕ) → EachAtom HasNames t → RunsModel t formula (Done made left) →
+        All ReplacesSymbols made.steps
+    run_symbols t formula made left names r =
+        let first : ReplacesSymbols (Start (alone_right formula)) = λ fact pairs e. absurd (cc e) in
+        let all = All-cons ReplacesSymbols (Start (alone_right formula)) [] first (All-nil ReplacesSymbols) in
+        (keeps_fate IsSymbolic HasNames (λ now used h. h) (λ n atom h. all_named n atom.arguments h) symbolic_on t 1 1 names (begun formula r.provable)
+        (Done made left) (one_step no_step r.start, all) r.run).1
+
+at_same : {A : Type 0} (items : List A) (place : ℕ) (x y : A) → At items place x → At items place y → x ≡ y
+at_same items place x y h k = cc
+
+-- what an atom leaves of the last row shows the formula, too
+module _ (atom_replaces : (rows : List Provable) (goal : ℕ) (atom : Atom) (steps : List Step) (after : List Provable) →
+    AtomSteps rows (length rows) goal atom steps after → (new : _) × Replaces rows goal after new) where
+  shows_on : (formula : Tree) (now : Progress) (goal : ℕ) (atom : Atom) (new : List Step) (rows : List Provable) → Shows formula now →
+      AtomSteps now.rows (length now.rows) goal atom new rows → (p : Provable) × At rows (length rows) p × (p.conclusion ≡ alone_right formula)
+  shows_on formula now goal atom new rows h by =
+      let r = (atom_replaces now.rows goal atom new rows by).1 in
+      let same : r.old_last ≡ h.0 = at_same now.rows (length now.rows) r.old_last h.0 r.old_is h.1 in
+      (r.new_last, r.new_is, r.conclusion ∙ ap (λ (p : Provable). p.conclusion) same ∙ h.2)
+
+  pub run_shows : (t : Tactic) (formula : Tree) (made : Progress) (left : ℕ) → RunsModel t formula (Done made left) → Shows formula made
+  run_shows t formula made left r =
+      let shown = start_shows formula [] r.provable (Start (alone_right formula)) refl r.start.given in
+      let first : Shows formula (begun formula r.provable) = (r.provable, refl, shown) in
+      keeps_fate (Shows formula) AnyAtom (λ now used h. h) (λ n atom is. tt) (λ now goal atom new rows is h by. shows_on formula now goal atom new rows h by)
+      t 1 1 (each_any t) (begun formula r.provable) (Done made left) first r.run
 
 given_proper : (rows : List Provable) (step : Step) (p : Provable) → Gives rows step p → IsProper step
 given_proper rows _ _ (start s is) = tt
@@ -118,4 +124,5 @@ given_proper rows _ _ (rename fact x y p row x_is y_is) = (x_is, y_is)
 
 pub taken_proper : (rows after : List Provable) (steps : List Step) → Takes rows steps after → All IsProper steps
 taken_proper rows _ _ no_step = All-nil IsProper
-taken_proper rows _ _ (one_step {steps = before} {mid} {step} {p} taken is) = All-push IsProper before step (taken_proper rows mid before taken) (given_proper mid step p is.given)
+taken_proper rows _ _ (one_step {steps = before} {mid} {step} {p} taken is) =
+    All-push IsProper before step (taken_proper rows mid before taken) (given_proper mid step p is.given)

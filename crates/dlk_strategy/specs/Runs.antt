@@ -9,7 +9,7 @@ use Rattle.dlk_calculus.specs.Provables.{Provable}
 use Rattle.dlk_calculus.specs.Steps.{Step, Start, StepOf}
 use Rattle.dlk_rules.specs.declared.arguments.Side.{Side}
 use Rattle.dlk_rules.specs.declared.arguments.Side.TheVariants.{Left, Right}
-use Rattle.dlk_tacsyn.specs.Tactics.{Argument, AtPlace, AnyLeft, AnyRight, Word, GivenFormula, GivenTerm, Atom, Tactic, Choice, Sequence, Branch, Repeat, One, Tactics, no_parts, part, count}
+use Rattle.dlk_tacsyn.specs.Tactics.{Argument, AtPlace, AnyLeft, AnyRight, Word, GivenFormula, GivenTerm, GivenExtra, Atom, Tactic, Choice, Sequence, Branch, Repeat, One, Tactics, no_parts, part, count}
 use Rattle.dlk_elab.specs.Atoms.{AtomSteps, AtomFault}
 use Rattle.dlk_strategy.specs.declared.fault.FailWhy.{FailWhy}
 use Rattle.dlk_strategy.specs.declared.fault.FailWhy.TheVariants.{WrongCount, NoPlace}
@@ -110,6 +110,7 @@ side_of AnyRight = Some Right
 side_of (Word name) = None
 side_of (GivenFormula h) = None
 side_of (GivenTerm t) = None
+side_of (GivenExtra extra) = None
 
 -- the first, and where there is none the other
 abbrev pub or_other : Option Side → Option Side → Option Side
@@ -129,6 +130,7 @@ put_place n AnyRight = AtPlace (Succ n) []
 put_place n (Word name) = Word name
 put_place n (GivenFormula h) = GivenFormula h
 put_place n (GivenTerm t) = GivenTerm t
+put_place n (GivenExtra extra) = GivenExtra extra
 
 abbrev pub placed : ℕ → Atom → Atom
 placed n atom = record { name = atom.name; arguments = map (put_place n) atom.arguments; at = atom.at }

@@ -67,9 +67,17 @@ fn run_once<S: Store, L: Ledger>(
             let after = goals_left(kernel);
             Ok(after + 1 - before)
         }
+        Err(TacFault::UnknownName) => Err(RunFault::Fails {
+            at: atom.at,
+            why: FailWhy::UnknownName,
+        }),
         Err(TacFault::NoPlace) => Err(RunFault::Fails {
             at: atom.at,
             why: FailWhy::NoPlace,
+        }),
+        Err(TacFault::NoMatch) => Err(RunFault::Fails {
+            at: atom.at,
+            why: FailWhy::NoMatch,
         }),
         Err(TacFault::Step(reason)) => Err(RunFault::Fails {
             at: atom.at,
@@ -86,7 +94,7 @@ fn locator_side(arg: &Arg) -> Option<Side>
     match arg {
         Arg::AnyLeft => Some(Side::Left),
         Arg::AnyRight => Some(Side::Right),
-        Arg::At { .. } | Arg::Word(_) | Arg::Formula(_) | Arg::Term(_) => None,
+        Arg::At { .. } | Arg::Word(_) | Arg::Formula(_) | Arg::Term(_) | Arg::With(_) => None,
     }
 }
 
@@ -125,6 +133,7 @@ fn place_put(alloc: Global, arg: &Arg, place: u32) -> Result<Arg, AllocError>
         Arg::Word(name) => Ok(Arg::Word(name.clone()?)),
         Arg::Formula(id) => Ok(Arg::Formula(*id)),
         Arg::Term(id) => Ok(Arg::Term(*id)),
+        Arg::With(extra) => Ok(Arg::With(extra.copy(alloc)?)),
     }
 }
 

@@ -10,8 +10,12 @@ use thiserror::Error;
 pub enum FailWhy {
     /// A branch has another number of parts than there are goals.
     WrongCount,
+    /// An atom uses an axiom, and none has the name.
+    UnknownName,
     /// An atom's place isn't there.
     NoPlace,
+    /// An atom uses an axiom that doesn't match what stands at the place, or may not be used there.
+    NoMatch,
     /// The kernel doesn't take a step of an atom.
     Step(Reason),
 }

@@ -1,23 +1,46 @@
 //! The laws of runs. Each is a contract of a function that does nothing but call laws of atoms and of the calculus.
-ghost use Rattle.std.specs.Prelude.{◌≡◌, ℕ, [], All};
+ghost use Rattle.std.specs.Prelude.{◌≡◌, ℕ, [], length, All};
 ghost use Rattle.dlk_tree.specs.Trees.{Tree};
 ghost use Rattle.dlk_calculus.specs.Limits.{IsSmall, IsShallow};
-ghost use Rattle.dlk_calculus.specs.Sequents.{IsFormula};
+ghost use Rattle.dlk_calculus.specs.Places.{At};
+ghost use Rattle.dlk_calculus.specs.Provables.{Provable};
+ghost use Rattle.dlk_calculus.specs.Sequents.{IsFormula, alone_right};
 ghost use Rattle.dlk_calculus.specs.Steps.{IsProper};
 ghost use Rattle.dlk_kernel.specs.Taken.{Takes};
 ghost use Rattle.dlk_tacsyn.specs.Rows.{AreFitting};
 ghost use Rattle.dlk_tacsyn.specs.Tactics.{Tactic, EachAtom};
 ghost use Rattle.dlk_elab.specs.Atoms.{HasNames};
+ghost use Rattle.dlk_elab.specs.Symbols.{ReplacesSymbols};
 ghost use Rattle.dlk_strategy.specs.Runs.{Progress, Outcome, Done, RunsModel};
 
-use dlk_calculus::laws::one_provable;
-use dlk_elab::{one_atom, some_atom};
+use dlk_calculus::laws::{derived_formulas, history_derives, one_provable};
+use dlk_elab::{atom_has_symbols, atom_is_taken, atom_replaces_goal, one_atom, some_atom};
 
 /// The steps of a run that is done are taken in turn, and give its rows. Their names are names, and their replacements well made.
 pub fn run_is_taken()
     ensures taken { (t : Tactic) (formula : Tree) (made : Progress) (left : ℕ) → RunsModel t formula (Done made left) → Takes [] made.steps made.rows }
     ensures proper { (t : Tactic) (formula : Tree) (made : Progress) (left : ℕ) → RunsModel t formula (Done made left) → All IsProper made.steps }
-{}
+{
+    atom_is_taken();
+}
+
+/// What the steps of a run that is done replace are symbols, where the names of its atoms are names and what they are given to replace are
+/// symbols.
+pub fn run_has_symbols()
+    ensures { (t : Tactic) (formula : Tree) (made : Progress) (left : ℕ) → EachAtom HasNames t → RunsModel t formula (Done made left) → All ReplacesSymbols made.steps }
+{
+    atom_is_taken();
+    history_derives();
+    derived_formulas();
+    atom_has_symbols();
+}
+
+/// The last row of a run that is done shows its formula.
+pub fn run_shows_formula()
+    ensures { (t : Tactic) (formula : Tree) (made : Progress) (left : ℕ) → RunsModel t formula (Done made left) → (p : Provable) × At made.rows (length made.rows) p × (p.conclusion ≡ alone_right formula) }
+{
+    atom_replaces_goal();
+}
 
 /// A strategy on a model has at most one outcome.
 pub fn one_outcome()
@@ -31,5 +54,8 @@ pub fn one_outcome()
 pub fn some_outcome()
     ensures { (t : Tactic) (formula : Tree) → AreFitting t → EachAtom HasNames t → IsFormula formula → IsSmall formula → IsShallow formula → (o : Outcome) × RunsModel t formula o }
 {
+    atom_is_taken();
+    history_derives();
+    derived_formulas();
     some_atom();
 }

@@ -9,5 +9,5 @@ mod strategy;
 mod trace;
 
 pub use fault::{FailWhy, RunFault};
-pub use laws::{one_outcome, run_is_taken, some_outcome};
+pub use laws::{one_outcome, run_has_symbols, run_is_taken, run_shows_formula, some_outcome};
 pub use strategy::{Done, run_strategy};

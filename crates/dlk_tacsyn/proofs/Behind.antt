@@ -1,6 +1,5 @@
 -- The machine behind a part, by what stood last.
-use Rattle.std.proofs.Common.{◌≡◌, ℕ, List, [], ◌∷◌, Option, Some, refl, sym, ap, ◌∙◌, length, arith}
-use Rattle.dlk_tree.specs.Trees.{Tree}
+use Rattle.std.proofs.Common.{◌≡◌, ℕ, List, [], ◌∷◌, Some, refl, sym, ap, ◌∙◌, length, arith}
 use Rattle.dlk_scripts.specs.declared.part.Part.{Part}
 use Rattle.dlk_scripts.specs.declared.part.PartKind.{PartKind}
 use Rattle.dlk_scripts.specs.declared.part.PartKind.TheVariants as kind
@@ -8,14 +7,14 @@ use Rattle.dlk_tacsyn.specs.declared.argument.Written.{Written}
 use Rattle.dlk_tacsyn.specs.declared.argument.Call.{Call}
 use Rattle.dlk_tacsyn.specs.Tactics.{Tactic}
 use Rattle.dlk_tacsyn.specs.Faults.{Fault}
-use Rattle.dlk_tacsyn.specs.Strategies.{Outcome, Says, Fails, ◌>>=◌, atom_of}
+use Rattle.dlk_tacsyn.specs.Strategies.{Outcome, Reading, Says, Fails, ◌>>=◌, atom_of}
 use Rattle.dlk_tacsyn.specs.Steps.{Frame, Stack, Whole, State, state, end_choice, closed, given, after_whole, after_name, after_call, end_call, step, run, settled, finish}
 
 pub nil_of : {A : Type 0} (xs : List A) → length xs ≡ 0 → xs ≡ []
 nil_of [] e = refl
 nil_of (x ∷ xs) e = absurd (omega arith)
 
-module _ (read : List ℕ → Option Tree) where
+module _ (read : Reading) where
   name_other : (at : ℕ) (k : PartKind) (outer : Stack) (f : Frame) (place : ℕ) (x : List ℕ) → (k ≡ kind.Open → ⊥) →
       after_name read at k outer f place x ≡ (atom_of read place x [] >>= (λ t. after_whole at k outer f t))
   name_other at kind.Open outer f place x other = absurd (other refl)

@@ -1,28 +1,34 @@
 -- The atoms of a strategy have what each of them has as it is read.
 use Rattle.std.proofs.Common.{◌≡◌, ℕ, ◌+◌, List, [], ◌∷◌, ◌++◌, Option, Some, None, refl}
-use Rattle.std.specs.Prelude.{option_map, option_and_then, MatchOption, nat_lt, nat_le, All}
+use Rattle.std.specs.Prelude.{option_map, option_and_then, nat_lt, nat_le, All}
 use Rattle.std.proofs.lemmas.List.Elements.{All-nil, All-cons}
 use Rattle.dlk_tree.specs.Trees.{Tree}
+use Rattle.dlk_calculus.specs.Pairs.{Extra, AreWellMade}
 use Rattle.dlk_calculus.specs.Sequents.{IsFormula}
 use Rattle.dlk_grammar.specs.declared.token.Form.TheVariants.{Formula}
 use Rattle.dlk_grammar.specs.declared.token.Dots.TheVariants.{Refused}
-use Rattle.dlk_grammar.specs.Texts.{TreeText}
+use Rattle.dlk_grammar.specs.Texts.{TreeText, ExtraText}
+use Rattle.dlk_sequent.specs.declared.sequent.Place.{Place}
 use Rattle.dlk_scripts.specs.declared.part.PartKind.TheVariants as kind
 use Rattle.dlk_scripts.specs.Parts.{part}
 use Rattle.dlk_scripts.specs.Scripts as script
 use Rattle.dlk_scripts.specs.Scripts.{arguments_parts, script_parts, sequence_parts, scripts_parts, repeat_parts, primary_parts}
 use Rattle.dlk_tacsyn.specs.declared.kind.Kind.{Kind}
-use Rattle.dlk_tacsyn.specs.declared.kind.Kind.TheVariants.{FixedPlace, AnyPlace, QuotedFormula, AName}
+use Rattle.dlk_tacsyn.specs.declared.kind.Kind.TheVariants.{FixedPlace, AnyPlace, QuotedFormula, AName, QuotedExtra}
 use Rattle.dlk_tacsyn.specs.declared.argument.Written.{Written}
 use Rattle.dlk_tacsyn.specs.declared.argument.Written.TheVariants as written
-use Rattle.dlk_tacsyn.specs.Tactics.{Argument, Atom, Tactic, Tactics, Choice, Sequence, Branch, Repeat, EachAtom, EachAtomOf, GivenFormula}
-use Rattle.dlk_tacsyn.specs.Rows.{row_of, IsOfKind, AreOfKinds, IsFitting, AreFitting, IsNamed, HasNames}
+use Rattle.dlk_tacsyn.specs.Tactics.{Argument, Atom, Tactic, Tactics, Choice, Sequence, Branch, Repeat, EachAtom, EachAtomOf, AtPlace, AnyLeft}
+use Rattle.dlk_tacsyn.specs.Tactics.{AnyRight, Word, GivenFormula, GivenExtra}
+use Rattle.dlk_tacsyn.specs.Rows.{Row, row_of, IsOfKind, AreOfKinds, IsFitting, AreFitting, IsNamedExtra, IsNamed, HasNames}
 use Rattle.dlk_tacsyn.specs.Faults.{Nesting}
 use Rattle.dlk_tacsyn.specs.Faults as fault
-use Rattle.dlk_tacsyn.specs.Strategies.{Says, most_open, most_times, parts, whole, all_written, argument_of, arguments_of, atom_given, atom_by}
+use Rattle.dlk_tacsyn.specs.Strategies.{Says, Reading, IsReading, IsSaid, most_open, most_times, parts, whole, all_written, place_of}
+use Rattle.dlk_tacsyn.specs.Strategies.{place_or_locator_of, word_of}
+use Rattle.dlk_tacsyn.specs.Strategies.{quoted_of, argument_of, followed, arguments_of, atom_given, atom_by}
 use Rattle.dlk_tacsyn.specs.Strategies.{atom_of, opened, choices_of, sequence_of, branches_of, repeat_of, primary_of, strategy_of, StrategyText}
 use Rattle.dlk_tacsyn.proofs.Given.{Gives, bind_gives, if_gives, said_gives}
 use Rattle.dlk_tacsyn.proofs.Named.{AreNamedParts, named_front, named_behind, named_parts, IsNamedWritten, AreNamedWritten, all_named}
+use Rattle.dlk_tacsyn.proofs.Renames.{extra_text_named}
 
 -- what holds of a value, if there is one
 abbrev Holds : {A : Type 0} → (A → Type 0) → Option A → Type 0
@@ -46,7 +52,7 @@ module _ (Is : Atom → Type 0) where
   each_sequence : (ts : List Tactic) → EachAtomOf Is (parts ts) → EachAtom Is (whole Sequence ts)
   each_sequence ts h = each_whole Sequence (λ ps k. k) ts h
 
-  module _ (read : List ℕ → Option Tree)
+  module _ (read : Reading)
       (has : (at : ℕ) (x : List ℕ) (ws : List Written) → AreNamedWritten ws → Gives (EachAtom Is) (atom_of read at x ws)) where
     mutual
       choices_each : (n : ℕ) (s : script.Script) → AreNamedParts (script_parts s) → Gives (λ ts. EachAtomOf Is (parts ts)) (choices_of read n s)
@@ -97,104 +103,152 @@ module _ (Is : Atom → Type 0) where
     strategy_each s h = bind_gives (λ ts. EachAtomOf Is (parts ts)) _ (choices_of read 0 s) _ (choices_each 0 s h) (λ ts k. each_choice ts k)
 
 -- the arguments of each kind
-text_formula : (s : List ℕ) → ((t : Tree) → TreeText Formula Refused s t → IsFormula t) → (found : Option Tree) →
-    MatchOption found ((h : Tree) → ¬ TreeText Formula Refused s h) (λ h. TreeText Formula Refused s h) → Holds IsFormula found
-text_formula s law None m = tt
-text_formula s law (Some h) m = law h m
+said_holds : {A : Type 0} (Is P : A → Type 0) → ((a : A) → Is a → P a) → (found : Option A) → IsSaid Is found → Holds P found
+said_holds Is P law None m = tt
+said_holds Is P law (Some a) m = law a m
 
-given_formula : (found : Option Tree) → Holds IsFormula found → Holds (IsOfKind QuotedFormula) (option_map GivenFormula found)
-given_formula None h = tt
-given_formula (Some f) h = h
+module _ (P : Argument → Type 0) where
+  place_holds : (w : Written) → ((p : Place) (path : List ℕ) → P (AtPlace p path)) → Holds P (place_of w)
+  place_holds (written.At p path) h = h p path
+  place_holds written.AnyLeft h = tt
+  place_holds written.AnyRight h = tt
+  place_holds (written.Word x) h = tt
+  place_holds (written.Quoted s) h = tt
 
-formula_named : (found : Option Tree) → Holds IsNamed (option_map GivenFormula found)
-formula_named None = tt
-formula_named (Some f) = tt
+  locator_holds : (w : Written) → ((p : Place) (path : List ℕ) → P (AtPlace p path)) → P AnyLeft → P AnyRight → Holds P (place_or_locator_of w)
+  locator_holds (written.At p path) h left right = h p path
+  locator_holds written.AnyLeft h left right = left
+  locator_holds written.AnyRight h left right = right
+  locator_holds (written.Word x) h left right = tt
+  locator_holds (written.Quoted s) h left right = tt
 
-module _ (read : List ℕ → Option Tree) where
-  argument_named : (kind : Kind) (w : Written) → IsNamedWritten w → Holds IsNamed (argument_of read kind w)
-  argument_named FixedPlace (written.At place path) h = tt
-  argument_named AnyPlace (written.At place path) h = tt
-  argument_named AnyPlace written.AnyLeft h = tt
-  argument_named AnyPlace written.AnyRight h = tt
-  argument_named QuotedFormula (written.Quoted text) h = formula_named (read text)
-  argument_named AName (written.Word x) h = h
-  argument_named _ _ h = tt
+  word_holds : (w : Written) → ((x : List ℕ) → IsNamedWritten (written.Word x) → P (Word x)) → IsNamedWritten w → Holds P (word_of w)
+  word_holds (written.At p path) h named = tt
+  word_holds written.AnyLeft h named = tt
+  word_holds written.AnyRight h named = tt
+  word_holds (written.Word x) h named = h x named
+  word_holds (written.Quoted s) h named = tt
 
-  next_named : (a : Argument) (more : Option (List Argument)) → IsNamed a → Holds (All IsNamed) more → Holds (All IsNamed) (option_map (λ all. a ∷ all) more)
-  next_named a None h k = tt
-  next_named a (Some all) h k = All-cons IsNamed a all h k
+  made_holds : {A : Type 0} (make : A → Argument) (found : Option A) → Holds (λ a. P (make a)) found → Holds P (option_map make found)
+  made_holds make None h = tt
+  made_holds make (Some a) h = h
 
-  then_named : (a : Option Argument) (more : Option (List Argument)) → Holds IsNamed a → Holds (All IsNamed) more →
-      Holds (All IsNamed) (option_and_then (λ b. option_map (λ all. b ∷ all) more) a)
-  then_named None more h k = tt
-  then_named (Some a) more h k = next_named a more h k
+  quoted_holds : {A : Type 0} (make : A → Argument) (read : List ℕ → Option A) (w : Written) → ((s : List ℕ) → Holds (λ a. P (make a)) (read s)) →
+      Holds P (quoted_of make read w)
+  quoted_holds make read (written.At p path) h = tt
+  quoted_holds make read written.AnyLeft h = tt
+  quoted_holds make read written.AnyRight h = tt
+  quoted_holds make read (written.Word x) h = tt
+  quoted_holds make read (written.Quoted s) h = made_holds make (read s) (h s)
 
-  arguments_named : (kinds : List Kind) (ws : List Written) → AreNamedWritten ws → Holds (All IsNamed) (arguments_of read kinds ws)
-  arguments_named [] [] h = All-nil IsNamed
-  arguments_named (kind ∷ kinds) (w ∷ ws) h =
-      then_named (argument_of read kind w) (arguments_of read kinds ws) (argument_named kind w h.0) (arguments_named kinds ws h.1)
-  arguments_named [] (w ∷ ws) h = tt
-  arguments_named (kind ∷ kinds) [] h = tt
+  then_holds : (Q R : List Argument → Type 0) → ((a : Argument) (all : List Argument) → P a → Q all → R (a ∷ all)) → (a : Option Argument) →
+      (more : Option (List Argument)) → Holds P a → Holds Q more → Holds R (option_and_then (λ b. option_map (λ all. b ∷ all) more) a)
+  then_holds Q R join None more h k = tt
+  then_holds Q R join (Some a) None h k = tt
+  then_holds Q R join (Some a) (Some all) h k = join a all h k
 
-  given_named : (at : ℕ) (name : List ℕ) (all : Option (List Argument)) → Holds (All IsNamed) all → Gives (EachAtom HasNames) (atom_given read at name all)
-  given_named at name None h = tt
-  given_named at name (Some all) h = h
+any_formula : (found : Option Tree) → Holds (λ h. IsNamed (GivenFormula h)) found
+any_formula None = tt
+any_formula (Some h) = tt
 
-  by_named : (at : ℕ) (name : List ℕ) (ws : List Written) → AreNamedWritten ws → (row : Option (List Kind)) →
-      Gives (EachAtom HasNames) (atom_by read at name ws row)
-  by_named at name ws h None = tt
-  by_named at name ws h (Some kinds) = given_named at name (arguments_of read kinds ws) (arguments_named kinds ws h)
+module _ (read : Reading) where
+  module _ (renames : (s : List ℕ) → Holds (λ (e : Extra). IsNamedExtra e) (read.extra s)) where
+    argument_named : (kind : Kind) (w : Written) → IsNamedWritten w → Holds IsNamed (argument_of read kind w)
+    argument_named FixedPlace w h = place_holds IsNamed w (λ p path. tt)
+    argument_named AnyPlace w h = locator_holds IsNamed w (λ p path. tt) tt tt
+    argument_named QuotedFormula w h = quoted_holds IsNamed GivenFormula read.formula w (λ s. any_formula (read.formula s))
+    argument_named AName w h = word_holds IsNamed w (λ x is. is) h
+    argument_named QuotedExtra w h = quoted_holds IsNamed GivenExtra read.extra w renames
 
-  atom_named : (at : ℕ) (name : List ℕ) (ws : List Written) → AreNamedWritten ws → Gives (EachAtom HasNames) (atom_of read at name ws)
-  atom_named at name ws h = by_named at name ws h (row_of name)
+    then_named : (kind : Kind) (w : Written) (more : Option (List Argument)) → IsNamedWritten w → Holds (All IsNamed) more →
+        Holds (All IsNamed) (followed read kind w more)
+    then_named kind w more h k =
+        then_holds IsNamed (All IsNamed) (All IsNamed) (λ a all. All-cons IsNamed a all) (argument_of read kind w) more (argument_named kind w h) k
 
-  module _ (formulas : (s : List ℕ) → Holds IsFormula (read s)) where
-    argument_kind : (kind : Kind) (w : Written) → Holds (IsOfKind kind) (argument_of read kind w)
-    argument_kind FixedPlace (written.At place path) = tt
-    argument_kind AnyPlace (written.At place path) = tt
-    argument_kind AnyPlace written.AnyLeft = tt
-    argument_kind AnyPlace written.AnyRight = tt
-    argument_kind QuotedFormula (written.Quoted text) = given_formula (read text) (formulas text)
-    argument_kind AName (written.Word x) = tt
-    argument_kind _ _ = tt
+    arguments_named : (kinds : List Kind) (optional : Option Kind) (ws : List Written) → AreNamedWritten ws →
+        Holds (All IsNamed) (arguments_of read kinds optional ws)
+    arguments_named [] optional [] h = All-nil IsNamed
+    arguments_named [] None (w ∷ ws) h = tt
+    arguments_named [] (Some kind) (w ∷ ws) h = then_named kind w (arguments_of read [] None ws) h.0 (arguments_named [] None ws h.1)
+    arguments_named (kind ∷ kinds) optional [] h = tt
+    arguments_named (kind ∷ kinds) optional (w ∷ ws) h =
+        then_named kind w (arguments_of read kinds optional ws) h.0 (arguments_named kinds optional ws h.1)
 
-    next_kind : (kind : Kind) (kinds : List Kind) (a : Argument) (more : Option (List Argument)) → IsOfKind kind a → Holds (AreOfKinds kinds) more →
-        Holds (AreOfKinds (kind ∷ kinds)) (option_map (λ all. a ∷ all) more)
-    next_kind kind kinds a None h k = tt
-    next_kind kind kinds a (Some all) h k = (h, k)
+    given_named : (at : ℕ) (name : List ℕ) (all : Option (List Argument)) → Holds (All IsNamed) all → Gives (EachAtom HasNames) (atom_given read at name all)
+    given_named at name None h = tt
+    given_named at name (Some all) h = h
 
-    then_kind : (kind : Kind) (kinds : List Kind) (a : Option Argument) (more : Option (List Argument)) → Holds (IsOfKind kind) a →
-        Holds (AreOfKinds kinds) more → Holds (AreOfKinds (kind ∷ kinds)) (option_and_then (λ b. option_map (λ all. b ∷ all) more) a)
-    then_kind kind kinds None more h k = tt
-    then_kind kind kinds (Some a) more h k = next_kind kind kinds a more h k
+    by_named : (at : ℕ) (name : List ℕ) (ws : List Written) → AreNamedWritten ws → (row : Option Row) →
+        Gives (EachAtom HasNames) (atom_by read at name ws row)
+    by_named at name ws h None = tt
+    by_named at name ws h (Some row) =
+        given_named at name (arguments_of read row.wanted row.optional ws) (arguments_named row.wanted row.optional ws h)
 
-    arguments_kinds : (kinds : List Kind) (ws : List Written) → Holds (AreOfKinds kinds) (arguments_of read kinds ws)
-    arguments_kinds [] [] = tt
-    arguments_kinds (kind ∷ kinds) (w ∷ ws) =
-        then_kind kind kinds (argument_of read kind w) (arguments_of read kinds ws) (argument_kind kind w) (arguments_kinds kinds ws)
-    arguments_kinds [] (w ∷ ws) = tt
-    arguments_kinds (kind ∷ kinds) [] = tt
+    atom_named : (at : ℕ) (name : List ℕ) (ws : List Written) → AreNamedWritten ws → Gives (EachAtom HasNames) (atom_of read at name ws)
+    atom_named at name ws h = by_named at name ws h (row_of name)
 
-    given_fits : (at : ℕ) (name : List ℕ) (kinds : List Kind) → row_of name ≡ Some kinds → (all : Option (List Argument)) →
-        Holds (AreOfKinds kinds) all → Gives (EachAtom IsFitting) (atom_given read at name all)
-    given_fits at name kinds row None h = tt
-    given_fits at name kinds row (Some all) h = record { kinds = kinds; row = row; arguments = h }
+  module _ (formulas : (s : List ℕ) → Holds IsFormula (read.formula s)) (pairs : (s : List ℕ) → Holds (λ (e : Extra). AreWellMade e.pairs) (read.extra s)) where
+    argument_kind : (kind : Kind) (w : Written) → IsNamedWritten w → Holds (IsOfKind kind) (argument_of read kind w)
+    argument_kind FixedPlace w h = place_holds (IsOfKind FixedPlace) w (λ p path. tt)
+    argument_kind AnyPlace w h = locator_holds (IsOfKind AnyPlace) w (λ p path. tt) tt tt
+    argument_kind QuotedFormula w h = quoted_holds (IsOfKind QuotedFormula) GivenFormula read.formula w formulas
+    argument_kind AName w h = word_holds (IsOfKind AName) w (λ x is. tt) h
+    argument_kind QuotedExtra w h = quoted_holds (IsOfKind QuotedExtra) GivenExtra read.extra w pairs
 
-    by_fits : (at : ℕ) (name : List ℕ) (ws : List Written) (row : Option (List Kind)) → row_of name ≡ row →
+    then_kinds : (kind : Kind) (kinds : List Kind) (optional : Option Kind) (w : Written) (more : Option (List Argument)) → IsNamedWritten w →
+        Holds (AreOfKinds kinds optional) more → Holds (λ all. AreOfKinds (kind ∷ kinds) optional all) (followed read kind w more)
+    then_kinds kind kinds optional w more h k =
+        then_holds (IsOfKind kind) (AreOfKinds kinds optional) (AreOfKinds (kind ∷ kinds) optional) (λ a all is are. (is, are))
+        (argument_of read kind w) more (argument_kind kind w h) k
+
+    then_last : (kind : Kind) (w : Written) (more : Option (List Argument)) → IsNamedWritten w → Holds (AreOfKinds [] None) more →
+        Holds (AreOfKinds [] (Some kind)) (followed read kind w more)
+    then_last kind w more h k =
+        then_holds (IsOfKind kind) (AreOfKinds [] None) (AreOfKinds [] (Some kind)) (λ a all is are. (is, are))
+        (argument_of read kind w) more (argument_kind kind w h) k
+
+    arguments_kinds : (kinds : List Kind) (optional : Option Kind) (ws : List Written) → AreNamedWritten ws →
+        Holds (AreOfKinds kinds optional) (arguments_of read kinds optional ws)
+    arguments_kinds [] optional [] h = tt
+    arguments_kinds [] None (w ∷ ws) h = tt
+    arguments_kinds [] (Some kind) (w ∷ ws) h = then_last kind w (arguments_of read [] None ws) h.0 (arguments_kinds [] None ws h.1)
+    arguments_kinds (kind ∷ kinds) optional [] h = tt
+    arguments_kinds (kind ∷ kinds) optional (w ∷ ws) h =
+        then_kinds kind kinds optional w (arguments_of read kinds optional ws) h.0 (arguments_kinds kinds optional ws h.1)
+
+    given_fits : (at : ℕ) (name : List ℕ) (row : Row) → row_of name ≡ Some row → (all : Option (List Argument)) →
+        Holds (AreOfKinds row.wanted row.optional) all → Gives (EachAtom IsFitting) (atom_given read at name all)
+    given_fits at name row row_is None h = tt
+    given_fits at name row row_is (Some all) h = record { row = row; row_is = row_is; arguments = h }
+
+    by_fits : (at : ℕ) (name : List ℕ) (ws : List Written) → AreNamedWritten ws → (row : Option Row) → row_of name ≡ row →
         Gives (EachAtom IsFitting) (atom_by read at name ws row)
-    by_fits at name ws None e = tt
-    by_fits at name ws (Some kinds) e = given_fits at name kinds e (arguments_of read kinds ws) (arguments_kinds kinds ws)
+    by_fits at name ws h None e = tt
+    by_fits at name ws h (Some row) e =
+        given_fits at name row e (arguments_of read row.wanted row.optional ws) (arguments_kinds row.wanted row.optional ws h)
 
     atom_fits : (at : ℕ) (name : List ℕ) (ws : List Written) → AreNamedWritten ws → Gives (EachAtom IsFitting) (atom_of read at name ws)
-    atom_fits at name ws h = by_fits at name ws (row_of name) refl
+    atom_fits at name ws h = by_fits at name ws h (row_of name) refl
+
+-- what is read of a quoted text that says names and pairs
+extra_holds : (P : Extra → Type 0) → ((s : List ℕ) (e : Extra) → ExtraText s e → P e) → (read : Reading) → IsReading read → (s : List ℕ) →
+    Holds P (read.extra s)
+extra_holds P law read reading s = said_holds (λ (e : Extra). ExtraText s e) P (law s) (read.extra s) (reading.extras s)
+
+formula_holds : ((s : List ℕ) (h : Tree) → TreeText Formula Refused s h → IsFormula h) → (read : Reading) → IsReading read → (s : List ℕ) →
+    Holds IsFormula (read.formula s)
+formula_holds law read reading s = said_holds (λ (h : Tree). TreeText Formula Refused s h) IsFormula (law s) (read.formula s) (reading.formulas s)
 
 pub text_named : (bytes : List ℕ) (t : Tactic) → StrategyText bytes t → EachAtom HasNames t
 text_named bytes t is =
     said_gives (EachAtom HasNames) (strategy_of is.read is.script) t is.outcome_is
-    (strategy_each HasNames is.read (atom_named is.read) is.script (named_parts bytes _ is.says.spelled))
+    (strategy_each HasNames is.read
+    (atom_named is.read (extra_holds (λ (e : Extra). IsNamedExtra e) extra_text_named is.read is.reading)) is.script (named_parts bytes _ is.says.spelled))
 
-pub text_fits : ((s : List ℕ) (h : Tree) → TreeText Formula Refused s h → IsFormula h) → (bytes : List ℕ) (t : Tactic) → StrategyText bytes t → AreFitting t
-text_fits law bytes t is =
+pub text_fits : ((s : List ℕ) (h : Tree) → TreeText Formula Refused s h → IsFormula h) →
+    ((s : List ℕ) (e : Extra) → ExtraText s e → AreWellMade e.pairs) → (bytes : List ℕ) (t : Tactic) → StrategyText bytes t → AreFitting t
+text_fits formulas pairs bytes t is =
     said_gives (EachAtom IsFitting) (strategy_of is.read is.script) t is.outcome_is
-    (strategy_each IsFitting is.read (atom_fits is.read (λ s. text_formula s (law s) (is.read s) (is.reading s))) is.script
-    (named_parts bytes _ is.says.spelled))
+    (strategy_each IsFitting is.read
+    (atom_fits is.read (formula_holds formulas is.read is.reading) (extra_holds (λ (e : Extra). AreWellMade e.pairs) pairs is.read is.reading))
+    is.script (named_parts bytes _ is.says.spelled))

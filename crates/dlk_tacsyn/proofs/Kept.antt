@@ -5,13 +5,17 @@ use Rattle.std.proofs.lemmas.List.{length-map}
 use Rattle.std.proofs.lemmas.List.Elements.{All-nil, All-cons, All-head, All-tail}
 use mathlib.Core.Former.{Count}
 use Rattle.dlk_tree.specs.Trees.{Tree}
-use Rattle.dlk_store.specs.Stores.{Keeps}
+use Rattle.dlk_store.specs.Stores.{Keeps, IsId}
+use Rattle.dlk_sequent.specs.declared.subst.Pair.{Pair}
+use Rattle.dlk_sequent.specs.declared.extra.Extra.{Extra}
+use Rattle.dlk_sequent.specs.Substitutions.{pair_at}
+use Rattle.dlk_sequent.specs.Extras.{extra_at, IsKnownExtra}
 use Rattle.dlk_tacsyn.specs.declared.tactic.Arg.{Arg}
 use Rattle.dlk_tacsyn.specs.declared.tactic.Arg.TheVariants as arg
 use Rattle.dlk_tacsyn.specs.declared.tactic.Tactic.{Tactic, Choice, Seq, Branch, One, Choice', Seq', Branch', Repeat', Row_of-Tactic, end_of-Tactic, more_of-Tactic, items-the_row-Tactic, items_hidden-the_row-Tactic-0}
 use Rattle.dlk_tacsyn.specs.declared.frame.Frame.{Frame}
 use Rattle.dlk_tacsyn.specs.declared.frame.Brackets.{Brackets}
-use Rattle.dlk_tacsyn.specs.Tactics.{Argument, GivenFormula, GivenTerm, Tactics, part}
+use Rattle.dlk_tacsyn.specs.Tactics.{Argument, GivenFormula, GivenTerm, GivenExtra, Tactics, part}
 use Rattle.dlk_tacsyn.specs.Tactics as the
 use Rattle.dlk_tacsyn.specs.Strategies.{parts, whole}
 use Rattle.dlk_tacsyn.specs.Ties.{argument_at, ArgumentIsKnown, tactic_at, tactics_at, TacticIsKnown, TacticsAreKnown}
@@ -98,6 +102,20 @@ all_still P Q h [] all = All-nil Q
 all_still P Q h (x ∷ xs) all = All-cons Q x xs (h x (All-head P x xs all)) (all_still P Q h xs (All-tail P x xs all))
 
 module _ (old new : List Tree) (keeps : Keeps old new) where
+  pair_known : (p : Pair) → IsId old p.by → IsId new p.by
+  pair_known p k = below (length old) (length new) p.by.0 keeps.known k
+
+  pair_kept : (p : Pair) → IsId old p.by → pair_at new p ≡ pair_at old p
+  pair_kept p k = ap (λ t. record { sym = p.sym; by = t }) (keeps.same p.by k)
+
+  extra_known : (extra : Extra) → IsKnownExtra old extra → IsKnownExtra new extra
+  extra_known extra k = all_still (λ (p : Pair). IsId old p.by) (λ (p : Pair). IsId new p.by) pair_known extra.pairs k
+
+  extra_kept : (extra : Extra) → IsKnownExtra old extra → extra_at new extra ≡ extra_at old extra
+  extra_kept extra k =
+      ap (λ pairs. record { renames = extra.renames; pairs = pairs })
+      (map_same (pair_at new) (pair_at old) (λ (p : Pair). IsId old p.by) pair_kept extra.pairs k)
+
   pub argument_known : (a : Arg) → ArgumentIsKnown old a → ArgumentIsKnown new a
   argument_known (arg.At place path) k = tt
   argument_known arg.AnyLeft k = tt
@@ -105,6 +123,7 @@ module _ (old new : List Tree) (keeps : Keeps old new) where
   argument_known (arg.Word name) k = tt
   argument_known (arg.Formula id) k = below (length old) (length new) id.0 keeps.known k
   argument_known (arg.Term id) k = below (length old) (length new) id.0 keeps.known k
+  argument_known (arg.With extra) k = extra_known extra k
 
   argument_kept : (a : Arg) → ArgumentIsKnown old a → argument_at new a ≡ argument_at old a
   argument_kept (arg.At place path) k = refl
@@ -113,6 +132,7 @@ module _ (old new : List Tree) (keeps : Keeps old new) where
   argument_kept (arg.Word name) k = refl
   argument_kept (arg.Formula id) k = ap (λ t. GivenFormula t) (keeps.same id k)
   argument_kept (arg.Term id) k = ap (λ t. GivenTerm t) (keeps.same id k)
+  argument_kept (arg.With extra) k = ap (λ e. GivenExtra e) (extra_kept extra k)
 
   pub arguments_kept : (all : List Arg) → All (ArgumentIsKnown old) all → map (argument_at new) all ≡ map (argument_at old) all
   arguments_kept all k = map_same (argument_at new) (argument_at old) (ArgumentIsKnown old) argument_kept all k

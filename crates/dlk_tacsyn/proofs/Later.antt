@@ -1,25 +1,22 @@
--- No strategy of the grammar has a fault of the grammar, and each text is read by some function.
-use Rattle.std.proofs.Common.{◌≡◌, ℕ, ◌+◌, Bool, true, false, List, [], Option, Some, None, sym, ap, ◌∙◌, subst, inl, inr, ◌⊎◌}
-use Rattle.std.specs.Prelude.{if◌then◌else◌, nat_lt, nat_le, MatchOption}
-use Rattle.dlk_tree.specs.Trees.{Tree}
-use Rattle.dlk_grammar.specs.declared.token.Form.TheVariants.{Formula}
-use Rattle.dlk_grammar.specs.declared.token.Dots.TheVariants.{Refused}
-use Rattle.dlk_grammar.specs.Texts.{TreeText, TreeTextFault}
-use Rattle.dlk_grammar.specs.Texts.{TextFault as WhyNoText}
+-- No strategy of the grammar has a fault of the grammar, and what becomes of the parts of a text becomes of it.
+use Rattle.std.proofs.Common.{◌≡◌, ℕ, ◌+◌, Bool, true, false, List, [], Option, Some, None, sym, ap, ◌∙◌, subst}
+use Rattle.std.specs.Prelude.{if◌then◌else◌, nat_lt, nat_le}
 use Rattle.dlk_scripts.specs.declared.part.Part.{Part}
 use Rattle.dlk_scripts.specs.declared.fault.PartsFault.{PartsFault}
 use Rattle.dlk_scripts.specs.declared.fault.PartsFault.TheVariants as parts_fault
 use Rattle.dlk_scripts.specs.Scripts as script
 use Rattle.dlk_scripts.specs.Texts.{IsPartsFaultOf, HasParts}
-use Rattle.dlk_tacsyn.specs.declared.kind.Kind.{Kind}
 use Rattle.dlk_tacsyn.specs.declared.argument.Written.{Written}
 use Rattle.dlk_tacsyn.specs.Tactics.{Argument, Tactic, Repeat}
-use Rattle.dlk_tacsyn.specs.Rows.{row_of}
+use Rattle.dlk_tacsyn.specs.Rows.{Row, row_of}
 use Rattle.dlk_tacsyn.specs.Faults.{Fault, Nesting, UnknownAtom, Arguments, IsTacSyntaxOf, of_parts}
 use Rattle.dlk_tacsyn.specs.Faults as fault
-use Rattle.dlk_tacsyn.specs.Strategies.{Outcome, Says, Fails, ◌>>=◌, most_open, most_times, opened, all_written, arguments_of, atom_given, atom_by, choices_of, sequence_of, branches_of, repeat_of, primary_of, strategy_of, IsReading, HasOutcome, StrategyFault}
+use Rattle.dlk_tacsyn.specs.Strategies.{Outcome, Reading, Says, Fails, ◌>>=◌, most_open, most_times, opened, all_written, arguments_of, atom_given}
+use Rattle.dlk_tacsyn.specs.Strategies.{atom_by, choices_of, sequence_of, branches_of, repeat_of, primary_of, strategy_of, IsReading, HasOutcome}
+use Rattle.dlk_tacsyn.specs.Strategies.{StrategyFault}
 use Rattle.dlk_tacsyn.specs.Steps.{outcome_of}
 use Rattle.dlk_tacsyn.proofs.Runs.{machine_answers}
+use Rattle.dlk_tacsyn.proofs.Read.{QuotedLaws, reads, reads_all}
 
 abbrev pub IsLaterFault : Fault → Type 0
 IsLaterFault (fault.Syntax at) = ⊥
@@ -40,14 +37,14 @@ if_later : {A : Type 0} (b : Bool) (m : Outcome A) (f : Fault) → IsLater m →
 if_later true m f h k = h
 if_later false m f h k = k
 
-module _ (read : List ℕ → Option Tree) where
+module _ (read : Reading) where
   given_later : (at : ℕ) (name : List ℕ) (all : Option (List Argument)) → IsLater (atom_given read at name all)
   given_later at name None = tt
   given_later at name (Some all) = tt
 
-  by_later : (at : ℕ) (name : List ℕ) (ws : List Written) (row : Option (List Kind)) → IsLater (atom_by read at name ws row)
+  by_later : (at : ℕ) (name : List ℕ) (ws : List Written) (row : Option Row) → IsLater (atom_by read at name ws row)
   by_later at name ws None = tt
-  by_later at name ws (Some kinds) = given_later at name (arguments_of read kinds ws)
+  by_later at name ws (Some row) = given_later at name (arguments_of read row.wanted row.optional ws)
 
   mutual
     choices_later : (n : ℕ) (s : script.Script) → IsLater (choices_of read n s)
@@ -82,36 +79,19 @@ module _ (read : List ℕ → Option Tree) where
   pub strategy_later : (s : script.Script) → IsLater (strategy_of read s)
   strategy_later s = bind_later (choices_of read 0 s) _ (choices_later 0 s) (λ ts. tt)
 
--- some function reads all quoted texts
-module _ (some : (s : List ℕ) → ((t : Tree) × TreeText Formula Refused s t) ⊎ ((w : WhyNoText) × TreeTextFault Formula Refused s w))
-    (apart : (s : List ℕ) (t : Tree) (w : WhyNoText) → TreeText Formula Refused s t → TreeTextFault Formula Refused s w → ⊥) where
-  pick : (s : List ℕ) → ((t : Tree) × TreeText Formula Refused s t) ⊎ ((w : WhyNoText) × TreeTextFault Formula Refused s w) → Option Tree
-  pick s (inl p) = Some p.0
-  pick s (inr q) = None
-
-  picked : (s : List ℕ) (d : ((t : Tree) × TreeText Formula Refused s t) ⊎ ((w : WhyNoText) × TreeTextFault Formula Refused s w)) →
-      MatchOption (pick s d) ((h : Tree) → ¬ TreeText Formula Refused s h) (λ h. TreeText Formula Refused s h)
-  unfolding pick
-  picked s (inl p) = p.1
-  picked s (inr q) = λ h r. apart s h q.0 r q.1
-
-  pub reads : List ℕ → Option Tree
-  reads s = pick s (some s)
-
-  pub reads_all : IsReading reads
-  unfolding reads
-  reads_all s = picked s (some s)
-
-  pub outcome : (bytes : List ℕ) (ps : List Part) (o : Outcome Tactic) → HasParts bytes ps → ((read : List ℕ → Option Tree) → IsReading read → outcome_of read ps ≡ o) → HasOutcome bytes o
+module _ (laws : QuotedLaws) where
+  pub outcome : (bytes : List ℕ) (ps : List Part) (o : Outcome Tactic) → HasParts bytes ps →
+      ((read : Reading) → IsReading read → outcome_of read ps ≡ o) → HasOutcome bytes o
   outcome bytes ps o has h = record {
     script = has.script;
     says = has.says;
-    read = reads;
-    reading = reads_all;
-    outcome_is = sym (machine_answers reads has.script) ∙ ap (outcome_of reads) has.parts_are ∙ h reads reads_all;
+    read = reads laws;
+    reading = reads_all laws;
+    outcome_is = sym (machine_answers (reads laws) has.script) ∙ ap (outcome_of (reads laws)) has.parts_are ∙ h (reads laws) (reads_all laws);
   }
 
-  pub outcome_fault : (bytes : List ℕ) (ps : List Part) → HasParts bytes ps → (f : Fault) → ((read : List ℕ → Option Tree) → IsReading read → outcome_of read ps ≡ Fails f) → StrategyFault bytes f
+  pub outcome_fault : (bytes : List ℕ) (ps : List Part) → HasParts bytes ps → (f : Fault) →
+      ((read : Reading) → IsReading read → outcome_of read ps ≡ Fails f) → StrategyFault bytes f
   outcome_fault bytes ps has (fault.Syntax at) h =
       let told = outcome bytes ps (Fails (fault.Syntax at)) has h in
       absurd (subst (IsLater {A = Tactic}) told.outcome_is (strategy_later told.read told.script))

@@ -2,6 +2,7 @@ pub mod Words
 pub mod Chains
 pub mod Runs
 pub mod Kept
+pub mod Read
 pub mod Quoted
 pub mod Stacked
 pub mod Behind
@@ -9,5 +10,6 @@ pub mod Later
 pub mod OneStrategy
 pub mod Given
 pub mod Named
+pub mod Renames
 pub mod Fit
 pub mod Shapes

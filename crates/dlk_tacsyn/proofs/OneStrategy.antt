@@ -1,18 +1,13 @@
 -- Bytes are one strategy or have one fault.
-use Rattle.std.proofs.Common.{◌≡◌, ℕ, List, Option, Some, None, refl, sym, ap, ◌∙◌, subst, inl, inr, ◌⊎◌}
-use Rattle.std.specs.Prelude.{MatchOption}
-use Rattle.dlk_tree.specs.Trees.{Tree}
-use Rattle.dlk_grammar.specs.declared.token.Form.TheVariants.{Formula}
-use Rattle.dlk_grammar.specs.declared.token.Dots.TheVariants.{Refused}
-use Rattle.dlk_grammar.specs.Texts.{TreeText, TreeTextFault}
-use Rattle.dlk_grammar.specs.Texts.{TextFault as WhyNoText}
+use Rattle.std.proofs.Common.{◌≡◌, ℕ, List, refl, sym, ap, ◌∙◌, subst, inl, inr, ◌⊎◌}
 use Rattle.dlk_scripts.specs.Scripts.{Script}
 use Rattle.dlk_scripts.specs.Texts.{IsScript, Stops}
 use Rattle.dlk_tacsyn.specs.Tactics.{Tactic}
 use Rattle.dlk_tacsyn.specs.Faults.{Fault, Nesting, UnknownAtom, Arguments}
 use Rattle.dlk_tacsyn.specs.Faults as fault
 use Rattle.dlk_tacsyn.specs.Strategies.{Outcome, Says, Fails, strategy_of, HasOutcome, StrategyText, StrategyFault}
-use Rattle.dlk_tacsyn.proofs.Later.{IsLater, strategy_later, reads, reads_all}
+use Rattle.dlk_tacsyn.proofs.Read.{QuotedLaws, reads, reads_all, one_reading}
+use Rattle.dlk_tacsyn.proofs.Later.{IsLater, strategy_later}
 
 said : Tactic → Outcome Tactic → Tactic
 said d (Says t) = t
@@ -40,14 +35,6 @@ DoesSay (Fails f) = ⊥
 says_fails : (t : Tactic) (f : Fault) → Says t ≡ Fails f → ⊥
 says_fails t f e = subst DoesSay e tt
 
-same_reading : (s : List ℕ) → ((t u : Tree) → TreeText Formula Refused s t → TreeText Formula Refused s u → t ≡ u) → (a b : Option Tree) →
-    MatchOption a ((h : Tree) → ¬ TreeText Formula Refused s h) (λ h. TreeText Formula Refused s h) →
-    MatchOption b ((h : Tree) → ¬ TreeText Formula Refused s h) (λ h. TreeText Formula Refused s h) → a ≡ b
-same_reading s one None None m n = refl
-same_reading s one None (Some h) m n = absurd (m h n)
-same_reading s one (Some h) None m n = absurd (n h m)
-same_reading s one (Some h) (Some k) m n = ap (λ z. Some z) (one h k m n)
-
 -- a fault of the grammar, or an outcome
 data Told (bytes : List ℕ) (f : Fault) : Type 0 where
   stops : (at : ℕ) → f ≡ fault.Syntax at → Stops bytes at → Told bytes f
@@ -60,11 +47,10 @@ told bytes (fault.Repeat at) h = fails h
 told bytes (fault.UnknownAtom at) h = fails h
 told bytes (fault.Arguments at) h = fails h
 
-module _ (one_text : (s : List ℕ) (t u : Tree) → TreeText Formula Refused s t → TreeText Formula Refused s u → t ≡ u)
-    (one_script : (bytes : List ℕ) (s u : Script) → IsScript bytes s → IsScript bytes u → s ≡ u) where
+module _ (laws : QuotedLaws) (one_script : (bytes : List ℕ) (s u : Script) → IsScript bytes s → IsScript bytes u → s ≡ u) where
   one_outcome : (bytes : List ℕ) (o p : Outcome Tactic) → HasOutcome bytes o → HasOutcome bytes p → o ≡ p
   one_outcome bytes o p a b =
-      let reading : a.read ≡ b.read = λ i s. same_reading s (one_text s) (a.read s) (b.read s) (a.reading s) (b.reading s) i in
+      let reading : a.read ≡ b.read = one_reading laws a.read b.read a.reading b.reading in
       let scripts : a.script ≡ b.script = one_script bytes a.script b.script a.says b.says in
       sym a.outcome_is ∙ (λ i. strategy_of (reading i) (scripts i)) ∙ b.outcome_is
 
@@ -89,17 +75,19 @@ module _ (one_text : (s : List ℕ) (t u : Tree) → TreeText Formula Refused s 
       pub one_fault : (bytes : List ℕ) (f e : Fault) → StrategyFault bytes f → StrategyFault bytes e → f ≡ e
       one_fault bytes f e h k = one_told bytes f e (told bytes f h) (told bytes e k)
 
-module _ (some : (s : List ℕ) → ((t : Tree) × TreeText Formula Refused s t) ⊎ ((w : WhyNoText) × TreeTextFault Formula Refused s w))
-    (apart : (s : List ℕ) (t : Tree) (w : WhyNoText) → TreeText Formula Refused s t → TreeTextFault Formula Refused s w → ⊥) where
-  by_outcome : (bytes : List ℕ) (s : Script) → IsScript bytes s → (o : Outcome Tactic) → strategy_of (reads some apart) s ≡ o → IsLater o →
+module _ (laws : QuotedLaws) where
+  read_so : (bytes : List ℕ) (s : Script) (o : Outcome Tactic) → IsScript bytes s → strategy_of (reads laws) s ≡ o → HasOutcome bytes o
+  read_so bytes s o is e = record { script = s; says = is; read = reads laws; reading = reads_all laws; outcome_is = e }
+
+  by_outcome : (bytes : List ℕ) (s : Script) → IsScript bytes s → (o : Outcome Tactic) → strategy_of (reads laws) s ≡ o → IsLater o →
       ((t : Tactic) × StrategyText bytes t) ⊎ ((f : Fault) × StrategyFault bytes f)
-  by_outcome bytes s is (Says t) e later = inl (t, record { script = s; says = is; read = reads some apart; reading = reads_all some apart; outcome_is = e })
+  by_outcome bytes s is (Says t) e later = inl (t, read_so bytes s (Says t) is e)
   by_outcome bytes s is (Fails (fault.Syntax at)) e later = absurd later
-  by_outcome bytes s is (Fails (fault.Nesting at)) e later = inr (Nesting at, record { script = s; says = is; read = reads some apart; reading = reads_all some apart; outcome_is = e })
-  by_outcome bytes s is (Fails (fault.Repeat at)) e later = inr (fault.Repeat at, record { script = s; says = is; read = reads some apart; reading = reads_all some apart; outcome_is = e })
-  by_outcome bytes s is (Fails (fault.UnknownAtom at)) e later = inr (UnknownAtom at, record { script = s; says = is; read = reads some apart; reading = reads_all some apart; outcome_is = e })
-  by_outcome bytes s is (Fails (fault.Arguments at)) e later = inr (Arguments at, record { script = s; says = is; read = reads some apart; reading = reads_all some apart; outcome_is = e })
+  by_outcome bytes s is (Fails (fault.Nesting at)) e later = inr (Nesting at, read_so bytes s (Fails (Nesting at)) is e)
+  by_outcome bytes s is (Fails (fault.Repeat at)) e later = inr (fault.Repeat at, read_so bytes s (Fails (fault.Repeat at)) is e)
+  by_outcome bytes s is (Fails (fault.UnknownAtom at)) e later = inr (UnknownAtom at, read_so bytes s (Fails (UnknownAtom at)) is e)
+  by_outcome bytes s is (Fails (fault.Arguments at)) e later = inr (Arguments at, read_so bytes s (Fails (Arguments at)) is e)
 
   pub says_or_fails : (bytes : List ℕ) → (((s : Script) × IsScript bytes s) ⊎ ((at : ℕ) × Stops bytes at)) → ((t : Tactic) × StrategyText bytes t) ⊎ ((f : Fault) × StrategyFault bytes f)
-  says_or_fails bytes (inl p) = by_outcome bytes p.0 p.1 (strategy_of (reads some apart) p.0) refl (strategy_later (reads some apart) p.0)
+  says_or_fails bytes (inl p) = by_outcome bytes p.0 p.1 (strategy_of (reads laws) p.0) refl (strategy_later (reads laws) p.0)
   says_or_fails bytes (inr q) = inr (fault.Syntax q.0, q.1)

@@ -1,10 +1,7 @@
--- Quoted texts and arguments, whatever function reads the texts.
+-- Quoted texts and arguments, however the texts are read.
 use Rattle.std.proofs.Common.{◌≡◌, ℕ, List, [], ◌∷◌, ◌++◌, Option, Some, None, refl, sym, ap, ◌∙◌, append_assoc, length, arith, ◌<◌}
-use Rattle.std.specs.Prelude.{option_map, option_and_then, MatchOption}
-use Rattle.dlk_tree.specs.Trees.{Tree}
-use Rattle.dlk_grammar.specs.declared.token.Form.TheVariants.{Formula}
-use Rattle.dlk_grammar.specs.declared.token.Dots.TheVariants.{Refused}
-use Rattle.dlk_grammar.specs.Texts.{TreeText, BadByte, Unread}
+use Rattle.std.specs.Prelude.{option_map, option_and_then}
+use Rattle.dlk_grammar.specs.Texts.{BadByte, Unread}
 use Rattle.dlk_grammar.specs.Texts.{TextFault as WhyNoText}
 use Rattle.dlk_grammar.specs.Readings as why
 use Rattle.dlk_parse.specs.Faults.{IsTextFaultOf}
@@ -16,20 +13,18 @@ use Rattle.dlk_tacsyn.specs.declared.kind.Kind.{Kind}
 use Rattle.dlk_tacsyn.specs.declared.fault.TacSyntax.{TacSyntax}
 use Rattle.dlk_tacsyn.specs.declared.fault.TacSyntax.TheVariants as fault
 use Rattle.dlk_tacsyn.specs.Tactics.{Argument, One}
-use Rattle.dlk_tacsyn.specs.Rows.{row_of}
+use Rattle.dlk_tacsyn.specs.Rows.{Row, row_of}
 use Rattle.dlk_tacsyn.specs.Faults.{Fault, Arguments, UnknownAtom, IsTacSyntaxOf, of_text}
-use Rattle.dlk_tacsyn.specs.Strategies.{Says, Fails, argument_of, arguments_of, atom_given, atom_by, atom_of}
+use Rattle.dlk_tacsyn.specs.Strategies.{Reading, IsSaid, Says, Fails, argument_of, followed, arguments_of, atom_given, atom_by, atom_of}
 
-pub text_read : (s : List ℕ) → ((t u : Tree) → TreeText Formula Refused s t → TreeText Formula Refused s u → t ≡ u) →
-    (found : Option Tree) → MatchOption found ((h : Tree) → ¬ TreeText Formula Refused s h) (λ h. TreeText Formula Refused s h) →
-    (t : Tree) → TreeText Formula Refused s t → found ≡ Some t
-text_read s one None m t r = absurd (m t r)
-text_read s one (Some h) m t r = ap (λ z. Some z) (one h t m r)
+module _ {A : Type 0} (Says : A → Type 0) where
+  pub text_read : ((t u : A) → Says t → Says u → t ≡ u) → (found : Option A) → IsSaid Says found → (t : A) → Says t → found ≡ Some t
+  text_read one None m t r = absurd (m t r)
+  text_read one (Some h) m t r = ap (λ z. Some z) (one h t m r)
 
-pub text_unread : (s : List ℕ) (w : WhyNoText) → ((t : Tree) → TreeText Formula Refused s t → ⊥) →
-    (found : Option Tree) → MatchOption found ((h : Tree) → ¬ TreeText Formula Refused s h) (λ h. TreeText Formula Refused s h) → found ≡ None
-text_unread s w none None m = refl
-text_unread s w none (Some h) m = absurd (none h m)
+  pub text_unread : ((t : A) → Says t → ⊥) → (found : Option A) → IsSaid Says found → found ≡ None
+  text_unread none None m = refl
+  text_unread none (Some h) m = absurd (none h m)
 
 pub unread_fault : (at : ℕ) (Is : WhyNoText → Type 0) (P : Type 0) → ((w : WhyNoText) → Is w → P) →
     (e : TextFault) → IsTextFaultOf Is e → IsTacSyntaxOf (λ f. (f ≡ Arguments at) × P) (of_text at e)
@@ -64,36 +59,31 @@ behind_next : (before : List Argument) (a : Argument) (more : Option (List Argum
 behind_next before a None = refl
 behind_next before a (Some rest) = ap (λ z. Some z) (sym (append_assoc before (a ∷ []) rest))
 
-module _ (read : List ℕ → Option Tree) where
-  pub arguments_next : (before : List Argument) (kind : Kind) (others : List Kind) (w : Written) (ws : List Written) (a : Argument) →
-      argument_of read kind w ≡ Some a → behind before (arguments_of read (kind ∷ others) (w ∷ ws)) ≡ behind (before ++ a ∷ []) (arguments_of read others ws)
-  arguments_next before kind others w ws a e =
-      ap (λ o. behind before (option_and_then (λ x. option_map (λ all. x ∷ all) (arguments_of read others ws)) o)) e
-      ∙ behind_next before a (arguments_of read others ws)
+module _ (read : Reading) where
+  -- One argument more is read, where this is left to read, and then that.
+  pub arguments_step : (whole : Option (List Argument)) (rest others : List Written → Option (List Argument)) (its : List Written)
+      (old before : List Argument) (kind : Kind) (w : Written) (after : List Written) (a : Argument) (final : List Argument) →
+      whole ≡ behind old (rest its) → old ≡ before → its ≡ w ∷ after → rest (w ∷ after) ≡ followed read kind w (others after) →
+      argument_of read kind w ≡ Some a → before ++ a ∷ [] ≡ final → whole ≡ behind final (others after)
+  arguments_step whole rest others its old before kind w after a final goes kept items_are split found ends =
+      goes ∙ (λ i. behind (kept i) (rest (items_are i))) ∙ ap (behind before) split
+      ∙ ap (λ o. behind before (option_and_then (λ x. option_map (λ all. x ∷ all) (others after)) o)) found
+      ∙ behind_next before a (others after) ∙ ap (λ z. behind z (others after)) ends
 
-  pub arguments_none : (before : List Argument) (kind : Kind) (others : List Kind) (w : Written) (ws : List Written) →
-      argument_of read kind w ≡ None → behind before (arguments_of read (kind ∷ others) (w ∷ ws)) ≡ None
-  arguments_none before kind others w ws e =
-      ap (λ o. behind before (option_and_then (λ x. option_map (λ all. x ∷ all) (arguments_of read others ws)) o)) e
-
-  pub atom_found : (at : ℕ) (name : List ℕ) (ws : List Written) (kinds : List Kind) (all : List Argument) →
-      row_of name ≡ Some kinds → arguments_of read kinds ws ≡ Some all → atom_of read at name ws ≡ Says (One (record { name = name; arguments = all; at = at }))
-  atom_found at name ws kinds all row found = ap (atom_by read at name ws) row ∙ ap (atom_given read at name) found
+  pub atom_found : (at : ℕ) (name : List ℕ) (ws : List Written) (row : Row) (all : List Argument) →
+      row_of name ≡ Some row → arguments_of read row.wanted row.optional ws ≡ Some all →
+      atom_of read at name ws ≡ Says (One (record { name = name; arguments = all; at = at }))
+  atom_found at name ws row all row_is found = ap (atom_by read at name ws) row_is ∙ ap (atom_given read at name) found
 
   pub atom_unknown : (at : ℕ) (name : List ℕ) (ws : List Written) → row_of name ≡ None → atom_of read at name ws ≡ Fails (UnknownAtom at)
   atom_unknown at name ws row = ap (atom_by read at name ws) row
 
-  pub atom_unfit : (at : ℕ) (name : List ℕ) (ws : List Written) (kinds : List Kind) →
-      row_of name ≡ Some kinds → arguments_of read kinds ws ≡ None → atom_of read at name ws ≡ Fails (Arguments at)
-  atom_unfit at name ws kinds row found = ap (atom_by read at name ws) row ∙ ap (atom_given read at name) found
+  pub atom_unfit : (at : ℕ) (name : List ℕ) (ws : List Written) (row : Row) →
+      row_of name ≡ Some row → arguments_of read row.wanted row.optional ws ≡ None → atom_of read at name ws ≡ Fails (Arguments at)
+  atom_unfit at name ws row row_is found = ap (atom_by read at name ws) row_is ∙ ap (atom_given read at name) found
 
-  pub arguments_step : (kinds rest : List Kind) (ws its : List Written) (old before : List Argument) (kind : Kind) (others : List Kind) (w : Written) (after : List Written) (a : Argument) (final : List Argument) →
-      arguments_of read kinds ws ≡ behind old (arguments_of read rest its) → old ≡ before → rest ≡ kind ∷ others → its ≡ w ∷ after →
-      argument_of read kind w ≡ Some a → before ++ a ∷ [] ≡ final → arguments_of read kinds ws ≡ behind final (arguments_of read others after)
-  arguments_step kinds rest ws its old before kind others w after a final goes kept kinds_are items_are found ends =
-      goes ∙ (λ i. behind (kept i) (arguments_of read (kinds_are i) (items_are i))) ∙ arguments_next before kind others w after a found ∙ ap (λ z. behind z (arguments_of read others after)) ends
-
-  pub arguments_left : (before : List Argument) (rest : List Kind) (its : List Written) → length its ≡ 0 → 0 < length rest → behind before (arguments_of read rest its) ≡ None
-  arguments_left before [] its none some = absurd (omega arith)
-  arguments_left before (k ∷ ks) [] none some = refl
-  arguments_left before (k ∷ ks) (w ∷ ws) none some = absurd (omega arith)
+  pub arguments_left : (before : List Argument) (kinds : List Kind) (optional : Option Kind) (its : List Written) → length its ≡ 0 → 0 < length kinds →
+      behind before (arguments_of read kinds optional its) ≡ None
+  arguments_left before [] optional its none some = absurd (omega arith)
+  arguments_left before (k ∷ ks) optional [] none some = refl
+  arguments_left before (k ∷ ks) optional (w ∷ ws) none some = absurd (omega arith)

@@ -1,6 +1,5 @@
 -- The machine answers what the definition says of the parts of a script.
-use Rattle.std.proofs.Common.{◌≡◌, ℕ, ◌+◌, List, [], ◌∷◌, ◌++◌, Option, refl, sym, ap, ◌∙◌, append_assoc}
-use Rattle.dlk_tree.specs.Trees.{Tree}
+use Rattle.std.proofs.Common.{◌≡◌, ℕ, ◌+◌, List, [], ◌∷◌, ◌++◌, refl, sym, ap, ◌∙◌, append_assoc}
 use Rattle.dlk_scripts.specs.declared.part.Part.{Part}
 use Rattle.dlk_scripts.specs.declared.part.PartKind.{PartKind}
 use Rattle.dlk_scripts.specs.declared.part.PartKind.TheVariants as kind
@@ -15,8 +14,10 @@ use Rattle.dlk_tacsyn.specs.declared.frame.Opened.{Opened}
 use Rattle.dlk_tacsyn.specs.declared.frame.Opened.TheVariants.{Group, Fork}
 use Rattle.dlk_tacsyn.specs.Tactics.{Tactic, Choice, Sequence, Branch}
 use Rattle.dlk_tacsyn.specs.Faults.{Fault}
-use Rattle.dlk_tacsyn.specs.Strategies.{Outcome, Says, Fails, ◌>>=◌, side_of, path_of, written_of, all_written, parts, whole, opened, repeated, atom_of, choices_of, sequence_of, branches_of, repeat_of, primary_of, strategy_of}
-use Rattle.dlk_tacsyn.specs.Steps.{Frame, Stack, bottom, within, Nothing, Named, Called, Whole, State, state, empty_frame, start, after_whole, after_name, step, run, finish}
+use Rattle.dlk_tacsyn.specs.Strategies.{Outcome, Reading, Says, Fails, ◌>>=◌, side_of, path_of, written_of, all_written, parts, whole, opened}
+use Rattle.dlk_tacsyn.specs.Strategies.{repeated, atom_of, choices_of, sequence_of, branches_of, repeat_of, primary_of, strategy_of}
+use Rattle.dlk_tacsyn.specs.Steps.{Frame, Stack, bottom, within, Nothing, Named, Called, Whole, State, state, empty_frame, start, after_whole}
+use Rattle.dlk_tacsyn.specs.Steps.{after_name, step, run, finish}
 use Rattle.dlk_tacsyn.proofs.Chains.{bind_assoc, bind_same, bind_says, bind_at, bind_opened}
 
 abbrev frame : Opened → ℕ → List Tactic → List Tactic → List Tactic → Frame
@@ -25,7 +26,7 @@ frame by level bs cs ss = record { opened = by; level = level; branches = bs; ch
 abbrev in_call : Stack → Frame → ℕ → List ℕ → List Written → Current → State
 in_call outer f at x ws now = state outer f (Called (record { at = at; name = x; before = ws; current = now }))
 
-module _ (read : List ℕ → Option Tree) where
+module _ (read : Reading) where
   pub run_append : (s : State) (a b : List Part) → run read s (a ++ b) ≡ (run read s a >>= (λ t. run read t b))
   run_append s [] b = refl
   run_append s (p ∷ a) b =

@@ -1,16 +1,14 @@
 -- Each strategy that a text says has the shape of one.
 use Rattle.std.proofs.Common.{ℕ, ◌+◌, ◌≤◌, List, [], ◌∷◌, ◌++◌, Option, Some, None, arith}
 use Rattle.std.specs.Prelude.{nat_lt, nat_le}
-use Rattle.dlk_tree.specs.Trees.{Tree}
 use Rattle.dlk_scripts.specs.Scripts as script
-use Rattle.dlk_tacsyn.specs.declared.kind.Kind.{Kind}
 use Rattle.dlk_tacsyn.specs.declared.argument.Written.{Written}
 use Rattle.dlk_tacsyn.specs.Tactics.{Argument, Tactic, Tactics, Choice, Sequence, Branch, Repeat, One, count, Position, Behind, Elsewhere, StandsAt}
 use Rattle.dlk_tacsyn.specs.Tactics.{StandAt, IsShaped}
-use Rattle.dlk_tacsyn.specs.Rows.{row_of}
+use Rattle.dlk_tacsyn.specs.Rows.{Row, row_of}
 use Rattle.dlk_tacsyn.specs.Faults.{Nesting}
 use Rattle.dlk_tacsyn.specs.Faults as fault
-use Rattle.dlk_tacsyn.specs.Strategies.{Says, most_open, most_times, parts, whole, all_written, arguments_of, atom_given, atom_by, opened, choices_of}
+use Rattle.dlk_tacsyn.specs.Strategies.{Reading, Says, most_open, most_times, parts, whole, all_written, arguments_of, atom_given, atom_by, opened, choices_of}
 use Rattle.dlk_tacsyn.specs.Strategies.{sequence_of, branches_of, repeat_of, primary_of, strategy_of, StrategyText}
 use Rattle.dlk_tacsyn.proofs.Given.{Gives, bind_gives, if_gives, said_gives}
 
@@ -50,14 +48,14 @@ sequence_stands ts h = whole_stands Behind Sequence (λ ps two all. (two, all)) 
 one_part : (others : Position) (t : Tactic) → StandsAt Elsewhere t → AreParts Elsewhere others (t ∷ [])
 one_part others t h = (omega arith, (h, tt))
 
-module _ (read : List ℕ → Option Tree) where
+module _ (read : Reading) where
   given_stands : (at : ℕ) (name : List ℕ) (all : Option (List Argument)) → Gives IsShaped (atom_given read at name all)
   given_stands at name None = tt
   given_stands at name (Some all) = tt
 
-  by_stands : (at : ℕ) (name : List ℕ) (ws : List Written) (row : Option (List Kind)) → Gives IsShaped (atom_by read at name ws row)
+  by_stands : (at : ℕ) (name : List ℕ) (ws : List Written) (row : Option Row) → Gives IsShaped (atom_by read at name ws row)
   by_stands at name ws None = tt
-  by_stands at name ws (Some kinds) = given_stands at name (arguments_of read kinds ws)
+  by_stands at name ws (Some row) = given_stands at name (arguments_of read row.wanted row.optional ws)
 
   mutual
     choices_stand : (n : ℕ) (s : script.Script) → Gives (AreParts Elsewhere Elsewhere) (choices_of read n s)

@@ -1,6 +1,6 @@
 -- The row of a name is that of the word that it is.
 use Rattle.std.proofs.Common.{◌≡◌, ◌≢◌, ℕ, zero, suc, ◌<◌, ◌≤◌, true, false, List, [], ◌∷◌, Option, Some, None, refl, sym, ap, ◌∙◌, inl, inr, arith}
-use Rattle.std.specs.Prelude.{option_map, IsTrue, ◌||◌, ◌==◌}
+use Rattle.std.specs.Prelude.{option_map, IsTrue, ◌||◌, ◌==◌, bytes_eq, codes}
 use Rattle.std.specs.Str.{IsAscii, IsUtf8}
 use Rattle.std.specs.List.{list_all}
 use Rattle.std.proofs.lemmas.Bool.{cond-true, cond-false, and_parts, leb-true, or_cases}
@@ -14,7 +14,8 @@ use Rattle.dlk_rules.specs.declared.rule.RuleWord.TheVariants as word
 use Rattle.dlk_rules.specs.Steps.{Template, WantsPlace, WantsTwoPlaces, WantsPlaceAndFormula, WantsFormula, WantsPlaceAndName, template}
 use Rattle.dlk_rules.specs.Words.{text_made, text_of, wanted, named}
 use Rattle.dlk_rules.proofs.WordLaws.{found_word}
-use Rattle.dlk_tacsyn.specs.Rows.{is_bare, kinds_of, row_of}
+use Rattle.dlk_tacsyn.specs.declared.kind.Kind.TheVariants.{AnyPlace, QuotedFormula, AName, QuotedExtra}
+use Rattle.dlk_tacsyn.specs.Rows.{wants, is_bare, is_use, kinds_of, row_of}
 
 word_named : (w : RuleWord) → named (text_of w) ≡ Some w
 word_named word.Close = refl
@@ -44,18 +45,41 @@ unnamed name none = by (named name) refl
     by (Some w) e =
         absurd (none (some_rule (template w)) (word_made (template w) ∙ found_word name (Some w) (sym e)))
 
-pub row_bare : (name : List ℕ) → is_bare name ≡ true → row_of name ≡ Some []
+-- the rows of the names that are no rules, and of those that are
+pub row_bare : (name : List ℕ) → is_bare name ≡ true → row_of name ≡ Some (wants [])
 unfolding row_of
 row_bare name bare = cond-true (is_bare name) _ _ bare
 
-pub row_named : (name : List ℕ) (w : RuleWord) → is_bare name ≡ false → text_of w ≡ name → row_of name ≡ Some (kinds_of (wanted w))
-unfolding row_of
-row_named name w other same =
-    cond-false (is_bare name) _ _ other ∙ ap (option_map (λ v. kinds_of (wanted v))) (ap named (sym same) ∙ word_named w)
+module _ (name : List ℕ) (bare : is_bare name ≡ false) where
+  pub row_generalized : bytes_eq name (codes "G") ≡ true → row_of name ≡ Some (wants (AnyPlace ∷ []))
+  unfolding row_of
+  row_generalized same = cond-false (is_bare name) _ _ bare ∙ cond-true (bytes_eq name (codes "G")) _ _ same
 
-pub row_unnamed : (name : List ℕ) → is_bare name ≡ false → ((rule : Rule) → word_of rule ≢ name) → row_of name ≡ None
-unfolding row_of
-row_unnamed name other none = cond-false (is_bare name) _ _ other ∙ ap (option_map (λ v. kinds_of (wanted v))) (unnamed name none)
+  module _ (other : bytes_eq name (codes "G") ≡ false) where
+    pub row_box_cut : bytes_eq name (codes "boxCut") ≡ true → row_of name ≡ Some (wants (QuotedFormula ∷ AnyPlace ∷ []))
+    unfolding row_of
+    row_box_cut same =
+        cond-false (is_bare name) _ _ bare ∙ cond-false (bytes_eq name (codes "G")) _ _ other ∙ cond-true (bytes_eq name (codes "boxCut")) _ _ same
+
+    module _ (further : bytes_eq name (codes "boxCut") ≡ false) where
+      pub row_use : is_use name ≡ true → row_of name ≡ Some (record { wanted = AName ∷ AnyPlace ∷ []; optional = Some QuotedExtra })
+      unfolding row_of
+      row_use same =
+          cond-false (is_bare name) _ _ bare ∙ cond-false (bytes_eq name (codes "G")) _ _ other ∙ cond-false (bytes_eq name (codes "boxCut")) _ _ further
+          ∙ cond-true (is_use name) _ _ same
+
+      module _ (no_use : is_use name ≡ false) where
+        row_rule : row_of name ≡ option_map (λ v. wants (kinds_of (wanted v))) (named name)
+        unfolding row_of
+        row_rule =
+            cond-false (is_bare name) _ _ bare ∙ cond-false (bytes_eq name (codes "G")) _ _ other ∙ cond-false (bytes_eq name (codes "boxCut")) _ _ further
+            ∙ cond-false (is_use name) _ _ no_use
+
+        pub row_named : (w : RuleWord) → text_of w ≡ name → row_of name ≡ Some (wants (kinds_of (wanted w)))
+        row_named w same = row_rule ∙ ap (option_map (λ v. wants (kinds_of (wanted v)))) (ap named (sym same) ∙ word_named w)
+
+        pub row_unnamed : ((rule : Rule) → word_of rule ≢ name) → row_of name ≡ None
+        row_unnamed none = row_rule ∙ ap (option_map (λ v. wants (kinds_of (wanted v)))) (unnamed name none)
 
 -- names are texts
 between_low : (low high c : ℕ) → high < 128 → is_between low high c ≡ true → c < 128

@@ -1,13 +1,24 @@
 -- The names of atoms, and the arguments that each wants.
-use Rattle.std.specs.Prelude.{◌≡◌, ℕ, List, [], ◌∷◌, Option, Some, option_map, ◌||◌, if◌then◌else◌, Bool, All, IsTrue, bytes_eq, codes}
+use Rattle.std.specs.Prelude.{◌≡◌, ℕ, List, [], ◌∷◌, Option, Some, None, option_map, ◌||◌, if◌then◌else◌, Bool, true, All, IsTrue, bytes_eq, codes}
 use Rattle.dlk_tree.specs.Names.{is_name}
+use Rattle.dlk_tree.specs.Table.{is_sym}
+use Rattle.dlk_calculus.specs.Pairs.{Pair, Extra, AreWellMade}
 use Rattle.dlk_calculus.specs.Sequents.{IsFormula}
 use Rattle.dlk_rules.specs.declared.arguments.Shape.{Shape}
 use Rattle.dlk_rules.specs.declared.arguments.Shape.TheVariants as shape
 use Rattle.dlk_rules.specs.Words.{wanted, named}
 use Rattle.dlk_tacsyn.specs.declared.kind.Kind.{Kind}
-use Rattle.dlk_tacsyn.specs.declared.kind.Kind.TheVariants.{FixedPlace, AnyPlace, QuotedFormula, AName}
-use Rattle.dlk_tacsyn.specs.Tactics.{Argument, AtPlace, AnyLeft, AnyRight, Word, GivenFormula, GivenTerm, Atom, Tactic, EachAtom}
+use Rattle.dlk_tacsyn.specs.declared.kind.Kind.TheVariants.{FixedPlace, AnyPlace, QuotedFormula, AName, QuotedExtra}
+use Rattle.dlk_tacsyn.specs.Tactics.{Argument, AtPlace, AnyLeft, AnyRight, Word, GivenFormula, GivenTerm, GivenExtra, Atom, Tactic, EachAtom}
+
+-- what an atom wants, in this order, and what may follow
+pub record Row : Type 0 where
+  pub wanted : List Kind
+  pub optional : Option Kind
+
+-- nothing may follow
+abbrev pub wants : List Kind → Row
+wants kinds = record { wanted = kinds; optional = None }
 
 -- the arguments of an atom for a rule, by the shape of the rule's
 abbrev pub kinds_of : Shape → List Kind
@@ -21,39 +32,109 @@ kinds_of shape.PlaceAndName = AName ∷ AnyPlace ∷ []
 abbrev pub is_bare : List ℕ → Bool
 is_bare name = bytes_eq name (codes "nil") || bytes_eq name (codes "close") || bytes_eq name (codes "leaf")
 
--- The arguments of the atom of this name: none for `nil`, `close` and `leaf`, and for each rule but `close` those of its shape. No
--- other name is known.
-unfoldable pub row_of : List ℕ → Option (List Kind)
-row_of name = if is_bare name then Some [] else option_map (λ word. kinds_of (wanted word)) (named name)
+-- the names of the atoms that use an axiom
+abbrev pub is_use : List ℕ → Bool
+is_use name = bytes_eq name (codes "useAt") || bytes_eq name (codes "useBack")
 
--- an argument of the kind: a place may have a path and lie on either side, a quoted formula has no dots
+-- The arguments of the atom of this name: none for `nil`, `close` and `leaf`, a place for `G`, a formula and a place for `boxCut`, and for each
+-- rule but `close` those of its shape. A use of an axiom is given its name and a place, and maybe names with new names, and pairs. No other
+-- name is known.
+unfoldable pub row_of : List ℕ → Option Row
+row_of name =
+    if is_bare name then Some (wants [])
+    else if bytes_eq name (codes "G") then Some (wants (AnyPlace ∷ []))
+    else if bytes_eq name (codes "boxCut") then Some (wants (QuotedFormula ∷ AnyPlace ∷ []))
+    else if is_use name then Some (record { wanted = AName ∷ AnyPlace ∷ []; optional = Some QuotedExtra })
+    else option_map (λ word. wants (kinds_of (wanted word))) (named name)
+
+-- a place, which may have a path and lie on either side
+abbrev pub IsPlace : Argument → Type 0
+IsPlace (AtPlace place path) = Unit {0}
+IsPlace AnyLeft = ⊥
+IsPlace AnyRight = ⊥
+IsPlace (Word name) = ⊥
+IsPlace (GivenFormula h) = ⊥
+IsPlace (GivenTerm e) = ⊥
+IsPlace (GivenExtra extra) = ⊥
+
+-- a place, or a locator in its stead
+abbrev pub IsPlaceOrLocator : Argument → Type 0
+IsPlaceOrLocator (AtPlace place path) = Unit {0}
+IsPlaceOrLocator AnyLeft = Unit {0}
+IsPlaceOrLocator AnyRight = Unit {0}
+IsPlaceOrLocator (Word name) = ⊥
+IsPlaceOrLocator (GivenFormula h) = ⊥
+IsPlaceOrLocator (GivenTerm e) = ⊥
+IsPlaceOrLocator (GivenExtra extra) = ⊥
+
+-- a formula without dots
+abbrev pub IsGivenFormula : Argument → Type 0
+IsGivenFormula (AtPlace place path) = ⊥
+IsGivenFormula AnyLeft = ⊥
+IsGivenFormula AnyRight = ⊥
+IsGivenFormula (Word name) = ⊥
+IsGivenFormula (GivenFormula h) = IsFormula h
+IsGivenFormula (GivenTerm e) = ⊥
+IsGivenFormula (GivenExtra extra) = ⊥
+
+abbrev pub IsWord : Argument → Type 0
+IsWord (AtPlace place path) = ⊥
+IsWord AnyLeft = ⊥
+IsWord AnyRight = ⊥
+IsWord (Word name) = Unit {0}
+IsWord (GivenFormula h) = ⊥
+IsWord (GivenTerm e) = ⊥
+IsWord (GivenExtra extra) = ⊥
+
+-- names with new names, and pairs whose replacements are well made
+abbrev pub IsGivenExtra : Argument → Type 0
+IsGivenExtra (AtPlace place path) = ⊥
+IsGivenExtra AnyLeft = ⊥
+IsGivenExtra AnyRight = ⊥
+IsGivenExtra (Word name) = ⊥
+IsGivenExtra (GivenFormula h) = ⊥
+IsGivenExtra (GivenTerm e) = ⊥
+IsGivenExtra (GivenExtra extra) = AreWellMade extra.pairs
+
+-- an argument of the kind
 abbrev pub IsOfKind : Kind → Argument → Type 0
-IsOfKind FixedPlace (AtPlace place path) = Unit {0}
-IsOfKind AnyPlace (AtPlace place path) = Unit {0}
-IsOfKind AnyPlace AnyLeft = Unit {0}
-IsOfKind AnyPlace AnyRight = Unit {0}
-IsOfKind QuotedFormula (GivenFormula h) = IsFormula h
-IsOfKind AName (Word name) = Unit {0}
-IsOfKind _ _ = ⊥
+IsOfKind FixedPlace argument = IsPlace argument
+IsOfKind AnyPlace argument = IsPlaceOrLocator argument
+IsOfKind QuotedFormula argument = IsGivenFormula argument
+IsOfKind AName argument = IsWord argument
+IsOfKind QuotedExtra argument = IsGivenExtra argument
 
--- arguments of these kinds, as many as there are
-abbrev pub AreOfKinds : List Kind → List Argument → Type 0
-AreOfKinds [] [] = Unit {0}
-AreOfKinds (kind ∷ kinds) (argument ∷ arguments) = IsOfKind kind argument × AreOfKinds kinds arguments
-AreOfKinds [] (argument ∷ arguments) = ⊥
-AreOfKinds (kind ∷ kinds) [] = ⊥
+-- arguments of the kinds that are wanted, as many as there are, and maybe one more of the kind that may follow
+abbrev pub AreOfKinds : List Kind → Option Kind → List Argument → Type 0
+AreOfKinds [] optional [] = Unit {0}
+AreOfKinds [] None (argument ∷ arguments) = ⊥
+AreOfKinds [] (Some kind) (argument ∷ arguments) = IsOfKind kind argument × AreOfKinds [] None arguments
+AreOfKinds (kind ∷ kinds) optional [] = ⊥
+AreOfKinds (kind ∷ kinds) optional (argument ∷ arguments) = IsOfKind kind argument × AreOfKinds kinds optional arguments
 
 -- an atom of a known name, with arguments of the number and the kinds of its row
 pub record IsFitting (atom : Atom) : Type 0 where
-  pub kinds : List Kind
-  pub row : row_of atom.name ≡ Some kinds
-  pub arguments : AreOfKinds kinds atom.arguments
+  pub row : Row
+  pub row_is : row_of atom.name ≡ Some row
+  pub arguments : AreOfKinds row.wanted row.optional atom.arguments
 
 -- each atom of the strategy is fitting
 abbrev pub AreFitting : Tactic → Type 0
 AreFitting t = EachAtom IsFitting t
 
--- the name that the argument is, if it is one, is a name
+-- both names are names
+abbrev pub IsRename : List ℕ × List ℕ → Type 0
+IsRename r = IsTrue (is_name r.0) × IsTrue (is_name r.1)
+
+-- what the pair replaces is a symbol
+abbrev pub ReplacesSymbol : Pair → Type 0
+ReplacesSymbol p = is_sym p.sym ≡ true
+
+-- the names are names, and what is replaced are symbols
+abbrev pub IsNamedExtra : Extra → Type 0
+IsNamedExtra extra = All IsRename extra.renames × All ReplacesSymbol extra.pairs
+
+-- each name that the argument is, or that it renames or gives, is a name, and each symbol that it replaces is one
 abbrev pub IsNamed : Argument → Type 0
 IsNamed (AtPlace place path) = Unit {0}
 IsNamed AnyLeft = Unit {0}
@@ -61,6 +142,7 @@ IsNamed AnyRight = Unit {0}
 IsNamed (Word name) = IsTrue (is_name name)
 IsNamed (GivenFormula h) = Unit {0}
 IsNamed (GivenTerm e) = Unit {0}
+IsNamed (GivenExtra extra) = IsNamedExtra extra
 
 -- each name among the arguments is one
 abbrev pub HasNames : Atom → Type 0

@@ -1,18 +1,18 @@
 -- What the machine over ids stands for.
-use Rattle.std.specs.Prelude.{ℕ, List, Option, map, fold, All}
+use Rattle.std.specs.Prelude.{List, map, fold, All}
 use Rattle.dlk_tree.specs.Trees.{Tree}
 use Rattle.dlk_tacsyn.specs.declared.frame.Frame.{Frame}
 use Rattle.dlk_tacsyn.specs.declared.frame.Brackets.{Brackets}
 use Rattle.dlk_tacsyn.specs.declared.reader.Last.{Last}
 use Rattle.dlk_tacsyn.specs.declared.reader.Last.TheVariants as last
 use Rattle.dlk_tacsyn.specs.declared.reader.Reader.{Reader}
-use Rattle.dlk_tacsyn.specs.Strategies.{IsReading}
+use Rattle.dlk_tacsyn.specs.Strategies.{Reading, IsReading}
 use Rattle.dlk_tacsyn.specs.Ties.{tactic_at, TacticIsKnown}
 use Rattle.dlk_tacsyn.specs.Steps.{Frame as TreeFrame, Stack, bottom, within, Last as TreeLast, Nothing, Named, Called, Whole, State, state}
 
--- it holds, whatever function reads the quoted texts
-abbrev pub ByReading : ((List ℕ → Option Tree) → Type 0) → Type 0
-ByReading holds = (read : List ℕ → Option Tree) → IsReading read → holds read
+-- it holds, however the quoted texts are read
+abbrev pub ByReading : (Reading → Type 0) → Type 0
+ByReading holds = (read : Reading) → IsReading read → holds read
 
 -- a bracket over the trees of its ids
 abbrev pub frame_at : List Tree → Frame → TreeFrame

@@ -1,6 +1,5 @@
 -- Strategies part by part: a machine that keeps what is open. It answers what the definition says of the parts of a script.
 use Rattle.std.specs.Prelude.{ℕ, ◌+◌, List, [], ◌∷◌, ◌++◌, Option, Some, None}
-use Rattle.dlk_tree.specs.Trees.{Tree}
 use Rattle.dlk_sequent.specs.declared.sequent.Place.TheVariants.{Ante, Succ}
 use Rattle.dlk_scripts.specs.declared.part.Part.{Part}
 use Rattle.dlk_scripts.specs.declared.part.PartKind.{PartKind}
@@ -14,7 +13,7 @@ use Rattle.dlk_tacsyn.specs.declared.frame.Opened.{Opened}
 use Rattle.dlk_tacsyn.specs.declared.frame.Opened.TheVariants.{Group, Fork}
 use Rattle.dlk_tacsyn.specs.Tactics.{Tactic, Choice, Sequence, Branch}
 use Rattle.dlk_tacsyn.specs.Faults.{Syntax}
-use Rattle.dlk_tacsyn.specs.Strategies.{Outcome, Says, Fails, ◌>>=◌, parts, whole, opened, repeated, atom_of}
+use Rattle.dlk_tacsyn.specs.Strategies.{Outcome, Reading, Says, Fails, ◌>>=◌, parts, whole, opened, repeated, atom_of}
 
 -- an open bracket: what stands in it before the last `,`, then before the last `|`, then before the last `;`
 pub record Frame : Type 0 where
@@ -123,7 +122,7 @@ abbrev pub next_argument : ℕ → Stack → Frame → Call → Option (List Wri
 next_argument at outer f c None = Fails (Syntax at)
 next_argument at outer f c (Some ws) = Says (state outer f (Called (record { at = c.at; name = c.name; before = ws; current = current.Nothing })))
 
-module _ (read : List ℕ → Option Tree) where
+module _ (read : Reading) where
   abbrev pub end_call : ℕ → Call → Option (List Written) → Outcome Tactic
   end_call at c None = Fails (Syntax at)
   end_call at c (Some ws) = atom_of read c.at c.name ws

@@ -1,20 +1,22 @@
 -- What a text says as a strategy, and why it says none.
 use Rattle.std.specs.Prelude.{◌≡◌, ℕ, ◌+◌, nat_le, nat_lt, List, [], ◌∷◌, ◌++◌, Option, Some, None, option_map, option_and_then, MatchOption, if◌then◌else◌}
 use Rattle.dlk_tree.specs.Trees.{Tree}
+use Rattle.dlk_calculus.specs.Pairs.{Extra}
 use Rattle.dlk_grammar.specs.declared.token.Form.TheVariants.{Formula}
 use Rattle.dlk_grammar.specs.declared.token.Dots.TheVariants.{Refused}
-use Rattle.dlk_grammar.specs.Texts.{TreeText}
+use Rattle.dlk_grammar.specs.Texts.{TreeText, ExtraText}
 use Rattle.dlk_sequent.specs.declared.sequent.Place.{Place}
 use Rattle.dlk_sequent.specs.declared.sequent.Place.TheVariants.{Ante, Succ}
 use Rattle.dlk_scripts.specs.Scripts as script
 use Rattle.dlk_scripts.specs.Texts.{IsScript, Stops}
 use Rattle.dlk_tacsyn.specs.declared.kind.Kind.{Kind}
-use Rattle.dlk_tacsyn.specs.declared.kind.Kind.TheVariants.{FixedPlace, AnyPlace, QuotedFormula, AName}
+use Rattle.dlk_tacsyn.specs.declared.kind.Kind.TheVariants.{FixedPlace, AnyPlace, QuotedFormula, AName, QuotedExtra}
 use Rattle.dlk_tacsyn.specs.declared.argument.Written.{Written}
 use Rattle.dlk_tacsyn.specs.declared.argument.Written.TheVariants as written
-use Rattle.dlk_tacsyn.specs.Tactics.{Argument, AtPlace, AnyLeft, AnyRight, Word, GivenFormula, Tactic, Choice, Sequence, Branch, Repeat, One, Tactics}
+use Rattle.dlk_tacsyn.specs.Tactics.{Argument, AtPlace, AnyLeft, AnyRight, Word, GivenFormula, GivenExtra, Tactic, Choice, Sequence, Branch, Repeat}
+use Rattle.dlk_tacsyn.specs.Tactics.{One, Tactics}
 use Rattle.dlk_tacsyn.specs.Tactics.{no_parts, part}
-use Rattle.dlk_tacsyn.specs.Rows.{row_of}
+use Rattle.dlk_tacsyn.specs.Rows.{Row, row_of}
 use Rattle.dlk_tacsyn.specs.Faults.{Fault, Nesting, UnknownAtom, Arguments}
 use Rattle.dlk_tacsyn.specs.Faults as fault
 
@@ -76,32 +78,68 @@ opened level at inside = if nat_lt level most_open then inside else Fails (Nesti
 abbrev pub repeated : ℕ → ℕ → Tactic → Outcome Tactic
 repeated at n t = if nat_le n most_times then Says (Repeat t n) else Fails (fault.Repeat at)
 
--- Quoted texts are read by a function: the formula of each text that has one.
-module _ (read : List ℕ → Option Tree) where
-  -- the argument of this kind, where what is written is one
-  abbrev pub argument_of : Kind → Written → Option Argument
-  argument_of FixedPlace (written.At place path) = Some (AtPlace place path)
-  argument_of AnyPlace (written.At place path) = Some (AtPlace place path)
-  argument_of AnyPlace written.AnyLeft = Some AnyLeft
-  argument_of AnyPlace written.AnyRight = Some AnyRight
-  argument_of QuotedFormula (written.Quoted text) = option_map GivenFormula (read text)
-  argument_of AName (written.Word x) = Some (Word x)
-  argument_of _ _ = None
+-- What is written as an argument of each kind, where it is one:
+abbrev pub place_of : Written → Option Argument
+place_of (written.At place path) = Some (AtPlace place path)
+place_of written.AnyLeft = None
+place_of written.AnyRight = None
+place_of (written.Word x) = None
+place_of (written.Quoted text) = None
 
-  -- the arguments of these kinds, as many as there are
-  abbrev pub arguments_of : List Kind → List Written → Option (List Argument)
-  arguments_of [] [] = Some []
-  arguments_of (kind ∷ kinds) (w ∷ ws) = option_and_then (λ a. option_map (λ all. a ∷ all) (arguments_of kinds ws)) (argument_of kind w)
-  arguments_of [] (w ∷ ws) = None
-  arguments_of (kind ∷ kinds) [] = None
+abbrev pub place_or_locator_of : Written → Option Argument
+place_or_locator_of (written.At place path) = Some (AtPlace place path)
+place_or_locator_of written.AnyLeft = Some AnyLeft
+place_or_locator_of written.AnyRight = Some AnyRight
+place_or_locator_of (written.Word x) = None
+place_or_locator_of (written.Quoted text) = None
+
+abbrev pub word_of : Written → Option Argument
+word_of (written.At place path) = None
+word_of written.AnyLeft = None
+word_of written.AnyRight = None
+word_of (written.Word x) = Some (Word x)
+word_of (written.Quoted text) = None
+
+-- what is quoted, as it is read
+abbrev pub quoted_of : {A : Type 0} → (A → Argument) → (List ℕ → Option A) → Written → Option Argument
+quoted_of make read (written.At place path) = None
+quoted_of make read written.AnyLeft = None
+quoted_of make read written.AnyRight = None
+quoted_of make read (written.Word x) = None
+quoted_of make read (written.Quoted text) = option_map make (read text)
+
+-- How quoted texts are read: the formula of each text that is read as one, and the names and pairs of each text that is read as these.
+pub record Reading : Type 0 where
+  pub formula : List ℕ → Option Tree
+  pub extra : List ℕ → Option Extra
+
+module _ (read : Reading) where
+  abbrev pub argument_of : Kind → Written → Option Argument
+  argument_of FixedPlace w = place_of w
+  argument_of AnyPlace w = place_or_locator_of w
+  argument_of QuotedFormula w = quoted_of GivenFormula read.formula w
+  argument_of AName w = word_of w
+  argument_of QuotedExtra w = quoted_of GivenExtra read.extra w
+
+  -- an argument of this kind, and those behind it
+  abbrev pub followed : Kind → Written → Option (List Argument) → Option (List Argument)
+  followed kind w more = option_and_then (λ a. option_map (λ all. a ∷ all) more) (argument_of kind w)
+
+  -- the arguments of the kinds that are wanted, as many as there are, and maybe one more of the kind that may follow
+  abbrev pub arguments_of : List Kind → Option Kind → List Written → Option (List Argument)
+  arguments_of [] optional [] = Some []
+  arguments_of [] None (w ∷ ws) = None
+  arguments_of [] (Some kind) (w ∷ ws) = followed kind w (arguments_of [] None ws)
+  arguments_of (kind ∷ kinds) optional [] = None
+  arguments_of (kind ∷ kinds) optional (w ∷ ws) = followed kind w (arguments_of kinds optional ws)
 
   abbrev pub atom_given : ℕ → List ℕ → Option (List Argument) → Outcome Tactic
   atom_given at name None = Fails (Arguments at)
   atom_given at name (Some all) = Says (One (record { name = name; arguments = all; at = at }))
 
-  abbrev pub atom_by : ℕ → List ℕ → List Written → Option (List Kind) → Outcome Tactic
+  abbrev pub atom_by : ℕ → List ℕ → List Written → Option Row → Outcome Tactic
   atom_by at name ws None = Fails (UnknownAtom at)
-  atom_by at name ws (Some kinds) = atom_given at name (arguments_of kinds ws)
+  atom_by at name ws (Some row) = atom_given at name (arguments_of row.wanted row.optional ws)
 
   -- the atom of this name, which stands at this byte
   abbrev pub atom_of : ℕ → List ℕ → List Written → Outcome Tactic
@@ -139,15 +177,21 @@ module _ (read : List ℕ → Option Tree) where
   abbrev pub strategy_of : script.Script → Outcome Tactic
   strategy_of s = choices_of 0 s >>= (λ ts. Says (whole Choice ts))
 
--- each text as the formula that it says, in which no argument dot and no `_` stands, if it says one
-abbrev pub IsReading : (List ℕ → Option Tree) → Type 0
-IsReading read = (text : List ℕ) → MatchOption (read text) ((h : Tree) → ¬ TreeText Formula Refused text h) (λ h. TreeText Formula Refused text h)
+-- what is read is what is said, where something is
+abbrev pub IsSaid : {A : Type 0} → (A → Type 0) → Option A → Type 0
+IsSaid {A} Is found = MatchOption found ((a : A) → ¬ Is a) Is
+
+-- each text as the formula that it says, in which no argument dot and no `_` stands, if it says one, and as the names with new names and the
+-- pairs that it says, if it says these
+pub record IsReading (read : Reading) : Type 0 where
+  pub formulas : (text : List ℕ) → IsSaid (λ (h : Tree). TreeText Formula Refused text h) (read.formula text)
+  pub extras : (text : List ℕ) → IsSaid (λ (e : Extra). ExtraText text e) (read.extra text)
 
 -- the bytes are a text of the grammar, and this becomes of it
 pub record HasOutcome (bytes : List ℕ) (outcome : Outcome Tactic) : Type 0 where
   pub script : script.Script
   pub says : IsScript bytes script
-  pub read : List ℕ → Option Tree
+  pub read : Reading
   pub reading : IsReading read
   pub outcome_is : strategy_of read script ≡ outcome
 

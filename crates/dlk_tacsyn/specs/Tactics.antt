@@ -1,6 +1,7 @@
 -- Strategies as trees.
 use Rattle.std.specs.Prelude.{ℕ, ◌+◌, ◌≤◌, List}
 use Rattle.dlk_tree.specs.Trees.{Tree}
+use Rattle.dlk_calculus.specs.Pairs.{Extra}
 use Rattle.dlk_sequent.specs.declared.sequent.Place.{Place}
 
 -- an argument of an atom
@@ -14,6 +15,8 @@ pub data Argument : Type 0 where
   -- what is quoted
   GivenFormula : Tree → Argument
   GivenTerm : Tree → Argument
+  -- names with their new names, and pairs
+  GivenExtra : Extra → Argument
 
 -- a strategy without parts: a name with arguments, and the byte of the name
 pub record Atom : Type 0 where

@@ -2,15 +2,21 @@
 use Rattle.std.specs.Prelude.{List, map, All}
 use Rattle.dlk_tree.specs.Trees.{Tree}
 use Rattle.dlk_store.specs.Stores.{IsId, tree}
+use Rattle.dlk_sequent.specs.Extras.{extra_at, IsKnownExtra}
+use Rattle.dlk_tacsyn.specs.declared.kind.Row.{Row}
 use Rattle.dlk_tacsyn.specs.declared.tactic.Arg.{Arg}
 use Rattle.dlk_tacsyn.specs.declared.tactic.Arg.TheVariants as arg
 use Rattle.dlk_tacsyn.specs.declared.tactic.Atom.{Atom}
 use Rattle.dlk_tacsyn.specs.declared.tactic.Tactic.{Tactic, One, Choice', Seq', Branch', Repeat', Row_of-Tactic, end_of-Tactic, more_of-Tactic}
-use Rattle.dlk_tacsyn.specs.Tactics.{Argument, AtPlace, AnyLeft, AnyRight, Word, GivenFormula, GivenTerm}
+use Rattle.dlk_tacsyn.specs.Tactics.{Argument, AtPlace, AnyLeft, AnyRight, Word, GivenFormula, GivenTerm, GivenExtra}
 use Rattle.dlk_tacsyn.specs.Tactics.{Atom as TreeAtom, Tactic as TreeTactic, Choice as TheChoice, Sequence, Branch as TheBranch, Repeat as TheRepeat}
 use Rattle.dlk_tacsyn.specs.Tactics.{One as TheOne, Tactics, no_parts, part}
+use Rattle.dlk_tacsyn.specs.Rows.{Row as TheRow}
 
--- the argument over the tree of its id
+abbrev pub row_at : Row → TheRow
+row_at row = record { wanted = row.wanted.now; optional = row.optional }
+
+-- the argument over the trees of its ids
 abbrev pub argument_at : List Tree → Arg → Argument
 argument_at trees (arg.At place path) = AtPlace place path
 argument_at trees arg.AnyLeft = AnyLeft
@@ -18,8 +24,9 @@ argument_at trees arg.AnyRight = AnyRight
 argument_at trees (arg.Word name) = Word name
 argument_at trees (arg.Formula id) = GivenFormula (tree trees id)
 argument_at trees (arg.Term id) = GivenTerm (tree trees id)
+argument_at trees (arg.With extra) = GivenExtra (extra_at trees extra)
 
--- its id is one of the store
+-- its ids are those of the store
 abbrev pub ArgumentIsKnown : List Tree → Arg → Type 0
 ArgumentIsKnown trees (arg.At place path) = Unit {0}
 ArgumentIsKnown trees arg.AnyLeft = Unit {0}
@@ -27,6 +34,7 @@ ArgumentIsKnown trees arg.AnyRight = Unit {0}
 ArgumentIsKnown trees (arg.Word name) = Unit {0}
 ArgumentIsKnown trees (arg.Formula id) = IsId trees id
 ArgumentIsKnown trees (arg.Term id) = IsId trees id
+ArgumentIsKnown trees (arg.With extra) = IsKnownExtra trees extra
 
 abbrev pub atom_at : List Tree → Atom → TreeAtom
 atom_at trees atom = record { name = atom.name; arguments = map (argument_at trees) atom.args; at = atom.at }

@@ -2,6 +2,7 @@
 ghost use Rattle.std.specs.Prelude.{◌≡◌, ◌++◌, ◌∷◌, [], List, ℕ, Option, None, Some, All, map, IfOk, OnOk, IfErr, MatchOption};
 ghost use Rattle.dlk_tree.specs.Trees.{Tree};
 ghost use Rattle.dlk_store.specs.Stores.{IsId, tree};
+ghost use Rattle.dlk_sequent.specs.Extras.{extra_at, IsKnownExtra};
 ghost use Rattle.dlk_tacsyn.specs.Faults.{Arguments, IsTacSyntaxOf, of_text};
 ghost use Rattle.dlk_tacsyn.specs.Strategies.{IsReading, argument_of, arguments_of};
 ghost use Rattle.dlk_tacsyn.specs.Ties.{argument_at, ArgumentIsKnown};
@@ -9,12 +10,12 @@ ghost use Rattle.dlk_tacsyn.specs.States.{ByReading};
 ghost use Rattle.dlk_tacsyn.specs.Steps.{with_part, given};
 
 use crate::fault::TacSyntax;
-use crate::kind::Kind;
+use crate::kind::{Kind, Row};
 use crate::tactic::Arg;
-use dlk_machine::laws::tree_texts;
-use dlk_parse::{TextFault, read_formula};
+use dlk_machine::laws::{extra_texts, tree_texts};
+use dlk_parse::{TextFault, read_extra, read_formula};
 use dlk_scripts::{PartKind, Quoted};
-use dlk_sequent::{Listed, Place};
+use dlk_sequent::{Extra, Listed, Place};
 use dlk_store::{Id, Store};
 use dlk_tree::Name;
 use std::alloc::{AllocError, Global};
@@ -132,30 +133,31 @@ pub(crate) fn given(
     }
 }
 
-/// The arguments of these kinds. The atom's name is at this byte.
+/// The arguments of the row. The atom's name is at this byte.
 pub(crate) fn arguments<S: Store>(
     alloc: Global,
     at: usize,
-    kinds: &[Kind],
+    row: Row,
     written: Listed<Written>,
     store: &mut S,
 ) -> Result<Listed<Arg>, TacSyntax>
-    ensures found { IfOk result (λ all. ByReading (λ read. arguments_of read kinds.now written ≡ Some (map (argument_at (S.trees store.new)) all))) }
+    ensures found { IfOk result (λ all. ByReading (λ read.
+        arguments_of read row.wanted.now row.optional written ≡ Some (map (argument_at (S.trees store.new)) all))) }
     ensures known { IfOk result (λ all. All (ArgumentIsKnown (S.trees store.new)) all) }
-    ensures fault { IfErr result (IsTacSyntaxOf (λ f. (f ≡ Arguments at) × ByReading (λ read. arguments_of read kinds.now written ≡ None))) }
+    ensures fault { IfErr result (IsTacSyntaxOf (λ f. (f ≡ Arguments at) × ByReading (λ read. arguments_of read row.wanted.now row.optional written ≡ None))) }
     ensures grows { S.grows store.old store.new }
 {
-    let mut rest = kinds;
+    let mut rest = row;
     let mut all = Vec::new(alloc);
     for next in written.into_vec() {
-        let Some((kind, others)) = rest.split_first() else {
+        let Some((kind, others)) = rest.split() else {
             return Err(TacSyntax::Arguments { at });
         };
-        let argument = argument(alloc, at, *kind, next, store)?;
+        let argument = argument(alloc, at, kind, next, store)?;
         all.push(argument)?;
         rest = others;
     }
-    if rest.len() > 0 {
+    if rest.wanted.len() > 0 {
         return Err(TacSyntax::Arguments { at });
     }
     Ok(Listed::from_vec(all))
@@ -187,7 +189,7 @@ fn argument<S: Store>(
         },
         Kind::QuotedFormula => match written {
             Written::Quoted(text) => {
-                let id = quoted(alloc, at, text.bytes(), store)?;
+                let id = formula(alloc, at, text.bytes(), store)?;
                 Ok(Arg::Formula(id))
             }
             _ => Err(TacSyntax::Arguments { at }),
@@ -196,19 +198,40 @@ fn argument<S: Store>(
             Written::Word(x) => Ok(Arg::Word(x)),
             _ => Err(TacSyntax::Arguments { at }),
         },
+        Kind::QuotedExtra => match written {
+            Written::Quoted(text) => {
+                let extra = extra(alloc, at, text.bytes(), store)?;
+                Ok(Arg::With(extra))
+            }
+            _ => Err(TacSyntax::Arguments { at }),
+        },
     }
 }
 
 /// The formula of a quoted text.
-fn quoted<S: Store>(alloc: Global, at: usize, text: &[u8], store: &mut S) -> Result<Id, TacSyntax>
-    ensures found { IfOk result (λ id. ByReading (λ read. read text.now ≡ Some (tree (S.trees store.new) id))) }
+fn formula<S: Store>(alloc: Global, at: usize, text: &[u8], store: &mut S) -> Result<Id, TacSyntax>
+    ensures found { IfOk result (λ id. ByReading (λ read. read.formula text.now ≡ Some (tree (S.trees store.new) id))) }
     ensures known { IfOk result (IsId (S.trees store.new)) }
-    ensures fault { IfErr result (IsTacSyntaxOf (λ f. (f ≡ Arguments at) × ByReading (λ read. read text.now ≡ None))) }
+    ensures fault { IfErr result (IsTacSyntaxOf (λ f. (f ≡ Arguments at) × ByReading (λ read. read.formula text.now ≡ None))) }
     ensures grows { S.grows store.old store.new }
 {
     tree_texts();
     match read_formula(alloc, text, store) {
         Ok(id) => Ok(id),
+        Err(fault) => Err(unread(at, fault)),
+    }
+}
+
+/// The names with their new names and the pairs of a quoted text.
+fn extra<S: Store>(alloc: Global, at: usize, text: &[u8], store: &mut S) -> Result<Extra, TacSyntax>
+    ensures found { IfOk result (λ extra. ByReading (λ read. read.extra text.now ≡ Some (extra_at (S.trees store.new) extra))) }
+    ensures known { IfOk result (IsKnownExtra (S.trees store.new)) }
+    ensures fault { IfErr result (IsTacSyntaxOf (λ f. (f ≡ Arguments at) × ByReading (λ read. read.extra text.now ≡ None))) }
+    ensures grows { S.grows store.old store.new }
+{
+    extra_texts();
+    match read_extra(alloc, text, store) {
+        Ok(extra) => Ok(extra),
         Err(fault) => Err(unread(at, fault)),
     }
 }

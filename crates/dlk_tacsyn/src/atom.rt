@@ -27,9 +27,9 @@ pub(crate) fn atom<S: Store>(
     ensures fault { IfErr result (IsTacSyntaxOf (λ f. ByReading (λ read. atom_of read at name written ≡ Fails f))) }
     ensures grows { S.grows store.old store.new }
 {
-    let Some(kinds) = row_of(&name) else {
+    let Some(row) = row_of(&name) else {
         return Err(TacSyntax::UnknownAtom { at });
     };
-    let args = arguments(alloc, at, kinds, written, store)?;
+    let args = arguments(alloc, at, row, written, store)?;
     Ok(Tactic::One(Atom { name, args, at }))
 }

@@ -1,6 +1,9 @@
 //! The names of atoms and the arguments that they want.
-ghost use Rattle.std.specs.Prelude.{◌≡◌, IfNone, IfSome, None, Some};
-ghost use Rattle.dlk_tacsyn.specs.Rows.{is_bare, kinds_of, row_of};
+ghost use Rattle.std.specs.Prelude.{◌≡◌, ◌∷◌, List, IfNone, IfSome, None, Some};
+ghost use Rattle.dlk_tacsyn.specs.declared.argument.Written.{Written};
+ghost use Rattle.dlk_tacsyn.specs.Rows.{is_bare, is_use, kinds_of, row_of, wants};
+ghost use Rattle.dlk_tacsyn.specs.Strategies.{Reading, followed, arguments_of};
+ghost use Rattle.dlk_tacsyn.specs.Ties.{row_at};
 
 use dlk_rules::{RuleWord, Shape};
 use dlk_tree::Name;
@@ -16,6 +19,45 @@ pub enum Kind {
     QuotedFormula,
     /// A name.
     AName,
+    /// Names with their new names, and pairs, in quotes.
+    QuotedExtra,
+}
+
+/// The arguments of an atom: of these kinds in this order, and maybe one more.
+#[derive(Clone, Copy, Debug)]
+pub(crate) struct Row {
+    pub wanted: &'static [Kind],
+    pub optional: Option<Kind>,
+}
+
+impl Row {
+    /// The kind of the next argument, and the row of those behind it. None comes where no more may follow.
+    pub fn split(self) -> Option<(Kind, Row)>
+        ensures none { IfNone result ((read : Reading) (w : Written) (ws : List Written) → arguments_of read self.wanted.now self.optional (w ∷ ws) ≡ None) }
+        ensures found { IfSome result (λ next. (read : Reading) (w : Written) (ws : List Written)
+            → arguments_of read self.wanted.now self.optional (w ∷ ws) ≡ followed read next.0 w (arguments_of read next.1.wanted.now next.1.optional ws)) }
+    {
+        let Row { wanted, optional } = self;
+        if let Some((kind, others)) = wanted.split_first() {
+            let rest = Row {
+                wanted: others,
+                optional,
+            };
+            return Some((*kind, rest));
+        }
+        let kind = optional?;
+        Some((kind, wants(&[])))
+    }
+}
+
+/// A row that nothing may follow.
+fn wants(wanted: &'static [Kind]) -> Row
+    ensures { row_at result ≡ wants wanted.now }
+{
+    Row {
+        wanted,
+        optional: None,
+    }
 }
 
 /// The arguments of an atom for a rule, by the shape of the rule's.
@@ -38,20 +80,39 @@ fn is_bare(name: &str) -> bool
     name == "nil" || name == "close" || name == "leaf"
 }
 
-/// The arguments that the atom of this name wants, in their order. None comes where no atom has the name.
-pub(crate) fn row_of(name: &Name) -> Option<&'static [Kind]>
+/// Whether an atom of this name uses an axiom.
+fn is_use(name: &str) -> bool
+    ensures { result ≡ is_use name.now }
+{
+    name == "useAt" || name == "useBack"
+}
+
+/// The arguments that the atom of this name wants. None comes where no atom has the name.
+pub(crate) fn row_of(name: &Name) -> Option<Row>
     ensures none { IfNone result (row_of name.now ≡ None) }
-    ensures found { IfSome result (λ kinds. row_of name.now ≡ Some kinds.now) }
+    ensures found { IfSome result (λ row. row_of name.now ≡ Some (row_at row)) }
 {
     name.is_name();
     let Ok(text) = str::from_utf8(name.bytes()) else {
         return None;
     };
     if is_bare(text) {
-        return Some(&[]);
+        return Some(wants(&[]));
+    }
+    if text == "G" {
+        return Some(wants(&[Kind::AnyPlace]));
+    }
+    if text == "boxCut" {
+        return Some(wants(&[Kind::QuotedFormula, Kind::AnyPlace]));
+    }
+    if is_use(text) {
+        return Some(Row {
+            wanted: &[Kind::AName, Kind::AnyPlace],
+            optional: Some(Kind::QuotedExtra),
+        });
     }
     let Some(word) = RuleWord::of(text) else {
         return None;
     };
-    Some(kinds_of(word.shape()))
+    Some(wants(kinds_of(word.shape())))
 }

@@ -5,7 +5,7 @@ ghost use Rattle.dlk_tacsyn.specs.Rows.{AreFitting, HasNames};
 ghost use Rattle.dlk_tacsyn.specs.Faults.{Fault};
 ghost use Rattle.dlk_tacsyn.specs.Strategies.{StrategyText, StrategyFault};
 
-use dlk_machine::laws::tree_texts;
+use dlk_machine::laws::{extra_texts, tree_texts};
 use dlk_scripts::laws::{no_stop, one_script, one_stop, script_or_stop};
 
 /// Bytes are a text of at most one strategy or have at most one fault, and never both.
@@ -15,6 +15,7 @@ pub fn one_strategy()
     ensures one_fault { (bytes : List ℕ) (f e : Fault) → StrategyFault bytes f → StrategyFault bytes e → f ≡ e }
 {
     tree_texts();
+    extra_texts();
     one_script();
     one_stop();
     no_stop();
@@ -25,6 +26,7 @@ pub fn strategy_or_fault()
     ensures { (bytes : List ℕ) → ((t : TreeTactic) × StrategyText bytes t) ⊎ ((f : Fault) × StrategyFault bytes f) }
 {
     tree_texts();
+    extra_texts();
     script_or_stop();
 }
 
@@ -36,4 +38,5 @@ pub fn fit_strategy()
     ensures shaped { (bytes : List ℕ) (t : TreeTactic) → StrategyText bytes t → IsShaped t }
 {
     tree_texts();
+    extra_texts();
 }

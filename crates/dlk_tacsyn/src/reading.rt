@@ -11,7 +11,7 @@ use crate::fault::TacSyntax;
 use crate::laws::fit_strategy;
 use crate::reader::Reader;
 use crate::tactic::Tactic;
-use dlk_machine::laws::tree_texts;
+use dlk_machine::laws::{extra_texts, tree_texts};
 use dlk_scripts::{Part, parts};
 use dlk_store::Store;
 use std::alloc::Global;
@@ -31,6 +31,7 @@ pub fn strategy<S: Store>(alloc: Global, bytes: &[u8], store: &mut S) -> Result<
     ensures grows { S.grows store.old store.new }
 {
     tree_texts();
+    extra_texts();
     fit_strategy();
     let parts = parts(alloc, bytes)?;
     read_parts(alloc, parts, store)

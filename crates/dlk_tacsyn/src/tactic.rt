@@ -1,6 +1,6 @@
 //! Strategies as trees.
 
-use dlk_sequent::{Listed, Place};
+use dlk_sequent::{Extra, Listed, Place};
 use dlk_store::Id;
 use dlk_tree::Name;
 
@@ -19,6 +19,8 @@ pub enum Arg {
     Formula(Id),
     /// A quoted term.
     Term(Id),
+    /// Quoted names with the names that they get, and pairs of a substitution.
+    With(Extra),
 }
 
 /// A strategy without parts, by its name and its arguments. It keeps the byte at which its name stands in the text.

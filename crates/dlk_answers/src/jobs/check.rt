@@ -1,4 +1,4 @@
-// `check MODEL TERM` and `report MODEL TERM`: replay a term, and compare its conclusion with the model.
+// `check MODEL TERM`, `report MODEL TERM` and `smt MODEL TERM`: replay a term, and compare its conclusion with the model.
 ghost use Rattle.std.specs.Prelude.{◌≡◌, ◌<◌, [], ◌↔◌, IfOk, IsTrue};
 ghost use Rattle.dlk_calculus.specs.Places.{At, IsPlace};
 ghost use Rattle.dlk_calculus.specs.Provables.{Provable};
@@ -7,14 +7,15 @@ ghost use Rattle.dlk_sequent.specs.Sequents.{sequent_at, IsKnown};
 ghost use Rattle.dlk_kernel.specs.Kernel.{facts};
 ghost use Rattle.dlk_report.specs.Reports.{HasAsciiTexts};
 ghost use Rattle.dlk_report.specs.Shown.{parts};
-ghost use Rattle.dlk_answers.specs.Checks.{proves, line_refused, other_conclusion, laid_out, reported, Checks};
+ghost use Rattle.dlk_answers.specs.Checks.{proves, line_refused, other_conclusion, laid_out, reported, answered, Checks};
 ghost use Rattle.dlk_answers.specs.Judged.{judged};
 ghost use Rattle.dlk_answers.specs.Shown.{reply_of};
 
 use crate::fault::NoReply;
 use crate::form::Role;
+use crate::jobs::smt::export;
 use crate::refusal::{refuse_text, refused};
-use crate::reply::{Layout, Reply, Status, printing};
+use crate::reply::{Layout, Reply, Showing, Status, printing};
 use dlk_kernel::{Fact, Kernel};
 use dlk_parse::read_formula;
 use dlk_print::{append_decimal, sequent_text};
@@ -109,10 +110,28 @@ pub(super) fn report<S: Store, L: Ledger>(
     Ok(printing(status, printed))
 }
 
+/// What is shown of a fact that so many lines have shown.
+fn show<S: Store, L: Ledger>(
+    alloc: Global,
+    showing: Showing,
+    kernel: &Kernel<S>,
+    fact: Fact,
+    lines: u32,
+    steps: &mut Steps<L>,
+) -> Result<Reply, NoReply>
+    requires { IsPlace kernel.now.rows fact }
+    ensures { IfOk result (λ r. (p : Provable) → At (facts S.trees kernel.now) fact p → reply_of r ≡ answered showing p lines) }
+{
+    match showing {
+        Showing::Reported(layout) => report(alloc, layout, kernel, fact, lines, steps),
+        Showing::Exported => export(alloc, kernel, fact, steps),
+    }
+}
+
 /// The answer to a term whose lines are all steps.
 fn judge<S: Store, L: Ledger>(
     alloc: Global,
-    layout: Layout,
+    showing: Showing,
     kernel: &Kernel<S>,
     formula: Id,
     outcome: Outcome,
@@ -120,11 +139,11 @@ fn judge<S: Store, L: Ledger>(
 ) -> Result<Reply, NoReply>
     requires formula { IsId (S.trees kernel.now.store) formula }
     requires fact { IsPlace kernel.now.rows outcome.fact }
-    ensures { IfOk result (λ r. (p : Provable) → At (facts S.trees kernel.now) outcome.fact p → judged layout (tree (S.trees kernel.now.store) formula) outcome.lines outcome.line (reply_of r) p) }
+    ensures { IfOk result (λ r. (p : Provable) → At (facts S.trees kernel.now) outcome.fact p → judged showing (tree (S.trees kernel.now.store) formula) outcome.lines outcome.line (reply_of r) p) }
 {
     let found = kernel.conclusion(outcome.fact);
     if is_proof_of(kernel, found, formula) {
-        report(alloc, layout, kernel, outcome.fact, outcome.lines, steps)
+        show(alloc, showing, kernel, outcome.fact, outcome.lines, steps)
     } else {
         refuse_conclusion(alloc, kernel, formula, found, outcome.line, steps)
     }
@@ -133,40 +152,40 @@ fn judge<S: Store, L: Ledger>(
 /// Checks a term on a kernel without rows.
 fn check_on<S: Store, L: Ledger>(
     alloc: Global,
-    layout: Layout,
+    showing: Showing,
     kernel: &mut Kernel<S>,
     model: &[u8],
     term: &[u8],
     steps: &mut Steps<L>,
 ) -> Result<Reply, NoReply>
     requires { kernel.old.rows ≡ [] }
-    ensures { IfOk result (λ r. Checks layout model.now term.now (reply_of r)) }
+    ensures { IfOk result (λ r. Checks showing model.now term.now (reply_of r)) }
 {
     let formula = match read_formula(alloc, model, kernel) {
         Ok(formula) => formula,
         Err(fault) => return refuse_text(alloc, Role::Model, fault),
     };
     match replay(alloc, term, kernel, steps) {
-        Ok(outcome) => judge(alloc, layout, kernel, formula, outcome, steps),
+        Ok(outcome) => judge(alloc, showing, kernel, formula, outcome, steps),
         Err(ReplayFault::Bad { line, why }) => refuse_line(alloc, line, why),
         Err(ReplayFault::Memory) => Err(NoReply::Memory),
     }
 }
 
-/// Checks a term against a model, and reports so.
+/// Checks a term against a model, and shows the proof that it is so.
 ///
 /// # Errors
 ///
 /// `Memory` alone: each refusal is a reply.
 pub fn check<L: Ledger>(
     alloc: Global,
-    layout: Layout,
+    showing: Showing,
     model: &[u8],
     term: &[u8],
     steps: &mut Steps<L>,
 ) -> Result<Reply, NoReply>
-    ensures { IfOk result (λ r. Checks layout model.now term.now (reply_of r)) }
+    ensures { IfOk result (λ r. Checks showing model.now term.now (reply_of r)) }
 {
     let mut kernel = Kernel::new(alloc, SharedStore::new(alloc));
-    check_on(alloc, layout, &mut kernel, model, term, steps)
+    check_on(alloc, showing, &mut kernel, model, term, steps)
 }

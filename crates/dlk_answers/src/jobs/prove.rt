@@ -13,13 +13,12 @@ use crate::form::Role;
 use crate::jobs::check::report;
 use crate::refusal::{refuse_at, refuse_text, refused};
 use crate::reply::{Layout, Reply};
-use dlk_elab::atom_replaces_goal;
 use dlk_kernel::Kernel;
 use dlk_parse::read_formula;
 use dlk_recorder::{Recorded, record};
 use dlk_shared::SharedStore;
 use dlk_store::{Steps, Store};
-use dlk_strategy::{Done, FailWhy, RunFault, run_strategy};
+use dlk_strategy::{Done, FailWhy, RunFault, run_is_taken, run_shows_formula, run_strategy};
 use dlk_tacsyn::{TacSyntax, strategy};
 use std::alloc::Global;
 use std::sync::ledger::Ledger;
@@ -44,7 +43,9 @@ fn fail_word(why: FailWhy) -> &'static str
 {
     match why {
         FailWhy::WrongCount => "WrongCount",
+        FailWhy::UnknownName => "UnknownName",
         FailWhy::NoPlace => "NoPlace",
+        FailWhy::NoMatch => "NoMatch",
         FailWhy::Step(reason) => reason.word(),
     }
 }
@@ -109,7 +110,8 @@ fn prove_on<S: Store, L: Ledger>(
     requires { kernel.old.rows ≡ [] }
     ensures { IfOk result (λ r. Proves model.now text.now (reply_of r)) }
 {
-    atom_replaces_goal();
+    run_is_taken();
+    run_shows_formula();
     let formula = match read_formula(alloc, model, kernel) {
         Ok(formula) => formula,
         Err(fault) => return refuse_text(alloc, Role::Model, fault),

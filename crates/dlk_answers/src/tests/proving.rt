@@ -173,3 +173,155 @@ fn refuses_long_strategies_and_terms(rt: HostRuntime) -> Result<(), Fail> {
     assert!(rt; reply.written.is_none());
     Ok(())
 }
+
+#[test]
+fn uses_axioms_inside(rt: HostRuntime) -> Result<(), Fail> {
+    let alloc = rt.alloc();
+    let (status, printed, term) = proof(
+        &rt,
+        alloc,
+        "x>=0 -> [x:=x+1;]x>=1",
+        "implyR(1); useAt(assignb,1); leaf",
+    )?;
+    assert_eq!(rt; status, 0);
+    assert_eq!(rt;
+        printed.as_slice(),
+        b"closed\nconclusion ==> x>=0 -> [x:=x+1;]x>=1\ngoals 0\nleaves 1\nleaf 1 x>=0 ==> x+1>=1\nlines 15\n".as_slice()
+    );
+    assert_eq!(rt;
+        term.as_slice(),
+        b"1 start ==> x>=0 -> [x:=x+1;]x>=1\n2 apply 1 1 implyR(1)\n3 axiom assignb\n4 rename 3 x_ x\n5 subst 4 f()~>x+1,p(._0)~>._0>=1\n6 rule CE\n7 subst 6 p(||)~>[x:=x+1;]x>=1,q(||)~>x+1>=1,C{_}~>_\n8 merge 7 1 5\n9 apply 2 1 cutR(1,x+1>=1)\n10 apply 9 2 coHideR(1)\n11 apply 10 2 equivifyR(1)\n12 apply 11 2 commuteEquivR(1)\n13 merge 12 2 8\n14 leaf x>=0 ==> x+1>=1\n15 merge 13 1 14\ndone\n".as_slice()
+    );
+    Ok(())
+}
+
+#[test]
+fn uses_each_form(rt: HostRuntime) -> Result<(), Fail> {
+    let alloc = rt.alloc();
+    for (model, strategy, status, printed) in [
+        // a car's loop, by what `loop` and `dW` stand for
+        (
+            "v>=0 & A>0 -> [{{a:=A;++a:=0;}{x'=v,v'=a&v>=0}}*@invariant(v>=0)]v>=0",
+            "implyR(1); boxCut(\"v>=0\",1); <(cutR(\"v>=0\",1); <(nil, useAt(I,1); G(1); implyR(1)), nil); <(leaf, useAt(composeb,1); useAt(choiceb,1); andR(1); useAt(assignb,1); useAt(DWeq,1); G(1); implyR(1); leaf, leaf)",
+            0,
+            "closed\nconclusion ==> v>=0&A>0 -> [{{a:=A;++a:=0;}{x'=v,v'=a&v>=0}}*]v>=0\ngoals 0\nleaves 2\nleaf 1 v>=0&A>0 ==> v>=0\nleaf 2 v>=0 ==> v>=0\nlines 104\n",
+        ),
+        (
+            "[x:=*;]x>=0",
+            "useAt(randomb,1); skolemR(1); leaf",
+            0,
+            "closed\nconclusion ==> [x:=*;]x>=0\ngoals 0\nleaves 1\nleaf 1 ==> x>=0\nlines 15\n",
+        ),
+        // on the left, and from right to left
+        (
+            "[x:=1;]x>=1 -> true",
+            "implyR(1); useAt(assignb,-1); closeTrue(1)",
+            0,
+            "closed\nconclusion ==> [x:=1;]x>=1 -> true\ngoals 0\nleaves 0\nlines 13\n",
+        ),
+        (
+            "x>=0 -> y>=0",
+            "useBack(testb,1)",
+            1,
+            "open\nconclusion ==> x>=0 -> y>=0\ngoals 1\ngoal 1 ==> [?x>=0;]y>=0\nleaves 0\nlines 10\n",
+        ),
+        // terms, and terms under a condition
+        (
+            "(x+1)'>=0",
+            "useAt(Dplus,1.0)",
+            1,
+            "open\nconclusion ==> (x+1)'>=0\ngoals 1\ngoal 1 ==> (x)'+(1)'>=0\nleaves 0\nlines 15\n",
+        ),
+        (
+            "(x^2)'>=0",
+            "useAt(Dpow,1.0)",
+            1,
+            "open\nconclusion ==> (x^2)'>=0\ngoals 1\ngoal 1 ==> 2*x^(2-1)*(x)'>=0\nleaves 1\nleaf 1 ==> 2!=0\nlines 20\n",
+        ),
+        // formulas under a condition, with a pair that is given
+        (
+            "[{x'=1&x>=0}]x>=0",
+            "useAt(DC,1,\"r(||)~>x>=-1\")",
+            1,
+            "open\nconclusion ==> [{x'=1&x>=0}]x>=0\ngoals 2\ngoal 1 ==> [{x'=1&x>=0&x>=-1}]x>=0\ngoal 2 ==> [{x'=1&x>=0}]x>=-1\nleaves 0\nlines 15\n",
+        ),
+        // an implication on the left, with a name that is given; and a fact
+        (
+            "x>=0 -> true",
+            "implyR(1); useAt(allvac,-1,\"x_~~y\")",
+            1,
+            "open\nconclusion ==> x>=0 -> true\ngoals 1\ngoal 1 \\forall y x>=0 ==> true\nleaves 0\nlines 8\n",
+        ),
+        (
+            "x+1=x+1",
+            "useAt(eqrefl,1)",
+            0,
+            "closed\nconclusion ==> x+1=x+1\ngoals 0\nleaves 0\nlines 5\n",
+        ),
+        // boxes
+        (
+            "[x:=1;]true",
+            "G(1); closeTrue(1)",
+            0,
+            "closed\nconclusion ==> [x:=1;]true\ngoals 0\nleaves 0\nlines 6\n",
+        ),
+        (
+            "[x:=1;]x>=0",
+            "boxCut(\"x>=1\",1)",
+            1,
+            "open\nconclusion ==> [x:=1;]x>=0\ngoals 2\ngoal 1 ==> [x:=1;]x>=1\ngoal 2 x>=1 ==> x>=0\nleaves 0\nlines 11\n",
+        ),
+    ] {
+        let (found, report, _) = proof(&rt, alloc, model, strategy)?;
+        assert_eq!(rt;
+            report.as_slice(),
+            printed.as_bytes(),
+            "{model} by {strategy}"
+        );
+        assert_eq!(rt; found, status, "{model} by {strategy}");
+    }
+    Ok(())
+}
+
+#[test]
+fn refuses_uses(rt: HostRuntime) -> Result<(), Fail> {
+    let alloc = rt.alloc();
+    for (model, strategy, why) in [
+        ("x>=0", "useAt(nope,1)", "UnknownName"),
+        ("x>=0", "useAt(nope,'L)", "NoPlace"),
+        ("x>=0", "useAt(nope,7)", "UnknownName"),
+        ("[x:=1;]x>=1", "useAt(assignb,2)", "NoPlace"),
+        ("[x:=1;]x>=1", "useAt(assignb,1.2)", "NoPlace"),
+        ("x>=0", "useAt(assignb,1)", "NoMatch"),
+        ("x>=0", "useBack(V,1)", "NoMatch"),
+        // a form that wants a whole formula, and one on the right
+        ("[{x'=1&x>=0}]x>=0", "useAt(DW,1.1)", "NoMatch"),
+        ("[{x'=1&x>=0}]x>=0", "useAt(eqcongr,1)", "NoMatch"),
+        // a name that is another one of the axiom's own
+        ("[{t_'=1}]t_>=0", "useAt(DS,1)", "NoMatch"),
+        // names that aren't the axiom's, or are given twice
+        ("[x:=1;]x>=1", "useAt(assignb,1,\"y_~~x\")", "NoMatch"),
+        ("[x:=1;]x>=1", "useAt(assignb,1,\"x_~~x,x_~~x\")", "NoMatch"),
+        // a bad pair, and a substitution that isn't admissible
+        (
+            "[{x'=x}]x>0",
+            "useAt(DG,1,\"y_~~y,term a(|y|)~>y,term b(|y|)~>0\")",
+            "IllSubst",
+        ),
+        ("[x:=1;]x>0", "useAt(V,1)", "NotAdmissible"),
+        ("x>=0", "G(1)", "WrongShape"),
+        ("[x:=1;]x>=1", "G(-1)", "NoPlace"),
+        ("[x:=1;]x>=1", "G(1.1)", "NoPlace"),
+        ("x>=0", "boxCut(\"x>=1\",1)", "WrongShape"),
+    ] {
+        let (status, reply) = proved(alloc, model.as_bytes(), strategy.as_bytes())?;
+        let printed = format!(in alloc; "refused: fails at 0: {why}\n")?;
+        assert_eq!(rt;
+            reply.printed.as_slice(),
+            printed.as_bytes(),
+            "{model} by {strategy}"
+        );
+        assert_eq!(rt; status, 2, "{model} by {strategy}");
+    }
+    Ok(())
+}

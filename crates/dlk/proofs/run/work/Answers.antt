@@ -1,4 +1,6 @@
-use Rattle.std.proofs.Common.{sym, subst, map, string_bytes, refl, rules}
+use Rattle.std.proofs.Common.{◌≡◌, sym, ap, ◌∙◌, subst, length, map, string_bytes, refl, rules, Global}
+use Rattle.std.proofs.lemmas.List.{length-map}
+use Rattle.dlk_answers.specs.Forms.{form_of, limit_of, inputs_of, limits_of}
 use Rattle.dlk_answers.specs.Replies.{Reply, code_of}
 use Rattle.dlk.specs.Answers.{Answers, no_form}
 use Rattle.dlk_answers.specs.Shown.{texts_of, reply_of}
@@ -12,12 +14,22 @@ returns-in_default-clause-ok g c = λ told.
     subst (λ (reply : Reply). Answers (map string_bytes c.args.words.now) (g.D.Desk.outside c.args.desk.now).files reply) (sym c.in_ok-words_refused.ensures) (no_form (search rules))
 
 pub returns-clause-ok : goal.returns-clause-ok
-returns-clause-ok g c = λ told.
+returns-clause-ok g c =
+    let command = c.in-Some.command in
+    let many : length (inputs_of command (map string_bytes c.args.words.now)) ≡ length (limits_of command) =
+    ap length (sym c.inputs.ensures.names) ∙ length-map c.inputs.result.now (string_bytes {Z = Global}) ∙ c.inputs.ensures.count ∙
+    sym (length-map (form_of command).inputs limit_of) in
+    λ told.
     answered (map string_bytes c.args.words.now) c.in-Some.command (g.D.Desk.outside c.args.desk.now).files (texts_of c.in_ok-inputs.inputs.items) (reply_of c.in_ok-respond.field-0)
     (search rules) (search rules) (search rules) (search rules)
 
 pub returns-clause-missing : goal.returns-clause-missing
-returns-clause-missing g c = λ told.
+returns-clause-missing g c =
+    let command = c.in-Some.command in
+    let many : length (inputs_of command (map string_bytes c.args.words.now)) ≡ length (limits_of command) =
+    ap length (sym c.inputs.ensures.names) ∙ length-map c.inputs.result.now (string_bytes {Z = Global}) ∙ c.inputs.ensures.count ∙
+    sym (length-map (form_of command).inputs limit_of) in
+    λ told.
     have_inputs (map string_bytes c.args.words.now) c.in-Some.command (g.D.Desk.outside c.args.desk.now).files (texts_of c.in_ok-inputs.inputs.items)
     (search rules) (search rules) (search rules)
 
@@ -44,7 +56,12 @@ pub returns-in_default-clause-looks : goal.returns-in_default-clause-looks
 returns-in_default-clause-looks g c = λ told. none_looked (map string_bytes c.args.words.now) (g.D.Desk.outside c.args.desk.now).files _ _ refl
 
 pub returns-clause-looks : goal.returns-clause-looks
-returns-clause-looks g c = λ told.
+returns-clause-looks g c =
+    let command = c.in-Some.command in
+    let many : length (inputs_of command (map string_bytes c.args.words.now)) ≡ length (limits_of command) =
+    ap length (sym c.inputs.ensures.names) ∙ length-map c.inputs.result.now (string_bytes {Z = Global}) ∙ c.inputs.ensures.count ∙
+    sym (length-map (form_of command).inputs limit_of) in
+    λ told.
     command_looked (map string_bytes c.args.words.now) c.in-Some.command (g.D.Desk.outside c.args.desk.now).files (texts_of c.in_ok-inputs.inputs.items) _ _
     (search rules) (search rules) (search rules) (rw c.deref.ensures.value at c.respond.ensures.looks)
 

@@ -17,4 +17,4 @@ returns-clause-plan c = λ trees s known name.
     let ids = c.in_ok-arguments.ensures.known trees (rw c.as_slice.ensures known) in
     same_plan c.args.target.rows c.args.target.fact c.args.target.goal trees s c.args.atom.now (one ∷ []) c.push.new.self.items are
     (plan_rule c.args.target.rows c.args.target.fact c.args.target.goal trees s c.args.atom.now c.args.word c.in_ok-arguments.arguments c.in-Some.rule found ids
-    (c.in-Some.ensures trees) (c.if-prove.ensures.proper trees) name)
+    (c.in-Some.ensures trees) name)

@@ -4,7 +4,7 @@ use Rattle.std.proofs.Math.Seq.{take-append_seam, take-length}
 use Rattle.dlk_rules.specs.Steps.{step_at}
 use Rattle.dlk_kernel.specs.Kernel.{facts, provable_at}
 use Rattle.dlk_tacsyn.specs.Ties.{atom_at}
-use Rattle.dlk_elab.specs.Atoms.{NoPlace, AtStep}
+use Rattle.dlk_elab.specs.Atoms.{UnknownName, NoPlace, NoMatch, AtStep}
 use Rattle.dlk_strategy.specs.Runs.{spent}
 use Rattle.dlk_strategy.specs.Ties.{now, goals_of}
 use Rattle.dlk_strategy.proofs.States.{steps_known, steps_more, known_more, goal_there, counted_as, of_last, once_done, once_fails, same_extends}
@@ -76,6 +76,20 @@ returns-in-Err-NoPlace-clause-fate g c =
     once_fails (atom_at (trees c.args.kernel.now.store) c.args.atom.now) c.args.goal c.rows-fact.result (now trees c.args.kernel.now c.args.trace.now) NoPlace
     c.if-trace-ge-MOST_RUNS.false is (rw c.in-Err-NoPlace.field-0-is at c.in-Err-NoPlace.ensures.fault)
 
+pub returns-in-Err-UnknownName-clause-fate : goal.returns-in-Err-UnknownName-clause-fate
+returns-in-Err-UnknownName-clause-fate g c =
+    let trees = g.S.Store.trees in
+    let is = c.rows-fact.ensures.count ∙ sym (length-map c.args.kernel.now.rows (provable_at (trees c.args.kernel.now.store))) in
+    once_fails (atom_at (trees c.args.kernel.now.store) c.args.atom.now) c.args.goal c.rows-fact.result (now trees c.args.kernel.now c.args.trace.now) UnknownName
+    c.if-trace-ge-MOST_RUNS.false is (rw c.in-Err-UnknownName.field-0-is at c.in-Err-UnknownName.ensures.fault)
+
+pub returns-in-Err-NoMatch-clause-fate : goal.returns-in-Err-NoMatch-clause-fate
+returns-in-Err-NoMatch-clause-fate g c =
+    let trees = g.S.Store.trees in
+    let is = c.rows-fact.ensures.count ∙ sym (length-map c.args.kernel.now.rows (provable_at (trees c.args.kernel.now.store))) in
+    once_fails (atom_at (trees c.args.kernel.now.store) c.args.atom.now) c.args.goal c.rows-fact.result (now trees c.args.kernel.now c.args.trace.now) NoMatch
+    c.if-trace-ge-MOST_RUNS.false is (rw c.in-Err-NoMatch.field-0-is at c.in-Err-NoMatch.ensures.fault)
+
 pub returns-in-Err-Step-clause-fate : goal.returns-in-Err-Step-clause-fate
 returns-in-Err-Step-clause-fate g c =
     let trees = g.S.Store.trees in
@@ -89,6 +103,30 @@ returns-in-Err-NoPlace-clause-extends g c =
     let keeps = g.met.S.Store.grows_keeps c.args.kernel.now.store c.elaborate.new.kernel.store c.elaborate.ensures.grows in
     record {
       rows = same_extends trees c.args.kernel.now c.elaborate.new.kernel c.in-Err-NoPlace.ensures.err;
+      steps = take-length c.args.trace.now.steps.items;
+      known = steps_known (trees c.args.kernel.now.store) (trees c.elaborate.new.kernel.store) keeps c.args.trace.now.steps.items c.requires.ready.known;
+      counted = omega arith;
+      within = omega (arith, c.if-trace-ge-MOST_RUNS.false);
+    }
+
+pub returns-in-Err-UnknownName-clause-extends : goal.returns-in-Err-UnknownName-clause-extends
+returns-in-Err-UnknownName-clause-extends g c =
+    let trees = g.S.Store.trees in
+    let keeps = g.met.S.Store.grows_keeps c.args.kernel.now.store c.elaborate.new.kernel.store c.elaborate.ensures.grows in
+    record {
+      rows = same_extends trees c.args.kernel.now c.elaborate.new.kernel c.in-Err-UnknownName.ensures.err;
+      steps = take-length c.args.trace.now.steps.items;
+      known = steps_known (trees c.args.kernel.now.store) (trees c.elaborate.new.kernel.store) keeps c.args.trace.now.steps.items c.requires.ready.known;
+      counted = omega arith;
+      within = omega (arith, c.if-trace-ge-MOST_RUNS.false);
+    }
+
+pub returns-in-Err-NoMatch-clause-extends : goal.returns-in-Err-NoMatch-clause-extends
+returns-in-Err-NoMatch-clause-extends g c =
+    let trees = g.S.Store.trees in
+    let keeps = g.met.S.Store.grows_keeps c.args.kernel.now.store c.elaborate.new.kernel.store c.elaborate.ensures.grows in
+    record {
+      rows = same_extends trees c.args.kernel.now c.elaborate.new.kernel c.in-Err-NoMatch.ensures.err;
       steps = take-length c.args.trace.now.steps.items;
       known = steps_known (trees c.args.kernel.now.store) (trees c.elaborate.new.kernel.store) keeps c.args.trace.now.steps.items c.requires.ready.known;
       counted = omega arith;

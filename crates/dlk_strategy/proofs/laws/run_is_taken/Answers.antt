@@ -3,7 +3,6 @@ use Rattle.dlk_strategy.proofs.TakenSteps.{run_taken, taken_proper}
 use Rattle.dlk_strategy.proofs.laws.run_is_taken.Goals as goal
 
 pub returns : goal.returns
-returns c = record {
-  taken = run_taken;
-  proper = λ t formula made left r. taken_proper [] made.rows made.steps (run_taken t formula made left r);
-}
+returns c =
+    let taken = run_taken c.atom_is_taken.ensures in
+    record { taken = taken; proper = λ t formula made left r. taken_proper [] made.rows made.steps (taken t formula made left r) }

@@ -11,5 +11,6 @@ abbrev pub invariant-loop-next : goal.invariant-loop-next
 invariant-loop-next g l = record {
   grows : g.S.Store.grows l.initial.store l.store;
   known : All (ArgumentIsKnown (g.S.Store.trees l.store)) l.all.items;
-  goes : ByReading (λ read. arguments_of read l.fn.kinds l.fn.written ≡ behind (map (argument_at (g.S.Store.trees l.store)) l.all.items) (arguments_of read l.rest (into_iter_items l.next-iterator)));
+  goes : ByReading (λ read. arguments_of read l.fn.row.wanted.now l.fn.row.optional l.fn.written ≡
+      behind (map (argument_at (g.S.Store.trees l.store)) l.all.items) (arguments_of read l.rest.wanted.now l.rest.optional (into_iter_items l.next-iterator)));
 }

@@ -4,7 +4,7 @@ use Rattle.dlk_tacsyn.proofs.laws.fit_strategy.Goals as goal
 
 pub returns : goal.returns
 returns c = record {
-  fitting = text_fits c.tree_texts.ensures.formulas;
+  fitting = text_fits c.tree_texts.ensures.formulas c.extra_texts.ensures.well_made;
   names = text_named;
   shaped = text_stands;
 }

@@ -1,11 +1,21 @@
 use Rattle.dlk_grammar.specs.declared.token.Form.TheVariants.{Formula}
 use Rattle.dlk_grammar.specs.declared.token.Dots.TheVariants.{Refused}
+use Rattle.dlk_tacsyn.proofs.Read.{QuotedLaws}
 use Rattle.dlk_tacsyn.proofs.OneStrategy.{one_says, says_or_fault, one_fault}
 use Rattle.dlk_tacsyn.proofs.laws.one_strategy.Goals as goal
 
 pub returns : goal.returns
-returns c = record {
-  one = one_says (c.tree_texts.ensures.one Formula Refused) c.one_script.ensures;
-  no_fault = says_or_fault (c.tree_texts.ensures.one Formula Refused) c.one_script.ensures c.no_stop.ensures;
-  one_fault = one_fault (c.tree_texts.ensures.one Formula Refused) c.one_script.ensures c.no_stop.ensures c.one_stop.ensures;
-}
+returns c =
+    let laws : QuotedLaws = record {
+      formulas = record {
+        one = c.tree_texts.ensures.one Formula Refused;
+        no_fault = c.tree_texts.ensures.no_fault Formula Refused;
+        some = c.tree_texts.ensures.some Formula Refused;
+      };
+      extras = record { one = c.extra_texts.ensures.one; no_fault = c.extra_texts.ensures.no_fault; some = c.extra_texts.ensures.some };
+    } in
+    record {
+      one = one_says laws c.one_script.ensures;
+      no_fault = says_or_fault laws c.one_script.ensures c.no_stop.ensures;
+      one_fault = one_fault laws c.one_script.ensures c.no_stop.ensures c.one_stop.ensures;
+    }

@@ -15,11 +15,11 @@ use Rattle.dlk_answers.proofs.jobs.check.check_on.Goals as goal
 
 pub returns-in-Err : goal.returns-in-Err
 returns-in-Err g c =
-    let layout = c.args.layout in
+    let showing = c.args.showing in
     let model = c.args.model.now in
     let term = c.args.term.now in
-    IfOk-weaker c.refuse_text.result (λ r. IsTextRefused Model c.in-Err.fault (reply_of r)) (λ r. Checks layout model term (reply_of r))
-    (λ r is. text_answer Model (ModelFault model) (Checks layout model term) bad_model c.in-Err.fault (reply_of r) c.in-Err.ensures.fault is) c.refuse_text.ensures
+    IfOk-weaker c.refuse_text.result (λ r. IsTextRefused Model c.in-Err.fault (reply_of r)) (λ r. Checks showing model term (reply_of r))
+    (λ r is. text_answer Model (ModelFault model) (Checks showing model term) bad_model c.in-Err.fault (reply_of r) c.in-Err.ensures.fault is) c.refuse_text.ensures
 
 pub returns-in-Ok-replay : goal.returns-in-Ok-replay
 returns-in-Ok-replay g c =
@@ -29,9 +29,9 @@ returns-in-Ok-replay g c =
     let outcome = c.in-Ok-replay.outcome in
     IfOk-weaker c.judge.result
     (λ r. (p : Provable) → At (facts g.S.Store.trees c.replay.new.kernel) outcome.fact p →
-    judged c.args.layout (tree trees c.in-Ok.formula) outcome.lines outcome.line (reply_of r) p)
-    (λ r. Checks c.args.layout c.args.model.now c.args.term.now (reply_of r))
-    (λ r says. judged_answer c.args.layout c.args.model.now c.args.term.now read.0 (tree trees c.in-Ok.formula) read.1 (keeps.same c.in-Ok.formula read.2.known ∙ read.2.tree_is) c.replay.new.kernel.rows (provable_at trees)
+    judged c.args.showing (tree trees c.in-Ok.formula) outcome.lines outcome.line (reply_of r) p)
+    (λ r. Checks c.args.showing c.args.model.now c.args.term.now (reply_of r))
+    (λ r says. judged_answer c.args.showing c.args.model.now c.args.term.now read.0 (tree trees c.in-Ok.formula) read.1 (keeps.same c.in-Ok.formula read.2.known ∙ read.2.tree_is) c.replay.new.kernel.rows (provable_at trees)
     outcome.line c.in-Ok-replay.ensures.ok c.in-Ok-replay.ensures.some outcome.fact outcome.lines c.in-Ok-replay.ensures.fact c.in-Ok-replay.ensures.lines (reply_of r) says) c.judge.ensures
 
 pub returns-in-Err-Bad : goal.returns-in-Err-Bad
@@ -40,5 +40,5 @@ returns-in-Err-Bad g c =
     let bad = c.in-Err-Bad.ensures.bad in
     let there = rw c.in-Err-Bad.field-0-is at bad in
     let said = rw c.in-Err-Bad.why-is at (rw c.in-Err-Bad.line-is at c.refuse_line.ensures) in
-    IfOk-weaker c.refuse_line.result (λ r. reply_of r ≡ line_refused c.in-Err-Bad.line c.in-Err-Bad.why) (λ r. Checks c.args.layout c.args.model.now c.args.term.now (reply_of r))
-    (λ r is. line_answer c.args.layout c.args.model.now c.args.term.now read.0 read.1 c.in-Err-Bad.line c.in-Err-Bad.why (reply_of r) there is) said
+    IfOk-weaker c.refuse_line.result (λ r. reply_of r ≡ line_refused c.in-Err-Bad.line c.in-Err-Bad.why) (λ r. Checks c.args.showing c.args.model.now c.args.term.now (reply_of r))
+    (λ r is. line_answer c.args.showing c.args.model.now c.args.term.now read.0 read.1 c.in-Err-Bad.line c.in-Err-Bad.why (reply_of r) there is) said

@@ -57,7 +57,7 @@ pub finish-requires-clause-fact : goal.finish-requires-clause-fact
 finish-requires-clause-fact g c =
     let run = c.in-Ok-run_strategy.ensures.done in
     let rows = c.run_strategy.new.kernel.rows in
-    let some = some_rows c.atom_replaces_goal.ensures.new _ _ _ _ run.2 in
+    let some = some_rows c.run_shows_formula.ensures _ _ _ _ run.2 in
     let count = length-map rows (provable_at (g.S.Store.trees c.run_strategy.new.kernel.store)) in
     (omega (arith, some, count, c.in-Ok-run_strategy.ensures.fact), omega (arith, c.in-Ok-run_strategy.ensures.fact))
 
@@ -67,7 +67,7 @@ finish-requires-clause-few g c =
     let rows = c.run_strategy.new.kernel.rows in
     let trees = g.S.Store.trees c.run_strategy.new.kernel.store in
     let steps = c.in-Ok-run_strategy.done.steps.items in
-    let same = run_count c.atom_replaces_goal.ensures.new _ _ _ _ run.2 in
+    let same = run_count c.run_is_taken.ensures.taken _ _ _ _ run.2 in
     let row_count = length-map rows (provable_at trees) in
     let step_count = length-map steps (step_at trees) in
     sym step_count ∙ same ∙ row_count
@@ -89,7 +89,7 @@ returns-in-Ok-run_strategy g c =
     IfOk-weaker c.finish.result
     (λ r. (p : Provable) → At (facts g.S.Store.trees c.run_strategy.new.kernel) done.fact p → finished p (map (step_at trees) done.steps.items) (reply_of r))
     (λ r. Proves model text (reply_of r))
-    (λ r says. done_answer model text read.0 read.1 tactic c.in-Ok-strategy.ensures.found made run.1 is_run (some_rows c.atom_replaces_goal.ensures.new _ _ made run.1 is_run) c.run_strategy.new.kernel.rows (provable_at trees) refl
+    (λ r says. done_answer model text read.0 read.1 tactic c.in-Ok-strategy.ensures.found made run.1 is_run (some_rows c.run_shows_formula.ensures _ _ made run.1 is_run) c.run_strategy.new.kernel.rows (provable_at trees) refl
     done.fact c.in-Ok-run_strategy.ensures.fact (reply_of r) says) c.finish.ensures
 
 pub returns : goal.returns

@@ -1,0 +1,67 @@
+use Rattle.std.proofs.Common.{◌-◌, subst, sym, ◌∙◌, arith}
+use Rattle.std.proofs.lemmas.List.{length-map}
+use Rattle.std.proofs.lemmas.Result.{err_from_is_err_and}
+use Rattle.dlk_calculus.specs.Sequents.{IsSequent}
+use Rattle.dlk_sequent.specs.Sequents.{sequent_at, IsKnown}
+use Rattle.dlk_tacsyn.specs.Ties.{argument_at, atom_at}
+use Rattle.dlk_kernel.specs.Kernel.{facts, provable_at}
+use Rattle.dlk_store.specs.declared.Id.{Id}
+use Rattle.dlk_store.specs.Stores.{tree}
+use Rattle.dlk_uses.specs.Uses.{cutting_box}
+use Rattle.dlk_elab.specs.Atoms.{cuts}
+use Rattle.dlk_elab.specs.Plans.{ArePlanned, goal_at, AreCutTrees}
+use Rattle.dlk_elab.proofs.BoxPlans.{id_later}
+use Rattle.dlk_elab.proofs.Elaborates.{goal_within, goal_read, goal_small}
+use Rattle.dlk_elab.proofs.BoxAsks.{box_fault, cut_asked}
+use Rattle.dlk_elab.proofs.elaborating.cut_box.Goals as goal
+
+pub box_at-requires-clause-known : goal.box_at-requires-clause-known
+box_at-requires-clause-known g c =
+    let trees = g.S.Store.trees c.args.kernel.now.store in
+    let within = goal_within trees (facts g.S.Store.trees c.args.kernel.now) c.args.target.fact c.args.target.goal c.goals.result.now c.requires.goal
+    c.goals.ensures.goals in
+    subst (IsKnown trees) (sym c.index-goals-target.is) (c.goals.ensures.known (c.args.target.goal - 1) c.index-goals-target.result within)
+
+pub box_at-requires-clause-formulas : goal.box_at-requires-clause-formulas
+box_at-requires-clause-formulas g c =
+    let trees = g.S.Store.trees c.args.kernel.now.store in
+    let within = goal_within trees (facts g.S.Store.trees c.args.kernel.now) c.args.target.fact c.args.target.goal c.goals.result.now c.requires.goal
+    c.goals.ensures.goals in
+    subst (λ s. IsSequent (sequent_at trees s)) (sym c.index-goals-target.is) (c.goals.ensures.formulas (c.args.target.goal - 1) c.index-goals-target.result within)
+
+pub returns-in_err-boxed-clause-fault : goal.returns-in_err-boxed-clause-fault
+returns-in_err-boxed-clause-fault g c =
+    let trees = g.S.Store.trees c.args.kernel.now.store in
+    let rows = facts g.S.Store.trees c.args.kernel.now in
+    let is_goal = goal_read trees rows c.args.target.fact c.args.target.goal c.goals.result.now c.index-goals-target.result c.requires.goal c.goals.ensures.goals
+    c.index-goals-target.is in
+    let counted = c.requires.rows ∙ sym (length-map c.args.kernel.now.rows (provable_at trees)) in
+    let p = err_from_is_err_and c.from_residual.result c.from_residual.ensures.1 in
+    rw (p.1, p.2) (box_fault rows c.args.target (atom_at trees c.args.atom.now) trees c.index-goals-target.result (argument_at trees c.args.at.now) counted is_goal
+    (cuts _ c.requires.call.0 c.requires.call.1) c.in_err-boxed.field-0.0 c.in_err-boxed.ensures.fault)
+
+pub returns-clause-plan : goal.returns-clause-plan
+returns-clause-plan g c =
+    let trees = g.S.Store.trees c.args.kernel.now.store in
+    let new = g.S.Store.trees c.cut_trees.new.store.store in
+    let rows = facts g.S.Store.trees c.args.kernel.now in
+    let is_goal = goal_read trees rows c.args.target.fact c.args.target.goal c.goals.result.now c.index-goals-target.result c.requires.goal c.goals.ensures.goals
+    c.index-goals-target.is in
+    let counted = c.requires.rows ∙ sym (length-map c.args.kernel.now.rows (provable_at trees)) in
+    let at = c.in_ok-boxed.ensures.found in
+    let keeps = g.met.S.Store.grows_keeps c.args.kernel.now.store c.cut_trees.new.store.store c.cut_trees.ensures.grows.0 in
+    let made = c.in_ok-cut.ensures.made in
+    let e = made.formula_is in
+    let b = c.in_ok-boxed.boxed in
+    let trees_made = subst (λ (x : Id). AreCutTrees new b x c.in_ok-cut.cut) (sym e) made in
+    let planned = c.in_ok-plan.ensures new (sequent_at trees c.index-goals-target.result) (id_later trees new b.program keeps at.program_known)
+    (id_later trees new b.formula keeps at.formula_known) trees_made in
+    cut_asked rows c.args.target (atom_at trees c.args.atom.now) trees c.index-goals-target.result (argument_at trees c.args.at.now) counted is_goal new b c.args.h
+    c.in_ok-plan.plan.items keeps c.requires.known c.requires.call.0 c.requires.call.1 at
+    (subst (λ (x : Id). ArePlanned new c.in_ok-plan.plan.items (cutting_box c.args.target.rows (goal_at c.args.target (sequent_at trees c.index-goals-target.result))
+    b.place (tree new b.program) (tree new b.formula) (tree new x))) e planned)
+
+pub cutting_box-requires-clause-goal : goal.cutting_box-requires-clause-goal
+cutting_box-requires-clause-goal g c =
+    let small = goal_small (facts g.S.Store.trees c.args.kernel.now) c.args.target.fact c.args.target.goal c.rows.ensures.limited c.requires.goal in
+    omega (arith, small)

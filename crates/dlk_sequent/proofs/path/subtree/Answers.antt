@@ -1,0 +1,12 @@
+use Rattle.dlk_sequent.proofs.Turns.{walked_out, walked_on}
+use Rattle.dlk_sequent.proofs.path.subtree.Goals as goal
+
+pub returns-in_default : goal.returns-in_default
+returns-in_default g c =
+    walked_out (g.S.Store.trees c.args.store.now) c.args.id c.args.path.now c.loop-kid.at c.loop-kid.kid-index 0 c.loop-kid.invariant c.loop-kid-test.true
+    c.in_default.ensures
+
+pub loop-kid-preserved : goal.loop-kid-preserved
+loop-kid-preserved g c =
+    walked_on (g.S.Store.trees c.args.store.now) c.args.id c.args.path.now c.loop-kid.at c.loop-kid.kid-index 0 c.loop-kid.invariant c.loop-kid-test.true
+    c.in-Some.next c.in-Some.ensures

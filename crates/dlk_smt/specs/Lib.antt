@@ -1,0 +1,4 @@
+pub mod Smt
+pub mod Collected
+pub mod Faults
+pub mod Examples

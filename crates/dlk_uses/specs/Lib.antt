@@ -1,0 +1,4 @@
+pub mod Uses
+pub mod Taking
+pub mod Applying
+pub mod UseExamples
