@@ -3,6 +3,7 @@
 
 ghost use Rattle.std.specs.Prelude.{◌≡◌, ◌<◌};
 
+mod explain;
 mod fault;
 mod give;
 mod laws;
@@ -10,6 +11,7 @@ mod run;
 
 use dlk_desk::{Desk, HostDesk};
 use dlk_store::Steps;
+use explain::{NO_WORDS, explain};
 use run::run;
 use std::alloc::{AllocError, Global};
 use std::env;
@@ -17,9 +19,6 @@ use std::io::ErrorKind;
 use std::marker::Brand;
 use std::process::ExitCode;
 use std::sync::ledger::{Blank, Ledger};
-
-/// The status where the words of the command line can't be had.
-const NO_WORDS: u8 = 7;
 
 /// The words of the command line, without the program's name. Where one is not UTF-8 there are none, and so they have no form.
 fn words(rt: &HostRuntime) -> Result<Vec<String>, AllocError> {
@@ -48,10 +47,13 @@ fn start<D: Desk, L: Ledger>(alloc: Global, words: &[String], desk: &mut D, blan
 fn main(rt: HostRuntime) -> ExitCode {
     let alloc = rt.alloc();
     let Ok(words) = words(&rt) else {
+        let _ = explain(&rt, NO_WORDS, &[]);
         return ExitCode::from(NO_WORDS);
     };
     let mut desk = HostDesk::new(rt, alloc);
-    ExitCode::from(start::<HostDesk<HostRuntime>, Brand>(alloc, &words, &mut desk, Blank::new(1)))
+    let status = start::<HostDesk<HostRuntime>, Brand>(alloc, &words, &mut desk, Blank::new(1));
+    let _ = explain(&rt, status, &words);
+    ExitCode::from(status)
 }
 
 #[cfg(test)]

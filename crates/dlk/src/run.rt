@@ -24,13 +24,13 @@ use std::alloc::Global;
 use std::sync::ledger::Ledger;
 
 /// The status where an input could not be read.
-const READ_FAULT: u8 = 4;
+pub const READ_FAULT: u8 = 4;
 
 /// The status where the answer could not be given.
-const WRITE_FAULT: u8 = 5;
+pub const WRITE_FAULT: u8 = 5;
 
 /// The status where memory ran out.
-const NO_MEMORY: u8 = 6;
+pub const NO_MEMORY: u8 = 6;
 
 /// Reads these files in order, each to its end or to one byte past its limit.
 fn read_inputs<D: Desk>(
