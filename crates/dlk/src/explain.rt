@@ -13,10 +13,10 @@ const FORMS: [&str; 8] = [
     "  dlk check MODEL TERM             replays a proof term, and prints whether the model is closed",
     "  dlk report MODEL TERM            the same as JSON",
     "  dlk smt MODEL TERM               replays a proof term, and prints its leaves for a solver",
-    "  dlk prove MODEL STRATEGY OUTPUT  runs a strategy, writes the term that it makes, and prints as check does",
+    "  dlk prove MODEL STRATEGY TERM    runs a strategy, writes the term that it makes, and prints as check does",
     "  dlk print FILE                   prints an expression's canonical text",
     "  dlk vars FILE                    prints an expression's free, bound and must-bound variables, and its symbols",
-    "  dlk subst FILE PAIRS             applies a substitution to an expression",
+    "  dlk subst FILE SUBST             applies a substitution to an expression",
 ];
 
 fn forms<E: Eprint>(to: &E) -> Result<()> {
