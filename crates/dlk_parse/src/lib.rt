@@ -14,7 +14,9 @@ mod texts;
 pub use dlk_grammar::{Dots, Form};
 pub use fault::{ParseFault, TextFault};
 pub use readers::{expression, extra, formula, program, sequent, substitution, term};
-pub use texts::{read_expression, read_extra, read_formula, read_sequent, read_substitution};
+pub use texts::{
+    read_expression, read_extra, read_formula, read_sequent, read_substitution, read_term,
+};
 
 #[cfg(test)]
 mod tests;

@@ -38,6 +38,18 @@ pub fn read_formula<S: Store>(alloc: Global, bytes: &[u8], store: &mut S) -> Res
     Ok(id)
 }
 
+/// The term that the bytes are a text of. Argument dots and `_` are not in the grammar. The errors are those of `read_formula`.
+pub fn read_term<S: Store>(alloc: Global, bytes: &[u8], store: &mut S) -> Result<Id, TextFault>
+    ensures found { IfOk result (λ id. (t : Tree) × TreeText form_of.Term Refused bytes.now t × StandsFor (S.trees store.new) id t) }
+    ensures fault { IfErr result (IsTextFaultOf (TreeTextFault form_of.Term Refused bytes.now)) }
+    ensures unmade { IfErr result (UnlessTextMemory (store.new ≡ store.old)) }
+    ensures grows { S.grows store.old store.new }
+{
+    let tokens = tokens(alloc, bytes)?;
+    let id = tree_of(alloc, Form::Term, tokens, Dots::Refused, store)?;
+    Ok(id)
+}
+
 /// The formula, the program, or the term that is no formula, of which the bytes are a text. The errors are those of
 /// `read_formula`.
 pub fn read_expression<S: Store>(
