@@ -10,6 +10,7 @@ use Rattle.dlk_calculus.specs.Steps.{Step, Start, StepOf}
 use Rattle.dlk_rules.specs.declared.arguments.Side.{Side}
 use Rattle.dlk_rules.specs.declared.arguments.Side.TheVariants.{Left, Right}
 use Rattle.dlk_tacsyn.specs.Tactics.{Argument, AtPlace, AnyLeft, AnyRight, Word, GivenFormula, GivenTerm, GivenExtra, Atom, Tactic, Choice, Sequence, Branch, Repeat, One, Tactics, no_parts, part, count}
+use Rattle.dlk_library.specs.Expanded.{Expanded}
 use Rattle.dlk_elab.specs.Atoms.{AtomSteps, AtomFault}
 use Rattle.dlk_strategy.specs.declared.fault.FailWhy.{FailWhy}
 use Rattle.dlk_strategy.specs.declared.fault.FailWhy.TheVariants.{WrongCount, NoPlace}
@@ -183,8 +184,15 @@ abbrev mutual
   OnOwn no_parts goal left = Ends left
   OnOwn (part t rest) goal left = Then (Runs t 1 (goal + left)) (λ new. OnOwn rest goal (left + new))
 
--- RunsModel strategy formula outcome: from the step that states the formula, what becomes of its one goal
-pub record RunsModel (strategy : Tactic) (formula : Tree) (outcome : Outcome) : Type 0 where
+-- RunsPlain strategy formula outcome: from the step that states the formula, what becomes of its one goal, where no name of the library stands in
+-- the strategy
+pub record RunsPlain (strategy : Tactic) (formula : Tree) (outcome : Outcome) : Type 0 where
   pub provable : Provable
   pub start : StepOf [] (Start (record { ante = []; succ = formula ∷ [] })) provable
   pub run : Runs strategy 1 1 (record { steps = Start (record { ante = []; succ = formula ∷ [] }) ∷ []; rows = provable ∷ []; used = 0 }) outcome
+
+-- RunsModel strategy formula outcome: the same of each strategy. Names of the library run what they stand for.
+pub record RunsModel (strategy : Tactic) (formula : Tree) (outcome : Outcome) : Type 0 where
+  pub expansion : Tactic
+  pub expanded : Expanded strategy expansion
+  pub runs : RunsPlain expansion formula outcome

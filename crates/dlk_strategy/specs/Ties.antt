@@ -7,7 +7,7 @@ use Rattle.dlk_rules.specs.Steps.{step_at, HasKnownIds}
 use Rattle.dlk_kernel.specs.Kernel.{State, facts, ExtendsRows, SameRows}
 use Rattle.dlk_tacsyn.specs.declared.tactic.Tactic.{Tactic}
 use Rattle.dlk_tacsyn.specs.Tactics.{Tactic as TreeTactic, Choice as TheChoice, Sequence, Branch as TheBranch, Repeat as TheRepeat, One as TheOne, Tactics, no_parts, part, count}
-use Rattle.dlk_tacsyn.specs.Rows.{AreFitting}
+use Rattle.dlk_tacsyn.specs.Rows.{AreFitting, AreOfText}
 use Rattle.dlk_tacsyn.specs.Ties.{tactic_at, TacticIsKnown}
 use Rattle.dlk_strategy.specs.declared.fault.FailWhy.{FailWhy}
 use Rattle.dlk_strategy.specs.declared.fault.RunFault.{RunFault}
@@ -64,6 +64,11 @@ pub record IsBack {S : Type 0} (trees : S → List Tree) (old_kernel : State S) 
 pub record IsRunnable (trees : List Tree) (t : Tactic) : Type 0 where
   pub known : TacticIsKnown trees t
   pub fitting : AreFitting (tactic_at trees t)
+
+-- the strategy's ids are known, and its atoms those of a text
+pub record IsStrategy (trees : List Tree) (t : Tactic) : Type 0 where
+  pub known : TacticIsKnown trees t
+  pub of_text : AreOfText (tactic_at trees t)
 
 -- strategies in a list
 abbrev pub tactics_of : List Tree → List Tactic → Tactics

@@ -7,7 +7,7 @@ ghost use Rattle.dlk_calculus.specs.Provables.{Provable};
 ghost use Rattle.dlk_calculus.specs.Sequents.{IsFormula, alone_right};
 ghost use Rattle.dlk_calculus.specs.Steps.{IsProper};
 ghost use Rattle.dlk_kernel.specs.Taken.{Takes};
-ghost use Rattle.dlk_tacsyn.specs.Rows.{AreFitting};
+ghost use Rattle.dlk_tacsyn.specs.Rows.{AreOfText};
 ghost use Rattle.dlk_tacsyn.specs.Tactics.{Tactic, EachAtom};
 ghost use Rattle.dlk_elab.specs.Atoms.{HasNames};
 ghost use Rattle.dlk_elab.specs.Symbols.{ReplacesSymbols};
@@ -15,6 +15,7 @@ ghost use Rattle.dlk_strategy.specs.Runs.{Progress, Outcome, Done, RunsModel};
 
 use dlk_calculus::laws::{derived_formulas, history_derives, one_provable};
 use dlk_elab::{atom_has_symbols, atom_is_taken, atom_replaces_goal, one_atom, some_atom};
+use dlk_library::laws::{expansion_fits, one_expansion, some_expansion};
 
 /// The steps of a run that is done are taken in turn, and give its rows. Their names are names, and their replacements well made.
 pub fn run_is_taken()
@@ -32,6 +33,7 @@ pub fn run_has_symbols()
     atom_is_taken();
     history_derives();
     derived_formulas();
+    expansion_fits();
     atom_has_symbols();
 }
 
@@ -46,16 +48,19 @@ pub fn run_shows_formula()
 pub fn one_outcome()
     ensures { (t : Tactic) (formula : Tree) (a b : Outcome) → RunsModel t formula a → RunsModel t formula b → a ≡ b }
 {
+    one_expansion();
     one_atom();
     one_provable();
 }
 
-/// A strategy whose atoms are fitting, with names that are names, has an outcome on each formula within the limits.
+/// A strategy whose atoms are those of a text, with names that are names, has an outcome on each formula within the limits.
 pub fn some_outcome()
-    ensures { (t : Tactic) (formula : Tree) → AreFitting t → EachAtom HasNames t → IsFormula formula → IsSmall formula → IsShallow formula → (o : Outcome) × RunsModel t formula o }
+    ensures { (t : Tactic) (formula : Tree) → AreOfText t → EachAtom HasNames t → IsFormula formula → IsSmall formula → IsShallow formula → (o : Outcome) × RunsModel t formula o }
 {
     atom_is_taken();
     history_derives();
     derived_formulas();
+    some_expansion();
+    expansion_fits();
     some_atom();
 }

@@ -5,13 +5,15 @@ ghost use Rattle.dlk_calculus.specs.Sequents.{IsFormula};
 ghost use Rattle.dlk_store.specs.Stores.{IsId, tree};
 ghost use Rattle.dlk_rules.specs.Steps.{HasKnownIds};
 ghost use Rattle.dlk_tacsyn.specs.Ties.{tactic_at};
-ghost use Rattle.dlk_strategy.specs.Runs.{Done as IsDone, RunsModel};
-ghost use Rattle.dlk_strategy.specs.Ties.{progress_at, IsRunnable, IsRunFaultOf};
+ghost use Rattle.dlk_strategy.specs.Runs.{Done as IsDone, RunsModel, RunsPlain};
+ghost use Rattle.dlk_strategy.specs.Ties.{progress_at, IsRunnable, IsStrategy, IsRunFaultOf};
 
 use crate::fault::RunFault;
 use crate::running::run_on;
 use crate::trace::Trace;
 use dlk_kernel::{Fact, Kernel, Step, StepFault};
+use dlk_library::expanded;
+use dlk_library::laws::expansion_fits;
 use dlk_sequent::Sequent;
 use dlk_store::{Id, Steps, Store};
 use dlk_tacsyn::Tactic;
@@ -29,7 +31,7 @@ pub struct Done {
 
 /// Runs a strategy on the model, on a kernel without rows. The first step states the model, and the others are those of the strategy's atoms.
 /// The model is a formula without argument dots or `_` within the limits. The ids are those of this kernel's store, and the strategy's atoms
-/// are fitting. After a refusal the kernel has no rows.
+/// are those of a text: names of the library run what they stand for. After a refusal the kernel has no rows.
 ///
 /// # Errors
 ///
@@ -44,7 +46,7 @@ pub fn run_strategy<S: Store, L: Ledger>(
     steps: &mut Steps<L>,
 ) -> Result<Done, RunFault>
     requires none { kernel.old.rows ≡ [] }
-    requires runnable { IsRunnable (S.trees kernel.old.store) strategy.now }
+    requires runnable { IsStrategy (S.trees kernel.old.store) strategy.now }
     requires model { IsId (S.trees kernel.old.store) model }
     requires formula { IsFormula (tree (S.trees kernel.old.store) model) }
     requires small { IsSmall (tree (S.trees kernel.old.store) model) }
@@ -56,7 +58,9 @@ pub fn run_strategy<S: Store, L: Ledger>(
     ensures err { OnErr result (kernel.new.rows ≡ []) }
     ensures grows { S.grows kernel.old.store kernel.new.store }
 {
-    match run_model(alloc, strategy, kernel, model, steps) {
+    expansion_fits();
+    let expansion = expanded(alloc, strategy, &*kernel)?;
+    match run_model(alloc, &expansion, kernel, model, steps) {
         Ok(trace) => Ok(Done {
             fact: kernel.rows(),
             steps: trace.steps,
@@ -68,7 +72,7 @@ pub fn run_strategy<S: Store, L: Ledger>(
     }
 }
 
-/// The same, but for the rows that a refusal leaves.
+/// The same where no name of the library stands in the strategy, but for the rows that a refusal leaves.
 fn run_model<S: Store, L: Ledger>(
     alloc: Global,
     strategy: &Tactic,
@@ -82,9 +86,9 @@ fn run_model<S: Store, L: Ledger>(
     requires formula { IsFormula (tree (S.trees kernel.old.store) model) }
     requires small { IsSmall (tree (S.trees kernel.old.store) model) }
     requires shallow { IsShallow (tree (S.trees kernel.old.store) model) }
-    ensures done { IfOk result (λ trace. (left : ℕ) × RunsModel (tactic_at (S.trees kernel.old.store) strategy.now) (tree (S.trees kernel.old.store) model) (IsDone (progress_at S.trees kernel.new trace.steps.items trace.used) left)) }
+    ensures done { IfOk result (λ trace. (left : ℕ) × RunsPlain (tactic_at (S.trees kernel.old.store) strategy.now) (tree (S.trees kernel.old.store) model) (IsDone (progress_at S.trees kernel.new trace.steps.items trace.used) left)) }
     ensures known { IfOk result (λ trace. All (HasKnownIds (S.trees kernel.new.store)) trace.steps.items) }
-    ensures fault { IfErr result (IsRunFaultOf (RunsModel (tactic_at (S.trees kernel.old.store) strategy.now) (tree (S.trees kernel.old.store) model))) }
+    ensures fault { IfErr result (IsRunFaultOf (RunsPlain (tactic_at (S.trees kernel.old.store) strategy.now) (tree (S.trees kernel.old.store) model))) }
     ensures grows { S.grows kernel.old.store kernel.new.store }
 {
     let start = Step::Start(Sequent::alone_right(alloc, model)?);

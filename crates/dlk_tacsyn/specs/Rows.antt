@@ -1,14 +1,15 @@
--- The names of atoms, and the arguments that each wants.
-use Rattle.std.specs.Prelude.{◌≡◌, ℕ, List, [], ◌∷◌, Option, Some, None, option_map, ◌||◌, if◌then◌else◌, Bool, true, All, IsTrue, bytes_eq, codes}
+-- The names of atoms and those of the library, and the arguments that each wants.
+use Rattle.std.specs.Prelude.{◌≡◌, ◌⊎◌, ℕ, List, [], ◌∷◌, Option, Some, None, option_map, ◌||◌, if◌then◌else◌, Bool, true, All, IsTrue, bytes_eq, codes}
 use Rattle.dlk_tree.specs.Names.{is_name}
 use Rattle.dlk_tree.specs.Table.{is_sym}
+use Rattle.dlk_tree.specs.Trees.{WellMade}
 use Rattle.dlk_calculus.specs.Pairs.{Pair, Extra, AreWellMade}
 use Rattle.dlk_calculus.specs.Sequents.{IsFormula}
 use Rattle.dlk_rules.specs.declared.arguments.Shape.{Shape}
 use Rattle.dlk_rules.specs.declared.arguments.Shape.TheVariants as shape
 use Rattle.dlk_rules.specs.Words.{wanted, named}
 use Rattle.dlk_tacsyn.specs.declared.kind.Kind.{Kind}
-use Rattle.dlk_tacsyn.specs.declared.kind.Kind.TheVariants.{FixedPlace, AnyPlace, QuotedFormula, AName, QuotedExtra}
+use Rattle.dlk_tacsyn.specs.declared.kind.Kind.TheVariants.{FixedPlace, AnyPlace, QuotedFormula, QuotedTerm, AName, QuotedExtra}
 use Rattle.dlk_tacsyn.specs.Tactics.{Argument, AtPlace, AnyLeft, AnyRight, Word, GivenFormula, GivenTerm, GivenExtra, Atom, Tactic, EachAtom}
 
 -- what an atom wants, in this order, and what may follow
@@ -47,6 +48,33 @@ row_of name =
     else if is_use name then Some (record { wanted = AName ∷ AnyPlace ∷ []; optional = Some QuotedExtra })
     else option_map (λ word. wants (kinds_of (wanted word))) (named name)
 
+-- the names of strategies that want a place alone
+abbrev pub is_at_place : List ℕ → Bool
+is_at_place name = bytes_eq name (codes "dW") || bytes_eq name (codes "dI") || bytes_eq name (codes "step")
+
+-- the names of strategies that want a formula and a place
+abbrev pub is_with_formula : List ℕ → Bool
+is_with_formula name = bytes_eq name (codes "loop") || bytes_eq name (codes "dC")
+
+-- The arguments of a name of the library, which stands for a strategy: none for `prop`, a place for `dW`, `dI` and `step`, a formula and a place
+-- for `loop` and `dC`, and a name, two terms and a place for `dG`. Its places are no locators. No other name is in the library.
+unfoldable pub library_row_of : List ℕ → Option Row
+library_row_of name =
+    if bytes_eq name (codes "prop") then Some (wants [])
+    else if is_at_place name then Some (wants (FixedPlace ∷ []))
+    else if is_with_formula name then Some (wants (QuotedFormula ∷ FixedPlace ∷ []))
+    else if bytes_eq name (codes "dG") then Some (wants (AName ∷ QuotedTerm ∷ QuotedTerm ∷ FixedPlace ∷ []))
+    else None
+
+-- the first, and where there is none the other
+abbrev pub or_else : Option Row → Option Row → Option Row
+or_else (Some row) other = Some row
+or_else None other = other
+
+-- The arguments of a name in a text: that of an atom, or one of the library. No name is both.
+unfoldable pub text_row_of : List ℕ → Option Row
+text_row_of name = or_else (row_of name) (library_row_of name)
+
 -- a place, which may have a path and lie on either side
 abbrev pub IsPlace : Argument → Type 0
 IsPlace (AtPlace place path) = Unit {0}
@@ -77,6 +105,16 @@ IsGivenFormula (GivenFormula h) = IsFormula h
 IsGivenFormula (GivenTerm e) = ⊥
 IsGivenFormula (GivenExtra extra) = ⊥
 
+-- a term
+abbrev pub IsGivenTerm : Argument → Type 0
+IsGivenTerm (AtPlace place path) = ⊥
+IsGivenTerm AnyLeft = ⊥
+IsGivenTerm AnyRight = ⊥
+IsGivenTerm (Word name) = ⊥
+IsGivenTerm (GivenFormula h) = ⊥
+IsGivenTerm (GivenTerm e) = WellMade e
+IsGivenTerm (GivenExtra extra) = ⊥
+
 abbrev pub IsWord : Argument → Type 0
 IsWord (AtPlace place path) = ⊥
 IsWord AnyLeft = ⊥
@@ -101,6 +139,7 @@ abbrev pub IsOfKind : Kind → Argument → Type 0
 IsOfKind FixedPlace argument = IsPlace argument
 IsOfKind AnyPlace argument = IsPlaceOrLocator argument
 IsOfKind QuotedFormula argument = IsGivenFormula argument
+IsOfKind QuotedTerm argument = IsGivenTerm argument
 IsOfKind AName argument = IsWord argument
 IsOfKind QuotedExtra argument = IsGivenExtra argument
 
@@ -121,6 +160,20 @@ pub record IsFitting (atom : Atom) : Type 0 where
 -- each atom of the strategy is fitting
 abbrev pub AreFitting : Tactic → Type 0
 AreFitting t = EachAtom IsFitting t
+
+-- a name of the library, with arguments of the number and the kinds of its row
+pub record IsLibraryCall (atom : Atom) : Type 0 where
+  pub row : Row
+  pub row_is : library_row_of atom.name ≡ Some row
+  pub arguments : AreOfKinds row.wanted row.optional atom.arguments
+
+-- an atom of a text: a fitting one, or a name of the library
+abbrev pub IsOfText : Atom → Type 0
+IsOfText atom = IsFitting atom ⊎ IsLibraryCall atom
+
+-- each atom of the strategy is one
+abbrev pub AreOfText : Tactic → Type 0
+AreOfText t = EachAtom IsOfText t
 
 -- both names are names
 abbrev pub IsRename : List ℕ × List ℕ → Type 0

@@ -2,7 +2,7 @@
 use Rattle.std.specs.Prelude.{◌≡◌, ℕ, ◌+◌, nat_le, nat_lt, List, [], ◌∷◌, ◌++◌, Option, Some, None, option_map, option_and_then, MatchOption, if◌then◌else◌}
 use Rattle.dlk_tree.specs.Trees.{Tree}
 use Rattle.dlk_calculus.specs.Pairs.{Extra}
-use Rattle.dlk_grammar.specs.declared.token.Form.TheVariants.{Formula}
+use Rattle.dlk_grammar.specs.declared.token.Form.TheVariants.{Formula, Term}
 use Rattle.dlk_grammar.specs.declared.token.Dots.TheVariants.{Refused}
 use Rattle.dlk_grammar.specs.Texts.{TreeText, ExtraText}
 use Rattle.dlk_sequent.specs.declared.sequent.Place.{Place}
@@ -10,13 +10,13 @@ use Rattle.dlk_sequent.specs.declared.sequent.Place.TheVariants.{Ante, Succ}
 use Rattle.dlk_scripts.specs.Scripts as script
 use Rattle.dlk_scripts.specs.Texts.{IsScript, Stops}
 use Rattle.dlk_tacsyn.specs.declared.kind.Kind.{Kind}
-use Rattle.dlk_tacsyn.specs.declared.kind.Kind.TheVariants.{FixedPlace, AnyPlace, QuotedFormula, AName, QuotedExtra}
+use Rattle.dlk_tacsyn.specs.declared.kind.Kind.TheVariants.{FixedPlace, AnyPlace, QuotedFormula, QuotedTerm, AName, QuotedExtra}
 use Rattle.dlk_tacsyn.specs.declared.argument.Written.{Written}
 use Rattle.dlk_tacsyn.specs.declared.argument.Written.TheVariants as written
-use Rattle.dlk_tacsyn.specs.Tactics.{Argument, AtPlace, AnyLeft, AnyRight, Word, GivenFormula, GivenExtra, Tactic, Choice, Sequence, Branch, Repeat}
+use Rattle.dlk_tacsyn.specs.Tactics.{Argument, AtPlace, AnyLeft, AnyRight, Word, GivenFormula, GivenTerm, GivenExtra, Tactic, Choice, Sequence, Branch, Repeat}
 use Rattle.dlk_tacsyn.specs.Tactics.{One, Tactics}
 use Rattle.dlk_tacsyn.specs.Tactics.{no_parts, part}
-use Rattle.dlk_tacsyn.specs.Rows.{Row, row_of}
+use Rattle.dlk_tacsyn.specs.Rows.{Row, text_row_of}
 use Rattle.dlk_tacsyn.specs.Faults.{Fault, Nesting, UnknownAtom, Arguments}
 use Rattle.dlk_tacsyn.specs.Faults as fault
 
@@ -108,9 +108,11 @@ quoted_of make read written.AnyRight = None
 quoted_of make read (written.Word x) = None
 quoted_of make read (written.Quoted text) = option_map make (read text)
 
--- How quoted texts are read: the formula of each text that is read as one, and the names and pairs of each text that is read as these.
+-- How quoted texts are read: the formula and the term of each text that is read as one, and the names and pairs of each text that is read as
+-- these.
 pub record Reading : Type 0 where
   pub formula : List ℕ → Option Tree
+  pub term : List ℕ → Option Tree
   pub extra : List ℕ → Option Extra
 
 module _ (read : Reading) where
@@ -118,6 +120,7 @@ module _ (read : Reading) where
   argument_of FixedPlace w = place_of w
   argument_of AnyPlace w = place_or_locator_of w
   argument_of QuotedFormula w = quoted_of GivenFormula read.formula w
+  argument_of QuotedTerm w = quoted_of GivenTerm read.term w
   argument_of AName w = word_of w
   argument_of QuotedExtra w = quoted_of GivenExtra read.extra w
 
@@ -141,9 +144,9 @@ module _ (read : Reading) where
   atom_by at name ws None = Fails (UnknownAtom at)
   atom_by at name ws (Some row) = atom_given at name (arguments_of row.wanted row.optional ws)
 
-  -- the atom of this name, which stands at this byte
+  -- the atom of this name, or the name of the library, which stands at this byte
   abbrev pub atom_of : ℕ → List ℕ → List Written → Outcome Tactic
-  atom_of at name ws = atom_by at name ws (row_of name)
+  atom_of at name ws = atom_by at name ws (text_row_of name)
 
   -- What the parts of a text say, one case a production, in so many open brackets.
   abbrev mutual
@@ -181,10 +184,11 @@ module _ (read : Reading) where
 abbrev pub IsSaid : {A : Type 0} → (A → Type 0) → Option A → Type 0
 IsSaid {A} Is found = MatchOption found ((a : A) → ¬ Is a) Is
 
--- each text as the formula that it says, in which no argument dot and no `_` stands, if it says one, and as the names with new names and the
--- pairs that it says, if it says these
+-- each text as the formula and as the term that it says, in which no argument dot and no `_` stands, if it says one, and as the names with new
+-- names and the pairs that it says, if it says these
 pub record IsReading (read : Reading) : Type 0 where
   pub formulas : (text : List ℕ) → IsSaid (λ (h : Tree). TreeText Formula Refused text h) (read.formula text)
+  pub terms : (text : List ℕ) → IsSaid (λ (e : Tree). TreeText Term Refused text e) (read.term text)
   pub extras : (text : List ℕ) → IsSaid (λ (e : Extra). ExtraText text e) (read.extra text)
 
 -- the bytes are a text of the grammar, and this becomes of it

@@ -13,7 +13,7 @@ use crate::fault::TacSyntax;
 use crate::kind::{Kind, Row};
 use crate::tactic::Arg;
 use dlk_machine::laws::{extra_texts, tree_texts};
-use dlk_parse::{TextFault, read_extra, read_formula};
+use dlk_parse::{TextFault, read_extra, read_formula, read_term};
 use dlk_scripts::{PartKind, Quoted};
 use dlk_sequent::{Extra, Listed, Place};
 use dlk_store::{Id, Store};
@@ -194,6 +194,13 @@ fn argument<S: Store>(
             }
             _ => Err(TacSyntax::Arguments { at }),
         },
+        Kind::QuotedTerm => match written {
+            Written::Quoted(text) => {
+                let id = term(alloc, at, text.bytes(), store)?;
+                Ok(Arg::Term(id))
+            }
+            _ => Err(TacSyntax::Arguments { at }),
+        },
         Kind::AName => match written {
             Written::Word(x) => Ok(Arg::Word(x)),
             _ => Err(TacSyntax::Arguments { at }),
@@ -217,6 +224,20 @@ fn formula<S: Store>(alloc: Global, at: usize, text: &[u8], store: &mut S) -> Re
 {
     tree_texts();
     match read_formula(alloc, text, store) {
+        Ok(id) => Ok(id),
+        Err(fault) => Err(unread(at, fault)),
+    }
+}
+
+/// The term of a quoted text.
+fn term<S: Store>(alloc: Global, at: usize, text: &[u8], store: &mut S) -> Result<Id, TacSyntax>
+    ensures found { IfOk result (λ id. ByReading (λ read. read.term text.now ≡ Some (tree (S.trees store.new) id))) }
+    ensures known { IfOk result (IsId (S.trees store.new)) }
+    ensures fault { IfErr result (IsTacSyntaxOf (λ f. (f ≡ Arguments at) × ByReading (λ read. read.term text.now ≡ None))) }
+    ensures grows { S.grows store.old store.new }
+{
+    tree_texts();
+    match read_term(alloc, text, store) {
         Ok(id) => Ok(id),
         Err(fault) => Err(unread(at, fault)),
     }

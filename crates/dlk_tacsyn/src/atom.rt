@@ -7,14 +7,14 @@ ghost use Rattle.dlk_tacsyn.specs.States.{ByReading};
 
 use crate::argument::{Written, arguments};
 use crate::fault::TacSyntax;
-use crate::kind::row_of;
+use crate::kind::text_row_of;
 use crate::tactic::{Atom, Tactic};
 use dlk_sequent::Listed;
 use dlk_store::Store;
 use dlk_tree::Name;
 use std::alloc::Global;
 
-/// The atom of this name, which is at this byte, with these arguments. A quoted text is read once the name is known.
+/// The atom of this name, or the name of the library, which is at this byte, with these arguments. A quoted text is read once the name is known.
 pub(crate) fn atom<S: Store>(
     alloc: Global,
     at: usize,
@@ -27,7 +27,7 @@ pub(crate) fn atom<S: Store>(
     ensures fault { IfErr result (IsTacSyntaxOf (λ f. ByReading (λ read. atom_of read at name written ≡ Fails f))) }
     ensures grows { S.grows store.old store.new }
 {
-    let Some(row) = row_of(&name) else {
+    let Some(row) = text_row_of(&name) else {
         return Err(TacSyntax::UnknownAtom { at });
     };
     let args = arguments(alloc, at, row, written, store)?;

@@ -110,10 +110,7 @@ impl Frame {
     {
         match self.opened {
             Opened::Group => choice(self.branches),
-            Opened::Fork(at) => Tactic::Branch {
-                at,
-                parts: self.branches,
-            },
+            Opened::Fork(at) => Tactic::branch(at, self.branches),
         }
     }
 }
@@ -125,7 +122,7 @@ fn choice(parts: Vec<Tactic>) -> Tactic
 {
     match only(parts) {
         Ok(part) => part,
-        Err(parts) => Tactic::Choice(parts),
+        Err(parts) => Tactic::choice(parts),
     }
 }
 
@@ -136,7 +133,7 @@ fn sequence(parts: Vec<Tactic>) -> Tactic
 {
     match only(parts) {
         Ok(part) => part,
-        Err(parts) => Tactic::Seq(parts),
+        Err(parts) => Tactic::sequence(parts),
     }
 }
 

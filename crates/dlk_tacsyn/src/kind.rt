@@ -1,7 +1,7 @@
-//! The names of atoms and the arguments that they want.
+//! The names of atoms and those of the library, and the arguments that they want.
 ghost use Rattle.std.specs.Prelude.{◌≡◌, ◌∷◌, List, IfNone, IfSome, None, Some};
 ghost use Rattle.dlk_tacsyn.specs.declared.argument.Written.{Written};
-ghost use Rattle.dlk_tacsyn.specs.Rows.{is_bare, is_use, kinds_of, row_of, wants};
+ghost use Rattle.dlk_tacsyn.specs.Rows.{is_at_place, is_bare, is_use, is_with_formula, kinds_of, library_row_of, row_of, text_row_of, wants};
 ghost use Rattle.dlk_tacsyn.specs.Strategies.{Reading, followed, arguments_of};
 ghost use Rattle.dlk_tacsyn.specs.Ties.{row_at};
 
@@ -17,6 +17,8 @@ pub enum Kind {
     AnyPlace,
     /// A formula in quotes, in which no argument dot and no `_` stands.
     QuotedFormula,
+    /// A term in quotes, in which no argument dot stands.
+    QuotedTerm,
     /// A name.
     AName,
     /// Names with their new names, and pairs, in quotes.
@@ -88,7 +90,7 @@ fn is_use(name: &str) -> bool
 }
 
 /// The arguments that the atom of this name wants. None comes where no atom has the name.
-pub(crate) fn row_of(name: &Name) -> Option<Row>
+fn row_of(name: &Name) -> Option<Row>
     ensures none { IfNone result (row_of name.now ≡ None) }
     ensures found { IfSome result (λ row. row_of name.now ≡ Some (row_at row)) }
 {
@@ -115,4 +117,58 @@ pub(crate) fn row_of(name: &Name) -> Option<Row>
         return None;
     };
     Some(wants(kinds_of(word.shape())))
+}
+
+/// Whether this name of the library wants a place alone.
+fn is_at_place(name: &str) -> bool
+    ensures { result ≡ is_at_place name.now }
+{
+    name == "dW" || name == "dI" || name == "step"
+}
+
+/// Whether this name of the library wants a formula and a place.
+fn is_with_formula(name: &str) -> bool
+    ensures { result ≡ is_with_formula name.now }
+{
+    name == "loop" || name == "dC"
+}
+
+/// The arguments that this name of the library wants. None comes where the library doesn't have the name.
+fn library_row_of(name: &Name) -> Option<Row>
+    ensures none { IfNone result (library_row_of name.now ≡ None) }
+    ensures found { IfSome result (λ row. library_row_of name.now ≡ Some (row_at row)) }
+{
+    name.is_name();
+    let Ok(text) = str::from_utf8(name.bytes()) else {
+        return None;
+    };
+    if text == "prop" {
+        return Some(wants(&[]));
+    }
+    if is_at_place(text) {
+        return Some(wants(&[Kind::FixedPlace]));
+    }
+    if is_with_formula(text) {
+        return Some(wants(&[Kind::QuotedFormula, Kind::FixedPlace]));
+    }
+    if text == "dG" {
+        return Some(wants(&[
+            Kind::AName,
+            Kind::QuotedTerm,
+            Kind::QuotedTerm,
+            Kind::FixedPlace,
+        ]));
+    }
+    None
+}
+
+/// The arguments that this name wants in a text: that of an atom, or one of the library. None comes where it is neither.
+pub(crate) fn text_row_of(name: &Name) -> Option<Row>
+    ensures none { IfNone result (text_row_of name.now ≡ None) }
+    ensures found { IfSome result (λ row. text_row_of name.now ≡ Some (row_at row)) }
+{
+    match row_of(name) {
+        Some(row) => Some(row),
+        None => library_row_of(name),
+    }
 }

@@ -1,7 +1,7 @@
 //! The laws of strategies. Each is a contract of a function that does nothing but call the laws below it.
 ghost use Rattle.std.specs.Prelude.{◌≡◌, ◌⊎◌, ℕ, List};
 ghost use Rattle.dlk_tacsyn.specs.Tactics.{Tactic as TreeTactic, EachAtom, IsShaped};
-ghost use Rattle.dlk_tacsyn.specs.Rows.{AreFitting, HasNames};
+ghost use Rattle.dlk_tacsyn.specs.Rows.{AreOfText, HasNames};
 ghost use Rattle.dlk_tacsyn.specs.Faults.{Fault};
 ghost use Rattle.dlk_tacsyn.specs.Strategies.{StrategyText, StrategyFault};
 
@@ -30,10 +30,10 @@ pub fn strategy_or_fault()
     script_or_stop();
 }
 
-/// What a text says as a strategy is fit to be run: its atoms are of known names and have the arguments of their rows, each name
-/// among these is one, and its branches stand where branches may.
+/// What a text says as a strategy is fit to be run: its atoms are of known names, those of the library among them, and have the arguments of
+/// their rows, each name among these is one, and its branches stand where branches may.
 pub fn fit_strategy()
-    ensures fitting { (bytes : List ℕ) (t : TreeTactic) → StrategyText bytes t → AreFitting t }
+    ensures fitting { (bytes : List ℕ) (t : TreeTactic) → StrategyText bytes t → AreOfText t }
     ensures names { (bytes : List ℕ) (t : TreeTactic) → StrategyText bytes t → EachAtom HasNames t }
     ensures shaped { (bytes : List ℕ) (t : TreeTactic) → StrategyText bytes t → IsShaped t }
 {

@@ -1,7 +1,7 @@
 //! Reads the texts of strategies.
 ghost use Rattle.std.specs.Prelude.{◌≡◌, IfOk, IfErr};
 ghost use Rattle.dlk_tacsyn.specs.Faults.{IsTacSyntaxOf};
-ghost use Rattle.dlk_tacsyn.specs.Rows.{AreFitting};
+ghost use Rattle.dlk_tacsyn.specs.Rows.{AreOfText};
 ghost use Rattle.dlk_tacsyn.specs.Strategies.{Says, Fails, StrategyText, StrategyFault};
 ghost use Rattle.dlk_tacsyn.specs.Ties.{tactic_at, TacticIsKnown};
 ghost use Rattle.dlk_tacsyn.specs.Steps.{outcome_of};
@@ -26,7 +26,7 @@ use std::alloc::Global;
 pub fn strategy<S: Store>(alloc: Global, bytes: &[u8], store: &mut S) -> Result<Tactic, TacSyntax>
     ensures found { IfOk result (λ t. StrategyText bytes.now (tactic_at (S.trees store.new) t)) }
     ensures known { IfOk result (TacticIsKnown (S.trees store.new)) }
-    ensures fitting { IfOk result (λ t. AreFitting (tactic_at (S.trees store.new) t)) }
+    ensures fitting { IfOk result (λ t. AreOfText (tactic_at (S.trees store.new) t)) }
     ensures fault { IfErr result (IsTacSyntaxOf (StrategyFault bytes.now)) }
     ensures grows { S.grows store.old store.new }
 {

@@ -1,0 +1,4 @@
+pub mod Parts
+pub mod Library
+pub mod Expanded
+pub mod Generated
