@@ -2,6 +2,7 @@ ghost use Rattle.std.specs.Prelude.{◌≡◌};
 ghost use Rattle.dlk_strategy.specs.declared.fault.RunFault.TheVariants.{Memory};
 
 use dlk_calculus::Reason;
+use dlk_store::StoreFault;
 use std::alloc::{AllocError, AllocFailed};
 use thiserror::Error;
 
@@ -45,6 +46,14 @@ impl<T: Drop> From<AllocFailed<T>> for RunFault {
     ghost from_gives = { λ _ e. e ≡ Memory };
 
     fn from(_: AllocFailed<T>) -> RunFault {
+        RunFault::Memory
+    }
+}
+
+impl From<StoreFault> for RunFault {
+    ghost from_gives = { λ _ e. e ≡ Memory };
+
+    fn from(_: StoreFault) -> RunFault {
         RunFault::Memory
     }
 }
