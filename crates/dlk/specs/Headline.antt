@@ -8,7 +8,7 @@ use Rattle.dlk_replay.specs.Files.{Verdict, bad, file_lines}
 use Rattle.dlk_replay.specs.declared.fault.LineWhy.{LineWhy}
 use Rattle.dlk_report.specs.Reports.{text_report}
 use Rattle.dlk_answers.specs.declared.command.Command.{Command}
-use Rattle.dlk_answers.specs.declared.command.Command.TheVariants.{Check, Print, Vars, Subst, Report, Smt, Prove}
+use Rattle.dlk_answers.specs.declared.command.Command.TheVariants.{Check, Print, Vars, Subst, Report, Smt, Prove, Gen}
 use Rattle.dlk_answers.specs.declared.reply.Layout.{Layout}
 use Rattle.dlk_answers.specs.declared.reply.Layout.TheVariants.{Text, Json}
 use Rattle.dlk_answers.specs.declared.reply.Showing.TheVariants.{Reported}
@@ -37,6 +37,7 @@ SpeaksOf Subst words old new model term = ⊥
 SpeaksOf Report words old new model term = ⊥
 SpeaksOf Smt words old new model term = ⊥
 SpeaksOf Prove words old new model term = WritesTerm words old new model term
+SpeaksOf Gen words old new model term = ⊥
 
 -- what is printed of a text by the status: with 0 the whole, and with 5 a front
 pub data IsGiven (whole : List ℕ) : ℕ → List ℕ → Type 0 where

@@ -8,7 +8,7 @@ use std::io::{Eprint, Result};
 pub const NO_WORDS: u8 = 7;
 
 /// The forms of the words, a line each, with what each does.
-const FORMS: [&str; 8] = [
+const FORMS: [&str; 9] = [
     "dlk: the words have none of these forms, in which - is standard input:",
     "  dlk check MODEL TERM             replays a proof term, and prints whether the model is closed",
     "  dlk report MODEL TERM            the same as JSON",
@@ -17,6 +17,7 @@ const FORMS: [&str; 8] = [
     "  dlk print FILE                   prints an expression's canonical text",
     "  dlk vars FILE                    prints an expression's free, bound and must-bound variables, and its symbols",
     "  dlk subst FILE SUBST             applies a substitution to an expression",
+    "  dlk gen N                        proves a made model of N assignments, from 1 to 500, and checks the term",
 ];
 
 fn forms<E: Eprint>(to: &E) -> Result<()> {

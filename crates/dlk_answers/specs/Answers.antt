@@ -1,7 +1,7 @@
 -- What the program answers to its words and to the texts of its inputs.
 use Rattle.std.specs.Prelude.{◌≡◌, ℕ, List, [], ◌∷◌, ◌++◌, Some, None, codes}
 use Rattle.dlk_answers.specs.declared.command.Command.{Command}
-use Rattle.dlk_answers.specs.declared.command.Command.TheVariants.{Check, Print, Vars, Subst, Report, Smt, Prove}
+use Rattle.dlk_answers.specs.declared.command.Command.TheVariants.{Check, Print, Vars, Subst, Report, Smt, Prove, Gen}
 use Rattle.dlk_answers.specs.declared.reply.Layout.TheVariants.{Text, Json}
 use Rattle.dlk_answers.specs.declared.reply.Showing.TheVariants.{Reported, Exported}
 use Rattle.dlk_answers.specs.Forms.{Word, inputs_of, others_of, limits_of}
@@ -12,6 +12,8 @@ use Rattle.dlk_answers.specs.Prints.{Prints}
 use Rattle.dlk_answers.specs.Lists.{Lists}
 use Rattle.dlk_answers.specs.Substitutes.{Substitutes}
 use Rattle.dlk_answers.specs.Proves.{Proves}
+use Rattle.dlk_answers.specs.Generates.{Generates}
+use Rattle.dlk_grammar.specs.Tokens.{value}
 
 abbrev pub too_long : Word → Reply
 too_long name = refusal (codes "too-long " ++ name)
@@ -27,6 +29,8 @@ Does Report [] (model ∷ term ∷ []) reply = Checks (Reported Json) model term
 Does Smt [] (model ∷ term ∷ []) reply = Checks Exported model term reply
 -- the word behind the inputs is the name of the term's file
 Does Prove (term ∷ []) (model ∷ strategy ∷ []) reply = Proves model strategy reply
+-- the word behind no inputs is the number
+Does Gen (word ∷ []) [] reply = Generates (value word) reply
 Does _ _ _ reply = ⊥
 
 -- what a command answers to its words and its inputs' texts

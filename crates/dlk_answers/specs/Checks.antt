@@ -1,4 +1,4 @@
--- What `check`, `report` and `smt` answer to a model and a term.
+-- What `check`, `report` and `smt` answer to a model and a term, and `gen` to those that it makes.
 use Rattle.std.specs.Prelude.{◌≡◌, ◌≢◌, ℕ, Bool, true, false, List, [], ◌∷◌, ◌++◌, length, Option, Some, None, codes, decimal}
 use Rattle.dlk_tree.specs.Trees.{Tree}
 use Rattle.dlk_calculus.specs.Sequents.{Sequent}
@@ -10,14 +10,14 @@ use Rattle.dlk_grammar.specs.Shown.{spell, shown_sequent}
 use Rattle.dlk_smt.specs.Smt.{first_power, leaves_lines}
 use Rattle.dlk_replay.specs.Files.{Verdict, accepted, bad, file_lines, line_why_text}
 use Rattle.dlk_replay.specs.declared.fault.LineWhy.{LineWhy}
-use Rattle.dlk_report.specs.Reports.{line, Parts, is_closed, parts_of, report_of}
+use Rattle.dlk_report.specs.Reports.{line, Parts, is_closed, first_word, parts_of, report_of}
 use Rattle.dlk_report.specs.Json.{json_of}
 use Rattle.dlk_answers.specs.declared.reply.Layout.{Layout}
 use Rattle.dlk_answers.specs.declared.reply.Layout.TheVariants.{Text, Json}
 use Rattle.dlk_answers.specs.declared.reply.Showing.{Showing}
-use Rattle.dlk_answers.specs.declared.reply.Showing.TheVariants.{Reported, Exported}
+use Rattle.dlk_answers.specs.declared.reply.Showing.TheVariants.{Reported, Exported, Summed}
 use Rattle.dlk_answers.specs.declared.reply.Status.{Status}
-use Rattle.dlk_answers.specs.declared.reply.Status.TheVariants.{Closed, Open, Refused}
+use Rattle.dlk_answers.specs.declared.reply.Status.TheVariants.{Closed, Done, Open, Refused}
 use Rattle.dlk_answers.specs.declared.form.Role.TheVariants.{Model}
 use Rattle.dlk_answers.specs.Replies.{Reply, printing, refusal}
 use Rattle.dlk_answers.specs.Refusals.{text_refused}
@@ -71,10 +71,21 @@ script_or_refusal None p = printing (status_of (is_closed p.goals)) (leaves_line
 abbrev pub exported : Provable → Reply
 exported p = script_or_refusal (first_power 1 p.leaves) p
 
+-- what is summed up of a provable that so many lines have shown, of a model of n assignments: generated N, lines N, leaves N, and the first line of
+-- the report
+abbrev pub summary : ℕ → Provable → ℕ → List ℕ
+summary n p lines =
+    line (codes "generated " ++ decimal n)
+    ++ (line (codes "lines " ++ decimal lines) ++ (line (codes "leaves " ++ decimal (length p.leaves)) ++ line (first_word (is_closed p.goals))))
+
+abbrev pub summed : ℕ → Provable → ℕ → Reply
+summed n p lines = printing Done (summary n p lines)
+
 -- what is shown of a provable that so many lines have shown
 abbrev pub answered : Showing → Provable → ℕ → Reply
 answered (Reported layout) p lines = reported layout p lines
 answered Exported p lines = exported p
+answered (Summed n) p lines = summed n p lines
 
 -- the term is accepted: each of its lines but `done` is a step, and the last of the rows is p, at this line
 pub record Accepts (term : List ℕ) (rows : List Provable) (p : Provable) : Type 0 where

@@ -11,5 +11,6 @@ pub mod Substitutes
 pub mod Looks
 pub mod Proves
 pub mod Proved
+pub mod Generates
 pub mod Answers
 pub mod Shown

@@ -9,8 +9,9 @@ ghost use Rattle.dlk_answers.specs.Shown.{texts_of, reply_of};
 
 use crate::command::Command;
 use crate::fault::NoReply;
-use crate::form::Role;
+use crate::form::{Role, count_of};
 use crate::jobs::check::check;
+use crate::jobs::generate::generated;
 use crate::jobs::print::print;
 use crate::jobs::prove::prove;
 use crate::jobs::subst::subst;
@@ -89,6 +90,7 @@ fn job<L: Ledger>(
         ),
         (Command::Smt, [], [model, term]) => check(alloc, Showing::Exported, model, term, steps),
         (Command::Prove, [_], [model, strategy]) => prove(alloc, model, strategy, steps),
+        (Command::Gen, [count], []) => generated(alloc, count_of(count), steps),
         _ => unreachable!(),
     }
 }

@@ -1,5 +1,5 @@
 // The commands, and what their words name.
-ghost use Rattle.std.specs.Prelude.{◌≡◌, length, map, string_bytes, None, Some, IsTrue, option_copied};
+ghost use Rattle.std.specs.Prelude.{◌≡◌, [], length, map, string_bytes, None, Some, IsTrue, option_copied};
 ghost use Rattle.dlk_answers.specs.Forms.{form_of, inputs_of, others_of, output_named, output_of, ends_in, commands, command_of};
 ghost use Rattle.dlk_answers.specs.Inputs.{output};
 ghost use Rattle.dlk_answers.specs.Shown.{form_shown};
@@ -23,9 +23,11 @@ pub enum Command {
     Smt,
     /// Runs a strategy on a model, writes the term that it makes, and prints the report.
     Prove,
+    /// Makes a model of so many assignments and a strategy, proves it, checks the term that this makes, and prints a summary.
+    Gen,
 }
 
-const COMMANDS: [Command; 7] = [
+const COMMANDS: [Command; 8] = [
     Command::Check,
     Command::Print,
     Command::Vars,
@@ -33,6 +35,7 @@ const COMMANDS: [Command; 7] = [
     Command::Report,
     Command::Smt,
     Command::Prove,
+    Command::Gen,
 ];
 
 /// The form of a command that ends with its inputs.
@@ -57,6 +60,17 @@ fn writing(verb: &'static str, inputs: &'static [Role]) -> Form
     }
 }
 
+/// The form of a command without inputs that ends with a number.
+fn counting(verb: &'static str) -> Form
+    ensures { form_shown result ≡ record { verb = verb.now; inputs = []; last = Some Last.Number } }
+{
+    Form {
+        verb,
+        inputs: &[],
+        last: Some(Last::Number),
+    }
+}
+
 impl Command {
     /// The form of its words.
     pub fn form(self) -> Form
@@ -70,6 +84,7 @@ impl Command {
             Command::Report => reading("report", &[Role::Model, Role::Term]),
             Command::Smt => reading("smt", &[Role::Model, Role::Term]),
             Command::Prove => writing("prove", &[Role::Model, Role::Strategy]),
+            Command::Gen => counting("gen"),
         }
     }
 

@@ -2,6 +2,7 @@
 ghost use Rattle.std.specs.Prelude.{◌≡◌};
 ghost use Rattle.dlk_answers.specs.declared.fault.NoReply.TheVariants.{Memory};
 
+use dlk_library::GenFault;
 use dlk_print::PrintFault;
 use dlk_report::ReportFault;
 use dlk_store::StoreFault;
@@ -51,6 +52,14 @@ impl From<ReportFault> for NoReply {
     ghost from_gives = { λ _ e. e ≡ Memory };
 
     fn from(_: ReportFault) -> NoReply {
+        NoReply::Memory
+    }
+}
+
+impl From<GenFault> for NoReply {
+    ghost from_gives = { λ _ e. e ≡ Memory };
+
+    fn from(_: GenFault) -> NoReply {
         NoReply::Memory
     }
 }

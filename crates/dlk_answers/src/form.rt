@@ -1,7 +1,7 @@
 // The forms of words: a verb, a word for each input, and then at most one word of another kind.
-ghost use Rattle.std.specs.Prelude.{◌≡◌, ◌<◌, ◌^◌, map, string_bytes};
+ghost use Rattle.std.specs.Prelude.{◌≡◌, ◌<◌, ◌≤◌, ◌-◌, ◌^◌, map, string_bytes, IsTrue};
 ghost use Rattle.dlk_tree.specs.Names.{is_between};
-ghost use Rattle.dlk_grammar.specs.Tokens.{is_digit};
+ghost use Rattle.dlk_grammar.specs.Tokens.{is_digit, value};
 ghost use Rattle.dlk_answers.specs.Forms.{word_of, limit_of, is_count, is_last, ends_in, has_form};
 ghost use Rattle.dlk_answers.specs.Shown.{form_shown};
 
@@ -67,6 +67,30 @@ fn is_count(word: &str) -> bool
         }
         _ => false,
     }
+}
+
+/// The number that a word writes which is one from 1 to 500.
+pub(crate) fn count_of(word: &str) -> u32
+    requires { IsTrue (is_count word.now) }
+    ensures count { result ≡ value word.now }
+    ensures first { 1 ≤ result }
+    ensures last { result ≤ 500 }
+{
+    match word.as_bytes() {
+        [first] => digit(*first),
+        [first, second] => 10 * digit(*first) + digit(*second),
+        [first, second, third] => 10 * (10 * digit(*first) + digit(*second)) + digit(*third),
+        _ => unreachable!(),
+    }
+}
+
+/// What a digit counts.
+fn digit(byte: u8) -> u32
+    requires { IsTrue (is_digit byte) }
+    ensures count { result ≡ byte - 48 }
+    ensures few { result ≤ 9 }
+{
+    byte as u32 - 48
 }
 
 fn is_between(low: u8, high: u8, byte: u8) -> bool

@@ -19,6 +19,8 @@ pub enum Showing {
     Reported(Layout),
     /// Its leaves, as a script for a solver.
     Exported,
+    /// How many lines and leaves it has and whether it is closed, and that its model has so many assignments.
+    Summed(u32),
 }
 
 /// How a command ended that was carried out.

@@ -13,6 +13,7 @@ ghost use Rattle.dlk_answers.specs.Shown.{reply_of};
 
 use crate::fault::NoReply;
 use crate::form::Role;
+use crate::jobs::generate::sum_up;
 use crate::jobs::smt::export;
 use crate::refusal::{refuse_text, refused};
 use crate::reply::{Layout, Reply, Showing, Status, printing};
@@ -125,6 +126,7 @@ fn show<S: Store, L: Ledger>(
     match showing {
         Showing::Reported(layout) => report(alloc, layout, kernel, fact, lines, steps),
         Showing::Exported => export(alloc, kernel, fact, steps),
+        Showing::Summed(count) => sum_up(alloc, count, kernel, fact, lines),
     }
 }
 

@@ -1,4 +1,5 @@
 pub mod check;
+pub mod generate;
 pub mod print;
 pub mod prove;
 pub mod smt;
