@@ -4,7 +4,7 @@ _dlk() {
   local word=${COMP_WORDS[COMP_CWORD]} files=0
   COMPREPLY=()
   if [ "$COMP_CWORD" -eq 1 ]; then
-    mapfile -t COMPREPLY < <(compgen -W 'check report smt print vars subst prove' -- "$word")
+    mapfile -t COMPREPLY < <(compgen -W 'check report smt print vars subst prove gen' -- "$word")
     return
   fi
   case ${COMP_WORDS[1]} in

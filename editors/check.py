@@ -5,7 +5,7 @@
 
 The keywords, operators and brackets of models come from the table of docs/LANGUAGE.md, the words of term lines from
 docs/FILES.md, rules from there and from the drawings of docs/CALCULUS.md, axioms and axiomatic rules from its tables, and
-atoms from docs/STRATEGIES.md. Each set must be the same in the files for Vim and in those for editors that take TextMate
+atoms and the names of the library from docs/STRATEGIES.md. Each set must be the same in the files for Vim and in those for editors that take TextMate
 grammars. The numbers of premises in tools/prooftree.py are compared with the drawings, and the commands of the man page
 and of the completions with those of README.md.
 """
@@ -87,6 +87,7 @@ def documented():
         "axioms": {spans(row[0])[0] for row in rows(calculus, "| Name | Form | Formula | It says |")},
         "axiomatic rules": {spans(row[0])[0] for row in rows(calculus, "| Name | Premise | Conclusion | It says |")},
         "atoms": atoms,
+        "names of the library": set().union(*(names(row[0]) for row in rows(strategies, "| Name | Stands for |"))),
     }
 
 
@@ -131,6 +132,7 @@ def vim():
         "axioms": vim_words("dlkterm.vim", "dlkAxiom"),
         "axiomatic rules": vim_words("dlkterm.vim", "dlkAxiomaticRule"),
         "atoms": vim_words("dlkstrategy.vim", "dlkAtom", "dlkRule"),
+        "names of the library": vim_words("dlkstrategy.vim", "dlkLibrary"),
     }
 
 
@@ -159,6 +161,7 @@ def textmate():
         "axioms": group_of(term["axiom"], 1),
         "axiomatic rules": group_of(term["rule"], 1),
         "atoms": group_of(strategy["use"], 0) | group_of(strategy["atom"], 0) | group_of(strategy["rule"], 0),
+        "names of the library": group_of(strategy["library"], 0),
     }
 
 

@@ -17,6 +17,9 @@ syn keyword dlkAtom nil leaf G boxCut
 syn keyword dlkAtom useAt useBack nextgroup=dlkUse skipwhite skipempty
 syn match dlkUse /(/ contained nextgroup=dlkAxiom skipwhite skipempty
 
+" The names of the library
+syn keyword dlkLibrary loop dW dC dI dG step prop
+
 " The rules of a sequent
 syn keyword dlkRule closeFalse notL andL orL implyL equivL hideL skolemL commuteEquivL closeTrue notR andR orR
 syn keyword dlkRule implyR equivR hideR coHideR skolemR equivifyR commuteEquivR close exchangeL exchangeR boundL
@@ -34,6 +37,7 @@ hi def link dlkLocator Special
 hi def link dlkQuoted String
 hi def link dlkRemark Comment
 hi def link dlkAtom Statement
+hi def link dlkLibrary Macro
 hi def link dlkRule Function
 hi def link dlkAxiom Identifier
 
