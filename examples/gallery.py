@@ -32,9 +32,9 @@ def fault(folder, term):
     return ""
 
 
-def count(report, word):
-    """How many there are of what a report counts."""
-    return next(line.removeprefix(f"{word} ") for line in report.split("\n") if line.startswith(f"{word} "))
+def counts(report):
+    """What a report counts, in a line."""
+    return ", ".join(line for line in report.split("\n") if line.startswith(("leaves ", "lines ")))
 
 
 def is_right(folder, options):
@@ -48,8 +48,7 @@ def is_right(folder, options):
         if wrong:
             print(f"{folder.name}: {wrong}", flush=True)
             return False
-        report = (folder / "report").read_text()
-        print(f"{folder.name}: closed, {count(report, 'leaves')} leaves, {count(report, 'lines')} lines", flush=True)
+        print(f"{folder.name}: closed, {counts((folder / 'report').read_text())}", flush=True)
         return not options.leaves or solved(PROGRAM, folder.name, folder / "model", term)
 
 
