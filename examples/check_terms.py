@@ -10,13 +10,11 @@ show. Where z3 or cvc5 is there, the leaves of each are given to it, and a line 
 import json
 import pathlib
 import shutil
-import subprocess
-import sys
 import tempfile
 
-EXAMPLES = pathlib.Path(__file__).resolve().parent
+from running import EXAMPLES, answer, solved
+
 PROGRAM = EXAMPLES.parent / "crates" / "dlk" / "out" / "dlk"
-LEAVES = EXAMPLES.parent / "tools" / "leaves.py"
 TESTS = EXAMPLES.parent / "crates" / "dlk_answers" / "src"
 
 
@@ -27,10 +25,10 @@ def stop(example, message):
 
 def printed(verb, example):
     """What a command prints of an example."""
-    run = subprocess.run([PROGRAM, verb, example / "model", example / "term"], capture_output=True, check=False)
-    if run.returncode != 0:
-        stop(example, f"status {run.returncode}, {run.stdout.decode().strip()}")
-    return run.stdout.decode()
+    status, text = answer(PROGRAM, verb, example / "model", example / "term")
+    if status != 0:
+        stop(example, f"status {status}, {text.strip()}")
+    return text
 
 
 def as_text(report):
@@ -56,10 +54,10 @@ def proved(example, text):
         term = pathlib.Path(folder) / "term"
         reports = []
         for words in (["prove", example / "model", example / "strategy", term], ["check", example / "model", term]):
-            run = subprocess.run([PROGRAM, *words], capture_output=True, check=False)
-            if run.returncode != 0 or but_lines(run.stdout.decode()) != but_lines(text):
-                stop(example, f"{words[0]}: status {run.returncode}, {run.stdout.decode().strip()}")
-            reports.append(run.stdout)
+            status, said = answer(PROGRAM, *words)
+            if status != 0 or but_lines(said) != but_lines(text):
+                stop(example, f"{words[0]}: status {status}, {said.strip()}")
+            reports.append(said)
         if reports[0] != reports[1]:
             stop(example, "the written term has another report")
 
@@ -75,17 +73,6 @@ def checked(example):
     if (example / "strategy").exists():
         proved(example, text)
     return report
-
-
-def solved(example):
-    """What a solver says of the leaves of an example, in a line, where there is one; nothing where it has no leaves."""
-    run = subprocess.run([sys.executable, LEAVES, "--json", example / "model", example / "term"], capture_output=True, check=False)
-    said = json.loads(run.stdout) if run.stdout else {}
-    words = [leaf["answer"] for leaf in said.get("leaves", [])]
-    if words:
-        counts = ", ".join(f"{words.count(word)} {word}" for word in dict.fromkeys(words))
-        solvers = sorted({solver for leaf in said["leaves"] for solver in leaf["by"]})
-        print(f"{example.relative_to(EXAMPLES)}: leaves by {' and '.join(solvers) or 'no solver'}: {counts}")
 
 
 def folders(pattern):
@@ -110,7 +97,7 @@ def main():
             stop(example, "it proves something else than false")
     if any(map(shutil.which, ("z3", "cvc5"))):
         for example in examples + constants + unsound:
-            solved(example)
+            solved(PROGRAM, example.relative_to(EXAMPLES), example / "model", example / "term")
     print(f"{len(examples) + len(constants)} terms, each closed; and {len(unsound)} of false, which are closed too")
 
 

@@ -1,0 +1,69 @@
+#!/usr/bin/env python3
+"""Proves each model of `examples/gallery` by its strategy, and checks the term that is written.
+
+    python3 examples/gallery.py [--leaves] [--write] [NAME..]
+
+What `prove` prints must be the folder's `report`, byte for byte, and so must what `check` prints of the term. A line says
+so of each folder, or of those that are named, and the last line how many are as they should be; the exit status is 1
+where not all are. The program is `./dlk`, which is built where it isn't there, or the one that DLK names.
+
+With --leaves a solver is asked for the leaves, and each must be valid. With --write each report is written anew.
+"""
+import argparse
+import os
+import pathlib
+import tempfile
+
+from running import EXAMPLES, answer, solved
+
+GALLERY = EXAMPLES / "gallery"
+PROGRAM = pathlib.Path(os.environ.get("DLK", EXAMPLES.parent / "dlk")).resolve()
+
+
+def fault(folder, term):
+    """What is wrong with a folder's proof, in a line, or nothing. The term is written to a file."""
+    report = (folder / "report").read_text() if (folder / "report").exists() else ""
+    for words in (["prove", folder / "model", folder / "strategy", term], ["check", folder / "model", term]):
+        status, said = answer(PROGRAM, *words)
+        if status != 0:
+            return f"{words[0]} ends with status {status}: {said.partition(chr(10))[0]}"
+        if said != report:
+            return f"{words[0]} prints another report"
+    return ""
+
+
+def counts(report):
+    """What a report counts, in a line."""
+    return ", ".join(line for line in report.split("\n") if line.startswith(("leaves ", "lines ")))
+
+
+def is_right(folder, options):
+    """Whether all is as it should be with a folder; a line says so."""
+    with tempfile.TemporaryDirectory() as place:
+        term = pathlib.Path(place) / "term"
+        if options.write:
+            said = answer(PROGRAM, "prove", folder / "model", folder / "strategy", term)[1]
+            (folder / "report").write_text(said)
+        wrong = fault(folder, term)
+        if wrong:
+            print(f"{folder.name}: {wrong}", flush=True)
+            return False
+        print(f"{folder.name}: closed, {counts((folder / 'report').read_text())}", flush=True)
+        return not options.leaves or solved(PROGRAM, folder.name, folder / "model", term)
+
+
+def main():
+    """Looks at each folder."""
+    parser = argparse.ArgumentParser(description="Proves each model of examples/gallery.")
+    parser.add_argument("names", nargs="*", metavar="NAME", help="a folder of the gallery (all)")
+    parser.add_argument("--leaves", action="store_true", help="ask a solver for the leaves")
+    parser.add_argument("--write", action="store_true", help="write the reports")
+    options = parser.parse_args()
+    folders = [GALLERY / name for name in options.names] or sorted(model.parent for model in GALLERY.glob("*/model"))
+    right = [folder for folder in folders if is_right(folder, options)]
+    print(f"{len(right)} of {len(folders)}")
+    return 0 if len(right) == len(folders) else 1
+
+
+if __name__ == "__main__":
+    raise SystemExit(main())
