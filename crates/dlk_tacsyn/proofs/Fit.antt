@@ -19,7 +19,7 @@ use Rattle.dlk_tacsyn.specs.declared.argument.Written.{Written}
 use Rattle.dlk_tacsyn.specs.declared.argument.Written.TheVariants as written
 use Rattle.dlk_tacsyn.specs.Tactics.{Argument, Atom, Tactic, Tactics, Choice, Sequence, Branch, Repeat, EachAtom, EachAtomOf, AtPlace, AnyLeft}
 use Rattle.dlk_tacsyn.specs.Tactics.{AnyRight, Word, GivenFormula, GivenTerm, GivenExtra}
-use Rattle.dlk_tacsyn.specs.Rows.{Row, row_of, library_row_of, text_row_of, or_else, IsOfKind, AreOfKinds, IsFitting, IsLibraryCall, IsOfText, AreOfText, IsNamedExtra, IsNamed, HasNames}
+use Rattle.dlk_tacsyn.specs.Rows.{Row, row_of, library_row_of, text_row_of, or_else, IsOfKind, AreOfKinds, IsOfText, AreOfText, IsNamedExtra, IsNamed, HasNames}
 use Rattle.dlk_tacsyn.specs.Faults.{Nesting}
 use Rattle.dlk_tacsyn.specs.Faults as fault
 use Rattle.dlk_tacsyn.specs.Strategies.{Says, Reading, IsReading, IsSaid, most_open, most_times, parts, whole, all_written, place_of}
