@@ -1,11 +1,11 @@
 -- The atoms of a strategy have what each of them has as it is read.
-use Rattle.std.proofs.Common.{◌≡◌, ℕ, ◌+◌, List, [], ◌∷◌, ◌++◌, Option, Some, None, refl}
+use Rattle.std.proofs.Common.{◌≡◌, ℕ, ◌+◌, List, [], ◌∷◌, ◌++◌, Option, Some, None, refl, inl, inr, ◌⊎◌, ◌∙◌}
 use Rattle.std.specs.Prelude.{option_map, option_and_then, nat_lt, nat_le, All}
 use Rattle.std.proofs.lemmas.List.Elements.{All-nil, All-cons}
-use Rattle.dlk_tree.specs.Trees.{Tree}
+use Rattle.dlk_tree.specs.Trees.{Tree, WellMade}
 use Rattle.dlk_calculus.specs.Pairs.{Extra, AreWellMade}
 use Rattle.dlk_calculus.specs.Sequents.{IsFormula}
-use Rattle.dlk_grammar.specs.declared.token.Form.TheVariants.{Formula}
+use Rattle.dlk_grammar.specs.declared.token.Form.TheVariants.{Formula, Term}
 use Rattle.dlk_grammar.specs.declared.token.Dots.TheVariants.{Refused}
 use Rattle.dlk_grammar.specs.Texts.{TreeText, ExtraText}
 use Rattle.dlk_sequent.specs.declared.sequent.Place.{Place}
@@ -14,12 +14,12 @@ use Rattle.dlk_scripts.specs.Parts.{part}
 use Rattle.dlk_scripts.specs.Scripts as script
 use Rattle.dlk_scripts.specs.Scripts.{arguments_parts, script_parts, sequence_parts, scripts_parts, repeat_parts, primary_parts}
 use Rattle.dlk_tacsyn.specs.declared.kind.Kind.{Kind}
-use Rattle.dlk_tacsyn.specs.declared.kind.Kind.TheVariants.{FixedPlace, AnyPlace, QuotedFormula, AName, QuotedExtra}
+use Rattle.dlk_tacsyn.specs.declared.kind.Kind.TheVariants.{FixedPlace, AnyPlace, QuotedFormula, QuotedTerm, AName, QuotedExtra}
 use Rattle.dlk_tacsyn.specs.declared.argument.Written.{Written}
 use Rattle.dlk_tacsyn.specs.declared.argument.Written.TheVariants as written
 use Rattle.dlk_tacsyn.specs.Tactics.{Argument, Atom, Tactic, Tactics, Choice, Sequence, Branch, Repeat, EachAtom, EachAtomOf, AtPlace, AnyLeft}
-use Rattle.dlk_tacsyn.specs.Tactics.{AnyRight, Word, GivenFormula, GivenExtra}
-use Rattle.dlk_tacsyn.specs.Rows.{Row, row_of, IsOfKind, AreOfKinds, IsFitting, AreFitting, IsNamedExtra, IsNamed, HasNames}
+use Rattle.dlk_tacsyn.specs.Tactics.{AnyRight, Word, GivenFormula, GivenTerm, GivenExtra}
+use Rattle.dlk_tacsyn.specs.Rows.{Row, row_of, library_row_of, text_row_of, or_else, IsOfKind, AreOfKinds, IsOfText, AreOfText, IsNamedExtra, IsNamed, HasNames}
 use Rattle.dlk_tacsyn.specs.Faults.{Nesting}
 use Rattle.dlk_tacsyn.specs.Faults as fault
 use Rattle.dlk_tacsyn.specs.Strategies.{Says, Reading, IsReading, IsSaid, most_open, most_times, parts, whole, all_written, place_of}
@@ -147,9 +147,23 @@ module _ (P : Argument → Type 0) where
   then_holds Q R join (Some a) None h k = tt
   then_holds Q R join (Some a) (Some all) h k = join a all h k
 
+-- the row of a name in a text is that of an atom or one of the library
+either_row : (name : List ℕ) (row : Row) → text_row_of name ≡ Some row → (row_of name ≡ Some row) ⊎ (library_row_of name ≡ Some row)
+unfolding text_row_of
+either_row name row is = by (row_of name) refl is
+  where
+    by : (found : Option Row) → row_of name ≡ found → or_else found (library_row_of name) ≡ Some row →
+        (row_of name ≡ Some row) ⊎ (library_row_of name ≡ Some row)
+    by (Some r) e same = inl (e ∙ same)
+    by None e same = inr same
+
 any_formula : (found : Option Tree) → Holds (λ h. IsNamed (GivenFormula h)) found
 any_formula None = tt
 any_formula (Some h) = tt
+
+any_term : (found : Option Tree) → Holds (λ e. IsNamed (GivenTerm e)) found
+any_term None = tt
+any_term (Some e) = tt
 
 module _ (read : Reading) where
   module _ (renames : (s : List ℕ) → Holds (λ (e : Extra). IsNamedExtra e) (read.extra s)) where
@@ -157,6 +171,7 @@ module _ (read : Reading) where
     argument_named FixedPlace w h = place_holds IsNamed w (λ p path. tt)
     argument_named AnyPlace w h = locator_holds IsNamed w (λ p path. tt) tt tt
     argument_named QuotedFormula w h = quoted_holds IsNamed GivenFormula read.formula w (λ s. any_formula (read.formula s))
+    argument_named QuotedTerm w h = quoted_holds IsNamed GivenTerm read.term w (λ s. any_term (read.term s))
     argument_named AName w h = word_holds IsNamed w (λ x is. is) h
     argument_named QuotedExtra w h = quoted_holds IsNamed GivenExtra read.extra w renames
 
@@ -185,13 +200,15 @@ module _ (read : Reading) where
         given_named at name (arguments_of read row.wanted row.optional ws) (arguments_named row.wanted row.optional ws h)
 
     atom_named : (at : ℕ) (name : List ℕ) (ws : List Written) → AreNamedWritten ws → Gives (EachAtom HasNames) (atom_of read at name ws)
-    atom_named at name ws h = by_named at name ws h (row_of name)
+    atom_named at name ws h = by_named at name ws h (text_row_of name)
 
-  module _ (formulas : (s : List ℕ) → Holds IsFormula (read.formula s)) (pairs : (s : List ℕ) → Holds (λ (e : Extra). AreWellMade e.pairs) (read.extra s)) where
+  module _ (formulas : (s : List ℕ) → Holds IsFormula (read.formula s)) (terms : (s : List ℕ) → Holds WellMade (read.term s))
+      (pairs : (s : List ℕ) → Holds (λ (e : Extra). AreWellMade e.pairs) (read.extra s)) where
     argument_kind : (kind : Kind) (w : Written) → IsNamedWritten w → Holds (IsOfKind kind) (argument_of read kind w)
     argument_kind FixedPlace w h = place_holds (IsOfKind FixedPlace) w (λ p path. tt)
     argument_kind AnyPlace w h = locator_holds (IsOfKind AnyPlace) w (λ p path. tt) tt tt
     argument_kind QuotedFormula w h = quoted_holds (IsOfKind QuotedFormula) GivenFormula read.formula w formulas
+    argument_kind QuotedTerm w h = quoted_holds (IsOfKind QuotedTerm) GivenTerm read.term w terms
     argument_kind AName w h = word_holds (IsOfKind AName) w (λ x is. tt) h
     argument_kind QuotedExtra w h = quoted_holds (IsOfKind QuotedExtra) GivenExtra read.extra w pairs
 
@@ -216,19 +233,22 @@ module _ (read : Reading) where
     arguments_kinds (kind ∷ kinds) optional (w ∷ ws) h =
         then_kinds kind kinds optional w (arguments_of read kinds optional ws) h.0 (arguments_kinds kinds optional ws h.1)
 
-    given_fits : (at : ℕ) (name : List ℕ) (row : Row) → row_of name ≡ Some row → (all : Option (List Argument)) →
-        Holds (AreOfKinds row.wanted row.optional) all → Gives (EachAtom IsFitting) (atom_given read at name all)
+    given_fits : (at : ℕ) (name : List ℕ) (row : Row) → text_row_of name ≡ Some row → (all : Option (List Argument)) →
+        Holds (AreOfKinds row.wanted row.optional) all → Gives (EachAtom IsOfText) (atom_given read at name all)
     given_fits at name row row_is None h = tt
-    given_fits at name row row_is (Some all) h = record { row = row; row_is = row_is; arguments = h }
+    given_fits at name row row_is (Some all) h = elim (either_row name row row_is) [
+      | inl e ↦ inl (record { row = row; row_is = e; arguments = h })
+      | inr e ↦ inr (record { row = row; row_is = e; arguments = h })
+    ]
 
-    by_fits : (at : ℕ) (name : List ℕ) (ws : List Written) → AreNamedWritten ws → (row : Option Row) → row_of name ≡ row →
-        Gives (EachAtom IsFitting) (atom_by read at name ws row)
+    by_fits : (at : ℕ) (name : List ℕ) (ws : List Written) → AreNamedWritten ws → (row : Option Row) → text_row_of name ≡ row →
+        Gives (EachAtom IsOfText) (atom_by read at name ws row)
     by_fits at name ws h None e = tt
     by_fits at name ws h (Some row) e =
         given_fits at name row e (arguments_of read row.wanted row.optional ws) (arguments_kinds row.wanted row.optional ws h)
 
-    atom_fits : (at : ℕ) (name : List ℕ) (ws : List Written) → AreNamedWritten ws → Gives (EachAtom IsFitting) (atom_of read at name ws)
-    atom_fits at name ws h = by_fits at name ws h (row_of name) refl
+    atom_fits : (at : ℕ) (name : List ℕ) (ws : List Written) → AreNamedWritten ws → Gives (EachAtom IsOfText) (atom_of read at name ws)
+    atom_fits at name ws h = by_fits at name ws h (text_row_of name) refl
 
 -- what is read of a quoted text that says names and pairs
 extra_holds : (P : Extra → Type 0) → ((s : List ℕ) (e : Extra) → ExtraText s e → P e) → (read : Reading) → IsReading read → (s : List ℕ) →
@@ -239,6 +259,10 @@ formula_holds : ((s : List ℕ) (h : Tree) → TreeText Formula Refused s h → 
     Holds IsFormula (read.formula s)
 formula_holds law read reading s = said_holds (λ (h : Tree). TreeText Formula Refused s h) IsFormula (law s) (read.formula s) (reading.formulas s)
 
+term_holds : ((s : List ℕ) (e : Tree) → TreeText Term Refused s e → WellMade e) → (read : Reading) → IsReading read → (s : List ℕ) →
+    Holds WellMade (read.term s)
+term_holds law read reading s = said_holds (λ (e : Tree). TreeText Term Refused s e) WellMade (law s) (read.term s) (reading.terms s)
+
 pub text_named : (bytes : List ℕ) (t : Tactic) → StrategyText bytes t → EachAtom HasNames t
 text_named bytes t is =
     said_gives (EachAtom HasNames) (strategy_of is.read is.script) t is.outcome_is
@@ -246,9 +270,11 @@ text_named bytes t is =
     (atom_named is.read (extra_holds (λ (e : Extra). IsNamedExtra e) extra_text_named is.read is.reading)) is.script (named_parts bytes _ is.says.spelled))
 
 pub text_fits : ((s : List ℕ) (h : Tree) → TreeText Formula Refused s h → IsFormula h) →
-    ((s : List ℕ) (e : Extra) → ExtraText s e → AreWellMade e.pairs) → (bytes : List ℕ) (t : Tactic) → StrategyText bytes t → AreFitting t
-text_fits formulas pairs bytes t is =
-    said_gives (EachAtom IsFitting) (strategy_of is.read is.script) t is.outcome_is
-    (strategy_each IsFitting is.read
-    (atom_fits is.read (formula_holds formulas is.read is.reading) (extra_holds (λ (e : Extra). AreWellMade e.pairs) pairs is.read is.reading))
+    ((s : List ℕ) (e : Tree) → TreeText Term Refused s e → WellMade e) → ((s : List ℕ) (e : Extra) → ExtraText s e → AreWellMade e.pairs) →
+    (bytes : List ℕ) (t : Tactic) → StrategyText bytes t → AreOfText t
+text_fits formulas terms pairs bytes t is =
+    said_gives (EachAtom IsOfText) (strategy_of is.read is.script) t is.outcome_is
+    (strategy_each IsOfText is.read
+    (atom_fits is.read (formula_holds formulas is.read is.reading) (term_holds terms is.read is.reading)
+    (extra_holds (λ (e : Extra). AreWellMade e.pairs) pairs is.read is.reading))
     is.script (named_parts bytes _ is.says.spelled))

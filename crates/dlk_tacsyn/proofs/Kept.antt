@@ -46,12 +46,12 @@ module _ (trees : List Tree) where
   known_rows n (more_of-Tactic t rest) all =
       (All-head (TacticIsKnown trees) t _ all, known_rows _ rest (All-tail (TacticIsKnown trees) t _ all))
 
-  choice_at : (ts : Vec Tactic Global) → tactic_at trees (Choice ts) ≡ the.Choice (parts (map (tactic_at trees) ts.items))
+  pub choice_at : (ts : Vec Tactic Global) → tactic_at trees (Choice ts) ≡ the.Choice (parts (map (tactic_at trees) ts.items))
   choice_at ts =
       let row = row_in (Choice ts) in
       ap the.Choice (rows row.0 row.1 ∙ ap (λ items. parts (map (tactic_at trees) items)) (items_hidden-the_row-Tactic-0 ts))
 
-  sequence_at : (ts : Vec Tactic Global) → tactic_at trees (Seq ts) ≡ the.Sequence (parts (map (tactic_at trees) ts.items))
+  pub sequence_at : (ts : Vec Tactic Global) → tactic_at trees (Seq ts) ≡ the.Sequence (parts (map (tactic_at trees) ts.items))
   sequence_at ts =
       let row = row_in (Choice ts) in
       ap the.Sequence (rows row.0 row.1 ∙ ap (λ items. parts (map (tactic_at trees) items)) (items_hidden-the_row-Tactic-0 ts))
@@ -78,17 +78,12 @@ module _ (trees : List Tree) where
   several make (t ∷ []) more = absurd (more refl)
   several make (t ∷ u ∷ ts) more = refl
 
-  pub choice_whole : (ts : Vec Tactic Global) (ps : List Tactic) → ts.items ≡ ps → length ts.items ≢ 1 →
-      tactic_at trees (Choice ts) ≡ whole the.Choice (map (tactic_at trees) ps)
-  choice_whole ts ps same more =
-      choice_at ts ∙ several the.Choice (map (tactic_at trees) ts.items) (λ e. more (sym (length-map ts.items (tactic_at trees)) ∙ e))
-      ∙ ap (λ items. whole the.Choice (map (tactic_at trees) items)) same
-
-  pub sequence_whole : (ts : Vec Tactic Global) (ps : List Tactic) → ts.items ≡ ps → length ts.items ≢ 1 →
-      tactic_at trees (Seq ts) ≡ whole the.Sequence (map (tactic_at trees) ps)
-  sequence_whole ts ps same more =
-      sequence_at ts ∙ several the.Sequence (map (tactic_at trees) ts.items) (λ e. more (sym (length-map ts.items (tactic_at trees)) ∙ e))
-      ∙ ap (λ items. whole the.Sequence (map (tactic_at trees) items)) same
+  -- what is made of several parts is the whole of them
+  pub made_whole : (make : Tactics → the.Tactic) (t : Tactic) (ts ps : List Tactic) → ts ≡ ps → length ts ≢ 1 →
+      tactic_at trees t ≡ make (parts (map (tactic_at trees) ts)) → tactic_at trees t ≡ whole make (map (tactic_at trees) ps)
+  made_whole make t ts ps same more made =
+      made ∙ several make (map (tactic_at trees) ts) (λ e. more (sym (length-map ts (tactic_at trees)) ∙ e))
+      ∙ ap (λ items. whole make (map (tactic_at trees) items)) same
 
 below : (m n : ℕ) (k : ℕ) → m ≤ n → k < m → k < n
 below m n k le lt = omega arith

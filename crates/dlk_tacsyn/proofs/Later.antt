@@ -8,7 +8,7 @@ use Rattle.dlk_scripts.specs.Scripts as script
 use Rattle.dlk_scripts.specs.Texts.{IsPartsFaultOf, HasParts}
 use Rattle.dlk_tacsyn.specs.declared.argument.Written.{Written}
 use Rattle.dlk_tacsyn.specs.Tactics.{Argument, Tactic, Repeat}
-use Rattle.dlk_tacsyn.specs.Rows.{Row, row_of}
+use Rattle.dlk_tacsyn.specs.Rows.{Row, text_row_of}
 use Rattle.dlk_tacsyn.specs.Faults.{Fault, Nesting, UnknownAtom, Arguments, IsTacSyntaxOf, of_parts}
 use Rattle.dlk_tacsyn.specs.Faults as fault
 use Rattle.dlk_tacsyn.specs.Strategies.{Outcome, Reading, Says, Fails, ◌>>=◌, most_open, most_times, opened, all_written, arguments_of, atom_given}
@@ -73,8 +73,8 @@ module _ (read : Reading) where
     primary_later : (n : ℕ) (p : script.Primary) → IsLater (primary_of read n p)
     primary_later n (script.Group opens s close) =
         bind_later (opened n opens (choices_of read (n + 1) s)) _ (if_later (nat_lt n most_open) (choices_of read (n + 1) s) (Nesting opens) (choices_later (n + 1) s) tt) (λ ts. tt)
-    primary_later n (script.Atom at x) = by_later at x [] (row_of x)
-    primary_later n (script.Call at x opens l close) = by_later at x (all_written l) (row_of x)
+    primary_later n (script.Atom at x) = by_later at x [] (text_row_of x)
+    primary_later n (script.Call at x opens l close) = by_later at x (all_written l) (text_row_of x)
 
   pub strategy_later : (s : script.Script) → IsLater (strategy_of read s)
   strategy_later s = bind_later (choices_of read 0 s) _ (choices_later 0 s) (λ ts. tt)

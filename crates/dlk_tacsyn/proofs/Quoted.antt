@@ -13,7 +13,7 @@ use Rattle.dlk_tacsyn.specs.declared.kind.Kind.{Kind}
 use Rattle.dlk_tacsyn.specs.declared.fault.TacSyntax.{TacSyntax}
 use Rattle.dlk_tacsyn.specs.declared.fault.TacSyntax.TheVariants as fault
 use Rattle.dlk_tacsyn.specs.Tactics.{Argument, One}
-use Rattle.dlk_tacsyn.specs.Rows.{Row, row_of}
+use Rattle.dlk_tacsyn.specs.Rows.{Row, text_row_of}
 use Rattle.dlk_tacsyn.specs.Faults.{Fault, Arguments, UnknownAtom, IsTacSyntaxOf, of_text}
 use Rattle.dlk_tacsyn.specs.Strategies.{Reading, IsSaid, Says, Fails, argument_of, followed, arguments_of, atom_given, atom_by, atom_of}
 
@@ -71,15 +71,15 @@ module _ (read : Reading) where
       ∙ behind_next before a (others after) ∙ ap (λ z. behind z (others after)) ends
 
   pub atom_found : (at : ℕ) (name : List ℕ) (ws : List Written) (row : Row) (all : List Argument) →
-      row_of name ≡ Some row → arguments_of read row.wanted row.optional ws ≡ Some all →
+      text_row_of name ≡ Some row → arguments_of read row.wanted row.optional ws ≡ Some all →
       atom_of read at name ws ≡ Says (One (record { name = name; arguments = all; at = at }))
   atom_found at name ws row all row_is found = ap (atom_by read at name ws) row_is ∙ ap (atom_given read at name) found
 
-  pub atom_unknown : (at : ℕ) (name : List ℕ) (ws : List Written) → row_of name ≡ None → atom_of read at name ws ≡ Fails (UnknownAtom at)
+  pub atom_unknown : (at : ℕ) (name : List ℕ) (ws : List Written) → text_row_of name ≡ None → atom_of read at name ws ≡ Fails (UnknownAtom at)
   atom_unknown at name ws row = ap (atom_by read at name ws) row
 
   pub atom_unfit : (at : ℕ) (name : List ℕ) (ws : List Written) (row : Row) →
-      row_of name ≡ Some row → arguments_of read row.wanted row.optional ws ≡ None → atom_of read at name ws ≡ Fails (Arguments at)
+      text_row_of name ≡ Some row → arguments_of read row.wanted row.optional ws ≡ None → atom_of read at name ws ≡ Fails (Arguments at)
   atom_unfit at name ws row row_is found = ap (atom_by read at name ws) row_is ∙ ap (atom_given read at name) found
 
   pub arguments_left : (before : List Argument) (kinds : List Kind) (optional : Option Kind) (its : List Written) → length its ≡ 0 → 0 < length kinds →

@@ -2,7 +2,7 @@
 use Rattle.std.proofs.Common.{◌≡◌, ℕ, List, Option, Some, None, refl, ap, inl, inr, ◌⊎◌}
 use Rattle.dlk_tree.specs.Trees.{Tree}
 use Rattle.dlk_calculus.specs.Pairs.{Extra}
-use Rattle.dlk_grammar.specs.declared.token.Form.TheVariants.{Formula}
+use Rattle.dlk_grammar.specs.declared.token.Form.TheVariants.{Formula, Term}
 use Rattle.dlk_grammar.specs.declared.token.Dots.TheVariants.{Refused}
 use Rattle.dlk_grammar.specs.Texts.{TreeText, TreeTextFault, ExtraText, ExtraTextFault, TextFault}
 use Rattle.dlk_tacsyn.specs.Strategies.{Reading, IsReading, IsSaid}
@@ -16,6 +16,7 @@ pub record TextLaws {A : Type 0} (Says : List ℕ → A → Type 0) (Lacks : Lis
 -- the laws of the texts that are quoted
 pub record QuotedLaws : Type 0 where
   pub formulas : TextLaws (λ s (h : Tree). TreeText Formula Refused s h) (λ s why. TreeTextFault Formula Refused s why)
+  pub terms : TextLaws (λ s (e : Tree). TreeText Term Refused s e) (λ s why. TreeTextFault Term Refused s why)
   pub extras : TextLaws (λ s (e : Extra). ExtraText s e) (λ s why. ExtraTextFault s why)
 
 module _ {A : Type 0} (Says : List ℕ → A → Type 0) (Lacks : List ℕ → TextFault → Type 0) (laws : TextLaws Says Lacks) where
@@ -39,6 +40,7 @@ module _ (laws : QuotedLaws) where
   pub reads : Reading
   reads = record {
     formula = λ s. pick _ _ laws.formulas s (laws.formulas.some s);
+    term = λ s. pick _ _ laws.terms s (laws.terms.some s);
     extra = λ s. pick _ _ laws.extras s (laws.extras.some s);
   }
 
@@ -46,6 +48,7 @@ module _ (laws : QuotedLaws) where
   unfolding reads
   reads_all = record {
     formulas = λ s. picked _ _ laws.formulas s (laws.formulas.some s);
+    terms = λ s. picked _ _ laws.terms s (laws.terms.some s);
     extras = λ s. picked _ _ laws.extras s (laws.extras.some s);
   }
 
@@ -53,5 +56,6 @@ module _ (laws : QuotedLaws) where
   pub one_reading : (r q : Reading) → IsReading r → IsReading q → r ≡ q
   one_reading r q m n = λ i. record {
     formula = λ s. same_said _ _ laws.formulas s (r.formula s) (q.formula s) (m.formulas s) (n.formulas s) i;
+    term = λ s. same_said _ _ laws.terms s (r.term s) (q.term s) (m.terms s) (n.terms s) i;
     extra = λ s. same_said _ _ laws.extras s (r.extra s) (q.extra s) (m.extras s) (n.extras s) i;
   }

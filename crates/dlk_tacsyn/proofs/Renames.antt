@@ -1,6 +1,6 @@
 -- The names in a text of names and pairs are names, and what its pairs replace are symbols.
-use Rattle.std.proofs.Common.{◌≡◌, ◌≤◌, Bool, true, ℕ, ◌+◌, List, [], ◌∷◌, ◌++◌, All, refl, subst, arith}
-use Rattle.std.specs.Prelude.{IsTrue, ◌&&◌, nat_le}
+use Rattle.std.proofs.Common.{◌≡◌, ◌≤◌, true, ℕ, ◌+◌, List, [], ◌∷◌, ◌++◌, All, refl, subst, arith}
+use Rattle.std.specs.Prelude.{IsTrue, nat_le}
 use Rattle.std.proofs.lemmas.Bool.{le-leb}
 use Rattle.std.proofs.lemmas.List.Elements.{All-nil, All-cons, All-push, All-head, All-tail}
 use Rattle.dlk_tree.specs.Names.{is_name}

@@ -5,7 +5,7 @@ use Rattle.dlk_scripts.specs.Scripts as script
 use Rattle.dlk_tacsyn.specs.declared.argument.Written.{Written}
 use Rattle.dlk_tacsyn.specs.Tactics.{Argument, Tactic, Tactics, Choice, Sequence, Branch, Repeat, One, count, Position, Behind, Elsewhere, StandsAt}
 use Rattle.dlk_tacsyn.specs.Tactics.{StandAt, IsShaped}
-use Rattle.dlk_tacsyn.specs.Rows.{Row, row_of}
+use Rattle.dlk_tacsyn.specs.Rows.{Row, text_row_of}
 use Rattle.dlk_tacsyn.specs.Faults.{Nesting}
 use Rattle.dlk_tacsyn.specs.Faults as fault
 use Rattle.dlk_tacsyn.specs.Strategies.{Reading, Says, most_open, most_times, parts, whole, all_written, arguments_of, atom_given, atom_by, opened, choices_of}
@@ -100,8 +100,8 @@ module _ (read : Reading) where
         bind_gives (AreParts Elsewhere Elsewhere) IsShaped (opened n opens (choices_of read (n + 1) s)) _
         (if_gives (AreParts Elsewhere Elsewhere) (nat_lt n most_open) (choices_of read (n + 1) s) (Nesting opens) (choices_stand (n + 1) s))
         (λ ts k. choice_stands ts k)
-    primary_stands n (script.Atom at x) = by_stands at x [] (row_of x)
-    primary_stands n (script.Call at x opens l close) = by_stands at x (all_written l) (row_of x)
+    primary_stands n (script.Atom at x) = by_stands at x [] (text_row_of x)
+    primary_stands n (script.Call at x opens l close) = by_stands at x (all_written l) (text_row_of x)
 
   strategy_stands : (s : script.Script) → Gives IsShaped (strategy_of read s)
   strategy_stands s = bind_gives (AreParts Elsewhere Elsewhere) IsShaped (choices_of read 0 s) _ (choices_stand 0 s) (λ ts k. choice_stands ts k)

@@ -14,8 +14,8 @@ use Rattle.dlk_rules.specs.declared.rule.RuleWord.TheVariants as word
 use Rattle.dlk_rules.specs.Steps.{Template, WantsPlace, WantsTwoPlaces, WantsPlaceAndFormula, WantsFormula, WantsPlaceAndName, template}
 use Rattle.dlk_rules.specs.Words.{text_made, text_of, wanted, named}
 use Rattle.dlk_rules.proofs.WordLaws.{found_word}
-use Rattle.dlk_tacsyn.specs.declared.kind.Kind.TheVariants.{AnyPlace, QuotedFormula, AName, QuotedExtra}
-use Rattle.dlk_tacsyn.specs.Rows.{wants, is_bare, is_use, kinds_of, row_of}
+use Rattle.dlk_tacsyn.specs.declared.kind.Kind.TheVariants.{FixedPlace, AnyPlace, QuotedFormula, QuotedTerm, AName, QuotedExtra}
+use Rattle.dlk_tacsyn.specs.Rows.{Row, wants, is_bare, is_use, is_at_place, is_with_formula, kinds_of, row_of, library_row_of, text_row_of, or_else}
 
 word_named : (w : RuleWord) → named (text_of w) ≡ Some w
 word_named word.Close = refl
@@ -80,6 +80,44 @@ module _ (name : List ℕ) (bare : is_bare name ≡ false) where
 
         pub row_unnamed : ((rule : Rule) → word_of rule ≢ name) → row_of name ≡ None
         row_unnamed none = row_rule ∙ ap (option_map (λ v. wants (kinds_of (wanted v)))) (unnamed name none)
+
+-- the rows of the library
+pub library_bare : (name : List ℕ) → bytes_eq name (codes "prop") ≡ true → library_row_of name ≡ Some (wants [])
+unfolding library_row_of
+library_bare name same = cond-true (bytes_eq name (codes "prop")) _ _ same
+
+module _ (name : List ℕ) (bare : bytes_eq name (codes "prop") ≡ false) where
+  pub library_at_place : is_at_place name ≡ true → library_row_of name ≡ Some (wants (FixedPlace ∷ []))
+  unfolding library_row_of
+  library_at_place at = cond-false (bytes_eq name (codes "prop")) _ _ bare ∙ cond-true (is_at_place name) _ _ at
+
+  module _ (no_place : is_at_place name ≡ false) where
+    pub library_with_formula : is_with_formula name ≡ true → library_row_of name ≡ Some (wants (QuotedFormula ∷ FixedPlace ∷ []))
+    unfolding library_row_of
+    library_with_formula takes =
+        cond-false (bytes_eq name (codes "prop")) _ _ bare ∙ cond-false (is_at_place name) _ _ no_place ∙ cond-true (is_with_formula name) _ _ takes
+
+    module _ (no_formula : is_with_formula name ≡ false) where
+      pub library_ghost : bytes_eq name (codes "dG") ≡ true → library_row_of name ≡ Some (wants (AName ∷ QuotedTerm ∷ QuotedTerm ∷ FixedPlace ∷ []))
+      unfolding library_row_of
+      library_ghost same =
+          cond-false (bytes_eq name (codes "prop")) _ _ bare ∙ cond-false (is_at_place name) _ _ no_place
+          ∙ cond-false (is_with_formula name) _ _ no_formula ∙ cond-true (bytes_eq name (codes "dG")) _ _ same
+
+      pub library_none : bytes_eq name (codes "dG") ≡ false → library_row_of name ≡ None
+      unfolding library_row_of
+      library_none other =
+          cond-false (bytes_eq name (codes "prop")) _ _ bare ∙ cond-false (is_at_place name) _ _ no_place
+          ∙ cond-false (is_with_formula name) _ _ no_formula ∙ cond-false (bytes_eq name (codes "dG")) _ _ other
+
+-- the row of a name in a text
+pub text_row_first : (name : List ℕ) (row : Row) → row_of name ≡ Some row → text_row_of name ≡ Some row
+unfolding text_row_of
+text_row_first name row first = ap (λ found. or_else found (library_row_of name)) first
+
+pub text_row_other : (name : List ℕ) → row_of name ≡ None → text_row_of name ≡ library_row_of name
+unfolding text_row_of
+text_row_other name none = ap (λ found. or_else found (library_row_of name)) none
 
 -- names are texts
 between_low : (low high c : ℕ) → high < 128 → is_between low high c ≡ true → c < 128

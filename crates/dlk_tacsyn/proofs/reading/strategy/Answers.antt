@@ -1,8 +1,8 @@
 use Rattle.std.proofs.Common.{◌≡◌}
-use Rattle.dlk_grammar.specs.declared.token.Form.TheVariants.{Formula}
+use Rattle.dlk_grammar.specs.declared.token.Form.TheVariants.{Formula, Term}
 use Rattle.dlk_grammar.specs.declared.token.Dots.TheVariants.{Refused}
 use Rattle.dlk_tacsyn.specs.Faults.{IsTacSyntaxOf}
-use Rattle.dlk_tacsyn.specs.Rows.{AreFitting}
+use Rattle.dlk_tacsyn.specs.Rows.{AreOfText}
 use Rattle.dlk_tacsyn.specs.Strategies.{Says, Fails, StrategyText, StrategyFault}
 use Rattle.dlk_tacsyn.specs.Steps.{outcome_of}
 use Rattle.dlk_tacsyn.specs.Ties.{tactic_at}
@@ -21,6 +21,11 @@ returns-clause-found g c =
         no_fault = c.tree_texts.ensures.no_fault Formula Refused;
         some = c.tree_texts.ensures.some Formula Refused;
       };
+      terms = record {
+        one = c.tree_texts.ensures.one Term Refused;
+        no_fault = c.tree_texts.ensures.no_fault Term Refused;
+        some = c.tree_texts.ensures.some Term Refused;
+      };
       extras = record { one = c.extra_texts.ensures.one; no_fault = c.extra_texts.ensures.no_fault; some = c.extra_texts.ensures.some };
     } in
     ok_map (λ t. ByReading (λ read. outcome_of read c.in_ok-parts.parts.items ≡ Says (tactic_at (g.S.Store.trees c.read_parts.new.store) t)))
@@ -36,10 +41,15 @@ returns-clause-fitting g c =
         no_fault = c.tree_texts.ensures.no_fault Formula Refused;
         some = c.tree_texts.ensures.some Formula Refused;
       };
+      terms = record {
+        one = c.tree_texts.ensures.one Term Refused;
+        no_fault = c.tree_texts.ensures.no_fault Term Refused;
+        some = c.tree_texts.ensures.some Term Refused;
+      };
       extras = record { one = c.extra_texts.ensures.one; no_fault = c.extra_texts.ensures.no_fault; some = c.extra_texts.ensures.some };
     } in
     ok_map (λ t. ByReading (λ read. outcome_of read c.in_ok-parts.parts.items ≡ Says (tactic_at (g.S.Store.trees c.read_parts.new.store) t)))
-    (λ t. AreFitting (tactic_at (g.S.Store.trees c.read_parts.new.store) t))
+    (λ t. AreOfText (tactic_at (g.S.Store.trees c.read_parts.new.store) t))
     (λ t h. c.fit_strategy.ensures.fitting c.args.bytes.now (tactic_at (g.S.Store.trees c.read_parts.new.store) t)
     (outcome laws c.args.bytes.now c.in_ok-parts.parts.items
     (Says (tactic_at (g.S.Store.trees c.read_parts.new.store) t)) c.in_ok-parts.ensures.found h))
@@ -52,6 +62,11 @@ returns-clause-fault g c =
         one = c.tree_texts.ensures.one Formula Refused;
         no_fault = c.tree_texts.ensures.no_fault Formula Refused;
         some = c.tree_texts.ensures.some Formula Refused;
+      };
+      terms = record {
+        one = c.tree_texts.ensures.one Term Refused;
+        no_fault = c.tree_texts.ensures.no_fault Term Refused;
+        some = c.tree_texts.ensures.some Term Refused;
       };
       extras = record { one = c.extra_texts.ensures.one; no_fault = c.extra_texts.ensures.no_fault; some = c.extra_texts.ensures.some };
     } in
