@@ -105,7 +105,7 @@ IsGivenFormula (GivenFormula h) = IsFormula h
 IsGivenFormula (GivenTerm e) = ⊥
 IsGivenFormula (GivenExtra extra) = ⊥
 
--- a term
+-- a tree that is well made, as one that was read as a term is
 abbrev pub IsGivenTerm : Argument → Type 0
 IsGivenTerm (AtPlace place path) = ⊥
 IsGivenTerm AnyLeft = ⊥

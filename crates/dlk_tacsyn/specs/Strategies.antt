@@ -184,7 +184,7 @@ module _ (read : Reading) where
 abbrev pub IsSaid : {A : Type 0} → (A → Type 0) → Option A → Type 0
 IsSaid {A} Is found = MatchOption found ((a : A) → ¬ Is a) Is
 
--- each text as the formula and as the term that it says, in which no argument dot and no `_` stands, if it says one, and as the names with new
+-- each text as the formula that it says, if it says one, and again as the term, with no argument dot and no `_` in them, and as the names with new
 -- names and the pairs that it says, if it says these
 pub record IsReading (read : Reading) : Type 0 where
   pub formulas : (text : List ℕ) → IsSaid (λ (h : Tree). TreeText Formula Refused text h) (read.formula text)
