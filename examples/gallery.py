@@ -12,22 +12,26 @@ With --leaves a solver is asked for the leaves, and each must be valid. With --w
 import argparse
 import os
 import pathlib
+import shutil
 import tempfile
 
 from running import EXAMPLES, answer, solved
 
 GALLERY = EXAMPLES / "gallery"
-PROGRAM = pathlib.Path(os.environ.get("DLK", EXAMPLES.parent / "dlk")).resolve()
+PROGRAM = shutil.which(os.environ.get("DLK", EXAMPLES.parent / "dlk"))
 
 
-def fault(folder, term):
-    """What is wrong with a folder's proof, in a line, or nothing. The term is written to a file."""
-    report = (folder / "report").read_text() if (folder / "report").exists() else ""
+def fault(folder, term, is_written):
+    """What is wrong with a folder's proof, in a line, or nothing. The term is written to a file; the report, too, where it
+    is to be written."""
+    report = folder / "report"
     for words in (["prove", folder / "model", folder / "strategy", term], ["check", folder / "model", term]):
         status, said = answer(PROGRAM, *words)
         if status != 0:
             return f"{words[0]} ends with status {status}: {said.partition(chr(10))[0]}"
-        if said != report:
+        if is_written and words[0] == "prove":
+            report.write_text(said)
+        if not report.exists() or report.read_bytes().decode() != said:
             return f"{words[0]} prints another report"
     return ""
 
@@ -41,10 +45,7 @@ def is_right(folder, options):
     """Whether all is as it should be with a folder; a line says so."""
     with tempfile.TemporaryDirectory() as place:
         term = pathlib.Path(place) / "term"
-        if options.write:
-            said = answer(PROGRAM, "prove", folder / "model", folder / "strategy", term)[1]
-            (folder / "report").write_text(said)
-        wrong = fault(folder, term)
+        wrong = fault(folder, term, options.write)
         if wrong:
             print(f"{folder.name}: {wrong}", flush=True)
             return False
@@ -59,6 +60,8 @@ def main():
     parser.add_argument("--leaves", action="store_true", help="ask a solver for the leaves")
     parser.add_argument("--write", action="store_true", help="write the reports")
     options = parser.parse_args()
+    if PROGRAM is None:
+        parser.error("there is no program that DLK names")
     folders = [GALLERY / name for name in options.names] or sorted(model.parent for model in GALLERY.glob("*/model"))
     right = [folder for folder in folders if is_right(folder, options)]
     print(f"{len(right)} of {len(folders)}")
