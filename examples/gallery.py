@@ -5,7 +5,8 @@
 
 What `prove` prints must be the folder's `report`, byte for byte, and so must what `check` prints of the term. A line says
 so of each folder, or of those that are named, and the last line how many are as they should be; the exit status is 1
-where not all are. The program is `./dlk`, which is built where it isn't there, or the one that DLK names.
+where not all are. The program is `./dlk`, which is built where it isn't there, or the one that DLK names. Some models stand
+in the tests of `dlk_answers`, too; each that does must stand there as it does here.
 
 With --leaves a solver is asked for the leaves, and each must be valid. With --write each report is written anew.
 """
@@ -18,6 +19,8 @@ import tempfile
 from running import EXAMPLES, answer, solved
 
 GALLERY = EXAMPLES / "gallery"
+TEST = EXAMPLES.parent / "crates" / "dlk_answers" / "src" / "tests" / "gallery.rt"
+TEST = EXAMPLES.parent / "crates" / "dlk_answers" / "src" / "tests" / "gallery.rt"
 PROGRAM = shutil.which(os.environ.get("DLK", EXAMPLES.parent / "dlk"))
 
 
@@ -53,6 +56,24 @@ def is_right(folder, options):
         return not options.leaves or solved(PROGRAM, folder.name, folder / "model", term)
 
 
+def is_tested(folder, tests):
+    """Whether the tests have the folder's texts, if they name it."""
+    texts = [(folder / name).read_text().replace("\\", "\\\\").replace('"', '\\"') for name in ("model", "strategy", "report")]
+    if f"`examples/gallery/{folder.name}/model`" not in tests or all(f'"{text}";' in tests for text in texts):
+        return True
+    print(f"{folder.name}: the tests have another text")
+    return False
+
+
+def is_tested(folder, tests):
+    """Whether the tests have the folder's texts, if they name it."""
+    texts = [(folder / name).read_text().replace("\\", "\\\\").replace('"', '\\"') for name in ("model", "strategy", "report")]
+    if f"`examples/gallery/{folder.name}/model`" not in tests or all(f'"{text}";' in tests for text in texts):
+        return True
+    print(f"{folder.name}: the tests have another text")
+    return False
+
+
 def main():
     """Looks at each folder."""
     parser = argparse.ArgumentParser(description="Proves each model of examples/gallery.")
@@ -63,7 +84,8 @@ def main():
     if PROGRAM is None:
         parser.error("there is no program that DLK names")
     folders = [GALLERY / name for name in options.names] or sorted(model.parent for model in GALLERY.glob("*/model"))
-    right = [folder for folder in folders if is_right(folder, options)]
+    tests = TEST.read_text()
+    right = [folder for folder in folders if is_tested(folder, tests) and is_right(folder, options)]
     print(f"{len(right)} of {len(folders)}")
     return 0 if len(right) == len(folders) else 1
 
