@@ -1,7 +1,7 @@
 //! A theorem prover with a small kernel for differential dynamic logic.
 #![tactic(auto)]
 
-ghost use Rattle.std.specs.Prelude.{◌≡◌, ◌<◌};
+ghost use Rattle.std.specs.Prelude.{◌≡◌, ◌<◌, drop};
 
 mod explain;
 mod fault;
@@ -20,15 +20,25 @@ use std::marker::Brand;
 use std::process::ExitCode;
 use std::sync::ledger::{Blank, Ledger};
 
-/// The words of the command line, without the program's name. Where one is not UTF-8 there are none, and so they have no form.
-fn words(rt: &HostRuntime) -> Result<Vec<String>, AllocError> {
+/// All words behind the program's own name, which stands first.
+fn behind_the_name(mut all: Vec<String>) -> Vec<String>
+    ensures { result.items ≡ drop 1 all.items }
+{
+    if !all.is_empty() {
+        let _ = all.remove(0);
+    }
+    all
+}
+
+/// The words of the command line, the program's name first. Where one is not UTF-8 there are none, and so they have no form.
+fn command_line(rt: &HostRuntime) -> Result<Vec<String>, AllocError> {
     let mut words = Vec::new(rt.alloc());
     let args = match env::args(rt) {
         Ok(args) => args,
         Err(fault) if fault.kind() == ErrorKind::OutOfMemory => return Err(AllocError),
         Err(_) => return Ok(words),
     };
-    for word in args.skip(1) {
+    for word in args {
         words.push(word)?;
     }
     Ok(words)
@@ -46,10 +56,11 @@ fn start<D: Desk, L: Ledger>(alloc: Global, words: &[String], desk: &mut D, blan
 
 fn main(rt: HostRuntime) -> ExitCode {
     let alloc = rt.alloc();
-    let Ok(words) = words(&rt) else {
+    let Ok(all) = command_line(&rt) else {
         let _ = explain(&rt, NO_WORDS, &[]);
         return ExitCode::from(NO_WORDS);
     };
+    let words = behind_the_name(all);
     let mut desk = HostDesk::new(rt, alloc);
     let status = start::<HostDesk<HostRuntime>, Brand>(alloc, &words, &mut desk, Blank::new(1));
     let _ = explain(&rt, status, &words);

@@ -2,6 +2,7 @@
 ghost use Rattle.std.specs.Prelude.{IsTrue};
 
 use super::*;
+use std::fs;
 use std::test::Fail;
 
 /// Reads to the end, in pieces of at most four bytes.
@@ -53,5 +54,24 @@ fn reads_and_writes_real_files(rt: HostRuntime) -> Result<(), Fail> {
 
     fs::remove_file(&rt, "desk_input.txt")?;
     fs::remove_file(&rt, "desk_output.txt")?;
+    Ok(())
+}
+
+/// A device that is full, a folder, and a file that can't be opened.
+#[test]
+fn tells_faults_of_devices(rt: HostRuntime) -> Result<(), Fail> {
+    let mut desk = HostDesk::new(rt, rt.alloc());
+    desk.start_write("/dev/full")?;
+    assert!(rt; desk.append(b"abc").is_err());
+    assert!(rt; desk.start_write("/").is_err());
+    assert_eq!(rt; desk.write_faults, 2);
+
+    desk.start_read("/")?;
+    let mut piece = *b"kept";
+    assert!(rt; desk.read(&mut piece).is_err());
+    assert_eq!(rt; piece, *b"kept");
+    assert!(rt; desk.start_read("/dev/full/none").is_err());
+    assert_eq!(rt; desk.read_faults, 2);
+    assert_eq!(rt; desk.asked.len(), 1);
     Ok(())
 }
