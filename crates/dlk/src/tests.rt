@@ -194,3 +194,26 @@ fn refuses_a_result(rt: HostRuntime) -> Result<(), Fail> {
     assert_eq!(rt; desk.printed(), b"refused: result-too-big\n".as_slice());
     Ok(())
 }
+
+/// An input that goes on behind its limit: as many bytes are read as the limit and one, in 256 pieces and a last one of one byte, behind the call
+/// that begins. The next call prints.
+#[test]
+fn reads_one_byte_past_a_limit(rt: HostRuntime) -> Result<(), Fail> {
+    let alloc = rt.alloc();
+    let mut file = Vec::new(alloc);
+    file.resize(1_048_700, b' ')?;
+    for (call, status, printed) in [
+        (0, 2, "refused: too-long model\n"),
+        (258, 4, ""),
+        (259, 5, ""),
+    ] {
+        let mut desk = desk_of(alloc, &file, b"", 65_536, &[call])?;
+        assert_eq!(rt;
+            status_of(alloc, &["print", "model"], &mut desk)?,
+            status,
+            "call {call}"
+        );
+        assert_eq!(rt; desk.printed(), printed.as_bytes(), "call {call}");
+    }
+    Ok(())
+}

@@ -1,0 +1,152 @@
+#!/usr/bin/env python3
+"""What the built program does at its edge, where no contract reaches: real files, devices, pipes, words and statuses.
+
+Each row is a run, with the status and the bytes that it must end with. The program is that of `./dlk`, or the one that DLK names.
+"""
+import os
+import pathlib
+import subprocess
+import tempfile
+
+from common import PROGRAM
+
+DLK = os.environ.get("DLK", str(PROGRAM))
+MODEL = b"x>=0 -> x>=0\n"
+TERM = b"1 start ==> x>=0 -> x>=0\n2 apply 1 1 implyR(1)\n3 apply 2 1 close(1,1)\ndone\n"
+REPORT = b"closed\nconclusion ==> x>=0 -> x>=0\ngoals 0\nleaves 0\nlines 3\n"
+OPEN_TERM = b"1 start ==> x>=0 -> x>=0\ndone\n"
+OPEN_REPORT = b"open\nconclusion ==> x>=0 -> x>=0\ngoals 1\ngoal 1 ==> x>=0 -> x>=0\nleaves 0\nlines 1\n"
+WORDS = b"refused: words\n"
+
+faults = []
+
+
+def said(name, wanted, found):
+    """Prints whether a row came out as it must."""
+    right = wanted == found
+    print(f"{name}: {'as wanted' if right else f'wanted {wanted!r}, found {found!r}'}", flush=True)
+    if not right:
+        faults.append(name)
+
+
+def run(words, given=b"", **options):
+    """Status and printed bytes of a run."""
+    ended = subprocess.run([DLK, *words], input=given, stdout=subprocess.PIPE, stderr=subprocess.DEVNULL, check=False, **options)
+    return ended.returncode, ended.stdout
+
+
+def fed(words, pieces):
+    """The same where standard input is a pipe that gives a few bytes at a time."""
+    program = subprocess.Popen([DLK, *words], stdin=subprocess.PIPE, stdout=subprocess.PIPE, stderr=subprocess.DEVNULL)
+    for piece in pieces:
+        program.stdin.write(piece)
+        program.stdin.flush()
+    program.stdin.close()
+    printed = program.stdout.read()
+    return program.wait(), printed
+
+
+def printing_to(words, out):
+    """Status of a run that prints to this file."""
+    return subprocess.run([DLK, *words], stdout=out, stderr=subprocess.DEVNULL, check=False).returncode
+
+
+def inputs(at):
+    """Standard input in each place, folders, and what can't be read."""
+    check = ["check", at / "model", at / "term"]
+    said("two files", (0, REPORT), run(check))
+    said("a term whose goals are left", (1, OPEN_REPORT), run(["check", at / "model", at / "open"]))
+    said("- first", (0, REPORT), run(["check", "-", at / "term"], MODEL))
+    said("- second", (0, REPORT), run(["check", at / "model", "-"], TERM))
+    said("- twice", (2, b"refused: line 1: NoEnd\n"), run(["check", "-", "-"], MODEL))
+    said("./- is a file", (4, b""), run(["check", "./-", at / "term"], MODEL))
+    said("--", (4, b""), run(["print", "--"]))
+    said("a pipe of single bytes", (0, REPORT), fed(["check", at / "model", "-"], [TERM[i:i + 1] for i in range(len(TERM))]))
+    said("a pipe that ends at once", (2, b"refused: model at 0: syntax\n"), fed(["check", "-", at / "term"], []))
+    said("a folder", (4, b""), run(["check", at, at / "term"]))
+    said("a file that isn't there", (4, b""), run(["check", at / "none", at / "term"]))
+    said("an empty name", (4, b""), run(["print", ""]))
+    said("a device without end", (2, b"refused: too-long /dev/zero\n"), run(["print", "/dev/zero"]))
+    said("standard input that is closed", 4, subprocess.run(
+        ["sh", "-c", '"$1" print - <&-', "sh", DLK], stdout=subprocess.DEVNULL, stderr=subprocess.DEVNULL, check=False).returncode)
+    if os.geteuid() != 0:
+        (at / "locked").write_bytes(MODEL)
+        (at / "locked").chmod(0)
+        said("a file without leave", (4, b""), run(["print", at / "locked"]))
+
+
+def outputs(at):
+    """Files that are replaced, full devices, a closed standard output."""
+    prove = ["prove", at / "model", at / "strategy"]
+    out = at / "out"
+    out.write_bytes(b"an older and longer text\n" * 100)
+    said("an older file is replaced", (0, REPORT), run([*prove, out]))
+    said("and whole", TERM, out.read_bytes())
+    said("the model stays", MODEL, (at / "model").read_bytes())
+    said("a full device for the term", (5, b""), run([*prove, "/dev/full"]))
+    said("a folder for the term", (5, b""), run([*prove, at]))
+    said("no such folder for the term", (5, b""), run([*prove, at / "none" / "out"]))
+    said("- for the term", (5, b""), run([*prove, "-"]))
+    with open("/dev/full", "wb") as full:
+        said("a full standard output", 5, printing_to(["check", at / "model", at / "term"], full))
+        out.unlink()
+        said("a full standard output of prove", 5, printing_to([*prove, out], full))
+    said("but the term is whole", TERM, out.read_bytes())
+    said("a refusal on a full standard output", 5, subprocess.run(
+        ["sh", "-c", '"$1" nonsense > /dev/full', "sh", DLK], stderr=subprocess.DEVNULL, check=False).returncode)
+    said("a standard output that is closed", 5, subprocess.run(
+        ["sh", "-c", '"$1" print "$2" >&-', "sh", DLK, at / "model"], stderr=subprocess.DEVNULL, check=False).returncode)
+    out.unlink()
+    (at / "bad").write_bytes(b"andR(1)\n")
+    said("a refused strategy", (2, b"refused: fails at 0: WrongShape\n"), run(["prove", at / "model", at / "bad", out]))
+    said("writes no file", False, out.exists())
+    small(at, prove)
+
+
+def small(at, prove):
+    """A file system that is full in the middle of the term, where one can be had."""
+    disk = at / "disk"
+    disk.mkdir()
+    if subprocess.run(["mount", "-t", "tmpfs", "-o", "size=4k", "tmpfs", disk], stderr=subprocess.DEVNULL, check=False).returncode != 0:
+        print("a file system that is full: not tried, there is no leave to make one")
+        return
+    try:
+        (at / "long").write_bytes(b"nil;" * 10 + b'cut("' + b"a" * 8000 + b'>=0")')
+        status, printed = run(["prove", at / "model", at / "long", disk / "out"])
+        wrote = (disk / "out").read_bytes()
+        said("a file system that is full", (5, b"", True), (status, printed, 0 < len(wrote) <= 4096 and wrote.startswith(b"1 start ")))
+    finally:
+        subprocess.run(["umount", disk], check=False)
+
+
+def words(at):
+    """Words of no form."""
+    for name, given in {
+        "no words": [],
+        "an empty word": [""],
+        "a word more": ["print", at / "model", "more"],
+        "a verb in capitals": ["PRINT", at / "model"],
+        "-- before the verb": ["--", "print", at / "model"],
+        "gen 0": ["gen", "0"],
+        "gen 501": ["gen", "501"],
+        "gen 01": ["gen", "01"],
+    }.items():
+        said(name, (3, WORDS), run(given))
+    said("a word that isn't UTF-8", (3, WORDS), run(["print", b"\xff"]))
+
+
+def main():
+    """Prints a line for each row."""
+    with tempfile.TemporaryDirectory() as name:
+        at = pathlib.Path(name)
+        for file, text in {"model": MODEL, "term": TERM, "open": OPEN_TERM, "strategy": b"implyR(1); close\n"}.items():
+            (at / file).write_bytes(text)
+        inputs(at)
+        outputs(at)
+        words(at)
+    print(f"{len(faults)} not as wanted")
+    return 1 if faults else 0
+
+
+if __name__ == "__main__":
+    raise SystemExit(main())
