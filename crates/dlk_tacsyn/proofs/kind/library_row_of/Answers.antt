@@ -5,7 +5,8 @@ use Rattle.dlk_tacsyn.proofs.Words.{library_bare, library_at_place, library_with
 use Rattle.dlk_tacsyn.proofs.kind.library_row_of.Goals as goal
 
 pub returns-in_default-clause-none : goal.returns-in_default-clause-none
-returns-in_default-clause-none c = absurd (c.in_default.ensures.cases.0 (subst IsUtf8 (sym c.bytes.ensures.bytes) (name_utf8 c.args.name.now c.is_name.ensures.name)))
+returns-in_default-clause-none c =
+    absurd (c.in_default.ensures.cases.0 (subst IsUtf8 (sym c.bytes.ensures.bytes) (name_utf8 c.args.name.now c.is_name.ensures.name)))
 
 pub returns-then-eq-clause-found : goal.returns-then-eq-clause-found
 returns-then-eq-clause-found c =
