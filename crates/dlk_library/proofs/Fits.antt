@@ -2,6 +2,7 @@
 use Rattle.std.proofs.Common.{◌≡◌, ℕ, List, [], ◌∷◌, None, Some, refl, sym, ap, subst, ◌∙◌}
 use Rattle.std.specs.Prelude.{codes}
 use Rattle.std.proofs.lemmas.List.Elements.{All-nil, All-cons}
+use Rattle.dlk_tree.specs.declared.op.Kind.TheVariants.{UnitPred}
 use Rattle.dlk_tree.specs.Trees.{Tree, WellMade}
 use Rattle.dlk_calculus.specs.Pairs.{Pair, Extra, AreWellMade}
 use Rattle.dlk_calculus.specs.Sequents.{IsFormula}
@@ -87,12 +88,15 @@ module _ (at : ℕ) where
   made_pair p h = All-cons (λ (q : Pair). WellMade q.by) p [] h (All-nil (λ (q : Pair). WellMade q.by))
 
   fit_cut : (r : Tree) (p : Argument) → WellMade r → IsPlaceOrLocator p → AreFitting (cut_of at r p)
-  fit_cut r p made h = fit_use_with (codes "DC") p (for_r r) h (made_pair _ made)
+  fit_cut r p made h =
+      let pair : Pair = record { sym = record { kind = UnitPred; name = codes "r"; arity = 0; taboo = None }; by = r } in
+      fit_use_with (codes "DC") p (for_r r) h (made_pair pair made)
 
   fit_ghost : (y : List ℕ) (e d : Tree) (p : Argument) → WellMade e → WellMade d → IsPlaceOrLocator p → AreFitting (ghost_of at y e d p)
   fit_ghost y e d p a b h =
-      let pairs : AreWellMade (for_ghost y e d).pairs = All-cons (λ (q : Pair). WellMade q.by) _ _ a (made_pair _ b) in
-      fit_use_with (codes "DG") p (for_ghost y e d) h pairs
+      let first : Pair = record { sym = all_but (codes "a") y; by = e } in
+      let second : Pair = record { sym = all_but (codes "b") y; by = d } in
+      fit_use_with (codes "DG") p (for_ghost y e d) h (All-cons (λ (q : Pair). WellMade q.by) first (second ∷ []) a (made_pair second b))
 
   fit_invariant : (p : Argument) → IsPlaceOrLocator p → AreFitting (invariant_of at p)
   fit_invariant p h =
@@ -106,8 +110,19 @@ module _ (at : ℕ) where
   fit_connective : AreFitting (connective at)
   unfolding row_of
   fit_connective =
-      (fit_close, (fit_rule _ _ refl tt, (fit_rule _ _ refl tt, (fit_rule _ _ refl tt, (fit_rule _ _ refl tt, (fit_rule _ _ refl tt, (fit_rule _ _ refl tt,
-      (fit_rule _ _ refl tt, (fit_rule _ _ refl tt, (fit_rule _ _ refl tt, (fit_rule _ _ refl tt, (fit_rule _ _ refl tt, (fit_rule _ _ refl tt, tt)))))))))))))
+      (fit_close,
+      (fit_rule (codes "closeTrue") AnyRight refl tt,
+      (fit_rule (codes "closeFalse") AnyLeft refl tt,
+      (fit_rule (codes "notL") AnyLeft refl tt,
+      (fit_rule (codes "notR") AnyRight refl tt,
+      (fit_rule (codes "andL") AnyLeft refl tt,
+      (fit_rule (codes "orR") AnyRight refl tt,
+      (fit_rule (codes "implyR") AnyRight refl tt,
+      (fit_rule (codes "equivL") AnyLeft refl tt,
+      (fit_rule (codes "andR") AnyRight refl tt,
+      (fit_rule (codes "orL") AnyLeft refl tt,
+      (fit_rule (codes "implyL") AnyLeft refl tt,
+      (fit_rule (codes "equivR") AnyRight refl tt, tt)))))))))))))
 
 -- what an atom stands for
 module _ (atom : Atom) (text : IsOfText atom) where

@@ -7,3 +7,4 @@ pub mod Depths
 pub mod Walking
 pub mod Turns
 pub mod Increments
+pub mod Known

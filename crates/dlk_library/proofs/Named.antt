@@ -2,6 +2,7 @@
 use Rattle.std.proofs.Common.{◌≡◌, ℕ, List, [], ◌∷◌, None, Some, true, refl, sym, ap, subst, ◌∙◌}
 use Rattle.std.specs.Prelude.{codes, IsTrue, All}
 use Rattle.std.proofs.lemmas.List.Elements.{All-nil, All-cons, All-head, All-tail}
+use Rattle.dlk_tree.specs.declared.op.Kind.TheVariants.{UnitPred}
 use Rattle.dlk_tree.specs.Names.{is_name}
 use Rattle.dlk_tree.specs.Table.{is_sym}
 use Rattle.dlk_tree.specs.Trees.{Tree}
@@ -32,12 +33,17 @@ named_but name y n h = simp (n, h)
 
 named_ghost : (y : List ℕ) (e d : Tree) → IsTrue (is_name y) → IsNamedExtra (for_ghost y e d)
 named_ghost y e d h =
-    let a : ReplacesSymbol (record { sym = all_but (codes "a") y; by = e }) = named_but (codes "a") y refl h in
-    let b : ReplacesSymbol (record { sym = all_but (codes "b") y; by = d }) = named_but (codes "b") y refl h in
-    (y_rename y h, All-cons ReplacesSymbol _ _ a (All-cons ReplacesSymbol _ [] b (All-nil ReplacesSymbol)))
+    let first : Pair = record { sym = all_but (codes "a") y; by = e } in
+    let second : Pair = record { sym = all_but (codes "b") y; by = d } in
+    let one : ReplacesSymbol first = named_but (codes "a") y refl h in
+    let other : ReplacesSymbol second = named_but (codes "b") y refl h in
+    let last = All-cons ReplacesSymbol second [] other (All-nil ReplacesSymbol) in
+    (y_rename y h, All-cons ReplacesSymbol first (second ∷ []) one last)
 
 named_r : (r : Tree) → IsNamedExtra (for_r r)
-named_r r = (All-nil IsRename, All-cons ReplacesSymbol _ [] refl (All-nil ReplacesSymbol))
+named_r r =
+    let pair : Pair = record { sym = record { kind = UnitPred; name = codes "r"; arity = 0; taboo = None }; by = r } in
+    (All-nil IsRename, All-cons ReplacesSymbol pair [] refl (All-nil ReplacesSymbol))
 
 -- The parts have names.
 module _ (at : ℕ) where
@@ -77,13 +83,30 @@ module _ (at : ℕ) where
 
   named_step : (p : Argument) → IsNamed p → AreNamed (step_of at p)
   named_step p h =
-      (named_use _ p refl h, (named_use _ p refl h, (named_use _ p refl h, (named_use _ p refl h,
-      (named_use _ p refl h, (named_use _ p refl h, (named_use _ p refl h, (named_use _ p refl h, tt))))))))
+      (named_use (codes "assignb") p refl h,
+      (named_use (codes "dassignb") p refl h,
+      (named_use (codes "assigneq") p refl h,
+      (named_use (codes "testb") p refl h,
+      (named_use (codes "choiceb") p refl h,
+      (named_use (codes "composeb") p refl h,
+      (named_use (codes "randomb") p refl h,
+      (named_use (codes "diamond") p refl h, tt))))))))
 
   named_connective : AreNamed (connective at)
   named_connective =
-      (no_names, (named_rule _ _ tt, (named_rule _ _ tt, (named_rule _ _ tt, (named_rule _ _ tt, (named_rule _ _ tt, (named_rule _ _ tt,
-      (named_rule _ _ tt, (named_rule _ _ tt, (named_rule _ _ tt, (named_rule _ _ tt, (named_rule _ _ tt, (named_rule _ _ tt, tt)))))))))))))
+      (no_names,
+      (named_rule (codes "closeTrue") AnyRight tt,
+      (named_rule (codes "closeFalse") AnyLeft tt,
+      (named_rule (codes "notL") AnyLeft tt,
+      (named_rule (codes "notR") AnyRight tt,
+      (named_rule (codes "andL") AnyLeft tt,
+      (named_rule (codes "orR") AnyRight tt,
+      (named_rule (codes "implyR") AnyRight tt,
+      (named_rule (codes "equivL") AnyLeft tt,
+      (named_rule (codes "andR") AnyRight tt,
+      (named_rule (codes "orL") AnyLeft tt,
+      (named_rule (codes "implyL") AnyLeft tt,
+      (named_rule (codes "equivR") AnyRight tt, tt)))))))))))))
 
 -- what an atom stands for
 module _ (atom : Atom) (names : HasNames atom) where

@@ -95,7 +95,7 @@ fn all_expanded<S: Store>(
     store: &S,
 ) -> Result<Vec<Tactic>, StoreFault>
     requires known { All (TacticIsKnown (S.trees store.now)) parts.now }
-    requires of_text { All (λ t. AreOfText (tactic_at (S.trees store.now) t.now)) parts.now }
+    requires of_text { All (λ t. AreOfText (tactic_at (S.trees store.now) t)) parts.now }
     ensures found { IfOk result (λ new. AllExpanded (all_parts (map (tactic_at (S.trees store.now)) parts.now)) (all_parts (map (tactic_at (S.trees store.now)) new.items))) }
     ensures known { IfOk result (λ new. All (TacticIsKnown (S.trees store.now)) new.items) }
 {
