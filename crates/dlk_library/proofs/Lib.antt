@@ -8,3 +8,4 @@ pub mod Walking
 pub mod Turns
 pub mod Increments
 pub mod Known
+pub mod Shapes

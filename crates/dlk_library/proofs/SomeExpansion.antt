@@ -26,7 +26,7 @@ a_word : (a : Argument) → IsWord a → (name : List ℕ) × (a ≡ Word name)
 a_word (Word name) is = (name, refl)
 a_word _ is = absurd is
 
-none_are : (args : List Argument) → AreOfKinds [] None args → args ≡ []
+pub none_are : (args : List Argument) → AreOfKinds [] None args → args ≡ []
 none_are [] h = refl
 none_are (a ∷ rest) h = absurd h
 
