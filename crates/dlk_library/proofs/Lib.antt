@@ -1,0 +1,11 @@
+pub mod Names
+pub mod OneExpansion
+pub mod SomeExpansion
+pub mod Fits
+pub mod Named
+pub mod Depths
+pub mod Walking
+pub mod Turns
+pub mod Increments
+pub mod Known
+pub mod Shapes

@@ -2,3 +2,4 @@ pub mod Parts
 pub mod Library
 pub mod Expanded
 pub mod Generated
+pub mod LibraryExamples

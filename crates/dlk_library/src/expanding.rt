@@ -6,9 +6,10 @@ ghost use Rattle.dlk_tacsyn.specs.Ties.{atom_at, AtomIsKnown, tactic_at, TacticI
 ghost use Rattle.dlk_library.specs.Library.{Expands};
 ghost use Rattle.dlk_library.specs.Expanded.{AllExpanded, Expanded, Expansion};
 
-use crate::rows::{cut_of, ghost_of, invariant_of, loop_of, propositional_of, step_of, weakening_of};
+use crate::calls::{at_place, formula_and_place, ghost_call, place_alone, with_formula};
+use crate::rows::{ghost_of, propositional_of};
 use dlk_store::{Store, StoreFault};
-use dlk_tacsyn::{Arg, Atom, Tactic};
+use dlk_tacsyn::{Atom, Tactic};
 use std::alloc::Global;
 
 /// The strategy that an atom's name stands for; each of its parts has the byte of the name. The atom is one of a text, and its ids are those of
@@ -30,19 +31,23 @@ pub fn expand<S: Store>(
 {
     let at = atom.at;
     let name = atom.name.bytes();
-    let found = match atom.args.as_slice() {
-        [] if name == b"prop".as_slice() => propositional_of(alloc, at)?,
-        [place] if name == b"dW".as_slice() => weakening_of(alloc, at, place)?,
-        [place] if name == b"dI".as_slice() => invariant_of(alloc, at, place)?,
-        [place] if name == b"step".as_slice() => step_of(alloc, at, place)?,
-        [Arg::Formula(j), place] if name == b"loop".as_slice() => loop_of(alloc, at, *j, place)?,
-        [Arg::Formula(r), place] if name == b"dC".as_slice() => cut_of(alloc, at, *r, place)?,
-        [Arg::Word(y), Arg::Term(a), Arg::Term(b), place] if name == b"dG".as_slice() => {
-            ghost_of(alloc, at, y, *a, *b, place)?
-        }
-        _ => return Ok(None),
+    let args = atom.args.as_slice();
+    if name == b"prop".as_slice() {
+        return Ok(Some(propositional_of(alloc, at)?));
+    }
+    if name == b"dG".as_slice() {
+        let Some((y, a, b, place)) = ghost_call(args) else {
+            return Ok(None);
+        };
+        return Ok(Some(ghost_of(alloc, at, y, a, b, place)?));
+    }
+    if let Some(place) = place_alone(args) {
+        return Ok(at_place(alloc, at, name, place)?);
+    }
+    let Some((h, place)) = formula_and_place(args) else {
+        return Ok(None);
     };
-    Ok(Some(found))
+    Ok(with_formula(alloc, at, name, h, place)?)
 }
 
 /// What an atom of a text becomes: what its name stands for, or the atom itself.
@@ -95,7 +100,7 @@ fn all_expanded<S: Store>(
     store: &S,
 ) -> Result<Vec<Tactic>, StoreFault>
     requires known { All (TacticIsKnown (S.trees store.now)) parts.now }
-    requires of_text { All (λ t. AreOfText (tactic_at (S.trees store.now) t.now)) parts.now }
+    requires of_text { All (λ t. AreOfText (tactic_at (S.trees store.now) t)) parts.now }
     ensures found { IfOk result (λ new. AllExpanded (all_parts (map (tactic_at (S.trees store.now)) parts.now)) (all_parts (map (tactic_at (S.trees store.now)) new.items))) }
     ensures known { IfOk result (λ new. All (TacticIsKnown (S.trees store.now)) new.items) }
 {

@@ -1,6 +1,7 @@
 //! The library: names that stand for strategies; and what `gen` makes.
 #![tactic(auto)]
 
+mod calls;
 mod expanding;
 mod fault;
 mod generating;

@@ -81,14 +81,14 @@ pub(crate) fn use_at(
     alloc: Global,
     at: usize,
     name: &[u8],
-    place: Arg,
+    place: &Arg,
 ) -> Result<Tactic, AllocError>
     requires { IsTrue (is_name name.now) }
-    ensures made { IfOk result (λ t. (trees : List Tree) → tactic_at trees t ≡ use_at at name.now (argument_at trees place)) }
-    ensures known { IfOk result (λ t. (trees : List Tree) → ArgumentIsKnown trees place → TacticIsKnown trees t) }
+    ensures made { IfOk result (λ t. (trees : List Tree) → tactic_at trees t ≡ use_at at name.now (argument_at trees place.now)) }
+    ensures known { IfOk result (λ t. (trees : List Tree) → ArgumentIsKnown trees place.now → TacticIsKnown trees t) }
 {
     let name = name_of(alloc, name)?;
-    let args = vec![in alloc; Arg::Word(name), place]?;
+    let args = vec![in alloc; Arg::Word(name), place.copy(alloc)?]?;
     atom(alloc, at, b"useAt", args)
 }
 
@@ -97,15 +97,15 @@ pub(crate) fn use_with(
     alloc: Global,
     at: usize,
     name: &[u8],
-    place: Arg,
+    place: &Arg,
     extra: Extra,
 ) -> Result<Tactic, AllocError>
     requires { IsTrue (is_name name.now) }
-    ensures made { IfOk result (λ t. (trees : List Tree) → tactic_at trees t ≡ use_with at name.now (argument_at trees place) (extra_at trees extra)) }
-    ensures known { IfOk result (λ t. (trees : List Tree) → ArgumentIsKnown trees place → IsKnownExtra trees extra → TacticIsKnown trees t) }
+    ensures made { IfOk result (λ t. (trees : List Tree) → tactic_at trees t ≡ use_with at name.now (argument_at trees place.now) (extra_at trees extra)) }
+    ensures known { IfOk result (λ t. (trees : List Tree) → ArgumentIsKnown trees place.now → IsKnownExtra trees extra → TacticIsKnown trees t) }
 {
     let name = name_of(alloc, name)?;
-    let args = vec![in alloc; Arg::Word(name), place, Arg::With(extra)]?;
+    let args = vec![in alloc; Arg::Word(name), place.copy(alloc)?, Arg::With(extra)]?;
     atom(alloc, at, b"useAt", args)
 }
 
@@ -120,7 +120,7 @@ pub(crate) fn generalized(
     ensures made { IfOk result (λ t. (trees : List Tree) → tactic_at trees t ≡ generalized at name.now (argument_at trees place.now)) }
     ensures known { IfOk result (λ t. (trees : List Tree) → ArgumentIsKnown trees place.now → TacticIsKnown trees t) }
 {
-    let used = use_at(alloc, at, name, place.copy(alloc)?)?;
+    let used = use_at(alloc, at, name, place)?;
     let dropped = rule_at(alloc, at, b"G", place.copy(alloc)?)?;
     let assumed = imply_first(alloc, at)?;
     Ok(Tactic::sequence(vec![in alloc; used, dropped, assumed]?))

@@ -51,7 +51,7 @@ pub(crate) fn cut_of(alloc: Global, at: usize, r: Id, place: &Arg) -> Result<Tac
     ensures known { IfOk result (λ t. (trees : List Tree) → IsId trees r → ArgumentIsKnown trees place.now → TacticIsKnown trees t) }
 {
     let extra = for_r(alloc, r)?;
-    use_with(alloc, at, b"DC", place.copy(alloc)?, extra)
+    use_with(alloc, at, b"DC", place, extra)
 }
 
 /// `dI(P)`: what holds first, and whose differential holds all along, holds behind a system.
@@ -59,8 +59,8 @@ pub(crate) fn invariant_of(alloc: Global, at: usize, place: &Arg) -> Result<Tact
     ensures made { IfOk result (λ t. (trees : List Tree) → tactic_at trees t ≡ invariant_of at (argument_at trees place.now)) }
     ensures known { IfOk result (λ t. (trees : List Tree) → ArgumentIsKnown trees place.now → TacticIsKnown trees t) }
 {
-    let used = use_at(alloc, at, b"DI", place.copy(alloc)?)?;
-    let tested = use_at(alloc, at, b"testb", place.copy(alloc)?)?;
+    let used = use_at(alloc, at, b"DI", place)?;
+    let tested = use_at(alloc, at, b"testb", place)?;
     let assumed = rule_at(alloc, at, b"implyR", place.copy(alloc)?)?;
     let first = Tactic::sequence(vec![in alloc; tested, assumed]?);
     let along = rule_at(alloc, at, b"implyR", place.copy(alloc)?)?;
@@ -81,7 +81,7 @@ pub(crate) fn ghost_of(
     ensures known { IfOk result (λ t. (trees : List Tree) → IsId trees a → IsId trees b → ArgumentIsKnown trees place.now → TacticIsKnown trees t) }
 {
     let extra = for_ghost(alloc, y, a, b)?;
-    use_with(alloc, at, b"DG", place.copy(alloc)?, extra)
+    use_with(alloc, at, b"DG", place, extra)
 }
 
 /// `step(P)`: the axiom of the program that stands outermost.
@@ -90,14 +90,14 @@ pub(crate) fn step_of(alloc: Global, at: usize, place: &Arg) -> Result<Tactic, A
     ensures known { IfOk result (λ t. (trees : List Tree) → ArgumentIsKnown trees place.now → TacticIsKnown trees t) }
 {
     let steps = vec![in alloc;
-        use_at(alloc, at, b"assignb", place.copy(alloc)?)?,
-        use_at(alloc, at, b"dassignb", place.copy(alloc)?)?,
-        use_at(alloc, at, b"assigneq", place.copy(alloc)?)?,
-        use_at(alloc, at, b"testb", place.copy(alloc)?)?,
-        use_at(alloc, at, b"choiceb", place.copy(alloc)?)?,
-        use_at(alloc, at, b"composeb", place.copy(alloc)?)?,
-        use_at(alloc, at, b"randomb", place.copy(alloc)?)?,
-        use_at(alloc, at, b"diamond", place.copy(alloc)?)?
+        use_at(alloc, at, b"assignb", place)?,
+        use_at(alloc, at, b"dassignb", place)?,
+        use_at(alloc, at, b"assigneq", place)?,
+        use_at(alloc, at, b"testb", place)?,
+        use_at(alloc, at, b"choiceb", place)?,
+        use_at(alloc, at, b"composeb", place)?,
+        use_at(alloc, at, b"randomb", place)?,
+        use_at(alloc, at, b"diamond", place)?
     ]?;
     Ok(Tactic::choice(steps))
 }

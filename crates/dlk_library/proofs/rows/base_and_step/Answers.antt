@@ -1,0 +1,11 @@
+use Rattle.std.proofs.Common.{sym, subst}
+use Rattle.dlk_tacsyn.specs.Ties.{ArgumentIsKnown, TacticIsKnown}
+use Rattle.dlk_library.proofs.Known.{all_of}
+use Rattle.dlk_library.proofs.rows.base_and_step.Goals as goal
+
+pub returns-clause-known : goal.returns-clause-known
+returns-clause-known c = λ trees j p.
+    let place = subst (ArgumentIsKnown trees) (sym c.in_ok-copy.ensures) p in
+    let cut = c.in_ok-cut.ensures.known trees (all_of (ArgumentIsKnown trees) _ _ c.in_ok-args.ensures.items (j, (place, tt))) in
+    let parts = all_of (TacticIsKnown trees) _ _ c.in_ok-vec.ensures.items (c.in_ok-base.ensures.known trees, (c.in_ok-step.ensures.known trees p, tt)) in
+    c.sequence.ensures.known trees (all_of (TacticIsKnown trees) _ _ c.in_ok-vec-2.ensures.items (cut, (c.branch-branch.ensures.known trees parts, tt)))
