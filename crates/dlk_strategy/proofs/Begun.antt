@@ -19,7 +19,7 @@ use Rattle.dlk_kernel.specs.Kernel.{State, facts, provable_at}
 use Rattle.dlk_tacsyn.specs.Tactics.{Tactic}
 use Rattle.dlk_strategy.specs.declared.fault.RunFault.{RunFault}
 use Rattle.dlk_strategy.specs.declared.fault.RunFault.TheVariants as fault
-use Rattle.dlk_strategy.specs.Runs.{Progress, Outcome, Done, Fails, Budget, main_goals, Runs, RunsModel}
+use Rattle.dlk_strategy.specs.Runs.{Progress, Outcome, Done, Fails, Budget, main_goals, Runs, RunsPlain}
 use Rattle.dlk_strategy.specs.Ties.{Becomes, IsRunFaultOf}
 use Rattle.dlk_strategy.proofs.Starting.{none_against, starts, one_row}
 
@@ -67,17 +67,17 @@ abbrev pub begun : Tree → Progress
 begun formula = record { steps = Start (alone_right formula) ∷ []; rows = started (alone_right formula) ∷ []; used = 0 }
 
 module _ (t now_t : Tactic) (formula : Tree) (before : Progress) (m : IsModel formula) (same : now_t ≡ t) (is : before ≡ begun formula) where
-  model_runs : (o : Outcome) → Runs now_t 1 1 before o → RunsModel t formula o
+  model_runs : (o : Outcome) → Runs now_t 1 1 before o → RunsPlain t formula o
   model_runs o run = record {
     provable = started (alone_right formula);
     start = starts formula m.formed m.small m.shallow;
     run = subst (λ (b : Progress). Runs t 1 1 b o) is (subst (λ (u : Tactic). Runs u 1 1 before o) same run);
   }
 
-  pub model_done : (after : Progress) (left : ℕ) → Becomes (Runs now_t 1 1) before after (Ok left) → RunsModel t formula (Done after left)
+  pub model_done : (after : Progress) (left : ℕ) → Becomes (Runs now_t 1 1) before after (Ok left) → RunsPlain t formula (Done after left)
   model_done after left run = model_runs (Done after left) run
 
-  pub model_fault : (after : Progress) (e : RunFault) → Becomes (Runs now_t 1 1) before after (Err e) → IsRunFaultOf (RunsModel t formula) e
+  pub model_fault : (after : Progress) (e : RunFault) → Becomes (Runs now_t 1 1) before after (Err e) → IsRunFaultOf (RunsPlain t formula) e
   model_fault after (fault.Fails at why) run = (after.used, model_runs (Fails at why after.used) run)
   model_fault after (fault.Budget at) run = model_runs (Budget at) run
   model_fault after fault.Memory run = tt

@@ -3,7 +3,7 @@ use Rattle.std.proofs.Common.{◌≡◌, ℕ, List, [], ◌∷◌, map, Option, 
 use Rattle.std.specs.List.{All}
 use Rattle.std.proofs.lemmas.List.Elements.{All-nil, All-cons, All-head, All-tail}
 use Rattle.dlk_tacsyn.specs.declared.kind.Kind.{Kind}
-use Rattle.dlk_tacsyn.specs.declared.kind.Kind.TheVariants.{FixedPlace, AnyPlace, QuotedFormula, AName, QuotedExtra}
+use Rattle.dlk_tacsyn.specs.declared.kind.Kind.TheVariants.{FixedPlace, AnyPlace, QuotedFormula, QuotedTerm, AName, QuotedExtra}
 use Rattle.dlk_tacsyn.specs.Tactics.{Argument, AtPlace, AnyLeft, AnyRight, Word, GivenFormula, GivenTerm, GivenExtra, Atom}
 use Rattle.dlk_tacsyn.specs.Rows.{IsOfKind, AreOfKinds, IsFitting}
 use Rattle.dlk_elab.specs.Atoms.{IsFixed, HasNoLocator, IsNamed}
@@ -45,11 +45,13 @@ put_kind n kind (GivenExtra x) h = h
 put_kind n FixedPlace AnyLeft h = absurd h
 put_kind n AnyPlace AnyLeft h = tt
 put_kind n QuotedFormula AnyLeft h = absurd h
+put_kind n QuotedTerm AnyLeft h = absurd h
 put_kind n AName AnyLeft h = absurd h
 put_kind n QuotedExtra AnyLeft h = absurd h
 put_kind n FixedPlace AnyRight h = absurd h
 put_kind n AnyPlace AnyRight h = tt
 put_kind n QuotedFormula AnyRight h = absurd h
+put_kind n QuotedTerm AnyRight h = absurd h
 put_kind n AName AnyRight h = absurd h
 put_kind n QuotedExtra AnyRight h = absurd h
 

@@ -19,3 +19,4 @@ mod Counted
 mod Repeating
 mod Choosing
 mod Depths
+mod Expanding

@@ -10,7 +10,7 @@ use Rattle.dlk_rules.specs.declared.arguments.Side.{Side}
 use Rattle.dlk_tacsyn.specs.Tactics.{Atom, Tactic, Choice, Sequence, Branch, Repeat, One, Tactics, no_parts, part, count}
 use Rattle.dlk_strategy.specs.declared.fault.FailWhy.{FailWhy}
 use Rattle.dlk_strategy.specs.declared.fault.FailWhy.TheVariants.{NoPlace}
-use Rattle.dlk_strategy.specs.Runs.{Progress, Outcome, Done, Fails, Budget, Fate, Run, Follow, done, fails, spent, Ends, FailsAt, Then, Else, Each, OnEach, Again, Once, main_goals, side, placed, formulas, Tries, TriesAll, RunAtomOn, RunAtom, Branched, as_many, another_count, Runs, Alternatives, InTurn, OnOwn, RunsModel}
+use Rattle.dlk_strategy.specs.Runs.{Progress, Outcome, Done, Fails, Budget, Fate, Run, Follow, done, fails, spent, Ends, FailsAt, Then, Else, Each, OnEach, Again, Once, main_goals, side, placed, formulas, Tries, TriesAll, RunAtomOn, RunAtom, Branched, as_many, another_count, Runs, Alternatives, InTurn, OnOwn, RunsPlain}
 
 -- at most one thing becomes of a goal
 abbrev pub IsOne : Fate → Type 0
@@ -137,7 +137,7 @@ module _ (one_once : (atom : Atom) (goal : ℕ) → IsOne (Once atom goal)) wher
   start formula = Start (record { ante = []; succ = formula ∷ [] })
 
   pub one_run : ((rows : List Provable) (step : Step) (p q : Provable) → Gives rows step p → Gives rows step q → p ≡ q) →
-      (t : Tactic) (formula : Tree) (a b : Outcome) → RunsModel t formula a → RunsModel t formula b → a ≡ b
+      (t : Tactic) (formula : Tree) (a b : Outcome) → RunsPlain t formula a → RunsPlain t formula b → a ≡ b
   unfolding start
   one_run one_given t formula a b p q =
       let same : p.provable ≡ q.provable = one_given [] (start formula) p.provable q.provable p.start.given q.start.given in

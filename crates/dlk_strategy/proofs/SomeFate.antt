@@ -18,7 +18,7 @@ use Rattle.dlk_strategy.specs.declared.fault.FailWhy.TheVariants.{WrongCount, No
 use Rattle.dlk_strategy.specs.Whys.{fail_of}
 use Rattle.dlk_strategy.specs.Runs.{Progress, Outcome, Done, Fails, Budget, Fate, Run, Follow, done, fails, spent, Ends, FailsAt, Each, Again, Once, steps}
 use Rattle.dlk_strategy.specs.Runs.{fault, most_runs, main_goals, side, placed, formulas, Tries, RunAtomOn}
-use Rattle.dlk_strategy.specs.Runs.{RunAtom, Branched, as_many, another_count, Runs, Alternatives, InTurn, OnOwn, RunsModel}
+use Rattle.dlk_strategy.specs.Runs.{RunAtom, Branched, as_many, another_count, Runs, Alternatives, InTurn, OnOwn, RunsPlain}
 use Rattle.dlk_strategy.specs.Runs.{spent as once_spent}
 use Rattle.dlk_strategy.proofs.FixedAtoms.{none_fixed, placed_fixed, placed_fitting, all_named}
 use Rattle.dlk_strategy.proofs.Starting.{starts}
@@ -198,7 +198,7 @@ module _ (atom_taken : (rows : List Provable) (fact goal : ℕ) (atom : Atom) (s
         (λ at used why. some_failure (left + (count rest + 1)) at why (record now { used = used }))
 
   pub some_model : (t : Tactic) (formula : Tree) → EachAtom IsRun t → IsFormula formula → IsSmall formula → IsShallow formula →
-      (o : Outcome) × RunsModel t formula o
+      (o : Outcome) × RunsPlain t formula o
   some_model t formula is formed small shallow =
       let s : Sequent = alone_right formula in
       let first : Progress = record { steps = Start s ∷ []; rows = started s ∷ []; used = 0 } in

@@ -15,7 +15,7 @@ use Rattle.dlk_tacsyn.specs.Rows.{HasNames}
 use Rattle.dlk_tacsyn.specs.Tactics.{Atom, Tactic, Choice, Sequence, Branch, Repeat, One, Tactics, no_parts, part, EachAtom, EachAtomOf}
 use Rattle.dlk_elab.specs.Atoms.{AtomSteps, Replaces}
 use Rattle.dlk_elab.specs.Symbols.{ReplacesSymbols}
-use Rattle.dlk_strategy.specs.Runs.{Progress, Done, RunsModel}
+use Rattle.dlk_strategy.specs.Runs.{Progress, Done, RunsPlain}
 use Rattle.dlk_strategy.proofs.FixedAtoms.{all_named}
 use Rattle.dlk_strategy.proofs.Keeping.{keeps_fate}
 
@@ -68,7 +68,7 @@ module _ (atom_taken : (rows : List Provable) (fact goal : ℕ) (atom : Atom) (s
       AtomSteps now.rows (length now.rows) goal atom new rows → Takes [] (now.steps ++ new) rows
   taken_on now goal atom new rows taken made = takes_both [] now.rows rows now.steps new taken (atom_taken now.rows (length now.rows) goal atom new rows made)
 
-  pub run_taken : (t : Tactic) (formula : Tree) (made : Progress) (left : ℕ) → RunsModel t formula (Done made left) → Takes [] made.steps made.rows
+  pub run_taken : (t : Tactic) (formula : Tree) (made : Progress) (left : ℕ) → RunsPlain t formula (Done made left) → Takes [] made.steps made.rows
   run_taken t formula made left r =
       keeps_fate IsTaken AnyAtom (λ now used taken. taken) (λ n atom is. tt) (λ now goal atom new rows is taken by. taken_on now goal atom new rows taken by)
       t 1 1 (each_any t) (begun formula r.provable) (Done made left) (one_step no_step r.start) r.run
@@ -84,7 +84,7 @@ module _ (atom_taken : (rows : List Provable) (fact goal : ℕ) (atom : Atom) (s
           All-append ReplacesSymbols now.steps new h.1 (atom_symbols now.rows (length now.rows) goal atom new rows formulas names by),
         )
 
-    pub run_symbols : (t : Tactic) (formula : Tree) (made : Progress) (left : ℕ) → EachAtom HasNames t → RunsModel t formula (Done made left) →
+    pub run_symbols : (t : Tactic) (formula : Tree) (made : Progress) (left : ℕ) → EachAtom HasNames t → RunsPlain t formula (Done made left) →
         All ReplacesSymbols made.steps
     run_symbols t formula made left names r =
         let first : ReplacesSymbols (Start (alone_right formula)) = λ fact pairs e. absurd (cc e) in
@@ -105,7 +105,7 @@ module _ (atom_replaces : (rows : List Provable) (goal : ℕ) (atom : Atom) (ste
       let same : r.old_last ≡ h.0 = at_same now.rows (length now.rows) r.old_last h.0 r.old_is h.1 in
       (r.new_last, r.new_is, r.conclusion ∙ ap (λ (p : Provable). p.conclusion) same ∙ h.2)
 
-  pub run_shows : (t : Tactic) (formula : Tree) (made : Progress) (left : ℕ) → RunsModel t formula (Done made left) → Shows formula made
+  pub run_shows : (t : Tactic) (formula : Tree) (made : Progress) (left : ℕ) → RunsPlain t formula (Done made left) → Shows formula made
   run_shows t formula made left r =
       let shown = start_shows formula [] r.provable (Start (alone_right formula)) refl r.start.given in
       let first : Shows formula (begun formula r.provable) = (r.provable, refl, shown) in

@@ -1,4 +1,4 @@
-//! The laws of runs. Each is a contract of a function that does nothing but call laws of atoms and of the calculus.
+//! The laws of runs. Each is a contract of a function that does nothing but call laws of atoms, of the library and of the calculus.
 ghost use Rattle.std.specs.Prelude.{◌≡◌, ℕ, [], length, All};
 ghost use Rattle.dlk_tree.specs.Trees.{Tree};
 ghost use Rattle.dlk_calculus.specs.Limits.{IsSmall, IsShallow};

@@ -1,6 +1,9 @@
+use Rattle.dlk_strategy.proofs.Expanding.{one_model}
 use Rattle.dlk_strategy.proofs.OneFate.{one_run}
 use Rattle.dlk_strategy.proofs.OneOnce.{one_once}
 use Rattle.dlk_strategy.proofs.laws.one_outcome.Goals as goal
 
 pub returns : goal.returns
-returns c = one_run (one_once c.one_atom.ensures.steps c.one_atom.ensures.fault c.one_atom.ensures.not_both) c.one_provable.ensures
+returns c =
+    let one_atom = one_once c.one_atom.ensures.steps c.one_atom.ensures.fault c.one_atom.ensures.not_both in
+    one_model c.one_expansion.ensures.strategies (one_run one_atom c.one_provable.ensures)

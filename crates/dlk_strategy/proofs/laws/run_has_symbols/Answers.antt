@@ -3,4 +3,7 @@ use Rattle.dlk_strategy.proofs.TakenSteps.{run_symbols}
 use Rattle.dlk_strategy.proofs.laws.run_has_symbols.Goals as goal
 
 pub returns : goal.returns
-returns c = run_symbols c.atom_is_taken.ensures (taken_formulas c.history_derives.ensures.rows c.derived_formulas.ensures) c.atom_has_symbols.ensures
+returns c = λ t formula made left names r.
+    let formulas = taken_formulas c.history_derives.ensures.rows c.derived_formulas.ensures in
+    let named = c.expansion_fits.ensures.names t r.expansion names r.expanded in
+    run_symbols c.atom_is_taken.ensures formulas c.atom_has_symbols.ensures r.expansion formula made left named r.runs
