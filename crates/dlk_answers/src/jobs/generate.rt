@@ -54,8 +54,8 @@ pub fn generated<L: Ledger>(
 {
     let (model, strategy) = generate(alloc, count)?;
     let proved = prove(alloc, &model, &strategy, steps)?;
-    match proved.written {
-        Some(term) => check(alloc, Showing::Summed(count), &model, &term, steps),
+    match &proved.written {
+        Some(term) => check(alloc, Showing::Summed(count), &model, term, steps),
         None => Ok(proved),
     }
 }
