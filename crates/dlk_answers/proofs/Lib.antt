@@ -21,3 +21,4 @@ pub mod Judging
 pub mod RunSteps
 pub mod Rechecked
 pub mod Summed
+pub mod SummaryText
