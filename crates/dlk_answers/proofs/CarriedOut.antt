@@ -7,11 +7,11 @@ use Rattle.dlk_smt.specs.Smt.{first_power}
 use Rattle.dlk_report.specs.Reports.{is_closed}
 use Rattle.dlk_tacsyn.specs.Faults.{Fault, Syntax as Syntax', Nesting as Nesting', Repeat, UnknownAtom, Arguments}
 use Rattle.dlk_answers.specs.declared.command.Command.{Command}
-use Rattle.dlk_answers.specs.declared.command.Command.TheVariants.{Check, Print, Vars, Subst, Report, Smt, Prove}
+use Rattle.dlk_answers.specs.declared.command.Command.TheVariants.{Check, Print, Vars, Subst, Report, Smt, Prove, Gen}
 use Rattle.dlk_answers.specs.declared.form.Role.{Role}
 use Rattle.dlk_answers.specs.declared.form.Role.TheVariants.{Model, File, Substitution}
 use Rattle.dlk_answers.specs.declared.reply.Showing.{Showing}
-use Rattle.dlk_answers.specs.declared.reply.Showing.TheVariants.{Reported, Exported}
+use Rattle.dlk_answers.specs.declared.reply.Showing.TheVariants.{Reported, Exported, Summed}
 use Rattle.dlk_answers.specs.declared.reply.Layout.TheVariants.{Text, Json}
 use Rattle.dlk_answers.specs.declared.reply.Status.{Status}
 use Rattle.dlk_answers.specs.Forms.{Word}
@@ -22,6 +22,9 @@ use Rattle.dlk_answers.specs.Prints.{Prints, bad_text, prints}
 use Rattle.dlk_answers.specs.Lists.{Lists, lists, bad_text as lists_fault}
 use Rattle.dlk_answers.specs.Substitutes.{Substitutes, bad_file, bad_subst, bad_pair, not_admissible, too_big, too_deep, prints as prints_result}
 use Rattle.dlk_answers.specs.Proves.{Proves, bad_model as proves_fault, bad_strategy, fails, spent, too_long as term_long, proves, strategy_refused}
+use Rattle.dlk_library.specs.Generated.{generated_model, generated_strategy}
+use Rattle.dlk_grammar.specs.Tokens.{value}
+use Rattle.dlk_answers.specs.Generates.{Generates, refuses as refuses_proof, checks}
 use Rattle.dlk_answers.specs.Answers.{Does, Responds, refuses, does}
 
 -- the reply of a command that was carried out
@@ -52,6 +55,7 @@ exported_carried_out None p = printed_only _ _ (closed_or_open (is_closed p.goal
 answered_carried_out : (showing : Showing) (p : Provable) (lines : ℕ) → IsCarriedOut (answered showing p lines)
 answered_carried_out (Reported layout) p lines = printed_only _ _ (closed_or_open (is_closed p.goals))
 answered_carried_out Exported p lines = exported_carried_out (first_power 1 p.leaves) p
+answered_carried_out (Summed n) p lines = printed_only _ _ (omega arith)
 
 check_carried_out : (showing : Showing) (model term : List ℕ) (reply : Reply) → Checks showing model term reply → IsCarriedOut reply
 check_carried_out showing model term reply (bad_model why fault) = text_carried_out Model why
@@ -98,6 +102,10 @@ prove_carried_out model strategy reply (proves made left run short p ended) = re
   refusal = λ e. absurd (no_refusal (is_closed p.goals) e);
 }
 
+generate_carried_out : (n : ℕ) (reply : Reply) → Generates n reply → IsCarriedOut reply
+generate_carried_out n reply (refuses_proof r proof none) = prove_carried_out (generated_model n) (generated_strategy n) r proof
+generate_carried_out n reply (checks proved r term proof written checked) = check_carried_out (Summed n) (generated_model n) term r checked
+
 job_carried_out : (command : Command) (others : List Word) (texts : List (List ℕ)) (reply : Reply) → Does command others texts reply → IsCarriedOut reply
 job_carried_out Check [] (model ∷ term ∷ []) reply h = check_carried_out (Reported Text) model term reply h
 job_carried_out Print [] (file ∷ []) reply h = print_carried_out file reply h
@@ -106,6 +114,7 @@ job_carried_out Subst [] (file ∷ substitution ∷ []) reply h = substitute_car
 job_carried_out Report [] (model ∷ term ∷ []) reply h = check_carried_out (Reported Json) model term reply h
 job_carried_out Smt [] (model ∷ term ∷ []) reply h = check_carried_out Exported model term reply h
 job_carried_out Prove (term ∷ []) (model ∷ strategy ∷ []) reply h = prove_carried_out model strategy reply h
+job_carried_out Gen (word ∷ []) [] reply h = generate_carried_out (value word) reply h
 job_carried_out _ _ _ reply h = absurd h
 
 pub carried_out : (command : Command) (words : List Word) (texts : List (List ℕ)) (reply : Reply) → Responds command words texts reply → IsCarriedOut reply

@@ -20,3 +20,5 @@ pub mod ConclusionText
 pub mod Judging
 pub mod RunSteps
 pub mod Rechecked
+pub mod Summed
+pub mod SummaryText

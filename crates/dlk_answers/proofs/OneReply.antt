@@ -21,13 +21,18 @@ use Rattle.dlk_answers.specs.Prints.{Prints, bad_text, prints, printed}
 use Rattle.dlk_answers.specs.Lists.{Lists, lists, bad_text as lists_fault, IsWritten, AreWritten, set_listed, symbols_listed, set_text, signature_text, four_lines}
 use Rattle.dlk_answers.proofs.Ends.{one_last, one_model, model_or_fault}
 use Rattle.dlk_answers.proofs.OneSubstitution.{one_substitution}
+use Rattle.dlk_answers.specs.Generates.{Generates, refuses as refuses_proof, checks}
+use Rattle.dlk_answers.specs.Proves.{Proves}
+use Rattle.dlk_library.specs.Generated.{generated_model, generated_strategy}
+use Rattle.dlk_grammar.specs.Tokens.{value}
 use Rattle.dlk_answers.proofs.OneProof.{one_prove}
+use Rattle.dlk_answers.proofs.Rechecked.{unwritten}
 use Rattle.dlk_answers.proofs.StrategyLaws.{OneText, TextOrFault, OneFault, OneRun}
 use Rattle.dlk_answers.specs.Answers.{Does, Responds, refuses, does, too_long}
 use Rattle.dlk_answers.specs.declared.command.Command.{Command}
-use Rattle.dlk_answers.specs.declared.command.Command.TheVariants.{Check, Print, Vars, Subst, Report, Smt, Prove}
+use Rattle.dlk_answers.specs.declared.command.Command.TheVariants.{Check, Print, Vars, Subst, Report, Smt, Prove, Gen}
 use Rattle.dlk_answers.specs.declared.reply.Showing.{Showing}
-use Rattle.dlk_answers.specs.declared.reply.Showing.TheVariants.{Reported, Exported}
+use Rattle.dlk_answers.specs.declared.reply.Showing.TheVariants.{Reported, Exported, Summed}
 use Rattle.dlk_answers.specs.declared.reply.Layout.TheVariants.{Text, Json}
 
 -- the same rows, and the same last one at the same line
@@ -124,6 +129,22 @@ none_or_some : {A : Type 0} {x : A} → None ≡ Some x → ⊥
 none_or_some e = cc
 
 module _ (one_text : OneText) (text_or_fault : TextOrFault) (one_fault : OneFault) (one_run : OneRun) where
+  -- what `prove` answers and writes for what is generated
+  one_proved : (n : ℕ) (r s : Reply) → Proves (generated_model n) (generated_strategy n) r → Proves (generated_model n) (generated_strategy n) s → r ≡ s
+  one_proved n r s a b = one_prove one_text text_or_fault one_fault one_run (generated_model n) (generated_strategy n) r s a b
+
+  pub one_written : (n : ℕ) (r s : Reply) (term : List ℕ) → Proves (generated_model n) (generated_strategy n) r → Proves (generated_model n) (generated_strategy n) s →
+      r.written ≡ Some term → s.written ≡ Some term
+  one_written n r s term a b written = subst (λ (x : Reply). x.written ≡ Some term) (one_proved n r s a b) written
+
+  one_generate : (n : ℕ) (r s : Reply) → Generates n r → Generates n s → r ≡ s
+  one_generate n r s (refuses_proof r' a none) (refuses_proof s' b also) = one_proved n r' s' a b
+  one_generate n r s (refuses_proof r' a none) (checks proved s' term b written c) = absurd (unwritten r' term none (one_written n proved r' term b a written))
+  one_generate n r s (checks proved r' term a written c) (refuses_proof s' b none) = absurd (unwritten s' term none (one_written n proved s' term a b written))
+  one_generate n r s (checks proved r' term a written c) (checks second s' text b also d) =
+      let same : text ≡ term = one_name (sym also ∙ one_written n proved second term a b written) in
+      one_check (Summed n) (generated_model n) term r' s' c (subst (λ (t : List ℕ). Checks (Summed n) (generated_model n) t s') same d)
+
   one_job : (c : Command) (others : List Word) (texts : List (List ℕ)) (r s : Reply) → Does c others texts r → Does c others texts s → r ≡ s
   one_job Check [] (model ∷ term ∷ []) r s a b = one_check (Reported Text) model term r s a b
   one_job Print [] (file ∷ []) r s a b = one_print file r s a b
@@ -132,6 +153,7 @@ module _ (one_text : OneText) (text_or_fault : TextOrFault) (one_fault : OneFaul
   one_job Report [] (model ∷ term ∷ []) r s a b = one_check (Reported Json) model term r s a b
   one_job Smt [] (model ∷ term ∷ []) r s a b = one_check Exported model term r s a b
   one_job Prove (term ∷ []) (model ∷ strategy ∷ []) r s a b = one_prove one_text text_or_fault one_fault one_run model strategy r s a b
+  one_job Gen (word ∷ []) [] r s a b = one_generate (value word) r s a b
   one_job _ _ _ r s a b = absurd a
 
   pub one_response : (c : Command) (words : List Word) (texts : List (List ℕ)) (r s : Reply) → Responds c words texts r → Responds c words texts s → r ≡ s

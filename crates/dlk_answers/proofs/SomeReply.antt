@@ -14,11 +14,12 @@ use Rattle.dlk_machine.proofs.SomeText.{some_tree, some_pairs}
 use Rattle.dlk_replay.specs.Files.{file_lines, Verdict, Answer, accepted, bad}
 use Rattle.dlk_replay.proofs.Verdicts.{some_verdict, accepted_some}
 use Rattle.dlk_answers.specs.declared.command.Command.{Command}
-use Rattle.dlk_answers.specs.declared.command.Command.TheVariants.{Check, Print, Vars, Subst, Report, Smt, Prove}
+use Rattle.dlk_answers.specs.declared.command.Command.TheVariants.{Check, Print, Vars, Subst, Report, Smt, Prove, Gen}
 use Rattle.dlk_answers.specs.declared.form.Role.TheVariants.{Model, File, Substitution}
-use Rattle.dlk_answers.specs.declared.form.Last.TheVariants.{Output}
+use Rattle.dlk_answers.specs.declared.form.Last.{Last}
+use Rattle.dlk_answers.specs.declared.form.Last.TheVariants.{Output, Number}
 use Rattle.dlk_answers.specs.declared.reply.Showing.{Showing}
-use Rattle.dlk_answers.specs.declared.reply.Showing.TheVariants.{Reported, Exported}
+use Rattle.dlk_answers.specs.declared.reply.Showing.TheVariants.{Reported, Exported, Summed}
 use Rattle.dlk_answers.specs.declared.reply.Layout.TheVariants.{Text, Json}
 use Rattle.dlk_answers.specs.Forms.{Word, form_of, command_of, inputs_of, others_of, limits_of, ends_in}
 use Rattle.dlk_answers.specs.Inputs.{first_too_long}
@@ -28,6 +29,10 @@ use Rattle.dlk_answers.specs.Checks.{Checks, bad_model, bad_line, bad_conclusion
 use Rattle.dlk_answers.specs.Prints.{Prints, bad_text, prints, printed, FileText}
 use Rattle.dlk_answers.specs.Lists.{Lists, lists, bad_text as lists_fault, set_listed, symbols_listed, set_text, signature_text, four_lines}
 use Rattle.dlk_answers.specs.Substitutes.{Substitutes, bad_file, bad_subst, bad_pair, not_admissible, too_big, too_deep, prints as prints_result, pair_refused, AreRead}
+use Rattle.dlk_library.specs.Generated.{generated_model, generated_strategy}
+use Rattle.dlk_grammar.specs.Tokens.{value}
+use Rattle.dlk_answers.specs.Proves.{Proves}
+use Rattle.dlk_answers.specs.Generates.{Generates, refuses as refuses_proof, checks}
 use Rattle.dlk_answers.specs.Answers.{Does, Responds, refuses, does, too_long}
 use Rattle.dlk_answers.proofs.Ends.{last_of}
 use Rattle.dlk_answers.proofs.Fits.{others_end}
@@ -103,6 +108,10 @@ no_others : (others : List Word) → IsTrue (ends_in None others) → others ≡
 no_others [] ends = refl
 no_others (word ∷ words) ends = cc
 
+no_texts : (texts : List (List ℕ)) → length texts ≡ 0 → texts ≡ []
+no_texts [] count = refl
+no_texts (a ∷ texts) count = absurd (omega (arith, count))
+
 one_text : (texts : List (List ℕ)) → length texts ≡ 1 → (a : List ℕ) × (texts ≡ a ∷ [])
 one_text [] count = absurd (omega (arith, count))
 one_text (a ∷ []) count = (a, refl)
@@ -114,10 +123,10 @@ two_texts (a ∷ []) count = absurd (omega (arith, count))
 two_texts (a ∷ b ∷ []) count = (a, b, refl)
 two_texts (a ∷ b ∷ c ∷ texts) count = absurd (omega (arith, count))
 
-one_other : (others : List Word) → IsTrue (ends_in (Some Output) others) → (name : Word) × (others ≡ name ∷ [])
-one_other [] ends = absurd cc
-one_other (name ∷ []) ends = (name, refl)
-one_other (name ∷ word ∷ words) ends = absurd cc
+one_other : (last : Last) (others : List Word) → IsTrue (ends_in (Some last) others) → (word : Word) × (others ≡ word ∷ [])
+one_other last [] ends = absurd cc
+one_other last (word ∷ []) ends = (word, refl)
+one_other last (word ∷ other ∷ words) ends = absurd cc
 
 -- the same words and texts
 done_of : (command : Command) (others words : List Word) (texts same : List (List ℕ)) → others ≡ words → texts ≡ same →
@@ -126,6 +135,18 @@ done_of command others words texts same words_are is done =
     (done.0, subst (λ os. Does command os texts done.0) (sym words_are) (subst (λ ts. Does command words ts done.0) (sym is) done.1))
 
 module _ (some_text : SomeText) (some_run : SomeRun) (runs_show : RunsShow) where
+  some_generate : (n : ℕ) → (reply : Reply) × Generates n reply
+  some_generate n =
+      let proof = some_prove some_text some_run runs_show (generated_model n) (generated_strategy n) in
+      by_written proof.0 proof.1 proof.0.written refl
+    where
+      by_written : (proved : Reply) → Proves (generated_model n) (generated_strategy n) proved → (written : Option (List ℕ)) → proved.written ≡ written →
+          (reply : Reply) × Generates n reply
+      by_written proved proof None is = (proved, refuses_proof proved proof is)
+      by_written proved proof (Some term) is =
+          let checked = some_check (Summed n) (generated_model n) term in
+          (checked.0, checks proved checked.0 term proof is checked.1)
+
   some_job : (command : Command) (others : List Word) (texts : List (List ℕ)) → IsTrue (ends_in (form_of command).last others) →
       length texts ≡ length (form_of command).inputs →
       (reply : Reply) × Does command others texts reply
@@ -149,8 +170,11 @@ module _ (some_text : SomeText) (some_run : SomeRun) (runs_show : RunsShow) wher
       done_of Smt others [] texts (t.0 ∷ t.1 ∷ []) (no_others others ends) t.2 (some_check Exported t.0 t.1)
   some_job Prove others texts ends count =
       let t = two_texts texts count in
-      let w = one_other others ends in
+      let w = one_other Output others ends in
       done_of Prove others (w.0 ∷ []) texts (t.0 ∷ t.1 ∷ []) w.1 t.2 (some_prove some_text some_run runs_show t.0 t.1)
+  some_job Gen others texts ends count =
+      let w = one_other Number others ends in
+      done_of Gen others (w.0 ∷ []) texts [] w.1 (no_texts texts count) (some_generate (value w.0))
 
   pub some_response : (command : Command) (words : List Word) (texts : List (List ℕ)) → command_of words ≡ Some command →
       length texts ≡ length (form_of command).inputs →

@@ -1,13 +1,16 @@
 //! The laws of answers. Each is a contract of a function that does nothing but call the laws below it.
-ghost use Rattle.std.specs.Prelude.{◌≡◌, ◌<◌, ◌≤◌, ℕ, List, length, None, Some};
+ghost use Rattle.std.specs.Prelude.{◌≡◌, ◌⊎◌, ◌<◌, ◌≤◌, ℕ, List, length, None, Some};
+ghost use Rattle.dlk_library.specs.Generated.{generated_model, generated_strategy};
 ghost use Rattle.dlk_answers.specs.declared.command.Command.{Command as TheCommand};
 ghost use Rattle.dlk_answers.specs.declared.form.Role.TheVariants.{Term};
 ghost use Rattle.dlk_answers.specs.declared.reply.Layout.TheVariants.{Text};
 ghost use Rattle.dlk_answers.specs.declared.reply.Showing.TheVariants.{Reported};
+ghost use Rattle.dlk_answers.specs.declared.reply.Status.TheVariants.{Done, Refused};
 ghost use Rattle.dlk_answers.specs.Forms.{Word, command_of, form_of, limit_of};
 ghost use Rattle.dlk_answers.specs.Replies.{Reply as TheReply, code_of, printing};
 ghost use Rattle.dlk_answers.specs.Checks.{Checks};
 ghost use Rattle.dlk_answers.specs.Proves.{Proves};
+ghost use Rattle.dlk_answers.specs.Generates.{Generates, SumsUp};
 ghost use Rattle.dlk_answers.specs.Answers.{Responds};
 
 use dlk_machine::laws::tree_texts;
@@ -49,6 +52,22 @@ pub fn proved_is_checked()
     ensures { (model strategy term : List ℕ) (reply : TheReply) → Proves model strategy reply → reply.written ≡ Some term →
         (length term ≤ limit_of Term) × Checks (Reported Text) model term (printing reply.status reply.printed) }
 {
+    fit_strategy();
+    run_is_taken();
+    run_has_symbols();
+    run_shows_formula();
+    recorded_is_accepted();
+}
+
+/// `gen` is done or refuses, and its status never says that a proof is open. Where `prove` writes a term for what is generated, the answer sums up
+/// the very proof that `prove` reports, and no term that is written is refused.
+pub fn generated_is_checked()
+    ensures status { (n : ℕ) (reply : TheReply) → Generates n reply → (reply.status ≡ Done) ⊎ (reply.status ≡ Refused) }
+    ensures summary { (n : ℕ) (term : List ℕ) (reply proved : TheReply) → Proves (generated_model n) (generated_strategy n) proved →
+        proved.written ≡ Some term → Generates n reply → SumsUp n reply proved }
+{
+    one_strategy();
+    one_outcome();
     fit_strategy();
     run_is_taken();
     run_has_symbols();

@@ -3,6 +3,7 @@ ghost use Rattle.std.specs.Prelude.{◌≡◌, ◌≤◌, IfOk};
 ghost use Rattle.dlk_calculus.specs.Places.{At, IsPlace};
 ghost use Rattle.dlk_calculus.specs.Provables.{Provable};
 ghost use Rattle.dlk_kernel.specs.Kernel.{facts};
+ghost use Rattle.dlk_report.specs.Reports.{first_word};
 ghost use Rattle.dlk_answers.specs.Checks.{summed};
 ghost use Rattle.dlk_answers.specs.Generates.{Generates};
 ghost use Rattle.dlk_answers.specs.Shown.{reply_of};
@@ -17,6 +18,13 @@ use dlk_store::{Steps, Store};
 use std::alloc::Global;
 use std::sync::ledger::Ledger;
 
+/// The first line of a report.
+fn first_word(closed: bool) -> &'static str
+    ensures { result.now ≡ first_word closed }
+{
+    if closed { "closed" } else { "open" }
+}
+
 /// The summary of a fact that so many lines have shown, of a model of so many assignments.
 pub(super) fn sum_up<S: Store>(
     alloc: Global,
@@ -29,11 +37,7 @@ pub(super) fn sum_up<S: Store>(
     ensures { IfOk result (λ r. (p : Provable) → At (facts S.trees kernel.now) fact p → reply_of r ≡ summed count p lines) }
 {
     let leaves = kernel.leaves(fact).len();
-    let ended = if kernel.goals(fact).is_empty() {
-        "closed"
-    } else {
-        "open"
-    };
+    let ended = first_word(kernel.goals(fact).is_empty());
     let text = format!(in alloc; "generated {count}\nlines {lines}\nleaves {leaves}\n{ended}\n")?;
     Ok(printing(Status::Done, text.into_bytes()))
 }
@@ -54,8 +58,8 @@ pub fn generated<L: Ledger>(
 {
     let (model, strategy) = generate(alloc, count)?;
     let proved = prove(alloc, &model, &strategy, steps)?;
-    match proved.written {
-        Some(term) => check(alloc, Showing::Summed(count), &model, &term, steps),
+    match &proved.written {
+        Some(term) => check(alloc, Showing::Summed(count), &model, term, steps),
         None => Ok(proved),
     }
 }

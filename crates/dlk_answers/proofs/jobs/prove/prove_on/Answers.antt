@@ -39,7 +39,7 @@ returns-in-Err-strategy g c =
     (λ r is. strategy_answer model text read.0 read.1 c.in-Err-strategy.fault (reply_of r) c.in-Err-strategy.ensures.fault is) c.refuse_strategy.ensures
 
 pub run_strategy-requires-clause-runnable : goal.run_strategy-requires-clause-runnable
-run_strategy-requires-clause-runnable g c = record { known = c.in-Ok-strategy.ensures.known; fitting = c.in-Ok-strategy.ensures.fitting }
+run_strategy-requires-clause-runnable g c = record { known = c.in-Ok-strategy.ensures.known; of_text = c.in-Ok-strategy.ensures.fitting }
 
 pub run_strategy-requires-clause-small : goal.run_strategy-requires-clause-small
 run_strategy-requires-clause-small g c =
