@@ -1,6 +1,7 @@
 // What the program answers, by words and texts.
 mod examples;
 mod exporting;
+mod gallery;
 mod limits;
 mod listing;
 mod models;

@@ -4,12 +4,14 @@ use super::proving::proof;
 use super::*;
 
 /// `examples/gallery/straight_line/model`.
-const STRAIGHT_LINE_MODEL: &str = "/* Motion on a straight line from a() on, up to the end of the track at b(). */
+const STRAIGHT_LINE_MODEL: &str =
+    "/* Motion on a straight line from a() on, up to the end of the track at b(). */
   a() <= x & v() >= 0 -> [ { x' = v() & x <= b() } ] (a() <= x & x <= b())
 ";
 
 /// `examples/gallery/straight_line/strategy`.
-const STRAIGHT_LINE_STRATEGY: &str = "/* By the solution of the equation: after the time t_ the place is x+v()*t_, and
+const STRAIGHT_LINE_STRATEGY: &str =
+    "/* By the solution of the equation: after the time t_ the place is x+v()*t_, and
    at each time s_ before that the domain held, so also at t_.
    Leaf. v()*t_ is at least 0. */
 implyR(1);
@@ -27,12 +29,14 @@ lines 35
 ";
 
 /// `examples/gallery/exponential_decay/model`.
-const EXPONENTIAL_DECAY_MODEL: &str = "/* Exponential decay: what is there gets less, but never nothing. */
+const EXPONENTIAL_DECAY_MODEL: &str =
+    "/* Exponential decay: what is there gets less, but never nothing. */
   x > 0 & k() > 0 -> [ { x' = -k()*x } ] x > 0
 ";
 
 /// `examples/gallery/exponential_decay/strategy`.
-const EXPONENTIAL_DECAY_STRATEGY: &str = "/* A ghost y that grows as fast as x*x decays: x*y*y=1 stays true, and no x with
+const EXPONENTIAL_DECAY_STRATEGY: &str =
+    "/* A ghost y that grows as fast as x*x decays: x*y*y=1 stays true, and no x with
    x*y*y=1 is 0 or less. Leaves. There is such a y at first, the root of 1/x. The
    slope of x*y*y is -k()*x*y*y+2*x*y*(1/2*k()*y), which is 0. And y*y>=0. */
 implyR(1); andL(-1);
@@ -66,7 +70,8 @@ lines 272
 ";
 
 /// `examples/gallery/platoon/model`.
-const PLATOON_MODEL: &str = "/* A platoon of two cars: the second takes over each acceleration of the first
+const PLATOON_MODEL: &str =
+    "/* A platoon of two cars: the second takes over each acceleration of the first
    at once. It stays behind the first if it wasn't faster at the beginning. */
   x2 < x1 & v2 <= v1
 ->
@@ -79,7 +84,8 @@ const PLATOON_MODEL: &str = "/* A platoon of two cars: the second takes over eac
 ";
 
 /// `examples/gallery/platoon/strategy`.
-const PLATOON_STRATEGY: &str = "/* Leaves. The speeds have the same slope a, so v2<=v1 stays; and the slopes of
+const PLATOON_STRATEGY: &str =
+    "/* Leaves. The speeds have the same slope a, so v2<=v1 stays; and the slopes of
    the places are the speeds. */
 implyR(1);
 loop(\"x2<x1 & v2<=v1\", 1); <(
@@ -113,7 +119,8 @@ lines 451
 ";
 
 /// `examples/gallery/bouncing_ball/model`.
-const BOUNCING_BALL_MODEL: &str = "/* A ball that loses speed at each bounce never rises above the height H()
+const BOUNCING_BALL_MODEL: &str =
+    "/* A ball that loses speed at each bounce never rises above the height H()
    from which it fell. */
   0 <= x & x = H() & v = 0 & g() > 0 & 0 <= c() & c() <= 1
 ->
@@ -128,7 +135,8 @@ const BOUNCING_BALL_MODEL: &str = "/* A ball that loses speed at each bounce nev
 ";
 
 /// `examples/gallery/bouncing_ball/strategy`.
-const BOUNCING_BALL_STRATEGY: &str = "/* Leaves. The energy 2*g()*x+v*v is constant in flight: both sides have the
+const BOUNCING_BALL_STRATEGY: &str =
+    "/* Leaves. The energy 2*g()*x+v*v is constant in flight: both sides have the
    slope 2*g()*v. A bounce has x=0, and c()*c()*v*v<=v*v. The height:
    2*g()*x<=2*g()*H() as v*v>=0, and g()>0. */
 implyR(1);
@@ -164,7 +172,8 @@ lines 366
 ";
 
 /// `examples/gallery/water_tank/model`.
-const WATER_TANK_MODEL: &str = "/* A water tank of height m() never overflows. Its controller sets the flow
+const WATER_TANK_MODEL: &str =
+    "/* A water tank of height m() never overflows. Its controller sets the flow
    at least every ep() seconds: it fills with at most what there is room for,
    or drains. The flow stays as it is within a cycle: f' = 0. */
   0 <= x & x <= m() & ep() > 0 & D() > 0
@@ -181,7 +190,8 @@ const WATER_TANK_MODEL: &str = "/* A water tank of height m() never overflows. I
 ";
 
 /// `examples/gallery/water_tank/strategy`.
-const WATER_TANK_STRATEGY: &str = "/* Leaves. While the tank fills, x+f*(ep()-t) is constant, and at first
+const WATER_TANK_STRATEGY: &str =
+    "/* Leaves. While the tank fills, x+f*(ep()-t) is constant, and at first
    x+f*ep()<=m(), as ep()>0; f*(ep()-t) is at least 0. While it drains f
    stays below 0, which is the slope of x. */
 implyR(1);
@@ -241,10 +251,22 @@ lines 871
 fn closes_models_of_the_gallery(rt: HostRuntime) -> Result<(), Fail> {
     let alloc = rt.alloc();
     for (model, strategy, report) in [
-        (STRAIGHT_LINE_MODEL, STRAIGHT_LINE_STRATEGY, STRAIGHT_LINE_REPORT),
-        (EXPONENTIAL_DECAY_MODEL, EXPONENTIAL_DECAY_STRATEGY, EXPONENTIAL_DECAY_REPORT),
+        (
+            STRAIGHT_LINE_MODEL,
+            STRAIGHT_LINE_STRATEGY,
+            STRAIGHT_LINE_REPORT,
+        ),
+        (
+            EXPONENTIAL_DECAY_MODEL,
+            EXPONENTIAL_DECAY_STRATEGY,
+            EXPONENTIAL_DECAY_REPORT,
+        ),
         (PLATOON_MODEL, PLATOON_STRATEGY, PLATOON_REPORT),
-        (BOUNCING_BALL_MODEL, BOUNCING_BALL_STRATEGY, BOUNCING_BALL_REPORT),
+        (
+            BOUNCING_BALL_MODEL,
+            BOUNCING_BALL_STRATEGY,
+            BOUNCING_BALL_REPORT,
+        ),
         (WATER_TANK_MODEL, WATER_TANK_STRATEGY, WATER_TANK_REPORT),
     ] {
         let (status, printed, _) = proof(&rt, alloc, model, strategy)?;

@@ -12,7 +12,7 @@ fn proved(alloc: Global, model: &[u8], strategy: &[u8]) -> Result<(u8, Reply), N
 }
 
 /// The status and the report of a proof, and the lines of its term. `check` must say the same of the term.
-fn proof(
+pub(super) fn proof(
     rt: &impl Abort,
     alloc: Global,
     model: &str,
