@@ -1,11 +1,11 @@
-use Rattle.std.proofs.Common.{◌≡◌, [], ◌∷◌, map, false, None, bytes_eq, rules, refl, sym, ap, subst, ◌∙◌}
+use Rattle.std.proofs.Common.{◌≡◌, [], ◌∷◌, map, false, None, bytes_eq, rules, sym, ap, subst, ◌∙◌}
 use Rattle.std.specs.Prelude.{codes}
 use Rattle.std.specs.List.{All}
 use Rattle.std.proofs.lemmas.List.Elements.{recursion_from_All}
 use Rattle.dlk_store.specs.Stores.{tree}
 use Rattle.dlk_tacsyn.specs.declared.tactic.Arg.TheVariants as arg
 use Rattle.dlk_tacsyn.specs.Rows.{is_at_place, is_with_formula, library_row_of}
-use Rattle.dlk_tacsyn.specs.Ties.{argument_at, ArgumentIsKnown, atom_at, tactic_at}
+use Rattle.dlk_tacsyn.specs.Ties.{argument_at, ArgumentIsKnown, atom_at}
 use Rattle.dlk_library.specs.Library.{Expands, by_ghost, by_connectives}
 use Rattle.dlk_library.proofs.Known.{if_none}
 use Rattle.dlk_library.proofs.Shapes.{prop_there, ghost_there, none_at_place, none_with_formula, none_other}
