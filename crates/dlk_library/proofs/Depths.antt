@@ -1,6 +1,7 @@
 -- The parts of a strategy are less deep than it.
 use Rattle.std.proofs.Common.{◌≡◌, ℕ, ◌+◌, Vec, Global, arith, ap, ◌∙◌}
-use Rattle.dlk_tacsyn.specs.declared.tactic.Tactic.{Tactic, Choice, Seq, Branch, size_is-Tactic, out-Tactic, items_shown-the_row-Tactic-0, items_hidden-the_row-Tactic-0}
+use Rattle.dlk_tacsyn.specs.declared.tactic.Tactic.{Tactic, Choice, Seq, Branch, size_is-Tactic, out-Tactic}
+use Rattle.dlk_tacsyn.specs.declared.tactic.Tactic.{items_shown-the_row-Tactic-0, items_hidden-the_row-Tactic-0}
 use Rattle.dlk_tacsyn.specs.declared.tactic.Tactic.TheBlock as block
 use Rattle.dlk_tacsyn.proofs.tactic.Tactic.TheLaws.{the_size}
 use denote.Param.Weighed.{most}

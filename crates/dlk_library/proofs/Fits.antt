@@ -7,15 +7,15 @@ use Rattle.dlk_tree.specs.Trees.{Tree, WellMade}
 use Rattle.dlk_calculus.specs.Pairs.{Pair, Extra, AreWellMade}
 use Rattle.dlk_calculus.specs.Sequents.{IsFormula}
 use Rattle.dlk_tacsyn.specs.declared.kind.Kind.TheVariants.{FixedPlace, AnyPlace, QuotedFormula, QuotedTerm, AName, QuotedExtra}
-use Rattle.dlk_tacsyn.specs.Tactics.{Argument, AtPlace, AnyLeft, AnyRight, Word, GivenFormula, GivenTerm, GivenExtra, Atom}
+use Rattle.dlk_tacsyn.specs.Tactics.{Argument, AtPlace, AnyLeft, AnyRight, GivenFormula, Atom}
 use Rattle.dlk_tacsyn.specs.Tactics.{Tactic, Tactics, Choice, Sequence, Branch, Repeat, One, no_parts, part, EachAtomOf}
 use Rattle.dlk_tacsyn.specs.Rows.{Row, wants, row_of, library_row_of, IsPlace, IsPlaceOrLocator, IsFitting, AreFitting, IsOfText, AreOfText, AreOfKinds}
 use Rattle.dlk_library.specs.Parts.{nothing, rule_at, imply_first, use_at, use_with, generalized, for_r, all_but, for_ghost, atom as atom_of}
-use Rattle.dlk_library.specs.Library.{base_and_step, loop_of, weakening_of, cut_of, invariant_of, ghost_of, step_of, connective, propositional_of}
+use Rattle.dlk_library.specs.Library.{base_and_step, loop_of, cut_of, invariant_of, ghost_of, step_of, connective}
 use Rattle.dlk_library.specs.Library.{Expands, by_loop, by_weakening, by_cut, by_invariant, by_ghost, by_step, by_connectives}
 use Rattle.dlk_library.specs.Expanded.{Expansion, stands_for, itself, Expanded, AllExpanded}
-use Rattle.dlk_library.proofs.Names.{IsLibraryName, is_prop, is_weakening, is_invariant, is_step, is_loop, is_cut, is_ghost, call_kinds, fits_outside}
-use Rattle.dlk_library.proofs.Names.{prop_row, weakening_row, invariant_row, step_row, loop_row, cut_row, ghost_row}
+use Rattle.dlk_library.proofs.Names.{IsLibraryName, is_weakening, is_invariant, is_step, is_loop, is_cut, is_ghost, call_kinds, fits_outside}
+use Rattle.dlk_library.proofs.Names.{weakening_row, invariant_row, step_row, loop_row, cut_row, ghost_row}
 
 any_place : (p : Argument) → IsPlace p → IsPlaceOrLocator p
 any_place (AtPlace place path) h = tt
@@ -109,20 +109,43 @@ module _ (at : ℕ) where
 
   fit_connective : AreFitting (connective at)
   unfolding row_of
-  fit_connective =
-      (fit_close,
-      (fit_rule (codes "closeTrue") AnyRight refl tt,
-      (fit_rule (codes "closeFalse") AnyLeft refl tt,
-      (fit_rule (codes "notL") AnyLeft refl tt,
-      (fit_rule (codes "notR") AnyRight refl tt,
-      (fit_rule (codes "andL") AnyLeft refl tt,
-      (fit_rule (codes "orR") AnyRight refl tt,
-      (fit_rule (codes "implyR") AnyRight refl tt,
-      (fit_rule (codes "equivL") AnyLeft refl tt,
-      (fit_rule (codes "andR") AnyRight refl tt,
-      (fit_rule (codes "orL") AnyLeft refl tt,
-      (fit_rule (codes "implyL") AnyLeft refl tt,
-      (fit_rule (codes "equivR") AnyRight refl tt, tt)))))))))))))
+  fit_connective = (
+    fit_close,
+    (
+      fit_rule (codes "closeTrue") AnyRight refl tt,
+      (
+        fit_rule (codes "closeFalse") AnyLeft refl tt,
+        (
+          fit_rule (codes "notL") AnyLeft refl tt,
+          (
+            fit_rule (codes "notR") AnyRight refl tt,
+            (
+              fit_rule (codes "andL") AnyLeft refl tt,
+              (
+                fit_rule (codes "orR") AnyRight refl tt,
+                (
+                  fit_rule (codes "implyR") AnyRight refl tt,
+                  (
+                    fit_rule (codes "equivL") AnyLeft refl tt,
+                    (
+                      fit_rule (codes "andR") AnyRight refl tt,
+                      (
+                        fit_rule (codes "orL") AnyLeft refl tt,
+                        (
+                          fit_rule (codes "implyL") AnyLeft refl tt,
+                          (fit_rule (codes "equivR") AnyRight refl tt, tt),
+                        ),
+                      ),
+                    ),
+                  ),
+                ),
+              ),
+            ),
+          ),
+        ),
+      ),
+    ),
+  )
 
 -- what an atom stands for
 module _ (atom : Atom) (text : IsOfText atom) where

@@ -1,5 +1,5 @@
 -- What a strategy becomes has names that are names, where the strategy has.
-use Rattle.std.proofs.Common.{◌≡◌, ℕ, List, [], ◌∷◌, None, Some, true, refl, sym, ap, subst, ◌∙◌}
+use Rattle.std.proofs.Common.{◌≡◌, ℕ, List, [], ◌∷◌, None, true, refl, sym, subst}
 use Rattle.std.specs.Prelude.{codes, IsTrue, All}
 use Rattle.std.proofs.lemmas.List.Elements.{All-nil, All-cons, All-head, All-tail}
 use Rattle.dlk_tree.specs.declared.op.Kind.TheVariants.{UnitPred}
@@ -8,11 +8,11 @@ use Rattle.dlk_tree.specs.Table.{is_sym}
 use Rattle.dlk_tree.specs.Trees.{Tree}
 use Rattle.dlk_calculus.specs.Notation.{y_}
 use Rattle.dlk_calculus.specs.Pairs.{Pair, Extra}
-use Rattle.dlk_tacsyn.specs.Tactics.{Argument, AtPlace, AnyLeft, AnyRight, Word, GivenFormula, GivenTerm, GivenExtra, Atom}
+use Rattle.dlk_tacsyn.specs.Tactics.{Argument, AnyLeft, AnyRight, Word, GivenFormula, GivenTerm, GivenExtra, Atom}
 use Rattle.dlk_tacsyn.specs.Tactics.{Tactic, Tactics, Choice, Sequence, Branch, Repeat, One, no_parts, part, EachAtom, EachAtomOf}
 use Rattle.dlk_tacsyn.specs.Rows.{IsRename, ReplacesSymbol, IsNamedExtra, IsNamed, HasNames}
 use Rattle.dlk_library.specs.Parts.{nothing, rule_at, imply_first, use_at, use_with, generalized, for_r, all_but, for_ghost, atom as atom_of}
-use Rattle.dlk_library.specs.Library.{base_and_step, loop_of, weakening_of, cut_of, invariant_of, ghost_of, step_of, connective, propositional_of}
+use Rattle.dlk_library.specs.Library.{base_and_step, loop_of, invariant_of, step_of, connective}
 use Rattle.dlk_library.specs.Library.{Expands, by_loop, by_weakening, by_cut, by_invariant, by_ghost, by_step, by_connectives}
 use Rattle.dlk_library.specs.Expanded.{Expansion, stands_for, itself, Expanded, AllExpanded}
 
@@ -82,31 +82,67 @@ module _ (at : ℕ) where
       (named_use (codes "DI") p refl h, (((named_use (codes "testb") p refl h, (imply, tt)), (imply, tt)), tt))
 
   named_step : (p : Argument) → IsNamed p → AreNamed (step_of at p)
-  named_step p h =
-      (named_use (codes "assignb") p refl h,
-      (named_use (codes "dassignb") p refl h,
-      (named_use (codes "assigneq") p refl h,
-      (named_use (codes "testb") p refl h,
-      (named_use (codes "choiceb") p refl h,
-      (named_use (codes "composeb") p refl h,
-      (named_use (codes "randomb") p refl h,
-      (named_use (codes "diamond") p refl h, tt))))))))
+  named_step p h = (
+    named_use (codes "assignb") p refl h,
+    (
+      named_use (codes "dassignb") p refl h,
+      (
+        named_use (codes "assigneq") p refl h,
+        (
+          named_use (codes "testb") p refl h,
+          (
+            named_use (codes "choiceb") p refl h,
+            (
+              named_use (codes "composeb") p refl h,
+              (
+                named_use (codes "randomb") p refl h,
+                (named_use (codes "diamond") p refl h, tt),
+              ),
+            ),
+          ),
+        ),
+      ),
+    ),
+  )
 
   named_connective : AreNamed (connective at)
-  named_connective =
-      (no_names,
-      (named_rule (codes "closeTrue") AnyRight tt,
-      (named_rule (codes "closeFalse") AnyLeft tt,
-      (named_rule (codes "notL") AnyLeft tt,
-      (named_rule (codes "notR") AnyRight tt,
-      (named_rule (codes "andL") AnyLeft tt,
-      (named_rule (codes "orR") AnyRight tt,
-      (named_rule (codes "implyR") AnyRight tt,
-      (named_rule (codes "equivL") AnyLeft tt,
-      (named_rule (codes "andR") AnyRight tt,
-      (named_rule (codes "orL") AnyLeft tt,
-      (named_rule (codes "implyL") AnyLeft tt,
-      (named_rule (codes "equivR") AnyRight tt, tt)))))))))))))
+  named_connective = (
+    no_names,
+    (
+      named_rule (codes "closeTrue") AnyRight tt,
+      (
+        named_rule (codes "closeFalse") AnyLeft tt,
+        (
+          named_rule (codes "notL") AnyLeft tt,
+          (
+            named_rule (codes "notR") AnyRight tt,
+            (
+              named_rule (codes "andL") AnyLeft tt,
+              (
+                named_rule (codes "orR") AnyRight tt,
+                (
+                  named_rule (codes "implyR") AnyRight tt,
+                  (
+                    named_rule (codes "equivL") AnyLeft tt,
+                    (
+                      named_rule (codes "andR") AnyRight tt,
+                      (
+                        named_rule (codes "orL") AnyLeft tt,
+                        (
+                          named_rule (codes "implyL") AnyLeft tt,
+                          (named_rule (codes "equivR") AnyRight tt, tt),
+                        ),
+                      ),
+                    ),
+                  ),
+                ),
+              ),
+            ),
+          ),
+        ),
+      ),
+    ),
+  )
 
 -- what an atom stands for
 module _ (atom : Atom) (names : HasNames atom) where
@@ -128,7 +164,8 @@ module _ (atom : Atom) (names : HasNames atom) where
       let all = these (Word y ∷ GivenTerm e ∷ GivenTerm d ∷ p ∷ []) a in
       let behind = All-tail IsNamed (GivenTerm e) (GivenTerm d ∷ p ∷ []) (All-tail IsNamed (Word y) (GivenTerm e ∷ GivenTerm d ∷ p ∷ []) all) in
       let place = All-head IsNamed p [] (All-tail IsNamed (GivenTerm d) (p ∷ []) behind) in
-      named_use_with atom.at (codes "DG") p (for_ghost y e d) refl place (named_ghost y e d (All-head IsNamed (Word y) (GivenTerm e ∷ GivenTerm d ∷ p ∷ []) all))
+      let name = All-head IsNamed (Word y) (GivenTerm e ∷ GivenTerm d ∷ p ∷ []) all in
+      named_use_with atom.at (codes "DG") p (for_ghost y e d) refl place (named_ghost y e d name)
   expands_names _ (by_step p n a) = named_step atom.at p (one_place p a)
   expands_names _ (by_connectives n a) = named_connective atom.at
 

@@ -1,10 +1,10 @@
 -- The names of the library: each has a row there, and none as an atom.
-use Rattle.std.proofs.Common.{◌≡◌, ℕ, Bool, true, false, List, [], ◌∷◌, Option, Some, None, ◌⊎◌, inl, inr, refl, sym, ap, subst, ◌∙◌}
+use Rattle.std.proofs.Common.{◌≡◌, ℕ, Bool, true, false, List, [], ◌∷◌, Option, Some, None, ◌⊎◌, inl, inr, refl, ap, subst, ◌∙◌}
 use Rattle.std.specs.Prelude.{bytes_eq, codes}
 use Rattle.std.proofs.lemmas.Slice.Eq.{bytes_eq-Decides}
 use Rattle.dlk_tacsyn.specs.declared.kind.Kind.TheVariants.{FixedPlace, QuotedFormula, QuotedTerm, AName}
-use Rattle.dlk_tacsyn.specs.Tactics.{Argument, Atom}
-use Rattle.dlk_tacsyn.specs.Rows.{Row, wants, row_of, library_row_of, IsFitting, IsLibraryCall, IsOfText, AreOfKinds}
+use Rattle.dlk_tacsyn.specs.Tactics.{Atom}
+use Rattle.dlk_tacsyn.specs.Rows.{Row, wants, row_of, library_row_of, IsFitting, IsOfText, AreOfKinds}
 
 pub data IsLibraryName (name : List ℕ) : Type 0 where
   is_prop : name ≡ codes "prop" → IsLibraryName name

@@ -1,5 +1,5 @@
 -- A name stands for at most one strategy, and a strategy becomes at most one.
-use Rattle.std.proofs.Common.{◌≡◌, ℕ, List, [], ◌∷◌, None, Some, refl, sym, ap, ◌∙◌}
+use Rattle.std.proofs.Common.{◌≡◌, ℕ, List, [], ◌∷◌, None, refl, sym, ap, ◌∙◌}
 use Rattle.std.specs.Prelude.{bytes_eq, codes, if◌then◌else◌}
 use Rattle.dlk_tree.specs.declared.op.Op.TheVariants.{True}
 use Rattle.dlk_tree.specs.Trees.{Tree}

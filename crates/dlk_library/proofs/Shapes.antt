@@ -1,5 +1,5 @@
 -- Names of the library over ids, by their arguments.
-use Rattle.std.proofs.Common.{◌≡◌, ◌≢◌, ℕ, Bool, true, false, List, [], ◌∷◌, map, None, Some, inl, inr, refl, sym, ap, subst, ◌∙◌}
+use Rattle.std.proofs.Common.{◌≡◌, ◌≢◌, ℕ, Bool, true, false, List, [], ◌∷◌, map, None, Some, inl, inr, refl, ap, ◌∙◌}
 use Rattle.std.specs.Prelude.{bytes_eq, codes, ◌||◌}
 use Rattle.std.proofs.lemmas.Bool.{or_cases}
 use Rattle.std.proofs.lemmas.Slice.Eq.{bytes_eq-Decides}
@@ -100,7 +100,8 @@ module _ (trees : List Tree) where
     -- and `dG` has its own
     pub ghost_there : atom.name ≡ codes "dG" → ((y : List ℕ) (d e : Id) (p : Arg) → atom.args ≢ arg.Word y ∷ arg.Term d ∷ arg.Term e ∷ p ∷ []) → ⊥
     ghost_there n none =
-        no_ghost atom.args none (kinds (wants (AName ∷ QuotedTerm ∷ QuotedTerm ∷ FixedPlace ∷ [])) (record { is = is_ghost n; row_is = ap library_row_of n ∙ ghost_row }))
+        let row = wants (AName ∷ QuotedTerm ∷ QuotedTerm ∷ FixedPlace ∷ []) in
+        no_ghost atom.args none (kinds row (record { is = is_ghost n; row_is = ap library_row_of n ∙ ghost_row }))
 
     not_at_place : ((p : Arg) → atom.args ≢ p ∷ []) → is_at_place atom.name ≡ false
     not_at_place none = never_true _ (λ h. no_place atom.args none (kinds _ (at_place_row atom.name h)))

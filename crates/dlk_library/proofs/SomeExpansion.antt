@@ -1,12 +1,10 @@
 -- A strategy whose atoms are those of a text becomes one.
-use Rattle.std.proofs.Common.{◌≡◌, ℕ, List, [], ◌∷◌, Option, None, Some, inl, inr, refl, sym, ap, subst, ◌∙◌}
-use Rattle.std.specs.Prelude.{codes}
+use Rattle.std.proofs.Common.{◌≡◌, ℕ, List, [], ◌∷◌, None, inl, inr, refl, ap, ◌∙◌}
 use Rattle.dlk_tree.specs.Trees.{Tree}
-use Rattle.dlk_tacsyn.specs.declared.kind.Kind.{Kind}
 use Rattle.dlk_tacsyn.specs.declared.kind.Kind.TheVariants.{FixedPlace, QuotedFormula, QuotedTerm, AName}
-use Rattle.dlk_tacsyn.specs.Tactics.{Argument, AtPlace, AnyLeft, AnyRight, Word, GivenFormula, GivenTerm, GivenExtra, Atom}
+use Rattle.dlk_tacsyn.specs.Tactics.{Argument, Word, GivenFormula, GivenTerm, Atom}
 use Rattle.dlk_tacsyn.specs.Tactics.{Tactic, Tactics, Choice, Sequence, Branch, Repeat, One, no_parts, part, EachAtomOf}
-use Rattle.dlk_tacsyn.specs.Rows.{Row, wants, library_row_of, IsOfText, AreOfText, AreOfKinds, IsGivenFormula, IsGivenTerm, IsWord}
+use Rattle.dlk_tacsyn.specs.Rows.{wants, library_row_of, IsOfText, AreOfText, AreOfKinds, IsGivenFormula, IsGivenTerm, IsWord}
 use Rattle.dlk_library.specs.Library.{loop_of, weakening_of, cut_of, invariant_of, ghost_of, step_of, propositional_of}
 use Rattle.dlk_library.specs.Library.{Expands, by_loop, by_weakening, by_cut, by_invariant, by_ghost, by_step, by_connectives}
 use Rattle.dlk_library.specs.Expanded.{Expansion, stands_for, itself, Expanded, AllExpanded}

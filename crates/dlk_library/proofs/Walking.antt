@@ -1,10 +1,10 @@
 -- The parts of a strategy over ids stand in its vector.
-use Rattle.std.proofs.Common.{◌≡◌, ℕ, List, [], ◌∷◌, map, Vec, Global, refl, sym, ap, subst, ◌∙◌}
+use Rattle.std.proofs.Common.{◌≡◌, ℕ, List, map, Vec, Global, refl, ap, subst, ◌∙◌}
 use Rattle.std.specs.List.{All}
-use Rattle.std.proofs.lemmas.List.Elements.{All-head, All-tail, All-nil, All-cons}
+use Rattle.std.proofs.lemmas.List.Elements.{All-nil, All-cons}
 use mathlib.Core.Former.{Count}
 use Rattle.dlk_tree.specs.Trees.{Tree}
-use Rattle.dlk_tacsyn.specs.declared.tactic.Tactic.{Tactic, Choice, Seq, Branch, One, Choice', Seq', Branch', Row_of-Tactic, end_of-Tactic, more_of-Tactic}
+use Rattle.dlk_tacsyn.specs.declared.tactic.Tactic.{Tactic, Choice, Seq, Branch, Choice', Seq', Branch', Row_of-Tactic, end_of-Tactic, more_of-Tactic}
 use Rattle.dlk_tacsyn.specs.declared.tactic.Tactic.{items-the_row-Tactic, items_hidden-the_row-Tactic-0}
 use Rattle.dlk_tacsyn.specs.Tactics as the
 use Rattle.dlk_tacsyn.specs.Tactics.{Tactics, part, EachAtomOf}

@@ -10,7 +10,7 @@ base_and_step byte j p = in_turn (
     atom byte (codes "cutR") (GivenFormula j ∷ p ∷ []) ∷
     branches byte (nothing byte ∷ generalized byte (codes "I") p ∷ []) ∷
     []
-  )
+    )
 
 -- loop("J",P): boxCut("J",P); <(cutR("J",P); <(nil, useAt(I,P); G(P); implyR(1)), nil)
 abbrev pub loop_of : ℕ → Tree → Argument → Tactic
@@ -18,7 +18,7 @@ loop_of byte j p = in_turn (
     atom byte (codes "boxCut") (GivenFormula j ∷ p ∷ []) ∷
     branches byte (base_and_step byte j p ∷ nothing byte ∷ []) ∷
     []
-  )
+    )
 
 -- dW(P): useAt(DWeq,P); G(P); implyR(1)
 abbrev pub weakening_of : ℕ → Argument → Tactic
@@ -33,18 +33,19 @@ abbrev pub invariant_of : ℕ → Argument → Tactic
 invariant_of byte p = in_turn (
     use_at byte (codes "DI") p ∷
     branches byte (
-      in_turn (use_at byte (codes "testb") p ∷ rule_at byte (codes "implyR") p ∷ []) ∷
-      rule_at byte (codes "implyR") p ∷
-      []
+    in_turn (use_at byte (codes "testb") p ∷ rule_at byte (codes "implyR") p ∷ []) ∷
+    rule_at byte (codes "implyR") p ∷
+    []
     ) ∷
     []
-  )
+    )
 
 -- dG(y,"a","b",P): useAt(DG,P,"y_~~y,a(|y|)~>a,b(|y|)~>b"), both pairs as terms
 abbrev pub ghost_of : ℕ → List ℕ → Tree → Tree → Argument → Tactic
 ghost_of byte y a b p = use_with byte (codes "DG") p (for_ghost y a b)
 
--- step(P): useAt(assignb,P) | useAt(dassignb,P) | useAt(assigneq,P) | useAt(testb,P) | useAt(choiceb,P) | useAt(composeb,P) | useAt(randomb,P) | useAt(diamond,P)
+-- step(P): useAt(assignb,P) | useAt(dassignb,P) | useAt(assigneq,P) | useAt(testb,P) | useAt(choiceb,P) | useAt(composeb,P) | useAt(randomb,P)
+-- | useAt(diamond,P)
 abbrev pub step_of : ℕ → Argument → Tactic
 step_of byte p = first_of (
     use_at byte (codes "assignb") p ∷
@@ -56,7 +57,7 @@ step_of byte p = first_of (
     use_at byte (codes "randomb") p ∷
     use_at byte (codes "diamond") p ∷
     []
-  )
+    )
 
 -- close | closeTrue('R) | closeFalse('L) | .. | equivR('R)
 abbrev pub connective : ℕ → Tactic
@@ -75,7 +76,7 @@ connective byte = first_of (
     rule_at byte (codes "implyL") AnyLeft ∷
     rule_at byte (codes "equivR") AnyRight ∷
     []
-  )
+    )
 
 -- prop: (close | closeTrue('R) | .. | equivR('R))*200
 abbrev pub propositional_of : ℕ → Tactic

@@ -18,11 +18,7 @@ use std::alloc::Global;
 /// # Errors
 ///
 /// `Memory`, at any time.
-pub fn expand<S: Store>(
-    alloc: Global,
-    atom: &Atom,
-    store: &S,
-) -> Result<Option<Tactic>, StoreFault>
+pub fn expand<S: Store>(alloc: Global, atom: &Atom, store: &S) -> Result<Option<Tactic>, StoreFault>
     requires known { AtomIsKnown (S.trees store.now) atom.now }
     requires of_text { IsOfText (atom_at (S.trees store.now) atom.now) }
     ensures found { IfOk result (λ found. IfSome found (λ t. Expands (atom_at (S.trees store.now) atom.now) (tactic_at (S.trees store.now) t))) }
@@ -101,7 +97,8 @@ fn all_expanded<S: Store>(
 ) -> Result<Vec<Tactic>, StoreFault>
     requires known { All (TacticIsKnown (S.trees store.now)) parts.now }
     requires of_text { All (λ t. AreOfText (tactic_at (S.trees store.now) t)) parts.now }
-    ensures found { IfOk result (λ new. AllExpanded (all_parts (map (tactic_at (S.trees store.now)) parts.now)) (all_parts (map (tactic_at (S.trees store.now)) new.items))) }
+    ensures found { IfOk result (λ new.
+        AllExpanded (all_parts (map (tactic_at (S.trees store.now)) parts.now)) (all_parts (map (tactic_at (S.trees store.now)) new.items))) }
     ensures known { IfOk result (λ new. All (TacticIsKnown (S.trees store.now)) new.items) }
 {
     let mut new = Vec::new(alloc);

@@ -97,7 +97,7 @@ pub(crate) fn step_of(alloc: Global, at: usize, place: &Arg) -> Result<Tactic, A
         use_at(alloc, at, b"choiceb", place)?,
         use_at(alloc, at, b"composeb", place)?,
         use_at(alloc, at, b"randomb", place)?,
-        use_at(alloc, at, b"diamond", place)?
+        use_at(alloc, at, b"diamond", place)?,
     ]?;
     Ok(Tactic::choice(steps))
 }
@@ -120,7 +120,7 @@ fn connective(alloc: Global, at: usize) -> Result<Tactic, AllocError>
         rule_at(alloc, at, b"andR", Arg::AnyRight)?,
         rule_at(alloc, at, b"orL", Arg::AnyLeft)?,
         rule_at(alloc, at, b"implyL", Arg::AnyLeft)?,
-        rule_at(alloc, at, b"equivR", Arg::AnyRight)?
+        rule_at(alloc, at, b"equivR", Arg::AnyRight)?,
     ]?;
     Ok(Tactic::choice(rules))
 }

@@ -1,8 +1,11 @@
-use Rattle.std.proofs.Common.{◌≡◌, [], ◌∷◌, map, false, None, bytes_eq, rules, refl, sym, ap, subst, ◌∙◌}
+use Rattle.std.proofs.Common.{◌≡◌, [], ◌∷◌, map, false, None, bytes_eq, rules, sym, ap, subst, ◌∙◌}
 use Rattle.std.specs.Prelude.{codes}
+use Rattle.std.specs.List.{All}
+use Rattle.std.proofs.lemmas.List.Elements.{recursion_from_All}
 use Rattle.dlk_store.specs.Stores.{tree}
+use Rattle.dlk_tacsyn.specs.declared.tactic.Arg.TheVariants as arg
 use Rattle.dlk_tacsyn.specs.Rows.{is_at_place, is_with_formula, library_row_of}
-use Rattle.dlk_tacsyn.specs.Ties.{argument_at, atom_at, tactic_at}
+use Rattle.dlk_tacsyn.specs.Ties.{argument_at, ArgumentIsKnown, atom_at}
 use Rattle.dlk_library.specs.Library.{Expands, by_ghost, by_connectives}
 use Rattle.dlk_library.proofs.Known.{if_none}
 use Rattle.dlk_library.proofs.Shapes.{prop_there, ghost_there, none_at_place, none_with_formula, none_other}
@@ -26,19 +29,19 @@ returns-in_default-clause-none g c =
 pub returns-then-eq-2-clause-found : goal.returns-then-eq-2-clause-found
 returns-then-eq-2-clause-found g c =
     let trees = g.S.Store.trees c.args.store.now in
-    let found = c.in-Some.ensures.found in
-    let y-is = c.in-Some.y-is in
-    let a-is = c.in-Some.a-is in
-    let place-is = c.in-Some.place-is in
-    let made = c.in_ok-ghost_of.ensures.made trees in
-    ?
+    let atom = c.args.atom.now in
+    let name : atom.name ≡ codes "dG" = search rules in
+    let are : atom.args ≡ arg.Word c.in-Some.y.now ∷ arg.Term c.in-Some.a ∷ arg.Term c.in-Some.b ∷ c.in-Some.place.now ∷ [] = search rules in
+    subst (Expands (atom_at trees atom)) (sym (c.in_ok-ghost_of.ensures.made trees))
+    (by_ghost c.in-Some.y.now (tree trees c.in-Some.a) (tree trees c.in-Some.b) (argument_at trees c.in-Some.place.now) name (ap (map (argument_at trees)) are))
 
 pub returns-then-eq-2-clause-known : goal.returns-then-eq-2-clause-known
 returns-then-eq-2-clause-known g c =
     let trees = g.S.Store.trees c.args.store.now in
-    let known = c.in_ok-ghost_of.ensures.known trees in
-    let all = c.requires.known in
-    ?
+    let items = arg.Word c.in-Some.y.now ∷ arg.Term c.in-Some.a ∷ arg.Term c.in-Some.b ∷ c.in-Some.place.now ∷ [] in
+    let are : c.args.atom.now.args ≡ items = search rules in
+    let all = recursion_from_All (ArgumentIsKnown trees) items (subst (All (ArgumentIsKnown trees)) are c.requires.known) in
+    c.in_ok-ghost_of.ensures.known trees all.1.0 all.1.1.0 all.1.1.1.0
 
 pub returns-in-Some-place_alone-clause-none : goal.returns-in-Some-place_alone-clause-none
 returns-in-Some-place_alone-clause-none g c =
