@@ -1,6 +1,8 @@
 // What the program answers, by words and texts.
 mod examples;
 mod exporting;
+mod generating;
+mod library;
 mod limits;
 mod listing;
 mod models;
