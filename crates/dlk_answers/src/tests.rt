@@ -2,6 +2,8 @@
 mod examples;
 mod exporting;
 mod gallery;
+mod generating;
+mod library;
 mod limits;
 mod listing;
 mod models;

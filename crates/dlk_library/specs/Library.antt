@@ -1,4 +1,4 @@
--- The library: names that stand for strategies, at a place p of which each has so much to say.
+-- The library: names that stand for strategies. Each is at a byte of the text, and acts at a place p of the goal.
 use Rattle.std.specs.Prelude.{◌≡◌, ℕ, List, [], ◌∷◌, codes}
 use Rattle.dlk_tree.specs.Trees.{Tree}
 use Rattle.dlk_tacsyn.specs.Tactics.{Argument, AnyLeft, AnyRight, Word, GivenFormula, GivenTerm, Atom, Tactic, Repeat}
