@@ -106,5 +106,5 @@ module _ (recorded : RecordedIsAccepted) (runs_taken : RunsTaken) (replace_symbo
       let w = written_by model strategy term reply is written in (
         subst (λ (l : List ℕ). length l ≤ limit_of Term) w.term_is w.short,
         subst (λ (r : Reply). Checks (Reported Text) model term (printing r.status r.printed)) (sym w.reply_is)
-        (written_checks (Reported Text) model strategy term reply w)
+            (written_checks (Reported Text) model strategy term reply w),
       )

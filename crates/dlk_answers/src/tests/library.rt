@@ -99,7 +99,12 @@ fn runs_the_library(rt: HostRuntime) -> Result<(), Fail> {
             "closed\nconclusion ==> ((x>=0 <-> y>=0) -> (!y>=0 <-> !x>=0))&(x>=0&true|false -> y>=0|x>=0&true)\ngoals 0\nleaves 0\nlines 33\n",
         ),
         // a locator, an argument too few or too many, and a formula for a term
-        ("x>=0", "nil; dW('R)", 2, "refused: strategy at 5: arguments\n"),
+        (
+            "x>=0",
+            "nil; dW('R)",
+            2,
+            "refused: strategy at 5: arguments\n",
+        ),
         ("x>=0", "step", 2, "refused: strategy at 0: arguments\n"),
         ("x>=0", "prop(1)", 2, "refused: strategy at 0: arguments\n"),
         ("x>=0", "loop(1)", 2, "refused: strategy at 0: arguments\n"),
@@ -111,7 +116,12 @@ fn runs_the_library(rt: HostRuntime) -> Result<(), Fail> {
         ),
         // a part that fails: the first, the last alternative, and one that comes later
         ("x>=0", "nil; dI(1)", 2, "refused: fails at 5: NoMatch\n"),
-        ("[x:=1;]x>=1", "step(2)", 2, "refused: fails at 0: NoPlace\n"),
+        (
+            "[x:=1;]x>=1",
+            "step(2)",
+            2,
+            "refused: fails at 0: NoPlace\n",
+        ),
         (
             "x>=0 -> [x:=1;]x>=0",
             "implyR(1); loop(\"x>=0\",1)",
