@@ -1,7 +1,10 @@
 //! A theorem prover with a small kernel for differential dynamic logic.
 #![tactic(auto)]
 
-ghost use Rattle.std.specs.Prelude.{◌≡◌, ◌<◌, drop};
+ghost use Rattle.std.specs.Prelude.{◌≡◌, ◌<◌, drop, map, string_bytes};
+ghost use Rattle.std.specs.Process.{exit_status};
+ghost use Rattle.dlk.specs.Headline.{ClosedTruly, ProvesTruly};
+ghost use Rattle.dlk.specs.Runs.{Answered, Caused, HasInputs};
 
 mod explain;
 mod fault;
@@ -44,27 +47,38 @@ fn command_line(rt: &HostRuntime) -> Result<Vec<String>, AllocError> {
     Ok(words)
 }
 
-/// Runs on a desk, with a counter of steps that no one reads.
+/// Runs on a desk, with a counter of steps that no one reads. The status is that of `run`.
 fn start<D: Desk, L: Ledger>(alloc: Global, words: &[String], desk: &mut D, blank: Blank) -> u8
     requires name { blank.name ≡ L.name }
     requires parts { blank.parts ≡ L.parts }
     requires some { 0 < blank.parts }
+    ensures closed_truly { D.tells → ClosedTruly (map string_bytes words.now) result (D.outside desk.old) (D.outside desk.new) }
+    ensures proves_truly { D.tells → ProvesTruly (map string_bytes words.now) result (D.outside desk.old) (D.outside desk.new) }
+    ensures caused { Caused (map string_bytes words.now) result (D.outside desk.old) (D.outside desk.new) }
+    ensures answered { D.tells → HasInputs (map string_bytes words.now) (D.outside desk.old) → Answered (map string_bytes words.now) result (D.outside desk.old) (D.outside desk.new) }
 {
     let mut steps = Steps::<L>::new(blank);
     run(alloc, words, desk, &mut steps)
+}
+
+/// The exit code of a status.
+fn exit_code(status: u8) -> ExitCode
+    ensures { exit_status result ≡ status }
+{
+    ExitCode::from(status)
 }
 
 fn main(rt: HostRuntime) -> ExitCode {
     let alloc = rt.alloc();
     let Ok(all) = command_line(&rt) else {
         let _ = explain(&rt, NO_WORDS, &[]);
-        return ExitCode::from(NO_WORDS);
+        return exit_code(NO_WORDS);
     };
     let words = behind_the_name(all);
     let mut desk = HostDesk::new(rt, alloc);
     let status = start::<HostDesk<HostRuntime>, Brand>(alloc, &words, &mut desk, Blank::new(1));
     let _ = explain(&rt, status, &words);
-    ExitCode::from(status)
+    exit_code(status)
 }
 
 #[cfg(test)]
