@@ -1,4 +1,4 @@
--- Examples of what names of the library stand for, written out in atoms; and of a model of `gen`.
+-- Examples of what names of the library stand for, written out in atoms; and of a model and a strategy of `gen`.
 use Rattle.std.specs.Prelude.{◌≡◌, ℕ, List, [], ◌∷◌, Some, None, codes, refl}
 use Rattle.dlk_tree.specs.Trees.{Tree}
 use Rattle.dlk_tree.specs.declared.op.Kind.TheVariants.{UnitFunc, UnitPred}
@@ -6,7 +6,8 @@ use Rattle.dlk_sequent.specs.declared.sequent.Place.TheVariants.{Succ}
 use Rattle.dlk_tacsyn.specs.Tactics.{Argument, AtPlace, Word, GivenFormula, GivenTerm, GivenExtra, Atom}
 use Rattle.dlk_tacsyn.specs.Tactics.{Sequence, Branch, One, no_parts, part}
 use Rattle.dlk_library.specs.Library.{Expands, by_loop, by_weakening, by_cut, by_invariant, by_ghost}
-use Rattle.dlk_library.specs.Generated.{generated_model}
+use Rattle.std.specs.Fmt.{digits}
+use Rattle.dlk_library.specs.Generated.{generated_model, generated_strategy}
 
 -- the place 1
 abbrev first_right : Argument
@@ -69,3 +70,7 @@ example_weakening = by_weakening first_right refl refl
 -- two assignments
 example_model : generated_model 2 ≡ codes "x>=0 -> [x:=x+1;][x:=x+1;]x>=0"
 example_model = refl
+
+example_strategy : generated_strategy 2 ≡ codes "implyR(1); useAt(assignb,1)*2; leaf"
+unfolding digits
+example_strategy = refl
