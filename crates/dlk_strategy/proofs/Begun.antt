@@ -1,12 +1,12 @@
 -- A run on a model, from the step that states it.
-use Rattle.std.proofs.Common.{◌≡◌, ℕ, ◌+◌, ◌≤◌, List, [], ◌∷◌, ◌++◌, map, length, Result, Ok, Err, refl, sym, ap, subst, ◌∙◌, arith}
+use Rattle.std.proofs.Common.{◌≡◌, ℕ, List, [], ◌∷◌, map, Ok, Err, sym, ap, subst, ◌∙◌, arith}
 use Rattle.std.specs.List.{All}
 use Rattle.std.proofs.lemmas.List.Elements.{All-nil, All-cons}
 use Rattle.dlk_tree.specs.Trees.{Tree}
 use Rattle.dlk_store.specs.declared.Id.{Id}
 use Rattle.dlk_store.specs.Stores.{Keeps, IsId, tree}
 use Rattle.dlk_calculus.specs.declared.reason.Reason.{Reason}
-use Rattle.dlk_calculus.specs.Limits.{IsSmall, IsShallow, most_goals}
+use Rattle.dlk_calculus.specs.Limits.{IsSmall, IsShallow}
 use Rattle.dlk_calculus.specs.Sequents.{alone_right, IsFormula}
 use Rattle.dlk_calculus.specs.Provables.{Provable, started}
 use Rattle.dlk_calculus.specs.Steps.{Start, Against, Fault, Adds}
@@ -19,7 +19,7 @@ use Rattle.dlk_kernel.specs.Kernel.{State, facts, provable_at}
 use Rattle.dlk_tacsyn.specs.Tactics.{Tactic}
 use Rattle.dlk_strategy.specs.declared.fault.RunFault.{RunFault}
 use Rattle.dlk_strategy.specs.declared.fault.RunFault.TheVariants as fault
-use Rattle.dlk_strategy.specs.Runs.{Progress, Outcome, Done, Fails, Budget, main_goals, Runs, RunsPlain}
+use Rattle.dlk_strategy.specs.Runs.{Progress, Outcome, Done, Fails, Budget, Runs, RunsPlain}
 use Rattle.dlk_strategy.specs.Ties.{Becomes, IsRunFaultOf}
 use Rattle.dlk_strategy.proofs.Starting.{none_against, starts, one_row}
 

@@ -1,17 +1,16 @@
 -- The first of strategies that doesn't fail.
-use Rattle.std.proofs.Common.{◌≡◌, ℕ, suc, ◌+◌, ◌≤◌, ◌<◌, List, [], ◌∷◌, ◌++◌, take, drop, length, get_or, Option, Some, None, Result, Ok, Err, refl, sym, ap, subst, ◌∙◌, arith}
+use Rattle.std.proofs.Common.{◌≡◌, ℕ, ◌+◌, ◌≤◌, ◌<◌, List, [], ◌∷◌, ◌++◌, take, drop, length, get_or, Option, None, Result, Ok, Err, refl, ap, subst, ◌∙◌, arith}
 use Rattle.std.proofs.lemmas.List.{drop_all, length-take, get_or-take}
 use Rattle.dlk_tree.specs.Trees.{Tree}
 use Rattle.dlk_store.specs.Stores.{Keeps}
 use Rattle.dlk_calculus.specs.Provables.{Provable}
-use Rattle.dlk_kernel.specs.Kernel.{State, facts}
+use Rattle.dlk_kernel.specs.Kernel.{State}
 use Rattle.dlk_tacsyn.specs.declared.tactic.Tactic.{Tactic}
 use Rattle.dlk_tacsyn.specs.Ties.{tactic_at}
-use Rattle.dlk_strategy.specs.declared.fault.FailWhy.{FailWhy}
 use Rattle.dlk_strategy.specs.declared.fault.RunFault.{RunFault}
 use Rattle.dlk_strategy.specs.declared.fault.RunFault.TheVariants as fault
 use Rattle.dlk_strategy.specs.declared.trace.Trace.{Trace}
-use Rattle.dlk_strategy.specs.Runs.{Progress, Done, Fails, Budget, Fate, done, fails, spent, Ends, Else, Runs, Alternatives, main_goals}
+use Rattle.dlk_strategy.specs.Runs.{Progress, Done, Fails, Budget, Fate, done, spent, Ends, Else, Runs, Alternatives, main_goals}
 use Rattle.dlk_strategy.specs.Ties.{tactics_of, goals_of, IsReady, IsBack, Becomes, BecomesTried}
 use Rattle.dlk_strategy.proofs.Trying.{back_known}
 use Rattle.dlk_strategy.proofs.Reached.{Leads, leads_as, leads_fails}

@@ -5,7 +5,7 @@ use Rattle.dlk_calculus.specs.Steps.{Step}
 use Rattle.dlk_tacsyn.specs.Tactics.{Atom}
 use Rattle.dlk_elab.specs.Atoms.{AtomWhy, AtomSteps, AtomFault}
 use Rattle.dlk_strategy.specs.Whys.{fail_of}
-use Rattle.dlk_strategy.specs.Runs.{Progress, Done, Fails, Once, steps, fault, spent, main_goals}
+use Rattle.dlk_strategy.specs.Runs.{Done, Fails, Once, steps, fault, spent, main_goals}
 use Rattle.dlk_strategy.proofs.OneFate.{IsOne}
 
 module _ (one_steps : (rows : List Provable) (fact goal : ℕ) (atom : Atom) (s t : List Step) (a b : List Provable) → AtomSteps rows fact goal atom s a → AtomSteps rows fact goal atom t b → (s ≡ t) × (a ≡ b))

@@ -1,19 +1,16 @@
 -- The parts of a strategy in turn, and each on a goal of its own.
-use Rattle.std.proofs.Common.{rules, ◌≡◌, ℕ, ◌+◌, ◌≤◌, ◌<◌, List, [], ◌∷◌, drop, length, get_or, Vec, Global, Result, Ok, Err, refl, sym, ap, subst, arith}
+use Rattle.std.proofs.Common.{◌≡◌, ℕ, ◌+◌, ◌≤◌, ◌<◌, List, ◌∷◌, drop, length, get_or, Vec, Global, Err, refl, sym, ap, subst}
 use Rattle.std.specs.List.{All}
-use Rattle.std.proofs.lemmas.List.Elements.{All-head, All-tail}
 use Rattle.std.proofs.lemmas.List.{drop_all}
 use Rattle.dlk_tree.specs.Trees.{Tree}
-use Rattle.dlk_tacsyn.specs.declared.tactic.Tactic.{Tactic, Choice, Seq, Branch, Choice', Tactic-F, roll-Tactic, ind-Tactic}
+use Rattle.dlk_tacsyn.specs.declared.tactic.Tactic.{Tactic, Branch, Tactic-F, roll-Tactic, ind-Tactic}
 use Rattle.dlk_tacsyn.specs.declared.tactic.Tactic.TheVariants.{rolls-Choice, rolls-Seq, rolls-Branch, rolls-Repeat, rolls-One}
-use Rattle.dlk_tacsyn.proofs.tactic.Tactic.TheLaws.{the_size}
 use Rattle.dlk_tacsyn.specs.Tactics as the
 use Rattle.dlk_tacsyn.specs.Tactics.{Tactic as TreeTactic}
-use denote.Param.Weighed.{most}
 use Rattle.dlk_tacsyn.specs.Ties.{tactic_at}
 use Rattle.dlk_strategy.specs.declared.fault.RunFault.{RunFault}
 use Rattle.dlk_strategy.specs.declared.fault.RunFault.TheVariants as fault
-use Rattle.dlk_strategy.specs.Runs.{Progress, Fails, Budget, Fate, Ends, Then, Each, Runs, InTurn, OnOwn, Branched, as_many}
+use Rattle.dlk_strategy.specs.Runs.{Progress, Fate, Ends, Then, Each, Runs, InTurn, OnOwn, Branched, as_many}
 use Rattle.dlk_strategy.specs.Ties.{IsRunnable, tactics_of, on_one, Becomes}
 
 module _ (trees : List Tree) (parts : List Tactic) where

@@ -1,13 +1,10 @@
 -- How far a run has come, and what is still to become of it.
-use Rattle.std.proofs.Common.{◌≡◌, ℕ, zero, suc, ◌+◌, ◌-◌, ◌≤◌, ◌<◌, List, [], ◌∷◌, map, take, drop, length, Result, Ok, Err, refl, sym, ap, subst, ◌∙◌, arith}
-use Rattle.std.specs.List.{All}
+use Rattle.std.proofs.Common.{◌≡◌, ℕ, suc, ◌+◌, ◌-◌, ◌≤◌, ◌<◌, List, map, take, length, Err, refl, sym, ap, subst, ◌∙◌, arith}
 use Rattle.std.proofs.lemmas.List.{length-take, length-map, take-take, take-map}
 use Rattle.std.proofs.Math.Seq.{take-length}
 use Rattle.dlk_tree.specs.Trees.{Tree}
 use Rattle.dlk_calculus.specs.Limits.{most_goals}
-use Rattle.dlk_rules.specs.declared.step.Step.{Step}
-use Rattle.dlk_rules.specs.Steps.{HasKnownIds}
-use Rattle.dlk_kernel.specs.Kernel.{State, facts, provable_at, ExtendsRows}
+use Rattle.dlk_kernel.specs.Kernel.{State, facts, provable_at}
 use Rattle.dlk_strategy.specs.declared.fault.FailWhy.{FailWhy}
 use Rattle.dlk_strategy.specs.declared.fault.RunFault.{RunFault}
 use Rattle.dlk_strategy.specs.declared.fault.RunFault.TheVariants as fault

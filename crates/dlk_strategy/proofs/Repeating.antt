@@ -1,5 +1,5 @@
 -- Goals that wait for their turns.
-use Rattle.std.proofs.Common.{◌≡◌, ◌≢◌, ℕ, zero, suc, ◌+◌, ◌-◌, ◌≤◌, map, take, Option, Some, None, Result, Ok, Err, IfSome, List, [], ◌∷◌, ◌++◌, length, reverse, replicate, refl, sym, ap, subst, ◌∙◌, arith, length-append}
+use Rattle.std.proofs.Common.{◌≡◌, ◌≢◌, ℕ, zero, suc, ◌+◌, ◌-◌, ◌≤◌, take, Option, None, Ok, Err, List, [], ◌∷◌, ◌++◌, length, reverse, replicate, refl, sym, ap, subst, ◌∙◌, arith, length-append}
 use Rattle.std.proofs.lemmas.List.{reverse-append, length-replicate}
 use Rattle.std.proofs.lemmas.List.{length-reverse}
 use Rattle.dlk_tree.specs.Trees.{Tree}
@@ -14,7 +14,7 @@ use Rattle.dlk_strategy.specs.declared.fault.RunFault.{RunFault}
 use Rattle.dlk_strategy.specs.declared.fault.RunFault.TheVariants as fault
 use Rattle.dlk_strategy.specs.declared.trace.Trace.{Trace}
 use Rattle.dlk_strategy.specs.Runs.{Progress, Outcome, Done, Fails, Budget, Fate, Run, Follow, done, fails, spent, Ends, FailsAt, Then, Each, Again, Runs, main_goals}
-use Rattle.dlk_strategy.specs.Ties.{now, goals_of, IsReady, Extends, IsBack, HasLeft, Becomes, BecomesTried, IsBackOnNone, UnlessOver}
+use Rattle.dlk_strategy.specs.Ties.{now, goals_of, IsReady, Extends, IsBack, HasLeft, Becomes, BecomesTried, IsBackOnNone}
 use Rattle.dlk_strategy.proofs.Trying.{back_now, back_extends}
 use Rattle.dlk_strategy.proofs.Counted.{still}
 use Rattle.dlk_strategy.proofs.Reached.{Leads, Reached, reached_on, extends_on, extends_same, leads_end, facts_length}

@@ -1,6 +1,5 @@
 -- The step that states a formula.
-use Rattle.std.proofs.Common.{◌≡◌, ℕ, zero, suc, ◌+◌, ◌≤◌, List, [], ◌∷◌, ◌++◌, length, refl, sym, ap, subst, ◌∙◌, arith}
-use Rattle.std.specs.List.{All}
+use Rattle.std.proofs.Common.{◌≡◌, List, [], ◌∷◌, refl, ap, subst, ◌∙◌, arith}
 use Rattle.std.proofs.lemmas.List.Elements.{All-nil, All-cons}
 use Rattle.dlk_tree.specs.Trees.{Tree}
 use Rattle.dlk_calculus.specs.declared.reason.Reason.{Reason}
@@ -8,7 +7,7 @@ use Rattle.dlk_calculus.specs.Limits.{IsSmall, IsShallow}
 use Rattle.dlk_calculus.specs.Limited.{InSequent, InProvable, HasFewFormulas}
 use Rattle.dlk_calculus.specs.Sequents.{Sequent, alone_right, IsFormula, IsSequent}
 use Rattle.dlk_calculus.specs.Provables.{Provable, started}
-use Rattle.dlk_calculus.specs.Steps.{Step, Start, Gives, start, Exceeds, too_big, too_deep, start_full, Against, start_no_formulas, past_limit, rows_full, StepOf, Adds}
+use Rattle.dlk_calculus.specs.Steps.{Start, Gives, start, Exceeds, too_big, too_deep, start_full, Against, start_no_formulas, past_limit, rows_full, StepOf, Adds}
 
 alone_is : (formula : Tree) → IsFormula formula → IsSequent (alone_right formula)
 alone_is formula is = record { ante = All-nil IsFormula; succ = All-cons IsFormula formula [] is (All-nil IsFormula) }

@@ -1,22 +1,19 @@
 -- What runs make of kernels and of what they keep.
-use Rattle.std.proofs.Common.{◌≡◌, ℕ, zero, suc, ◌+◌, ◌-◌, ◌≤◌, ◌<◌, List, [], ◌∷◌, ◌++◌, map, take, drop, length, get_or, refl, sym, ap, subst, ◌∙◌, arith, min, length-append, length-take, length-drop, Some, None}
+use Rattle.std.proofs.Common.{◌≡◌, ℕ, zero, suc, ◌+◌, ◌-◌, ◌≤◌, ◌<◌, List, [], ◌∷◌, ◌++◌, map, take, drop, length, get_or, refl, sym, ap, subst, ◌∙◌, arith, length-append, length-take, length-drop, Some}
 use Rattle.std.specs.List.{All, slice_get}
 use Rattle.std.proofs.lemmas.List.{map-append, length-map, take_all}
-use Rattle.std.proofs.lemmas.List.Elements.{All-head, All-tail, All-nil, All-cons, All-append, All-weaker}
-use Rattle.std.proofs.Math.Seq.{take-append_seam, take-length, drop-cons}
+use Rattle.std.proofs.lemmas.List.Elements.{All-head, All-tail, All-append, All-weaker}
+use Rattle.std.proofs.Math.Seq.{take-length, drop-cons}
 use Rattle.dlk_tree.specs.Trees.{Tree}
 use Rattle.dlk_store.specs.Stores.{Keeps}
-use Rattle.dlk_calculus.specs.declared.reason.Reason.{Reason}
-use Rattle.dlk_calculus.specs.Limits.{most_goals}
-use Rattle.dlk_calculus.specs.Places.{at, At, put_all, IsPlace}
-use Rattle.dlk_calculus.specs.Sequents.{Sequent}
+use Rattle.dlk_calculus.specs.Places.{At, put_all}
 use Rattle.dlk_calculus.specs.Provables.{Provable}
-use Rattle.dlk_calculus.specs.Steps.{Step as TreeStep, IsGoal}
+use Rattle.dlk_calculus.specs.Steps.{Step as TreeStep}
 use Rattle.dlk_rules.specs.declared.step.Step.{Step}
 use Rattle.dlk_rules.specs.Steps.{step_at, HasKnownIds}
 use Rattle.dlk_kernel.specs.Kernel.{State, facts, provable_at, ExtendsRows, SameRows}
 use Rattle.dlk_tacsyn.specs.Tactics.{Atom}
-use Rattle.dlk_elab.specs.Atoms.{AtomWhy, AtomSteps, AtomFault, HasGoalAt, Replaces}
+use Rattle.dlk_elab.specs.Atoms.{AtomWhy, AtomSteps, AtomFault, HasGoalAt}
 use Rattle.dlk_elab.proofs.Replaced.{replaced}
 use Rattle.dlk_strategy.specs.Whys.{fail_of}
 use Rattle.dlk_strategy.specs.Runs.{Progress, Done, Fails, Once, steps, fault, most_runs, main_goals}

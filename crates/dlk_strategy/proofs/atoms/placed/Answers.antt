@@ -1,7 +1,5 @@
-use Rattle.std.proofs.Common.{◌≡◌, List, map, take, length, refl, sym, ap, ◌∙◌}
+use Rattle.std.proofs.Common.{◌≡◌, map, take, sym, ap, ◌∙◌}
 use Rattle.std.proofs.lemmas.List.{take_all}
-use Rattle.dlk_tree.specs.Trees.{Tree}
-use Rattle.dlk_tacsyn.specs.declared.tactic.Arg.{Arg}
 use Rattle.dlk_tacsyn.specs.Ties.{argument_at}
 use Rattle.dlk_strategy.specs.Runs.{put_place}
 use Rattle.dlk_strategy.proofs.Locators.{placed_more, known_pushed}

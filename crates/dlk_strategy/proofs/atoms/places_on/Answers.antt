@@ -1,4 +1,4 @@
-use Rattle.std.proofs.Common.{◌≡◌, ℕ, ◌+◌, ◌-◌, ◌≤◌, ◌<◌, List, map, length, get_or, refl, sym, ap, subst, ◌∙◌, arith}
+use Rattle.std.proofs.Common.{◌≡◌, ℕ, ◌-◌, ◌≤◌, ◌<◌, List, map, length, get_or, sym, ap, ◌∙◌, arith}
 use Rattle.std.specs.List.{All}
 use Rattle.std.proofs.lemmas.List.{length-map}
 use Rattle.dlk_tree.specs.Trees.{Tree}
@@ -12,8 +12,6 @@ use Rattle.dlk_calculus.specs.Provables.{Provable}
 use Rattle.dlk_sequent.specs.declared.sequent.Sequent.{Sequent}
 use Rattle.dlk_sequent.specs.Sequents.{sequent_at}
 use Rattle.dlk_kernel.specs.Kernel.{provable_at, facts}
-use Rattle.dlk_rules.specs.declared.arguments.Side.{Side}
-use Rattle.dlk_rules.specs.declared.arguments.Side.TheVariants.{Left, Right}
 use Rattle.dlk_elab.proofs.Places.{at_one, At-map, At_read}
 use Rattle.dlk_strategy.specs.Runs.{main_goals, formulas}
 use Rattle.dlk_strategy.proofs.MainGoals.{shown_goals, few_formulas}

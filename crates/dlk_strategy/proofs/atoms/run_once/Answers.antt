@@ -1,4 +1,4 @@
-use Rattle.std.proofs.Common.{◌≡◌, ℕ, ◌+◌, ◌-◌, ◌≤◌, List, ◌++◌, map, take, length, refl, sym, ap, subst, ◌∙◌, arith}
+use Rattle.std.proofs.Common.{◌+◌, ◌-◌, map, take, length, sym, ap, ◌∙◌, arith}
 use Rattle.std.proofs.lemmas.List.{length-map}
 use Rattle.std.proofs.Math.Seq.{take-append_seam, take-length}
 use Rattle.dlk_rules.specs.Steps.{step_at}
@@ -6,7 +6,7 @@ use Rattle.dlk_kernel.specs.Kernel.{facts, provable_at}
 use Rattle.dlk_tacsyn.specs.Ties.{atom_at}
 use Rattle.dlk_elab.specs.Atoms.{UnknownName, NoPlace, NoMatch, AtStep}
 use Rattle.dlk_strategy.specs.Runs.{spent}
-use Rattle.dlk_strategy.specs.Ties.{now, goals_of}
+use Rattle.dlk_strategy.specs.Ties.{now}
 use Rattle.dlk_strategy.proofs.States.{steps_known, steps_more, known_more, goal_there, counted_as, of_last, once_done, once_fails, same_extends}
 use Rattle.dlk_strategy.proofs.atoms.run_once.Goals as goal
 

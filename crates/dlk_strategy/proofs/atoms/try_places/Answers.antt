@@ -1,4 +1,4 @@
-use Rattle.std.proofs.Common.{◌≡◌, ℕ, ◌+◌, ◌≤◌, List, map, length, refl, sym, ap, subst, ◌∙◌, arith}
+use Rattle.std.proofs.Common.{◌+◌, List, length, refl, sym, ap, subst, ◌∙◌, arith}
 use Rattle.dlk_calculus.specs.Provables.{Provable}
 use Rattle.dlk_kernel.specs.Kernel.{facts}
 use Rattle.dlk_tacsyn.specs.Tactics.{Atom}

@@ -1,6 +1,3 @@
-use Rattle.std.proofs.Common.{◌≡◌, ℕ}
-use Rattle.std.specs.List.{All}
-use Rattle.dlk_rules.specs.Steps.{HasKnownIds}
 use Rattle.dlk_tacsyn.specs.Ties.{atom_at}
 use Rattle.dlk_strategy.specs.Ties.{now, IsBack}
 use Rattle.dlk_strategy.proofs.Trying.{Leads}

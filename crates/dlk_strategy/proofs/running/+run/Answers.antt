@@ -1,4 +1,4 @@
-use Rattle.std.proofs.Common.{rules, ◌≡◌, ◌≤◌, ◌+◌, ◌++◌, ℕ, List, length, map, take, drop, All, Option, Some, None, Result, Ok, Err, IfSome, ◌-◌, ◌<◌, [], ◌∷◌, refl, sym, ap, subst, ◌∙◌, arith}
+use Rattle.std.proofs.Common.{rules, ◌≡◌, ◌+◌, ◌++◌, ℕ, List, length, drop, All, Option, None, Ok, Err, IfSome, ◌-◌, [], ◌∷◌, refl, sym, ap, subst, ◌∙◌, arith}
 use Rattle.std.proofs.lemmas.Result.{err_from_is_err_and}
 use Rattle.std.proofs.lemmas.List.Elements.{All-take}
 use denote.Param.Weighed.{at_most, most}
@@ -15,10 +15,8 @@ use Rattle.dlk_strategy.proofs.Reached.{leads_as, taken_back, reached_on, reache
 use Rattle.dlk_strategy.proofs.Choosing.{item_of_take, choices_next, choices_last, choice_err, choice_done, choice_fails, choice_last, back_ready}
 use Rattle.dlk_strategy.proofs.Repeating.{waits_init, waits_ready, waits_end, extends_here, turn_over, turn_none, turn_still, turn_some, turn_err}
 use Rattle.dlk_strategy.proofs.running.+run.Goals as goal
-use Rattle.dlk_tree.specs.Trees.{Tree}
 use Rattle.dlk_store.specs.Stores.{Keeps}
 use Rattle.dlk_calculus.specs.Provables.{Provable}
-use Rattle.dlk_kernel.specs.Kernel.{facts}
 use Rattle.dlk_tacsyn.specs.Tactics as the
 use Rattle.dlk_strategy.proofs.Depths.{size_choice, size_sequence, size_branch}
 

@@ -1,4 +1,4 @@
-use Rattle.std.proofs.Common.{◌-◌, List, drop, ◌+◌, ◌*◌, ◌∷◌, ◌++◌, length, reverse}
+use Rattle.std.proofs.Common.{◌-◌, drop, ◌+◌, ◌*◌, length, reverse}
 use Rattle.dlk_tacsyn.specs.Ties.{tactic_at}
 use Rattle.dlk_strategy.specs.Runs.{Each, InTurn, OnOwn, Runs, Again, most_runs, Alternatives}
 use Rattle.dlk_strategy.specs.Ties.{on_one, tactics_of, now, IsBack}
