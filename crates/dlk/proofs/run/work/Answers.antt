@@ -66,6 +66,11 @@ returns-clause-looks g c =
     (search rules) (search rules) (search rules) (rw c.deref.ensures.value at c.respond.ensures.looks)
 
 pub returns-in_err-respond-clause-looks : goal.returns-in_err-respond-clause-looks
-returns-in_err-respond-clause-looks g c = λ told.
+returns-in_err-respond-clause-looks g c =
+    let command = c.in-Some.command in
+    let many : length (inputs_of command (map string_bytes c.args.words.now)) ≡ length (limits_of command) =
+    ap length (sym c.inputs.ensures.names) ∙ length-map c.inputs.result.now (string_bytes {Z = Global}) ∙ c.inputs.ensures.count ∙
+    sym (length-map (form_of command).inputs limit_of) in
+    λ told.
     command_looked (map string_bytes c.args.words.now) c.in-Some.command (g.D.Desk.outside c.args.desk.now).files (texts_of c.in_ok-inputs.inputs.items) _ _
     (search rules) (search rules) (search rules) (rw c.deref.ensures.value at c.respond.ensures.looks)
