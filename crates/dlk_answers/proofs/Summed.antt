@@ -4,7 +4,6 @@ use Rattle.dlk_grammar.specs.Readings.{Literal, Nesting, Syntax, Shape, TooBig, 
 use Rattle.dlk_grammar.specs.Texts.{TextFault, BadByte, Unread}
 use Rattle.dlk_tacsyn.specs.Faults.{Fault, Syntax as Syntax', Nesting as Nesting', Repeat, UnknownAtom, Arguments}
 use Rattle.dlk_library.specs.Generated.{generated_model, generated_strategy}
-use Rattle.dlk_answers.specs.declared.form.Role.{Role}
 use Rattle.dlk_answers.specs.declared.form.Role.TheVariants.{Model}
 use Rattle.dlk_answers.specs.declared.reply.Showing.TheVariants.{Summed}
 use Rattle.dlk_answers.specs.declared.reply.Status.TheVariants.{Done, Refused}
