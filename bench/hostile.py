@@ -291,6 +291,10 @@ def megabytes(part):
         yield Row(f"a megabyte of {title}, {count} times `{unit}`", "prove", ("true", unit * count + "nil"), status, first)
     yield Row("a megabyte of (", "prove", ("true", "(" * room), 2, f"refused: strategy at {room}: syntax")
     yield Row("a megabyte of brackets", "prove", ("true", "(" * (room // 2 - 2) + "nil" + ")" * (room // 2 - 2)), 2, "refused: strategy at 64: nesting")
+    for title, before, behind in (("sequences", "(nil;", ")"), ("choices", "(nil|", ")"), ("branches", "nil;<(", ")"), ("repeats", "(", ")*2")):
+        levels = room // len(before + behind) - 1
+        first = f"refused: strategy at {64 * len(before) + before.index('<(' if '<' in before else '(')}: nesting"
+        yield Row(f"{levels} nested {title}", "prove", ("true", before * levels + "nil" + behind * levels), 2, first)
     yield Row("a comment of a megabyte", "prove", ("true", f"/*{'*' * (room - 7)}*/nil"), 1, "open")
     yield Row("a string of a megabyte", "prove", ("true", f'cut("{"a" * (room - 10)}>0")'), 1, "open")
     yield Row("a branch of a megabyte", "prove", ("true", f"nil; <({'nil,' * (room // 4 - 3)}nil)"), 2, "refused: fails at 5: WrongCount")
