@@ -323,7 +323,21 @@ def failing_tries(part):
         yield Row(f"{count} failing tries on 65,000 nodes: {title}", "prove", (model, f"{atom}|" * count + "nil"), 1, "open")
 
 
-ROWS = (wide_facts, merges, leaves, sharing, many_substitutions, shared_reports, long_names, many_pairs, nesting, many_symbols, megabytes, repeats, failing_tries)
+def costly_runs(part):
+    """Short strategies whose runs keep much, or whose terms would be long."""
+    wide = "true->" * (SIDE - 1) + "(" * (SIDE - 1) + "(" + "&".join(["true"] * GOALS) + ")" + "|false)" * (SIDE - 1)
+    turns = 50 // min(part, 50)
+    strategy = f"implyR(1)*{SIDE - 1}; orR(1)*{SIDE - 1}; andR(1)*{GOALS - 1}; exchangeR(1,1)*{turns}"
+    yield Row(f"{turns * GOALS} atoms on 256 goals with 256 formulas a side", "prove", (wide, strategy), 1, "open", True)
+    turns = 4_000 // part
+    strategy = "; ".join(["(useAt(composeb,1); useBack(composeb,1))*1000"] * (turns // 1000) or [f"(useAt(composeb,1); useBack(composeb,1))*{turns}"])
+    yield Row(f"{2 * turns} uses of an axiom on 65,000 nodes", "prove", (f"[a;b;]({big_formula(MOST_NODES - 8)})", strategy), 2 if part == 1 else 1, None)
+
+
+ROWS = (
+    wide_facts, merges, leaves, sharing, many_substitutions, shared_reports, long_names, many_pairs, nesting, many_symbols, megabytes, repeats,
+    failing_tries, costly_runs,
+)
 
 
 # runs
