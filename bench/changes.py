@@ -165,8 +165,8 @@ def refused(verb, status, printed, forms):
     for form in forms:
         found = form.fullmatch(printed)
         if status == 2 and found:
-            words = [word for word in found.groups() if word]
-            return words[0] if words else " ".join(word for word in printed.split() if word.isalpha() or "-" in word)
+            what = printed.split()[1].rstrip(":")
+            return " ".join([what, *(word for word in found.groups() if word)])
     raise Fault(f"{verb}: status {status}, {printed[:200]!r}")
 
 

@@ -187,7 +187,7 @@ def strategies():
     path = ".0" * (DEEPEST - 5)
     yield Row("useAt at the end of a long path", "prove", (f"{wrapped(DEEPEST - 5, '!', '[?true;]true')}", f"useAt(testb,1{path})"), 1, "open")
     yield Row("useAt of a context that is deep", "prove", (f"[x:=1;]{wrapped(DEEPEST - 4, '!', 'x>=0')}", "useAt(assignb,1)"), 1, "open")
-    yield Row("useAt in a term", "prove", (f"{wrapped(DEEPEST - 6, '-', '(x*1)')}'>=0".replace("(x*1)", "(y)'", 1).replace("''", "'"), f"useAt(Dvar,1.0{'.0' * (DEEPEST - 6)})"), 1)
+    yield Row("useAt in a term", "prove", (f"{'-' * (DEEPEST - 6)}(y)'>=0", f"useAt(Dvar,1.0{path[:-2]})"), 1, "open")
     yield Row("boundR at depth", "prove", (f"\\forall x {wrapped(DEEPEST - 4, '!', 'x>=0')}", "boundR(y,1); skolemR(1)"), 1, "open")
     yield Row("a quoted formula that is deep", "prove", ("true", f'cut("{wrapped(DEEPEST - 1, "!", "true")}")'), 1, "open")
     yield Row("a path that is longer than the text is deep", "prove", ("true", f"useAt(testb,1{'.0' * 400_000})"), 2, "refused: fails at 0: NoPlace")
