@@ -1,7 +1,7 @@
 #!/usr/bin/env python3
 """Whether a stack of one megabyte suffices for the deepest inputs within the limits.
 
-    python3 bench/depth.py [--stack KILOBYTES] [--only WORD]
+    python3 bench/depth.py [--stack KILOBYTES] [--seconds S] [--only WORD]
 
 A formula of depth 1,000 in each operator that nests, 1,200 brackets, strategies nested 64 with 8 repeats each, terms with deep and with
 wide sequents, systems of 64 items, and substitutions at depth: each is given to the commands that walk it, under `ulimit -s` (1,024).
@@ -200,7 +200,7 @@ def wrong(row, run):
     """What is wrong with a run, or nothing."""
     first = run.printed.split(b"\n", 1)[0].decode(errors="replace")
     if run.status < 0:
-        return f"ended by signal {-run.status}"
+        return f"ended by signal {-run.status} after {run.seconds:.0f} seconds"
     if run.status != row.status:
         return f"status {run.status} and not {row.status}: {first[:120]}"
     if row.first not in (None, first):
@@ -212,18 +212,20 @@ def main():
     """Runs each row, prints those that are wrong, and how many there are."""
     parser = argparse.ArgumentParser(description="Whether a stack of a megabyte suffices for the deepest inputs.")
     parser.add_argument("--stack", type=int, default=1024, help="kilobytes of stack (1024)")
+    parser.add_argument("--seconds", type=int, default=120, help="processor time that a run may take (120)")
     parser.add_argument("--only", default="", help="rows whose titles have this word (all)")
     options = parser.parse_args()
     count = faults = 0
     with tempfile.TemporaryDirectory() as name:
         folder = pathlib.Path(name)
         helper = measurer(folder)
+        limits = [(resource.RLIMIT_STACK, options.stack * 1024), (resource.RLIMIT_CPU, options.seconds)]
         for row in (row for rows in ROWS for row in rows() if options.only in row.title):
             files = [folder / f"input{k}" for k in range(len(row.texts))]
             for file, text in zip(files, row.texts):
                 file.write_text(text)
             output = [folder / "output"] if row.verb == "prove" else []
-            run = measured(helper, [PROGRAM, row.verb, *files, *output], [(resource.RLIMIT_STACK, options.stack * 1024)])
+            run = measured(helper, [PROGRAM, row.verb, *files, *output], limits)
             fault = wrong(row, run)
             count += 1
             faults += bool(fault)
