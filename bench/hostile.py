@@ -87,6 +87,26 @@ def distinct(count, ending):
     return ",".join(f"a{k:x}{ending}" for k in range(count))
 
 
+def multiplied(a, b):
+    """The upper half of a product of two words and its lower half, one over the other."""
+    product = a * b
+    return (product ^ product >> 64) % 2**64
+
+
+def alike_numbers(count):
+    """So many numbers of 38 digits that all have one hash in the store's table of operators. The table's hasher has a fixed seed: the word
+    that stands for a number's operator is mixed in first, and where the lower word of the digits is what came of that, a product with 0
+    forgets the upper one."""
+    first = multiplied(0x243F_6A88_85A3_08D3 ^ 1, 0x9E37_79B9_7F4A_7C15 ^ 16)
+    upper = 10**38 // 2**64
+    return [str((upper - 1 - k) * 2**64 + (first + 16) % 2**64) for k in range(count)]
+
+
+def sums(parts, size=200):
+    """The parts as a sum of sums of so many."""
+    return "+".join(f"({'+'.join(parts[i:i + size])})" for i in range(0, len(parts), size))
+
+
 # honest files
 
 
@@ -270,7 +290,17 @@ def many_symbols(part):
     steps = [f"start ==> \\forall y0 {formula}"] + [f"apply {{}} 1 boundR(1,y{k})" for k in range(1, lines)]
     yield Row(f"60,000 symbols, {lines} bound renamings", "check", ("true", lined(steps)), 2, f"refused: other-conclusion {lines}")
     names = [f"x{k}" for k in range(32_000 // part)]
-    yield Row("32,000 variables, vars", "vars", ("+".join(["0"] * 2 + [f"({'+'.join(names[i:i + 200])})" for i in range(0, len(names), 200)]),), 0, None)
+    yield Row("32,000 variables, vars", "vars", (sums(names),), 0, None)
+
+
+def one_hash(part):
+    """Numbers that all have one hash, in a formula and in the lines of a term."""
+    count = 25_000 // part
+    yield Row(f"{count} numbers of one hash", "print", (sums(alike_numbers(count)),), 0, None)
+    count, size = 100_000 // part, 2_000
+    numbers = alike_numbers(count)
+    steps = [f"start ==> {sums(numbers[i:i + size])}>=0" for i in range(0, count, size)]
+    yield Row(f"{count} numbers of one hash in a term", "check", ("true", lined(steps)), 2, f"refused: other-conclusion {len(steps)}")
 
 
 def megabytes(part):
@@ -335,8 +365,8 @@ def costly_runs(part):
 
 
 ROWS = (
-    wide_facts, merges, leaves, sharing, many_substitutions, shared_reports, long_names, many_pairs, nesting, many_symbols, megabytes, repeats,
-    failing_tries, costly_runs,
+    wide_facts, merges, leaves, sharing, many_substitutions, shared_reports, long_names, many_pairs, nesting, many_symbols, one_hash, megabytes,
+    repeats, failing_tries, costly_runs,
 )
 
 
