@@ -306,6 +306,7 @@ def one_hash(part):
 def megabytes(part):
     """Strategies of a megabyte of one kind of part."""
     room = MOST_BYTES // part
+    # a part of the text is an atom of 4 bytes, or 8 atoms of 8 bytes
     is_spent = room // 4 > MOST_ATOMS
     for title, unit, first, status in (
         ("alternatives", "nil|", "open", 1),
@@ -313,7 +314,7 @@ def megabytes(part):
         ("comments", "/**/", "open", 1),
         ("choices of names of the library", "prop|", "closed", 0),
         ("names of the library one after another", "prop;", "closed", 0),
-        ("choices of steps of the library", "step(1)|", f"refused: budget at {MOST_ATOMS}", 2),
+        ("choices of steps of the library", "step(1)|", f"refused: budget at {MOST_ATOMS}" if is_spent else "open", 2 if is_spent else 1),
         ("strings", 'cut("x>=0")|', "open", 1),
         ("repeats that count no run", "nil*0;", "open", 1),
     ):
