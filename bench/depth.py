@@ -108,15 +108,13 @@ def replaying():
 
 def wide_leaf():
     """A closed proof with a leaf of 256 formulas on the left, the last of which is deep."""
-    deep = f"{wrapped(DEEPEST - 4, '-', 'x')}>=0"
-    implications = "x>=0 -> " * (SIDE - 1)
-    model = f"{implications}{deep} -> true"
-    lines = [f"start ==> {model}"] + ["apply {} 1 implyR(1)"] * SIDE
-    leaf = ", ".join(["x>=0"] * (SIDE - 1) + [deep])
-    lines += [f"leaf {leaf} ==> true", f"merge {SIDE + 1} 1 {{}}"]
+    deep, flat = f"{'-' * (DEEPEST - 4)}x>=0", ["x>=0"] * (SIDE - 1)
+    model = f"{'&'.join([deep, *flat])} -> true"
+    lines = [f"start ==> {model}", "apply {} 1 implyR(1)"] + [f"apply {{}} 1 andL({place})" for place in range(1, SIDE)]
+    lines += [f"apply {{}} 1 exchangeL(1,{SIDE})", f"leaf {', '.join([*flat, deep])} ==> true", f"merge {SIDE + 2} 1 {{}}"]
     term = "".join(f"{k} {line.format(k - 1)}\n" for k, line in enumerate(lines, 1)) + "done\n"
     for verb in ("check", "report", "smt"):
-        yield Row(f"{verb} of a leaf of 256 formulas with a deep one", verb, (model.replace(f"{deep} -> true", f"({deep} -> true)"), term), 0)
+        yield Row(f"{verb} of a leaf of 256 formulas with a deep one", verb, (model, term), 0)
 
 
 def systems():
