@@ -97,7 +97,7 @@ def replaying():
         leaf = f"1 leaf ==> {text}\ndone\n"
         yield Row(f"a leaf, {name}", "smt", (text, leaf), 0 if is_arithmetic else 2)
     for name, text, _ in formulas(DEEPEST - 3):
-        yield Row(f"prove, {name}", "prove", (f"[y:=1;]({text})", "useAt(assignb,1)"), 1, "open")
+        yield Row(f"prove, {name}", "prove", (f"[y:=1;]({text})", "useAt(assignb,1) | useAt(assigneq,1)"), 1, "open")
     wide = ", ".join(f"{wrapped(DEEPEST - 3, '-', 'x')}>={k}" for k in range(60))
     narrow = ", ".join(["x>=0"] * (SIDE - 60))
     sequent = f"{wide}, {narrow} ==> {wide}, {narrow}"
