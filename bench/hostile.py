@@ -24,14 +24,13 @@ import typing
 
 import check
 from common import PROGRAM, measured, measurer
+from limits import MOST_BYTES
 
-MOST_BYTES = 1_048_576
 MOST_LINES = 400_000
 MOST_NODES = 65_536
 MOST_ATOMS = 16_000
 GOALS = SIDE = 256
 LEAVES = 1_024
-DEEPEST = 1_000
 TIMES = 10
 # the processor time below which a run is not told from the start of the program
 LEAST_SECONDS = 0.02
@@ -102,7 +101,7 @@ def alike_numbers(count):
     return [str((upper - 1 - k) * 2**64 + (first + 16) % 2**64) for k in range(count)]
 
 
-def sums(parts, size=200):
+def summed(parts, size=200):
     """The parts as a sum of sums of so many."""
     return "+".join(f"({'+'.join(parts[i:i + size])})" for i in range(0, len(parts), size))
 
@@ -242,7 +241,7 @@ def long_names(part):
     yield Row("print of a name of a megabyte", "print", (f"{name}>0",), 0, f"{name}>0")
     yield Row("vars of a name of a megabyte", "vars", (f"{name}>0",), 0, f"free: {name}")
     half = name[:len(name) // 2 - 8]
-    yield Row("subst of names of half a megabyte", "subst", (f"[{half}:=f();]p({half})"[:MOST_BYTES], "f()~>1"), 0, f"[{half}:=1;]p({half})")
+    yield Row("subst of names of half a megabyte", "subst", (f"[{half}:=f();]p({half})", "f()~>1"), 0, f"[{half}:=1;]p({half})")
     cuts = 60
     steps = ["start ==> true"] + [f"apply {{}} 1 cut({name}{k}>0)" for k in range(cuts)] + ["apply 0 1 closeTrue(1)"]
     yield Row("60 cuts with names of a megabyte", "check", ("true", lined(steps)), 2, f"refused: line {cuts + 2}: Malformed")
@@ -276,7 +275,7 @@ def nesting(_):
     quantified = "\\forall x " * 998 + "x>=0"
     yield Row("998 quantifiers, print", "print", (quantified,), 0, quantified)
     yield Row("998 quantifiers, vars", "vars", (quantified,), 0, "free: none")
-    yield Row("998 quantifiers, subst", "subst", (f"\\forall x {quantified[10:]}".replace("x>=0", "x>=f()"), "f()~>1"), 0, quantified.replace("x>=0", "x>=1"))
+    yield Row("998 quantifiers, subst", "subst", (quantified.replace("x>=0", "x>=f()"), "f()~>1"), 0, quantified.replace("x>=0", "x>=1"))
     yield Row("998 quantifiers, prove", "prove", (quantified, "skolemR(1)*1000; leaf"), 0, "closed")
 
 
@@ -290,16 +289,16 @@ def many_symbols(part):
     steps = [f"start ==> \\forall y0 {formula}"] + [f"apply {{}} 1 boundR(1,y{k})" for k in range(1, lines)]
     yield Row(f"60,000 symbols, {lines} bound renamings", "check", ("true", lined(steps)), 2, f"refused: other-conclusion {lines}")
     names = [f"x{k}" for k in range(32_000 // part)]
-    yield Row("32,000 variables, vars", "vars", (sums(names),), 0, None)
+    yield Row("32,000 variables, vars", "vars", (summed(names),), 0, None)
 
 
 def one_hash(part):
     """Numbers that all have one hash, in a formula and in the lines of a term."""
     count = 25_000 // part
-    yield Row(f"{count} numbers of one hash", "print", (sums(alike_numbers(count)),), 0, None)
+    yield Row(f"{count} numbers of one hash", "print", (summed(alike_numbers(count)),), 0, None)
     count, size = 100_000 // part, 2_000
     numbers = alike_numbers(count)
-    steps = [f"start ==> {sums(numbers[i:i + size])}>=0" for i in range(0, count, size)]
+    steps = [f"start ==> {summed(numbers[i:i + size])}>=0" for i in range(0, count, size)]
     yield Row(f"{count} numbers of one hash in a term", "check", ("true", lined(steps)), 2, f"refused: other-conclusion {len(steps)}")
 
 
