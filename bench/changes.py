@@ -1,28 +1,51 @@
 #!/usr/bin/env python3
-"""What `dlk check` answers to terms with one byte changed at random: 10,000 of them, always the same ones.
+"""What the program answers to examples that were changed at random, always in the same way.
 
-Each answer must be one of those that `docs/FILES.md` lists, and no term may be accepted with another conclusion than the model. Run it
-after `./dlk` has built the program.
+    python3 bench/changes.py                          10,000 terms with one byte changed, for `check`
+    python3 bench/changes.py --count N [--seed S]     N changes of strategies, models and terms of every example
+
+With --count the examples are all folders of `examples/` that have a model, those of the gallery and of the tutorial too, and the models of
+`examples/models`. A term that isn't there is what `prove` writes. In turn a strategy, a model or a term is changed: a byte becomes
+another one, or a word or a mark becomes another one of the same text, is left out, or stands twice. A changed strategy is run on the
+model; a changed model is printed, proved by the strategy, and checked with the term; a changed term is checked. Then `check` must say of each
+term that `prove` writes what `prove` said.
+
+Each answer must be one of those that `docs/FILES.md` and `docs/STRATEGIES.md` list, with its status, and nothing may be accepted with
+another conclusion than the model. Run it after `./dlk` has built the program; another one is named by DLK.
 """
+import argparse
 import collections
+import functools
 import pathlib
 import random
 import re
+import subprocess
 import tempfile
+import typing
 
-from common import TOP, answer
+from common import PROGRAM, TOP, answer
 
 CHANGES = 10_000
+# a run that takes longer is a fault, and its change is printed
+SECONDS = 300
 EVERY = range(256)
 USUAL = b"0123456789 \nxv()~>=,._&|"
 REASONS = """Malformed WrongNumber NoEnd NoFact NoGoal UnknownName NoPlace WrongShape NotEqual NotFresh NotArith IllSubst FreeInSubst
 NotAdmissible TooBig TooDeep SideFull GoalsFull LeavesFull LinesFull""".split()
+TEXT = r" at \d+: (byte|literal|nesting|syntax|shape)|: (size|depth) \d+"
 LINE = re.compile(r"refused: line [1-9][0-9]*: (" + "|".join(REASONS) + r")\n")
 OTHER = re.compile(r"refused: other-conclusion [1-9][0-9]*\nexpected [^\n]*\nfound [^\n]*\n")
+MODEL = re.compile(rf"refused: model(?:{TEXT})\n")
+FILE = re.compile(rf"refused: file(?:{TEXT})\n")
+STRATEGY = re.compile(r"refused: strategy at \d+: (syntax|nesting|repeat|unknown|arguments)\n")
+FAILS = re.compile(r"refused: fails at \d+: (WrongCount|NoMatch|" + "|".join(REASONS) + r")\n")
+BUDGET = re.compile(r"refused: budget at \d+\n")
+TOO_LONG = re.compile(r"refused: term-too-long \d+\n")
+PIECE = re.compile(rb"\w+|\s+|[^\w\s]")
 
 
 def kind_of(status, printed, conclusion):
-    """A word for the answer, or none where it is no answer."""
+    """A word for the answer of `check`, or none where it is no answer."""
     line = LINE.fullmatch(printed)
     if status == 2 and line:
         return line.group(1)
@@ -34,8 +57,14 @@ def kind_of(status, printed, conclusion):
     return None
 
 
-def main():
-    """Prints how often each answer came."""
+@functools.cache
+def conclusion_of(model, term):
+    """The line of the report that has the conclusion."""
+    return answer("check", model, term).stdout.decode().splitlines()[1]
+
+
+def change_terms():
+    """Changes one byte of a term, so many times, and prints how often each answer came."""
     chance = random.Random(1)
     answers = collections.Counter()
     examples = sorted(folder.parent for folder in (TOP / "examples").glob("*/term"))
@@ -43,8 +72,7 @@ def main():
         term = pathlib.Path(name) / "term"
         for k in range(CHANGES):
             example = examples[k % len(examples)]
-            said = answer("check", example / "model", example / "term")
-            conclusion = said.stdout.decode().splitlines()[1]
+            conclusion = conclusion_of(example / "model", example / "term")
             changed = bytearray((example / "term").read_bytes())
             place = chance.randrange(len(changed))
             changed[place] = chance.choice([byte for byte in (EVERY if k // len(examples) % 2 else USUAL) if byte != changed[place]])
@@ -54,8 +82,172 @@ def main():
             if kind is None:
                 raise SystemExit(f"changes.py: {example.name}, byte {place} is {changed[place]}: status {run.returncode}, {run.stdout[:200]}")
             answers[kind] += 1
+    tell(answers)
+
+
+def tell(answers):
+    """Prints how often each answer came."""
     for kind, count in answers.most_common():
         print(f"{kind}: {count}")
+
+
+class Example(typing.NamedTuple):
+    """An example: its name, and its texts by their names. One of `examples/models` has a model alone."""
+
+    name: str
+    texts: dict[str, bytes]
+
+
+class Fault(Exception):
+    """An answer that may not come."""
+
+
+class Desk:
+    """A folder for the files of a run."""
+
+    def __init__(self, folder):
+        self.folder = folder
+
+    def file(self, name, text):
+        """A file with this text."""
+        path = self.folder / name
+        path.write_bytes(text)
+        return path
+
+    def run(self, *words):
+        """The status and the text that a run answers."""
+        try:
+            run = subprocess.run([PROGRAM, *words], capture_output=True, check=False, timeout=SECONDS)
+        except subprocess.TimeoutExpired as late:
+            raise Fault(f"{words[0]}: no answer in {SECONDS} seconds") from late
+        return run.returncode, run.stdout.decode(errors="replace")
+
+    def conclusion(self, model):
+        """The line of a report that has this model as conclusion, or none where it is no model."""
+        status, printed = self.run("print", self.file("model", model))
+        if status == 2 and FILE.fullmatch(printed):
+            return None
+        if status != 0 or not printed.endswith("\n"):
+            raise Fault(f"print: status {status}, {printed[:200]!r}")
+        return f"conclusion ==> {printed[:-1]}"
+
+    def report_kind(self, verb, status, printed, model):
+        """A word for a report. Its conclusion must be the model."""
+        word = {0: "closed", 1: "open"}[status]
+        if not printed.startswith(f"{word}\n{self.conclusion(model)}\n"):
+            raise Fault(f"{verb}: accepted with another conclusion: {printed[:200]!r}")
+        return word
+
+    def check(self, model, term):
+        """A word for the answer of `check` to these texts."""
+        status, printed = self.run("check", self.file("model", model), self.file("term", term))
+        if status in (0, 1):
+            return self.report_kind("check", status, printed, model)
+        return refused("check", status, printed, (LINE, OTHER, MODEL))
+
+    def prove(self, model, strategy):
+        """The same of `prove`. What it wrote is checked, and must have the same report."""
+        term = self.folder / "proof"
+        term.unlink(missing_ok=True)
+        status, printed = self.run("prove", self.file("model", model), self.file("strategy", strategy), term)
+        if status not in (0, 1):
+            if term.exists():
+                raise Fault(f"prove: status {status}, and a term was written")
+            return refused("prove", status, printed, (MODEL, STRATEGY, FAILS, BUDGET, TOO_LONG))
+        checked = self.run("check", self.folder / "model", term)
+        if checked != (status, printed):
+            raise Fault(f"prove said {status}, {printed[:200]!r}, and check of its term {checked[0]}, {checked[1][:200]!r}")
+        return self.report_kind("prove", status, printed, model)
+
+
+def refused(verb, status, printed, forms):
+    """A word for a refusal, which must have one of these forms."""
+    for form in forms:
+        found = form.fullmatch(printed)
+        if status == 2 and found:
+            what = printed.split()[1].rstrip(":")
+            return " ".join([what, *(word for word in found.groups() if word)])
+    raise Fault(f"{verb}: status {status}, {printed[:200]!r}")
+
+
+def examples_in(desk):
+    """All examples with their texts. Where there is a strategy and no term, `prove` writes one."""
+    for model in sorted((TOP / "examples").rglob("model")):
+        folder = model.parent
+        texts = {part: (folder / part).read_bytes() for part in ("model", "strategy", "term") if (folder / part).exists()}
+        if "term" not in texts:
+            desk.prove(texts["model"], texts["strategy"])
+            texts["term"] = (desk.folder / "proof").read_bytes()
+        yield Example(str(folder.relative_to(TOP / "examples")), texts)
+    for model in sorted((TOP / "examples" / "models").iterdir()):
+        yield Example(f"models/{model.name}", {"model": model.read_bytes()})
+
+
+def with_byte(chance, text, bytes_from):
+    """The text with a byte that became another one, and where it stands."""
+    place = chance.randrange(len(text))
+    byte = chance.choice([byte for byte in bytes_from if byte != text[place]])
+    return text[:place] + bytes([byte]) + text[place + 1:], f"byte {place} became {byte}"
+
+
+def with_piece(chance, text):
+    """The text with a word or a mark that became another one of the text, is left out, or stands twice; and what became of it."""
+    pieces = [found for found in PIECE.finditer(text) if not found[0].isspace()]
+    old = chance.choice(pieces)
+    new = chance.choice((chance.choice(pieces)[0], b"", old[0] + b" " + old[0]))
+    return text[:old.start()] + new + text[old.end():], f"{old[0]!r} at {old.start()} became {new!r}"
+
+
+def changed(chance, text):
+    """A changed text, and how it was changed."""
+    way = chance.randrange(4)
+    if way < 2:
+        return with_byte(chance, text, EVERY if way else USUAL)
+    return with_piece(chance, text)
+
+
+def answers_to(desk, part, texts):
+    """The commands that read the part of an example that was changed, and what each answers."""
+    if part == "model":
+        yield "print", "refused" if desk.conclusion(texts["model"]) is None else "printed"
+    if part in ("model", "strategy") and "strategy" in texts:
+        yield "prove", desk.prove(texts["model"], texts["strategy"])
+    if part in ("model", "term") and "term" in texts:
+        yield "check", desk.check(texts["model"], texts["term"])
+
+
+def change_all(count, seed):
+    """Changes a text of an example, so many times, and prints how often each command gave each answer. The parts of all examples have
+    their turns, one after another."""
+    chance = random.Random(seed)
+    answers = collections.Counter()
+    with tempfile.TemporaryDirectory() as name:
+        desk = Desk(pathlib.Path(name))
+        examples = list(examples_in(desk))
+        turns = [(example, part) for part in ("strategy", "model", "term") for example in examples if part in example.texts]
+        for k in range(count):
+            example, part = turns[k % len(turns)]
+            text, how = changed(chance, example.texts[part])
+            try:
+                for verb, kind in answers_to(desk, part, {**example.texts, part: text}):
+                    answers[f"a changed {part}, {verb}: {kind}"] += 1
+            except Fault as fault:
+                raise SystemExit(f"changes.py: change {k}, {example.name}, {part}, {how}: {fault}") from fault
+        print(f"{count} changes of {len(turns)} texts of {len(examples)} examples, seed {seed}")
+    for kind, times in sorted(answers.items(), key=lambda one: (one[0].split(":")[0], -one[1])):
+        print(f"{kind}: {times}")
+
+
+def main():
+    """Changes terms, or all that the examples have."""
+    parser = argparse.ArgumentParser(description="What the program answers to examples that were changed at random.")
+    parser.add_argument("--count", type=int, help="changes of strategies, models and terms of every example (none: of terms alone)")
+    parser.add_argument("--seed", type=int, default=1, help="where the changes begin (1)")
+    options = parser.parse_args()
+    if options.count is None:
+        change_terms()
+    else:
+        change_all(options.count, options.seed)
 
 
 if __name__ == "__main__":

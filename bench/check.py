@@ -6,17 +6,15 @@ and its leaf, is done anew, cut into a main proof, and merged into it. The last 
 400,000 lines about 60 MB. Printed are the growth from 10,000 to 100,000 lines and over the last two terms, and the peak of memory a byte
 of term. Last come 400,001 lines of one axiom, which are one too many.
 
-A small program runs each in a process of its own, since a process that Python starts counts Python's memory as its own. Run it after
-`./dlk` has built the program. It needs a C compiler. Arguments are paths of programs, each timed in turn in the place of the built one: the
+Run it after `./dlk` has built the program. It needs a C compiler. Arguments are paths of programs, each timed in turn in the place of the built one: the
 last one is set against metamath. `metamath` and `set.mm` are those of Debian's packages metamath and metamath-databases.
 """
 import pathlib
 import re
-import subprocess
 import sys
 import tempfile
 
-from common import PROGRAM, TOP
+from common import PROGRAM, TOP, measured, measurer
 
 LEMMA = TOP / "examples" / "increment"
 SET_MM = pathlib.Path("/usr/share/metamath/databases/set.mm")
@@ -24,27 +22,6 @@ COUNTS = (1_000, 3_000, 10_000, 30_000, 100_000)
 LONG_COUNTS = (40_000, 400_000)
 LONG_NAME = "x" * 120
 RUNS = 3
-SPENT = r"""
-#define _DEFAULT_SOURCE
-#include <stdio.h>
-#include <sys/resource.h>
-#include <sys/wait.h>
-#include <unistd.h>
-static double of(struct timeval t) { return t.tv_sec + t.tv_usec / 1e6; }
-int main(int count, char **words) {
-  pid_t child = fork();
-  if (child == 0) {
-    execvp(words[2], words + 2);
-    _exit(127);
-  }
-  int status;
-  struct rusage used;
-  FILE *to = fopen(words[1], "w");
-  if (child < 0 || !to || wait4(child, &status, 0, &used) != child) return 1;
-  fprintf(to, "%f %ld", of(used.ru_utime) + of(used.ru_stime), used.ru_maxrss);
-  return fclose(to) != 0;
-}
-"""
 
 
 def shifted(line, by):
@@ -75,28 +52,18 @@ def term(count, name="x"):
     return "\n".join(lines) + "\ndone\n", len(lines)
 
 
-def built(folder):
-    """The small program that runs another one, and writes its processor time and its peak of memory to a file."""
-    (folder / "spent.c").write_text(SPENT)
-    program = folder / "spent"
-    subprocess.run(["cc", "-o", program, folder / "spent.c"], check=True)
-    return program
-
-
 def spent(words, expected, runs=RUNS):
     """The least processor time of some runs, and the peak of memory in bytes."""
     best, peak = float("inf"), 0
     with tempfile.TemporaryDirectory() as name:
-        folder = pathlib.Path(name)
-        program = built(folder)
+        program = measurer(pathlib.Path(name))
         for _ in range(runs):
-            run = subprocess.run([program, folder / "used", *words], stdout=subprocess.PIPE, stderr=subprocess.STDOUT, check=True)
-            printed = run.stdout.decode(errors="replace")
+            run = measured(program, words)
+            printed = run.printed.decode(errors="replace")
             if expected not in printed:
                 raise SystemExit(f"check.py: {words}: {printed[:200]}")
-            seconds, kilobytes = (folder / "used").read_text().split()
-            best = min(best, float(seconds))
-            peak = max(peak, int(kilobytes) * 1024)
+            best = min(best, run.seconds)
+            peak = max(peak, run.peak)
     return best, peak
 
 

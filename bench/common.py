@@ -1,11 +1,47 @@
-"""What the scripts of this folder share: where the program is, and how a run is timed."""
+"""What the scripts of this folder share: where the program is, and how a run is timed and measured.
+
+The program is that of `./dlk`, or the one that DLK names.
+"""
+import os
 import pathlib
 import resource
 import subprocess
 import time
+import typing
 
 TOP = pathlib.Path(__file__).resolve().parent.parent
-PROGRAM = TOP / "crates" / "dlk" / "out" / "dlk"
+PROGRAM = pathlib.Path(os.environ.get("DLK", TOP / "crates" / "dlk" / "out" / "dlk"))
+# a small program that runs another one, since a process that Python starts counts Python's memory as its own
+MEASURER = r"""
+#define _DEFAULT_SOURCE
+#include <stdio.h>
+#include <sys/resource.h>
+#include <sys/wait.h>
+#include <unistd.h>
+static double of(struct timeval t) { return t.tv_sec + t.tv_usec / 1e6; }
+int main(int count, char **words) {
+  pid_t child = fork();
+  if (child == 0) {
+    execvp(words[2], words + 2);
+    _exit(127);
+  }
+  int status;
+  struct rusage used;
+  FILE *to = fopen(words[1], "w");
+  if (child < 0 || !to || wait4(child, &status, 0, &used) != child) return 1;
+  fprintf(to, "%d %f %ld", status, of(used.ru_utime) + of(used.ru_stime), used.ru_maxrss);
+  return fclose(to) != 0;
+}
+"""
+
+
+class Measured(typing.NamedTuple):
+    """A run: its status, below 0 for a signal, what it printed, its processor time and its peak of memory in bytes."""
+
+    status: int
+    printed: bytes
+    seconds: float
+    peak: int
 
 
 def answer(*words, program=PROGRAM):
@@ -39,3 +75,24 @@ def least_processor_time(runs, words, accepts, program=PROGRAM):
 def least_time(runs, words, accepts):
     """The least time of some runs."""
     return least(time.perf_counter, runs, words, accepts)
+
+
+def measurer(folder):
+    """The small program that runs another one, and writes what it took to a file. It needs a C compiler."""
+    (folder / "measurer.c").write_text(MEASURER)
+    program = folder / "measurer"
+    subprocess.run(["cc", "-o", program, folder / "measurer.c"], check=True)
+    return program
+
+
+def measured(program, words, limits=()):
+    """A run of these words by the small program, under limits of the system: pairs of a limit of `resource` and its number."""
+
+    def limit():
+        for which, most in limits:
+            resource.setrlimit(which, (most, most))
+
+    used = program.parent / "used"
+    run = subprocess.run([program, used, *words], stdout=subprocess.PIPE, stderr=subprocess.STDOUT, check=True, preexec_fn=limit)
+    status, seconds, kilobytes = used.read_text().split()
+    return Measured(os.waitstatus_to_exitcode(int(status)), run.stdout, float(seconds), int(kilobytes) * 1024)
