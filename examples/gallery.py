@@ -20,7 +20,6 @@ from running import EXAMPLES, answer, solved
 
 GALLERY = EXAMPLES / "gallery"
 TEST = EXAMPLES.parent / "crates" / "dlk_answers" / "src" / "tests" / "gallery.rt"
-TEST = EXAMPLES.parent / "crates" / "dlk_answers" / "src" / "tests" / "gallery.rt"
 PROGRAM = shutil.which(os.environ.get("DLK", EXAMPLES.parent / "dlk"))
 
 
@@ -54,15 +53,6 @@ def is_right(folder, options):
             return False
         print(f"{folder.name}: closed, {counts((folder / 'report').read_text())}", flush=True)
         return not options.leaves or solved(PROGRAM, folder.name, folder / "model", term)
-
-
-def is_tested(folder, tests):
-    """Whether the tests have the folder's texts, if they name it."""
-    texts = [(folder / name).read_text().replace("\\", "\\\\").replace('"', '\\"') for name in ("model", "strategy", "report")]
-    if f"`examples/gallery/{folder.name}/model`" not in tests or all(f'"{text}";' in tests for text in texts):
-        return True
-    print(f"{folder.name}: the tests have another text")
-    return False
 
 
 def is_tested(folder, tests):
