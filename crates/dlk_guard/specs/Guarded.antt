@@ -46,13 +46,13 @@ shown [] (f ∷ g ∷ succ) = None
 shown (f ∷ ante) succ = None
 
 abbrev pub shown_why : RawAxiom → Option Tree → Option Why
-shown_why axiom (Some f) = instance_why axiom f
-shown_why axiom None = Some RawFact
+shown_why origin (Some f) = instance_why origin f
+shown_why origin None = Some RawFact
 
 -- what is made of a row, raw or not, is raw where that row is, and this is no good instance
 abbrev pub made_of : Option Raw → Sequent → Option Raw
 made_of None s = None
-made_of (Some raw) s = option_map (λ why. record { axiom = raw.axiom; why = why }) (shown_why raw.axiom (shown s.ante s.succ))
+made_of (Some raw) s = option_map (λ why. record { origin = raw.origin; why = why }) (shown_why raw.origin (shown s.ante s.succ))
 
 -- the mark of a row: none where it isn't raw or isn't there
 abbrev pub mark_at : List (Option Raw) → ℕ → Option Raw
@@ -62,7 +62,7 @@ mark_at marks fact = option_and_then (λ mark. mark) (at marks fact)
 abbrev pub mark_of : List (Option Raw) → Step → Sequent → Option Raw
 mark_of marks (Start t) s = None
 -- the axiom itself, of which no instance was made, is a raw fact
-mark_of marks (UseAxiom name) s = option_map (λ axiom. record { axiom = axiom; why = RawFact }) (raw_axiom name)
+mark_of marks (UseAxiom name) s = option_map (λ origin. record { origin = origin; why = RawFact }) (raw_axiom name)
 mark_of marks (UseRule name) s = None
 mark_of marks (Leaf t) s = None
 mark_of marks (Apply fact goal rule) s = None

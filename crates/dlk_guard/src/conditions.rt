@@ -238,14 +238,14 @@ fn dg_why<S: Store, L: Ledger>(
 pub(crate) fn instance_why<S: Store, L: Ledger>(
     alloc: Global,
     store: &S,
-    axiom: RawAxiom,
+    origin: RawAxiom,
     id: Id,
     steps: &mut Steps<L>,
 ) -> Result<Option<Why>, AllocError>
     requires { IsId (S.trees store.now) id }
-    ensures { IfOk result (λ why. why ≡ instance_why axiom (tree (S.trees store.now) id)) }
+    ensures { IfOk result (λ why. why ≡ instance_why origin (tree (S.trees store.now) id)) }
 {
-    match axiom {
+    match origin {
         RawAxiom::Di => di_why(alloc, store, id, steps),
         RawAxiom::Dg => dg_why(alloc, store, id, steps),
     }

@@ -58,17 +58,17 @@ fn raw_axiom(name: &Name) -> Option<RawAxiom>
 fn shown_why<S: Store, L: Ledger>(
     alloc: Global,
     store: &S,
-    axiom: RawAxiom,
+    origin: RawAxiom,
     s: &Sequent,
     steps: &mut Steps<L>,
 ) -> Result<Option<Why>, AllocError>
     requires { IsKnown (S.trees store.now) s.now }
-    ensures { IfOk result (λ why. let t = sequent_at (S.trees store.now) s.now in why ≡ shown_why axiom (shown t.ante t.succ)) }
+    ensures { IfOk result (λ why. let t = sequent_at (S.trees store.now) s.now in why ≡ shown_why origin (shown t.ante t.succ)) }
 {
     if s.ante.as_slice().len() != 0 || s.succ.as_slice().len() != 1 {
         return Ok(Some(Why::RawFact));
     }
-    instance_why(alloc, store, axiom, s.succ.as_slice()[0], steps)
+    instance_why(alloc, store, origin, s.succ.as_slice()[0], steps)
 }
 
 /// The mark of what is made of a row with this mark.
@@ -80,14 +80,14 @@ fn made_of<S: Store, L: Ledger>(
     steps: &mut Steps<L>,
 ) -> Result<Option<Raw>, AllocError>
     requires { IsKnown (S.trees store.now) s.now }
-    ensures { IfOk result (λ mark. mark ≡ made_of (option_map (λ r. r.now) raw) (sequent_at (S.trees store.now) s.now)) }
+    ensures { IfOk result (λ mark. mark ≡ made_of (option_map (λ r. r.now) raw.entry) (sequent_at (S.trees store.now) s.now)) }
 {
     let Some(raw) = raw else {
         return Ok(None);
     };
-    let axiom = raw.axiom;
-    match shown_why(alloc, store, axiom, s, steps)? {
-        Some(why) => Ok(Some(Raw { axiom, why })),
+    let origin = raw.origin;
+    match shown_why(alloc, store, origin, s, steps)? {
+        Some(why) => Ok(Some(Raw { origin, why })),
         None => Ok(None),
     }
 }
@@ -115,8 +115,8 @@ fn mark_of<S: Store, L: Ledger>(
     ensures { IfOk result (λ mark. mark ≡ mark_of marks.now (step_at (S.trees store.now) step.now) (sequent_at (S.trees store.now) s.now)) }
 {
     match step {
-        Step::Axiom(name) => Ok(raw_axiom(name).map(|axiom| Raw {
-            axiom,
+        Step::Axiom(name) => Ok(raw_axiom(name).map(|origin| Raw {
+            origin,
             why: Why::RawFact,
         })),
         Step::Subst { fact, .. } => made_of(alloc, store, mark_at(marks, *fact), s, steps),
@@ -127,7 +127,7 @@ fn mark_of<S: Store, L: Ledger>(
 
 /// Why the row is raw.
 fn why_raw(raw: Option<&Raw>) -> Result<Option<Why>, AllocError>
-    ensures { IfOk result (λ why. why ≡ why_raw (option_map (λ r. r.now) raw)) }
+    ensures { IfOk result (λ why. why ≡ why_raw (option_map (λ r. r.now) raw.entry)) }
 {
     match raw {
         Some(raw) => Ok(Some(raw.why.clone()?)),

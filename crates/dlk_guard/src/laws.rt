@@ -1,6 +1,6 @@
 //! The laws of guarded proofs. Each is a contract of a function that does nothing.
 ghost use Rattle.std.specs.Prelude.{◌≡◌, ◌⊎◌, ℕ, List, [], ◌∷◌, ◌++◌, None, Some, IsTrue, All};
-ghost use Rattle.dlk_tree.specs.Trees.{Tree};
+ghost use Rattle.dlk_tree.specs.Trees.{Tree, WellMade};
 ghost use Rattle.dlk_guard.specs.declared.why.Why.{Why as TheWhy};
 ghost use Rattle.dlk_guard.specs.declared.guard.Refusal.{Refusal as TheRefusal};
 ghost use Rattle.dlk_guard.specs.Smooth.{tree_eq, is_constant, is_smooth};
@@ -28,7 +28,7 @@ pub fn guarded_without_names()
 
 /// A term without variables is smooth over any domain.
 pub fn smooth_without_variables()
-    ensures { (domain : List Tree) (t : Tree) → IsTrue (is_constant t) → IsTrue (is_smooth domain t) }
+    ensures { (domain : List Tree) (t : Tree) → WellMade t → IsTrue (is_constant t) → IsTrue (is_smooth domain t) }
 {}
 
 /// The test for equal trees holds of equal trees alone.

@@ -12,6 +12,6 @@ pub enum RawAxiom {
 /// What is known of a raw row: the axiom that it comes of, and why it is no good instance of it.
 #[derive(Drop, Debug)]
 pub struct Raw {
-    pub axiom: RawAxiom,
+    pub origin: RawAxiom,
     pub why: Why,
 }
