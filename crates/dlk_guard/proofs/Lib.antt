@@ -1,8 +1,5 @@
 mod Equal
-mod Parts
-mod Smooth
-mod Conditions
-mod Contexts
+mod SmoothTerms
 mod FirstLines
 mod Watching
 mod Plain
