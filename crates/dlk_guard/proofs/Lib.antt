@@ -1,5 +1,7 @@
 mod Equal
 mod SmoothTerms
+mod Holes
+mod Wanted
 mod FirstLines
 mod Watching
 mod Plain

@@ -81,10 +81,20 @@ di_conditions items kids p =
     option_map Primed (first_primed items kids) ∷
     [])
 
+-- the items, where the operator is a system
+abbrev pub system_items : Op → Option (List OdeItem)
+system_items (Op'.System items) = Some items
+system_items _ = None
+
+abbrev pub di_items : Option (List OdeItem) → Forest → Tree → Option Why
+di_items (Some items) kids p = di_conditions items kids p
+di_items None kids p = Some RawFact
+
 -- of what stands at `{S&q}` and at p
 abbrev pub di_parts : Option Tree → Option Tree → Option Why
-di_parts (Some (node (Op'.System items) kids)) (Some p) = di_conditions items kids p
-di_parts _ _ = Some RawFact
+di_parts (Some (node op kids)) (Some p) = di_items (system_items op) kids p
+di_parts (Some (node op kids)) None = Some RawFact
+di_parts None p = Some RawFact
 
 -- why the formula is no good instance of DI; substitution and renaming keep the form, so the paths are those of DI
 abbrev pub di_why : Tree → Option Why
@@ -102,17 +112,22 @@ before_last (kid t (kid u (kid v rest))) = before_last (kid u (kid v rest))
 -- a and b are smooth
 abbrev pub dg_terms : List Tree → Option Tree → Option Tree → Option Why
 dg_terms domain (Some a) (Some b) = unless (is_smooth domain a && is_smooth domain b) GhostNotSmooth
-dg_terms domain _ _ = Some RawFact
+dg_terms domain (Some a) None = Some RawFact
+dg_terms domain None b = Some RawFact
 
 -- of the parts of q, and what stands at a*y+b
 abbrev pub dg_conditions : List Tree → Option Tree → Option Why
 dg_conditions domain (Some side) = dg_terms domain (subtree side (0 ∷ 0 ∷ [])) (subtree side (1 ∷ []))
 dg_conditions domain None = Some RawFact
 
+abbrev pub dg_items : Option (List OdeItem) → Forest → Option Why
+dg_items (Some items) kids = dg_conditions (domain_parts kids) (before_last kids)
+dg_items None kids = Some RawFact
+
 -- of what stands at `{S,y'=a*y+b&q}`
 abbrev pub dg_parts : Option Tree → Option Why
-dg_parts (Some (node (Op'.System items) kids)) = dg_conditions (domain_parts kids) (before_last kids)
-dg_parts _ = Some RawFact
+dg_parts (Some (node op kids)) = dg_items (system_items op) kids
+dg_parts None = Some RawFact
 
 -- why the formula is no good instance of DG
 abbrev pub dg_why : Tree → Option Why

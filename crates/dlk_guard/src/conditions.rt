@@ -6,7 +6,7 @@ ghost use Rattle.dlk_tree.specs.Table.{evolved};
 ghost use Rattle.dlk_tree.specs.Trees.{Tree};
 ghost use Rattle.dlk_store.specs.Stores.{IsId, tree, kid_trees};
 ghost use Rattle.dlk_guard.specs.Smooth.{domain_parts};
-ghost use Rattle.dlk_guard.specs.Instances.{first_constant, loose_in_op, first_loose, is_free_in, first_primed, di_conditions, di_why, dg_conditions, dg_why, instance_why, before_last};
+ghost use Rattle.dlk_guard.specs.Instances.{first_constant, loose_in_op, first_loose, is_free_in, first_primed, di_conditions, system_items, di_why, dg_conditions, dg_why, instance_why, before_last};
 
 use crate::parts::{domain_parts, is_frozen};
 use crate::raw::RawAxiom;
@@ -154,6 +154,16 @@ fn di_conditions<S: Store, L: Ledger>(
     }
 }
 
+/// The items, where the operator is a system.
+fn system_items(op: &Op) -> Option<&[OdeItem]>
+    ensures { option_map (λ items. items.now) result ≡ system_items op.now }
+{
+    match op {
+        Op::System(items) => Some(items.items()),
+        _ => None,
+    }
+}
+
 /// Why the formula is no good instance of `DI`.
 fn di_why<S: Store, L: Ledger>(
     alloc: Global,
@@ -171,10 +181,10 @@ fn di_why<S: Store, L: Ledger>(
         return Ok(Some(Why::RawFact));
     };
     let node = store.look(system, steps);
-    match node.op {
-        Op::System(items) => di_conditions(alloc, store, items.items(), node.kids, p, steps),
-        _ => Ok(Some(Why::RawFact)),
-    }
+    let Some(items) = system_items(node.op) else {
+        return Ok(Some(Why::RawFact));
+    };
+    di_conditions(alloc, store, items, node.kids, p, steps)
 }
 
 /// The last but one of these trees.
@@ -228,10 +238,10 @@ fn dg_why<S: Store, L: Ledger>(
         return Ok(Some(Why::RawFact));
     };
     let node = store.look(system, steps);
-    match node.op {
-        Op::System(_) => dg_conditions(alloc, store, node.kids, steps),
-        _ => Ok(Some(Why::RawFact)),
+    if system_items(node.op).is_none() {
+        return Ok(Some(Why::RawFact));
     }
+    dg_conditions(alloc, store, node.kids, steps)
 }
 
 /// Why the formula is no good instance of the axiom.

@@ -3,12 +3,18 @@ ghost use Rattle.std.specs.Prelude.{◌≡◌, map};
 ghost use Rattle.std.specs.List.{list_any};
 ghost use Rattle.dlk_store.specs.Stores.{IsId, tree};
 ghost use Rattle.dlk_sequent.specs.Substitutions.{pairs_at, AreKnownPairs};
-ghost use Rattle.dlk_guard.specs.Guarded.{has_hole_in_differential, is_differential_context};
+ghost use Rattle.dlk_guard.specs.Guarded.{is_differential, has_hole_in_differential, is_differential_context};
 
 use dlk_sequent::Pair;
 use dlk_store::{Id, Steps, Store};
 use dlk_tree::Op;
 use std::sync::ledger::Ledger;
+
+fn is_differential(op: &Op) -> bool
+    ensures { result ≡ is_differential op.now }
+{
+    matches!(op, Op::DiffF)
+}
 
 /// Whether `_` stands in the tree below a `( )'` of a formula. It goes where `_` stands, and nowhere else.
 fn has_hole_in_differential<S: Store, L: Ledger>(store: &S, id: Id, steps: &mut Steps<L>) -> bool
@@ -19,7 +25,7 @@ fn has_hole_in_differential<S: Store, L: Ledger>(store: &S, id: Id, steps: &mut 
         return false;
     }
     let node = store.look(id, steps);
-    if matches!(node.op, Op::DiffF) {
+    if is_differential(node.op) {
         return true;
     }
     for kid in node.kids {

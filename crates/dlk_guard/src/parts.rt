@@ -3,13 +3,19 @@ ghost use Rattle.std.specs.Prelude.{◌≡◌, [], ◌++◌, List, map, All, OnO
 ghost use Rattle.dlk_tree.specs.Trees.{Tree};
 ghost use Rattle.dlk_store.specs.Stores.{IsId, tree, kid_trees};
 ghost use Rattle.dlk_guard.specs.Ends.{AreEnds};
-ghost use Rattle.dlk_guard.specs.Smooth.{parts, domain_parts, is_zero, is_variable, keeps_off_zero, is_kept_off_zero, says_constant, is_frozen};
+ghost use Rattle.dlk_guard.specs.Smooth.{is_and, parts, domain_parts, is_zero, is_variable, is_apart, keeps_off_zero, is_kept_off_zero, is_equation, says_constant, is_frozen};
 ghost use Rattle.dlk_tree.specs.Statics.{prime};
 
 use dlk_store::{Id, Steps, Store};
 use dlk_tree::{Name, Op};
 use std::alloc::{AllocError, Global};
 use std::sync::ledger::Ledger;
+
+fn is_and(op: &Op) -> bool
+    ensures { result ≡ is_and op.now }
+{
+    matches!(op, Op::And)
+}
 
 /// Adds the parts of a formula: what `&` joins, from the top.
 fn add_parts<S: Store, L: Ledger>(
@@ -24,7 +30,7 @@ fn add_parts<S: Store, L: Ledger>(
     ensures known { OnOk result (All (IsId (S.trees store.now)) into.new.items) }
 {
     let node = store.look(id, steps);
-    if !matches!(node.op, Op::And) {
+    if !is_and(node.op) {
         into.push(id)?;
         return Ok(());
     }
@@ -57,7 +63,10 @@ fn ends(kids: &[Id]) -> Option<(Id, Id)>
     ensures value { (trees : List Tree) → MatchOption result (kids.now ≡ []) (AreEnds trees (kid_trees trees kids.now)) }
     ensures known { (trees : List Tree) → All (IsId trees) kids.now → IfSome result (λ e. IsId trees e.0 × IsId trees e.1) }
 {
-    let (Some(first), Some(last)) = (kids.first(), kids.last()) else {
+    let Some(first) = kids.first() else {
+        return None;
+    };
+    let Some(last) = kids.last() else {
         return None;
     };
     Some((*first, *last))
@@ -85,6 +94,13 @@ fn is_prime<S: Store, L: Ledger>(store: &S, x: &Name, id: Id, steps: &mut Steps<
     }
 }
 
+/// `!=`, `>` or `<`.
+fn is_apart(op: &Op) -> bool
+    ensures { result ≡ is_apart op.now }
+{
+    matches!(op, Op::Ne | Op::Gt | Op::Lt)
+}
+
 /// Whether the part says that the term isn't 0: it is `d!=0`, `d>0` or `d<0`, or the same turned round.
 fn keeps_off_zero<S: Store, L: Ledger>(store: &S, d: Id, part: Id, steps: &mut Steps<L>) -> bool
     requires term { IsId (S.trees store.now) d }
@@ -92,7 +108,7 @@ fn keeps_off_zero<S: Store, L: Ledger>(store: &S, d: Id, part: Id, steps: &mut S
     ensures { result ≡ keeps_off_zero (tree (S.trees store.now) d) (tree (S.trees store.now) part) }
 {
     let node = store.look(part, steps);
-    if !matches!(node.op, Op::Ne | Op::Gt | Op::Lt) {
+    if !is_apart(node.op) {
         return false;
     }
     let Some((left, right)) = ends(node.kids) else {
@@ -121,13 +137,19 @@ pub(crate) fn is_kept_off_zero<S: Store, L: Ledger>(
     false
 }
 
+fn is_equation(op: &Op) -> bool
+    ensures { result ≡ is_equation op.now }
+{
+    matches!(op, Op::Eq)
+}
+
 /// Whether the part is `x'=0`.
 fn says_constant<S: Store, L: Ledger>(store: &S, x: &Name, part: Id, steps: &mut Steps<L>) -> bool
     requires { IsId (S.trees store.now) part }
     ensures { result ≡ says_constant x.now (tree (S.trees store.now) part) }
 {
     let node = store.look(part, steps);
-    if !matches!(node.op, Op::Eq) {
+    if !is_equation(node.op) {
         return false;
     }
     let Some((left, right)) = ends(node.kids) else {
