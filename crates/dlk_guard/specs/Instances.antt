@@ -1,5 +1,5 @@
 -- What is wanted of an instance of DI and of one of DG. Each condition is a row, in the order in which it is looked for.
-use Rattle.std.specs.Prelude.{ℕ, List, [], ◌∷◌, Bool, ◌&&◌, ◌||◌, if◌then◌else◌, Option, Some, None, option_map}
+use Rattle.std.specs.Prelude.{ℕ, List, [], ◌∷◌, Bool, false, ◌&&◌, ◌||◌, if◌then◌else◌, Option, Some, None, option_map}
 use Rattle.std.specs.List.{list_any}
 use Rattle.std.specs.Str.{bytes_eq}
 use Rattle.dlk_tree.specs.declared.op.Var.{Var}
@@ -9,7 +9,7 @@ use Rattle.dlk_tree.specs.declared.op.OdeItem.TheVariants as Item
 use Rattle.dlk_tree.specs.declared.op.Op.{Op}
 use Rattle.dlk_tree.specs.declared.op.Op.TheVariants as Op'
 use Rattle.dlk_tree.specs.Table.{evolved}
-use Rattle.dlk_tree.specs.Trees.{Tree, node, Forest, no_kids, kid, trees_in}
+use Rattle.dlk_tree.specs.Trees.{Tree, node, Forest, no_kids, kid}
 use Rattle.dlk_tree.specs.Statics.{free, prime}
 use Rattle.dlk_calculus.specs.Paths.{subtree}
 use Rattle.dlk_guard.specs.declared.why.Why.{Why}
@@ -59,7 +59,8 @@ abbrev mutual
 
 -- the variable is free in one of the trees
 abbrev pub is_free_in : Forest → Var → Bool
-is_free_in kids v = list_any (λ t. free t v) (trees_in kids)
+is_free_in no_kids v = false
+is_free_in (kid t rest) v = free t v || is_free_in rest v
 
 -- the first evolved variable whose primed one is free in a kid of the system: in a right side or in the domain
 abbrev pub first_primed : List OdeItem → Forest → Option (List ℕ)
