@@ -110,7 +110,7 @@ misuse marks (UseAxiom name) = unless (not (bytes_eq name (codes "Dforall"))) Df
 misuse marks (UseRule name) = None
 misuse marks (Leaf t) = None
 misuse marks (Apply fact goal rule) = None
--- no raw row is merged
+-- no raw row is merged; no rule can be applied to one, since it has no goals
 misuse marks (Merge fact goal by) = first_of (why_raw (mark_at marks fact) ∷ why_raw (mark_at marks by) ∷ [])
 -- nothing is put below a ( )' of a formula
 misuse marks (Substitute fact pairs) = unless (not (list_any is_differential_context pairs)) DifferentialContext
