@@ -30,5 +30,5 @@ is_test true s t is = sym ((tree_decides s t).1 (is.0 refl))
 is_test false s t is = differs (tree_eq s t) (λ e. let yes = is.1 ((tree_decides s t).0 e) in cc)
   where
     differs : (b : Bool) → (b ≡ true → ⊥) → false ≡ b
-    differs true no = absurd (no refl)
-    differs false no = refl
+    differs true h = absurd (h refl)
+    differs false h = refl

@@ -1,6 +1,7 @@
 mod Equal
 mod SmoothTerms
 mod Holes
+mod LastKids
 mod Joined
 mod Wanted
 mod FirstLines

@@ -61,7 +61,7 @@ none_behind before (l ∷ all) none plain =
 
 none_at_all : NoneRaw []
 none_at_all zero = refl
-none_at_all (suc n) = refl
+none_at_all (suc n) = ap (option_and_then (λ mark. mark)) (at_suc {A = Option Raw} [] n)
 
 plain_front : (k : ℕ) (all : List Line) → All IsPlain all → All IsPlain (take k all)
 plain_front zero all plain = All-nil IsPlain

@@ -143,7 +143,7 @@ sees_behind front [] w s = subst (λ ls. Sees ls w) (sym (append-nil front)) s
 sees_behind front (l ∷ more) w s =
     subst (λ ls. Sees ls (watched_all (watched w l) more)) (append_assoc front (l ∷ []) more) (sees_behind (front ++ l ∷ []) more (watched w l) (sees_more front l w s))
 
-pub sees_all : (all : List Line) → Sees all (watch_of all)
+sees_all : (all : List Line) → Sees all (watch_of all)
 sees_all all = sees_behind [] all started sees_none
 
 -- ---- what it says at the end
@@ -270,7 +270,7 @@ ends_in (x ∷ all) = elim (ends_in all) [
   | inr last ↦ inr (x ∷ last.0, last.1, ap (λ ls. x ∷ ls) last.2)
 ]
 
-pub says_all : (all : List Line) → Says all (verdict (watch_of all))
+says_all : (all : List Line) → Says all (verdict (watch_of all))
 says_all all = elim (ends_in all) [
   | inl none ↦ subst (λ ls. Says ls (verdict (watch_of ls))) (sym none) (record { none = refused_none })
   | inr last ↦ subst (λ ls. Says ls (verdict (watch_of ls))) (sym last.2)

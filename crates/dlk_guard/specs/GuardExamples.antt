@@ -11,7 +11,7 @@ use Rattle.dlk_calculus.specs.Notation.{leaf, number, add, mul, div, pow, neg, d
 use Rattle.dlk_calculus.specs.Pairs.{Pair}
 use Rattle.dlk_calculus.specs.Rules.{imply, equiv}
 use Rattle.dlk_calculus.specs.Sequents.{alone_right}
-use Rattle.dlk_calculus.specs.Steps.{Step, UseAxiom, UseRule, Leaf, Merge, Substitute, Rename}
+use Rattle.dlk_calculus.specs.Steps.{Step, Start, UseAxiom, UseRule, Leaf, Merge, Substitute, Rename}
 use Rattle.dlk_guard.specs.declared.why.Why.{Why}
 use Rattle.dlk_guard.specs.declared.why.Why.TheVariants.{OdeConstant, NotSmooth, NotEvolved, Primed, GhostNotSmooth, DifferentialContext, Dforall, RawFact}
 use Rattle.dlk_guard.specs.declared.guard.Refusal.{Refusal}
@@ -299,60 +299,60 @@ row step f = record { step = step; conclusion = alone_right f }
 abbrev refused : ℕ → Why → Option Refusal
 refused line why = Some (record { line = line; why = why })
 
--- what row 1 gives, which is this axiom
+-- a row with a goal, this axiom, and what is made of it
 abbrev of_axiom : List ℕ → Tree → List Line
-of_axiom name f = row (UseAxiom name) truth ∷ row (Substitute 1 []) f ∷ []
+of_axiom name f = row (Start (alone_right truth)) truth ∷ row (UseAxiom name) truth ∷ row (Substitute 2 []) f ∷ []
 
 abbrev bad : Tree
 bad = di_of truth below_b
 
 -- a good instance is merged
-good_merged : verdict (watch_of (of_axiom (codes "DI") (di_of truth low) ++ row (Merge 1 1 2) truth ∷ [])) ≡ None
+good_merged : verdict (watch_of (of_axiom (codes "DI") (di_of truth low) ++ row (Merge 1 1 3) truth ∷ [])) ≡ None
 good_merged = refl
 
 -- a bad one is
-bad_merged : verdict (watch_of (of_axiom (codes "DI") bad ++ row (Merge 1 1 2) truth ∷ row (Leaf (alone_right truth)) truth ∷ [])) ≡ refused 3 (NotEvolved bs)
+bad_merged : verdict (watch_of (of_axiom (codes "DI") bad ++ row (Merge 1 1 3) truth ∷ row (Leaf (alone_right truth)) truth ∷ [])) ≡ refused 4 (NotEvolved bs)
 bad_merged = refl
 
 -- a bad one, whose name is exchanged, is
 renamed_merged :
-    verdict (watch_of (of_axiom (codes "DI") bad ++ row (Rename 2 xs ys) bad ∷ row (Merge 1 1 3) truth ∷ [])) ≡ refused 4 (NotEvolved bs)
+    verdict (watch_of (of_axiom (codes "DI") bad ++ row (Rename 3 xs ys) bad ∷ row (Merge 1 1 4) truth ∷ [])) ≡ refused 5 (NotEvolved bs)
 renamed_merged = refl
 
 -- the same lines, of another axiom
-other_axiom : verdict (watch_of (of_axiom (codes "DC") bad ++ row (Merge 1 1 2) truth ∷ [])) ≡ None
+other_axiom : verdict (watch_of (of_axiom (codes "DC") bad ++ row (Merge 1 1 3) truth ∷ [])) ≡ None
 other_axiom = refl
 
 -- a bad one that isn't used is no fault, and a raw row of which a good instance is made isn't either
 not_used : verdict (watch_of (of_axiom (codes "DI") bad ++ row (Leaf (alone_right truth)) truth ∷ [])) ≡ None
 not_used = refl
 
-made_good : verdict (watch_of (of_axiom (codes "DI") bad ++ row (Substitute 2 []) (di_of truth low) ∷ row (Merge 1 1 3) truth ∷ [])) ≡ None
+made_good : verdict (watch_of (of_axiom (codes "DI") bad ++ row (Substitute 3 []) (di_of truth low) ∷ row (Merge 1 1 4) truth ∷ [])) ≡ None
 made_good = refl
 
 -- what is made of a good instance is none either
-made_of_good : verdict (watch_of (of_axiom (codes "DI") (di_of truth low) ++ row (Substitute 2 []) bad ∷ row (Merge 1 1 3) truth ∷ [])) ≡ None
+made_of_good : verdict (watch_of (of_axiom (codes "DI") (di_of truth low) ++ row (Substitute 3 []) bad ∷ row (Merge 1 1 4) truth ∷ [])) ≡ None
 made_of_good = refl
 
 -- a bad one is last
-bad_last : verdict (watch_of (of_axiom (codes "DI") bad)) ≡ refused 2 (NotEvolved bs)
+bad_last : verdict (watch_of (of_axiom (codes "DI") bad)) ≡ refused 3 (NotEvolved bs)
 bad_last = refl
 
 good_last : verdict (watch_of (of_axiom (codes "DI") (di_of truth low))) ≡ None
 good_last = refl
 
 -- the axiom itself, of which no instance was made, is merged, or is last
-axiom_merged : verdict (watch_of (row (UseAxiom (codes "DI")) truth ∷ row (Merge 1 1 1) truth ∷ row (UseRule (codes "G")) truth ∷ [])) ≡ refused 2 RawFact
+axiom_merged : verdict (watch_of (of_axiom (codes "DI") bad ++ row (Merge 1 1 2) truth ∷ [])) ≡ refused 4 RawFact
 axiom_merged = refl
 
 axiom_last : verdict (watch_of (row (UseAxiom (codes "DG")) truth ∷ [])) ≡ refused 1 RawFact
 axiom_last = refl
 
 -- DG
-ghost_merged : verdict (watch_of (of_axiom (codes "DG") (dg truth (div (number 2) x) b) ++ row (Merge 1 1 2) truth ∷ [])) ≡ refused 3 GhostNotSmooth
+ghost_merged : verdict (watch_of (of_axiom (codes "DG") (dg truth (div (number 2) x) b) ++ row (Merge 1 1 3) truth ∷ [])) ≡ refused 4 GhostNotSmooth
 ghost_merged = refl
 
-ghost_good : verdict (watch_of (of_axiom (codes "DG") (dg truth x b) ++ row (Merge 1 1 2) truth ∷ [])) ≡ None
+ghost_good : verdict (watch_of (of_axiom (codes "DG") (dg truth x b) ++ row (Merge 1 1 3) truth ∷ [])) ≡ None
 ghost_good = refl
 
 -- Dforall, and another axiom
@@ -373,5 +373,5 @@ rule_beside_differential : verdict (watch_of (row (UseRule (codes "CE")) truth �
 rule_beside_differential = refl
 
 -- the first of two is named
-the_first : verdict (watch_of (of_axiom (codes "DI") bad ++ row (Merge 1 1 2) truth ∷ row (UseAxiom (codes "Dforall")) truth ∷ [])) ≡ refused 3 (NotEvolved bs)
+the_first : verdict (watch_of (of_axiom (codes "DI") bad ++ row (Merge 1 1 3) truth ∷ row (UseAxiom (codes "Dforall")) truth ∷ [])) ≡ refused 4 (NotEvolved bs)
 the_first = refl

@@ -57,9 +57,13 @@ is_apart Op'.Gt = true
 is_apart Op'.Lt = true
 is_apart _ = false
 
+-- one side is d, and the other is 0
+abbrev pub are_term_and_zero : Tree → Tree → Tree → Bool
+are_term_and_zero d side other = tree_eq d side && is_zero other
+
 -- the part is d!=0, d>0, d<0, 0!=d, 0>d or 0<d
 abbrev pub keeps_off_zero : Tree → Tree → Bool
-keeps_off_zero d (node op kids) = is_apart op && ((tree_eq d (first kids) && is_zero (last kids)) || (is_zero (first kids) && tree_eq d (last kids)))
+keeps_off_zero d (node op kids) = is_apart op && (are_term_and_zero d (first kids) (last kids) || are_term_and_zero d (last kids) (first kids))
 
 -- some part does
 abbrev pub is_kept_off_zero : List Tree → Tree → Bool
@@ -105,6 +109,11 @@ abbrev pub is_whole : Tree → Bool
 is_whole (node (Op'.Number n) kids) = n.scale == 0
 is_whole _ = false
 
+-- the last is a term without variables, or one that the domain keeps off 0
+abbrev pub ends_in_divisor : List Tree → Forest → Bool
+ends_in_divisor domain no_kids = false
+ends_in_divisor domain (kid t rest) = is_constant (last (kid t rest)) || is_kept_off_zero domain (last (kid t rest))
+
 -- What an operator of a smooth term may be, over kids that are smooth:
 abbrev pub joins_smooth : List Tree → Op → Forest → Bool
 -- a variable without a prime, a number, a function without arguments
@@ -119,7 +128,7 @@ joins_smooth domain Op'.Mul kids = true
 -- `^` with a whole literal as exponent, or between terms without variables
 joins_smooth domain Op'.Pow kids = is_whole (last kids) || are_constant kids
 -- `/` by a term without variables, or by one that the domain keeps off 0
-joins_smooth domain Op'.Div kids = is_constant (last kids) || is_kept_off_zero domain (last kids)
+joins_smooth domain Op'.Div kids = ends_in_divisor domain kids
 joins_smooth domain _ kids = false
 
 abbrev mutual

@@ -3,7 +3,7 @@ ghost use Rattle.std.specs.Prelude.{◌≡◌, [], ◌++◌, List, map, All, OnO
 ghost use Rattle.dlk_tree.specs.Trees.{Tree};
 ghost use Rattle.dlk_store.specs.Stores.{IsId, tree, kid_trees};
 ghost use Rattle.dlk_guard.specs.Ends.{AreEnds};
-ghost use Rattle.dlk_guard.specs.Smooth.{is_and, parts, domain_parts, is_zero, is_variable, is_apart, keeps_off_zero, is_kept_off_zero, is_equation, says_constant, is_frozen};
+ghost use Rattle.dlk_guard.specs.Smooth.{is_and, parts, domain_parts, is_zero, is_variable, is_apart, are_term_and_zero, keeps_off_zero, is_kept_off_zero, is_equation, says_constant, is_frozen};
 ghost use Rattle.dlk_tree.specs.Statics.{prime};
 
 use dlk_store::{Id, Steps, Store};
@@ -52,9 +52,10 @@ pub(crate) fn domain_parts<S: Store, L: Ledger>(
     ensures known { IfOk result (λ ids. All (IsId (S.trees store.now)) ids.items) }
 {
     let mut ids = Vec::new(alloc);
-    if let Some(domain) = kids.last() {
-        add_parts(store, *domain, &mut ids, steps)?;
-    }
+    let Some(domain) = kids.last() else {
+        return Ok(ids);
+    };
+    add_parts(store, *domain, &mut ids, steps)?;
     Ok(ids)
 }
 
@@ -101,6 +102,22 @@ fn is_apart(op: &Op) -> bool
     matches!(op, Op::Ne | Op::Gt | Op::Lt)
 }
 
+/// Whether one side is the term, and the other is 0.
+fn are_term_and_zero<S: Store, L: Ledger>(
+    store: &S,
+    d: Id,
+    side: Id,
+    other: Id,
+    steps: &mut Steps<L>,
+) -> bool
+    requires term { IsId (S.trees store.now) d }
+    requires side { IsId (S.trees store.now) side }
+    requires other { IsId (S.trees store.now) other }
+    ensures { result ≡ are_term_and_zero (tree (S.trees store.now) d) (tree (S.trees store.now) side) (tree (S.trees store.now) other) }
+{
+    store.same(d, side) && is_zero(store, other, steps)
+}
+
 /// Whether the part says that the term isn't 0: it is `d!=0`, `d>0` or `d<0`, or the same turned round.
 fn keeps_off_zero<S: Store, L: Ledger>(store: &S, d: Id, part: Id, steps: &mut Steps<L>) -> bool
     requires term { IsId (S.trees store.now) d }
@@ -114,8 +131,10 @@ fn keeps_off_zero<S: Store, L: Ledger>(store: &S, d: Id, part: Id, steps: &mut S
     let Some((left, right)) = ends(node.kids) else {
         return false;
     };
-    (store.same(d, left) && is_zero(store, right, steps))
-        || (is_zero(store, left, steps) && store.same(d, right))
+    if are_term_and_zero(store, d, left, right, steps) {
+        return true;
+    }
+    are_term_and_zero(store, d, right, left, steps)
 }
 
 /// Whether some part of a domain says so.

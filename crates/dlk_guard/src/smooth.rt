@@ -1,9 +1,8 @@
 //! Smooth terms, and the formulas that are made of their comparisons.
-ghost use Rattle.std.specs.Prelude.{◌≡◌, ◌&&◌, not, map, All};
-ghost use Rattle.dlk_tree.specs.Trees.{node, root};
+ghost use Rattle.std.specs.Prelude.{◌≡◌, map, All};
 ghost use Rattle.dlk_store.specs.Stores.{IsId, tree, kid_trees};
 ghost use Rattle.dlk_calculus.specs.Kids.{last};
-ghost use Rattle.dlk_guard.specs.Smooth.{is_constant_op, is_constant, are_constant, is_whole, joins_smooth, is_smooth, are_smooth, is_comparison, is_connective, is_smooth_formula};
+ghost use Rattle.dlk_guard.specs.Smooth.{is_constant_op, is_constant, are_constant, is_whole, ends_in_divisor, joins_smooth, is_smooth, are_smooth, is_comparison, is_connective, is_smooth_formula};
 
 use crate::parts::is_kept_off_zero;
 use dlk_store::{Id, Steps, Store};
@@ -74,7 +73,7 @@ fn ends_in_divisor<S: Store, L: Ledger>(
 ) -> bool
     requires domain { All (IsId (S.trees store.now)) domain.now }
     requires ids { All (IsId (S.trees store.now)) ids.now }
-    ensures { result ≡ joins_smooth (map (tree (S.trees store.now)) domain.now) Op.Div (kid_trees (S.trees store.now) ids.now) }
+    ensures { result ≡ ends_in_divisor (map (tree (S.trees store.now)) domain.now) (kid_trees (S.trees store.now) ids.now) }
 {
     let Some(id) = ids.last() else {
         return false;
