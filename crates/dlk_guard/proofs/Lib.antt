@@ -2,6 +2,7 @@ mod Equal
 mod SmoothTerms
 mod Holes
 mod LastKids
+mod LastMark
 mod Joined
 mod Wanted
 mod FirstLines

@@ -1,7 +1,5 @@
 //! The guard: fed line by line, it finds the first one that is unguarded.
-ghost use Rattle.std.specs.Prelude.{◌≡◌, None, Some, map, All, IfOk, OnOk, OnErr, MatchOption, option_map};
-ghost use Rattle.dlk_calculus.specs.Sequents.{Sequent as TreeSequent};
-ghost use Rattle.dlk_store.specs.Stores.{IsId, tree};
+ghost use Rattle.std.specs.Prelude.{◌≡◌, IfOk, OnOk, OnErr, option_map, length};
 ghost use Rattle.dlk_sequent.specs.Sequents.{sequent_at, IsKnown};
 ghost use Rattle.dlk_rules.specs.Steps.{step_at, HasKnownIds};
 ghost use Rattle.dlk_guard.specs.Guarded.{raw_axiom, shown, shown_why, made_of, mark_at, mark_of, why_raw, misuse};
@@ -125,6 +123,16 @@ fn mark_of<S: Store, L: Ledger>(
     }
 }
 
+/// The mark of the last row.
+fn last_mark(mut marks: Vec<Option<Raw>>) -> Option<Raw>
+    ensures { result ≡ mark_at marks.items (length marks.items) }
+{
+    match marks.pop() {
+        Some(mark) => mark,
+        None => None,
+    }
+}
+
 /// Why the row is raw.
 fn why_raw(raw: Option<&Raw>) -> Result<Option<Why>, AllocError>
     ensures { IfOk result (λ why. why ≡ why_raw (option_map (λ r. r.now) raw.entry)) }
@@ -196,16 +204,16 @@ impl Guard {
     }
 
     /// The first line that is unguarded, where there is one: one that was refused, or else the last, where its row is raw.
-    pub fn verdict(mut self) -> Option<Refusal>
+    pub fn verdict(self) -> Option<Refusal>
         ensures { result ≡ verdict self }
     {
         if self.refused.is_some() {
             return self.refused;
         }
         let line = self.marks.len();
-        match self.marks.pop() {
-            Some(Some(raw)) => Some(Refusal { line, why: raw.why }),
-            _ => None,
+        match last_mark(self.marks) {
+            Some(raw) => Some(Refusal { line, why: raw.why }),
+            None => None,
         }
     }
 }

@@ -1,6 +1,5 @@
 use Rattle.std.proofs.Common.{sym}
-use Rattle.dlk_sequent.proofs.Last.{last_kid}
-use Rattle.dlk_guard.proofs.LastKids.{first_kid}
+use Rattle.dlk_guard.proofs.LastKids.{first_kid, last_kid}
 use Rattle.dlk_guard.proofs.parts.ends.Goals as goal
 
 pub returns-clause-value : goal.returns-clause-value

@@ -4,7 +4,7 @@ use Rattle.dlk_tree.specs.declared.op.Op.{Op}
 use Rattle.dlk_tree.specs.declared.op.Op.TheVariants as Op'
 use Rattle.dlk_tree.specs.Trees.{node, Forest}
 use Rattle.dlk_store.specs.Stores.{kid_trees}
-use Rattle.dlk_sequent.proofs.Last.{last_kid}
+use Rattle.dlk_guard.proofs.LastKids.{last_kid}
 use Rattle.dlk_guard.specs.Smooth.{is_whole}
 use Rattle.dlk_guard.proofs.smooth.ends_in_whole.Goals as goal
 
