@@ -1,5 +1,5 @@
 -- The mark of the last row.
-use Rattle.std.proofs.Common.{◌≡◌, ◌∙◌, refl, sym, ap, List, [], ◌∷◌, ◌++◌, length, Option, None, length-append, arith}
+use Rattle.std.proofs.Common.{◌≡◌, ◌∙◌, sym, ap, List, [], ◌∷◌, ◌++◌, length, Option, length-append}
 use Rattle.std.specs.Prelude.{option_and_then}
 use Rattle.dlk_calculus.proofs.PlaceLaws.{At-between}
 use Rattle.dlk_guard.specs.declared.raw.Raw.{Raw}
@@ -11,7 +11,3 @@ last_marked all front m e =
   where
     flat : Option (Option Raw) → Option Raw
     flat o = option_and_then (λ mark. mark) o
-
-pub none_marked : (all : List (Option Raw)) → length all ≡ 0 → None ≡ mark_at all (length all)
-none_marked [] e = refl
-none_marked (m ∷ all) e = absurd (omega (arith, e))
