@@ -1,5 +1,5 @@
 -- What a node's operator says of it: of its parts as a domain, as a formula, and as a context.
-use Rattle.std.proofs.Common.{◌≡◌, ◌∙◌, refl, sym, ap, subst, List, [], ◌∷◌, Bool, true, false, ◌&&◌, cond}
+use Rattle.std.proofs.Common.{◌≡◌, ◌∙◌, sym, ap, subst, List, [], ◌∷◌, Bool, true, false, ◌&&◌, cond}
 use Rattle.dlk_tree.specs.declared.op.Op.{Op}
 use Rattle.dlk_tree.specs.Occurs.{any_has, is_hole}
 use Rattle.dlk_tree.specs.Trees.{Tree, node, Forest}

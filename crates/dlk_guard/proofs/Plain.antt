@@ -1,23 +1,20 @@
 -- Lines without the axioms DI, DG and Dforall, and with nothing below a ( )' of a formula, are guarded.
-use Rattle.std.proofs.Common.{◌≡◌, ◌∙◌, refl, sym, ap, ℕ, zero, suc, ◌-◌, List, [], ◌∷◌, ◌++◌, length, take, Bool, true, false, not, Option, None, Some, cond}
+use Rattle.std.proofs.Common.{◌≡◌, ◌∙◌, refl, sym, ap, ℕ, zero, suc, ◌-◌, List, [], ◌∷◌, ◌++◌, length, take, Bool, true, false, not, Option, None}
 use Rattle.std.specs.Prelude.{◌==◌, All, option_and_then, option_map}
 use Rattle.std.specs.List.{slice_get}
 use Rattle.std.proofs.lemmas.Option.{none-some}
 use Rattle.std.proofs.lemmas.List.Elements.{All-head, All-tail, All-nil, All-cons}
-use Rattle.dlk_calculus.specs.Places.{at}
 use Rattle.dlk_calculus.specs.Sequents.{Sequent}
 use Rattle.dlk_calculus.specs.Steps.{Step, Start, UseAxiom, UseRule, Leaf, Apply, Merge, Substitute, Rename}
 use Rattle.dlk_calculus.proofs.PlaceLaws.{at_suc, At_All}
-use Rattle.dlk_guard.specs.declared.why.Why.{Why}
 use Rattle.dlk_guard.specs.declared.why.Why.TheVariants.{DifferentialContext, Dforall, RawFact}
 use Rattle.dlk_guard.specs.declared.raw.Raw.{Raw}
 use Rattle.dlk_guard.specs.Instances.{first_of, unless}
-use Rattle.dlk_guard.specs.Guarded.{Line, raw_axiom, made_of, mark_at, mark_of, mark, marks_behind, marks, misuse, why_raw, why_last, line_why, HasPlainStep, IsPlain, IsRefused, Guarded}
+use Rattle.dlk_guard.specs.Guarded.{Line, made_of, mark_at, mark_of, mark, marks_behind, marks, misuse, why_raw, why_last, line_why, HasPlainStep, IsPlain, Guarded}
 
 -- no row is raw
 abbrev NoneRaw : List (Option Raw) → Type 0
 NoneRaw ms = (n : ℕ) → mark_at ms n ≡ None
-
 
 none_more : (ms : List (Option Raw)) (m : Option Raw) → NoneRaw ms → m ≡ None → NoneRaw (ms ++ m ∷ [])
 none_more ms m none e zero = refl
@@ -81,7 +78,7 @@ none_refused ms is_last l none plain =
 pub plain_guarded : (all : List Line) → All IsPlain all → Guarded all
 plain_guarded all plain = record {
   none = λ n w r.
-    let ms = marks (take (n - 1) all) in
-    none-some w (sym (none_refused ms (n == length all) r.0 (none_behind [] (take (n - 1) all) none_at_all (plain_front (n - 1) all plain))
+      let ms = marks (take (n - 1) all) in
+      none-some w (sym (none_refused ms (n == length all) r.0 (none_behind [] (take (n - 1) all) none_at_all (plain_front (n - 1) all plain))
       (At_All IsPlain all n r.0 plain r.1)) ∙ r.2);
 }

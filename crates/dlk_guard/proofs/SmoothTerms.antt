@@ -1,5 +1,5 @@
 -- A term without variables is smooth.
-use Rattle.std.proofs.Common.{◌≡◌, refl, List, true, ◌&&◌, ◌||◌}
+use Rattle.std.proofs.Common.{◌≡◌, refl, List, true}
 use Rattle.std.proofs.lemmas.Bool.{and_parts, and_from, or_left, or_right}
 use Rattle.dlk_tree.specs.declared.op.Op.{Op}
 use Rattle.dlk_tree.specs.declared.op.Op.TheVariants as Op'

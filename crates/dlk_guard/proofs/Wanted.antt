@@ -1,15 +1,14 @@
 -- The reasons against an instance, by what was found of each condition.
-use Rattle.std.proofs.Common.{◌≡◌, ◌∙◌, refl, ap, List, [], ◌∷◌, ℕ, Bool, ◌&&◌, Option, None, Some}
+use Rattle.std.proofs.Common.{◌≡◌, ◌∙◌, refl, ap, List, [], ◌∷◌, ℕ, Bool, Option, None, Some}
 use Rattle.std.specs.Prelude.{option_map}
 use Rattle.dlk_tree.specs.declared.op.Sym.{Sym}
 use Rattle.dlk_tree.specs.declared.op.OdeItem.{OdeItem}
 use Rattle.dlk_tree.specs.declared.op.Op.{Op}
 use Rattle.dlk_tree.specs.Trees.{Tree, node, Forest}
 use Rattle.dlk_calculus.specs.Paths.{subtree}
-use Rattle.dlk_guard.specs.declared.why.Why.{Why}
-use Rattle.dlk_guard.specs.declared.why.Why.TheVariants.{OdeConstant, NotSmooth, NotEvolved, Primed, GhostNotSmooth, RawFact}
-use Rattle.dlk_guard.specs.Smooth.{domain_parts, is_smooth, is_smooth_formula}
-use Rattle.dlk_guard.specs.Instances.{first_of, unless, first_constant, first_loose, first_primed, di_conditions, system_items, di_items, di_parts, di_why, before_last, dg_terms, dg_conditions, dg_items, dg_parts, dg_why}
+use Rattle.dlk_guard.specs.declared.why.Why.TheVariants.{OdeConstant, NotSmooth, NotEvolved, Primed, RawFact}
+use Rattle.dlk_guard.specs.Smooth.{domain_parts, is_smooth_formula}
+use Rattle.dlk_guard.specs.Instances.{first_of, unless, first_constant, first_loose, first_primed, di_conditions, system_items, di_items, di_parts, di_why, dg_terms, dg_conditions, dg_items, dg_parts, dg_why}
 
 -- ---- DI
 

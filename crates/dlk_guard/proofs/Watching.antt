@@ -4,9 +4,9 @@ use Rattle.std.proofs.Common.{Option, None, Some, append_assoc, length-append}
 use Rattle.std.specs.Prelude.{◌==◌, option_and_then}
 use Rattle.std.specs.List.{slice_get}
 use Rattle.std.proofs.lemmas.Bool.{eq-eqb, eqb-true}
-use Rattle.std.proofs.lemmas.Option.{none-some, same_Some}
+use Rattle.std.proofs.lemmas.Option.{none-some}
 use Rattle.std.proofs.lemmas.List.{append-nil}
-use Rattle.dlk_calculus.specs.Places.{at, At}
+use Rattle.dlk_calculus.specs.Places.{At}
 use Rattle.dlk_calculus.proofs.PlaceLaws.{at_one, at_suc, At_place, At-more, At-between}
 use Rattle.dlk_guard.specs.declared.why.Why.{Why}
 use Rattle.dlk_guard.specs.declared.raw.Raw.{Raw}
@@ -89,8 +89,11 @@ misused_before all l n w m = elim (at_snoc all l m.0 n m.1) [
       inl (m.0, there, ap (λ ls. misuse (marks ls) m.0.step) (sym (front_same all l n within)) ∙ m.2)
   | inr last ↦
       let one : length all ≡ n - 1 = omega (arith, last.0) in
-      inr (last.0, ap (λ ls. misuse (marks ls) l.step) (sym (whole_front all l)) ∙ ap (λ k. misuse (marks (take k (all ++ l ∷ []))) l.step) one
-        ∙ ap (λ (k : Line). misuse (marks (take (n - 1) (all ++ l ∷ []))) k.step) (sym last.1) ∙ m.2)
+      inr (
+        last.0,
+        ap (λ ls. misuse (marks ls) l.step) (sym (whole_front all l)) ∙ ap (λ k. misuse (marks (take k (all ++ l ∷ []))) l.step) one
+            ∙ ap (λ (k : Line). misuse (marks (take (n - 1) (all ++ l ∷ []))) k.step) (sym last.1) ∙ m.2,
+      )
 ]
 
 -- ---- what a guard keeps
@@ -112,22 +115,24 @@ sees_none = record { marks_are = refl; found = none_misused }
 found_more : (all : List Line) (l : Line) (line : ℕ) → line ≡ length all + 1 → (r : Option Refusal) → Found all r →
     (why : Option Why) → misuse (marks all) l.step ≡ why → Found (all ++ l ∷ []) (earlier r (against line why))
 found_more all l line is (Some r) found why e =
-    let within = (At_place all r.line found.0.0 found.0.1).1 in
-    (misused_more all l r.line r.why found.0,
-     λ m w lt misused. elim (misused_before all l m w misused) [
-       | inl before ↦ found.1 m w lt before
-       | inr last ↦ omega (arith, last.0, lt, within)
-     ])
+    let within = (At_place all r.line found.0.0 found.0.1).1 in (
+      misused_more all l r.line r.why found.0,
+      λ m w lt misused. elim (misused_before all l m w misused) [
+        | inl before ↦ found.1 m w lt before
+        | inr last ↦ omega (arith, last.0, lt, within)
+      ],
+    )
 found_more all l line is None found None e = λ n w misused. elim (misused_before all l n w misused) [
   | inl before ↦ found n w before
   | inr last ↦ none-some w (sym e ∙ last.1)
 ]
-found_more all l line is None found (Some why) e =
-    (subst (λ k. IsMisused (all ++ l ∷ []) k why) (sym is) (misused_last all l why e),
-     λ m w lt misused. elim (misused_before all l m w misused) [
-       | inl before ↦ found m w before
-       | inr last ↦ omega (arith, last.0, lt, is)
-     ])
+found_more all l line is None found (Some why) e = (
+  subst (λ k. IsMisused (all ++ l ∷ []) k why) (sym is) (misused_last all l why e),
+  λ m w lt misused. elim (misused_before all l m w misused) [
+    | inl before ↦ found m w before
+    | inr last ↦ omega (arith, last.0, lt, is)
+  ],
+)
 
 sees_more : (all : List Line) (l : Line) (w : Watch) → Sees all w → Sees (all ++ l ∷ []) (watched w l)
 sees_more all l w s =
@@ -241,7 +246,7 @@ module _ (all : List Line) (l : Line) where
 
         refuses : line_why (marks (take (length whole - 1) whole)) (length whole == length whole) l ≡ Some v
         refuses = ap (λ ms. line_why ms (length whole == length whole) l) before
-          ∙ row_only (misuse (marks all) l.step) (step_none _ refl) (length whole == length whole) (eq-eqb (length whole) (length whole) refl)
+            ∙ row_only (misuse (marks all) l.step) (step_none _ refl) (length whole == length whole) (eq-eqb (length whole) (length whole) refl)
 
   says_snoc : (w : Watch) → Sees whole w → Says whole (verdict w)
   says_snoc w s = go w.refused s.found

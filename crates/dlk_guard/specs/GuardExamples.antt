@@ -6,9 +6,7 @@ use Rattle.dlk_tree.specs.declared.op.OdeItem.{OdeItem}
 use Rattle.dlk_tree.specs.declared.op.Op.TheVariants as Op'
 use Rattle.dlk_tree.specs.Trees.{Tree, node, no_kids, kid}
 use Rattle.dlk_tree.specs.Statics.{plain, prime}
-use Rattle.dlk_calculus.specs.Axioms.{axiom_named}
 use Rattle.dlk_calculus.specs.Notation.{leaf, number, add, mul, div, pow, neg, diff, eq, ne, ge, gt, le, lt, negation, conj, disj, diff_formula, forall, exists, box, test, assign, assign_primed, system, evolve, c_item, p0}
-use Rattle.dlk_calculus.specs.Pairs.{Pair}
 use Rattle.dlk_calculus.specs.Rules.{imply, equiv}
 use Rattle.dlk_calculus.specs.Sequents.{alone_right}
 use Rattle.dlk_calculus.specs.Steps.{Step, Start, UseAxiom, UseRule, Leaf, Merge, Substitute, Rename}
@@ -16,7 +14,7 @@ use Rattle.dlk_guard.specs.declared.why.Why.{Why}
 use Rattle.dlk_guard.specs.declared.why.Why.TheVariants.{OdeConstant, NotSmooth, NotEvolved, Primed, GhostNotSmooth, DifferentialContext, Dforall, RawFact}
 use Rattle.dlk_guard.specs.declared.guard.Refusal.{Refusal}
 use Rattle.dlk_guard.specs.Instances.{di_why, dg_why}
-use Rattle.dlk_guard.specs.Guarded.{Line, has_hole_in_differential, shown}
+use Rattle.dlk_guard.specs.Guarded.{Line, has_hole_in_differential}
 use Rattle.dlk_guard.specs.Watched.{watch_of, verdict}
 
 abbrev the : List ℕ → Tree

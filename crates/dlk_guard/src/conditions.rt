@@ -218,7 +218,9 @@ fn dg_conditions<S: Store, L: Ledger>(
         return Ok(Some(Why::RawFact));
     };
     let domain = domain_parts(alloc, store, kids, steps)?;
-    if is_smooth(store, domain.as_slice(), a, steps) && is_smooth(store, domain.as_slice(), b, steps) {
+    if is_smooth(store, domain.as_slice(), a, steps)
+        && is_smooth(store, domain.as_slice(), b, steps)
+    {
         return Ok(None);
     }
     Ok(Some(Why::GhostNotSmooth))

@@ -148,10 +148,7 @@ fn are_smooth<S: Store, L: Ledger>(
 fn is_comparison(op: &Op) -> bool
     ensures { result ≡ is_comparison op.now }
 {
-    matches!(
-        op,
-        Op::Eq | Op::Ne | Op::Ge | Op::Gt | Op::Le | Op::Lt
-    )
+    matches!(op, Op::Eq | Op::Ne | Op::Ge | Op::Gt | Op::Le | Op::Lt)
 }
 
 fn is_connective(op: &Op) -> bool

@@ -16,7 +16,7 @@ returns-then-is_constant g c =
     let domain = map (tree trees) c.args.domain.now in
     let one = sym c.is_constant.ensures ∙ c.if-is_constant.true in
     c.if-is_constant.true ∙ sym (divisor_is trees domain c.args.ids.now c.in-Some.id.now (sym c.in-Some.ensures.value)
-      ∙ ap (λ b. b || is_kept_off_zero domain (tree trees c.in-Some.id.now)) one)
+    ∙ ap (λ b. b || is_kept_off_zero domain (tree trees c.in-Some.id.now)) one)
 
 pub returns-else-is_constant : goal.returns-else-is_constant
 returns-else-is_constant g c =
@@ -24,4 +24,4 @@ returns-else-is_constant g c =
     let domain = map (tree trees) c.args.domain.now in
     let none = sym c.is_constant.ensures ∙ c.if-is_constant.false in
     c.is_kept_off_zero.ensures ∙ sym (divisor_is trees domain c.args.ids.now c.in-Some.id.now (sym c.in-Some.ensures.value)
-      ∙ ap (λ b. b || is_kept_off_zero domain (tree trees c.in-Some.id.now)) none)
+    ∙ ap (λ b. b || is_kept_off_zero domain (tree trees c.in-Some.id.now)) none)
