@@ -1,0 +1,10 @@
+mod Equal
+mod SmoothTerms
+mod Holes
+mod LastKids
+mod LastMark
+mod Joined
+mod Wanted
+mod FirstLines
+mod Watching
+mod Plain

@@ -1,0 +1,12 @@
+use Rattle.std.proofs.Common.{◌∙◌, ◌++◌, sym, ap, map}
+use Rattle.dlk_store.specs.Stores.{tree}
+use Rattle.dlk_guard.specs.Smooth.{parts}
+use Rattle.dlk_guard.proofs.LastKids.{domain_of}
+use Rattle.dlk_guard.proofs.parts.domain_parts.Goals as goal
+
+pub returns-clause-parts : goal.returns-clause-parts
+returns-clause-parts g c =
+    let trees = g.S.Store.trees c.args.store.now in
+    let k = c.in-Some.domain.now in
+    c.in_ok-add_parts.ensures.parts ∙ ap (λ ids. map (tree trees) ids ++ parts (tree trees k)) c.new-ids.ensures.items
+    ∙ sym (domain_of trees c.args.kids.now k (sym c.in-Some.ensures.value))

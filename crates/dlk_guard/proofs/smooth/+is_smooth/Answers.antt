@@ -1,0 +1,17 @@
+use Rattle.std.proofs.Common.{◌&&◌, ◌∙◌, sym, ap, map}
+use Rattle.dlk_store.specs.Stores.{tree, kid_trees}
+use Rattle.dlk_store.proofs.Kids.{kid_smaller}
+use Rattle.dlk_guard.specs.Smooth.{is_smooth, are_smooth}
+use Rattle.dlk_guard.proofs.smooth.+is_smooth.Goals as goal
+
+pub loop-kid-init : goal.loop-kid-init
+loop-kid-init g t c =
+    let trees = g.S.Store.trees c.args.store.now in
+    let domain = map (tree trees) c.args.domain.now in
+    let ks = c.look-node.result.kids.now in
+    let e = c.look-node.ensures.node in
+    record {
+      rest = sym (ap (is_smooth domain) e ∙ ap (λ b. b && are_smooth domain (kid_trees trees ks)) (sym c.joins_smooth.ensures ∙ c.if-not-joins_smooth.false));
+      known = c.look-node.ensures.known;
+      smaller = λ i d h. kid_smaller trees (tree trees c.args.id) c.look-node.result.op.now ks i d e h;
+    }

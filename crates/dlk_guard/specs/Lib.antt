@@ -1,0 +1,6 @@
+pub mod Ends
+pub mod Smooth
+pub mod Instances
+pub mod Guarded
+pub mod Watched
+pub mod GuardExamples

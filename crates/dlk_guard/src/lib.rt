@@ -1,0 +1,19 @@
+//! Guarded proofs: whether the lines of a term keep off the places where the calculus isn't sound over the reals.
+#![tactic(auto)]
+
+mod conditions;
+mod contexts;
+mod guard;
+mod laws;
+mod parts;
+mod raw;
+mod smooth;
+mod why;
+
+pub use guard::{Guard, Refusal};
+pub use laws::{
+    equal_by_test, first_or_guarded, guarded_without_names, smooth_without_variables,
+    verdict_is_first,
+};
+pub use raw::RawAxiom;
+pub use why::Why;
