@@ -1,4 +1,6 @@
 // The program over a desk in memory.
+mod starving;
+
 ghost use Rattle.std.specs.Prelude.{◌≤◌};
 
 use crate::give::give;

@@ -17,6 +17,7 @@ use std::alloc::{AllocError, Global};
 use std::sync::ledger::Ledger;
 
 /// The root of a tree that has no entry, as a copy. Each look pays for a new entry, whatever comes of it.
+#[inline(never)]
 fn open<S: Store, L: Ledger>(
     alloc: Global,
     store: &S,
@@ -40,6 +41,7 @@ fn open<S: Store, L: Ledger>(
 }
 
 /// What the rule makes of the operator over old kids, of which it made the new ones. It is the result of the id from now on.
+#[inline(never)]
 fn conclude<S: Store, L: Ledger, R: Rule>(
     alloc: Global,
     store: &mut S,
