@@ -2,14 +2,16 @@
 """What the program answers where one allocation fails: each in turn, and from each on all.
 
 A small library in front of the C library's refuses the allocation of a number. Each run must end with the whole answer, or with nothing
-printed and status 6, or 4 where the memory was wanted by the desk, or 7 where it was for the words. Run it after `./dlk` has built the
-program. It needs a C compiler.
+printed, no file and status 6, or 4 where the memory was wanted by the desk for an input, or 7 where it was for the words; or with status 5
+and a front of the answer where the desk wanted it for what goes out. Run it after `./dlk` has built the program; another one is named by
+DLK. It needs a C compiler.
 """
 import collections
 import os
 import pathlib
 import subprocess
 import tempfile
+import typing
 
 from common import PROGRAM, TOP
 
@@ -51,12 +53,73 @@ int posix_memalign(void **p, size_t a, size_t n) {
   return refused() ? ENOMEM : real(p, a, n);
 }
 """
-CASES = (
-    ("closed", "check", "x>=0 -> x>=0\n", "1 start ==> x>=0 -> x>=0\n2 apply 1 1 implyR(1)\n3 apply 2 1 close(1,1)\ndone\n"),
-    ("another conclusion", "check", "x>=1\n", "1 start ==> x>=0\ndone\n"),
-    ("JSON", "report", (TOP / "examples/increment/model").read_text(), (TOP / "examples/increment/term").read_text()),
-    ("a differential invariant", "check", (TOP / "examples/invariant/model").read_text(), (TOP / "examples/invariant/term").read_text()),
+INCREMENT = TOP / "examples/increment"
+LOOP = (
+    "v>=0 & A>0 -> [{{a:=A;++a:=0;}{x'=v,v'=a&v>=0}}*@invariant(v>=0)]v>=0\n",
+    'implyR(1); loop("v>=0",1); <(leaf,\n'
+    "  useAt(composeb,1); useAt(choiceb,1); andR(1); useAt(assignb,1); dW(1); leaf,\n  leaf)\n",
 )
+# `f` forty times round `x`, which is a term of 2^40 nodes where `f` doubles
+DOUBLED = "f(" * 40 + "x" + ")" * 40
+CASES = (
+    ("closed", "check", ("x>=0 -> x>=0\n", "1 start ==> x>=0 -> x>=0\n2 apply 1 1 implyR(1)\n3 apply 2 1 close(1,1)\ndone\n")),
+    ("another conclusion", "check", ("x>=1\n", "1 start ==> x>=0\ndone\n")),
+    ("JSON", "report", ((INCREMENT / "model").read_text(), (INCREMENT / "term").read_text())),
+    ("a differential invariant", "check", ((TOP / "examples/invariant/model").read_text(), (TOP / "examples/invariant/term").read_text())),
+    ("a strategy", "prove", ((INCREMENT / "model").read_text(), (INCREMENT / "strategy").read_text())),
+    ("a strategy with a loop", "prove", LOOP),
+    ("a result that is too big", "subst", (f"{DOUBLED}>=0\n", "f(._0)~>._0+._0\n")),
+    ("a big argument that is dropped", "subst", (f"g({DOUBLED})>=0\n", "f(._0)~>._0+._0, g(._0)~>1\n")),
+    ("a big argument below a quantifier", "subst", (f"p({DOUBLED})\n", "f(._0)~>._0+._0, p(._0)~>\\exists z z>._0\n")),
+)
+SILENT = (4, 6, 7)
+
+
+class Ended(typing.NamedTuple):
+    """A run: its status, what it printed, and the bytes of the file that it wrote, or none."""
+
+    status: int
+    printed: bytes
+    written: bytes | None
+
+
+def ended(words, output, refused=None):
+    """A run with these words, in which the allocations that are named are refused."""
+    output.unlink(missing_ok=True)
+    run = subprocess.run(words, capture_output=True, check=False, env={**os.environ, **(refused or {})})
+    return Ended(run.returncode, run.stdout, output.read_bytes() if output.exists() else None)
+
+
+def kind_of(run, whole):
+    """A word for how the run ended, or none where it may not end so: with the whole answer, with nothing at all, or with status 5 and a
+    front of the answer, the file first."""
+    if run == whole:
+        return "the whole answer"
+    if run.status in SILENT and run.printed == b"" and run.written is None:
+        return f"status {run.status}"
+    wanted = whole.written or b""
+    is_front = wanted.startswith(run.written or b"") and whole.printed.startswith(run.printed)
+    if run.status == 5 and is_front and (run.printed == b"" or run.written == whole.written):
+        return "status 5"
+    return None
+
+
+def refuse_each(title, words, output, library):
+    """Refuses each allocation of a run in turn, then all from each on, until 50 in a row aren't noticed, and prints how often each end came."""
+    whole = ended(words, output)
+    answers = collections.Counter()
+    for single in (True, False):
+        number = unnoticed = 0
+        while unnoticed < 50:
+            number += 1
+            last = number if single else 1 << 40
+            run = ended(words, output, {"REFUSE_FROM": str(number), "REFUSE_TO": str(last), "LD_PRELOAD": str(library)})
+            kind = kind_of(run, whole)
+            if kind is None:
+                raise SystemExit(f"starved.py: {title}, allocation {number}: status {run.status}, {run.printed[:200]}")
+            unnoticed = unnoticed + 1 if run == whole else 0
+            answers[kind] += 1
+    print(f"{title}: " + ", ".join(f"{answer} {count} times" for answer, count in sorted(answers.items())), flush=True)
 
 
 def main():
@@ -66,27 +129,12 @@ def main():
         (folder / "refuse.c").write_text(LIBRARY)
         library = folder / "refuse.so"
         subprocess.run(["cc", "-shared", "-fPIC", "-o", library, folder / "refuse.c", "-ldl"], check=True)
-        for title, verb, model, term in CASES:
-            (folder / "model").write_text(model)
-            (folder / "term").write_text(term)
-            words = [PROGRAM, verb, folder / "model", folder / "term"]
-            whole = subprocess.run(words, capture_output=True, check=False)
-            answers = collections.Counter()
-            for single in (True, False):
-                number = unnoticed = 0
-                while unnoticed < 50:
-                    number += 1
-                    limits = {"REFUSE_FROM": str(number), "REFUSE_TO": str(number if single else 1 << 40)}
-                    run = subprocess.run(words, capture_output=True, check=False, env={**os.environ, **limits, "LD_PRELOAD": str(library)})
-                    same = run.returncode == whole.returncode and run.stdout == whole.stdout
-                    unnoticed = unnoticed + 1 if same else 0
-                    if same:
-                        answers["the whole answer"] += 1
-                    elif run.returncode in (4, 6, 7) and run.stdout == b"":
-                        answers[f"status {run.returncode}"] += 1
-                    else:
-                        raise SystemExit(f"starved.py: {title}, allocation {number}: status {run.returncode}, {run.stdout[:200]}")
-            print(f"{title}: " + ", ".join(f"{answer} {count} times" for answer, count in sorted(answers.items())))
+        for title, verb, texts in CASES:
+            inputs = [folder / str(k) for k in range(len(texts))]
+            for path, text in zip(inputs, texts):
+                path.write_text(text)
+            output = folder / "output"
+            refuse_each(title, [PROGRAM, verb, *inputs, *[output] * (verb == "prove")], output, library)
 
 
 if __name__ == "__main__":

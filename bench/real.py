@@ -1,0 +1,88 @@
+#!/usr/bin/env python3
+"""What `dlk check` costs on real proofs: the ten longest terms that the strategies of the gallery make.
+
+Printed are, for each term and for all, the bytes and the lines a second of processor time, the start of the program included, the least of
+five runs, and the peak of memory a byte of term; then the same of each term so many times over in one file that it has 300,000 bytes or
+more; and the bytes a second against those of `metamath` on its database `set.mm` in the same run.
+
+Run it after `./dlk` has built the program. It needs a C compiler. Arguments are paths of programs, each timed in the place of the built one, turn
+by turn: the last one is set against the first and against metamath. `metamath` and `set.mm` are those of Debian's packages metamath and
+metamath-databases.
+"""
+import pathlib
+import sys
+import tempfile
+
+from check import SET_MM, shifted, spent
+from common import PROGRAM, TOP, answer
+
+GALLERY = TOP / "examples" / "gallery"
+COUNT = 10
+RUNS = 5
+LONG = 300_000
+
+
+def longest_terms(program, folder):
+    """The models and the terms that are longest, as written by `prove`."""
+    terms = []
+    for model in sorted(GALLERY.glob("*/model")):
+        term = folder / model.parent.name
+        run = answer("prove", model, model.parent / "strategy", term, program=program)
+        if run.returncode != 0:
+            raise SystemExit(f"real.py: {model.parent.name}: {run.stdout[:200]!r}")
+        terms.append((model, term))
+    return sorted(terms, key=lambda pair: -pair[1].stat().st_size)[:COUNT]
+
+
+def repeated(term):
+    """A file of the same proof again and again, of at least so many bytes."""
+    lines = term.read_text().splitlines()[:-1]
+    times = -(-LONG // term.stat().st_size)
+    text = "".join(shifted(line, k * len(lines)) + "\n" for k in range(times) for line in lines) + "done\n"
+    path = term.with_suffix(".long")
+    path.write_text(text)
+    return path
+
+
+def measured_all(programs, title, pairs):
+    """The bytes a second of each program on these terms, which are printed with the lines a second and the peak of memory."""
+    sums = {program: 0.0 for program in programs}
+    peaks = {program: 0.0 for program in programs}
+    size = lines = 0
+    for model, term in pairs:
+        length = term.stat().st_size
+        count = term.read_bytes().count(b"\n") - 1
+        size, lines = size + length, lines + count
+        told = []
+        for program in programs:
+            seconds, peak = spent([program, "check", model, term], "closed", RUNS)
+            sums[program] += seconds
+            peaks[program] = max(peaks[program], peak / length)
+            told.append(f"{seconds * 1000:.1f} ms, {peak / length:.0f} bytes a byte")
+        print(f"{title}, {model.parent.name}: {count} lines, {length} bytes: " + "; ".join(told), flush=True)
+    for program in programs:
+        told = f"{size / sums[program] / 1e6:.2f} million bytes and {lines / sums[program]:.0f} lines a second, peak {peaks[program]:.0f} bytes a byte"
+        print(f"{title}, all: {program}: {told}", flush=True)
+    return {program: size / sums[program] for program in programs}
+
+
+def main():
+    """Measures each program, and metamath."""
+    programs = [pathlib.Path(word) for word in sys.argv[1:]] or [PROGRAM]
+    with tempfile.TemporaryDirectory() as name:
+        pairs = longest_terms(programs[-1], pathlib.Path(name))
+        rates = measured_all(programs, "as it is", pairs)
+        long_rates = measured_all(programs, "again and again", [(model, repeated(term)) for model, term in pairs])
+    if len(programs) > 1:
+        print(f"the last program is {rates[programs[-1]] / rates[programs[0]]:.2f} and {long_rates[programs[-1]] / long_rates[programs[0]]:.2f} times as fast as the first")
+    if not SET_MM.exists():
+        print("metamath: set.mm is not there")
+        return
+    size = SET_MM.stat().st_size
+    seconds, peak = spent(["metamath", f"read '{SET_MM}'", "verify proof *", "exit"], "All proofs in the database were verified")
+    print(f"metamath on set.mm, {size} bytes: {size / seconds / 1e6:.2f} million bytes a second, peak {peak / size:.0f} bytes a byte")
+    print(f"the last program reads {rates[programs[-1]] * seconds / size:.2f} and {long_rates[programs[-1]] * seconds / size:.2f} times the bytes a second")
+
+
+if __name__ == "__main__":
+    main()
