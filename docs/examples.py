@@ -52,7 +52,7 @@ def examples(text):
 
 def printed_by(command, folder):
     """The lines that a command prints."""
-    command = command.replace("./dlk", str(PROGRAM)).replace("/tmp/", f"{folder}/")
+    command = command.replace("/tmp/", f"{folder}/").replace("./dlk", shlex.quote(str(PROGRAM)))
     run = subprocess.run(["bash", "-c", command], cwd=ROOT, capture_output=True, check=False)
     return run.stdout.decode("utf-8", "replace").splitlines()
 
