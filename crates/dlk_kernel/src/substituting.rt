@@ -161,9 +161,10 @@ pub(crate) fn subst_row<S: Store, L: Ledger>(
 {
     let conclusion = subst_sequent(alloc, store, sigma, row.conclusion.value(), steps)?;
     let goals = subst_sequents(alloc, store, sigma, row.goals.as_slice(), steps)?;
+    let conclusion = Shared::new(alloc, conclusion)?;
     let leaves = row.leaves.share()?;
     Ok(Row {
-        conclusion: Shared::new(alloc, conclusion)?,
+        conclusion,
         goals,
         leaves,
     })

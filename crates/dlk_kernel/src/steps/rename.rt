@@ -45,9 +45,10 @@ pub(super) fn rename<S: Store, L: Ledger>(
     };
     let conclusion = swap_sequent(alloc, store, row.conclusion.value(), x, y, steps)?;
     let goals = swap_sequents(alloc, store, row.goals.as_slice(), x, y, steps)?;
+    let conclusion = Shared::new(alloc, conclusion)?;
     let leaves = row.leaves.share()?;
     Ok(Row {
-        conclusion: Shared::new(alloc, conclusion)?,
+        conclusion,
         goals,
         leaves,
     })

@@ -35,7 +35,7 @@ pub returns-clause-made : goal.returns-clause-made
 returns-clause-made g c =
     let first = g.met.S.Store.grows_keeps c.args.store.now c.subst_sequent.new.store c.subst_sequent.ensures.grows in
     let then = g.met.S.Store.grows_keeps c.subst_sequent.new.store c.subst_sequents.new.store c.subst_sequents.ensures.grows in
-    rw c.in_ok-new.ensures
+    rw c.in_ok-conclusion-2.ensures
     (whole_row _ _ first c.args.sigma.now.pairs c.requires.sigma.known _ then c.args.row.now _ c.requires.known
     (rw c.value.ensures at c.in_ok-conclusion.ensures.made)
     c.in_ok-conclusion.ensures.known (rw c.as_slice.ensures at c.in_ok-goals.ensures.made) c.in_ok-leaves.ensures)
@@ -44,7 +44,7 @@ pub returns-clause-known : goal.returns-clause-known
 returns-clause-known g c =
     let first = g.met.S.Store.grows_keeps c.args.store.now c.subst_sequent.new.store c.subst_sequent.ensures.grows in
     let then = g.met.S.Store.grows_keeps c.subst_sequent.new.store c.subst_sequents.new.store c.subst_sequents.ensures.grows in
-    rw c.in_ok-new.ensures
+    rw c.in_ok-conclusion-2.ensures
     (whole_known _ _ _ first then c.args.row.now _ c.requires.known c.in_ok-conclusion.ensures.known c.in_ok-goals.ensures.known c.in_ok-leaves.ensures)
 
 pub returns-in_err-goals-clause-looks : goal.returns-in_err-goals-clause-looks
@@ -61,8 +61,8 @@ returns-in_err-leaves-clause-looks g c = λ u.
     (rw c.value.ensures at (c.subst_sequent.ensures.looks u))
     (rw c.as_slice.ensures at (c.subst_sequents.ensures.looks u))
 
-pub returns-in_err-new-clause-looks : goal.returns-in_err-new-clause-looks
-returns-in_err-new-clause-looks g c = λ u.
+pub returns-in_err-conclusion-2-clause-looks : goal.returns-in_err-conclusion-2-clause-looks
+returns-in_err-conclusion-2-clause-looks g c = λ u.
     let first = g.met.S.Store.grows_keeps c.args.store.now c.subst_sequent.new.store c.subst_sequent.ensures.grows in
     row_looked first c.args.sigma.now.pairs c.requires.sigma.known _ _ _ c.args.row.now c.requires.known
     (rw c.value.ensures at (c.subst_sequent.ensures.looks u))

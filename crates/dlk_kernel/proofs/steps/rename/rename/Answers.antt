@@ -30,7 +30,7 @@ returns-clause-given g c =
     let row = At_All (IsKnownRow (g.S.Store.trees c.args.store.now)) c.args.rows.now c.args.fact c.in-Some.row.now c.requires c.in-Some.ensures in
     let first = g.met.S.Store.grows_keeps c.args.store.now c.swap_sequent.new.store c.swap_sequent.ensures.grows in
     let then = g.met.S.Store.grows_keeps c.swap_sequent.new.store c.swap_sequents.new.store c.swap_sequents.ensures.grows in
-    rw c.in_ok-new.ensures
+    rw c.in_ok-conclusion-2.ensures
     (renamed_given _ _ _ first then c.args.x.now c.args.y.now c.args.rows.now c.args.fact c.in-Some.row.now c.in-Some.ensures row _
     c.is_name.ensures.name c.is_name-2.ensures.name (rw c.value.ensures at c.in_ok-conclusion.ensures.made) c.in_ok-conclusion.ensures.known
     (rw c.as_slice.ensures at c.in_ok-goals.ensures.made) c.in_ok-leaves.ensures)
@@ -40,7 +40,7 @@ returns-clause-known g c =
     let row = At_All (IsKnownRow (g.S.Store.trees c.args.store.now)) c.args.rows.now c.args.fact c.in-Some.row.now c.requires c.in-Some.ensures in
     let first = g.met.S.Store.grows_keeps c.args.store.now c.swap_sequent.new.store c.swap_sequent.ensures.grows in
     let then = g.met.S.Store.grows_keeps c.swap_sequent.new.store c.swap_sequents.new.store c.swap_sequents.ensures.grows in
-    rw c.in_ok-new.ensures
+    rw c.in_ok-conclusion-2.ensures
     (renamed_known _ _ _ first then c.args.x.now c.args.y.now c.args.rows.now c.args.fact c.in-Some.row.now c.in-Some.ensures row _
     c.in_ok-conclusion.ensures.known c.in_ok-goals.ensures.known c.in_ok-leaves.ensures)
 
