@@ -28,7 +28,7 @@ impl<T> Shared<T> {
         Ok(Shared { owned })
     }
 
-    /// The same value with one more owner, which takes no memory for it.
+    /// The same value with one more owner. Nothing is copied, and it fails only where no more owners can be counted.
     pub fn share(&self) -> Result<Self, AllocError>
     where
         T: Drop,
