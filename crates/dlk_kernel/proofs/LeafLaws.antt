@@ -1,8 +1,10 @@
 -- The row of a leaf, sequents among others, and leaves that join.
-use Rattle.std.proofs.Common.{◌≡◌, ◌≢◌, ℕ, ◌+◌, ◌<◌, ◌≤◌, List, [], ◌∷◌, ◌++◌, map, take, drop, length, get_or, inl, inr, add-one, ap, ◌∙◌, append_assoc}
-use Rattle.std.specs.Prelude.{◌↔◌, IsTrue}
+use Rattle.std.proofs.Common.{◌≡◌, ◌≢◌, ℕ, ◌+◌, ◌<◌, ◌≤◌, List, [], ◌∷◌, ◌++◌, map, take, drop, length, get_or}
+use Rattle.std.proofs.Common.{inl, inr, add-one, refl, sym, ap, ◌∙◌, append_assoc, arith}
+use Rattle.std.specs.Prelude.{◌↔◌, IsTrue, Result, IfOk}
 use Rattle.std.proofs.Math.Seq.{drop-cons}
-use Rattle.std.proofs.lemmas.List.{map-append, take_more, drop_all}
+use Rattle.std.proofs.lemmas.List.{map-append, append-nil, take_more, drop_all}
+use Rattle.std.proofs.lemmas.Result.{IfOk-weaker}
 use Rattle.dlk_tree.specs.Trees.{Tree}
 use Rattle.dlk_calculus.specs.Arithmetic.{is_arithmetic_sequent}
 use Rattle.dlk_calculus.specs.Sequents.{IsSequent, Sequent as TreeSequent}
@@ -65,3 +67,30 @@ pub all_pushed : (trees : List Tree) (old all : List Sequent) (new : List TreeSe
 all_pushed trees old all new s e =
     map-append (sequent_at trees) all (s ∷ []) ∙ ap (λ l. l ++ sequent_at trees s ∷ []) e
     ∙ append_assoc (map (sequent_at trees) old) new (sequent_at trees s ∷ [])
+
+-- what a list of leaves that join others has
+abbrev Joined : List Tree → List Sequent → List Sequent → List Sequent → Type 0
+Joined trees old more all =
+    (new : List TreeSequent) × AreNew (map (sequent_at trees) old) (map (sequent_at trees) more) new
+    × (map (sequent_at trees) all ≡ map (sequent_at trees) old ++ new)
+
+-- among none all are new
+all_new : (more : List TreeSequent) → AreNew [] more more
+all_new [] = no_more
+all_new (s ∷ more) = added (λ a. a) (all_new more)
+
+-- where nothing joins them the old ones are all, and where there are no old ones those that join
+joined_by_none : (trees : List Tree) (old more all : List Sequent) → length more ≡ 0 → all ≡ old → Joined trees old more all
+joined_by_none trees old [] all none is = rw is ([], no_more, sym (append-nil (map (sequent_at trees) old)))
+joined_by_none trees old (s ∷ more) all none is = absurd (omega (arith, none))
+
+none_joined : (trees : List Tree) (old more all : List Sequent) → length old ≡ 0 → all ≡ more → Joined trees old more all
+none_joined trees [] more all none is = rw is (map (sequent_at trees) more, all_new (map (sequent_at trees) more), refl)
+none_joined trees (s ∷ old) more all none is = absurd (omega (arith, none))
+
+module _ (trees : List Tree) (old more : List Sequent) {E : Type 0} (shared : Result (List Sequent) E) where
+  pub old_shared : length more ≡ 0 → IfOk shared (λ all. all ≡ old) → IfOk shared (Joined trees old more)
+  old_shared none = IfOk-weaker shared (λ all. all ≡ old) (Joined trees old more) (λ all. joined_by_none trees old more all none)
+
+  pub more_shared : length old ≡ 0 → IfOk shared (λ all. all ≡ more) → IfOk shared (Joined trees old more)
+  more_shared none = IfOk-weaker shared (λ all. all ≡ more) (Joined trees old more) (λ all. none_joined trees old more all none)

@@ -5,7 +5,6 @@ use Rattle.std.proofs.lemmas.List.{take-map, get_or-map, length-map}
 use Rattle.std.proofs.lemmas.List.Sums.{sum_by_more, sum_by-take-le}
 use Rattle.dlk_tree.specs.Trees.{Tree}
 use Rattle.dlk_calculus.specs.Places.{at}
-use Rattle.dlk_calculus.specs.Provables.{Provable}
 use Rattle.dlk_calculus.specs.Steps.{Substitute}
 use Rattle.dlk_calculus.proofs.PlaceLaws.{At-map}
 use Rattle.dlk_store.specs.declared.Id.{Id}

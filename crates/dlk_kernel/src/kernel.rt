@@ -94,7 +94,7 @@ impl<S: Store> Kernel<S> {
         ensures known { IsKnown (S.trees self.now.store) result.now }
         ensures formulas { IsSequent (sequent_at (S.trees self.now.store) result.now) }
     {
-        &self.row(fact).conclusion
+        self.row(fact).conclusion.value()
     }
 
     /// The goals of a fact, which is a row's number from 1 to `rows()`: the sequents that are left to be proved.
@@ -118,7 +118,7 @@ impl<S: Store> Kernel<S> {
         ensures formulas { All (λ s. IsSequent (sequent_at (S.trees self.now.store) s)) result.now }
         ensures arithmetic { (p : Provable) → At (facts S.trees self.now) fact p → HasLeaves p }
     {
-        self.row(fact).leaves.as_slice()
+        self.row(fact).leaves.value().as_slice()
     }
 
     /// Takes a step: the row that it gives comes last, and its number is answered. The ids of the step are those of this

@@ -4,6 +4,7 @@ ghost use Rattle.dlk_calculus.specs.Sequents.{Sequent as TreeSequent};
 ghost use Rattle.dlk_calculus.specs.Provables.{IsAmong, AreNew};
 ghost use Rattle.dlk_sequent.specs.Sequents.{sequent_at, IsKnown};
 
+use crate::shared::Shared;
 use dlk_sequent::{Listed, Sequent, same_sequent};
 use dlk_store::Store;
 use std::alloc::{AllocError, Global};
@@ -23,7 +24,7 @@ fn is_among<S: Store>(store: &S, all: &[Sequent], s: &Sequent) -> bool
 }
 
 /// The old leaves, and behind them, in their order, those of `more` that aren't among them.
-pub(crate) fn join<S: Store>(
+fn append_new<S: Store>(
     alloc: Global,
     store: &S,
     old: &Listed<Sequent>,
@@ -36,7 +37,7 @@ pub(crate) fn join<S: Store>(
         × (map (sequent_at (S.trees store.now)) all ≡ map (sequent_at (S.trees store.now)) old.now ++ new)) }
     ensures known { IfOk result (All (IsKnown (S.trees store.now))) }
 {
-    let mut all = old.copy(alloc)?;
+    let mut all = old.copy_with_room(alloc, more.len())?;
     for s in more {
         if is_among(store, old.as_slice(), s) {
             continue;
@@ -45,4 +46,29 @@ pub(crate) fn join<S: Store>(
         all.push(copy)?;
     }
     Ok(all)
+}
+
+/// The old leaves, and behind them, in their order, those of `more` that aren't among them. Where one list is empty the other is
+/// shared.
+pub(crate) fn join<S: Store>(
+    alloc: Global,
+    store: &S,
+    old: &Shared<Listed<Sequent>>,
+    more: &Shared<Listed<Sequent>>,
+) -> Result<Shared<Listed<Sequent>>, AllocError>
+    requires old { All (IsKnown (S.trees store.now)) old.now }
+    requires more { All (IsKnown (S.trees store.now)) more.now }
+    ensures joined { IfOk result (λ all. (new : List TreeSequent)
+        × AreNew (map (sequent_at (S.trees store.now)) old.now) (map (sequent_at (S.trees store.now)) more.now) new
+        × (map (sequent_at (S.trees store.now)) all ≡ map (sequent_at (S.trees store.now)) old.now ++ new)) }
+    ensures known { IfOk result (All (IsKnown (S.trees store.now))) }
+{
+    if more.value().as_slice().is_empty() {
+        return old.share();
+    }
+    if old.value().as_slice().is_empty() {
+        return more.share();
+    }
+    let all = append_new(alloc, store, old.value(), more.value().as_slice())?;
+    Shared::new(alloc, all)
 }

@@ -8,6 +8,7 @@ mod leaves;
 mod limits;
 mod renaming;
 mod row;
+mod shared;
 mod steps;
 mod substituting;
 

@@ -129,6 +129,6 @@ pub(crate) fn is_substituted_within<S: Store>(
     ensures { result ≡ is_substituted_within measure (pairs_at (S.trees store.now) pairs.now) (provable_at (S.trees store.now) row.now) }
 {
     are_pairs_within(store, measure, pairs)
-        && is_sequent_within(store, measure, &row.conclusion)
+        && is_sequent_within(store, measure, row.conclusion.value())
         && are_sequents_within(store, measure, row.goals.as_slice())
 }

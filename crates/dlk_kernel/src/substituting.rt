@@ -17,6 +17,7 @@ ghost use Rattle.dlk_memo.specs.Looks.{most_looks};
 
 use crate::fault::StepFault;
 use crate::row::Row;
+use crate::shared::Shared;
 use dlk_calculus::Reason;
 use dlk_memo::{ApplyFault, apply};
 use dlk_sequent::{Listed, Pair, Sequent, Subst, SubstFault};
@@ -158,9 +159,10 @@ pub(crate) fn subst_row<S: Store, L: Ledger>(
     ensures grows { S.grows store.old store.new }
     ensures looks { IsTrue S.unique → steps.new ≤ steps.old + provable_looks (pairs_at (S.trees store.old) sigma.now.pairs) (provable_at (S.trees store.old) row.now) }
 {
-    let conclusion = subst_sequent(alloc, store, sigma, &row.conclusion, steps)?;
+    let conclusion = subst_sequent(alloc, store, sigma, row.conclusion.value(), steps)?;
     let goals = subst_sequents(alloc, store, sigma, row.goals.as_slice(), steps)?;
-    let leaves = row.leaves.copy(alloc)?;
+    let conclusion = Shared::new(alloc, conclusion)?;
+    let leaves = row.leaves.share()?;
     Ok(Row {
         conclusion,
         goals,

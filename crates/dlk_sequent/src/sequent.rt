@@ -58,8 +58,16 @@ impl Listed<Sequent> {
     pub fn copy(&self, alloc: Global) -> Result<Listed<Sequent>, AllocError>
         ensures { IfOk result (λ sequents. sequents ≡ self.now) }
     {
-        let mut all = Vec::new(alloc);
-        append(alloc, &mut all, self.as_slice())?;
+        self.copy_with_room(alloc, 0)
+    }
+
+    /// The same sequents once more, with room for `more` behind them.
+    pub fn copy_with_room(&self, alloc: Global, more: usize) -> Result<Listed<Sequent>, AllocError>
+        ensures { IfOk result (λ sequents. sequents ≡ self.now) }
+    {
+        let sequents = self.as_slice();
+        let mut all = Vec::with_capacity(alloc, sequents.len().saturating_add(more))?;
+        append(alloc, &mut all, sequents)?;
         Ok(Listed::from_vec(all))
     }
 
@@ -74,7 +82,7 @@ impl Listed<Sequent> {
         ensures { IfOk result (λ sequents. sequents ≡ put_all self.now place new.now) }
     {
         let sequents = self.as_slice();
-        let mut all = Vec::new(alloc);
+        let mut all = Vec::with_capacity(alloc, sequents.len() - 1 + new.len())?;
         append(alloc, &mut all, &sequents[..place as usize - 1])?;
         append(alloc, &mut all, new)?;
         append(alloc, &mut all, &sequents[place as usize..])?;

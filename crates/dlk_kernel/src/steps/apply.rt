@@ -56,8 +56,8 @@ pub(super) fn apply<S: Store, L: Ledger>(
     if goals.as_slice().len() > MOST_GOALS {
         return Err(StepFault::Refused(Reason::GoalsFull));
     }
-    let conclusion = row.conclusion.copy(alloc)?;
-    let leaves = row.leaves.copy(alloc)?;
+    let conclusion = row.conclusion.share()?;
+    let leaves = row.leaves.share()?;
     Ok(Row {
         conclusion,
         goals,

@@ -9,6 +9,7 @@ ghost use Rattle.dlk_kernel.specs.Named.{AreFormulas};
 use crate::axioms::NamedAxioms;
 use crate::fault::StepFault;
 use crate::row::Row;
+use crate::shared::Shared;
 use dlk_calculus::Reason;
 use dlk_sequent::{Listed, Sequent};
 use dlk_store::Store;
@@ -39,9 +40,9 @@ pub(super) fn axiom<S: Store>(
     let Some(formula) = axioms.formula(alloc, store, name)? else {
         return Err(StepFault::Refused(Reason::UnknownName));
     };
-    let conclusion = Sequent::alone_right(alloc, formula)?;
+    let conclusion = Shared::new(alloc, Sequent::alone_right(alloc, formula)?)?;
+    let leaves = Shared::new(alloc, Listed::new(alloc))?;
     let goals = Listed::new(alloc);
-    let leaves = Listed::new(alloc);
     Ok(Row {
         conclusion,
         goals,

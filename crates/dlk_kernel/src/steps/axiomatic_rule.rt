@@ -7,6 +7,7 @@ ghost use Rattle.dlk_kernel.specs.Kernel.{provable_at, IsKnownRow};
 
 use crate::fault::StepFault;
 use crate::row::Row;
+use crate::shared::Shared;
 use dlk_calculus::Reason;
 use dlk_sequent::Listed;
 use dlk_store::Store;
@@ -35,8 +36,9 @@ pub(super) fn axiomatic_rule<S: Store>(
     else {
         return Err(StepFault::Refused(Reason::UnknownName));
     };
+    let conclusion = Shared::new(alloc, conclusion)?;
+    let leaves = Shared::new(alloc, Listed::new(alloc))?;
     let goals = Listed::from_vec(premises);
-    let leaves = Listed::new(alloc);
     Ok(Row {
         conclusion,
         goals,

@@ -9,6 +9,7 @@ ghost use Rattle.dlk_kernel.specs.Kernel.{provable_at, IsKnownRow};
 use crate::fault::StepFault;
 use crate::limits::limit_sequents;
 use crate::row::Row;
+use crate::shared::Shared;
 use dlk_calculus::Reason;
 use dlk_sequent::{Listed, Sequent, is_arith, is_sequent};
 use dlk_store::{Steps, Store};
@@ -40,11 +41,11 @@ pub(super) fn leaf<S: Store, L: Ledger>(
     if !is_arith(store, s, steps) {
         return Err(StepFault::Refused(Reason::NotArith));
     }
-    let conclusion = s.copy(alloc)?;
+    let conclusion = Shared::new(alloc, s.copy(alloc)?)?;
     let own = s.copy(alloc)?;
-    let mut leaves = Listed::new(alloc);
-    leaves.push(own)?;
+    let leaves = Listed::from_vec(vec![in alloc; own]?);
     limit_sequents(store, leaves.as_slice())?;
+    let leaves = Shared::new(alloc, leaves)?;
     let goals = Listed::new(alloc);
     Ok(Row {
         conclusion,

@@ -42,18 +42,18 @@ pub(super) fn merge<S: Store>(
     let Some(s) = item_at(row.goals.as_slice(), goal) else {
         return Err(StepFault::Refused(Reason::NoGoal));
     };
-    if !same_sequent(store, s, &proof.conclusion) {
+    if !same_sequent(store, s, proof.conclusion.value()) {
         return Err(StepFault::Refused(Reason::NotEqual));
     }
     let goals = row.goals.with_all_at(alloc, goal, proof.goals.as_slice())?;
     if goals.as_slice().len() > MOST_GOALS {
         return Err(StepFault::Refused(Reason::GoalsFull));
     }
-    let leaves = join(alloc, store, &row.leaves, proof.leaves.as_slice())?;
-    if leaves.as_slice().len() > MOST_LEAVES {
+    let leaves = join(alloc, store, &row.leaves, &proof.leaves)?;
+    if leaves.value().as_slice().len() > MOST_LEAVES {
         return Err(StepFault::Refused(Reason::LeavesFull));
     }
-    let conclusion = row.conclusion.copy(alloc)?;
+    let conclusion = row.conclusion.share()?;
     Ok(Row {
         conclusion,
         goals,

@@ -7,6 +7,7 @@ ghost use Rattle.dlk_kernel.specs.Kernel.{provable_at, provables_at, IsKnownRow}
 use crate::fault::StepFault;
 use crate::renaming::{swap_sequent, swap_sequents};
 use crate::row::Row;
+use crate::shared::Shared;
 use dlk_calculus::Reason;
 use dlk_sequent::item_at;
 use dlk_store::{Steps, Store};
@@ -42,9 +43,10 @@ pub(super) fn rename<S: Store, L: Ledger>(
     let Some(row) = item_at(rows, fact) else {
         return Err(StepFault::Refused(Reason::NoFact));
     };
-    let conclusion = swap_sequent(alloc, store, &row.conclusion, x, y, steps)?;
+    let conclusion = swap_sequent(alloc, store, row.conclusion.value(), x, y, steps)?;
     let goals = swap_sequents(alloc, store, row.goals.as_slice(), x, y, steps)?;
-    let leaves = row.leaves.copy(alloc)?;
+    let conclusion = Shared::new(alloc, conclusion)?;
+    let leaves = row.leaves.share()?;
     Ok(Row {
         conclusion,
         goals,

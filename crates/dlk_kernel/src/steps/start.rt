@@ -9,6 +9,7 @@ ghost use Rattle.dlk_kernel.specs.Kernel.{provable_at, IsKnownRow};
 use crate::fault::StepFault;
 use crate::limits::limit_sequents;
 use crate::row::Row;
+use crate::shared::Shared;
 use dlk_calculus::Reason;
 use dlk_sequent::{Listed, Sequent, is_sequent};
 use dlk_store::{Steps, Store};
@@ -37,12 +38,11 @@ pub(super) fn start<S: Store, L: Ledger>(
     if !is_sequent(store, s, steps) {
         return Err(StepFault::Refused(Reason::WrongShape));
     }
-    let conclusion = s.copy(alloc)?;
+    let conclusion = Shared::new(alloc, s.copy(alloc)?)?;
+    let leaves = Shared::new(alloc, Listed::new(alloc))?;
     let goal = s.copy(alloc)?;
-    let mut goals = Listed::new(alloc);
-    goals.push(goal)?;
+    let goals = Listed::from_vec(vec![in alloc; goal]?);
     limit_sequents(store, goals.as_slice())?;
-    let leaves = Listed::new(alloc);
     Ok(Row {
         conclusion,
         goals,

@@ -1,54 +1,34 @@
-use Rattle.std.proofs.Common.{List, [], ◌∷◌, ◌++◌, map, sym, subst}
-use Rattle.std.proofs.lemmas.Bool.{both_ways}
-use Rattle.std.proofs.lemmas.List.{append-nil, take_all}
-use Rattle.std.proofs.lemmas.List.Elements.{All-push}
-use Rattle.dlk_calculus.specs.Provables.{AreNew, no_more}
-use Rattle.dlk_sequent.specs.declared.sequent.Sequent.{Sequent}
-use Rattle.dlk_sequent.specs.Sequents.{sequent_at, IsKnown}
-use Rattle.dlk_kernel.proofs.LeafLaws.{one_there, one_new, all_pushed}
+use Rattle.std.proofs.Common.{◌≡◌, length, arith}
+use Rattle.std.specs.List.{All}
+use Rattle.std.proofs.lemmas.Result.{IfOk-weaker}
+use Rattle.dlk_sequent.specs.Sequents.{IsKnown}
+use Rattle.dlk_kernel.proofs.LeafLaws.{old_shared, more_shared}
 use Rattle.dlk_kernel.proofs.leaves.join.Goals as goal
 
-pub loop-s-init : goal.loop-s-init
-loop-s-init g c =
-    let old = map (sequent_at (g.S.Store.trees c.args.store.now)) c.args.old.now in
-    record { known = rw c.in_ok-all.ensures c.requires.old; joined = ([], no_more, rw c.in_ok-all.ensures (sym (append-nil old))) }
+pub returns-then-is_empty-clause-joined : goal.returns-then-is_empty-clause-joined
+returns-then-is_empty-clause-joined g c =
+    let none : length c.args.more.now ≡ 0 =
+    rw (← c.value.ensures, ← c.as_slice.ensures) (grind (arith, c.if-is_empty.true, c.is_empty.ensures)) in
+    old_shared (g.S.Store.trees c.args.store.now) c.args.old.now c.args.more.now c.share.result none c.share.ensures
 
-pub is_among-requires-clause-all : goal.is_among-requires-clause-all
-is_among-requires-clause-all g c = rw c.as_slice.ensures c.requires.old
+pub returns-then-is_empty-clause-known : goal.returns-then-is_empty-clause-known
+returns-then-is_empty-clause-known g c =
+    IfOk-weaker c.share.result (λ all. all ≡ c.args.old.now) (All (IsKnown (g.S.Store.trees c.args.store.now)))
+    (λ all e. rw e c.requires.old) c.share.ensures
 
-pub is_among-requires-clause-known : goal.is_among-requires-clause-known
-is_among-requires-clause-known g c = rw (← c.s-item.is) at (c.requires.more c.loop-s.s-index c.s-item.result c.loop-s-test.true)
+pub returns-then-is_empty-2-clause-joined : goal.returns-then-is_empty-2-clause-joined
+returns-then-is_empty-2-clause-joined g c =
+    let none : length c.args.old.now ≡ 0 =
+    rw (← c.value-2.ensures, ← c.as_slice-2.ensures) (grind (arith, c.if-is_empty-2.true, c.is_empty-2.ensures)) in
+    more_shared (g.S.Store.trees c.args.store.now) c.args.old.now c.args.more.now c.share-then-is_empty-2.result none c.share-then-is_empty-2.ensures
 
-pub loop-s-preserved-then-is_among : goal.loop-s-preserved-then-is_among
-loop-s-preserved-then-is_among g c =
-    let trees = g.S.Store.trees c.args.store.now in
-    let j = c.loop-s.invariant.joined in
-    let there = rw c.as_slice.ensures at (c.is_among.ensures.0 c.if-is_among.true) in
-    record {
-      known = c.loop-s.invariant.known;
-      joined = (j.0, one_there trees c.args.more.now c.loop-s.s-index c.s-item.result c.loop-s-test.true c.s-item.is _ j.0 there j.1, j.2);
-    }
+pub returns-then-is_empty-2-clause-known : goal.returns-then-is_empty-2-clause-known
+returns-then-is_empty-2-clause-known g c =
+    IfOk-weaker c.share-then-is_empty-2.result (λ all. all ≡ c.args.more.now) (All (IsKnown (g.S.Store.trees c.args.store.now)))
+    (λ all e. rw e c.requires.more) c.share-then-is_empty-2.ensures
 
-pub loop-s-preserved : goal.loop-s-preserved
-loop-s-preserved g c =
-    let trees = g.S.Store.trees c.args.store.now in
-    let s = c.s-item.result in
-    let known : IsKnown trees s = rw (← c.s-item.is) at (c.requires.more c.loop-s.s-index s c.loop-s-test.true) in
-    let j = c.loop-s.invariant.joined in
-    record {
-      known = rw (c.in_ok-push.ensures.ok, c.in_ok-copy.ensures) (All-push (IsKnown trees) c.loop-s.all s c.loop-s.invariant.known known);
-      joined = (
-        j.0 ++ sequent_at trees s ∷ [],
-        one_new trees c.args.more.now c.loop-s.s-index s c.loop-s-test.true c.s-item.is _ j.0
-            (λ a. absurd (both_ways c.is_among.result c.if-is_among.false (c.is_among.ensures.1 (rw c.as_slice.ensures a)))) j.1,
-        rw (c.in_ok-push.ensures.ok, c.in_ok-copy.ensures) (all_pushed trees c.args.old.now c.loop-s.all j.0 s j.2),
-      );
-    }
+pub append_new-requires-clause-old : goal.append_new-requires-clause-old
+append_new-requires-clause-old g c = rw c.value-3.ensures c.requires.old
 
-pub returns-clause-joined : goal.returns-clause-joined
-returns-clause-joined g c =
-    let at = map (sequent_at (g.S.Store.trees c.args.store.now)) in
-    let j = c.loop-s.invariant.joined in
-    let all_looked : AreNew (at c.args.old.now) (at c.args.more.now) j.0 =
-    subst (λ (more : List Sequent). AreNew (at c.args.old.now) (at more) j.0) (take_all c.loop-s.s-index c.args.more.now c.loop-s-test.false) j.1 in
-    (j.0, all_looked, j.2)
+pub append_new-requires-clause-more : goal.append_new-requires-clause-more
+append_new-requires-clause-more g c = rw (c.as_slice-3.ensures, c.value-4.ensures) c.requires.more

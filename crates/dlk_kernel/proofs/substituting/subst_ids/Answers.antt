@@ -5,7 +5,7 @@ use Rattle.dlk_sequent.specs.declared.fault.ApplyFault.TheVariants.{NotAdmissibl
 use Rattle.dlk_subst.proofs.Results.{handed_on}
 use Rattle.dlk_kernel.proofs.Renamed.{one_more_known_id}
 use Rattle.dlk_kernel.proofs.Substituted.{no_id, one_more_id}
-use Rattle.dlk_kernel.proofs.Looked.{id_looked, ids_stopped, front_counts}
+use Rattle.dlk_kernel.proofs.Looked.{id_looked, ids_stopped}
 use Rattle.dlk_kernel.proofs.substituting.subst_ids.Goals as goal
 
 pub apply-requires-clause-made : goal.apply-requires-clause-made

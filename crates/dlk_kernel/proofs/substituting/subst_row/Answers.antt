@@ -21,7 +21,7 @@ pub returns-in_err-conclusion-clause-none : goal.returns-in_err-conclusion-claus
 returns-in_err-conclusion-clause-none g c e q h =
     let failed = handed_on c.subst_sequent.result c.from_residual.result c.in_err-conclusion.field-0.0 NotAdmissible c.in_err-conclusion.was
     c.from_residual.ensures.1 e in
-    c.subst_sequent.ensures.none failed q.conclusion h.conclusion
+    (rw c.value.ensures at (c.subst_sequent.ensures.none failed)) q.conclusion h.conclusion
 
 pub returns-in_err-goals-clause-none : goal.returns-in_err-goals-clause-none
 returns-in_err-goals-clause-none g c e =
@@ -35,29 +35,46 @@ pub returns-clause-made : goal.returns-clause-made
 returns-clause-made g c =
     let first = g.met.S.Store.grows_keeps c.args.store.now c.subst_sequent.new.store c.subst_sequent.ensures.grows in
     let then = g.met.S.Store.grows_keeps c.subst_sequent.new.store c.subst_sequents.new.store c.subst_sequents.ensures.grows in
-    whole_row _ _ first c.args.sigma.now.pairs c.requires.sigma.known _ then c.args.row.now _ c.requires.known c.in_ok-conclusion.ensures.made
-    c.in_ok-conclusion.ensures.known (rw c.as_slice.ensures at c.in_ok-goals.ensures.made) c.in_ok-leaves.ensures
+    rw c.in_ok-conclusion-2.ensures
+    (whole_row _ _ first c.args.sigma.now.pairs c.requires.sigma.known _ then c.args.row.now _ c.requires.known
+    (rw c.value.ensures at c.in_ok-conclusion.ensures.made)
+    c.in_ok-conclusion.ensures.known (rw c.as_slice.ensures at c.in_ok-goals.ensures.made) c.in_ok-leaves.ensures)
 
 pub returns-clause-known : goal.returns-clause-known
 returns-clause-known g c =
     let first = g.met.S.Store.grows_keeps c.args.store.now c.subst_sequent.new.store c.subst_sequent.ensures.grows in
     let then = g.met.S.Store.grows_keeps c.subst_sequent.new.store c.subst_sequents.new.store c.subst_sequents.ensures.grows in
-    whole_known _ _ _ first then c.args.row.now _ c.requires.known c.in_ok-conclusion.ensures.known c.in_ok-goals.ensures.known c.in_ok-leaves.ensures
+    rw c.in_ok-conclusion-2.ensures
+    (whole_known _ _ _ first then c.args.row.now _ c.requires.known c.in_ok-conclusion.ensures.known c.in_ok-goals.ensures.known c.in_ok-leaves.ensures)
 
 pub returns-in_err-goals-clause-looks : goal.returns-in_err-goals-clause-looks
 returns-in_err-goals-clause-looks g c = λ u.
     let first = g.met.S.Store.grows_keeps c.args.store.now c.subst_sequent.new.store c.subst_sequent.ensures.grows in
-    row_looked first c.args.sigma.now.pairs c.requires.sigma.known _ _ _ c.args.row.now c.requires.known (c.subst_sequent.ensures.looks u)
+    row_looked first c.args.sigma.now.pairs c.requires.sigma.known _ _ _ c.args.row.now c.requires.known
+    (rw c.value.ensures at (c.subst_sequent.ensures.looks u))
     (rw c.as_slice.ensures at (c.subst_sequents.ensures.looks u))
 
 pub returns-in_err-leaves-clause-looks : goal.returns-in_err-leaves-clause-looks
 returns-in_err-leaves-clause-looks g c = λ u.
     let first = g.met.S.Store.grows_keeps c.args.store.now c.subst_sequent.new.store c.subst_sequent.ensures.grows in
-    row_looked first c.args.sigma.now.pairs c.requires.sigma.known _ _ _ c.args.row.now c.requires.known (c.subst_sequent.ensures.looks u)
+    row_looked first c.args.sigma.now.pairs c.requires.sigma.known _ _ _ c.args.row.now c.requires.known
+    (rw c.value.ensures at (c.subst_sequent.ensures.looks u))
+    (rw c.as_slice.ensures at (c.subst_sequents.ensures.looks u))
+
+pub returns-in_err-conclusion-2-clause-looks : goal.returns-in_err-conclusion-2-clause-looks
+returns-in_err-conclusion-2-clause-looks g c = λ u.
+    let first = g.met.S.Store.grows_keeps c.args.store.now c.subst_sequent.new.store c.subst_sequent.ensures.grows in
+    row_looked first c.args.sigma.now.pairs c.requires.sigma.known _ _ _ c.args.row.now c.requires.known
+    (rw c.value.ensures at (c.subst_sequent.ensures.looks u))
     (rw c.as_slice.ensures at (c.subst_sequents.ensures.looks u))
 
 pub returns-clause-looks : goal.returns-clause-looks
 returns-clause-looks g c = λ u.
     let first = g.met.S.Store.grows_keeps c.args.store.now c.subst_sequent.new.store c.subst_sequent.ensures.grows in
-    row_looked first c.args.sigma.now.pairs c.requires.sigma.known _ _ _ c.args.row.now c.requires.known (c.subst_sequent.ensures.looks u)
+    row_looked first c.args.sigma.now.pairs c.requires.sigma.known _ _ _ c.args.row.now c.requires.known
+    (rw c.value.ensures at (c.subst_sequent.ensures.looks u))
     (rw c.as_slice.ensures at (c.subst_sequents.ensures.looks u))
+
+pub returns-clause-grows : goal.returns-clause-grows
+returns-clause-grows g c =
+    g.met.S.Store.grows_trans c.args.store.now c.subst_sequent.new.store c.subst_sequents.new.store c.subst_sequent.ensures.grows c.subst_sequents.ensures.grows

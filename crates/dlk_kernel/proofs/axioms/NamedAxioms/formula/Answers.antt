@@ -1,7 +1,7 @@
-use Rattle.std.proofs.Common.{◌≡◌, sym, subst, rules}
+use Rattle.std.proofs.Common.{◌≡◌, rules}
 use Rattle.std.proofs.lemmas.List.Elements.{All-push}
 use Rattle.dlk_kernel.specs.declared.axioms.NamedFormula.{NamedFormula}
-use Rattle.dlk_kernel.specs.Named.{IsFormulaOf, AreFormulas}
+use Rattle.dlk_kernel.specs.Named.{IsFormulaOf}
 use Rattle.dlk_kernel.proofs.Growth.{formulas_kept}
 use Rattle.dlk_kernel.proofs.axioms.NamedAxioms.formula.Goals as goal
 

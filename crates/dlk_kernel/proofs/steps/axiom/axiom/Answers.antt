@@ -8,7 +8,9 @@ use Rattle.dlk_kernel.proofs.steps.axiom.axiom.Goals as goal
 pub returns-clause-given : goal.returns-clause-given
 returns-clause-given g c =
     let found = rw c.in-Some.is at c.in_ok-formula.ensures.axiom in
-    axiom_given _ c.in-Some.formula _ (rw (c.in_ok-conclusion.ensures, c.new-goals.ensures, c.new-leaves.ensures) refl) c.args.name.now found.0 found.1 found.2
+    axiom_given _ c.in-Some.formula _
+    (rw (c.in_ok-conclusion.ensures, c.in_ok-alone_right.ensures, c.in_ok-leaves.ensures, c.new-2.ensures, c.new-goals.ensures) refl)
+    c.args.name.now found.0 found.1 found.2
 
 pub returns-clause-within : goal.returns-clause-within
 returns-clause-within g c = axiom_within c.args.name.now _

@@ -1,4 +1,4 @@
-use Rattle.std.proofs.Common.{List, length, refl, ap, arith}
+use Rattle.std.proofs.Common.{List, length, refl, ap, ◌∙◌, arith}
 use Rattle.dlk_sequent.specs.declared.sequent.Sequent.{Sequent}
 use Rattle.std.proofs.lemmas.Bool.{both_ways}
 use Rattle.dlk_sequent.specs.Sequents.{IsKnown}
@@ -33,14 +33,14 @@ same_sequent-requires-clause-first g c =
 
 pub same_sequent-requires-clause-second : goal.same_sequent-requires-clause-second
 same_sequent-requires-clause-second g c =
-    (At_All (IsKnownRow (g.S.Store.trees c.args.store.now)) c.args.rows.now c.args.by c.in-Some-item_at.proof.now c.requires
-    c.in-Some-item_at.ensures).conclusion
+    rw c.value.ensures ((At_All (IsKnownRow (g.S.Store.trees c.args.store.now)) c.args.rows.now c.args.by c.in-Some-item_at.proof.now c.requires
+    c.in-Some-item_at.ensures).conclusion)
 
 pub returns-then-not-same_sequent-clause-fault : goal.returns-then-not-same_sequent-clause-fault
 returns-then-not-same_sequent-clause-fault g c =
     merge_at_other _ c.args.rows.now c.args.fact c.args.goal c.args.by c.in-Some.row.now c.in-Some-item_at.proof.now c.in-Some.ensures c.in-Some-item_at.ensures
     c.in-Some-item_at-2.s.now (cc (c.in-Some-item_at-2.ensures, c.as_slice.ensures))
-    (λ e. absurd (both_ways c.same_sequent.result c.if-not-same_sequent.true (c.same_sequent.ensures.1 e)))
+    (λ e. absurd (both_ways c.same_sequent.result c.if-not-same_sequent.true ((rw c.value.ensures at c.same_sequent.ensures.1) e)))
 
 pub with_all_at-requires : goal.with_all_at-requires
 with_all_at-requires g c = At_place c.in-Some.row.now.goals c.args.goal c.in-Some-item_at-2.s.now (cc (c.in-Some-item_at-2.ensures, c.as_slice.ensures))
@@ -51,15 +51,14 @@ join-requires-clause-old g c =
 
 pub join-requires-clause-more : goal.join-requires-clause-more
 join-requires-clause-more g c =
-    rw c.as_slice-4.ensures ((At_All (IsKnownRow (g.S.Store.trees c.args.store.now)) c.args.rows.now c.args.by c.in-Some-item_at.proof.now c.requires
-    c.in-Some-item_at.ensures).leaves)
+    (At_All (IsKnownRow (g.S.Store.trees c.args.store.now)) c.args.rows.now c.args.by c.in-Some-item_at.proof.now c.requires c.in-Some-item_at.ensures).leaves
 
 pub returns-clause-given : goal.returns-clause-given
 returns-clause-given g c =
-    let joined = rw c.as_slice-4.ensures at c.in_ok-leaves.ensures.joined in
+    let joined = c.in_ok-leaves.ensures.joined in
     merged_given _ c.args.rows.now c.args.fact c.args.goal c.args.by c.in-Some.row.now c.in-Some-item_at.proof.now c.in-Some.ensures c.in-Some-item_at.ensures
     c.in-Some-item_at-2.s.now (cc (c.in-Some-item_at-2.ensures, c.as_slice.ensures))
-    (c.same_sequent.ensures.0 c.if-not-same_sequent.false) joined.0 joined.1 c.in_ok-leaves.leaves joined.2 _
+    (rw c.value.ensures at (c.same_sequent.ensures.0 c.if-not-same_sequent.false)) joined.0 joined.1 c.in_ok-leaves.leaves joined.2 _
     (rw (c.in_ok-conclusion.ensures, c.in_ok-goals.ensures, c.as_slice-2.ensures))
 
 pub returns-clause-known : goal.returns-clause-known
@@ -73,28 +72,32 @@ returns-clause-known g c =
 pub returns-then-as_slice-gt-MOST_GOALS-clause-fault : goal.returns-then-as_slice-gt-MOST_GOALS-clause-fault
 returns-then-as_slice-gt-MOST_GOALS-clause-fault g c =
     merge_full _ c.args.rows.now c.args.fact c.args.goal c.args.by c.in-Some.row.now c.in-Some-item_at.proof.now c.in-Some.ensures c.in-Some-item_at.ensures
-    c.in-Some-item_at-2.s.now (cc (c.in-Some-item_at-2.ensures, c.as_slice.ensures)) (c.same_sequent.ensures.0 c.if-not-same_sequent.false)
+    c.in-Some-item_at-2.s.now (cc (c.in-Some-item_at-2.ensures, c.as_slice.ensures))
+    (rw c.value.ensures at (c.same_sequent.ensures.0 c.if-not-same_sequent.false))
     c.in_ok-goals.goals (rw (c.in_ok-goals.ensures, c.as_slice-2.ensures) refl)
     (omega (arith, c.if-as_slice-gt-MOST_GOALS.true, ap (λ (l : List Sequent). length l) c.as_slice-3.ensures))
 
 pub returns-then-as_slice-gt-MOST_LEAVES-clause-fault : goal.returns-then-as_slice-gt-MOST_LEAVES-clause-fault
 returns-then-as_slice-gt-MOST_LEAVES-clause-fault g c =
-    let joined = rw c.as_slice-4.ensures at c.in_ok-leaves.ensures.joined in
+    let joined = c.in_ok-leaves.ensures.joined in
     merge_leaves_full _ c.args.rows.now c.args.fact c.args.goal c.args.by c.in-Some.row.now c.in-Some-item_at.proof.now c.in-Some.ensures
     c.in-Some-item_at.ensures
-    c.in-Some-item_at-2.s.now (cc (c.in-Some-item_at-2.ensures, c.as_slice.ensures)) (c.same_sequent.ensures.0 c.if-not-same_sequent.false)
+    c.in-Some-item_at-2.s.now (cc (c.in-Some-item_at-2.ensures, c.as_slice.ensures))
+    (rw c.value.ensures at (c.same_sequent.ensures.0 c.if-not-same_sequent.false))
     c.in_ok-goals.goals (rw (c.in_ok-goals.ensures, c.as_slice-2.ensures) refl)
     (omega (arith, c.if-as_slice-gt-MOST_GOALS.false, ap (λ (l : List Sequent). length l) c.as_slice-3.ensures))
     c.in_ok-leaves.leaves joined.0 joined.1 joined.2
-    (omega (arith, c.if-as_slice-gt-MOST_LEAVES.true, ap (λ (l : List Sequent). length l) c.as_slice-5.ensures))
+    (omega (arith, c.if-as_slice-gt-MOST_LEAVES.true, ap (λ (l : List Sequent). length l) (c.as_slice-4.ensures ∙ c.value-2.ensures)))
 
 pub returns-clause-within : goal.returns-clause-within
 returns-clause-within g c =
-    let joined = rw c.as_slice-4.ensures at c.in_ok-leaves.ensures.joined in
+    let joined = c.in_ok-leaves.ensures.joined in
     merge_row_within _ c.args.rows.now c.args.fact c.args.goal c.args.by c.in-Some.row.now c.in-Some-item_at.proof.now c.in-Some.ensures
     c.in-Some-item_at.ensures
-    c.in-Some-item_at-2.s.now (cc (c.in-Some-item_at-2.ensures, c.as_slice.ensures)) (c.same_sequent.ensures.0 c.if-not-same_sequent.false)
+    c.in-Some-item_at-2.s.now (cc (c.in-Some-item_at-2.ensures, c.as_slice.ensures))
+    (rw c.value.ensures at (c.same_sequent.ensures.0 c.if-not-same_sequent.false))
     c.in_ok-goals.goals (rw (c.in_ok-goals.ensures, c.as_slice-2.ensures) refl)
     (omega (arith, c.if-as_slice-gt-MOST_GOALS.false, ap (λ (l : List Sequent). length l) c.as_slice-3.ensures))
     c.in_ok-leaves.leaves joined.0 joined.1 joined.2
-    (omega (arith, c.if-as_slice-gt-MOST_LEAVES.false, ap (λ (l : List Sequent). length l) c.as_slice-5.ensures)) _ (rw c.in_ok-conclusion.ensures refl)
+    (omega (arith, c.if-as_slice-gt-MOST_LEAVES.false, ap (λ (l : List Sequent). length l) (c.as_slice-4.ensures ∙ c.value-2.ensures))) _
+    (rw c.in_ok-conclusion.ensures refl)

@@ -16,7 +16,8 @@ returns-in_default-clause-fault g c =
 
 pub swap_sequent-requires : goal.swap_sequent-requires
 swap_sequent-requires g c =
-    (At_All (IsKnownRow (g.S.Store.trees c.args.store.now)) c.args.rows.now c.args.fact c.in-Some.row.now c.requires c.in-Some.ensures).conclusion
+    rw c.value.ensures
+    ((At_All (IsKnownRow (g.S.Store.trees c.args.store.now)) c.args.rows.now c.args.fact c.in-Some.row.now c.requires c.in-Some.ensures).conclusion)
 
 pub swap_sequents-requires : goal.swap_sequents-requires
 swap_sequents-requires g c =
@@ -29,17 +30,19 @@ returns-clause-given g c =
     let row = At_All (IsKnownRow (g.S.Store.trees c.args.store.now)) c.args.rows.now c.args.fact c.in-Some.row.now c.requires c.in-Some.ensures in
     let first = g.met.S.Store.grows_keeps c.args.store.now c.swap_sequent.new.store c.swap_sequent.ensures.grows in
     let then = g.met.S.Store.grows_keeps c.swap_sequent.new.store c.swap_sequents.new.store c.swap_sequents.ensures.grows in
-    renamed_given _ _ _ first then c.args.x.now c.args.y.now c.args.rows.now c.args.fact c.in-Some.row.now c.in-Some.ensures row _
-    c.is_name.ensures.name c.is_name-2.ensures.name c.in_ok-conclusion.ensures.made c.in_ok-conclusion.ensures.known
-    (rw c.as_slice.ensures at c.in_ok-goals.ensures.made) c.in_ok-leaves.ensures
+    rw c.in_ok-conclusion-2.ensures
+    (renamed_given _ _ _ first then c.args.x.now c.args.y.now c.args.rows.now c.args.fact c.in-Some.row.now c.in-Some.ensures row _
+    c.is_name.ensures.name c.is_name-2.ensures.name (rw c.value.ensures at c.in_ok-conclusion.ensures.made) c.in_ok-conclusion.ensures.known
+    (rw c.as_slice.ensures at c.in_ok-goals.ensures.made) c.in_ok-leaves.ensures)
 
 pub returns-clause-known : goal.returns-clause-known
 returns-clause-known g c =
     let row = At_All (IsKnownRow (g.S.Store.trees c.args.store.now)) c.args.rows.now c.args.fact c.in-Some.row.now c.requires c.in-Some.ensures in
     let first = g.met.S.Store.grows_keeps c.args.store.now c.swap_sequent.new.store c.swap_sequent.ensures.grows in
     let then = g.met.S.Store.grows_keeps c.swap_sequent.new.store c.swap_sequents.new.store c.swap_sequents.ensures.grows in
-    renamed_known _ _ _ first then c.args.x.now c.args.y.now c.args.rows.now c.args.fact c.in-Some.row.now c.in-Some.ensures row _
-    c.in_ok-conclusion.ensures.known c.in_ok-goals.ensures.known c.in_ok-leaves.ensures
+    rw c.in_ok-conclusion-2.ensures
+    (renamed_known _ _ _ first then c.args.x.now c.args.y.now c.args.rows.now c.args.fact c.in-Some.row.now c.in-Some.ensures row _
+    c.in_ok-conclusion.ensures.known c.in_ok-goals.ensures.known c.in_ok-leaves.ensures)
 
 pub returns-clause-within : goal.returns-clause-within
 returns-clause-within g c = rename_within c.args.fact c.args.x.now c.args.y.now _

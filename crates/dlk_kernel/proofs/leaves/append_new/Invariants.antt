@@ -3,7 +3,7 @@ use Rattle.std.specs.List.{All}
 use Rattle.dlk_calculus.specs.Sequents.{Sequent as TreeSequent}
 use Rattle.dlk_calculus.specs.Provables.{AreNew}
 use Rattle.dlk_sequent.specs.Sequents.{sequent_at, IsKnown}
-use Rattle.dlk_kernel.proofs.leaves.join.Given as goal
+use Rattle.dlk_kernel.proofs.leaves.append_new.Given as goal
 
 -- the old leaves, and behind them those that are new among the others so far
 abbrev pub invariant-loop-s : goal.invariant-loop-s
