@@ -1,3 +1,5 @@
 pub mod Verdicts
 pub mod FileLines
 pub mod Reached
+pub mod SaidSteps
+pub mod Seen

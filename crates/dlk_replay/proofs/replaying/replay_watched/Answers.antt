@@ -5,7 +5,7 @@ use Rattle.dlk_kernel.specs.Kernel.{facts}
 use Rattle.dlk_replay.specs.Files.{file_lines}
 use Rattle.dlk_replay.proofs.FileLines.{no_lines_left, line_left_over}
 use Rattle.dlk_replay.proofs.Reached.{reached_none, reached_more, line_fault, line_left, begins_done, begins_left, goes_on, done_left, all_accepted, no_end, front_rows}
-use Rattle.dlk_replay.proofs.replaying.replay.Goals as goal
+use Rattle.dlk_replay.proofs.replaying.replay_watched.Goals as goal
 
 pub loop-left-init : goal.loop-left-init
 loop-left-init g c = record { reached = rw c.requires (reached_none (file_lines c.args.bytes.now)); grows = g.met.S.Store.grows_refl c.args.kernel.now.store }
