@@ -1,9 +1,14 @@
--- What a guard keeps while lines go by, and what it says at the end.
+-- What a watcher knows after lines; what a guard keeps while they go by, and what it says at the end.
 use Rattle.std.specs.Prelude.{ℕ, ◌+◌, List, [], ◌∷◌, ◌++◌, length, Option, Some, None, option_map}
+use Rattle.std.specs.List.{fold}
 use Rattle.dlk_guard.specs.declared.why.Why.{Why}
 use Rattle.dlk_guard.specs.declared.raw.Raw.{Raw}
 use Rattle.dlk_guard.specs.declared.guard.Refusal.{Refusal}
 use Rattle.dlk_guard.specs.Guarded.{Line, mark, mark_at, misuse, why_raw}
+
+-- what is known after all lines, by what is known after one more
+abbrev pub after_all : {V : Type 0} → (V → Line → V) → V → List Line → V
+after_all after known all = fold after known all
 
 -- the marks of the rows so far, and the first of their lines that is refused whatever follows
 pub record Watch : Type 0 where
@@ -30,8 +35,7 @@ watched w l = record {
 
 -- after all lines
 abbrev pub watched_all : Watch → List Line → Watch
-watched_all w [] = w
-watched_all w (l ∷ more) = watched_all (watched w l) more
+watched_all w all = after_all watched w all
 
 abbrev pub watch_of : List Line → Watch
 watch_of all = watched_all started all

@@ -1,5 +1,5 @@
-//! The guard: fed line by line, it finds the first one that is unguarded.
-ghost use Rattle.std.specs.Prelude.{◌≡◌, IfOk, OnOk, OnErr, option_map, length};
+//! The guard: it looks at the lines one by one, and finds the first one that is unguarded.
+ghost use Rattle.std.specs.Prelude.{◌≡◌, IfOk, option_map, length};
 ghost use Rattle.dlk_sequent.specs.Sequents.{sequent_at, IsKnown};
 ghost use Rattle.dlk_rules.specs.Steps.{step_at, HasKnownIds};
 ghost use Rattle.dlk_guard.specs.Guarded.{raw_axiom, shown, shown_why, made_of, mark_at, mark_of, why_raw, misuse};
@@ -8,6 +8,7 @@ ghost use Rattle.dlk_guard.specs.Watched.{started, watched, verdict};
 use crate::conditions::instance_why;
 use crate::contexts::has_differential_context;
 use crate::raw::{Raw, RawAxiom};
+use crate::watcher::Watcher;
 use crate::why::Why;
 use dlk_rules::Step;
 use dlk_sequent::{Sequent, item_at};
@@ -179,30 +180,6 @@ impl Guard {
         }
     }
 
-    /// Looks at the next line: at its step, and at the conclusion of the row that the step gives. Without memory nothing has changed.
-    pub fn feed<S: Store, L: Ledger>(
-        &mut self,
-        alloc: Global,
-        store: &S,
-        step: &Step,
-        conclusion: &Sequent,
-        steps: &mut Steps<L>,
-    ) -> Result<(), AllocError>
-        requires step { HasKnownIds (S.trees store.now) step.now }
-        requires conclusion { IsKnown (S.trees store.now) conclusion.now }
-        ensures ok { OnOk result (self.new ≡ watched self.old (record { step = step_at (S.trees store.now) step.now; conclusion = sequent_at (S.trees store.now) conclusion.now })) }
-        ensures err { OnErr result (self.new ≡ self.old) }
-    {
-        let mark = mark_of(alloc, store, self.marks.as_slice(), step, conclusion, steps)?;
-        let why = misuse(store, self.marks.as_slice(), step, steps)?;
-        self.marks.push(mark)?;
-        if self.refused.is_none() {
-            let line = self.marks.len();
-            self.refused = why.map(|why| Refusal { line, why });
-        }
-        Ok(())
-    }
-
     /// The first line that is unguarded, where there is one: one that was refused, or else the last, where its row is raw.
     pub fn verdict(self) -> Option<Refusal>
         ensures { result ≡ verdict self }
@@ -215,5 +192,28 @@ impl Guard {
             Some(raw) => Some(Refusal { line, why: raw.why }),
             None => None,
         }
+    }
+}
+
+/// A guard looks at each line.
+impl Watcher for Guard {
+    ghost after = { watched };
+
+    fn see<S: Store, L: Ledger>(
+        &mut self,
+        alloc: Global,
+        store: &S,
+        step: &Step,
+        conclusion: &Sequent,
+        steps: &mut Steps<L>,
+    ) -> Result<(), AllocError> {
+        let mark = mark_of(alloc, store, self.marks.as_slice(), step, conclusion, steps)?;
+        let why = misuse(store, self.marks.as_slice(), step, steps)?;
+        self.marks.push(mark)?;
+        if self.refused.is_none() {
+            let line = self.marks.len();
+            self.refused = why.map(|why| Refusal { line, why });
+        }
+        Ok(())
     }
 }

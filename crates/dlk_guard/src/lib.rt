@@ -8,6 +8,7 @@ mod laws;
 mod parts;
 mod raw;
 mod smooth;
+mod watcher;
 mod why;
 
 pub use guard::{Guard, Refusal};
@@ -16,4 +17,5 @@ pub use laws::{
     verdict_is_first,
 };
 pub use raw::RawAxiom;
+pub use watcher::{Unwatched, Watcher};
 pub use why::Why;

@@ -100,3 +100,9 @@ Verdict lines answer = Becomes SaysLine lines answer
 pub data RowsOf : List (List ℕ) → List Provable → Type 0 where
   of_steps : {steps : List (List ℕ)} {rows : List Provable} {last : ℕ} → StepLines SaysLine steps rows last → RowsOf steps rows
   of_all : {steps : List (List ℕ)} {rows : List Provable} {last : ℕ} {line : List ℕ} → StepLines SaysLine steps rows last → IsLine line Done → RowsOf (steps ++ line ∷ []) rows
+
+-- SaySteps n lines steps: these lines say these steps, numbered from n on, and the last line is `done`.
+pub data SaySteps : ℕ → List (List ℕ) → List Step → Type 0 where
+  done : {n : ℕ} {line : List ℕ} → IsLine line Done → SaySteps n (line ∷ []) []
+  more : {n : ℕ} {line : List ℕ} {lines : List (List ℕ)} {step : Step} {steps : List Step} →
+      IsLine line (Numbered n step) → SaySteps (n + 1) lines steps → SaySteps n (line ∷ lines) (step ∷ steps)

@@ -1,7 +1,9 @@
 -- What a replay answers and leaves.
 use Rattle.std.specs.Prelude.{◌≡◌, ◌≢◌, ◌+◌, ◌-◌, ℕ, List, length, take}
+use Rattle.dlk_tree.specs.Trees.{Tree}
 use Rattle.dlk_calculus.specs.Provables.{Provable}
 use Rattle.dlk_calculus.specs.Steps.{Step, Adds, Fault}
+use Rattle.dlk_rules.specs.Steps.{step_at, HasKnownIds}
 use Rattle.dlk_termtext.specs.Lines.{Line, Numbered, Done, IsLine}
 use Rattle.dlk_replay.specs.Files.{Verdict, bad, RowsOf}
 use Rattle.dlk_replay.specs.declared.fault.LineWhy.{LineWhy}
@@ -33,13 +35,12 @@ abbrev pub IsLineFault : List Provable → List ℕ → ReplayFault → Type 0
 IsLineFault rows line (Bad at reason) = (at ≡ length rows + 1) × IsBadLine rows line reason
 IsLineFault rows line Memory = Unit {0}
 
--- a line's own number and its step, which adds a row
-pub record IsNextStep (rows : List Provable) (line : List ℕ) (new : List Provable) : Type 0 where
-  pub step : Step
+-- a line's own number and this step, which adds a row
+pub record IsNextStep (rows : List Provable) (line : List ℕ) (step : Step) (new : List Provable) : Type 0 where
   pub its_line : IsLine line (Numbered (length rows + 1) step)
   pub adds : Adds rows step new
 
--- what a line did to the rows
-abbrev pub Takes : List Provable → List ℕ → List Provable → Taken → Type 0
-Takes rows line new taken.Step = IsNextStep rows line new
-Takes rows line new taken.Done = IsLine line Done × (new ≡ rows)
+-- what a line did to the rows. The ids of its step are those of the store after it.
+abbrev pub Takes : List Tree → List Provable → List ℕ → List Provable → Taken → Type 0
+Takes trees rows line new (taken.Step step) = HasKnownIds trees step × IsNextStep rows line (step_at trees step) new
+Takes trees rows line new taken.Done = IsLine line Done × (new ≡ rows)

@@ -1,8 +1,9 @@
 //! The laws of proof-term files. Each is a contract of a function that does nothing.
-ghost use Rattle.std.specs.Prelude.{◌≡◌, ℕ, List, All};
+ghost use Rattle.std.specs.Prelude.{◌≡◌, ℕ, List, [], length, All};
 ghost use Rattle.dlk_calculus.specs.Provables.{Provable};
-ghost use Rattle.dlk_calculus.specs.Steps.{History, Derives};
-ghost use Rattle.dlk_replay.specs.Files.{Answer, accepted, Verdict};
+ghost use Rattle.dlk_calculus.specs.Steps.{Step, History, Derives};
+ghost use Rattle.dlk_kernel.specs.Taken.{Takes};
+ghost use Rattle.dlk_replay.specs.Files.{Answer, accepted, Verdict, SaySteps};
 
 /// One thing becomes of a file.
 pub fn one_verdict()
@@ -18,4 +19,16 @@ pub fn some_verdict()
 pub fn accepted_derived()
     ensures history { (lines : List (List ℕ)) (rows : List Provable) (last : ℕ) → Verdict lines (accepted rows last) → History rows }
     ensures derived { (lines : List (List ℕ)) (rows : List Provable) (last : ℕ) → Verdict lines (accepted rows last) → All Derives rows }
+{}
+
+/// The lines of an accepted file say steps, one for each row, and the rows are what these steps give in turn.
+pub fn accepted_says_steps()
+    ensures some { (lines : List (List ℕ)) (rows : List Provable) (last : ℕ) → Verdict lines (accepted rows last) → (s : List Step) × SaySteps 1 lines s }
+    ensures as_many { (lines : List (List ℕ)) (rows : List Provable) (last : ℕ) (s : List Step) → Verdict lines (accepted rows last) → SaySteps 1 lines s → length s ≡ length rows }
+    ensures taken { (lines : List (List ℕ)) (rows : List Provable) (last : ℕ) (s : List Step) → Verdict lines (accepted rows last) → SaySteps 1 lines s → Takes [] s rows }
+{}
+
+/// Lines say one list of steps.
+pub fn one_list_of_steps()
+    ensures { (n : ℕ) (lines : List (List ℕ)) (a b : List Step) → SaySteps n lines a → SaySteps n lines b → a ≡ b }
 {}

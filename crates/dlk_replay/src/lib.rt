@@ -7,8 +7,10 @@ mod replaying;
 mod taking;
 
 pub use fault::{LineWhy, Outcome, ReplayFault};
-pub use laws::{accepted_derived, one_verdict, some_verdict};
-pub use replaying::replay;
+pub use laws::{
+    accepted_derived, accepted_says_steps, one_list_of_steps, one_verdict, some_verdict,
+};
+pub use replaying::{replay, replay_watched};
 
 #[cfg(test)]
 mod tests;

@@ -7,16 +7,17 @@ ghost use Rattle.dlk_replay.specs.Replay.{IsLineFault, Takes};
 
 use crate::fault::{LineWhy, ReplayFault};
 use dlk_kernel::{Kernel, StepFault};
+use dlk_rules::Step;
 use dlk_store::{Steps, Store};
 use dlk_termtext::{Line, LineFault, read_line};
 use std::alloc::Global;
 use std::sync::ledger::Ledger;
 
 /// What a line did.
-#[derive(Clone, Copy, Debug)]
+#[derive(Drop, Debug)]
 pub(crate) enum Taken {
-    /// Its step was taken.
-    Step,
+    /// This step, which it says, was taken.
+    Step(Step),
     /// It is `done`.
     Done,
 }
@@ -28,7 +29,7 @@ pub(crate) fn take_line<S: Store, L: Ledger>(
     kernel: &mut Kernel<S>,
     steps: &mut Steps<L>,
 ) -> Result<Taken, ReplayFault>
-    ensures taken { IfOk result (Takes (facts S.trees kernel.old) line.now (facts S.trees kernel.new)) }
+    ensures taken { IfOk result (Takes (S.trees kernel.new.store) (facts S.trees kernel.old) line.now (facts S.trees kernel.new)) }
     ensures fault { IfErr result (IsLineFault (facts S.trees kernel.old) line.now) }
     ensures err { OnErr result (facts S.trees kernel.new ≡ facts S.trees kernel.old) }
     ensures grows { S.grows kernel.old.store kernel.new.store }
@@ -44,7 +45,7 @@ pub(crate) fn take_line<S: Store, L: Ledger>(
                 });
             }
             match kernel.step(alloc, &step, steps) {
-                Ok(_) => Ok(Taken::Step),
+                Ok(_) => Ok(Taken::Step(step)),
                 Err(StepFault::Refused(reason)) => Err(ReplayFault::Bad {
                     line: place,
                     why: LineWhy::Step(reason),
