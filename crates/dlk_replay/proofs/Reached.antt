@@ -2,6 +2,7 @@
 use Rattle.std.proofs.Common.{◌≡◌, ℕ, ◌+◌, ◌-◌, ◌≤◌, List, [], ◌∷◌, ◌++◌, length, take, refl, ap, sym, ◌∙◌, append_assoc, arith, subst}
 use Rattle.std.proofs.lemmas.List.{length_push, append-nil, take_at, nil_from_length}
 use Rattle.dlk_calculus.specs.Provables.{Provable}
+use Rattle.dlk_calculus.specs.Steps.{Step}
 use Rattle.dlk_termtext.specs.Lines.{Line, Numbered, Done, IsLine}
 use Rattle.dlk_replay.specs.declared.fault.LineWhy.{LineWhy}
 use Rattle.dlk_replay.specs.declared.fault.LineWhy.TheVariants as why
@@ -21,10 +22,11 @@ pub record Reached (all left : List (List ℕ)) (rows : List Provable) : Type 0 
 pub reached_none : (all : List (List ℕ)) → Reached all all []
 reached_none all = record { front = []; last = 0; all_is = refl; steps = no_lines }
 
-pub reached_more : (all left : List (List ℕ)) (line : List ℕ) (rows new : List Provable) → Reached all (line ∷ left) rows → IsNextStep rows line new → Reached all left new
-reached_more all left line rows new r next =
+pub reached_more : (all left : List (List ℕ)) (line : List ℕ) (rows new : List Provable) (step : Step) → Reached all (line ∷ left) rows → IsNextStep rows line step new →
+    Reached all left new
+reached_more all left line rows new step r next =
     let adds = next.adds in
-    let own : IsLine line (Numbered (length r.front + 1) next.step) = rw (as_many r.front rows r.last r.steps) next.its_line in
+    let own : IsLine line (Numbered (length r.front + 1) step) = rw (as_many r.front rows r.last r.steps) next.its_line in
     record {
       front = r.front ++ line ∷ [];
       last = length r.front + 1;

@@ -158,13 +158,13 @@ module _ (Says : Format) (one_said : (before : List (List ℕ)) (line : List ℕ
   one_becomes lines a b x y = one_end lines [] [] 0 a b (becomes_ends lines a x) (becomes_ends lines b y)
 
 -- A line of a proof-term file says one thing.
-not_done : (line : List ℕ) (m : ℕ) (step : Step) → IsLine line (Numbered m step) → IsLine line Done → ⊥
+pub not_done : (line : List ℕ) (m : ℕ) (step : Step) → IsLine line (Numbered m step) → IsLine line Done → ⊥
 not_done line m step a b = let e : Numbered m step ≡ Done = one_line line (Numbered m step) Done a b in cc
 
 same_number : (line : List ℕ) (m n : ℕ) (s t : Step) → IsLine line (Numbered m s) → IsLine line (Numbered n t) → m ≡ n
 same_number line m n s t a b = let e : Numbered m s ≡ Numbered n t = one_line line (Numbered m s) (Numbered n t) a b in cc
 
-same_step : (line : List ℕ) (m n : ℕ) (s t : Step) → IsLine line (Numbered m s) → IsLine line (Numbered n t) → s ≡ t
+pub same_step : (line : List ℕ) (m n : ℕ) (s t : Step) → IsLine line (Numbered m s) → IsLine line (Numbered n t) → s ≡ t
 same_step line m n s t a b = let e : Numbered m s ≡ Numbered n t = one_line line (Numbered m s) (Numbered n t) a b in cc
 
 pub one_said : (before : List (List ℕ)) (line : List ℕ) (s t : Said) → SaysLine before line s → SaysLine before line t → s ≡ t

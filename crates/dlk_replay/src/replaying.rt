@@ -78,6 +78,7 @@ pub fn replay_watched<S: Store, L: Ledger, W: Watcher>(
             Taken::Step(step) => {
                 let row = kernel.rows();
                 watcher.see(alloc, kernel, &step, kernel.conclusion(row), steps)?;
+                drop(step);
                 left = behind;
             }
             Taken::Done => {

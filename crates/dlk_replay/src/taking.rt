@@ -7,7 +7,7 @@ ghost use Rattle.dlk_replay.specs.Replay.{IsLineFault, Takes};
 
 use crate::fault::{LineWhy, ReplayFault};
 use dlk_kernel::{Kernel, StepFault};
-use dlk_rules::Step;
+use dlk_rules::{Step, step_stays};
 use dlk_store::{Steps, Store};
 use dlk_termtext::{Line, LineFault, read_line};
 use std::alloc::Global;
@@ -34,6 +34,7 @@ pub(crate) fn take_line<S: Store, L: Ledger>(
     ensures err { OnErr result (facts S.trees kernel.new ≡ facts S.trees kernel.old) }
     ensures grows { S.grows kernel.old.store kernel.new.store }
 {
+    step_stays();
     let place = kernel.rows() as usize + 1;
     match read_line(alloc, line, kernel) {
         Ok(Line::Done) => Ok(Taken::Done),

@@ -1,52 +1,85 @@
 use Rattle.std.proofs.Common.{◌≡◌, ◌+◌, ◌-◌, length, sym, ap, ◌∙◌, arith}
 use Rattle.std.proofs.lemmas.List.{length-map}
 use Rattle.std.proofs.lemmas.Result.{err_from_is_err_and}
+use Rattle.dlk_sequent.specs.Sequents.{sequent_at}
+use Rattle.dlk_rules.specs.Steps.{step_at}
 use Rattle.dlk_kernel.specs.Kernel.{facts}
 use Rattle.dlk_replay.specs.Files.{file_lines}
 use Rattle.dlk_replay.proofs.FileLines.{no_lines_left, line_left_over}
 use Rattle.dlk_replay.proofs.Reached.{reached_none, reached_more, line_fault, line_left, begins_done, begins_left, goes_on, done_left, all_accepted, no_end, front_rows}
-use Rattle.dlk_replay.proofs.replaying.replay.Goals as goal
+use Rattle.dlk_replay.proofs.Seen.{seen_none, seen_more, seen_all}
+use Rattle.dlk_replay.proofs.replaying.replay_watched.Goals as goal
 
 pub loop-left-init : goal.loop-left-init
-loop-left-init g c = record { reached = rw c.requires (reached_none (file_lines c.args.bytes.now)); grows = g.met.S.Store.grows_refl c.args.kernel.now.store }
+loop-left-init g c = record {
+  reached = rw c.requires (reached_none (file_lines c.args.bytes.now));
+  seen = rw c.requires (seen_none g.W.Watcher.after (file_lines c.args.bytes.now) c.args.watcher.now);
+  grows = g.met.S.Store.grows_refl c.args.kernel.now.store;
+}
 
-pub returns-in_err-take_line-clause-bad : goal.returns-in_err-take_line-clause-bad
-returns-in_err-take_line-clause-bad g c =
+pub returns-in_err-step-clause-bad : goal.returns-in_err-step-clause-bad
+returns-in_err-step-clause-bad g c =
     let p = err_from_is_err_and c.from_residual.result c.from_residual.ensures.1 in
     rw (p.1, p.2) (line_fault (file_lines c.args.bytes.now) (file_lines c.first_line.result.1.now) c.first_line.result.0.now (facts g.S.Store.trees c.loop-left.kernel) _
-    (rw c.first_line.ensures.lines at c.loop-left.invariant.reached) c.in_err-take_line.ensures.fault)
+    (rw c.first_line.ensures.lines at c.loop-left.invariant.reached) c.in_err-step.ensures.fault)
 
-pub returns-in_err-take_line-clause-left : goal.returns-in_err-take_line-clause-left
-returns-in_err-take_line-clause-left g c =
+pub returns-in_err-step-clause-left : goal.returns-in_err-step-clause-left
+returns-in_err-step-clause-left g c =
     let p = err_from_is_err_and c.from_residual.result c.from_residual.ensures.1 in
     rw (p.1, p.2) (line_left (file_lines c.args.bytes.now) (file_lines c.first_line.result.1.now) c.first_line.result.0.now (facts g.S.Store.trees c.loop-left.kernel) _ _
-    (rw c.first_line.ensures.lines at c.loop-left.invariant.reached) c.in_err-take_line.ensures.err c.in_err-take_line.ensures.fault)
+    (rw c.first_line.ensures.lines at c.loop-left.invariant.reached) c.in_err-step.ensures.err c.in_err-step.ensures.fault)
+
+pub returns-in_err-see-in-Step-clause-left : goal.returns-in_err-see-in-Step-clause-left
+returns-in_err-see-in-Step-clause-left g c =
+    let p = err_from_is_err_and c.from_residual-in_err-see-in-Step.result c.from_residual-in_err-see-in-Step.ensures.1 in
+    let rows = facts g.S.Store.trees c.take_line.new.kernel in
+    let taken = rw c.in-Step.is at c.in_ok-step.ensures.taken in
+    let reached = reached_more (file_lines c.args.bytes.now) (file_lines c.first_line.result.1.now) c.first_line.result.0.now (facts g.S.Store.trees c.loop-left.kernel) rows
+        (step_at (g.S.Store.trees c.take_line.new.kernel.store) c.in-Step.step) (rw c.first_line.ensures.lines at c.loop-left.invariant.reached) taken.1 in
+    rw (p.1, p.2) (length rows, front_rows (file_lines c.args.bytes.now) (file_lines c.first_line.result.1.now) rows reached)
 
 pub loop-left-preserved : goal.loop-left-preserved
 loop-left-preserved g c =
+    let all = file_lines c.args.bytes.now in
+    let left = file_lines c.first_line.result.1.now in
+    let line = c.first_line.result.0.now in
+    let before = facts g.S.Store.trees c.loop-left.kernel in
+    let rows = facts g.S.Store.trees c.take_line.new.kernel in
+    let trees = g.S.Store.trees c.take_line.new.kernel.store in
+    let step = step_at trees c.in-Step.step in
+    let taken = rw c.in-Step.is at c.in_ok-step.ensures.taken in
     record {
-      reached = reached_more (file_lines c.args.bytes.now) (file_lines c.first_line.result.1.now) c.first_line.result.0.now (facts g.S.Store.trees c.loop-left.kernel) _
-          (rw c.first_line.ensures.lines at c.loop-left.invariant.reached) (rw c.in-Step.is at c.in_ok-take_line.ensures.taken);
+      reached = reached_more all left line before rows step (rw c.first_line.ensures.lines at c.loop-left.invariant.reached) taken.1;
+      seen = seen_more g.W.Watcher.after all c.args.watcher.now left line before rows step c.loop-left.watcher c.see.new.self c.rows-row.result
+          (sequent_at trees c.conclusion.result.now) (rw c.first_line.ensures.lines at c.loop-left.invariant.seen) taken.1 (c.rows-row.ensures.count ∙ sym (length-map _ _))
+          c.conclusion.ensures.conclusion c.in_ok-see-in-Step.ensures.ok;
       grows = g.met.S.Store.grows_trans c.args.kernel.now.store c.loop-left.kernel.store c.take_line.new.kernel.store c.loop-left.invariant.grows c.take_line.ensures.grows;
     }
 
+pub returns-in-Done-clause-seen : goal.returns-in-Done-clause-seen
+returns-in-Done-clause-seen g c =
+    let taken = rw c.in-Done.is at c.in_ok-step.ensures.taken in
+    let none = no_lines_left c.first_line.result.1.now c.is_empty-in-Done.result c.is_empty-in-Done.ensures c.if-not-is_empty.false in
+    rw taken.1 (seen_all g.W.Watcher.after (file_lines c.args.bytes.now) c.args.watcher.now c.first_line.result.0.now (facts g.S.Store.trees c.loop-left.kernel) c.loop-left.watcher
+    (rw (c.first_line.ensures.lines, none) at c.loop-left.invariant.seen) taken.0)
+
 pub returns-then-rows-eq0-clause-bad : goal.returns-then-rows-eq0-clause-bad
 returns-then-rows-eq0-clause-bad g c =
-    let taken = rw c.in-Done.is at c.in_ok-take_line.ensures.taken in
+    let taken = rw c.in-Done.is at c.in_ok-step.ensures.taken in
     let none : length (facts g.S.Store.trees c.loop-left.kernel) ≡ 0 = ap length (sym taken.1) ∙ length-map _ _ ∙ sym c.rows-rows.ensures.count ∙ c.if-rows-eq0.true in
     begins_done (file_lines c.args.bytes.now) (file_lines c.first_line.result.1.now) c.first_line.result.0.now (facts g.S.Store.trees c.loop-left.kernel)
     (rw c.first_line.ensures.lines at c.loop-left.invariant.reached) none taken.0
 
 pub returns-then-rows-eq0-clause-left : goal.returns-then-rows-eq0-clause-left
 returns-then-rows-eq0-clause-left g c =
-    let taken = rw c.in-Done.is at c.in_ok-take_line.ensures.taken in
+    let taken = rw c.in-Done.is at c.in_ok-step.ensures.taken in
     let none : length (facts g.S.Store.trees c.loop-left.kernel) ≡ 0 = ap length (sym taken.1) ∙ length-map _ _ ∙ sym c.rows-rows.ensures.count ∙ c.if-rows-eq0.true in
     rw taken.1 (begins_left (file_lines c.args.bytes.now) _ (facts g.S.Store.trees c.loop-left.kernel) c.loop-left.invariant.reached none)
 
 pub returns-then-not-is_empty-clause-bad : goal.returns-then-not-is_empty-clause-bad
 returns-then-not-is_empty-clause-bad g c =
     let rows = facts g.S.Store.trees c.loop-left.kernel in
-    let taken = rw c.in-Done.is at c.in_ok-take_line.ensures.taken in
+    let taken = rw c.in-Done.is at c.in_ok-step.ensures.taken in
     let count : length rows ≡ c.rows-rows.result = ap length (sym taken.1) ∙ length-map _ _ ∙ sym c.rows-rows.ensures.count in
     let over = line_left_over c.first_line.result.1.now c.is_empty-in-Done.result c.is_empty-in-Done.ensures c.if-not-is_empty.true in
     rw (← count) (goes_on (file_lines c.args.bytes.now) over.others c.first_line.result.0.now over.first rows
@@ -55,7 +88,7 @@ returns-then-not-is_empty-clause-bad g c =
 pub returns-then-not-is_empty-clause-left : goal.returns-then-not-is_empty-clause-left
 returns-then-not-is_empty-clause-left g c =
     let rows = facts g.S.Store.trees c.loop-left.kernel in
-    let taken = rw c.in-Done.is at c.in_ok-take_line.ensures.taken in
+    let taken = rw c.in-Done.is at c.in_ok-step.ensures.taken in
     let count : length rows ≡ c.rows-rows.result = ap length (sym taken.1) ∙ length-map _ _ ∙ sym c.rows-rows.ensures.count in
     let place : c.rows-rows.result + 2 - 1 ≡ length rows + 1 = omega (arith, count) in
     rw (taken.1, place) (done_left (file_lines c.args.bytes.now) (file_lines c.first_line.result.1.now) c.first_line.result.0.now rows
@@ -64,7 +97,7 @@ returns-then-not-is_empty-clause-left g c =
 pub returns-in-Done-clause-ok : goal.returns-in-Done-clause-ok
 returns-in-Done-clause-ok g c =
     let rows = facts g.S.Store.trees c.loop-left.kernel in
-    let taken = rw c.in-Done.is at c.in_ok-take_line.ensures.taken in
+    let taken = rw c.in-Done.is at c.in_ok-step.ensures.taken in
     let count : length rows ≡ c.rows-rows.result = ap length (sym taken.1) ∙ length-map _ _ ∙ sym c.rows-rows.ensures.count in
     let none = no_lines_left c.first_line.result.1.now c.is_empty-in-Done.result c.is_empty-in-Done.ensures c.if-not-is_empty.false in
     rw taken.1 (all_accepted (file_lines c.args.bytes.now) c.first_line.result.0.now rows c.rows-rows.result
