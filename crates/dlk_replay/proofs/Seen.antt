@@ -1,6 +1,5 @@
 -- What a watcher has seen of a file.
 use Rattle.std.proofs.Common.{◌≡◌, ◌∙◌, refl, sym, subst, ap, ℕ, ◌+◌, List, [], ◌∷◌, ◌++◌, length, append_assoc, arith}
-use Rattle.std.specs.List.{fold}
 use Rattle.std.proofs.lemmas.Grind.{fold-append}
 use Rattle.std.proofs.lemmas.List.{length_push}
 use Rattle.dlk_calculus.specs.Places.{At}
