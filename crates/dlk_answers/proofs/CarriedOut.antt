@@ -65,9 +65,9 @@ check_carried_out showing model term reply (bad_conclusion f t rows p a ne) = pr
 check_carried_out showing model term reply (reports f t rows p a e) = answered_carried_out showing p (length rows)
 
 guard_carried_out : (model term : List ℕ) (reply : Reply) → Guards model term reply → IsCarriedOut reply
-guard_carried_out model term reply (refuses_term r checks is) = check_carried_out (Reported Text) model term r checks
-guard_carried_out model term reply (guards r checks other said says) =
-    printed_only r.status (said ++ r.printed) (check_carried_out (Reported Text) model term r checks).status
+guard_carried_out model term reply (refuses_term r checked is) = check_carried_out (Reported Text) model term r checked
+guard_carried_out model term reply (guards r checked other said says) =
+    printed_only r.status (said ++ r.printed) (check_carried_out (Reported Text) model term r checked).status
 
 print_carried_out : (file : List ℕ) (reply : Reply) → Prints file reply → IsCarriedOut reply
 print_carried_out file reply (bad_text why fault) = text_carried_out File why
