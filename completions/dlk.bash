@@ -4,12 +4,12 @@ _dlk() {
   local word=${COMP_WORDS[COMP_CWORD]} files=0
   COMPREPLY=()
   if [ "$COMP_CWORD" -eq 1 ]; then
-    mapfile -t COMPREPLY < <(compgen -W 'check report smt print vars subst prove gen' -- "$word")
+    mapfile -t COMPREPLY < <(compgen -W 'check report smt guard print vars subst prove gen' -- "$word")
     return
   fi
   case ${COMP_WORDS[1]} in
     check | report | subst) files=2 ;;
-    smt) files=2 ;;
+    smt | guard) files=2 ;;
     print | vars) files=1 ;;
     prove) files=3 ;;
   esac

@@ -30,6 +30,10 @@ LIBRARY = "std"
 # Paths with this front are types of the code.
 DECLARED = "declared."
 
+# Paths with this front are what the compiler writes of such a type: the test of its derived `PartialEq`. It belongs to the type.
+DERIVED = "contracts."
+DERIVED_TEST = "PartialEq"
+
 # The constants of a file of code, among its types.
 CONSTANTS = "TheConstants"
 
@@ -56,10 +60,12 @@ class Reference(NamedTuple):
         return self.path.replace(".", "/")
 
     def rust_type(self):
-        """The name of the type of the code: of it, or of the type that has it as a variant. A constant has its own."""
+        """The name of the type of the code: of it, or of the type that has it as a variant or as its test. A constant has its own."""
         if self.path.endswith(CONSTANTS):
             return self.name
         parts = self.path.split(".")[1:]
+        if self.path.startswith(DERIVED):
+            return parts[1].removesuffix(DERIVED_TEST)
         return [part for part in parts if part[0].isupper() and part != "TheVariants"][-1]
 
 
@@ -216,7 +222,7 @@ class Walk:
 
     def visit(self, reference):
         """Notes what is referred to, and answers what that refers to in turn, where it is new."""
-        if reference.path.startswith(DECLARED):
+        if reference.path.startswith((DECLARED, DERIVED)):
             self.rust_types.add((reference.crate, reference.rust_type()))
             return []
         spec_file = self.spec_file(reference.crate, reference.file())
@@ -329,7 +335,7 @@ def check_reading_order(walk, sections):
         places.update({(crate_of(rust_type, section), "type", rust_type["name"]): number for rust_type in types_of(section)})
     for definition, references in walk.references.items():
         for reference in references:
-            if reference.path.startswith(DECLARED):
+            if reference.path.startswith((DECLARED, DERIVED)):
                 used = (reference.crate, "type", reference.rust_type())
             else:
                 used = (reference.crate, reference.file())

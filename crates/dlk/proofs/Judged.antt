@@ -32,7 +32,7 @@ closed_is_zero [] = ((λ e. refl), (λ e. refl))
 closed_is_zero (s ∷ goals) = ((λ e. absurd (omega (arith, e))), (λ e. cc))
 
 module _ (layout : Layout) (model term : List ℕ) (f : Tree) (reads : ModelText model f) where
-  reported_of : (reply : Reply) → Checks (Reported layout) model term reply → code_of reply.status < 2 → IsReported layout term f (code_of reply.status) reply.printed
+  pub reported_of : (reply : Reply) → Checks (Reported layout) model term reply → code_of reply.status < 2 → IsReported layout term f (code_of reply.status) reply.printed
   reported_of reply (bad_model why fault) less = absurd (model_or_fault why reads fault)
   reported_of reply (bad_line g t n why v) less = absurd (omega (arith, less))
   reported_of reply (bad_conclusion g t rows p a ne) less = absurd (omega (arith, less))

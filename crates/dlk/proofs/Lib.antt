@@ -9,3 +9,4 @@ pub mod Truly
 pub mod Written
 pub mod Judged
 pub mod Looked
+pub mod Guarding

@@ -18,7 +18,7 @@ use Rattle.dlk_tacsyn.specs.Faults.{Fault, Syntax as Syntax', Nesting as Nesting
 use Rattle.dlk_recorder.specs.Terms.{term_text}
 use Rattle.dlk_report.specs.Reports.{is_closed, line, first_word, text_report}
 use Rattle.dlk_answers.specs.declared.command.Command.{Command}
-use Rattle.dlk_answers.specs.declared.command.Command.TheVariants.{Check, Print, Vars, Subst, Report, Smt, Prove, Gen}
+use Rattle.dlk_answers.specs.declared.command.Command.TheVariants.{Check, Print, Vars, Subst, Report, Smt, Guard, Prove, Gen}
 use Rattle.dlk_answers.specs.declared.reply.Layout.TheVariants.{Text}
 use Rattle.dlk_answers.specs.declared.reply.Showing.TheVariants.{Reported}
 use Rattle.dlk_answers.specs.declared.form.Role.TheVariants.{Model, Term}
@@ -194,6 +194,7 @@ module _ (checked_too : ProvedIsChecked) (model term said : List ℕ) (status : 
   speaks_truly words old new reply Subst answers form there files given = absurd there
   speaks_truly words old new reply Report answers form there files given = absurd there
   speaks_truly words old new reply Smt answers form there files given = absurd there
+  speaks_truly words old new reply Guard answers form there files given = absurd there
   speaks_truly words old new reply Gen answers form there files given = absurd there
   speaks_truly words old new reply Prove answers form there files given = wrote_truly words old new reply answers form there files given
 

@@ -21,7 +21,7 @@ use Rattle.dlk.specs.Runs.{output_to, GivesWhole}
 use Rattle.dlk.specs.Headline.{WritesTerm, IsAccepted, ProvesTruly}
 use Rattle.dlk.proofs.Truly.{ProvedIsChecked, file_holds}
 
-model_two : (why : TextFault) → code_of (text_refused Model why).status ≡ 2
+pub model_two : (why : TextFault) → code_of (text_refused Model why).status ≡ 2
 model_two (BadByte at) = refl
 model_two (Unread (Literal at)) = refl
 model_two (Unread (Nesting at)) = refl

@@ -2,13 +2,15 @@
 use Rattle.std.specs.Prelude.{◌≡◌, ◌≢◌, ◌⊎◌, ◌↔◌, ◌<◌, ◌≤◌, ℕ, List, [], ◌∷◌, ◌++◌, length, take, Some, codes}
 use Rattle.dlk_tree.specs.Trees.{Tree}
 use Rattle.dlk_calculus.specs.Provables.{Provable, HasLeaves}
-use Rattle.dlk_calculus.specs.Steps.{Derives}
+use Rattle.dlk_calculus.specs.Steps.{Step, Derives}
 use Rattle.dlk_desk.specs.Outside.{Outside}
-use Rattle.dlk_replay.specs.Files.{Verdict, bad, file_lines}
+use Rattle.dlk_guard.specs.declared.why.Why.{Why}
+use Rattle.dlk_guard.specs.Guarded.{lines, Guarded, FirstUnguarded}
+use Rattle.dlk_replay.specs.Files.{Verdict, bad, file_lines, SaySteps}
 use Rattle.dlk_replay.specs.declared.fault.LineWhy.{LineWhy}
 use Rattle.dlk_report.specs.Reports.{text_report}
 use Rattle.dlk_answers.specs.declared.command.Command.{Command}
-use Rattle.dlk_answers.specs.declared.command.Command.TheVariants.{Check, Print, Vars, Subst, Report, Smt, Prove, Gen}
+use Rattle.dlk_answers.specs.declared.command.Command.TheVariants.{Check, Print, Vars, Subst, Report, Smt, Guard, Prove, Gen}
 use Rattle.dlk_answers.specs.declared.reply.Layout.{Layout}
 use Rattle.dlk_answers.specs.declared.reply.Layout.TheVariants.{Text, Json}
 use Rattle.dlk_answers.specs.declared.reply.Showing.TheVariants.{Reported}
@@ -17,6 +19,7 @@ use Rattle.dlk_answers.specs.Forms.{Word, command_of, limit_of}
 use Rattle.dlk_answers.specs.Inputs.{inputs, output}
 use Rattle.dlk_answers.specs.Replies.{Reply, code_of}
 use Rattle.dlk_answers.specs.Checks.{Checks, ModelText, proves, Accepts, report_in, line_refused, other_conclusion}
+use Rattle.dlk_answers.specs.Guards.{guarded_line, unguarded_line}
 use Rattle.dlk.specs.Answers.{bytes_of}
 
 -- `prove` was run on this model and a strategy, and this term stands in the file that it writes.
@@ -28,7 +31,7 @@ pub record WritesTerm (words : List Word) (old new : Outside) (model term : List
   pub written : new.files name ≡ Some term
 
 -- The model and the term of which a command speaks where it prints `closed`: `check` has read both, and `prove` has read the one and written
--- the other. The others print no report as text.
+-- the other. `guard` prints its own line first, and the others print no report as text.
 abbrev pub SpeaksOf : Command → List Word → Outside → Outside → List ℕ → List ℕ → Type 0
 SpeaksOf Check words old new model term = bytes_of old.files (inputs words) ≡ Some (model ∷ term ∷ [])
 SpeaksOf Print words old new model term = ⊥
@@ -36,6 +39,7 @@ SpeaksOf Vars words old new model term = ⊥
 SpeaksOf Subst words old new model term = ⊥
 SpeaksOf Report words old new model term = ⊥
 SpeaksOf Smt words old new model term = ⊥
+SpeaksOf Guard words old new model term = ⊥
 SpeaksOf Prove words old new model term = WritesTerm words old new model term
 SpeaksOf Gen words old new model term = ⊥
 
@@ -130,3 +134,31 @@ abbrev pub ProvesTruly : List Word → ℕ → Outside → Outside → Type 0
 ProvesTruly words status old new =
     (model term said : List ℕ) → command_of words ≡ Some Prove → WritesTerm words old new model term → status < 2 →
     new.printed ≡ old.printed ++ said → IsAccepted model term status said
+
+-- the words have `guard`, run on files of these bytes
+pub record RunsGuard (words : List Word) (old : Outside) (model term : List ℕ) : Type 0 where
+  pub form : command_of words ≡ Some Guard
+  pub texts : bytes_of old.files (inputs words) ≡ Some (model ∷ term ∷ [])
+
+-- The line of the guard on a term that gives these rows: `guarded` exactly where its lines are, each with its row, and else the first that
+-- isn't, with its reason.
+pub record TellsGuarded (term : List ℕ) (rows : List Provable) (said : List ℕ) : Type 0 where
+  pub taken : List Step
+  pub says : SaySteps 1 (file_lines term) taken
+  pub guarded : (said ≡ guarded_line) ↔ Guarded (lines taken rows)
+  pub unguarded : (said ≢ guarded_line) → (n : ℕ) × (why : Why) × FirstUnguarded (lines taken rows) n why × (said ≡ unguarded_line n why)
+
+-- What is printed of an accepted term that ends in the model: the line of the guard, and the report.
+pub record IsGuarded (model term : List ℕ) (status : ℕ) (said : List ℕ) : Type 0 where
+  pub formula : Tree
+  pub reads : ModelText model formula
+  pub first : List ℕ
+  pub report : List ℕ
+  pub said_is : said ≡ first ++ report
+  pub reported : IsReported Text term formula status report
+  pub guard : TellsGuarded term reported.rows first
+
+-- Whenever `guard` prints something with status 0 or 1, that is so.
+abbrev pub GuardsTruly : List Word → ℕ → Outside → Outside → Type 0
+GuardsTruly words status old new =
+    (model term said : List ℕ) → RunsGuard words old model term → status < 2 → new.printed ≡ old.printed ++ said → IsGuarded model term status said

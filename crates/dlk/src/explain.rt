@@ -8,11 +8,12 @@ use std::io::{Eprint, Result};
 pub const NO_WORDS: u8 = 7;
 
 /// The forms of the words, a line each, with what each does.
-const FORMS: [&str; 9] = [
+const FORMS: [&str; 10] = [
     "dlk: the words have none of these forms, in which - is standard input:",
     "  dlk check MODEL TERM             replays a proof term, and prints whether the model is closed",
     "  dlk report MODEL TERM            the same as JSON",
     "  dlk smt MODEL TERM               replays a proof term, and prints its leaves for a solver",
+    "  dlk guard MODEL TERM             replays a proof term, and prints whether its lines are guarded, and as check does",
     "  dlk prove MODEL STRATEGY TERM    runs a strategy, writes the term that it makes, and prints as check does",
     "  dlk print FILE                   prints an expression's canonical text",
     "  dlk vars FILE                    prints an expression's free, bound and must-bound variables, and its symbols",

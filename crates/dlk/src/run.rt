@@ -10,7 +10,7 @@ ghost use Rattle.dlk_answers.specs.Shown.{texts_of, reply_of};
 ghost use Rattle.dlk.specs.Cuts.{cut_bytes_of};
 ghost use Rattle.dlk.specs.Answers.{Answers};
 ghost use Rattle.dlk.specs.Runs.{Caused, AsksFor, Asks, Keeps, HasInputs, Answered, Completes};
-ghost use Rattle.dlk.specs.Headline.{ClosedTruly, JudgesTruly, ProvesTruly};
+ghost use Rattle.dlk.specs.Headline.{ClosedTruly, JudgesTruly, ProvesTruly, GuardsTruly};
 ghost use Rattle.dlk.specs.Looks.{LooksAtFewFor, LooksAtFew};
 
 use crate::fault::NoAnswer;
@@ -18,6 +18,7 @@ use crate::give::give;
 use dlk_answers::laws::proved_is_checked;
 use dlk_answers::{Command, Reply, Role, output, respond, words_refused};
 use dlk_desk::Desk;
+use dlk_replay::one_verdict;
 use dlk_store::Steps;
 use dlk_transfer::{ReadError, read_all};
 use std::alloc::Global;
@@ -98,6 +99,8 @@ pub fn run<D: Desk, L: Ledger>(
     ensures judges_truly { D.tells → JudgesTruly (map string_bytes words.now) result (D.outside desk.old) (D.outside desk.new) }
     // What `prove` writes is accepted by `check`, with the same report and the same status.
     ensures proves_truly { D.tells → ProvesTruly (map string_bytes words.now) result (D.outside desk.old) (D.outside desk.new) }
+    // What `guard` says before the report of an accepted term: whether its lines are guarded, or which is the first that isn't.
+    ensures guards_truly { D.tells → GuardsTruly (map string_bytes words.now) result (D.outside desk.old) (D.outside desk.new) }
     // On every desk: each status has its cause.
     ensures caused { Caused (map string_bytes words.now) result (D.outside desk.old) (D.outside desk.new) }
     // On every desk: what is asked for are the inputs of the words in their order, and of the last of them little is taken.
@@ -114,6 +117,7 @@ pub fn run<D: Desk, L: Ledger>(
     ensures looks { D.tells → LooksAtFew (map string_bytes words.now) result (D.outside desk.old) (D.outside desk.new) steps.old steps.new }
 {
     proved_is_checked();
+    one_verdict();
     let reply = match work(alloc, words, desk, steps) {
         Ok(reply) => reply,
         Err(NoAnswer::Memory) => return NO_MEMORY,

@@ -1,5 +1,5 @@
 -- What a command answers is no refusal of its words, and a refusal writes no file.
-use Rattle.std.proofs.Common.{◌≡◌, ◌<◌, ℕ, Bool, true, false, List, [], ◌∷◌, length, Option, Some, None, refl, arith}
+use Rattle.std.proofs.Common.{◌≡◌, ◌<◌, ℕ, Bool, true, false, List, [], ◌∷◌, ◌++◌, length, Option, Some, None, refl, arith}
 use Rattle.dlk_grammar.specs.Readings.{Literal, Nesting, Syntax, Shape, TooBig, TooDeep}
 use Rattle.dlk_grammar.specs.Texts.{TextFault, BadByte, Unread}
 use Rattle.dlk_calculus.specs.Provables.{Provable}
@@ -7,7 +7,7 @@ use Rattle.dlk_smt.specs.Smt.{first_power}
 use Rattle.dlk_report.specs.Reports.{is_closed}
 use Rattle.dlk_tacsyn.specs.Faults.{Fault, Syntax as Syntax', Nesting as Nesting', Repeat, UnknownAtom, Arguments}
 use Rattle.dlk_answers.specs.declared.command.Command.{Command}
-use Rattle.dlk_answers.specs.declared.command.Command.TheVariants.{Check, Print, Vars, Subst, Report, Smt, Prove, Gen}
+use Rattle.dlk_answers.specs.declared.command.Command.TheVariants.{Check, Print, Vars, Subst, Report, Smt, Guard, Prove, Gen}
 use Rattle.dlk_answers.specs.declared.form.Role.{Role}
 use Rattle.dlk_answers.specs.declared.form.Role.TheVariants.{Model, File, Substitution}
 use Rattle.dlk_answers.specs.declared.reply.Showing.{Showing}
@@ -18,6 +18,7 @@ use Rattle.dlk_answers.specs.Forms.{Word}
 use Rattle.dlk_answers.specs.Replies.{Reply, code_of, printing}
 use Rattle.dlk_answers.specs.Refusals.{text_refused}
 use Rattle.dlk_answers.specs.Checks.{Checks, bad_model, bad_line, bad_conclusion, reports, status_of, answered, script_or_refusal}
+use Rattle.dlk_answers.specs.Guards.{Guards, refuses as refuses_term, guards}
 use Rattle.dlk_answers.specs.Prints.{Prints, bad_text, prints}
 use Rattle.dlk_answers.specs.Lists.{Lists, lists, bad_text as lists_fault}
 use Rattle.dlk_answers.specs.Substitutes.{Substitutes, bad_file, bad_subst, bad_pair, not_admissible, too_big, too_deep, prints as prints_result}
@@ -62,6 +63,11 @@ check_carried_out showing model term reply (bad_model why fault) = text_carried_
 check_carried_out showing model term reply (bad_line f t n why v) = printed_only _ _ (omega arith)
 check_carried_out showing model term reply (bad_conclusion f t rows p a ne) = printed_only _ _ (omega arith)
 check_carried_out showing model term reply (reports f t rows p a e) = answered_carried_out showing p (length rows)
+
+guard_carried_out : (model term : List ℕ) (reply : Reply) → Guards model term reply → IsCarriedOut reply
+guard_carried_out model term reply (refuses_term r checked is) = check_carried_out (Reported Text) model term r checked
+guard_carried_out model term reply (guards r checked other said says) =
+    printed_only r.status (said ++ r.printed) (check_carried_out (Reported Text) model term r checked).status
 
 print_carried_out : (file : List ℕ) (reply : Reply) → Prints file reply → IsCarriedOut reply
 print_carried_out file reply (bad_text why fault) = text_carried_out File why
@@ -113,6 +119,7 @@ job_carried_out Vars [] (file ∷ []) reply h = list_carried_out file reply h
 job_carried_out Subst [] (file ∷ substitution ∷ []) reply h = substitute_carried_out file substitution reply h
 job_carried_out Report [] (model ∷ term ∷ []) reply h = check_carried_out (Reported Json) model term reply h
 job_carried_out Smt [] (model ∷ term ∷ []) reply h = check_carried_out Exported model term reply h
+job_carried_out Guard [] (model ∷ term ∷ []) reply h = guard_carried_out model term reply h
 job_carried_out Prove (term ∷ []) (model ∷ strategy ∷ []) reply h = prove_carried_out model strategy reply h
 job_carried_out Gen (word ∷ []) [] reply h = generate_carried_out (value word) reply h
 job_carried_out _ _ _ reply h = absurd h

@@ -1,15 +1,17 @@
 -- There is one answer to words and texts.
-use Rattle.std.proofs.Common.{◌≡◌, ℕ, List, [], ◌∷◌, ◌++◌, length, Bool, None, Some, sym, ap, ◌∙◌, subst}
+use Rattle.std.proofs.Common.{◌≡◌, ℕ, List, [], ◌∷◌, ◌++◌, length, Bool, None, Some, refl, sym, ap, ◌∙◌, subst}
 use Rattle.dlk_tree.specs.Trees.{Tree}
 use Rattle.dlk_tree.specs.Statics.{free, bound, must}
 use Rattle.dlk_tree.specs.declared.op.Var.{Var}
 use Rattle.dlk_tree.proofs.Listing.{one_listing, one_signature}
 use Rattle.dlk_calculus.specs.Provables.{Provable}
+use Rattle.dlk_calculus.specs.Steps.{Step}
 use Rattle.dlk_grammar.specs.declared.token.Dots.TheVariants.{Refused, Allowed}
 use Rattle.dlk_grammar.specs.declared.token.Form.TheVariants.{Formula, Expression}
 use Rattle.dlk_grammar.specs.Texts.{TextFault}
 use Rattle.dlk_machine.proofs.TextLaws.{one_tree_text, tree_or_fault, one_tree_fault}
-use Rattle.dlk_replay.specs.Files.{file_lines, Verdict, Answer, accepted, bad}
+use Rattle.dlk_guard.specs.Guarded.{lines, Guarded, FirstUnguarded}
+use Rattle.dlk_replay.specs.Files.{file_lines, Verdict, Answer, accepted, bad, SaySteps}
 use Rattle.dlk_replay.specs.declared.fault.LineWhy.{LineWhy}
 use Rattle.dlk_replay.proofs.Verdicts.{one_verdict}
 use Rattle.dlk_answers.specs.Forms.{Word}
@@ -17,6 +19,7 @@ use Rattle.dlk_answers.specs.Replies.{Reply}
 use Rattle.dlk_answers.specs.declared.form.Role.TheVariants.{Model, File}
 use Rattle.dlk_answers.specs.Refusals.{text_refused}
 use Rattle.dlk_answers.specs.Checks.{Checks, bad_model, bad_line, bad_conclusion, reports, Accepts, ModelText, ModelFault, proves, line_refused, other_conclusion, answered}
+use Rattle.dlk_answers.specs.Guards.{Guards, refuses as refuses_term, guards, GuardSays, is_guarded, is_unguarded, unguarded_line, with_line_first}
 use Rattle.dlk_answers.specs.Prints.{Prints, bad_text, prints, printed}
 use Rattle.dlk_answers.specs.Lists.{Lists, lists, bad_text as lists_fault, IsWritten, AreWritten, set_listed, symbols_listed, set_text, signature_text, four_lines}
 use Rattle.dlk_answers.proofs.Ends.{one_last, one_model, model_or_fault}
@@ -28,9 +31,10 @@ use Rattle.dlk_grammar.specs.Tokens.{value}
 use Rattle.dlk_answers.proofs.OneProof.{one_prove}
 use Rattle.dlk_answers.proofs.Rechecked.{unwritten}
 use Rattle.dlk_answers.proofs.StrategyLaws.{OneText, TextOrFault, OneFault, OneRun}
+use Rattle.dlk_answers.proofs.GuardLaws.{OneTaken, OneFirst}
 use Rattle.dlk_answers.specs.Answers.{Does, Responds, refuses, does, too_long}
 use Rattle.dlk_answers.specs.declared.command.Command.{Command}
-use Rattle.dlk_answers.specs.declared.command.Command.TheVariants.{Check, Print, Vars, Subst, Report, Smt, Prove, Gen}
+use Rattle.dlk_answers.specs.declared.command.Command.TheVariants.{Check, Print, Vars, Subst, Report, Smt, Guard, Prove, Gen}
 use Rattle.dlk_answers.specs.declared.reply.Showing.{Showing}
 use Rattle.dlk_answers.specs.declared.reply.Showing.TheVariants.{Reported, Exported, Summed}
 use Rattle.dlk_answers.specs.declared.reply.Layout.TheVariants.{Text, Json}
@@ -96,6 +100,37 @@ module _ (showing : Showing) (model term : List ℕ) where
       let end = one_end a b in
       λ i. answered showing (end.last_is i) (length (end.rows_are i))
 
+module _ (one_taken : OneTaken) (one_first : OneFirst) where
+  -- an accepted term has one list of lines with their rows
+  same_lines : {term : List ℕ} {rows others : List Provable} {p q : Provable} (taken also : List Step) → Accepts term rows p → Accepts term others q →
+      SaySteps 1 (file_lines term) taken → SaySteps 1 (file_lines term) also → lines taken rows ≡ lines also others
+  same_lines {term} taken also a b s t =
+      let taken_is = one_taken 1 (file_lines term) taken also s t in
+      let rows_are = (one_end a b).rows_are in
+      λ i. lines (taken_is i) (rows_are i)
+
+  pub one_said : (term one other : List ℕ) → GuardSays term one → GuardSays term other → one ≡ other
+  one_said term one other (is_guarded rows p a taken s g) (is_guarded others q b also t h) = refl
+  one_said term one other (is_guarded rows p a taken s g) (is_unguarded others q b also t n why first) =
+      absurd ((subst Guarded (same_lines taken also a b s t) g).none n why first.refused)
+  one_said term one other (is_unguarded rows p a taken s n why first) (is_guarded others q b also t h) =
+      absurd ((subst Guarded (same_lines also taken b a t s) h).none n why first.refused)
+  one_said term one other (is_unguarded rows p a taken s n why first) (is_unguarded others q b also t m reason second) =
+      let same = same_lines also taken b a t s in
+      let is = one_first (lines taken rows) n m why reason first (subst (λ l. FirstUnguarded l m reason) same second) in
+      λ i. unguarded_line (is.0 i) (is.1 i)
+
+  one_guard : (model term : List ℕ) (r s : Reply) → Guards model term r → Guards model term s → r ≡ s
+  one_guard model term r s (refuses_term r' a is) (refuses_term s' b also) = one_check (Reported Text) model term r' s' a b
+  one_guard model term r s (refuses_term r' a is) (guards s' b other said says) =
+      absurd (other (ap (λ (x : Reply). x.status) (one_check (Reported Text) model term s' r' b a) ∙ is))
+  one_guard model term r s (guards r' a other said says) (refuses_term s' b is) =
+      absurd (other (ap (λ (x : Reply). x.status) (one_check (Reported Text) model term r' s' a b) ∙ is))
+  one_guard model term r s (guards r' a other said says) (guards s' b another line tells) =
+      let reply_is = one_check (Reported Text) model term r' s' a b in
+      let line_is = one_said term said line says tells in
+      λ i. with_line_first (line_is i) (reply_is i)
+
 pub one_print : (file : List ℕ) (r s : Reply) → Prints file r → Prints file s → r ≡ s
 one_print file r s (bad_text why a) (bad_text other b) = ap (text_refused File) (one_tree_fault Expression Allowed file why other a b)
 one_print file r s (bad_text why a) (prints u b) = absurd (tree_or_fault Expression Allowed file u why b a)
@@ -145,6 +180,7 @@ module _ (one_text : OneText) (text_or_fault : TextOrFault) (one_fault : OneFaul
       let same : text ≡ term = one_name (sym also ∙ one_written n proved second term a b written) in
       one_check (Summed n) (generated_model n) term r' s' c (subst (λ (t : List ℕ). Checks (Summed n) (generated_model n) t s') same d)
 
+module _ (one_text : OneText) (text_or_fault : TextOrFault) (one_fault : OneFault) (one_run : OneRun) (one_taken : OneTaken) (one_first : OneFirst) where
   one_job : (c : Command) (others : List Word) (texts : List (List ℕ)) (r s : Reply) → Does c others texts r → Does c others texts s → r ≡ s
   one_job Check [] (model ∷ term ∷ []) r s a b = one_check (Reported Text) model term r s a b
   one_job Print [] (file ∷ []) r s a b = one_print file r s a b
@@ -152,8 +188,9 @@ module _ (one_text : OneText) (text_or_fault : TextOrFault) (one_fault : OneFaul
   one_job Subst [] (file ∷ substitution ∷ []) r s a b = one_substitution file substitution r s a b
   one_job Report [] (model ∷ term ∷ []) r s a b = one_check (Reported Json) model term r s a b
   one_job Smt [] (model ∷ term ∷ []) r s a b = one_check Exported model term r s a b
+  one_job Guard [] (model ∷ term ∷ []) r s a b = one_guard one_taken one_first model term r s a b
   one_job Prove (term ∷ []) (model ∷ strategy ∷ []) r s a b = one_prove one_text text_or_fault one_fault one_run model strategy r s a b
-  one_job Gen (word ∷ []) [] r s a b = one_generate (value word) r s a b
+  one_job Gen (word ∷ []) [] r s a b = one_generate one_text text_or_fault one_fault one_run (value word) r s a b
   one_job _ _ _ r s a b = absurd a
 
   pub one_response : (c : Command) (words : List Word) (texts : List (List ℕ)) (r s : Reply) → Responds c words texts r → Responds c words texts s → r ≡ s

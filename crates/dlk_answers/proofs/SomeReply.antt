@@ -14,7 +14,7 @@ use Rattle.dlk_machine.proofs.SomeText.{some_tree, some_pairs}
 use Rattle.dlk_replay.specs.Files.{file_lines, Verdict, Answer, accepted, bad}
 use Rattle.dlk_replay.proofs.Verdicts.{some_verdict, accepted_some}
 use Rattle.dlk_answers.specs.declared.command.Command.{Command}
-use Rattle.dlk_answers.specs.declared.command.Command.TheVariants.{Check, Print, Vars, Subst, Report, Smt, Prove, Gen}
+use Rattle.dlk_answers.specs.declared.command.Command.TheVariants.{Check, Print, Vars, Subst, Report, Smt, Guard, Prove, Gen}
 use Rattle.dlk_answers.specs.declared.form.Role.TheVariants.{Model, File, Substitution}
 use Rattle.dlk_answers.specs.declared.form.Last.{Last}
 use Rattle.dlk_answers.specs.declared.form.Last.TheVariants.{Output, Number}
@@ -26,6 +26,7 @@ use Rattle.dlk_answers.specs.Inputs.{first_too_long}
 use Rattle.dlk_answers.specs.Replies.{Reply, refusal}
 use Rattle.dlk_answers.specs.Refusals.{text_refused}
 use Rattle.dlk_answers.specs.Checks.{Checks, bad_model, bad_line, bad_conclusion, reports, Accepts, ModelText, proves, line_refused, other_conclusion, answered}
+use Rattle.dlk_answers.specs.Guards.{Guards}
 use Rattle.dlk_answers.specs.Prints.{Prints, bad_text, prints, printed, FileText}
 use Rattle.dlk_answers.specs.Lists.{Lists, lists, bad_text as lists_fault, set_listed, symbols_listed, set_text, signature_text, four_lines}
 use Rattle.dlk_answers.specs.Substitutes.{Substitutes, bad_file, bad_subst, bad_pair, not_admissible, too_big, too_deep, prints as prints_result, pair_refused, AreRead}
@@ -36,6 +37,8 @@ use Rattle.dlk_answers.specs.Generates.{Generates, refuses as refuses_proof, che
 use Rattle.dlk_answers.specs.Answers.{Does, Responds, refuses, does, too_long}
 use Rattle.dlk_answers.proofs.Ends.{last_of}
 use Rattle.dlk_answers.proofs.Fits.{others_end}
+use Rattle.dlk_answers.proofs.SomeGuard.{guard_of}
+use Rattle.dlk_answers.proofs.GuardLaws.{SomeTaken, SomeFirst}
 use Rattle.dlk_answers.proofs.SomeProof.{some_prove}
 use Rattle.dlk_answers.proofs.StrategyLaws.{SomeText, SomeRun, RunsShow}
 use Rattle.dlk_answers.proofs.SomeListing.{some_free_listing, some_bound_listing, some_must_listing, some_signature}
@@ -55,6 +58,11 @@ some_check showing model term = elim (some_tree Formula Refused model) [
           | yes same ↦ (answered showing last.1 (length rows), reports f reads rows last.1 a same)
           | no other ↦ (other_conclusion line f last.1.conclusion, bad_conclusion f reads rows last.1 a other)
         ]
+
+some_guard : SomeTaken → SomeFirst → (model term : List ℕ) → (reply : Reply) × Guards model term reply
+some_guard some_taken some_first model term =
+    let checked = some_check (Reported Text) model term in
+    guard_of some_taken some_first model term checked.0 checked.1
 
 some_print : (file : List ℕ) → (reply : Reply) × Prints file reply
 some_print file = elim (some_tree Expression Allowed file) [
@@ -134,7 +142,7 @@ done_of : (command : Command) (others words : List Word) (texts same : List (Lis
 done_of command others words texts same words_are is done =
     (done.0, subst (λ os. Does command os texts done.0) (sym words_are) (subst (λ ts. Does command words ts done.0) (sym is) done.1))
 
-module _ (some_text : SomeText) (some_run : SomeRun) (runs_show : RunsShow) where
+module _ (some_text : SomeText) (some_run : SomeRun) (runs_show : RunsShow) (some_taken : SomeTaken) (some_first : SomeFirst) where
   some_generate : (n : ℕ) → (reply : Reply) × Generates n reply
   some_generate n =
       let proof = some_prove some_text some_run runs_show (generated_model n) (generated_strategy n) in
@@ -168,6 +176,9 @@ module _ (some_text : SomeText) (some_run : SomeRun) (runs_show : RunsShow) wher
   some_job Smt others texts ends count =
       let t = two_texts texts count in
       done_of Smt others [] texts (t.0 ∷ t.1 ∷ []) (no_others others ends) t.2 (some_check Exported t.0 t.1)
+  some_job Guard others texts ends count =
+      let t = two_texts texts count in
+      done_of Guard others [] texts (t.0 ∷ t.1 ∷ []) (no_others others ends) t.2 (some_guard some_taken some_first t.0 t.1)
   some_job Prove others texts ends count =
       let t = two_texts texts count in
       let w = one_other Output others ends in

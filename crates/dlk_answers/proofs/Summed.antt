@@ -16,10 +16,10 @@ use Rattle.dlk_answers.proofs.OneReply.{one_check, one_written}
 use Rattle.dlk_answers.proofs.Rechecked.{RecordedIsAccepted, unwritten, written_by, written_checks}
 use Rattle.dlk_answers.proofs.StrategyLaws.{OneText, TextOrFault, OneFault, OneRun, RunsTaken, RunsReplaceSymbols, RunsShow}
 
-abbrev IsRefused : Reply → Type 0
+abbrev pub IsRefused : Reply → Type 0
 IsRefused reply = reply.status ≡ Refused
 
-text_is_refused : (why : TextFault) → IsRefused (text_refused Model why)
+pub text_is_refused : (why : TextFault) → IsRefused (text_refused Model why)
 text_is_refused (BadByte at) = refl
 text_is_refused (Unread (Literal at)) = refl
 text_is_refused (Unread (Nesting at)) = refl

@@ -1,13 +1,14 @@
 -- What the program answers to its words and to the texts of its inputs.
 use Rattle.std.specs.Prelude.{◌≡◌, ℕ, List, [], ◌∷◌, ◌++◌, Some, None, codes}
 use Rattle.dlk_answers.specs.declared.command.Command.{Command}
-use Rattle.dlk_answers.specs.declared.command.Command.TheVariants.{Check, Print, Vars, Subst, Report, Smt, Prove, Gen}
+use Rattle.dlk_answers.specs.declared.command.Command.TheVariants.{Check, Print, Vars, Subst, Report, Smt, Guard, Prove, Gen}
 use Rattle.dlk_answers.specs.declared.reply.Layout.TheVariants.{Text, Json}
 use Rattle.dlk_answers.specs.declared.reply.Showing.TheVariants.{Reported, Exported}
 use Rattle.dlk_answers.specs.Forms.{Word, inputs_of, others_of, limits_of}
 use Rattle.dlk_answers.specs.Inputs.{first_too_long}
 use Rattle.dlk_answers.specs.Replies.{Reply, refusal}
 use Rattle.dlk_answers.specs.Checks.{Checks}
+use Rattle.dlk_answers.specs.Guards.{Guards}
 use Rattle.dlk_answers.specs.Prints.{Prints}
 use Rattle.dlk_answers.specs.Lists.{Lists}
 use Rattle.dlk_answers.specs.Substitutes.{Substitutes}
@@ -27,6 +28,7 @@ Does Vars [] (file ∷ []) reply = Lists file reply
 Does Subst [] (file ∷ substitution ∷ []) reply = Substitutes file substitution reply
 Does Report [] (model ∷ term ∷ []) reply = Checks (Reported Json) model term reply
 Does Smt [] (model ∷ term ∷ []) reply = Checks Exported model term reply
+Does Guard [] (model ∷ term ∷ []) reply = Guards model term reply
 -- the word behind the inputs is the name of the term's file
 Does Prove (term ∷ []) (model ∷ strategy ∷ []) reply = Proves model strategy reply
 -- the word behind no inputs is the number

@@ -3,7 +3,7 @@ use Rattle.std.specs.Prelude.{ℕ, ◌&&◌, ◌||◌, Bool, true, false, List, 
 use Rattle.dlk_tree.specs.Names.{is_between}
 use Rattle.dlk_grammar.specs.Tokens.{is_digit}
 use Rattle.dlk_answers.specs.declared.command.Command.{Command}
-use Rattle.dlk_answers.specs.declared.command.Command.TheVariants.{Check, Print, Vars, Subst, Report, Smt, Prove, Gen}
+use Rattle.dlk_answers.specs.declared.command.Command.TheVariants.{Check, Print, Vars, Subst, Report, Smt, Guard, Prove, Gen}
 use Rattle.dlk_answers.specs.declared.form.Role.{Role}
 use Rattle.dlk_answers.specs.declared.form.Role.TheVariants.{Model, Term, File, Substitution, Strategy}
 use Rattle.dlk_answers.specs.declared.form.Last.{Last}
@@ -25,6 +25,7 @@ form_of Vars = record { verb = codes "vars"; inputs = File ∷ []; last = None }
 form_of Subst = record { verb = codes "subst"; inputs = File ∷ Substitution ∷ []; last = None }
 form_of Report = record { verb = codes "report"; inputs = Model ∷ Term ∷ []; last = None }
 form_of Smt = record { verb = codes "smt"; inputs = Model ∷ Term ∷ []; last = None }
+form_of Guard = record { verb = codes "guard"; inputs = Model ∷ Term ∷ []; last = None }
 form_of Prove = record { verb = codes "prove"; inputs = Model ∷ Strategy ∷ []; last = Some Output }
 form_of Gen = record { verb = codes "gen"; inputs = []; last = Some Number }
 
@@ -68,7 +69,7 @@ has_form [] form = false
 has_form (verb ∷ rest) form = bytes_eq verb form.verb && (nat_le (length form.inputs) (length rest) && ends_in form.last (drop (length form.inputs) rest))
 
 abbrev pub commands : List Command
-commands = Check ∷ Print ∷ Vars ∷ Subst ∷ Report ∷ Smt ∷ Prove ∷ Gen ∷ []
+commands = Check ∷ Print ∷ Vars ∷ Subst ∷ Report ∷ Smt ∷ Guard ∷ Prove ∷ Gen ∷ []
 
 -- the command of the words, if they have one of the forms
 abbrev pub command_of : List Word → Option Command

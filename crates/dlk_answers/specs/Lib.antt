@@ -5,6 +5,8 @@ pub mod Refusals
 pub mod Refused
 pub mod Checks
 pub mod Judged
+pub mod Guards
+pub mod Verdicts
 pub mod Prints
 pub mod Lists
 pub mod Substitutes

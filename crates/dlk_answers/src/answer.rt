@@ -12,6 +12,7 @@ use crate::fault::NoReply;
 use crate::form::{Role, count_of};
 use crate::jobs::check::check;
 use crate::jobs::generate::generated;
+use crate::jobs::guard::guard;
 use crate::jobs::print::print;
 use crate::jobs::prove::prove;
 use crate::jobs::subst::subst;
@@ -89,6 +90,7 @@ fn job<L: Ledger>(
             steps,
         ),
         (Command::Smt, [], [model, term]) => check(alloc, Showing::Exported, model, term, steps),
+        (Command::Guard, [], [model, term]) => guard(alloc, model, term, steps),
         (Command::Prove, [_], [model, strategy]) => prove(alloc, model, strategy, steps),
         (Command::Gen, [count], []) => generated(alloc, count_of(count), steps),
         _ => unreachable!(),

@@ -21,19 +21,22 @@ pub enum Command {
     Report,
     /// Replays a term, and prints its leaves as SMT-LIB text.
     Smt,
+    /// Replays a term, and prints whether its lines are guarded, and the report.
+    Guard,
     /// Runs a strategy on a model, writes the term that it makes, and prints the report.
     Prove,
     /// Makes a model of so many assignments and a strategy, proves it, checks the term that this makes, and prints a summary.
     Gen,
 }
 
-const COMMANDS: [Command; 8] = [
+const COMMANDS: [Command; 9] = [
     Command::Check,
     Command::Print,
     Command::Vars,
     Command::Subst,
     Command::Report,
     Command::Smt,
+    Command::Guard,
     Command::Prove,
     Command::Gen,
 ];
@@ -83,6 +86,7 @@ impl Command {
             Command::Subst => reading("subst", &[Role::File, Role::Substitution]),
             Command::Report => reading("report", &[Role::Model, Role::Term]),
             Command::Smt => reading("smt", &[Role::Model, Role::Term]),
+            Command::Guard => reading("guard", &[Role::Model, Role::Term]),
             Command::Prove => writing("prove", &[Role::Model, Role::Strategy]),
             Command::Gen => counting("gen"),
         }

@@ -1,5 +1,5 @@
 //! The laws of answers. Each is a contract of a function that does nothing but call the laws below it.
-ghost use Rattle.std.specs.Prelude.{◌≡◌, ◌⊎◌, ◌<◌, ◌≤◌, ℕ, List, length, None, Some};
+ghost use Rattle.std.specs.Prelude.{◌≡◌, ◌≢◌, ◌⊎◌, ◌<◌, ◌≤◌, ℕ, List, length, None, Some};
 ghost use Rattle.dlk_library.specs.Generated.{generated_model, generated_strategy};
 ghost use Rattle.dlk_answers.specs.declared.command.Command.{Command as TheCommand};
 ghost use Rattle.dlk_answers.specs.declared.form.Role.TheVariants.{Term};
@@ -9,12 +9,15 @@ ghost use Rattle.dlk_answers.specs.declared.reply.Status.TheVariants.{Done, Refu
 ghost use Rattle.dlk_answers.specs.Forms.{Word, command_of, form_of, limit_of};
 ghost use Rattle.dlk_answers.specs.Replies.{Reply as TheReply, code_of, printing};
 ghost use Rattle.dlk_answers.specs.Checks.{Checks};
+ghost use Rattle.dlk_answers.specs.Guards.{Guards, GuardSays, with_line_first};
 ghost use Rattle.dlk_answers.specs.Proves.{Proves};
 ghost use Rattle.dlk_answers.specs.Generates.{Generates, SumsUp};
 ghost use Rattle.dlk_answers.specs.Answers.{Responds};
 
+use dlk_guard::first_or_guarded;
 use dlk_machine::laws::tree_texts;
 use dlk_recorder::recorded_is_accepted;
+use dlk_replay::{accepted_says_steps, one_list_of_steps};
 use dlk_strategy::{one_outcome, run_has_symbols, run_is_taken, run_shows_formula, some_outcome};
 use dlk_tacsyn::laws::{fit_strategy, one_strategy, strategy_or_fault};
 
@@ -25,6 +28,8 @@ pub fn one_response()
 {
     one_strategy();
     one_outcome();
+    one_list_of_steps();
+    first_or_guarded();
 }
 
 /// A command answers something to words of its form and to as many texts as it has inputs.
@@ -37,6 +42,8 @@ pub fn some_response()
     fit_strategy();
     some_outcome();
     run_shows_formula();
+    accepted_says_steps();
+    first_or_guarded();
 }
 
 /// A command answers with a status below 3, and a refusal writes no file.
@@ -74,3 +81,19 @@ pub fn generated_is_checked()
     run_shows_formula();
     recorded_is_accepted();
 }
+
+/// `guard` says one thing of a term before the report.
+pub fn guard_says_one_thing()
+    ensures { (term one other : List ℕ) → GuardSays term one → GuardSays term other → one ≡ other }
+{
+    one_list_of_steps();
+    first_or_guarded();
+}
+
+/// `guard` answers what `check` answers: where that refuses, the same, and else the same behind one line.
+pub fn guard_reports_as_check()
+    ensures refused { (model term : List ℕ) (reply checked : TheReply) → Guards model term reply → Checks (Reported Text) model term checked →
+        checked.status ≡ Refused → reply ≡ checked }
+    ensures accepted { (model term : List ℕ) (reply checked : TheReply) → Guards model term reply → Checks (Reported Text) model term checked →
+        checked.status ≢ Refused → (said : List ℕ) × GuardSays term said × (reply ≡ with_line_first said checked) }
+{}

@@ -29,7 +29,7 @@ use std::alloc::Global;
 use std::sync::ledger::Ledger;
 
 /// The answer to a term whose first wrong line this is.
-fn refuse_line(alloc: Global, line: usize, why: LineWhy) -> Result<Reply, NoReply>
+pub(super) fn refuse_line(alloc: Global, line: usize, why: LineWhy) -> Result<Reply, NoReply>
     ensures { IfOk result (λ r. reply_of r ≡ line_refused line why) }
 {
     let word = why.word();
@@ -131,7 +131,7 @@ fn show<S: Store, L: Ledger>(
 }
 
 /// The answer to a term whose lines are all steps.
-fn judge<S: Store, L: Ledger>(
+pub(super) fn judge<S: Store, L: Ledger>(
     alloc: Global,
     showing: Showing,
     kernel: &Kernel<S>,

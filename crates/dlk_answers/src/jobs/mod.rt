@@ -1,5 +1,6 @@
 pub mod check;
 pub mod generate;
+pub mod guard;
 pub mod print;
 pub mod prove;
 pub mod smt;

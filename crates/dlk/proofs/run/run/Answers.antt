@@ -7,6 +7,7 @@ use Rattle.dlk.proofs.Ran.{gives_whole, breaks_off, grows_from, asks_given}
 use Rattle.dlk.specs.Looks.{LooksAtFew}
 use Rattle.dlk.proofs.Looked.{none_written, given_looked, ungiven_looked}
 use Rattle.dlk.proofs.Written.{whole_proves}
+use Rattle.dlk.proofs.Guarding.{whole_guards}
 use Rattle.dlk.proofs.run.run.Goals as goal
 
 pub returns-in-Ok-give-clause-closed_truly : goal.returns-in-Ok-give-clause-closed_truly
@@ -30,6 +31,18 @@ returns-in-Ok-give-clause-proves_truly g c = λ t.
     let reply = reply_of c.in-Ok.reply in
     let reads = c.in-Ok.ensures.only in
     whole_proves c.proved_is_checked.ensures words c.code.result old new reply
+    (gives_whole words old mid new reply (option_copied c.output.result) c.output.ensures (c.in-Ok.ensures.ok t) (reads.files t) (reads.printed t)
+    (c.in-Ok-give.ensures.file t) (c.in-Ok-give.ensures.printed t) c.code.result c.code.ensures)
+
+pub returns-in-Ok-give-clause-guards_truly : goal.returns-in-Ok-give-clause-guards_truly
+returns-in-Ok-give-clause-guards_truly g c = λ t.
+    let words = map string_bytes c.args.words.now in
+    let old = g.D.Desk.outside c.args.desk.now in
+    let mid = g.D.Desk.outside c.work.new.desk in
+    let new = g.D.Desk.outside c.give.new.desk in
+    let reply = reply_of c.in-Ok.reply in
+    let reads = c.in-Ok.ensures.only in
+    whole_guards c.one_verdict.ensures words c.code.result old new reply
     (gives_whole words old mid new reply (option_copied c.output.result) c.output.ensures (c.in-Ok.ensures.ok t) (reads.files t) (reads.printed t)
     (c.in-Ok-give.ensures.file t) (c.in-Ok-give.ensures.printed t) c.code.result c.code.ensures)
 

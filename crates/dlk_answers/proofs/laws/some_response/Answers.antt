@@ -7,4 +7,4 @@ returns c =
     some_response c.strategy_or_fault.ensures
     (λ bytes t model f says reads. c.some_outcome.ensures t f (c.fit_strategy.ensures.fitting bytes t says) (c.fit_strategy.ensures.names bytes t says)
     (c.tree_texts.ensures.formulas model f reads) (model_small model f reads) (model_shallow model f reads))
-    c.run_shows_formula.ensures
+    c.run_shows_formula.ensures c.accepted_says_steps.ensures.some c.first_or_guarded.ensures.some

@@ -1,0 +1,103 @@
+-- What `guard` prints of an accepted term: whether its lines are guarded, and its report.
+use Rattle.std.proofs.Common.{◌≡◌, ◌≢◌, ◌<◌, ℕ, List, [], ◌∷◌, ◌++◌, get_or, None, Some, refl, sym, ap, subst, ◌∙◌, arith}
+use Rattle.std.proofs.lemmas.List.{append_cancel_left}
+use Rattle.dlk_tree.specs.Trees.{Tree}
+use Rattle.dlk_calculus.specs.Provables.{Provable}
+use Rattle.dlk_desk.specs.Outside.{Outside}
+use Rattle.dlk_guard.specs.declared.why.Why.{Why}
+use Rattle.dlk_guard.specs.Guarded.{lines, Guarded, FirstUnguarded}
+use Rattle.dlk_replay.specs.Files.{file_lines, Answer, accepted, Verdict}
+use Rattle.dlk_answers.specs.declared.command.Command.{Command}
+use Rattle.dlk_answers.specs.declared.command.Command.TheVariants.{Guard}
+use Rattle.dlk_answers.specs.declared.reply.Layout.TheVariants.{Text}
+use Rattle.dlk_answers.specs.declared.reply.Showing.TheVariants.{Reported}
+use Rattle.dlk_answers.specs.Forms.{Word, command_of, inputs_of}
+use Rattle.dlk_answers.specs.Inputs.{inputs, inputs_of_form}
+use Rattle.dlk_answers.specs.Replies.{Reply, code_of}
+use Rattle.dlk_answers.specs.Checks.{Checks, bad_model, bad_line, bad_conclusion, reports, ModelText, Accepts}
+use Rattle.dlk_answers.specs.Guards.{Guards, refuses as refuses_term, guards, GuardSays, is_guarded, is_unguarded, guarded_line, unguarded_line}
+use Rattle.dlk_answers.specs.Answers.{Does, Responds, refuses, does}
+use Rattle.dlk.specs.Answers.{bytes_of, Answers, no_form, command}
+use Rattle.dlk.specs.Runs.{GivesWhole}
+use Rattle.dlk.specs.Headline.{RunsGuard, TellsGuarded, IsGuarded, GuardsTruly}
+use Rattle.dlk.proofs.Judged.{reported_of}
+use Rattle.dlk.proofs.Written.{model_two}
+
+-- one thing becomes of a file
+abbrev pub OneVerdict : Type 0
+OneVerdict = (all : List (List ℕ)) (a b : Answer) → Verdict all a → Verdict all b → a ≡ b
+
+-- `unguarded` begins otherwise than `guarded`
+not_guarded : (n : ℕ) (why : Why) → unguarded_line n why ≡ guarded_line → ⊥
+not_guarded n why e = let first : 117 ≡ 103 = ap (λ l. get_or l 0 0) e in absurd (omega (arith, first))
+
+same_rows : {rows others : List Provable} {line place : ℕ} → accepted rows line ≡ accepted others place → rows ≡ others
+same_rows e = cc
+
+module _ (one_verdict : OneVerdict) (model term : List ℕ) where
+  one_rows : {rows others : List Provable} {p q : Provable} → Accepts term rows p → Accepts term others q → rows ≡ others
+  one_rows {rows} {others} a b = same_rows (one_verdict (file_lines term) (accepted rows a.line) (accepted others b.line) a.verdict b.verdict)
+
+  tells : (rows : List Provable) (p : Provable) → Accepts term rows p → (said : List ℕ) → GuardSays term said → TellsGuarded term rows said
+  tells rows p a said (is_guarded others q b taken says all) =
+      let here = subst (λ rs. Guarded (lines taken rs)) (one_rows b a) all in
+      record { taken = taken; says = says; guarded = ((λ e. here), (λ g. refl)); unguarded = λ other. absurd (other refl) }
+  tells rows p a said (is_unguarded others q b taken says n why first) =
+      let here = subst (λ rs. FirstUnguarded (lines taken rs) n why) (one_rows b a) first in
+      record {
+        taken = taken;
+        says = says;
+        guarded = ((λ e. absurd (not_guarded n why e)), (λ g. absurd (g.none n why here.refused)));
+        unguarded = λ other. (n, why, here, refl);
+      }
+
+  -- the model that was read
+  model_read : (reply : Reply) → Checks (Reported Text) model term reply → code_of reply.status < 2 → (f : Tree) × ModelText model f
+  model_read _ (bad_model why fault) less = absurd (omega (arith, less, model_two why))
+  model_read _ (bad_line f reads n why v) less = (f, reads)
+  model_read _ (bad_conclusion f reads rows p a ne) less = (f, reads)
+  model_read _ (reports f reads rows p a e) less = (f, reads)
+
+  guard_of : (reply : Reply) → Guards model term reply → code_of reply.status < 2 → IsGuarded model term (code_of reply.status) reply.printed
+  guard_of _ (refuses_term r checks is) less = let two : code_of r.status ≡ 2 = ap code_of is in absurd (omega (arith, less, two))
+  guard_of _ (guards r checks other said says) less =
+      let read = model_read r checks less in
+      let reported = reported_of Text model term read.0 read.1 r checks less in
+      record {
+        formula = read.0;
+        reads = read.1;
+        first = said;
+        report = r.printed;
+        said_is = refl;
+        reported = reported;
+        guard = tells reported.rows reported.proof reported.accepts said says;
+      }
+
+  job_guards : (others : List Word) (reply : Reply) → Does Guard others (model ∷ term ∷ []) reply → Guards model term reply
+  job_guards [] reply h = h
+  job_guards (w ∷ ws) reply h = absurd h
+
+  response_guards : (words : List Word) (reply : Reply) → Responds Guard words (model ∷ term ∷ []) reply → code_of reply.status < 2 →
+      IsGuarded model term (code_of reply.status) reply.printed
+  response_guards words _ (refuses name long) less = absurd (omega (arith, less))
+  response_guards words _ (does short r job) less = guard_of r (job_guards _ r job) less
+
+  answer_guards : (words : List Word) (old : Outside) (reply : Reply) → Answers words old.files reply → RunsGuard words old model term → code_of reply.status < 2 →
+      IsGuarded model term (code_of reply.status) reply.printed
+  answer_guards words old _ (no_form none) runs less = let e : None ≡ Some Guard = sym none ∙ runs.form in absurd cc
+  answer_guards words old _ (command c is texts there r responds) runs less =
+      let same : c ≡ Guard = let e : Some c ≡ Some Guard = sym is ∙ runs.form in cc in
+      let named : inputs words ≡ inputs_of c words = ap (λ o. inputs_of_form o words) is in
+      let read : texts ≡ model ∷ term ∷ [] = let e : Some texts ≡ Some (model ∷ term ∷ []) = sym there ∙ ap (bytes_of old.files) (sym named) ∙ runs.texts in cc in
+      response_guards words r (subst (λ (x : Command). Responds x words (model ∷ term ∷ []) r) same (subst (λ (ts : List (List ℕ)). Responds c words ts r) read responds)) less
+
+pub whole_guards : OneVerdict → (words : List Word) (status : ℕ) (old new : Outside) (reply : Reply) → GivesWhole words status old new reply → GuardsTruly words status old new
+whole_guards one_verdict words status old new reply gives model term said runs less says =
+    let same : reply.printed ≡ said = append_cancel_left old.printed reply.printed said (sym gives.printed ∙ says) in
+    let few : code_of reply.status < 2 = omega (arith, less, gives.status_is) in
+    subst (λ (n : ℕ). IsGuarded model term n said) (sym gives.status_is)
+    (subst (λ (x : List ℕ). IsGuarded model term (code_of reply.status) x) same (answer_guards one_verdict model term words old reply gives.answer runs few))
+
+-- with another status nothing is said
+pub fault_guards : (words : List Word) (status : ℕ) (old new : Outside) → 2 < status → GuardsTruly words status old new
+fault_guards words status old new high model term said runs less says = absurd (omega (arith, less, high))
