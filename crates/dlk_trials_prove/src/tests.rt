@@ -1,0 +1,11 @@
+// What `prove`, `gen` and `smt` answer.
+mod exporting;
+mod gallery;
+mod generating;
+mod library;
+mod proving;
+
+use dlk_answers::{NoReply, Reply};
+use dlk_trials::{TERM, checked, joined, padded, repeated, replied};
+use std::alloc::Global;
+use std::test::Fail;
