@@ -13,6 +13,17 @@ use std::sync::ledger::{Blank, Ledger};
 pub const TERM: &str =
     "1 start ==> x>=0 -> x>=0\n2 apply 1 1 implyR(1)\n3 apply 2 1 close(1,1)\ndone\n";
 
+/// `examples/increment/model`.
+pub const INCREMENT_MODEL: &str = "x>=0 -> [x:=x+1;]x>=1\n";
+
+/// `examples/increment/term`.
+pub const INCREMENT_TERM: &str =
+    "1 start ==> x>=0 -> [x:=x+1;]x>=1\n2 apply 1 1 implyR(1)\n3 axiom assignb\n4 rename 3 x_ x\n5 subst 4 f()~>x+1,p(._0)~>._0>=1\n6 rule CE\n7 subst 6 p(||)~>[x:=x+1;]x>=1,q(||)~>x+1>=1,C{_}~>_\n8 merge 7 1 5\n9 apply 2 1 cutR(1,x+1>=1)\n10 apply 9 2 coHideR(1)\n11 apply 10 2 equivifyR(1)\n12 apply 11 2 commuteEquivR(1)\n13 merge 12 2 8\n14 leaf x>=0 ==> x+1>=1\n15 merge 13 1 14\ndone\n";
+
+/// What is reported of this term.
+pub const INCREMENT_REPORT: &str =
+    "closed\nconclusion ==> x>=0 -> [x:=x+1;]x>=1\ngoals 0\nleaves 1\nleaf 1 x>=0 ==> x+1>=1\nlines 15\n";
+
 /// Words of the command line.
 pub fn words_of(alloc: Global, texts: &[&str]) -> Result<Vec<String>, AllocError> {
     let mut words = Vec::new(alloc);

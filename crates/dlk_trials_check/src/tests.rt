@@ -1,10 +1,14 @@
 // What `check` and `report` answer to models and terms.
+mod cuts;
 mod limits;
 mod models;
 mod terms;
 
 use dlk_answers::{Form, Last, Role};
-use dlk_trials::{TERM, checked, joined, padded, repeated, replied, words_of};
+use dlk_trials::{
+    INCREMENT_MODEL, INCREMENT_REPORT, INCREMENT_TERM, TERM, checked, joined, padded, repeated,
+    replied, words_of,
+};
 use std::alloc::{AllocError, Global};
 use std::test::Fail;
 

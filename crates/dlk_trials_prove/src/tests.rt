@@ -6,6 +6,9 @@ mod library;
 mod proving;
 
 use dlk_answers::{NoReply, Reply};
-use dlk_trials::{TERM, checked, joined, padded, repeated, replied};
+use dlk_trials::{
+    INCREMENT_MODEL, INCREMENT_REPORT, INCREMENT_TERM, TERM, checked, joined, padded, repeated,
+    replied,
+};
 use std::alloc::Global;
 use std::test::Fail;

@@ -1,4 +1,5 @@
 // The stores, and what is read into them.
+mod readers;
 mod stores;
 
 use dlk_tree::{Items, Kind, Name, OdeItem, Op, Sym, Var, same_op};

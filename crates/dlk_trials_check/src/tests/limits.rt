@@ -162,6 +162,7 @@ fn keeps_to_sizes_of_formulas(rt: HostRuntime) -> Result<(), Fail> {
         let step = format!(in alloc; "{number} subst {fact} f()~>f()+f()\n")?;
         term.extend_from_slice(step.as_bytes())?;
     }
+    term.extend_from_slice(b"done\n")?;
     let (status, reply) = checked(alloc, b"true", &term)?;
     assert_eq!(rt; status, 2);
     assert_eq!(rt;

@@ -12,8 +12,8 @@ fn exports_leaves(rt: HostRuntime) -> Result<(), Fail> {
     for (model, term, status, printed) in [
         // examples/increment
         (
-            "x>=0 -> [x:=x+1;]x>=1\n",
-            "1 start ==> x>=0 -> [x:=x+1;]x>=1\n2 apply 1 1 implyR(1)\n3 axiom assignb\n4 rename 3 x_ x\n5 subst 4 f()~>x+1,p(._0)~>._0>=1\n6 rule CE\n7 subst 6 p(||)~>[x:=x+1;]x>=1,q(||)~>x+1>=1,C{_}~>_\n8 merge 7 1 5\n9 apply 2 1 cutR(1,x+1>=1)\n10 apply 9 2 coHideR(1)\n11 apply 10 2 equivifyR(1)\n12 apply 11 2 commuteEquivR(1)\n13 merge 12 2 8\n14 leaf x>=0 ==> x+1>=1\n15 merge 13 1 14\ndone\n",
+            INCREMENT_MODEL,
+            INCREMENT_TERM,
             0,
             "; leaf 1\n(set-logic NRA)\n(declare-const |v.x| Real)\n(assert (>= |v.x| 0.0))\n(assert (not (>= (+ |v.x| 1.0) 1.0)))\n(check-sat)\n",
         ),

@@ -177,21 +177,11 @@ fn refuses_long_strategies_and_terms(rt: HostRuntime) -> Result<(), Fail> {
 #[test]
 fn uses_axioms_inside(rt: HostRuntime) -> Result<(), Fail> {
     let alloc = rt.alloc();
-    let (status, printed, term) = proof(
-        &rt,
-        alloc,
-        "x>=0 -> [x:=x+1;]x>=1",
-        "implyR(1); useAt(assignb,1); leaf",
-    )?;
+    let strategy = "implyR(1); useAt(assignb,1); leaf";
+    let (status, printed, term) = proof(&rt, alloc, INCREMENT_MODEL, strategy)?;
     assert_eq!(rt; status, 0);
-    assert_eq!(rt;
-        printed.as_slice(),
-        b"closed\nconclusion ==> x>=0 -> [x:=x+1;]x>=1\ngoals 0\nleaves 1\nleaf 1 x>=0 ==> x+1>=1\nlines 15\n".as_slice()
-    );
-    assert_eq!(rt;
-        term.as_slice(),
-        b"1 start ==> x>=0 -> [x:=x+1;]x>=1\n2 apply 1 1 implyR(1)\n3 axiom assignb\n4 rename 3 x_ x\n5 subst 4 f()~>x+1,p(._0)~>._0>=1\n6 rule CE\n7 subst 6 p(||)~>[x:=x+1;]x>=1,q(||)~>x+1>=1,C{_}~>_\n8 merge 7 1 5\n9 apply 2 1 cutR(1,x+1>=1)\n10 apply 9 2 coHideR(1)\n11 apply 10 2 equivifyR(1)\n12 apply 11 2 commuteEquivR(1)\n13 merge 12 2 8\n14 leaf x>=0 ==> x+1>=1\n15 merge 13 1 14\ndone\n".as_slice()
-    );
+    assert_eq!(rt; printed.as_slice(), INCREMENT_REPORT.as_bytes());
+    assert_eq!(rt; term.as_slice(), INCREMENT_TERM.as_bytes());
     Ok(())
 }
 
