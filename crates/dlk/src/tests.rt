@@ -20,7 +20,23 @@ fn words_of(alloc: Global, texts: &[&str]) -> Result<Vec<String>, AllocError> {
     Ok(words)
 }
 
-/// A desk with a model and a term, which moves so many bytes a call and fails at these calls.
+/// A desk with these files, which moves so many bytes a call and fails at these calls.
+fn desk_with(
+    alloc: Global,
+    named: &[(&str, &[u8])],
+    chunk: usize,
+    fails: &[u64],
+) -> Result<MemoryDesk, AllocError>
+    requires { 1 ≤ chunk }
+{
+    let mut files = Vec::new(alloc);
+    for (name, bytes) in named {
+        files.push((String::from_str(alloc, name)?, bytes.to_vec(alloc)?))?;
+    }
+    Ok(MemoryDesk::new(alloc, files, chunk, fails.to_vec(alloc)?))
+}
+
+/// The same with a model and a term.
 fn desk_of(
     alloc: Global,
     model: &[u8],
@@ -30,10 +46,7 @@ fn desk_of(
 ) -> Result<MemoryDesk, AllocError>
     requires { 1 ≤ chunk }
 {
-    let mut files = Vec::new(alloc);
-    files.push((String::from_str(alloc, "model")?, model.to_vec(alloc)?))?;
-    files.push((String::from_str(alloc, "term")?, term.to_vec(alloc)?))?;
-    Ok(MemoryDesk::new(alloc, files, chunk, fails.to_vec(alloc)?))
+    desk_with(alloc, &[("model", model), ("term", term)], chunk, fails)
 }
 
 /// The status of a run of the program with these words.
@@ -67,6 +80,17 @@ fn runs_each_command(rt: HostRuntime) -> Result<(), Fail> {
             &["subst", "model", "model"].as_slice(),
             2,
             "refused: subst at 1: syntax\n",
+        ),
+        (&["smt", "model", "term"].as_slice(), 1, ""),
+        (
+            &["prove", "model", "term", "out"].as_slice(),
+            2,
+            "refused: strategy at 0: syntax\n",
+        ),
+        (
+            &["gen", "1"].as_slice(),
+            0,
+            "generated 1\nlines 15\nleaves 1\nclosed\n",
         ),
     ] {
         let mut desk = desk_of(alloc, b"x>=0", b"1 start ==> x>=0\ndone\n", 7, &[])?;
@@ -216,6 +240,66 @@ fn reads_one_byte_past_a_limit(rt: HostRuntime) -> Result<(), Fail> {
             "call {call}"
         );
         assert_eq!(rt; desk.printed(), printed.as_bytes(), "call {call}");
+    }
+    Ok(())
+}
+
+/// The term that `prove` writes of `examples/increment`.
+const TERM: &str =
+    "1 start ==> x>=0 -> [x:=x+1;]x>=1\n2 apply 1 1 implyR(1)\n3 axiom assignb\n4 rename 3 x_ x\n5 subst 4 f()~>x+1,p(._0)~>._0>=1\n6 rule CE\n7 subst 6 p(||)~>[x:=x+1;]x>=1,q(||)~>x+1>=1,C{_}~>_\n8 merge 7 1 5\n9 apply 2 1 cutR(1,x+1>=1)\n10 apply 9 2 coHideR(1)\n11 apply 10 2 equivifyR(1)\n12 apply 11 2 commuteEquivR(1)\n13 merge 12 2 8\n14 leaf x>=0 ==> x+1>=1\n15 merge 13 1 14\ndone\n";
+
+/// What it prints.
+const REPORT: &str =
+    "closed\nconclusion ==> x>=0 -> [x:=x+1;]x>=1\ngoals 0\nleaves 1\nleaf 1 x>=0 ==> x+1>=1\nlines 15\n";
+
+/// So many pieces of seven bytes from the front of a text, or all of it.
+fn front(text: &str, pieces: usize) -> &[u8] {
+    let bytes = text.as_bytes();
+    bytes.get(..pieces.saturating_mul(7)).unwrap_or(bytes)
+}
+
+/// `prove` with pieces of seven bytes, while each call in turn fails. Five calls read the model, of 21 bytes: one begins, three move bytes, and one
+/// meets the end. Seven read the strategy, of 33. The 13th begins to write the term. Each that follows moves a piece, first of the term
+/// and then of the report. The last turn has one call more than there are, so none fails.
+#[test]
+fn proves_while_each_call_fails(rt: HostRuntime) -> Result<(), Fail> {
+    let alloc = rt.alloc();
+    let model = b"x>=0 -> [x:=x+1;]x>=1".as_slice();
+    let strategy = b"implyR(1); useAt(assignb,1); leaf".as_slice();
+    let written = TERM.len().div_ceil(7);
+    let last = REPORT
+        .len()
+        .div_ceil(7)
+        .saturating_add(written)
+        .saturating_add(13);
+    for call in 1..=last.saturating_add(1) {
+        let files = [
+            ("model", model),
+            ("strategy", strategy),
+            ("term", b"old".as_slice()),
+        ];
+        let mut desk = desk_with(alloc, &files, 7, &[call as u64])?;
+        let words = ["prove", "model", "strategy", "term"];
+        let status = status_of(alloc, &words, &mut desk)?;
+        let due = if call < 13 {
+            4
+        } else if call <= last {
+            5
+        } else {
+            0
+        };
+        assert_eq!(rt; status, due, "call {call}");
+        let moved = call.saturating_sub(14);
+        let file = if call < 14 {
+            b"old".as_slice()
+        } else {
+            front(TERM, moved)
+        };
+        assert_eq!(rt; desk.file("term"), Some(file), "call {call}");
+        let printed = front(REPORT, moved.saturating_sub(written));
+        assert_eq!(rt; desk.printed(), printed, "call {call}");
+        assert_eq!(rt; desk.file("model"), Some(model), "call {call}");
+        assert_eq!(rt; desk.file("strategy"), Some(strategy), "call {call}");
     }
     Ok(())
 }

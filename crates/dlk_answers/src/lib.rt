@@ -15,6 +15,3 @@ pub use command::{Command, output};
 pub use fault::NoReply;
 pub use form::{Form, Last, Role};
 pub use reply::{Layout, Reply, Showing, Status};
-
-#[cfg(test)]
-mod tests;

@@ -1,0 +1,5 @@
+//! Trials of `check` and `report`.
+#![tactic(auto)]
+
+#[cfg(test)]
+mod tests;

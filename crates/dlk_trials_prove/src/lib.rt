@@ -1,0 +1,5 @@
+//! Trials of `prove`, `gen` and `smt`.
+#![tactic(auto)]
+
+#[cfg(test)]
+mod tests;

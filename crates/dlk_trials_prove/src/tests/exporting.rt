@@ -1,0 +1,72 @@
+// What `smt` answers.
+use super::*;
+
+/// What `smt` answers to the bytes of a model and of a term.
+fn exported(alloc: Global, model: &[u8], term: &[u8]) -> Result<(u8, Reply), NoReply> {
+    replied(alloc, &["smt", "model", "term"], &[model, term])
+}
+
+#[test]
+fn exports_leaves(rt: HostRuntime) -> Result<(), Fail> {
+    let alloc = rt.alloc();
+    for (model, term, status, printed) in [
+        // examples/increment
+        (
+            INCREMENT_MODEL,
+            INCREMENT_TERM,
+            0,
+            "; leaf 1\n(set-logic NRA)\n(declare-const |v.x| Real)\n(assert (>= |v.x| 0.0))\n(assert (not (>= (+ |v.x| 1.0) 1.0)))\n(check-sat)\n",
+        ),
+        // a power
+        (
+            "x^2>=0",
+            "1 leaf ==> x^2>=0\ndone\n",
+            0,
+            "; leaf 1\n(set-logic NRA)\n(declare-const |v.x| Real)\n(assert (not (>= (let ((|e| |v.x|)) (* |e| |e|)) 0.0)))\n(check-sat)\n",
+        ),
+        // a power that has no text
+        (
+            "x^y>=0",
+            "1 leaf ==> x^y>=0\ndone\n",
+            2,
+            "refused: leaf 1: power\n",
+        ),
+        // goals are left, and no leaves
+        ("x>=0", "1 start ==> x>=0\ndone\n", 1, ""),
+        // what `check` refuses
+        ("x>=0 & -> y>0", "", 2, "refused: model at 7: syntax\n"),
+        ("x>=0", "", 2, "refused: line 1: NoEnd\n"),
+        (
+            "x>=1",
+            "1 start ==> x>=0\ndone\n",
+            2,
+            "refused: other-conclusion 1\nexpected ==> x>=1\nfound ==> x>=0\n",
+        ),
+    ] {
+        let (found, reply) = exported(alloc, model.as_bytes(), term.as_bytes())?;
+        assert_eq!(rt; reply.printed.as_slice(), printed.as_bytes(), "{model}");
+        assert_eq!(rt; found, status, "{model}");
+    }
+    Ok(())
+}
+
+#[test]
+fn exports_leaf_by_leaf(rt: HostRuntime) -> Result<(), Fail> {
+    let alloc = rt.alloc();
+    let model: &[u8] = b"v>=0 & A>0 -> [{{a:=A;++a:=0;}{x'=v,v'=a&v>=0}}*@invariant(v>=0)]v>=0";
+    let strategy: &[u8] =
+        b"implyR(1); boxCut(\"v>=0\",1); <(cutR(\"v>=0\",1); <(nil, useAt(I,1); G(1); implyR(1)), nil); <(leaf, useAt(composeb,1); useAt(choiceb,1); andR(1); useAt(assignb,1); useAt(DWeq,1); G(1); implyR(1); leaf, leaf)";
+    let (_, proved) = replied(
+        alloc,
+        &["prove", "model", "strategy", "term"],
+        &[model, strategy],
+    )?;
+    let term = proved.written.unwrap_or(Vec::new(alloc));
+    let (status, reply) = exported(alloc, model, &term)?;
+    assert_eq!(rt; status, 0);
+    assert_eq!(rt;
+        reply.printed.as_slice(),
+        b"; leaf 1\n(set-logic NRA)\n(declare-const |v.A| Real)\n(declare-const |v.v| Real)\n(assert (and (>= |v.v| 0.0) (> |v.A| 0.0)))\n(assert (not (>= |v.v| 0.0)))\n(check-sat)\n; leaf 2\n(reset)\n(set-logic NRA)\n(declare-const |v.v| Real)\n(assert (>= |v.v| 0.0))\n(assert (not (>= |v.v| 0.0)))\n(check-sat)\n".as_slice()
+    );
+    Ok(())
+}

@@ -1,0 +1,317 @@
+// What `prove` answers, and the terms that it writes.
+use super::*;
+use std::process::Abort;
+
+/// What `prove` answers to the bytes of a model and of a strategy.
+fn proved(alloc: Global, model: &[u8], strategy: &[u8]) -> Result<(u8, Reply), NoReply> {
+    replied(
+        alloc,
+        &["prove", "model", "strategy", "term"],
+        &[model, strategy],
+    )
+}
+
+/// The status and the report of a proof, and the lines of its term. `check` must say the same of the term.
+pub(super) fn proof(
+    rt: &impl Abort,
+    alloc: Global,
+    model: &str,
+    strategy: &str,
+) -> Result<(u8, Vec<u8>, Vec<u8>), NoReply> {
+    let (status, reply) = proved(alloc, model.as_bytes(), strategy.as_bytes())?;
+    let term = reply.written.unwrap_or(Vec::new(alloc));
+    let (checked_status, checked_reply) = checked(alloc, model.as_bytes(), &term)?;
+    assert_eq!(rt; checked_status, status, "{model} by {strategy}");
+    assert_eq!(rt;
+        checked_reply.printed.as_slice(),
+        reply.printed.as_slice(),
+        "{model} by {strategy}"
+    );
+    Ok((status, reply.printed, term))
+}
+
+#[test]
+fn writes_terms(rt: HostRuntime) -> Result<(), Fail> {
+    let alloc = rt.alloc();
+    for (model, strategy, status, printed, term) in [
+        (
+            "x>=0 -> x>=0",
+            "implyR(1); close",
+            0,
+            "closed\nconclusion ==> x>=0 -> x>=0\ngoals 0\nleaves 0\nlines 3\n",
+            TERM,
+        ),
+        // nothing is found, and a failed alternative leaves no line
+        (
+            "x>=0",
+            "(implyR(1)|andR(1))*1000",
+            1,
+            "open\nconclusion ==> x>=0\ngoals 1\ngoal 1 ==> x>=0\nleaves 0\nlines 1\n",
+            "1 start ==> x>=0\ndone\n",
+        ),
+        (
+            "x>=0",
+            "((((nil*0)*1000)*1000)*1000)*1000",
+            1,
+            "open\nconclusion ==> x>=0\ngoals 1\ngoal 1 ==> x>=0\nleaves 0\nlines 1\n",
+            "1 start ==> x>=0\ndone\n",
+        ),
+        // each part runs on all goals, and a leaf is listed once
+        (
+            "(x>=0 -> x+1>=0)&(x>=0 -> x+1>=0)",
+            "andR(1); implyR(1); leaf",
+            0,
+            "closed\nconclusion ==> (x>=0 -> x+1>=0)&(x>=0 -> x+1>=0)\ngoals 0\nleaves 1\nleaf 1 x>=0 ==> x+1>=0\nlines 8\n",
+            "1 start ==> (x>=0 -> x+1>=0)&(x>=0 -> x+1>=0)\n2 apply 1 1 andR(1)\n3 apply 2 1 implyR(1)\n4 apply 3 2 implyR(1)\n5 leaf x>=0 ==> x+1>=0\n6 merge 4 1 5\n7 leaf x>=0 ==> x+1>=0\n8 merge 6 1 7\ndone\n",
+        ),
+        // a failed alternative's lines are taken back
+        (
+            "x>=0 -> x>=0",
+            " /* by hand */ (implyR(1); andR(1)) | (implyR(1); close)\n",
+            0,
+            "closed\nconclusion ==> x>=0 -> x>=0\ngoals 0\nleaves 0\nlines 3\n",
+            TERM,
+        ),
+        // branches, places on the left and quoted formulas
+        (
+            "(a>0 -> b>0)&(b>0 -> c>0) -> (a>0 -> c>0)",
+            "implyR(1); implyR(1); andL(-1); implyL(-1); <(close, implyL(-3); close)",
+            0,
+            "closed\nconclusion ==> (a>0 -> b>0)&(b>0 -> c>0) -> a>0 -> c>0\ngoals 0\nleaves 0\nlines 9\n",
+            "1 start ==> (a>0 -> b>0)&(b>0 -> c>0) -> a>0 -> c>0\n2 apply 1 1 implyR(1)\n3 apply 2 1 implyR(1)\n4 apply 3 1 andL(1)\n5 apply 4 1 implyL(1)\n6 apply 5 1 close(1,2)\n7 apply 6 1 implyL(3)\n8 apply 7 1 close(1,2)\n9 apply 8 1 close(3,1)\ndone\n",
+        ),
+        (
+            "x>=0 -> \\forall x (x>=0 -> x>=0)",
+            "implyR('R); boundR(z,1); skolemR(1); implyR(1); cut(\"z>=1\"); <(hideL(-3), coHideR(2)); nil",
+            1,
+            "open\nconclusion ==> x>=0 -> \\forall x (x>=0 -> x>=0)\ngoals 2\ngoal 1 x>=0, z>=0 ==> z>=0\ngoal 2 ==> z>=1\nleaves 0\nlines 8\n",
+            "1 start ==> x>=0 -> \\forall x (x>=0 -> x>=0)\n2 apply 1 1 implyR(1)\n3 apply 2 1 boundR(1,z)\n4 apply 3 1 skolemR(1)\n5 apply 4 1 implyR(1)\n6 apply 5 1 cut(z>=1)\n7 apply 6 1 hideL(3)\n8 apply 7 2 coHideR(2)\ndone\n",
+        ),
+    ] {
+        let (found, report, lines) = proof(&rt, alloc, model, strategy)?;
+        assert_eq!(rt; found, status, "{model} by {strategy}");
+        assert_eq!(rt;
+            report.as_slice(),
+            printed.as_bytes(),
+            "{model} by {strategy}"
+        );
+        assert_eq!(rt; lines.as_slice(), term.as_bytes(), "{model} by {strategy}");
+    }
+    Ok(())
+}
+
+#[test]
+fn refuses_strategies(rt: HostRuntime) -> Result<(), Fail> {
+    let alloc = rt.alloc();
+    for (model, strategy, printed) in [
+        // the model comes first
+        ("x>=0 & -> y>0", "(nil", "refused: model at 7: syntax\n"),
+        ("x>=0", "(nil", "refused: strategy at 4: syntax\n"),
+        ("x>=0", "nil*1001", "refused: strategy at 4: repeat\n"),
+        ("x>=0", "foo(1)", "refused: strategy at 0: unknown\n"),
+        (
+            "x>=0",
+            "nil; implyR(x)",
+            "refused: strategy at 5: arguments\n",
+        ),
+        (
+            "x>=0",
+            "nil; implyR(1)",
+            "refused: fails at 5: WrongShape\n",
+        ),
+        ("x>=0", "implyR(2)", "refused: fails at 0: NoPlace\n"),
+        ("x>=0", "implyR(1.0)", "refused: fails at 0: NoPlace\n"),
+        ("x>=0", "implyR(-1)", "refused: fails at 0: NoPlace\n"),
+        ("x>=0", "close", "refused: fails at 0: NotEqual\n"),
+        ("[x:=1;]x>=0", "leaf", "refused: fails at 0: NotArith\n"),
+        // the last alternative's fault, and the last place's
+        (
+            "x>=0",
+            "implyR(1)|close",
+            "refused: fails at 10: NotEqual\n",
+        ),
+        ("x>=0", "andL('L)", "refused: fails at 0: NoPlace\n"),
+        (
+            "x>=0",
+            "nil; <(nil, nil)",
+            "refused: fails at 5: WrongCount\n",
+        ),
+        ("x>=0", "((nil*1000)*1000)*1000", "refused: budget at 2\n"),
+    ] {
+        let (status, reply) = proved(alloc, model.as_bytes(), strategy.as_bytes())?;
+        assert_eq!(rt; status, 2, "{model} by {strategy}");
+        assert_eq!(rt;
+            reply.printed.as_slice(),
+            printed.as_bytes(),
+            "{model} by {strategy}"
+        );
+        assert!(rt; reply.written.is_none(), "{model} by {strategy}");
+    }
+    Ok(())
+}
+
+#[test]
+fn refuses_long_strategies_and_terms(rt: HostRuntime) -> Result<(), Fail> {
+    let alloc = rt.alloc();
+    let (status, reply) = proved(alloc, b"x>=0", &padded(alloc, "nil", 1_048_577)?)?;
+    assert_eq!(rt; status, 2);
+    assert_eq!(rt;
+        reply.printed.as_slice(),
+        b"refused: too-long strategy\n".as_slice()
+    );
+    let (status, _) = proved(alloc, b"x>=0", &padded(alloc, "nil", 1_048_576)?)?;
+    assert_eq!(rt; status, 1);
+
+    let name = repeated(alloc, "a", 300_000)?;
+    let strategy = joined(alloc, b"cut(\"", &name, b">=0\")*255")?;
+    let (status, reply) = proved(alloc, b"x>=0", &strategy)?;
+    assert_eq!(rt; status, 2);
+    assert_eq!(rt;
+        reply.printed.as_slice(),
+        b"refused: term-too-long 76506183\n".as_slice()
+    );
+    assert!(rt; reply.written.is_none());
+    Ok(())
+}
+
+#[test]
+fn uses_axioms_inside(rt: HostRuntime) -> Result<(), Fail> {
+    let alloc = rt.alloc();
+    let strategy = "implyR(1); useAt(assignb,1); leaf";
+    let (status, printed, term) = proof(&rt, alloc, INCREMENT_MODEL, strategy)?;
+    assert_eq!(rt; status, 0);
+    assert_eq!(rt; printed.as_slice(), INCREMENT_REPORT.as_bytes());
+    assert_eq!(rt; term.as_slice(), INCREMENT_TERM.as_bytes());
+    Ok(())
+}
+
+#[test]
+fn uses_each_form(rt: HostRuntime) -> Result<(), Fail> {
+    let alloc = rt.alloc();
+    for (model, strategy, status, printed) in [
+        // a car's loop, by what `loop` and `dW` stand for
+        (
+            "v>=0 & A>0 -> [{{a:=A;++a:=0;}{x'=v,v'=a&v>=0}}*@invariant(v>=0)]v>=0",
+            "implyR(1); boxCut(\"v>=0\",1); <(cutR(\"v>=0\",1); <(nil, useAt(I,1); G(1); implyR(1)), nil); <(leaf, useAt(composeb,1); useAt(choiceb,1); andR(1); useAt(assignb,1); useAt(DWeq,1); G(1); implyR(1); leaf, leaf)",
+            0,
+            "closed\nconclusion ==> v>=0&A>0 -> [{{a:=A;++a:=0;}{x'=v,v'=a&v>=0}}*]v>=0\ngoals 0\nleaves 2\nleaf 1 v>=0&A>0 ==> v>=0\nleaf 2 v>=0 ==> v>=0\nlines 104\n",
+        ),
+        (
+            "[x:=*;]x>=0",
+            "useAt(randomb,1); skolemR(1); leaf",
+            0,
+            "closed\nconclusion ==> [x:=*;]x>=0\ngoals 0\nleaves 1\nleaf 1 ==> x>=0\nlines 15\n",
+        ),
+        // on the left, and from right to left
+        (
+            "[x:=1;]x>=1 -> true",
+            "implyR(1); useAt(assignb,-1); closeTrue(1)",
+            0,
+            "closed\nconclusion ==> [x:=1;]x>=1 -> true\ngoals 0\nleaves 0\nlines 13\n",
+        ),
+        (
+            "x>=0 -> y>=0",
+            "useBack(testb,1)",
+            1,
+            "open\nconclusion ==> x>=0 -> y>=0\ngoals 1\ngoal 1 ==> [?x>=0;]y>=0\nleaves 0\nlines 10\n",
+        ),
+        // terms, and terms under a condition
+        (
+            "(x+1)'>=0",
+            "useAt(Dplus,1.0)",
+            1,
+            "open\nconclusion ==> (x+1)'>=0\ngoals 1\ngoal 1 ==> (x)'+(1)'>=0\nleaves 0\nlines 15\n",
+        ),
+        (
+            "(x^2)'>=0",
+            "useAt(Dpow,1.0)",
+            1,
+            "open\nconclusion ==> (x^2)'>=0\ngoals 1\ngoal 1 ==> 2*x^(2-1)*(x)'>=0\nleaves 1\nleaf 1 ==> 2!=0\nlines 20\n",
+        ),
+        // formulas under a condition, with a pair that is given
+        (
+            "[{x'=1&x>=0}]x>=0",
+            "useAt(DC,1,\"r(||)~>x>=-1\")",
+            1,
+            "open\nconclusion ==> [{x'=1&x>=0}]x>=0\ngoals 2\ngoal 1 ==> [{x'=1&x>=0&x>=-1}]x>=0\ngoal 2 ==> [{x'=1&x>=0}]x>=-1\nleaves 0\nlines 15\n",
+        ),
+        // an implication on the left, with a name that is given; and a fact
+        (
+            "x>=0 -> true",
+            "implyR(1); useAt(allvac,-1,\"x_~~y\")",
+            1,
+            "open\nconclusion ==> x>=0 -> true\ngoals 1\ngoal 1 \\forall y x>=0 ==> true\nleaves 0\nlines 8\n",
+        ),
+        (
+            "x+1=x+1",
+            "useAt(eqrefl,1)",
+            0,
+            "closed\nconclusion ==> x+1=x+1\ngoals 0\nleaves 0\nlines 5\n",
+        ),
+        // boxes
+        (
+            "[x:=1;]true",
+            "G(1); closeTrue(1)",
+            0,
+            "closed\nconclusion ==> [x:=1;]true\ngoals 0\nleaves 0\nlines 6\n",
+        ),
+        (
+            "[x:=1;]x>=0",
+            "boxCut(\"x>=1\",1)",
+            1,
+            "open\nconclusion ==> [x:=1;]x>=0\ngoals 2\ngoal 1 ==> [x:=1;]x>=1\ngoal 2 x>=1 ==> x>=0\nleaves 0\nlines 11\n",
+        ),
+    ] {
+        let (found, report, _) = proof(&rt, alloc, model, strategy)?;
+        assert_eq!(rt;
+            report.as_slice(),
+            printed.as_bytes(),
+            "{model} by {strategy}"
+        );
+        assert_eq!(rt; found, status, "{model} by {strategy}");
+    }
+    Ok(())
+}
+
+#[test]
+fn refuses_uses(rt: HostRuntime) -> Result<(), Fail> {
+    let alloc = rt.alloc();
+    for (model, strategy, why) in [
+        ("x>=0", "useAt(nope,1)", "UnknownName"),
+        ("x>=0", "useAt(nope,'L)", "NoPlace"),
+        ("x>=0", "useAt(nope,7)", "UnknownName"),
+        ("[x:=1;]x>=1", "useAt(assignb,2)", "NoPlace"),
+        ("[x:=1;]x>=1", "useAt(assignb,1.2)", "NoPlace"),
+        ("x>=0", "useAt(assignb,1)", "NoMatch"),
+        ("x>=0", "useBack(V,1)", "NoMatch"),
+        // a form that wants a whole formula, and one on the right
+        ("[{x'=1&x>=0}]x>=0", "useAt(DW,1.1)", "NoMatch"),
+        ("[{x'=1&x>=0}]x>=0", "useAt(eqcongr,1)", "NoMatch"),
+        // a name that is another one of the axiom's own
+        ("[{t_'=1}]t_>=0", "useAt(DS,1)", "NoMatch"),
+        // names that aren't the axiom's, or are given twice
+        ("[x:=1;]x>=1", "useAt(assignb,1,\"y_~~x\")", "NoMatch"),
+        ("[x:=1;]x>=1", "useAt(assignb,1,\"x_~~x,x_~~x\")", "NoMatch"),
+        // a bad pair, and a substitution that isn't admissible
+        (
+            "[{x'=x}]x>0",
+            "useAt(DG,1,\"y_~~y,term a(|y|)~>y,term b(|y|)~>0\")",
+            "IllSubst",
+        ),
+        ("[x:=1;]x>0", "useAt(V,1)", "NotAdmissible"),
+        ("x>=0", "G(1)", "WrongShape"),
+        ("[x:=1;]x>=1", "G(-1)", "NoPlace"),
+        ("[x:=1;]x>=1", "G(1.1)", "NoPlace"),
+        ("x>=0", "boxCut(\"x>=1\",1)", "WrongShape"),
+    ] {
+        let (status, reply) = proved(alloc, model.as_bytes(), strategy.as_bytes())?;
+        let printed = format!(in alloc; "refused: fails at 0: {why}\n")?;
+        assert_eq!(rt;
+            reply.printed.as_slice(),
+            printed.as_bytes(),
+            "{model} by {strategy}"
+        );
+        assert_eq!(rt; status, 2, "{model} by {strategy}");
+    }
+    Ok(())
+}

@@ -1,0 +1,5 @@
+//! Trials of `print`, `vars` and `subst`.
+#![tactic(auto)]
+
+#[cfg(test)]
+mod tests;
