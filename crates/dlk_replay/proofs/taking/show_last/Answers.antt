@@ -9,7 +9,8 @@ use Rattle.dlk_replay.proofs.taking.show_last.Goals as goal
 pub returns : goal.returns
 returns g c =
     let trees = g.S.Store.trees c.args.kernel.now.store in
+    let rows = facts g.S.Store.trees c.args.kernel.now in
     record {
-      seen = sees_last g.W.Watcher.after (facts g.S.Store.trees c.args.kernel.now) (step_at trees c.args.step.now) c.args.watcher.now c.see.new.self c.rows-row.result
+      seen = sees_last g.W.Watcher.after rows (step_at trees c.args.step.now) c.args.watcher.now c.see.new.self c.rows-row.result
           (sequent_at trees c.conclusion.result.now) (c.rows-row.ensures.count ∙ sym (length-map _ _)) c.conclusion.ensures.conclusion c.in_ok-see.ensures.ok;
     }
