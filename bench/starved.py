@@ -20,6 +20,7 @@ LIBRARY = r"""
 #include <dlfcn.h>
 #include <errno.h>
 #include <stdlib.h>
+#include <unistd.h>
 static long calls, first, last;
 static int refused(void) {
   if (!first) {
@@ -29,6 +30,7 @@ static int refused(void) {
   }
   calls++;
   if (calls < first || calls > last) return 0;
+  if (write(2, "refused\n", 8) < 0) abort();
   errno = ENOMEM;
   return 1;
 }
@@ -73,6 +75,10 @@ CASES = (
     ("a big argument below a quantifier", "subst", (f"p({DOUBLED})\n", "f(._0)~>._0+._0, p(._0)~>\\exists z z>._0\n")),
 )
 SILENT = (4, 6, 7)
+# the tests of the program as a program, where `rt test` in crates/dlk has built it; and one that says of each run over a desk in memory
+# whether it keeps its word
+TESTS = pathlib.Path(os.environ.get("DLK_TESTS", PROGRAM.with_name("dlk_tests")))
+TEST = "tests::starving::answers_whole_or_nothing"
 
 
 class Ended(typing.NamedTuple):
@@ -122,6 +128,24 @@ def refuse_each(title, words, output, library):
     print(f"{title}: " + ", ".join(f"{answer} {count} times" for answer, count in sorted(answers.items())), flush=True)
 
 
+def refuse_each_of_test(library):
+    """Refuses each allocation of the test in turn. It must pass, or want memory itself, before or behind a run of the program."""
+    answers = collections.Counter()
+    number, is_refused = 0, True
+    while is_refused:
+        number += 1
+        limits = {"REFUSE_FROM": str(number), "REFUSE_TO": str(number), "LD_PRELOAD": str(library)}
+        run = subprocess.run([TESTS, TEST], capture_output=True, check=False, env={**os.environ, **limits})
+        is_refused = b"refused" in run.stderr
+        if run.returncode == 0:
+            answers["each run keeps its word"] += 1
+        elif b"error: AllocError" in run.stderr:
+            answers["the test itself wants memory"] += 1
+        else:
+            raise SystemExit(f"starved.py: the test, allocation {number}: {(run.stdout + run.stderr)[:200]}")
+    print("a desk in memory: " + ", ".join(f"{answer} {count} times" for answer, count in sorted(answers.items())), flush=True)
+
+
 def main():
     """Prints for each case how often each status came."""
     with tempfile.TemporaryDirectory() as name:
@@ -135,6 +159,8 @@ def main():
                 path.write_text(text)
             output = folder / "output"
             refuse_each(title, [PROGRAM, verb, *inputs, *[output] * (verb == "prove")], output, library)
+        if TESTS.exists():
+            refuse_each_of_test(library)
 
 
 if __name__ == "__main__":
