@@ -97,7 +97,3 @@ whole_guards one_verdict words status old new reply gives model term said runs l
     let few : code_of reply.status < 2 = omega (arith, less, gives.status_is) in
     subst (λ (n : ℕ). IsGuarded model term n said) (sym gives.status_is)
     (subst (λ (x : List ℕ). IsGuarded model term (code_of reply.status) x) same (answer_guards one_verdict model term words old reply gives.answer runs few))
-
--- with another status nothing is said
-pub fault_guards : (words : List Word) (status : ℕ) (old new : Outside) → 2 < status → GuardsTruly words status old new
-fault_guards words status old new high model term said runs less says = absurd (omega (arith, less, high))

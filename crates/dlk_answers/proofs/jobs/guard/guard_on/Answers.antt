@@ -5,13 +5,13 @@ use Rattle.std.proofs.lemmas.Result.{IfOk-weaker}
 use Rattle.dlk_store.specs.Stores.{tree}
 use Rattle.dlk_kernel.specs.Kernel.{facts, provable_at}
 use Rattle.dlk_guard.specs.Guarded.{lines}
-use Rattle.dlk_guard.specs.Watched.{after_all, watched, watch_of}
+use Rattle.dlk_guard.specs.Watched.{after_all, watched}
 use Rattle.dlk_answers.specs.declared.form.Role.TheVariants.{Model}
 use Rattle.dlk_answers.specs.declared.reply.Layout.TheVariants.{Text}
 use Rattle.dlk_answers.specs.declared.reply.Showing.TheVariants.{Reported}
 use Rattle.dlk_answers.specs.declared.reply.Status.TheVariants.{Refused}
 use Rattle.dlk_answers.specs.Refused.{IsTextRefused}
-use Rattle.dlk_answers.specs.Checks.{Checks, ModelFault, line_refused}
+use Rattle.dlk_answers.specs.Checks.{ModelFault, line_refused}
 use Rattle.dlk_answers.specs.Guards.{Guards, refuses, with_line_first}
 use Rattle.dlk_answers.specs.Verdicts.{line_of}
 use Rattle.dlk_answers.specs.Shown.{reply_of}
