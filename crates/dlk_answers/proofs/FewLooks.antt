@@ -1,25 +1,19 @@
 -- How many nodes `subst` looks at where it refuses what a substitution makes.
-use Rattle.std.proofs.Common.{◌≡◌, ℕ, ◌+◌, ◌*◌, ◌-◌, ◌^◌, ◌<◌, ◌≤◌, ◌⊎◌, inl, inr, min, List, [], ◌∷◌, length, None, Some, refl, sym, ap, subst, ◌∙◌, arith}
+use Rattle.std.proofs.Common.{◌≡◌, ℕ, ◌+◌, ◌*◌, ◌≤◌, inl, inr, List, length, sym, ap, subst, ◌∙◌, arith}
 use Rattle.std.proofs.lemmas.List.{length-map}
-use Rattle.dlk_tree.specs.Trees.{Tree, size, depth}
-use Rattle.dlk_calculus.specs.Pairs.{Pair, IsWellFormed}
-use Rattle.dlk_calculus.specs.Subst.{Subst}
-use Rattle.dlk_calculus.specs.Limits.{most_nodes, greatest_depth}
+use Rattle.dlk_tree.specs.Trees.{Tree}
+use Rattle.dlk_calculus.specs.Pairs.{Pair}
 use Rattle.dlk_grammar.specs.declared.token.Dots.TheVariants.{Refused}
 use Rattle.dlk_grammar.specs.declared.token.Form.TheVariants.{Expression}
 use Rattle.dlk_machine.proofs.TextLaws.{one_tree_text, one_pairs_text}
-use Rattle.dlk_store.specs.Stores.{tree}
-use Rattle.dlk_store.specs.declared.Id.{Id}
 use Rattle.dlk_sequent.specs.declared.subst.Pair.{Pair as IdPair}
 use Rattle.dlk_sequent.specs.Substitutions.{pair_at, pairs_at}
-use Rattle.dlk_subst.specs.Results.{IsResult}
 use Rattle.dlk_memo.specs.Looks.{most_looks}
 use Rattle.dlk_answers.specs.Replies.{Reply, code_of}
 use Rattle.dlk_answers.specs.Prints.{printed}
 use Rattle.dlk_answers.specs.Substitutes.{AreRead, Substitutes}
 use Rattle.dlk_answers.specs.Looks.{RefusesResult, subst_looks, LooksAtFew}
 use Rattle.dlk_answers.proofs.OneSubstitution.{one_substitution}
-use Rattle.dlk_answers.proofs.SubstAnswers.{prints_answer}
 
 -- without a look
 pub none_looked : (file substitution : List ℕ) (old new : ℕ) → new ≡ old → LooksAtFew file substitution old new

@@ -1,5 +1,5 @@
 -- There is one answer to words and texts.
-use Rattle.std.proofs.Common.{◌≡◌, ℕ, List, [], ◌∷◌, ◌++◌, length, Bool, None, Some, refl, sym, ap, ◌∙◌, subst}
+use Rattle.std.proofs.Common.{◌≡◌, ℕ, List, [], ◌∷◌, length, Bool, None, Some, refl, sym, ap, ◌∙◌, subst}
 use Rattle.dlk_tree.specs.Trees.{Tree}
 use Rattle.dlk_tree.specs.Statics.{free, bound, must}
 use Rattle.dlk_tree.specs.declared.op.Var.{Var}
@@ -8,7 +8,6 @@ use Rattle.dlk_calculus.specs.Provables.{Provable}
 use Rattle.dlk_calculus.specs.Steps.{Step}
 use Rattle.dlk_grammar.specs.declared.token.Dots.TheVariants.{Refused, Allowed}
 use Rattle.dlk_grammar.specs.declared.token.Form.TheVariants.{Formula, Expression}
-use Rattle.dlk_grammar.specs.Texts.{TextFault}
 use Rattle.dlk_machine.proofs.TextLaws.{one_tree_text, tree_or_fault, one_tree_fault}
 use Rattle.dlk_guard.specs.Guarded.{lines, Guarded, FirstUnguarded}
 use Rattle.dlk_replay.specs.Files.{file_lines, Verdict, Answer, accepted, bad, SaySteps}
@@ -18,7 +17,7 @@ use Rattle.dlk_answers.specs.Forms.{Word}
 use Rattle.dlk_answers.specs.Replies.{Reply}
 use Rattle.dlk_answers.specs.declared.form.Role.TheVariants.{Model, File}
 use Rattle.dlk_answers.specs.Refusals.{text_refused}
-use Rattle.dlk_answers.specs.Checks.{Checks, bad_model, bad_line, bad_conclusion, reports, Accepts, ModelText, ModelFault, proves, line_refused, other_conclusion, answered}
+use Rattle.dlk_answers.specs.Checks.{Checks, bad_model, bad_line, bad_conclusion, reports, Accepts, proves, line_refused, other_conclusion, answered}
 use Rattle.dlk_answers.specs.Guards.{Guards, refuses as refuses_term, guards, GuardSays, is_guarded, is_unguarded, unguarded_line, with_line_first}
 use Rattle.dlk_answers.specs.Prints.{Prints, bad_text, prints, printed}
 use Rattle.dlk_answers.specs.Lists.{Lists, lists, bad_text as lists_fault, IsWritten, AreWritten, set_listed, symbols_listed, set_text, signature_text, four_lines}

@@ -1,5 +1,5 @@
 -- From what reading, running and recording a strategy answer to what `prove` answers.
-use Rattle.std.proofs.Common.{◌≡◌, ◌≤◌, ℕ, List, [], ◌∷◌, ◌++◌, length, map, refl, sym, subst, ap, ◌∙◌, inl, inr}
+use Rattle.std.proofs.Common.{◌≡◌, ◌≤◌, ℕ, List, [], ◌∷◌, length, map, refl, sym, subst, ap, ◌∙◌, inl, inr}
 use Rattle.std.specs.Prelude.{min}
 use Rattle.std.proofs.lemmas.Bool.{cases_lt}
 use Rattle.std.proofs.lemmas.List.{length-map}
@@ -17,7 +17,7 @@ use Rattle.dlk_tacsyn.specs.declared.fault.TacSyntax.{TacSyntax}
 use Rattle.dlk_tacsyn.specs.declared.fault.TacSyntax.TheVariants as syntax
 use Rattle.dlk_strategy.specs.declared.fault.RunFault.{RunFault}
 use Rattle.dlk_strategy.specs.declared.fault.RunFault.TheVariants as run
-use Rattle.dlk_strategy.specs.Runs.{Progress, Done, Fails, Budget, RunsModel}
+use Rattle.dlk_strategy.specs.Runs.{Progress, Done, RunsModel}
 use Rattle.dlk_strategy.specs.Ties.{IsRunFaultOf}
 use Rattle.dlk_answers.specs.Replies.{Reply}
 use Rattle.dlk_answers.specs.Checks.{ModelText}

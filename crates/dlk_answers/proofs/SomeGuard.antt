@@ -1,5 +1,5 @@
 -- `guard` answers something where `check` does.
-use Rattle.std.proofs.Common.{◌≡◌, ◌≢◌, ℕ, Bool, true, false, List, length, refl, inl, inr}
+use Rattle.std.proofs.Common.{◌≢◌, ℕ, Bool, true, false, List, length, refl, inl, inr}
 use Rattle.dlk_calculus.specs.Provables.{Provable}
 use Rattle.dlk_guard.specs.Guarded.{lines}
 use Rattle.dlk_replay.specs.Files.{file_lines}

@@ -1,4 +1,4 @@
-use Rattle.std.proofs.Common.{◌≡◌, ◌+◌, ◌≤◌, ℕ, List, length, map, string_bytes, IsTrue, sym, ap, subst, rules}
+use Rattle.std.proofs.Common.{◌+◌, ◌≤◌, ℕ, List, length, map, string_bytes, IsTrue, sym, ap, subst, rules}
 use Rattle.dlk_answers.specs.Forms.{Form, form_of, ends_in}
 use Rattle.dlk_answers.proofs.Fits.{room, others_there, others_end}
 use Rattle.dlk_answers.proofs.command.Command.others.Goals as goal

@@ -1,17 +1,15 @@
-use Rattle.std.proofs.Common.{◌≡◌, ◌≤◌, ℕ, List, length, map, refl, sym, ap, subst, ◌∙◌, arith}
+use Rattle.std.proofs.Common.{map, refl, sym, subst, ◌∙◌, arith}
 use Rattle.std.proofs.lemmas.List.{length-map}
 use Rattle.std.proofs.lemmas.Result.{IfOk-weaker}
 use Rattle.dlk_tree.specs.Trees.{Tree}
 use Rattle.dlk_calculus.specs.Limits.{IsSmall, IsShallow}
 use Rattle.dlk_calculus.specs.Places.{At}
 use Rattle.dlk_calculus.specs.Provables.{Provable}
-use Rattle.dlk_store.specs.Stores.{tree}
 use Rattle.dlk_rules.specs.Steps.{step_at}
 use Rattle.dlk_kernel.specs.Kernel.{facts, provable_at}
 use Rattle.dlk_tacsyn.specs.Ties.{tactic_at}
-use Rattle.dlk_tacsyn.specs.Tactics.{Tactic}
 use Rattle.dlk_strategy.specs.Ties.{progress_at, IsRunFaultOf}
-use Rattle.dlk_strategy.specs.Runs.{Progress, Done, Outcome, RunsModel}
+use Rattle.dlk_strategy.specs.Runs.{Done, RunsModel}
 use Rattle.dlk_answers.specs.declared.form.Role.TheVariants.{Model}
 use Rattle.dlk_answers.specs.Refused.{IsTextRefused}
 use Rattle.dlk_answers.specs.Checks.{ModelFault}
