@@ -1,5 +1,5 @@
 -- What `guard` prints of an accepted term: whether its lines are guarded, and its report.
-use Rattle.std.proofs.Common.{◌≡◌, ◌≢◌, ◌<◌, ℕ, List, [], ◌∷◌, ◌++◌, get_or, None, Some, refl, sym, ap, subst, ◌∙◌, arith}
+use Rattle.std.proofs.Common.{◌≡◌, ◌<◌, ℕ, List, [], ◌∷◌, get_or, None, Some, refl, sym, ap, subst, ◌∙◌, arith}
 use Rattle.std.proofs.lemmas.List.{append_cancel_left}
 use Rattle.dlk_tree.specs.Trees.{Tree}
 use Rattle.dlk_calculus.specs.Provables.{Provable}
@@ -11,7 +11,7 @@ use Rattle.dlk_answers.specs.declared.command.Command.{Command}
 use Rattle.dlk_answers.specs.declared.command.Command.TheVariants.{Guard}
 use Rattle.dlk_answers.specs.declared.reply.Layout.TheVariants.{Text}
 use Rattle.dlk_answers.specs.declared.reply.Showing.TheVariants.{Reported}
-use Rattle.dlk_answers.specs.Forms.{Word, command_of, inputs_of}
+use Rattle.dlk_answers.specs.Forms.{Word, inputs_of}
 use Rattle.dlk_answers.specs.Inputs.{inputs, inputs_of_form}
 use Rattle.dlk_answers.specs.Replies.{Reply, code_of}
 use Rattle.dlk_answers.specs.Checks.{Checks, bad_model, bad_line, bad_conclusion, reports, ModelText, Accepts}
@@ -82,16 +82,19 @@ module _ (one_verdict : OneVerdict) (model term : List ℕ) where
   response_guards words _ (refuses name long) less = absurd (omega (arith, less))
   response_guards words _ (does short r job) less = guard_of r (job_guards _ r job) less
 
-  answer_guards : (words : List Word) (old : Outside) (reply : Reply) → Answers words old.files reply → RunsGuard words old model term → code_of reply.status < 2 →
-      IsGuarded model term (code_of reply.status) reply.printed
+  answer_guards : (words : List Word) (old : Outside) (reply : Reply) → Answers words old.files reply → RunsGuard words old model term →
+      code_of reply.status < 2 → IsGuarded model term (code_of reply.status) reply.printed
   answer_guards words old _ (no_form none) runs less = let e : None ≡ Some Guard = sym none ∙ runs.form in absurd cc
   answer_guards words old _ (command c is texts there r responds) runs less =
       let same : c ≡ Guard = let e : Some c ≡ Some Guard = sym is ∙ runs.form in cc in
       let named : inputs words ≡ inputs_of c words = ap (λ o. inputs_of_form o words) is in
-      let read : texts ≡ model ∷ term ∷ [] = let e : Some texts ≡ Some (model ∷ term ∷ []) = sym there ∙ ap (bytes_of old.files) (sym named) ∙ runs.texts in cc in
-      response_guards words r (subst (λ (x : Command). Responds x words (model ∷ term ∷ []) r) same (subst (λ (ts : List (List ℕ)). Responds c words ts r) read responds)) less
+      let read : texts ≡ model ∷ term ∷ [] =
+      let e : Some texts ≡ Some (model ∷ term ∷ []) = sym there ∙ ap (bytes_of old.files) (sym named) ∙ runs.texts in cc in
+      let here = subst (λ (ts : List (List ℕ)). Responds c words ts r) read responds in
+      response_guards words r (subst (λ (x : Command). Responds x words (model ∷ term ∷ []) r) same here) less
 
-pub whole_guards : OneVerdict → (words : List Word) (status : ℕ) (old new : Outside) (reply : Reply) → GivesWhole words status old new reply → GuardsTruly words status old new
+pub whole_guards : OneVerdict → (words : List Word) (status : ℕ) (old new : Outside) (reply : Reply) → GivesWhole words status old new reply →
+    GuardsTruly words status old new
 whole_guards one_verdict words status old new reply gives model term said runs less says =
     let same : reply.printed ≡ said = append_cancel_left old.printed reply.printed said (sym gives.printed ∙ says) in
     let few : code_of reply.status < 2 = omega (arith, less, gives.status_is) in

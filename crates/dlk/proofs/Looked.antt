@@ -1,5 +1,5 @@
 -- From the looks of an answer to those of a run.
-use Rattle.std.proofs.Common.{◌≡◌, ◌≢◌, ℕ, ◌+◌, ◌≤◌, ◌++◌, ◌⊎◌, inl, inr, List, [], ◌∷◌, length, Option, None, Some, IsNone, option_map, Vec, get_or, refl, sym, ap, subst, ◌∙◌, arith}
+use Rattle.std.proofs.Common.{◌≡◌, ◌≢◌, ℕ, ◌+◌, ◌≤◌, ◌++◌, inl, inr, List, [], ◌∷◌, length, Option, None, Some, IsNone, option_map, Vec, get_or, refl, sym, ap, subst, ◌∙◌, arith}
 use Rattle.std.specs.declared.alloc.Global.{Global}
 use Rattle.std.proofs.lemmas.List.{append_cancel_left}
 use Rattle.dlk_tree.specs.Trees.{Tree}
@@ -17,7 +17,7 @@ use Rattle.dlk_answers.specs.Substitutes.{Substitutes, AreRead}
 use Rattle.dlk_answers.specs.Looks.{RefusesResult, subst_looks, CommandLooksAtFew}
 use Rattle.dlk.specs.Answers.{bytes_of, Answers, no_form, command}
 use Rattle.dlk.specs.Cuts.{cut_bytes_of}
-use Rattle.dlk.specs.Looks.{RunsSubst, LooksAtFewFor, LooksAtFew}
+use Rattle.dlk.specs.Looks.{LooksAtFewFor, LooksAtFew}
 use Rattle.dlk.proofs.Cut.{Alike, are_read}
 
 -- without a look

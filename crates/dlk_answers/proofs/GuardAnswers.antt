@@ -25,15 +25,15 @@ use Rattle.dlk_answers.proofs.GuardLaws.{NoneSaid, FirstSaid}
 pub model_guards : (model term : List ℕ) (why : TextFault) → ModelFault model why → Guards model term (text_refused Model why)
 model_guards model term why fault = refuses (text_refused Model why) (bad_model why fault) (text_is_refused why)
 
-pub line_guards : (model term : List ℕ) (f : Tree) → ModelText model f → (line : ℕ) (why : LineWhy) (reply : Reply) → Verdict (file_lines term) (bad line why) →
-    reply ≡ line_refused line why → Guards model term reply
+pub line_guards : (model term : List ℕ) (f : Tree) → ModelText model f → (line : ℕ) (why : LineWhy) (reply : Reply) →
+    Verdict (file_lines term) (bad line why) → reply ≡ line_refused line why → Guards model term reply
 line_guards model term f reads line why reply verdict is =
     subst (Guards model term) (sym is) (refuses (line_refused line why) (bad_line f reads line why verdict) refl)
 
 -- the line of the guard that saw the lines of the term
 pub line_said : NoneSaid → FirstSaid → (term : List ℕ) (rows : List Provable) (place : ℕ) → Verdict (file_lines term) (accepted rows place) → 1 ≤ length rows →
-    (taken : List Step) → SaySteps 1 (file_lines term) taken → (watch : Watch) → watch ≡ watch_of (lines taken rows) → (said : Option Refusal) → said ≡ verdict watch →
-    GuardSays term (line_of said)
+    (taken : List Step) → SaySteps 1 (file_lines term) taken → (watch : Watch) → watch ≡ watch_of (lines taken rows) →
+    (said : Option Refusal) → said ≡ verdict watch → GuardSays term (line_of said)
 line_said none_said first_said term rows place accepts some taken says watch saw said is = by_verdict said (is ∙ ap verdict saw)
   where
     by_verdict : (said : Option Refusal) → said ≡ verdict (watch_of (lines taken rows)) → GuardSays term (line_of said)
@@ -47,7 +47,7 @@ line_said none_said first_said term rows place accepts some taken says watch saw
         by_case (Some r) is p a = is_unguarded rows p a taken says r.line r.why (first_said (lines taken rows) r (sym is))
 
 -- the report behind that line
-pub guards_answer : (model term : List ℕ) (checked reply : Reply) (first said : List ℕ) → Checks (Reported Text) model term checked → checked.status ≢ Refused →
-    GuardSays term said → first ≡ said → reply ≡ with_line_first first checked → Guards model term reply
+pub guards_answer : (model term : List ℕ) (checked reply : Reply) (first said : List ℕ) → Checks (Reported Text) model term checked →
+    checked.status ≢ Refused → GuardSays term said → first ≡ said → reply ≡ with_line_first first checked → Guards model term reply
 guards_answer model term checked reply first said checks other says first_is is =
     subst (Guards model term) (sym (is ∙ ap (λ l. with_line_first l checked) first_is)) (guards checked checks other said says)

@@ -15,7 +15,8 @@ module _ (model term : List ℕ) where
   same_status : (r s : Reply) → Checks (Reported Text) model term r → Checks (Reported Text) model term s → r.status ≡ s.status
   same_status r s a b = ap (λ (x : Reply). x.status) (same_reply r s a b)
 
-  pub refused_alike : (reply checked : Reply) → Guards model term reply → Checks (Reported Text) model term checked → checked.status ≡ Refused → reply ≡ checked
+  pub refused_alike : (reply checked : Reply) → Guards model term reply → Checks (Reported Text) model term checked →
+      checked.status ≡ Refused → reply ≡ checked
   refused_alike _ checked (refuses r a is) b two = same_reply r checked a b
   refused_alike _ checked (guards r a other said says) b two = absurd (other (same_status r checked a b ∙ two))
 

@@ -3,7 +3,7 @@ use Rattle.dlk_answers.specs.Shown.{reply_of}
 use Rattle.dlk.specs.Headline.{JudgesTruly}
 use Rattle.dlk.proofs.Truly.{whole_truly, front_truly}
 use Rattle.dlk.proofs.Judged.{answer_judges}
-use Rattle.dlk.proofs.Ran.{gives_whole, breaks_off, grows_from, asks_given}
+use Rattle.dlk.proofs.Ran.{gives_whole, breaks_off, asks_given}
 use Rattle.dlk.specs.Looks.{LooksAtFew}
 use Rattle.dlk.proofs.Looked.{none_written, given_looked, ungiven_looked}
 use Rattle.dlk.proofs.Written.{whole_proves}

@@ -25,7 +25,8 @@ returns-in-Err g c =
     let model = c.args.model.now in
     let term = c.args.term.now in
     IfOk-weaker c.refuse_text.result (λ r. IsTextRefused Model c.in-Err.fault (reply_of r)) (λ r. Guards model term (reply_of r))
-    (λ r is. text_answer Model (ModelFault model) (Guards model term) (model_guards model term) c.in-Err.fault (reply_of r) c.in-Err.ensures.fault is) c.refuse_text.ensures
+    (λ r is. text_answer Model (ModelFault model) (Guards model term) (model_guards model term) c.in-Err.fault (reply_of r) c.in-Err.ensures.fault is)
+    c.refuse_text.ensures
 
 pub returns-in-Err-Bad : goal.returns-in-Err-Bad
 returns-in-Err-Bad g c =
@@ -46,7 +47,8 @@ returns-then-is_refused g c =
     let keeps = g.met.S.Store.grows_keeps c.read_formula.new.store.store c.replay_watched.new.kernel.store c.in-Ok-replay_watched.ensures.grows in
     let outcome = c.in-Ok-replay_watched.outcome in
     let replayed = c.in-Ok-replay_watched.ensures in
-    let checked = judged_answer (Reported Text) model term read.0 (tree trees c.in-Ok.formula) read.1 (keeps.same c.in-Ok.formula read.2.known ∙ read.2.tree_is)
+    let same = keeps.same c.in-Ok.formula read.2.known ∙ read.2.tree_is in
+    let checked = judged_answer (Reported Text) model term read.0 (tree trees c.in-Ok.formula) read.1 same
     c.replay_watched.new.kernel.rows (provable_at trees) outcome.line replayed.ok replayed.some outcome.fact outcome.lines replayed.fact replayed.lines
     (reply_of c.in_ok-reply.reply) c.in_ok-reply.ensures in
     refuses (reply_of c.in_ok-reply.reply) checked (c.is_refused.ensures.0 c.if-is_refused.true)
@@ -61,7 +63,8 @@ returns g c =
     let outcome = c.in-Ok-replay_watched.outcome in
     let replayed = c.in-Ok-replay_watched.ensures in
     let reply = reply_of c.in_ok-reply.reply in
-    let checked = judged_answer (Reported Text) model term read.0 (tree trees c.in-Ok.formula) read.1 (keeps.same c.in-Ok.formula read.2.known ∙ read.2.tree_is)
+    let same = keeps.same c.in-Ok.formula read.2.known ∙ read.2.tree_is in
+    let checked = judged_answer (Reported Text) model term read.0 (tree trees c.in-Ok.formula) read.1 same
     c.replay_watched.new.kernel.rows (provable_at trees) outcome.line replayed.ok replayed.some outcome.fact outcome.lines replayed.fact replayed.lines
     reply c.in_ok-reply.ensures in
     let other : reply.status ≢ Refused = λ e. absurd (true≢false (sym (c.is_refused.ensures.1 e) ∙ c.if-is_refused.false)) in
