@@ -22,8 +22,8 @@ pub record Reached (all left : List (List ℕ)) (rows : List Provable) : Type 0 
 pub reached_none : (all : List (List ℕ)) → Reached all all []
 reached_none all = record { front = []; last = 0; all_is = refl; steps = no_lines }
 
-pub reached_more : (all left : List (List ℕ)) (line : List ℕ) (rows new : List Provable) (step : Step) → Reached all (line ∷ left) rows → IsNextStep rows line step new →
-    Reached all left new
+pub reached_more : (all left : List (List ℕ)) (line : List ℕ) (rows new : List Provable) (step : Step) → Reached all (line ∷ left) rows →
+    IsNextStep rows line step new → Reached all left new
 reached_more all left line rows new step r next =
     let adds = next.adds in
     let own : IsLine line (Numbered (length r.front + 1) step) = rw (as_many r.front rows r.last r.steps) next.its_line in

@@ -38,7 +38,8 @@ one_list_of_steps n lines a b x y = one_from n lines a b (says_from n lines a x)
 
 takes_many : (steps : List Step) (rows : List Provable) → Takes [] steps rows → length steps ≡ length rows
 takes_many _ _ took.none = refl
-takes_many _ _ (took.more {steps} {mid} {step} {p} before given) = length_push steps step ∙ ap (λ n. n + 1) (takes_many steps mid before) ∙ sym (length_push mid p)
+takes_many _ _ (took.more {steps} {mid} {step} {p} before given) =
+    length_push steps step ∙ ap (λ n. n + 1) (takes_many steps mid before) ∙ sym (length_push mid p)
 
 -- first lines say these steps, which give these rows; what the lines behind them say comes behind
 pub record FrontSays (front : List (List ℕ)) (steps : List Step) (rows : List Provable) : Type 0 where
@@ -78,7 +79,8 @@ front_says _ _ _ (no_row before is) = absurd is
 
 -- ---- accepted files
 
-accepted_both : (lines : List (List ℕ)) (rows : List Provable) (last : ℕ) → Verdict lines (accepted rows last) → (s : List Step) × SaySteps 1 lines s × Takes [] s rows
+accepted_both : (lines : List (List ℕ)) (rows : List Provable) (last : ℕ) → Verdict lines (accepted rows last) →
+    (s : List Step) × SaySteps 1 lines s × Takes [] s rows
 accepted_both _ _ _ (whole {steps} {rows} {last} {line} is some ends) =
     let said = front_says steps rows last is in
     (said.0, front_done steps said.0 rows line said.1 ends, said.1.taken)
@@ -86,10 +88,12 @@ accepted_both _ _ _ (whole {steps} {rows} {last} {line} is some ends) =
 pub accepted_says_steps : (lines : List (List ℕ)) (rows : List Provable) (last : ℕ) → Verdict lines (accepted rows last) → (s : List Step) × SaySteps 1 lines s
 accepted_says_steps lines rows last is = let both = accepted_both lines rows last is in (both.0, both.1)
 
-pub accepted_takes_steps : (lines : List (List ℕ)) (rows : List Provable) (last : ℕ) (s : List Step) → Verdict lines (accepted rows last) → SaySteps 1 lines s → Takes [] s rows
+pub accepted_takes_steps : (lines : List (List ℕ)) (rows : List Provable) (last : ℕ) (s : List Step) → Verdict lines (accepted rows last) →
+    SaySteps 1 lines s → Takes [] s rows
 accepted_takes_steps lines rows last s is says =
     let both = accepted_both lines rows last is in
     subst (λ t. Takes [] t rows) (one_list_of_steps 1 lines both.0 s both.1 says) both.2
 
-pub accepted_as_many : (lines : List (List ℕ)) (rows : List Provable) (last : ℕ) (s : List Step) → Verdict lines (accepted rows last) → SaySteps 1 lines s → length s ≡ length rows
+pub accepted_as_many : (lines : List (List ℕ)) (rows : List Provable) (last : ℕ) (s : List Step) → Verdict lines (accepted rows last) →
+    SaySteps 1 lines s → length s ≡ length rows
 accepted_as_many lines rows last s is says = takes_many s rows (accepted_takes_steps lines rows last s is says)

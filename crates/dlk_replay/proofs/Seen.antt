@@ -11,7 +11,7 @@ use Rattle.dlk_termtext.specs.Lines.{Numbered, Done, IsLine}
 use Rattle.dlk_guard.specs.Guarded.{Line, lines}
 use Rattle.dlk_guard.specs.Watched.{after_all}
 use Rattle.dlk_replay.specs.Files.{SaySteps}
-use Rattle.dlk_replay.specs.Replay.{IsNextStep}
+use Rattle.dlk_replay.specs.Replay.{IsNextStep, SeesLast}
 use Rattle.dlk_replay.proofs.SaidSteps.{FrontSays, front_none, front_more, front_done, front_many}
 
 -- the line of a step and its row
@@ -25,15 +25,15 @@ lines_snoc [] (q ∷ rows) step p e = absurd (omega (arith, e))
 lines_snoc (s ∷ steps) [] step p e = absurd (omega (arith, e))
 lines_snoc (s ∷ steps) (q ∷ rows) step p e = ap (λ ls. line_of s q ∷ ls) (lines_snoc steps rows step p (omega (arith, e)))
 
--- the conclusion of the last row, which the step gave
-row_shown : (rows new : List Provable) (line : List ℕ) (step : Step) (n : ℕ) (s : Sequent) → (is : IsNextStep rows line step new) → n ≡ length new →
-    ((p : Provable) → At new n p → p.conclusion ≡ s) → record { step = step; conclusion = s } ≡ line_of step is.adds.provable
-row_shown rows new line step n s is last shows =
-    let p = is.adds.provable in
-    let place : length rows + 1 ≡ n = sym (last ∙ ap length is.adds.after_is ∙ length_push rows p) in
-    let there : At new n p = subst (λ k. At new k p) place (subst (λ ps. At ps (length rows + 1) p) (sym is.adds.after_is) (At-between rows p [])) in
-    let same : s ≡ p.conclusion = sym (shows p there) in
-    λ i. record { step = step; conclusion = same i }
+-- the last row is that of its number
+pub sees_last : {V : Type 0} (after : V → Line → V) (rows : List Provable) (step : Step) (old new : V) (n : ℕ) (conclusion : Sequent) →
+    n ≡ length rows → ((p : Provable) → At rows n p → p.conclusion ≡ conclusion) → new ≡ after old (record { step = step; conclusion = conclusion }) →
+    SeesLast after rows step old new
+sees_last after rows step old new n conclusion last shows is = record {
+  seen = λ p there.
+      let same : conclusion ≡ p.conclusion = sym (shows p (subst (λ k. At rows k p) (sym last) there)) in
+      is ∙ (λ i. after old (record { step = step; conclusion = same i }));
+}
 
 -- It has seen the steps of the lines before those that are left, each with the conclusion of the row that it gave.
 pub record Seen {V : Type 0} (after : V → Line → V) (all left : List (List ℕ)) (rows : List Provable) (before now : V) : Type 0 where
@@ -47,12 +47,14 @@ module _ {V : Type 0} (after : V → Line → V) (all : List (List ℕ)) (before
   pub seen_none : Seen after all all [] before before
   seen_none = record { front = []; taken = []; all_is = refl; said = front_none; now_is = refl }
 
-  pub seen_more : (left : List (List ℕ)) (line : List ℕ) (rows new : List Provable) (step : Step) (now next : V) (n : ℕ) (conclusion : Sequent) →
-      Seen after all (line ∷ left) rows before now → IsNextStep rows line step new → n ≡ length new → ((p : Provable) → At new n p → p.conclusion ≡ conclusion) →
-      next ≡ after now (record { step = step; conclusion = conclusion }) → Seen after all left new before next
-  seen_more left line rows new step now next n conclusion s is last shows next_is =
+  pub seen_more : (left : List (List ℕ)) (line : List ℕ) (rows new : List Provable) (step : Step) (now next : V) →
+      Seen after all (line ∷ left) rows before now → IsNextStep rows line step new → SeesLast after new step now next → Seen after all left new before next
+  seen_more left line rows new step now next s is sees =
       let p = is.adds.provable in
-      let e : next ≡ after now (line_of step p) = next_is ∙ ap (after now) (row_shown rows new line step n conclusion is last shows) in
+      let last : length rows + 1 ≡ length new = sym (ap length is.adds.after_is ∙ length_push rows p) in
+      let at_end : At new (length rows + 1) p = subst (λ ps. At ps (length rows + 1) p) (sym is.adds.after_is) (At-between rows p []) in
+      let there : At new (length new) p = subst (λ k. At new k p) last at_end in
+      let e : next ≡ after now (line_of step p) = sees.seen p there in
       let own : IsLine line (Numbered (length s.front + 1) step) = subst (λ n. IsLine line (Numbered (n + 1) step)) (sym s.said.as_many) is.its_line in
       let steps = s.taken ++ step ∷ [] in
       let more : lines s.taken rows ++ line_of step p ∷ [] ≡ lines steps new =
@@ -62,7 +64,8 @@ module _ {V : Type 0} (after : V → Line → V) (all : List (List ℕ)) (before
         taken = steps;
         all_is = s.all_is ∙ sym (append_assoc s.front (line ∷ []) left);
         said = subst (FrontSays (s.front ++ line ∷ []) steps) (sym is.adds.after_is) (front_more s.front s.taken rows line step p s.said own is.adds.is_its);
-        now_is = e ∙ ap (λ v. after v (line_of step p)) s.now_is ∙ sym (fold-append after before (lines s.taken rows) (line_of step p ∷ [])) ∙ ap (after_all after before) more;
+        now_is = e ∙ ap (λ v. after v (line_of step p)) s.now_is ∙ sym (fold-append after before (lines s.taken rows) (line_of step p ∷ []))
+            ∙ ap (after_all after before) more;
       }
 
   pub seen_all : (line : List ℕ) (rows : List Provable) (now : V) → Seen after all (line ∷ []) rows before now → IsLine line Done →

@@ -1,9 +1,11 @@
 -- What a replay answers and leaves.
 use Rattle.std.specs.Prelude.{◌≡◌, ◌≢◌, ◌+◌, ◌-◌, ℕ, List, length, take}
 use Rattle.dlk_tree.specs.Trees.{Tree}
+use Rattle.dlk_calculus.specs.Places.{At}
 use Rattle.dlk_calculus.specs.Provables.{Provable}
 use Rattle.dlk_calculus.specs.Steps.{Step, Adds, Fault}
 use Rattle.dlk_rules.specs.Steps.{step_at, HasKnownIds}
+use Rattle.dlk_guard.specs.Guarded.{Line as SeenLine}
 use Rattle.dlk_termtext.specs.Lines.{Line, Numbered, Done, IsLine}
 use Rattle.dlk_replay.specs.Files.{Verdict, bad, RowsOf}
 use Rattle.dlk_replay.specs.declared.fault.LineWhy.{LineWhy}
@@ -44,3 +46,7 @@ pub record IsNextStep (rows : List Provable) (line : List ℕ) (step : Step) (ne
 abbrev pub Takes : List Tree → List Provable → List ℕ → List Provable → Taken → Type 0
 Takes trees rows line new (taken.Step step) = HasKnownIds trees step × IsNextStep rows line (step_at trees step) new
 Takes trees rows line new taken.Done = IsLine line Done × (new ≡ rows)
+
+-- a watcher was shown this step with the conclusion of the last row
+pub record SeesLast {V : Type 0} (after : V → SeenLine → V) (rows : List Provable) (step : Step) (old new : V) : Type 0 where
+  pub seen : (p : Provable) → At rows (length rows) p → new ≡ after old (record { step = step; conclusion = p.conclusion })

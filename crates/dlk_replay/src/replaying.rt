@@ -8,7 +8,7 @@ ghost use Rattle.dlk_replay.specs.Files.{file_lines, Verdict, accepted, SaySteps
 ghost use Rattle.dlk_replay.specs.Replay.{IsReplayFaultOf, LeavesRows};
 
 use crate::fault::{LineWhy, Outcome, ReplayFault};
-use crate::taking::{Taken, first_line, take_line};
+use crate::taking::{Taken, first_line, show_last, take_line};
 use dlk_guard::{Unwatched, Watcher};
 use dlk_kernel::Kernel;
 use dlk_store::{Steps, Store};
@@ -76,8 +76,7 @@ pub fn replay_watched<S: Store, L: Ledger, W: Watcher>(
         let (line, behind) = first_line(left);
         match take_line(alloc, line, kernel, steps)? {
             Taken::Step(step) => {
-                let row = kernel.rows();
-                watcher.see(alloc, kernel, &step, kernel.conclusion(row), steps)?;
+                show_last(alloc, kernel, &step, watcher, steps)?;
                 drop(step);
                 left = behind;
             }

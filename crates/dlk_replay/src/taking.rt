@@ -1,16 +1,18 @@
 //! One line of a file.
-ghost use Rattle.std.specs.Prelude.{◌≡◌, ◌<◌, ◌≤◌, ◌∷◌, ℕ, List, length, IfOk, IfErr, OnErr};
+ghost use Rattle.std.specs.Prelude.{◌≡◌, ◌<◌, ◌≤◌, ◌∷◌, ℕ, List, length, OnOk, IfOk, IfErr, OnErr};
 ghost use Rattle.std.specs.List.{position_or_len};
+ghost use Rattle.dlk_rules.specs.Steps.{step_at, HasKnownIds};
 ghost use Rattle.dlk_kernel.specs.Kernel.{facts};
 ghost use Rattle.dlk_replay.specs.Files.{file_lines, is_line_feed};
-ghost use Rattle.dlk_replay.specs.Replay.{IsLineFault, Takes};
+ghost use Rattle.dlk_replay.specs.Replay.{IsLineFault, Takes, SeesLast};
 
 use crate::fault::{LineWhy, ReplayFault};
+use dlk_guard::Watcher;
 use dlk_kernel::{Kernel, StepFault};
 use dlk_rules::{Step, step_stays};
 use dlk_store::{Steps, Store};
 use dlk_termtext::{Line, LineFault, read_line};
-use std::alloc::Global;
+use std::alloc::{AllocError, Global};
 use std::sync::ledger::Ledger;
 
 /// What a line did.
@@ -60,6 +62,23 @@ pub(crate) fn take_line<S: Store, L: Ledger>(
         }),
         Err(LineFault::Memory) => Err(ReplayFault::Memory),
     }
+}
+
+/// Shows a watcher the step that was taken last, with the conclusion of the row that it gave.
+pub(crate) fn show_last<S: Store, L: Ledger, W: Watcher>(
+    alloc: Global,
+    kernel: &Kernel<S>,
+    step: &Step,
+    watcher: &mut W,
+    steps: &mut Steps<L>,
+) -> Result<(), AllocError>
+    requires some { 1 ≤ length kernel.now.rows }
+    requires known { HasKnownIds (S.trees kernel.now.store) step.now }
+    ensures seen { OnOk result (SeesLast W.after (facts S.trees kernel.now) (step_at (S.trees kernel.now.store) step.now) watcher.old watcher.new) }
+{
+    let row = kernel.rows();
+    watcher.see(alloc, kernel, step, kernel.conclusion(row), steps)?;
+    Ok(())
 }
 
 /// The first line of what is left of a file, without its line feed, and what comes behind it.

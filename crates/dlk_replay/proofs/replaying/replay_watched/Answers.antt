@@ -1,7 +1,6 @@
 use Rattle.std.proofs.Common.{◌≡◌, ◌+◌, ◌-◌, length, sym, ap, ◌∙◌, arith}
 use Rattle.std.proofs.lemmas.List.{length-map}
 use Rattle.std.proofs.lemmas.Result.{err_from_is_err_and}
-use Rattle.dlk_sequent.specs.Sequents.{sequent_at}
 use Rattle.dlk_rules.specs.Steps.{step_at}
 use Rattle.dlk_kernel.specs.Kernel.{facts}
 use Rattle.dlk_replay.specs.Files.{file_lines}
@@ -29,14 +28,17 @@ returns-in_err-step-clause-left g c =
     rw (p.1, p.2) (line_left (file_lines c.args.bytes.now) (file_lines c.first_line.result.1.now) c.first_line.result.0.now (facts g.S.Store.trees c.loop-left.kernel) _ _
     (rw c.first_line.ensures.lines at c.loop-left.invariant.reached) c.in_err-step.ensures.err c.in_err-step.ensures.fault)
 
-pub returns-in_err-see-in-Step-clause-left : goal.returns-in_err-see-in-Step-clause-left
-returns-in_err-see-in-Step-clause-left g c =
-    let p = err_from_is_err_and c.from_residual-in_err-see-in-Step.result c.from_residual-in_err-see-in-Step.ensures.1 in
+pub returns-in_err-show_last-in-Step-clause-left : goal.returns-in_err-show_last-in-Step-clause-left
+returns-in_err-show_last-in-Step-clause-left g c =
+    let p = err_from_is_err_and c.from_residual-in_err-show_last-in-Step.result c.from_residual-in_err-show_last-in-Step.ensures.1 in
+    let all = file_lines c.args.bytes.now in
+    let left = file_lines c.first_line.result.1.now in
+    let before = facts g.S.Store.trees c.loop-left.kernel in
     let rows = facts g.S.Store.trees c.take_line.new.kernel in
+    let step = step_at (g.S.Store.trees c.take_line.new.kernel.store) c.in-Step.step in
     let taken = rw c.in-Step.is at c.in_ok-step.ensures.taken in
-    let reached = reached_more (file_lines c.args.bytes.now) (file_lines c.first_line.result.1.now) c.first_line.result.0.now (facts g.S.Store.trees c.loop-left.kernel) rows
-        (step_at (g.S.Store.trees c.take_line.new.kernel.store) c.in-Step.step) (rw c.first_line.ensures.lines at c.loop-left.invariant.reached) taken.1 in
-    rw (p.1, p.2) (length rows, front_rows (file_lines c.args.bytes.now) (file_lines c.first_line.result.1.now) rows reached)
+    let so_far = rw c.first_line.ensures.lines at c.loop-left.invariant.reached in
+    rw (p.1, p.2) (length rows, front_rows all left rows (reached_more all left c.first_line.result.0.now before rows step so_far taken.1))
 
 pub loop-left-preserved : goal.loop-left-preserved
 loop-left-preserved g c =
@@ -50,18 +52,19 @@ loop-left-preserved g c =
     let taken = rw c.in-Step.is at c.in_ok-step.ensures.taken in
     record {
       reached = reached_more all left line before rows step (rw c.first_line.ensures.lines at c.loop-left.invariant.reached) taken.1;
-      seen = seen_more g.W.Watcher.after all c.args.watcher.now left line before rows step c.loop-left.watcher c.see.new.self c.rows-row.result
-          (sequent_at trees c.conclusion.result.now) (rw c.first_line.ensures.lines at c.loop-left.invariant.seen) taken.1 (c.rows-row.ensures.count ∙ sym (length-map _ _))
-          c.conclusion.ensures.conclusion c.in_ok-see-in-Step.ensures.ok;
-      grows = g.met.S.Store.grows_trans c.args.kernel.now.store c.loop-left.kernel.store c.take_line.new.kernel.store c.loop-left.invariant.grows c.take_line.ensures.grows;
+      seen = seen_more g.W.Watcher.after all c.args.watcher.now left line before rows step c.loop-left.watcher c.show_last.new.watcher
+          (rw c.first_line.ensures.lines at c.loop-left.invariant.seen) taken.1 c.in_ok-show_last-in-Step.ensures.seen;
+      grows = g.met.S.Store.grows_trans c.args.kernel.now.store c.loop-left.kernel.store c.take_line.new.kernel.store c.loop-left.invariant.grows
+          c.take_line.ensures.grows;
     }
 
 pub returns-in-Done-clause-seen : goal.returns-in-Done-clause-seen
 returns-in-Done-clause-seen g c =
     let taken = rw c.in-Done.is at c.in_ok-step.ensures.taken in
     let none = no_lines_left c.first_line.result.1.now c.is_empty-in-Done.result c.is_empty-in-Done.ensures c.if-not-is_empty.false in
-    rw taken.1 (seen_all g.W.Watcher.after (file_lines c.args.bytes.now) c.args.watcher.now c.first_line.result.0.now (facts g.S.Store.trees c.loop-left.kernel) c.loop-left.watcher
-    (rw (c.first_line.ensures.lines, none) at c.loop-left.invariant.seen) taken.0)
+    let so_far = rw (c.first_line.ensures.lines, none) at c.loop-left.invariant.seen in
+    rw taken.1 (seen_all g.W.Watcher.after (file_lines c.args.bytes.now) c.args.watcher.now c.first_line.result.0.now (facts g.S.Store.trees c.loop-left.kernel)
+    c.loop-left.watcher so_far taken.0)
 
 pub returns-then-rows-eq0-clause-bad : goal.returns-then-rows-eq0-clause-bad
 returns-then-rows-eq0-clause-bad g c =
