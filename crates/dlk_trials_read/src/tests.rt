@@ -20,12 +20,9 @@ fn constant(alloc: Global) -> Option<Sym> {
 
 /// A system of a variable and a constant.
 fn system(alloc: Global) -> Option<Op> {
-    let mut items = Vec::new(alloc);
-    items
-        .push(OdeItem::Evolve(Name::new(alloc, b"x").ok()?))
-        .ok()?;
-    items.push(OdeItem::Const(constant(alloc)?)).ok()?;
-    Some(Op::System(Items::new(items)))
+    let evolved = OdeItem::Evolve(Name::new(alloc, b"x").ok()?);
+    let items = [evolved, OdeItem::Const(constant(alloc)?)];
+    Some(Op::System(Items::new(Vec::from_array(alloc, items).ok()?)))
 }
 
 fn variable(alloc: Global) -> Option<Op> {

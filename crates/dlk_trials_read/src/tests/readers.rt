@@ -170,13 +170,17 @@ fn meets_byte<S: Store>(rt: &impl Abort, alloc: Global, byte: u8, store: &mut S)
     }
 }
 
+/// How many tokens a byte alone is, with the end.
+fn count_of(alloc: Global, byte: u8) -> Result<usize, LexFault> {
+    Ok(tokens(alloc, &[byte])?.len())
+}
+
 #[test]
-fn reads_each_byte(rt: HostRuntime) -> Result<(), Fail> {
+fn reads_each_byte(rt: HostRuntime) {
     let alloc = rt.alloc();
     let mut store = SharedStore::new(alloc);
     for byte in 0..=255u8 {
         meets_byte(&rt, alloc, byte, &mut store);
-        let count = tokens(alloc, &[byte]).map(|found| found.len());
         let want = if is_blank(byte) {
             Ok(1)
         } else if is_token(byte) {
@@ -184,9 +188,8 @@ fn reads_each_byte(rt: HostRuntime) -> Result<(), Fail> {
         } else {
             Err(LexFault::BadByte { at: 0 })
         };
-        assert_eq!(rt; count, want, "{byte}");
+        assert_eq!(rt; count_of(alloc, byte), want, "{byte}");
     }
-    Ok(())
 }
 
 /// A car, as a user of KeYmaera X writes it.
@@ -220,12 +223,28 @@ fn meets_changed<S: Store>(
     Ok(())
 }
 
-/// The two texts of a car, and the model in each other kind of text: which one or two readers read them, and what is said of them with a
-/// byte changed.
-#[test]
-fn reads_changed_texts(rt: HostRuntime) -> Result<(), Fail> {
-    let alloc = rt.alloc();
-    let mut store = SharedStore::new(alloc);
+/// Which readers read a text: one, or two. And what each says of it with a byte changed.
+fn meets_text<S: Store>(
+    rt: &impl Abort,
+    alloc: Global,
+    text: &[u8],
+    first: Reader,
+    second: Reader,
+    store: &mut S,
+) -> Result<(), AllocError> {
+    for reader in READERS {
+        let is_read = reader.answer(alloc, text, store) == Answer::Read;
+        let reads = reader == first || reader == second;
+        assert_eq!(rt; is_read, reads, "{reader:?} {text:?}");
+    }
+    for byte in [b'#', b' ', b'(', b'"', b'=', b'7', b'x', 255] {
+        meets_changed(rt, alloc, text, byte, store)?;
+    }
+    Ok(())
+}
+
+/// The two texts of a car, and the model in each other kind of text.
+fn meets_texts<S: Store>(rt: &impl Abort, alloc: Global, store: &mut S) -> Result<(), AllocError> {
     for (front, text, first, second) in [
         ("", MODEL, Reader::Formula, Reader::Formula),
         ("", STRATEGY, Reader::Strategy, Reader::Strategy),
@@ -234,16 +253,16 @@ fn reads_changed_texts(rt: HostRuntime) -> Result<(), Fail> {
         ("x_~~a,p(||)~>", MODEL, Reader::Extra, Reader::Extra),
         ("1 start ==> ", MODEL, Reader::Line, Reader::Line),
     ] {
-        let mut bytes = front.as_bytes().to_vec(alloc)?;
-        bytes.extend_from_slice(text.as_bytes())?;
-        for reader in READERS {
-            let is_read = reader.answer(alloc, &bytes, &mut store) == Answer::Read;
-            let reads = reader == first || reader == second;
-            assert_eq!(rt; is_read, reads, "{reader:?} {front}");
-        }
-        for byte in [b'#', b' ', b'(', b'"', b'=', b'7', b'x', 255] {
-            meets_changed(&rt, alloc, &bytes, byte, &mut store)?;
-        }
+        let text = format!(in alloc; "{front}{text}")?;
+        meets_text(rt, alloc, text.as_bytes(), first, second, store)?;
     }
+    Ok(())
+}
+
+#[test]
+fn reads_changed_texts(rt: HostRuntime) -> Result<(), Fail> {
+    let alloc = rt.alloc();
+    let mut store = SharedStore::new(alloc);
+    meets_texts(&rt, alloc, &mut store)?;
     Ok(())
 }
