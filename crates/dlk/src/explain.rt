@@ -45,6 +45,7 @@ fn inputs<E: Eprint>(to: &E, words: &[String]) -> Result<()> {
 /// # Errors
 ///
 /// A fault of writing. A part may have been written.
+#[inline(never)]
 pub fn explain<E: Eprint>(to: &E, status: u8, words: &[String]) -> Result<()> {
     if status == Status::Words.code() {
         return forms(to);

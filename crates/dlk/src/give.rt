@@ -37,6 +37,7 @@ fn write_output<D: Desk>(desk: &mut D, name: Option<&str>, reply: &Reply) -> Res
 /// [`Failed`] where the file could not be written whole, or what is printed not printed whole. It comes only where the
 /// desk's count of faults of writing rose. A front of the file, and behind the whole file a front of what is printed,
 /// was given.
+#[inline(never)]
 pub fn give<D: Desk>(desk: &mut D, name: Option<&str>, reply: &Reply) -> Result<(), Failed>
     ensures file { let output = output_with (option_copied name.entry) (reply_of reply.now).written in OnOk result (D.tells → SameFiles (after output (D.outside desk.old).files) (D.outside desk.new).files) }
     ensures printed { OnOk result (D.tells → (D.outside desk.new).printed ≡ (D.outside desk.old).printed ++ (reply_of reply.now).printed) }

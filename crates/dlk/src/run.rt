@@ -34,6 +34,7 @@ pub const WRITE_FAULT: u8 = 5;
 pub const NO_MEMORY: u8 = 6;
 
 /// Reads these files in order, each to its end or to one byte past its limit.
+#[inline(never)]
 fn read_inputs<D: Desk>(
     alloc: Global,
     desk: &mut D,
