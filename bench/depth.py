@@ -154,6 +154,25 @@ def substitutions():
     yield Row("a deep result that is dropped", "subst", (dropped, f"f(._0)~>{minus},g(._0)~>1"), 0, "1>=0")
 
 
+def guarding():
+    """Instances of `DI` and of a context with deep formulas, terms and domains, by `guard`."""
+    deep = DEEPEST - 4
+    for title, domain, formula, first in (
+        ("a deep formula", "true", wrapped(deep - 2, "!", "x>=0"), "guarded"),
+        ("a deep term", "true", wrapped(deep - 2, "-", "x") + ">=0", "guarded"),
+        ("deep divisors without variables", "true", wrapped(deep - 2, "1/(", "1", ")") + ">=0", "guarded"),
+        ("a deep term that isn't smooth", "true", wrapped(deep - 3, "-", "f(x)") + ">=0", "unguarded line 2: di-not-smooth"),
+        ("a deep domain", wrapped(deep - 2, "(", "x>=0", ")&x>=0"), "x>=0", "guarded"),
+    ):
+        model = f"(({domain}) -> [{{x'=1&{domain}}}]({formula})') -> ([{{x'=1&{domain}}}]({formula}) <-> [?{domain};]({formula}))"
+        term = f"1 axiom DI\n2 subst 1 {{c}}~>{{x'=1}},q(||)~>{domain},p(||)~>{formula}\ndone\n"
+        yield Row(f"guard, {title}", "guard", (model, term), 0, first)
+    context = wrapped(deep - 1, "!", "(_)'")
+    model = context.replace("_", "true") + " <-> " + context.replace("_", "false")
+    term = f"1 rule CE\n2 subst 1 p(||)~>true,q(||)~>false,C{{_}}~>{context}\ndone\n"
+    yield Row("guard, a deep context", "guard", (model, term), 1, "unguarded line 2: differential-context")
+
+
 def one_level(inside):
     """A level of a strategy: a choice of a sequence with eight repeats, and of nothing."""
     return f"(nil; {inside}{'*1' * REPEATS} | nil)"
@@ -191,7 +210,7 @@ def strategies():
     yield Row("a path that is longer than the text is deep", "prove", ("true", f"useAt(testb,1{'.0' * 400_000})"), 2, "refused: fails at 0: NoPlace")
 
 
-ROWS = (reading, replaying, wide_leaf, systems, substitutions, strategies)
+ROWS = (reading, replaying, wide_leaf, systems, substitutions, guarding, strategies)
 
 
 def wrong(row, run):

@@ -34,6 +34,7 @@ fn behind_the_name(mut all: Vec<String>) -> Vec<String>
 }
 
 /// The words of the command line, the program's name first. Where one is not UTF-8 there are none, and so they have no form.
+#[inline(never)]
 fn command_line(rt: &HostRuntime) -> Result<Vec<String>, AllocError> {
     let mut words = Vec::new(rt.alloc());
     let args = match env::args(rt) {
