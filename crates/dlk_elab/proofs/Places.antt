@@ -9,6 +9,10 @@ use Rattle.std.proofs.Math.Dec.{eqb-suc-zero}
 use Rattle.std.proofs.Math.Seq.{drop-cons, take-append_seam, drop-append-add}
 use Rattle.dlk_calculus.specs.Places.{at, At, IsPlace, put_all}
 
+-- a value that is the item at an index
+pub read_as : {A : Type 0} (items : List A) (n : ℕ) (x y : A) → x ≡ y → y ≡ get_or items n y → x ≡ get_or items n x
+read_as items n x y e read = subst (λ z. z ≡ get_or items n z) (sym e) read
+
 pub at_one : {A : Type 0} (items : List A) (place : ℕ) (x y : A) → At items place x → At items place y → x ≡ y
 at_one items place x y p q = cc
 

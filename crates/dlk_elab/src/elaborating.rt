@@ -162,7 +162,7 @@ fn plain<S: Store>(
     ensures fault { IfErr result (IsTacFault (AtomFault (facts S.trees kernel.now) target.fact target.goal (atom_at (S.trees kernel.now.store) atom.now))) }
 {
     let _ = kernel.rows();
-    let s = &kernel.goals(target.fact)[target.goal as usize - 1];
+    let s = kernel.goals(target.fact)[target.goal as usize - 1].value();
     plan(alloc, kernel, target, s, atom)
 }
 
@@ -182,7 +182,7 @@ fn generalize<S: Store, L: Ledger>(
     ensures fault { IfErr result (IsTacFault (AtomFault (facts S.trees kernel.now) target.fact target.goal (atom_at (S.trees kernel.now.store) atom.now))) }
 {
     let _ = kernel.rows();
-    let s = &kernel.goals(target.fact)[target.goal as usize - 1];
+    let s = kernel.goals(target.fact)[target.goal as usize - 1].value();
     let boxed = box_at(kernel, s, at, steps)?;
     let plan = generalizing(alloc, target, boxed)?;
     Ok(plan)
@@ -209,7 +209,7 @@ fn cut_box<S: Store, L: Ledger>(
     ensures grows { S.grows kernel.old.store kernel.new.store }
 {
     let _ = kernel.rows();
-    let s = &kernel.goals(target.fact)[target.goal as usize - 1];
+    let s = kernel.goals(target.fact)[target.goal as usize - 1].value();
     let boxed = box_at(&*kernel, s, at, steps)?;
     let cut = cut_trees(alloc, kernel, boxed, h)?;
     let plan = cutting_box(alloc, target, boxed, cut)?;

@@ -83,7 +83,7 @@ pub(crate) fn reach<S: Store, L: Ledger>(
     ensures fault { IfErr result (IsTacFault (λ why. (why ≡ NoPlace) × IsNotThere (facts S.trees kernel.now) target place path.now)) }
 {
     let _ = kernel.rows();
-    let s = &kernel.goals(target.fact)[target.goal as usize - 1];
+    let s = kernel.goals(target.fact)[target.goal as usize - 1].value();
     let way = way_at(alloc, kernel, s, place, path, steps)?;
     let right = s.succ.as_slice().len() as u32;
     Ok(Reached { way, right })

@@ -4,7 +4,7 @@ use crate::row::Row;
 use crate::steps::give;
 use dlk_calculus::{MOST_ROWS, Reason};
 use dlk_rules::Step;
-use dlk_sequent::Sequent;
+use dlk_sequent::{Sequent, Shared};
 use dlk_store::{Id, Listing, Node, Steps, Store, StoreFault, Which};
 use dlk_tree::{Op, Sym, Var};
 use std::alloc::Global;
@@ -98,7 +98,7 @@ impl<S: Store> Kernel<S> {
     }
 
     /// The goals of a fact, which is a row's number from 1 to `rows()`: the sequents that are left to be proved.
-    pub fn goals(&self, fact: Fact) -> &[Sequent]
+    pub fn goals(&self, fact: Fact) -> &[Shared<Sequent>]
         requires { IsPlace self.now.rows fact }
         ensures goals { (p : Provable) → At (facts S.trees self.now) fact p → p.goals ≡ map (sequent_at (S.trees self.now.store)) result.now }
         ensures derived { (p : Provable) → At (facts S.trees self.now) fact p → Derives p }
@@ -110,7 +110,7 @@ impl<S: Store> Kernel<S> {
 
     /// The leaves of a fact, which is a row's number from 1 to `rows()`: the sequents of arithmetic that it rests on, none of them
     /// twice.
-    pub fn leaves(&self, fact: Fact) -> &[Sequent]
+    pub fn leaves(&self, fact: Fact) -> &[Shared<Sequent>]
         requires { IsPlace self.now.rows fact }
         ensures leaves { (p : Provable) → At (facts S.trees self.now) fact p → p.leaves ≡ map (sequent_at (S.trees self.now.store)) result.now }
         ensures derived { (p : Provable) → At (facts S.trees self.now) fact p → Derives p }

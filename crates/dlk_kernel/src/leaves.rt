@@ -4,19 +4,18 @@ ghost use Rattle.dlk_calculus.specs.Sequents.{Sequent as TreeSequent};
 ghost use Rattle.dlk_calculus.specs.Provables.{IsAmong, AreNew};
 ghost use Rattle.dlk_sequent.specs.Sequents.{sequent_at, IsKnown};
 
-use crate::shared::Shared;
-use dlk_sequent::{Listed, Sequent, same_sequent};
+use dlk_sequent::{Listed, Sequent, Shared, same_sequent};
 use dlk_store::Store;
 use std::alloc::{AllocError, Global};
 
 /// Whether the sequent is the same as one of these.
-fn is_among<S: Store>(store: &S, all: &[Sequent], s: &Sequent) -> bool
+fn is_among<S: Store>(store: &S, all: &[Shared<Sequent>], s: &Sequent) -> bool
     requires all { All (IsKnown (S.trees store.now)) all.now }
     requires known { IsKnown (S.trees store.now) s.now }
     ensures { IsTrue result ↔ IsAmong (sequent_at (S.trees store.now) s.now) (map (sequent_at (S.trees store.now)) all.now) }
 {
     for t in all {
-        if same_sequent(store, s, t) {
+        if same_sequent(store, s, t.value()) {
             return true;
         }
     }
@@ -27,9 +26,9 @@ fn is_among<S: Store>(store: &S, all: &[Sequent], s: &Sequent) -> bool
 fn append_new<S: Store>(
     alloc: Global,
     store: &S,
-    old: &Listed<Sequent>,
-    more: &[Sequent],
-) -> Result<Listed<Sequent>, AllocError>
+    old: &Listed<Shared<Sequent>>,
+    more: &[Shared<Sequent>],
+) -> Result<Listed<Shared<Sequent>>, AllocError>
     requires old { All (IsKnown (S.trees store.now)) old.now }
     requires more { All (IsKnown (S.trees store.now)) more.now }
     ensures joined { IfOk result (λ all. (new : List TreeSequent)
@@ -37,13 +36,13 @@ fn append_new<S: Store>(
         × (map (sequent_at (S.trees store.now)) all ≡ map (sequent_at (S.trees store.now)) old.now ++ new)) }
     ensures known { IfOk result (All (IsKnown (S.trees store.now))) }
 {
-    let mut all = old.copy_with_room(alloc, more.len())?;
+    let mut all = old.share_with_room(alloc, more.len())?;
     for s in more {
-        if is_among(store, old.as_slice(), s) {
+        if is_among(store, old.as_slice(), s.value()) {
             continue;
         }
-        let copy = s.copy(alloc)?;
-        all.push(copy)?;
+        let leaf = s.share()?;
+        all.push(leaf)?;
     }
     Ok(all)
 }
@@ -53,9 +52,9 @@ fn append_new<S: Store>(
 pub(crate) fn join<S: Store>(
     alloc: Global,
     store: &S,
-    old: &Shared<Listed<Sequent>>,
-    more: &Shared<Listed<Sequent>>,
-) -> Result<Shared<Listed<Sequent>>, AllocError>
+    old: &Shared<Listed<Shared<Sequent>>>,
+    more: &Shared<Listed<Shared<Sequent>>>,
+) -> Result<Shared<Listed<Shared<Sequent>>>, AllocError>
     requires old { All (IsKnown (S.trees store.now)) old.now }
     requires more { All (IsKnown (S.trees store.now)) more.now }
     ensures joined { IfOk result (λ all. (new : List TreeSequent)

@@ -8,7 +8,6 @@ mod leaves;
 mod limits;
 mod renaming;
 mod row;
-mod shared;
 mod steps;
 mod substituting;
 

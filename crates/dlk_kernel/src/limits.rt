@@ -12,7 +12,7 @@ ghost use Rattle.dlk_kernel.specs.Limits.{is_within, is_sequent_within, is_subst
 use crate::fault::StepFault;
 use crate::row::Row;
 use dlk_calculus::{GREATEST_DEPTH, MOST_FORMULAS, MOST_NODES, Reason};
-use dlk_sequent::{Pair, Sequent};
+use dlk_sequent::{Pair, Sequent, Shared};
 use dlk_store::{Id, Store};
 
 /// What is counted of a tree.
@@ -52,12 +52,12 @@ fn is_sequent_within<S: Store>(store: &S, measure: Measure, s: &Sequent) -> bool
     are_within(store, measure, s.ante.as_slice()) && are_within(store, measure, s.succ.as_slice())
 }
 
-fn are_sequents_within<S: Store>(store: &S, measure: Measure, all: &[Sequent]) -> bool
+fn are_sequents_within<S: Store>(store: &S, measure: Measure, all: &[Shared<Sequent>]) -> bool
     requires { All (IsKnown (S.trees store.now)) all.now }
     ensures { result ≡ list_all (is_sequent_within measure) (map (sequent_at (S.trees store.now)) all.now) }
 {
     for s in all {
-        if !is_sequent_within(store, measure, s) {
+        if !is_sequent_within(store, measure, s.value()) {
             return false;
         }
     }
@@ -71,11 +71,11 @@ fn has_few(s: &Sequent) -> bool
     s.ante.as_slice().len() <= MOST_FORMULAS && s.succ.as_slice().len() <= MOST_FORMULAS
 }
 
-fn have_few<S: Store>(store: &S, all: &[Sequent]) -> bool
+fn have_few<S: Store>(store: &S, all: &[Shared<Sequent>]) -> bool
     ensures { result ≡ list_all has_few (map (sequent_at (S.trees store.now)) all.now) }
 {
     for s in all {
-        if !has_few(s) {
+        if !has_few(s.value()) {
             return false;
         }
     }
@@ -88,7 +88,7 @@ fn have_few<S: Store>(store: &S, all: &[Sequent]) -> bool
 ///
 /// `TooBig` where a formula has too many nodes, else `TooDeep` where one is too deep, else `SideFull` where a side has too many
 /// formulas.
-pub(crate) fn limit_sequents<S: Store>(store: &S, all: &[Sequent]) -> Result<(), StepFault>
+pub(crate) fn limit_sequents<S: Store>(store: &S, all: &[Shared<Sequent>]) -> Result<(), StepFault>
     requires { All (IsKnown (S.trees store.now)) all.now }
     ensures within { IfOk result (λ _. AreWithin (map (sequent_at (S.trees store.now)) all.now)) }
     ensures past { IfErr result (IsStepFault (IsPast (map (sequent_at (S.trees store.now)) all.now))) }

@@ -6,7 +6,7 @@ ghost use Rattle.dlk_calculus.specs.Provables.{swap_sequent};
 ghost use Rattle.dlk_sequent.specs.Sequents.{sequent_at, IsKnown};
 
 use dlk_rename::swap;
-use dlk_sequent::{Listed, Sequent};
+use dlk_sequent::{Listed, Sequent, Shared};
 use dlk_store::{Id, Steps, Store, StoreFault};
 use dlk_tree::Name;
 use std::alloc::Global;
@@ -57,11 +57,11 @@ pub(crate) fn swap_sequent<S: Store, L: Ledger>(
 pub(crate) fn swap_sequents<S: Store, L: Ledger>(
     alloc: Global,
     store: &mut S,
-    all: &[Sequent],
+    all: &[Shared<Sequent>],
     x: &Name,
     y: &Name,
     steps: &mut Steps<L>,
-) -> Result<Listed<Sequent>, StoreFault>
+) -> Result<Listed<Shared<Sequent>>, StoreFault>
     requires { All (IsKnown (S.trees store.old)) all.now }
     ensures made { IfOk result (λ made. map (sequent_at (S.trees store.new)) made ≡ map (swap_sequent x.now y.now) (map (sequent_at (S.trees store.old)) all.now)) }
     ensures known { IfOk result (All (IsKnown (S.trees store.new))) }
@@ -69,7 +69,8 @@ pub(crate) fn swap_sequents<S: Store, L: Ledger>(
 {
     let mut made = Listed::new(alloc);
     for s in all {
-        let swapped = swap_sequent(alloc, store, s, x, y, steps)?;
+        let swapped = swap_sequent(alloc, store, s.value(), x, y, steps)?;
+        let swapped = Shared::new(alloc, swapped)?;
         made.push(swapped)?;
     }
     Ok(made)

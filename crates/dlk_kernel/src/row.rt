@@ -1,10 +1,9 @@
-use crate::shared::Shared;
-use dlk_sequent::{Listed, Sequent};
+use dlk_sequent::{Listed, Sequent, Shared};
 
-/// A provable over the ids of a store. A row that keeps the conclusion or the leaves of an earlier one shares them.
+/// A provable over the ids of a store. A row shares with earlier ones what it keeps of them: the conclusion, goals, the leaves.
 #[derive(Drop, Debug)]
 pub struct Row {
     pub conclusion: Shared<Sequent>,
-    pub goals: Listed<Sequent>,
-    pub leaves: Shared<Listed<Sequent>>,
+    pub goals: Listed<Shared<Sequent>>,
+    pub leaves: Shared<Listed<Shared<Sequent>>>,
 }

@@ -17,10 +17,9 @@ ghost use Rattle.dlk_memo.specs.Looks.{most_looks};
 
 use crate::fault::StepFault;
 use crate::row::Row;
-use crate::shared::Shared;
 use dlk_calculus::Reason;
 use dlk_memo::{ApplyFault, apply};
-use dlk_sequent::{Listed, Pair, Sequent, Subst, SubstFault};
+use dlk_sequent::{Listed, Pair, Sequent, Shared, Subst, SubstFault};
 use dlk_store::{Id, Steps, Store};
 use std::alloc::{AllocError, Global};
 use std::sync::ledger::Ledger;
@@ -120,9 +119,9 @@ fn subst_sequents<S: Store, L: Ledger>(
     alloc: Global,
     store: &mut S,
     sigma: &Subst,
-    all: &[Sequent],
+    all: &[Shared<Sequent>],
     steps: &mut Steps<L>,
-) -> Result<Listed<Sequent>, ApplyFault>
+) -> Result<Listed<Shared<Sequent>>, ApplyFault>
     requires sigma { IsMadeOver (S.trees store.old) sigma.now }
     requires known { All (IsKnown (S.trees store.old)) all.now }
     ensures made { IfOk result (λ made. SubstSequents (pairs_at (S.trees store.old) sigma.now.pairs) (map (sequent_at (S.trees store.old)) all.now) (map (sequent_at (S.trees store.new)) made)) }
@@ -133,7 +132,8 @@ fn subst_sequents<S: Store, L: Ledger>(
 {
     let mut made = Listed::new(alloc);
     for s in all {
-        let substituted = subst_sequent(alloc, store, sigma, s, steps)?;
+        let substituted = subst_sequent(alloc, store, sigma, s.value(), steps)?;
+        let substituted = Shared::new(alloc, substituted)?;
         made.push(substituted)?;
     }
     Ok(made)

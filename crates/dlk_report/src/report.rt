@@ -9,7 +9,7 @@ ghost use Rattle.dlk_report.specs.Reports.{parts_of, text_of, HasAsciiTexts};
 use crate::fault::ReportFault;
 use dlk_kernel::{Fact, Kernel};
 use dlk_print::sequent_text;
-use dlk_sequent::Sequent;
+use dlk_sequent::{Sequent, Shared};
 use dlk_store::{Steps, Store};
 use std::alloc::Global;
 use std::sync::ledger::Ledger;
@@ -45,7 +45,7 @@ fn text<S: Store, L: Ledger>(
 fn texts<S: Store, L: Ledger>(
     alloc: Global,
     store: &S,
-    sequents: &[Sequent],
+    sequents: &[Shared<Sequent>],
     steps: &mut Steps<L>,
 ) -> Result<Vec<Vec<u8>>, ReportFault>
     requires { All (IsKnown (S.trees store.now)) sequents.now }
@@ -53,7 +53,7 @@ fn texts<S: Store, L: Ledger>(
 {
     let mut texts = Vec::new(alloc);
     for s in sequents {
-        texts.push(text(alloc, store, s, steps)?)?;
+        texts.push(text(alloc, store, s.value(), steps)?)?;
     }
     Ok(texts)
 }

@@ -10,7 +10,7 @@ use crate::fault::{LeavesFault, SmtFault};
 use crate::power::is_power;
 use crate::script::append_script;
 use dlk_print::{PrintFault, append, append_decimal};
-use dlk_sequent::Sequent;
+use dlk_sequent::{Sequent, Shared};
 use dlk_store::{Steps, Store};
 use std::alloc::Global;
 use std::sync::ledger::Ledger;
@@ -85,7 +85,7 @@ fn append_leaf<S: Store, L: Ledger>(
 pub fn leaves_text<S: Store, L: Ledger>(
     alloc: Global,
     store: &S,
-    leaves: &[Sequent],
+    leaves: &[Shared<Sequent>],
     steps: &mut Steps<L>,
 ) -> Result<Vec<u8>, LeavesFault>
     requires known { All (IsKnown (S.trees store.now)) leaves.now }
@@ -95,7 +95,7 @@ pub fn leaves_text<S: Store, L: Ledger>(
 {
     let mut out = Vec::new(alloc);
     for (i, s) in leaves.iter().enumerate() {
-        append_leaf(alloc, store, i + 1, s, &mut out, steps)?;
+        append_leaf(alloc, store, i + 1, s.value(), &mut out, steps)?;
     }
     Ok(out)
 }

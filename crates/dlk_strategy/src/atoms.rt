@@ -160,7 +160,7 @@ fn places_on<S: Store>(kernel: &Kernel<S>, side: Side, goal: u32) -> u32
     requires { IsPlace (main_goals (facts S.trees kernel.now)) goal }
     ensures { (s : Sequent) → At (main_goals (facts S.trees kernel.now)) goal s → result ≡ length (formulas side s) }
 {
-    let goal = &kernel.goals(kernel.rows())[goal as usize - 1];
+    let goal = kernel.goals(kernel.rows())[goal as usize - 1].value();
     match side {
         Side::Left => goal.ante.as_slice().len() as u32,
         Side::Right => goal.succ.as_slice().len() as u32,

@@ -12,7 +12,7 @@ use crate::limits::limit_sequents;
 use crate::row::Row;
 use dlk_calculus::{MOST_GOALS, Reason};
 use dlk_rules::{Rule, premises};
-use dlk_sequent::item_at;
+use dlk_sequent::{item_at, shared_each};
 use dlk_store::{Steps, Store};
 use std::alloc::Global;
 use std::sync::ledger::Ledger;
@@ -50,7 +50,8 @@ pub(super) fn apply<S: Store, L: Ledger>(
     let Some(s) = item_at(row.goals.as_slice(), goal) else {
         return Err(StepFault::Refused(Reason::NoGoal));
     };
-    let new = premises(alloc, store, rule, s, steps)?;
+    let new = premises(alloc, store, rule, s.value(), steps)?;
+    let new = shared_each(alloc, new)?;
     limit_sequents(store, new.as_slice())?;
     let goals = row.goals.with_all_at(alloc, goal, new.as_slice())?;
     if goals.as_slice().len() > MOST_GOALS {

@@ -7,9 +7,8 @@ ghost use Rattle.dlk_kernel.specs.Kernel.{provable_at, IsKnownRow};
 
 use crate::fault::StepFault;
 use crate::row::Row;
-use crate::shared::Shared;
 use dlk_calculus::Reason;
-use dlk_sequent::Listed;
+use dlk_sequent::{Listed, Shared, shared_each};
 use dlk_store::Store;
 use dlk_tree::Name;
 use std::alloc::Global;
@@ -38,7 +37,7 @@ pub(super) fn axiomatic_rule<S: Store>(
     };
     let conclusion = Shared::new(alloc, conclusion)?;
     let leaves = Shared::new(alloc, Listed::new(alloc))?;
-    let goals = Listed::from_vec(premises);
+    let goals = shared_each(alloc, premises)?;
     Ok(Row {
         conclusion,
         goals,

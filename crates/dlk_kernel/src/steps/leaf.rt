@@ -9,9 +9,8 @@ ghost use Rattle.dlk_kernel.specs.Kernel.{provable_at, IsKnownRow};
 use crate::fault::StepFault;
 use crate::limits::limit_sequents;
 use crate::row::Row;
-use crate::shared::Shared;
 use dlk_calculus::Reason;
-use dlk_sequent::{Listed, Sequent, is_arith, is_sequent};
+use dlk_sequent::{Listed, Sequent, Shared, is_arith, is_sequent};
 use dlk_store::{Steps, Store};
 use std::alloc::Global;
 use std::sync::ledger::Ledger;
@@ -42,7 +41,7 @@ pub(super) fn leaf<S: Store, L: Ledger>(
         return Err(StepFault::Refused(Reason::NotArith));
     }
     let conclusion = Shared::new(alloc, s.copy(alloc)?)?;
-    let own = s.copy(alloc)?;
+    let own = conclusion.share()?;
     let leaves = Listed::from_vec(vec![in alloc; own]?);
     limit_sequents(store, leaves.as_slice())?;
     let leaves = Shared::new(alloc, leaves)?;

@@ -42,7 +42,7 @@ pub(super) fn merge<S: Store>(
     let Some(s) = item_at(row.goals.as_slice(), goal) else {
         return Err(StepFault::Refused(Reason::NoGoal));
     };
-    if !same_sequent(store, s, proof.conclusion.value()) {
+    if !same_sequent(store, s.value(), proof.conclusion.value()) {
         return Err(StepFault::Refused(Reason::NotEqual));
     }
     let goals = row.goals.with_all_at(alloc, goal, proof.goals.as_slice())?;

@@ -7,9 +7,8 @@ ghost use Rattle.dlk_kernel.specs.Kernel.{provable_at, provables_at, IsKnownRow}
 use crate::fault::StepFault;
 use crate::renaming::{swap_sequent, swap_sequents};
 use crate::row::Row;
-use crate::shared::Shared;
 use dlk_calculus::Reason;
-use dlk_sequent::item_at;
+use dlk_sequent::{Shared, item_at};
 use dlk_store::{Steps, Store};
 use dlk_tree::Name;
 use std::alloc::Global;

@@ -9,9 +9,8 @@ ghost use Rattle.dlk_kernel.specs.Kernel.{provable_at, IsKnownRow};
 use crate::fault::StepFault;
 use crate::limits::limit_sequents;
 use crate::row::Row;
-use crate::shared::Shared;
 use dlk_calculus::Reason;
-use dlk_sequent::{Listed, Sequent, is_sequent};
+use dlk_sequent::{Listed, Sequent, Shared, is_sequent};
 use dlk_store::{Steps, Store};
 use std::alloc::Global;
 use std::sync::ledger::Ledger;
@@ -40,7 +39,7 @@ pub(super) fn start<S: Store, L: Ledger>(
     }
     let conclusion = Shared::new(alloc, s.copy(alloc)?)?;
     let leaves = Shared::new(alloc, Listed::new(alloc))?;
-    let goal = s.copy(alloc)?;
+    let goal = conclusion.share()?;
     let goals = Listed::from_vec(vec![in alloc; goal]?);
     limit_sequents(store, goals.as_slice())?;
     Ok(Row {

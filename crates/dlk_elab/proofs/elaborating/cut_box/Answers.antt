@@ -11,6 +11,7 @@ use Rattle.dlk_uses.specs.Uses.{cutting_box}
 use Rattle.dlk_elab.specs.Atoms.{cuts}
 use Rattle.dlk_elab.specs.Plans.{ArePlanned, goal_at, AreCutTrees}
 use Rattle.dlk_elab.proofs.BoxPlans.{id_later}
+use Rattle.dlk_elab.proofs.Places.{read_as}
 use Rattle.dlk_elab.proofs.Elaborates.{goal_within, goal_read, goal_small}
 use Rattle.dlk_elab.proofs.BoxAsks.{box_fault, cut_asked}
 use Rattle.dlk_elab.proofs.elaborating.cut_box.Goals as goal
@@ -18,35 +19,39 @@ use Rattle.dlk_elab.proofs.elaborating.cut_box.Goals as goal
 pub box_at-requires-clause-known : goal.box_at-requires-clause-known
 box_at-requires-clause-known g c =
     let trees = g.S.Store.trees c.args.kernel.now.store in
+    let read = read_as c.goals.result.now (c.args.target.goal - 1) c.value-s.result.now c.index-goals-target.result c.value-s.ensures c.index-goals-target.is in
     let within = goal_within trees (facts g.S.Store.trees c.args.kernel.now) c.args.target.fact c.args.target.goal c.goals.result.now c.requires.goal
     c.goals.ensures.goals in
-    subst (IsKnown trees) (sym c.index-goals-target.is) (c.goals.ensures.known (c.args.target.goal - 1) c.index-goals-target.result within)
+    subst (IsKnown trees) (sym read) (c.goals.ensures.known (c.args.target.goal - 1) c.value-s.result.now within)
 
 pub box_at-requires-clause-formulas : goal.box_at-requires-clause-formulas
 box_at-requires-clause-formulas g c =
     let trees = g.S.Store.trees c.args.kernel.now.store in
+    let read = read_as c.goals.result.now (c.args.target.goal - 1) c.value-s.result.now c.index-goals-target.result c.value-s.ensures c.index-goals-target.is in
     let within = goal_within trees (facts g.S.Store.trees c.args.kernel.now) c.args.target.fact c.args.target.goal c.goals.result.now c.requires.goal
     c.goals.ensures.goals in
-    subst (λ s. IsSequent (sequent_at trees s)) (sym c.index-goals-target.is) (c.goals.ensures.formulas (c.args.target.goal - 1) c.index-goals-target.result within)
+    subst (λ s. IsSequent (sequent_at trees s)) (sym read) (c.goals.ensures.formulas (c.args.target.goal - 1) c.value-s.result.now within)
 
 pub returns-in_err-boxed-clause-fault : goal.returns-in_err-boxed-clause-fault
 returns-in_err-boxed-clause-fault g c =
     let trees = g.S.Store.trees c.args.kernel.now.store in
+    let read = read_as c.goals.result.now (c.args.target.goal - 1) c.value-s.result.now c.index-goals-target.result c.value-s.ensures c.index-goals-target.is in
     let rows = facts g.S.Store.trees c.args.kernel.now in
-    let is_goal = goal_read trees rows c.args.target.fact c.args.target.goal c.goals.result.now c.index-goals-target.result c.requires.goal c.goals.ensures.goals
-    c.index-goals-target.is in
+    let is_goal = goal_read trees rows c.args.target.fact c.args.target.goal c.goals.result.now c.value-s.result.now c.requires.goal c.goals.ensures.goals
+    read in
     let counted = c.requires.rows ∙ sym (length-map c.args.kernel.now.rows (provable_at trees)) in
     let p = err_from_is_err_and c.from_residual.result c.from_residual.ensures.1 in
-    rw (p.1, p.2) (box_fault rows c.args.target (atom_at trees c.args.atom.now) trees c.index-goals-target.result (argument_at trees c.args.at.now) counted is_goal
+    rw (p.1, p.2) (box_fault rows c.args.target (atom_at trees c.args.atom.now) trees c.value-s.result.now (argument_at trees c.args.at.now) counted is_goal
     (cuts _ c.requires.call.0 c.requires.call.1) c.in_err-boxed.field-0.0 c.in_err-boxed.ensures.fault)
 
 pub returns-clause-plan : goal.returns-clause-plan
 returns-clause-plan g c =
     let trees = g.S.Store.trees c.args.kernel.now.store in
+    let read = read_as c.goals.result.now (c.args.target.goal - 1) c.value-s.result.now c.index-goals-target.result c.value-s.ensures c.index-goals-target.is in
     let new = g.S.Store.trees c.cut_trees.new.store.store in
     let rows = facts g.S.Store.trees c.args.kernel.now in
-    let is_goal = goal_read trees rows c.args.target.fact c.args.target.goal c.goals.result.now c.index-goals-target.result c.requires.goal c.goals.ensures.goals
-    c.index-goals-target.is in
+    let is_goal = goal_read trees rows c.args.target.fact c.args.target.goal c.goals.result.now c.value-s.result.now c.requires.goal c.goals.ensures.goals
+    read in
     let counted = c.requires.rows ∙ sym (length-map c.args.kernel.now.rows (provable_at trees)) in
     let at = c.in_ok-boxed.ensures.found in
     let keeps = g.met.S.Store.grows_keeps c.args.kernel.now.store c.cut_trees.new.store.store c.cut_trees.ensures.grows.0 in
@@ -54,11 +59,11 @@ returns-clause-plan g c =
     let e = made.formula_is in
     let b = c.in_ok-boxed.boxed in
     let trees_made = subst (λ (x : Id). AreCutTrees new b x c.in_ok-cut.cut) (sym e) made in
-    let planned = c.in_ok-plan.ensures new (sequent_at trees c.index-goals-target.result) (id_later trees new b.program keeps at.program_known)
+    let planned = c.in_ok-plan.ensures new (sequent_at trees c.value-s.result.now) (id_later trees new b.program keeps at.program_known)
     (id_later trees new b.formula keeps at.formula_known) trees_made in
-    cut_asked rows c.args.target (atom_at trees c.args.atom.now) trees c.index-goals-target.result (argument_at trees c.args.at.now) counted is_goal new b c.args.h
+    cut_asked rows c.args.target (atom_at trees c.args.atom.now) trees c.value-s.result.now (argument_at trees c.args.at.now) counted is_goal new b c.args.h
     c.in_ok-plan.plan.items keeps c.requires.known c.requires.call.0 c.requires.call.1 at
-    (subst (λ (x : Id). ArePlanned new c.in_ok-plan.plan.items (cutting_box c.args.target.rows (goal_at c.args.target (sequent_at trees c.index-goals-target.result))
+    (subst (λ (x : Id). ArePlanned new c.in_ok-plan.plan.items (cutting_box c.args.target.rows (goal_at c.args.target (sequent_at trees c.value-s.result.now))
     b.place (tree new b.program) (tree new b.formula) (tree new x))) e planned)
 
 pub cutting_box-requires-clause-goal : goal.cutting_box-requires-clause-goal

@@ -17,13 +17,14 @@ pub is_among-requires-clause-all : goal.is_among-requires-clause-all
 is_among-requires-clause-all g c = rw c.as_slice.ensures c.requires.old
 
 pub is_among-requires-clause-known : goal.is_among-requires-clause-known
-is_among-requires-clause-known g c = rw (← c.s-item.is) at (c.requires.more c.loop-s.s-index c.s-item.result c.loop-s-test.true)
+is_among-requires-clause-known g c =
+    rw c.value.ensures (rw (← c.s-item.is) at (c.requires.more c.loop-s.s-index c.s-item.result c.loop-s-test.true))
 
 pub loop-s-preserved-then-is_among : goal.loop-s-preserved-then-is_among
 loop-s-preserved-then-is_among g c =
     let trees = g.S.Store.trees c.args.store.now in
     let j = c.loop-s.invariant.joined in
-    let there = rw c.as_slice.ensures at (c.is_among.ensures.0 c.if-is_among.true) in
+    let there = rw (c.as_slice.ensures, c.value.ensures) at (c.is_among.ensures.0 c.if-is_among.true) in
     record {
       known = c.loop-s.invariant.known;
       joined = (j.0, one_there trees c.args.more.now c.loop-s.s-index c.s-item.result c.loop-s-test.true c.s-item.is _ j.0 there j.1, j.2);
@@ -36,12 +37,12 @@ loop-s-preserved g c =
     let known : IsKnown trees s = rw (← c.s-item.is) at (c.requires.more c.loop-s.s-index s c.loop-s-test.true) in
     let j = c.loop-s.invariant.joined in
     record {
-      known = rw (c.in_ok-push.ensures.ok, c.in_ok-copy.ensures) (All-push (IsKnown trees) c.loop-s.all s c.loop-s.invariant.known known);
+      known = rw (c.in_ok-push.ensures.ok, c.in_ok-leaf.ensures) (All-push (IsKnown trees) c.loop-s.all s c.loop-s.invariant.known known);
       joined = (
         j.0 ++ sequent_at trees s ∷ [],
         one_new trees c.args.more.now c.loop-s.s-index s c.loop-s-test.true c.s-item.is _ j.0
-            (λ a. absurd (both_ways c.is_among.result c.if-is_among.false (c.is_among.ensures.1 (rw c.as_slice.ensures a)))) j.1,
-        rw (c.in_ok-push.ensures.ok, c.in_ok-copy.ensures) (all_pushed trees c.args.old.now c.loop-s.all j.0 s j.2),
+            (λ a. absurd (both_ways c.is_among.result c.if-is_among.false (c.is_among.ensures.1 (rw (c.as_slice.ensures, c.value.ensures) a)))) j.1,
+        rw (c.in_ok-push.ensures.ok, c.in_ok-leaf.ensures) (all_pushed trees c.args.old.now c.loop-s.all j.0 s j.2),
       );
     }
 

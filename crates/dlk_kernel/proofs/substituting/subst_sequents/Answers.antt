@@ -14,7 +14,7 @@ subst_sequent-requires-clause-sigma g c =
 pub subst_sequent-requires-clause-known : goal.subst_sequent-requires-clause-known
 subst_sequent-requires-clause-known g c =
     let keeps = g.met.S.Store.grows_keeps c.args.store.now c.loop-s.store c.loop-s.invariant.grows in
-    IsKnown-kept keeps _ (rw (← c.s-item.is) at (c.requires.known c.loop-s.s-index c.s-item.result c.loop-s-test.true))
+    rw c.value.ensures (IsKnown-kept keeps _ (rw (← c.s-item.is) at (c.requires.known c.loop-s.s-index c.s-item.result c.loop-s-test.true)))
 
 pub returns-in_err-substituted-clause-none : goal.returns-in_err-substituted-clause-none
 returns-in_err-substituted-clause-none g c e =
@@ -23,21 +23,24 @@ returns-in_err-substituted-clause-none g c e =
     c.from_residual.ensures.1 e in
     let n = c.loop-s.s-index in
     no_sequent _ _ first c.args.sigma.now.pairs c.requires.sigma.known c.args.all.now n c.s-item.result c.loop-s-test.true
-    (c.requires.known n c.s-item.result c.loop-s-test.true) (rw c.s-item.is at c.subst_sequent.ensures.none failed)
+    (c.requires.known n c.s-item.result c.loop-s-test.true) (rw (c.value.ensures, c.s-item.is) at c.subst_sequent.ensures.none failed)
 
 pub loop-s-preserved : goal.loop-s-preserved
 loop-s-preserved g c =
     let first = g.met.S.Store.grows_keeps c.args.store.now c.loop-s.store c.loop-s.invariant.grows in
     let then = g.met.S.Store.grows_keeps c.loop-s.store c.subst_sequent.new.store c.subst_sequent.ensures.grows in
     let n = c.loop-s.s-index in
-    let made = rw c.s-item.is at c.in_ok-substituted.ensures.made in
+    let made = rw (c.value.ensures, c.s-item.is) at c.in_ok-substituted.ensures.made in
     record {
       grows = g.met.S.Store.grows_trans c.args.store.now c.loop-s.store c.subst_sequent.new.store c.loop-s.invariant.grows c.subst_sequent.ensures.grows;
-      known = rw c.in_ok-push.ensures.ok (one_more_known _ _ then c.loop-s.made _ c.loop-s.invariant.known c.in_ok-substituted.ensures.known);
+      known =
+          rw (c.in_ok-push.ensures.ok, c.in_ok-substituted-2.ensures)
+          (one_more_known _ _ then c.loop-s.made _ c.loop-s.invariant.known c.in_ok-substituted.ensures.known);
       looks = λ u. sequent_looked first c.args.sigma.now.pairs c.requires.sigma.known _ _ _ n c.args.all.now c.s-item.result c.loop-s-test.true
-          (c.requires.known n c.s-item.result c.loop-s-test.true) (c.loop-s.invariant.looks u) (rw c.s-item.is at (c.subst_sequent.ensures.looks u));
+          (c.requires.known n c.s-item.result c.loop-s-test.true) (c.loop-s.invariant.looks u)
+          (rw (c.value.ensures, c.s-item.is) at (c.subst_sequent.ensures.looks u));
       made =
-          rw c.in_ok-push.ensures.ok
+          rw (c.in_ok-push.ensures.ok, c.in_ok-substituted-2.ensures)
           (one_more_sequent _ _ first c.args.sigma.now.pairs c.requires.sigma.known _ then c.args.all.now c.loop-s.made n c.s-item.result _
           c.loop-s-test.true (c.requires.known n c.s-item.result c.loop-s-test.true) c.loop-s.invariant.known c.loop-s.invariant.made made);
     }
@@ -47,11 +50,25 @@ returns-in_err-substituted-clause-looks g c = λ u.
     let first = g.met.S.Store.grows_keeps c.args.store.now c.loop-s.store c.loop-s.invariant.grows in
     let n = c.loop-s.s-index in
     sequents_stopped first c.args.sigma.now.pairs c.requires.sigma.known _ _ _ n c.args.all.now c.s-item.result c.loop-s-test.true
-    (c.requires.known n c.s-item.result c.loop-s-test.true) (c.loop-s.invariant.looks u) (rw c.s-item.is at (c.subst_sequent.ensures.looks u))
+    (c.requires.known n c.s-item.result c.loop-s-test.true) (c.loop-s.invariant.looks u)
+    (rw (c.value.ensures, c.s-item.is) at (c.subst_sequent.ensures.looks u))
 
 pub returns-in_err-push-clause-looks : goal.returns-in_err-push-clause-looks
 returns-in_err-push-clause-looks g c = λ u.
     let first = g.met.S.Store.grows_keeps c.args.store.now c.loop-s.store c.loop-s.invariant.grows in
     let n = c.loop-s.s-index in
     sequents_stopped first c.args.sigma.now.pairs c.requires.sigma.known _ _ _ n c.args.all.now c.s-item.result c.loop-s-test.true
-    (c.requires.known n c.s-item.result c.loop-s-test.true) (c.loop-s.invariant.looks u) (rw c.s-item.is at (c.subst_sequent.ensures.looks u))
+    (c.requires.known n c.s-item.result c.loop-s-test.true) (c.loop-s.invariant.looks u)
+    (rw (c.value.ensures, c.s-item.is) at (c.subst_sequent.ensures.looks u))
+
+pub returns-in_err-substituted-2-clause-looks : goal.returns-in_err-substituted-2-clause-looks
+returns-in_err-substituted-2-clause-looks g c = λ u.
+    let first = g.met.S.Store.grows_keeps c.args.store.now c.loop-s.store c.loop-s.invariant.grows in
+    let n = c.loop-s.s-index in
+    sequents_stopped first c.args.sigma.now.pairs c.requires.sigma.known _ _ _ n c.args.all.now c.s-item.result c.loop-s-test.true
+    (c.requires.known n c.s-item.result c.loop-s-test.true) (c.loop-s.invariant.looks u)
+    (rw (c.value.ensures, c.s-item.is) at (c.subst_sequent.ensures.looks u))
+
+pub returns-in_err-push-clause-grows : goal.returns-in_err-push-clause-grows
+returns-in_err-push-clause-grows g c =
+    g.met.S.Store.grows_trans c.args.store.now c.loop-s.store c.subst_sequent.new.store c.loop-s.invariant.grows c.subst_sequent.ensures.grows

@@ -12,7 +12,7 @@ use Rattle.dlk_calculus.specs.Provables.{Provable}
 use Rattle.dlk_sequent.specs.declared.sequent.Sequent.{Sequent}
 use Rattle.dlk_sequent.specs.Sequents.{sequent_at}
 use Rattle.dlk_kernel.specs.Kernel.{provable_at, facts}
-use Rattle.dlk_elab.proofs.Places.{at_one, At-map, At_read}
+use Rattle.dlk_elab.proofs.Places.{at_one, At-map, At_read, read_as}
 use Rattle.dlk_strategy.specs.Runs.{main_goals, formulas}
 use Rattle.dlk_strategy.proofs.MainGoals.{shown_goals, few_formulas}
 use Rattle.dlk_strategy.proofs.States.{main_some}
@@ -59,36 +59,40 @@ pub overflow_cast-result : goal.overflow_cast-result
 overflow_cast-result g c =
     let trees = g.S.Store.trees c.args.kernel.now.store in
     let rows = facts g.S.Store.trees c.args.kernel.now in
+    let read = read_as c.goals.result.now (c.args.goal - 1) c.value-goal.result.now c.index-goals-goal.result c.value-goal.ensures c.index-goals-goal.is in
     let is = c.rows.ensures.count ∙ sym (length-map c.args.kernel.now.rows (provable_at trees)) in
     let same = all_shown trees rows c.goals.result.now c.rows.result c.args.goal is c.requires c.goals.ensures.goals in
-    let few = side_few trees rows c.goals.result.now c.args.goal c.index-goals-goal.result c.rows.ensures.limited same c.requires c.index-goals-goal.is in
-    omega (arith, ids_few trees c.as_slice.result.now c.index-goals-goal.result.ante c.as_slice.ensures few.ante)
+    let few = side_few trees rows c.goals.result.now c.args.goal c.value-goal.result.now c.rows.ensures.limited same c.requires read in
+    omega (arith, ids_few trees c.as_slice.result.now c.value-goal.result.now.ante c.as_slice.ensures few.ante)
 
 pub overflow_cast-result-in-Right : goal.overflow_cast-result-in-Right
 overflow_cast-result-in-Right g c =
     let trees = g.S.Store.trees c.args.kernel.now.store in
     let rows = facts g.S.Store.trees c.args.kernel.now in
+    let read = read_as c.goals.result.now (c.args.goal - 1) c.value-goal.result.now c.index-goals-goal.result c.value-goal.ensures c.index-goals-goal.is in
     let is = c.rows.ensures.count ∙ sym (length-map c.args.kernel.now.rows (provable_at trees)) in
     let same = all_shown trees rows c.goals.result.now c.rows.result c.args.goal is c.requires c.goals.ensures.goals in
-    let few = side_few trees rows c.goals.result.now c.args.goal c.index-goals-goal.result c.rows.ensures.limited same c.requires c.index-goals-goal.is in
-    omega (arith, ids_few trees c.as_slice-in-Right.result.now c.index-goals-goal.result.succ c.as_slice-in-Right.ensures few.succ)
+    let few = side_few trees rows c.goals.result.now c.args.goal c.value-goal.result.now c.rows.ensures.limited same c.requires read in
+    omega (arith, ids_few trees c.as_slice-in-Right.result.now c.value-goal.result.now.succ c.as_slice-in-Right.ensures few.succ)
 
 pub returns-in-Left : goal.returns-in-Left
 returns-in-Left g c = λ s stands.
     let trees = g.S.Store.trees c.args.kernel.now.store in
     let rows = facts g.S.Store.trees c.args.kernel.now in
+    let read = read_as c.goals.result.now (c.args.goal - 1) c.value-goal.result.now c.index-goals-goal.result c.value-goal.ensures c.index-goals-goal.is in
     let is = c.rows.ensures.count ∙ sym (length-map c.args.kernel.now.rows (provable_at trees)) in
     let same = all_shown trees rows c.goals.result.now c.rows.result c.args.goal is c.requires c.goals.ensures.goals in
-    let one = one_shown trees (main_goals rows) c.goals.result.now c.args.goal c.index-goals-goal.result s same c.requires c.index-goals-goal.is stands in
-    let left = counted trees c.as_slice.result.now c.index-goals-goal.result.ante s.ante c.as_slice.ensures (ap (λ (t : TreeSequent). t.ante) one) in
+    let one = one_shown trees (main_goals rows) c.goals.result.now c.args.goal c.value-goal.result.now s same c.requires read stands in
+    let left = counted trees c.as_slice.result.now c.value-goal.result.now.ante s.ante c.as_slice.ensures (ap (λ (t : TreeSequent). t.ante) one) in
     left ∙ ap (λ side. length (formulas side s)) (sym c.in-Left.is)
 
 pub returns-in-Right : goal.returns-in-Right
 returns-in-Right g c = λ s stands.
     let trees = g.S.Store.trees c.args.kernel.now.store in
     let rows = facts g.S.Store.trees c.args.kernel.now in
+    let read = read_as c.goals.result.now (c.args.goal - 1) c.value-goal.result.now c.index-goals-goal.result c.value-goal.ensures c.index-goals-goal.is in
     let is = c.rows.ensures.count ∙ sym (length-map c.args.kernel.now.rows (provable_at trees)) in
     let same = all_shown trees rows c.goals.result.now c.rows.result c.args.goal is c.requires c.goals.ensures.goals in
-    let one = one_shown trees (main_goals rows) c.goals.result.now c.args.goal c.index-goals-goal.result s same c.requires c.index-goals-goal.is stands in
-    let right = counted trees c.as_slice-in-Right.result.now c.index-goals-goal.result.succ s.succ c.as_slice-in-Right.ensures (ap (λ (t : TreeSequent). t.succ) one) in
+    let one = one_shown trees (main_goals rows) c.goals.result.now c.args.goal c.value-goal.result.now s same c.requires read stands in
+    let right = counted trees c.as_slice-in-Right.result.now c.value-goal.result.now.succ s.succ c.as_slice-in-Right.ensures (ap (λ (t : TreeSequent). t.succ) one) in
     right ∙ ap (λ side. length (formulas side s)) (sym c.in-Right.is)

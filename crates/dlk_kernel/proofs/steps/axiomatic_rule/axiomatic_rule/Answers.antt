@@ -9,14 +9,14 @@ pub returns-clause-given : goal.returns-clause-given
 returns-clause-given g c =
     let found = rw (c.bytes.ensures.bytes, c.in-Some.is) at c.in_ok-premises.ensures.rule in
     rule_given _ c.in-Some.premises.items c.in-Some.conclusion _
-    (rw (c.in_ok-conclusion.ensures, c.in_ok-leaves.ensures, c.new-2.ensures, c.from_vec-goals.ensures) refl) found.0 found.2
+    (rw (c.in_ok-conclusion.ensures, c.in_ok-leaves.ensures, c.new-2.ensures, c.in_ok-goals.ensures) refl) found.0 found.2
     c.args.name.now found.1
 
 pub returns-clause-known : goal.returns-clause-known
 returns-clause-known g c =
     let found = rw (c.bytes.ensures.bytes, c.in-Some.is) at c.in_ok-premises.ensures.rule in
     rule_known _ c.in-Some.premises.items c.in-Some.conclusion _
-    (rw (c.in_ok-conclusion.ensures, c.in_ok-leaves.ensures, c.new-2.ensures, c.from_vec-goals.ensures) refl) found.0 found.2
+    (rw (c.in_ok-conclusion.ensures, c.in_ok-leaves.ensures, c.new-2.ensures, c.in_ok-goals.ensures) refl) found.0 found.2
 
 pub returns-clause-within : goal.returns-clause-within
 returns-clause-within g c = rule_within c.args.name.now _

@@ -29,18 +29,19 @@ pub same_sequent-requires-clause-first : goal.same_sequent-requires-clause-first
 same_sequent-requires-clause-first g c =
     let trees = g.S.Store.trees c.args.store.now in
     let row = At_All (IsKnownRow trees) c.args.rows.now c.args.fact c.in-Some.row.now c.requires c.in-Some.ensures in
-    At_All (IsKnown trees) c.in-Some.row.now.goals c.args.goal c.in-Some-item_at-2.s.now row.goals (cc (c.in-Some-item_at-2.ensures, c.as_slice.ensures))
+    rw c.value.ensures
+    (At_All (IsKnown trees) c.in-Some.row.now.goals c.args.goal c.in-Some-item_at-2.s.now row.goals (cc (c.in-Some-item_at-2.ensures, c.as_slice.ensures)))
 
 pub same_sequent-requires-clause-second : goal.same_sequent-requires-clause-second
 same_sequent-requires-clause-second g c =
-    rw c.value.ensures ((At_All (IsKnownRow (g.S.Store.trees c.args.store.now)) c.args.rows.now c.args.by c.in-Some-item_at.proof.now c.requires
+    rw c.value-2.ensures ((At_All (IsKnownRow (g.S.Store.trees c.args.store.now)) c.args.rows.now c.args.by c.in-Some-item_at.proof.now c.requires
     c.in-Some-item_at.ensures).conclusion)
 
 pub returns-then-not-same_sequent-clause-fault : goal.returns-then-not-same_sequent-clause-fault
 returns-then-not-same_sequent-clause-fault g c =
     merge_at_other _ c.args.rows.now c.args.fact c.args.goal c.args.by c.in-Some.row.now c.in-Some-item_at.proof.now c.in-Some.ensures c.in-Some-item_at.ensures
     c.in-Some-item_at-2.s.now (cc (c.in-Some-item_at-2.ensures, c.as_slice.ensures))
-    (λ e. absurd (both_ways c.same_sequent.result c.if-not-same_sequent.true ((rw c.value.ensures at c.same_sequent.ensures.1) e)))
+    (λ e. absurd (both_ways c.same_sequent.result c.if-not-same_sequent.true ((rw (c.value.ensures, c.value-2.ensures) at c.same_sequent.ensures.1) e)))
 
 pub with_all_at-requires : goal.with_all_at-requires
 with_all_at-requires g c = At_place c.in-Some.row.now.goals c.args.goal c.in-Some-item_at-2.s.now (cc (c.in-Some-item_at-2.ensures, c.as_slice.ensures))
@@ -58,7 +59,7 @@ returns-clause-given g c =
     let joined = c.in_ok-leaves.ensures.joined in
     merged_given _ c.args.rows.now c.args.fact c.args.goal c.args.by c.in-Some.row.now c.in-Some-item_at.proof.now c.in-Some.ensures c.in-Some-item_at.ensures
     c.in-Some-item_at-2.s.now (cc (c.in-Some-item_at-2.ensures, c.as_slice.ensures))
-    (rw c.value.ensures at (c.same_sequent.ensures.0 c.if-not-same_sequent.false)) joined.0 joined.1 c.in_ok-leaves.leaves joined.2 _
+    (rw (c.value.ensures, c.value-2.ensures) at (c.same_sequent.ensures.0 c.if-not-same_sequent.false)) joined.0 joined.1 c.in_ok-leaves.leaves joined.2 _
     (rw (c.in_ok-conclusion.ensures, c.in_ok-goals.ensures, c.as_slice-2.ensures))
 
 pub returns-clause-known : goal.returns-clause-known
@@ -73,7 +74,7 @@ pub returns-then-as_slice-gt-MOST_GOALS-clause-fault : goal.returns-then-as_slic
 returns-then-as_slice-gt-MOST_GOALS-clause-fault g c =
     merge_full _ c.args.rows.now c.args.fact c.args.goal c.args.by c.in-Some.row.now c.in-Some-item_at.proof.now c.in-Some.ensures c.in-Some-item_at.ensures
     c.in-Some-item_at-2.s.now (cc (c.in-Some-item_at-2.ensures, c.as_slice.ensures))
-    (rw c.value.ensures at (c.same_sequent.ensures.0 c.if-not-same_sequent.false))
+    (rw (c.value.ensures, c.value-2.ensures) at (c.same_sequent.ensures.0 c.if-not-same_sequent.false))
     c.in_ok-goals.goals (rw (c.in_ok-goals.ensures, c.as_slice-2.ensures) refl)
     (omega (arith, c.if-as_slice-gt-MOST_GOALS.true, ap (λ (l : List Sequent). length l) c.as_slice-3.ensures))
 
@@ -83,11 +84,11 @@ returns-then-as_slice-gt-MOST_LEAVES-clause-fault g c =
     merge_leaves_full _ c.args.rows.now c.args.fact c.args.goal c.args.by c.in-Some.row.now c.in-Some-item_at.proof.now c.in-Some.ensures
     c.in-Some-item_at.ensures
     c.in-Some-item_at-2.s.now (cc (c.in-Some-item_at-2.ensures, c.as_slice.ensures))
-    (rw c.value.ensures at (c.same_sequent.ensures.0 c.if-not-same_sequent.false))
+    (rw (c.value.ensures, c.value-2.ensures) at (c.same_sequent.ensures.0 c.if-not-same_sequent.false))
     c.in_ok-goals.goals (rw (c.in_ok-goals.ensures, c.as_slice-2.ensures) refl)
     (omega (arith, c.if-as_slice-gt-MOST_GOALS.false, ap (λ (l : List Sequent). length l) c.as_slice-3.ensures))
     c.in_ok-leaves.leaves joined.0 joined.1 joined.2
-    (omega (arith, c.if-as_slice-gt-MOST_LEAVES.true, ap (λ (l : List Sequent). length l) (c.as_slice-4.ensures ∙ c.value-2.ensures)))
+    (omega (arith, c.if-as_slice-gt-MOST_LEAVES.true, ap (λ (l : List Sequent). length l) (c.as_slice-4.ensures ∙ c.value-3.ensures)))
 
 pub returns-clause-within : goal.returns-clause-within
 returns-clause-within g c =
@@ -95,9 +96,9 @@ returns-clause-within g c =
     merge_row_within _ c.args.rows.now c.args.fact c.args.goal c.args.by c.in-Some.row.now c.in-Some-item_at.proof.now c.in-Some.ensures
     c.in-Some-item_at.ensures
     c.in-Some-item_at-2.s.now (cc (c.in-Some-item_at-2.ensures, c.as_slice.ensures))
-    (rw c.value.ensures at (c.same_sequent.ensures.0 c.if-not-same_sequent.false))
+    (rw (c.value.ensures, c.value-2.ensures) at (c.same_sequent.ensures.0 c.if-not-same_sequent.false))
     c.in_ok-goals.goals (rw (c.in_ok-goals.ensures, c.as_slice-2.ensures) refl)
     (omega (arith, c.if-as_slice-gt-MOST_GOALS.false, ap (λ (l : List Sequent). length l) c.as_slice-3.ensures))
     c.in_ok-leaves.leaves joined.0 joined.1 joined.2
-    (omega (arith, c.if-as_slice-gt-MOST_LEAVES.false, ap (λ (l : List Sequent). length l) (c.as_slice-4.ensures ∙ c.value-2.ensures))) _
+    (omega (arith, c.if-as_slice-gt-MOST_LEAVES.false, ap (λ (l : List Sequent). length l) (c.as_slice-4.ensures ∙ c.value-3.ensures))) _
     (rw c.in_ok-conclusion.ensures refl)
