@@ -1,5 +1,5 @@
 -- What lexemes make of the pairs of a substitution.
-use Rattle.std.proofs.Common.{◌≡◌, true, false, List, [], ◌∷◌, ◌++◌, Option, Some, None, Result, Ok, Err, refl, ap, subst, ◌∙◌}
+use Rattle.std.proofs.Common.{◌≡◌, true, false, List, [], ◌∷◌, ◌++◌, Option, Some, None, Result, Ok, Err, refl, sym, ap, subst, ◌∙◌}
 use Rattle.dlk_tree.specs.declared.op.Sym.{Sym}
 use Rattle.dlk_tree.specs.declared.op.Sort.{Sort}
 use Rattle.dlk_tree.specs.declared.op.Sort.TheVariants.{Term, Formula, Program}
@@ -13,8 +13,10 @@ use Rattle.dlk_machine.specs.Parse.{or_else}
 use Rattle.dlk_machine.specs.Pairs.{Right, EitherOf, TextOf, SystemOf, PairState, Begins, InRight, InSystem, system_state, PairsState, Within}
 use Rattle.dlk_machine.specs.Pairs.{pair_step, pair_ended, pairs_step, right_sort, right_ended, within}
 use Rattle.dlk_reader.specs.Shows.{seen, last_of, Shows, Agrees}
+use Rattle.dlk_reader.specs.Outcomes.{leaving}
 use Rattle.dlk_reader.specs.Ends.{at_comma}
 use Rattle.dlk_forms.specs.PairReaders.{wants, left_state, IsLeft, right_whole, with_pair, KeepsPairs, Rests, is_and, is_system, ShowsPair, ShowsWithin}
+use Rattle.dlk_forms.specs.PairReaders.{ShowsPairsAt, ShowsPairs}
 use Rattle.dlk_reader.specs.declared.lexeme.Lexeme.{Lexeme as SeenLexeme}
 use Rattle.dlk_reader.specs.declared.lexeme.Lexeme.TheVariants as lexeme
 use Rattle.dlk_forms.specs.declared.pair_heads.LeftMode.{LeftMode}
@@ -23,6 +25,7 @@ use Rattle.dlk_forms.specs.declared.pair_heads.Right.{Right as RightPart}
 use Rattle.dlk_forms.specs.declared.pairs.PairMode.{PairMode}
 use Rattle.dlk_forms.specs.declared.pairs.PairMode.TheVariants as pair
 use Rattle.dlk_forms.specs.declared.pairs.PairsSoFar.{PairsSoFar}
+use Rattle.dlk_forms.specs.declared.pairs.PairsReader.{PairsReader}
 use Rattle.dlk_reader.specs.declared.parts.Last.{Last}
 use Rattle.dlk_reader.specs.declared.parts.Mode.{Mode}
 use Rattle.dlk_reader.specs.declared.parts.Mode.TheVariants as mode
@@ -207,3 +210,34 @@ next_begins r l h = record { pairs = l; pair = Begins; state = refl; shows = rec
 pub right_goes_on : (r : PairsSoFar) (l : List PairPhrase) (w : RightPart) (m : Mode) (x : State) → KeepsPairs r l → Shows r.stack m x
     → ShowsWithin r (pair.InRight w m) (Within l (InRight (wants w) x))
 right_goes_on r l w m x k h = record { pairs = l; pair = InRight (wants w) x; state = refl; shows = record { inner = x; state = refl; pairs = k; shows = h } }
+
+-- the same of what a call leaves, where another reader holds it
+agrees_leaving : {R V Y W : Type 0} (s : R → Y → Type 0) (t : V → W → Type 0) (r : R) (v : V) (done : Result (Unit {0}) StepFault) (u : Option Y)
+    (g : Y → W) → ((y : Y) → s r y → t v (g y)) → Agrees s (leaving r done) u → Agrees t (leaving v done) (u >>= λ y. Some (g y))
+agrees_leaving s t r v (Ok d) (Some y) g f a = f y a
+agrees_leaving s t r v (Ok d) None g f a = a
+agrees_leaving s t r v (Err Memory) u g f a = tt
+agrees_leaving s t r v (Err Syntax) (Some y) g f a = absurd a
+agrees_leaving s t r v (Err Syntax) None g f a = a
+
+-- In a right side only the stack and where its reader stands change.
+module _ (r : PairsSoFar) (k : Stack) (w : RightPart) (m next : Mode) (c : SeenLexeme) (done : Result (Unit {0}) StepFault) where
+  abbrev changed : PairsReader
+  changed = record { pairs = record r { stack = k }; mode = Some (pair.InRight w next) }
+
+  right_changed : (x : PairsState) → (c ≡ lexeme.Comma → ⊥)
+      → ((y : State) → Shows r.stack m y → Agrees (Shows k) (leaving next done) (step (right_sort (wants w)) y (seen c)))
+      → ShowsWithin r (pair.InRight w m) x → Agrees ShowsPairs (leaving changed done) (pairs_step x (seen c))
+  right_changed x other steps h =
+      let i = h.shows in
+      let is = ap (λ (y : PairsState). pairs_step y (seen c)) (h.state ∙ ap (Within h.pairs) i.state)
+      ∙ within_other h.pairs (InRight (wants w) i.inner) c other
+      ∙ within_right h.pairs (wants w) (step (right_sort (wants w)) i.inner (seen c)) in
+      subst (λ (o : Option PairsState). Agrees ShowsPairs (leaving changed done) o) (sym is)
+      (agrees_leaving (Shows k) ShowsPairs next changed done (step (right_sort (wants w)) i.inner (seen c)) (λ y. Within h.pairs (InRight (wants w) y))
+      (λ y s. right_goes_on (record r { stack = k }) h.pairs w next y (keeps_pairs r k h.pairs i.pairs) s) (steps i.inner i.shows))
+
+  pub right_changed_at : (old : Option PairMode) (x : PairsState) → old ≡ Some (pair.InRight w m) → (c ≡ lexeme.Comma → ⊥)
+      → ((y : State) → Shows r.stack m y → Agrees (Shows k) (leaving next done) (step (right_sort (wants w)) y (seen c)))
+      → ShowsPairsAt r old x → Agrees ShowsPairs (leaving changed done) (pairs_step x (seen c))
+  right_changed_at old x e other steps h = right_changed x other steps (subst (λ (o : Option PairMode). ShowsPairsAt r o x) e h)

@@ -6,6 +6,7 @@ ghost use Rattle.dlk_grammar.specs.declared.token.Dots.TheVariants.{Allowed};
 ghost use Rattle.dlk_machine.specs.Machine.{when};
 ghost use Rattle.dlk_machine.specs.Pairs.{PairsState, Fresh};
 ghost use Rattle.dlk_machine.specs.Extras.{ExtraState, InPairs as PairsWithin, NewWanted as NameWanted, Renamed as RenameEnds, extra_step, extra_ended};
+ghost use Rattle.dlk_reader.specs.Outcomes.{leaving};
 ghost use Rattle.dlk_reader.specs.Shows.{seen, Agrees};
 ghost use Rattle.dlk_forms.specs.PairReaders.{Rests, ShowsPairsAt};
 ghost use Rattle.dlk_forms.specs.ExtraReaders.{pairs_go_on, ShowsExtraAt, ShowsExtra, ExtraComes};
@@ -19,6 +20,7 @@ use dlk_grammar::Dots;
 use dlk_reader::{Lexeme, LexemeReader, StepFault};
 use dlk_tree::Name;
 use std::alloc::Global;
+use std::mem;
 
 /// Where the reader stands.
 #[derive(Drop)]
@@ -184,17 +186,17 @@ impl ExtraReader {
         }
     }
 
-    /// The reader behind one more lexeme.
-    fn behind(self, alloc: Global, lexeme: Lexeme) -> Result<ExtraReader, StepFault>
-        ensures { (x : ExtraState) → ShowsExtra self x
-            → Agrees ShowsExtra result (when (permits Allowed (seen lexeme)) (extra_step x (seen lexeme))) }
+    /// Goes on by one more lexeme.
+    fn go_on(&mut self, alloc: Global, lexeme: Lexeme) -> Result<(), StepFault>
+        ensures { (x : ExtraState) → ShowsExtra self.old x
+            → Agrees ShowsExtra (leaving self.new result) (when (permits Allowed (seen lexeme)) (extra_step x (seen lexeme))) }
     {
-        let ExtraReader { mut extra, mode } = self;
         if !permits(Dots::Allowed, &lexeme) {
             return Err(StepFault::Syntax);
         }
-        let mode = extra.step(alloc, mode, lexeme)?;
-        Ok(ExtraReader { extra, mode })
+        let mode = mem::replace(&mut self.mode, ExtraMode::Renamed);
+        self.mode = self.extra.step(alloc, mode, lexeme)?;
+        Ok(())
     }
 }
 
@@ -203,8 +205,8 @@ impl LexemeReader for ExtraReader {
 
     ghost comes = { ExtraComes };
 
-    fn step(self, alloc: Global, lexeme: Lexeme) -> Result<Self, StepFault> {
-        self.behind(alloc, lexeme)
+    fn step(&mut self, alloc: Global, lexeme: Lexeme) -> Result<(), StepFault> {
+        self.go_on(alloc, lexeme)
     }
 
     fn end(self) -> Result<ExtraCode, StepFault> {

@@ -1,5 +1,5 @@
 //! The reader of a substitution: pairs with commas between.
-ghost use Rattle.std.specs.Prelude.{◌≡◌, List, [], ◌∷◌, ◌++◌, Some};
+ghost use Rattle.std.specs.Prelude.{◌≡◌, ◌↔◌, IsTrue, List, [], ◌∷◌, ◌++◌, Some};
 ghost use Rattle.dlk_grammar.specs.Lexemes.{Comma as CommaLexeme};
 ghost use Rattle.dlk_grammar.specs.Phrases.{Phrase};
 ghost use Rattle.dlk_grammar.specs.Substitutions.{PairPhrase, to, predicate, function};
@@ -8,6 +8,8 @@ ghost use Rattle.dlk_grammar.specs.declared.token.Dots.TheVariants.{Allowed};
 ghost use Rattle.dlk_grammar.specs.Readings.{permits};
 ghost use Rattle.dlk_machine.specs.Pairs.{PairState, PairsState, Fresh, Within, LeftEnds, InRight, BraceWanted, InSystem, pair_step, pairs_step};
 ghost use Rattle.dlk_machine.specs.Pairs.{pairs_ended, right_ended, right_sort};
+ghost use Rattle.dlk_reader.specs.declared.lexeme.Lexeme.TheVariants.{Comma as SeenComma};
+ghost use Rattle.dlk_reader.specs.Outcomes.{leaving};
 ghost use Rattle.dlk_reader.specs.Shows.{seen, IsWhole, Stands, Shows, Agrees};
 ghost use Rattle.dlk_forms.specs.PairReaders.{target_of, wants, symbol_as, right_whole, with_pair, KeepsPairs, Rests, IsPairOf, is_and, is_system};
 ghost use Rattle.dlk_forms.specs.PairReaders.{ShowsPair, ShowsWithin, ShowsPairsAt, ShowsPairs, PairsComes};
@@ -128,6 +130,12 @@ fn settle_right(stack: &mut Stack, right: Right, last: Last) -> Result<Sym, Step
         }
         Right::SystemOf(_) => Err(StepFault::Syntax),
     }
+}
+
+fn is_comma(lexeme: &Lexeme) -> bool
+    ensures { IsTrue result ↔ (lexeme.now ≡ SeenComma) }
+{
+    matches!(lexeme, Lexeme::Comma)
 }
 
 /// Whether a lexeme begins a domain.
@@ -336,17 +344,33 @@ impl PairsReader {
         PairsReader { pairs, mode: None }
     }
 
-    /// The reader behind one more lexeme.
-    fn behind(self, alloc: Global, lexeme: Lexeme) -> Result<PairsReader, StepFault>
-        ensures { (x : PairsState) → ShowsPairs self x
-            → Agrees ShowsPairs result (when (permits Allowed (seen lexeme)) (pairs_step x (seen lexeme))) }
+    /// Goes on by one more lexeme.
+    fn go_on(&mut self, alloc: Global, lexeme: Lexeme) -> Result<(), StepFault>
+        ensures { (x : PairsState) → ShowsPairs self.old x
+            → Agrees ShowsPairs (leaving self.new result) (when (permits Allowed (seen lexeme)) (pairs_step x (seen lexeme))) }
     {
-        let PairsReader { mut pairs, mode } = self;
         if !permits(Dots::Allowed, &lexeme) {
             return Err(StepFault::Syntax);
         }
-        let mode = Some(pairs.step(alloc, mode, lexeme)?);
-        Ok(PairsReader { pairs, mode })
+        self.go_on_permitted(alloc, lexeme)
+    }
+
+    /// Goes on by one more lexeme, which is permitted. In a right side only where that is read changes.
+    fn go_on_permitted(&mut self, alloc: Global, lexeme: Lexeme) -> Result<(), StepFault>
+        ensures { (x : PairsState) → ShowsPairs self.old x
+            → Agrees ShowsPairs (leaving self.new result) (pairs_step x (seen lexeme)) }
+    {
+        if !is_comma(&lexeme) {
+            if let Some(pair) = &mut self.mode {
+                if let PairMode::InRight(right, mode) = pair {
+                    let sort = right_sort(right);
+                    return self.pairs.stack.go_on(alloc, sort, mode, lexeme);
+                }
+            }
+        }
+        let mode = self.mode.take();
+        self.mode = Some(self.pairs.step(alloc, mode, lexeme)?);
+        Ok(())
     }
 }
 
@@ -355,8 +379,8 @@ impl LexemeReader for PairsReader {
 
     ghost comes = { PairsComes };
 
-    fn step(self, alloc: Global, lexeme: Lexeme) -> Result<Self, StepFault> {
-        self.behind(alloc, lexeme)
+    fn step(&mut self, alloc: Global, lexeme: Lexeme) -> Result<(), StepFault> {
+        self.go_on(alloc, lexeme)
     }
 
     fn end(self) -> Result<PairsCode, StepFault> {

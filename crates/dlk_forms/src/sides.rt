@@ -6,6 +6,7 @@ ghost use Rattle.dlk_grammar.specs.Readings.{permits};
 ghost use Rattle.dlk_machine.specs.Machine.{State, when};
 ghost use Rattle.dlk_machine.specs.Sequents.{Side, LeftSide, SequentState, Fresh, Reading, sequent_step, sequent_ended, turn, inner};
 ghost use Rattle.dlk_grammar.specs.Lexemes.{Comma as CommaLexeme, Turnstile};
+ghost use Rattle.dlk_reader.specs.Outcomes.{leaving};
 ghost use Rattle.dlk_reader.specs.Shows.{IsWhole, seen, Agrees};
 ghost use Rattle.dlk_forms.specs.Readers.{ShowsBetween, ShowsReading, ShowsSidesAt, ShowsSides, SidesComes, KeepsSide, IsCodeOf, finished, both_of};
 
@@ -180,17 +181,17 @@ impl SidesReader {
         SidesReader { sides, mode: None }
     }
 
-    /// The reader behind one more lexeme.
-    fn behind(self, alloc: Global, lexeme: Lexeme) -> Result<SidesReader, StepFault>
-        ensures { (x : SequentState) → ShowsSides self x
-            → Agrees ShowsSides result (when (permits Refused (seen lexeme)) (sequent_step x (seen lexeme))) }
+    /// Goes on by one more lexeme.
+    fn go_on(&mut self, alloc: Global, lexeme: Lexeme) -> Result<(), StepFault>
+        ensures { (x : SequentState) → ShowsSides self.old x
+            → Agrees ShowsSides (leaving self.new result) (when (permits Refused (seen lexeme)) (sequent_step x (seen lexeme))) }
     {
-        let SidesReader { mut sides, mode } = self;
         if !permits(Dots::Refused, &lexeme) {
             return Err(StepFault::Syntax);
         }
-        let mode = sides.step(alloc, mode, lexeme)?;
-        Ok(SidesReader { sides, mode })
+        let mode = self.mode.take();
+        self.mode = self.sides.step(alloc, mode, lexeme)?;
+        Ok(())
     }
 }
 
@@ -199,8 +200,8 @@ impl LexemeReader for SidesReader {
 
     ghost comes = { SidesComes };
 
-    fn step(self, alloc: Global, lexeme: Lexeme) -> Result<Self, StepFault> {
-        self.behind(alloc, lexeme)
+    fn step(&mut self, alloc: Global, lexeme: Lexeme) -> Result<(), StepFault> {
+        self.go_on(alloc, lexeme)
     }
 
     fn end(self) -> Result<SidesCode, StepFault> {

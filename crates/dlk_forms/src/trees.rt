@@ -6,6 +6,7 @@ ghost use Rattle.dlk_grammar.specs.Readings.{permits};
 ghost use Rattle.dlk_machine.specs.Machine.{when};
 ghost use Rattle.dlk_machine.specs.Forms.{FormState};
 ghost use Rattle.dlk_reader.specs.declared.stack.Stack.{Stack as TheStack};
+ghost use Rattle.dlk_reader.specs.Outcomes.{leaving};
 ghost use Rattle.dlk_reader.specs.Shows.{seen, Agrees, IsOpen};
 ghost use Rattle.dlk_forms.specs.Readers.{ShowsPlace, ShowsTree, IsTreeCode, TreeComes, tree_start, tree_step, tree_ended};
 
@@ -15,6 +16,7 @@ use dlk_grammar::{Dots, Form};
 use dlk_reader::{Code, Lexeme, LexemeReader, Mode, Stack, StepFault};
 use dlk_tree::Sort;
 use std::alloc::Global;
+use std::mem;
 
 /// A reader of a term, a formula, a program or an expression, in which dots are allowed or refused.
 #[derive(Drop)]
@@ -48,21 +50,20 @@ impl TreeReader {
         }
     }
 
-    /// The reader behind one more lexeme.
-    fn behind(self, alloc: Global, lexeme: Lexeme) -> Result<TreeReader, StepFault>
-        ensures { (d : TheDots) (form : TheForm) (x : FormState form) → ShowsTree d form self x
-            → Agrees (ShowsTree d form) result (when (permits d (seen lexeme)) (tree_step form x (seen lexeme))) }
+    /// Goes on by one more lexeme. In a tree of a known sort only where it is read changes.
+    fn go_on(&mut self, alloc: Global, lexeme: Lexeme) -> Result<(), StepFault>
+        ensures { (d : TheDots) (form : TheForm) (x : FormState form) → ShowsTree d form self.old x
+            → Agrees (ShowsTree d form) (leaving self.new result) (when (permits d (seen lexeme)) (tree_step form x (seen lexeme))) }
     {
-        let TreeReader {
-            dots,
-            mut stack,
-            place,
-        } = self;
-        if !permits(dots, &lexeme) {
+        if !permits(self.dots, &lexeme) {
             return Err(StepFault::Syntax);
         }
-        let place = step_tree(&mut stack, alloc, place, lexeme)?;
-        Ok(TreeReader { dots, stack, place })
+        if let Place::Of(sort, mode) = &mut self.place {
+            return self.stack.go_on(alloc, *sort, mode, lexeme);
+        }
+        let place = mem::replace(&mut self.place, Place::Unread);
+        self.place = step_tree(&mut self.stack, alloc, place, lexeme)?;
+        Ok(())
     }
 
     /// The operators of the tree, at the end of its lexemes.
@@ -85,8 +86,8 @@ impl LexemeReader for TreeReader {
 
     ghost comes = { TreeComes };
 
-    fn step(self, alloc: Global, lexeme: Lexeme) -> Result<Self, StepFault> {
-        self.behind(alloc, lexeme)
+    fn step(&mut self, alloc: Global, lexeme: Lexeme) -> Result<(), StepFault> {
+        self.go_on(alloc, lexeme)
     }
 
     fn end(self) -> Result<Vec<Code>, StepFault> {

@@ -27,6 +27,11 @@ Steps {R} {V} comes r k (Ok next) = (s : List Lexeme) (o : Outcome V) → comes 
 Steps comes r k (Err step.Memory) = Unit {0}
 Steps comes r k (Err step.Syntax) = (s : List Lexeme) → comes r (k ∷ s) (Stopped 0)
 
+-- what a call that changes a reader answers, together with the reader that it leaves
+abbrev pub leaving : {R : Type 0} → R → Result (Unit {0}) StepFault → Result R StepFault
+leaving r (Ok done) = Ok r
+leaving r (Err fault) = Err fault
+
 -- what one token answers, which is no lexeme at the end
 abbrev pub StepsToken : {R V : Type 0} → (R → List Lexeme → Outcome V → Type 0) → R → List Lexeme → Result R StepFault → Type 0
 StepsToken comes r [] result = result ≡ Ok r

@@ -59,6 +59,7 @@ impl Lexeme {
 }
 
 /// The token at a place, which is none at the end.
+#[inline(always)]
 pub(crate) fn lexeme_at(place: usize, kind: TokenKind) -> Option<Lexeme>
     ensures { IsSeen (lexeme_of place kind) result }
 {

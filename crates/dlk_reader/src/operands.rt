@@ -43,6 +43,7 @@ impl Stack {
     }
 
     /// A tree of one operator.
+    #[inline(always)]
     pub(crate) fn leaf(&mut self, op: Op, sort: Sort) -> Result<Mode, StepFault>
         ensures { (S : List MachinePart) (t : Phrase) → postfix t ≡ code.Operator op ∷ [] → IsOpen self.old S []
             → Agrees (Shows self.new) result (Some (Has S (Is sort t Done))) }
@@ -72,6 +73,7 @@ impl Stack {
     }
 
     /// A lexeme where an operand is wanted.
+    #[inline(always)]
     pub(crate) fn start_operand(&mut self, goal: Sort, lexeme: Lexeme) -> Result<Mode, StepFault>
         ensures { (S : List MachinePart) → IsOpen self.old S []
             → Agrees (Shows self.new) result (start_operand goal S (seen lexeme)) }
@@ -100,6 +102,7 @@ impl Stack {
     }
 
     /// An operator behind its left operand, which is whole.
+    #[inline(always)]
     pub(crate) fn left(&mut self, goal: Sort, between: Between, last: Last) -> Result<(), StepFault>
         ensures { (S : List MachinePart) (p : Piece) → Stands self.old last S p
             → Agrees (λ _ T. IsOpen self.new T []) result (left_opened goal (said between) S p) }
@@ -112,6 +115,7 @@ impl Stack {
     }
 
     /// An operator after an operand.
+    #[inline(always)]
     pub(crate) fn after_operand(
         &mut self,
         goal: Sort,

@@ -3,7 +3,7 @@ ghost use Rattle.std.specs.Prelude.{◌≡◌, List};
 ghost use Rattle.dlk_grammar.specs.Lexemes.{Lexeme as TheLexeme, lexeme_of};
 ghost use Rattle.dlk_grammar.specs.RealTokens.{AreTokens};
 ghost use Rattle.dlk_reader.specs.Shows.{seen};
-ghost use Rattle.dlk_reader.specs.Outcomes.{Outcome, Steps, StepsToken, Ends, stop_at, ReadsTokens};
+ghost use Rattle.dlk_reader.specs.Outcomes.{Outcome, Steps, leaving, StepsToken, Ends, stop_at, ReadsTokens};
 
 use crate::lexeme::{Lexeme, lexeme_at};
 use crate::stop::{StepFault, Stop};
@@ -18,13 +18,13 @@ pub trait LexemeReader: Sized + Drop {
     /// From this reader on these lexemes come out so.
     ghost comes: { Self → List TheLexeme → Outcome Self.Output → Type 0 };
 
-    /// The reader behind one more lexeme.
+    /// Goes on by one more lexeme. After a fault nothing can be said of the reader.
     ///
     /// # Errors
     ///
     /// `Syntax` comes exactly where no text goes on with the lexeme, and `Memory` where memory ran out.
-    fn step(self, alloc: Global, lexeme: Lexeme) -> Result<Self, StepFault>
-        ensures { Steps comes self (seen lexeme) result };
+    fn step(&mut self, alloc: Global, lexeme: Lexeme) -> Result<(), StepFault>
+        ensures { Steps comes self.old (seen lexeme) (leaving self.new result) };
 
     /// What was read, at the end of the lexemes.
     ///
@@ -35,18 +35,18 @@ pub trait LexemeReader: Sized + Drop {
         ensures { Ends comes self result };
 }
 
-/// The reader behind the token at a place.
+/// Goes on by the token at a place.
 fn read_token<R: LexemeReader>(
     alloc: Global,
-    reader: R,
+    reader: &mut R,
     place: usize,
     kind: TokenKind,
-) -> Result<R, StepFault>
-    ensures { StepsToken R.comes reader (lexeme_of place kind) result }
+) -> Result<(), StepFault>
+    ensures { StepsToken R.comes reader.old (lexeme_of place kind) (leaving reader.new result) }
 {
     match lexeme_at(place, kind) {
         Some(lexeme) => reader.step(alloc, lexeme),
-        None => Ok(reader),
+        None => Ok(()),
     }
 }
 
@@ -77,10 +77,10 @@ pub fn read<R: LexemeReader>(
     let mut at = 0;
     for (place, token) in tokens.into_iter().enumerate() {
         at = token.at;
-        reader = match read_token(alloc, reader, place, token.kind) {
-            Ok(reader) => reader,
+        match read_token(alloc, &mut reader, place, token.kind) {
+            Ok(()) => {}
             Err(fault) => return Err(stop(fault, at)),
-        };
+        }
     }
     match reader.end() {
         Ok(output) => Ok(output),

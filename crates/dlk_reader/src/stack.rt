@@ -47,6 +47,7 @@ pub(crate) fn pop(parts: &mut Vec<Part>) -> Option<Part>
 }
 
 /// Takes the last open part, where it wants more than a level.
+#[inline(always)]
 fn take_above(parts: &mut Vec<Part>, level: u8) -> Option<Part>
     ensures taken { (S : List MachinePart) → parts.old.items ≡ shapes S → TakesAbove level S result parts.new.items }
     ensures shorter { OnSome result (vec_len parts.new < vec_len parts.old) }
@@ -144,6 +145,7 @@ fn settle_symbol(
 }
 
 /// Writes the operators of what was read last, once its sort is known.
+#[inline(always)]
 pub(crate) fn settle(out: &mut Vec<Code>, last: Last, sort: Sort) -> Result<(), StepFault>
     ensures { (p : Piece) (before : List TheCode) → IsLast last p → out.old.items ≡ before ++ piece_code p
         → Agrees (λ _ t. Writes out.new.items before t) result (as_sort sort p) }
@@ -168,6 +170,7 @@ pub fn variable(name: Name, primed: bool) -> Code
 }
 
 /// Closes an open part with its operand.
+#[inline(always)]
 fn join(out: &mut Vec<Code>, part: Part, last: Last) -> Result<Last, StepFault>
     ensures { (e : MachinePart) (p : Piece) (before : List TheCode) → part ≡ shape e → IsLast last p → out.old.items ≡ before ++ (part_code e ++ piece_code p)
         → Agrees (Joins out.new.items before) result (join e p) }
@@ -204,6 +207,7 @@ impl Stack {
     /// # Errors
     ///
     /// `Syntax` comes exactly where an operand is of another sort, and `Memory` where memory ran out.
+    #[inline(always)]
     pub fn reduce(&mut self, level: u8, last: Last) -> Result<Last, StepFault>
         ensures { (S : List MachinePart) (p : Piece) → Stands self.old last S p
             → Agrees (Reduces self.new) result (reduce level S p) }

@@ -1,6 +1,7 @@
 //! What a lexeme makes of a reader's lists and where it stands.
 ghost use Rattle.std.specs.Prelude.{◌≡◌, List, []};
 ghost use Rattle.dlk_machine.specs.Machine.{Part as MachinePart, Piece, State, Has, infix_after, next_after, after_program, after_other, start, step, ended};
+ghost use Rattle.dlk_reader.specs.Outcomes.{leaving};
 ghost use Rattle.dlk_reader.specs.Shows.{seen, IsOpen, IsWhole, Stands, Shows, Agrees};
 
 use crate::items::item_bar_name_step;
@@ -13,9 +14,11 @@ use crate::stop::StepFault;
 use dlk_grammar::Infix;
 use dlk_tree::Sort;
 use std::alloc::Global;
+use std::mem;
 
 impl Stack {
     /// A lexeme where an operand or a statement is wanted.
+    #[inline(always)]
     fn start(&mut self, goal: Sort, lexeme: Lexeme) -> Result<Mode, StepFault>
         ensures { (S : List MachinePart) → IsOpen self.old S []
             → Agrees (Shows self.new) result (start goal S (seen lexeme)) }
@@ -28,6 +31,7 @@ impl Stack {
     }
 
     /// An operator behind an operand.
+    #[inline(always)]
     fn infix_after(&mut self, goal: Sort, operator: Infix, last: Last) -> Result<Mode, StepFault>
         ensures { (S : List MachinePart) (p : Piece) → Stands self.old last S p
             → Agrees (Shows self.new) result (infix_after goal operator S p) }
@@ -69,6 +73,7 @@ impl Stack {
     }
 
     /// A lexeme behind a term or a formula.
+    #[inline(always)]
     fn after_other(&mut self, goal: Sort, last: Last, lexeme: Lexeme) -> Result<Mode, StepFault>
         ensures { (S : List MachinePart) (p : Piece) → Stands self.old last S p
             → Agrees (Shows self.new) result (after_other goal S p (seen lexeme)) }
@@ -89,6 +94,7 @@ impl Stack {
     }
 
     /// A lexeme behind what was read last.
+    #[inline(always)]
     fn after(&mut self, goal: Sort, last: Last, lexeme: Lexeme) -> Result<Mode, StepFault>
         ensures { (S : List MachinePart) (p : Piece) → Stands self.old last S p
             → Agrees (Shows self.new) result (step goal (Has S p) (seen lexeme)) }
@@ -99,6 +105,26 @@ impl Stack {
             }
             last => self.after_other(goal, last, lexeme),
         }
+    }
+
+    /// What the next lexeme makes of the lists and of where the reader stands. After a fault nothing can be said of the lists.
+    ///
+    /// # Errors
+    ///
+    /// `Syntax` comes exactly where no text goes on with the lexeme, and `Memory` where memory ran out.
+    pub fn go_on(
+        &mut self,
+        alloc: Global,
+        goal: Sort,
+        mode: &mut Mode,
+        lexeme: Lexeme,
+    ) -> Result<(), StepFault>
+        ensures { (x : State) → Shows self.old mode.old x
+            → Agrees (Shows self.new) (leaving mode.new result) (step goal x (seen lexeme)) }
+    {
+        let before = mem::replace(mode, Mode::Wants);
+        *mode = self.step(alloc, goal, before, lexeme)?;
+        Ok(())
     }
 
     /// What the next lexeme makes of the lists, and where the reader then stands.

@@ -27,9 +27,9 @@ loop-place-preserved g c =
     (c.in-Some.place, c.in-Some.token) c.in-Some.is c.next.ensures.steps in
     let at = turn ts (length c.loop-place.yielded) c.in-Some.place c.in-Some.token w.0 w.1 in
     let more = sym (length_push c.loop-place.yielded (c.in-Some.place, c.in-Some.token)) in
-    subst (λ (n : ℕ). Reached g.R.LexemeReader.comes c.args.reader ts n c.in-Ok.reader c.in-Some.token.at) more
+    subst (λ (n : ℕ). Reached g.R.LexemeReader.comes c.args.reader ts n c.read_token.new.reader c.in-Some.token.at) more
     (at_next g.R.LexemeReader.comes c.args.reader ts c.requires (length c.loop-place.yielded) c.in-Some.token c.loop-place.reader at.0 at.2
-    c.in-Some.place c.loop-place.at at.1 c.loop-place.invariant c.in-Ok.reader c.in-Ok.ensures)
+    c.in-Some.place c.loop-place.at at.1 c.loop-place.invariant c.read_token.new.reader c.in-Ok.ensures)
 
 pub returns-in-Err-end : goal.returns-in-Err-end
 returns-in-Err-end g c =

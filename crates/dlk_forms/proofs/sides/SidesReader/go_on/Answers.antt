@@ -7,20 +7,20 @@ use Rattle.dlk_reader.specs.Shows.{seen}
 use Rattle.dlk_forms.specs.Readers.{ShowsSidesAt, ShowsSides}
 use Rattle.dlk_forms.specs.declared.sides.SidesReader.{SidesReader}
 use Rattle.dlk_forms.proofs.TreeSteps.{when_err, when_ok}
-use Rattle.dlk_forms.proofs.sides.SidesReader.behind.Goals as goal
+use Rattle.dlk_forms.proofs.sides.SidesReader.go_on.Goals as goal
 
-pub returns-in_err-mode : goal.returns-in_err-mode
-returns-in_err-mode c = λ x h.
+pub returns-in_err-self : goal.returns-in_err-self
+returns-in_err-self c = λ x h.
     let e = err_from_is_err_and c.from_residual.result c.from_residual.ensures.1 in
     let k = seen c.args.lexeme in
     let permitted = sym c.permits.ensures ∙ c.if-not-permits.false in
-    rw (e.1, e.2) (when_err (ShowsSidesAt c.step.new.self) ShowsSides c.in_err-mode.field-0.0 (permits Refused k) (sequent_step x k) permitted
-    (c.in_err-mode.ensures x h))
+    rw (e.1, e.2) (when_err (ShowsSidesAt c.step.new.self) ShowsSides c.in_err-self.field-0.0 (permits Refused k) (sequent_step x k) permitted
+    (c.in_err-self.ensures x (rw c.take-mode.ensures.value h)))
 
 pub returns : goal.returns
 returns c = λ x h.
     let k = seen c.args.lexeme in
     let permitted = sym c.permits.ensures ∙ c.if-not-permits.false in
-    let next : SidesReader = record { sides = c.step.new.self; mode = c.in_ok-mode.mode } in
-    when_ok (ShowsSidesAt c.step.new.self) ShowsSides c.in_ok-mode.mode next (permits Refused k) (sequent_step x k) permitted (λ y s. s)
-    (c.in_ok-mode.ensures x h)
+    let next : SidesReader = record { sides = c.step.new.self; mode = c.in_ok-self.field-0 } in
+    when_ok (ShowsSidesAt c.step.new.self) ShowsSides c.in_ok-self.field-0 next (permits Refused k) (sequent_step x k) permitted (λ y s. s)
+    (c.in_ok-self.ensures x (rw c.take-mode.ensures.value h))
