@@ -179,6 +179,7 @@ fn check_on<S: Store, L: Ledger>(
 /// # Errors
 ///
 /// `Memory` alone: each refusal is a reply.
+#[inline(never)]
 pub fn check<L: Ledger>(
     alloc: Global,
     showing: Showing,

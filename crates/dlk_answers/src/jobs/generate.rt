@@ -47,6 +47,7 @@ pub(super) fn sum_up<S: Store>(
 /// # Errors
 ///
 /// `Memory` alone: each refusal is a reply.
+#[inline(never)]
 pub fn generated<L: Ledger>(
     alloc: Global,
     count: u32,

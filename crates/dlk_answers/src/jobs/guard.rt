@@ -137,6 +137,7 @@ fn guard_on<S: Store, L: Ledger>(
 /// # Errors
 ///
 /// `Memory` alone: each refusal is a reply.
+#[inline(never)]
 pub fn guard<L: Ledger>(
     alloc: Global,
     model: &[u8],

@@ -53,6 +53,7 @@ fn print_on<S: Store, L: Ledger>(
 /// # Errors
 ///
 /// `Memory` alone: each refusal is a reply.
+#[inline(never)]
 pub fn print<L: Ledger>(alloc: Global, file: &[u8], steps: &mut Steps<L>) -> Result<Reply, NoReply>
     ensures { IfOk result (λ r. Prints file.now (reply_of r)) }
 {

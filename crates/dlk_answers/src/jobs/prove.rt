@@ -131,6 +131,7 @@ fn prove_on<S: Store, L: Ledger>(
 /// # Errors
 ///
 /// `Memory` alone: each refusal is a reply.
+#[inline(never)]
 pub fn prove<L: Ledger>(
     alloc: Global,
     model: &[u8],

@@ -73,6 +73,7 @@ fn subst_on<S: Store, L: Ledger>(
 /// # Errors
 ///
 /// `Memory` alone: each refusal is a reply.
+#[inline(never)]
 pub fn subst<L: Ledger>(
     alloc: Global,
     file: &[u8],

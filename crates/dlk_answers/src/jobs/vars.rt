@@ -125,6 +125,7 @@ fn vars_on<S: Store>(alloc: Global, store: &mut S, file: &[u8]) -> Result<Reply,
 /// # Errors
 ///
 /// `Memory` alone: each refusal is a reply.
+#[inline(never)]
 pub fn vars(alloc: Global, file: &[u8]) -> Result<Reply, NoReply>
     ensures { IfOk result (λ r. Lists file.now (reply_of r)) }
 {
