@@ -1,4 +1,4 @@
-//! Trials of `print`, `vars` and `subst`.
+//! Trials of `print` and `vars`.
 #![tactic(auto)]
 
 #[cfg(test)]

@@ -1,10 +1,9 @@
-// What `print`, `vars` and `subst` answer.
+// What `print` and `vars` answer.
 mod examples;
 mod listing;
 mod printing;
-mod substituting;
 
 use dlk_answers::{NoReply, Reply};
-use dlk_trials::{answered, checked, joined, padded, repeated, replied};
+use dlk_trials::{answered, joined, padded, repeated};
 use std::alloc::{AllocError, Global};
 use std::test::Fail;

@@ -1,0 +1,5 @@
+//! Trials of `subst`.
+#![tactic(auto)]
+
+#[cfg(test)]
+mod tests;
