@@ -3,7 +3,8 @@
 
 Printed are, for each term and for all, the bytes and the lines a second of processor time, the start of the program included, the least of
 five runs, and the peak of memory a byte of term; then the same of each term so many times over in one file that it has 300,000 bytes or
-more; and the bytes a second against those of `metamath` on its database `set.mm` in the same run.
+more; the time of `prove` against that of `check` on what it wrote; and the bytes a second against those of `metamath` on its database
+`set.mm` in the same run.
 
 Run it after `./dlk` has built the program. It needs a C compiler. Arguments are paths of programs, each timed in the place of the built one, turn
 by turn: the last one is set against the first and against metamath. `metamath` and `set.mm` are those of Debian's packages metamath and
@@ -66,6 +67,17 @@ def measured_all(programs, title, pairs):
     return {program: size / sums[program] for program in programs}
 
 
+def measured_proving(program, pairs, folder):
+    """Prints the time of `prove` against that of `check` on what it wrote, for each term."""
+    most = 0.0
+    for model, term in pairs:
+        proving, _ = spent([program, "prove", model, model.parent / "strategy", folder / "written"], "closed", RUNS)
+        checking, _ = spent([program, "check", model, term], "closed", RUNS)
+        most = max(most, proving / checking)
+        print(f"{model.parent.name}: prove {proving * 1000:.1f} ms, check {checking * 1000:.1f} ms, {proving / checking:.2f} times", flush=True)
+    print(f"prove takes at most {most:.2f} times what check takes")
+
+
 def main():
     """Measures each program, and metamath."""
     programs = [pathlib.Path(word) for word in sys.argv[1:]] or [PROGRAM]
@@ -73,6 +85,7 @@ def main():
         pairs = longest_terms(programs[-1], pathlib.Path(name))
         rates = measured_all(programs, "as it is", pairs)
         long_rates = measured_all(programs, "again and again", [(model, repeated(term)) for model, term in pairs])
+        measured_proving(programs[-1], pairs, pathlib.Path(name))
     if len(programs) > 1:
         print(f"the last program is {rates[programs[-1]] / rates[programs[0]]:.2f} and {long_rates[programs[-1]] / long_rates[programs[0]]:.2f} times as fast as the first")
     if not SET_MM.exists():
