@@ -7,3 +7,4 @@ pub mod Statics
 pub mod Listed
 pub mod Named
 pub mod StaticsExamples
+pub mod Letters
