@@ -85,7 +85,7 @@ fn brace_step(alloc: Global, symbol: Sym, lexeme: Lexeme) -> Result<PairMode, St
 {
     match lexeme {
         Lexeme::OpenBrace(at) => {
-            let equations = Equations::new(alloc, at);
+            let equations = Equations::new(alloc, at)?;
             Ok(PairMode::InSystem(symbol, Mode::WantsItem(equations)))
         }
         _ => Err(StepFault::Syntax),

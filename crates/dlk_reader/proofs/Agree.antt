@@ -1,11 +1,13 @@
 -- What a call answers, beside what the definition gives.
-use Rattle.std.proofs.Common.{◌≡◌, ℕ, zero, suc, true, false, List, [], ◌∷◌, ◌++◌, Option, Some, None, Result, Ok, Err, refl, sym, ap, ◌∙◌, append_assoc}
+use Rattle.std.proofs.Common.{◌≡◌, ℕ, zero, suc, Bool, true, false, List, [], ◌∷◌, ◌++◌, Option, Some, None, Result, Ok, Err, refl, sym, ap, ◌∙◌, append_assoc}
 use Rattle.std.proofs.lemmas.List.{append-nil}
 use Rattle.dlk_tree.specs.declared.op.Sort.{Sort}
-use Rattle.dlk_grammar.specs.Phrases.{Phrase, Head, Apply, Holds}
+use Rattle.dlk_grammar.specs.Erased.{taboo}
+use Rattle.dlk_grammar.specs.Lexemes.{Word}
+use Rattle.dlk_grammar.specs.Phrases.{Phrase, Head, Call, Any, Apply, Holds}
 use Rattle.dlk_machine.specs.Machine.{◌>>=◌, Between, By, Next, Prefix, Minus, Bang', Bound, Modal, ForAll, ForSome, InBox, InDia, Part, Left, Before, Inside, Piece, Is, Done, as_sort, join, operand_sort, result_sort, prefix_sort, primes, formula_primes, binary, unary}
 use Rattle.dlk_reader.specs.Codes.{postfix}
-use Rattle.dlk_reader.specs.Shows.{between_of, said, prefix_of, shape, prefix_code, operator_of, operator_before, part_code, piece_code, prime_code, primes_code, IsLast, Agrees, Writes, Joins}
+use Rattle.dlk_reader.specs.Shows.{between_of, said, prefix_of, shape, prefix_code, operator_of, operator_before, part_code, piece_code, prime_code, primes_code, head_of, head_code, unit_code, symbol_of, IsLast, Agrees, Writes, Joins}
 use Rattle.dlk_reader.specs.declared.stop.StepFault.{StepFault}
 use Rattle.dlk_reader.specs.declared.stop.StepFault.TheVariants.{Memory, Syntax}
 use Rattle.dlk_reader.specs.declared.code.Code.{Code}
@@ -15,6 +17,7 @@ use Rattle.dlk_reader.specs.declared.parts.Between.TheVariants as between
 use Rattle.dlk_reader.specs.declared.parts.Prefix.{Prefix as PrefixPart}
 use Rattle.dlk_reader.specs.declared.parts.Part.{Part as OpenPart}
 use Rattle.dlk_reader.specs.declared.parts.Part.TheVariants as part
+use Rattle.dlk_reader.specs.declared.parts.Head.TheVariants as head
 use Rattle.dlk_reader.specs.declared.parts.Tail.TheVariants as tail
 use Rattle.dlk_reader.specs.declared.parts.Last.{Last}
 use Rattle.dlk_reader.specs.declared.parts.Last.TheVariants as last
@@ -71,6 +74,26 @@ formula_primes_written h n before mid new (Ok x) m a = record {
 }
 formula_primes_written h n before mid new (Err Memory) m a = tt
 formula_primes_written h n before mid new (Err Syntax) m a = absurd a
+
+-- the operator of a unit symbol
+pub any_written : (holds : Bool) (x : Word) (y : Option Word) (h : Head) (before out new : List Code) → head.Any x y ≡ head_of h → out ≡ before ++ head_code h
+    → new ≡ out ++ unit_code holds x y ∷ [] → Writes new before (symbol_of holds h)
+any_written holds x y (Call n z l) before out new is at w = absurd cc
+any_written holds x y (Any z s) before out new is at w = go holds (w ∙ ap (λ (l : List Code). l ++ unit_code holds x y ∷ []) (at ∙ append-nil before))
+  where
+    name : x ≡ z
+    name = cc
+
+    free : y ≡ taboo s
+    free = cc
+
+    go : (b : Bool) → new ≡ before ++ unit_code b x y ∷ [] → Writes new before (symbol_of b (Any z s))
+    go true w = record {
+      out = w ∙ ap (λ (n : Word). before ++ unit_code true n y ∷ []) name ∙ ap (λ (t : Option Word). before ++ unit_code true z t ∷ []) free;
+    }
+    go false w = record {
+      out = w ∙ ap (λ (n : Word). before ++ unit_code false n y ∷ []) name ∙ ap (λ (t : Option Word). before ++ unit_code false z t ∷ []) free;
+    }
 
 -- what a call of settle answers for what was read last
 abbrev pub Settles : List Code → List Code → Last → Sort → Result (Unit {0}) StepFault → Type 0

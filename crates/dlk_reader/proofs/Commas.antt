@@ -8,6 +8,7 @@ use Rattle.dlk_grammar.specs.Phrases.{Phrase}
 use Rattle.dlk_grammar.specs.declared.token.Infix.TheVariants.{Equiv, Imply, Or, And, Equal, NotEqual, AtLeast, Greater, AtMost, Less, Add, Sub, Mul, Div, Pow, Choice}
 use Rattle.dlk_machine.specs.Machine.{◌>>=◌, Between, By, Next, Part, Left, Before, Inside, Piece, Is, Symbol, operand_sort, result_sort, prefix_sort, program_sort, is_program, as_sort, wanted, join, reduce, whole, State, Has, close_top, closing, step, ended}
 use Rattle.dlk_machine.specs.Parse.{or_else}
+use Rattle.dlk_machine.specs.Expressions.{term_or_formula}
 use Rattle.dlk_reader.specs.declared.ends.Comma.TheVariants as comma
 use Rattle.dlk_reader.specs.declared.parts.Last.{Last}
 use Rattle.dlk_reader.specs.declared.parts.Mode.{Mode}
@@ -23,6 +24,15 @@ pub has_shown : (k : Stack) (m : Mode) (last : Last) (x : State) → m ≡ mode.
     → (S : List Part) × (p : Piece) × (x ≡ Has S p) × Stands k last S p
 has_shown k m last (Has S p) e h = (S, p, refl, record { last = record { same = (let i = h.mode in cc); lone = h.lone }; lists = h.lists })
 has_shown k m last _ e h = absurd (let i = h.mode in cc)
+
+-- where nothing was read last, nothing ends
+pub ended_none : (k : Stack) (m : Mode) (g : Sort) (x : State) → ((last : Last) → m ≡ mode.Has last → ⊥) → Shows k m x → ended g x ≡ None
+ended_none k m g (Has S p) other h = absurd (other _ h.mode)
+ended_none k m g _ other h = refl
+
+pub neither_none : (k : Stack) (m : Mode) (x : State) → ((last : Last) → m ≡ mode.Has last → ⊥) → Shows k m x → term_or_formula x ≡ None
+neither_none k m (Has S p) other h = absurd (other _ h.mode)
+neither_none k m _ other h = refl
 
 -- a formula and a program stay apart where operators are closed
 between_kind : (o : Between) → program_sort (operand_sort o) ≡ program_sort (result_sort o)

@@ -5,6 +5,7 @@ mod closing;
 mod code;
 mod ends;
 mod items;
+mod kept;
 mod lexeme;
 mod operands;
 mod parts;

@@ -10,9 +10,11 @@ ghost use Rattle.dlk_machine.specs.Machine.{when, Part as MachinePart, Quantifie
 ghost use Rattle.dlk_tree.specs.declared.op.Sort.TheVariants as sort_of;
 ghost use Rattle.dlk_reader.specs.declared.code.Code.TheVariants as code;
 ghost use Rattle.dlk_reader.specs.Codes.{postfix};
+ghost use Rattle.dlk_reader.specs.Outcomes.{leaving};
 ghost use Rattle.dlk_reader.specs.Shows.{seen, said, shape, part_code, quantifier_of, tail_of, left_opened, IsOpen, Stands, Shows, Agrees};
 
 use crate::code::Code;
+use crate::kept::Kept;
 use crate::lexeme::Lexeme;
 use crate::parts::{Between, Head, Holder, Last, Modality, Mode, Part, Prefix, Quantifier, Tail};
 use crate::stack::{Stack, one_more, settle, variable};
@@ -20,82 +22,103 @@ use crate::stop::StepFault;
 use crate::tables::{level, operand_sort, result_sort};
 use dlk_grammar::Infix;
 use dlk_tree::{Name, Op, Sort};
+use std::alloc::Global;
 
 impl Stack {
     /// Opens a part.
-    pub(crate) fn open(&mut self, part: Part) -> Result<Mode, StepFault>
+    pub(crate) fn open(&mut self, mode: &mut Mode, part: Part) -> Result<(), StepFault>
         ensures { (S : List MachinePart) (e : MachinePart) → part ≡ shape e → IsOpen self.old S (part_code e)
-            → Agrees (Shows self.new) result (Some (Wants (e ∷ S))) }
+            → Agrees (Shows self.new) (leaving mode.new result) (Some (Wants (e ∷ S))) }
     {
         self.parts.push(part)?;
-        Ok(Mode::Wants)
+        mode.set(Mode::Wants);
+        Ok(())
     }
 
     /// Opens a part of a formula.
-    fn open_formula(&mut self, goal: Sort, part: Part) -> Result<Mode, StepFault>
+    fn open_formula(&mut self, goal: Sort, mode: &mut Mode, part: Part) -> Result<(), StepFault>
         ensures { (S : List MachinePart) (e : MachinePart) → part ≡ shape e → IsOpen self.old S (part_code e)
-            → Agrees (Shows self.new) result (when (fits goal sort_of.Formula S) (Some (Wants (e ∷ S)))) }
+            → Agrees (Shows self.new) (leaving mode.new result) (when (fits goal sort_of.Formula S) (Some (Wants (e ∷ S)))) }
     {
         if !self.fits(goal, Sort::Formula) {
             return Err(StepFault::Syntax);
         }
-        self.open(part)
+        self.open(mode, part)
     }
 
     /// A tree of one operator.
     #[inline(always)]
-    pub(crate) fn leaf(&mut self, op: Op, sort: Sort) -> Result<Mode, StepFault>
+    pub(crate) fn leaf(&mut self, mode: &mut Mode, op: Op, sort: Sort) -> Result<(), StepFault>
         ensures { (S : List MachinePart) (t : Phrase) → postfix t ≡ code.Operator op ∷ [] → IsOpen self.old S []
-            → Agrees (Shows self.new) result (Some (Has S (Is sort t Done))) }
+            → Agrees (Shows self.new) (leaving mode.new result) (Some (Has S (Is sort t Done))) }
     {
         self.out.push(Code::Operator(op))?;
-        Ok(Mode::Has(Last::Tree(sort, Tail::Done)))
+        mode.set(Mode::Has(Last::Tree(sort, Tail::Done)));
+        Ok(())
     }
 
-    fn leaf_formula(&mut self, goal: Sort, op: Op) -> Result<Mode, StepFault>
+    fn leaf_formula(&mut self, goal: Sort, mode: &mut Mode, op: Op) -> Result<(), StepFault>
         ensures { (S : List MachinePart) (t : Phrase) → postfix t ≡ code.Operator op ∷ [] → IsOpen self.old S []
-            → Agrees (Shows self.new) result (when (fits goal sort_of.Formula S) (Some (Has S (Is sort_of.Formula t Done)))) }
+            → Agrees (Shows self.new) (leaving mode.new result) (when (fits goal sort_of.Formula S) (Some (Has S (Is sort_of.Formula t Done)))) }
     {
         if !self.fits(goal, Sort::Formula) {
             return Err(StepFault::Syntax);
         }
-        self.leaf(op, Sort::Formula)
+        self.leaf(mode, op, Sort::Formula)
     }
 
-    fn quantify(&mut self, goal: Sort, quantifier: Quantifier) -> Result<Mode, StepFault>
+    fn quantify(
+        &mut self,
+        goal: Sort,
+        mode: &mut Mode,
+        quantifier: Quantifier,
+    ) -> Result<(), StepFault>
         ensures { (S : List MachinePart) (q : MachineQuantifier) → quantifier ≡ quantifier_of q → IsOpen self.old S []
-            → Agrees (Shows self.new) result (when (fits goal sort_of.Formula S) (Some (Binds S q))) }
+            → Agrees (Shows self.new) (leaving mode.new result) (when (fits goal sort_of.Formula S) (Some (Binds S q))) }
     {
         if !self.fits(goal, Sort::Formula) {
             return Err(StepFault::Syntax);
         }
-        Ok(Mode::Binds(quantifier))
+        mode.set(Mode::Binds(quantifier));
+        Ok(())
     }
 
     /// A lexeme where an operand is wanted.
     #[inline(always)]
-    pub(crate) fn start_operand(&mut self, goal: Sort, lexeme: Lexeme) -> Result<Mode, StepFault>
+    pub(crate) fn start_operand(
+        &mut self,
+        goal: Sort,
+        mode: &mut Mode,
+        lexeme: Lexeme,
+    ) -> Result<(), StepFault>
         ensures { (S : List MachinePart) → IsOpen self.old S []
-            → Agrees (Shows self.new) result (start_operand goal S (seen lexeme)) }
+            → Agrees (Shows self.new) (leaving mode.new result) (start_operand goal S (seen lexeme)) }
     {
         match lexeme {
-            Lexeme::Name(at, name) => Ok(Mode::Has(Last::Name { at, name })),
-            Lexeme::Number(number) => self.leaf(Op::Number(number), Sort::Term),
-            Lexeme::Dot(number) => self.leaf(Op::Dot(number), Sort::Term),
+            Lexeme::Name(at, name) => {
+                mode.set(Mode::Has(Last::Name { at, name }));
+                Ok(())
+            }
+            Lexeme::Number(number) => self.leaf(mode, Op::Number(number), Sort::Term),
+            Lexeme::Dot(number) => self.leaf(mode, Op::Dot(number), Sort::Term),
             Lexeme::Open => {
                 let fits = self.fits(goal, Sort::Formula);
-                self.open(Part::Inside(Holder::Round(fits)))
+                self.open(mode, Part::Inside(Holder::Round(fits)))
             }
-            Lexeme::Op(Infix::Sub) => self.open(Part::Before(Prefix::Minus)),
-            Lexeme::True => self.leaf_formula(goal, Op::True),
-            Lexeme::False => self.leaf_formula(goal, Op::False),
-            Lexeme::Blank => self.leaf_formula(goal, Op::Hole),
-            Lexeme::Bang => self.open_formula(goal, Part::Before(Prefix::Not)),
-            Lexeme::All => self.quantify(goal, Quantifier::ForAll),
-            Lexeme::Exist => self.quantify(goal, Quantifier::ForSome),
-            Lexeme::OpenBox => self.open_formula(goal, Part::Inside(Holder::In(Modality::InBox))),
+            Lexeme::Op(Infix::Sub) => self.open(mode, Part::Before(Prefix::Minus)),
+            Lexeme::True => self.leaf_formula(goal, mode, Op::True),
+            Lexeme::False => self.leaf_formula(goal, mode, Op::False),
+            Lexeme::Blank => self.leaf_formula(goal, mode, Op::Hole),
+            Lexeme::Bang => self.open_formula(goal, mode, Part::Before(Prefix::Not)),
+            Lexeme::All => self.quantify(goal, mode, Quantifier::ForAll),
+            Lexeme::Exist => self.quantify(goal, mode, Quantifier::ForSome),
+            Lexeme::OpenBox => self.open_formula(
+                goal,
+                mode,
+                Part::Inside(Holder::In(Modality::InBox)),
+            ),
             Lexeme::Op(Infix::Less) => {
-                self.open_formula(goal, Part::Inside(Holder::In(Modality::InDia)))
+                self.open_formula(goal, mode, Part::Inside(Holder::In(Modality::InDia)))
             }
             _ => Err(StepFault::Syntax),
         }
@@ -133,14 +156,15 @@ impl Stack {
     pub(crate) fn name_after(
         &mut self,
         goal: Sort,
+        mode: &mut Mode,
         last: Last,
         lexeme: Lexeme,
-    ) -> Result<Mode, StepFault>
+    ) -> Result<(), StepFault>
         ensures { (S : List MachinePart) (p : Piece) → Stands self.old last S p
-            → Agrees (Shows self.new) result (name_after goal S (seen lexeme) (tail_of p)) }
+            → Agrees (Shows self.new) (leaving mode.new result) (name_after goal S (seen lexeme) (tail_of p)) }
     {
         match last {
-            Last::Name { at, name } => self.name_step(goal, at, name, lexeme),
+            Last::Name { at, name } => self.name_step(goal, mode, at, name, lexeme),
             Last::Tree(_, _) => Err(StepFault::Syntax),
             Last::Symbol { .. } => Err(StepFault::Syntax),
         }
@@ -149,44 +173,60 @@ impl Stack {
     fn name_step(
         &mut self,
         goal: Sort,
+        mode: &mut Mode,
         at: usize,
         name: Name,
         lexeme: Lexeme,
-    ) -> Result<Mode, StepFault>
+    ) -> Result<(), StepFault>
         ensures { (S : List MachinePart) → IsOpen self.old S []
-            → Agrees (Shows self.new) result (name_after goal S (seen lexeme) (Bare at name)) }
+            → Agrees (Shows self.new) (leaving mode.new result) (name_after goal S (seen lexeme) (Bare at name)) }
     {
         match lexeme {
-            Lexeme::Open => Ok(Mode::Calls { at, name }),
-            Lexeme::RoundBars => Ok(any(name, None)),
-            Lexeme::RoundBar => Ok(Mode::Bars(name)),
-            Lexeme::OpenBrace(_) => self.open_formula(goal, Part::Inside(Holder::InContext(name))),
+            Lexeme::Open => {
+                mode.set(Mode::Calls { at, name });
+                Ok(())
+            }
+            Lexeme::RoundBars => {
+                mode.set(any(*self.out.allocator(), name, None)?);
+                Ok(())
+            }
+            Lexeme::RoundBar => {
+                mode.set(Mode::Bars(name));
+                Ok(())
+            }
+            Lexeme::OpenBrace(_) => self.open_formula(
+                goal,
+                mode,
+                Part::Inside(Holder::InContext(name)),
+            ),
             _ => Err(StepFault::Syntax),
         }
     }
 
     /// A prime behind a name or a bracket.
-    pub(crate) fn prime_after(&mut self, last: Last) -> Result<Mode, StepFault>
+    pub(crate) fn prime_after(&mut self, mode: &mut Mode, last: Last) -> Result<(), StepFault>
         ensures { (S : List MachinePart) (p : Piece) → Stands self.old last S p
-            → Agrees (Shows self.new) result (prime_after S p (tail_of p)) }
+            → Agrees (Shows self.new) (leaving mode.new result) (prime_after S p (tail_of p)) }
     {
         match last {
             Last::Name { at: _, name } => {
                 self.out.push(variable(name, true))?;
-                Ok(Mode::Has(Last::Tree(Sort::Term, Tail::Done)))
+                mode.set(Mode::Has(Last::Tree(Sort::Term, Tail::Done)));
+                Ok(())
             }
-            Last::Tree(sort, Tail::Grouped) => self.prime(sort),
+            Last::Tree(sort, Tail::Grouped) => self.prime(mode, sort),
             Last::Symbol {
                 head,
                 primes,
                 tail: Tail::Grouped,
             } => {
                 let primes = one_more(primes)?;
-                Ok(Mode::Has(Last::Symbol {
+                mode.set(Mode::Has(Last::Symbol {
                     head,
                     primes,
                     tail: Tail::Done,
-                }))
+                }));
+                Ok(())
             }
             Last::Tree(_, _) => Err(StepFault::Syntax),
             Last::Symbol { .. } => Err(StepFault::Syntax),
@@ -194,79 +234,92 @@ impl Stack {
     }
 
     /// A prime behind a tree in brackets. No program stands in them.
-    fn prime(&mut self, sort: Sort) -> Result<Mode, StepFault>
+    fn prime(&mut self, mode: &mut Mode, sort: Sort) -> Result<(), StepFault>
         ensures { (S : List MachinePart) (t : Phrase) → IsOpen self.old S (postfix t)
-            → Agrees (Shows self.new) result (Some (Has S (primed (Is sort t Grouped)))) }
+            → Agrees (Shows self.new) (leaving mode.new result) (Some (Has S (primed (Is sort t Grouped)))) }
     {
         match sort {
             Sort::Term => {
                 self.out.push(Code::Operator(Op::Diff))?;
-                Ok(Mode::Has(Last::Tree(Sort::Term, Tail::Done)))
+                mode.set(Mode::Has(Last::Tree(Sort::Term, Tail::Done)));
             }
             Sort::Formula => {
                 self.out.push(Code::Operator(Op::DiffF))?;
-                Ok(Mode::Has(Last::Tree(Sort::Formula, Tail::Done)))
+                mode.set(Mode::Has(Last::Tree(Sort::Formula, Tail::Done)));
             }
-            Sort::Program => Ok(Mode::Has(Last::Tree(Sort::Program, Tail::Grouped))),
+            Sort::Program => mode.set(Mode::Has(Last::Tree(Sort::Program, Tail::Grouped))),
         }
+        Ok(())
     }
 
     /// A lexeme behind a name and `(`.
     pub(crate) fn call_step(
         &mut self,
         goal: Sort,
+        mode: &mut Mode,
         at: usize,
         name: Name,
         lexeme: Lexeme,
-    ) -> Result<Mode, StepFault>
+    ) -> Result<(), StepFault>
         ensures { (S : List MachinePart) → IsOpen self.old S []
-            → Agrees (Shows self.new) result (call_step goal S at name (seen lexeme)) }
+            → Agrees (Shows self.new) (leaving mode.new result) (call_step goal S at name (seen lexeme)) }
     {
         if let Lexeme::Close = lexeme {
-            let head = Head::Call { at, name, count: 0 };
-            return Ok(Mode::Has(Last::Symbol {
+            let head = Kept::new(*self.out.allocator(), Head::Call { at, name, count: 0 })?;
+            mode.set(Mode::Has(Last::Symbol {
                 head,
                 primes: 0,
                 tail: Tail::Done,
             }));
+            return Ok(());
         }
         self.parts
             .push(Part::Inside(Holder::Args { at, name, count: 0 }))?;
-        self.start_operand(goal, lexeme)
+        self.start_operand(goal, mode, lexeme)
     }
 
     /// A lexeme behind a quantifier.
     pub(crate) fn bind_step(
         &mut self,
+        mode: &mut Mode,
         quantifier: Quantifier,
         lexeme: Lexeme,
-    ) -> Result<Mode, StepFault>
+    ) -> Result<(), StepFault>
         ensures { (S : List MachinePart) (q : MachineQuantifier) → quantifier ≡ quantifier_of q → IsOpen self.old S []
-            → Agrees (Shows self.new) result (bind_step S q (seen lexeme)) }
+            → Agrees (Shows self.new) (leaving mode.new result) (bind_step S q (seen lexeme)) }
     {
         let name = lexeme.into_name()?;
-        self.open(Part::Before(Prefix::Bound(quantifier, name)))
+        self.open(mode, Part::Before(Prefix::Bound(quantifier, name)))
     }
 }
 
 /// A unit symbol was read.
-fn any(name: Name, taboo: Option<Name>) -> Mode
-    ensures { result ≡ mode.Has (last.Symbol (head.Any name taboo) 0 tail.Done) }
+fn any(alloc: Global, name: Name, taboo: Option<Name>) -> Result<Mode, StepFault>
+    ensures { Agrees (λ m n. m ≡ n) result (Some (mode.Has (last.Symbol (head.Any name taboo) 0 tail.Done))) }
 {
-    Mode::Has(Last::Symbol {
-        head: Head::Any { name, taboo },
+    Ok(Mode::Has(Last::Symbol {
+        head: Kept::new(alloc, Head::Any { name, taboo })?,
         primes: 0,
         tail: Tail::Done,
-    })
+    }))
 }
 
 /// A lexeme behind a name, `(|` and a name.
-pub(crate) fn bars_name_step(name: Name, taboo: Name, lexeme: Lexeme) -> Result<Mode, StepFault>
+pub(crate) fn bars_name_step(
+    alloc: Global,
+    mode: &mut Mode,
+    name: Name,
+    taboo: Name,
+    lexeme: Lexeme,
+) -> Result<(), StepFault>
     ensures { (k : TheStack) (S : List MachinePart) → IsOpen k S []
-        → Agrees (Shows k) result (bars_name_step S name taboo (seen lexeme)) }
+        → Agrees (Shows k) (leaving mode.new result) (bars_name_step S name taboo (seen lexeme)) }
 {
     match lexeme {
-        Lexeme::BarRound => Ok(any(name, Some(taboo))),
+        Lexeme::BarRound => {
+            mode.set(any(alloc, name, Some(taboo))?);
+            Ok(())
+        }
         _ => Err(StepFault::Syntax),
     }
 }

@@ -1,8 +1,10 @@
 //! What a reader keeps of a text that is not yet whole. The operators of what was read stand on a list beside it.
-ghost use Rattle.std.specs.Prelude.{◌≡◌};
+ghost use Rattle.std.specs.Prelude.{◌≡◌, Some};
 ghost use Rattle.dlk_grammar.specs.Phrases.{no_items};
-ghost use Rattle.dlk_reader.specs.Shows.{equations_of};
+ghost use Rattle.dlk_reader.specs.Shows.{equations_of, Agrees};
 
+use crate::kept::Kept;
+use crate::stop::StepFault;
 use dlk_grammar::Infix;
 use dlk_tree::{Items, Name, Sort};
 use std::alloc::Global;
@@ -43,18 +45,22 @@ pub struct Equations {
     /// The place of its brace.
     pub at: usize,
     /// Its items so far.
-    pub items: Items,
+    pub items: Kept<Items>,
 }
 
 impl Equations {
     /// A system without items.
-    pub fn new(alloc: Global, at: usize) -> Equations
-        ensures { result ≡ equations_of at no_items }
+    ///
+    /// # Errors
+    ///
+    /// `Memory` comes where memory ran out.
+    pub fn new(alloc: Global, at: usize) -> Result<Equations, StepFault>
+        ensures { Agrees (λ e x. e ≡ x) result (Some (equations_of at no_items)) }
     {
-        Equations {
+        Ok(Equations {
             at,
-            items: Items::new(Vec::new(alloc)),
-        }
+            items: Kept::new(alloc, Items::new(Vec::new(alloc)))?,
+        })
     }
 }
 
@@ -120,7 +126,7 @@ pub enum Last {
     },
     /// A symbol with a number of primes. Whether it is a term or a formula is not known, and its operator not yet on the list.
     Symbol {
-        head: Head,
+        head: Kept<Head>,
         primes: usize,
         tail: Tail,
     },
@@ -171,6 +177,16 @@ pub enum Mode {
     ItemEnds(Equations),
     /// After `@invariant`.
     Invariants,
+}
+
+impl Mode {
+    /// Where the reader stands now.
+    #[inline(always)]
+    pub(crate) fn set(&mut self, to: Mode)
+        ensures { self.new ≡ to }
+    {
+        *self = to;
+    }
 }
 
 /// A lexeme that closes a holder.

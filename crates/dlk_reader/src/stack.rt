@@ -76,16 +76,15 @@ fn write_symbol(out: &mut Vec<Code>, head: Head, holds: bool) -> Result<(), Step
     ensures { (h : MachineHead) (before : List TheCode) → head ≡ head_of h → out.old.items ≡ before ++ head_code h
         → Agrees (λ _ t. Writes out.new.items before t) result (Some (symbol_of holds h)) }
 {
-    let code = match head {
-        Head::Call { at, name, count } => Code::Call {
+    match head {
+        Head::Call { at, name, count } => Ok(out.push(Code::Call {
             holds,
             at,
             name,
             count,
-        },
-        Head::Any { name, taboo } => unit_symbol(name, taboo, holds),
-    };
-    Ok(out.push(code)?)
+        })?),
+        Head::Any { name, taboo } => Ok(out.push(unit_symbol(name, taboo, holds))?),
+    }
 }
 
 /// The operator of a unit symbol, as a predicate's where it holds.
@@ -158,7 +157,9 @@ pub(crate) fn settle(out: &mut Vec<Code>, last: Last, sort: Sort) -> Result<(), 
         (Last::Name { at: _, name }, Sort::Term) => Ok(out.push(variable(name, false))?),
         (Last::Name { .. }, Sort::Formula) => Err(StepFault::Syntax),
         (Last::Name { .. }, Sort::Program) => Err(StepFault::Syntax),
-        (Last::Symbol { head, primes, .. }, sort) => settle_symbol(out, head, primes, sort),
+        (Last::Symbol { head, primes, .. }, sort) => {
+            settle_symbol(out, head.into_inner(), primes, sort)
+        }
     }
 }
 

@@ -5,6 +5,7 @@ ghost use Rattle.dlk_reader.specs.declared.stack.Stack.{Stack as TheStack};
 ghost use Rattle.dlk_reader.specs.declared.code.Code.TheVariants as code;
 ghost use Rattle.dlk_machine.specs.Machine.{Part as MachinePart, Inside, InBrace, Piece, start_statement, statement_step, statement_prime_step, statement_gets_step, statement_star_step, opens_step, opens_name_step, opens_prime_step, star_after, invariant_after, semi_after, invariants_step};
 ghost use Rattle.dlk_reader.specs.Codes.{postfix};
+ghost use Rattle.dlk_reader.specs.Outcomes.{leaving};
 ghost use Rattle.dlk_reader.specs.Shows.{seen, is_star, IsOpen, Stands, Shows, Agrees};
 
 use crate::code::Code;
@@ -18,27 +19,48 @@ use std::alloc::Global;
 
 impl Stack {
     /// A lexeme where a statement is wanted.
-    pub(crate) fn start_statement(&mut self, lexeme: Lexeme) -> Result<Mode, StepFault>
+    pub(crate) fn start_statement(
+        &mut self,
+        mode: &mut Mode,
+        lexeme: Lexeme,
+    ) -> Result<(), StepFault>
         ensures { (S : List MachinePart) → IsOpen self.old S []
-            → Agrees (Shows self.new) result (start_statement S (seen lexeme)) }
+            → Agrees (Shows self.new) (leaving mode.new result) (start_statement S (seen lexeme)) }
     {
         match lexeme {
-            Lexeme::Name(_, name) => Ok(Mode::Starts(name)),
-            Lexeme::Query => self.open(Part::Inside(Holder::Tests)),
-            Lexeme::OpenBrace(at) => Ok(Mode::Opens(at)),
+            Lexeme::Name(_, name) => {
+                mode.set(Mode::Starts(name));
+                Ok(())
+            }
+            Lexeme::Query => self.open(mode, Part::Inside(Holder::Tests)),
+            Lexeme::OpenBrace(at) => {
+                mode.set(Mode::Opens(at));
+                Ok(())
+            }
             _ => Err(StepFault::Syntax),
         }
     }
 
     /// A lexeme behind the name of a statement.
-    pub(crate) fn statement_step(&mut self, name: Name, lexeme: Lexeme) -> Result<Mode, StepFault>
+    pub(crate) fn statement_step(
+        &mut self,
+        mode: &mut Mode,
+        name: Name,
+        lexeme: Lexeme,
+    ) -> Result<(), StepFault>
         ensures { (S : List MachinePart) → IsOpen self.old S []
-            → Agrees (Shows self.new) result (statement_step S name (seen lexeme)) }
+            → Agrees (Shows self.new) (leaving mode.new result) (statement_step S name (seen lexeme)) }
     {
         match lexeme {
-            Lexeme::Semi => self.leaf(program_constant(name), Sort::Program),
-            Lexeme::Gets => Ok(Mode::StartsGets(name)),
-            Lexeme::Prime => Ok(Mode::StartsPrime(name)),
+            Lexeme::Semi => self.leaf(mode, program_constant(name), Sort::Program),
+            Lexeme::Gets => {
+                mode.set(Mode::StartsGets(name));
+                Ok(())
+            }
+            Lexeme::Prime => {
+                mode.set(Mode::StartsPrime(name));
+                Ok(())
+            }
             _ => Err(StepFault::Syntax),
         }
     }
@@ -46,14 +68,15 @@ impl Stack {
     /// A lexeme behind the name of a statement and a prime.
     pub(crate) fn statement_prime_step(
         &mut self,
+        mode: &mut Mode,
         name: Name,
         lexeme: Lexeme,
-    ) -> Result<Mode, StepFault>
+    ) -> Result<(), StepFault>
         ensures { (S : List MachinePart) → IsOpen self.old S []
-            → Agrees (Shows self.new) result (statement_prime_step S name (seen lexeme)) }
+            → Agrees (Shows self.new) (leaving mode.new result) (statement_prime_step S name (seen lexeme)) }
     {
         match lexeme {
-            Lexeme::Gets => self.open(Part::Inside(Holder::Assigns { name, primed: true })),
+            Lexeme::Gets => self.open(mode, Part::Inside(Holder::Assigns { name, primed: true })),
             _ => Err(StepFault::Syntax),
         }
     }
@@ -62,34 +85,37 @@ impl Stack {
     pub(crate) fn statement_gets_step(
         &mut self,
         goal: Sort,
+        mode: &mut Mode,
         name: Name,
         lexeme: Lexeme,
-    ) -> Result<Mode, StepFault>
+    ) -> Result<(), StepFault>
         ensures { (S : List MachinePart) → IsOpen self.old S []
-            → Agrees (Shows self.new) result (statement_gets_step goal S name (seen lexeme)) }
+            → Agrees (Shows self.new) (leaving mode.new result) (statement_gets_step goal S name (seen lexeme)) }
     {
         let star = is_star(&lexeme);
         if star {
-            return Ok(Mode::StartsStar(name));
+            mode.set(Mode::StartsStar(name));
+            return Ok(());
         }
         self.parts.push(Part::Inside(Holder::Assigns {
             name,
             primed: false,
         }))?;
-        self.start_operand(goal, lexeme)
+        self.start_operand(goal, mode, lexeme)
     }
 
     /// The semicolon behind `:=` and a star.
     pub(crate) fn statement_star_step(
         &mut self,
+        mode: &mut Mode,
         name: Name,
         lexeme: Lexeme,
-    ) -> Result<Mode, StepFault>
+    ) -> Result<(), StepFault>
         ensures { (S : List MachinePart) → IsOpen self.old S []
-            → Agrees (Shows self.new) result (statement_star_step S name (seen lexeme)) }
+            → Agrees (Shows self.new) (leaving mode.new result) (statement_star_step S name (seen lexeme)) }
     {
         match lexeme {
-            Lexeme::Semi => self.leaf(Op::Any(name), Sort::Program),
+            Lexeme::Semi => self.leaf(mode, Op::Any(name), Sort::Program),
             _ => Err(StepFault::Syntax),
         }
     }
@@ -103,19 +129,27 @@ impl Stack {
     }
 
     /// A lexeme behind a brace.
-    pub(crate) fn opens_step(&mut self, at: usize, lexeme: Lexeme) -> Result<Mode, StepFault>
+    pub(crate) fn opens_step(
+        &mut self,
+        mode: &mut Mode,
+        at: usize,
+        lexeme: Lexeme,
+    ) -> Result<(), StepFault>
         ensures { (S : List MachinePart) → IsOpen self.old S []
-            → Agrees (Shows self.new) result (opens_step S at (seen lexeme)) }
+            → Agrees (Shows self.new) (leaving mode.new result) (opens_step S at (seen lexeme)) }
     {
         match lexeme {
-            Lexeme::Name(_, name) => Ok(Mode::OpensName { at, name }),
+            Lexeme::Name(_, name) => {
+                mode.set(Mode::OpensName { at, name });
+                Ok(())
+            }
             Lexeme::Query => {
                 self.open_brace()?;
-                self.start_statement(Lexeme::Query)
+                self.start_statement(mode, Lexeme::Query)
             }
             Lexeme::OpenBrace(inner) => {
                 self.open_brace()?;
-                self.start_statement(Lexeme::OpenBrace(inner))
+                self.start_statement(mode, Lexeme::OpenBrace(inner))
             }
             _ => Err(StepFault::Syntax),
         }
@@ -125,24 +159,31 @@ impl Stack {
     pub(crate) fn opens_name_step(
         &mut self,
         alloc: Global,
+        mode: &mut Mode,
         at: usize,
         name: Name,
         lexeme: Lexeme,
-    ) -> Result<Mode, StepFault>
+    ) -> Result<(), StepFault>
         ensures { (S : List MachinePart) → IsOpen self.old S []
-            → Agrees (Shows self.new) result (opens_name_step S at name (seen lexeme)) }
+            → Agrees (Shows self.new) (leaving mode.new result) (opens_name_step S at name (seen lexeme)) }
     {
         match lexeme {
-            Lexeme::Prime => Ok(Mode::OpensPrime { at, name }),
+            Lexeme::Prime => {
+                mode.set(Mode::OpensPrime { at, name });
+                Ok(())
+            }
             Lexeme::Semi => {
                 self.open_brace()?;
-                self.statement_step(name, Lexeme::Semi)
+                self.statement_step(mode, name, Lexeme::Semi)
             }
             Lexeme::Gets => {
                 self.open_brace()?;
-                self.statement_step(name, Lexeme::Gets)
+                self.statement_step(mode, name, Lexeme::Gets)
             }
-            lexeme => self.item_name_step(Equations::new(alloc, at), name, lexeme),
+            lexeme => {
+                let equations = Equations::new(alloc, at)?;
+                self.item_name_step(mode, equations, name, lexeme)
+            }
         }
     }
 
@@ -150,31 +191,36 @@ impl Stack {
     pub(crate) fn opens_prime_step(
         &mut self,
         alloc: Global,
+        mode: &mut Mode,
         at: usize,
         name: Name,
         lexeme: Lexeme,
-    ) -> Result<Mode, StepFault>
+    ) -> Result<(), StepFault>
         ensures { (S : List MachinePart) → IsOpen self.old S []
-            → Agrees (Shows self.new) result (opens_prime_step S at name (seen lexeme)) }
+            → Agrees (Shows self.new) (leaving mode.new result) (opens_prime_step S at name (seen lexeme)) }
     {
         match lexeme {
             Lexeme::Gets => {
                 self.open_brace()?;
-                self.statement_prime_step(name, Lexeme::Gets)
+                self.statement_prime_step(mode, name, Lexeme::Gets)
             }
-            lexeme => self.item_prime_step(Equations::new(alloc, at), name, lexeme),
+            lexeme => {
+                let equations = Equations::new(alloc, at)?;
+                self.item_prime_step(mode, equations, name, lexeme)
+            }
         }
     }
 
     /// A star behind a brace.
-    pub(crate) fn star_after(&mut self, last: Last) -> Result<Mode, StepFault>
+    pub(crate) fn star_after(&mut self, mode: &mut Mode, last: Last) -> Result<(), StepFault>
         ensures { (S : List MachinePart) (p : Piece) → Stands self.old last S p
-            → Agrees (Shows self.new) result (star_after S p) }
+            → Agrees (Shows self.new) (leaving mode.new result) (star_after S p) }
     {
         match last {
             Last::Tree(sort, Tail::Braced) => {
                 self.out.push(Code::Operator(Op::Loop))?;
-                Ok(Mode::Has(Last::Tree(sort, Tail::Starred)))
+                mode.set(Mode::Has(Last::Tree(sort, Tail::Starred)));
+                Ok(())
             }
             Last::Tree(_, _) => Err(StepFault::Syntax),
             Last::Name { .. } => Err(StepFault::Syntax),
@@ -183,14 +229,18 @@ impl Stack {
     }
 
     /// The bracket behind `@invariant`.
-    pub(crate) fn invariants_step(&mut self, lexeme: Lexeme) -> Result<Mode, StepFault>
+    pub(crate) fn invariants_step(
+        &mut self,
+        mode: &mut Mode,
+        lexeme: Lexeme,
+    ) -> Result<(), StepFault>
         ensures { (S : List MachinePart) (t : Phrase) → IsOpen self.old S (postfix t)
-            → Agrees (Shows self.new) result (invariants_step S t (seen lexeme)) }
+            → Agrees (Shows self.new) (leaving mode.new result) (invariants_step S t (seen lexeme)) }
     {
         match lexeme {
             Lexeme::Open => {
                 self.out.push(Code::Notes)?;
-                self.open(Part::Inside(Holder::Notes(0)))
+                self.open(mode, Part::Inside(Holder::Notes(0)))
             }
             _ => Err(StepFault::Syntax),
         }
@@ -217,13 +267,15 @@ fn program_constant(name: Name) -> Op
 }
 
 /// `@invariant` behind a brace or its star.
-pub(crate) fn invariant_after(last: Last) -> Result<Mode, StepFault>
+pub(crate) fn invariant_after(mode: &mut Mode, last: Last) -> Result<(), StepFault>
     ensures { (k : TheStack) (S : List MachinePart) (p : Piece) → Stands k last S p
-        → Agrees (Shows k) result (invariant_after S p) }
+        → Agrees (Shows k) (leaving mode.new result) (invariant_after S p) }
 {
     match last {
-        Last::Tree(_, Tail::Braced) => Ok(Mode::Invariants),
-        Last::Tree(_, Tail::Starred) => Ok(Mode::Invariants),
+        Last::Tree(_, Tail::Braced | Tail::Starred) => {
+            mode.set(Mode::Invariants);
+            Ok(())
+        }
         Last::Tree(_, _) => Err(StepFault::Syntax),
         Last::Name { .. } => Err(StepFault::Syntax),
         Last::Symbol { .. } => Err(StepFault::Syntax),
@@ -231,14 +283,15 @@ pub(crate) fn invariant_after(last: Last) -> Result<Mode, StepFault>
 }
 
 /// A semicolon behind a brace, its star or its invariants.
-pub(crate) fn semi_after(last: Last) -> Result<Mode, StepFault>
+pub(crate) fn semi_after(mode: &mut Mode, last: Last) -> Result<(), StepFault>
     ensures { (k : TheStack) (S : List MachinePart) (p : Piece) → Stands k last S p
-        → Agrees (Shows k) result (semi_after S p) }
+        → Agrees (Shows k) (leaving mode.new result) (semi_after S p) }
 {
     match last {
-        Last::Tree(sort, Tail::Braced) => Ok(Mode::Has(Last::Tree(sort, Tail::Done))),
-        Last::Tree(sort, Tail::Starred) => Ok(Mode::Has(Last::Tree(sort, Tail::Done))),
-        Last::Tree(sort, Tail::Annotated) => Ok(Mode::Has(Last::Tree(sort, Tail::Done))),
+        Last::Tree(sort, Tail::Braced | Tail::Starred | Tail::Annotated) => {
+            mode.set(Mode::Has(Last::Tree(sort, Tail::Done)));
+            Ok(())
+        }
         Last::Tree(_, _) => Err(StepFault::Syntax),
         Last::Name { .. } => Err(StepFault::Syntax),
         Last::Symbol { .. } => Err(StepFault::Syntax),

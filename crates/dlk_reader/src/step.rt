@@ -19,91 +19,122 @@ use std::mem;
 impl Stack {
     /// A lexeme where an operand or a statement is wanted.
     #[inline(always)]
-    fn start(&mut self, goal: Sort, lexeme: Lexeme) -> Result<Mode, StepFault>
+    fn start(&mut self, goal: Sort, mode: &mut Mode, lexeme: Lexeme) -> Result<(), StepFault>
         ensures { (S : List MachinePart) → IsOpen self.old S []
-            → Agrees (Shows self.new) result (start goal S (seen lexeme)) }
+            → Agrees (Shows self.new) (leaving mode.new result) (start goal S (seen lexeme)) }
     {
         match place(goal, self.parts.as_slice()) {
-            Sort::Program => self.start_statement(lexeme),
-            Sort::Term => self.start_operand(goal, lexeme),
-            Sort::Formula => self.start_operand(goal, lexeme),
+            Sort::Program => self.start_statement(mode, lexeme),
+            Sort::Term => self.start_operand(goal, mode, lexeme),
+            Sort::Formula => self.start_operand(goal, mode, lexeme),
         }
     }
 
     /// An operator behind an operand.
     #[inline(always)]
-    fn infix_after(&mut self, goal: Sort, operator: Infix, last: Last) -> Result<Mode, StepFault>
+    fn infix_after(
+        &mut self,
+        goal: Sort,
+        mode: &mut Mode,
+        operator: Infix,
+        last: Last,
+    ) -> Result<(), StepFault>
         ensures { (S : List MachinePart) (p : Piece) → Stands self.old last S p
-            → Agrees (Shows self.new) result (infix_after goal operator S p) }
+            → Agrees (Shows self.new) (leaving mode.new result) (infix_after goal operator S p) }
     {
         if let Infix::And = operator {
-            return self.and(goal, last);
+            return self.and(goal, mode, last);
         }
         self.after_operand(goal, Between::By(operator), last)?;
-        Ok(Mode::Wants)
+        mode.set(Mode::Wants);
+        Ok(())
     }
 
     /// A statement behind a program.
-    fn next_after(&mut self, goal: Sort, last: Last, lexeme: Lexeme) -> Result<Mode, StepFault>
+    fn next_after(
+        &mut self,
+        goal: Sort,
+        mode: &mut Mode,
+        last: Last,
+        lexeme: Lexeme,
+    ) -> Result<(), StepFault>
         ensures { (S : List MachinePart) (p : Piece) → Stands self.old last S p
-            → Agrees (Shows self.new) result (next_after goal S p (seen lexeme)) }
+            → Agrees (Shows self.new) (leaving mode.new result) (next_after goal S p (seen lexeme)) }
     {
         self.after_operand(goal, Between::Next, last)?;
-        self.start_statement(lexeme)
+        self.start_statement(mode, lexeme)
     }
 
     /// A lexeme behind a program.
-    fn after_program(&mut self, goal: Sort, last: Last, lexeme: Lexeme) -> Result<Mode, StepFault>
+    fn after_program(
+        &mut self,
+        goal: Sort,
+        mode: &mut Mode,
+        last: Last,
+        lexeme: Lexeme,
+    ) -> Result<(), StepFault>
         ensures { (S : List MachinePart) (p : Piece) → Stands self.old last S p
-            → Agrees (Shows self.new) result (after_program goal S p (seen lexeme)) }
+            → Agrees (Shows self.new) (leaving mode.new result) (after_program goal S p (seen lexeme)) }
     {
         match lexeme {
-            Lexeme::Op(Infix::Mul) => self.star_after(last),
-            Lexeme::Op(Infix::Choice) => self.infix_after(goal, Infix::Choice, last),
-            Lexeme::Op(Infix::Greater) => self.closing(Closer::Greater, last),
-            Lexeme::Invariant => invariant_after(last),
-            Lexeme::Semi => semi_after(last),
-            Lexeme::CloseBox => self.closing(Closer::Square, last),
-            Lexeme::CloseBrace => self.closing(Closer::Brace, last),
-            Lexeme::Name(at, name) => self.next_after(goal, last, Lexeme::Name(at, name)),
-            Lexeme::Query => self.next_after(goal, last, Lexeme::Query),
-            Lexeme::OpenBrace(at) => self.next_after(goal, last, Lexeme::OpenBrace(at)),
+            Lexeme::Op(Infix::Mul) => self.star_after(mode, last),
+            Lexeme::Op(Infix::Choice) => self.infix_after(goal, mode, Infix::Choice, last),
+            Lexeme::Op(Infix::Greater) => self.closing(mode, Closer::Greater, last),
+            Lexeme::Invariant => invariant_after(mode, last),
+            Lexeme::Semi => semi_after(mode, last),
+            Lexeme::CloseBox => self.closing(mode, Closer::Square, last),
+            Lexeme::CloseBrace => self.closing(mode, Closer::Brace, last),
+            Lexeme::Name(at, name) => self.next_after(goal, mode, last, Lexeme::Name(at, name)),
+            Lexeme::Query => self.next_after(goal, mode, last, Lexeme::Query),
+            Lexeme::OpenBrace(at) => self.next_after(goal, mode, last, Lexeme::OpenBrace(at)),
             _ => Err(StepFault::Syntax),
         }
     }
 
     /// A lexeme behind a term or a formula.
     #[inline(always)]
-    fn after_other(&mut self, goal: Sort, last: Last, lexeme: Lexeme) -> Result<Mode, StepFault>
+    fn after_other(
+        &mut self,
+        goal: Sort,
+        mode: &mut Mode,
+        last: Last,
+        lexeme: Lexeme,
+    ) -> Result<(), StepFault>
         ensures { (S : List MachinePart) (p : Piece) → Stands self.old last S p
-            → Agrees (Shows self.new) result (after_other goal S p (seen lexeme)) }
+            → Agrees (Shows self.new) (leaving mode.new result) (after_other goal S p (seen lexeme)) }
     {
         match lexeme {
-            Lexeme::Op(operator) => self.infix_after(goal, operator, last),
-            Lexeme::Open => self.name_after(goal, last, Lexeme::Open),
-            Lexeme::RoundBars => self.name_after(goal, last, Lexeme::RoundBars),
-            Lexeme::RoundBar => self.name_after(goal, last, Lexeme::RoundBar),
-            Lexeme::OpenBrace(at) => self.name_after(goal, last, Lexeme::OpenBrace(at)),
-            Lexeme::Prime => self.prime_after(last),
-            Lexeme::Close => self.closing(Closer::Round, last),
-            Lexeme::CloseBrace => self.closing(Closer::Brace, last),
-            Lexeme::Comma => self.closing(Closer::Comma, last),
-            Lexeme::Semi => self.closing(Closer::Semicolon, last),
+            Lexeme::Op(operator) => self.infix_after(goal, mode, operator, last),
+            Lexeme::Open => self.name_after(goal, mode, last, Lexeme::Open),
+            Lexeme::RoundBars => self.name_after(goal, mode, last, Lexeme::RoundBars),
+            Lexeme::RoundBar => self.name_after(goal, mode, last, Lexeme::RoundBar),
+            Lexeme::OpenBrace(at) => self.name_after(goal, mode, last, Lexeme::OpenBrace(at)),
+            Lexeme::Prime => self.prime_after(mode, last),
+            Lexeme::Close => self.closing(mode, Closer::Round, last),
+            Lexeme::CloseBrace => self.closing(mode, Closer::Brace, last),
+            Lexeme::Comma => self.closing(mode, Closer::Comma, last),
+            Lexeme::Semi => self.closing(mode, Closer::Semicolon, last),
             _ => Err(StepFault::Syntax),
         }
     }
 
     /// A lexeme behind what was read last.
     #[inline(always)]
-    fn after(&mut self, goal: Sort, last: Last, lexeme: Lexeme) -> Result<Mode, StepFault>
+    fn after(
+        &mut self,
+        goal: Sort,
+        mode: &mut Mode,
+        last: Last,
+        lexeme: Lexeme,
+    ) -> Result<(), StepFault>
         ensures { (S : List MachinePart) (p : Piece) → Stands self.old last S p
-            → Agrees (Shows self.new) result (step goal (Has S p) (seen lexeme)) }
+            → Agrees (Shows self.new) (leaving mode.new result) (step goal (Has S p) (seen lexeme)) }
     {
         match last {
             Last::Tree(Sort::Program, tail) => {
-                self.after_program(goal, Last::Tree(Sort::Program, tail), lexeme)
+                self.after_program(goal, mode, Last::Tree(Sort::Program, tail), lexeme)
             }
-            last => self.after_other(goal, last, lexeme),
+            last => self.after_other(goal, mode, last, lexeme),
         }
     }
 
@@ -122,9 +153,47 @@ impl Stack {
         ensures { (x : State) → Shows self.old mode.old x
             → Agrees (Shows self.new) (leaving mode.new result) (step goal x (seen lexeme)) }
     {
-        let before = mem::replace(mode, Mode::Wants);
-        *mode = self.step(alloc, goal, before, lexeme)?;
-        Ok(())
+        match mem::replace(mode, Mode::Wants) {
+            Mode::Wants => self.start(goal, mode, lexeme),
+            Mode::Has(last) => self.after(goal, mode, last, lexeme),
+            Mode::Calls { at, name } => self.call_step(goal, mode, at, name, lexeme),
+            Mode::Bars(name) => {
+                let taboo = lexeme.into_name()?;
+                mode.set(Mode::BarsName { name, taboo });
+                Ok(())
+            }
+            Mode::BarsName { name, taboo } => bars_name_step(alloc, mode, name, taboo, lexeme),
+            Mode::Binds(quantifier) => self.bind_step(mode, quantifier, lexeme),
+            Mode::Starts(name) => self.statement_step(mode, name, lexeme),
+            Mode::StartsPrime(name) => self.statement_prime_step(mode, name, lexeme),
+            Mode::StartsGets(name) => self.statement_gets_step(goal, mode, name, lexeme),
+            Mode::StartsStar(name) => self.statement_star_step(mode, name, lexeme),
+            Mode::Opens(at) => self.opens_step(mode, at, lexeme),
+            Mode::OpensName { at, name } => self.opens_name_step(alloc, mode, at, name, lexeme),
+            Mode::OpensPrime { at, name } => self.opens_prime_step(alloc, mode, at, name, lexeme),
+            Mode::WantsItem(equations) => {
+                mode.set(Mode::ItemName(equations, lexeme.into_name()?));
+                Ok(())
+            }
+            Mode::ItemName(equations, name) => self.item_name_step(mode, equations, name, lexeme),
+            Mode::ItemPrime(equations, name) => self.item_prime_step(mode, equations, name, lexeme),
+            Mode::ItemBar(equations, name) => {
+                let taboo = lexeme.into_name()?;
+                mode.set(Mode::ItemBarName {
+                    equations,
+                    name,
+                    taboo,
+                });
+                Ok(())
+            }
+            Mode::ItemBarName {
+                equations,
+                name,
+                taboo,
+            } => item_bar_name_step(mode, equations, name, taboo, lexeme),
+            Mode::ItemEnds(equations) => self.items_step(mode, equations, lexeme),
+            Mode::Invariants => self.invariants_step(mode, lexeme),
+        }
     }
 
     /// What the next lexeme makes of the lists, and where the reader then stands.
@@ -142,41 +211,8 @@ impl Stack {
         ensures { (x : State) → Shows self.old mode x
             → Agrees (Shows self.new) result (step goal x (seen lexeme)) }
     {
-        match mode {
-            Mode::Wants => self.start(goal, lexeme),
-            Mode::Has(last) => self.after(goal, last, lexeme),
-            Mode::Calls { at, name } => self.call_step(goal, at, name, lexeme),
-            Mode::Bars(name) => {
-                let taboo = lexeme.into_name()?;
-                Ok(Mode::BarsName { name, taboo })
-            }
-            Mode::BarsName { name, taboo } => bars_name_step(name, taboo, lexeme),
-            Mode::Binds(quantifier) => self.bind_step(quantifier, lexeme),
-            Mode::Starts(name) => self.statement_step(name, lexeme),
-            Mode::StartsPrime(name) => self.statement_prime_step(name, lexeme),
-            Mode::StartsGets(name) => self.statement_gets_step(goal, name, lexeme),
-            Mode::StartsStar(name) => self.statement_star_step(name, lexeme),
-            Mode::Opens(at) => self.opens_step(at, lexeme),
-            Mode::OpensName { at, name } => self.opens_name_step(alloc, at, name, lexeme),
-            Mode::OpensPrime { at, name } => self.opens_prime_step(alloc, at, name, lexeme),
-            Mode::WantsItem(equations) => Ok(Mode::ItemName(equations, lexeme.into_name()?)),
-            Mode::ItemName(equations, name) => self.item_name_step(equations, name, lexeme),
-            Mode::ItemPrime(equations, name) => self.item_prime_step(equations, name, lexeme),
-            Mode::ItemBar(equations, name) => {
-                let taboo = lexeme.into_name()?;
-                Ok(Mode::ItemBarName {
-                    equations,
-                    name,
-                    taboo,
-                })
-            }
-            Mode::ItemBarName {
-                equations,
-                name,
-                taboo,
-            } => item_bar_name_step(equations, name, taboo, lexeme),
-            Mode::ItemEnds(equations) => self.items_step(equations, lexeme),
-            Mode::Invariants => self.invariants_step(lexeme),
-        }
+        let mut mode = mode;
+        self.go_on(alloc, goal, &mut mode, lexeme)?;
+        Ok(mode)
     }
 }

@@ -1,4 +1,4 @@
-use Rattle.std.proofs.Common.{◌≡◌, ap}
+use Rattle.std.proofs.Common.{◌≡◌, ap, ◌∙◌}
 use Rattle.std.proofs.lemmas.Result.{err_from_is_err_and}
 use Rattle.dlk_grammar.specs.Phrases.{Except, Flow, add}
 use Rattle.dlk_machine.specs.Machine.{item_bar_name_step}
@@ -15,4 +15,4 @@ returns-in_err-add_constant-in-BarBrace c = λ k S n l e h.
 
 pub returns-in_ok-add_constant-in-BarBrace : goal.returns-in_ok-add_constant-in-BarBrace
 returns-in_ok-add_constant-in-BarBrace c = λ k S n l e h.
-    rw c.in-BarBrace.is (record { mode = ap mode.ItemEnds (c.in_ok-add_constant-in-BarBrace.ensures n l e); lists = h })
+    rw c.in-BarBrace.is (record { mode = c.set.ensures ∙ ap mode.ItemEnds (c.in_ok-add_constant-in-BarBrace.ensures n l e); lists = h })

@@ -1,6 +1,7 @@
 use Rattle.std.proofs.Common.{sym, ◌∙◌}
 use Rattle.std.proofs.lemmas.Result.{err_from_is_err_and}
 use Rattle.dlk_machine.specs.Machine.{close}
+use Rattle.dlk_reader.specs.Outcomes.{leaving}
 use Rattle.dlk_reader.specs.Shows.{closer_lexeme, Shows}
 use Rattle.dlk_reader.proofs.HolderSteps.{no_round, no_comma, no_brace, no_square, no_greater, no_semicolon}
 use Rattle.dlk_reader.proofs.HolderSteps.{domain_closed, evolves_any_err, evolves_brace, evolves_comma}
@@ -14,7 +15,8 @@ pub returns-in-Brace-Domain : goal.returns-in-Brace-Domain
 returns-in-Brace-Domain c = λ S h p t k e b at.
     let i = c.in-Brace-Domain in
     let m = c.made-in-Brace-Domain in
-    rw i.is-0 (domain_closed i.equations c.args.self.now m.new.self m.result S h p t (sym i.is-1 ∙ k) e at m.ensures)
+    rw i.is-0 (domain_closed i.equations c.args.self.now m.new.self (leaving m.new.mode m.result) S h p t (sym i.is-1 ∙ k) e at
+    (rw c.into_inner-items.ensures at m.ensures))
 
 pub returns-in_err-equations-in-Brace-Evolves : goal.returns-in_err-equations-in-Brace-Evolves
 returns-in_err-equations-in-Brace-Evolves c = λ S h p t k e b at.
@@ -39,13 +41,13 @@ returns-in_ok-equations-in-Brace-Evolves c = λ S h p t k e b at.
     let i = c.in-Brace-Evolves in
     let o = c.in_ok-equations-in-Brace-Evolves in
     let n = c.end_system in
-    rw i.is-0 (evolves_brace i.equations o.equations i.name c.args.self.now n.new.self n.result S h p t (sym i.is-1 ∙ k) e at o.ensures n.ensures)
+    rw i.is-0 (evolves_brace i.equations o.equations i.name c.args.self.now n.new.self (leaving n.new.mode n.result) S h p t (sym i.is-1 ∙ k) e at o.ensures n.ensures)
 
 pub returns-in_ok-equations-in-Comma-Evolves : goal.returns-in_ok-equations-in-Comma-Evolves
 returns-in_ok-equations-in-Comma-Evolves c = λ S h p t k e b at.
     let i = c.in-Comma-Evolves in
     let o = c.in_ok-equations-in-Comma-Evolves in
-    rw i.is-0 (evolves_comma i.equations o.equations i.name c.args.self.now S h p t (sym i.is-1 ∙ k) e at o.ensures)
+    rw (i.is-0, c.set-in-Comma-Evolves.ensures) (evolves_comma i.equations o.equations i.name c.args.self.now S h p t (sym i.is-1 ∙ k) e at o.ensures)
 
 pub returns-in_default : goal.returns-in_default
 returns-in_default c = λ S h p t k e b at.

@@ -5,7 +5,7 @@ use Rattle.dlk_reader.proofs.stack.Stack.statement_gets_step.Goals as goal
 
 pub returns-then-star : goal.returns-then-star
 returns-then-star c = λ S h.
-    rw (gets_star c.args.goal S c.args.name c.args.lexeme (sym c.is_star-star.ensures ∙ c.if-star.true)) (record { mode = refl; lists = h })
+    rw (gets_star c.args.goal S c.args.name c.args.lexeme (sym c.is_star-star.ensures ∙ c.if-star.true)) (record { mode = c.set.ensures; lists = h })
 
 pub returns : goal.returns
 returns c = λ S h.
