@@ -1,11 +1,12 @@
 -- The first of the marks that begin with a byte which is at the front is the longest there.
 use Rattle.std.proofs.Common.{◌≡◌, ℕ, ◌<◌, ◌≤◌, Bool, true, false, ◌&&◌, nat_le, eqb, List, [], ◌∷◌, ◌++◌, length, take, drop, get_or, map, refl, sym, ap, subst, ◌∙◌, ◌==◌, inl, inr, arith, lit<}
-use Rattle.std.specs.List.{All, AllPairs, Contains, list_all, position_or_len, starts_with}
+use Rattle.std.specs.List.{All, AllPairs, Contains, filter, list_all, position_or_len, starts_with}
 use Rattle.std.specs.Str.{bytes_eq}
-use Rattle.std.proofs.lemmas.Bool.{and_parts, leb-true, cases_lt}
+use Rattle.std.proofs.lemmas.Bool.{and_parts, leb-true, cases_lt, cond_both, eqb-true}
 use Rattle.std.proofs.lemmas.List.{get_or-map as get_or-map_any, get_or-take, length-map, length-take}
 use Rattle.std.proofs.Math.ListN.{get_or-map}
 use Rattle.std.proofs.lemmas.List.Kept.{AllPairs-cons, AllPairs-filter}
+use Rattle.std.proofs.lemmas.List.Elements.{All-cons}
 use Rattle.std.proofs.lemmas.List.Sums.{AllPass-from_list_all}
 use Rattle.dlk_grammar.specs.declared.token.Mark.{Mark}
 use Rattle.dlk_grammar.specs.declared.token.Mark.TheVariants as mark
@@ -39,6 +40,13 @@ first_byte : (m : Mark) (after : List ℕ) → get_or (spelling m ++ after) 0 0 
 first_byte mark.Forall after = refl
 first_byte m after = refl
 
+-- what is kept passes the test
+all_pass : {X : Type 0} (p : X → Bool) (xs : List X) → All (λ x. p x ≡ true) (filter p xs)
+all_pass p [] = λ i d lt. absurd (omega (arith, lt))
+all_pass p (x ∷ xs) =
+    let rest = all_pass p xs in
+    cond_both (p x) (x ∷ filter p xs) (filter p xs) (All (λ x. p x ≡ true)) (λ here. All-cons (λ x. p x ≡ true) x (filter p xs) here rest) (λ _. rest)
+
 some : {X : Type 0} (xs : List X) → 0 < length xs → X
 some [] lt = absurd (omega arith)
 some (x ∷ xs) lt = x
@@ -55,6 +63,13 @@ module _ {X : Type 0} (text : X → List ℕ) (mark_of : X → Mark) (bytes : Li
       let row = get_or-map mark_of rows i d in
       sym (get_or-map_any text rows i d [] lt) ∙ ap (λ (l : List (List ℕ)). get_or l i []) both
       ∙ get_or-map_any spelling (map mark_of rows) i (mark_of d) [] (omega (arith, size)) ∙ ap spelling row
+
+  -- each begins as the bytes do
+  pub begins : (i : ℕ) (d : X) → i < length rows → get_or (text (get_or rows i d)) 0 0 ≡ get_or bytes 0 0
+  begins i d lt =
+      let passes = subst (All (λ m. (get_or (spelling m) 0 0 == get_or bytes 0 0) ≡ true)) (sym marks_are) (all_pass (λ m. get_or (spelling m) 0 0 == get_or bytes 0 0) marks) in
+      let here = passes i (mark_of d) (omega (arith, lt, size)) in
+      ap (λ (t : List ℕ). get_or t 0 0) (spells i d lt) ∙ ap (λ m. get_or (spelling m) 0 0) (sym (get_or-map mark_of rows i d)) ∙ eqb-true _ _ here
 
   -- where a mark at the front stands among them
   record Row (m : Mark) (d : X) : Type 0 where

@@ -7,8 +7,6 @@ mod front;
 mod marks;
 mod numbers;
 mod splitting;
-#[cfg(test)]
-mod tests;
 
 pub use dlk_grammar::{Mark, Token, TokenKind};
 pub use fault::LexFault;

@@ -1,5 +1,6 @@
 //! The marks and their spellings.
-ghost use Rattle.std.specs.Prelude.{◌≡◌, ◌<◌, map, IfSome, IfNone, length};
+ghost use Rattle.std.specs.Prelude.{◌≡◌, ◌<◌, map, IfSome, IfNone, length, slice_index, nat_eq};
+ghost use Rattle.std.specs.List.{starts_with};
 ghost use Rattle.dlk_grammar.specs.Tokens.{spelling};
 ghost use Rattle.dlk_lex.specs.Fronts.{marks_from, IsFrontMark, HasNoMark};
 
@@ -52,6 +53,18 @@ fn marks_from(first: u8) -> &'static [(&'static [u8], Mark)]
     }
 }
 
+/// Whether a text is at the front of bytes that begin with its first byte.
+fn is_at_front(text: &[u8], bytes: &[u8]) -> bool
+    requires bytes { 0 < length bytes.now }
+    requires first { slice_index text.now 0 ≡ slice_index bytes.now 0 }
+    ensures { result ≡ starts_with nat_eq bytes.now text.now }
+{
+    if text.len() == 1 {
+        return true;
+    }
+    bytes.starts_with(text)
+}
+
 /// The longest mark at the front, and how many bytes it has.
 pub(crate) fn front_mark(bytes: &[u8]) -> Option<(Mark, usize)>
     requires { 0 < length bytes.now }
@@ -59,7 +72,7 @@ pub(crate) fn front_mark(bytes: &[u8]) -> Option<(Mark, usize)>
     ensures none { IfNone result (HasNoMark bytes.now) }
 {
     for (text, mark) in marks_from(bytes[0]) {
-        if bytes.starts_with(text) {
+        if is_at_front(text, bytes) {
             return Some((*mark, text.len()));
         }
     }

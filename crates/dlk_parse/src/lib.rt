@@ -17,6 +17,3 @@ pub use readers::{expression, extra, formula, program, sequent, substitution, te
 pub use texts::{
     read_expression, read_extra, read_formula, read_sequent, read_substitution, read_term,
 };
-
-#[cfg(test)]
-mod tests;

@@ -1,6 +1,8 @@
 // The stores, and what is read into them.
 mod readers;
 mod stores;
+mod texts;
+mod tokens;
 
 use dlk_tree::{Items, Kind, Name, OdeItem, Op, Sym, Var, same_op};
 use std::alloc::Global;

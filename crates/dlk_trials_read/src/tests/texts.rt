@@ -1,9 +1,9 @@
-use crate::{
+use dlk_grammar::Dots;
+use dlk_lex::tokens;
+use dlk_parse::{
     ParseFault, TextFault, expression, extra, program, read_expression, read_extra, read_formula,
     read_sequent, read_substitution, term,
 };
-use dlk_grammar::Dots;
-use dlk_lex::tokens;
 use dlk_plain::PlainStore;
 use dlk_store::Store;
 use dlk_tree::{Kind, Name, Sym};

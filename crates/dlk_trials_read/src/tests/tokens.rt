@@ -1,4 +1,4 @@
-use crate::{LexFault, TokenKind, tokens};
+use dlk_lex::{LexFault, TokenKind, tokens};
 use std::test::Fail;
 
 /// Each token of the text behind a space, and the end as a space.
