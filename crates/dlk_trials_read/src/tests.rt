@@ -1,4 +1,4 @@
-// The stores, and what is read into them.
+// Names and operators, the stores, and what is read into them.
 mod readers;
 mod stores;
 mod texts;
@@ -42,6 +42,28 @@ fn is_copied(op: &Op) -> Option<bool> {
 fn copies_operators(rt: HostRuntime) -> Result<(), Fail> {
     for op in [system(rt.alloc()), variable(rt.alloc())] {
         assert_eq!(rt; op.as_ref().and_then(is_copied), Some(true));
+    }
+    Ok(())
+}
+
+/// Names of up to 14 bytes are kept in place, and longer ones apart.
+#[test]
+fn keeps_names(rt: HostRuntime) -> Result<(), Fail> {
+    let texts = [
+        "x",
+        "fourteen_bytes",
+        "fifteen_bytes_x",
+        "position_of_the_car_in_front",
+    ];
+    for text in texts {
+        let name = Name::new(rt.alloc(), text.as_bytes())?;
+        assert_eq!(rt; name.bytes(), text.as_bytes());
+        assert_eq!(rt; name.clone()?.bytes(), text.as_bytes());
+        for other in texts {
+            let second = Name::new(rt.alloc(), other.as_bytes())?;
+            assert_eq!(rt; name == second, text == other, "{text} {other}");
+            assert_eq!(rt; name.cmp(&second), text.cmp(other), "{text} {other}");
+        }
     }
     Ok(())
 }

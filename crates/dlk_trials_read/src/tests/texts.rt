@@ -1,3 +1,4 @@
+// Texts of each kind, and the limits.
 use dlk_grammar::Dots;
 use dlk_lex::tokens;
 use dlk_parse::{

@@ -1,3 +1,4 @@
+// How bytes are split into tokens.
 use dlk_lex::{LexFault, TokenKind, tokens};
 use std::test::Fail;
 
