@@ -1,20 +1,22 @@
 -- What tokens say, as a code, and why they are not read. A form of text is given by its grammar and the phrases of its trees in order.
-use Rattle.std.specs.Prelude.{◌≡◌, ℕ, List, map, flat_map}
+use Rattle.std.specs.Prelude.{◌≡◌, ℕ, List, map, flat_map, Result, IfOk, IfErr}
+use Rattle.std.specs.Global.{Vec}
 use Rattle.dlk_grammar.specs.declared.token.Token.{Token}
 use Rattle.dlk_grammar.specs.declared.token.Dots.{Dots}
 use Rattle.dlk_grammar.specs.declared.token.Dots.TheVariants.{Allowed, Refused}
+use Rattle.dlk_grammar.specs.declared.token.Form.{Form}
 use Rattle.dlk_grammar.specs.Lexemes.{Lexeme, lexemes}
 use Rattle.dlk_grammar.specs.Phrases.{Phrase}
 use Rattle.dlk_grammar.specs.Grammar.{Sides, Turned, ReadsSequent}
 use Rattle.dlk_grammar.specs.Erased.{count}
-use Rattle.dlk_grammar.specs.Readings.{Says, SpeaksAgainst, both_sides}
+use Rattle.dlk_grammar.specs.Readings.{Says, SpeaksAgainst, grammar, itself, both_sides}
 use Rattle.dlk_grammar.specs.Readings.{Syntax as SyntaxFault}
 use Rattle.dlk_grammar.specs.Substitutions.{PairPhrase, ReadsSubstitution, replacements}
-use Rattle.dlk_grammar.specs.Extras.{ExtraPhrase, ReadsExtra}
+use Rattle.dlk_grammar.specs.Extras.{ExtraPhrase, ReadsExtra, extra_replacements}
 use Rattle.dlk_reader.specs.Codes.{postfix}
 use Rattle.dlk_reader.specs.declared.code.Code.{Code}
 use Rattle.dlk_reader.specs.declared.stop.Stop.{Stop}
-use Rattle.dlk_reader.specs.declared.stop.Stop.TheVariants.{Memory, Syntax}
+use Rattle.dlk_reader.specs.declared.stop.Stop.TheVariants.{Memory, BadByte, Syntax}
 use Rattle.dlk_forms.specs.declared.pairs.PairsCode.{PairsCode}
 use Rattle.dlk_forms.specs.declared.extras.ExtraCode.{ExtraCode}
 use Rattle.dlk_forms.specs.declared.sides.SidesCode.{SidesCode}
@@ -62,3 +64,23 @@ pub record SaysExtra (tokens : List Token) (c : ExtraCode) : Type 0 where
 abbrev pub IsStop : {P : Type 0} → (List Lexeme → P → Type 0) → (P → List Phrase) → Dots → List Token → Stop → Type 0
 IsStop G parts d tokens (Syntax at) = SpeaksAgainst G parts d tokens (SyntaxFault at)
 IsStop G parts d tokens Memory = Unit {0}
+IsStop G parts d tokens (BadByte at) = ⊥
+
+-- what reading answers to tokens: what they say, or where they stop as a text of the form
+pub record Answers {P V : Type 0} (says : List Token → V → Type 0) (G : List Lexeme → P → Type 0) (parts : P → List Phrase) (d : Dots)
+    (tokens : List Token) (result : Result V Stop) : Type 0 where
+  pub says : IfOk result (says tokens)
+  pub stops : IfErr result (IsStop G parts d tokens)
+
+-- of a tree, a sequent, a substitution, and renames with pairs
+abbrev pub AnswersTree : Form → Dots → List Token → Result (Vec Code) Stop → Type 0
+AnswersTree form d = Answers (λ tokens v. SaysCode (grammar form) itself d tokens v.items) (grammar form) itself d
+
+abbrev pub AnswersSides : List Token → Result SidesCode Stop → Type 0
+AnswersSides = Answers SaysSides ReadsSequent both_sides Refused
+
+abbrev pub AnswersPairs : List Token → Result PairsCode Stop → Type 0
+AnswersPairs = Answers SaysPairs ReadsSubstitution replacements Allowed
+
+abbrev pub AnswersExtra : List Token → Result ExtraCode Stop → Type 0
+AnswersExtra = Answers SaysExtra ReadsExtra extra_replacements Allowed

@@ -1,78 +1,71 @@
 //! Reads the tokens of a text.
-ghost use Rattle.std.specs.Prelude.{IfOk, IfErr};
-ghost use Rattle.dlk_grammar.specs.declared.token.Dots.TheVariants.{Allowed, Refused};
-ghost use Rattle.dlk_grammar.specs.RealTokens.{AreTokens};
-ghost use Rattle.dlk_grammar.specs.Grammar.{ReadsSequent};
-ghost use Rattle.dlk_grammar.specs.Readings.{grammar, itself, both_sides};
-ghost use Rattle.dlk_grammar.specs.Substitutions.{ReadsSubstitution, replacements};
-ghost use Rattle.dlk_grammar.specs.Extras.{ReadsExtra, extra_replacements};
-ghost use Rattle.dlk_forms.specs.Said.{SaysCode, SaysSides, SaysPairs, SaysExtra, IsStop};
+ghost use Rattle.std.specs.Prelude.{[]};
+ghost use Rattle.dlk_lex.specs.Sources.{HasTaken};
+ghost use Rattle.dlk_reader.specs.Outcomes.{ReadsAll};
+ghost use Rattle.dlk_forms.specs.Said.{AnswersTree, AnswersSides, AnswersPairs, AnswersExtra};
 
 use crate::extras::{ExtraCode, ExtraReader};
 use crate::pairs::{PairsCode, PairsReader};
 use crate::sides::{SidesCode, SidesReader};
 use crate::trees::TreeReader;
-use dlk_grammar::{Dots, Form, Token};
+use dlk_grammar::{Dots, Form};
+use dlk_lex::Source;
 use dlk_reader::{Code, Stop, read};
 use std::alloc::Global;
 
-/// Reads one tree from tokens of a text, of which the end is the last. Its operators stand behind their operands.
+/// Reads one tree from a source, from which no token was taken. Its operators stand behind their operands.
 ///
 /// # Errors
 ///
-/// `Syntax` comes exactly where the tokens stop as a text of the form: the byte of the first token at which no text goes on. `Memory` comes
+/// `BadByte` comes exactly where the bytes aren't all tokens. Else `Syntax` comes exactly where the tokens stop as a text of the form: the byte of the first token at which no text goes on. `Memory` comes
 /// where memory runs out.
 pub fn read_tree(
     alloc: Global,
     form: Form,
     dots: Dots,
-    tokens: Vec<Token>,
+    source: &mut Source<'_>,
 ) -> Result<Vec<Code>, Stop>
-    requires { AreTokens tokens.items }
-    ensures says { IfOk result (λ v. SaysCode (grammar form) itself dots tokens.items v.items) }
-    ensures stops { IfErr result (IsStop (grammar form) itself dots tokens.items) }
+    requires { HasTaken source.old.origin [] source.old }
+    ensures { ReadsAll (AnswersTree form dots) source.old.origin source.new result }
 {
-    read(alloc, TreeReader::new(alloc, form, dots), tokens)
+    read(alloc, TreeReader::new(alloc, form, dots), source)
 }
 
-/// Reads the formulas of both sides of a sequent from tokens of a text, of which the end is the last. Argument dots and the hole are refused.
+/// Reads the formulas of both sides of a sequent from a source, from which no token was taken. Argument dots and the hole are refused.
 ///
 /// # Errors
 ///
-/// `Syntax` comes exactly where the tokens stop as a sequent: the byte of the first token at which none goes on. `Memory` comes where
+/// `BadByte` comes exactly where the bytes aren't all tokens. Else `Syntax` comes exactly where the tokens stop as a sequent: the byte of the first token at which none goes on. `Memory` comes where
 /// memory runs out.
-pub fn read_sides(alloc: Global, tokens: Vec<Token>) -> Result<SidesCode, Stop>
-    requires { AreTokens tokens.items }
-    ensures says { IfOk result (SaysSides tokens.items) }
-    ensures stops { IfErr result (IsStop ReadsSequent both_sides Refused tokens.items) }
+pub fn read_sides(alloc: Global, source: &mut Source<'_>) -> Result<SidesCode, Stop>
+    requires { HasTaken source.old.origin [] source.old }
+    ensures { ReadsAll AnswersSides source.old.origin source.new result }
 {
-    read(alloc, SidesReader::new(alloc), tokens)
+    read(alloc, SidesReader::new(alloc), source)
 }
 
-/// Reads the pairs of a substitution from tokens of a text, of which the end is the last. Argument dots and the hole are allowed.
+/// Reads the pairs of a substitution from a source, from which no token was taken. Argument dots and the hole are allowed.
 ///
 /// # Errors
 ///
-/// `Syntax` comes exactly where the tokens stop as a substitution: the byte of the first token at which none goes on. `Memory` comes where
+/// `BadByte` comes exactly where the bytes aren't all tokens. Else `Syntax` comes exactly where the tokens stop as a substitution: the byte of the first token at which none goes on. `Memory` comes where
 /// memory runs out.
-pub fn read_pairs(alloc: Global, tokens: Vec<Token>) -> Result<PairsCode, Stop>
-    requires { AreTokens tokens.items }
-    ensures says { IfOk result (SaysPairs tokens.items) }
-    ensures stops { IfErr result (IsStop ReadsSubstitution replacements Allowed tokens.items) }
+pub fn read_pairs(alloc: Global, source: &mut Source<'_>) -> Result<PairsCode, Stop>
+    requires { HasTaken source.old.origin [] source.old }
+    ensures { ReadsAll AnswersPairs source.old.origin source.new result }
 {
-    read(alloc, PairsReader::new(alloc), tokens)
+    read(alloc, PairsReader::new(alloc), source)
 }
 
-/// Reads renames and the pairs behind them from tokens of a text, of which the end is the last. Argument dots and the hole are allowed.
+/// Reads renames and the pairs behind them from a source, from which no token was taken. Argument dots and the hole are allowed.
 ///
 /// # Errors
 ///
-/// `Syntax` comes exactly where the tokens stop as renames and pairs: the byte of the first token at which none goes on. `Memory` comes
+/// `BadByte` comes exactly where the bytes aren't all tokens. Else `Syntax` comes exactly where the tokens stop as renames and pairs: the byte of the first token at which none goes on. `Memory` comes
 /// where memory runs out.
-pub fn read_extra(alloc: Global, tokens: Vec<Token>) -> Result<ExtraCode, Stop>
-    requires { AreTokens tokens.items }
-    ensures says { IfOk result (SaysExtra tokens.items) }
-    ensures stops { IfErr result (IsStop ReadsExtra extra_replacements Allowed tokens.items) }
+pub fn read_extra(alloc: Global, source: &mut Source<'_>) -> Result<ExtraCode, Stop>
+    requires { HasTaken source.old.origin [] source.old }
+    ensures { ReadsAll AnswersExtra source.old.origin source.new result }
 {
-    read(alloc, ExtraReader::new(alloc), tokens)
+    read(alloc, ExtraReader::new(alloc), source)
 }

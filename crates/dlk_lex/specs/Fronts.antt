@@ -1,5 +1,5 @@
 -- What is at the front of bytes.
-use Rattle.std.specs.Prelude.{◌≡◌, ℕ, ◌+◌, ◌<◌, ◌≤◌, ◌==◌, Bool, not, List, [], ◌∷◌, ◌++◌, length, take, drop, Option, Some, None, slice_index, if◌then◌else◌}
+use Rattle.std.specs.Prelude.{◌≡◌, ℕ, ◌+◌, ◌<◌, ◌≤◌, ◌==◌, Bool, not, List, [], ◌∷◌, ◌++◌, length, take, drop, slice_index, if◌then◌else◌}
 use Rattle.std.specs.List.{filter, prefix_len}
 use Rattle.dlk_grammar.specs.declared.token.Mark.{Mark}
 use Rattle.dlk_grammar.specs.declared.token.TokenKind.{TokenKind}
@@ -8,7 +8,7 @@ use Rattle.dlk_grammar.specs.Marks.{marks}
 use Rattle.dlk_grammar.specs.Splits.{Longest}
 use Rattle.dlk_grammar.specs.Fronts.{Piece as FrontPiece, AtFront}
 use Rattle.dlk_lex.specs.declared.front.Piece.{Piece}
-use Rattle.dlk_lex.specs.declared.front.Piece.TheVariants.{Gap, Token, Nothing}
+use Rattle.dlk_lex.specs.declared.front.Piece.TheVariants.{Comment, Token, Nothing}
 
 -- the marks that begin with a byte, longer ones before shorter ones
 abbrev pub marks_from : ℕ → List Mark
@@ -45,10 +45,15 @@ pub record StandsInFront (bytes : List ℕ) (found : TokenKind × ℕ) : Type 0 
   pub within : found.1 ≤ length bytes
   pub is : Longest bytes (take found.1 bytes) found.0
 
+-- no token is at the front
+abbrev pub HasNoToken : List ℕ → Type 0
+HasNoToken bytes = (s : List ℕ) (k : TokenKind) → ¬ Longest bytes s k
+
 -- the longest token at the front, or that there is none
-abbrev pub IsToken : List ℕ → Option (TokenKind × ℕ) → Type 0
-IsToken bytes (Some found) = StandsInFront bytes found
-IsToken bytes None = (s : List ℕ) (k : TokenKind) → ¬ Longest bytes s k
+abbrev pub IsToken : List ℕ → Piece → Type 0
+IsToken bytes (Comment n) = ⊥
+IsToken bytes (Token kind n) = StandsInFront bytes (kind, n)
+IsToken bytes Nothing = HasNoToken bytes
 
 -- no line feed
 abbrev pub is_no_feed : ℕ → Bool
@@ -56,6 +61,6 @@ is_no_feed b = not (b == 10)
 
 -- what is at the front, of so many bytes
 abbrev pub IsPiece : List ℕ → Piece → Type 0
-IsPiece bytes (Gap n) = (n ≤ length bytes) × AtFront bytes (FrontPiece.Gap n (drop n bytes))
+IsPiece bytes (Comment n) = (n ≤ length bytes) × AtFront bytes (FrontPiece.Gap n (drop n bytes))
 IsPiece bytes (Token kind n) = (n ≤ length bytes) × AtFront bytes (FrontPiece.One (take n bytes) kind (drop n bytes))
 IsPiece bytes Nothing = AtFront bytes FrontPiece.Bad

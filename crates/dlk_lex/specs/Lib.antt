@@ -1,2 +1,5 @@
 pub mod Faults
 pub mod Fronts
+pub mod Noted
+pub mod Taken
+pub mod Sources

@@ -1,11 +1,11 @@
 //! What is at the front of bytes.
-ghost use Rattle.std.specs.Prelude.{◌≡◌, ◌<◌, IsTrue, IfOk, IfSome, IfNone, length, slice_index, codes, nat_eq};
+ghost use Rattle.std.specs.Prelude.{◌≡◌, ◌<◌, IsTrue, false, IfOk, IfSome, IfNone, length, slice_index, codes, nat_eq};
 ghost use Rattle.std.specs.List.{starts_with};
 ghost use Rattle.dlk_tree.specs.Names.{is_between, is_word};
-ghost use Rattle.dlk_grammar.specs.Tokens.{Spells};
+ghost use Rattle.dlk_grammar.specs.Tokens.{Spells, is_space};
 ghost use Rattle.dlk_lex.specs.Fronts.{EndsBlock, HasNoEnd, IsToken, IsPiece};
 
-use crate::bytes::{is_digit, is_space, line_run, word_run};
+use crate::bytes::{is_digit, line_run, word_run};
 use crate::marks::front_mark;
 use crate::numbers::number;
 use dlk_grammar::TokenKind;
@@ -15,8 +15,8 @@ use std::alloc::{AllocError, Global};
 /// What is at the front, and how many bytes it has.
 #[derive(Drop)]
 pub(crate) enum Piece {
-    /// A space or a comment.
-    Gap(usize),
+    /// A comment.
+    Comment(usize),
     Token(TokenKind, usize),
     /// No token, space or whole comment.
     Nothing,
@@ -44,40 +44,41 @@ fn is_dot_digit(b: u8) -> bool
     matches!(b, b'0'..=b'7')
 }
 
-/// The dot at the front of bytes that begin with a point, and how many bytes it has.
-fn dot(bytes: &[u8]) -> Option<(TokenKind, usize)>
+/// The dot at the front of bytes that begin with a point.
+fn dot(bytes: &[u8]) -> Piece
     requires { slice_index bytes.now 0 ≡ 46 }
     ensures { IsToken bytes.now result }
 {
     if bytes.len() < 3 || bytes[1] != b'_' || !is_dot_digit(bytes[2]) {
-        return None;
+        return Piece::Nothing;
     }
-    Some((TokenKind::Dot(bytes[2] - b'0'), 3))
+    Piece::Token(TokenKind::Dot(bytes[2] - b'0'), 3)
 }
 
-/// The longest token at the front, and how many bytes it has.
-fn token(alloc: Global, bytes: &[u8]) -> Result<Option<(TokenKind, usize)>, AllocError>
+/// The longest token at the front.
+fn token(alloc: Global, bytes: &[u8]) -> Result<Piece, AllocError>
     requires { 0 < length bytes.now }
     ensures { IfOk result (IsToken bytes.now) }
 {
     let first = bytes[0];
     if is_letter(first) {
         let n = word_run(bytes);
-        return Ok(Some((word(alloc, &bytes[..n])?, n)));
+        return Ok(Piece::Token(word(alloc, &bytes[..n])?, n));
     }
     if is_digit(first) {
-        return Ok(Some(number(bytes)));
+        let (kind, n) = number(bytes);
+        return Ok(Piece::Token(kind, n));
     }
     if first == b'.' {
         return Ok(dot(bytes));
     }
     if first == b'_' {
-        return Ok(Some((TokenKind::Hole, 1)));
+        return Ok(Piece::Token(TokenKind::Hole, 1));
     }
     let Some((mark, n)) = front_mark(bytes) else {
-        return Ok(None);
+        return Ok(Piece::Nothing);
     };
-    Ok(Some((TokenKind::Mark(mark), n)))
+    Ok(Piece::Token(TokenKind::Mark(mark), n))
 }
 
 /// How many bytes are before the first `*/`.
@@ -99,7 +100,7 @@ fn block(bytes: &[u8]) -> Piece
     ensures { IsPiece bytes.now result }
 {
     match before_end(&bytes[2..]) {
-        Some(n) => Piece::Gap(n + 4),
+        Some(n) => Piece::Comment(n + 4),
         None => Piece::Nothing,
     }
 }
@@ -109,25 +110,20 @@ fn line(bytes: &[u8]) -> Piece
     requires { IsTrue (starts_with nat_eq bytes.now (codes "//")) }
     ensures { IsPiece bytes.now result }
 {
-    Piece::Gap(2 + line_run(&bytes[2..]))
+    Piece::Comment(2 + line_run(&bytes[2..]))
 }
 
-/// What is at the front of bytes.
+/// What is at the front of bytes that begin with no space.
 pub(crate) fn front(alloc: Global, bytes: &[u8]) -> Result<Piece, AllocError>
-    requires { 0 < length bytes.now }
+    requires some { 0 < length bytes.now }
+    requires no_space { is_space (slice_index bytes.now 0) ≡ false }
     ensures { IfOk result (IsPiece bytes.now) }
 {
-    if is_space(bytes[0]) {
-        return Ok(Piece::Gap(1));
-    }
     if bytes.starts_with(b"/*") {
         return Ok(block(bytes));
     }
     if bytes.starts_with(b"//") {
         return Ok(line(bytes));
     }
-    match token(alloc, bytes)? {
-        Some((kind, n)) => Ok(Piece::Token(kind, n)),
-        None => Ok(Piece::Nothing),
-    }
+    token(alloc, bytes)
 }

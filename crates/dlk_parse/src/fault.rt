@@ -1,9 +1,8 @@
 ghost use Rattle.std.specs.Prelude.{◌≡◌};
-ghost use Rattle.dlk_parse.specs.Faults.{of_stop, of_lex, of_parse};
+ghost use Rattle.dlk_parse.specs.Faults.{of_parse, of_text};
 ghost use Rattle.dlk_parse.specs.declared.fault.ParseFault.TheVariants.{Memory};
+ghost use Rattle.dlk_parse.specs.declared.fault.TextFault.TheVariants.{Memory as TextMemory};
 
-use dlk_lex::LexFault;
-use dlk_reader::Stop;
 use dlk_store::StoreFault;
 use std::alloc::{AllocError, AllocFailed};
 use thiserror::Error;
@@ -43,33 +42,6 @@ impl From<AllocError> for ParseFault {
     }
 }
 
-impl<T: Drop> From<AllocFailed<T>> for ParseFault {
-    ghost from_gives = { λ _ e. e ≡ Memory };
-
-    fn from(_: AllocFailed<T>) -> ParseFault {
-        ParseFault::Memory
-    }
-}
-
-impl From<StoreFault> for ParseFault {
-    ghost from_gives = { λ _ e. e ≡ Memory };
-
-    fn from(_: StoreFault) -> ParseFault {
-        ParseFault::Memory
-    }
-}
-
-impl From<Stop> for ParseFault {
-    ghost from_gives = { λ stop e. e ≡ of_stop stop };
-
-    fn from(stop: Stop) -> ParseFault {
-        match stop {
-            Stop::Syntax { at } => ParseFault::Syntax { at },
-            Stop::Memory => ParseFault::Memory,
-        }
-    }
-}
-
 /// Why bytes are no text.
 #[derive(Clone, Copy, Debug, PartialEq, Eq, Error)]
 pub enum TextFault {
@@ -83,14 +55,27 @@ pub enum TextFault {
     Memory,
 }
 
-impl From<LexFault> for TextFault {
-    ghost from_gives = { λ fault e. e ≡ of_lex fault };
+impl From<AllocError> for TextFault {
+    ghost from_gives = { λ _ e. e ≡ TextMemory };
 
-    fn from(fault: LexFault) -> TextFault {
-        match fault {
-            LexFault::BadByte { at } => TextFault::BadByte { at },
-            LexFault::Memory => TextFault::Memory,
-        }
+    fn from(_: AllocError) -> TextFault {
+        TextFault::Memory
+    }
+}
+
+impl<T: Drop> From<AllocFailed<T>> for TextFault {
+    ghost from_gives = { λ _ e. e ≡ TextMemory };
+
+    fn from(_: AllocFailed<T>) -> TextFault {
+        TextFault::Memory
+    }
+}
+
+impl From<StoreFault> for TextFault {
+    ghost from_gives = { λ _ e. e ≡ TextMemory };
+
+    fn from(_: StoreFault) -> TextFault {
+        TextFault::Memory
     }
 }
 
@@ -101,6 +86,19 @@ impl From<ParseFault> for TextFault {
         match fault {
             ParseFault::Memory => TextFault::Memory,
             fault => TextFault::Unread(fault),
+        }
+    }
+}
+
+/// A text with a byte at which no token begins goes on at that byte in no way.
+impl From<TextFault> for ParseFault {
+    ghost from_gives = { λ fault e. e ≡ of_text fault };
+
+    fn from(fault: TextFault) -> ParseFault {
+        match fault {
+            TextFault::BadByte { at } => ParseFault::Syntax { at },
+            TextFault::Unread(fault) => fault,
+            TextFault::Memory => ParseFault::Memory,
         }
     }
 }

@@ -1,15 +1,14 @@
 //! Reads terms, formulas, programs, sequents, substitutions and extras into a store.
 #![tactic(auto)]
 
-mod copies;
 mod fault;
 mod limits;
 mod making;
 mod measures;
 mod owned;
 mod readers;
-mod scan;
 mod texts;
+mod tokens;
 
 pub use dlk_grammar::{Dots, Form};
 pub use fault::{ParseFault, TextFault};

@@ -1,8 +1,8 @@
-//! Trees, sequents, pairs and extras of tokens that are used up.
-ghost use Rattle.std.specs.Prelude.{◌≡◌, IfOk, IfErr, length, map};
+//! Trees, sequents, pairs and extras of the tokens of an origin.
+ghost use Rattle.std.specs.Prelude.{◌≡◌, IfOk, IfErr, List, length, map};
+ghost use Rattle.dlk_grammar.specs.declared.token.Token.{Token as TheToken};
 ghost use Rattle.dlk_calculus.specs.Sequents.{IsSequent};
-ghost use Rattle.dlk_grammar.specs.declared.token.Dots.TheVariants.{Refused};
-ghost use Rattle.dlk_grammar.specs.RealTokens.{AreTokens};
+ghost use Rattle.dlk_lex.specs.Taken.{IsOrigin, Gives};
 ghost use Rattle.dlk_grammar.specs.Readings.{grammar, itself, IsTree, IsTreeFault, IsSequentOf, IsSequentFault};
 ghost use Rattle.dlk_grammar.specs.Substitutions.{ArePairs, ArePairsFault};
 ghost use Rattle.dlk_grammar.specs.Extras.{AreExtra, AreExtraFault};
@@ -10,15 +10,16 @@ ghost use Rattle.dlk_store.specs.Stores.{IsId, tree};
 ghost use Rattle.dlk_sequent.specs.Sequents.{sequent_at, IsKnown};
 ghost use Rattle.dlk_sequent.specs.Substitutions.{pairs_at, AreKnownPairs};
 ghost use Rattle.dlk_sequent.specs.Extras.{extra_at, IsKnownExtra};
-ghost use Rattle.dlk_parse.specs.Faults.{IsParseFaultOf, UnlessMemory};
+ghost use Rattle.dlk_parse.specs.Faults.{IsTextFaultOf, IsFaultFrom, UnlessTextMemory};
 ghost use Rattle.dlk_parse.specs.Said.{IsReadCode, AreReadSides, AreReadPairs, IsReadExtra};
 
-use crate::fault::ParseFault;
+use crate::fault::TextFault;
 use crate::limits::check_code;
 use crate::making::make_all;
-use crate::scan::scan;
+use crate::tokens::{check_tokens, refusal};
 use dlk_forms::{ExtraCode, PairsCode, SidesCode, read_extra, read_pairs, read_sides, read_tree};
-use dlk_grammar::{Dots, Form, Token};
+use dlk_grammar::{Dots, Form};
+use dlk_lex::{Origin, Source};
 use dlk_reader::Code;
 use dlk_sequent::{Extra, Listed, Pair, Sequent};
 use dlk_store::{Id, Store};
@@ -29,71 +30,91 @@ use std::alloc::{AllocError, Global};
 fn tree_code(
     alloc: Global,
     form: Form,
-    tokens: Vec<Token>,
+    origin: Origin<'_>,
     dots: Dots,
-) -> Result<Vec<Code>, ParseFault>
-    requires { AreTokens tokens.items }
-    ensures read { IfOk result (λ v. IsReadCode (grammar form) itself dots tokens.items v.items) }
-    ensures fault { IfErr result (IsParseFaultOf (IsTreeFault form dots tokens.items)) }
+) -> Result<Vec<Code>, TextFault>
+    requires { IsOrigin origin }
+    ensures read { IfOk result (λ v. (ts : List TheToken) × Gives origin ts × IsReadCode (grammar form) itself dots ts v.items) }
+    ensures fault { IfErr result (IsTextFaultOf (IsFaultFrom origin (IsTreeFault form dots))) }
 {
-    let starts = scan(alloc, tokens.as_slice())?;
-    let code = read_tree(alloc, form, dots, tokens)?;
-    check_code(alloc, starts.as_slice(), code.as_slice())?;
-    Ok(code)
+    let mut source = Source::new(alloc, origin);
+    match read_tree(alloc, form, dots, &mut source) {
+        Ok(code) => {
+            check_tokens(&source)?;
+            check_code(alloc, source.starts(), code.as_slice())?;
+            Ok(code)
+        }
+        Err(stop) => Err(refusal(&source, stop)),
+    }
 }
 
 /// The code of the formulas of the sequent that the tokens are a text of.
-fn sides_code(alloc: Global, tokens: Vec<Token>) -> Result<SidesCode, ParseFault>
-    requires { AreTokens tokens.items }
-    ensures read { IfOk result (AreReadSides tokens.items) }
-    ensures fault { IfErr result (IsParseFaultOf (IsSequentFault tokens.items)) }
+fn sides_code(alloc: Global, origin: Origin<'_>) -> Result<SidesCode, TextFault>
+    requires { IsOrigin origin }
+    ensures read { IfOk result (λ v. (ts : List TheToken) × Gives origin ts × AreReadSides ts v) }
+    ensures fault { IfErr result (IsTextFaultOf (IsFaultFrom origin IsSequentFault)) }
 {
-    let starts = scan(alloc, tokens.as_slice())?;
-    let sides = read_sides(alloc, tokens)?;
-    check_code(alloc, starts.as_slice(), sides.code.as_slice())?;
-    Ok(sides)
+    let mut source = Source::new(alloc, origin);
+    match read_sides(alloc, &mut source) {
+        Ok(sides) => {
+            check_tokens(&source)?;
+            check_code(alloc, source.starts(), sides.code.as_slice())?;
+            Ok(sides)
+        }
+        Err(stop) => Err(refusal(&source, stop)),
+    }
 }
 
 /// The code of the pairs of the substitution that the tokens are a text of.
-fn pairs_code(alloc: Global, tokens: Vec<Token>) -> Result<PairsCode, ParseFault>
-    requires { AreTokens tokens.items }
-    ensures read { IfOk result (AreReadPairs tokens.items) }
-    ensures fault { IfErr result (IsParseFaultOf (ArePairsFault tokens.items)) }
+fn pairs_code(alloc: Global, origin: Origin<'_>) -> Result<PairsCode, TextFault>
+    requires { IsOrigin origin }
+    ensures read { IfOk result (λ v. (ts : List TheToken) × Gives origin ts × AreReadPairs ts v) }
+    ensures fault { IfErr result (IsTextFaultOf (IsFaultFrom origin ArePairsFault)) }
 {
-    let starts = scan(alloc, tokens.as_slice())?;
-    let pairs = read_pairs(alloc, tokens)?;
-    check_code(alloc, starts.as_slice(), pairs.code.as_slice())?;
-    Ok(pairs)
+    let mut source = Source::new(alloc, origin);
+    match read_pairs(alloc, &mut source) {
+        Ok(pairs) => {
+            check_tokens(&source)?;
+            check_code(alloc, source.starts(), pairs.code.as_slice())?;
+            Ok(pairs)
+        }
+        Err(stop) => Err(refusal(&source, stop)),
+    }
 }
 
 /// The code of the renames and the pairs that the tokens are a text of.
-fn extra_code(alloc: Global, tokens: Vec<Token>) -> Result<ExtraCode, ParseFault>
-    requires { AreTokens tokens.items }
-    ensures read { IfOk result (IsReadExtra tokens.items) }
-    ensures fault { IfErr result (IsParseFaultOf (AreExtraFault tokens.items)) }
+fn extra_code(alloc: Global, origin: Origin<'_>) -> Result<ExtraCode, TextFault>
+    requires { IsOrigin origin }
+    ensures read { IfOk result (λ v. (ts : List TheToken) × Gives origin ts × IsReadExtra ts v) }
+    ensures fault { IfErr result (IsTextFaultOf (IsFaultFrom origin AreExtraFault)) }
 {
-    let starts = scan(alloc, tokens.as_slice())?;
-    let extra = read_extra(alloc, tokens)?;
-    check_code(alloc, starts.as_slice(), extra.pairs.code.as_slice())?;
-    Ok(extra)
+    let mut source = Source::new(alloc, origin);
+    match read_extra(alloc, &mut source) {
+        Ok(extra) => {
+            check_tokens(&source)?;
+            check_code(alloc, source.starts(), extra.pairs.code.as_slice())?;
+            Ok(extra)
+        }
+        Err(stop) => Err(refusal(&source, stop)),
+    }
 }
 
 /// The tree that the tokens are a text of.
 pub(crate) fn tree_of<S: Store>(
     alloc: Global,
     form: Form,
-    tokens: Vec<Token>,
+    origin: Origin<'_>,
     dots: Dots,
     store: &mut S,
-) -> Result<Id, ParseFault>
-    requires { AreTokens tokens.items }
-    ensures found { IfOk result (λ id. IsTree form dots tokens.items (tree (S.trees store.new) id)) }
+) -> Result<Id, TextFault>
+    requires { IsOrigin origin }
+    ensures found { IfOk result (λ id. (ts : List TheToken) × Gives origin ts × IsTree form dots ts (tree (S.trees store.new) id)) }
     ensures known { IfOk result (IsId (S.trees store.new)) }
-    ensures fault { IfErr result (IsParseFaultOf (IsTreeFault form dots tokens.items)) }
-    ensures unmade { IfErr result (UnlessMemory (store.new ≡ store.old)) }
+    ensures fault { IfErr result (IsTextFaultOf (IsFaultFrom origin (IsTreeFault form dots))) }
+    ensures unmade { IfErr result (UnlessTextMemory (store.new ≡ store.old)) }
     ensures grows { S.grows store.old store.new }
 {
-    let code = tree_code(alloc, form, tokens, dots)?;
+    let code = tree_code(alloc, form, origin, dots)?;
     let ids = make_all(alloc, code, store)?;
     Ok(ids[0])
 }
@@ -101,18 +122,18 @@ pub(crate) fn tree_of<S: Store>(
 /// The sequent that the tokens are a text of.
 pub(crate) fn sequent_of<S: Store>(
     alloc: Global,
-    tokens: Vec<Token>,
+    origin: Origin<'_>,
     store: &mut S,
-) -> Result<Sequent, ParseFault>
-    requires { AreTokens tokens.items }
-    ensures found { IfOk result (λ s. IsSequentOf tokens.items (sequent_at (S.trees store.new) s)) }
+) -> Result<Sequent, TextFault>
+    requires { IsOrigin origin }
+    ensures found { IfOk result (λ s. (ts : List TheToken) × Gives origin ts × IsSequentOf ts (sequent_at (S.trees store.new) s)) }
     ensures known { IfOk result (IsKnown (S.trees store.new)) }
     ensures formulas { IfOk result (λ s. IsSequent (sequent_at (S.trees store.new) s)) }
-    ensures fault { IfErr result (IsParseFaultOf (IsSequentFault tokens.items)) }
-    ensures unmade { IfErr result (UnlessMemory (store.new ≡ store.old)) }
+    ensures fault { IfErr result (IsTextFaultOf (IsFaultFrom origin IsSequentFault)) }
+    ensures unmade { IfErr result (UnlessTextMemory (store.new ≡ store.old)) }
     ensures grows { S.grows store.old store.new }
 {
-    let sides = sides_code(alloc, tokens)?;
+    let sides = sides_code(alloc, origin)?;
     let mut ante = make_all(alloc, sides.code, store)?;
     let succ = ante.split_off(sides.left)?;
     Ok(Sequent {
@@ -138,17 +159,17 @@ fn pairs(alloc: Global, symbols: Vec<Sym>, ids: &[Id]) -> Result<Vec<Pair>, Allo
 /// The pairs of the substitution that the tokens are a text of.
 pub(crate) fn pairs_of<S: Store>(
     alloc: Global,
-    tokens: Vec<Token>,
+    origin: Origin<'_>,
     store: &mut S,
-) -> Result<Vec<Pair>, ParseFault>
-    requires { AreTokens tokens.items }
-    ensures found { IfOk result (λ pairs. ArePairs tokens.items (pairs_at (S.trees store.new) pairs.items)) }
+) -> Result<Vec<Pair>, TextFault>
+    requires { IsOrigin origin }
+    ensures found { IfOk result (λ pairs. (ts : List TheToken) × Gives origin ts × ArePairs ts (pairs_at (S.trees store.new) pairs.items)) }
     ensures known { IfOk result (λ pairs. AreKnownPairs (S.trees store.new) pairs.items) }
-    ensures fault { IfErr result (IsParseFaultOf (ArePairsFault tokens.items)) }
-    ensures unmade { IfErr result (UnlessMemory (store.new ≡ store.old)) }
+    ensures fault { IfErr result (IsTextFaultOf (IsFaultFrom origin ArePairsFault)) }
+    ensures unmade { IfErr result (UnlessTextMemory (store.new ≡ store.old)) }
     ensures grows { S.grows store.old store.new }
 {
-    let PairsCode { symbols, code } = pairs_code(alloc, tokens)?;
+    let PairsCode { symbols, code } = pairs_code(alloc, origin)?;
     let ids = make_all(alloc, code, store)?;
     let pairs = pairs(alloc, symbols, ids.as_slice())?;
     Ok(pairs)
@@ -157,20 +178,20 @@ pub(crate) fn pairs_of<S: Store>(
 /// The renames and the pairs that the tokens are a text of.
 pub(crate) fn extra_of<S: Store>(
     alloc: Global,
-    tokens: Vec<Token>,
+    origin: Origin<'_>,
     store: &mut S,
-) -> Result<Extra, ParseFault>
-    requires { AreTokens tokens.items }
-    ensures found { IfOk result (λ extra. AreExtra tokens.items (extra_at (S.trees store.new) extra)) }
+) -> Result<Extra, TextFault>
+    requires { IsOrigin origin }
+    ensures found { IfOk result (λ extra. (ts : List TheToken) × Gives origin ts × AreExtra ts (extra_at (S.trees store.new) extra)) }
     ensures known { IfOk result (IsKnownExtra (S.trees store.new)) }
-    ensures fault { IfErr result (IsParseFaultOf (AreExtraFault tokens.items)) }
-    ensures unmade { IfErr result (UnlessMemory (store.new ≡ store.old)) }
+    ensures fault { IfErr result (IsTextFaultOf (IsFaultFrom origin AreExtraFault)) }
+    ensures unmade { IfErr result (UnlessTextMemory (store.new ≡ store.old)) }
     ensures grows { S.grows store.old store.new }
 {
     let ExtraCode {
         renames,
         pairs: PairsCode { symbols, code },
-    } = extra_code(alloc, tokens)?;
+    } = extra_code(alloc, origin)?;
     let ids = make_all(alloc, code, store)?;
     let pairs = pairs(alloc, symbols, ids.as_slice())?;
     Ok(Extra {

@@ -15,10 +15,10 @@ ghost use Rattle.dlk_sequent.specs.Substitutions.{pairs_at, AreKnownPairs};
 ghost use Rattle.dlk_sequent.specs.Extras.{extra_at, IsKnownExtra};
 ghost use Rattle.dlk_parse.specs.Faults.{IsParseFaultOf, UnlessMemory};
 
-use crate::copies::copies;
 use crate::fault::ParseFault;
 use crate::owned::{extra_of, pairs_of, sequent_of, tree_of};
 use dlk_grammar::{Dots, Form, Token};
+use dlk_lex::Origin;
 use dlk_sequent::{Extra, Pair, Sequent};
 use dlk_store::{Id, Store};
 use std::alloc::Global;
@@ -47,8 +47,8 @@ pub fn formula<S: Store>(
     ensures unmade { IfErr result (UnlessMemory (store.new ≡ store.old)) }
     ensures grows { S.grows store.old store.new }
 {
-    let tokens = copies(alloc, tokens)?;
-    tree_of(alloc, Form::Formula, tokens, dots, store)
+    let id = tree_of(alloc, Form::Formula, Origin::Tokens(tokens), dots, store)?;
+    Ok(id)
 }
 
 /// The term that the tokens are a text of. The tokens and the errors are those of `formula`.
@@ -66,8 +66,8 @@ pub fn term<S: Store>(
     ensures unmade { IfErr result (UnlessMemory (store.new ≡ store.old)) }
     ensures grows { S.grows store.old store.new }
 {
-    let tokens = copies(alloc, tokens)?;
-    tree_of(alloc, Form::Term, tokens, dots, store)
+    let id = tree_of(alloc, Form::Term, Origin::Tokens(tokens), dots, store)?;
+    Ok(id)
 }
 
 /// The program that the tokens are a text of. The tokens and the errors are those of `formula`.
@@ -85,8 +85,8 @@ pub fn program<S: Store>(
     ensures unmade { IfErr result (UnlessMemory (store.new ≡ store.old)) }
     ensures grows { S.grows store.old store.new }
 {
-    let tokens = copies(alloc, tokens)?;
-    tree_of(alloc, Form::Program, tokens, dots, store)
+    let id = tree_of(alloc, Form::Program, Origin::Tokens(tokens), dots, store)?;
+    Ok(id)
 }
 
 /// The formula, the program, or the term that is no formula, of which the tokens are a text. The tokens and the errors
@@ -104,8 +104,8 @@ pub fn expression<S: Store>(
     ensures unmade { IfErr result (UnlessMemory (store.new ≡ store.old)) }
     ensures grows { S.grows store.old store.new }
 {
-    let tokens = copies(alloc, tokens)?;
-    tree_of(alloc, Form::Expression, tokens, dots, store)
+    let id = tree_of(alloc, Form::Expression, Origin::Tokens(tokens), dots, store)?;
+    Ok(id)
 }
 
 /// The sequent that the tokens are a text of: formulas joined by `,`, then `==>`, then formulas joined by `,`. Argument
@@ -124,8 +124,8 @@ pub fn sequent<S: Store>(
     ensures unmade { IfErr result (UnlessMemory (store.new ≡ store.old)) }
     ensures grows { S.grows store.old store.new }
 {
-    let tokens = copies(alloc, tokens)?;
-    sequent_of(alloc, tokens, store)
+    let sequent = sequent_of(alloc, Origin::Tokens(tokens), store)?;
+    Ok(sequent)
 }
 
 /// The pairs of the substitution that the tokens are a text of: pairs joined by `,`, or nothing. Argument dots and `_` are
@@ -143,8 +143,8 @@ pub fn substitution<S: Store>(
     ensures unmade { IfErr result (UnlessMemory (store.new ≡ store.old)) }
     ensures grows { S.grows store.old store.new }
 {
-    let tokens = copies(alloc, tokens)?;
-    pairs_of(alloc, tokens, store)
+    let pairs = pairs_of(alloc, Origin::Tokens(tokens), store)?;
+    Ok(pairs)
 }
 
 /// What the tokens give a use of an axiom beside its name: renames joined by `,`, each a name, `~~` and the name that it
@@ -158,6 +158,6 @@ pub fn extra<S: Store>(alloc: Global, tokens: &[Token], store: &mut S) -> Result
     ensures unmade { IfErr result (UnlessMemory (store.new ≡ store.old)) }
     ensures grows { S.grows store.old store.new }
 {
-    let tokens = copies(alloc, tokens)?;
-    extra_of(alloc, tokens, store)
+    let extra = extra_of(alloc, Origin::Tokens(tokens), store)?;
+    Ok(extra)
 }

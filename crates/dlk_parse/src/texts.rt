@@ -14,10 +14,17 @@ ghost use Rattle.dlk_parse.specs.Faults.{IsTextFaultOf, UnlessTextMemory};
 use crate::fault::TextFault;
 use crate::owned::{extra_of, pairs_of, sequent_of, tree_of};
 use dlk_grammar::{Dots, Form};
-use dlk_lex::tokens;
+use dlk_lex::Origin;
 use dlk_sequent::{Extra, Pair, Sequent};
 use dlk_store::{Id, Store};
 use std::alloc::Global;
+
+/// All bytes.
+fn of_bytes(bytes: &[u8]) -> Origin<'_>
+    ensures { result ≡ TheOrigin.Bytes bytes 0 }
+{
+    Origin::Bytes { bytes, at: 0 }
+}
 
 /// The formula that the bytes are a text of. Argument dots and `_` are not in the grammar.
 ///
@@ -33,8 +40,7 @@ pub fn read_formula<S: Store>(alloc: Global, bytes: &[u8], store: &mut S) -> Res
     ensures unmade { IfErr result (UnlessTextMemory (store.new ≡ store.old)) }
     ensures grows { S.grows store.old store.new }
 {
-    let tokens = tokens(alloc, bytes)?;
-    let id = tree_of(alloc, Form::Formula, tokens, Dots::Refused, store)?;
+    let id = tree_of(alloc, Form::Formula, of_bytes(bytes), Dots::Refused, store)?;
     Ok(id)
 }
 
@@ -45,8 +51,7 @@ pub fn read_term<S: Store>(alloc: Global, bytes: &[u8], store: &mut S) -> Result
     ensures unmade { IfErr result (UnlessTextMemory (store.new ≡ store.old)) }
     ensures grows { S.grows store.old store.new }
 {
-    let tokens = tokens(alloc, bytes)?;
-    let id = tree_of(alloc, Form::Term, tokens, Dots::Refused, store)?;
+    let id = tree_of(alloc, Form::Term, of_bytes(bytes), Dots::Refused, store)?;
     Ok(id)
 }
 
@@ -63,8 +68,7 @@ pub fn read_expression<S: Store>(
     ensures unmade { IfErr result (UnlessTextMemory (store.new ≡ store.old)) }
     ensures grows { S.grows store.old store.new }
 {
-    let tokens = tokens(alloc, bytes)?;
-    let id = tree_of(alloc, Form::Expression, tokens, dots, store)?;
+    let id = tree_of(alloc, Form::Expression, of_bytes(bytes), dots, store)?;
     Ok(id)
 }
 
@@ -82,8 +86,7 @@ pub fn read_sequent<S: Store>(
     ensures unmade { IfErr result (UnlessTextMemory (store.new ≡ store.old)) }
     ensures grows { S.grows store.old store.new }
 {
-    let tokens = tokens(alloc, bytes)?;
-    let sequent = sequent_of(alloc, tokens, store)?;
+    let sequent = sequent_of(alloc, of_bytes(bytes), store)?;
     Ok(sequent)
 }
 
@@ -101,8 +104,7 @@ pub fn read_substitution<S: Store>(
     ensures unmade { IfErr result (UnlessTextMemory (store.new ≡ store.old)) }
     ensures grows { S.grows store.old store.new }
 {
-    let tokens = tokens(alloc, bytes)?;
-    let pairs = pairs_of(alloc, tokens, store)?;
+    let pairs = pairs_of(alloc, of_bytes(bytes), store)?;
     Ok(pairs)
 }
 
@@ -115,7 +117,6 @@ pub fn read_extra<S: Store>(alloc: Global, bytes: &[u8], store: &mut S) -> Resul
     ensures unmade { IfErr result (UnlessTextMemory (store.new ≡ store.old)) }
     ensures grows { S.grows store.old store.new }
 {
-    let tokens = tokens(alloc, bytes)?;
-    let extra = extra_of(alloc, tokens, store)?;
+    let extra = extra_of(alloc, of_bytes(bytes), store)?;
     Ok(extra)
 }

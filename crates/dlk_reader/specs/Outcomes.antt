@@ -1,12 +1,19 @@
 -- What comes of reading on, whatever is read.
-use Rattle.std.specs.Prelude.{◌≡◌, ℕ, ◌+◌, List, [], ◌∷◌, Result, Ok, Err}
+use Rattle.std.specs.Prelude.{◌≡◌, ℕ, ◌+◌, List, [], ◌∷◌, ◌++◌, Result, Ok, Err}
 use Rattle.dlk_grammar.specs.declared.token.Token.{Token}
 use Rattle.dlk_grammar.specs.Lexemes.{Lexeme, lexemes}
 use Rattle.dlk_grammar.specs.Readings.{TokenAt}
+use Rattle.dlk_lex.specs.declared.fault.LexFault.{LexFault}
+use Rattle.dlk_lex.specs.declared.fault.LexFault.TheVariants as lex
+use Rattle.dlk_lex.specs.declared.source.Origin.{Origin}
+use Rattle.dlk_lex.specs.declared.source.Source.{Source}
+use Rattle.dlk_lex.specs.Noted.{AreNoted}
+use Rattle.dlk_lex.specs.Taken.{Gives, Refuses}
+use Rattle.dlk_lex.specs.Sources.{HasTaken}
 use Rattle.dlk_reader.specs.declared.stop.StepFault.{StepFault}
 use Rattle.dlk_reader.specs.declared.stop.StepFault.TheVariants as step
 use Rattle.dlk_reader.specs.declared.stop.Stop.{Stop}
-use Rattle.dlk_reader.specs.declared.stop.Stop.TheVariants.{Memory, Syntax}
+use Rattle.dlk_reader.specs.declared.stop.Stop.TheVariants.{Memory, BadByte, Syntax}
 
 -- something is read to the end of the lexemes, or they stop at a place among them
 pub data Outcome (V : Type 0) : Type 0 where
@@ -32,11 +39,6 @@ abbrev pub leaving : {R : Type 0} → R → Result (Unit {0}) StepFault → Resu
 leaving r (Ok done) = Ok r
 leaving r (Err fault) = Err fault
 
--- what one token answers, which is no lexeme at the end
-abbrev pub StepsToken : {R V : Type 0} → (R → List Lexeme → Outcome V → Type 0) → R → List Lexeme → Result R StepFault → Type 0
-StepsToken comes r [] result = result ≡ Ok r
-StepsToken comes r (k ∷ s) result = Steps comes r k result
-
 -- what the end answers
 abbrev pub Ends : {R V : Type 0} → (R → List Lexeme → Outcome V → Type 0) → R → Result V StepFault → Type 0
 Ends comes r (Ok v) = comes r [] (Whole v)
@@ -52,4 +54,37 @@ stop_at step.Syntax at = Syntax at
 abbrev pub ReadsTokens : {R V : Type 0} → (R → List Lexeme → Outcome V → Type 0) → R → List Token → Result V Stop → Type 0
 ReadsTokens comes r tokens (Ok v) = comes r (lexemes tokens) (Whole v)
 ReadsTokens comes r tokens (Err Memory) = Unit {0}
+ReadsTokens comes r tokens (Err (BadByte at)) = ⊥
 ReadsTokens comes r tokens (Err (Syntax at)) = (place : ℕ) × comes r (lexemes tokens) (Stopped place) × TokenAt tokens place at
+
+-- all tokens of an origin have shown what is noted, and answer this
+pub record OverAll {V : Type 0} (answers : List Token → Result V Stop → Type 0) (first : Origin) (s : Source) (result : Result V Stop) : Type 0 where
+  pub tokens : List Token
+  pub gives : Gives first tokens
+  pub noted : AreNoted tokens s.noted
+  pub answer : answers tokens result
+
+-- What taking all tokens of an origin answers, where tokens answer so. The source is left behind the end.
+abbrev pub ReadsAll : {V : Type 0} → (List Token → Result V Stop → Type 0) → Origin → Source → Result V Stop → Type 0
+ReadsAll answers first s (Ok v) = OverAll answers first s (Ok v)
+ReadsAll answers first s (Err Memory) = Unit {0}
+ReadsAll answers first s (Err (BadByte at)) = Refuses first at
+ReadsAll answers first s (Err (Syntax at)) = OverAll answers first s (Err (Syntax at))
+
+-- some tokens were taken, and whatever is behind them, they answer this together
+pub record OverSome {V : Type 0} (answers : List Token → Result V Stop → Type 0) (first : Origin) (s : Source) (result : Result V Stop) : Type 0 where
+  pub taken : List Token
+  pub has_taken : HasTaken first taken s
+  pub answer : (behind : List Token) → Gives s.origin behind → answers (taken ++ behind) result
+
+-- the same where a stop comes at once
+abbrev pub ReadsUp : {V : Type 0} → (List Token → Result V Stop → Type 0) → Origin → Source → Result V Stop → Type 0
+ReadsUp answers first s (Ok v) = OverSome answers first s (Ok v)
+ReadsUp answers first s (Err Memory) = Unit {0}
+ReadsUp answers first s (Err (BadByte at)) = Refuses first at
+ReadsUp answers first s (Err (Syntax at)) = OverSome answers first s (Err (Syntax at))
+
+-- a fault of the split as a stop
+abbrev pub of_lex : LexFault → Stop
+of_lex lex.Memory = Memory
+of_lex (lex.BadByte at) = BadByte at

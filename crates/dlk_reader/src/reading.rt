@@ -1,13 +1,13 @@
-//! Reads tokens, whatever is read.
+//! Reads the tokens of a source, whatever is read.
 ghost use Rattle.std.specs.Prelude.{◌≡◌, List};
-ghost use Rattle.dlk_grammar.specs.Lexemes.{Lexeme as TheLexeme, lexeme_of};
-ghost use Rattle.dlk_grammar.specs.RealTokens.{AreTokens};
+ghost use Rattle.dlk_grammar.specs.Lexemes.{Lexeme as TheLexeme};
+ghost use Rattle.dlk_lex.specs.Sources.{HasTaken};
 ghost use Rattle.dlk_reader.specs.Shows.{seen};
-ghost use Rattle.dlk_reader.specs.Outcomes.{Outcome, Steps, leaving, StepsToken, Ends, stop_at, ReadsTokens};
+ghost use Rattle.dlk_reader.specs.Outcomes.{Outcome, Steps, leaving, Ends, stop_at, ReadsTokens, ReadsUp, ReadsAll};
 
 use crate::lexeme::{Lexeme, lexeme_at};
 use crate::stop::{StepFault, Stop};
-use dlk_grammar::{Token, TokenKind};
+use dlk_lex::Source;
 use std::alloc::Global;
 
 /// What reads lexeme by lexeme. Its meaning is what comes of reading on: something whole, or a place at which the lexemes stop.
@@ -35,21 +35,6 @@ pub trait LexemeReader: Sized + Drop {
         ensures { Ends comes self result };
 }
 
-/// Goes on by the token at a place.
-fn read_token<R: LexemeReader>(
-    alloc: Global,
-    reader: &mut R,
-    place: usize,
-    kind: TokenKind,
-) -> Result<(), StepFault>
-    ensures { StepsToken R.comes reader.old (lexeme_of place kind) (leaving reader.new result) }
-{
-    match lexeme_at(place, kind) {
-        Some(lexeme) => reader.step(alloc, lexeme),
-        None => Ok(()),
-    }
-}
-
 /// A fault at the token that begins at this byte.
 fn stop(fault: StepFault, at: usize) -> Stop
     ensures { result ≡ stop_at fault at }
@@ -60,30 +45,58 @@ fn stop(fault: StepFault, at: usize) -> Stop
     }
 }
 
-/// Reads all tokens of a text, of which the end is the last.
+/// Goes from token to token as far as they are read.
+fn read_up<R: LexemeReader>(
+    alloc: Global,
+    reader: R,
+    source: &mut Source<'_>,
+) -> Result<R::Output, Stop>
+    requires { HasTaken source.old.origin [] source.old }
+    ensures { ReadsUp (ReadsTokens R.comes reader) source.old.origin source.new result }
+{
+    let mut reader = reader;
+    loop {
+        let place = source.number();
+        let token = source.next(alloc)?;
+        let at = token.at;
+        let read = match lexeme_at(place, token.kind) {
+            Some(lexeme) => reader.step(alloc, lexeme),
+            None => {
+                return match reader.end() {
+                    Ok(output) => Ok(output),
+                    Err(fault) => Err(stop(fault, at)),
+                };
+            }
+        };
+        if let Err(fault) = read {
+            return Err(stop(fault, at));
+        }
+    }
+}
+
+/// Reads all tokens of a source, from which none was taken.
 ///
 /// # Errors
 ///
-/// `Syntax` comes exactly where the lexemes stop, with the byte of the token at which they do, and `Memory` where memory ran out.
+/// `BadByte` comes exactly where the bytes aren't all tokens. Else `Syntax` comes exactly where the lexemes stop, with the byte of the token at
+/// which they do. `Memory` comes where memory ran out.
 pub fn read<R: LexemeReader>(
     alloc: Global,
     reader: R,
-    tokens: Vec<Token>,
+    source: &mut Source<'_>,
 ) -> Result<R::Output, Stop>
-    requires { AreTokens tokens.items }
-    ensures { ReadsTokens R.comes reader tokens.items result }
+    requires { HasTaken source.old.origin [] source.old }
+    ensures { ReadsAll (ReadsTokens R.comes reader) source.old.origin source.new result }
 {
-    let mut reader = reader;
-    let mut at = 0;
-    for (place, token) in tokens.into_iter().enumerate() {
-        at = token.at;
-        match read_token(alloc, &mut reader, place, token.kind) {
-            Ok(()) => {}
-            Err(fault) => return Err(stop(fault, at)),
+    match read_up(alloc, reader, source) {
+        Ok(output) => {
+            source.finish(alloc)?;
+            Ok(output)
         }
-    }
-    match reader.end() {
-        Ok(output) => Ok(output),
-        Err(fault) => Err(stop(fault, at)),
+        Err(Stop::Syntax { at }) => {
+            source.finish(alloc)?;
+            Err(Stop::Syntax { at })
+        }
+        Err(stop) => Err(stop),
     }
 }

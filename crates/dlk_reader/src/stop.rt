@@ -1,7 +1,9 @@
 //! Why reading ends before its end.
 ghost use Rattle.std.specs.Prelude.{◌≡◌};
+ghost use Rattle.dlk_reader.specs.Outcomes.{of_lex};
 ghost use Rattle.dlk_reader.specs.declared.stop.StepFault.TheVariants.{Memory};
 
+use dlk_lex::LexFault;
 use std::alloc::{AllocError, AllocFailed};
 
 /// Why a lexeme was not read.
@@ -12,10 +14,12 @@ pub enum StepFault {
     Syntax,
 }
 
-/// Why lexemes were not read, and where.
+/// Why tokens were not read, and where.
 #[derive(Clone, Copy)]
 pub enum Stop {
     Memory,
+    /// No token, space or whole comment begins at this byte.
+    BadByte { at: usize },
     /// The byte of the first token at which no text of the grammar goes on, which may be the end.
     Syntax { at: usize },
 }
@@ -33,5 +37,16 @@ impl<T: Drop> From<AllocFailed<T>> for StepFault {
 
     fn from(_: AllocFailed<T>) -> StepFault {
         StepFault::Memory
+    }
+}
+
+impl From<LexFault> for Stop {
+    ghost from_gives = { λ fault e. e ≡ of_lex fault };
+
+    fn from(fault: LexFault) -> Stop {
+        match fault {
+            LexFault::Memory => Stop::Memory,
+            LexFault::BadByte { at } => Stop::BadByte { at },
+        }
     }
 }

@@ -1,10 +1,10 @@
 use Rattle.std.proofs.Common.{◌-◌, length}
-use Rattle.dlk_lex.proofs.Steps.{Reached}
+use Rattle.dlk_lex.specs.Taken.{SplitsUpTo}
 use Rattle.dlk_lex.proofs.splitting.tokens.Given as goal
 
--- what the rest splits into completes what the bytes split into
-abbrev pub invariant-loop-at : goal.invariant-loop-at
-invariant-loop-at l = Reached l.bytes l.at l.out.items
+-- the bytes so far are the tokens so far
+abbrev pub invariant-loop-out : goal.invariant-loop-out
+invariant-loop-out l = SplitsUpTo l.bytes 0 l.at l.out.items
 
-abbrev pub decreases-loop-at : goal.decreases-loop-at
-decreases-loop-at l = length l.bytes - l.at
+abbrev pub decreases-loop-out : goal.decreases-loop-out
+decreases-loop-out l = length l.bytes - l.at

@@ -2,7 +2,7 @@
 ghost use Rattle.std.specs.Prelude.{◌≡◌, IfOk};
 
 use dlk_grammar::{Token, TokenKind};
-use std::alloc::{AllocError, Global};
+use std::alloc::AllocError;
 
 fn kind_of(kind: &TokenKind) -> Result<TokenKind, AllocError>
     ensures { IfOk result (λ k. k ≡ kind.now) }
@@ -20,18 +20,14 @@ fn kind_of(kind: &TokenKind) -> Result<TokenKind, AllocError>
     })
 }
 
-/// The tokens once more.
-pub(crate) fn copies(alloc: Global, tokens: &[Token]) -> Result<Vec<Token>, AllocError>
-    ensures { IfOk result (λ v. v.items ≡ tokens.now) }
+/// The token once more.
+pub(crate) fn copy(token: &Token) -> Result<Token, AllocError>
+    ensures { IfOk result (λ t. t ≡ token.now) }
 {
-    let mut copies = Vec::new(alloc);
-    for token in tokens {
-        let kind = kind_of(&token.kind)?;
-        copies.push(Token {
-            kind,
-            at: token.at,
-            end: token.end,
-        })?;
-    }
-    Ok(copies)
+    let kind = kind_of(&token.kind)?;
+    Ok(Token {
+        kind,
+        at: token.at,
+        end: token.end,
+    })
 }

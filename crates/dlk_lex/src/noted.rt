@@ -1,14 +1,12 @@
-//! One pass over tokens: where each begins, and whether they are within the limits.
-ghost use Rattle.std.specs.Prelude.{◌≡◌, ◌≤◌, ◌↔◌, ◌∷◌, ◌++◌, [], List, IsTrue, true, IfOk, MatchResult};
+//! What tokens show: where each begins, and whether they are within the limits.
+ghost use Rattle.std.specs.Prelude.{◌≡◌, ◌≤◌, ◌↔◌, ◌∷◌, ◌++◌, [], List, IsTrue, true, OnOk};
 ghost use Rattle.dlk_grammar.specs.declared.token.Token.{Token as TheToken};
 ghost use Rattle.dlk_grammar.specs.declared.token.TokenKind.TheVariants.{LongNumber};
 ghost use Rattle.dlk_grammar.specs.Readings.{opens, closes, level_behind, most_levels, IsLong};
-ghost use Rattle.dlk_parse.specs.Limits.{starts_of, AreWithinTokenLimits, IsPastTokenLimit};
-ghost use Rattle.dlk_parse.specs.Scans.{FirstOf, IsLow, AreLevels};
+ghost use Rattle.dlk_lex.specs.Noted.{FirstOf, AreLevels, AreNoted};
 
-use crate::fault::ParseFault;
 use dlk_grammar::{Mark, Token, TokenKind};
-use std::alloc::Global;
+use std::alloc::{AllocError, Global};
 
 /// How many bracket levels may be open.
 const MOST_LEVELS: u32 = 1_200;
@@ -45,11 +43,10 @@ fn opens_too_deep(level: u32, kind: &TokenKind) -> bool
 
 /// The bracket level behind a token.
 fn level_behind(level: u32, kind: &TokenKind) -> u32
-    requires { level ≤ most_levels }
-    ensures { result ≡ level_behind level kind.now }
+    ensures { level ≤ most_levels → result ≡ level_behind level kind.now }
 {
     if opens(kind) {
-        level + 1
+        level.saturating_add(1)
     } else if closes(kind) {
         level.saturating_sub(1)
     } else {
@@ -59,8 +56,7 @@ fn level_behind(level: u32, kind: &TokenKind) -> u32
 
 /// The byte of the first literal of more than 38 digits, behind one more token.
 fn first_long(long: Option<usize>, token: &Token) -> Option<usize>
-    ensures { (all seen behind : List TheToken) → all ≡ seen ++ token.now ∷ behind → FirstOf IsLong all seen long
-        → FirstOf IsLong all (seen ++ token.now ∷ []) result }
+    ensures { (seen : List TheToken) → FirstOf IsLong seen long → FirstOf IsLong (seen ++ token.now ∷ []) result }
 {
     if let Some(at) = long {
         return Some(at);
@@ -73,17 +69,14 @@ fn first_long(long: Option<usize>, token: &Token) -> Option<usize>
 
 /// The bracket level behind some tokens, as long as none is too deep, and the byte of the first bracket that is.
 #[derive(Clone, Copy)]
-struct Levels {
-    level: u32,
-    deep: Option<usize>,
+pub(crate) struct Levels {
+    pub(crate) level: u32,
+    pub(crate) deep: Option<usize>,
 }
 
 /// The same behind one more token.
 fn levels_behind(levels: Levels, token: &Token) -> Levels
-    requires { IsLow levels }
-    ensures low { IsLow result }
-    ensures levels { (all seen behind : List TheToken) → all ≡ seen ++ token.now ∷ behind → AreLevels all seen levels
-        → AreLevels all (seen ++ token.now ∷ []) result }
+    ensures { (seen : List TheToken) → AreLevels seen levels → AreLevels (seen ++ token.now ∷ []) result }
 {
     if let Some(at) = levels.deep {
         return Levels {
@@ -103,27 +96,37 @@ fn levels_behind(levels: Levels, token: &Token) -> Levels
     }
 }
 
-/// The bytes at which the tokens begin. A literal that is too long is refused, and else a bracket that is too deep.
-pub(crate) fn scan(alloc: Global, tokens: &[Token]) -> Result<Vec<usize>, ParseFault>
-    ensures starts { IfOk result (λ v. v.items ≡ starts_of tokens.now) }
-    ensures limits { MatchResult result (λ _. AreWithinTokenLimits tokens.now) (IsPastTokenLimit tokens.now) }
-{
-    let mut starts = Vec::new(alloc);
-    let mut long = None;
-    let mut levels = Levels {
-        level: 0,
-        deep: None,
-    };
-    for token in tokens {
-        starts.push(token.at)?;
-        long = first_long(long, token);
-        levels = levels_behind(levels, token);
+/// What tokens have shown so far: the bytes at which they begin, the first literal that is too long, and the first bracket that is too deep.
+#[derive(Drop)]
+pub(crate) struct Noted {
+    pub(crate) starts: Vec<usize>,
+    pub(crate) long: Option<usize>,
+    pub(crate) levels: Levels,
+}
+
+impl Noted {
+    /// What no tokens have shown.
+    pub(crate) fn new(alloc: Global) -> Noted
+        ensures { AreNoted [] result }
+    {
+        Noted {
+            starts: Vec::new(alloc),
+            long: None,
+            levels: Levels {
+                level: 0,
+                deep: None,
+            },
+        }
     }
-    if let Some(at) = long {
-        return Err(ParseFault::Literal { at });
+
+    /// What is shown behind one more token.
+    #[inline(always)]
+    pub(crate) fn note(&mut self, token: &Token) -> Result<(), AllocError>
+        ensures { (seen : List TheToken) → AreNoted seen self.old → OnOk result (AreNoted (seen ++ token.now ∷ []) self.new) }
+    {
+        self.starts.push(token.at)?;
+        self.long = first_long(self.long, token);
+        self.levels = levels_behind(self.levels, token);
+        Ok(())
     }
-    if let Some(at) = levels.deep {
-        return Err(ParseFault::Nesting { at });
-    }
-    Ok(starts)
 }
