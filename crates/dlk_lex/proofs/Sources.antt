@@ -5,6 +5,8 @@ use Rattle.std.proofs.lemmas.List.Elements.{All-head, All-tail}
 use Rattle.dlk_grammar.specs.declared.token.Token.{Token}
 use Rattle.dlk_grammar.specs.declared.token.TokenKind.TheVariants.{End}
 use Rattle.dlk_grammar.specs.RealTokens.{IsReal, AreTokens}
+use Rattle.dlk_grammar.proofs.Real.{split_tokens}
+use Rattle.dlk_grammar.proofs.Splitting.{one_split}
 use Rattle.dlk_lex.specs.declared.source.Origin.{Origin}
 use Rattle.dlk_lex.specs.declared.source.Origin.TheVariants.{Bytes, Tokens}
 use Rattle.dlk_lex.specs.declared.source.Source.{Source}
@@ -121,3 +123,12 @@ taking_on first now next t h is some notes = (
   one_taken first.origin now.origin next.origin h.0 t h.1 is some,
   λ before n. noted_more before h.0 t next.noted (notes (before ++ h.0) (h.2 before n)),
 )
+
+-- What an origin gives is one list of tokens, those of a text.
+pub one_gives : (o : Origin) (ts us : List Token) → Gives o ts → Gives o us → ts ≡ us
+one_gives (Bytes bytes at) ts us g h = one_split g h
+one_gives (Tokens tokens) ts us g h = g ∙ sym h
+
+pub gives_tokens : (o : Origin) (ts : List Token) → IsOrigin o → Gives o ts → AreTokens ts
+gives_tokens (Bytes bytes at) ts is g = split_tokens g
+gives_tokens (Tokens tokens) ts is g = subst AreTokens (sym g) is

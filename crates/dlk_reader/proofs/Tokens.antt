@@ -1,19 +1,23 @@
 -- The loop over tokens, over plain variables.
-use Rattle.std.proofs.Common.{◌≡◌, ◌≢◌, ℕ, zero, suc, ◌+◌, ◌-◌, ◌<◌, min, List, [], ◌∷◌, ◌++◌, length, take, drop, get_or, Result, Ok, Err}
-use Rattle.std.proofs.Common.{refl, sym, ap, ◌∙◌, subst, arith, length-append}
-use Rattle.std.proofs.lemmas.List.{take-append-drop, drop_more, drop_all, length-take-le}
-use Rattle.std.proofs.lemmas.List.Elements.{All-get_or}
-use Rattle.std.proofs.lemmas.List.FromFn.{get_or-enumerate_from, length-enumerate_from}
-use Rattle.std.specs.List.{enumerate_from}
+use Rattle.std.proofs.Common.{◌≡◌, ◌≢◌, ℕ, ◌+◌, ◌<◌, List, [], ◌∷◌, ◌++◌, length, Result, Ok, Err}
+use Rattle.std.proofs.Common.{refl, sym, ap, ◌∙◌, subst, arith, append_assoc, length-append}
 use Rattle.dlk_grammar.specs.declared.token.Token.{Token}
 use Rattle.dlk_grammar.specs.declared.token.TokenKind.{TokenKind}
 use Rattle.dlk_grammar.specs.declared.token.TokenKind.TheVariants.{End}
 use Rattle.dlk_grammar.specs.Lexemes.{Lexeme, lexeme_of, lexemes, lexemes_from}
 use Rattle.dlk_grammar.specs.Readings.{TokenAt}
-use Rattle.dlk_grammar.specs.RealTokens.{AreTokens}
+use Rattle.dlk_lex.specs.declared.fault.LexFault.{LexFault}
+use Rattle.dlk_lex.specs.declared.fault.LexFault.TheVariants as lex
+use Rattle.dlk_lex.specs.declared.source.Origin.{Origin}
+use Rattle.dlk_lex.specs.declared.source.Source.{Source}
+use Rattle.dlk_lex.specs.Taken.{Gives}
+use Rattle.dlk_lex.specs.Sources.{HasTaken, Takes, TakesOne, one_more, no_more, left_in, HasFinished, Finishes}
+use Rattle.dlk_lex.proofs.Sources.{one_gives}
 use Rattle.dlk_reader.specs.declared.stop.StepFault.{StepFault}
 use Rattle.dlk_reader.specs.declared.stop.StepFault.TheVariants.{Memory, Syntax}
-use Rattle.dlk_reader.specs.Outcomes.{Outcome, Whole, Stopped, after_one, StepsToken, Ends, stop_at, ReadsTokens}
+use Rattle.dlk_reader.specs.declared.stop.Stop.{Stop}
+use Rattle.dlk_reader.specs.Outcomes.{Outcome, Whole, Stopped, after_one, Steps, EndsAt, stop_at, ReadsTokens, OverSome, OverAll, ReadsUp, ReadsAll, of_lex}
+use Rattle.dlk_reader.specs.declared.stop.Stop.TheVariants as Stop
 
 -- the same outcome, behind so many lexemes
 abbrev pub after : {V : Type 0} → ℕ → Outcome V → Outcome V
@@ -29,136 +33,121 @@ after_more n m (Whole v) e = refl
 after_more n m (Stopped k) e = ap Stopped (omega arith)
 
 -- Only the end is no lexeme.
-some_lexeme : (n : ℕ) (t : Token) → t.kind ≢ End → (k : Lexeme) × (lexeme_of n t.kind ≡ k ∷ [])
-some_lexeme n t some = go t.kind some
-  where
-    go : (k : TokenKind) → k ≢ End → (x : Lexeme) × (lexeme_of n k ≡ x ∷ [])
-    go End some = absurd (some refl)
-    go _ some = (_, refl)
+a_lexeme : (n : ℕ) (k : TokenKind) (x : Lexeme) → lexeme_of n k ≡ x ∷ [] → k ≢ End
+a_lexeme n k x e is =
+    let none : [] ≡ x ∷ [] = sym (ap (lexeme_of n) is) ∙ e in
+    cc
 
--- a token before the last, or the last
-data Stand (before : List Token) (last t : Token) (n : ℕ) : Type 0 where
-  inside : n < length before → t ≡ get_or before n t → Stand before last t n
-  at_last : n ≡ length before → t ≡ last → Stand before last t n
+no_lexeme : (n : ℕ) (k : TokenKind) → lexeme_of n k ≡ [] → k ≡ End
+no_lexeme n End e = refl
+no_lexeme n _ e = absurd cc
 
-stand : (before : List Token) (last t : Token) (n : ℕ) → n < length before + 1 → t ≡ get_or (before ++ last ∷ []) n t → Stand before last t n
-stand [] last t zero lt e = at_last refl e
-stand [] last t (suc n) lt e = absurd (omega arith)
-stand (x ∷ b) last t zero lt e = inside (omega arith) e
-stand (x ∷ b) last t (suc n) lt e = go (stand b last t n (omega arith) e)
-  where
-    go : Stand b last t n → Stand (x ∷ b) last t (suc n)
-    go (inside l h) = inside (omega arith) h
-    go (at_last l h) = at_last (ap suc l) h
+-- What comes of the tokens behind those that were taken gives what comes of all.
+pub record Reached {R V : Type 0} (comes : R → List Lexeme → Outcome V → Type 0) (first : R) (from : Origin) (r : R) (s : Source) : Type 0 where
+  pub taken : List Token
+  pub has_taken : HasTaken from taken s
+  pub goes : (behind : List Token) (o : Outcome V) → comes r (lexemes_from (length taken) behind) o → comes first (lexemes (taken ++ behind)) (after (length taken) o)
 
-token_at : (ts : List Token) (n : ℕ) (t : Token) → n < length ts → t ≡ get_or ts n t → TokenAt ts n t.at
-token_at ts n t lt e = record {
-  before = take n ts;
-  token = t;
-  behind = drop (n + 1) ts;
-  tokens_are = sym (take-append-drop n ts)
-      ∙ ap (λ (l : List Token). take n ts ++ l) (drop_more ts n t lt ∙ ap (λ (u : Token). u ∷ drop (n + 1) ts) (sym e));
-  count = length-take-le n ts (omega arith);
-  at_is = refl;
+module _ {R V : Type 0} (comes : R → List Lexeme → Outcome V → Type 0) (first : R) (from : Origin) where
+  pub at_first : (s : Source) → HasTaken from [] s → Reached comes first from first s
+  at_first s h = record { taken = []; has_taken = h; goes = λ behind o c. subst (comes first (lexemes behind)) (sym (after_none o)) c }
+
+  module _ (r : R) (s : Source) (reached : Reached comes first from r s) (t : Token) (next : Source) (takes : TakesOne from reached.taken s t next) where
+    abbrev taken : List Token
+    taken = reached.taken
+
+    -- what is behind a token that is a lexeme
+    module _ (n : ℕ) (k : Lexeme) (place : n ≡ length taken) (is : lexeme_of n t.kind ≡ k ∷ []) where
+      pub one_taken : HasTaken from (taken ++ t ∷ []) next × (left_in next < left_in s)
+      one_taken = go takes
+        where
+          go : TakesOne from taken s t next → HasTaken from (taken ++ t ∷ []) next × (left_in next < left_in s)
+          go (one_more some lt h) = (h, lt)
+          go (no_more e h g) = absurd (a_lexeme n t.kind k is e)
+
+      on : (behind : List Token) (o : Outcome V) → comes r (k ∷ lexemes_from (length taken + 1) behind) o → comes first (lexemes (taken ++ t ∷ behind)) (after (length taken) o)
+      on behind o c =
+          let here : lexeme_of (length taken) t.kind ≡ k ∷ [] = ap (λ (m : ℕ). lexeme_of m t.kind) (sym place) ∙ is in
+          reached.goes (t ∷ behind) o (subst (λ (l : List Lexeme). comes r (l ++ lexemes_from (length taken + 1) behind) o) (sym here) c)
+
+      pub at_next : (q : R) → Steps comes r k (Ok q) → Reached comes first from q next
+      at_next q step = record {
+        taken = taken ++ t ∷ [];
+        has_taken = one_taken.0;
+        goes = λ behind o c.
+            let size : length (taken ++ t ∷ []) ≡ length taken + 1 = length-append taken (t ∷ []) in
+            let here = step (lexemes_from (length taken + 1) behind) o (subst (λ (m : ℕ). comes q (lexemes_from m behind) o) size c) in
+            let all = subst (λ (l : List Token). comes first (lexemes l) (after (length taken) (after_one o))) (sym (append_assoc taken (t ∷ []) behind))
+            (on behind (after_one o) here) in
+            subst (comes first (lexemes ((taken ++ t ∷ []) ++ behind))) (after_more (length taken) (length (taken ++ t ∷ [])) o size) all;
+      }
+
+      pub at_fault : (f : StepFault) → Steps comes r k (Err f) → ReadsUp (ReadsTokens comes first) from next (Err (stop_at f t.at))
+      at_fault Memory step = tt
+      at_fault Syntax step = record {
+        taken = taken ++ t ∷ [];
+        has_taken = one_taken.0;
+        answer = λ behind g.
+            let none : 0 + length taken ≡ length taken = omega arith in
+            let stops = subst (λ (m : ℕ). comes first (lexemes (taken ++ t ∷ behind)) (Stopped m)) none (on behind (Stopped 0) (step (lexemes_from (length taken + 1) behind))) in
+            let same = append_assoc taken (t ∷ []) behind in (
+              length taken,
+              subst (λ (l : List Token). comes first (lexemes l) (Stopped (length taken))) (sym same) stops,
+              record { before = taken; token = t; behind = behind; tokens_are = same; count = refl; at_is = refl },
+            );
+      }
+
+    -- what is before the end
+    module _ (n : ℕ) (none : lexeme_of n t.kind ≡ []) where
+      ends_here : HasTaken from taken next × Gives next.origin (t ∷ [])
+      ends_here = go takes
+        where
+          go : TakesOne from taken s t next → HasTaken from taken next × Gives next.origin (t ∷ [])
+          go (one_more some lt h) = absurd (some (no_lexeme n t.kind none))
+          go (no_more e h g) = (h, g)
+
+      last : (o : Outcome V) → comes r [] o → comes first (lexemes (taken ++ t ∷ [])) (after (length taken) o)
+      last o c =
+          let end : t.kind ≡ End = no_lexeme n t.kind none in
+          let here : [] ≡ lexemes_from (length taken) (t ∷ []) = sym (ap (λ (k : TokenKind). lexeme_of (length taken) k ++ []) end) in
+          reached.goes (t ∷ []) o (subst (λ (l : List Lexeme). comes r l o) here c)
+
+      over : (result : Result V Stop) → ReadsTokens comes first (taken ++ t ∷ []) result → OverSome (ReadsTokens comes first) from next result
+      over result h = record {
+        taken = taken;
+        has_taken = ends_here.0;
+        answer = λ behind g. subst (λ (l : List Token). ReadsTokens comes first (taken ++ l) result) (one_gives next.origin (t ∷ []) behind ends_here.1 g) h;
+      }
+
+      pub at_end : (result : Result V Stop) → EndsAt comes r t.at result → ReadsUp (ReadsTokens comes first) from next result
+      at_end (Ok v) ends = over (Ok v) (last (Whole v) ends)
+      at_end (Err Stop.Memory) ends = tt
+      at_end (Err (Stop.BadByte at)) ends = absurd ends
+      at_end (Err (Stop.Syntax at)) ends =
+          let none : 0 + length taken ≡ length taken = omega arith in
+          over (Err (Stop.Syntax at)) (
+            length taken,
+            subst (λ (m : ℕ). comes first (lexemes (taken ++ t ∷ [])) (Stopped m)) none (last (Stopped 0) ends.1),
+            record { before = taken; token = t; behind = []; tokens_are = refl; count = refl; at_is = ends.0 },
+          )
+
+-- a fault of the split
+pub at_bad : {V : Type 0} (answers : List Token → Result V Stop → Type 0) (from : Origin) (taken : List Token) (s next : Source) (fault : LexFault)
+    → Takes from taken s (Err fault) next → ReadsUp answers from next (Err (of_lex fault))
+at_bad answers from before s next (lex.BadByte at) h = h
+at_bad answers from before s next lex.Memory h = tt
+
+-- what some tokens and those behind them answer together, once these were taken
+pub finished : {V : Type 0} (answers : List Token → Result V Stop → Type 0) (from : Origin) (s next : Source) (result : Result V Stop)
+    → (h : OverSome answers from s result) → HasFinished from h.taken s next → OverAll answers from next result
+finished answers from s next result h f = record {
+  tokens = h.taken ++ f.behind;
+  gives = h.has_taken.passes.gives f.behind f.left;
+  noted = f.noted;
+  answer = h.answer f.behind f.left;
 }
 
--- the item of a turn
-pub turn : (ts : List Token) (n i : ℕ) (t : Token) → n < length (enumerate_from 0 ts) → (i, t) ≡ get_or (enumerate_from 0 ts) n (i, t)
-    → (n < length ts) × (i ≡ n) × (t ≡ get_or ts n t)
-turn ts n i t lt e =
-    let l : n < length ts = omega (arith, length-enumerate_from 0 ts) in
-    let w = e ∙ get_or-enumerate_from 0 ts n (i, t) l in
-    let place : i ≡ 0 + n = ap (λ (p : ℕ × Token). p.0) w in
-    (l, omega arith, ap (λ (p : ℕ × Token). p.1) w)
-
--- A token before the last is a lexeme, and the last is none.
-data Seen (ts : List Token) (n : ℕ) (k : TokenKind) : Type 0 where
-  lexeme : n < length ts - 1 → (x : Lexeme) → lexeme_of n k ≡ x ∷ [] → Seen ts n k
-  none : n ≡ length ts - 1 → lexeme_of n k ≡ [] → Seen ts n k
-
-seen_as : (ts : List Token) (n : ℕ) (t : Token) → AreTokens ts → n < length ts → t ≡ get_or ts n t → Seen ts n t.kind
-seen_as ts n t are lt e =
-    let size : length ts ≡ length are.before + 1 = ap length are.tokens_are ∙ length-append are.before (are.last ∷ []) in
-    go size (stand are.before are.last t n (omega arith) (e ∙ ap (λ (l : List Token). get_or l n t) are.tokens_are))
-  where
-    go : length ts ≡ length are.before + 1 → Stand are.before are.last t n → Seen ts n t.kind
-    go size (inside l h) =
-        let some = All-get_or (λ (u : Token). u.kind ≢ End) are.before n t l are.no_sooner in
-        let w = some_lexeme n t (subst (λ (u : Token). u.kind ≢ End) (sym h) some) in
-        lexeme (omega arith) w.0 w.1
-    go size (at_last l h) = none (omega arith) (rw (ap (λ (u : Token). u.kind) h ∙ are.ends) refl)
-
-next_lexemes : (ts : List Token) (n : ℕ) (t : Token) → n < length ts → t ≡ get_or ts n t
-    → lexemes_from n (drop n ts) ≡ lexeme_of n t.kind ++ lexemes_from (n + 1) (drop (n + 1) ts)
-next_lexemes ts n t lt e = ap (lexemes_from n) (drop_more ts n t lt ∙ ap (λ (u : Token). u ∷ drop (n + 1) ts) (sym e))
-
--- What comes of the tokens from place n on gives what comes of all, and the byte is that of the token before.
-pub record Reached {R V : Type 0} (comes : R → List Lexeme → Outcome V → Type 0) (first : R) (ts : List Token) (n : ℕ) (r : R) (at : ℕ) : Type 0 where
-  pub goes : (o : Outcome V) → comes r (lexemes_from n (drop n ts)) o → comes first (lexemes ts) (after (min n (length ts - 1)) o)
-  pub byte : (m : ℕ) → m + 1 ≡ n → TokenAt ts m at
-
-module _ {R V : Type 0} (comes : R → List Lexeme → Outcome V → Type 0) (first : R) (ts : List Token) where
-  pub at_first : Reached comes first ts 0 first 0
-  at_first = record {
-    goes = λ o h.
-        let none : 0 ≡ min 0 (length ts - 1) = omega arith in
-        subst (comes first (lexemes ts)) (sym (after_none o) ∙ ap (λ (k : ℕ). after k o) none) h;
-    byte = λ m e. absurd (omega arith);
-  }
-
-  module _ (are : AreTokens ts) (n : ℕ) (t : Token) (r : R) (lt : n < length ts) (is : t ≡ get_or ts n t) where
-    last_byte : (m : ℕ) → m + 1 ≡ n + 1 → TokenAt ts m t.at
-    last_byte m e = let same : n ≡ m = omega arith in subst (λ (k : ℕ). TokenAt ts k t.at) same (token_at ts n t lt is)
-
-    abbrev behind : List Lexeme
-    behind = lexemes_from (n + 1) (drop (n + 1) ts)
-
-    from_here : (s : List Lexeme) → lexeme_of n t.kind ≡ s → lexemes_from n (drop n ts) ≡ s ++ behind
-    from_here s e = next_lexemes ts n t lt is ∙ ap (λ (l : List Lexeme). l ++ behind) e
-
-    module _ (i at : ℕ) (place : i ≡ n) (reached : Reached comes first ts n r at) where
-      here : (f : Result R StepFault) (s : List Lexeme) → lexeme_of n t.kind ≡ s → StepsToken comes r (lexeme_of i t.kind) f → StepsToken comes r s f
-      here f s e step = subst (λ (l : List Lexeme). StepsToken comes r l f) (ap (λ (k : ℕ). lexeme_of k t.kind) place ∙ e) step
-
-      pub at_next : (next : R) → StepsToken comes r (lexeme_of i t.kind) (Ok next) → Reached comes first ts (n + 1) next t.at
-      at_next next step = record { goes = λ o h. go o h (seen_as ts n t are lt is); byte = last_byte }
-        where
-          go : (o : Outcome V) → comes next behind o → Seen ts n t.kind → comes first (lexemes ts) (after (min (n + 1) (length ts - 1)) o)
-          go o h (lexeme l x e) =
-              let a : comes r (x ∷ behind) (after_one o) = here (Ok next) (x ∷ []) e step behind o h in
-              let b = reached.goes (after_one o) (subst (λ (s : List Lexeme). comes r s (after_one o)) (sym (from_here (x ∷ []) e)) a) in
-              subst (comes first (lexemes ts)) (after_more (min n (length ts - 1)) (min (n + 1) (length ts - 1)) o (omega arith)) b
-          go o h (none l e) =
-              let k : Ok next ≡ Ok r = here (Ok next) [] e step in
-              let same : next ≡ r = cc in
-              let a : comes r behind o = subst (λ (q : R). comes q behind o) same h in
-              let b = reached.goes o (subst (λ (s : List Lexeme). comes r s o) (sym (from_here [] e)) a) in
-              let last : min n (length ts - 1) ≡ min (n + 1) (length ts - 1) = omega arith in
-              subst (λ (k : ℕ). comes first (lexemes ts) (after k o)) last b
-
-      pub at_fault : (f : StepFault) → StepsToken comes r (lexeme_of i t.kind) (Err f) → ReadsTokens comes first ts (Err (stop_at f t.at))
-      at_fault Memory step = tt
-      at_fault Syntax step = go (seen_as ts n t are lt is)
-        where
-          go : Seen ts n t.kind → ReadsTokens comes first ts (Err (stop_at Syntax t.at))
-          go (lexeme l x e) =
-              let a : comes r (x ∷ behind) (Stopped 0) = here (Err Syntax) (x ∷ []) e step behind in
-              let b = reached.goes (Stopped 0) (subst (λ (s : List Lexeme). comes r s (Stopped 0)) (sym (from_here (x ∷ []) e)) a) in
-              let same : 0 + min n (length ts - 1) ≡ n = omega arith in
-              (n, subst (λ (k : ℕ). comes first (lexemes ts) (Stopped k)) same b, token_at ts n t lt is)
-          go (none l e) = absurd (let k : Err Syntax ≡ Ok r = here (Err Syntax) [] e step in cc)
-
-  none_behind : (n : ℕ) → n ≡ length ts → lexemes_from n (drop n ts) ≡ []
-  none_behind n all = ap (lexemes_from n) (drop_all n ts (omega arith))
-
-  pub at_end : (r : R) (v : V) (n at : ℕ) → n ≡ length ts → Reached comes first ts n r at → Ends comes r (Ok v) → ReadsTokens comes first ts (Ok v)
-  at_end r v n at all reached ends = reached.goes (Whole v) (subst (λ (s : List Lexeme). comes r s (Whole v)) (sym (none_behind n all)) ends)
-
-  pub at_bad_end : AreTokens ts → (r : R) (n at : ℕ) (f : StepFault) → n ≡ length ts → Reached comes first ts n r at → Ends comes r (Err f)
-      → ReadsTokens comes first ts (Err (stop_at f at))
-  at_bad_end are r n at Memory all reached ends = tt
-  at_bad_end are r n at Syntax all reached ends =
-      let size : length ts ≡ length are.before + 1 = ap length are.tokens_are ∙ length-append are.before (are.last ∷ []) in
-      let place : 0 + min n (length ts - 1) ≡ length ts - 1 = omega arith in
-      let stops = reached.goes (Stopped 0) (subst (λ (s : List Lexeme). comes r s (Stopped 0)) (sym (none_behind n all)) ends) in
-      (length ts - 1, subst (λ (k : ℕ). comes first (lexemes ts) (Stopped k)) place stops, reached.byte (length ts - 1) (omega arith))
+pub not_finished : {V : Type 0} (answers : List Token → Result V Stop → Type 0) (from : Origin) (taken : List Token) (s next : Source) (fault : LexFault)
+    → Finishes from taken s (Err fault) next → ReadsAll answers from next (Err (of_lex fault))
+not_finished answers from before s next (lex.BadByte at) h = h
+not_finished answers from before s next lex.Memory h = tt

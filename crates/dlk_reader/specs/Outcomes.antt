@@ -50,6 +50,13 @@ abbrev pub stop_at : StepFault → ℕ → Stop
 stop_at step.Memory at = Memory
 stop_at step.Syntax at = Syntax at
 
+-- what the end answers that is at this byte
+abbrev pub EndsAt : {R V : Type 0} → (R → List Lexeme → Outcome V → Type 0) → R → ℕ → Result V Stop → Type 0
+EndsAt comes r at (Ok v) = comes r [] (Whole v)
+EndsAt comes r at (Err Memory) = Unit {0}
+EndsAt comes r at (Err (BadByte byte)) = ⊥
+EndsAt comes r at (Err (Syntax byte)) = (byte ≡ at) × comes r [] (Stopped 0)
+
 -- what reading tokens answers: a stop has the byte of its token
 abbrev pub ReadsTokens : {R V : Type 0} → (R → List Lexeme → Outcome V → Type 0) → R → List Token → Result V Stop → Type 0
 ReadsTokens comes r tokens (Ok v) = comes r (lexemes tokens) (Whole v)

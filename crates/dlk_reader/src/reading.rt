@@ -1,9 +1,9 @@
 //! Reads the tokens of a source, whatever is read.
-ghost use Rattle.std.specs.Prelude.{◌≡◌, List};
+ghost use Rattle.std.specs.Prelude.{◌≡◌, List, []};
 ghost use Rattle.dlk_grammar.specs.Lexemes.{Lexeme as TheLexeme};
 ghost use Rattle.dlk_lex.specs.Sources.{HasTaken};
 ghost use Rattle.dlk_reader.specs.Shows.{seen};
-ghost use Rattle.dlk_reader.specs.Outcomes.{Outcome, Steps, leaving, Ends, stop_at, ReadsTokens, ReadsUp, ReadsAll};
+ghost use Rattle.dlk_reader.specs.Outcomes.{Outcome, Steps, leaving, Ends, EndsAt, stop_at, ReadsTokens, ReadsUp, ReadsAll};
 
 use crate::lexeme::{Lexeme, lexeme_at};
 use crate::stop::{StepFault, Stop};
@@ -45,6 +45,16 @@ fn stop(fault: StepFault, at: usize) -> Stop
     }
 }
 
+/// What was read, at the end, which is at this byte.
+fn ended<R: LexemeReader>(reader: R, at: usize) -> Result<R::Output, Stop>
+    ensures { EndsAt R.comes reader at result }
+{
+    match reader.end() {
+        Ok(output) => Ok(output),
+        Err(fault) => Err(stop(fault, at)),
+    }
+}
+
 /// Goes from token to token as far as they are read.
 fn read_up<R: LexemeReader>(
     alloc: Global,
@@ -61,15 +71,11 @@ fn read_up<R: LexemeReader>(
         let at = token.at;
         let read = match lexeme_at(place, token.kind) {
             Some(lexeme) => reader.step(alloc, lexeme),
-            None => {
-                return match reader.end() {
-                    Ok(output) => Ok(output),
-                    Err(fault) => Err(stop(fault, at)),
-                };
-            }
+            None => return ended(reader, at),
         };
-        if let Err(fault) = read {
-            return Err(stop(fault, at));
+        match read {
+            Ok(()) => {}
+            Err(fault) => return Err(stop(fault, at)),
         }
     }
 }

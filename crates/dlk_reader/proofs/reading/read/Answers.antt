@@ -1,52 +1,36 @@
-use Rattle.std.proofs.Common.{ℕ, length, sym, subst, ◌∙◌}
-use Rattle.std.proofs.lemmas.List.{length_push}
-use Rattle.std.proofs.lemmas.List.FromFn.{length-enumerate_from}
-use Rattle.std.proofs.lemmas.Iterator.Adapters.{YieldsList-from_vec}
-use Rattle.std.proofs.lemmas.Iterator.Consumers.{YieldsList-from_enumerate, YieldsList-turn, YieldsList-end}
-use Rattle.dlk_reader.proofs.Tokens.{Reached, turn, at_first, at_next, at_fault, at_end, at_bad_end}
+use Rattle.std.proofs.Common.{Ok, Err}
+use Rattle.std.proofs.lemmas.Result.{err_from_is_err_and}
+use Rattle.dlk_reader.specs.Outcomes.{ReadsTokens}
+use Rattle.dlk_reader.specs.declared.stop.Stop.TheVariants.{Syntax}
+use Rattle.dlk_reader.proofs.Tokens.{finished, not_finished}
 use Rattle.dlk_reader.proofs.reading.read.Goals as goal
 
-pub loop-place-init : goal.loop-place-init
-loop-place-init g c = at_first g.R.LexemeReader.comes c.args.reader c.args.tokens.items
+pub returns-in_err-finish-in-Ok : goal.returns-in_err-finish-in-Ok
+returns-in_err-finish-in-Ok g c =
+    let w = err_from_is_err_and c.from_residual.result c.from_residual.ensures.1 in
+    let from = c.args.source.now.origin in
+    let h = c.in-Ok.ensures in
+    rw (w.1, w.2) (not_finished (ReadsTokens g.R.LexemeReader.comes c.args.reader) from h.taken c.read_up.new.source c.finish.new.self c.in_err-finish-in-Ok.field-0.0
+    (c.in_err-finish-in-Ok.ensures from h.taken h.has_taken))
 
-pub returns-in-Err : goal.returns-in-Err
-returns-in-Err g c =
-    let ts = c.args.tokens.items in
-    let all = YieldsList-from_enumerate {s = c.into_iter-place-iterator.result} (YieldsList-from_vec ts (cc) (cc)) cc in
-    let w = YieldsList-turn all c.loop-place.yielded c.loop-place.place-iterator c.loop-place.yielded_by c.next.result c.next.new.self
-    (c.in-Some.place, c.in-Some.token) c.in-Some.is c.next.ensures.steps in
-    let at = turn ts (length c.loop-place.yielded) c.in-Some.place c.in-Some.token w.0 w.1 in
-    rw c.stop.ensures (at_fault g.R.LexemeReader.comes c.args.reader ts c.requires (length c.loop-place.yielded) c.in-Some.token c.loop-place.reader at.0 at.2
-    c.in-Some.place c.loop-place.at at.1 c.loop-place.invariant c.in-Err.fault c.in-Err.ensures)
+pub returns-in_err-finish-in-Err-Syntax : goal.returns-in_err-finish-in-Err-Syntax
+returns-in_err-finish-in-Err-Syntax g c =
+    let w = err_from_is_err_and c.from_residual-in_err-finish-in-Err-Syntax.result c.from_residual-in_err-finish-in-Err-Syntax.ensures.1 in
+    let from = c.args.source.now.origin in
+    let h = rw c.in-Err-Syntax.field-0-is at c.in-Err-Syntax.ensures in
+    rw (w.1, w.2) (not_finished (ReadsTokens g.R.LexemeReader.comes c.args.reader) from h.taken c.read_up.new.source c.finish-in-Err-Syntax.new.self
+    c.in_err-finish-in-Err-Syntax.field-0.0 (c.in_err-finish-in-Err-Syntax.ensures from h.taken h.has_taken))
 
-pub loop-place-preserved : goal.loop-place-preserved
-loop-place-preserved g c =
-    let ts = c.args.tokens.items in
-    let all = YieldsList-from_enumerate {s = c.into_iter-place-iterator.result} (YieldsList-from_vec ts (cc) (cc)) cc in
-    let w = YieldsList-turn all c.loop-place.yielded c.loop-place.place-iterator c.loop-place.yielded_by c.next.result c.next.new.self
-    (c.in-Some.place, c.in-Some.token) c.in-Some.is c.next.ensures.steps in
-    let at = turn ts (length c.loop-place.yielded) c.in-Some.place c.in-Some.token w.0 w.1 in
-    let more = sym (length_push c.loop-place.yielded (c.in-Some.place, c.in-Some.token)) in
-    subst (λ (n : ℕ). Reached g.R.LexemeReader.comes c.args.reader ts n c.read_token.new.reader c.in-Some.token.at) more
-    (at_next g.R.LexemeReader.comes c.args.reader ts c.requires (length c.loop-place.yielded) c.in-Some.token c.loop-place.reader at.0 at.2
-    c.in-Some.place c.loop-place.at at.1 c.loop-place.invariant c.read_token.new.reader c.in-Ok.ensures)
+pub returns-in_ok-finish-in-Ok : goal.returns-in_ok-finish-in-Ok
+returns-in_ok-finish-in-Ok g c =
+    let from = c.args.source.now.origin in
+    let h = c.in-Ok.ensures in
+    finished (ReadsTokens g.R.LexemeReader.comes c.args.reader) from c.read_up.new.source c.finish.new.self (Ok c.in-Ok.output) h
+    (c.in_ok-finish-in-Ok.ensures from h.taken h.has_taken)
 
-pub returns-in-Err-end : goal.returns-in-Err-end
-returns-in-Err-end g c =
-    let ts = c.args.tokens.items in
-    let all = YieldsList-from_enumerate {s = c.into_iter-place-iterator.result} (YieldsList-from_vec ts (cc) (cc)) cc in
-    let w = YieldsList-end all c.loop-place.yielded c.loop-place.place-iterator c.loop-place.yielded_by c.next.result c.next.new.self
-    c.in-None.is c.next.ensures.steps in
-    let size = w.1 ∙ length-enumerate_from 0 ts in
-    rw c.stop-in-Err-end.ensures (at_bad_end g.R.LexemeReader.comes c.args.reader ts c.requires c.loop-place.reader (length c.loop-place.yielded)
-    c.loop-place.at c.in-Err-end.fault size c.loop-place.invariant c.in-Err-end.ensures)
-
-pub returns-in-Ok-end : goal.returns-in-Ok-end
-returns-in-Ok-end g c =
-    let ts = c.args.tokens.items in
-    let all = YieldsList-from_enumerate {s = c.into_iter-place-iterator.result} (YieldsList-from_vec ts (cc) (cc)) cc in
-    let w = YieldsList-end all c.loop-place.yielded c.loop-place.place-iterator c.loop-place.yielded_by c.next.result c.next.new.self
-    c.in-None.is c.next.ensures.steps in
-    let size = w.1 ∙ length-enumerate_from 0 ts in
-    at_end g.R.LexemeReader.comes c.args.reader ts c.loop-place.reader c.in-Ok-end.output (length c.loop-place.yielded) c.loop-place.at
-    size c.loop-place.invariant c.in-Ok-end.ensures
+pub returns-in_ok-finish-in-Err-Syntax : goal.returns-in_ok-finish-in-Err-Syntax
+returns-in_ok-finish-in-Err-Syntax g c =
+    let from = c.args.source.now.origin in
+    let h = rw c.in-Err-Syntax.field-0-is at c.in-Err-Syntax.ensures in
+    finished (ReadsTokens g.R.LexemeReader.comes c.args.reader) from c.read_up.new.source c.finish-in-Err-Syntax.new.self (Err (Syntax c.in-Err-Syntax.at)) h
+    (c.in_ok-finish-in-Err-Syntax.ensures from h.taken h.has_taken)
