@@ -4,14 +4,16 @@ use Rattle.dlk_grammar.specs.declared.token.Dots.{Dots}
 use Rattle.dlk_grammar.specs.declared.token.Token.{Token}
 use Rattle.dlk_grammar.specs.Lexemes.{Lexeme}
 use Rattle.dlk_grammar.specs.Readings.{permits}
+use Rattle.dlk_lex.specs.declared.source.Origin.{Origin}
+use Rattle.dlk_lex.specs.declared.source.Source.{Source}
 use Rattle.dlk_machine.specs.Machine.{when}
 use Rattle.dlk_machine.specs.Parse.{Machine, or_else, parse_from}
 use Rattle.dlk_reader.specs.Shows.{Agrees}
-use Rattle.dlk_reader.specs.Outcomes.{Outcome, Whole, Stopped, after_one, Steps, Ends, ReadsTokens}
+use Rattle.dlk_reader.specs.Outcomes.{Outcome, Whole, Stopped, after_one, Steps, Ends, ReadsTokens, OverAll, ReadsAll}
 use Rattle.dlk_reader.specs.declared.stop.StepFault.{StepFault}
 use Rattle.dlk_reader.specs.declared.stop.StepFault.TheVariants as fault
 use Rattle.dlk_reader.specs.declared.stop.Stop.{Stop}
-use Rattle.dlk_reader.specs.declared.stop.Stop.TheVariants.{Memory, Syntax}
+use Rattle.dlk_reader.specs.declared.stop.Stop.TheVariants.{Memory, BadByte, Syntax}
 use Rattle.dlk_reader.proofs.Agree.{agrees_ok}
 use Rattle.dlk_forms.specs.Parsing.{Gives, Comes, ReadsAs}
 
@@ -72,6 +74,7 @@ module _ {X T : Type 0} (d : Dots) (m : Machine X T) where
         → ReadsAs d m is_code tokens result
     reads r tokens (Ok v) w h = h m.start w
     reads r tokens (Err Memory) w h = tt
+    reads r tokens (Err (BadByte at)) w h = absurd h
     reads r tokens (Err (Syntax at)) w h = (h.0, h.1 m.start w, h.2)
 
 -- of each of several
@@ -92,4 +95,17 @@ module _ {I R V : Type 0} (comes : I → R → List Lexeme → Outcome V → Typ
   pub reads_each : (r : R) (tokens : List Token) (result : Result V Stop) (i : I) → ReadsTokens each r tokens result → ReadsTokens (comes i) r tokens result
   reads_each r tokens (Ok v) i h = h i
   reads_each r tokens (Err Memory) i h = tt
+  reads_each r tokens (Err (BadByte at)) i h = absurd h
   reads_each r tokens (Err (Syntax at)) i h = (h.0, h.1 i, h.2)
+
+-- what tokens answer, where they answer something stronger
+module _ {V : Type 0} (A B : List Token → Result V Stop → Type 0) (weaker : (tokens : List Token) (result : Result V Stop) → A tokens result → B tokens result)
+    (first : Origin) (s : Source) where
+  over_all : (result : Result V Stop) → OverAll A first s result → OverAll B first s result
+  over_all result h = record { tokens = h.tokens; gives = h.gives; noted = h.noted; answer = weaker h.tokens result h.answer }
+
+  pub reads_all : (result : Result V Stop) → ReadsAll A first s result → ReadsAll B first s result
+  reads_all (Ok v) h = over_all (Ok v) h
+  reads_all (Err Memory) h = tt
+  reads_all (Err (BadByte at)) h = h
+  reads_all (Err (Syntax at)) h = over_all (Err (Syntax at)) h

@@ -23,7 +23,7 @@ use Rattle.dlk_machine.proofs.ParseLaws.{form_read_says, form_fault_stops, seque
 use Rattle.dlk_reader.specs.Codes.{postfix, postfix_all}
 use Rattle.dlk_reader.specs.declared.code.Code.{Code}
 use Rattle.dlk_reader.specs.declared.stop.Stop.{Stop}
-use Rattle.dlk_reader.specs.declared.stop.Stop.TheVariants.{Memory, Syntax}
+use Rattle.dlk_reader.specs.declared.stop.Stop.TheVariants.{Memory, BadByte, Syntax}
 use Rattle.dlk_reader.specs.Outcomes.{ReadsTokens}
 use Rattle.dlk_forms.specs.Parsing.{IsParsed, Comes, ReadsAs}
 use Rattle.dlk_forms.specs.Readers.{ShowsTree, IsTreeCode, IsCodeOf, TreeComes, tree_start}
@@ -43,6 +43,7 @@ module _ {X P V : Type 0} (d : Dots) (m : Machine X P) (is_code : V → P → Ty
   module _ (G : List Lexeme → P → Type 0) (parts : P → List Phrase) (law : (s : List Lexeme) (n : ℕ) → parse d m s ≡ Err n → Stops d G s n) where
     stop : (why : Stop) → ReadsAs {V = V} d m is_code tokens (Err why) → IsStop G parts d tokens why
     stop Memory h = tt
+    stop (BadByte at) h = absurd h
     stop (Syntax at) h = (h.0, law (lexemes tokens) h.0 h.1, h.2)
 
     stops : (result : Result V Stop) → ReadsAs d m is_code tokens result → IfErr result (IsStop G parts d tokens)

@@ -7,7 +7,7 @@ use Rattle.dlk_grammar.specs.Readings.{TokenAt}
 use Rattle.dlk_machine.specs.Parse.{Machine, parse_from, parse}
 use Rattle.dlk_reader.specs.Outcomes.{Outcome, Whole, Stopped}
 use Rattle.dlk_reader.specs.declared.stop.Stop.{Stop}
-use Rattle.dlk_reader.specs.declared.stop.Stop.TheVariants.{Memory, Syntax}
+use Rattle.dlk_reader.specs.declared.stop.Stop.TheVariants.{Memory, BadByte, Syntax}
 
 -- a value is the code of what was parsed
 pub record IsParsed {T V : Type 0} (is_code : V → T → Type 0) (v : V) (r : Result T ℕ) : Type 0 where
@@ -28,4 +28,5 @@ Comes {X = X} d m shows is_code r s o = (x : X) → shows r x → Gives d m x s 
 abbrev pub ReadsAs : {X T V : Type 0} → Dots → Machine X T → (V → T → Type 0) → List Token → Result V Stop → Type 0
 ReadsAs d m is_code tokens (Ok v) = IsParsed is_code v (parse d m (lexemes tokens))
 ReadsAs d m is_code tokens (Err Memory) = Unit {0}
+ReadsAs d m is_code tokens (Err (BadByte at)) = ⊥
 ReadsAs d m is_code tokens (Err (Syntax at)) = (place : ℕ) × (parse d m (lexemes tokens) ≡ Err place) × TokenAt tokens place at

@@ -67,9 +67,9 @@ IsStop G parts d tokens Memory = Unit {0}
 IsStop G parts d tokens (BadByte at) = ⊥
 
 -- what reading answers to tokens: what they say, or where they stop as a text of the form
-pub record Answers {P V : Type 0} (says : List Token → V → Type 0) (G : List Lexeme → P → Type 0) (parts : P → List Phrase) (d : Dots)
+pub record Answers {P V : Type 0} (IsCode : List Token → V → Type 0) (G : List Lexeme → P → Type 0) (parts : P → List Phrase) (d : Dots)
     (tokens : List Token) (result : Result V Stop) : Type 0 where
-  pub says : IfOk result (says tokens)
+  pub says : IfOk result (IsCode tokens)
   pub stops : IfErr result (IsStop G parts d tokens)
 
 -- of a tree, a sequent, a substitution, and renames with pairs

@@ -2,7 +2,7 @@ pub mod PhraseParts
 pub mod Stacked
 pub mod Measuring
 pub mod Nodes
-pub mod FirstTokens
+pub mod FromOrigins
 pub mod Within
 pub mod Reports
 pub mod SaidLaws

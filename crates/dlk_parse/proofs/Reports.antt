@@ -11,11 +11,9 @@ use Rattle.dlk_grammar.specs.Erased.{erase, ills, lowest}
 use Rattle.dlk_calculus.specs.Limits.{most_nodes, greatest_depth}
 use Rattle.dlk_grammar.specs.Readings.{Says, FirstPast, TokenAt, ReadFault, Literal, Nesting, Syntax, Shape, TooBig, TooDeep, fault_rank, SpeaksAgainst, IsReadFault}
 use Rattle.dlk_machine.proofs.Stopping.{said_nowhere}
-use Rattle.dlk_reader.specs.declared.stop.Stop.{Stop}
-use Rattle.dlk_reader.specs.declared.stop.Stop.TheVariants as stop
-use Rattle.dlk_forms.specs.Said.{IsStop}
-use Rattle.dlk_parse.specs.Faults.{IsParseFaultOf, of_stop}
-use Rattle.dlk_parse.specs.Limits.{starts_of, AreWithinTokenLimits, IsPastTokenLimit, AreWithin, IsBeyond}
+use Rattle.dlk_parse.specs.Faults.{IsParseFaultOf}
+use Rattle.dlk_lex.specs.Noted.{starts_of}
+use Rattle.dlk_parse.specs.Limits.{AreWithinTokenLimits, IsPastTokenLimit, AreWithin, IsBeyond}
 use Rattle.dlk_parse.specs.declared.fault.ParseFault.{ParseFault}
 use Rattle.dlk_parse.specs.declared.fault.ParseFault.TheVariants as parse
 
@@ -63,7 +61,7 @@ module _ {P : Type 0} (G : List Lexeme → P → Type 0) (parts : P → List Phr
   unruly (parse.Shape at) h = absurd h
   unruly (parse.TooBig n) h = absurd h
   unruly (parse.TooDeep n) h = absurd h
-  unruly parse.Memory h = tt
+  unruly parse.Memory h = absurd h
 
   module _ (calm : AreWithinTokenLimits tokens) where
     no_text : (other : ReadFault) → fault_rank other < 3 → ¬ SpeaksAgainst G parts d tokens other
@@ -75,9 +73,8 @@ module _ {P : Type 0} (G : List Lexeme → P → Type 0) (parts : P → List Phr
     no_text (TooDeep k) l a = omega arith
 
     -- what is no text
-    pub unread : (stop : Stop) → IsStop G parts d tokens stop → IsParseFaultOf (IsReadFault G parts d tokens) (of_stop stop)
-    unread stop.Memory h = tt
-    unread (stop.Syntax at) h = record { applies = h; first = no_text }
+    pub unread : (at : ℕ) → SpeaksAgainst G parts d tokens (Syntax at) → IsParseFaultOf (IsReadFault G parts d tokens) (parse.Syntax at)
+    unread at h = record { applies = h; first = no_text }
 
     module _ (p : P) (says : Says d G (lexemes tokens) p) where
       same : (q : P) → Says d G (lexemes tokens) q → q ≡ p

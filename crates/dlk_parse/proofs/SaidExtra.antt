@@ -18,7 +18,8 @@ use Rattle.dlk_grammar.specs.Extras.{ReadsExtra, extra_replacements, erase_extra
 use Rattle.dlk_machine.proofs.ParseLaws.{one_extra_read}
 use Rattle.dlk_machine.proofs.TextLaws.{extra_ills_below, extra_well_made}
 use Rattle.dlk_parse.specs.Faults.{IsParseFaultOf}
-use Rattle.dlk_parse.specs.Limits.{starts_of, AreWithinTokenLimits}
+use Rattle.dlk_lex.specs.Noted.{starts_of}
+use Rattle.dlk_parse.specs.Limits.{AreWithinTokenLimits}
 use Rattle.dlk_parse.specs.Made.{IsWellMade, AreMade}
 use Rattle.dlk_forms.specs.Said.{SaysExtra}
 use Rattle.dlk_parse.specs.Said.{IsReadExtra, HasPlaces, IsWithin, IsCodeBeyond}

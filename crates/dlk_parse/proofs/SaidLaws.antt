@@ -25,7 +25,8 @@ use Rattle.dlk_machine.specs.Levels.{form_sort}
 use Rattle.dlk_machine.proofs.ParseLaws.{one_sides_read}
 use Rattle.dlk_machine.proofs.TextLaws.{least_below, one_grammar, form_ills_below, sequent_ills_below, tree_well_made, tree_not_ill, lexemes_real, sequent_formulas}
 use Rattle.dlk_parse.specs.Faults.{IsParseFaultOf}
-use Rattle.dlk_parse.specs.Limits.{starts_of, AreWithinTokenLimits}
+use Rattle.dlk_lex.specs.Noted.{starts_of}
+use Rattle.dlk_parse.specs.Limits.{AreWithinTokenLimits}
 use Rattle.dlk_forms.specs.Said.{SaysCode, SaysSides, left_count}
 use Rattle.dlk_parse.specs.Made.{IsWellMade, AreMade}
 use Rattle.dlk_parse.specs.Said.{IsReadCode, AreReadSides, HasPlaces, IsWithin, IsCodeBeyond}

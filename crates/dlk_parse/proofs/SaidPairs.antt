@@ -16,7 +16,8 @@ use Rattle.dlk_grammar.specs.Substitutions.{PairPhrase, ReadsSubstitution, repla
 use Rattle.dlk_machine.proofs.ParseLaws.{one_pairs_read}
 use Rattle.dlk_machine.proofs.TextLaws.{pairs_ills_below, pairs_well_made}
 use Rattle.dlk_parse.specs.Faults.{IsParseFaultOf}
-use Rattle.dlk_parse.specs.Limits.{starts_of, AreWithinTokenLimits}
+use Rattle.dlk_lex.specs.Noted.{starts_of}
+use Rattle.dlk_parse.specs.Limits.{AreWithinTokenLimits}
 use Rattle.dlk_parse.specs.Made.{IsWellMade, AreMade}
 use Rattle.dlk_forms.specs.Said.{SaysPairs}
 use Rattle.dlk_parse.specs.Said.{AreReadPairs, HasPlaces, IsWithin, IsCodeBeyond}

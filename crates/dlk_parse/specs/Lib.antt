@@ -5,5 +5,4 @@ pub mod Measuring
 pub mod Made
 pub mod Making
 pub mod Limits
-pub mod Scans
 pub mod Said

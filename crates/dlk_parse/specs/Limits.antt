@@ -32,10 +32,6 @@ pub record AreWithin (ps : List Phrase) : Type 0 where
   pub size : All (λ t. size t ≤ most_nodes) (map erase ps)
   pub depth : All (λ t. depth t ≤ greatest_depth) (map erase ps)
 
--- the bytes at which tokens begin, in order
-abbrev pub starts_of : List Token → List ℕ
-starts_of tokens = map (λ t. t.at) tokens
-
 -- The first that speaks against read phrases, in the order shape, size, depth, where the tokens begin at these bytes. Want of memory is free.
 abbrev pub IsBeyond : List Phrase → List ℕ → ParseFault → Type 0
 IsBeyond ps starts (parse.Literal at) = ⊥
@@ -62,7 +58,7 @@ pub record AreWithinTokenLimits (tokens : List Token) : Type 0 where
   pub long : HasNone IsLong tokens
   pub deep : HasNone OpensTooDeep tokens
 
--- the first that speaks against tokens, in the order literal, nesting; want of memory is free
+-- the first that speaks against tokens, in the order literal, nesting
 abbrev pub IsPastTokenLimit : List Token → ParseFault → Type 0
 IsPastTokenLimit tokens (parse.Literal at) = FirstAt IsLong tokens at
 IsPastTokenLimit tokens (parse.Nesting at) = HasNone IsLong tokens × FirstAt OpensTooDeep tokens at
@@ -70,4 +66,4 @@ IsPastTokenLimit tokens (parse.Syntax at) = ⊥
 IsPastTokenLimit tokens (parse.Shape at) = ⊥
 IsPastTokenLimit tokens (parse.TooBig n) = ⊥
 IsPastTokenLimit tokens (parse.TooDeep n) = ⊥
-IsPastTokenLimit tokens parse.Memory = Unit {0}
+IsPastTokenLimit tokens parse.Memory = ⊥

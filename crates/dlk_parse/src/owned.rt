@@ -34,8 +34,8 @@ fn tree_code(
     dots: Dots,
 ) -> Result<Vec<Code>, TextFault>
     requires { IsOrigin origin }
-    ensures read { IfOk result (λ v. (ts : List TheToken) × Gives origin ts × IsReadCode (grammar form) itself dots ts v.items) }
-    ensures fault { IfErr result (IsTextFaultOf (IsFaultFrom origin (IsTreeFault form dots))) }
+    ensures read { IfOk result (λ v. (ts : List TheToken) × Gives origin.entry ts × IsReadCode (grammar form) itself dots ts v.items) }
+    ensures fault { IfErr result (IsTextFaultOf (IsFaultFrom origin.entry (IsTreeFault form dots))) }
 {
     let mut source = Source::new(alloc, origin);
     match read_tree(alloc, form, dots, &mut source) {
@@ -51,8 +51,8 @@ fn tree_code(
 /// The code of the formulas of the sequent that the tokens are a text of.
 fn sides_code(alloc: Global, origin: Origin<'_>) -> Result<SidesCode, TextFault>
     requires { IsOrigin origin }
-    ensures read { IfOk result (λ v. (ts : List TheToken) × Gives origin ts × AreReadSides ts v) }
-    ensures fault { IfErr result (IsTextFaultOf (IsFaultFrom origin IsSequentFault)) }
+    ensures read { IfOk result (λ v. (ts : List TheToken) × Gives origin.entry ts × AreReadSides ts v) }
+    ensures fault { IfErr result (IsTextFaultOf (IsFaultFrom origin.entry IsSequentFault)) }
 {
     let mut source = Source::new(alloc, origin);
     match read_sides(alloc, &mut source) {
@@ -68,8 +68,8 @@ fn sides_code(alloc: Global, origin: Origin<'_>) -> Result<SidesCode, TextFault>
 /// The code of the pairs of the substitution that the tokens are a text of.
 fn pairs_code(alloc: Global, origin: Origin<'_>) -> Result<PairsCode, TextFault>
     requires { IsOrigin origin }
-    ensures read { IfOk result (λ v. (ts : List TheToken) × Gives origin ts × AreReadPairs ts v) }
-    ensures fault { IfErr result (IsTextFaultOf (IsFaultFrom origin ArePairsFault)) }
+    ensures read { IfOk result (λ v. (ts : List TheToken) × Gives origin.entry ts × AreReadPairs ts v) }
+    ensures fault { IfErr result (IsTextFaultOf (IsFaultFrom origin.entry ArePairsFault)) }
 {
     let mut source = Source::new(alloc, origin);
     match read_pairs(alloc, &mut source) {
@@ -85,8 +85,8 @@ fn pairs_code(alloc: Global, origin: Origin<'_>) -> Result<PairsCode, TextFault>
 /// The code of the renames and the pairs that the tokens are a text of.
 fn extra_code(alloc: Global, origin: Origin<'_>) -> Result<ExtraCode, TextFault>
     requires { IsOrigin origin }
-    ensures read { IfOk result (λ v. (ts : List TheToken) × Gives origin ts × IsReadExtra ts v) }
-    ensures fault { IfErr result (IsTextFaultOf (IsFaultFrom origin AreExtraFault)) }
+    ensures read { IfOk result (λ v. (ts : List TheToken) × Gives origin.entry ts × IsReadExtra ts v) }
+    ensures fault { IfErr result (IsTextFaultOf (IsFaultFrom origin.entry AreExtraFault)) }
 {
     let mut source = Source::new(alloc, origin);
     match read_extra(alloc, &mut source) {
@@ -108,9 +108,9 @@ pub(crate) fn tree_of<S: Store>(
     store: &mut S,
 ) -> Result<Id, TextFault>
     requires { IsOrigin origin }
-    ensures found { IfOk result (λ id. (ts : List TheToken) × Gives origin ts × IsTree form dots ts (tree (S.trees store.new) id)) }
+    ensures found { IfOk result (λ id. (ts : List TheToken) × Gives origin.entry ts × IsTree form dots ts (tree (S.trees store.new) id)) }
     ensures known { IfOk result (IsId (S.trees store.new)) }
-    ensures fault { IfErr result (IsTextFaultOf (IsFaultFrom origin (IsTreeFault form dots))) }
+    ensures fault { IfErr result (IsTextFaultOf (IsFaultFrom origin.entry (IsTreeFault form dots))) }
     ensures unmade { IfErr result (UnlessTextMemory (store.new ≡ store.old)) }
     ensures grows { S.grows store.old store.new }
 {
@@ -126,10 +126,10 @@ pub(crate) fn sequent_of<S: Store>(
     store: &mut S,
 ) -> Result<Sequent, TextFault>
     requires { IsOrigin origin }
-    ensures found { IfOk result (λ s. (ts : List TheToken) × Gives origin ts × IsSequentOf ts (sequent_at (S.trees store.new) s)) }
+    ensures found { IfOk result (λ s. (ts : List TheToken) × Gives origin.entry ts × IsSequentOf ts (sequent_at (S.trees store.new) s)) }
     ensures known { IfOk result (IsKnown (S.trees store.new)) }
     ensures formulas { IfOk result (λ s. IsSequent (sequent_at (S.trees store.new) s)) }
-    ensures fault { IfErr result (IsTextFaultOf (IsFaultFrom origin IsSequentFault)) }
+    ensures fault { IfErr result (IsTextFaultOf (IsFaultFrom origin.entry IsSequentFault)) }
     ensures unmade { IfErr result (UnlessTextMemory (store.new ≡ store.old)) }
     ensures grows { S.grows store.old store.new }
 {
@@ -163,9 +163,9 @@ pub(crate) fn pairs_of<S: Store>(
     store: &mut S,
 ) -> Result<Vec<Pair>, TextFault>
     requires { IsOrigin origin }
-    ensures found { IfOk result (λ pairs. (ts : List TheToken) × Gives origin ts × ArePairs ts (pairs_at (S.trees store.new) pairs.items)) }
+    ensures found { IfOk result (λ pairs. (ts : List TheToken) × Gives origin.entry ts × ArePairs ts (pairs_at (S.trees store.new) pairs.items)) }
     ensures known { IfOk result (λ pairs. AreKnownPairs (S.trees store.new) pairs.items) }
-    ensures fault { IfErr result (IsTextFaultOf (IsFaultFrom origin ArePairsFault)) }
+    ensures fault { IfErr result (IsTextFaultOf (IsFaultFrom origin.entry ArePairsFault)) }
     ensures unmade { IfErr result (UnlessTextMemory (store.new ≡ store.old)) }
     ensures grows { S.grows store.old store.new }
 {
@@ -182,9 +182,9 @@ pub(crate) fn extra_of<S: Store>(
     store: &mut S,
 ) -> Result<Extra, TextFault>
     requires { IsOrigin origin }
-    ensures found { IfOk result (λ extra. (ts : List TheToken) × Gives origin ts × AreExtra ts (extra_at (S.trees store.new) extra)) }
+    ensures found { IfOk result (λ extra. (ts : List TheToken) × Gives origin.entry ts × AreExtra ts (extra_at (S.trees store.new) extra)) }
     ensures known { IfOk result (IsKnownExtra (S.trees store.new)) }
-    ensures fault { IfErr result (IsTextFaultOf (IsFaultFrom origin AreExtraFault)) }
+    ensures fault { IfErr result (IsTextFaultOf (IsFaultFrom origin.entry AreExtraFault)) }
     ensures unmade { IfErr result (UnlessTextMemory (store.new ≡ store.old)) }
     ensures grows { S.grows store.old store.new }
 {

@@ -5,6 +5,7 @@ ghost use Rattle.dlk_calculus.specs.Sequents.{IsFormula, IsSequent};
 ghost use Rattle.dlk_grammar.specs.declared.token.Form.TheVariants as form_of;
 ghost use Rattle.dlk_grammar.specs.declared.token.Dots.TheVariants.{Refused};
 ghost use Rattle.dlk_grammar.specs.Texts.{TreeText, SequentText, PairsText, ExtraText, TreeTextFault, SequentTextFault, PairsTextFault, ExtraTextFault};
+ghost use Rattle.dlk_lex.specs.declared.source.Origin.TheVariants.{Bytes};
 ghost use Rattle.dlk_store.specs.Stores.{tree, StandsFor};
 ghost use Rattle.dlk_sequent.specs.Sequents.{sequent_at, IsKnown};
 ghost use Rattle.dlk_sequent.specs.Substitutions.{pairs_at, AreKnownPairs};
@@ -21,7 +22,7 @@ use std::alloc::Global;
 
 /// All bytes.
 fn of_bytes(bytes: &[u8]) -> Origin<'_>
-    ensures { result ≡ TheOrigin.Bytes bytes 0 }
+    ensures { result ≡ Bytes bytes.entry 0 }
 {
     Origin::Bytes { bytes, at: 0 }
 }

@@ -24,7 +24,7 @@ pub(crate) fn check_tokens(source: &Source<'_>) -> Result<(), ParseFault>
 
 /// Why tokens are refused that stop: a literal and a bracket come before the token at which no text goes on.
 pub(crate) fn refusal(source: &Source<'_>, stop: Stop) -> TextFault
-    ensures { (ts : List TheToken) → AreNoted ts source.now.noted → IsRefusal ts stop result }
+    ensures { IsRefusal source.now.noted stop result }
 {
     match stop {
         Stop::Memory => TextFault::Memory,

@@ -1,8 +1,16 @@
+use Rattle.dlk_reader.specs.Outcomes.{ReadsTokens}
+use Rattle.dlk_forms.specs.Readers.{TreeComes}
+use Rattle.dlk_forms.specs.Said.{AnswersTree}
+use Rattle.dlk_forms.proofs.Parsing.{reads_all}
 use Rattle.dlk_forms.proofs.SaidLaws.{tree_reads, tree_says, tree_stops}
 use Rattle.dlk_forms.proofs.reading.read_tree.Goals as goal
 
 pub returns : goal.returns
 returns c =
-    let ts = c.args.tokens.items in
-    let h = tree_reads c.args.dots c.args.form c.new.result ts c.read.result c.new.ensures c.read.ensures in
-    record { says = tree_says c.args.dots c.args.form ts c.read.result h; stops = tree_stops c.args.dots c.args.form ts c.read.result h }
+    let form = c.args.form in
+    let dots = c.args.dots in
+    reads_all (ReadsTokens TreeComes c.new.result) (AnswersTree form dots)
+    (λ ts result r.
+        let h = tree_reads dots form c.new.result ts result c.new.ensures r in
+        record { says = tree_says dots form ts result h; stops = tree_stops dots form ts result h })
+    c.args.source.now.origin c.read.new.source c.read.result c.read.ensures

@@ -1,10 +1,13 @@
-use Rattle.std.proofs.lemmas.Result.{IfOk-weaker}
+use Rattle.std.proofs.Common.{subst}
 use Rattle.dlk_grammar.specs.declared.token.Form.TheVariants.{Term}
 use Rattle.dlk_grammar.specs.Grammar.{term}
+use Rattle.dlk_grammar.specs.Readings.{IsTree}
 use Rattle.dlk_store.specs.Stores.{tree}
 use Rattle.dlk_parse.proofs.SaidLaws.{sort_read}
 use Rattle.dlk_parse.proofs.readers.term.Goals as goal
 
 pub returns-clause-sort : goal.returns-clause-sort
 returns-clause-sort g c =
-    IfOk-weaker c.tree_of.result _ _ (λ id a. sort_read Term term (λ s p d. d) c.args.dots c.args.tokens.now (tree (g.S.Store.trees c.tree_of.new.store) id) c.requires a) (rw c.in_ok-tokens.ensures at c.tree_of.ensures.found)
+    let t = tree (g.S.Store.trees c.tree_of.new.store) c.in_ok-id.id in
+    let found = c.in_ok-id.ensures.found in
+    sort_read Term term (λ s p d. d) c.args.dots c.args.tokens.now t c.requires (subst (λ ts. IsTree Term c.args.dots ts t) found.1 found.2)
