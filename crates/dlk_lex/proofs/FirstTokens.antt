@@ -25,6 +25,7 @@ stand (x ∷ before) (z ∷ front) after t u e = go (stand before front after t 
   where
     first : x ≡ z
     first = cc
+
     go : Stand before front t u → Stand (x ∷ before) (z ∷ front) t u
     go (last f g) = last (cc) g
     go (sooner rest f) = sooner rest (cc)

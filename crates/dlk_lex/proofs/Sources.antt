@@ -14,7 +14,6 @@ use Rattle.dlk_lex.specs.declared.noted.Noted.{Noted}
 use Rattle.dlk_lex.specs.Noted.{AreNoted}
 use Rattle.dlk_lex.specs.Taken.{IsFirst, first_one, none_left, IsOrigin, Gives, left_of, Passes, IsNext, next_one, at_end}
 
-
 -- nothing was taken
 pub none_taken : (o : Origin) → IsOrigin o → Passes o [] o
 none_taken o is = record { is_origin = is; gives = λ ts g. g; refuses = λ bad r. r }

@@ -1,4 +1,5 @@
 pub mod Codes
+pub mod Halves
 pub mod Shows
 pub mod Ends
 pub mod Outcomes

@@ -15,6 +15,7 @@ use Rattle.dlk_reader.specs.declared.code.Code.{Code}
 use Rattle.dlk_reader.specs.declared.code.Code.TheVariants as code
 use Rattle.dlk_reader.specs.declared.stop.StepFault.{StepFault}
 use Rattle.dlk_reader.specs.declared.stop.StepFault.TheVariants.{Memory, Syntax}
+use Rattle.dlk_reader.specs.Halves.{number_of}
 use Rattle.dlk_reader.specs.declared.lexeme.Lexeme.{Lexeme as SeenLexeme}
 use Rattle.dlk_reader.specs.declared.lexeme.Lexeme.TheVariants as lexeme
 use Rattle.dlk_reader.specs.declared.parts.Between.{Between as BetweenPart}
@@ -44,7 +45,7 @@ use Rattle.dlk_reader.specs.declared.stack.Stack.{Stack}
 -- a lexeme of the code
 abbrev pub seen : SeenLexeme → Lexeme
 seen (lexeme.Name n x) = Name n x
-seen (lexeme.Number n) = Number n
+seen (lexeme.Number n) = Number (number_of n)
 seen (lexeme.Dot n) = Dot n
 seen lexeme.Blank = Blank
 seen lexeme.True = True

@@ -3,6 +3,7 @@ ghost use Rattle.std.specs.Prelude.{◌≡◌};
 ghost use Rattle.dlk_grammar.specs.Lexemes.{lexeme_of, lexeme_of_mark};
 ghost use Rattle.dlk_reader.specs.Shows.{IsNameOf, IsSeen, seen};
 
+use crate::halves::Halves;
 use crate::stop::StepFault;
 use dlk_grammar::{Infix, Mark, TokenKind};
 use dlk_tree::{Name, Num};
@@ -11,7 +12,7 @@ use dlk_tree::{Name, Num};
 #[derive(Drop)]
 pub enum Lexeme {
     Name(usize, Name),
-    Number(Num),
+    Number(Halves),
     Dot(u8),
     Blank,
     True,
@@ -67,11 +68,11 @@ pub(crate) fn lexeme_at(place: usize, kind: TokenKind) -> Option<Lexeme>
         TokenKind::Word(name) => Some(Lexeme::Name(place, name)),
         TokenKind::True => Some(Lexeme::True),
         TokenKind::False => Some(Lexeme::False),
-        TokenKind::Number(number) => Some(Lexeme::Number(number)),
-        TokenKind::LongNumber => Some(Lexeme::Number(Num {
+        TokenKind::Number(number) => Some(Lexeme::Number(Halves::of(number))),
+        TokenKind::LongNumber => Some(Lexeme::Number(Halves::of(Num {
             digits: 0,
             scale: 0,
-        })),
+        }))),
         TokenKind::Dot(number) => Some(Lexeme::Dot(number)),
         TokenKind::Hole => Some(Lexeme::Blank),
         TokenKind::Mark(mark) => Some(lexeme_of_mark(place, mark)),

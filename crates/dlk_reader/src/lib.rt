@@ -4,6 +4,7 @@
 mod closing;
 mod code;
 mod ends;
+mod halves;
 mod items;
 mod kept;
 mod lexeme;
@@ -18,6 +19,7 @@ mod tables;
 
 pub use code::Code;
 pub use ends::Comma;
+pub use halves::Halves;
 pub use lexeme::Lexeme;
 pub use parts::{Equations, Last, Mode, Tail};
 pub use reading::{LexemeReader, read};

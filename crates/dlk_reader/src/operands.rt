@@ -99,7 +99,7 @@ impl Stack {
                 mode.set(Mode::Has(Last::Name { at, name }));
                 Ok(())
             }
-            Lexeme::Number(number) => self.leaf(mode, Op::Number(number), Sort::Term),
+            Lexeme::Number(halves) => self.leaf(mode, Op::Number(halves.number()), Sort::Term),
             Lexeme::Dot(number) => self.leaf(mode, Op::Dot(number), Sort::Term),
             Lexeme::Open => {
                 let fits = self.fits(goal, Sort::Formula);
