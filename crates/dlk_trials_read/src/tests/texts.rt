@@ -112,6 +112,45 @@ fn reads_up_to_the_limits(rt: HostRuntime) -> Result<(), Fail> {
 }
 
 #[test]
+fn says_the_first_fault(rt: HostRuntime) -> Result<(), Fail> {
+    let unread = |why: ParseFault| Err(TextFault::Unread(why));
+    let long = "123456789012345678901234567890123456789";
+    let read = |text: Vec<u8>| formula_of(&rt, text.as_slice());
+    let rows = [
+        // where no text goes on, whatever is behind it
+        (") x>=0 )", unread(ParseFault::Syntax { at: 0 })),
+        ("x>=0 ) 1.", Err(TextFault::BadByte { at: 8 })),
+        (") /* x", Err(TextFault::BadByte { at: 2 })),
+        // the end, behind a comment
+        ("x>= // 0", unread(ParseFault::Syntax { at: 8 })),
+    ];
+    for (text, want) in rows {
+        assert_eq!(rt; formula_of(&rt, text.as_bytes()), want, "{text}");
+    }
+    assert_eq!(rt;
+        read(nested(&rt, 1, ") ", long, "")?),
+        unread(ParseFault::Literal { at: 2 })
+    );
+    assert_eq!(rt;
+        read(nested(&rt, 2, long, " ", "")?),
+        unread(ParseFault::Literal { at: 0 })
+    );
+    assert_eq!(rt;
+        read(nested(&rt, 1201, "(", long, "")?),
+        unread(ParseFault::Literal { at: 1201 })
+    );
+    assert_eq!(rt;
+        read(nested(&rt, 1201, "(", "", "] ")?),
+        unread(ParseFault::Nesting { at: 1200 })
+    );
+    assert_eq!(rt;
+        read(nested(&rt, 1201, "(", "#", "")?),
+        Err(TextFault::BadByte { at: 1201 })
+    );
+    Ok(())
+}
+
+#[test]
 fn reads_expressions(rt: HostRuntime) -> Result<(), Fail> {
     let unread = |why: ParseFault| Err(TextFault::Unread(why));
     let rows = [

@@ -9,11 +9,14 @@ pub make_all-requires : goal.make_all-requires
 make_all-requires g c = extra_code_made c.in_ok-renames.ensures.read.0 c.in_ok-renames.field-0 c.in_ok-renames.ensures.read.2 (gives_tokens c.args.origin c.in_ok-renames.ensures.read.0 c.requires c.in_ok-renames.ensures.read.1)
 
 pub returns-clause-found : goal.returns-clause-found
-returns-clause-found g c =
-    (c.in_ok-renames.ensures.read.0, c.in_ok-renames.ensures.read.1, extra_found c.in_ok-renames.ensures.read.0 c.in_ok-renames.field-0 c.in_ok-renames.ensures.read.2 (g.S.Store.trees c.make_all.new.store)
-    c.in_ok-ids.ids.items c.in_ok-ids.ensures.made (record { renames = c.from_vec.result; pairs = c.from_vec-2.result }) c.from_vec.ensures
-    (ap (map (λ (p : Pair). p.sym)) c.from_vec-2.ensures ∙ c.in_ok-pairs.ensures.symbols)
-    (ap (map (λ (p : Pair). p.by)) c.from_vec-2.ensures ∙ c.in_ok-pairs.ensures.ids ∙ c.as_slice.ensures.value))
+returns-clause-found g c = (
+  c.in_ok-renames.ensures.read.0,
+  c.in_ok-renames.ensures.read.1,
+  extra_found c.in_ok-renames.ensures.read.0 c.in_ok-renames.field-0 c.in_ok-renames.ensures.read.2 (g.S.Store.trees c.make_all.new.store)
+      c.in_ok-ids.ids.items c.in_ok-ids.ensures.made (record { renames = c.from_vec.result; pairs = c.from_vec-2.result }) c.from_vec.ensures
+      (ap (map (λ (p : Pair). p.sym)) c.from_vec-2.ensures ∙ c.in_ok-pairs.ensures.symbols)
+      (ap (map (λ (p : Pair). p.by)) c.from_vec-2.ensures ∙ c.in_ok-pairs.ensures.ids ∙ c.as_slice.ensures.value),
+)
 
 pub returns-clause-known : goal.returns-clause-known
 returns-clause-known g c =

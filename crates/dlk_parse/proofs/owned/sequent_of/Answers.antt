@@ -14,9 +14,12 @@ split_off-requires g c =
     omega (arith, low, c.in_ok-ante.ante.ok.0)
 
 pub returns-clause-found : goal.returns-clause-found
-returns-clause-found g c =
-    (c.in_ok-sides.ensures.read.0, c.in_ok-sides.ensures.read.1, sequent_found c.in_ok-sides.ensures.read.0 c.in_ok-sides.sides c.in_ok-sides.ensures.read.2 (g.S.Store.trees c.make_all.new.store) c.in_ok-ante.ante.items c.in_ok-ante.ensures.made
-    (record { ante = c.from_vec.result; succ = c.from_vec-2.result }) (c.from_vec.ensures ∙ c.in_ok-succ.ensures.items) (c.from_vec-2.ensures ∙ c.in_ok-succ.ensures.tail))
+returns-clause-found g c = (
+  c.in_ok-sides.ensures.read.0,
+  c.in_ok-sides.ensures.read.1,
+  sequent_found c.in_ok-sides.ensures.read.0 c.in_ok-sides.sides c.in_ok-sides.ensures.read.2 (g.S.Store.trees c.make_all.new.store) c.in_ok-ante.ante.items c.in_ok-ante.ensures.made
+      (record { ante = c.from_vec.result; succ = c.from_vec-2.result }) (c.from_vec.ensures ∙ c.in_ok-succ.ensures.items) (c.from_vec-2.ensures ∙ c.in_ok-succ.ensures.tail),
+)
 
 pub returns-clause-formulas : goal.returns-clause-formulas
 returns-clause-formulas g c =
