@@ -34,11 +34,17 @@ def refused_at_end(length):
     return accepts
 
 
-def compared(title, words, accepts, old):
+def said(title, old_time, new_time):
     """Prints how many times the new program's time the old one takes."""
+    print(f"{title}: {old_time / new_time:.2f} times as fast", flush=True)
+
+
+def compared(title, words, accepts, old):
+    """The times of the old program and of the new one, once their ratio is printed."""
     new_time = common.least_processor_time(RUNS, words, accepts)
     old_time = common.least_processor_time(RUNS, words, accepts, old)
-    print(f"{title}: {old_time / new_time:.2f} times as fast", flush=True)
+    said(title, old_time, new_time)
+    return old_time, new_time
 
 
 def main():
@@ -47,10 +53,12 @@ def main():
         folder = pathlib.Path(name)
         model = folder / "model"
         proof = folder / "term"
+        pairs = []
         for title, text in texts():
             text = text.rstrip()
             model.write_text(text)
-            compared(f"{title}, {len(text)} bytes", ["check", model, model], refused_at_end(len(text)), old)
+            pairs.append(compared(f"{title}, {len(text)} bytes", ["check", model, model], refused_at_end(len(text)), old))
+        said("all of these", sum(pair[0] for pair in pairs), sum(pair[1] for pair in pairs))
         model.write_text("x>=0 -> x>=0\n")
         for count in (1_000, 30_000):
             text, lines = check.term(count)

@@ -12,6 +12,6 @@ pub returns : goal.returns
 returns c =
     reads_all (ReadsTokens (Comes Allowed extra_reader ShowsExtra IsCodeOfExtra) c.new.result) AnswersExtra
     (λ ts result r.
-        let h = reads Allowed extra_reader ShowsExtra IsCodeOfExtra c.new.result ts result c.new.ensures r in
-        record { says = extra_says ts result h; stops = extra_stops ts result h })
+    let h = reads Allowed extra_reader ShowsExtra IsCodeOfExtra c.new.result ts result c.new.ensures r in
+    record { says = extra_says ts result h; stops = extra_stops ts result h })
     c.args.source.now.origin c.read.new.source c.read.result c.read.ensures

@@ -12,6 +12,6 @@ pub returns : goal.returns
 returns c =
     reads_all (ReadsTokens (Comes Allowed pairs_reader ShowsPairs IsCodeOfPairs) c.new.result) AnswersPairs
     (λ ts result r.
-        let h = reads Allowed pairs_reader ShowsPairs IsCodeOfPairs c.new.result ts result c.new.ensures r in
-        record { says = pairs_says ts result h; stops = pairs_stops ts result h })
+    let h = reads Allowed pairs_reader ShowsPairs IsCodeOfPairs c.new.result ts result c.new.ensures r in
+    record { says = pairs_says ts result h; stops = pairs_stops ts result h })
     c.args.source.now.origin c.read.new.source c.read.result c.read.ensures

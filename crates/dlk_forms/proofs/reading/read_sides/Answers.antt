@@ -12,6 +12,6 @@ pub returns : goal.returns
 returns c =
     reads_all (ReadsTokens (Comes Refused sequent_reader ShowsSides IsCodeOf) c.new.result) AnswersSides
     (λ ts result r.
-        let h = reads Refused sequent_reader ShowsSides IsCodeOf c.new.result ts result c.new.ensures r in
-        record { says = sides_says ts result h; stops = sides_stops ts result h })
+    let h = reads Refused sequent_reader ShowsSides IsCodeOf c.new.result ts result c.new.ensures r in
+    record { says = sides_says ts result h; stops = sides_stops ts result h })
     c.args.source.now.origin c.read.new.source c.read.result c.read.ensures

@@ -11,6 +11,6 @@ returns c =
     let dots = c.args.dots in
     reads_all (ReadsTokens TreeComes c.new.result) (AnswersTree form dots)
     (λ ts result r.
-        let h = tree_reads dots form c.new.result ts result c.new.ensures r in
-        record { says = tree_says dots form ts result h; stops = tree_stops dots form ts result h })
+    let h = tree_reads dots form c.new.result ts result c.new.ensures r in
+    record { says = tree_says dots form ts result h; stops = tree_stops dots form ts result h })
     c.args.source.now.origin c.read.new.source c.read.result c.read.ensures
