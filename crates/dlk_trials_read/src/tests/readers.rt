@@ -2,7 +2,7 @@
 use super::*;
 use dlk_lex::{LexFault, tokens};
 use dlk_parse::{ParseFault, TextFault, read_extra, read_formula, read_sequent, read_substitution};
-use dlk_plain::PlainStore;
+use dlk_shared::SharedStore;
 use dlk_store::Store;
 use dlk_tacsyn::{TacSyntax, strategy};
 use dlk_termtext::{LineFault, read_line};
@@ -178,7 +178,7 @@ fn count_of(alloc: Global, byte: u8) -> Result<usize, LexFault> {
 #[test]
 fn reads_each_byte(rt: HostRuntime) {
     let alloc = rt.alloc();
-    let mut store = PlainStore::new(alloc);
+    let mut store = SharedStore::new(alloc);
     for byte in 0..=255u8 {
         meets_byte(&rt, alloc, byte, &mut store);
         let want = if is_blank(byte) {
@@ -262,7 +262,7 @@ fn meets_texts<S: Store>(rt: &impl Abort, alloc: Global, store: &mut S) -> Resul
 #[test]
 fn reads_changed_texts(rt: HostRuntime) -> Result<(), Fail> {
     let alloc = rt.alloc();
-    let mut store = PlainStore::new(alloc);
+    let mut store = SharedStore::new(alloc);
     meets_texts(&rt, alloc, &mut store)?;
     Ok(())
 }
