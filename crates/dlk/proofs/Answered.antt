@@ -2,12 +2,12 @@
 use Rattle.std.proofs.Common.{◌≡◌, ◌↔◌, ◌<◌, ℕ, List, map, length, Option, None, Some, IsSome, IsNone, option_map, Vec, refl, ap, sym, subst, ◌∙◌, arith}
 use Rattle.std.specs.declared.alloc.Global.{Global}
 use Rattle.dlk_desk.specs.Outside.{Outside, Files}
-use Rattle.dlk_answers.specs.declared.command.Command.{Command}
-use Rattle.dlk_answers.specs.Forms.{Word, form_of, command_of, limit_of, limits_of, inputs_of, others_of}
-use Rattle.dlk_answers.specs.Inputs.{inputs, inputs_of_form, limits, limits_of_form}
-use Rattle.dlk_answers.specs.declared.form.Form.{Form as CodeForm}
-use Rattle.dlk_answers.specs.Shown.{form_shown}
-use Rattle.dlk_answers.specs.Replies.{Reply}
+use Rattle.dlk_replies.specs.declared.command.Command.{Command}
+use Rattle.dlk_replies.specs.Forms.{Word, form_of, command_of, limit_of, limits_of, inputs_of, others_of}
+use Rattle.dlk_replies.specs.Inputs.{inputs, inputs_of_form, limits, limits_of_form}
+use Rattle.dlk_replies.specs.declared.form.Form.{Form as CodeForm}
+use Rattle.dlk_replies.specs.Shown.{form_shown}
+use Rattle.dlk_replies.specs.Replies.{Reply}
 use Rattle.dlk_answers.specs.Answers.{Does, Responds, refuses, does}
 use Rattle.dlk.specs.Answers.{bytes_of, Answers, command}
 use Rattle.dlk.specs.Cuts.{cut_bytes_of}

@@ -6,8 +6,8 @@ use Rattle.dlk_calculus.specs.Places.{At}
 use Rattle.dlk_calculus.proofs.PlaceLaws.{At_read}
 use Rattle.dlk_desk.specs.Outside.{Outside, SameFiles}
 use Rattle.dlk_transfer.specs.Transfer.{LosesAtMost, TookUpTo, NeverStarted, StartedAndTook, ReadUpTo}
-use Rattle.dlk_answers.specs.Forms.{Word, limit_of}
-use Rattle.dlk_answers.specs.declared.form.Role.{Role}
+use Rattle.dlk_replies.specs.Forms.{Word, limit_of}
+use Rattle.dlk_replies.specs.declared.form.Role.{Role}
 use Rattle.dlk.specs.Runs.{AsksFor}
 
 -- what was read whole, or to one byte past the limit, was started and took so much

@@ -5,9 +5,9 @@ use Rattle.std.proofs.lemmas.List.{length-take, take_all, drop_more}
 use Rattle.std.specs.declared.alloc.Global.{Global}
 use Rattle.std.proofs.lemmas.Bool.Decides.{nat_tests}
 use Rattle.dlk_desk.specs.Outside.{Files}
-use Rattle.dlk_answers.specs.Forms.{Word, limit_of}
-use Rattle.dlk_answers.specs.declared.form.Role.{Role}
-use Rattle.dlk_answers.specs.Inputs.{first_too_long}
+use Rattle.dlk_replies.specs.Forms.{Word, limit_of}
+use Rattle.dlk_replies.specs.declared.form.Role.{Role}
+use Rattle.dlk_replies.specs.Inputs.{first_too_long}
 use Rattle.dlk.specs.Answers.{bytes_of}
 use Rattle.dlk.specs.Cuts.{cut_bytes_of}
 

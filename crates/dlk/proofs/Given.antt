@@ -4,7 +4,7 @@ use Rattle.std.proofs.lemmas.Bool.{true≢false}
 use Rattle.std.proofs.lemmas.Slice.Eq.{bytes_eq-Decides}
 use Rattle.std.specs.Prelude.{cond, bytes_eq}
 use Rattle.dlk_desk.specs.Outside.{Files, SameFiles, SameOtherFiles}
-use Rattle.dlk_answers.specs.Forms.{Word}
+use Rattle.dlk_replies.specs.Forms.{Word}
 use Rattle.dlk.specs.Outputs.{Output, output_with, written_to, after, WrittenInPart}
 
 -- the same files but for those that were the same before

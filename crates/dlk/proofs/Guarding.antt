@@ -7,15 +7,15 @@ use Rattle.dlk_desk.specs.Outside.{Outside}
 use Rattle.dlk_guard.specs.declared.why.Why.{Why}
 use Rattle.dlk_guard.specs.Guarded.{lines, Guarded, FirstUnguarded}
 use Rattle.dlk_replay.specs.Files.{file_lines, Answer, accepted, Verdict}
-use Rattle.dlk_answers.specs.declared.command.Command.{Command}
-use Rattle.dlk_answers.specs.declared.command.Command.TheVariants.{Guard}
-use Rattle.dlk_answers.specs.declared.reply.Layout.TheVariants.{Text}
-use Rattle.dlk_answers.specs.declared.reply.Showing.TheVariants.{Reported}
-use Rattle.dlk_answers.specs.Forms.{Word, inputs_of}
-use Rattle.dlk_answers.specs.Inputs.{inputs, inputs_of_form}
-use Rattle.dlk_answers.specs.Replies.{Reply, code_of}
-use Rattle.dlk_answers.specs.Checks.{Checks, bad_model, bad_line, bad_conclusion, reports, ModelText, Accepts}
-use Rattle.dlk_answers.specs.Guards.{Guards, refuses as refuses_term, guards, GuardSays, is_guarded, is_unguarded, guarded_line, unguarded_line}
+use Rattle.dlk_replies.specs.declared.command.Command.{Command}
+use Rattle.dlk_replies.specs.declared.command.Command.TheVariants.{Guard}
+use Rattle.dlk_replies.specs.declared.reply.Layout.TheVariants.{Text}
+use Rattle.dlk_replies.specs.declared.reply.Showing.TheVariants.{Reported}
+use Rattle.dlk_replies.specs.Forms.{Word, inputs_of}
+use Rattle.dlk_replies.specs.Inputs.{inputs, inputs_of_form}
+use Rattle.dlk_replies.specs.Replies.{Reply, code_of}
+use Rattle.dlk_jobs_check.specs.Checks.{Checks, bad_model, bad_line, bad_conclusion, reports, ModelText, Accepts}
+use Rattle.dlk_jobs_check.specs.Guards.{Guards, refuses as refuses_term, guards, GuardSays, is_guarded, is_unguarded, guarded_line, unguarded_line}
 use Rattle.dlk_answers.specs.Answers.{Does, Responds, refuses, does}
 use Rattle.dlk.specs.Answers.{bytes_of, Answers, no_form, command}
 use Rattle.dlk.specs.Runs.{GivesWhole}

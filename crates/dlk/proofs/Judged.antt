@@ -7,18 +7,18 @@ use Rattle.dlk_calculus.specs.Sequents.{Sequent}
 use Rattle.dlk_calculus.proofs.Leaves.{Derives-leaves}
 use Rattle.dlk_desk.specs.Outside.{Outside}
 use Rattle.dlk_report.specs.Reports.{is_closed}
-use Rattle.dlk_answers.specs.declared.command.Command.{Command}
-use Rattle.dlk_answers.specs.declared.reply.Layout.{Layout}
-use Rattle.dlk_answers.specs.declared.reply.Layout.TheVariants.{Text, Json}
-use Rattle.dlk_answers.specs.declared.reply.Showing.TheVariants.{Reported}
-use Rattle.dlk_answers.specs.declared.form.Role.TheVariants.{Model, Term}
-use Rattle.dlk_answers.specs.Forms.{Word, inputs_of, limits_of, limit_of}
-use Rattle.dlk_answers.specs.Inputs.{first_too_long, inputs, inputs_of_form}
-use Rattle.dlk_answers.specs.Replies.{Reply, code_of}
-use Rattle.dlk_answers.specs.Checks.{Checks, bad_model, bad_line, bad_conclusion, reports, ModelText, proves, status_of, line_refused, other_conclusion, reported}
+use Rattle.dlk_replies.specs.declared.command.Command.{Command}
+use Rattle.dlk_replies.specs.declared.reply.Layout.{Layout}
+use Rattle.dlk_replies.specs.declared.reply.Layout.TheVariants.{Text, Json}
+use Rattle.dlk_replies.specs.declared.reply.Showing.TheVariants.{Reported}
+use Rattle.dlk_replies.specs.declared.form.Role.TheVariants.{Model, Term}
+use Rattle.dlk_replies.specs.Forms.{Word, inputs_of, limits_of, limit_of}
+use Rattle.dlk_replies.specs.Inputs.{first_too_long, inputs, inputs_of_form}
+use Rattle.dlk_replies.specs.Replies.{Reply, code_of}
+use Rattle.dlk_jobs_check.specs.Checks.{Checks, bad_model, bad_line, bad_conclusion, reports, ModelText, proves, status_of, line_refused, other_conclusion, reported}
 use Rattle.dlk_answers.specs.Answers.{Does, Responds, refuses, does}
-use Rattle.dlk_answers.proofs.Ends.{one_model, model_or_fault}
-use Rattle.dlk_answers.proofs.OneReply.{one_check}
+use Rattle.dlk_jobs_check.proofs.Ends.{one_model, model_or_fault}
+use Rattle.dlk_jobs_check.proofs.OneReply.{one_check}
 use Rattle.dlk.specs.Answers.{bytes_of, Answers, no_form, command}
 use Rattle.dlk.specs.Headline.{command_in, RunsCheck, IsReported, NamesLine, NamesConclusion, Judges, JudgesTruly}
 use Rattle.dlk.proofs.Truly.{accepted_derived}

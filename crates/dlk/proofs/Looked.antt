@@ -5,16 +5,17 @@ use Rattle.std.proofs.lemmas.List.{append_cancel_left}
 use Rattle.dlk_tree.specs.Trees.{Tree}
 use Rattle.dlk_calculus.specs.Pairs.{Pair}
 use Rattle.dlk_desk.specs.Outside.{Outside, Files}
-use Rattle.dlk_answers.specs.declared.command.Command.{Command}
-use Rattle.dlk_answers.specs.declared.command.Command.TheVariants.{Subst}
-use Rattle.dlk_answers.specs.declared.reply.Status.{Status}
-use Rattle.dlk_answers.specs.declared.reply.Status.TheVariants.{Closed, Done, Open, Refused, Words}
-use Rattle.dlk_answers.specs.Forms.{Word, command_of, inputs_of, limits_of, others_of}
-use Rattle.dlk_answers.specs.Inputs.{inputs, inputs_of_form}
-use Rattle.dlk_answers.specs.Replies.{Reply, code_of, printing}
+use Rattle.dlk_replies.specs.declared.command.Command.{Command}
+use Rattle.dlk_replies.specs.declared.command.Command.TheVariants.{Subst}
+use Rattle.dlk_replies.specs.declared.reply.Status.{Status}
+use Rattle.dlk_replies.specs.declared.reply.Status.TheVariants.{Closed, Done, Open, Refused, Words}
+use Rattle.dlk_replies.specs.Forms.{Word, command_of, inputs_of, limits_of, others_of}
+use Rattle.dlk_replies.specs.Inputs.{inputs, inputs_of_form}
+use Rattle.dlk_replies.specs.Replies.{Reply, code_of, printing}
 use Rattle.dlk_answers.specs.Answers.{Does, Responds, refuses, does, too_long}
-use Rattle.dlk_answers.specs.Substitutes.{Substitutes, AreRead}
-use Rattle.dlk_answers.specs.Looks.{RefusesResult, subst_looks, CommandLooksAtFew}
+use Rattle.dlk_jobs_text.specs.Substitutes.{Substitutes, AreRead}
+use Rattle.dlk_jobs_text.specs.Looks.{RefusesResult, subst_looks}
+use Rattle.dlk_answers.specs.Looks.{CommandLooksAtFew}
 use Rattle.dlk.specs.Answers.{bytes_of, Answers, no_form, command}
 use Rattle.dlk.specs.Cuts.{cut_bytes_of}
 use Rattle.dlk.specs.Looks.{LooksAtFewFor, LooksAtFew}

@@ -1,9 +1,9 @@
 -- There is one answer to words and files.
 use Rattle.std.proofs.Common.{◌≡◌, ℕ, List, None, Some, refl, sym, subst, ◌∙◌}
 use Rattle.dlk_desk.specs.Outside.{Files}
-use Rattle.dlk_answers.specs.declared.command.Command.{Command}
-use Rattle.dlk_answers.specs.Forms.{Word}
-use Rattle.dlk_answers.specs.Replies.{Reply}
+use Rattle.dlk_replies.specs.declared.command.Command.{Command}
+use Rattle.dlk_replies.specs.Forms.{Word}
+use Rattle.dlk_replies.specs.Replies.{Reply}
 use Rattle.dlk_answers.specs.Answers.{Responds}
 use Rattle.dlk.specs.Answers.{Answers, no_form, command}
 

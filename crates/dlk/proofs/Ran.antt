@@ -3,9 +3,9 @@ use Rattle.std.proofs.Common.{◌≡◌, ◌≢◌, ◌≤◌, ℕ, List, ◌++�
 use Rattle.dlk_desk.specs.Outside.{Outside, SameFiles}
 use Rattle.dlk_desk.specs.Desk.{OnlyReads, OnlyWrites}
 use Rattle.dlk_transfer.specs.Transfer.{GrowsByFront}
-use Rattle.dlk_answers.specs.Forms.{Word}
-use Rattle.dlk_answers.specs.Inputs.{inputs, limits, output}
-use Rattle.dlk_answers.specs.Replies.{Reply, code_of}
+use Rattle.dlk_replies.specs.Forms.{Word}
+use Rattle.dlk_replies.specs.Inputs.{inputs, limits, output}
+use Rattle.dlk_replies.specs.Replies.{Reply, code_of}
 use Rattle.dlk.specs.Answers.{Answers}
 use Rattle.dlk.specs.Outputs.{output_with, after, WrittenInPart}
 use Rattle.dlk.specs.Runs.{AsksFor, Asks, StartsNoWrite, Keeps, GivesWhole, BreaksOff, output_to}

@@ -1,11 +1,11 @@
 -- Where each input is there, something is answered to words and files.
 use Rattle.std.proofs.Common.{◌≡◌, ℕ, ◌≤◌, ◌+◌, List, [], ◌∷◌, length, drop, Option, None, Some, IsSome, option_map, option_and_then, refl, ap, subst, ◌∙◌, arith, length-take, length-drop}
 use Rattle.dlk_desk.specs.Outside.{Files}
-use Rattle.dlk_answers.specs.declared.command.Command.{Command}
-use Rattle.dlk_answers.specs.Forms.{Word, form_of, command_of, inputs_of}
-use Rattle.dlk_answers.specs.Inputs.{inputs, inputs_of_form}
-use Rattle.dlk_answers.specs.Replies.{Reply, refused_words}
-use Rattle.dlk_answers.proofs.Fits.{long_enough}
+use Rattle.dlk_replies.specs.declared.command.Command.{Command}
+use Rattle.dlk_replies.specs.Forms.{Word, form_of, command_of, inputs_of}
+use Rattle.dlk_replies.specs.Inputs.{inputs, inputs_of_form}
+use Rattle.dlk_replies.specs.Replies.{Reply, refused_words}
+use Rattle.dlk_replies.proofs.Fits.{long_enough}
 use Rattle.dlk_answers.specs.Answers.{Responds}
 use Rattle.dlk.specs.Answers.{bytes_of, Answers, no_form, command}
 

@@ -16,18 +16,19 @@ use Rattle.dlk_replay.specs.Files.{file_lines}
 use Rattle.dlk_replay.proofs.Verdicts.{accepted_history}
 use Rattle.dlk_tacsyn.specs.Faults.{Fault, Syntax as Syntax', Nesting as Nesting', Repeat, UnknownAtom, Arguments}
 use Rattle.dlk_recorder.specs.Terms.{term_text}
-use Rattle.dlk_report.specs.Reports.{is_closed, line, first_word, text_report}
-use Rattle.dlk_answers.specs.declared.command.Command.{Command}
-use Rattle.dlk_answers.specs.declared.command.Command.TheVariants.{Check, Print, Vars, Subst, Report, Smt, Guard, Prove, Gen}
-use Rattle.dlk_answers.specs.declared.reply.Layout.TheVariants.{Text}
-use Rattle.dlk_answers.specs.declared.reply.Showing.TheVariants.{Reported}
-use Rattle.dlk_answers.specs.declared.form.Role.TheVariants.{Model, Term}
-use Rattle.dlk_answers.specs.Forms.{Word, command_of, inputs_of, limit_of}
-use Rattle.dlk_answers.specs.Inputs.{inputs, inputs_of_form, output}
-use Rattle.dlk_answers.specs.Replies.{Reply, code_of, printing}
-use Rattle.dlk_answers.specs.Refusals.{text_refused}
-use Rattle.dlk_answers.specs.Checks.{Checks, bad_model, bad_line, bad_conclusion, reports, Accepts, reported, status_of}
-use Rattle.dlk_answers.specs.Proves.{Proves, bad_model as proves_fault, bad_strategy, fails, spent, too_long, proves, strategy_refused, proved}
+use Rattle.dlk_print.specs.Lines.{line}
+use Rattle.dlk_report.specs.Reports.{is_closed, first_word, text_report}
+use Rattle.dlk_replies.specs.declared.command.Command.{Command}
+use Rattle.dlk_replies.specs.declared.command.Command.TheVariants.{Check, Print, Vars, Subst, Report, Smt, Guard, Prove, Gen}
+use Rattle.dlk_replies.specs.declared.reply.Layout.TheVariants.{Text}
+use Rattle.dlk_replies.specs.declared.reply.Showing.TheVariants.{Reported}
+use Rattle.dlk_replies.specs.declared.form.Role.TheVariants.{Model, Term}
+use Rattle.dlk_replies.specs.Forms.{Word, command_of, inputs_of, limit_of}
+use Rattle.dlk_replies.specs.Inputs.{inputs, inputs_of_form, output}
+use Rattle.dlk_replies.specs.Replies.{Reply, code_of, printing}
+use Rattle.dlk_replies.specs.Refusals.{text_refused}
+use Rattle.dlk_jobs_check.specs.Checks.{Checks, bad_model, bad_line, bad_conclusion, reports, Accepts, reported, status_of}
+use Rattle.dlk_jobs_prove.specs.Proves.{Proves, bad_model as proves_fault, bad_strategy, fails, spent, too_long, proves, strategy_refused, proved}
 use Rattle.dlk_answers.specs.Answers.{Does, Responds, refuses, does, too_long as too_long_reply}
 use Rattle.dlk.specs.Answers.{bytes_of, Answers, no_form, command}
 use Rattle.dlk.specs.Outputs.{output_with, after}

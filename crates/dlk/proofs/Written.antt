@@ -6,14 +6,14 @@ use Rattle.dlk_grammar.specs.Readings.{Literal, Nesting, Syntax, Shape, TooBig, 
 use Rattle.dlk_grammar.specs.Texts.{TextFault, BadByte, Unread}
 use Rattle.dlk_tacsyn.specs.Faults.{Fault, Syntax as Syntax', Nesting as Nesting', Repeat, UnknownAtom, Arguments}
 use Rattle.dlk_recorder.specs.Terms.{term_text}
-use Rattle.dlk_answers.specs.declared.command.Command.{Command}
-use Rattle.dlk_answers.specs.declared.command.Command.TheVariants.{Prove}
-use Rattle.dlk_answers.specs.declared.form.Role.TheVariants.{Model}
-use Rattle.dlk_answers.specs.Forms.{Word, command_of, inputs_of}
-use Rattle.dlk_answers.specs.Inputs.{inputs, inputs_of_form}
-use Rattle.dlk_answers.specs.Replies.{Reply, code_of, printing}
-use Rattle.dlk_answers.specs.Refusals.{text_refused}
-use Rattle.dlk_answers.specs.Proves.{Proves, bad_model, bad_strategy, fails, spent, too_long, proves, strategy_refused, proved}
+use Rattle.dlk_replies.specs.declared.command.Command.{Command}
+use Rattle.dlk_replies.specs.declared.command.Command.TheVariants.{Prove}
+use Rattle.dlk_replies.specs.declared.form.Role.TheVariants.{Model}
+use Rattle.dlk_replies.specs.Forms.{Word, command_of, inputs_of}
+use Rattle.dlk_replies.specs.Inputs.{inputs, inputs_of_form}
+use Rattle.dlk_replies.specs.Replies.{Reply, code_of, printing}
+use Rattle.dlk_replies.specs.Refusals.{text_refused}
+use Rattle.dlk_jobs_prove.specs.Proves.{Proves, bad_model, bad_strategy, fails, spent, too_long, proves, strategy_refused, proved}
 use Rattle.dlk_answers.specs.Answers.{Does, Responds, refuses, does}
 use Rattle.dlk.specs.Answers.{bytes_of, Answers, no_form, command}
 use Rattle.dlk.specs.Outputs.{after}

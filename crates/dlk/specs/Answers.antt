@@ -1,9 +1,9 @@
 -- What the program answers to its words and files.
 use Rattle.std.specs.Prelude.{◌≡◌, ℕ, List, [], ◌∷◌, Option, Some, None, option_map, option_and_then}
 use Rattle.dlk_desk.specs.Outside.{Files}
-use Rattle.dlk_answers.specs.declared.command.Command.{Command}
-use Rattle.dlk_answers.specs.Forms.{Word, command_of, inputs_of}
-use Rattle.dlk_answers.specs.Replies.{Reply, refused_words}
+use Rattle.dlk_replies.specs.declared.command.Command.{Command}
+use Rattle.dlk_replies.specs.Forms.{Word, command_of, inputs_of}
+use Rattle.dlk_replies.specs.Replies.{Reply, refused_words}
 use Rattle.dlk_answers.specs.Answers.{Responds}
 
 -- the bytes of all these files, if each is there

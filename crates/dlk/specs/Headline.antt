@@ -9,17 +9,17 @@ use Rattle.dlk_guard.specs.Guarded.{lines, Guarded, FirstUnguarded}
 use Rattle.dlk_replay.specs.Files.{Verdict, bad, file_lines, SaySteps}
 use Rattle.dlk_replay.specs.declared.fault.LineWhy.{LineWhy}
 use Rattle.dlk_report.specs.Reports.{text_report}
-use Rattle.dlk_answers.specs.declared.command.Command.{Command}
-use Rattle.dlk_answers.specs.declared.command.Command.TheVariants.{Check, Print, Vars, Subst, Report, Smt, Guard, Prove, Gen}
-use Rattle.dlk_answers.specs.declared.reply.Layout.{Layout}
-use Rattle.dlk_answers.specs.declared.reply.Layout.TheVariants.{Text, Json}
-use Rattle.dlk_answers.specs.declared.reply.Showing.TheVariants.{Reported}
-use Rattle.dlk_answers.specs.declared.form.Role.TheVariants.{Model, Term}
-use Rattle.dlk_answers.specs.Forms.{Word, command_of, limit_of}
-use Rattle.dlk_answers.specs.Inputs.{inputs, output}
-use Rattle.dlk_answers.specs.Replies.{Reply, code_of}
-use Rattle.dlk_answers.specs.Checks.{Checks, ModelText, proves, Accepts, report_in, line_refused, other_conclusion}
-use Rattle.dlk_answers.specs.Guards.{guarded_line, unguarded_line}
+use Rattle.dlk_replies.specs.declared.command.Command.{Command}
+use Rattle.dlk_replies.specs.declared.command.Command.TheVariants.{Check, Print, Vars, Subst, Report, Smt, Guard, Prove, Gen}
+use Rattle.dlk_replies.specs.declared.reply.Layout.{Layout}
+use Rattle.dlk_replies.specs.declared.reply.Layout.TheVariants.{Text, Json}
+use Rattle.dlk_replies.specs.declared.reply.Showing.TheVariants.{Reported}
+use Rattle.dlk_replies.specs.declared.form.Role.TheVariants.{Model, Term}
+use Rattle.dlk_replies.specs.Forms.{Word, command_of, limit_of}
+use Rattle.dlk_replies.specs.Inputs.{inputs, output}
+use Rattle.dlk_replies.specs.Replies.{Reply, code_of}
+use Rattle.dlk_jobs_check.specs.Checks.{Checks, ModelText, proves, Accepts, report_in, line_refused, other_conclusion}
+use Rattle.dlk_jobs_check.specs.Guards.{guarded_line, unguarded_line}
 use Rattle.dlk.specs.Answers.{bytes_of}
 
 -- `prove` was run on this model and a strategy, and this term stands in the file that it writes.

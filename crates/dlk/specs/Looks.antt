@@ -3,12 +3,12 @@ use Rattle.std.specs.Prelude.{◌≡◌, ◌⊎◌, ◌+◌, ◌≤◌, ℕ, Lis
 use Rattle.dlk_tree.specs.Trees.{Tree}
 use Rattle.dlk_calculus.specs.Pairs.{Pair}
 use Rattle.dlk_desk.specs.Outside.{Outside, Files}
-use Rattle.dlk_answers.specs.declared.command.Command.TheVariants.{Subst}
-use Rattle.dlk_answers.specs.Forms.{Word, command_of}
-use Rattle.dlk_answers.specs.Inputs.{inputs}
-use Rattle.dlk_answers.specs.Replies.{Reply}
-use Rattle.dlk_answers.specs.Substitutes.{AreRead}
-use Rattle.dlk_answers.specs.Looks.{RefusesResult, subst_looks}
+use Rattle.dlk_replies.specs.declared.command.Command.TheVariants.{Subst}
+use Rattle.dlk_replies.specs.Forms.{Word, command_of}
+use Rattle.dlk_replies.specs.Inputs.{inputs}
+use Rattle.dlk_replies.specs.Replies.{Reply}
+use Rattle.dlk_jobs_text.specs.Substitutes.{AreRead}
+use Rattle.dlk_jobs_text.specs.Looks.{RefusesResult, subst_looks}
 use Rattle.dlk.specs.Answers.{bytes_of, Answers}
 
 -- the words have `subst`, run on files that are texts of this expression and of these pairs

@@ -1,7 +1,7 @@
 -- The file that a reply writes.
 use Rattle.std.specs.Prelude.{◌⊎◌, ℕ, List, take, Option, Some, None, if◌then◌else◌, bytes_eq}
 use Rattle.dlk_desk.specs.Outside.{Files, SameFiles}
-use Rattle.dlk_answers.specs.Forms.{Word}
+use Rattle.dlk_replies.specs.Forms.{Word}
 
 -- a file's name, and the bytes that it is to hold
 pub record Output : Type 0 where

@@ -4,9 +4,9 @@ use Rattle.dlk_calculus.specs.Places.{At}
 use Rattle.dlk_desk.specs.Outside.{Outside, Rose, SameFiles}
 use Rattle.dlk_desk.specs.Desk.{OnlyReads}
 use Rattle.dlk_transfer.specs.Transfer.{GrowsByFront, LosesAtMost}
-use Rattle.dlk_answers.specs.Forms.{Word, command_of}
-use Rattle.dlk_answers.specs.Inputs.{inputs, limits, output}
-use Rattle.dlk_answers.specs.Replies.{Reply, code_of}
+use Rattle.dlk_replies.specs.Forms.{Word, command_of}
+use Rattle.dlk_replies.specs.Inputs.{inputs, limits, output}
+use Rattle.dlk_replies.specs.Replies.{Reply, code_of}
 use Rattle.dlk.specs.Answers.{bytes_of, Answers}
 use Rattle.dlk.specs.Outputs.{Output, output_with, after, WrittenInPart}
 

@@ -1,7 +1,7 @@
 // What is said on standard error where there is no answer. It says nothing of an answer, and no contract speaks of it.
 
 use crate::run::{NO_MEMORY, READ_FAULT, WRITE_FAULT};
-use dlk_answers::{Command, Status};
+use dlk_replies::{Command, Status};
 use std::io::{Eprint, Result};
 
 /// The status where the words of the command line can't be had.

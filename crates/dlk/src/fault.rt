@@ -1,7 +1,7 @@
 // Why nothing is answered.
 ghost use Rattle.std.specs.Prelude.{◌≡◌};
 
-use dlk_answers::NoReply;
+use dlk_replies::NoReply;
 use dlk_transfer::ReadError;
 use thiserror::Error;
 

@@ -3,12 +3,12 @@ ghost use Rattle.std.specs.Prelude.{◌≡◌, ◌⊎◌, ◌++◌, OnOk, OnErr,
 ghost use Rattle.dlk_desk.specs.Outside.{Rose, SameFiles};
 ghost use Rattle.dlk_desk.specs.Desk.{OnlyWrites};
 ghost use Rattle.dlk_transfer.specs.Transfer.{GrowsByFront};
-ghost use Rattle.dlk_answers.specs.Shown.{reply_of};
+ghost use Rattle.dlk_replies.specs.Shown.{reply_of};
 ghost use Rattle.dlk.specs.Outputs.{output_with, after, WrittenInPart};
 ghost use Rattle.dlk.specs.Runs.{StartsNoWrite};
 
-use dlk_answers::Reply;
 use dlk_desk::{Desk, Failed};
+use dlk_replies::Reply;
 use dlk_transfer::{print_all, write_all};
 
 /// Writes the file of a reply, if there are a name and bytes for it.

@@ -1,9 +1,9 @@
 //! The laws of the program's answers. Each is a contract of a function that does nothing but call the law below it.
 ghost use Rattle.std.specs.Prelude.{◌≡◌, List, IsSome};
 ghost use Rattle.dlk_desk.specs.Outside.{Files};
-ghost use Rattle.dlk_answers.specs.Forms.{Word};
-ghost use Rattle.dlk_answers.specs.Inputs.{inputs};
-ghost use Rattle.dlk_answers.specs.Replies.{Reply as TheReply};
+ghost use Rattle.dlk_replies.specs.Forms.{Word};
+ghost use Rattle.dlk_replies.specs.Inputs.{inputs};
+ghost use Rattle.dlk_replies.specs.Replies.{Reply as TheReply};
 ghost use Rattle.dlk.specs.Answers.{bytes_of, Answers};
 
 use dlk_answers::laws::{one_response, some_response};

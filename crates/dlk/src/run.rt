@@ -3,10 +3,10 @@ ghost use Rattle.std.specs.Prelude.{◌≡◌, ℕ, ◌<◌, ◌≤◌, ◌++◌
 ghost use Rattle.dlk_desk.specs.Outside.{Rose};
 ghost use Rattle.dlk_desk.specs.Desk.{OnlyReads};
 ghost use Rattle.dlk_transfer.specs.declared.transfer.ReadError.TheVariants.{Fault};
-ghost use Rattle.dlk_answers.specs.Forms.{limit_of, command_of};
-ghost use Rattle.dlk_answers.specs.Inputs.{inputs as inputs_named, limits as limits_named};
-ghost use Rattle.dlk_answers.specs.Replies.{code_of};
-ghost use Rattle.dlk_answers.specs.Shown.{texts_of, reply_of};
+ghost use Rattle.dlk_replies.specs.Forms.{limit_of, command_of};
+ghost use Rattle.dlk_replies.specs.Inputs.{inputs as inputs_named, limits as limits_named};
+ghost use Rattle.dlk_replies.specs.Replies.{code_of};
+ghost use Rattle.dlk_replies.specs.Shown.{texts_of, reply_of};
 ghost use Rattle.dlk.specs.Cuts.{cut_bytes_of};
 ghost use Rattle.dlk.specs.Answers.{Answers};
 ghost use Rattle.dlk.specs.Runs.{Caused, AsksFor, Asks, Keeps, HasInputs, Answered, Completes};
@@ -15,10 +15,11 @@ ghost use Rattle.dlk.specs.Looks.{LooksAtFewFor, LooksAtFew};
 
 use crate::fault::NoAnswer;
 use crate::give::give;
-use dlk_answers::laws::proved_is_checked;
-use dlk_answers::{Command, Reply, Role, output, respond, words_refused};
+use dlk_answers::{respond, words_refused};
 use dlk_desk::Desk;
+use dlk_jobs_prove::laws::proved_is_checked;
 use dlk_replay::one_verdict;
+use dlk_replies::{Command, Reply, Role, output};
 use dlk_store::Steps;
 use dlk_transfer::{ReadError, read_all};
 use std::alloc::Global;

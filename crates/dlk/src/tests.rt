@@ -5,8 +5,8 @@ ghost use Rattle.std.specs.Prelude.{◌≤◌};
 
 use crate::give::give;
 use crate::start;
-use dlk_answers::{Reply, Status};
 use dlk_desk::MemoryDesk;
+use dlk_replies::{Reply, Status};
 use std::alloc::{AllocError, Global};
 use std::marker::Brand;
 use std::sync::ledger::Blank;

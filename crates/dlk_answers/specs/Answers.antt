@@ -1,19 +1,19 @@
 -- What the program answers to its words and to the texts of its inputs.
 use Rattle.std.specs.Prelude.{◌≡◌, ℕ, List, [], ◌∷◌, ◌++◌, Some, None, codes}
-use Rattle.dlk_answers.specs.declared.command.Command.{Command}
-use Rattle.dlk_answers.specs.declared.command.Command.TheVariants.{Check, Print, Vars, Subst, Report, Smt, Guard, Prove, Gen}
-use Rattle.dlk_answers.specs.declared.reply.Layout.TheVariants.{Text, Json}
-use Rattle.dlk_answers.specs.declared.reply.Showing.TheVariants.{Reported, Exported}
-use Rattle.dlk_answers.specs.Forms.{Word, inputs_of, others_of, limits_of}
-use Rattle.dlk_answers.specs.Inputs.{first_too_long}
-use Rattle.dlk_answers.specs.Replies.{Reply, refusal}
-use Rattle.dlk_answers.specs.Checks.{Checks}
-use Rattle.dlk_answers.specs.Guards.{Guards}
-use Rattle.dlk_answers.specs.Prints.{Prints}
-use Rattle.dlk_answers.specs.Lists.{Lists}
-use Rattle.dlk_answers.specs.Substitutes.{Substitutes}
-use Rattle.dlk_answers.specs.Proves.{Proves}
-use Rattle.dlk_answers.specs.Generates.{Generates}
+use Rattle.dlk_replies.specs.declared.command.Command.{Command}
+use Rattle.dlk_replies.specs.declared.command.Command.TheVariants.{Check, Print, Vars, Subst, Report, Smt, Guard, Prove, Gen}
+use Rattle.dlk_replies.specs.declared.reply.Layout.TheVariants.{Text, Json}
+use Rattle.dlk_replies.specs.declared.reply.Showing.TheVariants.{Reported, Exported}
+use Rattle.dlk_replies.specs.Forms.{Word, inputs_of, others_of, limits_of}
+use Rattle.dlk_replies.specs.Inputs.{first_too_long}
+use Rattle.dlk_replies.specs.Replies.{Reply, refusal}
+use Rattle.dlk_jobs_check.specs.Checks.{Checks}
+use Rattle.dlk_jobs_check.specs.Guards.{Guards}
+use Rattle.dlk_jobs_text.specs.Prints.{Prints}
+use Rattle.dlk_jobs_text.specs.Lists.{Lists}
+use Rattle.dlk_jobs_text.specs.Substitutes.{Substitutes}
+use Rattle.dlk_jobs_prove.specs.Proves.{Proves}
+use Rattle.dlk_jobs_prove.specs.Generates.{Generates}
 use Rattle.dlk_grammar.specs.Tokens.{value}
 
 abbrev pub too_long : Word → Reply

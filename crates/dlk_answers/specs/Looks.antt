@@ -1,29 +1,9 @@
--- How many nodes `subst` looks at where it refuses what a substitution makes.
-use Rattle.std.specs.Prelude.{◌≡◌, ◌⊎◌, ◌+◌, ◌*◌, ◌≤◌, ℕ, List, [], ◌∷◌, length, codes}
-use Rattle.dlk_tree.specs.Trees.{Tree}
-use Rattle.dlk_calculus.specs.Pairs.{Pair}
-use Rattle.dlk_memo.specs.Looks.{most_looks}
-use Rattle.dlk_answers.specs.declared.command.Command.{Command}
-use Rattle.dlk_answers.specs.declared.command.Command.TheVariants.{Subst}
-use Rattle.dlk_answers.specs.Replies.{Reply, refusal}
-use Rattle.dlk_answers.specs.Substitutes.{AreRead, Substitutes}
+-- How many nodes a command looks at that refuses what a substitution makes.
+use Rattle.std.specs.Prelude.{◌≡◌, ℕ, List, [], ◌∷◌}
+use Rattle.dlk_jobs_text.specs.Looks.{LooksAtFew}
+use Rattle.dlk_replies.specs.declared.command.Command.{Command}
+use Rattle.dlk_replies.specs.declared.command.Command.TheVariants.{Subst}
 
--- the refusals of what it makes: nothing, or a tree past a limit
-abbrev pub RefusesResult : Reply → Type 0
-RefusesResult reply =
-    (reply ≡ refusal (codes "not-admissible")) ⊎ ((reply ≡ refusal (codes "result-too-big")) ⊎ (reply ≡ refusal (codes "result-too-deep")))
-
--- two looks a pair; and beside them one for each subtree of the expression, and for it one for each subtree of a replacement
-abbrev pub subst_looks : List Pair → Tree → ℕ
-subst_looks pairs e = 2 * length pairs + most_looks pairs e
-
--- LooksAtFew file subst old new: where such a refusal is the answer to the two texts, at most so many nodes were looked at, from the old
--- count to the new one.
-abbrev pub LooksAtFew : List ℕ → List ℕ → ℕ → ℕ → Type 0
-LooksAtFew file subst old new =
-    (e : Tree) (pairs : List Pair) (reply : Reply) → AreRead file subst e pairs → Substitutes file subst reply → RefusesResult reply →
-    new ≤ old + subst_looks pairs e
-
--- and so of a command that is `subst`, and of its inputs' texts
+-- so few of a command that is `subst`, and of its inputs' texts
 abbrev pub CommandLooksAtFew : Command → List (List ℕ) → ℕ → ℕ → Type 0
 CommandLooksAtFew command texts old new = (file subst : List ℕ) → command ≡ Subst → texts ≡ file ∷ subst ∷ [] → LooksAtFew file subst old new

@@ -1,24 +1,22 @@
 // What the program answers to its words and inputs. It reads and writes nothing.
 ghost use Rattle.std.specs.Prelude.{◌≡◌, map, IfOk, option_copied, string_bytes, length, Some, IsTrue};
-ghost use Rattle.dlk_answers.specs.Forms.{form_of, limit_of, ends_in, command_of};
-ghost use Rattle.dlk_answers.specs.Inputs.{first_too_long as first_too_long_of};
-ghost use Rattle.dlk_answers.specs.Replies.{refused_words};
+ghost use Rattle.dlk_replies.specs.Forms.{form_of, limit_of, ends_in, command_of};
+ghost use Rattle.dlk_replies.specs.Inputs.{first_too_long as first_too_long_of};
+ghost use Rattle.dlk_replies.specs.Replies.{refused_words};
 ghost use Rattle.dlk_answers.specs.Answers.{Does, Responds, too_long};
 ghost use Rattle.dlk_answers.specs.Looks.{CommandLooksAtFew};
-ghost use Rattle.dlk_answers.specs.Shown.{texts_of, reply_of};
+ghost use Rattle.dlk_replies.specs.Shown.{texts_of, reply_of};
 
-use crate::command::Command;
-use crate::fault::NoReply;
-use crate::form::{Role, count_of};
-use crate::jobs::check::check;
-use crate::jobs::generate::generated;
-use crate::jobs::guard::guard;
-use crate::jobs::print::print;
-use crate::jobs::prove::prove;
-use crate::jobs::subst::subst;
-use crate::jobs::vars::vars;
-use crate::refusal::refused;
-use crate::reply::{Layout, Reply, Showing, Status, printing};
+use dlk_jobs_check::check::check;
+use dlk_jobs_check::guard::guard;
+use dlk_jobs_prove::generate::generated;
+use dlk_jobs_prove::prove::prove;
+use dlk_jobs_text::print::print;
+use dlk_jobs_text::subst::subst;
+use dlk_jobs_text::vars::vars;
+use dlk_replies::{
+    Command, Layout, NoReply, Reply, Role, Showing, Status, count_of, printing, refused,
+};
 use dlk_store::Steps;
 use std::alloc::Global;
 use std::sync::ledger::Ledger;

@@ -14,6 +14,3 @@ mod table;
 pub use axioms::{axiom, form, own_names};
 pub use dlk_calculus::AxiomForm;
 pub use rules::axiomatic_rule;
-
-#[cfg(test)]
-mod tests;

@@ -11,6 +11,3 @@ pub use laws::{
     accepted_derived, accepted_says_steps, one_list_of_steps, one_verdict, some_verdict,
 };
 pub use replaying::{replay, replay_watched};
-
-#[cfg(test)]
-mod tests;

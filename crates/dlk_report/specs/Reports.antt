@@ -3,6 +3,7 @@ use Rattle.std.specs.Prelude.{ℕ, ◌+◌, Bool, true, false, List, [], ◌∷�
 use Rattle.dlk_calculus.specs.Sequents.{Sequent}
 use Rattle.dlk_calculus.specs.Provables.{Provable}
 use Rattle.dlk_grammar.specs.Shown.{spell, shown_sequent}
+use Rattle.dlk_print.specs.Lines.{line}
 
 -- what a report says
 pub record Parts : Type 0 where
@@ -35,10 +36,6 @@ pub record HasAsciiTexts (r : Parts) : Type 0 where
   pub conclusion : IsAscii r.conclusion
   pub goals : All IsAscii r.goals
   pub leaves : All IsAscii r.leaves
-
--- a text as a line
-abbrev pub line : List ℕ → List ℕ
-line text = text ++ 10 ∷ []
 
 -- each text with this name and its number, from i on
 abbrev pub numbered : List ℕ → ℕ → List (List ℕ) → List ℕ

@@ -6,8 +6,6 @@ mod json;
 mod laws;
 mod printing;
 mod report;
-#[cfg(test)]
-mod tests;
 
 pub use fault::ReportFault;
 pub use json::report_json;

@@ -1,6 +1,7 @@
 //! The text of a report.
 ghost use Rattle.std.specs.Prelude.{◌≡◌, ◌+◌, ◌++◌, ◌∷◌, [], IfOk, OnOk, codes, decimal, length, map};
-ghost use Rattle.dlk_report.specs.Reports.{line, numbered, first_word, report_of};
+ghost use Rattle.dlk_print.specs.Lines.{line};
+ghost use Rattle.dlk_report.specs.Reports.{numbered, first_word, report_of};
 ghost use Rattle.dlk_report.specs.Shown.{bytes_of, parts};
 
 use crate::fault::ReportFault;

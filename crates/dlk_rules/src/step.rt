@@ -3,7 +3,7 @@ use dlk_sequent::{Listed, Pair, Sequent};
 use dlk_tree::Name;
 
 /// A step of a proof. Facts, which are earlier rows, and their goals go by their numbers, counted from 1.
-#[derive(Drop, Debug)]
+#[derive(Debug)]
 pub enum Step {
     /// The sequent is the conclusion, and its own goal.
     Start(Sequent),
@@ -21,4 +21,33 @@ pub enum Step {
     Subst { fact: u32, pairs: Listed<Pair> },
     /// Two names are exchanged in the conclusion and the goals of a fact.
     Rename { fact: u32, x: Name, y: Name },
+}
+
+/// A step is given back by a call, and not by cases wherever one ends.
+impl Drop for Step {
+    fn drop(self) {
+        match self {
+            Step::Start(_s) | Step::Leaf(_s) => {}
+            Step::Axiom(_name) | Step::AxRule(_name) => {}
+            Step::Apply {
+                fact: _,
+                goal: _,
+                rule: _rule,
+            } => {}
+            Step::Merge {
+                fact: _,
+                goal: _,
+                by: _,
+            } => {}
+            Step::Subst {
+                fact: _,
+                pairs: _pairs,
+            } => {}
+            Step::Rename {
+                fact: _,
+                x: _x,
+                y: _y,
+            } => {}
+        }
+    }
 }

@@ -8,8 +8,6 @@ mod sets;
 mod shape;
 mod signs;
 mod store;
-#[cfg(test)]
-mod tests;
 mod together;
 
 pub use store::SharedStore;

@@ -16,10 +16,12 @@ use std::alloc::{AllocError, AllocFailed, Global};
 use std::sync::ledger::Ledger;
 use thiserror::Error;
 
+mod copies;
 mod laws;
 mod listing;
 mod steps;
 
+pub use copies::copied;
 pub use laws::{one_listing, one_signature};
 pub use listing::{Listing, Vars, Which};
 pub use steps::Steps;

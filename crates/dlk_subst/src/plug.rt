@@ -14,7 +14,7 @@ ghost use Rattle.dlk_sequent.specs.declared.fault.ApplyFault.TheVariants.{NotAdm
 
 use crate::scope::{Scope, is_apart, reach, scope_of};
 use dlk_sequent::ApplyFault;
-use dlk_store::{Id, Steps, Store};
+use dlk_store::{Id, Steps, Store, copied};
 use dlk_tree::Op;
 use std::alloc::Global;
 use std::sync::ledger::Ledger;
@@ -134,9 +134,7 @@ pub(crate) fn plug<S: Store, L: Ledger>(
     ensures none { result ≡ Err NotAdmissible → HasNone (Plug (args_at (S.trees store.old) args.now) (tree (S.trees store.old) id)) }
     ensures grows { S.grows store.old store.new }
 {
-    let node = store.look(id, steps);
-    let op = node.op.clone()?;
-    let old = node.kids.to_vec(alloc)?;
+    let (op, old) = copied(alloc, store, id, steps)?;
     let mut new = Vec::new(alloc);
     for kid in &old {
         let made = plug(alloc, store, args, *kid, steps)?;

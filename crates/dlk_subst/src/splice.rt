@@ -6,7 +6,8 @@ ghost use Rattle.dlk_tree.specs.declared.op.OdeItem.{OdeItem};
 ghost use Rattle.dlk_store.specs.Stores.{IsId, tree, kid_trees, sorts_at};
 ghost use Rattle.dlk_calculus.specs.Kids.{last};
 ghost use Rattle.dlk_calculus.specs.Pairs.{Pair as TreePair, replacement};
-ghost use Rattle.dlk_calculus.specs.Subst.{SubstAt, members_for, new_members, items_of, kids_of};
+ghost use Rattle.dlk_calculus.specs.Captures.{Stays};
+ghost use Rattle.dlk_calculus.specs.Subst.{IsAdmissible, SubstAt, members_for, new_members, items_of, kids_of};
 ghost use Rattle.dlk_sequent.specs.Substitutions.{pairs_at, AreKnownPairs};
 ghost use Rattle.dlk_subst.specs.Counts.{replacement_subtrees, distinct_count};
 ghost use Rattle.dlk_subst.specs.Looked.{IsSeen, AreSeen, SeesMore};
@@ -27,6 +28,16 @@ use std::sync::ledger::Ledger;
 pub(crate) struct Spliced {
     pub items: Vec<OdeItem>,
     pub kids: Vec<Id>,
+}
+
+impl Spliced {
+    /// The system of the items, and its kids.
+    fn into_parts(self) -> (Op, Vec<Id>)
+        ensures system { result.0 ≡ Op.System self.items.items }
+        ensures kids { result.1.items ≡ self.kids.items }
+    {
+        (Op::System(Items::new(self.items)), self.kids)
+    }
 }
 
 /// The kids before the last.
@@ -168,6 +179,30 @@ fn has_items(alloc: Global, system: &Op) -> Result<bool, AllocError>
     Ok(fits(system, sorts.as_slice()))
 }
 
+/// The system over new kids, where a system may have its items and what it binds is admissible for the kids of before.
+fn keep_system<S: Store>(
+    alloc: Global,
+    store: &mut S,
+    pairs: &[Pair],
+    system: &Op,
+    old: &[Id],
+    new: &[Id],
+) -> Result<Id, ApplyFault>
+    requires system { (items : List OdeItem) × (system.now ≡ Op.System items) }
+    requires pairs { AreKnownPairs (S.trees store.old) pairs.now }
+    requires old { All (IsId (S.trees store.old)) old.now }
+    requires new { All (IsId (S.trees store.old)) new.now }
+    requires fits { (items : List OdeItem) → system.now ≡ Op.System items → IsTrue (are_items items) → Fits system.now (sorts_at (S.trees store.old) new.now) }
+    ensures ok { IfOk result (IsResult (Stays (IsAdmissible (pairs_at (S.trees store.old) pairs.now)) system.now (kid_trees (S.trees store.old) old.now) (kid_trees (S.trees store.old) new.now)) (S.trees store.new)) }
+    ensures none { result ≡ Err NotAdmissible → HasNone (λ t. Stays (IsAdmissible (pairs_at (S.trees store.old) pairs.now)) system.now (kid_trees (S.trees store.old) old.now) (kid_trees (S.trees store.old) new.now) t × WellMade t) }
+    ensures grows { S.grows store.old store.new }
+{
+    if !has_items(alloc, system)? {
+        return Err(ApplyFault::NotAdmissible);
+    }
+    keep_admissible(alloc, store, pairs, system, old, new)
+}
+
 /// The system with its new items over its new kids, where a system may have these items and what it binds is admissible for
 /// the kids of before.
 pub fn splice_at<S: Store, L: Ledger>(
@@ -189,9 +224,6 @@ pub fn splice_at<S: Store, L: Ledger>(
     ensures cost { IsTrue S.unique → steps.new ≤ steps.old + distinct_count (replacement_subtrees (pairs_at (S.trees store.old) pairs.now)) }
 {
     let spliced = all_spliced(alloc, store, pairs, items, new, steps)?;
-    let system = Op::System(Items::new(spliced.items));
-    if !has_items(alloc, &system)? {
-        return Err(ApplyFault::NotAdmissible);
-    }
-    keep_admissible(alloc, store, pairs, &system, old, spliced.kids.as_slice())
+    let (system, kids) = spliced.into_parts();
+    keep_system(alloc, store, pairs, &system, old, kids.as_slice())
 }

@@ -19,7 +19,7 @@ use crate::plug::plug;
 use crate::scope::Scope;
 use crate::splice::splice_at;
 use dlk_sequent::{ApplyFault, Pair, Subst};
-use dlk_store::{Id, Steps, Store};
+use dlk_store::{Id, Steps, Store, copied};
 use dlk_tree::Op;
 use std::alloc::Global;
 use std::sync::ledger::Ledger;
@@ -95,9 +95,7 @@ fn substitute<S: Store, L: Ledger>(
     ensures none { result ≡ Err NotAdmissible → HasNone (IsSubst (pairs_at (S.trees store.old) pairs.now) (tree (S.trees store.old) id)) }
     ensures grows { S.grows store.old store.new }
 {
-    let node = store.look(id, steps);
-    let op = node.op.clone()?;
-    let old = node.kids.to_vec(alloc)?;
+    let (op, old) = copied(alloc, store, id, steps)?;
     let mut new = Vec::new(alloc);
     for kid in &old {
         let made = substitute(alloc, store, pairs, *kid, steps)?;

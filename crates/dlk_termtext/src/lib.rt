@@ -17,6 +17,3 @@ pub use laws::{one_line, some_line, steps_are_proper, written_line_is_read};
 pub use line::{Line, LineFault};
 pub use reading::read_line;
 pub use writing::write_line;
-
-#[cfg(test)]
-mod tests;

@@ -3,7 +3,8 @@
 
 ghost use Rattle.std.specs.Prelude.{◌≡◌, ◌<◌};
 
-use dlk_answers::{Command, NoReply, Reply, respond, words_refused};
+use dlk_answers::{respond, words_refused};
+use dlk_replies::{Command, NoReply, Reply};
 use dlk_store::Steps;
 use std::alloc::{AllocError, Global};
 use std::marker::Brand;

@@ -4,18 +4,80 @@ mod limits;
 mod models;
 mod terms;
 
-use dlk_answers::{Form, Last, Role};
+use dlk_replies::{Form, Last, NoReply, Role};
 use dlk_trials::{
     INCREMENT_MODEL, INCREMENT_REPORT, INCREMENT_TERM, TERM, checked, joined, padded, repeated,
     replied, words_of,
 };
 use std::alloc::{AllocError, Global};
+use std::process::Abort;
 use std::test::Fail;
+
+/// A command on a model and a term prints these bytes, with this status. What is said where it doesn't names the row.
+fn prints(
+    rt: &impl Abort,
+    alloc: Global,
+    words: &[&str],
+    texts: &[&[u8]],
+    status: u8,
+    printed: &str,
+    row: &str,
+) -> Result<(), NoReply> {
+    let (found, reply) = replied(alloc, words, texts)?;
+    assert_eq!(rt; reply.printed.as_slice(), printed.as_bytes(), "{row}");
+    assert_eq!(rt; found, status, "{row}");
+    Ok(())
+}
+
+/// `check` prints this of the bytes of a model and of a term.
+fn answers(
+    rt: &impl Abort,
+    alloc: Global,
+    model: &[u8],
+    term: &[u8],
+    status: u8,
+    printed: &str,
+) -> Result<(), NoReply> {
+    let words = ["check", "model", "term"];
+    prints(rt, alloc, &words, &[model, term], status, printed, printed)
+}
+
+/// `check` prints this of a model and a term.
+fn says(
+    rt: &impl Abort,
+    alloc: Global,
+    model: &str,
+    term: &str,
+    status: u8,
+    printed: &str,
+) -> Result<(), NoReply> {
+    let texts = [model.as_bytes(), term.as_bytes()];
+    let words = ["check", "model", "term"];
+    prints(rt, alloc, &words, &texts, status, printed, term)
+}
+
+/// What `check` prints of a model and a term begins and ends with these texts.
+fn answers_between(
+    rt: &impl Abort,
+    alloc: Global,
+    model: &[u8],
+    term: &[u8],
+    status: u8,
+    front: &str,
+    back: &str,
+) -> Result<(), NoReply> {
+    let (found, reply) = checked(alloc, model, term)?;
+    let printed = reply.printed.as_slice();
+    assert_eq!(rt; found, status, "{front}");
+    assert!(rt; printed.starts_with(front.as_bytes()), "{front}");
+    assert!(rt; printed.ends_with(back.as_bytes()), "{back}");
+    Ok(())
+}
 
 #[test]
 fn accepts_and_refuses_terms(rt: HostRuntime) -> Result<(), Fail> {
     let alloc = rt.alloc();
-    for (model, term, status, printed) in [
+    for (model, term, status, printed) in &[
         (
             "x>=0 -> x>=0",
             TERM,
@@ -149,37 +211,38 @@ fn accepts_and_refuses_terms(rt: HostRuntime) -> Result<(), Fail> {
             "refused: other-conclusion 1\nexpected ==> x>=0\nfound x>=0, y>=1 ==> x>=0\n",
         ),
     ] {
-        let (found, reply) = checked(alloc, model.as_bytes(), term.as_bytes())?;
-        assert_eq!(rt; found, status, "{term}");
-        assert_eq!(rt; reply.printed.as_slice(), printed.as_bytes(), "{term}");
+        says(&rt, alloc, model, term, *status, printed)?;
     }
     Ok(())
 }
+
+/// What stands behind an input, words, and whether they have the form.
+const FORMS: &[(Last, &[&str], bool)] = &[
+    (Last::Output, &["v", "in", "out"], true),
+    (Last::Output, &["v", "in"], false),
+    (Last::Output, &["v", "in", "out", "more"], false),
+    (Last::Output, &["w", "in", "out"], false),
+    (Last::Number, &["v", "in", "1"], true),
+    (Last::Number, &["v", "in", "99"], true),
+    (Last::Number, &["v", "in", "500"], true),
+    (Last::Number, &["v", "in", "0"], false),
+    (Last::Number, &["v", "in", "01"], false),
+    (Last::Number, &["v", "in", "501"], false),
+    (Last::Number, &["v", "in", "1000"], false),
+];
 
 /// Words of a form that no command has yet: an input, and then an output or a number.
 #[test]
 fn knows_forms(rt: HostRuntime) -> Result<(), Fail> {
     let alloc = rt.alloc();
-    for (last, words, fits) in [
-        (Last::Output, &["v", "in", "out"].as_slice(), true),
-        (Last::Output, &["v", "in"].as_slice(), false),
-        (Last::Output, &["v", "in", "out", "more"].as_slice(), false),
-        (Last::Output, &["w", "in", "out"].as_slice(), false),
-        (Last::Number, &["v", "in", "1"].as_slice(), true),
-        (Last::Number, &["v", "in", "99"].as_slice(), true),
-        (Last::Number, &["v", "in", "500"].as_slice(), true),
-        (Last::Number, &["v", "in", "0"].as_slice(), false),
-        (Last::Number, &["v", "in", "01"].as_slice(), false),
-        (Last::Number, &["v", "in", "501"].as_slice(), false),
-        (Last::Number, &["v", "in", "1000"].as_slice(), false),
-    ] {
+    for (last, words, fits) in FORMS {
         let form = Form {
             verb: "v",
             inputs: &[Role::File],
-            last: Some(last),
+            last: Some(*last),
         };
         let words = words_of(alloc, words)?;
-        assert_eq!(rt; form.fits(&words), fits);
+        assert_eq!(rt; form.fits(&words), *fits);
     }
     Ok(())
 }

@@ -7,7 +7,14 @@ mod tokens;
 use dlk_tree::{Items, Kind, Name, OdeItem, Op, Sym, Var, same_op};
 use std::alloc::Global;
 use std::cmp::Ordering;
+use std::fmt::Debug;
+use std::process::Abort;
 use std::test::Fail;
+
+/// What is found of a row is what is wanted.
+fn same<T: PartialEq + Debug>(rt: &impl Abort, found: &T, want: &T, row: &str) {
+    assert_eq!(rt; found, want, "{row}");
+}
 
 /// A constant that does not change `x`.
 fn constant(alloc: Global) -> Option<Sym> {
@@ -42,7 +49,7 @@ fn is_copied(op: &Op) -> Option<bool> {
 #[test]
 fn copies_operators(rt: HostRuntime) -> Result<(), Fail> {
     for op in [system(rt.alloc()), variable(rt.alloc())] {
-        assert_eq!(rt; op.as_ref().and_then(is_copied), Some(true));
+        same(&rt, &op.as_ref().and_then(is_copied), &Some(true), "copied");
     }
     Ok(())
 }
@@ -71,14 +78,11 @@ fn keeps_names(rt: HostRuntime) {
         "position_of_the_car_in_front",
     ];
     for text in texts {
-        assert_eq!(rt; is_kept(rt.alloc(), text), Some(true), "{text}");
+        same(&rt, &is_kept(rt.alloc(), text), &Some(true), text);
         for other in texts {
             let want = (text == other, text.cmp(other));
-            assert_eq!(rt;
-                names_compared(rt.alloc(), text, other),
-                Some(want),
-                "{text} {other}"
-            );
+            let found = names_compared(rt.alloc(), text, other);
+            same(&rt, &found, &Some(want), other);
         }
     }
 }

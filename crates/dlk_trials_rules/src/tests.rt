@@ -9,6 +9,7 @@ use dlk_shared::SharedStore;
 use dlk_store::{Steps, Store};
 use std::alloc::{AllocError, Global};
 use std::marker::Brand;
+use std::process::Abort;
 use std::sync::ledger::{Blank, Ledger};
 use std::test::Fail;
 

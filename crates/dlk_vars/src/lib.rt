@@ -13,6 +13,3 @@ pub use fault::VarFault;
 pub use laws::{number_stays, one_variable, same_rows, set_stays};
 pub use set::VarSet;
 pub use table::{VarNo, VarTable};
-
-#[cfg(test)]
-mod tests;

@@ -86,32 +86,23 @@ fn keeps_to_numbers_of_goals(rt: HostRuntime) -> Result<(), Fail> {
     let alloc = rt.alloc();
     let model = joined(alloc, b"true", &repeated(alloc, "&true", 255)?, b"")?;
     let term = joined(alloc, &taken_apart(alloc, 256)?, b"done\n", b"")?;
-    let (status, reply) = checked(alloc, &model, &term)?;
-    assert_eq!(rt; status, 1);
-    assert!(rt;
-        reply
-            .printed
-            .as_slice()
-            .starts_with(b"open\nconclusion ==> true&")
-    );
-    assert!(rt;
-        reply
-            .printed
-            .as_slice()
-            .ends_with(b"goal 256 ==> true\nleaves 0\nlines 256\n")
-    );
-    let (status, reply) = checked(alloc, &model, &taken_apart(alloc, 257)?)?;
-    assert_eq!(rt; status, 2);
-    assert_eq!(rt;
-        reply.printed.as_slice(),
-        b"refused: line 257: GoalsFull\n".as_slice()
-    );
+    let front = "open\nconclusion ==> true&";
+    let back = "goal 256 ==> true\nleaves 0\nlines 256\n";
+    answers_between(&rt, alloc, &model, &term, 1, front, back)?;
+    let more = taken_apart(alloc, 257)?;
+    answers(
+        &rt,
+        alloc,
+        &model,
+        &more,
+        2,
+        "refused: line 257: GoalsFull\n",
+    )?;
     for (cuts, printed) in [
         (127, "refused: line 259: NoEnd\n"),
         (128, "refused: line 259: GoalsFull\n"),
     ] {
-        let (_, reply) = checked(alloc, &model, &merged(alloc, cuts)?)?;
-        assert_eq!(rt; reply.printed.as_slice(), printed.as_bytes(), "{cuts}");
+        answers(&rt, alloc, &model, &merged(alloc, cuts)?, 2, printed)?;
     }
     Ok(())
 }
@@ -133,12 +124,7 @@ fn keeps_to_numbers_of_formulas(rt: HostRuntime) -> Result<(), Fail> {
             left.get(1..).unwrap_or(&[]),
             b" ==>\ndone\n",
         )?;
-        let (status, reply) = checked(alloc, b"true", &term)?;
-        assert_eq!(rt; status, 2, "{count}");
-        assert!(rt;
-            reply.printed.as_slice().starts_with(printed.as_bytes()),
-            "{word} {count}"
-        );
+        answers_between(&rt, alloc, b"true", &term, 2, printed, "")?;
     }
     for (count, printed) in [
         (254, "refused: line 3: NoEnd\n"),
@@ -147,8 +133,7 @@ fn keeps_to_numbers_of_formulas(rt: HostRuntime) -> Result<(), Fail> {
         let right = repeated(alloc, ",true", count)?;
         let front = b"1 start ==> true".as_slice();
         let term = joined(alloc, front, &right, b"\n2 apply 1 1 cut(true)\n")?;
-        let (_, reply) = checked(alloc, b"true", &term)?;
-        assert_eq!(rt; reply.printed.as_slice(), printed.as_bytes(), "{count}");
+        answers(&rt, alloc, b"true", &term, 2, printed)?;
     }
     Ok(())
 }
@@ -163,12 +148,7 @@ fn keeps_to_sizes_of_formulas(rt: HostRuntime) -> Result<(), Fail> {
         term.extend_from_slice(step.as_bytes())?;
     }
     term.extend_from_slice(b"done\n")?;
-    let (status, reply) = checked(alloc, b"true", &term)?;
-    assert_eq!(rt; status, 2);
-    assert_eq!(rt;
-        reply.printed.as_slice(),
-        b"refused: line 16: TooBig\n".as_slice()
-    );
+    answers(&rt, alloc, b"true", &term, 2, "refused: line 16: TooBig\n")?;
     for (count, printed) in [
         (998, "refused: line 3: NoEnd\n"),
         (999, "refused: line 2: TooDeep\n"),
@@ -176,8 +156,7 @@ fn keeps_to_sizes_of_formulas(rt: HostRuntime) -> Result<(), Fail> {
         let negated = repeated(alloc, "!", count)?;
         let front = b"1 start ==> true\n2 apply 1 1 cutR(1,".as_slice();
         let term = joined(alloc, front, &negated, b"true)\n")?;
-        let (_, reply) = checked(alloc, b"true", &term)?;
-        assert_eq!(rt; reply.printed.as_slice(), printed.as_bytes(), "{count}");
+        answers(&rt, alloc, b"true", &term, 2, printed)?;
     }
     Ok(())
 }
@@ -272,19 +251,15 @@ fn keeps_to_numbers_of_lines(rt: HostRuntime) -> Result<(), Fail> {
         term.extend_from_slice(line.as_bytes())?;
     }
     term.extend_from_slice(b"done\n")?;
-    let (status, reply) = checked(alloc, b"true", &term)?;
-    assert_eq!(rt; status, 2);
-    assert_eq!(rt;
-        reply.printed.as_slice(),
-        b"refused: line 400001: LinesFull\n".as_slice()
-    );
+    let printed = "refused: line 400001: LinesFull\n";
+    answers(&rt, alloc, b"true", &term, 2, printed)?;
     Ok(())
 }
 
 #[test]
 fn reports_as_json(rt: HostRuntime) -> Result<(), Fail> {
     let alloc = rt.alloc();
-    for (model, term, status, printed) in [
+    for (model, term, status, printed) in &[
         (
             "x>=0 -> x>=0",
             TERM,
@@ -312,13 +287,9 @@ fn reports_as_json(rt: HostRuntime) -> Result<(), Fail> {
         ("x>=0 &", TERM, 2, "refused: model at 6: syntax\n"),
         ("x>=0", "", 2, "refused: line 1: NoEnd\n"),
     ] {
-        let (found, reply) = replied(
-            alloc,
-            &["report", "model", "term"],
-            &[model.as_bytes(), term.as_bytes()],
-        )?;
-        assert_eq!(rt; reply.printed.as_slice(), printed.as_bytes(), "{model}");
-        assert_eq!(rt; found, status, "{model}");
+        let texts = [model.as_bytes(), term.as_bytes()];
+        let words = ["report", "model", "term"];
+        prints(&rt, alloc, &words, &texts, *status, printed, model)?;
     }
     Ok(())
 }

@@ -4,7 +4,7 @@ use super::*;
 #[test]
 fn refuses_models(rt: HostRuntime) -> Result<(), Fail> {
     let alloc = rt.alloc();
-    for (model, printed) in [
+    for (model, printed) in &[
         ("x>=0 # y", "refused: model at 5: byte\n"),
         ("x>=.5", "refused: model at 3: byte\n"),
         ("x>=0 /* y>=0", "refused: model at 5: byte\n"),
@@ -40,9 +40,7 @@ fn refuses_models(rt: HostRuntime) -> Result<(), Fail> {
         ),
         ("[{x'=1,x'=2}]x", "refused: model at 14: syntax\n"),
     ] {
-        let (status, reply) = checked(alloc, model.as_bytes(), TERM.as_bytes())?;
-        assert_eq!(rt; status, 2, "{model}");
-        assert_eq!(rt; reply.printed.as_slice(), printed.as_bytes(), "{model}");
+        answers(&rt, alloc, model.as_bytes(), TERM.as_bytes(), 2, printed)?;
     }
     Ok(())
 }
@@ -52,31 +50,25 @@ fn refuses_models(rt: HostRuntime) -> Result<(), Fail> {
 fn refuses_opened_programs(rt: HostRuntime) -> Result<(), Fail> {
     let alloc = rt.alloc();
     let model = repeated(alloc, "<?", 400_000)?;
-    let (status, reply) = checked(alloc, &model, TERM.as_bytes())?;
-    assert_eq!(rt;
-        reply.printed.as_slice(),
-        b"refused: model at 800000: syntax\n".as_slice()
-    );
-    assert_eq!(rt; status, 2);
+    let printed = "refused: model at 800000: syntax\n";
+    answers(&rt, alloc, &model, TERM.as_bytes(), 2, printed)?;
     Ok(())
 }
 
 #[test]
 fn refuses_bytes(rt: HostRuntime) -> Result<(), Fail> {
     let alloc = rt.alloc();
+    let words = ["check", "model", "term"];
     for byte in 128..=255u8 {
-        let (status, reply) = checked(alloc, &[b'x', byte], TERM.as_bytes())?;
-        assert_eq!(rt; status, 2, "{byte}");
-        assert_eq!(rt;
-            reply.printed.as_slice(),
-            b"refused: model at 1: byte\n".as_slice()
-        );
-        let (status, reply) = checked(alloc, b"x>=0", &[byte])?;
-        assert_eq!(rt; status, 2, "{byte}");
-        assert_eq!(rt;
-            reply.printed.as_slice(),
-            b"refused: line 1: Malformed\n".as_slice()
-        );
+        let row = format!(in alloc; "{byte}")?;
+        let model = [b'x', byte];
+        let texts = [model.as_slice(), TERM.as_bytes()];
+        let printed = "refused: model at 1: byte\n";
+        prints(&rt, alloc, &words, &texts, 2, printed, row.as_str())?;
+        let term = [byte];
+        let texts = [b"x>=0".as_slice(), term.as_slice()];
+        let printed = "refused: line 1: Malformed\n";
+        prints(&rt, alloc, &words, &texts, 2, printed, row.as_str())?;
     }
     Ok(())
 }
@@ -91,14 +83,16 @@ fn keeps_to_depth_of_models(rt: HostRuntime) -> Result<(), Fail> {
     let alloc = rt.alloc();
     let model = negations(alloc, 999)?;
     let term = joined(alloc, b"1 start ==> ", &model, b"\ndone\n")?;
-    let (status, _) = checked(alloc, &model, &term)?;
-    assert_eq!(rt; status, 1);
-    let (status, reply) = checked(alloc, &negations(alloc, 1000)?, &term)?;
-    assert_eq!(rt; status, 2);
-    assert_eq!(rt;
-        reply.printed.as_slice(),
-        b"refused: model: depth 1001\n".as_slice()
-    );
+    answers_between(&rt, alloc, &model, &term, 1, "open\n", "")?;
+    let deeper = negations(alloc, 1000)?;
+    answers(
+        &rt,
+        alloc,
+        &deeper,
+        &term,
+        2,
+        "refused: model: depth 1001\n",
+    )?;
     Ok(())
 }
 
@@ -107,12 +101,14 @@ fn keeps_to_depth_of_lines(rt: HostRuntime) -> Result<(), Fail> {
     let alloc = rt.alloc();
     let deep = negations(alloc, 1000)?;
     let term = joined(alloc, b"1 start ==> ", &deep, b"\ndone\n")?;
-    let (status, reply) = checked(alloc, b"true", &term)?;
-    assert_eq!(rt; status, 2);
-    assert_eq!(rt;
-        reply.printed.as_slice(),
-        b"refused: line 1: Malformed\n".as_slice()
-    );
+    answers(
+        &rt,
+        alloc,
+        b"true",
+        &term,
+        2,
+        "refused: line 1: Malformed\n",
+    )?;
     Ok(())
 }
 
@@ -120,14 +116,10 @@ fn keeps_to_depth_of_lines(rt: HostRuntime) -> Result<(), Fail> {
 fn keeps_to_lengths_of_models(rt: HostRuntime) -> Result<(), Fail> {
     let alloc = rt.alloc();
     let short = b"1 start ==> x>=0\ndone\n".as_slice();
-    let (status, _) = checked(alloc, &padded(alloc, "x>=0", 1_048_576)?, short)?;
-    assert_eq!(rt; status, 1);
-    let (status, reply) = checked(alloc, &padded(alloc, "x>=0", 1_048_577)?, short)?;
-    assert_eq!(rt; status, 2);
-    assert_eq!(rt;
-        reply.printed.as_slice(),
-        b"refused: too-long model\n".as_slice()
-    );
+    let most = padded(alloc, "x>=0", 1_048_576)?;
+    answers_between(&rt, alloc, &most, short, 1, "open\n", "")?;
+    let more = padded(alloc, "x>=0", 1_048_577)?;
+    answers(&rt, alloc, &more, short, 2, "refused: too-long model\n")?;
     Ok(())
 }
 
@@ -139,13 +131,10 @@ fn keeps_to_lengths_of_terms(rt: HostRuntime) -> Result<(), Fail> {
         ("#", 67_108_865, "refused: too-long term\n"),
     ] {
         let term = padded(alloc, "", length)?;
-        let (status, reply) = checked(alloc, model.as_bytes(), &term)?;
-        assert_eq!(rt; status, 2);
-        assert_eq!(rt; reply.printed.as_slice(), printed.as_bytes());
+        answers(&rt, alloc, model.as_bytes(), &term, 2, printed)?;
     }
     let mut term = padded(alloc, "1 start ==> x>=0", 1_000_000)?;
     term.extend_from_slice(b"\ndone\n")?;
-    let (found, _) = checked(alloc, b"x>=0", &term)?;
-    assert_eq!(rt; found, 1);
+    answers_between(&rt, alloc, b"x>=0", &term, 1, "open\n", "")?;
     Ok(())
 }

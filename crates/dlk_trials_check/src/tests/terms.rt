@@ -4,7 +4,7 @@ use super::*;
 #[test]
 fn checks_examples(rt: HostRuntime) -> Result<(), Fail> {
     let alloc = rt.alloc();
-    for (model, term, status, printed) in [
+    for (model, term, status, printed) in &[
         // examples/increment
         (INCREMENT_MODEL, INCREMENT_TERM, 0, INCREMENT_REPORT),
         // examples/car
@@ -57,9 +57,7 @@ fn checks_examples(rt: HostRuntime) -> Result<(), Fail> {
             "closed\nconclusion ==> v>=0&A>=0 -> [{v'=A}]v>=0\ngoals 0\nleaves 0\nlines 87\n",
         ),
     ] {
-        let (found, reply) = checked(alloc, model.as_bytes(), term.as_bytes())?;
-        assert_eq!(rt; reply.printed.as_slice(), printed.as_bytes(), "{model}");
-        assert_eq!(rt; found, status, "{model}");
+        says(&rt, alloc, model, term, *status, printed)?;
     }
     Ok(())
 }
@@ -67,7 +65,7 @@ fn checks_examples(rt: HostRuntime) -> Result<(), Fail> {
 #[test]
 fn merges_and_substitutes(rt: HostRuntime) -> Result<(), Fail> {
     let alloc = rt.alloc();
-    for (model, term, status, printed) in [
+    for (model, term, status, printed) in &[
         // one proof twice
         (
             "(x>=0 -> x>=0)&(x>=0 -> x>=0)",
@@ -110,9 +108,7 @@ fn merges_and_substitutes(rt: HostRuntime) -> Result<(), Fail> {
             "refused: line 3: NotFresh\n",
         ),
     ] {
-        let (found, reply) = checked(alloc, model.as_bytes(), term.as_bytes())?;
-        assert_eq!(rt; reply.printed.as_slice(), printed.as_bytes(), "{model}");
-        assert_eq!(rt; found, status, "{model}");
+        says(&rt, alloc, model, term, *status, printed)?;
     }
     Ok(())
 }
@@ -120,7 +116,7 @@ fn merges_and_substitutes(rt: HostRuntime) -> Result<(), Fail> {
 #[test]
 fn refuses_steps(rt: HostRuntime) -> Result<(), Fail> {
     let alloc = rt.alloc();
-    for (term, printed) in [
+    for (term, printed) in &[
         ("1 axiom boxb\n", "refused: line 1: UnknownName\n"),
         ("1 axiom G\n", "refused: line 1: UnknownName\n"),
         ("1 rule K\n", "refused: line 1: UnknownName\n"),
@@ -171,9 +167,7 @@ fn refuses_steps(rt: HostRuntime) -> Result<(), Fail> {
         ),
         ("1 axiom V\n2 subst 1\n", "refused: line 2: Malformed\n"),
     ] {
-        let (found, reply) = checked(alloc, b"x>=0", term.as_bytes())?;
-        assert_eq!(rt; reply.printed.as_slice(), printed.as_bytes(), "{term}");
-        assert_eq!(rt; found, 2, "{term}");
+        says(&rt, alloc, "x>=0", term, 2, printed)?;
     }
     Ok(())
 }
@@ -181,7 +175,7 @@ fn refuses_steps(rt: HostRuntime) -> Result<(), Fail> {
 #[test]
 fn checks_terms_with_these_rules(rt: HostRuntime) -> Result<(), Fail> {
     let alloc = rt.alloc();
-    for (model, term, status, printed) in [
+    for (model, term, status, printed) in &[
         // examples/chain
         (
             "(a>0 -> b>0)&(b>0 -> c>0) -> (a>0 -> c>0)",
@@ -235,9 +229,7 @@ fn checks_terms_with_these_rules(rt: HostRuntime) -> Result<(), Fail> {
             "refused: line 2: Malformed\n",
         ),
     ] {
-        let (found, reply) = checked(alloc, model.as_bytes(), term.as_bytes())?;
-        assert_eq!(rt; found, status, "{term}");
-        assert_eq!(rt; reply.printed.as_slice(), printed.as_bytes(), "{term}");
+        says(&rt, alloc, model, term, *status, printed)?;
     }
     Ok(())
 }

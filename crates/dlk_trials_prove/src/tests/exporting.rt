@@ -1,15 +1,13 @@
 // What `smt` answers.
 use super::*;
 
-/// What `smt` answers to the bytes of a model and of a term.
-fn exported(alloc: Global, model: &[u8], term: &[u8]) -> Result<(u8, Reply), NoReply> {
-    replied(alloc, &["smt", "model", "term"], &[model, term])
-}
+/// The words of an export.
+const SMT: [&str; 3] = ["smt", "model", "term"];
 
 #[test]
 fn exports_leaves(rt: HostRuntime) -> Result<(), Fail> {
     let alloc = rt.alloc();
-    for (model, term, status, printed) in [
+    for (model, term, status, printed) in &[
         // examples/increment
         (
             INCREMENT_MODEL,
@@ -43,9 +41,8 @@ fn exports_leaves(rt: HostRuntime) -> Result<(), Fail> {
             "refused: other-conclusion 1\nexpected ==> x>=1\nfound ==> x>=0\n",
         ),
     ] {
-        let (found, reply) = exported(alloc, model.as_bytes(), term.as_bytes())?;
-        assert_eq!(rt; reply.printed.as_slice(), printed.as_bytes(), "{model}");
-        assert_eq!(rt; found, status, "{model}");
+        let texts = [model.as_bytes(), term.as_bytes()];
+        prints(&rt, alloc, &SMT, &texts, *status, printed.as_bytes(), model)?;
     }
     Ok(())
 }
@@ -56,17 +53,18 @@ fn exports_leaf_by_leaf(rt: HostRuntime) -> Result<(), Fail> {
     let model: &[u8] = b"v>=0 & A>0 -> [{{a:=A;++a:=0;}{x'=v,v'=a&v>=0}}*@invariant(v>=0)]v>=0";
     let strategy: &[u8] =
         b"implyR(1); boxCut(\"v>=0\",1); <(cutR(\"v>=0\",1); <(nil, useAt(I,1); G(1); implyR(1)), nil); <(leaf, useAt(composeb,1); useAt(choiceb,1); andR(1); useAt(assignb,1); useAt(DWeq,1); G(1); implyR(1); leaf, leaf)";
-    let (_, proved) = replied(
-        alloc,
-        &["prove", "model", "strategy", "term"],
-        &[model, strategy],
-    )?;
+    let (_, proved) = replied(alloc, &PROVE, &[model, strategy])?;
     let term = proved.written.unwrap_or(Vec::new(alloc));
-    let (status, reply) = exported(alloc, model, &term)?;
-    assert_eq!(rt; status, 0);
-    assert_eq!(rt;
-        reply.printed.as_slice(),
-        b"; leaf 1\n(set-logic NRA)\n(declare-const |v.A| Real)\n(declare-const |v.v| Real)\n(assert (and (>= |v.v| 0.0) (> |v.A| 0.0)))\n(assert (not (>= |v.v| 0.0)))\n(check-sat)\n; leaf 2\n(reset)\n(set-logic NRA)\n(declare-const |v.v| Real)\n(assert (>= |v.v| 0.0))\n(assert (not (>= |v.v| 0.0)))\n(check-sat)\n".as_slice()
-    );
+    let printed =
+        b"; leaf 1\n(set-logic NRA)\n(declare-const |v.A| Real)\n(declare-const |v.v| Real)\n(assert (and (>= |v.v| 0.0) (> |v.A| 0.0)))\n(assert (not (>= |v.v| 0.0)))\n(check-sat)\n; leaf 2\n(reset)\n(set-logic NRA)\n(declare-const |v.v| Real)\n(assert (>= |v.v| 0.0))\n(assert (not (>= |v.v| 0.0)))\n(check-sat)\n".as_slice();
+    prints(
+        &rt,
+        alloc,
+        &SMT,
+        &[model, &term],
+        0,
+        printed,
+        "leaf by leaf",
+    )?;
     Ok(())
 }

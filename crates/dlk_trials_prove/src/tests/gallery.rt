@@ -1,6 +1,6 @@
 // Models of `examples/gallery`: what `prove` prints of each by its strategy, and `check` of the term that it writes. The script of the gallery
 // looks whether they stand here as they do there.
-use super::proving::proof;
+use super::proving::proves;
 use super::*;
 
 /// `examples/gallery/straight_line/model`.
@@ -250,7 +250,7 @@ lines 871
 #[test]
 fn closes_models_of_the_gallery(rt: HostRuntime) -> Result<(), Fail> {
     let alloc = rt.alloc();
-    for (model, strategy, report) in [
+    for (model, strategy, report) in &[
         (
             STRAIGHT_LINE_MODEL,
             STRAIGHT_LINE_STRATEGY,
@@ -269,9 +269,7 @@ fn closes_models_of_the_gallery(rt: HostRuntime) -> Result<(), Fail> {
         ),
         (WATER_TANK_MODEL, WATER_TANK_STRATEGY, WATER_TANK_REPORT),
     ] {
-        let (status, printed, _) = proof(&rt, alloc, model, strategy)?;
-        assert_eq!(rt; status, 0, "{model}");
-        assert_eq!(rt; printed.as_slice(), report.as_bytes(), "{model}");
+        proves(&rt, alloc, model, strategy, 0, report)?;
     }
     Ok(())
 }

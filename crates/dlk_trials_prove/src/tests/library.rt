@@ -4,7 +4,7 @@ use super::*;
 #[test]
 fn runs_the_library(rt: HostRuntime) -> Result<(), Fail> {
     let alloc = rt.alloc();
-    for (model, strategy, status, printed) in [
+    for (model, strategy, status, printed) in &[
         // a car
         (
             "v>=0 & A>0 -> [{{a:=A;++a:=0;}{x'=v,v'=a&v>=0}}*@invariant(v>=0)]v>=0",
@@ -129,17 +129,16 @@ fn runs_the_library(rt: HostRuntime) -> Result<(), Fail> {
             "refused: fails at 11: NoMatch\n",
         ),
     ] {
-        let (found, reply) = replied(
+        let texts = [model.as_bytes(), strategy.as_bytes()];
+        prints(
+            &rt,
             alloc,
-            &["prove", "model", "strategy", "term"],
-            &[model.as_bytes(), strategy.as_bytes()],
-        )?;
-        assert_eq!(rt;
-            reply.printed.as_slice(),
+            &PROVE,
+            &texts,
+            *status,
             printed.as_bytes(),
-            "{model} by {strategy}"
-        );
-        assert_eq!(rt; found, status, "{model} by {strategy}");
+            strategy,
+        )?;
     }
     Ok(())
 }

@@ -1,39 +1,42 @@
 // What `prove` answers, and the terms that it writes.
 use super::*;
-use std::process::Abort;
 
-/// What `prove` answers to the bytes of a model and of a strategy.
-fn proved(alloc: Global, model: &[u8], strategy: &[u8]) -> Result<(u8, Reply), NoReply> {
-    replied(
-        alloc,
-        &["prove", "model", "strategy", "term"],
-        &[model, strategy],
-    )
-}
-
-/// The status and the report of a proof, and the lines of its term. `check` must say the same of the term.
+/// The lines of the term that `prove` writes. `check` must say the same of the term.
 pub(super) fn proof(
     rt: &impl Abort,
     alloc: Global,
     model: &str,
     strategy: &str,
-) -> Result<(u8, Vec<u8>, Vec<u8>), NoReply> {
-    let (status, reply) = proved(alloc, model.as_bytes(), strategy.as_bytes())?;
+) -> Result<Vec<u8>, NoReply> {
+    let (model, texts) = (model.as_bytes(), [model.as_bytes(), strategy.as_bytes()]);
+    let (status, reply) = replied(alloc, &PROVE, &texts)?;
     let term = reply.written.unwrap_or(Vec::new(alloc));
-    let (checked_status, checked_reply) = checked(alloc, model.as_bytes(), &term)?;
-    assert_eq!(rt; checked_status, status, "{model} by {strategy}");
-    assert_eq!(rt;
-        checked_reply.printed.as_slice(),
-        reply.printed.as_slice(),
-        "{model} by {strategy}"
-    );
-    Ok((status, reply.printed, term))
+    let (report, texts) = (reply.printed.as_slice(), [model, &term]);
+    prints(rt, alloc, &CHECK, &texts, status, report, strategy)?;
+    Ok(term)
+}
+
+/// The lines of the term that `prove` writes, where it and `check` print this report, with this status.
+pub(super) fn proves(
+    rt: &impl Abort,
+    alloc: Global,
+    model: &str,
+    strategy: &str,
+    status: u8,
+    report: &str,
+) -> Result<Vec<u8>, NoReply> {
+    let (model, report) = (model.as_bytes(), report.as_bytes());
+    let texts = [model, strategy.as_bytes()];
+    let written = prints(rt, alloc, &PROVE, &texts, status, report, strategy)?;
+    let term = written.unwrap_or(Vec::new(alloc));
+    prints(rt, alloc, &CHECK, &[model, &term], status, report, strategy)?;
+    Ok(term)
 }
 
 #[test]
 fn writes_terms(rt: HostRuntime) -> Result<(), Fail> {
     let alloc = rt.alloc();
-    for (model, strategy, status, printed, term) in [
+    for (model, strategy, status, printed, term) in &[
         (
             "x>=0 -> x>=0",
             "implyR(1); close",
@@ -88,13 +91,7 @@ fn writes_terms(rt: HostRuntime) -> Result<(), Fail> {
             "1 start ==> x>=0 -> \\forall x (x>=0 -> x>=0)\n2 apply 1 1 implyR(1)\n3 apply 2 1 boundR(1,z)\n4 apply 3 1 skolemR(1)\n5 apply 4 1 implyR(1)\n6 apply 5 1 cut(z>=1)\n7 apply 6 1 hideL(3)\n8 apply 7 2 coHideR(2)\ndone\n",
         ),
     ] {
-        let (found, report, lines) = proof(&rt, alloc, model, strategy)?;
-        assert_eq!(rt; found, status, "{model} by {strategy}");
-        assert_eq!(rt;
-            report.as_slice(),
-            printed.as_bytes(),
-            "{model} by {strategy}"
-        );
+        let lines = proves(&rt, alloc, model, strategy, *status, printed)?;
         assert_eq!(rt; lines.as_slice(), term.as_bytes(), "{model} by {strategy}");
     }
     Ok(())
@@ -103,7 +100,7 @@ fn writes_terms(rt: HostRuntime) -> Result<(), Fail> {
 #[test]
 fn refuses_strategies(rt: HostRuntime) -> Result<(), Fail> {
     let alloc = rt.alloc();
-    for (model, strategy, printed) in [
+    for (model, strategy, printed) in &[
         // the model comes first
         ("x>=0 & -> y>0", "(nil", "refused: model at 7: syntax\n"),
         ("x>=0", "(nil", "refused: strategy at 4: syntax\n"),
@@ -138,14 +135,8 @@ fn refuses_strategies(rt: HostRuntime) -> Result<(), Fail> {
         ),
         ("x>=0", "((nil*1000)*1000)*1000", "refused: budget at 2\n"),
     ] {
-        let (status, reply) = proved(alloc, model.as_bytes(), strategy.as_bytes())?;
-        assert_eq!(rt; status, 2, "{model} by {strategy}");
-        assert_eq!(rt;
-            reply.printed.as_slice(),
-            printed.as_bytes(),
-            "{model} by {strategy}"
-        );
-        assert!(rt; reply.written.is_none(), "{model} by {strategy}");
+        let texts = [model.as_bytes(), strategy.as_bytes()];
+        refuses(&rt, alloc, texts, printed, strategy)?;
     }
     Ok(())
 }
@@ -153,24 +144,17 @@ fn refuses_strategies(rt: HostRuntime) -> Result<(), Fail> {
 #[test]
 fn refuses_long_strategies_and_terms(rt: HostRuntime) -> Result<(), Fail> {
     let alloc = rt.alloc();
-    let (status, reply) = proved(alloc, b"x>=0", &padded(alloc, "nil", 1_048_577)?)?;
-    assert_eq!(rt; status, 2);
-    assert_eq!(rt;
-        reply.printed.as_slice(),
-        b"refused: too-long strategy\n".as_slice()
-    );
-    let (status, _) = proved(alloc, b"x>=0", &padded(alloc, "nil", 1_048_576)?)?;
+    let long = padded(alloc, "nil", 1_048_577)?;
+    let line = "refused: too-long strategy\n";
+    refuses(&rt, alloc, [b"x>=0", &long], line, "too long")?;
+    let most = padded(alloc, "nil", 1_048_576)?;
+    let (status, _) = replied(alloc, &PROVE, &[b"x>=0", &most])?;
     assert_eq!(rt; status, 1);
 
     let name = repeated(alloc, "a", 300_000)?;
     let strategy = joined(alloc, b"cut(\"", &name, b">=0\")*255")?;
-    let (status, reply) = proved(alloc, b"x>=0", &strategy)?;
-    assert_eq!(rt; status, 2);
-    assert_eq!(rt;
-        reply.printed.as_slice(),
-        b"refused: term-too-long 76506183\n".as_slice()
-    );
-    assert!(rt; reply.written.is_none());
+    let line = "refused: term-too-long 76506183\n";
+    refuses(&rt, alloc, [b"x>=0", &strategy], line, "a long term")?;
     Ok(())
 }
 
@@ -178,9 +162,7 @@ fn refuses_long_strategies_and_terms(rt: HostRuntime) -> Result<(), Fail> {
 fn uses_axioms_inside(rt: HostRuntime) -> Result<(), Fail> {
     let alloc = rt.alloc();
     let strategy = "implyR(1); useAt(assignb,1); leaf";
-    let (status, printed, term) = proof(&rt, alloc, INCREMENT_MODEL, strategy)?;
-    assert_eq!(rt; status, 0);
-    assert_eq!(rt; printed.as_slice(), INCREMENT_REPORT.as_bytes());
+    let term = proves(&rt, alloc, INCREMENT_MODEL, strategy, 0, INCREMENT_REPORT)?;
     assert_eq!(rt; term.as_slice(), INCREMENT_TERM.as_bytes());
     Ok(())
 }
@@ -188,7 +170,7 @@ fn uses_axioms_inside(rt: HostRuntime) -> Result<(), Fail> {
 #[test]
 fn uses_each_form(rt: HostRuntime) -> Result<(), Fail> {
     let alloc = rt.alloc();
-    for (model, strategy, status, printed) in [
+    for (model, strategy, status, printed) in &[
         // a car's loop, by what `loop` and `dW` stand for
         (
             "v>=0 & A>0 -> [{{a:=A;++a:=0;}{x'=v,v'=a&v>=0}}*@invariant(v>=0)]v>=0",
@@ -262,13 +244,7 @@ fn uses_each_form(rt: HostRuntime) -> Result<(), Fail> {
             "open\nconclusion ==> [x:=1;]x>=0\ngoals 2\ngoal 1 ==> [x:=1;]x>=1\ngoal 2 x>=1 ==> x>=0\nleaves 0\nlines 11\n",
         ),
     ] {
-        let (found, report, _) = proof(&rt, alloc, model, strategy)?;
-        assert_eq!(rt;
-            report.as_slice(),
-            printed.as_bytes(),
-            "{model} by {strategy}"
-        );
-        assert_eq!(rt; found, status, "{model} by {strategy}");
+        proves(&rt, alloc, model, strategy, *status, printed)?;
     }
     Ok(())
 }
@@ -276,7 +252,7 @@ fn uses_each_form(rt: HostRuntime) -> Result<(), Fail> {
 #[test]
 fn refuses_uses(rt: HostRuntime) -> Result<(), Fail> {
     let alloc = rt.alloc();
-    for (model, strategy, why) in [
+    for (model, strategy, why) in &[
         ("x>=0", "useAt(nope,1)", "UnknownName"),
         ("x>=0", "useAt(nope,'L)", "NoPlace"),
         ("x>=0", "useAt(nope,7)", "UnknownName"),
@@ -304,14 +280,9 @@ fn refuses_uses(rt: HostRuntime) -> Result<(), Fail> {
         ("[x:=1;]x>=1", "G(1.1)", "NoPlace"),
         ("x>=0", "boxCut(\"x>=1\",1)", "WrongShape"),
     ] {
-        let (status, reply) = proved(alloc, model.as_bytes(), strategy.as_bytes())?;
-        let printed = format!(in alloc; "refused: fails at 0: {why}\n")?;
-        assert_eq!(rt;
-            reply.printed.as_slice(),
-            printed.as_bytes(),
-            "{model} by {strategy}"
-        );
-        assert_eq!(rt; status, 2, "{model} by {strategy}");
+        let line = format!(in alloc; "refused: fails at 0: {why}\n")?;
+        let texts = [model.as_bytes(), strategy.as_bytes()];
+        refuses(&rt, alloc, texts, &line, strategy)?;
     }
     Ok(())
 }

@@ -7,7 +7,6 @@ use dlk_store::Store;
 use dlk_tacsyn::{TacSyntax, strategy};
 use dlk_termtext::{LineFault, read_line};
 use std::alloc::AllocError;
-use std::process::Abort;
 
 /// What reads a text.
 #[derive(Clone, Copy, Debug, PartialEq, Eq)]
@@ -162,11 +161,8 @@ fn meets_byte<S: Store>(rt: &impl Abort, alloc: Global, byte: u8, store: &mut S)
             Reader::Line => Answer::Malformed,
             _ => of_byte(reader, byte),
         };
-        assert_eq!(rt;
-            reader.answer(alloc, &[byte], store),
-            want,
-            "{reader:?} {byte}"
-        );
+        let found = (reader, byte, reader.answer(alloc, &[byte], store));
+        same(rt, &found, &(reader, byte, want), "a byte");
     }
 }
 
@@ -175,12 +171,10 @@ fn count_of(alloc: Global, byte: u8) -> Result<usize, LexFault> {
     Ok(tokens(alloc, &[byte])?.len())
 }
 
-#[test]
-fn reads_each_byte(rt: HostRuntime) {
-    let alloc = rt.alloc();
-    let mut store = SharedStore::new(alloc);
+/// Each reader on each byte alone, and how many tokens it is.
+fn meets_bytes<S: Store>(rt: &impl Abort, alloc: Global, store: &mut S) {
     for byte in 0..=255u8 {
-        meets_byte(&rt, alloc, byte, &mut store);
+        meets_byte(rt, alloc, byte, store);
         let want = if is_blank(byte) {
             Ok(1)
         } else if is_token(byte) {
@@ -188,8 +182,13 @@ fn reads_each_byte(rt: HostRuntime) {
         } else {
             Err(LexFault::BadByte { at: 0 })
         };
-        assert_eq!(rt; count_of(alloc, byte), want, "{byte}");
+        same(rt, &(byte, count_of(alloc, byte)), &(byte, want), "a byte");
     }
+}
+
+#[test]
+fn reads_each_byte(rt: HostRuntime) {
+    meets_bytes(&rt, rt.alloc(), &mut SharedStore::new(rt.alloc()));
 }
 
 /// A car, as a user of KeYmaera X writes it.
@@ -235,7 +234,7 @@ fn meets_text<S: Store>(
     for reader in READERS {
         let is_read = reader.answer(alloc, text, store) == Answer::Read;
         let reads = reader == first || reader == second;
-        assert_eq!(rt; is_read, reads, "{reader:?} {text:?}");
+        same(rt, &(reader, is_read), &(reader, reads), "read");
     }
     for byte in [b'#', b' ', b'(', b'"', b'=', b'7', b'x', 255] {
         meets_changed(rt, alloc, text, byte, store)?;
@@ -261,8 +260,6 @@ fn meets_texts<S: Store>(rt: &impl Abort, alloc: Global, store: &mut S) -> Resul
 
 #[test]
 fn reads_changed_texts(rt: HostRuntime) -> Result<(), Fail> {
-    let alloc = rt.alloc();
-    let mut store = SharedStore::new(alloc);
-    meets_texts(&rt, alloc, &mut store)?;
-    Ok(())
+    let met = meets_texts(&rt, rt.alloc(), &mut SharedStore::new(rt.alloc()));
+    Ok(met?)
 }

@@ -5,7 +5,6 @@ use dlk_parse::{TextFault, read_expression};
 use dlk_plain::PlainStore;
 use dlk_shared::SharedStore;
 use dlk_store::Store;
-use std::process::Abort;
 
 /// Each group of operators, with symbols that have a taboo, systems with constants, loops, quantifiers, dots and the hole.
 const TEXTS: [&str; 24] = [
@@ -53,8 +52,7 @@ fn compared<S: Store>(
 
 /// The same, of a plain store.
 fn compared_plainly(alloc: Global, one: &str, other: &str) -> Result<[bool; 3], TextFault> {
-    let mut plain = PlainStore::new(alloc);
-    compared(alloc, &mut plain, one, other)
+    compared(alloc, &mut PlainStore::new(alloc), one, other)
 }
 
 /// A store says of each two texts what a plain one says.
@@ -67,7 +65,7 @@ fn compares_alike<S: Store>(
         for other in &TEXTS {
             let want = compared_plainly(alloc, one, other)?;
             let found = compared(alloc, store, one, other)?;
-            assert_eq!(rt; found, want, "{one} {other}");
+            same(rt, &found, &want, one);
         }
     }
     Ok(())
@@ -75,10 +73,8 @@ fn compares_alike<S: Store>(
 
 #[test]
 fn stores_compare_alike(rt: HostRuntime) -> Result<(), Fail> {
-    let alloc = rt.alloc();
-    let mut store = SharedStore::new(alloc);
-    compares_alike(&rt, alloc, &mut store)?;
-    Ok(())
+    let found = compares_alike(&rt, rt.alloc(), &mut SharedStore::new(rt.alloc()));
+    Ok(found?)
 }
 
 /// Whether a variable is free in a tree, asked once another text is read.
@@ -108,21 +104,21 @@ fn reads_later<S: Store>(
     frees_later(alloc, store, "p(|y|)", "z=z'", &Var { name, primed })
 }
 
-/// A predicate with a taboo reads a variable that is met only after its sets were made.
-#[test]
-fn a_variable_comes_later(rt: HostRuntime) {
-    let alloc = rt.alloc();
-    let mut store = SharedStore::new(alloc);
-    for (name, primed, free) in [
+/// Which of these variables it reads.
+fn all_read_later<S: Store>(rt: &impl Abort, alloc: Global, store: &mut S) {
+    for (name, primed, free) in &[
         ("z", false, true),
         ("z", true, true),
         ("y", false, false),
         ("y", true, false),
     ] {
-        assert_eq!(rt;
-            reads_later(alloc, &mut store, name, primed),
-            Ok(free),
-            "{name}"
-        );
+        let found = reads_later(alloc, store, name, *primed);
+        same(rt, &found, &Ok(*free), name);
     }
+}
+
+/// A predicate with a taboo reads a variable that is met only after its sets were made.
+#[test]
+fn a_variable_comes_later(rt: HostRuntime) {
+    all_read_later(&rt, rt.alloc(), &mut SharedStore::new(rt.alloc()));
 }

@@ -1,4 +1,5 @@
 // How bytes are split into tokens.
+use super::same;
 use dlk_lex::{LexFault, TokenKind, tokens};
 use std::test::Fail;
 
@@ -17,7 +18,7 @@ fn parts(rt: &HostRuntime, text: &str) -> Result<Vec<u8>, LexFault> {
 
 #[test]
 fn splits(rt: HostRuntime) -> Result<(), Fail> {
-    let rows = [
+    for (text, want) in &[
         ("", " "),
         (" \t\r\n", " "),
         ("\\forallx (x>=0.5)", " \\forall x ( x >= 0.5 ) "),
@@ -34,16 +35,16 @@ fn splits(rt: HostRuntime) -> Result<(), Fail> {
         ("/*/*/x/**/y", " x y "),
         ("//x*/\ny", " y "),
         ("a/b", " a / b "),
-    ];
-    for (text, want) in rows {
-        assert_eq!(rt; parts(&rt, text)?.as_slice(), want.as_bytes(), "{text}");
+    ] {
+        let found = parts(&rt, text)?;
+        same(&rt, &found.as_slice(), &want.as_bytes(), text);
     }
     Ok(())
 }
 
 #[test]
 fn bad_bytes(rt: HostRuntime) {
-    let rows = [
+    for (text, want) in &[
         ("x#", 1),
         ("1.", 1),
         (".5", 0),
@@ -53,13 +54,9 @@ fn bad_bytes(rt: HostRuntime) {
         ("a/* b */ /* c", 9),
         ("//a\n@b", 4),
         ("x:y", 1),
-    ];
-    for (text, want) in rows {
-        assert_eq!(rt;
-            parts(&rt, text).err(),
-            Some(LexFault::BadByte { at: want }),
-            "{text}"
-        );
+    ] {
+        let want = Some(LexFault::BadByte { at: *want });
+        same(&rt, &parts(&rt, text).err(), &want, text);
     }
 }
 
@@ -74,7 +71,7 @@ fn number(rt: &HostRuntime, text: &str) -> Option<(u128, u8)> {
 
 #[test]
 fn literals(rt: HostRuntime) {
-    let rows = [
+    for (text, want) in &[
         ("007", Some((7, 0))),
         ("00.50", Some((5, 1))),
         ("1.05", Some((105, 2))),
@@ -87,8 +84,7 @@ fn literals(rt: HostRuntime) {
         ("0.0000000000000000000000000000000000001", Some((1, 37))),
         ("000000000000000000000000000000000000000", None),
         ("1.00000000000000000000000000000000000000", None),
-    ];
-    for (text, want) in rows {
-        assert_eq!(rt; number(&rt, text), want, "{text}");
+    ] {
+        same(&rt, &number(&rt, text), want, text);
     }
 }

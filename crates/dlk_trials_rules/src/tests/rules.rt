@@ -60,10 +60,23 @@ fn of(alloc: Global, goal: &str, rule: &str) -> Result<Vec<u8>, AllocError> {
     }
 }
 
+/// A rule makes these premises of a goal, or this is the reason against the rule.
+fn makes(
+    rt: &impl Abort,
+    alloc: Global,
+    goal: &str,
+    rule: &str,
+    want: &str,
+) -> Result<(), AllocError> {
+    let found = of(alloc, goal, rule)?;
+    assert_eq!(rt; found.as_slice(), want.as_bytes(), "{goal} {rule}");
+    Ok(())
+}
+
 #[test]
 fn closes_goals(rt: HostRuntime) -> Result<(), Fail> {
     let alloc = rt.alloc();
-    for (goal, rule, want) in [
+    for (goal, rule, want) in &[
         ("q(),p() ==> r(),p()", "close(2,2)", ""),
         ("p() ==> p()", "close(2,1)", "NoPlace"),
         ("p() ==> p()", "close(1,2)", "NoPlace"),
@@ -75,11 +88,7 @@ fn closes_goals(rt: HostRuntime) -> Result<(), Fail> {
         ("==> false", "closeFalse(1)", "NoPlace"),
         ("true ==> false", "closeFalse(1)", "WrongShape"),
     ] {
-        assert_eq!(rt;
-            of(alloc, goal, rule)?.as_slice(),
-            want.as_bytes(),
-            "{goal} {rule}"
-        );
+        makes(&rt, alloc, goal, rule, want)?;
     }
     Ok(())
 }
@@ -87,7 +96,7 @@ fn closes_goals(rt: HostRuntime) -> Result<(), Fail> {
 #[test]
 fn applies_connectives_on_the_left(rt: HostRuntime) -> Result<(), Fail> {
     let alloc = rt.alloc();
-    for (goal, rule, want) in [
+    for (goal, rule, want) in &[
         ("!p(),q() ==> r()", "notL(1)", "q() ==> r(), p()"),
         ("!p(),q() ==> r()", "notL(3)", "NoPlace"),
         ("!p(),q() ==> r()", "notL(2)", "WrongShape"),
@@ -116,11 +125,7 @@ fn applies_connectives_on_the_left(rt: HostRuntime) -> Result<(), Fail> {
         ("p() <-> q() ==>", "equivL(2)", "NoPlace"),
         ("p() -> q() ==>", "equivL(1)", "WrongShape"),
     ] {
-        assert_eq!(rt;
-            of(alloc, goal, rule)?.as_slice(),
-            want.as_bytes(),
-            "{goal} {rule}"
-        );
+        makes(&rt, alloc, goal, rule, want)?;
     }
     Ok(())
 }
@@ -128,7 +133,7 @@ fn applies_connectives_on_the_left(rt: HostRuntime) -> Result<(), Fail> {
 #[test]
 fn applies_connectives_on_the_right(rt: HostRuntime) -> Result<(), Fail> {
     let alloc = rt.alloc();
-    for (goal, rule, want) in [
+    for (goal, rule, want) in &[
         ("p() ==> q(),!r(),s()", "notR(2)", "p(), r() ==> q(), s()"),
         ("==> !p()", "notR(2)", "NoPlace"),
         ("==> p()", "notR(1)", "WrongShape"),
@@ -157,11 +162,7 @@ fn applies_connectives_on_the_right(rt: HostRuntime) -> Result<(), Fail> {
         ("==> p() <-> q()", "equivR(2)", "NoPlace"),
         ("==> !p()", "equivR(1)", "WrongShape"),
     ] {
-        assert_eq!(rt;
-            of(alloc, goal, rule)?.as_slice(),
-            want.as_bytes(),
-            "{goal} {rule}"
-        );
+        makes(&rt, alloc, goal, rule, want)?;
     }
     Ok(())
 }
@@ -169,7 +170,7 @@ fn applies_connectives_on_the_right(rt: HostRuntime) -> Result<(), Fail> {
 #[test]
 fn cuts_and_changes_the_structure(rt: HostRuntime) -> Result<(), Fail> {
     let alloc = rt.alloc();
-    for (goal, rule, want) in [
+    for (goal, rule, want) in &[
         (
             "p() ==> q()",
             "cut(x>=0)",
@@ -226,11 +227,7 @@ fn cuts_and_changes_the_structure(rt: HostRuntime) -> Result<(), Fail> {
         ("==> p() <-> q()", "commuteEquivR(2)", "NoPlace"),
         ("==> p() -> q()", "commuteEquivR(1)", "WrongShape"),
     ] {
-        assert_eq!(rt;
-            of(alloc, goal, rule)?.as_slice(),
-            want.as_bytes(),
-            "{goal} {rule}"
-        );
+        makes(&rt, alloc, goal, rule, want)?;
     }
     Ok(())
 }
@@ -238,7 +235,7 @@ fn cuts_and_changes_the_structure(rt: HostRuntime) -> Result<(), Fail> {
 #[test]
 fn takes_quantifiers_off(rt: HostRuntime) -> Result<(), Fail> {
     let alloc = rt.alloc();
-    for (goal, rule, want) in [
+    for (goal, rule, want) in &[
         (
             "\\exists x x>y,y>0 ==> y>1",
             "skolemL(1)",
@@ -270,11 +267,7 @@ fn takes_quantifiers_off(rt: HostRuntime) -> Result<(), Fail> {
         ),
         ("==> \\forall x x>y,p(||)", "skolemR(1)", "NotFresh"),
     ] {
-        assert_eq!(rt;
-            of(alloc, goal, rule)?.as_slice(),
-            want.as_bytes(),
-            "{goal} {rule}"
-        );
+        makes(&rt, alloc, goal, rule, want)?;
     }
     Ok(())
 }
@@ -282,7 +275,7 @@ fn takes_quantifiers_off(rt: HostRuntime) -> Result<(), Fail> {
 #[test]
 fn renames_bound_variables(rt: HostRuntime) -> Result<(), Fail> {
     let alloc = rt.alloc();
-    for (goal, rule, want) in [
+    for (goal, rule, want) in &[
         (
             "\\forall x (x>=0 -> \\exists y y>x),r() ==>",
             "boundL(1,z)",
@@ -346,11 +339,7 @@ fn renames_bound_variables(rt: HostRuntime) -> Result<(), Fail> {
             "==> \\forall y [x:=1;x':=1;y':=1;]p(z)",
         ),
     ] {
-        assert_eq!(rt;
-            of(alloc, goal, rule)?.as_slice(),
-            want.as_bytes(),
-            "{goal} {rule}"
-        );
+        makes(&rt, alloc, goal, rule, want)?;
     }
     Ok(())
 }

@@ -7,7 +7,7 @@ use dlk_parse::{read_expression, read_substitution};
 use dlk_plain::PlainStore;
 use dlk_print::text;
 use dlk_sequent::Subst;
-use dlk_store::Steps;
+use dlk_store::{Steps, Store};
 use std::marker::Brand;
 use std::sync::ledger::{Blank, Ledger};
 
@@ -16,11 +16,68 @@ fn substituted(alloc: Global, file: &[u8], substitution: &[u8]) -> Result<(u8, R
     replied(alloc, &["subst", "e", "s"], &[file, substitution])
 }
 
+/// `subst` prints these bytes, with this status. What is said where it doesn't names the row.
+fn answers(
+    rt: &impl Abort,
+    alloc: Global,
+    file: &[u8],
+    substitution: &[u8],
+    status: u8,
+    printed: &[u8],
+    row: &str,
+) -> Result<(), NoReply> {
+    let (found, reply) = substituted(alloc, file, substitution)?;
+    assert_eq!(rt; reply.printed.as_slice(), printed, "{row}");
+    assert_eq!(rt; found, status, "{row}");
+    Ok(())
+}
+
+/// `subst` prints this text in a line.
+fn makes(
+    rt: &impl Abort,
+    alloc: Global,
+    file: &str,
+    substitution: &str,
+    text: &str,
+) -> Result<(), NoReply> {
+    let line = joined(alloc, text.as_bytes(), b"\n", b"")?;
+    let (file, by) = (file.as_bytes(), substitution.as_bytes());
+    answers(rt, alloc, file, by, 0, &line, text)
+}
+
+/// `subst` refuses the texts, for this reason.
+fn refuses(
+    rt: &impl Abort,
+    alloc: Global,
+    file: &str,
+    substitution: &str,
+    why: &str,
+) -> Result<(), NoReply> {
+    let line = joined(alloc, b"refused: ", why.as_bytes(), b"\n")?;
+    let (file, by) = (file.as_bytes(), substitution.as_bytes());
+    answers(rt, alloc, file, by, 2, &line, substitution)
+}
+
+/// `subst` prints this text, or, where there is none, that the substitution isn't admissible.
+fn makes_if_any(
+    rt: &impl Abort,
+    alloc: Global,
+    file: &str,
+    substitution: &str,
+    text: &str,
+) -> Result<(), NoReply> {
+    if text.is_empty() {
+        refuses(rt, alloc, file, substitution, "not-admissible")
+    } else {
+        makes(rt, alloc, file, substitution, text)
+    }
+}
+
 /// Each replacement of a symbol comes to stand for it.
 #[test]
 fn substitutes(rt: HostRuntime) -> Result<(), Fail> {
     let alloc = rt.alloc();
-    for (file, substitution, text) in [
+    for (file, substitution, text) in &[
         // nothing to replace
         ("((x)) + (1)>=01.50", "", "x+1>=1.5"),
         ("a;x:=f();", "// no pair\n", "a;x:=f();"),
@@ -72,10 +129,7 @@ fn substitutes(rt: HostRuntime) -> Result<(), Fail> {
         ("f()>term()", "f()~>term,term()~>1", "term>1"),
         ("term;", "term;~>?term();,term term()~>2", "?term();"),
     ] {
-        let (status, reply) = substituted(alloc, file.as_bytes(), substitution.as_bytes())?;
-        let line = joined(alloc, text.as_bytes(), b"\n", b"")?;
-        assert_eq!(rt; reply.printed.as_slice(), line.as_slice(), "{file}");
-        assert_eq!(rt; status, 0, "{file}");
+        makes(&rt, alloc, file, substitution, text)?;
     }
     Ok(())
 }
@@ -84,7 +138,7 @@ fn substitutes(rt: HostRuntime) -> Result<(), Fail> {
 #[test]
 fn splices_items(rt: HostRuntime) -> Result<(), Fail> {
     let alloc = rt.alloc();
-    for (file, substitution, text) in [
+    for (file, substitution, text) in &[
         (
             "[{x'=1,c&q(||)}]p(||)",
             "{c}~>{y'=x}",
@@ -105,10 +159,7 @@ fn splices_items(rt: HostRuntime) -> Result<(), Fail> {
         ("{y'=f(),c}", "{c}~>{z'=1},f()~>x", "{y'=x,z'=1}"),
         ("[{c{|x|}}]p()", "p()~>x>x'", "[{c{|x|}}]x>x'"),
     ] {
-        let (status, reply) = substituted(alloc, file.as_bytes(), substitution.as_bytes())?;
-        let line = joined(alloc, text.as_bytes(), b"\n", b"")?;
-        assert_eq!(rt; reply.printed.as_slice(), line.as_slice(), "{file}");
-        assert_eq!(rt; status, 0, "{file}");
+        makes(&rt, alloc, file, substitution, text)?;
     }
     Ok(())
 }
@@ -130,33 +181,20 @@ fn system_of(alloc: Global, name: &str, count: usize) -> Result<Vec<u8>, AllocEr
 #[test]
 fn splices_few_items(rt: HostRuntime) -> Result<(), Fail> {
     let alloc = rt.alloc();
-    for (file, substitution) in [
+    for (file, substitution) in &[
         ("{x'=1,c}", "{c}~>{x'=2}"),
         ("{c,c}", "{c}~>{x'=1}"),
         ("{c,d}", "{c}~>{x'=1},{d}~>{x'=1}"),
     ] {
-        let (status, reply) = substituted(alloc, file.as_bytes(), substitution.as_bytes())?;
-        assert_eq!(rt;
-            reply.printed.as_slice(),
-            b"refused: not-admissible\n".as_slice(),
-            "{file}"
-        );
-        assert_eq!(rt; status, 2, "{file}");
+        refuses(&rt, alloc, file, substitution, "not-admissible")?;
     }
-    for (count, fits) in [(32, true), (33, false)] {
+    let most = joined(alloc, &system_of(alloc, "d", 64)?, b"\n", b"")?;
+    for (count, status, printed) in [
+        (32, 0, most.as_slice()),
+        (33, 2, b"refused: not-admissible\n".as_slice()),
+    ] {
         let by = joined(alloc, b"{c}~>", &system_of(alloc, "d", count)?, b"")?;
-        let (status, reply) = substituted(alloc, b"{c,c}", &by)?;
-        if fits {
-            let most = joined(alloc, &system_of(alloc, "d", 64)?, b"\n", b"")?;
-            assert_eq!(rt; reply.printed.as_slice(), most.as_slice());
-            assert_eq!(rt; status, 0);
-        } else {
-            assert_eq!(rt;
-                reply.printed.as_slice(),
-                b"refused: not-admissible\n".as_slice()
-            );
-            assert_eq!(rt; status, 2);
-        }
+        answers(&rt, alloc, b"{c,c}", &by, status, printed, "two systems")?;
     }
     Ok(())
 }
@@ -165,7 +203,7 @@ fn splices_few_items(rt: HostRuntime) -> Result<(), Fail> {
 #[test]
 fn captures_nothing(rt: HostRuntime) -> Result<(), Fail> {
     let alloc = rt.alloc();
-    for (file, substitution, text) in [
+    for (file, substitution, text) in &[
         ("\\forall x p()", "p()~>x>0", ""),
         ("\\forall y p()", "p()~>x>0", "\\forall y x>0"),
         ("\\forall x p()", "p()~>x'>0", "\\forall x x'>0"),
@@ -197,19 +235,7 @@ fn captures_nothing(rt: HostRuntime) -> Result<(), Fail> {
         ("C{p()}", "p()~>x>0,C{_}~>_", ""),
         ("C{p()}", "p()~>2>0,C{_}~>_", "2>0"),
     ] {
-        let (status, reply) = substituted(alloc, file.as_bytes(), substitution.as_bytes())?;
-        if text.is_empty() {
-            assert_eq!(rt;
-                reply.printed.as_slice(),
-                b"refused: not-admissible\n".as_slice(),
-                "{file}"
-            );
-            assert_eq!(rt; status, 2, "{file}");
-        } else {
-            let line = joined(alloc, text.as_bytes(), b"\n", b"")?;
-            assert_eq!(rt; reply.printed.as_slice(), line.as_slice(), "{file}");
-            assert_eq!(rt; status, 0, "{file}");
-        }
+        makes_if_any(&rt, alloc, file, substitution, text)?;
     }
     Ok(())
 }
@@ -218,7 +244,7 @@ fn captures_nothing(rt: HostRuntime) -> Result<(), Fail> {
 #[test]
 fn captures_what_the_result_binds(rt: HostRuntime) -> Result<(), Fail> {
     let alloc = rt.alloc();
-    for (file, substitution, text) in [
+    for (file, substitution, text) in &[
         // the symbol isn't under the binder, or is another one
         ("[x:=1;]q()&p()", "p()~>x>0", "[x:=1;]q()&x>0"),
         ("\\forall x p(1)", "p()~>x>0", "\\forall x p(1)"),
@@ -243,19 +269,7 @@ fn captures_what_the_result_binds(rt: HostRuntime) -> Result<(), Fail> {
             "[?[x:=1;]true;]x>0",
         ),
     ] {
-        let (status, reply) = substituted(alloc, file.as_bytes(), substitution.as_bytes())?;
-        if text.is_empty() {
-            assert_eq!(rt;
-                reply.printed.as_slice(),
-                b"refused: not-admissible\n".as_slice(),
-                "{file}"
-            );
-            assert_eq!(rt; status, 2, "{file}");
-        } else {
-            let line = joined(alloc, text.as_bytes(), b"\n", b"")?;
-            assert_eq!(rt; reply.printed.as_slice(), line.as_slice(), "{file}");
-            assert_eq!(rt; status, 0, "{file}");
-        }
+        makes_if_any(&rt, alloc, file, substitution, text)?;
     }
     Ok(())
 }
@@ -264,7 +278,7 @@ fn captures_what_the_result_binds(rt: HostRuntime) -> Result<(), Fail> {
 #[test]
 fn plugs_without_capture(rt: HostRuntime) -> Result<(), Fail> {
     let alloc = rt.alloc();
-    for (file, substitution, text) in [
+    for (file, substitution, text) in &[
         ("p(x)", "p(._0)~>\\forall x ._0>0", ""),
         ("p(x)", "p(._0)~>\\forall y ._0>y", "\\forall y x>y"),
         ("p(x)", "p(._0)~>\\forall x x>0", "\\forall x x>0"),
@@ -295,19 +309,7 @@ fn plugs_without_capture(rt: HostRuntime) -> Result<(), Fail> {
             "x>0&\\forall x 2>0",
         ),
     ] {
-        let (status, reply) = substituted(alloc, file.as_bytes(), substitution.as_bytes())?;
-        if text.is_empty() {
-            assert_eq!(rt;
-                reply.printed.as_slice(),
-                b"refused: not-admissible\n".as_slice(),
-                "{substitution}"
-            );
-            assert_eq!(rt; status, 2, "{substitution}");
-        } else {
-            let line = joined(alloc, text.as_bytes(), b"\n", b"")?;
-            assert_eq!(rt; reply.printed.as_slice(), line.as_slice(), "{substitution}");
-            assert_eq!(rt; status, 0, "{substitution}");
-        }
+        makes_if_any(&rt, alloc, file, substitution, text)?;
     }
     Ok(())
 }
@@ -316,7 +318,7 @@ fn plugs_without_capture(rt: HostRuntime) -> Result<(), Fail> {
 #[test]
 fn refuses_pairs(rt: HostRuntime) -> Result<(), Fail> {
     let alloc = rt.alloc();
-    for (substitution, pair) in [
+    for (substitution, pair) in &[
         ("p()~>true, p()~>false", "2: twice"),
         ("term f()~>h(),f()~>1", "2: twice"),
         ("p()~>true,p()~>_", "2: twice"),
@@ -342,19 +344,13 @@ fn refuses_pairs(rt: HostRuntime) -> Result<(), Fail> {
         ("{c{|y|}}~>{x'=y}", "1: taboo"),
         ("{c{|y|}}~>{x'=y'}", "1: taboo"),
     ] {
-        let (status, reply) = substituted(alloc, b"[x:=1;]p()", substitution.as_bytes())?;
-        let line = joined(alloc, b"refused: subst pair ", pair.as_bytes(), b"\n")?;
-        assert_eq!(rt; reply.printed.as_slice(), line.as_slice(), "{substitution}");
-        assert_eq!(rt; status, 2, "{substitution}");
+        let why = format!(in alloc; "subst pair {pair}")?;
+        refuses(&rt, alloc, "[x:=1;]p()", substitution, why.as_str())?;
     }
     let all =
-        b"p()~>true,p(._0)~>true,p(||)~>true,p(|y|)~>true,p(|z|)~>true,p()~>1,p(._0)~>1,p{_}~>_,p;~>?true;,{p}~>{x'=1},{p{|y|}}~>{x'=1}";
-    let (status, reply) = substituted(alloc, b"[p;{p}{p{|y|}}]p{p(|z|)&p(x)>p()}", all)?;
-    assert_eq!(rt;
-        reply.printed.as_slice(),
-        b"[?true;{x'=1}{x'=1}](true&1>1)\n".as_slice()
-    );
-    assert_eq!(rt; status, 0);
+        "p()~>true,p(._0)~>true,p(||)~>true,p(|y|)~>true,p(|z|)~>true,p()~>1,p(._0)~>1,p{_}~>_,p;~>?true;,{p}~>{x'=1},{p{|y|}}~>{x'=1}";
+    let file = "[p;{p}{p{|y|}}]p{p(|z|)&p(x)>p()}";
+    makes(&rt, alloc, file, all, "[?true;{x'=1}{x'=1}](true&1>1)")?;
     Ok(())
 }
 
@@ -362,7 +358,7 @@ fn refuses_pairs(rt: HostRuntime) -> Result<(), Fail> {
 #[test]
 fn refuses_to_substitute(rt: HostRuntime) -> Result<(), Fail> {
     let alloc = rt.alloc();
-    for (file, substitution, text) in [
+    for (file, substitution, text) in &[
         ("._0>0", "", "file at 0: syntax"),
         ("C{_}", "C{_}~>_", "file at 2: syntax"),
         ("x>=0 # y", "# p", "file at 5: byte"),
@@ -399,10 +395,7 @@ fn refuses_to_substitute(rt: HostRuntime) -> Result<(), Fail> {
         ("p()", "p()~>f(1,2,3,4,5,6,7,8,9)>0", "subst at 5: shape"),
         ("p()", "a;~>?true;,{c}~>{x'=1,x'=2}", "subst at 16: shape"),
     ] {
-        let (status, reply) = substituted(alloc, file.as_bytes(), substitution.as_bytes())?;
-        let line = joined(alloc, b"refused: ", text.as_bytes(), b"\n")?;
-        assert_eq!(rt; reply.printed.as_slice(), line.as_slice(), "{substitution}");
-        assert_eq!(rt; status, 2, "{substitution}");
+        refuses(&rt, alloc, file, substitution, text)?;
     }
     Ok(())
 }
@@ -411,7 +404,7 @@ fn refuses_to_substitute(rt: HostRuntime) -> Result<(), Fail> {
 #[test]
 fn keeps_substitutions_small(rt: HostRuntime) -> Result<(), Fail> {
     let alloc = rt.alloc();
-    for (text, count, end, answer) in [
+    for (text, count, end, answer) in &[
         ("!", 1_000, "true", "refused: subst: depth 1001\n"),
         ("(", 1_201, "true", "refused: subst at 1205: nesting\n"),
         ("x>0&", 16_385, "true", "refused: subst: size 65541\n"),
@@ -419,30 +412,32 @@ fn keeps_substitutions_small(rt: HostRuntime) -> Result<(), Fail> {
         let by = joined(
             alloc,
             b"p()~>",
-            &repeated(alloc, text, count)?,
+            &repeated(alloc, text, *count)?,
             end.as_bytes(),
         )?;
-        let (status, reply) = substituted(alloc, b"p()", &by)?;
-        assert_eq!(rt; reply.printed.as_slice(), answer.as_bytes(), "{text}");
-        assert_eq!(rt; status, 2, "{text}");
+        answers(&rt, alloc, b"p()", &by, 2, answer.as_bytes(), text)?;
     }
     for (length, status, answer) in [
         (1_048_576, 0, "true\n"),
         (1_048_577, 2, "refused: too-long s\n"),
     ] {
         let by = padded(alloc, "p()~>true", length)?;
-        let (found, reply) = substituted(alloc, b"p()", &by)?;
-        assert_eq!(rt; reply.printed.as_slice(), answer.as_bytes());
-        assert_eq!(rt; found, status);
+        answers(&rt, alloc, b"p()", &by, status, answer.as_bytes(), answer)?;
     }
     for (length, status, answer) in [
         (1_048_576, 0, "true\n"),
         (1_048_577, 2, "refused: too-long e\n"),
     ] {
         let file = padded(alloc, "p()", length)?;
-        let (found, reply) = substituted(alloc, &file, b"p()~>true")?;
-        assert_eq!(rt; reply.printed.as_slice(), answer.as_bytes());
-        assert_eq!(rt; found, status);
+        answers(
+            &rt,
+            alloc,
+            &file,
+            b"p()~>true",
+            status,
+            answer.as_bytes(),
+            answer,
+        )?;
     }
     Ok(())
 }
@@ -475,54 +470,48 @@ fn doubled(alloc: Global, count: usize) -> Result<Vec<u8>, AllocError> {
 #[test]
 fn keeps_results_small(rt: HostRuntime) -> Result<(), Fail> {
     let alloc = rt.alloc();
-    let (status, reply) = substituted(alloc, &nested(alloc, "-", 15, "")?, b"f(._0)~>._0+._0")?;
-    assert_eq!(rt; reply.printed.as_slice(), doubled(alloc, 15)?.as_slice());
-    assert_eq!(rt; status, 0);
-    for (front, count, back) in [("--", 15, ""), ("", 17, ">0")] {
+    let most = doubled(alloc, 15)?;
+    let too_big = b"refused: result-too-big\n".as_slice();
+    for (front, count, back, status, printed) in [
+        ("-", 15, "", 0, most.as_slice()),
+        ("--", 15, "", 2, too_big),
+        ("", 17, ">0", 2, too_big),
+    ] {
         let file = nested(alloc, front, count, back)?;
-        let (status, reply) = substituted(alloc, &file, b"f(._0)~>._0+._0")?;
-        assert_eq!(rt;
-            reply.printed.as_slice(),
-            b"refused: result-too-big\n".as_slice(),
-            "{count}"
-        );
-        assert_eq!(rt; status, 2, "{count}");
+        answers(
+            &rt,
+            alloc,
+            &file,
+            b"f(._0)~>._0+._0",
+            status,
+            printed,
+            front,
+        )?;
     }
     Ok(())
+}
+
+/// A text, and behind it another one in so many `C{..}`.
+fn wrapped(alloc: Global, front: &str, count: usize, middle: &[u8]) -> Result<Vec<u8>, AllocError> {
+    let open = joined(alloc, front.as_bytes(), &repeated(alloc, "C{", count)?, b"")?;
+    joined(alloc, &open, middle, &repeated(alloc, "}", count)?)
 }
 
 /// A result is at most 1,000 deep. One that is too big and too deep is too big.
 #[test]
 fn keeps_results_shallow(rt: HostRuntime) -> Result<(), Fail> {
     let alloc = rt.alloc();
-    let by = b"C{_}~>!!!!!!!!!!_,f(._0)~>._0+._0";
-    for (front, count) in [("!!!!!!!!!", 99), ("", 100)] {
-        let front = joined(
-            alloc,
-            front.as_bytes(),
-            &repeated(alloc, "C{", count)?,
-            b"true",
-        )?;
-        let file = joined(alloc, &front, &repeated(alloc, "}", count)?, b"")?;
-        let (status, reply) = substituted(alloc, &file, by)?;
-        if count == 99 {
-            let deep = joined(alloc, &repeated(alloc, "!", 999)?, b"true\n", b"")?;
-            assert_eq!(rt; reply.printed.as_slice(), deep.as_slice());
-            assert_eq!(rt; status, 0);
-        } else {
-            assert_eq!(rt;
-                reply.printed.as_slice(),
-                b"refused: result-too-deep\n".as_slice()
-            );
-            assert_eq!(rt; status, 2);
-        }
+    let by = b"C{_}~>!!!!!!!!!!_,f(._0)~>._0+._0".as_slice();
+    let deep = joined(alloc, &repeated(alloc, "!", 999)?, b"true\n", b"")?;
+    let too_big = b"refused: result-too-big\n".as_slice();
+    for (front, count, status, printed) in [
+        ("!!!!!!!!!", 99, 0, deep.as_slice()),
+        ("", 100, 2, b"refused: result-too-deep\n".as_slice()),
+    ] {
+        let file = wrapped(alloc, front, count, b"true")?;
+        answers(&rt, alloc, &file, by, status, printed, front)?;
         let both = joined(alloc, &file, &nested(alloc, "&", 15, ">0")?, b"")?;
-        let (status, reply) = substituted(alloc, &both, by)?;
-        assert_eq!(rt;
-            reply.printed.as_slice(),
-            b"refused: result-too-big\n".as_slice()
-        );
-        assert_eq!(rt; status, 2);
+        answers(&rt, alloc, &both, by, 2, too_big, front)?;
     }
     Ok(())
 }
@@ -531,7 +520,7 @@ fn keeps_results_shallow(rt: HostRuntime) -> Result<(), Fail> {
 #[test]
 fn looks_at_each_subtree_once(rt: HostRuntime) -> Result<(), Fail> {
     let alloc = rt.alloc();
-    for (front, back, more, status, printed) in [
+    for (front, back, more, status, printed) in &[
         ("", ">=0", "", 2, "refused: result-too-big\n"),
         ("g(", ")>=0", ",g(._0)~>1", 0, "1>=0\n"),
         (
@@ -544,9 +533,7 @@ fn looks_at_each_subtree_once(rt: HostRuntime) -> Result<(), Fail> {
     ] {
         let file = nested(alloc, front, 40, back)?;
         let by = joined(alloc, b"f(._0)~>._0+._0", more.as_bytes(), b"")?;
-        let (found, reply) = substituted(alloc, &file, &by)?;
-        assert_eq!(rt; reply.printed.as_slice(), printed.as_bytes(), "{front}");
-        assert_eq!(rt; found, status, "{front}");
+        answers(&rt, alloc, &file, &by, *status, printed.as_bytes(), front)?;
     }
     Ok(())
 }
@@ -555,15 +542,10 @@ fn looks_at_each_subtree_once(rt: HostRuntime) -> Result<(), Fail> {
 #[test]
 fn makes_deep_results(rt: HostRuntime) -> Result<(), Fail> {
     let alloc = rt.alloc();
-    let front = joined(alloc, &repeated(alloc, "C{", 500)?, b"p()", b"")?;
-    let file = joined(alloc, &front, &repeated(alloc, "}", 500)?, b"")?;
+    let file = wrapped(alloc, "", 500, b"p()")?;
     let by = joined(alloc, b"C{_}~>", &repeated(alloc, "!", 500)?, b"_")?;
-    let (status, reply) = substituted(alloc, &file, &by)?;
-    assert_eq!(rt;
-        reply.printed.as_slice(),
-        b"refused: result-too-big\n".as_slice()
-    );
-    assert_eq!(rt; status, 2);
+    let too_big = b"refused: result-too-big\n".as_slice();
+    answers(&rt, alloc, &file, &by, 2, too_big, "deep")?;
     let start = joined(alloc, b"1 start ==> ", &file, b"\n")?;
     let subst = joined(alloc, b"2 subst 1 ", &by, b"\ndone\n")?;
     let (status, reply) = checked(alloc, b"p()", &joined(alloc, &start, &subst, b"")?)?;
@@ -586,14 +568,30 @@ fn plainly<L: Ledger>(
     requires parts { blank.parts ≡ L.parts }
     requires some { 0 < blank.parts }
 {
-    let mut steps = Steps::<L>::new(blank);
     let mut store = PlainStore::new(alloc);
-    let expression = read_expression(alloc, file, Dots::Refused, &mut store).ok()?;
-    let pairs = read_substitution(alloc, substitution, &mut store).ok()?;
-    let sigma = Subst::new(alloc, &store, pairs, &mut steps).ok()?;
-    let result = dlk_subst::apply(alloc, &mut store, &sigma, expression, &mut steps).ok()?;
+    plainly_in(
+        alloc,
+        file,
+        substitution,
+        &mut store,
+        &mut Steps::<L>::new(blank),
+    )
+}
+
+/// The same with a store.
+fn plainly_in<S: Store, L: Ledger>(
+    alloc: Global,
+    file: &[u8],
+    substitution: &[u8],
+    store: &mut S,
+    steps: &mut Steps<L>,
+) -> Option<Vec<u8>> {
+    let expression = read_expression(alloc, file, Dots::Refused, store).ok()?;
+    let pairs = read_substitution(alloc, substitution, store).ok()?;
+    let sigma = Subst::new(alloc, store, pairs, steps).ok()?;
+    let result = dlk_subst::apply(alloc, store, &sigma, expression, steps).ok()?;
     let mut printed = Vec::new(alloc);
-    text(&store, result, &mut printed, &mut steps).ok()?;
+    text(store, result, &mut printed, steps).ok()?;
     printed.push(b'\n').ok()?;
     Some(printed)
 }
@@ -602,7 +600,7 @@ fn plainly<L: Ledger>(
 #[test]
 fn substitutes_as_plainly(rt: HostRuntime) -> Result<(), Fail> {
     let alloc = rt.alloc();
-    for (file, substitution) in [
+    for (file, substitution) in &[
         ("[x:=f();]p(x) <-> p(f())", "p(._0)~>._0>=1, f()~>x+1"),
         ("f(x)+f(y)+f(f(x))>f(f(y))", "f(._0)~>._0*._0"),
         ("p(x,y)&p(y,x)&p(x,y)", "p(._0,._1)~>._0>._1|._1>._0"),
@@ -620,21 +618,12 @@ fn substitutes_as_plainly(rt: HostRuntime) -> Result<(), Fail> {
             substitution.as_bytes(),
             Blank::new(1),
         );
-        let (status, reply) = substituted(alloc, file.as_bytes(), substitution.as_bytes())?;
-        match &plain {
-            Some(text) => {
-                assert_eq!(rt; reply.printed.as_slice(), text.as_slice(), "{file}");
-                assert_eq!(rt; status, 0, "{file}");
-            }
-            None => {
-                assert_eq!(rt;
-                    reply.printed.as_slice(),
-                    b"refused: not-admissible\n".as_slice(),
-                    "{file}"
-                );
-                assert_eq!(rt; status, 2, "{file}");
-            }
-        }
+        let (status, printed) = match &plain {
+            Some(text) => (0, text.as_slice()),
+            None => (2, b"refused: not-admissible\n".as_slice()),
+        };
+        let (file, by) = (file.as_bytes(), substitution.as_bytes());
+        answers(&rt, alloc, file, by, status, printed, substitution)?;
     }
     Ok(())
 }

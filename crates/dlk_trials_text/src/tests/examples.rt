@@ -1,6 +1,6 @@
 // The models of `examples/models`: what `print` prints of each, and of that again, and what `vars` prints of it.
-use super::listing::{lines_of, listed};
-use super::printing::printed;
+use super::listing::lists;
+use super::printing::prints;
 use super::*;
 
 /// `examples/models/adaptive_cruise`.
@@ -196,7 +196,7 @@ const WATER_TANK: &str = "// A water tank: its valve is looked at at least every
 #[test]
 fn prints_models(rt: HostRuntime) -> Result<(), Fail> {
     let alloc = rt.alloc();
-    for (model, text) in [
+    for (model, text) in &[
         (
             ADAPTIVE_CRUISE,
             "A>=0&B>0&ep>0&vf>=0&vl>=0&xf<xl&xf+vf^2/(2*B)<xl+vl^2/(2*B) -> [{al:=*;?-B<=al&al<=A;{af:=-B;++?xf+vf^2/(2*B)+(A/B+1)*(A/2*ep^2+ep*vf)<xl+vl^2/(2*B);af:=*;?-B<=af&af<=A;++?vf=0;af:=0;}t:=0;{xf'=vf,vf'=af,xl'=vl,vl'=al,t'=1&vf>=0&vl>=0&t<=ep}}*]xf<xl\n",
@@ -242,12 +242,7 @@ fn prints_models(rt: HostRuntime) -> Result<(), Fail> {
             "0<=x&x<=m&0<ep&0<=m -> [{f:=*;?-1.25<=f&f<=(m-x)/ep;t:=0;{x'=f,t'=1&x>=0&t<=ep}}*](0<=x&x<=m)\n",
         ),
     ] {
-        let (status, reply) = printed(alloc, model.as_bytes())?;
-        assert_eq!(rt; reply.printed.as_slice(), text.as_bytes(), "{model}");
-        assert_eq!(rt; status, 0, "{model}");
-        let (status, again) = printed(alloc, reply.printed.as_slice())?;
-        assert_eq!(rt; again.printed.as_slice(), text.as_bytes(), "{text}");
-        assert_eq!(rt; status, 0, "{text}");
+        prints(&rt, alloc, model, text)?;
     }
     Ok(())
 }
@@ -255,7 +250,7 @@ fn prints_models(rt: HostRuntime) -> Result<(), Fail> {
 #[test]
 fn lists_models(rt: HostRuntime) -> Result<(), Fail> {
     let alloc = rt.alloc();
-    for (model, free, bound) in [
+    for (model, free, bound) in &[
         (
             ADAPTIVE_CRUISE,
             "A, B, ep, vf, vl, xf, xl",
@@ -284,10 +279,7 @@ fn lists_models(rt: HostRuntime) -> Result<(), Fail> {
         (TWO_CARS, "V, ep, x, y", "t, t', vx, vy, x, x', y, y'"),
         (WATER_TANK, "ep, m, x", "f, t, t', x, x'"),
     ] {
-        let (status, reply) = listed(alloc, model.as_bytes())?;
-        let lines = lines_of(alloc, [free, bound, "none", "none"])?;
-        assert_eq!(rt; reply.printed.as_slice(), lines.as_bytes(), "{model}");
-        assert_eq!(rt; status, 0, "{model}");
+        lists(&rt, alloc, model, &[free, bound, "none", "none"])?;
     }
     Ok(())
 }

@@ -1,22 +1,44 @@
 // What `vars` prints.
 use super::*;
 
-/// What `vars` does to the bytes of a file.
-pub(super) fn listed(alloc: Global, file: &[u8]) -> Result<(u8, Reply), NoReply> {
-    answered(alloc, "vars", file)
-}
-
 /// The four lines of what is free, bound and must-bound, and of the symbols.
-pub(super) fn lines_of(alloc: Global, lists: [&str; 4]) -> Result<String, AllocError> {
+fn lines_of(alloc: Global, lists: &[&str; 4]) -> Result<String, AllocError> {
     let [free, bound, must, symbols] = lists;
     format!(in alloc; "free: {free}\nbound: {bound}\nmust: {must}\nsymbols: {symbols}\n")
+}
+
+/// `vars` prints these four lists.
+fn lists_bytes(
+    rt: &impl Abort,
+    alloc: Global,
+    file: &[u8],
+    lists: &[&str; 4],
+    row: &str,
+) -> Result<(), NoReply> {
+    let lines = lines_of(alloc, lists)?;
+    answers(rt, alloc, "vars", file, 0, lines.as_bytes(), row)
+}
+
+/// `vars` prints these four lists of a text.
+pub(super) fn lists(
+    rt: &impl Abort,
+    alloc: Global,
+    file: &str,
+    lists: &[&str; 4],
+) -> Result<(), NoReply> {
+    lists_bytes(rt, alloc, file.as_bytes(), lists, file)
+}
+
+/// `vars` refuses the file by this line.
+fn refuses(rt: &impl Abort, alloc: Global, file: &[u8], line: &str) -> Result<(), NoReply> {
+    answers(rt, alloc, "vars", file, 2, line.as_bytes(), line)
 }
 
 /// One line for each operator of terms.
 #[test]
 fn lists_terms(rt: HostRuntime) -> Result<(), Fail> {
     let alloc = rt.alloc();
-    for (file, lists) in [
+    for (file, wanted) in &[
         ("x", ["x", "none", "none", "none"]),
         ("x'", ["x'", "none", "none", "none"]),
         ("2.5", ["none", "none", "none", "none"]),
@@ -38,13 +60,7 @@ fn lists_terms(rt: HostRuntime) -> Result<(), Fail> {
         ("x/f()", ["x", "none", "none", "function f()"]),
         ("x^y", ["x, y", "none", "none", "none"]),
     ] {
-        let (status, reply) = listed(alloc, file.as_bytes())?;
-        assert_eq!(rt;
-            reply.printed.as_slice(),
-            lines_of(alloc, lists)?.as_bytes(),
-            "{file}"
-        );
-        assert_eq!(rt; status, 0, "{file}");
+        lists(&rt, alloc, file, wanted)?;
     }
     Ok(())
 }
@@ -53,7 +69,7 @@ fn lists_terms(rt: HostRuntime) -> Result<(), Fail> {
 #[test]
 fn lists_formulas(rt: HostRuntime) -> Result<(), Fail> {
     let alloc = rt.alloc();
-    for (file, lists) in [
+    for (file, wanted) in &[
         ("true", ["none", "none", "none", "none"]),
         ("false", ["none", "none", "none", "none"]),
         ("_", ["all", "all", "none", "none"]),
@@ -84,13 +100,7 @@ fn lists_formulas(rt: HostRuntime) -> Result<(), Fail> {
         ("[x:=y;]x>=z", ["y, z", "x", "none", "none"]),
         ("<x:=y;>x>=z", ["y, z", "x", "none", "none"]),
     ] {
-        let (status, reply) = listed(alloc, file.as_bytes())?;
-        assert_eq!(rt;
-            reply.printed.as_slice(),
-            lines_of(alloc, lists)?.as_bytes(),
-            "{file}"
-        );
-        assert_eq!(rt; status, 0, "{file}");
+        lists(&rt, alloc, file, wanted)?;
     }
     Ok(())
 }
@@ -99,7 +109,7 @@ fn lists_formulas(rt: HostRuntime) -> Result<(), Fail> {
 #[test]
 fn lists_programs(rt: HostRuntime) -> Result<(), Fail> {
     let alloc = rt.alloc();
-    for (file, lists) in [
+    for (file, wanted) in &[
         ("a;", ["all", "all", "none", "program a;"]),
         ("x:=y+x;", ["x, y", "x", "x", "none"]),
         ("x':=x;", ["x", "x'", "x'", "none"]),
@@ -130,13 +140,7 @@ fn lists_programs(rt: HostRuntime) -> Result<(), Fail> {
         ("x:=1;y:=2;++y:=3;", ["none", "x, y", "y", "none"]),
         ("{x:=y;}*", ["y", "x", "none", "none"]),
     ] {
-        let (status, reply) = listed(alloc, file.as_bytes())?;
-        assert_eq!(rt;
-            reply.printed.as_slice(),
-            lines_of(alloc, lists)?.as_bytes(),
-            "{file}"
-        );
-        assert_eq!(rt; status, 0, "{file}");
+        lists(&rt, alloc, file, wanted)?;
     }
     Ok(())
 }
@@ -145,7 +149,7 @@ fn lists_programs(rt: HostRuntime) -> Result<(), Fail> {
 #[test]
 fn lists_what_is_free(rt: HostRuntime) -> Result<(), Fail> {
     let alloc = rt.alloc();
-    for (file, lists) in [
+    for (file, wanted) in &[
         ("(x)'", ["x, x'", "none", "none", "none"]),
         ("(x')'", ["x'", "none", "none", "none"]),
         ("(x>=0)'", ["x, x'", "none", "none", "none"]),
@@ -187,13 +191,7 @@ fn lists_what_is_free(rt: HostRuntime) -> Result<(), Fail> {
         ),
         ("C{_}&._0>=x", ["all", "all", "none", "predicational C{_}"]),
     ] {
-        let (status, reply) = listed(alloc, file.as_bytes())?;
-        assert_eq!(rt;
-            reply.printed.as_slice(),
-            lines_of(alloc, lists)?.as_bytes(),
-            "{file}"
-        );
-        assert_eq!(rt; status, 0, "{file}");
+        lists(&rt, alloc, file, wanted)?;
     }
     Ok(())
 }
@@ -202,7 +200,7 @@ fn lists_what_is_free(rt: HostRuntime) -> Result<(), Fail> {
 #[test]
 fn lists_in_order(rt: HostRuntime) -> Result<(), Fail> {
     let alloc = rt.alloc();
-    for (file, lists) in [
+    for (file, wanted) in &[
         (
             "x1+x'+x+x10+x2+X+x_",
             ["X, x, x', x1, x10, x2, x_", "none", "none", "none"],
@@ -257,13 +255,7 @@ fn lists_in_order(rt: HostRuntime) -> Result<(), Fail> {
             ["all", "all", "none", "ode {c}, ode {c{|x|}}, ode {c{|y|}}"],
         ),
     ] {
-        let (status, reply) = listed(alloc, file.as_bytes())?;
-        assert_eq!(rt;
-            reply.printed.as_slice(),
-            lines_of(alloc, lists)?.as_bytes(),
-            "{file}"
-        );
-        assert_eq!(rt; status, 0, "{file}");
+        lists(&rt, alloc, file, wanted)?;
     }
     Ok(())
 }
@@ -271,41 +263,27 @@ fn lists_in_order(rt: HostRuntime) -> Result<(), Fail> {
 #[test]
 fn refuses_to_list(rt: HostRuntime) -> Result<(), Fail> {
     let alloc = rt.alloc();
-    for (file, text) in [
+    for (file, line) in &[
         ("x>=0 # y", "refused: file at 5: byte\n"),
         ("x>=0 & -> y>0", "refused: file at 7: syntax\n"),
         ("", "refused: file at 0: syntax\n"),
         ("1+f(1,2,3,4,5,6,7,8,9)", "refused: file at 2: shape\n"),
     ] {
-        let (status, reply) = listed(alloc, file.as_bytes())?;
-        assert_eq!(rt; reply.printed.as_slice(), text.as_bytes(), "{file}");
-        assert_eq!(rt; status, 2, "{file}");
+        refuses(&rt, alloc, file.as_bytes(), line)?;
     }
     let big = joined(alloc, &repeated(alloc, "x+", 32768)?, b"x", b"")?;
-    let (status, reply) = listed(alloc, &big)?;
-    assert_eq!(rt; status, 2);
-    assert_eq!(rt;
-        reply.printed.as_slice(),
-        b"refused: file: size 65537\n".as_slice()
-    );
+    refuses(&rt, alloc, &big, "refused: file: size 65537\n")?;
     Ok(())
 }
 
 #[test]
 fn lists_long_files(rt: HostRuntime) -> Result<(), Fail> {
     let alloc = rt.alloc();
-    let (status, reply) = listed(alloc, &padded(alloc, "y", 1_048_576)?)?;
-    assert_eq!(rt;
-        reply.printed.as_slice(),
-        lines_of(alloc, ["y", "none", "none", "none"])?.as_bytes()
-    );
-    assert_eq!(rt; status, 0);
-    let (status, reply) = listed(alloc, &padded(alloc, "y", 1_048_577)?)?;
-    assert_eq!(rt;
-        reply.printed.as_slice(),
-        b"refused: too-long m\n".as_slice()
-    );
-    assert_eq!(rt; status, 2);
+    let most = padded(alloc, "y", 1_048_576)?;
+    let wanted = ["y", "none", "none", "none"];
+    lists_bytes(&rt, alloc, &most, &wanted, "the longest")?;
+    let more = padded(alloc, "y", 1_048_577)?;
+    refuses(&rt, alloc, &more, "refused: too-long m\n")?;
     Ok(())
 }
 
@@ -313,11 +291,7 @@ fn lists_long_files(rt: HostRuntime) -> Result<(), Fail> {
 fn lists_deep_files(rt: HostRuntime) -> Result<(), Fail> {
     let alloc = rt.alloc();
     let deep = joined(alloc, &repeated(alloc, "\\forall x ", 998)?, b"x>y", b"")?;
-    let (status, reply) = listed(alloc, &deep)?;
-    assert_eq!(rt;
-        reply.printed.as_slice(),
-        lines_of(alloc, ["y", "x", "none", "none"])?.as_bytes()
-    );
-    assert_eq!(rt; status, 0);
+    let wanted = ["y", "x", "none", "none"];
+    lists_bytes(&rt, alloc, &deep, &wanted, "the deepest")?;
     Ok(())
 }

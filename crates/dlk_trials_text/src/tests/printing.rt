@@ -3,15 +3,33 @@ ghost use Rattle.std.specs.Prelude.{◌≤◌};
 
 use super::*;
 
-/// What `print` does to the bytes of a file.
-pub(super) fn printed(alloc: Global, file: &[u8]) -> Result<(u8, Reply), NoReply> {
-    answered(alloc, "print", file)
+/// `print` prints this text of a file, and the same of that text.
+pub(super) fn prints(
+    rt: &impl Abort,
+    alloc: Global,
+    file: &str,
+    text: &str,
+) -> Result<(), NoReply> {
+    let bytes = text.as_bytes();
+    answers(rt, alloc, "print", file.as_bytes(), 0, bytes, file)?;
+    answers(rt, alloc, "print", bytes, 0, bytes, text)
+}
+
+/// `print` prints this line of bytes, with this status.
+fn answers_bytes(
+    rt: &impl Abort,
+    alloc: Global,
+    file: &[u8],
+    status: u8,
+    line: &str,
+) -> Result<(), NoReply> {
+    answers(rt, alloc, "print", file, status, line.as_bytes(), line)
 }
 
 #[test]
 fn prints_texts(rt: HostRuntime) -> Result<(), Fail> {
     let alloc = rt.alloc();
-    for (file, text) in [
+    for (file, text) in &[
         ("((x)) + (1)>=01.50->(y>0)", "x+1>=1.5 -> y>0\n"),
         ("-x^2*y--1=0", "-x^2*y--1=0\n"),
         ("x + 1 // a term", "x+1\n"),
@@ -33,12 +51,7 @@ fn prints_texts(rt: HostRuntime) -> Result<(), Fail> {
             "99999999999999999999999999999999999999\n",
         ),
     ] {
-        let (status, reply) = printed(alloc, file.as_bytes())?;
-        assert_eq!(rt; reply.printed.as_slice(), text.as_bytes(), "{file}");
-        assert_eq!(rt; status, 0, "{file}");
-        let (status, again) = printed(alloc, reply.printed.as_slice())?;
-        assert_eq!(rt; again.printed.as_slice(), text.as_bytes(), "{file}");
-        assert_eq!(rt; status, 0, "{file}");
+        prints(&rt, alloc, file, text)?;
     }
     Ok(())
 }
@@ -46,7 +59,7 @@ fn prints_texts(rt: HostRuntime) -> Result<(), Fail> {
 #[test]
 fn refuses_texts(rt: HostRuntime) -> Result<(), Fail> {
     let alloc = rt.alloc();
-    for (file, text) in [
+    for (file, text) in &[
         ("{x'=1,x'=2}", "refused: file at 0: shape\n"),
         ("1+f(1,2,3,4,5,6,7,8,9)", "refused: file at 2: shape\n"),
         (
@@ -62,9 +75,8 @@ fn refuses_texts(rt: HostRuntime) -> Result<(), Fail> {
         ("x:=*y;", "refused: file at 4: syntax\n"),
         ("x':=*;", "refused: file at 4: syntax\n"),
     ] {
-        let (status, reply) = printed(alloc, file.as_bytes())?;
-        assert_eq!(rt; reply.printed.as_slice(), text.as_bytes(), "{file}");
-        assert_eq!(rt; status, 2, "{file}");
+        let line = text.as_bytes();
+        answers(&rt, alloc, "print", file.as_bytes(), 2, line, file)?;
     }
     Ok(())
 }
@@ -85,21 +97,13 @@ fn refusal_of(byte: u8) -> Option<&'static str> {
 fn reads_bytes_alone(rt: HostRuntime) -> Result<(), Fail> {
     let alloc = rt.alloc();
     for byte in 0..=255u8 {
-        let (status, reply) = printed(alloc, &[byte])?;
-        match refusal_of(byte) {
-            Some(text) => {
-                assert_eq!(rt; reply.printed.as_slice(), text.as_bytes(), "{byte}");
-                assert_eq!(rt; status, 2, "{byte}");
-            }
-            None => {
-                assert_eq!(rt;
-                    reply.printed.as_slice(),
-                    [byte, b'\n'].as_slice(),
-                    "{byte}"
-                );
-                assert_eq!(rt; status, 0, "{byte}");
-            }
-        }
+        let same = [byte, b'\n'];
+        let (status, line) = match refusal_of(byte) {
+            Some(text) => (2, text.as_bytes()),
+            None => (0, same.as_slice()),
+        };
+        let row = format!(in alloc; "{byte}")?;
+        answers(&rt, alloc, "print", &[byte], status, line, row.as_str())?;
     }
     Ok(())
 }
@@ -111,9 +115,8 @@ fn reads_long_files(rt: HostRuntime) -> Result<(), Fail> {
         (1_048_576, 0, "x>=0\n"),
         (1_048_577, 2, "refused: too-long m\n"),
     ] {
-        let (found, reply) = printed(alloc, &padded(alloc, "x>=0", length)?)?;
-        assert_eq!(rt; reply.printed.as_slice(), text.as_bytes());
-        assert_eq!(rt; found, status);
+        let file = padded(alloc, "x>=0", length)?;
+        answers_bytes(&rt, alloc, &file, status, text)?;
     }
     Ok(())
 }
@@ -121,12 +124,8 @@ fn reads_long_files(rt: HostRuntime) -> Result<(), Fail> {
 #[test]
 fn reads_opened_programs(rt: HostRuntime) -> Result<(), Fail> {
     let alloc = rt.alloc();
-    let (status, reply) = printed(alloc, &repeated(alloc, "<?", 20_000)?)?;
-    assert_eq!(rt;
-        reply.printed.as_slice(),
-        b"refused: file at 40000: syntax\n".as_slice()
-    );
-    assert_eq!(rt; status, 2);
+    let file = repeated(alloc, "<?", 20_000)?;
+    answers_bytes(&rt, alloc, &file, 2, "refused: file at 40000: syntax\n")?;
     Ok(())
 }
 
@@ -139,9 +138,8 @@ fn reads_nested_brackets(rt: HostRuntime) -> Result<(), Fail> {
     ] {
         let front = repeated(alloc, "(", levels)?;
         let back = repeated(alloc, ")", levels)?;
-        let (found, reply) = printed(alloc, &joined(alloc, &front, b"x>=0", &back)?)?;
-        assert_eq!(rt; reply.printed.as_slice(), text.as_bytes(), "{levels}");
-        assert_eq!(rt; found, status, "{levels}");
+        let file = joined(alloc, &front, b"x>=0", &back)?;
+        answers_bytes(&rt, alloc, &file, status, text)?;
     }
     Ok(())
 }
@@ -157,18 +155,10 @@ fn system_of(alloc: Global, count: usize) -> Result<Vec<u8>, AllocError>
 fn reads_items(rt: HostRuntime) -> Result<(), Fail> {
     let alloc = rt.alloc();
     let most = system_of(alloc, 64)?;
-    let (status, reply) = printed(alloc, &most)?;
-    assert_eq!(rt; status, 0);
-    assert_eq!(rt;
-        reply.printed.as_slice(),
-        joined(alloc, &most, b"\n", b"")?.as_slice()
-    );
-    let (status, reply) = printed(alloc, &system_of(alloc, 65)?)?;
-    assert_eq!(rt; status, 2);
-    assert_eq!(rt;
-        reply.printed.as_slice(),
-        b"refused: file at 0: shape\n".as_slice()
-    );
+    let line = joined(alloc, &most, b"\n", b"")?;
+    answers(&rt, alloc, "print", &most, 0, &line, "64 items")?;
+    let more = system_of(alloc, 65)?;
+    answers_bytes(&rt, alloc, &more, 2, "refused: file at 0: shape\n")?;
     Ok(())
 }
 
@@ -176,32 +166,17 @@ fn reads_items(rt: HostRuntime) -> Result<(), Fail> {
 fn keeps_to_depth(rt: HostRuntime) -> Result<(), Fail> {
     let alloc = rt.alloc();
     let deep = joined(alloc, &repeated(alloc, "!", 999)?, b"true", b"")?;
-    let (status, reply) = printed(alloc, &deep)?;
-    assert_eq!(rt; status, 0);
-    assert_eq!(rt;
-        reply.printed.as_slice(),
-        joined(alloc, &deep, b"\n", b"")?.as_slice()
-    );
-    let (status, reply) = printed(alloc, &joined(alloc, b"!", &deep, b"")?)?;
-    assert_eq!(rt; status, 2);
-    assert_eq!(rt;
-        reply.printed.as_slice(),
-        b"refused: file: depth 1001\n".as_slice()
-    );
+    let line = joined(alloc, &deep, b"\n", b"")?;
+    answers(&rt, alloc, "print", &deep, 0, &line, "1,000 levels")?;
+    let deeper = joined(alloc, b"!", &deep, b"")?;
+    answers_bytes(&rt, alloc, &deeper, 2, "refused: file: depth 1001\n")?;
     Ok(())
 }
 
 #[test]
 fn keeps_to_size(rt: HostRuntime) -> Result<(), Fail> {
     let alloc = rt.alloc();
-    let (status, reply) = printed(
-        alloc,
-        &joined(alloc, &repeated(alloc, "x+", 32768)?, b"x", b"")?,
-    )?;
-    assert_eq!(rt; status, 2);
-    assert_eq!(rt;
-        reply.printed.as_slice(),
-        b"refused: file: size 65537\n".as_slice()
-    );
+    let big = joined(alloc, &repeated(alloc, "x+", 32768)?, b"x", b"")?;
+    answers_bytes(&rt, alloc, &big, 2, "refused: file: size 65537\n")?;
     Ok(())
 }

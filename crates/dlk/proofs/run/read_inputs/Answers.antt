@@ -1,9 +1,9 @@
 use Rattle.std.proofs.Common.{◌≡◌, ◌+◌, ◌<◌, ◌++◌, ◌∷◌, [], length, map, option_map, take, drop, get_or, refl, sym, subst, ◌∙◌, ap, string_bytes, arith, rules}
 use Rattle.std.proofs.lemmas.List.{map-append}
 use Rattle.dlk_transfer.specs.Transfer.{TookUpTo, ReadUpTo}
-use Rattle.dlk_answers.specs.Forms.{limit_of}
-use Rattle.dlk_answers.specs.Shown.{texts_of}
-use Rattle.dlk_answers.specs.declared.form.Role.TheVariants.{Model}
+use Rattle.dlk_replies.specs.Forms.{limit_of}
+use Rattle.dlk_replies.specs.Shown.{texts_of}
+use Rattle.dlk_replies.specs.declared.form.Role.TheVariants.{Model}
 use Rattle.dlk.specs.Cuts.{cut_bytes_of}
 use Rattle.dlk.proofs.Asked.{asked_further, asked_next, read_took}
 use Rattle.dlk.proofs.Cut.{cut_more}

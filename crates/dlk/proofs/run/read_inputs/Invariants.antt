@@ -1,7 +1,7 @@
 use Rattle.std.proofs.Common.{◌≡◌, ◌++◌, length, map, string_bytes, drop, option_map}
 use Rattle.dlk_desk.specs.Desk.{OnlyReads}
-use Rattle.dlk_answers.specs.Forms.{limit_of}
-use Rattle.dlk_answers.specs.Shown.{texts_of}
+use Rattle.dlk_replies.specs.Forms.{limit_of}
+use Rattle.dlk_replies.specs.Shown.{texts_of}
 use Rattle.dlk.specs.Cuts.{cut_bytes_of}
 use Rattle.dlk.specs.Runs.{AsksFor}
 use Rattle.dlk.proofs.run.read_inputs.Given as goal

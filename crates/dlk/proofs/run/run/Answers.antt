@@ -1,5 +1,5 @@
 use Rattle.std.proofs.Common.{◌++◌, List, ℕ, map, string_bytes, option_copied, refl, sym, ap, subst, ◌∙◌, inl, inr, arith}
-use Rattle.dlk_answers.specs.Shown.{reply_of}
+use Rattle.dlk_replies.specs.Shown.{reply_of}
 use Rattle.dlk.specs.Headline.{JudgesTruly}
 use Rattle.dlk.proofs.Truly.{whole_truly, front_truly}
 use Rattle.dlk.proofs.Judged.{answer_judges}

@@ -1,9 +1,9 @@
 use Rattle.std.proofs.Common.{◌≡◌, sym, ap, ◌∙◌, subst, length, map, string_bytes, refl, rules, Global}
 use Rattle.std.proofs.lemmas.List.{length-map}
-use Rattle.dlk_answers.specs.Forms.{form_of, limit_of, inputs_of, limits_of}
-use Rattle.dlk_answers.specs.Replies.{Reply, code_of}
+use Rattle.dlk_replies.specs.Forms.{form_of, limit_of, inputs_of, limits_of}
+use Rattle.dlk_replies.specs.Replies.{Reply, code_of}
 use Rattle.dlk.specs.Answers.{Answers, no_form}
-use Rattle.dlk_answers.specs.Shown.{texts_of, reply_of}
+use Rattle.dlk_replies.specs.Shown.{texts_of, reply_of}
 use Rattle.dlk_answers.proofs.CarriedOut.{carried_out}
 use Rattle.dlk.proofs.Answered.{answered, have_inputs, words_known, none_written, asks_words}
 use Rattle.dlk.proofs.Looked.{none_looked, command_looked}

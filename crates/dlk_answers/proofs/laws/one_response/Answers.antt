@@ -3,5 +3,13 @@ use Rattle.dlk_answers.proofs.laws.one_response.Goals as goal
 
 pub returns : goal.returns
 returns c =
-    one_response c.one_strategy.ensures.one c.one_strategy.ensures.no_fault c.one_strategy.ensures.one_fault c.one_outcome.ensures c.one_list_of_steps.ensures
-    c.first_or_guarded.ensures.one
+    one_response
+    (record {
+      prints = c.one_text_reply.ensures.prints;
+      lists = c.one_text_reply.ensures.lists;
+      substitutes = c.one_text_reply.ensures.substitutes;
+      checks = c.one_check_reply.ensures.checks;
+      guards = c.one_check_reply.ensures.guards;
+      proves = c.one_proof_reply.ensures.proves;
+      generates = c.one_proof_reply.ensures.generates;
+    })

@@ -1,6 +1,7 @@
 use Rattle.std.proofs.Common.{◌≡◌, ℕ, List, [], ◌∷◌, ◌++◌, codes, refl}
 use Rattle.dlk_calculus.specs.Sequents.{Sequent}
-use Rattle.dlk_report.specs.Reports.{line, first_word, is_closed}
+use Rattle.dlk_print.specs.Lines.{line}
+use Rattle.dlk_report.specs.Reports.{first_word, is_closed}
 use Rattle.dlk_report.proofs.laws.first_line.Goals as goal
 
 closed_first : (goals : List Sequent) (rest : List ℕ) → goals ≡ [] → line (first_word (is_closed goals)) ++ rest ≡ codes "closed" ++ 10 ∷ rest

@@ -1,7 +1,0 @@
-use Rattle.std.proofs.Common.{◌≡◌, ◌++◌, take}
-use Rattle.dlk_answers.specs.Lists.{kind_and_symbol}
-use Rattle.dlk_answers.proofs.ListTexts.{behind}
-use Rattle.dlk_answers.proofs.jobs.vars.append_symbols.Given as goal
-
-abbrev pub invariant-loop-s : goal.invariant-loop-s
-invariant-loop-s l = l.out.items ≡ l.initial.out.items ++ behind kind_and_symbol (take l.s-index l.others)

@@ -1,0 +1,12 @@
+pub mod Ends
+pub mod Exported
+pub mod GuardLaws
+pub mod ConclusionText
+pub mod SummaryText
+pub mod Judging
+pub mod GuardAnswers
+pub mod OneReply
+pub mod GuardReports
+pub mod SomeGuard
+pub mod SomeReply
+pub mod CarriedOut

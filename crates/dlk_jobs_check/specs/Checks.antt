@@ -1,0 +1,105 @@
+-- What `check`, `report` and `smt` answer to a model and a term, and `gen` to those that it makes.
+use Rattle.std.specs.Prelude.{◌≡◌, ◌≢◌, ℕ, Bool, true, false, List, [], ◌∷◌, ◌++◌, length, Option, Some, None, codes, decimal}
+use Rattle.dlk_tree.specs.Trees.{Tree}
+use Rattle.dlk_calculus.specs.Sequents.{Sequent}
+use Rattle.dlk_calculus.specs.Provables.{Provable}
+use Rattle.dlk_grammar.specs.declared.token.Dots.TheVariants as dots
+use Rattle.dlk_grammar.specs.declared.token.Form.TheVariants as form
+use Rattle.dlk_grammar.specs.Texts.{TreeText, TreeTextFault, TextFault}
+use Rattle.dlk_grammar.specs.Shown.{spell, shown_sequent}
+use Rattle.dlk_smt.specs.Smt.{first_power, leaves_lines}
+use Rattle.dlk_replay.specs.Files.{Verdict, accepted, bad, file_lines, line_why_text}
+use Rattle.dlk_replay.specs.declared.fault.LineWhy.{LineWhy}
+use Rattle.dlk_print.specs.Lines.{line}
+use Rattle.dlk_report.specs.Reports.{Parts, is_closed, first_word, parts_of, report_of}
+use Rattle.dlk_report.specs.Json.{json_of}
+use Rattle.dlk_replies.specs.declared.reply.Layout.{Layout}
+use Rattle.dlk_replies.specs.declared.reply.Layout.TheVariants.{Text, Json}
+use Rattle.dlk_replies.specs.declared.reply.Showing.{Showing}
+use Rattle.dlk_replies.specs.declared.reply.Showing.TheVariants.{Reported, Exported, Summed}
+use Rattle.dlk_replies.specs.declared.reply.Status.{Status}
+use Rattle.dlk_replies.specs.declared.reply.Status.TheVariants.{Closed, Done, Open, Refused}
+use Rattle.dlk_replies.specs.declared.form.Role.TheVariants.{Model}
+use Rattle.dlk_replies.specs.Replies.{Reply, printing, refusal}
+use Rattle.dlk_replies.specs.Refusals.{text_refused}
+
+-- the model is a text of this formula, without argument dots and `_`
+abbrev pub ModelText : List ℕ → Tree → Type 0
+ModelText model f = TreeText form.Formula dots.Refused model f
+
+-- why the model is none
+abbrev pub ModelFault : List ℕ → TextFault → Type 0
+ModelFault model why = TreeTextFault form.Formula dots.Refused model why
+
+-- the sequent that a proof of the formula shows
+abbrev pub proves : Tree → Sequent
+proves f = record { ante = []; succ = f ∷ [] }
+
+-- refused: line N: WHY
+abbrev pub line_refused : ℕ → LineWhy → Reply
+line_refused n why = refusal (codes "line " ++ (decimal n ++ (codes ": " ++ line_why_text why)))
+
+-- refused: other-conclusion N, and both conclusions
+abbrev pub other_conclusion : ℕ → Tree → Sequent → Reply
+other_conclusion n f found = printing Refused
+    (line (codes "refused: other-conclusion " ++ decimal n) ++ line (codes "expected " ++ spell (shown_sequent (proves f))) ++ line (codes "found " ++ spell (shown_sequent found)))
+
+abbrev pub status_of : Bool → Status
+status_of true = Closed
+status_of false = Open
+
+-- the bytes of a report: lines of text, or a JSON object on a line
+abbrev pub laid_out : Layout → Parts → List ℕ
+laid_out Text parts = report_of parts
+laid_out Json parts = line (json_of parts)
+
+-- the report of a provable that so many lines have shown
+abbrev pub report_in : Layout → Provable → ℕ → List ℕ
+report_in layout p lines = laid_out layout (parts_of p lines)
+
+abbrev pub reported : Layout → Provable → ℕ → Reply
+reported layout p lines = printing (status_of (is_closed p.goals)) (report_in layout p lines)
+
+-- refused: leaf I: power
+abbrev pub power_refused : ℕ → Reply
+power_refused i = refusal (codes "leaf " ++ (decimal i ++ codes ": power"))
+
+-- the leaves of a provable as a script for a solver, or the first of them that has no text
+abbrev pub script_or_refusal : Option ℕ → Provable → Reply
+script_or_refusal (Some i) p = power_refused i
+script_or_refusal None p = printing (status_of (is_closed p.goals)) (leaves_lines 1 p.leaves)
+
+abbrev pub exported : Provable → Reply
+exported p = script_or_refusal (first_power 1 p.leaves) p
+
+-- what is summed up of a provable that so many lines have shown, of a model of n assignments: generated N, lines N, leaves N, and the first line of
+-- the report
+abbrev pub summary : ℕ → Provable → ℕ → List ℕ
+summary n p lines =
+    line (codes "generated " ++ decimal n)
+    ++ (line (codes "lines " ++ decimal lines) ++ (line (codes "leaves " ++ decimal (length p.leaves)) ++ line (first_word (is_closed p.goals))))
+
+abbrev pub summed : ℕ → Provable → ℕ → Reply
+summed n p lines = printing Done (summary n p lines)
+
+-- what is shown of a provable that so many lines have shown
+abbrev pub answered : Showing → Provable → ℕ → Reply
+answered (Reported layout) p lines = reported layout p lines
+answered Exported p lines = exported p
+answered (Summed n) p lines = summed n p lines
+
+-- the term is accepted: each of its lines but `done` is a step, and the last of the rows is p, at this line
+pub record Accepts (term : List ℕ) (rows : List Provable) (p : Provable) : Type 0 where
+  pub before : List Provable
+  pub last : rows ≡ before ++ p ∷ []
+  pub line : ℕ
+  pub verdict : Verdict (file_lines term) (accepted rows line)
+
+-- Checks showing model term reply: this is what is answered to the model and the term. One case an answer.
+pub data Checks (showing : Showing) (model term : List ℕ) : Reply → Type 0 where
+  bad_model : (why : TextFault) → ModelFault model why → Checks showing model term (text_refused Model why)
+  bad_line : (f : Tree) → ModelText model f → (n : ℕ) (why : LineWhy) → Verdict (file_lines term) (bad n why) → Checks showing model term (line_refused n why)
+  bad_conclusion : (f : Tree) → ModelText model f → (rows : List Provable) (p : Provable) → (a : Accepts term rows p) →
+      p.conclusion ≢ proves f → Checks showing model term (other_conclusion a.line f p.conclusion)
+  reports : (f : Tree) → ModelText model f → (rows : List Provable) (p : Provable) → Accepts term rows p →
+      p.conclusion ≡ proves f → Checks showing model term (answered showing p (length rows))

@@ -1,0 +1,4 @@
+pub mod Checks
+pub mod Judged
+pub mod Guards
+pub mod Verdicts

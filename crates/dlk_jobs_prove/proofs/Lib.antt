@@ -1,0 +1,10 @@
+pub mod StrategyLaws
+pub mod RunSteps
+pub mod ProveAnswers
+pub mod OneProof
+pub mod SomeProof
+pub mod Rechecked
+pub mod OneReply
+pub mod SomeReply
+pub mod Summed
+pub mod CarriedOut

@@ -1,0 +1,102 @@
+-- From what reading, running and recording a strategy answer to what `prove` answers.
+use Rattle.std.proofs.Common.{◌≡◌, ◌≤◌, ℕ, List, [], ◌∷◌, length, map, refl, sym, subst, ap, ◌∙◌, inl, inr}
+use Rattle.std.specs.Prelude.{min}
+use Rattle.std.proofs.lemmas.Bool.{cases_lt}
+use Rattle.std.proofs.lemmas.List.{length-map}
+use Rattle.std.proofs.lemmas.List.Elements.{All-nil}
+use Rattle.dlk_tree.specs.Trees.{Tree, size, depth}
+use Rattle.dlk_calculus.specs.Limits.{most_nodes, greatest_depth}
+use Rattle.dlk_grammar.specs.Readings.{TooBig, TooDeep}
+use Rattle.dlk_calculus.specs.Places.{At}
+use Rattle.dlk_calculus.specs.Provables.{Provable}
+use Rattle.dlk_kernel.specs.declared.row.Row.{Row}
+use Rattle.dlk_tacsyn.specs.Tactics.{Tactic}
+use Rattle.dlk_tacsyn.specs.Faults.{Fault, Syntax, Nesting, Repeat, UnknownAtom, Arguments, IsTacSyntaxOf}
+use Rattle.dlk_tacsyn.specs.Strategies.{StrategyText, StrategyFault}
+use Rattle.dlk_tacsyn.specs.declared.fault.TacSyntax.{TacSyntax}
+use Rattle.dlk_tacsyn.specs.declared.fault.TacSyntax.TheVariants as syntax
+use Rattle.dlk_strategy.specs.declared.fault.RunFault.{RunFault}
+use Rattle.dlk_strategy.specs.declared.fault.RunFault.TheVariants as run
+use Rattle.dlk_strategy.specs.Runs.{Progress, Done, RunsModel}
+use Rattle.dlk_strategy.specs.Ties.{IsRunFaultOf}
+use Rattle.dlk_replies.specs.Replies.{Reply}
+use Rattle.dlk_jobs_check.specs.Checks.{ModelText}
+use Rattle.dlk_jobs_prove.specs.Proves.{Proves, bad_strategy, fails, spent, too_long, proves, strategy_refused, RunsTo}
+use Rattle.dlk_jobs_prove.specs.Proved.{IsStrategyRefused, IsRunRefused, finished}
+use Rattle.dlk_jobs_check.proofs.Ends.{last_of}
+use Rattle.dlk_jobs_check.proofs.Judging.{last_item}
+
+-- a model's formula is within the limits of what is read
+pub model_small : (model : List ℕ) (f : Tree) → ModelText model f → size f ≤ most_nodes
+model_small model f reads = elim (cases_lt most_nodes (size f)) [
+  | inr le ↦ le
+  | inl past ↦
+      let r = reads.reads in
+      absurd (r.no_fault (TooBig (min (size f) 4294967295)) (
+        r.phrase,
+        r.says,
+        record {
+          before = [];
+          tree = f;
+          behind = [];
+          trees_are = ap (λ (t : Tree). t ∷ []) r.value_is;
+          past = past;
+          first = All-nil (λ (t : Tree). size t ≤ most_nodes);
+          number = refl;
+        },
+      ))
+]
+
+pub model_shallow : (model : List ℕ) (f : Tree) → ModelText model f → depth f ≤ greatest_depth
+model_shallow model f reads = elim (cases_lt greatest_depth (depth f)) [
+  | inr le ↦ le
+  | inl past ↦
+      let r = reads.reads in
+      absurd (r.no_fault (TooDeep (min (depth f) 4294967295)) (
+        r.phrase,
+        r.says,
+        record {
+          before = [];
+          tree = f;
+          behind = [];
+          trees_are = ap (λ (t : Tree). t ∷ []) r.value_is;
+          past = past;
+          first = All-nil (λ (t : Tree). depth t ≤ greatest_depth);
+          number = refl;
+        },
+      ))
+]
+
+module _ (model text : List ℕ) (f : Tree) (reads : ModelText model f) where
+  by_fault : (why : Fault) (reply : Reply) → StrategyFault text why → reply ≡ strategy_refused why → Proves model text reply
+  by_fault why reply fault is = subst (Proves model text) (sym is) (bad_strategy f reads why fault)
+
+  -- a text that is no strategy
+  pub strategy_answer : (why : TacSyntax) (reply : Reply) → IsTacSyntaxOf (StrategyFault text) why → IsStrategyRefused why reply → Proves model text reply
+  strategy_answer (syntax.Syntax at) reply fault is = by_fault (Syntax at) reply fault is
+  strategy_answer (syntax.Nesting at) reply fault is = by_fault (Nesting at) reply fault is
+  strategy_answer (syntax.Repeat at) reply fault is = by_fault (Repeat at) reply fault is
+  strategy_answer (syntax.UnknownAtom at) reply fault is = by_fault (UnknownAtom at) reply fault is
+  strategy_answer (syntax.Arguments at) reply fault is = by_fault (Arguments at) reply fault is
+  strategy_answer syntax.Memory reply fault is = absurd is
+
+  module _ (t : Tactic) (says : StrategyText text t) where
+    -- a run that fails, or has no more atoms to run
+    pub fault_answer : (why : RunFault) (reply : Reply) → IsRunFaultOf (RunsModel t f) why → IsRunRefused why reply → Proves model text reply
+    fault_answer (run.Fails at why) reply (used, is_run) is =
+        subst (Proves model text) (sym is) (fails at used why (record { formula = f; reads = reads; tactic = t; says = says; run = is_run }))
+    fault_answer (run.Budget at) reply is_run is = subst (Proves model text) (sym is) (spent at (record { formula = f; reads = reads; tactic = t; says = says; run = is_run }))
+    fault_answer run.Memory reply is_run is = absurd is
+
+    -- a run that is done
+    pub done_answer : (made : Progress) (left : ℕ) → RunsModel t f (Done made left) → 1 ≤ length made.rows → (rows : List Row) (stands : Row → Provable) → made.rows ≡ map stands rows →
+        (fact : ℕ) → fact ≡ length rows → (reply : Reply) → ((p : Provable) → At (map stands rows) fact p → finished p made.steps reply) → Proves model text reply
+    done_answer made left is_run some rows stands rows_are fact fact_is reply says_so =
+        let end = last_of made.rows some in
+        let whole : RunsTo model text (Done made left) = record { formula = f; reads = reads; tactic = t; says = says; run = is_run } in
+        let count : length made.rows ≡ fact = ap length rows_are ∙ length-map rows stands ∙ sym fact_is in
+        let there : At (map stands rows) fact end.1 = subst (λ (l : List Provable). At l fact end.1) rows_are (subst (λ n. At made.rows n end.1) count (last_item made.rows end.0 end.1 end.2)) in
+        elim (says_so end.1 there) [
+          | inl long ↦ subst (Proves model text) (sym long.1) (too_long made left whole long.0)
+          | inr short ↦ subst (Proves model text) (sym short.1) (proves made left whole short.0 end.1 (record { before = end.0; rows_are = end.2 }))
+        ]

@@ -1,0 +1,69 @@
+-- `gen` is done or refuses, and sums up the proof that `prove` reports.
+use Rattle.std.proofs.Common.{◌≡◌, ◌⊎◌, ℕ, List, length, None, Some, refl, sym, ap, ◌∙◌, subst, inl, inr}
+use Rattle.dlk_tacsyn.specs.Faults.{Fault, Syntax, Nesting, Repeat, UnknownAtom, Arguments}
+use Rattle.dlk_library.specs.Generated.{generated_model, generated_strategy}
+use Rattle.dlk_replies.specs.declared.form.Role.TheVariants.{Model}
+use Rattle.dlk_replies.specs.declared.reply.Showing.TheVariants.{Summed}
+use Rattle.dlk_replies.specs.declared.reply.Status.TheVariants.{Done}
+use Rattle.dlk_replies.specs.Replies.{Reply, printing}
+use Rattle.dlk_jobs_check.specs.Checks.{Checks, bad_model as checks_fault, bad_line, bad_conclusion, reports, summed}
+use Rattle.dlk_jobs_prove.specs.Proves.{Proves, bad_model, bad_strategy, fails, spent, too_long, proves, strategy_refused}
+use Rattle.dlk_jobs_prove.specs.Generates.{Generates, refuses, checks, SumsUp}
+use Rattle.dlk_replies.proofs.CarriedOut.{IsRefused, text_is_refused}
+use Rattle.dlk_jobs_check.proofs.OneReply.{one_check}
+use Rattle.dlk_jobs_prove.proofs.OneReply.{one_written}
+use Rattle.dlk_jobs_prove.proofs.Rechecked.{RecordedIsAccepted, unwritten, written_by, written_checks}
+use Rattle.dlk_jobs_prove.proofs.StrategyLaws.{OneText, TextOrFault, OneFault, OneRun, RunsTaken, RunsReplaceSymbols, RunsShow}
+
+strategy_is_refused : (why : Fault) → IsRefused (strategy_refused why)
+strategy_is_refused (Syntax at) = refl
+strategy_is_refused (Nesting at) = refl
+strategy_is_refused (Repeat at) = refl
+strategy_is_refused (UnknownAtom at) = refl
+strategy_is_refused (Arguments at) = refl
+
+-- what writes nothing refuses
+unwritten_is_refused : (model strategy : List ℕ) (reply : Reply) → Proves model strategy reply → reply.written ≡ None → IsRefused reply
+unwritten_is_refused model strategy _ (bad_model why is) none = text_is_refused Model why
+unwritten_is_refused model strategy _ (bad_strategy f reads why is) none = strategy_is_refused why
+unwritten_is_refused model strategy _ (fails at used why run) none = refl
+unwritten_is_refused model strategy _ (spent at run) none = refl
+unwritten_is_refused model strategy _ (too_long made left run long) none = refl
+unwritten_is_refused model strategy _ (proves made left run short p ended) none = absurd cc
+
+sum_status : (n : ℕ) (model term : List ℕ) (reply : Reply) → Checks (Summed n) model term reply → (reply.status ≡ Done) ⊎ IsRefused reply
+sum_status n model term _ (checks_fault why is) = inr (text_is_refused Model why)
+sum_status n model term _ (bad_line f reads line why verdict) = inr refl
+sum_status n model term _ (bad_conclusion f reads rows p accepts other) = inr refl
+sum_status n model term _ (reports f reads rows p accepts same) = inl refl
+
+pub generated_status : (n : ℕ) (reply : Reply) → Generates n reply → (reply.status ≡ Done) ⊎ IsRefused reply
+generated_status n _ (refuses reply proof none) = inr (unwritten_is_refused (generated_model n) (generated_strategy n) reply proof none)
+generated_status n _ (checks proved reply term proof written checked) = sum_status n (generated_model n) term reply checked
+
+same_term : {term text : List ℕ} → Some text ≡ Some term → text ≡ term
+same_term e = cc
+
+module _ (recorded : RecordedIsAccepted) (runs_taken : RunsTaken) (replace_symbols : RunsReplaceSymbols) (runs_show : RunsShow) where
+  -- the term that is written is checked: its proof is summed up
+  written_sums : (n : ℕ) (model strategy term : List ℕ) (reply proved : Reply) → Proves model strategy proved → proved.written ≡ Some term →
+      Checks (Summed n) model term reply → SumsUp n reply proved
+  written_sums n model strategy term reply proved proof written checked =
+      let w = written_by model strategy term proved proof written in
+      let mine = written_checks recorded runs_taken replace_symbols runs_show (Summed n) model strategy term proved w in
+      record {
+        proof = w.proof;
+        lines = length w.made.steps;
+        summary = one_check (Summed n) model term reply (summed n w.proof (length w.made.steps)) checked mine;
+        report = ap (λ (r : Reply). printing r.status r.printed) w.reply_is;
+      }
+
+  module _ (one_text : OneText) (text_or_fault : TextOrFault) (one_fault : OneFault) (one_run : OneRun) where
+    pub generated_sums : (n : ℕ) (term : List ℕ) (reply proved : Reply) → Proves (generated_model n) (generated_strategy n) proved → proved.written ≡ Some term →
+        Generates n reply → SumsUp n reply proved
+    generated_sums n term _ proved proof written (refuses reply again none) =
+        absurd (unwritten reply term none (one_written one_text text_or_fault one_fault one_run n proved reply term proof again written))
+    generated_sums n term _ proved proof written (checks second reply text again also checked) =
+        let same : text ≡ term = same_term (sym also ∙ one_written one_text text_or_fault one_fault one_run n proved second term proof again written) in
+        written_sums n (generated_model n) (generated_strategy n) term reply proved proof written
+        (subst (λ (t : List ℕ). Checks (Summed n) (generated_model n) t reply) same checked)

@@ -1,0 +1,105 @@
+use Rattle.std.proofs.Common.{map, refl, sym, subst, ◌∙◌, arith}
+use Rattle.std.proofs.lemmas.List.{length-map}
+use Rattle.std.proofs.lemmas.Result.{IfOk-weaker}
+use Rattle.dlk_tree.specs.Trees.{Tree}
+use Rattle.dlk_calculus.specs.Limits.{IsSmall, IsShallow}
+use Rattle.dlk_calculus.specs.Places.{At}
+use Rattle.dlk_calculus.specs.Provables.{Provable}
+use Rattle.dlk_rules.specs.Steps.{step_at}
+use Rattle.dlk_kernel.specs.Kernel.{facts, provable_at}
+use Rattle.dlk_tacsyn.specs.Ties.{tactic_at}
+use Rattle.dlk_strategy.specs.Ties.{progress_at, IsRunFaultOf}
+use Rattle.dlk_strategy.specs.Runs.{Done, RunsModel}
+use Rattle.dlk_replies.specs.declared.form.Role.TheVariants.{Model}
+use Rattle.dlk_replies.specs.Refused.{IsTextRefused}
+use Rattle.dlk_jobs_check.specs.Checks.{ModelFault}
+use Rattle.dlk_jobs_prove.specs.Proves.{Proves, bad_model}
+use Rattle.dlk_jobs_prove.specs.Proved.{IsStrategyRefused, IsRunRefused, finished}
+use Rattle.dlk_replies.specs.Shown.{reply_of}
+use Rattle.dlk_replies.proofs.TextAnswers.{text_answer}
+use Rattle.dlk_jobs_prove.proofs.ProveAnswers.{model_small, model_shallow, strategy_answer, fault_answer, done_answer}
+use Rattle.dlk_jobs_prove.proofs.RunSteps.{run_count, some_rows}
+use Rattle.dlk_jobs_prove.proofs.prove.prove_on.Goals as goal
+
+pub returns-in-Err : goal.returns-in-Err
+returns-in-Err g c =
+    let model = c.args.model.now in
+    let text = c.args.text.now in
+    IfOk-weaker c.refuse_text.result (λ r. IsTextRefused Model c.in-Err.fault (reply_of r)) (λ r. Proves model text (reply_of r))
+    (λ r is. text_answer Model (ModelFault model) (Proves model text) bad_model c.in-Err.fault (reply_of r) c.in-Err.ensures.fault is) c.refuse_text.ensures
+
+pub returns-in-Err-strategy : goal.returns-in-Err-strategy
+returns-in-Err-strategy g c =
+    let model = c.args.model.now in
+    let text = c.args.text.now in
+    let read = c.in-Ok.ensures.found in
+    IfOk-weaker c.refuse_strategy.result (λ r. IsStrategyRefused c.in-Err-strategy.fault (reply_of r)) (λ r. Proves model text (reply_of r))
+    (λ r is. strategy_answer model text read.0 read.1 c.in-Err-strategy.fault (reply_of r) c.in-Err-strategy.ensures.fault is) c.refuse_strategy.ensures
+
+pub run_strategy-requires-clause-runnable : goal.run_strategy-requires-clause-runnable
+run_strategy-requires-clause-runnable g c = record { known = c.in-Ok-strategy.ensures.known; of_text = c.in-Ok-strategy.ensures.fitting }
+
+pub run_strategy-requires-clause-small : goal.run_strategy-requires-clause-small
+run_strategy-requires-clause-small g c =
+    let read = c.in-Ok.ensures.found in
+    let keeps = g.met.S.Store.grows_keeps c.read_formula.new.store.store c.strategy.new.store.store c.in-Ok-strategy.ensures.grows.0 in
+    subst IsSmall (sym (keeps.same c.in-Ok.formula read.2.known ∙ read.2.tree_is)) (model_small c.args.model.now read.0 read.1)
+
+pub run_strategy-requires-clause-shallow : goal.run_strategy-requires-clause-shallow
+run_strategy-requires-clause-shallow g c =
+    let read = c.in-Ok.ensures.found in
+    let keeps = g.met.S.Store.grows_keeps c.read_formula.new.store.store c.strategy.new.store.store c.in-Ok-strategy.ensures.grows.0 in
+    subst IsShallow (sym (keeps.same c.in-Ok.formula read.2.known ∙ read.2.tree_is)) (model_shallow c.args.model.now read.0 read.1)
+
+pub finish-requires-clause-fact : goal.finish-requires-clause-fact
+finish-requires-clause-fact g c =
+    let run = c.in-Ok-run_strategy.ensures.done in
+    let rows = c.run_strategy.new.kernel.rows in
+    let some = some_rows c.run_shows_formula.ensures _ _ _ _ run.2 in
+    let count = length-map rows (provable_at (g.S.Store.trees c.run_strategy.new.kernel.store)) in
+    (omega (arith, some, count, c.in-Ok-run_strategy.ensures.fact), omega (arith, c.in-Ok-run_strategy.ensures.fact))
+
+pub finish-requires-clause-few : goal.finish-requires-clause-few
+finish-requires-clause-few g c =
+    let run = c.in-Ok-run_strategy.ensures.done in
+    let rows = c.run_strategy.new.kernel.rows in
+    let trees = g.S.Store.trees c.run_strategy.new.kernel.store in
+    let steps = c.in-Ok-run_strategy.done.steps.items in
+    let same = run_count c.run_is_taken.ensures.taken _ _ _ _ run.2 in
+    let row_count = length-map rows (provable_at trees) in
+    let step_count = length-map steps (step_at trees) in
+    sym step_count ∙ same ∙ row_count
+
+pub returns-in-Ok-run_strategy : goal.returns-in-Ok-run_strategy
+returns-in-Ok-run_strategy g c =
+    let model = c.args.model.now in
+    let text = c.args.text.now in
+    let read = c.in-Ok.ensures.found in
+    let old = g.S.Store.trees c.strategy.new.store.store in
+    let trees = g.S.Store.trees c.run_strategy.new.kernel.store in
+    let keeps = g.met.S.Store.grows_keeps c.read_formula.new.store.store c.strategy.new.store.store c.in-Ok-strategy.ensures.grows.0 in
+    let same = keeps.same c.in-Ok.formula read.2.known ∙ read.2.tree_is in
+    let tactic = tactic_at old c.in-Ok-strategy.tactic in
+    let done = c.in-Ok-run_strategy.done in
+    let run = c.in-Ok-run_strategy.ensures.done in
+    let made = progress_at g.S.Store.trees c.run_strategy.new.kernel done.steps.items run.0 in
+    let is_run = subst (λ (t : Tree). RunsModel tactic t (Done made run.1)) same run.2 in
+    IfOk-weaker c.finish.result
+    (λ r. (p : Provable) → At (facts g.S.Store.trees c.run_strategy.new.kernel) done.fact p → finished p (map (step_at trees) done.steps.items) (reply_of r))
+    (λ r. Proves model text (reply_of r))
+    (λ r says. done_answer model text read.0 read.1 tactic c.in-Ok-strategy.ensures.found made run.1 is_run (some_rows c.run_shows_formula.ensures _ _ made run.1 is_run) c.run_strategy.new.kernel.rows (provable_at trees) refl
+    done.fact c.in-Ok-run_strategy.ensures.fact (reply_of r) says) c.finish.ensures
+
+pub returns : goal.returns
+returns g c =
+    let model = c.args.model.now in
+    let text = c.args.text.now in
+    let read = c.in-Ok.ensures.found in
+    let old = g.S.Store.trees c.strategy.new.store.store in
+    let keeps = g.met.S.Store.grows_keeps c.read_formula.new.store.store c.strategy.new.store.store c.in-Ok-strategy.ensures.grows.0 in
+    let same = keeps.same c.in-Ok.formula read.2.known ∙ read.2.tree_is in
+    let tactic = tactic_at old c.in-Ok-strategy.tactic in
+    let fault = c.in-Err-run_strategy.fault in
+    let becomes = subst (λ (t : Tree). IsRunFaultOf (RunsModel tactic t) fault) same c.in-Err-run_strategy.ensures.fault in
+    IfOk-weaker c.refuse_run.result (λ r. IsRunRefused fault (reply_of r)) (λ r. Proves model text (reply_of r))
+    (λ r is. fault_answer model text read.0 read.1 tactic c.in-Ok-strategy.ensures.found fault (reply_of r) becomes is) c.refuse_run.ensures

@@ -1,0 +1,3 @@
+pub mod Proves
+pub mod Proved
+pub mod Generates

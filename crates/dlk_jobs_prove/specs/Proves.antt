@@ -1,0 +1,77 @@
+-- What `prove` answers to a model and a strategy, and the term that it writes.
+use Rattle.std.specs.Prelude.{◌≡◌, ◌<◌, ◌≤◌, ℕ, List, [], ◌∷◌, ◌++◌, length, Some, codes, decimal}
+use Rattle.dlk_tree.specs.Trees.{Tree}
+use Rattle.dlk_calculus.specs.Provables.{Provable}
+use Rattle.dlk_calculus.specs.Reasons.{reason_text}
+use Rattle.dlk_calculus.specs.Steps.{Step}
+use Rattle.dlk_grammar.specs.Texts.{TextFault}
+use Rattle.dlk_report.specs.Reports.{is_closed}
+use Rattle.dlk_tacsyn.specs.Tactics.{Tactic}
+use Rattle.dlk_tacsyn.specs.Faults.{Fault, Syntax, Nesting, Repeat, UnknownAtom, Arguments}
+use Rattle.dlk_tacsyn.specs.Strategies.{StrategyText, StrategyFault}
+use Rattle.dlk_strategy.specs.declared.fault.FailWhy.{FailWhy}
+use Rattle.dlk_strategy.specs.declared.fault.FailWhy.TheVariants as fail
+use Rattle.dlk_strategy.specs.Runs.{Progress, Outcome, Done, Fails, Budget, RunsModel}
+use Rattle.dlk_recorder.specs.Terms.{term_text}
+use Rattle.dlk_replies.specs.declared.form.Role.TheVariants.{Model, Term, Strategy}
+use Rattle.dlk_replies.specs.declared.reply.Layout.TheVariants.{Text}
+use Rattle.dlk_replies.specs.Forms.{limit_of}
+use Rattle.dlk_replies.specs.Replies.{Reply, refusal}
+use Rattle.dlk_replies.specs.Refusals.{refused_at, text_refused}
+use Rattle.dlk_jobs_check.specs.Checks.{ModelText, ModelFault, status_of, report_in}
+
+-- refused: strategy at B: WHY. One row a fault.
+abbrev pub strategy_refused : Fault → Reply
+strategy_refused (Syntax at) = refused_at Strategy at (codes "syntax")
+strategy_refused (Nesting at) = refused_at Strategy at (codes "nesting")
+strategy_refused (Repeat at) = refused_at Strategy at (codes "repeat")
+strategy_refused (UnknownAtom at) = refused_at Strategy at (codes "unknown")
+strategy_refused (Arguments at) = refused_at Strategy at (codes "arguments")
+
+-- the word for why a strategy fails
+abbrev pub fail_text : FailWhy → List ℕ
+fail_text fail.WrongCount = codes "WrongCount"
+fail_text fail.UnknownName = codes "UnknownName"
+fail_text fail.NoPlace = codes "NoPlace"
+fail_text fail.NoMatch = codes "NoMatch"
+fail_text (fail.Step reason) = reason_text reason
+
+-- refused: fails at B: WHY
+abbrev pub failed : ℕ → FailWhy → Reply
+failed at why = refusal (codes "fails at " ++ (decimal at ++ (codes ": " ++ fail_text why)))
+
+-- refused: budget at B
+abbrev pub over_budget : ℕ → Reply
+over_budget at = refusal (codes "budget at " ++ decimal at)
+
+-- refused: term-too-long N
+abbrev pub term_too_long : ℕ → Reply
+term_too_long bytes = refusal (codes "term-too-long " ++ decimal bytes)
+
+-- the report of what the steps show, and their term file
+abbrev pub proved : Provable → List Step → Reply
+proved p steps = record { status = status_of (is_closed p.goals); printed = report_in Text p (length steps); written = Some (term_text steps) }
+
+-- the texts are a formula and a strategy, of whose run this becomes
+pub record RunsTo (model strategy : List ℕ) (outcome : Outcome) : Type 0 where
+  pub formula : Tree
+  pub reads : ModelText model formula
+  pub tactic : Tactic
+  pub says : StrategyText strategy tactic
+  pub run : RunsModel tactic formula outcome
+
+-- the last of the rows
+pub record IsLast (rows : List Provable) (p : Provable) : Type 0 where
+  pub before : List Provable
+  pub rows_are : rows ≡ before ++ p ∷ []
+
+-- Proves model strategy reply: this is what is answered to the two texts. One case an answer, the first that applies.
+pub data Proves (model strategy : List ℕ) : Reply → Type 0 where
+  bad_model : (why : TextFault) → ModelFault model why → Proves model strategy (text_refused Model why)
+  bad_strategy : (f : Tree) → ModelText model f → (why : Fault) → StrategyFault strategy why → Proves model strategy (strategy_refused why)
+  fails : (at used : ℕ) (why : FailWhy) → RunsTo model strategy (Fails at why used) → Proves model strategy (failed at why)
+  spent : (at : ℕ) → RunsTo model strategy (Budget at) → Proves model strategy (over_budget at)
+  too_long : (made : Progress) (left : ℕ) → RunsTo model strategy (Done made left) → limit_of Term < length (term_text made.steps) →
+      Proves model strategy (term_too_long (length (term_text made.steps)))
+  proves : (made : Progress) (left : ℕ) → RunsTo model strategy (Done made left) → length (term_text made.steps) ≤ limit_of Term →
+      (p : Provable) → IsLast made.rows p → Proves model strategy (proved p made.steps)

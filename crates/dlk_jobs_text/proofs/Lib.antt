@@ -1,0 +1,10 @@
+pub mod PrintAnswers
+pub mod ListTexts
+pub mod ListAnswers
+pub mod SubstAnswers
+pub mod OneSubstitution
+pub mod FewLooks
+pub mod OneReply
+pub mod SomeListing
+pub mod SomeReply
+pub mod CarriedOut

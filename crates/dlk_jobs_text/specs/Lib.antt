@@ -1,0 +1,4 @@
+pub mod Prints
+pub mod Lists
+pub mod Substitutes
+pub mod Looks

@@ -1,0 +1,6 @@
+-- Lines of printed text.
+use Rattle.std.specs.Prelude.{ℕ, List, [], ◌∷◌, ◌++◌}
+
+-- a text as a line
+abbrev pub line : List ℕ → List ℕ
+line text = text ++ 10 ∷ []

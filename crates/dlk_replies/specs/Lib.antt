@@ -1,0 +1,6 @@
+pub mod Forms
+pub mod Replies
+pub mod Inputs
+pub mod Refusals
+pub mod Refused
+pub mod Shown

@@ -1,0 +1,164 @@
+ghost use Rattle.std.specs.Prelude.{◌≡◌, ◌<◌, []};
+
+use super::same;
+use dlk_calculus::Reason;
+use dlk_guard::Guard;
+use dlk_kernel::Kernel;
+use dlk_replay::LineWhy::{Malformed, NoEnd, WrongNumber};
+use dlk_replay::ReplayFault::Bad;
+use dlk_replay::{LineWhy, Outcome, ReplayFault, replay, replay_watched};
+use dlk_shared::SharedStore;
+use dlk_store::{Steps, Store};
+use std::alloc::Global;
+use std::marker::Brand;
+use std::sync::ledger::{Blank, Ledger};
+use std::test::Fail;
+
+/// What becomes of a file, with nothing counted.
+fn uncounted<L: Ledger>(alloc: Global, file: &[u8], blank: Blank) -> Result<Outcome, ReplayFault>
+    requires name { blank.name ≡ L.name }
+    requires parts { blank.parts ≡ L.parts }
+    requires some { 0 < blank.parts }
+{
+    let mut kernel = Kernel::new(alloc, SharedStore::new(alloc));
+    replay(alloc, file, &mut kernel, &mut Steps::<L>::new(blank))
+}
+
+fn fate(alloc: Global, file: &[u8]) -> Result<Outcome, ReplayFault> {
+    uncounted::<Brand>(alloc, file, Blank::new(1))
+}
+
+/// The line that a guard refuses of an accepted file, with nothing counted.
+fn uncounted_refusal<L: Ledger>(
+    alloc: Global,
+    file: &[u8],
+    blank: Blank,
+) -> Result<Option<usize>, ReplayFault>
+    requires name { blank.name ≡ L.name }
+    requires parts { blank.parts ≡ L.parts }
+    requires some { 0 < blank.parts }
+{
+    let mut kernel = Kernel::new(alloc, SharedStore::new(alloc));
+    refusal_on(alloc, file, &mut kernel, &mut Steps::<L>::new(blank))
+}
+
+/// The same on a kernel.
+fn refusal_on<S: Store, L: Ledger>(
+    alloc: Global,
+    file: &[u8],
+    kernel: &mut Kernel<S>,
+    steps: &mut Steps<L>,
+) -> Result<Option<usize>, ReplayFault>
+    requires { kernel.old.rows ≡ [] }
+{
+    let mut guard = Guard::new(alloc);
+    replay_watched(alloc, file, kernel, &mut guard, steps)?;
+    Ok(guard.verdict().map(|refusal| refusal.line))
+}
+
+fn refused_line(alloc: Global, file: &[u8]) -> Result<Option<usize>, ReplayFault> {
+    uncounted_refusal::<Brand>(alloc, file, Blank::new(1))
+}
+
+/// What becomes of a file of three lines.
+const THREE: Outcome = Outcome {
+    fact: 3,
+    lines: 3,
+    line: 3,
+};
+
+#[test]
+fn replays_files(rt: HostRuntime) -> Result<(), Fail> {
+    for (file, want) in &[
+        (
+            "1 start ==> x>=0 -> x>=0\n2 apply 1 1 implyR(1)\n3 apply 2 1 close(1,1)\ndone\n",
+            Ok(THREE),
+        ),
+        (
+            "1 start ==> x>=0 -> x>=0\n2 apply 1 1 implyR(1)\n3 apply 2 1 close(1,1)\ndone",
+            Ok(THREE),
+        ),
+        (
+            "1 start ==> x>=0 -> x>=0\n2 apply 1 1 implyR(1)\n3 apply 2 1 close(1,1)\n",
+            Err(Bad {
+                line: 4,
+                why: NoEnd,
+            }),
+        ),
+        (
+            "1 start ==> x>=0 -> x>=0\n2 apply 1 1 implyR(1)\n4 apply 2 1 close(1,1)\ndone\n",
+            Err(Bad {
+                line: 3,
+                why: WrongNumber,
+            }),
+        ),
+        (
+            "1 start ==> x>=0 -> x>=1\n2 apply 1 1 implyR(1)\n3 apply 2 1 close(1,1)\nnonsense\ndone\n",
+            Err(Bad {
+                line: 3,
+                why: LineWhy::Step(Reason::NotEqual),
+            }),
+        ),
+        (
+            "1 start ==> x>=0\ndone\nx\n",
+            Err(Bad {
+                line: 3,
+                why: Malformed,
+            }),
+        ),
+        (
+            "1 start ==> x>=0\ndone\n\n",
+            Err(Bad {
+                line: 3,
+                why: Malformed,
+            }),
+        ),
+        (
+            "1 start ==> x>=0\n\ndone\n",
+            Err(Bad {
+                line: 2,
+                why: Malformed,
+            }),
+        ),
+        (
+            "done\n",
+            Err(Bad {
+                line: 1,
+                why: Malformed,
+            }),
+        ),
+        (
+            "",
+            Err(Bad {
+                line: 1,
+                why: NoEnd,
+            }),
+        ),
+    ] {
+        same(&rt, fate(rt.alloc(), file.as_bytes()), *want, file);
+    }
+    Ok(())
+}
+
+#[test]
+fn guards_files(rt: HostRuntime) -> Result<(), Fail> {
+    for (file, want) in &[
+        ("1 start ==> x>=0\ndone\n", Ok(None)),
+        (
+            "1 axiom DW\n2 axiom Dforall\n3 axiom DW\ndone\n",
+            Ok(Some(2)),
+        ),
+        ("1 axiom DI\n2 axiom DW\ndone\n", Ok(None)),
+        ("1 axiom DW\n2 axiom DI\ndone\n", Ok(Some(2))),
+        (
+            "1 axiom Dforall\n",
+            Err(Bad {
+                line: 2,
+                why: NoEnd,
+            }),
+        ),
+    ] {
+        same(&rt, refused_line(rt.alloc(), file.as_bytes()), *want, file);
+    }
+    Ok(())
+}

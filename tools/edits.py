@@ -1,0 +1,273 @@
+#!/usr/bin/env python3
+"""Tries the wrong bodies of the crates: the prover must refuse each.
+
+    python3 tools/edits.py [NAME ..] [--room FOLDER] [--jobs N] [--table]
+    python3 tools/edits.py [NAME ..] --look
+
+An edit is a file that makes the code of a crate wrong. Those that tell most stand in `crates/NAME/must-fail/`, and the gate tries them; the
+others stand in `crates/NAME/edits/`. This tries both, of the named crates or of all that have any, with the files as they stand in this
+checkout. Who changes a crate tries its edits before the change lands.
+
+They are tried by `rt must-fail` in a copy of the crates, in the folder that --room names or else in one below TMPDIR, --jobs of them at a
+time, or as many as there are processors. The copy stays: what was proved and tried there isn't done again while the files are the same, so a
+run that was broken off goes on where it was, crate by crate, when it is started again. What the crates stand on is proved first, unless it
+is there from earlier checks on this machine. Remove the folder to begin anew, and when nothing is to be tried any more.
+
+A line an edit says what came of it:
+
+    dlk_memo/looks_twice: refused at src/walk.rt:40:5, looks
+    dlk_memo/looks_thrice: NOT REFUSED
+
+with the place, and the clause or other condition that is not proved there. `for a limit` stands where the prover gave up without a verdict,
+and `bad` where the edit can't be applied or read, so that it says nothing. Last come the sums by crate; with --table as rows of a table.
+The exit status is 0 where each edit is refused, 1 where one isn't, and 2 where they could not be tried.
+
+With --look nothing is tried: it is only said which edits can't be applied, since the text that they change is gone or stands there twice. That
+takes a moment, and is to be done whenever code changed. The exit status is then 1 where there are such edits.
+"""
+
+import argparse
+import os
+import re
+import shutil
+import subprocess
+import sys
+import tempfile
+from collections import Counter
+from concurrent.futures import ThreadPoolExecutor
+from pathlib import Path
+from typing import NamedTuple
+
+TOP = Path(__file__).resolve().parent.parent
+PARTS = ("src", "specs", "proofs")
+FOLDERS = ("must-fail", "edits")
+SAID = re.compile(r"rt: must-fail (\w+)/(\S+)\.edit: (.*)")
+PLACE = re.compile(r"\b((?:src|specs|proofs)/\S+?:\d+:\d+)")
+CLAUSE = re.compile(r"`[^`\s]*?clause-([\w-]+?)(?:-fault)?`")
+CONDITION = re.compile(r"`([^`\s]+)`")
+KINDS = ("refused", "for a limit", "bad", "NOT REFUSED", "not tried")
+
+
+class Refused(Exception):
+    """Why the edits could not be tried, in one line."""
+
+
+class Tried(NamedTuple):
+    """What came of an edit: its crate and name, one of KINDS, and where and why, as far as rt says it."""
+
+    crate: str
+    edit: str
+    kind: str
+    why: str
+
+    def line(self):
+        """The line that tells it."""
+        return f"{self.crate}/{self.edit}: {self.kind}{self.why}"
+
+
+def crates():
+    """The crates of crates.txt, lowest first, each with the libraries of its line."""
+    rows = [line.split(":") for line in (TOP / "crates.txt").read_text().splitlines() if ":" in line and not line.startswith("#")]
+    return {name.split()[0]: below.split() for name, below in rows}
+
+
+def edits_of(crate):
+    """The edits of a crate, by name."""
+    found = {}
+    for folder in FOLDERS:
+        for edit in sorted((TOP / "crates" / crate / folder).glob("*.edit")):
+            if edit.stem in found:
+                raise Refused(f"{crate} has two edits named {edit.stem}")
+            found[edit.stem] = edit
+    return found
+
+
+def chosen(names):
+    """The crates whose edits are tried, lowest first."""
+    every = crates()
+    for name in names:
+        if name not in every:
+            raise Refused(f"{name} is no crate of crates.txt")
+    return [name for name in every if (not names or name in names) and edits_of(name)]
+
+
+def with_those_below(names):
+    """The crates and all that they stand on, lowest first."""
+    every, found, left = crates(), set(), list(names)
+    while left:
+        name = left.pop()
+        if name in every and name not in found:
+            found.add(name)
+            left += every[name]
+    return [name for name in every if name in found]
+
+
+def room_of(folder):
+    """The folder of the copy, made where it isn't there. One that isn't ours is refused."""
+    room = Path(folder or Path(tempfile.gettempdir()) / f"dlk-edits.{os.getuid()}").absolute()
+    if room == TOP or TOP in room.parents:
+        raise Refused(f"{room} lies in this checkout, where the gate would find it: name a folder outside")
+    mark = room / "of-tools-edits"
+    if room.exists() and (not mark.exists() or room.stat().st_uid != os.getuid()):
+        raise Refused(f"{room} is there, and not made by this script")
+    room.mkdir(mode=0o700, parents=True, exist_ok=True)
+    mark.touch()
+    return room
+
+
+def copy(room, names):
+    """Puts the crates as they stand here into the room. What was proved there stays beside them."""
+    lines = [f"{name}: {' '.join(below)}\n" for name, below in crates().items() if name in names]
+    (room / "crates.txt").write_text("".join(lines))
+    shutil.copyfile(TOP / "HANDLES", room / "HANDLES")
+    for name in names:
+        to = room / "crates" / name
+        for part in (*PARTS, "must-fail"):
+            shutil.rmtree(to / part, ignore_errors=True)
+        for part in PARTS:
+            if (TOP / "crates" / name / part).is_dir():
+                shutil.copytree(TOP / "crates" / name / part, to / part)
+    for name in os.listdir(room / "crates"):
+        if name not in names:
+            shutil.rmtree(room / "crates" / name)
+
+
+def place_edits(room, crate):
+    """Puts the edits of a crate where `rt must-fail` finds them."""
+    folder = room / "crates" / crate / "must-fail"
+    folder.mkdir(exist_ok=True)
+    for name, edit in edits_of(crate).items():
+        shutil.copyfile(edit, folder / f"{name}.edit")
+
+
+def is_built(top, crate):
+    """Whether an earlier check left the library of a crate there. rt says itself whether it is of the same files, and else proves it again."""
+    return (top / "crates" / crate / "out" / "rlib" / "stamp").exists()
+
+
+def build(room, names, jobs):
+    """Proves what the crates stand on, side by side, where neither this room nor the checkout has it."""
+    below = {name for crate in names for name in with_those_below([crate]) if name != crate}
+    if all(is_built(room, name) or is_built(TOP, name) for name in below):
+        return
+    print(f"proving the {len(below)} crates below first", file=sys.stderr, flush=True)
+    with open(room / "log", "w", encoding="utf-8") as log:
+        subprocess.run(["rt", "all", "check", "--jobs", str(jobs)], cwd=room / "crates", stdout=log, stderr=subprocess.STDOUT, check=False)
+
+
+def told(crate, name, text):
+    """What rt says of an edit."""
+    if text.startswith("refused"):
+        place = PLACE.search(text)
+        reason = CLAUSE.search(text) or CONDITION.search(text)
+        kind = "for a limit" if "only by a limit" in text else "refused"
+        where = f" at {place[1]}" if place else ""
+        only = ", a proof names what it takes away" if "because a proof file names" in text else ""
+        return Tried(crate, name, kind, where + (f", {reason[1]}" if reason else "") + only)
+    kind = "NOT REFUSED" if text.startswith("NOT REFUSED") else "bad" if text.startswith("BAD EDIT") else "not tried"
+    return Tried(crate, name, kind, "" if kind == "NOT REFUSED" else f": {text.partition(': ')[2]}")
+
+
+def tried(room, crate, jobs):
+    """Tries the edits of a crate, so many at a time, and gives what came of each."""
+    how = {"cwd": room, "stdout": subprocess.PIPE, "stderr": subprocess.STDOUT, "text": True, "errors": "replace", "check": False}
+    ran = subprocess.run(["rt", "must-fail", crate], env={**os.environ, "RT_JOBS": str(jobs)}, **how)
+    found = {match[2]: told(crate, match[2], match[3]) for match in map(SAID.match, ran.stdout.splitlines()) if match}
+    if not found:
+        last = (ran.stdout.strip().splitlines() or ["rt said nothing"])[-1]
+        raise Refused(f"{crate}: rt must-fail did not try its edits: {last}")
+    return [found.get(name) or Tried(crate, name, "not tried", ": rt said nothing of it") for name in edits_of(crate)]
+
+
+def all_tried(room, names, jobs):
+    """Tries the edits of the crates, those that take longest first, and prints what came of each once its crate is done."""
+    every, weight = [], {name: len(edits_of(name)) * (2 + len(with_those_below([name]))) for name in names}
+    for name in names:
+        place_edits(room, name)
+    at_once = max(1, jobs // 2)
+    with ThreadPoolExecutor(at_once) as pool:
+        runs = [pool.submit(tried, room, name, max(1, jobs // at_once)) for name in sorted(names, key=lambda name: -weight[name])]
+        for number, run in enumerate(runs, 1):
+            found = run.result()
+            every += found
+            print("\n".join(it.line() for it in found), flush=True)
+            print(f"{found[0].crate}: done, {number} of {len(names)} crates", file=sys.stderr, flush=True)
+    return every
+
+
+def fault(crate, edit):
+    """Why an edit can't be applied, by the rules of rt: its lines `file:`, `old:` and `new:`, and each old text once in its file."""
+    path, old, texts = "", None, {}
+    for line in edit.read_text().splitlines():
+        word, _, rest = line.partition(":")
+        rest = rest.removeprefix(" ")
+        if word == "file":
+            path = TOP / "crates" / crate / rest.strip()
+        elif word == "old":
+            old = rest
+        elif word == "new":
+            if not path or not path.is_file():
+                return f"there is no file {path}"
+            text = texts.get(path) or path.read_text()
+            if not old or text.count(old) != 1:
+                return f"this text stands in {path.name} {text.count(old) if old else 0} times: {old}"
+            texts[path], old = text.replace(old, rest), None
+    return "" if texts else "it changes nothing"
+
+
+def look(names):
+    """Says which edits can't be applied, and whether there are none."""
+    faults = [(name, edit, fault(name, path)) for name in names for edit, path in edits_of(name).items()]
+    for name, edit, why in faults:
+        if why:
+            print(f"{name}/{edit}: {why}")
+    bad = sum(bool(why) for _, _, why in faults)
+    print(f"{len(faults)} edits, {bad} of them can't be applied")
+    return not bad
+
+
+def sums(crate, every):
+    """How many edits of a crate came to what."""
+    counts = Counter(it.kind for it in every if it.crate == crate)
+    return [counts[kind] for kind in KINDS]
+
+
+def tell_sums(names, every, as_table):
+    """Prints the sums by crate, and of all."""
+    if as_table:
+        print(f"| crate | edits | {' | '.join(KINDS)} |\n|---|{'---|' * (len(KINDS) + 1)}")
+    for name in [*names, "all"]:
+        of = sums(name, every) if name != "all" else [sum(it) for it in zip(*(sums(name, every) for name in names))]
+        if as_table:
+            print(f"| {name if name == 'all' else f'`{name}`'} | {sum(of)} | {' | '.join(map(str, of))} |")
+        else:
+            print(f"{name}: {sum(of)} edits, " + ", ".join(f"{number} {kind}" for number, kind in zip(of, KINDS) if number or kind == "refused"))
+
+
+def main():
+    words = argparse.ArgumentParser(description="Tries the wrong bodies of the crates: the prover must refuse each.")
+    words.add_argument("names", nargs="*", metavar="NAME", help="a crate; none: all that have edits")
+    words.add_argument("--room", metavar="FOLDER", help="where the copy of the crates stands")
+    words.add_argument("--jobs", metavar="N", type=int, default=len(os.sched_getaffinity(0)), help="how many are tried at a time")
+    words.add_argument("--table", action="store_true", help="the sums as rows of a table")
+    words.add_argument("--look", action="store_true", help="only say which edits can't be applied")
+    given = words.parse_args()
+    try:
+        if given.look:
+            return 0 if look(chosen(given.names)) else 1
+        if shutil.which("rt") is None:
+            raise Refused("there is no rt on the path: edits are tried with the Rattle toolchain")
+        names, room = chosen(given.names), room_of(given.room)
+        (room / "crates").mkdir(exist_ok=True)
+        copy(room, with_those_below(names))
+        build(room, names, max(1, given.jobs))
+        every = all_tried(room, names, max(1, given.jobs))
+        tell_sums(names, every, given.table)
+        return 0 if all(it.kind in KINDS[:2] for it in every) else 1
+    except (Refused, OSError) as why:
+        print(f"edits.py: {why}", file=sys.stderr)
+        return 2
+
+
+if __name__ == "__main__":
+    sys.exit(main())
