@@ -8,12 +8,12 @@ An edit is a file that makes the code of a crate wrong. Those that tell most sta
 others stand in `crates/NAME/edits/`. This tries both, of the named crates or of all that have any, with the files as they stand in this
 checkout. Who changes a crate tries its edits before the change lands.
 
-They are tried by `rt must-fail` in a copy of the crates, in the folder that --room names or else in one below TMPDIR, --jobs of them at a
-time, or as many as there are processors. The copy stays: what was proved and tried there isn't done again while the files are the same, so a
-run that was broken off goes on where it was, crate by crate, when it is started again. What the crates stand on is proved first, unless it
-is there from earlier checks on this machine. Remove the folder to begin anew, and when nothing is to be tried any more.
+They are tried as the gate tries its own, by `rt ci NAME ..` in a copy of these crates and of those below them, in the folder that --room names
+or else in one below TMPDIR, --jobs of them at a time, or as many as there are processors. What the crates stand on is proved first. What was
+proved or tried on this machine before, here or by the gate, isn't done again while the files are the same: so a run that was broken off goes
+on where it was, crate by crate, when it is started again.
 
-A line an edit says what came of it:
+Behind the run a line an edit says what came of it:
 
     dlk_memo/looks_twice: refused at src/walk.rt:40:5, looks
     dlk_memo/looks_thrice: NOT REFUSED
@@ -34,13 +34,12 @@ import subprocess
 import sys
 import tempfile
 from collections import Counter
-from concurrent.futures import ThreadPoolExecutor
 from pathlib import Path
 from typing import NamedTuple
 
 TOP = Path(__file__).resolve().parent.parent
-PARTS = ("src", "specs", "proofs")
 FOLDERS = ("must-fail", "edits")
+AHEAD = re.compile(r"rt: \w+(?: proved| NOT PROVED| is kept|: its tests are|: trying its|: \d+ of its)")
 SAID = re.compile(r"rt: must-fail (\w+)/(\S+)\.edit: (.*)")
 PLACE = re.compile(r"\b((?:src|specs|proofs)/\S+?:\d+:\d+)")
 CLAUSE = re.compile(r"`[^`\s]*?clause-([\w-]+?)(?:-fault)?`")
@@ -116,43 +115,19 @@ def room_of(folder):
 
 
 def copy(room, names):
-    """Puts the crates as they stand here into the room. What was proved there stays beside them."""
-    lines = [f"{name}: {' '.join(below)}\n" for name, below in crates().items() if name in names]
+    """Puts the crates and what they stand on into the room as they are here, and the edits of the crates where the gate finds them."""
+    every = with_those_below(names)
+    shutil.rmtree(room / "crates", ignore_errors=True)
+    lines = [f"{name}: {' '.join(below)}\n" for name, below in crates().items() if name in every]
     (room / "crates.txt").write_text("".join(lines))
     shutil.copyfile(TOP / "HANDLES", room / "HANDLES")
+    for name in every:
+        shutil.copytree(TOP / "crates" / name, room / "crates" / name, ignore=shutil.ignore_patterns("out", *FOLDERS))
     for name in names:
-        to = room / "crates" / name
-        for part in (*PARTS, "must-fail"):
-            shutil.rmtree(to / part, ignore_errors=True)
-        for part in PARTS:
-            if (TOP / "crates" / name / part).is_dir():
-                shutil.copytree(TOP / "crates" / name / part, to / part)
-    for name in os.listdir(room / "crates"):
-        if name not in names:
-            shutil.rmtree(room / "crates" / name)
-
-
-def place_edits(room, crate):
-    """Puts the edits of a crate where `rt must-fail` finds them."""
-    folder = room / "crates" / crate / "must-fail"
-    folder.mkdir(exist_ok=True)
-    for name, edit in edits_of(crate).items():
-        shutil.copyfile(edit, folder / f"{name}.edit")
-
-
-def is_built(top, crate):
-    """Whether an earlier check left the library of a crate there. rt says itself whether it is of the same files, and else proves it again."""
-    return (top / "crates" / crate / "out" / "rlib" / "stamp").exists()
-
-
-def build(room, names, jobs):
-    """Proves what the crates stand on, side by side, where neither this room nor the checkout has it."""
-    below = {name for crate in names for name in with_those_below([crate]) if name != crate}
-    if all(is_built(room, name) or is_built(TOP, name) for name in below):
-        return
-    print(f"proving the {len(below)} crates below first", file=sys.stderr, flush=True)
-    with open(room / "log", "w", encoding="utf-8") as log:
-        subprocess.run(["rt", "all", "check", "--jobs", str(jobs)], cwd=room / "crates", stdout=log, stderr=subprocess.STDOUT, check=False)
+        folder = room / "crates" / name / "must-fail"
+        folder.mkdir()
+        for edit, file in edits_of(name).items():
+            shutil.copyfile(file, folder / f"{edit}.edit")
 
 
 def told(crate, name, text):
@@ -168,31 +143,20 @@ def told(crate, name, text):
     return Tried(crate, name, kind, "" if kind == "NOT REFUSED" else f": {text.partition(': ')[2]}")
 
 
-def tried(room, crate, jobs):
-    """Tries the edits of a crate, so many at a time, and gives what came of each."""
-    how = {"cwd": room, "stdout": subprocess.PIPE, "stderr": subprocess.STDOUT, "text": True, "errors": "replace", "check": False}
-    ran = subprocess.run(["rt", "must-fail", crate], env={**os.environ, "RT_JOBS": str(jobs)}, **how)
-    found = {match[2]: told(crate, match[2], match[3]) for match in map(SAID.match, ran.stdout.splitlines()) if match}
+def tried(room, names, jobs):
+    """Tries the edits of the crates, so many at a time, tells on the way how far it is, and gives what came of each."""
+    how = {"cwd": room, "stdout": subprocess.PIPE, "stderr": subprocess.STDOUT, "text": True, "errors": "replace"}
+    found, last = {}, "rt said nothing"
+    with subprocess.Popen(["rt", "ci", *names], env={**os.environ, "RT_JOBS": str(jobs)}, **how) as run:
+        for line in map(str.rstrip, run.stdout):
+            said, last = SAID.match(line), line or last
+            if said:
+                found[said[1], said[2]] = told(said[1], said[2], said[3])
+            elif AHEAD.match(line):
+                print(line.removeprefix("rt: "), file=sys.stderr, flush=True)
     if not found:
-        last = (ran.stdout.strip().splitlines() or ["rt said nothing"])[-1]
-        raise Refused(f"{crate}: rt must-fail did not try its edits: {last}")
-    return [found.get(name) or Tried(crate, name, "not tried", ": rt said nothing of it") for name in edits_of(crate)]
-
-
-def all_tried(room, names, jobs):
-    """Tries the edits of the crates, those that take longest first, and prints what came of each once its crate is done."""
-    every, weight = [], {name: len(edits_of(name)) * (2 + len(with_those_below([name]))) for name in names}
-    for name in names:
-        place_edits(room, name)
-    at_once = max(1, jobs // 2)
-    with ThreadPoolExecutor(at_once) as pool:
-        runs = [pool.submit(tried, room, name, max(1, jobs // at_once)) for name in sorted(names, key=lambda name: -weight[name])]
-        for number, run in enumerate(runs, 1):
-            found = run.result()
-            every += found
-            print("\n".join(it.line() for it in found), flush=True)
-            print(f"{found[0].crate}: done, {number} of {len(names)} crates", file=sys.stderr, flush=True)
-    return every
+        raise Refused(f"rt ci tried no edit: {last}")
+    return [found.get((name, edit)) or Tried(name, edit, "not tried", ": rt said nothing of it") for name in names for edit in edits_of(name)]
 
 
 def fault(crate, edit):
@@ -258,10 +222,9 @@ def main():
         if shutil.which("rt") is None:
             raise Refused("there is no rt on the path: edits are tried with the Rattle toolchain")
         names, room = chosen(given.names), room_of(given.room)
-        (room / "crates").mkdir(exist_ok=True)
-        copy(room, with_those_below(names))
-        build(room, names, max(1, given.jobs))
-        every = all_tried(room, names, max(1, given.jobs))
+        copy(room, names)
+        every = tried(room, names, max(1, given.jobs))
+        print("\n".join(it.line() for it in every), flush=True)
         tell_sums(names, every, given.table)
         return 0 if all(it.kind in KINDS[:2] for it in every) else 1
     except (Refused, OSError) as why:
