@@ -14,7 +14,7 @@ use Rattle.dlk_calculus.specs.Sequents.{Sequent as TreeSequent}
 use Rattle.dlk_calculus.specs.Steps.{IsGoal}
 use Rattle.dlk_sequent.specs.declared.sequent.Place.{Place}
 use Rattle.dlk_sequent.specs.declared.sequent.Sequent.{Sequent}
-use Rattle.dlk_sequent.specs.Sequents.{sequent_at, IsKnown}
+use Rattle.dlk_sequent.specs.Sequents.{sequent_at}
 use Rattle.dlk_sequent.specs.Spines.{Way, top, path_of, IsSpine, IsSpineOf}
 use Rattle.dlk_sequent.specs.Extras.{extra_at, IsKnownExtra}
 use Rattle.dlk_tacsyn.specs.Tactics.{Atom}
@@ -50,11 +50,6 @@ pub record IsAxiomAt (trees : List Tree) (name : List ℕ) (named : Named) : Typ
   pub form : named.form ≡ its_axiom.form
   pub own : named.own.items ≡ its_axiom.own_names
   pub formula : StandsFor trees named.formula its_axiom.formula
-
--- the formula of this id stands at the place, whatever the ids stand for
-pub record IsFormulaAt (s : Sequent) (place : Place) (f : Id) : Type 0 where
-  pub stands : (trees : List Tree) → formula_at (sequent_at trees s) place ≡ Some (tree trees f)
-  pub known : (trees : List Tree) → IsKnown trees s → IsId trees f
 
 -- the formula at the place, and the way along the path in it
 pub record IsWayAt (trees : List Tree) (s : Sequent) (place : Place) (path : List ℕ) (way : Way) : Type 0 where

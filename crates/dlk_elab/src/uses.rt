@@ -38,12 +38,24 @@ use std::sync::ledger::Ledger;
 
 /// What a use finds: the form of its axiom, the names and replacements of the instance, the way to where it acts, and the number of
 /// formulas on the right there.
-#[derive(Drop, Debug)]
+#[derive(Debug)]
 pub(crate) struct Found {
     pub(crate) form: AxiomForm,
     pub(crate) extra: Extra,
     pub(crate) way: Spine,
     pub(crate) right: u32,
+}
+
+/// What is found is given back by a call, and not part by part wherever a use stops.
+impl Drop for Found {
+    fn drop(self) {
+        let Found {
+            form: _,
+            extra: _extra,
+            way: _way,
+            right: _,
+        } = self;
+    }
 }
 
 /// What a use finds on the goal.

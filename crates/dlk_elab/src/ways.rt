@@ -1,18 +1,17 @@
 //! Where a use of an axiom acts.
-ghost use Rattle.std.specs.Prelude.{◌≡◌, None, List, MatchOption, IfOk, IfErr};
-ghost use Rattle.dlk_tree.specs.Trees.{Tree};
-ghost use Rattle.dlk_sequent.specs.Sequents.{sequent_at, IsKnown};
-ghost use Rattle.dlk_uses.specs.Uses.{formula_at};
+ghost use Rattle.std.specs.Prelude.{◌≡◌, IfOk, IfErr};
+ghost use Rattle.dlk_sequent.specs.Sequents.{IsKnown};
 ghost use Rattle.dlk_kernel.specs.Kernel.{facts};
 ghost use Rattle.dlk_elab.specs.Atoms.{NoPlace, HasGoalAt};
 ghost use Rattle.dlk_elab.specs.Ties.{IsTacFault};
-ghost use Rattle.dlk_elab.specs.Uses.{IsFormulaAt, IsWayAt, HasNoWay, IsReached, IsNotThere};
+ghost use Rattle.dlk_elab.specs.Uses.{IsWayAt, HasNoWay, IsReached, IsNotThere};
 
 use crate::fault::TacFault;
 use crate::plan::Target;
 use dlk_kernel::Kernel;
-use dlk_sequent::{Place, Sequent, Spine, item_at};
-use dlk_store::{Id, Steps, Store};
+use dlk_sequent::{Place, Sequent, Spine};
+use dlk_store::{Steps, Store};
+use dlk_uses::formula_at;
 use std::alloc::Global;
 use std::sync::ledger::Ledger;
 
@@ -21,20 +20,6 @@ use std::sync::ledger::Ledger;
 pub(crate) struct Reached {
     pub(crate) way: Spine,
     pub(crate) right: u32,
-}
-
-/// The formula at a place.
-fn formula_at(s: &Sequent, place: Place) -> Option<Id>
-    ensures { MatchOption result ((trees : List Tree) → formula_at (sequent_at trees s.now) place ≡ None) (IsFormulaAt s.now place) }
-{
-    let found = match place {
-        Place::Ante(i) => item_at(s.ante.as_slice(), i),
-        Place::Succ(j) => item_at(s.succ.as_slice(), j),
-    };
-    match found {
-        Some(f) => Some(*f),
-        None => None,
-    }
 }
 
 /// The way along a path in the formula at a place.

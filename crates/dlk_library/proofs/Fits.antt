@@ -1,5 +1,5 @@
--- What a strategy becomes has fitting atoms alone.
-use Rattle.std.proofs.Common.{◌≡◌, ℕ, List, [], ◌∷◌, None, Some, refl, sym, ap, subst, ◌∙◌}
+-- What a strategy becomes has fitting atoms and `derive` alone.
+use Rattle.std.proofs.Common.{◌≡◌, ℕ, List, [], ◌∷◌, None, Some, inl, refl, sym, ap, subst, ◌∙◌}
 use Rattle.std.specs.Prelude.{codes}
 use Rattle.std.proofs.lemmas.List.Elements.{All-nil, All-cons}
 use Rattle.dlk_tree.specs.declared.op.Kind.TheVariants.{UnitPred}
@@ -9,12 +9,13 @@ use Rattle.dlk_calculus.specs.Sequents.{IsFormula}
 use Rattle.dlk_tacsyn.specs.declared.kind.Kind.TheVariants.{FixedPlace, AnyPlace, QuotedFormula, QuotedTerm, AName, QuotedExtra}
 use Rattle.dlk_tacsyn.specs.Tactics.{Argument, AtPlace, AnyLeft, AnyRight, GivenFormula, Atom}
 use Rattle.dlk_tacsyn.specs.Tactics.{Tactic, Tactics, Choice, Sequence, Branch, Repeat, One, no_parts, part, EachAtomOf}
-use Rattle.dlk_tacsyn.specs.Rows.{Row, wants, row_of, library_row_of, IsPlace, IsPlaceOrLocator, IsFitting, AreFitting, IsOfText, AreOfText, AreOfKinds}
+use Rattle.dlk_tacsyn.specs.Rows.{Row, wants, row_of, library_row_of, IsPlace, IsPlaceOrLocator}
+use Rattle.dlk_tacsyn.specs.Rows.{IsFitting, AreFitting, IsRun, AreRun, IsOfText, AreOfText, AreOfKinds}
 use Rattle.dlk_library.specs.Parts.{nothing, rule_at, imply_first, use_at, use_with, generalized, for_r, all_but, for_ghost, atom as atom_of}
 use Rattle.dlk_library.specs.Library.{base_and_step, loop_of, cut_of, invariant_of, ghost_of, step_of, connective}
 use Rattle.dlk_library.specs.Library.{Expands, by_loop, by_weakening, by_cut, by_invariant, by_ghost, by_step, by_connectives}
 use Rattle.dlk_library.specs.Expanded.{Expansion, stands_for, itself, Expanded, AllExpanded}
-use Rattle.dlk_library.proofs.Names.{IsLibraryName, is_weakening, is_invariant, is_step, is_loop, is_cut, is_ghost, call_kinds, fits_outside}
+use Rattle.dlk_library.proofs.Names.{IsLibraryName, is_weakening, is_invariant, is_step, is_loop, is_cut, is_ghost, call_kinds, run_outside}
 use Rattle.dlk_library.proofs.Names.{weakening_row, invariant_row, step_row, loop_row, cut_row, ghost_row}
 
 any_place : (p : Argument) → IsPlace p → IsPlaceOrLocator p
@@ -147,6 +148,19 @@ module _ (at : ℕ) where
     ),
   )
 
+-- fitting atoms are atoms that a run meets
+mutual
+  each_run : (t : Tactic) → AreFitting t → AreRun t
+  each_run (Choice parts) h = all_run parts h
+  each_run (Sequence parts) h = all_run parts h
+  each_run (Branch byte parts) h = all_run parts h
+  each_run (Repeat body times) h = each_run body h
+  each_run (One atom) h = inl h
+
+  all_run : (ts : Tactics) → EachAtomOf IsFitting ts → EachAtomOf IsRun ts
+  all_run no_parts h = tt
+  all_run (part t rest) h = (each_run t h.0, all_run rest h.1)
+
 -- what an atom stands for
 module _ (atom : Atom) (text : IsOfText atom) where
   of_row : (row : Row) (args : List Argument) → IsLibraryName atom.name → library_row_of atom.name ≡ Some row → atom.arguments ≡ args →
@@ -174,19 +188,19 @@ module _ (atom : Atom) (text : IsOfText atom) where
       fit_step atom.at p (any_place p kinds.0)
   expands_fits _ (by_connectives n a) = fit_connective atom.at
 
-  expansion_fits : (t : Tactic) → Expansion atom t → AreFitting t
-  expansion_fits _ (stands_for is) = expands_fits _ is
-  expansion_fits _ (itself none) = fits_outside atom text none
+  expansion_fits : (t : Tactic) → Expansion atom t → AreRun t
+  expansion_fits t (stands_for is) = each_run t (expands_fits t is)
+  expansion_fits _ (itself none) = run_outside atom text none
 
 mutual
-  pub become_fits : (t u : Tactic) → AreOfText t → Expanded t u → AreFitting u
-  become_fits (Choice parts) u h is = subst AreFitting (sym is.2) (all_fit parts is.0 h is.1)
-  become_fits (Sequence parts) u h is = subst AreFitting (sym is.2) (all_fit parts is.0 h is.1)
-  become_fits (Branch byte parts) u h is = subst AreFitting (sym is.2) (all_fit parts is.0 h is.1)
-  become_fits (Repeat body times) u h is = subst AreFitting (sym is.2) (become_fits body is.0 h is.1)
+  pub become_fits : (t u : Tactic) → AreOfText t → Expanded t u → AreRun u
+  become_fits (Choice parts) u h is = subst AreRun (sym is.2) (all_fit parts is.0 h is.1)
+  become_fits (Sequence parts) u h is = subst AreRun (sym is.2) (all_fit parts is.0 h is.1)
+  become_fits (Branch byte parts) u h is = subst AreRun (sym is.2) (all_fit parts is.0 h is.1)
+  become_fits (Repeat body times) u h is = subst AreRun (sym is.2) (become_fits body is.0 h is.1)
   become_fits (One atom) u h is = expansion_fits atom h u is
 
-  all_fit : (ts us : Tactics) → EachAtomOf IsOfText ts → AllExpanded ts us → EachAtomOf IsFitting us
+  all_fit : (ts us : Tactics) → EachAtomOf IsOfText ts → AllExpanded ts us → EachAtomOf IsRun us
   all_fit no_parts no_parts h is = tt
   all_fit no_parts (part u us) h is = absurd is
   all_fit (part t ts) no_parts h is = absurd is

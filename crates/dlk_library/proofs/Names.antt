@@ -1,10 +1,10 @@
 -- The names of the library: each has a row there, and none as an atom.
 use Rattle.std.proofs.Common.{◌≡◌, ℕ, Bool, true, false, List, [], ◌∷◌, Option, Some, None, ◌⊎◌, inl, inr, refl, ap, subst, ◌∙◌}
-use Rattle.std.specs.Prelude.{bytes_eq, codes}
+use Rattle.std.specs.Prelude.{bytes_eq, codes, if◌then◌else◌}
 use Rattle.std.proofs.lemmas.Slice.Eq.{bytes_eq-Decides}
 use Rattle.dlk_tacsyn.specs.declared.kind.Kind.TheVariants.{FixedPlace, QuotedFormula, QuotedTerm, AName}
 use Rattle.dlk_tacsyn.specs.Tactics.{Atom}
-use Rattle.dlk_tacsyn.specs.Rows.{Row, wants, row_of, library_row_of, IsFitting, IsOfText, AreOfKinds}
+use Rattle.dlk_tacsyn.specs.Rows.{Row, wants, row_of, library_row_of, derive_row_of, IsFitting, IsDerivation, IsRun, IsOfText, AreOfKinds}
 
 pub data IsLibraryName (name : List ℕ) : Type 0 where
   is_prop : name ≡ codes "prop" → IsLibraryName name
@@ -133,16 +133,35 @@ fitting_own atom h = elim (library_name atom.name) [
   | inr is ↦ absurd (none_some (row_of atom.name) h.row (library_own atom.name is) h.row_is)
 ]
 
--- an atom of a text is fitting where its name isn't in the library
-pub fits_outside : (atom : Atom) → IsOfText atom → library_row_of atom.name ≡ None → IsFitting atom
-fits_outside atom (inl fits) none = fits
-fits_outside atom (inr call) none = absurd (none_some (library_row_of atom.name) call.row none call.row_is)
+-- one name has the row of `derive`
+pub derive_name : (name : List ℕ) (row : Row) → derive_row_of name ≡ Some row → name ≡ codes "derive"
+unfolding derive_row_of
+derive_name name row is = by (bytes_eq name (codes "derive")) refl is
+  where
+    by : (t : Bool) → bytes_eq name (codes "derive") ≡ t → (if t then Some (wants (FixedPlace ∷ [])) else None) ≡ Some row → name ≡ codes "derive"
+    by true e same = (bytes_eq-Decides name (codes "derive")).0 e
+    by false e same = absurd (cc same)
+
+derive_own : library_row_of (codes "derive") ≡ None
+unfolding library_row_of
+derive_own = refl
+
+-- and it isn't in the library
+pub derivation_own : (atom : Atom) → IsDerivation atom → library_row_of atom.name ≡ None
+derivation_own atom h = ap library_row_of (derive_name atom.name h.row h.row_is) ∙ derive_own
+
+-- an atom of a text is one that a run meets where its name isn't in the library
+pub run_outside : (atom : Atom) → IsOfText atom → library_row_of atom.name ≡ None → IsRun atom
+run_outside atom (inl fits) none = inl fits
+run_outside atom (inr (inl call)) none = absurd (none_some (library_row_of atom.name) call.row none call.row_is)
+run_outside atom (inr (inr derivation)) none = inr derivation
 
 -- the arguments of a name of the library are of its row
 pub call_kinds : (atom : Atom) (row : Row) → IsLibraryName atom.name → library_row_of atom.name ≡ Some row → IsOfText atom →
     AreOfKinds row.wanted row.optional atom.arguments
 call_kinds atom row is row_is (inl fits) = absurd (none_some (row_of atom.name) fits.row (library_own atom.name is) fits.row_is)
-call_kinds atom row is row_is (inr call) =
+call_kinds atom row is row_is (inr (inr derivation)) = absurd (none_some (library_row_of atom.name) row (derivation_own atom derivation) row_is)
+call_kinds atom row is row_is (inr (inl call)) =
     let same = some_same (library_row_of atom.name) call.row row call.row_is row_is in
     subst (λ (r : Row). AreOfKinds r.wanted r.optional atom.arguments) same call.arguments
 

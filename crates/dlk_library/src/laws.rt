@@ -1,7 +1,7 @@
 //! The laws of the library. Each is a contract of a function that does nothing.
 ghost use Rattle.std.specs.Prelude.{◌≡◌};
 ghost use Rattle.dlk_tacsyn.specs.Tactics.{Atom, Tactic, EachAtom};
-ghost use Rattle.dlk_tacsyn.specs.Rows.{IsOfText, AreOfText, AreFitting, HasNames};
+ghost use Rattle.dlk_tacsyn.specs.Rows.{IsOfText, AreOfText, AreRun, HasNames};
 ghost use Rattle.dlk_library.specs.Library.{Expands};
 ghost use Rattle.dlk_library.specs.Expanded.{Expanded};
 
@@ -16,8 +16,9 @@ pub fn some_expansion()
     ensures { (t : Tactic) → AreOfText t → (u : Tactic) × Expanded t u }
 {}
 
-/// What a strategy becomes has fitting atoms alone, where its atoms are those of a text, and names that are names, where its names are names.
+/// What a strategy becomes has fitting atoms and `derive` alone, where its atoms are those of a text, and names that are names, where its names
+/// are names.
 pub fn expansion_fits()
-    ensures fitting { (t u : Tactic) → AreOfText t → Expanded t u → AreFitting u }
+    ensures fitting { (t u : Tactic) → AreOfText t → Expanded t u → AreRun u }
     ensures names { (t u : Tactic) → EachAtom HasNames t → Expanded t u → EachAtom HasNames u }
 {}

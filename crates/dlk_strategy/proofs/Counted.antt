@@ -1,10 +1,12 @@
 -- A run that counts nothing changes nothing.
-use Rattle.std.proofs.Common.{◌≡◌, ℕ, zero, suc, ◌+◌, ◌≤◌, length, Option, Some, None, refl, sym, ap, subst, ◌∙◌, arith}
+use Rattle.std.proofs.Common.{◌≡◌, ℕ, zero, suc, ◌+◌, ◌≤◌, Bool, true, false, List, [], ◌∷◌, map, length, Option, Some, None, refl, sym, ap, subst, ◌∙◌, arith}
+use Rattle.dlk_derive.specs.Derives.{use_of}
 use Rattle.dlk_rules.specs.declared.arguments.Side.{Side}
 use Rattle.dlk_tacsyn.specs.Tactics.{Atom, Tactic, Choice, Sequence, Branch, Repeat, One, Tactics, no_parts, part, count}
 use Rattle.dlk_strategy.specs.declared.fault.FailWhy.{FailWhy}
 use Rattle.dlk_strategy.specs.declared.fault.FailWhy.TheVariants.{NoPlace}
 use Rattle.dlk_strategy.specs.Runs.{Progress, Outcome, Done, Fails, Budget, Fate, Run, Follow, done, fails, spent, Ends, FailsAt, Each, OnEach, Again, Once, steps, fault, side, placed, formulas, Tries, RunAtomOn, RunAtom, Branched, as_many, another_count, Runs, Alternatives, InTurn, OnOwn}
+use Rattle.dlk_strategy.specs.Runs.{OneByOne, RunDerive, plans, no_plan, RunNamedBy, RunNamed, is_derive}
 use Rattle.dlk_strategy.specs.Runs.{spent as once_spent}
 
 -- the count doesn't fall, and where it stays nothing is made and so many goals stand there
@@ -98,6 +100,22 @@ counted_atom_on : (atom : Atom) (on : Option Side) (goal : ℕ) → IsCounted 1 
 counted_atom_on atom None goal now o p = counted_once atom goal now o p
 counted_atom_on atom (Some on) goal now o p = counted_tries atom goal (length (formulas on p.0)) 1 NoPlace now o p.2
 
+counted_uses : (atoms : List Atom) (goals goal : ℕ) → IsCounted goals (OneByOne atoms goals goal)
+counted_uses [] goals goal = counted_end goals
+counted_uses (atom ∷ rest) goals goal =
+    counted_follow goals goals (λ n. n) (OnEach (RunAtom atom) goals goal) (λ left. OneByOne rest left goal) FailsAt
+    (counted_on_each (RunAtom atom) (counted_atom_on atom (side atom.arguments)) goals goal) (λ left. counted_uses rest left goal) (counted_failure goals) refl
+
+counted_derive : (atom : Atom) (goal : ℕ) → IsCounted 1 (RunDerive atom goal)
+counted_derive atom goal now _ (plans {outcome = o} s place path calls room stands at planned runs) =
+    counts_else 1 (now.used + 1) now o (omega arith) (counted_uses (map (use_of atom.at place) calls) 1 goal (record now { used = now.used + 1 }) o runs)
+counted_derive atom goal now _ (no_plan s place path why room stands at none) = omega arith
+counted_derive atom goal now _ (once_spent full) = tt
+
+counted_named : (derives : Bool) (atom : Atom) (goal : ℕ) → IsCounted 1 (RunNamedBy derives atom goal)
+counted_named true atom goal = counted_derive atom goal
+counted_named false atom goal = counted_atom_on atom (side atom.arguments) goal
+
 mutual
   counted_fate : (t : Tactic) (goals goal : ℕ) → IsCounted goals (Runs t goals goal)
   counted_fate (Choice parts) goals goal = counted_on_each (Alternatives parts) (counted_alternative parts) goals goal
@@ -105,7 +123,7 @@ mutual
   counted_fate (Branch at parts) goals goal = counted_branched at (count parts) goals (OnOwn parts goal 0)
       (let e : 0 + count parts ≡ count parts = omega arith in subst (λ n. IsCounted n (OnOwn parts goal 0)) e (counted_own parts goal 0))
   counted_fate (Repeat body times) goals goal = counted_on_each (Again (Runs body 1) times) (counted_again (Runs body 1) (counted_fate body 1) times) goals goal
-  counted_fate (One atom) goals goal = counted_on_each (RunAtom atom) (counted_atom_on atom (side atom.arguments)) goals goal
+  counted_fate (One atom) goals goal = counted_on_each (RunNamed atom) (counted_named (is_derive atom) atom) goals goal
 
   counted_alternative : (parts : Tactics) (goal : ℕ) → IsCounted 1 (Alternatives parts goal)
   counted_alternative no_parts goal = counted_end 1

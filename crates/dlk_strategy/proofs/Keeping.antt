@@ -1,5 +1,11 @@
 -- What atoms keep, a run keeps.
-use Rattle.std.proofs.Common.{ℕ, zero, suc, ◌+◌, List, ◌++◌, length, Option, Some, None, sym, subst}
+use Rattle.std.proofs.Common.{ℕ, zero, suc, ◌+◌, Bool, true, false, List, [], ◌∷◌, ◌++◌, map, length, Option, Some, None, sym, subst}
+use Rattle.std.specs.List.{All}
+use Rattle.std.proofs.lemmas.List.Elements.{All-head, All-tail}
+use Rattle.dlk_tree.specs.Trees.{Tree}
+use Rattle.dlk_sequent.specs.declared.sequent.Place.{Place}
+use Rattle.dlk_derive.specs.Plans.{Call}
+use Rattle.dlk_derive.specs.Derives.{Plans, use_of}
 use Rattle.dlk_calculus.specs.Provables.{Provable}
 use Rattle.dlk_calculus.specs.Steps.{Step}
 use Rattle.dlk_rules.specs.declared.arguments.Side.{Side}
@@ -10,12 +16,16 @@ use Rattle.dlk_strategy.specs.declared.fault.FailWhy.TheVariants.{NoPlace}
 use Rattle.dlk_strategy.specs.Runs.{Progress, Outcome, Done, Fails, Budget, Fate, Run, Follow, done, fails, spent, Ends, FailsAt, Each, Again, Once}
 use Rattle.dlk_strategy.specs.Runs.{steps, fault, side, placed, formulas, Tries, RunAtomOn}
 use Rattle.dlk_strategy.specs.Runs.{RunAtom, Branched, as_many, another_count, Runs, Alternatives, InTurn, OnOwn}
+use Rattle.dlk_strategy.specs.Runs.{OnEach, OneByOne, RunDerive, plans, no_plan, RunNamedBy, RunNamed, is_derive}
 use Rattle.dlk_strategy.specs.Runs.{spent as once_spent}
 
--- Holds is of what is made, whatever the count of runs is, and OfAtom of an atom, whatever its place is. Steps of such an atom keep it.
+-- Holds is of what is made, whatever the count of runs is, and OfAtom of an atom, whatever its place is, and of the uses of each plan. Steps of such
+-- an atom keep it.
 module _ (Holds : Progress → Type 0) (OfAtom : Atom → Type 0)
     (uncounted : (now : Progress) (used : ℕ) → Holds now → Holds (record now { used = used }))
     (unplaced : (n : ℕ) (atom : Atom) → OfAtom atom → OfAtom (placed n atom))
+    (planned : (there : Option Tree) (path : List ℕ) (calls : List Call) → Plans there path calls → (byte : ℕ) (place : Place) →
+    All OfAtom (map (use_of byte place) calls))
     (kept : (now : Progress) (goal : ℕ) (atom : Atom) (new : List Step) (rows : List Provable) → OfAtom atom → Holds now →
     AtomSteps now.rows (length now.rows) goal atom new rows → Holds (record { steps = now.steps ++ new; rows = rows; used = now.used + 1 })) where
   -- where a run is done
@@ -72,6 +82,24 @@ module _ (Holds : Progress → Type 0) (OfAtom : Atom → Type 0)
   keeps_atom_on atom None goal is now o holds p = keeps_once atom goal is now o holds p
   keeps_atom_on atom (Some on) goal is now o holds p = keeps_tries atom goal (length (formulas on p.0)) 1 NoPlace is now o holds p.2
 
+  keeps_uses : (atoms : List Atom) (goals goal : ℕ) → All OfAtom atoms → Keeps (OneByOne atoms goals goal)
+  keeps_uses [] goals goal are = keeps_end goals
+  keeps_uses (atom ∷ rest) goals goal are =
+      keeps_follow (OnEach (RunAtom atom) goals goal) (λ left. OneByOne rest left goal) FailsAt
+      (keeps_each (RunAtom atom) (λ here. keeps_atom_on atom (side atom.arguments) here (All-head OfAtom atom rest are)) goals goal 0)
+      (λ left. keeps_uses rest left goal (All-tail OfAtom atom rest are)) keeps_failure
+
+  keeps_derive : (atom : Atom) (goal : ℕ) → Keeps (RunDerive atom goal)
+  keeps_derive atom goal now _ holds (plans {outcome = o} s place path calls room stands at by_plan runs) =
+      keeps_uses (map (use_of atom.at place) calls) 1 goal (planned _ path calls by_plan atom.at place) (record now { used = now.used + 1 }) o
+      (uncounted now (now.used + 1) holds) runs
+  keeps_derive atom goal now _ holds (no_plan s place path why room stands at none) = tt
+  keeps_derive atom goal now _ holds (once_spent full) = tt
+
+  keeps_named : (derives : Bool) (atom : Atom) (goal : ℕ) → OfAtom atom → Keeps (RunNamedBy derives atom goal)
+  keeps_named true atom goal is = keeps_derive atom goal
+  keeps_named false atom goal is = keeps_atom_on atom (side atom.arguments) goal is
+
   mutual
     pub keeps_fate : (t : Tactic) (goals goal : ℕ) → EachAtom OfAtom t → Keeps (Runs t goals goal)
     keeps_fate (Choice parts) goals goal is = keeps_each (Alternatives parts) (λ here. keeps_alternative parts here is) goals goal 0
@@ -79,7 +107,7 @@ module _ (Holds : Progress → Type 0) (OfAtom : Atom → Type 0)
     keeps_fate (Branch at parts) goals goal is = keeps_branched at (count parts) goals (OnOwn parts goal 0) (keeps_own parts goal 0 is)
     keeps_fate (Repeat body times) goals goal is =
         keeps_each (Again (Runs body 1) times) (keeps_again (Runs body 1) (λ here. keeps_fate body 1 here is) times) goals goal 0
-    keeps_fate (One atom) goals goal is = keeps_each (RunAtom atom) (λ here. keeps_atom_on atom (side atom.arguments) here is) goals goal 0
+    keeps_fate (One atom) goals goal is = keeps_each (RunNamed atom) (λ here. keeps_named (is_derive atom) atom here is) goals goal 0
 
     keeps_alternative : (parts : Tactics) (goal : ℕ) → EachAtomOf OfAtom parts → Keeps (Alternatives parts goal)
     keeps_alternative no_parts goal is = keeps_end 1

@@ -20,3 +20,6 @@ mod Repeating
 mod Choosing
 mod Depths
 mod Expanding
+mod Derivations
+mod Uses
+mod Differentiated

@@ -1,5 +1,5 @@
 -- One thing becomes of a goal.
-use Rattle.std.proofs.Common.{◌≡◌, ℕ, zero, suc, ◌+◌, List, [], ◌∷◌, length, Option, Some, None, refl, sym, subst, ◌∙◌}
+use Rattle.std.proofs.Common.{◌≡◌, ℕ, zero, suc, ◌+◌, Bool, true, false, List, [], ◌∷◌, map, length, Option, Some, None, refl, sym, ap, subst, ◌∙◌, arith}
 use Rattle.dlk_tree.specs.Trees.{Tree}
 use Rattle.dlk_calculus.specs.Places.{At}
 use Rattle.dlk_calculus.specs.Places.{at as item_at}
@@ -7,10 +7,17 @@ use Rattle.dlk_calculus.specs.Sequents.{Sequent}
 use Rattle.dlk_calculus.specs.Provables.{Provable}
 use Rattle.dlk_calculus.specs.Steps.{Step, Start, Gives}
 use Rattle.dlk_rules.specs.declared.arguments.Side.{Side}
-use Rattle.dlk_tacsyn.specs.Tactics.{Atom, Tactic, Choice, Sequence, Branch, Repeat, One, Tactics, no_parts, part, count}
+use Rattle.dlk_sequent.specs.declared.sequent.Place.{Place}
+use Rattle.dlk_uses.specs.Uses.{formula_at}
+use Rattle.dlk_derive.specs.Plans.{Call}
+use Rattle.dlk_derive.specs.Derives.{DeriveWhy, Plans, NoPlan, use_of}
+use Rattle.dlk_tacsyn.specs.Tactics.{AtPlace, Atom, Tactic, Choice, Sequence, Branch, Repeat, One, Tactics, no_parts, part, count}
 use Rattle.dlk_strategy.specs.declared.fault.FailWhy.{FailWhy}
 use Rattle.dlk_strategy.specs.declared.fault.FailWhy.TheVariants.{NoPlace}
 use Rattle.dlk_strategy.specs.Runs.{Progress, Outcome, Done, Fails, Budget, Fate, Run, Follow, done, fails, spent, Ends, FailsAt, Then, Each, Again, Once, main_goals, side, placed, formulas, Tries, TriesAll, RunAtomOn, RunAtom, Branched, as_many, another_count, Runs, Alternatives, InTurn, OnOwn, RunsPlain}
+use Rattle.dlk_strategy.specs.Runs.{OnEach, OneByOne, RunDerive, plans, no_plan, RunNamedBy, RunNamed, is_derive}
+use Rattle.dlk_strategy.specs.Runs.{spent as derive_spent}
+use Rattle.dlk_strategy.specs.Whys.{why_of}
 
 -- at most one thing becomes of a goal
 abbrev pub IsOne : Fate → Type 0
@@ -93,8 +100,26 @@ one_branched at parts goals each one now _ _ (another_count n) (another_count m)
 at_one : (goals : List Sequent) (goal : ℕ) (s t : Sequent) → At goals goal s → At goals goal t → s ≡ t
 at_one goals goal s t p q = let e : item_at goals goal ≡ Some t = q in cc
 
--- where one run of an atom has one end
-module _ (one_once : (atom : Atom) (goal : ℕ) → IsOne (Once atom goal)) where
+-- the one argument of `derive`
+same_place : (place other : Place) (path way : List ℕ) → AtPlace place path ∷ [] ≡ AtPlace other way ∷ [] → place ≡ other
+same_place place other path way e = cc e
+
+same_path : (place other : Place) (path way : List ℕ) → AtPlace place path ∷ [] ≡ AtPlace other way ∷ [] → path ≡ way
+same_path place other path way e = cc e
+
+-- what stands at equal places of equal goals
+same_there : (P : Option Tree → List ℕ → Type 0) (s t : Sequent) (place other : Place) (path way : List ℕ) → s ≡ t →
+    AtPlace place path ∷ [] ≡ AtPlace other way ∷ [] → P (formula_at s place) path → P (formula_at t other) way
+same_there P s t place other path way goal e h =
+    let moved : P (formula_at t place) path = subst (λ (r : Sequent). P (formula_at r place) path) goal h in
+    let put : P (formula_at t other) path = subst (λ (p : Place). P (formula_at t p) path) (same_place place other path way e) moved in
+    subst (λ (p : List ℕ). P (formula_at t other) p) (same_path place other path way e) put
+
+-- where one run of an atom has one end, and of a place there is one plan or one reason
+module _ (one_once : (atom : Atom) (goal : ℕ) → IsOne (Once atom goal))
+    (one_plan : (there : Option Tree) (path : List ℕ) (a b : List Call) → Plans there path a → Plans there path b → a ≡ b)
+    (one_why : (there : Option Tree) (path : List ℕ) (a b : DeriveWhy) → NoPlan there path a → NoPlan there path b → a ≡ b)
+    (plan_or_why : (there : Option Tree) (path : List ℕ) (calls : List Call) (why : DeriveWhy) → Plans there path calls → NoPlan there path why → ⊥) where
   one_try : (atom : Atom) (goal more place : ℕ) (why : FailWhy) → IsOne (Tries atom goal more place why)
   one_try atom goal zero place why = one_failure atom.at why
   one_try atom goal (suc more) place why =
@@ -110,13 +135,52 @@ module _ (one_once : (atom : Atom) (goal : ℕ) → IsOne (Once atom goal)) wher
   one_atom_on atom None goal = one_once atom goal
   one_atom_on atom (Some on) goal = one_side atom on goal
 
+  one_uses : (atoms : List Atom) (goals goal : ℕ) → IsOne (OneByOne atoms goals goal)
+  one_uses [] goals goal = one_end goals
+  one_uses (atom ∷ rest) goals goal =
+      one_then (OnEach (RunAtom atom) goals goal) (λ left. OneByOne rest left goal)
+      (one_each (RunAtom atom) (one_atom_on atom (side atom.arguments)) goals goal 0) (λ left. one_uses rest left goal)
+
+  one_derive : (atom : Atom) (goal : ℕ) → IsOne (RunDerive atom goal)
+  one_derive atom goal now _ _ (plans {outcome = a} s place path calls room stands at planned runs)
+      (plans {outcome = b} s' place' path' calls' room' stands' at' planned' runs') =
+      let goals : s ≡ s' = at_one (main_goals now.rows) goal s s' stands stands' in
+      let args : AtPlace place path ∷ [] ≡ AtPlace place' path' ∷ [] = sym at ∙ at' in
+      let moved = same_there (λ there way. Plans there way calls) s s' place place' path path' goals args planned in
+      let same : calls ≡ calls' = one_plan (formula_at s' place') path' calls calls' moved planned' in
+      let there : place ≡ place' = same_place place place' path path' args in
+      let uses : map (use_of atom.at place) calls ≡ map (use_of atom.at place') calls' = λ i. map (use_of atom.at (there i)) (same i) in
+      let next : Progress = record now { used = now.used + 1 } in
+      one_uses (map (use_of atom.at place') calls') 1 goal next a b (subst (λ (atoms : List Atom). OneByOne atoms 1 goal next a) uses runs) runs'
+  one_derive atom goal now _ _ (plans s place path calls room stands at planned runs) (no_plan s' place' path' why room' stands' at' none) =
+      let goals : s ≡ s' = at_one (main_goals now.rows) goal s s' stands stands' in
+      let moved = same_there (λ there way. Plans there way calls) s s' place place' path path' goals (sym at ∙ at') planned in
+      absurd (plan_or_why (formula_at s' place') path' calls why moved none)
+  one_derive atom goal now _ _ (plans s place path calls room stands at planned runs) (derive_spent full) = absurd (omega (arith, room, full))
+  one_derive atom goal now _ _ (no_plan s' place' path' why room' stands' at' none) (plans s place path calls room stands at planned runs) =
+      let goals : s ≡ s' = at_one (main_goals now.rows) goal s s' stands stands' in
+      let moved = same_there (λ there way. Plans there way calls) s s' place place' path path' goals (sym at ∙ at') planned in
+      absurd (plan_or_why (formula_at s' place') path' calls why moved none)
+  one_derive atom goal now _ _ (no_plan s place path why room stands at none) (no_plan s' place' path' why' room' stands' at' none') =
+      let goals : s ≡ s' = at_one (main_goals now.rows) goal s s' stands stands' in
+      let moved = same_there (λ there way. NoPlan there way why) s s' place place' path path' goals (sym at ∙ at') none in
+      ap (λ w. Fails atom.at (why_of w) (now.used + 1)) (one_why (formula_at s' place') path' why why' moved none')
+  one_derive atom goal now _ _ (no_plan s place path why room stands at none) (derive_spent full) = absurd (omega (arith, room, full))
+  one_derive atom goal now _ _ (derive_spent full) (plans s place path calls room stands at planned runs) = absurd (omega (arith, room, full))
+  one_derive atom goal now _ _ (derive_spent full) (no_plan s place path why room stands at none) = absurd (omega (arith, room, full))
+  one_derive atom goal now _ _ (derive_spent full) (derive_spent full') = refl
+
+  one_named : (derives : Bool) (atom : Atom) (goal : ℕ) → IsOne (RunNamedBy derives atom goal)
+  one_named true atom goal = one_derive atom goal
+  one_named false atom goal = one_atom_on atom (side atom.arguments) goal
+
   mutual
     pub one_fate : (t : Tactic) (goals goal : ℕ) → IsOne (Runs t goals goal)
     one_fate (Choice parts) goals goal = one_each (Alternatives parts) (one_alternative parts) goals goal 0
     one_fate (Sequence parts) goals goal = one_each (InTurn parts 1) (one_turn parts 1) goals goal 0
     one_fate (Branch at parts) goals goal = one_branched at (count parts) goals (OnOwn parts goal 0) (one_own parts goal 0)
     one_fate (Repeat body times) goals goal = one_each (Again (Runs body 1) times) (one_again (Runs body 1) (one_fate body 1) times) goals goal 0
-    one_fate (One atom) goals goal = one_each (RunAtom atom) (one_atom_on atom (side atom.arguments)) goals goal 0
+    one_fate (One atom) goals goal = one_each (RunNamed atom) (one_named (is_derive atom) atom) goals goal 0
 
     one_alternative : (parts : Tactics) (goal : ℕ) → IsOne (Alternatives parts goal)
     one_alternative no_parts goal = one_end 1

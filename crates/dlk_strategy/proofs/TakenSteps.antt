@@ -1,5 +1,5 @@
 -- The steps of a run are taken in turn, what they replace are symbols, and the last row shows the formula.
-use Rattle.std.proofs.Common.{◌≡◌, ℕ, List, [], ◌∷◌, ◌++◌, length, refl, sym, ap, subst, ◌∙◌, append_assoc}
+use Rattle.std.proofs.Common.{◌≡◌, ℕ, List, [], ◌∷◌, ◌++◌, map, length, Option, refl, sym, ap, subst, ◌∙◌, append_assoc}
 use Rattle.std.specs.List.{All}
 use Rattle.std.proofs.lemmas.List.{append-nil}
 use Rattle.std.proofs.lemmas.List.Elements.{All-nil, All-cons, All-push, All-append}
@@ -13,6 +13,9 @@ use Rattle.dlk_kernel.specs.Taken.{Takes}
 use Rattle.dlk_kernel.specs.Taken.{none as no_step, more as one_step}
 use Rattle.dlk_tacsyn.specs.Rows.{HasNames}
 use Rattle.dlk_tacsyn.specs.Tactics.{Atom, Tactic, Choice, Sequence, Branch, Repeat, One, Tactics, no_parts, part, EachAtom, EachAtomOf}
+use Rattle.dlk_sequent.specs.declared.sequent.Place.{Place}
+use Rattle.dlk_derive.specs.Plans.{Call}
+use Rattle.dlk_derive.specs.Derives.{Plans, use_of}
 use Rattle.dlk_elab.specs.Atoms.{AtomSteps, Replaces}
 use Rattle.dlk_elab.specs.Symbols.{ReplacesSymbols}
 use Rattle.dlk_strategy.specs.Runs.{Progress, Done, RunsPlain}
@@ -40,6 +43,14 @@ Shows formula now = (p : Provable) × At now.rows (length now.rows) p × (p.conc
 
 abbrev AnyAtom : Atom → Type 0
 AnyAtom atom = Unit {0}
+
+are_any : (atoms : List Atom) → All AnyAtom atoms
+are_any [] = All-nil AnyAtom
+are_any (atom ∷ rest) = All-cons AnyAtom atom rest tt (are_any rest)
+
+uses_any : (there : Option Tree) (path : List ℕ) (calls : List Call) → Plans there path calls → (byte : ℕ) (place : Place) →
+    All AnyAtom (map (use_of byte place) calls)
+uses_any there path calls h byte place = are_any (map (use_of byte place) calls)
 
 mutual
   each_any : (t : Tactic) → EachAtom AnyAtom t
@@ -70,12 +81,14 @@ module _ (atom_taken : (rows : List Provable) (fact goal : ℕ) (atom : Atom) (s
 
   pub run_taken : (t : Tactic) (formula : Tree) (made : Progress) (left : ℕ) → RunsPlain t formula (Done made left) → Takes [] made.steps made.rows
   run_taken t formula made left r =
-      keeps_fate IsTaken AnyAtom (λ now used taken. taken) (λ n atom is. tt) (λ now goal atom new rows is taken by. taken_on now goal atom new rows taken by)
+      keeps_fate IsTaken AnyAtom (λ now used taken. taken) (λ n atom is. tt) uses_any (λ now goal atom new rows is taken by. taken_on now goal atom new rows taken by)
       t 1 1 (each_any t) (begun formula r.provable) (Done made left) (one_step no_step r.start) r.run
 
   module _ (taken_formulas : (steps : List Step) (rows : List Provable) → Takes [] steps rows → All HasFormulas rows)
       (atom_symbols : (rows : List Provable) (fact goal : ℕ) (atom : Atom) (steps : List Step) (after : List Provable) → All HasFormulas rows → HasNames atom →
-      AtomSteps rows fact goal atom steps after → All ReplacesSymbols steps) where
+      AtomSteps rows fact goal atom steps after → All ReplacesSymbols steps)
+      (plan_names : (there : Option Tree) (path : List ℕ) (calls : List Call) → Plans there path calls → (byte : ℕ) (place : Place) →
+      All HasNames (map (use_of byte place) calls)) where
     symbolic_on : (now : Progress) (goal : ℕ) (atom : Atom) (new : List Step) (rows : List Provable) → HasNames atom → IsSymbolic now →
         AtomSteps now.rows (length now.rows) goal atom new rows → Takes [] (now.steps ++ new) rows × All ReplacesSymbols (now.steps ++ new)
     symbolic_on now goal atom new rows names h by =
@@ -89,8 +102,8 @@ module _ (atom_taken : (rows : List Provable) (fact goal : ℕ) (atom : Atom) (s
     run_symbols t formula made left names r =
         let first : ReplacesSymbols (Start (alone_right formula)) = λ fact pairs e. absurd (cc e) in
         let all = All-cons ReplacesSymbols (Start (alone_right formula)) [] first (All-nil ReplacesSymbols) in
-        (keeps_fate IsSymbolic HasNames (λ now used h. h) (λ n atom h. all_named n atom.arguments h) symbolic_on t 1 1 names (begun formula r.provable)
-        (Done made left) (one_step no_step r.start, all) r.run).1
+        (keeps_fate IsSymbolic HasNames (λ now used h. h) (λ n atom h. all_named n atom.arguments h) plan_names symbolic_on t 1 1 names
+        (begun formula r.provable) (Done made left) (one_step no_step r.start, all) r.run).1
 
 at_same : {A : Type 0} (items : List A) (place : ℕ) (x y : A) → At items place x → At items place y → x ≡ y
 at_same items place x y h k = cc
@@ -109,7 +122,7 @@ module _ (atom_replaces : (rows : List Provable) (goal : ℕ) (atom : Atom) (ste
   run_shows t formula made left r =
       let shown = start_shows formula [] r.provable (Start (alone_right formula)) refl r.start.given in
       let first : Shows formula (begun formula r.provable) = (r.provable, refl, shown) in
-      keeps_fate (Shows formula) AnyAtom (λ now used h. h) (λ n atom is. tt) (λ now goal atom new rows is h by. shows_on formula now goal atom new rows h by)
+      keeps_fate (Shows formula) AnyAtom (λ now used h. h) (λ n atom is. tt) uses_any (λ now goal atom new rows is h by. shows_on formula now goal atom new rows h by)
       t 1 1 (each_any t) (begun formula r.provable) (Done made left) first r.run
 
 given_proper : (rows : List Provable) (step : Step) (p : Provable) → Gives rows step p → IsProper step

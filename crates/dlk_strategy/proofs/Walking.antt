@@ -8,7 +8,7 @@ use Rattle.dlk_store.specs.Stores.{Keeps}
 use Rattle.dlk_tacsyn.specs.declared.tactic.Tactic.{Tactic, Choice, Seq, Branch, One, Choice', Seq', Branch', Repeat', Row_of-Tactic, end_of-Tactic, more_of-Tactic, items-the_row-Tactic, items_hidden-the_row-Tactic-0}
 use Rattle.dlk_tacsyn.specs.Tactics as the
 use Rattle.dlk_tacsyn.specs.Tactics.{Tactics, no_parts, part, count, EachAtomOf}
-use Rattle.dlk_tacsyn.specs.Rows.{IsFitting, AreFitting}
+use Rattle.dlk_tacsyn.specs.Rows.{IsRun, AreRun}
 use Rattle.dlk_tacsyn.specs.Ties.{tactic_at, tactics_at, TacticIsKnown, TacticsAreKnown}
 use Rattle.dlk_strategy.specs.Ties.{IsRunnable, tactics_of}
 use Rattle.dlk_strategy.proofs.Trying.{atom_same, atom_known}
@@ -39,7 +39,7 @@ module _ (old new : List Tree) (keeps : Keeps old new) where
     row_known n (more_of-Tactic t rest) h = (tactic_known t h.0, row_known _ rest h.1)
 
   pub runnable_kept : (t : Tactic) → IsRunnable old t → IsRunnable new t
-  runnable_kept t h = record { known = tactic_known t h.known; fitting = subst AreFitting (sym (tactic_same t h.known)) h.fitting }
+  runnable_kept t h = record { known = tactic_known t h.known; atoms = subst AreRun (sym (tactic_same t h.known)) h.atoms }
 
   pub runnables_kept : (ts : List Tactic) → All (IsRunnable old) ts → All (IsRunnable new) ts
   runnables_kept ts h = All-weaker (IsRunnable old) (IsRunnable new) runnable_kept ts h
@@ -62,10 +62,11 @@ module _ (trees : List Tree) where
   row_is n end_of-Tactic = refl
   row_is n (more_of-Tactic t rest) = ap (part (tactic_at trees t)) (row_is _ rest)
 
-  row_runnable : (n : _) (row : Row_of-Tactic n) → TacticsAreKnown trees row → EachAtomOf IsFitting (tactics_at trees row) → All (IsRunnable trees) (items-the_row-Tactic n row)
-  row_runnable n end_of-Tactic known fitting = All-nil (IsRunnable trees)
-  row_runnable n (more_of-Tactic t rest) known fitting =
-      All-cons (IsRunnable trees) t (items-the_row-Tactic _ rest) (record { known = known.0; fitting = fitting.0 }) (row_runnable _ rest known.1 fitting.1)
+  row_runnable : (n : _) (row : Row_of-Tactic n) → TacticsAreKnown trees row → EachAtomOf IsRun (tactics_at trees row) →
+      All (IsRunnable trees) (items-the_row-Tactic n row)
+  row_runnable n end_of-Tactic known atoms = All-nil (IsRunnable trees)
+  row_runnable n (more_of-Tactic t rest) known atoms =
+      All-cons (IsRunnable trees) t (items-the_row-Tactic _ rest) (record { known = known.0; atoms = atoms.0 }) (row_runnable _ rest known.1 atoms.1)
 
   -- the parts of a strategy stand in its vector
   pub choice_at : (ts : Vec Tactic Global) → tactic_at trees (Choice ts) ≡ the.Choice (tactics_of trees ts.items)
@@ -87,17 +88,17 @@ module _ (trees : List Tree) where
   pub choice_parts : (ts : Vec Tactic Global) → IsRunnable trees (Choice ts) → All (IsRunnable trees) ts.items
   choice_parts ts h =
       let row = row_in (Choice ts) in
-      subst (All (IsRunnable trees)) (items_hidden-the_row-Tactic-0 ts) (row_runnable row.0 row.1 h.known h.fitting)
+      subst (All (IsRunnable trees)) (items_hidden-the_row-Tactic-0 ts) (row_runnable row.0 row.1 h.known h.atoms)
 
   pub sequence_parts : (ts : Vec Tactic Global) → IsRunnable trees (Seq ts) → All (IsRunnable trees) ts.items
   sequence_parts ts h =
       let row = row_in (Choice ts) in
-      subst (All (IsRunnable trees)) (items_hidden-the_row-Tactic-0 ts) (row_runnable row.0 row.1 h.known h.fitting)
+      subst (All (IsRunnable trees)) (items_hidden-the_row-Tactic-0 ts) (row_runnable row.0 row.1 h.known h.atoms)
 
   pub branch_parts : (at : ℕ) (ts : Vec Tactic Global) → IsRunnable trees (Branch at ts) → All (IsRunnable trees) ts.items
   branch_parts at ts h =
       let row = row_in (Choice ts) in
-      subst (All (IsRunnable trees)) (items_hidden-the_row-Tactic-0 ts) (row_runnable row.0 row.1 h.known h.fitting)
+      subst (All (IsRunnable trees)) (items_hidden-the_row-Tactic-0 ts) (row_runnable row.0 row.1 h.known h.atoms)
 
   pub count_of : (ts : List Tactic) → count (tactics_of trees ts) ≡ length ts
   count_of [] = refl

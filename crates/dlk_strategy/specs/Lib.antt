@@ -1,3 +1,4 @@
 pub mod Whys
 pub mod Runs
+pub mod Differentiated
 pub mod Ties

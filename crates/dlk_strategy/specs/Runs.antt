@@ -1,6 +1,8 @@
 -- The runs of strategies: what a strategy makes of a goal, step by step.
-use Rattle.std.specs.Prelude.{◌≡◌, ◌≢◌, ℕ, zero, suc, ◌+◌, ◌<◌, ◌≤◌, List, [], ◌∷◌, ◌++◌, map, length, Option, Some, None}
+use Rattle.std.specs.Prelude.{◌≡◌, ◌≢◌, ℕ, zero, suc, ◌+◌, ◌<◌, ◌≤◌, Bool, true, false, bytes_eq, codes, List, [], ◌∷◌, ◌++◌, map, length}
+use Rattle.std.specs.Prelude.{Option, Some, None}
 use Rattle.dlk_tree.specs.Trees.{Tree}
+use Rattle.dlk_sequent.specs.declared.sequent.Place.{Place}
 use Rattle.dlk_sequent.specs.declared.sequent.Place.TheVariants.{Ante, Succ}
 use Rattle.dlk_calculus.specs.Places.{At}
 use Rattle.dlk_calculus.specs.Sequents.{Sequent}
@@ -10,10 +12,13 @@ use Rattle.dlk_rules.specs.declared.arguments.Side.{Side}
 use Rattle.dlk_rules.specs.declared.arguments.Side.TheVariants.{Left, Right}
 use Rattle.dlk_tacsyn.specs.Tactics.{Argument, AtPlace, AnyLeft, AnyRight, Word, GivenFormula, GivenTerm, GivenExtra, Atom, Tactic, Choice, Sequence, Branch, Repeat, One, Tactics, no_parts, part, count}
 use Rattle.dlk_library.specs.Expanded.{Expanded}
+use Rattle.dlk_uses.specs.Uses.{formula_at}
+use Rattle.dlk_derive.specs.Plans.{Call}
+use Rattle.dlk_derive.specs.Derives.{DeriveWhy, Plans, NoPlan, use_of}
 use Rattle.dlk_elab.specs.Atoms.{AtomSteps, AtomFault}
 use Rattle.dlk_strategy.specs.declared.fault.FailWhy.{FailWhy}
 use Rattle.dlk_strategy.specs.declared.fault.FailWhy.TheVariants.{WrongCount, NoPlace}
-use Rattle.dlk_strategy.specs.Whys.{fail_of}
+use Rattle.dlk_strategy.specs.Whys.{fail_of, why_of}
 
 -- how many atoms may be run, those that fail included
 abbrev pub most_runs : ℕ
@@ -153,6 +158,34 @@ RunAtomOn atom (Some on) = TriesAll atom on
 abbrev pub RunAtom : Atom → Run
 RunAtom atom = RunAtomOn atom (side atom.arguments)
 
+-- atoms in turn, each on all goals that are left by those before, so many
+abbrev pub OneByOne : List Atom → ℕ → Run
+OneByOne [] goals goal = Ends goals
+OneByOne (atom ∷ rest) goals goal = Then (OnEach (RunAtom atom) goals goal) (λ left. OneByOne rest left goal)
+
+-- One run of `derive` at a place, which is counted: then the uses of the plan run in turn, each at the byte of the name and counted as well.
+-- Where there is no plan, it fails for the reason why.
+pub data RunDerive (atom : Atom) (goal : ℕ) (now : Progress) : Outcome → Type 0 where
+  plans : {outcome : Outcome} (s : Sequent) (place : Place) (path : List ℕ) (calls : List Call) → now.used < most_runs →
+      At (main_goals now.rows) goal s → atom.arguments ≡ AtPlace place path ∷ [] → Plans (formula_at s place) path calls →
+      OneByOne (map (use_of atom.at place) calls) 1 goal (record now { used = now.used + 1 }) outcome → RunDerive atom goal now outcome
+  no_plan : (s : Sequent) (place : Place) (path : List ℕ) (why : DeriveWhy) → now.used < most_runs → At (main_goals now.rows) goal s →
+      atom.arguments ≡ AtPlace place path ∷ [] → NoPlan (formula_at s place) path why → RunDerive atom goal now (Fails atom.at (why_of why) (now.used + 1))
+  spent : most_runs ≤ now.used → RunDerive atom goal now (Budget atom.at)
+
+-- whether the name is `derive`
+abbrev pub is_derive : Atom → Bool
+is_derive atom = bytes_eq atom.name (codes "derive")
+
+-- the run of a name, by whether it is `derive`
+abbrev pub RunNamedBy : Bool → Atom → Run
+RunNamedBy true atom = RunDerive atom
+RunNamedBy false atom = RunAtom atom
+
+-- `derive`, or an atom
+abbrev pub RunNamed : Atom → Run
+RunNamed atom = RunNamedBy (is_derive atom) atom
+
 -- a branch on so many goals: as many as it has parts
 pub data Branched (at parts goals : ℕ) (each : Fate) (now : Progress) : Outcome → Type 0 where
   as_many : {outcome : Outcome} → goals ≡ parts → each now outcome → Branched at parts goals each now outcome
@@ -165,7 +198,7 @@ abbrev mutual
   Runs (Sequence parts) = OnEach (InTurn parts 1)
   Runs (Branch at parts) = λ goals goal. Branched at (count parts) goals (OnOwn parts goal 0)
   Runs (Repeat body times) = OnEach (Again (Runs body 1) times)
-  Runs (One atom) = OnEach (RunAtom atom)
+  Runs (One atom) = OnEach (RunNamed atom)
 
   -- the first of these that doesn't fail, and else the last; none of them does nothing
   pub Alternatives : Tactics → Run

@@ -6,14 +6,15 @@ use Rattle.dlk_rules.specs.declared.step.Step.{Step}
 use Rattle.dlk_rules.specs.Steps.{step_at, HasKnownIds}
 use Rattle.dlk_kernel.specs.Kernel.{State, facts, ExtendsRows, SameRows}
 use Rattle.dlk_tacsyn.specs.declared.tactic.Tactic.{Tactic}
-use Rattle.dlk_tacsyn.specs.Tactics.{Tactic as TreeTactic, Choice as TheChoice, Sequence, Branch as TheBranch, Repeat as TheRepeat, One as TheOne, Tactics, no_parts, part, count}
-use Rattle.dlk_tacsyn.specs.Rows.{AreFitting, AreOfText}
+use Rattle.dlk_tacsyn.specs.Tactics.{Atom as TreeAtom, Tactic as TreeTactic, Choice as TheChoice, Sequence, Branch as TheBranch}
+use Rattle.dlk_tacsyn.specs.Tactics.{Repeat as TheRepeat, One as TheOne, Tactics, no_parts, part, count}
+use Rattle.dlk_tacsyn.specs.Rows.{AreRun, AreOfText}
 use Rattle.dlk_tacsyn.specs.Ties.{tactic_at, TacticIsKnown}
 use Rattle.dlk_strategy.specs.declared.fault.FailWhy.{FailWhy}
 use Rattle.dlk_strategy.specs.declared.fault.RunFault.{RunFault}
 use Rattle.dlk_strategy.specs.declared.fault.RunFault.TheVariants as fault
 use Rattle.dlk_strategy.specs.declared.trace.Trace.{Trace}
-use Rattle.dlk_strategy.specs.Runs.{Progress, Outcome, Done, Fails, Budget, Fate, Run, most_runs, main_goals, Runs, Alternatives, InTurn, OnOwn, Branched, Again, RunAtom}
+use Rattle.dlk_strategy.specs.Runs.{Progress, Outcome, Done, Fails, Budget, Fate, Run, most_runs, main_goals, Runs, Alternatives, InTurn, OnOwn, Branched, Again, RunNamed}
 
 -- what a kernel, the recorded steps and the count of runs stand for
 abbrev pub progress_at : {S : Type 0} → (S → List Tree) → State S → List Step → ℕ → Progress
@@ -60,15 +61,19 @@ pub record IsBack {S : Type 0} (trees : S → List Tree) (old_kernel : State S) 
   pub counted : old.used ≤ new.used
   pub within : new.used ≤ most_runs
 
--- the strategy's ids are known, and its atoms fitting
+-- the strategy's ids are known, and its atoms those that a run meets
 pub record IsRunnable (trees : List Tree) (t : Tactic) : Type 0 where
   pub known : TacticIsKnown trees t
-  pub fitting : AreFitting (tactic_at trees t)
+  pub atoms : AreRun (tactic_at trees t)
 
 -- the strategy's ids are known, and its atoms those of a text
 pub record IsStrategy (trees : List Tree) (t : Tactic) : Type 0 where
   pub known : TacticIsKnown trees t
   pub of_text : AreOfText (tactic_at trees t)
+
+-- the atom, where its name stands at this byte
+abbrev pub at_byte : ℕ → TreeAtom → TreeAtom
+at_byte byte atom = record { name = atom.name; arguments = atom.arguments; at = byte }
 
 -- strategies in a list
 abbrev pub tactics_of : List Tree → List Tactic → Tactics
@@ -120,4 +125,4 @@ on_one (TheChoice parts) = Alternatives parts
 on_one (Sequence parts) = InTurn parts 1
 on_one (TheBranch at parts) = λ goal. Branched at (count parts) 1 (OnOwn parts goal 0)
 on_one (TheRepeat body times) = Again (Runs body 1) times
-on_one (TheOne atom) = RunAtom atom
+on_one (TheOne atom) = RunNamed atom

@@ -1,4 +1,7 @@
--- Why a strategy fails, by the fault of an atom.
+-- Why a strategy fails, by the fault of an atom or of a plan.
+use Rattle.dlk_calculus.specs.declared.reason.Reason.TheVariants as reason
+use Rattle.dlk_derive.specs.Derives.{DeriveWhy}
+use Rattle.dlk_derive.specs.Derives as derive
 use Rattle.dlk_elab.specs.Atoms.{AtomWhy, UnknownName, NoPlace, NoMatch, AtStep}
 use Rattle.dlk_strategy.specs.declared.fault.FailWhy.{FailWhy}
 use Rattle.dlk_strategy.specs.declared.fault.FailWhy.TheVariants as fail
@@ -8,3 +11,9 @@ fail_of UnknownName = fail.UnknownName
 fail_of NoPlace = fail.NoPlace
 fail_of NoMatch = fail.NoMatch
 fail_of (AtStep reason) = fail.Step reason
+
+-- where no `( )'` stands, the shape is wrong, as it is where a rule finds no formula of its shape
+abbrev pub why_of : DeriveWhy → FailWhy
+why_of derive.NoPlace = fail.NoPlace
+why_of derive.WrongShape = fail.Step reason.WrongShape
+why_of derive.NoMatch = fail.NoMatch

@@ -12,7 +12,7 @@ ghost use Rattle.dlk_strategy.specs.Runs.{main_goals, formulas, side_of, side, p
 ghost use Rattle.dlk_strategy.specs.Ties.{goals_of, now, IsReady, Extends, IsBack, Becomes, UnlessOver, HasLeft, IsBackOnFailure};
 
 use crate::fault::{FailWhy, RunFault};
-use crate::trace::{Trace, goals_left};
+use crate::trace::{Trace, goal_at, goals_left};
 use dlk_elab::{TacFault, elaborate};
 use dlk_kernel::{Kernel, Step};
 use dlk_rules::Side;
@@ -160,7 +160,7 @@ fn places_on<S: Store>(kernel: &Kernel<S>, side: Side, goal: u32) -> u32
     requires { IsPlace (main_goals (facts S.trees kernel.now)) goal }
     ensures { (s : Sequent) → At (main_goals (facts S.trees kernel.now)) goal s → result ≡ length (formulas side s) }
 {
-    let goal = kernel.goals(kernel.rows())[goal as usize - 1].value();
+    let goal = goal_at(kernel, goal);
     match side {
         Side::Left => goal.ante.as_slice().len() as u32,
         Side::Right => goal.succ.as_slice().len() as u32,

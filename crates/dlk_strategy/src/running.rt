@@ -6,7 +6,7 @@ ghost use Rattle.dlk_tacsyn.specs.Ties.{tactic_at};
 ghost use Rattle.dlk_strategy.specs.Runs.{Runs, Alternatives, InTurn, OnOwn, Branched, Again};
 ghost use Rattle.dlk_strategy.specs.Ties.{goals_of, now, on_one, tactics_of, IsReady, IsRunnable, Extends, IsBack, Becomes, BecomesTried, UnlessOver, IsBackOnNone, HasLeft};
 
-use crate::atoms::run_atom;
+use crate::derivation::run_named;
 use crate::fault::{FailWhy, RunFault};
 use crate::trace::{Trace, take_back};
 use dlk_kernel::Kernel;
@@ -78,7 +78,7 @@ fn run_one<S: Store, L: Ledger>(
             branch(alloc, kernel, trace, *at, parts.as_slice(), goal, 1, steps)
         }
         Tactic::Repeat { body, times } => repeat(alloc, kernel, trace, body, *times, goal, steps),
-        Tactic::One(atom) => run_atom(alloc, kernel, trace, atom, goal, steps),
+        Tactic::One(atom) => run_named(alloc, kernel, trace, atom, goal, steps),
     }
 }
 

@@ -4,11 +4,14 @@ ghost use Rattle.dlk_calculus.specs.Limits.{IsSmall, IsShallow};
 ghost use Rattle.dlk_calculus.specs.Sequents.{IsFormula};
 ghost use Rattle.dlk_store.specs.Stores.{IsId, tree};
 ghost use Rattle.dlk_rules.specs.Steps.{HasKnownIds};
+ghost use Rattle.dlk_kernel.specs.Kernel.{facts};
 ghost use Rattle.dlk_tacsyn.specs.Ties.{tactic_at};
+ghost use Rattle.dlk_strategy.specs.Differentiated.{Differentiates};
 ghost use Rattle.dlk_strategy.specs.Runs.{Done as IsDone, RunsModel, RunsPlain};
 ghost use Rattle.dlk_strategy.specs.Ties.{progress_at, IsRunnable, IsStrategy, IsRunFaultOf};
 
 use crate::fault::RunFault;
+use crate::laws::{derive_differentiates, one_outcome};
 use crate::running::run_on;
 use crate::trace::Trace;
 use dlk_kernel::{Fact, Kernel, Step, StepFault};
@@ -33,6 +36,11 @@ pub struct Done {
 /// The model is a formula without argument dots or `_` within the limits. The ids are those of this kernel's store, and the strategy's atoms
 /// are those of a text: names of the library run what they stand for. After a refusal the kernel has no rows.
 ///
+/// `derive(P)` alone differentiates: on a model of at most 150 nodes with a `( )'` at P on the right whose kid has a derivative, and for a term
+/// with nothing but arithmetic and one comparison between it and the smallest formula round it, it is done, or wants memory. The last row has one
+/// goal, the model with the derivative at the place, and its leaves are `==> k!=0` for the exponents, each once, in the order in which they are
+/// met.
+///
 /// # Errors
 ///
 /// - `Fails`: the strategy fails, at a byte of its text.
@@ -56,9 +64,12 @@ pub fn run_strategy<S: Store, L: Ledger>(
     ensures known { IfOk result (λ done. All (HasKnownIds (S.trees kernel.new.store)) done.steps.items) }
     ensures fault { IfErr result (IsRunFaultOf (RunsModel (tactic_at (S.trees kernel.old.store) strategy.now) (tree (S.trees kernel.old.store) model))) }
     ensures err { OnErr result (kernel.new.rows ≡ []) }
+    ensures derivative { Differentiates (tactic_at (S.trees kernel.old.store) strategy.now) (tree (S.trees kernel.old.store) model) (facts S.trees kernel.new) result }
     ensures grows { S.grows kernel.old.store kernel.new.store }
 {
     expansion_fits();
+    one_outcome();
+    derive_differentiates();
     let expansion = expanded(alloc, strategy, &*kernel)?;
     match run_model(alloc, &expansion, kernel, model, steps) {
         Ok(trace) => Ok(Done {

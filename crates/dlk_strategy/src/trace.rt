@@ -1,12 +1,16 @@
 //! What a run records.
 ghost use Rattle.std.specs.Prelude.{◌≡◌, ◌≤◌, ◌+◌, length, take, All};
+ghost use Rattle.dlk_calculus.specs.Limited.{HasFewFormulas};
 ghost use Rattle.dlk_calculus.specs.Limits.{most_goals};
+ghost use Rattle.dlk_calculus.specs.Places.{At, IsPlace};
 ghost use Rattle.dlk_kernel.specs.Kernel.{facts, ExtendsRows};
 ghost use Rattle.dlk_rules.specs.Steps.{HasKnownIds};
+ghost use Rattle.dlk_sequent.specs.Sequents.{sequent_at, IsKnown};
 ghost use Rattle.dlk_strategy.specs.Runs.{main_goals, most_runs};
 ghost use Rattle.dlk_strategy.specs.Ties.{goals_of, Extends, IsBack};
 
 use dlk_kernel::{Kernel, Step};
+use dlk_sequent::Sequent;
 use dlk_store::Store;
 
 /// What a run has recorded so far.
@@ -25,6 +29,16 @@ pub(crate) fn goals_left<S: Store>(kernel: &Kernel<S>) -> u32
     ensures few { result ≤ most_goals }
 {
     kernel.goals(kernel.rows()).len() as u32
+}
+
+/// A goal of the last row.
+pub(crate) fn goal_at<S: Store>(kernel: &Kernel<S>, goal: u32) -> &Sequent
+    requires { IsPlace (main_goals (facts S.trees kernel.now)) goal }
+    ensures goal { At (main_goals (facts S.trees kernel.now)) goal (sequent_at (S.trees kernel.now.store) result.now) }
+    ensures known { IsKnown (S.trees kernel.now.store) result.now }
+    ensures few { HasFewFormulas (sequent_at (S.trees kernel.now.store) result.now) }
+{
+    kernel.goals(kernel.rows())[goal as usize - 1].value()
 }
 
 /// Takes back what was made since there were so many rows and so many steps.

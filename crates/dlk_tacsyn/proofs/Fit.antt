@@ -1,5 +1,5 @@
 -- The atoms of a strategy have what each of them has as it is read.
-use Rattle.std.proofs.Common.{◌≡◌, ℕ, ◌+◌, List, [], ◌∷◌, ◌++◌, Option, Some, None, refl, inl, inr, ◌⊎◌, ◌∙◌}
+use Rattle.std.proofs.Common.{◌≡◌, ℕ, ◌+◌, List, [], ◌∷◌, ◌++◌, Option, Some, None, refl, inl, inr, ◌⊎◌}
 use Rattle.std.specs.Prelude.{option_map, option_and_then, nat_lt, nat_le, All}
 use Rattle.std.proofs.lemmas.List.Elements.{All-nil, All-cons}
 use Rattle.dlk_tree.specs.Trees.{Tree, WellMade}
@@ -19,7 +19,8 @@ use Rattle.dlk_tacsyn.specs.declared.argument.Written.{Written}
 use Rattle.dlk_tacsyn.specs.declared.argument.Written.TheVariants as written
 use Rattle.dlk_tacsyn.specs.Tactics.{Argument, Atom, Tactic, Tactics, Choice, Sequence, Branch, Repeat, EachAtom, EachAtomOf, AtPlace, AnyLeft}
 use Rattle.dlk_tacsyn.specs.Tactics.{AnyRight, Word, GivenFormula, GivenTerm, GivenExtra}
-use Rattle.dlk_tacsyn.specs.Rows.{Row, row_of, library_row_of, text_row_of, or_else, IsOfKind, AreOfKinds, IsOfText, AreOfText, IsNamedExtra, IsNamed, HasNames}
+use Rattle.dlk_tacsyn.specs.Rows.{Row, row_of, library_row_of, derive_row_of, text_row_of, or_else}
+use Rattle.dlk_tacsyn.specs.Rows.{IsOfKind, AreOfKinds, IsOfText, AreOfText, IsNamedExtra, IsNamed, HasNames}
 use Rattle.dlk_tacsyn.specs.Faults.{Nesting}
 use Rattle.dlk_tacsyn.specs.Faults as fault
 use Rattle.dlk_tacsyn.specs.Strategies.{Says, Reading, IsReading, IsSaid, most_open, most_times, parts, whole, all_written, place_of}
@@ -147,15 +148,19 @@ module _ (P : Argument → Type 0) where
   then_holds Q R join (Some a) None h k = tt
   then_holds Q R join (Some a) (Some all) h k = join a all h k
 
--- the row of a name in a text is that of an atom or one of the library
-either_row : (name : List ℕ) (row : Row) → text_row_of name ≡ Some row → (row_of name ≡ Some row) ⊎ (library_row_of name ≡ Some row)
+-- a row that is one of two is the first or the other
+either_row : (first other : Option Row) (row : Row) → or_else first other ≡ Some row → (first ≡ Some row) ⊎ (other ≡ Some row)
+either_row (Some r) other row is = inl is
+either_row None other row is = inr is
+
+-- the row of a name in a text is that of an atom, or one of the library, or that of `derive`
+some_row : (name : List ℕ) (row : Row) → text_row_of name ≡ Some row →
+    (row_of name ≡ Some row) ⊎ ((library_row_of name ≡ Some row) ⊎ (derive_row_of name ≡ Some row))
 unfolding text_row_of
-either_row name row is = by (row_of name) refl is
-  where
-    by : (found : Option Row) → row_of name ≡ found → or_else found (library_row_of name) ≡ Some row →
-        (row_of name ≡ Some row) ⊎ (library_row_of name ≡ Some row)
-    by (Some r) e same = inl (e ∙ same)
-    by None e same = inr same
+some_row name row is = elim (either_row (row_of name) (or_else (library_row_of name) (derive_row_of name)) row is) [
+  | inl e ↦ inl e
+  | inr e ↦ inr (either_row (library_row_of name) (derive_row_of name) row e)
+]
 
 any_formula : (found : Option Tree) → Holds (λ h. IsNamed (GivenFormula h)) found
 any_formula None = tt
@@ -236,9 +241,12 @@ module _ (read : Reading) where
     given_fits : (at : ℕ) (name : List ℕ) (row : Row) → text_row_of name ≡ Some row → (all : Option (List Argument)) →
         Holds (AreOfKinds row.wanted row.optional) all → Gives (EachAtom IsOfText) (atom_given read at name all)
     given_fits at name row row_is None h = tt
-    given_fits at name row row_is (Some all) h = elim (either_row name row row_is) [
+    given_fits at name row row_is (Some all) h = elim (some_row name row row_is) [
       | inl e ↦ inl (record { row = row; row_is = e; arguments = h })
-      | inr e ↦ inr (record { row = row; row_is = e; arguments = h })
+      | inr other ↦ elim other [
+        | inl e ↦ inr (inl (record { row = row; row_is = e; arguments = h }))
+        | inr e ↦ inr (inr (record { row = row; row_is = e; arguments = h }))
+      ]
     ]
 
     by_fits : (at : ℕ) (name : List ℕ) (ws : List Written) → AreNamedWritten ws → (row : Option Row) → text_row_of name ≡ row →

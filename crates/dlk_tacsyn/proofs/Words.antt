@@ -15,7 +15,8 @@ use Rattle.dlk_rules.specs.Steps.{Template, WantsPlace, WantsTwoPlaces, WantsPla
 use Rattle.dlk_rules.specs.Words.{text_made, text_of, wanted, named}
 use Rattle.dlk_rules.proofs.WordLaws.{found_word}
 use Rattle.dlk_tacsyn.specs.declared.kind.Kind.TheVariants.{FixedPlace, AnyPlace, QuotedFormula, QuotedTerm, AName, QuotedExtra}
-use Rattle.dlk_tacsyn.specs.Rows.{Row, wants, is_bare, is_use, is_at_place, is_with_formula, kinds_of, row_of, library_row_of, text_row_of, or_else}
+use Rattle.dlk_tacsyn.specs.Rows.{Row, wants, is_bare, is_use, is_at_place, is_with_formula, kinds_of, row_of, library_row_of, derive_row_of}
+use Rattle.dlk_tacsyn.specs.Rows.{text_row_of, or_else}
 
 word_named : (w : RuleWord) → named (text_of w) ≡ Some w
 word_named word.Close = refl
@@ -110,14 +111,30 @@ module _ (name : List ℕ) (bare : bytes_eq name (codes "prop") ≡ false) where
           cond-false (bytes_eq name (codes "prop")) _ _ bare ∙ cond-false (is_at_place name) _ _ no_place
           ∙ cond-false (is_with_formula name) _ _ no_formula ∙ cond-false (bytes_eq name (codes "dG")) _ _ other
 
+-- the row of `derive`
+pub derive_row : (name : List ℕ) → bytes_eq name (codes "derive") ≡ true → derive_row_of name ≡ Some (wants (FixedPlace ∷ []))
+unfolding derive_row_of
+derive_row name same = cond-true (bytes_eq name (codes "derive")) _ _ same
+
+pub derive_none : (name : List ℕ) → bytes_eq name (codes "derive") ≡ false → derive_row_of name ≡ None
+unfolding derive_row_of
+derive_none name other = cond-false (bytes_eq name (codes "derive")) _ _ other
+
 -- the row of a name in a text
 pub text_row_first : (name : List ℕ) (row : Row) → row_of name ≡ Some row → text_row_of name ≡ Some row
 unfolding text_row_of
-text_row_first name row first = ap (λ found. or_else found (library_row_of name)) first
+text_row_first name row first = ap (λ found. or_else found (or_else (library_row_of name) (derive_row_of name))) first
 
-pub text_row_other : (name : List ℕ) → row_of name ≡ None → text_row_of name ≡ library_row_of name
-unfolding text_row_of
-text_row_other name none = ap (λ found. or_else found (library_row_of name)) none
+module _ (name : List ℕ) (none : row_of name ≡ None) where
+  pub text_row_library : (row : Row) → library_row_of name ≡ Some row → text_row_of name ≡ Some row
+  unfolding text_row_of
+  text_row_library row second =
+      ap (λ found. or_else found (or_else (library_row_of name) (derive_row_of name))) none ∙ ap (λ found. or_else found (derive_row_of name)) second
+
+  pub text_row_derive : library_row_of name ≡ None → text_row_of name ≡ derive_row_of name
+  unfolding text_row_of
+  text_row_derive neither =
+      ap (λ found. or_else found (or_else (library_row_of name) (derive_row_of name))) none ∙ ap (λ found. or_else found (derive_row_of name)) neither
 
 -- names are texts
 between_low : (low high c : ℕ) → high < 128 → is_between low high c ≡ true → c < 128

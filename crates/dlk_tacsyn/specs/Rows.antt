@@ -1,4 +1,4 @@
--- The names of atoms and those of the library, and the arguments that each wants.
+-- The names of atoms, those of the library and `derive`, and the arguments that each wants.
 use Rattle.std.specs.Prelude.{◌≡◌, ◌⊎◌, ℕ, List, [], ◌∷◌, Option, Some, None, option_map, ◌||◌, if◌then◌else◌, Bool, true, All, IsTrue, bytes_eq, codes}
 use Rattle.dlk_tree.specs.Names.{is_name}
 use Rattle.dlk_tree.specs.Table.{is_sym}
@@ -71,9 +71,14 @@ abbrev pub or_else : Option Row → Option Row → Option Row
 or_else (Some row) other = Some row
 or_else None other = other
 
--- The arguments of a name in a text: that of an atom, or one of the library. No name is both.
+-- The arguments of `derive`, which differentiates: a place, which is no locator. It isn't in the library, since the uses of axioms that it runs
+-- depend on the goal.
+unfoldable pub derive_row_of : List ℕ → Option Row
+derive_row_of name = if bytes_eq name (codes "derive") then Some (wants (FixedPlace ∷ [])) else None
+
+-- The arguments of a name in a text: that of an atom, or one of the library, or `derive`. No name is two of these.
 unfoldable pub text_row_of : List ℕ → Option Row
-text_row_of name = or_else (row_of name) (library_row_of name)
+text_row_of name = or_else (row_of name) (or_else (library_row_of name) (derive_row_of name))
 
 -- a place, which may have a path and lie on either side
 abbrev pub IsPlace : Argument → Type 0
@@ -167,13 +172,27 @@ pub record IsLibraryCall (atom : Atom) : Type 0 where
   pub row_is : library_row_of atom.name ≡ Some row
   pub arguments : AreOfKinds row.wanted row.optional atom.arguments
 
--- an atom of a text: a fitting one, or a name of the library
+-- `derive` at a place
+pub record IsDerivation (atom : Atom) : Type 0 where
+  pub row : Row
+  pub row_is : derive_row_of atom.name ≡ Some row
+  pub arguments : AreOfKinds row.wanted row.optional atom.arguments
+
+-- an atom of a text: a fitting one, or a name of the library, or `derive`
 abbrev pub IsOfText : Atom → Type 0
-IsOfText atom = IsFitting atom ⊎ IsLibraryCall atom
+IsOfText atom = IsFitting atom ⊎ (IsLibraryCall atom ⊎ IsDerivation atom)
 
 -- each atom of the strategy is one
 abbrev pub AreOfText : Tactic → Type 0
 AreOfText t = EachAtom IsOfText t
+
+-- an atom that a run meets, where no name of the library is left: a fitting one, or `derive`
+abbrev pub IsRun : Atom → Type 0
+IsRun atom = IsFitting atom ⊎ IsDerivation atom
+
+-- each atom of the strategy is one
+abbrev pub AreRun : Tactic → Type 0
+AreRun t = EachAtom IsRun t
 
 -- both names are names
 abbrev pub IsRename : List ℕ × List ℕ → Type 0

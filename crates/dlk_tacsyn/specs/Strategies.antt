@@ -144,7 +144,7 @@ module _ (read : Reading) where
   atom_by at name ws None = Fails (UnknownAtom at)
   atom_by at name ws (Some row) = atom_given at name (arguments_of row.wanted row.optional ws)
 
-  -- the atom of this name, or the name of the library, which stands at this byte
+  -- the atom of this name, be it one of the library or `derive`, which stands at this byte
   abbrev pub atom_of : ℕ → List ℕ → List Written → Outcome Tactic
   atom_of at name ws = atom_by at name ws (text_row_of name)
 

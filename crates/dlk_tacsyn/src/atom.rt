@@ -14,7 +14,8 @@ use dlk_store::Store;
 use dlk_tree::Name;
 use std::alloc::Global;
 
-/// The atom of this name, or the name of the library, which is at this byte, with these arguments. A quoted text is read once the name is known.
+/// The atom of this name, be it one of the library or `derive`, which is at this byte, with these arguments. A quoted text is read once the
+/// name is known.
 pub(crate) fn atom<S: Store>(
     alloc: Global,
     at: usize,

@@ -1,7 +1,7 @@
-//! The names of atoms and those of the library, and the arguments that they want.
+//! The names of atoms, those of the library and `derive`, and the arguments that they want.
 ghost use Rattle.std.specs.Prelude.{◌≡◌, ◌∷◌, List, IfNone, IfSome, None, Some};
 ghost use Rattle.dlk_tacsyn.specs.declared.argument.Written.{Written};
-ghost use Rattle.dlk_tacsyn.specs.Rows.{is_at_place, is_bare, is_use, is_with_formula, kinds_of, library_row_of, row_of, text_row_of, wants};
+ghost use Rattle.dlk_tacsyn.specs.Rows.{derive_row_of, is_at_place, is_bare, is_use, is_with_formula, kinds_of, library_row_of, row_of, text_row_of, wants};
 ghost use Rattle.dlk_tacsyn.specs.Strategies.{Reading, followed, arguments_of};
 ghost use Rattle.dlk_tacsyn.specs.Ties.{row_at};
 
@@ -162,13 +162,27 @@ fn library_row_of(name: &Name) -> Option<Row>
     None
 }
 
-/// The arguments that this name wants in a text: that of an atom, or one of the library. None comes where it is neither.
+/// The arguments that `derive` wants. None comes where the name is another.
+fn derive_row_of(name: &Name) -> Option<Row>
+    ensures none { IfNone result (derive_row_of name.now ≡ None) }
+    ensures found { IfSome result (λ row. derive_row_of name.now ≡ Some (row_at row)) }
+{
+    if name.bytes() != b"derive".as_slice() {
+        return None;
+    }
+    Some(wants(&[Kind::FixedPlace]))
+}
+
+/// The arguments that this name wants in a text: that of an atom, or one of the library, or `derive`. None comes where it is none of them.
 pub(crate) fn text_row_of(name: &Name) -> Option<Row>
     ensures none { IfNone result (text_row_of name.now ≡ None) }
     ensures found { IfSome result (λ row. text_row_of name.now ≡ Some (row_at row)) }
 {
     match row_of(name) {
         Some(row) => Some(row),
-        None => library_row_of(name),
+        None => match library_row_of(name) {
+            Some(row) => Some(row),
+            None => derive_row_of(name),
+        },
     }
 }

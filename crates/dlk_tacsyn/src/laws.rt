@@ -30,8 +30,8 @@ pub fn strategy_or_fault()
     script_or_stop();
 }
 
-/// What a text says as a strategy is fit to be run: its atoms are of known names, those of the library among them, and have the arguments of
-/// their rows, each name among these is one, and its branches stand where branches may.
+/// What a text says as a strategy is fit to be run: its atoms are of known names, those of the library and `derive` among them, and have the
+/// arguments of their rows, each name among these is one, and its branches stand where branches may.
 pub fn fit_strategy()
     ensures fitting { (bytes : List ℕ) (t : TreeTactic) → StrategyText bytes t → AreOfText t }
     ensures names { (bytes : List ℕ) (t : TreeTactic) → StrategyText bytes t → EachAtom HasNames t }

@@ -1,4 +1,5 @@
 // What `prove`, `gen`, `smt` and `guard` answer.
+mod differentiating;
 mod exporting;
 mod gallery;
 mod generating;

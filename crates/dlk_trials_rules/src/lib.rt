@@ -1,4 +1,4 @@
-//! Trials of the sequent rules on a kernel.
+//! Trials of the sequent rules on a kernel, and of a plan.
 #![tactic(auto)]
 
 #[cfg(test)]

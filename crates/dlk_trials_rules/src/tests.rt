@@ -1,4 +1,5 @@
-// The kernel, by itself.
+// The kernel, by itself, and a plan.
+mod plans;
 mod rules;
 
 ghost use Rattle.std.specs.Prelude.{◌≡◌, ◌<◌};

@@ -1,4 +1,5 @@
 pub mod Uses
+pub mod Places
 pub mod Taking
 pub mod Applying
 pub mod UseExamples

@@ -13,7 +13,7 @@ syn region dlkQuoted start=/"/ end=/"/ contains=@dlkTokens
 syn region dlkRemark start="/\*" end="\*/"
 
 " What isn't a rule of a sequent
-syn keyword dlkAtom nil leaf G boxCut
+syn keyword dlkAtom nil leaf G boxCut derive
 syn keyword dlkAtom useAt useBack nextgroup=dlkUse skipwhite skipempty
 syn match dlkUse /(/ contained nextgroup=dlkAxiom skipwhite skipempty
 

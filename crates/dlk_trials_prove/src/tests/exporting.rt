@@ -1,4 +1,5 @@
 // What `smt` answers.
+use super::proving::proof;
 use super::*;
 
 /// The words of an export.
@@ -47,24 +48,28 @@ fn exports_leaves(rt: HostRuntime) -> Result<(), Fail> {
     Ok(())
 }
 
+/// `smt` prints this of a model and a term.
+fn exports(
+    rt: &impl Abort,
+    alloc: Global,
+    model: &str,
+    term: &[u8],
+    printed: &[u8],
+) -> Result<(), NoReply> {
+    let texts = [model.as_bytes(), &term[..]];
+    prints(rt, alloc, &SMT, &texts, 0, printed, model)?;
+    Ok(())
+}
+
 #[test]
 fn exports_leaf_by_leaf(rt: HostRuntime) -> Result<(), Fail> {
     let alloc = rt.alloc();
-    let model: &[u8] = b"v>=0 & A>0 -> [{{a:=A;++a:=0;}{x'=v,v'=a&v>=0}}*@invariant(v>=0)]v>=0";
-    let strategy: &[u8] =
-        b"implyR(1); boxCut(\"v>=0\",1); <(cutR(\"v>=0\",1); <(nil, useAt(I,1); G(1); implyR(1)), nil); <(leaf, useAt(composeb,1); useAt(choiceb,1); andR(1); useAt(assignb,1); useAt(DWeq,1); G(1); implyR(1); leaf, leaf)";
-    let (_, proved) = replied(alloc, &PROVE, &[model, strategy])?;
-    let term = proved.written.unwrap_or(Vec::new(alloc));
+    let model = "v>=0 & A>0 -> [{{a:=A;++a:=0;}{x'=v,v'=a&v>=0}}*@invariant(v>=0)]v>=0";
+    let strategy =
+        "implyR(1); boxCut(\"v>=0\",1); <(cutR(\"v>=0\",1); <(nil, useAt(I,1); G(1); implyR(1)), nil); <(leaf, useAt(composeb,1); useAt(choiceb,1); andR(1); useAt(assignb,1); useAt(DWeq,1); G(1); implyR(1); leaf, leaf)";
+    let term = proof(&rt, alloc, model, strategy)?;
     let printed =
-        b"; leaf 1\n(set-logic NRA)\n(declare-const |v.A| Real)\n(declare-const |v.v| Real)\n(assert (and (>= |v.v| 0.0) (> |v.A| 0.0)))\n(assert (not (>= |v.v| 0.0)))\n(check-sat)\n; leaf 2\n(reset)\n(set-logic NRA)\n(declare-const |v.v| Real)\n(assert (>= |v.v| 0.0))\n(assert (not (>= |v.v| 0.0)))\n(check-sat)\n".as_slice();
-    prints(
-        &rt,
-        alloc,
-        &SMT,
-        &[model, &term],
-        0,
-        printed,
-        "leaf by leaf",
-    )?;
+        "; leaf 1\n(set-logic NRA)\n(declare-const |v.A| Real)\n(declare-const |v.v| Real)\n(assert (and (>= |v.v| 0.0) (> |v.A| 0.0)))\n(assert (not (>= |v.v| 0.0)))\n(check-sat)\n; leaf 2\n(reset)\n(set-logic NRA)\n(declare-const |v.v| Real)\n(assert (>= |v.v| 0.0))\n(assert (not (>= |v.v| 0.0)))\n(check-sat)\n".as_bytes();
+    exports(&rt, alloc, model, &term, printed)?;
     Ok(())
 }

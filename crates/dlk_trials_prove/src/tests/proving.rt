@@ -25,11 +25,12 @@ pub(super) fn proves(
     status: u8,
     report: &str,
 ) -> Result<Vec<u8>, NoReply> {
-    let (model, report) = (model.as_bytes(), report.as_bytes());
-    let texts = [model, strategy.as_bytes()];
+    let report = report.as_bytes();
+    let texts = [model.as_bytes(), strategy.as_bytes()];
     let written = prints(rt, alloc, &PROVE, &texts, status, report, strategy)?;
     let term = written.unwrap_or(Vec::new(alloc));
-    prints(rt, alloc, &CHECK, &[model, &term], status, report, strategy)?;
+    let texts = [model.as_bytes(), term.as_slice()];
+    prints(rt, alloc, &CHECK, &texts, status, report, strategy)?;
     Ok(term)
 }
 
@@ -141,20 +142,36 @@ fn refuses_strategies(rt: HostRuntime) -> Result<(), Fail> {
     Ok(())
 }
 
+/// `prove` refuses this strategy on a small model by this line.
+fn refuses_strategy(
+    rt: &impl Abort,
+    alloc: Global,
+    strategy: &[u8],
+    line: &str,
+) -> Result<(), NoReply> {
+    let texts = ["x>=0".as_bytes(), &strategy[..]];
+    refuses(rt, alloc, texts, line, line)
+}
+
+/// The status of `prove` with this strategy on the same model.
+fn status_by(alloc: Global, strategy: &[u8]) -> Result<u8, NoReply> {
+    let texts = ["x>=0".as_bytes(), &strategy[..]];
+    let (status, _) = replied(alloc, &PROVE, &texts)?;
+    Ok(status)
+}
+
 #[test]
 fn refuses_long_strategies_and_terms(rt: HostRuntime) -> Result<(), Fail> {
     let alloc = rt.alloc();
     let long = padded(alloc, "nil", 1_048_577)?;
-    let line = "refused: too-long strategy\n";
-    refuses(&rt, alloc, [b"x>=0", &long], line, "too long")?;
+    refuses_strategy(&rt, alloc, &long, "refused: too-long strategy\n")?;
     let most = padded(alloc, "nil", 1_048_576)?;
-    let (status, _) = replied(alloc, &PROVE, &[b"x>=0", &most])?;
-    assert_eq!(rt; status, 1);
+    assert_eq!(rt; status_by(alloc, &most)?, 1);
 
     let name = repeated(alloc, "a", 300_000)?;
     let strategy = joined(alloc, b"cut(\"", &name, b">=0\")*255")?;
     let line = "refused: term-too-long 76506183\n";
-    refuses(&rt, alloc, [b"x>=0", &strategy], line, "a long term")?;
+    refuses_strategy(&rt, alloc, &strategy, line)?;
     Ok(())
 }
 

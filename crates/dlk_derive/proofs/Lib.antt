@@ -1,0 +1,11 @@
+pub mod OneDerivative
+pub mod Lifting
+pub mod Ways
+pub mod Rewriting
+pub mod InPlace
+pub mod Decided
+pub mod Kids
+pub mod Collecting
+pub mod Planned
+pub mod Places
+pub mod Fitting

@@ -1,0 +1,20 @@
+use Rattle.std.proofs.Common.{◌≡◌, ℕ, ◌<◌, drop, length, get_or}
+use Rattle.std.specs.Prelude.{All}
+use Rattle.dlk_tree.specs.Trees.{size}
+use Rattle.dlk_store.specs.Stores.{IsId, tree, kid_trees}
+use Rattle.dlk_store.specs.declared.Id.{Id}
+use Rattle.dlk_derive.specs.Decided.{is_derivable, are_derivable}
+use Rattle.dlk_derive.proofs.derivable.+is_derivable.Given as goal
+
+abbrev pub decreases-is_derivable : goal.decreases-is_derivable
+decreases-is_derivable g l = size (tree (g.S.Store.trees l.store.now) l.id)
+
+-- the kids so far are
+abbrev pub invariant-loop-kid : goal.invariant-loop-kid
+invariant-loop-kid g l =
+    let trees = g.S.Store.trees l.store in
+    record {
+      rest : are_derivable (kid_trees trees (drop l.kid-index l.kid-items)) ≡ is_derivable (tree trees l.fn.id);
+      known : All (IsId trees) l.kid-items;
+      smaller : (i : ℕ) (d : Id) → i < length l.kid-items → size (tree trees (get_or l.kid-items i d)) < size (tree trees l.fn.id);
+    }

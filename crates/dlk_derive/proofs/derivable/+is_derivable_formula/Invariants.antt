@@ -1,0 +1,20 @@
+use Rattle.std.proofs.Common.{◌≡◌, ℕ, ◌<◌, drop, length, get_or}
+use Rattle.std.specs.Prelude.{All}
+use Rattle.dlk_tree.specs.Trees.{size}
+use Rattle.dlk_store.specs.Stores.{IsId, tree, kid_trees}
+use Rattle.dlk_store.specs.declared.Id.{Id}
+use Rattle.dlk_derive.specs.Decided.{is_derivable_formula, are_derivable_formulas}
+use Rattle.dlk_derive.proofs.derivable.+is_derivable_formula.Given as goal
+
+abbrev pub decreases-is_derivable_formula : goal.decreases-is_derivable_formula
+decreases-is_derivable_formula g l = size (tree (g.S.Store.trees l.store.now) l.id)
+
+-- the kids so far are
+abbrev pub invariant-loop-kid : goal.invariant-loop-kid
+invariant-loop-kid g l =
+    let trees = g.S.Store.trees l.store in
+    record {
+      rest : are_derivable_formulas (kid_trees trees (drop l.kid-index l.kid-items)) ≡ is_derivable_formula (tree trees l.fn.id);
+      known : All (IsId trees) l.kid-items;
+      smaller : (i : ℕ) (d : Id) → i < length l.kid-items → size (tree trees (get_or l.kid-items i d)) < size (tree trees l.fn.id);
+    }

@@ -1,0 +1,10 @@
+use Rattle.std.proofs.Common.{◌≡◌, drop}
+use Rattle.dlk_store.specs.Stores.{kid_trees}
+use Rattle.dlk_derive.specs.Decided.{are_derivable_formulas}
+use Rattle.dlk_derive.proofs.derivable.are_derivable_formulas.Given as goal
+
+-- the trees so far are
+abbrev pub invariant-loop-id : goal.invariant-loop-id
+invariant-loop-id g l =
+    let trees = kid_trees (g.S.Store.trees l.store) in
+    are_derivable_formulas (trees l.ids) ≡ are_derivable_formulas (trees (drop l.id-index l.ids))
