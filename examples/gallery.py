@@ -3,7 +3,8 @@
 
     python3 examples/gallery.py [--leaves] [--write] [NAME..]
 
-What `prove` prints must be the folder's `report`, byte for byte, and so must what `check` prints of the term. A line says
+What `prove` prints must be the folder's `report`, byte for byte, and so must what `check` prints of the term. Where a strategy `by_hand`
+stands there, too, which writes out what `derive` does, all this must hold of it as well. A line says
 so of each folder, or of those that are named, and the last line how many are as they should be; the exit status is 1
 where not all are. The program is `./dlk`, which is built where it isn't there, or the one that DLK names. Some models stand
 in the tests of `dlk_trials_prove`, too; each that does must stand there as it does here.
@@ -27,14 +28,15 @@ def fault(folder, term, is_written):
     """What is wrong with a folder's proof, in a line, or nothing. The term is written to a file; the report, too, where it
     is to be written."""
     report = folder / "report"
-    for words in (["prove", folder / "model", folder / "strategy", term], ["check", folder / "model", term]):
-        status, said = answer(PROGRAM, *words)
-        if status != 0:
-            return f"{words[0]} ends with status {status}: {said.partition(chr(10))[0]}"
-        if is_written and words[0] == "prove":
-            report.write_text(said)
-        if not report.exists() or report.read_bytes().decode() != said:
-            return f"{words[0]} prints another report"
+    for strategy in filter(pathlib.Path.exists, (folder / "strategy", folder / "by_hand")):
+        for words in (["prove", folder / "model", strategy, term], ["check", folder / "model", term]):
+            status, said = answer(PROGRAM, *words)
+            if status != 0:
+                return f"{words[0]} by {strategy.name} ends with status {status}: {said.partition(chr(10))[0]}"
+            if is_written and strategy.name == "strategy" and words[0] == "prove":
+                report.write_text(said)
+            if not report.exists() or report.read_bytes().decode() != said:
+                return f"{words[0]} by {strategy.name} prints another report"
     return ""
 
 

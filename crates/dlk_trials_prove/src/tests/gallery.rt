@@ -49,9 +49,7 @@ cut(\"\\exists y x*y*y=1\"); <(
     dW(1); leaf,
     dI(1); <(
       prop,
-      useAt(Deq,1.1); useAt(Dtimes,1.1.0); useAt(Dtimes,1.1.0.0.0); useAt(Dvar,1.1.0.0.0.0.0);
-      useAt(Dvar,1.1.0.0.0.1.1); useAt(Dvar,1.1.0.1.1); useAt(Dconst,1.1.1);
-      useAt(DEsys,1)*2; dW(1); step(1)*2; leaf
+      derive(1.1); useAt(DEsys,1)*2; dW(1); step(1)*2; leaf
     )
   ),
   hideR(1); leaf
@@ -94,14 +92,11 @@ loop(\"x2<x1 & v2<=v1\", 1); <(
   dC(\"v2<=v1\", 1); <(
     dI(1); <(
       prop,
-      useAt(Dand,1.1); useAt(Dlt,1.1.0); useAt(Dvar,1.1.0.0); useAt(Dvar,1.1.0.1); useAt(Dle,1.1.1);
-      useAt(Dvar,1.1.1.0); useAt(Dvar,1.1.1.1);
-      useAt(DEsys,1)*4; dW(1); step(1)*4; leaf
+      derive(1.1); useAt(DEsys,1)*4; dW(1); step(1)*4; leaf
     ),
     dI(1); <(
       prop,
-      useAt(Dle,1.1); useAt(Dvar,1.1.0); useAt(Dvar,1.1.1);
-      useAt(DEsys,1)*4; dW(1); step(1)*4; leaf
+      derive(1.1); useAt(DEsys,1)*4; dW(1); step(1)*4; leaf
     )
   ),
   prop
@@ -149,9 +144,7 @@ loop(\"g()>0 & 0<=c() & c()<=1 & x>=0 & 2*g()*x<=2*g()*H()-v*v\", 1); <(
     ),
     dI(1); <(
       prop,
-      useAt(Dle,1.1); useAt(Dtimes,1.1.0); useAt(Dconst,1.1.0.0.0); useAt(Dvar,1.1.0.1.1); useAt(Dminus,1.1.1);
-      useAt(Dconst,1.1.1.0); useAt(Dtimes,1.1.1.1); useAt(Dvar,1.1.1.1.0.0); useAt(Dvar,1.1.1.1.1.1);
-      useAt(DEsys,1)*2; dW(1); step(1)*2; leaf
+      derive(1.1); useAt(DEsys,1)*2; dW(1); step(1)*2; leaf
     )
   ),
   leaf
@@ -166,9 +159,9 @@ leaves 5
 leaf 1 0<=x&x=H()&v=0&g()>0&0<=c()&c()<=1 ==> g()>0&0<=c()&c()<=1&x>=0&2*g()*x<=2*g()*H()-v*v
 leaf 2 (x>=0&2*g()*x<=2*g()*H()-v*v)&g()>0&0<=c()&c()<=1, x=0 ==> g()>0&0<=c()&c()<=1&x>=0&2*g()*x<=2*g()*H()--c()*v*(-c()*v)
 leaf 3 (x>=0&2*g()*x<=2*g()*H()-v*v)&g()>0&0<=c()&c()<=1, x!=0 ==> g()>0&0<=c()&c()<=1&x>=0&2*g()*x<=2*g()*H()-v*v
-leaf 4 x>=0 ==> 0*x+2*g()*v<=0-(-g()*v+v*-g())
+leaf 4 x>=0 ==> (0*g()+2*0)*x+2*g()*v<=(0*g()+2*0)*H()+2*g()*0-(-g()*v+v*-g())
 leaf 5 g()>0&0<=c()&c()<=1&x>=0&2*g()*x<=2*g()*H()-v*v ==> 0<=x&x<=H()
-lines 366
+lines 450
 ";
 
 /// `examples/gallery/water_tank/model`.
@@ -203,11 +196,7 @@ loop(\"ep()>0 & D()>0 & 0<=x & x<=m()\", 1); <(
       dW(1); leaf,
       dI(1); <(
         leaf,
-        useAt(Dand,1.1); useAt(Dge,1.1.0); useAt(Dvar,1.1.0.0); useAt(Dconst,1.1.0.1); useAt(Dle,1.1.1);
-        useAt(Dplus,1.1.1.0); useAt(Dvar,1.1.1.0.0); useAt(Dtimes,1.1.1.0.1); useAt(Dvar,1.1.1.0.1.0.0);
-        useAt(Dminus,1.1.1.0.1.1.1); useAt(Dconst,1.1.1.0.1.1.1.0); useAt(Dvar,1.1.1.0.1.1.1.1);
-        useAt(Dconst,1.1.1.1);
-        useAt(DEsys,1)*3; dW(1); step(1)*3; leaf
+        derive(1.1); useAt(DEsys,1)*3; dW(1); step(1)*3; leaf
       )
     ),
     useAt(V,1); prop,
@@ -217,14 +206,12 @@ loop(\"ep()>0 & D()>0 & 0<=x & x<=m()\", 1); <(
         dW(1); prop,
         dI(1); <(
           prop,
-          useAt(Dle,1.1); useAt(Dvar,1.1.0); useAt(Dconst,1.1.1);
-          useAt(DEsys,1)*3; dW(1); step(1)*3; leaf
+          derive(1.1); useAt(DEsys,1)*3; dW(1); step(1)*3; leaf
         )
       ),
       dI(1); <(
         leaf,
-        useAt(Dle,1.1); useAt(Dvar,1.1.0); useAt(Dconst,1.1.1);
-        useAt(DEsys,1)*3; dW(1); step(1)*3; leaf
+        derive(1.1); useAt(DEsys,1)*3; dW(1); step(1)*3; leaf
       )
     ),
     useAt(V,1); prop
