@@ -64,13 +64,13 @@ pub record IsDerived (model term : List ℕ) (status : ℕ) (said : List ℕ) : 
   -- what is printed is the report of this very provable, or a front of it where printing failed
   pub report : IsGiven (text_report proof (length rows)) status said
 
--- Whenever `closed` is printed of a model and a term, that is so.
+-- Whenever `check` or `prove` prints `closed`, the formula of the model is derived from the printed leaves, by the lines of the term.
 abbrev pub ClosedTruly : List Word → ℕ → Outside → Outside → Type 0
 ClosedTruly words status old new =
     (command : Command) (model term said : List ℕ) → command_of words ≡ Some command → SpeaksOf command words old new model term →
     new.printed ≡ old.printed ++ (codes "closed" ++ said) → IsDerived model term status (codes "closed" ++ said)
 
--- the command that reports so
+-- the command that prints the report in this layout
 abbrev pub command_in : Layout → Command
 command_in Text = Check
 command_in Json = Report
@@ -99,7 +99,7 @@ pub record NamesLine (term said : List ℕ) : Type 0 where
   pub verdict : Verdict (file_lines term) (bad line why)
   pub refusal : said ≡ (line_refused line why).printed
 
--- all lines are steps, and the other conclusion is named
+-- all lines are steps, and the refusal has the conclusion that isn't the model
 pub record NamesConclusion (term : List ℕ) (f : Tree) (said : List ℕ) : Type 0 where
   pub rows : List Provable
   pub proof : Provable
@@ -158,7 +158,7 @@ pub record IsGuarded (model term : List ℕ) (status : ℕ) (said : List ℕ) : 
   pub reported : IsReported Text term formula status report
   pub guard : TellsGuarded term reported.rows first
 
--- Whenever `guard` prints something with status 0 or 1, that is so.
+-- Whenever `guard` prints something with status 0 or 1, the term is accepted, and its line and its report say this of it.
 abbrev pub GuardsTruly : List Word → ℕ → Outside → Outside → Type 0
 GuardsTruly words status old new =
     (model term said : List ℕ) → RunsGuard words old model term → status < 2 → new.printed ≡ old.printed ++ said → IsGuarded model term status said

@@ -9,7 +9,7 @@ pub const NO_WORDS: u8 = 7;
 
 /// The forms of the words, a line each, with what each does.
 const FORMS: [&str; 10] = [
-    "dlk: the words have none of these forms, in which - is standard input:",
+    "dlk: usage, in which - is standard input:",
     "  dlk check MODEL TERM             replays a proof term, and prints whether the model is closed",
     "  dlk report MODEL TERM            the same as JSON",
     "  dlk smt MODEL TERM               replays a proof term, and prints its leaves for a solver",
@@ -18,7 +18,7 @@ const FORMS: [&str; 10] = [
     "  dlk print FILE                   prints an expression's canonical text",
     "  dlk vars FILE                    prints an expression's free, bound and must-bound variables, and its symbols",
     "  dlk subst FILE SUBST             applies a substitution to an expression",
-    "  dlk gen N                        proves a made model of N assignments, from 1 to 500, and checks the term",
+    "  dlk gen N                        proves a generated model of N assignments, from 1 to 500, and checks the term",
 ];
 
 fn forms<E: Eprint>(to: &E) -> Result<()> {

@@ -1,4 +1,4 @@
-// Why nothing is answered.
+// Why there is no answer: an input could not be read, or memory ran out.
 ghost use Rattle.std.specs.Prelude.{◌≡◌};
 
 use dlk_replies::NoReply;

@@ -1,4 +1,4 @@
-//! Names of bytes that are names.
+//! Names made of bytes that are known to be names.
 ghost use Rattle.std.specs.Prelude.{◌≡◌, IsTrue, IfOk, All, map};
 ghost use Rattle.dlk_tree.specs.Names.{is_name};
 

@@ -1,4 +1,4 @@
-//! Trees as data of the program.
+//! The trees of axioms as constant data.
 
 /// A tree whose operators have at most two kids.
 #[derive(Clone, Copy)]

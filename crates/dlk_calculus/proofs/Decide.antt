@@ -10,7 +10,8 @@ use Rattle.dlk_tree.specs.Table.{Fits, kid_sorts, has_parts}
 use Rattle.dlk_tree.specs.Occurs.{has_dots, has_hole}
 use Rattle.dlk_tree.specs.contracts.op.OpPartialEq.TheImpl as OpEq
 use Rattle.dlk_tree.proofs.Same.{op_decides, sort_decides, sorts_decides}
-use Rattle.dlk_tree.proofs.TreeSame.{tree_eq, tree_decides}
+use Rattle.dlk_tree.specs.TreeTests.{tree_eq}
+use Rattle.dlk_tree.proofs.TreeSame.{tree_decides}
 use Rattle.dlk_calculus.specs.Sequents.{IsFormula, Sequent, IsSequent}
 
 decided : {A : Type 0} (b : Bool) → Decides b A → Dec A

@@ -17,7 +17,7 @@ use Rattle.dlk_calculus.specs.Plug.{IsClear, PlugAt, Plug, PlugAll, filled}
 use Rattle.dlk_calculus.specs.Pairs.{Pair, replacement, IsFreeIn, IsWellFormed, AreWellMade}
 use Rattle.dlk_calculus.specs.Subst.{IsAdmissible, Replaced, new_members, items_of, kids_of, SubstAt, Subst, SubstAll}
 use Rattle.dlk_calculus.proofs.Decide.{both, is_true, well_made_decided}
-use Rattle.dlk_calculus.proofs.OneResult.{one_plug_all, one_subst_at, one_subst_all}
+use Rattle.dlk_calculus.specs.OneResult.{one_plug_all, one_subst_at, one_subst_all}
 use Rattle.dlk_calculus.proofs.WellFormed.{well_formed_or_ill}
 use Rattle.dlk_calculus.proofs.Told.{Told, free_told, inhabited_decided, apart_decided, captures_told}
 

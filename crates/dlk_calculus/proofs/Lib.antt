@@ -17,7 +17,6 @@ pub mod Histories
 pub mod Formulas
 pub mod Leaves
 pub mod LimitLaws
-pub mod OneResult
 pub mod WellFormed
 pub mod Sorts
 pub mod Systems

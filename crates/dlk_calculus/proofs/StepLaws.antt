@@ -22,7 +22,7 @@ use Rattle.dlk_calculus.specs.Steps.{goals_applied, goals_merged, leaves_merged,
 use Rattle.dlk_calculus.specs.Steps.{no_fact_to_rename, no_goal_to_apply, no_goal_to_merge, unknown_axiom, unknown_rule, against_rule, start_no_formulas}
 use Rattle.dlk_calculus.specs.Steps.{leaf_no_formulas, other_goal, no_arithmetic, ill_pairs, free_over_goals, not_admissible, past_limit, rows_full, Fault}
 use Rattle.dlk_calculus.proofs.PlaceLaws.{at_one, At_place, place_cases}
-use Rattle.dlk_calculus.proofs.OneResult.{one_subst}
+use Rattle.dlk_calculus.specs.OneResult.{one_subst}
 use Rattle.dlk_calculus.proofs.Decided.{subst_decided, free_in_decided, good_pairs}
 use Rattle.dlk_tree.specs.Trees.{Tree}
 use Rattle.dlk_calculus.proofs.Decide.{is_sequent, same_sequent, is_false, both}

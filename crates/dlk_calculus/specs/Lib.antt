@@ -7,6 +7,7 @@ pub mod Paths
 pub mod Pairs
 pub mod Subst
 pub mod SubstExamples
+pub mod OneResult
 pub mod Sequents
 pub mod Arithmetic
 pub mod Rename

@@ -9,7 +9,8 @@ use Rattle.dlk_tree.specs.Table.{kid_sorts}
 use Rattle.dlk_tree.specs.Trees.{Tree, node, Forest, sorts, WellMade}
 use Rattle.dlk_store.specs.declared.Id.{Id}
 use Rattle.dlk_store.specs.Stores.{IsId, tree, kid_trees}
-use Rattle.dlk_store.proofs.Kids.{sorts-kid_trees, node_fits}
+use Rattle.dlk_store.specs.Kids.{sorts-kid_trees}
+use Rattle.dlk_store.proofs.Kids.{node_fits}
 use Rattle.dlk_calculus.specs.Kids.{last}
 use Rattle.dlk_derive.specs.Derivative.{IsDerivative}
 use Rattle.dlk_derive.proofs.Decided.{found, tested}

@@ -26,7 +26,7 @@ pub data Plans (there : Option Tree) (path : List ℕ) : List Call → Type 0 wh
   of_term : (e k d : Tree) → there ≡ Some e → subtree e path ≡ Some (diff k) → OfTerm k d → Plans there path (plan_at k path)
   of_formula : (e k d : Tree) → there ≡ Some e → subtree e path ≡ Some (diff_formula k) → OfFormula k d → Plans there path (plan_at k path)
 
--- NoPlan there path why: in what stands there none do, for this reason, the first of three
+-- NoPlan there path why: no uses differentiate what stands at the path, for the first of three reasons
 pub data NoPlan (there : Option Tree) (path : List ℕ) : DeriveWhy → Type 0 where
   no_place : ((e t : Tree) → there ≡ Some e → ¬ (subtree e path ≡ Some t)) → NoPlan there path NoPlace
   wrong_shape : (e t : Tree) → there ≡ Some e → subtree e path ≡ Some t → ((k : Tree) → ¬ IsDifferential t k) → NoPlan there path WrongShape

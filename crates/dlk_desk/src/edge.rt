@@ -1,4 +1,4 @@
-// What can be said of the real outside in values: the rest of it is calls of the runtime.
+// The part of the real outside that is values: options of files, and what becomes of a call by its outcome. The rest is calls of the runtime.
 ghost use Rattle.std.specs.Prelude.{◌≡◌, ◌↔◌, ◌<◌, ◌⊎◌, true, codes, Ok, IfOk, OnErr, IsErr, IsTrue};
 ghost use Rattle.std.specs.Fs.{new_options, with_create, with_read, with_truncate, with_write};
 

@@ -14,7 +14,7 @@ use Rattle.dlk_calculus.specs.Sequents.{Sequent, alone_right}
 use Rattle.dlk_calculus.specs.Steps.{Step, Start, UseAxiom, UseRule, Leaf, Apply, Merge, Substitute, Rename}
 use Rattle.dlk_sequent.specs.declared.sequent.Place.{Place}
 use Rattle.dlk_sequent.specs.declared.sequent.Place.TheVariants.{Ante, Succ}
-use Rattle.dlk_tacsyn.specs.Rows.{ReplacesSymbol}
+use Rattle.dlk_machine.specs.Symbols.{ReplacesSymbol}
 use Rattle.dlk_uses.specs.Uses.{Direction, Forwards, Backwards, Use, Spot, renaming, substituting, instance, in_turn, closed_by}
 use Rattle.dlk_uses.specs.Uses.{program_a, any_p, any_q, any_f, any_g, p_of_one, context_c, ◌~>◌}
 use Rattle.dlk_uses.specs.Uses.{exchange, by_equivalence, by_equation, by_conditional_equation, by_conditional_equivalence, by_implication}

@@ -20,7 +20,8 @@ use Rattle.dlk_sequent.specs.declared.sequent.Place.{Place}
 use Rattle.dlk_sequent.specs.declared.sequent.Place.TheVariants.{Ante, Succ}
 use Rattle.dlk_kernel.specs.Taken.{Takes, none, more}
 use Rattle.dlk_tacsyn.specs.Tactics.{Argument, AtPlace, Word, GivenExtra, Atom}
-use Rattle.dlk_tacsyn.specs.Rows.{IsRename, ReplacesSymbol, IsNamedExtra, IsNamed, HasNames}
+use Rattle.dlk_machine.specs.Symbols.{ReplacesSymbol}
+use Rattle.dlk_tacsyn.specs.Rows.{IsRename, IsNamedExtra, IsNamed, HasNames}
 use Rattle.dlk_match.specs.Matching.{Match}
 use Rattle.dlk_match.specs.Instances.{AreNames}
 use Rattle.dlk_uses.specs.Uses.{Direction, Use, left_of, right_of, side_of, Forwards, Backwards, key, formula_at}

@@ -86,7 +86,7 @@ HasNoLocator atom = All IsFixed atom.arguments
 abbrev pub AreSame : Sequent → ℕ → ℕ → Type 0
 AreSame s i j = (f : Tree) × At s.ante i f × At s.succ j f
 
--- and i is the least such place, and j the least with it
+-- AreSame, and i is the least such place, and j the least with it
 pub record AreFirstSame (s : Sequent) (i j : ℕ) : Type 0 where
   pub same : AreSame s i j
   pub least : (k l : ℕ) → AreSame s k l → (i < k) ⊎ ((i ≡ k) × (j ≤ l))
@@ -104,7 +104,7 @@ pub data UseArguments : List Argument → (name : List ℕ) (place : Place) (pat
   with_extra : {name : List ℕ} {place : Place} {path : List ℕ} {given : Extra} →
       UseArguments (Word name ∷ AtPlace place path ∷ GivenExtra given ∷ []) name place path given
 
--- which side of an axiom an atom of this name looks for
+-- the name of the atom that uses an axiom in this direction
 abbrev pub word_of_direction : Direction → List ℕ
 word_of_direction Forwards = codes "useAt"
 word_of_direction Backwards = codes "useBack"
@@ -113,7 +113,7 @@ word_of_direction Backwards = codes "useBack"
 abbrev pub NamesAxiom : Atom → Direction → (name : List ℕ) (place : Place) (path : List ℕ) (given : Extra) → Type 0
 NamesAxiom atom direction name place path given = (atom.name ≡ word_of_direction direction) × UseArguments atom.arguments name place path given
 
--- and there is one
+-- the atom uses an axiom, and there is an axiom of this name
 pub record IsUse (atom : Atom) (used : Use) : Type 0 where
   pub name : List ℕ
   pub names : NamesAxiom atom used.direction name used.place used.path used.given

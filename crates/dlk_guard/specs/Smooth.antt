@@ -5,22 +5,11 @@ use Rattle.std.specs.List.{list_any}
 use Rattle.dlk_tree.specs.declared.op.Var.{Var}
 use Rattle.dlk_tree.specs.declared.op.Op.{Op}
 use Rattle.dlk_tree.specs.declared.op.Op.TheVariants as Op'
-use Rattle.dlk_tree.specs.contracts.op.OpPartialEq.TheImpl as OpEq
 use Rattle.dlk_tree.specs.Tests.{var_eq}
 use Rattle.dlk_tree.specs.Trees.{Tree, node, Forest, no_kids, kid}
+use Rattle.dlk_tree.specs.TreeTests.{tree_eq}
 use Rattle.dlk_tree.specs.Statics.{prime}
 use Rattle.dlk_calculus.specs.Kids.{first, last}
-
--- two trees are the same, as a test
-abbrev mutual
-  pub tree_eq : Tree → Tree → Bool
-  tree_eq (node f ms) (node g ns) = OpEq.ghosts.eq f g && forest_eq ms ns
-
-  pub forest_eq : Forest → Forest → Bool
-  forest_eq no_kids no_kids = true
-  forest_eq no_kids (kid t ts) = false
-  forest_eq (kid s ss) no_kids = false
-  forest_eq (kid s ss) (kid t ts) = tree_eq s t && forest_eq ss ts
 
 -- ---- the parts of a domain
 

@@ -1,9 +1,10 @@
 //! The laws of guarded proofs. Each is a contract of a function that does nothing.
 ghost use Rattle.std.specs.Prelude.{◌≡◌, ◌⊎◌, ℕ, List, [], ◌∷◌, ◌++◌, None, Some, IsTrue, All};
 ghost use Rattle.dlk_tree.specs.Trees.{Tree, WellMade};
+ghost use Rattle.dlk_tree.specs.TreeTests.{tree_eq};
 ghost use Rattle.dlk_guard.specs.declared.why.Why.{Why as TheWhy};
 ghost use Rattle.dlk_guard.specs.declared.guard.Refusal.{Refusal as TheRefusal};
-ghost use Rattle.dlk_guard.specs.Smooth.{tree_eq, is_constant, is_smooth};
+ghost use Rattle.dlk_guard.specs.Smooth.{is_constant, is_smooth};
 ghost use Rattle.dlk_guard.specs.Guarded.{Line, Guarded, FirstUnguarded, IsPlain};
 ghost use Rattle.dlk_guard.specs.Watched.{watched, watch_of, verdict};
 

@@ -1,4 +1,4 @@
-//! Guarded proofs: whether the lines of a term keep off the places where the calculus isn't sound over the reals.
+//! Guarded proofs: whether every line of a term keeps to where the axioms are right over the reals.
 #![tactic(auto)]
 
 mod conditions;

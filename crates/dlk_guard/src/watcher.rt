@@ -1,4 +1,4 @@
-//! What looks on while the lines of a term are taken.
+//! Observers of a replay.
 ghost use Rattle.std.specs.Prelude.{◌≡◌, OnOk, OnErr};
 ghost use Rattle.dlk_sequent.specs.Sequents.{sequent_at, IsKnown};
 ghost use Rattle.dlk_rules.specs.Steps.{step_at, HasKnownIds};

@@ -4,7 +4,7 @@ use Rattle.dlk_tree.specs.Trees.{Tree, size, depth}
 use Rattle.dlk_calculus.specs.Pairs.{Pair, FirstIll, IsWellFormed}
 use Rattle.dlk_calculus.specs.Subst.{Subst}
 use Rattle.dlk_calculus.specs.declared.why.Why.{Why}
-use Rattle.dlk_calculus.proofs.OneResult.{one_subst}
+use Rattle.dlk_calculus.specs.OneResult.{one_subst}
 use Rattle.dlk_calculus.proofs.WellFormed.{one_first_ill}
 use Rattle.dlk_grammar.specs.declared.token.Dots.TheVariants.{Refused}
 use Rattle.dlk_grammar.specs.declared.token.Form.TheVariants.{Expression}

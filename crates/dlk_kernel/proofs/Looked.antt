@@ -14,7 +14,7 @@ use Rattle.dlk_sequent.specs.declared.subst.Pair.{Pair}
 use Rattle.dlk_sequent.specs.Sequents.{sequent_at, IsKnown}
 use Rattle.dlk_sequent.specs.Substitutions.{pair_at, pairs_at, AreKnownPairs}
 use Rattle.dlk_sequent.proofs.Kept.{trees-kept, sequent-kept, sequents-kept}
-use Rattle.dlk_sequent.proofs.KeptPairs.{pairs_at-kept}
+use Rattle.dlk_sequent.specs.Growth.{pairs_at-kept}
 use Rattle.dlk_memo.specs.Looks.{most_looks}
 use Rattle.dlk_kernel.specs.declared.row.Row.{Row}
 use Rattle.dlk_kernel.specs.Kernel.{provable_at, provables_at, IsKnownRow}

@@ -9,7 +9,7 @@ use Rattle.dlk_tree.specs.declared.op.Op.TheVariants.{True}
 use Rattle.dlk_tree.specs.Trees.{Tree, node, no_kids, WellMade}
 use Rattle.dlk_store.specs.declared.Id.{Id}
 use Rattle.dlk_store.specs.Stores.{IsId, tree, Keeps}
-use Rattle.dlk_store.proofs.Kids.{Keeps-trans}
+use Rattle.dlk_store.specs.Kids.{Keeps-trans}
 use Rattle.dlk_calculus.specs.declared.reason.Reason.TheVariants.{FreeInSubst}
 use Rattle.dlk_calculus.specs.declared.reason.Reason.TheVariants as reason
 use Rattle.dlk_calculus.specs.Places.{at, At}
@@ -25,7 +25,7 @@ use Rattle.dlk_sequent.specs.declared.subst.Pair.{Pair}
 use Rattle.dlk_sequent.specs.Sequents.{sequent_at, IsKnown}
 use Rattle.dlk_sequent.specs.Substitutions.{Checked, pair_at, pairs_at, AreKnownPairs, IsMadeOver}
 use Rattle.dlk_sequent.proofs.Kept.{IsKnown-kept, trees-kept, sequent-kept, sequents-kept}
-use Rattle.dlk_sequent.proofs.KeptPairs.{pairs_at-kept}
+use Rattle.dlk_sequent.specs.Growth.{pairs_at-kept}
 use Rattle.dlk_sequent.specs.declared.fault.ApplyFault.{ApplyFault}
 use Rattle.dlk_sequent.specs.declared.fault.ApplyFault.TheVariants.{NotAdmissible, Memory}
 use Rattle.dlk_subst.specs.Results.{IsResult, HasNone}

@@ -1,4 +1,4 @@
-//! Leaves that join others.
+//! The leaves of a merge: those of one fact that are new to the other.
 ghost use Rattle.std.specs.Prelude.{◌≡◌, ◌↔◌, ◌++◌, List, map, All, IfOk, IsTrue};
 ghost use Rattle.dlk_calculus.specs.Sequents.{Sequent as TreeSequent};
 ghost use Rattle.dlk_calculus.specs.Provables.{IsAmong, AreNew};

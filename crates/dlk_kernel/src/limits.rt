@@ -1,4 +1,4 @@
-//! The limits of what a step makes.
+//! Whether what a step makes is within the limits.
 ghost use Rattle.std.specs.Prelude.{◌≡◌, ◌&&◌, map, All, length, nat_le, IfOk, IfErr};
 ghost use Rattle.std.specs.List.{list_all};
 ghost use Rattle.dlk_store.specs.Stores.{IsId, tree};

@@ -1,4 +1,4 @@
-//! Tokens of one's own.
+//! Copies of tokens.
 ghost use Rattle.std.specs.Prelude.{◌≡◌, IfOk};
 
 use dlk_grammar::{Token, TokenKind};

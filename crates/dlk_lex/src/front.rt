@@ -1,4 +1,4 @@
-//! What is at the front of bytes.
+//! The token, space or comment at the front of bytes.
 ghost use Rattle.std.specs.Prelude.{◌≡◌, ◌<◌, IsTrue, false, IfOk, IfSome, IfNone, length, slice_index, codes, nat_eq};
 ghost use Rattle.std.specs.List.{starts_with};
 ghost use Rattle.dlk_tree.specs.Names.{is_between, is_word};

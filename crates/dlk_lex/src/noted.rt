@@ -1,4 +1,4 @@
-//! What tokens show: where each begins, and whether they are within the limits.
+//! What is noted of tokens: where each begins, and the first that is past a limit.
 ghost use Rattle.std.specs.Prelude.{◌≡◌, ◌≤◌, ◌↔◌, ◌∷◌, ◌++◌, [], List, IsTrue, true, OnOk};
 ghost use Rattle.dlk_grammar.specs.declared.token.Token.{Token as TheToken};
 ghost use Rattle.dlk_grammar.specs.declared.token.TokenKind.TheVariants.{LongNumber};

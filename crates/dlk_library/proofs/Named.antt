@@ -10,7 +10,8 @@ use Rattle.dlk_calculus.specs.Notation.{y_}
 use Rattle.dlk_calculus.specs.Pairs.{Pair, Extra}
 use Rattle.dlk_tacsyn.specs.Tactics.{Argument, AnyLeft, AnyRight, Word, GivenFormula, GivenTerm, GivenExtra, Atom}
 use Rattle.dlk_tacsyn.specs.Tactics.{Tactic, Tactics, Choice, Sequence, Branch, Repeat, One, no_parts, part, EachAtom, EachAtomOf}
-use Rattle.dlk_tacsyn.specs.Rows.{IsRename, ReplacesSymbol, IsNamedExtra, IsNamed, HasNames}
+use Rattle.dlk_machine.specs.Symbols.{ReplacesSymbol}
+use Rattle.dlk_tacsyn.specs.Rows.{IsRename, IsNamedExtra, IsNamed, HasNames}
 use Rattle.dlk_library.specs.Parts.{nothing, rule_at, imply_first, use_at, use_with, generalized, for_r, all_but, for_ghost, atom as atom_of}
 use Rattle.dlk_library.specs.Library.{base_and_step, loop_of, invariant_of, step_of, connective}
 use Rattle.dlk_library.specs.Library.{Expands, by_loop, by_weakening, by_cut, by_invariant, by_ghost, by_step, by_connectives}

@@ -1,4 +1,4 @@
-// Why nothing is generated.
+// Why no model is generated.
 ghost use Rattle.std.specs.Prelude.{◌≡◌};
 ghost use Rattle.dlk_library.specs.declared.fault.GenFault.TheVariants.{Memory};
 

@@ -2,8 +2,10 @@ pub mod Examples
 pub mod Opening
 pub mod Climb
 pub mod Firsts
+pub mod OpenParts
 pub mod Only
 pub mod Spelled
+pub mod Closing
 pub mod Found
 pub mod Live
 pub mod Parsing
@@ -25,3 +27,4 @@ pub mod PairsFormed
 pub mod Stopping
 pub mod TextLaws
 pub mod SomeText
+pub mod PairSymbols

@@ -13,7 +13,7 @@ use Rattle.dlk_machine.specs.Machine.{By, Next, Quantifier, ForAll, ForSome, InB
 use Rattle.dlk_machine.specs.Parse.{reader}
 use Rattle.dlk_machine.proofs.Opening.{some_is, bind_some, Plain, plain_append, Opening, opening_more, states}
 use Rattle.dlk_machine.proofs.Climb.{own_form, right_form, formula_level, level_above, need, need_below, stands}
-use Rattle.dlk_machine.proofs.Only.{Loose, Loose-more}
+use Rattle.dlk_machine.proofs.OpenParts.{Loose, Loose-more}
 use Rattle.dlk_machine.proofs.Spelled.{prefix_form, mark, binary_reads, unary_reads, prefix_table, table, list-begins, list_joined, items_joined, note_brace, end_note, end_stmt, end_invariants, HolderText, round-text, args-text, context-text, box-text, in_dia-text, brace-text, assigns-text, assigns_prime-text, tests-text, evolves-text, domain-text, notes-text, Spells, nothing, left, before, inside, Known, loose_top, loose_formula, Midway, quantifier_token, After}
 use Rattle.dlk_machine.proofs.Found.{moves}
 

@@ -12,7 +12,7 @@ use Rattle.dlk_machine.specs.Levels.{form_level, form_sort}
 use Rattle.dlk_machine.specs.Machine.{◌>>=◌, Between, By, Next, Quantifier, ForAll, ForSome, InBox, InDia, Prefix, Minus, Bang', Bound, Modal, Holder, Round, Args, InContext, In, InBrace, Assigns, Tests, Evolves, Domain, Notes, Part, Left, Before, Inside, level, right_level, operand_sort, result_sort, binary, prefix_level, prefix_sort, unary, Tail, Done, Bare, Grouped, Braced, Starred, Annotated, Piece, Is, State, Wants, Has, Calls, Bars, BarsName, Binds, Starts, StartsPrime, StartsGets, StartsStar, Opens, OpensName, OpensPrime, WantsItem, ItemName, ItemPrime, ItemBar, ItemBarName, ItemEnds, Invariants, as_sort, tail_of, is_program, wanted, join, reduce, fits}
 use Rattle.dlk_machine.proofs.Opening.{bind_some}
 use Rattle.dlk_machine.proofs.Climb.{own_form, left_form, right_form, need, stands}
-use Rattle.dlk_machine.proofs.Only.{Loose}
+use Rattle.dlk_machine.proofs.OpenParts.{Loose}
 
 abbrev pub prefix_form : Prefix → Nonterminal
 prefix_form Minus = neg

@@ -6,3 +6,4 @@ pub mod Expressions
 pub mod Pairs
 pub mod Extras
 pub mod Forms
+pub mod Symbols

@@ -1,5 +1,5 @@
 //! The laws of reading. Each is a contract of a function that does nothing.
-ghost use Rattle.std.specs.Prelude.{◌≡◌, ◌⊎◌, ℕ, List};
+ghost use Rattle.std.specs.Prelude.{◌≡◌, ◌⊎◌, ℕ, List, All};
 ghost use Rattle.dlk_tree.specs.Trees.{Tree, WellMade};
 ghost use Rattle.dlk_calculus.specs.Sequents.{Sequent, IsFormula, IsSequent};
 ghost use Rattle.dlk_calculus.specs.Pairs.{Pair, Extra, AreWellMade};
@@ -14,6 +14,7 @@ ghost use Rattle.dlk_grammar.specs.Readings.{Says, Stops, grammar};
 ghost use Rattle.dlk_grammar.specs.Substitutions.{PairPhrase, ReadsSubstitution};
 ghost use Rattle.dlk_grammar.specs.Extras.{ExtraPhrase, ReadsExtra};
 ghost use Rattle.dlk_grammar.specs.Texts.{TreeText, SequentText, PairsText, ExtraText, TextFault, TreeTextFault, SequentTextFault, PairsTextFault, ExtraTextFault};
+ghost use Rattle.dlk_machine.specs.Symbols.{ReplacesSymbol};
 
 /// Lexemes are at most one phrase of each nonterminal.
 pub fn one_phrase()
@@ -79,20 +80,22 @@ pub fn sequent_texts()
     ensures formulas { (bytes : List ℕ) (s : Sequent) → SequentText bytes s → IsSequent s }
 {}
 
-/// The same of the texts of the pairs of a substitution, each of whose replacements is well made.
+/// The same of the texts of the pairs of a substitution, each of whose replacements is well made. What a pair replaces is a symbol.
 pub fn pairs_texts()
     ensures one { (bytes : List ℕ) (pairs others : List Pair) → PairsText bytes pairs → PairsText bytes others → pairs ≡ others }
     ensures no_fault { (bytes : List ℕ) (pairs : List Pair) (why : TextFault) → PairsText bytes pairs → PairsTextFault bytes why → ⊥ }
     ensures one_fault { (bytes : List ℕ) (why other : TextFault) → PairsTextFault bytes why → PairsTextFault bytes other → why ≡ other }
     ensures some { (bytes : List ℕ) → ((pairs : List Pair) × PairsText bytes pairs) ⊎ ((why : TextFault) × PairsTextFault bytes why) }
     ensures well_made { (bytes : List ℕ) (pairs : List Pair) → PairsText bytes pairs → AreWellMade pairs }
+    ensures symbols { (bytes : List ℕ) (pairs : List Pair) → PairsText bytes pairs → All ReplacesSymbol pairs }
 {}
 
-/// The same of the texts of renames with pairs behind them, each of whose replacements is well made.
+/// The same of the texts of renames with pairs behind them, each of whose replacements is well made. What a pair replaces is a symbol.
 pub fn extra_texts()
     ensures one { (bytes : List ℕ) (extra other : Extra) → ExtraText bytes extra → ExtraText bytes other → extra ≡ other }
     ensures no_fault { (bytes : List ℕ) (extra : Extra) (why : TextFault) → ExtraText bytes extra → ExtraTextFault bytes why → ⊥ }
     ensures one_fault { (bytes : List ℕ) (why other : TextFault) → ExtraTextFault bytes why → ExtraTextFault bytes other → why ≡ other }
     ensures some { (bytes : List ℕ) → ((extra : Extra) × ExtraText bytes extra) ⊎ ((why : TextFault) × ExtraTextFault bytes why) }
     ensures well_made { (bytes : List ℕ) (extra : Extra) → ExtraText bytes extra → AreWellMade extra.pairs }
+    ensures symbols { (bytes : List ℕ) (extra : Extra) → ExtraText bytes extra → All ReplacesSymbol extra.pairs }
 {}

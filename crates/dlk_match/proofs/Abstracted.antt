@@ -10,7 +10,8 @@ use Rattle.dlk_tree.specs.Table.{Fits}
 use Rattle.dlk_tree.specs.Trees.{Tree, node, Forest, no_kids, kid, sort, sorts, WellMade}
 use Rattle.dlk_store.specs.declared.Id.{Id}
 use Rattle.dlk_store.specs.Stores.{IsId, tree, kid_trees, sorts_at, Keeps}
-use Rattle.dlk_store.proofs.Kids.{sorts-kid_trees, kid_trees-kept, node_fits}
+use Rattle.dlk_store.specs.Kids.{sorts-kid_trees, kid_trees-kept}
+use Rattle.dlk_store.proofs.Kids.{node_fits}
 use Rattle.dlk_store.proofs.Made.{Made, Gives}
 use Rattle.dlk_calculus.specs.Kids.{later}
 use Rattle.std.proofs.lemmas.List.{take_rest}

@@ -27,7 +27,7 @@ use Rattle.dlk_match.specs.Matching.{MatchesAt, Matches, MatchesAll, old_names, 
 use Rattle.dlk_match.specs.Instances.{has_other_name, HasOwnNames}
 use Rattle.dlk_match.proofs.Turns.{Names}
 use Rattle.dlk_match.proofs.AtOnce.{not_not}
-use Rattle.dlk_match.proofs.Replacing.{sym_eq_decides}
+use Rattle.dlk_tree.proofs.Same.{sym_eq_decides}
 
 -- what is there stays, and names are given to the own ones alone
 pub record Grows (own : List (List ℕ)) (old new : Extra) : Type 0 where

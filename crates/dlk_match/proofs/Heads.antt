@@ -13,7 +13,7 @@ use Rattle.dlk_calculus.specs.Pairs.{Extra}
 use Rattle.dlk_match.specs.Abstract.{abstracted}
 use Rattle.dlk_match.specs.Matching.{renamed_to, GetsName, GetsReplacement, Application, of_nothing, of_variable, Over, MatchesAt, MatchesAll, Matches}
 use Rattle.dlk_match.specs.Tried.{Tried, name_in, with_name, IsNamedLike, IsLike, is_other, IsArgument, IsNoArgument, HeadIs, taken}
-use Rattle.dlk_match.proofs.OneMatch.{one_name, one_node, one_variable}
+use Rattle.dlk_match.proofs.OneMatch.{no_kid, one_name, one_node, one_variable}
 
 pub not_true : IsTrue false → ⊥
 not_true h = cc
@@ -153,9 +153,6 @@ module _ (keys : Forest) (e : Tree) (old new : Extra) (op target : Op) (kids : F
   )
 
 -- ---- symbols
-
-no_kid : {t : Tree} {rest ks : Forest} → ks ≡ no_kids → ks ≡ kid t rest → ⊥
-no_kid p q = cc
 
 module _ (s : Sym) (kids : Forest) (e : Tree) (old new : Extra) where
   pub applied_to_nothing : kids ≡ no_kids → (is : Bool) → Tried (GetsReplacement s e) old new is → Tried (Application s kids e) old new is

@@ -8,11 +8,13 @@ use Rattle.dlk_tree.specs.declared.op.Op.{Op}
 use Rattle.dlk_tree.specs.Trees.{Tree, node, kid, size}
 use Rattle.dlk_store.specs.declared.Id.{Id}
 use Rattle.dlk_store.specs.Stores.{IsId, tree, kid_trees, Keeps}
-use Rattle.dlk_store.proofs.Kids.{kid_trees-drop, kid_trees-kept, kid_smaller}
+use Rattle.dlk_store.specs.Kids.{kid_trees-kept}
+use Rattle.dlk_store.proofs.Kids.{kid_trees-drop, kid_smaller}
 use Rattle.dlk_calculus.specs.Pairs.{Extra as TreeExtra}
 use Rattle.dlk_sequent.specs.declared.extra.Extra.{Extra}
 use Rattle.dlk_sequent.specs.Extras.{extra_at, IsKnownExtra}
-use Rattle.dlk_sequent.proofs.KeptPairs.{pairs_at-kept, AreKnownPairs-kept}
+use Rattle.dlk_sequent.specs.Growth.{pairs_at-kept}
+use Rattle.dlk_sequent.proofs.KeptPairs.{AreKnownPairs-kept}
 use Rattle.dlk_match.specs.Matching.{Matches, MatchesAll}
 use Rattle.dlk_match.specs.Tried.{Tried, HeadIs}
 use Rattle.dlk_match.specs.Rests.{rest_of, RestIs}

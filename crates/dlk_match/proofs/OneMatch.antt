@@ -1,6 +1,5 @@
 -- A key matches a tree in at most one way.
 use Rattle.std.proofs.Common.{◌≡◌, refl, sym, ap, subst, ◌∙◌, ℕ, List, [], ◌∷◌, ◌++◌, Option, Some, None, Bool}
-use Rattle.std.proofs.lemmas.Option.{none-some}
 use Rattle.dlk_tree.specs.declared.op.Var.{Var}
 use Rattle.dlk_tree.specs.declared.op.Sym.{Sym}
 use Rattle.dlk_tree.specs.declared.op.OdeItem.{OdeItem}
@@ -10,7 +9,7 @@ use Rattle.dlk_tree.specs.declared.op.Op.TheVariants as Op'
 use Rattle.dlk_tree.specs.Trees.{Tree, node, Forest, no_kids, kid, forest}
 use Rattle.dlk_calculus.specs.Kids.{last}
 use Rattle.dlk_calculus.specs.Pairs.{Extra, replacement}
-use Rattle.dlk_calculus.specs.Subst.{Member, Equation, Constant, members}
+use Rattle.dlk_calculus.specs.Subst.{Member, Equation, members}
 use Rattle.dlk_match.specs.Abstract.{abstracted}
 use Rattle.dlk_match.specs.Matching.{renamed_to, NameIs, GetsName, ReplacementIs, GetsReplacement, Over, IsAppliedTo, Application, of_nothing, of_variable, system_of, TakeMembers, constant, equation, equation_first, equation_last, two_constants, SystemMatches, MatchesAt, Matches, MatchesAll, renamed_pairs, Match}
 
@@ -32,7 +31,7 @@ one_replacement s e old a b p q = one_replacement_is (replacement old.pairs s) s
 
 -- ---- applications
 
-no_kid : {t : Tree} {rest ks : Forest} → ks ≡ no_kids → ks ≡ kid t rest → ⊥
+pub no_kid : {t : Tree} {rest ks : Forest} → ks ≡ no_kids → ks ≡ kid t rest → ⊥
 no_kid p q = cc
 
 pub one_variable : {v w : Var} {ks : Forest} → ks ≡ kid (node (Op'.Variable v) no_kids) no_kids → ks ≡ kid (node (Op'.Variable w) no_kids) no_kids → v ≡ w

@@ -1,22 +1,18 @@
 -- A variable plugged into what abstracts a tree by it gives the tree back.
-use Rattle.std.proofs.Common.{◌≡◌, refl, sym, ap, subst, ◌∙◌, ◌+◌, List, [], ◌∷◌, Bool, true, false, cond, ◌⊎◌, inl, inr, ◌==◌, eq-eqb, ne_eqb, arith, rules}
-use Rattle.std.specs.Bool.{Decides}
+use Rattle.std.proofs.Common.{◌≡◌, refl, sym, ap, subst, ◌∙◌, ◌+◌, List, [], ◌∷◌, Bool, true, false, cond, ◌⊎◌, inl, inr, ◌==◌, eq-eqb, ne_eqb, arith}
 use Rattle.std.proofs.lemmas.Bool.{or_parts}
 use Rattle.std.proofs.lemmas.Option.{same_Some}
 use Rattle.dlk_tree.specs.declared.op.Var.{Var}
 use Rattle.dlk_tree.specs.declared.op.Op.{Op}
 use Rattle.dlk_tree.specs.declared.op.Op.TheVariants as Op'
-use Rattle.dlk_tree.specs.Tests.{var_eq}
 use Rattle.dlk_tree.specs.Trees.{Tree, node, Forest, no_kids, kid, sorts, WellMade}
 use Rattle.dlk_tree.specs.Occurs.{any_has, is_some_dot}
+use Rattle.dlk_tree.proofs.Same.{var_eq_decides}
 use Rattle.dlk_calculus.specs.Kids.{later}
 use Rattle.dlk_calculus.specs.Captures.{captures}
 use Rattle.dlk_calculus.specs.Plug.{Plug, PlugAll}
 use Rattle.dlk_match.specs.Abstract.{count, ending_in, is_variable, with_dot, abstracted, abstracted_all}
 use Rattle.dlk_match.proofs.Targets.{IsTarget, AreTargets, target_kids, target_first, target_rest, plain_at, plug_all_plain}
-
-var_eq_decides : (a b : Var) → Decides (var_eq a b) (a ≡ b)
-var_eq_decides a b = search rules
 
 pub variable_is : (v : Var) (op : Op) → is_variable v op ≡ true → op ≡ Op'.Variable v
 variable_is v (Op'.Variable w) e = ap Op'.Variable (sym ((var_eq_decides v w).0 e))

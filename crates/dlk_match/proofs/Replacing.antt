@@ -1,23 +1,19 @@
 -- Where no two symbols of renamed pairs are equal, the replacement of a symbol is that of the renamed symbol.
-use Rattle.std.proofs.Common.{◌≡◌, refl, sym, ap, subst, ◌∙◌, ℕ, zero, suc, ◌-◌, List, [], ◌∷◌, map, take, slice_get, Bool, true, false, cond, arith, rules}
+use Rattle.std.proofs.Common.{◌≡◌, refl, sym, ap, subst, ◌∙◌, ℕ, zero, suc, ◌-◌, List, [], ◌∷◌, map, take, slice_get, Bool, true, false, cond, arith}
 use Rattle.std.proofs.Common.{Option, None, Some, find}
 use Rattle.std.specs.List.{list_any}
-use Rattle.std.specs.Bool.{Decides}
 use Rattle.std.proofs.lemmas.Bool.{or_parts}
 use Rattle.std.proofs.lemmas.Option.{none-some, same_Some}
-use Rattle.std.proofs.Math.Dec.{eqb-suc-zero}
 use Rattle.dlk_tree.specs.declared.op.Sym.{Sym}
 use Rattle.dlk_tree.specs.Tests.{sym_eq}
 use Rattle.dlk_tree.specs.Trees.{Tree}
+use Rattle.dlk_tree.proofs.Same.{sym_eq_decides}
 use Rattle.dlk_calculus.specs.declared.why.Why.{Why}
 use Rattle.dlk_calculus.specs.declared.why.Why.TheVariants as Why'
-use Rattle.dlk_calculus.specs.Places.{at}
 use Rattle.dlk_calculus.specs.Pairs.{Pair, replacement, is_against, why, IsWellFormed}
+use Rattle.dlk_calculus.proofs.PlaceLaws.{at_suc}
 use Rattle.dlk_match.specs.Matching.{renamed_symbol, renamed_pairs}
 use Rattle.dlk_match.proofs.Turns.{Names}
-
-pub sym_eq_decides : (a b : Sym) → Decides (sym_eq a b) (a ≡ b)
-sym_eq_decides a b = search rules
 
 -- no pair has the symbol of an earlier one
 abbrev pub AreUnlike : List Pair → Type 0
@@ -42,13 +38,10 @@ no_reason (Some w) h = absurd (h w refl)
 one_less : (n : ℕ) → suc n - 1 ≡ n
 one_less n = omega arith
 
-at_next : (pairs : List Pair) (n : ℕ) → at pairs (suc n) ≡ slice_get pairs n
-at_next pairs n = let e = one_less n in rw (eqb-suc-zero n, e)
-
 pub well_formed_unlike : (pairs : List Pair) → IsWellFormed pairs → AreUnlike pairs
 well_formed_unlike pairs well i q there =
     not_twice (take i pairs) q
-    (no_reason _ (λ w e. well.none (suc i) w (q, at_next pairs i ∙ there, ap (λ k. why (take k pairs) q) (one_less i) ∙ e)))
+    (no_reason _ (λ w e. well.none (suc i) w (q, at_suc pairs i ∙ there, ap (λ k. why (take k pairs) q) (one_less i) ∙ e)))
 
 unlike_rest : (p : Pair) (pairs : List Pair) → AreUnlike (p ∷ pairs) → AreUnlike pairs
 unlike_rest p pairs unlike i q there = (or_parts _ _ (unlike (suc i) q there)).1

@@ -10,7 +10,7 @@ use Rattle.dlk_tree.specs.Table.{evolved, Fits}
 use Rattle.dlk_tree.specs.Trees.{Tree, node, Forest, no_kids, kid, WellMade}
 use Rattle.dlk_store.specs.declared.Id.{Id}
 use Rattle.dlk_store.specs.Stores.{IsId, tree, kid_trees, sorts_at, Keeps}
-use Rattle.dlk_store.proofs.Kids.{kid_trees-kept, sorts-kid_trees}
+use Rattle.dlk_store.specs.Kids.{kid_trees-kept, sorts-kid_trees}
 use Rattle.dlk_calculus.specs.Subst.{Member, Equation, Constant, members, items_of, kids_of}
 use Rattle.dlk_match.specs.Matching.{system_of}
 use Rattle.dlk_match.specs.Members.{members_at, AreWellMade, AreParts}

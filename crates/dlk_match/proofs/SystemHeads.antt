@@ -11,7 +11,8 @@ use Rattle.dlk_tree.specs.Table.{evolved}
 use Rattle.dlk_tree.specs.Trees.{Tree, node, Forest, no_kids, kid, forest, sorts, WellMade}
 use Rattle.dlk_store.specs.declared.Id.{Id}
 use Rattle.dlk_store.specs.Stores.{IsId, tree, kid_trees}
-use Rattle.dlk_store.proofs.Kids.{sorts-kid_trees, kids_length}
+use Rattle.dlk_store.specs.Kids.{sorts-kid_trees}
+use Rattle.dlk_store.proofs.Kids.{kids_length}
 use Rattle.dlk_calculus.specs.Kids.{last}
 use Rattle.dlk_calculus.specs.Pairs.{Extra}
 use Rattle.dlk_calculus.specs.Subst.{Member, members}

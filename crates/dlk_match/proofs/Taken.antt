@@ -15,6 +15,7 @@ use Rattle.dlk_sequent.specs.declared.subst.Pair.{Pair}
 use Rattle.dlk_sequent.specs.Substitutions.{pairs_at, AreKnownPairs}
 use Rattle.dlk_match.specs.Matching.{ReplacementIs, GetsReplacement}
 use Rattle.dlk_match.specs.Tried.{Tried, id_for}
+use Rattle.dlk_match.proofs.Heads.{not_true}
 
 abbrev pub tree_of : List Tree → Option Id → Option Tree
 tree_of trees (Some id) = Some (tree trees id)
@@ -40,9 +41,6 @@ id_known trees (p ∷ pairs) s id all e = at (λ h. id_known trees pairs s id (�
 -- the sort of the tree of a node that was looked at
 pub sorted : (t : Tree) (op : Op) (kids : Forest) (a b s : Sort) → t ≡ node op kids → a ≡ sort_of op → b ≡ s → a ≡ b → sort t ≡ s
 sorted t op kids a b s is p q same = ap sort is ∙ sym p ∙ same ∙ q
-
-not_true : IsTrue false → ⊥
-not_true h = cc
 
 -- a replacement of before
 module _ (s : Sym) (e : Tree) (old : Extra) where

@@ -172,7 +172,7 @@ pub record AreApart (own : List (List ℕ)) (renames : List (List ℕ × List �
   pub unlike : IsTrue (all_distinct (new_names renames))
   pub not_onto_own : All (λ (r : List ℕ × List ℕ). IsTrue (is_own own r.1) → r.1 ≡ r.0) renames
 
--- the symbol with the name that its taboo gets
+-- the new name of a taboo, or the same one where it gets none
 abbrev pub renamed_taboo : List (List ℕ × List ℕ) → List ℕ → List ℕ
 renamed_taboo renames y = name_or y (renamed_to renames y)
   where

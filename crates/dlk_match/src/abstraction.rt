@@ -1,4 +1,4 @@
-//! A variable as an argument.
+//! Abstracting a variable: `._0` in its place.
 ghost use Rattle.std.specs.Prelude.{◌≡◌, ◌-◌, ◌≤◌, IfOk, All, List, length};
 ghost use Rattle.dlk_tree.specs.Trees.{Tree, node};
 ghost use Rattle.dlk_store.specs.Stores.{IsId, tree, kid_trees, StandsFor};

@@ -1,21 +1,35 @@
--- What a substitution makes at a node is well made, and what it costs.
-use Rattle.std.proofs.Common.{◌≡◌, ℕ, ◌≤◌, List, Option, Some, Result, Ok, Err}
+-- Terms, formulas and well-formed pairs can be followed. What a substitution makes at a node is well made, and what it costs.
+use Rattle.std.proofs.Common.{◌≡◌, ap, ◌∙◌, ◌≤◌, List, length, Some, Result, Ok, Err}
 use Rattle.std.specs.Prelude.{All, IfOk}
 use Rattle.dlk_tree.specs.declared.op.Op.{Op}
-use Rattle.dlk_tree.specs.Trees.{Tree, Forest, WellMade}
+use Rattle.dlk_tree.specs.declared.op.Sort.TheVariants.{Formula}
+use Rattle.dlk_tree.specs.Trees.{Tree, Forest, sort, WellMade}
 use Rattle.dlk_store.specs.declared.Id.{Id}
-use Rattle.dlk_store.specs.Stores.{tree}
+use Rattle.dlk_store.specs.Stores.{IsId, tree}
+use Rattle.dlk_calculus.specs.Pairs.{IsWellFormed}
 use Rattle.dlk_calculus.specs.Subst.{SubstAt}
+use Rattle.dlk_calculus.proofs.Sorts.{AreTerms, plug_sort, fill_sort, subst_sort}
 use Rattle.dlk_sequent.specs.declared.subst.Pair.{Pair}
-use Rattle.dlk_sequent.specs.Substitutions.{pairs_at}
+use Rattle.dlk_sequent.specs.Substitutions.{pairs_at, AreKnownPairs}
 use Rattle.dlk_subst.specs.declared.pairs.Effect.{Effect}
 use Rattle.dlk_subst.specs.Counts.{subtrees, replacement_subtrees, distinct_count}
 use Rattle.dlk_subst.specs.Effects.{effect_of}
-use Rattle.dlk_subst.specs.Results.{IsResult}
+use Rattle.dlk_subst.specs.Results.{IsResult, args_at}
+use Rattle.dlk_subst.specs.Rows.{SubstRow}
 use Rattle.dlk_subst.proofs.Counted.{count_grows}
 use Rattle.dlk_subst.proofs.Effects.{effect_id, effect_found}
 use Rattle.dlk_subst.proofs.Looked.{found_within}
-use Rattle.dlk_subst.proofs.Substituted.{SubstRow, stands_made}
+use Rattle.dlk_subst.proofs.Results.{stands_made}
+use Rattle.dlk_memo.specs.Rules.{AreReadyArgs, IsReadyFormula, AreReadyPairs}
+
+pub args_ready : (trees : List Tree) (ids : List Id) → length ids ≤ 8 → All (IsId trees) ids → AreTerms (args_at trees ids) → AreReadyArgs trees ids
+args_ready trees ids few known terms = record { few = few; known = known; keeps_sort = λ t u well p. plug_sort (args_at trees ids) t u terms p }
+
+pub formula_ready : (trees : List Tree) (id : Id) → IsId trees id → sort (tree trees id) ≡ Formula → IsReadyFormula trees id
+formula_ready trees id known formula = record { known = known; keeps_sort = λ t u well e. ap sort e ∙ fill_sort (tree trees id) t formula }
+
+pub pairs_ready : (trees : List Tree) (pairs : List Pair) → AreKnownPairs trees pairs → IsWellFormed (pairs_at trees pairs) → AreReadyPairs trees pairs
+pairs_ready trees pairs known well = record { known = known; keeps_sort = subst_sort (pairs_at trees pairs) well }
 
 -- the replacement of an effect has no more subtrees than all of them
 pub effect_cost : (trees : List Tree) (pairs : List Pair) (op : Op) (effect : Effect) (id : Id) → effect ≡ effect_of pairs op → effect_id effect ≡ Some id

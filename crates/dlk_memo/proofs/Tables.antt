@@ -10,7 +10,7 @@ use Rattle.dlk_tree.specs.declared.op.Op.{Op}
 use Rattle.dlk_tree.specs.Trees.{Tree, node, Forest, no_kids, kid, size}
 use Rattle.dlk_store.specs.declared.Id.{Id}
 use Rattle.dlk_store.specs.Stores.{IsId, tree, kid_trees, StandsFor, Keeps}
-use Rattle.dlk_store.proofs.Kids.{Keeps-trans}
+use Rattle.dlk_store.specs.Kids.{Keeps-trans}
 use Rattle.dlk_store.proofs.Made.{Made, next_same}
 use Rattle.dlk_subst.specs.Results.{IsResult}
 use Rattle.dlk_subst.proofs.Results.{holds_tree}

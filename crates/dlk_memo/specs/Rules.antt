@@ -1,31 +1,32 @@
 -- When the rules of a substitution can be followed over a store, and the laws that they keep.
-use Rattle.std.proofs.Common.{◌≡◌, refl, sym, ap, subst, ◌∙◌, cond, Bool, true, false, List, length, arith}
-use Rattle.std.specs.Prelude.{◌≤◌, All, if◌then◌else◌, IsTrue}
+use Rattle.std.proofs.Common.{◌≡◌, refl, sym, ap, subst, ◌∙◌, List, length, arith}
+use Rattle.std.specs.Prelude.{◌≤◌, All, if◌then◌else◌}
 use Rattle.dlk_tree.specs.declared.op.Op.{Op}
-use Rattle.dlk_tree.specs.declared.op.Sort.TheVariants.{Formula}
-use Rattle.dlk_tree.specs.Trees.{Tree, node, Forest, no_kids, kid, sort, WellMade}
+use Rattle.dlk_tree.specs.Trees.{Tree, node, Forest, kid, sort, WellMade}
 use Rattle.dlk_tree.specs.Occurs.{is_hole}
 use Rattle.dlk_store.specs.declared.Id.{Id}
 use Rattle.dlk_store.specs.Stores.{IsId, tree, Keeps}
-use Rattle.dlk_store.proofs.Made.{GoesByRows}
+use Rattle.dlk_store.specs.Rows.{GoesByRows}
 use Rattle.dlk_calculus.specs.Plug.{Plug, filled, filled_all}
-use Rattle.dlk_calculus.specs.Pairs.{IsWellFormed}
 use Rattle.dlk_calculus.specs.Subst.{Subst}
-use Rattle.dlk_calculus.proofs.Sorts.{AreTerms, plug_sort, fill_sort, subst_sort}
 use Rattle.dlk_sequent.specs.declared.subst.Pair.{Pair}
 use Rattle.dlk_sequent.specs.Substitutions.{pairs_at, AreKnownPairs}
-use Rattle.dlk_sequent.proofs.KeptPairs.{pairs_at-kept}
+use Rattle.dlk_sequent.specs.Growth.{pairs_at-kept}
 use Rattle.dlk_subst.specs.Results.{args_at}
-use Rattle.dlk_subst.proofs.Growth.{known_kept, pairs_kept}
-use Rattle.dlk_subst.proofs.Arguments.{args_kept}
+use Rattle.dlk_subst.specs.Growth.{known_kept, pairs_kept}
+use Rattle.dlk_subst.specs.Growth.{args_kept}
+
+-- what is made of a well-made tree is of its sort
+abbrev pub KeepsSort : (Tree → Tree → Type 0) → Type 0
+KeepsSort Makes = (t u : Tree) → WellMade t → Makes t u → sort u ≡ sort t
 
 -- ---- arguments
 
--- at most eight terms of the store
+-- at most eight trees of the store that keep the sort of what they are plugged into, as terms do
 pub record AreReadyArgs (trees : List Tree) (ids : List Id) : Type 0 where
   pub few : length ids ≤ 8
   pub known : All (IsId trees) ids
-  pub terms : AreTerms (args_at trees ids)
+  pub keeps_sort : KeepsSort (Plug (args_at trees ids))
 
 pub args_same : {old new : List Tree} → Keeps old new → (ids : List Id) → AreReadyArgs old ids → args_at new ids ≡ args_at old ids
 args_same keeps ids ready = args_kept keeps ids ready.known
@@ -34,23 +35,10 @@ pub ready_args_kept : {old new : List Tree} → Keeps old new → (ids : List Id
 ready_args_kept keeps ids ready = record {
   few = ready.few;
   known = known_kept keeps ids ready.known;
-  terms = subst AreTerms (sym (args_same keeps ids ready)) ready.terms;
+  keeps_sort = subst (λ args. KeepsSort (Plug args)) (sym (args_same keeps ids ready)) ready.keeps_sort;
 }
 
-pub plug_sort_kept : (trees : List Tree) (ids : List Id) (t u : Tree) → AreReadyArgs trees ids → Plug (args_at trees ids) t u → sort u ≡ sort t
-plug_sort_kept trees ids t u ready p = plug_sort (args_at trees ids) t u ready.terms p
-
 -- ---- a formula
-
-pub record IsReadyFormula (trees : List Tree) (id : Id) : Type 0 where
-  pub known : IsId trees id
-  pub formula : sort (tree trees id) ≡ Formula
-
-pub formula_same : {old new : List Tree} → Keeps old new → (id : Id) → IsReadyFormula old id → tree new id ≡ tree old id
-formula_same keeps id ready = keeps.same id ready.known
-
-pub ready_formula_kept : {old new : List Tree} → Keeps old new → (id : Id) → IsReadyFormula old id → IsReadyFormula new id
-ready_formula_kept keeps id ready = record { known = omega (arith, ready.known, keeps.known); formula = ap sort (keeps.same id ready.known) ∙ ready.formula }
 
 -- the tree, the kids, and the operator over old kids, of which the new ones were made, with the formula in place of `_`
 abbrev pub Fills : Tree → Tree → Tree → Type 0
@@ -75,14 +63,26 @@ filling = record {
   down = λ f op ts u p. (filled_all f ts, refl, p);
 }
 
-pub fill_sort_kept : (trees : List Tree) (id : Id) (t u : Tree) → IsReadyFormula trees id → Fills (tree trees id) t u → sort u ≡ sort t
-fill_sort_kept trees id t u ready e = ap sort e ∙ fill_sort (tree trees id) t ready.formula
+-- a tree of the store that keeps the sort of what it fills, as a formula does
+pub record IsReadyFormula (trees : List Tree) (id : Id) : Type 0 where
+  pub known : IsId trees id
+  pub keeps_sort : KeepsSort (Fills (tree trees id))
+
+pub formula_same : {old new : List Tree} → Keeps old new → (id : Id) → IsReadyFormula old id → tree new id ≡ tree old id
+formula_same keeps id ready = keeps.same id ready.known
+
+pub ready_formula_kept : {old new : List Tree} → Keeps old new → (id : Id) → IsReadyFormula old id → IsReadyFormula new id
+ready_formula_kept keeps id ready = record {
+  known = omega (arith, ready.known, keeps.known);
+  keeps_sort = subst (λ f. KeepsSort (Fills f)) (sym (formula_same keeps id ready)) ready.keeps_sort;
+}
 
 -- ---- pairs
 
+-- pairs of the store that keep the sort, as well-formed ones do
 pub record AreReadyPairs (trees : List Tree) (pairs : List Pair) : Type 0 where
   pub known : AreKnownPairs trees pairs
-  pub well_formed : IsWellFormed (pairs_at trees pairs)
+  pub keeps_sort : KeepsSort (Subst (pairs_at trees pairs))
 
 pub pairs_same : {old new : List Tree} → Keeps old new → (pairs : List Pair) → AreReadyPairs old pairs → pairs_at new pairs ≡ pairs_at old pairs
 pairs_same keeps pairs ready = pairs_at-kept keeps pairs ready.known
@@ -90,9 +90,5 @@ pairs_same keeps pairs ready = pairs_at-kept keeps pairs ready.known
 pub ready_pairs_kept : {old new : List Tree} → Keeps old new → (pairs : List Pair) → AreReadyPairs old pairs → AreReadyPairs new pairs
 ready_pairs_kept keeps pairs ready = record {
   known = pairs_kept keeps pairs ready.known;
-  well_formed = subst IsWellFormed (sym (pairs_same keeps pairs ready)) ready.well_formed;
+  keeps_sort = subst (λ there. KeepsSort (Subst there)) (sym (pairs_same keeps pairs ready)) ready.keeps_sort;
 }
-
-pub subst_sort_kept : (trees : List Tree) (pairs : List Pair) (t u : Tree) → AreReadyPairs trees pairs → WellMade t → Subst (pairs_at trees pairs) t u
-    → sort u ≡ sort t
-subst_sort_kept trees pairs t u ready well p = subst_sort (pairs_at trees pairs) ready.well_formed t u well p

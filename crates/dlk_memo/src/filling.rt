@@ -1,7 +1,7 @@
 //! A formula in place of `_`.
 ghost use Rattle.dlk_tree.specs.Trees.{Tree};
 ghost use Rattle.dlk_store.specs.Stores.{tree};
-ghost use Rattle.dlk_memo.specs.Rules.{IsReadyFormula, Fills, FillsAll, FillsAt, filling, ready_formula_kept, formula_same, fill_sort_kept};
+ghost use Rattle.dlk_memo.specs.Rules.{IsReadyFormula, Fills, FillsAll, FillsAt, filling, ready_formula_kept, formula_same};
 
 use crate::rule::Rule;
 use dlk_sequent::ApplyFault;
@@ -37,7 +37,7 @@ impl Rule for Filling {
 
     ghost job_kept = { λ r old new keeps ready. formula_same keeps r.formula ready };
 
-    ghost sort_kept = { λ r trees t u ready well made. fill_sort_kept trees r.formula t u ready made };
+    ghost sort_kept = { λ r trees t u ready well made. ready.keeps_sort t u well made };
 
     fn at<S: Store, L: Ledger>(
         &self,

@@ -3,8 +3,8 @@ ghost use Rattle.std.specs.Prelude.{List};
 ghost use Rattle.dlk_tree.specs.Trees.{Tree};
 ghost use Rattle.dlk_calculus.specs.Plug.{Plug, PlugAll, PlugAt};
 ghost use Rattle.dlk_subst.specs.Results.{args_at};
-ghost use Rattle.dlk_subst.proofs.Plugged.{plugging};
-ghost use Rattle.dlk_memo.specs.Rules.{AreReadyArgs, ready_args_kept, args_same, plug_sort_kept};
+ghost use Rattle.dlk_subst.specs.Rows.{plugging};
+ghost use Rattle.dlk_memo.specs.Rules.{AreReadyArgs, ready_args_kept, args_same};
 
 use crate::rule::Rule;
 use dlk_sequent::ApplyFault;
@@ -41,7 +41,7 @@ impl Rule for Plugging<'_> {
 
     ghost job_kept = { λ r old new keeps ready. args_same keeps r.args.now ready };
 
-    ghost sort_kept = { λ r trees t u ready well made. plug_sort_kept trees r.args.now t u ready made };
+    ghost sort_kept = { λ r trees t u ready well made. ready.keeps_sort t u well made };
 
     fn at<S: Store, L: Ledger>(
         &self,

@@ -4,7 +4,7 @@ ghost use Rattle.dlk_tree.specs.Table.{Fits};
 ghost use Rattle.dlk_tree.specs.Trees.{Tree, Forest, sort, WellMade};
 ghost use Rattle.dlk_tree.specs.declared.op.Op.{Op as TheOp};
 ghost use Rattle.dlk_store.specs.Stores.{IsId, Keeps, kid_trees, sorts_at};
-ghost use Rattle.dlk_store.proofs.Made.{GoesByRows};
+ghost use Rattle.dlk_store.specs.Rows.{GoesByRows};
 ghost use Rattle.dlk_subst.specs.Results.{IsResult, HasNone};
 ghost use Rattle.dlk_sequent.specs.declared.fault.ApplyFault.TheVariants.{NotAdmissible};
 

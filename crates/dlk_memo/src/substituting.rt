@@ -10,9 +10,9 @@ ghost use Rattle.dlk_calculus.specs.Plug.{Plug, filled};
 ghost use Rattle.dlk_calculus.specs.Subst.{IsAdmissible, Subst, SubstAll};
 ghost use Rattle.dlk_sequent.specs.Substitutions.{pairs_at, AreKnownPairs};
 ghost use Rattle.dlk_subst.specs.Results.{IsResult, HasNone, args_at};
-ghost use Rattle.dlk_subst.proofs.Substituted.{SubstRow, substituting};
+ghost use Rattle.dlk_subst.specs.Rows.{SubstRow, substituting};
 ghost use Rattle.dlk_memo.specs.Looks.{subtrees, replacement_subtrees, distinct_count};
-ghost use Rattle.dlk_memo.specs.Rules.{AreReadyArgs, AreReadyPairs, ready_pairs_kept, pairs_same, subst_sort_kept};
+ghost use Rattle.dlk_memo.specs.Rules.{AreReadyArgs, AreReadyPairs, ready_pairs_kept, pairs_same};
 ghost use Rattle.dlk_sequent.specs.declared.fault.ApplyFault.TheVariants.{NotAdmissible};
 
 use crate::filling::Filling;
@@ -101,7 +101,7 @@ impl Rule for Substituting<'_> {
 
     ghost job_kept = { λ r old new keeps ready. pairs_same keeps r.pairs.now ready };
 
-    ghost sort_kept = { λ r trees t u ready well made. subst_sort_kept trees r.pairs.now t u ready well made };
+    ghost sort_kept = { λ r trees t u ready well made. ready.keeps_sort t u well made };
 
     fn at<S: Store, L: Ledger>(
         &self,

@@ -1,4 +1,4 @@
-//! Whether what tokens say is within the limits.
+//! Whether what was parsed is within the limits.
 ghost use Rattle.std.specs.Prelude.{◌≡◌, MatchResult, map};
 ghost use Rattle.dlk_calculus.specs.Limits.{most_nodes, greatest_depth};
 ghost use Rattle.dlk_parse.specs.Limits.{least_ill, past, KnowsWithin, KnowsBeyond, IsAmong};

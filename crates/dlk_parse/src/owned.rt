@@ -1,4 +1,4 @@
-//! Trees, sequents, pairs and extras of the tokens of an origin.
+//! Parses trees, sequents, pairs and extras from bytes or tokens.
 ghost use Rattle.std.specs.Prelude.{◌≡◌, IfOk, IfErr, List, length, map};
 ghost use Rattle.dlk_grammar.specs.declared.token.Token.{Token as TheToken};
 ghost use Rattle.dlk_calculus.specs.Sequents.{IsSequent};

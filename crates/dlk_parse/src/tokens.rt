@@ -1,4 +1,4 @@
-//! What a source that was taken to its end says against its tokens.
+//! Faults of tokens: over-long literals, brackets nested too deep.
 ghost use Rattle.std.specs.Prelude.{◌≡◌, List, MatchResult};
 ghost use Rattle.dlk_grammar.specs.declared.token.Token.{Token as TheToken};
 ghost use Rattle.dlk_lex.specs.Noted.{AreNoted};

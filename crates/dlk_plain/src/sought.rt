@@ -1,4 +1,4 @@
-//! What is asked of the trees of a store.
+//! The questions that a walk answers.
 ghost use Rattle.std.specs.Prelude.{◌≡◌};
 ghost use Rattle.dlk_plain.specs.Sets.{asked};
 

@@ -96,7 +96,7 @@ impl Store for PlainStore {
     ghost use Rattle.dlk_plain.specs.Plain.{trees_of};
     ghost use Rattle.dlk_plain.specs.Growth.{all_made, plain_one_id};
     ghost use Rattle.dlk_store.specs.Stores.{Keeps};
-    ghost use Rattle.dlk_store.proofs.Kids.{Keeps-refl, Keeps-trans};
+    ghost use Rattle.dlk_store.specs.Kids.{Keeps-refl, Keeps-trans};
     ghost use Rattle.std.specs.Prelude.{false};
 
     ghost trees = { λ s. trees_of s.nodes.items };

@@ -1,4 +1,4 @@
-//! The laws of canonical text: it is read back.
+//! The laws of canonical text: parsing it gives the tree back.
 #![tactic(auto)]
 
 pub mod laws;

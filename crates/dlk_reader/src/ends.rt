@@ -1,4 +1,4 @@
-//! The end of a text.
+//! What the end of a text makes of what is open.
 ghost use Rattle.std.specs.Prelude.{◌≡◌, List, Some};
 ghost use Rattle.dlk_grammar.specs.Phrases.{Phrase};
 ghost use Rattle.dlk_machine.specs.Machine.{Part as MachinePart, Piece, State, as_sort, whole, ended};

@@ -1,4 +1,4 @@
-//! Numbers in the room of other lexemes.
+//! A 128-bit number as two halves, so that lexemes stay small.
 ghost use Rattle.std.specs.Prelude.{◌≡◌};
 ghost use Rattle.dlk_reader.specs.Halves.{number_of};
 

@@ -1,4 +1,4 @@
-//! Values that are kept apart.
+//! Rare values in boxes, so that what is handed on is small.
 ghost use Rattle.std.specs.Prelude.{◌≡◌, IfOk};
 
 use std::alloc::{AllocError, Global};

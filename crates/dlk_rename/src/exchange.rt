@@ -1,4 +1,4 @@
-//! Two names exchanged.
+//! Exchanging two names in a tree.
 ghost use Rattle.std.specs.Prelude.{◌≡◌, IfOk, map};
 ghost use Rattle.dlk_store.specs.Stores.{IsId, tree, StandsFor};
 ghost use Rattle.dlk_calculus.specs.Rename.{swap, swap_name, swap_var, swap_sym, swap_item, swap_op};

@@ -1,4 +1,4 @@
-// Why nothing is answered.
+// Why there is no answer: memory ran out.
 ghost use Rattle.std.specs.Prelude.{◌≡◌};
 ghost use Rattle.dlk_replies.specs.declared.fault.NoReply.TheVariants.{Memory};
 

@@ -1,4 +1,4 @@
-// The forms of words: a verb, a word for each input, and then at most one word of another kind.
+// The usages of the command line: a verb, a word for each input, and then at most one word of another kind.
 ghost use Rattle.std.specs.Prelude.{◌≡◌, ◌<◌, ◌≤◌, ◌-◌, ◌^◌, map, string_bytes, IsTrue};
 ghost use Rattle.dlk_tree.specs.Names.{is_between};
 ghost use Rattle.dlk_grammar.specs.Tokens.{is_digit, value};

@@ -4,3 +4,4 @@ mod Quantified
 pub mod WordLaws
 mod StepsKept
 mod SideLaws
+mod Renumbered

@@ -1,5 +1,5 @@
 -- What rules and steps over ids stand for.
-use Rattle.std.specs.Prelude.{◌≡◌, ℕ, List, map, Option, Some, None, All}
+use Rattle.std.specs.Prelude.{◌≡◌, ℕ, List, [], ◌∷◌, map, Option, Some, None, All}
 use Rattle.std.specs.Global.{Vec}
 use Rattle.dlk_tree.specs.declared.op.Sort.TheVariants.{Formula}
 use Rattle.dlk_tree.specs.Trees.{Tree, sort}
@@ -149,6 +149,12 @@ HasKnownIds trees (step.Apply fact goal r) = RuleIsKnown trees r
 HasKnownIds trees (step.Merge fact goal by) = Unit {0}
 HasKnownIds trees (step.Subst fact pairs) = AreKnownPairs trees pairs
 HasKnownIds trees (step.Rename fact x y) = Unit {0}
+
+-- the facts that are there, of those that a step may name
+abbrev pub facts_in : List (Option ℕ) → List ℕ
+facts_in [] = []
+facts_in (None ∷ rest) = facts_in rest
+facts_in (Some fact ∷ rest) = fact ∷ facts_in rest
 
 -- the ids of the sequent are those of the store, and stand for trees of formula sort
 pub record IsOfFormulas (trees : List Tree) (s : Sequent) : Type 0 where

@@ -1,3 +1,10 @@
+//! Steps over ids.
+ghost use Rattle.std.specs.Prelude.{◌≡◌, ℕ, List, []};
+ghost use Rattle.std.specs.List.{Contains};
+ghost use Rattle.dlk_tree.specs.Trees.{Tree};
+ghost use Rattle.dlk_rules.specs.Facts.{facts_of, renumbered};
+ghost use Rattle.dlk_rules.specs.Steps.{step_at, HasKnownIds, facts_in};
+
 use crate::rule::Rule;
 use dlk_sequent::{Listed, Pair, Sequent};
 use dlk_tree::Name;
@@ -49,5 +56,39 @@ impl Drop for Step {
                 y: _y,
             } => {}
         }
+    }
+}
+
+impl Step {
+    /// The facts that it names, in order: none, one, or the two of a merge.
+    pub fn facts(&self) -> [Option<u32>; 2]
+        ensures { (trees : List Tree) → facts_in result ≡ facts_of (step_at trees self.now) }
+    {
+        match self {
+            Step::Start(_) | Step::Axiom(_) | Step::AxRule(_) | Step::Leaf(_) => [None, None],
+            Step::Merge { fact, goal: _, by } => [Some(*fact), Some(*by)],
+            Step::Apply { fact, .. } | Step::Subst { fact, .. } | Step::Rename { fact, .. } => {
+                [Some(*fact), None]
+            }
+        }
+    }
+
+    /// The step with another number for each fact that it names.
+    pub fn renumbered<F: Fn(u32) -> u32>(mut self, to: F) -> Step
+        requires { (fact : ℕ) → Contains (facts_of (step_at [] self)) fact → F.pre to fact }
+        ensures same { (numbers : ℕ → ℕ) → ((fact new : ℕ) → Contains (facts_of (step_at [] self)) fact → F.post to fact new → new ≡ numbers fact) → (trees : List Tree) → step_at trees result ≡ renumbered numbers (step_at trees self) }
+        ensures known { (trees : List Tree) → HasKnownIds trees self → HasKnownIds trees result }
+    {
+        match &mut self {
+            Step::Start(_) | Step::Axiom(_) | Step::AxRule(_) | Step::Leaf(_) => {}
+            Step::Apply { fact, .. } => *fact = to(*fact),
+            Step::Merge { fact, goal: _, by } => {
+                *fact = to(*fact);
+                *by = to(*by);
+            }
+            Step::Subst { fact, .. } => *fact = to(*fact),
+            Step::Rename { fact, .. } => *fact = to(*fact),
+        }
+        self
     }
 }

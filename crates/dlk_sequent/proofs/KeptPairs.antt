@@ -1,25 +1,19 @@
 -- A substitution stays one while its store grows.
-use Rattle.std.proofs.Common.{◌≡◌, List, sym, subst}
+use Rattle.std.proofs.Common.{List, sym, subst}
 use Rattle.std.specs.Prelude.{◌↔◌, IsTrue}
 use Rattle.std.proofs.lemmas.List.Elements.{All-weaker}
 use Rattle.dlk_tree.specs.Trees.{Tree}
 use Rattle.dlk_store.specs.Stores.{IsId, Keeps}
 use Rattle.dlk_calculus.specs.Pairs.{Pair as TreePair, IsFreeIn, IsWellFormed}
 use Rattle.dlk_sequent.specs.declared.subst.Pair.{Pair}
-use Rattle.dlk_sequent.specs.Substitutions.{Checked, pair_at, pairs_at, AreKnownPairs, IsMadeOver}
-use Rattle.dlk_sequent.proofs.Kept.{map-agree, IsId-kept}
+use Rattle.dlk_sequent.specs.Substitutions.{Checked, AreKnownPairs, IsMadeOver}
+use Rattle.dlk_sequent.specs.Growth.{pairs_at-kept}
+use Rattle.dlk_sequent.proofs.Kept.{IsId-kept}
 
 module _ {old new : List Tree} (keeps : Keeps old new) where
-  pair_at-kept : (p : Pair) → IsId old p.by → pair_at new p ≡ pair_at old p
-  pair_at-kept p h = let same = keeps.same p.by h in λ i. record { sym = p.sym; by = same i }
-
   pub AreKnownPairs-kept : (pairs : List Pair) → AreKnownPairs old pairs → AreKnownPairs new pairs
   AreKnownPairs-kept pairs h =
       All-weaker (λ (p : Pair). IsId old p.by) (λ p. IsId new p.by) (λ p. IsId-kept keeps p.by) pairs h
-
-  -- the pairs stand for the same
-  pub pairs_at-kept : (pairs : List Pair) → AreKnownPairs old pairs → pairs_at new pairs ≡ pairs_at old pairs
-  pairs_at-kept pairs h = map-agree (pair_at new) (pair_at old) pairs (All-weaker (λ (p : Pair). IsId old p.by) (λ p. pair_at new p ≡ pair_at old p) pair_at-kept pairs h)
 
 -- and are a substitution over the store that has grown
 pub IsMadeOver-kept : {old new : List Tree} {sigma : Checked} → Keeps old new → IsMadeOver old sigma → IsMadeOver new sigma

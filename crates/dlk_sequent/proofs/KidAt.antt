@@ -7,7 +7,7 @@ use Rattle.dlk_tree.specs.declared.op.Op.{Op}
 use Rattle.dlk_tree.specs.Trees.{Tree, node, kid, sort, sorts}
 use Rattle.dlk_store.specs.declared.Id.{Id}
 use Rattle.dlk_store.specs.Stores.{IsId, tree, kid_trees, sorts_at}
-use Rattle.dlk_store.proofs.Kids.{sorts-kid_trees}
+use Rattle.dlk_store.specs.Kids.{sorts-kid_trees}
 use Rattle.dlk_calculus.specs.Paths.{subtree, subtree_in, put_at, put_in}
 use Rattle.dlk_calculus.proofs.PathLaws.{subtree_nil, subtree_later, put_nil, put_later, put_sorts}
 use Rattle.dlk_sequent.specs.Spines.{LeadsTo, HasSort}

@@ -6,5 +6,6 @@ mod SameSides
 mod Last
 mod Chosen
 mod Pairs
+mod SymbolKeys
 mod KidAt
 pub mod Turns

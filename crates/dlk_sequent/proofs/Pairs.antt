@@ -1,8 +1,11 @@
--- The pairs of a list one by one: the first bad one, and whether a replacement has a free variable.
-use Rattle.std.proofs.Common.{◌≡◌, ◌∙◌, ℕ, suc, zero, ◌+◌, ◌-◌, ◌<◌, ◌≤◌, List, [], ◌∷◌, length, take, drop, get_or, Option, Some, None, sym, ap, subst, arith, inl, inr, ⊎_elim}
+-- The pairs of a list one by one: their symbols, the first bad one, and whether a replacement has a free variable.
+use Rattle.std.proofs.Common.{◌≡◌, ◌∙◌, ℕ, suc, zero, ◌+◌, ◌-◌, ◌<◌, ◌≤◌, List, [], ◌∷◌, length, take, drop, get_or, Option, Some, None, Bool, true, false, ◌||◌, refl, sym, ap, subst, arith, inl, inr, ⊎_elim}
 use Rattle.std.specs.Prelude.{IsTrue}
+use Rattle.std.specs.List.{list_any}
 use Rattle.std.proofs.lemmas.List.{drop_more, drop_all, take-map, length-map}
 use Rattle.std.proofs.lemmas.Option.{none-some}
+use Rattle.dlk_tree.specs.declared.op.Sym.{Sym}
+use Rattle.dlk_tree.specs.Tests.{sym_eq}
 use Rattle.dlk_tree.specs.Table.{kind_row}
 use Rattle.dlk_tree.specs.Trees.{Tree}
 use Rattle.dlk_tree.specs.Statics.{free}
@@ -10,15 +13,54 @@ use Rattle.dlk_tree.specs.Listed.{IsInhabited}
 use Rattle.dlk_store.specs.Stores.{tree}
 use Rattle.dlk_calculus.specs.declared.why.Why.{Why}
 use Rattle.dlk_calculus.specs.Places.{At}
-use Rattle.dlk_calculus.specs.Pairs.{IsFreeIn, why, IsIll, FirstIll, IsWellFormed}
-use Rattle.dlk_calculus.proofs.PlaceLaws.{At-map, At_read, at_one}
+use Rattle.dlk_calculus.specs.Pairs.{Pair as TreePair, IsFreeIn, why, IsIll, FirstIll, IsWellFormed}
+use Rattle.dlk_calculus.proofs.PlaceLaws.{At-map, At_read, At_place, at_one}
 use Rattle.dlk_calculus.proofs.WellFormed.{AreGoodBelow, good_more, all_good}
 use Rattle.dlk_sequent.specs.declared.subst.Pair.{Pair}
 use Rattle.dlk_sequent.specs.Substitutions.{pair_at, pairs_at}
+use Rattle.dlk_sequent.specs.SymbolSets.{AreSymbolsOf}
+
+-- ---- their symbols
+
+abbrev any_of : Sym → List TreePair → Bool
+any_of s pairs = list_any (λ (p : TreePair). sym_eq s p.sym) pairs
+
+or_last : (a b c : Bool) → a || (b || c) ≡ (a || b) || c
+or_last true b c = refl
+or_last false b c = refl
+
+or_false : (a : Bool) → a || false ≡ a
+or_false true = refl
+or_false false = refl
+
+-- the symbol stands in the first i pairs and the next one
+any_more : (trees : List Tree) (s : Sym) (pairs : List Pair) (i : ℕ) (p : Pair) → i < length pairs → p ≡ get_or pairs i p
+    → any_of s (pairs_at trees (take (suc i) pairs)) ≡ any_of s (pairs_at trees (take i pairs)) || sym_eq s p.sym
+any_more trees s [] i p h e = absurd (omega arith)
+any_more trees s (q ∷ pairs) zero p h e = or_false (sym_eq s q.sym) ∙ ap (λ (r : Pair). sym_eq s r.sym) (sym e)
+any_more trees s (q ∷ pairs) (suc i) p h e =
+    ap (λ b. sym_eq s q.sym || b) (any_more trees s pairs i p (omega arith) e)
+    ∙ or_last (sym_eq s q.sym) (any_of s (pairs_at trees (take i pairs))) (sym_eq s p.sym)
+
+pub no_symbols : (trees : List Tree) (pairs : List Pair) (symbols : List Sym) → symbols ≡ [] → AreSymbolsOf (pairs_at trees (take 0 pairs)) symbols
+no_symbols trees pairs symbols none s = ap (list_any (sym_eq s)) none
+
+-- the symbols of the first i pairs with that of the next one
+pub symbols_more : (trees : List Tree) (pairs : List Pair) (i : ℕ) (p : Pair) (old new : List Sym) → i < length pairs → p ≡ get_or pairs i p
+    → AreSymbolsOf (pairs_at trees (take i pairs)) old → ((s : Sym) → list_any (sym_eq s) new ≡ list_any (sym_eq s) old || sym_eq s p.sym)
+    → AreSymbolsOf (pairs_at trees (take (i + 1) pairs)) new
+symbols_more trees pairs i p old new h e are more s =
+    let next : suc i ≡ i + 1 = omega arith in
+    more s ∙ ap (λ b. b || sym_eq s p.sym) (are s) ∙ sym (any_more trees s pairs i p h e) ∙ ap (λ n. any_of s (pairs_at trees (take n pairs))) next
+
+-- ---- the first bad one
 
 -- none of the first i pairs is bad
 abbrev pub AreGoodBefore : List Tree → List Pair → ℕ → Type 0
 AreGoodBefore trees pairs i = AreGoodBelow (pairs_at trees pairs) (i + 1)
+
+pub none_before : (trees : List Tree) (pairs : List Pair) → AreGoodBefore trees pairs 0
+none_before trees pairs m w lt ill = omega (arith, lt, (At_place (pairs_at trees pairs) m ill.0 ill.1).0)
 
 -- past the last all are good
 pub all_well : (trees : List Tree) (pairs : List Pair) (i : ℕ) → length pairs ≤ i → AreGoodBefore trees pairs i → IsWellFormed (pairs_at trees pairs)
@@ -26,8 +68,8 @@ all_well trees pairs i past good = all_good (pairs_at trees pairs) (i + 1) (omeg
 
 -- the next pair p, about which the answer is the first reason against it
 module _ (trees : List Tree) (pairs : List Pair) (i : ℕ) (within : i < length pairs) (good : AreGoodBefore trees pairs i)
-    (seen : List Pair) (all_seen : seen ≡ pairs) (p : Pair) (is_next : p ≡ get_or pairs i p)
-    (answer : Option Why) (is_reason : answer ≡ why (pairs_at trees (take i seen)) (pair_at trees p)) where
+    (p : Pair) (is_next : p ≡ get_or pairs i p) (answer : Option Why)
+    (is_reason : answer ≡ why (pairs_at trees (take i pairs)) (pair_at trees p)) where
   back : i + 1 - 1 ≡ i
   back = omega arith
 
@@ -37,7 +79,7 @@ module _ (trees : List Tree) (pairs : List Pair) (i : ℕ) (within : i < length 
 
   reason : why (take (i + 1 - 1) (pairs_at trees pairs)) (pair_at trees p) ≡ answer
   reason =
-      let before = ap (λ k. take k (pairs_at trees pairs)) back ∙ take-map (pair_at trees) i pairs ∙ ap (λ ps. pairs_at trees (take i ps)) (sym all_seen) in
+      let before = ap (λ k. take k (pairs_at trees pairs)) back ∙ take-map (pair_at trees) i pairs in
       ap (λ earlier. why earlier (pair_at trees p)) before ∙ sym is_reason
 
   pub next_is_bad : (w : Why) → answer ≡ Some w → FirstIll (pairs_at trees pairs) (i + 1) w

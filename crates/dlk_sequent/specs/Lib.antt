@@ -2,3 +2,5 @@ pub mod Sequents
 pub mod Substitutions
 pub mod Spines
 pub mod Extras
+pub mod Growth
+pub mod SymbolSets

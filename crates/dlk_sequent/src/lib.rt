@@ -13,6 +13,7 @@ mod sequent;
 mod shared;
 mod spine;
 mod subst;
+mod symbols;
 mod why;
 
 pub use arithmetic::is_arith;

@@ -9,6 +9,7 @@ ghost use Rattle.dlk_calculus.specs.Pairs.{IsFreeIn};
 ghost use Rattle.dlk_sequent.specs.Substitutions.{pairs_at, AreKnownPairs, IsMadeOver, IsIllFault};
 
 use crate::fault::SubstFault;
+use crate::symbols::Symbols;
 use crate::why::why;
 use dlk_store::{Id, Steps, Store};
 use dlk_tree::{Sym, kind_row};
@@ -63,14 +64,14 @@ fn is_free_in<S: Store>(store: &S, pairs: &[Pair]) -> bool
 
 impl Subst {
     /// The substitution of these pairs, whose replacements are ids of the store, for use over this store or what it grows to.
-    /// It takes at most two steps a pair. A name that it copies keeps its allocator, so `_alloc` isn't asked.
+    /// It takes at most two steps a pair.
     ///
     /// # Errors
     ///
     /// `Ill` where some pair is bad: it names the first one, counted from 1, and the first reason against it in the order of
-    /// `Why`. `Memory` where none was left to copy the name of a taboo. The pairs are dropped then.
+    /// `Why`. `Memory` where none was left for the symbols of the pairs or the name of a taboo. The pairs are dropped then.
     pub fn new<S: Store, L: Ledger>(
-        _alloc: Global,
+        alloc: Global,
         store: &S,
         pairs: Vec<Pair>,
         steps: &mut Steps<L>,
@@ -81,10 +82,13 @@ impl Subst {
         ensures ill { IfErr result (IsIllFault (S.trees store.now) pairs.items) }
         ensures cost { steps.new ≤ steps.old + 2 * length pairs.items }
     {
+        let mut earlier = Symbols::new(alloc);
         for i in 0..pairs.len() {
-            if let Some(why) = why(store, &pairs[..i], &pairs[i], steps)? {
+            let pair = &pairs[i];
+            if let Some(why) = why(store, &earlier, pair, steps)? {
                 return Err(SubstFault::Ill { pair: i + 1, why });
             }
+            earlier.insert(&pair.sym)?;
         }
         let free = is_free_in(store, &pairs);
         Ok(Subst { pairs, free })

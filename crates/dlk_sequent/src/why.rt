@@ -1,19 +1,19 @@
 //! What speaks against a pair of a substitution: a function for each reason, and one for the first that applies.
-ghost use Rattle.std.specs.Prelude.{◌≡◌, ◌+◌, ◌≤◌, ◌&&◌, not, All, IfOk};
-ghost use Rattle.std.specs.List.{list_any};
-ghost use Rattle.dlk_tree.specs.Tests.{sym_eq};
+ghost use Rattle.std.specs.Prelude.{◌≡◌, ◌+◌, ◌≤◌, ◌&&◌, not, All, List, IfOk};
 ghost use Rattle.dlk_tree.specs.Table.{kind_row};
 ghost use Rattle.dlk_tree.specs.Trees.{node, root};
 ghost use Rattle.dlk_tree.specs.Occurs.{has, has_hole};
 ghost use Rattle.dlk_store.specs.Stores.{IsId, tree, kid_trees};
 ghost use Rattle.dlk_calculus.specs.Kids.{last};
-ghost use Rattle.dlk_calculus.specs.Pairs.{is_true, is_system_without_domain, is_of_kind, is_dot_from, touched, has_taboo, why};
-ghost use Rattle.dlk_sequent.specs.Substitutions.{pair_at, pairs_at};
+ghost use Rattle.dlk_calculus.specs.Pairs.{Pair as TreePair, is_true, is_system_without_domain, is_of_kind, is_dot_from, touched, has_taboo, why};
+ghost use Rattle.dlk_sequent.specs.Substitutions.{pair_at};
+ghost use Rattle.dlk_sequent.specs.SymbolSets.{AreSymbolsOf};
 
 use crate::subst::Pair;
+use crate::symbols::Symbols;
 use dlk_calculus::Why;
 use dlk_store::{Id, Steps, Store};
-use dlk_tree::{Kind, Op, Sym, Var, kind_row, same_sym, sort_of};
+use dlk_tree::{Kind, Op, Sym, Var, kind_row, sort_of};
 use std::alloc::AllocError;
 use std::sync::ledger::Ledger;
 
@@ -54,18 +54,6 @@ fn is_of_kind<S: Store, L: Ledger>(store: &S, kind: Kind, id: Id, steps: &mut St
         return false;
     }
     sort_of(node.op) == kind_row(kind).sort
-}
-
-/// Whether one of the pairs has the symbol.
-fn is_replaced(pairs: &[Pair], s: &Sym) -> bool
-    ensures { result ≡ list_any (λ (p : Pair). sym_eq s.now p.sym) pairs.now }
-{
-    for pair in pairs {
-        if same_sym(s, &pair.sym) {
-            return true;
-        }
-    }
-    false
 }
 
 /// Whether an argument dot stands in the tree that isn't below the arity. No tree has a dot past 7.
@@ -116,22 +104,23 @@ fn has_taboo<S: Store>(store: &S, s: &Sym, id: Id) -> Result<bool, AllocError>
     Ok(touches(store, s.kind, id, &prime))
 }
 
-/// The first reason against a pair that stands behind earlier ones, in the order of `Why`. It takes at most two steps.
-pub fn why<S: Store, L: Ledger>(
+/// The first reason against a pair that stands behind earlier ones, whose symbols these are, in the order of `Why`. It takes at
+/// most two steps.
+pub(crate) fn why<S: Store, L: Ledger>(
     store: &S,
-    earlier: &[Pair],
+    earlier: &Symbols,
     pair: &Pair,
     steps: &mut Steps<L>,
 ) -> Result<Option<Why>, AllocError>
     requires { IsId (S.trees store.now) pair.now.by }
-    ensures why { IfOk result (λ w. w ≡ why (pairs_at (S.trees store.now) earlier.now) (pair_at (S.trees store.now) pair.now)) }
+    ensures why { (pairs : List TreePair) → AreSymbolsOf pairs earlier.now → IfOk result (λ w. w ≡ why pairs (pair_at (S.trees store.now) pair.now)) }
     ensures cost { steps.new ≤ steps.old + 2 }
 {
     let kind = pair.sym.kind;
     if !is_of_kind(store, kind, pair.by, steps) {
         return Ok(Some(Why::Sort));
     }
-    if is_replaced(earlier, &pair.sym) {
+    if earlier.has(&pair.sym) {
         return Ok(Some(Why::Twice));
     }
     if has_dot_from(store, pair.sym.arity, pair.by) {

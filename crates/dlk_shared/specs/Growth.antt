@@ -10,7 +10,7 @@ use Rattle.dlk_tree.specs.Trees.{Tree, node, Forest, no_kids, kid, WellMade, All
 use Rattle.dlk_tree.specs.Table.{Fits}
 use Rattle.dlk_store.specs.declared.Id.{Id}
 use Rattle.dlk_store.specs.Stores.{IsId, tree, kid_trees, sorts_at, Keeps, StandsFor, HasOneId}
-use Rattle.dlk_store.proofs.Kids.{sorts-kid_trees, Keeps-refl, Keeps-trans, kid_trees-kept, sorts_at-kept}
+use Rattle.dlk_store.specs.Kids.{sorts-kid_trees, Keeps-refl, Keeps-trans, kid_trees-kept, sorts_at-kept}
 use Rattle.dlk_shared.specs.Rows.{Row, tree_of, trees_after, trees_of_rows, AreSoundRows}
 
 -- one more tree keeps the trees

@@ -5,8 +5,8 @@ use Rattle.std.specs.Map.{keys_of}
 use Rattle.std.proofs.lemmas.List.{length-map, get_or-map}
 use Rattle.std.proofs.lemmas.Bool.{cases_order}
 use Rattle.std.proofs.lemmas.Map.Keys.{apart_from_distinct}
-use Rattle.dlk_tree.proofs.Same.{op_decides}
 use Rattle.dlk_tree.specs.contracts.op.OpPartialEq.TheImpl as OpEq
+use Rattle.dlk_tree.specs.contracts.op.OpEq.TheImpl.Laws.{laws-law as op_laws}
 use Rattle.dlk_tree.specs.declared.op.Op.{Op}
 use Rattle.dlk_tree.specs.declared.op.Op.TheVariants.{True}
 use Rattle.dlk_store.specs.Stores.{HasOneId}
@@ -48,7 +48,7 @@ module _ (ops : List Op) (nodes : List (Key × Facts)) (ops_apart : IsDistinct O
       let l = (get_or nodes j d).0 in
       let same : row_of ops k ≡ row_of ops l =
       sym (get_or-map (λ (n : Key × Facts). row_of ops n.0) nodes i d r inside) ∙ e ∙ get_or-map (λ (n : Key × Facts). row_of ops n.0) nodes j d r beside in
-      let op : k.op ≡ l.op = place_one OpEq.ghosts.eq (λ o. (op_decides o o).1 (λ t. o)) ops ops_apart k.op l.op True (sound.known i d inside)
+      let op : k.op ≡ l.op = place_one OpEq.ghosts.eq op_laws.refl ops ops_apart k.op l.op True (sound.known i d inside)
       (sound.known j d beside)
       (ap (λ (s : Row). s.op) same) in
       let key : k ≡ l = λ t. record { op = op t; kids = (same t).kids } in

@@ -260,7 +260,7 @@ impl Store for SharedStore {
     ghost use Rattle.dlk_shared.specs.Sound.{nodes_made};
     ghost use Rattle.dlk_shared.specs.Unique.{nodes_one_id};
     ghost use Rattle.dlk_store.specs.Stores.{Keeps};
-    ghost use Rattle.dlk_store.proofs.Kids.{Keeps-refl, Keeps-trans};
+    ghost use Rattle.dlk_store.specs.Kids.{Keeps-refl, Keeps-trans};
     ghost use Rattle.std.specs.Prelude.{true};
 
     ghost trees = { λ s. trees_of s.ops.keys s.nodes.entries };

@@ -188,7 +188,7 @@ first_power i (s ∷ ss) = if is_power s then Some i else first_power (i + 1) ss
 
 -- ---- what is declared
 
--- the variables and the functions that stand in a tree, as often as they do
+-- the variable that an operator is, and the name of the function that it is, if it is one
 abbrev pub own_variables : Op → List Var
 own_variables (op.Variable v) = v ∷ []
 own_variables _ = []

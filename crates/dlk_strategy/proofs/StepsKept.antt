@@ -4,7 +4,8 @@ use Rattle.dlk_tree.specs.Trees.{Tree}
 use Rattle.dlk_store.specs.Stores.{Keeps}
 use Rattle.dlk_calculus.specs.Steps.{Start, Leaf, Apply, Substitute}
 use Rattle.dlk_sequent.proofs.Kept.{IsId-kept, sequent-kept, IsKnown-kept}
-use Rattle.dlk_sequent.proofs.KeptPairs.{pairs_at-kept, AreKnownPairs-kept}
+use Rattle.dlk_sequent.specs.Growth.{pairs_at-kept}
+use Rattle.dlk_sequent.proofs.KeptPairs.{AreKnownPairs-kept}
 use Rattle.dlk_rules.specs.declared.step.Step.{Step}
 use Rattle.dlk_rules.specs.declared.step.Step.TheVariants as step
 use Rattle.dlk_rules.specs.Steps.{Form, OfPlace, OfTwoPlaces, OfPlaceAndFormula, OfFormula, OfPlaceAndName, form, made_at, FormIsKnown, step_at, HasKnownIds}

@@ -45,7 +45,7 @@ pub data Outcome : Type 0 where
 abbrev pub Fate : Type 1
 Fate = Progress → Outcome → Type 0
 
--- the same for each goal of the main fact, by its number
+-- what becomes of each goal of the main fact, by its number
 abbrev pub Run : Type 1
 Run = ℕ → Fate
 
@@ -57,15 +57,15 @@ pub data Follow (fate : Fate) (then_on : ℕ → Fate) (else_on : ℕ → FailWh
       Follow fate then_on else_on now outcome
   spent : {at : ℕ} → fate now (Budget at) → Follow fate then_on else_on now (Budget at)
 
--- it ends here, with so many goals in the goal's place
+-- the run ends here, with so many goals in the goal's place
 abbrev pub Ends : ℕ → Fate
 Ends left now outcome = outcome ≡ Done now left
 
--- it fails here
+-- the run fails at this byte
 abbrev pub FailsAt : ℕ → FailWhy → Fate
 FailsAt at why now outcome = outcome ≡ Fails at why now.used
 
--- one and then, where it is done, another
+-- one run, and then, where it is done, another
 abbrev pub Then : Fate → (ℕ → Fate) → Fate
 Then fate next = Follow fate next FailsAt
 

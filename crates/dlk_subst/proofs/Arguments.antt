@@ -3,12 +3,11 @@ use Rattle.std.proofs.Common.{◌≡◌, refl, sym, ap, subst, ◌∙◌, ℕ, z
 use Rattle.std.specs.Prelude.{All, IsTrue}
 use Rattle.std.proofs.lemmas.Option.{same_Some, slice_get_within}
 use Rattle.dlk_tree.specs.declared.op.Var.{Var}
-use Rattle.dlk_tree.specs.Trees.{Tree, Forest, trees_in}
+use Rattle.dlk_tree.specs.Trees.{Tree, Forest}
 use Rattle.dlk_tree.specs.Statics.{free}
 use Rattle.dlk_tree.specs.Occurs.{any_has, is_dot}
 use Rattle.dlk_store.specs.declared.Id.{Id}
-use Rattle.dlk_store.specs.Stores.{IsId, tree, StandsFor, Keeps}
-use Rattle.dlk_store.proofs.Kids.{kid_trees-kept}
+use Rattle.dlk_store.specs.Stores.{IsId, tree, StandsFor}
 use Rattle.dlk_calculus.specs.Captures.{AreApart}
 use Rattle.dlk_calculus.specs.Plug.{IsClear}
 use Rattle.dlk_subst.specs.Results.{IsResult, HasNone, args_at}
@@ -16,9 +15,6 @@ use Rattle.dlk_subst.specs.Results.{IsResult, HasNone, args_at}
 pub args_length : (trees : List Tree) (ids : List Id) → length (args_at trees ids) ≡ length ids
 args_length trees [] = refl
 args_length trees (id ∷ ids) = ap suc (args_length trees ids)
-
-pub args_kept : {old new : List Tree} → Keeps old new → (ids : List Id) → All (IsId old) ids → args_at new ids ≡ args_at old ids
-args_kept kept ids all = ap trees_in (kid_trees-kept kept ids all)
 
 -- the argument of a number
 pub arg_at : (trees : List Tree) (ids : List Id) (n : ℕ) (d : Id) → n < length ids → slice_get (args_at trees ids) n ≡ Some (tree trees (get_or ids n d))

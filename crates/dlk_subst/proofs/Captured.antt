@@ -8,12 +8,12 @@ use Rattle.dlk_tree.specs.Trees.{Tree, node}
 use Rattle.dlk_tree.specs.Statics.{bound}
 use Rattle.dlk_store.specs.declared.Id.{Id}
 use Rattle.dlk_store.specs.Stores.{IsId, tree, StandsFor, kid_trees, sorts_at, Keeps}
-use Rattle.dlk_store.proofs.Kids.{kid_trees-kept, sorts_at-kept}
+use Rattle.dlk_store.specs.Kids.{kid_trees-kept, sorts_at-kept}
 use Rattle.dlk_calculus.specs.Kids.{first, later}
 use Rattle.dlk_calculus.specs.Captures.{captures}
 use Rattle.dlk_subst.specs.declared.scope.Scope.{Scope}
 use Rattle.dlk_subst.specs.Scopes.{scope_set, IsKnownScope, first_scope, scope_of, later_ids, reach_of}
-use Rattle.dlk_subst.proofs.Growth.{known_kept}
+use Rattle.dlk_subst.specs.Growth.{known_kept}
 
 first_set : (trees : List Tree) (new : List Id) → scope_set trees (first_scope new) ≡ bound (first (kid_trees trees new))
 first_set trees [] = refl

@@ -7,7 +7,8 @@ use Rattle.std.specs.Set.{unique_keys}
 use Rattle.std.proofs.lemmas.Map.Made.{length-le_from_is_member, is_member-Decides}
 use Rattle.std.proofs.lemmas.Map.Keys.{IsDistinct-from_apart}
 use Rattle.std.proofs.lemmas.List.{length-map, get_or-map}
-use Rattle.dlk_tree.proofs.TreeSame.{tree_eq, tree_decides}
+use Rattle.dlk_tree.specs.TreeTests.{tree_eq}
+use Rattle.dlk_tree.proofs.TreeSame.{tree_decides}
 use Rattle.dlk_tree.specs.Trees.{Tree}
 use Rattle.dlk_store.specs.declared.Id.{Id}
 use Rattle.dlk_store.specs.contracts.IdEq.TheImpl.Laws.{laws-law}

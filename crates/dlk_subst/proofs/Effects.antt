@@ -16,7 +16,8 @@ use Rattle.dlk_tree.specs.Trees.{Tree, Forest, sort, trees_in}
 use Rattle.dlk_tree.specs.Statics.{all}
 use Rattle.dlk_store.specs.declared.Id.{Id}
 use Rattle.dlk_store.specs.Stores.{IsId, tree, kid_trees, sorts_at}
-use Rattle.dlk_store.proofs.Kids.{sorts-kid_trees, kids_length}
+use Rattle.dlk_store.specs.Kids.{sorts-kid_trees}
+use Rattle.dlk_store.proofs.Kids.{kids_length}
 use Rattle.dlk_calculus.specs.Kids.{first}
 use Rattle.dlk_calculus.specs.Captures.{Stays}
 use Rattle.dlk_calculus.specs.Plug.{Plug, filled}

@@ -1,15 +1,11 @@
-pub mod Growth
 pub mod Captured
 pub mod Admissible
-pub mod Filled
 pub mod Arguments
 pub mod Staying
 pub mod Results
-pub mod Plugged
 pub mod Found
 pub mod Counted
 pub mod Looked
 pub mod Splicing
 pub mod Systems
 pub mod Effects
-pub mod Substituted

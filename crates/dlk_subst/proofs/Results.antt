@@ -1,9 +1,10 @@
 -- Results in a store, and faults that are handed on.
 use Rattle.std.proofs.Common.{◌≡◌, sym, ap, subst, ◌∙◌, List, Result, Err}
-use Rattle.std.specs.Prelude.{IfOk}
+use Rattle.std.specs.Prelude.{All, IfOk}
 use Rattle.std.specs.Result.{IsErrAnd}
 use Rattle.std.proofs.lemmas.Result.{IfOk-weaker}
-use Rattle.dlk_tree.specs.Trees.{Tree}
+use Rattle.dlk_tree.specs.declared.op.Op.TheVariants.{True}
+use Rattle.dlk_tree.specs.Trees.{Tree, node, no_kids, WellMade}
 use Rattle.dlk_store.specs.Stores.{tree, StandsFor}
 use Rattle.dlk_store.specs.declared.Id.{Id}
 use Rattle.dlk_subst.specs.Results.{IsResult}
@@ -23,3 +24,7 @@ pub result_weaker : {E : Type 0} (P Q : Tree → Type 0) (trees : List Tree) (re
 result_weaker P Q trees result follows ok =
     IfOk-weaker result (IsResult P trees) (IsResult Q trees)
     (λ id h. record { result = h.result; is_related = follows id h.result h.stands h.is_related; stands = h.stands }) ok
+
+-- what a store's id stands for is well made
+pub stands_made : {trees : List Tree} {id : Id} {t : Tree} → All WellMade trees → StandsFor trees id t → WellMade t
+stands_made {id = id} made stands = subst WellMade stands.tree_is (made id.0 (node True no_kids) stands.known)

@@ -10,7 +10,7 @@ use Rattle.dlk_tree.specs.Table.{Fits, are_items}
 use Rattle.dlk_tree.specs.Trees.{Tree, node, Forest, no_kids, sorts, WellMade}
 use Rattle.dlk_store.specs.declared.Id.{Id}
 use Rattle.dlk_store.specs.Stores.{kid_trees, sorts_at}
-use Rattle.dlk_store.proofs.Kids.{sorts-kid_trees}
+use Rattle.dlk_store.specs.Kids.{sorts-kid_trees}
 use Rattle.dlk_calculus.specs.Kids.{last}
 use Rattle.dlk_calculus.specs.Captures.{Stays}
 use Rattle.dlk_calculus.specs.Pairs.{Pair as TreePair, AreWellMade}

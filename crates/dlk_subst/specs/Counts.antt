@@ -3,7 +3,7 @@ use Rattle.std.specs.Prelude.{ℕ, List, [], ◌∷◌, ◌++◌}
 use Rattle.std.specs.List.{flat_map}
 use Rattle.std.specs.Set as set
 use Rattle.dlk_tree.specs.Trees.{Tree, node, Forest, no_kids, kid}
-use Rattle.dlk_tree.proofs.TreeSame.{tree_eq}
+use Rattle.dlk_tree.specs.TreeTests.{tree_eq}
 use Rattle.dlk_calculus.specs.Pairs.{Pair}
 
 -- the trees within a tree, itself first, each as often as it stands there
@@ -15,7 +15,7 @@ abbrev mutual
   subtrees_of no_kids = []
   subtrees_of (kid t rest) = subtrees t ++ subtrees_of rest
 
--- and within the replacements
+-- the trees within the replacements
 abbrev pub replacement_subtrees : List Pair → List Tree
 replacement_subtrees pairs = flat_map (λ (p : Pair). subtrees p.by) pairs
 

@@ -1,4 +1,6 @@
 pub mod Results
+pub mod Growth
+pub mod Rows
 pub mod Scopes
 pub mod Effects
 pub mod Splices

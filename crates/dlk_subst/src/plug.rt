@@ -1,23 +1,20 @@
 //! Arguments in place of argument dots.
 ghost use Rattle.std.specs.Prelude.{◌≡◌, ◌≤◌, ◌↔◌, IsTrue, IfOk, All, length, Err};
 ghost use Rattle.dlk_tree.specs.Table.{Fits};
-ghost use Rattle.dlk_tree.specs.Trees.{Tree, sort};
 ghost use Rattle.dlk_tree.specs.Statics.{free};
 ghost use Rattle.dlk_tree.specs.Occurs.{any_has, is_dot};
-ghost use Rattle.dlk_tree.specs.declared.op.Sort.TheVariants.{Term};
 ghost use Rattle.dlk_store.specs.Stores.{IsId, tree, kid_trees, sorts_at};
 ghost use Rattle.dlk_calculus.specs.Captures.{AreApart, Stays};
-ghost use Rattle.dlk_calculus.specs.Plug.{IsClear, PlugAt, Plug};
+ghost use Rattle.dlk_calculus.specs.Plug.{IsClear, PlugAt};
 ghost use Rattle.dlk_subst.specs.Results.{IsResult, HasNone, args_at};
 ghost use Rattle.dlk_subst.specs.Scopes.{scope_set, IsKnownScope};
 ghost use Rattle.dlk_sequent.specs.declared.fault.ApplyFault.TheVariants.{NotAdmissible};
 
 use crate::scope::{Scope, is_apart, reach, scope_of};
 use dlk_sequent::ApplyFault;
-use dlk_store::{Id, Steps, Store, copied};
+use dlk_store::{Id, Store};
 use dlk_tree::Op;
 use std::alloc::Global;
-use std::sync::ledger::Ledger;
 
 /// Whether the dot stands in one of the trees.
 fn any_has_dot<S: Store>(store: &S, kids: &[Id], n: u8) -> bool
@@ -112,33 +109,4 @@ pub fn plug_at<S: Store>(
         Some(arg) => Ok(*arg),
         None => Err(ApplyFault::NotAdmissible),
     }
-}
-
-/// The tree with the arguments in place of its dots.
-///
-/// # Errors
-///
-/// `NotAdmissible` exactly where there is none: a dot has no argument, or an operator captures a variable of an argument.
-pub(crate) fn plug<S: Store, L: Ledger>(
-    alloc: Global,
-    store: &mut S,
-    args: &[Id],
-    id: Id,
-    steps: &mut Steps<L>,
-) -> Result<Id, ApplyFault>
-    requires few { length args.now ≤ 8 }
-    requires args { All (IsId (S.trees store.old)) args.now }
-    requires terms { All (λ (a : Tree). sort a ≡ Term) (args_at (S.trees store.old) args.now) }
-    requires known { IsId (S.trees store.old) id }
-    ensures ok { IfOk result (IsResult (Plug (args_at (S.trees store.old) args.now) (tree (S.trees store.old) id)) (S.trees store.new)) }
-    ensures none { result ≡ Err NotAdmissible → HasNone (Plug (args_at (S.trees store.old) args.now) (tree (S.trees store.old) id)) }
-    ensures grows { S.grows store.old store.new }
-{
-    let (op, old) = copied(alloc, store, id, steps)?;
-    let mut new = Vec::new(alloc);
-    for kid in &old {
-        let made = plug(alloc, store, args, *kid, steps)?;
-        new.push(made)?;
-    }
-    plug_at(alloc, store, args, &op, old.as_slice(), new.as_slice())
 }

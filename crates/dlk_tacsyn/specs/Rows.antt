@@ -1,10 +1,10 @@
 -- The names of atoms, those of the library and `derive`, and the arguments that each wants.
-use Rattle.std.specs.Prelude.{◌≡◌, ◌⊎◌, ℕ, List, [], ◌∷◌, Option, Some, None, option_map, ◌||◌, if◌then◌else◌, Bool, true, All, IsTrue, bytes_eq, codes}
+use Rattle.std.specs.Prelude.{◌≡◌, ◌⊎◌, ℕ, List, [], ◌∷◌, Option, Some, None, option_map, ◌||◌, if◌then◌else◌, Bool, All, IsTrue, bytes_eq, codes}
 use Rattle.dlk_tree.specs.Names.{is_name}
-use Rattle.dlk_tree.specs.Table.{is_sym}
 use Rattle.dlk_tree.specs.Trees.{WellMade}
-use Rattle.dlk_calculus.specs.Pairs.{Pair, Extra, AreWellMade}
+use Rattle.dlk_calculus.specs.Pairs.{Extra, AreWellMade}
 use Rattle.dlk_calculus.specs.Sequents.{IsFormula}
+use Rattle.dlk_machine.specs.Symbols.{ReplacesSymbol}
 use Rattle.dlk_rules.specs.declared.arguments.Shape.{Shape}
 use Rattle.dlk_rules.specs.declared.arguments.Shape.TheVariants as shape
 use Rattle.dlk_rules.specs.Words.{wanted, named}
@@ -197,10 +197,6 @@ AreRun t = EachAtom IsRun t
 -- both names are names
 abbrev pub IsRename : List ℕ × List ℕ → Type 0
 IsRename r = IsTrue (is_name r.0) × IsTrue (is_name r.1)
-
--- what the pair replaces is a symbol
-abbrev pub ReplacesSymbol : Pair → Type 0
-ReplacesSymbol p = is_sym p.sym ≡ true
 
 -- the names are names, and what is replaced are symbols
 abbrev pub IsNamedExtra : Extra → Type 0

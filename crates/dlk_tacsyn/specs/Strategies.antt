@@ -78,7 +78,7 @@ opened level at inside = if nat_lt level most_open then inside else Fails (Nesti
 abbrev pub repeated : ℕ → ℕ → Tactic → Outcome Tactic
 repeated at n t = if nat_le n most_times then Says (Repeat t n) else Fails (fault.Repeat at)
 
--- What is written as an argument of each kind, where it is one:
+-- the place that is written, if it is one
 abbrev pub place_of : Written → Option Argument
 place_of (written.At place path) = Some (AtPlace place path)
 place_of written.AnyLeft = None

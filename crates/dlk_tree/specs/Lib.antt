@@ -2,6 +2,7 @@ pub mod Names
 pub mod Tests
 pub mod Table
 pub mod Trees
+pub mod TreeTests
 pub mod Occurs
 pub mod Statics
 pub mod Listed

@@ -15,14 +15,14 @@ use Rattle.dlk_sequent.specs.declared.sequent.Place.TheVariants.{Ante, Succ}
 use Rattle.dlk_uses.specs.Applying.{Applies}
 use Rattle.dlk_kernel.specs.Taken.{Takes}
 use Rattle.dlk_uses.specs.Uses.{Use, Spot, instance, proved, formula_at, Finishes}
-use Rattle.dlk_uses.proofs.Places.{At_All}
+use Rattle.dlk_calculus.proofs.PlaceLaws.{At_All}
 use Rattle.dlk_uses.proofs.Fitting.{Fit}
 use Rattle.dlk_uses.proofs.Instance.{instantiates, proved_is}
 use Rattle.dlk_uses.proofs.Shapes.{axiom_shaped}
 use Rattle.dlk_uses.proofs.Uses.{Laws, finishing_fits}
 
 -- what stands at a place of a sequent is a formula
-formula_there : (s : Sequent) (place : Place) (e : Tree) → IsSequent s → formula_at s place ≡ Some e → IsFormula e
+pub formula_there : (s : Sequent) (place : Place) (e : Tree) → IsSequent s → formula_at s place ≡ Some e → IsFormula e
 formula_there s (Ante i) e is h = At_All IsFormula s.ante i e is.ante h
 formula_there s (Succ j) e is h = At_All IsFormula s.succ j e is.succ h
 

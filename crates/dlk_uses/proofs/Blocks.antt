@@ -5,7 +5,7 @@ use Rattle.dlk_tree.specs.declared.op.Op.TheVariants as Op'
 use Rattle.dlk_tree.specs.Trees.{Tree, node, no_kids}
 use Rattle.dlk_tree.specs.Occurs.{has_dots, has_hole}
 use Rattle.dlk_calculus.specs.Axioms.{AxiomaticRule, rule_named}
-use Rattle.dlk_calculus.specs.Notation.{leaf, p, q, c_of}
+use Rattle.dlk_calculus.specs.Notation.{leaf}
 use Rattle.dlk_calculus.specs.Pairs.{Pair}
 use Rattle.dlk_calculus.specs.Paths.{subtree, put_at}
 use Rattle.dlk_calculus.specs.Places.{At}
@@ -18,7 +18,7 @@ use Rattle.dlk_sequent.specs.declared.sequent.Place.{Place}
 use Rattle.dlk_uses.specs.Uses.{Direction, Forwards, Backwards, formula_at, Spot, by_equivalence}
 use Rattle.dlk_uses.proofs.Fitting.{Fit, rule_fits, substitute_fits, merge_fits, goal_kept}
 use Rattle.dlk_uses.proofs.Exchanging.{Proves, proof_kept, old_side, exchange_fits}
-use Rattle.dlk_uses.proofs.Substituted.{pairs_of_ce, of_ce}
+use Rattle.dlk_uses.proofs.Substituted.{ce, pairs_of_ce, of_ce}
 
 -- An axiomatic rule with replacements, whose premise a row proves: what it concludes is proved.
 pub block_fits : (rows : List Provable) (now : ℕ) (spot : Spot) (name : List ℕ) (r : AxiomaticRule) (pairs : List Pair) (a b : Tree) (steps : List Step) →
@@ -46,9 +46,6 @@ block_fits rows now spot name r pairs a b steps counted named makes proof goal o
     others rows3 (sym three ∙ is3.counted)
     (row3, subst (λ k. At rows3 k row3) three is3.last, its.0)
     (goal_kept rows2 rows3 (now + 2) spot.fact spot.goal row3 spot.s is3 goal2))))
-
-abbrev ce : AxiomaticRule
-ce = record { name = codes "CE"; premise = equiv p q; conclusion = equiv (c_of p) (c_of q) }
 
 -- laws of paths
 pub record PathLaws : Type 0 where

@@ -11,7 +11,8 @@ use Rattle.dlk_calculus.specs.Provables.{Provable, inferred, known, merged}
 use Rattle.dlk_calculus.specs.Rules.{CutR, CoHideR, ImplyR, imply}
 use Rattle.dlk_calculus.specs.Steps.{Step, UseRule, Apply, Merge, Substitute, IsGoal}
 use Rattle.dlk_uses.specs.Uses.{Spot, generalizing, cutting_box}
-use Rattle.dlk_uses.proofs.Places.{at_one, put_first, put_before, put_there}
+use Rattle.dlk_calculus.proofs.PlaceLaws.{at_one}
+use Rattle.dlk_uses.proofs.Places.{put_first, put_before, put_there}
 use Rattle.dlk_uses.proofs.Fitting.{Fit, axiom_fits, rule_fits, substitute_fits, premise_fits, premises_fit, merge_fits, goal_kept, no_steps}
 use Rattle.dlk_uses.proofs.Premises.{of_cutR, of_coHideR, of_implyR}
 use Rattle.dlk_uses.proofs.Exchanging.{Proves, proof_kept, last_fits}

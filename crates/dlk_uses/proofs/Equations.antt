@@ -5,8 +5,7 @@ use Rattle.dlk_tree.specs.declared.op.Op.TheVariants as Op'
 use Rattle.dlk_tree.specs.declared.op.Sort.TheVariants.{Term}
 use Rattle.dlk_tree.specs.Trees.{Tree, no_kids, kid, trees_in, sort, WellMade}
 use Rattle.dlk_tree.specs.Occurs.{has_dots, has_hole}
-use Rattle.dlk_calculus.specs.Axioms.{AxiomaticRule}
-use Rattle.dlk_calculus.specs.Notation.{leaf, eq, f, g, p_of}
+use Rattle.dlk_calculus.specs.Notation.{leaf, eq, f, p_of}
 use Rattle.dlk_calculus.specs.Pairs.{Pair}
 use Rattle.dlk_calculus.specs.Paths.{subtree, put_at}
 use Rattle.dlk_calculus.specs.Places.{At}
@@ -20,12 +19,9 @@ use Rattle.dlk_uses.specs.Uses.{Direction, formula_at, Spot, by_equation, by_con
 use Rattle.dlk_uses.proofs.Fitting.{Fit, Added, start_fits, leaf_fits, apply_fits, substitute_fits, merge_fits, goal_kept}
 use Rattle.dlk_uses.proofs.Premises.{of_cutR}
 use Rattle.dlk_uses.proofs.Exchanging.{Proves, proof_kept, old_side}
-use Rattle.dlk_uses.proofs.Substituted.{Makes, parts, one_kid, makes_equiv, of_fact, pairs_of_cq, of_cq}
+use Rattle.dlk_uses.proofs.Substituted.{Makes, parts, one_kid, makes_equiv, of_fact, cq, pairs_of_cq, of_cq}
 use Rattle.dlk_uses.proofs.Terms.{term_stays}
 use Rattle.dlk_uses.proofs.Blocks.{PathLaws, block_fits, put_side, equivalence_fits}
-
-abbrev cq : AxiomaticRule
-cq = record { name = codes "CQ"; premise = eq f g; conclusion = equiv (p_of f) (p_of g) }
 
 -- a well-made term
 pub record IsTerm (t : Tree) : Type 0 where

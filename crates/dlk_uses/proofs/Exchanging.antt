@@ -9,7 +9,8 @@ use Rattle.dlk_calculus.specs.Steps.{Step, Apply, Merge, IsGoal}
 use Rattle.dlk_sequent.specs.declared.sequent.Place.{Place}
 use Rattle.dlk_sequent.specs.declared.sequent.Place.TheVariants.{Ante, Succ}
 use Rattle.dlk_uses.specs.Uses.{Direction, Forwards, Backwards, formula_at, Spot, exchange, by_implication, by_fact}
-use Rattle.dlk_uses.proofs.Places.{At-between, put_there}
+use Rattle.dlk_calculus.proofs.PlaceLaws.{At-between}
+use Rattle.dlk_uses.proofs.Places.{put_there}
 use Rattle.dlk_uses.proofs.Fitting.{Fit, Added, no_steps, merge_fits, premise_fits, premises_fit}
 use Rattle.dlk_uses.proofs.Premises.{of_cutR, of_cutL, of_coHideR, of_equivifyR, of_commuteEquivR}
 

@@ -19,7 +19,7 @@ use Rattle.dlk_match.specs.Matching.{exchanged}
 use Rattle.dlk_kernel.specs.Taken.{Takes}
 use Rattle.dlk_uses.specs.Taking.{FirstFault}
 use Rattle.dlk_uses.specs.Uses.{renaming, substituting, instance, first_of, proved}
-use Rattle.dlk_uses.proofs.Places.{at_one, At_place}
+use Rattle.dlk_calculus.proofs.PlaceLaws.{at_one, At_place}
 use Rattle.dlk_uses.proofs.Taking.{takes_first, takes_none}
 use Rattle.dlk_uses.proofs.Unequal.{Unlike, unlike_fault}
 use Rattle.dlk_uses.proofs.Fitting.{added, gives_axiom, gives_substituted}

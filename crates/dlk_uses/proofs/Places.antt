@@ -1,69 +1,14 @@
--- Items by their places.
-use Rattle.std.proofs.Common.{◌≡◌, ℕ, suc, zero, ◌+◌, ◌-◌, ◌<◌, List, [], ◌∷◌, ◌++◌, length, take, drop, get_or, refl, sym, subst, ap, ◌∙◌, Some, None}
-use Rattle.std.proofs.Common.{nat_eq, true, false, cond, arith, length-append, append_assoc}
-use Rattle.std.specs.List.{All, slice_get, slice_set}
+-- Items by their places, where others stand in the place of one.
+use Rattle.std.proofs.Common.{◌≡◌, ℕ, suc, zero, ◌+◌, ◌-◌, ◌<◌, List, [], ◌∷◌, ◌++◌, length, take, drop, get_or, refl, sym, subst, ap, ◌∙◌, Some}
+use Rattle.std.proofs.Common.{arith, length-append, append_assoc}
+use Rattle.std.specs.List.{slice_get, slice_set}
 use Rattle.std.proofs.lemmas.Option.{get_or_from_slice_get, slice_get_within, slice_get-get_or}
-use Rattle.std.proofs.lemmas.List.{take-append-drop, get_or_append_left, get_or-append-add, get_or-take, length-take, length-take-le, length-set}
+use Rattle.std.proofs.lemmas.List.{get_or-append-add, get_or-take, length-take, length-take-le, length-set}
 use Rattle.std.proofs.lemmas.Grind.{get_or-set_at}
-use Rattle.std.proofs.Math.Dec.{eqb-suc-zero}
-use Rattle.std.proofs.Math.Seq.{drop-cons}
-use Rattle.dlk_calculus.specs.Places.{at, At, IsPlace, put, put_all}
+use Rattle.dlk_calculus.specs.Places.{At, put, put_all}
+use Rattle.dlk_calculus.proofs.PlaceLaws.{at_suc, At_place, split_at, At-more, At-behind}
 
-pub at_one : {A : Type 0} (items : List A) (place : ℕ) (x y : A) → At items place x → At items place y → x ≡ y
-at_one items place x y p q = cc
-
--- what holds of each item holds of one at a place
-pub At_All : {A : Type 0} (P : A → Type 0) (items : List A) (place : ℕ) (x : A) → All P items → At items place x → P x
-At_All P items place x all =
-    elim (nat_eq place 0) as (λ b. cond b None (slice_get items (place - 1)) ≡ Some x → P x) [
-      | true ↦ λ e. absurd (cc e)
-      | false ↦ λ e. subst P (get_or_from_slice_get items (place - 1) x x e) (all (place - 1) x (slice_get_within items (place - 1) x e))
-    ]
-
-pub at_suc : {A : Type 0} (items : List A) (n : ℕ) → at items (suc n) ≡ slice_get items n
-at_suc items n = let e : suc n - 1 ≡ n = omega arith in rw (eqb-suc-zero n, e)
-
--- an item has a place
-pub At_place : {A : Type 0} (items : List A) (place : ℕ) (x : A) → At items place x → IsPlace items place
-At_place items zero x h = absurd (cc h)
-At_place items (suc n) x h = (omega arith, omega (arith, slice_get_within items n x (sym (at_suc items n) ∙ h)))
-
--- an item with those before it and those behind it
-pub split_at : {A : Type 0} (items : List A) (place : ℕ) (x : A) → At items place x → items ≡ take (place - 1) items ++ x ∷ drop place items
-split_at items zero x h = absurd (cc h)
-split_at items (suc n) x h =
-    let here : slice_get items n ≡ Some x = sym (at_suc items n) ∙ h in
-    let behind : drop n items ≡ x ∷ drop (suc n) items =
-    drop-cons items n x (slice_get_within items n x here) ∙ ap (λ y. y ∷ drop (suc n) items) (get_or_from_slice_get items n x x here) in
-    let split : items ≡ take n items ++ x ∷ drop (suc n) items = sym (take-append-drop n items) ∙ ap (λ l. take n items ++ l) behind in
-    let one : n ≡ suc n - 1 = omega arith in
-    subst (λ k. items ≡ take k items ++ x ∷ drop (suc n) items) one split
-
--- its place stays where more come behind it, and moves where more come before it
-pub At-more : {A : Type 0} (items more : List A) (place : ℕ) (x : A) → At items place x → At (items ++ more) place x
-At-more items more zero x h = absurd (cc h)
-At-more items more (suc n) x h =
-    let here : slice_get items n ≡ Some x = sym (at_suc items n) ∙ h in
-    let lt = slice_get_within items n x here in
-    let is : get_or (items ++ more) n x ≡ x = get_or_append_left items more x n lt ∙ get_or_from_slice_get items n x x here in
-    at_suc (items ++ more) n ∙ slice_get-get_or (items ++ more) n x (omega (arith, lt, length-append items more)) ∙ ap Some is
-
-pub At-behind : {A : Type 0} (front items : List A) (place : ℕ) (x : A) → At items place x → At (front ++ items) (length front + place) x
-At-behind front items zero x h = absurd (cc h)
-At-behind front items (suc n) x h =
-    let here : slice_get items n ≡ Some x = sym (at_suc items n) ∙ h in
-    let lt = slice_get_within items n x here in
-    let is : get_or (front ++ items) (length front + n) x ≡ x = get_or-append-add front items n x ∙ get_or_from_slice_get items n x x here in
-    let at_place : At (front ++ items) (suc (length front + n)) x = at_suc (front ++ items) (length front + n)
-    ∙ slice_get-get_or (front ++ items) (length front + n) x (omega (arith, lt, length-append front items)) ∙ ap Some is in
-    let same : suc (length front + n) ≡ length front + suc n = omega arith in
-    subst (λ k. At (front ++ items) k x) same at_place
-
--- an item between others
-pub At-between : {A : Type 0} (front : List A) (x : A) (others : List A) → At (front ++ x ∷ others) (length front + 1) x
-At-between front x others = At-behind front (x ∷ others) 1 x refl
-
--- Others in the place of an item: the first and the second of them, what stands before them, and another item in its place.
+-- the first and the second of them, what stands before them, and another item in its place
 
 pub put_first : {A : Type 0} (items : List A) (place : ℕ) (x y : A) (new : List A) → At items place x → At (put_all items place (y ∷ new)) place y
 put_first items place x y new h =

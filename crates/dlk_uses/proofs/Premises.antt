@@ -5,7 +5,7 @@ use Rattle.dlk_calculus.specs.Places.{At, put, without_place}
 use Rattle.dlk_calculus.specs.Sequents.{Sequent, ◌==>◌, alone_right}
 use Rattle.dlk_calculus.specs.Rules.{Close, Cut, CutL, CutR, CoHideR, EquivifyR, CommuteEquivR, ImplyL, ImplyR, imply, equiv, Premises, RuleAgainst}
 use Rattle.dlk_calculus.specs.declared.reason.Reason.TheVariants.{NotEqual}
-use Rattle.dlk_uses.proofs.Places.{at_one}
+use Rattle.dlk_calculus.proofs.PlaceLaws.{at_one}
 
 pub of_cutR : (s : Sequent) (j : ℕ) (h e : Tree) → At s.succ j e → (premises : List Sequent) → Premises (CutR j h) s premises →
     premises ≡ (s.ante ==> put s.succ j h) ∷ (s.ante ==> put s.succ j (imply h e)) ∷ []

@@ -1,8 +1,10 @@
 -- What substitutions make of the axiomatic rules that uses of axioms name.
 use Rattle.std.proofs.Common.{◌≡◌, List, [], ◌∷◌, refl, ap, ◌∙◌}
+use Rattle.std.specs.Prelude.{codes}
 use Rattle.dlk_tree.specs.declared.op.Op.{Op}
 use Rattle.dlk_tree.specs.declared.op.Op.TheVariants as Op'
 use Rattle.dlk_tree.specs.Trees.{Tree, node, Forest, no_kids, kid, WellMade}
+use Rattle.dlk_calculus.specs.Axioms.{AxiomaticRule}
 use Rattle.dlk_calculus.specs.Kids.{first}
 use Rattle.dlk_calculus.specs.Notation.{two, eq, box, a, p, q, f, g, p_of, c_of}
 use Rattle.dlk_calculus.specs.Pairs.{Pair}
@@ -117,6 +119,9 @@ pub of_fact : (pairs : List Pair) (a f : Tree) (s : Sequent) → Makes pairs a f
 of_fact pairs a f s makes h = let c = alone_of_alone pairs a s h in c.is ∙ ap alone_right (makes c.new c.made)
 
 -- The replacements of CE, and what they make of it: both sides stand in the place of the hole of k.
+abbrev pub ce : AxiomaticRule
+ce = record { name = codes "CE"; premise = equiv p q; conclusion = equiv (c_of p) (c_of q) }
+
 abbrev pub pairs_of_ce : (l r k : Tree) → List Pair
 pairs_of_ce l r k = (any_p ~> l) ∷ (any_q ~> r) ∷ (context_c ~> k) ∷ []
 
@@ -141,6 +146,9 @@ module _ (l r k : Tree) where
       (makes_equiv pairs p q l r p_is q_is) (makes_equiv pairs (c_of p) (c_of q) (filled l k) (filled r k) (c_is p l p_is) (c_is q r q_is)) h
 
 -- of CQ: first both terms, and then the context of one argument
+abbrev pub cq : AxiomaticRule
+cq = record { name = codes "CQ"; premise = eq f g; conclusion = equiv (p_of f) (p_of g) }
+
 abbrev pub pairs_of_cq : (l r : Tree) → List Pair
 pairs_of_cq l r = (any_f ~> l) ∷ (any_g ~> r) ∷ []
 

@@ -15,27 +15,27 @@ use Rattle.dlk_calculus.specs.Subst.{Subst, SubstAll, SubstAt, Replaced}
 use Rattle.dlk_uses.specs.Uses.{◌~>◌, p_of_one}
 use Rattle.dlk_uses.proofs.Substituted.{parts}
 
--- a symbol of another kind isn't p(._0)
 abbrev named : Kind → Sym → Sym
 named k s = record { kind = k; name = s.name; arity = s.arity; taboo = s.taboo }
 
-no_function : (k : Kind) (s : Sym) → IsTrue (is_sym_of Func (named k s)) → sym_eq (named k s) p_of_one ≡ false
-no_function Func s h = refl
-no_function UnitFunc s h = refl
-no_function Pred s h = absurd (cc h)
-no_function UnitPred s h = refl
-no_function Quant s h = refl
-no_function Prog s h = refl
-no_function Ode s h = refl
+-- a symbol of another kind isn't p(._0), on either side
+pub unlike_function : (k : Kind) (s : Sym) → IsTrue (is_sym_of Func (named k s)) → (sym_eq (named k s) p_of_one ≡ false) × (sym_eq p_of_one (named k s) ≡ false)
+unlike_function Func s h = (refl, refl)
+unlike_function UnitFunc s h = (refl, refl)
+unlike_function Pred s h = absurd (cc h)
+unlike_function UnitPred s h = (refl, refl)
+unlike_function Quant s h = (refl, refl)
+unlike_function Prog s h = (refl, refl)
+unlike_function Ode s h = (refl, refl)
 
-no_unit_function : (k : Kind) (s : Sym) → IsTrue (is_sym_of UnitFunc (named k s)) → sym_eq (named k s) p_of_one ≡ false
-no_unit_function Func s h = refl
-no_unit_function UnitFunc s h = refl
-no_unit_function Pred s h = absurd (cc h)
-no_unit_function UnitPred s h = refl
-no_unit_function Quant s h = refl
-no_unit_function Prog s h = refl
-no_unit_function Ode s h = refl
+pub unlike_unit : (k : Kind) (s : Sym) → IsTrue (is_sym_of UnitFunc (named k s)) → (sym_eq (named k s) p_of_one ≡ false) × (sym_eq p_of_one (named k s) ≡ false)
+unlike_unit Func s h = (refl, refl)
+unlike_unit UnitFunc s h = (refl, refl)
+unlike_unit Pred s h = absurd (cc h)
+unlike_unit UnitPred s h = (refl, refl)
+unlike_unit Quant s h = (refl, refl)
+unlike_unit Prog s h = (refl, refl)
+unlike_unit Ode s h = (refl, refl)
 
 module _ (d : Tree) where
   abbrev pairs : List Pair
@@ -48,8 +48,8 @@ module _ (d : Tree) where
   stays_at (Op'.Variable v) old new t e h at = at.1
   stays_at (Op'.Number n) old new t e h at = at.1
   stays_at (Op'.Dot n) old new t e h at = at.1
-  stays_at (Op'.UnitFun s) old new t e h at = (stays s (λ r. t ≡ r) _ (no_unit_function s.kind s h) at).1
-  stays_at (Op'.Apply s) old new t e h at = (stays s _ _ (no_function s.kind s h) at).1
+  stays_at (Op'.UnitFun s) old new t e h at = (stays s (λ r. t ≡ r) _ (unlike_unit s.kind s h).0 at).1
+  stays_at (Op'.Apply s) old new t e h at = (stays s _ _ (unlike_function s.kind s h).0 at).1
   stays_at Op'.Neg old new t e h at = at.1
   stays_at Op'.Diff old new t e h at = at.1
   stays_at Op'.Add old new t e h at = at.1
@@ -60,16 +60,16 @@ module _ (d : Tree) where
   stays_at _ old new t e h at = absurd (cc e)
 
 -- the kids of a term are terms
-abbrev AreTerms : Forest → Type 0
+abbrev pub AreTerms : Forest → Type 0
 AreTerms no_kids = Unit {0}
 AreTerms (kid t rest) = (sort t ≡ Term) × AreTerms rest
 
-are_terms : (n : ℕ) (kids : Forest) → sorts kids ≡ replicate n Term → AreTerms kids
+pub are_terms : (n : ℕ) (kids : Forest) → sorts kids ≡ replicate n Term → AreTerms kids
 are_terms n no_kids e = tt
 are_terms zero (kid t rest) e = absurd (cc e)
 are_terms (suc n) (kid t rest) e = let one : sort t ≡ Term = cc in let others : sorts rest ≡ replicate n Term = cc in (one, are_terms n rest others)
 
-of_terms : (op : Op) → sort_of op ≡ Term → (n : ℕ) × (kid_sorts op ≡ replicate n Term)
+pub of_terms : (op : Op) → sort_of op ≡ Term → (n : ℕ) × (kid_sorts op ≡ replicate n Term)
 of_terms (Op'.Variable v) e = (0, refl)
 of_terms (Op'.Number n) e = (0, refl)
 of_terms (Op'.Dot n) e = (0, refl)

@@ -103,7 +103,7 @@ formula_at s (Succ j) = at s.succ j
 
 -- Steps, where there are so many rows: the last of them is the row that they number.
 
--- unlike names exchanged in turn
+-- the steps that exchange each name with its new one, where they differ
 abbrev pub renaming : ℕ → List (List ℕ × List ℕ) → List Step
 renaming rows [] = []
 renaming rows (r ∷ renames) = if bytes_eq r.0 r.1 then renaming rows renames else Rename rows r.0 r.1 ∷ renaming (rows + 1) renames
@@ -124,12 +124,12 @@ abbrev pub first_of : List Tree → Tree
 first_of [] = leaf True
 first_of (f ∷ fs) = f
 
--- rules in turn, on these goals: the first on a fact, and each other on the last row
+-- the steps of rules in turn: the first on a goal of the fact, each other one on the last row
 abbrev pub in_turn : ℕ → ℕ → List (ℕ × Rule) → List Step
 in_turn fact rows [] = []
 in_turn fact rows (r ∷ rules) = Apply fact r.0 r.1 ∷ in_turn (rows + 1) (rows + 1) rules
 
--- and then a row in the place of a goal of what they make
+-- rules in turn, and then a merge of a row into a goal of what they make
 abbrev pub closed_by : ℕ → ℕ → ℕ → List (ℕ × Rule) → ℕ → List Step
 closed_by by fact rows rules goal = in_turn fact rows rules ++ Merge (rows + length rules) goal by ∷ []
 
@@ -146,7 +146,7 @@ s ~> e = record { sym = s; by = e }
 abbrev pub program_a : Sym
 program_a = symbol Prog (codes "a") 0
 
--- p(||) and q(||)
+-- p(||)
 abbrev pub any_p : Sym
 any_p = symbol UnitPred (codes "p") 0
 

@@ -1,5 +1,5 @@
 use Rattle.std.proofs.Common.{refl}
-use Rattle.dlk_guard.proofs.Equal.{tree_decides}
+use Rattle.dlk_tree.proofs.TreeSame.{tree_decides}
 use Rattle.dlk_guard.proofs.laws.equal_by_test.Goals as goal
 
 pub returns-clause-same : goal.returns-clause-same

@@ -1,5 +1,6 @@
 use Rattle.dlk_machine.proofs.SomeText.{some_pairs}
 use Rattle.dlk_machine.proofs.TextLaws.{one_pairs_text, pairs_or_fault, one_pairs_fault, pairs_text_well_made}
+use Rattle.dlk_machine.proofs.PairSymbols.{pairs_text_symbols}
 use Rattle.dlk_machine.proofs.laws.pairs_texts.Goals as goal
 
 pub returns : goal.returns
@@ -9,4 +10,5 @@ returns c = record {
   one_fault = one_pairs_fault;
   some = some_pairs;
   well_made = pairs_text_well_made;
+  symbols = pairs_text_symbols;
 }

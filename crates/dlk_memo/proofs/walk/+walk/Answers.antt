@@ -3,14 +3,14 @@ use Rattle.std.specs.Prelude.{All, IsTrue}
 use Rattle.dlk_tree.specs.Trees.{node, size}
 use Rattle.dlk_store.specs.declared.Id.{Id}
 use Rattle.dlk_store.specs.Stores.{IsId, kid_trees, tree}
-use Rattle.dlk_store.proofs.Kids.{Keeps-trans}
+use Rattle.dlk_store.specs.Kids.{Keeps-trans}
 use Rattle.dlk_store.proofs.Made.{Made-none, same_kids, next_known, next_same, next_smaller, next_made, made_fit, next_without, node_made, node_without}
 use Rattle.dlk_sequent.specs.declared.fault.ApplyFault.TheVariants.{NotAdmissible}
-use Rattle.dlk_subst.proofs.Growth.{known_kept}
+use Rattle.dlk_subst.specs.Growth.{known_kept}
 use Rattle.dlk_subst.proofs.Results.{handed_on, holds_tree, result_weaker}
-use Rattle.dlk_memo.specs.Tables.{IsRight, OpensNone, Spends}
-use Rattle.dlk_memo.proofs.Tables.{right_begun, right_kept, right_concluded, opens_itself, opens_then, opens_concluded, kid_above, spends_none, spends_kept, spends_opened}
-use Rattle.dlk_memo.proofs.Tables.{spends_failed, spends_finished, kid_spent, kid_failed}
+use Rattle.dlk_memo.specs.Tables.{IsRight, Spends}
+use Rattle.dlk_memo.proofs.Tables.{right_begun, right_kept, right_concluded, opens_itself, opens_then, opens_concluded, kid_above, spends_none, spends_kept}
+use Rattle.dlk_memo.proofs.Tables.{spends_opened, spends_failed, spends_finished, kid_spent, kid_failed}
 use Rattle.dlk_memo.proofs.walk.+walk.Goals as goal
 
 pub returns-in_err-op-clause-spends : goal.returns-in_err-op-clause-spends

@@ -1,4 +1,5 @@
-use Rattle.dlk_sequent.proofs.KeptPairs.{pairs_at-kept, IsMadeOver-kept}
+use Rattle.dlk_sequent.specs.Growth.{pairs_at-kept}
+use Rattle.dlk_sequent.proofs.KeptPairs.{IsMadeOver-kept}
 use Rattle.dlk_sequent.proofs.laws.substitution_stays.Goals as goal
 
 pub returns-clause-made : goal.returns-clause-made

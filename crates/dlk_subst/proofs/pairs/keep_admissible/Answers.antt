@@ -3,9 +3,9 @@ use Rattle.dlk_tree.specs.Trees.{node}
 use Rattle.dlk_store.specs.Stores.{StandsFor, kid_trees}
 use Rattle.dlk_calculus.specs.Subst.{IsAdmissible}
 use Rattle.dlk_sequent.specs.Substitutions.{pairs_at}
-use Rattle.dlk_sequent.proofs.KeptPairs.{pairs_at-kept}
+use Rattle.dlk_sequent.specs.Growth.{pairs_at-kept}
 use Rattle.dlk_subst.specs.Scopes.{scope_set}
-use Rattle.dlk_subst.proofs.Growth.{pairs_kept}
+use Rattle.dlk_subst.specs.Growth.{pairs_kept}
 use Rattle.dlk_subst.proofs.Captured.{made_scope, made_known, reached_trees, reached_known}
 use Rattle.dlk_subst.proofs.Staying.{stays, stays_not}
 use Rattle.dlk_subst.proofs.pairs.keep_admissible.Goals as goal

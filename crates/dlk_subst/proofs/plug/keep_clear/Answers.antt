@@ -4,8 +4,8 @@ use Rattle.dlk_store.specs.Stores.{StandsFor, kid_trees}
 use Rattle.dlk_calculus.specs.Plug.{IsClear}
 use Rattle.dlk_subst.specs.Results.{args_at}
 use Rattle.dlk_subst.specs.Scopes.{scope_set}
-use Rattle.dlk_subst.proofs.Growth.{known_kept}
-use Rattle.dlk_subst.proofs.Arguments.{args_kept}
+use Rattle.dlk_subst.specs.Growth.{known_kept}
+use Rattle.dlk_subst.specs.Growth.{args_kept}
 use Rattle.dlk_subst.proofs.Captured.{made_scope, made_known, reached_trees, reached_known}
 use Rattle.dlk_subst.proofs.Staying.{stays, stays_not}
 use Rattle.dlk_subst.proofs.plug.keep_clear.Goals as goal

@@ -2,7 +2,7 @@ use Rattle.std.proofs.Common.{◌++◌, ◌∙◌, [], sym, ap, subst}
 use Rattle.std.specs.Prelude.{All}
 use Rattle.std.proofs.lemmas.List.Elements.{All-nil}
 use Rattle.dlk_store.specs.Stores.{IsId, kid_trees}
-use Rattle.dlk_store.proofs.Kids.{sorts-kid_trees}
+use Rattle.dlk_store.specs.Kids.{sorts-kid_trees}
 use Rattle.dlk_calculus.specs.Kids.{last}
 use Rattle.dlk_calculus.specs.Subst.{new_members, items_of, kids_of}
 use Rattle.dlk_sequent.specs.Substitutions.{pairs_at}

@@ -5,7 +5,8 @@ use Rattle.dlk_kernel.specs.Kernel.{IsKnownRow}
 use Rattle.dlk_calculus.proofs.StepLaws.{first_no_fact_to_substitute}
 use Rattle.dlk_kernel.proofs.RowLaws.{no_such_fact}
 use Rattle.dlk_kernel.proofs.Substituted.{not_true, ill_refused, free_refused, substituted_given, none_refused}
-use Rattle.dlk_sequent.proofs.KeptPairs.{pairs_at-kept, AreKnownPairs-kept}
+use Rattle.dlk_sequent.specs.Growth.{pairs_at-kept}
+use Rattle.dlk_sequent.proofs.KeptPairs.{AreKnownPairs-kept}
 use Rattle.dlk_kernel.proofs.LimitRows.{subst_big, subst_deep, subst_within}
 use Rattle.dlk_kernel.proofs.Looked.{unlooked, pairs_looked, fact_looked}
 use Rattle.dlk_kernel.proofs.steps.substitute.substitute.Goals as goal

@@ -1,10 +1,9 @@
-use Rattle.std.proofs.Common.{◌≡◌, ◌≤◌, refl, arith}
+use Rattle.std.proofs.Common.{refl, arith}
 use Rattle.dlk_tree.specs.Trees.{WellMade}
 use Rattle.dlk_store.specs.Stores.{kid_trees}
-use Rattle.dlk_sequent.specs.Substitutions.{pairs_at}
 use Rattle.dlk_subst.specs.declared.pairs.Effect.TheVariants.{Gives, Plugs, Fills, Stays}
 use Rattle.dlk_subst.proofs.Effects.{effect_holds, effect_ok, effect_none, no_system, effect_known, plugs_arguments, fills_formula}
-use Rattle.dlk_memo.proofs.Rules.{effect_cost, row_holds, row_ok}
+use Rattle.dlk_memo.proofs.Rules.{args_ready, effect_cost, row_holds, row_ok}
 use Rattle.dlk_memo.proofs.substituting.SubstitutingRule.at.Goals as goal
 
 pub plug_in-requires : goal.plug_in-requires
@@ -14,7 +13,7 @@ plug_in-requires g c =
     let is = c.in-Plugs.ensures in
     let arguments = plugs_arguments trees pairs c.args.op.now c.args.new.now c.in-Plugs.by is c.requires.fits in
     record {
-      ready = record { few = arguments.0; known = c.requires.new; terms = arguments.1 };
+      ready = args_ready trees c.args.new.now arguments.0 c.requires.new arguments.1;
       by = effect_known trees pairs c.args.op.now (Plugs c.in-Plugs.by) c.in-Plugs.by c.requires.ready.known is refl;
     }
 

@@ -1,0 +1,5 @@
+//! Tests of `prove` and `gen`.
+#![tactic(auto)]
+
+#[cfg(test)]
+mod tests;

@@ -1,0 +1,5 @@
+//! Tests of `subst`.
+#![tactic(auto)]
+
+#[cfg(test)]
+mod tests;

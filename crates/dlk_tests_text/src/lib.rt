@@ -1,0 +1,5 @@
+//! Tests of `print` and `vars`.
+#![tactic(auto)]
+
+#[cfg(test)]
+mod tests;

@@ -1,5 +1,0 @@
-//! Trials of `check` and `report`.
-#![tactic(auto)]
-
-#[cfg(test)]
-mod tests;

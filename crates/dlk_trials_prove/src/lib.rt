@@ -1,5 +1,0 @@
-//! Trials of `prove`, `gen` and `smt`.
-#![tactic(auto)]
-
-#[cfg(test)]
-mod tests;

@@ -1,5 +1,0 @@
-//! Trials of the readers and of the stores.
-#![tactic(auto)]
-
-#[cfg(test)]
-mod tests;

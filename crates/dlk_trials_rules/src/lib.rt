@@ -1,5 +1,0 @@
-//! Trials of the sequent rules on a kernel, and of a plan.
-#![tactic(auto)]
-
-#[cfg(test)]
-mod tests;

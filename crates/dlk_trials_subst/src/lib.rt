@@ -1,5 +1,0 @@
-//! Trials of `subst`.
-#![tactic(auto)]
-
-#[cfg(test)]
-mod tests;

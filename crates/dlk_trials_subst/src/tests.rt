@@ -1,8 +1,0 @@
-// What `subst` answers.
-mod substituting;
-
-use dlk_replies::{NoReply, Reply};
-use dlk_trials::{checked, joined, padded, repeated, replied};
-use std::alloc::{AllocError, Global};
-use std::process::Abort;
-use std::test::Fail;

@@ -1,5 +1,0 @@
-//! Trials of `print` and `vars`.
-#![tactic(auto)]
-
-#[cfg(test)]
-mod tests;
