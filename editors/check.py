@@ -1,13 +1,16 @@
 #!/usr/bin/env python3
-"""Compares the words of the syntax files with those of the documents.
+"""Compares the words of the syntax files and the lists of commands with the documents and definitions.
 
     python3 editors/check.py     exits 1 where they differ
 
 The keywords, operators and brackets of models come from the table of docs/LANGUAGE.md, the words of term lines from
 docs/FILES.md, rules from there and from the drawings of docs/CALCULUS.md, axioms and axiomatic rules from its tables, and
 atoms and the names of the library from docs/STRATEGIES.md. Each set must be the same in the files for Vim and in those for editors that take TextMate
-grammars. The numbers of premises in tools/prooftree.py are compared with the drawings, and the commands of the man page
-and of the completions with those of README.md.
+grammars. The numbers of premises in tools/prooftree.py are compared with the drawings.
+
+The commands, each with its arguments, come from the table of their forms in crates/dlk_replies/specs/Forms.antt. They must be the same
+in README.md, in the usage that the program prints on standard error, in the man page and in the completions for bash and zsh. The exit
+statuses of the man page must be those of docs/FILES.md.
 """
 import json
 import re
@@ -171,14 +174,71 @@ def second_axioms():
     return {"vim": vim_words("dlkstrategy.vim", "dlkAxiom"), "textmate": group_of(use, 1)}
 
 
-def commands():
-    """The commands of README.md, and those of the man page and of the completions."""
-    table = {spans(row[0])[0].split(" ")[0] for row in rows(text_of("README.md"), "| Words | What it does |")}
+# The commands
+
+ARGUMENTS = {"Model": "MODEL", "Term": "TERM", "File": "FILE", "Substitution": "SUBST", "Strategy": "STRATEGY", "Output": "TERM", "Number": "N"}
+MAN = {"substitution": "SUBST", "number": "N"}
+ZSH = {"expression": "FILE", "substitution": "SUBST"}
+
+
+def usages():
+    """The usages, each a command with its arguments, by the table of the definitions."""
+    text = text_of("crates", "dlk_replies", "specs", "Forms.antt")
+    found = re.findall(r'^form_of \w+ = record \{ verb = codes "(\w+)"; inputs = (.*); last = (.*) \}$', text, re.M)
+    return {" ".join([verb, *(ARGUMENTS[name] for name in re.findall(r"[A-Z]\w+", inputs + " " + last) if name in ARGUMENTS)])
+            for verb, inputs, last in found}
+
+
+def in_files(usage):
+    """A usage with the file names that are completed: those of inputs and of the output."""
+    return tuple(word for word in usage.split(" ") if word != "N")
+
+
+def man_usages():
+    """The usages of the man page's synopsis, and those of its list of commands."""
     brief, _, told = text_of("docs", "dlk.1").partition(".Sh DESCRIPTION")
-    bash = re.search(r"compgen -W '([^']*)'", text_of("completions", "dlk.bash")).group(1)
-    zsh = re.findall(r"^  '(\w+):", text_of("completions", "_dlk"), re.M)
-    synopsis, items = re.findall(r"^\.Cm (\w+)$", brief, re.M), re.findall(r"^\.It Cm (\w+)", told, re.M)
-    return table, {"synopsis of docs/dlk.1": set(synopsis), "docs/dlk.1": set(items), "bash": set(bash.split()), "zsh": set(zsh)}
+    synopsis = re.findall(r"^\.Cm (\w+)\n((?:\.Ar \w+\n)*)", brief, re.M)
+    items = re.findall(r"^\.It Cm (\w+) Ar (.*)$", told, re.M)
+    found = [(verb, re.findall(r"\.Ar (\w+)", words)) for verb, words in synopsis], [(verb, words.split()) for verb, words in items]
+    return [{" ".join([verb, *(MAN.get(word, word.upper()) for word in words)]) for verb, words in usage} for usage in found]
+
+
+def bash_usages():
+    """The commands of the completions for bash, each with how many files it takes."""
+    text = text_of("completions", "dlk.bash")
+    files = {verb: int(count) for verbs, count in re.findall(r"^ +([\w |]+)\) files=(\d) ;;$", text, re.M) for verb in verbs.split(" | ")}
+    return {(verb, files.get(verb, 0)) for verb in re.search(r"compgen -W '([^']*)'", text).group(1).split()}
+
+
+def zsh_usages():
+    """The commands of the completions for zsh, each with the files that it takes."""
+    text = text_of("completions", "_dlk")
+    cases = re.findall(r"^ +([\w |]+)\) files=\(([\w ]+)\) ;;$", text, re.M)
+    files = {verb: [ZSH.get(word, word.upper()) for word in words.split()] for verbs, words in cases for verb in verbs.split(" | ")}
+    return {(verb, *files.get(verb, [])) for verb in re.findall(r"^  '(\w+):", text, re.M)}
+
+
+def commands():
+    """Each place where the commands stand, with those that it must have and those that it has."""
+    wanted = usages()
+    files = {in_files(usage) for usage in wanted}
+    synopsis, items = man_usages()
+    usage = {" ".join(words.split()) for words in re.findall(r'^ +"  dlk (.*?)  ', text_of("crates", "dlk", "src", "explain.rt"), re.M)}
+    return [
+        ("README.md", wanted, {spans(row[0])[0] for row in rows(text_of("README.md"), "| Usage | What it does |")}),
+        ("crates/dlk/src/explain.rt", wanted, usage),
+        ("synopsis of docs/dlk.1", wanted, synopsis),
+        ("docs/dlk.1", wanted, items),
+        ("completions/dlk.bash", {(words[0], len(words) - 1) for words in files}, bash_usages()),
+        ("completions/_dlk", files, zsh_usages()),
+    ]
+
+
+def statuses():
+    """The exit statuses of docs/FILES.md, and those of the man page."""
+    table = {row[0] for row in rows(text_of("docs", "FILES.md"), "| Status | Cause | Printed |")}
+    told = text_of("docs", "dlk.1").partition(".Sh EXIT STATUS")[2].partition(".Sh ")[0]
+    return table, set(re.findall(r"^\.It (\d+)$", told, re.M))
 
 
 def differences():
@@ -186,8 +246,8 @@ def differences():
     words = documented()
     pairs = [(kind, name, words[kind], found[kind]) for name, found in (("vim", vim()), ("textmate", textmate())) for kind in words]
     pairs += [("axioms of strategies", name, words["axioms"], found) for name, found in second_axioms().items()]
-    table, others = commands()
-    pairs += [("commands", name, table, found) for name, found in others.items()]
+    pairs += [("commands", *place) for place in commands()]
+    pairs += [("exit statuses", "docs/dlk.1", *statuses())]
     pairs += [("rules that are drawn", "docs/CALCULUS.md", words["rules"], set(drawings())),
               ("axiomatic rules", "tools/prooftree.py", words["axiomatic rules"], set(prooftree.AXIOMATIC)),
               ("numbers of premises", "tools/prooftree.py", set(drawings().items()), set(prooftree.PREMISES.items()))]

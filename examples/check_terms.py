@@ -3,7 +3,7 @@
 stands beside it, `prove` must print the same report, but for the number of lines, and what it writes must be accepted with
 the report that was printed.
 
-It also looks whether the tests of the trials have the same terms. Those of `unsound` and `constants` stand in no test: they
+It also looks whether the tests have the same terms. Those of `unsound` and `constants` stand in no test: they
 are run by this script alone. Those of `unsound` must be closed, too, and their models must be `false`: that is what they
 show. Where z3 or cvc5 is there, the leaves of each are given to it, and a line says what it answers. Run it after `./dlk` has built the program.
 """
@@ -82,7 +82,7 @@ def folders(pattern):
 
 def main():
     """Checks each example."""
-    tested = "".join(file.read_text() for file in CRATES.glob("dlk_trials*/src/**/*.rt"))
+    tested = "".join(file.read_text() for file in CRATES.glob("dlk_tests*/src/**/*.rt"))
     examples, constants, unsound = folders("*/term"), folders("constants/*/term"), folders("unsound/*/term")
     for example in examples:
         checked(example)

@@ -7,7 +7,7 @@ What `prove` prints must be the folder's `report`, byte for byte, and so must wh
 stands there, too, which writes out what `derive` does, all this must hold of it as well. A line says
 so of each folder, or of those that are named, and the last line how many are as they should be; the exit status is 1
 where not all are. The program is `./dlk`, which is built where it isn't there, or the one that DLK names. Some models stand
-in the tests of `dlk_trials_prove`, too; each that does must stand there as it does here.
+in the tests of `dlk_tests_prove`, too; each that does must stand there as it does here.
 
 With --leaves a solver is asked for the leaves, and each must be valid. With --write each report is written anew.
 """
@@ -20,7 +20,7 @@ import tempfile
 from running import EXAMPLES, answer, solved
 
 GALLERY = EXAMPLES / "gallery"
-TEST = EXAMPLES.parent / "crates" / "dlk_trials_prove" / "src" / "tests" / "gallery.rt"
+TEST = EXAMPLES.parent / "crates" / "dlk_tests_prove" / "src" / "tests" / "gallery.rt"
 PROGRAM = shutil.which(os.environ.get("DLK", EXAMPLES.parent / "dlk"))
 
 

@@ -1,7 +1,7 @@
 #!/usr/bin/env python3
 """Prints each model of `examples/models`, and reads what is printed back: it must print the same again.
 
-It also looks whether the tests of `dlk_trials_text` have the same models. Run it after `./dlk` has built the program. With `--show`
+It also looks whether the tests of `dlk_tests_text` have the same models. Run it after `./dlk` has built the program. With `--show`
 the printed texts are written out.
 """
 import pathlib
@@ -10,7 +10,7 @@ import sys
 
 EXAMPLES = pathlib.Path(__file__).resolve().parent
 PROGRAM = EXAMPLES.parent / "crates" / "dlk" / "out" / "dlk"
-TESTS = EXAMPLES.parent / "crates" / "dlk_trials_text" / "src" / "tests" / "examples.rt"
+TESTS = EXAMPLES.parent / "crates" / "dlk_tests_text" / "src" / "tests" / "examples.rt"
 
 
 def printed(name, text=None):

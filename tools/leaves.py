@@ -6,9 +6,10 @@
 The program's command `smt MODEL TERM` checks the term and prints its leaves as SMT-LIB text. Each goes to z3 or cvc5, whichever
 is on PATH, with --both to both, for at most N seconds. A line a leaf is printed as it is answered:
 
-    leaf 1: valid                   the solver answers that it can't be false
+    leaf 1: valid                   the solver answers that it can't be false; with --both each of them does
     leaf 2: false at x=1, v=2       it is false there (`1.41..` is cut off): an assumption is missing in the model
     leaf 3: unknown                 the solver gives up, or its time is over
+    leaf 3: unknown, for z3 says valid, cvc5 says unknown       with --both, where they don't say the same
     leaf 4: valid, with ^1 for ^(2-1)       a power that differentiation leaves: the solver was asked with the exponent computed
     leaf 5: power                   it has no SMT-LIB text: a power has another exponent than 1 to 16, so multiply it out
 
@@ -25,10 +26,12 @@ import shutil
 import subprocess
 import sys
 import tempfile
+from concurrent.futures import ThreadPoolExecutor
 from fractions import Fraction
 from pathlib import Path
 
-PROGRAM = Path(__file__).resolve().parent.parent / "crates" / "dlk" / "out" / "dlk"
+from proving import Refused, answer, complaint_of, ended, has_report, one_line, printed_report, program_of, seconds, split_sequent
+
 SOLVERS = {
     "z3": lambda seconds: ["z3", "-in", f"-T:{seconds}", "pp.decimal=true"],
     "cvc5": lambda seconds: ["cvc5", "--lang=smt2", "--produce-models", f"--tlimit={1000 * seconds}"],
@@ -38,23 +41,15 @@ NUMBERS = re.compile(r"[0-9.+\-*/() ]+")
 LONG = 20  # from so many leaves on, progress is told on standard error
 
 
-class Refused(Exception):
-    """Why no leaf could be asked, in one line."""
-
-
 def exported(program, model, term):
     """The script of the leaves, or the number of the first leaf that has none."""
-    if shutil.which(program) is None:
-        raise Refused(f"{program} isn't there: build it (rt run in crates/dlk), or name it with --dlk")
-    run = subprocess.run([program, "smt", model, term], capture_output=True, check=False)
-    text = run.stdout.decode("ascii", "replace")
-    power = re.fullmatch(r"refused: leaf (\d+): power\n", text)
+    said = answer(program, "smt", model, term)
+    power = re.fullmatch(r"refused: leaf (\d+): power\n", said.text)
     if power:
-        return text, int(power[1])
-    if run.returncode > 1:
-        why = text.split("\n", 1)[0] or run.stderr.decode("utf-8", "replace").strip() or "nothing is printed"
-        raise Refused(f"{Path(program).name} ends with status {run.returncode}: {why}")
-    return text, None
+        return said.text, int(power[1])
+    if not has_report(said):
+        raise Refused(complaint_of(said))
+    return said.text, None
 
 
 def computed(text):
@@ -124,14 +119,9 @@ def folded(text):
     return done + text[at:], list(dict.fromkeys(pairs))
 
 
-def formulas(text):
-    """The formulas of one side of a sequent: no comma stands in a formula of arithmetic."""
-    return [part.strip() for part in text.split(",") if part.strip()]
-
-
 def implication(sequent):
     """A sequent as one formula."""
-    left, right = (formulas(side) for side in sequent.split("==>"))
+    left, right = split_sequent(sequent)
     premise = "&".join(f"({it})" for it in left) or "true"
     conclusion = "|".join(f"({it})" for it in right) or "false"
     return f"({premise}) -> ({conclusion})"
@@ -139,8 +129,7 @@ def implication(sequent):
 
 def texts_of_leaves(program, model, term):
     """The leaves of a term as texts."""
-    run = subprocess.run([program, "report", model, term], capture_output=True, check=False)
-    return json.loads(run.stdout)["leaves"]
+    return printed_report(answer(program, "check", model, term)).leaves
 
 
 def exported_alone(program, text):
@@ -152,7 +141,10 @@ def exported_alone(program, text):
         model.write_text(f"{formula}\n")
         term.write_text(f"1 leaf ==> {formula}\ndone\n")
         script, power = exported(program, str(model), str(term))
-    return (None if power is not None else leaves_of(script)[0]), pairs
+    scripts = leaves_of(script)
+    if power is None and len(scripts) != 1:
+        raise Refused(f"the program writes {len(scripts)} texts for one leaf")
+    return (None if power is not None else scripts[0]), pairs
 
 
 def leaves_of(script):
@@ -168,10 +160,12 @@ def answer_to(solver, seconds, script):
         run = subprocess.run(
             SOLVERS[solver](seconds), input=question.encode(), capture_output=True, timeout=seconds + 5, check=False
         )
-    except subprocess.TimeoutExpired:
+    except (OSError, subprocess.TimeoutExpired):
         return "unknown", {}
     said = run.stdout.decode("utf-8", "replace")
     first = said.split("\n", 1)[0].strip()
+    if run.returncode < 0:  # a signal ended it
+        return "unknown", {}
     if first == "unsat":
         return "valid", {}
     if first == "sat":
@@ -180,12 +174,14 @@ def answer_to(solver, seconds, script):
 
 
 def expressions(text):
-    """The expressions of a text: a word, or a list of expressions."""
+    """The expressions of a text up to a bracket that closes none: a word, or a list of expressions."""
     stack = [[]]
     for token in re.findall(r"\|[^|]*\||[()]|[^\s()|]+", text):
         if token == "(":
             stack.append([])
         elif token == ")":
+            if len(stack) == 1:
+                break
             done = stack.pop()
             stack[-1].append(done)
         else:
@@ -216,13 +212,13 @@ def values_in(said):
     for answer in expressions(said)[1:]:
         for entry in answer if isinstance(answer, list) else []:
             is_value = isinstance(entry, list) and len(entry) == 5 and entry[0] == "define-fun" and entry[2] == []
-            if is_value and re.match(r"\|?[vf]\.", entry[1]):
-                values[name_of(entry[1])] = shown(entry[4])
+            if is_value and isinstance(entry[1], str) and re.match(r"\|?[vf]\.", entry[1]):
+                values[one_line(name_of(entry[1]))] = one_line(shown(entry[4]))
     return values
 
 
 def verdict(answers):
-    """What several solvers' answers come to: one that knows decides."""
+    """What several solvers' answers come to: one that knows decides, unless they contradict each other."""
     known = [answer for answer in answers if answer[0] != "unknown"]
     words = {word for word, _ in known}
     if len(words) > 1:
@@ -230,42 +226,82 @@ def verdict(answers):
     return known[0] if known else ("unknown", {})
 
 
+def verdict_of_both(answers):
+    """What the answers come to where all are wanted: a leaf is valid where each solver says so."""
+    word, values = verdict(answers)
+    agreed = word != "valid" or all(said == "valid" for said, _ in answers)
+    return (word, values) if agreed else ("unknown", {})
+
+
+def listed(values):
+    """Values as one reads them."""
+    return ", ".join(f"{name}={value}" for name, value in values.items())
+
+
 def line_of(answer):
-    """The line of a leaf."""
-    number, word, values = answer["leaf"], answer["answer"], answer["values"]
+    """The line of a leaf. Where the solvers don't say the same, it says what each says."""
+    number, word, values, by = answer["leaf"], answer["answer"], answer["values"], answer["by"]
     if word == "power":
         return f"leaf {number}: power ({WAY_OUT})"
-    where = ", ".join(f"{name}={value}" for name, value in values.items())
+    where = listed(values)
     instead = ", ".join(f"{new} for {old}" for old, new in answer["computed"])
-    return f"leaf {number}: {word}" + (f" at {where}" if where else "") + (f", with {instead}" if instead else "")
+    apart = ", ".join(f"{solver} says {said}" for solver, said in by.items()) if len(set(by.values())) > 1 else ""
+    parts = [f"leaf {number}: {word}" + (f" at {where}" if where else ""), apart and f"for {apart}", instead and f"with {instead}"]
+    return ", ".join(part for part in parts if part)
 
 
-def scripts_of(options):
+def scripts_of(program, model, term, texts=None):
     """The script of each leaf, and what was put for what in it. A leaf without a script has none."""
-    script, power = exported(options.dlk, options.model, options.term)
+    script, power = exported(program, model, term)
     if power is None:
-        return [(leaf, []) for leaf in leaves_of(script)]
-    return [exported_alone(options.dlk, text) for text in texts_of_leaves(options.dlk, options.model, options.term)]
+        scripts = leaves_of(script)
+        # A script without a leaf may also be that of a program that isn't dlk: then the report is asked, too.
+        wanted = len(texts if texts is not None else scripts or texts_of_leaves(program, model, term))
+        if len(scripts) != wanted:
+            raise Refused(f"the program lists {wanted} leaves, and writes {len(scripts)} for a solver")
+        return [(script, []) for script in scripts]
+    return [exported_alone(program, text) for text in texts or texts_of_leaves(program, model, term)]
 
 
-def asked(options, solvers):
+def said_of(number, script, pairs, solvers, seconds, judged):
+    """What the solvers, asked at the same time, say of a leaf."""
+    if script is None:
+        return {"leaf": number, "answer": "power", "values": {}, "computed": [], "by": {}, "values_by": {}}
+    with ThreadPoolExecutor(len(solvers)) as pool:
+        answers = list(pool.map(lambda solver: answer_to(solver, seconds, script), solvers))
+    word, values = judged(answers)
+    by = {solver: said for solver, (said, _) in zip(solvers, answers)}
+    values_by = {solver: found for solver, (_, found) in zip(solvers, answers) if found}
+    return {"leaf": number, "answer": word, "values": values, "computed": pairs, "by": by, "values_by": values_by}
+
+
+def asked(program, model, term, solvers, seconds, judged=verdict, texts=None):
     """Each leaf with its answer, as it comes."""
-    leaves = scripts_of(options)
-    for number, (leaf, pairs) in enumerate(leaves, 1):
-        if leaf is None:
-            yield {"leaf": number, "answer": "power", "values": {}, "computed": [], "by": {}}
-            continue
+    leaves = scripts_of(program, model, term, texts)
+    for number, (script, pairs) in enumerate(leaves, 1):
         if len(leaves) >= LONG:
             print(f"asking for leaf {number} of {len(leaves)}", file=sys.stderr, flush=True)
-        answers = {solver: answer_to(solver, options.seconds, leaf) for solver in solvers}
-        word, values = verdict(list(answers.values()))
-        by = {solver: said for solver, (said, _) in answers.items()}
-        yield {"leaf": number, "answer": word, "values": values, "computed": pairs, "by": by}
+        yield said_of(number, script, pairs, solvers, seconds, judged)
+
+
+def solvers_there():
+    """The solvers that are on PATH."""
+    return [solver for solver in SOLVERS if shutil.which(solver)]
+
+
+def version_of(solver):
+    """The version that a solver tells of itself."""
+    try:
+        run = subprocess.run([solver, "--version"], capture_output=True, timeout=10, check=False, stdin=subprocess.DEVNULL)
+    except (OSError, subprocess.TimeoutExpired):
+        return ""
+    found = re.search(r"\d+(\.\d+)+", run.stdout.decode("utf-8", "replace"))
+    return found[0] if found else ""
 
 
 def solvers_for(both):
     """The solvers to ask."""
-    there = [solver for solver in SOLVERS if shutil.which(solver)]
+    there = solvers_there()
     if not there:
         raise Refused("no solver is there: install z3 or cvc5")
     if both and len(there) < len(SOLVERS):
@@ -280,29 +316,27 @@ def options_of(words):
     parser.add_argument("model")
     parser.add_argument("term")
     parser.add_argument("--both", action="store_true", help="ask z3 and cvc5")
-    parser.add_argument("--seconds", type=int, default=20, metavar="N", help="for each leaf and solver (20)")
+    parser.add_argument("--seconds", type=seconds, default=20, metavar="N", help="for each leaf and solver (20)")
     parser.add_argument("--json", action="store_true", help="print one object")
-    parser.add_argument("--dlk", default=str(PROGRAM), metavar="PROGRAM", help="the program (that of this checkout)")
+    parser.add_argument("--dlk", metavar="PROGRAM", help="the program (that of this checkout)")
     return parser.parse_args(words)
 
 
-def main(words):
+def work(words):
     """Asks, prints, and gives the exit status."""
     options = options_of(words)
+    program, solvers = program_of(options.dlk), solvers_for(options.both)
+    judged = verdict_of_both if options.both else verdict
     told = []
-    try:
-        for answer in asked(options, solvers_for(options.both)):
-            told.append(answer)
-            if not options.json:
-                print(line_of(answer), flush=True)
-    except Refused as why:
-        print(f"leaves.py: {why}", file=sys.stderr)
-        return 2
-    closed = all(answer["answer"] == "valid" for answer in told)
+    for leaf in asked(program, options.model, options.term, solvers, options.seconds, judged):
+        told.append(leaf)
+        if not options.json:
+            print(line_of(leaf), flush=True)
+    all_valid = all(leaf["answer"] == "valid" for leaf in told)
     if options.json:
-        print(json.dumps({"all_valid": closed, "leaves": told}))
-    return 0 if closed else 1
+        print(json.dumps({"all_valid": all_valid, "leaves": told}))
+    return 0 if all_valid else 1
 
 
 if __name__ == "__main__":
-    sys.exit(main(sys.argv[1:]))
+    sys.exit(ended("leaves.py", work, sys.argv[1:]))

@@ -1,41 +1,56 @@
 #!/usr/bin/env python3
 """Draws the proof of a term as one page for a browser.
 
-    python3 tools/prooftree.py TERM [PAGE] [--depth N]     PAGE is TERM.html where it isn't given, and - is standard output
+    python3 tools/prooftree.py TERM [PAGE] [--model MODEL --strategy STRATEGY] [--depth N] [--dlk PROGRAM]
 
-The page has the tree of the last line: at its root what is proved, below each goal those that are left of it, and at the
-ends axioms, leaves and open goals. It stands for itself: one file, no network. Below depth N (12) the tree is folded.
+PAGE is TERM.html where it isn't given, and - is standard output. An input, or a file with something else than a page, isn't written
+over. It stands for itself: one file, no network. It has the tree of the last line: at its root what is proved, below each goal those that are left of it, and at the ends axioms, leaves and open goals. Below
+depth N (12) the tree is folded.
+
+With the model and the strategy that made the term, the lines of a word of the strategy are one node, which a click opens: for that the
+strategy is run again. Where it makes another term, or it can't be said which word made which line, the page has the lines, and
+standard error says so.
 
 Nothing is checked here: that is the work of `dlk check`. The shape follows from the lines alone: which line works on which
 goal, and how many premises its rule has. The texts of goals are those that the lines give, and what the rules for
 connectives, cuts and the structure of a sequent make of them; where that isn't enough, a formula is shown as dots.
 """
 import argparse
+import html
 import json
 import pathlib
 import re
 import sys
+from typing import NamedTuple
 
-# How many premises each rule has.
-PREMISES = {
-    "close": 0, "closeTrue": 0, "closeFalse": 0,
-    "notL": 1, "notR": 1, "andL": 1, "andR": 2, "orL": 2, "orR": 1, "implyL": 2, "implyR": 1, "equivL": 1, "equivR": 2,
-    "cut": 2, "cutL": 2, "cutR": 2,
-    "hideL": 1, "hideR": 1, "coHideR": 1, "exchangeL": 1, "exchangeR": 1,
-    "skolemL": 1, "skolemR": 1, "boundL": 1, "boundR": 1,
-    "equivifyR": 1, "commuteEquivL": 1, "commuteEquivR": 1,
-}
+from calculus import PREMISES
+from proving import Refused, are_same_file, ended, position, read_bytes, split_list, split_sequent
+from words import word_runs
+
+PAGES = pathlib.Path(__file__).resolve().parent / "pages"
+
 # The premise of each axiomatic rule: its symbols, and what stands between them.
 AXIOMATIC = {
     "G": ["p(||)"], "allgen": ["p(||)"], "mon": ["p(||)", "->", "q(||)"], "CE": ["p(||)", "<->", "q(||)"],
     "CT": ["f(||)", "=", "g(||)"], "CQ": ["f(||)", "=", "g(||)"],
 }
 UNKNOWN = "\u2026"
+FIRST_BYTES = b"<!doctype html>"  # of a page
 BINARY = ["<->", "->", "|", "&"]
 
 
-class Wrong(Exception):
+class Wrong(Refused):
     """A line from which no tree can be drawn."""
+
+
+class Told(NamedTuple):
+    """What is known of the words of the strategy: the text of each and where it stands, and which of them made a line."""
+
+    words: list
+    by_line: dict
+
+
+UNTOLD = Told([], {})
 
 
 class Line:
@@ -168,9 +183,9 @@ class Drawing:
     def end(self, line, goals):
         """The node with which the proof of a line without an earlier goal begins, and its sequent, where it is given."""
         if line.word == "start":
-            return goals[0], split_sequent(line.rest)
+            return goals[0], sequent_of(line.rest)
         if line.word == "leaf":
-            return Node("leaf", line.number, "leaf"), split_sequent(line.rest)
+            return Node("leaf", line.number, "leaf"), sequent_of(line.rest)
         if line.word == "axiom":
             return Node("axiom", line.number, f"axiom {line.rest}"), None
         if line.word == "rule":
@@ -249,35 +264,9 @@ def end_of_diamond(text, begin):
     return None
 
 
-def split_list(text):
-    """The formulas of a list with commas between."""
-    text = text.strip()
-    if not text:
-        return []
-    found, begin = [], 0
-    for at, _ in pieces_or_none(text, [","]):
-        found.append(text[begin:at].strip())
-        begin = at + 1
-    return [*found, text[begin:].strip()]
-
-
-def pieces_or_none(text, marks):
-    """As `pieces`, with nothing in the stead of a refusal. Commas and `==>` stand in no program outside brackets."""
-    found, depth = [], 0
-    for at, byte in enumerate(text):
-        depth += (byte in "([{") - (byte in ")]}")
-        if depth == 0:
-            found += [(at, mark) for mark in marks if text.startswith(mark, at)]
-    return found
-
-
-def split_sequent(text):
-    """The two sides of a sequent's text."""
-    text = re.sub(r"/\*.*?\*/|//.*", " ", text)
-    at, _ = pieces_or_none(text, ["==>"])[0] if pieces_or_none(text, ["==>"]) else (None, None)
-    if at is None:
-        return None
-    return split_list(text[:at]), split_list(text[at + 3:])
+def sequent_of(text):
+    """The two sides of the text of a sequent, which may have comments; none where it is no sequent."""
+    return split_sequent(re.sub(r"/\*.*?\*/|//.*", " ", text))
 
 
 def bare(text):
@@ -428,7 +417,11 @@ def fill_sequents(root):
         node = waiting.pop()
         if node.kind == "rule" and node.sequent and node.kids and not node.text.startswith("rule "):
             name, _, inside = node.text.partition("(")
-            for kid, sequent in zip(node.kids, premises(node.sequent, name, inside.removesuffix(")")) or []):
+            try:
+                found = premises(node.sequent, name, inside.removesuffix(")")) or []
+            except (ValueError, IndexError) as fault:
+                raise Wrong(f"line {node.line}: {node.text} names no place of its goal") from fault
+            for kid, sequent in zip(node.kids, found):
                 if kid.sequent is None:
                     kid.sequent = sequent
         if node.kind == "subst" and node.kids[0].kids and node.kids[0].text.startswith("rule "):
@@ -448,16 +441,33 @@ def shown(sequent):
 
 # The page
 
-def table(drawing):
-    """What the page's script is given: the texts of sequents, the nodes by their place in the tree, and the term's lines."""
+def part(name):
+    """The text of one of the files of which pages are made."""
+    return (PAGES / name).read_text(encoding="utf-8").rstrip("\n")
+
+
+def filled(template, **parts):
+    """A template with its marks, as `@NAME@`, replaced. Only the template's own marks are: none that a part has in it."""
+    return re.sub(r"@([A-Z]+)@", lambda mark: parts.get(mark[1].lower(), mark[0]), template)
+
+
+def script_data(value):
+    """A value as a page's script reads it."""
+    return json.dumps(value, separators=(",", ":")).replace("<", "\\u003c")
+
+
+def table(drawing, depth, told):
+    """What the page's script is given: the texts of sequents, the nodes by their place in the tree, the term's lines, and the
+    words of the strategy."""
     places = {id(node): place for place, node in enumerate(drawing.nodes)}
     texts, rows = {}, []
     for node in drawing.nodes:
         text = texts.setdefault(shown(node.sequent), len(texts))
         again = places.get(id(followed(node.again)), -1) if node.again else -1
-        rows.append([node.kind, node.line, text, node.made_by, node.merges, [places[id(kid)] for kid in node.kids], again])
+        kids = [places[id(kid)] for kid in node.kids]
+        rows.append([node.kind, node.line, text, node.made_by, node.merges, kids, again, told.by_line.get(node.line, -1)])
     lines = ["", *(line.text for line in drawing.lines[1:])]
-    return json.dumps({"texts": list(texts), "nodes": rows, "lines": lines}, separators=(",", ":")).replace("<", "\\u003c")
+    return script_data({"texts": list(texts), "nodes": rows, "lines": lines, "words": told.words, "depth": depth})
 
 
 def summary(drawing):
@@ -471,35 +481,89 @@ def summary(drawing):
     return f"{lines} lines{spare}, {len(kinds)} nodes, {leaves} leaf node{'s' if leaves != 1 else ''}; {state}"
 
 
-def page(drawing, name, depth):
+def tree(drawing, depth, told):
+    """The part of a page that has the tree: it wants the style `tree.css`."""
+    return filled(part("tree.html"), script=part("tree.js"), data=table(drawing, depth, told))
+
+
+def page(drawing, name, depth, told):
     """The text of the page."""
-    template = (pathlib.Path(__file__).resolve().parent / "prooftree.html").read_text(encoding="utf-8")
-    escape = {"&": "&amp;", "<": "&lt;", ">": "&gt;"}
-    name = "".join(escape.get(letter, letter) for letter in name)
-    for mark, text in (("@NAME@", name), ("@SUMMARY@", summary(drawing)), ("@DEPTH@", str(depth)), ("@DATA@", table(drawing))):
-        template = template.replace(mark, text, 1 if mark == "@DATA@" else -1)
-    return template
+    parts = {"name": html.escape(name), "summary": summary(drawing), "style": part("tree.css")}
+    return filled(part("prooftree.html"), **parts, tree=tree(drawing, depth, told))
 
 
-def main():
-    """Draws the term that the words name."""
-    words = argparse.ArgumentParser(description="Draws the proof of a term as one page for a browser.")
-    words.add_argument("term")
-    words.add_argument("page", nargs="?")
-    words.add_argument("--depth", type=int, default=12, help="below this depth the tree is folded at first (12)")
-    given = words.parse_args()
-    try:
-        drawing = Drawing(pathlib.Path(given.term).read_text(encoding="utf-8", errors="replace"))
-    except (OSError, Wrong) as fault:
-        print(f"prooftree.py: {fault}", file=sys.stderr)
-        return 2
-    text = page(drawing, given.term, given.depth)
-    if given.page == "-":
-        sys.stdout.write(text)
+def told_by(runs, strategy):
+    """The words that these runs are of. Those of one word at one place of the strategy are one."""
+    places, words, by_line = {}, [], {}
+    for run in runs:
+        if run.byte not in places:
+            places[run.byte] = len(words)
+            at = position(strategy, run.byte)
+            words.append([run.word, f"{at.line}:{at.column}"])
+        by_line.update(dict.fromkeys(range(run.first, run.last + 1), places[run.byte]))
+    return Told(words, by_line)
+
+
+def told_of(given):
+    """The words of the strategy that is given, if one is."""
+    if not given.strategy:
+        return UNTOLD
+    runs = word_runs(given.model, given.strategy, given.dlk, given.term)
+    if runs is None:
+        print("prooftree.py: it can't be said which word of the strategy made which line of this term", file=sys.stderr)
+        return UNTOLD
+    return told_by(runs, read_bytes(given.strategy))
+
+
+def refuse_bad_page(target, inputs):
+    """Refuses a PAGE that is an input, or has something else than a page in it."""
+    if target == "-":
+        return
+    if any(are_same_file(target, name) for name in inputs):
+        raise Refused(f"{target} is an input, which isn't written over")
+    path = pathlib.Path(target)
+    if path.is_file():
+        with path.open("rb") as file:
+            first = file.read(len(FIRST_BYTES))
+        if first not in (b"", FIRST_BYTES):
+            raise Refused(f"{target} holds something else than a page: it isn't written over; name another file, or remove it")
+
+
+def write_page(target, text):
+    """Writes a page where it is wanted: `-` is standard output."""
+    data = text.encode("utf-8", "backslashreplace")
+    if target == "-":
+        sys.stdout.buffer.write(data)
     else:
-        pathlib.Path(given.page or f"{given.term}.html").write_text(text, encoding="utf-8")
+        pathlib.Path(target).write_bytes(data)
+
+
+def options_of(words):
+    """The options of the command line."""
+    parser = argparse.ArgumentParser(description="Draws the proof of a term as one page for a browser.")
+    parser.add_argument("term")
+    parser.add_argument("page", nargs="?")
+    parser.add_argument("--model", help="the model of the term, for the words of a strategy")
+    parser.add_argument("--strategy", help="the strategy that made the term: the lines of a word become one node")
+    parser.add_argument("--depth", type=int, default=12, metavar="N", help="below this depth the lines are folded at first (12)")
+    parser.add_argument("--dlk", metavar="PROGRAM", help="the program (that of this checkout)")
+    given = parser.parse_args(words)
+    if bool(given.model) != bool(given.strategy):
+        parser.error("--model and --strategy go together")
+    return given
+
+
+def work(words):
+    """Draws the term that the words name."""
+    given = options_of(words)
+    target = given.page or f"{given.term}.html"
+    refuse_bad_page(target, [name for name in (given.term, given.model, given.strategy) if name])
+    drawing = Drawing(read_bytes(given.term).decode("utf-8", "replace"))
+    text = page(drawing, given.term, given.depth, told_of(given))
+    write_page(target, text)
     return 0
 
 
 if __name__ == "__main__":
-    sys.exit(main())
+    sys.setrecursionlimit(20_000)
+    sys.exit(ended("prooftree.py", work, sys.argv[1:]))
