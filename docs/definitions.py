@@ -1,18 +1,20 @@
 #!/usr/bin/env python3
-"""Prints docs/DEFINITIONS.md: each definition that the contract of `run` and its premises rest on, in reading order.
+"""Prints docs/DEFINITIONS.md: each definition that the contract of `run` and its premises rest on, in parts, in reading order.
 
     python3 docs/definitions.py > /tmp/DEFINITIONS.md    prints the document
     python3 docs/definitions.py --check                  exits 1 where docs/DEFINITIONS.md is not that document
 
-From the names that the contract of `run` and the clauses of the trait `Desk` cite it follows every word through the files of `specs/`. What is reached
-becomes the rows of the document, with the lines counted. `definitions.json` says the rest: the sections in reading
-order, the sources, and what a definition says where the comment above it doesn't do.
+It reads the clauses of `run` in the code, and follows every word that one of them cites through the files of `specs/`; so it does with the
+clauses of the trait `Desk`. What is reached becomes the rows of the document, with the lines counted. `definitions.json` says the rest:
+the parts, each with its clauses; the sections in reading order, a file of `specs/` each; the sources; and what a definition says where the
+comment above it doesn't do. A definition stands in the first part that needs it.
 
-It stops where a definition is reached that no section lists, and where one is listed out of reading order or not
-reached.
+It stops where a clause of `run` is in no part or in two, where a definition is reached that no section lists or that stands in a folder
+`proofs/`, and where one is listed out of reading order or not reached.
 """
 
 import argparse
+import functools
 import json
 import re
 import sys
@@ -27,6 +29,9 @@ DOCUMENT = ROOT / "docs" / "DEFINITIONS.md"
 # The toolchain's library: words from it are followed no further.
 LIBRARY = "std"
 
+# Where definitions stand. What stands in the other folder is for the prover alone.
+SPECS = "specs"
+
 # Paths with this front are types of the code.
 DECLARED = "declared."
 
@@ -40,7 +45,8 @@ CONSTANTS = "TheConstants"
 # The head of a module without a name begins so.
 MODULE_HEAD = "module _"
 
-IMPORT = re.compile(r"^(?:pub )?use Rattle\.(\w+)\.specs\.([\w.]+?)(?:\.\{(.*)\}| as (\S+))$", re.MULTILINE)
+IMPORT = re.compile(r"^\s*(?:pub |ghost )?use Rattle\.(\w+)\.(specs|proofs)\.(\S+?)(?:\.\{(.*)\}| as (\S+?));?$", re.MULTILINE)
+CLAUSE = re.compile(r"\bensures (\w+) \{")
 TYPE_NAME = re.compile(r"^\s*(?:abbrev )?(?:pub )?(?:data|record) (\S+)")
 FUNCTION_NAME = re.compile(r"^(?:abbrev|unfoldable) (?:pub )?(\S+) :")
 MUTUAL_FUNCTION_NAME = re.compile(r"^\s+pub (\S+) :")
@@ -49,9 +55,10 @@ WORD = re.compile(r"[^\s(){}\[\];,:]+")
 
 
 class Reference(NamedTuple):
-    """A name in a file of definitions or among the types of the code, by its path under `specs`."""
+    """A name in a file of definitions or among the types of the code, by its path under the folder."""
 
     crate: str
+    folder: str
     path: str
     name: str
 
@@ -172,17 +179,18 @@ def comment_above(paragraph):
 
 
 def imports_of(text):
-    """What a file imports: its names, and its names of whole modules with their crates and paths."""
+    """What a file imports: its names, and its names of whole modules with their crates, folders and paths."""
     imports, modules = {}, {}
-    for crate, path, names, alias in IMPORT.findall(text):
+    for crate, folder, path, names, alias in IMPORT.findall(text):
         if alias:
-            modules[alias] = (crate, path)
+            modules[alias] = (crate, folder, path)
         for item in re.split(r",\s*", names) if names else []:
             name, _, new_name = (part.strip() for part in item.partition(" as "))
-            imports[new_name or name] = Reference(crate, path, name)
+            imports[new_name or name] = Reference(crate, folder, path, name)
     return imports, modules
 
 
+@functools.cache
 def read_spec_file(crate, file):
     """Reads a file of definitions."""
     text = read(spec_path(crate, file))
@@ -210,6 +218,10 @@ class Walk:
         self.spec_files = {}
         self.references = {}
         self.rust_types = set()
+        self.follow(starts)
+
+    def follow(self, starts):
+        """Follows the words from these references on, too."""
         pending = list(starts)
         while pending:
             pending += self.visit(pending.pop())
@@ -222,6 +234,8 @@ class Walk:
 
     def visit(self, reference):
         """Notes what is referred to, and answers what that refers to in turn, where it is new."""
+        if reference.folder != SPECS:
+            stop(f"{reference.name} is reached, but stands in crates/{reference.crate}/{reference.folder}/{reference.file()}.antt")
         if reference.path.startswith((DECLARED, DERIVED)):
             self.rust_types.add((reference.crate, reference.rust_type()))
             return []
@@ -253,24 +267,108 @@ def reference_of(word, definition, spec_file):
     """
     for name in (word, f"◌{word}◌"):
         if name in spec_file.by_name:
-            return Reference(definition.crate, definition.file, name)
+            return Reference(definition.crate, SPECS, definition.file, name)
         if name in spec_file.imports:
             return spec_file.imports[name]
     module, _, name = word.partition(".")
     return Reference(*spec_file.modules[module], name) if name and module in spec_file.modules else None
 
 
-def starts_of(data):
-    """The names where the walk starts. A contract in the file that the start names must cite each."""
-    starts = []
-    for start in data["starts"]:
-        source = f"crates/{start['crate']}/src/{start['cited_in']}"
-        cited = set(re.findall(r"\w+", read(source)))
-        for name in start["names"]:
-            if name not in cited:
-                stop(f"{source} does not cite {name}, which definitions.json has among its starts")
-            starts.append(Reference(start["crate"], start["file"], name))
-    return starts
+# The contract of `run`, and the parts of the document
+
+
+def clauses_of(contract):
+    """The clauses of the contract by their names, each with the definitions that it cites."""
+    path = f"crates/{contract['crate']}/src/{contract['file']}"
+    text = read(path)
+    signature = text.partition(f"\npub fn {contract['function']}<")[2].partition("\n{\n")[0]
+    signature = re.sub(r"//.*", "", signature)
+    pieces = CLAUSE.split(signature)
+    if len(pieces) == 1:
+        stop(f"{path} has no contract of {contract['function']}")
+    imports, _ = imports_of(text)
+    return {name: cited_in(clause, imports) for name, clause in zip(pieces[1::2], pieces[2::2])}
+
+
+def cited_in(text, imports):
+    """The definitions that a text of code cites by imported names, outside the library."""
+    words = sorted(set(WORD.findall(text)) & set(imports))
+    return [imports[word] for word in words if imports[word].crate != LIBRARY]
+
+
+def premises_of(premises):
+    """The definitions in which the premises of the contract are said. A contract in the file that is named must cite each."""
+    source = f"crates/{premises['crate']}/src/{premises['cited_in']}"
+    cited = set(re.findall(r"\w+", read(source)))
+    for name in premises["names"]:
+        if name not in cited:
+            stop(f"{source} does not cite {name}, which definitions.json has among the premises")
+    return [Reference(premises["crate"], SPECS, premises["file"], name) for name in premises["names"]]
+
+
+def starts_of(part, data, clauses):
+    """The names where the walk of a part starts: what its clauses cite, definitions on the way from later clauses, and the premises."""
+    starts = [reference for name in part["clauses"] for reference in clauses[name]]
+    starts += [Reference(crate, SPECS, file, name) for crate, file, name in part.get("definitions", [])]
+    return starts + (premises_of(data["premises"]) if part.get("has_premises") else [])
+
+
+@dataclass(frozen=True)
+class Part:
+    """A part of the document: the definitions and types of the code that it needs first, and the walk from its own starts alone."""
+
+    letter: str
+    title: str
+    introduction: str
+    clauses: str
+    definitions: set
+    rust_types: set
+    alone: Walk
+
+
+def parts_of(data):
+    """The parts of the document, and the walk through all of them."""
+    clauses = clauses_of(data["contract"])
+    check_each_clause_once(clauses, data["parts"])
+    check_on_the_way(data["parts"], clauses)
+    walk, parts = Walk([]), []
+    for number, part in enumerate(data["parts"]):
+        starts = starts_of(part, data, clauses)
+        definitions, rust_types = set(walk.references), set(walk.rust_types)
+        walk.follow(starts)
+        definitions, rust_types = set(walk.references) - definitions, walk.rust_types - rust_types
+        letter = chr(ord("A") + number)
+        parts.append(Part(letter, part["title"], part["introduction"], shown_clauses(part), definitions, rust_types, Walk(starts)))
+    return parts, walk
+
+
+def check_each_clause_once(clauses, parts):
+    """Stops where a clause of the contract is in no part or in two, and where a part names one that isn't there."""
+    named = [name for part in parts for name in part["clauses"]]
+    for name in [*clauses, *named]:
+        if name not in clauses:
+            stop(f"a part has the clause {name}, which the contract hasn't")
+        if named.count(name) != 1:
+            stop(f"the clause {name} is in {named.count(name)} parts")
+
+
+def check_on_the_way(parts, clauses):
+    """Stops where a part starts at a definition that the clause which it names doesn't reach."""
+    for part in parts:
+        reached = Walk([reference for name in clauses_on_the_way(part) for reference in clauses[name]]).references
+        for crate, file, name in part.get("definitions", []):
+            if not any((one.crate, one.file) == (crate, file) and name in one.names for one in reached):
+                stop(f"the part {part['title']} starts at {name} of {spec_path(crate, file)}, which its clauses do not reach")
+
+
+def clauses_on_the_way(part):
+    """The clauses that a part speaks of: its own, and the later one of which it has a piece."""
+    return part["clauses"] + ([part["piece_of"]] if "piece_of" in part else [])
+
+
+def shown_clauses(part):
+    """The cell that names the clauses of a part."""
+    return ", ".join(f"`{name}`" for name in part["clauses"]) or f"a piece of `{part['piece_of']}`"
 
 
 # What definitions.json lists in a section
@@ -319,7 +417,7 @@ def check_all_reached(walk, sections):
         reached = {definition.names[0] for definition in walk.reached_in(section)}
         if not reached:
             stop(f"a section lists {place}, but nothing of it is reached")
-        listed = [*section.get("sayings", {}), *other_sources_of(section)]
+        listed = [*section.get("sayings", {}), *section.get("notation", []), *other_sources_of(section)]
         for name in listed:
             if name not in reached:
                 stop(f"the section of {place} lists {name}, which is not reached")
@@ -372,12 +470,14 @@ def type_lines(crate, rust_type):
 
 
 def saying_of(definition, section):
-    """What a definition says: the section's words, or else the comment above it."""
+    """What a definition says: the section's words, or else the comment above it, which is a text of a language where the section says so."""
     name = definition.names[0]
     saying = section.get("sayings", {}).get(name) or comment_saying(definition)
     if not saying:
         place = spec_path(definition.crate, definition.file)
         stop(f"{name} of {place} has no comment, and definitions.json does not say what it says")
+    if name in section.get("notation", []):
+        saying = f"`{definition.comment}`"
     return saying.replace("|", "\\|")
 
 
@@ -386,21 +486,64 @@ def comment_saying(definition):
     comment = definition.comment
     if comment.startswith(definition.names[0] + " "):
         comment = re.sub(r"^(\w+)( \w+)*: (?=\w)", "", comment)
-    return comment[:1].lower() + comment[1:].rstrip(".")
+    if re.match(r"[A-Z][a-z]*\b[^({']", comment):
+        comment = comment[:1].lower() + comment[1:]
+    return comment.removesuffix(".").rstrip(" ")
 
 
-def rows_of(section, walk):
-    """The rows of a section: what is defined, what it says, its source, and its lines."""
+def rows_of(section, part, walk, is_first):
+    """The rows that a part has of a section: what is defined, what it says, its source, and its lines.
+
+    Types without a name stand where the section stands first.
+    """
     rows = []
     for rust_type in types_of(section):
-        lines = type_lines(crate_of(rust_type, section), rust_type)
-        rows.append((type_label(rust_type), rust_type["says"], rust_type["source"], lines))
+        crate = crate_of(rust_type, section)
+        if (crate, rust_type["name"]) in part.rust_types if is_named(rust_type) else is_first:
+            rows.append((type_label(rust_type), rust_type["says"], rust_type["source"], type_lines(crate, rust_type)))
     other_sources = other_sources_of(section)
     for definition in walk.reached_in(section):
-        label = ", ".join(f"`{name}`" for name in definition.names)
-        source = other_sources.get(definition.names[0], section["source"])
-        rows.append((label, saying_of(definition, section), source, len(definition.code)))
+        if definition in part.definitions:
+            label = ", ".join(f"`{name}`" for name in definition.names)
+            source = other_sources.get(definition.names[0], section["source"])
+            rows.append((label, saying_of(definition, section), source, len(definition.code)))
     return rows
+
+
+def rows_by_part(parts, sections, walk):
+    """Of each part its sections with their rows and how many parts before had some of it, without those of which it has none."""
+    found, pieces = [], [0] * len(sections)
+    for part in parts:
+        of_part = []
+        for number, section in enumerate(sections):
+            rows = rows_of(section, part, walk, pieces[number] == 0 and has_definition(section, part, walk))
+            if rows:
+                of_part.append((section, rows, pieces[number]))
+                pieces[number] += 1
+        found.append(of_part)
+    return found
+
+
+def has_definition(section, part, walk):
+    """Whether a part has a definition of a section."""
+    return any(definition in part.definitions for definition in walk.reached_in(section))
+
+
+def lines_of(rows):
+    """How many lines the definitions of these rows have."""
+    return sum(row[-1] for row in rows)
+
+
+def all_lines_of(part, sections):
+    """How many lines all that a part rests on has: its own, and those of earlier parts that it needs."""
+    found = sum(len(definition.code) for definition in part.alone.references)
+    for section in sections:
+        reached = part.alone.reached_in(section)
+        for rust_type in types_of(section):
+            crate = crate_of(rust_type, section)
+            if (crate, rust_type["name"]) in part.alone.rust_types if is_named(rust_type) else reached:
+                found += type_lines(crate, rust_type)
+    return found
 
 
 def table(header, rows):
@@ -410,18 +553,58 @@ def table(header, rows):
     return [lines[0], "|" + "---|" * len(header), *lines[1:]]
 
 
-def section_lines(number, section, rows):
-    """The lines of a section, with an empty line in front."""
+def introduction_of(section, pieces):
+    """What is said of a section, of which so many parts before had some. One of which the first part has little says less there."""
+    if pieces == 0:
+        return section.get("first_introduction", section["introduction"])
+    return section["introduction"] if pieces == 1 and "first_introduction" in section else "What no earlier part needs of it."
+
+
+def section_lines(label, section, rows, pieces):
+    """The lines of a section in a part, with an empty line in front."""
     place = spec_path(section["crate"], section["file"])
-    heading = ["", f"## {number}. {section['title']}", "", f"`{place}`. {section['introduction']}", ""]
+    title = section["title"] + (", continued" if pieces else "")
+    heading = ["", f"### {label}. {title}", "", f"`{place}`. {introduction_of(section, pieces)}", ""]
     return heading + table(("Definition", "It says", "Source", "Lines"), rows)
 
 
-def front_lines(data, count, lines):
-    """The lines before the first section."""
+def part_lines(part, sections):
+    """The lines of a part, with an empty line in front."""
+    lines = ["", f"## {part.letter}. {part.title}", "", part.introduction]
+    for number, (section, rows, pieces) in enumerate(sections, 1):
+        lines += section_lines(f"{part.letter}{number}", section, rows, pieces)
+    return lines
+
+
+def overview(parts, found, sections):
+    """The table of the parts."""
+    rows = []
+    for part, of_part in zip(parts, found):
+        own = [row for _, section_rows, _ in of_part for row in section_rows]
+        link = f"[{part.letter}. {part.title}](#{anchor(part)})"
+        rows.append((link, part.clauses, len(own), lines_of(own), rests_on(part, parts), all_lines_of(part, sections)))
+    return table(("Part", "Clauses of `run`", "Definitions", "Lines", "It rests on parts", "Lines, with what it needs of these"), rows)
+
+
+def rests_on(part, parts):
+    """The letters of the other parts of which a part needs something."""
+    needed = set(part.alone.references)
+    return ", ".join(other.letter for other in parts if other.letter != part.letter and needed & other.definitions)
+
+
+def anchor(part):
+    """The name of a part's heading in links."""
+    return re.sub(r"[^\w -]", "", f"{part.letter}. {part.title}".lower()).replace(" ", "-")
+
+
+def front_lines(data, count, lines, parts_table):
+    """The lines before the first part."""
     front = ["# Definitions"]
-    for paragraph in data["before_sources"]:
+    for paragraph in data["before_parts"]:
         front += ["", paragraph.format(count=count, lines=lines)]
+    front += ["", *parts_table]
+    for paragraph in data["after_parts"]:
+        front += ["", paragraph]
     front += ["", *table(("Source", "It is"), data["sources"].items())]
     for paragraph in data["after_sources"]:
         front += ["", paragraph]
@@ -431,15 +614,15 @@ def front_lines(data, count, lines):
 def document(data):
     """The text of docs/DEFINITIONS.md."""
     sections = data["sections"]
-    walk = Walk(starts_of(data))
+    parts, walk = parts_of(data)
     check_all_listed(walk, sections)
     check_all_reached(walk, sections)
     check_reading_order(walk, sections)
-    rows_by_section = [rows_of(section, walk) for section in sections]
-    rows = [row for section_rows in rows_by_section for row in section_rows]
-    lines = front_lines(data, len(rows), sum(row[-1] for row in rows))
-    for number, section in enumerate(sections, 1):
-        lines += section_lines(number, section, rows_by_section[number - 1])
+    found = rows_by_part(parts, sections, walk)
+    rows = [row for of_part in found for _, section_rows, _ in of_part for row in section_rows]
+    lines = front_lines(data, len(rows), lines_of(rows), overview(parts, found, sections))
+    for part, of_part in zip(parts, found):
+        lines += part_lines(part, of_part)
     return "\n".join(lines) + "\n"
 
 

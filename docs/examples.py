@@ -1,14 +1,19 @@
 #!/usr/bin/env python3
-"""Compares the examples of README.md and docs/ with what the program prints.
+"""Compares the examples of README.md, docs/ and examples/ with what the program prints.
 
-    python3 docs/examples.py     exits 1 where an example differs, and 0 where the program isn't built
+    python3 docs/examples.py [DOCUMENT ...]     exits 1 where an example differs, and 0 where the program isn't built
+
+The program is the one that DLK names, or else the one that `./dlk` builds. Where documents are named, those alone are tried.
 
 An example is a block between fences with lines that begin with `$ `: commands, each with what it prints behind it. The
-commands of a document are run one after another. A folder of their own stands for /tmp, and the built program for ./dlk.
-A command is passed over where a tool behind a `|` isn't there, and one that asks a solver where there is none. The values
-that a solver finds aren't compared, since another one finds others.
+commands of a document are run one after another. A folder of their own stands for /tmp, and for ./dlk the program that the
+variable DLK of the environment names, or else the built one. A command is passed over where a tool behind a `|` isn't there,
+and one that asks a solver where there is none. The values that a solver finds aren't compared, since another one finds
+others, nor which solvers were asked.
 """
 
+import os
+import re
 import shlex
 import shutil
 import subprocess
@@ -17,10 +22,13 @@ import tempfile
 from pathlib import Path
 
 ROOT = Path(__file__).resolve().parent.parent
-PROGRAM = ROOT / "crates" / "dlk" / "out" / "dlk"
+BUILT = ROOT / "crates" / "dlk" / "out" / "dlk"
+PROGRAM = Path(shutil.which(os.environ.get("DLK") or BUILT) or BUILT).resolve()
+WORD = re.compile(r"(\$PWD/)?crates/dlk/out/dlk|\./dlk")
 PROMPT = "$ "
-ASKING = "tools/leaves.py"
+ASKING = ("tools/leaves.py", "tools/verdict.py", "tools/batch.py")
 SOLVERS = ("z3", "cvc5")
+ANSWER = re.compile(r"    (?:z3|cvc5): (\w+).*")
 
 
 def blocks(text):
@@ -52,21 +60,36 @@ def examples(text):
 
 def printed_by(command, folder):
     """The lines that a command prints."""
-    command = command.replace("/tmp/", f"{folder}/").replace("./dlk", shlex.quote(str(PROGRAM)))
-    run = subprocess.run(["bash", "-c", command], cwd=ROOT, capture_output=True, check=False)
-    return run.stdout.decode("utf-8", "replace").splitlines()
+    program = shlex.quote(str(PROGRAM))
+    command = WORD.sub(lambda found: program, command.replace("/tmp/", f"{folder}/"))
+    environment = {**os.environ, "DLK": str(PROGRAM)}
+    run = subprocess.run(["bash", "-c", command], cwd=ROOT, env=environment, capture_output=True, check=False)
+    return run.stdout.decode("utf-8", "replace").replace(f"{folder}/", "/tmp/").splitlines()
+
+
+def is_asking(command):
+    """Whether a command asks a solver."""
+    return any(tool in command for tool in ASKING)
 
 
 def has_tools(command):
     """Whether the tool behind each `|` is there, and a solver where one is asked. A bar between quotes pipes nothing."""
     words = shlex.split(command, posix=False)
-    solved = ASKING not in command or any(map(shutil.which, SOLVERS))
+    solved = not is_asking(command) or any(map(shutil.which, SOLVERS))
     return solved and all(shutil.which(tool) for bar, tool in zip(words, words[1:]) if bar == "|")
 
 
 def compared(command, lines):
-    """What is compared of the lines: of a solver's answers all but the values that it found."""
-    return [line.partition(" at ")[0] for line in lines] if ASKING in command else lines
+    """What is compared of the lines: of solvers' answers all but their names, and the values that they found."""
+    if not is_asking(command):
+        return lines
+    found = []
+    for line in lines:
+        answer = ANSWER.fullmatch(line)
+        told = answer[1] if answer else line.partition(" at ")[0].partition(". It rests on ")[0]
+        if not answer or found[-1:] != [told]:
+            found.append(told)
+    return found
 
 
 def differences(document):
@@ -78,13 +101,19 @@ def differences(document):
                 yield command, printed
 
 
+def pages():
+    """The pages of the repository."""
+    return [ROOT / "README.md", *sorted((ROOT / "docs").glob("*.md")), *sorted((ROOT / "examples").glob("**/README.md"))]
+
+
 def main():
     """Prints each example that differs, and exits 1 where there is one."""
     if not PROGRAM.is_file():
         print("examples.py: the program isn't built, so no example is tried")
         return
     wrong = False
-    for document in [ROOT / "README.md", *sorted((ROOT / "docs").glob("*.md"))]:
+    documents = [Path(name).resolve() for name in sys.argv[1:]] or pages()
+    for document in documents:
         for command, printed in differences(document):
             wrong = True
             print(f"{document.relative_to(ROOT)}: $ {command}", *printed, sep="\n")
