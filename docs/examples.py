@@ -7,8 +7,8 @@ The program is the one that DLK names, or else the one that `./dlk` builds. Wher
 
 An example is a block between fences with lines that begin with `$ `: commands, each with what it prints behind it. The
 commands of a document are run one after another. A folder of their own stands for /tmp, and for ./dlk the program that the
-variable DLK of the environment names, or else the built one. A command is passed over where a tool behind a `|` isn't there,
-and one that asks a solver where there is none. The values that a solver finds aren't compared, since another one finds
+variable DLK of the environment names, or else the built one. What a command prints isn't compared where a tool behind a `|` isn't
+there, or where it asks a solver and there is none. The values that a solver finds aren't compared, since another one finds
 others, nor which solvers were asked.
 """
 
@@ -96,8 +96,8 @@ def differences(document):
     """The commands of a document that print something else, each with what it prints."""
     with tempfile.TemporaryDirectory() as folder:
         for command, expected in examples(document.read_text(encoding="utf-8")):
-            printed = printed_by(command, folder) if has_tools(command) else expected
-            if compared(command, printed) != compared(command, expected):
+            printed = printed_by(command, folder)
+            if has_tools(command) and compared(command, printed) != compared(command, expected):
                 yield command, printed
 
 
