@@ -572,7 +572,7 @@ def part_lines(part, sections):
     """The lines of a part, with an empty line in front."""
     lines = ["", f"## {part.letter}. {part.title}", "", part.introduction]
     for number, (section, rows, pieces) in enumerate(sections, 1):
-        lines += section_lines(f"{part.letter}{number}", section, rows, pieces)
+        lines += section_lines(f"{part.letter}.{number}", section, rows, pieces)
     return lines
 
 
