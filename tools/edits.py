@@ -8,10 +8,11 @@ An edit is a file that makes the code of a crate wrong. Those that tell most sta
 others stand in `crates/NAME/edits/`. This tries both, of the named crates or of all that have any, with the files as they stand in this
 checkout. Who changes a crate tries its edits before the change lands.
 
-They are tried as the gate tries its own, by `rt ci NAME ..` in a copy of these crates and of those below them, in the folder that --room names
-or else in one below TMPDIR, --jobs of them at a time, or as many as there are processors. What the crates stand on is proved first. What was
-proved or tried on this machine before, here or by the gate, isn't done again while the files are the same: so a run that was broken off goes
-on where it was, crate by crate, when it is started again.
+They are tried as the gate tries its own, in a copy of these crates and of those below them, in the folder that --room names or else in one
+below TMPDIR, --jobs of them at a time, or as many as there are processors. What the crates stand on is proved first. Where the toolchain has
+`rt ci NAME ..`, that is what runs; where it has only a gate for all crates, `rt must-fail NAME` runs, crate by crate. What was proved or tried
+before isn't done again while the files are the same: so a run that was broken off goes on where it was, crate by crate, when it is started
+again.
 
 Behind the run a line an edit says what came of it:
 
@@ -27,6 +28,8 @@ takes a moment, and is to be done whenever code changed. The exit status is then
 """
 
 import argparse
+import hashlib
+import json
 import os
 import re
 import shutil
@@ -34,6 +37,7 @@ import subprocess
 import sys
 import tempfile
 from collections import Counter
+from concurrent.futures import ThreadPoolExecutor
 from pathlib import Path
 from typing import NamedTuple
 
@@ -117,14 +121,22 @@ def room_of(folder):
 def copy(room, names):
     """Puts the crates and what they stand on into the room as they are here, and the edits of the crates where the gate finds them."""
     every = with_those_below(names)
-    shutil.rmtree(room / "crates", ignore_errors=True)
+    for folder in sorted((room / "crates").glob("*")):
+        if folder.name not in every:
+            shutil.rmtree(folder)
     lines = [f"{name}: {' '.join(below)}\n" for name, below in crates().items() if name in every]
     (room / "crates.txt").write_text("".join(lines))
     shutil.copyfile(TOP / "HANDLES", room / "HANDLES")
     for name in every:
-        shutil.copytree(TOP / "crates" / name, room / "crates" / name, ignore=shutil.ignore_patterns("out", *FOLDERS))
+        copied = room / "crates" / name
+        for part in copied.glob("*") if copied.is_dir() else ():
+            # what was proved there serves again
+            if part.name != "out":
+                shutil.rmtree(part) if part.is_dir() else part.unlink()
+        shutil.copytree(TOP / "crates" / name, copied, ignore=shutil.ignore_patterns("out", *FOLDERS), dirs_exist_ok=True)
     for name in names:
         folder = room / "crates" / name / "must-fail"
+        shutil.rmtree(folder, ignore_errors=True)
         folder.mkdir()
         for edit, file in edits_of(name).items():
             shutil.copyfile(file, folder / f"{edit}.edit")
@@ -143,11 +155,15 @@ def told(crate, name, text):
     return Tried(crate, name, kind, "" if kind == "NOT REFUSED" else f": {text.partition(': ')[2]}")
 
 
-def tried(room, names, jobs):
-    """Tries the edits of the crates, so many at a time, tells on the way how far it is, and gives what came of each."""
-    how = {"cwd": room, "stdout": subprocess.PIPE, "stderr": subprocess.STDOUT, "text": True, "errors": "replace"}
+def how_in(folder, **more):
+    """How rt is run in a folder: with one stream for all that it says."""
+    return {"cwd": folder, "stdout": subprocess.PIPE, "stderr": subprocess.STDOUT, "stdin": subprocess.DEVNULL, "text": True, "errors": "replace", **more}
+
+
+def tried_by_gate(room, names, jobs):
+    """Tries the edits of the crates by the gate of these crates, so many at a time, and gives what came of each. It tells on the way how far it is."""
     found, last = {}, "rt said nothing"
-    with subprocess.Popen(["rt", "ci", *names], env={**os.environ, "RT_JOBS": str(jobs)}, **how) as run:
+    with subprocess.Popen(["rt", "ci", *names], env={**os.environ, "RT_JOBS": str(jobs)}, **how_in(room)) as run:
         for line in map(str.rstrip, run.stdout):
             said, last = SAID.match(line), line or last
             if said:
@@ -156,6 +172,54 @@ def tried(room, names, jobs):
                 print(line.removeprefix("rt: "), file=sys.stderr, flush=True)
     if not found:
         raise Refused(f"rt ci tried no edit: {last}")
+    return found
+
+
+def sum_of(room, name):
+    """A sum of all that the verdicts on a crate's edits come from: its files and edits, what it stands on, and the toolchain."""
+    whole = hashlib.sha256(subprocess.run(["rt", "version"], **how_in(room)).stdout.encode())
+    for crate in with_those_below([name]):
+        folder = room / "crates" / crate
+        for file in sorted(it for it in folder.rglob("*") if it.is_file() and it.relative_to(folder).parts[0] != "out"):
+            if crate == name or "must-fail" not in file.parts:
+                whole.update(str(file.relative_to(room)).encode() + b"\0" + file.read_bytes() + b"\0")
+    return whole.hexdigest()
+
+
+def tried_alone(room, name):
+    """Tries the edits of one crate, and gives what came of each: from a run before, where nothing has changed since."""
+    kept, key = room / f"{name}.tried", sum_of(room, name)
+    if kept.is_file():
+        before = json.loads(kept.read_text())
+        if before["of"] == key:
+            print(f"{name} is kept: its edits were tried before", file=sys.stderr, flush=True)
+            return [Tried(*it) for it in before["tried"]]
+    run = subprocess.run(["rt", "must-fail", name], **how_in(room))
+    every = [told(said[1], said[2], said[3]) for said in map(SAID.match, run.stdout.splitlines()) if said]
+    if not every:
+        last = run.stdout.rstrip().rpartition("\n")[2]
+        raise Refused(f"rt must-fail {name} tried no edit: {last or 'rt said nothing'}")
+    kept.write_text(json.dumps({"of": key, "tried": every}))
+    print(f"{name}: {len(every)} edits tried", file=sys.stderr, flush=True)
+    return every
+
+
+def tried_in_turn(room, names, jobs):
+    """Tries the edits of the crates one by one, so many crates at a time, once what they stand on is proved, and gives what came of each."""
+    for name in with_those_below(names):
+        if any(name in crates()[it] for it in with_those_below(names)):
+            made = subprocess.run(["rt", "lib", "--jobs", str(jobs)], **how_in(room / "crates" / name))
+            if made.returncode:
+                raise Refused(f"{name} is not proved: {made.stdout.rstrip().rpartition(chr(10))[2]}")
+            print(f"{name} proved", file=sys.stderr, flush=True)
+    with ThreadPoolExecutor(jobs) as lanes:
+        return {(it.crate, it.edit): it for every in lanes.map(lambda name: tried_alone(room, name), names) for it in every}
+
+
+def tried(room, names, jobs):
+    """Tries the edits of the crates, so many at a time, and gives what came of each, in their order."""
+    takes_names = re.search(r"\brt ci \[?NAME", subprocess.run(["rt", "help"], **how_in(room)).stdout)
+    found = (tried_by_gate if takes_names else tried_in_turn)(room, names, jobs)
     return [found.get((name, edit)) or Tried(name, edit, "not tried", ": rt said nothing of it") for name in names for edit in edits_of(name)]
 
 
