@@ -1,5 +1,5 @@
 //! What is kept of a node.
-ghost use Rattle.std.specs.Prelude.{◌≡◌, IfOk, IsTrue};
+ghost use Rattle.std.specs.Prelude.{◌≡◌, ◌≤◌, ◌^◌, IfOk, OnErr, IsTrue};
 ghost use Rattle.dlk_tree.specs.Table.{has_parts};
 ghost use Rattle.dlk_tree.specs.Occurs.{is_hole};
 ghost use Rattle.dlk_shared.specs.Kept.{dot_bit};
@@ -12,7 +12,8 @@ use dlk_vars::VarFault;
 
 /// A place in a table in four bytes. A table is full where its places need more, which counts as want of memory.
 pub fn narrow(n: usize) -> Result<u32, VarFault>
-    ensures { IfOk result (λ m. m ≡ n) }
+    ensures same { IfOk result (λ m. m ≡ n) }
+    ensures full { OnErr result (2 ^ 32 ≤ n) }
 {
     match u32::try_from(n) {
         Ok(m) => Ok(m),

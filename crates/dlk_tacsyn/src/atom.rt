@@ -1,5 +1,7 @@
 //! Atoms by their names and arguments.
-ghost use Rattle.std.specs.Prelude.{◌≡◌, IfOk, IfErr};
+ghost use Rattle.std.specs.Prelude.{◌≡◌, None, Err, IfOk, IfErr};
+ghost use Rattle.dlk_tacsyn.specs.declared.fault.TacSyntax.TheVariants.{UnknownAtom};
+ghost use Rattle.dlk_tacsyn.specs.Rows.{text_row_of};
 ghost use Rattle.dlk_tacsyn.specs.Faults.{IsTacSyntaxOf};
 ghost use Rattle.dlk_tacsyn.specs.Strategies.{Says, Fails, atom_of};
 ghost use Rattle.dlk_tacsyn.specs.Ties.{tactic_at, TacticIsKnown};
@@ -26,6 +28,7 @@ pub(crate) fn atom<S: Store>(
     ensures found { IfOk result (λ t. ByReading (λ read. atom_of read at name written ≡ Says (tactic_at (S.trees store.new) t))) }
     ensures known { IfOk result (TacticIsKnown (S.trees store.new)) }
     ensures fault { IfErr result (IsTacSyntaxOf (λ f. ByReading (λ read. atom_of read at name written ≡ Fails f))) }
+    ensures unknown { text_row_of name ≡ None → result ≡ Err (UnknownAtom at) }
     ensures grows { S.grows store.old store.new }
 {
     let Some(row) = text_row_of(&name) else {

@@ -1,5 +1,5 @@
 //! Tables of variables.
-ghost use Rattle.std.specs.Prelude.{◌≡◌, [], Some, IfOk, OnOk, OnErr};
+ghost use Rattle.std.specs.Prelude.{◌≡◌, [], Some, None, IfOk, OnOk, OnErr};
 ghost use Rattle.std.specs.Option.{option_map};
 ghost use Rattle.dlk_vars.specs.Tables.{number_of, numbered, IsTable, Grows};
 
@@ -51,6 +51,7 @@ impl VarTable {
         ensures number { IfOk result (λ n. number_of self.new v.now ≡ Some n.0) }
         ensures numbered { OnOk result (self.new ≡ numbered self.old v.now) }
         ensures unchanged { OnErr result (self.new ≡ self.old) }
+        ensures new { OnErr result (number_of self.old v.now ≡ None) }
         ensures grows { Grows self.old self.new }
         ensures table { IsTable self.new }
     {
