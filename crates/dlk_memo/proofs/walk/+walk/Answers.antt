@@ -57,7 +57,8 @@ walk-requires g t c κs within =
     let above =
     kid_above first ts c.args.done.now c.open.new.done c.loop-kid.done c.args.id c.in_ok-op.ensures.opened.put c.loop-kid.invariant.opens m.kept
     c.requires.known c.requires.right.known (size (tree ts (get_or c.deref-kid-items.result.now c.loop-kid.kid-index d))) less c.requires.above in
-    (omega (arith, less), (search rules, (search rules, (search rules, (ready, (next_known m d c.loop-kid-test.true, (right, (above, c.loop-kid.invariant.spends.once))))))))
+    let once = c.loop-kid.invariant.spends.once in
+    (omega (arith, less), (search rules, (search rules, (search rules, (ready, (next_known m d c.loop-kid-test.true, (right, (above, once))))))))
 
 pub returns-in_err-made-clause-none : goal.returns-in_err-made-clause-none
 returns-in_err-made-clause-none g t c e =
