@@ -1,5 +1,5 @@
 -- A table whose ids are of subtrees has at most as many entries as there are unlike subtrees.
-use Rattle.std.proofs.Common.{◌≡◌, ℕ, ◌+◌, ◌*◌, ◌<◌, ◌≤◌, ◌⊎◌, inl, inr, Bool, true, false, Option, None, Some, List, [], length, get_or, refl, sym, ap, subst, ◌∙◌, true≢false, arith, Contains, is_some}
+use Rattle.std.proofs.Common.{◌≡◌, ℕ, ◌+◌, ◌*◌, ◌<◌, ◌≤◌, ◌⊎◌, inl, inr, Bool, Option, None, Some, List, [], length, get_or, refl, sym, ap, subst, ◌∙◌, true≢false, arith, Contains, is_some}
 use Rattle.std.specs.Prelude.{IsSome, IsTrue}
 use Rattle.std.specs.Map.{keys_of}
 use Rattle.std.proofs.Math.Nat.{mul-le-mul_right}
@@ -14,7 +14,7 @@ use Rattle.dlk_store.specs.Stores.{IsId, tree, HasOneId}
 use Rattle.dlk_subst.specs.Counts.{subtrees, distinct_count}
 use Rattle.dlk_subst.proofs.Counted.{ids_few}
 use Rattle.dlk_subst.specs.Looked.{same_id}
-use Rattle.dlk_memo.specs.Tables.{Table, found, HasEachOnce, Spends}
+use Rattle.dlk_memo.specs.Tables.{Table, found, Spends}
 
 -- a table that was empty before a tree was walked
 module _ (unique : Bool) (price : ℕ) (root : Tree) (trees : List Tree) (old table : Table) (s0 s1 : ℕ) (empty : old ≡ [])

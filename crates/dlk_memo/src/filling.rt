@@ -39,6 +39,10 @@ impl Rule for Filling {
 
     ghost sort_kept = { λ r trees t u ready well made. ready.keeps_sort t u well made };
 
+    fn may_change<S: Store>(&self, store: &S, id: Id) -> bool {
+        store.has_hole(id)
+    }
+
     fn at<S: Store, L: Ledger>(
         &self,
         alloc: Global,

@@ -1,6 +1,8 @@
 //! Arguments in place of argument dots.
-ghost use Rattle.std.specs.Prelude.{List};
+ghost use Rattle.std.specs.Prelude.{◌≡◌, List};
 ghost use Rattle.dlk_tree.specs.Trees.{Tree};
+ghost use Rattle.dlk_tree.specs.Occurs.{has_dots};
+ghost use Rattle.dlk_store.specs.Stores.{IsId, tree};
 ghost use Rattle.dlk_calculus.specs.Plug.{Plug, PlugAll, PlugAt};
 ghost use Rattle.dlk_subst.specs.Results.{args_at};
 ghost use Rattle.dlk_subst.specs.Rows.{plugging};
@@ -18,6 +20,19 @@ use std::sync::ledger::Ledger;
 #[derive(Drop)]
 pub(crate) struct Plugging<'a> {
     pub args: &'a [Id],
+}
+
+/// Whether an argument dot stands in the tree.
+fn has_dots<S: Store>(store: &S, id: Id) -> bool
+    requires { IsId (S.trees store.now) id }
+    ensures { result ≡ has_dots (tree (S.trees store.now) id) }
+{
+    for n in 0..8 {
+        if store.has_dot(id, n) {
+            return true;
+        }
+    }
+    false
 }
 
 impl Rule for Plugging<'_> {
@@ -42,6 +57,10 @@ impl Rule for Plugging<'_> {
     ghost job_kept = { λ r old new keeps ready. args_same keeps r.args.now ready };
 
     ghost sort_kept = { λ r trees t u ready well made. ready.keeps_sort t u well made };
+
+    fn may_change<S: Store>(&self, store: &S, id: Id) -> bool {
+        has_dots(store, id)
+    }
 
     fn at<S: Store, L: Ledger>(
         &self,

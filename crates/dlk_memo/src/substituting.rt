@@ -1,7 +1,8 @@
 //! Replacements in place of symbols.
-ghost use Rattle.std.specs.Prelude.{◌≡◌, ◌+◌, ◌≤◌, ◌<◌, IsTrue, IfOk, All, Err, List, length};
+ghost use Rattle.std.specs.Prelude.{◌≡◌, ◌+◌, ◌≤◌, ◌<◌, IsTrue, IfOk, All, Err, List, length, false};
 ghost use Rattle.dlk_tree.specs.Trees.{sort};
 ghost use Rattle.dlk_tree.specs.Statics.{all};
+ghost use Rattle.dlk_tree.specs.Occurs.{occurs};
 ghost use Rattle.dlk_tree.specs.declared.op.Sort.TheVariants.{Formula};
 ghost use Rattle.dlk_store.specs.Stores.{IsId, tree, kid_trees};
 ghost use Rattle.dlk_calculus.specs.Kids.{first};
@@ -30,6 +31,27 @@ use std::sync::ledger::Ledger;
 #[derive(Drop)]
 pub(crate) struct Substituting<'a> {
     pub pairs: &'a [Pair],
+}
+
+/// So many pairs are asked for at most, and in trees of so many nodes at least: then asking costs little beside a walk.
+const MOST_ASKED: usize = 4;
+
+const LEAST_SIZE: u32 = 16;
+
+/// Whether the symbol of a pair may occur in the tree.
+fn may_occur<S: Store>(store: &S, pairs: &[Pair], id: Id) -> bool
+    requires { IsId (S.trees store.now) id }
+    ensures { result ≡ false → All (λ (p : Pair). occurs p.sym (tree (S.trees store.now) id) ≡ false) pairs.now }
+{
+    if pairs.len() > MOST_ASKED || store.size(id) < LEAST_SIZE {
+        return true;
+    }
+    for pair in pairs {
+        if store.mentions(id, &pair.sym) {
+            return true;
+        }
+    }
+    false
 }
 
 /// The replacement of a predicational, with the new kid in place of each `_`, where every variable is admissible for the kids of
@@ -102,6 +124,10 @@ impl Rule for Substituting<'_> {
     ghost job_kept = { λ r old new keeps ready. pairs_same keeps r.pairs.now ready };
 
     ghost sort_kept = { λ r trees t u ready well made. ready.keeps_sort t u well made };
+
+    fn may_change<S: Store>(&self, store: &S, id: Id) -> bool {
+        may_occur(store, self.pairs, id)
+    }
 
     fn at<S: Store, L: Ledger>(
         &self,

@@ -72,7 +72,8 @@ fn conclude<S: Store, L: Ledger, R: Rule>(
     Ok(made)
 }
 
-/// What the rule makes of the tree, by a table of what it made before.
+/// What the rule makes of the tree, by a table of what it made before. A tree that it doesn't change is neither looked at nor put
+/// into the table.
 fn walk<S: Store, L: Ledger, R: Rule>(
     alloc: Global,
     store: &mut S,
@@ -85,6 +86,7 @@ fn walk<S: Store, L: Ledger, R: Rule>(
     requires known { IsId (S.trees store.old) id }
     requires right { IsRight (R.Makes (R.job rule.now (S.trees store.old))) (S.trees store.old) done.old }
     requires above { IsOpenAbove (S.trees store.old) (size (tree (S.trees store.old) id)) done.old }
+    requires once { HasEachOnce done.old }
     ensures ok { IfOk result (IsResult (R.Makes (R.job rule.now (S.trees store.old)) (tree (S.trees store.old) id)) (S.trees store.new)) }
     ensures none { result ≡ Err NotAdmissible → HasNone (R.Makes (R.job rule.now (S.trees store.old)) (tree (S.trees store.old) id)) }
     ensures grows { S.grows store.old store.new }
@@ -92,6 +94,9 @@ fn walk<S: Store, L: Ledger, R: Rule>(
     ensures opens { OnOk result (OpensNone done.old done.new) }
     ensures spends { Spends S.unique (1 + R.looks (R.job rule.now (S.trees store.old))) (tree (S.trees store.old) id) (S.trees store.new) done.old done.new steps.old steps.new }
 {
+    if !rule.may_change(store, id) {
+        return Ok(id);
+    }
     if let Some(known) = done.find(id) {
         return known.ok_or(ApplyFault::NotAdmissible);
     }

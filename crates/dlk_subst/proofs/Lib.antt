@@ -9,3 +9,4 @@ pub mod Looked
 pub mod Splicing
 pub mod Systems
 pub mod Effects
+pub mod Unchanged

@@ -34,14 +34,14 @@ items_append [] ns = refl
 items_append (Equation x side ∷ ms) ns = ap (λ items. Item.Evolve x ∷ items) (items_append ms ns)
 items_append (Constant s ∷ ms) ns = ap (λ items. Item.Const s ∷ items) (items_append ms ns)
 
-items_members : (items : List OdeItem) (kids : Forest) → items_of (members items kids) ≡ items
+pub items_members : (items : List OdeItem) (kids : Forest) → items_of (members items kids) ≡ items
 items_members [] kids = refl
 items_members (Item.Evolve x ∷ items) no_kids = ap (λ more. Item.Evolve x ∷ more) (items_members items no_kids)
 items_members (Item.Evolve x ∷ items) (kid t ts) = ap (λ more. Item.Evolve x ∷ more) (items_members items ts)
 items_members (Item.Const s ∷ items) kids = ap (λ more. Item.Const s ∷ more) (items_members items kids)
 
 -- a system has a domain
-some_kid : (n : ℕ) → [] ≡ replicate n Term ++ Formula ∷ [] → ⊥
+pub some_kid : (n : ℕ) → [] ≡ replicate n Term ++ Formula ∷ [] → ⊥
 some_kid zero e = cc
 some_kid (suc n) e = cc
 

@@ -1,6 +1,7 @@
 //! What a uniform substitution makes of one node, over any store: for walks of each kind.
 #![tactic(auto)]
 
+pub mod laws;
 mod pairs;
 mod plug;
 mod scope;

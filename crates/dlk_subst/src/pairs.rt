@@ -81,13 +81,17 @@ fn is_safe<S: Store>(store: &S, pair: &Pair, scope: &Scope, kids: &[Id]) -> bool
     !occurs || is_apart(store, scope, pair.by)
 }
 
-/// Whether no variable of the scope is free in the replacement of a function or predicate that occurs in the kids.
+/// Whether no variable of the scope is free in the replacement of a function or predicate that occurs in the kids. Where the scope
+/// is nothing, no pair is looked at.
 pub fn is_admissible<S: Store>(store: &S, pairs: &[Pair], scope: &Scope, kids: &[Id]) -> bool
     requires pairs { AreKnownPairs (S.trees store.now) pairs.now }
     requires scope { IsKnownScope (S.trees store.now) scope.now }
     requires kids { All (IsId (S.trees store.now)) kids.now }
     ensures { IsTrue result ↔ IsAdmissible (pairs_at (S.trees store.now) pairs.now) (scope_set (S.trees store.now) scope.now) (kid_trees (S.trees store.now) kids.now) }
 {
+    if matches!(scope, Scope::Nothing) {
+        return true;
+    }
     for pair in pairs {
         if !is_safe(store, pair, scope, kids) {
             return false;

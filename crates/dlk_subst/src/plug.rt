@@ -39,7 +39,8 @@ fn is_safe<S: Store>(store: &S, arg: Id, n: u8, scope: &Scope, kids: &[Id]) -> b
     !any_has_dot(store, kids, n) || is_apart(store, scope, arg)
 }
 
-/// Whether no variable of the scope is free in an argument whose dot stands in the kids.
+/// Whether no variable of the scope is free in an argument whose dot stands in the kids. Where the scope is nothing, no argument is
+/// looked at.
 fn is_clear<S: Store>(store: &S, args: &[Id], scope: &Scope, kids: &[Id]) -> bool
     requires few { length args.now ≤ 8 }
     requires args { All (IsId (S.trees store.now)) args.now }
@@ -47,6 +48,9 @@ fn is_clear<S: Store>(store: &S, args: &[Id], scope: &Scope, kids: &[Id]) -> boo
     requires kids { All (IsId (S.trees store.now)) kids.now }
     ensures { IsTrue result ↔ IsClear (args_at (S.trees store.now) args.now) (scope_set (S.trees store.now) scope.now) (kid_trees (S.trees store.now) kids.now) }
 {
+    if matches!(scope, Scope::Nothing) {
+        return true;
+    }
     let mut n: u8 = 0;
     for arg in args {
         if !is_safe(store, *arg, n, scope, kids) {

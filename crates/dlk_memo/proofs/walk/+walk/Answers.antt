@@ -13,6 +13,12 @@ use Rattle.dlk_memo.proofs.Tables.{right_begun, right_kept, right_concluded, ope
 use Rattle.dlk_memo.proofs.Tables.{spends_opened, spends_failed, spends_finished, kid_spent, kid_failed}
 use Rattle.dlk_memo.proofs.walk.+walk.Goals as goal
 
+pub returns-then-not-may_change-clause-spends : goal.returns-then-not-may_change-clause-spends
+returns-then-not-may_change-clause-spends g t c =
+    let first = g.S.Store.trees c.args.store.now in
+    spends_none g.S.Store.unique (1 + g.R.Rule.looks (g.R.Rule.job c.args.rule.now first)) (tree first c.args.id) first c.args.done.now c.args.steps.now
+    c.requires.once
+
 pub returns-in_err-op-clause-spends : goal.returns-in_err-op-clause-spends
 returns-in_err-op-clause-spends g t c =
     let first = g.S.Store.trees c.args.store.now in
@@ -51,7 +57,8 @@ walk-requires g t c κs within =
     let above =
     kid_above first ts c.args.done.now c.open.new.done c.loop-kid.done c.args.id c.in_ok-op.ensures.opened.put c.loop-kid.invariant.opens m.kept
     c.requires.known c.requires.right.known (size (tree ts (get_or c.deref-kid-items.result.now c.loop-kid.kid-index d))) less c.requires.above in
-    (omega (arith, less), (search rules, (search rules, (search rules, (ready, (next_known m d c.loop-kid-test.true, (right, above)))))))
+    let once = c.loop-kid.invariant.spends.once in
+    (omega (arith, less), (search rules, (search rules, (search rules, (ready, (next_known m d c.loop-kid-test.true, (right, (above, once))))))))
 
 pub returns-in_err-made-clause-none : goal.returns-in_err-made-clause-none
 returns-in_err-made-clause-none g t c e =

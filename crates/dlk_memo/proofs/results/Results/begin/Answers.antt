@@ -1,5 +1,3 @@
-use Rattle.std.proofs.Common.{arith, is_some, cond, ap}
-use Rattle.dlk_memo.specs.Tables.{found}
 use Rattle.dlk_memo.proofs.Tables.{one_more}
 use Rattle.dlk_memo.proofs.results.Results.begin.Goals as goal
 

@@ -1,4 +1,4 @@
-use Rattle.std.proofs.Common.{◌∙◌, sym, ap, subst, refl, Option, Some}
+use Rattle.std.proofs.Common.{◌∙◌, sym, ap, subst, Option, Some}
 use Rattle.std.specs.Prelude.{OnOk}
 use Rattle.dlk_tree.specs.Trees.{Tree}
 use Rattle.dlk_store.specs.Stores.{tree}
