@@ -14,7 +14,7 @@ returns-clause-known c =
     let stored = c.in_ok-n.ensures.stored in
     let sets = c.insert_full.new.self.keys in
     mapped (λ m. m ≡ c.in_ok-n.n) (λ m. m < length sets) c.narrow.result
-    (λ m e. omega (arith, e, slice_get_within sets c.in_ok-n.n stored.0 stored.1)) c.narrow.ensures
+    (λ m e. omega (arith, e, slice_get_within sets c.in_ok-n.n stored.0 stored.1)) c.narrow.ensures.same
 
 pub returns-clause-row : goal.returns-clause-row
 returns-clause-row c =
@@ -23,7 +23,7 @@ returns-clause-row c =
     let row : row_at sets c.in_ok-n.n ≡ c.args.set =
     get_or_from_slice_get sets c.in_ok-n.n stored.0 (record { words = []; others = false }) stored.1
     ∙ sym ((row_decides c.args.set stored.0).0 stored.2) in
-    mapped (λ m. m ≡ c.in_ok-n.n) (λ m. row_at sets m ≡ c.args.set) c.narrow.result (λ m e. ap (row_at sets) e ∙ row) c.narrow.ensures
+    mapped (λ m. m ≡ c.in_ok-n.n) (λ m. row_at sets m ≡ c.args.set) c.narrow.result (λ m e. ap (row_at sets) e ∙ row) c.narrow.ensures.same
 
 pub returns-clause-keeps : goal.returns-clause-keeps
 returns-clause-keeps c =

@@ -26,12 +26,12 @@ pub returns-in-Ok-clause-op : goal.returns-in-Ok-clause-op
 returns-in-Ok-clause-op c =
     let stored = c.in_ok-n.ensures.stored in
     let ops = c.insert_full.new.self.keys in
-    ap (op_at ops) c.in-Ok.ensures ∙ get_or_from_slice_get ops c.in_ok-n.n stored.0 True stored.1 ∙ sym ((op_decides c.args.op stored.0).0 stored.2)
+    ap (op_at ops) c.in-Ok.ensures.same ∙ get_or_from_slice_get ops c.in_ok-n.n stored.0 True stored.1 ∙ sym ((op_decides c.args.op stored.0).0 stored.2)
 
 pub returns-in-Ok-clause-known : goal.returns-in-Ok-clause-known
 returns-in-Ok-clause-known c =
     let stored = c.in_ok-n.ensures.stored in
-    omega (arith, c.in-Ok.ensures, slice_get_within c.insert_full.new.self.keys c.in_ok-n.n stored.0 stored.1)
+    omega (arith, c.in-Ok.ensures.same, slice_get_within c.insert_full.new.self.keys c.in_ok-n.n stored.0 stored.1)
 
 pub returns-in-Ok-clause-trees : goal.returns-in-Ok-clause-trees
 returns-in-Ok-clause-trees c =
