@@ -1,0 +1,23 @@
+//! Node lines: the trees of a term file by the numbers of their nodes.
+#![tactic(auto)]
+
+mod adding;
+mod calls;
+mod details;
+mod fault;
+mod items;
+pub mod laws;
+mod literals;
+mod node;
+mod number;
+mod numbers;
+mod parts;
+mod table;
+mod words;
+mod writing;
+
+pub use adding::add_new;
+pub use fault::NodeFault;
+pub use node::read_node_line;
+pub use table::NodeTable;
+pub use writing::append_node;

@@ -1,0 +1,58 @@
+//! Items by their numbers in a text.
+ghost use Rattle.std.specs.Prelude.{◌≡◌, IfOk, IfErr, MatchOption, List};
+ghost use Rattle.dlk_store.specs.declared.Id.{Id as TreeId};
+ghost use Rattle.dlk_nodes.specs.Nodes.{Names, NamesEach};
+ghost use Rattle.dlk_nodes.specs.Fields.{parts_of, Each};
+ghost use Rattle.dlk_nodes.specs.Faults.{IsNodeFaultOf};
+
+use crate::fault::NodeFault;
+use crate::number::number;
+use crate::parts::cut_at;
+use crate::table::NodeTable;
+use dlk_store::Id;
+use std::alloc::Global;
+
+/// The node that the text is the number of.
+pub(crate) fn node_numbered(text: &[u8], table: &NodeTable) -> Option<Id>
+    ensures { MatchOption result ((id : TreeId) → ¬ Names table.now text.now id) (Names table.now text.now) }
+{
+    let number = number(text)?;
+    table.node(number)
+}
+
+/// The nodes that the fields of a text are the numbers of.
+fn nodes_numbered(alloc: Global, text: &[u8], table: &NodeTable) -> Result<Vec<Id>, NodeFault>
+    ensures found { IfOk result (λ ids. Each (Names table.now) (parts_of 32 text.now) ids.items) }
+    ensures fault { IfErr result (IsNodeFaultOf ((ids : List TreeId) → ¬ Each (Names table.now) (parts_of 32 text.now) ids)) }
+{
+    let mut ids = Vec::new(alloc);
+    let mut left = text;
+    while let Some((field, behind)) = cut_at(left, b' ') {
+        let Some(id) = node_numbered(field, table) else {
+            return Err(NodeFault::Malformed);
+        };
+        ids.push(id)?;
+        left = behind;
+    }
+    let Some(id) = node_numbered(left, table) else {
+        return Err(NodeFault::Malformed);
+    };
+    ids.push(id)?;
+    Ok(ids)
+}
+
+/// The nodes whose numbers stand in the text, each behind a space.
+pub(crate) fn nodes_behind(
+    alloc: Global,
+    text: &[u8],
+    table: &NodeTable,
+) -> Result<Vec<Id>, NodeFault>
+    ensures found { IfOk result (λ ids. NamesEach table.now text.now ids.items) }
+    ensures fault { IfErr result (IsNodeFaultOf ((ids : List TreeId) → ¬ NamesEach table.now text.now ids)) }
+{
+    match text.split_first() {
+        None => Ok(Vec::new(alloc)),
+        Some((b' ', fields)) => nodes_numbered(alloc, fields, table),
+        Some(_) => Err(NodeFault::Malformed),
+    }
+}
