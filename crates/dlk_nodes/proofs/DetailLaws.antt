@@ -1,22 +1,29 @@
 -- What the parts of a detail are, found by cutting its text.
-use Rattle.std.proofs.Common.{◌≡◌, ◌≢◌, ℕ, ◌≤◌, ◌==◌, Bool, true, false, not, ◌&&◌, ◌||◌, List, [], ◌∷◌, ◌++◌, length, map, Option, Some, None, codes, refl, sym, ap, subst, ◌∙◌, append_assoc, append-nil, arith}
-use Rattle.std.specs.Prelude.{IsTrue, is_none, if◌then◌else◌}
+use Rattle.std.proofs.Common.{◌≡◌, ◌≢◌, ℕ, zero, suc, ◌+◌, ◌-◌, ◌<◌, ◌≤◌, nat_le, ◌==◌, Bool, true, false, not, ◌&&◌, ◌||◌, List, [], ◌∷◌, ◌++◌, length, map, Option, Some, None, codes, refl, sym, ap, subst, ◌∙◌, append_assoc, append-nil, arith}
+use Rattle.std.specs.Prelude.{IsTrue, is_none, if◌then◌else◌, MatchOption}
+use Rattle.std.specs.Fmt.{decimal, digits}
 use Rattle.std.specs.List.{list_all, join_by}
-use Rattle.std.proofs.lemmas.Bool.{and_parts, and_from, leb-true}
+use Rattle.std.proofs.lemmas.Bool.{and_parts, and_from, leb-true, le-leb, ltb-true, lt-ltb, eqb-true}
 use Rattle.std.proofs.lemmas.List.Folds.{list_all-append}
+use Rattle.dlk_tree.specs.declared.op.Num.{Num}
 use Rattle.dlk_tree.specs.declared.op.Var.{Var}
 use Rattle.dlk_tree.specs.declared.op.Kind.TheVariants.{Ode}
 use Rattle.dlk_tree.specs.declared.op.OdeItem.{OdeItem}
 use Rattle.dlk_tree.specs.declared.op.OdeItem.TheVariants.{Evolve, Const}
-use Rattle.dlk_tree.specs.Names.{is_name}
-use Rattle.dlk_tree.specs.Table.{taboo_is_name, is_item, are_items}
+use Rattle.dlk_tree.specs.Names.{is_between, is_name}
+use Rattle.dlk_tree.specs.Table.{taboo_is_name, is_item, evolved, all_distinct}
+use Rattle.dlk_grammar.specs.Shown.{literal}
+use Rattle.dlk_grammar.specs.Tokens.{is_digit, literal_number}
+use Rattle.dlk_grammar.proofs.Spelled.{digits_all}
+use Rattle.dlk_readback.proofs.Numbers.{Literal, whole, parts, literal_is}
 use Rattle.dlk_nodes.specs.Parts.{CutAt}
 use Rattle.dlk_nodes.specs.Words.{variable_text, unit_text, constant_text, item_text}
 use Rattle.dlk_nodes.specs.Fields.{parts_of, Each}
-use Rattle.dlk_nodes.specs.Details.{SpellsVariable, SpellsUnit, SpellsConstant, SpellsItem, SpellsItems}
+use Rattle.dlk_nodes.specs.Details.{SpellsVariable, SpellsNumber, AreFewDigits, SpellsDot, SpellsUnit, SpellsConstant, SpellsItem, SpellsItems}
 use Rattle.dlk_nodes.proofs.Cuts.{one_cut}
 use Rattle.dlk_nodes.proofs.Fields.{lacks, lacks_both, behind_each, split_back}
-use Rattle.dlk_nodes.proofs.OpsBack.{name_lacks, symbol_parts, items_lack, joined}
+use Rattle.dlk_nodes.proofs.OpsBack.{lacks_if, name_lacks, symbol_parts, item_of, item_back, items_lack, joined}
+use Rattle.dlk_nodes.proofs.Parted.{each_one}
 use Rattle.dlk_nodes.proofs.Numbered.{behind_parts}
 
 -- the text has no such byte
@@ -192,12 +199,12 @@ evolved_item text front behind cut empty real = record { real = real; text_is = 
 
 -- ---- the items of a system
 
-their_texts : (parts : List (List ℕ)) (items : List OdeItem) → Each SpellsItem parts items → (parts ≡ map item_text items) × (list_all is_item items ≡ true)
+their_texts : (ps : List (List ℕ)) (items : List OdeItem) → Each SpellsItem ps items → (ps ≡ map item_text items) × (list_all is_item items ≡ true)
 their_texts [] [] a = (refl, refl)
 their_texts [] (i ∷ items) a = absurd a
-their_texts (p ∷ parts) [] a = absurd a
-their_texts (p ∷ parts) (i ∷ items) a =
-    let more = their_texts parts items a.1 in
+their_texts (p ∷ ps) [] a = absurd a
+their_texts (p ∷ ps) (i ∷ items) a =
+    let more = their_texts ps items a.1 in
     let first = a.0.text_is in
     ((λ t. first t ∷ more.0 t), and_from (is_item i) (list_all is_item items) a.0.real more.1)
 
@@ -217,7 +224,7 @@ items_text text items a = by_items items (their_texts (parts_of 44 text) items a
     by_items (i ∷ items) w e =
         let whole : 44 ∷ (item_text i ++ behind_each 44 (map item_text items)) ≡ 44 ∷ text = sym (ap (behind_each 44) w.0) ∙ e in
         let tail : item_text i ++ behind_each 44 (map item_text items) ≡ text = cc in
-        (sym tail ∙ ap (λ l. item_text i ++ l) (sym (joined items)), (w.1, omega arith))
+        (sym tail ∙ ap (λ l. item_text i ++ l) (sym (joined items)), w.1, omega arith)
 
 -- and where the text is theirs, its parts are the items
 pub items_parts : (text : List ℕ) (items : List OdeItem) → SpellsItems text items → Each SpellsItem (parts_of 44 text) items
@@ -234,3 +241,149 @@ items_parts text items s =
         let parts : parts_of 44 text ≡ item_text i ∷ map item_text items =
         ap (parts_of 44) (e ∙ ap (λ l. item_text i ++ l) (joined items)) ∙ split_back 44 (item_text i) (map item_text items) refl all.0 all.1 in
         subst (λ l. Each SpellsItem l (i ∷ items)) (sym parts) (spelled_each (i ∷ items) h)
+
+pub empty : (l : List ℕ) → length l ≡ 0 → l ≡ []
+empty [] e = refl
+empty (c ∷ l) e = absurd (omega (arith, e))
+
+-- ---- what a text needs
+
+pub unit_name_needed : (text front behind : List ℕ) → CutAt text 124 front behind → ¬ IsTrue (is_name front) → (u : List ℕ × Option (List ℕ)) → ¬ SpellsUnit text u
+unit_name_needed text front behind cut none u s = none (unit_parts text front behind u cut s).name
+
+pub unit_taboo_needed : (text front behind taboo end : List ℕ) → CutAt text 124 front behind → CutAt behind 124 taboo end → ¬ IsTrue (is_name taboo) →
+    (u : List ℕ × Option (List ℕ)) → ¬ SpellsUnit text u
+unit_taboo_needed text front behind taboo end cut next none u s =
+    let w = unit_parts text front behind u cut s in
+    none (subst (λ x. is_name x ≡ true) (sym (taboo_cut behind taboo end w.taboo [] next w.behind_is w.real).0) w.real)
+
+pub constant_name_needed : (text front behind : List ℕ) → CutAt text 123 front behind → ¬ IsTrue (is_name front) → (u : List ℕ × Option (List ℕ)) → ¬ SpellsConstant text u
+constant_name_needed text front behind cut none u s = none (constant_parts text front behind u cut s).name
+
+pub constant_taboo_needed : (text front behind bar inner taboo end : List ℕ) → CutAt text 123 front behind → CutAt behind 124 bar inner → CutAt inner 124 taboo end → ¬ IsTrue (is_name taboo) →
+    (u : List ℕ × Option (List ℕ)) → ¬ SpellsConstant text u
+constant_taboo_needed text front behind bar inner taboo end cut next last none u s =
+    let w = constant_parts text front behind u cut s in
+    let rest = bar_cut behind bar inner (w.taboo ++ 124 ∷ 125 ∷ []) next w.behind_is in
+    none (subst (λ x. is_name x ≡ true) (sym (taboo_cut inner taboo end w.taboo (125 ∷ []) last rest.1 w.real).0) w.real)
+
+pub evolved_name_needed : (text front behind : List ℕ) → CutAt text 39 front behind → ¬ IsTrue (is_name front) → (i : OdeItem) → ¬ SpellsItem text i
+evolved_name_needed text front behind cut none i s = none (evolved_parts text front behind i cut s).real
+
+pub each_needed : (text : List ℕ) → ((items : List OdeItem) → ¬ Each SpellsItem (parts_of 44 text) items) → (items : List OdeItem) → ¬ SpellsItems text items
+each_needed text none items s = none items (items_parts text items s)
+
+-- ---- what is left behind a cut
+
+pub some_left : (l : List ℕ) → false ≡ (length l == 0) → l ≡ [] → ⊥
+some_left l e is = let clash : false ≡ true = e ∙ ap (λ (x : List ℕ). length x == 0) is in cc clash
+
+pub none_left : (l : List ℕ) → true ≡ (length l == 0) → l ≡ []
+none_left [] e = refl
+none_left (c ∷ l) e = let some : 0 < length (c ∷ l) = omega arith in absurd (omega (arith, some, eqb-true (length (c ∷ l)) 0 (sym e)))
+
+-- ---- dots
+
+one_digit : (n : ℕ) → n < 8 → decimal n ≡ (48 + n) ∷ []
+unfolding digits
+one_digit zero h = refl
+one_digit (suc zero) h = refl
+one_digit (suc (suc zero)) h = refl
+one_digit (suc (suc (suc zero))) h = refl
+one_digit (suc (suc (suc (suc zero)))) h = refl
+one_digit (suc (suc (suc (suc (suc zero))))) h = refl
+one_digit (suc (suc (suc (suc (suc (suc zero)))))) h = refl
+one_digit (suc (suc (suc (suc (suc (suc (suc zero))))))) h = refl
+one_digit (suc (suc (suc (suc (suc (suc (suc (suc n)))))))) h = absurd (omega (arith, h))
+
+pub dot_found : (digit : ℕ) → is_between 48 55 digit ≡ true → SpellsDot (digit ∷ []) (digit - 48)
+dot_found digit h =
+    let w = and_parts (nat_le 48 digit) (nat_le digit 55) h in
+    let low : 48 ≤ digit = leb-true 48 digit w.0 in
+    let high : digit ≤ 55 = leb-true digit 55 w.1 in
+    let less : digit - 48 < 8 = omega (arith, low, high) in
+    let again : digit ≡ 48 + (digit - 48) = omega (arith, low) in
+    record { real = lt-ltb (digit - 48) 8 less; text_is = ap (λ d. d ∷ []) again ∙ sym (one_digit (digit - 48) less) }
+
+pub dot_parts : (digit : ℕ) (rest : List ℕ) (n : ℕ) → SpellsDot (digit ∷ rest) n → (is_between 48 55 digit ≡ true) × (rest ≡ [])
+dot_parts digit rest n s =
+    let less : n < 8 = ltb-true n 8 s.real in
+    let whole : digit ∷ rest ≡ (48 + n) ∷ [] = s.text_is ∙ one_digit n less in
+    let first : digit ≡ 48 + n = cc in
+    let none : rest ≡ [] = cc in
+    let low : 48 ≤ digit = omega (arith, first) in
+    let high : digit ≤ 55 = omega (arith, first, less) in
+    (and_from (nat_le 48 digit) (nat_le digit 55) (le-leb 48 digit low) (le-leb digit 55 high), none)
+
+pub no_dot : (n : ℕ) → ¬ SpellsDot [] n
+no_dot n s =
+    let less : n < 8 = ltb-true n 8 s.real in
+    let clash : [] ≡ (48 + n) ∷ [] = s.text_is ∙ one_digit n less in
+    cc clash
+
+-- ---- numbers
+
+module _ (text : List ℕ) where
+  pub whole_candidate : Uncut 46 text → (r : Option Num) → MatchOption r (¬ AreFewDigits text []) (λ n. n ≡ literal_number text []) →
+      MatchOption r ((n : Num) → ¬ SpellsNumber text n) (λ found. (n : Num) → SpellsNumber text n → n ≡ found)
+  whole_candidate uncut r is = by_result r is
+    where
+      its : (n : Num) → text ≡ literal n → Literal n → AreFewDigits text [] × (n ≡ literal_number text [])
+      its n e (whole s l d le is) =
+          let same : text ≡ s = e ∙ l in (
+            record { integer_digits = subst (λ x. list_all is_digit x ≡ true) (sym same) (digits_all s d); fraction_digits = refl; few = omega (arith, ap length same, le) },
+            sym is ∙ ap (λ x. literal_number x []) (sym same),
+          )
+      its n e (parts s f l d g le is) = absurd (uncut s f (e ∙ l))
+
+      by_result : (r : Option Num) → MatchOption r (¬ AreFewDigits text []) (λ n. n ≡ literal_number text []) →
+          MatchOption r ((n : Num) → ¬ SpellsNumber text n) (λ found. (n : Num) → SpellsNumber text n → n ≡ found)
+      by_result None fails = λ n s. fails (its n s.text_is (literal_is n s.real)).0
+      by_result (Some m) e = λ n s. (its n s.text_is (literal_is n s.real)).1 ∙ sym e
+
+  pub pointed_candidate : (front behind : List ℕ) → CutAt text 46 front behind → (r : Option Num) → MatchOption r (¬ AreFewDigits front behind) (λ n. n ≡ literal_number front behind) →
+      MatchOption r ((n : Num) → ¬ SpellsNumber text n) (λ found. (n : Num) → SpellsNumber text n → n ≡ found)
+  pointed_candidate front behind cut r is = by_result r is
+    where
+      its : (n : Num) → text ≡ literal n → Literal n → AreFewDigits front behind × (n ≡ literal_number front behind)
+      its n e (whole s l d le is) = absurd (not_lacking 46 text front behind refl cut (ap (lacks 46) (e ∙ l) ∙ lacks_if is_digit 46 refl s (digits_all s d)))
+      its n e (parts s f l d g le is) =
+          let same = one_cut text 46 front s behind f cut (record { text_is = e ∙ l; first = lacks_if is_digit 46 refl s (digits_all s d) }) in (
+            record {
+              integer_digits = subst (λ x. list_all is_digit x ≡ true) (sym same.0) (digits_all s d);
+              fraction_digits = subst (λ x. list_all is_digit x ≡ true) (sym same.1) (digits_all f g);
+              few = omega (arith, ap length same.0, ap length same.1, le);
+            },
+            sym is ∙ (λ i. literal_number (sym same.0 i) (sym same.1 i)),
+          )
+
+      by_result : (r : Option Num) → MatchOption r (¬ AreFewDigits front behind) (λ n. n ≡ literal_number front behind) →
+          MatchOption r ((n : Num) → ¬ SpellsNumber text n) (λ found. (n : Num) → SpellsNumber text n → n ≡ found)
+      by_result None fails = λ n s. fails (its n s.text_is (literal_is n s.real)).0
+      by_result (Some m) e = λ n s. (its n s.text_is (literal_is n s.real)).1 ∙ sym e
+
+-- ---- systems
+
+one_item : (text : List ℕ) (i j : OdeItem) → SpellsItem text i → SpellsItem text j → i ≡ j
+one_item text i j a b = sym (item_back i a.real) ∙ ap item_of (sym a.text_is ∙ b.text_is) ∙ item_back j b.real
+
+pub system_found : (text : List ℕ) (items : List OdeItem) → Each SpellsItem (parts_of 44 text) items → (nat_le (length items) 64 && all_distinct (evolved items)) ≡ true → SpellsItems text items
+system_found text items each h =
+    let w = items_text text items each in
+    let v = and_parts (nat_le (length items) 64) (all_distinct (evolved items)) h in
+    record {
+      real = and_from (nat_le 1 (length items) && nat_le (length items) 64 && list_all is_item items) (all_distinct (evolved items))
+      (and_from (nat_le 1 (length items) && nat_le (length items) 64) (list_all is_item items) (and_from (nat_le 1 (length items)) (nat_le (length items) 64) (le-leb 1 (length items) w.2) v.0) w.1) v.1;
+      text_is = w.0;
+    }
+
+pub no_system : (text : List ℕ) (items : List OdeItem) → Each SpellsItem (parts_of 44 text) items → (nat_le (length items) 64 && all_distinct (evolved items)) ≡ false →
+    (others : List OdeItem) → ¬ SpellsItems text others
+no_system text items each h others s =
+    let same : others ≡ items = each_one SpellsItem one_item (parts_of 44 text) others items (items_parts text others s) each in
+    let a = and_parts _ _ s.real in
+    let b = and_parts _ _ a.0 in
+    let c = and_parts _ _ b.0 in
+    let both : (nat_le (length others) 64 && all_distinct (evolved others)) ≡ true = and_from (nat_le (length others) 64) (all_distinct (evolved others)) c.1 a.1 in
+    let clash : true ≡ false = sym both ∙ ap (λ (l : List OdeItem). nat_le (length l) 64 && all_distinct (evolved l)) same ∙ h in
+    cc clash

@@ -17,3 +17,8 @@ pub mod NodeRead
 pub mod Tables
 pub mod LongerTable
 pub mod DetailLaws
+pub mod Refusals
+pub mod CallLaws
+pub mod OpsCut
+pub mod ReadNode
+pub mod WrittenLaws

@@ -149,7 +149,7 @@ unit_again k s without h =
 
 -- ---- items
 
-item_back : (i : OdeItem) → is_item i ≡ true → item_of (item_text i) ≡ i
+pub item_back : (i : OdeItem) → is_item i ≡ true → item_of (item_text i) ≡ i
 item_back (Evolve x) h = ap (item_in (x ++ codes "'")) (next_part 39 x [] refl (name_lacks 39 refl x h))
 item_back (Const s) h = by_taboo s.taboo refl
   where

@@ -32,7 +32,7 @@ detail_fields (OfUnit x y) = unit_text x y ∷ []
 detail_fields (OfItems items) = join_by item_text (codes ",") items ∷ []
 
 -- what is made of a word's detail and the number of the kids
-data Maker : Type 0 where
+pub data Maker : Type 0 where
   Plain : Op → Maker
   OfVar : (Var → Op) → Maker
   OfNum : (Num → Op) → Maker
@@ -47,7 +47,7 @@ row word maker = (word, maker)
 abbrev unit_of : List ℕ × Option (List ℕ) → Sym
 unit_of u = record { kind = UnitFunc; name = u.0; arity = 0; taboo = u.1 }
 
-makers : List (List ℕ × Maker)
+unfoldable pub makers : List (List ℕ × Maker)
 makers =
     row (codes "box") (Plain op.Box) ∷ row (codes "add") (Plain op.Add) ∷ row (codes "mul") (Plain op.Mul) ∷ row (codes "system") (OfList op.System)
     ∷ row (codes "le") (Plain op.Le) ∷ row (codes "imply") (Plain op.Imply) ∷ row (codes "and") (Plain op.And) ∷ row (codes "ge") (Plain op.Ge)
@@ -86,7 +86,7 @@ abbrev made_by : Option (List ℕ × Maker) → List (List ℕ) → Option (Op �
 made_by None fields = None
 made_by (Some r) fields = made_as r.1 fields
 
-pub read_op : List ℕ → List (List ℕ) → Option (Op × List (List ℕ))
+unfoldable pub read_op : List ℕ → List (List ℕ) → Option (Op × List (List ℕ))
 read_op word fields = made_by (find (λ (r : List ℕ × Maker). bytes_eq r.0 word) makers) fields
 
 -- an operator with what is left

@@ -1,23 +1,9 @@
 -- What the parts of a text say, one by one.
 use Rattle.std.proofs.Common.{◌≡◌, ◌≢◌, ℕ, ◌==◌, true, false, not, List, [], ◌∷◌, ◌++◌, length, suc, refl, sym, ap, subst, ◌∙◌, append_assoc, ◌⊎◌, inl, inr}
-use Rattle.std.proofs.lemmas.Bool.{and_parts, and_from, eqb-true, cases_Bool}
 use Rattle.dlk_nodes.specs.Parts.{CutAt}
 use Rattle.dlk_nodes.specs.Fields.{parts_of, Each}
-use Rattle.dlk_nodes.proofs.Fields.{lacks, one_part, next_part}
-
--- a text without the byte is one part
-lacks_or_cut : (byte : ℕ) (text : List ℕ) → (lacks byte text ≡ true) ⊎ ((front : List ℕ) × (rest : List ℕ) × (text ≡ front ++ byte ∷ rest))
-lacks_or_cut byte [] = inl refl
-lacks_or_cut byte (c ∷ text) = elim (cases_Bool (c == byte)) [
-  | inl same ↦ inr ([], text, ap (λ b. b ∷ text) (eqb-true c byte same))
-  | inr other ↦ elim (lacks_or_cut byte text) [
-    | inl none ↦ inl (and_from (not (c == byte)) (lacks byte text) (ap not other) none)
-    | inr cut ↦ inr (c ∷ cut.0, cut.1, ap (λ l. c ∷ l) cut.2)
-  ]
-]
-
-pub uncut_lacks : (byte : ℕ) (text : List ℕ) → ((front rest : List ℕ) → text ≢ front ++ byte ∷ rest) → lacks byte text ≡ true
-uncut_lacks byte text none = elim (lacks_or_cut byte text) [ inl lack ↦ lack | inr cut ↦ absurd (none cut.0 cut.1 cut.2) ]
+use Rattle.dlk_nodes.proofs.Cuts.{uncut_lacks}
+use Rattle.dlk_nodes.proofs.Fields.{one_part, next_part}
 
 pub lone_part : (byte : ℕ) (text : List ℕ) → ((front rest : List ℕ) → text ≢ front ++ byte ∷ rest) → parts_of byte text ≡ text ∷ []
 lone_part byte text none = one_part byte text (uncut_lacks byte text none)

@@ -1,6 +1,6 @@
 -- What the details of operators say.
-use Rattle.std.specs.Prelude.{◌≡◌, ℕ, List, ◌++◌, Bool, ◌&&◌, nat_lt, IsTrue, Option, codes}
-use Rattle.std.specs.List.{join_by}
+use Rattle.std.specs.Prelude.{◌≡◌, ℕ, ◌+◌, ◌≤◌, List, length, ◌++◌, Bool, ◌&&◌, nat_lt, IsTrue, Option, codes}
+use Rattle.std.specs.List.{list_all, join_by}
 use Rattle.std.specs.Fmt.{decimal}
 use Rattle.dlk_tree.specs.declared.op.Num.{Num}
 use Rattle.dlk_tree.specs.declared.op.Var.{Var}
@@ -9,6 +9,7 @@ use Rattle.dlk_tree.specs.declared.op.Op.{Op}
 use Rattle.dlk_tree.specs.Names.{is_name}
 use Rattle.dlk_tree.specs.Table.{taboo_is_name, is_num, is_item, are_items, has_parts}
 use Rattle.dlk_grammar.specs.Shown.{literal}
+use Rattle.dlk_grammar.specs.Tokens.{is_digit}
 use Rattle.dlk_nodes.specs.Words.{variable_text, unit_text, constant_text, item_text, detail_text, call_of}
 use Rattle.dlk_nodes.specs.Nodes.{TakesKids}
 
@@ -25,6 +26,12 @@ SpellsVariable text v = Spells (λ (v : Var). is_name v.name) variable_text text
 
 abbrev pub SpellsNumber : List ℕ → Num → Type 0
 SpellsNumber text n = Spells is_num literal text n
+
+-- digits before and behind a point that may be those of a number
+pub record AreFewDigits (integer fraction : List ℕ) : Type 0 where
+  pub integer_digits : IsTrue (list_all is_digit integer)
+  pub fraction_digits : IsTrue (list_all is_digit fraction)
+  pub few : length integer + length fraction ≤ 38
 
 abbrev pub SpellsDot : List ℕ → ℕ → Type 0
 SpellsDot text n = Spells (λ n. nat_lt n 8) decimal text n

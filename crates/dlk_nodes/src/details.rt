@@ -2,7 +2,7 @@
 ghost use Rattle.std.specs.Prelude.{◌≡◌, ℕ, List, Option, None, IfOk, OnOk, IfErr, IsTrue};
 ghost use Rattle.dlk_tree.specs.declared.op.Var.{Var as TreeVar};
 ghost use Rattle.dlk_tree.specs.declared.op.Sym.{Sym as TreeSym};
-ghost use Rattle.dlk_tree.specs.Names.{is_name};
+ghost use Rattle.dlk_tree.specs.Names.{is_between, is_name};
 ghost use Rattle.dlk_tree.specs.Table.{is_sym, is_sym_of, kind_row};
 ghost use Rattle.dlk_nodes.specs.Details.{SpellsVariable, SpellsDot, SpellsUnit};
 ghost use Rattle.dlk_nodes.specs.Faults.{IsNodeFaultOf};
@@ -58,15 +58,28 @@ pub(crate) fn unit(alloc: Global, text: &[u8]) -> Result<(Name, Option<Name>), N
     Ok((x, Some(y)))
 }
 
+/// Whether the byte is a digit from 0 to 7.
+fn is_dot_digit(b: u8) -> bool
+    ensures { result ≡ is_between 48 55 b }
+{
+    b'0' <= b && b <= b'7'
+}
+
 /// The number of the argument dot that the text spells, a digit from 0 to 7.
 pub(crate) fn dot(text: &[u8]) -> Result<u8, NodeFault>
     ensures found { IfOk result (SpellsDot text.now) }
     ensures fault { IfErr result (IsNodeFaultOf ((n : ℕ) → ¬ SpellsDot text.now n)) }
 {
-    match text {
-        [digit @ b'0'..=b'7'] => Ok(*digit - b'0'),
-        _ => Err(NodeFault::Malformed),
+    let Some((digit, rest)) = text.split_first() else {
+        return Err(NodeFault::Malformed);
+    };
+    if !rest.is_empty() {
+        return Err(NodeFault::Malformed);
     }
+    if !is_dot_digit(*digit) {
+        return Err(NodeFault::Malformed);
+    }
+    Ok(*digit - b'0')
 }
 
 /// The symbol of this kind, name and arity, without a taboo.

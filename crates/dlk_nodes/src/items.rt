@@ -1,6 +1,7 @@
 //! The items of a system.
-ghost use Rattle.std.specs.Prelude.{◌≡◌, ℕ, List, Option, IfOk, IfErr, IsTrue};
+ghost use Rattle.std.specs.Prelude.{◌≡◌, ◌↔◌, ◌&&◌, nat_le, ℕ, length, List, Option, IfOk, IfErr, IsTrue};
 ghost use Rattle.dlk_tree.specs.declared.op.OdeItem.{OdeItem as TreeItem};
+ghost use Rattle.dlk_tree.specs.Table.{evolved, all_distinct};
 ghost use Rattle.dlk_nodes.specs.Fields.{parts_of, Each};
 ghost use Rattle.dlk_nodes.specs.Details.{SpellsConstant, SpellsItem, SpellsItems};
 ghost use Rattle.dlk_nodes.specs.Faults.{IsNodeFaultOf};
@@ -10,6 +11,13 @@ use crate::fault::NodeFault;
 use crate::parts::cut_at;
 use dlk_tree::{Items, Kind, Name, OdeItem, Sym, are_distinct};
 use std::alloc::Global;
+
+/// Whether the bytes are these.
+fn are(text: &[u8], wanted: &[u8]) -> bool
+    ensures { IsTrue result ↔ (text.now ≡ wanted.now) }
+{
+    text == wanted
+}
 
 /// The name and the taboo of a constant that the text spells.
 fn constant(alloc: Global, text: &[u8]) -> Result<(Name, Option<Name>), NodeFault>
@@ -25,7 +33,10 @@ fn constant(alloc: Global, text: &[u8]) -> Result<(Name, Option<Name>), NodeFaul
     let Some((taboo, end)) = cut_at(inner, b'|') else {
         return Err(NodeFault::Malformed);
     };
-    if !none.is_empty() || end != b"}".as_slice() {
+    if !none.is_empty() {
+        return Err(NodeFault::Malformed);
+    }
+    if !are(end, b"}") {
         return Err(NodeFault::Malformed);
     }
     let x = name(alloc, front)?;
@@ -68,13 +79,20 @@ fn each_item(alloc: Global, text: &[u8]) -> Result<Vec<OdeItem>, NodeFault>
     Ok(items)
 }
 
+/// Whether there are at most 64 items, and no variable is evolved twice.
+fn are_few_and_distinct(items: &[OdeItem]) -> bool
+    ensures { result ≡ (nat_le (length items.now) 64 && all_distinct (evolved items.now)) }
+{
+    items.len() <= 64 && are_distinct(items)
+}
+
 /// The items of a system that the text spells: 1 to 64, and no variable is evolved twice.
 pub(crate) fn items(alloc: Global, text: &[u8]) -> Result<Items, NodeFault>
     ensures found { IfOk result (SpellsItems text.now) }
     ensures fault { IfErr result (IsNodeFaultOf ((items : List TreeItem) → ¬ SpellsItems text.now items)) }
 {
     let items = each_item(alloc, text)?;
-    if items.len() > 64 || !are_distinct(items.as_slice()) {
+    if !are_few_and_distinct(items.as_slice()) {
         return Err(NodeFault::Malformed);
     }
     Ok(Items::new(items))

@@ -2,8 +2,8 @@
 ghost use Rattle.std.specs.Prelude.{◌≡◌, ◌≢◌, ◌+◌, ◌-◌, ◌*◌, ◌^◌, ◌<◌, ◌≤◌, IsTrue, IfOk, IfErr, MatchOption, length, fold};
 ghost use Rattle.std.specs.List.{list_all};
 ghost use Rattle.dlk_tree.specs.declared.op.Num.{Num as TreeNum};
-ghost use Rattle.dlk_grammar.specs.Tokens.{is_digit};
-ghost use Rattle.dlk_nodes.specs.Details.{SpellsNumber};
+ghost use Rattle.dlk_grammar.specs.Tokens.{is_digit, trimmed, literal_number};
+ghost use Rattle.dlk_nodes.specs.Details.{SpellsNumber, AreFewDigits};
 ghost use Rattle.dlk_nodes.specs.Faults.{IsNodeFaultOf};
 
 use crate::fault::NodeFault;
@@ -12,6 +12,17 @@ use crate::parts::cut_at;
 use dlk_print::append_number;
 use dlk_tree::{Num, Op, fits};
 use std::alloc::Global;
+
+/// The digits without the zeros at their end.
+fn without_zeros(digits: &[u8]) -> &[u8]
+    ensures { result.now ≡ trimmed digits.now }
+{
+    let mut n = digits.len();
+    while n > 0 && digits[n - 1] == b'0' {
+        n -= 1;
+    }
+    &digits[..n]
+}
 
 /// The number that the digits say when they are written behind it.
 fn with_digits(number: u128, digits: &[u8]) -> u128
@@ -27,19 +38,29 @@ fn with_digits(number: u128, digits: &[u8]) -> u128
     value
 }
 
+/// The number that the digits before and behind a point say, where they are at most 38 digits.
+fn number_of(integer: &[u8], fraction: &[u8]) -> Option<Num>
+    ensures { MatchOption result (¬ AreFewDigits integer.now fraction.now) (λ n. n ≡ literal_number integer.now fraction.now) }
+{
+    if integer.len() + fraction.len() > 38 || !are_digits(integer) || !are_digits(fraction) {
+        return None;
+    }
+    let kept = without_zeros(fraction);
+    let whole = with_digits(0, integer);
+    Some(Num {
+        digits: with_digits(whole, kept),
+        scale: kept.len() as u8,
+    })
+}
+
 /// The one number whose text this may be.
 fn candidate(text: &[u8]) -> Option<Num>
     ensures { MatchOption result ((n : TreeNum) → ¬ SpellsNumber text.now n) (λ found. (n : TreeNum) → SpellsNumber text.now n → n ≡ found) }
 {
-    let (integer, fraction): (&[u8], &[u8]) = cut_at(text, b'.').unwrap_or((text, &[]));
-    if integer.len() + fraction.len() > 38 || !are_digits(integer) || !are_digits(fraction) {
-        return None;
+    match cut_at(text, b'.') {
+        None => number_of(text, &[]),
+        Some((integer, fraction)) => number_of(integer, fraction),
     }
-    let whole = with_digits(0, integer);
-    Some(Num {
-        digits: with_digits(whole, fraction),
-        scale: fraction.len() as u8,
-    })
 }
 
 /// The number that the text spells: the digits are written again, so that no other spelling is taken.

@@ -1,6 +1,7 @@
 //! Node lines, read.
 ghost use Rattle.std.specs.Prelude.{◌≡◌, ◌+◌, ◌≤◌, ℕ, length, All, IsTrue, IfOk, IfErr, OnOk};
 ghost use Rattle.dlk_tree.specs.Trees.{Tree};
+ghost use Rattle.dlk_calculus.specs.Limits.{IsSmall, IsShallow};
 ghost use Rattle.dlk_store.specs.Stores.{IsId, tree, sorts_at};
 ghost use Rattle.dlk_nodes.specs.Nodes.{IsNode, IsNodeLine};
 ghost use Rattle.dlk_nodes.specs.Tables.{nodes_at};
@@ -35,6 +36,16 @@ fn sorts_of<S: Store, L: Ledger>(
     Ok(sorts)
 }
 
+/// Whether the tree is within the limits of what is read.
+fn is_within_limits<S: Store>(store: &S, id: Id) -> bool
+    requires { IsId (S.trees store.now) id }
+    ensures small { IsTrue result → IsSmall (tree (S.trees store.now) id) }
+    ensures shallow { IsTrue result → IsShallow (tree (S.trees store.now) id) }
+    ensures is { IsSmall (tree (S.trees store.now) id) → IsShallow (tree (S.trees store.now) id) → IsTrue result }
+{
+    store.size(id) <= MOST_NODES && store.depth(id) <= GREATEST_DEPTH
+}
+
 /// The new node of which this is the text: an operator with the numbers of its kids.
 pub(crate) fn read_node<S: Store, L: Ledger>(
     alloc: Global,
@@ -56,7 +67,10 @@ pub(crate) fn read_node<S: Store, L: Ledger>(
         return Err(NodeFault::Malformed);
     }
     let id = store.make(alloc, op, kids.as_slice())?;
-    if table.place(id).is_some() || store.size(id) > MOST_NODES || store.depth(id) > GREATEST_DEPTH {
+    if table.place(id).is_some() {
+        return Err(NodeFault::Malformed);
+    }
+    if !is_within_limits(store, id) {
         return Err(NodeFault::Malformed);
     }
     Ok(id)

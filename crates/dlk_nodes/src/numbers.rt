@@ -1,7 +1,7 @@
 //! Items by their numbers in a text.
-ghost use Rattle.std.specs.Prelude.{◌≡◌, IfOk, IfErr, MatchOption, List};
+ghost use Rattle.std.specs.Prelude.{◌≡◌, ◌==◌, IfOk, IfErr, MatchOption, List};
 ghost use Rattle.dlk_store.specs.declared.Id.{Id as TreeId};
-ghost use Rattle.dlk_nodes.specs.Nodes.{Names, NamesEach};
+ghost use Rattle.dlk_nodes.specs.Spelled.{Names, NamesEach};
 ghost use Rattle.dlk_nodes.specs.Fields.{parts_of, Each};
 ghost use Rattle.dlk_nodes.specs.Faults.{IsNodeFaultOf};
 
@@ -50,9 +50,18 @@ pub(crate) fn nodes_behind(
     ensures found { IfOk result (λ ids. NamesEach table.now text.now ids.items) }
     ensures fault { IfErr result (IsNodeFaultOf ((ids : List TreeId) → ¬ NamesEach table.now text.now ids)) }
 {
-    match text.split_first() {
-        None => Ok(Vec::new(alloc)),
-        Some((b' ', fields)) => nodes_numbered(alloc, fields, table),
-        Some(_) => Err(NodeFault::Malformed),
+    let Some((space, fields)) = text.split_first() else {
+        return Ok(Vec::new(alloc));
+    };
+    if !is_space(*space) {
+        return Err(NodeFault::Malformed);
     }
+    let ids = nodes_numbered(alloc, fields, table)?;
+    Ok(ids)
+}
+
+fn is_space(b: u8) -> bool
+    ensures { result ≡ (b == 32) }
+{
+    b == b' '
 }

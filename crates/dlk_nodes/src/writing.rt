@@ -161,8 +161,10 @@ fn append_place<S: Store>(
     ensures { Appends out.old.items out.new.items (number_text (nodes_at (S.trees store.now) table.now) (tree (S.trees store.now) id)) result }
 {
     let _store = store;
-    let place = table.place(id).unwrap_or(table.len());
-    append_decimal(out, place as u128 + 1)
+    match table.place(id) {
+        Some(place) => append_decimal(out, place as u128 + 1),
+        None => append_decimal(out, table.len() as u128 + 1),
+    }
 }
 
 /// Appends the numbers of the kids' nodes, each behind a space.
