@@ -55,7 +55,7 @@ named_known P items _ _ all none_behind = All-nil P
 named_known P items _ _ all (one_behind {i} {text} {x} {xs} name others) = All-cons P x xs (At_All P items name.number x all name.there) (named_known P items text xs all others)
 
 pub read_known : {A : Type 0} (P : A → Type 0) (items : List A) (text : List ℕ) (o : Op) (xs : List A) → All P items → IsRead items text o xs → All P xs
-read_known P items text o xs all is = by_names text o xs is.names
+read_known {A = A} P items text o xs all is = by_names text o xs is.names
   where
     by_names : (text : List ℕ) (o : Op) (xs : List A) → NamesNode items text o xs → All P xs
     by_names _ _ _ (op_and_kids {text} {kids} o names) = named_known P items text kids all names
