@@ -13,7 +13,8 @@ use Rattle.dlk_calculus.proofs.PlaceLaws.{All-front, All-between}
 use Rattle.dlk_calculus.proofs.LimitLaws.{taken_as_given, step_limited}
 use Rattle.dlk_kernel.specs.Taken.{Takes, none, more}
 use Rattle.dlk_termtext.specs.Lines.{Numbered, Done, done, IsLine}
-use Rattle.dlk_termtext.specs.Written.{line_text, IsLineNumber, IsWritable}
+use Rattle.dlk_lines.specs.Numbers.{IsLineNumber}
+use Rattle.dlk_termtext.specs.Written.{line_text, IsWritable}
 use Rattle.dlk_termtext.proofs.Readback.{line_read}
 use Rattle.dlk_replay.specs.Files.{before_first_line, is_line_feed, file_lines, TakesStep, SaysLine, StepLines, no_lines, one_more, accepted, Verdict, whole}
 use Rattle.dlk_recorder.specs.Terms.{lines_text, term_text, HasSymbols}

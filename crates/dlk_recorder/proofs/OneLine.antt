@@ -30,7 +30,10 @@ use Rattle.dlk_readback.proofs.Numbers.{Literal, whole, parts, literal_is}
 use Rattle.dlk_readback.proofs.Neighbours.{kinds, Fine, end_fine}
 use Rattle.dlk_readback.proofs.Apart.{shown_fine}
 use Rattle.dlk_readback.proofs.Lefts.{left_fine, of_kind}
-use Rattle.dlk_termtext.specs.Written.{call, both, formula_text, sequent_text, pairs_text, arguments_text, rule_text, step_text, line_text, IsLineNumber, IsReadableFormula, IsReadableSequent, AreWritable, IsWritable}
+use Rattle.dlk_lines.specs.Numbers.{IsLineNumber}
+use Rattle.dlk_lines.specs.Spelled.{InFull}
+use Rattle.dlk_lines.specs.Written.{both, formula_text, sequent_text, pairs_text, arguments_text, rule_text, step_text}
+use Rattle.dlk_termtext.specs.Written.{line_text, IsReadableFormula, AreWritable, IsWritable}
 use Rattle.dlk_replay.specs.Files.{is_line_feed}
 
 -- a byte that is no line feed, bytes, a piece and a text without one
@@ -172,7 +175,7 @@ right_flat : (ts : List Tree) → All IsFormula ts → are_flat (right_side ts) 
 right_flat [] h = refl
 right_flat (t ∷ ts) h = formulas_flat (t ∷ ts) h
 
-sequent_line : (s : Sequent) → IsSequent s → is_one_line (sequent_text s) ≡ true
+sequent_line : (s : Sequent) → IsSequent s → is_one_line (sequent_text InFull s) ≡ true
 sequent_line s h =
     spelled (shown_sequent s) (joined_flat (left_side s.ante) (the_mark mark.Turnstile ∷ right_side s.succ) (left_flat s.ante h.ante) (right_flat s.succ h.succ))
 
@@ -195,11 +198,11 @@ each_flat (p ∷ pairs) h =
     and_from (are_flat (shown_pair p)) (list_all (λ q. are_flat (shown_pair q)) pairs) (pair_flat p (All-head IsReadablePair p pairs h))
     (each_flat pairs (All-tail IsReadablePair p pairs h))
 
-pairs_line : (pairs : List Pair) → All IsReadablePair pairs → is_one_line (pairs_text pairs) ≡ true
+pairs_line : (pairs : List Pair) → All IsReadablePair pairs → is_one_line (pairs_text InFull pairs) ≡ true
 pairs_line pairs h = spelled (shown_pairs pairs) (all_flat shown_pair (the_mark mark.Comma ∷ []) pairs refl (each_flat pairs h))
 
 -- the parts of a step
-formula_line : (h : Tree) → IsReadableFormula h → is_one_line (formula_text h) ≡ true
+formula_line : (h : Tree) → IsReadableFormula h → is_one_line (formula_text InFull h) ≡ true
 formula_line h r = spelled (shown h) (tree_flat h r.is_formula.well_made)
 
 number_line : (n : ℕ) → IsLineNumber n → is_one_line (decimal n) ≡ true
@@ -208,10 +211,10 @@ number_line n h = decimal_line n (omega (arith, h.few))
 both_line : (a b : List ℕ) → is_one_line a ≡ true → is_one_line b ≡ true → is_one_line (both a b) ≡ true
 both_line a b h g = three a (codes ",") b h refl g
 
-arguments_line : (arguments : Arguments) → AreWritable arguments → is_one_line (arguments_text arguments) ≡ true
+arguments_line : (arguments : Arguments) → AreWritable arguments → is_one_line (arguments_text InFull arguments) ≡ true
 arguments_line (OnePlace i) h = number_line i h
 arguments_line (TwoPlaces i k) h = both_line (decimal i) (decimal k) (number_line i h.0) (number_line k h.1)
-arguments_line (PlaceAndFormula i f) h = both_line (decimal i) (formula_text f) (number_line i h.0) (formula_line f h.1)
+arguments_line (PlaceAndFormula i f) h = both_line (decimal i) (formula_text InFull f) (number_line i h.0) (formula_line f h.1)
 arguments_line (OneFormula f) h = formula_line f h
 arguments_line (PlaceAndName i y) h = both_line (decimal i) y (number_line i h.0) (name_line y h.1)
 
@@ -219,9 +222,9 @@ rule_word_line : (rule : Rule) → is_one_line (word_of rule) ≡ true
 rule_word_line (Close i j) = refl
 rule_word_line _ = refl
 
-rule_line : (rule : Rule) → AreWritable (arguments_of rule) → is_one_line (rule_text rule) ≡ true
+rule_line : (rule : Rule) → AreWritable (arguments_of rule) → is_one_line (rule_text InFull rule) ≡ true
 rule_line rule h =
-    let arguments = arguments_text (arguments_of rule) in
+    let arguments = arguments_text InFull (arguments_of rule) in
     let opened = three (word_of rule) (codes "(") arguments (rule_word_line rule) refl (arguments_line (arguments_of rule) h) in
     joined_lines (word_of rule ++ codes "(" ++ arguments) (codes ")") opened refl
 
@@ -229,22 +232,22 @@ rule_line rule h =
 fact_line : (word : List ℕ) (fact : ℕ) → is_one_line word ≡ true → IsLineNumber fact → is_one_line (word ++ decimal fact ++ codes " ") ≡ true
 fact_line word fact w h = three word (decimal fact) (codes " ") w (number_line fact h) refl
 
-step_line : (step : Step) → IsWritable step → is_one_line (step_text step) ≡ true
-step_line (Start s) h = joined_lines (codes "start ") (sequent_text s) refl (sequent_line s h.is_sequent)
+step_line : (step : Step) → IsWritable step → is_one_line (step_text InFull step) ≡ true
+step_line (Start s) h = joined_lines (codes "start ") (sequent_text InFull s) refl (sequent_line s h.is_sequent)
 step_line (UseAxiom name) h = joined_lines (codes "axiom ") name refl (name_line name h)
 step_line (UseRule name) h = joined_lines (codes "rule ") name refl (name_line name h)
-step_line (Leaf s) h = joined_lines (codes "leaf ") (sequent_text s) refl (sequent_line s h.is_sequent)
+step_line (Leaf s) h = joined_lines (codes "leaf ") (sequent_text InFull s) refl (sequent_line s h.is_sequent)
 step_line (Apply fact goal rule) h =
     let front = codes "apply " ++ decimal fact ++ codes " " in
     let behind = front ++ decimal goal ++ codes " " in
-    joined_lines behind (rule_text rule) (fact_line front goal (fact_line (codes "apply ") fact refl h.0) h.1) (rule_line rule h.2)
+    joined_lines behind (rule_text InFull rule) (fact_line front goal (fact_line (codes "apply ") fact refl h.0) h.1) (rule_line rule h.2)
 step_line (Merge fact goal by) h =
     let front = codes "merge " ++ decimal fact ++ codes " " in
     let behind = front ++ decimal goal ++ codes " " in
     joined_lines behind (decimal by) (fact_line front goal (fact_line (codes "merge ") fact refl h.0) h.1) (number_line by h.2)
 step_line (Substitute fact pairs) h =
     let front = codes "subst " ++ decimal fact ++ codes " " in
-    joined_lines front (pairs_text pairs) (fact_line (codes "subst ") fact refl h.0) (pairs_line pairs h.1)
+    joined_lines front (pairs_text InFull pairs) (fact_line (codes "subst ") fact refl h.0) (pairs_line pairs h.1)
 step_line (Rename fact x y) h =
     let front = codes "rename " ++ decimal fact ++ codes " " in
     let behind = front ++ x ++ codes " " in
@@ -252,4 +255,4 @@ step_line (Rename fact x y) h =
 
 -- the line of a number and a step
 pub written_line : (number : ℕ) (step : Step) → IsLineNumber number → IsWritable step → is_one_line (line_text number step) ≡ true
-written_line number step n h = three (decimal number) (codes " ") (step_text step) (number_line number n) refl (step_line step h)
+written_line number step n h = three (decimal number) (codes " ") (step_text InFull step) (number_line number n) refl (step_line step h)

@@ -24,7 +24,8 @@ use Rattle.dlk_calculus.proofs.PlaceLaws.{At_All, At_place, All-front, All-behin
 use Rattle.dlk_calculus.proofs.WellFormed.{pairs_of_kind}
 use Rattle.dlk_calculus.proofs.LimitLaws.{taken_as_given, step_limited}
 use Rattle.dlk_readback.specs.Readable.{IsWithinLimits, IsReadablePair}
-use Rattle.dlk_termtext.specs.Written.{IsLineNumber, IsReadableFormula, IsReadableSequent, IsWritableRule, IsWritable}
+use Rattle.dlk_lines.specs.Numbers.{IsLineNumber}
+use Rattle.dlk_termtext.specs.Written.{IsReadableFormula, IsReadableSequent, IsWritableRule, IsWritable}
 use Rattle.dlk_recorder.specs.Terms.{HasSymbols}
 
 -- a place among few

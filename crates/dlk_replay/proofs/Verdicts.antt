@@ -12,9 +12,7 @@ use Rattle.dlk_calculus.proofs.StepLaws.{one_given}
 use Rattle.dlk_calculus.proofs.LimitLaws.{verdict_cases}
 use Rattle.dlk_calculus.proofs.Histories.{History-none, History-more}
 use Rattle.dlk_termtext.specs.Lines.{Line, Numbered, Done, IsLine}
-use Rattle.dlk_termtext.proofs.LineForms.{one_line}
-use Rattle.dlk_termtext.proofs.Proper.{line_proper}
-use Rattle.dlk_termtext.proofs.SomeLine.{some_line}
+use Rattle.dlk_termtext.proofs.LineLaws.{one_line, line_proper, some_line}
 use Rattle.dlk_replay.specs.declared.fault.LineWhy.TheVariants as why
 use Rattle.dlk_replay.specs.Files.{Said, TakesStep, HasOtherNumber, TakesNone, EndsFile, Format, SaysLine, StepLines, no_lines, one_more, no_row, Answer, accepted, bad, Becomes, Verdict, whole, ended, unread, done_first, done_before, misnumbered, faulty}
 

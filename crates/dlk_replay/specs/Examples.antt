@@ -2,7 +2,9 @@
 use Rattle.std.specs.Prelude.{◌≡◌, [], ◌∷◌, ◌++◌, codes, refl}
 use Rattle.std.proofs.Common.{lit≤}
 use Rattle.dlk_calculus.specs.Steps.{UseAxiom, Merge}
-use Rattle.dlk_termtext.specs.Lines.{IsNumber, number, use_axiom, merge, numbered}
+use Rattle.dlk_lines.specs.Numbers.{IsNumber, number}
+use Rattle.dlk_lines.specs.Lines.{use_axiom, merge, numbered}
+use Rattle.dlk_termtext.specs.Lines.{of_step}
 use Rattle.dlk_termtext.specs.Lines as line
 use Rattle.dlk_replay.specs.Files.{file_lines, SaySteps, done, more}
 
@@ -26,7 +28,7 @@ no_steps = done line.done
 
 -- each line before it says one
 two_steps : SaySteps 1 (file_lines (codes "1 axiom DW" ++ 10 ∷ codes "2 merge 1 3 1" ++ 10 ∷ codes "done" ++ 10 ∷ [])) (UseAxiom (codes "DW") ∷ Merge 1 3 1 ∷ [])
-two_steps = more (numbered one (use_axiom refl)) (more (numbered two (merge one three one)) (done line.done))
+two_steps = more (of_step (numbered one (use_axiom refl))) (more (of_step (numbered two (merge one three one))) (done line.done))
   where
     one : IsNumber (codes "1") 1
     one = number 49 [] refl refl (lit≤ tt)

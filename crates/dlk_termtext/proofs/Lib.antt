@@ -1,14 +1,4 @@
-pub mod Cuts
-pub mod Numbers
-pub mod WordLaws
 pub mod Refusals
-pub mod Forms
-pub mod StepForms
-pub mod LineForms
-pub mod Appended
+pub mod InFull
+pub mod LineLaws
 pub mod Readback
-pub mod Proper
-pub mod TextsDecided
-pub mod SomeParts
-pub mod SomeRule
-pub mod SomeLine

@@ -6,12 +6,12 @@ use Rattle.dlk_parse.specs.declared.fault.ParseFault.TheVariants as parse
 use Rattle.dlk_parse.specs.declared.fault.TextFault.{TextFault}
 use Rattle.dlk_parse.specs.declared.fault.TextFault.TheVariants as text_fault
 use Rattle.dlk_parse.specs.Faults.{IsTextFaultOf}
-use Rattle.dlk_termtext.specs.declared.line.LineFault.{LineFault}
-use Rattle.dlk_termtext.specs.declared.line.LineFault.TheVariants as fault
-use Rattle.dlk_termtext.specs.Read.{IsLineFaultOf, of_text}
+use Rattle.dlk_lines.specs.Read.{IsLineFaultOf}
+use Rattle.dlk_termtext.specs.Read.{of_text}
 
 -- A text that isn't read makes its line Malformed, where each fault of the text speaks against the line.
-pub text_refused : {holds : Type 0} (is_fault : WhyNoText → Type 0) → ((why : WhyNoText) → is_fault why → holds) → (why : TextFault) → IsTextFaultOf is_fault why → IsLineFaultOf holds (of_text why)
+pub text_refused : {holds : Type 0} (is_fault : WhyNoText → Type 0) → ((why : WhyNoText) → is_fault why → holds) → (why : TextFault) →
+    IsTextFaultOf is_fault why → IsLineFaultOf holds (of_text why)
 text_refused is_fault against (text_fault.BadByte at) f = against (BadByte at) f
 text_refused is_fault against (text_fault.Unread (parse.Literal at)) f = against (Unread (Literal at)) f
 text_refused is_fault against (text_fault.Unread (parse.Nesting at)) f = against (Unread (Nesting at)) f
@@ -21,8 +21,3 @@ text_refused is_fault against (text_fault.Unread (parse.TooBig size)) f = agains
 text_refused is_fault against (text_fault.Unread (parse.TooDeep depth)) f = against (Unread (TooDeep depth)) f
 text_refused is_fault against (text_fault.Unread parse.Memory) f = absurd f
 text_refused is_fault against text_fault.Memory f = tt
-
--- a fault of a part is one of the whole, where the whole needs the part
-pub fault_of_whole : {part whole : Type 0} → (part → whole) → (why : LineFault) → IsLineFaultOf part why → IsLineFaultOf whole why
-fault_of_whole up fault.Malformed f = up f
-fault_of_whole up fault.Memory f = tt

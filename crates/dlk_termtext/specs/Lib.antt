@@ -1,5 +1,4 @@
 pub mod Lines
-pub mod Parts
 pub mod Read
 pub mod Written
 pub mod Looks

@@ -1,18 +1,16 @@
 -- What the read lines say.
 use Rattle.std.specs.Prelude.{List}
 use Rattle.dlk_tree.specs.Trees.{Tree}
-use Rattle.dlk_tree.specs.declared.name.NameFault.{NameFault}
-use Rattle.dlk_tree.specs.declared.name.NameFault.TheVariants as name
 use Rattle.dlk_rules.specs.Steps.{step_at, HasKnownIds}
-use Rattle.dlk_termtext.specs.Lines.{Line as TreeLine, Numbered, Done}
-use Rattle.dlk_termtext.specs.declared.line.Line.{Line}
-use Rattle.dlk_termtext.specs.declared.line.Line.TheVariants as line
-use Rattle.dlk_termtext.specs.declared.line.LineFault.{LineFault}
-use Rattle.dlk_termtext.specs.declared.line.LineFault.TheVariants as fault
+use Rattle.dlk_lines.specs.declared.fault.LineFault.{LineFault}
+use Rattle.dlk_lines.specs.declared.fault.LineFault.TheVariants as fault
 use Rattle.dlk_parse.specs.declared.fault.ParseFault.{ParseFault}
 use Rattle.dlk_parse.specs.declared.fault.ParseFault.TheVariants as parse
 use Rattle.dlk_parse.specs.declared.fault.TextFault.{TextFault}
 use Rattle.dlk_parse.specs.declared.fault.TextFault.TheVariants as text_fault
+use Rattle.dlk_termtext.specs.Lines.{Line as TreeLine, Numbered, Done}
+use Rattle.dlk_termtext.specs.declared.line.Line.{Line}
+use Rattle.dlk_termtext.specs.declared.line.Line.TheVariants as line
 
 -- the line over the trees of its ids
 abbrev pub line_at : List Tree → Line → TreeLine
@@ -23,11 +21,6 @@ line_at trees line.Done = Done
 abbrev pub LineIsKnown : List Tree → Line → Type 0
 LineIsKnown trees (line.Step number step) = HasKnownIds trees step
 LineIsKnown trees line.Done = Unit {0}
-
--- The error tells that this holds; want of memory is free.
-abbrev pub IsLineFaultOf : Type 0 → LineFault → Type 0
-IsLineFaultOf holds fault.Malformed = holds
-IsLineFaultOf holds fault.Memory = Unit {0}
 
 -- tokens that are not read make their line Malformed
 abbrev pub of_parse : ParseFault → LineFault
@@ -44,8 +37,3 @@ abbrev pub of_text : TextFault → LineFault
 of_text (text_fault.BadByte at) = fault.Malformed
 of_text (text_fault.Unread why) = of_parse why
 of_text text_fault.Memory = fault.Memory
-
--- bytes that are no name make their line Malformed
-abbrev pub of_name : NameFault → LineFault
-of_name name.NotAName = fault.Malformed
-of_name name.Memory = fault.Memory

@@ -1,8 +1,9 @@
 //! The laws of lines. Each is a contract of a function that does nothing.
 ghost use Rattle.std.specs.Prelude.{◌≡◌, ◌⊎◌, ℕ, List};
 ghost use Rattle.dlk_calculus.specs.Steps.{Step, IsProper};
+ghost use Rattle.dlk_lines.specs.Numbers.{IsLineNumber};
 ghost use Rattle.dlk_termtext.specs.Lines.{Line as TreeLine, Numbered, IsLine};
-ghost use Rattle.dlk_termtext.specs.Written.{line_text, IsLineNumber, IsWritable};
+ghost use Rattle.dlk_termtext.specs.Written.{line_text, IsWritable};
 
 /// A text says at most one line.
 pub fn one_line()

@@ -1,19 +1,14 @@
-//! The lines of proof-term files.
+//! The lines of proof-term files of version 1: step lines whose trees are spelled in full.
 #![tactic(auto)]
 
-mod append;
-mod arguments;
+mod full;
 mod laws;
 mod line;
-mod number;
-mod parts;
 mod reading;
-mod rule;
-mod step;
 mod writing;
-mod writing_rule;
 
+pub use dlk_lines::LineFault;
 pub use laws::{one_line, some_line, steps_are_proper, written_line_is_read};
-pub use line::{Line, LineFault};
+pub use line::Line;
 pub use reading::read_line;
 pub use writing::write_line;

@@ -1,11 +1,12 @@
 //! Lines of bytes.
 ghost use Rattle.std.specs.Prelude.{IfOk, IfErr};
+ghost use Rattle.dlk_lines.specs.Read.{IsLineFaultOf};
 ghost use Rattle.dlk_termtext.specs.Lines.{Line as TreeLine, IsLine};
-ghost use Rattle.dlk_termtext.specs.Read.{line_at, LineIsKnown, IsLineFaultOf};
+ghost use Rattle.dlk_termtext.specs.Read.{line_at, LineIsKnown};
 
-use crate::line::{Line, LineFault};
-use crate::number::number_before;
-use crate::step::read_step;
+use crate::full::FullTexts;
+use crate::line::Line;
+use dlk_lines::{LineFault, read_step_line};
 use dlk_store::Store;
 use std::alloc::Global;
 
@@ -22,9 +23,6 @@ pub fn read_line<S: Store>(alloc: Global, line: &[u8], store: &mut S) -> Result<
     if line == b"done".as_slice() {
         return Ok(Line::Done);
     }
-    let Some((number, text)) = number_before(line, b' ') else {
-        return Err(LineFault::Malformed);
-    };
-    let step = read_step(alloc, text, store)?;
+    let (number, step) = read_step_line(alloc, line, &mut FullTexts, store)?;
     Ok(Line::Step { number, step })
 }

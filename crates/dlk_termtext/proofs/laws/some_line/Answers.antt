@@ -1,4 +1,4 @@
-use Rattle.dlk_termtext.proofs.SomeLine.{some_line}
+use Rattle.dlk_termtext.proofs.LineLaws.{some_line}
 use Rattle.dlk_termtext.proofs.laws.some_line.Goals as goal
 
 pub returns : goal.returns

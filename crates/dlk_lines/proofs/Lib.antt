@@ -1,0 +1,14 @@
+pub mod Cuts
+pub mod Numbers
+pub mod NumberText
+pub mod WordLaws
+pub mod Refusals
+pub mod Forms
+pub mod StepForms
+pub mod LineForms
+pub mod Appended
+pub mod Readback
+pub mod Proper
+pub mod SomeParts
+pub mod SomeRule
+pub mod SomeLine

@@ -1,0 +1,35 @@
+use Rattle.std.proofs.Common.{◌≡◌, ◌∙◌}
+use Rattle.std.proofs.lemmas.Result.{err_from_is_err_and}
+use Rattle.dlk_lines.proofs.Forms.{no_brackets, no_letters, no_word, no_arguments, called_rule}
+use Rattle.dlk_lines.proofs.Refusals.{fault_of_whole}
+use Rattle.dlk_lines.proofs.rule.read_rule.Goals as goal
+
+pub returns-in_default-clause-fault : goal.returns-in_default-clause-fault
+returns-in_default-clause-fault g c = no_brackets _ c.args.text.now c.in_default.ensures.none
+
+pub returns-in_default-from_utf8-clause-fault : goal.returns-in_default-from_utf8-clause-fault
+returns-in_default-from_utf8-clause-fault g c = no_letters _ c.args.text.now _ _ c.in-Some.ensures.found c.in_default-from_utf8.ensures.cases.0
+
+pub returns-in_default-of-clause-fault : goal.returns-in_default-of-clause-fault
+returns-in_default-of-clause-fault g c =
+    let same : c.in-Ok.word.now ≡ c.in-Some.word.now = c.in-Ok.ensures.cases.0 in
+    no_word _ c.args.text.now _ _ c.in-Some.ensures.found (rw same at c.in_default-of.ensures.none)
+
+pub returns-in_err-arguments-clause-fault : goal.returns-in_err-arguments-clause-fault
+returns-in_err-arguments-clause-fault g c =
+    let e = err_from_is_err_and c.from_residual.result c.from_residual.ensures.1 in
+    let same = c.in-Some-of.ensures.found ∙ c.in-Ok.ensures.cases.0 in
+    rw (e.1, e.2)
+    (fault_of_whole (no_arguments _ c.args.text.now _ _ c.in-Some-of.word _ c.in-Some.ensures.found same c.shape.ensures) _ c.in_err-arguments.ensures.fault)
+
+pub returns-in-Some-rule-clause-found : goal.returns-in-Some-rule-clause-found
+returns-in-Some-rule-clause-found g c =
+    let same = c.in-Some-of.ensures.found ∙ c.in-Ok.ensures.cases.0 in
+    called_rule _ _ c.args.text.now _ _ _ _ _ c.in-Some.ensures.found same c.in_ok-arguments.ensures.found
+    (c.in-Some-rule.ensures (g.S.Store.trees c.read_arguments.new.store))
+
+pub returns-in-Some-rule-clause-known : goal.returns-in-Some-rule-clause-known
+returns-in-Some-rule-clause-known g c = (c.in-Some-rule.ensures (g.S.Store.trees c.read_arguments.new.store)).known c.in_ok-arguments.ensures.known
+
+pub returns-in-None-clause-fault : goal.returns-in-None-clause-fault
+returns-in-None-clause-fault g c = absurd (c.in-None.ensures (c.in_ok-arguments.ensures.shape ∙ c.shape.ensures))

@@ -1,0 +1,12 @@
+use Rattle.std.proofs.lemmas.Result.{err_from_is_err_and}
+use Rattle.dlk_lines.proofs.StepForms.{no_rule_behind}
+use Rattle.dlk_lines.proofs.Refusals.{fault_of_whole}
+use Rattle.dlk_lines.proofs.step.read_apply.Goals as goal
+
+pub returns-in_err-rule-clause-fault : goal.returns-in_err-rule-clause-fault
+returns-in_err-rule-clause-fault g c =
+    let e = err_from_is_err_and c.from_residual.result c.from_residual.ensures.1 in
+    rw (e.1, e.2) (fault_of_whole (no_rule_behind _ c.args.text.now _ _ _ c.in-Some.ensures.found) _ c.in_err-rule.ensures.fault)
+
+pub returns-in_default-clause-fault : goal.returns-in_default-clause-fault
+returns-in_default-clause-fault g c = λ fact h rule is. c.in_default.ensures.none fact h is.behind_goal is.numbers
