@@ -1,7 +1,7 @@
 -- What the parts of a detail are, found by cutting its text.
 use Rattle.std.proofs.Common.{◌≡◌, ◌≢◌, ℕ, zero, suc, ◌+◌, ◌-◌, ◌<◌, ◌≤◌, nat_le, ◌==◌, Bool, true, false, not, ◌&&◌, ◌||◌, List, [], ◌∷◌, ◌++◌, length, map, Option, Some, None, codes, refl, sym, ap, subst, ◌∙◌, append_assoc, append-nil, arith}
 use Rattle.std.specs.Prelude.{IsTrue, is_none, if◌then◌else◌, MatchOption}
-use Rattle.std.specs.Fmt.{decimal, digits}
+use Rattle.std.specs.Fmt.{decimal}
 use Rattle.std.specs.List.{list_all, join_by}
 use Rattle.std.proofs.lemmas.Bool.{and_parts, and_from, leb-true, le-leb, ltb-true, lt-ltb, eqb-true}
 use Rattle.std.proofs.lemmas.List.Folds.{list_all-append}
@@ -16,11 +16,12 @@ use Rattle.dlk_grammar.specs.Shown.{literal}
 use Rattle.dlk_grammar.specs.Tokens.{is_digit, literal_number}
 use Rattle.dlk_grammar.proofs.Spelled.{digits_all}
 use Rattle.dlk_readback.proofs.Numbers.{Literal, whole, parts, literal_is}
-use Rattle.dlk_nodes.specs.Parts.{CutAt}
+use Rattle.dlk_lines.specs.Parts.{CutAt}
 use Rattle.dlk_nodes.specs.Words.{variable_text, unit_text, constant_text, item_text}
 use Rattle.dlk_nodes.specs.Fields.{parts_of, Each}
 use Rattle.dlk_nodes.specs.Details.{SpellsVariable, SpellsNumber, AreFewDigits, SpellsDot, SpellsUnit, SpellsConstant, SpellsItem, SpellsItems}
-use Rattle.dlk_nodes.proofs.Cuts.{one_cut}
+use Rattle.dlk_lines.proofs.Cuts.{one_cut}
+use Rattle.dlk_nodes.proofs.DotText.{one_digit}
 use Rattle.dlk_nodes.proofs.Fields.{lacks, lacks_both, behind_each, split_back}
 use Rattle.dlk_nodes.proofs.OpsBack.{lacks_if, name_lacks, symbol_parts, item_of, item_back, items_lack, joined}
 use Rattle.dlk_nodes.proofs.Parted.{each_one}
@@ -283,18 +284,6 @@ none_left [] e = refl
 none_left (c ∷ l) e = let some : 0 < length (c ∷ l) = omega arith in absurd (omega (arith, some, eqb-true (length (c ∷ l)) 0 (sym e)))
 
 -- ---- dots
-
-one_digit : (n : ℕ) → n < 8 → decimal n ≡ (48 + n) ∷ []
-unfolding digits
-one_digit zero h = refl
-one_digit (suc zero) h = refl
-one_digit (suc (suc zero)) h = refl
-one_digit (suc (suc (suc zero))) h = refl
-one_digit (suc (suc (suc (suc zero)))) h = refl
-one_digit (suc (suc (suc (suc (suc zero))))) h = refl
-one_digit (suc (suc (suc (suc (suc (suc zero)))))) h = refl
-one_digit (suc (suc (suc (suc (suc (suc (suc zero))))))) h = refl
-one_digit (suc (suc (suc (suc (suc (suc (suc (suc n)))))))) h = absurd (omega (arith, h))
 
 pub dot_found : (digit : ℕ) → is_between 48 55 digit ≡ true → SpellsDot (digit ∷ []) (digit - 48)
 dot_found digit h =

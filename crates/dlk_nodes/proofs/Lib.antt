@@ -1,8 +1,6 @@
-pub mod NumberRead
-pub mod NumberParts
-pub mod IfNones
-pub mod Cuts
 pub mod Fields
+pub mod Fronts
+pub mod DotText
 pub mod OpsBack
 pub mod NumberBack
 pub mod OpsRead

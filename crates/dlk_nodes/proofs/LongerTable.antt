@@ -6,7 +6,8 @@ use Rattle.dlk_tree.specs.Trees.{Tree, node, Forest, no_kids, kid}
 use Rattle.dlk_tree.specs.TreeTests.{tree_eq}
 use Rattle.dlk_nodes.specs.Nodes.{has_node}
 use Rattle.dlk_nodes.specs.Words.{op_text}
-use Rattle.dlk_nodes.specs.Written.{place_of, kids_text, numbered_text}
+use Rattle.dlk_lines.specs.Written.{place_of}
+use Rattle.dlk_nodes.specs.Written.{kids_text, numbered_text}
 use Rattle.dlk_nodes.specs.Follow.{KidsThere, HasKidsThere}
 
 pub place_stays : (nodes more : List Tree) (t : Tree) → has_node nodes t ≡ true → place_of (nodes ++ more) t ≡ place_of nodes t

@@ -3,12 +3,12 @@ use Rattle.std.proofs.Common.{◌≡◌, ℕ, ◌+◌, ◌≤◌, false, List, �
 use Rattle.dlk_tree.specs.Table.{Fits}
 use Rattle.dlk_tree.specs.Trees.{Tree, node, Forest, no_kids, kid, forest, trees_in, sorts}
 use Rattle.dlk_calculus.specs.Limits.{IsSmall, IsShallow}
-use Rattle.dlk_nodes.specs.Spelled.{NamesEach, none_behind, one_behind}
+use Rattle.dlk_lines.specs.Spelled.{NamesEach, none_behind, one_behind}
 use Rattle.dlk_nodes.specs.Nodes.{has_node, NamesNode, op_and_kids, IsNode, new_node, IsNodeLine, node_line}
 use Rattle.dlk_nodes.specs.Words.{op_text}
 use Rattle.dlk_nodes.specs.Written.{kids_text, node_text}
 use Rattle.dlk_nodes.specs.Follow.{KidsThere, IsNext}
-use Rattle.dlk_nodes.proofs.NumberRead.{number_read}
+use Rattle.dlk_lines.proofs.NumberText.{number_read}
 use Rattle.dlk_nodes.proofs.Places.{named}
 
 forest-trees : (kids : Forest) → forest (trees_in kids) ≡ kids

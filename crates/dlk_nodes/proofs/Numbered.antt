@@ -6,10 +6,10 @@ use Rattle.dlk_calculus.specs.Places.{at, At}
 use Rattle.std.specs.Option.{option_map}
 use Rattle.dlk_calculus.proofs.PlaceLaws.{at_one, at-map, At-map}
 use Rattle.dlk_grammar.specs.Tokens.{is_digit}
-use Rattle.dlk_nodes.specs.Numbers.{IsNumber}
-use Rattle.dlk_nodes.specs.Spelled.{Names, NamesEach, none_behind, one_behind}
+use Rattle.dlk_lines.specs.Numbers.{IsNumber}
+use Rattle.dlk_lines.specs.Spelled.{Names, NamesEach, none_behind, one_behind}
 use Rattle.dlk_nodes.specs.Fields.{before_first, parts_of, Each}
-use Rattle.dlk_nodes.proofs.NumberParts.{number_parts, one_number}
+use Rattle.dlk_lines.proofs.Numbers.{number_parts, one_number}
 use Rattle.dlk_nodes.proofs.Fields.{lacks, behind_each, all_lack, split_back}
 use Rattle.dlk_nodes.proofs.OpsBack.{lacks_if}
 

@@ -6,11 +6,11 @@ use Rattle.dlk_tree.specs.declared.op.Op.TheVariants as op
 use Rattle.dlk_tree.specs.declared.op.Sort.TheVariants.{Term}
 use Rattle.dlk_tree.specs.Table.{kid_sorts}
 use Rattle.dlk_tree.specs.Trees.{Tree, node, forest, sorts}
-use Rattle.dlk_nodes.specs.Numbers.{IsNumber}
-use Rattle.dlk_nodes.specs.Parts.{CutAt}
+use Rattle.dlk_lines.specs.Numbers.{IsNumber}
+use Rattle.dlk_lines.specs.Parts.{CutAt}
 use Rattle.dlk_nodes.specs.Nodes.{NamesNode, IsNew, IsNode, new_node, IsNodeLine, node_line, TakesKids, IsRead}
-use Rattle.dlk_nodes.proofs.NumberParts.{one_number}
-use Rattle.dlk_nodes.proofs.Cuts.{one_cut}
+use Rattle.dlk_lines.proofs.Numbers.{one_number}
+use Rattle.dlk_lines.proofs.Cuts.{one_cut}
 use Rattle.dlk_nodes.proofs.Numbered.{number_lacks_space}
 use Rattle.dlk_nodes.proofs.Readings.{one_reading}
 

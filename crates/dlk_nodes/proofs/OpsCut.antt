@@ -12,7 +12,7 @@ use Rattle.dlk_tree.specs.Table.{has_parts}
 use Rattle.dlk_nodes.specs.Parts.{IsBehind, Front}
 use Rattle.dlk_nodes.specs.Fields.{parts_of, Each}
 use Rattle.dlk_nodes.specs.Words.{Detail, NoDetail, Named, OfVariable, OfNumber, OfDot, OfUnit, OfItems, detail_text, call_of, op_text}
-use Rattle.dlk_nodes.specs.Spelled.{Names, NamesEach, none_behind, one_behind}
+use Rattle.dlk_lines.specs.Spelled.{Names, NamesEach, none_behind, one_behind}
 use Rattle.dlk_nodes.specs.Nodes.{NamesNode, op_and_kids, TakesKids, IsRead}
 use Rattle.dlk_nodes.specs.Details.{IsCall}
 use Rattle.dlk_nodes.proofs.Fields.{lacks, one_part, next_part}

@@ -15,7 +15,7 @@ use Rattle.dlk_tree.specs.Table.{has_parts}
 use Rattle.dlk_grammar.specs.Shown.{literal}
 use Rattle.dlk_grammar.specs.Tokens.{value}
 use Rattle.dlk_nodes.specs.Words.{Detail, NoDetail, Named, OfVariable, OfNumber, OfDot, OfUnit, OfItems, variable_text, unit_text, item_text, call_of}
-use Rattle.dlk_nodes.proofs.NumberRead.{decimal_value}
+use Rattle.dlk_nodes.proofs.DotText.{dot_value}
 use Rattle.dlk_nodes.specs.Fields.{parts_of}
 use Rattle.dlk_nodes.specs.Nodes.{TakesKids}
 use Rattle.dlk_nodes.proofs.NumberBack.{number_of, number_back}
@@ -102,7 +102,7 @@ pub op_back : (o : Op) (kids : List (List ℕ)) → has_parts o ≡ true → Tak
 unfolding read_op makers
 op_back (op.Variable v) kids h n = ap (λ w. found kids (op.Variable w)) (variable_back v h)
 op_back (op.Number m) kids h n = ap (λ w. found kids (op.Number w)) (number_back m h)
-op_back (op.Dot m) kids h n = ap (λ w. found kids (op.Dot w)) (let less : m < 8 = ltb-true m 8 h in decimal_value m (omega (arith, less)))
+op_back (op.Dot m) kids h n = ap (λ w. found kids (op.Dot w)) (let less : m < 8 = ltb-true m 8 h in dot_value m less)
 op_back (op.UnitFun s) kids h n =
     ap (λ u. found kids (op.UnitFun (record { kind = UnitFunc; name = u.0; arity = 0; taboo = u.1 }))) (unit_back s.name s.taboo (symbol_parts UnitFunc s h).name_is (symbol_parts UnitFunc s h).taboo_is)
     ∙ of_sym op.UnitFun _ s kids (unit_again UnitFunc s refl h)

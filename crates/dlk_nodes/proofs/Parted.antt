@@ -1,8 +1,8 @@
 -- What the parts of a text say, one by one.
 use Rattle.std.proofs.Common.{◌≡◌, ◌≢◌, ℕ, ◌==◌, true, false, not, List, [], ◌∷◌, ◌++◌, length, suc, refl, sym, ap, subst, ◌∙◌, append_assoc, ◌⊎◌, inl, inr}
-use Rattle.dlk_nodes.specs.Parts.{CutAt}
+use Rattle.dlk_lines.specs.Parts.{CutAt}
 use Rattle.dlk_nodes.specs.Fields.{parts_of, Each}
-use Rattle.dlk_nodes.proofs.Cuts.{uncut_lacks}
+use Rattle.dlk_nodes.proofs.Fronts.{uncut_lacks}
 use Rattle.dlk_nodes.proofs.Fields.{one_part, next_part}
 
 pub lone_part : (byte : ℕ) (text : List ℕ) → ((front rest : List ℕ) → text ≢ front ++ byte ∷ rest) → parts_of byte text ≡ text ∷ []

@@ -6,11 +6,11 @@ use Rattle.dlk_tree.specs.TreeTests.{tree_eq}
 use Rattle.dlk_tree.proofs.TreeSame.{tree_decides}
 use Rattle.dlk_calculus.specs.Places.{At}
 use Rattle.dlk_calculus.proofs.PlaceLaws.{at_suc, At_place}
-use Rattle.dlk_nodes.specs.Spelled.{Names}
+use Rattle.dlk_lines.specs.Spelled.{Names}
 use Rattle.dlk_nodes.specs.Nodes.{has_node}
 use Rattle.dlk_nodes.specs.Follow.{AreThere, KidsThere}
-use Rattle.dlk_nodes.specs.Written.{place_of, number_text}
-use Rattle.dlk_nodes.proofs.NumberRead.{number_read}
+use Rattle.dlk_lines.specs.Written.{place_of, number_text}
+use Rattle.dlk_lines.proofs.NumberText.{number_read}
 
 pub tree_is_itself : (t : Tree) → tree_eq t t ≡ true
 tree_is_itself t = (tree_decides t t).1 refl

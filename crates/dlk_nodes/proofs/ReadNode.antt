@@ -11,9 +11,9 @@ use Rattle.dlk_calculus.specs.Limits.{IsSmall, IsShallow}
 use Rattle.dlk_calculus.proofs.PlaceLaws.{At_All}
 use Rattle.dlk_store.specs.declared.Id.{Id}
 use Rattle.dlk_store.specs.Stores.{IsId, tree, kid_trees, sorts_at, Keeps, StandsFor, HasOneId}
-use Rattle.dlk_nodes.specs.Numbers.{IsNumber}
-use Rattle.dlk_nodes.specs.Parts.{CutAt}
-use Rattle.dlk_nodes.specs.Spelled.{NamesEach, none_behind, one_behind}
+use Rattle.dlk_lines.specs.Numbers.{IsNumber}
+use Rattle.dlk_lines.specs.Parts.{CutAt}
+use Rattle.dlk_lines.specs.Spelled.{NamesEach, none_behind, one_behind}
 use Rattle.dlk_nodes.specs.Nodes.{has_node, NamesNode, op_and_kids, IsNew, IsNode, new_node, IsNodeLine, node_line, TakesKids, IsRead}
 use Rattle.dlk_nodes.specs.Tables.{nodes_at, has}
 use Rattle.dlk_nodes.proofs.Numbered.{FromEach, from_each, names_each_at}

@@ -17,9 +17,9 @@ use Rattle.dlk_grammar.specs.Shown.{literal}
 use Rattle.dlk_grammar.specs.Tokens.{is_digit}
 use Rattle.dlk_nodes.specs.Words.{Detail, NoDetail, Named, OfVariable, OfNumber, OfDot, OfUnit, OfItems, detail_text, call_of, op_text, variable_text, unit_text, item_text}
 use Rattle.dlk_nodes.specs.Fields.{parts_of, Each}
-use Rattle.dlk_nodes.specs.Spelled.{Names, NamesEach}
+use Rattle.dlk_lines.specs.Spelled.{Names, NamesEach}
 use Rattle.dlk_nodes.specs.Nodes.{NamesNode, op_and_kids, TakesKids, IsRead}
-use Rattle.dlk_nodes.proofs.NumberRead.{decimal_digits}
+use Rattle.dlk_nodes.proofs.DotText.{dot_digits}
 use Rattle.dlk_nodes.proofs.Fields.{lacks, lacks_both, behind_each, all_lack, split_back}
 use Rattle.dlk_nodes.proofs.Parted.{each_one, each_long}
 use Rattle.dlk_nodes.proofs.Numbered.{one_name, fields_named}
@@ -82,7 +82,7 @@ module _ (byte : ℕ) (no_name : is_name_byte byte ≡ false) (no_digit : is_dig
   pub details_lack : (o : Op) → has_parts o ≡ true → all_lack byte (detail_fields (call_of o).1)
   details_lack (op.Variable v) h = (variable_lacks v h, tt)
   details_lack (op.Number n) h = (number_lacks byte no_digit point n h, tt)
-  details_lack (op.Dot n) h = (let less : n < 8 = ltb-true n 8 h in lacks_if is_digit byte no_digit (decimal n) (decimal_digits n (omega (arith, less))), tt)
+  details_lack (op.Dot n) h = (let less : n < 8 = ltb-true n 8 h in lacks_if is_digit byte no_digit (decimal n) (dot_digits n less), tt)
   details_lack (op.UnitFun s) h = (unit_lacks s.name s.taboo (symbol_parts UnitFunc s h).name_is (symbol_parts UnitFunc s h).taboo_is, tt)
   details_lack (op.UnitPred s) h = (unit_lacks s.name s.taboo (symbol_parts UnitPred s h).name_is (symbol_parts UnitPred s h).taboo_is, tt)
   details_lack (op.Apply s) h = (named_lacks Func s h, tt)

@@ -17,14 +17,14 @@ use Rattle.dlk_tree.proofs.Same.{sorts_decides}
 use Rattle.dlk_calculus.specs.Limits.{most_nodes, greatest_depth}
 use Rattle.dlk_calculus.specs.Places.{at}
 use Rattle.dlk_grammar.specs.Tokens.{is_digit, value}
-use Rattle.dlk_nodes.specs.Numbers.{IsNumber, number}
-use Rattle.dlk_nodes.specs.Parts.{CutAt}
+use Rattle.dlk_lines.specs.Numbers.{IsNumber, number}
+use Rattle.dlk_lines.specs.Parts.{CutAt}
 use Rattle.dlk_nodes.specs.Words.{call_of, op_text}
 use Rattle.dlk_nodes.specs.Fields.{parts_of, Each}
-use Rattle.dlk_nodes.specs.Spelled.{Names}
+use Rattle.dlk_lines.specs.Spelled.{Names}
 use Rattle.dlk_nodes.specs.Nodes.{has_node, NamesNode, op_and_kids, IsNew, IsNode, new_node, IsNodeLine, node_line, TakesKids, IsRead}
-use Rattle.dlk_nodes.proofs.NumberParts.{one_number}
-use Rattle.dlk_nodes.proofs.Cuts.{cut_there, cut_nowhere}
+use Rattle.dlk_lines.proofs.Numbers.{one_number}
+use Rattle.dlk_lines.proofs.Cuts.{cut_there, cut_nowhere}
 use Rattle.dlk_nodes.proofs.Fields.{behind_each}
 use Rattle.dlk_nodes.proofs.Parted.{each_one}
 use Rattle.dlk_nodes.proofs.Numbered.{one_name, named_each}

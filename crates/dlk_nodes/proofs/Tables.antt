@@ -15,7 +15,7 @@ use Rattle.dlk_store.specs.declared.Id.{Id}
 use Rattle.dlk_store.specs.Stores.{IsId, tree, kid_trees, HasOneId}
 use Rattle.dlk_nodes.specs.Nodes.{has_node}
 use Rattle.dlk_nodes.specs.Tables.{nodes_at, id_eq, has}
-use Rattle.dlk_nodes.specs.Written.{place_of, number_text}
+use Rattle.dlk_lines.specs.Written.{place_of, number_text}
 use Rattle.dlk_nodes.specs.Terms.{new_nodes, new_in_kids}
 use Rattle.dlk_nodes.proofs.Places.{in_neither}
 use Rattle.dlk_nodes.proofs.NewNodes.{absent_in_kids}

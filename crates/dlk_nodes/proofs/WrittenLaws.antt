@@ -10,7 +10,8 @@ use Rattle.dlk_store.specs.declared.Id.{Id}
 use Rattle.dlk_store.specs.Stores.{tree, kid_trees}
 use Rattle.dlk_print.proofs.Left.{Left, unbegun, same_rest}
 use Rattle.dlk_nodes.specs.Words.{with_taboo, item_text}
-use Rattle.dlk_nodes.specs.Written.{number_text, kids_text}
+use Rattle.dlk_lines.specs.Written.{number_text}
+use Rattle.dlk_nodes.specs.Written.{kids_text}
 
 -- what comes behind a name
 abbrev pub behind_name : List ℕ → List ℕ → Option (List ℕ) → List ℕ

@@ -1,8 +1,6 @@
-pub mod Numbers
 pub mod Parts
 pub mod Fields
 pub mod Words
-pub mod Spelled
 pub mod Nodes
 pub mod Details
 pub mod Faults

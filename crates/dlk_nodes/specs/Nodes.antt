@@ -7,8 +7,8 @@ use Rattle.dlk_tree.specs.Table.{Fits, has_parts}
 use Rattle.dlk_tree.specs.Trees.{Tree, node, forest, sorts}
 use Rattle.dlk_tree.specs.TreeTests.{tree_eq}
 use Rattle.dlk_calculus.specs.Limits.{IsSmall, IsShallow}
-use Rattle.dlk_nodes.specs.Numbers.{IsNumber}
-use Rattle.dlk_nodes.specs.Spelled.{NamesEach}
+use Rattle.dlk_lines.specs.Numbers.{IsNumber}
+use Rattle.dlk_lines.specs.Spelled.{NamesEach}
 use Rattle.dlk_nodes.specs.Words.{op_text}
 
 -- the tree has a node

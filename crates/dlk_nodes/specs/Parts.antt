@@ -1,15 +1,6 @@
 -- Parts of a text.
-use Rattle.std.specs.Prelude.{◌≡◌, ℕ, ◌==◌, IsTrue, not, List, [], ◌∷◌, ◌++◌}
-use Rattle.std.specs.List.{list_all}
-
--- no byte of the text is this one
-abbrev pub Lacks : List ℕ → ℕ → Type 0
-Lacks text byte = IsTrue (list_all (λ b. not (b == byte)) text)
-
--- the text up to the first byte of this kind, and what comes behind that byte
-pub record CutAt (text : List ℕ) (byte : ℕ) (front rest : List ℕ) : Type 0 where
-  pub text_is : text ≡ front ++ byte ∷ rest
-  pub first : Lacks front byte
+use Rattle.std.specs.Prelude.{◌≡◌, ℕ, List, [], ◌∷◌, ◌++◌}
+use Rattle.dlk_lines.specs.Parts.{Lacks}
 
 -- nothing, or a text that begins with a space
 abbrev pub IsBehind : List ℕ → Type 0

@@ -2,7 +2,8 @@
 ghost use Rattle.std.specs.Prelude.{◌≡◌, ◌≢◌, ◌++◌, ℕ, List, Option, IfOk, IfErr};
 ghost use Rattle.dlk_store.specs.declared.Id.{Id as TreeId};
 ghost use Rattle.dlk_tree.specs.declared.op.Op.{Op as TreeOp};
-ghost use Rattle.dlk_nodes.specs.Parts.{Lacks, IsBehind};
+ghost use Rattle.dlk_lines.specs.Parts.{Lacks};
+ghost use Rattle.dlk_nodes.specs.Parts.{IsBehind};
 ghost use Rattle.dlk_nodes.specs.Words.{NoDetail, call_of};
 ghost use Rattle.dlk_nodes.specs.Nodes.{IsRead};
 ghost use Rattle.dlk_nodes.specs.Details.{SpellsUnit, IsCall};

@@ -8,7 +8,7 @@ ghost use Rattle.dlk_nodes.specs.Details.{SpellsVariable, SpellsDot, SpellsUnit}
 ghost use Rattle.dlk_nodes.specs.Faults.{IsNodeFaultOf};
 
 use crate::fault::NodeFault;
-use crate::parts::cut_at;
+use dlk_lines::cut_at;
 use dlk_tree::table::is_sym;
 use dlk_tree::{Kind, Name, Sym, Var};
 use std::alloc::Global;

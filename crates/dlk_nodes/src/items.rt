@@ -8,7 +8,7 @@ ghost use Rattle.dlk_nodes.specs.Faults.{IsNodeFaultOf};
 
 use crate::details::name;
 use crate::fault::NodeFault;
-use crate::parts::cut_at;
+use dlk_lines::cut_at;
 use dlk_tree::{Items, Kind, Name, OdeItem, Sym, are_distinct};
 use std::alloc::Global;
 

@@ -9,7 +9,6 @@ mod items;
 pub mod laws;
 mod literals;
 mod node;
-mod number;
 mod numbers;
 mod parts;
 mod table;

@@ -7,11 +7,17 @@ ghost use Rattle.dlk_nodes.specs.Details.{SpellsNumber, AreFewDigits};
 ghost use Rattle.dlk_nodes.specs.Faults.{IsNodeFaultOf};
 
 use crate::fault::NodeFault;
-use crate::number::are_digits;
-use crate::parts::cut_at;
+use dlk_lines::cut_at;
 use dlk_print::append_number;
 use dlk_tree::{Num, Op, fits};
 use std::alloc::Global;
+
+/// Whether each byte is a digit.
+fn are_digits(text: &[u8]) -> bool
+    ensures { result ≡ list_all is_digit text.now }
+{
+    text.iter().all(|b| b.is_ascii_digit())
+}
 
 /// The digits without the zeros at their end.
 fn without_zeros(digits: &[u8]) -> &[u8]

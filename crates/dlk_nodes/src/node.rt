@@ -9,9 +9,8 @@ ghost use Rattle.dlk_nodes.specs.Faults.{IsNodeFaultOf};
 
 use crate::calls::op_and_kids;
 use crate::fault::NodeFault;
-use crate::number::number;
-use crate::parts::cut_at;
 use crate::table::NodeTable;
+use dlk_lines::{cut_at, number};
 use dlk_calculus::{GREATEST_DEPTH, MOST_NODES};
 use dlk_store::{Id, Steps, Store};
 use dlk_tree::{Sort, fits, sort_of};

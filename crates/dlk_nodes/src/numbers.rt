@@ -1,14 +1,13 @@
 //! Items by their numbers in a text.
 ghost use Rattle.std.specs.Prelude.{◌≡◌, ◌==◌, IfOk, IfErr, MatchOption, List};
 ghost use Rattle.dlk_store.specs.declared.Id.{Id as TreeId};
-ghost use Rattle.dlk_nodes.specs.Spelled.{Names, NamesEach};
+ghost use Rattle.dlk_lines.specs.Spelled.{Names, NamesEach};
 ghost use Rattle.dlk_nodes.specs.Fields.{parts_of, Each};
 ghost use Rattle.dlk_nodes.specs.Faults.{IsNodeFaultOf};
 
 use crate::fault::NodeFault;
-use crate::number::number;
-use crate::parts::cut_at;
 use crate::table::NodeTable;
+use dlk_lines::{cut_at, number};
 use dlk_store::Id;
 use std::alloc::Global;
 

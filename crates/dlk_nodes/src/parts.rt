@@ -1,15 +1,6 @@
 //! Parts of a text.
-ghost use Rattle.std.specs.Prelude.{◌≡◌, ◌≢◌, ◌==◌, ℕ, ◌++◌, ◌∷◌, List, position, IfSome, IfNone};
-ghost use Rattle.dlk_nodes.specs.Parts.{CutAt, Front};
-
-/// The text before the first byte of this kind, and the text behind that byte.
-pub(crate) fn cut_at(text: &[u8], byte: u8) -> Option<(&[u8], &[u8])>
-    ensures found { IfSome result (λ p. CutAt text.now byte p.0.now p.1.now) }
-    ensures none { IfNone result ((front rest : List ℕ) → text.now ≢ front ++ byte ∷ rest) }
-{
-    let place = place_of(text, byte)?;
-    Some((&text[..place], &text[place + 1..]))
-}
+ghost use Rattle.std.specs.Prelude.{◌≡◌, ◌==◌, position};
+ghost use Rattle.dlk_nodes.specs.Parts.{Front};
 
 /// The index of the first byte of this kind.
 fn place_of(text: &[u8], byte: u8) -> Option<usize>

@@ -5,7 +5,8 @@ ghost use Rattle.std.specs.List.{join_by};
 ghost use Rattle.dlk_store.specs.Stores.{IsId, tree, kid_trees};
 ghost use Rattle.dlk_print.specs.Printed.{Appends};
 ghost use Rattle.dlk_nodes.specs.Words.{variable_text, with_taboo, item_text, detail_text, call_of, op_text};
-ghost use Rattle.dlk_nodes.specs.Written.{number_text, kids_text, numbered_text};
+ghost use Rattle.dlk_lines.specs.Written.{number_text};
+ghost use Rattle.dlk_nodes.specs.Written.{kids_text, numbered_text};
 ghost use Rattle.dlk_nodes.specs.Tables.{nodes_at};
 
 use crate::table::NodeTable;

@@ -1,5 +1,5 @@
 use Rattle.std.proofs.Common.{refl}
-use Rattle.dlk_nodes.specs.Spelled.{Names}
+use Rattle.dlk_lines.specs.Spelled.{Names}
 use Rattle.dlk_nodes.proofs.Parted.{one_more, none_in_cut, none_in_last, all_parts}
 use Rattle.dlk_nodes.proofs.numbers.nodes_numbered.Goals as goal
 

@@ -1,5 +1,5 @@
 use Rattle.std.proofs.Common.{length}
-use Rattle.dlk_nodes.specs.Spelled.{Names}
+use Rattle.dlk_lines.specs.Spelled.{Names}
 use Rattle.dlk_nodes.proofs.Parted.{SoFar}
 use Rattle.dlk_nodes.proofs.numbers.nodes_numbered.Given as goal
 

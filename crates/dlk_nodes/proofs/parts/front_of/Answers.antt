@@ -1,5 +1,5 @@
 use Rattle.std.proofs.Common.{sym}
-use Rattle.dlk_nodes.proofs.Cuts.{front_none, front_some}
+use Rattle.dlk_nodes.proofs.Fronts.{front_none, front_some}
 use Rattle.dlk_nodes.proofs.parts.front_of.Goals as goal
 
 pub returns-in-None : goal.returns-in-None
