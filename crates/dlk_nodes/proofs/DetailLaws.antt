@@ -191,7 +191,7 @@ constant_item text x y s =
     let r = no_taboo_part x y s.real in
     record {
       real = and_from (is_name x && true && taboo_is_name y) (is_none y || true)
-      (and_from (is_name x && true) (taboo_is_name y) (and_from (is_name x) true r.0 refl) r.1) (any_taboo y);
+          (and_from (is_name x && true) (taboo_is_name y) (and_from (is_name x) true r.0 refl) r.1) (any_taboo y);
       text_is = s.text_is;
     }
 
@@ -362,7 +362,7 @@ system_found text items each h =
     let v = and_parts (nat_le (length items) 64) (all_distinct (evolved items)) h in
     record {
       real = and_from (nat_le 1 (length items) && nat_le (length items) 64 && list_all is_item items) (all_distinct (evolved items))
-      (and_from (nat_le 1 (length items) && nat_le (length items) 64) (list_all is_item items) (and_from (nat_le 1 (length items)) (nat_le (length items) 64) (le-leb 1 (length items) w.2) v.0) w.1) v.1;
+          (and_from (nat_le 1 (length items) && nat_le (length items) 64) (list_all is_item items) (and_from (nat_le 1 (length items)) (nat_le (length items) 64) (le-leb 1 (length items) w.2) v.0) w.1) v.1;
       text_is = w.0;
     }
 

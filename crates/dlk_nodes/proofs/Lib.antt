@@ -19,4 +19,3 @@ pub mod Refusals
 pub mod CallLaws
 pub mod OpsCut
 pub mod ReadNode
-pub mod WrittenLaws

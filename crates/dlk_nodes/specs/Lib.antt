@@ -8,3 +8,4 @@ pub mod Written
 pub mod Follow
 pub mod Terms
 pub mod Tables
+pub mod Examples

@@ -83,12 +83,7 @@ pub(crate) fn dot(text: &[u8]) -> Result<u8, NodeFault>
 }
 
 /// The symbol of this kind, name and arity, without a taboo.
-pub(crate) fn symbol(
-    alloc: Global,
-    kind: Kind,
-    text: &[u8],
-    arity: usize,
-) -> Result<Sym, NodeFault>
+pub(crate) fn symbol(alloc: Global, kind: Kind, text: &[u8], arity: usize) -> Result<Sym, NodeFault>
     ensures found { IfOk result (λ s. s ≡ record { kind = kind; name = text.now; arity = arity; taboo = None }) }
     ensures real { IfOk result (λ s. IsTrue (is_sym s)) }
     ensures fault { IfErr result (IsNodeFaultOf (¬ IsTrue (is_sym (record { kind = kind; name = text.now; arity = arity; taboo = None })))) }
