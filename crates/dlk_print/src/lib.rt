@@ -12,7 +12,7 @@ mod symbol;
 
 pub use appending::append;
 pub use fault::PrintFault;
-pub use number::append_decimal;
+pub use number::{append_decimal, append_number};
 pub use pairs::pairs_text;
 pub use printing::text;
 pub use sequent::sequent_text;

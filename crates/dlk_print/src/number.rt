@@ -53,8 +53,12 @@ fn integer_part(n: &Num) -> u128
     left
 }
 
-/// Appends the number, with a point where it has a scale.
-pub(crate) fn append_number(out: &mut Vec<u8>, n: &Num) -> Result<(), PrintFault>
+/// Appends the number, with a point where it has a scale. Without memory a prefix of it was appended.
+///
+/// # Errors
+///
+/// `Memory` alone.
+pub fn append_number(out: &mut Vec<u8>, n: &Num) -> Result<(), PrintFault>
     ensures { Appends out.old.items out.new.items (literal n.now) result }
 {
     if n.scale == 0 {

@@ -1,0 +1,11 @@
+pub mod Parts
+pub mod Fields
+pub mod Words
+pub mod Nodes
+pub mod Details
+pub mod Faults
+pub mod Written
+pub mod Follow
+pub mod Terms
+pub mod Tables
+pub mod Examples

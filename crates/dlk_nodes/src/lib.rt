@@ -1,0 +1,20 @@
+//! Node lines: the trees of a term file by the numbers of their nodes.
+#![tactic(auto)]
+
+mod adding;
+mod calls;
+mod details;
+mod fault;
+mod items;
+pub mod laws;
+mod literals;
+mod node;
+mod numbers;
+mod parts;
+mod table;
+mod words;
+
+pub use adding::add_new;
+pub use fault::NodeFault;
+pub use node::read_node_line;
+pub use table::NodeTable;

@@ -1,0 +1,107 @@
+//! Node lines, read.
+ghost use Rattle.std.specs.Prelude.{◌≡◌, ◌+◌, ◌≤◌, ℕ, length, All, IsTrue, IfOk, IfErr, OnOk};
+ghost use Rattle.dlk_tree.specs.Trees.{Tree};
+ghost use Rattle.dlk_calculus.specs.Limits.{IsSmall, IsShallow};
+ghost use Rattle.dlk_store.specs.Stores.{IsId, tree, sorts_at};
+ghost use Rattle.dlk_nodes.specs.Nodes.{IsNode, IsNodeLine};
+ghost use Rattle.dlk_nodes.specs.Tables.{nodes_at};
+ghost use Rattle.dlk_nodes.specs.Faults.{IsNodeFaultOf};
+
+use crate::calls::op_and_kids;
+use crate::fault::NodeFault;
+use crate::table::NodeTable;
+use dlk_calculus::{GREATEST_DEPTH, MOST_NODES};
+use dlk_lines::{cut_at, number};
+use dlk_store::{Id, Steps, Store};
+use dlk_tree::{Sort, fits, sort_of};
+use std::alloc::{AllocError, Global};
+use std::sync::ledger::Ledger;
+
+/// The sorts of these trees, a look each.
+fn sorts_of<S: Store, L: Ledger>(
+    alloc: Global,
+    ids: &[Id],
+    store: &S,
+    steps: &mut Steps<L>,
+) -> Result<Vec<Sort>, AllocError>
+    requires { All (IsId (S.trees store.now)) ids.now }
+    ensures sorts { IfOk result (λ sorts. sorts.items ≡ sorts_at (S.trees store.now) ids.now) }
+    ensures cost { steps.new ≤ steps.old + length ids.now }
+{
+    let mut sorts = Vec::new(alloc);
+    for id in ids {
+        sorts.push(sort_of(store.look(*id, steps).op))?;
+    }
+    Ok(sorts)
+}
+
+/// Whether the tree is within the limits of what is read.
+fn is_within_limits<S: Store>(store: &S, id: Id) -> bool
+    requires { IsId (S.trees store.now) id }
+    ensures small { IsTrue result → IsSmall (tree (S.trees store.now) id) }
+    ensures shallow { IsTrue result → IsShallow (tree (S.trees store.now) id) }
+    ensures is { IsSmall (tree (S.trees store.now) id) → IsShallow (tree (S.trees store.now) id) → IsTrue result }
+{
+    store.size(id) <= MOST_NODES && store.depth(id) <= GREATEST_DEPTH
+}
+
+/// The new node of which this is the text: an operator with the numbers of its kids.
+pub(crate) fn read_node<S: Store, L: Ledger>(
+    alloc: Global,
+    text: &[u8],
+    table: &NodeTable,
+    store: &mut S,
+    steps: &mut Steps<L>,
+) -> Result<Id, NodeFault>
+    requires unique { IsTrue S.unique }
+    requires known { All (IsId (S.trees store.old)) table.now }
+    ensures found { IfOk result (λ id. IsNode (nodes_at (S.trees store.old) table.now) text.now (tree (S.trees store.new) id)) }
+    ensures known { IfOk result (IsId (S.trees store.new)) }
+    ensures fault { IfErr result (IsNodeFaultOf ((t : Tree) → ¬ IsNode (nodes_at (S.trees store.old) table.now) text.now t)) }
+    ensures grows { S.grows store.old store.new }
+{
+    let (op, kids) = op_and_kids(alloc, text, table)?;
+    let sorts = sorts_of(alloc, kids.as_slice(), store, steps)?;
+    if !fits(&op, sorts.as_slice()) {
+        return Err(NodeFault::Malformed);
+    }
+    let id = store.make(alloc, op, kids.as_slice())?;
+    if table.place(id).is_some() {
+        return Err(NodeFault::Malformed);
+    }
+    if !is_within_limits(store, id) {
+        return Err(NodeFault::Malformed);
+    }
+    Ok(id)
+}
+
+/// The number and the new node of which this is the line.
+///
+/// The trees of the nodes are those of the store. `Malformed` comes exactly where the bytes are the line of no new node, and `Memory` when
+/// memory runs out. Whatever comes, the store keeps its trees.
+pub fn read_node_line<S: Store, L: Ledger>(
+    alloc: Global,
+    line: &[u8],
+    table: &NodeTable,
+    store: &mut S,
+    steps: &mut Steps<L>,
+) -> Result<(u32, Id), NodeFault>
+    requires unique { IsTrue S.unique }
+    requires known { All (IsId (S.trees store.old)) table.now }
+    ensures found { IfOk result (λ p. IsNodeLine (nodes_at (S.trees store.old) table.now) line.now p.0 (tree (S.trees store.new) p.1)) }
+    ensures known { IfOk result (λ p. IsId (S.trees store.new) p.1) }
+    ensures fault { IfErr result (IsNodeFaultOf ((n : ℕ) (t : Tree) → ¬ IsNodeLine (nodes_at (S.trees store.old) table.now) line.now n t)) }
+    ensures grows { S.grows store.old store.new }
+{
+    let Some(text) = line.strip_prefix(b"node ".as_slice()) else {
+        return Err(NodeFault::Malformed);
+    };
+    let Some((digits, text)) = cut_at(text, b' ') else {
+        return Err(NodeFault::Malformed);
+    };
+    let Some(number) = number(digits) else {
+        return Err(NodeFault::Malformed);
+    };
+    let id = read_node(alloc, text, table, store, steps)?;
+    Ok((number, id))
+}
