@@ -1,0 +1,10 @@
+pub mod Names
+pub mod Moved
+pub mod Kept
+pub mod Unlike
+pub mod Named
+pub mod OneTrimmed
+pub mod Again
+pub mod Joined
+pub mod Linked
+pub mod OneLinked

@@ -1,0 +1,4 @@
+pub mod Trimmed
+pub mod Neat
+pub mod Kept
+pub mod Linked
