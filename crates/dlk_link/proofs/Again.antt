@@ -37,17 +37,14 @@ count_at (suc n) (suc f) a b = elim (cases_order (suc f) (n + 1)) [
   | inr (inr gt) ↦ absurd (omega (arith, gt, b))
 ]
 
-get_in : (items : List Step) (x : Step) → IsIn x items → (place : ℕ) × At items place x
-get_in items x h = walk items h
-  where
-    walk : (rest : List Step) → IsIn x rest → (place : ℕ) × At rest place x
-    walk [] h = absurd h
-    walk (y ∷ rest) (inl e) = (1, cc)
-    walk (y ∷ rest) (inr h) = let f = walk rest h in (suc f.0, later y rest f.0 f.1)
-      where
-        later : (y : Step) (rest : List Step) (place : ℕ) → At rest place x → At (y ∷ rest) (suc place) x
-        later y rest zero e = absurd (cc e)
-        later y rest (suc place) e = at_suc (y ∷ rest) (suc place) ∙ sym (at_suc rest place) ∙ e
+at_later : {A : Type 0} (y : A) (rest : List A) (place : ℕ) (x : A) → At rest place x → At (y ∷ rest) (suc place) x
+at_later y rest zero x e = absurd (cc e)
+at_later y rest (suc place) x e = at_suc (y ∷ rest) (suc place) ∙ sym (at_suc rest place) ∙ e
+
+pub get_in : {A : Type 0} (items : List A) (x : A) → IsIn x items → (place : ℕ) × At items place x
+get_in [] x h = absurd h
+get_in (y ∷ items) x (inl e) = (1, cc)
+get_in (y ∷ items) x (inr h) = let f = get_in items x h in (suc f.0, at_later y items f.0 x f.1)
 
 module _ (steps : List Step) (rows : List Provable) (takes : Takes [] steps rows) (some : 1 ≤ length steps) (unlike : AreUnlike steps) (named : AreNamed steps) where
   -- each row is needed

@@ -8,3 +8,9 @@ pub mod Again
 pub mod Joined
 pub mod Linked
 pub mod OneLinked
+pub mod RuleCopies
+pub mod KeyLaws
+pub mod KeyMade
+pub mod Marks
+pub mod KeptSteps
+pub mod InTurn
