@@ -1,0 +1,16 @@
+pub mod Names
+pub mod Moved
+pub mod Kept
+pub mod Unlike
+pub mod Named
+pub mod OneTrimmed
+pub mod Again
+pub mod Joined
+pub mod Linked
+pub mod OneLinked
+pub mod RuleCopies
+pub mod KeyLaws
+pub mod KeyMade
+pub mod Marks
+pub mod KeptSteps
+pub mod InTurn

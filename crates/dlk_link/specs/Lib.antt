@@ -1,0 +1,11 @@
+pub mod Trimmed
+pub mod Neat
+pub mod Kept
+pub mod Linked
+pub mod Copies
+pub mod Keys
+pub mod RuleWords
+pub mod Marks
+pub mod Keyed
+pub mod Faults
+pub mod Ends
