@@ -14,7 +14,7 @@ use Rattle.dlk_rules.specs.Words.{shape_of, text_of, wanted}
 use Rattle.dlk_tacsyn.specs.Tactics.{Atom}
 use Rattle.dlk_kernel.specs.Taken.{Takes}
 use Rattle.dlk_elab.specs.Atoms.{asked as by_asking}
-use Rattle.dlk_elab.specs.Atoms.{uses, Instance, instance_of, not_instantiated, not_used, AtomWhy, AtStep, Asked, Steps, Refused, Asks, AtomSteps, FirstFault, AtomFault, asks_none, not_taken}
+use Rattle.dlk_elab.specs.Atoms.{uses, Instance, instance_of, not_instantiated, not_used, FailWhy, AtStep, Asked, Steps, Refused, Asks, AtomSteps, FirstFault, AtomFault, asks_none, not_taken}
 use Rattle.dlk_uses.specs.Uses.{Use, Finishes, proved}
 use Rattle.dlk_match.specs.Matching.{Match}
 use Rattle.dlk_elab.proofs.OneFinish.{finishes_one}
@@ -113,7 +113,7 @@ module _ (one_provable : (rows : List Provable) (step : Step) (p q : Provable) �
         takes_one one_provable other a b more (subst (λ xs. Takes other xs a) r.rest_is (subst (λ (l : List Provable). Takes l rest a) r.between_is then_on)) also,
       )
 
-  pub one_fault : (rows : List Provable) (fact goal : ℕ) (atom : Atom) (why other : AtomWhy) → AtomFault rows fact goal atom why →
+  pub one_fault : (rows : List Provable) (fact goal : ℕ) (atom : Atom) (why other : FailWhy) → AtomFault rows fact goal atom why →
       AtomFault rows fact goal atom other → why ≡ other
   one_fault rows fact goal atom why other (asks_none s p a) (asks_none t q b) =
       let e = asked_one rows fact goal atom s t (Refused why) (Refused other) p q a b in cc
@@ -155,7 +155,7 @@ module _ (one_provable : (rows : List Provable) (step : Step) (p q : Provable) �
       ap AtStep (fault_one one_provable once other more why last
       (subst (λ xs. FirstFault other xs why) r.rest_is (subst (λ (l : List Provable). FirstFault l rest why) r.between_is h)) g)
 
-  pub not_both : (rows : List Provable) (fact goal : ℕ) (atom : Atom) (s : List Step) (a : List Provable) (why : AtomWhy) → AtomSteps rows fact goal atom s a →
+  pub not_both : (rows : List Provable) (fact goal : ℕ) (atom : Atom) (s : List Step) (a : List Provable) (why : FailWhy) → AtomSteps rows fact goal atom s a →
       AtomFault rows fact goal atom why → ⊥
   not_both rows fact goal atom _ a why (by_asking {steps} s p x taken) (asks_none t q b) =
       let e = asked_one rows fact goal atom s t (Steps steps) (Refused why) p q x b in cc

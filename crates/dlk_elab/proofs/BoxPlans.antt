@@ -19,7 +19,7 @@ use Rattle.dlk_tacsyn.specs.declared.tactic.Arg.{Arg}
 use Rattle.dlk_tacsyn.specs.Tactics.{Argument, AtPlace}
 use Rattle.dlk_tacsyn.specs.Ties.{argument_at}
 use Rattle.dlk_elab.specs.declared.fault.TacFault.{TacFault}
-use Rattle.dlk_elab.specs.Atoms.{AtomWhy, NoPlace, AtStep, IsOnTheRight, Asks, Refused, no_box, not_on_the_right}
+use Rattle.dlk_elab.specs.Atoms.{FailWhy, NoPlace, AtStep, IsOnTheRight, Asks, Refused, no_box, not_on_the_right}
 use Rattle.dlk_elab.specs.Ties.{IsTacFault, NoBox, IsBoxOf, IsBoxAt}
 use Rattle.dlk_elab.proofs.Places.{At-map, At_All}
 use Rattle.dlk_elab.proofs.Elaborates.{tac_fault_weaker}
@@ -170,7 +170,7 @@ two_kids trees (x ∷ y ∷ []) o t b f p q = refl
 two_kids trees (x ∷ y ∷ z ∷ rest) o t b f p q = absurd (let e = sym p ∙ q in cc)
 
 -- no place on the right
-abbrev NotOnTheRight : IdSequent → Arg → AtomWhy → Type 0
+abbrev NotOnTheRight : IdSequent → Arg → FailWhy → Type 0
 NotOnTheRight s a why = (why ≡ NoPlace) × ((ts : List Tree) (j : ℕ) (f : Tree) → ¬ IsOnTheRight (sequent_at ts s) (argument_at ts a) j f)
 
 pub no_place : (trees : List Tree) (s : IdSequent) (a : Arg) (e : TacFault) → IsTacFault (NotOnTheRight s a) e →

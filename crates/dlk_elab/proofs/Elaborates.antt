@@ -21,7 +21,7 @@ use Rattle.dlk_kernel.specs.Faults.{IsStepFault}
 use Rattle.dlk_kernel.specs.Taken.{Takes, none, more}
 use Rattle.dlk_elab.specs.declared.fault.TacFault.{TacFault}
 use Rattle.dlk_elab.specs.declared.fault.TacFault.TheVariants as fault
-use Rattle.dlk_elab.specs.Atoms.{AtomWhy, UnknownName, NoPlace, NoMatch, AtStep, HasGoalAt, Steps, Refused, Asks, AtomSteps, uses, FirstFault, AtomFault, asks_none, not_taken, instance_of}
+use Rattle.dlk_elab.specs.Atoms.{FailWhy, UnknownName, NoPlace, NoMatch, AtStep, HasGoalAt, Steps, Refused, Asks, AtomSteps, uses, FirstFault, AtomFault, asks_none, not_taken, instance_of}
 use Rattle.dlk_elab.specs.Atoms.{asked as by_asking}
 use Rattle.dlk_elab.specs.Ties.{IsTacFault, of_step, AreAsked, AreMade}
 use Rattle.dlk_elab.proofs.Places.{At_All, At_place, At-map, At_read}
@@ -76,7 +76,7 @@ known_later old new later (x ∷ xs) known =
     All-cons (HasKnownIds new) x xs (later x (All-head (HasKnownIds old) x xs known)) (known_later old new later xs (All-tail (HasKnownIds old) x xs known))
 
 -- what a fault says, weakened
-pub tac_fault_weaker : (P R : AtomWhy → Type 0) → ((why : AtomWhy) → P why → R why) → (e : TacFault) → IsTacFault P e → IsTacFault R e
+pub tac_fault_weaker : (P R : FailWhy → Type 0) → ((why : FailWhy) → P why → R why) → (e : TacFault) → IsTacFault P e → IsTacFault R e
 tac_fault_weaker P R weaker fault.UnknownName h = weaker UnknownName h
 tac_fault_weaker P R weaker fault.NoPlace h = weaker NoPlace h
 tac_fault_weaker P R weaker fault.NoMatch h = weaker NoMatch h

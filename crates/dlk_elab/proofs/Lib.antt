@@ -29,6 +29,7 @@ pub mod BoxWants
 pub mod UseWants
 pub mod FormSymbols
 pub mod StepSymbols
+pub mod FewSteps
 pub mod SomeAtom
 pub mod RuleArguments
 pub mod Elaborates

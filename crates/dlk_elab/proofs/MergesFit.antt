@@ -20,7 +20,7 @@ use Rattle.dlk_tacsyn.specs.Tactics.{Atom}
 use Rattle.dlk_uses.specs.Applying.{Applies}
 use Rattle.dlk_uses.specs.Taking.{FirstFault}
 use Rattle.dlk_uses.specs.Uses.{Use, Spot, instance, proved, Finishes, generalizing, cutting_box}
-use Rattle.dlk_elab.specs.Atoms.{AtomWhy, AtStep, Asked, Steps, Instance, Refused, Asks, use_axiom, AtomFault, asks_none, not_taken, not_instantiated, not_used, IsByAxioms}
+use Rattle.dlk_elab.specs.Atoms.{FailWhy, AtStep, Asked, Steps, Instance, Refused, Asks, use_axiom, AtomFault, asks_none, not_taken, not_instantiated, not_used, IsByAxioms}
 use Rattle.dlk_elab.proofs.Places.{At_All}
 use Rattle.dlk_elab.proofs.AskLaws.{AsksPlainly, AsksBox, by_generalize, by_cut_box, by_no_box, by_not_on_the_right, AsksUse, by_use_axiom, by_no_axiom, by_not_there, by_no_match, plainly, for_box, for_use, view, plain_other}
 use Rattle.dlk_elab.proofs.AtomLaws.{same_instance}
@@ -113,7 +113,7 @@ module _ (instance_fits : (rows : List Provable) (n : ℕ) (name : List ℕ) (ex
     FirstFault rows (generalizing (length rows) spot j b f) NotEqual → ⊥)
     (cutting_fits : (rows : List Provable) (spot : Spot) (j : ℕ) (b f h : Tree) → IsGoal rows spot.fact spot.goal spot.s → At spot.s.succ j (box b f) →
     FirstFault rows (cutting_box (length rows) spot j b f h) NotEqual → ⊥) where
-  fits : (rows : List Provable) (fact goal : ℕ) (atom : Atom) (why : AtomWhy) → All HasFormulas rows → IsByAxioms atom.name →
+  fits : (rows : List Provable) (fact goal : ℕ) (atom : Atom) (why : FailWhy) → All HasFormulas rows → IsByAxioms atom.name →
       AtomFault rows fact goal atom why → why ≡ AtStep NotEqual → ⊥
   fits rows fact goal atom _ all names (asks_none {why} s p asks) e =
       elim (view (length rows) fact goal s atom (Refused why) asks) [

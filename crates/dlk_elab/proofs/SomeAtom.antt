@@ -27,7 +27,7 @@ use Rattle.dlk_tacsyn.specs.Tactics.{Atom, Argument, Word}
 use Rattle.dlk_tacsyn.specs.Rows.{Row, wants, row_of, is_bare, is_use, kinds_of, AreOfKinds, IsFitting}
 use Rattle.dlk_uses.specs.Uses.{Direction, Forwards, Backwards}
 use Rattle.dlk_elab.specs.Atoms.{asked as by_asking}
-use Rattle.dlk_elab.specs.Atoms.{uses, Instance, instance_of, not_instantiated, not_used, AtomWhy, NoPlace, AtStep, AreFor, one_place, two_places, place_and_formula, one_formula, place_and_name, HasNoLocator, IsNamed, HasNames, HasGoalAt, Asked, Steps, Refused, Asks, nil, close, nothing_same, leaf, a_rule, elsewhere, AtomSteps, AtomFault, asks_none, not_taken, word_of_direction}
+use Rattle.dlk_elab.specs.Atoms.{uses, Instance, instance_of, not_instantiated, not_used, FailWhy, NoPlace, AtStep, AreFor, one_place, two_places, place_and_formula, one_formula, place_and_name, HasNoLocator, IsNamed, HasNames, HasGoalAt, Asked, Steps, Refused, Asks, nil, close, nothing_same, leaf, a_rule, elsewhere, AtomSteps, AtomFault, asks_none, not_taken, word_of_direction}
 use Rattle.dlk_elab.specs.Calls.{IsPlain}
 use Rattle.dlk_elab.proofs.BoxWants.{wants_generalize, wants_cut}
 use Rattle.dlk_elab.proofs.CallsFit.{row_of_generalize, row_of_cut, use_row, row_of_use, row_of_use_back}
@@ -194,13 +194,13 @@ pub some_atom : ((rows : List Provable) (step : Step) → IsProper step → ((p 
     ((extra : Extra) × Match key own e given extra) ⊎ ((extra : Extra) → ¬ Match key own e given extra)) →
     (rows : List Provable) (fact goal : ℕ) (atom : Atom) → HasGoalAt rows fact goal → All HasFormulas rows → IsFitting atom → HasNoLocator atom →
     HasNames atom →
-    ((s : List Step) × (a : List Provable) × AtomSteps rows fact goal atom s a) ⊎ ((why : AtomWhy) × AtomFault rows fact goal atom why)
+    ((s : List Step) × (a : List Provable) × AtomSteps rows fact goal atom s a) ⊎ ((why : FailWhy) × AtomFault rows fact goal atom why)
 some_atom decide laws matched rows fact goal atom there formulas fitting fixed names =
     let w = wants_some rows fact goal there.0 atom laws matched (goal_formulas rows fact goal there.0 formulas there.1) fitting fixed names in
     decided w.asked w.asks w.proper
   where
     decided : (asked : Asked) → Asks (length rows) fact goal there.0 atom asked → AreProperSteps rows fact goal there.0 asked →
-        ((s : List Step) × (a : List Provable) × AtomSteps rows fact goal atom s a) ⊎ ((why : AtomWhy) × AtomFault rows fact goal atom why)
+        ((s : List Step) × (a : List Provable) × AtomSteps rows fact goal atom s a) ⊎ ((why : FailWhy) × AtomFault rows fact goal atom why)
     decided (Steps steps) asks proper =
         elim (all_or_fault decide rows steps proper) [
           | inl taken ↦ inl (steps, taken.0, by_asking there.0 there.1 asks taken.1)

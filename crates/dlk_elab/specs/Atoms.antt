@@ -1,6 +1,8 @@
 -- The atoms of the strategy language: what each asks of the kernel on a goal, the steps that it gives, and its fault.
 pub use Rattle.dlk_tacsyn.specs.Rows.{IsNamed, HasNames}
 pub use Rattle.dlk_uses.specs.Taking.{FirstFault}
+pub use Rattle.dlk_elab.specs.declared.fault.FailWhy.{FailWhy}
+pub use Rattle.dlk_elab.specs.declared.fault.FailWhy.TheVariants.{UnknownName, NoPlace, NoMatch, Step as AtStep}
 use Rattle.std.specs.Prelude.{◌≡◌, ◌≢◌, IsTrue, ◌<◌, ◌≤◌, ◌+◌, ◌⊎◌, ℕ, List, [], ◌∷◌, ◌++◌, length, Option, Some, None, All, Any, codes}
 use Rattle.dlk_tree.specs.Trees.{Tree}
 use Rattle.dlk_calculus.specs.declared.reason.Reason.{Reason}
@@ -25,17 +27,6 @@ use Rattle.dlk_kernel.specs.Taken.{Takes}
 use Rattle.dlk_tacsyn.specs.Tactics.{Argument, AtPlace, AnyLeft, AnyRight, Word, GivenFormula, GivenTerm, GivenExtra, Atom}
 use Rattle.dlk_uses.specs.Uses.{Direction, Forwards, Backwards, Use, key, may_stand, formula_at, instance, generalizing, cutting_box, Finishes, proved}
 use Rattle.dlk_match.specs.Matching.{Match}
-
--- why an atom gives no steps
-pub data AtomWhy : Type 0 where
-  -- no axiom has the name
-  UnknownName : AtomWhy
-  -- a place or a path isn't there, or the atom doesn't act there: a rule's place has a path, or is on the other side
-  NoPlace : AtomWhy
-  -- the axiom doesn't match what stands there, or isn't of a form that may be used there
-  NoMatch : AtomWhy
-  -- a step isn't taken, for this reason
-  AtStep : Reason → AtomWhy
 
 -- Arguments:
 
@@ -151,7 +142,7 @@ pub data Asked : Type 0 where
   -- an instance of an axiom with these names and replacements, and then what uses it on the formula at the place
   Instance : Use → Extra → Tree → Asked
   -- none
-  Refused : AtomWhy → Asked
+  Refused : FailWhy → Asked
 
 -- Asks rows fact goal s atom asked: what the atom asks for on this goal of this fact, which is the sequent s, where there are so many rows.
 -- `close` asks for the rule of that name at the first formulas that are the same, and each other rule's atom for its rule.
@@ -196,8 +187,8 @@ pub data AtomSteps (rows : List Provable) (fact goal : ℕ) (atom : Atom) : List
       AtomSteps rows fact goal atom (instance_of (length rows) used extra ++ rest) after
 
 -- the atom gives no steps on a goal of a fact: it asks for none, or one isn't taken
-pub data AtomFault (rows : List Provable) (fact goal : ℕ) (atom : Atom) : AtomWhy → Type 0 where
-  asks_none : {why : AtomWhy} (s : Sequent) → IsGoal rows fact goal s → Asks (length rows) fact goal s atom (Refused why) →
+pub data AtomFault (rows : List Provable) (fact goal : ℕ) (atom : Atom) : FailWhy → Type 0 where
+  asks_none : {why : FailWhy} (s : Sequent) → IsGoal rows fact goal s → Asks (length rows) fact goal s atom (Refused why) →
       AtomFault rows fact goal atom why
   not_taken : {why : Reason} (s : Sequent) (steps : List Step) → IsGoal rows fact goal s → Asks (length rows) fact goal s atom (Steps steps) →
       FirstFault rows steps why → AtomFault rows fact goal atom (AtStep why)

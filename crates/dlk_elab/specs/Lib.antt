@@ -1,3 +1,4 @@
+pub mod Outcomes
 pub mod Atoms
 pub mod Ties
 pub mod Calls

@@ -19,21 +19,39 @@ use Rattle.dlk_rules.specs.Words.{shape_of}
 use Rattle.dlk_tacsyn.specs.declared.tactic.Atom.{Atom}
 use Rattle.dlk_tacsyn.specs.Tactics.{Argument, AtPlace, Atom as TreeAtom}
 use Rattle.dlk_tacsyn.specs.Ties.{atom_at}
+use Rattle.dlk_kernel.specs.Kernel.{State, facts}
 use Rattle.dlk_kernel.specs.declared.fault.StepFault.{StepFault}
 use Rattle.dlk_kernel.specs.declared.fault.StepFault.TheVariants as step_fault
 use Rattle.dlk_elab.specs.declared.boxes.Boxed.{Boxed}
 use Rattle.dlk_elab.specs.declared.boxes.Parts.{Parts}
 use Rattle.dlk_elab.specs.declared.fault.TacFault.{TacFault}
 use Rattle.dlk_elab.specs.declared.fault.TacFault.TheVariants as fault
-use Rattle.dlk_elab.specs.Atoms.{AtomWhy, UnknownName, NoPlace, NoMatch, AtStep, AreFor, Asks, Steps, Refused, IsForBox, AtomSteps}
+use Rattle.dlk_elab.specs.declared.outcome.OnFault.{OnFault}
+use Rattle.dlk_elab.specs.declared.outcome.OnFault.TheVariants as on_fault
+use Rattle.dlk_elab.specs.Outcomes.{Progress, Outcome, Fails, Budget}
+use Rattle.dlk_elab.specs.Atoms.{FailWhy, UnknownName, NoPlace, NoMatch, AtStep, AreFor, Asks, Steps, Refused, IsForBox, AtomSteps}
 
 -- what this fault says is one of those allowed: want of memory always is
-abbrev pub IsTacFault : (AtomWhy → Type 0) → TacFault → Type 0
+abbrev pub IsTacFault : (FailWhy → Type 0) → TacFault → Type 0
 IsTacFault allowed fault.UnknownName = allowed UnknownName
 IsTacFault allowed fault.NoPlace = allowed NoPlace
 IsTacFault allowed fault.NoMatch = allowed NoMatch
 IsTacFault allowed (fault.Step why) = allowed (AtStep why)
 IsTacFault allowed fault.Memory = Unit {0}
+
+-- what a kernel, the recorded steps and the count of runs stand for
+abbrev pub progress_at : {S : Type 0} → (S → List Tree) → State S → List Step → ℕ → Progress
+progress_at trees kernel recorded used = record {
+  steps = map (step_at (trees kernel.store)) recorded;
+  rows = facts trees kernel;
+  used = used;
+}
+
+-- the fault is what becomes of a goal; want of memory is free
+abbrev pub IsOnFaultOf : (Outcome → Type 0) → OnFault → Type 0
+IsOnFaultOf becomes (on_fault.Fails at why used) = becomes (Fails at why used)
+IsOnFaultOf becomes (on_fault.Budget at) = becomes (Budget at)
+IsOnFaultOf becomes on_fault.Memory = Unit {0}
 
 -- no arguments of a rule of this shape are said
 abbrev pub HasNone : Shape → Option Side → List Argument → Type 0
@@ -76,7 +94,7 @@ pub record IsBoxAt (trees : List Tree) (s : Sequent) (argument : Argument) (b : 
   pub fits : WellMade (box (tree trees b.program) (tree trees b.formula))
 
 -- whatever atom for a box is given the argument, it asks for nothing on the sequent, for this reason
-abbrev pub NoBox : TreeSequent → Argument → AtomWhy → Type 0
+abbrev pub NoBox : TreeSequent → Argument → FailWhy → Type 0
 NoBox s argument why = (rows fact goal : ℕ) (atom : TreeAtom) → IsForBox atom argument → Asks rows fact goal s atom (Refused why)
 
 -- a step's fault as that of an atom

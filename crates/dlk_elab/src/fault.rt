@@ -8,6 +8,21 @@ use dlk_store::StoreFault;
 use std::alloc::{AllocError, AllocFailed};
 use thiserror::Error;
 
+/// Why a strategy fails.
+#[derive(Clone, Copy, Debug, PartialEq, Eq)]
+pub enum FailWhy {
+    /// A branch has another number of parts than there are goals.
+    WrongCount,
+    /// An atom uses an axiom, and none has the name.
+    UnknownName,
+    /// A place or a path of an atom isn't there, or the atom doesn't act there: a rule's place has a path, or is on the other side.
+    NoPlace,
+    /// An atom uses an axiom that doesn't match what stands at the place, or may not be used there.
+    NoMatch,
+    /// The kernel doesn't take a step of an atom, for this reason.
+    Step(Reason),
+}
+
 /// Why an atom gave no steps.
 #[derive(Clone, Copy, Debug, PartialEq, Eq, Error)]
 pub enum TacFault {

@@ -11,6 +11,7 @@ mod forms;
 mod instance;
 mod keys;
 mod laws;
+mod outcome;
 mod plan;
 mod same;
 mod spot;
@@ -20,7 +21,9 @@ mod uses;
 mod ways;
 
 pub use elaborating::{Elaborated, elaborate};
-pub use fault::TacFault;
+pub use fault::{FailWhy, TacFault};
 pub use laws::{
-    atom_has_symbols, atom_is_taken, atom_replaces_goal, merges_fit, one_atom, some_atom,
+    atom_has_room, atom_has_symbols, atom_is_taken, atom_makes_few, atom_replaces_goal, merges_fit,
+    one_atom, some_atom,
 };
+pub use outcome::{More, OnFault};

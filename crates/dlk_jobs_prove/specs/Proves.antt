@@ -9,8 +9,8 @@ use Rattle.dlk_report.specs.Reports.{is_closed}
 use Rattle.dlk_tacsyn.specs.Tactics.{Tactic}
 use Rattle.dlk_tacsyn.specs.Faults.{Fault, Syntax, Nesting, Repeat, UnknownAtom, Arguments}
 use Rattle.dlk_tacsyn.specs.Strategies.{StrategyText, StrategyFault}
-use Rattle.dlk_strategy.specs.declared.fault.FailWhy.{FailWhy}
-use Rattle.dlk_strategy.specs.declared.fault.FailWhy.TheVariants as fail
+use Rattle.dlk_elab.specs.declared.fault.FailWhy.{FailWhy}
+use Rattle.dlk_elab.specs.declared.fault.FailWhy.TheVariants as fail
 use Rattle.dlk_strategy.specs.Runs.{Progress, Outcome, Done, Fails, Budget, RunsModel}
 use Rattle.dlk_recorder.specs.Terms.{term_text}
 use Rattle.dlk_replies.specs.declared.form.Role.TheVariants.{Model, Term, Strategy}

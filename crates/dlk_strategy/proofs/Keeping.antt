@@ -11,8 +11,8 @@ use Rattle.dlk_calculus.specs.Steps.{Step}
 use Rattle.dlk_rules.specs.declared.arguments.Side.{Side}
 use Rattle.dlk_tacsyn.specs.Tactics.{Atom, Tactic, Choice, Sequence, Branch, Repeat, One, Tactics, no_parts, part, count, EachAtom, EachAtomOf}
 use Rattle.dlk_elab.specs.Atoms.{AtomSteps}
-use Rattle.dlk_strategy.specs.declared.fault.FailWhy.{FailWhy}
-use Rattle.dlk_strategy.specs.declared.fault.FailWhy.TheVariants.{NoPlace}
+use Rattle.dlk_elab.specs.declared.fault.FailWhy.{FailWhy}
+use Rattle.dlk_elab.specs.declared.fault.FailWhy.TheVariants.{NoPlace}
 use Rattle.dlk_strategy.specs.Runs.{Progress, Outcome, Done, Fails, Budget, Fate, Run, Follow, done, fails, spent, Ends, FailsAt, Each, Again, Once}
 use Rattle.dlk_strategy.specs.Runs.{steps, fault, side, placed, formulas, Tries, RunAtomOn}
 use Rattle.dlk_strategy.specs.Runs.{RunAtom, Branched, as_many, another_count, Runs, Alternatives, InTurn, OnOwn}

@@ -23,3 +23,6 @@ mod Expanding
 mod Derivations
 mod Uses
 mod Differentiated
+mod Advancing
+mod Blind
+mod OnGoal

@@ -12,8 +12,8 @@ use Rattle.dlk_uses.specs.Uses.{formula_at}
 use Rattle.dlk_derive.specs.Plans.{Call}
 use Rattle.dlk_derive.specs.Derives.{DeriveWhy, Plans, NoPlan, use_of}
 use Rattle.dlk_tacsyn.specs.Tactics.{AtPlace, Atom, Tactic, Choice, Sequence, Branch, Repeat, One, Tactics, no_parts, part, count}
-use Rattle.dlk_strategy.specs.declared.fault.FailWhy.{FailWhy}
-use Rattle.dlk_strategy.specs.declared.fault.FailWhy.TheVariants.{NoPlace}
+use Rattle.dlk_elab.specs.declared.fault.FailWhy.{FailWhy}
+use Rattle.dlk_elab.specs.declared.fault.FailWhy.TheVariants.{NoPlace}
 use Rattle.dlk_strategy.specs.Runs.{Progress, Outcome, Done, Fails, Budget, Fate, Run, Follow, done, fails, spent, Ends, FailsAt, Then, Each, Again, Once, main_goals, side, placed, formulas, Tries, TriesAll, RunAtomOn, RunAtom, Branched, as_many, another_count, Runs, Alternatives, InTurn, OnOwn, RunsPlain}
 use Rattle.dlk_strategy.specs.Runs.{OnEach, OneByOne, RunDerive, plans, no_plan, RunNamedBy, RunNamed, is_derive}
 use Rattle.dlk_strategy.specs.Runs.{spent as derive_spent}

@@ -4,8 +4,8 @@ use Rattle.std.proofs.lemmas.List.{length-take, length-map, take-take, take-map}
 use Rattle.std.proofs.Math.Seq.{take-length}
 use Rattle.dlk_tree.specs.Trees.{Tree}
 use Rattle.dlk_calculus.specs.Limits.{most_goals}
-use Rattle.dlk_kernel.specs.Kernel.{State, facts, provable_at}
-use Rattle.dlk_strategy.specs.declared.fault.FailWhy.{FailWhy}
+use Rattle.dlk_kernel.specs.Kernel.{State, facts, provable_at, ExtendsRows, SameRows}
+use Rattle.dlk_elab.specs.declared.fault.FailWhy.{FailWhy}
 use Rattle.dlk_strategy.specs.declared.fault.RunFault.{RunFault}
 use Rattle.dlk_strategy.specs.declared.fault.RunFault.TheVariants as fault
 use Rattle.dlk_strategy.specs.declared.trace.Trace.{Trace}
@@ -57,24 +57,31 @@ pub facts_length : {S : Type 0} (trees : S → List Tree) (k : State S) → leng
 facts_length trees k = length-map k.rows (provable_at (trees k.store))
 
 module _ {S : Type 0} (trees : S → List Tree) where
+  -- rows that come first stay first
+  pub rows_here : (k : State S) → ExtendsRows trees k k
+  rows_here k = record { ids = take-length k.rows; provables = ap (λ n. take n (facts trees k)) (sym (facts_length trees k)) ∙ take-length (facts trees k) }
+
   pub extends_same : (k : State S) (t : Trace) (goal goals : ℕ) → IsReady trees k t goal goals → Extends trees k t k t
   extends_same k t goal goals ready = record {
-    rows = record { ids = take-length k.rows; provables = ap (λ n. take n (facts trees k)) (sym (facts_length trees k)) ∙ take-length (facts trees k) };
+    rows = rows_here k;
     steps = take-length t.steps.items;
     known = ready.known;
     counted = omega arith;
     within = ready.used;
   }
 
+  pub rows_on : (k k' k'' : State S) → ExtendsRows trees k k' → ExtendsRows trees k' k'' → ExtendsRows trees k k''
+  rows_on k k' k'' a b = record {
+    ids = prefix_on k.rows k'.rows k''.rows a.ids b.ids;
+    provables =
+        let p = ap (λ n. take n (facts trees k')) (facts_length trees k) ∙ a.provables in
+        let q = ap (λ n. take n (facts trees k'')) (facts_length trees k') ∙ b.provables in
+        ap (λ n. take n (facts trees k'')) (sym (facts_length trees k)) ∙ prefix_on (facts trees k) (facts trees k') (facts trees k'') p q;
+  }
+
   pub extends_on : (k : State S) (t : Trace) (k' : State S) (t' : Trace) (k'' : State S) (t'' : Trace) → Extends trees k t k' t' → Extends trees k' t' k'' t'' → Extends trees k t k'' t''
   extends_on k t k' t' k'' t'' a b = record {
-    rows = record {
-      ids = prefix_on k.rows k'.rows k''.rows a.rows.ids b.rows.ids;
-      provables =
-          let p = ap (λ n. take n (facts trees k')) (facts_length trees k) ∙ a.rows.provables in
-          let q = ap (λ n. take n (facts trees k'')) (facts_length trees k') ∙ b.rows.provables in
-          ap (λ n. take n (facts trees k'')) (sym (facts_length trees k)) ∙ prefix_on (facts trees k) (facts trees k') (facts trees k'') p q;
-    };
+    rows = rows_on k k' k'' a.rows b.rows;
     steps = prefix_on t.steps.items t'.steps.items t''.steps.items a.steps b.steps;
     known = b.known;
     counted = omega (arith, a.counted, b.counted);
@@ -88,15 +95,20 @@ module _ {S : Type 0} (trees : S → List Tree) where
   extends_err k t k' t' k'' t'' fault.Memory a b = tt
 
   -- what was made since is taken back
+  pub rows_back : (old mid k : State S) (rows : ℕ) → ExtendsRows trees old mid → rows ≡ length old.rows → k.rows ≡ take rows mid.rows →
+      k.store ≡ mid.store → SameRows trees old k
+  rows_back old mid k rows extends is_rows e_rows e_store =
+      let store : facts trees k ≡ map (provable_at (trees mid.store)) k.rows = ap (λ s. map (provable_at (trees s)) k.rows) e_store in
+      let kept : map (provable_at (trees mid.store)) k.rows ≡ take (length old.rows) (facts trees mid) =
+      ap (map (provable_at (trees mid.store))) (e_rows ∙ ap (λ n. take n mid.rows) is_rows) ∙ sym (take-map (provable_at (trees mid.store)) (length old.rows) mid.rows) in
+      record { ids = e_rows ∙ ap (λ n. take n mid.rows) is_rows ∙ extends.ids; provables = store ∙ kept ∙ extends.provables }
+
   pub taken_back : (old : State S) (before : Trace) (mid : State S) (t : Trace) (k : State S) (after : Trace) (rows steps : ℕ) → Extends trees old before mid t →
       rows ≡ length old.rows → steps ≡ length before.steps.items → k.rows ≡ take rows mid.rows → k.store ≡ mid.store → after.steps.items ≡ take steps t.steps.items → after.used ≡ t.used →
       IsBack trees old before k after
   taken_back old before mid t k after rows steps extends is_rows is_steps e_rows e_store e_steps e_used =
-      let store : facts trees k ≡ map (provable_at (trees mid.store)) k.rows = ap (λ s. map (provable_at (trees s)) k.rows) e_store in
-      let kept : map (provable_at (trees mid.store)) k.rows ≡ take (length old.rows) (facts trees mid) =
-      ap (map (provable_at (trees mid.store))) (e_rows ∙ ap (λ n. take n mid.rows) is_rows) ∙ sym (take-map (provable_at (trees mid.store)) (length old.rows) mid.rows) in
       record {
-        rows = record { ids = e_rows ∙ ap (λ n. take n mid.rows) is_rows ∙ extends.rows.ids; provables = store ∙ kept ∙ extends.rows.provables };
+        rows = rows_back old mid k rows extends.rows is_rows e_rows e_store;
         steps = e_steps ∙ ap (λ n. take n t.steps.items) is_steps ∙ extends.steps;
         counted = omega (arith, extends.counted, e_used);
         within = omega (arith, extends.within, e_used);

@@ -9,7 +9,7 @@ use Rattle.dlk_calculus.specs.Limits.{most_goals}
 use Rattle.std.proofs.Math.Seq.{take-length}
 use Rattle.dlk_kernel.specs.Kernel.{State, facts}
 use Rattle.dlk_tacsyn.specs.Tactics.{Tactic}
-use Rattle.dlk_strategy.specs.declared.fault.FailWhy.{FailWhy}
+use Rattle.dlk_elab.specs.declared.fault.FailWhy.{FailWhy}
 use Rattle.dlk_strategy.specs.declared.fault.RunFault.{RunFault}
 use Rattle.dlk_strategy.specs.declared.fault.RunFault.TheVariants as fault
 use Rattle.dlk_strategy.specs.declared.trace.Trace.{Trace}

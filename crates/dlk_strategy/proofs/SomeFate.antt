@@ -18,10 +18,10 @@ use Rattle.dlk_sequent.specs.declared.sequent.Place.{Place}
 use Rattle.dlk_uses.specs.Uses.{formula_at}
 use Rattle.dlk_derive.specs.Plans.{Call}
 use Rattle.dlk_derive.specs.Derives.{DeriveWhy, Plans, NoPlan, use_of}
-use Rattle.dlk_elab.specs.Atoms.{AtomWhy, AtomSteps, AtomFault, HasGoalAt, HasNoLocator, HasNames}
-use Rattle.dlk_strategy.specs.declared.fault.FailWhy.{FailWhy}
-use Rattle.dlk_strategy.specs.declared.fault.FailWhy.TheVariants.{WrongCount, NoPlace}
-use Rattle.dlk_strategy.specs.Whys.{fail_of, why_of}
+use Rattle.dlk_elab.specs.Atoms.{AtomSteps, AtomFault, HasGoalAt, HasNoLocator, HasNames}
+use Rattle.dlk_elab.specs.declared.fault.FailWhy.{FailWhy}
+use Rattle.dlk_elab.specs.declared.fault.FailWhy.TheVariants.{WrongCount, NoPlace}
+use Rattle.dlk_strategy.specs.Whys.{why_of}
 use Rattle.dlk_strategy.specs.Runs.{Progress, Outcome, Done, Fails, Budget, Fate, Run, Follow, done, fails, spent, Ends, FailsAt, Each, Again, Once, steps}
 use Rattle.dlk_strategy.specs.Runs.{fault, most_runs, main_goals, side, placed, formulas, Tries, RunAtomOn}
 use Rattle.dlk_strategy.specs.Runs.{RunAtom, Branched, as_many, another_count, Runs, Alternatives, InTurn, OnOwn, RunsPlain}
@@ -134,7 +134,7 @@ module _ (atom_taken : (rows : List Provable) (fact goal : ℕ) (atom : Atom) (s
     (taken_formulas : (steps : List Step) (rows : List Provable) → Takes [] steps rows → All HasFormulas rows)
     (some_atom : (rows : List Provable) (fact goal : ℕ) (atom : Atom) → HasGoalAt rows fact goal → All HasFormulas rows → IsFitting atom → HasNoLocator atom →
     HasNames atom →
-    ((s : List Step) × (a : List Provable) × AtomSteps rows fact goal atom s a) ⊎ ((why : AtomWhy) × AtomFault rows fact goal atom why)) where
+    ((s : List Step) × (a : List Provable) × AtomSteps rows fact goal atom s a) ⊎ ((why : FailWhy) × AtomFault rows fact goal atom why)) where
   some_once : (atom : Atom) → IsAtom atom → HasNoLocator atom → IsSomeRun (Once atom)
   some_once atom is fixed goal first now taken room =
       elim (cases_lt now.used most_runs) [
@@ -148,7 +148,7 @@ module _ (atom_taken : (rows : List Provable) (fact goal : ℕ) (atom : Atom) (s
                     steps free made.2 new.1,
                     (new.1, taken_on atom_taken now goal atom made.0 made.1 taken made.2),
                   )
-              | inr fault_there ↦ (Fails atom.at (fail_of fault_there.0) (now.used + 1), fault free fault_there.1, tt)
+              | inr fault_there ↦ (Fails atom.at fault_there.0 (now.used + 1), fault free fault_there.1, tt)
             ]
         | inr full ↦ (Budget atom.at, once_spent full, tt)
       ]
@@ -218,7 +218,7 @@ module _ (atom_taken : (rows : List Provable) (fact goal : ℕ) (atom : Atom) (s
         some_run atom (record { fitting = by_other atom is.run (sym e); names = is.names }) (side atom.arguments) refl
 
     mutual
-      some_fate : (t : Tactic) → EachAtom IsNamedRun t → (goals goal : ℕ) → 1 ≤ goal → IsSome goals (goal + goals) (Runs t goals goal)
+      pub some_fate : (t : Tactic) → EachAtom IsNamedRun t → (goals goal : ℕ) → 1 ≤ goal → IsSome goals (goal + goals) (Runs t goals goal)
       some_fate (Choice parts) is goals goal first = some_on_each (Alternatives parts) (some_alternative parts is) goals goal first
       some_fate (Sequence parts) is goals goal first = some_on_each (InTurn parts 1) (some_turn parts is 1) goals goal first
       some_fate (Branch at parts) is goals goal first =

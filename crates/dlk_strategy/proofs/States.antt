@@ -13,9 +13,9 @@ use Rattle.dlk_rules.specs.declared.step.Step.{Step}
 use Rattle.dlk_rules.specs.Steps.{step_at, HasKnownIds}
 use Rattle.dlk_kernel.specs.Kernel.{State, facts, provable_at, ExtendsRows, SameRows}
 use Rattle.dlk_tacsyn.specs.Tactics.{Atom}
-use Rattle.dlk_elab.specs.Atoms.{AtomWhy, AtomSteps, AtomFault, HasGoalAt}
+use Rattle.dlk_elab.specs.declared.fault.FailWhy.{FailWhy}
+use Rattle.dlk_elab.specs.Atoms.{AtomSteps, AtomFault, HasGoalAt}
 use Rattle.dlk_elab.proofs.Replaced.{replaced}
-use Rattle.dlk_strategy.specs.Whys.{fail_of}
 use Rattle.dlk_strategy.specs.Runs.{Progress, Done, Fails, Once, steps, fault, most_runs, main_goals}
 use Rattle.dlk_strategy.proofs.StepsKept.{step_known, step_same}
 use Rattle.dlk_strategy.proofs.MainGoals.{last_goals, some_last, at_suc}
@@ -100,8 +100,8 @@ once_done atom goal used left rows after before made all room is n e =
     let P : List TreeStep → Type 0 = λ xs. Once atom goal (record { steps = before; rows = rows; used = used }) (Done (record { steps = xs; rows = after; used = used + 1 }) left) in
     subst P (sym e) (steps room is n)
 
-pub once_fails : (atom : Atom) (goal fact : ℕ) (now : Progress) (why : AtomWhy) → now.used < most_runs → fact ≡ length now.rows → AtomFault now.rows fact goal atom why →
-    Once atom goal now (Fails atom.at (fail_of why) (now.used + 1))
+pub once_fails : (atom : Atom) (goal fact : ℕ) (now : Progress) (why : FailWhy) → now.used < most_runs → fact ≡ length now.rows → AtomFault now.rows fact goal atom why →
+    Once atom goal now (Fails atom.at why (now.used + 1))
 once_fails atom goal fact now why room is h = fault room (subst (λ n. AtomFault now.rows n goal atom why) is h)
 
 -- rows that stay are those of before with none behind them

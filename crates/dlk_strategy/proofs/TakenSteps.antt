@@ -41,19 +41,19 @@ IsSymbolic now = IsTaken now × All ReplacesSymbols now.steps
 abbrev Shows : Tree → Progress → Type 0
 Shows formula now = (p : Provable) × At now.rows (length now.rows) p × (p.conclusion ≡ alone_right formula)
 
-abbrev AnyAtom : Atom → Type 0
+abbrev pub AnyAtom : Atom → Type 0
 AnyAtom atom = Unit {0}
 
 are_any : (atoms : List Atom) → All AnyAtom atoms
 are_any [] = All-nil AnyAtom
 are_any (atom ∷ rest) = All-cons AnyAtom atom rest tt (are_any rest)
 
-uses_any : (there : Option Tree) (path : List ℕ) (calls : List Call) → Plans there path calls → (byte : ℕ) (place : Place) →
+pub uses_any : (there : Option Tree) (path : List ℕ) (calls : List Call) → Plans there path calls → (byte : ℕ) (place : Place) →
     All AnyAtom (map (use_of byte place) calls)
 uses_any there path calls h byte place = are_any (map (use_of byte place) calls)
 
 mutual
-  each_any : (t : Tactic) → EachAtom AnyAtom t
+  pub each_any : (t : Tactic) → EachAtom AnyAtom t
   each_any (Choice parts) = all_any parts
   each_any (Sequence parts) = all_any parts
   each_any (Branch at parts) = all_any parts

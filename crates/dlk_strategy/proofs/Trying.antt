@@ -19,8 +19,8 @@ use Rattle.dlk_sequent.specs.declared.subst.Pair.{Pair}
 use Rattle.dlk_sequent.specs.Substitutions.{pair_at, pairs_at, AreKnownPairs}
 use Rattle.dlk_tacsyn.specs.Tactics.{GivenFormula, GivenTerm, GivenExtra}
 use Rattle.dlk_tacsyn.specs.Ties.{argument_at, ArgumentIsKnown, atom_at, AtomIsKnown}
-use Rattle.dlk_strategy.specs.declared.fault.FailWhy.{FailWhy}
-use Rattle.dlk_strategy.specs.declared.fault.FailWhy.TheVariants.{NoPlace}
+use Rattle.dlk_elab.specs.declared.fault.FailWhy.{FailWhy}
+use Rattle.dlk_elab.specs.declared.fault.FailWhy.TheVariants.{NoPlace}
 use Rattle.dlk_strategy.specs.declared.trace.Trace.{Trace}
 use Rattle.dlk_strategy.specs.Runs.{Progress, Outcome, Done, Fails, Budget, Follow, done, fails, spent, Ends, Once, placed, formulas, Tries, TriesAll, main_goals}
 use Rattle.dlk_strategy.specs.Ties.{now, Extends, IsBack}

@@ -1,4 +1,5 @@
 -- The runs of strategies: what a strategy makes of a goal, step by step.
+pub use Rattle.dlk_elab.specs.Outcomes.{most_runs, Progress, Outcome, Done, Fails, Budget, main_goals}
 use Rattle.std.specs.Prelude.{◌≡◌, ◌≢◌, ℕ, zero, suc, ◌+◌, ◌<◌, ◌≤◌, Bool, true, false, bytes_eq, codes, List, [], ◌∷◌, ◌++◌, map, length}
 use Rattle.std.specs.Prelude.{Option, Some, None}
 use Rattle.dlk_tree.specs.Trees.{Tree}
@@ -16,30 +17,9 @@ use Rattle.dlk_uses.specs.Uses.{formula_at}
 use Rattle.dlk_derive.specs.Plans.{Call}
 use Rattle.dlk_derive.specs.Derives.{DeriveWhy, Plans, NoPlan, use_of}
 use Rattle.dlk_elab.specs.Atoms.{AtomSteps, AtomFault}
-use Rattle.dlk_strategy.specs.declared.fault.FailWhy.{FailWhy}
-use Rattle.dlk_strategy.specs.declared.fault.FailWhy.TheVariants.{WrongCount, NoPlace}
-use Rattle.dlk_strategy.specs.Whys.{fail_of, why_of}
-
--- how many atoms may be run, those that fail included
-abbrev pub most_runs : ℕ
-most_runs = 16000
-
--- what a run has made so far
-pub record Progress : Type 0 where
-  -- the steps, and the rows that they give, of which the last is the main fact
-  pub steps : List Step
-  pub rows : List Provable
-  -- how many atoms were run
-  pub used : ℕ
-
--- what becomes of a goal
-pub data Outcome : Type 0 where
-  -- this is made, and so many goals stand in the goal's place
-  Done : Progress → ℕ → Outcome
-  -- at a byte of the strategy's text, why, and how many atoms were run
-  Fails : ℕ → FailWhy → ℕ → Outcome
-  -- at the byte of the atom that would be one too many
-  Budget : ℕ → Outcome
+use Rattle.dlk_elab.specs.declared.fault.FailWhy.{FailWhy}
+use Rattle.dlk_elab.specs.declared.fault.FailWhy.TheVariants.{WrongCount, NoPlace}
+use Rattle.dlk_strategy.specs.Whys.{why_of}
 
 -- after what was made so far, what becomes of a goal
 abbrev pub Fate : Type 1
@@ -88,19 +68,13 @@ abbrev pub Again : Run → ℕ → Run
 Again run zero goal = Ends 1
 Again run (suc times) goal = Follow (run goal) (λ left. Each (Again run times) left goal 0) (λ at why. Ends 1)
 
--- the goals of the main fact, which is the last row
-abbrev pub main_goals : List Provable → List Sequent
-main_goals [] = []
-main_goals (p ∷ []) = p.goals
-main_goals (p ∷ (q ∷ rows)) = main_goals (q ∷ rows)
-
 -- one run of an atom without a locator, which is counted
 pub data Once (atom : Atom) (goal : ℕ) (now : Progress) : Outcome → Type 0 where
   steps : {steps : List Step} {rows : List Provable} {left : ℕ} → now.used < most_runs → AtomSteps now.rows (length now.rows) goal atom steps rows →
       length (main_goals rows) + 1 ≡ length (main_goals now.rows) + left →
       Once atom goal now (Done (record { steps = now.steps ++ steps; rows = rows; used = now.used + 1 }) left)
   fault : {why : _} → now.used < most_runs → AtomFault now.rows (length now.rows) goal atom why →
-      Once atom goal now (Fails atom.at (fail_of why) (now.used + 1))
+      Once atom goal now (Fails atom.at why (now.used + 1))
   spent : most_runs ≤ now.used → Once atom goal now (Budget atom.at)
 
 abbrev pub formulas : Side → Sequent → List Tree
@@ -228,3 +202,19 @@ pub record RunsModel (strategy : Tactic) (formula : Tree) (outcome : Outcome) : 
   pub expansion : Tactic
   pub expanded : Expanded strategy expansion
   pub runs : RunsPlain expansion formula outcome
+
+-- RunsOn strategy rows goal used outcome: what becomes of this goal of the last of these rows, where so many atoms were run before. The steps that it
+-- makes are new ones. Names of the library run what they stand for.
+pub record RunsOn (strategy : Tactic) (rows : List Provable) (goal used : ℕ) (outcome : Outcome) : Type 0 where
+  pub expansion : Tactic
+  pub expanded : Expanded strategy expansion
+  pub run : Runs expansion 1 goal (record { steps = []; rows = rows; used = used }) outcome
+
+-- with these steps before those that were made
+abbrev pub moved : List Step → Progress → Progress
+moved before now = record now { steps = before ++ now.steps }
+
+abbrev pub behind : List Step → Outcome → Outcome
+behind before (Done made left) = Done (moved before made) left
+behind before (Fails at why used) = Fails at why used
+behind before (Budget at) = Budget at

@@ -1,34 +1,34 @@
 -- What a run over ids stands for.
-use Rattle.std.specs.Prelude.{◌≡◌, ◌≤◌, ℕ, ◌+◌, List, [], ◌∷◌, map, take, length, All, Option, Some, None, Result, Ok, Err}
+pub use Rattle.dlk_elab.specs.Ties.{progress_at}
+use Rattle.std.specs.Prelude.{◌≡◌, ◌≤◌, ℕ, ◌+◌, List, [], ◌∷◌, take, length, All, Option, Some, None, Result, Ok, Err}
 use Rattle.dlk_tree.specs.Trees.{Tree}
 use Rattle.dlk_calculus.specs.Limits.{most_goals}
-use Rattle.dlk_rules.specs.declared.step.Step.{Step}
-use Rattle.dlk_rules.specs.Steps.{step_at, HasKnownIds}
+use Rattle.dlk_rules.specs.Steps.{HasKnownIds}
 use Rattle.dlk_kernel.specs.Kernel.{State, facts, ExtendsRows, SameRows}
 use Rattle.dlk_tacsyn.specs.declared.tactic.Tactic.{Tactic}
 use Rattle.dlk_tacsyn.specs.Tactics.{Atom as TreeAtom, Tactic as TreeTactic, Choice as TheChoice, Sequence, Branch as TheBranch}
 use Rattle.dlk_tacsyn.specs.Tactics.{Repeat as TheRepeat, One as TheOne, Tactics, no_parts, part, count}
 use Rattle.dlk_tacsyn.specs.Rows.{AreRun, AreOfText}
 use Rattle.dlk_tacsyn.specs.Ties.{tactic_at, TacticIsKnown}
-use Rattle.dlk_strategy.specs.declared.fault.FailWhy.{FailWhy}
+use Rattle.dlk_elab.specs.declared.fault.FailWhy.{FailWhy}
+use Rattle.dlk_elab.specs.declared.outcome.OnFault.{OnFault}
+use Rattle.dlk_elab.specs.declared.outcome.OnFault.TheVariants as on_fault
 use Rattle.dlk_strategy.specs.declared.fault.RunFault.{RunFault}
 use Rattle.dlk_strategy.specs.declared.fault.RunFault.TheVariants as fault
 use Rattle.dlk_strategy.specs.declared.trace.Trace.{Trace}
 use Rattle.dlk_strategy.specs.Runs.{Progress, Outcome, Done, Fails, Budget, Fate, Run, most_runs, main_goals, Runs, Alternatives, InTurn, OnOwn, Branched, Again, RunNamed}
-
--- what a kernel, the recorded steps and the count of runs stand for
-abbrev pub progress_at : {S : Type 0} → (S → List Tree) → State S → List Step → ℕ → Progress
-progress_at trees kernel recorded used = record {
-  steps = map (step_at (trees kernel.store)) recorded;
-  rows = facts trees kernel;
-  used = used;
-}
 
 -- the fault is what becomes of a goal; want of memory is free
 abbrev pub IsRunFaultOf : (Outcome → Type 0) → RunFault → Type 0
 IsRunFaultOf becomes (fault.Fails at why) = (used : ℕ) × becomes (Fails at why used)
 IsRunFaultOf becomes (fault.Budget at) = becomes (Budget at)
 IsRunFaultOf becomes fault.Memory = Unit {0}
+
+-- the fault of a run on a goal, where so many atoms were run
+abbrev pub with_runs : RunFault → ℕ → OnFault
+with_runs (fault.Fails at why) used = on_fault.Fails at why used
+with_runs (fault.Budget at) used = on_fault.Budget at
+with_runs fault.Memory used = on_fault.Memory
 
 -- what the kernel and the trace stand for
 abbrev pub now : {S : Type 0} → (S → List Tree) → State S → Trace → Progress

@@ -1,16 +1,9 @@
--- Why a strategy fails, by the fault of an atom or of a plan.
+-- Why a strategy fails, by why there is no plan.
 use Rattle.dlk_calculus.specs.declared.reason.Reason.TheVariants as reason
 use Rattle.dlk_derive.specs.Derives.{DeriveWhy}
 use Rattle.dlk_derive.specs.Derives as derive
-use Rattle.dlk_elab.specs.Atoms.{AtomWhy, UnknownName, NoPlace, NoMatch, AtStep}
-use Rattle.dlk_strategy.specs.declared.fault.FailWhy.{FailWhy}
-use Rattle.dlk_strategy.specs.declared.fault.FailWhy.TheVariants as fail
-
-abbrev pub fail_of : AtomWhy → FailWhy
-fail_of UnknownName = fail.UnknownName
-fail_of NoPlace = fail.NoPlace
-fail_of NoMatch = fail.NoMatch
-fail_of (AtStep reason) = fail.Step reason
+use Rattle.dlk_elab.specs.declared.fault.FailWhy.{FailWhy}
+use Rattle.dlk_elab.specs.declared.fault.FailWhy.TheVariants as fail
 
 -- where no `( )'` stands, the shape is wrong, as it is where a rule finds no formula of its shape
 abbrev pub why_of : DeriveWhy → FailWhy

@@ -4,16 +4,16 @@ ghost use Rattle.dlk_tree.specs.Trees.{Tree};
 ghost use Rattle.dlk_calculus.specs.Limits.{most_goals};
 ghost use Rattle.dlk_calculus.specs.Places.{At, IsPlace};
 ghost use Rattle.dlk_calculus.specs.Sequents.{Sequent};
-ghost use Rattle.dlk_kernel.specs.Kernel.{facts};
+ghost use Rattle.dlk_kernel.specs.Kernel.{facts, ExtendsRows};
 ghost use Rattle.dlk_tacsyn.specs.Rows.{IsFitting};
 ghost use Rattle.dlk_tacsyn.specs.Ties.{argument_at, ArgumentIsKnown, atom_at, AtomIsKnown};
 ghost use Rattle.dlk_elab.specs.Atoms.{HasNoLocator};
 ghost use Rattle.dlk_strategy.specs.Runs.{main_goals, formulas, side_of, side, put_place, placed, Once, TriesAll, RunAtom};
 ghost use Rattle.dlk_strategy.specs.Ties.{goals_of, now, IsReady, Extends, IsBack, Becomes, UnlessOver, HasLeft, IsBackOnFailure};
 
-use crate::fault::{FailWhy, RunFault};
+use crate::fault::RunFault;
 use crate::trace::{Trace, goal_at, goals_left};
-use dlk_elab::{TacFault, elaborate};
+use dlk_elab::{FailWhy, TacFault, elaborate};
 use dlk_kernel::{Kernel, Step};
 use dlk_rules::Side;
 use dlk_sequent::{Listed, Place};
@@ -50,6 +50,7 @@ fn run_once<S: Store, L: Ledger>(
     requires fixed { HasNoLocator (atom_at (S.trees kernel.old.store) atom.now) }
     ensures fate { Becomes (Once (atom_at (S.trees kernel.old.store) atom.now) goal) (now S.trees kernel.old trace.old) (now S.trees kernel.new trace.new) result }
     ensures extends { UnlessOver (Extends S.trees kernel.old trace.old kernel.new trace.new) result }
+    ensures rows { ExtendsRows S.trees kernel.old kernel.new }
     ensures back { IsBackOnFailure (IsBack S.trees kernel.old trace.old kernel.new trace.new) result }
     ensures left { IfOk result (HasLeft (goals_of S.trees kernel.old) 1 (goals_of S.trees kernel.new)) }
     ensures few { OnOk result (goals_of S.trees kernel.new ≤ most_goals) }
@@ -182,6 +183,7 @@ fn try_places<S: Store, L: Ledger>(
     requires fitting { IsFitting (atom_at (S.trees kernel.old.store) atom.now) }
     ensures fate { Becomes (TriesAll (atom_at (S.trees kernel.old.store) atom.now) side goal) (now S.trees kernel.old trace.old) (now S.trees kernel.new trace.new) result }
     ensures extends { UnlessOver (Extends S.trees kernel.old trace.old kernel.new trace.new) result }
+    ensures rows { ExtendsRows S.trees kernel.old kernel.new }
     ensures left { IfOk result (HasLeft (goals_of S.trees kernel.old) 1 (goals_of S.trees kernel.new)) }
     ensures few { OnOk result (goals_of S.trees kernel.new ≤ most_goals) }
     ensures grows { S.grows kernel.old.store kernel.new.store }
@@ -214,6 +216,7 @@ pub(crate) fn run_atom<S: Store, L: Ledger>(
     requires fitting { IsFitting (atom_at (S.trees kernel.old.store) atom.now) }
     ensures fate { Becomes (RunAtom (atom_at (S.trees kernel.old.store) atom.now) goal) (now S.trees kernel.old trace.old) (now S.trees kernel.new trace.new) result }
     ensures extends { UnlessOver (Extends S.trees kernel.old trace.old kernel.new trace.new) result }
+    ensures rows { ExtendsRows S.trees kernel.old kernel.new }
     ensures left { IfOk result (HasLeft (goals_of S.trees kernel.old) 1 (goals_of S.trees kernel.new)) }
     ensures few { OnOk result (goals_of S.trees kernel.new ≤ most_goals) }
     ensures grows { S.grows kernel.old.store kernel.new.store }

@@ -1,6 +1,7 @@
 //! Runs of `derive`.
 ghost use Rattle.std.specs.Prelude.{◌≡◌, ◌≢◌, ◌≤◌, ◌∷◌, [], ℕ, List, map, All, IfOk, IfSome, IfNone, OnOk};
 ghost use Rattle.dlk_calculus.specs.Limits.{most_goals};
+ghost use Rattle.dlk_kernel.specs.Kernel.{ExtendsRows};
 ghost use Rattle.dlk_sequent.specs.declared.sequent.Place.{Place as ThePlace};
 ghost use Rattle.dlk_tacsyn.specs.Rows.{IsFitting, IsDerivation, IsRun};
 ghost use Rattle.dlk_tacsyn.specs.Ties.{atom_at, AtomIsKnown};
@@ -8,11 +9,12 @@ ghost use Rattle.dlk_strategy.specs.Runs.{OnEach, OneByOne, RunAtom, RunDerive, 
 ghost use Rattle.dlk_strategy.specs.Ties.{goals_of, now, at_byte, IsReady, Extends, Becomes, UnlessOver, HasLeft};
 
 use crate::atoms::{MOST_RUNS, run_atom};
-use crate::fault::{FailWhy, RunFault};
+use crate::fault::RunFault;
 use crate::trace::{Trace, goal_at};
 use dlk_calculus::Reason;
 use dlk_derive::laws::plan_is_fitting;
 use dlk_derive::{DeriveFault, plan};
+use dlk_elab::FailWhy;
 use dlk_kernel::Kernel;
 use dlk_sequent::Place;
 use dlk_store::{Steps, Store};
@@ -34,6 +36,7 @@ pub(crate) fn run_named<S: Store, L: Ledger>(
     requires run { IsRun (atom_at (S.trees kernel.old.store) atom.now) }
     ensures fate { Becomes (RunNamed (atom_at (S.trees kernel.old.store) atom.now) goal) (now S.trees kernel.old trace.old) (now S.trees kernel.new trace.new) result }
     ensures extends { UnlessOver (Extends S.trees kernel.old trace.old kernel.new trace.new) result }
+    ensures rows { ExtendsRows S.trees kernel.old kernel.new }
     ensures left { IfOk result (HasLeft (goals_of S.trees kernel.old) 1 (goals_of S.trees kernel.new)) }
     ensures few { OnOk result (goals_of S.trees kernel.new ≤ most_goals) }
     ensures grows { S.grows kernel.old.store kernel.new.store }
@@ -71,6 +74,7 @@ fn derive<S: Store, L: Ledger>(
     requires derivation { IsDerivation (atom_at (S.trees kernel.old.store) atom.now) }
     ensures fate { Becomes (RunDerive (atom_at (S.trees kernel.old.store) atom.now) goal) (now S.trees kernel.old trace.old) (now S.trees kernel.new trace.new) result }
     ensures extends { UnlessOver (Extends S.trees kernel.old trace.old kernel.new trace.new) result }
+    ensures rows { ExtendsRows S.trees kernel.old kernel.new }
     ensures left { IfOk result (HasLeft (goals_of S.trees kernel.old) 1 (goals_of S.trees kernel.new)) }
     ensures few { OnOk result (goals_of S.trees kernel.new ≤ most_goals) }
     ensures grows { S.grows kernel.old.store kernel.new.store }
@@ -117,6 +121,7 @@ fn one_by_one<S: Store, L: Ledger>(
     requires fitting { All IsFitting (map (atom_at (S.trees kernel.old.store)) atoms.items) }
     ensures fate { Becomes (OneByOne (map (at_byte at) (map (atom_at (S.trees kernel.old.store)) atoms.items)) 1 goal) (now S.trees kernel.old trace.old) (now S.trees kernel.new trace.new) result }
     ensures extends { UnlessOver (Extends S.trees kernel.old trace.old kernel.new trace.new) result }
+    ensures rows { ExtendsRows S.trees kernel.old kernel.new }
     ensures left { IfOk result (HasLeft (goals_of S.trees kernel.old) 1 (goals_of S.trees kernel.new)) }
     ensures few { OnOk result (goals_of S.trees kernel.new ≤ most_goals) }
     ensures grows { S.grows kernel.old.store kernel.new.store }
@@ -145,6 +150,7 @@ fn on_each<S: Store, L: Ledger>(
     requires fitting { IsFitting (atom_at (S.trees kernel.old.store) atom.now) }
     ensures fate { Becomes (OnEach (RunAtom (atom_at (S.trees kernel.old.store) atom.now)) goals goal) (now S.trees kernel.old trace.old) (now S.trees kernel.new trace.new) result }
     ensures extends { UnlessOver (Extends S.trees kernel.old trace.old kernel.new trace.new) result }
+    ensures rows { ExtendsRows S.trees kernel.old kernel.new }
     ensures left { IfOk result (HasLeft (goals_of S.trees kernel.old) goals (goals_of S.trees kernel.new)) }
     ensures few { OnOk result (goals_of S.trees kernel.new ≤ most_goals) }
     ensures grows { S.grows kernel.old.store kernel.new.store }

@@ -1,25 +1,10 @@
 ghost use Rattle.std.specs.Prelude.{◌≡◌};
 ghost use Rattle.dlk_strategy.specs.declared.fault.RunFault.TheVariants.{Memory};
 
-use dlk_calculus::Reason;
+use dlk_elab::FailWhy;
 use dlk_store::StoreFault;
 use std::alloc::{AllocError, AllocFailed};
 use thiserror::Error;
-
-/// Why a strategy fails.
-#[derive(Clone, Copy, Debug, PartialEq, Eq)]
-pub enum FailWhy {
-    /// A branch has another number of parts than there are goals.
-    WrongCount,
-    /// An atom uses an axiom, and none has the name.
-    UnknownName,
-    /// An atom's place isn't there.
-    NoPlace,
-    /// An atom uses an axiom that doesn't match what stands at the place, or may not be used there.
-    NoMatch,
-    /// The kernel doesn't take a step of an atom.
-    Step(Reason),
-}
 
 /// Why a run ended without a proof.
 #[derive(Clone, Copy, Debug, PartialEq, Eq, Error)]

@@ -1,14 +1,15 @@
 //! Runs of strategies on goals.
 ghost use Rattle.std.specs.Prelude.{◌≡◌, ◌≤◌, ◌+◌, ◌++◌, ℕ, List, length, map, take, reverse, replicate, All, Option, Some, None, IfOk, OnOk, IfSome};
 ghost use Rattle.dlk_calculus.specs.Limits.{most_goals};
-ghost use Rattle.dlk_kernel.specs.Kernel.{facts};
+ghost use Rattle.dlk_kernel.specs.Kernel.{facts, ExtendsRows};
 ghost use Rattle.dlk_tacsyn.specs.Ties.{tactic_at};
 ghost use Rattle.dlk_strategy.specs.Runs.{Runs, Alternatives, InTurn, OnOwn, Branched, Again};
 ghost use Rattle.dlk_strategy.specs.Ties.{goals_of, now, on_one, tactics_of, IsReady, IsRunnable, Extends, IsBack, Becomes, BecomesTried, UnlessOver, IsBackOnNone, HasLeft};
 
 use crate::derivation::run_named;
-use crate::fault::{FailWhy, RunFault};
+use crate::fault::RunFault;
 use crate::trace::{Trace, take_back};
+use dlk_elab::FailWhy;
 use dlk_kernel::Kernel;
 use dlk_store::{Steps, Store};
 use dlk_tacsyn::Tactic;
@@ -17,7 +18,7 @@ use std::sync::ledger::Ledger;
 
 /// Runs a strategy on so many goals of the last row, from this one on, and answers how many goals stand in their place.
 #[cycle(run)]
-pub(crate) fn run_on<S: Store, L: Ledger>(
+pub(crate) fn run_goals<S: Store, L: Ledger>(
     alloc: Global,
     kernel: &mut Kernel<S>,
     trace: &mut Trace,
@@ -30,6 +31,7 @@ pub(crate) fn run_on<S: Store, L: Ledger>(
     requires runnable { IsRunnable (S.trees kernel.old.store) t.now }
     ensures fate { Becomes (Runs (tactic_at (S.trees kernel.old.store) t.now) goals goal) (now S.trees kernel.old trace.old) (now S.trees kernel.new trace.new) result }
     ensures extends { UnlessOver (Extends S.trees kernel.old trace.old kernel.new trace.new) result }
+    ensures rows { ExtendsRows S.trees kernel.old kernel.new }
     ensures left { IfOk result (HasLeft (goals_of S.trees kernel.old) goals (goals_of S.trees kernel.new)) }
     ensures few { OnOk result (goals_of S.trees kernel.new ≤ most_goals) }
     ensures grows { S.grows kernel.old.store kernel.new.store }
@@ -67,6 +69,7 @@ fn run_one<S: Store, L: Ledger>(
     requires runnable { IsRunnable (S.trees kernel.old.store) t.now }
     ensures fate { Becomes (on_one (tactic_at (S.trees kernel.old.store) t.now) goal) (now S.trees kernel.old trace.old) (now S.trees kernel.new trace.new) result }
     ensures extends { UnlessOver (Extends S.trees kernel.old trace.old kernel.new trace.new) result }
+    ensures rows { ExtendsRows S.trees kernel.old kernel.new }
     ensures left { IfOk result (HasLeft (goals_of S.trees kernel.old) 1 (goals_of S.trees kernel.new)) }
     ensures few { OnOk result (goals_of S.trees kernel.new ≤ most_goals) }
     ensures grows { S.grows kernel.old.store kernel.new.store }
@@ -96,6 +99,7 @@ fn attempt<S: Store, L: Ledger>(
     requires runnable { IsRunnable (S.trees kernel.old.store) t.now }
     ensures fate { BecomesTried (Runs (tactic_at (S.trees kernel.old.store) t.now) 1 goal) (now S.trees kernel.old trace.old) (now S.trees kernel.new trace.new) result }
     ensures extends { UnlessOver (Extends S.trees kernel.old trace.old kernel.new trace.new) result }
+    ensures rows { ExtendsRows S.trees kernel.old kernel.new }
     ensures back { IsBackOnNone (IsBack S.trees kernel.old trace.old kernel.new trace.new) result }
     ensures left { IfOk result (λ found. IfSome found (HasLeft (goals_of S.trees kernel.old) 1 (goals_of S.trees kernel.new))) }
     ensures few { OnOk result (goals_of S.trees kernel.new ≤ most_goals) }
@@ -103,7 +107,7 @@ fn attempt<S: Store, L: Ledger>(
 {
     let rows = kernel.mark();
     let recorded = trace.steps.len();
-    match run_on(alloc, kernel, trace, t, goal, 1, steps) {
+    match run_goals(alloc, kernel, trace, t, goal, 1, steps) {
         Ok(left) => Ok(Some(left)),
         Err(RunFault::Fails { .. }) => {
             take_back(kernel, trace, rows, recorded);
@@ -127,6 +131,7 @@ fn choose<S: Store, L: Ledger>(
     requires runnable { All (IsRunnable (S.trees kernel.old.store)) parts.now }
     ensures fate { Becomes (Alternatives (tactics_of (S.trees kernel.old.store) parts.now) goal) (now S.trees kernel.old trace.old) (now S.trees kernel.new trace.new) result }
     ensures extends { UnlessOver (Extends S.trees kernel.old trace.old kernel.new trace.new) result }
+    ensures rows { ExtendsRows S.trees kernel.old kernel.new }
     ensures left { IfOk result (HasLeft (goals_of S.trees kernel.old) 1 (goals_of S.trees kernel.new)) }
     ensures few { OnOk result (goals_of S.trees kernel.new ≤ most_goals) }
     ensures grows { S.grows kernel.old.store kernel.new.store }
@@ -139,7 +144,7 @@ fn choose<S: Store, L: Ledger>(
             return Ok(left);
         }
     }
-    run_on(alloc, kernel, trace, last, goal, 1, steps)
+    run_goals(alloc, kernel, trace, last, goal, 1, steps)
 }
 
 /// One strategy after another, each on all goals that those before it have left of this one.
@@ -156,13 +161,14 @@ fn in_turn<S: Store, L: Ledger>(
     requires runnable { All (IsRunnable (S.trees kernel.old.store)) parts.now }
     ensures fate { Becomes (InTurn (tactics_of (S.trees kernel.old.store) parts.now) 1 goal) (now S.trees kernel.old trace.old) (now S.trees kernel.new trace.new) result }
     ensures extends { UnlessOver (Extends S.trees kernel.old trace.old kernel.new trace.new) result }
+    ensures rows { ExtendsRows S.trees kernel.old kernel.new }
     ensures left { IfOk result (HasLeft (goals_of S.trees kernel.old) 1 (goals_of S.trees kernel.new)) }
     ensures few { OnOk result (goals_of S.trees kernel.new ≤ most_goals) }
     ensures grows { S.grows kernel.old.store kernel.new.store }
 {
     let mut goals = 1;
     for t in parts {
-        goals = run_on(alloc, kernel, trace, t, goal, goals, steps)?;
+        goals = run_goals(alloc, kernel, trace, t, goal, goals, steps)?;
     }
     Ok(goals)
 }
@@ -183,6 +189,7 @@ fn branch<S: Store, L: Ledger>(
     requires runnable { All (IsRunnable (S.trees kernel.old.store)) parts.now }
     ensures fate { Becomes (Branched at (length parts.now) goals (OnOwn (tactics_of (S.trees kernel.old.store) parts.now) goal 0)) (now S.trees kernel.old trace.old) (now S.trees kernel.new trace.new) result }
     ensures extends { UnlessOver (Extends S.trees kernel.old trace.old kernel.new trace.new) result }
+    ensures rows { ExtendsRows S.trees kernel.old kernel.new }
     ensures left { IfOk result (HasLeft (goals_of S.trees kernel.old) goals (goals_of S.trees kernel.new)) }
     ensures few { OnOk result (goals_of S.trees kernel.new ≤ most_goals) }
     ensures grows { S.grows kernel.old.store kernel.new.store }
@@ -195,7 +202,7 @@ fn branch<S: Store, L: Ledger>(
     }
     let mut left = 0;
     for t in parts {
-        left += run_on(alloc, kernel, trace, t, goal + left, 1, steps)?;
+        left += run_goals(alloc, kernel, trace, t, goal + left, 1, steps)?;
     }
     Ok(left)
 }
@@ -216,6 +223,7 @@ fn repeat<S: Store, L: Ledger>(
     requires runnable { IsRunnable (S.trees kernel.old.store) body.now }
     ensures fate { Becomes (Again (Runs (tactic_at (S.trees kernel.old.store) body.now) 1) times goal) (now S.trees kernel.old trace.old) (now S.trees kernel.new trace.new) result }
     ensures extends { UnlessOver (Extends S.trees kernel.old trace.old kernel.new trace.new) result }
+    ensures rows { ExtendsRows S.trees kernel.old kernel.new }
     ensures left { IfOk result (HasLeft (goals_of S.trees kernel.old) 1 (goals_of S.trees kernel.new)) }
     ensures few { OnOk result (goals_of S.trees kernel.new ≤ most_goals) }
     ensures grows { S.grows kernel.old.store kernel.new.store }

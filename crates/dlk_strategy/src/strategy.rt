@@ -12,7 +12,7 @@ ghost use Rattle.dlk_strategy.specs.Ties.{progress_at, IsRunnable, IsStrategy, I
 
 use crate::fault::RunFault;
 use crate::laws::{derive_differentiates, one_outcome};
-use crate::running::run_on;
+use crate::running::run_goals;
 use crate::trace::Trace;
 use dlk_kernel::{Fact, Kernel, Step, StepFault};
 use dlk_library::expanded;
@@ -113,6 +113,6 @@ fn run_model<S: Store, L: Ledger>(
         used: 0,
     };
     trace.steps.push(start)?;
-    run_on(alloc, kernel, &mut trace, strategy, 1, 1, steps)?;
+    run_goals(alloc, kernel, &mut trace, strategy, 1, 1, steps)?;
     Ok(trace)
 }

@@ -4,7 +4,7 @@ use Rattle.std.proofs.Math.Seq.{take-append_seam, take-length}
 use Rattle.dlk_rules.specs.Steps.{step_at}
 use Rattle.dlk_kernel.specs.Kernel.{facts, provable_at}
 use Rattle.dlk_tacsyn.specs.Ties.{atom_at}
-use Rattle.dlk_elab.specs.Atoms.{UnknownName, NoPlace, NoMatch, AtStep}
+use Rattle.dlk_elab.specs.declared.fault.FailWhy.TheVariants.{UnknownName, NoPlace, NoMatch, Step as AtStep}
 use Rattle.dlk_strategy.specs.Runs.{spent}
 use Rattle.dlk_strategy.specs.Ties.{now}
 use Rattle.dlk_strategy.proofs.States.{steps_known, steps_more, known_more, goal_there, counted_as, of_last, once_done, once_fails, same_extends}

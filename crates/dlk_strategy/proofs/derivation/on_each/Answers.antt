@@ -6,7 +6,7 @@ use Rattle.dlk_tacsyn.specs.Ties.{atom_at}
 use Rattle.dlk_strategy.specs.Runs.{Done, Fate, Then, Each, RunAtom}
 use Rattle.dlk_strategy.specs.Ties.{now, Becomes}
 use Rattle.dlk_strategy.proofs.Trying.{atom_same, atom_known}
-use Rattle.dlk_strategy.proofs.Reached.{reached_on, reached_err, reached_end, reached_ready, extends_err, each_next, each_none}
+use Rattle.dlk_strategy.proofs.Reached.{reached_on, reached_err, reached_end, reached_ready, extends_err, rows_on, each_next, each_none}
 use Rattle.dlk_strategy.proofs.derivation.on_each.Goals as goal
 
 pub run_atom-requires-clause-ready : goal.run_atom-requires-clause-ready
@@ -57,6 +57,7 @@ returns-in_err-left g c =
     record {
       fate = rw (e.1, e.2) over;
       extends = rw (e.1, e.2) extends;
+      rows = rows_on trees old mid c.run_atom.new.kernel c.loop.invariant.reached.extends.rows c.run_atom.ensures.rows;
       left = rw e.1 tt;
       few = rw e.1 tt;
       grows = g.met.S.Store.grows_trans old.store mid.store c.run_atom.new.kernel.store c.loop.invariant.grows c.run_atom.ensures.grows;
@@ -99,6 +100,7 @@ returns g c =
       fate = reached_end trees old c.args.trace.now mid c.loop.trace i c.loop.left all rest c.loop.invariant.reached
           (each_none run c.args.goals c.args.goal i c.loop.left c.loop-test.false);
       extends = c.loop.invariant.reached.extends;
+      rows = c.loop.invariant.reached.extends.rows;
       left = omega (arith, c.loop.invariant.reached.counted, c.loop-test.false, c.loop.auto.counter-end);
       few = c.loop.invariant.reached.few;
       grows = c.loop.invariant.grows;

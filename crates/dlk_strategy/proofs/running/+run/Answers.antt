@@ -7,11 +7,11 @@ use Rattle.dlk_tacsyn.specs.Tactics.{Tactic as TreeTactic}
 use Rattle.dlk_tacsyn.specs.Ties.{tactic_at}
 use Rattle.dlk_strategy.specs.Runs.{Done, Runs, Again, Alternatives, Fate, Then, Each, InTurn, OnOwn, Branched, as_many, another_count, main_goals}
 use Rattle.dlk_strategy.specs.Ties.{goals_of, now, tactics_of, IsRunnable, IsBack, Becomes, BecomesTried, IsBackOnNone, HasLeft, on_one}
-use Rattle.dlk_strategy.proofs.States.{item_here}
+use Rattle.dlk_strategy.proofs.States.{item_here, same_extends}
 use Rattle.dlk_strategy.proofs.Trying.{back_known, back_now, back_then_back, back_extends}
 use Rattle.dlk_strategy.proofs.Walking.{tactic_same, runnable_kept, choice_at, sequence_at, branch_at, choice_parts, sequence_parts, branch_parts, count_of}
 use Rattle.dlk_strategy.proofs.Parts.{part_at, turn_next, turn_none as part_none, own_next, own_none, branched_err, runs_each}
-use Rattle.dlk_strategy.proofs.Reached.{leads_as, taken_back, reached_on, reached_err, reached_end, reached_ready, extends_err, each_next, each_none}
+use Rattle.dlk_strategy.proofs.Reached.{leads_as, taken_back, reached_on, reached_err, reached_end, reached_ready, extends_err, rows_on, each_next, each_none}
 use Rattle.dlk_strategy.proofs.Choosing.{item_of_take, choices_next, choices_last, choice_err, choice_done, choice_fails, choice_last, back_ready}
 use Rattle.dlk_strategy.proofs.Repeating.{waits_init, waits_ready, waits_end, extends_here, turn_over, turn_none, turn_still, turn_some, turn_err}
 use Rattle.dlk_strategy.proofs.running.+run.Goals as goal
@@ -98,8 +98,8 @@ choose-loop-t-preserved g t c =
           (back_now trees mid c.loop-t.trace c.attempt.new.kernel c.attempt.new.trace further known back);
     }
 
-pub choose-run_on-requires : goal.choose-run_on-requires
-choose-run_on-requires g t c κs within =
+pub choose-run_goals-requires : goal.choose-run_goals-requires
+choose-run_goals-requires g t c κs within =
     let trees = g.S.Store.trees in
     let old = c.args.kernel.now in
     let mid = c.loop-t.kernel in
@@ -119,9 +119,9 @@ choose-returns-clause-fate g t c =
     let fate = Runs (tactic_at (trees old.store) c.last-item.result) 1 c.args.goal in
     let first = now trees old c.args.trace.now in
     let here = now trees mid c.loop-t.trace in
-    let after = now trees c.run_on.new.kernel c.run_on.new.trace in
-    let becomes = subst (λ (a : TreeTactic). Becomes (Runs a 1 c.args.goal) here after c.run_on.result) same c.run_on.ensures.fate in
-    choice_last first here after (Alternatives (tactics_of (g.S.Store.trees c.args.kernel.now.store) c.args.parts.now) c.args.goal) fate fate c.run_on.result (leads_as (Alternatives (tactics_of (g.S.Store.trees c.args.kernel.now.store) c.args.parts.now) c.args.goal) _ fate first here (choices_last (trees old.store) _ c.loop-t.t-index c.last-item.result c.args.goal c.loop-t-test.false) c.loop-t.invariant.leads) becomes
+    let after = now trees c.run_goals.new.kernel c.run_goals.new.trace in
+    let becomes = subst (λ (a : TreeTactic). Becomes (Runs a 1 c.args.goal) here after c.run_goals.result) same c.run_goals.ensures.fate in
+    choice_last first here after (Alternatives (tactics_of (g.S.Store.trees c.args.kernel.now.store) c.args.parts.now) c.args.goal) fate fate c.run_goals.result (leads_as (Alternatives (tactics_of (g.S.Store.trees c.args.kernel.now.store) c.args.parts.now) c.args.goal) _ fate first here (choices_last (trees old.store) _ c.loop-t.t-index c.last-item.result c.args.goal c.loop-t-test.false) c.loop-t.invariant.leads) becomes
 
 pub repeat-loop-turns-init : goal.repeat-loop-turns-init
 repeat-loop-turns-init g t c =
@@ -251,16 +251,20 @@ repeat-returns-clause-fate g t c =
 pub attempt-returns-in-Err-Fails-clause-back : goal.attempt-returns-in-Err-Fails-clause-back
 attempt-returns-in-Err-Fails-clause-back g t c =
     let trees = g.S.Store.trees in
-    taken_back trees c.args.kernel.now c.args.trace.now c.run_on.new.kernel c.run_on.new.trace c.take_back.new.kernel c.take_back.new.trace c.mark-rows.result c.len-recorded.result
+    taken_back trees c.args.kernel.now c.args.trace.now c.run_goals.new.kernel c.run_goals.new.trace c.take_back.new.kernel c.take_back.new.trace c.mark-rows.result c.len-recorded.result
     (rw c.in-Err-Fails.field-0-is at c.in-Err-Fails.ensures.extends) c.mark-rows.ensures (c.len-recorded.ensures ∙ c.args.trace.now.steps.ok.0) c.take_back.ensures.rows c.take_back.ensures.store c.take_back.ensures.steps c.take_back.ensures.used
 
 pub attempt-returns-in-Err-Fails-clause-extends : goal.attempt-returns-in-Err-Fails-clause-extends
 attempt-returns-in-Err-Fails-clause-extends g t c =
     let trees = g.S.Store.trees in
     let old = c.args.kernel.now in
-    let mid = c.run_on.new.kernel in
-    let keeps = subst (λ s. Keeps (trees old.store) (trees s)) (sym c.take_back.ensures.store) (g.met.S.Store.grows_keeps old.store mid.store c.run_on.ensures.grows) in
+    let mid = c.run_goals.new.kernel in
+    let keeps = subst (λ s. Keeps (trees old.store) (trees s)) (sym c.take_back.ensures.store) (g.met.S.Store.grows_keeps old.store mid.store c.run_goals.ensures.grows) in
     back_extends trees old c.args.trace.now c.take_back.new.kernel c.take_back.new.trace keeps c.requires.ready.known (attempt-returns-in-Err-Fails-clause-back g t c)
+
+pub attempt-returns-in-Err-Fails-clause-rows : goal.attempt-returns-in-Err-Fails-clause-rows
+attempt-returns-in-Err-Fails-clause-rows g t c =
+    same_extends g.S.Store.trees c.args.kernel.now c.take_back.new.kernel (attempt-returns-in-Err-Fails-clause-back g t c).rows
 
 pub attempt-returns-in-Err-Fails-clause-few : goal.attempt-returns-in-Err-Fails-clause-few
 attempt-returns-in-Err-Fails-clause-few g t c =
@@ -270,8 +274,8 @@ attempt-returns-in-Err-Fails-clause-few g t c =
 pub branch-returns-then-parts-goals-clause-fate : goal.branch-returns-then-parts-goals-clause-fate
 branch-returns-then-parts-goals-clause-fate g t c = another_count (λ e. c.if-parts-goals.true (sym e))
 
-pub branch-run_on-requires : goal.branch-run_on-requires
-branch-run_on-requires g t c κs within =
+pub branch-run_goals-requires : goal.branch-run_goals-requires
+branch-run_goals-requires g t c κs within =
     let trees = g.S.Store.trees in
     let old = c.args.kernel.now in
     let items = c.args.parts.now in
@@ -302,9 +306,9 @@ branch-returns-in_err-left-clause-fate g t c =
     let next : ℕ → Fate = λ new. OnOwn (tactics_of (trees old.store) (drop (i + 1) items)) c.args.goal (c.loop-t.left + new) in
     let is : rest ≡ Then fate next = own_next (trees old.store) items c.t-item.result i c.args.goal c.loop-t.left here in
     let e = err_from_is_err_and c.from_residual.result c.from_residual.ensures.1 in
-    let becomes = subst (λ (a : TreeTactic). Becomes (Runs a 1 (c.args.goal + c.loop-t.left)) (now trees mid c.loop-t.trace) (now trees c.run_on.new.kernel c.run_on.new.trace) (Err c.in_err-left.field-0.0)) same c.in_err-left.ensures.fate in
-    let over = reached_err trees old c.args.trace.now mid c.loop-t.trace c.run_on.new.kernel c.run_on.new.trace i c.loop-t.left all rest fate next c.in_err-left.field-0.0 c.loop-t.invariant.reached is becomes in
-    rw (e.1, e.2) (branched_err c.args.at (length items) c.args.goals all (now trees old c.args.trace.now) (now trees c.run_on.new.kernel c.run_on.new.trace) c.in_err-left.field-0.0 (sym c.if-parts-goals.false) over)
+    let becomes = subst (λ (a : TreeTactic). Becomes (Runs a 1 (c.args.goal + c.loop-t.left)) (now trees mid c.loop-t.trace) (now trees c.run_goals.new.kernel c.run_goals.new.trace) (Err c.in_err-left.field-0.0)) same c.in_err-left.ensures.fate in
+    let over = reached_err trees old c.args.trace.now mid c.loop-t.trace c.run_goals.new.kernel c.run_goals.new.trace i c.loop-t.left all rest fate next c.in_err-left.field-0.0 c.loop-t.invariant.reached is becomes in
+    rw (e.1, e.2) (branched_err c.args.at (length items) c.args.goals all (now trees old c.args.trace.now) (now trees c.run_goals.new.kernel c.run_goals.new.trace) c.in_err-left.field-0.0 (sym c.if-parts-goals.false) over)
 
 pub branch-loop-t-preserved : goal.branch-loop-t-preserved
 branch-loop-t-preserved g t c =
@@ -323,10 +327,10 @@ branch-loop-t-preserved g t c =
     let next : ℕ → Fate = λ new. OnOwn (tactics_of (trees old.store) (drop (i + 1) items)) c.args.goal (c.loop-t.left + new) in
     let is : rest ≡ Then fate next = own_next (trees old.store) items c.t-item.result i c.args.goal c.loop-t.left here in
     let new = c.in_ok-left.field-0 in
-    let made = subst (λ (a : TreeTactic). Runs a 1 (c.args.goal + c.loop-t.left) (now trees mid c.loop-t.trace) (Done (now trees c.run_on.new.kernel c.run_on.new.trace) new)) same c.in_ok-left.ensures.fate in
+    let made = subst (λ (a : TreeTactic). Runs a 1 (c.args.goal + c.loop-t.left) (now trees mid c.loop-t.trace) (Done (now trees c.run_goals.new.kernel c.run_goals.new.trace) new)) same c.in_ok-left.ensures.fate in
     record {
-      grows = g.met.S.Store.grows_trans old.store mid.store c.run_on.new.kernel.store c.loop-t.invariant.grows c.run_on.ensures.grows;
-      reached = reached_on trees old c.args.trace.now mid c.loop-t.trace c.run_on.new.kernel c.run_on.new.trace i c.loop-t.left (i + 1) (c.loop-t.left + new) 1 new all rest fate next
+      grows = g.met.S.Store.grows_trans old.store mid.store c.run_goals.new.kernel.store c.loop-t.invariant.grows c.run_goals.ensures.grows;
+      reached = reached_on trees old c.args.trace.now mid c.loop-t.trace c.run_goals.new.kernel c.run_goals.new.trace i c.loop-t.left (i + 1) (c.loop-t.left + new) 1 new all rest fate next
           c.loop-t.invariant.reached is made c.in_ok-left.ensures.extends c.in_ok-left.ensures.left c.in_ok-left.ensures.few (omega arith);
     }
 
@@ -342,8 +346,8 @@ branch-returns-clause-fate g t c =
     as_many (sym c.if-parts-goals.false) (reached_end trees old c.args.trace.now mid c.loop-t.trace i c.loop-t.left all rest c.loop-t.invariant.reached
     (own_none (trees old.store) items i c.args.goal c.loop-t.left c.loop-t-test.false))
 
-pub in_turn-run_on-requires : goal.in_turn-run_on-requires
-in_turn-run_on-requires g t c κs within =
+pub in_turn-run_goals-requires : goal.in_turn-run_goals-requires
+in_turn-run_goals-requires g t c κs within =
     let trees = g.S.Store.trees in
     let old = c.args.kernel.now in
     let items = c.args.parts.now in
@@ -374,8 +378,8 @@ in_turn-returns-in_err-goals-clause-fate g t c =
     let next : ℕ → Fate = λ left. InTurn (tactics_of (trees old.store) (drop (i + 1) items)) left c.args.goal in
     let is : rest ≡ Then fate next = turn_next (trees old.store) items c.t-item.result i c.loop-t.goals c.args.goal here in
     let e = err_from_is_err_and c.from_residual.result c.from_residual.ensures.1 in
-    let becomes = subst (λ (a : TreeTactic). Becomes (Runs a c.loop-t.goals c.args.goal) (now trees mid c.loop-t.trace) (now trees c.run_on.new.kernel c.run_on.new.trace) (Err c.in_err-goals.field-0.0)) same c.in_err-goals.ensures.fate in
-    rw (e.1, e.2) (reached_err trees old c.args.trace.now mid c.loop-t.trace c.run_on.new.kernel c.run_on.new.trace 1 c.loop-t.goals all rest fate next c.in_err-goals.field-0.0 c.loop-t.invariant.reached is becomes)
+    let becomes = subst (λ (a : TreeTactic). Becomes (Runs a c.loop-t.goals c.args.goal) (now trees mid c.loop-t.trace) (now trees c.run_goals.new.kernel c.run_goals.new.trace) (Err c.in_err-goals.field-0.0)) same c.in_err-goals.ensures.fate in
+    rw (e.1, e.2) (reached_err trees old c.args.trace.now mid c.loop-t.trace c.run_goals.new.kernel c.run_goals.new.trace 1 c.loop-t.goals all rest fate next c.in_err-goals.field-0.0 c.loop-t.invariant.reached is becomes)
 
 pub in_turn-loop-t-preserved : goal.in_turn-loop-t-preserved
 in_turn-loop-t-preserved g t c =
@@ -394,10 +398,10 @@ in_turn-loop-t-preserved g t c =
     let next : ℕ → Fate = λ left. InTurn (tactics_of (trees old.store) (drop (i + 1) items)) left c.args.goal in
     let is : rest ≡ Then fate next = turn_next (trees old.store) items c.t-item.result i c.loop-t.goals c.args.goal here in
     let new = c.in_ok-goals.goals in
-    let made = subst (λ (a : TreeTactic). Runs a c.loop-t.goals c.args.goal (now trees mid c.loop-t.trace) (Done (now trees c.run_on.new.kernel c.run_on.new.trace) new)) same c.in_ok-goals.ensures.fate in
+    let made = subst (λ (a : TreeTactic). Runs a c.loop-t.goals c.args.goal (now trees mid c.loop-t.trace) (Done (now trees c.run_goals.new.kernel c.run_goals.new.trace) new)) same c.in_ok-goals.ensures.fate in
     record {
-      grows = g.met.S.Store.grows_trans old.store mid.store c.run_on.new.kernel.store c.loop-t.invariant.grows c.run_on.ensures.grows;
-      reached = reached_on trees old c.args.trace.now mid c.loop-t.trace c.run_on.new.kernel c.run_on.new.trace 1 c.loop-t.goals 1 new c.loop-t.goals new all rest fate next
+      grows = g.met.S.Store.grows_trans old.store mid.store c.run_goals.new.kernel.store c.loop-t.invariant.grows c.run_goals.ensures.grows;
+      reached = reached_on trees old c.args.trace.now mid c.loop-t.trace c.run_goals.new.kernel c.run_goals.new.trace 1 c.loop-t.goals 1 new c.loop-t.goals new all rest fate next
           c.loop-t.invariant.reached is made c.in_ok-goals.ensures.extends c.in_ok-goals.ensures.left c.in_ok-goals.ensures.few (omega arith);
     }
 
@@ -413,22 +417,22 @@ in_turn-returns-clause-fate g t c =
     reached_end trees old c.args.trace.now mid c.loop-t.trace 1 c.loop-t.goals all rest c.loop-t.invariant.reached
     (part_none (trees old.store) items i c.loop-t.goals c.args.goal c.loop-t-test.false)
 
-pub run_on-branch-alloc-requires : goal.run_on-branch-alloc-requires
-run_on-branch-alloc-requires g t c κs within =
+pub run_goals-branch-alloc-requires : goal.run_goals-branch-alloc-requires
+run_goals-branch-alloc-requires g t c κs within =
     let trees = g.S.Store.trees c.args.kernel.now.store in
     let parts = subst (All (IsRunnable trees)) (sym c.as_slice.ensures.value) (branch_parts trees c.in-Branch.at c.in-Branch.parts (subst (IsRunnable trees) c.in-Branch.is c.requires.runnable)) in
     (omega (arith, size_branch c.in-Branch.at c.in-Branch.parts, ap the_size c.in-Branch.is, ap (most the_size) c.as_slice.ensures.value, c.decreases), (search rules, (search rules, (c.requires.ready, parts))))
 
-pub run_on-returns-in-Branch-clause-fate : goal.run_on-returns-in-Branch-clause-fate
-run_on-returns-in-Branch-clause-fate g t c =
+pub run_goals-returns-in-Branch-clause-fate : goal.run_goals-returns-in-Branch-clause-fate
+run_goals-returns-in-Branch-clause-fate g t c =
     let trees = g.S.Store.trees c.args.kernel.now.store in
     let same = ap (tactic_at trees) c.in-Branch.is ∙ branch_at trees c.in-Branch.at c.in-Branch.parts ∙ ap (λ xs. the.Branch c.in-Branch.at (tactics_of trees xs)) (sym c.as_slice.ensures.value) in
     let counted = subst (λ (n : ℕ). Becomes (Branched c.in-Branch.at n c.args.goals (OnOwn (tactics_of trees c.as_slice.result.now) c.args.goal 0)) (now g.S.Store.trees c.args.kernel.now c.args.trace.now)
     (now g.S.Store.trees c.branch-alloc.new.kernel c.branch-alloc.new.trace) c.branch-alloc.result) (sym (count_of trees c.as_slice.result.now)) c.branch-alloc.ensures.fate in
     subst (λ (a : TreeTactic). Becomes (Runs a c.args.goals c.args.goal) (now g.S.Store.trees c.args.kernel.now c.args.trace.now) (now g.S.Store.trees c.branch-alloc.new.kernel c.branch-alloc.new.trace) c.branch-alloc.result) (sym same) counted
 
-pub run_on-run_one-requires : goal.run_on-run_one-requires
-run_on-run_one-requires g t c κs within =
+pub run_goals-run_one-requires : goal.run_goals-run_one-requires
+run_goals-run_one-requires g t c κs within =
     let trees = g.S.Store.trees in
     let old = c.args.kernel.now in
     let i = c.loop.counter in
@@ -441,8 +445,8 @@ run_on-run_one-requires g t c κs within =
     (omega (arith, c.requires.ready.first)) (omega (arith, c.requires.ready.room, c.loop-test.true)) in
     (search rules, (search rules, (search rules, (ready, runnable_kept (trees old.store) (trees mid.store) keeps c.args.t.now c.requires.runnable))))
 
-pub run_on-returns-in_err-left : goal.run_on-returns-in_err-left
-run_on-returns-in_err-left g t c =
+pub run_goals-returns-in_err-left : goal.run_goals-returns-in_err-left
+run_goals-returns-in_err-left g t c =
     let trees = g.S.Store.trees in
     let old = c.args.kernel.now in
     let i = c.loop.counter in
@@ -463,13 +467,14 @@ run_on-returns-in_err-left g t c =
     record {
       fate = rw (e.1, e.2) (subst (λ (f : Fate). Becomes f (now trees old c.args.trace.now) (now trees c.run_one.new.kernel c.run_one.new.trace) (Err c.in_err-left.field-0.0)) (sym one_each) over);
       extends = rw (e.1, e.2) extends;
+      rows = rows_on trees old mid c.run_one.new.kernel c.loop.invariant.reached.extends.rows c.run_one.ensures.rows;
       left = rw e.1 tt;
       few = rw e.1 tt;
       grows = g.met.S.Store.grows_trans old.store mid.store c.run_one.new.kernel.store c.loop.invariant.grows c.run_one.ensures.grows;
     }
 
-pub run_on-loop-preserved : goal.run_on-loop-preserved
-run_on-loop-preserved g t c =
+pub run_goals-loop-preserved : goal.run_goals-loop-preserved
+run_goals-loop-preserved g t c =
     let trees = g.S.Store.trees in
     let old = c.args.kernel.now in
     let i = c.loop.counter in
@@ -490,8 +495,8 @@ run_on-loop-preserved g t c =
           c.loop.invariant.reached is made c.in_ok-left.ensures.extends c.in_ok-left.ensures.left c.in_ok-left.ensures.few (omega arith);
     }
 
-pub run_on-returns : goal.run_on-returns
-run_on-returns g t c =
+pub run_goals-returns : goal.run_goals-returns
+run_goals-returns g t c =
     let trees = g.S.Store.trees in
     let old = c.args.kernel.now in
     let i = c.loop.counter in
@@ -504,6 +509,7 @@ run_on-returns g t c =
     record {
       fate = subst (λ (f : Fate). f (now trees old c.args.trace.now) (Done (now trees mid c.loop.trace) c.loop.left)) (sym one_each) made;
       extends = c.loop.invariant.reached.extends;
+      rows = c.loop.invariant.reached.extends.rows;
       left = omega (arith, c.loop.invariant.reached.counted, c.loop-test.false, c.loop.auto.counter-end);
       few = c.loop.invariant.reached.few;
       grows = c.loop.invariant.grows;

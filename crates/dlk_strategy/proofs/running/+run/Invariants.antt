@@ -22,8 +22,8 @@ invariant-branch-loop-t g l = record {
       (OnOwn (tactics_of (g.S.Store.trees l.initial.kernel.store) (drop l.t-index l.parts)) l.goal l.left);
 }
 
-abbrev pub invariant-run_on-loop : goal.invariant-run_on-loop
-invariant-run_on-loop g l = record {
+abbrev pub invariant-run_goals-loop : goal.invariant-run_goals-loop
+invariant-run_goals-loop g l = record {
   grows : g.S.Store.grows l.initial.kernel.store l.kernel.store;
   reached : Reached g.S.Store.trees l.initial.kernel l.initial.trace l.kernel l.trace l.counter l.left (Each (on_one (tactic_at (g.S.Store.trees l.initial.kernel.store) l.t)) l.goals l.goal 0)
       (Each (on_one (tactic_at (g.S.Store.trees l.initial.kernel.store) l.t)) (l.goals - l.counter) l.goal l.left);
