@@ -13,7 +13,7 @@ use Rattle.dlk_replies.specs.Forms.{Word, command_of, inputs_of}
 use Rattle.dlk_replies.specs.Inputs.{inputs, inputs_of_form}
 use Rattle.dlk_replies.specs.Replies.{Reply, code_of, printing}
 use Rattle.dlk_replies.specs.Refusals.{text_refused}
-use Rattle.dlk_jobs_prove.specs.Proves.{Proves, bad_model, bad_strategy, fails, spent, too_long, proves, strategy_refused, proved}
+use Rattle.dlk_jobs_prove.specs.Proves.{too_long, writes, Proves, bad_model, bad_strategy, fails, spent, records, strategy_refused, proved}
 use Rattle.dlk_answers.specs.Answers.{Does, Responds, refuses, does}
 use Rattle.dlk.specs.Answers.{bytes_of, Answers, no_form, command}
 use Rattle.dlk.specs.Outputs.{after}
@@ -44,11 +44,11 @@ module _ (checked_too : ProvedIsChecked) (model term : List ℕ) where
   accepted strategy _ (bad_strategy f reads why is) holds less = absurd (omega (arith, less, strategy_two why))
   accepted strategy _ (fails at used why run) holds less = absurd (omega (arith, less))
   accepted strategy _ (spent at run) holds less = absurd (omega (arith, less))
-  accepted strategy _ (too_long made left run long) holds less = absurd (omega (arith, less))
-  accepted strategy _ (proves made left run short p ended) holds less =
+  accepted strategy _ (records made left run p ended _ (too_long long)) holds less = absurd (omega (arith, less))
+  accepted strategy _ (records made left run p ended _ (writes short)) holds less =
       let r = proved p made.steps in
       let same : term_text made.steps ≡ term = holds (term_text made.steps) refl in
-      let again = checked_too model strategy term r (proves made left run short p ended) (ap Some same) in
+      let again = checked_too model strategy term r (records made left run p ended r (writes short)) (ap Some same) in
       record { short = again.0; reply = printing r.status r.printed; checks = again.1; status_is = refl; said_is = refl }
 
   answer_accepted : (words : List Word) (old new : Outside) (reply : Reply) → Answers words old.files reply → command_of words ≡ Some Prove → WritesTerm words old new model term →

@@ -16,9 +16,11 @@ use Rattle.dlk_replies.specs.Forms.{limit_of}
 use Rattle.dlk_replies.specs.Replies.{Reply, printing}
 use Rattle.dlk_replies.specs.Refusals.{text_refused}
 use Rattle.dlk_replies.proofs.CarriedOut.{text_unwritten}
-use Rattle.dlk_jobs_check.specs.Checks.{Checks, reports, Accepts, answered}
-use Rattle.dlk_jobs_prove.specs.Proves.{Proves, bad_model, bad_strategy, fails, spent, too_long, proves, strategy_refused, proved, RunsTo, IsLast}
-use Rattle.dlk_jobs_check.proofs.Judging.{last_item}
+use Rattle.dlk_jobs_check.specs.Terms.{Accepts, TakesTerm}
+use Rattle.dlk_jobs_check.specs.Checks.{Checks, reports, answered}
+use Rattle.dlk_jobs_prove.specs.Proves.{too_long, writes, Proves, bad_model, bad_strategy, fails, spent, records, strategy_refused, proved, RunsTo, IsLast}
+use Rattle.dlk_jobs_check.proofs.Ends.{last_item}
+use Rattle.dlk_jobs_check.proofs.OneTerm.{replays}
 use Rattle.dlk_jobs_prove.proofs.StrategyLaws.{RunsTaken, RunsReplaceSymbols, RunsShow}
 use Rattle.dlk_jobs_prove.proofs.RunSteps.{taken_count, some_rows, run_shows, all_symbols}
 
@@ -49,8 +51,8 @@ written_by model strategy term _ (bad_model why is) written = absurd (unwritten 
 written_by model strategy term _ (bad_strategy f reads why is) written = absurd (unwritten (strategy_refused why) term (strategy_unwritten why) written)
 written_by model strategy term _ (fails at used why run) written = absurd cc
 written_by model strategy term _ (spent at run) written = absurd cc
-written_by model strategy term _ (too_long made left run long) written = absurd cc
-written_by model strategy term _ (proves made left run short p ended) written = record {
+written_by model strategy term _ (records made left run p ended _ (too_long long)) written = absurd cc
+written_by model strategy term _ (records made left run p ended _ (writes short)) written = record {
   made = made;
   left = left;
   run = run;
@@ -81,7 +83,10 @@ module _ (recorded : RecordedIsAccepted) (runs_taken : RunsTaken) (replace_symbo
         verdict = recorded made.steps made.rows takes symbols some;
       } in
       let shows = run_shows runs_show run.tactic run.formula made left run.run p (last_item made.rows ended.before p ended.rows_are) in
-      subst (λ n. Checks showing model (term_text made.steps) (answered showing p n)) (sym count) (reports run.formula run.reads made.rows p accepts shows)
+      let replayed = replays (term_text made.steps) made.rows p accepts in
+      let takes_it : TakesTerm model (term_text made.steps) replayed.0 made.rows p =
+      record { formula = run.formula; reads = run.reads; replays = replayed.1; shows = shows } in
+      subst (λ n. Checks showing model (term_text made.steps) (answered showing p n)) (sym count) (reports replayed.0 made.rows p takes_it)
 
   -- `check` accepts the term that is written, and shows its proof
   pub written_checks : (showing : Showing) (model strategy term : List ℕ) (reply : Reply) → (w : Written model strategy term reply) →

@@ -2,7 +2,7 @@ use Rattle.std.proofs.Common.{◌∙◌}
 use Rattle.dlk_store.specs.Stores.{tree}
 use Rattle.dlk_sequent.specs.Sequents.{sequent_at}
 use Rattle.dlk_jobs_check.proofs.ConclusionText.{proved_at, conclusion_reply}
-use Rattle.dlk_jobs_check.proofs.check.refuse_conclusion.Goals as goal
+use Rattle.dlk_jobs_check.proofs.term.refuse_conclusion.Goals as goal
 
 pub returns : goal.returns
 returns g c =
