@@ -34,7 +34,8 @@ items_left items k d less left =
     ap later_items (drop-cons items k d less ∙ ap (λ n. get_or items k d ∷ drop n items) (sym (add-one k))) ∙ simp append_assoc in
     same_rest e left
 
-pub no_items_left : {old text now : List ℕ} (items : List OdeItem) (k : ℕ) → length items ≤ k → Left old text now (later_items (drop k items)) → Left old text now []
+pub no_items_left : {old text now : List ℕ} (items : List OdeItem) (k : ℕ) → length items ≤ k → Left old text now (later_items (drop k items)) →
+    Left old text now []
 no_items_left items k le left = same_rest (ap later_items (drop_all k items le)) left
 
 -- ---- kids
@@ -55,5 +56,6 @@ module _ (trees : List Tree) (nodes : List Tree) where
 
 -- ---- lines
 
-pub line_left : (old number op kids : List ℕ) → Left old (codes "node " ++ number ++ codes " " ++ (op ++ kids)) old (codes "node " ++ (number ++ (codes " " ++ (op ++ kids))))
+pub line_left : (old number op kids : List ℕ) → Left old (codes "node " ++ number ++ codes " " ++ (op ++ kids)) old (codes "node " ++ (number ++
+    (codes " " ++ (op ++ kids))))
 line_left old number op kids = unbegun old (simp append_assoc)
