@@ -1,7 +1,6 @@
 -- What the parts of a detail are, found by cutting its text.
-use Rattle.std.proofs.Common.{◌≡◌, ◌≢◌, ℕ, zero, suc, ◌+◌, ◌-◌, ◌<◌, ◌≤◌, nat_le, ◌==◌, Bool, true, false, not, ◌&&◌, ◌||◌, List, [], ◌∷◌, ◌++◌, length, map, Option, Some, None, codes, refl, sym, ap, subst, ◌∙◌, append_assoc, append-nil, arith}
+use Rattle.std.proofs.Common.{◌≡◌, ◌≢◌, ℕ, ◌+◌, ◌-◌, ◌<◌, ◌≤◌, nat_le, ◌==◌, Bool, true, false, not, ◌&&◌, ◌||◌, List, [], ◌∷◌, ◌++◌, length, map, Option, Some, None, codes, refl, sym, ap, subst, ◌∙◌, append_assoc, arith}
 use Rattle.std.specs.Prelude.{IsTrue, is_none, if◌then◌else◌, MatchOption}
-use Rattle.std.specs.Fmt.{decimal}
 use Rattle.std.specs.List.{list_all, join_by}
 use Rattle.std.proofs.lemmas.Bool.{and_parts, and_from, leb-true, le-leb, ltb-true, lt-ltb, eqb-true}
 use Rattle.std.proofs.lemmas.List.Folds.{list_all-append}
@@ -17,7 +16,7 @@ use Rattle.dlk_grammar.specs.Tokens.{is_digit, literal_number}
 use Rattle.dlk_grammar.proofs.Spelled.{digits_all}
 use Rattle.dlk_readback.proofs.Numbers.{Literal, whole, parts, literal_is}
 use Rattle.dlk_lines.specs.Parts.{CutAt}
-use Rattle.dlk_nodes.specs.Words.{variable_text, unit_text, constant_text, item_text}
+use Rattle.dlk_nodes.specs.Words.{unit_text, constant_text, item_text}
 use Rattle.dlk_nodes.specs.Fields.{parts_of, Each}
 use Rattle.dlk_nodes.specs.Details.{SpellsVariable, SpellsNumber, AreFewDigits, SpellsDot, SpellsUnit, SpellsConstant, SpellsItem, SpellsItems}
 use Rattle.dlk_lines.proofs.Cuts.{one_cut}

@@ -1,10 +1,10 @@
 -- The new nodes of a tree: each of them is new, and its kids stand before it.
 use Rattle.std.proofs.Common.{◌≡◌, ℕ, ◌+◌, ◌<◌, ◌≤◌, Bool, true, false, ◌||◌, cond, List, [], ◌∷◌, ◌++◌, max, refl, sym, ap, subst, append_assoc, append-nil, arith, inl, inr}
 use Rattle.std.proofs.lemmas.Bool.{cases_Bool}
-use Rattle.dlk_tree.specs.Trees.{Tree, node, Forest, no_kids, kid, size, size_all, depth, depth_all, WellMade, AllWellMade}
+use Rattle.dlk_tree.specs.Trees.{Tree, node, Forest, no_kids, kid, size, size_all, depth, depth_all, AllWellMade}
 use Rattle.dlk_tree.specs.TreeTests.{tree_eq}
 use Rattle.dlk_tree.proofs.TreeSame.{tree_decides}
-use Rattle.dlk_calculus.specs.Limits.{most_nodes, greatest_depth, IsSmall, IsShallow}
+use Rattle.dlk_calculus.specs.Limits.{most_nodes, greatest_depth}
 use Rattle.dlk_nodes.specs.Nodes.{has_node}
 use Rattle.dlk_nodes.specs.Follow.{AreThere, KidsThere, IsGood, EachGood, Follow}
 use Rattle.dlk_nodes.specs.Terms.{new_nodes, new_in_kids, new_in_each}

@@ -8,7 +8,7 @@ use Rattle.dlk_tree.specs.Table.{kid_sorts}
 use Rattle.dlk_tree.specs.Trees.{Tree, node, forest, sorts}
 use Rattle.dlk_lines.specs.Numbers.{IsNumber}
 use Rattle.dlk_lines.specs.Parts.{CutAt}
-use Rattle.dlk_nodes.specs.Nodes.{NamesNode, IsNew, IsNode, new_node, IsNodeLine, node_line, TakesKids, IsRead}
+use Rattle.dlk_nodes.specs.Nodes.{IsNew, IsNode, new_node, IsNodeLine, node_line, TakesKids, IsRead}
 use Rattle.dlk_lines.proofs.Numbers.{one_number}
 use Rattle.dlk_lines.proofs.Cuts.{one_cut}
 use Rattle.dlk_nodes.proofs.Numbered.{number_lacks_space}

@@ -5,7 +5,6 @@ use Rattle.std.proofs.lemmas.Bool.{and_parts}
 use Rattle.dlk_tree.specs.Trees.{Tree}
 use Rattle.dlk_calculus.specs.Steps.{Step}
 use Rattle.dlk_grammar.specs.Tokens.{is_digit}
-use Rattle.dlk_lines.specs.Numbers.{IsNumber}
 use Rattle.dlk_lines.specs.Spelled.{ByNodes}
 use Rattle.dlk_lines.specs.Laws.{SaysOne}
 use Rattle.dlk_lines.specs.Lines.{IsStepLine}

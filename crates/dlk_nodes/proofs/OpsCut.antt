@@ -1,5 +1,5 @@
 -- The text of a node is cut at its spaces: the word, the detail, and the numbers.
-use Rattle.std.proofs.Common.{◌≡◌, ◌≢◌, ℕ, zero, suc, ◌<◌, ◌≤◌, ◌==◌, true, false, List, [], ◌∷◌, ◌++◌, length, Option, Some, None, codes, refl, sym, ap, subst, ◌∙◌, append_assoc, append-nil, inl, inr, arith}
+use Rattle.std.proofs.Common.{◌≡◌, ◌≢◌, ℕ, zero, suc, ◌<◌, ◌≤◌, ◌==◌, true, false, List, [], ◌∷◌, ◌++◌, length, codes, refl, sym, ap, subst, ◌∙◌, append_assoc, append-nil, inl, inr, arith}
 use Rattle.std.specs.Prelude.{IsTrue}
 use Rattle.std.specs.List.{list_all}
 use Rattle.std.specs.Str.{IsAscii, IsUtf8}
@@ -19,7 +19,7 @@ use Rattle.dlk_nodes.proofs.Fields.{lacks, one_part, next_part}
 use Rattle.dlk_nodes.proofs.Parted.{each_one}
 use Rattle.dlk_nodes.proofs.Numbered.{one_name, fields_behind, each_field, named_each, found_named}
 use Rattle.dlk_nodes.proofs.OpsRead.{detail_fields, read_op, found, op_back}
-use Rattle.dlk_nodes.proofs.Readings.{Reading, reading, one_found}
+use Rattle.dlk_nodes.proofs.Readings.{reading, one_found}
 
 -- ---- words
 

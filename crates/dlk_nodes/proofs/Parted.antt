@@ -1,5 +1,5 @@
 -- What the parts of a text say, one by one.
-use Rattle.std.proofs.Common.{◌≡◌, ◌≢◌, ℕ, ◌==◌, true, false, not, List, [], ◌∷◌, ◌++◌, length, suc, refl, sym, ap, subst, ◌∙◌, append_assoc, ◌⊎◌, inl, inr}
+use Rattle.std.proofs.Common.{◌≡◌, ◌≢◌, ℕ, ◌==◌, true, List, [], ◌∷◌, ◌++◌, length, suc, refl, sym, ap, subst, ◌∙◌, append_assoc}
 use Rattle.dlk_lines.specs.Parts.{CutAt}
 use Rattle.dlk_nodes.specs.Fields.{parts_of, Each}
 use Rattle.dlk_nodes.proofs.Fronts.{uncut_lacks}

@@ -1,5 +1,5 @@
 -- The node of a text that is read over a table of ids.
-use Rattle.std.proofs.Common.{◌≡◌, ℕ, suc, ◌≤◌, true, false, List, [], ◌∷◌, ◌++◌, length, map, take, get_or, ◌+◌, ◌<◌, Some, codes, refl, sym, ap, subst, ◌∙◌, append_assoc, arith}
+use Rattle.std.proofs.Common.{◌≡◌, ℕ, suc, ◌≤◌, true, false, List, [], ◌∷◌, ◌++◌, length, take, get_or, ◌+◌, ◌<◌, codes, refl, sym, ap, subst, ◌∙◌, append_assoc, arith}
 use Rattle.std.specs.Prelude.{All}
 use Rattle.std.proofs.lemmas.List.{take_more, take_all, map-append}
 use Rattle.dlk_tree.specs.declared.op.Sort.{Sort}
@@ -16,9 +16,9 @@ use Rattle.dlk_lines.specs.Parts.{CutAt}
 use Rattle.dlk_lines.specs.Spelled.{NamesEach, none_behind, one_behind}
 use Rattle.dlk_nodes.specs.Nodes.{has_node, NamesNode, op_and_kids, IsNew, IsNode, new_node, IsNodeLine, node_line, TakesKids, IsRead}
 use Rattle.dlk_nodes.specs.Tables.{nodes_at, has}
-use Rattle.dlk_nodes.proofs.Numbered.{FromEach, from_each, names_each_at}
+use Rattle.dlk_nodes.proofs.Numbered.{from_each, names_each_at}
 use Rattle.dlk_nodes.proofs.Readings.{one_reading}
-use Rattle.dlk_nodes.proofs.OneNode.{NodeParts, node_parts, line_parts, same_parts}
+use Rattle.dlk_nodes.proofs.OneNode.{node_parts, line_parts, same_parts}
 use Rattle.dlk_nodes.proofs.Tables.{has_same}
 
 -- ---- ids and their trees

@@ -1,5 +1,5 @@
 -- The text of a node says at most one operator and one list of kids.
-use Rattle.std.proofs.Common.{◌≡◌, ℕ, ◌<◌, ◌==◌, Bool, true, false, not, List, [], ◌∷◌, ◌++◌, length, Option, Some, None, codes, refl, sym, ap, subst, ◌∙◌, append_assoc, append-nil, arith}
+use Rattle.std.proofs.Common.{◌≡◌, ℕ, ◌<◌, ◌==◌, Bool, true, false, not, List, [], ◌∷◌, ◌++◌, Option, Some, None, codes, refl, sym, ap, subst, ◌∙◌, append_assoc, append-nil}
 use Rattle.std.specs.Prelude.{if◌then◌else◌, map}
 use Rattle.std.specs.List.{list_all, join_by}
 use Rattle.std.proofs.lemmas.Bool.{and_parts, and_from, ltb-true}
@@ -17,7 +17,7 @@ use Rattle.dlk_grammar.specs.Shown.{literal}
 use Rattle.dlk_grammar.specs.Tokens.{is_digit}
 use Rattle.dlk_nodes.specs.Words.{Detail, NoDetail, Named, OfVariable, OfNumber, OfDot, OfUnit, OfItems, detail_text, call_of, op_text, variable_text, unit_text, item_text}
 use Rattle.dlk_nodes.specs.Fields.{parts_of, Each}
-use Rattle.dlk_lines.specs.Spelled.{Names, NamesEach}
+use Rattle.dlk_lines.specs.Spelled.{Names}
 use Rattle.dlk_nodes.specs.Nodes.{NamesNode, op_and_kids, TakesKids, IsRead}
 use Rattle.dlk_nodes.proofs.DotText.{dot_digits}
 use Rattle.dlk_nodes.proofs.Fields.{lacks, lacks_both, behind_each, all_lack, split_back}

@@ -1,4 +1,3 @@
-use Rattle.dlk_store.specs.Stores.{tree}
 use Rattle.dlk_print.proofs.Left.{same_text}
 use Rattle.dlk_nodes.proofs.Tables.{place_found, place_past}
 use Rattle.dlk_nodes.proofs.writing.append_place.Goals as goal
