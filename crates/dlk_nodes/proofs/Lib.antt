@@ -19,3 +19,8 @@ pub mod Refusals
 pub mod CallLaws
 pub mod OpsCut
 pub mod ReadNode
+pub mod WrittenLaws
+pub mod OneSequent
+pub mod SymbolBack
+pub mod OnePairs
+pub mod OneState
