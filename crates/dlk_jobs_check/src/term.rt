@@ -3,6 +3,7 @@ ghost use Rattle.std.specs.Prelude.{◌≡◌, ◌≤◌, [], ◌↔◌, length,
 ghost use Rattle.dlk_tree.specs.Trees.{Tree};
 ghost use Rattle.dlk_calculus.specs.Places.{At, IsPlace};
 ghost use Rattle.dlk_calculus.specs.Provables.{Provable};
+ghost use Rattle.dlk_calculus.specs.Sequents.{IsFormula};
 ghost use Rattle.dlk_store.specs.Stores.{IsId, tree, StandsFor};
 ghost use Rattle.dlk_sequent.specs.Sequents.{sequent_at, IsKnown};
 ghost use Rattle.dlk_kernel.specs.Kernel.{facts};
@@ -30,6 +31,7 @@ use std::sync::ledger::Ledger;
 /// - `Memory`: for want of memory.
 pub fn read_model<S: Store>(alloc: Global, model: &[u8], store: &mut S) -> Result<Id, Ended>
     ensures found { IfOk result (λ id. (f : Tree) × ModelText model.now f × StandsFor (S.trees store.new) id f) }
+    ensures formula { IfOk result (λ id. IsFormula (tree (S.trees store.new) id)) }
     ensures refused { IfErr result (EndsIn (RefusesModel model.now)) }
     ensures grows { S.grows store.old store.new }
 {

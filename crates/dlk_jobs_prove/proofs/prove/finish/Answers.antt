@@ -1,4 +1,4 @@
-use Rattle.std.proofs.Common.{◌≡◌, length, map, sym, ◌∙◌}
+use Rattle.std.proofs.Common.{◌≡◌, length, map, sym, ◌∙◌, arith}
 use Rattle.std.proofs.lemmas.List.{length-map}
 use Rattle.std.proofs.lemmas.Result.{IfOk-weaker}
 use Rattle.dlk_calculus.specs.Provables.{Provable}
@@ -15,7 +15,7 @@ returns-in-TooLong-clause-ended g c =
     let recorded = rw c.in-TooLong.is at c.in_ok-term.ensures in
     ends_so (λ reply. (p : Provable) → Records steps p reply) c.refuse_length.result c.end_by.result c.end_by.ensures
     (IfOk-weaker c.refuse_length.result (λ r. reply_of r ≡ term_too_long c.in-TooLong.bytes) (λ r. (p : Provable) → Records steps p (reply_of r))
-    (λ r is p. long_answer steps p c.in-TooLong.bytes (reply_of r) recorded.0 recorded.1 is) c.refuse_length.ensures)
+    (λ r is p. long_answer steps p c.in-TooLong.bytes (reply_of r) recorded.0 (omega (arith, recorded.1, c.limit.ensures.limit)) is) c.refuse_length.ensures)
 
 pub returns-clause-reply : goal.returns-clause-reply
 returns-clause-reply g c = λ p there.
@@ -23,4 +23,4 @@ returns-clause-reply g c = λ p there.
     let trees = g.S.Store.trees c.args.kernel.now.store in
     let recorded = rw c.in-Whole.is at c.in_ok-term.ensures in
     let lines : c.rows-lines.result ≡ length (map (step_at trees) taken) = c.rows-lines.ensures.count ∙ sym c.requires.few ∙ sym (length-map taken (step_at trees)) in
-    short_answer (map (step_at trees) taken) p c.rows-lines.result (reply_of c.in_ok-reply.reply) c.in-Whole.term.items (c.in_ok-reply.ensures p there) lines recorded.0 recorded.1
+    short_answer (map (step_at trees) taken) p c.rows-lines.result (reply_of c.in_ok-reply.reply) c.in-Whole.term.items (c.in_ok-reply.ensures p there) lines recorded.0 (omega (arith, recorded.1, c.limit.ensures.limit))

@@ -1,4 +1,4 @@
-use Rattle.std.proofs.Common.{◌≡◌, map, refl, sym, subst, ◌∙◌, arith}
+use Rattle.std.proofs.Common.{◌≡◌, length, map, refl, sym, ap, subst, ◌∙◌, arith}
 use Rattle.std.proofs.lemmas.List.{length-map}
 use Rattle.std.proofs.lemmas.Result.{IfOk-weaker, err_from_is_err_and}
 use Rattle.dlk_tree.specs.Trees.{Tree}
@@ -68,7 +68,7 @@ finish-requires-clause-few g c =
     let same = run_count c.run_is_taken.ensures.taken _ _ _ _ run.2 in
     let row_count = length-map rows (provable_at trees) in
     let step_count = length-map steps (step_at trees) in
-    sym step_count ∙ same ∙ row_count
+    ap length c.as_slice.ensures.value ∙ sym step_count ∙ same ∙ row_count
 
 pub returns-clause-reply : goal.returns-clause-reply
 returns-clause-reply g c =
@@ -88,7 +88,7 @@ returns-clause-reply g c =
     (λ r. (p : Provable) → At (facts g.S.Store.trees c.run_strategy.new.kernel) done.fact p → Records (map (step_at trees) done.steps.items) p (reply_of r))
     (λ r. Proves model text (reply_of r))
     (λ r says. done_answer model text read.0 read.1 tactic c.in-Ok.ensures.found made run.1 is_run (some_rows c.run_shows_formula.ensures _ _ made run.1 is_run) c.run_strategy.new.kernel.rows (provable_at trees) refl
-    done.fact c.in-Ok-run_strategy.ensures.fact (reply_of r) says) c.finish.ensures.reply
+    done.fact c.in-Ok-run_strategy.ensures.fact (reply_of r) says) (rw c.as_slice.ensures.value at c.finish.ensures.reply)
 
 pub returns-clause-ended : goal.returns-clause-ended
 returns-clause-ended g c =
@@ -106,7 +106,7 @@ returns-clause-ended g c =
     let is_run = subst (λ (t : Tree). RunsModel tactic t (Done made run.1)) same run.2 in
     early_done c.finish.result (map (step_at trees) done.steps.items) (Proves model text)
     (λ reply says. done_answer model text read.0 read.1 tactic c.in-Ok.ensures.found made run.1 is_run (some_rows c.run_shows_formula.ensures _ _ made run.1 is_run) c.run_strategy.new.kernel.rows (provable_at trees) refl
-    done.fact c.in-Ok-run_strategy.ensures.fact reply (λ p there. says p)) c.finish.ensures.ended
+    done.fact c.in-Ok-run_strategy.ensures.fact reply (λ p there. says p)) (rw c.as_slice.ensures.value at c.finish.ensures.ended)
 
 pub returns-in-Err-run_strategy-clause-ended : goal.returns-in-Err-run_strategy-clause-ended
 returns-in-Err-run_strategy-clause-ended g c =
