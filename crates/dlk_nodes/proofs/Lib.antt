@@ -19,3 +19,4 @@ pub mod Refusals
 pub mod CallLaws
 pub mod OpsCut
 pub mod ReadNode
+pub mod WrittenLaws

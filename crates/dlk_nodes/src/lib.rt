@@ -13,8 +13,10 @@ mod numbers;
 mod parts;
 mod table;
 mod words;
+mod writing;
 
 pub use adding::add_new;
 pub use fault::NodeFault;
 pub use node::read_node_line;
 pub use table::NodeTable;
+pub use writing::append_node;

@@ -1,0 +1,59 @@
+-- How far the text of a node has been appended.
+use Rattle.std.proofs.Common.{◌≡◌, ℕ, suc, ◌+◌, ◌<◌, ◌≤◌, List, [], ◌∷◌, ◌++◌, length, drop, get_or, Option, Some, None, codes, refl, sym, ap, ◌∙◌, append_assoc, append-nil, arith, add-one}
+use Rattle.std.specs.List.{flat_map, join_by}
+use Rattle.std.specs.Fmt.{decimal}
+use Rattle.std.proofs.Math.Seq.{drop-cons}
+use Rattle.std.proofs.lemmas.List.{drop_all}
+use Rattle.dlk_tree.specs.declared.op.OdeItem.{OdeItem}
+use Rattle.dlk_tree.specs.Trees.{Tree}
+use Rattle.dlk_store.specs.declared.Id.{Id}
+use Rattle.dlk_store.specs.Stores.{tree, kid_trees}
+use Rattle.dlk_print.proofs.Left.{Left, unbegun, same_rest}
+use Rattle.dlk_nodes.specs.Words.{with_taboo, item_text}
+use Rattle.dlk_lines.specs.Written.{number_text}
+use Rattle.dlk_nodes.specs.Written.{kids_text}
+
+-- what comes behind a name
+abbrev pub behind_name : List ℕ → List ℕ → Option (List ℕ) → List ℕ
+behind_name before after None = []
+behind_name before after (Some y) = (before ++ y) ++ after
+
+pub taboo_left : (old before after x : List ℕ) (y : Option (List ℕ)) → Left old (with_taboo before after x y) old (x ++ behind_name before after y)
+taboo_left old before after x None = unbegun old (append-nil x)
+taboo_left old before after x (Some y) = unbegun old (simp append_assoc)
+
+-- ---- items
+
+abbrev pub later_items : List OdeItem → List ℕ
+later_items items = flat_map (λ i. codes "," ++ item_text i) items
+
+pub items_left : {old text now : List ℕ} (items : List OdeItem) (k : ℕ) (d : OdeItem) → k < length items → Left old text now (later_items (drop k items)) →
+    Left old text now (codes "," ++ (item_text (get_or items k d) ++ later_items (drop (k + 1) items)))
+items_left items k d less left =
+    let e : later_items (drop k items) ≡ codes "," ++ (item_text (get_or items k d) ++ later_items (drop (k + 1) items)) =
+    ap later_items (drop-cons items k d less ∙ ap (λ n. get_or items k d ∷ drop n items) (sym (add-one k))) ∙ simp append_assoc in
+    same_rest e left
+
+pub no_items_left : {old text now : List ℕ} (items : List OdeItem) (k : ℕ) → length items ≤ k → Left old text now (later_items (drop k items)) → Left old text now []
+no_items_left items k le left = same_rest (ap later_items (drop_all k items le)) left
+
+-- ---- kids
+
+module _ (trees : List Tree) (nodes : List Tree) where
+  abbrev pub kids_behind : List Id → List ℕ
+  kids_behind ids = kids_text nodes (kid_trees trees ids)
+
+  pub kids_left : {old text now : List ℕ} (ids : List Id) (k : ℕ) (d : Id) → k < length ids → Left old text now (kids_behind (drop k ids)) →
+      Left old text now (codes " " ++ (number_text nodes (tree trees (get_or ids k d)) ++ kids_behind (drop (k + 1) ids)))
+  kids_left ids k d less left =
+      let e : kids_behind (drop k ids) ≡ codes " " ++ (number_text nodes (tree trees (get_or ids k d)) ++ kids_behind (drop (k + 1) ids)) =
+      ap kids_behind (drop-cons ids k d less ∙ ap (λ n. get_or ids k d ∷ drop n ids) (sym (add-one k))) ∙ simp append_assoc in
+      same_rest e left
+
+  pub no_kids_left : {old text now : List ℕ} (ids : List Id) (k : ℕ) → length ids ≤ k → Left old text now (kids_behind (drop k ids)) → Left old text now []
+  no_kids_left ids k le left = same_rest (ap kids_behind (drop_all k ids le)) left
+
+-- ---- lines
+
+pub line_left : (old number op kids : List ℕ) → Left old (codes "node " ++ number ++ codes " " ++ (op ++ kids)) old (codes "node " ++ (number ++ (codes " " ++ (op ++ kids))))
+line_left old number op kids = unbegun old (simp append_assoc)
