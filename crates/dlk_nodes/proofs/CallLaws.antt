@@ -1,25 +1,19 @@
 -- The operator of a unit symbol, by its word and its detail.
-use Rattle.std.proofs.Common.{◌≡◌, ℕ, zero, suc, ◌==◌, true, false, ◌&&◌, ◌||◌, List, [], ◌∷◌, ◌++◌, length, Option, Some, None, codes, refl, sym, ap, subst, ◌∙◌}
-use Rattle.std.specs.Prelude.{IsTrue, is_none}
-use Rattle.std.proofs.lemmas.Bool.{and_parts, and_from}
-use Rattle.dlk_tree.specs.declared.op.Num.{Num}
-use Rattle.dlk_tree.specs.declared.op.Var.{Var}
+use Rattle.std.proofs.Common.{◌≡◌, ℕ, zero, suc, true, ◌&&◌, List, [], ◌∷◌, ◌++◌, length, Option, Some, None, codes, refl, sym, ap, subst, ◌∙◌}
+use Rattle.std.specs.Prelude.{IsTrue}
+use Rattle.std.proofs.lemmas.Bool.{and_from}
 use Rattle.dlk_tree.specs.declared.op.Sym.{Sym}
 use Rattle.dlk_tree.specs.declared.op.Kind.{Kind}
-use Rattle.dlk_tree.specs.declared.op.Kind.TheVariants.{Func, UnitFunc, Pred, UnitPred, Quant, Prog}
-use Rattle.dlk_tree.specs.declared.op.OdeItem.{OdeItem}
+use Rattle.dlk_tree.specs.declared.op.Kind.TheVariants.{UnitFunc, UnitPred}
 use Rattle.dlk_tree.specs.declared.op.Op.{Op}
 use Rattle.dlk_tree.specs.declared.op.Op.TheVariants as op
 use Rattle.dlk_tree.specs.Names.{is_name}
-use Rattle.dlk_tree.specs.Tests.{kind_rank}
-use Rattle.dlk_tree.specs.Table.{is_sym, is_sym_of, taboo_is_name}
+use Rattle.dlk_tree.specs.Table.{is_sym_of, taboo_is_name}
 use Rattle.dlk_nodes.specs.Fields.{parts_of}
 use Rattle.dlk_nodes.specs.Words.{Detail, NoDetail, Named, OfVariable, OfNumber, OfDot, OfUnit, OfItems, detail_text, call_of}
 use Rattle.dlk_nodes.specs.Nodes.{TakesKids}
-use Rattle.dlk_nodes.specs.Details.{SpellsVariable, SpellsNumber, SpellsDot, SpellsUnit, SpellsItems, IsCall}
-use Rattle.dlk_grammar.specs.Tokens.{value}
-use Rattle.dlk_nodes.proofs.NumberBack.{number_of}
-use Rattle.dlk_nodes.proofs.OpsBack.{variable_in, unit_in, items_of, symbol_parts}
+use Rattle.dlk_nodes.specs.Details.{SpellsUnit, IsCall}
+use Rattle.dlk_nodes.proofs.OpsBack.{unit_in, symbol_parts}
 use Rattle.dlk_nodes.proofs.OpsRead.{detail_fields, read_op, makers, found, op_back}
 
 -- so many fields

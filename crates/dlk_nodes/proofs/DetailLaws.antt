@@ -1,7 +1,6 @@
 -- What the parts of a detail are, found by cutting its text.
-use Rattle.std.proofs.Common.{◌≡◌, ◌≢◌, ℕ, zero, suc, ◌+◌, ◌-◌, ◌<◌, ◌≤◌, nat_le, ◌==◌, Bool, true, false, not, ◌&&◌, ◌||◌, List, [], ◌∷◌, ◌++◌, length, map, Option, Some, None, codes, refl, sym, ap, subst, ◌∙◌, append_assoc, append-nil, arith}
+use Rattle.std.proofs.Common.{◌≡◌, ◌≢◌, ℕ, ◌+◌, ◌-◌, ◌<◌, ◌≤◌, nat_le, ◌==◌, Bool, true, false, not, ◌&&◌, ◌||◌, List, [], ◌∷◌, ◌++◌, length, map, Option, Some, None, codes, refl, sym, ap, subst, ◌∙◌, append_assoc, arith}
 use Rattle.std.specs.Prelude.{IsTrue, is_none, if◌then◌else◌, MatchOption}
-use Rattle.std.specs.Fmt.{decimal}
 use Rattle.std.specs.List.{list_all, join_by}
 use Rattle.std.proofs.lemmas.Bool.{and_parts, and_from, leb-true, le-leb, ltb-true, lt-ltb, eqb-true}
 use Rattle.std.proofs.lemmas.List.Folds.{list_all-append}
@@ -17,7 +16,7 @@ use Rattle.dlk_grammar.specs.Tokens.{is_digit, literal_number}
 use Rattle.dlk_grammar.proofs.Spelled.{digits_all}
 use Rattle.dlk_readback.proofs.Numbers.{Literal, whole, parts, literal_is}
 use Rattle.dlk_lines.specs.Parts.{CutAt}
-use Rattle.dlk_nodes.specs.Words.{variable_text, unit_text, constant_text, item_text}
+use Rattle.dlk_nodes.specs.Words.{unit_text, constant_text, item_text}
 use Rattle.dlk_nodes.specs.Fields.{parts_of, Each}
 use Rattle.dlk_nodes.specs.Details.{SpellsVariable, SpellsNumber, AreFewDigits, SpellsDot, SpellsUnit, SpellsConstant, SpellsItem, SpellsItems}
 use Rattle.dlk_lines.proofs.Cuts.{one_cut}
@@ -84,7 +83,8 @@ pub record HasTaboo (u : List ℕ × Option (List ℕ)) (front : List ℕ) (text
   pub name : is_name front ≡ true
   pub real : is_name taboo ≡ true
 
-pub unit_parts : (text front behind : List ℕ) (u : List ℕ × Option (List ℕ)) → CutAt text 124 front behind → SpellsUnit text u → HasTaboo u front (λ t. t ++ 124 ∷ []) behind
+pub unit_parts : (text front behind : List ℕ) (u : List ℕ × Option (List ℕ)) → CutAt text 124 front behind → SpellsUnit text u →
+    HasTaboo u front (λ t. t ++ 124 ∷ []) behind
 unit_parts text front behind u cut s = by_taboo u.1 refl s.text_is
   where
     real : (is_name u.0 ≡ true) × (taboo_is_name u.1 ≡ true)
@@ -93,7 +93,11 @@ unit_parts text front behind u cut s = by_taboo u.1 refl s.text_is
     by_taboo : (y : Option (List ℕ)) → u.1 ≡ y → text ≡ unit_text u.0 y → HasTaboo u front (λ t. t ++ 124 ∷ []) behind
     by_taboo None p e = absurd (not_lacking 124 text front behind refl cut (ap (lacks 124) e ∙ name_lacks 124 refl u.0 real.0))
     by_taboo (Some t) p e =
-        let same = one_cut text 124 front u.0 behind (t ++ 124 ∷ []) cut (record { text_is = e ∙ unit_grouped u.0 t; first = name_lacks 124 refl u.0 real.0 }) in
+        let same = one_cut text 124 front u.0 behind (t ++ 124 ∷ []) cut (record {
+          text_is = e
+              ∙ unit_grouped u.0 t;
+          first = name_lacks 124 refl u.0 real.0;
+        }) in
         record {
           taboo = t;
           behind_is = same.1;
@@ -127,7 +131,11 @@ constant_parts text front behind u cut s = by_taboo u.1 refl s.text_is
     by_taboo : (y : Option (List ℕ)) → u.1 ≡ y → text ≡ constant_text u.0 y → HasTaboo u front (λ t. 124 ∷ (t ++ 124 ∷ 125 ∷ [])) behind
     by_taboo None p e = absurd (not_lacking 123 text front behind refl cut (ap (lacks 123) e ∙ name_lacks 123 refl u.0 real.0))
     by_taboo (Some t) p e =
-        let same = one_cut text 123 front u.0 behind (124 ∷ (t ++ 124 ∷ 125 ∷ [])) cut (record { text_is = e ∙ constant_grouped u.0 t; first = name_lacks 123 refl u.0 real.0 }) in
+        let same = one_cut text 123 front u.0 behind (124 ∷ (t ++ 124 ∷ 125 ∷ [])) cut (record {
+          text_is = e
+              ∙ constant_grouped u.0 t;
+          first = name_lacks 123 refl u.0 real.0;
+        }) in
         record {
           taboo = t;
           behind_is = same.1;
@@ -149,7 +157,8 @@ constant_again front behind none inner taboo end text a b c empty brace x y = re
       a.text_is ∙ ap (λ l. front ++ 123 ∷ l) bars ∙ sym (constant_grouped front taboo);
 }
 
-pub unit_again : (front behind taboo end text : List ℕ) → CutAt text 124 front behind → CutAt behind 124 taboo end → end ≡ [] → is_name front ≡ true → is_name taboo ≡ true →
+pub unit_again : (front behind taboo end text : List ℕ) → CutAt text 124 front behind → CutAt behind 124 taboo end → end ≡ [] → is_name front ≡ true →
+    is_name taboo ≡ true →
     SpellsUnit text (front, Some taboo)
 unit_again front behind taboo end text a b empty x y = record {
   real = and_from (is_name front) (is_name taboo) x y;
@@ -161,7 +170,8 @@ unit_again front behind taboo end text a b empty x y = record {
 constant_lacks_prime : (x : List ℕ) (y : Option (List ℕ)) → is_name x ≡ true → taboo_is_name y ≡ true → lacks 39 (constant_text x y) ≡ true
 constant_lacks_prime x None h g = name_lacks 39 refl x h
 constant_lacks_prime x (Some y) h g =
-    lacks_both 39 (x ++ codes "{|" ++ y) (codes "|}") (lacks_both 39 (x ++ codes "{|") y (lacks_both 39 x (codes "{|") (name_lacks 39 refl x h) refl) (name_lacks 39 refl y g)) refl
+    lacks_both 39 (x ++ codes "{|" ++ y) (codes "|}") (lacks_both 39 (x ++ codes "{|") y (lacks_both 39 x (codes "{|") (name_lacks 39 refl x h) refl)
+    (name_lacks 39 refl y g)) refl
 
 pub no_item : (text : List ℕ) → Uncut 39 text → ((u : List ℕ × Option (List ℕ)) → ¬ SpellsConstant text u) → (i : OdeItem) → ¬ SpellsItem text i
 no_item text uncut none (Evolve x) s = uncut x [] s.text_is
@@ -186,7 +196,13 @@ any_taboo : (y : Option (List ℕ)) → (is_none y || true) ≡ true
 any_taboo None = refl
 any_taboo (Some y) = refl
 
-pub constant_item : (text x : List ℕ) (y : Option (List ℕ)) → SpellsConstant text (x, y) → SpellsItem text (Const (record { kind = Ode; name = x; arity = 0; taboo = y }))
+pub constant_item : (text x : List ℕ) (y : Option (List ℕ)) → SpellsConstant text (x, y) → SpellsItem text (Const (record {
+  kind = Ode;
+  name =
+      x;
+  arity = 0;
+  taboo = y;
+}))
 constant_item text x y s =
     let r = no_taboo_part x y s.real in
     record {
@@ -216,10 +232,12 @@ spelled_each (i ∷ items) h =
     (record { real = w.0; text_is = refl }, spelled_each items w.1)
 
 -- what is put together of the items is the text
-pub items_text : (text : List ℕ) (items : List OdeItem) → Each SpellsItem (parts_of 44 text) items → (text ≡ join_by item_text (codes ",") items) × (list_all is_item items ≡ true) × (1 ≤ length items)
+pub items_text : (text : List ℕ) (items : List OdeItem) → Each SpellsItem (parts_of 44 text) items →
+    (text ≡ join_by item_text (codes ",") items) × (list_all is_item items ≡ true) × (1 ≤ length items)
 items_text text items a = by_items items (their_texts (parts_of 44 text) items a) (behind_parts 44 text refl)
   where
-    by_items : (items : List OdeItem) → (parts_of 44 text ≡ map item_text items) × (list_all is_item items ≡ true) → behind_each 44 (parts_of 44 text) ≡ 44 ∷ text →
+    by_items : (items : List OdeItem) → (parts_of 44 text ≡ map item_text items) × (list_all is_item items ≡ true) →
+        behind_each 44 (parts_of 44 text) ≡ 44 ∷ text →
         (text ≡ join_by item_text (codes ",") items) × (list_all is_item items ≡ true) × (1 ≤ length items)
     by_items [] w e = let clash : [] ≡ 44 ∷ text = sym (ap (behind_each 44) w.0) ∙ e in absurd (cc clash)
     by_items (i ∷ items) w e =
@@ -235,7 +253,8 @@ items_parts text items s =
     let c = and_parts _ _ b.0 in
     by_items items b.1 (leb-true 1 (length items) c.0) s.text_is
   where
-    by_items : (items : List OdeItem) → list_all is_item items ≡ true → 1 ≤ length items → text ≡ join_by item_text (codes ",") items → Each SpellsItem (parts_of 44 text) items
+    by_items : (items : List OdeItem) → list_all is_item items ≡ true → 1 ≤ length items → text ≡ join_by item_text (codes ",") items →
+        Each SpellsItem (parts_of 44 text) items
     by_items [] h some e = absurd (omega (arith, some))
     by_items (i ∷ items) h some e =
         let all = items_lack 44 refl refl (i ∷ items) h in
@@ -249,7 +268,8 @@ empty (c ∷ l) e = absurd (omega (arith, e))
 
 -- ---- what a text needs
 
-pub unit_name_needed : (text front behind : List ℕ) → CutAt text 124 front behind → ¬ IsTrue (is_name front) → (u : List ℕ × Option (List ℕ)) → ¬ SpellsUnit text u
+pub unit_name_needed : (text front behind : List ℕ) → CutAt text 124 front behind → ¬ IsTrue (is_name front) → (u : List ℕ × Option (List ℕ)) →
+    ¬ SpellsUnit text u
 unit_name_needed text front behind cut none u s = none (unit_parts text front behind u cut s).name
 
 pub unit_taboo_needed : (text front behind taboo end : List ℕ) → CutAt text 124 front behind → CutAt behind 124 taboo end → ¬ IsTrue (is_name taboo) →
@@ -258,10 +278,12 @@ unit_taboo_needed text front behind taboo end cut next none u s =
     let w = unit_parts text front behind u cut s in
     none (subst (λ x. is_name x ≡ true) (sym (taboo_cut behind taboo end w.taboo [] next w.behind_is w.real).0) w.real)
 
-pub constant_name_needed : (text front behind : List ℕ) → CutAt text 123 front behind → ¬ IsTrue (is_name front) → (u : List ℕ × Option (List ℕ)) → ¬ SpellsConstant text u
+pub constant_name_needed : (text front behind : List ℕ) → CutAt text 123 front behind → ¬ IsTrue (is_name front) → (u : List ℕ × Option (List ℕ)) →
+    ¬ SpellsConstant text u
 constant_name_needed text front behind cut none u s = none (constant_parts text front behind u cut s).name
 
-pub constant_taboo_needed : (text front behind bar inner taboo end : List ℕ) → CutAt text 123 front behind → CutAt behind 124 bar inner → CutAt inner 124 taboo end → ¬ IsTrue (is_name taboo) →
+pub constant_taboo_needed : (text front behind bar inner taboo end : List ℕ) → CutAt text 123 front behind → CutAt behind 124 bar inner →
+    CutAt inner 124 taboo end → ¬ IsTrue (is_name taboo) →
     (u : List ℕ × Option (List ℕ)) → ¬ SpellsConstant text u
 constant_taboo_needed text front behind bar inner taboo end cut next last none u s =
     let w = constant_parts text front behind u cut s in
@@ -320,7 +342,12 @@ module _ (text : List ℕ) where
       its : (n : Num) → text ≡ literal n → Literal n → AreFewDigits text [] × (n ≡ literal_number text [])
       its n e (whole s l d le is) =
           let same : text ≡ s = e ∙ l in (
-            record { integer_digits = subst (λ x. list_all is_digit x ≡ true) (sym same) (digits_all s d); fraction_digits = refl; few = omega (arith, ap length same, le) },
+            record {
+              integer_digits = subst (λ x. list_all is_digit x ≡ true) (sym same) (digits_all s d);
+              fraction_digits = refl;
+              few =
+                  omega (arith, ap length same, le);
+            },
             sym is ∙ ap (λ x. literal_number x []) (sym same),
           )
       its n e (parts s f l d g le is) = absurd (uncut s f (e ∙ l))
@@ -330,7 +357,8 @@ module _ (text : List ℕ) where
       by_result None fails = λ n s. fails (its n s.text_is (literal_is n s.real)).0
       by_result (Some m) e = λ n s. (its n s.text_is (literal_is n s.real)).1 ∙ sym e
 
-  pub pointed_candidate : (front behind : List ℕ) → CutAt text 46 front behind → (r : Option Num) → MatchOption r (¬ AreFewDigits front behind) (λ n. n ≡ literal_number front behind) →
+  pub pointed_candidate : (front behind : List ℕ) → CutAt text 46 front behind → (r : Option Num) →
+      MatchOption r (¬ AreFewDigits front behind) (λ n. n ≡ literal_number front behind) →
       MatchOption r ((n : Num) → ¬ SpellsNumber text n) (λ found. (n : Num) → SpellsNumber text n → n ≡ found)
   pointed_candidate front behind cut r is = by_result r is
     where
@@ -356,23 +384,27 @@ module _ (text : List ℕ) where
 one_item : (text : List ℕ) (i j : OdeItem) → SpellsItem text i → SpellsItem text j → i ≡ j
 one_item text i j a b = sym (item_back i a.real) ∙ ap item_of (sym a.text_is ∙ b.text_is) ∙ item_back j b.real
 
-pub system_found : (text : List ℕ) (items : List OdeItem) → Each SpellsItem (parts_of 44 text) items → (nat_le (length items) 64 && all_distinct (evolved items)) ≡ true → SpellsItems text items
+pub system_found : (text : List ℕ) (items : List OdeItem) → Each SpellsItem (parts_of 44 text) items →
+    (nat_le (length items) 64 && all_distinct (evolved items)) ≡ true → SpellsItems text items
 system_found text items each h =
     let w = items_text text items each in
     let v = and_parts (nat_le (length items) 64) (all_distinct (evolved items)) h in
     record {
       real = and_from (nat_le 1 (length items) && nat_le (length items) 64 && list_all is_item items) (all_distinct (evolved items))
-          (and_from (nat_le 1 (length items) && nat_le (length items) 64) (list_all is_item items) (and_from (nat_le 1 (length items)) (nat_le (length items) 64) (le-leb 1 (length items) w.2) v.0) w.1) v.1;
+          (and_from (nat_le 1 (length items) && nat_le (length items) 64) (list_all is_item items) (and_from (nat_le 1 (length items)) (nat_le
+          (length items) 64) (le-leb 1 (length items) w.2) v.0) w.1) v.1;
       text_is = w.0;
     }
 
-pub no_system : (text : List ℕ) (items : List OdeItem) → Each SpellsItem (parts_of 44 text) items → (nat_le (length items) 64 && all_distinct (evolved items)) ≡ false →
+pub no_system : (text : List ℕ) (items : List OdeItem) → Each SpellsItem (parts_of 44 text) items →
+    (nat_le (length items) 64 && all_distinct (evolved items)) ≡ false →
     (others : List OdeItem) → ¬ SpellsItems text others
 no_system text items each h others s =
     let same : others ≡ items = each_one SpellsItem one_item (parts_of 44 text) others items (items_parts text others s) each in
     let a = and_parts _ _ s.real in
     let b = and_parts _ _ a.0 in
     let c = and_parts _ _ b.0 in
-    let both : (nat_le (length others) 64 && all_distinct (evolved others)) ≡ true = and_from (nat_le (length others) 64) (all_distinct (evolved others)) c.1 a.1 in
+    let both : (nat_le (length others) 64 && all_distinct (evolved others)) ≡ true = and_from (nat_le (length others) 64) (all_distinct
+    (evolved others)) c.1 a.1 in
     let clash : true ≡ false = sym both ∙ ap (λ (l : List OdeItem). nat_le (length l) 64 && all_distinct (evolved l)) same ∙ h in
     cc clash

@@ -25,14 +25,16 @@ one_part byte (c ∷ text) h =
     by_test false other = refl
 
 -- a part, the byte, and what comes behind it
-pub next_part : (byte : ℕ) (front rest : List ℕ) → (byte == byte) ≡ true → lacks byte front ≡ true → parts_of byte (front ++ byte ∷ rest) ≡ front ∷ parts_of byte rest
+pub next_part : (byte : ℕ) (front rest : List ℕ) → (byte == byte) ≡ true → lacks byte front ≡ true →
+    parts_of byte (front ++ byte ∷ rest) ≡ front ∷ parts_of byte rest
 next_part byte [] rest same h = ap (λ b. if b then [] ∷ parts_of byte rest else before_first byte (parts_of byte rest)) same
 next_part byte (c ∷ front) rest same h =
     let w = and_parts (not (c == byte)) (lacks byte front) h in
     by_test (c == byte) w.0 ∙ ap (before_first c) (next_part byte front rest same w.1)
   where
     by_test : (b : Bool) → not b ≡ true →
-        (if b then [] ∷ parts_of byte (front ++ byte ∷ rest) else before_first c (parts_of byte (front ++ byte ∷ rest))) ≡ before_first c (parts_of byte (front ++ byte ∷ rest))
+        (if b then [] ∷ parts_of byte (front ++ byte ∷ rest) else before_first c (parts_of byte (front ++ byte ∷ rest))) ≡ before_first c
+        (parts_of byte (front ++ byte ∷ rest))
     by_test true other = absurd (cc other)
     by_test false other = refl
 

@@ -1,5 +1,5 @@
 -- The front of a text before the first space.
-use Rattle.std.proofs.Common.{◌≡◌, ◌≢◌, ℕ, ◌+◌, ◌-◌, ◌<◌, Bool, true, false, not, List, [], ◌∷◌, ◌++◌, length, take, drop, get_or, Some, None, refl, sym, ap, subst, ◌∙◌, append-nil, ◌⊎◌, inl, inr, arith, add-one, length-drop}
+use Rattle.std.proofs.Common.{◌≡◌, ◌≢◌, ℕ, ◌+◌, ◌-◌, not, List, [], ◌∷◌, ◌++◌, length, take, drop, get_or, Some, None, refl, sym, ap, subst, ◌∙◌, append-nil, ◌⊎◌, inl, inr, arith, add-one, length-drop}
 use Rattle.std.specs.Prelude.{◌==◌}
 use Rattle.std.specs.List.{list_all, position}
 use Rattle.std.proofs.lemmas.Bool.{cases_Bool, and_from, eqb-true}
@@ -28,12 +28,16 @@ uncut_lacks byte text none = elim (lacks_or_cut byte text) [ inl lack ↦ lack |
 pub front_none : (text : List ℕ) → position (λ b. b == 32) text ≡ None → Front text text []
 front_none text none = record { text_is = sym (append-nil text); first = uncut_lacks 32 text (cut_nowhere text 32 none); behind = tt }
 
-pub front_some : (text : List ℕ) (place : ℕ) → position (λ b. b == 32) text ≡ Some place → Front text (take place text) (take (length text - place) (drop place text))
+pub front_some : (text : List ℕ) (place : ℕ) → position (λ b. b == 32) text ≡ Some place →
+    Front text (take place text) (take (length text - place) (drop place text))
 front_some text place there =
     let h = position-Some (λ b. b == 32) text place 0 there in
     let same : get_or text place 0 ≡ 32 = eqb-true _ 32 h.1 in
     let behind : drop place text ≡ 32 ∷ drop (place + 1) text = rw (drop-cons text place 0 h.0, same, add-one) refl in
-    let all : take (length text - place) (drop place text) ≡ drop place text = take_all (length text - place) (drop place text) (omega (arith, length-drop place text)) in
+    let all : take (length text - place) (drop place text) ≡ drop place text = take_all (length text - place) (drop place text) (omega (
+      arith,
+      length-drop place text,
+    )) in
     record {
       text_is = sym (ap (λ l. take place text ++ l) all ∙ take-append-drop place text);
       first = (cut_there text 32 place there).first;

@@ -20,3 +20,7 @@ pub mod CallLaws
 pub mod OpsCut
 pub mod ReadNode
 pub mod WrittenLaws
+pub mod OneSequent
+pub mod SymbolBack
+pub mod OnePairs
+pub mod OneState

@@ -1,10 +1,10 @@
 -- The new nodes of a tree: each of them is new, and its kids stand before it.
 use Rattle.std.proofs.Common.{◌≡◌, ℕ, ◌+◌, ◌<◌, ◌≤◌, Bool, true, false, ◌||◌, cond, List, [], ◌∷◌, ◌++◌, max, refl, sym, ap, subst, append_assoc, append-nil, arith, inl, inr}
 use Rattle.std.proofs.lemmas.Bool.{cases_Bool}
-use Rattle.dlk_tree.specs.Trees.{Tree, node, Forest, no_kids, kid, size, size_all, depth, depth_all, WellMade, AllWellMade}
+use Rattle.dlk_tree.specs.Trees.{Tree, node, Forest, no_kids, kid, size, size_all, depth, depth_all, AllWellMade}
 use Rattle.dlk_tree.specs.TreeTests.{tree_eq}
 use Rattle.dlk_tree.proofs.TreeSame.{tree_decides}
-use Rattle.dlk_calculus.specs.Limits.{most_nodes, greatest_depth, IsSmall, IsShallow}
+use Rattle.dlk_calculus.specs.Limits.{most_nodes, greatest_depth}
 use Rattle.dlk_nodes.specs.Nodes.{has_node}
 use Rattle.dlk_nodes.specs.Follow.{AreThere, KidsThere, IsGood, EachGood, Follow}
 use Rattle.dlk_nodes.specs.Terms.{new_nodes, new_in_kids, new_in_each}
@@ -61,7 +61,8 @@ mutual
       by_test (has_node nodes (node op kids)) refl (kids_follow nodes kids (kids_good kids good.well_made.1 (omega (arith, small)) (omega (arith, shallow))))
     where
       by_test : (b : Bool) → has_node nodes (node op kids) ≡ b → Follow nodes (new_in_kids nodes kids) × KidsThere (nodes ++ new_in_kids nodes kids) kids →
-          Follow nodes (cond b [] (new_in_kids nodes kids ++ node op kids ∷ [])) × (has_node (nodes ++ cond b [] (new_in_kids nodes kids ++ node op kids ∷ [])) (node op kids) ≡ true)
+          Follow nodes (cond b [] (new_in_kids nodes kids ++ node op kids ∷ [])) × (has_node (nodes ++ cond b []
+          (new_in_kids nodes kids ++ node op kids ∷ [])) (node op kids) ≡ true)
       by_test true old k = (tt, still_there nodes [] (node op kids) old)
       by_test false new k =
           let t = node op kids in
@@ -72,7 +73,8 @@ mutual
             there_behind nodes (before ++ t ∷ []) t (there_behind before (t ∷ []) t itself),
           )
 
-  pub kids_follow : (nodes : List Tree) (kids : Forest) → AllGood kids → Follow nodes (new_in_kids nodes kids) × KidsThere (nodes ++ new_in_kids nodes kids) kids
+  pub kids_follow : (nodes : List Tree) (kids : Forest) → AllGood kids →
+      Follow nodes (new_in_kids nodes kids) × KidsThere (nodes ++ new_in_kids nodes kids) kids
   kids_follow nodes no_kids good = (tt, tt)
   kids_follow nodes (kid t rest) good =
       let first = new_follow nodes t good.0 in

@@ -1,10 +1,10 @@
 -- The written line of a node is read as that node.
-use Rattle.std.proofs.Common.{◌≡◌, ℕ, ◌+◌, ◌≤◌, false, List, ◌++◌, length, codes, refl, sym, ap, subst, arith}
+use Rattle.std.proofs.Common.{◌≡◌, ◌+◌, ◌≤◌, false, List, ◌++◌, length, refl, sym, ap, subst, arith}
 use Rattle.dlk_tree.specs.Table.{Fits}
 use Rattle.dlk_tree.specs.Trees.{Tree, node, Forest, no_kids, kid, forest, trees_in, sorts}
 use Rattle.dlk_calculus.specs.Limits.{IsSmall, IsShallow}
 use Rattle.dlk_lines.specs.Spelled.{NamesEach, none_behind, one_behind}
-use Rattle.dlk_nodes.specs.Nodes.{has_node, NamesNode, op_and_kids, IsNode, new_node, IsNodeLine, node_line}
+use Rattle.dlk_nodes.specs.Nodes.{has_node, op_and_kids, IsNode, new_node, IsNodeLine, node_line}
 use Rattle.dlk_nodes.specs.Words.{op_text}
 use Rattle.dlk_nodes.specs.Written.{kids_text, node_text}
 use Rattle.dlk_nodes.specs.Follow.{KidsThere, IsNext}

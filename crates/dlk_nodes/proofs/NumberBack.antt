@@ -35,7 +35,8 @@ number_back n h = back n (literal_is n h)
 flat : (byte : ℕ) → is_digit byte ≡ false → not (46 == byte) ≡ true → (n : Num) → Literal n → lacks byte (literal n) ≡ true
 flat byte other point n (whole s e h le is) = ap (lacks byte) e ∙ digits_lack byte other s h
 flat byte other point n (parts s f e h g le is) =
-    ap (lacks byte) e ∙ lacks_both byte s (codes "." ++ f) (digits_lack byte other s h) (and_from (not (46 == byte)) (lacks byte f) point (digits_lack byte other f g))
+    ap (lacks byte) e ∙ lacks_both byte s (codes "." ++ f) (digits_lack byte other s h) (and_from (not (46 == byte)) (lacks byte f) point
+    (digits_lack byte other f g))
 
 -- a byte that is no digit and no point stands in no number
 pub number_lacks : (byte : ℕ) → is_digit byte ≡ false → not (46 == byte) ≡ true → (n : Num) → is_num n ≡ true → lacks byte (literal n) ≡ true

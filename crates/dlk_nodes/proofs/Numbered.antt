@@ -1,5 +1,5 @@
 -- Items by their numbers in a text.
-use Rattle.std.proofs.Common.{◌≡◌, ◌≢◌, ℕ, ◌==◌, Bool, true, false, List, [], ◌∷◌, ◌++◌, Option, Some, None, map, codes, refl, sym, ap, subst, ◌∙◌, append-nil}
+use Rattle.std.proofs.Common.{◌≡◌, ℕ, ◌==◌, Bool, true, false, List, [], ◌∷◌, ◌++◌, Option, Some, None, map, codes, refl, sym, ap, subst, ◌∙◌}
 use Rattle.std.specs.Prelude.{MatchOption, if◌then◌else◌}
 use Rattle.std.proofs.lemmas.Bool.{eqb-true}
 use Rattle.dlk_calculus.specs.Places.{at, At}
@@ -17,7 +17,8 @@ pub number_lacks_space : (text : List ℕ) (n : ℕ) → IsNumber text n → lac
 number_lacks_space text n is = lacks_if is_digit 32 refl text (number_parts text n is).digits
 
 -- one item
-pub numbered : {A : Type 0} (items : List A) (text : List ℕ) (n : ℕ) (r : Option A) → IsNumber text n → r ≡ at items n → MatchOption r ((x : A) → ¬ Names items text x) (Names items text)
+pub numbered : {A : Type 0} (items : List A) (text : List ℕ) (n : ℕ) (r : Option A) → IsNumber text n → r ≡ at items n → MatchOption r ((x : A) →
+    ¬ Names items text x) (Names items text)
 numbered items text n (Some x) is e = record { number = n; is_number = is; there = sym e }
 numbered items text n None is e = λ x name.
     let same = one_number text name.number n name.is_number is in
@@ -33,7 +34,8 @@ one_name items text x y a b =
 pub names_at : {A B : Type 0} (f : A → B) (items : List A) (text : List ℕ) (x : A) → Names items text x → Names (map f items) text (f x)
 names_at f items text x name = record { number = name.number; is_number = name.is_number; there = At-map f items name.number x name.there }
 
-pub names_each_at : {A B : Type 0} (f : A → B) (items : List A) (text : List ℕ) (xs : List A) → NamesEach items text xs → NamesEach (map f items) text (map f xs)
+pub names_each_at : {A B : Type 0} (f : A → B) (items : List A) (text : List ℕ) (xs : List A) → NamesEach items text xs →
+    NamesEach (map f items) text (map f xs)
 names_each_at f items _ _ none_behind = none_behind
 names_each_at f items _ _ (one_behind {i} {text} {x} {xs} name others) = one_behind (names_at f items i x name) (names_each_at f items text xs others)
 

@@ -8,7 +8,7 @@ use Rattle.dlk_tree.specs.Table.{kid_sorts}
 use Rattle.dlk_tree.specs.Trees.{Tree, node, forest, sorts}
 use Rattle.dlk_lines.specs.Numbers.{IsNumber}
 use Rattle.dlk_lines.specs.Parts.{CutAt}
-use Rattle.dlk_nodes.specs.Nodes.{NamesNode, IsNew, IsNode, new_node, IsNodeLine, node_line, TakesKids, IsRead}
+use Rattle.dlk_nodes.specs.Nodes.{IsNew, IsNode, new_node, IsNodeLine, node_line, TakesKids, IsRead}
 use Rattle.dlk_lines.proofs.Numbers.{one_number}
 use Rattle.dlk_lines.proofs.Cuts.{one_cut}
 use Rattle.dlk_nodes.proofs.Numbered.{number_lacks_space}
@@ -77,7 +77,8 @@ module _ (nodes : List Tree) where
   same_behind a b e = cc
 
   -- the number and the text of a line
-  pub same_parts : (line : List ℕ) (behind digits text : List ℕ) (m : ℕ) (t : Tree) → line ≡ codes "node " ++ behind → CutAt behind 32 digits text → (q : LineParts line m t) →
+  pub same_parts : (line : List ℕ) (behind digits text : List ℕ) (m : ℕ) (t : Tree) → line ≡ codes "node " ++ behind → CutAt behind 32 digits text →
+      (q : LineParts line m t) →
       (q.digits ≡ digits) × (q.text ≡ text)
   same_parts line behind digits text m t line_is cut q =
       let same : q.behind ≡ behind = same_behind q.behind behind (sym q.line_is ∙ line_is) in

@@ -84,7 +84,8 @@ item_of text = item_in text (parts_of 39 text)
 -- ---- symbols
 
 kind_at : ℕ → Kind
-kind_at n = if n == 0 then Func else if n == 1 then UnitFunc else if n == 2 then Pred else if n == 3 then UnitPred else if n == 4 then Quant else if n == 5 then Prog else Ode
+kind_at n = if n == 0 then Func else if n == 1 then UnitFunc else if n == 2 then Pred else if n == 3 then UnitPred else if n == 4 then Quant else if
+    n == 5 then Prog else Ode
 
 kind_ranked : (k : Kind) → kind_at (kind_rank k) ≡ k
 unfolding kind_at
@@ -126,23 +127,32 @@ no_taboo : (y : Option (List ℕ)) → (is_none y || false) ≡ true → y ≡ N
 no_taboo None h = refl
 no_taboo (Some y) h = absurd (cc h)
 
-pub symbol_again : (k : Kind) (s : Sym) (n : ℕ) (y : Option (List ℕ)) → s.kind ≡ k → s.arity ≡ n → s.taboo ≡ y → record { kind = k; name = s.name; arity = n; taboo = y } ≡ s
+pub symbol_again : (k : Kind) (s : Sym) (n : ℕ) (y : Option (List ℕ)) → s.kind ≡ k → s.arity ≡ n → s.taboo ≡ y →
+    record { kind = k; name = s.name; arity = n; taboo = y } ≡ s
 symbol_again k s n y e f g = λ i. record { kind = sym e i; name = s.name; arity = sym f i; taboo = sym g i }
 
 -- a function or a predicate, by its name and the number of its kids
-pub called : (k : Kind) (s : Sym) (n : ℕ) → (kind_row k).taboo ≡ false → s.arity ≡ n → is_sym_of k s ≡ true → record { kind = k; name = s.name; arity = n; taboo = None } ≡ s
+pub called : (k : Kind) (s : Sym) (n : ℕ) → (kind_row k).taboo ≡ false → s.arity ≡ n → is_sym_of k s ≡ true →
+    record { kind = k; name = s.name; arity = n; taboo = None } ≡ s
 called k s n none e h =
     let p = symbol_parts k s h in
     symbol_again k s n None p.kind_is e (no_taboo s.taboo (subst (λ b. (is_none s.taboo || b) ≡ true) none p.allowed))
 
 -- a symbol without arguments
-pub bare : (k : Kind) (s : Sym) → (kind_row k).arguments ≡ false → (kind_row k).taboo ≡ false → is_sym_of k s ≡ true → record { kind = k; name = s.name; arity = 0; taboo = None } ≡ s
+pub bare : (k : Kind) (s : Sym) → (kind_row k).arguments ≡ false → (kind_row k).taboo ≡ false → is_sym_of k s ≡ true →
+    record { kind = k; name = s.name; arity = 0; taboo = None } ≡ s
 bare k s without none h =
     let p = symbol_parts k s h in
     called k s 0 none (eqb-true s.arity 0 (subst (λ b. (if b then nat_le s.arity 8 else s.arity == 0) ≡ true) without p.arity_is)) h
 
 -- a unit symbol, with its taboo
-pub unit_again : (k : Kind) (s : Sym) → (kind_row k).arguments ≡ false → is_sym_of k s ≡ true → record { kind = k; name = s.name; arity = 0; taboo = s.taboo } ≡ s
+pub unit_again : (k : Kind) (s : Sym) → (kind_row k).arguments ≡ false → is_sym_of k s ≡ true → record {
+  kind = k;
+  name = s.name;
+  arity = 0;
+  taboo =
+      s.taboo;
+} ≡ s
 unit_again k s without h =
     let p = symbol_parts k s h in
     symbol_again k s 0 s.taboo p.kind_is (eqb-true s.arity 0 (subst (λ b. (if b then nat_le s.arity 8 else s.arity == 0) ≡ true) without p.arity_is)) refl
@@ -171,8 +181,10 @@ item_back (Const s) h = by_taboo s.taboo refl
         (lacks_both 39 s.name (codes "{|") (name_lacks 39 refl s.name p.name_is) refl) (name_lacks 39 refl y real)) refl in
         let behind = codes "|" ++ y ++ codes "|}" in
         let grouped : text ≡ s.name ++ 123 ∷ behind = append_assoc (s.name ++ codes "{|") y (codes "|}") ∙ append_assoc s.name (codes "{|") (y ++ codes "|}") in
-        let no_brace : lacks 123 behind ≡ true = lacks_both 123 (codes "|" ++ y) (codes "|}") (lacks_both 123 (codes "|") y refl (name_lacks 123 refl y real)) refl in
-        let braces = ap (parts_of 123) grouped ∙ next_part 123 s.name behind refl (name_lacks 123 refl s.name p.name_is) ∙ ap (λ l. s.name ∷ l) (one_part 123 behind no_brace) in
+        let no_brace : lacks 123 behind ≡ true = lacks_both 123 (codes "|" ++ y) (codes "|}") (lacks_both 123 (codes "|") y refl
+        (name_lacks 123 refl y real)) refl in
+        let braces = ap (parts_of 123) grouped ∙ next_part 123 s.name behind refl (name_lacks 123 refl s.name p.name_is)
+        ∙ ap (λ l. s.name ∷ l) (one_part 123 behind no_brace) in
         let bars = next_part 124 [] (y ++ codes "|}") refl refl ∙ ap (λ l. [] ∷ l) (next_part 124 y (codes "}") refl (name_lacks 124 refl y real)) in
         ap (item_in text) (one_part 39 text brackets) ∙ ap constant_in braces ∙ ap (λ l. constant_named s.name (unit_in l).1) bars ∙ again (Some y) e
 
@@ -188,7 +200,8 @@ item_lacks byte other marks (Const s) h = by_taboo s.taboo refl
     opening : lacks byte (codes "{|") ≡ true
     opening = let w = (and_parts (not (39 == byte)) (lacks byte (codes "{||}")) marks).1 in
         let v = and_parts (not (123 == byte)) (lacks byte (codes "||}")) w in
-        and_from (not (123 == byte)) (lacks byte (codes "|")) v.0 (and_from (not (124 == byte)) true (and_parts (not (124 == byte)) (lacks byte (codes "|}")) v.1).0 refl)
+        and_from (not (123 == byte)) (lacks byte (codes "|")) v.0 (and_from (not (124 == byte)) true (and_parts (not (124 == byte)) (lacks byte
+        (codes "|}")) v.1).0 refl)
 
     closing : lacks byte (codes "|}") ≡ true
     closing = let w = (and_parts (not (39 == byte)) (lacks byte (codes "{||}")) marks).1 in
@@ -198,7 +211,8 @@ item_lacks byte other marks (Const s) h = by_taboo s.taboo refl
     by_taboo None e = name_lacks byte other s.name p.name_is
     by_taboo (Some y) e =
         let real : is_name y ≡ true = subst (λ t. taboo_is_name t ≡ true) e p.taboo_is in
-        lacks_both byte (s.name ++ codes "{|" ++ y) (codes "|}") (lacks_both byte (s.name ++ codes "{|") y (lacks_both byte s.name (codes "{|") (name_lacks byte other s.name p.name_is) opening)
+        lacks_both byte (s.name ++ codes "{|" ++ y) (codes "|}") (lacks_both byte (s.name ++ codes "{|") y (lacks_both byte s.name (codes "{|")
+        (name_lacks byte other s.name p.name_is) opening)
         (name_lacks byte other y real)) closing
 
 pub items_of : List (List ℕ) → List OdeItem
@@ -214,7 +228,8 @@ all_items_back (i ∷ items) h =
     let rest = all_items_back items w.1 in
     λ t. first t ∷ rest t
 
-pub items_lack : (byte : ℕ) → is_name_byte byte ≡ false → lacks byte (codes "'{||}") ≡ true → (items : List OdeItem) → list_all is_item items ≡ true → all_lack byte (map item_text items)
+pub items_lack : (byte : ℕ) → is_name_byte byte ≡ false → lacks byte (codes "'{||}") ≡ true → (items : List OdeItem) → list_all is_item items ≡ true →
+    all_lack byte (map item_text items)
 items_lack byte other marks [] h = tt
 items_lack byte other marks (i ∷ items) h =
     let w = and_parts (is_item i) (list_all is_item items) h in
@@ -224,7 +239,8 @@ pub joined : (items : List OdeItem) → flat_map (λ i. codes "," ++ item_text i
 joined [] = refl
 joined (i ∷ items) = ap (λ l. codes "," ++ item_text i ++ l) (joined items)
 
-pub items_back : (items : List OdeItem) → list_all is_item items ≡ true → 1 ≤ length items → items_of (parts_of 44 (join_by item_text (codes ",") items)) ≡ items
+pub items_back : (items : List OdeItem) → list_all is_item items ≡ true → 1 ≤ length items →
+    items_of (parts_of 44 (join_by item_text (codes ",") items)) ≡ items
 unfolding items_of
 items_back [] h some = absurd (omega (arith, some))
 items_back (i ∷ items) h some =

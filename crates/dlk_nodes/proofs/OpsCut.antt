@@ -1,5 +1,5 @@
 -- The text of a node is cut at its spaces: the word, the detail, and the numbers.
-use Rattle.std.proofs.Common.{◌≡◌, ◌≢◌, ℕ, zero, suc, ◌<◌, ◌≤◌, ◌==◌, true, false, List, [], ◌∷◌, ◌++◌, length, Option, Some, None, codes, refl, sym, ap, subst, ◌∙◌, append_assoc, append-nil, inl, inr, arith}
+use Rattle.std.proofs.Common.{◌≡◌, ◌≢◌, ℕ, zero, suc, ◌<◌, ◌≤◌, ◌==◌, true, false, List, [], ◌∷◌, ◌++◌, length, codes, refl, sym, ap, subst, ◌∙◌, append_assoc, append-nil, inl, inr, arith}
 use Rattle.std.specs.Prelude.{IsTrue}
 use Rattle.std.specs.List.{list_all}
 use Rattle.std.specs.Str.{IsAscii, IsUtf8}
@@ -19,7 +19,7 @@ use Rattle.dlk_nodes.proofs.Fields.{lacks, one_part, next_part}
 use Rattle.dlk_nodes.proofs.Parted.{each_one}
 use Rattle.dlk_nodes.proofs.Numbered.{one_name, fields_behind, each_field, named_each, found_named}
 use Rattle.dlk_nodes.proofs.OpsRead.{detail_fields, read_op, found, op_back}
-use Rattle.dlk_nodes.proofs.Readings.{Reading, reading, one_found}
+use Rattle.dlk_nodes.proofs.Readings.{reading, one_found}
 
 -- ---- words
 
@@ -37,7 +37,8 @@ ascii (b ∷ bs) all =
     letter_low c letter =
         elim (cases_Bool (is_between 65 90 c)) [
           | inl upper ↦ let high : c ≤ 90 = leb-true c 90 (and_parts _ _ upper).1 in omega arith
-          | inr other ↦ let lower : is_between 97 122 c ≡ true = rw other at letter in let high : c ≤ 122 = leb-true c 122 (and_parts _ _ lower).1 in omega arith
+          | inr other ↦ let lower : is_between 97 122 c ≡ true = rw other at letter in let high : c ≤ 122 = leb-true c 122 (and_parts _ _ lower).1 in
+              omega arith
         ]
 
     elim_index : b < 128 → IsAscii bs → IsAscii (b ∷ bs)
@@ -49,7 +50,7 @@ word_utf8 o = IsUtf8-from_ascii (call_of o).0 (ascii (call_of o).0 (letters o))
 
 -- ---- cuts
 
-behind_all : (front rest : List ℕ) → IsBehind rest → lacks 32 front ≡ true → parts_of 32 (front ++ rest) ≡ front ∷ fields_behind rest
+pub behind_all : (front rest : List ℕ) → IsBehind rest → lacks 32 front ≡ true → parts_of 32 (front ++ rest) ≡ front ∷ fields_behind rest
 behind_all front [] b first = ap (parts_of 32) (append-nil front) ∙ one_part 32 front first
 behind_all front (c ∷ rest) b first = ap (λ d. parts_of 32 (front ++ d ∷ rest)) b ∙ next_part 32 front rest refl first
 
@@ -57,7 +58,8 @@ pub front_parts : (text front rest : List ℕ) → Front text front rest → par
 front_parts text front rest f = ap (parts_of 32) f.text_is ∙ behind_all front rest f.behind f.first
 
 -- numbers of the fields behind
-pub named_behind : {A : Type 0} (items : List A) (text : List ℕ) (xs : List A) → IsBehind text → Each (Names items) (fields_behind text) xs → NamesEach items text xs
+pub named_behind : {A : Type 0} (items : List A) (text : List ℕ) (xs : List A) → IsBehind text → Each (Names items) (fields_behind text) xs →
+    NamesEach items text xs
 named_behind items [] xs b each = named_each items [] xs each
 named_behind items (c ∷ text) xs b each = subst (λ d. NamesEach items (d ∷ text) xs) (sym b) (found_named items text xs each)
 
@@ -72,20 +74,23 @@ pub nothing_named : {A : Type 0} (items : List A) (text : List ℕ) (xs : List A
 nothing_named items [] xs e none = subst (NamesEach items []) (sym none) none_behind
 nothing_named items (c ∷ text) xs e none = absurd (omega (arith, e))
 
-pub fields_found : {A : Type 0} (items : List A) (text : List ℕ) (c : ℕ) (fields : List ℕ) (xs : List A) → text ≡ c ∷ fields → true ≡ (c == 32) → Each (Names items) (parts_of 32 fields) xs →
+pub fields_found : {A : Type 0} (items : List A) (text : List ℕ) (c : ℕ) (fields : List ℕ) (xs : List A) → text ≡ c ∷ fields → true ≡ (c == 32) →
+    Each (Names items) (parts_of 32 fields) xs →
     NamesEach items text xs
 fields_found items text c fields xs e space each =
     subst (λ l. NamesEach items l xs) (sym (e ∙ ap (λ d. d ∷ fields) (eqb-true c 32 (sym space)))) (found_named items fields xs each)
 
-pub fields_needed : {A : Type 0} (items : List A) (text : List ℕ) (c : ℕ) (fields : List ℕ) → text ≡ c ∷ fields → ((xs : List A) → ¬ Each (Names items) (parts_of 32 fields) xs) →
+pub fields_needed : {A : Type 0} (items : List A) (text : List ℕ) (c : ℕ) (fields : List ℕ) → text ≡ c ∷ fields → ((xs : List A) →
+    ¬ Each (Names items) (parts_of 32 fields) xs) →
     (xs : List A) → ¬ NamesEach items text xs
 fields_needed items text c fields e none xs names = none xs (each_field items (c ∷ fields) xs (subst (λ l. NamesEach items l xs) e names))
 
-not_fields : {A : Type 0} (items : List A) (text : List ℕ) (xs : List A) → NamesEach items text xs → IsBehind text
+pub not_fields : {A : Type 0} (items : List A) (text : List ℕ) (xs : List A) → NamesEach items text xs → IsBehind text
 not_fields items _ _ none_behind = tt
 not_fields items _ _ (one_behind name others) = refl
 
-pub space_needed : {A : Type 0} (items : List A) (text : List ℕ) (c : ℕ) (fields : List ℕ) → text ≡ c ∷ fields → false ≡ (c == 32) → (xs : List A) → ¬ NamesEach items text xs
+pub space_needed : {A : Type 0} (items : List A) (text : List ℕ) (c : ℕ) (fields : List ℕ) → text ≡ c ∷ fields → false ≡ (c == 32) → (xs : List A) →
+    ¬ NamesEach items text xs
 space_needed items text c fields e other xs names =
     let space : c ≡ 32 = subst IsBehind e (not_fields items text xs names) in
     let clash : false ≡ true = other ∙ ap (λ d. d == 32) space in
@@ -133,25 +138,31 @@ its_detail o w e other = by_detail (call_of o).1 refl
 module _ {A : Type 0} (items : List A) where
   -- ---- a word that is plain
 
-  pub plain_read : (text w behind : List ℕ) (o : Op) (xs : List A) → Front text w behind → call_of o ≡ (w, NoDetail) → NamesEach items behind xs → IsRead items text o xs
+  pub plain_read : (text w behind : List ℕ) (o : Op) (xs : List A) → Front text w behind → call_of o ≡ (w, NoDetail) → NamesEach items behind xs →
+      IsRead items text o xs
   plain_read text w behind o xs f e names =
       let plain = plain_parts o (ap (λ (p : List ℕ × Detail). p.1) e) in
-      let whole : op_text o ++ behind ≡ text = ap (λ (p : List ℕ × Detail). p.0 ++ detail_text p.1 ++ behind) e ∙ ap (λ l. l ++ behind) (append-nil w) ∙ sym f.text_is in
+      let whole : op_text o ++ behind ≡ text = ap (λ (p : List ℕ × Detail). p.0 ++ detail_text p.1 ++ behind) e ∙ ap (λ l. l ++ behind) (append-nil w)
+      ∙ sym f.text_is in
       record { names = subst (λ l. NamesNode items l o xs) whole (op_and_kids o names); parts = plain.0; arity = plain.1 (length xs) }
 
-  pub plain_only : (text w behind : List ℕ) (o p : Op) (xs : List A) → Front text w behind → call_of o ≡ (w, NoDetail) → IsRead items text p xs → NamesEach items behind xs
+  pub plain_only : (text w behind : List ℕ) (o p : Op) (xs : List A) → Front text w behind → call_of o ≡ (w, NoDetail) → IsRead items text p xs →
+      NamesEach items behind xs
   plain_only text w behind o p xs f e is =
       let r = reading items text p xs is in
       let plain = plain_parts o (ap (λ (q : List ℕ × Detail). q.1) e) in
       let same = sym r.parts_are ∙ front_parts text w behind f in
       let words : (call_of p).0 ≡ w = cc in
       let rest : detail_fields (call_of p).1 ++ r.fields ≡ fields_behind behind = cc in
-      let its : read_op (call_of o).0 (detail_fields (call_of o).1 ++ fields_behind behind) ≡ found (fields_behind behind) o = op_back o (fields_behind behind) plain.0 (plain.1 _) in
-      let its_call : read_op w (fields_behind behind) ≡ found (fields_behind behind) o = sym (ap (λ (q : List ℕ × Detail). read_op q.0 (detail_fields q.1 ++ fields_behind behind)) e) ∙ its in
+      let its : read_op (call_of o).0 (detail_fields (call_of o).1 ++ fields_behind behind) ≡ found (fields_behind behind) o =
+      op_back o (fields_behind behind) plain.0 (plain.1 _) in
+      let its_call : read_op w (fields_behind behind) ≡ found (fields_behind behind) o = sym (ap (λ (q : List ℕ × Detail). read_op q.0
+      (detail_fields q.1 ++ fields_behind behind)) e) ∙ its in
       let found_it : found r.fields p ≡ found (fields_behind behind) o = sym r.back ∙ (λ i. read_op (words i) (rest i)) ∙ its_call in
       named_behind items behind xs f.behind (subst (λ l. Each (Names items) l xs) (one_found items p o r.fields (fields_behind behind) found_it).1 r.each)
 
-  pub plain_kids_needed : (text w behind : List ℕ) (o : Op) → Front text w behind → call_of o ≡ (w, NoDetail) → ((ids : List A) → ¬ NamesEach items behind ids) →
+  pub plain_kids_needed : (text w behind : List ℕ) (o : Op) → Front text w behind → call_of o ≡ (w, NoDetail) → ((ids : List A) →
+      ¬ NamesEach items behind ids) →
       (p : Op) (xs : List A) → ¬ IsRead items text p xs
   plain_kids_needed text w behind o f e none p xs is = none xs (plain_only text w behind o p xs f e is)
 
@@ -182,7 +193,8 @@ module _ {A : Type 0} (items : List A) where
       pub is_call : IsCall w detail (length xs) o
       pub names : NamesEach items behind xs
 
-    pub split : (whole text detail behind : List ℕ) → whole ≡ 32 ∷ text → Front text detail behind → (o : Op) (xs : List A) → IsRead items (w ++ whole) o xs → Split detail behind o xs
+    pub split : (whole text detail behind : List ℕ) → whole ≡ 32 ∷ text → Front text detail behind → (o : Op) (xs : List A) →
+        IsRead items (w ++ whole) o xs → Split detail behind o xs
     split whole text detail behind e f o xs is =
         let r = reading items (w ++ whole) o xs is in
         let parts : parts_of 32 (w ++ whole) ≡ w ∷ detail ∷ fields_behind behind =
@@ -203,13 +215,15 @@ module _ {A : Type 0} (items : List A) where
         (o : Op) (xs : List A) → ¬ IsRead items (w ++ whole) o xs
     kids_needed whole text detail behind e f none o xs is = none xs (split whole text detail behind e f o xs is).names
 
-    pub call_needed : (whole text detail behind : List ℕ) (ids : List A) (n : ℕ) → n ≡ length ids → whole ≡ 32 ∷ text → Front text detail behind → NamesEach items behind ids →
+    pub call_needed : (whole text detail behind : List ℕ) (ids : List A) (n : ℕ) → n ≡ length ids → whole ≡ 32 ∷ text → Front text detail behind →
+        NamesEach items behind ids →
         ((o : Op) → ¬ IsCall w detail n o) → (o : Op) (xs : List A) → ¬ IsRead items (w ++ whole) o xs
     call_needed whole text detail behind ids n long e f names none o xs is =
         let s = split whole text detail behind e f o xs is in
         none o (subst (λ m. IsCall w detail m o) (ap (λ (l : List A). length l) (one_numbers items behind xs ids s.names names) ∙ sym long) s.is_call)
 
-    pub call_read : (whole text detail behind : List ℕ) (o : Op) (ids : List A) (n : ℕ) → n ≡ length ids → whole ≡ 32 ∷ text → Front text detail behind → NamesEach items behind ids →
+    pub call_read : (whole text detail behind : List ℕ) (o : Op) (ids : List A) (n : ℕ) → n ≡ length ids → whole ≡ 32 ∷ text →
+        Front text detail behind → NamesEach items behind ids →
         IsCall w detail n o → IsRead items (w ++ whole) o ids
     call_read whole text detail behind o ids n long e f names c =
         let word = c.word_is in

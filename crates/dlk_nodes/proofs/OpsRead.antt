@@ -1,5 +1,5 @@
 -- A text of an operator and its kids says one operator: there is a function that finds it again. One row an operator, and none for two of them.
-use Rattle.std.proofs.Common.{◌≡◌, ℕ, ◌<◌, true, List, [], ◌∷◌, ◌++◌, length, Option, Some, None, find, codes, refl, sym, ap, ◌∙◌, arith}
+use Rattle.std.proofs.Common.{◌≡◌, ℕ, ◌<◌, true, List, [], ◌∷◌, ◌++◌, length, Option, Some, None, find, codes, refl, ap, ◌∙◌}
 use Rattle.std.specs.List.{join_by}
 use Rattle.std.specs.Str.{bytes_eq}
 use Rattle.std.specs.Fmt.{decimal}
@@ -104,7 +104,13 @@ op_back (op.Variable v) kids h n = ap (λ w. found kids (op.Variable w)) (variab
 op_back (op.Number m) kids h n = ap (λ w. found kids (op.Number w)) (number_back m h)
 op_back (op.Dot m) kids h n = ap (λ w. found kids (op.Dot w)) (let less : m < 8 = ltb-true m 8 h in dot_value m less)
 op_back (op.UnitFun s) kids h n =
-    ap (λ u. found kids (op.UnitFun (record { kind = UnitFunc; name = u.0; arity = 0; taboo = u.1 }))) (unit_back s.name s.taboo (symbol_parts UnitFunc s h).name_is (symbol_parts UnitFunc s h).taboo_is)
+    ap (λ u. found kids (op.UnitFun (record {
+      kind = UnitFunc;
+      name = u.0;
+      arity = 0;
+      taboo =
+          u.1;
+    }))) (unit_back s.name s.taboo (symbol_parts UnitFunc s h).name_is (symbol_parts UnitFunc s h).taboo_is)
     ∙ of_sym op.UnitFun _ s kids (unit_again UnitFunc s refl h)
 op_back (op.Apply s) kids h n = of_sym op.Apply _ s kids (called Func s (length kids) refl n h)
 op_back op.Neg kids h n = refl
@@ -118,7 +124,13 @@ op_back op.True kids h n = refl
 op_back op.False kids h n = refl
 op_back op.Hole kids h n = refl
 op_back (op.UnitPred s) kids h n =
-    ap (λ u. found kids (op.UnitPred (record { kind = UnitPred; name = u.0; arity = 0; taboo = u.1 }))) (unit_back s.name s.taboo (symbol_parts UnitPred s h).name_is (symbol_parts UnitPred s h).taboo_is)
+    ap (λ u. found kids (op.UnitPred (record {
+      kind = UnitPred;
+      name = u.0;
+      arity = 0;
+      taboo =
+          u.1;
+    }))) (unit_back s.name s.taboo (symbol_parts UnitPred s h).name_is (symbol_parts UnitPred s h).taboo_is)
     ∙ of_sym op.UnitPred _ s kids (unit_again UnitPred s refl h)
 op_back (op.Holds s) kids h n = of_sym op.Holds _ s kids (called Pred s (length kids) refl n h)
 op_back op.Eq kids h n = refl

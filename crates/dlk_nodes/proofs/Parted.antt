@@ -1,5 +1,5 @@
 -- What the parts of a text say, one by one.
-use Rattle.std.proofs.Common.{◌≡◌, ◌≢◌, ℕ, ◌==◌, true, false, not, List, [], ◌∷◌, ◌++◌, length, suc, refl, sym, ap, subst, ◌∙◌, append_assoc, ◌⊎◌, inl, inr}
+use Rattle.std.proofs.Common.{◌≡◌, ◌≢◌, ℕ, ◌==◌, true, List, [], ◌∷◌, ◌++◌, length, suc, refl, sym, ap, subst, ◌∙◌, append_assoc}
 use Rattle.dlk_lines.specs.Parts.{CutAt}
 use Rattle.dlk_nodes.specs.Fields.{parts_of, Each}
 use Rattle.dlk_nodes.proofs.Fronts.{uncut_lacks}
@@ -25,7 +25,8 @@ module _ {A : Type 0} (Says : List ℕ → A → Type 0) where
   each_long (f ∷ fs) (x ∷ xs) a = ap suc (each_long fs xs a.1)
 
   -- where each part says one thing, parts say one list
-  pub each_one : ((text : List ℕ) (x y : A) → Says text x → Says text y → x ≡ y) → (fs : List (List ℕ)) (xs ys : List A) → Each Says fs xs → Each Says fs ys → xs ≡ ys
+  pub each_one : ((text : List ℕ) (x y : A) → Says text x → Says text y → x ≡ y) → (fs : List (List ℕ)) (xs ys : List A) → Each Says fs xs →
+      Each Says fs ys → xs ≡ ys
   each_one one [] [] [] a b = refl
   each_one one [] [] (y ∷ ys) a b = absurd b
   each_one one [] (x ∷ xs) ys a b = absurd a
@@ -53,14 +54,16 @@ pub none_yet : {A : Type 0} (Says : List ℕ → A → Type 0) (byte : ℕ) (tex
 none_yet Says byte text = record { done = []; parts_are = refl; each = tt }
 
 module _ {A : Type 0} (Says : List ℕ → A → Type 0) (byte : ℕ) (same : (byte == byte) ≡ true) (text left : List ℕ) where
-  pub one_more : (part behind : List ℕ) (x : A) (xs : List A) → CutAt left byte part behind → Says part x → SoFar Says byte text left xs → SoFar Says byte text behind (xs ++ x ∷ [])
+  pub one_more : (part behind : List ℕ) (x : A) (xs : List A) → CutAt left byte part behind → Says part x → SoFar Says byte text left xs →
+      SoFar Says byte text behind (xs ++ x ∷ [])
   one_more part behind x xs cut says s = record {
     done = s.done ++ part ∷ [];
     parts_are = s.parts_are ∙ ap (λ l. s.done ++ l) (cut_parts byte left part behind same cut) ∙ sym (append_assoc s.done (part ∷ []) (parts_of byte behind));
     each = each_both Says s.done (part ∷ []) xs (x ∷ []) s.each (says, tt);
   }
 
-  none_next : (part : List ℕ) (after : List (List ℕ)) (xs : List A) → parts_of byte left ≡ part ∷ after → ((x : A) → ¬ Says part x) → SoFar Says byte text left xs →
+  none_next : (part : List ℕ) (after : List (List ℕ)) (xs : List A) → parts_of byte left ≡ part ∷ after → ((x : A) → ¬ Says part x) →
+      SoFar Says byte text left xs →
       (ys : List A) → ¬ Each Says (parts_of byte text) ys
   none_next part after xs e none s ys is =
       let whole : parts_of byte text ≡ s.done ++ part ∷ after = s.parts_are ∙ ap (λ l. s.done ++ l) e in

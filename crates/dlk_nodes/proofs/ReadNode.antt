@@ -1,5 +1,5 @@
 -- The node of a text that is read over a table of ids.
-use Rattle.std.proofs.Common.{◌≡◌, ℕ, suc, ◌≤◌, true, false, List, [], ◌∷◌, ◌++◌, length, map, take, get_or, ◌+◌, ◌<◌, Some, codes, refl, sym, ap, subst, ◌∙◌, append_assoc, arith}
+use Rattle.std.proofs.Common.{◌≡◌, ℕ, suc, ◌≤◌, true, false, List, [], ◌∷◌, ◌++◌, length, take, get_or, ◌+◌, ◌<◌, codes, refl, sym, ap, subst, ◌∙◌, append_assoc, arith}
 use Rattle.std.specs.Prelude.{All}
 use Rattle.std.proofs.lemmas.List.{take_more, take_all, map-append}
 use Rattle.dlk_tree.specs.declared.op.Sort.{Sort}
@@ -16,9 +16,9 @@ use Rattle.dlk_lines.specs.Parts.{CutAt}
 use Rattle.dlk_lines.specs.Spelled.{NamesEach, none_behind, one_behind}
 use Rattle.dlk_nodes.specs.Nodes.{has_node, NamesNode, op_and_kids, IsNew, IsNode, new_node, IsNodeLine, node_line, TakesKids, IsRead}
 use Rattle.dlk_nodes.specs.Tables.{nodes_at, has}
-use Rattle.dlk_nodes.proofs.Numbered.{FromEach, from_each, names_each_at}
+use Rattle.dlk_nodes.proofs.Numbered.{from_each, names_each_at}
 use Rattle.dlk_nodes.proofs.Readings.{one_reading}
-use Rattle.dlk_nodes.proofs.OneNode.{NodeParts, node_parts, line_parts, same_parts}
+use Rattle.dlk_nodes.proofs.OneNode.{node_parts, line_parts, same_parts}
 use Rattle.dlk_nodes.proofs.Tables.{has_same}
 
 -- ---- ids and their trees
@@ -44,7 +44,8 @@ all_kept old new keeps ids all = λ i d less. let h = all i d less in let k = ke
 pub one_more_sort : (trees : List Tree) (ids : List Id) (i : ℕ) (d : Id) (s : Sort) → i < length ids → s ≡ sort (tree trees (get_or ids i d)) →
     sorts_at trees (take i ids) ++ s ∷ [] ≡ sorts_at trees (take (i + 1) ids)
 one_more_sort trees ids i d s less is =
-    ap (λ x. sorts_at trees (take i ids) ++ x ∷ []) is ∙ sym (ap (sorts_at trees) (take_more ids i d less) ∙ map-append (λ k. sort (tree trees k)) (take i ids) (get_or ids i d ∷ []))
+    ap (λ x. sorts_at trees (take i ids) ++ x ∷ []) is ∙ sym (ap (sorts_at trees) (take_more ids i d less)
+    ∙ map-append (λ k. sort (tree trees k)) (take i ids) (get_or ids i d ∷ []))
 
 pub all_sorts : (trees : List Tree) (ids : List Id) (i : ℕ) → length ids ≤ i → sorts_at trees (take i ids) ≡ sorts_at trees ids
 all_sorts trees ids i le = ap (sorts_at trees) (take_all i ids le)
@@ -52,7 +53,8 @@ all_sorts trees ids i le = ap (sorts_at trees) (take_all i ids le)
 -- numbers of ids of the table are known
 pub named_known : {A : Type 0} (P : A → Type 0) (items : List A) (text : List ℕ) (xs : List A) → All P items → NamesEach items text xs → All P xs
 named_known P items _ _ all none_behind = All-nil P
-named_known P items _ _ all (one_behind {i} {text} {x} {xs} name others) = All-cons P x xs (At_All P items name.number x all name.there) (named_known P items text xs all others)
+named_known P items _ _ all (one_behind {i} {text} {x} {xs} name others) = All-cons P x xs (At_All P items name.number x all name.there)
+    (named_known P items text xs all others)
 
 pub read_known : {A : Type 0} (P : A → Type 0) (items : List A) (text : List ℕ) (o : Op) (xs : List A) → All P items → IsRead items text o xs → All P xs
 read_known {A = A} P items text o xs all is = by_names text o xs is.names
@@ -67,7 +69,8 @@ record FromTable (table : List Id) (trees : List Tree) (text : List ℕ) (o : Op
   pub read : IsRead table text o ids
   pub are : kids ≡ nodes_at trees ids
 
-from_names : (table : List Id) (trees : List Tree) (text : List ℕ) (o : Op) (kids : List Tree) → NamesNode (nodes_at trees table) text o kids → IsRead (nodes_at trees table) text o kids →
+from_names : (table : List Id) (trees : List Tree) (text : List ℕ) (o : Op) (kids : List Tree) → NamesNode (nodes_at trees table) text o kids →
+    IsRead (nodes_at trees table) text o kids →
     FromTable table trees text o kids
 from_names table trees _ _ _ (op_and_kids {text} {kids} o names) is =
     let w = from_each (tree trees) table text kids names in
@@ -87,7 +90,8 @@ pub record TheNode (table : List Id) (trees : List Tree) (text : List ℕ) (o : 
   pub fits : Fits o (sorts_at trees ids)
   pub new : IsNew (nodes_at trees table) o (nodes_at trees ids)
 
-pub the_node : (table : List Id) (trees : List Tree) (text : List ℕ) (o : Op) (ids : List Id) (t : Tree) → IsRead table text o ids → IsNode (nodes_at trees table) text t →
+pub the_node : (table : List Id) (trees : List Tree) (text : List ℕ) (o : Op) (ids : List Id) (t : Tree) → IsRead table text o ids →
+    IsNode (nodes_at trees table) text t →
     TheNode table trees text o ids t
 the_node table trees text o ids t is n =
     let nodes = nodes_at trees table in
@@ -102,7 +106,8 @@ the_node table trees text o ids t is n =
       new = new;
     }
 
-pub no_reading : (table : List Id) (trees : List Tree) (text : List ℕ) → ((o : Op) (ids : List Id) → ¬ IsRead table text o ids) → (t : Tree) → ¬ IsNode (nodes_at trees table) text t
+pub no_reading : (table : List Id) (trees : List Tree) (text : List ℕ) → ((o : Op) (ids : List Id) → ¬ IsRead table text o ids) → (t : Tree) →
+    ¬ IsNode (nodes_at trees table) text t
 no_reading table trees text none t n =
     let p = node_parts (nodes_at trees table) text t n in
     let w = from_names table trees text p.its_op p.kids p.read.names p.read in
@@ -112,7 +117,8 @@ pub not_fitting : (table : List Id) (trees : List Tree) (text : List ℕ) (o : O
     (t : Tree) → ¬ IsNode (nodes_at trees table) text t
 not_fitting table trees text o ids is fails t n = fails (the_node table trees text o ids t is n).fits
 
-module _ (old new : List Tree) (keeps : Keeps old new) (one : HasOneId new) (table : List Id) (known : All (IsId old) table) (text : List ℕ) (o : Op) (ids : List Id) (is : IsRead table text o ids)
+module _ (old new : List Tree) (keeps : Keeps old new) (one : HasOneId new) (table : List Id) (known : All (IsId old) table) (text : List ℕ) (o : Op)
+    (ids : List Id) (is : IsRead table text o ids)
     (id : Id) (made : StandsFor new id (node o (kid_trees old ids))) where
   same_test : has table id ≡ has_node (nodes_at old table) (node o (kid_trees old ids))
   same_test =
@@ -123,7 +129,8 @@ module _ (old new : List Tree) (keeps : Keeps old new) (one : HasOneId new) (tab
   pub not_new : has table id ≡ true → (t : Tree) → ¬ IsNode (nodes_at old table) text t
   not_new there t n =
       let w = the_node table old text o ids t is n in
-      let none : has_node (nodes_at old table) (node o (kid_trees old ids)) ≡ false = subst (λ ks. has_node (nodes_at old table) (node o ks) ≡ false) (forest_at old ids) w.new.new in
+      let none : has_node (nodes_at old table) (node o (kid_trees old ids)) ≡ false = subst (λ ks. has_node (nodes_at old table) (node o ks) ≡ false)
+      (forest_at old ids) w.new.new in
       let clash : true ≡ false = sym there ∙ same_test ∙ none in
       cc clash
 
@@ -135,7 +142,8 @@ module _ (old new : List Tree) (keeps : Keeps old new) (one : HasOneId new) (tab
       past (subst IsSmall same w.new.small) (subst IsShallow same w.new.shallow)
 
   -- and else it is the new node
-  pub is_new : Fits o (sorts_at old ids) → has table id ≡ false → IsSmall (tree new id) → IsShallow (tree new id) → IsNode (nodes_at old table) text (tree new id)
+  pub is_new : Fits o (sorts_at old ids) → has table id ≡ false → IsSmall (tree new id) → IsShallow (tree new id) →
+      IsNode (nodes_at old table) text (tree new id)
   is_new fits none small shallow =
       let same : tree new id ≡ node o (forest (nodes_at old ids)) = made.tree_is ∙ ap (node o) (sym (forest_at old ids)) in
       subst (IsNode (nodes_at old table) text) (sym same)
@@ -146,7 +154,8 @@ module _ (old new : List Tree) (keeps : Keeps old new) (one : HasOneId new) (tab
         new = subst (λ ks. has_node (nodes_at old table) (node o ks) ≡ false) (sym (forest_at old ids)) (sym same_test ∙ none);
       }))
     where
-      at_trees : (text : List ℕ) (o : Op) (ids : List Id) → NamesNode table text o ids → IsNew (nodes_at old table) o (nodes_at old ids) → IsNode (nodes_at old table) text (node o (forest (nodes_at old ids)))
+      at_trees : (text : List ℕ) (o : Op) (ids : List Id) → NamesNode table text o ids → IsNew (nodes_at old table) o (nodes_at old ids) →
+          IsNode (nodes_at old table) text (node o (forest (nodes_at old ids)))
       at_trees _ _ _ (op_and_kids {text} {kids} o names) new = new_node (op_and_kids o (names_each_at (tree old) table text kids names)) new
 
 -- ---- lines

@@ -1,5 +1,5 @@
 -- The text of a node says at most one operator and one list of kids.
-use Rattle.std.proofs.Common.{◌≡◌, ℕ, ◌<◌, ◌==◌, Bool, true, false, not, List, [], ◌∷◌, ◌++◌, length, Option, Some, None, codes, refl, sym, ap, subst, ◌∙◌, append_assoc, append-nil, arith}
+use Rattle.std.proofs.Common.{◌≡◌, ℕ, ◌<◌, ◌==◌, Bool, true, false, not, List, [], ◌∷◌, ◌++◌, Option, Some, None, codes, refl, sym, ap, subst, ◌∙◌, append_assoc, append-nil}
 use Rattle.std.specs.Prelude.{if◌then◌else◌, map}
 use Rattle.std.specs.List.{list_all, join_by}
 use Rattle.std.proofs.lemmas.Bool.{and_parts, and_from, ltb-true}
@@ -17,7 +17,7 @@ use Rattle.dlk_grammar.specs.Shown.{literal}
 use Rattle.dlk_grammar.specs.Tokens.{is_digit}
 use Rattle.dlk_nodes.specs.Words.{Detail, NoDetail, Named, OfVariable, OfNumber, OfDot, OfUnit, OfItems, detail_text, call_of, op_text, variable_text, unit_text, item_text}
 use Rattle.dlk_nodes.specs.Fields.{parts_of, Each}
-use Rattle.dlk_lines.specs.Spelled.{Names, NamesEach}
+use Rattle.dlk_lines.specs.Spelled.{Names}
 use Rattle.dlk_nodes.specs.Nodes.{NamesNode, op_and_kids, TakesKids, IsRead}
 use Rattle.dlk_nodes.proofs.DotText.{dot_digits}
 use Rattle.dlk_nodes.proofs.Fields.{lacks, lacks_both, behind_each, all_lack, split_back}
@@ -44,7 +44,8 @@ detail_behind (OfItems items) = sym (append-nil (detail_text (OfItems items)))
 
 behind_both : (byte : ℕ) (xs ys : List (List ℕ)) → behind_each byte (xs ++ ys) ≡ behind_each byte xs ++ behind_each byte ys
 behind_both byte [] ys = refl
-behind_both byte (x ∷ xs) ys = ap (λ l. byte ∷ [] ++ x ++ l) (behind_both byte xs ys) ∙ sym (append_assoc (byte ∷ [] ++ x) (behind_each byte xs) (behind_each byte ys))
+behind_both byte (x ∷ xs) ys = ap (λ l. byte ∷ [] ++ x ++ l) (behind_both byte xs ys)
+    ∙ sym (append_assoc (byte ∷ [] ++ x) (behind_each byte xs) (behind_each byte ys))
 
 pub all_lack_both : (byte : ℕ) (xs ys : List (List ℕ)) → all_lack byte xs → all_lack byte ys → all_lack byte (xs ++ ys)
 all_lack_both byte [] ys a b = b
@@ -56,12 +57,14 @@ join_lacks byte (part ∷ parts) other all =
     lacks_both byte (44 ∷ [] ++ part) (behind_each 44 parts) (and_from (not (44 == byte)) (lacks byte part) other all.0) (join_lacks byte parts other all.1)
 
 -- a byte that stands in no name, number, prime, bracket, bar or comma stands in no detail
-module _ (byte : ℕ) (no_name : is_name_byte byte ≡ false) (no_digit : is_digit byte ≡ false) (prime : lacks byte (codes "'") ≡ true) (bar : lacks byte (codes "|") ≡ true)
+module _ (byte : ℕ) (no_name : is_name_byte byte ≡ false) (no_digit : is_digit byte ≡ false) (prime : lacks byte (codes "'") ≡ true) (bar : lacks byte
+    (codes "|") ≡ true)
     (marks : lacks byte (codes "'{||}") ≡ true) (comma : not (44 == byte) ≡ true) (point : not (46 == byte) ≡ true) where
   unit_lacks : (x : List ℕ) (y : Option (List ℕ)) → is_name x ≡ true → taboo_is_name y ≡ true → lacks byte (unit_text x y) ≡ true
   unit_lacks x None h g = name_lacks byte no_name x h
   unit_lacks x (Some y) h g =
-      lacks_both byte (x ++ codes "|" ++ y) (codes "|") (lacks_both byte (x ++ codes "|") y (lacks_both byte x (codes "|") (name_lacks byte no_name x h) bar) (name_lacks byte no_name y g)) bar
+      lacks_both byte (x ++ codes "|" ++ y) (codes "|") (lacks_both byte (x ++ codes "|") y (lacks_both byte x (codes "|")
+      (name_lacks byte no_name x h) bar) (name_lacks byte no_name y g)) bar
 
   variable_lacks : (v : Var) → is_name v.name ≡ true → lacks byte (variable_text v) ≡ true
   variable_lacks v h = by_test v.primed
@@ -74,7 +77,8 @@ module _ (byte : ℕ) (no_name : is_name_byte byte ≡ false) (no_digit : is_dig
   items_text_lacks [] h = refl
   items_text_lacks (i ∷ items) h =
       let all = items_lack byte no_name marks (i ∷ items) h in
-      ap (λ l. lacks byte (item_text i ++ l)) (joined items) ∙ lacks_both byte (item_text i) (behind_each 44 (map item_text items)) all.0 (join_lacks byte (map item_text items) comma all.1)
+      ap (λ l. lacks byte (item_text i ++ l)) (joined items) ∙ lacks_both byte (item_text i) (behind_each 44 (map item_text items)) all.0
+      (join_lacks byte (map item_text items) comma all.1)
 
   named_lacks : (k : Kind) (s : Sym) → is_sym_of k s ≡ true → lacks byte s.name ≡ true
   named_lacks k s h = name_lacks byte no_name s.name (symbol_parts k s h).name_is

@@ -75,10 +75,12 @@ known_takes (op.Variable v) n = inl tt
 known_takes _ n = inl tt
 
 -- a cut at the first of these bytes
-known_cut : (byte : ℕ) (text : List ℕ) → ((front : List ℕ) × (rest : List ℕ) × CutAt text byte front rest) ⊎ ((front rest : List ℕ) → text ≢ front ++ byte ∷ rest)
+known_cut : (byte : ℕ) (text : List ℕ) → ((front : List ℕ) × (rest : List ℕ) × CutAt text byte front rest) ⊎ ((front rest : List ℕ) →
+    text ≢ front ++ byte ∷ rest)
 known_cut byte text = by_place (position (λ b. b == byte) text) refl
   where
-    by_place : (r : Option ℕ) → position (λ b. b == byte) text ≡ r → ((front : List ℕ) × (rest : List ℕ) × CutAt text byte front rest) ⊎ ((front rest : List ℕ) → text ≢ front ++ byte ∷ rest)
+    by_place : (r : Option ℕ) → position (λ b. b == byte) text ≡ r → ((front : List ℕ) × (rest : List ℕ) × CutAt text byte front rest) ⊎
+        ((front rest : List ℕ) → text ≢ front ++ byte ∷ rest)
     by_place (Some i) e = inl (_, _, cut_there text byte i e)
     by_place None e = inr (cut_nowhere text byte e)
 
@@ -151,19 +153,36 @@ module _ (nodes : List Tree) where
       let fields : detail_fields (call_of p).1 ++ s.fields ≡ rest = cc in
       sym s.back ∙ (λ i. read_op (words i) (fields i)) ∙ found
 
-  by_candidate : (text word : List ℕ) (rest : List (List ℕ)) → parts_of 32 text ≡ word ∷ rest → (r : Option (Op × List (List ℕ))) → read_op word rest ≡ r → Known (Reads text)
+  by_candidate : (text word : List ℕ) (rest : List (List ℕ)) → parts_of 32 text ≡ word ∷ rest → (r : Option (Op × List (List ℕ))) →
+      read_op word rest ≡ r → Known (Reads text)
   by_candidate text word rest e None found = inr (λ l.
       let s = reading nodes text l.0 l.1 l.2 in
       let clash = is_candidate text word rest None l.0 l.1 s e found in
       cc clash)
   by_candidate text word rest e (Some (o, fs)) found = elim (known_names fs) [
     | inl names ↦ elim (known_passes text o fs names.0) [
-      | inl p ↦ inl (o, names.0, record { names = subst (λ l. NamesNode nodes l o names.0) (sym p.0) (op_and_kids o (named_each nodes fs names.0 names.1)); parts = p.1.0; arity = p.1.1 })
+      | inl p ↦ inl (
+        o,
+        names.0,
+        record {
+          names = subst (λ l. NamesNode nodes l o names.0) (sym p.0) (op_and_kids o
+              (named_each nodes fs names.0 names.1));
+          parts = p.1.0;
+          arity = p.1.1;
+        },
+      )
       | inr fails ↦ inr (λ l.
           let s = reading nodes text l.0 l.1 l.2 in
           let c = one_found nodes l.0 o s.fields fs (is_candidate text word rest (Some (o, fs)) l.0 l.1 s e found) in
           let kids : l.1 ≡ names.0 = each_one (Names nodes) (one_name nodes) fs l.1 names.0 (subst (λ f. Each (Names nodes) f l.1) c.1 s.each) names.1 in
-          fails (s.text_is ∙ (λ i. op_text (c.0 i) ++ behind_each 32 (c.1 i)), (subst (λ o. has_parts o ≡ true) c.0 l.2.parts, subst (λ o. TakesKids o (length names.0)) c.0 (subst (λ ts. TakesKids l.0 (length ts)) kids l.2.arity))))
+          fails (
+            s.text_is ∙ (λ i. op_text (c.0 i) ++ behind_each 32 (c.1 i)),
+            (
+              subst (λ o. has_parts o ≡ true) c.0 l.2.parts,
+              subst (λ o. TakesKids o
+                  (length names.0)) c.0 (subst (λ ts. TakesKids l.0 (length ts)) kids l.2.arity),
+            ),
+          ))
     ]
     | inr none ↦ inr (λ l.
         let s = reading nodes text l.0 l.1 l.2 in
@@ -181,17 +200,28 @@ module _ (nodes : List Tree) where
   -- ---- nodes
 
   abbrev Fresh : Op → List Tree → Type 0
-  Fresh o ts = (sorts (forest ts) ≡ kid_sorts o) × ((size (node o (forest ts)) ≤ most_nodes) × ((depth (node o (forest ts)) ≤ greatest_depth) × (has_node nodes (node o (forest ts)) ≡ false)))
+  Fresh o ts = (sorts (forest ts) ≡ kid_sorts o) × ((size (node o (forest ts)) ≤ most_nodes) × ((depth (node o (forest ts)) ≤ greatest_depth) ×
+      (has_node nodes (node o (forest ts)) ≡ false)))
 
   known_fresh : (o : Op) (ts : List Tree) → Known (Fresh o ts)
   known_fresh o ts =
       both (by_test (pointwise SortEq.ghosts.eq (sorts (forest ts)) (kid_sorts o)) (sorts_decides (sorts (forest ts)) (kid_sorts o)))
-      (both (at_most (size (node o (forest ts))) most_nodes) (both (at_most (depth (node o (forest ts))) greatest_depth) (is_equal (has_node nodes (node o (forest ts))) false)))
+      (both (at_most (size (node o (forest ts))) most_nodes) (both (at_most (depth (node o (forest ts))) greatest_depth) (is_equal (has_node nodes
+      (node o (forest ts))) false)))
 
   known_node : (text : List ℕ) → ((t : Tree) × IsNode nodes text t) ⊎ ((t : Tree) → ¬ IsNode nodes text t)
   known_node text = elim (known_reading text) [
     | inl r ↦ elim (known_fresh r.0 r.1) [
-      | inl f ↦ inl (node r.0 (forest r.1), new_node r.2.names (record { fits = record { kids_fit = f.0; parts_fit = r.2.parts }; small = f.1.0; shallow = f.1.1.0; new = f.1.1.1 }))
+      | inl f ↦ inl (
+        node r.0 (forest r.1),
+        new_node r.2.names (record {
+          fits = record { kids_fit = f.0; parts_fit = r.2.parts };
+          small =
+              f.1.0;
+          shallow = f.1.1.0;
+          new = f.1.1.1;
+        }),
+      )
       | inr fails ↦ inr (λ t is.
           let p = node_parts nodes text t is in
           let same = one_reading nodes text p.its_op r.0 p.kids r.1 p.read r.2 in
@@ -203,8 +233,10 @@ module _ (nodes : List Tree) where
 
   -- ---- lines
 
-  by_number : (line behind digits text : List ℕ) → line ≡ codes "node " ++ behind → CutAt behind 32 digits text → ((m : ℕ) × IsNumber digits m) ⊎ ((m : ℕ) → ¬ IsNumber digits m) →
-      ((t : Tree) × IsNode nodes text t) ⊎ ((t : Tree) → ¬ IsNode nodes text t) → ((m : ℕ) × (t : Tree) × IsNodeLine nodes line m t) ⊎ ((m : ℕ) (t : Tree) → ¬ IsNodeLine nodes line m t)
+  by_number : (line behind digits text : List ℕ) → line ≡ codes "node " ++ behind → CutAt behind 32 digits text →
+      ((m : ℕ) × IsNumber digits m) ⊎ ((m : ℕ) → ¬ IsNumber digits m) →
+      ((t : Tree) × IsNode nodes text t) ⊎ ((t : Tree) → ¬ IsNode nodes text t) →
+      ((m : ℕ) × (t : Tree) × IsNodeLine nodes line m t) ⊎ ((m : ℕ) (t : Tree) → ¬ IsNodeLine nodes line m t)
   by_number line behind digits text e cut (inr none) n = inr (λ m t is.
       let q = line_parts nodes line m t is in
       none m (subst (λ d. IsNumber d m) (same_parts nodes line behind digits text m t e cut q).0 q.number_is))

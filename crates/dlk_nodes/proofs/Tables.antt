@@ -1,5 +1,5 @@
 -- Ids that have a node, and their trees.
-use Rattle.std.proofs.Common.{◌≡◌, ℕ, suc, ◌+◌, ◌<◌, ◌≤◌, Bool, true, false, not, nat_lt, Option, Some, None, ◌||◌, cond, List, [], ◌∷◌, ◌++◌, length, drop, refl, sym, ap, ◌∙◌, append_assoc, append-nil, arith, inl, inr}
+use Rattle.std.proofs.Common.{◌≡◌, ℕ, suc, ◌+◌, ◌<◌, ◌≤◌, Bool, true, false, not, nat_lt, Some, None, ◌||◌, cond, List, [], ◌∷◌, ◌++◌, length, drop, refl, sym, ap, ◌∙◌, append_assoc, append-nil, arith, inl, inr}
 use Rattle.std.specs.Prelude.{All, position, if◌then◌else◌}
 use Rattle.std.specs.Fmt.{decimal}
 use Rattle.std.specs.List.{position_or_len}
@@ -48,7 +48,8 @@ module _ (trees : List Tree) (one : HasOneId trees) where
   place_is : (ids : List Id) (id : Id) → All (IsId trees) ids → IsId trees id → position_or_len (id_eq id) ids ≡ place_of (nodes_at trees ids) (tree trees id)
   place_is [] id all known = refl
   place_is (i ∷ ids) id all known =
-      by_test (id_eq id i) (tree_eq (tree trees id) (tree trees i)) (same_test id i known (All-head (IsId trees) i ids all)) (place_is ids id (All-tail (IsId trees) i ids all) known)
+      by_test (id_eq id i) (tree_eq (tree trees id) (tree trees i)) (same_test id i known (All-head (IsId trees) i ids all)) (place_is ids id
+      (All-tail (IsId trees) i ids all) known)
     where
       by_test : (b c : Bool) → b ≡ c → position_or_len (id_eq id) ids ≡ place_of (nodes_at trees ids) (tree trees id) →
           cond (not b) (1 + position_or_len (id_eq id) ids) 0 ≡ (if c then 0 else suc (place_of (nodes_at trees ids) (tree trees id)))
@@ -115,5 +116,6 @@ all_added trees old now ks i le e =
     sym (append-nil now) ∙ sym (ap (λ (l : List Id). now ++ new_in_kids now (kid_trees trees l)) none) ∙ e
 
 -- the nodes with one more
-pub one_more_node : (trees : List Tree) (ids new : List Id) (id : Id) (t : Tree) → new ≡ ids ++ id ∷ [] → tree trees id ≡ t → nodes_at trees new ≡ nodes_at trees ids ++ t ∷ []
+pub one_more_node : (trees : List Tree) (ids new : List Id) (id : Id) (t : Tree) → new ≡ ids ++ id ∷ [] → tree trees id ≡ t →
+    nodes_at trees new ≡ nodes_at trees ids ++ t ∷ []
 one_more_node trees ids new id t e is = ap (nodes_at trees) e ∙ map-append (tree trees) ids (id ∷ []) ∙ ap (λ u. nodes_at trees ids ++ u ∷ []) is

@@ -1,7 +1,6 @@
 -- How far the text of a node has been appended.
-use Rattle.std.proofs.Common.{◌≡◌, ℕ, suc, ◌+◌, ◌<◌, ◌≤◌, List, [], ◌∷◌, ◌++◌, length, drop, get_or, Option, Some, None, codes, refl, sym, ap, ◌∙◌, append_assoc, append-nil, arith, add-one}
-use Rattle.std.specs.List.{flat_map, join_by}
-use Rattle.std.specs.Fmt.{decimal}
+use Rattle.std.proofs.Common.{◌≡◌, ℕ, ◌+◌, ◌<◌, ◌≤◌, List, [], ◌∷◌, ◌++◌, length, drop, get_or, Option, Some, None, codes, sym, ap, ◌∙◌, append_assoc, append-nil, add-one}
+use Rattle.std.specs.List.{flat_map}
 use Rattle.std.proofs.Math.Seq.{drop-cons}
 use Rattle.std.proofs.lemmas.List.{drop_all}
 use Rattle.dlk_tree.specs.declared.op.OdeItem.{OdeItem}
@@ -34,7 +33,8 @@ items_left items k d less left =
     ap later_items (drop-cons items k d less ∙ ap (λ n. get_or items k d ∷ drop n items) (sym (add-one k))) ∙ simp append_assoc in
     same_rest e left
 
-pub no_items_left : {old text now : List ℕ} (items : List OdeItem) (k : ℕ) → length items ≤ k → Left old text now (later_items (drop k items)) → Left old text now []
+pub no_items_left : {old text now : List ℕ} (items : List OdeItem) (k : ℕ) → length items ≤ k → Left old text now (later_items (drop k items)) →
+    Left old text now []
 no_items_left items k le left = same_rest (ap later_items (drop_all k items le)) left
 
 -- ---- kids
@@ -55,5 +55,6 @@ module _ (trees : List Tree) (nodes : List Tree) where
 
 -- ---- lines
 
-pub line_left : (old number op kids : List ℕ) → Left old (codes "node " ++ number ++ codes " " ++ (op ++ kids)) old (codes "node " ++ (number ++ (codes " " ++ (op ++ kids))))
+pub line_left : (old number op kids : List ℕ) → Left old (codes "node " ++ number ++ codes " " ++ (op ++ kids)) old (codes "node " ++ (number ++
+    (codes " " ++ (op ++ kids))))
 line_left old number op kids = unbegun old (simp append_assoc)

@@ -1,5 +1,5 @@
 -- Node lines, by computation.
-use Rattle.std.specs.Prelude.{◌≡◌, List, [], ◌∷◌, Some, None, codes, refl, false, true}
+use Rattle.std.specs.Prelude.{◌≡◌, [], ◌∷◌, Some, None, codes, refl, false, true}
 use Rattle.std.specs.Fmt.{digits}
 use Rattle.dlk_tree.specs.Trees.{Tree, node, forest}
 use Rattle.dlk_tree.specs.declared.op.Op.TheVariants as op

@@ -9,3 +9,4 @@ pub mod Follow
 pub mod Terms
 pub mod Tables
 pub mod Examples
+pub mod Files

@@ -37,10 +37,12 @@ pub returns-in_err-y-clause-fault : goal.returns-in_err-y-clause-fault
 returns-in_err-y-clause-fault c =
     let e = err_from_is_err_and c.from_residual-in_err-y.result c.from_residual-in_err-y.ensures.1 in
     rw (e.1, e.2)
-    (fault_of_whole (constant_taboo_needed c.args.text.now _ _ _ _ _ _ c.in-Some.ensures.found c.in-Some-cut_at.ensures.found c.in-Some-cut_at-2.ensures.found) _ c.in_err-y.ensures.fault)
+    (fault_of_whole (constant_taboo_needed c.args.text.now _ _ _ _ _ _ c.in-Some.ensures.found c.in-Some-cut_at.ensures.found
+    c.in-Some-cut_at-2.ensures.found) _ c.in_err-y.ensures.fault)
 
 pub returns-clause-found : goal.returns-clause-found
 returns-clause-found c =
     rw (c.in_ok-x.ensures.found, c.in_ok-y.ensures.found)
-    (constant_again _ _ _ _ _ _ c.args.text.now c.in-Some.ensures.found c.in-Some-cut_at.ensures.found c.in-Some-cut_at-2.ensures.found (none_left _ c.if-not-is_empty.ensures)
+    (constant_again _ _ _ _ _ _ c.args.text.now c.in-Some.ensures.found c.in-Some-cut_at.ensures.found c.in-Some-cut_at-2.ensures.found
+    (none_left _ c.if-not-is_empty.ensures)
     (c.if-not-are.ensures.0 refl) c.in_ok-x.ensures.real c.in_ok-y.ensures.real)

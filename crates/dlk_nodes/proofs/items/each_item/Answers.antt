@@ -8,19 +8,23 @@ use Rattle.dlk_nodes.proofs.items.each_item.Goals as goal
 pub returns-in_err-item-clause-fault : goal.returns-in_err-item-clause-fault
 returns-in_err-item-clause-fault c =
     let e = err_from_is_err_and c.from_residual.result c.from_residual.ensures.1 in
-    rw (e.1, e.2) (fault_of_whole (none_in_cut SpellsItem 44 refl c.args.text.now c.loop-part.left.now _ _ c.loop-part.items.items c.in-Some.ensures.found c.loop-part.invariant) _ c.in_err-item.ensures.fault)
+    rw (e.1, e.2) (fault_of_whole (none_in_cut SpellsItem 44 refl c.args.text.now c.loop-part.left.now _ _ c.loop-part.items.items
+    c.in-Some.ensures.found c.loop-part.invariant) _ c.in_err-item.ensures.fault)
 
 pub loop-part-preserved : goal.loop-part-preserved
 loop-part-preserved c =
     rw c.in_ok-push.ensures.items
-    (one_more SpellsItem 44 refl c.args.text.now c.loop-part.left.now _ _ _ c.loop-part.items.items c.in-Some.ensures.found c.in_ok-item.ensures.found c.loop-part.invariant)
+    (one_more SpellsItem 44 refl c.args.text.now c.loop-part.left.now _ _ _ c.loop-part.items.items c.in-Some.ensures.found c.in_ok-item.ensures.found
+    c.loop-part.invariant)
 
 pub returns-in_err-item-2-clause-fault : goal.returns-in_err-item-2-clause-fault
 returns-in_err-item-2-clause-fault c =
     let e = err_from_is_err_and c.from_residual-in_err-item-2.result c.from_residual-in_err-item-2.ensures.1 in
-    rw (e.1, e.2) (fault_of_whole (none_in_last SpellsItem 44 refl c.args.text.now c.loop-part.left.now c.loop-part.items.items c.in_default.ensures.none c.loop-part.invariant) _ c.in_err-item-2.ensures.fault)
+    rw (e.1, e.2) (fault_of_whole (none_in_last SpellsItem 44 refl c.args.text.now c.loop-part.left.now c.loop-part.items.items
+    c.in_default.ensures.none c.loop-part.invariant) _ c.in_err-item-2.ensures.fault)
 
 pub returns-clause-found : goal.returns-clause-found
 returns-clause-found c =
     rw c.in_ok-push-2.ensures.items
-    (all_parts SpellsItem 44 refl c.args.text.now c.loop-part.left.now _ c.loop-part.items.items c.in_default.ensures.none c.in_ok-item-2.ensures.found c.loop-part.invariant)
+    (all_parts SpellsItem 44 refl c.args.text.now c.loop-part.left.now _ c.loop-part.items.items c.in_default.ensures.none
+    c.in_ok-item-2.ensures.found c.loop-part.invariant)

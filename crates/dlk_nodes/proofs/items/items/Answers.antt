@@ -15,4 +15,5 @@ returns-then-not-are_few_and_distinct-clause-fault c =
 
 pub returns-clause-found : goal.returns-clause-found
 returns-clause-found c =
-    rw c.new.ensures (system_found c.args.text.now c.in_ok-items.items.items c.in_ok-items.ensures.found (sym (rw c.as_slice.ensures.value at c.if-not-are_few_and_distinct.ensures)))
+    rw c.new.ensures (system_found c.args.text.now c.in_ok-items.items.items c.in_ok-items.ensures.found (sym
+    (rw c.as_slice.ensures.value at c.if-not-are_few_and_distinct.ensures)))

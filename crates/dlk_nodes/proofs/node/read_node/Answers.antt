@@ -42,7 +42,8 @@ returns-then-is_some-clause-fault g c =
     let made : StandsFor new c.in_ok-id.id (node op (kid_trees old c.in_ok-op.kids.items)) =
     subst (λ l. StandsFor new c.in_ok-id.id (node op (kid_trees old l))) c.as_slice-3.ensures.value c.in_ok-id.ensures.made in
     let there : has c.args.table.now c.in_ok-id.id ≡ true = sym c.place.ensures.found ∙ sym c.is_some.ensures ∙ c.if-is_some.true in
-    not_new old new (g.met.S.Store.grows_keeps _ _ c.in_ok-id.ensures.grows) (g.met.S.Store.one_id c.requires.unique c.make.new.self) c.args.table.now c.requires.known c.args.text.now op
+    not_new old new (g.met.S.Store.grows_keeps _ _ c.in_ok-id.ensures.grows) (g.met.S.Store.one_id c.requires.unique c.make.new.self)
+    c.args.table.now c.requires.known c.args.text.now op
     c.in_ok-op.kids.items c.in_ok-op.ensures.found c.in_ok-id.id made there
 
 pub returns-then-not-is_within_limits-clause-fault : goal.returns-then-not-is_within_limits-clause-fault
@@ -52,7 +53,8 @@ returns-then-not-is_within_limits-clause-fault g c =
     let op = c.in_ok-op.op in
     let made : StandsFor new c.in_ok-id.id (node op (kid_trees old c.in_ok-op.kids.items)) =
     subst (λ l. StandsFor new c.in_ok-id.id (node op (kid_trees old l))) c.as_slice-3.ensures.value c.in_ok-id.ensures.made in
-    not_within old new (g.met.S.Store.grows_keeps _ _ c.in_ok-id.ensures.grows) (g.met.S.Store.one_id c.requires.unique c.make.new.self) c.args.table.now c.requires.known c.args.text.now op
+    not_within old new (g.met.S.Store.grows_keeps _ _ c.in_ok-id.ensures.grows) (g.met.S.Store.one_id c.requires.unique c.make.new.self)
+    c.args.table.now c.requires.known c.args.text.now op
     c.in_ok-op.kids.items c.in_ok-op.ensures.found c.in_ok-id.id made
     (λ small shallow. let clash : false ≡ true = c.if-not-is_within_limits.ensures.is small shallow in cc clash)
 
@@ -66,6 +68,7 @@ returns-clause-found g c =
     let sorts : c.as_slice-2.result.now ≡ sorts_at old c.in_ok-op.kids.items =
     c.as_slice-2.ensures.value ∙ c.in_ok-sorts.ensures.sorts ∙ ap (sorts_at old) c.as_slice.ensures.value in
     let none : has c.args.table.now c.in_ok-id.id ≡ false = sym c.place.ensures.found ∙ sym c.is_some.ensures ∙ c.if-is_some.false in
-    is_new old new (g.met.S.Store.grows_keeps _ _ c.in_ok-id.ensures.grows) (g.met.S.Store.one_id c.requires.unique c.make.new.self) c.args.table.now c.requires.known c.args.text.now op
+    is_new old new (g.met.S.Store.grows_keeps _ _ c.in_ok-id.ensures.grows) (g.met.S.Store.one_id c.requires.unique c.make.new.self)
+    c.args.table.now c.requires.known c.args.text.now op
     c.in_ok-op.kids.items c.in_ok-op.ensures.found c.in_ok-id.id made (subst (Fits op) sorts (c.if-not-fits.ensures.0 refl)) none
     (c.if-not-is_within_limits.ensures.small refl) (c.if-not-is_within_limits.ensures.shallow refl)

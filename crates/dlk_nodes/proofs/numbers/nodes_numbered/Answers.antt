@@ -11,7 +11,8 @@ returns-in_default-node_numbered-clause-fault c =
 pub loop-field-preserved : goal.loop-field-preserved
 loop-field-preserved c =
     rw c.in_ok-push.ensures.items
-    (one_more (Names c.args.table.now) 32 refl c.args.text.now c.loop-field.left.now _ _ _ c.loop-field.ids.items c.in-Some.ensures.found c.in-Some-node_numbered.ensures
+    (one_more (Names c.args.table.now) 32 refl c.args.text.now c.loop-field.left.now _ _ _ c.loop-field.ids.items c.in-Some.ensures.found
+    c.in-Some-node_numbered.ensures
     c.loop-field.invariant)
 
 pub returns-in_default-node_numbered-2-clause-fault : goal.returns-in_default-node_numbered-2-clause-fault
@@ -22,5 +23,6 @@ returns-in_default-node_numbered-2-clause-fault c =
 pub returns-clause-found : goal.returns-clause-found
 returns-clause-found c =
     rw c.in_ok-push-2.ensures.items
-    (all_parts (Names c.args.table.now) 32 refl c.args.text.now c.loop-field.left.now _ c.loop-field.ids.items c.in_default.ensures.none c.in-Some-node_numbered-2.ensures
+    (all_parts (Names c.args.table.now) 32 refl c.args.text.now c.loop-field.left.now _ c.loop-field.ids.items c.in_default.ensures.none
+    c.in-Some-node_numbered-2.ensures
     c.loop-field.invariant)

@@ -7,4 +7,5 @@ use Rattle.dlk_nodes.proofs.writing.append_item.Goals as goal
 pub returns-in_err-append-in-Evolve : goal.returns-in_err-append-in-Evolve
 returns-in_err-append-in-Evolve c =
     same_text (sym (ap item_text c.in-Evolve.is))
-    (first_failed c.in-Evolve.x (codes "'") c.from_residual.result c.from_residual.ensures.0 (rw c.bytes.ensures.bytes at c.in_err-append-in-Evolve.ensures.begun))
+    (first_failed c.in-Evolve.x (codes "'") c.from_residual.result c.from_residual.ensures.0
+    (rw c.bytes.ensures.bytes at c.in_err-append-in-Evolve.ensures.begun))

@@ -11,7 +11,8 @@ use Rattle.dlk_nodes.proofs.writing.append_items.Goals as goal
 pub returns-in_err-append_item : goal.returns-in_err-append_item
 returns-in_err-append_item c =
     same_text (sym (ap (join_by item_text (codes ",")) c.in-Some.ensures.cases.0))
-    (first_failed (item_text c.in-Some.first.now) (later_items c.in-Some.rest.now) c.from_residual.result c.from_residual.ensures.0 c.in_err-append_item.ensures.begun)
+    (first_failed (item_text c.in-Some.first.now) (later_items c.in-Some.rest.now) c.from_residual.result c.from_residual.ensures.0
+    c.in_err-append_item.ensures.begun)
 
 pub returns-in_err-append : goal.returns-in_err-append
 returns-in_err-append c =
@@ -22,7 +23,8 @@ pub returns-in_err-append_item-2 : goal.returns-in_err-append_item-2
 returns-in_err-append_item-2 c =
     let at = items_left c.in-Some.rest.now c.loop-item.item-index c.item-item.result c.loop-item-test.true c.loop-item.invariant in
     let comma = appended (codes ",") _ at c.in_ok-append.ensures.ok in
-    let begun = subst (λ (i : OdeItem). Begun c.append.new.out.items c.append_item-in-loop-item.new.out.items (item_text i)) c.item-item.is c.in_err-append_item-2.ensures.begun in
+    let begun = subst (λ (i : OdeItem). Begun c.append.new.out.items c.append_item-in-loop-item.new.out.items (item_text i))
+    c.item-item.is c.in_err-append_item-2.ensures.begun in
     failed c.from_residual-in_err-append_item-2.result c.from_residual-in_err-append_item-2.ensures.0 (partly _ _ comma begun)
 
 pub loop-item-preserved : goal.loop-item-preserved

@@ -18,12 +18,14 @@ returns-in_err-append_place g c =
     let trees = g.S.Store.trees c.args.store.now in
     let nodes = nodes_at trees c.args.table.now in
     failed c.from_residual-in_err-append_place.result c.from_residual-in_err-append_place.ensures.0
-    (partly _ _ (appended (codes " ") _ (kids_left trees nodes c.args.kids.now c.loop-kid.kid-index _ c.loop-kid-test.true c.loop-kid.invariant) c.in_ok-append.ensures.ok)
+    (partly _ _ (appended (codes " ") _ (kids_left trees nodes c.args.kids.now c.loop-kid.kid-index _ c.loop-kid-test.true c.loop-kid.invariant)
+    c.in_ok-append.ensures.ok)
     c.in_err-append_place.ensures.begun)
 
 pub loop-kid-preserved : goal.loop-kid-preserved
 loop-kid-preserved g c =
     let trees = g.S.Store.trees c.args.store.now in
     let nodes = nodes_at trees c.args.table.now in
-    appended _ _ (appended (codes " ") _ (kids_left trees nodes c.args.kids.now c.loop-kid.kid-index _ c.loop-kid-test.true c.loop-kid.invariant) c.in_ok-append.ensures.ok)
+    appended _ _ (appended (codes " ") _ (kids_left trees nodes c.args.kids.now c.loop-kid.kid-index _ c.loop-kid-test.true c.loop-kid.invariant)
+    c.in_ok-append.ensures.ok)
     c.in_ok-append_place.ensures.ok

@@ -1,4 +1,4 @@
-use Rattle.std.proofs.Common.{◌++◌, sym, ap}
+use Rattle.std.proofs.Common.{sym, ap}
 use Rattle.std.specs.Prelude.{codes}
 use Rattle.std.specs.Fmt.{decimal}
 use Rattle.dlk_store.specs.Stores.{kid_trees}
@@ -28,7 +28,8 @@ returns-in_err-append_decimal-clause-text g c =
     let none = line_left c.args.out.now.items (decimal c.args.number) op kids in
     let word = appended (codes "node ") _ none c.in_ok-append.ensures.ok in
     same_text (sym (ap (numbered_text c.args.number nodes) c.look-node.ensures.node))
-    (failed c.from_residual-in_err-append_decimal.result c.from_residual-in_err-append_decimal.ensures.0 (partly (decimal c.args.number) _ word c.in_err-append_decimal.ensures.begun))
+    (failed c.from_residual-in_err-append_decimal.result c.from_residual-in_err-append_decimal.ensures.0 (partly (decimal c.args.number)
+    _ word c.in_err-append_decimal.ensures.begun))
 
 pub returns-in_err-append-2-clause-text : goal.returns-in_err-append-2-clause-text
 returns-in_err-append-2-clause-text g c =
@@ -65,4 +66,5 @@ returns-clause-text g c =
     let word = appended (codes "node ") _ none c.in_ok-append.ensures.ok in
     let number = appended (decimal c.args.number) _ word c.in_ok-append_decimal.ensures.ok in
     let space = appended (codes " ") _ number c.in_ok-append-2.ensures.ok in
-    same_text (sym (ap (numbered_text c.args.number nodes) c.look-node.ensures.node)) (last (appended op kids space c.in_ok-append_op.ensures.ok) c.append_kids.ensures)
+    same_text (sym (ap (numbered_text c.args.number nodes) c.look-node.ensures.node)) (last (appended op kids space c.in_ok-append_op.ensures.ok)
+    c.append_kids.ensures)

@@ -1,6 +1,6 @@
 use Rattle.std.proofs.Common.{◌++◌, sym, ap}
 use Rattle.std.specs.Prelude.{codes, if◌then◌else◌}
-use Rattle.dlk_print.proofs.Left.{first_failed, then_last, same_text}
+use Rattle.dlk_print.proofs.Left.{first_failed, same_text}
 use Rattle.dlk_nodes.proofs.writing.append_variable.Goals as goal
 
 pub returns-in_err-append_name : goal.returns-in_err-append_name
