@@ -241,6 +241,9 @@ class Walk:
             return []
         spec_file = self.spec_file(reference.crate, reference.file())
         definition = spec_file.by_name.get(reference.name)
+        if definition is None and reference.name in spec_file.imports:
+            # the file passes the name on
+            return [spec_file.imports[reference.name]]
         if definition is None:
             stop(f"{spec_path(reference.crate, reference.file())} has no definition of {reference.name}")
         if definition in self.references:

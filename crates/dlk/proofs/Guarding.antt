@@ -1,7 +1,6 @@
 -- What `guard` prints of an accepted term: whether its lines are guarded, and its report.
-use Rattle.std.proofs.Common.{◌≡◌, ◌<◌, ℕ, List, [], ◌∷◌, get_or, None, Some, refl, sym, ap, subst, ◌∙◌, arith}
+use Rattle.std.proofs.Common.{◌≡◌, ◌<◌, ℕ, List, [], ◌∷◌, length, get_or, None, Some, refl, sym, ap, subst, ◌∙◌, arith}
 use Rattle.std.proofs.lemmas.List.{append_cancel_left}
-use Rattle.dlk_tree.specs.Trees.{Tree}
 use Rattle.dlk_calculus.specs.Provables.{Provable}
 use Rattle.dlk_desk.specs.Outside.{Outside}
 use Rattle.dlk_guard.specs.declared.why.Why.{Why}
@@ -10,18 +9,18 @@ use Rattle.dlk_replay.specs.Files.{file_lines, Answer, accepted, Verdict}
 use Rattle.dlk_replies.specs.declared.command.Command.{Command}
 use Rattle.dlk_replies.specs.declared.command.Command.TheVariants.{Guard}
 use Rattle.dlk_replies.specs.declared.reply.Layout.TheVariants.{Text}
-use Rattle.dlk_replies.specs.declared.reply.Showing.TheVariants.{Reported}
 use Rattle.dlk_replies.specs.Forms.{Word, inputs_of}
 use Rattle.dlk_replies.specs.Inputs.{inputs, inputs_of_form}
 use Rattle.dlk_replies.specs.Replies.{Reply, code_of}
-use Rattle.dlk_jobs_check.specs.Checks.{Checks, bad_model, bad_line, bad_conclusion, reports, ModelText, Accepts}
+use Rattle.dlk_jobs_check.specs.Terms.{Accepts}
+use Rattle.dlk_jobs_check.specs.Checks.{reports, reported}
 use Rattle.dlk_jobs_check.specs.Guards.{Guards, refuses as refuses_term, guards, GuardSays, is_guarded, is_unguarded, guarded_line, unguarded_line}
+use Rattle.dlk_jobs_check.proofs.GuardReports.{term_is_refused}
 use Rattle.dlk_answers.specs.Answers.{Does, Responds, refuses, does}
 use Rattle.dlk.specs.Answers.{bytes_of, Answers, no_form, command}
 use Rattle.dlk.specs.Runs.{GivesWhole}
 use Rattle.dlk.specs.Headline.{RunsGuard, TellsGuarded, IsGuarded, GuardsTruly}
 use Rattle.dlk.proofs.Judged.{reported_of}
-use Rattle.dlk.proofs.Written.{model_two}
 
 -- one thing becomes of a file
 abbrev pub OneVerdict : Type 0
@@ -39,38 +38,32 @@ module _ (one_verdict : OneVerdict) (model term : List ℕ) where
   one_rows {rows} {others} a b = same_rows (one_verdict (file_lines term) (accepted rows a.line) (accepted others b.line) a.verdict b.verdict)
 
   tells : (rows : List Provable) (p : Provable) → Accepts term rows p → (said : List ℕ) → GuardSays term said → TellsGuarded term rows said
-  tells rows p a said (is_guarded others q b taken says all) =
-      let here = subst (λ rs. Guarded (lines taken rs)) (one_rows b a) all in
-      record { taken = taken; says = says; guarded = ((λ e. here), (λ g. refl)); unguarded = λ other. absurd (other refl) }
-  tells rows p a said (is_unguarded others q b taken says n why first) =
-      let here = subst (λ rs. FirstUnguarded (lines taken rs) n why) (one_rows b a) first in
+  tells rows p a said (is_guarded steps others q r all) =
+      let here = subst (λ rs. Guarded (lines steps rs)) (one_rows r.accepts a) all in
+      record { taken = steps; says = r.says; guarded = ((λ e. here), (λ g. refl)); unguarded = λ other. absurd (other refl) }
+  tells rows p a said (is_unguarded steps others q r n why first) =
+      let here = subst (λ rs. FirstUnguarded (lines steps rs) n why) (one_rows r.accepts a) first in
       record {
-        taken = taken;
-        says = says;
+        taken = steps;
+        says = r.says;
         guarded = ((λ e. absurd (not_guarded n why e)), (λ g. absurd (g.none n why here.refused)));
         unguarded = λ other. (n, why, here, refl);
       }
 
-  -- the model that was read
-  model_read : (reply : Reply) → Checks (Reported Text) model term reply → code_of reply.status < 2 → (f : Tree) × ModelText model f
-  model_read _ (bad_model why fault) less = absurd (omega (arith, less, model_two why))
-  model_read _ (bad_line f reads n why v) less = (f, reads)
-  model_read _ (bad_conclusion f reads rows p a ne) less = (f, reads)
-  model_read _ (reports f reads rows p a e) less = (f, reads)
-
   guard_of : (reply : Reply) → Guards model term reply → code_of reply.status < 2 → IsGuarded model term (code_of reply.status) reply.printed
-  guard_of _ (refuses_term r checks is) less = let two : code_of r.status ≡ 2 = ap code_of is in absurd (omega (arith, less, two))
-  guard_of _ (guards r checks other said says) less =
-      let read = model_read r checks less in
-      let reported = reported_of Text model term read.0 read.1 r checks less in
+  guard_of _ (refuses_term r refused) less =
+      let two : code_of r.status ≡ 2 = ap code_of (term_is_refused model term r refused) in absurd (omega (arith, less, two))
+  guard_of _ (guards steps rows p t said says) less =
+      let report = reported Text p (length rows) in
+      let shown = reported_of Text model term t.formula t.reads report (reports steps rows p t) less in
       record {
-        formula = read.0;
-        reads = read.1;
+        formula = t.formula;
+        reads = t.reads;
         first = said;
-        report = r.printed;
+        report = report.printed;
         said_is = refl;
-        reported = reported;
-        guard = tells reported.rows reported.proof reported.accepts said says;
+        reported = shown;
+        guard = tells shown.rows shown.proof shown.accepts said says;
       }
 
   job_guards : (others : List Word) (reply : Reply) → Does Guard others (model ∷ term ∷ []) reply → Guards model term reply

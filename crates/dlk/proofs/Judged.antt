@@ -15,10 +15,13 @@ use Rattle.dlk_replies.specs.declared.form.Role.TheVariants.{Model, Term}
 use Rattle.dlk_replies.specs.Forms.{Word, inputs_of, limits_of, limit_of}
 use Rattle.dlk_replies.specs.Inputs.{first_too_long, inputs, inputs_of_form}
 use Rattle.dlk_replies.specs.Replies.{Reply, code_of}
-use Rattle.dlk_jobs_check.specs.Checks.{Checks, bad_model, bad_line, bad_conclusion, reports, ModelText, proves, status_of, line_refused, other_conclusion, reported}
+use Rattle.dlk_jobs_check.specs.Terms.{ModelText, proves, line_refused, other_conclusion, TakesTerm, bad_model, bad_line, bad_conclusion}
+use Rattle.dlk_jobs_check.specs.Checks.{Checks, refuses as refuses_term, reports, status_of, reported}
 use Rattle.dlk_answers.specs.Answers.{Does, Responds, refuses, does}
 use Rattle.dlk_jobs_check.proofs.Ends.{one_model, model_or_fault}
+use Rattle.dlk_jobs_check.proofs.GuardReports.{term_is_refused}
 use Rattle.dlk_jobs_check.proofs.OneReply.{one_check}
+use Rattle.dlk_jobs_check.proofs.OneTerm.{replays}
 use Rattle.dlk.specs.Answers.{bytes_of, Answers, no_form, command}
 use Rattle.dlk.specs.Headline.{command_in, RunsCheck, IsReported, NamesLine, NamesConclusion, Judges, JudgesTruly}
 use Rattle.dlk.proofs.Truly.{accepted_derived}
@@ -33,24 +36,26 @@ closed_is_zero (s ∷ goals) = ((λ e. absurd (omega (arith, e))), (λ e. cc))
 
 module _ (layout : Layout) (model term : List ℕ) (f : Tree) (reads : ModelText model f) where
   pub reported_of : (reply : Reply) → Checks (Reported layout) model term reply → code_of reply.status < 2 → IsReported layout term f (code_of reply.status) reply.printed
-  reported_of reply (bad_model why fault) less = absurd (model_or_fault why reads fault)
-  reported_of reply (bad_line g t n why v) less = absurd (omega (arith, less))
-  reported_of reply (bad_conclusion g t rows p a ne) less = absurd (omega (arith, less))
-  reported_of reply (reports g t rows p a e) less = record {
-    rows = rows;
-    proof = p;
-    accepts = a;
-    derived = accepted_derived term rows p a;
-    conclusion = e ∙ ap proves (one_model t reads);
-    closed = closed_is_zero p.goals;
-    leaves = Derives-leaves p (accepted_derived term rows p a);
-    report = refl;
-  }
+  reported_of reply (refuses_term r refused) less =
+      let two : code_of r.status ≡ 2 = ap code_of (term_is_refused model term r refused) in absurd (omega (arith, less, two))
+  reported_of reply (reports steps rows p t) less =
+      let a = t.replays.accepts in
+      let derives = accepted_derived term rows p a in
+      record {
+        rows = rows;
+        proof = p;
+        accepts = a;
+        derived = derives;
+        conclusion = t.shows ∙ ap proves (one_model t.reads reads);
+        closed = closed_is_zero p.goals;
+        leaves = Derives-leaves p derives;
+        report = refl;
+      }
 
   refused_of : (reply : Reply) → Checks (Reported layout) model term reply → code_of reply.status ≡ 2 → NamesLine term reply.printed ⊎ NamesConclusion term f reply.printed
-  refused_of reply (bad_model why fault) two = absurd (model_or_fault why reads fault)
-  refused_of reply (bad_line g t n why v) two = inl (record { line = n; why = why; verdict = v; refusal = refl })
-  refused_of reply (bad_conclusion g t rows p a ne) two =
+  refused_of reply (refuses_term _ (bad_model why fault)) two = absurd (model_or_fault why reads fault)
+  refused_of reply (refuses_term _ (bad_line g t n why v)) two = inl (record { line = n; why = why; verdict = v; refusal = refl })
+  refused_of reply (refuses_term _ (bad_conclusion g t rows p a ne)) two =
       let same = one_model t reads in
       inr
       (record {
@@ -60,20 +65,23 @@ module _ (layout : Layout) (model term : List ℕ) (f : Tree) (reads : ModelText
         other = λ e. ne (e ∙ ap proves (sym same));
         refusal = ap (λ x. (other_conclusion a.line x p.conclusion).printed) same;
       })
-  refused_of reply (reports g t rows p a e) two = absurd (omega (arith, two, closed_or_open (is_closed p.goals)))
+  refused_of reply (reports steps rows p t) two = absurd (omega (arith, two, closed_or_open (is_closed p.goals)))
 
   check_judges : (reply : Reply) → Checks (Reported layout) model term reply → Judges layout term f (code_of reply.status) reply.printed
   check_judges reply checks = record {
     accepted = reported_of reply checks;
     refused = refused_of reply checks;
     first_wrong = λ n why v few.
-        let same = one_check (Reported layout) model term reply (line_refused n why) checks (bad_line f reads n why v) in
+        let same = one_check (Reported layout) model term reply (line_refused n why) checks (refuses_term (line_refused n why) (bad_line f reads n why v)) in
         (ap (λ (r : Reply). code_of r.status) same, ap (λ (r : Reply). r.printed) same);
     all_steps = λ rows p a e few.
-        let same = one_check (Reported layout) model term reply (reported layout p (length rows)) checks (reports f reads rows p a e) in
+        let r = replays term rows p a in
+        let takes : TakesTerm model term r.0 rows p = record { formula = f; reads = reads; replays = r.1; shows = e } in
+        let same = one_check (Reported layout) model term reply (reported layout p (length rows)) checks (reports r.0 rows p takes) in
         subst (λ (r : Reply). code_of r.status < 2) (sym same) (closed_or_open (is_closed p.goals));
     another = λ rows p a ne few.
-        let same = one_check (Reported layout) model term reply (other_conclusion a.line f p.conclusion) checks (bad_conclusion f reads rows p a ne) in
+        let other = other_conclusion a.line f p.conclusion in
+        let same = one_check (Reported layout) model term reply other checks (refuses_term other (bad_conclusion f reads rows p a ne)) in
         (ap (λ (r : Reply). code_of r.status) same, ap (λ (r : Reply). r.printed) same);
   }
 

@@ -5,7 +5,7 @@ use Rattle.std.proofs.lemmas.Slice.Eq.{bytes_eq-Decides}
 use Rattle.std.proofs.lemmas.List.{append_cancel_left, take_all}
 use Rattle.dlk_calculus.specs.Sequents.{Sequent}
 use Rattle.dlk_calculus.specs.Provables.{Provable}
-use Rattle.dlk_calculus.specs.Steps.{History, Derives}
+use Rattle.dlk_calculus.specs.Steps.{Step, History, Derives}
 use Rattle.dlk_calculus.proofs.PlaceLaws.{All-between}
 use Rattle.dlk_calculus.proofs.Histories.{History-derives}
 use Rattle.dlk_calculus.proofs.Leaves.{Derives-leaves}
@@ -27,8 +27,9 @@ use Rattle.dlk_replies.specs.Forms.{Word, command_of, inputs_of, limit_of}
 use Rattle.dlk_replies.specs.Inputs.{inputs, inputs_of_form, output}
 use Rattle.dlk_replies.specs.Replies.{Reply, code_of, printing}
 use Rattle.dlk_replies.specs.Refusals.{text_refused}
-use Rattle.dlk_jobs_check.specs.Checks.{Checks, bad_model, bad_line, bad_conclusion, reports, Accepts, reported, status_of}
-use Rattle.dlk_jobs_prove.specs.Proves.{Proves, bad_model as proves_fault, bad_strategy, fails, spent, too_long, proves, strategy_refused, proved}
+use Rattle.dlk_jobs_check.specs.Terms.{Accepts, RefusesTerm, bad_model, bad_line, bad_conclusion}
+use Rattle.dlk_jobs_check.specs.Checks.{Checks, refuses as refuses_term, reports, reported, status_of}
+use Rattle.dlk_jobs_prove.specs.Proves.{Records, too_long, writes, Proves, bad_model as proves_fault, bad_strategy, fails, spent, records, strategy_refused}
 use Rattle.dlk_answers.specs.Answers.{Does, Responds, refuses, does, too_long as too_long_reply}
 use Rattle.dlk.specs.Answers.{bytes_of, Answers, no_form, command}
 use Rattle.dlk.specs.Outputs.{output_with, after}
@@ -106,21 +107,25 @@ module _ (checked_too : ProvedIsChecked) (model term said : List ℕ) (status : 
   refused_fault n (Unread (TooBig size)) h = not_refused n _ _ h
   refused_fault n (Unread (TooDeep depth)) h = not_refused n _ _ h
 
+  refused_term : (reply : Reply) → RefusesTerm model term reply → (n : ℕ) → Says reply n → ⊥
+  refused_term _ (bad_model why fault) n h = refused_fault n why h
+  refused_term _ (bad_line f t line why v) n h = not_refused n _ _ h
+  refused_term _ (bad_conclusion f t rows p a ne) n h = not_refused n _ _ h
+
   check_truly : (reply : Reply) → Checks (Reported Text) model term reply → (n : ℕ) → Says reply n → Given reply status (codes "closed" ++ said) → IsDerived model term status (codes "closed" ++ said)
-  check_truly reply (bad_model why fault) n h given = absurd (refused_fault n why h)
-  check_truly reply (bad_line f t line why v) n h given = absurd (not_refused n _ _ h)
-  check_truly reply (bad_conclusion f t rows p a ne) n h given = absurd (not_refused n _ _ h)
-  check_truly reply (reports f t rows p a e) n h given =
+  check_truly reply (refuses_term r refused) n h given = absurd (refused_term r refused n h)
+  check_truly reply (reports steps rows p t) n h given =
+      let a = t.replays.accepts in
       let derives = accepted_derived term rows p a in
       let closed = closed_front p.goals _ said n h in
       record {
-        formula = f;
-        reads = t;
+        formula = t.formula;
+        reads = t.reads;
         rows = rows;
         proof = p;
         accepts = a;
         derived = derives;
-        conclusion = e;
+        conclusion = t.shows;
         closed = closed;
         leaves = Derives-leaves p derives;
         report = report_given p (length rows) status (codes "closed" ++ said) closed given;
@@ -141,6 +146,12 @@ module _ (checked_too : ProvedIsChecked) (model term said : List ℕ) (status : 
   strategy_fault n (UnknownAtom at) h = not_refused n _ _ h
   strategy_fault n (Arguments at) h = not_refused n _ _ h
 
+  -- a record that begins with `closed` writes the term
+  record_written : (steps : List Step) (p : Provable) (reply : Reply) → Records steps p reply → (n : ℕ) → Says reply n → ((bytes : List ℕ) → reply.written ≡ Some bytes → bytes ≡ term) →
+      reply.written ≡ Some term
+  record_written steps p _ (too_long long) n h holds = absurd (not_refused n _ _ h)
+  record_written steps p _ (writes short) n h holds = ap Some (holds (term_text steps) refl)
+
   -- `prove` has written the term
   prove_truly : (strategy : List ℕ) (reply : Reply) → Proves model strategy reply → (n : ℕ) → Says reply n → ((bytes : List ℕ) → reply.written ≡ Some bytes → bytes ≡ term) →
       Given reply status (codes "closed" ++ said) → IsDerived model term status (codes "closed" ++ said)
@@ -148,11 +159,9 @@ module _ (checked_too : ProvedIsChecked) (model term said : List ℕ) (status : 
   prove_truly strategy _ (bad_strategy f reads why is) n h holds given = absurd (strategy_fault n why h)
   prove_truly strategy _ (fails at used why run) n h holds given = absurd (not_refused n _ _ h)
   prove_truly strategy _ (spent at run) n h holds given = absurd (not_refused n _ _ h)
-  prove_truly strategy _ (too_long made left run long) n h holds given = absurd (not_refused n _ _ h)
-  prove_truly strategy _ (proves made left run short p ended) n h holds given =
-      let r = proved p made.steps in
-      let same : term_text made.steps ≡ term = holds (term_text made.steps) refl in
-      let checks = (checked_too model strategy term r (proves made left run short p ended) (ap Some same)).1 in
+  prove_truly strategy _ (records made left run p ended r is) n h holds given =
+      let written = record_written made.steps p r is n h holds in
+      let checks = (checked_too model strategy term r (records made left run p ended r is) written).1 in
       check_truly (printing r.status r.printed) checks n h (printed_given r given)
 
   -- the words have `check` and these files

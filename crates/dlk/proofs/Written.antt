@@ -1,6 +1,8 @@
 -- What `prove` has written is accepted by `check`.
 use Rattle.std.proofs.Common.{◌≡◌, ◌<◌, ℕ, List, [], ◌∷◌, None, Some, refl, sym, ap, subst, ◌∙◌, arith}
 use Rattle.std.proofs.lemmas.List.{append_cancel_left}
+use Rattle.dlk_calculus.specs.Provables.{Provable}
+use Rattle.dlk_calculus.specs.Steps.{Step}
 use Rattle.dlk_desk.specs.Outside.{Outside, SameFiles}
 use Rattle.dlk_grammar.specs.Readings.{Literal, Nesting, Syntax, Shape, TooBig, TooDeep}
 use Rattle.dlk_grammar.specs.Texts.{TextFault, BadByte, Unread}
@@ -13,7 +15,7 @@ use Rattle.dlk_replies.specs.Forms.{Word, command_of, inputs_of}
 use Rattle.dlk_replies.specs.Inputs.{inputs, inputs_of_form}
 use Rattle.dlk_replies.specs.Replies.{Reply, code_of, printing}
 use Rattle.dlk_replies.specs.Refusals.{text_refused}
-use Rattle.dlk_jobs_prove.specs.Proves.{Proves, bad_model, bad_strategy, fails, spent, too_long, proves, strategy_refused, proved}
+use Rattle.dlk_jobs_prove.specs.Proves.{Records, too_long, writes, Proves, bad_model, bad_strategy, fails, spent, records, strategy_refused}
 use Rattle.dlk_answers.specs.Answers.{Does, Responds, refuses, does}
 use Rattle.dlk.specs.Answers.{bytes_of, Answers, no_form, command}
 use Rattle.dlk.specs.Outputs.{after}
@@ -37,6 +39,12 @@ strategy_two (Repeat at) = refl
 strategy_two (UnknownAtom at) = refl
 strategy_two (Arguments at) = refl
 
+-- a record that is no refusal writes the term
+record_written : (steps : List Step) (p : Provable) (term : List ℕ) (reply : Reply) → Records steps p reply → ((bytes : List ℕ) → reply.written ≡ Some bytes → bytes ≡ term) →
+    code_of reply.status < 2 → reply.written ≡ Some term
+record_written steps p term _ (too_long long) holds less = absurd (omega (arith, less))
+record_written steps p term _ (writes short) holds less = ap Some (holds (term_text steps) refl)
+
 module _ (checked_too : ProvedIsChecked) (model term : List ℕ) where
   accepted : (strategy : List ℕ) (reply : Reply) → Proves model strategy reply → ((bytes : List ℕ) → reply.written ≡ Some bytes → bytes ≡ term) → code_of reply.status < 2 →
       IsAccepted model term (code_of reply.status) reply.printed
@@ -44,11 +52,8 @@ module _ (checked_too : ProvedIsChecked) (model term : List ℕ) where
   accepted strategy _ (bad_strategy f reads why is) holds less = absurd (omega (arith, less, strategy_two why))
   accepted strategy _ (fails at used why run) holds less = absurd (omega (arith, less))
   accepted strategy _ (spent at run) holds less = absurd (omega (arith, less))
-  accepted strategy _ (too_long made left run long) holds less = absurd (omega (arith, less))
-  accepted strategy _ (proves made left run short p ended) holds less =
-      let r = proved p made.steps in
-      let same : term_text made.steps ≡ term = holds (term_text made.steps) refl in
-      let again = checked_too model strategy term r (proves made left run short p ended) (ap Some same) in
+  accepted strategy _ (records made left run p ended r is) holds less =
+      let again = checked_too model strategy term r (records made left run p ended r is) (record_written made.steps p term r is holds less) in
       record { short = again.0; reply = printing r.status r.printed; checks = again.1; status_is = refl; said_is = refl }
 
   answer_accepted : (words : List Word) (old new : Outside) (reply : Reply) → Answers words old.files reply → command_of words ≡ Some Prove → WritesTerm words old new model term →

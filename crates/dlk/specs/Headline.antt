@@ -6,7 +6,7 @@ use Rattle.dlk_calculus.specs.Steps.{Step, Derives}
 use Rattle.dlk_desk.specs.Outside.{Outside}
 use Rattle.dlk_guard.specs.declared.why.Why.{Why}
 use Rattle.dlk_guard.specs.Guarded.{lines, Guarded, FirstUnguarded}
-use Rattle.dlk_replay.specs.Files.{Verdict, bad, file_lines, SaySteps}
+use Rattle.dlk_replay.specs.Files.{Verdict, bad, file_lines, FileSteps}
 use Rattle.dlk_replay.specs.declared.fault.LineWhy.{LineWhy}
 use Rattle.dlk_report.specs.Reports.{text_report}
 use Rattle.dlk_replies.specs.declared.command.Command.{Command}
@@ -18,7 +18,8 @@ use Rattle.dlk_replies.specs.declared.form.Role.TheVariants.{Model, Term}
 use Rattle.dlk_replies.specs.Forms.{Word, command_of, limit_of}
 use Rattle.dlk_replies.specs.Inputs.{inputs, output}
 use Rattle.dlk_replies.specs.Replies.{Reply, code_of}
-use Rattle.dlk_jobs_check.specs.Checks.{Checks, ModelText, proves, Accepts, report_in, line_refused, other_conclusion}
+use Rattle.dlk_jobs_check.specs.Terms.{ModelText, proves, Accepts, line_refused, other_conclusion}
+use Rattle.dlk_jobs_check.specs.Checks.{Checks, report_in}
 use Rattle.dlk_jobs_check.specs.Guards.{guarded_line, unguarded_line}
 use Rattle.dlk.specs.Answers.{bytes_of}
 
@@ -144,7 +145,7 @@ pub record RunsGuard (words : List Word) (old : Outside) (model term : List ℕ)
 -- isn't, with its reason.
 pub record TellsGuarded (term : List ℕ) (rows : List Provable) (said : List ℕ) : Type 0 where
   pub taken : List Step
-  pub says : SaySteps 1 (file_lines term) taken
+  pub says : FileSteps (file_lines term) taken
   pub guarded : (said ≡ guarded_line) ↔ Guarded (lines taken rows)
   pub unguarded : (said ≢ guarded_line) → (n : ℕ) × (why : Why) × FirstUnguarded (lines taken rows) n why × (said ≡ unguarded_line n why)
 

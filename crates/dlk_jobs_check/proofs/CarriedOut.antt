@@ -9,7 +9,8 @@ use Rattle.dlk_replies.specs.declared.reply.Showing.TheVariants.{Reported, Expor
 use Rattle.dlk_replies.specs.declared.reply.Layout.TheVariants.{Text}
 use Rattle.dlk_replies.specs.Replies.{Reply, code_of}
 use Rattle.dlk_replies.proofs.CarriedOut.{IsCarriedOut, printed_only, text_carried_out}
-use Rattle.dlk_jobs_check.specs.Checks.{Checks, bad_model, bad_line, bad_conclusion, reports, status_of, answered, script_or_refusal}
+use Rattle.dlk_jobs_check.specs.Terms.{RefusesTerm, bad_model, bad_line, bad_conclusion}
+use Rattle.dlk_jobs_check.specs.Checks.{Checks, refuses, reports, status_of, answered, reported, script_or_refusal}
 use Rattle.dlk_jobs_check.specs.Guards.{Guards, refuses as refuses_term, guards}
 
 pub closed_or_open : (b : Bool) → code_of (status_of b) < 3
@@ -25,13 +26,16 @@ answered_carried_out (Reported layout) p lines = printed_only _ _ (closed_or_ope
 answered_carried_out Exported p lines = exported_carried_out (first_power 1 p.leaves) p
 answered_carried_out (Summed n) p lines = printed_only _ _ (omega arith)
 
+pub refusal_carried_out : (model term : List ℕ) (reply : Reply) → RefusesTerm model term reply → IsCarriedOut reply
+refusal_carried_out model term reply (bad_model why fault) = text_carried_out Model why
+refusal_carried_out model term reply (bad_line f t n why v) = printed_only _ _ (omega arith)
+refusal_carried_out model term reply (bad_conclusion f t rows p a ne) = printed_only _ _ (omega arith)
+
 pub check_carried_out : (showing : Showing) (model term : List ℕ) (reply : Reply) → Checks showing model term reply → IsCarriedOut reply
-check_carried_out showing model term reply (bad_model why fault) = text_carried_out Model why
-check_carried_out showing model term reply (bad_line f t n why v) = printed_only _ _ (omega arith)
-check_carried_out showing model term reply (bad_conclusion f t rows p a ne) = printed_only _ _ (omega arith)
-check_carried_out showing model term reply (reports f t rows p a e) = answered_carried_out showing p (length rows)
+check_carried_out showing model term reply (refuses r refused) = refusal_carried_out model term r refused
+check_carried_out showing model term reply (reports steps rows p t) = answered_carried_out showing p (length rows)
 
 pub guard_carried_out : (model term : List ℕ) (reply : Reply) → Guards model term reply → IsCarriedOut reply
-guard_carried_out model term reply (refuses_term r checked is) = check_carried_out (Reported Text) model term r checked
-guard_carried_out model term reply (guards r checked other said says) =
-    printed_only r.status (said ++ r.printed) (check_carried_out (Reported Text) model term r checked).status
+guard_carried_out model term reply (refuses_term r refused) = refusal_carried_out model term r refused
+guard_carried_out model term reply (guards steps rows p t said says) =
+    let report = reported Text p (length rows) in printed_only report.status (said ++ report.printed) (closed_or_open (is_closed p.goals))

@@ -9,7 +9,7 @@ use Rattle.dlk_sequent.specs.Sequents.{sequent_at}
 use Rattle.dlk_grammar.specs.Shown.{spell, shown_sequent}
 use Rattle.dlk_replies.specs.declared.reply.Status.TheVariants.{Refused}
 use Rattle.dlk_replies.specs.Replies.{printing}
-use Rattle.dlk_jobs_check.specs.Checks.{proves, other_conclusion}
+use Rattle.dlk_jobs_check.specs.Terms.{proves, other_conclusion}
 
 -- the parts of a text one after another, and the same parts as three lines
 three_lines : (a b c number expected found n : List ℕ) →

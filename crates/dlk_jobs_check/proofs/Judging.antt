@@ -1,62 +1,88 @@
--- From what replaying and judging answer to what `check` and `report` answer.
-use Rattle.std.proofs.Common.{◌≡◌, ◌≤◌, ℕ, ◌+◌, List, [], ◌∷◌, ◌++◌, length, map, get_or, ◌-◌, refl, sym, ap, ◌∙◌, subst, inl, inr, arith}
-use Rattle.std.proofs.lemmas.List.{length_push, length-map}
-use Rattle.std.proofs.Math.Seq.{get_or-append_seam}
+-- From what reading, replaying and judging answer to a term that is taken, or refused.
+use Rattle.std.proofs.Common.{◌≡◌, ◌≤◌, ℕ, List, length, sym, ap, ◌∙◌, subst, codes, arith}
 use Rattle.dlk_tree.specs.Trees.{Tree}
-use Rattle.dlk_calculus.specs.Places.{At}
+use Rattle.dlk_calculus.specs.Places.{At, IsPlace}
 use Rattle.dlk_calculus.specs.Provables.{Provable}
-use Rattle.dlk_calculus.proofs.PlaceLaws.{At_read}
-use Rattle.dlk_kernel.specs.declared.row.Row.{Row}
-use Rattle.dlk_replay.specs.Files.{file_lines, Verdict, accepted, bad}
-use Rattle.dlk_replay.specs.declared.fault.LineWhy.{LineWhy}
+use Rattle.dlk_calculus.specs.Steps.{Step}
+use Rattle.dlk_guard.specs.Guarded.{Line, lines}
+use Rattle.dlk_guard.specs.Watched.{after_all}
+use Rattle.dlk_replay.specs.Files.{file_lines, Verdict, accepted, FileSteps}
+use Rattle.dlk_replay.specs.Replay.{IsReplayFaultOf}
+use Rattle.dlk_replay.specs.declared.fault.Ending.{Ending}
+use Rattle.dlk_replay.specs.declared.fault.ReplayFault.{ReplayFault}
+use Rattle.dlk_replay.specs.declared.fault.ReplayFault.TheVariants.{Bad, Memory}
+use Rattle.dlk_replies.specs.declared.ended.Ended.{Ended}
+use Rattle.dlk_replies.specs.Ended.{EndsIn}
 use Rattle.dlk_replies.specs.Replies.{Reply}
 use Rattle.dlk_replies.specs.declared.reply.Showing.{Showing}
-use Rattle.dlk_jobs_check.specs.Checks.{Checks, bad_line, bad_conclusion, reports, ModelText, line_refused}
-use Rattle.dlk_jobs_check.specs.Judged.{judged}
+use Rattle.dlk_replies.proofs.Ends.{ends_weaker}
+use Rattle.dlk_jobs_check.specs.Terms.{ModelText, proves, refused_line, other_conclusion, Accepts, RefusesTerm, bad_model, bad_line, bad_conclusion}
+use Rattle.dlk_jobs_check.specs.Checks.{Checks, reports, answered}
+use Rattle.dlk_jobs_check.specs.Judged.{RefusesModel, RefusesLine, RefusesConclusion, IsTermRefused, Counts, IsReplayed, IsTaken}
+use Rattle.dlk_jobs_check.proofs.Ends.{last_of, last_item}
 
-pub line_answer : (showing : Showing) (model term : List ℕ) (f : Tree) → ModelText model f → (line : ℕ) (why : LineWhy) (reply : Reply) →
-    Verdict (file_lines term) (bad line why) → reply ≡ line_refused line why → Checks showing model term reply
-line_answer showing model term f reads line why reply verdict is = subst (λ (r : Reply). Checks showing model term r) (sym is) (bad_line f reads line why verdict)
+-- the last of some rows has a place
+pub last_place : {A : Type 0} {B : Type 0} (f : A → B) (items : List A) (fact : ℕ) → fact ≡ length items → 1 ≤ length items → IsPlace items fact
+last_place f items fact is some = (omega (arith, is, some), omega (arith, is))
 
--- a list and its last item
-record Ended {A : Type 0} (items : List A) : Type 0 where
-  pub before : List A
-  pub last : A
-  pub is : items ≡ before ++ last ∷ []
+-- a term whose first wrong line was named
+pub fault_ends : (words term : List ℕ) (fault : ReplayFault) (ended : Ended) → IsReplayFaultOf (file_lines term) fault → IsTermRefused words fault ended →
+    EndsIn (RefusesLine words term) ended
+fault_ends words term (Bad line why) ended verdict is =
+    ends_weaker (λ reply. reply ≡ refused_line words line why) (RefusesLine words term) (λ reply said. (line, why, verdict, said)) ended is
+fault_ends words term Memory ended verdict is = subst (EndsIn (RefusesLine words term)) (sym is) tt
 
-ended : {A : Type 0} (items : List A) → 1 ≤ length items → Ended items
-ended [] some = absurd (omega (arith, some))
-ended (x ∷ []) some = record { before = []; last = x; is = refl }
-ended (x ∷ y ∷ items) some =
-    let rest = ended (y ∷ items) (omega arith) in
-    record { before = x ∷ rest.before; last = rest.last; is = ap (λ xs. x ∷ xs) rest.is }
+module _ {V : Type 0} (after : V → Line → V) (term : List ℕ) (rows : List Provable) (ending : Ending) (old new : V) where
+  pub replayed : Verdict (file_lines term) (accepted rows ending.line) → 1 ≤ length rows → Counts rows ending →
+      ((taken : List Step) × FileSteps (file_lines term) taken × (new ≡ after_all after old (lines taken rows))) →
+      IsReplayed after term rows ending old new
+  replayed verdict some counts seen =
+      let last = last_of rows some in
+      let accepts : Accepts term rows last.1 = record { before = last.0; last = last.2; line = ending.line; verdict = verdict } in
+      record {
+        steps = seen.0;
+        last = last.1;
+        replays = record { accepts = accepts; says = seen.1 };
+        line = λ i. ending.line;
+        seen = seen.2;
+        counts = counts;
+      }
 
-pub last_item : {A : Type 0} (items before : List A) (x : A) → items ≡ before ++ x ∷ [] → At items (length items) x
-last_item items before x is =
-    let count : length items ≡ length before + 1 = ap length is ∙ length_push before x in
-    let place : length items - 1 ≡ length before = omega (arith, count) in
-    At_read items (length items) x (omega (arith, count), omega arith)
-    (sym (ap (λ n. get_or items n x) place ∙ ap (λ (l : List _). get_or l (length before) x) is ∙ get_or-append_seam before x [] x))
+  module _ (r : IsReplayed after term rows ending old new) where
+    -- its last row stands at the fact
+    pub last_there : At rows ending.fact r.last
+    last_there =
+        let a = r.replays.accepts in
+        subst (λ n. At rows n r.last) (sym r.counts.fact) (last_item rows a.before r.last a.last)
 
-module _ (showing : Showing) (model term : List ℕ) (f : Tree) (reads : ModelText model f) (rows : List Provable) (line : ℕ) (verdict : Verdict (file_lines term) (accepted rows line)) where
-  by_end : (before : List Provable) (p : Provable) (reply : Reply) → rows ≡ before ++ p ∷ [] → judged showing f (length rows) line reply p → Checks showing model term reply
-  by_end before p reply is (inl same) = subst (λ (r : Reply). Checks showing model term r) (sym same.1) (reports f reads rows p (record { before = before; last = is; line = line; verdict = verdict }) same.0)
-  by_end before p reply is (inr other) = subst (λ (r : Reply). Checks showing model term r) (sym other.1) (bad_conclusion f reads rows p (record { before = before; last = is; line = line; verdict = verdict }) other.0)
+    module _ (model : List ℕ) (f : Tree) (reads : ModelText model f) where
+      pub taken : ((p : Provable) → At rows ending.fact p → p.conclusion ≡ proves f) → IsTaken after model term rows ending old new
+      taken shown = record {
+        steps = r.steps;
+        last = r.last;
+        takes = record { formula = f; reads = reads; replays = r.replays; shows = shown r.last last_there };
+        seen = r.seen;
+        counts = r.counts;
+      }
 
-  pub end_answer : (reply : Reply) → 1 ≤ length rows → ((p : Provable) → At rows (length rows) p → judged showing f (length rows) line reply p) →
-      Checks showing model term reply
-  end_answer reply some says =
-      let end = ended rows some in
-      by_end end.before end.last reply end.is (says end.last (last_item rows end.before end.last end.is))
+      pub conclusion_refuses : (reply : Reply) → ((p : Provable) → At rows ending.fact p → RefusesConclusion f ending.line p reply) → RefusesTerm model term reply
+      conclusion_refuses reply refused =
+          let is = refused r.last last_there in
+          let here = bad_conclusion f reads rows r.last r.replays.accepts is.0 in
+          subst (RefusesTerm model term) (sym (is.1 ∙ ap (λ n. other_conclusion n f r.last.conclusion) r.line)) here
 
--- the same by the rows that the provables are of
-pub judged_answer : (showing : Showing) (model term : List ℕ) (f g : Tree) → ModelText model f → g ≡ f → (rows : List Row) (stands : Row → Provable) (line : ℕ) →
-    Verdict (file_lines term) (accepted (map stands rows) line) → 1 ≤ length rows → (fact lines : ℕ) → fact ≡ length rows → lines ≡ length rows → (reply : Reply) →
-    ((p : Provable) → At (map stands rows) fact p → judged showing g lines line reply p) → Checks showing model term reply
-judged_answer showing model term f g reads same rows stands line verdict some fact lines fact_is lines_is reply says =
-    let count = length-map rows stands in
-    let there : (p : Provable) → At (map stands rows) (length (map stands rows)) p → judged showing f (length (map stands rows)) line reply p =
-    λ p at. subst (λ (t : Tree). judged showing t (length (map stands rows)) line reply p) same
-    (subst (λ (n : ℕ). judged showing g n line reply p) (lines_is ∙ sym count)
-    (says p (subst (λ (n : ℕ). At (map stands rows) n p) (count ∙ sym fact_is) at))) in
-    end_answer showing model term f reads (map stands rows) line verdict reply (rw count some) there
+pub model_refuses : (model term : List ℕ) (reply : Reply) → RefusesModel model reply → RefusesTerm model term reply
+model_refuses model term reply (why, fault, is) = subst (RefusesTerm model term) (sym is) (bad_model why fault)
+
+pub line_refuses : (model term : List ℕ) (f : Tree) → ModelText model f → (reply : Reply) → RefusesLine (codes "line") term reply → RefusesTerm model term reply
+line_refuses model term f reads reply (n, why, verdict, is) = subst (RefusesTerm model term) (sym is) (bad_line f reads n why verdict)
+
+-- what is shown of a term that is taken
+pub shown_answer : {V : Type 0} (after : V → Line → V) (showing : Showing) (model term : List ℕ) (rows : List Provable) (ending : Ending) (old new : V) →
+    IsTaken after model term rows ending old new → (reply : Reply) → ((p : Provable) → At rows ending.fact p → reply ≡ answered showing p ending.lines) →
+    Checks showing model term reply
+shown_answer after showing model term rows ending old new t reply says =
+    let a = t.takes.replays.accepts in
+    let there : At rows ending.fact t.last = subst (λ n. At rows n t.last) (sym t.counts.fact) (last_item rows a.before t.last a.last) in
+    let is : reply ≡ answered showing t.last (length rows) = says t.last there ∙ ap (λ n. answered showing t.last n) t.counts.lines in
+    subst (λ (r : Reply). Checks showing model term r) (sym is) (reports t.steps rows t.last t.takes)

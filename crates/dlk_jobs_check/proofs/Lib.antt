@@ -5,8 +5,8 @@ pub mod ConclusionText
 pub mod SummaryText
 pub mod Judging
 pub mod GuardAnswers
+pub mod OneTerm
 pub mod OneReply
 pub mod GuardReports
-pub mod SomeGuard
 pub mod SomeReply
 pub mod CarriedOut

@@ -1,15 +1,8 @@
 -- What `check`, `report` and `smt` answer to a model and a term, and `gen` to those that it makes.
-use Rattle.std.specs.Prelude.{◌≡◌, ◌≢◌, ℕ, Bool, true, false, List, [], ◌∷◌, ◌++◌, length, Option, Some, None, codes, decimal}
-use Rattle.dlk_tree.specs.Trees.{Tree}
-use Rattle.dlk_calculus.specs.Sequents.{Sequent}
+use Rattle.std.specs.Prelude.{ℕ, Bool, true, false, List, ◌++◌, length, Option, Some, None, codes, decimal}
 use Rattle.dlk_calculus.specs.Provables.{Provable}
-use Rattle.dlk_grammar.specs.declared.token.Dots.TheVariants as dots
-use Rattle.dlk_grammar.specs.declared.token.Form.TheVariants as form
-use Rattle.dlk_grammar.specs.Texts.{TreeText, TreeTextFault, TextFault}
-use Rattle.dlk_grammar.specs.Shown.{spell, shown_sequent}
+use Rattle.dlk_calculus.specs.Steps.{Step}
 use Rattle.dlk_smt.specs.Smt.{first_power, leaves_lines}
-use Rattle.dlk_replay.specs.Files.{Verdict, accepted, bad, file_lines, line_why_text}
-use Rattle.dlk_replay.specs.declared.fault.LineWhy.{LineWhy}
 use Rattle.dlk_print.specs.Lines.{line}
 use Rattle.dlk_report.specs.Reports.{Parts, is_closed, first_word, parts_of, report_of}
 use Rattle.dlk_report.specs.Json.{json_of}
@@ -18,31 +11,9 @@ use Rattle.dlk_replies.specs.declared.reply.Layout.TheVariants.{Text, Json}
 use Rattle.dlk_replies.specs.declared.reply.Showing.{Showing}
 use Rattle.dlk_replies.specs.declared.reply.Showing.TheVariants.{Reported, Exported, Summed}
 use Rattle.dlk_replies.specs.declared.reply.Status.{Status}
-use Rattle.dlk_replies.specs.declared.reply.Status.TheVariants.{Closed, Done, Open, Refused}
-use Rattle.dlk_replies.specs.declared.form.Role.TheVariants.{Model}
+use Rattle.dlk_replies.specs.declared.reply.Status.TheVariants.{Closed, Done, Open}
 use Rattle.dlk_replies.specs.Replies.{Reply, printing, refusal}
-use Rattle.dlk_replies.specs.Refusals.{text_refused}
-
--- the model is a text of this formula, without argument dots and `_`
-abbrev pub ModelText : List ℕ → Tree → Type 0
-ModelText model f = TreeText form.Formula dots.Refused model f
-
--- why the model is none
-abbrev pub ModelFault : List ℕ → TextFault → Type 0
-ModelFault model why = TreeTextFault form.Formula dots.Refused model why
-
--- the sequent that a proof of the formula shows
-abbrev pub proves : Tree → Sequent
-proves f = record { ante = []; succ = f ∷ [] }
-
--- refused: line N: WHY
-abbrev pub line_refused : ℕ → LineWhy → Reply
-line_refused n why = refusal (codes "line " ++ (decimal n ++ (codes ": " ++ line_why_text why)))
-
--- refused: other-conclusion N, and both conclusions
-abbrev pub other_conclusion : ℕ → Tree → Sequent → Reply
-other_conclusion n f found = printing Refused
-    (line (codes "refused: other-conclusion " ++ decimal n) ++ line (codes "expected " ++ spell (shown_sequent (proves f))) ++ line (codes "found " ++ spell (shown_sequent found)))
+use Rattle.dlk_jobs_check.specs.Terms.{TakesTerm, RefusesTerm}
 
 abbrev pub status_of : Bool → Status
 status_of true = Closed
@@ -88,18 +59,8 @@ answered (Reported layout) p lines = reported layout p lines
 answered Exported p lines = exported p
 answered (Summed n) p lines = summed n p lines
 
--- the term is accepted: each of its lines but `done` is a step, and the last of the rows is p, at this line
-pub record Accepts (term : List ℕ) (rows : List Provable) (p : Provable) : Type 0 where
-  pub before : List Provable
-  pub last : rows ≡ before ++ p ∷ []
-  pub line : ℕ
-  pub verdict : Verdict (file_lines term) (accepted rows line)
-
--- Checks showing model term reply: this is what is answered to the model and the term. One case an answer.
+-- Checks showing model term reply: this is what is answered to the model and the term.
 pub data Checks (showing : Showing) (model term : List ℕ) : Reply → Type 0 where
-  bad_model : (why : TextFault) → ModelFault model why → Checks showing model term (text_refused Model why)
-  bad_line : (f : Tree) → ModelText model f → (n : ℕ) (why : LineWhy) → Verdict (file_lines term) (bad n why) → Checks showing model term (line_refused n why)
-  bad_conclusion : (f : Tree) → ModelText model f → (rows : List Provable) (p : Provable) → (a : Accepts term rows p) →
-      p.conclusion ≢ proves f → Checks showing model term (other_conclusion a.line f p.conclusion)
-  reports : (f : Tree) → ModelText model f → (rows : List Provable) (p : Provable) → Accepts term rows p →
-      p.conclusion ≡ proves f → Checks showing model term (answered showing p (length rows))
+  refuses : (reply : Reply) → RefusesTerm model term reply → Checks showing model term reply
+  reports : (steps : List Step) (rows : List Provable) (p : Provable) → TakesTerm model term steps rows p →
+      Checks showing model term (answered showing p (length rows))

@@ -1,5 +1,5 @@
 -- What `guard` answers to a model and a term.
-use Rattle.std.specs.Prelude.{◌≡◌, ◌≢◌, ℕ, List, [], ◌++◌, codes, decimal}
+use Rattle.std.specs.Prelude.{ℕ, List, [], ◌++◌, length, codes, decimal}
 use Rattle.dlk_tree.specs.declared.op.OdeItem.TheVariants.{Const}
 use Rattle.dlk_tree.specs.Statics.{prime}
 use Rattle.dlk_calculus.specs.Provables.{Provable}
@@ -8,13 +8,11 @@ use Rattle.dlk_grammar.specs.Shown.{spell, variable, item_text}
 use Rattle.dlk_guard.specs.declared.why.Why.{Why}
 use Rattle.dlk_guard.specs.declared.why.Why.TheVariants.{OdeConstant, NotSmooth, NotEvolved, Primed, GhostNotSmooth, DifferentialContext, Dforall, RawFact}
 use Rattle.dlk_guard.specs.Guarded.{lines, Guarded, FirstUnguarded}
-use Rattle.dlk_replay.specs.Files.{file_lines, SaySteps}
 use Rattle.dlk_print.specs.Lines.{line}
 use Rattle.dlk_replies.specs.declared.reply.Layout.TheVariants.{Text}
-use Rattle.dlk_replies.specs.declared.reply.Showing.TheVariants.{Reported}
-use Rattle.dlk_replies.specs.declared.reply.Status.TheVariants.{Refused}
 use Rattle.dlk_replies.specs.Replies.{Reply, printing}
-use Rattle.dlk_jobs_check.specs.Checks.{Checks, Accepts}
+use Rattle.dlk_jobs_check.specs.Terms.{Replays, TakesTerm, RefusesTerm}
+use Rattle.dlk_jobs_check.specs.Checks.{reported}
 
 -- the word for why a line is unguarded, with the name that it is about. One row a reason.
 abbrev pub guard_word : Why → List ℕ
@@ -35,19 +33,19 @@ guarded_line = line (codes "guarded")
 abbrev pub unguarded_line : ℕ → Why → List ℕ
 unguarded_line n why = line (codes "unguarded line " ++ (decimal n ++ (codes ": " ++ guard_word why)))
 
--- the line of the guard: the accepted term's lines, each with the row that it gives, are guarded, or the first one that isn't is named
+-- the line of the guard: the lines of the term, each with the row that it gives, are guarded, or the first one that isn't is named
 pub data GuardSays (term : List ℕ) : List ℕ → Type 0 where
-  is_guarded : (rows : List Provable) (p : Provable) → Accepts term rows p → (taken : List Step) → SaySteps 1 (file_lines term) taken →
-      Guarded (lines taken rows) → GuardSays term guarded_line
-  is_unguarded : (rows : List Provable) (p : Provable) → Accepts term rows p → (taken : List Step) → SaySteps 1 (file_lines term) taken →
-      (n : ℕ) (why : Why) → FirstUnguarded (lines taken rows) n why → GuardSays term (unguarded_line n why)
+  is_guarded : (steps : List Step) (rows : List Provable) (p : Provable) → Replays term steps rows p → Guarded (lines steps rows) →
+      GuardSays term guarded_line
+  is_unguarded : (steps : List Step) (rows : List Provable) (p : Provable) → Replays term steps rows p → (n : ℕ) (why : Why) →
+      FirstUnguarded (lines steps rows) n why → GuardSays term (unguarded_line n why)
 
 -- a reply with a line before what it prints, and no file
 abbrev pub with_line_first : List ℕ → Reply → Reply
 with_line_first said reply = printing reply.status (said ++ reply.printed)
 
--- what `check` answers, with the line of the guard before the report where the term is accepted
+-- Guards model term reply: where the term is taken, the line of the guard and the report
 pub data Guards (model term : List ℕ) : Reply → Type 0 where
-  refuses : (reply : Reply) → Checks (Reported Text) model term reply → reply.status ≡ Refused → Guards model term reply
-  guards : (reply : Reply) → Checks (Reported Text) model term reply → reply.status ≢ Refused → (said : List ℕ) → GuardSays term said →
-      Guards model term (with_line_first said reply)
+  refuses : (reply : Reply) → RefusesTerm model term reply → Guards model term reply
+  guards : (steps : List Step) (rows : List Provable) (p : Provable) → TakesTerm model term steps rows p → (said : List ℕ) → GuardSays term said →
+      Guards model term (with_line_first said (reported Text p (length rows)))

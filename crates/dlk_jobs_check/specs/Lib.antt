@@ -1,3 +1,4 @@
+pub mod Terms
 pub mod Checks
 pub mod Judged
 pub mod Guards

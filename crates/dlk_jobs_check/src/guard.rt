@@ -1,20 +1,19 @@
-// `guard MODEL TERM`: replay a term as `check` does, and say before the report whether its lines are guarded.
-ghost use Rattle.std.specs.Prelude.{◌≡◌, ◌↔◌, [], ◌∷◌, ◌++◌, IfOk, OnOk, IsTrue, codes};
+// `guard MODEL TERM`: take a term for a model as `check` does, and say before the report whether its lines are guarded.
+ghost use Rattle.std.specs.Prelude.{◌≡◌, [], ◌∷◌, ◌++◌, IfOk, OnOk, IfErr, codes};
 ghost use Rattle.dlk_tree.specs.declared.op.OdeItem.TheVariants.{Const};
 ghost use Rattle.dlk_grammar.specs.Shown.{spell, item_text};
 ghost use Rattle.dlk_print.specs.Printed.{Appends};
-ghost use Rattle.dlk_replies.specs.declared.reply.Status.TheVariants.{Refused};
 ghost use Rattle.dlk_jobs_check.specs.Guards.{guard_word, with_line_first, Guards};
 ghost use Rattle.dlk_jobs_check.specs.Verdicts.{line_of};
+ghost use Rattle.dlk_replies.specs.Ended.{EndsIn};
 ghost use Rattle.dlk_replies.specs.Shown.{reply_of};
 
-use crate::check::{judge, refuse_line};
+use crate::check::report;
+use crate::term::take_term;
 use dlk_guard::{Guard, Refusal, Why, verdict_is_first};
 use dlk_kernel::Kernel;
-use dlk_parse::read_formula;
 use dlk_print::{PrintFault, append, append_decimal};
-use dlk_replay::{ReplayFault, replay_watched};
-use dlk_replies::{Layout, NoReply, Reply, Role, Showing, Status, printing, refuse_text};
+use dlk_replies::{Ended, Layout, NoReply, Reply, answer_of, printing};
 use dlk_shared::SharedStore;
 use dlk_store::{Steps, Store};
 use dlk_tree::{Name, Sym};
@@ -82,13 +81,6 @@ fn line_of(alloc: Global, verdict: Option<Refusal>) -> Result<Vec<u8>, NoReply>
     Ok(line)
 }
 
-/// Whether an input was refused.
-fn is_refused(status: Status) -> bool
-    ensures { IsTrue result ↔ (status ≡ Refused) }
-{
-    matches!(status, Status::Refused)
-}
-
 /// The reply with a line before what it prints.
 fn with_line_first(mut line: Vec<u8>, reply: &Reply) -> Result<Reply, NoReply>
     ensures { IfOk result (λ r. reply_of r ≡ with_line_first line.items (reply_of reply.now)) }
@@ -104,28 +96,18 @@ fn guard_on<S: Store, L: Ledger>(
     model: &[u8],
     term: &[u8],
     steps: &mut Steps<L>,
-) -> Result<Reply, NoReply>
+) -> Result<Reply, Ended>
     requires { kernel.old.rows ≡ [] }
-    ensures { IfOk result (λ r. Guards model.now term.now (reply_of r)) }
+    ensures reply { IfOk result (λ r. Guards model.now term.now (reply_of r)) }
+    ensures ended { IfErr result (EndsIn (Guards model.now term.now)) }
 {
     verdict_is_first();
-    let formula = match read_formula(alloc, model, kernel) {
-        Ok(formula) => formula,
-        Err(fault) => return refuse_text(alloc, Role::Model, fault),
-    };
     let mut guard = Guard::new(alloc);
-    let outcome = match replay_watched(alloc, term, kernel, &mut guard, steps) {
-        Ok(outcome) => outcome,
-        Err(ReplayFault::Bad { line, why }) => return refuse_line(alloc, line, why),
-        Err(ReplayFault::Memory) => return Err(NoReply::Memory),
-    };
-    let showing = Showing::Reported(Layout::Text);
-    let reply = judge(alloc, showing, kernel, formula, outcome, steps)?;
-    if is_refused(reply.status) {
-        return Ok(reply);
-    }
+    let taken = take_term(alloc, model, term, kernel, &mut guard, steps)?;
+    let shown = report(alloc, Layout::Text, kernel, taken.fact, taken.lines, steps)?;
     let line = line_of(alloc, guard.verdict())?;
-    with_line_first(line, &reply)
+    let reply = with_line_first(line, &shown)?;
+    Ok(reply)
 }
 
 /// Checks a term against a model. The reply is that of `check`, and where the term is accepted the line of the guard stands before
@@ -144,5 +126,5 @@ pub fn guard<L: Ledger>(
     ensures { IfOk result (λ r. Guards model.now term.now (reply_of r)) }
 {
     let mut kernel = Kernel::new(alloc, SharedStore::new(alloc));
-    guard_on(alloc, &mut kernel, model, term, steps)
+    answer_of(guard_on(alloc, &mut kernel, model, term, steps))
 }

@@ -1,16 +1,29 @@
 //! The laws of what `check`, `report`, `smt` and `guard` answer. Each is a contract of a function that does nothing but call the laws
 //! below it.
-ghost use Rattle.std.specs.Prelude.{◌≡◌, ◌≢◌, ℕ, List};
+ghost use Rattle.std.specs.Prelude.{◌≡◌, ◌≢◌, ◌⊎◌, ℕ, List};
+ghost use Rattle.dlk_calculus.specs.Provables.{Provable};
+ghost use Rattle.dlk_calculus.specs.Steps.{Step};
 ghost use Rattle.dlk_replies.specs.declared.reply.Layout.TheVariants.{Text};
 ghost use Rattle.dlk_replies.specs.declared.reply.Showing.{Showing as TheShowing};
 ghost use Rattle.dlk_replies.specs.declared.reply.Showing.TheVariants.{Reported};
 ghost use Rattle.dlk_replies.specs.declared.reply.Status.TheVariants.{Refused};
 ghost use Rattle.dlk_replies.specs.Replies.{Reply as TheReply};
+ghost use Rattle.dlk_jobs_check.specs.Terms.{TakesTerm, RefusesTerm};
 ghost use Rattle.dlk_jobs_check.specs.Checks.{Checks};
 ghost use Rattle.dlk_jobs_check.specs.Guards.{Guards, GuardSays, with_line_first};
 
 use dlk_guard::first_or_guarded;
-use dlk_replay::{accepted_says_steps, one_list_of_steps};
+
+/// A term is taken for a model in one way, or refused with one reply, and not both.
+pub fn taken_or_refused()
+    ensures some { (model term : List ℕ) → ((reply : TheReply) × RefusesTerm model term reply)
+        ⊎ ((steps : List Step) × (rows : List Provable) × (p : Provable) × TakesTerm model term steps rows p) }
+    ensures refused { (model term : List ℕ) (one other : TheReply) → RefusesTerm model term one → RefusesTerm model term other → one ≡ other }
+    ensures taken { (model term : List ℕ) (steps others : List Step) (rows more : List Provable) (p q : Provable) → TakesTerm model term steps rows p →
+        TakesTerm model term others more q → (steps ≡ others) × (rows ≡ more) × (p ≡ q) }
+    ensures not_both { (model term : List ℕ) (reply : TheReply) (steps : List Step) (rows : List Provable) (p : Provable) → RefusesTerm model term reply →
+        TakesTerm model term steps rows p → ⊥ }
+{}
 
 /// There is one answer to a model and a term, whatever is shown of the proof, and one of `guard`.
 pub fn one_check_reply()
@@ -18,7 +31,6 @@ pub fn one_check_reply()
         Checks showing model term other → one ≡ other }
     ensures guards { (model term : List ℕ) (one other : TheReply) → Guards model term one → Guards model term other → one ≡ other }
 {
-    one_list_of_steps();
     first_or_guarded();
 }
 
@@ -27,7 +39,6 @@ pub fn some_check_reply()
     ensures checks { (showing : TheShowing) (model term : List ℕ) → (reply : TheReply) × Checks showing model term reply }
     ensures guards { (model term : List ℕ) → (reply : TheReply) × Guards model term reply }
 {
-    accepted_says_steps();
     first_or_guarded();
 }
 
@@ -35,7 +46,6 @@ pub fn some_check_reply()
 pub fn guard_says_one_thing()
     ensures { (term one other : List ℕ) → GuardSays term one → GuardSays term other → one ≡ other }
 {
-    one_list_of_steps();
     first_or_guarded();
 }
 

@@ -6,3 +6,4 @@ pub mod guard;
 pub mod laws;
 mod smt;
 mod summary;
+pub mod term;

@@ -1,7 +1,8 @@
 -- There is one answer to a model and a strategy.
-use Rattle.std.proofs.Common.{◌≡◌, ◌<◌, ◌≤◌, ◌⊎◌, ℕ, List, length, refl, sym, ap, subst, ◌∙◌, inl, inr, arith}
+use Rattle.std.proofs.Common.{◌≡◌, ℕ, List, refl, sym, ap, subst, ◌∙◌, arith}
 use Rattle.dlk_tree.specs.Trees.{Tree}
 use Rattle.dlk_calculus.specs.Provables.{Provable}
+use Rattle.dlk_calculus.specs.Steps.{Step}
 use Rattle.dlk_grammar.specs.declared.token.Dots.TheVariants.{Refused}
 use Rattle.dlk_grammar.specs.declared.token.Form.TheVariants.{Formula}
 use Rattle.dlk_grammar.specs.Texts.{TextFault}
@@ -10,13 +11,11 @@ use Rattle.dlk_tacsyn.specs.Tactics.{Tactic}
 use Rattle.dlk_tacsyn.specs.Faults.{Fault}
 use Rattle.dlk_tacsyn.specs.Strategies.{StrategyFault}
 use Rattle.dlk_strategy.specs.Runs.{Outcome, Done, Fails, Budget, RunsModel}
-use Rattle.dlk_recorder.specs.Terms.{term_text}
-use Rattle.dlk_replies.specs.declared.form.Role.TheVariants.{Model, Term}
-use Rattle.dlk_replies.specs.Forms.{limit_of}
+use Rattle.dlk_replies.specs.declared.form.Role.TheVariants.{Model}
 use Rattle.dlk_replies.specs.Replies.{Reply}
 use Rattle.dlk_replies.specs.Refusals.{text_refused}
-use Rattle.dlk_jobs_check.specs.Checks.{ModelText, ModelFault}
-use Rattle.dlk_jobs_prove.specs.Proves.{Proves, bad_model, bad_strategy, fails, spent, too_long, proves, strategy_refused, failed, over_budget, term_too_long, proved, RunsTo, IsLast}
+use Rattle.dlk_jobs_check.specs.Terms.{ModelText, ModelFault}
+use Rattle.dlk_jobs_prove.specs.Proves.{Records, too_long, writes, Proves, bad_model, bad_strategy, fails, spent, records, strategy_refused, failed, over_budget, RunsTo, IsLast}
 use Rattle.dlk_jobs_check.proofs.Ends.{one_last, one_model, model_or_fault}
 use Rattle.dlk_jobs_prove.proofs.StrategyLaws.{OneText, TextOrFault, OneFault, OneRun}
 
@@ -37,21 +36,22 @@ Answers (AtModel why) reply = reply ≡ text_refused Model why
 Answers (AtStrategy why) reply = reply ≡ strategy_refused why
 Answers (AtRun (Fails at why used)) reply = reply ≡ failed at why
 Answers (AtRun (Budget at)) reply = reply ≡ over_budget at
-Answers (AtRun (Done made left)) reply =
-    ((limit_of Term < length (term_text made.steps)) × (reply ≡ term_too_long (length (term_text made.steps))))
-    ⊎ ((length (term_text made.steps) ≤ limit_of Term) × ((p : Provable) × IsLast made.rows p × (reply ≡ proved p made.steps)))
+Answers (AtRun (Done made left)) reply = (p : Provable) × IsLast made.rows p × Records made.steps p reply
+
+one_record : (steps : List Step) (p : Provable) (r s : Reply) → Records steps p r → Records steps p s → r ≡ s
+one_record steps p _ _ (too_long long) (too_long also) = refl
+one_record steps p _ _ (too_long long) (writes short) = absurd (omega (arith, long, short))
+one_record steps p _ _ (writes short) (too_long long) = absurd (omega (arith, long, short))
+one_record steps p _ _ (writes short) (writes also) = refl
 
 one_answer : (end : Ending) (r s : Reply) → Answers end r → Answers end s → r ≡ s
 one_answer (AtModel why) r s a b = a ∙ sym b
 one_answer (AtStrategy why) r s a b = a ∙ sym b
 one_answer (AtRun (Fails at why used)) r s a b = a ∙ sym b
 one_answer (AtRun (Budget at)) r s a b = a ∙ sym b
-one_answer (AtRun (Done made left)) r s (inl a) (inl b) = a.1 ∙ sym b.1
-one_answer (AtRun (Done made left)) r s (inl a) (inr b) = absurd (omega (arith, a.0, b.0))
-one_answer (AtRun (Done made left)) r s (inr a) (inl b) = absurd (omega (arith, a.0, b.0))
-one_answer (AtRun (Done made left)) r s (inr (short, (p, ended, a))) (inr (also_short, (q, other, b))) =
-    let same : p ≡ q = one_last ended.before other.before p q (sym ended.rows_are ∙ other.rows_are) in
-    a ∙ ap (λ (x : Provable). proved x made.steps) same ∙ sym b
+one_answer (AtRun (Done made left)) r s (p, ended, a) (q, other, b) =
+    let same : q ≡ p = one_last other.before ended.before q p (sym other.rows_are ∙ ended.rows_are) in
+    one_record made.steps p r s a (subst (λ (x : Provable). Records made.steps x s) same b)
 
 -- the answer, and how far it comes
 record Reached (model strategy : List ℕ) (reply : Reply) : Type 0 where
@@ -64,8 +64,7 @@ reached model strategy _ (bad_model why is) = record { end = AtModel why; comes 
 reached model strategy _ (bad_strategy f reads why is) = record { end = AtStrategy why; comes = (f, reads, is); answers = refl }
 reached model strategy _ (fails at used why run) = record { end = AtRun (Fails at why used); comes = run; answers = refl }
 reached model strategy _ (spent at run) = record { end = AtRun (Budget at); comes = run; answers = refl }
-reached model strategy _ (too_long made left run long) = record { end = AtRun (Done made left); comes = run; answers = inl (long, refl) }
-reached model strategy _ (proves made left run short p ended) = record { end = AtRun (Done made left); comes = run; answers = inr (short, (p, ended, refl)) }
+reached model strategy _ (records made left run p ended reply is) = record { end = AtRun (Done made left); comes = run; answers = (p, ended, is) }
 
 module _ (one_text : OneText) (text_or_fault : TextOrFault) (one_fault : OneFault) (one_run : OneRun) (model strategy : List ℕ) where
   one_outcome : (a b : Outcome) → RunsTo model strategy a → RunsTo model strategy b → a ≡ b

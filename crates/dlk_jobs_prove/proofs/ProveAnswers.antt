@@ -1,6 +1,6 @@
 -- From what reading, running and recording a strategy answer to what `prove` answers.
-use Rattle.std.proofs.Common.{◌≡◌, ◌≤◌, ℕ, List, [], ◌∷◌, length, map, refl, sym, subst, ap, ◌∙◌, inl, inr}
-use Rattle.std.specs.Prelude.{min}
+use Rattle.std.proofs.Common.{◌≡◌, ◌<◌, ◌≤◌, ℕ, List, [], ◌∷◌, length, map, Some, Result, Ok, Err, refl, sym, subst, ap, ◌∙◌, inl, inr}
+use Rattle.std.specs.Prelude.{min, IfErr}
 use Rattle.std.proofs.lemmas.Bool.{cases_lt}
 use Rattle.std.proofs.lemmas.List.{length-map}
 use Rattle.std.proofs.lemmas.List.Elements.{All-nil}
@@ -9,6 +9,7 @@ use Rattle.dlk_calculus.specs.Limits.{most_nodes, greatest_depth}
 use Rattle.dlk_grammar.specs.Readings.{TooBig, TooDeep}
 use Rattle.dlk_calculus.specs.Places.{At}
 use Rattle.dlk_calculus.specs.Provables.{Provable}
+use Rattle.dlk_calculus.specs.Steps.{Step}
 use Rattle.dlk_kernel.specs.declared.row.Row.{Row}
 use Rattle.dlk_tacsyn.specs.Tactics.{Tactic}
 use Rattle.dlk_tacsyn.specs.Faults.{Fault, Syntax, Nesting, Repeat, UnknownAtom, Arguments, IsTacSyntaxOf}
@@ -19,12 +20,21 @@ use Rattle.dlk_strategy.specs.declared.fault.RunFault.{RunFault}
 use Rattle.dlk_strategy.specs.declared.fault.RunFault.TheVariants as run
 use Rattle.dlk_strategy.specs.Runs.{Progress, Done, RunsModel}
 use Rattle.dlk_strategy.specs.Ties.{IsRunFaultOf}
+use Rattle.dlk_recorder.specs.Terms.{term_text}
+use Rattle.dlk_replies.specs.declared.form.Role.TheVariants.{Term}
+use Rattle.dlk_replies.specs.declared.reply.Layout.TheVariants.{Text}
+use Rattle.dlk_replies.specs.Forms.{limit_of}
+use Rattle.dlk_replies.specs.declared.ended.Ended.{Ended}
+use Rattle.dlk_replies.specs.declared.reply.Reply.{Reply as IdReply}
+use Rattle.dlk_replies.specs.Ended.{EndsIn}
 use Rattle.dlk_replies.specs.Replies.{Reply}
-use Rattle.dlk_jobs_check.specs.Checks.{ModelText}
-use Rattle.dlk_jobs_prove.specs.Proves.{Proves, bad_strategy, fails, spent, too_long, proves, strategy_refused, RunsTo}
-use Rattle.dlk_jobs_prove.specs.Proved.{IsStrategyRefused, IsRunRefused, finished}
-use Rattle.dlk_jobs_check.proofs.Ends.{last_of}
-use Rattle.dlk_jobs_check.proofs.Judging.{last_item}
+use Rattle.dlk_replies.proofs.Ends.{ends_weaker}
+use Rattle.dlk_jobs_check.specs.Terms.{ModelText}
+use Rattle.dlk_jobs_check.specs.Checks.{reported}
+use Rattle.dlk_jobs_check.specs.Judged.{RefusesModel}
+use Rattle.dlk_jobs_prove.specs.Proves.{term_too_long, proved, Records, too_long, writes, Proves, bad_model, bad_strategy, fails, spent, records, strategy_refused, RunsTo}
+use Rattle.dlk_jobs_prove.specs.Proved.{IsStrategyRefused, IsRunRefused}
+use Rattle.dlk_jobs_check.proofs.Ends.{last_of, last_item}
 
 -- a model's formula is within the limits of what is read
 pub model_small : (model : List ℕ) (f : Tree) → ModelText model f → size f ≤ most_nodes
@@ -67,6 +77,30 @@ model_shallow model f reads = elim (cases_lt greatest_depth (depth f)) [
       ))
 ]
 
+-- a term file that would be too long
+pub long_answer : (steps : List Step) (p : Provable) (bytes : ℕ) (reply : Reply) → bytes ≡ length (term_text steps) → limit_of Term < length (term_text steps) →
+    reply ≡ term_too_long bytes → Records steps p reply
+long_answer steps p bytes reply bytes_are long is = subst (Records steps p) (sym (is ∙ ap term_too_long bytes_are)) (too_long long)
+
+-- a term file with the report of the last row
+pub short_answer : (steps : List Step) (p : Provable) (lines : ℕ) (report : Reply) (term : List ℕ) → report ≡ reported Text p lines → lines ≡ length steps →
+    term ≡ term_text steps → length (term_text steps) ≤ limit_of Term → Records steps p (record { status = report.status; printed = report.printed; written = Some term })
+short_answer steps p lines report term is lines_are term_is short =
+    let shown : report ≡ reported Text p (length steps) = is ∙ ap (λ n. reported Text p n) lines_are in
+    let whole : record { status = report.status; printed = report.printed; written = Some term } ≡ proved p steps =
+    λ i. record { status = (shown i).status; printed = (shown i).printed; written = Some (term_is i) } in
+    subst (Records steps p) (sym whole) (writes short)
+
+pub model_answer : (model text : List ℕ) (reply : Reply) → RefusesModel model reply → Proves model text reply
+model_answer model text reply (why, fault, is) = subst (Proves model text) (sym is) (bad_model why fault)
+
+-- a job that ends early with what is recorded of these steps
+pub early_done : (job : Result IdReply Ended) (steps : List Step) (IsAnswer : Reply → Type 0) →
+    ((reply : Reply) → ((p : Provable) → Records steps p reply) → IsAnswer reply) → IfErr job (EndsIn (λ reply. (p : Provable) → Records steps p reply)) →
+    IfErr job (EndsIn IsAnswer)
+early_done (Ok reply) steps IsAnswer answers says = tt
+early_done (Err end) steps IsAnswer answers says = ends_weaker (λ reply. (p : Provable) → Records steps p reply) IsAnswer answers end says
+
 module _ (model text : List ℕ) (f : Tree) (reads : ModelText model f) where
   by_fault : (why : Fault) (reply : Reply) → StrategyFault text why → reply ≡ strategy_refused why → Proves model text reply
   by_fault why reply fault is = subst (Proves model text) (sym is) (bad_strategy f reads why fault)
@@ -90,13 +124,10 @@ module _ (model text : List ℕ) (f : Tree) (reads : ModelText model f) where
 
     -- a run that is done
     pub done_answer : (made : Progress) (left : ℕ) → RunsModel t f (Done made left) → 1 ≤ length made.rows → (rows : List Row) (stands : Row → Provable) → made.rows ≡ map stands rows →
-        (fact : ℕ) → fact ≡ length rows → (reply : Reply) → ((p : Provable) → At (map stands rows) fact p → finished p made.steps reply) → Proves model text reply
+        (fact : ℕ) → fact ≡ length rows → (reply : Reply) → ((p : Provable) → At (map stands rows) fact p → Records made.steps p reply) → Proves model text reply
     done_answer made left is_run some rows stands rows_are fact fact_is reply says_so =
         let end = last_of made.rows some in
         let whole : RunsTo model text (Done made left) = record { formula = f; reads = reads; tactic = t; says = says; run = is_run } in
         let count : length made.rows ≡ fact = ap length rows_are ∙ length-map rows stands ∙ sym fact_is in
         let there : At (map stands rows) fact end.1 = subst (λ (l : List Provable). At l fact end.1) rows_are (subst (λ n. At made.rows n end.1) count (last_item made.rows end.0 end.1 end.2)) in
-        elim (says_so end.1 there) [
-          | inl long ↦ subst (Proves model text) (sym long.1) (too_long made left whole long.0)
-          | inr short ↦ subst (Proves model text) (sym short.1) (proves made left whole short.0 end.1 (record { before = end.0; rows_are = end.2 }))
-        ]
+        records made left whole end.1 (record { before = end.0; rows_are = end.2 }) reply (says_so end.1 there)

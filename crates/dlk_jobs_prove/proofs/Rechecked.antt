@@ -16,9 +16,11 @@ use Rattle.dlk_replies.specs.Forms.{limit_of}
 use Rattle.dlk_replies.specs.Replies.{Reply, printing}
 use Rattle.dlk_replies.specs.Refusals.{text_refused}
 use Rattle.dlk_replies.proofs.CarriedOut.{text_unwritten}
-use Rattle.dlk_jobs_check.specs.Checks.{Checks, reports, Accepts, answered}
-use Rattle.dlk_jobs_prove.specs.Proves.{Proves, bad_model, bad_strategy, fails, spent, too_long, proves, strategy_refused, proved, RunsTo, IsLast}
-use Rattle.dlk_jobs_check.proofs.Judging.{last_item}
+use Rattle.dlk_jobs_check.specs.Terms.{Accepts, TakesTerm}
+use Rattle.dlk_jobs_check.specs.Checks.{Checks, reports, answered}
+use Rattle.dlk_jobs_prove.specs.Proves.{Records, too_long, writes, Proves, bad_model, bad_strategy, fails, spent, records, strategy_refused, proved, RunsTo, IsLast}
+use Rattle.dlk_jobs_check.proofs.Ends.{last_item}
+use Rattle.dlk_jobs_check.proofs.OneTerm.{replays}
 use Rattle.dlk_jobs_prove.proofs.StrategyLaws.{RunsTaken, RunsReplaceSymbols, RunsShow}
 use Rattle.dlk_jobs_prove.proofs.RunSteps.{taken_count, some_rows, run_shows, all_symbols}
 
@@ -44,22 +46,24 @@ pub record Written (model strategy term : List ℕ) (reply : Reply) : Type 0 whe
   pub reply_is : reply ≡ proved proof made.steps
   pub term_is : term_text made.steps ≡ term
 
+-- the record of steps whose term is written
+record IsWritten (steps : List Step) (p : Provable) (term : List ℕ) (reply : Reply) : Type 0 where
+  pub short : length (term_text steps) ≤ limit_of Term
+  pub reply_is : reply ≡ proved p steps
+  pub term_is : term_text steps ≡ term
+
+written_record : (steps : List Step) (p : Provable) (term : List ℕ) (reply : Reply) → Records steps p reply → reply.written ≡ Some term → IsWritten steps p term reply
+written_record steps p term _ (too_long long) written = absurd cc
+written_record steps p term _ (writes short) written = record { short = short; reply_is = refl; term_is = cc }
+
 pub written_by : (model strategy term : List ℕ) (reply : Reply) → Proves model strategy reply → reply.written ≡ Some term → Written model strategy term reply
 written_by model strategy term _ (bad_model why is) written = absurd (unwritten (text_refused Model why) term (text_unwritten Model why) written)
 written_by model strategy term _ (bad_strategy f reads why is) written = absurd (unwritten (strategy_refused why) term (strategy_unwritten why) written)
 written_by model strategy term _ (fails at used why run) written = absurd cc
 written_by model strategy term _ (spent at run) written = absurd cc
-written_by model strategy term _ (too_long made left run long) written = absurd cc
-written_by model strategy term _ (proves made left run short p ended) written = record {
-  made = made;
-  left = left;
-  run = run;
-  short = short;
-  proof = p;
-  ended = ended;
-  reply_is = refl;
-  term_is = cc;
-}
+written_by model strategy term _ (records made left run p ended reply is) written =
+    let r = written_record made.steps p term reply is written in
+    record { made = made; left = left; run = run; short = r.short; proof = p; ended = ended; reply_is = r.reply_is; term_is = r.term_is }
 
 -- the term file of steps that are taken is accepted
 abbrev pub RecordedIsAccepted : Type 0
@@ -81,7 +85,10 @@ module _ (recorded : RecordedIsAccepted) (runs_taken : RunsTaken) (replace_symbo
         verdict = recorded made.steps made.rows takes symbols some;
       } in
       let shows = run_shows runs_show run.tactic run.formula made left run.run p (last_item made.rows ended.before p ended.rows_are) in
-      subst (λ n. Checks showing model (term_text made.steps) (answered showing p n)) (sym count) (reports run.formula run.reads made.rows p accepts shows)
+      let replayed = replays (term_text made.steps) made.rows p accepts in
+      let takes_it : TakesTerm model (term_text made.steps) replayed.0 made.rows p =
+      record { formula = run.formula; reads = run.reads; replays = replayed.1; shows = shows } in
+      subst (λ n. Checks showing model (term_text made.steps) (answered showing p n)) (sym count) (reports replayed.0 made.rows p takes_it)
 
   -- `check` accepts the term that is written, and shows its proof
   pub written_checks : (showing : Showing) (model strategy term : List ℕ) (reply : Reply) → (w : Written model strategy term reply) →

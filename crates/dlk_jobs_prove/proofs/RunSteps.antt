@@ -12,7 +12,7 @@ use Rattle.dlk_tacsyn.specs.Tactics.{Tactic}
 use Rattle.dlk_elab.specs.Symbols.{ReplacesSymbols}
 use Rattle.dlk_strategy.specs.Runs.{Progress, Done, RunsModel}
 use Rattle.dlk_recorder.specs.Terms.{HasSymbols}
-use Rattle.dlk_jobs_check.specs.Checks.{proves}
+use Rattle.dlk_jobs_check.specs.Terms.{proves}
 use Rattle.dlk_jobs_prove.proofs.StrategyLaws.{RunsTaken, RunsShow}
 
 -- as many rows as steps

@@ -2,6 +2,8 @@
 use Rattle.std.proofs.Common.{ℕ, List, length, inl, inr}
 use Rattle.std.proofs.lemmas.Bool.{cases_lt}
 use Rattle.dlk_tree.specs.Trees.{Tree}
+use Rattle.dlk_calculus.specs.Provables.{Provable}
+use Rattle.dlk_calculus.specs.Steps.{Step}
 use Rattle.dlk_grammar.specs.declared.token.Dots.TheVariants.{Refused}
 use Rattle.dlk_grammar.specs.declared.token.Form.TheVariants.{Formula}
 use Rattle.dlk_machine.proofs.SomeText.{some_tree}
@@ -11,11 +13,17 @@ use Rattle.dlk_replies.specs.declared.form.Role.TheVariants.{Model, Term}
 use Rattle.dlk_replies.specs.Forms.{limit_of}
 use Rattle.dlk_replies.specs.Replies.{Reply}
 use Rattle.dlk_replies.specs.Refusals.{text_refused}
-use Rattle.dlk_jobs_check.specs.Checks.{ModelText}
-use Rattle.dlk_jobs_prove.specs.Proves.{Proves, bad_model, bad_strategy, fails, spent, too_long, proves, strategy_refused, failed, over_budget, term_too_long, proved, RunsTo}
+use Rattle.dlk_jobs_check.specs.Terms.{ModelText}
+use Rattle.dlk_jobs_prove.specs.Proves.{Records, too_long, writes, Proves, bad_model, bad_strategy, fails, spent, records, strategy_refused, failed, over_budget, term_too_long, proved, RunsTo}
 use Rattle.dlk_jobs_check.proofs.Ends.{last_of}
 use Rattle.dlk_jobs_prove.proofs.RunSteps.{some_rows}
 use Rattle.dlk_jobs_prove.proofs.StrategyLaws.{SomeText, SomeRun, RunsShow}
+
+some_record : (steps : List Step) (p : Provable) → (reply : Reply) × Records steps p reply
+some_record steps p = elim (cases_lt (limit_of Term) (length (term_text steps))) [
+  | inl long ↦ (term_too_long (length (term_text steps)), too_long long)
+  | inr short ↦ (proved p steps, writes short)
+]
 
 module _ (some_text : SomeText) (some_run : SomeRun) (runs_show : RunsShow) (model strategy : List ℕ) where
   by_outcome : (o : Outcome) → RunsTo model strategy o → (reply : Reply) × Proves model strategy reply
@@ -23,10 +31,8 @@ module _ (some_text : SomeText) (some_run : SomeRun) (runs_show : RunsShow) (mod
   by_outcome (Budget at) run = (over_budget at, spent at run)
   by_outcome (Done made left) run =
       let last = last_of made.rows (some_rows runs_show run.tactic run.formula made left run.run) in
-      elim (cases_lt (limit_of Term) (length (term_text made.steps))) [
-        | inl long ↦ (term_too_long (length (term_text made.steps)), too_long made left run long)
-        | inr short ↦ (proved last.1 made.steps, proves made left run short last.1 (record { before = last.0; rows_are = last.2 }))
-      ]
+      let reply = some_record made.steps last.1 in
+      (reply.0, records made left run last.1 (record { before = last.0; rows_are = last.2 }) reply.0 reply.1)
 
   by_model : (f : Tree) → ModelText model f → (reply : Reply) × Proves model strategy reply
   by_model f reads = elim (some_text strategy) [

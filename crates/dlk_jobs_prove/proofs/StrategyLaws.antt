@@ -11,7 +11,7 @@ use Rattle.dlk_tacsyn.specs.Faults.{Fault}
 use Rattle.dlk_tacsyn.specs.Strategies.{StrategyText, StrategyFault}
 use Rattle.dlk_elab.specs.Symbols.{ReplacesSymbols}
 use Rattle.dlk_strategy.specs.Runs.{Progress, Outcome, Done, RunsModel}
-use Rattle.dlk_jobs_check.specs.Checks.{ModelText}
+use Rattle.dlk_jobs_check.specs.Terms.{ModelText}
 
 -- a text says one strategy, or has one fault
 abbrev pub OneText : Type 0

@@ -1,15 +1,18 @@
 -- `gen` is done or refuses, and sums up the proof that `prove` reports.
 use Rattle.std.proofs.Common.{◌≡◌, ◌⊎◌, ℕ, List, length, None, Some, refl, sym, ap, ◌∙◌, subst, inl, inr}
+use Rattle.dlk_calculus.specs.Provables.{Provable}
+use Rattle.dlk_calculus.specs.Steps.{Step}
 use Rattle.dlk_tacsyn.specs.Faults.{Fault, Syntax, Nesting, Repeat, UnknownAtom, Arguments}
 use Rattle.dlk_library.specs.Generated.{generated_model, generated_strategy}
 use Rattle.dlk_replies.specs.declared.form.Role.TheVariants.{Model}
 use Rattle.dlk_replies.specs.declared.reply.Showing.TheVariants.{Summed}
 use Rattle.dlk_replies.specs.declared.reply.Status.TheVariants.{Done}
 use Rattle.dlk_replies.specs.Replies.{Reply, printing}
-use Rattle.dlk_jobs_check.specs.Checks.{Checks, bad_model as checks_fault, bad_line, bad_conclusion, reports, summed}
-use Rattle.dlk_jobs_prove.specs.Proves.{Proves, bad_model, bad_strategy, fails, spent, too_long, proves, strategy_refused}
+use Rattle.dlk_jobs_check.specs.Checks.{Checks, refuses as refuses_term, reports, summed}
+use Rattle.dlk_jobs_prove.specs.Proves.{Records, too_long, writes, Proves, bad_model, bad_strategy, fails, spent, records, strategy_refused}
 use Rattle.dlk_jobs_prove.specs.Generates.{Generates, refuses, checks, SumsUp}
 use Rattle.dlk_replies.proofs.CarriedOut.{IsRefused, text_is_refused}
+use Rattle.dlk_jobs_check.proofs.GuardReports.{term_is_refused}
 use Rattle.dlk_jobs_check.proofs.OneReply.{one_check}
 use Rattle.dlk_jobs_prove.proofs.OneReply.{one_written}
 use Rattle.dlk_jobs_prove.proofs.Rechecked.{RecordedIsAccepted, unwritten, written_by, written_checks}
@@ -22,20 +25,21 @@ strategy_is_refused (Repeat at) = refl
 strategy_is_refused (UnknownAtom at) = refl
 strategy_is_refused (Arguments at) = refl
 
+record_is_refused : (steps : List Step) (p : Provable) (reply : Reply) → Records steps p reply → reply.written ≡ None → IsRefused reply
+record_is_refused steps p _ (too_long long) none = refl
+record_is_refused steps p _ (writes short) none = absurd cc
+
 -- what writes nothing refuses
 unwritten_is_refused : (model strategy : List ℕ) (reply : Reply) → Proves model strategy reply → reply.written ≡ None → IsRefused reply
 unwritten_is_refused model strategy _ (bad_model why is) none = text_is_refused Model why
 unwritten_is_refused model strategy _ (bad_strategy f reads why is) none = strategy_is_refused why
 unwritten_is_refused model strategy _ (fails at used why run) none = refl
 unwritten_is_refused model strategy _ (spent at run) none = refl
-unwritten_is_refused model strategy _ (too_long made left run long) none = refl
-unwritten_is_refused model strategy _ (proves made left run short p ended) none = absurd cc
+unwritten_is_refused model strategy _ (records made left run p ended reply is) none = record_is_refused made.steps p reply is none
 
 sum_status : (n : ℕ) (model term : List ℕ) (reply : Reply) → Checks (Summed n) model term reply → (reply.status ≡ Done) ⊎ IsRefused reply
-sum_status n model term _ (checks_fault why is) = inr (text_is_refused Model why)
-sum_status n model term _ (bad_line f reads line why verdict) = inr refl
-sum_status n model term _ (bad_conclusion f reads rows p accepts other) = inr refl
-sum_status n model term _ (reports f reads rows p accepts same) = inl refl
+sum_status n model term _ (refuses_term reply refused) = inr (term_is_refused model term reply refused)
+sum_status n model term _ (reports steps rows p takes) = inl refl
 
 pub generated_status : (n : ℕ) (reply : Reply) → Generates n reply → (reply.status ≡ Done) ⊎ IsRefused reply
 generated_status n _ (refuses reply proof none) = inr (unwritten_is_refused (generated_model n) (generated_strategy n) reply proof none)

@@ -18,7 +18,8 @@ use Rattle.dlk_replies.specs.declared.reply.Layout.TheVariants.{Text}
 use Rattle.dlk_replies.specs.Forms.{limit_of}
 use Rattle.dlk_replies.specs.Replies.{Reply, refusal}
 use Rattle.dlk_replies.specs.Refusals.{refused_at, text_refused}
-use Rattle.dlk_jobs_check.specs.Checks.{ModelText, ModelFault, status_of, report_in}
+use Rattle.dlk_jobs_check.specs.Terms.{ModelText, ModelFault}
+use Rattle.dlk_jobs_check.specs.Checks.{status_of, report_in}
 
 -- refused: strategy at B: WHY. One row a fault.
 abbrev pub strategy_refused : Fault → Reply
@@ -52,6 +53,11 @@ term_too_long bytes = refusal (codes "term-too-long " ++ decimal bytes)
 abbrev pub proved : Provable → List Step → Reply
 proved p steps = record { status = status_of (is_closed p.goals); printed = report_in Text p (length steps); written = Some (term_text steps) }
 
+-- Records steps p reply: what is answered where these steps show this provable, by a command that writes the term file of steps.
+pub data Records (steps : List Step) (p : Provable) : Reply → Type 0 where
+  too_long : limit_of Term < length (term_text steps) → Records steps p (term_too_long (length (term_text steps)))
+  writes : length (term_text steps) ≤ limit_of Term → Records steps p (proved p steps)
+
 -- the texts are a formula and a strategy, of whose run this becomes
 pub record RunsTo (model strategy : List ℕ) (outcome : Outcome) : Type 0 where
   pub formula : Tree
@@ -71,7 +77,5 @@ pub data Proves (model strategy : List ℕ) : Reply → Type 0 where
   bad_strategy : (f : Tree) → ModelText model f → (why : Fault) → StrategyFault strategy why → Proves model strategy (strategy_refused why)
   fails : (at used : ℕ) (why : FailWhy) → RunsTo model strategy (Fails at why used) → Proves model strategy (failed at why)
   spent : (at : ℕ) → RunsTo model strategy (Budget at) → Proves model strategy (over_budget at)
-  too_long : (made : Progress) (left : ℕ) → RunsTo model strategy (Done made left) → limit_of Term < length (term_text made.steps) →
-      Proves model strategy (term_too_long (length (term_text made.steps)))
-  proves : (made : Progress) (left : ℕ) → RunsTo model strategy (Done made left) → length (term_text made.steps) ≤ limit_of Term →
-      (p : Provable) → IsLast made.rows p → Proves model strategy (proved p made.steps)
+  records : (made : Progress) (left : ℕ) → RunsTo model strategy (Done made left) → (p : Provable) → IsLast made.rows p →
+      (reply : Reply) → Records made.steps p reply → Proves model strategy reply

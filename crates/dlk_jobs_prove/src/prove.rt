@@ -1,21 +1,23 @@
 // `prove MODEL STRATEGY TERM`: run a strategy on a model, write the term that it makes, and report.
-ghost use Rattle.std.specs.Prelude.{◌≡◌, [], length, map, All, IfOk};
+ghost use Rattle.std.specs.Prelude.{◌≡◌, [], length, map, All, IfOk, IfErr};
 ghost use Rattle.dlk_calculus.specs.Places.{At, IsPlace};
 ghost use Rattle.dlk_calculus.specs.Provables.{Provable};
 ghost use Rattle.dlk_kernel.specs.Kernel.{facts};
 ghost use Rattle.dlk_rules.specs.Steps.{step_at, HasKnownIds};
-ghost use Rattle.dlk_jobs_prove.specs.Proves.{fail_text, term_too_long, Proves};
-ghost use Rattle.dlk_jobs_prove.specs.Proved.{IsStrategyRefused, IsRunRefused, finished};
+ghost use Rattle.dlk_jobs_prove.specs.Proves.{fail_text, term_too_long, Records, Proves};
+ghost use Rattle.dlk_jobs_prove.specs.Proved.{IsStrategyRefused, IsRunRefused};
+ghost use Rattle.dlk_replies.specs.Ended.{EndsIn};
 ghost use Rattle.dlk_replies.specs.Shown.{reply_of};
 
 use dlk_jobs_check::check::report;
-use dlk_kernel::Kernel;
-use dlk_parse::read_formula;
+use dlk_jobs_check::term::read_model;
+use dlk_kernel::{Fact, Kernel};
 use dlk_recorder::{Recorded, record};
-use dlk_replies::{Layout, NoReply, Reply, Role, refuse_at, refuse_text, refused};
+use dlk_replies::{Ended, Layout, NoReply, Reply, Role, answer_of, end_by, refuse_at, refused};
+use dlk_rules::Step;
 use dlk_shared::SharedStore;
 use dlk_store::{Steps, Store};
-use dlk_strategy::{Done, FailWhy, RunFault, run_is_taken, run_shows_formula, run_strategy};
+use dlk_strategy::{FailWhy, RunFault, run_is_taken, run_shows_formula, run_strategy};
 use dlk_tacsyn::{TacSyntax, strategy};
 use std::alloc::Global;
 use std::sync::ledger::Ledger;
@@ -73,25 +75,32 @@ fn refuse_length(alloc: Global, bytes: u128) -> Result<Reply, NoReply>
     refused(alloc, why.as_str())
 }
 
-/// The answer to a run that is done. The term's text is made before the report.
-fn finish<S: Store, L: Ledger>(
+/// The end of a command that writes a term: the term file of steps, and the report of the last row, which is the fact that they show.
+/// The text is made before the report.
+///
+/// # Errors
+///
+/// - `Refused`: the file would be longer than a term may be.
+/// - `Memory`: for want of memory.
+pub fn finish<S: Store, L: Ledger>(
     alloc: Global,
     kernel: &Kernel<S>,
-    done: &Done,
+    fact: Fact,
+    taken: &[Step],
     steps: &mut Steps<L>,
-) -> Result<Reply, NoReply>
-    requires fact { IsPlace kernel.now.rows done.now.fact }
-    requires known { All (HasKnownIds (S.trees kernel.now.store)) done.now.steps.items }
-    requires few { length done.now.steps.items ≡ length kernel.now.rows }
-    ensures { IfOk result (λ r. (p : Provable) → At (facts S.trees kernel.now) done.now.fact p → finished p (map (step_at (S.trees kernel.now.store)) done.now.steps.items) (reply_of r)) }
+) -> Result<Reply, Ended>
+    requires fact { IsPlace kernel.now.rows fact }
+    requires known { All (HasKnownIds (S.trees kernel.now.store)) taken.now }
+    requires few { length taken.now ≡ length kernel.now.rows }
+    ensures reply { IfOk result (λ r. (p : Provable) → At (facts S.trees kernel.now) fact p → Records (map (step_at (S.trees kernel.now.store)) taken.now) p (reply_of r)) }
+    ensures ended { IfErr result (EndsIn (λ reply. (p : Provable) → Records (map (step_at (S.trees kernel.now.store)) taken.now) p reply)) }
 {
     let lines = kernel.rows();
-    let taken = done.steps.as_slice();
     let term = match record(alloc, kernel, taken, Role::Term.limit(), steps)? {
         Recorded::Whole(term) => term,
-        Recorded::TooLong(bytes) => return refuse_length(alloc, bytes),
+        Recorded::TooLong(bytes) => return Err(end_by(refuse_length(alloc, bytes))),
     };
-    let mut reply = report(alloc, Layout::Text, kernel, done.fact, lines, steps)?;
+    let mut reply = report(alloc, Layout::Text, kernel, fact, lines, steps)?;
     reply.written = Some(term);
     Ok(reply)
 }
@@ -103,24 +112,23 @@ fn prove_on<S: Store, L: Ledger>(
     model: &[u8],
     text: &[u8],
     steps: &mut Steps<L>,
-) -> Result<Reply, NoReply>
+) -> Result<Reply, Ended>
     requires { kernel.old.rows ≡ [] }
-    ensures { IfOk result (λ r. Proves model.now text.now (reply_of r)) }
+    ensures reply { IfOk result (λ r. Proves model.now text.now (reply_of r)) }
+    ensures ended { IfErr result (EndsIn (Proves model.now text.now)) }
 {
     run_is_taken();
     run_shows_formula();
-    let formula = match read_formula(alloc, model, kernel) {
-        Ok(formula) => formula,
-        Err(fault) => return refuse_text(alloc, Role::Model, fault),
-    };
+    let formula = read_model(alloc, model, kernel)?;
     let tactic = match strategy(alloc, text, kernel) {
         Ok(tactic) => tactic,
-        Err(fault) => return refuse_strategy(alloc, fault),
+        Err(fault) => return Err(end_by(refuse_strategy(alloc, fault))),
     };
-    match run_strategy(alloc, &tactic, kernel, formula, steps) {
-        Ok(done) => finish(alloc, kernel, &done, steps),
-        Err(fault) => refuse_run(alloc, fault),
-    }
+    let done = match run_strategy(alloc, &tactic, kernel, formula, steps) {
+        Ok(done) => done,
+        Err(fault) => return Err(end_by(refuse_run(alloc, fault))),
+    };
+    finish(alloc, kernel, done.fact, done.steps.as_slice(), steps)
 }
 
 /// Runs a strategy on a model. The reply has the report, and the text of the term to be written.
@@ -138,5 +146,5 @@ pub fn prove<L: Ledger>(
     ensures { IfOk result (λ r. Proves model.now strategy.now (reply_of r)) }
 {
     let mut kernel = Kernel::new(alloc, SharedStore::new(alloc));
-    prove_on(alloc, &mut kernel, model, strategy, steps)
+    answer_of(prove_on(alloc, &mut kernel, model, strategy, steps))
 }

@@ -1,5 +1,6 @@
 -- What is kept of a term is taken, and gives the same rows.
-use Rattle.std.proofs.Common.{◌≡◌, refl, sym, ap, subst, ◌∙◌, ℕ, zero, suc, ◌+◌, ◌-◌, ◌<◌, List, [], ◌∷◌, ◌++◌, length, ◌⊎◌, inl, inr, Some, arith, length-append, append_assoc, get_or}
+use Rattle.std.proofs.Common.{◌≡◌, refl, sym, ap, subst, ◌∙◌, ℕ, zero, suc, ◌+◌, ◌-◌, ◌<◌, List, [], ◌∷◌, ◌++◌, length, ◌⊎◌, inl, inr, Some, arith}
+use Rattle.std.proofs.Common.{length-append, append_assoc, get_or}
 use Rattle.std.specs.List.{slice_get}
 use Rattle.std.proofs.lemmas.Option.{get_or_from_slice_get, slice_get_within, slice_get-get_or}
 use Rattle.std.proofs.lemmas.List.{get_or_append_left, get_or-append-add}
@@ -30,7 +31,8 @@ at_last front x =
     let is : get_or (front ++ x ∷ []) (length front + 0) x ≡ x = get_or-append-add front (x ∷ []) 0 x in
     let n : suc (length front + 0) ≡ length front + 1 = omega arith in
     subst (λ k. At (front ++ x ∷ []) k x) n
-    (at_suc (front ++ x ∷ []) (length front + 0) ∙ slice_get-get_or (front ++ x ∷ []) (length front + 0) x (omega (arith, length-append front (x ∷ []))) ∙ ap Some is)
+    (at_suc (front ++ x ∷ []) (length front + 0) ∙ slice_get-get_or (front ++ x ∷ []) (length front + 0) x (omega (arith, length-append front (x ∷ []))) ∙ ap
+    Some is)
 
 get_either : {A : Type 0} (items : List A) (x y : A) (n : ℕ) → slice_get (items ++ x ∷ []) n ≡ Some y →
     (slice_get items n ≡ Some y) ⊎ ((n ≡ length items) × (y ≡ x))
@@ -124,7 +126,8 @@ same_step (Rename fact x y) = refl
 
 pub gives_more : (rows others : List Provable) (step : Step) (p : Provable) → Gives rows step p → Gives (rows ++ others) step p
 gives_more rows others step p g =
-    subst (λ s. Gives (rows ++ others) s p) (same_step step) (gives_moved rows (rows ++ others) (λ fact. fact) step p (λ fact q named h. at_more rows others fact q h) g)
+    subst (λ s. Gives (rows ++ others) s p) (same_step step) (gives_moved rows (rows ++ others) (λ fact. fact) step p (λ fact q named h. at_more rows others
+    fact q h) g)
 
 -- a step that was taken has its row, which it still gives
 pub taken_at : (steps : List Step) (rows : List Provable) (n : ℕ) (step : Step) → Takes [] steps rows → At steps n step →
@@ -138,8 +141,12 @@ taken_at _ _ n step (more {steps = steps} {mid = mid} {step = last} {p = p} take
   | inl e ↦ let found = taken_at steps mid n step takes e in (found.0, at_more mid (p ∷ []) n found.0 found.1, gives_more mid (p ∷ []) step found.0 found.2)
   | inr e ↦
       let count = take_length steps mid takes in
-      let place : length mid + 1 ≡ n = let here = e.0 in omega (arith, here, count) in
-      (p, subst (λ k. At (mid ++ p ∷ []) k p) place (at_last mid p), subst (λ s. Gives (mid ++ p ∷ []) s p) (sym e.1) (gives_more mid (p ∷ []) last p gives.given))
+      let place : length mid + 1 ≡ n = let here = e.0 in omega (arith, here, count) in (
+        p,
+        subst (λ k. At (mid ++ p ∷ []) k p) place (at_last mid p),
+        subst (λ s. Gives (mid ++ p ∷ []) s p) (sym e.1) (gives_more mid (p ∷ []) last p
+            gives.given),
+      )
 ]
 
 -- a needed step gives its row behind the kept ones, too: the facts that it names are needed
@@ -158,7 +165,13 @@ module _ (taken : (rows : List Provable) (step : Step) (p : Provable) → Gives 
   pub trims_keep : (term read rest kept : List Step) (numbers : List ℕ) (rows : List Provable) → term ≡ read ++ rest → Takes [] read rows →
       Trims term read kept numbers → Keeps term numbers rows kept
   trims_keep term _ rest kept numbers rows is takes nothing_read =
-      record { kept_rows = []; takes = none; few = omega arith; numbered = no_rows rows takes; same = λ row p need h. absurd (nothing_there rows row p takes h) }
+      record {
+        kept_rows = [];
+        takes = none;
+        few = omega arith;
+        numbered = no_rows rows takes;
+        same = λ row p need h. absurd (nothing_there rows row p takes h);
+      }
     where
       no_rows : (rows : List Provable) → Takes [] [] rows → 0 ≡ length rows
       no_rows rows t = let h = take_length [] rows t in omega (arith, h)
@@ -216,7 +229,12 @@ module _ (taken : (rows : List Provable) (step : Step) (p : Provable) → Gives 
       let f = was.few in
       let kept_count = take_length kept was.kept_rows was.takes in
       let n = length kept + 1 in
-      let now = taken was.kept_rows (moved numbers step) last.p gives (within_moved (new_number numbers) step last.p told.1) (omega (arith, room, f, kept_count)) in
+      let now = taken was.kept_rows (moved numbers step) last.p gives (within_moved (new_number numbers) step last.p told.1) (omega (
+        arith,
+        room,
+        f,
+        kept_count,
+      )) in
       subst (λ rs. Keeps term (numbers ++ n ∷ []) rs (kept ++ moved numbers step ∷ [])) (sym last.rows_are)
       (record {
         kept_rows = was.kept_rows ++ last.p ∷ [];
@@ -233,6 +251,7 @@ module _ (taken : (rows : List Provable) (step : Step) (p : Provable) → Gives 
               let end : length was.kept_rows + 1 ≡ n = omega (arith, kept_count) in
               subst (λ k. At (was.kept_rows ++ last.p ∷ []) (new_number (numbers ++ n ∷ []) k) p) (sym its)
               (subst (λ k. At (was.kept_rows ++ last.p ∷ []) k p) (sym (last_number numbers n))
-              (subst (λ k. At (was.kept_rows ++ last.p ∷ []) k p) end (subst (λ x. At (was.kept_rows ++ last.p ∷ []) (length was.kept_rows + 1) x) (sym e.1) (at_last was.kept_rows last.p))))
+              (subst (λ k. At (was.kept_rows ++ last.p ∷ []) k p) end (subst (λ x. At (was.kept_rows ++ last.p ∷ []) (length was.kept_rows + 1) x) (sym e.1)
+              (at_last was.kept_rows last.p))))
         ];
       })

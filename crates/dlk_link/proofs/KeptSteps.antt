@@ -1,5 +1,6 @@
 -- Steps that are kept, with their keys.
-use Rattle.std.proofs.Common.{◌≡◌, refl, sym, ap, subst, ◌∙◌, ℕ, zero, suc, ◌+◌, ◌<◌, ◌≤◌, Bool, true, false, not, List, [], ◌∷◌, ◌++◌, inl, inr, length, map, take, arith, rules}
+use Rattle.std.proofs.Common.{◌≡◌, refl, sym, ap, subst, ◌∙◌, ℕ, zero, suc, ◌+◌, ◌<◌, ◌≤◌, Bool, true, false, not, List, [], ◌∷◌, ◌++◌, inl, inr, length, map}
+use Rattle.std.proofs.Common.{take, arith, rules}
 use Rattle.std.proofs.Common.{get_or, length-append, nat_eq, true≢false}
 use Rattle.std.specs.Bool.{Decides}
 use Rattle.std.specs.Cmp.Lexicographic.{pointwise}
@@ -73,13 +74,15 @@ module _ (one_rule : (r s : Rule) → word_of r ≡ word_of s → arguments_of r
       subst (λ k. At all k key) place (subst (λ w. At all (suc n) w) (sym same) (at_suc all n ∙ h.1))
 
   -- the key is there: so is the step
-  pub number_there : (all : List (List ℕ)) (n : ℕ) → all ≡ insert_key (pointwise nat_eq) keys key → list_any (pointwise nat_eq key) keys ≡ true → HasKeyAt key all n →
+  pub number_there : (all : List (List ℕ)) (n : ℕ) → all ≡ insert_key (pointwise nat_eq) keys key → list_any (pointwise nat_eq key) keys ≡ true →
+      HasKeyAt key all n →
       AreKeyed trees steps all × Numbers trees steps step steps (n + 1)
   number_there all n all_is there h =
       let same : all ≡ keys = all_is ∙ cond-true (list_any (pointwise nat_eq key) keys) keys (keys ++ key ∷ []) there in
       let at : At keys (n + 1) key = subst (λ k. At k (n + 1) key) same (key_at all n h) in
       let found = beside keys steps (n + 1) key step (sym keyed.count) at in
-      let equal : step_at trees found.0 ≡ step_at trees step = one_step trees one_rule (step_at trees found.0) (step_at trees step) key (keyed.keyed (n + 1) found.0 key found.1 at) is_key in (
+      let equal : step_at trees found.0 ≡ step_at trees step = one_step trees one_rule (step_at trees found.0) (step_at trees step) key (keyed.keyed (n + 1)
+      found.0 key found.1 at) is_key in (
         subst (AreKeyed trees steps) (sym same) keyed,
         is_there (subst (λ z. At (map (step_at trees) steps) (n + 1) z) equal (At-map (step_at trees) steps (n + 1) found.0 found.1)),
       )
@@ -95,7 +98,8 @@ module _ (one_rule : (r s : Rule) → word_of r ≡ word_of s → arguments_of r
       true≢false (sym (finds key keys found.0 (subst (λ w. At keys found.0 w) same other.1)) ∙ new)
 
   -- it isn't: the step is kept
-  pub number_new : (all : List (List ℕ)) (n : ℕ) → all ≡ insert_key (pointwise nat_eq) keys key → list_any (pointwise nat_eq key) keys ≡ false → HasKeyAt key all n →
+  pub number_new : (all : List (List ℕ)) (n : ℕ) → all ≡ insert_key (pointwise nat_eq) keys key → list_any (pointwise nat_eq key) keys ≡ false →
+      HasKeyAt key all n →
       AreKeyed trees (steps ++ step ∷ []) all × Numbers trees steps step (steps ++ step ∷ []) (n + 1)
   number_new all n all_is new h =
       let longer : all ≡ keys ++ key ∷ [] = all_is ∙ cond-false (list_any (pointwise nat_eq key) keys) keys (keys ++ key ∷ []) new in
@@ -152,8 +156,10 @@ module _ (term : List Step) (row : ℕ) (within : row < length term) (steps : Li
     one_more =
         let lt : row < length (map (step_at trees) term) = omega (arith, within, length-map term (step_at trees)) in
         let place : suc row ≡ row + 1 = omega arith in
-        let there = subst (λ k. At (map (step_at trees) term) k (get_or (map (step_at trees) term) row (step_at trees item))) place (at_some (map (step_at trees) term) row (step_at trees item) lt) in
-        let same = at_one (map (step_at trees) term) (row + 1) (get_or (map (step_at trees) term) row (step_at trees item)) (step_at trees item) there (At-map (step_at trees) term (row + 1) item item_is) in
+        let there = subst (λ k. At (map (step_at trees) term) k (get_or (map (step_at trees) term) row (step_at trees item))) place (at_some (map (step_at
+        trees) term) row (step_at trees item) lt) in
+        let same = at_one (map (step_at trees) term) (row + 1) (get_or (map (step_at trees) term) row (step_at trees item)) (step_at trees item) there (At-map
+        (step_at trees) term (row + 1) item item_is) in
         take_more (map (step_at trees) term) row (step_at trees item) lt ∙ ap (λ z. take row (map (step_at trees) term) ++ z ∷ []) same
 
     count : length (take row (map (step_at trees) term)) ≡ row
@@ -166,7 +172,8 @@ module _ (term : List Step) (row : ℕ) (within : row < length term) (steps : Li
       record {
         keyed = was.keyed;
         trims = subst (λ z. Trims (map (step_at trees) term) z (map (step_at trees) steps) (numbers ++ 0 ∷ [])) (sym (one_more trees it.0 it.1))
-            (not_needed (step_at trees it.0) was.trims (λ need. unmarked (((marked trees).marked (row + 1)).1 (subst (λ k. IsNeeded (map (step_at trees) term) (k + 1)) (count trees it.0 it.1) need))));
+            (not_needed (step_at trees it.0) was.trims (λ need. unmarked (((marked trees).marked (row + 1)).1 (subst (λ k. IsNeeded (map (step_at trees) term)
+            (k + 1)) (count trees it.0 it.1) need))));
       }
     where
       item : (s : Step) × At term (row + 1) s
@@ -200,12 +207,14 @@ module _ (term : List Step) (row : ℕ) (within : row < length term) (steps : Li
           let made = is_kept (step_at trees item) was need (λ c. other (subst (λ z. Contains (map (step_at trees) steps) z) (sym (same trees)) c)) in
           let longer : map (step_at trees) steps ++ moved numbers (step_at trees item) ∷ [] ≡ map (step_at trees) (steps ++ moved_item ∷ []) =
           ap (λ z. map (step_at trees) steps ++ z ∷ []) (sym (same trees)) ∙ sym (map-append (step_at trees) steps (moved_item ∷ [])) in
-          subst (λ z. Trims (map (step_at trees) term) (take row (map (step_at trees) term) ++ step_at trees item ∷ []) z (numbers ++ (length steps + 1) ∷ [])) longer
+          subst (λ z. Trims (map (step_at trees) term) (take row (map (step_at trees) term) ++ step_at trees item ∷ []) z (numbers ++ (length steps + 1) ∷ []))
+          longer
           (subst (λ k. Trims (map (step_at trees) term) (take row (map (step_at trees) term) ++ step_at trees item ∷ [])
           (map (step_at trees) steps ++ moved numbers (step_at trees item) ∷ []) (numbers ++ (k + 1) ∷ [])) (length-map steps (step_at trees)) made)
 
 -- all rows are read
-pub all_kept : (term : List Step) (steps : List Step) (keys : List (List ℕ)) (numbers : List ℕ) (trees : List Tree) → Row term (length term) steps keys numbers trees →
+pub all_kept : (term : List Step) (steps : List Step) (keys : List (List ℕ)) (numbers : List ℕ) (trees : List Tree) →
+    Row term (length term) steps keys numbers trees →
     Trimmed (map (step_at trees) term) (map (step_at trees) steps)
 all_kept term steps keys numbers trees row =
     let whole : take (length term) (map (step_at trees) term) ≡ map (step_at trees) term =
@@ -214,7 +223,8 @@ all_kept term steps keys numbers trees row =
 
 pub none_yet : (term steps : List Step) (keys : List (List ℕ)) (numbers : List ℕ) → steps ≡ [] → keys ≡ [] → numbers ≡ [] → KeptSoFar term 0 steps keys numbers
 none_yet term steps keys numbers a b c =
-    subst (λ s. KeptSoFar term 0 s keys numbers) (sym a) (subst (λ k. KeptSoFar term 0 [] k numbers) (sym b) (subst (λ n. KeptSoFar term 0 [] [] n) (sym c) (nothing_yet term)))
+    subst (λ s. KeptSoFar term 0 s keys numbers) (sym a) (subst (λ k. KeptSoFar term 0 [] k numbers) (sym b) (subst (λ n. KeptSoFar term 0 [] [] n) (sym c)
+    (nothing_yet term)))
 
 -- what holds at each row
 pub record Invariant (term : List Step) (row : ℕ) (steps : List Step) (keys : List (List ℕ)) (numbers : List ℕ) : Type 0 where
@@ -231,7 +241,8 @@ first_row term steps keys numbers a b c = record {
   kept = none_yet term steps keys numbers a b c;
 }
 
-pub next_row : (term : List Step) (row : ℕ) (steps new : List Step) (keys new_keys : List (List ℕ)) (numbers : List ℕ) (n : ℕ) → Invariant term row steps keys numbers →
+pub next_row : (term : List Step) (row : ℕ) (steps new : List Step) (keys new_keys : List (List ℕ)) (numbers : List ℕ) (n : ℕ) →
+    Invariant term row steps keys numbers →
     length new ≤ length steps + 1 → length new_keys ≡ length new → KeptSoFar term (row + 1) new new_keys (numbers ++ n ∷ []) →
     Invariant term (row + 1) new new_keys (numbers ++ n ∷ [])
 next_row term row steps new keys new_keys numbers n was few count kept = record {

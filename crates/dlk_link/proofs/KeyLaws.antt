@@ -254,7 +254,8 @@ module _ (trees : List Tree) where
         let first : pair_at trees p ≡ pair_at trees q = cc in
         let rest : pairs_at trees ps ≡ pairs_at trees qs = cc in
         let s = ap (λ (x : TreePair). x.sym) first in
-        let id = one p.by q.by (All-head (λ (x : Pair). IsId trees x.by) p ps h) (All-head (λ (x : Pair). IsId trees x.by) q qs k) (ap (λ (x : TreePair). x.by) first) in
+        let id = one p.by q.by (All-head (λ (x : Pair). IsId trees x.by) p ps h) (All-head (λ (x : Pair). IsId trees x.by) q qs k) (ap (λ (x : TreePair). x.by)
+        first) in
         let below = pairs_of ps qs (All-tail (λ (x : Pair). IsId trees x.by) p ps h) (All-tail (λ (x : Pair). IsId trees x.by) q qs k) rest in
         λ i. record { sym = s i; by = id i } ∷ below i
 

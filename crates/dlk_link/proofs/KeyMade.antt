@@ -29,4 +29,9 @@ pub rule_key : (fact goal : ℕ) (rule : Rule) (s : Step) (old new : List ℕ) �
 rule_key fact goal rule s old new empty is adds trees h =
     let known : RuleIsKnown trees rule = subst (HasKnownIds trees) is h in
     let a = adds trees known in
-    subst (λ z. IsKey trees (step_at trees z) new) (sym is) (a.0, a.2, a.1 ∙ ap (λ l. l ++ (4 ∷ fact ∷ goal ∷ (counted (word_of (rule_at trees rule)) ++ a.0))) empty)
+    subst (λ z. IsKey trees (step_at trees z) new) (sym is) (
+      a.0,
+      a.2,
+      a.1 ∙ ap (λ l. l ++ (4 ∷ fact ∷ goal ∷ (counted (word_of (rule_at trees rule)) ++ a.0)))
+          empty,
+    )

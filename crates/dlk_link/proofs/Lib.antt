@@ -14,3 +14,4 @@ pub mod KeyMade
 pub mod Marks
 pub mod KeptSteps
 pub mod InTurn
+pub mod LinkedSteps

@@ -1,5 +1,6 @@
 -- Linked steps: what they end in, and what may speak against one.
-use Rattle.std.proofs.Common.{◌≡◌, refl, sym, ap, subst, ◌∙◌, ℕ, ◌+◌, List, [], ◌∷◌, ◌++◌, ◌⊎◌, inl, inr, length, map, arith, append_assoc, append-nil, length-append}
+use Rattle.std.proofs.Common.{◌≡◌, refl, sym, ap, subst, ◌∙◌, ℕ, ◌+◌, List, [], ◌∷◌, ◌++◌, ◌⊎◌, inl, inr, length, map, arith, append_assoc, append-nil}
+use Rattle.std.proofs.Common.{length-append}
 use Rattle.std.proofs.lemmas.Bool.{cases_lt}
 use Rattle.std.proofs.lemmas.List.{map-append}
 use Rattle.dlk_calculus.specs.declared.reason.Reason.{Reason}
@@ -150,7 +151,8 @@ record Ends (p q : Provable) (goals tail : List Sequent) (after : List Provable)
   between : List Sequent
   replaces : Replaces q.conclusion q.goals goals between
   goals_are : r.goals ≡ between ++ tail
-  last : ((¬ IsAmong q.conclusion goals) × (r ≡ p)) ⊎ (At after (length after) r × (new : List Sequent) × AreNew p.leaves q.leaves new × (r.leaves ≡ p.leaves ++ new))
+  last : ((¬ IsAmong q.conclusion goals) × (r ≡ p)) ⊎ (At after (length after) r × (new : List Sequent) × AreNew p.leaves q.leaves new × (r.leaves ≡ p.leaves
+      ++ new))
 
 last_row : (rows : List Provable) (p : Provable) → At (rows ++ p ∷ []) (length rows + 1) p
 last_row rows p = At-between rows p []
@@ -180,7 +182,17 @@ module _ (q : Provable) (by : ℕ) where
           replaces = replaces_stays q.conclusion s q.goals goals was.between ne was.replaces;
           goals_are = was.goals_are ∙ sym (append_assoc was.between (s ∷ []) tail);
           last = elim was.last [
-            | inl w ↦ inl (λ a. elim (among_either q.conclusion goals (s ∷ []) a) [ inl b ↦ w.0 b | inr b ↦ elim b [ inl same ↦ ne (sym same) | inr empty ↦ empty ] ], w.1)
+            | inl w ↦ inl (
+              λ a. elim (among_either q.conclusion goals (s ∷ []) a) [
+                | inl b ↦ w.0 b
+                | inr b ↦ elim b [
+                  | inl same ↦ ne (sym same)
+                  | inr empty ↦
+                      empty
+                ]
+              ],
+              w.1,
+            )
             | inr w ↦ inr w
           ];
         },
@@ -199,7 +211,8 @@ module _ (q : Provable) (by : ℕ) where
       let long : length now ≡ n + 1 = omega (arith, e, length-append rows (f.row ∷ [])) in
       let place : length rows + 1 ≡ n + 1 = omega (arith, e) in
       let at_row : At now (n + 1) f.row = subst (λ k. At now k f.row) place (last_row rows f.row) in
-      let both = joins_end now after (n + 1) (n + 1) goals (q.goals ++ tail) steps f.row at_row (At-more rows (f.row ∷ []) by q at_by) long m.goals_are joins f.others in
+      let both = joins_end now after (n + 1) (n + 1) goals (q.goals ++ tail) steps f.row at_row (At-more rows (f.row ∷ []) by q at_by) long m.goals_are joins
+      f.others in
       let was = both.0 in (
         record {
           r = was.r;
@@ -228,7 +241,8 @@ module _ (q : Provable) (by : ℕ) where
       among_last [] = inl refl
       among_last (x ∷ goals) = inr (among_last goals)
 
-  joins_fault : (rows : List Provable) (main n : ℕ) (goals tail : List Sequent) (steps : List Step) (p : Provable) (why : Reason) → At rows main p → At rows by q →
+  joins_fault : (rows : List Provable) (main n : ℕ) (goals tail : List Sequent) (steps : List Step) (p : Provable) (why : Reason) → At rows main p →
+      At rows by q →
       length rows ≡ n → p.goals ≡ goals ++ tail → Joins q.conclusion by main n goals steps → FirstFault rows steps why → IsLinkLimit why
   joins_fault rows main n _ tail _ p why at_main at_by e g no_goals fault = absurd (no_fault rows why fault)
   joins_fault rows main n _ tail _ p why at_main at_by e g (another {goals = goals} {s = s} {steps = steps} ne joins) fault =
@@ -272,10 +286,12 @@ module _ (term lemma steps : List Step) (rows others : List Provable) (p q : Pro
 
   pub linked_row : (after : List Provable) → IsAmong q.conclusion p.goals → Takes [] steps after → (r : Provable) × At after (length after) r × Joined p q r
   linked_row after some takes =
-      let behind_term = takes_on [] rows after term (map (behind (length term)) lemma ++ linked.joins) takes_term (subst (λ l. Takes [] l after) all_steps takes) in
+      let behind_term = takes_on [] rows after term (map (behind (length term)) lemma ++ linked.joins) takes_term (subst (λ l. Takes [] l after) all_steps
+      takes) in
       let behind_lemma = lemma_on rows others after lemma linked.joins (length term) term_count takes_lemma behind_term in
       let ends =
-      (joins_end q (length term + length lemma) (rows ++ others) after (length term) (length term + length lemma) p.goals [] linked.joins p main_there by_there count
+      (joins_end q (length term + length lemma) (rows ++ others) after (length term) (length term + length lemma) p.goals [] linked.joins p main_there by_there
+      count
       (sym (append-nil p.goals)) linked.joined behind_lemma).0 in
       elim ends.last [
         | inl w ↦ absurd (w.0 some)
@@ -295,10 +311,12 @@ module _ (term lemma steps : List Step) (rows others : List Provable) (p q : Pro
   pub linked_fault : ((rows : List Provable) (step : Step) (why other : Reason) → Fault rows step why → Fault rows step other → why ≡ other) →
       (why : Reason) → FirstFault [] steps why → IsLinkLimit why
   linked_fault one_fault why fault =
-      let behind_term = fault_on [] rows term (map (behind (length term)) lemma ++ linked.joins) why takes_term (subst (λ l. FirstFault [] l why) all_steps fault) in
+      let behind_term = fault_on [] rows term (map (behind (length term)) lemma ++ linked.joins) why takes_term (subst (λ l. FirstFault [] l why) all_steps
+      fault) in
       elim (lemma_fault_on one_fault rows others lemma linked.joins (length term) why term_count takes_lemma behind_term) [
         | inl lines ↦ subst IsLinkLimit (sym lines) tt
         | inr further ↦
-            joins_fault q (length term + length lemma) (rows ++ others) (length term) (length term + length lemma) p.goals [] linked.joins p why main_there by_there count
+            joins_fault q (length term + length lemma) (rows ++ others) (length term) (length term + length lemma) p.goals [] linked.joins p why main_there
+            by_there count
             (sym (append-nil p.goals)) linked.joined further
       ]

@@ -1,5 +1,6 @@
 -- The rows that the last one needs, found from the last one down.
-use Rattle.std.proofs.Common.{◌≡◌, ◌≢◌, refl, sym, ap, subst, ◌∙◌, ℕ, zero, suc, ◌+◌, ◌-◌, ◌<◌, ◌≤◌, Bool, true, false, List, [], ◌∷◌, ◌++◌, ◌⊎◌, inl, inr, length, map, take, arith, append-nil}
+use Rattle.std.proofs.Common.{◌≡◌, ◌≢◌, refl, sym, ap, subst, ◌∙◌, ℕ, zero, suc, ◌+◌, ◌-◌, ◌<◌, ◌≤◌, Bool, true, false, List, [], ◌∷◌, ◌++◌, ◌⊎◌, inl, inr}
+use Rattle.std.proofs.Common.{length, map, take, arith, append-nil}
 use Rattle.std.proofs.Common.{get_or, set, length-set, get_or-set_other, get_or-set_same, replicate, Option, Some, None}
 use Rattle.std.specs.List.{Contains}
 use Rattle.std.proofs.lemmas.Bool.{cases_order}
@@ -89,7 +90,8 @@ facts_join [] ys = refl
 facts_join (None ∷ xs) ys = facts_join xs ys
 facts_join (Some f ∷ xs) ys = ap (λ l. f ∷ l) (facts_join xs ys)
 
-pub facts_more : (facts : List (Option ℕ)) (i : ℕ) → i < length facts → facts_in (take (i + 1) facts) ≡ facts_in (take i facts) ++ facts_in (get_or facts i None ∷ [])
+pub facts_more : (facts : List (Option ℕ)) (i : ℕ) → i < length facts →
+    facts_in (take (i + 1) facts) ≡ facts_in (take i facts) ++ facts_in (get_or facts i None ∷ [])
 facts_more facts i lt = ap facts_in (take_more facts i None lt) ∙ facts_join (take i facts) (get_or facts i None ∷ [])
 
 pub fact_among : (facts : List (Option ℕ)) (i f : ℕ) → i < length facts → get_or facts i None ≡ Some f → Contains (facts_in facts) f
@@ -100,7 +102,8 @@ fact_among (None ∷ facts) (suc i) f lt e = fact_among facts i f (omega (arith,
 fact_among (Some g ∷ facts) (suc i) f lt e = let c = fact_among facts i f (omega (arith, lt)) e in let l = c.1 in (suc c.0, omega (arith, l), c.2)
 
 -- one fact more is looked at
-pub mark_next : (start marks new : List Bool) (facts : List (Option ℕ)) (i f : ℕ) → i < length facts → get_or facts i None ≡ Some f → 1 ≤ f → f - 1 < length marks →
+pub mark_next : (start marks new : List Bool) (facts : List (Option ℕ)) (i f : ℕ) → i < length facts → get_or facts i None ≡ Some f → 1 ≤ f →
+    f - 1 < length marks →
     Marks start marks (facts_in (take i facts)) → new ≡ set marks (f - 1) true → Marks start new (facts_in (take (i + 1) facts))
 mark_next start marks new facts i f lt e low high so_far is =
     let one : suc (f - 1) ≡ f = omega (arith, low) in
@@ -165,13 +168,15 @@ marked_last term marks n e size none =
     only_one n k (suc j, l, e) = absurd (omega (arith, l))
 
 -- what a step names can be marked
-pub facts_within : (term : List Step) (row : ℕ) (marks : List Bool) (s : Step) (facts : List ℕ) → NameEarlier term → length marks ≡ length term → row ≤ length term →
+pub facts_within : (term : List Step) (row : ℕ) (marks : List Bool) (s : Step) (facts : List ℕ) → NameEarlier term → length marks ≡ length term →
+    row ≤ length term →
     At term row s → facts ≡ facts_of (step_at [] s) → (fact : ℕ) → Contains facts fact → (1 ≤ fact) × (fact ≤ length marks)
 facts_within term row marks s facts earlier size reach here facts_are fact c =
     let b = earlier row s here fact (subst (λ l. Contains l fact) facts_are c) in
     let low = b.0 in let high = b.1 in (low, omega (arith, high, size, reach))
 
-pub row_marked : (term : List Step) (r : ℕ) (marks new : List Bool) (s : Step) (facts : List ℕ) → NameEarlier term → SoFar term (suc r) marks → At term (suc r) s →
+pub row_marked : (term : List Step) (r : ℕ) (marks new : List Bool) (s : Step) (facts : List ℕ) → NameEarlier term → SoFar term (suc r) marks →
+    At term (suc r) s →
     At marks (suc r) true → facts ≡ facts_of (step_at [] s) → Marks marks new facts → SoFar term r new
 row_marked term r marks new s facts earlier was here needed facts_are m = record {
   reach = let h = was.reach in omega (arith, h);
@@ -209,7 +214,8 @@ row_unmarked term r marks was needless = record {
 }
 
 -- the same, row by row down
-pub row_down : (term : List Step) (row : ℕ) (marks new : List Bool) (s : Step) (facts : List ℕ) → 0 < row → NameEarlier term → SoFar term row marks → At term row s →
+pub row_down : (term : List Step) (row : ℕ) (marks new : List Bool) (s : Step) (facts : List ℕ) → 0 < row → NameEarlier term → SoFar term row marks →
+    At term row s →
     At marks row true → facts ≡ facts_of (step_at [] s) → Marks marks new facts → SoFar term (row - 1) new
 row_down term zero marks new s facts some earlier was here needed facts_are m = absurd (omega (arith, some))
 row_down term (suc r) marks new s facts some earlier was here needed facts_are m =

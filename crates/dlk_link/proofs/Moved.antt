@@ -23,7 +23,8 @@ gives_moved rows others to step p there (merge fact goal by q r new row other he
     (there by r (contains_from_in (fact ∷ by ∷ []) by (inr (inl refl))) other) here are
 gives_moved rows others to step p there (substitute fact pairs q r row made formed free makes) =
     substitute (to fact) pairs q r (there fact q (contains_from_in (fact ∷ []) fact (inl refl)) row) made formed free makes
-gives_moved rows others to step p there (rename fact x y q row a b) = rename (to fact) x y q (there fact q (contains_from_in (fact ∷ []) fact (inl refl)) row) a b
+gives_moved rows others to step p there (rename fact x y q row a b) = rename (to fact) x y q (there fact q (contains_from_in (fact ∷ []) fact (inl refl)) row)
+    a b
 
 exceeds_back : (to : ℕ → ℕ) (step : Step) (p : Provable) (why : Reason) → Exceeds why (renumbered to step) p → Exceeds why step p
 exceeds_back to (Start s) p why (too_big h) = too_big h

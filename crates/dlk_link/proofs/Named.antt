@@ -1,5 +1,6 @@
 -- Each kept step but the last is named by a later one.
-use Rattle.std.proofs.Common.{◌≡◌, refl, sym, ap, subst, ◌∙◌, ℕ, zero, suc, ◌+◌, ◌<◌, ◌≤◌, List, [], ◌∷◌, ◌++◌, ◌⊎◌, inl, inr, length, arith, length-append, append-nil, get_or}
+use Rattle.std.proofs.Common.{◌≡◌, refl, sym, ap, subst, ◌∙◌, ℕ, zero, suc, ◌+◌, ◌<◌, ◌≤◌, List, [], ◌∷◌, ◌++◌, ◌⊎◌, inl, inr, length, arith, length-append}
+use Rattle.std.proofs.Common.{append-nil, get_or}
 use Rattle.std.proofs.lemmas.Option.{slice_get_within}
 use Rattle.std.proofs.lemmas.Bool.{cases_order}
 use Rattle.dlk_calculus.specs.Limits.{most_rows}
@@ -71,7 +72,8 @@ facts_before _ _ n step fact none h named = absurd (nowhere n h)
 facts_before _ _ n step fact (more {steps = steps} {mid = mid} {step = last} {p = p} takes gives) h named =
     at_end (facts_before steps mid n step fact takes) (at_either steps last step n h)
   where
-    at_end : (At steps n step → HasFact step fact → (1 ≤ fact) × (fact < n)) → (At steps n step ⊎ ((n ≡ length steps + 1) × (step ≡ last))) → (1 ≤ fact) × (fact < n)
+    at_end : (At steps n step → HasFact step fact → (1 ≤ fact) × (fact < n)) → (At steps n step ⊎ ((n ≡ length steps + 1) × (step ≡ last))) →
+        (1 ≤ fact) × (fact < n)
     at_end before (inl e) = before e named
     at_end before (inr e) =
         let found = fact_there mid last p fact gives.given (subst (λ s. HasFact s fact) e.1 named) in
@@ -86,7 +88,8 @@ record Shows (term read kept : List Step) (numbers : List ℕ) : Type 0 where
   onto : (k : ℕ) → 1 ≤ k → k ≤ length kept → (row : ℕ) × (step : Step) × IsNeeded term row × At read row step × (new_number numbers row ≡ k)
 
 -- with one number more, steps of before are moved as before
-moved_still : (read : List Step) (rows : List Provable) (numbers : List ℕ) (x row : ℕ) (step : Step) → length numbers ≡ length read → Takes [] read rows → At read row step →
+moved_still : (read : List Step) (rows : List Provable) (numbers : List ℕ) (x row : ℕ) (step : Step) → length numbers ≡ length read → Takes [] read rows →
+    At read row step →
     moved (numbers ++ x ∷ []) step ≡ moved numbers step
 moved_still read rows numbers x row step e takes h =
     same_moved (new_number (numbers ++ x ∷ [])) (new_number numbers) step (λ fact named. still fact (facts_before read rows row step fact takes h named))
@@ -98,7 +101,8 @@ moved_still read rows numbers x row step e takes h =
         old_number numbers x (suc f) read (get_or read f step) e (at_some read f step (omega (arith, lt, place)))
 
 -- the step that is read last
-moved_new : (read : List Step) (rows : List Provable) (numbers : List ℕ) (x : ℕ) (step : Step) → length numbers ≡ length read → Takes [] (read ++ step ∷ []) rows →
+moved_new : (read : List Step) (rows : List Provable) (numbers : List ℕ) (x : ℕ) (step : Step) → length numbers ≡ length read →
+    Takes [] (read ++ step ∷ []) rows →
     moved (numbers ++ x ∷ []) step ≡ moved numbers step
 moved_new read rows numbers x step e takes =
     same_moved (new_number (numbers ++ x ∷ [])) (new_number numbers) step
@@ -108,7 +112,8 @@ moved_new read rows numbers x step e takes =
     still zero b = let a = b.0 in absurd (omega (arith, a))
     still (suc f) b = let lt = b.1 in old_number numbers x (suc f) read (get_or read f step) e (at_some read f step (omega (arith, lt)))
 
-shows : (term read kept : List Step) (numbers : List ℕ) (rows : List Provable) → Takes [] read rows → Trims term read kept numbers → Shows term read kept numbers
+shows : (term read kept : List Step) (numbers : List ℕ) (rows : List Provable) → Takes [] read rows → Trims term read kept numbers →
+    Shows term read kept numbers
 shows term _ _ _ rows takes nothing_read = record {
   numbered = refl;
   stands = λ row step need h. absurd (nowhere row step h);
@@ -125,7 +130,8 @@ shows term _ kept _ rows takes (not_needed {read = read} {numbers = numbers} s b
       numbered = let n = was.numbered in omega (arith, n, length-append read (s ∷ []), length-append numbers (0 ∷ []));
       stands = λ row step need h. elim (at_either read s step row h) [
         | inl e ↦ subst (λ k. At kept k (moved (numbers ++ 0 ∷ []) step)) (sym (old_number numbers 0 row read step was.numbered e))
-            (subst (λ z. At kept (new_number numbers row) z) (sym (moved_still read last.mid numbers 0 row step was.numbered last.takes e)) (was.stands row step need e))
+            (subst (λ z. At kept (new_number numbers row) z) (sym (moved_still read last.mid numbers 0 row step was.numbered last.takes e)) (was.stands row
+            step need e))
         | inr e ↦ absurd (needless (subst (IsNeeded term) e.0 need))
       ];
       onto = λ k a b. let f = was.onto k a b in
@@ -138,13 +144,15 @@ shows term _ kept _ rows takes (kept_before {read = read} {numbers = numbers} s 
       numbered = let m = was.numbered in omega (arith, m, length-append read (s ∷ []), length-append numbers (n ∷ []));
       stands = λ row step need h. elim (at_either read s step row h) [
         | inl e ↦ subst (λ k. At kept k (moved (numbers ++ n ∷ []) step)) (sym (old_number numbers n row read step was.numbered e))
-            (subst (λ z. At kept (new_number numbers row) z) (sym (moved_still read last.mid numbers n row step was.numbered last.takes e)) (was.stands row step need e))
+            (subst (λ z. At kept (new_number numbers row) z) (sym (moved_still read last.mid numbers n row step was.numbered last.takes e)) (was.stands row
+            step need e))
         | inr e ↦
             let m = was.numbered in let place = e.0 in
             let its : row ≡ length numbers + 1 = omega (arith, place, m) in
             subst (λ k. At kept (new_number (numbers ++ n ∷ []) k) (moved (numbers ++ n ∷ []) step)) (sym its)
             (subst (λ k. At kept k (moved (numbers ++ n ∷ []) step)) (sym (last_number numbers n))
-            (subst (λ z. At kept n (moved (numbers ++ n ∷ []) z)) (sym e.1) (subst (λ z. At kept n z) (sym (moved_new read rows numbers n s was.numbered takes)) stands)))
+            (subst (λ z. At kept n (moved (numbers ++ n ∷ []) z)) (sym e.1) (subst (λ z. At kept n z) (sym (moved_new read rows numbers n s was.numbered
+            takes)) stands)))
       ];
       onto = λ k a b. let f = was.onto k a b in
           (f.0, f.1, f.2, at_more read (s ∷ []) f.0 f.1 f.3, old_number numbers n f.0 read f.1 was.numbered f.3 ∙ f.4);
@@ -188,7 +196,8 @@ shows term _ _ _ rows takes (is_kept {read = read} {kept = kept} {numbers = numb
 module _ (taken : (rows : List Provable) (step : Step) (p : Provable) → Gives rows step p → IsWithin step p → length rows < most_rows → StepOf rows step p)
     (as_taken : (rows : List Provable) (step : Step) (p : Provable) → StepOf rows step p → Gives rows step p × IsWithin step p × (length rows < most_rows))
     (one : (rows : List Provable) (step : Step) (p q : Provable) → Gives rows step p → Gives rows step q → p ≡ q) where
-  module _ (term kept : List Step) (numbers : List ℕ) (rows : List Provable) (takes : Takes [] term rows) (some : 1 ≤ length term) (trims : Trims term term kept numbers) where
+  module _ (term kept : List Step) (numbers : List ℕ) (rows : List Provable) (takes : Takes [] term rows) (some : 1 ≤ length term) (trims : Trims term term
+      kept numbers) where
     shown : Shows term term kept numbers
     shown = shows term term kept numbers rows takes trims
 
@@ -198,7 +207,8 @@ module _ (taken : (rows : List Provable) (step : Step) (p : Provable) → Gives 
     -- a fact has a smaller number than the row that names it
     smaller : (row fact : ℕ) (step : Step) → IsNeeded term row → At term row step → HasFact step fact → new_number numbers fact < new_number numbers row
     smaller row fact step need h named =
-        (facts_before kept kept_taken.kept_rows (new_number numbers row) (moved numbers step) (new_number numbers fact) kept_taken.takes (shown.stands row step need h)
+        (facts_before kept kept_taken.kept_rows (new_number numbers row) (moved numbers step) (new_number numbers fact) kept_taken.takes (shown.stands row step
+        need h)
         (names_moved (new_number numbers) step fact named)).1
 
     below_last : (row : ℕ) → IsNeeded term row → new_number numbers row ≤ new_number numbers (length term)
@@ -226,14 +236,21 @@ module _ (taken : (rows : List Provable) (step : Step) (p : Provable) → Gives 
         (later : ℕ) × (step : Step) × At kept later step × HasFact step (new_number numbers row) × (new_number numbers row < later)
     later_names _ the_last lt = let e = is_last in absurd (omega (arith, lt, e))
     later_names _ (is_named {row = row} {fact = fact} {step = step} need h named) lt =
-        let has = in_from_contains (facts_of step) fact named in
-        (new_number numbers row, moved numbers step, shown.stands row step need h, names_moved (new_number numbers) step fact has, smaller row fact step need h has)
+        let has = in_from_contains (facts_of step) fact named in (
+          new_number numbers row,
+          moved numbers step,
+          shown.stands row step need h,
+          names_moved (new_number numbers) step fact has,
+          smaller row fact step need h
+              has,
+        )
 
   pub last_kept : (term kept : List Step) (numbers : List ℕ) (rows : List Provable) → Takes [] term rows → 1 ≤ length term → Trims term term kept numbers →
       new_number numbers (length term) ≡ length kept
   last_kept term kept numbers rows takes some trims = is_last term kept numbers rows takes some trims
 
-  pub named_later : (term kept : List Step) (numbers : List ℕ) (rows : List Provable) → Takes [] term rows → 1 ≤ length term → Trims term term kept numbers → AreNamed kept
+  pub named_later : (term kept : List Step) (numbers : List ℕ) (rows : List Provable) → Takes [] term rows → 1 ≤ length term → Trims term term kept numbers →
+      AreNamed kept
   named_later term kept numbers rows takes some trims n a lt =
       let f = (shows term term kept numbers rows takes trims).onto n a (omega (arith, lt)) in
       let e = f.4 in

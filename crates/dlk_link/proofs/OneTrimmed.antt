@@ -14,7 +14,8 @@ not_none (y ∷ xs) x e = cc
 needed_as : (term read others : List Step) → read ≡ others → IsNeeded term (length read + 1) → IsNeeded term (length others + 1)
 needed_as term read others e need = subst (λ r. IsNeeded term (length r + 1)) e need
 
-at_as : (kept others : List Step) (m n : List ℕ) (s t : Step) (place : ℕ) → kept ≡ others → m ≡ n → s ≡ t → At kept place (moved m s) → At others place (moved n t)
+at_as : (kept others : List Step) (m n : List ℕ) (s t : Step) (place : ℕ) → kept ≡ others → m ≡ n → s ≡ t → At kept place (moved m s) →
+    At others place (moved n t)
 at_as kept others m n s t place a b c h =
     let same : moved m s ≡ moved n t = λ i. moved (b i) (c i) in subst (λ z. At others place z) same (subst (λ k. At k place (moved m s)) a h)
 

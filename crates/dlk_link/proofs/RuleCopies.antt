@@ -29,7 +29,8 @@ module _ {N : Type 0} (name : N → List ℕ) (rule : Rule) (word : RuleWord) (o
   }
 
 -- a rule on a goal, with a copy of the rule
-pub apply_copy : (fact goal : ℕ) (rule copy : Rule) (old : Step) → old ≡ step.Apply fact goal rule → IsSameRule rule copy → IsSameStep old (step.Apply fact goal copy)
+pub apply_copy : (fact goal : ℕ) (rule copy : Rule) (old : Step) → old ≡ step.Apply fact goal rule → IsSameRule rule copy →
+    IsSameStep old (step.Apply fact goal copy)
 apply_copy fact goal rule copy old is h =
     subst (λ s. IsSameStep s (step.Apply fact goal copy)) (sym is) (record {
       same = λ trees. ap (Apply fact goal) (h.same trees);

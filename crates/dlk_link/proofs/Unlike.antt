@@ -28,7 +28,8 @@ unlike term _ kept _ (kept_before {read = read} {numbers = numbers} s k before h
 unlike term _ _ _ (is_kept {read = read} {kept = kept} {numbers = numbers} s before h new) m n step a b =
     both (unlike term read kept numbers before) (at_either kept (moved numbers s) step m a) (at_either kept (moved numbers s) step n b)
   where
-    both : AreUnlike kept → (At kept m step ⊎ ((m ≡ length kept + 1) × (step ≡ moved numbers s))) → (At kept n step ⊎ ((n ≡ length kept + 1) × (step ≡ moved numbers s))) → m ≡ n
+    both : AreUnlike kept → (At kept m step ⊎ ((m ≡ length kept + 1) × (step ≡ moved numbers s))) →
+        (At kept n step ⊎ ((n ≡ length kept + 1) × (step ≡ moved numbers s))) → m ≡ n
     both below (inl x) (inl y) = below m n step x y
     both below (inl x) (inr y) = absurd (new (contains_from_in kept (moved numbers s) (subst (λ z. IsIn z kept) y.1 (at_in kept m step x))))
     both below (inr x) (inl y) = absurd (new (contains_from_in kept (moved numbers s) (subst (λ z. IsIn z kept) x.1 (at_in kept n step y))))

@@ -9,3 +9,4 @@ pub mod Marks
 pub mod Keyed
 pub mod Faults
 pub mod Ends
+pub mod Links

@@ -1,7 +1,9 @@
 //! Steps once more, with other numbers for their facts.
-ghost use Rattle.std.specs.Prelude.{◌≡◌, ℕ, ◌+◌, ◌≤◌, List, IfOk};
+ghost use Rattle.std.specs.Prelude.{◌≡◌, ℕ, ◌+◌, ◌≤◌, [], List, IfOk};
 ghost use Rattle.dlk_tree.specs.Trees.{Tree};
-ghost use Rattle.dlk_rules.specs.Facts.{renumbered};
+ghost use Rattle.std.specs.List.{Contains};
+ghost use Rattle.dlk_calculus.specs.Limits.{most_rows};
+ghost use Rattle.dlk_rules.specs.Facts.{facts_of, renumbered};
 ghost use Rattle.dlk_rules.specs.Steps.{rule_at, RuleIsKnown, step_at, HasKnownIds};
 ghost use Rattle.dlk_rules.specs.Words.{arguments_at, ArgumentsAreKnown};
 ghost use Rattle.dlk_link.specs.Trimmed.{new_number, moved};
@@ -13,7 +15,7 @@ use dlk_tree::Name;
 use std::alloc::{AllocError, Global};
 
 /// The same step once more.
-fn copied(alloc: Global, step: &Step) -> Result<Step, AllocError>
+pub(crate) fn copied(alloc: Global, step: &Step) -> Result<Step, AllocError>
     ensures { IfOk result (IsSameStep step.now) }
 {
     match step {
@@ -98,4 +100,15 @@ pub(crate) fn moved(alloc: Global, step: &Step, numbers: &[u32]) -> Result<Step,
 {
     let copy = copied(alloc, step)?;
     Ok(copy.renumbered(|row| new_number(numbers, row)))
+}
+
+/// The step once more, as it stands behind so many rows.
+pub(crate) fn behind(alloc: Global, step: &Step, rows: u32) -> Result<Step, AllocError>
+    requires few { (fact : ℕ) → Contains (facts_of (step_at [] step.now)) fact → fact ≤ most_rows }
+    requires room { rows ≤ most_rows }
+    ensures same { IfOk result (λ new. (trees : List Tree) → step_at trees new ≡ renumbered (λ fact. fact + rows) (step_at trees step.now)) }
+    ensures known { IfOk result (λ new. (trees : List Tree) → HasKnownIds trees step.now → HasKnownIds trees new) }
+{
+    let copy = copied(alloc, step)?;
+    Ok(copy.renumbered(|fact| fact + rows))
 }

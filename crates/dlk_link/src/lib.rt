@@ -5,6 +5,7 @@ mod copies;
 mod fault;
 mod key;
 mod laws;
+mod linking;
 mod needed;
 mod taking;
 mod trimming;
@@ -14,4 +15,5 @@ pub use laws::{
     linked_is_joined, moved_steps, neat_is_trimmed, one_linked, one_trimmed, trimmed_is_neat,
     trimmed_is_taken,
 };
+pub use linking::link;
 pub use trimming::trim;

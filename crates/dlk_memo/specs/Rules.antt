@@ -1,12 +1,14 @@
 -- When the rules of a substitution can be followed over a store, and the laws that they keep.
 use Rattle.std.proofs.Common.{◌≡◌, refl, sym, ap, subst, ◌∙◌, List, length, arith}
-use Rattle.std.specs.Prelude.{◌≤◌, All, if◌then◌else◌}
+use Rattle.std.specs.Prelude.{◌≤◌, All, if◌then◌else◌, Bool, nat_lt, ◌||◌}
+use Rattle.std.specs.List.{list_any}
 use Rattle.dlk_tree.specs.declared.op.Op.{Op}
-use Rattle.dlk_tree.specs.Trees.{Tree, node, Forest, kid, sort, WellMade}
-use Rattle.dlk_tree.specs.Occurs.{is_hole}
+use Rattle.dlk_tree.specs.Trees.{Tree, node, Forest, kid, sort, size, WellMade}
+use Rattle.dlk_tree.specs.Occurs.{is_hole, occurs}
 use Rattle.dlk_store.specs.declared.Id.{Id}
 use Rattle.dlk_store.specs.Stores.{IsId, tree, Keeps}
 use Rattle.dlk_store.specs.Rows.{GoesByRows}
+use Rattle.dlk_calculus.specs.Pairs.{Pair as TreePair}
 use Rattle.dlk_calculus.specs.Plug.{Plug, filled, filled_all}
 use Rattle.dlk_calculus.specs.Subst.{Subst}
 use Rattle.dlk_sequent.specs.declared.subst.Pair.{Pair}
@@ -92,3 +94,11 @@ ready_pairs_kept keeps pairs ready = record {
   known = pairs_kept keeps pairs ready.known;
   keeps_sort = subst (λ there. KeepsSort (Subst there)) (sym (pairs_same keeps pairs ready)) ready.keeps_sort;
 }
+
+-- the symbol of a pair occurs in the tree
+abbrev pub any_occurs : List TreePair → Tree → Bool
+any_occurs pairs t = list_any (λ (p : TreePair). occurs p.sym t) pairs
+
+-- or it isn't asked for: of more than 4 pairs, and in trees of fewer than 16 nodes
+abbrev pub may_occur : List TreePair → Tree → Bool
+may_occur pairs t = nat_lt 4 (length pairs) || nat_lt (size t) 16 || any_occurs pairs t

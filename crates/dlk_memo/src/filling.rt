@@ -1,5 +1,6 @@
 //! A formula in place of `_`.
 ghost use Rattle.dlk_tree.specs.Trees.{Tree};
+ghost use Rattle.dlk_tree.specs.Occurs.{has_hole};
 ghost use Rattle.dlk_store.specs.Stores.{tree};
 ghost use Rattle.dlk_memo.specs.Rules.{IsReadyFormula, Fills, FillsAll, FillsAt, filling, ready_formula_kept, formula_same};
 
@@ -30,6 +31,8 @@ impl Rule for Filling {
     ghost IsReady = { λ r trees. IsReadyFormula trees r.formula };
 
     ghost looks = { λ job. 0 };
+
+    ghost may_change = { λ f t. has_hole t };
 
     ghost rows = { filling };
 

@@ -50,6 +50,8 @@ impl Rule for Plugging<'_> {
 
     ghost looks = { λ job. 0 };
 
+    ghost may_change = { λ args t. has_dots t };
+
     ghost rows = { plugging };
 
     ghost ready_kept = { λ r old new keeps ready. ready_args_kept keeps r.args.now ready };

@@ -1,5 +1,5 @@
 //! What a walk makes of a node.
-ghost use Rattle.std.specs.Prelude.{◌≡◌, ◌+◌, ◌≤◌, ℕ, IsTrue, IfOk, All, Err, List, false};
+ghost use Rattle.std.specs.Prelude.{◌≡◌, ◌+◌, ◌≤◌, ℕ, Bool, IsTrue, IfOk, All, Err, List, false};
 ghost use Rattle.dlk_tree.specs.Table.{Fits};
 ghost use Rattle.dlk_tree.specs.Trees.{Tree, Forest, sort, WellMade};
 ghost use Rattle.dlk_tree.specs.declared.op.Op.{Op as TheOp};
@@ -34,10 +34,13 @@ pub(crate) trait Rule {
     /// How many looks it takes at a node, beside the one at the node.
     ghost looks: { Job → ℕ };
 
-    /// Whether it may change the tree. Where it doesn't, the tree is what it makes of it.
+    /// Whether it may change a tree, as far as that is asked for. Where it doesn't, the tree is what it makes of it.
+    ghost may_change: { Job → Tree → Bool };
+
     fn may_change<S: Store>(&self, store: &S, id: Id) -> bool
         requires ready { IsReady self.now (S.trees store.now) }
         requires known { IsId (S.trees store.now) id }
+        ensures asked { result ≡ may_change (job self.now (S.trees store.now)) (tree (S.trees store.now) id) }
         ensures stays { result ≡ false → Makes (job self.now (S.trees store.now)) (tree (S.trees store.now) id) (tree (S.trees store.now) id) };
 
     /// What it makes of the operator over old kids, of which it made the new ones.

@@ -1,8 +1,7 @@
 //! Replacements in place of symbols.
-ghost use Rattle.std.specs.Prelude.{◌≡◌, ◌+◌, ◌≤◌, ◌<◌, IsTrue, IfOk, All, Err, List, length, false};
+ghost use Rattle.std.specs.Prelude.{◌≡◌, ◌+◌, ◌≤◌, ◌<◌, IsTrue, IfOk, All, Err, List, length};
 ghost use Rattle.dlk_tree.specs.Trees.{sort};
 ghost use Rattle.dlk_tree.specs.Statics.{all};
-ghost use Rattle.dlk_tree.specs.Occurs.{occurs};
 ghost use Rattle.dlk_tree.specs.declared.op.Sort.TheVariants.{Formula};
 ghost use Rattle.dlk_store.specs.Stores.{IsId, tree, kid_trees};
 ghost use Rattle.dlk_calculus.specs.Kids.{first};
@@ -13,7 +12,7 @@ ghost use Rattle.dlk_sequent.specs.Substitutions.{pairs_at, AreKnownPairs};
 ghost use Rattle.dlk_subst.specs.Results.{IsResult, HasNone, args_at};
 ghost use Rattle.dlk_subst.specs.Rows.{SubstRow, substituting};
 ghost use Rattle.dlk_memo.specs.Looks.{subtrees, replacement_subtrees, distinct_count};
-ghost use Rattle.dlk_memo.specs.Rules.{AreReadyArgs, AreReadyPairs, ready_pairs_kept, pairs_same};
+ghost use Rattle.dlk_memo.specs.Rules.{AreReadyArgs, AreReadyPairs, ready_pairs_kept, pairs_same, any_occurs, may_occur};
 ghost use Rattle.dlk_sequent.specs.declared.fault.ApplyFault.TheVariants.{NotAdmissible};
 
 use crate::filling::Filling;
@@ -38,20 +37,25 @@ const MOST_ASKED: usize = 4;
 
 const LEAST_SIZE: u32 = 16;
 
-/// Whether the symbol of a pair may occur in the tree.
-fn may_occur<S: Store>(store: &S, pairs: &[Pair], id: Id) -> bool
+/// Whether the symbol of a pair occurs in the tree.
+fn any_occurs<S: Store>(store: &S, pairs: &[Pair], id: Id) -> bool
     requires { IsId (S.trees store.now) id }
-    ensures { result ≡ false → All (λ (p : Pair). occurs p.sym (tree (S.trees store.now) id) ≡ false) pairs.now }
+    ensures { result ≡ any_occurs (pairs_at (S.trees store.now) pairs.now) (tree (S.trees store.now) id) }
 {
-    if pairs.len() > MOST_ASKED || store.size(id) < LEAST_SIZE {
-        return true;
-    }
     for pair in pairs {
         if store.mentions(id, &pair.sym) {
             return true;
         }
     }
     false
+}
+
+/// Whether the symbol of a pair may occur in the tree, which is said to be so where asking would cost too much.
+fn may_occur<S: Store>(store: &S, pairs: &[Pair], id: Id) -> bool
+    requires { IsId (S.trees store.now) id }
+    ensures { result ≡ may_occur (pairs_at (S.trees store.now) pairs.now) (tree (S.trees store.now) id) }
+{
+    pairs.len() > MOST_ASKED || store.size(id) < LEAST_SIZE || any_occurs(store, pairs, id)
 }
 
 /// The replacement of a predicational, with the new kid in place of each `_`, where every variable is admissible for the kids of
@@ -116,6 +120,8 @@ impl Rule for Substituting<'_> {
     ghost IsReady = { λ r trees. AreReadyPairs trees r.pairs.now };
 
     ghost looks = { λ job. distinct_count (replacement_subtrees job) };
+
+    ghost may_change = { may_occur };
 
     ghost rows = { substituting };
 

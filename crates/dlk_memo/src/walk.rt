@@ -1,5 +1,5 @@
 //! A walk by a rule, with a table of results.
-ghost use Rattle.std.specs.Prelude.{◌≡◌, ◌+◌, ◌*◌, ◌≤◌, ◌⊎◌, IsTrue, IfOk, OnOk, OnErr, All, Err, None, Some, length};
+ghost use Rattle.std.specs.Prelude.{◌≡◌, ◌+◌, ◌*◌, ◌≤◌, ◌⊎◌, IsTrue, IfOk, OnOk, OnErr, All, Err, None, Some, length, false};
 ghost use Rattle.dlk_tree.specs.Table.{Fits};
 ghost use Rattle.dlk_tree.specs.Trees.{node, size};
 ghost use Rattle.dlk_store.specs.Stores.{IsId, tree, kid_trees, sorts_at};
@@ -93,6 +93,7 @@ fn walk<S: Store, L: Ledger, R: Rule>(
     ensures right { OnOk result (IsRight (R.Makes (R.job rule.now (S.trees store.old))) (S.trees store.new) done.new) }
     ensures opens { OnOk result (OpensNone done.old done.new) }
     ensures spends { Spends S.unique (1 + R.looks (R.job rule.now (S.trees store.old))) (tree (S.trees store.old) id) (S.trees store.new) done.old done.new steps.old steps.new }
+    ensures unlooked { R.may_change (R.job rule.now (S.trees store.old)) (tree (S.trees store.old) id) ≡ false → steps.new ≡ steps.old }
 {
     if !rule.may_change(store, id) {
         return Ok(id);
@@ -133,6 +134,7 @@ pub(crate) fn run<S: Store, L: Ledger, R: Rule>(
     ensures none { result ≡ Err NotAdmissible → HasNone (R.Makes (R.job rule.now (S.trees store.old)) (tree (S.trees store.old) id)) }
     ensures grows { S.grows store.old store.new }
     ensures cost { IsTrue S.unique → steps.new ≤ steps.old + distinct_count (subtrees (tree (S.trees store.old) id)) * (1 + R.looks (R.job rule.now (S.trees store.old))) }
+    ensures unlooked { R.may_change (R.job rule.now (S.trees store.old)) (tree (S.trees store.old) id) ≡ false → steps.new ≡ steps.old }
 {
     let mut done = Results::new(alloc);
     walk(alloc, store, rule, id, &mut done, steps)

@@ -1,6 +1,7 @@
 pub mod Verdicts
 pub mod FileLines
-pub mod Reached
-pub mod StepTaken
 pub mod SaidSteps
-pub mod Seen
+pub mod Reached
+pub mod Numbered
+pub mod Watching
+pub mod StepTaken

@@ -5,34 +5,48 @@ use Rattle.dlk_calculus.specs.Provables.{Provable}
 use Rattle.dlk_calculus.specs.Steps.{Step, StepOf}
 use Rattle.dlk_kernel.specs.Taken.{Takes}
 use Rattle.dlk_kernel.specs.Taken as took
-use Rattle.dlk_termtext.specs.Lines.{Numbered, Done, IsLine}
-use Rattle.dlk_replay.specs.Files.{SaysLine, StepLines, no_lines, one_more, no_row, accepted, Verdict, whole, SaySteps, done, more}
-use Rattle.dlk_replay.proofs.Verdicts.{not_done, same_step}
+use Rattle.dlk_replay.specs.Files.{Said, TakesStep, HasOtherNumber, TakesNone, EndsFile, Format, SaysLine, StepLines, no_lines, one_more, no_row, accepted, Verdict, whole, SaySteps, done, more, none, FileSteps}
+use Rattle.dlk_replay.proofs.Verdicts.{one_said}
 
 -- ---- one list of steps
 
--- what lines say, line by line
-abbrev SaysFrom : ℕ → List (List ℕ) → List Step → Type 0
-SaysFrom n [] steps = ⊥
-SaysFrom n (line ∷ lines) [] = IsLine line Done
-SaysFrom n (line ∷ lines) (step ∷ steps) = IsLine line (Numbered n step) × SaysFrom (n + 1) lines steps
+-- what steps there are, by what the first line says and by those of the other lines
+abbrev Goes : List (List ℕ) → List Step → (List Step → Type 0) → Said → Type 0
+Goes lines steps again (TakesStep step) = (rest : List Step) × (steps ≡ step ∷ rest) × again rest
+Goes lines steps again HasOtherNumber = ⊥
+Goes lines steps again TakesNone = again steps
+Goes lines steps again EndsFile = steps ≡ []
 
-says_from : (n : ℕ) (lines : List (List ℕ)) (steps : List Step) → SaySteps n lines steps → SaysFrom n lines steps
-says_from _ _ _ (done is) = is
-says_from _ _ _ (more {n} {line} {lines} {step} {steps} is others) = (is, says_from (n + 1) lines steps others)
+one_going : (lines : List (List ℕ)) (a b : List Step) (A B : List Step → Type 0) → ((x y : List Step) → A x → B y → x ≡ y) → (s : Said) →
+    Goes lines a A s → Goes lines b B s → a ≡ b
+one_going lines a b A B again (TakesStep step) x y = x.1 ∙ ap (λ rest. step ∷ rest) (again x.0 y.0 x.2 y.2) ∙ sym y.1
+one_going lines a b A B again HasOtherNumber x y = absurd x
+one_going lines a b A B again TakesNone x y = again a b x y
+one_going lines a b A B again EndsFile x y = x ∙ sym y
 
-one_from : (n : ℕ) (lines : List (List ℕ)) (a b : List Step) → SaysFrom n lines a → SaysFrom n lines b → a ≡ b
-one_from n [] a b x y = absurd x
-one_from n (line ∷ lines) [] [] x y = refl
-one_from n (line ∷ lines) [] (t ∷ b) x y = absurd (not_done line n t y.0 x)
-one_from n (line ∷ lines) (s ∷ a) [] x y = absurd (not_done line n s x.0 y)
-one_from n (line ∷ lines) (s ∷ a) (t ∷ b) x y =
-    let first : s ≡ t = same_step line n n s t x.0 y.0 in
-    let others : a ≡ b = one_from (n + 1) lines a b x.1 y.1 in
-    λ i. first i ∷ others i
+-- In a format in which a line says one thing, lines say one list of steps.
+module _ (Says : Format) (one_said : (before : List (List ℕ)) (line : List ℕ) (s t : Said) → Says before line s → Says before line t → s ≡ t) where
+  abbrev SaysFrom : List (List ℕ) → List (List ℕ) → List Step → Type 0
+  SaysFrom [] before steps = ⊥
+  SaysFrom (line ∷ lines) before steps = (s : Said) × Says before line s × Goes lines steps (λ rest. SaysFrom lines (before ++ line ∷ []) rest) s
 
-pub one_list_of_steps : (n : ℕ) (lines : List (List ℕ)) (a b : List Step) → SaySteps n lines a → SaySteps n lines b → a ≡ b
-one_list_of_steps n lines a b x y = one_from n lines a b (says_from n lines a x) (says_from n lines b y)
+  says_from : (before lines : List (List ℕ)) (steps : List Step) → SaySteps Says before lines steps → SaysFrom lines before steps
+  says_from _ _ _ (done is) = (EndsFile, is, refl)
+  says_from _ _ _ (more {before} {lines} {line} {step} {steps} is others) = (TakesStep step, is, (steps, refl, says_from (before ++ line ∷ []) lines steps others))
+  says_from _ _ _ (none {before} {lines} {line} {steps} is others) = (TakesNone, is, says_from (before ++ line ∷ []) lines steps others)
+
+  one_from : (lines before : List (List ℕ)) (a b : List Step) → SaysFrom lines before a → SaysFrom lines before b → a ≡ b
+  one_from [] before a b x y = absurd x
+  one_from (line ∷ lines) before a b x y =
+      let again : List Step → Type 0 = λ rest. SaysFrom lines (before ++ line ∷ []) rest in
+      let same : x.0 ≡ y.0 = one_said before line x.0 y.0 x.1 y.1 in
+      one_going lines a b again again (one_from lines (before ++ line ∷ [])) y.0 (subst (λ s. Goes lines a again s) same x.2) y.2
+
+  pub one_list : (before lines : List (List ℕ)) (a b : List Step) → SaySteps Says before lines a → SaySteps Says before lines b → a ≡ b
+  one_list before lines a b x y = one_from lines before a b (says_from before lines a x) (says_from before lines b y)
+
+pub one_list_of_steps : (before lines : List (List ℕ)) (a b : List Step) → SaySteps SaysLine before lines a → SaySteps SaysLine before lines b → a ≡ b
+one_list_of_steps before lines a b x y = one_list SaysLine one_said before lines a b x y
 
 -- ---- the steps of first lines
 
@@ -42,58 +56,67 @@ takes_many _ _ (took.more {steps} {mid} {step} {p} before given) =
     length_push steps step ∙ ap (λ n. n + 1) (takes_many steps mid before) ∙ sym (length_push mid p)
 
 -- first lines say these steps, which give these rows; what the lines behind them say comes behind
-pub record FrontSays (front : List (List ℕ)) (steps : List Step) (rows : List Provable) : Type 0 where
-  pub as_many : length front ≡ length rows
+pub record FrontSays (Says : Format) (front : List (List ℕ)) (steps : List Step) (rows : List Provable) : Type 0 where
   pub taken : Takes [] steps rows
-  pub said : (left : List (List ℕ)) (behind : List Step) → SaySteps (length front + 1) left behind → SaySteps 1 (front ++ left) (steps ++ behind)
+  pub said : (left : List (List ℕ)) (behind : List Step) → SaySteps Says front left behind → SaySteps Says [] (front ++ left) (steps ++ behind)
 
-pub front_none : FrontSays [] [] []
-front_none = record { as_many = refl; taken = took.none; said = λ left behind says. says }
+module _ (Says : Format) where
+  pub front_none : FrontSays Says [] [] []
+  front_none = record { taken = took.none; said = λ left behind says. says }
 
-pub front_more : (front : List (List ℕ)) (steps : List Step) (rows : List Provable) (line : List ℕ) (step : Step) (p : Provable) →
-    FrontSays front steps rows → IsLine line (Numbered (length front + 1) step) → StepOf rows step p →
-    FrontSays (front ++ line ∷ []) (steps ++ step ∷ []) (rows ++ p ∷ [])
-front_more front steps rows line step p f is given = record {
-  as_many = length_push front line ∙ ap (λ n. n + 1) f.as_many ∙ sym (length_push rows p);
-  taken = took.more f.taken given;
-  said = λ left behind says.
-      let others : SaySteps (length front + 1 + 1) left behind = subst (λ n. SaySteps (n + 1) left behind) (length_push front line) says in
-      let all : SaySteps 1 (front ++ line ∷ left) (steps ++ step ∷ behind) = f.said (line ∷ left) (step ∷ behind) (more is others) in
-      subst (λ ls. SaySteps 1 ls ((steps ++ step ∷ []) ++ behind)) (sym (append_assoc front (line ∷ []) left))
-      (subst (SaySteps 1 (front ++ line ∷ left)) (sym (append_assoc steps (step ∷ []) behind)) all);
-}
+  pub front_more : (front : List (List ℕ)) (steps : List Step) (rows : List Provable) (line : List ℕ) (step : Step) (p : Provable) →
+      FrontSays Says front steps rows → Says front line (TakesStep step) → StepOf rows step p →
+      FrontSays Says (front ++ line ∷ []) (steps ++ step ∷ []) (rows ++ p ∷ [])
+  front_more front steps rows line step p f is given = record {
+    taken = took.more f.taken given;
+    said = λ left behind says.
+        let all : SaySteps Says [] (front ++ line ∷ left) (steps ++ step ∷ behind) = f.said (line ∷ left) (step ∷ behind) (more is says) in
+        subst (λ ls. SaySteps Says [] ls ((steps ++ step ∷ []) ++ behind)) (sym (append_assoc front (line ∷ []) left))
+        (subst (SaySteps Says [] (front ++ line ∷ left)) (sym (append_assoc steps (step ∷ []) behind)) all);
+  }
 
-pub front_done : (front : List (List ℕ)) (steps : List Step) (rows : List Provable) (line : List ℕ) → FrontSays front steps rows → IsLine line Done →
-    SaySteps 1 (front ++ line ∷ []) steps
-front_done front steps rows line f is = subst (SaySteps 1 (front ++ line ∷ [])) (append-nil steps) (f.said (line ∷ []) [] (done is))
+  -- a line that gives no row says no step
+  front_skipped : (front : List (List ℕ)) (steps : List Step) (rows : List Provable) (line : List ℕ) → FrontSays Says front steps rows →
+      Says front line TakesNone → FrontSays Says (front ++ line ∷ []) steps rows
+  front_skipped front steps rows line f is = record {
+    taken = f.taken;
+    said = λ left behind says.
+        subst (λ ls. SaySteps Says [] ls (steps ++ behind)) (sym (append_assoc front (line ∷ []) left)) (f.said (line ∷ left) behind (none is says));
+  }
 
-pub front_many : (front : List (List ℕ)) (steps : List Step) (rows : List Provable) → FrontSays front steps rows → length steps ≡ length rows
-front_many front steps rows f = takes_many steps rows f.taken
+  pub front_done : (front : List (List ℕ)) (steps : List Step) (rows : List Provable) (line : List ℕ) → FrontSays Says front steps rows →
+      Says front line EndsFile → SaySteps Says [] (front ++ line ∷ []) steps
+  front_done front steps rows line f is = subst (SaySteps Says [] (front ++ line ∷ [])) (append-nil steps) (f.said (line ∷ []) [] (done is))
 
-front_says : (front : List (List ℕ)) (rows : List Provable) (last : ℕ) → StepLines SaysLine front rows last → (steps : List Step) × FrontSays front steps rows
-front_says _ _ _ no_lines = ([], front_none)
-front_says _ _ _ (one_more {lines} {rows} {last} {line} {step} {p} before is given) =
-    let said = front_says lines rows last before in
-    (said.0 ++ step ∷ [], front_more lines said.0 rows line step p said.1 is given)
-front_says _ _ _ (no_row before is) = absurd is
+  pub front_many : (front : List (List ℕ)) (steps : List Step) (rows : List Provable) → FrontSays Says front steps rows → length steps ≡ length rows
+  front_many front steps rows f = takes_many steps rows f.taken
+
+  front_says : (front : List (List ℕ)) (rows : List Provable) (last : ℕ) → StepLines Says front rows last → (steps : List Step) × FrontSays Says front steps rows
+  front_says _ _ _ no_lines = ([], front_none)
+  front_says _ _ _ (one_more {lines} {rows} {last} {line} {step} {p} before is given) =
+      let said = front_says lines rows last before in
+      (said.0 ++ step ∷ [], front_more lines said.0 rows line step p said.1 is given)
+  front_says _ _ _ (no_row {lines} {rows} {last} {line} before is) =
+      let said = front_says lines rows last before in
+      (said.0, front_skipped lines said.0 rows line said.1 is)
 
 -- ---- accepted files
 
 accepted_both : (lines : List (List ℕ)) (rows : List Provable) (last : ℕ) → Verdict lines (accepted rows last) →
-    (s : List Step) × SaySteps 1 lines s × Takes [] s rows
+    (s : List Step) × FileSteps lines s × Takes [] s rows
 accepted_both _ _ _ (whole {steps} {rows} {last} {line} is some ends) =
-    let said = front_says steps rows last is in
-    (said.0, front_done steps said.0 rows line said.1 ends, said.1.taken)
+    let said = front_says SaysLine steps rows last is in
+    (said.0, front_done SaysLine steps said.0 rows line said.1 ends, said.1.taken)
 
-pub accepted_says_steps : (lines : List (List ℕ)) (rows : List Provable) (last : ℕ) → Verdict lines (accepted rows last) → (s : List Step) × SaySteps 1 lines s
+pub accepted_says_steps : (lines : List (List ℕ)) (rows : List Provable) (last : ℕ) → Verdict lines (accepted rows last) → (s : List Step) × FileSteps lines s
 accepted_says_steps lines rows last is = let both = accepted_both lines rows last is in (both.0, both.1)
 
 pub accepted_takes_steps : (lines : List (List ℕ)) (rows : List Provable) (last : ℕ) (s : List Step) → Verdict lines (accepted rows last) →
-    SaySteps 1 lines s → Takes [] s rows
+    FileSteps lines s → Takes [] s rows
 accepted_takes_steps lines rows last s is says =
     let both = accepted_both lines rows last is in
-    subst (λ t. Takes [] t rows) (one_list_of_steps 1 lines both.0 s both.1 says) both.2
+    subst (λ t. Takes [] t rows) (one_list_of_steps [] lines both.0 s both.1 says) both.2
 
 pub accepted_as_many : (lines : List (List ℕ)) (rows : List Provable) (last : ℕ) (s : List Step) → Verdict lines (accepted rows last) →
-    SaySteps 1 lines s → length s ≡ length rows
+    FileSteps lines s → length s ≡ length rows
 accepted_as_many lines rows last s is says = takes_many s rows (accepted_takes_steps lines rows last s is says)

@@ -6,7 +6,7 @@ use Rattle.dlk_lines.specs.Numbers.{IsNumber, number}
 use Rattle.dlk_lines.specs.Lines.{use_axiom, merge, numbered}
 use Rattle.dlk_termtext.specs.Lines.{of_step}
 use Rattle.dlk_termtext.specs.Lines as line
-use Rattle.dlk_replay.specs.Files.{file_lines, SaySteps, done, more}
+use Rattle.dlk_replay.specs.Files.{file_lines, FileSteps, done, more}
 
 nothing : file_lines [] ≡ []
 nothing = refl
@@ -23,11 +23,11 @@ empty_lines : file_lines (10 ∷ 65 ∷ 10 ∷ 10 ∷ []) ≡ [] ∷ (65 ∷ [])
 empty_lines = refl
 
 -- `done` alone says no steps
-no_steps : SaySteps 1 (file_lines (codes "done")) []
+no_steps : FileSteps (file_lines (codes "done")) []
 no_steps = done line.done
 
 -- each line before it says one
-two_steps : SaySteps 1 (file_lines (codes "1 axiom DW" ++ 10 ∷ codes "2 merge 1 3 1" ++ 10 ∷ codes "done" ++ 10 ∷ [])) (UseAxiom (codes "DW") ∷ Merge 1 3 1 ∷ [])
+two_steps : FileSteps (file_lines (codes "1 axiom DW" ++ 10 ∷ codes "2 merge 1 3 1" ++ 10 ∷ codes "done" ++ 10 ∷ [])) (UseAxiom (codes "DW") ∷ Merge 1 3 1 ∷ [])
 two_steps = more (of_step (numbered one (use_axiom refl))) (more (of_step (numbered two (merge one three one))) (done line.done))
   where
     one : IsNumber (codes "1") 1

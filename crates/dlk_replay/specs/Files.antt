@@ -92,17 +92,30 @@ pub data Becomes (Says : Format) : List (List ℕ) → Answer → Type 0 where
       StepLines Says steps rows last → Says steps line (TakesStep step) → Fault rows step reason →
       Becomes Says (steps ++ line ∷ after) (bad (length steps + 1) (why.Step reason))
 
--- what becomes of a proof-term file, by its lines
+-- RowsOf Says lines rows: the rows that first lines of a file give; the line that ends it gives none.
+pub data RowsOf (Says : Format) : List (List ℕ) → List Provable → Type 0 where
+  of_steps : {steps : List (List ℕ)} {rows : List Provable} {last : ℕ} → StepLines Says steps rows last → RowsOf Says steps rows
+  of_all : {steps : List (List ℕ)} {rows : List Provable} {last : ℕ} {line : List ℕ} →
+      StepLines Says steps rows last → Says steps line EndsFile → RowsOf Says (steps ++ line ∷ []) rows
+
+-- SaySteps Says before lines steps: behind the lines before, these lines say these steps in turn, and the last line ends the file.
+pub data SaySteps (Says : Format) : List (List ℕ) → List (List ℕ) → List Step → Type 0 where
+  done : {before : List (List ℕ)} {line : List ℕ} → Says before line EndsFile → SaySteps Says before (line ∷ []) []
+  more : {before lines : List (List ℕ)} {line : List ℕ} {step : Step} {steps : List Step} →
+      Says before line (TakesStep step) → SaySteps Says (before ++ line ∷ []) lines steps → SaySteps Says before (line ∷ lines) (step ∷ steps)
+  none : {before lines : List (List ℕ)} {line : List ℕ} {steps : List Step} →
+      Says before line TakesNone → SaySteps Says (before ++ line ∷ []) lines steps → SaySteps Says before (line ∷ lines) steps
+
+-- ---- proof-term files
+
+-- what becomes of one, by its lines
 abbrev pub Verdict : List (List ℕ) → Answer → Type 0
 Verdict lines answer = Becomes SaysLine lines answer
 
--- RowsOf lines rows: the rows that first lines of a file give; `done` gives none.
-pub data RowsOf : List (List ℕ) → List Provable → Type 0 where
-  of_steps : {steps : List (List ℕ)} {rows : List Provable} {last : ℕ} → StepLines SaysLine steps rows last → RowsOf steps rows
-  of_all : {steps : List (List ℕ)} {rows : List Provable} {last : ℕ} {line : List ℕ} → StepLines SaysLine steps rows last → IsLine line Done → RowsOf (steps ++ line ∷ []) rows
+-- the rows that its first lines give
+abbrev pub FileRows : List (List ℕ) → List Provable → Type 0
+FileRows lines rows = RowsOf SaysLine lines rows
 
--- SaySteps n lines steps: these lines say these steps, numbered from n on, and the last line is `done`.
-pub data SaySteps : ℕ → List (List ℕ) → List Step → Type 0 where
-  done : {n : ℕ} {line : List ℕ} → IsLine line Done → SaySteps n (line ∷ []) []
-  more : {n : ℕ} {line : List ℕ} {lines : List (List ℕ)} {step : Step} {steps : List Step} →
-      IsLine line (Numbered n step) → SaySteps (n + 1) lines steps → SaySteps n (line ∷ lines) (step ∷ steps)
+-- the steps that its lines say
+abbrev pub FileSteps : List (List ℕ) → List Step → Type 0
+FileSteps lines steps = SaySteps SaysLine [] lines steps

@@ -4,18 +4,32 @@ ghost use Rattle.dlk_replay.specs.Files.{line_why_text};
 
 use dlk_calculus::Reason;
 use dlk_kernel::Fact;
+use dlk_rules::Step;
 use std::alloc::{AllocError, AllocFailed};
 use thiserror::Error;
 
 /// What an accepted file has shown.
 #[derive(Clone, Copy, Debug, PartialEq, Eq)]
-pub struct Outcome {
+pub struct Ending {
     /// The number of the last row.
     pub fact: Fact,
-    /// The number of lines of steps.
+    /// The number of rows, which is that of the lines of steps.
     pub lines: u32,
     /// The line of the last row, counted from 1.
     pub line: usize,
+}
+
+/// What an accepted file has shown, and the steps that its lines say.
+#[derive(Drop, Debug)]
+pub struct Outcome {
+    /// The number of the last row.
+    pub fact: Fact,
+    /// The number of rows, which is that of the lines of steps.
+    pub lines: u32,
+    /// The line of the last row, counted from 1.
+    pub line: usize,
+    /// The steps, one for each row, with ids of the kernel's store.
+    pub steps: Vec<Step>,
 }
 
 /// Why a line is not as it must be, in the order in which it is looked for.

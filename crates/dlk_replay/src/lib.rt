@@ -6,7 +6,7 @@ mod laws;
 mod replaying;
 mod taking;
 
-pub use fault::{LineWhy, Outcome, ReplayFault};
+pub use fault::{Ending, LineWhy, Outcome, ReplayFault};
 pub use laws::{
     accepted_derived, accepted_says_steps, one_list_of_steps, one_verdict, some_verdict,
 };

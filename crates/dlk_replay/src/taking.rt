@@ -24,24 +24,25 @@ pub(crate) enum Taken {
     Done,
 }
 
-/// Reads a line, and takes its step.
+/// Reads the line at this place of a file, and takes its step.
 pub(crate) fn take_line<S: Store, L: Ledger>(
     alloc: Global,
     line: &[u8],
+    place: usize,
     kernel: &mut Kernel<S>,
     steps: &mut Steps<L>,
 ) -> Result<Taken, ReplayFault>
     ensures taken { IfOk result (Takes (S.trees kernel.new.store) (facts S.trees kernel.old) line.now (facts S.trees kernel.new)) }
-    ensures fault { IfErr result (IsLineFault (facts S.trees kernel.old) line.now) }
+    ensures fault { IfErr result (IsLineFault place (facts S.trees kernel.old) line.now) }
     ensures err { OnErr result (facts S.trees kernel.new ≡ facts S.trees kernel.old) }
     ensures grows { S.grows kernel.old.store kernel.new.store }
 {
     step_stays();
-    let place = kernel.rows() as usize + 1;
+    let next = kernel.rows() + 1;
     match read_line(alloc, line, kernel) {
         Ok(Line::Done) => Ok(Taken::Done),
         Ok(Line::Step { number, step }) => {
-            if number as usize != place {
+            if number != next {
                 return Err(ReplayFault::Bad {
                     line: place,
                     why: LineWhy::WrongNumber,

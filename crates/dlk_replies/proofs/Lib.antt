@@ -1,3 +1,4 @@
 pub mod Fits
 pub mod TextAnswers
 pub mod CarriedOut
+pub mod Ends

@@ -4,3 +4,4 @@ pub mod Inputs
 pub mod Refusals
 pub mod Refused
 pub mod Shown
+pub mod Ended

@@ -2,12 +2,14 @@
 #![tactic(auto)]
 
 mod command;
+mod ended;
 mod fault;
 mod form;
 mod refusal;
 mod reply;
 
 pub use command::{Command, output};
+pub use ended::{Ended, answer_of, end_by};
 pub use fault::NoReply;
 pub use form::{Form, Last, Role, count_of};
 pub use refusal::{refuse_at, refuse_text, refused};

@@ -2,11 +2,12 @@ ghost use Rattle.std.specs.Prelude.{◌≡◌, ◌<◌, []};
 
 use super::same;
 use dlk_calculus::Reason;
-use dlk_guard::Guard;
+use dlk_guard::{Guard, Unwatched};
 use dlk_kernel::Kernel;
 use dlk_replay::LineWhy::{Malformed, NoEnd, WrongNumber};
 use dlk_replay::ReplayFault::Bad;
-use dlk_replay::{LineWhy, Outcome, ReplayFault, replay, replay_watched};
+use dlk_replay::{Ending, LineWhy, ReplayFault, replay, replay_watched};
+use dlk_rules::Step;
 use dlk_shared::SharedStore;
 use dlk_store::{Steps, Store};
 use std::alloc::Global;
@@ -15,16 +16,17 @@ use std::sync::ledger::{Blank, Ledger};
 use std::test::Fail;
 
 /// What becomes of a file, with nothing counted.
-fn uncounted<L: Ledger>(alloc: Global, file: &[u8], blank: Blank) -> Result<Outcome, ReplayFault>
+fn uncounted<L: Ledger>(alloc: Global, file: &[u8], blank: Blank) -> Result<Ending, ReplayFault>
     requires name { blank.name ≡ L.name }
     requires parts { blank.parts ≡ L.parts }
     requires some { 0 < blank.parts }
 {
     let mut kernel = Kernel::new(alloc, SharedStore::new(alloc));
-    replay(alloc, file, &mut kernel, &mut Steps::<L>::new(blank))
+    let mut steps = Steps::<L>::new(blank);
+    replay_watched(alloc, file, &mut kernel, &mut Unwatched, &mut steps)
 }
 
-fn fate(alloc: Global, file: &[u8]) -> Result<Outcome, ReplayFault> {
+fn fate(alloc: Global, file: &[u8]) -> Result<Ending, ReplayFault> {
     uncounted::<Brand>(alloc, file, Blank::new(1))
 }
 
@@ -60,8 +62,30 @@ fn refused_line(alloc: Global, file: &[u8]) -> Result<Option<usize>, ReplayFault
     uncounted_refusal::<Brand>(alloc, file, Blank::new(1))
 }
 
+/// The facts that the steps of an accepted file apply rules to, with nothing counted.
+fn uncounted_applied<L: Ledger>(alloc: Global, file: &[u8], blank: Blank) -> Option<Vec<u32>>
+    requires name { blank.name ≡ L.name }
+    requires parts { blank.parts ≡ L.parts }
+    requires some { 0 < blank.parts }
+{
+    let mut kernel = Kernel::new(alloc, SharedStore::new(alloc));
+    let mut steps = Steps::<L>::new(blank);
+    let outcome = replay(alloc, file, &mut kernel, &mut steps).ok()?;
+    let mut facts = Vec::new(alloc);
+    for step in &outcome.steps {
+        if let Step::Apply { fact, .. } = step {
+            facts.push(*fact).ok()?;
+        }
+    }
+    Some(facts)
+}
+
+fn applied(alloc: Global, file: &[u8]) -> Option<Vec<u32>> {
+    uncounted_applied::<Brand>(alloc, file, Blank::new(1))
+}
+
 /// What becomes of a file of three lines.
-const THREE: Outcome = Outcome {
+const THREE: Ending = Ending {
     fact: 3,
     lines: 3,
     line: 3,
@@ -136,6 +160,17 @@ fn replays_files(rt: HostRuntime) -> Result<(), Fail> {
         ),
     ] {
         same(&rt, fate(rt.alloc(), file.as_bytes()), *want, file);
+    }
+    Ok(())
+}
+
+#[test]
+fn keeps_steps(rt: HostRuntime) -> Result<(), Fail> {
+    let file = "1 start ==> x>=0 -> x>=0\n2 apply 1 1 implyR(1)\n3 apply 2 1 close(1,1)\ndone\n";
+    let kept = applied(rt.alloc(), file.as_bytes());
+    match kept {
+        Some(facts) => same(&rt, facts.as_slice() == [1, 2].as_slice(), true, file),
+        None => same(&rt, false, true, file),
     }
     Ok(())
 }

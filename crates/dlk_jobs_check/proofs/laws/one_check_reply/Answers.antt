@@ -5,4 +5,4 @@ pub returns-clause-checks : goal.returns-clause-checks
 returns-clause-checks c = one_check
 
 pub returns-clause-guards : goal.returns-clause-guards
-returns-clause-guards c = one_guard c.one_list_of_steps.ensures c.first_or_guarded.ensures.one
+returns-clause-guards c = one_guard c.first_or_guarded.ensures.one

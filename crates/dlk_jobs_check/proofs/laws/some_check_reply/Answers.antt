@@ -5,4 +5,4 @@ pub returns-clause-checks : goal.returns-clause-checks
 returns-clause-checks c = some_check
 
 pub returns-clause-guards : goal.returns-clause-guards
-returns-clause-guards c = some_guard c.accepted_says_steps.ensures.some c.first_or_guarded.ensures.some
+returns-clause-guards c = some_guard c.first_or_guarded.ensures.some

@@ -21,9 +21,11 @@ loop-fact-preserved c = elim c.match-fact.branch [
   | in-Some w ↦
       let b = c.requires w.in-Some.fact (fact_among c.args.facts.now c.loop-fact.fact-index w.in-Some.fact c.loop-fact-test.true w.in-Some.is) in
       let low = b.0 in let high = b.1 in let same = c.loop-fact.invariant.count in
-      mark_next c.args.marks.now.items c.loop-fact.marks.items c.match-fact.marks.items c.args.facts.now c.loop-fact.fact-index w.in-Some.fact c.loop-fact-test.true
+      mark_next c.args.marks.now.items c.loop-fact.marks.items c.match-fact.marks.items c.args.facts.now c.loop-fact.fact-index w.in-Some.fact
+      c.loop-fact-test.true
       w.in-Some.is low (omega (arith, low, high, same)) c.loop-fact.invariant (ap (λ (v : Vec Bool). v.items) w.marks-is)
   | in-None w ↦
-      skip_next c.args.marks.now.items c.loop-fact.marks.items c.match-fact.marks.items c.args.facts.now c.loop-fact.fact-index c.loop-fact-test.true w.in-None.is
+      skip_next c.args.marks.now.items c.loop-fact.marks.items c.match-fact.marks.items c.args.facts.now c.loop-fact.fact-index c.loop-fact-test.true
+      w.in-None.is
       c.loop-fact.invariant (ap (λ (v : Vec Bool). v.items) w.marks-is)
 ]

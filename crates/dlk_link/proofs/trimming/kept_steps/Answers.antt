@@ -10,7 +10,8 @@ use Rattle.dlk_link.proofs.trimming.kept_steps.Goals as goal
 
 pub loop-row-init : goal.loop-row-init
 loop-row-init c =
-    first_row c.args.term.now c.new.result.items c.new-2.result.keys c.in_ok-numbers.numbers.items c.new.ensures.items c.new-2.ensures.empty c.in_ok-numbers.ensures.items
+    first_row c.args.term.now c.new.result.items c.new-2.result.keys c.in_ok-numbers.numbers.items c.new.ensures.items c.new-2.ensures.empty
+    c.in_ok-numbers.ensures.items
 
 pub index-requires : goal.index-requires
 index-requires c =
@@ -31,21 +32,28 @@ loop-row-preserved c =
       | then-index+in_ok-step+in_ok-number w ↦
           let marked = read_index marks row c.index.result.now true within c.index.ensures w.if-index.true in
           let item = read_index term row w.index-term-row.result w.index-term-row.result lt w.index-term-row.is refl in
-          let same : (trees : List Tree) → step_at trees w.in_ok-step.step ≡ moved c.loop-row.numbers.items (step_at trees w.index-term-row.result) = λ trees. w.in_ok-step.ensures.same trees ∙ ap (λ n. moved n (step_at trees w.index-term-row.result)) w.deref.ensures.value in
-          let kept = row_kept term row lt c.loop-row.kept.steps.items c.loop-row.kept.keys.keys c.loop-row.numbers.items marks c.in_ok-marks.ensures inv.kept marked
-          w.index-term-row.result w.in_ok-step.step item same w.in_ok-step.ensures.known w.number.new.self.steps.items w.number.new.self.keys.keys w.in_ok-number.number
+          let same : (trees : List Tree) → step_at trees w.in_ok-step.step ≡ moved c.loop-row.numbers.items (step_at trees w.index-term-row.result) = λ trees.
+          w.in_ok-step.ensures.same trees ∙ ap (λ n. moved n (step_at trees w.index-term-row.result)) w.deref.ensures.value in
+          let kept = row_kept term row lt c.loop-row.kept.steps.items c.loop-row.kept.keys.keys c.loop-row.numbers.items marks c.in_ok-marks.ensures inv.kept
+          marked
+          w.index-term-row.result w.in_ok-step.step item same w.in_ok-step.ensures.known w.number.new.self.steps.items w.number.new.self.keys.keys
+          w.in_ok-number.number
           w.in_ok-number.ensures.number in
-          same_row term (row + 1) c.if-index.kept w.number.new.self c.loop-row.numbers.items c.push.new.self.items c.if-index.number w.in_ok-number.number w.kept-is w.number-is
+          same_row term (row + 1) c.if-index.kept w.number.new.self c.loop-row.numbers.items c.push.new.self.items c.if-index.number w.in_ok-number.number
+          w.kept-is w.number-is
           c.in_ok-push.ensures.items
-          (next_row term row c.loop-row.kept.steps.items w.number.new.self.steps.items c.loop-row.kept.keys.keys w.number.new.self.keys.keys c.loop-row.numbers.items
+          (next_row term row c.loop-row.kept.steps.items w.number.new.self.steps.items c.loop-row.kept.keys.keys w.number.new.self.keys.keys
+          c.loop-row.numbers.items
           w.in_ok-number.number inv w.in_ok-number.ensures.few w.in_ok-number.ensures.count kept)
       | else-index w ↦
           let unmarked = read_index marks row c.index.result.now false within c.index.ensures w.if-index.false in
-          let kept = row_left_out term row lt c.loop-row.kept.steps.items c.loop-row.kept.keys.keys c.loop-row.numbers.items marks c.in_ok-marks.ensures inv.kept
+          let kept = row_left_out term row lt c.loop-row.kept.steps.items c.loop-row.kept.keys.keys c.loop-row.numbers.items marks c.in_ok-marks.ensures
+          inv.kept
           (not_true marks (row + 1) unmarked) in
           same_row term (row + 1) c.if-index.kept c.loop-row.kept c.loop-row.numbers.items c.push.new.self.items c.if-index.number 0 w.kept-is w.number-is
           c.in_ok-push.ensures.items
-          (next_row term row c.loop-row.kept.steps.items c.loop-row.kept.steps.items c.loop-row.kept.keys.keys c.loop-row.kept.keys.keys c.loop-row.numbers.items 0 inv
+          (next_row term row c.loop-row.kept.steps.items c.loop-row.kept.steps.items c.loop-row.kept.keys.keys c.loop-row.kept.keys.keys
+          c.loop-row.numbers.items 0 inv
           (omega arith) inv.count kept)
     ]
 

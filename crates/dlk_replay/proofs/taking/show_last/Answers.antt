@@ -3,7 +3,7 @@ use Rattle.std.proofs.lemmas.List.{length-map}
 use Rattle.dlk_sequent.specs.Sequents.{sequent_at}
 use Rattle.dlk_rules.specs.Steps.{step_at}
 use Rattle.dlk_kernel.specs.Kernel.{facts}
-use Rattle.dlk_replay.proofs.Seen.{sees_last}
+use Rattle.dlk_replay.proofs.Watching.{sees_last}
 use Rattle.dlk_replay.proofs.taking.show_last.Goals as goal
 
 pub returns : goal.returns

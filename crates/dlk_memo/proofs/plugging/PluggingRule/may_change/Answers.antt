@@ -7,4 +7,4 @@ use Rattle.dlk_memo.proofs.plugging.PluggingRule.may_change.Goals as goal
 pub returns : goal.returns
 returns g c =
     let trees = g.S.Store.trees c.args.store.now in
-    record { stays = λ e. plug_itself (args_at trees c.args.self.now.args.now) (tree trees c.args.id) (sym c.has_dots.ensures ∙ e) }
+    record { asked = c.has_dots.ensures; stays = λ e. plug_itself (args_at trees c.args.self.now.args.now) (tree trees c.args.id) (sym c.has_dots.ensures ∙ e) }

@@ -1,0 +1,112 @@
+use Rattle.std.proofs.Common.{◌≡◌, ◌+◌, ◌-◌, ◌≤◌, length, map, sym, ap, ◌∙◌, arith}
+use Rattle.std.proofs.lemmas.List.{length-map}
+use Rattle.std.proofs.lemmas.List.Elements.{All-nil}
+use Rattle.std.proofs.lemmas.Result.{err_from_is_err_and}
+use Rattle.dlk_rules.specs.Steps.{step_at, HasKnownIds}
+use Rattle.dlk_kernel.specs.Kernel.{facts}
+use Rattle.dlk_replay.specs.Files.{file_lines}
+use Rattle.dlk_replay.proofs.FileLines.{no_lines_left}
+use Rattle.dlk_replay.proofs.Watching.{so_far_none, so_far_more, rows_more, line_fault, line_left, ends_short, short_left, ends_well, ends_shown, end_fault, end_left, steps_same, kept_step, kept_ids}
+use Rattle.dlk_replay.proofs.replaying.take_lines.Goals as goal
+
+pub loop-left-init : goal.loop-left-init
+loop-left-init g c = record {
+  so_far = rw (c.requires, c.new-kept.ensures.items) (so_far_none g.W.Watcher.after (file_lines c.args.bytes.now) c.args.keep c.args.watcher.now);
+  known = rw c.new-kept.ensures.items (All-nil (HasKnownIds (g.S.Store.trees c.args.kernel.now.store)));
+  room = omega arith;
+  grows = g.met.S.Store.grows_refl c.args.kernel.now.store;
+}
+
+pub returns-in_err-step-clause-bad : goal.returns-in_err-step-clause-bad
+returns-in_err-step-clause-bad g c =
+    let p = err_from_is_err_and c.from_residual.result c.from_residual.ensures.1 in
+    let so_far = rw c.first_line.ensures.lines at c.loop-left.invariant.so_far in
+    rw (p.1, p.2) (line_fault so_far _ c.in_err-step.ensures.fault)
+
+pub returns-in_err-step-clause-left : goal.returns-in_err-step-clause-left
+returns-in_err-step-clause-left g c =
+    let p = err_from_is_err_and c.from_residual.result c.from_residual.ensures.1 in
+    let so_far = rw c.first_line.ensures.lines at c.loop-left.invariant.so_far in
+    rw (p.1, p.2) (line_left so_far _ _ c.in_err-step.ensures.err c.in_err-step.ensures.fault)
+
+pub returns-in_err-show_last-in-Step-clause-left : goal.returns-in_err-show_last-in-Step-clause-left
+returns-in_err-show_last-in-Step-clause-left g c =
+    let p = err_from_is_err_and c.from_residual-in_err-show_last-in-Step.result c.from_residual-in_err-show_last-in-Step.ensures.1 in
+    let so_far = rw c.first_line.ensures.lines at c.loop-left.invariant.so_far in
+    let taken = rw c.in-Step.is at c.in_ok-step.ensures.taken in
+    rw (p.1, p.2) (c.loop-left.place + 1, rows_more so_far _ _ taken.1)
+
+pub returns-in_err-keep_step-in-Step-clause-left : goal.returns-in_err-keep_step-in-Step-clause-left
+returns-in_err-keep_step-in-Step-clause-left g c =
+    let p = err_from_is_err_and c.from_residual-in_err-keep_step-in-Step.result c.from_residual-in_err-keep_step-in-Step.ensures.1 in
+    let so_far = rw c.first_line.ensures.lines at c.loop-left.invariant.so_far in
+    let taken = rw c.in-Step.is at c.in_ok-step.ensures.taken in
+    rw (p.1, p.2) (c.loop-left.place + 1, rows_more so_far _ _ taken.1)
+
+pub loop-left-preserved : goal.loop-left-preserved
+loop-left-preserved g c =
+    let rows = facts g.S.Store.trees c.take_line.new.kernel in
+    let old = g.S.Store.trees c.loop-left.kernel.store in
+    let new = g.S.Store.trees c.take_line.new.kernel.store in
+    let keeps = g.met.S.Store.grows_keeps c.loop-left.kernel.store c.take_line.new.kernel.store c.take_line.ensures.grows in
+    let so_far = rw c.first_line.ensures.lines at c.loop-left.invariant.so_far in
+    let taken = rw c.in-Step.is at c.in_ok-step.ensures.taken in
+    let step = c.in-Step.step in
+    let kept = c.loop-left.kept.items in
+    let all = c.keep_step.new.kept.items in
+    let known = c.loop-left.invariant.known in
+    let more = kept_step old new keeps (c.step_stays.ensures.known old new) (c.step_stays.ensures.same old new) c.args.keep kept all step known c.in_ok-keep_step-in-Step.ensures in
+    record {
+      so_far = so_far_more so_far rows (step_at new step) (map (step_at new) all) c.show_last.new.watcher taken.1 c.in_ok-show_last-in-Step.ensures.seen more;
+      known = kept_ids old new keeps (c.step_stays.ensures.known old new) (c.step_stays.ensures.same old new) c.args.keep kept all step known taken.0 c.in_ok-keep_step-in-Step.ensures;
+      room = omega (arith, c.loop-left.invariant.room, c.first_line.ensures.less);
+      grows = g.met.S.Store.grows_trans c.args.kernel.now.store c.loop-left.kernel.store c.take_line.new.kernel.store c.loop-left.invariant.grows
+          c.take_line.ensures.grows;
+    }
+
+pub returns-in_err-end-in-Done-clause-bad : goal.returns-in_err-end-in-Done-clause-bad
+returns-in_err-end-in-Done-clause-bad g c =
+    let p = err_from_is_err_and c.from_residual-in_err-end-in-Done.result c.from_residual-in_err-end-in-Done.ensures.1 in
+    let so_far = rw c.first_line.ensures.lines at c.loop-left.invariant.so_far in
+    let taken = rw c.in-Done.is at c.in_ok-step.ensures.taken in
+    let count : c.rows.result ≡ length (facts g.S.Store.trees c.loop-left.kernel) = c.rows.ensures.count ∙ sym (length-map _ _) ∙ ap length taken.1 in
+    rw (p.1, p.2) (end_fault c.first_line.result.0.now c.first_line.result.1.now so_far taken.0 c.rows.result count _ c.in_err-end-in-Done.ensures.bad)
+
+pub returns-in_err-end-in-Done-clause-left : goal.returns-in_err-end-in-Done-clause-left
+returns-in_err-end-in-Done-clause-left g c =
+    let p = err_from_is_err_and c.from_residual-in_err-end-in-Done.result c.from_residual-in_err-end-in-Done.ensures.1 in
+    let so_far = rw c.first_line.ensures.lines at c.loop-left.invariant.so_far in
+    let taken = rw c.in-Done.is at c.in_ok-step.ensures.taken in
+    let count : c.rows.result ≡ length (facts g.S.Store.trees c.loop-left.kernel) = c.rows.ensures.count ∙ sym (length-map _ _) ∙ ap length taken.1 in
+    rw (p.1, p.2) (end_left c.first_line.result.0.now c.first_line.result.1.now so_far taken.0 c.rows.result count _ _ taken.1 c.in_err-end-in-Done.ensures.bad)
+
+pub returns-in-Done-clause-ok : goal.returns-in-Done-clause-ok
+returns-in-Done-clause-ok g c =
+    let ends = c.in_ok-end-in-Done.ensures.ok in
+    let taken = rw c.in-Done.is at c.in_ok-step.ensures.taken in
+    let so_far = rw (c.first_line.ensures.lines, ends.whole) at c.loop-left.invariant.so_far in
+    let count : c.rows.result ≡ length (facts g.S.Store.trees c.loop-left.kernel) = c.rows.ensures.count ∙ sym (length-map _ _) ∙ ap length taken.1 in
+    let some : 1 ≤ length (facts g.S.Store.trees c.loop-left.kernel) = omega (arith, ends.some, count) in
+    rw taken.1 (ends_well c.first_line.result.0.now so_far taken.0 some _ ends.line)
+
+pub returns-in-Done-clause-shows : goal.returns-in-Done-clause-shows
+returns-in-Done-clause-shows g c =
+    let ends = c.in_ok-end-in-Done.ensures.ok in
+    let old = g.S.Store.trees c.loop-left.kernel.store in
+    let new = g.S.Store.trees c.take_line.new.kernel.store in
+    let keeps = g.met.S.Store.grows_keeps c.loop-left.kernel.store c.take_line.new.kernel.store c.take_line.ensures.grows in
+    let same = steps_same old new keeps (c.step_stays.ensures.known old new) (c.step_stays.ensures.same old new) c.loop-left.kept.items c.loop-left.invariant.known in
+    let taken = rw c.in-Done.is at c.in_ok-step.ensures.taken in
+    let so_far = rw (c.first_line.ensures.lines, ends.whole) at c.loop-left.invariant.so_far in
+    rw taken.1 (ends_shown c.first_line.result.0.now so_far taken.0 _ same)
+
+pub returns-clause-bad : goal.returns-clause-bad
+returns-clause-bad g c =
+    let none = no_lines_left c.loop-left.left.now c.is_empty.result c.is_empty.ensures c.loop-left-test.false in
+    ends_short (rw none at c.loop-left.invariant.so_far)
+
+pub returns-clause-left : goal.returns-clause-left
+returns-clause-left g c =
+    let none = no_lines_left c.loop-left.left.now c.is_empty.result c.is_empty.ensures c.loop-left-test.false in
+    let before_it : c.loop-left.place + 1 - 1 ≡ c.loop-left.place = omega arith in
+    rw before_it (short_left (rw none at c.loop-left.invariant.so_far))
