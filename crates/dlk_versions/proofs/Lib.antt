@@ -1,0 +1,3 @@
+pub mod OneSaid
+pub mod RowsGiven
+pub mod WholeFile
