@@ -1,3 +1,5 @@
 pub mod OneSaid
 pub mod RowsGiven
 pub mod WholeFile
+pub mod TakenWritable
+pub mod FewNodes

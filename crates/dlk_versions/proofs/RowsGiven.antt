@@ -88,7 +88,8 @@ module _ (Other : Format) where
       Takes [] steps rows → (last : ℕ) × StepLines (SaysIn Other) lines rows last
   rows_given _ _ _ rows recorded.head taken =
       let e = none_taken [] rows taken refl in
-      (0, subst (λ r. StepLines (SaysIn Other) (head_line ∷ []) r 0) (sym e) (no_row {line = head_line} no_lines (in_two [] head_line TakesNone refl says_two.head)))
+      let one = no_row {line = head_line} no_lines (in_two [] head_line TakesNone refl says_two.head) in
+      (0, subst (λ r. StepLines (SaysIn Other) (head_line ∷ []) r 0) (sym e) one)
   rows_given _ _ _ rows (one_node {lines} {nodes} {steps} {line} {t} before is) taken =
       let w = rows_given lines nodes steps rows before taken in
       let said = node_said lines nodes (length steps) line t (recorded_state lines nodes steps before) is in
