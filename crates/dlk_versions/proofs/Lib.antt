@@ -1,4 +1,5 @@
 pub mod OneSaid
+pub mod SomeSaid
 pub mod RowsGiven
 pub mod WholeFile
 pub mod TakenWritable

@@ -4,7 +4,7 @@ use Rattle.std.specs.Prelude.{MatchBool, if◌then◌else◌}
 use Rattle.std.proofs.lemmas.List.{length_push}
 use Rattle.dlk_tree.specs.Trees.{Tree}
 use Rattle.dlk_calculus.specs.Steps.{Step}
-use Rattle.dlk_nodes.specs.Files.{Has, only_head, one_node, one_step}
+use Rattle.dlk_nodes.specs.Files.{head_line, Has, only_head, one_node, one_step}
 use Rattle.dlk_nodes.specs.Lines.{Line, OfNode, Numbered, IsLine}
 use Rattle.dlk_nodes.proofs.OneState.{one_state}
 use Rattle.dlk_nodes.proofs.OneLine.{one_line}
@@ -13,7 +13,7 @@ use Rattle.dlk_replay.proofs.Verdicts as version_one
 use Rattle.dlk_versions.specs.Formats.{said_of, SaysNodeOrStep, head, behind_head, has_head, SaysInFile}
 
 -- a line behind a state
-record Behind (before : List (List ℕ)) (text : List ℕ) (s : Said) : Type 0 where
+pub record Behind (before : List (List ℕ)) (text : List ℕ) (s : Said) : Type 0 where
   pub nodes : List Tree
   pub steps : ℕ
   pub line : Line
@@ -21,18 +21,18 @@ record Behind (before : List (List ℕ)) (text : List ℕ) (s : Said) : Type 0 w
   pub is : IsLine nodes text line
   pub said_is : s ≡ said_of (length nodes) steps line
 
-said_parts : (before : List (List ℕ)) (text : List ℕ) (s : Said) → SaysNodeOrStep before text s → ((before ≡ []) × (s ≡ TakesNone)) ⊎ Behind before text s
-said_parts _ _ _ head = inl (refl, refl)
+pub said_parts : (before : List (List ℕ)) (text : List ℕ) (s : Said) → SaysNodeOrStep before text s → ((before ≡ []) × (s ≡ TakesNone) × (text ≡ head_line)) ⊎ Behind before text s
+said_parts _ _ _ head = inl (refl, refl, refl)
 said_parts _ _ _ (behind_head {before} {nodes} {steps} {text} line has is) =
     inr (record { nodes = nodes; steps = steps; line = line; has = has; is = is; said_is = refl })
 
 -- what has a state has a line
-has_some : (before : List (List ℕ)) (nodes : List Tree) (steps : ℕ) → Has before nodes steps → 1 ≤ length before
+pub has_some : (before : List (List ℕ)) (nodes : List Tree) (steps : ℕ) → Has before nodes steps → 1 ≤ length before
 has_some _ _ _ only_head = omega arith
 has_some _ _ _ (one_node {before} {line = line} first is) = let long = length_push before line in omega (arith, long)
 has_some _ _ _ (one_step {before} {line = line} first is) = let long = length_push before line in omega (arith, long)
 
-not_first : (before : List (List ℕ)) (text : List ℕ) (s : Said) → before ≡ [] → Behind before text s → ⊥
+pub not_first : (before : List (List ℕ)) (text : List ℕ) (s : Said) → before ≡ [] → Behind before text s → ⊥
 not_first before text s e b =
     let some = has_some before b.nodes b.steps b.has in
     let none : length before ≡ 0 = ap length e in
@@ -47,7 +47,8 @@ one_behind before text s t a b =
 pub one_said_in_two : (before : List (List ℕ)) (text : List ℕ) (s t : Said) → SaysNodeOrStep before text s → SaysNodeOrStep before text t → s ≡ t
 one_said_in_two before text s t a b = by_cases (said_parts before text s a) (said_parts before text t b)
   where
-    by_cases : ((before ≡ []) × (s ≡ TakesNone)) ⊎ Behind before text s → ((before ≡ []) × (t ≡ TakesNone)) ⊎ Behind before text t → s ≡ t
+    by_cases : ((before ≡ []) × (s ≡ TakesNone) × (text ≡ head_line)) ⊎ Behind before text s →
+        ((before ≡ []) × (t ≡ TakesNone) × (text ≡ head_line)) ⊎ Behind before text t → s ≡ t
     by_cases (inl a) (inl b) = a.1 ∙ sym b.1
     by_cases (inl a) (inr b) = absurd (not_first before text t a.0 b)
     by_cases (inr a) (inl b) = absurd (not_first before text s b.0 a)

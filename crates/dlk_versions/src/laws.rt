@@ -1,9 +1,11 @@
 //! The laws of both versions of term files. Each is a contract of a function that does nothing.
-ghost use Rattle.std.specs.Prelude.{◌≡◌, ℕ, ◌≤◌, List, [], length};
+ghost use Rattle.std.specs.Prelude.{◌≡◌, ◌⊎◌, ℕ, ◌≤◌, List, [], length};
 ghost use Rattle.dlk_tree.specs.Trees.{Tree};
 ghost use Rattle.dlk_calculus.specs.Provables.{Provable};
 ghost use Rattle.dlk_calculus.specs.Steps.{Step};
 ghost use Rattle.dlk_kernel.specs.Taken.{Takes};
+ghost use Rattle.dlk_lines.specs.Laws.{SaysOrNot};
+ghost use Rattle.dlk_lines.specs.Spelled.{ByNodes};
 ghost use Rattle.dlk_nodes.specs.Recorded.{Records};
 ghost use Rattle.dlk_nodes.specs.TermFiles.{all_nodes, first_lines, term_text, AreWritable};
 ghost use Rattle.dlk_replay.specs.Files.{Said, Answer, accepted, StepLines, Becomes, SaySteps, file_lines};
@@ -13,6 +15,11 @@ ghost use Rattle.dlk_versions.specs.Formats.{SaysNodeOrStep, SaysInFile};
 pub fn one_said()
     ensures two { (before : List (List ℕ)) (line : List ℕ) (s t : Said) → SaysNodeOrStep before line s → SaysNodeOrStep before line t → s ≡ t }
     ensures file { (before : List (List ℕ)) (line : List ℕ) (s t : Said) → SaysInFile before line s → SaysInFile before line t → s ≡ t }
+{}
+
+/// A line of version 2 says something or nothing, where by the numbers of nodes that is so of sequents, formulas and pairs.
+pub fn some_said()
+    ensures { ((nodes : List Tree) → SaysOrNot (ByNodes nodes)) → (before : List (List ℕ)) (line : List ℕ) → ((s : Said) × SaysNodeOrStep before line s) ⊎ ((s : Said) → ¬ SaysNodeOrStep before line s) }
 {}
 
 /// One thing becomes of a file.
