@@ -21,7 +21,8 @@ pub record Behind (before : List (List ℕ)) (text : List ℕ) (s : Said) : Type
   pub is : IsLine nodes text line
   pub said_is : s ≡ said_of (length nodes) steps line
 
-pub said_parts : (before : List (List ℕ)) (text : List ℕ) (s : Said) → SaysNodeOrStep before text s → ((before ≡ []) × (s ≡ TakesNone) × (text ≡ head_line)) ⊎ Behind before text s
+pub said_parts : (before : List (List ℕ)) (text : List ℕ) (s : Said) → SaysNodeOrStep before text s →
+    ((before ≡ []) × (s ≡ TakesNone) × (text ≡ head_line)) ⊎ Behind before text s
 said_parts _ _ _ head = inl (refl, refl, refl)
 said_parts _ _ _ (behind_head {before} {nodes} {steps} {text} line has is) =
     inr (record { nodes = nodes; steps = steps; line = line; has = has; is = is; said_is = refl })
