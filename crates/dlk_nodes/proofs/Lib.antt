@@ -24,3 +24,8 @@ pub mod OneSequent
 pub mod SymbolBack
 pub mod OnePairs
 pub mod OneState
+pub mod FlatLines
+pub mod OneLine
+pub mod PartsRead
+pub mod Recordings
+pub mod TermRecorded

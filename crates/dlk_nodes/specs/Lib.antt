@@ -10,3 +10,6 @@ pub mod Terms
 pub mod Tables
 pub mod Examples
 pub mod Files
+pub mod Lines
+pub mod Recorded
+pub mod TermFiles

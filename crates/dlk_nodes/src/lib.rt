@@ -5,6 +5,7 @@ mod adding;
 mod calls;
 mod details;
 mod fault;
+pub mod file_laws;
 mod items;
 pub mod laws;
 mod literals;
