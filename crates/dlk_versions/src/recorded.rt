@@ -6,7 +6,7 @@ ghost use Rattle.dlk_kernel.specs.Taken.{Takes};
 ghost use Rattle.dlk_nodes.specs.TermFiles.{all_nodes, first_lines, term_text, AreWritable};
 ghost use Rattle.dlk_recorder.specs.Terms.{HasSymbols};
 ghost use Rattle.dlk_replay.specs.Files.{accepted, Becomes, SaySteps, file_lines};
-ghost use Rattle.dlk_versions.specs.Formats.{SaysInFile};
+ghost use Rattle.dlk_replay.specs.Formats.{SaysInFile};
 
 /// Steps that are taken in turn may be written by the numbers of their nodes, where what their pairs replace are symbols.
 pub fn taken_steps_are_writable()

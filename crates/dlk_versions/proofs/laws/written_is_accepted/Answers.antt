@@ -1,4 +1,4 @@
-use Rattle.dlk_replay.specs.Files.{SaysLine}
+use Rattle.dlk_replay.specs.Formats.{SaysLine}
 use Rattle.dlk_versions.proofs.WholeFile as law
 use Rattle.dlk_versions.proofs.laws.written_is_accepted.Goals as goal
 

@@ -10,11 +10,11 @@ use Rattle.dlk_nodes.specs.Files.{head_line}
 use Rattle.dlk_nodes.specs.Recorded.{Records, one_node, one_step}
 use Rattle.dlk_nodes.specs.Recorded as recorded
 use Rattle.dlk_nodes.proofs.Recordings.{recorded_state}
-use Rattle.dlk_replay.specs.Files.{Said, TakesStep, TakesNone, Format, StepLines, no_lines, one_more, no_row, SaySteps}
+use Rattle.dlk_replay.specs.Files.{StepLines, no_lines, one_more, no_row, SaySteps}
+use Rattle.dlk_replay.specs.Formats.{Said, TakesStep, TakesNone, Format, SaysNodeOrStep, has_head, SaysIn}
 use Rattle.dlk_replay.specs.Files as file
-use Rattle.dlk_versions.specs.Formats.{SaysNodeOrStep, has_head, SaysIn}
-use Rattle.dlk_versions.specs.Formats as says_two
-use Rattle.dlk_versions.proofs.OneSaid.{node_said, step_said}
+use Rattle.dlk_replay.specs.Formats as says_two
+use Rattle.dlk_replay.proofs.OneSaid.{node_said, step_said}
 
 -- ---- the last of several
 
