@@ -6,14 +6,19 @@ use Rattle.dlk_rules.specs.Steps.{step_at, HasKnownIds}
 use Rattle.dlk_kernel.specs.Kernel.{facts}
 use Rattle.dlk_replay.specs.Files.{file_lines}
 use Rattle.dlk_replay.proofs.FileLines.{no_lines_left}
-use Rattle.dlk_replay.proofs.Watching.{so_far_none, so_far_more, rows_more, line_fault, line_left, ends_short, short_left, ends_well, ends_shown, end_fault, end_left, steps_same, kept_step, kept_ids}
+use Rattle.dlk_replay.proofs.Watching.{begins_known, so_far_none, so_far_more, so_far_node, rows_more, line_fault, line_left, ends_short, short_left, ends_well, ends_shown, end_fault, end_left, steps_same, kept_step, kept_ids}
 use Rattle.dlk_replay.proofs.replaying.take_lines.Goals as goal
 
 pub loop-left-init : goal.loop-left-init
-loop-left-init g c = record {
-  so_far = rw (c.requires, c.new-kept.ensures.items) (so_far_none g.W.Watcher.after (file_lines c.args.bytes.now) c.args.keep c.args.watcher.now);
+loop-left-init g c =
+  let all = file_lines c.args.bytes.now in
+  let left = file_lines c.begin.result.1.now in
+  let trees = g.S.Store.trees c.args.kernel.now.store in
+  record {
+  so_far = rw (c.requires, c.new-kept.ensures.items) (so_far_none g.W.Watcher.after all left c.begin.result.2 trees c.begin.result.0 c.args.keep c.args.watcher.now c.begin.ensures.begins);
+  nodes = begins_known trees all left c.begin.result.2 c.begin.result.0 c.begin.ensures.begins;
   known = rw c.new-kept.ensures.items (All-nil (HasKnownIds (g.S.Store.trees c.args.kernel.now.store)));
-  room = omega arith;
+  room = c.begin.ensures.room;
   grows = g.met.S.Store.grows_refl c.args.kernel.now.store;
 }
 
@@ -57,7 +62,8 @@ loop-left-preserved g c =
     let known = c.loop-left.invariant.known in
     let more = kept_step old new keeps (c.step_stays.ensures.known old new) (c.step_stays.ensures.same old new) c.args.keep kept all step known c.in_ok-keep_step-in-Step.ensures in
     record {
-      so_far = so_far_more so_far rows (step_at new step) (map (step_at new) all) c.show_last.new.watcher taken.1 c.in_ok-show_last-in-Step.ensures.seen more;
+      so_far = so_far_more so_far new c.take_line.new.version rows (step_at new step) (map (step_at new) all) c.show_last.new.watcher keeps c.loop-left.invariant.nodes taken.1 taken.2 c.in_ok-show_last-in-Step.ensures.seen more;
+      nodes = c.in_ok-step.ensures.nodes;
       known = kept_ids old new keeps (c.step_stays.ensures.known old new) (c.step_stays.ensures.same old new) c.args.keep kept all step known taken.0 c.in_ok-keep_step-in-Step.ensures;
       room = omega (arith, c.loop-left.invariant.room, c.first_line.ensures.less);
       grows = g.met.S.Store.grows_trans c.args.kernel.now.store c.loop-left.kernel.store c.take_line.new.kernel.store c.loop-left.invariant.grows
