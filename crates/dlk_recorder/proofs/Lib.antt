@@ -1,4 +1,7 @@
-pub mod OneLine
 pub mod Writable
-pub mod Accepted
+pub mod OneSaid
+pub mod RowsGiven
+pub mod WholeFile
+pub mod TakenWritable
+pub mod FewNodes
 pub mod Kept

@@ -1,18 +1,13 @@
--- The term file of steps.
-use Rattle.std.specs.Prelude.{◌≡◌, ℕ, ◌+◌, true, List, [], ◌∷◌, ◌++◌, All, codes}
+-- The term file of steps, and what its steps are to be.
+pub use Rattle.dlk_nodes.specs.TermFiles.{first_lines, term_text}
+use Rattle.std.specs.Prelude.{◌≡◌, ℕ, true, List, length, All}
 use Rattle.dlk_tree.specs.Table.{is_sym}
 use Rattle.dlk_calculus.specs.Pairs.{Pair}
 use Rattle.dlk_calculus.specs.Steps.{Step, Start, UseAxiom, UseRule, Leaf, Apply, Merge, Substitute, Rename}
-use Rattle.dlk_termtext.specs.Written.{line_text}
 
--- the written lines of steps, numbered from this number on, each with a line feed behind it
-abbrev pub lines_text : ℕ → List Step → List ℕ
-lines_text number [] = []
-lines_text number (step ∷ steps) = line_text number step ++ 10 ∷ lines_text (number + 1) steps
-
--- the canonical term file of steps: their lines, numbered from 1 on, and `done`
-abbrev pub term_text : List Step → List ℕ
-term_text steps = lines_text 1 steps ++ codes "done\n"
+-- the line of the last of the steps in their term file, which is the one before `done`
+abbrev pub last_line : List Step → ℕ
+last_line steps = length (first_lines steps)
 
 -- What is replaced in a step's pairs are symbols: their names are names, and their arity and their taboo are those of their kind.
 abbrev pub HasSymbols : Step → Type 0

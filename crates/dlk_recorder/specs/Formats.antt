@@ -1,0 +1,32 @@
+-- The formats of term files: version 2, and both versions by the first line of the file.
+use Rattle.std.specs.Prelude.{ℕ, ◌+◌, ◌==◌, Bool, if◌then◌else◌, List, [], ◌∷◌, length, MatchBool}
+use Rattle.std.specs.Str.{bytes_eq}
+use Rattle.dlk_tree.specs.Trees.{Tree}
+use Rattle.dlk_nodes.specs.Files.{head_line, Has}
+use Rattle.dlk_nodes.specs.Lines.{Line, OfNode, Numbered, Done, IsLine}
+use Rattle.dlk_replay.specs.Files.{Said, TakesStep, HasOtherNumber, TakesNone, EndsFile, Format, SaysLine}
+
+-- What a line says behind so many nodes and so many steps: each kind is numbered from 1 on, and a node gives no row.
+abbrev pub said_of : ℕ → ℕ → Line → Said
+said_of nodes steps (OfNode number t) = if number == nodes + 1 then TakesNone else HasOtherNumber
+said_of nodes steps (Numbered number step) = if number == steps + 1 then TakesStep step else HasOtherNumber
+said_of nodes steps Done = EndsFile
+
+-- the format of version 2: the head, and behind it nodes and steps in any order
+pub data SaysNodeOrStep : List (List ℕ) → List ℕ → Said → Type 0 where
+  head : SaysNodeOrStep [] head_line TakesNone
+  behind_head : {before : List (List ℕ)} {nodes : List Tree} {steps : ℕ} {text : List ℕ} (line : Line) →
+      Has before nodes steps → IsLine nodes text line → SaysNodeOrStep before text (said_of (length nodes) steps line)
+
+-- whether the first line, of those before or this one itself, is the head of version 2
+abbrev pub has_head : List (List ℕ) → List ℕ → Bool
+has_head [] line = bytes_eq line head_line
+has_head (first ∷ before) line = bytes_eq first head_line
+
+-- version 2 where the file has its head, and else the other format
+abbrev pub SaysIn : Format → Format
+SaysIn Other before line said = MatchBool (has_head before line) (SaysNodeOrStep before line said) (Other before line said)
+
+-- the format of term files of both versions
+abbrev pub SaysInFile : Format
+SaysInFile = SaysIn SaysLine
