@@ -6,7 +6,7 @@ use Rattle.std.proofs.lemmas.Slice.Eq.{strip_prefix_is}
 use Rattle.dlk_nodes.specs.Tables.{nodes_at}
 use Rattle.dlk_nodes.proofs.Refusals.{fault_of_whole}
 use Rattle.dlk_nodes.proofs.ReadNode.{no_number, no_node, line_is}
-use Rattle.dlk_nodes.proofs.node.read_node_line.Goals as goal
+use Rattle.dlk_nodes.proofs.node.node_line.Goals as goal
 
 pub returns-in_default-number-clause-fault : goal.returns-in_default-number-clause-fault
 returns-in_default-number-clause-fault g c =
