@@ -12,9 +12,9 @@ use Rattle.dlk_nodes.specs.Recorded as recorded
 use Rattle.dlk_nodes.proofs.Recordings.{recorded_state}
 use Rattle.dlk_replay.specs.Files.{Said, TakesStep, TakesNone, Format, StepLines, no_lines, one_more, no_row, SaySteps}
 use Rattle.dlk_replay.specs.Files as file
-use Rattle.dlk_recorder.specs.Formats.{SaysNodeOrStep, has_head, SaysIn}
-use Rattle.dlk_recorder.specs.Formats as says_two
-use Rattle.dlk_recorder.proofs.OneSaid.{node_said, step_said}
+use Rattle.dlk_replay.specs.Formats.{SaysNodeOrStep, has_head, SaysIn}
+use Rattle.dlk_replay.specs.Formats as says_two
+use Rattle.dlk_replay.proofs.OneSaid.{node_said, step_said}
 
 -- ---- the last of several
 

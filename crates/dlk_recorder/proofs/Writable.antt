@@ -26,7 +26,7 @@ use Rattle.dlk_calculus.proofs.LimitLaws.{taken_as_given, step_limited}
 use Rattle.dlk_readback.specs.Readable.{IsWithinLimits, IsReadablePair}
 use Rattle.dlk_lines.specs.Numbers.{IsLineNumber}
 use Rattle.dlk_termtext.specs.Written.{IsReadableFormula, IsReadableSequent, IsWritableRule, IsWritable}
-use Rattle.dlk_recorder.specs.Terms.{HasSymbols}
+use Rattle.dlk_replay.specs.Symbols.{HasSymbols}
 
 -- a place among few
 place_number : {A : Type 0} (items : List A) (place most : ℕ) → length items ≤ most → most ≤ 999999999 → IsPlace items place → IsLineNumber place

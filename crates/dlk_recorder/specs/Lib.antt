@@ -1,3 +1,2 @@
 pub mod Terms
 pub mod Recorded
-pub mod Formats

@@ -3,7 +3,6 @@
 
 mod laws;
 mod recording;
-mod stub;
 
 pub use laws::{nodes_are_fewer_than_bytes, recorded_is_accepted, taken_steps_are_writable};
 pub use recording::{Recorded, record};

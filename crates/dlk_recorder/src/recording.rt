@@ -5,8 +5,7 @@ ghost use Rattle.dlk_rules.specs.Steps.{step_at, HasKnownIds};
 ghost use Rattle.dlk_recorder.specs.Terms.{term_text};
 ghost use Rattle.dlk_recorder.specs.Recorded.{IsRecorded};
 
-use crate::stub::write_step;
-use dlk_nodes::NodeTable;
+use dlk_nodes::{NodeTable, write_step};
 use dlk_print::{PrintFault, append};
 use dlk_rules::Step;
 use dlk_store::{Steps, Store};
