@@ -1,5 +1,4 @@
 pub mod Writable
-pub mod RowsGiven
 pub mod WholeFile
 pub mod TakenWritable
 pub mod FewNodes

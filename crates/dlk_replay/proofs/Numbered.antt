@@ -5,7 +5,8 @@ use Rattle.dlk_calculus.specs.Steps.{Step}
 use Rattle.dlk_termtext.specs.Lines.{Line, Numbered, Done, IsLine}
 use Rattle.dlk_replay.specs.declared.fault.LineWhy.{LineWhy}
 use Rattle.dlk_replay.specs.declared.fault.LineWhy.TheVariants as why
-use Rattle.dlk_replay.specs.Files.{Said, TakesStep, HasOtherNumber, TakesNone, EndsFile, SaysLine, StepLines}
+use Rattle.dlk_replay.specs.Files.{StepLines}
+use Rattle.dlk_replay.specs.Formats.{Said, TakesStep, HasOtherNumber, TakesNone, EndsFile, SaysLine}
 use Rattle.dlk_replay.specs.Replay.{IsBadLine}
 use Rattle.dlk_replay.proofs.Reached.{IsWrong}
 use Rattle.dlk_replay.proofs.Verdicts.{as_many}

@@ -5,7 +5,8 @@ use Rattle.dlk_calculus.specs.Provables.{Provable}
 use Rattle.dlk_calculus.specs.Steps.{Step, Adds, Fault}
 use Rattle.dlk_replay.specs.declared.fault.LineWhy.{LineWhy}
 use Rattle.dlk_replay.specs.declared.fault.LineWhy.TheVariants as why
-use Rattle.dlk_replay.specs.Files.{Said, TakesStep, HasOtherNumber, EndsFile, Format, StepLines, no_lines, one_more, accepted, bad, Becomes, whole, ended, unread, done_first, done_before, misnumbered, faulty, RowsOf, of_steps, of_all, SaySteps}
+use Rattle.dlk_replay.specs.Files.{StepLines, no_lines, one_more, accepted, bad, Becomes, whole, ended, unread, done_first, done_before, misnumbered, faulty, RowsOf, of_steps, of_all, SaySteps}
+use Rattle.dlk_replay.specs.Formats.{Said, TakesStep, HasOtherNumber, EndsFile, Format}
 use Rattle.dlk_replay.proofs.SaidSteps.{FrontSays, front_none, front_more, front_done}
 
 -- the lines before those that are left, as many as the place: they say these steps, which gave these rows, the last of them at this line

@@ -5,7 +5,8 @@ use Rattle.dlk_calculus.specs.Provables.{Provable}
 use Rattle.dlk_calculus.specs.Steps.{Step, StepOf}
 use Rattle.dlk_kernel.specs.Taken.{Takes}
 use Rattle.dlk_kernel.specs.Taken as took
-use Rattle.dlk_replay.specs.Files.{Said, TakesStep, HasOtherNumber, TakesNone, EndsFile, Format, SaysLine, StepLines, no_lines, one_more, no_row, accepted, Verdict, whole, SaySteps, done, more, none, FileSteps}
+use Rattle.dlk_replay.specs.Files.{StepLines, no_lines, one_more, no_row, accepted, Verdict, whole, SaySteps, done, more, none, FileSteps}
+use Rattle.dlk_replay.specs.Formats.{Said, TakesStep, HasOtherNumber, TakesNone, EndsFile, Format, SaysLine}
 use Rattle.dlk_replay.proofs.Verdicts.{one_said}
 
 -- ---- one list of steps

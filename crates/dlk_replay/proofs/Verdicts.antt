@@ -14,7 +14,8 @@ use Rattle.dlk_calculus.proofs.Histories.{History-none, History-more}
 use Rattle.dlk_termtext.specs.Lines.{Line, Numbered, Done, IsLine}
 use Rattle.dlk_termtext.proofs.LineLaws.{one_line, line_proper, some_line}
 use Rattle.dlk_replay.specs.declared.fault.LineWhy.TheVariants as why
-use Rattle.dlk_replay.specs.Files.{Said, TakesStep, HasOtherNumber, TakesNone, EndsFile, Format, SaysLine, StepLines, no_lines, one_more, no_row, Answer, accepted, bad, Becomes, Verdict, whole, ended, unread, done_first, done_before, misnumbered, faulty}
+use Rattle.dlk_replay.specs.Files.{StepLines, no_lines, one_more, no_row, Answer, accepted, bad, Becomes, Verdict, whole, ended, unread, done_first, done_before, misnumbered, faulty}
+use Rattle.dlk_replay.specs.Formats.{Said, TakesStep, HasOtherNumber, TakesNone, EndsFile, Format, SaysLine}
 
 pub steps_history : (Says : Format) (lines : List (List ℕ)) (rows : List Provable) (last : ℕ) → StepLines Says lines rows last → History rows
 steps_history Says _ _ _ no_lines = History-none

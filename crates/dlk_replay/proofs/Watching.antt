@@ -19,7 +19,8 @@ use Rattle.dlk_guard.specs.Watched.{after_all}
 use Rattle.dlk_replay.specs.declared.fault.LineWhy.TheVariants as why
 use Rattle.dlk_replay.specs.declared.fault.ReplayFault.{ReplayFault}
 use Rattle.dlk_replay.specs.declared.fault.ReplayFault.TheVariants.{Bad, Memory}
-use Rattle.dlk_replay.specs.Files.{file_lines, SaysLine, FileRows, Verdict, accepted, bad}
+use Rattle.dlk_replay.specs.Files.{file_lines, FileRows, Verdict, accepted, bad}
+use Rattle.dlk_replay.specs.Formats.{SaysLine}
 use Rattle.dlk_replay.specs.Replay.{IsReplayFaultOf, LeavesRows, IsLineFault, IsNextStep, SeesLast, kept_of, Shows, EndsWrong}
 use Rattle.dlk_replay.proofs.SaidSteps.{front_many}
 use Rattle.dlk_replay.proofs.FileLines.{some_line}

@@ -1,7 +1,7 @@
 use Rattle.std.proofs.Common.{◌≤◌, List, [], length, arith}
 use Rattle.dlk_calculus.specs.Steps.{Step}
 use Rattle.dlk_nodes.specs.TermFiles.{all_nodes, term_text}
-use Rattle.dlk_replay.specs.Files.{SaysLine}
+use Rattle.dlk_replay.specs.Formats.{SaysLine}
 use Rattle.dlk_recorder.proofs.FewNodes.{few_nodes}
 use Rattle.dlk_recorder.proofs.TakenWritable.{taken_steps_writable}
 use Rattle.dlk_recorder.proofs.WholeFile as law

@@ -8,9 +8,9 @@ use Rattle.dlk_nodes.specs.Files.{head_line, Has, only_head, one_node, one_step}
 use Rattle.dlk_nodes.specs.Lines.{Line, OfNode, Numbered, IsLine}
 use Rattle.dlk_nodes.proofs.OneState.{one_state}
 use Rattle.dlk_nodes.proofs.OneLine.{one_line}
-use Rattle.dlk_replay.specs.Files.{Said, TakesStep, HasOtherNumber, TakesNone, Answer, Becomes, SaysLine}
+use Rattle.dlk_replay.specs.Files.{Answer, Becomes}
+use Rattle.dlk_replay.specs.Formats.{Said, TakesStep, HasOtherNumber, TakesNone, SaysLine, said_of, SaysNodeOrStep, head, behind_head, has_head, SaysInFile}
 use Rattle.dlk_replay.proofs.Verdicts as version_one
-use Rattle.dlk_versions.specs.Formats.{said_of, SaysNodeOrStep, head, behind_head, has_head, SaysInFile}
 
 -- a line behind a state
 pub record Behind (before : List (List ℕ)) (text : List ℕ) (s : Said) : Type 0 where

@@ -10,9 +10,8 @@ use Rattle.dlk_nodes.specs.Files.{head_line, Has, only_head, one_node, one_step}
 use Rattle.dlk_nodes.specs.Lines.{Line, OfNode, Numbered, Done, IsLine, of_node, of_step}
 use Rattle.dlk_nodes.proofs.OneState.{one_state}
 use Rattle.dlk_nodes.proofs.OneLine.{one_line, some_line, line_says}
-use Rattle.dlk_replay.specs.Files.{Said, TakesNone}
-use Rattle.dlk_versions.specs.Formats.{said_of, SaysNodeOrStep, head, behind_head}
-use Rattle.dlk_versions.proofs.OneSaid.{said_parts, has_some}
+use Rattle.dlk_replay.specs.Formats.{Said, TakesNone, said_of, SaysNodeOrStep, head, behind_head}
+use Rattle.dlk_replay.proofs.OneSaid.{said_parts, has_some}
 
 -- lines that go on from a state
 
