@@ -1,5 +1,5 @@
 -- A line says at most one thing.
-use Rattle.std.proofs.Common.{◌≡◌, ℕ, ◌+◌, ◌≤◌, Bool, true, false, List, [], length, refl, sym, ap, subst, ◌∙◌, ◌⊎◌, inl, inr, arith, eq-eqb}
+use Rattle.std.proofs.Common.{◌≡◌, ℕ, ◌+◌, ◌≤◌, Bool, true, false, List, [], ◌∷◌, ◌++◌, length, refl, sym, ap, subst, ◌∙◌, ◌⊎◌, inl, inr, arith, eq-eqb}
 use Rattle.std.specs.Prelude.{MatchBool, if◌then◌else◌}
 use Rattle.std.proofs.lemmas.List.{length_push}
 use Rattle.dlk_tree.specs.Trees.{Tree}
@@ -8,9 +8,8 @@ use Rattle.dlk_nodes.specs.Files.{head_line, Has, only_head, one_node, one_step}
 use Rattle.dlk_nodes.specs.Lines.{Line, OfNode, Numbered, IsLine}
 use Rattle.dlk_nodes.proofs.OneState.{one_state}
 use Rattle.dlk_nodes.proofs.OneLine.{one_line}
-use Rattle.dlk_replay.specs.Files.{Answer, Becomes}
-use Rattle.dlk_replay.specs.Formats.{Said, TakesStep, HasOtherNumber, TakesNone, SaysLine, said_of, SaysNodeOrStep, head, behind_head, has_head, SaysInFile}
-use Rattle.dlk_replay.proofs.Verdicts as version_one
+use Rattle.dlk_replay.specs.Formats.{Said, TakesStep, HasOtherNumber, TakesNone, SaysLine, said_of, SaysNodeOrStep, head, behind_head, begins_two, SaysInFile}
+use Rattle.dlk_replay.proofs.VersionOne as version_one
 
 -- a line behind a state
 pub record Behind (before : List (List ℕ)) (text : List ℕ) (s : Said) : Type 0 where
@@ -56,15 +55,12 @@ one_said_in_two before text s t a b = by_cases (said_parts before text s a) (sai
     by_cases (inr a) (inr b) = one_behind before text s t a b
 
 pub one_said_in_file : (before : List (List ℕ)) (text : List ℕ) (s t : Said) → SaysInFile before text s → SaysInFile before text t → s ≡ t
-one_said_in_file before text s t a b = by_head (has_head before text) a b
+one_said_in_file before text s t a b = by_head (begins_two (before ++ text ∷ [])) a b
   where
     by_head : (h : Bool) → MatchBool h (SaysNodeOrStep before text s) (SaysLine before text s) →
         MatchBool h (SaysNodeOrStep before text t) (SaysLine before text t) → s ≡ t
     by_head true a b = one_said_in_two before text s t a b
     by_head false a b = version_one.one_said before text s t a b
-
-pub one_verdict : (lines : List (List ℕ)) (a b : Answer) → Becomes SaysInFile lines a → Becomes SaysInFile lines b → a ≡ b
-one_verdict lines a b x y = version_one.one_becomes SaysInFile one_said_in_file lines a b x y
 
 -- ---- lines with their own numbers
 

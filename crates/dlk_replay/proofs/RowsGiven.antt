@@ -11,7 +11,7 @@ use Rattle.dlk_nodes.specs.Recorded.{Records, one_node, one_step}
 use Rattle.dlk_nodes.specs.Recorded as recorded
 use Rattle.dlk_nodes.proofs.Recordings.{recorded_state}
 use Rattle.dlk_replay.specs.Files.{StepLines, no_lines, one_more, no_row, SaySteps}
-use Rattle.dlk_replay.specs.Formats.{Said, TakesStep, TakesNone, Format, SaysNodeOrStep, has_head, SaysIn}
+use Rattle.dlk_replay.specs.Formats.{Said, TakesStep, TakesNone, Format, SaysNodeOrStep, begins_two, SaysIn}
 use Rattle.dlk_replay.specs.Files as file
 <<<<<<<< HEAD:crates/dlk_recorder/proofs/RowsGiven.antt
 use Rattle.dlk_replay.specs.Formats.{SaysNodeOrStep, has_head, SaysIn}
@@ -71,7 +71,7 @@ as_many _ _ (more {steps} {mid} {step} {p} first given) =
 -- ---- the first line stays the first
 
 abbrev pub BeginsTwo : List (List ℕ) → Type 0
-BeginsTwo before = (line : List ℕ) → has_head before line ≡ true
+BeginsTwo before = (line : List ℕ) → begins_two (before ++ line ∷ []) ≡ true
 
 begins_push : (before : List (List ℕ)) (line : List ℕ) → BeginsTwo before → BeginsTwo (before ++ line ∷ [])
 begins_push [] line h = λ l. h line
@@ -84,7 +84,7 @@ begins _ _ _ (one_step {lines} {nodes} {steps} {line} before is) = begins_push l
 
 module _ (Other : Format) where
   -- in such a file each line says what it says in version 2
-  pub in_two : (before : List (List ℕ)) (line : List ℕ) (s : Said) → has_head before line ≡ true → SaysNodeOrStep before line s → SaysIn Other before line s
+  pub in_two : (before : List (List ℕ)) (line : List ℕ) (s : Said) → begins_two (before ++ line ∷ []) ≡ true → SaysNodeOrStep before line s → SaysIn Other before line s
   in_two before line s h is = subst (λ b. MatchBool b (SaysNodeOrStep before line s) (Other before line s)) (sym h) is
 
   -- the law

@@ -1,5 +1,6 @@
 -- A line of version 2 says something, or nothing, where that is known of the texts of trees.
-use Rattle.std.proofs.Common.{◌≡◌, ℕ, ◌+◌, ◌≤◌, true, false, List, [], ◌∷◌, ◌++◌, length, refl, sym, subst, ◌⊎◌, inl, inr, append_assoc, append-nil, arith}
+use Rattle.std.proofs.Common.{◌≡◌, ℕ, ◌+◌, ◌≤◌, Bool, true, false, List, [], ◌∷◌, ◌++◌, length, refl, sym, subst, ◌⊎◌, inl, inr, append_assoc, append-nil, arith}
+use Rattle.std.specs.Prelude.{MatchBool}
 use Rattle.std.specs.Str.{bytes_eq}
 use Rattle.std.proofs.lemmas.Bool.{cases_Bool, cases_eq}
 use Rattle.std.proofs.lemmas.Slice.Eq.{bytes_eq-Decides}
@@ -10,7 +11,8 @@ use Rattle.dlk_nodes.specs.Files.{head_line, Has, only_head, one_node, one_step}
 use Rattle.dlk_nodes.specs.Lines.{Line, OfNode, Numbered, Done, IsLine, of_node, of_step}
 use Rattle.dlk_nodes.proofs.OneState.{one_state}
 use Rattle.dlk_nodes.proofs.OneLine.{one_line, some_line, line_says}
-use Rattle.dlk_replay.specs.Formats.{Said, TakesNone, said_of, SaysNodeOrStep, head, behind_head}
+use Rattle.dlk_replay.specs.Formats.{Said, TakesNone, SaysLine, said_of, SaysNodeOrStep, head, behind_head, begins_two, SaysInFile}
+use Rattle.dlk_replay.proofs.VersionOne as version_one
 use Rattle.dlk_replay.proofs.OneSaid.{said_parts, has_some}
 
 -- lines that go on from a state
@@ -121,3 +123,14 @@ module _ (known : (nodes : List Tree) → SaysOrNot (ByNodes nodes)) where
         | inl first ↦ absurd (cc first.0)
         | inr b ↦ not_so b.nodes b.steps b.has
       ])
+
+  -- and so does one of both versions
+  pub some_said_in_file : (before : List (List ℕ)) (text : List ℕ) → ((s : Said) × SaysInFile before text s) ⊎ ((s : Said) → ¬ SaysInFile before text s)
+  some_said_in_file before text = by_head (begins_two (before ++ text ∷ [])) (some_said_in_two before text) (version_one.some_said before text)
+    where
+      by_head : (h : Bool) → ((s : Said) × SaysNodeOrStep before text s) ⊎ ((s : Said) → ¬ SaysNodeOrStep before text s) →
+          ((s : Said) × SaysLine before text s) ⊎ ((s : Said) → ¬ SaysLine before text s) →
+          ((s : Said) × MatchBool h (SaysNodeOrStep before text s) (SaysLine before text s))
+          ⊎ ((s : Said) → ¬ MatchBool h (SaysNodeOrStep before text s) (SaysLine before text s))
+      by_head true two one = two
+      by_head false two one = one

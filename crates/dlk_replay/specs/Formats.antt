@@ -1,5 +1,5 @@
 -- What a line of a term file says: in version 1, in version 2, and in both by the first line of the file.
-use Rattle.std.specs.Prelude.{◌≢◌, ℕ, ◌+◌, ◌==◌, Bool, if◌then◌else◌, List, [], ◌∷◌, length, MatchBool}
+use Rattle.std.specs.Prelude.{◌≢◌, ℕ, ◌+◌, ◌==◌, Bool, false, if◌then◌else◌, List, [], ◌∷◌, ◌++◌, length, MatchBool}
 use Rattle.std.specs.Str.{bytes_eq}
 use Rattle.dlk_tree.specs.Trees.{Tree}
 use Rattle.dlk_calculus.specs.Steps.{Step}
@@ -41,14 +41,14 @@ pub data SaysNodeOrStep : List (List ℕ) → List ℕ → Said → Type 0 where
   behind_head : {before : List (List ℕ)} {nodes : List Tree} {steps : ℕ} {text : List ℕ} (line : Line) →
       Has before nodes steps → IsLine nodes text line → SaysNodeOrStep before text (said_of (length nodes) steps line)
 
--- whether the first line, of those before or this one itself, is the head of version 2
-abbrev pub has_head : List (List ℕ) → List ℕ → Bool
-has_head [] line = bytes_eq line head_line
-has_head (first ∷ before) line = bytes_eq first head_line
+-- whether the first of these lines is the head of version 2
+abbrev pub begins_two : List (List ℕ) → Bool
+begins_two [] = false
+begins_two (first ∷ lines) = bytes_eq first head_line
 
 -- version 2 where the file has its head, and else the other format
 abbrev pub SaysIn : Format → Format
-SaysIn Other before line said = MatchBool (has_head before line) (SaysNodeOrStep before line said) (Other before line said)
+SaysIn Other before line said = MatchBool (begins_two (before ++ line ∷ [])) (SaysNodeOrStep before line said) (Other before line said)
 
 -- the format of term files of both versions
 abbrev pub SaysInFile : Format
