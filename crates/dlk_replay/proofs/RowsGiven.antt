@@ -13,10 +13,6 @@ use Rattle.dlk_nodes.proofs.Recordings.{recorded_state}
 use Rattle.dlk_replay.specs.Files.{StepLines, no_lines, one_more, no_row, SaySteps}
 use Rattle.dlk_replay.specs.Formats.{Said, TakesStep, TakesNone, Format, SaysNodeOrStep, begins_two, SaysIn}
 use Rattle.dlk_replay.specs.Files as file
-<<<<<<<< HEAD:crates/dlk_recorder/proofs/RowsGiven.antt
-use Rattle.dlk_replay.specs.Formats.{SaysNodeOrStep, has_head, SaysIn}
-========
->>>>>>>> 83bbe40821e9f07e877e5877832295686640f8f5:crates/dlk_replay/proofs/RowsGiven.antt
 use Rattle.dlk_replay.specs.Formats as says_two
 use Rattle.dlk_replay.proofs.OneSaid.{node_said, step_said}
 
