@@ -1,9 +1,7 @@
 -- A text that is kept while it is within a limit.
-use Rattle.std.proofs.Common.{◌≡◌, ℕ, ◌+◌, ◌<◌, ◌≤◌, List, [], ◌∷◌, ◌++◌, length, map, drop, codes, refl, sym, ap, ◌∙◌, append_assoc, append-nil, length-append, drop-cons, suc, get_or, arith}
-use Rattle.std.proofs.lemmas.List.{drop_all}
+use Rattle.std.proofs.Common.{◌≡◌, ℕ, ◌+◌, ◌<◌, ◌≤◌, List, [], ◌∷◌, ◌++◌, length, map, drop, codes, refl, sym, ap, ◌∙◌, append_assoc, length-append, drop-cons, suc, get_or, arith}
 use Rattle.dlk_tree.specs.Trees.{Tree}
 use Rattle.dlk_calculus.specs.Steps.{Step}
-use Rattle.dlk_nodes.specs.Files.{head_line}
 use Rattle.dlk_nodes.specs.TermFiles.{nodes_after, its_lines, step_lines, ended, term_text}
 
 -- what is kept, how many bytes there are so far, and what of the whole is left
@@ -70,12 +68,3 @@ kept_step stands steps i step nodes after text written new whole bytes count lim
     ap (λ (l : List _). left_text nodes (i + 1) (map stands l)) (next_item steps i step within is) ∙ next_lines nodes after (i + 1) (stands step) rest after_is
     ∙ ap (λ (l : List ℕ). l ++ left_text after (i + 1 + 1) rest) (sym written_is) in
     kept_more text written new left (left_text after (i + 1 + 1) rest) whole bytes count limit so_far next count_is kept
-
--- and last `done`
-pub kept_done : {A : Type 0} (stands : A → Step) (steps : List A) (i : ℕ) (nodes : List Tree) (text new whole : List ℕ) (bytes count limit : ℕ) → length steps ≤ i →
-    Kept text bytes limit (left_text nodes (i + 1) (map stands (drop i steps))) whole → count ≡ bytes + 5 → (count ≤ limit → new ≡ text ++ codes "done\n") →
-    Kept new count limit [] whole
-kept_done stands steps i nodes text new whole bytes count limit none so_far count_is kept =
-    let left = left_text nodes (i + 1) (map stands (drop i steps)) in
-    let last : left ≡ codes "done\n" ++ [] = ap (λ (l : List _). left_text nodes (i + 1) (map stands l)) (drop_all i steps none) in
-    kept_more text (codes "done\n") new left [] whole bytes count limit so_far last count_is kept

@@ -1,4 +1,4 @@
-use Rattle.std.proofs.Common.{ℕ, ◌+◌, ◌*◌, ◌^◌, ◌≤◌, map, drop}
+use Rattle.std.proofs.Common.{◌+◌, ◌*◌, ◌^◌, ◌≤◌, map, drop}
 use Rattle.std.specs.Prelude.{All}
 use Rattle.dlk_store.specs.Stores.{IsId}
 use Rattle.dlk_rules.specs.Steps.{step_at}
