@@ -20,7 +20,7 @@ use Rattle.dlk_termtext.specs.Written.{AreWritable as AreWrittenInFull, IsWritab
 use Rattle.dlk_nodes.specs.Follow.{AreThere, EachGood}
 use Rattle.dlk_nodes.specs.TermFiles.{IsWritable, AreWritable}
 use Rattle.dlk_nodes.proofs.PartsRead.{sequent_read, formula_read, pairs_read}
-use Rattle.dlk_recorder.specs.Terms.{HasSymbols}
+use Rattle.dlk_replay.specs.Symbols.{HasSymbols}
 use Rattle.dlk_recorder.proofs.Writable.{taken_writable}
 
 -- ---- the trees of a step

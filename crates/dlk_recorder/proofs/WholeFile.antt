@@ -17,8 +17,8 @@ use Rattle.dlk_nodes.specs.TermFiles.{all_nodes, first_lines, ended, term_text, 
 use Rattle.dlk_nodes.proofs.Recordings.{recorded_state, recorded_flat}
 use Rattle.dlk_nodes.proofs.TermRecorded.{term_ends, term_recorded}
 use Rattle.dlk_replay.specs.Files.{before_first_line, is_line_feed, file_lines, Becomes, accepted, whole, SaySteps}
-use Rattle.dlk_replay.specs.Formats.{EndsFile, Format, SaysIn, behind_head}
 use Rattle.dlk_replay.specs.Files.{done as ends_with}
+use Rattle.dlk_replay.specs.Formats.{EndsFile, Format, SaysIn, behind_head}
 use Rattle.dlk_replay.proofs.RowsGiven.{as_many, begins, in_two, rows_given_at_last, steps_said}
 
 -- ---- the lines of a text

@@ -1,3 +1,0 @@
-pub mod WholeFile
-pub mod TakenWritable
-pub mod FewNodes
