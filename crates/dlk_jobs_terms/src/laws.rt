@@ -12,9 +12,7 @@ ghost use Rattle.dlk_jobs_terms.specs.Trims.{Trims, IsTrimmed};
 
 use dlk_calculus::laws::{given_unless_against, one_fault, one_provable};
 use dlk_jobs_record::laws::{one_record, recorded_is_written, written_is_checked};
-use dlk_link::{
-    linked_is_joined, one_linked, one_trimmed, trimmed_is_neat, trimmed_is_taken,
-};
+use dlk_link::{linked_is_joined, one_linked, one_trimmed, trimmed_is_neat, trimmed_is_taken};
 use dlk_replay::accepted_says_steps;
 
 /// There is one answer of each of the commands.
