@@ -1,12 +1,8 @@
 -- What `prove` writes is accepted by `check`, which answers the same.
 use Rattle.std.proofs.Common.{◌≡◌, ◌≤◌, ℕ, List, [], length, None, Some, refl}
-use Rattle.std.specs.Prelude.{All}
 use Rattle.dlk_calculus.specs.Provables.{Provable}
-use Rattle.dlk_calculus.specs.Steps.{Step}
 use Rattle.dlk_tacsyn.specs.Faults.{Fault, Syntax, Nesting, Repeat, UnknownAtom, Arguments}
-use Rattle.dlk_kernel.specs.Taken.{Takes}
 use Rattle.dlk_strategy.specs.Runs.{Progress, Done}
-use Rattle.dlk_recorder.specs.Terms.{HasSymbols}
 use Rattle.dlk_replies.specs.declared.form.Role.TheVariants.{Model, Term}
 use Rattle.dlk_replies.specs.declared.reply.Showing.{Showing}
 use Rattle.dlk_replies.specs.declared.reply.Showing.TheVariants.{Reported}
@@ -20,7 +16,7 @@ use Rattle.dlk_jobs_check.specs.Checks.{Checks, answered}
 use Rattle.dlk_jobs_record.specs.Records.{Records, IsLast, IsWritten}
 use Rattle.dlk_jobs_prove.specs.Proves.{Proves, bad_model, bad_strategy, fails, spent, records, strategy_refused, RunsTo}
 use Rattle.dlk_jobs_check.proofs.Ends.{last_item}
-use Rattle.dlk_jobs_record.proofs.Written.{accepted_checks, written_is_checked}
+use Rattle.dlk_jobs_record.proofs.Written.{RecordedIsWritten, accepted_checks, written_is_checked}
 use Rattle.dlk_jobs_prove.proofs.StrategyLaws.{RunsTaken, RunsReplaceSymbols, RunsShow}
 use Rattle.dlk_jobs_prove.proofs.RunSteps.{run_shows, all_symbols}
 
@@ -52,11 +48,6 @@ written_by model strategy term _ (fails at used why run) written = absurd cc
 written_by model strategy term _ (spent at run) written = absurd cc
 written_by model strategy term _ (records made left run p ended reply is) written =
     record { made = made; left = left; run = run; proof = p; ended = ended; records_it = is; written = written }
-
--- the term that is written of steps that are taken
-abbrev pub RecordedIsWritten : Type 0
-RecordedIsWritten = (steps : List Step) (rows : List Provable) (p : Provable) (reply : Reply) (term : List ℕ) → Takes [] steps rows → All HasSymbols steps →
-    IsLast rows p → Records steps p reply → reply.written ≡ Some term → IsWritten term rows p reply
 
 module _ (recorded : RecordedIsWritten) (runs_taken : RunsTaken) (replace_symbols : RunsReplaceSymbols) where
   pub shown : (model strategy term : List ℕ) (reply : Reply) → (w : Written model strategy term reply) → IsWritten term w.made.rows w.proof reply

@@ -16,7 +16,8 @@ use Rattle.dlk_replies.proofs.CarriedOut.{IsRefused, text_is_refused}
 use Rattle.dlk_jobs_check.proofs.GuardReports.{term_is_refused}
 use Rattle.dlk_jobs_check.proofs.OneReply.{one_check}
 use Rattle.dlk_jobs_prove.proofs.OneReply.{one_written}
-use Rattle.dlk_jobs_prove.proofs.Rechecked.{RecordedIsWritten, unwritten, written_by, shown, written_checks}
+use Rattle.dlk_jobs_record.proofs.Written.{RecordedIsWritten}
+use Rattle.dlk_jobs_prove.proofs.Rechecked.{unwritten, written_by, shown, written_checks}
 use Rattle.dlk_jobs_prove.proofs.StrategyLaws.{OneText, TextOrFault, OneFault, OneRun, RunsTaken, RunsReplaceSymbols, RunsShow}
 
 strategy_is_refused : (why : Fault) → IsRefused (strategy_refused why)

@@ -41,6 +41,11 @@ module _ (accepts : RecordedIsAccepted) (steps : List Step) (rows : List Provabl
       let same : term_text steps ≡ term = cc in
       subst (λ (l : List ℕ). IsWritten l rows p (recorded p steps)) same (whole_written short)
 
+-- the term that is written of steps that are taken
+abbrev pub RecordedIsWritten : Type 0
+RecordedIsWritten = (steps : List Step) (rows : List Provable) (p : Provable) (reply : Reply) (term : List ℕ) → Takes [] steps rows → All HasSymbols steps →
+    IsLast rows p → Records steps p reply → reply.written ≡ Some term → IsWritten term rows p reply
+
 module _ (model term : List ℕ) (f : Tree) (reads : ModelText model f) (rows : List Provable) (p : Provable) (shows : p.conclusion ≡ proves f) where
   -- `check` accepts a term that shows the model's formula, and shows its proof
   pub accepted_checks : (showing : Showing) → Accepts term rows p → Checks showing model term (answered showing p (length rows))

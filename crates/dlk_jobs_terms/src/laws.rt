@@ -6,6 +6,7 @@ ghost use Rattle.dlk_replies.specs.declared.reply.Showing.TheVariants.{Reported}
 ghost use Rattle.dlk_replies.specs.Forms.{limit_of};
 ghost use Rattle.dlk_replies.specs.Replies.{Reply as TheReply, printing};
 ghost use Rattle.dlk_jobs_check.specs.Checks.{Checks};
+ghost use Rattle.dlk_jobs_record.specs.Records.{WritesUnlessRefused};
 ghost use Rattle.dlk_jobs_terms.specs.Converts.{Converts, IsConverted};
 ghost use Rattle.dlk_jobs_terms.specs.Links.{Links, IsJoined};
 ghost use Rattle.dlk_jobs_terms.specs.Trims.{Trims, IsTrimmed};
@@ -40,6 +41,13 @@ pub fn some_term_reply()
     accepted_says_steps();
     trimmed_is_taken();
 }
+
+/// Each of the commands writes a term, or refuses.
+pub fn term_or_refusal()
+    ensures converts { (term : List ℕ) (reply : TheReply) → Converts term reply → WritesUnlessRefused reply }
+    ensures links { (model term lemma : List ℕ) (reply : TheReply) → Links model term lemma reply → WritesUnlessRefused reply }
+    ensures trims { (model term : List ℕ) (reply : TheReply) → Trims model term reply → WritesUnlessRefused reply }
+{}
 
 /// What `convert` writes is no longer than a term may be, and is accepted with the very rows of the term, of which the last is reported.
 pub fn converted_is_accepted()
