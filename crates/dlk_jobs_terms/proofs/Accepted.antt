@@ -14,7 +14,7 @@ use Rattle.dlk_link.specs.Linked.{Joins, no_goals, another, the_same, Linked, Jo
 use Rattle.dlk_link.specs.Neat.{AreUnlike, AreNamed}
 use Rattle.dlk_link.specs.Trimmed.{moved, Trims, Trimmed, nothing_read, not_needed, kept_before, is_kept}
 use Rattle.dlk_recorder.specs.Terms.{HasSymbols}
-use Rattle.dlk_replay.specs.Files.{file_lines, accepted, Verdict, FileSteps}
+use Rattle.dlk_replay.specs.Files.{file_lines, FileSteps}
 use Rattle.dlk_replies.specs.declared.form.Role.TheVariants.{Model, Term}
 use Rattle.dlk_replies.specs.declared.reply.Layout.TheVariants.{Text}
 use Rattle.dlk_replies.specs.declared.reply.Showing.TheVariants.{Reported}
@@ -88,14 +88,13 @@ trimmed_symbols term _ _ _ (is_kept {read = r} {kept = k} {numbers = n} step tri
 
 -- ---- what is written
 
--- what the steps of an accepted file replace are symbols
+-- what the steps of a file replace are symbols
 abbrev pub HaveSymbols : Type 0
-HaveSymbols = (lines : List (List ℕ)) (rows : List Provable) (last : ℕ) (steps : List Step) → Verdict lines (accepted rows last) → FileSteps lines steps →
-    All HasSymbols steps
+HaveSymbols = (lines : List (List ℕ)) (steps : List Step) → FileSteps lines steps → All HasSymbols steps
 
 module _ (written : RecordedIsWritten) (have : HaveSymbols) (says : SaysSteps) where
   symbols : (term : List ℕ) (steps : List Step) (rows : List Provable) (p : Provable) → Replays term steps rows p → All HasSymbols steps
-  symbols term steps rows p r = have (file_lines term) rows r.accepts.line steps r.accepts.verdict r.says
+  symbols term steps rows p r = have (file_lines term) steps r.says
 
   pub converted : (term text : List ℕ) (reply : Reply) → Converts term reply → reply.written ≡ Some text → IsConverted term text reply
   converted term text _ (bad_line n why v) is = absurd cc

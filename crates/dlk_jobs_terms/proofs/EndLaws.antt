@@ -15,6 +15,7 @@ use Rattle.dlk_jobs_check.specs.Terms.{refused_line, Accepts, Replays}
 use Rattle.dlk_jobs_check.proofs.Ends.{last_of, last_item}
 use Rattle.dlk_jobs_record.specs.Records.{Records, IsLast}
 use Rattle.dlk_jobs_record.proofs.OneRecord.{one_record}
+use Rattle.dlk_jobs_record.proofs.TakenRows.{taken_count}
 use Rattle.dlk_jobs_terms.specs.Made.{RecordsLast}
 
 some_items : {A : Type 0} (items : List A) (x : A) → At items (length items) x → 1 ≤ length items
@@ -68,3 +69,10 @@ one_bad_line words term n m why other v w = same (one_verdict (file_lines term) 
         let number : n ≡ m = cc in
         let reason : why ≡ other = cc in
         λ i. refused_line words (number i) (reason i)
+
+-- steps that are taken, at least one, end in a provable
+pub some_ending : (steps : List Step) (rows : List Provable) → Takes [] steps rows → 1 ≤ length steps → (p : Provable) × EndsIn steps p × At rows (length rows) p
+some_ending steps rows takes some =
+    let last = last_of rows (omega (arith, some, taken_count steps rows takes)) in
+    let there = last_item rows last.0 last.1 last.2 in
+    (last.1, record { rows = rows; takes = takes; last = there }, there)
