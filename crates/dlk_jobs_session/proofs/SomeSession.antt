@@ -40,7 +40,7 @@ use Rattle.dlk_jobs_session.specs.Sessions.{script_refused, Plays, played, Sessi
 use Rattle.dlk_jobs_session.proofs.Models.{model_small, model_shallow}
 
 -- strategies that can be run
-abbrev IsRunnable : Line → Type 0
+abbrev pub IsRunnable : Line → Type 0
 IsRunnable (Apply goal t) = AreOfText t × EachAtom HasNames t
 IsRunnable Undo = Unit {0}
 IsRunnable Show = Unit {0}

@@ -1,8 +1,9 @@
 -- Sessions over stores that grow: what they hold, and the states that they stand for.
-use Rattle.std.proofs.Common.{◌≡◌, ℕ, ◌+◌, ◌≤◌, List, [], ◌∷◌, ◌++◌, take, map, length, Option, Some, None, refl, sym, ap, subst, ◌∙◌, arith, length-append, length-take}
+use Rattle.std.proofs.Common.{◌≡◌, ℕ, ◌+◌, ◌≤◌, List, [], ◌∷◌, ◌++◌, take, drop, map, length, Option, Some, None, refl, sym, ap, subst, ◌∙◌, arith, length-append, length-take}
 use Rattle.std.specs.List.{All}
 use Rattle.std.specs.Prelude.{option_map}
-use Rattle.std.proofs.lemmas.List.{map-append, length-map, take-map}
+use Rattle.std.proofs.lemmas.List.{map-append, length-map, take-map, take-take, take-append-le, take-append-drop, take_all}
+use Rattle.std.proofs.Math.Seq.{take-length}
 use Rattle.std.proofs.lemmas.List.Elements.{All-nil, All-cons, All-head, All-tail, All-append, All-weaker, All-take}
 use Rattle.dlk_tree.specs.Trees.{Tree}
 use Rattle.dlk_store.specs.Stores.{Keeps}
@@ -24,7 +25,7 @@ use Rattle.dlk_session.specs.declared.reply.Reply.{Reply}
 use Rattle.dlk_session.specs.declared.reply.Reply.TheVariants as reply
 use Rattle.dlk_session.specs.Sessions.{Becoming, State, Begins, Applies, done, fails, spent, Undoes, undone, saving}
 use Rattle.dlk_session.specs.Kept.{IsKept}
-use Rattle.dlk_session.specs.Held.{Held, state, IsSaved, AreSaved, IsHeld}
+use Rattle.dlk_session.specs.Held.{Held, state, IsSaved, AreSaved, saved_steps, AreShared, IsHeld}
 use Rattle.dlk_session.proofs.Turning.{begins_kept, undo_kept, WasEarlier, last_earlier}
 
 -- ---- steps
@@ -47,6 +48,81 @@ module _ (old new : List Tree) (keeps : Keeps old new) where
   saved_known : (saved : Option (List Step)) → AreSaved old saved → AreSaved new saved
   saved_known None h = tt
   saved_known (Some xs) h = record { known = steps_known xs h.known; few = h.few }
+
+  first_same : (count : ℕ) (xs ys : List Step) → All (HasKnownIds old) xs → All (HasKnownIds old) ys →
+      map (step_at old) (take count xs) ≡ map (step_at old) (take count ys) → map (step_at new) (take count xs) ≡ map (step_at new) (take count ys)
+  first_same count xs ys h k e =
+      steps_same (take count xs) (All-take (HasKnownIds old) count xs h) ∙ e ∙ sym (steps_same (take count ys) (All-take (HasKnownIds old) count ys k))
+
+  -- the first ones are those that were saved
+  pub shared_grown : (count : ℕ) (steps : List Step) (saved : Option (List Step)) → All (HasKnownIds old) steps → AreSaved old saved →
+      AreShared old count steps saved → AreShared new count steps saved
+  shared_grown count steps None h k s =
+      record { within = s.within; there = s.there; same = first_same count [] steps (All-nil (HasKnownIds old)) h s.same }
+  shared_grown count steps (Some xs) h k s = record { within = s.within; there = s.there; same = first_same count xs steps k.known h s.same }
+
+-- ---- what was saved
+
+module _ (trees : List Tree) where
+  pub shared_none : (steps : List Step) (saved : Option (List Step)) → AreShared trees 0 steps saved
+  shared_none steps saved = record { within = omega arith; there = omega arith; same = refl }
+
+  pub shared_more : (count : ℕ) (steps new all : List Step) (saved : Option (List Step)) → all ≡ steps ++ new → AreShared trees count steps saved →
+      AreShared trees count all saved
+  shared_more count steps new all saved is s =
+      let n = length-append steps new in
+      record {
+        within = omega (arith, s.within, n, ap length is);
+        there = s.there;
+        same = s.same ∙ ap (map (step_at trees)) (sym (take-append-le count steps new s.within) ∙ ap (take count) (sym is));
+      }
+
+  pub shared_fewer : (count fewer cut : ℕ) (steps left : List Step) (saved : Option (List Step)) → fewer ≤ count → fewer ≤ cut → left ≡ take cut steps →
+      AreShared trees count steps saved → AreShared trees fewer left saved
+  shared_fewer count fewer cut steps left saved few within is s =
+      let n = length-take cut steps in
+      let f = step_at trees in
+      let all = saved_steps saved in
+      record {
+        within = omega (arith, few, within, s.within, n, ap length is);
+        there = omega (arith, few, s.there);
+        same = ap (map f) (sym (take-take fewer count all few)) ∙ sym (take-map f fewer (take count all)) ∙ ap (take fewer) s.same
+            ∙ take-map f fewer (take count steps) ∙ ap (map f) (take-take fewer count steps few ∙ sym (take-take fewer cut steps within) ∙ ap (take fewer) (sym is));
+      }
+
+  -- all of them are
+  pub shared_all : (steps saved : List Step) → map (step_at trees) saved ≡ map (step_at trees) steps → AreShared trees (length steps) steps (Some saved)
+  shared_all steps saved same =
+      let a = length-map saved (step_at trees) in
+      let b = length-map steps (step_at trees) in
+      let count : length saved ≤ length steps = omega (arith, a, b, ap length same) in
+      record {
+        within = omega arith;
+        there = omega (arith, a, b, ap length same);
+        same = ap (map (step_at trees)) (take_all (length steps) saved count) ∙ same ∙ sym (ap (map (step_at trees)) (take-length steps));
+      }
+
+  -- copies of the others behind the first ones
+  pub saved_again : (count : ℕ) (steps new all : List Step) (saved : Option (List Step)) → AreShared trees count steps saved →
+      map (step_at trees) new ≡ map (step_at trees) (drop count steps) → all ≡ take count (saved_steps saved) ++ new →
+      map (step_at trees) all ≡ map (step_at trees) steps
+  saved_again count steps new all saved s same is =
+      let f = step_at trees in
+      ap (map f) is ∙ map-append f (take count (saved_steps saved)) new ∙ (λ i. s.same i ++ same i) ∙ sym (map-append f (take count steps) (drop count steps))
+      ∙ ap (map f) (take-append-drop count steps)
+
+  pub saved_known_again : (count : ℕ) (new all : List Step) (saved : Option (List Step)) → AreSaved trees saved → All (HasKnownIds trees) new →
+      all ≡ take count (saved_steps saved) ++ new → All (HasKnownIds trees) all
+  saved_known_again count new all None h known is =
+      let Known : Step → Type 0 = HasKnownIds trees in
+      subst (All Known) (sym is) (All-append Known (take count []) new (All-take Known count [] (All-nil Known)) known)
+  saved_known_again count new all (Some steps) h known is =
+      let Known : Step → Type 0 = HasKnownIds trees in
+      subst (All Known) (sym is) (All-append Known (take count steps) new (All-take Known count steps h.known) known)
+
+  -- where nothing was saved, there are no first ones
+  pub none_before : (count : ℕ) (new : List Step) → new ≡ take count [] ++ new
+  none_before count new = sym (ap (λ xs. xs ++ new) (take_all count [] (omega arith)))
 
 -- ---- states
 
