@@ -5,3 +5,4 @@ pub mod Headline
 pub mod Cuts
 pub mod NoAnswers
 pub mod Looks
+pub mod WrittenTerms
