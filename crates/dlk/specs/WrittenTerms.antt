@@ -5,6 +5,7 @@ use Rattle.dlk_calculus.specs.Steps.{Step, Derives}
 use Rattle.dlk_link.specs.Linked.{Joined}
 use Rattle.dlk_link.specs.Neat.{AreNamed, AreUnlike}
 use Rattle.dlk_desk.specs.Outside.{Outside}
+use Rattle.dlk_recorder.specs.Terms.{term_text}
 use Rattle.dlk_report.specs.Reports.{text_report}
 use Rattle.dlk_replies.specs.declared.command.Command.TheVariants.{Convert, Link, Trim}
 use Rattle.dlk_replies.specs.declared.form.Role.TheVariants.{Term}
@@ -12,13 +13,14 @@ use Rattle.dlk_replies.specs.Forms.{Word, command_of, limit_of}
 use Rattle.dlk_jobs_check.specs.Terms.{Accepts, Replays}
 use Rattle.dlk.specs.Headline.{Writes, IsAccepted}
 
--- The term is accepted, and so is what is written, which says the same steps and gives the very same rows. The report is that of their last.
+-- The term is accepted. What is written is the term file of its steps, and is accepted with the very same rows. The report is that of the last.
 pub record IsConverted (term out : List ℕ) (status : ℕ) (said : List ℕ) : Type 0 where
   pub steps : List Step
   pub rows : List Provable
   pub proof : Provable
   pub of_term : Replays term steps rows proof
-  pub of_out : Replays out steps rows proof
+  pub of_out : Accepts out rows proof
+  pub text : out ≡ term_text steps
   pub short : length out ≤ limit_of Term
   pub derived : Derives proof
   pub closed : (status ≡ 0) ↔ (proof.goals ≡ [])
@@ -53,16 +55,18 @@ LinksTruly words status old new =
     new.printed ≡ old.printed ++ said → IsLinked model term lemma out status said
 
 -- The term is accepted. What is written is accepted by `check`, with the same report and the same status, and ends in the very same provable. It
--- has at most as many steps. Each of them but the last is named by a later one, and no two are equal.
+-- is the term file of at most as many steps, of which each but the last is named by a later one, and no two are equal.
 pub record IsTrimmed (model term out : List ℕ) (status : ℕ) (said : List ℕ) : Type 0 where
   pub accepted : IsAccepted model out status said
+  pub steps : List Step
   pub rows : List Provable
   pub proof : Provable
-  pub of_term : Accepts term rows proof
+  pub of_term : Replays term steps rows proof
   pub kept : List Step
   pub kept_rows : List Provable
-  pub of_out : Replays out kept kept_rows proof
-  pub few : length kept_rows ≤ length rows
+  pub of_out : Accepts out kept_rows proof
+  pub text : out ≡ term_text kept
+  pub few : length kept ≤ length steps
   pub named : AreNamed kept
   pub unlike : AreUnlike kept
 
