@@ -1,0 +1,5 @@
+pub mod Converts
+pub mod Links
+pub mod Trims
+pub mod Kept
+pub mod Refused
