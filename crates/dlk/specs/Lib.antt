@@ -6,3 +6,4 @@ pub mod Cuts
 pub mod NoAnswers
 pub mod Looks
 pub mod WrittenTerms
+pub mod Sessions
