@@ -1,0 +1,37 @@
+-- What contracts see of a session, and the state that it stands for.
+use Rattle.std.specs.Prelude.{ℕ, List, map, All, Option, Some, None, option_map}
+use Rattle.dlk_tree.specs.Trees.{Tree}
+use Rattle.dlk_rules.specs.declared.step.Step.{Step}
+use Rattle.dlk_rules.specs.Steps.{step_at, HasKnownIds}
+use Rattle.dlk_kernel.specs.Kernel.{State as KernelState, facts}
+use Rattle.dlk_session.specs.Sessions.{State}
+use Rattle.dlk_session.specs.Kept.{IsKept}
+
+-- a session over a store
+pub record Held (S : Type 0) : Type 0 where
+  pub kernel : KernelState S
+  pub steps : List Step
+  pub earlier : List ℕ
+  pub used : ℕ
+  pub saved : Option (List Step)
+
+-- the state that it stands for, by the trees of its store
+abbrev pub state : {S : Type 0} → (S → List Tree) → Held S → State
+state trees held = record {
+  steps = map (step_at (trees held.kernel.store)) held.steps;
+  rows = facts trees held.kernel;
+  earlier = held.earlier;
+  used = held.used;
+  saved = option_map (map (step_at (trees held.kernel.store))) held.saved;
+}
+
+-- the ids of what is saved are those of the store
+abbrev pub IsKnownSaved : List Tree → Option (List Step) → Type 0
+IsKnownSaved trees None = Unit {0}
+IsKnownSaved trees (Some steps) = All (HasKnownIds trees) steps
+
+-- what the type keeps: the state is one that is kept, and the ids are those of the store
+pub record IsHeld {S : Type 0} (trees : S → List Tree) (held : Held S) : Type 0 where
+  pub kept : IsKept (state trees held)
+  pub known : All (HasKnownIds (trees held.kernel.store)) held.steps
+  pub saved : IsKnownSaved (trees held.kernel.store) held.saved
