@@ -1,26 +1,24 @@
 -- What may be relied on of sessions.
-use Rattle.std.specs.Prelude.{◌≡◌, ◌↔◌, ◌<◌, ◌≤◌, ℕ, List, [], ◌∷◌, ◌++◌, length, Option, Some, None}
-use Rattle.dlk_calculus.specs.Provables.{Provable}
+use Rattle.std.specs.Prelude.{◌≡◌, ◌↔◌, ◌<◌, ℕ, List, [], ◌∷◌, ◌++◌, Option, Some, None}
 use Rattle.dlk_calculus.specs.Steps.{Step}
 use Rattle.dlk_desk.specs.Outside.{Outside, SameFiles}
 use Rattle.dlk_elab.specs.Outcomes.{main_goals}
 use Rattle.dlk_recorder.specs.Terms.{term_text}
 use Rattle.dlk_replies.specs.declared.command.Command.TheVariants.{Session}
-use Rattle.dlk_replies.specs.declared.form.Role.TheVariants.{Term}
-use Rattle.dlk_replies.specs.Forms.{Word, command_of, limit_of}
+use Rattle.dlk_replies.specs.Forms.{Word, command_of}
 use Rattle.dlk_replies.specs.Inputs.{inputs, output}
 use Rattle.dlk_session.specs.Sessions.{State, Answer}
-use Rattle.dlk_jobs_check.specs.Terms.{TakesTerm}
 use Rattle.dlk_jobs_session.specs.Sessions.{Plays, answers_text}
 use Rattle.dlk.specs.Answers.{bytes_of}
+use Rattle.dlk.specs.Headline.{IsAccepted}
 
--- The file holds the term file of these steps, which is taken for the model: `check` accepts it.
+-- The file holds the term file of these steps, and `check` accepts it.
 pub record IsSaved (model : List ℕ) (steps : List Step) (file : Option (List ℕ)) : Type 0 where
   pub written : file ≡ Some (term_text steps)
-  pub short : length (term_text steps) ≤ limit_of Term
-  pub rows : List Provable
-  pub proof : Provable
-  pub takes : TakesTerm model (term_text steps) steps rows proof
+  pub status : ℕ
+  pub report : List ℕ
+  pub accepted : IsAccepted model (term_text steps) status report
+  pub is_proof : status < 2
 
 -- The texts are a formula and the lines of a script, and what is printed are the answers to these lines in turn. The status tells whether no goals
 -- are left in the end. What is saved is written, and where nothing is, no file has changed.
