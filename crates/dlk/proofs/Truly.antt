@@ -1,40 +1,34 @@
 -- Where `closed` is printed, the model is derived from the printed leaves.
-use Rattle.std.proofs.Common.{◌≡◌, ℕ, zero, suc, List, [], ◌∷◌, ◌++◌, ◌≤◌, length, take, None, Some, codes, refl, sym, ap, subst, ◌∙◌, append-nil, arith, Bool, true, cond, inl, inr}
-use Rattle.std.specs.Prelude.{bytes_eq}
-use Rattle.std.proofs.lemmas.Slice.Eq.{bytes_eq-Decides}
+use Rattle.std.proofs.Common.{◌≡◌, ℕ, zero, suc, List, [], ◌∷◌, ◌++◌, length, take, Some, codes, refl, sym, ap, subst, ◌∙◌, append-nil, arith, inl, inr}
 use Rattle.std.proofs.lemmas.List.{append_cancel_left, take_all}
 use Rattle.dlk_calculus.specs.Sequents.{Sequent}
 use Rattle.dlk_calculus.specs.Provables.{Provable}
-use Rattle.dlk_calculus.specs.Steps.{Step, History, Derives}
+use Rattle.dlk_calculus.specs.Steps.{History, Derives}
 use Rattle.dlk_calculus.proofs.PlaceLaws.{All-between}
 use Rattle.dlk_calculus.proofs.Histories.{History-derives}
 use Rattle.dlk_calculus.proofs.Leaves.{Derives-leaves}
-use Rattle.dlk_desk.specs.Outside.{Outside, Files, SameFiles}
-use Rattle.dlk_grammar.specs.Readings.{Literal, Nesting, Syntax, Shape, TooBig, TooDeep}
-use Rattle.dlk_grammar.specs.Texts.{TextFault, BadByte, Unread}
+use Rattle.dlk_desk.specs.Outside.{Outside, SameFiles}
 use Rattle.dlk_replay.specs.Files.{file_lines}
 use Rattle.dlk_replay.proofs.Verdicts.{accepted_history}
-use Rattle.dlk_tacsyn.specs.Faults.{Fault, Syntax as Syntax', Nesting as Nesting', Repeat, UnknownAtom, Arguments}
-use Rattle.dlk_recorder.specs.Terms.{term_text}
 use Rattle.dlk_print.specs.Lines.{line}
 use Rattle.dlk_report.specs.Reports.{is_closed, first_word, text_report}
 use Rattle.dlk_replies.specs.declared.command.Command.{Command}
-use Rattle.dlk_replies.specs.declared.command.Command.TheVariants.{Check, Print, Vars, Subst, Report, Smt, Guard, Prove, Gen}
+use Rattle.dlk_replies.specs.declared.command.Command.TheVariants.{Check, Print, Vars, Subst, Report, Smt, Guard, Prove, Gen, Convert, Link, Trim, Session}
 use Rattle.dlk_replies.specs.declared.reply.Layout.TheVariants.{Text}
 use Rattle.dlk_replies.specs.declared.reply.Showing.TheVariants.{Reported}
-use Rattle.dlk_replies.specs.declared.form.Role.TheVariants.{Model, Term}
-use Rattle.dlk_replies.specs.Forms.{Word, command_of, inputs_of, limit_of}
-use Rattle.dlk_replies.specs.Inputs.{inputs, inputs_of_form, output}
+use Rattle.dlk_replies.specs.Forms.{Word, command_of, others_of}
+use Rattle.dlk_replies.specs.Inputs.{inputs}
 use Rattle.dlk_replies.specs.Replies.{Reply, code_of, printing}
-use Rattle.dlk_replies.specs.Refusals.{text_refused}
-use Rattle.dlk_jobs_check.specs.Terms.{Accepts, RefusesTerm, bad_model, bad_line, bad_conclusion}
+use Rattle.dlk_jobs_check.specs.Terms.{Accepts}
 use Rattle.dlk_jobs_check.specs.Checks.{Checks, refuses as refuses_term, reports, reported, status_of}
-use Rattle.dlk_jobs_prove.specs.Proves.{Records, too_long, writes, Proves, bad_model as proves_fault, bad_strategy, fails, spent, records, strategy_refused}
-use Rattle.dlk_answers.specs.Answers.{Does, Responds, refuses, does, too_long as too_long_reply}
-use Rattle.dlk.specs.Answers.{bytes_of, Answers, no_form, command}
-use Rattle.dlk.specs.Outputs.{output_with, after}
+use Rattle.dlk_answers.specs.Answers.{Does}
+use Rattle.dlk.specs.Answers.{bytes_of, Answers}
+use Rattle.dlk.specs.Outputs.{after}
 use Rattle.dlk.specs.Runs.{output_to, GivesWhole, BreaksOff}
 use Rattle.dlk.specs.Headline.{WritesTerm, SpeaksOf, IsGiven, all, front, IsDerived, ClosedTruly}
+use Rattle.dlk.proofs.Refusals.{IsRefusal, term_refusal}
+use Rattle.dlk.proofs.Done.{response, refused_or_done}
+use Rattle.dlk.proofs.Writing.{EachIsChecked, WritesChecked, file_holds, proved_writes, linked_writes, trimmed_writes, refused_or_written}
 
 -- a front that begins with d begins with the first of all
 first_is : (n c d : ℕ) (xs ys : List ℕ) → take n (c ∷ xs) ≡ d ∷ ys → c ≡ d
@@ -107,6 +101,10 @@ module _ (checked : EachIsChecked) (model term said : List ℕ) (status : ℕ) w
         report = report_given p (length rows) status (codes "closed" ++ said) closed given;
       }
 
+  does_check : (others : List Word) (reply : Reply) → Does Check others (model ∷ term ∷ []) reply → Checks (Reported Text) model term reply
+  does_check [] reply checks = checks
+  does_check (w ∷ ws) reply checks = absurd checks
+
   -- the words have `check` and these files
   answer_truly : (words : List Word) (old : Outside) (reply : Reply) → Answers words old.files reply → command_of words ≡ Some Check →
       bytes_of old.files (inputs words) ≡ Some (model ∷ term ∷ []) → Given reply status (codes "closed" ++ said) → DerivedTruly
@@ -114,7 +112,7 @@ module _ (checked : EachIsChecked) (model term said : List ℕ) (status : ℕ) w
       let shown = front_of reply status (codes "closed" ++ said) given in
       elim (refused_or_done Check words (model ∷ term ∷ []) reply (response words old.files Check (model ∷ term ∷ []) reply answers form there)) [
         | inl refusal ↦ absurd (refused_says reply refusal shown.0 shown.1)
-        | inr job ↦ check_truly reply (does_check (others_of Check words) model term reply job) shown.0 shown.1 given
+        | inr job ↦ check_truly reply (does_check (others_of Check words) reply job) shown.0 shown.1 given
       ]
 
   -- the words have a command that has written the term

@@ -29,14 +29,18 @@ use Rattle.dlk.proofs.Refusals.{IsRefusal, line_refusal, text_refusal, strategy_
 use Rattle.dlk.proofs.Done.{response, refused_or_done}
 
 -- the file that the words let the program write holds the bytes of the reply
-pub file_holds : (words : List Word) (old new : Files) (reply : Reply) (name : Word) (bytes term : List ℕ) → output words ≡ Some name → reply.written ≡ Some bytes →
-    SameFiles (after (output_to words reply) old) new → new name ≡ Some term → bytes ≡ term
-file_holds words old new reply name bytes term named written same there =
+pub file_is : (words : List Word) (old new : Files) (reply : Reply) (name : Word) (bytes : List ℕ) → output words ≡ Some name → reply.written ≡ Some bytes →
+    SameFiles (after (output_to words reply) old) new → new name ≡ Some bytes
+file_is words old new reply name bytes named written same =
     let is_written : SameFiles (after (Some (record { name = name; bytes = bytes })) old) new =
     subst (λ o. SameFiles (after o old) new) ((λ i. output_with (named i) (written i))) same in
     let here : bytes_eq name name ≡ true = (bytes_eq-Decides name name).1 refl in
-    let holds : new name ≡ Some bytes = is_written name ∙ ap (λ (b : Bool). cond b (Some bytes) (old name)) here in
-    let e : Some bytes ≡ Some term = sym holds ∙ there in
+    is_written name ∙ ap (λ (b : Bool). cond b (Some bytes) (old name)) here
+
+pub file_holds : (words : List Word) (old new : Files) (reply : Reply) (name : Word) (bytes term : List ℕ) → output words ≡ Some name → reply.written ≡ Some bytes →
+    SameFiles (after (output_to words reply) old) new → new name ≡ Some term → bytes ≡ term
+file_holds words old new reply name bytes term named written same there =
+    let e : Some bytes ≡ Some term = sym (file_is words old new reply name bytes named written same) ∙ there in
     cc
 
 -- `check` answers the same to a term that is written, with the same report
@@ -48,6 +52,11 @@ pub record EachIsChecked : Type 0 where
   pub proves : (model strategy term : List ℕ) (reply : Reply) → Proves model strategy reply → reply.written ≡ Some term → IsCheckedToo model term reply
   pub links : (model term lemma out : List ℕ) (reply : Reply) → Links model term lemma reply → reply.written ≡ Some out → IsCheckedToo model out reply
   pub trims : (model term out : List ℕ) (reply : Reply) → Trims model term reply → reply.written ≡ Some out → IsCheckedToo model out reply
+
+pub checked_by : ((model strategy term : List ℕ) (reply : Reply) → Proves model strategy reply → reply.written ≡ Some term → IsCheckedToo model term reply) →
+    ((model term lemma out : List ℕ) (reply : Reply) → Links model term lemma reply → reply.written ≡ Some out → IsCheckedToo model out reply) →
+    ((model term out : List ℕ) (reply : Reply) → Trims model term reply → reply.written ≡ Some out → IsCheckedToo model out reply) → EachIsChecked
+checked_by proves links trims = record { proves = proves; links = links; trims = trims }
 
 -- the term that a reply writes
 abbrev pub WritesSome : Reply → Type 0
