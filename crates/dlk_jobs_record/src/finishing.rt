@@ -18,7 +18,7 @@ use std::alloc::Global;
 use std::sync::ledger::Ledger;
 
 /// The answer to a command whose term would have so many bytes.
-fn refuse_length(alloc: Global, bytes: u128) -> Result<Reply, NoReply>
+pub fn refuse_length(alloc: Global, bytes: u128) -> Result<Reply, NoReply>
     ensures { IfOk result (λ r. reply_of r ≡ term_too_long bytes) }
 {
     let why = format!(in alloc; "term-too-long {bytes}")?;

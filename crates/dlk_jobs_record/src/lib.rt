@@ -1,7 +1,9 @@
 //! The end of each command that writes a term: the text of the term within its limit, and the report of what it shows.
 #![tactic(auto)]
 
+mod fates;
 mod finishing;
 pub mod laws;
 
-pub use finishing::finish;
+pub use fates::{budget_text, fails_text};
+pub use finishing::{finish, refuse_length};

@@ -15,7 +15,11 @@ use dlk_tree::Name;
 use std::alloc::{AllocError, Global};
 
 /// The same step once more.
-pub(crate) fn copied(alloc: Global, step: &Step) -> Result<Step, AllocError>
+///
+/// # Errors
+///
+/// For want of memory.
+pub fn copied(alloc: Global, step: &Step) -> Result<Step, AllocError>
     ensures { IfOk result (IsSameStep step.now) }
 {
     match step {

@@ -10,6 +10,7 @@ mod needed;
 mod taking;
 mod trimming;
 
+pub use copies::copied;
 pub use fault::LinkFault;
 pub use laws::{
     linked_is_joined, moved_steps, neat_is_trimmed, one_linked, one_trimmed, trimmed_is_neat,

@@ -59,12 +59,12 @@ takes_some _ _ n (one_step {steps} {mid} {step} {p} before is) few =
 
 -- ---- what can be undone
 
-record WasEarlier (before : List ℕ) (count most : ℕ) : Type 0 where
-  earlier : AreEarlier before count
-  some : 1 ≤ count
-  within : count ≤ most
+pub record WasEarlier (before : List ℕ) (count most : ℕ) : Type 0 where
+  pub earlier : AreEarlier before count
+  pub some : 1 ≤ count
+  pub within : count ≤ most
 
-last_earlier : (counts before : List ℕ) (count most : ℕ) → AreEarlier counts most → counts ≡ before ++ count ∷ [] → WasEarlier before count most
+pub last_earlier : (counts before : List ℕ) (count most : ℕ) → AreEarlier counts most → counts ≡ before ++ count ∷ [] → WasEarlier before count most
 last_earlier _ before count most none_earlier e = let n = length-append before (count ∷ []) in absurd (omega (arith, n, ap length e))
 last_earlier _ before count most (one_earlier {before = others} {count = last} rest some within) e =
     let same = same_from_push others before last count e in
@@ -102,7 +102,7 @@ at_one rows n p q a b = let e : item_at rows n ≡ Some q = b in cc
 pushed : (xs : List ℕ) (n : ℕ) → xs ++ n ∷ [] ≡ [] → ⊥
 pushed xs n e = let all = length-append xs (n ∷ []) in absurd (omega (arith, all, ap length e))
 
-undo_kept : (now next : State) (says : Reply) → IsKept now → Undoes now says next → IsKept next
+pub undo_kept : (now next : State) (says : Reply) → IsKept now → Undoes now says next → IsKept next
 undo_kept now _ _ kept (nothing e) = kept
 undo_kept now _ _ kept (undone before count e) =
     let was = last_earlier now.earlier before count (length now.steps) kept.earlier e in
@@ -137,7 +137,7 @@ module _ (becomes : Becoming)
     becomes t rows goal used (Done made left) → (used ≤ made.used) × (made.used ≤ most_runs) × (length made.steps ≤ most_steps * (made.used - used)))
     (failed : (t : Tactic) (rows : List Provable) (goal used at count : ℕ) (why : FailWhy) → used ≤ most_runs →
     becomes t rows goal used (Fails at why count) → (used ≤ count) × (count ≤ most_runs)) where
-  apply_kept : (goal : ℕ) (t : Tactic) (now next : State) (says : Reply) → IsKept now → Applies becomes goal t now says next → IsKept next
+  pub apply_kept : (goal : ℕ) (t : Tactic) (now next : State) (says : Reply) → IsKept now → Applies becomes goal t now says next → IsKept next
   apply_kept goal t now _ _ kept (no_goal none_there) = kept
   apply_kept goal t now _ _ kept (done {made} {left} there h) =
       let count = counted t now.rows goal now.used made left kept.used h in

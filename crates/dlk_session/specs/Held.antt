@@ -1,6 +1,7 @@
 -- What contracts see of a session, and the state that it stands for.
-use Rattle.std.specs.Prelude.{ℕ, List, map, All, Option, Some, None, option_map}
+use Rattle.std.specs.Prelude.{◌≤◌, ℕ, List, length, map, All, Option, Some, None, option_map}
 use Rattle.dlk_tree.specs.Trees.{Tree}
+use Rattle.dlk_calculus.specs.Limits.{most_rows}
 use Rattle.dlk_rules.specs.declared.step.Step.{Step}
 use Rattle.dlk_rules.specs.Steps.{step_at, HasKnownIds}
 use Rattle.dlk_kernel.specs.Kernel.{State as KernelState, facts}
@@ -25,13 +26,17 @@ state trees held = record {
   saved = option_map (map (step_at (trees held.kernel.store))) held.saved;
 }
 
--- the ids of what is saved are those of the store
-abbrev pub IsKnownSaved : List Tree → Option (List Step) → Type 0
-IsKnownSaved trees None = Unit {0}
-IsKnownSaved trees (Some steps) = All (HasKnownIds trees) steps
+-- steps that were saved: their ids are those of the store, and they are no more than a kernel has rows
+pub record IsSaved (trees : List Tree) (steps : List Step) : Type 0 where
+  pub known : All (HasKnownIds trees) steps
+  pub few : length steps ≤ most_rows
+
+abbrev pub AreSaved : List Tree → Option (List Step) → Type 0
+AreSaved trees None = Unit {0}
+AreSaved trees (Some steps) = IsSaved trees steps
 
 -- what the type keeps: the state is one that is kept, and the ids are those of the store
 pub record IsHeld {S : Type 0} (trees : S → List Tree) (held : Held S) : Type 0 where
   pub kept : IsKept (state trees held)
   pub known : All (HasKnownIds (trees held.kernel.store)) held.steps
-  pub saved : IsKnownSaved (trees held.kernel.store) held.saved
+  pub saved : AreSaved (trees held.kernel.store) held.saved

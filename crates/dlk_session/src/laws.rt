@@ -15,7 +15,9 @@ use crate::runner::Runner;
 pub fn one_session<R: Runner>()
     ensures line { (now next other : State) (line : Line) (a b : Answer) → Turn R.becomes now line a next → Turn R.becomes now line b other → (a ≡ b) × (next ≡ other) }
     ensures lines { (now last other : State) (lines : List Line) (a b : List Answer) → Turns R.becomes now lines a last → Turns R.becomes now lines b other → (a ≡ b) × (last ≡ other) }
-{}
+{
+    R::laws();
+}
 
 /// The steps of a session are taken in turn and give its rows. There are never more than 384,001, so that there is room for all that can still be
 /// made.
@@ -23,7 +25,9 @@ pub fn session_is_kept<R: Runner>()
     ensures begins { (formula : Tree) (now : State) → Begins formula now → IsKept now }
     ensures line { (now next : State) (line : Line) (answer : Answer) → IsKept now → Turn R.becomes now line answer next → IsKept next }
     ensures room { (now : State) → IsKept now → length now.rows + most_steps * (most_runs - now.used) ≤ most_rows }
-{}
+{
+    R::laws();
+}
 
 /// A run that is done and then undone leaves the steps, the rows and what can be undone as they were. Its atoms stay counted.
 pub fn undo_gives_back<R: Runner>()
@@ -31,4 +35,6 @@ pub fn undo_gives_back<R: Runner>()
     ensures rows { (now next last : State) (goal goals : ℕ) (strategy : Tactic) (says : Reply) → IsKept now → Applies R.becomes goal strategy now (TheOk goals) next → Undoes next says last → last.rows ≡ now.rows }
     ensures earlier { (now next last : State) (goal goals : ℕ) (strategy : Tactic) (says : Reply) → IsKept now → Applies R.becomes goal strategy now (TheOk goals) next → Undoes next says last → last.earlier ≡ now.earlier }
     ensures used { (now next last : State) (goal goals : ℕ) (strategy : Tactic) (says : Reply) → Applies R.becomes goal strategy now (TheOk goals) next → Undoes next says last → last.used ≡ next.used }
-{}
+{
+    R::laws();
+}

@@ -53,14 +53,11 @@ pub trait Runner {
         ensures err { OnErr result (SameRows S.trees kernel.old kernel.new) }
         ensures grows { S.grows kernel.old.store kernel.new.store };
 
-    /// At most one thing becomes of a goal.
-    ghost one: { (t : TreeTactic) (rows : List Provable) (goal used : ℕ) (a b : Outcome) → becomes t rows goal used a → becomes t rows goal used b → a ≡ b };
-
-    /// The steps that are made are taken in turn behind the rows, and give the rows.
-    ghost taken: { (t : TreeTactic) (rows : List Provable) (goal used : ℕ) (made : Progress) (left : ℕ) → becomes t rows goal used (Done made left) → Takes rows made.steps made.rows };
-
-    /// Runs are counted on from those of before, up to 16,000, and each makes at most 24 steps.
-    ghost counted: { (t : TreeTactic) (rows : List Provable) (goal used : ℕ) (made : Progress) (left : ℕ) → used ≤ most_runs → becomes t rows goal used (Done made left) → (used ≤ made.used) × (made.used ≤ most_runs) × (length made.steps ≤ most_steps * (made.used - used)) };
-
-    ghost failed: { (t : TreeTactic) (rows : List Provable) (goal used at count : ℕ) (why : FailWhy) → used ≤ most_runs → becomes t rows goal used (Fails at why count) → (used ≤ count) × (count ≤ most_runs) };
+    /// The laws of what becomes of a goal: a contract of a call that does nothing. There is at most one outcome. The steps that are made are taken in
+    /// turn behind the rows, and give the rows. Runs are counted on from those of before, up to 16,000, and each makes at most 24 steps.
+    fn laws()
+        ensures one { (t : TreeTactic) (rows : List Provable) (goal used : ℕ) (a b : Outcome) → becomes t rows goal used a → becomes t rows goal used b → a ≡ b }
+        ensures taken { (t : TreeTactic) (rows : List Provable) (goal used : ℕ) (made : Progress) (left : ℕ) → becomes t rows goal used (Done made left) → Takes rows made.steps made.rows }
+        ensures counted { (t : TreeTactic) (rows : List Provable) (goal used : ℕ) (made : Progress) (left : ℕ) → used ≤ most_runs → becomes t rows goal used (Done made left) → (used ≤ made.used) × (made.used ≤ most_runs) × (length made.steps ≤ most_steps * (made.used - used)) }
+        ensures failed { (t : TreeTactic) (rows : List Provable) (goal used at count : ℕ) (why : FailWhy) → used ≤ most_runs → becomes t rows goal used (Fails at why count) → (used ≤ count) × (count ≤ most_runs) };
 }

@@ -1,15 +1,15 @@
 //! Sessions on a kernel.
+use crate::copies::all_copied;
 use crate::fault::SessionFault;
 use crate::goals::{goals_left, stated};
 use crate::reply::Reply;
 use crate::runner::Runner;
-use dlk_elab::{More, OnFault};
+use dlk_elab::OnFault;
 use dlk_kernel::{Kernel, Step};
-use dlk_link::copied;
 use dlk_report::{report_text, shown};
 use dlk_store::{Id, Steps, Store};
 use dlk_tacsyn::Tactic;
-use std::alloc::{AllocError, Global};
+use std::alloc::Global;
 use std::marker::Model;
 use std::sync::ledger::Ledger;
 
@@ -44,20 +44,19 @@ impl<S: Store> Model for Session<S> {
 }
 
 impl<S: Store> Session<S> {
-    ghost use Rattle.std.specs.Prelude.{◌≡◌, ◌≤◌, ◌×◌, ℕ, [], None, Some, length, All, IfOk, OnErr, MatchOption, IfSome};
+    ghost use Rattle.std.specs.Prelude.{◌≡◌, [], None, Some, length, IfOk, OnErr, MatchOption, IfSome};
     ghost use Rattle.dlk_calculus.specs.Limits.{IsSmall, IsShallow};
     ghost use Rattle.dlk_calculus.specs.Places.{At};
     ghost use Rattle.dlk_calculus.specs.Provables.{Provable};
     ghost use Rattle.dlk_calculus.specs.Sequents.{IsFormula};
     ghost use Rattle.dlk_store.specs.Stores.{IsId, tree};
-    ghost use Rattle.dlk_rules.specs.Steps.{HasKnownIds};
     ghost use Rattle.dlk_tacsyn.specs.Rows.{AreOfText};
     ghost use Rattle.dlk_tacsyn.specs.Ties.{tactic_at, TacticIsKnown};
     ghost use Rattle.dlk_report.specs.Reports.{text_report};
     ghost use Rattle.dlk_session.specs.declared.reply.Reply.TheVariants.{Saved};
     ghost use Rattle.dlk_session.specs.Sessions.{Begins, Applies, Undoes, saving};
     ghost use Rattle.dlk_session.specs.Kept.{IsKept};
-    ghost use Rattle.dlk_session.specs.Held.{state, IsKnownSaved};
+    ghost use Rattle.dlk_session.specs.Held.{state, IsSaved};
 
     /// A session on the model, with a kernel without rows: its one step states the model. The model is a formula without argument dots or `_`
     /// within the limits, and its id is that of this kernel's store.
@@ -200,8 +199,11 @@ impl<S: Store> Session<S> {
     /// The steps that were saved last. `None` comes exactly where none were saved.
     pub fn saved(&self) -> Option<&[Step]>
         ensures saved { MatchOption result (self.now.saved ≡ None) (λ steps. self.now.saved ≡ Some steps.now) }
-        ensures known { IsKnownSaved (S.trees self.now.kernel.store) self.now.saved }
+        ensures known { IfSome result (λ steps. IsSaved (S.trees self.now.kernel.store) steps.now) }
     {
-        self.saved.as_deref()
+        match &self.saved {
+            None => None,
+            Some(steps) => Some(steps.as_slice()),
+        }
     }
 }

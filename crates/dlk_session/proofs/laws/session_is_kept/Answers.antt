@@ -5,7 +5,7 @@ pub returns-clause-begins : goal.returns-clause-begins
 returns-clause-begins g c = begins_kept
 
 pub returns-clause-line : goal.returns-clause-line
-returns-clause-line g c = turn_kept g.R.Runner.becomes g.met.R.Runner.taken g.met.R.Runner.counted g.met.R.Runner.failed
+returns-clause-line g c = turn_kept g.R.Runner.becomes c.laws.ensures.taken c.laws.ensures.counted c.laws.ensures.failed
 
 pub returns-clause-room : goal.returns-clause-room
 returns-clause-room g c = kept_room
