@@ -20,7 +20,7 @@ use crate::give::give;
 use dlk_answers::{respond, words_refused};
 use dlk_desk::Desk;
 use dlk_jobs_prove::laws::proved_is_checked;
-use dlk_jobs_session::laws::saved_is_checked;
+use dlk_jobs_session::laws::session_is_checked;
 use dlk_jobs_terms::laws::{converted_is_accepted, linked_is_checked, trimmed_is_checked};
 use dlk_replay::one_verdict;
 use dlk_replies::{Command, Reply, Role, output};
@@ -134,7 +134,7 @@ pub fn run<D: Desk, L: Ledger>(
     converted_is_accepted();
     linked_is_checked();
     trimmed_is_checked();
-    saved_is_checked();
+    session_is_checked();
     one_verdict();
     let reply = match work(alloc, words, desk, steps) {
         Ok(reply) => reply,

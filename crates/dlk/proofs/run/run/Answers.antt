@@ -93,7 +93,7 @@ returns-in-Ok-give-clause-sessions_truly g c = λ t.
     let new = g.D.Desk.outside c.give.new.desk in
     let reply = reply_of c.in-Ok.reply in
     let reads = c.in-Ok.ensures.only in
-    whole_session c.saved_is_checked.ensures words c.code.result old new reply
+    whole_session c.session_is_checked.ensures words c.code.result old new reply
     (gives_whole words old mid new reply (option_copied c.output.result) c.output.ensures (c.in-Ok.ensures.ok t) (reads.files t) (reads.printed t)
     (c.in-Ok-give.ensures.file t) (c.in-Ok-give.ensures.printed t) c.code.result c.code.ensures)
 

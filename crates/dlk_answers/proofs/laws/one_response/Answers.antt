@@ -15,5 +15,5 @@ returns c =
       converts = c.one_term_reply.ensures.converts;
       links = c.one_term_reply.ensures.links;
       trims = c.one_term_reply.ensures.trims;
-      sessions = c.one_session_reply.ensures.sessions;
+      sessions = c.one_session_reply.ensures;
     })

@@ -15,5 +15,5 @@ returns c =
       converts = c.some_term_reply.ensures.converts;
       links = c.some_term_reply.ensures.links;
       trims = c.some_term_reply.ensures.trims;
-      sessions = c.some_session_reply.ensures.sessions;
+      sessions = c.some_session_reply.ensures;
     })
