@@ -13,12 +13,7 @@ fn writes_version_2(rt: HostRuntime) -> Result<(), Fail> {
         (INCREMENT_TERM, 0, INCREMENT_REPORT, INCREMENT_BY_NODES),
         (INCREMENT_BY_NODES, 0, INCREMENT_REPORT, INCREMENT_BY_NODES),
         // another spelling, and no line feed at the end
-        (
-            "1 start ==> ((x>=00))\ndone",
-            1,
-            OPEN_REPORT,
-            OPEN_BY_NODES,
-        ),
+        ("1 start ==> ((x>=00))\ndone", 1, OPEN_REPORT, OPEN_BY_NODES),
         // nodes in another order, one of them behind the step, and one that nothing names
         (
             "dlk 2\nnode 1 num 0\nnode 2 var x\nnode 3 var y\nnode 4 ge 2 1\n1 start ==> 4\nnode 5 true\ndone",
@@ -35,7 +30,15 @@ fn writes_version_2(rt: HostRuntime) -> Result<(), Fail> {
         ),
     ] {
         let texts = [term.as_bytes()];
-        writes(&rt, alloc, &CONVERT, &texts, *status, printed, Some(*written))?;
+        writes(
+            &rt,
+            alloc,
+            &CONVERT,
+            &texts,
+            *status,
+            printed,
+            Some(*written),
+        )?;
     }
     Ok(())
 }

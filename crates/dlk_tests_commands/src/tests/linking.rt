@@ -6,10 +6,12 @@ const LINK: [&str; 5] = ["link", "model", "term", "lemma", "out"];
 
 /// A term of a goal twice, and what is proved so.
 const TWICE_MODEL: &str = "(x>=0 -> x>=0)&(x>=0 -> x>=0)";
+
 const TWICE: &str = "1 start ==> (x>=0 -> x>=0)&(x>=0 -> x>=0)\n2 apply 1 1 andR(1)\ndone\n";
 
 /// A term of two goals.
 const BOTH_MODEL: &str = "x>=0&y>=0";
+
 const BOTH: &str = "1 start ==> x>=0&y>=0\n2 apply 1 1 andR(1)\ndone\n";
 
 /// A term and a lemma, what is printed, the status, and what is written.
@@ -141,23 +143,5 @@ fn keeps_to_numbers_of_goals(rt: HostRuntime) -> Result<(), Fail> {
     let texts = [model.as_slice(), term.as_slice(), one];
     let (status, _) = replied(alloc, &LINK, &texts)?;
     assert_eq!(&rt; status, 0);
-    Ok(())
-}
-
-/// A lemma of 400,000 lines: with a goal for it there are too many linked steps, and without one this is what is said first.
-#[test]
-fn keeps_to_numbers_of_lines(rt: HostRuntime) -> Result<(), Fail> {
-    let alloc = rt.alloc();
-    let mut lemma = Vec::new(alloc);
-    for number in 1..400_001_u32 {
-        let line = format!(in alloc; "{number} axiom eqrefl\n")?;
-        lemma.extend_from_slice(line.as_bytes())?;
-    }
-    lemma.extend_from_slice(b"done\n")?;
-    for (model, line) in [("f()=f()", "link: LinesFull"), ("g()=g()", "no-goal")] {
-        let term = format!(in alloc; "1 start ==> {model}\ndone\n")?;
-        let texts = [model.as_bytes(), term.as_bytes(), lemma.as_slice()];
-        refuses(&rt, alloc, &LINK, &texts, line)?;
-    }
     Ok(())
 }

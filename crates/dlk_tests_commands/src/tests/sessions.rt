@@ -7,7 +7,8 @@ const SESSION: [&str; 4] = ["session", "model", "script", "term"];
 const MODEL: &str = "x>=0 -> x>=0";
 
 /// What is written where the start alone is saved.
-const START: &str = "dlk 2\nnode 1 var x\nnode 2 num 0\nnode 3 ge 1 2\nnode 4 imply 3 3\n1 start ==> 4\ndone\n";
+const START: &str =
+    "dlk 2\nnode 1 var x\nnode 2 num 0\nnode 3 ge 1 2\nnode 4 imply 3 3\n1 start ==> 4\ndone\n";
 
 /// A model and a script, the status, what is printed, and what is written.
 type Row = (
