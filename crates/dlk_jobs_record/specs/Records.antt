@@ -1,11 +1,12 @@
 -- What is answered by a command that writes a term.
-use Rattle.std.specs.Prelude.{◌≡◌, ◌<◌, ◌≤◌, ℕ, List, [], ◌∷◌, ◌++◌, length, Some, codes, decimal}
+use Rattle.std.specs.Prelude.{◌≡◌, ◌≢◌, ◌⊎◌, ◌<◌, ◌≤◌, ℕ, List, [], ◌∷◌, ◌++◌, length, Some, None, codes, decimal}
 use Rattle.dlk_calculus.specs.Provables.{Provable}
 use Rattle.dlk_calculus.specs.Steps.{Step}
 use Rattle.dlk_report.specs.Reports.{is_closed}
 use Rattle.dlk_recorder.specs.Terms.{term_text}
 use Rattle.dlk_replies.specs.declared.form.Role.TheVariants.{Term}
 use Rattle.dlk_replies.specs.declared.reply.Layout.TheVariants.{Text}
+use Rattle.dlk_replies.specs.declared.reply.Status.TheVariants.{Refused}
 use Rattle.dlk_replies.specs.Forms.{limit_of}
 use Rattle.dlk_replies.specs.Replies.{Reply, printing, refusal}
 use Rattle.dlk_jobs_check.specs.Terms.{Accepts}
@@ -34,3 +35,7 @@ pub record IsWritten (term : List ℕ) (rows : List Provable) (p : Provable) (re
   pub short : length term ≤ limit_of Term
   pub accepts : Accepts term rows p
   pub report : printing reply.status reply.printed ≡ reported Text p (length rows)
+
+-- a refusal writes no term, and every other reply writes one
+abbrev pub WritesUnlessRefused : Reply → Type 0
+WritesUnlessRefused reply = ((reply.status ≡ Refused) × (reply.written ≡ None)) ⊎ ((reply.status ≢ Refused) × (term : List ℕ) × (reply.written ≡ Some term))

@@ -12,14 +12,15 @@ ghost use Rattle.dlk_replies.specs.Forms.{limit_of};
 ghost use Rattle.dlk_replies.specs.Replies.{Reply as TheReply, printing};
 ghost use Rattle.dlk_jobs_check.specs.Terms.{ModelText, proves};
 ghost use Rattle.dlk_jobs_check.specs.Checks.{Checks};
-ghost use Rattle.dlk_jobs_record.specs.Records.{Records, IsLast, IsWritten};
+ghost use Rattle.dlk_jobs_record.specs.Records.{Records, IsLast, IsWritten, WritesUnlessRefused};
 
 use dlk_recorder::recorded_is_accepted;
 
-/// There is one answer to steps that show a provable.
+/// There is one answer to steps that show a provable. It writes a term, or it is a refusal.
 pub fn one_record()
     ensures one { (steps : List Step) (p : Provable) (one other : TheReply) → Records steps p one → Records steps p other → one ≡ other }
     ensures some { (steps : List Step) (p : Provable) → (reply : TheReply) × Records steps p reply }
+    ensures whole { (steps : List Step) (p : Provable) (reply : TheReply) → Records steps p reply → WritesUnlessRefused reply }
 {}
 
 /// The term that is written of steps that are taken in turn, at least one, is no longer than a term may be, and is accepted with the rows that

@@ -1,1 +1,7 @@
-
+pub mod ScriptLaws
+pub mod Models
+pub mod RunLaws
+pub mod SavedSteps
+pub mod Checked
+pub mod OneSession
+pub mod SomeSession

@@ -1,3 +1,4 @@
+pub mod Made
 pub mod Converts
 pub mod Links
 pub mod Trims

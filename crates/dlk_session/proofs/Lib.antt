@@ -1,1 +1,4 @@
 mod Turning
+mod MainGoals
+mod Stated
+mod Holding

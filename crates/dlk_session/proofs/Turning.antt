@@ -32,7 +32,7 @@ takes_both rows mid _ first _ p (one_step {steps = second} {mid = between} {step
     subst (λ xs. Takes rows xs (between ++ row ∷ [])) (append_assoc first second (step ∷ [])) (one_step (takes_both rows mid between first second p before) is)
 
 -- the rows stand behind those of before
-rows_behind : (rows after : List Provable) (steps : List Step) → Takes rows steps after → (new : List Provable) × (after ≡ rows ++ new)
+pub rows_behind : (rows after : List Provable) (steps : List Step) → Takes rows steps after → (new : List Provable) × (after ≡ rows ++ new)
 rows_behind rows _ _ no_step = ([], sym (append-nil rows))
 rows_behind rows _ _ (one_step {steps} {mid} {step} {p} before is) =
     let first = rows_behind rows mid steps before in

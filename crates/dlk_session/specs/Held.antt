@@ -1,5 +1,5 @@
 -- What contracts see of a session, and the state that it stands for.
-use Rattle.std.specs.Prelude.{◌≤◌, ℕ, List, length, map, All, Option, Some, None, option_map}
+use Rattle.std.specs.Prelude.{◌≡◌, ◌≤◌, ℕ, List, [], length, take, map, All, Option, Some, None, option_map}
 use Rattle.dlk_tree.specs.Trees.{Tree}
 use Rattle.dlk_calculus.specs.Limits.{most_rows}
 use Rattle.dlk_rules.specs.declared.step.Step.{Step}
@@ -34,6 +34,17 @@ pub record IsSaved (trees : List Tree) (steps : List Step) : Type 0 where
 abbrev pub AreSaved : List Tree → Option (List Step) → Type 0
 AreSaved trees None = Unit {0}
 AreSaved trees (Some steps) = IsSaved trees steps
+
+-- the steps that were saved, and none where nothing was
+abbrev pub saved_steps : Option (List Step) → List Step
+saved_steps None = []
+saved_steps (Some steps) = steps
+
+-- the first steps are those that were saved, so many
+pub record AreShared (trees : List Tree) (count : ℕ) (steps : List Step) (saved : Option (List Step)) : Type 0 where
+  pub within : count ≤ length steps
+  pub there : count ≤ length (saved_steps saved)
+  pub same : map (step_at trees) (take count (saved_steps saved)) ≡ map (step_at trees) (take count steps)
 
 -- what the type keeps: the state is one that is kept, and the ids are those of the store
 pub record IsHeld {S : Type 0} (trees : S → List Tree) (held : Held S) : Type 0 where

@@ -1,5 +1,5 @@
 //! Copies of steps.
-ghost use Rattle.std.specs.Prelude.{◌≡◌, List, map, All, IfOk, length};
+ghost use Rattle.std.specs.Prelude.{◌≡◌, ◌≤◌, ◌++◌, List, length, map, take, All, IfOk, OnOk, OnErr};
 ghost use Rattle.dlk_tree.specs.Trees.{Tree};
 ghost use Rattle.dlk_rules.specs.Steps.{step_at, HasKnownIds};
 
@@ -17,4 +17,22 @@ pub(crate) fn all_copied(alloc: Global, steps: &[Step]) -> Result<Vec<Step>, All
         copies.push(copied(alloc, step)?)?;
     }
     Ok(copies)
+}
+
+/// Puts steps behind the first ones of others, and lets those behind them go. For want of memory nothing is done.
+pub(crate) fn put_behind(
+    steps: &mut Vec<Step>,
+    first: usize,
+    mut new: Vec<Step>,
+) -> Result<(), AllocError>
+    requires { first ≤ length steps.old.items }
+    ensures put { OnOk result (steps.new.items ≡ take first steps.old.items ++ new.items) }
+    ensures err { OnErr result (steps.new.items ≡ steps.old.items) }
+{
+    steps.reserve(new.len())?;
+    steps.truncate(first);
+    if steps.append(&mut new).is_err() {
+        unreachable!();
+    }
+    Ok(())
 }

@@ -1,5 +1,5 @@
 //! Sessions on a kernel.
-use crate::copies::all_copied;
+use crate::copies::{all_copied, put_behind};
 use crate::fault::SessionFault;
 use crate::goals::{goals_left, stated};
 use crate::reply::Reply;
@@ -30,17 +30,19 @@ pub struct Session<S: Store> {
     used: u32,
     /// The steps that were saved last.
     saved: Option<Vec<Step>>,
+    /// How many of the first steps are those that were saved.
+    shared: usize,
 }
 
 impl<S: Store> Model for Session<S> {
     ghost use Rattle.std.specs.Prelude.{option_map};
-    ghost use Rattle.dlk_session.specs.Held.{Held, IsHeld};
+    ghost use Rattle.dlk_session.specs.Held.{Held, AreShared, IsHeld};
 
     ghost Value = { Held S };
 
     ghost view = { λ s. record { kernel = s.kernel; steps = s.steps.items; earlier = s.earlier.items; used = s.used; saved = option_map (λ v. v.items) s.saved } };
 
-    ghost invariant = { λ s. IsHeld S.trees (record { kernel = s.kernel; steps = s.steps.items; earlier = s.earlier.items; used = s.used; saved = option_map (λ v. v.items) s.saved }) };
+    ghost invariant = { λ s. IsHeld S.trees (record { kernel = s.kernel; steps = s.steps.items; earlier = s.earlier.items; used = s.used; saved = option_map (λ v. v.items) s.saved }) × AreShared (S.trees s.kernel.store) s.shared s.steps.items (option_map (λ v. v.items) s.saved) };
 }
 
 impl<S: Store> Session<S> {
@@ -87,6 +89,7 @@ impl<S: Store> Session<S> {
             earlier: Vec::new(alloc),
             used: 0,
             saved: None,
+            shared: 0,
         })
     }
 
@@ -152,6 +155,7 @@ impl<S: Store> Session<S> {
         };
         self.kernel.release(count);
         self.steps.truncate(count as usize);
+        self.shared = self.shared.min(count as usize);
         Reply::Ok {
             goals: goals_left(&self.kernel),
         }
@@ -170,7 +174,7 @@ impl<S: Store> Session<S> {
         Ok(report_text(alloc, &report)?)
     }
 
-    /// Saves the steps that there are. What was saved before is let go.
+    /// Saves the steps that there are. What was saved before is let go, but for the first steps that are the same: each step is copied once.
     ///
     /// # Errors
     ///
@@ -181,8 +185,12 @@ impl<S: Store> Session<S> {
         ensures err { OnErr result (state S.trees self.new ≡ state S.trees self.old) }
         ensures kernel { self.new.kernel ≡ self.old.kernel }
     {
-        let copies = all_copied(alloc, self.steps.as_slice())?;
-        self.saved = Some(copies);
+        let new = all_copied(alloc, &self.steps[self.shared..])?;
+        match &mut self.saved {
+            None => self.saved = Some(new),
+            Some(saved) => put_behind(saved, self.shared, new)?,
+        }
+        self.shared = self.steps.len();
         Ok(Reply::Saved {
             lines: self.kernel.rows(),
         })

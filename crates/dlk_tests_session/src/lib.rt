@@ -1,0 +1,5 @@
+//! Tests of what `session` answers.
+#![tactic(auto)]
+
+#[cfg(test)]
+mod tests;
