@@ -17,9 +17,10 @@ use Rattle.dlk_replies.specs.Replies.{Reply, code_of, printing}
 use Rattle.dlk_jobs_check.specs.Checks.{Checks}
 use Rattle.dlk_jobs_record.specs.Records.{Records, too_long, writes}
 use Rattle.dlk_jobs_prove.specs.Proves.{Proves, bad_model, bad_strategy, fails, spent, records}
+use Rattle.dlk_jobs_terms.specs.Made.{RecordsLast}
 use Rattle.dlk_jobs_terms.specs.Converts.{Converts, bad_line, records as conversion}
-use Rattle.dlk_jobs_terms.specs.Links.{Links, refuses as link_refuses, bad_lemma, no_goal, past_limit, records as link}
-use Rattle.dlk_jobs_terms.specs.Trims.{Trims, refuses as trim_refuses, records as trimming}
+use Rattle.dlk_jobs_terms.specs.Links.{LinksSteps, no_goal, past_limit, records as linking, Links, refuses as link_refuses, bad_lemma, links}
+use Rattle.dlk_jobs_terms.specs.Trims.{Trims, refuses as trim_refuses, trims}
 use Rattle.dlk_answers.specs.Answers.{Does}
 use Rattle.dlk.specs.Answers.{bytes_of, Answers}
 use Rattle.dlk.specs.Outputs.{output_with, after}
@@ -77,6 +78,9 @@ pub recorded_or_refused : (steps : List Step) (p : Provable) (reply : Reply) →
 recorded_or_refused steps p _ (too_long long) = inl (line_refusal _)
 recorded_or_refused steps p _ (writes short) = inr (term_text steps, refl)
 
+last_recorded_or_refused : (steps : List Step) (reply : Reply) → RecordsLast steps reply → IsRefusal reply ⊎ WritesSome reply
+last_recorded_or_refused steps reply (last, ends, records) = recorded_or_refused steps last reply records
+
 pub proved_or_refused : (model strategy : List ℕ) (reply : Reply) → Proves model strategy reply → IsRefusal reply ⊎ WritesSome reply
 proved_or_refused model strategy _ (bad_model why is) = inl (text_refusal _ why)
 proved_or_refused model strategy _ (bad_strategy f reads why is) = inl (strategy_refusal why)
@@ -88,16 +92,19 @@ pub converted_or_refused : (term : List ℕ) (reply : Reply) → Converts term r
 converted_or_refused term _ (bad_line n why v) = inl (line_refusal _)
 converted_or_refused term _ (conversion steps rows p t r is) = recorded_or_refused steps p r is
 
+steps_linked_or_refused : (steps others : List Step) (p q : Provable) (reply : Reply) → LinksSteps steps others p q reply → IsRefusal reply ⊎ WritesSome reply
+steps_linked_or_refused steps others p q _ (no_goal none) = inl (line_refusal _)
+steps_linked_or_refused steps others p q _ (past_limit there linked is why first) = inl (line_refusal _)
+steps_linked_or_refused steps others p q _ (linking there linked is reply records) = last_recorded_or_refused linked reply records
+
 pub linked_or_refused : (model term lemma : List ℕ) (reply : Reply) → Links model term lemma reply → IsRefusal reply ⊎ WritesSome reply
 linked_or_refused model term lemma _ (link_refuses r refused) = inl (term_refusal model term r refused)
 linked_or_refused model term lemma _ (bad_lemma steps rows p t n why v) = inl (line_refusal _)
-linked_or_refused model term lemma _ (no_goal steps others p q both none) = inl (line_refusal _)
-linked_or_refused model term lemma _ (past_limit p q linked both why first) = inl (line_refusal _)
-linked_or_refused model term lemma _ (link p q linked both r ends reply is) = recorded_or_refused linked r reply is
+linked_or_refused model term lemma _ (links steps rows p t others more q u reply is) = steps_linked_or_refused steps others p q reply is
 
 pub trimmed_or_refused : (model term : List ℕ) (reply : Reply) → Trims model term reply → IsRefusal reply ⊎ WritesSome reply
 trimmed_or_refused model term _ (trim_refuses r refused) = inl (term_refusal model term r refused)
-trimmed_or_refused model term _ (trimming steps rows p t kept trims r ends reply is) = recorded_or_refused kept r reply is
+trimmed_or_refused model term _ (trims steps rows p t kept is reply records) = last_recorded_or_refused kept reply records
 
 -- with a status below 2 it is the term that stands in the file
 pub writes_this : (reply : Reply) → IsRefusal reply ⊎ WritesSome reply → code_of reply.status < 2 → (words : List Word) (old new : Outside) (texts : List (List ℕ)) (out : List ℕ) →

@@ -96,13 +96,13 @@ whole_links checked law words status old new reply gives model term lemma out sa
     let by = law model term lemma out reply job written in
     record {
       accepted = whole_accepted Link model (linked_writes checked model) words status old new reply gives out said form (term ∷ lemma ∷ [], there) less says;
-      rows = by.both.both.rows;
+      rows = by.rows;
       proof = by.main;
-      of_term = by.both.both.takes.replays.accepts;
-      lemma_rows = by.both.both.more;
-      lemma_proof = by.lemma_shows;
-      of_lemma = by.both.both.replays.accepts;
-      linked_rows = by.rows;
+      of_term = by.takes.replays.accepts;
+      lemma_rows = by.more;
+      lemma_proof = by.by;
+      of_lemma = by.replays.accepts;
+      linked_rows = by.after;
       linked = by.last;
       of_out = by.is_written.accepts;
       joined = by.joined;
