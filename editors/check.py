@@ -176,17 +176,24 @@ def second_axioms():
 
 # The commands
 
-ARGUMENTS = {"Model": "MODEL", "Term": "TERM", "File": "FILE", "Substitution": "SUBST", "Strategy": "STRATEGY", "Output": "TERM", "Number": "N"}
+ARGUMENTS = {"Model": "MODEL", "Term": "TERM", "Lemma": "LEMMA", "File": "FILE", "Substitution": "SUBST", "Strategy": "STRATEGY", "Script": "SCRIPT",
+             "Output": "TERM", "Number": "N"}
 MAN = {"substitution": "SUBST", "number": "N"}
 ZSH = {"expression": "FILE", "substitution": "SUBST"}
+
+
+def arguments(inputs, last):
+    """The arguments of a command: its inputs, and what stands last. A term that is written is OUT where one is read."""
+    read = [ARGUMENTS[name] for name in re.findall(r"[A-Z]\w+", inputs)]
+    behind = [ARGUMENTS[name] for name in re.findall(r"[A-Z]\w+", last) if name in ARGUMENTS]
+    return read + ["OUT" if name in read else name for name in behind]
 
 
 def usages():
     """The usages, each a command with its arguments, by the table of the definitions."""
     text = text_of("crates", "dlk_replies", "specs", "Forms.antt")
     found = re.findall(r'^form_of \w+ = record \{ verb = codes "(\w+)"; inputs = (.*); last = (.*) \}$', text, re.M)
-    return {" ".join([verb, *(ARGUMENTS[name] for name in re.findall(r"[A-Z]\w+", inputs + " " + last) if name in ARGUMENTS)])
-            for verb, inputs, last in found}
+    return {" ".join([verb, *arguments(inputs, last)]) for verb, inputs, last in found}
 
 
 def in_files(usage):

@@ -6,20 +6,19 @@ use Rattle.dlk_desk.specs.Outside.{Outside}
 use Rattle.dlk_guard.specs.declared.why.Why.{Why}
 use Rattle.dlk_guard.specs.Guarded.{lines, Guarded, FirstUnguarded}
 use Rattle.dlk_replay.specs.Files.{file_lines, Answer, accepted, Verdict}
-use Rattle.dlk_replies.specs.declared.command.Command.{Command}
 use Rattle.dlk_replies.specs.declared.command.Command.TheVariants.{Guard}
 use Rattle.dlk_replies.specs.declared.reply.Layout.TheVariants.{Text}
-use Rattle.dlk_replies.specs.Forms.{Word, inputs_of}
-use Rattle.dlk_replies.specs.Inputs.{inputs, inputs_of_form}
+use Rattle.dlk_replies.specs.Forms.{Word, others_of}
 use Rattle.dlk_replies.specs.Replies.{Reply, code_of}
 use Rattle.dlk_jobs_check.specs.Terms.{Accepts}
 use Rattle.dlk_jobs_check.specs.Checks.{reports, reported}
 use Rattle.dlk_jobs_check.specs.Guards.{Guards, refuses as refuses_term, guards, GuardSays, is_guarded, is_unguarded, guarded_line, unguarded_line}
 use Rattle.dlk_jobs_check.proofs.GuardReports.{term_is_refused}
-use Rattle.dlk_answers.specs.Answers.{Does, Responds, refuses, does}
-use Rattle.dlk.specs.Answers.{bytes_of, Answers, no_form, command}
+use Rattle.dlk_answers.specs.Answers.{Does}
+use Rattle.dlk.specs.Answers.{Answers}
 use Rattle.dlk.specs.Runs.{GivesWhole}
 use Rattle.dlk.specs.Headline.{RunsGuard, TellsGuarded, IsGuarded, GuardsTruly}
+use Rattle.dlk.proofs.Done.{response, is_done}
 use Rattle.dlk.proofs.Judged.{reported_of}
 
 -- one thing becomes of a file
@@ -70,21 +69,12 @@ module _ (one_verdict : OneVerdict) (model term : List ℕ) where
   job_guards [] reply h = h
   job_guards (w ∷ ws) reply h = absurd h
 
-  response_guards : (words : List Word) (reply : Reply) → Responds Guard words (model ∷ term ∷ []) reply → code_of reply.status < 2 →
-      IsGuarded model term (code_of reply.status) reply.printed
-  response_guards words _ (refuses name long) less = absurd (omega (arith, less))
-  response_guards words _ (does short r job) less = guard_of r (job_guards _ r job) less
-
   answer_guards : (words : List Word) (old : Outside) (reply : Reply) → Answers words old.files reply → RunsGuard words old model term →
       code_of reply.status < 2 → IsGuarded model term (code_of reply.status) reply.printed
-  answer_guards words old _ (no_form none) runs less = let e : None ≡ Some Guard = sym none ∙ runs.form in absurd cc
-  answer_guards words old _ (command c is texts there r responds) runs less =
-      let same : c ≡ Guard = let e : Some c ≡ Some Guard = sym is ∙ runs.form in cc in
-      let named : inputs words ≡ inputs_of c words = ap (λ o. inputs_of_form o words) is in
-      let read : texts ≡ model ∷ term ∷ [] =
-      let e : Some texts ≡ Some (model ∷ term ∷ []) = sym there ∙ ap (bytes_of old.files) (sym named) ∙ runs.texts in cc in
-      let here = subst (λ (ts : List (List ℕ)). Responds c words ts r) read responds in
-      response_guards words r (subst (λ (x : Command). Responds x words (model ∷ term ∷ []) r) same here) less
+  answer_guards words old reply answers runs less =
+      let texts = model ∷ term ∷ [] in
+      let answer = response words old.files Guard texts reply answers runs.form runs.texts in
+      guard_of reply (job_guards (others_of Guard words) reply (is_done Guard words texts reply answer less)) less
 
 pub whole_guards : OneVerdict → (words : List Word) (status : ℕ) (old new : Outside) (reply : Reply) → GivesWhole words status old new reply →
     GuardsTruly words status old new

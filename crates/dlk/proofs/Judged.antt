@@ -7,13 +7,12 @@ use Rattle.dlk_calculus.specs.Sequents.{Sequent}
 use Rattle.dlk_calculus.proofs.Leaves.{Derives-leaves}
 use Rattle.dlk_desk.specs.Outside.{Outside}
 use Rattle.dlk_report.specs.Reports.{is_closed}
-use Rattle.dlk_replies.specs.declared.command.Command.{Command}
 use Rattle.dlk_replies.specs.declared.reply.Layout.{Layout}
 use Rattle.dlk_replies.specs.declared.reply.Layout.TheVariants.{Text, Json}
 use Rattle.dlk_replies.specs.declared.reply.Showing.TheVariants.{Reported}
 use Rattle.dlk_replies.specs.declared.form.Role.TheVariants.{Model, Term}
 use Rattle.dlk_replies.specs.Forms.{Word, inputs_of, limits_of, limit_of}
-use Rattle.dlk_replies.specs.Inputs.{first_too_long, inputs, inputs_of_form}
+use Rattle.dlk_replies.specs.Inputs.{first_too_long}
 use Rattle.dlk_replies.specs.Replies.{Reply, code_of}
 use Rattle.dlk_jobs_check.specs.Terms.{ModelText, proves, line_refused, other_conclusion, TakesTerm, bad_model, bad_line, bad_conclusion}
 use Rattle.dlk_jobs_check.specs.Checks.{Checks, refuses as refuses_term, reports, status_of, reported}
@@ -22,15 +21,16 @@ use Rattle.dlk_jobs_check.proofs.Ends.{one_model, model_or_fault}
 use Rattle.dlk_jobs_check.proofs.GuardReports.{term_is_refused}
 use Rattle.dlk_jobs_check.proofs.OneReply.{one_check}
 use Rattle.dlk_jobs_check.proofs.OneTerm.{replays}
-use Rattle.dlk.specs.Answers.{bytes_of, Answers, no_form, command}
+use Rattle.dlk.specs.Answers.{Answers}
 use Rattle.dlk.specs.Headline.{command_in, RunsCheck, IsReported, NamesLine, NamesConclusion, Judges, JudgesTruly}
+use Rattle.dlk.proofs.Done.{response}
 use Rattle.dlk.proofs.Truly.{accepted_derived}
 
-closed_or_open : (b : Bool) → code_of (status_of b) < 2
+pub closed_or_open : (b : Bool) → code_of (status_of b) < 2
 closed_or_open true = omega arith
 closed_or_open false = omega arith
 
-closed_is_zero : (goals : List Sequent) → (code_of (status_of (is_closed goals)) ≡ 0) ↔ (goals ≡ [])
+pub closed_is_zero : (goals : List Sequent) → (code_of (status_of (is_closed goals)) ≡ 0) ↔ (goals ≡ [])
 closed_is_zero [] = ((λ e. refl), (λ e. refl))
 closed_is_zero (s ∷ goals) = ((λ e. absurd (omega (arith, e))), (λ e. cc))
 
@@ -115,12 +115,8 @@ module _ (layout : Layout) (model term : List ℕ) (m : length model ≤ limit_o
   response_checks words reply (does short r job) = job_checks layout _ model term r job
 
   answer_checks : (words : List Word) (old : Outside) (reply : Reply) → Answers words old.files reply → RunsCheck layout words old model term → Checks (Reported layout) model term reply
-  answer_checks words old reply (no_form none) runs = let e : None ≡ Some (command_in layout) = sym none ∙ runs.form in absurd cc
-  answer_checks words old reply (command c is texts there r responds) runs =
-      let same : c ≡ command_in layout = let e : Some c ≡ Some (command_in layout) = sym is ∙ runs.form in cc in
-      let named : inputs words ≡ inputs_of c words = ap (λ o. inputs_of_form o words) is in
-      let read : texts ≡ model ∷ term ∷ [] = let e : Some texts ≡ Some (model ∷ term ∷ []) = sym there ∙ ap (bytes_of old.files) (sym named) ∙ runs.texts in cc in
-      response_checks words r (subst (λ (x : Command). Responds x words (model ∷ term ∷ []) r) same (subst (λ (ts : List (List ℕ)). Responds c words ts r) read responds))
+  answer_checks words old reply answers runs =
+      response_checks words reply (response words old.files (command_in layout) (model ∷ term ∷ []) reply answers runs.form runs.texts)
 
 pub answer_judges : (words : List Word) (old new : Outside) (reply : Reply) → Answers words old.files reply → new.printed ≡ old.printed ++ reply.printed →
     JudgesTruly words (code_of reply.status) old new

@@ -10,3 +10,8 @@ pub mod Written
 pub mod Judged
 pub mod Looked
 pub mod Guarding
+pub mod Refusals
+pub mod Done
+pub mod Writing
+pub mod WrittenTerms
+pub mod Played

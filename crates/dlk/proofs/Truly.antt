@@ -1,40 +1,34 @@
 -- Where `closed` is printed, the model is derived from the printed leaves.
-use Rattle.std.proofs.Common.{◌≡◌, ℕ, zero, suc, List, [], ◌∷◌, ◌++◌, ◌≤◌, length, take, None, Some, codes, refl, sym, ap, subst, ◌∙◌, append-nil, arith, Bool, true, cond, inl, inr}
-use Rattle.std.specs.Prelude.{bytes_eq}
-use Rattle.std.proofs.lemmas.Slice.Eq.{bytes_eq-Decides}
+use Rattle.std.proofs.Common.{◌≡◌, ℕ, zero, suc, List, [], ◌∷◌, ◌++◌, length, take, Some, codes, refl, sym, ap, subst, ◌∙◌, append-nil, arith, inl, inr}
 use Rattle.std.proofs.lemmas.List.{append_cancel_left, take_all}
 use Rattle.dlk_calculus.specs.Sequents.{Sequent}
 use Rattle.dlk_calculus.specs.Provables.{Provable}
-use Rattle.dlk_calculus.specs.Steps.{Step, History, Derives}
+use Rattle.dlk_calculus.specs.Steps.{History, Derives}
 use Rattle.dlk_calculus.proofs.PlaceLaws.{All-between}
 use Rattle.dlk_calculus.proofs.Histories.{History-derives}
 use Rattle.dlk_calculus.proofs.Leaves.{Derives-leaves}
-use Rattle.dlk_desk.specs.Outside.{Outside, Files, SameFiles}
-use Rattle.dlk_grammar.specs.Readings.{Literal, Nesting, Syntax, Shape, TooBig, TooDeep}
-use Rattle.dlk_grammar.specs.Texts.{TextFault, BadByte, Unread}
+use Rattle.dlk_desk.specs.Outside.{Outside, SameFiles}
 use Rattle.dlk_replay.specs.Files.{file_lines}
 use Rattle.dlk_replay.proofs.Verdicts.{accepted_history}
-use Rattle.dlk_tacsyn.specs.Faults.{Fault, Syntax as Syntax', Nesting as Nesting', Repeat, UnknownAtom, Arguments}
-use Rattle.dlk_recorder.specs.Terms.{term_text}
 use Rattle.dlk_print.specs.Lines.{line}
 use Rattle.dlk_report.specs.Reports.{is_closed, first_word, text_report}
 use Rattle.dlk_replies.specs.declared.command.Command.{Command}
-use Rattle.dlk_replies.specs.declared.command.Command.TheVariants.{Check, Print, Vars, Subst, Report, Smt, Guard, Prove, Gen}
+use Rattle.dlk_replies.specs.declared.command.Command.TheVariants.{Check, Print, Vars, Subst, Report, Smt, Guard, Prove, Gen, Convert, Link, Trim, Session}
 use Rattle.dlk_replies.specs.declared.reply.Layout.TheVariants.{Text}
 use Rattle.dlk_replies.specs.declared.reply.Showing.TheVariants.{Reported}
-use Rattle.dlk_replies.specs.declared.form.Role.TheVariants.{Model, Term}
-use Rattle.dlk_replies.specs.Forms.{Word, command_of, inputs_of, limit_of}
-use Rattle.dlk_replies.specs.Inputs.{inputs, inputs_of_form, output}
+use Rattle.dlk_replies.specs.Forms.{Word, command_of, others_of}
+use Rattle.dlk_replies.specs.Inputs.{inputs}
 use Rattle.dlk_replies.specs.Replies.{Reply, code_of, printing}
-use Rattle.dlk_replies.specs.Refusals.{text_refused}
-use Rattle.dlk_jobs_check.specs.Terms.{Accepts, RefusesTerm, bad_model, bad_line, bad_conclusion}
+use Rattle.dlk_jobs_check.specs.Terms.{Accepts}
 use Rattle.dlk_jobs_check.specs.Checks.{Checks, refuses as refuses_term, reports, reported, status_of}
-use Rattle.dlk_jobs_prove.specs.Proves.{Records, too_long, writes, Proves, bad_model as proves_fault, bad_strategy, fails, spent, records, strategy_refused}
-use Rattle.dlk_answers.specs.Answers.{Does, Responds, refuses, does, too_long as too_long_reply}
-use Rattle.dlk.specs.Answers.{bytes_of, Answers, no_form, command}
-use Rattle.dlk.specs.Outputs.{output_with, after}
+use Rattle.dlk_answers.specs.Answers.{Does}
+use Rattle.dlk.specs.Answers.{bytes_of, Answers}
+use Rattle.dlk.specs.Outputs.{after}
 use Rattle.dlk.specs.Runs.{output_to, GivesWhole, BreaksOff}
 use Rattle.dlk.specs.Headline.{WritesTerm, SpeaksOf, IsGiven, all, front, IsDerived, ClosedTruly}
+use Rattle.dlk.proofs.Refusals.{IsRefusal, term_refusal}
+use Rattle.dlk.proofs.Done.{response, refused_or_done}
+use Rattle.dlk.proofs.Writing.{EachIsChecked, WritesChecked, file_holds, proved_writes, linked_writes, trimmed_writes, refused_or_written}
 
 -- a front that begins with d begins with the first of all
 first_is : (n c d : ℕ) (xs ys : List ℕ) → take n (c ∷ xs) ≡ d ∷ ys → c ≡ d
@@ -78,42 +72,18 @@ printed_given : {status : ℕ} {said : List ℕ} (reply : Reply) → Given reply
 printed_given reply (whole s e) = whole s e
 printed_given reply (broken_off s n e) = broken_off s n e
 
--- the file that the words let the program write holds the bytes of the reply
-pub file_holds : (words : List Word) (old new : Files) (reply : Reply) (name : Word) (bytes term : List ℕ) → output words ≡ Some name → reply.written ≡ Some bytes →
-    SameFiles (after (output_to words reply) old) new → new name ≡ Some term → bytes ≡ term
-file_holds words old new reply name bytes term named written same there =
-    let is_written : SameFiles (after (Some (record { name = name; bytes = bytes })) old) new =
-    subst (λ o. SameFiles (after o old) new) ((λ i. output_with (named i) (written i))) same in
-    let here : bytes_eq name name ≡ true = (bytes_eq-Decides name name).1 refl in
-    let holds : new name ≡ Some bytes = is_written name ∙ ap (λ (b : Bool). cond b (Some bytes) (old name)) here in
-    let e : Some bytes ≡ Some term = sym holds ∙ there in
-    cc
-
--- `check` answers the same to what `prove` writes
-abbrev pub ProvedIsChecked : Type 0
-ProvedIsChecked = (model strategy term : List ℕ) (reply : Reply) → Proves model strategy reply → reply.written ≡ Some term →
-    (length term ≤ limit_of Term) × Checks (Reported Text) model term (printing reply.status reply.printed)
-
-module _ (checked_too : ProvedIsChecked) (model term said : List ℕ) (status : ℕ) where
+module _ (checked : EachIsChecked) (model term said : List ℕ) (status : ℕ) where
   abbrev Says : Reply → ℕ → Type 0
   Says reply n = take n reply.printed ≡ codes "closed" ++ said
 
-  refused_fault : (n : ℕ) (why : TextFault) → Says (text_refused Model why) n → ⊥
-  refused_fault n (BadByte at) h = not_refused n _ _ h
-  refused_fault n (Unread (Literal at)) h = not_refused n _ _ h
-  refused_fault n (Unread (Nesting at)) h = not_refused n _ _ h
-  refused_fault n (Unread (Syntax at)) h = not_refused n _ _ h
-  refused_fault n (Unread (Shape at)) h = not_refused n _ _ h
-  refused_fault n (Unread (TooBig size)) h = not_refused n _ _ h
-  refused_fault n (Unread (TooDeep depth)) h = not_refused n _ _ h
+  abbrev DerivedTruly : Type 0
+  DerivedTruly = IsDerived model term status (codes "closed" ++ said)
 
-  refused_term : (reply : Reply) → RefusesTerm model term reply → (n : ℕ) → Says reply n → ⊥
-  refused_term _ (bad_model why fault) n h = refused_fault n why h
-  refused_term _ (bad_line f t line why v) n h = not_refused n _ _ h
-  refused_term _ (bad_conclusion f t rows p a ne) n h = not_refused n _ _ h
+  refused_says : (reply : Reply) → IsRefusal reply → (n : ℕ) → Says reply n → ⊥
+  refused_says reply refusal n h = not_refused n refusal.rest _ (subst (λ (l : List ℕ). take n l ≡ codes "closed" ++ said) refusal.begins h)
 
-  check_truly : (reply : Reply) → Checks (Reported Text) model term reply → (n : ℕ) → Says reply n → Given reply status (codes "closed" ++ said) → IsDerived model term status (codes "closed" ++ said)
-  check_truly reply (refuses_term r refused) n h given = absurd (refused_term r refused n h)
+  check_truly : (reply : Reply) → Checks (Reported Text) model term reply → (n : ℕ) → Says reply n → Given reply status (codes "closed" ++ said) → DerivedTruly
+  check_truly reply (refuses_term r refused) n h given = absurd (refused_says r (term_refusal model term r refused) n h)
   check_truly reply (reports steps rows p t) n h given =
       let a = t.replays.accepts in
       let derives = accepted_derived term rows p a in
@@ -131,73 +101,35 @@ module _ (checked_too : ProvedIsChecked) (model term said : List ℕ) (status : 
         report = report_given p (length rows) status (codes "closed" ++ said) closed given;
       }
 
-  job_truly : (others : List Word) (reply : Reply) → Does Check others (model ∷ term ∷ []) reply → Given reply status (codes "closed" ++ said) → IsDerived model term status (codes "closed" ++ said)
-  job_truly [] reply checks given = let shown = front_of reply status (codes "closed" ++ said) given in check_truly reply checks shown.0 shown.1 given
-  job_truly (w ∷ ws) reply checks given = absurd checks
-
-  response_truly : (words : List Word) (reply : Reply) → Responds Check words (model ∷ term ∷ []) reply → Given reply status (codes "closed" ++ said) → IsDerived model term status (codes "closed" ++ said)
-  response_truly words reply (refuses name long) given = let shown = front_of reply status (codes "closed" ++ said) given in absurd (not_refused shown.0 _ _ shown.1)
-  response_truly words reply (does short r job) given = job_truly _ r job given
-
-  strategy_fault : (n : ℕ) (why : Fault) → Says (strategy_refused why) n → ⊥
-  strategy_fault n (Syntax' at) h = not_refused n _ _ h
-  strategy_fault n (Nesting' at) h = not_refused n _ _ h
-  strategy_fault n (Repeat at) h = not_refused n _ _ h
-  strategy_fault n (UnknownAtom at) h = not_refused n _ _ h
-  strategy_fault n (Arguments at) h = not_refused n _ _ h
-
-  -- a record that begins with `closed` writes the term
-  record_written : (steps : List Step) (p : Provable) (reply : Reply) → Records steps p reply → (n : ℕ) → Says reply n → ((bytes : List ℕ) → reply.written ≡ Some bytes → bytes ≡ term) →
-      reply.written ≡ Some term
-  record_written steps p _ (too_long long) n h holds = absurd (not_refused n _ _ h)
-  record_written steps p _ (writes short) n h holds = ap Some (holds (term_text steps) refl)
-
-  -- `prove` has written the term
-  prove_truly : (strategy : List ℕ) (reply : Reply) → Proves model strategy reply → (n : ℕ) → Says reply n → ((bytes : List ℕ) → reply.written ≡ Some bytes → bytes ≡ term) →
-      Given reply status (codes "closed" ++ said) → IsDerived model term status (codes "closed" ++ said)
-  prove_truly strategy _ (proves_fault why is) n h holds given = absurd (refused_fault n why h)
-  prove_truly strategy _ (bad_strategy f reads why is) n h holds given = absurd (strategy_fault n why h)
-  prove_truly strategy _ (fails at used why run) n h holds given = absurd (not_refused n _ _ h)
-  prove_truly strategy _ (spent at run) n h holds given = absurd (not_refused n _ _ h)
-  prove_truly strategy _ (records made left run p ended r is) n h holds given =
-      let written = record_written made.steps p r is n h holds in
-      let checks = (checked_too model strategy term r (records made left run p ended r is) written).1 in
-      check_truly (printing r.status r.printed) checks n h (printed_given r given)
+  does_check : (others : List Word) (reply : Reply) → Does Check others (model ∷ term ∷ []) reply → Checks (Reported Text) model term reply
+  does_check [] reply checks = checks
+  does_check (w ∷ ws) reply checks = absurd checks
 
   -- the words have `check` and these files
   answer_truly : (words : List Word) (old : Outside) (reply : Reply) → Answers words old.files reply → command_of words ≡ Some Check →
-      bytes_of old.files (inputs words) ≡ Some (model ∷ term ∷ []) → Given reply status (codes "closed" ++ said) → IsDerived model term status (codes "closed" ++ said)
-  answer_truly words old reply (no_form none) form there given = let e : None ≡ Some Check = sym none ∙ form in absurd cc
-  answer_truly words old reply (command c is texts has r responds) form there given =
-      let same : c ≡ Check = let e : Some c ≡ Some Check = sym is ∙ form in cc in
-      let named : inputs words ≡ inputs_of c words = ap (λ o. inputs_of_form o words) is in
-      let read : texts ≡ model ∷ term ∷ [] = let e : Some texts ≡ Some (model ∷ term ∷ []) = sym has ∙ ap (bytes_of old.files) (sym named) ∙ there in cc in
-      response_truly words r (subst (λ (x : Command). Responds x words (model ∷ term ∷ []) r) same (subst (λ (ts : List (List ℕ)). Responds c words ts r) read responds)) given
+      bytes_of old.files (inputs words) ≡ Some (model ∷ term ∷ []) → Given reply status (codes "closed" ++ said) → DerivedTruly
+  answer_truly words old reply answers form there given =
+      let shown = front_of reply status (codes "closed" ++ said) given in
+      elim (refused_or_done Check words (model ∷ term ∷ []) reply (response words old.files Check (model ∷ term ∷ []) reply answers form there)) [
+        | inl refusal ↦ absurd (refused_says reply refusal shown.0 shown.1)
+        | inr job ↦ check_truly reply (does_check (others_of Check words) reply job) shown.0 shown.1 given
+      ]
 
-  wrote_truly : (words : List Word) (old new : Outside) (reply : Reply) → Answers words old.files reply → command_of words ≡ Some Prove → WritesTerm words old new model term →
-      SameFiles (after (output_to words reply) old.files) new.files → Given reply status (codes "closed" ++ said) → IsDerived model term status (codes "closed" ++ said)
-  wrote_truly words old new reply (no_form none) form there files given = let e : None ≡ Some Prove = sym none ∙ form in absurd cc
-  wrote_truly words old new reply (command c is texts has r responds) form there files given =
-      let same : c ≡ Prove = let e : Some c ≡ Some Prove = sym is ∙ form in cc in
-      let named : inputs words ≡ inputs_of c words = ap (λ o. inputs_of_form o words) is in
-      let read : texts ≡ model ∷ there.strategy ∷ [] = let e : Some texts ≡ Some (model ∷ there.strategy ∷ []) = sym has ∙ ap (bytes_of old.files) (sym named) ∙ there.texts in cc in
-      by_response r (subst (λ (x : Command). Responds x words (model ∷ there.strategy ∷ []) r) same (subst (λ (ts : List (List ℕ)). Responds c words ts r) read responds)) files given
-    where
-      by_job : (others : List Word) (r : Reply) → Does Prove others (model ∷ there.strategy ∷ []) r → SameFiles (after (output_to words r) old.files) new.files →
-          Given r status (codes "closed" ++ said) → IsDerived model term status (codes "closed" ++ said)
-      by_job (name ∷ []) r proof files given =
-          let shown = front_of r status (codes "closed" ++ said) given in
-          prove_truly there.strategy r proof shown.0 shown.1 (λ bytes written. file_holds words old.files new.files r there.name bytes term there.named written files there.written) given
-      by_job [] r proof files given = absurd proof
-      by_job (name ∷ other ∷ others) r proof files given = absurd proof
-
-      by_response : (r : Reply) → Responds Prove words (model ∷ there.strategy ∷ []) r → SameFiles (after (output_to words r) old.files) new.files →
-          Given r status (codes "closed" ++ said) → IsDerived model term status (codes "closed" ++ said)
-      by_response _ (refuses name long) files given = let shown = front_of (too_long_reply name) status (codes "closed" ++ said) given in absurd (not_refused shown.0 _ _ shown.1)
-      by_response _ (does short r job) files given = by_job _ r job files given
+  -- the words have a command that has written the term
+  wrote_truly : (c : Command) → ((others : List Word) (texts : List (List ℕ)) (reply : Reply) → Does c others (model ∷ texts) reply → WritesChecked model reply) →
+      (words : List Word) (old new : Outside) (reply : Reply) → Answers words old.files reply → command_of words ≡ Some c → WritesTerm words old new model term →
+      SameFiles (after (output_to words reply) old.files) new.files → Given reply status (codes "closed" ++ said) → DerivedTruly
+  wrote_truly c writes words old new reply answers form (texts, there) files given =
+      let shown = front_of reply status (codes "closed" ++ said) given in
+      elim (refused_or_written c model writes words old.files texts reply answers form there.texts_are) [
+        | inl refusal ↦ absurd (refused_says reply refusal shown.0 shown.1)
+        | inr w ↦ let same = file_holds words old.files new.files reply there.name w.term term there.named w.written files there.written in
+            let checks = subst (λ (l : List ℕ). Checks (Reported Text) model l (printing reply.status reply.printed)) same w.checks in
+            check_truly (printing reply.status reply.printed) checks shown.0 shown.1 (printed_given reply given)
+      ]
 
   pub speaks_truly : (words : List Word) (old new : Outside) (reply : Reply) (c : Command) → Answers words old.files reply → command_of words ≡ Some c → SpeaksOf c words old new model term →
-      SameFiles (after (output_to words reply) old.files) new.files → Given reply status (codes "closed" ++ said) → IsDerived model term status (codes "closed" ++ said)
+      SameFiles (after (output_to words reply) old.files) new.files → Given reply status (codes "closed" ++ said) → DerivedTruly
   speaks_truly words old new reply Check answers form there files given = answer_truly words old reply answers form there given
   speaks_truly words old new reply Print answers form there files given = absurd there
   speaks_truly words old new reply Vars answers form there files given = absurd there
@@ -205,8 +137,15 @@ module _ (checked_too : ProvedIsChecked) (model term said : List ℕ) (status : 
   speaks_truly words old new reply Report answers form there files given = absurd there
   speaks_truly words old new reply Smt answers form there files given = absurd there
   speaks_truly words old new reply Guard answers form there files given = absurd there
+  speaks_truly words old new reply Prove answers form there files given =
+      wrote_truly Prove (proved_writes checked model) words old new reply answers form there files given
   speaks_truly words old new reply Gen answers form there files given = absurd there
-  speaks_truly words old new reply Prove answers form there files given = wrote_truly words old new reply answers form there files given
+  speaks_truly words old new reply Convert answers form there files given = absurd there
+  speaks_truly words old new reply Link answers form there files given =
+      wrote_truly Link (linked_writes checked model) words old new reply answers form there files given
+  speaks_truly words old new reply Trim answers form there files given =
+      wrote_truly Trim (trimmed_writes checked model) words old new reply answers form there files given
+  speaks_truly words old new reply Session answers form there files given = absurd there
 
 -- `closed` was printed where something was
 silent_not : (old new said : List ℕ) → new ≡ old → new ≡ old ++ (codes "closed" ++ said) → ⊥
@@ -215,17 +154,17 @@ silent_not old new said same says =
     absurd (cc)
 
 -- a reply that was given whole, and one that was broken off
-pub whole_truly : ProvedIsChecked → (words : List Word) (status : ℕ) (old new : Outside) (reply : Reply) → GivesWhole words status old new reply → ClosedTruly words status old new
-whole_truly checked_too words status old new reply gives c model term said form there says =
+pub whole_truly : EachIsChecked → (words : List Word) (status : ℕ) (old new : Outside) (reply : Reply) → GivesWhole words status old new reply → ClosedTruly words status old new
+whole_truly checked words status old new reply gives c model term said form there says =
     let same : codes "closed" ++ said ≡ reply.printed = append_cancel_left old.printed (codes "closed" ++ said) reply.printed (sym says ∙ gives.printed) in
-    speaks_truly checked_too model term said status words old new reply c gives.answer form there gives.files (whole gives.status_is same)
+    speaks_truly checked model term said status words old new reply c gives.answer form there gives.files (whole gives.status_is same)
 
-pub front_truly : ProvedIsChecked → (words : List Word) (old new : Outside) (reply : Reply) → BreaksOff words old new reply → ClosedTruly words 5 old new
-front_truly checked_too words old new reply breaks c model term said form there says = elim breaks.file_first [
+pub front_truly : EachIsChecked → (words : List Word) (old new : Outside) (reply : Reply) → BreaksOff words old new reply → ClosedTruly words 5 old new
+front_truly checked words old new reply breaks c model term said form there says = elim breaks.file_first [
   | inl files ↦
       let same : codes "closed" ++ said ≡ take breaks.printed.0 reply.printed =
       append_cancel_left old.printed (codes "closed" ++ said) (take breaks.printed.0 reply.printed) (sym says ∙ breaks.printed.1) in
-      speaks_truly checked_too model term said 5 words old new reply c breaks.answer form there files (broken_off refl breaks.printed.0 same)
+      speaks_truly checked model term said 5 words old new reply c breaks.answer form there files (broken_off refl breaks.printed.0 same)
   | inr none ↦ absurd (silent_not old.printed new.printed said none says)
 ]
 

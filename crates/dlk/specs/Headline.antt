@@ -10,7 +10,7 @@ use Rattle.dlk_replay.specs.Files.{Verdict, bad, file_lines, FileSteps}
 use Rattle.dlk_replay.specs.declared.fault.LineWhy.{LineWhy}
 use Rattle.dlk_report.specs.Reports.{text_report}
 use Rattle.dlk_replies.specs.declared.command.Command.{Command}
-use Rattle.dlk_replies.specs.declared.command.Command.TheVariants.{Check, Print, Vars, Subst, Report, Smt, Guard, Prove, Gen}
+use Rattle.dlk_replies.specs.declared.command.Command.TheVariants.{Check, Print, Vars, Subst, Report, Smt, Guard, Prove, Gen, Convert, Link, Trim, Session}
 use Rattle.dlk_replies.specs.declared.reply.Layout.{Layout}
 use Rattle.dlk_replies.specs.declared.reply.Layout.TheVariants.{Text, Json}
 use Rattle.dlk_replies.specs.declared.reply.Showing.TheVariants.{Reported}
@@ -23,16 +23,20 @@ use Rattle.dlk_jobs_check.specs.Checks.{Checks, report_in}
 use Rattle.dlk_jobs_check.specs.Guards.{guarded_line, unguarded_line}
 use Rattle.dlk.specs.Answers.{bytes_of}
 
--- `prove` was run on this model and a strategy, and this term stands in the file that it writes.
-pub record WritesTerm (words : List Word) (old new : Outside) (model term : List ℕ) : Type 0 where
-  pub strategy : List ℕ
-  pub texts : bytes_of old.files (inputs words) ≡ Some (model ∷ strategy ∷ [])
+-- A command was run on inputs of these texts, and behind the run this one stands in the file that it writes.
+pub record Writes (words : List Word) (old new : Outside) (texts : List (List ℕ)) (out : List ℕ) : Type 0 where
+  pub texts_are : bytes_of old.files (inputs words) ≡ Some texts
   pub name : Word
   pub named : output words ≡ Some name
-  pub written : new.files name ≡ Some term
+  pub written : new.files name ≡ Some out
 
--- The model and the term of which a command speaks where it prints `closed`: `check` has read both, and `prove` has read the one and written
--- the other. `guard` prints its own line first, and the others print no report as text.
+-- The first of the inputs is this model.
+abbrev pub WritesTerm : List Word → Outside → Outside → List ℕ → List ℕ → Type 0
+WritesTerm words old new model term = (others : List (List ℕ)) × Writes words old new (model ∷ others) term
+
+-- The model and the term of which a command speaks where it prints `closed`: `check` has read both, and `prove`, `link` and `trim` have read
+-- the one and written the other. `convert` reads no model, `guard` and `session` print lines of their own first, and the others print no report
+-- as text.
 abbrev pub SpeaksOf : Command → List Word → Outside → Outside → List ℕ → List ℕ → Type 0
 SpeaksOf Check words old new model term = bytes_of old.files (inputs words) ≡ Some (model ∷ term ∷ [])
 SpeaksOf Print words old new model term = ⊥
@@ -43,6 +47,10 @@ SpeaksOf Smt words old new model term = ⊥
 SpeaksOf Guard words old new model term = ⊥
 SpeaksOf Prove words old new model term = WritesTerm words old new model term
 SpeaksOf Gen words old new model term = ⊥
+SpeaksOf Convert words old new model term = ⊥
+SpeaksOf Link words old new model term = WritesTerm words old new model term
+SpeaksOf Trim words old new model term = WritesTerm words old new model term
+SpeaksOf Session words old new model term = ⊥
 
 -- what is printed of a text by the status: with 0 the whole, and with 5 a front
 pub data IsGiven (whole : List ℕ) : ℕ → List ℕ → Type 0 where
@@ -65,7 +73,8 @@ pub record IsDerived (model term : List ℕ) (status : ℕ) (said : List ℕ) : 
   -- what is printed is the report of this very provable, or a front of it where printing failed
   pub report : IsGiven (text_report proof (length rows)) status said
 
--- Whenever `check` or `prove` prints `closed`, the formula of the model is derived from the printed leaves, by the lines of the term.
+-- Whenever `check`, `prove`, `link` or `trim` prints `closed`, the formula of the model is derived from the printed leaves, by the lines of the
+-- term.
 abbrev pub ClosedTruly : List Word → ℕ → Outside → Outside → Type 0
 ClosedTruly words status old new =
     (command : Command) (model term said : List ℕ) → command_of words ≡ Some command → SpeaksOf command words old new model term →

@@ -5,3 +5,5 @@ pub mod Headline
 pub mod Cuts
 pub mod NoAnswers
 pub mod Looks
+pub mod WrittenTerms
+pub mod Sessions

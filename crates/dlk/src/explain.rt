@@ -8,13 +8,17 @@ use std::io::{Eprint, Result};
 pub const NO_WORDS: u8 = 7;
 
 /// The forms of the words, a line each, with what each does.
-const FORMS: [&str; 10] = [
+const FORMS: [&str; 14] = [
     "dlk: usage, in which - is standard input:",
     "  dlk check MODEL TERM             replays a proof term, and prints whether the model is closed",
     "  dlk report MODEL TERM            the same as JSON",
     "  dlk smt MODEL TERM               replays a proof term, and prints its leaves for a solver",
     "  dlk guard MODEL TERM             replays a proof term, and prints whether its lines are guarded, and as check does",
     "  dlk prove MODEL STRATEGY TERM    runs a strategy, writes the term that it makes, and prints as check does",
+    "  dlk session MODEL SCRIPT TERM    runs strategies on chosen goals by a script's lines, and writes the term that is saved",
+    "  dlk convert TERM OUT             writes a proof term anew in the newest version, and prints its report",
+    "  dlk link MODEL TERM LEMMA OUT    proves goals of a term by another, writes the term of both, and prints as check does",
+    "  dlk trim MODEL TERM OUT          leaves out the lines that a term doesn't need, writes the rest, and prints as check does",
     "  dlk print FILE                   prints an expression's canonical text",
     "  dlk vars FILE                    prints an expression's free, bound and must-bound variables, and its symbols",
     "  dlk subst FILE SUBST             applies a substitution to an expression",

@@ -11,6 +11,8 @@ ghost use Rattle.dlk.specs.Cuts.{cut_bytes_of};
 ghost use Rattle.dlk.specs.Answers.{Answers};
 ghost use Rattle.dlk.specs.Runs.{Caused, AsksFor, Asks, Keeps, HasInputs, Answered, Completes};
 ghost use Rattle.dlk.specs.Headline.{ClosedTruly, JudgesTruly, ProvesTruly, GuardsTruly};
+ghost use Rattle.dlk.specs.WrittenTerms.{ConvertsTruly, LinksTruly, TrimsTruly};
+ghost use Rattle.dlk.specs.Sessions.{SessionsTruly};
 ghost use Rattle.dlk.specs.Looks.{LooksAtFewFor, LooksAtFew};
 
 use crate::fault::NoAnswer;
@@ -18,6 +20,8 @@ use crate::give::give;
 use dlk_answers::{respond, words_refused};
 use dlk_desk::Desk;
 use dlk_jobs_prove::laws::proved_is_checked;
+use dlk_jobs_session::laws::session_is_checked;
+use dlk_jobs_terms::laws::{converted_is_accepted, linked_is_checked, trimmed_is_checked};
 use dlk_replay::one_verdict;
 use dlk_replies::{Command, Reply, Role, output};
 use dlk_store::Steps;
@@ -103,6 +107,14 @@ pub fn run<D: Desk, L: Ledger>(
     ensures proves_truly { D.tells → ProvesTruly (map string_bytes words.now) result (D.outside desk.old) (D.outside desk.new) }
     // What `guard` says before the report of an accepted term: whether its lines are guarded, or which is the first that isn't.
     ensures guards_truly { D.tells → GuardsTruly (map string_bytes words.now) result (D.outside desk.old) (D.outside desk.new) }
+    // What `convert` writes is the term file of the steps that the term's lines say, and is accepted with the very same rows.
+    ensures converts_truly { D.tells → ConvertsTruly (map string_bytes words.now) result (D.outside desk.old) (D.outside desk.new) }
+    // What `link` writes is accepted by `check`, with the same report and the same status, and shows the term with the lemma linked into it.
+    ensures links_truly { D.tells → LinksTruly (map string_bytes words.now) result (D.outside desk.old) (D.outside desk.new) }
+    // What `trim` writes is accepted by `check`, with the same report and the same status, shows what the term shows, and has no step that nothing needs.
+    ensures trims_truly { D.tells → TrimsTruly (map string_bytes words.now) result (D.outside desk.old) (D.outside desk.new) }
+    // What `session` prints are the replies to the script's lines in turn, and what it saves is accepted by `check`.
+    ensures sessions_truly { D.tells → SessionsTruly (map string_bytes words.now) result (D.outside desk.old) (D.outside desk.new) }
     // On every desk: each status has its cause.
     ensures caused { Caused (map string_bytes words.now) result (D.outside desk.old) (D.outside desk.new) }
     // On every desk: what is asked for are the inputs of the words in their order, and of the last of them little is taken.
@@ -119,6 +131,10 @@ pub fn run<D: Desk, L: Ledger>(
     ensures looks { D.tells → LooksAtFew (map string_bytes words.now) result (D.outside desk.old) (D.outside desk.new) steps.old steps.new }
 {
     proved_is_checked();
+    converted_is_accepted();
+    linked_is_checked();
+    trimmed_is_checked();
+    session_is_checked();
     one_verdict();
     let reply = match work(alloc, words, desk, steps) {
         Ok(reply) => reply,

@@ -2,7 +2,7 @@
 use Rattle.std.proofs.Common.{ℕ, List, [], ◌∷◌, arith}
 use Rattle.dlk_grammar.specs.Tokens.{value}
 use Rattle.dlk_replies.specs.declared.command.Command.{Command}
-use Rattle.dlk_replies.specs.declared.command.Command.TheVariants.{Check, Print, Vars, Subst, Report, Smt, Guard, Prove, Gen}
+use Rattle.dlk_replies.specs.declared.command.Command.TheVariants.{Check, Print, Vars, Subst, Report, Smt, Guard, Prove, Gen, Convert, Link, Trim, Session}
 use Rattle.dlk_replies.specs.declared.reply.Showing.TheVariants.{Reported, Exported}
 use Rattle.dlk_replies.specs.declared.reply.Layout.TheVariants.{Text, Json}
 use Rattle.dlk_replies.specs.Forms.{Word}
@@ -11,6 +11,8 @@ use Rattle.dlk_replies.proofs.CarriedOut.{IsCarriedOut, printed_only}
 use Rattle.dlk_jobs_text.proofs.CarriedOut.{print_carried_out, list_carried_out, substitute_carried_out}
 use Rattle.dlk_jobs_check.proofs.CarriedOut.{check_carried_out, guard_carried_out}
 use Rattle.dlk_jobs_prove.proofs.CarriedOut.{prove_carried_out, generate_carried_out}
+use Rattle.dlk_jobs_terms.proofs.CarriedOut.{convert_carried_out, link_carried_out, trim_carried_out}
+use Rattle.dlk_jobs_session.proofs.CarriedOut.{session_carried_out}
 use Rattle.dlk_answers.specs.Answers.{Does, Responds, refuses, does}
 
 job_carried_out : (command : Command) (others : List Word) (texts : List (List ℕ)) (reply : Reply) → Does command others texts reply → IsCarriedOut reply
@@ -23,6 +25,10 @@ job_carried_out Smt [] (model ∷ term ∷ []) reply h = check_carried_out Expor
 job_carried_out Guard [] (model ∷ term ∷ []) reply h = guard_carried_out model term reply h
 job_carried_out Prove (term ∷ []) (model ∷ strategy ∷ []) reply h = prove_carried_out model strategy reply h
 job_carried_out Gen (word ∷ []) [] reply h = generate_carried_out (value word) reply h
+job_carried_out Convert (out ∷ []) (term ∷ []) reply h = convert_carried_out term reply h
+job_carried_out Link (out ∷ []) (model ∷ term ∷ lemma ∷ []) reply h = link_carried_out model term lemma reply h
+job_carried_out Trim (out ∷ []) (model ∷ term ∷ []) reply h = trim_carried_out model term reply h
+job_carried_out Session (term ∷ []) (model ∷ script ∷ []) reply h = session_carried_out model script reply h
 job_carried_out _ _ _ reply h = absurd h
 
 pub carried_out : (command : Command) (words : List Word) (texts : List (List ℕ)) (reply : Reply) → Responds command words texts reply → IsCarriedOut reply

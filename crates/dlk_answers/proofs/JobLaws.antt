@@ -9,6 +9,10 @@ use Rattle.dlk_jobs_check.specs.Checks.{Checks}
 use Rattle.dlk_jobs_check.specs.Guards.{Guards}
 use Rattle.dlk_jobs_prove.specs.Proves.{Proves}
 use Rattle.dlk_jobs_prove.specs.Generates.{Generates}
+use Rattle.dlk_jobs_terms.specs.Converts.{Converts}
+use Rattle.dlk_jobs_terms.specs.Links.{Links}
+use Rattle.dlk_jobs_terms.specs.Trims.{Trims}
+use Rattle.dlk_jobs_session.specs.Sessions.{Sessions}
 
 -- there is one answer
 abbrev pub One : (Reply → Type 0) → Type 0
@@ -22,6 +26,10 @@ pub record OneEach : Type 0 where
   pub guards : (model term : List ℕ) → One (Guards model term)
   pub proves : (model strategy : List ℕ) → One (Proves model strategy)
   pub generates : (n : ℕ) → One (Generates n)
+  pub converts : (term : List ℕ) → One (Converts term)
+  pub links : (model term lemma : List ℕ) → One (Links model term lemma)
+  pub trims : (model term : List ℕ) → One (Trims model term)
+  pub sessions : (model script : List ℕ) → One (Sessions model script)
 
 -- there is some answer
 pub record SomeEach : Type 0 where
@@ -32,3 +40,7 @@ pub record SomeEach : Type 0 where
   pub guards : (model term : List ℕ) → (reply : Reply) × Guards model term reply
   pub proves : (model strategy : List ℕ) → (reply : Reply) × Proves model strategy reply
   pub generates : (n : ℕ) → (reply : Reply) × Generates n reply
+  pub converts : (term : List ℕ) → (reply : Reply) × Converts term reply
+  pub links : (model term lemma : List ℕ) → (reply : Reply) × Links model term lemma reply
+  pub trims : (model term : List ℕ) → (reply : Reply) × Trims model term reply
+  pub sessions : (model script : List ℕ) → (reply : Reply) × Sessions model script reply

@@ -2,7 +2,7 @@
 use Rattle.std.proofs.Common.{◌≡◌, ℕ, List, [], ◌∷◌, None, Some, sym, ap, ◌∙◌}
 use Rattle.dlk_grammar.specs.Tokens.{value}
 use Rattle.dlk_replies.specs.declared.command.Command.{Command}
-use Rattle.dlk_replies.specs.declared.command.Command.TheVariants.{Check, Print, Vars, Subst, Report, Smt, Guard, Prove, Gen}
+use Rattle.dlk_replies.specs.declared.command.Command.TheVariants.{Check, Print, Vars, Subst, Report, Smt, Guard, Prove, Gen, Convert, Link, Trim, Session}
 use Rattle.dlk_replies.specs.declared.reply.Showing.TheVariants.{Reported, Exported}
 use Rattle.dlk_replies.specs.declared.reply.Layout.TheVariants.{Text, Json}
 use Rattle.dlk_replies.specs.Forms.{Word}
@@ -27,6 +27,10 @@ module _ (one : OneEach) where
   one_job Guard [] (model ∷ term ∷ []) r s a b = one.guards model term r s a b
   one_job Prove (term ∷ []) (model ∷ strategy ∷ []) r s a b = one.proves model strategy r s a b
   one_job Gen (word ∷ []) [] r s a b = one.generates (value word) r s a b
+  one_job Convert (out ∷ []) (term ∷ []) r s a b = one.converts term r s a b
+  one_job Link (out ∷ []) (model ∷ term ∷ lemma ∷ []) r s a b = one.links model term lemma r s a b
+  one_job Trim (out ∷ []) (model ∷ term ∷ []) r s a b = one.trims model term r s a b
+  one_job Session (term ∷ []) (model ∷ script ∷ []) r s a b = one.sessions model script r s a b
   one_job _ _ _ r s a b = absurd a
 
   pub one_response : (c : Command) (words : List Word) (texts : List (List ℕ)) (r s : Reply) → Responds c words texts r → Responds c words texts s → r ≡ s

@@ -2,7 +2,7 @@
 use Rattle.std.proofs.Common.{◌≡◌, ℕ, List, [], ◌∷◌, length, Option, None, Some, IsTrue, refl, sym, subst, arith}
 use Rattle.dlk_grammar.specs.Tokens.{value}
 use Rattle.dlk_replies.specs.declared.command.Command.{Command}
-use Rattle.dlk_replies.specs.declared.command.Command.TheVariants.{Check, Print, Vars, Subst, Report, Smt, Guard, Prove, Gen}
+use Rattle.dlk_replies.specs.declared.command.Command.TheVariants.{Check, Print, Vars, Subst, Report, Smt, Guard, Prove, Gen, Convert, Link, Trim, Session}
 use Rattle.dlk_replies.specs.declared.form.Last.{Last}
 use Rattle.dlk_replies.specs.declared.form.Last.TheVariants.{Output, Number}
 use Rattle.dlk_replies.specs.declared.reply.Showing.TheVariants.{Reported, Exported}
@@ -32,6 +32,13 @@ two_texts [] count = absurd (omega (arith, count))
 two_texts (a ∷ []) count = absurd (omega (arith, count))
 two_texts (a ∷ b ∷ []) count = (a, b, refl)
 two_texts (a ∷ b ∷ c ∷ texts) count = absurd (omega (arith, count))
+
+three_texts : (texts : List (List ℕ)) → length texts ≡ 3 → (a : List ℕ) × (b : List ℕ) × (c : List ℕ) × (texts ≡ a ∷ b ∷ c ∷ [])
+three_texts [] count = absurd (omega (arith, count))
+three_texts (a ∷ []) count = absurd (omega (arith, count))
+three_texts (a ∷ b ∷ []) count = absurd (omega (arith, count))
+three_texts (a ∷ b ∷ c ∷ []) count = (a, b, c, refl)
+three_texts (a ∷ b ∷ c ∷ d ∷ texts) count = absurd (omega (arith, count))
 
 one_other : (last : Last) (others : List Word) → IsTrue (ends_in (Some last) others) → (word : Word) × (others ≡ word ∷ [])
 one_other last [] ends = absurd cc
@@ -76,6 +83,22 @@ module _ (some : SomeEach) where
   some_job Gen others texts ends count =
       let w = one_other Number others ends in
       done_of Gen others (w.0 ∷ []) texts [] w.1 (no_texts texts count) (some.generates (value w.0))
+  some_job Convert others texts ends count =
+      let t = one_text texts count in
+      let w = one_other Output others ends in
+      done_of Convert others (w.0 ∷ []) texts (t.0 ∷ []) w.1 t.1 (some.converts t.0)
+  some_job Link others texts ends count =
+      let t = three_texts texts count in
+      let w = one_other Output others ends in
+      done_of Link others (w.0 ∷ []) texts (t.0 ∷ t.1 ∷ t.2 ∷ []) w.1 t.3 (some.links t.0 t.1 t.2)
+  some_job Trim others texts ends count =
+      let t = two_texts texts count in
+      let w = one_other Output others ends in
+      done_of Trim others (w.0 ∷ []) texts (t.0 ∷ t.1 ∷ []) w.1 t.2 (some.trims t.0 t.1)
+  some_job Session others texts ends count =
+      let t = two_texts texts count in
+      let w = one_other Output others ends in
+      done_of Session others (w.0 ∷ []) texts (t.0 ∷ t.1 ∷ []) w.1 t.2 (some.sessions t.0 t.1)
 
   pub some_response : (command : Command) (words : List Word) (texts : List (List ℕ)) → command_of words ≡ Some command →
       length texts ≡ length (form_of command).inputs →

@@ -1,7 +1,7 @@
 -- What the program answers to its words and to the texts of its inputs.
 use Rattle.std.specs.Prelude.{◌≡◌, ℕ, List, [], ◌∷◌, ◌++◌, Some, None, codes}
 use Rattle.dlk_replies.specs.declared.command.Command.{Command}
-use Rattle.dlk_replies.specs.declared.command.Command.TheVariants.{Check, Print, Vars, Subst, Report, Smt, Guard, Prove, Gen}
+use Rattle.dlk_replies.specs.declared.command.Command.TheVariants.{Check, Print, Vars, Subst, Report, Smt, Guard, Prove, Gen, Convert, Link, Trim, Session}
 use Rattle.dlk_replies.specs.declared.reply.Layout.TheVariants.{Text, Json}
 use Rattle.dlk_replies.specs.declared.reply.Showing.TheVariants.{Reported, Exported}
 use Rattle.dlk_replies.specs.Forms.{Word, inputs_of, others_of, limits_of}
@@ -14,6 +14,10 @@ use Rattle.dlk_jobs_text.specs.Lists.{Lists}
 use Rattle.dlk_jobs_text.specs.Substitutes.{Substitutes}
 use Rattle.dlk_jobs_prove.specs.Proves.{Proves}
 use Rattle.dlk_jobs_prove.specs.Generates.{Generates}
+use Rattle.dlk_jobs_terms.specs.Converts.{Converts}
+use Rattle.dlk_jobs_terms.specs.Links.{Links}
+use Rattle.dlk_jobs_terms.specs.Trims.{Trims}
+use Rattle.dlk_jobs_session.specs.Sessions.{Sessions}
 use Rattle.dlk_grammar.specs.Tokens.{value}
 
 abbrev pub too_long : Word → Reply
@@ -33,6 +37,11 @@ Does Guard [] (model ∷ term ∷ []) reply = Guards model term reply
 Does Prove (term ∷ []) (model ∷ strategy ∷ []) reply = Proves model strategy reply
 -- the word behind no inputs is the number
 Does Gen (word ∷ []) [] reply = Generates (value word) reply
+-- the word behind the inputs is the name of the file that is written
+Does Convert (out ∷ []) (term ∷ []) reply = Converts term reply
+Does Link (out ∷ []) (model ∷ term ∷ lemma ∷ []) reply = Links model term lemma reply
+Does Trim (out ∷ []) (model ∷ term ∷ []) reply = Trims model term reply
+Does Session (term ∷ []) (model ∷ script ∷ []) reply = Sessions model script reply
 Does _ _ _ reply = ⊥
 
 -- what a command answers to its words and its inputs' texts

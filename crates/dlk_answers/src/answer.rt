@@ -11,6 +11,10 @@ use dlk_jobs_check::check::check;
 use dlk_jobs_check::guard::guard;
 use dlk_jobs_prove::generate::generated;
 use dlk_jobs_prove::prove::prove;
+use dlk_jobs_session::session::session;
+use dlk_jobs_terms::convert::convert;
+use dlk_jobs_terms::link::link;
+use dlk_jobs_terms::trim::trim;
 use dlk_jobs_text::print::print;
 use dlk_jobs_text::subst::subst;
 use dlk_jobs_text::vars::vars;
@@ -91,6 +95,10 @@ fn job<L: Ledger>(
         (Command::Guard, [], [model, term]) => guard(alloc, model, term, steps),
         (Command::Prove, [_], [model, strategy]) => prove(alloc, model, strategy, steps),
         (Command::Gen, [count], []) => generated(alloc, count_of(count), steps),
+        (Command::Convert, [_], [term]) => convert(alloc, term, steps),
+        (Command::Link, [_], [model, term, lemma]) => link(alloc, model, term, lemma, steps),
+        (Command::Trim, [_], [model, term]) => trim(alloc, model, term, steps),
+        (Command::Session, [_], [model, script]) => session(alloc, model, script, steps),
         _ => unreachable!(),
     }
 }

@@ -7,6 +7,8 @@ ghost use Rattle.dlk_answers.specs.Answers.{Responds};
 
 use dlk_jobs_check::laws::{one_check_reply, some_check_reply};
 use dlk_jobs_prove::laws::{one_proof_reply, some_proof_reply};
+use dlk_jobs_session::laws::{one_session_reply, some_session_reply};
+use dlk_jobs_terms::laws::{one_term_reply, some_term_reply};
 use dlk_jobs_text::laws::{one_text_reply, some_text_reply};
 
 /// A command has one answer to words and texts.
@@ -17,6 +19,8 @@ pub fn one_response()
     one_text_reply();
     one_check_reply();
     one_proof_reply();
+    one_term_reply();
+    one_session_reply();
 }
 
 /// A command answers something to words of its form and to as many texts as it has inputs.
@@ -27,6 +31,8 @@ pub fn some_response()
     some_text_reply();
     some_check_reply();
     some_proof_reply();
+    some_term_reply();
+    some_session_reply();
 }
 
 /// A command answers with a status below 3, and a refusal writes no file.

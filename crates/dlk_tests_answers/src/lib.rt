@@ -14,6 +14,13 @@ use std::sync::ledger::{Blank, Ledger};
 pub const TERM: &str =
     "1 start ==> x>=0 -> x>=0\n2 apply 1 1 implyR(1)\n3 apply 2 1 close(1,1)\ndone\n";
 
+/// The same proof in version 2.
+pub const TERM_BY_NODES: &str =
+    "dlk 2\nnode 1 var x\nnode 2 num 0\nnode 3 ge 1 2\nnode 4 imply 3 3\n1 start ==> 4\n2 apply 1 1 implyR(1)\n3 apply 2 1 close(1,1)\ndone\n";
+
+/// What is reported of both.
+pub const REPORT: &str = "closed\nconclusion ==> x>=0 -> x>=0\ngoals 0\nleaves 0\nlines 3\n";
+
 /// `examples/increment/model`.
 pub const INCREMENT_MODEL: &str = "x>=0 -> [x:=x+1;]x>=1\n";
 
@@ -21,7 +28,11 @@ pub const INCREMENT_MODEL: &str = "x>=0 -> [x:=x+1;]x>=1\n";
 pub const INCREMENT_TERM: &str =
     "1 start ==> x>=0 -> [x:=x+1;]x>=1\n2 apply 1 1 implyR(1)\n3 axiom assignb\n4 rename 3 x_ x\n5 subst 4 f()~>x+1,p(._0)~>._0>=1\n6 rule CE\n7 subst 6 p(||)~>[x:=x+1;]x>=1,q(||)~>x+1>=1,C{_}~>_\n8 merge 7 1 5\n9 apply 2 1 cutR(1,x+1>=1)\n10 apply 9 2 coHideR(1)\n11 apply 10 2 equivifyR(1)\n12 apply 11 2 commuteEquivR(1)\n13 merge 12 2 8\n14 leaf x>=0 ==> x+1>=1\n15 merge 13 1 14\ndone\n";
 
-/// What is reported of this term.
+/// The same proof in version 2.
+pub const INCREMENT_BY_NODES: &str =
+    "dlk 2\nnode 1 var x\nnode 2 num 0\nnode 3 ge 1 2\nnode 4 num 1\nnode 5 add 1 4\nnode 6 assign x 5\nnode 7 ge 1 4\nnode 8 box 6 7\nnode 9 imply 3 8\n1 start ==> 9\n2 apply 1 1 implyR(1)\n3 axiom assignb\n4 rename 3 x_ x\nnode 10 dot 0\nnode 11 ge 10 4\n5 subst 4 f()~>5,p(._0)~>11\n6 rule CE\nnode 12 ge 5 4\nnode 13 hole\n7 subst 6 p(||)~>8,q(||)~>12,C{_}~>13\n8 merge 7 1 5\n9 apply 2 1 cutR(1,#12)\n10 apply 9 2 coHideR(1)\n11 apply 10 2 equivifyR(1)\n12 apply 11 2 commuteEquivR(1)\n13 merge 12 2 8\n14 leaf 3 ==> 12\n15 merge 13 1 14\ndone\n";
+
+/// What is reported of both.
 pub const INCREMENT_REPORT: &str =
     "closed\nconclusion ==> x>=0 -> [x:=x+1;]x>=1\ngoals 0\nleaves 1\nleaf 1 x>=0 ==> x+1>=1\nlines 15\n";
 

@@ -5,11 +5,12 @@ mod guarding;
 mod limits;
 mod models;
 mod terms;
+mod versions;
 
 use dlk_replies::{Form, Last, NoReply, Role};
 use dlk_tests_answers::{
-    INCREMENT_MODEL, INCREMENT_REPORT, INCREMENT_TERM, TERM, checked, joined, padded, proof,
-    repeated, replied, words_of,
+    INCREMENT_BY_NODES, INCREMENT_MODEL, INCREMENT_REPORT, INCREMENT_TERM, REPORT, TERM,
+    TERM_BY_NODES, checked, joined, padded, proof, repeated, replied, words_of,
 };
 use std::alloc::{AllocError, Global};
 use std::process::Abort;

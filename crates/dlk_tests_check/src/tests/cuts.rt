@@ -7,6 +7,12 @@ use super::*;
 /// one by one, or none, and in a pair the term `x`, `x+1` or `._0`.
 const TAKEN: [usize; 15] = [5, 1, 1, 1, 5, 1, 6, 1, 1, 1, 1, 1, 1, 3, 1];
 
+/// The same of the term in version 2. Its first line is its head. A start and a leaf are also sequents without a right side, and pairs are read one
+/// by one, of which the second ends in the number of an earlier node first.
+const TAKEN_BY_NODES: [usize; 29] = [
+    1, 1, 1, 1, 1, 1, 1, 1, 1, 1, 2, 1, 1, 1, 1, 1, 4, 1, 1, 1, 5, 1, 1, 1, 1, 1, 1, 2, 1,
+];
+
 /// Whether the line after this one is missing: true, where it is all that is wrong; false, where this line is refused; nothing, where
 /// another line is, or another reason is given against the missing one.
 fn lacks_next(alloc: Global, line: usize, printed: &[u8]) -> Result<Option<bool>, AllocError> {
@@ -23,12 +29,15 @@ fn lacks_next(alloc: Global, line: usize, printed: &[u8]) -> Result<Option<bool>
     }
 }
 
-/// A term is refused at the line in which it is cut, or at the next one, which is missing.
-#[test]
-fn refuses_cut_terms(rt: HostRuntime) -> Result<(), Fail> {
-    let alloc = rt.alloc();
+/// A term of `examples/increment` is refused at the line in which it is cut, or at the next one, which is missing. So often it is the next
+/// one, by the line that is cut.
+fn refuses_cuts(
+    rt: &impl Abort,
+    alloc: Global,
+    term: &[u8],
+    missing: &[usize],
+) -> Result<(), NoReply> {
     let model = INCREMENT_MODEL.as_bytes();
-    let term = INCREMENT_TERM.as_bytes();
     let whole = term.len().saturating_sub(1);
     let mut line = 1_usize;
     let mut taken = Vec::new(alloc);
@@ -52,6 +61,20 @@ fn refuses_cut_terms(rt: HostRuntime) -> Result<(), Fail> {
             here = 0;
         }
     }
-    assert_eq!(rt; taken.as_slice(), TAKEN.as_slice());
+    assert_eq!(rt; taken.as_slice(), missing);
+    Ok(())
+}
+
+#[test]
+fn refuses_cut_terms(rt: HostRuntime) -> Result<(), Fail> {
+    let alloc = rt.alloc();
+    refuses_cuts(&rt, alloc, INCREMENT_TERM.as_bytes(), &TAKEN)?;
+    Ok(())
+}
+
+#[test]
+fn refuses_cut_terms_by_nodes(rt: HostRuntime) -> Result<(), Fail> {
+    let alloc = rt.alloc();
+    refuses_cuts(&rt, alloc, INCREMENT_BY_NODES.as_bytes(), &TAKEN_BY_NODES)?;
     Ok(())
 }

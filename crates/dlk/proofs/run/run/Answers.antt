@@ -7,6 +7,9 @@ use Rattle.dlk.proofs.Ran.{gives_whole, breaks_off, asks_given}
 use Rattle.dlk.specs.Looks.{LooksAtFew}
 use Rattle.dlk.proofs.Looked.{none_written, given_looked, ungiven_looked}
 use Rattle.dlk.proofs.Written.{whole_proves}
+use Rattle.dlk.proofs.WrittenTerms.{whole_converts, whole_links, whole_trims}
+use Rattle.dlk.proofs.Played.{whole_session}
+use Rattle.dlk.proofs.Writing.{checked_by}
 use Rattle.dlk.proofs.Guarding.{whole_guards}
 use Rattle.dlk.proofs.run.run.Goals as goal
 
@@ -18,7 +21,7 @@ returns-in-Ok-give-clause-closed_truly g c = λ t.
     let new = g.D.Desk.outside c.give.new.desk in
     let reply = reply_of c.in-Ok.reply in
     let reads = c.in-Ok.ensures.only in
-    whole_truly c.proved_is_checked.ensures words c.code.result old new reply
+    whole_truly (checked_by c.proved_is_checked.ensures c.linked_is_checked.ensures.checked c.trimmed_is_checked.ensures.checked) words c.code.result old new reply
     (gives_whole words old mid new reply (option_copied c.output.result) c.output.ensures (c.in-Ok.ensures.ok t) (reads.files t) (reads.printed t)
     (c.in-Ok-give.ensures.file t) (c.in-Ok-give.ensures.printed t) c.code.result c.code.ensures)
 
@@ -30,7 +33,7 @@ returns-in-Ok-give-clause-proves_truly g c = λ t.
     let new = g.D.Desk.outside c.give.new.desk in
     let reply = reply_of c.in-Ok.reply in
     let reads = c.in-Ok.ensures.only in
-    whole_proves c.proved_is_checked.ensures words c.code.result old new reply
+    whole_proves (checked_by c.proved_is_checked.ensures c.linked_is_checked.ensures.checked c.trimmed_is_checked.ensures.checked) words c.code.result old new reply
     (gives_whole words old mid new reply (option_copied c.output.result) c.output.ensures (c.in-Ok.ensures.ok t) (reads.files t) (reads.printed t)
     (c.in-Ok-give.ensures.file t) (c.in-Ok-give.ensures.printed t) c.code.result c.code.ensures)
 
@@ -43,6 +46,54 @@ returns-in-Ok-give-clause-guards_truly g c = λ t.
     let reply = reply_of c.in-Ok.reply in
     let reads = c.in-Ok.ensures.only in
     whole_guards c.one_verdict.ensures words c.code.result old new reply
+    (gives_whole words old mid new reply (option_copied c.output.result) c.output.ensures (c.in-Ok.ensures.ok t) (reads.files t) (reads.printed t)
+    (c.in-Ok-give.ensures.file t) (c.in-Ok-give.ensures.printed t) c.code.result c.code.ensures)
+
+pub returns-in-Ok-give-clause-converts_truly : goal.returns-in-Ok-give-clause-converts_truly
+returns-in-Ok-give-clause-converts_truly g c = λ t.
+    let words = map string_bytes c.args.words.now in
+    let old = g.D.Desk.outside c.args.desk.now in
+    let mid = g.D.Desk.outside c.work.new.desk in
+    let new = g.D.Desk.outside c.give.new.desk in
+    let reply = reply_of c.in-Ok.reply in
+    let reads = c.in-Ok.ensures.only in
+    whole_converts c.converted_is_accepted.ensures words c.code.result old new reply
+    (gives_whole words old mid new reply (option_copied c.output.result) c.output.ensures (c.in-Ok.ensures.ok t) (reads.files t) (reads.printed t)
+    (c.in-Ok-give.ensures.file t) (c.in-Ok-give.ensures.printed t) c.code.result c.code.ensures)
+
+pub returns-in-Ok-give-clause-links_truly : goal.returns-in-Ok-give-clause-links_truly
+returns-in-Ok-give-clause-links_truly g c = λ t.
+    let words = map string_bytes c.args.words.now in
+    let old = g.D.Desk.outside c.args.desk.now in
+    let mid = g.D.Desk.outside c.work.new.desk in
+    let new = g.D.Desk.outside c.give.new.desk in
+    let reply = reply_of c.in-Ok.reply in
+    let reads = c.in-Ok.ensures.only in
+    whole_links (checked_by c.proved_is_checked.ensures c.linked_is_checked.ensures.checked c.trimmed_is_checked.ensures.checked) c.linked_is_checked.ensures.joined words c.code.result old new reply
+    (gives_whole words old mid new reply (option_copied c.output.result) c.output.ensures (c.in-Ok.ensures.ok t) (reads.files t) (reads.printed t)
+    (c.in-Ok-give.ensures.file t) (c.in-Ok-give.ensures.printed t) c.code.result c.code.ensures)
+
+pub returns-in-Ok-give-clause-trims_truly : goal.returns-in-Ok-give-clause-trims_truly
+returns-in-Ok-give-clause-trims_truly g c = λ t.
+    let words = map string_bytes c.args.words.now in
+    let old = g.D.Desk.outside c.args.desk.now in
+    let mid = g.D.Desk.outside c.work.new.desk in
+    let new = g.D.Desk.outside c.give.new.desk in
+    let reply = reply_of c.in-Ok.reply in
+    let reads = c.in-Ok.ensures.only in
+    whole_trims (checked_by c.proved_is_checked.ensures c.linked_is_checked.ensures.checked c.trimmed_is_checked.ensures.checked) c.trimmed_is_checked.ensures.trimmed words c.code.result old new reply
+    (gives_whole words old mid new reply (option_copied c.output.result) c.output.ensures (c.in-Ok.ensures.ok t) (reads.files t) (reads.printed t)
+    (c.in-Ok-give.ensures.file t) (c.in-Ok-give.ensures.printed t) c.code.result c.code.ensures)
+
+pub returns-in-Ok-give-clause-sessions_truly : goal.returns-in-Ok-give-clause-sessions_truly
+returns-in-Ok-give-clause-sessions_truly g c = λ t.
+    let words = map string_bytes c.args.words.now in
+    let old = g.D.Desk.outside c.args.desk.now in
+    let mid = g.D.Desk.outside c.work.new.desk in
+    let new = g.D.Desk.outside c.give.new.desk in
+    let reply = reply_of c.in-Ok.reply in
+    let reads = c.in-Ok.ensures.only in
+    whole_session c.session_is_checked.ensures words c.code.result old new reply
     (gives_whole words old mid new reply (option_copied c.output.result) c.output.ensures (c.in-Ok.ensures.ok t) (reads.files t) (reads.printed t)
     (c.in-Ok-give.ensures.file t) (c.in-Ok-give.ensures.printed t) c.code.result c.code.ensures)
 
@@ -68,7 +119,7 @@ returns-clause-closed_truly g c = λ t.
     let reply = reply_of c.in-Ok.reply in
     let given = c.give.ensures in
     let reads = c.in-Ok.ensures.only in
-    front_truly c.proved_is_checked.ensures (map string_bytes c.args.words.now) old new reply
+    front_truly (checked_by c.proved_is_checked.ensures c.linked_is_checked.ensures.checked c.trimmed_is_checked.ensures.checked) (map string_bytes c.args.words.now) old new reply
     (breaks_off (map string_bytes c.args.words.now) old mid new reply (option_copied c.output.result) c.output.ensures
     (c.in-Ok.ensures.ok t) (reads.files t) (reads.printed t) (given.part t) (given.front t) (given.file_first t))
 

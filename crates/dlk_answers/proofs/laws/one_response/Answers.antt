@@ -12,4 +12,8 @@ returns c =
       guards = c.one_check_reply.ensures.guards;
       proves = c.one_proof_reply.ensures.proves;
       generates = c.one_proof_reply.ensures.generates;
+      converts = c.one_term_reply.ensures.converts;
+      links = c.one_term_reply.ensures.links;
+      trims = c.one_term_reply.ensures.trims;
+      sessions = c.one_session_reply.ensures;
     })

@@ -12,4 +12,8 @@ returns c =
       guards = c.some_check_reply.ensures.guards;
       proves = c.some_proof_reply.ensures.proves;
       generates = c.some_proof_reply.ensures.generates;
+      converts = c.some_term_reply.ensures.converts;
+      links = c.some_term_reply.ensures.links;
+      trims = c.some_term_reply.ensures.trims;
+      sessions = c.some_session_reply.ensures;
     })

@@ -1,0 +1,5 @@
+//! Tests of `convert`, `link`, `trim` and `session`.
+#![tactic(auto)]
+
+#[cfg(test)]
+mod tests;
