@@ -12,6 +12,7 @@ from typing import NamedTuple
 import strategytext
 from proving import answer, goals_in, has_report, split_sequent
 from strategytext import Branch, Choice, Repeat
+from terms import readable
 
 
 class State(NamedTuple):
@@ -67,7 +68,7 @@ def marked(goals, name):
 
 
 def first_group(term, name):
-    """How many goals have the mark in one go, in the first place of the term where it is put."""
+    """How many goals have the mark in one go, in the first place of the term, which is one of version 1, where it is put."""
     cuts = [bool(re.search(rf"apply \d+ \d+ cut\({name}\(\)\)$", line)) for line in term.split("\n")]
     if True not in cuts:
         return 0
@@ -92,7 +93,7 @@ def state_at(program, model, text, refusal):
         if not has_report(said):
             return None
         goals = marked(goals_in(said.text), name)
-        group = first_group(term.read_text(encoding="latin-1"), name)
+        group = first_group(readable(term.read_bytes()), name)
     if not goals:
         return None
     if isinstance(way[-1], Branch):
