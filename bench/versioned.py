@@ -21,6 +21,8 @@ NAMED = re.compile(r"refused: (line|other-conclusion) (\d+)(.*)")
 
 def by_nodes(text):
     """A term of version 1 in version 2, and the line on which each of its lines stands there. What begins with a wrong line is left as it is."""
+    if terms.version_of(text) == 2:
+        return text, {}
     lines = terms.lines_of(text)
     try:
         steps, rest = terms.read(text).steps, []
