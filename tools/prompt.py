@@ -3,11 +3,11 @@
 
     python3 tools/prompt.py MODEL [SCRIPT] [--dlk PROGRAM]
 
-A line is a strategy, which is run on goal 1, or `apply G STRATEGY` for goal G. Behind each the goals are shown, a formula a line with the place
-by which a strategy names it. SCRIPT is a script of `dlk session`, whose lines are run first. Other lines:
+A line is a strategy, which is run on goal 1, or `apply G STRATEGY` for goal G. Behind each the goals that it left are shown, a formula a line with the
+place by which a strategy names it. SCRIPT is a script of `dlk session`, whose lines are run first. Other lines:
 
     undo          takes the last strategy back
-    goals         shows the goals again
+    goals         shows all goals
     paths P [G]   shows each part of the formula at place P (1, -1, ..) of goal G (1) with its path
     history       shows what was done
     save FILE     writes the strategy so far to FILE, the script to FILE.script and the term to FILE.term
@@ -17,8 +17,8 @@ After each line the program runs the whole script so far, anew: nothing is shown
 a copy of MODEL, and writes over no file but those that it wrote itself. It ends with `quit`, control-D or control-C; what isn't saved then is
 printed. The exit status is 0 where no goals are left, 1 where some are, 2 where an input is refused, and 130 behind control-C.
 
-Where standard input is no terminal, lines are read from it as they are. At a terminal it needs prompt_toolkit (Debian: python3-prompt-toolkit), and
-completes with Tab.
+Where standard input is no terminal, lines are read from it, and shown as a terminal would show them. At a terminal it needs prompt_toolkit (Debian:
+python3-prompt-toolkit), and completes with Tab.
 """
 
 import argparse
@@ -171,15 +171,18 @@ class Proof:
         """Whether none are left."""
         return self.report.startswith("closed")
 
-    def shown_goals(self):
-        """The goals, a formula a line behind its place, or the leaves of a closed proof."""
+    def shown_goals(self, first=1, count=None):
+        """So many goals from this one on, or all, a formula a line behind its place, and how many others there are; or the leaves of a closed
+        proof."""
         goals, leaves = self.goals(), leaves_in(self.report)
         if self.is_closed():
             return ["closed", *(f"  leaf {number}: {leaf}" for number, leaf in enumerate(leaves, 1))]
-        told = []
-        for number, goal in enumerate(goals, 1):
-            told += [f"goal {number} of {len(goals)}", *shown(goal)]
-        return told
+        if count == 0:
+            first, count = 1, 1
+        those = list(enumerate(goals, 1))[first - 1 :][:count]
+        told = [line for number, goal in those for line in (f"goal {number} of {len(goals)}", *shown(goal))]
+        others = len(goals) - len(those)
+        return [*told, f"and {others} other goal{'s' * (others > 1)}"] if others else told
 
     def paths(self, place, goal):
         """The parts of the formula at a place of a goal, each behind its path."""
@@ -205,7 +208,7 @@ class Proof:
     # What changes it
 
     def apply(self, goal, strategy):
-        """Runs a strategy on a goal."""
+        """Runs a strategy on a goal, and answers how many goals it leaves in the goal's place."""
         strategy = strategy.strip()
         line = Line(goal, strategy, len(self.goals()))
         said, _ = self.session([*self.so_far(), line.script(), "show"])
@@ -217,6 +220,7 @@ class Proof:
             raise Failure(self.why_failed(line, reply))
         self.lines.append(line)
         self.report = report
+        return len(self.goals()) - line.goals_before + 1
 
     def why_refused(self, strategy):
         """The refusal of a text that is no strategy, with its place: the program tells it to whoever proves with it."""
@@ -336,7 +340,7 @@ class Talk:
         proof, verb = self.proof, words[0]
         if verb == "undo" and len(words) == 1:
             last = proof.undo()
-            return [f"undone: {as_typed([last.script()])[0]}", *proof.shown_goals()]
+            return [f"undone: {as_typed([last.script()])[0]}", *proof.shown_goals(last.goal, 1)]
         if verb in ("goals", "show") and len(words) == 1:
             return proof.shown_goals()
         if verb == "paths":
@@ -366,8 +370,8 @@ class Talk:
         if verb == "apply" and not found:
             raise Failure(["apply G STRATEGY: the number of a goal, and a strategy"])
         goal, strategy = (int(found[1]), found[2]) if found else (1, line)
-        self.proof.apply(goal, strategy.encode("utf-8", "surrogateescape").decode("latin-1"))
-        return self.proof.shown_goals()
+        count = self.proof.apply(goal, strategy.encode("utf-8", "surrogateescape").decode("latin-1"))
+        return self.proof.shown_goals(goal, count)
 
 
 # The terminal
@@ -407,14 +411,21 @@ def lines_of_terminal():
                 yield Completion(name, start_position=-length)
 
     session = PromptSession(completer=Names(), complete_while_typing=False)
-    return lambda proof: session.prompt("closed> " if proof.is_closed() else f"{len(proof.goals())} goal{'s' * (len(proof.goals()) > 1)}> ")
+    return lambda proof: session.prompt(prompt_of(proof))
 
 
-def lines_of_file(_):
-    """The next line of standard input."""
+def prompt_of(proof):
+    """What stands before a line."""
+    count = len(proof.goals())
+    return "closed> " if proof.is_closed() else f"{count} goal{'s' * (count > 1)}> "
+
+
+def lines_of_file(proof):
+    """The next line of standard input, which is shown as it would be at a terminal."""
     line = sys.stdin.readline()
     if not line:
         raise EOFError
+    say([f"{prompt_of(proof)}{line.rstrip()}"])
     return line
 
 

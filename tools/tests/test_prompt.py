@@ -1,7 +1,8 @@
-"""Tests of the prompt: without a terminal, on a stand-in program, and on the real one where it knows `session`."""
+"""Tests of the prompt, without a terminal: on a stand-in program, on `session` done by `prove`, and on the program's own where it has one."""
 
 import importlib.util
 import json
+import os
 import signal
 import subprocess
 import tempfile
@@ -14,7 +15,7 @@ import proving
 import strategytext
 from helping import Case, PROGRAM, ROOT
 
-STAND_IN = str(Path(__file__).with_name("stand_in.py"))
+STAND_IN, BY_PROVE = (str(Path(__file__).with_name(name)) for name in ("stand_in.py", "by_prove.py"))
 MODEL = "x>=0 -> x>=0&true\n"
 AT_FIRST = ["goal 1 of 1", "         ==>", "      1: x>=0 -> x>=0&true"]
 
@@ -123,7 +124,7 @@ class Prompt(Case):
         script = f"implyR(1)\n\nandR(1)\nclose\nundo\nclose\ncloseTrue(1)\nsave {self.folder / 'out'}\n"
         said = self.piped(script)
         self.assertEqual((said.returncode, said.stderr), (0, ""))
-        self.assertEqual(said.stdout.count("closed"), 1)
+        self.assertEqual(said.stdout.splitlines().count("closed"), 1)
         self.assertIn("undone: apply 1 close", said.stdout)
         said = self.piped("implyR(1)\nquit\nandR(1)\n")
         self.assertEqual((said.returncode, said.stdout.splitlines()[-2:]), (1, ["not saved:", "apply 1 implyR(1)"]))
@@ -148,11 +149,15 @@ class Prompt(Case):
         self.assertEqual((process.returncode, out, complaint), (130, "not saved:\napply 1 implyR(1)\n", "prompt.py: interrupted\n"))
 
 
-@unittest.skipUnless(knows_session(), "the program knows no sessions")
-class PromptOfProgram(Prompt):
-    """The same on the program itself."""
+@helping.needs_program
+class PromptByProve(Prompt):
+    """The same on sessions that `prove` does."""
 
-    program = PROGRAM
+    program = BY_PROVE
+
+    def setUp(self):
+        os.environ.setdefault("DLK", PROGRAM)  # of which by_prove.py is made
+        super().setUp()
 
     def test_save(self):
         super().test_save()
@@ -160,12 +165,52 @@ class PromptOfProgram(Prompt):
         self.assertIn("`prove` makes the same term of it", self.told_of_save[0])
         said = proving.answer(PROGRAM, "prove", self.model, name, self.folder / "again")
         self.assertEqual((said.status, (self.folder / "again").read_bytes()), (0, Path(f"{name}.term").read_bytes()))
-        said = proving.answer(PROGRAM, "session", self.model, f"{name}.script", self.folder / "replayed")
+        said = proving.answer(self.program, "session", self.model, f"{name}.script", self.folder / "replayed")
         self.assertEqual((said.status, (self.folder / "replayed").read_bytes()), (0, Path(f"{name}.term").read_bytes()))
 
     def test_a_branch_of_the_wrong_length(self):
         said = self.hear("implyR(1)", "andR(1); <(close)")
         self.assertEqual(said[2:4], ["column 10: fails: WrongCount", "the branch has 1 parts, and there are 2 goals"])
+
+
+@unittest.skipUnless(knows_session(), "the program knows no sessions")
+class PromptOfProgram(PromptByProve):
+    """The same on the program itself."""
+
+    program = PROGRAM
+
+
+SCRIPTS = (
+    "", "undo", "undo\nshow\n", "aply 1 nil\n", "apply 1 nil\n\n", "undo \n", "undo\r\n", "apply 0 nil", "apply 01 nil", "apply 1", "apply 1 ",
+    "apply 1  nil", "apply 1 nil\r\n", "apply 1234567890 nil", "apply 123456789 nil", "apply 1 nil; ; nil", "save", "show\nshow\n",
+    "apply 1 implyR(1)\napply 1 andR(1)\nsave\nundo\nsave\napply 1 andR(1)\napply 2 closeTrue(1)\n", "apply 1 implyR(1)\nundo\nundo\nsave\nshow",
+    "apply 1 nil\nundo\nundo\n", "apply 1 implyR(1); andR(1); <(close, nil)\nshow\nundo\nshow\n", "apply 1 implyR(1); andR(1); <(nil)\nshow\n",
+    "apply 1 implyR(1)\napply 1 andR(1)\napply 2 close\napply 2 prop\napply 1 prop\nundo\nshow\nsave", "apply 1 (nil*1000)*20\nshow\n",
+    "apply 1 implyR(1)\nsave\napply 1 prop\nshow\nundo\n", "apply 2 nil\napply 1 prop\napply 1 nil\nsave\nsave\nundo\nsave\n", "\n",
+)
+
+
+@unittest.skipUnless(knows_session(), "the program knows no sessions")
+class Sessions(Case):
+    """What the program's `session` answers, beside what `prove` says of the same strategies."""
+
+    def test_the_same_answers(self):
+        os.environ.setdefault("DLK", PROGRAM)
+        model, term = self.file("model", MODEL), self.folder / "term"
+        for text in SCRIPTS:
+            script, answers = self.file("script", text), []
+            for program in (BY_PROVE, PROGRAM):
+                term.unlink(missing_ok=True)
+                said = proving.answer(program, "session", model, script, term)
+                answers.append((said.status, said.text, term.read_bytes() if term.exists() else None))
+            self.assertEqual(answers[0], answers[1], text)
+
+    def test_what_a_budget_keeps(self):
+        model = self.file("model", MODEL)
+        script = self.file("script", "apply 1 (nil*1000)*15\nundo\napply 1 (nil*999)\napply 1 nil\napply 1 nil\napply 1 notL('L)\nundo\n")
+        said = proving.answer(PROGRAM, "session", model, script, self.folder / "term")
+        self.assertEqual(said.text.splitlines(), [
+            "ok goals 1", "ok goals 1", "ok goals 1", "ok goals 1", "budget at 0", "fails at 0: NoPlace", "ok goals 1"])
 
 
 class Names(unittest.TestCase):
