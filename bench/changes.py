@@ -1,14 +1,15 @@
 #!/usr/bin/env python3
 """What the program answers to examples that were changed at random, always in the same way.
 
-    python3 bench/changes.py                          10,000 terms with one byte changed, for `check`
+    python3 bench/changes.py                          10,000 terms with one byte changed, for `check`, in each version
     python3 bench/changes.py --count N [--seed S]     N changes of strategies, models and terms of every example
 
 With --count the examples are all folders of `examples/` that have a model, those of the gallery and of the tutorial too, and the models of
 `examples/models`. A term that isn't there is what `prove` writes. In turn a strategy, a model or a term is changed: a byte becomes
 another one, or a word or a mark becomes another one of the same text, is left out, or stands twice. A changed strategy is run on the
 model; a changed model is printed, proved by the strategy, and checked with the term; a changed term is checked. Then `check` must say of each
-term that `prove` writes what `prove` said.
+term that `prove` writes what `prove` said. Of a changed term of version 2 that isn't in the grammar tools/terms.py must say the same first line, or
+an earlier one where no step stands before it that is none.
 
 Each answer must be one of those that `docs/FILES.md` and `docs/STRATEGIES.md` list, with its status, and nothing may be accepted with
 another conclusion than the model. Run it after `./dlk` has built the program; another one is named by DLK.
@@ -23,7 +24,8 @@ import subprocess
 import tempfile
 import typing
 
-from common import PROGRAM, TOP, answer
+from common import PROGRAM, TOP, answer, knows
+from versioned import by_nodes, terms
 
 CHANGES = 10_000
 # a run that takes longer is a fault, and its change is printed
@@ -63,25 +65,51 @@ def conclusion_of(model, term):
     return answer("check", model, term).stdout.decode().splitlines()[1]
 
 
-def change_terms():
-    """Changes one byte of a term, so many times, and prints how often each answer came."""
+GRAMMAR = ("Malformed", "WrongNumber", "NoEnd")
+NAMED = re.compile(r"refused: line (\d+): (\w+)\n")
+
+
+def differs(changed, printed):
+    """What a reading of the lines says against an answer to a term of version 2, or nothing. A step that is none comes first where it stands before
+    the line that isn't in the grammar."""
+    try:
+        terms.read(bytes(changed))
+        wrong = None
+    except terms.Wrong as fault:
+        wrong = fault.place, fault.why
+    found = NAMED.fullmatch(printed)
+    said = (int(found[1]), found[2]) if found else None
+    is_of_step = said is not None and said[1] not in GRAMMAR
+    if said == wrong or is_of_step and (wrong is None or said[0] < wrong[0]) or wrong is None and not found:
+        return ""
+    return f"the first wrong line is {wrong}"
+
+
+def change_terms(version):
+    """Changes one byte of a term in a version, so many times, and prints how often each answer came."""
     chance = random.Random(1)
     answers = collections.Counter()
     examples = sorted(folder.parent for folder in (TOP / "examples").glob("*/term"))
+    texts = {example: (example / "term").read_bytes() for example in examples}
+    if version == 2:
+        texts = {example: by_nodes(text.decode("latin-1"))[0].encode("latin-1") for example, text in texts.items()}
     with tempfile.TemporaryDirectory() as name:
         term = pathlib.Path(name) / "term"
         for k in range(CHANGES):
             example = examples[k % len(examples)]
             conclusion = conclusion_of(example / "model", example / "term")
-            changed = bytearray((example / "term").read_bytes())
+            changed = bytearray(texts[example])
             place = chance.randrange(len(changed))
             changed[place] = chance.choice([byte for byte in (EVERY if k // len(examples) % 2 else USUAL) if byte != changed[place]])
             term.write_bytes(changed)
             run = answer("check", example / "model", term)
-            kind = kind_of(run.returncode, run.stdout.decode(errors="replace"), conclusion)
-            if kind is None:
-                raise SystemExit(f"changes.py: {example.name}, byte {place} is {changed[place]}: status {run.returncode}, {run.stdout[:200]}")
+            printed = run.stdout.decode(errors="replace")
+            kind = kind_of(run.returncode, printed, conclusion)
+            wrong = differs(changed, printed) if terms.version_of(bytes(changed)) == 2 else ""
+            if kind is None or wrong:
+                raise SystemExit(f"changes.py: {example.name}, byte {place} is {changed[place]}: status {run.returncode}, {run.stdout[:200]} {wrong}")
             answers[kind] += 1
+    print(f"terms of version {version}")
     tell(answers)
 
 
@@ -245,7 +273,9 @@ def main():
     parser.add_argument("--seed", type=int, default=1, help="where the changes begin (1)")
     options = parser.parse_args()
     if options.count is None:
-        change_terms()
+        change_terms(1)
+        if knows("convert"):
+            change_terms(2)
     else:
         change_all(options.count, options.seed)
 

@@ -1,10 +1,11 @@
 #!/usr/bin/env python3
-"""How fast `dlk check` replays long terms: bytes of term a second, against `metamath` on its database `set.mm`, in one run.
+"""How fast `dlk check` replays long terms of version 1: bytes of term a second, against `metamath` on its database `set.mm`, in one run.
 
 A term is real proofs merged one after another: each time the whole proof of `x>=0 -> [x:=x+1;]x>=1`, with its axiom, its substitutions
 and its leaf, is done anew, cut into a main proof, and merged into it. The last two terms have a variable of 120 letters for `x`, and with
 400,000 lines about 60 MB. Printed are the growth from 10,000 to 100,000 lines and over the last two terms, and the peak of memory a byte
-of term. Last come 400,001 lines of one axiom, which are one too many.
+of term. Last come 400,001 lines of one axiom, which are one too many. Where the program reads term files of version 2, all of it is done once more
+with the same terms in that version, as `convert` writes them.
 
 Run it after `./dlk` has built the program. It needs a C compiler. Arguments are paths of programs, each timed in turn in the place of the built one: the
 last one is set against metamath. `metamath` and `set.mm` are those of Debian's packages metamath and metamath-databases.
@@ -14,7 +15,7 @@ import re
 import sys
 import tempfile
 
-from common import PROGRAM, TOP, measured, measurer
+from common import PROGRAM, TOP, converted, knows, measured, measurer
 
 LEMMA = TOP / "examples" / "increment"
 SET_MM = pathlib.Path("/usr/share/metamath/databases/set.mm")
@@ -25,7 +26,7 @@ RUNS = 3
 
 
 def shifted(line, by):
-    """A line of a term, with its own number and those of its facts so much greater."""
+    """A step's line of a term of either version, with its own number and those of its facts so much greater."""
     words = line.split(" ")
     words[0] = str(int(words[0]) + by)
     facts = {"apply": (2,), "merge": (2, 4), "subst": (2,), "rename": (2,)}.get(words[1], ())
@@ -67,31 +68,36 @@ def spent(words, expected, runs=RUNS):
     return best, peak
 
 
-def checked(folder, title, text, expected, program, runs=RUNS):
-    """The processor time of the program's `check` on a term, which is printed as a rate."""
+def checked(folder, title, text, expected, program, runs=RUNS, version=1):
+    """The processor time of the program's `check` on a term in a version, which is printed as a rate."""
     model, file = folder / "model", folder / "term"
     model.write_text("x>=0 -> x>=0\n")
     file.write_text(text)
+    if version == 2 and not text.startswith("dlk 2\n"):
+        file = converted(file, folder / "by-nodes", program)
     seconds, peak = spent([program, "check", model, file], expected, runs)
-    print(f"{title}, {len(text)} bytes: {len(text) / seconds / 1e6:.2f} million bytes a second, peak {peak / len(text):.0f} bytes a byte", flush=True)
-    return seconds, len(text) / seconds
+    size = file.stat().st_size
+    print(f"{title}, {size} bytes: {size / seconds / 1e6:.2f} million bytes a second, peak {peak / size:.0f} bytes a byte", flush=True)
+    return seconds, size / seconds
 
 
-def rates_of(program):
-    """Prints a line for each term, and answers the rates."""
+def rates_of(program, version=1):
+    """Prints a line for each term in a version, and answers the rates."""
     times, rates = {}, {}
+    by_nodes = ", by nodes" if version == 2 else ""
     with tempfile.TemporaryDirectory() as name:
         folder = pathlib.Path(name)
         for count in COUNTS:
             text, lines = term(count)
-            times[count], rates[count] = checked(folder, f"{lines} lines", text, "closed", program)
-        print(f"from 10,000 to 100,000 lines the time grows {times[100_000] / times[10_000]:.1f} times")
+            times[count], rates[count] = checked(folder, f"{lines} lines{by_nodes}", text, "closed", program, version=version)
+        print(f"from 10,000 to 100,000 lines{by_nodes} the time grows {times[100_000] / times[10_000]:.1f} times")
         for count in LONG_COUNTS:
             text, lines = term(count, LONG_NAME)
-            times[count], rates[count] = checked(folder, f"{lines} long lines", text, "closed", program, 1)
-        print(f"from 40,000 to 400,000 long lines the time grows {times[400_000] / times[40_000]:.1f} times")
-        axioms = "".join(f"{k} axiom eqrefl\n" for k in range(1, 400_002)) + "done\n"
-        checked(folder, "400001 lines of one axiom", axioms, "refused: line 400001: LinesFull", program)
+            times[count], rates[count] = checked(folder, f"{lines} long lines{by_nodes}", text, "closed", program, 1, version)
+        print(f"from 40,000 to 400,000 long lines{by_nodes} the time grows {times[400_000] / times[40_000]:.1f} times")
+        head = "dlk 2\n" * (version == 2)
+        axioms = head + "".join(f"{k} axiom eqrefl\n" for k in range(1, 400_002)) + "done\n"
+        checked(folder, f"400001 lines of one axiom{by_nodes}", axioms, f"refused: line {400_001 + bool(head)}: LinesFull", program, version=version)
     return rates
 
 
@@ -100,6 +106,8 @@ def main():
     for program in [pathlib.Path(word) for word in sys.argv[1:]] or [PROGRAM]:
         print(program)
         rates = rates_of(program)
+        if knows("convert", program):
+            rates_of(program, 2)
     if SET_MM.exists():
         size = SET_MM.stat().st_size
         seconds, peak = spent(["metamath", f"read '{SET_MM}'", "verify proof *", "exit"], "All proofs in the database were verified")

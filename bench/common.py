@@ -2,6 +2,7 @@
 
 The program is that of `./dlk`, or the one that DLK names.
 """
+import functools
 import os
 import pathlib
 import resource
@@ -47,6 +48,25 @@ class Measured(typing.NamedTuple):
 def answer(*words, program=PROGRAM):
     """What the program answers to these words: the run, with its status and what it printed."""
     return subprocess.run([program, *words], capture_output=True, check=False)
+
+
+@functools.cache
+def knows(verb, program=PROGRAM):
+    """Whether the program has a command of this name: it tells its usages where the words are wrong."""
+    return f"  dlk {verb} " in answer(program=program).stderr.decode(errors="replace")
+
+
+def converted(term, out, program=PROGRAM):
+    """A term file in version 2, made by the program: the path of `out`."""
+    run = answer("convert", term, out, program=program)
+    if run.returncode not in (0, 1):
+        raise SystemExit(f"convert {term}: status {run.returncode}, {run.stdout[:200]!r}")
+    return out
+
+
+def steps_of(path):
+    """How many steps a term file of either version has."""
+    return sum(line[:1].isdigit() for line in path.read_bytes().split(b"\n"))
 
 
 def spent_by_children():

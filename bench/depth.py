@@ -1,11 +1,12 @@
 #!/usr/bin/env python3
 """Whether a stack of one megabyte suffices for the deepest inputs within the limits.
 
-    python3 bench/depth.py [--stack KILOBYTES] [--seconds S] [--only WORD]
+    python3 bench/depth.py [--stack KILOBYTES] [--seconds S] [--only WORD] [--version 1|2]
 
 A formula of depth 1,000 in each operator that nests, 1,200 brackets, strategies nested 64 with 8 repeats each, terms with deep and with
 wide sequents, systems of 64 items, and substitutions at depth: each is given to the commands that walk it, under `ulimit -s` (1,024).
-Each run must end with its status, and with its first line where that is short, and not by a signal. The recursions that this tries stand
+Each run with a term is tried with the same term in both versions of its file, or with --version in one. Each run must end with its status, and with
+its first line where that is short, and not by a signal. The recursions that this tries stand
 in docs/ARCHITECTURE.md. Run it after `./dlk` has built the program; another one is named by DLK. It needs a C compiler. The exit status
 is 1 where an answer isn't as it must be.
 """
@@ -17,6 +18,7 @@ import typing
 
 from common import PROGRAM, measured, measurer
 from limits import nested
+from versioned import in_both, outputs_of
 
 DEEPEST = 1_000
 BRACKETS = 1_200
@@ -94,6 +96,8 @@ def replaying():
         term = "".join(f"{k} {line}\n" for k, line in enumerate(lines, 1)) + "done\n"
         yield Row(f"check, {name}", "check", (text, term), 1, "open")
         yield Row(f"report, {name}", "report", (text, term), 1)
+        yield Row(f"convert, {name}", "convert", (term,), 1, "open")
+        yield Row(f"trim, {name}", "trim", (text, term), 1, "open")
         leaf = f"1 leaf ==> {text}\ndone\n"
         yield Row(f"a leaf, {name}", "smt", (text, leaf), 0 if is_arithmetic else 2)
     for name, text, _ in formulas(DEEPEST - 3):
@@ -231,18 +235,19 @@ def main():
     parser.add_argument("--stack", type=int, default=1024, help="kilobytes of stack (1024)")
     parser.add_argument("--seconds", type=int, default=120, help="processor time that a run may take (120)")
     parser.add_argument("--only", default="", help="rows whose titles have this word (all)")
+    parser.add_argument("--version", type=int, choices=(1, 2), help="terms of this version alone (both)")
     options = parser.parse_args()
     count = faults = 0
     with tempfile.TemporaryDirectory() as name:
         folder = pathlib.Path(name)
         helper = measurer(folder)
         limits = [(resource.RLIMIT_STACK, options.stack * 1024), (resource.RLIMIT_CPU, options.seconds)]
-        for row in (row for rows in ROWS for row in rows() if options.only in row.title):
+        wanted = (row for rows in ROWS for row in rows() if options.only in row.title)
+        for row in in_both(wanted, options.version):
             files = [folder / f"input{k}" for k in range(len(row.texts))]
             for file, text in zip(files, row.texts):
                 file.write_text(text)
-            output = [folder / "output"] if row.verb == "prove" else []
-            run = measured(helper, [PROGRAM, row.verb, *files, *output], limits)
+            run = measured(helper, [PROGRAM, row.verb, *files, *outputs_of(row.verb, folder)], limits)
             fault = wrong(row, run)
             count += 1
             faults += bool(fault)

@@ -8,11 +8,21 @@ import pathlib
 import subprocess
 import tempfile
 
-from common import PROGRAM
+from common import PROGRAM, knows
 
 DLK = os.environ.get("DLK", str(PROGRAM))
 MODEL = b"x>=0 -> x>=0\n"
-TERM = b"1 start ==> x>=0 -> x>=0\n2 apply 1 1 implyR(1)\n3 apply 2 1 close(1,1)\ndone\n"
+IN_FULL = b"1 start ==> x>=0 -> x>=0\n2 apply 1 1 implyR(1)\n3 apply 2 1 close(1,1)\ndone\n"
+BY_NODES = b"""dlk 2
+node 1 var x
+node 2 num 0
+node 3 ge 1 2
+node 4 imply 3 3
+1 start ==> 4
+2 apply 1 1 implyR(1)
+3 apply 2 1 close(1,1)
+done
+"""
 REPORT = b"closed\nconclusion ==> x>=0 -> x>=0\ngoals 0\nleaves 0\nlines 3\n"
 OPEN_TERM = b"1 start ==> x>=0 -> x>=0\ndone\n"
 OPEN_REPORT = b"open\nconclusion ==> x>=0 -> x>=0\ngoals 1\ngoal 1 ==> x>=0 -> x>=0\nleaves 0\nlines 1\n"
@@ -51,17 +61,31 @@ def printing_to(words, out):
     return subprocess.run([DLK, *words], stdout=out, stderr=subprocess.DEVNULL, check=False).returncode
 
 
+def at_versions():
+    """The term in each version that the program reads."""
+    yield "", IN_FULL
+    if knows("convert"):
+        yield ", by nodes", BY_NODES
+
+
+def made():
+    """The term that `prove` writes: a newer program writes version 2."""
+    return BY_NODES if knows("convert") else IN_FULL
+
+
 def inputs(at):
     """Standard input in each place, folders, and what can't be read."""
     check = ["check", at / "model", at / "term"]
     said("two files", (0, REPORT), run(check))
     said("a term whose goals are left", (1, OPEN_REPORT), run(["check", at / "model", at / "open"]))
     said("- first", (0, REPORT), run(["check", "-", at / "term"], MODEL))
-    said("- second", (0, REPORT), run(["check", at / "model", "-"], TERM))
+    for title, term in at_versions():
+        said(f"- second{title}", (0, REPORT), run(["check", at / "model", "-"], term))
     said("- twice", (2, b"refused: line 1: NoEnd\n"), run(["check", "-", "-"], MODEL))
     said("./- is a file", (4, b""), run(["check", "./-", at / "term"], MODEL))
     said("--", (4, b""), run(["print", "--"]))
-    said("a pipe of single bytes", (0, REPORT), fed(["check", at / "model", "-"], [TERM[i:i + 1] for i in range(len(TERM))]))
+    for title, term in at_versions():
+        said(f"a pipe of single bytes{title}", (0, REPORT), fed(["check", at / "model", "-"], [term[i:i + 1] for i in range(len(term))]))
     said("a pipe that ends at once", (2, b"refused: model at 0: syntax\n"), fed(["check", "-", at / "term"], []))
     said("a folder", (4, b""), run(["check", at, at / "term"]))
     said("a file that isn't there", (4, b""), run(["check", at / "none", at / "term"]))
@@ -81,7 +105,7 @@ def outputs(at):
     out = at / "out"
     out.write_bytes(b"an older and longer text\n" * 100)
     said("an older file is replaced", (0, REPORT), run([*prove, out]))
-    said("and whole", TERM, out.read_bytes())
+    said("and whole", made(), out.read_bytes())
     said("the model stays", MODEL, (at / "model").read_bytes())
     said("a full device for the term", (5, b""), run([*prove, "/dev/full"]))
     said("a folder for the term", (5, b""), run([*prove, at]))
@@ -91,7 +115,7 @@ def outputs(at):
         said("a full standard output", 5, printing_to(["check", at / "model", at / "term"], full))
         out.unlink()
         said("a full standard output of prove", 5, printing_to([*prove, out], full))
-    said("but the term is whole", TERM, out.read_bytes())
+    said("but the term is whole", made(), out.read_bytes())
     said("a refusal on a full standard output", 5, subprocess.run(
         ["sh", "-c", '"$1" nonsense > /dev/full', "sh", DLK], stderr=subprocess.DEVNULL, check=False).returncode)
     said("a standard output that is closed", 5, subprocess.run(
@@ -114,9 +138,57 @@ def small(at, prove):
         (at / "long").write_bytes(b"nil;" * 10 + b'cut("' + b"a" * 8000 + b'>=0")')
         status, printed = run(["prove", at / "model", at / "long", disk / "out"])
         wrote = (disk / "out").read_bytes()
-        said("a file system that is full", (5, b"", True), (status, printed, 0 < len(wrote) <= 4096 and wrote.startswith(b"1 start ")))
+        said("a file system that is full", (5, b"", True), (status, printed, 0 < len(wrote) <= 4096 and wrote.startswith(made()[:6])))
     finally:
         subprocess.run(["umount", disk], check=False)
+
+
+def others(at):
+    """The commands that write terms made of terms, and sessions: where they write, and where they don't."""
+    out, split = at / "other", at / "split"
+    split.write_bytes(b"1 start ==> x>=0 -> x>=0\n2 axiom K\n3 apply 1 1 implyR(1)\n4 apply 3 1 close(1,1)\ndone\n")
+    script = at / "script"
+    script.write_bytes(b"apply 1 implyR(1)\r\napply 1 close\nsave\nundo")
+    rows = {
+        "convert": (["convert", at / "term"], 0, REPORT),
+        "trim": (["trim", at / "model", split], 0, REPORT),
+        "link": (["link", at / "model", at / "open", at / "term"], 0, REPORT.replace(b"lines 3", b"lines 5")),
+        "session": (["session", at / "model", script], 1, b"ok goals 1\nok goals 0\nsaved 3\nok goals 1\n"),
+    }
+    for verb, (words, status, report) in rows.items():
+        if not knows(verb):
+            print(f"{verb}: not tried, the program doesn't know it")
+            continue
+        out.unlink(missing_ok=True)
+        said(verb, (status, report), run([*words, out]))
+        said(f"{verb} writes", True, out.read_bytes().startswith(b"dlk 2\nnode 1 var x\n"))
+        if verb != "link":
+            said(f"{verb} writes the steps that are wanted", BY_NODES, out.read_bytes())
+        said(f"{verb} to a full device", (5, b""), run([*words, "/dev/full"]))
+        said(f"{verb} to a folder", (5, b""), run([*words, at]))
+        said(f"{verb} without its last word", (3, WORDS), run(words))
+        with open("/dev/full", "wb") as full:
+            said(f"{verb} on a full standard output", 5, printing_to([*words, out], full))
+    refused(at, out)
+
+
+def refused(at, out):
+    """What writes no file."""
+    (at / "cut").write_bytes(BY_NODES[:-5])
+    (at / "undone").write_bytes(b"apply 1 implyR(1)\nundo\nundo\nshow\n")
+    (at / "none").write_bytes(b"aply 1 nil\n")
+    for verb, words, status, printed in (
+        ("convert", ["convert", at / "cut"], 2, b"refused: line 9: NoEnd\n"),
+        ("trim", ["trim", at / "model", at / "cut"], 2, b"refused: line 9: NoEnd\n"),
+        ("link", ["link", at / "model", at / "open", at / "cut"], 2, b"refused: lemma line 9: NoEnd\n"),
+        ("link", ["link", at / "model", at / "term", at / "term"], 2, b"refused: no-goal\n"),
+        ("session", ["session", at / "model", at / "none"], 2, b"refused: script line 1\n"),
+        ("session", ["session", at / "model", at / "undone"], 1, b"ok goals 1\nok goals 1\nnothing\n" + OPEN_REPORT),
+    ):
+        if knows(verb):
+            out.unlink(missing_ok=True)
+            said(f"{verb}, {printed.splitlines()[0].decode()}", (status, printed), run([*words, out]))
+            said("writes no file", False, out.exists())
 
 
 def words(at):
@@ -139,10 +211,11 @@ def main():
     """Prints a line for each row."""
     with tempfile.TemporaryDirectory() as name:
         at = pathlib.Path(name)
-        for file, text in {"model": MODEL, "term": TERM, "open": OPEN_TERM, "strategy": b"implyR(1); close\n"}.items():
+        for file, text in {"model": MODEL, "term": IN_FULL, "open": OPEN_TERM, "strategy": b"implyR(1); close\n"}.items():
             (at / file).write_bytes(text)
         inputs(at)
         outputs(at)
+        others(at)
         words(at)
     print(f"{len(faults)} not as wanted")
     return 1 if faults else 0

@@ -1,14 +1,14 @@
 #!/usr/bin/env python3
 """What inputs that are made to hurt cost: each against `check` of a smallest term, and against an honest file of its length.
 
-    python3 bench/hostile.py [--part N] [--seconds S] [--megabytes M] [--only WORD]
+    python3 bench/hostile.py [--part N] [--seconds S] [--megabytes M] [--only WORD] [--version 1|2]
 
 Each row is a run with the status and the first line that it must end with. Printed are the bytes of its files, its processor time and
 its peak of memory, how often the smallest `check` and how often the honest file goes into both. An honest file is a term of real proofs, a
 formula of comparisons, or a strategy of cuts, for the same command. A row that takes more than ten times what the honest file takes is
 marked, and so is one that is cut off: a run may take so many seconds of processor time and so much memory (300 and 4096; a number of
 megabytes of 0 is no limit). The marked rows stand in docs/PERFORMANCE.md with their reasons. With --part sizes are so many times smaller, and
---only takes the rows whose titles have the word.
+--only takes the rows whose titles have the word. A row with a term is tried with the same term in both versions of its file, or with --version in one.
 
 More such inputs stand in limits.py (long and nested texts), texts.py (how reading grows), subst.py (results that double) and changes.py.
 Run it after `./dlk` has built the program; another one is named by DLK. It needs a C compiler. The exit status is 1 where an answer
@@ -25,6 +25,7 @@ import typing
 import check
 from common import PROGRAM, measured, measurer
 from limits import MOST_BYTES
+from versioned import in_both, outputs_of
 
 MOST_LINES = 400_000
 MOST_NODES = 65_536
@@ -136,8 +137,10 @@ def honest_texts(verb, length):
     """The inputs of an honest run of a command."""
     if verb == "prove":
         return honest_strategy(length)
-    if verb in ("check", "report", "smt"):
+    if verb in ("check", "report", "smt", "guard", "trim"):
         return honest_term(length)
+    if verb == "convert":
+        return honest_term(length)[1:]
     formula, pairs = honest_formula(length)
     return (formula, pairs) if verb == "subst" else (formula,)
 
@@ -366,8 +369,57 @@ def costly_runs(part):
     yield Row(f"{2 * turns} uses of an axiom on 32,000 nodes", "prove", (f"[a;b;]({half})", strategy), 2 if part == 1 else 1, None)
 
 
+def by_numbers(*nodes, steps=("start ==>",), first_number=1):
+    """A term of version 2 of these nodes and then of these steps, numbered from 1 on."""
+    lines = ["dlk 2", *(f"node {number} {node}" for number, node in enumerate(nodes, first_number))]
+    return "\n".join([*lines, *(f"{number} {step}" for number, step in enumerate(steps, 1)), "done", ""])
+
+
+def doubled(count):
+    """Nodes of which each is twice the one before it, as a tree."""
+    return ["true", *(f"and {number} {number}" for number in range(1, count))]
+
+
+def nodes(part):
+    """Files of version 2 that are made to hurt: nodes that double, that are many, deep, alike, or numbered in another order."""
+    yield Row("nodes that double, past the limit", "check", ("true", by_numbers(*doubled(40))), 2, "refused: line 18: Malformed")
+    last = doubled(16)
+    yield Row("nodes that double, up to the limit", "check", ("true", by_numbers(*last)), 2, "refused: other-conclusion 18")
+    named = by_numbers(*last, steps=[f"start {'16 ' * SIDE}==>{' 16' * SIDE}"])
+    yield Row("a refusal with 512 formulas of 65,535 nodes", "check", ("true", named), 2, "refused: other-conclusion 18", True)
+    lines = MOST_LINES // part
+    starts = by_numbers(*last, steps=[f"start{' 16' * 8} ==>"] * (lines // 10))
+    yield Row(f"{lines // 10} sequents of 8 formulas of 65,535 nodes each", "check", ("true", starts), 2, f"refused: other-conclusion {lines // 10 + 17}")
+    axioms = by_numbers(steps=["axiom eqrefl"] * (MOST_LINES + 1))
+    yield Row("400,001 lines of one axiom, by nodes", "check", ("true", axioms), 2, "refused: line 400002: LinesFull")
+    many = 1_000_000 // part
+    numbers = [f"num {number}" for number in range(many)]
+    yield Row(f"{many} nodes, each a number", "check", ("true", by_numbers(*numbers)), 2, f"refused: other-conclusion {many + 2}")
+    yield Row(f"{many} nodes, of which no step names one, convert", "convert", (by_numbers(*numbers),), 1, "open")
+    yield Row(f"{many} nodes, and the first once more", "check", ("true", by_numbers(*numbers, "num 0")), 2, f"refused: line {many + 2}: Malformed")
+    yield Row(f"{many} nodes, and then a wrong number", "check", ("true", by_numbers(*numbers).replace("\n1 start", f"\nnode {many + 2} true\n1 start")), 2,
+              f"refused: line {many + 2}: WrongNumber")
+    yield Row(f"{many} nodes, numbered from 2", "check", ("true", by_numbers(*numbers, first_number=2)), 2, "refused: line 2: WrongNumber")
+    yield Row("a kid that isn't there", "check", ("true", by_numbers("true", "and 1 999999999")), 2, "refused: line 3: Malformed")
+    count = 100_000 // part
+    alike = by_numbers(*(f"num {number}" for number in alike_numbers(count)))
+    yield Row(f"{count} nodes of one hash", "check", ("true", alike), 2, f"refused: other-conclusion {count + 2}")
+    deep = ["true", *(f"not {number}" for number in range(1, 1_001))]
+    yield Row("nodes 1,000 deep", "convert", (by_numbers(*deep[:1_000], steps=["start ==> 1000"]),), 1, "open")
+    yield Row("nodes 1,001 deep", "check", ("true", by_numbers(*deep, steps=["start ==>"])), 2, "refused: line 1002: Malformed")
+    name = "a" * ((MOST_BYTES - 2) // part)
+    names = [f"var {name}{number}" for number in range(30)]
+    yield Row("30 nodes with names of a megabyte", "check", ("true", by_numbers(*names)), 2, "refused: other-conclusion 32")
+    items = ",".join(f"x{number}'" for number in range(64))
+    systems = ["num 0", "true", *(f"system {items},c{number} {'1 ' * 64}2" for number in range(100))]
+    yield Row("a system of 65 items", "check", ("true", by_numbers(*systems)), 2, "refused: line 4: Malformed")
+    kids = ["true", *(f"and 1 {number}" for number in range(1, 900)), *(f"or {a} {b}" for a in range(1, 900) for b in range(1, 1_000 // part))]
+    few = min(len(kids), 800_000 // part)
+    yield Row(f"{few} nodes over others", "check", ("true", by_numbers(*kids[:few])), 2, f"refused: other-conclusion {few + 2}")
+
+
 ROWS = (
-    wide_facts, merges, leaves, sharing, many_substitutions, shared_reports, long_names, many_pairs, nesting, many_symbols, one_hash, megabytes,
+    wide_facts, merges, leaves, sharing, many_substitutions, shared_reports, long_names, many_pairs, nesting, many_symbols, one_hash, nodes, megabytes,
     repeats, failing_tries, costly_runs,
 )
 
@@ -390,8 +442,7 @@ class Bench:
         files = [self.folder / f"input{k}" for k in range(len(texts))]
         for file, text in zip(files, texts):
             file.write_text(text)
-        output = [self.folder / "output"] if verb == "prove" else []
-        return measured(self.measurer, [PROGRAM, verb, *files, *output], self.limits)
+        return measured(self.measurer, [PROGRAM, verb, *files, *outputs_of(verb, self.folder)], self.limits)
 
     @functools.cache
     def honest(self, verb, length):
@@ -453,13 +504,15 @@ def main():
     parser.add_argument("--seconds", type=int, default=300, help="processor time that a run may take (300)")
     parser.add_argument("--megabytes", type=int, default=4096, help="memory that a run may take, 0 for no limit (4096)")
     parser.add_argument("--only", default="", help="rows whose titles have this word (all)")
+    parser.add_argument("--version", type=int, choices=(1, 2), help="terms of this version alone (both)")
     options = parser.parse_args()
     wrong = marked = count = 0
     with tempfile.TemporaryDirectory() as name:
         bench = Bench(pathlib.Path(name), options.seconds, options.megabytes)
         smallest = bench.smallest()
         print(f"check of a smallest term: {smallest.seconds:.3f} s, {smallest.peak / 1e6:.1f} MB", flush=True)
-        for row in (row for rows in ROWS for row in rows(options.part) if options.only in row.title):
+        wanted = (row for rows in ROWS for row in rows(options.part) if options.only in row.title)
+        for row in in_both(wanted, options.version):
             run = bench.run(row.verb, row.texts)
             honest = bench.honest(row.verb, sum(map(len, row.texts)))
             marks = marks_of(row, run, honest)

@@ -1,10 +1,10 @@
 #!/usr/bin/env python3
 """What `dlk check` costs on real proofs: the ten longest terms that the strategies of the gallery make.
 
-Printed are, for each term and for all, the bytes and the lines a second of processor time, the start of the program included, the least of
+Printed are, for each term and for all, the bytes and the steps a second of processor time, the start of the program included, the least of
 five runs, and the peak of memory a byte of term; then the same of each term so many times over in one file that it has 300,000 bytes or
 more; the time of `prove` against that of `check` on what it wrote; and the bytes a second against those of `metamath` on its database
-`set.mm` in the same run.
+`set.mm` in the same run. The terms are of the version that `prove` writes; bench/versions.py sets one version against the other.
 
 Run it after `./dlk` has built the program. It needs a C compiler. Arguments are paths of programs, each timed in the place of the built one, turn
 by turn: the last one is set against the first and against metamath. `metamath` and `set.mm` are those of Debian's packages metamath and
@@ -15,7 +15,7 @@ import sys
 import tempfile
 
 from check import SET_MM, shifted, spent
-from common import PROGRAM, TOP, answer
+from common import PROGRAM, TOP, answer, steps_of
 
 GALLERY = TOP / "examples" / "gallery"
 COUNT = 10
@@ -36,12 +36,14 @@ def longest_terms(program, folder):
 
 
 def repeated(term):
-    """A file of the same proof again and again, of at least so many bytes."""
+    """A file of the same proof again and again, of at least so many bytes. In version 2 its nodes stand there once."""
     lines = term.read_text().splitlines()[:-1]
-    times = -(-LONG // term.stat().st_size)
-    text = "".join(shifted(line, k * len(lines)) + "\n" for k in range(times) for line in lines) + "done\n"
+    steps = [line for line in lines if line[0].isdigit()]
+    size = sum(map(len, steps)) + len(steps)
+    times = -(-LONG // size)
+    copies = (shifted(line, k * len(steps)) for k in range(1, times) for line in steps)
     path = term.with_suffix(".long")
-    path.write_text(text)
+    path.write_text("\n".join([*lines, *copies, "done", ""]))
     return path
 
 
@@ -52,7 +54,7 @@ def measured_all(programs, title, pairs):
     size = lines = 0
     for model, term in pairs:
         length = term.stat().st_size
-        count = term.read_bytes().count(b"\n") - 1
+        count = steps_of(term)
         size, lines = size + length, lines + count
         told = []
         for program in programs:
@@ -60,9 +62,9 @@ def measured_all(programs, title, pairs):
             sums[program] += seconds
             peaks[program] = max(peaks[program], peak / length)
             told.append(f"{seconds * 1000:.1f} ms, {peak / length:.0f} bytes a byte")
-        print(f"{title}, {model.parent.name}: {count} lines, {length} bytes: " + "; ".join(told), flush=True)
+        print(f"{title}, {model.parent.name}: {count} steps, {length} bytes: " + "; ".join(told), flush=True)
     for program in programs:
-        told = f"{size / sums[program] / 1e6:.2f} million bytes and {lines / sums[program]:.0f} lines a second, peak {peaks[program]:.0f} bytes a byte"
+        told = f"{size / sums[program] / 1e6:.2f} million bytes and {lines / sums[program]:.0f} steps a second, peak {peaks[program]:.0f} bytes a byte"
         print(f"{title}, all: {program}: {told}", flush=True)
     return {program: size / sums[program] for program in programs}
 

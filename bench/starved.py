@@ -13,7 +13,8 @@ import subprocess
 import tempfile
 import typing
 
-from common import PROGRAM, TOP
+from common import PROGRAM, TOP, knows
+from versioned import by_nodes, outputs_of
 
 LIBRARY = r"""
 #define _GNU_SOURCE
@@ -74,6 +75,29 @@ CASES = (
     ("a big argument that is dropped", "subst", (f"g({DOUBLED})>=0\n", "f(._0)~>._0+._0, g(._0)~>1\n")),
     ("a big argument below a quantifier", "subst", (f"p({DOUBLED})\n", "f(._0)~>._0+._0, p(._0)~>\\exists z z>._0\n")),
 )
+IN_FULL = "1 start ==> x>=0 -> x>=0\n2 apply 1 1 implyR(1)\n3 apply 2 1 close(1,1)\ndone\n"
+SPLIT = "1 start ==> (x>=0 -> x>=0)&(x>=0 -> x>=0)\n2 apply 1 1 andR(1)\ndone\n"
+TWICE = "(x>=0 -> x>=0)&(x>=0 -> x>=0)\n"
+
+
+def newer_cases():
+    """Terms of version 2, and the commands that make terms of terms, where the program has them."""
+    if not knows("convert"):
+        return
+    for title, verb, (model, term) in CASES:
+        if verb in ("check", "report"):
+            yield f"{title}, by nodes", verb, (model, by_nodes(term)[0])
+    yield "a term of version 1", "convert", (IN_FULL,)
+    yield "a differential invariant", "convert", ((TOP / "examples/invariant/term").read_text(),)
+    if knows("link"):
+        yield "a lemma for both goals", "link", (TWICE, SPLIT, by_nodes(IN_FULL)[0])
+        yield "no goal for the lemma", "link", (TWICE, SPLIT, "1 start ==> x>=1\ndone\n")
+        yield "a term with lines that nothing needs", "trim", ("x>=0 -> x>=0\n", IN_FULL.replace("3 apply", "3 axiom K\n4 apply"))
+    if knows("session"):
+        lines = ("apply 1 implyR(1)", "apply 1 andR(1)", "apply 2 nil", "apply 1 close", "undo", "show", "apply 1 close", "save", "")
+        yield "a session", "session", ("x>=0 -> x>=0\n", "\n".join(lines))
+
+
 SILENT = (4, 6, 7)
 # the tests of the program as a program, where `rt test` in crates/dlk has built it; and one that says of each run over a desk in memory
 # whether it keeps its word
@@ -153,12 +177,12 @@ def main():
         (folder / "refuse.c").write_text(LIBRARY)
         library = folder / "refuse.so"
         subprocess.run(["cc", "-shared", "-fPIC", "-o", library, folder / "refuse.c", "-ldl"], check=True)
-        for title, verb, texts in CASES:
+        for title, verb, texts in (*CASES, *newer_cases()):
             inputs = [folder / str(k) for k in range(len(texts))]
             for path, text in zip(inputs, texts):
                 path.write_text(text)
             output = folder / "output"
-            refuse_each(title, [PROGRAM, verb, *inputs, *[output] * (verb == "prove")], output, library)
+            refuse_each(title, [PROGRAM, verb, *inputs, *outputs_of(verb, output.parent)], output, library)
         if TESTS.exists():
             refuse_each_of_test(library)
 

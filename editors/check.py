@@ -3,10 +3,10 @@
 
     python3 editors/check.py     exits 1 where they differ
 
-The keywords, operators and brackets of models come from the table of docs/LANGUAGE.md, the words of term lines from
+The keywords, operators and brackets of models come from the table of docs/LANGUAGE.md, the words of term lines, of nodes and of scripts from
 docs/FILES.md, rules from there and from the drawings of docs/CALCULUS.md, axioms and axiomatic rules from its tables, and
 atoms and the names of the library from docs/STRATEGIES.md. Each set must be the same in the files for Vim and in those for editors that take TextMate
-grammars. The numbers of premises in tools/prooftree.py are compared with the drawings.
+grammars. The numbers of premises in tools/prooftree.py are compared with the drawings, and the words of nodes with those of tools/trees.py.
 
 The commands, each with its arguments, come from the table of their forms in crates/dlk_replies/specs/Forms.antt. They must be the same
 in README.md, in the usage that the program prints on standard error, in the man page and in the completions for bash and zsh. The exit
@@ -20,6 +20,7 @@ from pathlib import Path
 ROOT = Path(__file__).resolve().parent.parent
 sys.path.insert(0, str(ROOT / "tools"))
 import prooftree  # noqa: E402
+import trees  # noqa: E402
 
 VIM = ROOT / "editors" / "vim" / "syntax"
 TEXTMATE = ROOT / "editors" / "textmate"
@@ -86,6 +87,8 @@ def documented():
         "operators": {span for kind in ("logic", "comparisons", "arithmetic", "programs", "substitutions") for span in token[kind]},
         "brackets": set(token["brackets of unit symbols"]) | set(token["brackets"]),
         "steps": steps | {"done"},
+        "words of nodes": set().union(*(names(row[1]) for row in rows(files, "| Sort | Words of nodes |"))),
+        "words of scripts": set().union(*(names(row[0]) for row in rows(files, "| Line | What it does | Reply |"))),
         "rules": rules,
         "axioms": {spans(row[0])[0] for row in rows(calculus, "| Name | Form | Formula | It says |")},
         "axiomatic rules": {spans(row[0])[0] for row in rows(calculus, "| Name | Premise | Conclusion | It says |")},
@@ -131,6 +134,8 @@ def vim():
         "operators": spelled(vim_patterns("dlkmodel.vim", "dlkOperator")[0], "\\|"),
         "brackets": set(first.removeprefix("[").removesuffix("]")) | spelled(second, "\\|"),
         "steps": vim_words("dlkterm.vim", "dlkStep") | done,
+        "words of nodes": vim_words("dlkterm.vim", "dlkNode"),
+        "words of scripts": set(re.findall(r"\w{4,}", "|".join(vim_patterns("dlkscript.vim", "dlkCommand")))),
         "rules": vim_words("dlkterm.vim", "dlkRule"),
         "axioms": vim_words("dlkterm.vim", "dlkAxiom"),
         "axiomatic rules": vim_words("dlkterm.vim", "dlkAxiomaticRule"),
@@ -152,14 +157,16 @@ def repository(kind):
 
 def textmate():
     """Each set of words as the TextMate grammars have it."""
-    model, term, strategy = (
-        {name: rule.get("match", "") for name, rule in repository(kind).items()} for kind in ("model", "term", "strategy"))
+    model, term, strategy, script = (
+        {name: rule.get("match", "") for name, rule in repository(kind).items()} for kind in ("model", "term", "strategy", "script"))
     return {
         "keywords": spelled(model["keyword"], "|"),
         "constants": group_of(model["constant"], 0),
         "operators": spelled(model["operator"], "|"),
         "brackets": spelled(model["bracket"], "|"),
         "steps": set().union(*(group_of(term[name], 0) for name in ("done", "apply", "fact", "axiom", "rule", "sequent"))),
+        "words of nodes": group_of(term["node"], 1),
+        "words of scripts": group_of(script["apply"], 0) | group_of(script["word"], 0),
         "rules": group_of(term["apply"], 1),
         "axioms": group_of(term["axiom"], 1),
         "axiomatic rules": group_of(term["rule"], 1),
@@ -256,6 +263,7 @@ def differences():
     pairs += [("commands", *place) for place in commands()]
     pairs += [("exit statuses", "docs/dlk.1", *statuses())]
     pairs += [("rules that are drawn", "docs/CALCULUS.md", words["rules"], set(drawings())),
+              ("words of nodes", "tools/trees.py", words["words of nodes"], set(trees.ROWS)),
               ("axiomatic rules", "tools/prooftree.py", words["axiomatic rules"], set(prooftree.AXIOMATIC)),
               ("numbers of premises", "tools/prooftree.py", set(drawings().items()), set(prooftree.PREMISES.items()))]
     for kind, name, expected, found in pairs:

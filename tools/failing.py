@@ -12,6 +12,7 @@ from typing import NamedTuple
 import strategytext
 from proving import answer, goals_in, has_report, split_sequent
 from strategytext import Branch, Choice, Repeat
+from terms import readable
 
 
 class State(NamedTuple):
@@ -67,7 +68,7 @@ def marked(goals, name):
 
 
 def first_group(term, name):
-    """How many goals have the mark in one go, in the first place of the term where it is put."""
+    """How many goals have the mark in one go, in the first place of the term, which is one of version 1, where it is put."""
     cuts = [bool(re.search(rf"apply \d+ \d+ cut\({name}\(\)\)$", line)) for line in term.split("\n")]
     if True not in cuts:
         return 0
@@ -77,22 +78,33 @@ def first_group(term, name):
 
 def state_at(program, model, text, refusal):
     """The state where a strategy fails; none where it can't be had."""
+
+    def run(shortened):
+        """What is printed of this strategy, and the term that it makes; none where it fails."""
+        with tempfile.TemporaryDirectory() as folder:
+            strategy, term = Path(folder) / "strategy", Path(folder) / "term"
+            strategy.write_text(shortened, encoding="latin-1")
+            said = answer(program, "prove", model, strategy, term)
+            return (said.text, term.read_bytes()) if has_report(said) else None
+
+    return state_by(run, text, refusal.byte, Path(model).read_bytes().decode("latin-1"))
+
+
+def state_by(run, text, byte, *others):
+    """The state where a strategy fails at a byte, by what runs a strategy in its stead; none where it can't be had. The names in the other
+    texts are in use."""
     try:
-        way = strategytext.way_to(strategytext.read(text), refusal.byte)
+        way = strategytext.way_to(strategytext.read(text), byte)
     except strategytext.Wrong:
         return None
     if way is None:
         return None
-    name = new_name(text, Path(model).read_bytes().decode("latin-1"))
-    shortened = up_to(text, way, f'cut("{name}()")')
-    with tempfile.TemporaryDirectory() as folder:
-        strategy, term = Path(folder) / "strategy", Path(folder) / "term"
-        strategy.write_text(shortened, encoding="latin-1")
-        said = answer(program, "prove", model, strategy, term)
-        if not has_report(said):
-            return None
-        goals = marked(goals_in(said.text), name)
-        group = first_group(term.read_text(encoding="latin-1"), name)
+    name = new_name(text, *others)
+    made = run(up_to(text, way, f'cut("{name}()")'))
+    if made is None:
+        return None
+    goals = marked(goals_in(made[0]), name)
+    group = first_group(readable(made[1]), name)
     if not goals:
         return None
     if isinstance(way[-1], Branch):

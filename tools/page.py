@@ -25,6 +25,7 @@ from typing import NamedTuple
 
 from prooftree import UNTOLD, Drawing, filled, part, refuse_bad_page, script_data, summary, told_by, tree, write_page
 from proving import Refused, ended, position, program_of, report_of, seconds
+from terms import readable, version_of
 from typeset import formula, sequent
 from verdict import GUARD_WHY, VERIFIED, Work, at, counted
 from words import runs_in
@@ -58,7 +59,7 @@ class Found(NamedTuple):
 # What there is to say
 
 def goal_before(program, model, lines, run):
-    """The goal on which a run of a word worked: of the line before its first one, as the program tells it."""
+    """The goal on which a run of a word worked: of the line before its first one, as the program tells it. The lines are those of version 1."""
     with tempfile.TemporaryDirectory() as folder:
         term = Path(folder) / "term"
         term.write_text("\n".join([*lines[: run.first - 1], "done", ""]), encoding="latin-1")
@@ -95,7 +96,7 @@ def found_out(options):
             pass
         work.hint()
         work.conclude()
-        term = work.term.read_text(encoding="latin-1")
+        term = readable(work.term.read_bytes())
         strategy = work.strategy.read_text(encoding="latin-1")
         runs = runs_in(work.program, work.model, strategy, term) or []
         return Found(
@@ -234,6 +235,8 @@ def files(found):
         for name, data in (("model", found.model), ("strategy", found.strategy), ("term", found.term))
     )
     texts = {"model": found.model.decode("latin-1"), "strategy": found.strategy.decode("latin-1")}
+    if version_of(found.term) == 2:  # else the page's script has its lines
+        texts["term"] = found.term.decode("latin-1")
     return (
         f"<table><tr><th>File</th><th>Bytes</th><th>sha256</th><th></th></tr>{rows}</table>"
         '<p class="note">This page was made by a script of which nothing is proved, and checks nothing itself. Whoever doubts it saves the model'
@@ -253,7 +256,7 @@ def verdict(told):
 def page(found):
     """The text of the page."""
     mood, word, why = verdict(found.told)
-    drawing = Drawing(found.term.decode("latin-1"))
+    drawing = Drawing(readable(found.term))
     known = told_by(found.runs, found.strategy) if found.runs else UNTOLD
     parts = {
         "name": html.escape(found.title),

@@ -12,7 +12,7 @@ strategy is run again. Where it makes another term, or it can't be said which wo
 standard error says so.
 
 Nothing is checked here: that is the work of `dlk check`. The shape follows from the lines alone: which line works on which
-goal, and how many premises its rule has. The texts of goals are those that the lines give, and what the rules for
+goal, and how many premises its rule has. A term may be of either version; lines are numbered as its steps are. The texts of goals are those that the lines give, and what the rules for
 connectives, cuts and the structure of a sequent make of them; where that isn't enough, a formula is shown as dots.
 """
 import argparse
@@ -25,6 +25,7 @@ from typing import NamedTuple
 
 from calculus import PREMISES
 from proving import Refused, are_same_file, ended, position, read_bytes, split_list, split_sequent
+from terms import readable, version_of
 from words import word_runs
 
 PAGES = pathlib.Path(__file__).resolve().parent / "pages"
@@ -538,6 +539,11 @@ def write_page(target, text):
         pathlib.Path(target).write_bytes(data)
 
 
+def text_of(data):
+    """The lines of a term as they are drawn: one of version 2 is written as one of version 1."""
+    return readable(data) if version_of(data) == 2 else data.decode("utf-8", "replace")
+
+
 def options_of(words):
     """The options of the command line."""
     parser = argparse.ArgumentParser(description="Draws the proof of a term as one page for a browser.")
@@ -558,7 +564,7 @@ def work(words):
     given = options_of(words)
     target = given.page or f"{given.term}.html"
     refuse_bad_page(target, [name for name in (given.term, given.model, given.strategy) if name])
-    drawing = Drawing(read_bytes(given.term).decode("utf-8", "replace"))
+    drawing = Drawing(text_of(read_bytes(given.term)))
     text = page(drawing, given.term, given.depth, told_of(given))
     write_page(target, text)
     return 0

@@ -10,6 +10,7 @@ import re
 import shutil
 import subprocess
 import sys
+import tempfile
 from pathlib import Path
 from typing import NamedTuple
 
@@ -20,6 +21,8 @@ BUILT = ROOT / "crates" / "dlk" / "out" / "dlk"
 CLOSED, GOALS_LEFT, INPUT_REFUSED = 0, 1, 2
 # The exit statuses of a tool that control-C ended, and of one whose output nobody reads, as a shell gives them.
 INTERRUPTED, UNREAD = 130, 141
+# How a term file begins, in version 1 and in version 2.
+TERM_BEGINS = (b"1 ", b"dlk 2\n")
 
 REFUSAL = re.compile(r"refused: (?P<what>fails|budget|strategy|model|file|subst) at (?P<byte>\d+)(?:: (?P<why>\w+))?")
 
@@ -214,6 +217,59 @@ def are_same_file(one, other):
         return one.resolve() == other.resolve()
     except (OSError, RuntimeError):
         return os.path.abspath(one) == os.path.abspath(other)
+
+
+def is_loop(path):
+    """Whether a name is that of a link that leads back to itself."""
+    try:
+        path.resolve()
+    except RuntimeError:
+        return True
+    return False
+
+
+def refuse_bad_output(target, inputs, begins, kind):
+    """Refuses an output that is an input, can't be written, or has something else in it than what it is to hold: a file of this kind begins in
+    one of these ways."""
+    for name in inputs:
+        if are_same_file(target, name):
+            raise Refused(f"{target} is an input, the same file as {name}: it isn't written over")
+    path = Path(target)
+    if path.is_dir():
+        raise Refused(f"{target}: is a directory")
+    if is_loop(path):
+        raise Refused(f"{target}: too many levels of symbolic links")
+    if not path.resolve().parent.is_dir():
+        raise Refused(f"{target}: there is no such folder")
+    if not os.access(path if path.exists() else path.resolve().parent, os.W_OK):
+        raise Refused(f"{target}: permission denied")
+    if path.is_file():
+        with path.open("rb") as file:
+            first = file.read(max(map(len, begins)))
+        if first and not first.startswith(tuple(begins)):
+            raise Refused(f"{target} holds something else than {kind}: it isn't written over; name another file, or remove it")
+
+
+def put_at(data, target):
+    """Puts these bytes at their place, whole or not at all. What is no plain file is written to."""
+    path = Path(target).resolve()
+    if path.exists() and not path.is_file():
+        path.write_bytes(data)
+        return
+    try:
+        number, name = tempfile.mkstemp(prefix=f".{path.name}.", dir=path.parent)
+    except OSError as fault:
+        raise Refused(f"{target}: {fault.strerror.lower()}") from fault
+    try:
+        with os.fdopen(number, "wb") as file:
+            file.write(data)
+        mask = os.umask(0)
+        os.umask(mask)
+        os.chmod(name, 0o666 & ~mask)
+        os.replace(name, path)
+    except BaseException:
+        Path(name).unlink(missing_ok=True)
+        raise
 
 
 def ended(name, work, words, refused=INPUT_REFUSED):

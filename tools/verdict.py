@@ -47,9 +47,9 @@ import linting
 from failing import state_at
 from proving import (
     INPUT_REFUSED,
+    TERM_BEGINS,
     Refused,
     answer,
-    are_same_file,
     complaint_of,
     ended,
     has_report,
@@ -58,11 +58,14 @@ from proving import (
     position,
     printed_report,
     program_of,
+    put_at,
     read_bytes,
     refusal_in,
+    refuse_bad_output,
     seconds,
     shown,
 )
+from terms import readable
 from words import lines_of, runs_in, words_of_lines
 
 VERIFIED, OPEN, REFUSED, NOT_VERIFIED, NOTHING_KNOWN = 0, 1, 2, 3, 4
@@ -188,7 +191,7 @@ class Work:
 
     def makers(self, text):
         """The words that made a leaf of this text, each with its place."""
-        lines = lines_of(self.term.read_text(encoding="latin-1"))
+        lines = lines_of(self.term_text())
         made = [word for line, word in zip(lines, self.words()) if line == ("leaf", text) and word]
         return [{"word": word, "place": self.place("strategy", byte)} for byte, word in dict.fromkeys(made)]
 
@@ -208,10 +211,16 @@ class Work:
             told |= {"word": made[1], "place": self.place("strategy", made[0])}
         return told
 
+    def term_text(self):
+        """The term that was made, as one of version 1."""
+        if not hasattr(self, "known_text"):
+            self.known_text = readable(self.term.read_bytes())
+        return self.known_text
+
     def words(self):
         """For each line of the term the word that made it, or none."""
         if not hasattr(self, "known_words"):
-            term = self.term.read_text(encoding="latin-1")
+            term = self.term_text()
             runs = runs_in(self.program, self.model, self.strategy.read_text(encoding="latin-1"), term)
             self.known_words = words_of_lines(runs, len(lines_of(term)))
         return self.known_words
@@ -224,7 +233,7 @@ class Work:
         found = linting.hints(self.program, self.model, self.model.read_bytes(), self.strategy.read_bytes(), old, is_guarded)
         if guard and not is_guarded:
             told = (guard["place"] or {}).get("byte"), (guard["why"] or "").rpartition(" ")[2]
-            found += linting.of_invariants(lines_of(self.term.read_text(encoding="latin-1")), self.words(), told)
+            found += linting.of_invariants(lines_of(self.term_text()), self.words(), told)
         for hint in found:
             place = self.place(hint.file, hint.byte) if hint.file != "term" else place_in(self.names["term"], old, hint.byte)
             self.told["hints"].append({"place": place, "text": hint.text})
@@ -232,7 +241,7 @@ class Work:
     def put(self):
         """Puts the term where it is wanted."""
         if self.names["term"] and self.told["outcome"] != "refused":
-            put_at(self.term, self.names["term"])
+            put_at(self.term.read_bytes(), self.names["term"])
             self.told["term"] = self.names["term"]
 
     def conclude(self):
@@ -440,54 +449,7 @@ def refuse_bad_term(options):
     target = options.term
     if target is None:
         return
-    for name in (options.model, options.strategy, program_of(options.dlk)):
-        if are_same_file(target, name):
-            raise Refused(f"{target} is an input, the same file as {name}: it isn't written over")
-    path = Path(target)
-    if path.is_dir():
-        raise Refused(f"{target}: is a directory")
-    if is_loop(path):
-        raise Refused(f"{target}: too many levels of symbolic links")
-    if not path.resolve().parent.is_dir():
-        raise Refused(f"{target}: there is no such folder")
-    if not os.access(path if path.exists() else path.resolve().parent, os.W_OK):
-        raise Refused(f"{target}: permission denied")
-    if path.is_file():
-        with path.open("rb") as file:
-            first = file.read(2)
-        if first not in (b"", b"1 "):
-            raise Refused(f"{target} holds something else than a term: it isn't written over; name another file, or remove it")
-
-
-def is_loop(path):
-    """Whether a name is that of a link that leads back to itself."""
-    try:
-        path.resolve()
-    except RuntimeError:
-        return True
-    return False
-
-
-def put_at(made, target):
-    """Puts the term at its place, whole or not at all. What is no plain file is written to."""
-    path, data = Path(target).resolve(), made.read_bytes()
-    if path.exists() and not path.is_file():
-        path.write_bytes(data)
-        return
-    try:
-        number, name = tempfile.mkstemp(prefix=f".{path.name}.", dir=path.parent)
-    except OSError as fault:
-        raise Refused(f"{target}: {fault.strerror.lower()}") from fault
-    try:
-        with os.fdopen(number, "wb") as file:
-            file.write(data)
-        mask = os.umask(0)
-        os.umask(mask)
-        os.chmod(name, 0o666 & ~mask)
-        os.replace(name, path)
-    except BaseException:
-        Path(name).unlink(missing_ok=True)
-        raise
+    refuse_bad_output(target, (options.model, options.strategy, program_of(options.dlk)), TERM_BEGINS, "a term")
 
 
 # Watching

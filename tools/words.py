@@ -1,4 +1,4 @@
-"""Says of each line of a term which word of the strategy made it.
+"""Says of each line of a term which word of the strategy made it. A line is a step, in a term of either version.
 
     python3 tools/words.py MODEL STRATEGY [--dlk PROGRAM]     prints each word with its lines
 
@@ -23,6 +23,7 @@ import strategytext
 from calculus import AXIOMS, CONNECTIVES, DERIVES, LIBRARY, PREMISES, STEPS
 from proving import Refused, answer, complaint_of, ended, has_report, position, program_of, read_bytes, refusal_in
 from strategytext import Argument, Atom, Branch, Choice, Repeat, Sequence
+from terms import readable
 
 # A line that changes nothing of a goal but an empty one. It would show that what stands behind it didn't fail.
 MARK = '(exchangeR(1,1)|exchangeL(-1,-1)|cut("true"))'
@@ -322,16 +323,16 @@ def side_by_side(texts):
 
 
 def made_by(program, model, text):
-    """The term that a strategy of this text makes of a model, or the program's answer where it makes none."""
+    """The term that a strategy of this text makes of a model, as one of version 1, or none; and the program's answer."""
     with tempfile.TemporaryDirectory() as folder:
         strategy, term = Path(folder) / "strategy", Path(folder) / "term"
         strategy.write_bytes(text.encode("latin-1"))
         said = answer(program, "prove", model, strategy, term)
-        return (term.read_text(encoding="latin-1") if has_report(said) else None), said
+        return (readable(term.read_bytes()) if has_report(said) else None), said
 
 
 def lines_of(term):
-    """The lines of a term before its end: the word and the rest of each."""
+    """The lines of a term of version 1 before its end: the word and the rest of each."""
     found = [LINE.fullmatch(line) for line in term.split("\n")]
     return [(line[1], line[2]) for line in found if line]
 
@@ -392,7 +393,7 @@ def word_runs(model, strategy, program=None, term=None):
     made, said = made_by(program, model, text)
     if made is None:
         raise Refused(complaint_of(said))
-    if term is not None and read_bytes(term).decode("latin-1") != made:
+    if term is not None and readable(read_bytes(term)) != made:
         return None
     return runs_in(program, model, text, made)
 
@@ -413,10 +414,9 @@ def line_words(model, strategy, program=None, term=None):
     made, said = made_by(program, model, text)
     if made is None:
         raise Refused(complaint_of(said))
-    is_other = term is not None and read_bytes(term).decode("latin-1") != made
-    runs = None if is_other else runs_in(program, model, text, made)
-    count = len(lines_of(made if term is None else read_bytes(term).decode("latin-1")))
-    return words_of_lines(runs, count)
+    wanted = made if term is None else readable(read_bytes(term))
+    runs = runs_in(program, model, text, made) if wanted == made else None
+    return words_of_lines(runs, len(lines_of(wanted)))
 
 
 def work(words):

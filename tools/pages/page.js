@@ -17,7 +17,7 @@
   });
   if (said.length) show(0);
   // The files as they were: the texts have a character for each byte.
-  const texts = { ...JSON.parse(document.getElementById("texts").textContent), term: data.lines.slice(1).join("\n") + "\ndone\n" };
+  const texts = { term: data.lines.slice(1).join("\n") + "\ndone\n", ...JSON.parse(document.getElementById("texts").textContent) };
   const bytesOf = name => Uint8Array.from(texts[name], letter => letter.charCodeAt(0));
   document.querySelectorAll("button[data-file]").forEach(button => {
     button.onclick = () => {

@@ -15,7 +15,7 @@ from pathlib import Path
 TOOLS = Path(__file__).resolve().parent.parent
 ROOT = TOOLS.parent
 sys.path.insert(0, str(TOOLS))
-sys.setrecursionlimit(20_000)
+sys.setrecursionlimit(60_000)
 
 import page  # noqa: E402, F401  (behind the path; it imports what the other tools do)
 import proving  # noqa: E402
@@ -23,7 +23,14 @@ import proving  # noqa: E402
 # The tools need the standard library alone, and begin faster without the rest.
 PYTHON = [sys.executable, "-S"]
 PROGRAM = os.environ.get("DLK") or str(proving.BUILT)
-needs_program = unittest.skipUnless(os.access(PROGRAM, os.X_OK), "the program isn't built")
+
+
+def is_built():
+    """Whether the program is there."""
+    return os.access(PROGRAM, os.X_OK)
+
+
+needs_program = unittest.skipUnless(is_built(), "the program isn't built")
 
 CHOICE = "0<=v & v<=M() -> [?v+1<=M(); v:=v+1; ++ v:=0;]v<=M()\n"
 CLOSES_CHOICE = "implyR(1); step(1); andR(1); <(step(1)*2; implyR(1); step(1); close, step(1); leaf)\n"
