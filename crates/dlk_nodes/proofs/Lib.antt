@@ -29,3 +29,6 @@ pub mod OneLine
 pub mod PartsRead
 pub mod Recordings
 pub mod TermRecorded
+pub mod SidesRead
+pub mod SymbolForms
+pub mod PairsFound
