@@ -42,11 +42,11 @@ module _ (Is : List ℕ → Line → Type 0) (text : List ℕ) where
   step_wrong nodes place number rows read step (Bad at why.Malformed) is same wrong = absurd wrong
   step_wrong nodes place number rows read step (Bad at why.WrongNumber) is same (there, other) =
       let unlike : number ≢ length rows + 1 = subst (λ ps. number ≢ length ps + 1) same other in
-      (there, Numbered number step, is, other_test number (length rows + 1) (TakesStep step) unlike)
+      (there, (Numbered number step, is, other_test number (length rows + 1) (TakesStep step) unlike))
   step_wrong nodes place number rows read step (Bad at why.NoEnd) is same wrong = absurd wrong
   step_wrong nodes place number rows read step (Bad at (why.Step reason)) is same (there, own, fault) =
       let number_is : number ≡ length rows + 1 = own ∙ ap (λ ps. length ps + 1) same in
-      (there, step, subst (λ n. Is text (Numbered n step)) number_is is, subst (λ ps. Fault ps step reason) same fault)
+      (there, (step, subst (λ n. Is text (Numbered n step)) number_is is, subst (λ ps. Fault ps step reason) same fault))
   step_wrong nodes place number rows read step Memory is same wrong = tt
 
   -- ---- nodes
@@ -55,7 +55,7 @@ module _ (Is : List ℕ → Line → Type 0) (text : List ℕ) where
       IsNodeFault place number nodes fault → IsLineFault Is nodes place rows text fault
   node_wrong nodes place number rows t (Bad at why.Malformed) is wrong = absurd wrong
   node_wrong nodes place number rows t (Bad at why.WrongNumber) is (there, other) =
-      (there, OfNode number t, is, other_test number (nodes + 1) TakesNone other)
+      (there, (OfNode number t, is, other_test number (nodes + 1) TakesNone other))
   node_wrong nodes place number rows t (Bad at why.NoEnd) is wrong = absurd wrong
   node_wrong nodes place number rows t (Bad at (why.Step reason)) is wrong = absurd wrong
   node_wrong nodes place number rows t Memory is wrong = tt
