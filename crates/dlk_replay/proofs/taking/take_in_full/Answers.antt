@@ -1,9 +1,8 @@
 use Rattle.std.proofs.lemmas.Result.{err_from_is_err_and}
-use Rattle.dlk_store.specs.Stores.{Keeps}
-use Rattle.dlk_rules.specs.Steps.{step_at, HasKnownIds}
+use Rattle.dlk_rules.specs.Steps.{step_at}
 use Rattle.dlk_kernel.specs.Kernel.{facts}
 use Rattle.dlk_replay.specs.Replay.{IsLineInFull}
-use Rattle.dlk_replay.proofs.TakenLine.{step_taken, step_wrong}
+use Rattle.dlk_replay.proofs.TakenLine.{step_wrong}
 use Rattle.dlk_replay.proofs.taking.take_in_full.Goals as goal
 
 pub returns-in_err-take_step-in-Ok-Step-clause-fault : goal.returns-in_err-take_step-in-Ok-Step-clause-fault
