@@ -25,7 +25,7 @@ IsWrong Says before rows line why.NoEnd = ⊥
 IsWrong Says before rows line (why.Step reason) = (step : Step) × Says before line (TakesStep step) × Fault rows step reason
 
 module _ (Says : Format) (all : List (List ℕ)) where
-  pub reached_none : Reached Says all all 0 0 [] []
+  unfoldable pub reached_none : Reached Says all all 0 0 [] []
   reached_none = record { front = []; all_is = refl; place_is = refl; lines = no_lines; said = front_none Says }
 
   module _ (left : List (List ℕ)) (place last : ℕ) (steps : List Step) (rows : List Provable) where
@@ -57,7 +57,7 @@ module _ (Says : Format) (all : List (List ℕ)) where
         (subst (λ k. Becomes Says (r.front ++ line ∷ next ∷ left) (bad k why.Malformed)) two (done_before next left r.lines some ends))
 
   module _ (left : List (List ℕ)) (line : List ℕ) (place last : ℕ) (steps : List Step) (rows : List Provable) where
-    pub reached_more : (step : Step) (new : List Provable) (r : Reached Says all (line ∷ left) place last steps rows) → Says r.front line (TakesStep step) →
+    unfoldable pub reached_more : (step : Step) (new : List Provable) (r : Reached Says all (line ∷ left) place last steps rows) → Says r.front line (TakesStep step) →
         Adds rows step new → Reached Says all left (place + 1) (place + 1) (steps ++ step ∷ []) new
     reached_more step new r is adds =
         let place_is : length r.front + 1 ≡ place + 1 = ap (λ n. n + 1) (sym r.place_is) in
@@ -73,7 +73,7 @@ module _ (Says : Format) (all : List (List ℕ)) where
         }
 
     -- the next line gave no row
-    pub reached_skip : (r : Reached Says all (line ∷ left) place last steps rows) → Says r.front line TakesNone →
+    unfoldable pub reached_skip : (r : Reached Says all (line ∷ left) place last steps rows) → Says r.front line TakesNone →
         Reached Says all left (place + 1) last steps rows
     reached_skip r is = record {
       front = r.front ++ line ∷ [];

@@ -109,6 +109,7 @@ begins_known trees all left place (v.Two ids) begins = subst (All (IsId trees)) 
 -- before the first line, or behind the head
 pub so_far_none : {V : Type 0} (after : V → Line → V) (all left : List (List ℕ)) (place : ℕ) (trees : List Tree) (version : Version) (keep : Bool) (before : V) → Begins all version left place →
     SoFar after all left place 0 trees version [] keep [] before before
+unfolding reached_none reached_skip
 so_far_none after all left place trees v.One keep before (one, left_is, none) =
     let start : SoFar after all all 0 0 trees v.One [] keep [] before before =
     record { taken = []; reached = reached_none SaysInFile all; stands = (refl, one); seen = refl; kept_are = kept_none keep } in
@@ -145,6 +146,7 @@ module _ {V : Type 0} {after : V → Line → V} {all left : List (List ℕ)} {l
   pub so_far_more : (grown : List Tree) (still : Version) (new : List Provable) (step : Step) (more : List Step) (next : V) → Keeps trees grown → AreKnownNodes trees version →
       IsNextStep (IsLineOf trees version) rows line step new → still ≡ version → SeesLast after new step now next → more ≡ kept ++ kept_of keep (step ∷ []) →
       SoFar after all left (place + 1) (place + 1) grown still new keep more before next
+  unfolding reached_more
   so_far_more grown still new step more next keeps known is same sees more_is =
       let p = is.adds.provable in
       let r = s.reached in
@@ -170,6 +172,7 @@ module _ {V : Type 0} {after : V → Line → V} {all left : List (List ℕ)} {l
   -- it was a node
   pub so_far_node : (grown : List Tree) (next : Version) (new : List Provable) (same : List Step) → Keeps trees grown → AreKnownNodes trees version →
       IsNextNode trees grown version next line → new ≡ rows → same ≡ kept → SoFar after all left (place + 1) last grown next new keep same before now
+  unfolding reached_skip
   so_far_node grown next new same keeps known is rows_are kept_is =
       let r = s.reached in
       let one : SoFar after all left (place + 1) last grown next rows keep kept before now =
