@@ -2,7 +2,6 @@
 use Rattle.std.proofs.Common.{◌≡◌, ℕ, List, refl, sym, ap, subst, ◌∙◌, arith}
 use Rattle.dlk_tree.specs.Trees.{Tree}
 use Rattle.dlk_calculus.specs.Provables.{Provable}
-use Rattle.dlk_calculus.specs.Steps.{Step}
 use Rattle.dlk_grammar.specs.declared.token.Dots.TheVariants.{Refused}
 use Rattle.dlk_grammar.specs.declared.token.Form.TheVariants.{Formula}
 use Rattle.dlk_grammar.specs.Texts.{TextFault}
@@ -15,8 +14,10 @@ use Rattle.dlk_replies.specs.declared.form.Role.TheVariants.{Model}
 use Rattle.dlk_replies.specs.Replies.{Reply}
 use Rattle.dlk_replies.specs.Refusals.{text_refused}
 use Rattle.dlk_jobs_check.specs.Terms.{ModelText, ModelFault}
-use Rattle.dlk_jobs_prove.specs.Proves.{Records, too_long, writes, Proves, bad_model, bad_strategy, fails, spent, records, strategy_refused, failed, over_budget, RunsTo, IsLast}
+use Rattle.dlk_jobs_record.specs.Records.{Records, IsLast}
+use Rattle.dlk_jobs_prove.specs.Proves.{Proves, bad_model, bad_strategy, fails, spent, records, strategy_refused, failed, over_budget, RunsTo}
 use Rattle.dlk_jobs_check.proofs.Ends.{one_last, one_model, model_or_fault}
+use Rattle.dlk_jobs_record.proofs.OneRecord.{one_record}
 use Rattle.dlk_jobs_prove.proofs.StrategyLaws.{OneText, TextOrFault, OneFault, OneRun}
 
 -- how far it comes
@@ -37,12 +38,6 @@ Answers (AtStrategy why) reply = reply ≡ strategy_refused why
 Answers (AtRun (Fails at why used)) reply = reply ≡ failed at why
 Answers (AtRun (Budget at)) reply = reply ≡ over_budget at
 Answers (AtRun (Done made left)) reply = (p : Provable) × IsLast made.rows p × Records made.steps p reply
-
-one_record : (steps : List Step) (p : Provable) (r s : Reply) → Records steps p r → Records steps p s → r ≡ s
-one_record steps p _ _ (too_long long) (too_long also) = refl
-one_record steps p _ _ (too_long long) (writes short) = absurd (omega (arith, long, short))
-one_record steps p _ _ (writes short) (too_long long) = absurd (omega (arith, long, short))
-one_record steps p _ _ (writes short) (writes also) = refl
 
 one_answer : (end : Ending) (r s : Reply) → Answers end r → Answers end s → r ≡ s
 one_answer (AtModel why) r s a b = a ∙ sym b

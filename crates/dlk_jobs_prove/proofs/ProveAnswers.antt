@@ -20,19 +20,15 @@ use Rattle.dlk_strategy.specs.declared.fault.RunFault.{RunFault}
 use Rattle.dlk_strategy.specs.declared.fault.RunFault.TheVariants as run
 use Rattle.dlk_strategy.specs.Runs.{Progress, Done, RunsModel}
 use Rattle.dlk_strategy.specs.Ties.{IsRunFaultOf}
-use Rattle.dlk_recorder.specs.Terms.{term_text}
-use Rattle.dlk_replies.specs.declared.form.Role.TheVariants.{Term}
-use Rattle.dlk_replies.specs.declared.reply.Layout.TheVariants.{Text}
-use Rattle.dlk_replies.specs.Forms.{limit_of}
 use Rattle.dlk_replies.specs.declared.ended.Ended.{Ended}
 use Rattle.dlk_replies.specs.declared.reply.Reply.{Reply as IdReply}
 use Rattle.dlk_replies.specs.Ended.{EndsIn}
 use Rattle.dlk_replies.specs.Replies.{Reply}
 use Rattle.dlk_replies.proofs.Ends.{ends_weaker}
 use Rattle.dlk_jobs_check.specs.Terms.{ModelText}
-use Rattle.dlk_jobs_check.specs.Checks.{reported}
 use Rattle.dlk_jobs_check.specs.Judged.{RefusesModel}
-use Rattle.dlk_jobs_prove.specs.Proves.{term_too_long, proved, Records, too_long, writes, Proves, bad_model, bad_strategy, fails, spent, records, strategy_refused, RunsTo}
+use Rattle.dlk_jobs_record.specs.Records.{Records}
+use Rattle.dlk_jobs_prove.specs.Proves.{Proves, bad_model, bad_strategy, fails, spent, records, strategy_refused, RunsTo}
 use Rattle.dlk_jobs_prove.specs.Proved.{IsStrategyRefused, IsRunRefused}
 use Rattle.dlk_jobs_check.proofs.Ends.{last_of, last_item}
 
@@ -76,20 +72,6 @@ model_shallow model f reads = elim (cases_lt greatest_depth (depth f)) [
         },
       ))
 ]
-
--- a term file that would be too long
-pub long_answer : (steps : List Step) (p : Provable) (bytes : ℕ) (reply : Reply) → bytes ≡ length (term_text steps) → limit_of Term < length (term_text steps) →
-    reply ≡ term_too_long bytes → Records steps p reply
-long_answer steps p bytes reply bytes_are long is = subst (Records steps p) (sym (is ∙ ap term_too_long bytes_are)) (too_long long)
-
--- a term file with the report of the last row
-pub short_answer : (steps : List Step) (p : Provable) (lines : ℕ) (report : Reply) (term : List ℕ) → report ≡ reported Text p lines → lines ≡ length steps →
-    term ≡ term_text steps → length (term_text steps) ≤ limit_of Term → Records steps p (record { status = report.status; printed = report.printed; written = Some term })
-short_answer steps p lines report term is lines_are term_is short =
-    let shown : report ≡ reported Text p (length steps) = is ∙ ap (λ n. reported Text p n) lines_are in
-    let whole : record { status = report.status; printed = report.printed; written = Some term } ≡ proved p steps =
-    λ i. record { status = (shown i).status; printed = (shown i).printed; written = Some (term_is i) } in
-    subst (Records steps p) (sym whole) (writes short)
 
 pub model_answer : (model text : List ℕ) (reply : Reply) → RefusesModel model reply → Proves model text reply
 model_answer model text reply (why, fault, is) = subst (Proves model text) (sym is) (bad_model why fault)

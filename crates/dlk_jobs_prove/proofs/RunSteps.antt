@@ -1,24 +1,18 @@
 -- The steps of a run are as many as its rows, of which the last shows the formula; and what they replace are symbols.
 use Rattle.std.proofs.Common.{◌≡◌, ◌∙◌, ◌≤◌, ◌+◌, ℕ, List, [], ◌∷◌, length, refl, sym, ap, arith}
 use Rattle.std.specs.Prelude.{All}
-use Rattle.std.proofs.lemmas.List.{length_push}
 use Rattle.std.proofs.lemmas.List.Elements.{All-weaker}
 use Rattle.dlk_tree.specs.Trees.{Tree}
 use Rattle.dlk_calculus.specs.Places.{At}
 use Rattle.dlk_calculus.specs.Provables.{Provable}
 use Rattle.dlk_calculus.specs.Steps.{Step, Start, UseAxiom, UseRule, Leaf, Apply, Merge, Substitute, Rename}
-use Rattle.dlk_kernel.specs.Taken.{Takes, none, more}
 use Rattle.dlk_tacsyn.specs.Tactics.{Tactic}
 use Rattle.dlk_elab.specs.Symbols.{ReplacesSymbols}
 use Rattle.dlk_strategy.specs.Runs.{Progress, Done, RunsModel}
 use Rattle.dlk_recorder.specs.Terms.{HasSymbols}
 use Rattle.dlk_jobs_check.specs.Terms.{proves}
+use Rattle.dlk_jobs_record.proofs.TakenRows.{taken_count}
 use Rattle.dlk_jobs_prove.proofs.StrategyLaws.{RunsTaken, RunsShow}
-
--- as many rows as steps
-pub taken_count : (steps : List Step) (rows : List Provable) → Takes [] steps rows → length steps ≡ length rows
-taken_count _ _ none = refl
-taken_count _ _ (more {steps} {mid} {step} {p} before is) = length_push steps step ∙ ap (λ n. n + 1) (taken_count steps mid before) ∙ sym (length_push mid p)
 
 pub run_count : RunsTaken → (strategy : Tactic) (formula : Tree) (made : Progress) (left : ℕ) → RunsModel strategy formula (Done made left) →
     length made.steps ≡ length made.rows

@@ -1,29 +1,19 @@
 -- `prove` answers something to a model and a strategy.
-use Rattle.std.proofs.Common.{ℕ, List, length, inl, inr}
-use Rattle.std.proofs.lemmas.Bool.{cases_lt}
+use Rattle.std.proofs.Common.{ℕ, List, inl, inr}
 use Rattle.dlk_tree.specs.Trees.{Tree}
-use Rattle.dlk_calculus.specs.Provables.{Provable}
-use Rattle.dlk_calculus.specs.Steps.{Step}
 use Rattle.dlk_grammar.specs.declared.token.Dots.TheVariants.{Refused}
 use Rattle.dlk_grammar.specs.declared.token.Form.TheVariants.{Formula}
 use Rattle.dlk_machine.proofs.SomeText.{some_tree}
 use Rattle.dlk_strategy.specs.Runs.{Outcome, Done, Fails, Budget}
-use Rattle.dlk_recorder.specs.Terms.{term_text}
-use Rattle.dlk_replies.specs.declared.form.Role.TheVariants.{Model, Term}
-use Rattle.dlk_replies.specs.Forms.{limit_of}
+use Rattle.dlk_replies.specs.declared.form.Role.TheVariants.{Model}
 use Rattle.dlk_replies.specs.Replies.{Reply}
 use Rattle.dlk_replies.specs.Refusals.{text_refused}
 use Rattle.dlk_jobs_check.specs.Terms.{ModelText}
-use Rattle.dlk_jobs_prove.specs.Proves.{Records, too_long, writes, Proves, bad_model, bad_strategy, fails, spent, records, strategy_refused, failed, over_budget, term_too_long, proved, RunsTo}
+use Rattle.dlk_jobs_prove.specs.Proves.{Proves, bad_model, bad_strategy, fails, spent, records, strategy_refused, failed, over_budget, RunsTo}
 use Rattle.dlk_jobs_check.proofs.Ends.{last_of}
+use Rattle.dlk_jobs_record.proofs.OneRecord.{some_record}
 use Rattle.dlk_jobs_prove.proofs.RunSteps.{some_rows}
 use Rattle.dlk_jobs_prove.proofs.StrategyLaws.{SomeText, SomeRun, RunsShow}
-
-some_record : (steps : List Step) (p : Provable) → (reply : Reply) × Records steps p reply
-some_record steps p = elim (cases_lt (limit_of Term) (length (term_text steps))) [
-  | inl long ↦ (term_too_long (length (term_text steps)), too_long long)
-  | inr short ↦ (proved p steps, writes short)
-]
 
 module _ (some_text : SomeText) (some_run : SomeRun) (runs_show : RunsShow) (model strategy : List ℕ) where
   by_outcome : (o : Outcome) → RunsTo model strategy o → (reply : Reply) × Proves model strategy reply

@@ -9,13 +9,15 @@ use Rattle.dlk_replies.specs.declared.reply.Showing.TheVariants.{Summed}
 use Rattle.dlk_replies.specs.declared.reply.Status.TheVariants.{Done}
 use Rattle.dlk_replies.specs.Replies.{Reply, printing}
 use Rattle.dlk_jobs_check.specs.Checks.{Checks, refuses as refuses_term, reports, summed}
-use Rattle.dlk_jobs_prove.specs.Proves.{Records, too_long, writes, Proves, bad_model, bad_strategy, fails, spent, records, strategy_refused}
+use Rattle.dlk_jobs_record.specs.Records.{Records, too_long, writes}
+use Rattle.dlk_jobs_prove.specs.Proves.{Proves, bad_model, bad_strategy, fails, spent, records, strategy_refused}
 use Rattle.dlk_jobs_prove.specs.Generates.{Generates, refuses, checks, SumsUp}
 use Rattle.dlk_replies.proofs.CarriedOut.{IsRefused, text_is_refused}
 use Rattle.dlk_jobs_check.proofs.GuardReports.{term_is_refused}
 use Rattle.dlk_jobs_check.proofs.OneReply.{one_check}
 use Rattle.dlk_jobs_prove.proofs.OneReply.{one_written}
-use Rattle.dlk_jobs_prove.proofs.Rechecked.{RecordedIsAccepted, unwritten, written_by, written_checks}
+use Rattle.dlk_jobs_record.proofs.Written.{RecordedIsWritten}
+use Rattle.dlk_jobs_prove.proofs.Rechecked.{unwritten, written_by, shown, written_checks}
 use Rattle.dlk_jobs_prove.proofs.StrategyLaws.{OneText, TextOrFault, OneFault, OneRun, RunsTaken, RunsReplaceSymbols, RunsShow}
 
 strategy_is_refused : (why : Fault) → IsRefused (strategy_refused why)
@@ -48,7 +50,7 @@ generated_status n _ (checks proved reply term proof written checked) = sum_stat
 same_term : {term text : List ℕ} → Some text ≡ Some term → text ≡ term
 same_term e = cc
 
-module _ (recorded : RecordedIsAccepted) (runs_taken : RunsTaken) (replace_symbols : RunsReplaceSymbols) (runs_show : RunsShow) where
+module _ (recorded : RecordedIsWritten) (runs_taken : RunsTaken) (replace_symbols : RunsReplaceSymbols) (runs_show : RunsShow) where
   -- the term that is written is checked: its proof is summed up
   written_sums : (n : ℕ) (model strategy term : List ℕ) (reply proved : Reply) → Proves model strategy proved → proved.written ≡ Some term →
       Checks (Summed n) model term reply → SumsUp n reply proved
@@ -57,9 +59,9 @@ module _ (recorded : RecordedIsAccepted) (runs_taken : RunsTaken) (replace_symbo
       let mine = written_checks recorded runs_taken replace_symbols runs_show (Summed n) model strategy term proved w in
       record {
         proof = w.proof;
-        lines = length w.made.steps;
-        summary = one_check (Summed n) model term reply (summed n w.proof (length w.made.steps)) checked mine;
-        report = ap (λ (r : Reply). printing r.status r.printed) w.reply_is;
+        lines = length w.made.rows;
+        summary = one_check (Summed n) model term reply (summed n w.proof (length w.made.rows)) checked mine;
+        report = (shown recorded runs_taken replace_symbols model strategy term proved w).report;
       }
 
   module _ (one_text : OneText) (text_or_fault : TextOrFault) (one_fault : OneFault) (one_run : OneRun) where

@@ -1,25 +1,20 @@
 -- What `prove` answers to a model and a strategy, and the term that it writes.
-use Rattle.std.specs.Prelude.{◌≡◌, ◌<◌, ◌≤◌, ℕ, List, [], ◌∷◌, ◌++◌, length, Some, codes, decimal}
+use Rattle.std.specs.Prelude.{ℕ, List, ◌++◌, codes, decimal}
 use Rattle.dlk_tree.specs.Trees.{Tree}
 use Rattle.dlk_calculus.specs.Provables.{Provable}
 use Rattle.dlk_calculus.specs.Reasons.{reason_text}
-use Rattle.dlk_calculus.specs.Steps.{Step}
 use Rattle.dlk_grammar.specs.Texts.{TextFault}
-use Rattle.dlk_report.specs.Reports.{is_closed}
 use Rattle.dlk_tacsyn.specs.Tactics.{Tactic}
 use Rattle.dlk_tacsyn.specs.Faults.{Fault, Syntax, Nesting, Repeat, UnknownAtom, Arguments}
 use Rattle.dlk_tacsyn.specs.Strategies.{StrategyText, StrategyFault}
 use Rattle.dlk_elab.specs.declared.fault.FailWhy.{FailWhy}
 use Rattle.dlk_elab.specs.declared.fault.FailWhy.TheVariants as fail
 use Rattle.dlk_strategy.specs.Runs.{Progress, Outcome, Done, Fails, Budget, RunsModel}
-use Rattle.dlk_recorder.specs.Terms.{term_text}
-use Rattle.dlk_replies.specs.declared.form.Role.TheVariants.{Model, Term, Strategy}
-use Rattle.dlk_replies.specs.declared.reply.Layout.TheVariants.{Text}
-use Rattle.dlk_replies.specs.Forms.{limit_of}
+use Rattle.dlk_replies.specs.declared.form.Role.TheVariants.{Model, Strategy}
 use Rattle.dlk_replies.specs.Replies.{Reply, refusal}
 use Rattle.dlk_replies.specs.Refusals.{refused_at, text_refused}
 use Rattle.dlk_jobs_check.specs.Terms.{ModelText, ModelFault}
-use Rattle.dlk_jobs_check.specs.Checks.{status_of, report_in}
+use Rattle.dlk_jobs_record.specs.Records.{Records, IsLast}
 
 -- refused: strategy at B: WHY. One row a fault.
 abbrev pub strategy_refused : Fault → Reply
@@ -45,19 +40,6 @@ failed at why = refusal (codes "fails at " ++ (decimal at ++ (codes ": " ++ fail
 abbrev pub over_budget : ℕ → Reply
 over_budget at = refusal (codes "budget at " ++ decimal at)
 
--- refused: term-too-long N
-abbrev pub term_too_long : ℕ → Reply
-term_too_long bytes = refusal (codes "term-too-long " ++ decimal bytes)
-
--- the report of what the steps show, and their term file
-abbrev pub proved : Provable → List Step → Reply
-proved p steps = record { status = status_of (is_closed p.goals); printed = report_in Text p (length steps); written = Some (term_text steps) }
-
--- Records steps p reply: what is answered where these steps show this provable, by a command that writes the term file of steps.
-pub data Records (steps : List Step) (p : Provable) : Reply → Type 0 where
-  too_long : limit_of Term < length (term_text steps) → Records steps p (term_too_long (length (term_text steps)))
-  writes : length (term_text steps) ≤ limit_of Term → Records steps p (proved p steps)
-
 -- the texts are a formula and a strategy, of whose run this becomes
 pub record RunsTo (model strategy : List ℕ) (outcome : Outcome) : Type 0 where
   pub formula : Tree
@@ -65,11 +47,6 @@ pub record RunsTo (model strategy : List ℕ) (outcome : Outcome) : Type 0 where
   pub tactic : Tactic
   pub says : StrategyText strategy tactic
   pub run : RunsModel tactic formula outcome
-
--- the last of the rows
-pub record IsLast (rows : List Provable) (p : Provable) : Type 0 where
-  pub before : List Provable
-  pub rows_are : rows ≡ before ++ p ∷ []
 
 -- Proves model strategy reply: this is what is answered to the two texts. One case an answer, the first that applies.
 pub data Proves (model strategy : List ℕ) : Reply → Type 0 where

@@ -11,8 +11,8 @@ ghost use Rattle.dlk_jobs_check.specs.Checks.{Checks};
 ghost use Rattle.dlk_jobs_prove.specs.Proves.{Proves};
 ghost use Rattle.dlk_jobs_prove.specs.Generates.{Generates, SumsUp};
 
+use dlk_jobs_record::laws::recorded_is_written;
 use dlk_machine::laws::tree_texts;
-use dlk_recorder::recorded_is_accepted;
 use dlk_strategy::{one_outcome, run_has_symbols, run_is_taken, run_shows_formula, some_outcome};
 use dlk_tacsyn::laws::{fit_strategy, one_strategy, strategy_or_fault};
 
@@ -46,7 +46,7 @@ pub fn proved_is_checked()
     run_is_taken();
     run_has_symbols();
     run_shows_formula();
-    recorded_is_accepted();
+    recorded_is_written();
 }
 
 /// `gen` is done or refuses, and its status never says that a proof is open. Where `prove` writes a term for what is generated, the answer sums up
@@ -62,5 +62,5 @@ pub fn generated_is_checked()
     run_is_taken();
     run_has_symbols();
     run_shows_formula();
-    recorded_is_accepted();
+    recorded_is_written();
 }

@@ -3,9 +3,9 @@ use Rattle.std.specs.Prelude.{ℕ, ◌&&◌, ◌||◌, Bool, true, false, List, 
 use Rattle.dlk_tree.specs.Names.{is_between}
 use Rattle.dlk_grammar.specs.Tokens.{is_digit}
 use Rattle.dlk_replies.specs.declared.command.Command.{Command}
-use Rattle.dlk_replies.specs.declared.command.Command.TheVariants.{Check, Print, Vars, Subst, Report, Smt, Guard, Prove, Gen}
+use Rattle.dlk_replies.specs.declared.command.Command.TheVariants.{Check, Print, Vars, Subst, Report, Smt, Guard, Prove, Gen, Convert, Link, Trim, Session}
 use Rattle.dlk_replies.specs.declared.form.Role.{Role}
-use Rattle.dlk_replies.specs.declared.form.Role.TheVariants.{Model, Term, File, Substitution, Strategy}
+use Rattle.dlk_replies.specs.declared.form.Role.TheVariants.{Model, Term, File, Substitution, Strategy, Lemma, Script}
 use Rattle.dlk_replies.specs.declared.form.Last.{Last}
 use Rattle.dlk_replies.specs.declared.form.Last.TheVariants.{Output, Number}
 
@@ -28,6 +28,10 @@ form_of Smt = record { verb = codes "smt"; inputs = Model ∷ Term ∷ []; last 
 form_of Guard = record { verb = codes "guard"; inputs = Model ∷ Term ∷ []; last = None }
 form_of Prove = record { verb = codes "prove"; inputs = Model ∷ Strategy ∷ []; last = Some Output }
 form_of Gen = record { verb = codes "gen"; inputs = []; last = Some Number }
+form_of Convert = record { verb = codes "convert"; inputs = Term ∷ []; last = Some Output }
+form_of Link = record { verb = codes "link"; inputs = Model ∷ Term ∷ Lemma ∷ []; last = Some Output }
+form_of Trim = record { verb = codes "trim"; inputs = Model ∷ Term ∷ []; last = Some Output }
+form_of Session = record { verb = codes "session"; inputs = Model ∷ Script ∷ []; last = Some Output }
 
 -- the word for an input in a refusal
 abbrev pub word_of : Role → Word
@@ -36,6 +40,8 @@ word_of Term = codes "term"
 word_of File = codes "file"
 word_of Substitution = codes "subst"
 word_of Strategy = codes "strategy"
+word_of Lemma = codes "lemma"
+word_of Script = codes "script"
 
 -- the greatest length of an input, in bytes
 abbrev pub limit_of : Role → ℕ
@@ -44,6 +50,8 @@ limit_of Term = 67108864
 limit_of File = 1048576
 limit_of Substitution = 1048576
 limit_of Strategy = 1048576
+limit_of Lemma = 67108864
+limit_of Script = 1048576
 
 -- a number from 1 to 500 without leading zeros: from 1 to 9, from 10 to 99, from 100 to 499, or 500
 abbrev pub is_count : Word → Bool
@@ -69,7 +77,7 @@ has_form [] form = false
 has_form (verb ∷ rest) form = bytes_eq verb form.verb && (nat_le (length form.inputs) (length rest) && ends_in form.last (drop (length form.inputs) rest))
 
 abbrev pub commands : List Command
-commands = Check ∷ Print ∷ Vars ∷ Subst ∷ Report ∷ Smt ∷ Guard ∷ Prove ∷ Gen ∷ []
+commands = Check ∷ Print ∷ Vars ∷ Subst ∷ Report ∷ Smt ∷ Guard ∷ Prove ∷ Gen ∷ Convert ∷ Link ∷ Trim ∷ Session ∷ []
 
 -- the command of the words, if they have one of the forms
 abbrev pub command_of : List Word → Option Command

@@ -27,9 +27,17 @@ pub enum Command {
     Prove,
     /// Makes a model of so many assignments and a strategy, proves it, checks the term that this makes, and prints a summary.
     Gen,
+    /// Replays a term, and writes it anew in the newest version.
+    Convert,
+    /// Proves goals of a term by a lemma, writes the term that this makes, and prints the report.
+    Link,
+    /// Leaves out the lines of a term that its last doesn't need, writes what is left, and prints the report.
+    Trim,
+    /// Carries out the lines of a script on a model, writes the term that they save, and prints a reply to each.
+    Session,
 }
 
-const COMMANDS: [Command; 9] = [
+const COMMANDS: [Command; 13] = [
     Command::Check,
     Command::Print,
     Command::Vars,
@@ -39,6 +47,10 @@ const COMMANDS: [Command; 9] = [
     Command::Guard,
     Command::Prove,
     Command::Gen,
+    Command::Convert,
+    Command::Link,
+    Command::Trim,
+    Command::Session,
 ];
 
 /// The form of a command that ends with its inputs.
@@ -89,6 +101,10 @@ impl Command {
             Command::Guard => reading("guard", &[Role::Model, Role::Term]),
             Command::Prove => writing("prove", &[Role::Model, Role::Strategy]),
             Command::Gen => counting("gen"),
+            Command::Convert => writing("convert", &[Role::Term]),
+            Command::Link => writing("link", &[Role::Model, Role::Term, Role::Lemma]),
+            Command::Trim => writing("trim", &[Role::Model, Role::Term]),
+            Command::Session => writing("session", &[Role::Model, Role::Script]),
         }
     }
 

@@ -18,6 +18,10 @@ pub enum Role {
     Substitution,
     /// A file of a strategy.
     Strategy,
+    /// A file of a proof term that proves goals of another.
+    Lemma,
+    /// A file of a session's lines.
+    Script,
 }
 
 impl Role {
@@ -31,6 +35,8 @@ impl Role {
             Role::File => "file",
             Role::Substitution => "subst",
             Role::Strategy => "strategy",
+            Role::Lemma => "lemma",
+            Role::Script => "script",
         }
     }
 
@@ -40,8 +46,9 @@ impl Role {
         ensures small { result < 2 ^ 32 }
     {
         match self {
-            Role::Model | Role::File | Role::Substitution | Role::Strategy => 1_048_576,
-            Role::Term => 67_108_864,
+            Role::Model => 1_048_576,
+            Role::Term | Role::Lemma => 67_108_864,
+            Role::File | Role::Substitution | Role::Strategy | Role::Script => 1_048_576,
         }
     }
 }

@@ -5,9 +5,9 @@ use Rattle.dlk_calculus.specs.Provables.{Provable}
 use Rattle.dlk_rules.specs.Steps.{step_at}
 use Rattle.dlk_replies.specs.Shown.{reply_of}
 use Rattle.dlk_replies.proofs.Ends.{ends_so}
-use Rattle.dlk_jobs_prove.specs.Proves.{term_too_long, Records}
-use Rattle.dlk_jobs_prove.proofs.ProveAnswers.{long_answer, short_answer}
-use Rattle.dlk_jobs_prove.proofs.prove.finish.Goals as goal
+use Rattle.dlk_jobs_record.specs.Records.{term_too_long, Records}
+use Rattle.dlk_jobs_record.proofs.RecordAnswers.{long_answer, short_answer}
+use Rattle.dlk_jobs_record.proofs.finishing.finish.Goals as goal
 
 pub returns-in-TooLong-clause-ended : goal.returns-in-TooLong-clause-ended
 returns-in-TooLong-clause-ended g c =

@@ -1,0 +1,5 @@
+pub mod TakenRows
+pub mod RecordAnswers
+pub mod OneRecord
+pub mod Written
+pub mod CarriedOut
