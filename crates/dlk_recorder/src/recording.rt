@@ -53,9 +53,8 @@ pub fn record<S: Store, L: Ledger>(
     let mut text = kept(alloc, Vec::new(alloc), HEAD, bytes, limit)?;
     for (i, step) in taken.iter().enumerate() {
         line.clear();
-        write_step(i as u32 + 1, step, &mut table, store, &mut line, steps).map_err(
-            |_| PrintFault::Memory,
-        )?;
+        let written = write_step(i as u32 + 1, step, &mut table, store, &mut line, steps);
+        written.map_err(|_| PrintFault::Memory)?;
         bytes += line.len() as u128;
         text = kept(alloc, text, &line, bytes, limit)?;
     }
