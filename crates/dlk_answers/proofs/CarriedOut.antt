@@ -1,5 +1,5 @@
 -- What a command answers is no refusal of its words, and a refusal writes no file.
-use Rattle.std.proofs.Common.{ℕ, List, [], ◌∷◌, arith}
+use Rattle.std.proofs.Common.{ℕ, List, [], ◌∷◌, refl, arith}
 use Rattle.dlk_grammar.specs.Tokens.{value}
 use Rattle.dlk_replies.specs.declared.command.Command.{Command}
 use Rattle.dlk_replies.specs.declared.command.Command.TheVariants.{Check, Print, Vars, Subst, Report, Smt, Guard, Prove, Gen, Convert, Link, Trim, Session}
@@ -7,13 +7,27 @@ use Rattle.dlk_replies.specs.declared.reply.Showing.TheVariants.{Reported, Expor
 use Rattle.dlk_replies.specs.declared.reply.Layout.TheVariants.{Text, Json}
 use Rattle.dlk_replies.specs.Forms.{Word}
 use Rattle.dlk_replies.specs.Replies.{Reply}
-use Rattle.dlk_replies.proofs.CarriedOut.{IsCarriedOut, printed_only}
+use Rattle.dlk_elab.specs.Outcomes.{main_goals}
+use Rattle.dlk_report.specs.Reports.{is_closed}
+use Rattle.dlk_replies.specs.declared.form.Role.TheVariants.{Model}
+use Rattle.dlk_replies.proofs.CarriedOut.{IsCarriedOut, printed_only, text_carried_out}
 use Rattle.dlk_jobs_text.proofs.CarriedOut.{print_carried_out, list_carried_out, substitute_carried_out}
-use Rattle.dlk_jobs_check.proofs.CarriedOut.{check_carried_out, guard_carried_out}
+use Rattle.dlk_jobs_check.proofs.CarriedOut.{closed_or_open, check_carried_out, guard_carried_out}
 use Rattle.dlk_jobs_prove.proofs.CarriedOut.{prove_carried_out, generate_carried_out}
 use Rattle.dlk_jobs_terms.proofs.CarriedOut.{convert_carried_out, link_carried_out, trim_carried_out}
-use Rattle.dlk_jobs_session.proofs.CarriedOut.{session_carried_out}
+use Rattle.dlk_jobs_record.proofs.CarriedOut.{no_refusal}
+use Rattle.dlk_jobs_session.specs.Sessions.{Sessions, bad_model, bad_line, too_long, keeps_none, writes}
 use Rattle.dlk_answers.specs.Answers.{Does, Responds, refuses, does}
+
+session_carried_out : (model script : List ℕ) (reply : Reply) → Sessions model script reply → IsCarriedOut reply
+session_carried_out model script _ (bad_model why fault) = text_carried_out Model why
+session_carried_out model script _ (bad_line f reads n wrong) = printed_only _ _ (omega arith)
+session_carried_out model script _ (too_long answers last plays steps saved long) = printed_only _ _ (omega arith)
+session_carried_out model script _ (keeps_none answers last plays none) = printed_only _ _ (closed_or_open (is_closed (main_goals last.rows)))
+session_carried_out model script _ (writes answers last plays steps saved short) = record {
+  status = closed_or_open (is_closed (main_goals last.rows));
+  refusal = λ e. absurd (no_refusal (is_closed (main_goals last.rows)) e);
+}
 
 job_carried_out : (command : Command) (others : List Word) (texts : List (List ℕ)) (reply : Reply) → Does command others texts reply → IsCarriedOut reply
 job_carried_out Check [] (model ∷ term ∷ []) reply h = check_carried_out (Reported Text) model term reply h
