@@ -10,4 +10,4 @@ pub mod SaidSteps
 pub mod Reached
 pub mod Standing
 pub mod Watching
-pub mod StepTaken
+pub mod TakenLine

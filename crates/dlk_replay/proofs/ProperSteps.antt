@@ -38,7 +38,7 @@ node_made : (nodes : List Tree) (text : List ℕ) (t : Tree) → All WellMade no
 node_made nodes _ _ all (new_node {text = text} {op = op} {kids = kids} names new) = (new.fits, named_made nodes text op kids all names)
 
 line_made : (nodes : List Tree) (line : List ℕ) (n : ℕ) (t : Tree) → All WellMade nodes → IsNodeLine nodes line n t → WellMade t
-line_made nodes _ _ _ all (node_line {text = text} {t = t} number is) = node_made nodes text t all is
+line_made nodes _ _ _ all (node_line {text = text} {t = t} counted is) = node_made nodes text t all is
 
 pub nodes_made : (before : List (List ℕ)) (nodes : List Tree) (steps : ℕ) → Has before nodes steps → All WellMade nodes
 nodes_made _ _ _ only_head = All-nil WellMade

@@ -101,7 +101,7 @@ module _ (trees : List Tree) (all before : List (List ℕ)) (text : List ℕ) (s
   tells version.One left e stands =
       tells_in_full before text steps stands.0 (sym (one_first before text left) ∙ sym (ap begins_two e) ∙ stands.1)
   tells (version.Two ids) left e stands =
-      subst (λ n. Tells (IsLine (nodes_at trees ids)) n steps before text) (length-map (tree trees) ids)
+      subst (λ n. Tells (IsLine (nodes_at trees ids)) n steps before text) (length-map ids (tree trees))
       (tells_by_nodes before text (nodes_at trees ids) steps stands)
 
   -- and with one step more
@@ -124,7 +124,7 @@ module _ (old new : List Tree) (keeps : Keeps old new) (all before : List (List 
       let t = tree new next.id in
       let here : Has before nodes steps = subst (λ u. Stands old u all before steps) next.before_is stands in
       let ids_known : All (IsId old) next.ids = subst (AreKnownNodes old) next.before_is known in
-      let many : length next.ids + 1 ≡ length nodes + 1 = ap (λ k. k + 1) (sym (length-map (tree old) next.ids)) in
+      let many : length next.ids + 1 ≡ length nodes + 1 = ap (λ k. k + 1) (sym (length-map next.ids (tree old))) in
       let is : IsLine nodes text (OfNode (length nodes + 1) t) = subst (λ k. IsLine nodes text (OfNode k t)) many next.its_line in
       let more : Has (before ++ text ∷ []) (nodes ++ t ∷ []) steps = one_node here (line_says nodes text (OfNode (length nodes + 1) t) is) in
       let trees : nodes_at new (next.ids ++ next.id ∷ []) ≡ nodes ++ t ∷ [] =
@@ -140,11 +140,11 @@ module _ (Is : List ℕ → Line → Type 0) (nodes : ℕ) (before : List (List 
       ap (λ b. if b then TakesStep step else HasOtherNumber) (eq-eqb (length rows + 1) (length rows + 1) refl) in
       subst (SaysInFile before text) own (t.says (Numbered (length rows + 1) step) is)
 
-  pub says_node : (node : Tree) → Is text (OfNode (nodes + 1) node) → SaysInFile before text TakesNone
-  says_node node is =
-      let own : said_of nodes (length rows) (OfNode (nodes + 1) node) ≡ TakesNone =
+  pub says_node : (root : Tree) → Is text (OfNode (nodes + 1) root) → SaysInFile before text TakesNone
+  says_node root is =
+      let own : said_of nodes (length rows) (OfNode (nodes + 1) root) ≡ TakesNone =
       ap (λ b. if b then TakesNone else HasOtherNumber) (eq-eqb (nodes + 1) (nodes + 1) refl) in
-      subst (SaysInFile before text) own (t.says (OfNode (nodes + 1) node) is)
+      subst (SaysInFile before text) own (t.says (OfNode (nodes + 1) root) is)
 
   pub says_end : Is text Done → SaysInFile before text EndsFile
   says_end is = t.says Done is

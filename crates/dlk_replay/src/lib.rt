@@ -9,7 +9,7 @@ mod version;
 
 pub use fault::{Ending, LineWhy, Outcome, ReplayFault};
 pub use laws::{
-    accepted_derived, accepted_says_steps, accepted_steps_have_symbols, one_list_of_steps, one_said,
-    one_verdict, recorded_lines_give_rows, some_said, some_verdict,
+    accepted_derived, accepted_says_steps, accepted_steps_have_symbols, one_list_of_steps,
+    one_said, one_verdict, recorded_lines_give_rows, some_said, some_verdict,
 };
 pub use replaying::{replay, replay_watched};
