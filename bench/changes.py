@@ -8,8 +8,8 @@ With --count the examples are all folders of `examples/` that have a model, thos
 `examples/models`. A term that isn't there is what `prove` writes. In turn a strategy, a model or a term is changed: a byte becomes
 another one, or a word or a mark becomes another one of the same text, is left out, or stands twice. A changed strategy is run on the
 model; a changed model is printed, proved by the strategy, and checked with the term; a changed term is checked. Then `check` must say of each
-term that `prove` writes what `prove` said. Of a changed term of version 2 that isn't in the grammar tools/terms.py must say the same first line, or
-an earlier one where no step stands before it that is none.
+term that `prove` writes what `prove` said. Where a changed term of version 2 isn't in the grammar, the first wrong line must be the one that tools/terms.py
+says, unless a line before it is no step of the calculus.
 
 Each answer must be one of those that `docs/FILES.md` and `docs/STRATEGIES.md` list, with its status, and nothing may be accepted with
 another conclusion than the model. Run it after `./dlk` has built the program; another one is named by DLK.

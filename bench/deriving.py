@@ -98,7 +98,7 @@ def main():
             if len(terms) > 1:
                 raise SystemExit(f"deriving.py: another term at {size} nodes")
             least = {name: 1000 * min(times) for name, times in seconds.items()}
-            lines = terms.pop().count(b"\n") - 1
+            lines = sum(line[:1].isdigit() for line in terms.pop().split(b"\n"))
             ratio = least["derive"] / least["by hand"]
             print(f"{term.size} nodes, {lines} lines: derive {least['derive']:.1f} ms, by hand {least['by hand']:.1f} ms, ratio {ratio:.2f}", flush=True)
     return 0

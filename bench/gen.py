@@ -1,10 +1,9 @@
 #!/usr/bin/env python3
 """How `dlk gen` grows, and what `prove` and `check` of the same texts cost: processor times, in one run.
 
-A generated model of N assignments has a formula of N boxes, and each line of the term has it whole or in part. So the term has about 11 N
-lines of N boxes each, and ten times the assignments make a hundred times the bytes. What is looked for is the time beyond that: the time a
-byte of term, for ten times the assignments. `gen` makes the term and checks it, so beside it stand `prove` and `check` of the same model and
-strategy.
+A generated model of N assignments has a formula of N boxes, and each line of the term has it whole or in part: in version 1 by its text, so that ten times
+the assignments make a hundred times the bytes, in version 2 by its node. What is looked for is the time beyond what the bytes make: the time a byte of term,
+for ten times the assignments. `gen` makes the term and checks it, so beside it stand `prove` and `check` of the same model and strategy.
 
 Run it after `./dlk` has built the program.
 """
