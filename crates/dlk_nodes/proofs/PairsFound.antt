@@ -1,6 +1,6 @@
 -- The pairs of a text are found one by one.
-use Rattle.std.proofs.Common.{◌≡◌, ◌≢◌, ℕ, ◌==◌, Bool, true, false, ◌&&◌, List, [], ◌∷◌, ◌++◌, length, Option, Some, None, codes, refl, sym, ap, subst, ◌∙◌, append_assoc, append-nil, length-append, arith, ◌⊎◌, inl, inr}
-use Rattle.std.specs.Prelude.{IsTrue, All}
+use Rattle.std.proofs.Common.{◌≡◌, ◌≢◌, ℕ, ◌==◌, Bool, true, false, ◌&&◌, List, [], ◌∷◌, ◌++◌, length, Option, Some, None, Bor, codes, refl, sym, ap, subst, ◌∙◌, append_assoc, append-nil, length-append, arith, ◌⊎◌, inl, inr}
+use Rattle.std.specs.Prelude.{IsTrue, All, MatchOption, option_copied}
 use Rattle.std.proofs.lemmas.Bool.{and_parts, eqb-true}
 use Rattle.dlk_tree.specs.declared.op.Sort.{Sort}
 use Rattle.dlk_tree.specs.declared.op.Sort.TheVariants as sort
@@ -207,7 +207,7 @@ module _ (nodes : List Tree) where
   PairsIn None ps = ps ≡ []
   PairsIn (Some text) ps = SomePairs text ps
 
-  to_more : (rest : Option (List ℕ)) (ps : List Pair) → PairsIn rest ps → NamesMorePairs nodes (behind_comma rest) ps
+  pub to_more : (rest : Option (List ℕ)) (ps : List Pair) → PairsIn rest ps → NamesMorePairs nodes (behind_comma rest) ps
   to_more None ps e = subst (NamesMorePairs nodes []) (sym e) no_more_pairs
   to_more (Some text) ps w =
       subst (NamesMorePairs nodes (codes "," ++ text)) (sym w.are)
@@ -226,7 +226,7 @@ module _ (nodes : List Tree) where
         are = refl;
       }
 
-  from_more : (rest : Option (List ℕ)) (ps : List Pair) → NamesMorePairs nodes (behind_comma rest) ps → PairsIn rest ps
+  pub from_more : (rest : Option (List ℕ)) (ps : List Pair) → NamesMorePairs nodes (behind_comma rest) ps → PairsIn rest ps
   from_more None ps more = elim (more_parts [] ps more) [ inl none ↦ none.1 | inr w ↦ absurd (let e : [] ≡ codes "," ++ w.own ++ w.rest = w.text_is in cc e) ]
   from_more (Some text) ps more = elim (more_parts (codes "," ++ text) ps more) [
     | inl none ↦ absurd (let e : codes "," ++ text ≡ [] = none.0 in cc e)
@@ -272,6 +272,11 @@ module _ (nodes : List Tree) where
     found = λ ps w. some_are text ps w;
     needed = λ ps w. elim (whole_parts text ps w) [ inl none ↦ absurd (some none.0) | inr v ↦ (ps, v) ];
   }
+
+  pub pairs_begin : (text : List ℕ) (r : Option (Bor (List ℕ))) → MatchOption r (text ≡ []) (λ all. (all.now ≡ text) × (text ≢ [])) →
+      PairsSoFar text (option_copied r) []
+  pairs_begin text None e = no_text text e
+  pairs_begin text (Some x) w = subst (λ l. PairsSoFar text (Some l) []) (sym w.0) (some_text text w.1)
 
   module _ (text left : List ℕ) (done : List Pair) (so_far : PairsSoFar text (Some left) done) where
     pub pair_wanted : ((p : Pair) (rest : Option (List ℕ)) → ¬ FirstPair nodes left p rest) → (ps : List Pair) → ¬ NamesPairs nodes text ps

@@ -1,5 +1,5 @@
 -- The sides of a sequent are found number by number.
-use Rattle.std.proofs.Common.{◌≡◌, ◌≢◌, ℕ, true, false, IsTrue, List, [], ◌∷◌, ◌++◌, map, codes, refl, sym, ap, subst, ◌∙◌, append_assoc, append-nil, ◌⊎◌, inl, inr}
+use Rattle.std.proofs.Common.{◌≡◌, ◌≢◌, ℕ, ◌==◌, true, false, IsTrue, List, [], ◌∷◌, ◌++◌, map, codes, refl, sym, ap, subst, ◌∙◌, append_assoc, append-nil, ◌⊎◌, inl, inr}
 use Rattle.std.specs.Prelude.{All}
 use Rattle.std.specs.List.{list_all}
 use Rattle.std.proofs.lemmas.Bool.{and_parts}
@@ -13,7 +13,23 @@ use Rattle.dlk_lines.proofs.Cuts.{one_cut}
 use Rattle.dlk_lines.proofs.Numbers.{number_parts}
 use Rattle.dlk_nodes.specs.Sides.{Sides}
 use Rattle.dlk_nodes.proofs.Numbered.{number_lacks_space, one_name, names_at, names_each_at, from_item, from_each}
+use Rattle.dlk_nodes.specs.Tables.{nodes_at}
 use Rattle.dlk_nodes.proofs.OpsCut.{one_numbers}
+use Rattle.dlk_nodes.proofs.ReadNode.{named_known}
+use Rattle.dlk_calculus.proofs.PlaceLaws.{At_All}
+use Rattle.dlk_store.specs.declared.Id.{Id}
+use Rattle.dlk_store.specs.Stores.{tree}
+use Rattle.std.proofs.lemmas.List.Elements.{All-nil, All-cons}
+
+abbrev head : List ℕ → ℕ
+head [] = 0
+head (c ∷ text) = c
+
+no_digits : (digits more : List ℕ) → IsTrue (list_all is_digit digits) → head (digits ++ 32 ∷ more) ≡ 61 → ⊥
+no_digits [] more all e = let clash : true ≡ false = ap (λ c. 32 == c) e in cc clash
+no_digits (d ∷ digits) more all e =
+    let clash : true ≡ false = sym (and_parts (is_digit d) (list_all is_digit digits) all).0 ∙ ap is_digit e in
+    cc clash
 
 module _ {A : Type 0} (items : List A) where
   -- ---- what a text of sides begins with
@@ -73,14 +89,7 @@ module _ {A : Type 0} (items : List A) where
   -- no number begins with the arrow
   pub no_arrow_number : (text rest digits more : List ℕ) (x : A) → text ≡ codes "==>" ++ rest → CutAt text 32 digits more → Names items digits x → ⊥
   no_arrow_number text rest digits more x e cut name =
-      by_digits digits (number_parts digits name.number name.is_number).digits (sym e ∙ cut.text_is)
-    where
-      by_digits : (ds : List ℕ) → IsTrue (list_all is_digit ds) → codes "==>" ++ rest ≡ ds ++ 32 ∷ more → ⊥
-      by_digits [] all same = absurd (cc same)
-      by_digits (d ∷ ds) all same =
-          let head : 61 ≡ d = cc in
-          let digit : is_digit 61 ≡ true = subst (λ c. is_digit c ≡ true) (sym head) (and_parts (is_digit d) (list_all is_digit ds) all).0 in
-          absurd (cc digit)
+      no_digits digits more (number_parts digits name.number name.is_number).digits (sym (ap head cut.text_is) ∙ ap head e)
 
   -- ---- the reader
 
@@ -138,21 +147,27 @@ module _ {A : Type 0} (items : List A) where
   -- ---- a text has one pair of sides
 
   pub one_sides : (xs ys us vs : List A) (text : List ℕ) → Sides items text xs ys → Sides items text us vs → (xs ≡ us) × (ys ≡ vs)
-  one_sides xs ys us vs text a b = by_cases xs us (begin text xs ys a) (begin text us vs b)
+  one_sides [] ys us vs text a b = by_cases (begin text [] ys a) (begin text us vs b)
     where
-      by_cases : (xs us : List A) → ArrowFirst text xs ys ⊎ NumberFirst text xs ys → ArrowFirst text us vs ⊎ NumberFirst text us vs → (xs ≡ us) × (ys ≡ vs)
-      by_cases xs us (inl p) (inl q) =
+      by_cases : ArrowFirst text [] ys ⊎ NumberFirst text [] ys → ArrowFirst text us vs ⊎ NumberFirst text us vs → ([] ≡ us) × (ys ≡ vs)
+      by_cases (inl p) (inl q) =
           let both : codes "==>" ++ p.rest ≡ codes "==>" ++ q.rest = sym p.text_is ∙ q.text_is in
           let same : p.rest ≡ q.rest = cc in
-          (p.none ∙ sym q.none, one_numbers items q.rest ys vs (subst (λ l. NamesEach items l ys) same p.behind) q.behind)
-      by_cases xs us (inl p) (inr q) = absurd (no_arrow_number text p.rest q.digits q.more q.first p.text_is q.cut q.name)
-      by_cases xs us (inr p) (inl q) = absurd (no_arrow_number text q.rest p.digits p.more p.first q.text_is p.cut p.name)
-      by_cases [] us (inr p) (inr q) = absurd (cc p.are)
-      by_cases (x ∷ xs) us (inr p) (inr q) =
+          (sym q.none, one_numbers items q.rest ys vs (subst (λ l. NamesEach items l ys) same p.behind) q.behind)
+      by_cases (inl p) (inr q) = absurd (no_arrow_number text p.rest q.digits q.more q.first p.text_is q.cut q.name)
+      by_cases (inr p) q = absurd (let e = p.are in cc e)
+  one_sides (x ∷ xs) ys us vs text a b =
+      by_cases (begin text (x ∷ xs) ys a) (begin text us vs b) (λ us vs text a b. one_sides xs ys us vs text a b)
+    where
+      by_cases : ArrowFirst text (x ∷ xs) ys ⊎ NumberFirst text (x ∷ xs) ys → ArrowFirst text us vs ⊎ NumberFirst text us vs →
+          ((us vs : List A) (text : List ℕ) → Sides items text xs ys → Sides items text us vs → (xs ≡ us) × (ys ≡ vs)) → (x ∷ xs ≡ us) × (ys ≡ vs)
+      by_cases (inl p) q again = absurd (let e = p.none in cc e)
+      by_cases (inr p) (inl q) again = absurd (no_arrow_number text q.rest p.digits p.more p.first q.text_is p.cut p.name)
+      by_cases (inr p) (inr q) again =
           let same = one_cut text 32 p.digits q.digits p.more q.more p.cut q.cut in
           let first = one_name items q.digits p.first q.first (subst (λ d. Names items d p.first) same.0 p.name) q.name in
           let tail : xs ≡ p.others = let e = p.are in cc in
-          let rest = one_sides xs ys q.others vs q.more
+          let rest = again q.others vs q.more
           (subst (λ l. Sides items q.more l ys) (sym tail) (subst (λ l. Sides items l p.others ys) same.1 p.rest)) q.rest in
           (p.are ∙ (λ i. first i ∷ (sym tail ∙ rest.0) i) ∙ sym q.are, rest.1)
 
@@ -223,3 +238,46 @@ module _ (nodes : List Tree) where
 
   pub sides_sequent : (text : List ℕ) (s : Sequent) → SequentSides text s → NamesSequent nodes text s
   sides_sequent text s w = subst (λ l. NamesSequent nodes l s) (sym w.sides.text_is) (sides w.sides.before w.sides.behind w.ante w.succ)
+
+-- ---- ids and their trees
+
+pub none_named : {A B : Type 0} (f : A → B) (items : List A) (text : List ℕ) → ((x : A) → ¬ Names items text x) → (y : B) → ¬ Names (map f items) text y
+none_named f items text none y name = let w = from_item f items text y name in none w.item w.names
+
+pub named_is : {A : Type 0} (P : A → Type 0) (items : List A) (text : List ℕ) (x : A) → All P items → Names items text x → P x
+named_is P items text x all name = At_All P items name.number x all name.there
+
+before_known : {A : Type 0} (P : A → Type 0) (items : List A) (text : List ℕ) (xs : List A) → All P items → NamesBefore items text xs → All P xs
+before_known P items _ _ all none_before = All-nil P
+before_known P items _ _ all (one_before {i} {text} {x} {xs} name others) =
+    All-cons P x xs (At_All P items name.number x all name.there) (before_known P items text xs all others)
+
+pub sides_known : {A : Type 0} (P : A → Type 0) (items : List A) (text : List ℕ) (xs ys : List A) → All P items → Sides items text xs ys → All P xs × All P ys
+sides_known P items text xs ys all s = (before_known P items s.left xs all s.before, named_known P items s.right ys all s.behind)
+
+module _ (trees : List Tree) (table : List Id) (text : List ℕ) where
+  pub sides_wanted : ((xs ys : List Id) → ¬ Sides table text xs ys) → (s : Sequent) → ¬ NamesSequent (nodes_at trees table) text s
+  sides_wanted none s is =
+      let w = from_sides (tree trees) table text s.ante s.succ (sequent_sides (nodes_at trees table) text s is).sides in
+      none w.xs w.ys w.sides
+
+  module _ (xs ys : List Id) (found : Sides table text xs ys) where
+    its_sides : (s : Sequent) → NamesSequent (nodes_at trees table) text s →
+        AreFormulas (nodes_at trees table) (nodes_at trees xs) × AreFormulas (nodes_at trees table) (nodes_at trees ys)
+    its_sides s is =
+        let nodes = nodes_at trees table in
+        let w = sequent_sides nodes text s is in
+        let same = one_sides nodes s.ante s.succ (nodes_at trees xs) (nodes_at trees ys) text w.sides (sides_at (tree trees) table text xs ys found) in
+        (subst (AreFormulas nodes) same.0 w.ante, subst (AreFormulas nodes) same.1 w.succ)
+
+    pub ante_wanted : (All (λ t. sort t ≡ OfFormulas) (nodes_at trees xs) → ⊥) → (s : Sequent) → ¬ NamesSequent (nodes_at trees table) text s
+    ante_wanted none s is = none (its_sides s is).0
+
+    pub succ_wanted : (All (λ t. sort t ≡ OfFormulas) (nodes_at trees ys) → ⊥) → (s : Sequent) → ¬ NamesSequent (nodes_at trees table) text s
+    succ_wanted none s is = none (its_sides s is).1
+
+    pub sequent_is : All (λ t. sort t ≡ OfFormulas) (nodes_at trees xs) → All (λ t. sort t ≡ OfFormulas) (nodes_at trees ys) →
+        NamesSequent (nodes_at trees table) text (record { ante = nodes_at trees xs; succ = nodes_at trees ys })
+    sequent_is a b =
+        sides_sequent (nodes_at trees table) text (record { ante = nodes_at trees xs; succ = nodes_at trees ys })
+        (record { sides = sides_at (tree trees) table text xs ys found; ante = a; succ = b })

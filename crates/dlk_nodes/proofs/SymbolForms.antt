@@ -1,7 +1,8 @@
 -- What the text of a symbol is made of, by its kind.
-use Rattle.std.proofs.Common.{◌≡◌, ◌≢◌, ℕ, ◌≤◌, ◌==◌, Bool, true, false, not, ◌&&◌, ◌||◌, List, [], ◌∷◌, ◌++◌, Option, Some, None, codes, refl, sym, ap, subst, ◌∙◌, ◌⊎◌, inl, inr}
+use Rattle.std.proofs.Common.{◌≡◌, ◌≢◌, ℕ, zero, suc, ◌+◌, ◌<◌, ◌≤◌, ◌==◌, Bool, true, false, not, ◌&&◌, ◌||◌, List, [], ◌∷◌, ◌++◌, Option, Some, None, codes, refl, sym, ap, subst, ◌∙◌, append_assoc, ◌⊎◌, inl, inr, arith}
 use Rattle.std.specs.Prelude.{IsTrue, is_none}
-use Rattle.std.proofs.lemmas.Bool.{and_parts, and_from, eq-eqb, leb-true}
+use Rattle.std.specs.Fmt.{digits}
+use Rattle.std.proofs.lemmas.Bool.{and_parts, and_from, eq-eqb, leb-true, cases_lt}
 use Rattle.std.proofs.lemmas.List.{append_cancel_right}
 use Rattle.dlk_tree.specs.declared.op.Sym.{Sym}
 use Rattle.dlk_tree.specs.declared.op.Kind.{Kind}
@@ -17,7 +18,7 @@ use Rattle.dlk_lines.specs.Parts.{CutAt}
 use Rattle.dlk_lines.proofs.Cuts.{one_cut}
 use Rattle.dlk_nodes.specs.Words.{constant_text}
 use Rattle.dlk_nodes.specs.Details.{Spells, SpellsConstant}
-use Rattle.dlk_nodes.specs.Symbols.{AreDots, taboo_bytes, SpellsTaboo, SpellsSymbol, SpellsOfSort, ArePaired, of_terms, of_formulas, SpellsCalled}
+use Rattle.dlk_nodes.specs.Symbols.{dots_bytes, AreDots, taboo_bytes, SpellsTaboo, SpellsSymbol, SpellsOfSort, ArePaired, of_terms, of_formulas, SpellsCalled}
 use Rattle.dlk_nodes.proofs.Fields.{lacks, lacks_both}
 use Rattle.dlk_nodes.proofs.OpsBack.{name_lacks, symbol_parts, called, bare, unit_again}
 use Rattle.dlk_nodes.proofs.DetailLaws.{Uncut, not_lacking}
@@ -62,7 +63,7 @@ module _ (text : List ℕ) (s : Sym) (w : SpellsSymbol text s) where
 
   call_form : (k : Kind) → s.kind ≡ k → (kind_row k).taboo ≡ false → has_arity k s.arity ≡ true → s.arity ≤ 8 →
       text ≡ s.name ++ spell (dots s.arity) → CallForm k text s
-  call_form k e none real few t = record { is = called k s s.arity none real (own_kind s k e w.real); few = few; text_is = t }
+  call_form k e none real few t = record { is = called k s s.arity none refl (own_kind s k e w.real); few = few; text_is = t }
 
   its_arity : (k : Kind) → s.kind ≡ k → has_arity k s.arity ≡ true
   its_arity k e = (symbol_parts k s (own_kind s k e w.real)).arity_is
@@ -140,6 +141,41 @@ module _ (text : List ℕ) (s : Sym) (w : SpellsSymbol text s) where
       by_kind Quant is e = absurd (cc e)
       by_kind Prog is e = inl (prog_form is)
       by_kind Ode is e = inr (ode_form is)
+
+-- ---- dots
+
+-- the table is the grammar's
+pub dots_are : (n : ℕ) → n ≤ 8 → spell (dots n) ≡ 40 ∷ dots_bytes n
+unfolding digits
+dots_are zero h = refl
+dots_are (suc zero) h = refl
+dots_are (suc (suc zero)) h = refl
+dots_are (suc (suc (suc zero))) h = refl
+dots_are (suc (suc (suc (suc zero)))) h = refl
+dots_are (suc (suc (suc (suc (suc zero))))) h = refl
+dots_are (suc (suc (suc (suc (suc (suc zero)))))) h = refl
+dots_are (suc (suc (suc (suc (suc (suc (suc zero))))))) h = refl
+dots_are (suc (suc (suc (suc (suc (suc (suc (suc zero)))))))) h = refl
+dots_are (suc (suc (suc (suc (suc (suc (suc (suc (suc n))))))))) h = absurd (omega (arith, h))
+
+pub dots_found : (text : List ℕ) (n : ℕ) → n ≤ 8 → text ≡ dots_bytes n → AreDots text n
+dots_found text n few e = record { few = few; text_is = dots_are n few ∙ ap (λ l. 40 ∷ l) (sym e) }
+
+pub dots_here : (text : List ℕ) (n : ℕ) → AreDots text n → text ≡ dots_bytes n
+dots_here text n a = let both : 40 ∷ text ≡ 40 ∷ dots_bytes n = sym a.text_is ∙ dots_are n a.few in cc
+
+-- none of the first numbers
+abbrev pub NoneBelow : List ℕ → ℕ → Type 0
+NoneBelow text k = (m : ℕ) → m < k → ¬ AreDots text m
+
+pub none_at : (text : List ℕ) (k : ℕ) → NoneBelow text k → text ≢ dots_bytes k → NoneBelow text (k + 1)
+none_at text k none other m less a = elim (cases_lt m k) [
+  | inl below ↦ none m below a
+  | inr above ↦ let same : m ≡ k = omega (arith, less, above) in other (dots_here text k (subst (AreDots text) same a))
+]
+
+pub none_at_all : (text : List ℕ) → NoneBelow text 9 → (n : ℕ) → ¬ AreDots text n
+none_at_all text none n a = let few = a.few in none n (omega (arith, few)) a
 
 -- ---- cuts
 

@@ -1,5 +1,5 @@
 -- Symbols by their canonical texts.
-use Rattle.std.specs.Prelude.{◌≡◌, ℕ, ◌≤◌, List, [], ◌∷◌, Option, None, Some, ◌⊎◌, codes}
+use Rattle.std.specs.Prelude.{◌≡◌, ℕ, ◌≤◌, ◌==◌, if◌then◌else◌, List, [], ◌∷◌, Option, None, Some, ◌⊎◌, codes}
 use Rattle.dlk_tree.specs.declared.op.Kind.{Kind}
 use Rattle.dlk_tree.specs.declared.op.Kind.TheVariants.{Func, UnitFunc, Pred, UnitPred}
 use Rattle.dlk_tree.specs.declared.op.Sort.{Sort}
@@ -9,7 +9,20 @@ use Rattle.dlk_grammar.specs.Shown.{spell}
 use Rattle.dlk_grammar.specs.Symbols.{dots, shown_symbol}
 use Rattle.dlk_nodes.specs.Details.{Spells}
 
--- so many argument dots, behind their opening bracket
+-- so many argument dots, as they stand behind their opening bracket; eight from there on
+abbrev pub dots_bytes : ℕ → List ℕ
+dots_bytes n =
+    if n == 0 then codes ")" else
+    if n == 1 then codes "._0)" else
+    if n == 2 then codes "._0,._1)" else
+    if n == 3 then codes "._0,._1,._2)" else
+    if n == 4 then codes "._0,._1,._2,._3)" else
+    if n == 5 then codes "._0,._1,._2,._3,._4)" else
+    if n == 6 then codes "._0,._1,._2,._3,._4,._5)" else
+    if n == 7 then codes "._0,._1,._2,._3,._4,._5,._6)" else
+    codes "._0,._1,._2,._3,._4,._5,._6,._7)"
+
+-- the text is that of so many argument dots behind their opening bracket, as the grammar has them
 pub record AreDots (text : List ℕ) (n : ℕ) : Type 0 where
   pub few : n ≤ 8
   pub text_is : spell (dots n) ≡ 40 ∷ text

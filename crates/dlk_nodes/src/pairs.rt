@@ -1,5 +1,5 @@
 //! The pairs of a substitution by the numbers of their nodes.
-ghost use Rattle.std.specs.Prelude.{◌≡◌, ◌≢◌, ℕ, ◌≤◌, ◌+◌, List, Option, option_copied, All, IfOk, IfErr};
+ghost use Rattle.std.specs.Prelude.{◌≡◌, ◌≢◌, ℕ, List, [], Option, option_copied, MatchOption, All, IfOk, IfErr};
 ghost use Rattle.dlk_tree.specs.Trees.{node, root};
 ghost use Rattle.dlk_calculus.specs.Kids.{last};
 ghost use Rattle.dlk_calculus.specs.Pairs.{Pair as TreePair, is_true, is_of_kind};
@@ -54,6 +54,16 @@ fn up_to_comma(text: &[u8]) -> (&[u8], Option<&[u8]>)
     }
 }
 
+/// The text, unless it is empty.
+fn unless_empty(text: &[u8]) -> Option<&[u8]>
+    ensures { MatchOption result (text.now ≡ []) (λ all. (all.now ≡ text.now) × (text.now ≢ [])) }
+{
+    if text.is_empty() {
+        return None;
+    }
+    Some(text)
+}
+
 /// The pair that the text begins with, and what comes behind its comma.
 fn first_pair<'a, S: Store, L: Ledger>(
     alloc: Global,
@@ -99,12 +109,9 @@ pub(crate) fn read_pairs<S: Store, L: Ledger>(
     ensures fault { IfErr result (IsNodeFaultOf ((pairs : List TreePair) → ¬ NamesPairs (nodes_at (S.trees store.now) table.now) text.now pairs)) }
 {
     let mut pairs = Vec::new(alloc);
-    let mut left = None;
-    if !text.is_empty() {
-        left = Some(text);
-    }
-    while let Some(text) = left {
-        let (pair, rest) = first_pair(alloc, text, table, store, steps)?;
+    let mut left = unless_empty(text);
+    while let Some(part) = left {
+        let (pair, rest) = first_pair(alloc, part, table, store, steps)?;
         pairs.push(pair)?;
         left = rest;
     }

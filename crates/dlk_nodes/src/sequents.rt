@@ -1,5 +1,5 @@
 //! Sequents and formulas by the numbers of their nodes.
-ghost use Rattle.std.specs.Prelude.{◌≡◌, ◌≢◌, ◌++◌, List, codes, All, IsTrue, IfOk, IfErr};
+ghost use Rattle.std.specs.Prelude.{◌≡◌, List, All, IsTrue, IfOk, IfErr};
 ghost use Rattle.dlk_tree.specs.declared.op.Sort.TheVariants.{Formula as OfFormulas};
 ghost use Rattle.dlk_tree.specs.Trees.{Tree, sort};
 ghost use Rattle.dlk_calculus.specs.Sequents.{Sequent as TreeSequent};
@@ -82,10 +82,10 @@ pub(crate) fn read_sequent<S: Store, L: Ledger>(
     ensures fault { IfErr result (IsNodeFaultOf ((s : TreeSequent) → ¬ NamesSequent (nodes_at (S.trees store.now) table.now) text.now s)) }
 {
     let (ante, succ) = sides(alloc, text, table)?;
-    if !are_formulas(&ante, store, steps) {
+    if !are_formulas(ante.as_slice(), store, steps) {
         return Err(NodeFault::Malformed);
     }
-    if !are_formulas(&succ, store, steps) {
+    if !are_formulas(succ.as_slice(), store, steps) {
         return Err(NodeFault::Malformed);
     }
     Ok(Sequent {

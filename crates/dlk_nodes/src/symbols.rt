@@ -1,9 +1,9 @@
 //! Symbols by their canonical texts, over argument dots.
-ghost use Rattle.std.specs.Prelude.{ℕ, List, Option, IfSome, IfNone, IfOk, IfErr};
+ghost use Rattle.std.specs.Prelude.{◌≡◌, ℕ, List, Option, IfSome, IfNone, IfOk, IfErr};
 ghost use Rattle.dlk_tree.specs.declared.op.Kind.TheVariants.{Func, UnitFunc, Pred, UnitPred};
 ghost use Rattle.dlk_tree.specs.declared.op.Sym.{Sym as TreeSym};
 ghost use Rattle.dlk_nodes.specs.Faults.{IsNodeFaultOf};
-ghost use Rattle.dlk_nodes.specs.Symbols.{AreDots, SpellsTaboo, SpellsOfSort, ArePaired, SpellsCalled};
+ghost use Rattle.dlk_nodes.specs.Symbols.{dots_bytes, AreDots, SpellsTaboo, SpellsOfSort, ArePaired, SpellsCalled};
 
 use crate::details::{name, symbol};
 use crate::fault::NodeFault;
@@ -13,26 +13,34 @@ use dlk_lines::cut_at;
 use dlk_tree::{Kind, Name, Sort, Sym};
 use std::alloc::Global;
 
+/// So many argument dots, at most eight, behind their opening bracket.
+fn dots(n: u8) -> &'static [u8]
+    ensures { result.now ≡ dots_bytes n }
+{
+    match n {
+        0 => b")",
+        1 => b"._0)",
+        2 => b"._0,._1)",
+        3 => b"._0,._1,._2)",
+        4 => b"._0,._1,._2,._3)",
+        5 => b"._0,._1,._2,._3,._4)",
+        6 => b"._0,._1,._2,._3,._4,._5)",
+        7 => b"._0,._1,._2,._3,._4,._5,._6)",
+        _ => b"._0,._1,._2,._3,._4,._5,._6,._7)",
+    }
+}
+
 /// How many argument dots stand there, behind their opening bracket.
 fn arity(text: &[u8]) -> Option<u8>
     ensures found { IfSome result (AreDots text.now) }
     ensures none { IfNone result ((n : ℕ) → ¬ AreDots text.now n) }
 {
-    let Ok(text) = str::from_utf8(text) else {
-        return None;
-    };
-    match text {
-        ")" => Some(0),
-        "._0)" => Some(1),
-        "._0,._1)" => Some(2),
-        "._0,._1,._2)" => Some(3),
-        "._0,._1,._2,._3)" => Some(4),
-        "._0,._1,._2,._3,._4)" => Some(5),
-        "._0,._1,._2,._3,._4,._5)" => Some(6),
-        "._0,._1,._2,._3,._4,._5,._6)" => Some(7),
-        "._0,._1,._2,._3,._4,._5,._6,._7)" => Some(8),
-        _ => None,
+    for n in 0..9 {
+        if text == dots(n) {
+            return Some(n);
+        }
     }
+    None
 }
 
 /// The taboo between the bars of a unit symbol: nothing stands there where it has none.
@@ -80,13 +88,13 @@ fn for_formulas(alloc: Global, text: &[u8]) -> Result<Sym, NodeFault>
     ensures found { IfOk result (SpellsOfSort Sort.Formula text.now) }
     ensures fault { IfErr result (IsNodeFaultOf ((s : TreeSym) → ¬ SpellsOfSort Sort.Formula text.now s)) }
 {
-    if cut_at(text, b'(').is_some() {
-        return called(alloc, Kind::Pred, Kind::UnitPred, text);
-    }
-    let Some(x) = before(text, b"{_}") else {
-        return Err(NodeFault::Malformed);
+    let Some(_) = cut_at(text, b'(') else {
+        let Some(x) = before(text, b"{_}") else {
+            return Err(NodeFault::Malformed);
+        };
+        return symbol(alloc, Kind::Quant, x, 0);
     };
-    symbol(alloc, Kind::Quant, x, 0)
+    called(alloc, Kind::Pred, Kind::UnitPred, text)
 }
 
 /// A symbol for programs: a program constant or an ODE constant.

@@ -36,8 +36,9 @@ fn append_nodes<S: Store, L: Ledger>(
     ensures text { Appends out.old.items out.new.items (ended (node_lines (take from (nodes_at (S.trees store.now) table.now)) (drop from (nodes_at (S.trees store.now) table.now)))) result }
     ensures looks { steps.new ≤ steps.old + (length table.now - from) }
 {
-    for (i, id) in table.ids()[from..].iter().enumerate() {
-        append_node(store, table, from + i + 1, *id, out, steps)?;
+    for place in from..table.len() {
+        let id = table.ids()[place];
+        append_node(store, table, place + 1, id, out, steps)?;
         append(out, b"\n")?;
     }
     Ok(())
