@@ -125,7 +125,8 @@ module _ (known : (nodes : List Tree) → SaysOrNot (ByNodes nodes)) where
       ])
 
   -- and so does one of both versions
-  pub some_said_in_file : (before : List (List ℕ)) (text : List ℕ) → ((s : Said) × SaysInFile before text s) ⊎ ((s : Said) → ¬ SaysInFile before text s)
+  pub some_said_in_file : (before : List (List ℕ)) (text : List ℕ) →
+      ((s : Said) × SaysInFile before text s) ⊎ ((s : Said) → ¬ SaysInFile before text s)
   some_said_in_file before text = by_head (begins_two (before ++ text ∷ [])) (some_said_in_two before text) (version_one.some_said before text)
     where
       by_head : (h : Bool) → ((s : Said) × SaysNodeOrStep before text s) ⊎ ((s : Said) → ¬ SaysNodeOrStep before text s) →
