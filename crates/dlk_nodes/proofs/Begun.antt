@@ -116,6 +116,21 @@ in_both nodes (t ∷ ts) us =
     ap (λ l. a ++ l) (in_both (nodes ++ a) ts us) ∙ sym (append_assoc a b (new_in_each ((nodes ++ a) ++ b) us))
     ∙ ap (λ n. (a ++ b) ++ new_in_each n us) (append_assoc nodes a b)
 
+pub both_added : (nodes mid new ts us : List Tree) → mid ≡ nodes ++ new_in_each nodes ts → new ≡ mid ++ new_in_each mid us →
+    new ≡ nodes ++ new_in_each nodes (ts ++ us)
+both_added nodes mid new ts us e f =
+    let a = new_in_each nodes ts in
+    f ∙ ap (λ n. n ++ new_in_each n us) e ∙ append_assoc nodes a (new_in_each (nodes ++ a) us) ∙ ap (λ l. nodes ++ l) (sym (in_both nodes ts us))
+
+pub both_begun : (nodes mid new ts us : List Tree) → mid ≡ nodes ++ new_in_each nodes ts → AreBegun mid new (new_in_each mid us) →
+    AreBegun nodes new (new_in_each nodes (ts ++ us))
+both_begun nodes mid new ts us e b =
+    let a = new_in_each nodes ts in
+    let rest = new_in_each (nodes ++ a) us in
+    let start : PutSoFar nodes (new_in_each nodes (ts ++ us)) nodes (a ++ rest) = not_begun nodes (sym (in_both nodes ts us)) in
+    let there : PutSoFar nodes (new_in_each nodes (ts ++ us)) mid (rest ++ []) = same_left (sym (append-nil rest)) (were_put a rest start e) in
+    partly_put rest [] there (subst (λ n. AreBegun mid new (new_in_each n us)) e b)
+
 -- of one tree
 pub of_one : (nodes : List Tree) (t : Tree) → new_nodes nodes t ≡ new_in_each nodes (t ∷ [])
 of_one nodes t = sym (append-nil (new_nodes nodes t))

@@ -39,3 +39,4 @@ pub mod SomeTrees
 pub mod KidsBefore
 pub mod StepLines
 pub mod Stripped
+pub mod LineRead

@@ -1,7 +1,7 @@
 -- The lines of a step, appended one by one.
 use Rattle.std.proofs.Common.{◌≡◌, ℕ, suc, ◌+◌, ◌<◌, ◌≤◌, List, [], ◌∷◌, ◌++◌, length, map, take, drop, get_or, codes, refl, sym, ap, subst, ◌∙◌, append_assoc, append-nil, add-one, arith, length-take}
 use Rattle.std.proofs.Math.Seq.{drop-cons}
-use Rattle.std.proofs.lemmas.List.{take_more, take-append-drop, drop_all, get_or-map, length-map}
+use Rattle.std.proofs.lemmas.List.{take_more, take-append-drop, drop_all, get_or-map}
 use Rattle.dlk_tree.specs.Trees.{Tree}
 use Rattle.dlk_calculus.specs.Rules.{Arguments, OnePlace, TwoPlaces, PlaceAndFormula, OneFormula, PlaceAndName, arguments_of}
 use Rattle.dlk_calculus.specs.Steps.{Step, Start, UseAxiom, UseRule, Leaf, Apply, Merge, Substitute, Rename}
@@ -63,7 +63,8 @@ pub tree_there : (trees : List Tree) (ids : List Id) (k : ℕ) (d : Id) → k < 
 tree_there trees ids k d less = get_or-map (tree trees) ids k d (tree trees d) less
 
 pub as_many : (trees : List Tree) (ids : List Id) → length (nodes_at trees ids) ≡ length ids
-as_many trees ids = length-map (tree trees) ids
+as_many trees [] = refl
+as_many trees (i ∷ ids) = ap suc (as_many trees ids)
 
 -- the line of the node at a place, where the ids are read again
 pub line_at : (trees : List Tree) (ids read : List Id) (k : ℕ) (d : Id) → read ≡ ids → k < length ids →
@@ -97,6 +98,12 @@ module _ (n : ℕ) (nodes new whole : List Tree) (long : n ≡ length nodes) (e 
 
   pub behind_is : drop n whole ≡ new
   behind_is = ap (drop n) e ∙ dropped n nodes new long
+
+  pub lines_are : ended (node_lines (take n whole) (drop n whole)) ≡ ended (node_lines nodes new)
+  lines_are = λ i. ended (node_lines (front_is i) (behind_is i))
+
+  pub follow_are : KidsFollow nodes new → KidsFollow (take n whole) (drop n whole)
+  follow_are f = subst (λ l. KidsFollow l (drop n whole)) (sym front_is) (subst (KidsFollow nodes) (sym behind_is) f)
 
 -- ---- the whole text
 

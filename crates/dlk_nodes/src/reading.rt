@@ -40,7 +40,7 @@ pub fn read_node_line<S: Store, L: Ledger>(
     if line == b"done".as_slice() {
         return Ok(Line2::Done);
     }
-    if line.starts_with(b"node ") {
+    if line.starts_with(b"node ".as_slice()) {
         let (number, id) = node_line(alloc, line, table, store, steps)?;
         return Ok(Line2::Node { number, id });
     }
