@@ -6,6 +6,7 @@ ghost use Rattle.dlk_replies.specs.Shown.{reply_of};
 
 use crate::taken::{record_taken, taken};
 use dlk_kernel::Kernel;
+use dlk_link::trimmed_is_taken;
 use dlk_replay::accepted_says_steps;
 use dlk_replies::{Ended, NoReply, Reply, answer_of};
 use dlk_rules::step_stays;
@@ -28,6 +29,7 @@ fn trim_on<S: Store, L: Ledger>(
 {
     accepted_says_steps();
     step_stays();
+    trimmed_is_taken();
     let whole = taken(alloc, model, term, kernel, steps)?;
     // It is refused for want of memory alone.
     let Ok(kept) = dlk_link::trim(alloc, &whole, kernel, steps) else {
