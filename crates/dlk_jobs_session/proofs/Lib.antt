@@ -1,6 +1,5 @@
 pub mod ScriptLaws
 pub mod Models
-pub mod RunLaws
 pub mod SavedSteps
 pub mod Checked
 pub mod OneSession

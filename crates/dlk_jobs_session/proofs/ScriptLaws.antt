@@ -62,8 +62,10 @@ no_other text goal rest h =
   where
     not_undo : (l : List ℕ) → codes "apply " ++ l ≡ codes "undo" → ⊥
     not_undo l e = cc
+
     not_show : (l : List ℕ) → codes "apply " ++ l ≡ codes "show" → ⊥
     not_show l e = cc
+
     not_save : (l : List ℕ) → codes "apply " ++ l ≡ codes "save" → ⊥
     not_save l e = cc
 
