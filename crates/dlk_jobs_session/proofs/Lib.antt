@@ -1,4 +1,8 @@
 pub mod ScriptLaws
+pub mod ReadLines
+pub mod LinesKept
+pub mod Turned
+pub mod Ended
 pub mod Models
 pub mod SavedSteps
 pub mod Checked
