@@ -33,7 +33,6 @@ use Rattle.dlk_jobs_session.specs.Scripts.{ScriptLine, apply, undo, show, save, 
 use Rattle.dlk_jobs_session.specs.Sessions.{Plays, Sessions, bad_model, bad_line, too_long, keeps_none}
 use Rattle.dlk_jobs_session.specs.Sessions.{writes as writes_term}
 use Rattle.dlk_jobs_session.specs.Saved.{IsChecked}
-use Rattle.dlk_jobs_session.proofs.RunLaws.{ShowsLast}
 use Rattle.dlk_jobs_session.proofs.SavedSteps.{IsProof, SavedIsProof, IsGood, IsNamed}
 
 -- the names of a script's strategies are names
