@@ -1,19 +1,18 @@
 -- What `prove` answers to a model and a strategy, and the term that it writes.
-use Rattle.std.specs.Prelude.{ℕ, List, ◌++◌, codes, decimal}
+use Rattle.std.specs.Prelude.{ℕ, List, codes}
 use Rattle.dlk_tree.specs.Trees.{Tree}
 use Rattle.dlk_calculus.specs.Provables.{Provable}
-use Rattle.dlk_calculus.specs.Reasons.{reason_text}
 use Rattle.dlk_grammar.specs.Texts.{TextFault}
 use Rattle.dlk_tacsyn.specs.Tactics.{Tactic}
 use Rattle.dlk_tacsyn.specs.Faults.{Fault, Syntax, Nesting, Repeat, UnknownAtom, Arguments}
 use Rattle.dlk_tacsyn.specs.Strategies.{StrategyText, StrategyFault}
 use Rattle.dlk_elab.specs.declared.fault.FailWhy.{FailWhy}
-use Rattle.dlk_elab.specs.declared.fault.FailWhy.TheVariants as fail
 use Rattle.dlk_strategy.specs.Runs.{Progress, Outcome, Done, Fails, Budget, RunsModel}
 use Rattle.dlk_replies.specs.declared.form.Role.TheVariants.{Model, Strategy}
 use Rattle.dlk_replies.specs.Replies.{Reply, refusal}
 use Rattle.dlk_replies.specs.Refusals.{refused_at, text_refused}
 use Rattle.dlk_jobs_check.specs.Terms.{ModelText, ModelFault}
+use Rattle.dlk_jobs_record.specs.Fates.{fails_text, budget_text}
 use Rattle.dlk_jobs_record.specs.Records.{Records, IsLast}
 
 -- refused: strategy at B: WHY. One row a fault.
@@ -24,21 +23,13 @@ strategy_refused (Repeat at) = refused_at Strategy at (codes "repeat")
 strategy_refused (UnknownAtom at) = refused_at Strategy at (codes "unknown")
 strategy_refused (Arguments at) = refused_at Strategy at (codes "arguments")
 
--- the word for why a strategy fails
-abbrev pub fail_text : FailWhy → List ℕ
-fail_text fail.WrongCount = codes "WrongCount"
-fail_text fail.UnknownName = codes "UnknownName"
-fail_text fail.NoPlace = codes "NoPlace"
-fail_text fail.NoMatch = codes "NoMatch"
-fail_text (fail.Step reason) = reason_text reason
-
 -- refused: fails at B: WHY
 abbrev pub failed : ℕ → FailWhy → Reply
-failed at why = refusal (codes "fails at " ++ (decimal at ++ (codes ": " ++ fail_text why)))
+failed at why = refusal (fails_text at why)
 
 -- refused: budget at B
 abbrev pub over_budget : ℕ → Reply
-over_budget at = refusal (codes "budget at " ++ decimal at)
+over_budget at = refusal (budget_text at)
 
 -- the texts are a formula and a strategy, of whose run this becomes
 pub record RunsTo (model strategy : List ℕ) (outcome : Outcome) : Type 0 where

@@ -1,17 +1,17 @@
 // `prove MODEL STRATEGY TERM`: run a strategy on a model, write the term that it makes, and report.
 ghost use Rattle.std.specs.Prelude.{◌≡◌, [], IfOk, IfErr};
-ghost use Rattle.dlk_jobs_prove.specs.Proves.{fail_text, Proves};
+ghost use Rattle.dlk_jobs_prove.specs.Proves.{Proves};
 ghost use Rattle.dlk_jobs_prove.specs.Proved.{IsStrategyRefused, IsRunRefused};
 ghost use Rattle.dlk_replies.specs.Ended.{EndsIn};
 ghost use Rattle.dlk_replies.specs.Shown.{reply_of};
 
 use dlk_jobs_check::term::read_model;
-use dlk_jobs_record::finish;
+use dlk_jobs_record::{budget_text, fails_text, finish};
 use dlk_kernel::Kernel;
 use dlk_replies::{Ended, NoReply, Reply, Role, answer_of, end_by, refuse_at, refused};
 use dlk_shared::SharedStore;
 use dlk_store::{Steps, Store};
-use dlk_strategy::{FailWhy, RunFault, run_is_taken, run_shows_formula, run_strategy};
+use dlk_strategy::{RunFault, run_is_taken, run_shows_formula, run_strategy};
 use dlk_tacsyn::{TacSyntax, strategy};
 use std::alloc::Global;
 use std::sync::ledger::Ledger;
@@ -30,31 +30,17 @@ fn refuse_strategy(alloc: Global, fault: TacSyntax) -> Result<Reply, NoReply>
     }
 }
 
-/// The word for why a strategy fails.
-fn fail_word(why: FailWhy) -> &'static str
-    ensures { result.now ≡ fail_text why }
-{
-    match why {
-        FailWhy::WrongCount => "WrongCount",
-        FailWhy::UnknownName => "UnknownName",
-        FailWhy::NoPlace => "NoPlace",
-        FailWhy::NoMatch => "NoMatch",
-        FailWhy::Step(reason) => reason.word(),
-    }
-}
-
 /// The answer to a run that isn't done.
 fn refuse_run(alloc: Global, fault: RunFault) -> Result<Reply, NoReply>
     ensures { IfOk result (λ r. IsRunRefused fault (reply_of r)) }
 {
     match fault {
         RunFault::Fails { at, why } => {
-            let word = fail_word(why);
-            let why = format!(in alloc; "fails at {at}: {word}")?;
+            let why = fails_text(alloc, at, why)?;
             refused(alloc, why.as_str())
         }
         RunFault::Budget { at } => {
-            let why = format!(in alloc; "budget at {at}")?;
+            let why = budget_text(alloc, at)?;
             refused(alloc, why.as_str())
         }
         RunFault::Memory => Err(NoReply::Memory),

@@ -82,7 +82,7 @@ fn read<S: Store>(
 }
 
 /// Plays a script on a kernel without rows.
-fn session_on<S: Store, L: Ledger>(
+fn session_on<S: Store + Drop, L: Ledger>(
     alloc: Global,
     mut kernel: Kernel<S>,
     model: &[u8],

@@ -1,20 +1,19 @@
 -- What the commands write is accepted, and shows what it must.
 use Rattle.std.proofs.Common.{◌≡◌, ◌∙◌, ◌≤◌, ℕ, ◌+◌, List, [], ◌∷◌, ◌++◌, length, map, None, Some, refl, sym, ap, subst, arith}
 use Rattle.std.specs.List.{All}
-use Rattle.std.proofs.lemmas.List.Elements.{All-nil, All-cons, All-head, All-tail, All-append, All-front, All-between}
+use Rattle.std.proofs.lemmas.List.Elements.{All-nil, All-cons, All-head, All-tail, All-append}
 use Rattle.dlk_calculus.specs.Places.{At}
 use Rattle.dlk_calculus.specs.Provables.{Provable, IsAmong}
 use Rattle.dlk_calculus.specs.Sequents.{Sequent}
 use Rattle.dlk_calculus.specs.Steps.{Step, Start, UseAxiom, UseRule, Leaf, Apply, Merge, Substitute, Rename}
-use Rattle.dlk_calculus.proofs.PlaceLaws.{at_one}
+use Rattle.dlk_calculus.proofs.PlaceLaws.{at_one, All-front, All-between}
 use Rattle.dlk_kernel.specs.Taken.{Takes}
 use Rattle.dlk_link.specs.Ends.{EndsIn}
-use Rattle.dlk_link.specs.Kept.{ShowsSame}
 use Rattle.dlk_link.specs.Linked.{Joins, no_goals, another, the_same, Linked, Joined}
 use Rattle.dlk_link.specs.Neat.{AreUnlike, AreNamed}
 use Rattle.dlk_link.specs.Trimmed.{moved, Trims, Trimmed, nothing_read, not_needed, kept_before, is_kept}
 use Rattle.dlk_recorder.specs.Terms.{HasSymbols}
-use Rattle.dlk_replay.specs.Files.{file_lines, accepted, Verdict, FileSteps}
+use Rattle.dlk_replay.specs.Files.{file_lines, FileSteps}
 use Rattle.dlk_replies.specs.declared.form.Role.TheVariants.{Model, Term}
 use Rattle.dlk_replies.specs.declared.reply.Layout.TheVariants.{Text}
 use Rattle.dlk_replies.specs.declared.reply.Showing.TheVariants.{Reported}
@@ -31,7 +30,7 @@ use Rattle.dlk_jobs_record.proofs.Written.{RecordedIsWritten, written_is_checked
 use Rattle.dlk_jobs_terms.specs.Converts.{Converts, bad_line, records as writes_anew, IsConverted}
 use Rattle.dlk_jobs_terms.specs.Links.{LinksSteps, no_goal, past_limit, records, Links, refuses, bad_lemma, links, IsJoined}
 use Rattle.dlk_jobs_terms.specs.Trims.{Trims as TrimsTerm, refuses as refuses_term, trims, IsTrimmed}
-use Rattle.dlk_jobs_terms.proofs.EndLaws.{SaysSteps, last_is, one_ending, replay_takes, replay_last}
+use Rattle.dlk_jobs_terms.proofs.EndLaws.{SaysSteps, KeptShows, last_is, one_ending, replay_takes, replay_last}
 
 -- a refusal writes nothing
 pub term_unwritten : (model term : List ℕ) (reply : Reply) → RefusesTerm model term reply → reply.written ≡ None
@@ -72,30 +71,28 @@ linked_symbols term lemma linked goals c is in_term in_lemma =
     let to : ℕ → ℕ = λ fact. fact + length term in
     let behind = map (renumbered to) lemma in
     subst (All HasSymbols) (sym is.steps_are)
-    (All-append HasSymbols term (behind ++ is.joins) in_term
-    (All-append HasSymbols behind is.joins (all_moved to lemma in_lemma)
-    (joins_symbols c (length term + length lemma) (length term) (length term + length lemma) goals is.joins is.joined)))
+    (All-append HasSymbols (term ++ behind) is.joins (All-append HasSymbols term behind in_term (all_moved to lemma in_lemma))
+    (joins_symbols c (length term + length lemma) (length term) (length term + length lemma) goals is.joins is.joined))
 
 trimmed_symbols : (term read kept : List Step) (numbers : List ℕ) → Trims term read kept numbers → All HasSymbols read → All HasSymbols kept
 trimmed_symbols term _ _ _ nothing_read h = All-nil HasSymbols
-trimmed_symbols term _ kept _ (not_needed {read = r} {numbers = n} step trims none) h =
-    trimmed_symbols term r kept n trims (All-front HasSymbols r (step ∷ []) h)
-trimmed_symbols term _ kept _ (kept_before {read = r} {numbers = l} step n trims need at) h =
-    trimmed_symbols term r kept l trims (All-front HasSymbols r (step ∷ []) h)
-trimmed_symbols term _ _ _ (is_kept {read = r} {kept = k} {numbers = n} step trims need new) h =
-    All-append HasSymbols k (moved n step ∷ []) (trimmed_symbols term r k n trims (All-front HasSymbols r (step ∷ []) h))
+trimmed_symbols term _ kept _ (not_needed {read = r} {numbers = n} step before none) h =
+    trimmed_symbols term r kept n before (All-front HasSymbols r (step ∷ []) h)
+trimmed_symbols term _ kept _ (kept_before {read = r} {numbers = l} step n before need at) h =
+    trimmed_symbols term r kept l before (All-front HasSymbols r (step ∷ []) h)
+trimmed_symbols term _ _ _ (is_kept {read = r} {kept = k} {numbers = n} step before need new) h =
+    All-append HasSymbols k (moved n step ∷ []) (trimmed_symbols term r k n before (All-front HasSymbols r (step ∷ []) h))
     (All-cons HasSymbols (moved n step) [] (moved_symbols _ step (All-between HasSymbols r [] step h)) (All-nil HasSymbols))
 
 -- ---- what is written
 
--- what the steps of an accepted file replace are symbols
+-- what the steps of a file replace are symbols
 abbrev pub HaveSymbols : Type 0
-HaveSymbols = (lines : List (List ℕ)) (rows : List Provable) (last : ℕ) (steps : List Step) → Verdict lines (accepted rows last) → FileSteps lines steps →
-    All HasSymbols steps
+HaveSymbols = (lines : List (List ℕ)) (steps : List Step) → FileSteps lines steps → All HasSymbols steps
 
 module _ (written : RecordedIsWritten) (have : HaveSymbols) (says : SaysSteps) where
   symbols : (term : List ℕ) (steps : List Step) (rows : List Provable) (p : Provable) → Replays term steps rows p → All HasSymbols steps
-  symbols term steps rows p r = have (file_lines term) rows r.accepts.line steps r.accepts.verdict r.says
+  symbols term steps rows p r = have (file_lines term) steps r.says
 
   pub converted : (term text : List ℕ) (reply : Reply) → Converts term reply → reply.written ≡ Some text → IsConverted term text reply
   converted term text _ (bad_line n why v) is = absurd cc
@@ -142,7 +139,7 @@ module _ (written : RecordedIsWritten) (have : HaveSymbols) (says : SaysSteps) w
         let j = joined model term lemma text reply is text_is in
         written_is_checked model text j.takes.formula j.takes.reads j.after j.last (j.joined.conclusion ∙ j.takes.shows) reply j.is_written
 
-  module _ (shows_same : (term kept : List Step) (rows : List Provable) → Takes [] term rows → 1 ≤ length term → Trimmed term kept → ShowsSame rows kept)
+  module _ (shows_same : KeptShows)
       (unlike : (term kept : List Step) → Trimmed term kept → AreUnlike kept)
       (named : (term kept : List Step) (rows : List Provable) → Takes [] term rows → 1 ≤ length term → Trimmed term kept → AreNamed kept) where
     pub trimmed : (model term text : List ℕ) (reply : Reply) → TrimsTerm model term reply → reply.written ≡ Some text → IsTrimmed model term text reply

@@ -1,20 +1,26 @@
 -- The ends of proofs, and those of terms.
-use Rattle.std.proofs.Common.{◌≡◌, ℕ, ◌+◌, ◌≤◌, List, [], ◌∷◌, ◌++◌, length, sym, ap, subst, ◌∙◌, arith}
+use Rattle.std.proofs.Common.{◌≡◌, ℕ, ◌+◌, ◌≤◌, List, [], ◌∷◌, ◌++◌, length, length-append, map, sym, ap, subst, ◌∙◌, arith}
 use Rattle.dlk_calculus.specs.Places.{At}
 use Rattle.dlk_calculus.specs.Provables.{Provable}
 use Rattle.dlk_calculus.specs.Steps.{Step}
 use Rattle.dlk_calculus.proofs.PlaceLaws.{at_one}
 use Rattle.dlk_kernel.specs.Taken.{Takes}
 use Rattle.dlk_link.specs.Ends.{EndsIn}
+use Rattle.dlk_link.specs.Kept.{ShowsSame}
+use Rattle.dlk_link.specs.Links.{Links as AreLinked}
+use Rattle.dlk_link.specs.Trimmed.{Trimmed}
+use Rattle.dlk_link.proofs.InTurn.{ends_some}
 use Rattle.dlk_link.proofs.LinkedSteps.{one_end}
 use Rattle.dlk_replay.specs.Files.{file_lines, accepted, Verdict, bad, FileSteps}
 use Rattle.dlk_replay.specs.declared.fault.LineWhy.{LineWhy}
 use Rattle.dlk_replay.proofs.Verdicts.{one_verdict}
 use Rattle.dlk_replies.specs.Replies.{Reply}
+use Rattle.dlk_rules.specs.Facts.{renumbered}
 use Rattle.dlk_jobs_check.specs.Terms.{refused_line, Accepts, Replays}
 use Rattle.dlk_jobs_check.proofs.Ends.{last_of, last_item}
 use Rattle.dlk_jobs_record.specs.Records.{Records, IsLast}
 use Rattle.dlk_jobs_record.proofs.OneRecord.{one_record}
+use Rattle.dlk_jobs_record.proofs.TakenRows.{taken_count}
 use Rattle.dlk_jobs_terms.specs.Made.{RecordsLast}
 
 some_items : {A : Type 0} (items : List A) (x : A) → At items (length items) x → 1 ≤ length items
@@ -68,3 +74,28 @@ one_bad_line words term n m why other v w = same (one_verdict (file_lines term) 
         let number : n ≡ m = cc in
         let reason : why ≡ other = cc in
         λ i. refused_line words (number i) (reason i)
+
+-- steps that are taken, at least one, end in a provable
+pub some_ending : (steps : List Step) (rows : List Provable) → Takes [] steps rows → 1 ≤ length steps → (p : Provable) × EndsIn steps p × At rows (length rows) p
+some_ending steps rows takes some =
+    let last = last_of rows (omega (arith, some, taken_count steps rows takes)) in
+    let there = last_item rows last.0 last.1 last.2 in
+    (last.1, record { rows = rows; takes = takes; last = there }, there)
+
+-- what is kept of steps ends as they do
+abbrev pub KeptShows : Type 0
+KeptShows = (term kept : List Step) (rows : List Provable) → Takes [] term rows → 1 ≤ length term → Trimmed term kept → ShowsSame rows kept
+
+pub kept_ends : KeptShows → (steps kept : List Step) (p : Provable) → EndsIn steps p → Trimmed steps kept → EndsIn kept p
+kept_ends shows steps kept p e left =
+    let same = shows steps kept e.rows e.takes (ends_some steps p e) left in
+    record { rows = same.kept_rows; takes = same.takes; last = same.same p e.last }
+
+-- linked steps are some
+pub linked_some : (steps others linked : List Step) (p q : Provable) → EndsIn steps p → EndsIn others q → AreLinked steps others linked → 1 ≤ length linked
+linked_some steps others linked p q e f are =
+    let is = (are p q e f).1 in
+    let behind = map (renumbered (λ fact. fact + length steps)) others in
+    let some = ends_some steps p e in
+    let whole = ap length is.steps_are in
+    omega (arith, some, whole, length-append (steps ++ behind) is.joins, length-append steps behind)

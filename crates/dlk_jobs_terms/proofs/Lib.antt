@@ -1,7 +1,10 @@
 pub mod SameStep
 pub mod SomeTrimmed
+pub mod KeptSteps
+pub mod Staying
 pub mod EndLaws
 pub mod LinkedFates
+pub mod JobAnswers
 pub mod OneReply
 pub mod SomeReply
 pub mod Accepted

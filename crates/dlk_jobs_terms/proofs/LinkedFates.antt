@@ -53,7 +53,7 @@ module _ (decide : (rows : List Provable) (step : Step) → IsProper step → ((
       let to : ℕ → ℕ = λ fact. fact + length term in
       let behind = map (renumbered to) lemma in
       let proper : All IsProper (term ++ behind ++ is.joins) =
-      All-append IsProper term (behind ++ is.joins) (taken_proper [] rows term takes_term)
-      (All-append IsProper behind is.joins (all_renumbered to lemma (taken_proper [] others lemma takes_lemma))
-      (joins_proper c (length term + length lemma) (length term) (length term + length lemma) goals is.joins is.joined)) in
+      All-append IsProper (term ++ behind) is.joins
+      (All-append IsProper term behind (taken_proper [] rows term takes_term) (all_renumbered to lemma (taken_proper [] others lemma takes_lemma)))
+      (joins_proper c (length term + length lemma) (length term) (length term + length lemma) goals is.joins is.joined) in
       all_or_fault decide [] linked (subst (All IsProper) (sym is.steps_are) proper)

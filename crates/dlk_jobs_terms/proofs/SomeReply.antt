@@ -1,12 +1,11 @@
 -- There is some answer of each of the commands.
-use Rattle.std.proofs.Common.{◌⊎◌, ◌≤◌, ℕ, List, [], length, inl, inr}
+use Rattle.std.proofs.Common.{◌⊎◌, ℕ, List, [], length, inl, inr}
 use Rattle.dlk_calculus.specs.declared.reason.Reason.{Reason}
 use Rattle.dlk_calculus.specs.Places.{At}
 use Rattle.dlk_calculus.specs.Provables.{Provable, IsAmong}
 use Rattle.dlk_calculus.specs.Steps.{Step, IsProper, StepOf, Fault}
 use Rattle.dlk_kernel.specs.Taken.{Takes}
 use Rattle.dlk_link.specs.Ends.{EndsIn}
-use Rattle.dlk_link.specs.Kept.{ShowsSame}
 use Rattle.dlk_link.specs.Linked.{Linked, Joined}
 use Rattle.dlk_link.specs.Trimmed.{Trimmed}
 use Rattle.dlk_link.proofs.OneLinked.{some_linked}
@@ -19,12 +18,11 @@ use Rattle.dlk_jobs_check.specs.Terms.{line_refused, Accepts, Replays, TakesTerm
 use Rattle.dlk_jobs_check.proofs.Ends.{last_of}
 use Rattle.dlk_jobs_check.proofs.OneTerm.{replays, some_judgement}
 use Rattle.dlk_jobs_record.proofs.OneRecord.{some_record}
-use Rattle.dlk_jobs_record.proofs.TakenRows.{some_steps}
 use Rattle.dlk_jobs_terms.specs.Converts.{Converts, bad_line, records as writes_anew}
 use Rattle.dlk_jobs_terms.specs.Links.{LinksSteps, no_goal, past_limit, records, no_goal_refused, link_refused, lemma_refused, Links, refuses, bad_lemma, links}
 use Rattle.dlk_jobs_terms.specs.Made.{RecordsLast}
 use Rattle.dlk_jobs_terms.specs.Trims.{Trims, refuses as refuses_term, trims}
-use Rattle.dlk_jobs_terms.proofs.EndLaws.{SaysSteps, last_is, replay_takes, replay_last}
+use Rattle.dlk_jobs_terms.proofs.EndLaws.{SaysSteps, KeptShows, kept_ends, replay_takes, replay_last, replay_ends}
 use Rattle.dlk_jobs_terms.proofs.LinkedFates.{is_among, linked_fate}
 use Rattle.dlk_jobs_terms.proofs.SameStep.{RuleIsItsCall}
 use Rattle.dlk_jobs_terms.proofs.SomeTrimmed.{some_trimmed}
@@ -87,16 +85,12 @@ module _ (says : SaysSteps) where
       ]
     ]
 
-  module _ (rule_is : RuleIsItsCall)
-      (shows_same : (term kept : List Step) (rows : List Provable) → Takes [] term rows → 1 ≤ length term → Trimmed term kept → ShowsSame rows kept) where
+  module _ (rule_is : RuleIsItsCall) (shows : KeptShows) where
     some_kept : (term : List ℕ) (steps : List Step) (rows : List Provable) (p : Provable) → Replays term steps rows p →
         (kept : List Step) × Trimmed steps kept × EndsIn kept p
     some_kept term steps rows p r =
-        let takes = replay_takes says term steps rows p r in
-        let last = replay_last term steps rows p r in
-        let kept = some_trimmed rule_is steps rows takes in
-        let same = shows_same steps kept.0 rows takes (some_steps steps rows p takes (last_is rows p last)) kept.1 in
-        (kept.0, kept.1, record { rows = same.kept_rows; takes = same.takes; last = same.same p last })
+        let kept = some_trimmed rule_is steps rows (replay_takes says term steps rows p r) in
+        (kept.0, kept.1, kept_ends shows steps kept.0 p (replay_ends says term steps rows p r) kept.1)
 
     pub some_trim : (model term : List ℕ) → (reply : Reply) × Trims model term reply
     some_trim model term = elim (some_judgement model term) [

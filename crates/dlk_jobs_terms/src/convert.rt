@@ -4,9 +4,9 @@ ghost use Rattle.dlk_jobs_terms.specs.Converts.{Converts};
 ghost use Rattle.dlk_replies.specs.Ended.{EndsIn};
 ghost use Rattle.dlk_replies.specs.Shown.{reply_of};
 
-use crate::taken::replayed;
-use dlk_jobs_record::finish;
+use crate::taken::{record_taken, replayed};
 use dlk_kernel::Kernel;
+use dlk_replay::accepted_says_steps;
 use dlk_replies::{Ended, NoReply, Reply, answer_of};
 use dlk_shared::SharedStore;
 use dlk_store::{Steps, Store};
@@ -24,8 +24,9 @@ fn convert_on<S: Store, L: Ledger>(
     ensures reply { IfOk result (λ r. Converts term.now (reply_of r)) }
     ensures ended { IfErr result (EndsIn (Converts term.now)) }
 {
+    accepted_says_steps();
     let outcome = replayed(alloc, "line", term, kernel, steps)?;
-    finish(alloc, kernel, outcome.fact, outcome.steps.as_slice(), steps)
+    record_taken(alloc, kernel, &outcome.steps, steps)
 }
 
 /// Writes the steps of a term anew. The reply has the report, and the text of the term to be written.

@@ -5,11 +5,12 @@ ghost use Rattle.dlk_jobs_terms.specs.Refused.{IsLinkRefused};
 ghost use Rattle.dlk_replies.specs.Ended.{EndsIn};
 ghost use Rattle.dlk_replies.specs.Shown.{reply_of};
 
-use crate::taken::{taken, taken_lemma};
-use dlk_jobs_record::finish;
+use crate::taken::{record_taken, taken, taken_lemma};
 use dlk_kernel::Kernel;
 use dlk_link::LinkFault;
+use dlk_replay::accepted_says_steps;
 use dlk_replies::{Ended, NoReply, Reply, answer_of, end_by, refused};
+use dlk_rules::step_stays;
 use dlk_shared::SharedStore;
 use dlk_store::{Steps, Store};
 use std::alloc::Global;
@@ -43,13 +44,15 @@ fn link_on<S: Store, L: Ledger>(
     ensures reply { IfOk result (λ r. Links model.now term.now lemma.now (reply_of r)) }
     ensures ended { IfErr result (EndsIn (Links model.now term.now lemma.now)) }
 {
+    accepted_says_steps();
+    step_stays();
     let main = taken(alloc, model, term, kernel, steps)?;
     let by = taken_lemma(alloc, lemma, kernel, steps)?;
     let linked = match dlk_link::link(alloc, &main, &by, kernel, steps) {
         Ok(linked) => linked,
         Err(fault) => return Err(end_by(refuse_link(alloc, fault))),
     };
-    finish(alloc, kernel, kernel.rows(), linked.as_slice(), steps)
+    record_taken(alloc, kernel, &linked, steps)
 }
 
 /// Proves the goals of a term that a lemma concludes by that lemma. The reply has the report, and the text of the term to be written.

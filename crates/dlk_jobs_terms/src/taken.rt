@@ -1,17 +1,21 @@
 // The steps of a term, which are kept while the rows that they gave are dropped again.
-ghost use Rattle.std.specs.Prelude.{◌≡◌, [], map, All, List, IfOk, OnOk, IfErr, codes};
+ghost use Rattle.std.specs.Prelude.{◌≡◌, ◌≤◌, [], length, map, All, List, IfOk, OnOk, IfErr, codes};
 ghost use Rattle.dlk_calculus.specs.Provables.{Provable};
 ghost use Rattle.dlk_kernel.specs.Kernel.{facts};
+ghost use Rattle.dlk_kernel.specs.Taken.{Takes};
 ghost use Rattle.dlk_rules.specs.Steps.{step_at, HasKnownIds};
 ghost use Rattle.dlk_replies.specs.Ended.{EndsIn};
+ghost use Rattle.dlk_replies.specs.Shown.{reply_of};
 ghost use Rattle.dlk_jobs_check.specs.Judged.{RefusesLine};
 ghost use Rattle.dlk_jobs_check.specs.Terms.{Replays, TakesTerm, RefusesTerm};
 ghost use Rattle.dlk_jobs_terms.specs.Kept.{IsKept};
+ghost use Rattle.dlk_jobs_terms.specs.Made.{RecordsLast};
 
 use dlk_jobs_check::term::{judge, read_model, refuse_term};
+use dlk_jobs_record::finish;
 use dlk_kernel::Kernel;
 use dlk_replay::{Outcome, replay};
-use dlk_replies::Ended;
+use dlk_replies::{Ended, Reply};
 use dlk_rules::Step;
 use dlk_store::{Steps, Store};
 use std::alloc::Global;
@@ -92,4 +96,25 @@ pub(crate) fn taken_lemma<S: Store, L: Ledger>(
     let outcome = replayed(alloc, "lemma line", lemma, kernel, steps)?;
     kernel.release(0);
     Ok(outcome.steps)
+}
+
+/// The end of a command that has made steps, which a kernel without rows has taken: their term file, and the report of the last row.
+///
+/// # Errors
+///
+/// - `Refused`: the file would be longer than a term may be.
+/// - `Memory`: for want of memory.
+pub(crate) fn record_taken<S: Store, L: Ledger>(
+    alloc: Global,
+    kernel: &Kernel<S>,
+    made: &[Step],
+    steps: &mut Steps<L>,
+) -> Result<Reply, Ended>
+    requires some { 1 ≤ length made.now }
+    requires takes { Takes [] (map (step_at (S.trees kernel.now.store)) made.now) (facts S.trees kernel.now) }
+    requires known { All (HasKnownIds (S.trees kernel.now.store)) made.now }
+    ensures reply { IfOk result (λ r. RecordsLast (map (step_at (S.trees kernel.now.store)) made.now) (reply_of r)) }
+    ensures ended { IfErr result (EndsIn (RecordsLast (map (step_at (S.trees kernel.now.store)) made.now))) }
+{
+    finish(alloc, kernel, kernel.rows(), made, steps)
 }

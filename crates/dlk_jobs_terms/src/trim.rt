@@ -4,10 +4,12 @@ ghost use Rattle.dlk_jobs_terms.specs.Trims.{Trims};
 ghost use Rattle.dlk_replies.specs.Ended.{EndsIn};
 ghost use Rattle.dlk_replies.specs.Shown.{reply_of};
 
-use crate::taken::taken;
-use dlk_jobs_record::finish;
+use crate::taken::{record_taken, taken};
 use dlk_kernel::Kernel;
+use dlk_link::trimmed_is_taken;
+use dlk_replay::accepted_says_steps;
 use dlk_replies::{Ended, NoReply, Reply, answer_of};
+use dlk_rules::step_stays;
 use dlk_shared::SharedStore;
 use dlk_store::{Steps, Store};
 use std::alloc::Global;
@@ -25,11 +27,15 @@ fn trim_on<S: Store, L: Ledger>(
     ensures reply { IfOk result (λ r. Trims model.now term.now (reply_of r)) }
     ensures ended { IfErr result (EndsIn (Trims model.now term.now)) }
 {
+    accepted_says_steps();
+    step_stays();
+    trimmed_is_taken();
     let whole = taken(alloc, model, term, kernel, steps)?;
+    // It is refused for want of memory alone.
     let Ok(kept) = dlk_link::trim(alloc, &whole, kernel, steps) else {
         return Err(Ended::Memory);
     };
-    finish(alloc, kernel, kernel.rows(), kept.as_slice(), steps)
+    record_taken(alloc, kernel, &kept, steps)
 }
 
 /// Leaves out the steps of a term that its last one doesn't need, and those that equal earlier ones. The reply has the report, and the text of

@@ -1,4 +1,5 @@
-mod Turning
-mod MainGoals
-mod Stated
-mod Holding
+pub mod Turning
+pub mod MainGoals
+pub mod Stated
+pub mod Copied
+pub mod Holding

@@ -1,5 +1,5 @@
 //! Sessions on a kernel.
-use crate::copies::{all_copied, put_behind};
+use crate::copies::{all_copied, save_behind};
 use crate::fault::SessionFault;
 use crate::goals::{goals_left, stated};
 use crate::reply::Reply;
@@ -7,6 +7,7 @@ use crate::runner::Runner;
 use dlk_elab::OnFault;
 use dlk_kernel::{Kernel, Step};
 use dlk_report::{report_text, shown};
+use dlk_rules::step_stays;
 use dlk_store::{Id, Steps, Store};
 use dlk_tacsyn::Tactic;
 use std::alloc::Global;
@@ -72,6 +73,8 @@ impl<S: Store> Session<S> {
         model: Id,
         steps: &mut Steps<L>,
     ) -> Result<Session<S>, SessionFault>
+    where
+        S: Drop,
         requires none { kernel.rows ≡ [] }
         requires model { IsId (S.trees kernel.store) model }
         requires formula { IsFormula (tree (S.trees kernel.store) model) }
@@ -114,6 +117,7 @@ impl<S: Store> Session<S> {
         ensures grows { S.grows self.old.kernel.store self.new.kernel.store }
     {
         R::laws();
+        step_stays();
         if goal == 0 || goal > goals_left(&self.kernel) {
             return Ok(Reply::NoGoal);
         }
@@ -121,13 +125,13 @@ impl<S: Store> Session<S> {
         let mark = self.kernel.mark();
         match runner.run_on(alloc, strategy, &mut self.kernel, goal, self.used, steps) {
             Ok(mut more) => {
-                if self.steps.append(&mut more.steps).is_err() {
+                let Ok(()) = self.steps.append(&mut more.steps) else {
                     self.kernel.release(mark);
                     return Err(SessionFault::Memory);
-                }
-                if self.earlier.push(mark).is_err() {
+                };
+                let Ok(()) = self.earlier.push(mark) else {
                     unreachable!();
-                }
+                };
                 self.used = more.used;
                 Ok(Reply::Ok {
                     goals: goals_left(&self.kernel),
@@ -166,7 +170,11 @@ impl<S: Store> Session<S> {
     /// # Errors
     ///
     /// `Memory` alone.
-    pub fn show<L: Ledger>(&self, alloc: Global, steps: &mut Steps<L>) -> Result<Vec<u8>, SessionFault>
+    pub fn show<L: Ledger>(
+        &self,
+        alloc: Global,
+        steps: &mut Steps<L>,
+    ) -> Result<Vec<u8>, SessionFault>
         ensures { IfOk result (λ text. (p : Provable) × At (state S.trees self.now).rows (length (state S.trees self.now).rows) p × (text.items ≡ text_report p (length (state S.trees self.now).rows))) }
     {
         let rows = self.kernel.rows();
@@ -186,10 +194,7 @@ impl<S: Store> Session<S> {
         ensures kernel { self.new.kernel ≡ self.old.kernel }
     {
         let new = all_copied(alloc, &self.steps[self.shared..])?;
-        match &mut self.saved {
-            None => self.saved = Some(new),
-            Some(saved) => put_behind(saved, self.shared, new)?,
-        }
+        save_behind(&mut self.saved, self.shared, new)?;
         self.shared = self.steps.len();
         Ok(Reply::Saved {
             lines: self.kernel.rows(),
