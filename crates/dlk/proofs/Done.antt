@@ -22,7 +22,7 @@ response words files c texts _ (command d is found has r responds) form there =
 -- it is a refusal, or what the command does
 pub refused_or_done : (c : Command) (words : List Word) (texts : List (List ℕ)) (reply : Reply) → Responds c words texts reply →
     IsRefusal reply ⊎ Does c (others_of c words) texts reply
-refused_or_done c words texts _ (refuses name long) = inl (record { two = refl; rest = _; begins = refl })
+refused_or_done c words texts _ (refuses name long) = inl (record { two = refl; begins = refl })
 refused_or_done c words texts _ (does short r job) = inr job
 
 -- and with a status below 2 the latter

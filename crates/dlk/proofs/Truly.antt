@@ -1,5 +1,5 @@
 -- Where `closed` is printed, the model is derived from the printed leaves.
-use Rattle.std.proofs.Common.{◌≡◌, ℕ, zero, suc, List, [], ◌∷◌, ◌++◌, length, take, Some, codes, refl, sym, ap, subst, ◌∙◌, append-nil, arith, inl, inr}
+use Rattle.std.proofs.Common.{◌≡◌, ℕ, zero, suc, List, [], ◌∷◌, ◌++◌, length, take, get_or, Some, codes, refl, sym, ap, subst, ◌∙◌, append-nil, arith, inl, inr}
 use Rattle.std.proofs.lemmas.List.{append_cancel_left, take_all}
 use Rattle.dlk_calculus.specs.Sequents.{Sequent}
 use Rattle.dlk_calculus.specs.Provables.{Provable}
@@ -36,8 +36,10 @@ first_is zero c d xs ys h = absurd (cc)
 first_is (suc n) c d xs ys h = cc
 
 -- `refused` begins otherwise than `closed`
-not_refused : (n : ℕ) (xs ys : List ℕ) → take n (114 ∷ xs) ≡ 99 ∷ ys → ⊥
-not_refused n xs ys h = omega (arith, first_is n 114 99 xs ys h)
+not_refused : (n : ℕ) (printed ys : List ℕ) → get_or printed 0 0 ≡ 114 → take n printed ≡ 99 ∷ ys → ⊥
+not_refused zero printed ys begins h = absurd cc
+not_refused (suc n) [] ys begins h = absurd cc
+not_refused (suc n) (c ∷ xs) ys begins h = omega (arith, begins, first_is (suc n) c 99 xs ys h)
 
 not_open : (n : ℕ) (xs ys : List ℕ) → take n (111 ∷ xs) ≡ 99 ∷ ys → ⊥
 not_open n xs ys h = omega (arith, first_is n 111 99 xs ys h)
@@ -80,7 +82,7 @@ module _ (checked : EachIsChecked) (model term said : List ℕ) (status : ℕ) w
   DerivedTruly = IsDerived model term status (codes "closed" ++ said)
 
   refused_says : (reply : Reply) → IsRefusal reply → (n : ℕ) → Says reply n → ⊥
-  refused_says reply refusal n h = not_refused n refusal.rest _ (subst (λ (l : List ℕ). take n l ≡ codes "closed" ++ said) refusal.begins h)
+  refused_says reply refusal n h = not_refused n reply.printed _ refusal.begins h
 
   check_truly : (reply : Reply) → Checks (Reported Text) model term reply → (n : ℕ) → Says reply n → Given reply status (codes "closed" ++ said) → DerivedTruly
   check_truly reply (refuses_term r refused) n h given = absurd (refused_says r (term_refusal model term r refused) n h)
@@ -119,9 +121,9 @@ module _ (checked : EachIsChecked) (model term said : List ℕ) (status : ℕ) w
   wrote_truly : (c : Command) → ((others : List Word) (texts : List (List ℕ)) (reply : Reply) → Does c others (model ∷ texts) reply → WritesChecked model reply) →
       (words : List Word) (old new : Outside) (reply : Reply) → Answers words old.files reply → command_of words ≡ Some c → WritesTerm words old new model term →
       SameFiles (after (output_to words reply) old.files) new.files → Given reply status (codes "closed" ++ said) → DerivedTruly
-  wrote_truly c writes words old new reply answers form (texts, there) files given =
+  wrote_truly c each words old new reply answers form (texts, there) files given =
       let shown = front_of reply status (codes "closed" ++ said) given in
-      elim (refused_or_written c model writes words old.files texts reply answers form there.texts_are) [
+      elim (refused_or_written c model each words old.files texts reply answers form there.texts_are) [
         | inl refusal ↦ absurd (refused_says reply refusal shown.0 shown.1)
         | inr w ↦ let same = file_holds words old.files new.files reply there.name w.term term there.named w.written files there.written in
             let checks = subst (λ (l : List ℕ). Checks (Reported Text) model l (printing reply.status reply.printed)) same w.checks in

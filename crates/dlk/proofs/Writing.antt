@@ -8,7 +8,7 @@ use Rattle.dlk_desk.specs.Outside.{Outside, Files, SameFiles}
 use Rattle.dlk_recorder.specs.Terms.{term_text}
 use Rattle.dlk_replies.specs.declared.command.Command.{Command}
 use Rattle.dlk_replies.specs.declared.command.Command.TheVariants.{Prove, Link, Trim}
-use Rattle.dlk_replies.specs.declared.form.Role.TheVariants.{Term}
+use Rattle.dlk_replies.specs.declared.form.Role.TheVariants.{Model, Term}
 use Rattle.dlk_replies.specs.declared.reply.Layout.TheVariants.{Text}
 use Rattle.dlk_replies.specs.declared.reply.Showing.TheVariants.{Reported}
 use Rattle.dlk_replies.specs.Forms.{Word, command_of, others_of, limit_of}
@@ -26,7 +26,7 @@ use Rattle.dlk.specs.Answers.{bytes_of, Answers}
 use Rattle.dlk.specs.Outputs.{output_with, after}
 use Rattle.dlk.specs.Runs.{output_to}
 use Rattle.dlk.specs.Headline.{Writes}
-use Rattle.dlk.proofs.Refusals.{IsRefusal, line_refusal, text_refusal, strategy_refusal, term_refusal}
+use Rattle.dlk.proofs.Refusals.{IsRefusal, text_refusal, strategy_refusal, term_refusal}
 use Rattle.dlk.proofs.Done.{response, refused_or_done}
 
 -- the file that the words let the program write holds the bytes of the reply
@@ -57,7 +57,7 @@ pub record EachIsChecked : Type 0 where
 pub checked_by : ((model strategy term : List ℕ) (reply : Reply) → Proves model strategy reply → reply.written ≡ Some term → IsCheckedToo model term reply) →
     ((model term lemma out : List ℕ) (reply : Reply) → Links model term lemma reply → reply.written ≡ Some out → IsCheckedToo model out reply) →
     ((model term out : List ℕ) (reply : Reply) → Trims model term reply → reply.written ≡ Some out → IsCheckedToo model out reply) → EachIsChecked
-checked_by proves links trims = record { proves = proves; links = links; trims = trims }
+checked_by proved linked trimmed = record { proves = proved; links = linked; trims = trimmed }
 
 -- the term that a reply writes
 abbrev pub WritesSome : Reply → Type 0
@@ -75,36 +75,36 @@ WritesChecked model reply = IsRefusal reply ⊎ WritesToo model reply
 
 -- a record of steps is a refusal, or is written
 pub recorded_or_refused : (steps : List Step) (p : Provable) (reply : Reply) → Records steps p reply → IsRefusal reply ⊎ WritesSome reply
-recorded_or_refused steps p _ (too_long long) = inl (line_refusal _)
+recorded_or_refused steps p _ (too_long long) = inl (record { two = refl; begins = refl })
 recorded_or_refused steps p _ (writes short) = inr (term_text steps, refl)
 
 last_recorded_or_refused : (steps : List Step) (reply : Reply) → RecordsLast steps reply → IsRefusal reply ⊎ WritesSome reply
-last_recorded_or_refused steps reply (last, ends, records) = recorded_or_refused steps last reply records
+last_recorded_or_refused steps reply (last, ends, recorded) = recorded_or_refused steps last reply recorded
 
 pub proved_or_refused : (model strategy : List ℕ) (reply : Reply) → Proves model strategy reply → IsRefusal reply ⊎ WritesSome reply
-proved_or_refused model strategy _ (bad_model why is) = inl (text_refusal _ why)
+proved_or_refused model strategy _ (bad_model why is) = inl (text_refusal Model why)
 proved_or_refused model strategy _ (bad_strategy f reads why is) = inl (strategy_refusal why)
-proved_or_refused model strategy _ (fails at used why run) = inl (line_refusal _)
-proved_or_refused model strategy _ (spent at run) = inl (line_refusal _)
+proved_or_refused model strategy _ (fails at used why run) = inl (record { two = refl; begins = refl })
+proved_or_refused model strategy _ (spent at run) = inl (record { two = refl; begins = refl })
 proved_or_refused model strategy _ (records made left run p ended r is) = recorded_or_refused made.steps p r is
 
 pub converted_or_refused : (term : List ℕ) (reply : Reply) → Converts term reply → IsRefusal reply ⊎ WritesSome reply
-converted_or_refused term _ (bad_line n why v) = inl (line_refusal _)
+converted_or_refused term _ (bad_line n why v) = inl (record { two = refl; begins = refl })
 converted_or_refused term _ (conversion steps rows p t r is) = recorded_or_refused steps p r is
 
 steps_linked_or_refused : (steps others : List Step) (p q : Provable) (reply : Reply) → LinksSteps steps others p q reply → IsRefusal reply ⊎ WritesSome reply
-steps_linked_or_refused steps others p q _ (no_goal none) = inl (line_refusal _)
-steps_linked_or_refused steps others p q _ (past_limit there linked is why first) = inl (line_refusal _)
-steps_linked_or_refused steps others p q _ (linking there linked is reply records) = last_recorded_or_refused linked reply records
+steps_linked_or_refused steps others p q _ (no_goal none) = inl (record { two = refl; begins = refl })
+steps_linked_or_refused steps others p q _ (past_limit there linked is why first) = inl (record { two = refl; begins = refl })
+steps_linked_or_refused steps others p q _ (linking there linked is reply recorded) = last_recorded_or_refused linked reply recorded
 
 pub linked_or_refused : (model term lemma : List ℕ) (reply : Reply) → Links model term lemma reply → IsRefusal reply ⊎ WritesSome reply
 linked_or_refused model term lemma _ (link_refuses r refused) = inl (term_refusal model term r refused)
-linked_or_refused model term lemma _ (bad_lemma steps rows p t n why v) = inl (line_refusal _)
+linked_or_refused model term lemma _ (bad_lemma steps rows p t n why v) = inl (record { two = refl; begins = refl })
 linked_or_refused model term lemma _ (links steps rows p t others more q u reply is) = steps_linked_or_refused steps others p q reply is
 
 pub trimmed_or_refused : (model term : List ℕ) (reply : Reply) → Trims model term reply → IsRefusal reply ⊎ WritesSome reply
 trimmed_or_refused model term _ (trim_refuses r refused) = inl (term_refusal model term r refused)
-trimmed_or_refused model term _ (trims steps rows p t kept is reply records) = last_recorded_or_refused kept reply records
+trimmed_or_refused model term _ (trims steps rows p t kept is reply recorded) = last_recorded_or_refused kept reply recorded
 
 -- with a status below 2 it is the term that stands in the file
 pub writes_this : (reply : Reply) → IsRefusal reply ⊎ WritesSome reply → code_of reply.status < 2 → (words : List Word) (old new : Outside) (texts : List (List ℕ)) (out : List ℕ) →
@@ -138,8 +138,8 @@ module _ (checked : EachIsChecked) (model : List ℕ) where
 pub refused_or_written : (c : Command) (model : List ℕ) → ((others : List Word) (texts : List (List ℕ)) (reply : Reply) → Does c others (model ∷ texts) reply → WritesChecked model reply) →
     (words : List Word) (files : Files) (texts : List (List ℕ)) (reply : Reply) → Answers words files reply → command_of words ≡ Some c →
     bytes_of files (inputs words) ≡ Some (model ∷ texts) → WritesChecked model reply
-refused_or_written c model writes words files texts reply answers form there =
+refused_or_written c model each words files texts reply answers form there =
     elim (refused_or_done c words (model ∷ texts) reply (response words files c (model ∷ texts) reply answers form there)) [
       | inl refusal ↦ inl refusal
-      | inr job ↦ writes (others_of c words) texts reply job
+      | inr job ↦ each (others_of c words) texts reply job
     ]

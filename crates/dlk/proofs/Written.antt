@@ -1,5 +1,5 @@
 -- What a command has written of a model is accepted by `check`.
-use Rattle.std.proofs.Common.{◌≡◌, ◌<◌, ◌++◌, ℕ, List, ◌∷◌, Some, refl, sym, ap, subst, ◌∙◌, arith}
+use Rattle.std.proofs.Common.{◌≡◌, ◌<◌, ◌++◌, ℕ, List, ◌∷◌, Some, refl, sym, ap, subst, ◌∙◌, inl, inr, arith}
 use Rattle.std.proofs.lemmas.List.{append_cancel_left}
 use Rattle.dlk_desk.specs.Outside.{Outside, SameFiles}
 use Rattle.dlk_replies.specs.declared.command.Command.{Command}
@@ -29,8 +29,8 @@ says_given {old = old} {reply = reply} {said = said} gives says = append_cancel_
 pub whole_accepted : (c : Command) (model : List ℕ) → ((others : List Word) (texts : List (List ℕ)) (reply : Reply) → Does c others (model ∷ texts) reply → WritesChecked model reply) →
     (words : List Word) (status : ℕ) (old new : Outside) (reply : Reply) → GivesWhole words status old new reply → (term said : List ℕ) → command_of words ≡ Some c →
     WritesTerm words old new model term → status < 2 → new.printed ≡ old.printed ++ said → IsAccepted model term status said
-whole_accepted c model writes words status old new reply gives term said form (texts, there) less says =
-    elim (refused_or_written c model writes words old.files texts reply gives.answer form there.texts_are) [
+whole_accepted c model each words status old new reply gives term said form (texts, there) less says =
+    elim (refused_or_written c model each words old.files texts reply gives.answer form there.texts_are) [
       | inl refusal ↦ absurd (omega (arith, less, gives.status_is, refusal.two))
       | inr w ↦ let same = file_holds words old.files new.files reply there.name w.term term there.named w.written gives.files there.written in
           let here : IsAccepted model w.term (code_of reply.status) reply.printed =

@@ -35,9 +35,9 @@ recorded_text (writes short) written = cc
 -- a written term is accepted with the rows of the term that it is written of
 same_rows : {term out : List ℕ} {rows others : List Provable} {p q : Provable} {reply : Reply} → Accepts term rows p → Accepts term others q → IsWritten out others q reply →
     IsWritten out rows p reply
-same_rows {out = out} {reply = reply} a b w =
+same_rows {term} {out} {rows} {others} {p} {q} {reply} a b w =
     let end = one_end b a in
-    subst (λ (rs : List Provable). IsWritten out rs _ reply) end.rows_are (subst (λ (r : Provable). IsWritten out _ r reply) end.last_is w)
+    subst (λ (rs : List Provable). IsWritten out rs p reply) end.rows_are (subst (λ (r : Provable). IsWritten out others r reply) end.last_is w)
 
 abbrev pub ConvertedIsAccepted : Type 0
 ConvertedIsAccepted = (term written : List ℕ) (reply : Reply) → Converts term reply → reply.written ≡ Some written → IsConvertedBy term written reply

@@ -92,10 +92,78 @@ fn runs_each_command(rt: HostRuntime) -> Result<(), Fail> {
             0,
             "generated 1\nlines 15\nleaves 1\nclosed\n",
         ),
+        (
+            &["convert", "term", "out"].as_slice(),
+            1,
+            "open\nconclusion ==> x>=0\ngoals 1\ngoal 1 ==> x>=0\nleaves 0\nlines 1\n",
+        ),
+        (
+            &["link", "model", "term", "term", "out"].as_slice(),
+            1,
+            "open\nconclusion ==> x>=0\ngoals 1\ngoal 1 ==> x>=0\nleaves 0\nlines 3\n",
+        ),
+        (
+            &["trim", "model", "term", "out"].as_slice(),
+            1,
+            "open\nconclusion ==> x>=0\ngoals 1\ngoal 1 ==> x>=0\nleaves 0\nlines 1\n",
+        ),
+        (
+            &["session", "model", "term", "out"].as_slice(),
+            2,
+            "refused: script line 1\n",
+        ),
     ] {
         let mut desk = desk_of(alloc, b"x>=0", b"1 start ==> x>=0\ndone\n", 7, &[])?;
         assert_eq!(rt; status_of(alloc, words, &mut desk)?, status);
         assert_eq!(rt; desk.printed(), printed.as_bytes());
+    }
+    Ok(())
+}
+
+/// A file that is written may be an input, which is read whole before. What is refused leaves it as it was.
+#[test]
+fn overwrites_inputs(rt: HostRuntime) -> Result<(), Fail> {
+    let alloc = rt.alloc();
+    let term = b"1 start ==> x>=0\n2 start ==> x>=0\ndone\n".as_slice();
+    for (words, name, lines) in [
+        (&["convert", "term", "term"].as_slice(), "term", 2),
+        (
+            &["link", "model", "term", "term", "term"].as_slice(),
+            "term",
+            5,
+        ),
+        (
+            &["link", "model", "term", "term", "model"].as_slice(),
+            "model",
+            5,
+        ),
+        (&["trim", "model", "term", "term"].as_slice(), "term", 1),
+    ] {
+        let mut desk = desk_of(alloc, b"x>=0", term, 7, &[])?;
+        assert_eq!(rt; status_of(alloc, words, &mut desk)?, 1);
+        let report = format!(in alloc;
+            "open\nconclusion ==> x>=0\ngoals 1\ngoal 1 ==> x>=0\nleaves 0\nlines {lines}\n"
+        )?;
+        assert_eq!(rt; desk.printed(), report.as_bytes());
+        let mut out = Vec::new(alloc);
+        out.extend_from_slice(desk.file(name).unwrap_or(&[]))?;
+        let mut desk = desk_of(alloc, b"x>=0", &out, 7, &[])?;
+        assert_eq!(rt;
+            status_of(alloc, &["check", "model", "term"], &mut desk)?,
+            1
+        );
+        assert_eq!(rt; desk.printed(), report.as_bytes());
+    }
+    for words in [
+        &["convert", "model", "model"].as_slice(),
+        &["link", "model", "term", "model", "model"].as_slice(),
+        &["trim", "model", "model", "model"].as_slice(),
+        &["session", "model", "term", "term"].as_slice(),
+    ] {
+        let mut desk = desk_of(alloc, b"x>=0", term, 7, &[])?;
+        assert_eq!(rt; status_of(alloc, words, &mut desk)?, 2);
+        assert_eq!(rt; desk.file("model"), Some(b"x>=0".as_slice()));
+        assert_eq!(rt; desk.file("term"), Some(term));
     }
     Ok(())
 }
