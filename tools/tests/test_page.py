@@ -14,6 +14,7 @@ import prooftree
 import typeset
 from helping import BRAKE, CHOICE, CLOSES_BRAKE, CLOSES_CHOICE, CLOSES_INCREMENT, INCREMENT, PROGRAM, ROOT, Case, needs_program
 from proving import answer
+from terms import readable
 from words import made_by, runs_in
 
 VOID = {"meta", "input", "br", "wbr", "link", "img"}
@@ -89,7 +90,10 @@ class Pages(Page):
         for data in (CHOICE.encode(), CLOSES_CHOICE.encode(), term.read_bytes()):
             self.assertIn(hashlib.sha256(data).hexdigest(), said)
         self.assertIn(f"{term.stat().st_size:,}", said)
-        self.assertEqual("\n".join(data_of(run.stdout)["lines"][1:]) + "\ndone\n", term.read_text())
+        lines = "\n".join(data_of(run.stdout)["lines"][1:]) + "\ndone\n"
+        self.assertEqual(lines, readable(term.read_bytes()))
+        texts = json.loads(re.search(r'id="texts">(.*?)</script>', run.stdout)[1])
+        self.assertEqual(texts.get("term", lines), term.read_text())
 
     def test_the_strategy_with_its_goals(self):
         text = self.made(INCREMENT, CLOSES_INCREMENT).stdout
@@ -121,6 +125,7 @@ class Pages(Page):
         self.assertIn("<i>a & b", said)
         texts = json.loads(re.search(r'id="texts">(.*?)</script>', run.stdout)[1])
         written = {name: (comment + text).encode().decode("latin-1") for name, text in (("model", INCREMENT), ("strategy", CLOSES_INCREMENT))}
+        texts.pop("term", None)  # which is there where it is of version 2
         self.assertEqual(texts, written)
 
     def test_what_is_refused(self):

@@ -10,6 +10,7 @@ import unittest
 
 import helping
 from helping import BRAKE, CHOICE, CLOSES_BRAKE, CLOSES_CHOICE, CLOSES_INCREMENT, Case, INCREMENT, PROGRAM, needs_program
+from terms import readable
 
 
 class Verdict(Case):
@@ -167,7 +168,8 @@ class Terms(Verdict):
     def test_the_term_is_put_where_it_is_wanted(self):
         run = self.on("x>=0 -> x>=0\n", "implyR(1); close", "term")
         self.assertEqual(run.returncode, 0)
-        self.assertEqual((self.folder / "term").read_text(), "1 start ==> x>=0 -> x>=0\n2 apply 1 1 implyR(1)\n3 apply 2 1 close(1,1)\ndone\n")
+        term = readable((self.folder / "term").read_bytes())
+        self.assertEqual(term, "1 start ==> x>=0 -> x>=0\n2 apply 1 1 implyR(1)\n3 apply 2 1 close(1,1)\ndone\n")
         self.assertEqual(sorted(path.name for path in self.folder.iterdir()), ["model", "strategy", "term"])
 
     def test_a_failure_leaves_the_term_that_is_there(self):
