@@ -1,5 +1,4 @@
-use Rattle.std.proofs.Common.{map, subst, sym, codes}
-use Rattle.std.proofs.lemmas.Result.{err_from_is_err_and}
+use Rattle.std.proofs.Common.{map, subst, sym}
 use Rattle.dlk_rules.specs.Steps.{step_at}
 use Rattle.dlk_kernel.specs.Kernel.{facts}
 use Rattle.dlk_jobs_check.specs.Terms.{Replays}

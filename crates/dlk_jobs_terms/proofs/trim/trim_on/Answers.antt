@@ -1,4 +1,4 @@
-use Rattle.std.proofs.Common.{◌≤◌, IfOk, IfErr, [], length, map, ap, sym, subst, ◌∙◌, arith}
+use Rattle.std.proofs.Common.{IfOk, IfErr, [], length, map, ap, sym, subst, arith}
 use Rattle.std.specs.List.{All}
 use Rattle.std.proofs.lemmas.List.{length-map}
 use Rattle.std.proofs.lemmas.Result.{IfOk-weaker, IfErr-weaker, err_from_is_err_and}
@@ -15,7 +15,7 @@ use Rattle.dlk_jobs_check.specs.Terms.{RefusesTerm}
 use Rattle.dlk_jobs_terms.specs.Made.{RecordsLast}
 use Rattle.dlk_jobs_terms.specs.Trims.{Trims, refuses, trims}
 use Rattle.dlk_jobs_terms.proofs.EndLaws.{replay_ends, kept_ends}
-use Rattle.dlk_jobs_terms.proofs.Staying.{still_known, still_same}
+use Rattle.dlk_jobs_terms.proofs.Staying.{still_same}
 use Rattle.dlk_jobs_terms.proofs.trim.trim_on.Goals as goal
 
 pub trim-requires-clause-known : goal.trim-requires-clause-known
