@@ -251,6 +251,14 @@ class Walk:
         self.references[definition] = references_of(definition, spec_file)
         return self.references[definition]
 
+    def home(self, reference):
+        """Where it stands what is referred to: files that pass it on are gone through."""
+        spec_file = self.spec_file(reference.crate, reference.file())
+        while reference.name not in spec_file.by_name:
+            reference = spec_file.imports[reference.name]
+            spec_file = self.spec_file(reference.crate, reference.file())
+        return reference
+
     def reached_in(self, section):
         """The definitions of a section's file that are reached, in the order of the file."""
         definitions = self.spec_file(section["crate"], section["file"]).definitions
@@ -439,7 +447,8 @@ def check_reading_order(walk, sections):
             if reference.path.startswith((DECLARED, DERIVED)):
                 used = (reference.crate, "type", reference.rust_type())
             else:
-                used = (reference.crate, reference.file())
+                home = walk.home(reference)
+                used = (home.crate, home.file())
             if places[used] > places[definition.crate, definition.file]:
                 place = spec_path(definition.crate, definition.file)
                 stop(f"{definition.names[0]} of {place} uses {reference.name}, which is listed in a later section")

@@ -13,3 +13,5 @@ pub mod Files
 pub mod Lines
 pub mod Recorded
 pub mod TermFiles
+pub mod Read
+pub mod Put

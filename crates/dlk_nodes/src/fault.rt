@@ -2,7 +2,9 @@
 ghost use Rattle.std.specs.Prelude.{◌≡◌};
 ghost use Rattle.dlk_nodes.specs.declared.fault.NodeFault.TheVariants.{Memory};
 ghost use Rattle.dlk_nodes.specs.Faults.{of_name};
+ghost use Rattle.dlk_nodes.specs.Read.{of_line};
 
+use dlk_lines::LineFault;
 use dlk_print::PrintFault;
 use dlk_store::StoreFault;
 use dlk_tree::NameFault;
@@ -58,6 +60,17 @@ impl From<NameFault> for NodeFault {
         match fault {
             NameFault::NotAName => NodeFault::Malformed,
             NameFault::Memory => NodeFault::Memory,
+        }
+    }
+}
+
+impl From<LineFault> for NodeFault {
+    ghost from_gives = { λ fault e. e ≡ of_line fault };
+
+    fn from(fault: LineFault) -> NodeFault {
+        match fault {
+            LineFault::Malformed => NodeFault::Malformed,
+            LineFault::Memory => NodeFault::Memory,
         }
     }
 }

@@ -76,10 +76,7 @@ pub(crate) fn read_node<S: Store, L: Ledger>(
 }
 
 /// The number and the new node of which this is the line.
-///
-/// The trees of the nodes are those of the store. `Malformed` comes exactly where the bytes are the line of no new node, and `Memory` when
-/// memory runs out. Whatever comes, the store keeps its trees.
-pub fn read_node_line<S: Store, L: Ledger>(
+pub(crate) fn node_line<S: Store, L: Ledger>(
     alloc: Global,
     line: &[u8],
     table: &NodeTable,

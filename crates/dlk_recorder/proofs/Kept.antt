@@ -1,15 +1,15 @@
 -- A text that is kept while it is within a limit.
-use Rattle.std.proofs.Common.{◌≡◌, ℕ, ◌+◌, ◌<◌, ◌≤◌, List, [], ◌∷◌, ◌++◌, length, map, drop, codes, refl, sym, ap, ◌∙◌, append_assoc, append-nil, length-append, drop-cons, suc, get_or, arith}
+use Rattle.std.proofs.Common.{◌≡◌, ℕ, ◌+◌, ◌<◌, ◌≤◌, List, [], ◌∷◌, ◌++◌, length, map, drop, codes, refl, sym, ap, ◌∙◌, append_assoc, length-append, drop-cons, suc, get_or, arith}
+use Rattle.dlk_tree.specs.Trees.{Tree}
 use Rattle.dlk_calculus.specs.Steps.{Step}
-use Rattle.dlk_termtext.specs.Written.{line_text}
-use Rattle.dlk_recorder.specs.Terms.{lines_text}
+use Rattle.dlk_nodes.specs.TermFiles.{nodes_after, its_lines, step_lines, ended, term_text}
 
 -- what is kept, how many bytes there are so far, and what of the whole is left
 pub record Kept (text : List ℕ) (bytes limit : ℕ) (left whole : List ℕ) : Type 0 where
   pub kept : bytes ≤ limit → text ++ left ≡ whole
   pub count : bytes + length left ≡ length whole
 
-pub kept_none : (limit : ℕ) (whole : List ℕ) → Kept [] 0 limit whole whole
+kept_none : (limit : ℕ) (whole : List ℕ) → Kept [] 0 limit whole whole
 kept_none limit whole = record { kept = λ le. refl; count = omega arith }
 
 pub kept_more : (text more new left rest whole : List ℕ) (bytes after limit : ℕ) → Kept text bytes limit left whole → left ≡ more ++ rest → after ≡ bytes + length more →
@@ -23,29 +23,48 @@ kept_more text more new left rest whole bytes after limit k left_is after_is kep
       omega (arith, k.count, both, after_is);
 }
 
--- the first of the lines that are left
-pub next_line : {A : Type 0} (stands : A → Step) (steps : List A) (i : ℕ) (step : A) → i < length steps → drop i steps ≡ step ∷ drop (i + 1) steps →
-    lines_text (i + 1) (map stands (drop i steps)) ++ codes "done\n"
-    ≡ (line_text (i + 1) (stands step) ++ 10 ∷ []) ++ (lines_text (i + 1 + 1) (map stands (drop (i + 1) steps)) ++ codes "done\n")
-next_line stands steps i step within next =
-    let line = line_text (i + 1) (stands step) in
-    let others = lines_text (i + 1 + 1) (map stands (drop (i + 1) steps)) in
-    ap (λ (l : List _). lines_text (i + 1) (map stands l) ++ codes "done\n") next
-    ∙ append_assoc line (10 ∷ others) (codes "done\n") ∙ sym (append_assoc line (10 ∷ []) (others ++ codes "done\n"))
+-- ---- the lines that are left
+
+ended_both : (lines more : List (List ℕ)) → ended (lines ++ more) ≡ ended lines ++ ended more
+ended_both [] more = refl
+ended_both (line ∷ lines) more =
+    ap (λ (l : List ℕ). line ++ 10 ∷ l) (ended_both lines more) ∙ sym (append_assoc line (10 ∷ ended lines) (ended more))
+
+-- behind these nodes: those of steps, numbered from this number on, and `done`
+abbrev pub left_text : List Tree → ℕ → List Step → List ℕ
+left_text nodes number steps = ended (step_lines nodes number steps ++ codes "done" ∷ [])
+
+-- the head is kept first
+pub kept_head : (steps : List Step) (new : List ℕ) (bytes limit : ℕ) → bytes ≡ 6 → (bytes ≤ limit → new ≡ [] ++ codes "dlk 2\n") →
+    Kept new bytes limit (left_text [] 1 steps) (term_text steps)
+kept_head steps new bytes limit bytes_are kept =
+    kept_more [] (codes "dlk 2\n") new (term_text steps) (left_text [] 1 steps) (term_text steps) 0 bytes limit (kept_none limit (term_text steps)) refl
+    bytes_are kept
 
 -- the item at a place, before those behind it
-pub next_item : {A : Type 0} (items : List A) (i : ℕ) (item : A) → i < length items → item ≡ get_or items i item → drop i items ≡ item ∷ drop (i + 1) items
+next_item : {A : Type 0} (items : List A) (i : ℕ) (item : A) → i < length items → item ≡ get_or items i item → drop i items ≡ item ∷ drop (i + 1) items
 next_item {A} items i item within is =
     let one : suc i ≡ i + 1 = omega arith in
     drop-cons items i item within ∙ ap (λ (x : A). x ∷ drop (suc i) items) (sym is) ∙ ap (λ (k : ℕ). item ∷ drop k items) one
 
--- the next line is kept, too
-pub kept_line : {A : Type 0} (stands : A → Step) (steps : List A) (i : ℕ) (step : A) (text written new whole : List ℕ) (bytes after limit : ℕ) →
-    i < length steps → step ≡ get_or steps i step → Kept text bytes limit (lines_text (i + 1) (map stands (drop i steps)) ++ codes "done\n") whole →
-    written ≡ line_text (i + 1) (stands step) ++ 10 ∷ [] → after ≡ bytes + length written → (after ≤ limit → new ≡ text ++ written) →
-    Kept new after limit (lines_text (i + 1 + 1) (map stands (drop (i + 1) steps)) ++ codes "done\n") whole
-kept_line stands steps i step text written new whole bytes after limit within is so_far written_is after_is kept =
-    let left = lines_text (i + 1) (map stands (drop i steps)) ++ codes "done\n" in
-    let rest = lines_text (i + 1 + 1) (map stands (drop (i + 1) steps)) ++ codes "done\n" in
-    let next : left ≡ written ++ rest = next_line stands steps i step within (next_item steps i step within is) ∙ ap (λ (l : List ℕ). l ++ rest) (sym written_is) in
-    kept_more text written new left rest whole bytes after limit so_far next after_is kept
+-- the lines of the first step that is left
+next_lines : (nodes after : List Tree) (number : ℕ) (step : Step) (steps : List Step) → after ≡ nodes_after nodes step →
+    left_text nodes number (step ∷ steps) ≡ ended (its_lines nodes number step) ++ left_text after (number + 1) steps
+next_lines nodes after number step steps is =
+    let its = its_lines nodes number step in
+    let others = step_lines (nodes_after nodes step) (number + 1) steps in
+    ap ended (append_assoc its others (codes "done" ∷ [])) ∙ ended_both its (others ++ codes "done" ∷ [])
+    ∙ ap (λ (n : List Tree). ended its ++ left_text n (number + 1) steps) (sym is)
+
+-- they are kept, too
+pub kept_step : {A : Type 0} (stands : A → Step) (steps : List A) (i : ℕ) (step : A) (nodes after : List Tree) (text written new whole : List ℕ) (bytes count limit : ℕ) →
+    i < length steps → step ≡ get_or steps i step → Kept text bytes limit (left_text nodes (i + 1) (map stands (drop i steps))) whole →
+    written ≡ ended (its_lines nodes (i + 1) (stands step)) → after ≡ nodes_after nodes (stands step) → count ≡ bytes + length written →
+    (count ≤ limit → new ≡ text ++ written) → Kept new count limit (left_text after (i + 1 + 1) (map stands (drop (i + 1) steps))) whole
+kept_step stands steps i step nodes after text written new whole bytes count limit within is so_far written_is after_is count_is kept =
+    let rest = map stands (drop (i + 1) steps) in
+    let left = left_text nodes (i + 1) (map stands (drop i steps)) in
+    let next : left ≡ written ++ left_text after (i + 1 + 1) rest =
+    ap (λ (l : List _). left_text nodes (i + 1) (map stands l)) (next_item steps i step within is) ∙ next_lines nodes after (i + 1) (stands step) rest after_is
+    ∙ ap (λ (l : List ℕ). l ++ left_text after (i + 1 + 1) rest) (sym written_is) in
+    kept_more text written new left (left_text after (i + 1 + 1) rest) whole bytes count limit so_far next count_is kept

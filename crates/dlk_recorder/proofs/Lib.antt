@@ -1,4 +1,5 @@
-pub mod OneLine
 pub mod Writable
-pub mod Accepted
+pub mod WholeFile
+pub mod TakenWritable
+pub mod FewNodes
 pub mod Kept

@@ -1,9 +1,9 @@
 -- What the calculus takes from rows within the limits is read from its written form.
-use Rattle.std.proofs.Common.{◌≡◌, ℕ, zero, suc, ◌+◌, ◌-◌, ◌<◌, ◌≤◌, Bool, true, false, not, ◌&&◌, cond, List, [], ◌∷◌, ◌++◌, length, get_or, take, drop, Option, Some, None, find, refl, sym, ap, subst, ◌∙◌, ◌⊎◌, inl, inr, arith}
-use Rattle.std.specs.Prelude.{All, IsTrue, slice_set}
+use Rattle.std.proofs.Common.{◌≡◌, ℕ, ◌-◌, ◌<◌, ◌≤◌, Bool, true, false, cond, List, [], ◌∷◌, ◌++◌, length, get_or, take, drop, Some, find, refl, subst, inl, inr, arith}
+use Rattle.std.specs.Prelude.{All, slice_set}
 use Rattle.std.specs.List.{list_all}
 use Rattle.std.specs.Str.{bytes_eq}
-use Rattle.std.proofs.lemmas.Bool.{cases_Bool, cases_lt, and_parts}
+use Rattle.std.proofs.lemmas.Bool.{cases_lt, and_parts}
 use Rattle.std.proofs.lemmas.Slice.Eq.{bytes_eq-Decides}
 use Rattle.std.proofs.lemmas.Grind.{get_or-set_at}
 use Rattle.std.proofs.lemmas.List.{length-set}
@@ -13,20 +13,20 @@ use Rattle.dlk_tree.specs.Trees.{Tree, size, depth}
 use Rattle.dlk_calculus.specs.declared.reason.Reason.TheVariants.{TooBig, TooDeep}
 use Rattle.dlk_calculus.specs.Axioms.{Axiom, AxiomaticRule, axioms, axiomatic_rules, axiom_named, rule_named}
 use Rattle.dlk_calculus.specs.Limits.{most_nodes, greatest_depth, most_formulas, most_goals, most_rows, IsSmall, IsShallow}
-use Rattle.dlk_calculus.specs.Limited.{InSequent, HasFewFormulas, IsLimitedSequent, IsLimited}
+use Rattle.dlk_calculus.specs.Limited.{IsLimitedSequent, IsLimited}
 use Rattle.dlk_calculus.specs.Pairs.{Pair, IsWellFormed, AreWellMade}
 use Rattle.dlk_calculus.specs.Places.{At, IsPlace, put}
 use Rattle.dlk_calculus.specs.Sequents.{Sequent, IsFormula, IsSequent}
 use Rattle.dlk_calculus.specs.Rules.{Rule, Close, CloseTrue, CloseFalse, NotL, NotR, AndL, AndR, OrL, OrR, ImplyL, ImplyR, EquivL, EquivR, Cut, CutL, CutR, HideL, HideR, CoHideR, ExchangeL, ExchangeR, SkolemL, SkolemR, BoundL, BoundR, EquivifyR, CommuteEquivL, CommuteEquivR, IsProperRule, Premises}
 use Rattle.dlk_calculus.specs.Provables.{Provable}
-use Rattle.dlk_calculus.specs.Steps.{Step, Start, UseAxiom, UseRule, Leaf, Apply, Merge, Substitute, Rename, Gives, start, use_axiom, use_rule, leaf, apply, merge, substitute, rename, EachNew, too_big, too_deep, IsWithin, StepOf}
+use Rattle.dlk_calculus.specs.Steps.{Step, Substitute, Gives, start, use_axiom, use_rule, leaf, apply, merge, substitute, rename, EachNew, too_big, too_deep, IsWithin, StepOf}
 use Rattle.dlk_calculus.proofs.PlaceLaws.{At_All, At_place, All-front, All-behind}
 use Rattle.dlk_calculus.proofs.WellFormed.{pairs_of_kind}
 use Rattle.dlk_calculus.proofs.LimitLaws.{taken_as_given, step_limited}
 use Rattle.dlk_readback.specs.Readable.{IsWithinLimits, IsReadablePair}
 use Rattle.dlk_lines.specs.Numbers.{IsLineNumber}
 use Rattle.dlk_termtext.specs.Written.{IsReadableFormula, IsReadableSequent, IsWritableRule, IsWritable}
-use Rattle.dlk_recorder.specs.Terms.{HasSymbols}
+use Rattle.dlk_replay.specs.Symbols.{HasSymbols}
 
 -- a place among few
 place_number : {A : Type 0} (items : List A) (place most : ℕ) → length items ≤ most → most ≤ 999999999 → IsPlace items place → IsLineNumber place

@@ -4,5 +4,5 @@
 mod laws;
 mod recording;
 
-pub use laws::recorded_is_accepted;
+pub use laws::{nodes_are_fewer_than_bytes, recorded_is_accepted, taken_steps_are_writable};
 pub use recording::{Recorded, record};

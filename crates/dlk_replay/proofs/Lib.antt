@@ -1,7 +1,13 @@
+pub mod AnyFormat
+pub mod VersionOne
+pub mod OneSaid
+pub mod SomeSaid
+pub mod ProperSteps
 pub mod Verdicts
+pub mod RowsGiven
 pub mod FileLines
 pub mod SaidSteps
 pub mod Reached
-pub mod Numbered
+pub mod Standing
 pub mod Watching
-pub mod StepTaken
+pub mod TakenLine

@@ -5,8 +5,9 @@ use Rattle.dlk_calculus.specs.Provables.{Provable}
 use Rattle.dlk_calculus.specs.Steps.{Step, Adds, Fault}
 use Rattle.dlk_replay.specs.declared.fault.LineWhy.{LineWhy}
 use Rattle.dlk_replay.specs.declared.fault.LineWhy.TheVariants as why
-use Rattle.dlk_replay.specs.Files.{Said, TakesStep, HasOtherNumber, EndsFile, Format, StepLines, no_lines, one_more, accepted, bad, Becomes, whole, ended, unread, done_first, done_before, misnumbered, faulty, RowsOf, of_steps, of_all, SaySteps}
-use Rattle.dlk_replay.proofs.SaidSteps.{FrontSays, front_none, front_more, front_done}
+use Rattle.dlk_replay.specs.Files.{StepLines, no_lines, one_more, no_row, accepted, bad, Becomes, whole, ended, unread, done_first, done_before, misnumbered, faulty, RowsOf, of_steps, of_all, SaySteps}
+use Rattle.dlk_replay.specs.Formats.{Said, TakesStep, HasOtherNumber, TakesNone, EndsFile, Format}
+use Rattle.dlk_replay.proofs.SaidSteps.{FrontSays, front_none, front_more, front_skipped, front_done}
 
 -- the lines before those that are left, as many as the place: they say these steps, which gave these rows, the last of them at this line
 pub record Reached (Says : Format) (all left : List (List ℕ)) (place last : ℕ) (steps : List Step) (rows : List Provable) : Type 0 where
@@ -24,7 +25,7 @@ IsWrong Says before rows line why.NoEnd = ⊥
 IsWrong Says before rows line (why.Step reason) = (step : Step) × Says before line (TakesStep step) × Fault rows step reason
 
 module _ (Says : Format) (all : List (List ℕ)) where
-  pub reached_none : Reached Says all all 0 0 [] []
+  unfoldable pub reached_none : Reached Says all all 0 0 [] []
   reached_none = record { front = []; all_is = refl; place_is = refl; lines = no_lines; said = front_none Says }
 
   module _ (left : List (List ℕ)) (place last : ℕ) (steps : List Step) (rows : List Provable) where
@@ -56,7 +57,7 @@ module _ (Says : Format) (all : List (List ℕ)) where
         (subst (λ k. Becomes Says (r.front ++ line ∷ next ∷ left) (bad k why.Malformed)) two (done_before next left r.lines some ends))
 
   module _ (left : List (List ℕ)) (line : List ℕ) (place last : ℕ) (steps : List Step) (rows : List Provable) where
-    pub reached_more : (step : Step) (new : List Provable) (r : Reached Says all (line ∷ left) place last steps rows) → Says r.front line (TakesStep step) →
+    unfoldable pub reached_more : (step : Step) (new : List Provable) (r : Reached Says all (line ∷ left) place last steps rows) → Says r.front line (TakesStep step) →
         Adds rows step new → Reached Says all left (place + 1) (place + 1) (steps ++ step ∷ []) new
     reached_more step new r is adds =
         let place_is : length r.front + 1 ≡ place + 1 = ap (λ n. n + 1) (sym r.place_is) in
@@ -70,6 +71,17 @@ module _ (Says : Format) (all : List (List ℕ)) where
           said = subst (FrontSays Says (r.front ++ line ∷ []) (steps ++ step ∷ [])) (sym adds.after_is)
               (front_more Says r.front steps rows line step adds.provable r.said is adds.is_its);
         }
+
+    -- the next line gave no row
+    unfoldable pub reached_skip : (r : Reached Says all (line ∷ left) place last steps rows) → Says r.front line TakesNone →
+        Reached Says all left (place + 1) last steps rows
+    reached_skip r is = record {
+      front = r.front ++ line ∷ [];
+      all_is = r.all_is ∙ sym (append_assoc r.front (line ∷ []) left);
+      place_is = sym (length_push r.front line ∙ ap (λ n. n + 1) (sym r.place_is));
+      lines = no_row r.lines is;
+      said = front_skipped Says r.front steps rows line r.said is;
+    }
 
     -- the next line is bad, seen from the whole file
     placed : (reason : LineWhy) (r : Reached Says all (line ∷ left) place last steps rows) →

@@ -5,8 +5,9 @@ use Rattle.dlk_calculus.specs.Provables.{Provable}
 use Rattle.dlk_calculus.specs.Steps.{Step, StepOf}
 use Rattle.dlk_kernel.specs.Taken.{Takes}
 use Rattle.dlk_kernel.specs.Taken as took
-use Rattle.dlk_replay.specs.Files.{Said, TakesStep, HasOtherNumber, TakesNone, EndsFile, Format, SaysLine, StepLines, no_lines, one_more, no_row, accepted, Verdict, whole, SaySteps, done, more, none, FileSteps}
-use Rattle.dlk_replay.proofs.Verdicts.{one_said}
+use Rattle.dlk_replay.specs.Files.{StepLines, no_lines, one_more, no_row, accepted, Verdict, whole, SaySteps, done, more, none, FileSteps}
+use Rattle.dlk_replay.specs.Formats.{Said, TakesStep, HasOtherNumber, TakesNone, EndsFile, Format, SaysInFile}
+use Rattle.dlk_replay.proofs.OneSaid.{one_said_in_file}
 
 -- ---- one list of steps
 
@@ -45,8 +46,8 @@ module _ (Says : Format) (one_said : (before : List (List ℕ)) (line : List ℕ
   pub one_list : (before lines : List (List ℕ)) (a b : List Step) → SaySteps Says before lines a → SaySteps Says before lines b → a ≡ b
   one_list before lines a b x y = one_from lines before a b (says_from before lines a x) (says_from before lines b y)
 
-pub one_list_of_steps : (before lines : List (List ℕ)) (a b : List Step) → SaySteps SaysLine before lines a → SaySteps SaysLine before lines b → a ≡ b
-one_list_of_steps before lines a b x y = one_list SaysLine one_said before lines a b x y
+pub one_list_of_steps : (before lines : List (List ℕ)) (a b : List Step) → SaySteps SaysInFile before lines a → SaySteps SaysInFile before lines b → a ≡ b
+one_list_of_steps before lines a b x y = one_list SaysInFile one_said_in_file before lines a b x y
 
 -- ---- the steps of first lines
 
@@ -76,7 +77,7 @@ module _ (Says : Format) where
   }
 
   -- a line that gives no row says no step
-  front_skipped : (front : List (List ℕ)) (steps : List Step) (rows : List Provable) (line : List ℕ) → FrontSays Says front steps rows →
+  pub front_skipped : (front : List (List ℕ)) (steps : List Step) (rows : List Provable) (line : List ℕ) → FrontSays Says front steps rows →
       Says front line TakesNone → FrontSays Says (front ++ line ∷ []) steps rows
   front_skipped front steps rows line f is = record {
     taken = f.taken;
@@ -105,8 +106,8 @@ module _ (Says : Format) where
 accepted_both : (lines : List (List ℕ)) (rows : List Provable) (last : ℕ) → Verdict lines (accepted rows last) →
     (s : List Step) × FileSteps lines s × Takes [] s rows
 accepted_both _ _ _ (whole {steps} {rows} {last} {line} is some ends) =
-    let said = front_says SaysLine steps rows last is in
-    (said.0, front_done SaysLine steps said.0 rows line said.1 ends, said.1.taken)
+    let said = front_says SaysInFile steps rows last is in
+    (said.0, front_done SaysInFile steps said.0 rows line said.1 ends, said.1.taken)
 
 pub accepted_says_steps : (lines : List (List ℕ)) (rows : List Provable) (last : ℕ) → Verdict lines (accepted rows last) → (s : List Step) × FileSteps lines s
 accepted_says_steps lines rows last is = let both = accepted_both lines rows last is in (both.0, both.1)

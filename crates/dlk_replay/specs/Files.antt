@@ -1,12 +1,12 @@
 -- Proof-term files: their lines, and what becomes of them.
-use Rattle.std.specs.Prelude.{◌≢◌, ℕ, ◌+◌, ◌≤◌, ◌==◌, Bool, if◌then◌else◌, List, [], ◌∷◌, ◌++◌, length, codes}
+use Rattle.std.specs.Prelude.{ℕ, ◌+◌, ◌≤◌, ◌==◌, Bool, if◌then◌else◌, List, [], ◌∷◌, ◌++◌, length, codes}
 use Rattle.dlk_calculus.specs.Provables.{Provable}
 use Rattle.dlk_calculus.specs.Steps.{Step, StepOf, Fault}
 use Rattle.dlk_calculus.specs.declared.reason.Reason.{Reason}
 use Rattle.dlk_calculus.specs.Reasons.{reason_text}
-use Rattle.dlk_termtext.specs.Lines.{Numbered, Done, IsLine}
 use Rattle.dlk_replay.specs.declared.fault.LineWhy.{LineWhy}
 use Rattle.dlk_replay.specs.declared.fault.LineWhy.TheVariants as why
+use Rattle.dlk_replay.specs.Formats.{Said, TakesStep, HasOtherNumber, TakesNone, EndsFile, Format, SaysInFile}
 
 -- a byte put before the first of the lines
 abbrev pub before_first_line : ℕ → List (List ℕ) → List (List ℕ)
@@ -20,28 +20,6 @@ is_line_feed byte = byte == 10
 abbrev pub file_lines : List ℕ → List (List ℕ)
 file_lines [] = []
 file_lines (byte ∷ bytes) = if is_line_feed byte then [] ∷ file_lines bytes else before_first_line byte (file_lines bytes)
-
--- what a line of a file says
-pub data Said : Type 0 where
-  -- a step, with its own number
-  TakesStep : Step → Said
-  -- something with a number that isn't its own
-  HasOtherNumber : Said
-  -- something that gives no row
-  TakesNone : Said
-  -- no step comes after it
-  EndsFile : Said
-
--- what a line says, after the lines before it
-abbrev pub Format : Type 1
-Format = List (List ℕ) → List ℕ → Said → Type 0
-
--- the format of proof-term files: each line but the last is a step, numbered from 1 on
-abbrev pub SaysLine : Format
-SaysLine before line (TakesStep step) = IsLine line (Numbered (length before + 1) step)
-SaysLine before line HasOtherNumber = (number : ℕ) × (step : Step) × IsLine line (Numbered number step) × (number ≢ length before + 1)
-SaysLine before line TakesNone = ⊥
-SaysLine before line EndsFile = IsLine line Done
 
 -- StepLines Says lines rows last: the steps of the lines are steps of the calculus, these rows are what they give in turn, and the last row
 -- is that of this line.
@@ -106,16 +84,16 @@ pub data SaySteps (Says : Format) : List (List ℕ) → List (List ℕ) → List
   none : {before lines : List (List ℕ)} {line : List ℕ} {steps : List Step} →
       Says before line TakesNone → SaySteps Says (before ++ line ∷ []) lines steps → SaySteps Says before (line ∷ lines) steps
 
--- ---- proof-term files
+-- ---- proof-term files of both versions
 
 -- what becomes of one, by its lines
 abbrev pub Verdict : List (List ℕ) → Answer → Type 0
-Verdict lines answer = Becomes SaysLine lines answer
+Verdict lines answer = Becomes SaysInFile lines answer
 
 -- the rows that its first lines give
 abbrev pub FileRows : List (List ℕ) → List Provable → Type 0
-FileRows lines rows = RowsOf SaysLine lines rows
+FileRows lines rows = RowsOf SaysInFile lines rows
 
 -- the steps that its lines say
 abbrev pub FileSteps : List (List ℕ) → List Step → Type 0
-FileSteps lines steps = SaySteps SaysLine [] lines steps
+FileSteps lines steps = SaySteps SaysInFile [] lines steps

@@ -1,3 +1,5 @@
+pub mod Formats
 pub mod Files
+pub mod Symbols
 pub mod Replay
 pub mod Examples

@@ -15,7 +15,7 @@ pub struct Ending {
     pub fact: Fact,
     /// The number of rows, which is that of the lines of steps.
     pub lines: u32,
-    /// The line of the last row, counted from 1.
+    /// The place in the file of the last row's line, counted from 1.
     pub line: usize,
 }
 
@@ -26,7 +26,7 @@ pub struct Outcome {
     pub fact: Fact,
     /// The number of rows, which is that of the lines of steps.
     pub lines: u32,
-    /// The line of the last row, counted from 1.
+    /// The place in the file of the last row's line, counted from 1.
     pub line: usize,
     /// The steps, one for each row, with ids of the kernel's store.
     pub steps: Vec<Step>,
@@ -35,9 +35,9 @@ pub struct Outcome {
 /// Why a line is not as it must be, in the order in which it is looked for.
 #[derive(Clone, Copy, Debug, PartialEq, Eq)]
 pub enum LineWhy {
-    /// It is no line of a proof-term file, is `done` before any step, or follows `done`.
+    /// It is no line of a file of its version, is `done` before any step, or follows `done`.
     Malformed,
-    /// Its number is not its place in the file.
+    /// Its number is not the next one of its kind: steps and nodes are each numbered from 1 on.
     WrongNumber,
     /// The file ends where this line should stand.
     NoEnd,

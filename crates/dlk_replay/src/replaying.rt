@@ -10,6 +10,7 @@ ghost use Rattle.dlk_replay.specs.Replay.{IsReplayFaultOf, LeavesRows, Shows, En
 
 use crate::fault::{Ending, LineWhy, Outcome, ReplayFault};
 use crate::taking::{Taken, first_line, show_last, take_line};
+use crate::version::begin;
 use dlk_guard::{Unwatched, Watcher};
 use dlk_kernel::Kernel;
 use dlk_rules::{Step, step_stays};
@@ -17,7 +18,7 @@ use dlk_store::{Steps, Store};
 use std::alloc::{AllocError, Global};
 use std::sync::ledger::Ledger;
 
-/// Takes the steps of a proof-term file on a kernel without rows, and keeps them. Each line is read once.
+/// Takes the steps of a proof-term file of either version on a kernel without rows, and keeps them. Each line is read once.
 ///
 /// # Errors
 ///
@@ -107,18 +108,18 @@ fn take_lines<S: Store, L: Ledger, W: Watcher>(
 {
     step_stays();
     let mut kept = Vec::new(alloc);
-    let mut left = bytes;
-    let mut place = 0;
+    let (mut version, mut left, mut place) = begin(alloc, bytes);
     let mut last = 0;
     while !left.is_empty() {
         let (line, behind) = first_line(left);
+        left = behind;
         place += 1;
-        match take_line(alloc, line, place, kernel, steps)? {
+        match take_line(alloc, line, place, &mut version, kernel, steps)? {
+            Taken::Node => {}
             Taken::Step(step) => {
                 show_last(alloc, kernel, &step, watcher, steps)?;
                 last = place;
                 keep_step(keep, &mut kept, step)?;
-                left = behind;
             }
             Taken::Done => {
                 let end = end_at(place, kernel.rows(), last, behind)?;

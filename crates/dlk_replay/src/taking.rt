@@ -1,16 +1,23 @@
 //! One line of a file.
-ghost use Rattle.std.specs.Prelude.{◌≡◌, ◌<◌, ◌≤◌, ◌∷◌, ℕ, List, length, OnOk, IfOk, IfErr, OnErr};
+ghost use Rattle.std.specs.Prelude.{◌≡◌, ◌<◌, ◌≤◌, ◌+◌, ◌∷◌, ◌++◌, [], ℕ, List, length, false, All, OnOk, IfOk, IfErr, OnErr};
 ghost use Rattle.std.specs.List.{position_or_len};
+ghost use Rattle.dlk_calculus.specs.Steps.{Adds};
+ghost use Rattle.dlk_store.specs.Stores.{IsId};
 ghost use Rattle.dlk_rules.specs.Steps.{step_at, HasKnownIds};
 ghost use Rattle.dlk_kernel.specs.Kernel.{facts};
+ghost use Rattle.dlk_nodes.specs.Lines.{IsLine};
+ghost use Rattle.dlk_nodes.specs.Tables.{nodes_at, has};
+ghost use Rattle.dlk_replay.specs.declared.version.Version.TheVariants.{One, Two};
 ghost use Rattle.dlk_replay.specs.Files.{file_lines, is_line_feed};
-ghost use Rattle.dlk_replay.specs.Replay.{IsLineFault, Takes, SeesLast};
+ghost use Rattle.dlk_replay.specs.Replay.{IsLineInFull, IsLineOf, nodes_of, AreKnownNodes, IsLineFault, IsStepFault, IsNodeFault, Takes, SeesLast};
 
 use crate::fault::{LineWhy, ReplayFault};
+use crate::version::Version;
 use dlk_guard::Watcher;
 use dlk_kernel::{Kernel, StepFault};
+use dlk_nodes::{Line2, NodeFault, NodeTable, read_node_line};
 use dlk_rules::{Step, step_stays};
-use dlk_store::{Steps, Store};
+use dlk_store::{Id, Steps, Store};
 use dlk_termtext::{Line, LineFault, read_line};
 use std::alloc::{AllocError, Global};
 use std::sync::ledger::Ledger;
@@ -20,42 +27,53 @@ use std::sync::ledger::Ledger;
 pub(crate) enum Taken {
     /// This step, which it says, was taken.
     Step(Step),
+    /// The node that it says was put behind the others.
+    Node,
     /// It is `done`.
     Done,
 }
 
-/// Reads the line at this place of a file, and takes its step.
+/// Reads the line at this place of a file of this version, and takes its step or its node.
 pub(crate) fn take_line<S: Store, L: Ledger>(
+    alloc: Global,
+    line: &[u8],
+    place: usize,
+    version: &mut Version,
+    kernel: &mut Kernel<S>,
+    steps: &mut Steps<L>,
+) -> Result<Taken, ReplayFault>
+    requires { AreKnownNodes (S.trees kernel.old.store) version.old }
+    ensures taken { IfOk result (Takes (S.trees kernel.old.store) (S.trees kernel.new.store) version.old version.new (facts S.trees kernel.old) line.now (facts S.trees kernel.new)) }
+    ensures nodes { OnOk result (AreKnownNodes (S.trees kernel.new.store) version.new) }
+    ensures fault { IfErr result (IsLineFault (IsLineOf (S.trees kernel.old.store) version.old) (nodes_of version.old) place (facts S.trees kernel.old) line.now) }
+    ensures err { OnErr result (facts S.trees kernel.new ≡ facts S.trees kernel.old) }
+    ensures grows { S.grows kernel.old.store kernel.new.store }
+{
+    match version {
+        Version::One => take_in_full(alloc, line, place, kernel, steps),
+        Version::Two(table) => take_by_nodes(alloc, line, place, table, kernel, steps),
+    }
+}
+
+/// Reads the line at this place of a file of version 1, and takes its step.
+fn take_in_full<S: Store, L: Ledger>(
     alloc: Global,
     line: &[u8],
     place: usize,
     kernel: &mut Kernel<S>,
     steps: &mut Steps<L>,
 ) -> Result<Taken, ReplayFault>
-    ensures taken { IfOk result (Takes (S.trees kernel.new.store) (facts S.trees kernel.old) line.now (facts S.trees kernel.new)) }
-    ensures fault { IfErr result (IsLineFault place (facts S.trees kernel.old) line.now) }
+    ensures taken { IfOk result (Takes (S.trees kernel.old.store) (S.trees kernel.new.store) One One (facts S.trees kernel.old) line.now (facts S.trees kernel.new)) }
+    ensures fault { IfErr result (IsLineFault IsLineInFull 0 place (facts S.trees kernel.old) line.now) }
     ensures err { OnErr result (facts S.trees kernel.new ≡ facts S.trees kernel.old) }
     ensures grows { S.grows kernel.old.store kernel.new.store }
 {
     step_stays();
-    let next = kernel.rows() + 1;
     match read_line(alloc, line, kernel) {
         Ok(Line::Done) => Ok(Taken::Done),
         Ok(Line::Step { number, step }) => {
-            if number != next {
-                return Err(ReplayFault::Bad {
-                    line: place,
-                    why: LineWhy::WrongNumber,
-                });
-            }
-            match kernel.step(alloc, &step, steps) {
-                Ok(_) => Ok(Taken::Step(step)),
-                Err(StepFault::Refused(reason)) => Err(ReplayFault::Bad {
-                    line: place,
-                    why: LineWhy::Step(reason),
-                }),
-                Err(StepFault::Memory) => Err(ReplayFault::Memory),
-            }
+            take_step(alloc, &step, number, place, kernel, steps)?;
+            Ok(Taken::Step(step))
         }
         Err(LineFault::Malformed) => Err(ReplayFault::Bad {
             line: place,
@@ -63,6 +81,93 @@ pub(crate) fn take_line<S: Store, L: Ledger>(
         }),
         Err(LineFault::Memory) => Err(ReplayFault::Memory),
     }
+}
+
+/// Reads the line at this place of a file of version 2, and takes its step, or puts its node behind those of the table.
+fn take_by_nodes<S: Store, L: Ledger>(
+    alloc: Global,
+    line: &[u8],
+    place: usize,
+    table: &mut NodeTable,
+    kernel: &mut Kernel<S>,
+    steps: &mut Steps<L>,
+) -> Result<Taken, ReplayFault>
+    requires { All (IsId (S.trees kernel.old.store)) table.old }
+    ensures taken { IfOk result (Takes (S.trees kernel.old.store) (S.trees kernel.new.store) (Two table.old) (Two table.new) (facts S.trees kernel.old) line.now (facts S.trees kernel.new)) }
+    ensures nodes { OnOk result (All (IsId (S.trees kernel.new.store)) table.new) }
+    ensures fault { IfErr result (IsLineFault (IsLine (nodes_at (S.trees kernel.old.store) table.old)) (length table.old) place (facts S.trees kernel.old) line.now) }
+    ensures err { OnErr result (facts S.trees kernel.new ≡ facts S.trees kernel.old) }
+    ensures grows { S.grows kernel.old.store kernel.new.store }
+{
+    step_stays();
+    let _rows = kernel.rows();
+    match read_node_line(alloc, line, table, kernel, steps) {
+        Ok(Line2::Done) => Ok(Taken::Done),
+        Ok(Line2::Node { number, id }) => {
+            take_node(number, id, place, table)?;
+            Ok(Taken::Node)
+        }
+        Ok(Line2::Step { number, step }) => {
+            take_step(alloc, &step, number, place, kernel, steps)?;
+            Ok(Taken::Step(step))
+        }
+        Err(NodeFault::Malformed) => Err(ReplayFault::Bad {
+            line: place,
+            why: LineWhy::Malformed,
+        }),
+        Err(NodeFault::Memory) => Err(ReplayFault::Memory),
+    }
+}
+
+/// Takes a step whose line stands at this place, if the number of the line is its own.
+fn take_step<S: Store, L: Ledger>(
+    alloc: Global,
+    step: &Step,
+    number: u32,
+    place: usize,
+    kernel: &mut Kernel<S>,
+    steps: &mut Steps<L>,
+) -> Result<(), ReplayFault>
+    requires { HasKnownIds (S.trees kernel.old.store) step.now }
+    ensures number { OnOk result (number ≡ length kernel.old.rows + 1) }
+    ensures adds { OnOk result (Adds (facts S.trees kernel.old) (step_at (S.trees kernel.old.store) step.now) (facts S.trees kernel.new)) }
+    ensures fault { IfErr result (IsStepFault place number (facts S.trees kernel.old) (step_at (S.trees kernel.old.store) step.now)) }
+    ensures err { OnErr result (facts S.trees kernel.new ≡ facts S.trees kernel.old) }
+    ensures grows { S.grows kernel.old.store kernel.new.store }
+{
+    if number != kernel.rows() + 1 {
+        return Err(ReplayFault::Bad {
+            line: place,
+            why: LineWhy::WrongNumber,
+        });
+    }
+    match kernel.step(alloc, step, steps) {
+        Ok(_) => Ok(()),
+        Err(StepFault::Refused(reason)) => Err(ReplayFault::Bad {
+            line: place,
+            why: LineWhy::Step(reason),
+        }),
+        Err(StepFault::Memory) => Err(ReplayFault::Memory),
+    }
+}
+
+/// Puts a node, whose line stands at this place, behind those of the table, if the number of the line is its own.
+fn take_node(number: u32, id: Id, place: usize, table: &mut NodeTable) -> Result<(), ReplayFault>
+    requires { has table.old id ≡ false }
+    ensures number { OnOk result (number ≡ length table.old + 1) }
+    ensures added { OnOk result (table.new ≡ table.old ++ id ∷ []) }
+    ensures fault { IfErr result (IsNodeFault place number (length table.old)) }
+{
+    let Ok(own) = table.add(id) else {
+        return Err(ReplayFault::Memory);
+    };
+    if number as usize != own {
+        return Err(ReplayFault::Bad {
+            line: place,
+            why: LineWhy::WrongNumber,
+        });
+    }
+    Ok(())
 }
 
 /// Shows a watcher the step that was taken last, with the conclusion of the row that it gave.

@@ -91,6 +91,13 @@ const THREE: Ending = Ending {
     line: 3,
 };
 
+/// What becomes of a file of version 2 whose last step stands in its eighth line.
+const EIGHT: Ending = Ending {
+    fact: 3,
+    lines: 3,
+    line: 8,
+};
+
 #[test]
 fn replays_files(rt: HostRuntime) -> Result<(), Fail> {
     for (file, want) in &[
@@ -164,6 +171,117 @@ fn replays_files(rt: HostRuntime) -> Result<(), Fail> {
     Ok(())
 }
 
+/// A file of version 2 before its first step.
+const NODES: &str = "dlk 2\nnode 1 var x\nnode 2 num 0\nnode 3 ge 1 2\nnode 4 imply 3 3\n";
+
+#[test]
+fn replays_files_of_version_2(rt: HostRuntime) -> Result<(), Fail> {
+    for (steps, want) in &[
+        (
+            "1 start ==> 4\n2 apply 1 1 implyR(1)\n3 apply 2 1 close(1,1)\ndone\n",
+            Ok(EIGHT),
+        ),
+        (
+            "1 start ==> 4\n2 apply 1 1 implyR(1)\n3 apply 2 1 close(1,1)\nnode 5 true\ndone",
+            Ok(EIGHT),
+        ),
+        (
+            "node 5 ge 1 2\n1 start ==> 4\n",
+            Err(Bad {
+                line: 6,
+                why: Malformed,
+            }),
+        ),
+        (
+            "3 start ==> 4\n",
+            Err(Bad {
+                line: 6,
+                why: WrongNumber,
+            }),
+        ),
+        (
+            "node 6 true\n",
+            Err(Bad {
+                line: 6,
+                why: WrongNumber,
+            }),
+        ),
+        (
+            "node 6 nonsense\n",
+            Err(Bad {
+                line: 6,
+                why: Malformed,
+            }),
+        ),
+        (
+            "1 start ==> 4\n2 apply 1 1 implyR(1)\n3 apply 2 1 close(1,1)\n",
+            Err(Bad {
+                line: 9,
+                why: NoEnd,
+            }),
+        ),
+        (
+            "1 start ==> 4\n2 apply 1 1 close(1,1)\n",
+            Err(Bad {
+                line: 7,
+                why: LineWhy::Step(Reason::NoPlace),
+            }),
+        ),
+        (
+            "1 start ==> 4\ndone\nnode 5 true\n",
+            Err(Bad {
+                line: 8,
+                why: Malformed,
+            }),
+        ),
+        (
+            "done\n",
+            Err(Bad {
+                line: 6,
+                why: Malformed,
+            }),
+        ),
+        (
+            "dlk 2\n",
+            Err(Bad {
+                line: 6,
+                why: Malformed,
+            }),
+        ),
+        (
+            "1 start ==> x>=0 -> x>=0\ndone\n",
+            Err(Bad {
+                line: 6,
+                why: Malformed,
+            }),
+        ),
+    ] {
+        let file = format!(in rt.alloc(); "{NODES}{steps}")?;
+        same(&rt, fate(rt.alloc(), file.as_bytes()), *want, steps);
+    }
+    Ok(())
+}
+
+#[test]
+fn finds_the_version(rt: HostRuntime) -> Result<(), Fail> {
+    for (file, line, why) in &[
+        ("dlk 2", 2, NoEnd),
+        ("dlk 2\n", 2, NoEnd),
+        ("dlk 2\r\n1 start ==> x>=0\ndone\n", 1, Malformed),
+        ("dlk 1\n1 start ==> x>=0\ndone\n", 1, Malformed),
+        ("dlk 2\n1 start ==> x>=0\ndone\n", 2, Malformed),
+        ("1 start ==> x>=0\ndlk 2\ndone\n", 2, Malformed),
+        ("1 start ==> x>=0\nnode 1 true\ndone\n", 2, Malformed),
+    ] {
+        let want = Err(Bad {
+            line: *line,
+            why: *why,
+        });
+        same(&rt, fate(rt.alloc(), file.as_bytes()), want, file);
+    }
+    Ok(())
+}
+
 #[test]
 fn keeps_steps(rt: HostRuntime) -> Result<(), Fail> {
     let file = "1 start ==> x>=0 -> x>=0\n2 apply 1 1 implyR(1)\n3 apply 2 1 close(1,1)\ndone\n";
@@ -184,6 +302,10 @@ fn guards_files(rt: HostRuntime) -> Result<(), Fail> {
             Ok(Some(2)),
         ),
         ("1 axiom DI\n2 axiom DW\ndone\n", Ok(None)),
+        (
+            "dlk 2\n1 axiom DW\nnode 1 true\n2 axiom Dforall\n3 axiom DW\ndone\n",
+            Ok(Some(2)),
+        ),
         ("1 axiom DW\n2 axiom DI\ndone\n", Ok(Some(2))),
         (
             "1 axiom Dforall\n",

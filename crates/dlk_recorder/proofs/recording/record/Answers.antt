@@ -1,20 +1,33 @@
-use Rattle.std.proofs.Common.{◌≡◌, ℕ, ◌+◌, List, [], ◌∷◌, ◌++◌, map, ap, ◌∙◌, arith}
+use Rattle.std.proofs.Common.{◌≡◌, ◌+◌, true, ◌++◌, map, Result, Ok, Err, ap, ◌∙◌, arith}
+use Rattle.std.specs.Prelude.{OnOk, is_ok}
 use Rattle.dlk_rules.specs.Steps.{step_at}
-use Rattle.dlk_termtext.specs.Written.{line_text}
+use Rattle.dlk_nodes.specs.Tables.{nodes_at}
+use Rattle.dlk_nodes.specs.TermFiles.{its_lines, ended}
 use Rattle.dlk_recorder.specs.Terms.{term_text}
-use Rattle.dlk_recorder.proofs.Kept.{kept_line}
+use Rattle.dlk_recorder.proofs.Kept.{kept_step}
 use Rattle.dlk_recorder.proofs.recording.record.Goals as goal
+
+when_ok : {T E P : Type 0} (r : Result T E) → true ≡ is_ok r → OnOk r P → P
+when_ok (Ok x) e h = h
+when_ok (Err d) e h = absurd (cc e)
 
 pub loop-i-preserved : goal.loop-i-preserved
 loop-i-preserved g c =
-    let line = line_text (c.loop-i.i + 1) (step_at (g.S.Store.trees c.args.store.now) c.index-taken-i.result) in
-    let emptied : c.write_line.new.out.items ≡ line = c.in_ok-write_line.ensures.ok ∙ ap (λ (l : List ℕ). l ++ line) c.clear.ensures.items in
-    let written : c.append.new.out.items ≡ line ++ 10 ∷ [] = c.in_ok-append.ensures.ok ∙ ap (λ (l : List ℕ). l ++ 10 ∷ []) emptied in
-    let room = c.append.new.out.ok in
-    let small = c.append.new.out.small in
+    let trees = g.S.Store.trees c.args.store.now in
+    let stands = step_at trees in
+    let nodes = nodes_at trees c.loop-i.table in
+    let out = c.write_step-written.new.out in
+    let lines = ended (its_lines nodes (c.loop-i.i + 1) (stands c.index-taken-i.result)) in
+    let ok : true ≡ is_ok c.write_step-written.result = c.in_ok-map_err.ensures.variant in
+    let written : out.items ≡ lines = when_ok c.write_step-written.result ok c.write_step-written.ensures.text ∙ ap (λ l. l ++ lines) c.clear.ensures.items in
+    let after = when_ok c.write_step-written.result ok c.write_step-written.ensures.nodes in
+    let room = out.ok in
+    let small = out.small in
     record {
-      text = kept_line (step_at (g.S.Store.trees c.args.store.now)) c.args.taken.now c.loop-i.i c.index-taken-i.result c.loop-i.text.items c.append.new.out.items
-          c.in_ok-text.text.items (term_text (map (step_at (g.S.Store.trees c.args.store.now)) c.args.taken.now)) c.loop-i.bytes (c.loop-i.bytes + c.len.result) c.args.limit c.loop-i-test.true c.index-taken-i.is c.loop-i.invariant.text
-          written (ap (λ k. c.loop-i.bytes + k) (c.len.ensures ∙ room.0)) (λ le. c.in_ok-text.ensures le ∙ ap (λ (l : List ℕ). c.loop-i.text.items ++ l) c.deref.ensures.value);
+      text = kept_step stands c.args.taken.now c.loop-i.i c.index-taken-i.result nodes (nodes_at trees c.write_step-written.new.table) c.loop-i.text.items out.items
+          c.in_ok-text-2.text.items (term_text (map stands c.args.taken.now)) c.loop-i.bytes (c.loop-i.bytes + c.len.result) c.args.limit c.loop-i-test.true
+          c.index-taken-i.is c.loop-i.invariant.text written after (ap (λ k. c.loop-i.bytes + k) (c.len.ensures ∙ room.0))
+          (λ le. c.in_ok-text-2.ensures.within le ∙ ap (λ l. c.loop-i.text.items ++ l) c.deref.ensures.value);
+      known = c.write_step-written.ensures.known;
       low = omega (arith, c.loop-i.invariant.low, c.len.ensures, room.0, room.1, small);
     }

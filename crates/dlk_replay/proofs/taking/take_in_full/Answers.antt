@@ -1,0 +1,16 @@
+use Rattle.std.proofs.lemmas.Result.{err_from_is_err_and}
+use Rattle.dlk_rules.specs.Steps.{step_at}
+use Rattle.dlk_kernel.specs.Kernel.{facts}
+use Rattle.dlk_replay.specs.Replay.{IsLineInFull}
+use Rattle.dlk_replay.proofs.TakenLine.{step_wrong}
+use Rattle.dlk_replay.proofs.taking.take_in_full.Goals as goal
+
+pub returns-in_err-take_step-in-Ok-Step-clause-fault : goal.returns-in_err-take_step-in-Ok-Step-clause-fault
+returns-in_err-take_step-in-Ok-Step-clause-fault g c =
+    let p = err_from_is_err_and c.from_residual.result c.from_residual.ensures.1 in
+    let trees = g.S.Store.trees c.read_line.new.store.store in
+    let rows = facts g.S.Store.trees c.args.kernel.now in
+    let read = facts g.S.Store.trees c.read_line.new.store in
+    let is = rw c.in-Ok-Step.field-0-is at c.in-Ok-Step.ensures.found in
+    rw (p.1, p.2) (step_wrong IsLineInFull c.args.line.now 0 c.args.place c.in-Ok-Step.number rows read (step_at trees c.in-Ok-Step.step) _ is
+    c.read_line.ensures.grows.1.provables c.in_err-take_step-in-Ok-Step.ensures.fault)

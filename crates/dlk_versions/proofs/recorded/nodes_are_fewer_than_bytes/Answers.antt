@@ -1,5 +1,0 @@
-use Rattle.dlk_versions.proofs.FewNodes as law
-use Rattle.dlk_versions.proofs.recorded.nodes_are_fewer_than_bytes.Goals as goal
-
-pub returns : goal.returns
-returns c = law.few_nodes

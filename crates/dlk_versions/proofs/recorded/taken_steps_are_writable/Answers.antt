@@ -1,5 +1,0 @@
-use Rattle.dlk_versions.proofs.TakenWritable as law
-use Rattle.dlk_versions.proofs.recorded.taken_steps_are_writable.Goals as goal
-
-pub returns : goal.returns
-returns c = law.taken_steps_writable
