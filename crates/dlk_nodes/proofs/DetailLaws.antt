@@ -30,7 +30,7 @@ use Rattle.dlk_nodes.proofs.Numbered.{behind_parts}
 abbrev pub Uncut : ℕ → List ℕ → Type 0
 Uncut byte text = (front rest : List ℕ) → text ≢ front ++ byte ∷ rest
 
-not_lacking : (byte : ℕ) (text front rest : List ℕ) → (byte == byte) ≡ true → CutAt text byte front rest → lacks byte text ≡ true → ⊥
+pub not_lacking : (byte : ℕ) (text front rest : List ℕ) → (byte == byte) ≡ true → CutAt text byte front rest → lacks byte text ≡ true → ⊥
 not_lacking byte text front rest same cut h =
     let all : list_all (λ c. not (c == byte)) (front ++ byte ∷ rest) ≡ true = ap (lacks byte) (sym cut.text_is) ∙ h in
     let w = and_parts (lacks byte front) (lacks byte (byte ∷ rest)) (sym (list_all-append (λ c. not (c == byte)) front (byte ∷ rest)) ∙ all) in

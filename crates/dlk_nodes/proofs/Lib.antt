@@ -29,3 +29,14 @@ pub mod OneLine
 pub mod PartsRead
 pub mod Recordings
 pub mod TermRecorded
+pub mod SidesRead
+pub mod SymbolForms
+pub mod PairsFound
+pub mod FormulasRead
+pub mod Begun
+pub mod LastKid
+pub mod SomeTrees
+pub mod KidsBefore
+pub mod StepLines
+pub mod Stripped
+pub mod LineRead

@@ -49,7 +49,7 @@ module _ (nodes : List Tree) where
   pub one_line : (text : List ℕ) (a b : Line) → IsLine nodes text a → IsLine nodes text b → a ≡ b
   one_line text a b x y = one_says text a b (line_says text a x) (line_says text b y)
 
-  none_says : (text : List ℕ) → ((m : ℕ) (t : Tree) → ¬ IsNodeLine nodes text m t) → ((m : ℕ) (s : Step) → ¬ IsStepLine (ByNodes nodes) text m s) →
+  pub none_says : (text : List ℕ) → ((m : ℕ) (t : Tree) → ¬ IsNodeLine nodes text m t) → ((m : ℕ) (s : Step) → ¬ IsStepLine (ByNodes nodes) text m s) →
       ¬ (text ≡ codes "done") → (line : Line) → ¬ Says text line
   none_says text no_node no_step not_done (OfNode m t) is = no_node m t is
   none_says text no_node no_step not_done (Numbered m s) is = no_step m s is

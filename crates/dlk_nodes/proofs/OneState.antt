@@ -33,6 +33,13 @@ no_digits (b ∷ digits) rest behind some all e =
     let digit : is_digit 110 ≡ true = subst (λ c. is_digit c ≡ true) first (and_parts (is_digit b) (list_all is_digit digits) all).0 in
     cc digit
 
+-- a line that begins with the word of a node is no step
+pub step_is_other : (nodes : List Tree) (line behind : List ℕ) → line ≡ codes "node " ++ behind → (n : ℕ) (s : Step) → ¬ IsStepLine (ByNodes nodes) line n s
+step_is_other nodes line behind e n s b =
+    let q = (forms.line_parts (ByNodes nodes) line n s b).number_is in
+    let d = number_parts q.digits n q.is_number in
+    no_digits q.digits (32 ∷ (forms.line_parts (ByNodes nodes) line n s b).rest) behind d.some d.digits (sym q.text_is ∙ e)
+
 pub node_or_step : (nodes : List Tree) (line : List ℕ) (m n : ℕ) (t : Tree) (s : Step) → IsNodeLine nodes line m t → IsStepLine (ByNodes nodes) line n s → ⊥
 node_or_step nodes line m n t s a b =
     let p = line_parts nodes line m t a in

@@ -34,28 +34,28 @@ use Rattle.dlk_nodes.proofs.OneNode.{node_parts, line_parts, same_behind, same_p
 
 -- ---- what is decided
 
-abbrev Known : Type 0 → Type 0
+abbrev pub Known : Type 0 → Type 0
 Known A = A ⊎ (¬ A)
 
-both : {A B : Type 0} → Known A → Known B → Known (A × B)
+pub both : {A B : Type 0} → Known A → Known B → Known (A × B)
 both (inl a) (inl b) = inl (a, b)
 both (inl a) (inr no_b) = inr (λ p. no_b p.1)
 both (inr no_a) b = inr (λ p. no_a p.0)
 
-by_test : {A : Type 0} (b : Bool) → Decides b A → Known A
+pub by_test : {A : Type 0} (b : Bool) → Decides b A → Known A
 by_test true d = inl (d.0 refl)
 by_test false d = inr (λ a. let e : false ≡ true = d.1 a in absurd (cc e))
 
-is_equal : (b c : Bool) → Known (b ≡ c)
+pub is_equal : (b c : Bool) → Known (b ≡ c)
 is_equal true true = inl refl
 is_equal true false = inr (λ e. cc e)
 is_equal false true = inr (λ e. cc e)
 is_equal false false = inl refl
 
-at_most : (m n : ℕ) → Known (m ≤ n)
+pub at_most : (m n : ℕ) → Known (m ≤ n)
 at_most m n = elim (cases_lt n m) [ inl less ↦ inr (λ le. omega (arith, less, le)) | inr le ↦ inl le ]
 
-known_number : (text : List ℕ) → ((n : ℕ) × IsNumber text n) ⊎ ((n : ℕ) → ¬ IsNumber text n)
+pub known_number : (text : List ℕ) → ((n : ℕ) × IsNumber text n) ⊎ ((n : ℕ) → ¬ IsNumber text n)
 known_number [] = inr none
   where
     none : (n : ℕ) → ¬ IsNumber [] n
@@ -75,7 +75,7 @@ known_takes (op.Variable v) n = inl tt
 known_takes _ n = inl tt
 
 -- a cut at the first of these bytes
-known_cut : (byte : ℕ) (text : List ℕ) → ((front : List ℕ) × (rest : List ℕ) × CutAt text byte front rest) ⊎ ((front rest : List ℕ) →
+pub known_cut : (byte : ℕ) (text : List ℕ) → ((front : List ℕ) × (rest : List ℕ) × CutAt text byte front rest) ⊎ ((front rest : List ℕ) →
     text ≢ front ++ byte ∷ rest)
 known_cut byte text = by_place (position (λ b. b == byte) text) refl
   where
@@ -85,7 +85,7 @@ known_cut byte text = by_place (position (λ b. b == byte) text) refl
     by_place None e = inr (cut_nowhere text byte e)
 
 -- a word at the front
-known_front : (word text : List ℕ) → Known ((rest : List ℕ) × (text ≡ word ++ rest))
+pub known_front : (word text : List ℕ) → Known ((rest : List ℕ) × (text ≡ word ++ rest))
 known_front [] text = inl (text, refl)
 known_front (b ∷ word) [] = inr (λ w. let none : [] ≡ b ∷ (word ++ w.0) = w.1 in cc none)
 known_front (b ∷ word) (c ∷ text) = elim (by_test (c == b) (Decides-eqb c b)) [
@@ -99,7 +99,7 @@ known_front (b ∷ word) (c ∷ text) = elim (by_test (c == b) (Decides-eqb c b)
 module _ (nodes : List Tree) where
   -- ---- kids
 
-  known_name : (text : List ℕ) → ((t : Tree) × Names nodes text t) ⊎ ((t : Tree) → ¬ Names nodes text t)
+  pub known_name : (text : List ℕ) → ((t : Tree) × Names nodes text t) ⊎ ((t : Tree) → ¬ Names nodes text t)
   known_name text = elim (known_number text) [
     | inl is ↦ by_item is.0 is.1 (at nodes is.0) refl
     | inr none ↦ inr (λ t name. none name.number name.is_number)
@@ -112,7 +112,7 @@ module _ (nodes : List Tree) where
           let clash : None ≡ Some t = sym e ∙ sym (ap (at nodes) same) ∙ name.there in
           absurd (cc clash))
 
-  known_names : (fs : List (List ℕ)) → ((ts : List Tree) × Each (Names nodes) fs ts) ⊎ ((ts : List Tree) → ¬ Each (Names nodes) fs ts)
+  pub known_names : (fs : List (List ℕ)) → ((ts : List Tree) × Each (Names nodes) fs ts) ⊎ ((ts : List Tree) → ¬ Each (Names nodes) fs ts)
   known_names [] = inl ([], tt)
   known_names (f ∷ fs) = elim (known_name f) [
     | inl first ↦ elim (known_names fs) [

@@ -17,11 +17,11 @@ use Rattle.dlk_nodes.proofs.OpsBack.{name_lacks, symbol_parts, called, bare, uni
 
 -- ---- the dots behind a name
 
-arity_in : List ℕ → ℕ
+pub arity_in : List ℕ → ℕ
 arity_in [] = 0
 arity_in (c ∷ text) = if c == 41 then 0 else length (parts_of 44 (c ∷ text))
 
-record DotsText (n : ℕ) : Type 0 where
+pub record DotsText (n : ℕ) : Type 0 where
   pub rest : List ℕ
   pub text_is : spell (dots n) ≡ 40 ∷ rest
   pub no_bar : lacks 124 rest ≡ true
@@ -30,7 +30,7 @@ record DotsText (n : ℕ) : Type 0 where
   pub no_feed : lacks 10 rest ≡ true
   pub count : arity_in rest ≡ n
 
-dots_text : (n : ℕ) → n ≤ 8 → DotsText n
+pub dots_text : (n : ℕ) → n ≤ 8 → DotsText n
 unfolding digits arity_in
 dots_text zero h = record { rest = codes ")"; text_is = refl; no_bar = refl; no_round = refl; no_tilde = refl; no_feed = refl; count = refl }
 dots_text (suc zero) h = record { rest = codes "._0)"; text_is = refl; no_bar = refl; no_round = refl; no_tilde = refl; no_feed = refl; count = refl }

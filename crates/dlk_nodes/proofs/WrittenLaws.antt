@@ -9,7 +9,10 @@ use Rattle.dlk_store.specs.declared.Id.{Id}
 use Rattle.dlk_store.specs.Stores.{tree, kid_trees}
 use Rattle.dlk_print.proofs.Left.{Left, unbegun, same_rest}
 use Rattle.dlk_nodes.specs.Words.{with_taboo, item_text}
-use Rattle.dlk_lines.specs.Written.{number_text}
+use Rattle.dlk_sequent.specs.declared.subst.Pair.{Pair}
+use Rattle.dlk_sequent.specs.Substitutions.{pair_at, pairs_at}
+use Rattle.dlk_lines.specs.Written.{number_text, numbers_text, numbers_before, pair_text}
+use Rattle.dlk_nodes.specs.Tables.{nodes_at}
 use Rattle.dlk_nodes.specs.Written.{kids_text}
 
 -- what comes behind a name
@@ -58,3 +61,53 @@ module _ (trees : List Tree) (nodes : List Tree) where
 pub line_left : (old number op kids : List ℕ) → Left old (codes "node " ++ number ++ codes " " ++ (op ++ kids)) old (codes "node " ++ (number ++
     (codes " " ++ (op ++ kids))))
 line_left old number op kids = unbegun old (simp append_assoc)
+
+-- ---- the trees of a step
+
+module _ (trees : List Tree) (nodes : List Tree) where
+  pub numbers_left : {old text now : List ℕ} (ids : List Id) (k : ℕ) (d : Id) → k < length ids →
+      Left old text now (numbers_text nodes (nodes_at trees (drop k ids))) →
+      Left old text now (codes " " ++ (number_text nodes (tree trees (get_or ids k d)) ++ numbers_text nodes (nodes_at trees (drop (k + 1) ids))))
+  numbers_left ids k d less left =
+      let e : numbers_text nodes (nodes_at trees (drop k ids)) ≡ codes " " ++ (number_text nodes (tree trees (get_or ids k d)) ++ numbers_text nodes
+      (nodes_at trees (drop (k + 1) ids))) =
+      ap (λ l. numbers_text nodes (nodes_at trees l)) (drop-cons ids k d less ∙ ap (λ n. get_or ids k d ∷ drop n ids) (sym (add-one k)))
+      ∙ simp append_assoc in
+      same_rest e left
+
+  pub no_numbers_left : {old text now : List ℕ} (ids : List Id) (k : ℕ) → length ids ≤ k →
+      Left old text now (numbers_text nodes (nodes_at trees (drop k ids))) → Left old text now []
+  no_numbers_left ids k le left = same_rest (ap (λ l. numbers_text nodes (nodes_at trees l)) (drop_all k ids le)) left
+
+  pub before_left : {old text now : List ℕ} (ids : List Id) (k : ℕ) (d : Id) → k < length ids →
+      Left old text now (numbers_before nodes (nodes_at trees (drop k ids))) →
+      Left old text now (number_text nodes (tree trees (get_or ids k d)) ++ (codes " " ++ numbers_before nodes (nodes_at trees (drop (k + 1) ids))))
+  before_left ids k d less left =
+      let e : numbers_before nodes (nodes_at trees (drop k ids)) ≡ number_text nodes (tree trees (get_or ids k d)) ++ (codes " " ++ numbers_before nodes
+      (nodes_at trees (drop (k + 1) ids))) =
+      ap (λ l. numbers_before nodes (nodes_at trees l)) (drop-cons ids k d less ∙ ap (λ n. get_or ids k d ∷ drop n ids) (sym (add-one k)))
+      ∙ simp append_assoc in
+      same_rest e left
+
+  pub none_before_left : {old text now : List ℕ} (ids : List Id) (k : ℕ) → length ids ≤ k →
+      Left old text now (numbers_before nodes (nodes_at trees (drop k ids))) → Left old text now []
+  none_before_left ids k le left = same_rest (ap (λ l. numbers_before nodes (nodes_at trees l)) (drop_all k ids le)) left
+
+  abbrev pub later_pairs : List Pair → List ℕ
+  later_pairs pairs = flat_map (λ p. codes "," ++ pair_text nodes p) (pairs_at trees pairs)
+
+  pub pairs_left : {old text now : List ℕ} (pairs : List Pair) (k : ℕ) (d : Pair) → k < length pairs → Left old text now (later_pairs (drop k pairs)) →
+      Left old text now (codes "," ++ (pair_text nodes (pair_at trees (get_or pairs k d)) ++ later_pairs (drop (k + 1) pairs)))
+  pairs_left pairs k d less left =
+      let e : later_pairs (drop k pairs) ≡ codes "," ++ (pair_text nodes (pair_at trees (get_or pairs k d)) ++ later_pairs (drop (k + 1) pairs)) =
+      ap later_pairs (drop-cons pairs k d less ∙ ap (λ n. get_or pairs k d ∷ drop n pairs) (sym (add-one k)))
+      ∙ append_assoc (codes ",") (pair_text nodes (pair_at trees (get_or pairs k d))) (later_pairs (drop (k + 1) pairs)) in
+      same_rest e left
+
+  pub no_pairs_left : {old text now : List ℕ} (pairs : List Pair) (k : ℕ) → length pairs ≤ k → Left old text now (later_pairs (drop k pairs)) →
+      Left old text now []
+  no_pairs_left pairs k le left = same_rest (ap later_pairs (drop_all k pairs le)) left
+
+-- three parts
+pub three_left : (old a b c : List ℕ) → Left old (a ++ b ++ c) old (a ++ (b ++ c))
+three_left old a b c = unbegun old (simp append_assoc)

@@ -15,3 +15,6 @@ pub mod Recorded
 pub mod TermFiles
 pub mod Read
 pub mod Put
+pub mod Sides
+pub mod Symbols
+pub mod FirstPair

@@ -27,3 +27,8 @@ LineIsKnown trees line.Done = Unit {0}
 abbrev pub of_line : LineFault → NodeFault
 of_line line_fault.Malformed = fault.Malformed
 of_line line_fault.Memory = fault.Memory
+
+-- and the other way round
+abbrev pub of_node : NodeFault → LineFault
+of_node fault.Malformed = line_fault.Malformed
+of_node fault.Memory = line_fault.Memory

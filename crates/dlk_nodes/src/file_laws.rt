@@ -6,7 +6,6 @@ ghost use Rattle.dlk_tree.specs.Trees.{Tree, sort};
 ghost use Rattle.dlk_calculus.specs.Pairs.{Pair, is_of_kind};
 ghost use Rattle.dlk_calculus.specs.Sequents.{Sequent};
 ghost use Rattle.dlk_calculus.specs.Steps.{Step};
-ghost use Rattle.dlk_lines.specs.Laws.{SaysOrNot};
 ghost use Rattle.dlk_lines.specs.Parts.{Lacks};
 ghost use Rattle.dlk_lines.specs.Spelled.{ByNodes, IsSequentText, IsFormulaText, ArePairsText};
 ghost use Rattle.dlk_lines.specs.Written.{sequent_text, formula_text, pairs_text, trees_in, replacements_in};
@@ -22,9 +21,9 @@ pub fn one_line()
     ensures { (nodes : List Tree) (text : List ℕ) (a b : Line) → IsLine nodes text a → IsLine nodes text b → a ≡ b }
 {}
 
-/// A text says a line, or it says none, where that is so of sequents, formulas and pairs.
+/// A text says a line, or it says none.
 pub fn some_line()
-    ensures { (nodes : List Tree) → SaysOrNot (ByNodes nodes) → (text : List ℕ) → ((line : Line) × IsLine nodes text line) ⊎ ((line : Line) → ¬ IsLine nodes text line) }
+    ensures { (nodes : List Tree) (text : List ℕ) → ((line : Line) × IsLine nodes text line) ⊎ ((line : Line) → ¬ IsLine nodes text line) }
 {}
 
 /// No line feed stands in a line.

@@ -20,7 +20,7 @@ fn are(text: &[u8], wanted: &[u8]) -> bool
 }
 
 /// The name and the taboo of a constant that the text spells.
-fn constant(alloc: Global, text: &[u8]) -> Result<(Name, Option<Name>), NodeFault>
+pub(crate) fn constant(alloc: Global, text: &[u8]) -> Result<(Name, Option<Name>), NodeFault>
     ensures found { IfOk result (SpellsConstant text.now) }
     ensures fault { IfErr result (IsNodeFaultOf ((u : List ℕ × Option (List ℕ)) → ¬ SpellsConstant text.now u)) }
 {

@@ -4,7 +4,7 @@ ghost use Rattle.dlk_tree.specs.Trees.{Tree};
 ghost use Rattle.dlk_calculus.specs.Steps.{Step};
 ghost use Rattle.dlk_lines.specs.Spelled.{ByNodes};
 ghost use Rattle.dlk_lines.specs.Lines.{IsStepLine};
-ghost use Rattle.dlk_lines.specs.Laws.{SaysOne};
+ghost use Rattle.dlk_lines.specs.Laws.{SaysOne, SaysOrNot};
 ghost use Rattle.dlk_nodes.specs.Nodes.{has_node, IsNodeLine};
 ghost use Rattle.dlk_nodes.specs.Files.{Has};
 ghost use Rattle.dlk_nodes.specs.Written.{numbered_text, node_text};
@@ -40,6 +40,11 @@ pub fn node_text_stays()
 /// By the numbers of nodes a text says at most one sequent, one formula and one list of pairs.
 pub fn one_by_nodes()
     ensures { (nodes : List Tree) → SaysOne (ByNodes nodes) }
+{}
+
+/// By the numbers of nodes a text says a sequent, a formula and a list of pairs, or it says none.
+pub fn some_by_nodes()
+    ensures { (nodes : List Tree) → SaysOrNot (ByNodes nodes) }
 {}
 
 /// A line of a file says at most one thing: it isn't the line of a node and that of a step, and `done` is neither.

@@ -2,6 +2,7 @@
 #![tactic(auto)]
 
 mod adding;
+mod by_nodes;
 mod calls;
 mod details;
 mod fault;
@@ -12,8 +13,12 @@ mod line;
 mod literals;
 mod node;
 mod numbers;
+mod pairs;
 mod parts;
 mod reading;
+mod sequents;
+mod spelling;
+mod symbols;
 mod table;
 mod term;
 mod words;

@@ -6,9 +6,12 @@ ghost use Rattle.dlk_nodes.specs.Lines.{Line as TreeLine, IsLine};
 ghost use Rattle.dlk_nodes.specs.Read.{line_at, LineIsKnown};
 ghost use Rattle.dlk_nodes.specs.Tables.{nodes_at};
 
+use crate::by_nodes::NodesRead;
 use crate::fault::NodeFault;
 use crate::line::Line2;
+use crate::node::node_line;
 use crate::table::NodeTable;
+use dlk_lines::read_step_line;
 use dlk_store::{Steps, Store};
 use std::alloc::Global;
 use std::sync::ledger::Ledger;
@@ -34,8 +37,14 @@ pub fn read_node_line<S: Store, L: Ledger>(
     ensures fault { IfErr result (IsNodeFaultOf ((l : TreeLine) → ¬ IsLine (nodes_at (S.trees store.old) table.now) line.now l)) }
     ensures grows { S.grows store.old store.new }
 {
-    let _store = store;
-    let _steps = steps;
-    let _parts = (alloc, line, table);
-    Err(NodeFault::Memory)
+    if line == b"done".as_slice() {
+        return Ok(Line2::Done);
+    }
+    if line.starts_with(b"node ".as_slice()) {
+        let (number, id) = node_line(alloc, line, table, store, steps)?;
+        return Ok(Line2::Node { number, id });
+    }
+    let mut spelled = NodesRead { table, steps };
+    let (number, step) = read_step_line(alloc, line, &mut spelled, store)?;
+    Ok(Line2::Step { number, step })
 }

@@ -168,7 +168,7 @@ fn append_op(out: &mut Vec<u8>, op: &Op) -> Result<(), PrintFault>
 }
 
 /// Appends the number of the tree's node, which counts from 1.
-fn append_place<S: Store>(
+pub(crate) fn append_place<S: Store>(
     store: &S,
     table: &NodeTable,
     id: Id,

@@ -57,7 +57,8 @@ module _ (before : List (List ℕ)) (text : List ℕ) where
     none = λ no_line s is. none_in_full no_line s (subst (λ b. MatchBool b (SaysNodeOrStep before text s) (SaysLine before text s)) one is);
   }
 
-  none_by_nodes : (nodes : List Tree) (steps : ℕ) → Has before nodes steps → ((line : Line) → ¬ IsLine nodes text line) → (s : Said) → ¬ SaysNodeOrStep before text s
+  none_by_nodes : (nodes : List Tree) (steps : ℕ) → Has before nodes steps → ((line : Line) → ¬ IsLine nodes text line) → (s : Said) →
+      ¬ SaysNodeOrStep before text s
   none_by_nodes nodes steps has no_line s is = elim (said_parts before text s is) [
     | inl first ↦ (let some = has_some before nodes steps has in let none : length before ≡ 0 = ap length first.0 in absurd (omega (arith, some, none)))
     | inr b ↦ no_line b.line (subst (λ n. IsLine n text b.line) (one_state before b.nodes nodes b.steps steps b.has has).0 b.is)
@@ -133,7 +134,8 @@ module _ (old new : List Tree) (keeps : Keeps old new) (all before : List (List 
 
 -- ---- what it tells of the next line
 
-module _ (Is : List ℕ → Line → Type 0) (nodes : ℕ) (before : List (List ℕ)) (rows : List Provable) (text : List ℕ) (t : Tells Is nodes (length rows) before text) where
+module _ (Is : List ℕ → Line → Type 0) (nodes : ℕ) (before : List (List ℕ)) (rows : List Provable) (text : List ℕ)
+    (t : Tells Is nodes (length rows) before text) where
   pub says_step : (step : Step) → Is text (Numbered (length rows + 1) step) → SaysInFile before text (TakesStep step)
   says_step step is =
       let own : said_of nodes (length rows) (Numbered (length rows + 1) step) ≡ TakesStep step =

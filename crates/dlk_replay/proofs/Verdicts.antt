@@ -1,16 +1,13 @@
 -- What becomes of a term file.
-use Rattle.std.proofs.Common.{◌≡◌, ◌⊎◌, ℕ, ◌≤◌, List, length}
+use Rattle.std.proofs.Common.{◌≡◌, ℕ, ◌≤◌, List, length}
 use Rattle.dlk_calculus.specs.Provables.{Provable}
 use Rattle.dlk_calculus.specs.Steps.{History}
 use Rattle.dlk_replay.specs.Files.{Answer, accepted, Verdict, whole}
-use Rattle.dlk_replay.specs.Formats.{Said, SaysInFile}
+use Rattle.dlk_replay.specs.Formats.{SaysInFile}
 use Rattle.dlk_replay.proofs.AnyFormat.{one_becomes, some_becomes, steps_history}
 use Rattle.dlk_replay.proofs.OneSaid.{one_said_in_file}
-use Rattle.dlk_replay.proofs.SomeSaid as some
+use Rattle.dlk_replay.proofs.SomeSaid.{some_said_in_file}
 use Rattle.dlk_replay.proofs.ProperSteps.{said_proper_in_file}
-
-pub some_said_in_file : (before : List (List ℕ)) (text : List ℕ) → ((s : Said) × SaysInFile before text s) ⊎ ((s : Said) → ¬ SaysInFile before text s)
-some_said_in_file = some.some_said_in_file ?
 
 pub one_verdict : (lines : List (List ℕ)) (a b : Answer) → Verdict lines a → Verdict lines b → a ≡ b
 one_verdict lines a b x y = one_becomes SaysInFile one_said_in_file lines a b x y

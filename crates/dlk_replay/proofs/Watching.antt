@@ -94,7 +94,8 @@ module _ (old new : List Tree) (keeps : Keeps old new) (known_stays : (step : Id
 
 -- ---- the state
 
-pub record SoFar {V : Type 0} (after : V → Line → V) (all left : List (List ℕ)) (place last : ℕ) (trees : List Tree) (version : Version) (rows : List Provable) (keep : Bool) (kept : List Step) (before now : V) : Type 0 where
+pub record SoFar {V : Type 0} (after : V → Line → V) (all left : List (List ℕ)) (place last : ℕ) (trees : List Tree) (version : Version)
+    (rows : List Provable) (keep : Bool) (kept : List Step) (before now : V) : Type 0 where
   pub taken : List Step
   pub reached : Reached SaysInFile all left place last taken rows
   pub stands : Stands trees version all reached.front (length rows)
@@ -107,8 +108,8 @@ begins_known trees all left place v.One begins = tt
 begins_known trees all left place (v.Two ids) begins = subst (All (IsId trees)) (sym begins.0) (All-nil (IsId trees))
 
 -- before the first line, or behind the head
-pub so_far_none : {V : Type 0} (after : V → Line → V) (all left : List (List ℕ)) (place : ℕ) (trees : List Tree) (version : Version) (keep : Bool) (before : V) → Begins all version left place →
-    SoFar after all left place 0 trees version [] keep [] before before
+pub so_far_none : {V : Type 0} (after : V → Line → V) (all left : List (List ℕ)) (place : ℕ) (trees : List Tree) (version : Version) (keep : Bool)
+    (before : V) → Begins all version left place → SoFar after all left place 0 trees version [] keep [] before before
 unfolding reached_none reached_skip
 so_far_none after all left place trees v.One keep before (one, left_is, none) =
     let start : SoFar after all all 0 0 trees v.One [] keep [] before before =
@@ -125,7 +126,8 @@ so_far_none after all left place trees (v.Two ids) keep before (none, lines_are,
     (subst (λ i. SoFar after whole left place 0 trees (v.Two i) [] keep [] before before) (sym none)
     (subst (λ n. SoFar after whole left n 0 trees (v.Two []) [] keep [] before before) place_is start))
 
-module _ {V : Type 0} {after : V → Line → V} {all left : List (List ℕ)} {line : List ℕ} {place last : ℕ} {trees : List Tree} {version : Version} {rows : List Provable} {keep : Bool} {kept : List Step} {before now : V}
+module _ {V : Type 0} {after : V → Line → V} {all left : List (List ℕ)} {line : List ℕ} {place last : ℕ} {trees : List Tree} {version : Version}
+    {rows : List Provable} {keep : Bool} {kept : List Step} {before now : V}
     (s : SoFar after all (line ∷ left) place last trees version rows keep kept before now) where
   -- what the next line tells
   told : Tells (IsLineOf trees version) (nodes_of version) (length rows) s.reached.front line
@@ -143,8 +145,9 @@ module _ {V : Type 0} {after : V → Line → V} {all left : List (List ℕ)} {l
       (subst (λ v. IsLineOf trees v line (OfNode (nodes_of v + 1) (tree new is.id))) (sym is.before_is) is.its_line)
 
   -- the next line was a step that was taken
-  pub so_far_more : (grown : List Tree) (still : Version) (new : List Provable) (step : Step) (more : List Step) (next : V) → Keeps trees grown → AreKnownNodes trees version →
-      IsNextStep (IsLineOf trees version) rows line step new → still ≡ version → SeesLast after new step now next → more ≡ kept ++ kept_of keep (step ∷ []) →
+  pub so_far_more : (grown : List Tree) (still : Version) (new : List Provable) (step : Step) (more : List Step) (next : V) →
+      Keeps trees grown → AreKnownNodes trees version → IsNextStep (IsLineOf trees version) rows line step new → still ≡ version →
+      SeesLast after new step now next → more ≡ kept ++ kept_of keep (step ∷ []) →
       SoFar after all left (place + 1) (place + 1) grown still new keep more before next
   unfolding reached_more
   so_far_more grown still new step more next keeps known is same sees more_is =
@@ -209,7 +212,8 @@ module _ {V : Type 0} {after : V → Line → V} {all left : List (List ℕ)} {l
 
 -- ---- the end of the file
 
-module _ {V : Type 0} {after : V → Line → V} {all : List (List ℕ)} {place last : ℕ} {trees : List Tree} {version : Version} {rows : List Provable} {keep : Bool} {kept : List Step} {before now : V} where
+module _ {V : Type 0} {after : V → Line → V} {all : List (List ℕ)} {place last : ℕ} {trees : List Tree} {version : Version} {rows : List Provable}
+    {keep : Bool} {kept : List Step} {before now : V} where
   -- no line is left
   pub ends_short : SoFar after all [] place last trees version rows keep kept before now → Verdict all (bad (place + 1) why.NoEnd)
   ends_short s = no_end SaysInFile all place last s.taken rows s.reached
@@ -232,7 +236,8 @@ module _ {V : Type 0} {after : V → Line → V} {all : List (List ℕ)} {place 
     kept_are = is ∙ s.kept_are;
   }
 
-  module _ (line behind : List ℕ) (s : SoFar after all (line ∷ file_lines behind) place last trees version rows keep kept before now) (is_done : IsLineOf trees version line Done) (count : ℕ) (count_is : count ≡ length rows) where
+  module _ (line behind : List ℕ) (s : SoFar after all (line ∷ file_lines behind) place last trees version rows keep kept before now)
+      (is_done : IsLineOf trees version line Done) (count : ℕ) (count_is : count ≡ length rows) where
     -- `done` stands before any step, or before another line
     pub end_fault : (fault : ReplayFault) → EndsWrong count (place + 1) behind fault → IsReplayFaultOf all fault
     end_fault (Bad at why.Malformed) (inl (none, is)) =

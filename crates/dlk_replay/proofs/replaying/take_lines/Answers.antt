@@ -14,9 +14,12 @@ loop-left-init g c =
     let all = file_lines c.args.bytes.now in
     let left = file_lines c.begin-version.result.1.now in
     let trees = g.S.Store.trees c.args.kernel.now.store in
+    let version = c.begin-version.result.0 in
+    let place = c.begin-version.result.2 in
     record {
-      so_far = rw (c.requires, c.new-kept.ensures.items) (so_far_none g.W.Watcher.after all left c.begin-version.result.2 trees c.begin-version.result.0 c.args.keep c.args.watcher.now c.begin-version.ensures.begins);
-      nodes = begins_known trees all left c.begin-version.result.2 c.begin-version.result.0 c.begin-version.ensures.begins;
+      so_far = rw (c.requires, c.new-kept.ensures.items)
+          (so_far_none g.W.Watcher.after all left place trees version c.args.keep c.args.watcher.now c.begin-version.ensures.begins);
+      nodes = begins_known trees all left place version c.begin-version.ensures.begins;
       known = rw c.new-kept.ensures.items (All-nil (HasKnownIds (g.S.Store.trees c.args.kernel.now.store)));
       room = c.begin-version.ensures.room;
       grows = g.met.S.Store.grows_refl c.args.kernel.now.store;
@@ -62,7 +65,8 @@ loop-left-preserved g c =
     let known = c.loop-left.invariant.known in
     let more = kept_step old new keeps (c.step_stays.ensures.known old new) (c.step_stays.ensures.same old new) c.args.keep kept all step known c.in_ok-keep_step-in-Step.ensures in
     record {
-      so_far = so_far_more so_far new c.take_line.new.version rows (step_at new step) (map (step_at new) all) c.show_last.new.watcher keeps c.loop-left.invariant.nodes taken.1 taken.2 c.in_ok-show_last-in-Step.ensures.seen more;
+      so_far = so_far_more so_far new c.take_line.new.version rows (step_at new step) (map (step_at new) all) c.show_last.new.watcher keeps
+          c.loop-left.invariant.nodes taken.1 taken.2 c.in_ok-show_last-in-Step.ensures.seen more;
       nodes = c.in_ok-take_line.ensures.nodes;
       known = kept_ids old new keeps (c.step_stays.ensures.known old new) (c.step_stays.ensures.same old new) c.args.keep kept all step known taken.0 c.in_ok-keep_step-in-Step.ensures;
       room = omega (arith, c.loop-left.invariant.room, c.first_line.ensures.less);

@@ -1,0 +1,41 @@
+use Rattle.std.proofs.Common.{refl}
+use Rattle.std.specs.Prelude.{codes}
+use Rattle.dlk_store.specs.declared.Id.{Id}
+use Rattle.dlk_print.proofs.Left.{failed, partly, appended, unbegun, done}
+use Rattle.dlk_nodes.specs.Tables.{nodes_at}
+use Rattle.dlk_nodes.proofs.WrittenLaws.{numbers_left, no_numbers_left}
+use Rattle.dlk_nodes.proofs.spelling.append_behind.Goals as goal
+
+pub loop-id-init : goal.loop-id-init
+loop-id-init g c = unbegun c.args.out.now.items refl
+
+pub returns-in_err-append : goal.returns-in_err-append
+returns-in_err-append g c =
+    let none : Id = record { 0 = 0 } in
+    let trees = g.S.Store.trees c.args.store.now in
+    let nodes = nodes_at trees c.args.table.now in
+    let at = numbers_left trees nodes c.args.ids.now c.loop-id.id-index none c.loop-id-test.true c.loop-id.invariant in
+    failed c.from_residual.result c.from_residual.ensures.0 (partly (codes " ") _ at c.in_err-append.ensures.begun)
+
+pub returns-in_err-append_place : goal.returns-in_err-append_place
+returns-in_err-append_place g c =
+    let trees = g.S.Store.trees c.args.store.now in
+    let nodes = nodes_at trees c.args.table.now in
+    failed c.from_residual-in_err-append_place.result c.from_residual-in_err-append_place.ensures.0
+    (partly _ _ (appended (codes " ") _ (numbers_left trees nodes c.args.ids.now c.loop-id.id-index _ c.loop-id-test.true c.loop-id.invariant)
+    c.in_ok-append.ensures.ok)
+    c.in_err-append_place.ensures.begun)
+
+pub loop-id-preserved : goal.loop-id-preserved
+loop-id-preserved g c =
+    let trees = g.S.Store.trees c.args.store.now in
+    let nodes = nodes_at trees c.args.table.now in
+    appended _ _ (appended (codes " ") _ (numbers_left trees nodes c.args.ids.now c.loop-id.id-index _ c.loop-id-test.true c.loop-id.invariant)
+    c.in_ok-append.ensures.ok)
+    c.in_ok-append_place.ensures.ok
+
+pub returns : goal.returns
+returns g c =
+    let trees = g.S.Store.trees c.args.store.now in
+    let nodes = nodes_at trees c.args.table.now in
+    done _ (no_numbers_left trees nodes c.args.ids.now c.loop-id.id-index c.loop-id-test.false c.loop-id.invariant)

@@ -1,0 +1,130 @@
+//! The trees of a step, written by the numbers of their nodes.
+ghost use Rattle.std.specs.Prelude.{◌≡◌, ◌++◌, codes, All, IsTrue};
+ghost use Rattle.dlk_store.specs.Stores.{IsId, tree};
+ghost use Rattle.dlk_sequent.specs.Sequents.{sequent_at, IsKnown};
+ghost use Rattle.dlk_sequent.specs.Substitutions.{pair_at, pairs_at, AreKnownPairs};
+ghost use Rattle.dlk_print.specs.Printed.{Appends, gap};
+ghost use Rattle.dlk_lines.specs.Spelled.{ByNodes};
+ghost use Rattle.dlk_lines.specs.Written.{numbers_text, numbers_before, pair_text, sequent_text, pairs_text};
+ghost use Rattle.dlk_nodes.specs.Tables.{nodes_at};
+
+use crate::table::NodeTable;
+use crate::writing::append_place;
+use dlk_lines::Spells;
+use dlk_print::{PrintFault, append, symbol_text};
+use dlk_sequent::{Pair, Sequent};
+use dlk_store::{Id, Steps, Store};
+use std::sync::ledger::Ledger;
+
+/// Appends the numbers of nodes, each behind a space.
+fn append_behind<S: Store>(
+    store: &S,
+    table: &NodeTable,
+    ids: &[Id],
+    out: &mut Vec<u8>,
+) -> Result<(), PrintFault>
+    requires unique { IsTrue S.unique }
+    requires nodes { All (IsId (S.trees store.now)) table.now }
+    requires ids { All (IsId (S.trees store.now)) ids.now }
+    ensures { Appends out.old.items out.new.items (numbers_text (nodes_at (S.trees store.now) table.now) (nodes_at (S.trees store.now) ids.now)) result }
+{
+    for id in ids {
+        append(out, b" ")?;
+        append_place(store, table, *id, out)?;
+    }
+    Ok(())
+}
+
+/// Appends the numbers of nodes, each before a space.
+fn append_before<S: Store>(
+    store: &S,
+    table: &NodeTable,
+    ids: &[Id],
+    out: &mut Vec<u8>,
+) -> Result<(), PrintFault>
+    requires unique { IsTrue S.unique }
+    requires nodes { All (IsId (S.trees store.now)) table.now }
+    requires ids { All (IsId (S.trees store.now)) ids.now }
+    ensures { Appends out.old.items out.new.items (numbers_before (nodes_at (S.trees store.now) table.now) (nodes_at (S.trees store.now) ids.now)) result }
+{
+    for id in ids {
+        append_place(store, table, *id, out)?;
+        append(out, b" ")?;
+    }
+    Ok(())
+}
+
+/// Appends a pair: its symbol, the sign, and the number of the node that replaces it.
+fn append_pair<S: Store>(
+    store: &S,
+    table: &NodeTable,
+    pair: &Pair,
+    out: &mut Vec<u8>,
+) -> Result<(), PrintFault>
+    requires unique { IsTrue S.unique }
+    requires nodes { All (IsId (S.trees store.now)) table.now }
+    requires by { IsId (S.trees store.now) pair.now.by }
+    ensures { Appends out.old.items out.new.items (pair_text (nodes_at (S.trees store.now) table.now) (pair_at (S.trees store.now) pair.now)) result }
+{
+    symbol_text(&pair.sym, out)?;
+    append(out, b"~>")?;
+    append_place(store, table, pair.by, out)
+}
+
+/// Writes the trees of a store by the numbers of their nodes.
+#[derive(Drop)]
+pub(crate) struct NodesOf<'a, S> {
+    pub store: &'a S,
+    pub table: &'a NodeTable,
+}
+
+impl<'a, S: Store> Spells for NodesOf<'a, S> {
+    ghost use Rattle.std.specs.Prelude.{All, IsTrue};
+    ghost use Rattle.dlk_store.specs.Stores.{IsId};
+    ghost use Rattle.dlk_lines.specs.Spelled.{ByNodes};
+    ghost use Rattle.dlk_nodes.specs.Tables.{nodes_at};
+
+    ghost trees = { λ w. S.trees w.store.now };
+
+    ghost spelling = { λ w. ByNodes (nodes_at (S.trees w.store.now) w.table.now) };
+
+    ghost Has = { λ w _. IsTrue S.unique × All (IsId (S.trees w.store.now)) w.table.now };
+
+    fn sequent<L: Ledger>(
+        &self,
+        s: &Sequent,
+        out: &mut Vec<u8>,
+        _steps: &mut Steps<L>,
+    ) -> Result<(), PrintFault> {
+        append_before(self.store, self.table, s.ante.as_slice(), out)?;
+        append(out, b"==>")?;
+        append_behind(self.store, self.table, s.succ.as_slice(), out)
+    }
+
+    fn pairs<L: Ledger>(
+        &self,
+        pairs: &[Pair],
+        out: &mut Vec<u8>,
+        _steps: &mut Steps<L>,
+    ) -> Result<(), PrintFault> {
+        let Some((first, rest)) = pairs.split_first() else {
+            return Ok(());
+        };
+        append_pair(self.store, self.table, first, out)?;
+        for pair in rest {
+            append(out, b",")?;
+            append_pair(self.store, self.table, pair, out)?;
+        }
+        Ok(())
+    }
+
+    fn formula<L: Ledger>(
+        &self,
+        h: Id,
+        out: &mut Vec<u8>,
+        _steps: &mut Steps<L>,
+    ) -> Result<(), PrintFault> {
+        append(out, b"#")?;
+        append_place(self.store, self.table, h, out)
+    }
+}
