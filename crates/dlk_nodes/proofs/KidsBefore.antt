@@ -1,7 +1,7 @@
 -- The kids of each new node stand before it.
-use Rattle.std.proofs.Common.{◌≡◌, ℕ, ◌<◌, Bool, true, false, cond, ◌||◌, List, [], ◌∷◌, ◌++◌, refl, sym, ap, subst, append_assoc, append-nil, arith}
+use Rattle.std.proofs.Common.{◌≡◌, Bool, true, false, cond, ◌||◌, List, [], ◌∷◌, ◌++◌, refl, sym, ap, subst, append_assoc, append-nil}
 use Rattle.dlk_tree.specs.Trees.{Tree, node, Forest, no_kids, kid}
-use Rattle.dlk_nodes.specs.Follow.{KidsThere, HasKidsThere}
+use Rattle.dlk_nodes.specs.Follow.{KidsThere}
 use Rattle.dlk_nodes.specs.Nodes.{has_node}
 use Rattle.dlk_nodes.specs.Put.{KidsFollow}
 use Rattle.dlk_nodes.specs.Terms.{new_nodes, new_in_kids, new_in_each}

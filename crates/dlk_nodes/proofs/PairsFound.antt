@@ -1,13 +1,12 @@
 -- The pairs of a text are found one by one.
-use Rattle.std.proofs.Common.{◌≡◌, ◌≢◌, ℕ, ◌==◌, Bool, true, false, ◌&&◌, List, [], ◌∷◌, ◌++◌, length, Option, Some, None, Bor, codes, refl, sym, ap, subst, ◌∙◌, append_assoc, append-nil, length-append, arith, ◌⊎◌, inl, inr}
-use Rattle.std.specs.Prelude.{IsTrue, All, MatchOption, option_copied}
+use Rattle.std.proofs.Common.{◌≡◌, ◌≢◌, ℕ, ◌==◌, true, false, List, [], ◌∷◌, ◌++◌, Option, Some, None, Bor, codes, refl, sym, ap, subst, ◌∙◌, append_assoc, append-nil, ◌⊎◌, inl, inr}
+use Rattle.std.specs.Prelude.{MatchOption, option_copied}
 use Rattle.std.proofs.lemmas.Bool.{and_parts, eqb-true}
 use Rattle.dlk_tree.specs.declared.op.Sort.{Sort}
 use Rattle.dlk_tree.specs.declared.op.Sort.TheVariants as sort
 use Rattle.dlk_tree.specs.declared.op.Sym.{Sym}
-use Rattle.dlk_tree.specs.declared.op.Kind.{Kind}
 use Rattle.dlk_tree.specs.Tests.{sort_rank, sort_eq}
-use Rattle.dlk_tree.specs.Table.{kind_row, is_sym}
+use Rattle.dlk_tree.specs.Table.{kind_row}
 use Rattle.dlk_tree.specs.Trees.{Tree, sort as sort_of}
 use Rattle.dlk_calculus.specs.Pairs.{Pair, is_of_kind}
 use Rattle.dlk_grammar.specs.Shown.{spell}
@@ -18,7 +17,7 @@ use Rattle.dlk_lines.specs.Spelled.{Names, NamesPair, pair, NamesMorePairs, no_m
 use Rattle.dlk_lines.proofs.Cuts.{one_cut}
 use Rattle.dlk_lines.proofs.Numbers.{number_parts}
 use Rattle.dlk_nodes.specs.FirstPair.{behind_comma, UpToComma, FirstPair}
-use Rattle.dlk_nodes.specs.Symbols.{SpellsSymbol, SpellsOfSort}
+use Rattle.dlk_nodes.specs.Symbols.{SpellsOfSort}
 use Rattle.dlk_nodes.proofs.OpsBack.{lacks_if}
 use Rattle.dlk_nodes.proofs.Numbered.{one_name}
 use Rattle.dlk_nodes.proofs.DetailLaws.{Uncut, not_lacking}

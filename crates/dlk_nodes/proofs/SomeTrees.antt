@@ -1,5 +1,5 @@
 -- It is known whether a text says a sequent, a formula or pairs by the numbers of nodes.
-use Rattle.std.proofs.Common.{◌≡◌, ◌≢◌, ℕ, zero, suc, ◌==◌, ◌≤◌, Bool, true, false, List, [], ◌∷◌, ◌++◌, length, Option, Some, None, codes, refl, sym, ap, subst, ◌∙◌, append-nil, length-append, arith, ◌⊎◌, inl, inr}
+use Rattle.std.proofs.Common.{◌≡◌, ℕ, zero, suc, ◌==◌, ◌≤◌, true, List, [], ◌∷◌, ◌++◌, length, Option, Some, None, codes, refl, sym, ap, subst, ◌∙◌, append-nil, length-append, arith, ◌⊎◌, inl, inr}
 use Rattle.std.specs.Prelude.{All}
 use Rattle.std.specs.Str.{bytes_eq}
 use Rattle.std.proofs.lemmas.Bool.{eq-eqb, false_from_ne_true}
@@ -18,19 +18,18 @@ use Rattle.dlk_grammar.specs.Shown.{spell}
 use Rattle.dlk_grammar.specs.Symbols.{shown_symbol}
 use Rattle.dlk_lines.specs.Laws.{SaysOrNot}
 use Rattle.dlk_lines.specs.Parts.{CutAt}
-use Rattle.dlk_lines.specs.Spelled.{ByNodes, Names, NamesEach, none_behind, NamesSequent, NamesFormula, NamesPairs, no_pairs}
+use Rattle.dlk_lines.specs.Spelled.{ByNodes, NamesEach, none_behind, NamesSequent, NamesFormula, NamesPairs, no_pairs}
 use Rattle.dlk_nodes.specs.FirstPair.{behind_comma, UpToComma, FirstPair}
 use Rattle.dlk_nodes.specs.Sides.{Sides}
 use Rattle.dlk_nodes.specs.Symbols.{SpellsOfSort}
 use Rattle.dlk_nodes.proofs.FormulasRead.{parts_formula, sign_first, formula_node, formula_sort}
 use Rattle.dlk_nodes.proofs.Fronts.{uncut_lacks}
-use Rattle.dlk_nodes.proofs.Numbered.{one_name, each_field, found_named}
+use Rattle.dlk_nodes.proofs.Numbered.{each_field, found_named}
 use Rattle.dlk_nodes.proofs.OpsCut.{not_fields}
 use Rattle.dlk_nodes.specs.Fields.{parts_of}
-use Rattle.dlk_nodes.specs.Parts.{IsBehind}
 use Rattle.dlk_nodes.proofs.SomeNode.{Known, both, by_test, is_equal, known_cut, known_front, known_name, known_names}
 use Rattle.dlk_nodes.proofs.SymbolBack.{symbol_in, symbol_back}
-use Rattle.dlk_nodes.proofs.SidesRead.{begin, no_left, one_more_left, no_sides_yet, behind_needed, space_wanted, number_wanted, one_side_more, one_sides, sequent_sides, sides_sequent}
+use Rattle.dlk_nodes.proofs.SidesRead.{no_left, one_more_left, no_sides_yet, behind_needed, space_wanted, number_wanted, one_side_more, one_sides, sequent_sides, sides_sequent}
 use Rattle.dlk_nodes.proofs.PairsFound.{same_sort, tilde_wanted, sign_wanted, node_wanted, symbol_wanted, kind_wanted, pair_is, one_rest, PairsIn, to_more, from_more, some_text, some_are}
 
 -- ---- sorts and symbols

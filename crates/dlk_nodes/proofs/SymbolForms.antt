@@ -1,5 +1,5 @@
 -- What the text of a symbol is made of, by its kind.
-use Rattle.std.proofs.Common.{◌≡◌, ◌≢◌, ℕ, zero, suc, ◌+◌, ◌<◌, ◌≤◌, ◌==◌, Bool, true, false, not, ◌&&◌, ◌||◌, List, [], ◌∷◌, ◌++◌, Option, Some, None, codes, refl, sym, ap, subst, ◌∙◌, append_assoc, ◌⊎◌, inl, inr, arith}
+use Rattle.std.proofs.Common.{◌≡◌, ◌≢◌, ℕ, zero, suc, ◌+◌, ◌<◌, ◌≤◌, ◌==◌, true, false, ◌&&◌, ◌||◌, List, ◌∷◌, ◌++◌, Option, Some, None, codes, refl, sym, ap, subst, ◌∙◌, append_assoc, ◌⊎◌, inl, inr, arith}
 use Rattle.std.specs.Prelude.{IsTrue, is_none}
 use Rattle.std.specs.Fmt.{digits}
 use Rattle.std.proofs.lemmas.Bool.{and_parts, and_from, eq-eqb, leb-true, cases_lt}
@@ -17,12 +17,12 @@ use Rattle.dlk_grammar.specs.Symbols.{dots, shown_as, shown_symbol}
 use Rattle.dlk_lines.specs.Parts.{CutAt}
 use Rattle.dlk_lines.proofs.Cuts.{one_cut}
 use Rattle.dlk_nodes.specs.Words.{constant_text}
-use Rattle.dlk_nodes.specs.Details.{Spells, SpellsConstant}
+use Rattle.dlk_nodes.specs.Details.{SpellsConstant}
 use Rattle.dlk_nodes.specs.Symbols.{dots_bytes, AreDots, taboo_bytes, SpellsTaboo, SpellsSymbol, SpellsOfSort, ArePaired, of_terms, of_formulas, SpellsCalled}
 use Rattle.dlk_nodes.proofs.Fields.{lacks, lacks_both}
-use Rattle.dlk_nodes.proofs.OpsBack.{name_lacks, symbol_parts, called, bare, unit_again}
+use Rattle.dlk_nodes.proofs.OpsBack.{name_lacks, symbol_parts, called, bare}
 use Rattle.dlk_nodes.proofs.DetailLaws.{Uncut, not_lacking}
-use Rattle.dlk_nodes.proofs.SymbolBack.{arity_in, DotsText, dots_text, symbol_in, symbol_back}
+use Rattle.dlk_nodes.proofs.SymbolBack.{arity_in, dots_text, symbol_in, symbol_back}
 
 abbrev pub sym_of : Kind → List ℕ → ℕ → Option (List ℕ) → Sym
 sym_of k x n y = record { kind = k; name = x; arity = n; taboo = y }

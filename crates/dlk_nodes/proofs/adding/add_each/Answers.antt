@@ -1,9 +1,8 @@
-use Rattle.std.proofs.Common.{◌≡◌, ◌++◌, ℕ, map, refl, sym, ap, subst, ◌∙◌, arith}
+use Rattle.std.proofs.Common.{map, refl, arith}
 use Rattle.dlk_store.specs.Stores.{tree}
-use Rattle.dlk_nodes.specs.Put.{AreBegun}
 use Rattle.dlk_nodes.specs.Tables.{nodes_at}
 use Rattle.dlk_nodes.specs.Terms.{new_in_each}
-use Rattle.dlk_nodes.proofs.Begun.{not_begun, tree_put, tree_begun, no_trees_left, all_put, begun_now, replaced}
+use Rattle.dlk_nodes.proofs.Begun.{not_begun, tree_put, tree_begun, no_trees_left, all_put, begun_now}
 use Rattle.dlk_nodes.proofs.adding.add_each.Goals as goal
 
 pub loop-id-init : goal.loop-id-init

@@ -1,4 +1,4 @@
-use Rattle.std.proofs.Common.{◌≡◌, ◌++◌, ℕ, map, refl, sym, ap, subst, ◌∙◌, arith}
+use Rattle.std.proofs.Common.{◌≡◌, ◌++◌, map, refl, subst, arith}
 use Rattle.dlk_sequent.specs.declared.subst.Pair.{Pair}
 use Rattle.dlk_store.specs.Stores.{tree}
 use Rattle.dlk_nodes.specs.Put.{AreBegun}

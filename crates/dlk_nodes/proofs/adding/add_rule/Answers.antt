@@ -1,4 +1,4 @@
-use Rattle.std.proofs.Common.{◌≡◌, ◌++◌, [], List, sym, ap, subst, ◌∙◌, append-nil, arith}
+use Rattle.std.proofs.Common.{◌≡◌, ◌++◌, [], sym, ap, subst, ◌∙◌, append-nil, arith}
 use Rattle.dlk_calculus.specs.Rules.{arguments_of}
 use Rattle.dlk_rules.specs.Steps.{rule_at}
 use Rattle.dlk_lines.specs.Written.{formulas_in}

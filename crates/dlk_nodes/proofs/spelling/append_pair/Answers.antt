@@ -1,4 +1,3 @@
-use Rattle.std.proofs.Common.{◌++◌}
 use Rattle.std.specs.Prelude.{codes}
 use Rattle.dlk_grammar.specs.Shown.{spell}
 use Rattle.dlk_grammar.specs.Symbols.{shown_symbol}

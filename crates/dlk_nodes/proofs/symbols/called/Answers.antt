@@ -1,4 +1,4 @@
-use Rattle.std.proofs.Common.{◌≡◌, sym, subst}
+use Rattle.std.proofs.Common.{sym, subst}
 use Rattle.std.proofs.lemmas.Result.{err_from_is_err_and}
 use Rattle.dlk_nodes.specs.Symbols.{AreDots}
 use Rattle.dlk_nodes.proofs.Refusals.{fault_of_whole, err_of_whole}

@@ -1,4 +1,4 @@
-use Rattle.std.proofs.Common.{◌<◌, ◌++◌, length, take, drop, codes, subst, arith, ◌∙◌, ap}
+use Rattle.std.proofs.Common.{◌<◌, ◌++◌, length, codes, subst, arith, ◌∙◌, ap}
 use Rattle.dlk_store.specs.Stores.{tree}
 use Rattle.dlk_print.specs.Printed.{Begun}
 use Rattle.dlk_print.proofs.Left.{failed, partly, appended}

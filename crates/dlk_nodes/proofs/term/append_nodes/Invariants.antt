@@ -1,4 +1,4 @@
-use Rattle.std.proofs.Common.{ℕ, ◌+◌, ◌-◌, ◌≤◌, take, drop}
+use Rattle.std.proofs.Common.{◌+◌, ◌-◌, ◌≤◌, take, drop}
 use Rattle.dlk_print.proofs.Left.{Left}
 use Rattle.dlk_nodes.specs.Put.{KidsFollow}
 use Rattle.dlk_nodes.specs.Tables.{nodes_at}

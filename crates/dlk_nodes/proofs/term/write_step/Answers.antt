@@ -1,4 +1,4 @@
-use Rattle.std.proofs.Common.{◌≡◌, ◌+◌, ◌≤◌, ◌++◌, [], length, codes, sym, ap, subst, ◌∙◌, arith, length-append}
+use Rattle.std.proofs.Common.{◌≡◌, ◌++◌, [], length, codes, sym, ap, subst, ◌∙◌, arith, length-append}
 use Rattle.dlk_rules.specs.Steps.{step_at}
 use Rattle.dlk_print.specs.Printed.{Begun}
 use Rattle.dlk_print.proofs.Left.{partly, appended}

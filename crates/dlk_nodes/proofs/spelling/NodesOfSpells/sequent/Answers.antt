@@ -1,4 +1,3 @@
-use Rattle.std.proofs.Common.{◌++◌, ap, sym, subst}
 use Rattle.std.specs.Prelude.{codes}
 use Rattle.dlk_print.proofs.Left.{failed, partly, appended, last}
 use Rattle.dlk_lines.specs.Written.{numbers_text, numbers_before}
