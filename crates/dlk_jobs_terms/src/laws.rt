@@ -1,8 +1,5 @@
 //! The laws of what `convert`, `link` and `trim` answer. Each is a contract of a function that does nothing but call the laws below it.
-ghost use Rattle.std.specs.Prelude.{◌≡◌, ◌≤◌, ℕ, List, length, All, Some};
-ghost use Rattle.dlk_calculus.specs.Steps.{Step};
-ghost use Rattle.dlk_recorder.specs.Terms.{HasSymbols};
-ghost use Rattle.dlk_replay.specs.Files.{FileSteps};
+ghost use Rattle.std.specs.Prelude.{◌≡◌, ◌≤◌, ℕ, List, length, Some};
 ghost use Rattle.dlk_replies.specs.declared.form.Role.TheVariants.{Term};
 ghost use Rattle.dlk_replies.specs.declared.reply.Layout.TheVariants.{Text};
 ghost use Rattle.dlk_replies.specs.declared.reply.Showing.TheVariants.{Reported};
@@ -17,13 +14,8 @@ ghost use Rattle.dlk_jobs_terms.specs.Trims.{Trims, IsTrimmed};
 use dlk_calculus::laws::{given_unless_against, one_fault, one_provable};
 use dlk_jobs_record::laws::recorded_is_written;
 use dlk_link::{linked_is_joined, trimmed_is_neat, trimmed_is_taken};
-use dlk_replay::accepted_says_steps;
+use dlk_replay::{accepted_says_steps, accepted_steps_have_symbols};
 use dlk_rules::rule_is_its_word_and_arguments;
-
-/// What the pairs of these steps replace are symbols.
-fn accepted_steps_have_symbols()
-    ensures { (lines : List (List ℕ)) (s : List Step) → FileSteps lines s → All HasSymbols s }
-{}
 
 /// There is one answer of each of the commands.
 pub fn one_term_reply()

@@ -26,9 +26,11 @@ pub trim-requires-clause-ends : goal.trim-requires-clause-ends
 trim-requires-clause-ends g c =
     let trees = g.S.Store.trees c.taken.new.kernel.store in
     let whole = c.in_ok-whole.ensures.taken in
-    let steps = map (step_at trees) c.in_ok-whole.whole.items in
-    (whole.1, subst (λ l. StepsEndIn (map (step_at trees) l) whole.1) (sym c.deref.ensures.value)
-    (replay_ends c.accepted_says_steps.ensures.taken c.args.term.now steps whole.0 whole.1 whole.2.replays))
+    let steps = map (step_at trees) c.in_ok-whole.whole.items in (
+      whole.1,
+      subst (λ l. StepsEndIn (map (step_at trees) l) whole.1) (sym c.deref.ensures.value)
+          (replay_ends c.accepted_says_steps.ensures.taken c.args.term.now steps whole.0 whole.1 whole.2.replays),
+    )
 
 pub returns-in_err-whole-clause-ended : goal.returns-in_err-whole-clause-ended
 returns-in_err-whole-clause-ended g c =
