@@ -3,6 +3,7 @@ pub mod ReadLines
 pub mod LinesKept
 pub mod Turned
 pub mod Ended
+pub mod Replied
 pub mod Models
 pub mod SavedSteps
 pub mod Checked

@@ -10,7 +10,6 @@ use Rattle.dlk_tacsyn.specs.Tactics.{Tactics, part}
 use Rattle.dlk_tacsyn.specs.Rows.{AreOfText}
 use Rattle.dlk_tacsyn.specs.Ties.{tactic_at, tactics_at, TacticIsKnown, TacticsAreKnown}
 use Rattle.dlk_tacsyn.proofs.Kept.{arguments_kept, arguments_known}
-use Rattle.dlk_strategy.specs.Ties.{IsStrategy}
 use Rattle.dlk_session.specs.Sessions as turn
 use Rattle.dlk_jobs_session.specs.declared.script.Line.{Line}
 use Rattle.dlk_jobs_session.specs.declared.script.Line.TheVariants as line

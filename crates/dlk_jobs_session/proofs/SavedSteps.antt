@@ -12,7 +12,7 @@ use Rattle.dlk_calculus.proofs.PlaceLaws.{at_one, At-more, place_cases, All-fron
 use Rattle.dlk_kernel.specs.Taken.{Takes}
 use Rattle.dlk_tacsyn.specs.Rows.{HasNames}
 use Rattle.dlk_tacsyn.specs.Tactics.{Tactic, EachAtom}
-use Rattle.dlk_elab.specs.Outcomes.{Progress, Outcome, Done}
+use Rattle.dlk_elab.specs.Outcomes.{Progress, Done}
 use Rattle.dlk_elab.specs.Symbols.{ReplacesSymbols}
 use Rattle.dlk_elab.proofs.FewSteps.{takes_length}
 use Rattle.dlk_strategy.specs.Runs.{RunsOn}
@@ -20,7 +20,7 @@ use Rattle.dlk_session.specs.declared.reply.Reply.{Reply}
 use Rattle.dlk_session.specs.Kept.{AreEarlier, none as none_earlier, more as one_earlier, IsKept}
 use Rattle.dlk_session.specs.Sessions.{State, Begins, Applies, no_goal, done, fails, spent, Undoes, nothing, undone, Line, Apply, Undo, Show, Save, Answer}
 use Rattle.dlk_session.specs.Sessions.{Turn, applies, undoes, shows as shows_row, saves, Turns, none, more}
-use Rattle.dlk_session.proofs.Turning.{rows_behind, WasEarlier, last_earlier}
+use Rattle.dlk_session.proofs.Turning.{rows_behind, last_earlier}
 
 -- the row of this number shows the sequent
 abbrev pub ShowsAt : Sequent → List Provable → ℕ → Type 0
@@ -50,8 +50,8 @@ start_shows s rows p _ e _ = absurd (cc e)
 
 -- ---- places of rows
 
-more_rows : (s : Sequent) (rows more : List Provable) (n : ℕ) → ShowsAt s rows n → ShowsAt s (rows ++ more) n
-more_rows s rows more n h = (h.0, At-more rows more n h.0 h.1, h.2)
+more_rows : (s : Sequent) (rows new : List Provable) (n : ℕ) → ShowsAt s rows n → ShowsAt s (rows ++ new) n
+more_rows s rows new n h = (h.0, At-more rows new n h.0 h.1, h.2)
 
 fewer_rows : (s : Sequent) (rows : List Provable) (count n : ℕ) → 1 ≤ n → n ≤ count → count ≤ length rows → ShowsAt s rows n → ShowsAt s (take count rows) n
 fewer_rows s rows count n some few within h = elim (place_cases (take count rows) n) [

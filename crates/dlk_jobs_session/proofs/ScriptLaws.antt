@@ -1,5 +1,5 @@
 -- A text says one line or none, and a file one script or has one first wrong line.
-use Rattle.std.proofs.Common.{◌≡◌, ◌≢◌, ◌⊎◌, ℕ, ◌+◌, List, [], ◌∷◌, ◌++◌, refl, sym, ap, subst, ◌∙◌, inl, inr, append_assoc}
+use Rattle.std.proofs.Common.{◌≡◌, ◌≢◌, ◌⊎◌, ℕ, ◌+◌, drop, get_or, arith, List, [], ◌∷◌, ◌++◌, refl, sym, ap, subst, ◌∙◌, inl, inr, append_assoc}
 use Rattle.std.specs.Prelude.{codes}
 use Rattle.dlk_lines.specs.Numbers.{IsNumber}
 use Rattle.dlk_lines.specs.Parts.{NumberThen}
@@ -50,9 +50,16 @@ pub said_apply : (text rest : List ℕ) (goal : ℕ) (strategy : Tactic) → Goa
 said_apply text rest goal strategy h says =
     subst (λ l. ScriptLine l (Apply goal strategy)) (sym (goal_text text rest goal h)) (apply rest h.number.is_number says)
 
+-- the words are unlike
+abbrev first_byte : List ℕ → ℕ
+first_byte l = get_or l 0 0
+
+abbrev second_byte : List ℕ → ℕ
+second_byte l = get_or l 1 0
+
 -- the goal and the strategy's text are those of the text
 pub behind_word : (a b : List ℕ) → codes "apply " ++ a ≡ codes "apply " ++ b → a ≡ b
-behind_word a b e = cc
+behind_word a b e = ap (drop 6) e
 
 pub one_goal : (text rest behind : List ℕ) (m n : ℕ) → GoalThen text m rest → GoalThen text n behind → (m ≡ n) × (rest ≡ behind)
 one_goal text rest behind m n g h =
@@ -64,13 +71,13 @@ no_other text goal rest h =
     (λ e. not_undo h.behind (sym h.word_is ∙ e), (λ e. not_show h.behind (sym h.word_is ∙ e), λ e. not_save h.behind (sym h.word_is ∙ e)))
   where
     not_undo : (l : List ℕ) → codes "apply " ++ l ≡ codes "undo" → ⊥
-    not_undo l e = cc
+    not_undo l e = let h : 97 ≡ 117 = ap first_byte e in absurd (omega (arith, h))
 
     not_show : (l : List ℕ) → codes "apply " ++ l ≡ codes "show" → ⊥
-    not_show l e = cc
+    not_show l e = let h : 97 ≡ 115 = ap first_byte e in absurd (omega (arith, h))
 
     not_save : (l : List ℕ) → codes "apply " ++ l ≡ codes "save" → ⊥
-    not_save l e = cc
+    not_save l e = let h : 97 ≡ 115 = ap first_byte e in absurd (omega (arith, h))
 
 abbrev pub OneText : Type 0
 OneText = (bytes : List ℕ) (t u : Tactic) → StrategyText bytes t → StrategyText bytes u → t ≡ u
@@ -88,13 +95,13 @@ one_form one text _ _ (undoes e) (runs {goal} rest h says) = absurd ((no_other t
 one_form one text _ _ (shows e) (runs {goal} rest h says) = absurd ((no_other text goal rest h).1.0 e)
 one_form one text _ _ (saves e) (runs {goal} rest h says) = absurd ((no_other text goal rest h).1.1 e)
 one_form one text _ _ (undoes e) (undoes f) = refl
-one_form one text _ _ (undoes e) (shows f) = let no : codes "undo" ≡ codes "show" = sym e ∙ f in cc
-one_form one text _ _ (undoes e) (saves f) = let no : codes "undo" ≡ codes "save" = sym e ∙ f in cc
-one_form one text _ _ (shows e) (undoes f) = let no : codes "show" ≡ codes "undo" = sym e ∙ f in cc
+one_form one text _ _ (undoes e) (shows f) = let h : 117 ≡ 115 = ap first_byte (sym e ∙ f) in absurd (omega (arith, h))
+one_form one text _ _ (undoes e) (saves f) = let h : 117 ≡ 115 = ap first_byte (sym e ∙ f) in absurd (omega (arith, h))
+one_form one text _ _ (shows e) (undoes f) = let h : 115 ≡ 117 = ap first_byte (sym e ∙ f) in absurd (omega (arith, h))
 one_form one text _ _ (shows e) (shows f) = refl
-one_form one text _ _ (shows e) (saves f) = let no : codes "show" ≡ codes "save" = sym e ∙ f in cc
-one_form one text _ _ (saves e) (undoes f) = let no : codes "save" ≡ codes "undo" = sym e ∙ f in cc
-one_form one text _ _ (saves e) (shows f) = let no : codes "save" ≡ codes "show" = sym e ∙ f in cc
+one_form one text _ _ (shows e) (saves f) = let h : 104 ≡ 97 = ap second_byte (sym e ∙ f) in absurd (omega (arith, h))
+one_form one text _ _ (saves e) (undoes f) = let h : 115 ≡ 117 = ap first_byte (sym e ∙ f) in absurd (omega (arith, h))
+one_form one text _ _ (saves e) (shows f) = let h : 97 ≡ 104 = ap second_byte (sym e ∙ f) in absurd (omega (arith, h))
 one_form one text _ _ (saves e) (saves f) = refl
 
 pub one_line : OneText → (text : List ℕ) (a b : Line) → ScriptLine text a → ScriptLine text b → a ≡ b

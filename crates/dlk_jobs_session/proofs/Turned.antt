@@ -1,7 +1,6 @@
 -- Lines that are played, one behind another, and what they answer.
-use Rattle.std.proofs.Common.{◌≡◌, ℕ, ◌+◌, ◌<◌, List, [], ◌∷◌, ◌++◌, length, take, map, get_or, Result, Ok, Err, refl, sym, ap, subst, ◌∙◌, append_assoc}
-use Rattle.std.specs.Prelude.{OnOk, IfErr, flat_map, Option, Some, None, IfNone}
-use Rattle.std.specs.List.{All}
+use Rattle.std.proofs.Common.{◌≡◌, ℕ, ◌+◌, ◌<◌, List, [], ◌∷◌, ◌++◌, length, take, map, get_or, Result, Ok, Err, sym, ap, subst, ◌∙◌, append_assoc}
+use Rattle.std.specs.Prelude.{OnOk, IfErr, Option, Some, None, IfNone}
 use Rattle.std.proofs.lemmas.List.{append-nil, take_more, map-append}
 use Rattle.dlk_replies.specs.declared.fault.NoReply.{NoReply}
 use Rattle.dlk_lines.specs.declared.fault.LineFault.{LineFault}
@@ -9,7 +8,7 @@ use Rattle.dlk_lines.specs.declared.fault.LineFault.TheVariants.{Malformed, Memo
 use Rattle.dlk_lines.specs.Read.{IsLineFaultOf}
 use Rattle.dlk_session.specs.declared.reply.Reply.{Reply}
 use Rattle.dlk_session.specs.declared.reply.Reply.TheVariants.{Saved}
-use Rattle.dlk_session.specs.Sessions.{Becoming, State, Line, Save, Answer, Replies, Turn, saves, Turns, none, more, saving}
+use Rattle.dlk_session.specs.Sessions.{State, Line, Save, Answer, Replies, Turn, saves, Turns, none, more, saving}
 use Rattle.dlk_strategy.specs.Runs.{RunsOn}
 use Rattle.dlk_jobs_session.specs.Sessions.{answer_text, answers_text}
 

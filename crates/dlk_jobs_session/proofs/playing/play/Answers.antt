@@ -1,4 +1,4 @@
-use Rattle.std.proofs.Common.{◌≡◌, take, map, sym, ap, subst, ◌∙◌, arith}
+use Rattle.std.proofs.Common.{take, map, sym, ap, subst, arith}
 use Rattle.std.proofs.lemmas.List.{take_all}
 use Rattle.dlk_strategy.specs.Runs.{RunsOn}
 use Rattle.dlk_session.specs.Held.{state}
@@ -10,7 +10,7 @@ use Rattle.dlk_jobs_session.proofs.playing.play.Goals as goal
 
 pub loop-line-init : goal.loop-line-init
 loop-line-init g c = record {
-  played = none_played (state g.S.Store.trees c.args.session.now) c.new.result.items c.new.ensures.items;
+  played = none_played (state g.S.Store.trees c.args.session.now) c.new-out.result.items c.new-out.ensures.items;
   grows = g.met.S.Store.grows_refl c.args.session.now.kernel.store;
 }
 

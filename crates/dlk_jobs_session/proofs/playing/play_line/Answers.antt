@@ -1,5 +1,4 @@
 use Rattle.std.proofs.Common.{◌++◌, length, ap, ◌∙◌}
-use Rattle.dlk_kernel.specs.Kernel.{facts}
 use Rattle.dlk_report.specs.Reports.{text_report}
 use Rattle.dlk_session.specs.Held.{state}
 use Rattle.dlk_session.specs.Sessions.{Replies, Shows, applies, undoes, shows}
