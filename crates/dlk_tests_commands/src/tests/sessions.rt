@@ -144,15 +144,3 @@ fn refuses_scripts(rt: HostRuntime) -> Result<(), Fail> {
     refuses(&rt, alloc, &SESSION, &texts, "model at 3: syntax")?;
     Ok(())
 }
-
-/// A term that would be too long is told in the place of the replies.
-#[test]
-fn refuses_what_is_too_long(rt: HostRuntime) -> Result<(), Fail> {
-    let alloc = rt.alloc();
-    let name = repeated(alloc, "a", 300_000)?;
-    let front = b"apply 1 (boundR(".as_slice();
-    let script = joined(alloc, front, &name, b",1);boundR(x,1))*255\nsave\n")?;
-    let texts = [b"\\forall x x>=0".as_slice(), &script];
-    refuses(&rt, alloc, &SESSION, &texts, "term-too-long 76513894")?;
-    Ok(())
-}

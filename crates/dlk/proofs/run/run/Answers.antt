@@ -1,7 +1,7 @@
 use Rattle.std.proofs.Common.{◌++◌, List, ℕ, map, string_bytes, option_copied, refl, sym, ap, subst, ◌∙◌, inl, inr, arith}
 use Rattle.dlk_replies.specs.Shown.{reply_of}
 use Rattle.dlk.specs.Headline.{JudgesTruly}
-use Rattle.dlk.proofs.Truly.{whole_truly, front_truly}
+use Rattle.dlk.proofs.Truly.{whole_truly, front_truly, silent_truly}
 use Rattle.dlk.proofs.Judged.{answer_judges}
 use Rattle.dlk.proofs.Ran.{gives_whole, breaks_off, asks_given}
 use Rattle.dlk.specs.Looks.{LooksAtFew}
@@ -166,3 +166,11 @@ returns-in-Err-Memory-clause-looks g c = λ t.
 pub returns-in-Err-Fault-clause-looks : goal.returns-in-Err-Fault-clause-looks
 returns-in-Err-Fault-clause-looks g c = λ t.
     ungiven_looked (map string_bytes c.args.words.now) (g.D.Desk.outside c.args.desk.now) (g.D.Desk.outside c.work.new.desk) _ _ (c.work.ensures.looks t) 4 (λ e. absurd (omega (arith, e)))
+
+pub returns-in-Err-Memory-clause-closed_truly : goal.returns-in-Err-Memory-clause-closed_truly
+returns-in-Err-Memory-clause-closed_truly g c = λ t.
+    silent_truly (map string_bytes c.args.words.now) 6 (g.D.Desk.outside c.args.desk.now) (g.D.Desk.outside c.work.new.desk) (c.work.ensures.only.printed t)
+
+pub returns-in-Err-Fault-clause-closed_truly : goal.returns-in-Err-Fault-clause-closed_truly
+returns-in-Err-Fault-clause-closed_truly g c = λ t.
+    silent_truly (map string_bytes c.args.words.now) 4 (g.D.Desk.outside c.args.desk.now) (g.D.Desk.outside c.work.new.desk) (c.work.ensures.only.printed t)
