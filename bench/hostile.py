@@ -23,7 +23,7 @@ import tempfile
 import typing
 
 import check
-from common import PROGRAM, measured, measurer
+from common import PROGRAM, knows, measured, measurer
 from limits import MOST_BYTES
 from versioned import in_both, outputs_of
 
@@ -356,6 +356,15 @@ def failing_tries(part):
         yield Row(f"{count} failing tries on 65,000 nodes: {title}", "prove", (model, f"{atom}|" * count + "nil"), 1, "open")
 
 
+def long_terms(part):
+    """A term that would be too long, with a long name in every second line."""
+    letters = 300_000 // part
+    name = "a" * letters
+    strategy = f"(boundR({name},1);boundR(x,1))*255"
+    first = "refused: term-too-long 76513894" if part == 1 and knows("convert") else None
+    yield Row(f"510 renamings to a name of {letters} letters and back", "prove", ("\\forall x x>=0", strategy), 2 if part == 1 else 1, first)
+
+
 def costly_runs(part):
     """Short strategies whose runs keep much, or whose terms would be long."""
     wide = "true->" * (SIDE - 1) + "(" * (SIDE - 1) + "(" + "&".join(["true"] * GOALS) + ")" + "|false)" * (SIDE - 1)
@@ -364,9 +373,10 @@ def costly_runs(part):
     yield Row(f"{turns * GOALS} atoms on 256 goals with 256 formulas a side", "prove", (wide, strategy), 1, "open", True)
     turns = 4_000 // part
     strategy = "; ".join(["(useAt(composeb,1); useBack(composeb,1))*1000"] * (turns // 1000) or [f"(useAt(composeb,1); useBack(composeb,1))*{turns}"])
-    # an instance of the axiom has the formula twice
+    # an instance of the axiom has the formula twice; only in version 1 does the term say it again and again, and would be too long
     half = big_formula(MOST_NODES // 2 - 16)
-    yield Row(f"{2 * turns} uses of an axiom on 32,000 nodes", "prove", (f"[a;b;]({half})", strategy), 2 if part == 1 else 1, None)
+    is_too_long = part == 1 and not knows("convert")
+    yield Row(f"{2 * turns} uses of an axiom on 32,000 nodes", "prove", (f"[a;b;]({half})", strategy), 2 if is_too_long else 1, None)
 
 
 def by_numbers(*nodes, steps=("start ==>",), first_number=1):
@@ -420,7 +430,7 @@ def nodes(part):
 
 ROWS = (
     wide_facts, merges, leaves, sharing, many_substitutions, shared_reports, long_names, many_pairs, nesting, many_symbols, one_hash, nodes, megabytes,
-    repeats, failing_tries, costly_runs,
+    repeats, failing_tries, long_terms, costly_runs,
 )
 
 
