@@ -45,7 +45,8 @@ fn plays(
 #[test]
 fn saves_a_proof(rt: HostRuntime) -> Result<(), Fail> {
     let alloc = rt.alloc();
-    let script = "apply 1 implyR(1)\napply 1 andR(1)\napply 2 nil\napply 1 close\nundo\napply 1 close\nsave\n";
+    let script =
+        "apply 1 implyR(1)\napply 1 andR(1)\napply 2 nil\napply 1 close\nundo\napply 1 close\nsave\n";
     let printed =
         "ok goals 1\nfails at 0: WrongShape\nno-goal\nok goals 0\nok goals 1\nok goals 0\nsaved 3\n";
     plays(&rt, alloc, "x>=0 -> x>=0", script, 0, printed, true)?;
@@ -59,7 +60,8 @@ fn saves_a_proof(rt: HostRuntime) -> Result<(), Fail> {
 #[test]
 fn shows_what_is_left(rt: HostRuntime) -> Result<(), Fail> {
     let alloc = rt.alloc();
-    let printed = "nothing\nopen\nconclusion ==> x>=0\ngoals 1\ngoal 1 ==> x>=0\nleaves 0\nlines 1\n";
+    let printed =
+        "nothing\nopen\nconclusion ==> x>=0\ngoals 1\ngoal 1 ==> x>=0\nleaves 0\nlines 1\n";
     plays(&rt, alloc, "x>=0", "undo\nshow\n", 1, printed, false)?;
     // the last line feed may be missing, and there may be no line
     plays(&rt, alloc, "x>=0", "undo\nshow", 1, printed, false)?;
@@ -87,7 +89,15 @@ fn names_the_first_wrong_line(rt: HostRuntime) -> Result<(), Fail> {
         let printed = format!(in alloc; "refused: script line {line}\n")?;
         plays(&rt, alloc, "x>=0 -> x>=0", script, 2, &printed, false)?;
     }
-    plays(&rt, alloc, "x>=", "aply", 2, "refused: model at 3: syntax\n", false)?;
+    plays(
+        &rt,
+        alloc,
+        "x>=",
+        "aply",
+        2,
+        "refused: model at 3: syntax\n",
+        false,
+    )?;
     Ok(())
 }
 
