@@ -4,8 +4,8 @@
     python3 bench/link.py [PROGRAM]
     python3 bench/link.py --gallery [PROGRAM]     a table of what `trim` saves of each proof of the gallery and of the recipes
 
-First terms of up to 400,000 lines are trimmed: of real proofs merged one after another, as in bench/check.py, all of which are needed; the same with twice as
-many lines, of which nothing needs a half; and a chain in which each step equals the one before but for its number. Then two terms are linked, of which the
+First terms of up to 400,000 lines are trimmed: of one real proof that is done anew and merged again and again, as in bench/check.py, so that most steps are said
+again; the same, of which nothing needs the first half; and a chain in which each step equals the one before but for its number, so that all are needed. Then two terms are linked, of which the
 first has one goal, or 256 equal ones. Times are those of the processor, the least of three runs, turn by turn with `check` of the same terms. Behind
 each number stands what was aimed at.
 
@@ -58,7 +58,8 @@ def trimming(helper, program, folder):
     """Prints what `trim` takes beside `check`."""
     model = written(folder / "model", MODEL + "\n")
     for count in COUNTS:
-        for title, text in (("all needed", term(count)[0]), ("half of them needed", with_spare_lines(count)), ("a chain", chain(count))):
+        texts = {"a proof again and again": term(count)[0], "half of it not needed": with_spare_lines(count), "a chain": chain(count)}
+        for title, text in texts.items():
             file, out = written(folder / "term", text), folder / "out"
             checked, trimmed = least(helper, program, [("check", model, file), ("trim", model, file, out)])
             kept = f"{steps_of(out)} of {steps_of(file)} lines kept"

@@ -18,7 +18,7 @@ MODEL = "x>=0 & y>0 -> [a:=1; {x'=v,v'=a & v>=0}]x>=0"
 PAIRS = (
     ("one rule", MODEL, "exchangeR(1,1)"),
     ("two uses of an axiom", MODEL, "useAt(composeb,1.1); useBack(composeb,1.1)"),
-    ("a cut and what takes it away", MODEL, 'cut("x>=0"); <(hideL(-1), nil)'),
+    ("a cut and what takes it away", MODEL, 'cut("true"); <(hideL(-1), closeTrue(2))'),
 )
 
 
