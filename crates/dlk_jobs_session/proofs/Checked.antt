@@ -1,9 +1,8 @@
 -- What a session writes is accepted by `check`.
-use Rattle.std.proofs.Common.{◌≡◌, ℕ, ◌<◌, ◌≤◌, List, [], ◌∷◌, ◌++◌, length, None, Some, refl, sym, ap, subst, ◌∙◌, arith}
+use Rattle.std.proofs.Common.{◌≡◌, ℕ, ◌≤◌, List, [], length, None, Some, refl, ap, subst, ◌∙◌, arith}
 use Rattle.std.specs.List.{All}
 use Rattle.std.proofs.lemmas.List.Elements.{All-nil, All-cons, All-weaker}
 use Rattle.dlk_tree.specs.Trees.{Tree}
-use Rattle.dlk_calculus.specs.Places.{At}
 use Rattle.dlk_calculus.specs.Provables.{Provable}
 use Rattle.dlk_calculus.specs.Sequents.{alone_right}
 use Rattle.dlk_calculus.specs.Steps.{Step, Start, UseAxiom, UseRule, Leaf, Apply as ApplyRule, Merge, Substitute, Rename}
@@ -15,8 +14,7 @@ use Rattle.dlk_tacsyn.specs.Strategies.{StrategyText}
 use Rattle.dlk_elab.specs.Symbols.{ReplacesSymbols}
 use Rattle.dlk_elab.proofs.FewSteps.{takes_length}
 use Rattle.dlk_recorder.specs.Terms.{term_text, HasSymbols}
-use Rattle.dlk_session.specs.Sessions.{State, Begins, Line, Apply, Undo, Show, Save, Answer, Turns}
-use Rattle.dlk_session.specs.Kept.{IsKept}
+use Rattle.dlk_session.specs.Sessions.{State, Begins, Line, Answer, Turns}
 use Rattle.dlk_strategy.specs.Runs.{RunsOn}
 use Rattle.dlk_replies.specs.declared.form.Role.TheVariants.{Model, Term}
 use Rattle.dlk_replies.specs.declared.reply.Layout.TheVariants.{Text}
@@ -33,7 +31,6 @@ use Rattle.dlk_jobs_session.specs.Scripts.{ScriptLine, apply, undo, show, save, 
 use Rattle.dlk_jobs_session.specs.Sessions.{Plays, Sessions, bad_model, bad_line, too_long, keeps_none}
 use Rattle.dlk_jobs_session.specs.Sessions.{writes as writes_term}
 use Rattle.dlk_jobs_session.specs.Saved.{IsChecked}
-use Rattle.dlk_jobs_session.proofs.RunLaws.{ShowsLast}
 use Rattle.dlk_jobs_session.proofs.SavedSteps.{IsProof, SavedIsProof, IsGood, IsNamed}
 
 -- the names of a script's strategies are names
@@ -69,14 +66,14 @@ record Written (model script term : List ℕ) : Type 0 where
   short : length (term_text steps) ≤ limit_of Term
   term_is : term_text steps ≡ term
 
-nothing_written : {reply : Reply} {term : List ℕ} → reply.written ≡ None → reply.written ≡ Some term → ⊥
-nothing_written none some = cc
+nothing_written : (reply : Reply) (term : List ℕ) → reply.written ≡ None → reply.written ≡ Some term → ⊥
+nothing_written reply term nothing some = cc
 
 written_by : (model script term : List ℕ) (reply : Reply) → Sessions model script reply → reply.written ≡ Some term → Written model script term
-written_by model script term _ (bad_model why is) written = absurd (nothing_written {reply = text_refused Model why} (text_unwritten Model why) written)
+written_by model script term _ (bad_model why is) written = absurd (nothing_written (text_refused Model why) term (text_unwritten Model why) written)
 written_by model script term _ (bad_line f reads n is) written = absurd cc
 written_by model script term _ (too_long answers last plays steps saved long) written = absurd cc
-written_by model script term _ (keeps_none answers last plays none) written = absurd cc
+written_by model script term _ (keeps_none answers last plays unsaved) written = absurd cc
 written_by model script term _ (writes_term answers last plays steps saved short) written =
     record { answers = answers; last = last; plays = plays; steps = steps; saved = saved; short = short; term_is = cc }
 

@@ -1,6 +1,10 @@
 pub mod ScriptLaws
+pub mod ReadLines
+pub mod LinesKept
+pub mod Turned
+pub mod Ended
+pub mod Replied
 pub mod Models
-pub mod RunLaws
 pub mod SavedSteps
 pub mod Checked
 pub mod OneSession

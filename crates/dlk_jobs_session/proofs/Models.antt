@@ -47,4 +47,3 @@ model_shallow model f reads = elim (cases_lt greatest_depth (depth f)) [
         },
       ))
 ]
-

@@ -1,7 +1,7 @@
 -- What a session saves: steps that are taken in turn, whose last row shows the model's formula.
 use Rattle.std.proofs.Common.{◌≡◌, ℕ, ◌≤◌, List, [], ◌∷◌, ◌++◌, take, drop, length, Option, Some, None, refl, sym, ap, subst, ◌∙◌, arith, inl, inr, length-take}
 use Rattle.std.specs.List.{All}
-use Rattle.std.proofs.lemmas.List.Elements.{All-nil, All-cons, All-head, All-tail, All-push, All-weaker, All-take}
+use Rattle.std.proofs.lemmas.List.Elements.{All-nil, All-cons, All-head, All-tail, All-push, All-append, All-weaker, All-take}
 use Rattle.std.proofs.lemmas.List.{take-append-drop}
 use Rattle.dlk_tree.specs.Trees.{Tree}
 use Rattle.dlk_calculus.specs.Places.{At}
@@ -12,7 +12,7 @@ use Rattle.dlk_calculus.proofs.PlaceLaws.{at_one, At-more, place_cases, All-fron
 use Rattle.dlk_kernel.specs.Taken.{Takes}
 use Rattle.dlk_tacsyn.specs.Rows.{HasNames}
 use Rattle.dlk_tacsyn.specs.Tactics.{Tactic, EachAtom}
-use Rattle.dlk_elab.specs.Outcomes.{Progress, Outcome, Done}
+use Rattle.dlk_elab.specs.Outcomes.{Progress, Done}
 use Rattle.dlk_elab.specs.Symbols.{ReplacesSymbols}
 use Rattle.dlk_elab.proofs.FewSteps.{takes_length}
 use Rattle.dlk_strategy.specs.Runs.{RunsOn}
@@ -20,11 +20,10 @@ use Rattle.dlk_session.specs.declared.reply.Reply.{Reply}
 use Rattle.dlk_session.specs.Kept.{AreEarlier, none as none_earlier, more as one_earlier, IsKept}
 use Rattle.dlk_session.specs.Sessions.{State, Begins, Applies, no_goal, done, fails, spent, Undoes, nothing, undone, Line, Apply, Undo, Show, Save, Answer}
 use Rattle.dlk_session.specs.Sessions.{Turn, applies, undoes, shows as shows_row, saves, Turns, none, more}
-use Rattle.dlk_session.proofs.Turning.{rows_behind, WasEarlier, last_earlier}
-use Rattle.dlk_jobs_session.proofs.RunLaws.{ShowsLast}
+use Rattle.dlk_session.proofs.Turning.{rows_behind, last_earlier}
 
 -- the row of this number shows the sequent
-abbrev ShowsAt : Sequent → List Provable → ℕ → Type 0
+abbrev pub ShowsAt : Sequent → List Provable → ℕ → Type 0
 ShowsAt s rows n = (p : Provable) × At rows n p × (p.conclusion ≡ s)
 
 -- steps that may be saved
@@ -32,7 +31,7 @@ pub record IsProof (s : Sequent) (steps : List Step) (rows : List Provable) : Ty
   pub taken : Takes [] steps rows
   pub some : 1 ≤ length steps
   pub symbols : All ReplacesSymbols steps
-  pub shows : ShowsLast s rows
+  pub shows : ShowsAt s rows (length rows)
 
 abbrev pub SavedIsProof : Sequent → Option (List Step) → Type 0
 SavedIsProof s None = Unit {0}
@@ -51,8 +50,8 @@ start_shows s rows p _ e _ = absurd (cc e)
 
 -- ---- places of rows
 
-more_rows : (s : Sequent) (rows more : List Provable) (n : ℕ) → ShowsAt s rows n → ShowsAt s (rows ++ more) n
-more_rows s rows more n h = (h.0, At-more rows more n h.0 h.1, h.2)
+more_rows : (s : Sequent) (rows new : List Provable) (n : ℕ) → ShowsAt s rows n → ShowsAt s (rows ++ new) n
+more_rows s rows new n h = (h.0, At-more rows new n h.0 h.1, h.2)
 
 fewer_rows : (s : Sequent) (rows : List Provable) (count n : ℕ) → 1 ≤ n → n ≤ count → count ≤ length rows → ShowsAt s rows n → ShowsAt s (take count rows) n
 fewer_rows s rows count n some few within h = elim (place_cases (take count rows) n) [
@@ -84,7 +83,7 @@ begins_good f now begins kept =
     let first : State = record { steps = Start s ∷ []; rows = p ∷ []; earlier = []; used = 0; saved = None } in
     let symbols : All ReplacesSymbols (Start s ∷ []) =
     All-cons ReplacesSymbols (Start s) [] (λ fact pairs e. absurd (cc e)) (All-nil ReplacesSymbols) in
-    let shows : ShowsLast s (p ∷ []) = (p, refl, start_shows s [] p (Start s) refl begins.start.given) in
+    let shows : ShowsAt s (p ∷ []) 1 = (p, refl, start_shows s [] p (Start s) refl begins.start.given) in
     let good : IsKept first → IsGood s first = λ k. record {
       kept = k;
       proof = record { taken = k.taken; some = k.some; symbols = symbols; shows = shows };
@@ -102,10 +101,10 @@ IsNamed Save = Unit {0}
 
 module _ (taken : (t : Tactic) (rows : List Provable) (goal used : ℕ) (made : Progress) (left : ℕ) → RunsOn t rows goal used (Done made left) →
     Takes rows made.steps made.rows)
-    (symbols : (t : Tactic) (before : List Step) (rows : List Provable) (goal used left : ℕ) (made : Progress) → EachAtom HasNames t →
-    Takes [] before rows → All ReplacesSymbols before → RunsOn t rows goal used (Done made left) → All ReplacesSymbols (before ++ made.steps))
-    (shows : (s : Sequent) (t : Tactic) (rows : List Provable) (goal used left : ℕ) (made : Progress) → ShowsLast s rows →
-    RunsOn t rows goal used (Done made left) → ShowsLast s made.rows)
+    (symbols : (t : Tactic) (before : List Step) (rows : List Provable) (goal used : ℕ) (made : Progress) (left : ℕ) → EachAtom HasNames t →
+    Takes [] before rows → RunsOn t rows goal used (Done made left) → All ReplacesSymbols made.steps)
+    (concludes : (t : Tactic) (rows : List Provable) (goal used : ℕ) (made : Progress) (left : ℕ) (p : Provable) → At rows (length rows) p →
+    RunsOn t rows goal used (Done made left) → (q : Provable) × At made.rows (length made.rows) q × (q.conclusion ≡ p.conclusion))
     (turn_kept : (now next : State) (line : Line) (answer : Answer) → IsKept now → Turn RunsOn now line answer next → IsKept next) where
   apply_good : (s : Sequent) (goal : ℕ) (t : Tactic) (now next : State) (says : Reply) → EachAtom HasNames t → IsGood s now → IsKept next →
       Applies RunsOn goal t now says next → IsGood s next
@@ -113,6 +112,7 @@ module _ (taken : (t : Tactic) (rows : List Provable) (goal used : ℕ) (made : 
   apply_good s goal t now _ _ named good kept (done {made} {left} there run) =
       let new = rows_behind now.rows made.rows made.steps (taken t now.rows goal now.used made left run) in
       let count = takes_length [] now.steps now.rows good.proof.taken in
+      let last = concludes t now.rows goal now.used made left good.proof.shows.0 good.proof.shows.1 run in
       let old_rows : ShowsAt s now.rows (length now.steps) =
       subst (λ n. ShowsAt s now.rows n) (omega (arith, count)) good.proof.shows in
       let earlier : All (ShowsAt s now.rows) (now.earlier ++ length now.steps ∷ []) =
@@ -122,8 +122,9 @@ module _ (taken : (t : Tactic) (rows : List Provable) (goal used : ℕ) (made : 
         proof = record {
           taken = kept.taken;
           some = kept.some;
-          symbols = symbols t now.steps now.rows goal now.used left made named good.proof.taken good.proof.symbols run;
-          shows = shows s t now.rows goal now.used left made good.proof.shows run;
+          symbols = All-append ReplacesSymbols now.steps made.steps good.proof.symbols
+              (symbols t now.steps now.rows goal now.used made left named good.proof.taken run);
+          shows = (last.0, last.1, last.2 ∙ good.proof.shows.2);
         };
         earlier = subst (λ (rs : List Provable). All (ShowsAt s rs) (now.earlier ++ length now.steps ∷ [])) (sym new.1)
             (All-weaker (ShowsAt s now.rows) (ShowsAt s (now.rows ++ new.0)) (more_rows s now.rows new.0) (now.earlier ++ length now.steps ∷ []) earlier);

@@ -1,5 +1,5 @@
 -- A text says one line or none, and a file one script or has one first wrong line.
-use Rattle.std.proofs.Common.{◌≡◌, ◌⊎◌, ℕ, ◌+◌, List, [], ◌∷◌, ◌++◌, refl, sym, ap, subst, ◌∙◌, inl, inr, append_assoc}
+use Rattle.std.proofs.Common.{◌≡◌, ◌≢◌, ◌⊎◌, ℕ, ◌+◌, drop, get_or, arith, List, [], ◌∷◌, ◌++◌, refl, sym, ap, subst, ◌∙◌, inl, inr, append_assoc}
 use Rattle.std.specs.Prelude.{codes}
 use Rattle.dlk_lines.specs.Numbers.{IsNumber}
 use Rattle.dlk_lines.specs.Parts.{NumberThen}
@@ -25,8 +25,10 @@ pub data Form (text : List ℕ) : Line → Type 0 where
 goal_then : (n rest : List ℕ) (goal : ℕ) → IsNumber n goal → GoalThen (codes "apply " ++ n ++ codes " " ++ rest) goal rest
 goal_then n rest goal is = record {
   behind = n ++ codes " " ++ rest;
-  word_is = append_assoc (codes "apply " ++ n) (codes " ") rest ∙ append_assoc (codes "apply ") n (codes " " ++ rest)
-      ∙ ap (λ l. codes "apply " ++ l) (sym (append_assoc n (codes " ") rest));
+  word_is =
+      let all : codes "apply " ++ n ++ codes " " ++ rest ≡ codes "apply " ++ (n ++ 32 ∷ rest) =
+      append_assoc (codes "apply " ++ n) (codes " ") rest ∙ append_assoc (codes "apply ") n (32 ∷ rest) in
+      all ∙ ap (λ l. codes "apply " ++ l) (sym (append_assoc n (codes " ") rest));
   number = before_space n rest goal is;
 }
 
@@ -39,17 +41,25 @@ form_of _ _ save = saves refl
 -- and from its parts
 pub goal_text : (text rest : List ℕ) (goal : ℕ) (h : GoalThen text goal rest) → text ≡ codes "apply " ++ h.number.digits ++ codes " " ++ rest
 goal_text text rest goal h =
-    h.word_is ∙ ap (λ l. codes "apply " ++ l) h.number.text_is
-    ∙ ap (λ l. codes "apply " ++ l) (append_assoc h.number.digits (codes " ") rest) ∙ sym (append_assoc (codes "apply ") h.number.digits (codes " " ++ rest))
-    ∙ sym (append_assoc (codes "apply " ++ h.number.digits) (codes " ") rest)
+    let digits = h.number.digits in
+    let all : codes "apply " ++ digits ++ codes " " ++ rest ≡ codes "apply " ++ (digits ++ 32 ∷ rest) =
+    append_assoc (codes "apply " ++ digits) (codes " ") rest ∙ append_assoc (codes "apply ") digits (32 ∷ rest) in
+    h.word_is ∙ ap (λ l. codes "apply " ++ l) h.number.text_is ∙ sym all
 
 pub said_apply : (text rest : List ℕ) (goal : ℕ) (strategy : Tactic) → GoalThen text goal rest → StrategyText rest strategy → ScriptLine text (Apply goal strategy)
 said_apply text rest goal strategy h says =
     subst (λ l. ScriptLine l (Apply goal strategy)) (sym (goal_text text rest goal h)) (apply rest h.number.is_number says)
 
+-- the words are unlike
+abbrev first_byte : List ℕ → ℕ
+first_byte l = get_or l 0 0
+
+abbrev second_byte : List ℕ → ℕ
+second_byte l = get_or l 1 0
+
 -- the goal and the strategy's text are those of the text
-behind_word : (a b : List ℕ) → codes "apply " ++ a ≡ codes "apply " ++ b → a ≡ b
-behind_word a b e = cc
+pub behind_word : (a b : List ℕ) → codes "apply " ++ a ≡ codes "apply " ++ b → a ≡ b
+behind_word a b e = ap (drop 6) e
 
 pub one_goal : (text rest behind : List ℕ) (m n : ℕ) → GoalThen text m rest → GoalThen text n behind → (m ≡ n) × (rest ≡ behind)
 one_goal text rest behind m n g h =
@@ -61,11 +71,13 @@ no_other text goal rest h =
     (λ e. not_undo h.behind (sym h.word_is ∙ e), (λ e. not_show h.behind (sym h.word_is ∙ e), λ e. not_save h.behind (sym h.word_is ∙ e)))
   where
     not_undo : (l : List ℕ) → codes "apply " ++ l ≡ codes "undo" → ⊥
-    not_undo l e = cc
+    not_undo l e = let h : 97 ≡ 117 = ap first_byte e in absurd (omega (arith, h))
+
     not_show : (l : List ℕ) → codes "apply " ++ l ≡ codes "show" → ⊥
-    not_show l e = cc
+    not_show l e = let h : 97 ≡ 115 = ap first_byte e in absurd (omega (arith, h))
+
     not_save : (l : List ℕ) → codes "apply " ++ l ≡ codes "save" → ⊥
-    not_save l e = cc
+    not_save l e = let h : 97 ≡ 115 = ap first_byte e in absurd (omega (arith, h))
 
 abbrev pub OneText : Type 0
 OneText = (bytes : List ℕ) (t u : Tactic) → StrategyText bytes t → StrategyText bytes u → t ≡ u
@@ -83,13 +95,13 @@ one_form one text _ _ (undoes e) (runs {goal} rest h says) = absurd ((no_other t
 one_form one text _ _ (shows e) (runs {goal} rest h says) = absurd ((no_other text goal rest h).1.0 e)
 one_form one text _ _ (saves e) (runs {goal} rest h says) = absurd ((no_other text goal rest h).1.1 e)
 one_form one text _ _ (undoes e) (undoes f) = refl
-one_form one text _ _ (undoes e) (shows f) = let no : codes "undo" ≡ codes "show" = sym e ∙ f in cc
-one_form one text _ _ (undoes e) (saves f) = let no : codes "undo" ≡ codes "save" = sym e ∙ f in cc
-one_form one text _ _ (shows e) (undoes f) = let no : codes "show" ≡ codes "undo" = sym e ∙ f in cc
+one_form one text _ _ (undoes e) (shows f) = let h : 117 ≡ 115 = ap first_byte (sym e ∙ f) in absurd (omega (arith, h))
+one_form one text _ _ (undoes e) (saves f) = let h : 117 ≡ 115 = ap first_byte (sym e ∙ f) in absurd (omega (arith, h))
+one_form one text _ _ (shows e) (undoes f) = let h : 115 ≡ 117 = ap first_byte (sym e ∙ f) in absurd (omega (arith, h))
 one_form one text _ _ (shows e) (shows f) = refl
-one_form one text _ _ (shows e) (saves f) = let no : codes "show" ≡ codes "save" = sym e ∙ f in cc
-one_form one text _ _ (saves e) (undoes f) = let no : codes "save" ≡ codes "undo" = sym e ∙ f in cc
-one_form one text _ _ (saves e) (shows f) = let no : codes "save" ≡ codes "show" = sym e ∙ f in cc
+one_form one text _ _ (shows e) (saves f) = let h : 104 ≡ 97 = ap second_byte (sym e ∙ f) in absurd (omega (arith, h))
+one_form one text _ _ (saves e) (undoes f) = let h : 115 ≡ 117 = ap first_byte (sym e ∙ f) in absurd (omega (arith, h))
+one_form one text _ _ (saves e) (shows f) = let h : 97 ≡ 104 = ap second_byte (sym e ∙ f) in absurd (omega (arith, h))
 one_form one text _ _ (saves e) (saves f) = refl
 
 pub one_line : OneText → (text : List ℕ) (a b : Line) → ScriptLine text a → ScriptLine text b → a ≡ b
@@ -149,7 +161,7 @@ applied : (text : List ℕ) (goal : ℕ) (strategy : Tactic) → Form text (Appl
 applied text goal strategy (runs rest h says) = (rest, h, says)
 
 pub no_goal : (text : List ℕ) → ((goal : ℕ) (rest : List ℕ) → ¬ GoalThen text goal rest) → (goal : ℕ) (strategy : Tactic) → ¬ ScriptLine text (Apply goal strategy)
-no_goal text none goal strategy is = let h = applied text goal strategy (form_of text (Apply goal strategy) is) in none goal h.0 h.1
+no_goal text out goal strategy is = let h = applied text goal strategy (form_of text (Apply goal strategy) is) in out goal h.0 h.1
 
 pub no_strategy : TextOrFault → (text rest : List ℕ) (goal : ℕ) (f : Fault) → GoalThen text goal rest → StrategyFault rest f →
     (other : ℕ) (strategy : Tactic) → ¬ ScriptLine text (Apply other strategy)
@@ -177,7 +189,7 @@ module _ (some_text : SomeText) (not_both : TextOrFault) where
         | yes e ↦ inl (Save, subst (λ l. ScriptLine l Save) (sym e) save)
         | no k ↦ elim (apply_decided text) [
           | inl said ↦ inl said
-          | inr none ↦ inr (no_form text n m k none)
+          | inr out ↦ inr (no_form text n m k out)
         ]
       ]
     ]
@@ -209,5 +221,6 @@ one_wrong _ _ _ (later {line} p ps) (here q) = absurd (q line p)
 one_wrong _ _ _ (later {texts} {n} p ps) (later {n = m} q qs) = ap (λ k. k + 1) (one_wrong texts n m ps qs)
 
 pub not_wrong : (texts : List (List ℕ)) (lines : List Line) (n : ℕ) → SayLines texts lines → FirstWrong texts n → ⊥
+not_wrong _ _ n none wrong = elim wrong [ ]
 not_wrong _ _ _ (more {line} p ps) (here q) = q line p
 not_wrong _ _ _ (more {texts} {lines} p ps) (later {n} q qs) = not_wrong texts lines n ps qs

@@ -1,10 +1,10 @@
 -- `session` answers something to a model and a script.
-use Rattle.std.proofs.Common.{◌≡◌, ◌⊎◌, ℕ, ◌≤◌, List, [], ◌∷◌, ◌++◌, length, Option, None, Some, refl, sym, subst, ◌∙◌, inl, inr, arith}
+use Rattle.std.proofs.Common.{◌≡◌, ◌⊎◌, ℕ, List, [], ◌∷◌, ◌++◌, length, Option, None, Some, refl, ◌∙◌, inl, inr, arith}
 use Rattle.std.specs.List.{All}
 use Rattle.std.proofs.lemmas.Bool.{cases_lt}
 use Rattle.std.proofs.lemmas.List.Elements.{All-nil, All-cons, All-head, All-tail}
 use Rattle.dlk_tree.specs.Trees.{Tree}
-use Rattle.dlk_calculus.specs.Places.{At, IsPlace}
+use Rattle.dlk_calculus.specs.Places.{IsPlace}
 use Rattle.dlk_calculus.specs.Provables.{Provable}
 use Rattle.dlk_calculus.specs.Sequents.{IsFormula}
 use Rattle.dlk_calculus.specs.Steps.{Step}
@@ -22,7 +22,7 @@ use Rattle.dlk_recorder.specs.Terms.{term_text}
 use Rattle.dlk_report.specs.Reports.{text_report}
 use Rattle.dlk_session.specs.declared.reply.Reply.TheVariants as says
 use Rattle.dlk_session.specs.Kept.{IsKept}
-use Rattle.dlk_session.specs.Sessions.{State, Begins, Applies, no_goal, done, fails, spent, nothing, undone, Line, Apply, Undo, Show, Save, Answer, Replies, Shows}
+use Rattle.dlk_session.specs.Sessions.{State, Begins, no_goal, done, fails, spent, nothing, undone, Line, Apply, Undo, Show, Save, Answer, Replies, Shows}
 use Rattle.dlk_session.specs.Sessions.{Turn, applies, undoes, shows, saves, Turns}
 use Rattle.dlk_session.specs.Sessions.{none as no_turns, more as more_turns}
 use Rattle.dlk_session.proofs.MainGoals.{some_last}

@@ -8,13 +8,12 @@ ghost use Rattle.dlk_jobs_session.specs.Saved.{IsChecked};
 
 use crate::runner::Strategies;
 use dlk_calculus::laws::{derived_formulas, history_derives};
-use dlk_elab::{atom_has_symbols, atom_is_taken, atom_replaces_goal};
 use dlk_derive::laws::plan_is_fitting;
+use dlk_elab::{atom_has_symbols, atom_is_taken, atom_replaces_goal};
 use dlk_jobs_record::laws::{recorded_is_written, written_is_checked};
-use dlk_library::laws::expansion_fits;
 use dlk_machine::laws::tree_texts;
 use dlk_session::{one_session, session_is_kept};
-use dlk_strategy::{run_on_is_taken, some_outcome_on};
+use dlk_strategy::{run_on_has_symbols, run_on_is_taken, run_on_keeps_conclusion, some_outcome_on};
 use dlk_tacsyn::laws::{fit_strategy, one_strategy, strategy_or_fault};
 
 /// A file says one list of lines, or has one first line that says nothing, and not both; and it says lines or has such a line.
@@ -55,13 +54,8 @@ pub fn session_is_checked()
     fit_strategy();
     session_is_kept::<Strategies>();
     run_on_is_taken();
-    atom_is_taken();
-    atom_replaces_goal();
-    atom_has_symbols();
-    history_derives();
-    derived_formulas();
-    expansion_fits();
-    plan_is_fitting();
+    run_on_has_symbols();
+    run_on_keeps_conclusion();
     recorded_is_written();
     written_is_checked();
 }

@@ -26,3 +26,4 @@ mod Differentiated
 mod Advancing
 mod Blind
 mod OnGoal
+mod OnGoalKept

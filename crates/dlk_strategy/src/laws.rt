@@ -130,6 +130,26 @@ pub fn run_on_is_taken()
     atom_is_taken();
 }
 
+/// What the steps replace that a run on a goal makes are symbols, where the names of its atoms are names and what they are given to replace are
+/// symbols.
+pub fn run_on_has_symbols()
+    ensures { (t : Tactic) (steps : List Step) (rows : List Provable) (goal used : ℕ) (made : Progress) (left : ℕ) → EachAtom HasNames t → Takes [] steps rows → RunsOn t rows goal used (Done made left) → All ReplacesSymbols made.steps }
+{
+    atom_is_taken();
+    history_derives();
+    derived_formulas();
+    expansion_fits();
+    atom_has_symbols();
+    plan_is_fitting();
+}
+
+/// The last row of a run on a goal shows what the last of the rows shows on which it ran.
+pub fn run_on_keeps_conclusion()
+    ensures { (t : Tactic) (rows : List Provable) (goal used : ℕ) (made : Progress) (left : ℕ) (p : Provable) → At rows (length rows) p → RunsOn t rows goal used (Done made left) → (q : Provable) × At made.rows (length made.rows) q × (q.conclusion ≡ p.conclusion) }
+{
+    atom_replaces_goal();
+}
+
 /// A run on a goal counts on from the atoms that were run before, up to 16,000, and makes at most 24 steps for each that it counts.
 pub fn run_on_is_counted()
     ensures done { (t : Tactic) (rows : List Provable) (goal used : ℕ) (made : Progress) (left : ℕ) → used ≤ most_runs → RunsOn t rows goal used (Done made left) → (used ≤ made.used) × (made.used ≤ most_runs) × (length made.steps ≤ most_steps * (made.used - used)) }

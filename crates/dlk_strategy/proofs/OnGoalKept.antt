@@ -1,8 +1,8 @@
 -- Runs on a goal of rows: what their steps replace are symbols, and the last row shows what the last of those before shows.
-use Rattle.std.proofs.Common.{◌≡◌, ℕ, List, [], ◌∷◌, ◌++◌, map, length, Option, sym, ap, subst, ◌∙◌}
+use Rattle.std.proofs.Common.{◌≡◌, ℕ, List, [], ◌∷◌, ◌++◌, map, length, Option, refl, sym, ap, subst, ◌∙◌, append_assoc}
 use Rattle.std.specs.List.{All}
 use Rattle.std.proofs.lemmas.List.{append-nil}
-use Rattle.std.proofs.lemmas.List.Elements.{All-append}
+use Rattle.std.proofs.lemmas.List.Elements.{All-nil, All-append}
 use Rattle.dlk_tree.specs.Trees.{Tree}
 use Rattle.dlk_calculus.specs.Places.{At}
 use Rattle.dlk_calculus.specs.Sequents.{Sequent}
@@ -18,16 +18,15 @@ use Rattle.dlk_derive.specs.Derives.{Plans, use_of}
 use Rattle.dlk_library.specs.Expanded.{Expanded}
 use Rattle.dlk_elab.specs.Atoms.{AtomSteps, Replaces}
 use Rattle.dlk_elab.specs.Symbols.{ReplacesSymbols}
-use Rattle.dlk_strategy.specs.Runs.{Progress, Done, Runs, RunsOn, moved, behind}
-use Rattle.dlk_strategy.proofs.Blind.{blind_fate}
+use Rattle.dlk_strategy.specs.Runs.{Progress, Done, RunsOn}
 use Rattle.dlk_strategy.proofs.FixedAtoms.{all_named}
 use Rattle.dlk_strategy.proofs.Keeping.{keeps_fate}
 use Rattle.dlk_strategy.proofs.OnGoal.{fresh}
-use Rattle.dlk_strategy.proofs.TakenSteps.{IsTaken, taken_on, AnyAtom, uses_any, each_any}
+use Rattle.dlk_strategy.proofs.TakenSteps.{AnyAtom, uses_any, each_any, takes_both}
 
--- the steps are taken in turn, and what they replace are symbols
-abbrev IsSymbolic : Progress → Type 0
-IsSymbolic now = IsTaken now × All ReplacesSymbols now.steps
+-- the steps are taken in turn behind those that gave the rows, and what they replace are symbols
+abbrev IsSymbolic : List Step → Progress → Type 0
+IsSymbolic before now = Takes [] (before ++ now.steps) now.rows × All ReplacesSymbols now.steps
 
 module _ (atom_taken : (rows : List Provable) (fact goal : ℕ) (atom : Atom) (steps : List Step) (after : List Provable) →
     AtomSteps rows fact goal atom steps after → Takes rows steps after)
@@ -37,25 +36,26 @@ module _ (atom_taken : (rows : List Provable) (fact goal : ℕ) (atom : Atom) (s
     (plan_names : (there : Option Tree) (path : List ℕ) (calls : List Call) → Plans there path calls → (byte : ℕ) (place : Place) →
     All HasNames (map (use_of byte place) calls))
     (expanded_names : (t u : Tactic) → EachAtom HasNames t → Expanded t u → EachAtom HasNames u) where
-  symbolic_on : (now : Progress) (goal : ℕ) (atom : Atom) (new : List Step) (rows : List Provable) → HasNames atom → IsSymbolic now →
-      AtomSteps now.rows (length now.rows) goal atom new rows → Takes [] (now.steps ++ new) rows × All ReplacesSymbols (now.steps ++ new)
-  symbolic_on now goal atom new rows names h by =
-      let formulas = taken_formulas now.steps now.rows h.0 in (
-        taken_on atom_taken now goal atom new rows h.0 by,
+  symbolic_on : (before : List Step) (now : Progress) (goal : ℕ) (atom : Atom) (new : List Step) (rows : List Provable) → HasNames atom →
+      IsSymbolic before now → AtomSteps now.rows (length now.rows) goal atom new rows →
+      Takes [] (before ++ (now.steps ++ new)) rows × All ReplacesSymbols (now.steps ++ new)
+  symbolic_on before now goal atom new rows names h by =
+      let formulas = taken_formulas (before ++ now.steps) now.rows h.0 in
+      let taken = takes_both [] now.rows rows (before ++ now.steps) new h.0 (atom_taken now.rows (length now.rows) goal atom new rows by) in (
+        subst (λ (xs : List Step). Takes [] xs rows) (append_assoc before now.steps new) taken,
         All-append ReplacesSymbols now.steps new h.1 (atom_symbols now.rows (length now.rows) goal atom new rows formulas names by),
       )
 
-  pub on_symbols : (t : Tactic) (before : List Step) (rows : List Provable) (goal used left : ℕ) (made : Progress) → EachAtom HasNames t →
-      Takes [] before rows → All ReplacesSymbols before → RunsOn t rows goal used (Done made left) → All ReplacesSymbols (before ++ made.steps)
-  on_symbols t before rows goal used left made names taken symbols r =
+  pub on_symbols : (t : Tactic) (before : List Step) (rows : List Provable) (goal used : ℕ) (made : Progress) (left : ℕ) → EachAtom HasNames t →
+      Takes [] before rows → RunsOn t rows goal used (Done made left) → All ReplacesSymbols made.steps
+  on_symbols t before rows goal used made left names taken r =
       let named = expanded_names t r.expansion names r.expanded in
-      let run = (blind_fate before r.expansion 1 goal).forth (fresh rows used) (Done made left) r.run in
-      let first = subst (λ (xs : List Step). Takes [] xs rows × All ReplacesSymbols xs) (sym (append-nil before)) (taken, symbols) in
-      (keeps_fate IsSymbolic HasNames (λ now count h. h) (λ n atom h. all_named n atom.arguments h) plan_names symbolic_on r.expansion 1 goal named
-      (moved before (fresh rows used)) (behind before (Done made left)) first run).1
+      let first = subst (λ (xs : List Step). Takes [] xs rows) (sym (append-nil before)) taken in
+      (keeps_fate (IsSymbolic before) HasNames (λ now count h. h) (λ n atom h. all_named n atom.arguments h) plan_names (symbolic_on before) r.expansion 1 goal named
+      (fresh rows used) (Done made left) (first, All-nil ReplacesSymbols) r.run).1
 
 -- there are rows, of which the last shows this sequent
-abbrev pub ShowsLast : Sequent → List Provable → Type 0
+abbrev ShowsLast : Sequent → List Provable → Type 0
 ShowsLast s rows = (p : Provable) × At rows (length rows) p × (p.conclusion ≡ s)
 
 module _ (atom_replaces : (rows : List Provable) (goal : ℕ) (atom : Atom) (steps : List Step) (after : List Provable) →
@@ -67,9 +67,9 @@ module _ (atom_replaces : (rows : List Provable) (goal : ℕ) (atom : Atom) (ste
       let same : r.old_last ≡ h.0 = at_one now.rows (length now.rows) r.old_last h.0 r.old_is h.1 in
       (r.new_last, r.new_is, r.conclusion ∙ ap (λ (p : Provable). p.conclusion) same ∙ h.2)
 
-  pub on_shows : (s : Sequent) (t : Tactic) (rows : List Provable) (goal used left : ℕ) (made : Progress) → ShowsLast s rows →
-      RunsOn t rows goal used (Done made left) → ShowsLast s made.rows
-  on_shows s t rows goal used left made h r =
-      keeps_fate (λ (now : Progress). ShowsLast s now.rows) AnyAtom (λ now count k. k) (λ n atom is. tt) uses_any
-      (λ now here atom new after is k by. shows_on s now here atom new after k by) r.expansion 1 goal (each_any r.expansion) (fresh rows used) (Done made left)
-      h r.run
+  pub on_shows : (t : Tactic) (rows : List Provable) (goal used : ℕ) (made : Progress) (left : ℕ) (p : Provable) → At rows (length rows) p →
+      RunsOn t rows goal used (Done made left) → ShowsLast p.conclusion made.rows
+  on_shows t rows goal used made left p h r =
+      keeps_fate (λ (now : Progress). ShowsLast p.conclusion now.rows) AnyAtom (λ now count k. k) (λ n atom is. tt) uses_any
+      (λ now here atom new after is k by. shows_on p.conclusion now here atom new after k by) r.expansion 1 goal (each_any r.expansion) (fresh rows used)
+      (Done made left) (p, h, refl) r.run
