@@ -1,4 +1,4 @@
-use Rattle.std.proofs.Common.{◌≤◌, [], length, map, ap, sym, subst, ◌∙◌, codes, arith}
+use Rattle.std.proofs.Common.{[], length, map, ap, sym, subst, codes, arith}
 use Rattle.std.proofs.lemmas.List.{length-map}
 use Rattle.std.proofs.lemmas.Result.{IfOk-weaker, IfErr-weaker, err_from_is_err_and}
 use Rattle.dlk_kernel.specs.Kernel.{facts}

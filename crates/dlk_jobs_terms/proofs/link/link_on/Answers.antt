@@ -1,11 +1,9 @@
-use Rattle.std.proofs.Common.{◌≤◌, IfOk, IfErr, [], length, map, ap, sym, subst, ◌∙◌, codes, arith}
+use Rattle.std.proofs.Common.{IfOk, IfErr, [], length, map, ap, sym, subst, codes, arith}
 use Rattle.std.proofs.lemmas.List.{length-map}
 use Rattle.std.proofs.lemmas.Result.{IfOk-weaker, IfErr-weaker, err_from_is_err_and}
 use Rattle.dlk_kernel.specs.Kernel.{facts}
 use Rattle.dlk_kernel.specs.Taken.{Takes}
 use Rattle.dlk_link.specs.Ends.{EndsIn as StepsEndIn}
-use Rattle.dlk_link.specs.Faults.{IsLinkFault}
-use Rattle.dlk_link.specs.Links.{Links as AreLinked, LacksGoal, LinksUpTo}
 use Rattle.dlk_replies.specs.Ended.{EndsIn}
 use Rattle.dlk_replies.specs.Shown.{reply_of}
 use Rattle.dlk_replies.proofs.Ends.{ends_weaker, ends_so}

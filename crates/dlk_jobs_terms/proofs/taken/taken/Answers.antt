@@ -24,9 +24,12 @@ returns-clause-taken g c =
     let outcome = c.in_ok-outcome.outcome in
     let kept = c.in_ok-outcome.ensures.kept in
     let shown = subst (λ (f : Tree). (p : Provable) → At rows outcome.fact p → p.conclusion ≡ proves f) same c.in_ok-judge.ensures.shown in
-    let taken = takes (trees kernel.store) c.args.term.now rows outcome kept c.args.model.now read.0 read.1 shown in
-    (rows, kept.last, subst (λ s. TakesTerm c.args.model.now c.args.term.now (map (step_at (trees s)) outcome.steps.items) rows kept.last)
-    (sym c.release.ensures.store) taken)
+    let taken = takes (trees kernel.store) c.args.term.now rows outcome kept c.args.model.now read.0 read.1 shown in (
+      rows,
+      kept.last,
+      subst (λ s. TakesTerm c.args.model.now c.args.term.now (map (step_at (trees s)) outcome.steps.items) rows kept.last)
+          (sym c.release.ensures.store) taken,
+    )
 
 pub returns-in_err-formula-clause-refused : goal.returns-in_err-formula-clause-refused
 returns-in_err-formula-clause-refused g c =

@@ -1,5 +1,4 @@
-use Rattle.std.proofs.Common.{map, subst, sym, codes}
-use Rattle.std.proofs.lemmas.Result.{err_from_is_err_and}
+use Rattle.std.proofs.Common.{map, subst, sym}
 use Rattle.dlk_rules.specs.Steps.{step_at}
 use Rattle.dlk_kernel.specs.Kernel.{facts}
 use Rattle.dlk_jobs_check.specs.Terms.{Replays}
@@ -10,6 +9,9 @@ returns-clause-taken g c =
     let trees = g.S.Store.trees in
     let kernel = c.replayed.new.kernel in
     let rows = facts trees kernel in
-    let kept = c.in_ok-outcome.ensures.kept in
-    (rows, kept.last, subst (λ s. Replays c.args.lemma.now (map (step_at (trees s)) c.in_ok-outcome.outcome.steps.items) rows kept.last)
-    (sym c.release.ensures.store) kept.replays)
+    let kept = c.in_ok-outcome.ensures.kept in (
+      rows,
+      kept.last,
+      subst (λ s. Replays c.args.lemma.now (map (step_at (trees s)) c.in_ok-outcome.outcome.steps.items) rows kept.last)
+          (sym c.release.ensures.store) kept.replays,
+    )

@@ -1,4 +1,4 @@
-use Rattle.std.proofs.Common.{◌≤◌, IfOk, IfErr, [], length, map, ap, sym, subst, ◌∙◌, arith}
+use Rattle.std.proofs.Common.{IfOk, IfErr, [], length, map, ap, sym, subst, arith}
 use Rattle.std.specs.List.{All}
 use Rattle.std.proofs.lemmas.List.{length-map}
 use Rattle.std.proofs.lemmas.Result.{IfOk-weaker, IfErr-weaker, err_from_is_err_and}
@@ -15,7 +15,7 @@ use Rattle.dlk_jobs_check.specs.Terms.{RefusesTerm}
 use Rattle.dlk_jobs_terms.specs.Made.{RecordsLast}
 use Rattle.dlk_jobs_terms.specs.Trims.{Trims, refuses, trims}
 use Rattle.dlk_jobs_terms.proofs.EndLaws.{replay_ends, kept_ends}
-use Rattle.dlk_jobs_terms.proofs.Staying.{still_known, still_same}
+use Rattle.dlk_jobs_terms.proofs.Staying.{still_same}
 use Rattle.dlk_jobs_terms.proofs.trim.trim_on.Goals as goal
 
 pub trim-requires-clause-known : goal.trim-requires-clause-known
@@ -26,9 +26,11 @@ pub trim-requires-clause-ends : goal.trim-requires-clause-ends
 trim-requires-clause-ends g c =
     let trees = g.S.Store.trees c.taken.new.kernel.store in
     let whole = c.in_ok-whole.ensures.taken in
-    let steps = map (step_at trees) c.in_ok-whole.whole.items in
-    (whole.1, subst (λ l. StepsEndIn (map (step_at trees) l) whole.1) (sym c.deref.ensures.value)
-    (replay_ends c.accepted_says_steps.ensures.taken c.args.term.now steps whole.0 whole.1 whole.2.replays))
+    let steps = map (step_at trees) c.in_ok-whole.whole.items in (
+      whole.1,
+      subst (λ l. StepsEndIn (map (step_at trees) l) whole.1) (sym c.deref.ensures.value)
+          (replay_ends c.accepted_says_steps.ensures.taken c.args.term.now steps whole.0 whole.1 whole.2.replays),
+    )
 
 pub returns-in_err-whole-clause-ended : goal.returns-in_err-whole-clause-ended
 returns-in_err-whole-clause-ended g c =
