@@ -56,7 +56,10 @@ fn saved_term<S: Store, L: Ledger>(
     let Some(saved) = session.saved() else {
         return Ok(None);
     };
-    match record(alloc, session.kernel(), saved, Role::Term.limit(), steps)? {
+    let kernel = session.kernel();
+    // That its store keeps each tree once is what a kernel says with the number of its rows.
+    let _rows = kernel.rows();
+    match record(alloc, kernel, saved, Role::Term.limit(), steps)? {
         Recorded::Whole(term) => Ok(Some(term)),
         Recorded::TooLong(bytes) => Err(end_by(refuse_length(alloc, bytes))),
     }
