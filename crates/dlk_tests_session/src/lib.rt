@@ -1,5 +1,0 @@
-//! Tests of what `session` answers.
-#![tactic(auto)]
-
-#[cfg(test)]
-mod tests;
