@@ -7,7 +7,7 @@ mod trimming;
 use dlk_replies::NoReply;
 use dlk_tests_answers::{
     INCREMENT_BY_NODES, INCREMENT_MODEL, INCREMENT_REPORT, INCREMENT_TERM, REPORT, TERM,
-    TERM_BY_NODES, joined, proof, repeated, replied,
+    TERM_BY_NODES, checked, joined, proof, repeated, replied,
 };
 use std::alloc::Global;
 use std::process::Abort;

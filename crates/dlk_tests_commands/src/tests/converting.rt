@@ -89,13 +89,12 @@ fn converts_what_is_proved(rt: HostRuntime) -> Result<(), Fail> {
         ("[x:=*;]x>=0", "useAt(randomb,1); skolemR(1); leaf"),
     ] {
         let term = proof(alloc, model, strategy)?;
-        let check = ["check", "model", "term"];
-        let (status, report) = replied(alloc, &check, &[model.as_bytes(), &term])?;
+        let (status, report) = checked(alloc, model.as_bytes(), &term)?;
         let (_, reply) = replied(alloc, &CONVERT, &[&term])?;
         assert_eq!(&rt; reply.printed, report.printed, "{model}");
         let out = reply.written.unwrap_or(Vec::new(alloc));
-        let (found, checked) = replied(alloc, &check, &[model.as_bytes(), &out])?;
-        assert_eq!(&rt; checked.printed, report.printed, "{model}");
+        let (found, shown) = checked(alloc, model.as_bytes(), &out)?;
+        assert_eq!(&rt; shown.printed, report.printed, "{model}");
         assert_eq!(&rt; found, status, "{model}");
         let (_, again) = replied(alloc, &CONVERT, &[&out])?;
         assert_eq!(&rt; again.written, Some(out), "{model}");
