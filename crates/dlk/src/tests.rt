@@ -314,7 +314,7 @@ fn reads_one_byte_past_a_limit(rt: HostRuntime) -> Result<(), Fail> {
 
 /// The term that `prove` writes of `examples/increment`.
 const TERM: &str =
-    "1 start ==> x>=0 -> [x:=x+1;]x>=1\n2 apply 1 1 implyR(1)\n3 axiom assignb\n4 rename 3 x_ x\n5 subst 4 f()~>x+1,p(._0)~>._0>=1\n6 rule CE\n7 subst 6 p(||)~>[x:=x+1;]x>=1,q(||)~>x+1>=1,C{_}~>_\n8 merge 7 1 5\n9 apply 2 1 cutR(1,x+1>=1)\n10 apply 9 2 coHideR(1)\n11 apply 10 2 equivifyR(1)\n12 apply 11 2 commuteEquivR(1)\n13 merge 12 2 8\n14 leaf x>=0 ==> x+1>=1\n15 merge 13 1 14\ndone\n";
+    "dlk 2\nnode 1 var x\nnode 2 num 0\nnode 3 ge 1 2\nnode 4 num 1\nnode 5 add 1 4\nnode 6 assign x 5\nnode 7 ge 1 4\nnode 8 box 6 7\nnode 9 imply 3 8\n1 start ==> 9\n2 apply 1 1 implyR(1)\n3 axiom assignb\n4 rename 3 x_ x\nnode 10 dot 0\nnode 11 ge 10 4\n5 subst 4 f()~>5,p(._0)~>11\n6 rule CE\nnode 12 ge 5 4\nnode 13 hole\n7 subst 6 p(||)~>8,q(||)~>12,C{_}~>13\n8 merge 7 1 5\n9 apply 2 1 cutR(1,#12)\n10 apply 9 2 coHideR(1)\n11 apply 10 2 equivifyR(1)\n12 apply 11 2 commuteEquivR(1)\n13 merge 12 2 8\n14 leaf 3 ==> 12\n15 merge 13 1 14\ndone\n";
 
 /// What it prints.
 const REPORT: &str =

@@ -7,7 +7,8 @@ mod proving;
 
 use dlk_replies::NoReply;
 use dlk_tests_answers::{
-    INCREMENT_MODEL, INCREMENT_REPORT, INCREMENT_TERM, TERM, joined, padded, repeated, replied,
+    INCREMENT_BY_NODES, INCREMENT_MODEL, INCREMENT_REPORT, TERM_BY_NODES, joined, padded, repeated,
+    replied,
 };
 use std::alloc::Global;
 use std::process::Abort;

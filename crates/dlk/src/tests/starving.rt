@@ -26,7 +26,7 @@ fn is_silent(desk: &MemoryDesk) -> bool {
 fn has_term(desk: &MemoryDesk, is_written: bool) -> bool {
     match desk.file("term") {
         Some(term) => is_written
-            && term.starts_with(b"1 start ==> ")
+            && term.starts_with(b"dlk 2\nnode 1 ")
             && term.ends_with(b"\ndone\n"),
         None => !is_written,
     }

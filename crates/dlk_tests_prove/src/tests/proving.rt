@@ -43,7 +43,7 @@ fn writes_terms(rt: HostRuntime) -> Result<(), Fail> {
             "implyR(1); close",
             0,
             "closed\nconclusion ==> x>=0 -> x>=0\ngoals 0\nleaves 0\nlines 3\n",
-            TERM,
+            TERM_BY_NODES,
         ),
         // nothing is found, and a failed alternative leaves no line
         (
@@ -51,14 +51,14 @@ fn writes_terms(rt: HostRuntime) -> Result<(), Fail> {
             "(implyR(1)|andR(1))*1000",
             1,
             "open\nconclusion ==> x>=0\ngoals 1\ngoal 1 ==> x>=0\nleaves 0\nlines 1\n",
-            "1 start ==> x>=0\ndone\n",
+            "dlk 2\nnode 1 var x\nnode 2 num 0\nnode 3 ge 1 2\n1 start ==> 3\ndone\n",
         ),
         (
             "x>=0",
             "((((nil*0)*1000)*1000)*1000)*1000",
             1,
             "open\nconclusion ==> x>=0\ngoals 1\ngoal 1 ==> x>=0\nleaves 0\nlines 1\n",
-            "1 start ==> x>=0\ndone\n",
+            "dlk 2\nnode 1 var x\nnode 2 num 0\nnode 3 ge 1 2\n1 start ==> 3\ndone\n",
         ),
         // each part runs on all goals, and a leaf is listed once
         (
@@ -66,7 +66,7 @@ fn writes_terms(rt: HostRuntime) -> Result<(), Fail> {
             "andR(1); implyR(1); leaf",
             0,
             "closed\nconclusion ==> (x>=0 -> x+1>=0)&(x>=0 -> x+1>=0)\ngoals 0\nleaves 1\nleaf 1 x>=0 ==> x+1>=0\nlines 8\n",
-            "1 start ==> (x>=0 -> x+1>=0)&(x>=0 -> x+1>=0)\n2 apply 1 1 andR(1)\n3 apply 2 1 implyR(1)\n4 apply 3 2 implyR(1)\n5 leaf x>=0 ==> x+1>=0\n6 merge 4 1 5\n7 leaf x>=0 ==> x+1>=0\n8 merge 6 1 7\ndone\n",
+            "dlk 2\nnode 1 var x\nnode 2 num 0\nnode 3 ge 1 2\nnode 4 num 1\nnode 5 add 1 4\nnode 6 ge 5 2\nnode 7 imply 3 6\nnode 8 and 7 7\n1 start ==> 8\n2 apply 1 1 andR(1)\n3 apply 2 1 implyR(1)\n4 apply 3 2 implyR(1)\n5 leaf 3 ==> 6\n6 merge 4 1 5\n7 leaf 3 ==> 6\n8 merge 6 1 7\ndone\n",
         ),
         // a failed alternative's lines are taken back
         (
@@ -74,7 +74,7 @@ fn writes_terms(rt: HostRuntime) -> Result<(), Fail> {
             " /* by hand */ (implyR(1); andR(1)) | (implyR(1); close)\n",
             0,
             "closed\nconclusion ==> x>=0 -> x>=0\ngoals 0\nleaves 0\nlines 3\n",
-            TERM,
+            TERM_BY_NODES,
         ),
         // branches, places on the left and quoted formulas
         (
@@ -82,14 +82,14 @@ fn writes_terms(rt: HostRuntime) -> Result<(), Fail> {
             "implyR(1); implyR(1); andL(-1); implyL(-1); <(close, implyL(-3); close)",
             0,
             "closed\nconclusion ==> (a>0 -> b>0)&(b>0 -> c>0) -> a>0 -> c>0\ngoals 0\nleaves 0\nlines 9\n",
-            "1 start ==> (a>0 -> b>0)&(b>0 -> c>0) -> a>0 -> c>0\n2 apply 1 1 implyR(1)\n3 apply 2 1 implyR(1)\n4 apply 3 1 andL(1)\n5 apply 4 1 implyL(1)\n6 apply 5 1 close(1,2)\n7 apply 6 1 implyL(3)\n8 apply 7 1 close(1,2)\n9 apply 8 1 close(3,1)\ndone\n",
+            "dlk 2\nnode 1 var a\nnode 2 num 0\nnode 3 gt 1 2\nnode 4 var b\nnode 5 gt 4 2\nnode 6 imply 3 5\nnode 7 var c\nnode 8 gt 7 2\nnode 9 imply 5 8\nnode 10 and 6 9\nnode 11 imply 3 8\nnode 12 imply 10 11\n1 start ==> 12\n2 apply 1 1 implyR(1)\n3 apply 2 1 implyR(1)\n4 apply 3 1 andL(1)\n5 apply 4 1 implyL(1)\n6 apply 5 1 close(1,2)\n7 apply 6 1 implyL(3)\n8 apply 7 1 close(1,2)\n9 apply 8 1 close(3,1)\ndone\n",
         ),
         (
             "x>=0 -> \\forall x (x>=0 -> x>=0)",
             "implyR('R); boundR(z,1); skolemR(1); implyR(1); cut(\"z>=1\"); <(hideL(-3), coHideR(2)); nil",
             1,
             "open\nconclusion ==> x>=0 -> \\forall x (x>=0 -> x>=0)\ngoals 2\ngoal 1 x>=0, z>=0 ==> z>=0\ngoal 2 ==> z>=1\nleaves 0\nlines 8\n",
-            "1 start ==> x>=0 -> \\forall x (x>=0 -> x>=0)\n2 apply 1 1 implyR(1)\n3 apply 2 1 boundR(1,z)\n4 apply 3 1 skolemR(1)\n5 apply 4 1 implyR(1)\n6 apply 5 1 cut(z>=1)\n7 apply 6 1 hideL(3)\n8 apply 7 2 coHideR(2)\ndone\n",
+            "dlk 2\nnode 1 var x\nnode 2 num 0\nnode 3 ge 1 2\nnode 4 imply 3 3\nnode 5 forall x 4\nnode 6 imply 3 5\n1 start ==> 6\n2 apply 1 1 implyR(1)\n3 apply 2 1 boundR(1,z)\n4 apply 3 1 skolemR(1)\n5 apply 4 1 implyR(1)\nnode 7 var z\nnode 8 num 1\nnode 9 ge 7 8\n6 apply 5 1 cut(#9)\n7 apply 6 1 hideL(3)\n8 apply 7 2 coHideR(2)\ndone\n",
         ),
     ] {
         let lines = proves(&rt, alloc, model, strategy, *status, printed)?;
@@ -169,9 +169,10 @@ fn refuses_long_strategies_and_terms(rt: HostRuntime) -> Result<(), Fail> {
     assert_eq!(rt; status_by(alloc, &most)?, 1);
 
     let name = repeated(alloc, "a", 300_000)?;
-    let strategy = joined(alloc, b"cut(\"", &name, b">=0\")*255")?;
-    let line = "refused: term-too-long 76506183\n";
-    refuses_strategy(&rt, alloc, &strategy, line)?;
+    let strategy = joined(alloc, b"(boundR(", &name, b",1);boundR(x,1))*255")?;
+    let texts = [b"\\forall x x>=0".as_slice(), &strategy];
+    let line = "refused: term-too-long 76513894\n";
+    refuses(&rt, alloc, texts, line, line)?;
     Ok(())
 }
 
@@ -180,7 +181,7 @@ fn uses_axioms_inside(rt: HostRuntime) -> Result<(), Fail> {
     let alloc = rt.alloc();
     let strategy = "implyR(1); useAt(assignb,1); leaf";
     let term = proves(&rt, alloc, INCREMENT_MODEL, strategy, 0, INCREMENT_REPORT)?;
-    assert_eq!(rt; term.as_slice(), INCREMENT_TERM.as_bytes());
+    assert_eq!(rt; term.as_slice(), INCREMENT_BY_NODES.as_bytes());
     Ok(())
 }
 
