@@ -10,7 +10,7 @@ ghost use Rattle.dlk_replies.specs.Shown.{texts_of, reply_of};
 ghost use Rattle.dlk.specs.Cuts.{cut_bytes_of};
 ghost use Rattle.dlk.specs.Answers.{Answers};
 ghost use Rattle.dlk.specs.Runs.{Caused, AsksFor, Asks, Keeps, HasInputs, Answered, Completes};
-ghost use Rattle.dlk.specs.Headline.{ClosedTruly, JudgesTruly, ProvesTruly, GuardsTruly};
+ghost use Rattle.dlk.specs.Headline.{DerivedTruly, ClosedTruly, JudgesTruly, ProvesTruly, GuardsTruly};
 ghost use Rattle.dlk.specs.WrittenTerms.{ConvertsTruly, LinksTruly, TrimsTruly};
 ghost use Rattle.dlk.specs.Sessions.{SessionsTruly};
 ghost use Rattle.dlk.specs.Looks.{LooksAtFewFor, LooksAtFew};
@@ -99,7 +99,9 @@ pub fn run<D: Desk, L: Ledger>(
     desk: &mut D,
     steps: &mut Steps<L>,
 ) -> u8
-    // Whenever `closed` is printed, the model is derivable from exactly the printed leaves.
+    // Whenever `closed` is printed, the model is derived from exactly the printed leaves.
+    ensures derived_truly { D.tells → DerivedTruly (map string_bytes words.now) result (D.outside desk.old) (D.outside desk.new) }
+    // And it is so by the lines of the term.
     ensures closed_truly { D.tells → ClosedTruly (map string_bytes words.now) result (D.outside desk.old) (D.outside desk.new) }
     // A term is accepted exactly where each of its lines is a step, and else its first wrong line is named.
     ensures judges_truly { D.tells → JudgesTruly (map string_bytes words.now) result (D.outside desk.old) (D.outside desk.new) }
@@ -127,7 +129,7 @@ pub fn run<D: Desk, L: Ledger>(
     ensures answered { D.tells → HasInputs (map string_bytes words.now) (D.outside desk.old) → Answered (map string_bytes words.now) result (D.outside desk.old) (D.outside desk.new) }
     // Where moreover no count of faults rose: the answer, or want of memory.
     ensures completes { D.tells → HasInputs (map string_bytes words.now) (D.outside desk.old) → Completes (map string_bytes words.now) result (D.outside desk.old) (D.outside desk.new) }
-    // Where the result of a substitution is refused, few nodes were looked at.
+    // Where a substitution makes nothing, or a tree past a limit, few nodes were looked at.
     ensures looks { D.tells → LooksAtFew (map string_bytes words.now) result (D.outside desk.old) (D.outside desk.new) steps.old steps.new }
 {
     proved_is_checked();
