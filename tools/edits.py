@@ -3,6 +3,7 @@
 
     python3 tools/edits.py [NAME ..] [--room FOLDER] [--jobs N] [--table]
     python3 tools/edits.py [NAME ..] --look
+    python3 tools/edits.py [NAME ..] --starved [--look]
 
 An edit is a file that makes the code of a crate wrong. Those that tell most stand in `crates/NAME/must-fail/`, and the gate tries them; the
 others stand in `crates/NAME/edits/`. This tries both, of the named crates or of all that have any, with the files as they stand in this
@@ -25,6 +26,10 @@ The exit status is 0 where each edit is refused, 1 where one isn't, and 2 where 
 
 With --look nothing is tried: it is only said which edits can't be applied, since the text that they change is gone or stands there twice. That
 takes a moment, and is to be done whenever code changed. The exit status is then 1 where there are such edits.
+
+With --starved bodies are made and tried in place of those in the folders: in each a refusal becomes want of memory, one refusal a body, wherever
+a function can answer both. One that isn't refused is no fault by itself: an allocation may come first, and want of memory is free then. With
+--look the refusals are only listed, each with its place and the function that it stands in.
 """
 
 import argparse
@@ -48,6 +53,9 @@ SAID = re.compile(r"rt: must-fail (\w+)/(\S+)\.edit: (.*)")
 PLACE = re.compile(r"\b((?:src|specs|proofs)/\S+?:\d+:\d+)")
 CLAUSE = re.compile(r"`[^`\s]*?clause-([\w-]+?)(?:-fault)?`")
 CONDITION = re.compile(r"`([^`\s]+)`")
+FUNCTION = re.compile(r"\bfn (\w+)")
+FAULTS = re.compile(r"\benum (\w+)[^{;]*\{(.*?)\n\}", re.DOTALL)
+REFUSAL = re.compile(r"\bErr\(\s*(\w+)::(\w+)")
 KINDS = ("refused", "for a limit", "bad", "NOT REFUSED", "not tried")
 
 
@@ -68,6 +76,21 @@ class Tried(NamedTuple):
         return f"{self.crate}/{self.edit}: {self.kind}{self.why}"
 
 
+class Starved(NamedTuple):
+    """A refusal, from one line of a file to another, with the lines that answer want of memory in its place."""
+
+    file: Path
+    function: str
+    first: int
+    last: int
+    instead: list
+
+    @property
+    def name(self):
+        """The name of the body."""
+        return f"starved_{'_'.join(self.file.with_suffix('').parts[1:])}_{self.first + 1}"
+
+
 def crates():
     """The crates of crates.txt, lowest first, each with the libraries of its line."""
     rows = [line.split(":") for line in (TOP / "crates.txt").read_text().splitlines() if ":" in line and not line.startswith("#")]
@@ -83,6 +106,73 @@ def edits_of(crate):
                 raise Refused(f"{crate} has two edits named {edit.stem}")
             found[edit.stem] = edit
     return found
+
+
+def closing(text, at):
+    """The place behind the bracket that closes the one at this place."""
+    depth = 0
+    for place in range(at, len(text)):
+        depth += {"(": 1, ")": -1}.get(text[place], 0)
+        if depth == 0:
+            return place + 1
+    return len(text)
+
+
+def faults():
+    """The types of faults that have want of memory among their cases."""
+    texts = (file.read_text() for name in crates() for file in (TOP / "crates" / name / "src").rglob("*.rt"))
+    return {name for text in texts for name, cases in FAULTS.findall(text) if re.search(r"^ *Memory,", cases, re.MULTILINE)}
+
+
+def refusals(crate, types):
+    """The refusals that the functions of a crate answer in an expression, where want of memory is another case of their type."""
+    found = []
+    for file in sorted(it for it in (TOP / "crates" / crate / "src").rglob("*.rt") if "tests" not in it.stem and it.parent.name != "tests"):
+        text, taken = file.read_text(), -1
+        for it in REFUSAL.finditer(text):
+            end = closing(text, text.index("(", it.start()))
+            first, last = text.count("\n", 0, it.start()), text.count("\n", 0, end)
+            # a pattern, or a second one on the line
+            if it[1] not in types or it[2] == "Memory" or first <= taken or re.match(r"\s*(=(?!=)|\||if\b)", text[end:]):
+                continue
+            begin, stop = text.rfind("\n", 0, it.start()) + 1, text.find("\n", end)
+            line = text[begin : it.start()] + f"Err({it[1]}::Memory)" + text[end:stop]
+            names, taken = FUNCTION.findall(text, 0, it.start()), last
+            found.append(Starved(file.relative_to(TOP / "crates" / crate), names[-1] if names else "", first, last, [line] + [""] * (last - first)))
+    return found
+
+
+def refusals_of(names):
+    """The refusals of the named crates that have some, or of all, lowest first, without those of tests."""
+    for name in names:
+        if name not in crates():
+            raise Refused(f"{name} is no crate of crates.txt")
+    types = faults()
+    every = {name: refusals(name, types) for name in crates() if not names or name in names}
+    return {name: bodies for name, bodies in every.items() if bodies}
+
+
+def starve(room, crate, bodies):
+    """Marks the lines of the refusals in the room's copy of a crate, so that each stands there once, and puts the bodies where the gate finds them."""
+    folder = room / "crates" / crate / "must-fail"
+    shutil.rmtree(folder, ignore_errors=True)
+    folder.mkdir()
+    for number, body in enumerate(bodies):
+        file = room / "crates" / crate / body.file
+        lines, edit = file.read_text().split("\n"), f"file: {body.file}\n"
+        for at, instead in enumerate(body.instead, body.first):
+            lines[at] += f" // refusal {number}, {at - body.first}"
+            edit += f"old: {lines[at]}\nnew: {instead}\n"
+        file.write_text("\n".join(lines))
+        (folder / f"{body.name}.edit").write_text(edit)
+
+
+def list_starved(every):
+    """Prints the refusals, and how many there are."""
+    for crate, bodies in every.items():
+        for it in bodies:
+            print(f"crates/{crate}/{it.file}:{it.first + 1}: {it.function}: {it.instead[0].strip()}")
+    print(f"{sum(map(len, every.values()))} refusals in {sum(map(bool, every.values()))} crates")
 
 
 def chosen(names):
@@ -216,11 +306,12 @@ def tried_in_turn(room, names, jobs):
         return {(it.crate, it.edit): it for every in lanes.map(lambda name: tried_alone(room, name), names) for it in every}
 
 
-def tried(room, names, jobs):
+def tried(room, edits, jobs):
     """Tries the edits of the crates, so many at a time, and gives what came of each, in their order."""
+    names = list(edits)
     takes_names = re.search(r"\brt ci \[?NAME", subprocess.run(["rt", "help"], **how_in(room)).stdout)
     found = (tried_by_gate if takes_names else tried_in_turn)(room, names, jobs)
-    return [found.get((name, edit)) or Tried(name, edit, "not tried", ": rt said nothing of it") for name in names for edit in edits_of(name)]
+    return [found.get((name, edit)) or Tried(name, edit, "not tried", ": rt said nothing of it") for name in names for edit in edits[name]]
 
 
 def fault(crate, edit):
@@ -279,15 +370,23 @@ def main():
     words.add_argument("--jobs", metavar="N", type=int, default=len(os.sched_getaffinity(0)), help="how many are tried at a time")
     words.add_argument("--table", action="store_true", help="the sums as rows of a table")
     words.add_argument("--look", action="store_true", help="only say which edits can't be applied")
+    words.add_argument("--starved", action="store_true", help="bodies that answer want of memory in place of a refusal")
     given = words.parse_args()
     try:
+        starved = refusals_of(given.names) if given.starved else {}
+        if given.look and given.starved:
+            list_starved(starved)
+            return 0
         if given.look:
             return 0 if look(chosen(given.names)) else 1
         if shutil.which("rt") is None:
             raise Refused("there is no rt on the path: edits are tried with the Rattle toolchain")
-        names, room = chosen(given.names), room_of(given.room)
+        names, room = list(starved) or chosen(given.names), room_of(given.room)
         copy(room, names)
-        every = tried(room, names, max(1, given.jobs))
+        for name, bodies in starved.items():
+            starve(room, name, bodies)
+        edits = {name: [it.name for it in starved[name]] if starved else list(edits_of(name)) for name in names}
+        every = tried(room, edits, max(1, given.jobs))
         print("\n".join(it.line() for it in every), flush=True)
         tell_sums(names, every, given.table)
         return 0 if all(it.kind in KINDS[:2] for it in every) else 1

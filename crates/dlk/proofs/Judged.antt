@@ -86,7 +86,7 @@ module _ (layout : Layout) (model term : List ℕ) (f : Tree) (reads : ModelText
   }
 
 -- inputs within their limits are not too long
-within : (limit : ℕ) (bytes : List ℕ) → length bytes ≤ limit → nat_lt limit (length bytes) ≡ false
+pub within : (limit : ℕ) (bytes : List ℕ) → length bytes ≤ limit → nat_lt limit (length bytes) ≡ false
 within limit bytes h = grind (arith, nat_tests, h)
 
 short_enough : (names : List Word) (model term : List ℕ) → length model ≤ limit_of Model → length term ≤ limit_of Term →

@@ -1,5 +1,5 @@
 -- From the looks of an answer to those of a run.
-use Rattle.std.proofs.Common.{◌≡◌, ◌≢◌, ℕ, ◌+◌, ◌≤◌, ◌++◌, inl, inr, List, [], ◌∷◌, length, Option, None, Some, IsNone, option_map, Vec, get_or, refl, sym, ap, subst, ◌∙◌, arith}
+use Rattle.std.proofs.Common.{◌≡◌, ◌≢◌, ℕ, ◌+◌, ◌≤◌, ◌++◌, inl, inr, List, [], ◌∷◌, length, Option, None, Some, IsNone, option_map, Vec, get_or, codes, refl, sym, ap, subst, ◌∙◌, arith}
 use Rattle.std.specs.declared.alloc.Global.{Global}
 use Rattle.std.proofs.lemmas.List.{append_cancel_left}
 use Rattle.dlk_tree.specs.Trees.{Tree}
@@ -9,17 +9,19 @@ use Rattle.dlk_replies.specs.declared.command.Command.{Command}
 use Rattle.dlk_replies.specs.declared.command.Command.TheVariants.{Subst}
 use Rattle.dlk_replies.specs.declared.reply.Status.{Status}
 use Rattle.dlk_replies.specs.declared.reply.Status.TheVariants.{Closed, Done, Open, Refused, Words}
-use Rattle.dlk_replies.specs.Forms.{Word, command_of, inputs_of, limits_of, others_of}
-use Rattle.dlk_replies.specs.Inputs.{inputs, inputs_of_form}
-use Rattle.dlk_replies.specs.Replies.{Reply, code_of, printing}
+use Rattle.dlk_replies.specs.declared.form.Role.TheVariants.{File, Substitution}
+use Rattle.dlk_replies.specs.Forms.{Word, command_of, inputs_of, limit_of, limits_of, others_of}
+use Rattle.dlk_replies.specs.Inputs.{inputs, inputs_of_form, first_too_long}
+use Rattle.dlk_replies.specs.Replies.{Reply, code_of, printing, refusal}
 use Rattle.dlk_answers.specs.Answers.{Does, Responds, refuses, does, too_long}
-use Rattle.dlk_jobs_text.specs.Substitutes.{Substitutes, AreRead}
+use Rattle.dlk_jobs_text.specs.Substitutes.{Substitutes, AreRead, not_admissible, too_big, too_deep}
 use Rattle.dlk_jobs_text.specs.Looks.{RefusesResult, subst_looks}
 use Rattle.dlk_answers.specs.Looks.{CommandLooksAtFew}
 use Rattle.dlk.specs.Answers.{bytes_of, Answers, no_form, command}
 use Rattle.dlk.specs.Cuts.{cut_bytes_of}
-use Rattle.dlk.specs.Looks.{LooksAtFewFor, LooksAtFew}
+use Rattle.dlk.specs.Looks.{RunsSubst, MakesNone, nothing, big, deep, RefusesShort, LooksAtFewFor, PrintsNone, LooksAtFew}
 use Rattle.dlk.proofs.Cut.{Alike, are_read}
+use Rattle.dlk.proofs.Judged.{within}
 
 -- without a look
 pub none_looked : (words : List Word) (files : Files) (old new : ℕ) → new ≡ old → LooksAtFewFor words files old new
@@ -58,6 +60,14 @@ same_texts e = cc
 same_command : {a b : Command} → Some a ≡ Some b → a ≡ b
 same_command e = cc
 
+-- the form and the texts of a run of `subst`
+runs_form : (words : List Word) (files : Files) (e : Tree) (pairs : List Pair) → RunsSubst words files e pairs → command_of words ≡ Some Subst
+runs_form words files e pairs h = ap command_of h.form
+
+runs_texts : (words : List Word) (files : Files) (e : Tree) (pairs : List Pair) → (h : RunsSubst words files e pairs) →
+    bytes_of files (inputs words) ≡ Some (h.file ∷ h.pairs_file ∷ [])
+runs_texts words files e pairs h = ap (λ (w : List Word). bytes_of files (inputs w)) h.form ∙ h.texts
+
 module _ (words : List Word) (files : Files) (cuts : List (List ℕ)) (old new : ℕ) (form : command_of words ≡ Some Subst)
     (count : length (inputs_of Subst words) ≡ length (limits_of Subst))
     (read : cut_bytes_of files (inputs_of Subst words) (limits_of Subst) ≡ Some cuts) (looks : CommandLooksAtFew Subst cuts old new) where
@@ -78,14 +88,16 @@ module _ (words : List Word) (files : Files) (cuts : List (List ℕ)) (old new :
 
   subst_looked : LooksAtFewFor words files old new
   subst_looked = λ e pairs reply h refused answer.
-      by_answer e pairs h.file h.substitution (subst (λ (names : List Word). bytes_of files names ≡ Some (h.file ∷ h.substitution ∷ [])) named h.texts) h.are_read reply answer refused
+      by_answer e pairs h.file h.pairs_file
+      (subst (λ (names : List Word). bytes_of files names ≡ Some (h.file ∷ h.pairs_file ∷ [])) named (runs_texts words files e pairs h)) h.are_read reply answer refused
 
 pub command_looked : (words : List Word) (c : Command) (files : Files) (cuts : List (List ℕ)) (old new : ℕ) → command_of words ≡ Some c →
     length (inputs_of c words) ≡ length (limits_of c) → cut_bytes_of files (inputs_of c words) (limits_of c) ≡ Some cuts → CommandLooksAtFew c cuts old new →
     LooksAtFewFor words files old new
 command_looked words c files cuts old new is count read looks = λ e pairs reply h refused answer.
-    let c_is : c ≡ Subst = same_command (sym is ∙ h.form) in
-    subst_looked words files cuts old new h.form (subst (λ (d : Command). length (inputs_of d words) ≡ length (limits_of d)) c_is count)
+    let form = runs_form words files e pairs h in
+    let c_is : c ≡ Subst = same_command (sym is ∙ form) in
+    subst_looked words files cuts old new form (subst (λ (d : Command). length (inputs_of d words) ≡ length (limits_of d)) c_is count)
     (subst (λ (d : Command). cut_bytes_of files (inputs_of d words) (limits_of d) ≡ Some cuts) c_is read)
     (subst (λ (d : Command). CommandLooksAtFew d cuts old new) c_is looks) e pairs reply h refused answer
 
@@ -109,23 +121,50 @@ refuses_alone reply (inl e) = e ∙ ap (λ (r : Reply). printing Refused r.print
 refuses_alone reply (inr (inl e)) = e ∙ ap (λ (r : Reply). printing Refused r.printed) (sym e)
 refuses_alone reply (inr (inr e)) = e ∙ ap (λ (r : Reply). printing Refused r.printed) (sym e)
 
+-- the refusal of what the pairs make, which is the answer
+both_short : (a b : Word) (file pairs_file : List ℕ) → length file ≤ limit_of File → length pairs_file ≤ limit_of Substitution →
+    first_too_long (a ∷ b ∷ []) (limit_of File ∷ limit_of Substitution ∷ []) (file ∷ pairs_file ∷ []) ≡ None
+both_short a b file pairs_file f p = rw (within (limit_of File) file f, within (limit_of Substitution) pairs_file p) refl
+
+makes_none : (file pairs_file : List ℕ) (e : Tree) (pairs : List Pair) → AreRead file pairs_file e pairs → MakesNone pairs e →
+    (reply : Reply) × RefusesResult reply × Substitutes file pairs_file reply
+makes_none file pairs_file e pairs read (nothing formed none) = (refusal (codes "not-admissible"), inl refl, not_admissible e pairs read formed none)
+makes_none file pairs_file e pairs read (big t r past) = (refusal (codes "result-too-big"), inr (inl refl), too_big e pairs read t r past)
+makes_none file pairs_file e pairs read (deep t r small past) = (refusal (codes "result-too-deep"), inr (inr refl), too_deep e pairs read t r small past)
+
+answer_is : (words : List Word) (files : Files) (e : Tree) (pairs : List Pair) (runs : RunsSubst words files e pairs) → RefusesShort words files e pairs runs →
+    (reply : Reply) → Substitutes runs.file runs.pairs_file reply → Answers words files reply
+answer_is words files e pairs runs short reply is =
+    subst (λ (w : List Word). Answers w files reply) (sym runs.form)
+    (command Subst refl (runs.file ∷ runs.pairs_file ∷ []) runs.texts reply
+    (does (both_short runs.expression runs.substitution runs.file runs.pairs_file short.file short.pairs_file) reply is))
+
 module _ (words : List Word) (old new : Outside) (before after : ℕ) (looks : LooksAtFewFor words old.files before after) where
+  refused_looked : (e : Tree) (pairs : List Pair) (runs : RunsSubst words old.files e pairs) → RefusesShort words old.files e pairs runs → after ≤ before + subst_looks pairs e
+  refused_looked e pairs runs short =
+      let made = makes_none runs.file runs.pairs_file e pairs runs.are_read short.none in
+      looks e pairs made.0 runs made.1 (answer_is words old.files e pairs runs short made.0 made.2)
+
+  printed_looked : (said : Reply) → Answers words old.files said → (code_of said.status ≡ 2 → said.written ≡ None) → new.printed ≡ old.printed ++ said.printed →
+      (e : Tree) (pairs : List Pair) → RunsSubst words old.files e pairs → PrintsNone (code_of said.status) old new → after ≤ before + subst_looks pairs e
+  printed_looked said answer alone printed e pairs runs (two, reply, refused, says) =
+      let same : said.printed ≡ reply.printed = append_cancel_left old.printed said.printed reply.printed (sym printed ∙ says) in
+      let is : said ≡ reply = prints_alone said two (alone two) ∙ ap (printing Refused) same ∙ sym (refuses_alone reply refused) in
+      looks e pairs reply runs refused (subst (λ (r : Reply). Answers words old.files r) is answer)
+
   -- the answer was given
   pub given_looked : (said : Reply) → Answers words old.files said → (code_of said.status ≡ 2 → said.written ≡ None) → new.printed ≡ old.printed ++ said.printed →
       LooksAtFew words (code_of said.status) old new before after
-  given_looked said answer alone printed = λ e pairs reply runs refused either.
+  given_looked said answer alone printed = λ e pairs runs either.
       elim either [
-        | inl h ↦
-            let same : said.printed ≡ reply.printed = append_cancel_left old.printed said.printed reply.printed (sym printed ∙ h.1) in
-            let is : said ≡ reply = prints_alone said h.0 (alone h.0) ∙ ap (printing Refused) same ∙ sym (refuses_alone reply refused) in
-            looks e pairs reply runs refused (subst (λ (r : Reply). Answers words old.files r) is answer)
-        | inr a ↦ looks e pairs reply runs refused a
+        | inl h ↦ printed_looked said answer alone printed e pairs runs h
+        | inr short ↦ refused_looked e pairs runs short
       ]
 
   -- it was not
   pub ungiven_looked : (status : ℕ) → status ≢ 2 → LooksAtFew words status old new before after
-  ungiven_looked status other = λ e pairs reply runs refused either.
+  ungiven_looked status other = λ e pairs runs either.
       elim either [
         | inl h ↦ absurd (other h.0)
-        | inr a ↦ looks e pairs reply runs refused a
+        | inr short ↦ refused_looked e pairs runs short
       ]

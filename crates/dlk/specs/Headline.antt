@@ -23,6 +23,40 @@ use Rattle.dlk_jobs_check.specs.Checks.{Checks, report_in}
 use Rattle.dlk_jobs_check.specs.Guards.{guarded_line, unguarded_line}
 use Rattle.dlk.specs.Answers.{bytes_of}
 
+-- The words run a command that prints a report as text, on the model in the file of this name. One case a command. `guard` and `session` print
+-- lines of their own first.
+pub data Reports (model : Word) : List Word → Type 0 where
+  check : (term : Word) → Reports model (codes "check" ∷ model ∷ term ∷ [])
+  prove : (strategy term : Word) → Reports model (codes "prove" ∷ model ∷ strategy ∷ term ∷ [])
+  link : (term lemma out : Word) → Reports model (codes "link" ∷ model ∷ term ∷ lemma ∷ out ∷ [])
+  trim : (term out : Word) → Reports model (codes "trim" ∷ model ∷ term ∷ out ∷ [])
+
+-- what is printed of a text by the status: with 0 the whole, and with 5 a front
+pub data IsGiven (whole : List ℕ) : ℕ → List ℕ → Type 0 where
+  all : IsGiven whole 0 whole
+  front : (bytes : ℕ) → IsGiven whole 5 (take bytes whole)
+
+-- The model's formula is derived from exactly the leaves that are printed.
+pub record IsClosed (model : List ℕ) (status : ℕ) (said : List ℕ) : Type 0 where
+  pub formula : Tree
+  pub reads : ModelText model formula
+  pub proof : Provable
+  pub derived : Derives proof
+  pub conclusion : proof.conclusion ≡ proves formula
+  pub closed : proof.goals ≡ []
+  -- each leaf is a sequent of arithmetic, and none stands twice
+  pub leaves : HasLeaves proof
+  pub lines : ℕ
+  -- what is printed is the report of this very provable, or a front of it where printing failed
+  pub report : IsGiven (text_report proof lines) status said
+
+-- Whenever one of these commands prints `closed`, the formula of the model is derived from exactly the leaves that are printed. This is the
+-- headline: it needs no format of terms.
+abbrev pub DerivedTruly : List Word → ℕ → Outside → Outside → Type 0
+DerivedTruly words status old new =
+    (name : Word) (model said : List ℕ) → Reports name words → old.files name ≡ Some model → new.printed ≡ old.printed ++ (codes "closed" ++ said) →
+    IsClosed model status (codes "closed" ++ said)
+
 -- A command was run on inputs of these texts, and behind the run this one stands in the file that it writes.
 pub record Writes (words : List Word) (old new : Outside) (texts : List (List ℕ)) (out : List ℕ) : Type 0 where
   pub texts_are : bytes_of old.files (inputs words) ≡ Some texts
@@ -39,39 +73,18 @@ WritesTerm words old new model term = (others : List (List ℕ)) × Writes words
 -- as text.
 abbrev pub SpeaksOf : Command → List Word → Outside → Outside → List ℕ → List ℕ → Type 0
 SpeaksOf Check words old new model term = bytes_of old.files (inputs words) ≡ Some (model ∷ term ∷ [])
-SpeaksOf Print words old new model term = ⊥
-SpeaksOf Vars words old new model term = ⊥
-SpeaksOf Subst words old new model term = ⊥
-SpeaksOf Report words old new model term = ⊥
-SpeaksOf Smt words old new model term = ⊥
-SpeaksOf Guard words old new model term = ⊥
 SpeaksOf Prove words old new model term = WritesTerm words old new model term
-SpeaksOf Gen words old new model term = ⊥
-SpeaksOf Convert words old new model term = ⊥
 SpeaksOf Link words old new model term = WritesTerm words old new model term
 SpeaksOf Trim words old new model term = WritesTerm words old new model term
-SpeaksOf Session words old new model term = ⊥
+SpeaksOf _ words old new model term = ⊥
 
--- what is printed of a text by the status: with 0 the whole, and with 5 a front
-pub data IsGiven (whole : List ℕ) : ℕ → List ℕ → Type 0 where
-  all : IsGiven whole 0 whole
-  front : (bytes : ℕ) → IsGiven whole 5 (take bytes whole)
-
--- The model's formula is derivable from exactly the leaves that the report lists.
+-- The model's formula is derived from exactly the printed leaves, by the lines of the term: they give these rows, the last of which is the
+-- provable of the report, and it counts them.
 pub record IsDerived (model term : List ℕ) (status : ℕ) (said : List ℕ) : Type 0 where
-  pub formula : Tree
-  pub reads : ModelText model formula
-  -- the rows that the lines of the term give, and the last of them
+  pub shown : IsClosed model status said
   pub rows : List Provable
-  pub proof : Provable
-  pub accepts : Accepts term rows proof
-  pub derived : Derives proof
-  pub conclusion : proof.conclusion ≡ proves formula
-  pub closed : proof.goals ≡ []
-  -- each leaf is a sequent of arithmetic, and none stands twice
-  pub leaves : HasLeaves proof
-  -- what is printed is the report of this very provable, or a front of it where printing failed
-  pub report : IsGiven (text_report proof (length rows)) status said
+  pub accepts : Accepts term rows shown.proof
+  pub count : shown.lines ≡ length rows
 
 -- Whenever `check`, `prove`, `link` or `trim` prints `closed`, the formula of the model is derived from the printed leaves, by the lines of the
 -- term.

@@ -6,6 +6,7 @@ ghost use Rattle.std.specs.Process.{exit_status};
 ghost use Rattle.dlk.specs.Headline.{ClosedTruly, ProvesTruly};
 ghost use Rattle.dlk.specs.Runs.{Answered, Caused, HasInputs};
 
+mod call;
 mod explain;
 mod fault;
 mod give;

@@ -10,11 +10,12 @@ ghost use Rattle.dlk_replies.specs.Shown.{texts_of, reply_of};
 ghost use Rattle.dlk.specs.Cuts.{cut_bytes_of};
 ghost use Rattle.dlk.specs.Answers.{Answers};
 ghost use Rattle.dlk.specs.Runs.{Caused, AsksFor, Asks, Keeps, HasInputs, Answered, Completes};
-ghost use Rattle.dlk.specs.Headline.{ClosedTruly, JudgesTruly, ProvesTruly, GuardsTruly};
+ghost use Rattle.dlk.specs.Headline.{DerivedTruly, ClosedTruly, JudgesTruly, ProvesTruly, GuardsTruly};
 ghost use Rattle.dlk.specs.WrittenTerms.{ConvertsTruly, LinksTruly, TrimsTruly};
 ghost use Rattle.dlk.specs.Sessions.{SessionsTruly};
 ghost use Rattle.dlk.specs.Looks.{LooksAtFewFor, LooksAtFew};
 
+use crate::call::Call;
 use crate::fault::NoAnswer;
 use crate::give::give;
 use dlk_answers::{respond, words_refused};
@@ -23,7 +24,7 @@ use dlk_jobs_prove::laws::proved_is_checked;
 use dlk_jobs_session::laws::session_is_checked;
 use dlk_jobs_terms::laws::{converted_is_accepted, linked_is_checked, trimmed_is_checked};
 use dlk_replay::one_verdict;
-use dlk_replies::{Command, Reply, Role, output};
+use dlk_replies::{Command, Reply, Role};
 use dlk_store::Steps;
 use dlk_transfer::{ReadError, read_all};
 use std::alloc::Global;
@@ -62,30 +63,31 @@ fn read_inputs<D: Desk>(
     Ok(inputs)
 }
 
-/// Reads the inputs of the words and answers.
+/// Reads the inputs of a call and answers.
 fn work<D: Desk, L: Ledger>(
     alloc: Global,
-    words: &[String],
+    call: Call<'_>,
     desk: &mut D,
     steps: &mut Steps<L>,
 ) -> Result<Reply, NoAnswer>
-    ensures ok { IfOk result (λ r. D.tells → Answers (map string_bytes words.now) (D.outside desk.old).files (reply_of r)) }
-    ensures words { IfOk result (λ r. (code_of r.status ≡ 3) ↔ IsNone (command_of (map string_bytes words.now))) }
+    requires { call.command ≡ command_of (map string_bytes call.words.now) }
+    ensures ok { IfOk result (λ r. D.tells → Answers (map string_bytes call.words.now) (D.outside desk.old).files (reply_of r)) }
+    ensures words { IfOk result (λ r. (code_of r.status ≡ 3) ↔ IsNone (command_of (map string_bytes call.words.now))) }
     ensures kinds { IfOk result (λ r. code_of r.status ≤ 3) }
     ensures refusal { IfOk result (λ r. code_of r.status ≡ 2 → IsNone r.written) }
-    ensures form { IsErrOf result NoAnswer.Fault → IsSome (command_of (map string_bytes words.now)) }
-    ensures missing { IfOk result (λ r. D.tells → HasInputs (map string_bytes words.now) (D.outside desk.old)) }
+    ensures form { IsErrOf result NoAnswer.Fault → IsSome (command_of (map string_bytes call.words.now)) }
+    ensures missing { IfOk result (λ r. D.tells → HasInputs (map string_bytes call.words.now) (D.outside desk.old)) }
     ensures fault { IsErrOf result NoAnswer.Fault → Rose (D.outside desk.old).read_faults (D.outside desk.new).read_faults }
-    ensures all { OnOk result ((D.outside desk.new).asked ≡ (D.outside desk.old).asked ++ inputs_named (map string_bytes words.now)) }
-    ensures asks { (count : ℕ) × AsksFor D.tells (inputs_named (map string_bytes words.now)) (limits_named (map string_bytes words.now)) count (D.outside desk.old) (D.outside desk.new) }
+    ensures all { OnOk result ((D.outside desk.new).asked ≡ (D.outside desk.old).asked ++ inputs_named (map string_bytes call.words.now)) }
+    ensures asks { (count : ℕ) × AsksFor D.tells (inputs_named (map string_bytes call.words.now)) (limits_named (map string_bytes call.words.now)) count (D.outside desk.old) (D.outside desk.new) }
     ensures only { OnlyReads D.tells (D.outside desk.old) (D.outside desk.new) }
-    ensures looks { D.tells → LooksAtFewFor (map string_bytes words.now) (D.outside desk.old).files steps.old steps.new }
+    ensures looks { D.tells → LooksAtFewFor (map string_bytes call.words.now) (D.outside desk.old).files steps.old steps.new }
 {
-    let Some(command) = Command::parse(words) else {
+    let Some(command) = call.command else {
         return Ok(words_refused(alloc)?);
     };
-    let inputs = read_inputs(alloc, desk, command.inputs(words), command.form().inputs)?;
-    Ok(respond(alloc, command, words, &inputs, steps)?)
+    let inputs = read_inputs(alloc, desk, command.inputs(call.words), command.form().inputs)?;
+    Ok(respond(alloc, command, call.words, &inputs, steps)?)
 }
 
 /// Does what the words say, and answers the exit status of the program.
@@ -99,7 +101,9 @@ pub fn run<D: Desk, L: Ledger>(
     desk: &mut D,
     steps: &mut Steps<L>,
 ) -> u8
-    // Whenever `closed` is printed, the model is derivable from exactly the printed leaves.
+    // Whenever `closed` is printed, the model is derived from exactly the printed leaves.
+    ensures derived_truly { D.tells → DerivedTruly (map string_bytes words.now) result (D.outside desk.old) (D.outside desk.new) }
+    // And it is so by the lines of the term.
     ensures closed_truly { D.tells → ClosedTruly (map string_bytes words.now) result (D.outside desk.old) (D.outside desk.new) }
     // A term is accepted exactly where each of its lines is a step, and else its first wrong line is named.
     ensures judges_truly { D.tells → JudgesTruly (map string_bytes words.now) result (D.outside desk.old) (D.outside desk.new) }
@@ -127,7 +131,7 @@ pub fn run<D: Desk, L: Ledger>(
     ensures answered { D.tells → HasInputs (map string_bytes words.now) (D.outside desk.old) → Answered (map string_bytes words.now) result (D.outside desk.old) (D.outside desk.new) }
     // Where moreover no count of faults rose: the answer, or want of memory.
     ensures completes { D.tells → HasInputs (map string_bytes words.now) (D.outside desk.old) → Completes (map string_bytes words.now) result (D.outside desk.old) (D.outside desk.new) }
-    // Where the result of a substitution is refused, few nodes were looked at.
+    // Where a substitution makes nothing, or a tree past a limit, few nodes were looked at.
     ensures looks { D.tells → LooksAtFew (map string_bytes words.now) result (D.outside desk.old) (D.outside desk.new) steps.old steps.new }
 {
     proved_is_checked();
@@ -136,12 +140,16 @@ pub fn run<D: Desk, L: Ledger>(
     trimmed_is_checked();
     session_is_checked();
     one_verdict();
-    let reply = match work(alloc, words, desk, steps) {
+    let call = Call {
+        words,
+        command: Command::parse(words),
+    };
+    let reply = match work(alloc, call, desk, steps) {
         Ok(reply) => reply,
         Err(NoAnswer::Memory) => return NO_MEMORY,
         Err(NoAnswer::Fault) => return READ_FAULT,
     };
-    match give(desk, output(words), &reply) {
+    match give(desk, call.output(), &reply) {
         Ok(()) => reply.status.code(),
         Err(_) => WRITE_FAULT,
     }

@@ -1,7 +1,15 @@
 // `prove MODEL STRATEGY TERM`: run a strategy on a model, write the term that it makes, and report.
-ghost use Rattle.std.specs.Prelude.{◌≡◌, [], IfOk, IfErr};
+ghost use Rattle.std.specs.Prelude.{◌≡◌, ℕ, [], length, All, IfOk, IfErr};
+ghost use Rattle.dlk_calculus.specs.Limits.{IsSmall, IsShallow};
+ghost use Rattle.dlk_calculus.specs.Sequents.{IsFormula};
+ghost use Rattle.dlk_store.specs.Stores.{IsId, tree};
+ghost use Rattle.dlk_rules.specs.Steps.{HasKnownIds};
+ghost use Rattle.dlk_tacsyn.specs.Strategies.{StrategyText};
+ghost use Rattle.dlk_tacsyn.specs.Ties.{tactic_at};
+ghost use Rattle.dlk_strategy.specs.Runs.{Done as IsDone, RunsModel};
+ghost use Rattle.dlk_strategy.specs.Ties.{progress_at, IsStrategy};
 ghost use Rattle.dlk_jobs_prove.specs.Proves.{Proves};
-ghost use Rattle.dlk_jobs_prove.specs.Proved.{IsStrategyRefused, IsRunRefused};
+ghost use Rattle.dlk_jobs_prove.specs.Proved.{IsStrategyRefused, IsRunRefused, RefusesStrategy, RefusesRun};
 ghost use Rattle.dlk_replies.specs.Ended.{EndsIn};
 ghost use Rattle.dlk_replies.specs.Shown.{reply_of};
 
@@ -10,9 +18,9 @@ use dlk_jobs_record::{budget_text, fails_text, finish};
 use dlk_kernel::Kernel;
 use dlk_replies::{Ended, NoReply, Reply, Role, answer_of, end_by, refuse_at, refused};
 use dlk_shared::SharedStore;
-use dlk_store::{Steps, Store};
-use dlk_strategy::{RunFault, run_is_taken, run_shows_formula, run_strategy};
-use dlk_tacsyn::{TacSyntax, strategy};
+use dlk_store::{Id, Steps, Store};
+use dlk_strategy::{Done, RunFault, run_is_taken, run_shows_formula, run_strategy};
+use dlk_tacsyn::{TacSyntax, Tactic, strategy};
 use std::alloc::Global;
 use std::sync::ledger::Ledger;
 
@@ -47,6 +55,45 @@ fn refuse_run(alloc: Global, fault: RunFault) -> Result<Reply, NoReply>
     }
 }
 
+/// The strategy of a text.
+fn read_strategy<S: Store>(alloc: Global, text: &[u8], store: &mut S) -> Result<Tactic, Ended>
+    ensures found { IfOk result (λ t. StrategyText text.now (tactic_at (S.trees store.new) t)) }
+    ensures runnable { IfOk result (IsStrategy (S.trees store.new)) }
+    ensures refused { IfErr result (EndsIn (RefusesStrategy text.now)) }
+    ensures grows { S.grows store.old store.new }
+{
+    match strategy(alloc, text, store) {
+        Ok(tactic) => Ok(tactic),
+        Err(fault) => Err(end_by(refuse_strategy(alloc, fault))),
+    }
+}
+
+/// What a strategy makes of a model's formula, on a kernel without rows.
+fn run<S: Store, L: Ledger>(
+    alloc: Global,
+    tactic: &Tactic,
+    kernel: &mut Kernel<S>,
+    formula: Id,
+    steps: &mut Steps<L>,
+) -> Result<Done, Ended>
+    requires none { kernel.old.rows ≡ [] }
+    requires runnable { IsStrategy (S.trees kernel.old.store) tactic.now }
+    requires known { IsId (S.trees kernel.old.store) formula }
+    requires formula { IsFormula (tree (S.trees kernel.old.store) formula) }
+    requires small { IsSmall (tree (S.trees kernel.old.store) formula) }
+    requires shallow { IsShallow (tree (S.trees kernel.old.store) formula) }
+    ensures done { IfOk result (λ done. (used : ℕ) × (left : ℕ) × RunsModel (tactic_at (S.trees kernel.old.store) tactic.now) (tree (S.trees kernel.old.store) formula) (IsDone (progress_at S.trees kernel.new done.steps.items used) left)) }
+    ensures fact { IfOk result (λ done. done.fact ≡ length kernel.new.rows) }
+    ensures known { IfOk result (λ done. All (HasKnownIds (S.trees kernel.new.store)) done.steps.items) }
+    ensures refused { IfErr result (EndsIn (RefusesRun (RunsModel (tactic_at (S.trees kernel.old.store) tactic.now) (tree (S.trees kernel.old.store) formula)))) }
+    ensures grows { S.grows kernel.old.store kernel.new.store }
+{
+    match run_strategy(alloc, tactic, kernel, formula, steps) {
+        Ok(done) => Ok(done),
+        Err(fault) => Err(end_by(refuse_run(alloc, fault))),
+    }
+}
+
 /// Proves a model on a kernel without rows.
 fn prove_on<S: Store, L: Ledger>(
     alloc: Global,
@@ -62,14 +109,8 @@ fn prove_on<S: Store, L: Ledger>(
     run_is_taken();
     run_shows_formula();
     let formula = read_model(alloc, model, kernel)?;
-    let tactic = match strategy(alloc, text, kernel) {
-        Ok(tactic) => tactic,
-        Err(fault) => return Err(end_by(refuse_strategy(alloc, fault))),
-    };
-    let done = match run_strategy(alloc, &tactic, kernel, formula, steps) {
-        Ok(done) => done,
-        Err(fault) => return Err(end_by(refuse_run(alloc, fault))),
-    };
+    let tactic = read_strategy(alloc, text, kernel)?;
+    let done = run(alloc, &tactic, kernel, formula, steps)?;
     finish(alloc, kernel, done.fact, done.steps.as_slice(), steps)
 }
 

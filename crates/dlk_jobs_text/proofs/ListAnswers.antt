@@ -4,13 +4,18 @@ use Rattle.dlk_tree.specs.Trees.{Tree}
 use Rattle.dlk_tree.specs.Statics.{free, bound, must}
 use Rattle.dlk_tree.specs.Listed.{IsSignature}
 use Rattle.dlk_tree.specs.declared.op.Sym.{Sym}
+use Rattle.dlk_grammar.specs.declared.token.Dots.TheVariants.{Allowed}
 use Rattle.dlk_store.specs.declared.listing.Listing.{Listing}
 use Rattle.dlk_store.specs.Listings.{IsListingOf}
 use Rattle.dlk_replies.specs.declared.reply.Status.TheVariants.{Done}
-use Rattle.dlk_replies.specs.Replies.{printing}
+use Rattle.dlk_replies.specs.Replies.{Reply, printing}
 use Rattle.dlk_print.specs.Lines.{line}
 use Rattle.dlk_jobs_text.specs.Prints.{FileText}
-use Rattle.dlk_jobs_text.specs.Lists.{Lists, lists, set_text, signature_text, IsWritten, AreWritten, set_listed, symbols_listed}
+use Rattle.dlk_jobs_text.specs.Refused.{RefusesFile}
+use Rattle.dlk_jobs_text.specs.Lists.{Lists, bad_text, lists, set_text, signature_text, IsWritten, AreWritten, set_listed, symbols_listed}
+
+pub list_refused : (file : List ℕ) (reply : Reply) → RefusesFile Allowed file reply → Lists file reply
+list_refused file reply (why, fault, is) = subst (Lists file) (sym is) (bad_text why fault)
 
 -- four lines, and what is appended line by line
 four_texts : (a b c label d n : List ℕ) → ((((a ++ b) ++ c) ++ label) ++ d) ++ n ≡ a ++ (b ++ (c ++ ((label ++ d) ++ n)))

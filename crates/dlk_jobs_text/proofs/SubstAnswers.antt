@@ -1,19 +1,20 @@
 -- From what was read and made to what `subst` answers.
-use Rattle.std.proofs.Common.{◌≡◌, ℕ, ◌<◌, ◌≤◌, ◌-◌, ◌^◌, min, List, codes, sym, subst, ◌∙◌, arith}
-use Rattle.dlk_tree.specs.Trees.{Tree, size, depth}
-use Rattle.dlk_calculus.specs.Pairs.{Pair, FirstIll, IsWellFormed}
+use Rattle.std.proofs.Common.{◌≡◌, ℕ, ◌<◌, ◌≤◌, ◌-◌, ◌^◌, min, List, sym, subst, ◌∙◌, inl, inr, arith}
+use Rattle.dlk_tree.specs.Trees.{Tree}
+use Rattle.dlk_calculus.specs.Pairs.{Pair, IsWellFormed}
 use Rattle.dlk_calculus.specs.Subst.{Subst}
-use Rattle.dlk_calculus.specs.declared.why.Why.{Why}
-use Rattle.dlk_calculus.specs.Limits.{most_nodes, greatest_depth}
+use Rattle.dlk_calculus.specs.Limits.{most_nodes, greatest_depth, IsSmall, IsShallow}
+use Rattle.dlk_grammar.specs.declared.token.Dots.TheVariants.{Refused}
 use Rattle.dlk_grammar.specs.Texts.{PairsText}
 use Rattle.dlk_store.specs.Stores.{tree, StandsFor, Keeps}
 use Rattle.dlk_store.specs.declared.Id.{Id}
 use Rattle.dlk_sequent.specs.declared.subst.Pair.{Pair as IdPair}
 use Rattle.dlk_sequent.specs.Substitutions.{pairs_at}
-use Rattle.dlk_subst.specs.Results.{IsResult, HasNone}
-use Rattle.dlk_replies.specs.Replies.{Reply, refusal}
+use Rattle.dlk_subst.specs.Results.{IsResult}
+use Rattle.dlk_replies.specs.Replies.{Reply}
 use Rattle.dlk_jobs_text.specs.Prints.{printed}
-use Rattle.dlk_jobs_text.specs.Substitutes.{Substitutes, bad_pair, not_admissible, too_big, too_deep, prints, pair_refused, PlainText, AreRead, HasResult}
+use Rattle.dlk_jobs_text.specs.Substitutes.{Substitutes, bad_file, bad_subst, bad_pair, not_admissible, too_big, too_deep, prints, PlainText, AreRead, HasResult}
+use Rattle.dlk_jobs_text.specs.Refused.{RefusesFile, RefusesPairs, RefusesPair, RefusesUse, RefusesLarge}
 
 -- an expression that was read into fewer trees, and pairs, are read
 pub both_read : (file substitution : List ℕ) (old new : List Tree) (id : Id) (e : Tree) (pairs same : List IdPair) →
@@ -24,30 +25,41 @@ both_read file substitution old new id e pairs same reads stands keeps text is =
       substitution = subst (λ ps. PairsText substitution (pairs_at new ps)) (sym is) text;
     }
 
+module _ (file substitution : List ℕ) where
+  pub file_refused : (reply : Reply) → RefusesFile Refused file reply → Substitutes file substitution reply
+  file_refused reply (why, fault, is) = subst (Substitutes file substitution) (sym is) (bad_file why fault)
+
+  pub pairs_refused : (e : Tree) → PlainText file e → (reply : Reply) → RefusesPairs substitution reply → Substitutes file substitution reply
+  pairs_refused e reads reply (why, fault, is) = subst (Substitutes file substitution) (sym is) (bad_subst e reads why fault)
+
 module _ (file substitution : List ℕ) (e : Tree) (pairs : List Pair) (read : AreRead file substitution e pairs) where
-  pub pair_answer : (n : ℕ) (why : Why) (reply : Reply) → FirstIll pairs n why → reply ≡ pair_refused n why → Substitutes file substitution reply
-  pair_answer n why reply ill is = subst (Substitutes file substitution) (sym is) (bad_pair e pairs read n why ill)
+  pub pair_answer : (reply : Reply) → RefusesPair pairs reply → Substitutes file substitution reply
+  pair_answer reply (n, why, ill, is) = subst (Substitutes file substitution) (sym is) (bad_pair e pairs read n why ill)
 
-  pub no_result_answer : (reply : Reply) → IsWellFormed pairs → HasNone (Subst pairs e) → reply ≡ refusal (codes "not-admissible") → Substitutes file substitution reply
-  no_result_answer reply good none is = subst (Substitutes file substitution) (sym is) (not_admissible e pairs read good none)
+  pub no_result_answer : IsWellFormed pairs → (reply : Reply) → RefusesUse pairs e reply → Substitutes file substitution reply
+  no_result_answer good reply (none, is) = subst (Substitutes file substitution) (sym is) (not_admissible e pairs read good none)
 
-  -- the result that an id stands for
-  has_result : (trees : List Tree) (id : Id) → IsWellFormed pairs → IsResult (Subst pairs e) trees id → HasResult pairs e (tree trees id)
-  has_result trees id good made = record { well_formed = good; result = subst (Subst pairs e) (sym made.stands.tree_is) made.is_related }
+  pub large_answer : (t : Tree) → HasResult pairs e t → (reply : Reply) → RefusesLarge t reply → Substitutes file substitution reply
+  large_answer t has reply (inl h) = subst (Substitutes file substitution) (sym h.1) (too_big e pairs read t has h.0)
+  large_answer t has reply (inr h) = subst (Substitutes file substitution) (sym h.2) (too_deep e pairs read t has h.0 h.1)
 
-  pub too_big_answer : (trees : List Tree) (id : Id) (n : ℕ) (reply : Reply) → IsWellFormed pairs → IsResult (Subst pairs e) trees id →
-      n ≡ min (size (tree trees id)) (2 ^ 32 - 1) → most_nodes < n → reply ≡ refusal (codes "result-too-big") → Substitutes file substitution reply
-  too_big_answer trees id n reply good made is_size past is =
-      subst (Substitutes file substitution) (sym is) (too_big e pairs read (tree trees id) (has_result trees id good made) (omega arith))
+  pub prints_answer : (t : Tree) → HasResult pairs e t → IsSmall t → IsShallow t → (reply : Reply) → reply ≡ printed t → Substitutes file substitution reply
+  prints_answer t has small shallow reply is = subst (Substitutes file substitution) (sym is) (prints e pairs read t has small shallow)
 
-  pub too_deep_answer : (trees : List Tree) (id : Id) (n d : ℕ) (reply : Reply) → IsWellFormed pairs → IsResult (Subst pairs e) trees id →
-      n ≡ min (size (tree trees id)) (2 ^ 32 - 1) → d ≡ min (depth (tree trees id)) (2 ^ 32 - 1) → n ≤ most_nodes → greatest_depth < d →
-      reply ≡ refusal (codes "result-too-deep") → Substitutes file substitution reply
-  too_deep_answer trees id n d reply good made is_size is_depth within past is =
-      subst (Substitutes file substitution) (sym is) (too_deep e pairs read (tree trees id) (has_result trees id good made) (omega arith) (omega arith))
+-- the result that an id stands for
+pub has_result : (pairs : List Pair) (e : Tree) (trees : List Tree) (id : Id) → IsWellFormed pairs → IsResult (Subst pairs e) trees id →
+    HasResult pairs e (tree trees id)
+has_result pairs e trees id good made = record { well_formed = good; result = subst (Subst pairs e) (sym made.stands.tree_is) made.is_related }
 
-  pub prints_answer : (trees : List Tree) (id : Id) (n d : ℕ) (reply : Reply) → IsWellFormed pairs → IsResult (Subst pairs e) trees id →
-      n ≡ min (size (tree trees id)) (2 ^ 32 - 1) → d ≡ min (depth (tree trees id)) (2 ^ 32 - 1) → n ≤ most_nodes → d ≤ greatest_depth →
-      reply ≡ printed (tree trees id) → Substitutes file substitution reply
-  prints_answer trees id n d reply good made is_size is_depth small shallow is =
-      subst (Substitutes file substitution) (sym is) (prints e pairs read (tree trees id) (has_result trees id good made) (omega arith) (omega arith))
+-- what a store answers of sizes and depths past its greatest number
+pub past_nodes : (n m : ℕ) → n ≡ min m (2 ^ 32 - 1) → most_nodes < n → most_nodes < m
+past_nodes n m is past = omega arith
+
+pub past_depth : (n m : ℕ) → n ≡ min m (2 ^ 32 - 1) → greatest_depth < n → greatest_depth < m
+past_depth n m is past = omega arith
+
+pub within_nodes : (n m : ℕ) → n ≡ min m (2 ^ 32 - 1) → n ≤ most_nodes → m ≤ most_nodes
+within_nodes n m is within = omega arith
+
+pub within_depth : (n m : ℕ) → n ≡ min m (2 ^ 32 - 1) → n ≤ greatest_depth → m ≤ greatest_depth
+within_depth n m is within = omega arith

@@ -1,4 +1,5 @@
 pub mod Prints
 pub mod Lists
 pub mod Substitutes
+pub mod Refused
 pub mod Looks

@@ -1,15 +1,18 @@
 // `vars FILE`: the free, bound and must-bound variables of an expression, and its symbols.
-ghost use Rattle.std.specs.Prelude.{◌≡◌, ◌<◌, ◌++◌, IfOk, OnOk, codes};
+ghost use Rattle.std.specs.Prelude.{◌≡◌, ◌<◌, ◌++◌, ℕ, List, IfOk, OnOk, IfErr, codes};
+ghost use Rattle.dlk_store.specs.Stores.{IsId, tree};
 ghost use Rattle.dlk_print.specs.Lines.{line};
+ghost use Rattle.dlk_jobs_text.specs.Prints.{FileText};
 ghost use Rattle.dlk_jobs_text.specs.Lists.{kind_word, kind_and_symbol, variables, set_text, signature_text, Lists};
+ghost use Rattle.dlk_replies.specs.Ended.{EndsIn};
 ghost use Rattle.dlk_replies.specs.Shown.{reply_of};
 
+use crate::print::read_file;
 use dlk_grammar::Dots;
-use dlk_parse::read_expression;
 use dlk_print::{symbol_text, variable_text};
-use dlk_replies::{NoReply, Reply, Role, Status, printing, refuse_text};
+use dlk_replies::{Ended, NoReply, Reply, Status, answer_of, printing};
 use dlk_shared::SharedStore;
-use dlk_store::{Listing, Store, Which};
+use dlk_store::{Id, Listing, Store, Which};
 use dlk_tree::{Kind, Sym, Var};
 use std::alloc::Global;
 
@@ -95,18 +98,15 @@ fn append_symbols(out: &mut Vec<u8>, syms: &[Sym]) -> Result<(), NoReply>
     Ok(())
 }
 
-/// Lists an expression's variables and symbols by a store.
-fn vars_on<S: Store>(alloc: Global, store: &mut S, file: &[u8]) -> Result<Reply, NoReply>
-    ensures { IfOk result (λ r. Lists file.now (reply_of r)) }
+/// The variables of a tree and its symbols, a line each.
+fn list_tree<S: Store>(alloc: Global, store: &S, id: Id) -> Result<Reply, NoReply>
+    requires { IsId (S.trees store.now) id }
+    ensures { IfOk result (λ r. (file : List ℕ) → FileText file (tree (S.trees store.now) id) → Lists file (reply_of r)) }
 {
-    let expression = match read_expression(alloc, file, Dots::Allowed, store) {
-        Ok(expression) => expression,
-        Err(fault) => return refuse_text(alloc, Role::File, fault),
-    };
-    let free = store.list(alloc, expression, Which::Free)?;
-    let bound = store.list(alloc, expression, Which::Bound)?;
-    let must = store.list(alloc, expression, Which::Must)?;
-    let symbols = store.symbols(alloc, expression)?;
+    let free = store.list(alloc, id, Which::Free)?;
+    let bound = store.list(alloc, id, Which::Bound)?;
+    let must = store.list(alloc, id, Which::Must)?;
+    let symbols = store.symbols(alloc, id)?;
     let mut printed = Vec::new(alloc);
     append_set(&mut printed, "free: ", &free)?;
     append_set(&mut printed, "bound: ", &bound)?;
@@ -115,6 +115,16 @@ fn vars_on<S: Store>(alloc: Global, store: &mut S, file: &[u8]) -> Result<Reply,
     append_symbols(&mut printed, &symbols)?;
     printed.push(b'\n')?;
     Ok(printing(Status::Done, printed))
+}
+
+/// Lists an expression's variables and symbols by a store.
+fn vars_on<S: Store>(alloc: Global, store: &mut S, file: &[u8]) -> Result<Reply, Ended>
+    ensures reply { IfOk result (λ r. Lists file.now (reply_of r)) }
+    ensures ended { IfErr result (EndsIn (Lists file.now)) }
+{
+    let expression = read_file(alloc, file, Dots::Allowed, store)?;
+    let reply = list_tree(alloc, store, expression)?;
+    Ok(reply)
 }
 
 /// Prints the free, bound and must-bound variables of an expression, and its symbols: a line each.
@@ -127,5 +137,5 @@ pub fn vars(alloc: Global, file: &[u8]) -> Result<Reply, NoReply>
     ensures { IfOk result (λ r. Lists file.now (reply_of r)) }
 {
     let mut store = SharedStore::new(alloc);
-    vars_on(alloc, &mut store, file)
+    answer_of(vars_on(alloc, &mut store, file))
 }

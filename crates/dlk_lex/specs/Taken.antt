@@ -1,7 +1,8 @@
 -- Tokens that are taken one by one from bytes, or from tokens.
-use Rattle.std.specs.Prelude.{◌≡◌, ◌≢◌, ℕ, ◌-◌, ◌<◌, ◌≤◌, List, [], ◌∷◌, ◌++◌, length, drop}
+use Rattle.std.specs.Prelude.{◌≡◌, ◌≢◌, ℕ, ◌-◌, ◌<◌, ◌≤◌, List, [], ◌∷◌, ◌++◌, length, drop, slice_index, IsTrue}
 use Rattle.dlk_grammar.specs.declared.token.Token.{Token}
 use Rattle.dlk_grammar.specs.declared.token.TokenKind.TheVariants.{End}
+use Rattle.dlk_tree.specs.Names.{is_letter}
 use Rattle.dlk_grammar.specs.RealTokens.{AreTokens}
 use Rattle.dlk_grammar.specs.Splits.{Splits, BadAt}
 use Rattle.dlk_lex.specs.declared.source.Origin.{Origin}
@@ -19,6 +20,12 @@ pub data IsFirst (bytes : List ℕ) (from : ℕ) (t : Token) : Type 0 where
   first_one : t.kind ≢ End → from < t.end → SplitsUpTo bytes from t.end (t ∷ []) → IsFirst bytes from t
   none_left : t.kind ≡ End → SplitsUpTo bytes from t.end [] → Splits t.end (drop t.end bytes) (t ∷ []) → IsFirst bytes from t
 
+-- from a place on only spaces and comments stand before a letter: a word comes first
+pub record BeginsWord (bytes : List ℕ) (from : ℕ) : Type 0 where
+  pub at : ℕ
+  pub gap : SplitsUpTo bytes from at []
+  pub letter : IsTrue (is_letter (slice_index (drop at bytes) 0))
+
 -- a place within bytes, or the tokens of a text
 abbrev pub IsOrigin : Origin → Type 0
 IsOrigin (Bytes bytes at) = at ≤ length bytes.now
@@ -33,6 +40,11 @@ Gives (Tokens tokens) ts = ts ≡ tokens.now
 abbrev pub Refuses : Origin → ℕ → Type 0
 Refuses (Bytes bytes at) bad = BadAt at (drop at bytes.now) bad
 Refuses (Tokens tokens) bad = ⊥
+
+-- what comes next takes memory: a word, or any token that is copied
+abbrev pub WantsMemory : Origin → Type 0
+WantsMemory (Bytes bytes at) = BeginsWord bytes.now at
+WantsMemory (Tokens tokens) = Unit {0}
 
 -- how many bytes or tokens are left
 abbrev pub left_of : Origin → ℕ

@@ -1,7 +1,7 @@
 //! The token, space or comment at the front of bytes.
-ghost use Rattle.std.specs.Prelude.{◌≡◌, ◌<◌, IsTrue, false, IfOk, IfSome, IfNone, length, slice_index, codes, nat_eq};
+ghost use Rattle.std.specs.Prelude.{◌≡◌, ◌<◌, IsTrue, false, IfOk, OnErr, IfSome, IfNone, length, slice_index, codes, nat_eq};
 ghost use Rattle.std.specs.List.{starts_with};
-ghost use Rattle.dlk_tree.specs.Names.{is_between, is_word};
+ghost use Rattle.dlk_tree.specs.Names.{is_between, is_letter, is_word};
 ghost use Rattle.dlk_grammar.specs.Tokens.{Spells, is_space};
 ghost use Rattle.dlk_lex.specs.Fronts.{EndsBlock, HasNoEnd, IsToken, IsPiece};
 
@@ -58,7 +58,8 @@ fn dot(bytes: &[u8]) -> Piece
 /// The longest token at the front.
 fn token(alloc: Global, bytes: &[u8]) -> Result<Piece, AllocError>
     requires { 0 < length bytes.now }
-    ensures { IfOk result (IsToken bytes.now) }
+    ensures token { IfOk result (IsToken bytes.now) }
+    ensures memory { OnErr result (IsTrue (is_letter (slice_index bytes.now 0))) }
 {
     let first = bytes[0];
     if is_letter(first) {
@@ -117,7 +118,10 @@ fn line(bytes: &[u8]) -> Piece
 pub(crate) fn front(alloc: Global, bytes: &[u8]) -> Result<Piece, AllocError>
     requires some { 0 < length bytes.now }
     requires no_space { is_space (slice_index bytes.now 0) ≡ false }
-    ensures { IfOk result (IsPiece bytes.now) }
+    ensures piece { IfOk result (IsPiece bytes.now) }
+
+    // Memory is wanted for a word alone.
+    ensures memory { OnErr result (IsTrue (is_letter (slice_index bytes.now 0))) }
 {
     if bytes.starts_with(b"/*") {
         return Ok(block(bytes));

@@ -1,11 +1,12 @@
 //! Tokens, taken one by one.
-ghost use Rattle.std.specs.Prelude.{◌≡◌, List, [], IfOk, IfErr, length};
+ghost use Rattle.std.specs.Prelude.{◌≡◌, List, [], Err, IfOk, IfErr, length};
 ghost use Rattle.dlk_grammar.specs.declared.token.Token.{Token as TheToken};
 ghost use Rattle.dlk_lex.specs.declared.source.Origin.{Origin as TheOrigin};
+ghost use Rattle.dlk_lex.specs.declared.fault.LexFault.TheVariants.{Memory};
 ghost use Rattle.dlk_lex.specs.Faults.{IsLexFaultOf};
 ghost use Rattle.dlk_grammar.specs.Readings.{IsLong, OpensTooDeep};
 ghost use Rattle.dlk_lex.specs.Noted.{FirstOf, AreNoted, starts_of};
-ghost use Rattle.dlk_lex.specs.Taken.{IsOrigin, Refuses, IsNext};
+ghost use Rattle.dlk_lex.specs.Taken.{IsOrigin, Refuses, WantsMemory, IsNext};
 ghost use Rattle.dlk_lex.specs.Sources.{HasTaken, Takes, Finishes};
 
 use crate::copies::copy;
@@ -31,6 +32,7 @@ impl Origin<'_> {
         requires { IsOrigin self.old }
         ensures next { IfOk result (λ t. IsNext self.old t self.new) }
         ensures bad { IfErr result (IsLexFaultOf (Refuses self.old)) }
+        ensures memory { result ≡ Err Memory → WantsMemory self.old }
     {
         match self {
             Origin::Bytes { bytes, at } => {

@@ -1,10 +1,11 @@
 //! Splits bytes.
-ghost use Rattle.std.specs.Prelude.{◌≡◌, ◌≤◌, ◌↔◌, IsTrue, List, IfOk, IfErr, drop, length};
+ghost use Rattle.std.specs.Prelude.{◌≡◌, ◌≤◌, ◌↔◌, IsTrue, List, Err, IfOk, IfErr, drop, length};
 ghost use Rattle.dlk_grammar.specs.declared.token.TokenKind.TheVariants.{End as TheEnd};
 ghost use Rattle.dlk_grammar.specs.RealTokens.{AreTokens};
 ghost use Rattle.dlk_grammar.specs.Splits.{Splits, BadAt};
+ghost use Rattle.dlk_lex.specs.declared.fault.LexFault.TheVariants.{Memory};
 ghost use Rattle.dlk_lex.specs.Faults.{IsLexFaultOf};
-ghost use Rattle.dlk_lex.specs.Taken.{IsFirst};
+ghost use Rattle.dlk_lex.specs.Taken.{BeginsWord, IsFirst};
 
 use crate::bytes::is_space;
 use crate::fault::LexFault;
@@ -25,6 +26,7 @@ pub(crate) fn first_token(alloc: Global, bytes: &[u8], from: usize) -> Result<To
     requires { from ≤ length bytes.now }
     ensures first { IfOk result (IsFirst bytes.now from) }
     ensures bad { IfErr result (IsLexFaultOf (BadAt from (drop from bytes.now))) }
+    ensures memory { result ≡ Err Memory → BeginsWord bytes.now from }
 {
     let mut at = from;
     while at < bytes.len() {

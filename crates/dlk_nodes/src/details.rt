@@ -1,9 +1,8 @@
 //! The details of operators.
 ghost use Rattle.std.specs.Prelude.{◌≡◌, ℕ, List, Option, None, IfOk, OnOk, IfErr, IsTrue};
 ghost use Rattle.dlk_tree.specs.declared.op.Var.{Var as TreeVar};
-ghost use Rattle.dlk_tree.specs.declared.op.Sym.{Sym as TreeSym};
 ghost use Rattle.dlk_tree.specs.Names.{is_between, is_name};
-ghost use Rattle.dlk_tree.specs.Table.{is_sym, is_sym_of, kind_row};
+ghost use Rattle.dlk_tree.specs.Table.{is_sym};
 ghost use Rattle.dlk_nodes.specs.Details.{SpellsVariable, SpellsDot, SpellsUnit};
 ghost use Rattle.dlk_nodes.specs.Faults.{IsNodeFaultOf};
 

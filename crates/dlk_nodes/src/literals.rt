@@ -1,5 +1,5 @@
 //! Numbers as they stand in terms.
-ghost use Rattle.std.specs.Prelude.{◌≡◌, ◌≢◌, ◌+◌, ◌-◌, ◌*◌, ◌^◌, ◌<◌, ◌≤◌, IsTrue, IfOk, IfErr, MatchOption, length, fold};
+ghost use Rattle.std.specs.Prelude.{◌≡◌, ◌+◌, ◌-◌, ◌*◌, ◌^◌, ◌<◌, ◌≤◌, IsTrue, IfOk, IfErr, MatchOption, length, fold};
 ghost use Rattle.std.specs.List.{list_all};
 ghost use Rattle.dlk_tree.specs.declared.op.Num.{Num as TreeNum};
 ghost use Rattle.dlk_grammar.specs.Tokens.{is_digit, trimmed, literal_number};

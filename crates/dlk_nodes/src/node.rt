@@ -1,5 +1,5 @@
 //! Node lines, read.
-ghost use Rattle.std.specs.Prelude.{◌≡◌, ◌+◌, ◌≤◌, ℕ, length, All, IsTrue, IfOk, IfErr, OnOk};
+ghost use Rattle.std.specs.Prelude.{◌≡◌, ◌+◌, ◌≤◌, ℕ, length, All, IsTrue, IfOk, IfErr};
 ghost use Rattle.dlk_tree.specs.Trees.{Tree};
 ghost use Rattle.dlk_calculus.specs.Limits.{IsSmall, IsShallow};
 ghost use Rattle.dlk_store.specs.Stores.{IsId, tree, sorts_at};

@@ -3,7 +3,7 @@ ghost use Rattle.std.specs.Prelude.{◌≡◌, ◌≢◌, ℕ, List, [], Option,
 ghost use Rattle.dlk_tree.specs.Trees.{node, root};
 ghost use Rattle.dlk_calculus.specs.Kids.{last};
 ghost use Rattle.dlk_calculus.specs.Pairs.{Pair as TreePair, is_true, is_of_kind};
-ghost use Rattle.dlk_store.specs.Stores.{IsId, tree, kid_trees};
+ghost use Rattle.dlk_store.specs.Stores.{IsId, kid_trees};
 ghost use Rattle.dlk_sequent.specs.Substitutions.{pair_at, pairs_at, AreKnownPairs};
 ghost use Rattle.dlk_lines.specs.Spelled.{NamesPairs};
 ghost use Rattle.dlk_nodes.specs.Faults.{IsNodeFaultOf};

@@ -1,11 +1,10 @@
 //! The trees of a step, written by the numbers of their nodes.
-ghost use Rattle.std.specs.Prelude.{◌≡◌, ◌++◌, codes, All, IsTrue};
-ghost use Rattle.dlk_store.specs.Stores.{IsId, tree};
-ghost use Rattle.dlk_sequent.specs.Sequents.{sequent_at, IsKnown};
-ghost use Rattle.dlk_sequent.specs.Substitutions.{pair_at, pairs_at, AreKnownPairs};
-ghost use Rattle.dlk_print.specs.Printed.{Appends, gap};
+ghost use Rattle.std.specs.Prelude.{All, IsTrue};
+ghost use Rattle.dlk_store.specs.Stores.{IsId};
+ghost use Rattle.dlk_sequent.specs.Substitutions.{pair_at};
+ghost use Rattle.dlk_print.specs.Printed.{Appends};
 ghost use Rattle.dlk_lines.specs.Spelled.{ByNodes};
-ghost use Rattle.dlk_lines.specs.Written.{numbers_text, numbers_before, pair_text, sequent_text, pairs_text};
+ghost use Rattle.dlk_lines.specs.Written.{numbers_text, numbers_before, pair_text};
 ghost use Rattle.dlk_nodes.specs.Tables.{nodes_at};
 
 use crate::table::NodeTable;

@@ -1,5 +1,5 @@
 //! Node lines, written.
-ghost use Rattle.std.specs.Prelude.{◌≡◌, ◌+◌, ◌≤◌, ◌++◌, suc, codes, All, IsTrue, Option};
+ghost use Rattle.std.specs.Prelude.{◌+◌, ◌≤◌, ◌++◌, codes, All, IsTrue, Option};
 ghost use Rattle.std.specs.Fmt.{decimal};
 ghost use Rattle.std.specs.List.{join_by};
 ghost use Rattle.dlk_store.specs.Stores.{IsId, tree, kid_trees};

@@ -14,3 +14,4 @@ pub mod Stopping
 pub mod Parting
 pub mod Examples
 pub mod Rising
+pub mod Owed

@@ -110,6 +110,18 @@ step_in Quote y at b = if b == 76 then take y kind.AnyLeft y.begin else when (b 
 abbrev pub step : State → ℕ → ℕ → Option State
 step y at b = step_in y.within y at b
 
+-- a word that has come is a name
+abbrev pub as_word : State → Option State
+as_word y = when (is_name y.buffer) (Some y)
+
+-- What a byte does, as far as it comes before a name, a number or a string that has come is put down: what refuses here does so before
+-- memory is taken.
+abbrev pub begun_by : Within → State → ℕ → ℕ → Option State
+begun_by Name y at b = if is_name_byte b then Some y else as_word y
+begun_by Number y at b = if is_digit b then Some y else ends_number y
+begun_by Quoted y at b = Some y
+begun_by w y at b = step_in w y at b
+
 -- a strategy may end, and no bracket is open
 abbrev pub is_closed : State → Bool
 is_closed y = is_whole y.mode && nothing_open y.opens
@@ -121,6 +133,15 @@ when_closed (Some y) = when (is_closed y) (Some y)
 -- the text ends
 abbrev pub ended : State → Option State
 ended y = when_closed (settle y)
+
+-- what the end does, as far as it comes before a name that has come is put down
+abbrev pub settled_by : Within → State → Option State
+settled_by Name y = as_word y
+settled_by w y = settle_in w y
+
+abbrev pub ended_by : Within → State → Option State
+ended_by Between y = ended y
+ended_by w y = settled_by w y
 
 -- Does o result new: what was done is o. Want of memory is free.
 abbrev pub Does : Option State → Result (Unit {0}) StepFault → State → Type 0

@@ -1,12 +1,12 @@
 //! What has been read of a text, byte by byte.
-ghost use Rattle.std.specs.Prelude.{◌≡◌, ◌≤◌, ◌∷◌, [], IsTrue, length, OnOk, Some};
+ghost use Rattle.std.specs.Prelude.{◌≡◌, ◌≤◌, ◌∷◌, [], IsTrue, false, length, OnOk, OnErr, Some, None, Err};
 ghost use Rattle.std.specs.List.{list_all};
 ghost use Rattle.dlk_grammar.specs.Tokens.{is_digit};
 ghost use Rattle.dlk_scripts.specs.declared.part.PartKind.TheVariants as kind;
-ghost use Rattle.dlk_scripts.specs.declared.state.Within.TheVariants.{Name as AName, Number as ANumber, Quoted as AString, Quote, Less, Slash, Comment, CommentStar};
+ghost use Rattle.dlk_scripts.specs.declared.state.Within.TheVariants.{Between, Name as AName, Number as ANumber, Quoted as AString, Quote, Less, Slash, Comment, CommentStar};
 ghost use Rattle.dlk_scripts.specs.Table.{when, changed};
-ghost use Rattle.dlk_scripts.specs.Steps.{first_state, mark_of, takes_mark, take, begins, grows, moves, digits_go_on, start, ends_name, ends_number, settle, step_in, step, ended, Does, HasDigits};
-ghost use Rattle.dlk_scripts.specs.declared.state.StepFault.TheVariants.{Memory};
+ghost use Rattle.dlk_scripts.specs.Steps.{first_state, mark_of, takes_mark, take, begins, grows, moves, digits_go_on, start, ends_name, ends_number, settle, step_in, step, as_word, begun_by, settled_by, ended, ended_by, Does, HasDigits};
+ghost use Rattle.dlk_scripts.specs.declared.state.StepFault.TheVariants.{Memory, Syntax};
 
 use crate::bytes::{is_digit, is_space, mark, number};
 use crate::listed::Listed;
@@ -116,7 +116,8 @@ impl State {
 
     /// The part at this place has come.
     fn take(&mut self, kind: PartKind, at: usize) -> Result<(), StepFault>
-        ensures { Does (take self.old kind at) result self.new }
+        ensures done { Does (take self.old kind at) result self.new }
+        ensures owed { take self.old kind at ≡ None → result ≡ Err Syntax }
     {
         let Some(turn) = leads(self.mode, self.opens.top(), &kind) else {
             return Err(StepFault::Syntax);
@@ -151,7 +152,8 @@ impl State {
         within: Within,
         at: usize,
     ) -> Result<(), StepFault>
-        ensures { Does (when may (Some (begins self.old within at []))) result self.new }
+        ensures done { Does (when may (Some (begins self.old within at []))) result self.new }
+        ensures owed { may ≡ false → result ≡ Err Syntax }
     {
         if !may {
             return Err(StepFault::Syntax);
@@ -171,7 +173,8 @@ impl State {
         at: usize,
         byte: u8,
     ) -> Result<(), StepFault>
-        ensures { Does (when may (Some (begins self.old within at (byte ∷ [])))) result self.new }
+        ensures done { Does (when may (Some (begins self.old within at (byte ∷ [])))) result self.new }
+        ensures owed { may ≡ false → result ≡ Err Syntax }
     {
         self.begins(alloc, may, within, at)?;
         self.grows(byte)
@@ -179,7 +182,8 @@ impl State {
 
     /// A part of one byte.
     fn one_byte(&mut self, at: usize, byte: u8) -> Result<(), StepFault>
-        ensures { Does (takes_mark self.old at (mark_of byte)) result self.new }
+        ensures done { Does (takes_mark self.old at (mark_of byte)) result self.new }
+        ensures owed { takes_mark self.old at (mark_of byte) ≡ None → result ≡ Err Syntax }
     {
         match mark(byte) {
             Some(kind) => self.take(kind, at),
@@ -189,7 +193,8 @@ impl State {
 
     /// A byte between parts.
     fn start(&mut self, alloc: Global, at: usize, byte: u8) -> Result<(), StepFault>
-        ensures { Does (start self.old at byte) result self.new }
+        ensures done { Does (start self.old at byte) result self.new }
+        ensures owed { start self.old at byte ≡ None → result ≡ Err Syntax }
     {
         if is_space(byte) {
             return Ok(());
@@ -217,7 +222,8 @@ impl State {
 
     /// A name ends.
     fn ends_name(&mut self, alloc: Global) -> Result<(), StepFault>
-        ensures { Does (ends_name self.old) result self.new }
+        ensures done { Does (ends_name self.old) result self.new }
+        ensures owed { as_word self.old ≡ None → result ≡ Err Syntax }
     {
         match Name::new(alloc, self.buffer.as_slice()) {
             Ok(name) => self.take(PartKind::Name(name), self.begin),
@@ -230,7 +236,8 @@ impl State {
     fn ends_number(&mut self) -> Result<(), StepFault>
         requires few { length self.old.buffer ≤ 9 }
         requires digits { IsTrue (list_all is_digit self.old.buffer) }
-        ensures { Does (ends_number self.old) result self.new }
+        ensures done { Does (ends_number self.old) result self.new }
+        ensures owed { ends_number self.old ≡ None → result ≡ Err Syntax }
     {
         let value = number(self.buffer.as_slice());
         self.take(PartKind::Number(value), self.begin)
@@ -246,7 +253,8 @@ impl State {
 
     /// A byte behind bytes of a name.
     fn name(&mut self, alloc: Global, at: usize, byte: u8) -> Result<(), StepFault>
-        ensures { Does (step_in AName self.old at byte) result self.new }
+        ensures done { Does (step_in AName self.old at byte) result self.new }
+        ensures owed { begun_by AName self.old at byte ≡ None → result ≡ Err Syntax }
     {
         if is_name_byte(byte) {
             return self.grows(byte);
@@ -259,7 +267,8 @@ impl State {
     fn number(&mut self, alloc: Global, at: usize, byte: u8) -> Result<(), StepFault>
         requires few { length self.old.buffer ≤ 9 }
         requires digits { IsTrue (list_all is_digit self.old.buffer) }
-        ensures { Does (step_in ANumber self.old at byte) result self.new }
+        ensures done { Does (step_in ANumber self.old at byte) result self.new }
+        ensures owed { begun_by ANumber self.old at byte ≡ None → result ≡ Err Syntax }
     {
         if !is_digit(byte) {
             self.ends_number()?;
@@ -285,7 +294,8 @@ impl State {
 
     /// The byte behind `'`.
     fn side(&mut self, byte: u8) -> Result<(), StepFault>
-        ensures { Does (step_in Quote self.old 0 byte) result self.new }
+        ensures done { Does (step_in Quote self.old 0 byte) result self.new }
+        ensures owed { step_in Quote self.old 0 byte ≡ None → result ≡ Err Syntax }
     {
         if byte == b'L' {
             return self.take(PartKind::AnyLeft, self.begin);
@@ -298,7 +308,8 @@ impl State {
 
     /// The byte behind `<`.
     fn fork(&mut self, byte: u8) -> Result<(), StepFault>
-        ensures { Does (step_in Less self.old 0 byte) result self.new }
+        ensures done { Does (step_in Less self.old 0 byte) result self.new }
+        ensures owed { step_in Less self.old 0 byte ≡ None → result ≡ Err Syntax }
     {
         if byte != b'(' {
             return Err(StepFault::Syntax);
@@ -308,7 +319,8 @@ impl State {
 
     /// The byte behind `/`.
     fn slash(&mut self, byte: u8) -> Result<(), StepFault>
-        ensures { Does (step_in Slash self.old 0 byte) result self.new }
+        ensures done { Does (step_in Slash self.old 0 byte) result self.new }
+        ensures owed { step_in Slash self.old 0 byte ≡ None → result ≡ Err Syntax }
     {
         if byte == b'*' {
             return self.moves(Within::Comment);
@@ -343,7 +355,8 @@ impl State {
     /// `Syntax` comes exactly where no text goes on with it, and `Memory` where memory ran out.
     pub(crate) fn step(&mut self, alloc: Global, at: usize, byte: u8) -> Result<(), StepFault>
         requires { HasDigits self.old }
-        ensures { Does (step self.old at byte) result self.new }
+        ensures done { Does (step self.old at byte) result self.new }
+        ensures owed { begun_by self.old.within self.old at byte ≡ None → result ≡ Err Syntax }
     {
         match self.within {
             Within::Between => self.start(alloc, at, byte),
@@ -361,7 +374,9 @@ impl State {
     /// A name or a number that has come ends here.
     fn settle(&mut self, alloc: Global) -> Result<(), StepFault>
         requires { HasDigits self.old }
-        ensures { Does (settle self.old) result self.new }
+        ensures done { Does (settle self.old) result self.new }
+        ensures owed { settled_by self.old.within self.old ≡ None → result ≡ Err Syntax }
+        ensures settled { self.old.within ≡ Between → OnErr result ⊥ }
     {
         match self.within {
             Within::Between => Ok(()),
@@ -383,7 +398,8 @@ impl State {
     /// `Syntax` comes exactly where what was read is no whole text, and `Memory` where memory ran out.
     pub(crate) fn ended(&mut self, alloc: Global) -> Result<(), StepFault>
         requires { HasDigits self.old }
-        ensures { Does (ended self.old) result self.new }
+        ensures done { Does (ended self.old) result self.new }
+        ensures owed { ended_by self.old.within self.old ≡ None → result ≡ Err Syntax }
     {
         self.settle(alloc)?;
         if is_whole(self.mode) && self.opens.is_empty() {

@@ -1,6 +1,7 @@
 pub mod Names
 pub mod Tests
 pub mod Table
+pub mod Rows
 pub mod Trees
 pub mod TreeTests
 pub mod Occurs

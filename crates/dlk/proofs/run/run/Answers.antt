@@ -1,7 +1,7 @@
 use Rattle.std.proofs.Common.{◌++◌, List, ℕ, map, string_bytes, option_copied, refl, sym, ap, subst, ◌∙◌, inl, inr, arith}
 use Rattle.dlk_replies.specs.Shown.{reply_of}
 use Rattle.dlk.specs.Headline.{JudgesTruly}
-use Rattle.dlk.proofs.Truly.{whole_truly, front_truly, silent_truly}
+use Rattle.dlk.proofs.Truly.{whole_truly, front_truly, silent_truly, whole_derives, front_derives, silent_derives}
 use Rattle.dlk.proofs.Judged.{answer_judges}
 use Rattle.dlk.proofs.Ran.{gives_whole, breaks_off, asks_given}
 use Rattle.dlk.specs.Looks.{LooksAtFew}
@@ -12,6 +12,18 @@ use Rattle.dlk.proofs.Played.{whole_session}
 use Rattle.dlk.proofs.Writing.{checked_by}
 use Rattle.dlk.proofs.Guarding.{whole_guards}
 use Rattle.dlk.proofs.run.run.Goals as goal
+
+pub returns-in-Ok-give-clause-derived_truly : goal.returns-in-Ok-give-clause-derived_truly
+returns-in-Ok-give-clause-derived_truly g c = λ t.
+    let words = map string_bytes c.args.words.now in
+    let old = g.D.Desk.outside c.args.desk.now in
+    let mid = g.D.Desk.outside c.work.new.desk in
+    let new = g.D.Desk.outside c.give.new.desk in
+    let reply = reply_of c.in-Ok.reply in
+    let reads = c.in-Ok.ensures.only in
+    whole_derives (checked_by c.proved_is_checked.ensures c.linked_is_checked.ensures.checked c.trimmed_is_checked.ensures.checked) words c.code.result old new reply
+    (gives_whole words old mid new reply (option_copied c.output.result) c.output.ensures (c.in-Ok.ensures.ok t) (reads.files t) (reads.printed t)
+    (c.in-Ok-give.ensures.file t) (c.in-Ok-give.ensures.printed t) c.code.result c.code.ensures)
 
 pub returns-in-Ok-give-clause-closed_truly : goal.returns-in-Ok-give-clause-closed_truly
 returns-in-Ok-give-clause-closed_truly g c = λ t.
@@ -111,6 +123,18 @@ returns-in-Ok-give-clause-asks g c =
     asks_given g.D.Desk.tells (map string_bytes c.args.words.now) c.code.result (g.D.Desk.outside c.args.desk.now) (g.D.Desk.outside c.work.new.desk) (g.D.Desk.outside c.give.new.desk)
     c.in-Ok.ensures.asks c.in-Ok.ensures.all c.give.ensures.only
 
+pub returns-clause-derived_truly : goal.returns-clause-derived_truly
+returns-clause-derived_truly g c = λ t.
+    let old = g.D.Desk.outside c.args.desk.now in
+    let mid = g.D.Desk.outside c.work.new.desk in
+    let new = g.D.Desk.outside c.give.new.desk in
+    let reply = reply_of c.in-Ok.reply in
+    let given = c.give.ensures in
+    let reads = c.in-Ok.ensures.only in
+    front_derives (checked_by c.proved_is_checked.ensures c.linked_is_checked.ensures.checked c.trimmed_is_checked.ensures.checked) (map string_bytes c.args.words.now) old new reply
+    (breaks_off (map string_bytes c.args.words.now) old mid new reply (option_copied c.output.result) c.output.ensures
+    (c.in-Ok.ensures.ok t) (reads.files t) (reads.printed t) (given.part t) (given.front t) (given.file_first t))
+
 pub returns-clause-closed_truly : goal.returns-clause-closed_truly
 returns-clause-closed_truly g c = λ t.
     let old = g.D.Desk.outside c.args.desk.now in
@@ -167,9 +191,17 @@ pub returns-in-Err-Fault-clause-looks : goal.returns-in-Err-Fault-clause-looks
 returns-in-Err-Fault-clause-looks g c = λ t.
     ungiven_looked (map string_bytes c.args.words.now) (g.D.Desk.outside c.args.desk.now) (g.D.Desk.outside c.work.new.desk) _ _ (c.work.ensures.looks t) 4 (λ e. absurd (omega (arith, e)))
 
+pub returns-in-Err-Memory-clause-derived_truly : goal.returns-in-Err-Memory-clause-derived_truly
+returns-in-Err-Memory-clause-derived_truly g c = λ t.
+    silent_derives (map string_bytes c.args.words.now) 6 (g.D.Desk.outside c.args.desk.now) (g.D.Desk.outside c.work.new.desk) (c.work.ensures.only.printed t)
+
 pub returns-in-Err-Memory-clause-closed_truly : goal.returns-in-Err-Memory-clause-closed_truly
 returns-in-Err-Memory-clause-closed_truly g c = λ t.
     silent_truly (map string_bytes c.args.words.now) 6 (g.D.Desk.outside c.args.desk.now) (g.D.Desk.outside c.work.new.desk) (c.work.ensures.only.printed t)
+
+pub returns-in-Err-Fault-clause-derived_truly : goal.returns-in-Err-Fault-clause-derived_truly
+returns-in-Err-Fault-clause-derived_truly g c = λ t.
+    silent_derives (map string_bytes c.args.words.now) 4 (g.D.Desk.outside c.args.desk.now) (g.D.Desk.outside c.work.new.desk) (c.work.ensures.only.printed t)
 
 pub returns-in-Err-Fault-clause-closed_truly : goal.returns-in-Err-Fault-clause-closed_truly
 returns-in-Err-Fault-clause-closed_truly g c = λ t.

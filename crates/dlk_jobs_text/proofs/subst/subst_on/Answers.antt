@@ -1,203 +1,181 @@
-use Rattle.std.proofs.Common.{◌≡◌, refl, ap, codes, ◌∙◌, Err}
-use Rattle.std.proofs.lemmas.Result.{IfOk-weaker}
+use Rattle.std.proofs.Common.{refl}
+use Rattle.std.proofs.lemmas.Result.{err_from_is_err_and}
 use Rattle.dlk_store.specs.Stores.{tree}
 use Rattle.dlk_sequent.specs.Substitutions.{pairs_at}
 use Rattle.dlk_grammar.specs.declared.token.Dots.TheVariants.{Refused}
-use Rattle.dlk_grammar.specs.declared.token.Form.TheVariants.{Expression}
-use Rattle.dlk_grammar.specs.Texts.{TreeTextFault, PairsTextFault}
-use Rattle.dlk_replies.specs.declared.form.Role.TheVariants.{File, Substitution}
-use Rattle.dlk_replies.specs.Replies.{refusal}
-use Rattle.dlk_replies.specs.Refused.{IsTextRefused}
-use Rattle.dlk_jobs_text.specs.Prints.{printed}
-use Rattle.dlk_jobs_text.specs.Substitutes.{Substitutes, bad_file, bad_subst, pair_refused}
 use Rattle.dlk_replies.specs.Shown.{reply_of}
-use Rattle.dlk_replies.proofs.TextAnswers.{text_answer}
-use Rattle.dlk_jobs_text.proofs.SubstAnswers.{both_read, pair_answer, no_result_answer, too_big_answer, too_deep_answer, prints_answer}
+use Rattle.dlk_replies.proofs.Ends.{ends_weaker}
+use Rattle.dlk_jobs_text.specs.Prints.{printed}
+use Rattle.dlk_jobs_text.specs.Substitutes.{Substitutes}
+use Rattle.dlk_jobs_text.specs.Refused.{RefusesFile, RefusesPairs, RefusesPair, RefusesUse, RefusesLarge}
+use Rattle.dlk_jobs_text.proofs.SubstAnswers.{both_read, has_result, file_refused, pairs_refused, pair_answer, no_result_answer, large_answer, prints_answer}
 use Rattle.dlk_jobs_text.proofs.FewLooks.{none_looked, few_looked, printed_looked, pair_looks, pairs_alone}
 use Rattle.dlk_jobs_text.proofs.subst.subst_on.Goals as goal
 
-pub returns-in-Err-clause-reply : goal.returns-in-Err-clause-reply
-returns-in-Err-clause-reply g c =
+pub returns-in_err-expression-clause-ended : goal.returns-in_err-expression-clause-ended
+returns-in_err-expression-clause-ended g c =
     let file = c.args.file.now in
     let substitution = c.args.substitution.now in
-    IfOk-weaker c.refuse_text.result (λ r. IsTextRefused File c.in-Err.fault (reply_of r)) (λ r. Substitutes file substitution (reply_of r))
-    (λ r is. text_answer File (TreeTextFault Expression Refused file) (Substitutes file substitution) bad_file c.in-Err.fault (reply_of r) c.in-Err.ensures.fault is) c.refuse_text.ensures
+    let p = err_from_is_err_and c.from_residual.result c.from_residual.ensures.1 in
+    rw (p.1, p.2) (ends_weaker (RefusesFile Refused file) (Substitutes file substitution) (file_refused file substitution) _ c.in_err-expression.ensures.refused)
 
-pub returns-in-Err-read_substitution-clause-reply : goal.returns-in-Err-read_substitution-clause-reply
-returns-in-Err-read_substitution-clause-reply g c =
+pub returns-in_err-pairs-clause-ended : goal.returns-in_err-pairs-clause-ended
+returns-in_err-pairs-clause-ended g c =
     let file = c.args.file.now in
     let substitution = c.args.substitution.now in
-    let read = c.in-Ok.ensures.found in
-    let fault = c.in-Err-read_substitution.fault in
-    let refused = c.refuse_text-in-Err-read_substitution in
-    IfOk-weaker refused.result (λ r. IsTextRefused Substitution fault (reply_of r)) (λ r. Substitutes file substitution (reply_of r))
-    (λ r is. text_answer Substitution (PairsTextFault substitution) (Substitutes file substitution) (bad_subst read.0 read.1) fault (reply_of r) c.in-Err-read_substitution.ensures.fault is) refused.ensures
+    let read = c.in_ok-expression.ensures.found in
+    let p = err_from_is_err_and c.from_residual-in_err-pairs.result c.from_residual-in_err-pairs.ensures.1 in
+    rw (p.1, p.2) (ends_weaker (RefusesPairs substitution) (Substitutes file substitution) (pairs_refused file substitution read.0 read.1) _ c.in_err-pairs.ensures.refused)
 
-pub returns-in-Err-Ill-clause-reply : goal.returns-in-Err-Ill-clause-reply
-returns-in-Err-Ill-clause-reply g c =
+pub returns-in_err-sigma-clause-ended : goal.returns-in_err-sigma-clause-ended
+returns-in_err-sigma-clause-ended g c =
     let file = c.args.file.now in
     let substitution = c.args.substitution.now in
-    let read = c.in-Ok.ensures.found in
-    let trees = g.S.Store.trees c.read_substitution.new.store in
-    let keeps = g.met.S.Store.grows_keeps c.read_expression.new.store c.read_substitution.new.store c.in-Ok-read_substitution.ensures.grows in
-    let pairs = c.in-Ok-read_substitution.pairs.items in
-    let bad = c.in-Err-Ill in
-    let ill = rw bad.field-0-is at bad.ensures.ill in
-    let said = rw bad.why-is at (rw bad.pair-is at c.refuse_pair.ensures) in
-    let both = both_read file substitution (g.S.Store.trees c.read_expression.new.store) trees c.in-Ok.expression read.0 c.in-Ok-read_substitution.pairs.items pairs read.1 read.2 keeps c.in-Ok-read_substitution.ensures.found refl in
-    IfOk-weaker c.refuse_pair.result (λ r. reply_of r ≡ pair_refused bad.pair bad.why) (λ r. Substitutes file substitution (reply_of r))
-    (λ r is. pair_answer file substitution (tree trees c.in-Ok.expression) (pairs_at trees pairs) both bad.pair bad.why (reply_of r) ill is) said
+    let read = c.in_ok-expression.ensures.found in
+    let old = g.S.Store.trees c.read_file.new.store in
+    let trees = g.S.Store.trees c.read_pairs.new.store in
+    let keeps = g.met.S.Store.grows_keeps c.read_file.new.store c.read_pairs.new.store c.read_pairs.ensures.grows in
+    let e = tree trees c.in_ok-expression.expression in
+    let said = c.in_ok-pairs.pairs.items in
+    let both = both_read file substitution old trees c.in_ok-expression.expression read.0 said said read.1 read.2 keeps c.in_ok-pairs.ensures.found refl in
+    let p = err_from_is_err_and c.from_residual-in_err-sigma.result c.from_residual-in_err-sigma.ensures.1 in
+    rw (p.1, p.2) (ends_weaker (RefusesPair (pairs_at trees said)) (Substitutes file substitution) (pair_answer file substitution e (pairs_at trees said) both) _
+    c.in_err-sigma.ensures.refused)
 
-pub returns-in-Err-NotAdmissible-clause-reply : goal.returns-in-Err-NotAdmissible-clause-reply
-returns-in-Err-NotAdmissible-clause-reply g c =
+pub returns-in_err-made-clause-ended : goal.returns-in_err-made-clause-ended
+returns-in_err-made-clause-ended g c =
     let file = c.args.file.now in
     let substitution = c.args.substitution.now in
-    let read = c.in-Ok.ensures.found in
-    let trees = g.S.Store.trees c.read_substitution.new.store in
-    let keeps = g.met.S.Store.grows_keeps c.read_expression.new.store c.read_substitution.new.store c.in-Ok-read_substitution.ensures.grows in
-    let e = tree trees c.in-Ok.expression in
-    let pairs = pairs_at trees c.in-Ok-new.sigma.pairs in
-    let good = c.in-Ok-new.ensures.made.well_formed in
-    let both = both_read file substitution (g.S.Store.trees c.read_expression.new.store) trees c.in-Ok.expression read.0 c.in-Ok-read_substitution.pairs.items c.in-Ok-new.sigma.pairs read.1 read.2 keeps c.in-Ok-read_substitution.ensures.found c.in-Ok-new.ensures.pairs in
-    IfOk-weaker c.refused.result (λ r. reply_of r ≡ refusal (codes "not-admissible")) (λ r. Substitutes file substitution (reply_of r))
-    (λ r is. no_result_answer file substitution e pairs both (reply_of r) good (c.apply.ensures.none (c.in-Err-NotAdmissible.is ∙ ap Err c.in-Err-NotAdmissible.field-0-is)) is) c.refused.ensures
+    let read = c.in_ok-expression.ensures.found in
+    let old = g.S.Store.trees c.read_file.new.store in
+    let trees = g.S.Store.trees c.read_pairs.new.store in
+    let keeps = g.met.S.Store.grows_keeps c.read_file.new.store c.read_pairs.new.store c.read_pairs.ensures.grows in
+    let e = tree trees c.in_ok-expression.expression in
+    let said = c.in_ok-pairs.pairs.items in
+    let pairs = c.in_ok-sigma.sigma.pairs in
+    let both = both_read file substitution old trees c.in_ok-expression.expression read.0 said pairs read.1 read.2 keeps c.in_ok-pairs.ensures.found c.in_ok-sigma.ensures.pairs in
+    let p = err_from_is_err_and c.from_residual-in_err-made.result c.from_residual-in_err-made.ensures.1 in
+    rw (p.1, p.2) (ends_weaker (RefusesUse (pairs_at trees pairs) e) (Substitutes file substitution)
+    (no_result_answer file substitution e (pairs_at trees pairs) both c.in_ok-sigma.ensures.made.well_formed) _ c.in_err-made.ensures.refused)
 
-pub returns-then-size-gt-MOST_NODES-clause-reply : goal.returns-then-size-gt-MOST_NODES-clause-reply
-returns-then-size-gt-MOST_NODES-clause-reply g c =
+pub returns-in_err-keep_limits-clause-ended : goal.returns-in_err-keep_limits-clause-ended
+returns-in_err-keep_limits-clause-ended g c =
     let file = c.args.file.now in
     let substitution = c.args.substitution.now in
-    let read = c.in-Ok.ensures.found in
-    let trees = g.S.Store.trees c.read_substitution.new.store in
-    let keeps = g.met.S.Store.grows_keeps c.read_expression.new.store c.read_substitution.new.store c.in-Ok-read_substitution.ensures.grows in
-    let e = tree trees c.in-Ok.expression in
-    let pairs = pairs_at trees c.in-Ok-new.sigma.pairs in
-    let good = c.in-Ok-new.ensures.made.well_formed in
-    let both = both_read file substitution (g.S.Store.trees c.read_expression.new.store) trees c.in-Ok.expression read.0 c.in-Ok-read_substitution.pairs.items c.in-Ok-new.sigma.pairs read.1 read.2 keeps c.in-Ok-read_substitution.ensures.found c.in-Ok-new.ensures.pairs in
-    IfOk-weaker c.refused-then-size-gt-MOST_NODES.result (λ r. reply_of r ≡ refusal (codes "result-too-big")) (λ r. Substitutes file substitution (reply_of r))
-    (λ r is. too_big_answer file substitution e pairs both (g.S.Store.trees c.apply.new.store) c.in-Ok-apply.result c.size.result (reply_of r) good c.in-Ok-apply.ensures.ok c.size.ensures c.if-size-gt-MOST_NODES.true is) c.refused-then-size-gt-MOST_NODES.ensures
-
-pub returns-then-depth-gt-GREATEST_DEPTH-clause-reply : goal.returns-then-depth-gt-GREATEST_DEPTH-clause-reply
-returns-then-depth-gt-GREATEST_DEPTH-clause-reply g c =
-    let file = c.args.file.now in
-    let substitution = c.args.substitution.now in
-    let read = c.in-Ok.ensures.found in
-    let trees = g.S.Store.trees c.read_substitution.new.store in
-    let keeps = g.met.S.Store.grows_keeps c.read_expression.new.store c.read_substitution.new.store c.in-Ok-read_substitution.ensures.grows in
-    let e = tree trees c.in-Ok.expression in
-    let pairs = pairs_at trees c.in-Ok-new.sigma.pairs in
-    let good = c.in-Ok-new.ensures.made.well_formed in
-    let both = both_read file substitution (g.S.Store.trees c.read_expression.new.store) trees c.in-Ok.expression read.0 c.in-Ok-read_substitution.pairs.items c.in-Ok-new.sigma.pairs read.1 read.2 keeps c.in-Ok-read_substitution.ensures.found c.in-Ok-new.ensures.pairs in
-    IfOk-weaker c.refused-then-depth-gt-GREATEST_DEPTH.result (λ r. reply_of r ≡ refusal (codes "result-too-deep")) (λ r. Substitutes file substitution (reply_of r))
-    (λ r is. too_deep_answer file substitution e pairs both (g.S.Store.trees c.apply.new.store) c.in-Ok-apply.result c.size.result c.depth.result (reply_of r) good c.in-Ok-apply.ensures.ok c.size.ensures c.depth.ensures c.if-size-gt-MOST_NODES.false c.if-depth-gt-GREATEST_DEPTH.true is) c.refused-then-depth-gt-GREATEST_DEPTH.ensures
+    let read = c.in_ok-expression.ensures.found in
+    let old = g.S.Store.trees c.read_file.new.store in
+    let trees = g.S.Store.trees c.read_pairs.new.store in
+    let keeps = g.met.S.Store.grows_keeps c.read_file.new.store c.read_pairs.new.store c.read_pairs.ensures.grows in
+    let e = tree trees c.in_ok-expression.expression in
+    let said = c.in_ok-pairs.pairs.items in
+    let pairs = c.in_ok-sigma.sigma.pairs in
+    let both = both_read file substitution old trees c.in_ok-expression.expression read.0 said pairs read.1 read.2 keeps c.in_ok-pairs.ensures.found c.in_ok-sigma.ensures.pairs in
+    let new = g.S.Store.trees c.result_of.new.store in
+    let t = tree new c.in_ok-made.made in
+    let has = has_result (pairs_at trees pairs) e new c.in_ok-made.made c.in_ok-sigma.ensures.made.well_formed c.in_ok-made.ensures.ok in
+    let p = err_from_is_err_and c.from_residual-in_err-keep_limits.result c.from_residual-in_err-keep_limits.ensures.1 in
+    rw (p.1, p.2) (ends_weaker (RefusesLarge t) (Substitutes file substitution) (large_answer file substitution e (pairs_at trees pairs) both t has) _
+    c.in_err-keep_limits.ensures.refused)
 
 pub returns-clause-reply : goal.returns-clause-reply
 returns-clause-reply g c =
     let file = c.args.file.now in
     let substitution = c.args.substitution.now in
-    let read = c.in-Ok.ensures.found in
-    let trees = g.S.Store.trees c.read_substitution.new.store in
-    let keeps = g.met.S.Store.grows_keeps c.read_expression.new.store c.read_substitution.new.store c.in-Ok-read_substitution.ensures.grows in
-    let e = tree trees c.in-Ok.expression in
-    let pairs = pairs_at trees c.in-Ok-new.sigma.pairs in
-    let good = c.in-Ok-new.ensures.made.well_formed in
-    let both = both_read file substitution (g.S.Store.trees c.read_expression.new.store) trees c.in-Ok.expression read.0 c.in-Ok-read_substitution.pairs.items c.in-Ok-new.sigma.pairs read.1 read.2 keeps c.in-Ok-read_substitution.ensures.found c.in-Ok-new.ensures.pairs in
-    IfOk-weaker c.print_tree.result (λ r. reply_of r ≡ printed (tree (g.S.Store.trees c.apply.new.store) c.in-Ok-apply.result)) (λ r. Substitutes file substitution (reply_of r))
-    (λ r is. prints_answer file substitution e pairs both (g.S.Store.trees c.apply.new.store) c.in-Ok-apply.result c.size.result c.depth.result (reply_of r) good c.in-Ok-apply.ensures.ok c.size.ensures c.depth.ensures c.if-size-gt-MOST_NODES.false c.if-depth-gt-GREATEST_DEPTH.false is) c.print_tree.ensures
+    let read = c.in_ok-expression.ensures.found in
+    let old = g.S.Store.trees c.read_file.new.store in
+    let trees = g.S.Store.trees c.read_pairs.new.store in
+    let keeps = g.met.S.Store.grows_keeps c.read_file.new.store c.read_pairs.new.store c.read_pairs.ensures.grows in
+    let e = tree trees c.in_ok-expression.expression in
+    let said = c.in_ok-pairs.pairs.items in
+    let pairs = c.in_ok-sigma.sigma.pairs in
+    let both = both_read file substitution old trees c.in_ok-expression.expression read.0 said pairs read.1 read.2 keeps c.in_ok-pairs.ensures.found c.in_ok-sigma.ensures.pairs in
+    let new = g.S.Store.trees c.result_of.new.store in
+    let t = tree new c.in_ok-made.made in
+    let has = has_result (pairs_at trees pairs) e new c.in_ok-made.made c.in_ok-sigma.ensures.made.well_formed c.in_ok-made.ensures.ok in
+    prints_answer file substitution e (pairs_at trees pairs) both t has c.in_ok-keep_limits.ensures.small c.in_ok-keep_limits.ensures.shallow
+    (reply_of c.in_ok-reply.reply) c.in_ok-reply.ensures
 
-pub returns-in-Err-clause-looks : goal.returns-in-Err-clause-looks
-returns-in-Err-clause-looks g c = none_looked c.args.file.now c.args.substitution.now _ _ refl
+pub returns-in_err-expression-clause-looks : goal.returns-in_err-expression-clause-looks
+returns-in_err-expression-clause-looks g c = none_looked c.args.file.now c.args.substitution.now _ _ refl
 
-pub returns-in-Err-read_substitution-clause-looks : goal.returns-in-Err-read_substitution-clause-looks
-returns-in-Err-read_substitution-clause-looks g c = none_looked c.args.file.now c.args.substitution.now _ _ refl
+pub returns-in_err-pairs-clause-looks : goal.returns-in_err-pairs-clause-looks
+returns-in_err-pairs-clause-looks g c = none_looked c.args.file.now c.args.substitution.now _ _ refl
 
-pub returns-in-Err-Ill-clause-looks : goal.returns-in-Err-Ill-clause-looks
-returns-in-Err-Ill-clause-looks g c =
+pub returns-in_err-sigma-clause-looks : goal.returns-in_err-sigma-clause-looks
+returns-in_err-sigma-clause-looks g c =
     let file = c.args.file.now in
     let substitution = c.args.substitution.now in
-    let read = c.in-Ok.ensures.found in
-    let trees = g.S.Store.trees c.read_substitution.new.store in
-    let keeps = g.met.S.Store.grows_keeps c.read_expression.new.store c.read_substitution.new.store c.in-Ok-read_substitution.ensures.grows in
-    let e = tree trees c.in-Ok.expression in
-    let pairs = c.in-Ok-read_substitution.pairs.items in
-    let both = both_read file substitution (g.S.Store.trees c.read_expression.new.store) trees c.in-Ok.expression read.0 pairs pairs read.1 read.2 keeps c.in-Ok-read_substitution.ensures.found refl in
-    few_looked file substitution e (pairs_at trees pairs) both _ _ (pairs_alone trees pairs e _ _ c.new.ensures.cost)
+    let read = c.in_ok-expression.ensures.found in
+    let old = g.S.Store.trees c.read_file.new.store in
+    let trees = g.S.Store.trees c.read_pairs.new.store in
+    let keeps = g.met.S.Store.grows_keeps c.read_file.new.store c.read_pairs.new.store c.read_pairs.ensures.grows in
+    let e = tree trees c.in_ok-expression.expression in
+    let said = c.in_ok-pairs.pairs.items in
+    let both = both_read file substitution old trees c.in_ok-expression.expression read.0 said said read.1 read.2 keeps c.in_ok-pairs.ensures.found refl in
+    few_looked file substitution e (pairs_at trees said) both _ _ (pairs_alone trees said e _ _ c.substitution_of.ensures.cost)
 
-pub returns-in-Err-Memory-clause-looks : goal.returns-in-Err-Memory-clause-looks
-returns-in-Err-Memory-clause-looks g c =
+pub returns-in_err-made-clause-looks : goal.returns-in_err-made-clause-looks
+returns-in_err-made-clause-looks g c =
     let file = c.args.file.now in
     let substitution = c.args.substitution.now in
-    let read = c.in-Ok.ensures.found in
-    let trees = g.S.Store.trees c.read_substitution.new.store in
-    let keeps = g.met.S.Store.grows_keeps c.read_expression.new.store c.read_substitution.new.store c.in-Ok-read_substitution.ensures.grows in
-    let e = tree trees c.in-Ok.expression in
-    let pairs = c.in-Ok-read_substitution.pairs.items in
-    let both = both_read file substitution (g.S.Store.trees c.read_expression.new.store) trees c.in-Ok.expression read.0 pairs pairs read.1 read.2 keeps c.in-Ok-read_substitution.ensures.found refl in
-    few_looked file substitution e (pairs_at trees pairs) both _ _ (pairs_alone trees pairs e _ _ c.new.ensures.cost)
-
-pub returns-in-Err-NotAdmissible-clause-looks : goal.returns-in-Err-NotAdmissible-clause-looks
-returns-in-Err-NotAdmissible-clause-looks g c =
-    let file = c.args.file.now in
-    let substitution = c.args.substitution.now in
-    let read = c.in-Ok.ensures.found in
-    let trees = g.S.Store.trees c.read_substitution.new.store in
-    let keeps = g.met.S.Store.grows_keeps c.read_expression.new.store c.read_substitution.new.store c.in-Ok-read_substitution.ensures.grows in
-    let e = tree trees c.in-Ok.expression in
-    let pairs = c.in-Ok-new.sigma.pairs in
-    let both = both_read file substitution (g.S.Store.trees c.read_expression.new.store) trees c.in-Ok.expression read.0 c.in-Ok-read_substitution.pairs.items pairs read.1 read.2 keeps c.in-Ok-read_substitution.ensures.found c.in-Ok-new.ensures.pairs in
+    let read = c.in_ok-expression.ensures.found in
+    let old = g.S.Store.trees c.read_file.new.store in
+    let trees = g.S.Store.trees c.read_pairs.new.store in
+    let keeps = g.met.S.Store.grows_keeps c.read_file.new.store c.read_pairs.new.store c.read_pairs.ensures.grows in
+    let e = tree trees c.in_ok-expression.expression in
+    let said = c.in_ok-pairs.pairs.items in
+    let pairs = c.in_ok-sigma.sigma.pairs in
+    let both = both_read file substitution old trees c.in_ok-expression.expression read.0 said pairs read.1 read.2 keeps c.in_ok-pairs.ensures.found c.in_ok-sigma.ensures.pairs in
     few_looked file substitution e (pairs_at trees pairs) both _ _
-    (pair_looks trees pairs e _ _ _ (rw (← c.in-Ok-new.ensures.pairs) at c.new.ensures.cost) (c.apply.ensures.cost c.requires))
+    (pair_looks trees pairs e _ _ _ (rw (← c.in_ok-sigma.ensures.pairs) at c.substitution_of.ensures.cost) (c.result_of.ensures.cost c.requires))
 
-pub returns-in-Err-Memory-apply-clause-looks : goal.returns-in-Err-Memory-apply-clause-looks
-returns-in-Err-Memory-apply-clause-looks g c =
+pub returns-in_err-keep_limits-clause-looks : goal.returns-in_err-keep_limits-clause-looks
+returns-in_err-keep_limits-clause-looks g c =
     let file = c.args.file.now in
     let substitution = c.args.substitution.now in
-    let read = c.in-Ok.ensures.found in
-    let trees = g.S.Store.trees c.read_substitution.new.store in
-    let keeps = g.met.S.Store.grows_keeps c.read_expression.new.store c.read_substitution.new.store c.in-Ok-read_substitution.ensures.grows in
-    let e = tree trees c.in-Ok.expression in
-    let pairs = c.in-Ok-new.sigma.pairs in
-    let both = both_read file substitution (g.S.Store.trees c.read_expression.new.store) trees c.in-Ok.expression read.0 c.in-Ok-read_substitution.pairs.items pairs read.1 read.2 keeps c.in-Ok-read_substitution.ensures.found c.in-Ok-new.ensures.pairs in
+    let read = c.in_ok-expression.ensures.found in
+    let old = g.S.Store.trees c.read_file.new.store in
+    let trees = g.S.Store.trees c.read_pairs.new.store in
+    let keeps = g.met.S.Store.grows_keeps c.read_file.new.store c.read_pairs.new.store c.read_pairs.ensures.grows in
+    let e = tree trees c.in_ok-expression.expression in
+    let said = c.in_ok-pairs.pairs.items in
+    let pairs = c.in_ok-sigma.sigma.pairs in
+    let both = both_read file substitution old trees c.in_ok-expression.expression read.0 said pairs read.1 read.2 keeps c.in_ok-pairs.ensures.found c.in_ok-sigma.ensures.pairs in
     few_looked file substitution e (pairs_at trees pairs) both _ _
-    (pair_looks trees pairs e _ _ _ (rw (← c.in-Ok-new.ensures.pairs) at c.new.ensures.cost) (c.apply.ensures.cost c.requires))
+    (pair_looks trees pairs e _ _ _ (rw (← c.in_ok-sigma.ensures.pairs) at c.substitution_of.ensures.cost) (c.result_of.ensures.cost c.requires))
 
-pub returns-then-size-gt-MOST_NODES-clause-looks : goal.returns-then-size-gt-MOST_NODES-clause-looks
-returns-then-size-gt-MOST_NODES-clause-looks g c =
+pub returns-in_err-reply-clause-looks : goal.returns-in_err-reply-clause-looks
+returns-in_err-reply-clause-looks g c =
     let file = c.args.file.now in
     let substitution = c.args.substitution.now in
-    let read = c.in-Ok.ensures.found in
-    let trees = g.S.Store.trees c.read_substitution.new.store in
-    let keeps = g.met.S.Store.grows_keeps c.read_expression.new.store c.read_substitution.new.store c.in-Ok-read_substitution.ensures.grows in
-    let e = tree trees c.in-Ok.expression in
-    let pairs = c.in-Ok-new.sigma.pairs in
-    let both = both_read file substitution (g.S.Store.trees c.read_expression.new.store) trees c.in-Ok.expression read.0 c.in-Ok-read_substitution.pairs.items pairs read.1 read.2 keeps c.in-Ok-read_substitution.ensures.found c.in-Ok-new.ensures.pairs in
-    few_looked file substitution e (pairs_at trees pairs) both _ _
-    (pair_looks trees pairs e _ _ _ (rw (← c.in-Ok-new.ensures.pairs) at c.new.ensures.cost) (c.apply.ensures.cost c.requires))
-
-pub returns-then-depth-gt-GREATEST_DEPTH-clause-looks : goal.returns-then-depth-gt-GREATEST_DEPTH-clause-looks
-returns-then-depth-gt-GREATEST_DEPTH-clause-looks g c =
-    let file = c.args.file.now in
-    let substitution = c.args.substitution.now in
-    let read = c.in-Ok.ensures.found in
-    let trees = g.S.Store.trees c.read_substitution.new.store in
-    let keeps = g.met.S.Store.grows_keeps c.read_expression.new.store c.read_substitution.new.store c.in-Ok-read_substitution.ensures.grows in
-    let e = tree trees c.in-Ok.expression in
-    let pairs = c.in-Ok-new.sigma.pairs in
-    let both = both_read file substitution (g.S.Store.trees c.read_expression.new.store) trees c.in-Ok.expression read.0 c.in-Ok-read_substitution.pairs.items pairs read.1 read.2 keeps c.in-Ok-read_substitution.ensures.found c.in-Ok-new.ensures.pairs in
-    few_looked file substitution e (pairs_at trees pairs) both _ _
-    (pair_looks trees pairs e _ _ _ (rw (← c.in-Ok-new.ensures.pairs) at c.new.ensures.cost) (c.apply.ensures.cost c.requires))
+    let read = c.in_ok-expression.ensures.found in
+    let old = g.S.Store.trees c.read_file.new.store in
+    let trees = g.S.Store.trees c.read_pairs.new.store in
+    let keeps = g.met.S.Store.grows_keeps c.read_file.new.store c.read_pairs.new.store c.read_pairs.ensures.grows in
+    let e = tree trees c.in_ok-expression.expression in
+    let said = c.in_ok-pairs.pairs.items in
+    let pairs = c.in_ok-sigma.sigma.pairs in
+    let both = both_read file substitution old trees c.in_ok-expression.expression read.0 said pairs read.1 read.2 keeps c.in_ok-pairs.ensures.found c.in_ok-sigma.ensures.pairs in
+    let new = g.S.Store.trees c.result_of.new.store in
+    let t = tree new c.in_ok-made.made in
+    let has = has_result (pairs_at trees pairs) e new c.in_ok-made.made c.in_ok-sigma.ensures.made.well_formed c.in_ok-made.ensures.ok in
+    let answer = prints_answer file substitution e (pairs_at trees pairs) both t has c.in_ok-keep_limits.ensures.small c.in_ok-keep_limits.ensures.shallow (printed t) refl in
+    printed_looked file substitution (printed t) t answer refl _ _
 
 pub returns-clause-looks : goal.returns-clause-looks
 returns-clause-looks g c =
     let file = c.args.file.now in
     let substitution = c.args.substitution.now in
-    let read = c.in-Ok.ensures.found in
-    let trees = g.S.Store.trees c.read_substitution.new.store in
-    let keeps = g.met.S.Store.grows_keeps c.read_expression.new.store c.read_substitution.new.store c.in-Ok-read_substitution.ensures.grows in
-    let e = tree trees c.in-Ok.expression in
-    let pairs = c.in-Ok-new.sigma.pairs in
-    let both = both_read file substitution (g.S.Store.trees c.read_expression.new.store) trees c.in-Ok.expression read.0 c.in-Ok-read_substitution.pairs.items pairs read.1 read.2 keeps c.in-Ok-read_substitution.ensures.found c.in-Ok-new.ensures.pairs in
-    let made = g.S.Store.trees c.apply.new.store in
-    let t = tree made c.in-Ok-apply.result in
-    let answer = prints_answer file substitution e (pairs_at trees pairs) both made c.in-Ok-apply.result c.size.result c.depth.result (printed t) c.in-Ok-new.ensures.made.well_formed
-    c.in-Ok-apply.ensures.ok c.size.ensures c.depth.ensures c.if-size-gt-MOST_NODES.false c.if-depth-gt-GREATEST_DEPTH.false refl in
+    let read = c.in_ok-expression.ensures.found in
+    let old = g.S.Store.trees c.read_file.new.store in
+    let trees = g.S.Store.trees c.read_pairs.new.store in
+    let keeps = g.met.S.Store.grows_keeps c.read_file.new.store c.read_pairs.new.store c.read_pairs.ensures.grows in
+    let e = tree trees c.in_ok-expression.expression in
+    let said = c.in_ok-pairs.pairs.items in
+    let pairs = c.in_ok-sigma.sigma.pairs in
+    let both = both_read file substitution old trees c.in_ok-expression.expression read.0 said pairs read.1 read.2 keeps c.in_ok-pairs.ensures.found c.in_ok-sigma.ensures.pairs in
+    let new = g.S.Store.trees c.result_of.new.store in
+    let t = tree new c.in_ok-made.made in
+    let has = has_result (pairs_at trees pairs) e new c.in_ok-made.made c.in_ok-sigma.ensures.made.well_formed c.in_ok-made.ensures.ok in
+    let answer = prints_answer file substitution e (pairs_at trees pairs) both t has c.in_ok-keep_limits.ensures.small c.in_ok-keep_limits.ensures.shallow (printed t) refl in
     printed_looked file substitution (printed t) t answer refl _ _

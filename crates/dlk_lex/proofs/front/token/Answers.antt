@@ -6,16 +6,16 @@ use Rattle.dlk_lex.proofs.front.token.Goals as goal
 pub word-requires : goal.word-requires
 word-requires c = rw c.word_run-n.ensures.count (run_is_word c.args.bytes.now (sym c.is_letter.ensures ∙ c.if-is_letter.true))
 
-pub returns-then-is_letter : goal.returns-then-is_letter
-returns-then-is_letter c =
+pub returns-then-is_letter-clause-token : goal.returns-then-is_letter-clause-token
+returns-then-is_letter-clause-token c =
     let spells = rw c.word_run-n.ensures.count at c.in_ok-word.ensures in
     rw c.word_run-n.ensures.count (word_front c.args.bytes.now c.in_ok-word.field-0 (sym c.is_letter.ensures ∙ c.if-is_letter.true) spells)
 
-pub returns-then-first-eq95 : goal.returns-then-first-eq95
-returns-then-first-eq95 c = hole_front c.args.bytes.now c.if-first-eq95.true
+pub returns-then-first-eq95-clause-token : goal.returns-then-first-eq95-clause-token
+returns-then-first-eq95-clause-token c = hole_front c.args.bytes.now c.if-first-eq95.true
 
-pub returns : goal.returns
-returns c =
+pub returns-clause-token : goal.returns-clause-token
+returns-clause-token c =
     let no_letter = sym c.is_letter.ensures ∙ c.if-is_letter.false in
     let no_digit = sym c.is_digit.ensures ∙ c.if-is_digit.false in
     let no_point = ne_eqb (get_or c.args.bytes.now 0 0) 46 c.if-first-eq46.false in

@@ -7,17 +7,17 @@ loop-at-init c = rw c.new-state.ensures (come_first c.args.bytes.now)
 pub returns-in-Err-clause-fault : goal.returns-in-Err-clause-fault
 returns-in-Err-clause-fault c =
     rw c.stop.ensures (fault_at c.args.bytes.now c.loop-at.at c.loop-at.state c.step.new.self c.loop-at.invariant c.loop-at-test.true c.in-Err.fault
-    c.in-Err.ensures)
+    c.in-Err.ensures.done)
 
 pub loop-at-preserved : goal.loop-at-preserved
 loop-at-preserved c =
-    come_next c.args.bytes.now c.loop-at.at c.loop-at.state c.step.new.self c.loop-at.invariant c.loop-at-test.true c.in_default.ensures
+    come_next c.args.bytes.now c.loop-at.at c.loop-at.state c.step.new.self c.loop-at.invariant c.loop-at-test.true c.in_default.ensures.done
 
 pub returns-in-Ok-clause-found : goal.returns-in-Ok-clause-found
 returns-in-Ok-clause-found c =
-    rw c.into_parts.ensures (come_end c.args.bytes.now c.loop-at.at c.loop-at.state c.ended.new.self c.loop-at.invariant c.loop-at-test.false c.in-Ok.ensures)
+    rw c.into_parts.ensures (come_end c.args.bytes.now c.loop-at.at c.loop-at.state c.ended.new.self c.loop-at.invariant c.loop-at-test.false c.in-Ok.ensures.done)
 
 pub returns-in-Err-ended-clause-fault : goal.returns-in-Err-ended-clause-fault
 returns-in-Err-ended-clause-fault c =
     rw c.stop-in-Err-ended.ensures (end_fault c.args.bytes.now c.loop-at.at c.loop-at.state c.ended.new.self c.loop-at.invariant c.loop-at-test.false
-    c.in-Err-ended.fault c.in-Err-ended.ensures)
+    c.in-Err-ended.fault c.in-Err-ended.ensures.done)
