@@ -9,7 +9,7 @@ use Rattle.dlk_tacsyn.specs.declared.kind.Kind.TheVariants.{FixedPlace, QuotedFo
 use Rattle.dlk_tacsyn.specs.declared.tactic.Arg.{Arg}
 use Rattle.dlk_tacsyn.specs.declared.tactic.Arg.TheVariants as arg
 use Rattle.dlk_tacsyn.specs.declared.tactic.Atom.{Atom}
-use Rattle.dlk_tacsyn.specs.Rows.{Row, wants, is_at_place, is_with_formula, library_row_of, IsOfText, AreOfKinds, IsGivenFormula, IsGivenTerm, IsWord}
+use Rattle.dlk_tacsyn.specs.Rows.{Row, wants, is_at_place, is_with_formula, library_row_of, IsOfText, IsOfKind, AreOfKinds}
 use Rattle.dlk_tacsyn.specs.Ties.{argument_at, atom_at}
 use Rattle.dlk_library.proofs.Names.{IsLibraryName, is_prop, is_weakening, is_invariant, is_step, is_loop, is_cut, is_ghost, call_kinds}
 use Rattle.dlk_library.proofs.Names.{prop_row, weakening_row, invariant_row, step_row, loop_row, cut_row, ghost_row}
@@ -50,15 +50,15 @@ no_row name p a f g = simp (p, a, f, g)
 
 module _ (trees : List Tree) where
   -- Arguments of a row, over ids.
-  a_formula : (a : Arg) → IsGivenFormula (argument_at trees a) → (h : Id) × (a ≡ arg.Formula h)
+  a_formula : (a : Arg) → IsOfKind QuotedFormula (argument_at trees a) → (h : Id) × (a ≡ arg.Formula h)
   a_formula (arg.Formula h) is = (h, refl)
   a_formula _ is = absurd is
 
-  a_term : (a : Arg) → IsGivenTerm (argument_at trees a) → (e : Id) × (a ≡ arg.Term e)
+  a_term : (a : Arg) → IsOfKind QuotedTerm (argument_at trees a) → (e : Id) × (a ≡ arg.Term e)
   a_term (arg.Term e) is = (e, refl)
   a_term _ is = absurd is
 
-  a_word : (a : Arg) → IsWord (argument_at trees a) → (y : List ℕ) × (a ≡ arg.Word y)
+  a_word : (a : Arg) → IsOfKind AName (argument_at trees a) → (y : List ℕ) × (a ≡ arg.Word y)
   a_word (arg.Word y) is = (y, refl)
   a_word _ is = absurd is
 

@@ -80,73 +80,18 @@ derive_row_of name = if bytes_eq name (codes "derive") then Some (wants (FixedPl
 unfoldable pub text_row_of : List ℕ → Option Row
 text_row_of name = or_else (row_of name) (or_else (library_row_of name) (derive_row_of name))
 
--- a place, which may have a path and lie on either side
-abbrev pub IsPlace : Argument → Type 0
-IsPlace (AtPlace place path) = Unit {0}
-IsPlace AnyLeft = ⊥
-IsPlace AnyRight = ⊥
-IsPlace (Word name) = ⊥
-IsPlace (GivenFormula h) = ⊥
-IsPlace (GivenTerm e) = ⊥
-IsPlace (GivenExtra extra) = ⊥
-
--- a place, or a locator in its stead
-abbrev pub IsPlaceOrLocator : Argument → Type 0
-IsPlaceOrLocator (AtPlace place path) = Unit {0}
-IsPlaceOrLocator AnyLeft = Unit {0}
-IsPlaceOrLocator AnyRight = Unit {0}
-IsPlaceOrLocator (Word name) = ⊥
-IsPlaceOrLocator (GivenFormula h) = ⊥
-IsPlaceOrLocator (GivenTerm e) = ⊥
-IsPlaceOrLocator (GivenExtra extra) = ⊥
-
--- a formula without dots
-abbrev pub IsGivenFormula : Argument → Type 0
-IsGivenFormula (AtPlace place path) = ⊥
-IsGivenFormula AnyLeft = ⊥
-IsGivenFormula AnyRight = ⊥
-IsGivenFormula (Word name) = ⊥
-IsGivenFormula (GivenFormula h) = IsFormula h
-IsGivenFormula (GivenTerm e) = ⊥
-IsGivenFormula (GivenExtra extra) = ⊥
-
--- a tree that is well made, as one that was read as a term is
-abbrev pub IsGivenTerm : Argument → Type 0
-IsGivenTerm (AtPlace place path) = ⊥
-IsGivenTerm AnyLeft = ⊥
-IsGivenTerm AnyRight = ⊥
-IsGivenTerm (Word name) = ⊥
-IsGivenTerm (GivenFormula h) = ⊥
-IsGivenTerm (GivenTerm e) = WellMade e
-IsGivenTerm (GivenExtra extra) = ⊥
-
-abbrev pub IsWord : Argument → Type 0
-IsWord (AtPlace place path) = ⊥
-IsWord AnyLeft = ⊥
-IsWord AnyRight = ⊥
-IsWord (Word name) = Unit {0}
-IsWord (GivenFormula h) = ⊥
-IsWord (GivenTerm e) = ⊥
-IsWord (GivenExtra extra) = ⊥
-
--- names with new names, and pairs whose replacements are well made
-abbrev pub IsGivenExtra : Argument → Type 0
-IsGivenExtra (AtPlace place path) = ⊥
-IsGivenExtra AnyLeft = ⊥
-IsGivenExtra AnyRight = ⊥
-IsGivenExtra (Word name) = ⊥
-IsGivenExtra (GivenFormula h) = ⊥
-IsGivenExtra (GivenTerm e) = ⊥
-IsGivenExtra (GivenExtra extra) = AreWellMade extra.pairs
-
--- an argument of the kind
+-- An argument of the kind: a place may have a path and lie on either side, and a locator may stand in its stead where any place may. A formula has
+-- no dots, and a term and the replacements of pairs are well made, as what is read is. No other argument is of the kind.
 abbrev pub IsOfKind : Kind → Argument → Type 0
-IsOfKind FixedPlace argument = IsPlace argument
-IsOfKind AnyPlace argument = IsPlaceOrLocator argument
-IsOfKind QuotedFormula argument = IsGivenFormula argument
-IsOfKind QuotedTerm argument = IsGivenTerm argument
-IsOfKind AName argument = IsWord argument
-IsOfKind QuotedExtra argument = IsGivenExtra argument
+IsOfKind FixedPlace (AtPlace place path) = Unit {0}
+IsOfKind AnyPlace (AtPlace place path) = Unit {0}
+IsOfKind AnyPlace AnyLeft = Unit {0}
+IsOfKind AnyPlace AnyRight = Unit {0}
+IsOfKind AName (Word name) = Unit {0}
+IsOfKind QuotedFormula (GivenFormula h) = IsFormula h
+IsOfKind QuotedTerm (GivenTerm e) = WellMade e
+IsOfKind QuotedExtra (GivenExtra extra) = AreWellMade extra.pairs
+IsOfKind _ _ = ⊥
 
 -- arguments of the kinds that are wanted, as many as there are, and maybe one more of the kind that may follow
 abbrev pub AreOfKinds : List Kind → Option Kind → List Argument → Type 0
