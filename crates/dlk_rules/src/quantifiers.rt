@@ -1,6 +1,6 @@
 //! The rules on bound variables, a function a rule. Each is drawn with its premise over its conclusion, in which A is the left side of the
 //! sequent and S the right side.
-ghost use Rattle.std.specs.Prelude.{◌≡◌, ◌∷◌, ◌||◌, [], All, List, ℕ, map, MatchOption, OnSome, Err, IfOk, IfErr};
+ghost use Rattle.std.specs.Prelude.{◌≡◌, ◌∷◌, ◌||◌, [], All, List, ℕ, map, MatchOption, OnSome, IfOk, IfErr};
 ghost use Rattle.std.specs.List.{list_any};
 ghost use Rattle.dlk_tree.specs.declared.op.Sort.TheVariants.{Formula};
 ghost use Rattle.dlk_tree.specs.Table.{kid_sorts};
@@ -8,11 +8,10 @@ ghost use Rattle.dlk_tree.specs.Trees.{Tree};
 ghost use Rattle.dlk_tree.specs.Statics.{free, plain};
 ghost use Rattle.dlk_store.specs.Stores.{IsId, tree};
 ghost use Rattle.dlk_calculus.specs.Notation.{one};
-ghost use Rattle.dlk_calculus.specs.Places.{At, IsPlace, without_place};
+ghost use Rattle.dlk_calculus.specs.Places.{IsPlace, without_place};
 ghost use Rattle.dlk_calculus.specs.Sequents.{◌==>◌};
 ghost use Rattle.dlk_calculus.specs.Rules.{SkolemL, SkolemR, BoundL, BoundR, FirstAgainst};
 ghost use Rattle.dlk_sequent.specs.Sequents.{sequent_at, IsKnown};
-ghost use Rattle.dlk_rules.specs.declared.rule.RuleFault.TheVariants.{Memory};
 ghost use Rattle.dlk_rules.specs.Looks.{IsFormFault};
 ghost use Rattle.dlk_rules.specs.Quantifiers.{quantifier_of, IsOther, is_read, IsQuantifiedAt, IsReboundAt, IsReboundFault};
 ghost use Rattle.dlk_rules.specs.Steps.{ArePremises, IsRuleFault};
@@ -59,7 +58,6 @@ fn quantified_at<S: Store, L: Ledger>(
     requires { All (IsId (S.trees store.now)) side.now }
     ensures ok { IfOk result (λ made. IsQuantifiedAt (S.trees store.now) (map (tree (S.trees store.now)) side.now) place quantifier made.0 made.1) }
     ensures fault { IfErr result (IsFormFault (S.trees store.now) side.now place (List ℕ × Tree) (λ p. one (quantifier_of quantifier p.0) p.1)) }
-    ensures there { result ≡ Err Memory → (p : List ℕ × Tree) × At (map (tree (S.trees store.now)) side.now) place (one (quantifier_of quantifier p.0) p.1) }
 {
     let top = top_at(store, side, place, steps)?;
     let Some(x) = bound_name(quantifier, top.op) else {
