@@ -89,7 +89,8 @@ module _ (words : List Word) (files : Files) (cuts : List (List ℕ)) (old new :
   subst_looked : LooksAtFewFor words files old new
   subst_looked = λ e pairs reply h refused answer.
       by_answer e pairs h.file h.pairs_file
-      (subst (λ (names : List Word). bytes_of files names ≡ Some (h.file ∷ h.pairs_file ∷ [])) named (runs_texts words files e pairs h)) h.are_read reply answer refused
+      (subst (λ (names : List Word). bytes_of files names ≡ Some (h.file ∷ h.pairs_file ∷ [])) named (runs_texts words files e pairs h))
+      h.are_read reply answer refused
 
 pub command_looked : (words : List Word) (c : Command) (files : Files) (cuts : List (List ℕ)) (old new : ℕ) → command_of words ≡ Some c →
     length (inputs_of c words) ≡ length (limits_of c) → cut_bytes_of files (inputs_of c words) (limits_of c) ≡ Some cuts → CommandLooksAtFew c cuts old new →
@@ -140,7 +141,8 @@ answer_is words files e pairs runs short reply is =
     (does (both_short runs.expression runs.substitution runs.file runs.pairs_file short.file short.pairs_file) reply is))
 
 module _ (words : List Word) (old new : Outside) (before after : ℕ) (looks : LooksAtFewFor words old.files before after) where
-  refused_looked : (e : Tree) (pairs : List Pair) (runs : RunsSubst words old.files e pairs) → RefusesShort words old.files e pairs runs → after ≤ before + subst_looks pairs e
+  refused_looked : (e : Tree) (pairs : List Pair) (runs : RunsSubst words old.files e pairs) → RefusesShort words old.files e pairs runs →
+      after ≤ before + subst_looks pairs e
   refused_looked e pairs runs short =
       let made = makes_none runs.file runs.pairs_file e pairs runs.are_read short.none in
       looks e pairs made.0 runs made.1 (answer_is words old.files e pairs runs short made.0 made.2)

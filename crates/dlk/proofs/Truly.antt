@@ -162,8 +162,8 @@ joined None rest found model is e = absurd cc
 joined (Some bytes) None found model is e = let none : None ≡ Some found = e in absurd cc
 joined (Some bytes) (Some others) found model is e = let all : Some (bytes ∷ others) ≡ Some found = e in (others, cc)
 
-texts_behind : (words : List Word) (files : Files) (c : Command) (reply : Reply) (name : Word) (names : List Word) (model : List ℕ) → Answers words files reply →
-    command_of words ≡ Some c → inputs words ≡ name ∷ names → files name ≡ Some model →
+texts_behind : (words : List Word) (files : Files) (c : Command) (reply : Reply) (name : Word) (names : List Word) (model : List ℕ) →
+    Answers words files reply → command_of words ≡ Some c → inputs words ≡ name ∷ names → files name ≡ Some model →
     (texts : List (List ℕ)) × (bytes_of files (inputs words) ≡ Some (model ∷ texts))
 texts_behind words files c _ name names model (no_form none) form named there = let e : None ≡ Some c = sym none ∙ form in absurd cc
 texts_behind words files c _ name names model (command d is found has r responds) form named there =
@@ -177,7 +177,8 @@ abbrev ChecksSome : List ℕ → Reply → Type 0
 ChecksSome model reply = (term : List ℕ) × Checks (Reported Text) model term (printing reply.status reply.printed)
 
 abbrev ShowsSome : Command → List ℕ → Type 0
-ShowsSome c model = (others : List Word) (texts : List (List ℕ)) (reply : Reply) → Does c others (model ∷ texts) reply → IsRefusal reply ⊎ ChecksSome model reply
+ShowsSome c model =
+    (others : List Word) (texts : List (List ℕ)) (reply : Reply) → Does c others (model ∷ texts) reply → IsRefusal reply ⊎ ChecksSome model reply
 
 printing_itself : (model term : List ℕ) (reply : Reply) → Checks (Reported Text) model term reply → IsRefusal reply ⊎ ChecksSome model reply
 printing_itself model term reply (refuses_term r refused) = inl (term_refusal model term r refused)
@@ -212,13 +213,16 @@ module _ (checked : EachIsChecked) (name : Word) (model said : List ℕ) (status
   reports_closed _ files reply answers (check term) there given =
       shows_closed Check (check_shows model) (codes "check" ∷ name ∷ term ∷ []) files reply (term ∷ []) answers refl refl there given
   reports_closed _ files reply answers (prove strategy term) there given =
-      shows_closed Prove (λ others texts r job. written_shows model r (proved_writes checked model others texts r job)) (codes "prove" ∷ name ∷ strategy ∷ term ∷ [])
+      shows_closed Prove (λ others texts r job. written_shows model r (proved_writes checked model others texts r job))
+      (codes "prove" ∷ name ∷ strategy ∷ term ∷ [])
       files reply (strategy ∷ []) answers refl refl there given
   reports_closed _ files reply answers (link term lemma out) there given =
-      shows_closed Link (λ others texts r job. written_shows model r (linked_writes checked model others texts r job)) (codes "link" ∷ name ∷ term ∷ lemma ∷ out ∷ [])
+      shows_closed Link (λ others texts r job. written_shows model r (linked_writes checked model others texts r job))
+      (codes "link" ∷ name ∷ term ∷ lemma ∷ out ∷ [])
       files reply (term ∷ lemma ∷ []) answers refl refl there given
   reports_closed _ files reply answers (trim term out) there given =
-      shows_closed Trim (λ others texts r job. written_shows model r (trimmed_writes checked model others texts r job)) (codes "trim" ∷ name ∷ term ∷ out ∷ [])
+      shows_closed Trim (λ others texts r job. written_shows model r (trimmed_writes checked model others texts r job))
+      (codes "trim" ∷ name ∷ term ∷ out ∷ [])
       files reply (term ∷ []) answers refl refl there given
 
 -- `closed` was printed where something was
@@ -247,7 +251,8 @@ pub silent_truly : (words : List Word) (status : ℕ) (old new : Outside) → ne
 silent_truly words status old new same c model term said form there says = absurd (silent_not old.printed new.printed said same says)
 
 -- the same of what `closed` says whatever the term
-pub whole_derives : EachIsChecked → (words : List Word) (status : ℕ) (old new : Outside) (reply : Reply) → GivesWhole words status old new reply → DerivedTruly words status old new
+pub whole_derives : EachIsChecked → (words : List Word) (status : ℕ) (old new : Outside) (reply : Reply) → GivesWhole words status old new reply →
+    DerivedTruly words status old new
 whole_derives checked words status old new reply gives name model said runs there says =
     let same : codes "closed" ++ said ≡ reply.printed = append_cancel_left old.printed (codes "closed" ++ said) reply.printed (sym says ∙ gives.printed) in
     reports_closed checked name model said status words old.files reply gives.answer runs there (whole gives.status_is same)

@@ -17,7 +17,7 @@ use Rattle.dlk_tacsyn.specs.declared.kind.Kind.TheVariants.{AnyPlace, QuotedForm
 use Rattle.dlk_tacsyn.specs.declared.tactic.Arg.{Arg}
 use Rattle.dlk_tacsyn.specs.declared.tactic.Arg.TheVariants as arg
 use Rattle.dlk_tacsyn.specs.declared.tactic.Atom.{Atom}
-use Rattle.dlk_tacsyn.specs.Rows.{Row, row_of, wants, AreOfKinds, IsFitting, IsWord, IsPlaceOrLocator, IsGivenFormula, IsGivenExtra}
+use Rattle.dlk_tacsyn.specs.Rows.{Row, row_of, wants, IsOfKind, AreOfKinds, IsFitting}
 use Rattle.dlk_tacsyn.specs.Tactics.{Argument, GivenFormula}
 use Rattle.dlk_tacsyn.specs.Ties.{argument_at, ArgumentIsKnown, atom_at}
 use Rattle.dlk_elab.specs.Atoms.{IsFixed, HasNoLocator, UseArguments, alone, with_extra, word_of_direction}
@@ -47,7 +47,7 @@ unfolding row_of
 row_of_use_back = refl
 
 module _ (trees : List Tree) where
-  a_formula : (a : Arg) → IsGivenFormula (argument_at trees a) → (h : Id) × (a ≡ arg.Formula h)
+  a_formula : (a : Arg) → IsOfKind QuotedFormula (argument_at trees a) → (h : Id) × (a ≡ arg.Formula h)
   a_formula (arg.At place path) h = absurd h
   a_formula arg.AnyLeft h = absurd h
   a_formula arg.AnyRight h = absurd h
@@ -56,7 +56,7 @@ module _ (trees : List Tree) where
   a_formula (arg.Term id) h = absurd h
   a_formula (arg.With extra) h = absurd h
 
-  a_word : (a : Arg) → IsWord (argument_at trees a) → (y : List ℕ) × (a ≡ arg.Word y)
+  a_word : (a : Arg) → IsOfKind AName (argument_at trees a) → (y : List ℕ) × (a ≡ arg.Word y)
   a_word (arg.At place path) h = absurd h
   a_word arg.AnyLeft h = absurd h
   a_word arg.AnyRight h = absurd h
@@ -65,7 +65,7 @@ module _ (trees : List Tree) where
   a_word (arg.Term id) h = absurd h
   a_word (arg.With extra) h = absurd h
 
-  a_place : (a : Arg) → IsPlaceOrLocator (argument_at trees a) → IsFixed (argument_at trees a) → (place : Place) × (path : List ℕ) × (a ≡ arg.At place path)
+  a_place : (a : Arg) → IsOfKind AnyPlace (argument_at trees a) → IsFixed (argument_at trees a) → (place : Place) × (path : List ℕ) × (a ≡ arg.At place path)
   a_place (arg.At place path) h fixed = (place, path, refl)
   a_place arg.AnyLeft h fixed = absurd fixed
   a_place arg.AnyRight h fixed = absurd fixed
@@ -74,7 +74,7 @@ module _ (trees : List Tree) where
   a_place (arg.Term id) h fixed = absurd h
   a_place (arg.With extra) h fixed = absurd h
 
-  an_extra : (a : Arg) → IsGivenExtra (argument_at trees a) → (extra : Extra) × (a ≡ arg.With extra)
+  an_extra : (a : Arg) → IsOfKind QuotedExtra (argument_at trees a) → (extra : Extra) × (a ≡ arg.With extra)
   an_extra (arg.At place path) h = absurd h
   an_extra arg.AnyLeft h = absurd h
   an_extra arg.AnyRight h = absurd h

@@ -10,7 +10,7 @@ use Rattle.dlk_calculus.specs.Paths.{IsInnermost}
 use Rattle.dlk_calculus.specs.Sequents.{Sequent}
 use Rattle.dlk_sequent.specs.declared.sequent.Place.TheVariants.{Succ}
 use Rattle.dlk_rules.specs.declared.step.Step.{Step}
-use Rattle.dlk_uses.specs.Uses.{Direction, Forwards, Backwards, Finishes, smallest, equivalence, equation, conditional_equivalence, conditional_equation, implication, fact, left_of, right_of, by_equivalence, by_equation, by_conditional_equivalence, by_conditional_equation, by_implication, by_fact}
+use Rattle.dlk_uses.specs.Uses.{Direction, Forwards, Backwards, Finishes, equivalence, equation, conditional_equivalence, conditional_equation, implication, fact, left_of, right_of, by_equivalence, by_equation, by_conditional_equivalence, by_conditional_equation, by_implication, by_fact}
 use Rattle.dlk_elab.specs.declared.forms.Aim.{Aim}
 use Rattle.dlk_elab.specs.declared.forms.Exchanged.{Exchanged}
 use Rattle.dlk_elab.specs.declared.forms.Equated.{Equated}
@@ -70,25 +70,25 @@ module _ (trees : List Tree) (now : ℕ) (aim : Aim) (path : List ℕ) (e f : Tr
     known = (planned s right).known;
   }
 
-  pub equation_finished : (outer inner : List ℕ) (d l r : Tree) → l ≡ left_of f → r ≡ right_of f → sort e ≡ Formula → IsInnermost e path outer inner d →
+  pub equation_finished : (outer inner : List ℕ) (d l r : Tree) → l ≡ left_of f → r ≡ right_of f → IsInnermost e path outer inner d →
       ((s : Sequent) → aim.spot.right ≡ length s.succ → ArePlanned trees steps (by_equation now (spot_at aim.spot s) aim.place (direction_of aim.direction) e outer inner d l r)) →
       FinishUses trees now aim Q path e f steps
-  equation_finished outer inner d l r ll rr formula innermost planned s used right says = record {
+  equation_finished outer inner d l r ll rr innermost planned s used right says = record {
     finishes = subst (Finishes now (spot_at aim.spot s) used e f)
         ((λ i. by_equation now (spot_at aim.spot s) (says.place_is i) (says.direction_is i) e outer inner d (sym ll i) (sym rr i)) ∙ sym (planned s right).are)
-        (equation outer inner d says.form_is (smallest formula (subst (λ p. IsInnermost e p outer inner d) (sym says.path_is) innermost)));
+        (equation outer inner d says.form_is (subst (λ p. IsInnermost e p outer inner d) (sym says.path_is) innermost));
     known = (planned s right).known;
   }
 
-  pub conditional_equation_finished : (outer inner : List ℕ) (d b l r : Tree) → b ≡ left_of f → l ≡ left_of (right_of f) → r ≡ right_of (right_of f) → sort e ≡ Formula →
+  pub conditional_equation_finished : (outer inner : List ℕ) (d b l r : Tree) → b ≡ left_of f → l ≡ left_of (right_of f) → r ≡ right_of (right_of f) →
       IsInnermost e path outer inner d →
       ((s : Sequent) → aim.spot.right ≡ length s.succ →
       ArePlanned trees steps (by_conditional_equation now (spot_at aim.spot s) aim.place (direction_of aim.direction) e outer inner d b l r)) →
       FinishUses trees now aim R path e f steps
-  conditional_equation_finished outer inner d b l r bb ll rr formula innermost planned s used right says = record {
+  conditional_equation_finished outer inner d b l r bb ll rr innermost planned s used right says = record {
     finishes = subst (Finishes now (spot_at aim.spot s) used e f)
         ((λ i. by_conditional_equation now (spot_at aim.spot s) (says.place_is i) (says.direction_is i) e outer inner d (sym bb i) (sym ll i) (sym rr i)) ∙ sym (planned s right).are)
-        (conditional_equation outer inner d says.form_is (smallest formula (subst (λ p. IsInnermost e p outer inner d) (sym says.path_is) innermost)));
+        (conditional_equation outer inner d says.form_is (subst (λ p. IsInnermost e p outer inner d) (sym says.path_is) innermost));
     known = (planned s right).known;
   }
 

@@ -13,6 +13,7 @@ use Rattle.dlk_rules.specs.declared.rule.RuleWord.{RuleWord}
 use Rattle.dlk_rules.specs.declared.rule.RuleWord.TheVariants as word
 use Rattle.dlk_rules.specs.Steps.{side_of}
 use Rattle.dlk_rules.specs.Words.{shape_of, wanted}
+use Rattle.dlk_rules.proofs.SideLaws.{no_side}
 use Rattle.dlk_tacsyn.specs.declared.kind.Kind.TheVariants.{FixedPlace, AnyPlace}
 use Rattle.dlk_tacsyn.specs.Tactics.{Argument, AtPlace, AnyLeft, AnyRight, Word, GivenFormula, GivenTerm, GivenExtra}
 use Rattle.dlk_tacsyn.specs.Rows.{kinds_of, IsOfKind, AreOfKinds}
@@ -150,21 +151,11 @@ data Sided (w : RuleWord) : Type 0 where
   on_side : (side : Side) → side_of w ≡ Some side → Sided w
 
 sided : (w : RuleWord) → Sided w
-sided word.Close = is_close refl
-sided word.Cut = no_place refl
-sided word.CloseFalse = on_side Left refl
-sided word.NotL = on_side Left refl
-sided word.AndL = on_side Left refl
-sided word.OrL = on_side Left refl
-sided word.ImplyL = on_side Left refl
-sided word.EquivL = on_side Left refl
-sided word.CutL = on_side Left refl
-sided word.HideL = on_side Left refl
-sided word.ExchangeL = on_side Left refl
-sided word.SkolemL = on_side Left refl
-sided word.BoundL = on_side Left refl
-sided word.CommuteEquivL = on_side Left refl
-sided _ = on_side Right refl
+sided w = by (side_of w) refl
+  where
+    by : (side : Option Side) → side_of w ≡ side → Sided w
+    by None e = elim (no_side w e) [ inl close ↦ is_close close | inr alone ↦ no_place alone ]
+    by (Some side) e = on_side side e
 
 pub answers : (w : RuleWord) (given : List Argument) → w ≢ word.Close → AreOfKinds (kinds_of (wanted w)) None given → All IsFixed given → Answers w given
 answers w given other h fixed =

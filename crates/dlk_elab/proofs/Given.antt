@@ -8,13 +8,13 @@ use Rattle.dlk_calculus.specs.Sequents.{IsFormula}
 use Rattle.dlk_match.specs.Instances.{AreNames}
 use Rattle.dlk_sequent.specs.declared.sequent.Place.{Place}
 use Rattle.dlk_tacsyn.specs.declared.kind.Kind.TheVariants.{AnyPlace, QuotedFormula, AName, QuotedExtra}
-use Rattle.dlk_tacsyn.specs.Rows.{AreOfKinds, IsWord, IsPlaceOrLocator, IsGivenFormula, IsGivenExtra, IsNamed}
+use Rattle.dlk_tacsyn.specs.Rows.{IsOfKind, AreOfKinds, IsNamed}
 use Rattle.dlk_tacsyn.specs.Tactics.{Argument, AtPlace, AnyLeft, AnyRight, Word, GivenFormula, GivenTerm, GivenExtra}
 use Rattle.dlk_elab.specs.Atoms.{IsFixed, UseArguments, alone, with_extra}
 use Rattle.dlk_elab.proofs.ProperSteps.{IsMade}
 use Rattle.dlk_elab.proofs.ProperUses.{AreBothNames}
 
-a_formula : (a : Argument) → IsGivenFormula a → (h : Tree) × (a ≡ GivenFormula h) × IsFormula h
+a_formula : (a : Argument) → IsOfKind QuotedFormula a → (h : Tree) × (a ≡ GivenFormula h) × IsFormula h
 a_formula (AtPlace place path) h = absurd h
 a_formula AnyLeft h = absurd h
 a_formula AnyRight h = absurd h
@@ -23,7 +23,7 @@ a_formula (GivenFormula t) h = (t, refl, h)
 a_formula (GivenTerm t) h = absurd h
 a_formula (GivenExtra extra) h = absurd h
 
-a_word : (a : Argument) → IsWord a → (y : List ℕ) × (a ≡ Word y)
+a_word : (a : Argument) → IsOfKind AName a → (y : List ℕ) × (a ≡ Word y)
 a_word (AtPlace place path) h = absurd h
 a_word AnyLeft h = absurd h
 a_word AnyRight h = absurd h
@@ -32,7 +32,7 @@ a_word (GivenFormula t) h = absurd h
 a_word (GivenTerm t) h = absurd h
 a_word (GivenExtra extra) h = absurd h
 
-a_place : (a : Argument) → IsPlaceOrLocator a → IsFixed a → (place : Place) × (path : List ℕ) × (a ≡ AtPlace place path)
+a_place : (a : Argument) → IsOfKind AnyPlace a → IsFixed a → (place : Place) × (path : List ℕ) × (a ≡ AtPlace place path)
 a_place (AtPlace place path) h fixed = (place, path, refl)
 a_place AnyLeft h fixed = absurd fixed
 a_place AnyRight h fixed = absurd fixed
@@ -46,7 +46,7 @@ record IsProperExtra (extra : Extra) : Type 0 where
   names : AreNames extra.renames
   pairs : AreWellMade extra.pairs
 
-an_extra : (a : Argument) → IsGivenExtra a → IsNamed a → (extra : Extra) × (a ≡ GivenExtra extra) × IsProperExtra extra
+an_extra : (a : Argument) → IsOfKind QuotedExtra a → IsNamed a → (extra : Extra) × (a ≡ GivenExtra extra) × IsProperExtra extra
 an_extra (AtPlace place path) h named = absurd h
 an_extra AnyLeft h named = absurd h
 an_extra AnyRight h named = absurd h

@@ -3,7 +3,7 @@ use Rattle.std.proofs.Common.{◌≡◌, ◌≢◌, ℕ, zero, suc, ◌<◌, ◌
 use Rattle.std.specs.Prelude.{option_map, codes, ◌||◌, IsTrue}
 use Rattle.std.specs.Str.{bytes_eq, IsAscii, IsUtf8}
 use Rattle.std.specs.List.{list_all}
-use Rattle.std.proofs.lemmas.Bool.{cases_Bool, cond-false, or_cases, and_parts, leb-true}
+use Rattle.std.proofs.lemmas.Bool.{cases_Bool, or_cases, and_parts, leb-true}
 use Rattle.std.proofs.lemmas.Option.{none-some, same_Some}
 use Rattle.std.proofs.lemmas.Slice.Eq.{bytes_eq-Decides}
 use Rattle.std.proofs.lemmas.Str.{IsUtf8-from_ascii}
@@ -15,7 +15,8 @@ use Rattle.dlk_rules.specs.Words.{text_made, text_of, wanted, named}
 use Rattle.dlk_calculus.specs.Notation.{leaf}
 use Rattle.dlk_tree.specs.declared.op.Op.TheVariants.{True}
 use Rattle.dlk_rules.proofs.WordLaws.{word_named, found_word}
-use Rattle.dlk_tacsyn.specs.Rows.{Row, wants, kinds_of, is_bare, is_use, row_of}
+use Rattle.dlk_tacsyn.specs.Rows.{Row, wants, kinds_of, is_bare, row_of}
+use Rattle.dlk_tacsyn.proofs.Words.{row_rule}
 use Rattle.dlk_elab.specs.Calls.{IsPlain}
 
 named_text : (name : List ℕ) (w : RuleWord) → named name ≡ Some w → text_of w ≡ name
@@ -41,10 +42,7 @@ from_word name row (Some w) found e = record { word = w; text = named_text name 
 
 -- what a name that is none of the others wants, it wants as a rule's
 rule_row : (name : List ℕ) → is_bare name ≡ false → IsPlain name → row_of name ≡ option_map (λ v. wants (kinds_of (wanted v))) (named name)
-unfolding row_of
-rule_row name bare plain =
-    cond-false (is_bare name) _ _ bare ∙ cond-false (bytes_eq name (codes "G")) _ _ plain.no_generalize
-    ∙ cond-false (bytes_eq name (codes "boxCut")) _ _ plain.no_cut ∙ cond-false (is_use name) _ _ plain.no_use
+rule_row name bare plain = row_rule name bare plain.no_generalize plain.no_cut plain.no_use
 
 pub named_rule : (name : List ℕ) (row : Row) → is_bare name ≡ false → IsPlain name → row_of name ≡ Some row → Named name row
 named_rule name row bare plain h = from_word name row (named name) refl (sym (rule_row name bare plain) ∙ h)

@@ -5,25 +5,12 @@ use Rattle.dlk_calculus.specs.Paths.{IsInnermost}
 use Rattle.dlk_calculus.specs.Steps.{Step}
 use Rattle.dlk_sequent.specs.declared.sequent.Place.{Place}
 use Rattle.dlk_sequent.specs.declared.sequent.Place.TheVariants.{Succ}
-use Rattle.dlk_uses.specs.Uses.{Use, Spot, left_of, right_of, by_equation, by_conditional_equation, by_conditional_equivalence, by_fact, IsAround, smallest, whole, Finishes, equivalence, equation, conditional_equivalence, conditional_equation, implication, fact}
-
--- the formula around a place
-record SameAround (a b c d : List ℕ) (f g : Tree) : Type 0 where
-  outer : a ≡ c
-  inner : b ≡ d
-  formula : f ≡ g
+use Rattle.dlk_uses.specs.Uses.{Use, Spot, left_of, right_of, by_equation, by_conditional_equation, by_conditional_equivalence, by_fact, Finishes, equivalence, equation, conditional_equivalence, conditional_equation, implication, fact}
 
 same_right : (p : Place) (j k : ℕ) → p ≡ Succ j → p ≡ Succ k → j ≡ k
 same_right p j k a b = let e = sym a ∙ b in cc
 
 module _ (one_innermost : (e : Tree) (path a b c d : List ℕ) (f g : Tree) → IsInnermost e path a b f → IsInnermost e path c d g → (a ≡ c) × (b ≡ d) × (f ≡ g)) where
-  around_one : (e : Tree) (path a b c d : List ℕ) (f g : Tree) → IsAround e path a b f → IsAround e path c d g → SameAround a b c d f g
-  around_one e path a b c d f g (smallest h x) (smallest k y) =
-      let p = one_innermost e path a b c d f g x y in record { outer = p.0; inner = p.1; formula = p.2 }
-  around_one e path _ _ _ _ _ _ (smallest h x) (whole other) = absurd (other h)
-  around_one e path _ _ _ _ _ _ (whole other) (smallest h x) = absurd (other h)
-  around_one e path _ _ _ _ _ _ (whole other) (whole another) = record { outer = refl; inner = refl; formula = refl }
-
   pub finishes_one : (now : ℕ) (spot : Spot) (used : Use) (e f : Tree) (steps more : List Step) → Finishes now spot used e f steps →
       Finishes now spot used e f more → steps ≡ more
   finishes_one now spot used e f _ _ (equivalence is) (equivalence is_) = refl
@@ -34,8 +21,8 @@ module _ (one_innermost : (e : Tree) (path a b c d : List ℕ) (f g : Tree) → 
   finishes_one now spot used e f _ _ (equivalence is) (fact j_ is_ at_) = let x = sym is ∙ is_ in absurd (cc x)
   finishes_one now spot used e f _ _ (equation a b d is round) (equivalence is_) = let x = sym is ∙ is_ in absurd (cc x)
   finishes_one now spot used e f _ _ (equation a b d is round) (equation a_ b_ d_ is_ round_) =
-      let p = around_one e used.path a b a_ b_ d d_ round round_ in
-      λ i. by_equation now spot used.place used.direction e (p.outer i) (p.inner i) (p.formula i) (left_of f) (right_of f)
+      let p = one_innermost e used.path a b a_ b_ d d_ round round_ in
+      λ i. by_equation now spot used.place used.direction e (p.0 i) (p.1 i) (p.2 i) (left_of f) (right_of f)
   finishes_one now spot used e f _ _ (equation a b d is round) (conditional_equivalence j_ is_ at_) = let x = sym is ∙ is_ in absurd (cc x)
   finishes_one now spot used e f _ _ (equation a b d is round) (conditional_equation a_ b_ d_ is_ round_) = let x = sym is ∙ is_ in absurd (cc x)
   finishes_one now spot used e f _ _ (equation a b d is round) (implication is_) = let x = sym is ∙ is_ in absurd (cc x)
@@ -51,8 +38,8 @@ module _ (one_innermost : (e : Tree) (path a b c d : List ℕ) (f g : Tree) → 
   finishes_one now spot used e f _ _ (conditional_equation a b d is round) (equation a_ b_ d_ is_ round_) = let x = sym is ∙ is_ in absurd (cc x)
   finishes_one now spot used e f _ _ (conditional_equation a b d is round) (conditional_equivalence j_ is_ at_) = let x = sym is ∙ is_ in absurd (cc x)
   finishes_one now spot used e f _ _ (conditional_equation a b d is round) (conditional_equation a_ b_ d_ is_ round_) =
-      let p = around_one e used.path a b a_ b_ d d_ round round_ in
-      λ i. by_conditional_equation now spot used.place used.direction e (p.outer i) (p.inner i) (p.formula i) (left_of f) (left_of (right_of f)) (right_of (right_of f))
+      let p = one_innermost e used.path a b a_ b_ d d_ round round_ in
+      λ i. by_conditional_equation now spot used.place used.direction e (p.0 i) (p.1 i) (p.2 i) (left_of f) (left_of (right_of f)) (right_of (right_of f))
   finishes_one now spot used e f _ _ (conditional_equation a b d is round) (implication is_) = let x = sym is ∙ is_ in absurd (cc x)
   finishes_one now spot used e f _ _ (conditional_equation a b d is round) (fact j_ is_ at_) = let x = sym is ∙ is_ in absurd (cc x)
   finishes_one now spot used e f _ _ (implication is) (equivalence is_) = let x = sym is ∙ is_ in absurd (cc x)

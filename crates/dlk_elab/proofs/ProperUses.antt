@@ -29,7 +29,7 @@ use Rattle.dlk_match.specs.Instances.{AreNames}
 use Rattle.dlk_match.specs.Matching.{Match}
 use Rattle.dlk_uses.specs.Uses.{Direction, Forwards, Backwards, Use, Spot, key, left_of, right_of, may_stand, is_forwards, is_on_the_right, is_whole, HasShape, ProvesLast, proved}
 use Rattle.dlk_uses.specs.Uses.{renaming, substituting, instance, by_equivalence, by_equation, by_conditional_equation, by_conditional_equivalence, by_implication, by_fact}
-use Rattle.dlk_uses.specs.Uses.{IsAround, smallest, Finishes, equivalence, equation, conditional_equivalence, conditional_equation, implication, fact}
+use Rattle.dlk_uses.specs.Uses.{Finishes, equivalence, equation, conditional_equivalence, conditional_equation, implication, fact}
 use Rattle.dlk_elab.specs.Atoms.{MatchesThere}
 use Rattle.dlk_elab.proofs.ProperSteps.{all_proper, equivalence_proper, EquationMade, equation_proper, conditional_equation_proper, conditional_equivalence_proper, implication_proper, fact_proper}
 
@@ -176,7 +176,7 @@ module _ (laws : Laws) where
       outer : List ℕ
       inner : List ℕ
       d : Tree
-      round : IsAround e used.path outer inner d
+      round : IsInnermost e used.path outer inner d
       made : EquationMade e outer inner d l r
 
     equated : (l r : Tree) → WellMade l → WellMade r → sort l ≡ Term → sort r ≡ Term → sort t ≡ Term → Equated l r
@@ -188,7 +188,7 @@ module _ (laws : Laws) where
           outer = i.0;
           inner = i.1;
           d = i.2;
-          round = smallest formula.sort_is i.3;
+          round = i.3;
           made = record {
             left = left;
             right = right;

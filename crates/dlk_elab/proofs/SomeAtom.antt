@@ -13,14 +13,14 @@ use Rattle.dlk_calculus.specs.declared.reason.Reason.TheVariants.{NotEqual}
 use Rattle.dlk_calculus.specs.Pairs.{Extra}
 use Rattle.dlk_calculus.specs.Sequents.{Sequent, IsSequent}
 use Rattle.dlk_calculus.specs.Provables.{Provable, HasFormulas}
-use Rattle.dlk_calculus.specs.Rules.{Rule, Arguments, OnePlace, TwoPlaces, PlaceAndFormula, OneFormula, PlaceAndName, word_of, arguments_of, AreProper}
-use Rattle.dlk_calculus.specs.Rules.{Close, CloseTrue, CloseFalse, NotL, NotR, AndL, AndR, OrL, OrR, ImplyL, ImplyR, EquivL, EquivR, Cut, CutL, CutR, HideL, HideR, CoHideR, ExchangeL, ExchangeR, SkolemL, SkolemR, BoundL, BoundR, EquivifyR, CommuteEquivL, CommuteEquivR}
+use Rattle.dlk_calculus.specs.Rules.{Close, Arguments, arguments_of, AreProper}
 use Rattle.dlk_calculus.specs.Steps.{Step, Leaf, Apply, Merge, IsProper, Fault, StepOf}
 use Rattle.dlk_rules.specs.declared.rule.RuleWord.{RuleWord}
 use Rattle.dlk_rules.specs.declared.rule.RuleWord.TheVariants as word
 use Rattle.dlk_rules.specs.declared.arguments.Side.{Side}
 use Rattle.dlk_rules.specs.Steps.{side_of}
-use Rattle.dlk_rules.specs.Words.{shape_of, text_of, wanted}
+use Rattle.dlk_rules.specs.Words.{text_of, wanted}
+use Rattle.dlk_rules.proofs.WordLaws.{rule_made}
 use Rattle.dlk_match.specs.Matching.{Match}
 use Rattle.dlk_tacsyn.specs.declared.kind.Kind.TheVariants.{AnyPlace, QuotedFormula}
 use Rattle.dlk_tacsyn.specs.Tactics.{Atom, Argument, Word}
@@ -39,43 +39,6 @@ use Rattle.dlk_elab.proofs.ProperUses.{Laws}
 use Rattle.dlk_elab.proofs.TakenLaws.{all_or_fault}
 use Rattle.dlk_elab.proofs.UseWants.{wants_use}
 use Rattle.dlk_elab.proofs.Wants.{Wants, AreProperSteps}
-
--- a rule with the word and these arguments, which have its shape
-record Made (w : RuleWord) (a : Arguments) : Type 0 where
-  rule : Rule
-  word_is : word_of rule ≡ text_of w
-  arguments_are : arguments_of rule ≡ a
-
-by_shape : (w : RuleWord) (a : Arguments) → wanted w ≡ shape_of a → Made w a
-by_shape word.Close (TwoPlaces i k) e = record { rule = Close i k; word_is = refl; arguments_are = refl }
-by_shape word.CloseTrue (OnePlace i) e = record { rule = CloseTrue i; word_is = refl; arguments_are = refl }
-by_shape word.CloseFalse (OnePlace i) e = record { rule = CloseFalse i; word_is = refl; arguments_are = refl }
-by_shape word.NotL (OnePlace i) e = record { rule = NotL i; word_is = refl; arguments_are = refl }
-by_shape word.NotR (OnePlace i) e = record { rule = NotR i; word_is = refl; arguments_are = refl }
-by_shape word.AndL (OnePlace i) e = record { rule = AndL i; word_is = refl; arguments_are = refl }
-by_shape word.AndR (OnePlace i) e = record { rule = AndR i; word_is = refl; arguments_are = refl }
-by_shape word.OrL (OnePlace i) e = record { rule = OrL i; word_is = refl; arguments_are = refl }
-by_shape word.OrR (OnePlace i) e = record { rule = OrR i; word_is = refl; arguments_are = refl }
-by_shape word.ImplyL (OnePlace i) e = record { rule = ImplyL i; word_is = refl; arguments_are = refl }
-by_shape word.ImplyR (OnePlace i) e = record { rule = ImplyR i; word_is = refl; arguments_are = refl }
-by_shape word.EquivL (OnePlace i) e = record { rule = EquivL i; word_is = refl; arguments_are = refl }
-by_shape word.EquivR (OnePlace i) e = record { rule = EquivR i; word_is = refl; arguments_are = refl }
-by_shape word.Cut (OneFormula h) e = record { rule = Cut h; word_is = refl; arguments_are = refl }
-by_shape word.CutL (PlaceAndFormula i h) e = record { rule = CutL i h; word_is = refl; arguments_are = refl }
-by_shape word.CutR (PlaceAndFormula i h) e = record { rule = CutR i h; word_is = refl; arguments_are = refl }
-by_shape word.HideL (OnePlace i) e = record { rule = HideL i; word_is = refl; arguments_are = refl }
-by_shape word.HideR (OnePlace i) e = record { rule = HideR i; word_is = refl; arguments_are = refl }
-by_shape word.CoHideR (OnePlace i) e = record { rule = CoHideR i; word_is = refl; arguments_are = refl }
-by_shape word.ExchangeL (TwoPlaces i k) e = record { rule = ExchangeL i k; word_is = refl; arguments_are = refl }
-by_shape word.ExchangeR (TwoPlaces i k) e = record { rule = ExchangeR i k; word_is = refl; arguments_are = refl }
-by_shape word.SkolemL (OnePlace i) e = record { rule = SkolemL i; word_is = refl; arguments_are = refl }
-by_shape word.SkolemR (OnePlace i) e = record { rule = SkolemR i; word_is = refl; arguments_are = refl }
-by_shape word.BoundL (PlaceAndName i y) e = record { rule = BoundL i y; word_is = refl; arguments_are = refl }
-by_shape word.BoundR (PlaceAndName i y) e = record { rule = BoundR i y; word_is = refl; arguments_are = refl }
-by_shape word.EquivifyR (OnePlace i) e = record { rule = EquivifyR i; word_is = refl; arguments_are = refl }
-by_shape word.CommuteEquivL (OnePlace i) e = record { rule = CommuteEquivL i; word_is = refl; arguments_are = refl }
-by_shape word.CommuteEquivR (OnePlace i) e = record { rule = CommuteEquivR i; word_is = refl; arguments_are = refl }
-by_shape _ _ e = absurd (cc e)
 
 -- names among the arguments of an atom are those of the rule
 proper_for : (side : Option Side) (given : List Argument) (a : Arguments) → All IsNamed given → AreFor side given a → AreProper a
@@ -115,13 +78,12 @@ module _ (rows : List Provable) (fact goal : ℕ) (s : Sequent) (atom : Atom) wh
   wants_rule w name other kinds fixed names =
       elim (answers w atom.arguments other kinds fixed) [
         | inl said ↦
-            let made = by_shape w said.arguments (sym said.shape_is) in
-            let for : AreFor (side_of w) atom.arguments (arguments_of made.rule) = subst (AreFor (side_of w) atom.arguments) (sym made.arguments_are)
-            said.for in
+            let made = rule_made w said.arguments (sym said.shape_is) in
+            let for : AreFor (side_of w) atom.arguments (arguments_of made.0) = subst (AreFor (side_of w) atom.arguments) (sym made.2) said.for in
             record {
-              asked = Steps (Apply fact goal made.rule ∷ []);
-              asks = a_rule w made.rule (sym name) made.word_is for;
-              proper = alone (Apply fact goal made.rule) (proper_for (side_of w) atom.arguments (arguments_of made.rule) names for);
+              asked = Steps (Apply fact goal made.0 ∷ []);
+              asks = a_rule w made.0 (sym name) made.1 for;
+              proper = alone (Apply fact goal made.0) (proper_for (side_of w) atom.arguments (arguments_of made.0) names for);
             }
         | inr one ↦ record { asked = Refused NoPlace; asks = elsewhere w one.side (sym name) one.side_is one.one; proper = tt }
       ]

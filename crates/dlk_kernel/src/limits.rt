@@ -1,10 +1,11 @@
 //! Whether what a step makes is within the limits.
-ghost use Rattle.std.specs.Prelude.{◌≡◌, ◌&&◌, map, All, length, nat_le, IfOk, IfErr};
+ghost use Rattle.std.specs.Prelude.{◌≡◌, ◌≢◌, ◌&&◌, map, All, length, nat_le, IfOk, IfErr};
 ghost use Rattle.std.specs.List.{list_all};
 ghost use Rattle.dlk_store.specs.Stores.{IsId, tree};
 ghost use Rattle.dlk_calculus.specs.Limits.{most_formulas};
 ghost use Rattle.dlk_sequent.specs.Sequents.{sequent_at, IsKnown};
 ghost use Rattle.dlk_sequent.specs.Substitutions.{pairs_at, AreKnownPairs};
+ghost use Rattle.dlk_kernel.specs.declared.fault.StepFault.TheVariants.{Memory};
 ghost use Rattle.dlk_kernel.specs.Faults.{IsStepFault};
 ghost use Rattle.dlk_kernel.specs.Kernel.{provable_at, IsKnownRow};
 ghost use Rattle.dlk_kernel.specs.Limits.{is_within, is_sequent_within, is_substituted_within, has_few, AreWithin, IsPast};
@@ -92,6 +93,7 @@ pub(crate) fn limit_sequents<S: Store>(store: &S, all: &[Shared<Sequent>]) -> Re
     requires { All (IsKnown (S.trees store.now)) all.now }
     ensures within { IfOk result (λ _. AreWithin (map (sequent_at (S.trees store.now)) all.now)) }
     ensures past { IfErr result (IsStepFault (IsPast (map (sequent_at (S.trees store.now)) all.now))) }
+    ensures decides { IfErr result (λ why. why ≢ Memory) }
 {
     if !are_sequents_within(store, Measure::Nodes, all) {
         return Err(StepFault::Refused(Reason::TooBig));

@@ -9,8 +9,8 @@ use Rattle.dlk_calculus.specs.Sequents.{IsFormula}
 use Rattle.dlk_tacsyn.specs.declared.kind.Kind.TheVariants.{FixedPlace, AnyPlace, QuotedFormula, QuotedTerm, AName, QuotedExtra}
 use Rattle.dlk_tacsyn.specs.Tactics.{Argument, AtPlace, AnyLeft, AnyRight, GivenFormula, Atom}
 use Rattle.dlk_tacsyn.specs.Tactics.{Tactic, Tactics, Choice, Sequence, Branch, Repeat, One, no_parts, part, EachAtomOf}
-use Rattle.dlk_tacsyn.specs.Rows.{Row, wants, row_of, library_row_of, IsPlace, IsPlaceOrLocator}
-use Rattle.dlk_tacsyn.specs.Rows.{IsFitting, AreFitting, IsRun, AreRun, IsOfText, AreOfText, AreOfKinds}
+use Rattle.dlk_tacsyn.specs.Rows.{Row, wants, row_of, library_row_of}
+use Rattle.dlk_tacsyn.specs.Rows.{IsFitting, AreFitting, IsRun, AreRun, IsOfText, AreOfText, IsOfKind, AreOfKinds}
 use Rattle.dlk_library.specs.Parts.{nothing, rule_at, imply_first, use_at, use_with, generalized, for_r, all_but, for_ghost, atom as atom_of}
 use Rattle.dlk_library.specs.Library.{base_and_step, loop_of, cut_of, invariant_of, ghost_of, step_of, connective}
 use Rattle.dlk_library.specs.Library.{Expands, by_loop, by_weakening, by_cut, by_invariant, by_ghost, by_step, by_connectives}
@@ -18,7 +18,7 @@ use Rattle.dlk_library.specs.Expanded.{Expansion, stands_for, itself, Expanded, 
 use Rattle.dlk_library.proofs.Names.{IsLibraryName, is_weakening, is_invariant, is_step, is_loop, is_cut, is_ghost, call_kinds, run_outside}
 use Rattle.dlk_library.proofs.Names.{weakening_row, invariant_row, step_row, loop_row, cut_row, ghost_row}
 
-any_place : (p : Argument) → IsPlace p → IsPlaceOrLocator p
+any_place : (p : Argument) → IsOfKind FixedPlace p → IsOfKind AnyPlace p
 any_place (AtPlace place path) h = tt
 any_place _ h = absurd h
 
@@ -59,52 +59,52 @@ module _ (at : ℕ) where
   fit_close : AreFitting (atom_of at (codes "close") [])
   fit_close = record { row = wants []; row_is = close_row; arguments = tt }
 
-  fit_rule : (name : List ℕ) (p : Argument) → row_of name ≡ Some (wants (AnyPlace ∷ [])) → IsPlaceOrLocator p → AreFitting (rule_at at name p)
+  fit_rule : (name : List ℕ) (p : Argument) → row_of name ≡ Some (wants (AnyPlace ∷ [])) → IsOfKind AnyPlace p → AreFitting (rule_at at name p)
   fit_rule name p row h = record { row = wants (AnyPlace ∷ []); row_is = row; arguments = (h, tt) }
 
   fit_with_formula : (name : List ℕ) (j : Tree) (p : Argument) → row_of name ≡ Some (wants (QuotedFormula ∷ AnyPlace ∷ [])) → IsFormula j →
-      IsPlaceOrLocator p → AreFitting (atom_of at name (GivenFormula j ∷ p ∷ []))
+      IsOfKind AnyPlace p → AreFitting (atom_of at name (GivenFormula j ∷ p ∷ []))
   fit_with_formula name j p row f h = record { row = wants (QuotedFormula ∷ AnyPlace ∷ []); row_is = row; arguments = (f, (h, tt)) }
 
-  fit_use : (name : List ℕ) (p : Argument) → IsPlaceOrLocator p → AreFitting (use_at at name p)
+  fit_use : (name : List ℕ) (p : Argument) → IsOfKind AnyPlace p → AreFitting (use_at at name p)
   fit_use name p h = record { row = _; row_is = use_row; arguments = (tt, (h, tt)) }
 
-  fit_use_with : (name : List ℕ) (p : Argument) (extra : Extra) → IsPlaceOrLocator p → AreWellMade extra.pairs → AreFitting (use_with at name p extra)
+  fit_use_with : (name : List ℕ) (p : Argument) (extra : Extra) → IsOfKind AnyPlace p → AreWellMade extra.pairs → AreFitting (use_with at name p extra)
   fit_use_with name p extra h made = record { row = _; row_is = use_row; arguments = (tt, (h, (made, tt))) }
 
   fit_imply_first : AreFitting (imply_first at)
   fit_imply_first = fit_rule (codes "implyR") _ imply_right_row tt
 
-  fit_generalized : (name : List ℕ) (p : Argument) → IsPlaceOrLocator p → AreFitting (generalized at name p)
+  fit_generalized : (name : List ℕ) (p : Argument) → IsOfKind AnyPlace p → AreFitting (generalized at name p)
   fit_generalized name p h = (fit_use name p h, (fit_rule (codes "G") p generalize_row h, (fit_imply_first, tt)))
 
-  fit_base_and_step : (j : Tree) (p : Argument) → IsFormula j → IsPlaceOrLocator p → AreFitting (base_and_step at j p)
+  fit_base_and_step : (j : Tree) (p : Argument) → IsFormula j → IsOfKind AnyPlace p → AreFitting (base_and_step at j p)
   fit_base_and_step j p f h =
       (fit_with_formula (codes "cutR") j p cut_right_row f h, ((fit_nothing, (fit_generalized (codes "I") p h, tt)), tt))
 
-  fit_loop : (j : Tree) (p : Argument) → IsFormula j → IsPlaceOrLocator p → AreFitting (loop_of at j p)
+  fit_loop : (j : Tree) (p : Argument) → IsFormula j → IsOfKind AnyPlace p → AreFitting (loop_of at j p)
   fit_loop j p f h = (fit_with_formula (codes "boxCut") j p box_row f h, ((fit_base_and_step j p f h, (fit_nothing, tt)), tt))
 
   made_pair : (p : Pair) → WellMade p.by → AreWellMade (p ∷ [])
   made_pair p h = All-cons (λ (q : Pair). WellMade q.by) p [] h (All-nil (λ (q : Pair). WellMade q.by))
 
-  fit_cut : (r : Tree) (p : Argument) → WellMade r → IsPlaceOrLocator p → AreFitting (cut_of at r p)
+  fit_cut : (r : Tree) (p : Argument) → WellMade r → IsOfKind AnyPlace p → AreFitting (cut_of at r p)
   fit_cut r p made h =
       let pair : Pair = record { sym = record { kind = UnitPred; name = codes "r"; arity = 0; taboo = None }; by = r } in
       fit_use_with (codes "DC") p (for_r r) h (made_pair pair made)
 
-  fit_ghost : (y : List ℕ) (e d : Tree) (p : Argument) → WellMade e → WellMade d → IsPlaceOrLocator p → AreFitting (ghost_of at y e d p)
+  fit_ghost : (y : List ℕ) (e d : Tree) (p : Argument) → WellMade e → WellMade d → IsOfKind AnyPlace p → AreFitting (ghost_of at y e d p)
   fit_ghost y e d p a b h =
       let first : Pair = record { sym = all_but (codes "a") y; by = e } in
       let second : Pair = record { sym = all_but (codes "b") y; by = d } in
       fit_use_with (codes "DG") p (for_ghost y e d) h (All-cons (λ (q : Pair). WellMade q.by) first (second ∷ []) a (made_pair second b))
 
-  fit_invariant : (p : Argument) → IsPlaceOrLocator p → AreFitting (invariant_of at p)
+  fit_invariant : (p : Argument) → IsOfKind AnyPlace p → AreFitting (invariant_of at p)
   fit_invariant p h =
       let imply = fit_rule (codes "implyR") p imply_right_row h in
       (fit_use (codes "DI") p h, (((fit_use (codes "testb") p h, (imply, tt)), (imply, tt)), tt))
 
-  fit_step : (p : Argument) → IsPlaceOrLocator p → AreFitting (step_of at p)
+  fit_step : (p : Argument) → IsOfKind AnyPlace p → AreFitting (step_of at p)
   fit_step p h =
       (fit_use _ p h, (fit_use _ p h, (fit_use _ p h, (fit_use _ p h, (fit_use _ p h, (fit_use _ p h, (fit_use _ p h, (fit_use _ p h, tt))))))))
 

@@ -1,10 +1,11 @@
 -- The names of the library: each has a row there, and none as an atom.
 use Rattle.std.proofs.Common.{◌≡◌, ℕ, Bool, true, false, List, [], ◌∷◌, Option, Some, None, ◌⊎◌, inl, inr, refl, ap, subst, ◌∙◌}
-use Rattle.std.specs.Prelude.{bytes_eq, codes, if◌then◌else◌}
+use Rattle.std.specs.Prelude.{bytes_eq, codes, ◌||◌}
 use Rattle.std.proofs.lemmas.Slice.Eq.{bytes_eq-Decides}
 use Rattle.dlk_tacsyn.specs.declared.kind.Kind.TheVariants.{FixedPlace, QuotedFormula, QuotedTerm, AName}
 use Rattle.dlk_tacsyn.specs.Tactics.{Atom}
 use Rattle.dlk_tacsyn.specs.Rows.{Row, wants, row_of, library_row_of, derive_row_of, IsFitting, IsDerivation, IsRun, IsOfText, AreOfKinds}
+use Rattle.dlk_tacsyn.proofs.Words.{library_none, derive_found}
 
 pub data IsLibraryName (name : List ℕ) : Type 0 where
   is_prop : name ≡ codes "prop" → IsLibraryName name
@@ -25,8 +26,7 @@ tested a b = by (bytes_eq a b) refl
 no_name : (name : List ℕ) → bytes_eq name (codes "prop") ≡ false → bytes_eq name (codes "dW") ≡ false → bytes_eq name (codes "dI") ≡ false →
     bytes_eq name (codes "step") ≡ false → bytes_eq name (codes "loop") ≡ false → bytes_eq name (codes "dC") ≡ false →
     bytes_eq name (codes "dG") ≡ false → library_row_of name ≡ None
-unfolding library_row_of
-no_name name p w i s l c g = simp (p, w, i, s, l, c, g)
+no_name name p w v s l c g = library_none name p (λ i. (w i || v i) || s i) (λ i. l i || c i) g
 
 -- a name is one of the library, or has no row there
 pub library_name : (name : List ℕ) → (library_row_of name ≡ None) ⊎ IsLibraryName name
@@ -135,12 +135,7 @@ fitting_own atom h = elim (library_name atom.name) [
 
 -- one name has the row of `derive`
 pub derive_name : (name : List ℕ) (row : Row) → derive_row_of name ≡ Some row → name ≡ codes "derive"
-unfolding derive_row_of
-derive_name name row is = by (bytes_eq name (codes "derive")) refl is
-  where
-    by : (t : Bool) → bytes_eq name (codes "derive") ≡ t → (if t then Some (wants (FixedPlace ∷ [])) else None) ≡ Some row → name ≡ codes "derive"
-    by true e same = (bytes_eq-Decides name (codes "derive")).0 e
-    by false e same = absurd (cc same)
+derive_name name row is = (bytes_eq-Decides name (codes "derive")).0 (derive_found name row is).0
 
 derive_own : library_row_of (codes "derive") ≡ None
 unfolding library_row_of

@@ -9,8 +9,9 @@ use Rattle.dlk_tacsyn.specs.declared.kind.Kind.TheVariants.{FixedPlace, QuotedFo
 use Rattle.dlk_tacsyn.specs.declared.tactic.Arg.{Arg}
 use Rattle.dlk_tacsyn.specs.declared.tactic.Arg.TheVariants as arg
 use Rattle.dlk_tacsyn.specs.declared.tactic.Atom.{Atom}
-use Rattle.dlk_tacsyn.specs.Rows.{Row, wants, is_at_place, is_with_formula, library_row_of, IsOfText, AreOfKinds, IsGivenFormula, IsGivenTerm, IsWord}
+use Rattle.dlk_tacsyn.specs.Rows.{Row, wants, is_at_place, is_with_formula, library_row_of, IsOfText, IsOfKind, AreOfKinds}
 use Rattle.dlk_tacsyn.specs.Ties.{argument_at, atom_at}
+use Rattle.dlk_tacsyn.proofs.Words.{library_none}
 use Rattle.dlk_library.proofs.Names.{IsLibraryName, is_prop, is_weakening, is_invariant, is_step, is_loop, is_cut, is_ghost, call_kinds}
 use Rattle.dlk_library.proofs.Names.{prop_row, weakening_row, invariant_row, step_row, loop_row, cut_row, ghost_row}
 use Rattle.dlk_library.proofs.SomeExpansion.{none_are}
@@ -42,23 +43,17 @@ never_true : (b : Bool) → (b ≡ true → ⊥) → b ≡ false
 never_true true h = absurd (h refl)
 never_true false h = refl
 
--- none of the tests of the library
-no_row : (name : List ℕ) → bytes_eq name (codes "prop") ≡ false → is_at_place name ≡ false → is_with_formula name ≡ false →
-    bytes_eq name (codes "dG") ≡ false → library_row_of name ≡ None
-unfolding library_row_of
-no_row name p a f g = simp (p, a, f, g)
-
 module _ (trees : List Tree) where
   -- Arguments of a row, over ids.
-  a_formula : (a : Arg) → IsGivenFormula (argument_at trees a) → (h : Id) × (a ≡ arg.Formula h)
+  a_formula : (a : Arg) → IsOfKind QuotedFormula (argument_at trees a) → (h : Id) × (a ≡ arg.Formula h)
   a_formula (arg.Formula h) is = (h, refl)
   a_formula _ is = absurd is
 
-  a_term : (a : Arg) → IsGivenTerm (argument_at trees a) → (e : Id) × (a ≡ arg.Term e)
+  a_term : (a : Arg) → IsOfKind QuotedTerm (argument_at trees a) → (e : Id) × (a ≡ arg.Term e)
   a_term (arg.Term e) is = (e, refl)
   a_term _ is = absurd is
 
-  a_word : (a : Arg) → IsWord (argument_at trees a) → (y : List ℕ) × (a ≡ arg.Word y)
+  a_word : (a : Arg) → IsOfKind AName (argument_at trees a) → (y : List ℕ) × (a ≡ arg.Word y)
   a_word (arg.Word y) is = (y, refl)
   a_word _ is = absurd is
 
@@ -114,11 +109,11 @@ module _ (trees : List Tree) where
       pub none_at_place : (p : Arg) → atom.args ≡ p ∷ [] → is_at_place atom.name ≡ false → library_row_of atom.name ≡ None
       none_at_place p are never =
           let other : (f : Id) (q : Arg) → atom.args ≢ arg.Formula f ∷ q ∷ [] = λ f q e. absurd (cc (are, e)) in
-          no_row atom.name no_prop never (not_with_formula other) not_ghost
+          library_none atom.name no_prop never (not_with_formula other) not_ghost
 
       -- with a formula and a place
       pub none_with_formula : ((p : Arg) → atom.args ≢ p ∷ []) → is_with_formula atom.name ≡ false → library_row_of atom.name ≡ None
-      none_with_formula none never = no_row atom.name no_prop (not_at_place none) never not_ghost
+      none_with_formula none never = library_none atom.name no_prop (not_at_place none) never not_ghost
 
       -- and with neither
       pub none_other : ((p : Arg) → atom.args ≢ p ∷ []) → ((f : Id) (p : Arg) → atom.args ≢ arg.Formula f ∷ p ∷ []) → library_row_of atom.name ≡ None

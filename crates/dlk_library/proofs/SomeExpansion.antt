@@ -4,7 +4,7 @@ use Rattle.dlk_tree.specs.Trees.{Tree}
 use Rattle.dlk_tacsyn.specs.declared.kind.Kind.TheVariants.{FixedPlace, QuotedFormula, QuotedTerm, AName}
 use Rattle.dlk_tacsyn.specs.Tactics.{Argument, Word, GivenFormula, GivenTerm, Atom}
 use Rattle.dlk_tacsyn.specs.Tactics.{Tactic, Tactics, Choice, Sequence, Branch, Repeat, One, no_parts, part, EachAtomOf}
-use Rattle.dlk_tacsyn.specs.Rows.{wants, library_row_of, IsOfText, AreOfText, AreOfKinds, IsGivenFormula, IsGivenTerm, IsWord}
+use Rattle.dlk_tacsyn.specs.Rows.{wants, library_row_of, IsOfText, AreOfText, IsOfKind, AreOfKinds}
 use Rattle.dlk_library.specs.Library.{loop_of, weakening_of, cut_of, invariant_of, ghost_of, step_of, propositional_of}
 use Rattle.dlk_library.specs.Library.{Expands, by_loop, by_weakening, by_cut, by_invariant, by_ghost, by_step, by_connectives}
 use Rattle.dlk_library.specs.Expanded.{Expansion, stands_for, itself, Expanded, AllExpanded}
@@ -12,15 +12,15 @@ use Rattle.dlk_library.proofs.Names.{IsLibraryName, is_prop, is_weakening, is_in
 use Rattle.dlk_library.proofs.Names.{prop_row, weakening_row, invariant_row, step_row, loop_row, cut_row, ghost_row}
 
 -- The arguments of a row, taken apart.
-a_formula : (a : Argument) → IsGivenFormula a → (h : Tree) × (a ≡ GivenFormula h)
+a_formula : (a : Argument) → IsOfKind QuotedFormula a → (h : Tree) × (a ≡ GivenFormula h)
 a_formula (GivenFormula h) is = (h, refl)
 a_formula _ is = absurd is
 
-a_term : (a : Argument) → IsGivenTerm a → (e : Tree) × (a ≡ GivenTerm e)
+a_term : (a : Argument) → IsOfKind QuotedTerm a → (e : Tree) × (a ≡ GivenTerm e)
 a_term (GivenTerm e) is = (e, refl)
 a_term _ is = absurd is
 
-a_word : (a : Argument) → IsWord a → (name : List ℕ) × (a ≡ Word name)
+a_word : (a : Argument) → IsOfKind AName a → (name : List ℕ) × (a ≡ Word name)
 a_word (Word name) is = (name, refl)
 a_word _ is = absurd is
 

@@ -5,9 +5,6 @@ ghost use Rattle.dlk_library.specs.Generated.{generated_model, generated_strateg
 use crate::fault::GenFault;
 use std::alloc::Global;
 
-/// The most assignments of a generated model.
-pub const MOST_GENERATED: u32 = 500;
-
 /// The texts of a model with so many assignments, from 1 to 500, one behind another, and of a strategy that proves it.
 ///
 /// # Errors

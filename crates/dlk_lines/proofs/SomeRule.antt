@@ -1,7 +1,5 @@
 -- Whether a text is a rule is decided, where it is decided of texts of formulas.
-use Rattle.std.proofs.Common.{◌≡◌, ℕ, List, Option, Some, None, refl, sym, subst, ap, ◌∙◌}
-use Rattle.std.specs.Prelude.{option_map}
-use Rattle.std.proofs.lemmas.Option.{none-some, same_Some}
+use Rattle.std.proofs.Common.{◌≡◌, ℕ, List, Option, Some, None, refl, sym, subst, ◌∙◌}
 use Rattle.dlk_tree.specs.Names.{is_name}
 use Rattle.dlk_tree.specs.Trees.{Tree}
 use Rattle.dlk_calculus.specs.Rules.{Rule, Arguments, OnePlace, TwoPlaces, PlaceAndFormula, OneFormula, PlaceAndName, word_of, arguments_of}
@@ -9,66 +7,13 @@ use Rattle.dlk_calculus.proofs.Decide.{is_true}
 use Rattle.dlk_rules.specs.declared.arguments.Shape.{Shape}
 use Rattle.dlk_rules.specs.declared.arguments.Shape.TheVariants as shape
 use Rattle.dlk_rules.specs.declared.rule.RuleWord.{RuleWord}
-use Rattle.dlk_rules.specs.declared.rule.RuleWord.TheVariants as word
-use Rattle.dlk_rules.specs.Steps.{Template, WantsPlace, WantsTwoPlaces, WantsPlaceAndFormula, WantsFormula, WantsPlaceAndName, template}
-use Rattle.dlk_rules.specs.Words.{shape_of, text_made, text_of, wanted_by, wanted, named}
-use Rattle.dlk_rules.proofs.WordLaws.{found_word, no_such_word}
+use Rattle.dlk_rules.specs.Words.{shape_of, text_of, wanted, named}
+use Rattle.dlk_rules.proofs.WordLaws.{rule_made, found_word, no_such_word}
 use Rattle.dlk_lines.specs.Spelled.{Spelling, IsFormulaText}
 use Rattle.dlk_lines.specs.Lines.{IsArguments, one_place, one_formula, IsRule}
 use Rattle.dlk_lines.specs.Parts.{Bracketed}
 use Rattle.dlk_lines.proofs.Forms.{argument_parts, two_places_are, place_and_formula_are, place_and_name_are, no_place_behind, no_formula_behind, no_name_behind, Lack, lacking, made_rule, no_brackets, no_word, no_arguments}
 use Rattle.dlk_lines.proofs.SomeParts.{number_decided, number_then_decided, bracketed_decided}
-
--- a word and arguments
-record Parts : Type 0 where
-  word : List ℕ
-  arguments : Arguments
-
-abbrev parts_of : Rule → Parts
-parts_of rule = record { word = word_of rule; arguments = arguments_of rule }
-
--- what a template makes of arguments of its shape
-abbrev filled : Template → Arguments → Option Rule
-filled (WantsPlace make) (OnePlace i) = Some (make i)
-filled (WantsTwoPlaces make) (TwoPlaces i k) = Some (make i k)
-filled (WantsPlaceAndFormula make) (PlaceAndFormula i h) = Some (make i h)
-filled (WantsFormula make) (OneFormula h) = Some (make h)
-filled (WantsPlaceAndName make) (PlaceAndName i y) = Some (make i y)
-filled _ _ = None
-
--- the word and the arguments of it
-abbrev parts_made : Template → Arguments → Option Parts
-parts_made (WantsPlace make) (OnePlace i) = Some (record { word = text_made (WantsPlace make); arguments = OnePlace i })
-parts_made (WantsTwoPlaces make) (TwoPlaces i k) = Some (record { word = text_made (WantsTwoPlaces make); arguments = TwoPlaces i k })
-parts_made (WantsPlaceAndFormula make) (PlaceAndFormula i h) = Some (record { word = text_made (WantsPlaceAndFormula make); arguments = PlaceAndFormula i h })
-parts_made (WantsFormula make) (OneFormula h) = Some (record { word = text_made (WantsFormula make); arguments = OneFormula h })
-parts_made (WantsPlaceAndName make) (PlaceAndName i y) = Some (record { word = text_made (WantsPlaceAndName make); arguments = PlaceAndName i y })
-parts_made _ _ = None
-
-made_of_parts : (w : RuleWord) (a : Arguments) → option_map parts_of (filled (template w) a) ≡ parts_made (template w) a
-made_of_parts word.Close (OnePlace i) = refl
-made_of_parts word.Close _ = refl
-made_of_parts _ (OnePlace i) = refl
-made_of_parts _ _ = refl
-
-fitting : (t : Template) (a : Arguments) → wanted_by t ≡ shape_of a → parts_made t a ≡ Some (record { word = text_made t; arguments = a })
-fitting (WantsPlace make) (OnePlace i) e = refl
-fitting (WantsTwoPlaces make) (TwoPlaces i k) e = refl
-fitting (WantsPlaceAndFormula make) (PlaceAndFormula i h) e = refl
-fitting (WantsFormula make) (OneFormula h) e = refl
-fitting (WantsPlaceAndName make) (PlaceAndName i y) e = refl
-fitting _ _ e = cc
-
--- a word and arguments of the shape that it wants are those of a rule
-pub rule_made : (w : RuleWord) (a : Arguments) → wanted w ≡ shape_of a → (made : Rule) × (word_of made ≡ text_of w) × (arguments_of made ≡ a)
-rule_made w a e = go (filled (template w) a) (made_of_parts w a ∙ fitting (template w) a e)
-  where
-    go : (o : Option Rule) → option_map parts_of o ≡ Some (record { word = text_of w; arguments = a }) →
-        (made : Rule) × (word_of made ≡ text_of w) × (arguments_of made ≡ a)
-    go None same = absurd (none-some (record { word = text_of w; arguments = a }) same)
-    go (Some made) same =
-        let parts : parts_of made ≡ record { word = text_of w; arguments = a } = same_Some _ _ same in
-        (made, ap (λ (p : Parts). p.word) parts, ap (λ (p : Parts). p.arguments) parts)
 
 module _ (w : Spelling) (formula_decided : (text : List ℕ) → Dec ((h : Tree) × IsFormulaText w text h)) where
   abbrev Decided : List ℕ → Shape → Type 0

@@ -1,14 +1,13 @@
 -- What abstracts a well-made tree is well made, and of its sort.
-use Rattle.std.proofs.Common.{◌≡◌, refl, sym, ap, subst, ◌∙◌, ◌∷◌, Bool, true, false, cond, inl, inr}
+use Rattle.std.proofs.Common.{◌≡◌, refl, sym, ap, ◌∙◌, ◌∷◌, Bool, true, false, cond}
 use Rattle.dlk_tree.specs.declared.op.Var.{Var}
 use Rattle.dlk_tree.specs.declared.op.Op.{Op}
 use Rattle.dlk_tree.specs.declared.op.Op.TheVariants as Op'
 use Rattle.dlk_tree.specs.Table.{sort_of}
 use Rattle.dlk_tree.specs.Trees.{Tree, node, Forest, no_kids, kid, sort, sorts, WellMade, AllWellMade}
 use Rattle.dlk_calculus.specs.Captures.{captures}
-use Rattle.dlk_calculus.specs.Kids.{later}
-use Rattle.dlk_match.specs.Abstract.{ending_in, is_variable, with_dot, abstracted, abstracted_all}
-use Rattle.dlk_match.proofs.Plugged.{variable_is, reached, ending_whole, ending_later}
+use Rattle.dlk_match.specs.Abstract.{is_variable, binds_behind, first_alone, with_dot, abstracted, abstracted_all}
+use Rattle.dlk_match.proofs.Plugged.{variable_is}
 
 -- of the same sorts, and well made
 abbrev AreMadeLike : Forest → Forest → Type 0
@@ -27,31 +26,25 @@ module _ (v : Var) where
   same_sorts (kid e es) = let a = same_sort e in let b = same_sorts es in λ i. a i ∷ b i
 
   -- all stay as they were, or all but the first
-  captured_made : (op : Op) (es : Forest) → AllWellMade es → AllWellMade (abstracted_all v es) →
-      AreMadeLike es (ending_in ((captures op).reach es) (abstracted_all v es))
-  captured_made op es made new = elim (reached op es) [
-    | inl e ↦ subst (λ tail. AreMadeLike es (ending_in tail (abstracted_all v es))) (sym e) (whole es made)
-    | inr e ↦ subst (λ tail. AreMadeLike es (ending_in tail (abstracted_all v es))) (sym e) (first_alone es made new)
-  ]
-    where
-      whole : (es : Forest) → AllWellMade es → AreMadeLike es (ending_in es (abstracted_all v es))
-      whole es made = subst (AreMadeLike es) (sym (ending_whole v es)) (refl, made)
+  first_made : (es : Forest) → AllWellMade es → AllWellMade (abstracted_all v es) → AreMadeLike es (first_alone es (abstracted_all v es))
+  first_made no_kids made new = (refl, made)
+  first_made (kid e es) made new = (ap (λ s. s ∷ sorts es) (same_sort e), (new.0, made.1))
 
-      first_alone : (es : Forest) → AllWellMade es → AllWellMade (abstracted_all v es) → AreMadeLike es (ending_in (later es) (abstracted_all v es))
-      first_alone no_kids made new = (refl, tt)
-      first_alone (kid e es) made new =
-          subst (AreMadeLike (kid e es)) (sym (ending_later v e es)) (ap (λ s. s ∷ sorts es) (same_sort e), (new.0, made.1))
+  captured_made : (es : Forest) (is_behind : Bool) → AllWellMade es → AllWellMade (abstracted_all v es) →
+      AreMadeLike es (cond is_behind (first_alone es (abstracted_all v es)) es)
+  captured_made es true made new = first_made es made new
+  captured_made es false made new = (refl, made)
 
   kids_made : (op : Op) (es : Forest) (is_captured : Bool) → AllWellMade es → AllWellMade (abstracted_all v es) →
-      AreMadeLike es (cond is_captured (ending_in ((captures op).reach es) (abstracted_all v es)) (abstracted_all v es))
-  kids_made op es true made new = captured_made op es made new
+      AreMadeLike es (cond is_captured (cond (binds_behind op) (first_alone es (abstracted_all v es)) es) (abstracted_all v es))
+  kids_made op es true made new = captured_made es (binds_behind op) made new
   kids_made op es false made new = (same_sorts es, new)
 
   node_made : (op : Op) (es : Forest) → WellMade (node op es) → AllWellMade (abstracted_all v es) → WellMade (with_dot v op es (abstracted_all v es))
   node_made op es made new = go (is_variable v op)
     where
       kids : Forest
-      kids = cond ((captures op).set es v) (ending_in ((captures op).reach es) (abstracted_all v es)) (abstracted_all v es)
+      kids = cond ((captures op).set es v) (cond (binds_behind op) (first_alone es (abstracted_all v es)) es) (abstracted_all v es)
 
       like : AreMadeLike es kids
       like = kids_made op es ((captures op).set es v) made.1 new

@@ -17,16 +17,12 @@ use Rattle.dlk_calculus.specs.Kids.{later}
 use Rattle.std.proofs.lemmas.List.{take_rest}
 use Rattle.std.proofs.lemmas.List.Elements.{All-tail, All-weaker, All-append, All-drop}
 use Rattle.dlk_calculus.specs.Captures.{captures}
-use Rattle.dlk_match.specs.Abstract.{count, ending_in, is_variable, abstracted, abstracted_all}
-use Rattle.dlk_match.specs.Entered.{entered}
+use Rattle.dlk_match.specs.Abstract.{is_variable, binds_behind, first_alone, abstracted, abstracted_all}
+use Rattle.dlk_match.specs.Entered.{count, entered}
 
 pub count_trees : (trees : List Tree) (ks : List Id) → count (kid_trees trees ks) ≡ length ks
 count_trees trees [] = refl
 count_trees trees (k ∷ ks) = omega (arith, count_trees trees ks)
-
-count_all : (v : Var) (kids : Forest) → count (abstracted_all v kids) ≡ count kids
-count_all v no_kids = refl
-count_all v (kid t rest) = ap (λ n. n + 1) (count_all v rest)
 
 -- the first n of the kids are new, and then the old ones
 abbrev pub mixed : Var → ℕ → Forest → Forest
@@ -40,45 +36,25 @@ mixed_whole v no_kids (suc n) e = refl
 mixed_whole v (kid t rest) zero e = absurd (omega arith)
 mixed_whole v (kid t rest) (suc n) e = ap (kid (abstracted v t)) (mixed_whole v rest n (omega arith))
 
--- a test of numbers
-test_same : {A : Type 0} (m n : ℕ) (x y : A) → m ≡ n → (if m == n then x else y) ≡ x
-test_same m n x y e = rw (sym e) (grind arith)
+-- where an operator captures in all kids, and in all but the first
+in_all : (v : Var) (kids : Forest) (is : Bool) →
+    (if is then kids else abstracted_all v kids) ≡ mixed v (if is then count kids - count kids else count kids) kids
+in_all v kids true = let none : count kids - count kids ≡ 0 = omega arith in ap (λ n. mixed v n kids) (sym none)
+in_all v kids false = sym (mixed_whole v kids (count kids) refl)
 
-test_other : {A : Type 0} (m n : ℕ) (x y : A) → n < m → (if m == n then x else y) ≡ y
-test_other m n x y e = grind arith
-
-all_stay : (v : Var) (kids : Forest) → ending_in kids (abstracted_all v kids) ≡ kids
-all_stay v no_kids = refl
-all_stay v (kid t rest) = test_same _ _ _ _ (count_all v (kid t rest))
-
-later_stay : (v : Var) (t : Tree) (rest : Forest) → ending_in rest (abstracted_all v (kid t rest)) ≡ kid (abstracted v t) rest
-later_stay v t no_kids = refl
-later_stay v t (kid u rest) =
-    test_other (count (abstracted_all v (kid t (kid u rest)))) (count (kid u rest)) _ _ (omega (arith, count_all v (kid u rest)))
-    ∙ ap (kid (abstracted v t)) (all_stay v (kid u rest))
-
--- captured or not
-chosen : (v : Var) (is : Bool) (tail kids : Forest) → ending_in tail (abstracted_all v kids) ≡ mixed v (count kids - count tail) kids
-    → (if is then ending_in tail (abstracted_all v kids) else abstracted_all v kids) ≡ mixed v (if is then count kids - count tail else count kids) kids
-chosen v true tail kids e = e
-chosen v false tail kids e = sym (mixed_whole v kids (count kids) refl)
-
-in_all : (v : Var) (kids : Forest) → ending_in kids (abstracted_all v kids) ≡ mixed v (count kids - count kids) kids
-in_all v kids = let none : count kids - count kids ≡ 0 = omega arith in all_stay v kids ∙ ap (λ n. mixed v n kids) (sym none)
-
-behind_first : (v : Var) (kids : Forest) → ending_in (later kids) (abstracted_all v kids) ≡ mixed v (count kids - count (later kids)) kids
-behind_first v no_kids = refl
-behind_first v (kid t rest) =
-    let one : count (kid t rest) - count rest ≡ 1 = omega arith in
-    later_stay v t rest ∙ ap (λ n. mixed v n (kid t rest)) (sym one)
+behind_first : (v : Var) (kids : Forest) (is : Bool) → (if is then first_alone kids (abstracted_all v kids) else abstracted_all v kids)
+    ≡ mixed v (if is then count kids - count (later kids) else count kids) kids
+behind_first v no_kids true = refl
+behind_first v (kid t rest) true = let one : count (kid t rest) - count rest ≡ 1 = omega arith in ap (λ n. mixed v n (kid t rest)) (sym one)
+behind_first v kids false = sym (mixed_whole v kids (count kids) refl)
 
 kept : (v : Var) (op : Op) (kids : Forest)
-    → (if (captures op).set kids v then ending_in ((captures op).reach kids) (abstracted_all v kids) else abstracted_all v kids)
+    → (if (captures op).set kids v then (if binds_behind op then first_alone kids (abstracted_all v kids) else kids) else abstracted_all v kids)
     ≡ mixed v (entered v op kids) kids
-kept v Op'.Box kids = chosen v _ (later kids) kids (behind_first v kids)
-kept v Op'.Dia kids = chosen v _ (later kids) kids (behind_first v kids)
-kept v Op'.Seq kids = chosen v _ (later kids) kids (behind_first v kids)
-kept v op kids = chosen v ((captures op).set kids v) kids kids (in_all v kids)
+kept v Op'.Box kids = behind_first v kids ((captures Op'.Box).set kids v)
+kept v Op'.Dia kids = behind_first v kids ((captures Op'.Dia).set kids v)
+kept v Op'.Seq kids = behind_first v kids ((captures Op'.Seq).set kids v)
+kept v op kids = in_all v kids ((captures op).set kids v)
 
 not_dot : (is : Bool) (x y : Tree) → is ≡ false → (if is then x else y) ≡ y
 not_dot false x y e = refl

@@ -8,10 +8,9 @@ use Rattle.dlk_tree.specs.declared.op.Op.TheVariants as Op'
 use Rattle.dlk_tree.specs.Trees.{Tree, node, Forest, no_kids, kid, sorts, WellMade}
 use Rattle.dlk_tree.specs.Occurs.{any_has, is_some_dot}
 use Rattle.dlk_tree.proofs.Same.{var_eq_decides}
-use Rattle.dlk_calculus.specs.Kids.{later}
 use Rattle.dlk_calculus.specs.Captures.{captures}
 use Rattle.dlk_calculus.specs.Plug.{Plug, PlugAll}
-use Rattle.dlk_match.specs.Abstract.{count, ending_in, is_variable, with_dot, abstracted, abstracted_all}
+use Rattle.dlk_match.specs.Abstract.{is_variable, binds_behind, first_alone, with_dot, abstracted, abstracted_all}
 use Rattle.dlk_match.proofs.Targets.{IsTarget, AreTargets, target_kids, target_first, target_rest, plain_at, plug_all_plain}
 
 pub variable_is : (v : Var) (op : Op) → is_variable v op ≡ true → op ≡ Op'.Variable v
@@ -28,31 +27,9 @@ leaf_is v op kids e made =
     let none = childless kids fits.0.kids_fit in
     λ i. node (e i) (none i)
 
--- the kids that an operator reaches are all, or all but the first
-pub reached : (op : Op) (kids : Forest) → ((captures op).reach kids ≡ kids) ⊎ ((captures op).reach kids ≡ later kids)
-reached Op'.Box kids = inr refl
-reached Op'.Dia kids = inr refl
-reached Op'.Seq kids = inr refl
-reached _ kids = inl refl
-
 module _ (v : Var) where
   abbrev args : List Tree
   args = node (Op'.Variable v) no_kids ∷ []
-
-  same_count : (ts : Forest) → count (abstracted_all v ts) ≡ count ts
-  same_count no_kids = refl
-  same_count (kid t rest) = ap (λ n. n + 1) (same_count rest)
-
-  pub ending_whole : (ts : Forest) → ending_in ts (abstracted_all v ts) ≡ ts
-  ending_whole no_kids = refl
-  ending_whole (kid t rest) =
-      ap (λ b. cond b (kid t rest) (kid (abstracted v t) (ending_in (kid t rest) (abstracted_all v rest))))
-      (eq-eqb _ _ (ap (λ n. n + 1) (same_count rest)))
-
-  pub ending_later : (t : Tree) (rest : Forest) → ending_in rest (abstracted_all v (kid t rest)) ≡ kid (abstracted v t) rest
-  ending_later t rest =
-      let longer : (count (abstracted_all v rest) + 1 == count rest) ≡ false = ne_eqb _ _ (λ e. let same = same_count rest in omega (arith, e, same)) in
-      ap (λ b. cond b rest (kid (abstracted v t) (ending_in rest (abstracted_all v rest)))) longer ∙ ap (kid (abstracted v t)) (ending_whole rest)
 
   -- each of these is given back
   abbrev EachBack : Forest → Type 0
@@ -76,24 +53,18 @@ module _ (v : Var) where
       λ i. kid (a i) (b i)
 
   -- all stay as they were, or all but the first
-  whole_back : (es ts : Forest) → any_has is_some_dot es ≡ false → PlugAll args (ending_in es (abstracted_all v es)) ts → ts ≡ es
-  whole_back es ts plain p = plug_all_plain args es ts plain (subst (λ us. PlugAll args us ts) (ending_whole es) p)
-
-  later_back : (es ts : Forest) → any_has is_some_dot es ≡ false → EachBack es → PlugAll args (ending_in (later es) (abstracted_all v es)) ts → ts ≡ es
+  later_back : (es ts : Forest) → any_has is_some_dot es ≡ false → EachBack es → PlugAll args (first_alone es (abstracted_all v es)) ts → ts ≡ es
   later_back no_kids ts plain each p = plug_all_plain args no_kids ts plain p
-  later_back (kid e es) ts plain each p =
-      first_back e es ts (or_parts _ _ plain).1 each (subst (λ us. PlugAll args us ts) (ending_later e es) p)
+  later_back (kid e es) ts plain each p = first_back e es ts (or_parts _ _ plain).1 each p
 
-  captured_back : (op : Op) (es ts : Forest) → any_has is_some_dot es ≡ false → EachBack es →
-      PlugAll args (ending_in ((captures op).reach es) (abstracted_all v es)) ts → ts ≡ es
-  captured_back op es ts plain each p = elim (reached op es) [
-    | inl e ↦ whole_back es ts plain (subst (λ tail. PlugAll args (ending_in tail (abstracted_all v es)) ts) e p)
-    | inr e ↦ later_back es ts plain each (subst (λ tail. PlugAll args (ending_in tail (abstracted_all v es)) ts) e p)
-  ]
+  captured_back : (es ts : Forest) (is_behind : Bool) → any_has is_some_dot es ≡ false → EachBack es →
+      PlugAll args (cond is_behind (first_alone es (abstracted_all v es)) es) ts → ts ≡ es
+  captured_back es ts true plain each p = later_back es ts plain each p
+  captured_back es ts false plain each p = plug_all_plain args es ts plain p
 
   kids_back : (op : Op) (es ts : Forest) (is_captured : Bool) → any_has is_some_dot es ≡ false → EachBack es →
-      PlugAll args (cond is_captured (ending_in ((captures op).reach es) (abstracted_all v es)) (abstracted_all v es)) ts → ts ≡ es
-  kids_back op es ts true plain each p = captured_back op es ts plain each p
+      PlugAll args (cond is_captured (cond (binds_behind op) (first_alone es (abstracted_all v es)) es) (abstracted_all v es)) ts → ts ≡ es
+  kids_back op es ts true plain each p = captured_back es ts (binds_behind op) plain each p
   kids_back op es ts false plain each p = all_back es ts each p
 
   node_back : (op : Op) (es new : Forest) (t : Tree) → IsTarget (node op es) → EachBack es →
@@ -101,7 +72,7 @@ module _ (v : Var) where
   node_back op es new t target each p = go (is_variable v op) refl p
     where
       rest : Forest
-      rest = cond ((captures op).set es v) (ending_in ((captures op).reach es) (abstracted_all v es)) (abstracted_all v es)
+      rest = cond ((captures op).set es v) (cond (binds_behind op) (first_alone es (abstracted_all v es)) es) (abstracted_all v es)
 
       go : (b : Bool) → is_variable v op ≡ b → Plug args (cond b (node (Op'.Dot 0) no_kids) (node op rest)) t → t ≡ node op es
       go true is q = same_Some t _ (sym q.2) ∙ sym (leaf_is v op es (variable_is v op is) target.0)

@@ -95,50 +95,49 @@ pub record SystemMatches (items : List OdeItem) (e : Tree) (Kids : Forest → Ex
   pub taken : TakeMembers items (members target_items target_kids) old mid sides
   pub kids : Kids (forest (sides ++ last target_kids ∷ [])) mid new
 
--- The operator of the key, over kids that match kids of this kind, matches e. One row an operator.
+-- How an operator of the key matches.
+pub data Way : Type 0 where
+  -- the same operator
+  Like : Way
+  -- its name gets a name, and the operator with that one
+  Renames : List ℕ → (List ℕ → Op) → Way
+  -- the symbol is replaced
+  Replaces : Sym → Way
+  -- and so is this one, by what abstracts the target by its argument
+  Applies : Sym → Way
+  -- the items take the members of a system
+  Takes : List OdeItem → Way
+  -- nothing matches
+  Refuses : Way
+
+-- the table of ways: an operator that isn't here matches its like
+abbrev pub way : Op → Way
+way (Op'.Variable v) = Renames v.name (λ y. Op'.Variable (record { name = y; primed = v.primed }))
+way (Op'.Forall x) = Renames x Op'.Forall
+way (Op'.Exists x) = Renames x Op'.Exists
+way (Op'.Assign v) = Renames v.name (λ y. Op'.Assign (record { name = y; primed = v.primed }))
+way (Op'.Any x) = Renames x Op'.Any
+way (Op'.UnitFun s) = Replaces s
+way (Op'.UnitPred s) = Replaces s
+way (Op'.Const s) = Replaces s
+way (Op'.Apply s) = Applies s
+way (Op'.Holds s) = Applies s
+way (Op'.System items) = Takes items
+way (Op'.Predicational s) = Refuses
+way op = Like
+
+-- The operator of the key, which matches in this way, over kids that match kids of this kind, matches e.
+abbrev pub MatchesBy : Way → Op → Forest → Tree → (Forest → Extra → Extra → Type 0) → Extra → Extra → Type 0
+MatchesBy Like op kids e Kids old new = Over op e Kids old new
+MatchesBy (Renames x called) op kids e Kids old new = (y : List ℕ) × (mid : Extra) × GetsName x y old mid × Over (called y) e Kids mid new
+MatchesBy (Replaces s) op kids e Kids old new = GetsReplacement s e old new
+MatchesBy (Applies s) op kids e Kids old new = Application s kids e old new
+MatchesBy (Takes items) op kids e Kids old new = SystemMatches items e Kids old new
+MatchesBy Refuses op kids e Kids old new = ⊥
+
+-- the same, in its own way
 abbrev pub MatchesAt : Op → Forest → Tree → (Forest → Extra → Extra → Type 0) → Extra → Extra → Type 0
-MatchesAt (Op'.Variable v) kids e Kids old new = (y : List ℕ) × (mid : Extra) × GetsName v.name y old mid × Over (Op'.Variable (record { name = y; primed = v.primed })) e Kids mid new
-MatchesAt (Op'.Number n) kids e Kids old new = Over (Op'.Number n) e Kids old new
-MatchesAt (Op'.Dot n) kids e Kids old new = Over (Op'.Dot n) e Kids old new
-MatchesAt (Op'.UnitFun s) kids e Kids old new = GetsReplacement s e old new
-MatchesAt (Op'.Apply s) kids e Kids old new = Application s kids e old new
-MatchesAt Op'.Neg kids e Kids old new = Over Op'.Neg e Kids old new
-MatchesAt Op'.Diff kids e Kids old new = Over Op'.Diff e Kids old new
-MatchesAt Op'.Add kids e Kids old new = Over Op'.Add e Kids old new
-MatchesAt Op'.Sub kids e Kids old new = Over Op'.Sub e Kids old new
-MatchesAt Op'.Mul kids e Kids old new = Over Op'.Mul e Kids old new
-MatchesAt Op'.Div kids e Kids old new = Over Op'.Div e Kids old new
-MatchesAt Op'.Pow kids e Kids old new = Over Op'.Pow e Kids old new
-MatchesAt Op'.True kids e Kids old new = Over Op'.True e Kids old new
-MatchesAt Op'.False kids e Kids old new = Over Op'.False e Kids old new
-MatchesAt Op'.Hole kids e Kids old new = Over Op'.Hole e Kids old new
-MatchesAt (Op'.UnitPred s) kids e Kids old new = GetsReplacement s e old new
-MatchesAt (Op'.Holds s) kids e Kids old new = Application s kids e old new
-MatchesAt Op'.Eq kids e Kids old new = Over Op'.Eq e Kids old new
-MatchesAt Op'.Ne kids e Kids old new = Over Op'.Ne e Kids old new
-MatchesAt Op'.Ge kids e Kids old new = Over Op'.Ge e Kids old new
-MatchesAt Op'.Gt kids e Kids old new = Over Op'.Gt e Kids old new
-MatchesAt Op'.Le kids e Kids old new = Over Op'.Le e Kids old new
-MatchesAt Op'.Lt kids e Kids old new = Over Op'.Lt e Kids old new
-MatchesAt (Op'.Predicational s) kids e Kids old new = ⊥
-MatchesAt Op'.Not kids e Kids old new = Over Op'.Not e Kids old new
-MatchesAt Op'.DiffF kids e Kids old new = Over Op'.DiffF e Kids old new
-MatchesAt (Op'.Forall x) kids e Kids old new = (y : List ℕ) × (mid : Extra) × GetsName x y old mid × Over (Op'.Forall y) e Kids mid new
-MatchesAt (Op'.Exists x) kids e Kids old new = (y : List ℕ) × (mid : Extra) × GetsName x y old mid × Over (Op'.Exists y) e Kids mid new
-MatchesAt Op'.And kids e Kids old new = Over Op'.And e Kids old new
-MatchesAt Op'.Or kids e Kids old new = Over Op'.Or e Kids old new
-MatchesAt Op'.Imply kids e Kids old new = Over Op'.Imply e Kids old new
-MatchesAt Op'.Equiv kids e Kids old new = Over Op'.Equiv e Kids old new
-MatchesAt Op'.Box kids e Kids old new = Over Op'.Box e Kids old new
-MatchesAt Op'.Dia kids e Kids old new = Over Op'.Dia e Kids old new
-MatchesAt (Op'.Const s) kids e Kids old new = GetsReplacement s e old new
-MatchesAt (Op'.Assign v) kids e Kids old new = (y : List ℕ) × (mid : Extra) × GetsName v.name y old mid × Over (Op'.Assign (record { name = y; primed = v.primed })) e Kids mid new
-MatchesAt (Op'.Any x) kids e Kids old new = (y : List ℕ) × (mid : Extra) × GetsName x y old mid × Over (Op'.Any y) e Kids mid new
-MatchesAt Op'.Test kids e Kids old new = Over Op'.Test e Kids old new
-MatchesAt (Op'.System items) kids e Kids old new = SystemMatches items e Kids old new
-MatchesAt Op'.Choice kids e Kids old new = Over Op'.Choice e Kids old new
-MatchesAt Op'.Seq kids e Kids old new = Over Op'.Seq e Kids old new
-MatchesAt Op'.Loop kids e Kids old new = Over Op'.Loop e Kids old new
+MatchesAt op kids e Kids old new = MatchesBy (way op) op kids e Kids old new
 
 abbrev mutual
   -- Matches key e old new: the key matches e, from the names and pairs of before to these

@@ -3,8 +3,8 @@ ghost use Rattle.std.specs.Prelude.{◌≡◌, ◌-◌, ◌≤◌, IfOk, All, Li
 ghost use Rattle.dlk_tree.specs.Trees.{Tree, node};
 ghost use Rattle.dlk_store.specs.Stores.{IsId, tree, kid_trees, StandsFor};
 ghost use Rattle.dlk_calculus.specs.Captures.{captures};
-ghost use Rattle.dlk_match.specs.Abstract.{count, is_variable, abstracted};
-ghost use Rattle.dlk_match.specs.Entered.{entered};
+ghost use Rattle.dlk_match.specs.Abstract.{is_variable, abstracted};
+ghost use Rattle.dlk_match.specs.Entered.{count, entered};
 
 use dlk_store::{Id, Steps, Store, StoreFault};
 use dlk_tree::{Op, Var};

@@ -1,7 +1,8 @@
 //! Whether what was parsed is within the limits.
-ghost use Rattle.std.specs.Prelude.{◌≡◌, MatchResult, map};
+ghost use Rattle.std.specs.Prelude.{◌≡◌, ◌≢◌, MatchResult, IfErr, map};
 ghost use Rattle.dlk_calculus.specs.Limits.{most_nodes, greatest_depth};
 ghost use Rattle.dlk_parse.specs.Limits.{least_ill, past, KnowsWithin, KnowsBeyond, IsAmong};
+ghost use Rattle.dlk_parse.specs.declared.fault.ParseFault.TheVariants.{Memory};
 ghost use Rattle.dlk_parse.specs.Said.{HasPlaces, IsWithin, IsCodeBeyond};
 
 use crate::fault::ParseFault;
@@ -49,7 +50,8 @@ fn least_ill(measures: &[Measure]) -> Option<usize>
 #[tactic(auto, using(crate::proofs::Within::ill_at, crate::proofs::Within::big_is, crate::proofs::Within::deep_is, crate::proofs::Within::fine_is))]
 fn check_limits(starts: &[usize], measures: &[Measure]) -> Result<(), ParseFault>
     requires { IsAmong measures.now starts.now }
-    ensures { MatchResult result (λ _. KnowsWithin measures.now) (KnowsBeyond measures.now starts.now) }
+    ensures limits { MatchResult result (λ _. KnowsWithin measures.now) (KnowsBeyond measures.now starts.now) }
+    ensures decides { IfErr result (λ why. why ≢ Memory) }
 {
     if let Some(place) = least_ill(measures) {
         return Err(ParseFault::Shape { at: starts[place] });

@@ -12,7 +12,7 @@ use Rattle.dlk_calculus.specs.Limits.{most_leaves, most_rows, IsSmall, IsShallow
 use Rattle.dlk_calculus.specs.Limited.{InSequent}
 use Rattle.dlk_calculus.specs.Notation.{eq}
 use Rattle.dlk_calculus.specs.Pairs.{Extra}
-use Rattle.dlk_calculus.specs.Paths.{subtree, put_at}
+use Rattle.dlk_calculus.specs.Paths.{subtree, put_at, IsInnermost}
 use Rattle.dlk_calculus.specs.Places.{At}
 use Rattle.dlk_calculus.specs.Provables.{Provable, AreNew, no_more}
 use Rattle.dlk_calculus.specs.Provables.{there as is_there, added as is_added}
@@ -23,7 +23,7 @@ use Rattle.dlk_calculus.proofs.PathLaws.{put_made, put_sort, put_there, subtree_
 use Rattle.dlk_kernel.specs.Taken.{Takes}
 use Rattle.dlk_match.specs.Matching.{Match}
 use Rattle.dlk_sequent.specs.declared.sequent.Place.TheVariants.{Succ}
-use Rattle.dlk_uses.specs.Uses.{Forwards, Use, key, may_stand, instance, by_equivalence, by_equation, by_conditional_equation, IsAround, smallest, Finishes, equivalence, equation, conditional_equation, proved}
+use Rattle.dlk_uses.specs.Uses.{Forwards, Use, key, may_stand, instance, by_equivalence, by_equation, by_conditional_equation, Finishes, equivalence, equation, conditional_equation, proved}
 use Rattle.dlk_uses.proofs.Instance.{proved_is}
 use Rattle.dlk_derive.specs.Derives.{use_of}
 use Rattle.dlk_derive.specs.Plans.{Call}
@@ -165,7 +165,7 @@ pub record OnWay (e : Tree) (path outer inner : List ℕ) (d : Tree) : Type 0 wh
 -- what follows of it
 record TermThere (e : Tree) (path outer inner : List ℕ) (d l next : Tree) : Type 0 where
   site : TermSite e outer inner d l next
-  around : IsAround e path outer inner d
+  around : IsInnermost e path outer inner d
   same : put_at e path next ≡ put_at e outer (put_at d inner next)
 
 -- a condition that may be a leaf
@@ -186,12 +186,12 @@ module _ {rows : List Provable} {n : ℕ} {c : Sequent} {leaves : List Sequent} 
       record {
         site = term_site_of e outer inner d l next st.formula st.roomy on.way on.is_formula inside x.sort_is on.plain (plain_term next y next_fine)
             (subst IsFine same st.new_fine);
-        around = smallest st.formula.sort_is (record {
+        around = record {
           parts = on.parts;
           stands = on.way;
           is_formula = on.is_formula;
           smallest = none_below inner d l (subtree_made e outer d st.formula.well_made on.way) inside on.plain;
-        });
+        };
         same = same;
       }
 

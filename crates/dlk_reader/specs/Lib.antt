@@ -3,3 +3,4 @@ pub mod Halves
 pub mod Shows
 pub mod Ends
 pub mod Outcomes
+pub mod Owed

@@ -6,6 +6,7 @@ ghost use Rattle.dlk_machine.specs.Machine.{Part as MachinePart, items_step, ite
 ghost use Rattle.dlk_grammar.specs.Lexemes.{CloseBrace};
 ghost use Rattle.dlk_reader.specs.Codes.{postfix_terms};
 ghost use Rattle.dlk_reader.specs.Outcomes.{leaving};
+ghost use Rattle.dlk_reader.specs.Owed.{Owes};
 ghost use Rattle.dlk_reader.specs.Shows.{seen, equations_of, space_of, IsOpen, Shows, Agrees};
 ghost use Rattle.dlk_reader.specs.declared.stack.Stack.{Stack as TheStack};
 
@@ -125,8 +126,10 @@ impl Stack {
         name: Name,
         lexeme: Lexeme,
     ) -> Result<(), StepFault>
-        ensures { (S : List MachinePart) (n : ℕ) (l : MachineItems) → equations ≡ equations_of n l → IsOpen self.old S (postfix_terms l)
+        ensures agrees { (S : List MachinePart) (n : ℕ) (l : MachineItems) → equations ≡ equations_of n l → IsOpen self.old S (postfix_terms l)
             → Agrees (Shows self.new) (leaving mode.new result) (item_prime_step S n l name (seen lexeme)) }
+        ensures owed { (S : List MachinePart) (n : ℕ) (l : MachineItems) → equations ≡ equations_of n l → IsOpen self.old S (postfix_terms l)
+            → Owes (leaving mode.new result) (item_prime_step S n l name (seen lexeme)) }
     {
         match lexeme {
             Lexeme::Op(Infix::Equal) => self.open(

@@ -11,6 +11,7 @@ ghost use Rattle.dlk_tree.specs.declared.op.Sort.TheVariants as sort_of;
 ghost use Rattle.dlk_reader.specs.declared.code.Code.TheVariants as code;
 ghost use Rattle.dlk_reader.specs.Codes.{postfix};
 ghost use Rattle.dlk_reader.specs.Outcomes.{leaving};
+ghost use Rattle.dlk_reader.specs.Owed.{Owes};
 ghost use Rattle.dlk_reader.specs.Shows.{seen, said, shape, part_code, quantifier_of, tail_of, left_opened, IsOpen, Stands, Shows, Agrees};
 
 use crate::code::Code;
@@ -37,8 +38,10 @@ impl Stack {
 
     /// Opens a part of a formula.
     fn open_formula(&mut self, goal: Sort, mode: &mut Mode, part: Part) -> Result<(), StepFault>
-        ensures { (S : List MachinePart) (e : MachinePart) → part ≡ shape e → IsOpen self.old S (part_code e)
+        ensures agrees { (S : List MachinePart) (e : MachinePart) → part ≡ shape e → IsOpen self.old S (part_code e)
             → Agrees (Shows self.new) (leaving mode.new result) (when (fits goal sort_of.Formula S) (Some (Wants (e ∷ S)))) }
+        ensures owed { (S : List MachinePart) (e : MachinePart) → part ≡ shape e → IsOpen self.old S (part_code e)
+            → Owes (leaving mode.new result) (when (fits goal sort_of.Formula S) (Some (Wants (e ∷ S)))) }
     {
         if !self.fits(goal, Sort::Formula) {
             return Err(StepFault::Syntax);
@@ -58,8 +61,10 @@ impl Stack {
     }
 
     fn leaf_formula(&mut self, goal: Sort, mode: &mut Mode, op: Op) -> Result<(), StepFault>
-        ensures { (S : List MachinePart) (t : Phrase) → postfix t ≡ code.Operator op ∷ [] → IsOpen self.old S []
+        ensures agrees { (S : List MachinePart) (t : Phrase) → postfix t ≡ code.Operator op ∷ [] → IsOpen self.old S []
             → Agrees (Shows self.new) (leaving mode.new result) (when (fits goal sort_of.Formula S) (Some (Has S (Is sort_of.Formula t Done)))) }
+        ensures owed { (S : List MachinePart) (t : Phrase) → postfix t ≡ code.Operator op ∷ [] → IsOpen self.old S []
+            → Owes (leaving mode.new result) (when (fits goal sort_of.Formula S) (Some (Has S (Is sort_of.Formula t Done)))) }
     {
         if !self.fits(goal, Sort::Formula) {
             return Err(StepFault::Syntax);
@@ -73,8 +78,10 @@ impl Stack {
         mode: &mut Mode,
         quantifier: Quantifier,
     ) -> Result<(), StepFault>
-        ensures { (S : List MachinePart) (q : MachineQuantifier) → quantifier ≡ quantifier_of q → IsOpen self.old S []
+        ensures agrees { (S : List MachinePart) (q : MachineQuantifier) → quantifier ≡ quantifier_of q → IsOpen self.old S []
             → Agrees (Shows self.new) (leaving mode.new result) (when (fits goal sort_of.Formula S) (Some (Binds S q))) }
+        ensures owed { (S : List MachinePart) (q : MachineQuantifier) → quantifier ≡ quantifier_of q → IsOpen self.old S []
+            → Owes (leaving mode.new result) (when (fits goal sort_of.Formula S) (Some (Binds S q))) }
     {
         if !self.fits(goal, Sort::Formula) {
             return Err(StepFault::Syntax);
@@ -91,8 +98,10 @@ impl Stack {
         mode: &mut Mode,
         lexeme: Lexeme,
     ) -> Result<(), StepFault>
-        ensures { (S : List MachinePart) → IsOpen self.old S []
+        ensures agrees { (S : List MachinePart) → IsOpen self.old S []
             → Agrees (Shows self.new) (leaving mode.new result) (start_operand goal S (seen lexeme)) }
+        ensures owed { (S : List MachinePart) → IsOpen self.old S []
+            → Owes (leaving mode.new result) (start_operand goal S (seen lexeme)) }
     {
         match lexeme {
             Lexeme::Name(at, name) => {
@@ -160,8 +169,10 @@ impl Stack {
         last: Last,
         lexeme: Lexeme,
     ) -> Result<(), StepFault>
-        ensures { (S : List MachinePart) (p : Piece) → Stands self.old last S p
+        ensures agrees { (S : List MachinePart) (p : Piece) → Stands self.old last S p
             → Agrees (Shows self.new) (leaving mode.new result) (name_after goal S (seen lexeme) (tail_of p)) }
+        ensures owed { (S : List MachinePart) (p : Piece) → Stands self.old last S p
+            → Owes (leaving mode.new result) (name_after goal S (seen lexeme) (tail_of p)) }
     {
         match last {
             Last::Name { at, name } => self.name_step(goal, mode, at, name, lexeme),
@@ -178,8 +189,10 @@ impl Stack {
         name: Name,
         lexeme: Lexeme,
     ) -> Result<(), StepFault>
-        ensures { (S : List MachinePart) → IsOpen self.old S []
+        ensures agrees { (S : List MachinePart) → IsOpen self.old S []
             → Agrees (Shows self.new) (leaving mode.new result) (name_after goal S (seen lexeme) (Bare at name)) }
+        ensures owed { (S : List MachinePart) → IsOpen self.old S []
+            → Owes (leaving mode.new result) (name_after goal S (seen lexeme) (Bare at name)) }
     {
         match lexeme {
             Lexeme::Open => {
@@ -205,8 +218,10 @@ impl Stack {
 
     /// A prime behind a name or a bracket.
     pub(crate) fn prime_after(&mut self, mode: &mut Mode, last: Last) -> Result<(), StepFault>
-        ensures { (S : List MachinePart) (p : Piece) → Stands self.old last S p
+        ensures agrees { (S : List MachinePart) (p : Piece) → Stands self.old last S p
             → Agrees (Shows self.new) (leaving mode.new result) (prime_after S p (tail_of p)) }
+        ensures owed { (S : List MachinePart) (p : Piece) → Stands self.old last S p
+            → Owes (leaving mode.new result) (prime_after S p (tail_of p)) }
     {
         match last {
             Last::Name { at: _, name } => {
@@ -285,8 +300,10 @@ impl Stack {
         quantifier: Quantifier,
         lexeme: Lexeme,
     ) -> Result<(), StepFault>
-        ensures { (S : List MachinePart) (q : MachineQuantifier) → quantifier ≡ quantifier_of q → IsOpen self.old S []
+        ensures agrees { (S : List MachinePart) (q : MachineQuantifier) → quantifier ≡ quantifier_of q → IsOpen self.old S []
             → Agrees (Shows self.new) (leaving mode.new result) (bind_step S q (seen lexeme)) }
+        ensures owed { (S : List MachinePart) (q : MachineQuantifier) → quantifier ≡ quantifier_of q → IsOpen self.old S []
+            → Owes (leaving mode.new result) (bind_step S q (seen lexeme)) }
     {
         let name = lexeme.into_name()?;
         self.open(mode, Part::Before(Prefix::Bound(quantifier, name)))
@@ -312,8 +329,10 @@ pub(crate) fn bars_name_step(
     taboo: Name,
     lexeme: Lexeme,
 ) -> Result<(), StepFault>
-    ensures { (k : TheStack) (S : List MachinePart) → IsOpen k S []
+    ensures agrees { (k : TheStack) (S : List MachinePart) → IsOpen k S []
         → Agrees (Shows k) (leaving mode.new result) (bars_name_step S name taboo (seen lexeme)) }
+    ensures owed { (k : TheStack) (S : List MachinePart) → IsOpen k S []
+        → Owes (leaving mode.new result) (bars_name_step S name taboo (seen lexeme)) }
 {
     match lexeme {
         Lexeme::BarRound => {

@@ -6,6 +6,7 @@ ghost use Rattle.dlk_reader.specs.declared.code.Code.TheVariants as code;
 ghost use Rattle.dlk_machine.specs.Machine.{Part as MachinePart, Inside, InBrace, Piece, start_statement, statement_step, statement_prime_step, statement_gets_step, statement_star_step, opens_step, opens_name_step, opens_prime_step, star_after, invariant_after, semi_after, invariants_step};
 ghost use Rattle.dlk_reader.specs.Codes.{postfix};
 ghost use Rattle.dlk_reader.specs.Outcomes.{leaving};
+ghost use Rattle.dlk_reader.specs.Owed.{Owes};
 ghost use Rattle.dlk_reader.specs.Shows.{seen, is_star, IsOpen, Stands, Shows, Agrees};
 
 use crate::code::Code;
@@ -24,8 +25,10 @@ impl Stack {
         mode: &mut Mode,
         lexeme: Lexeme,
     ) -> Result<(), StepFault>
-        ensures { (S : List MachinePart) → IsOpen self.old S []
+        ensures agrees { (S : List MachinePart) → IsOpen self.old S []
             → Agrees (Shows self.new) (leaving mode.new result) (start_statement S (seen lexeme)) }
+        ensures owed { (S : List MachinePart) → IsOpen self.old S []
+            → Owes (leaving mode.new result) (start_statement S (seen lexeme)) }
     {
         match lexeme {
             Lexeme::Name(_, name) => {
@@ -48,8 +51,10 @@ impl Stack {
         name: Name,
         lexeme: Lexeme,
     ) -> Result<(), StepFault>
-        ensures { (S : List MachinePart) → IsOpen self.old S []
+        ensures agrees { (S : List MachinePart) → IsOpen self.old S []
             → Agrees (Shows self.new) (leaving mode.new result) (statement_step S name (seen lexeme)) }
+        ensures owed { (S : List MachinePart) → IsOpen self.old S []
+            → Owes (leaving mode.new result) (statement_step S name (seen lexeme)) }
     {
         match lexeme {
             Lexeme::Semi => self.leaf(mode, program_constant(name), Sort::Program),
@@ -72,8 +77,10 @@ impl Stack {
         name: Name,
         lexeme: Lexeme,
     ) -> Result<(), StepFault>
-        ensures { (S : List MachinePart) → IsOpen self.old S []
+        ensures agrees { (S : List MachinePart) → IsOpen self.old S []
             → Agrees (Shows self.new) (leaving mode.new result) (statement_prime_step S name (seen lexeme)) }
+        ensures owed { (S : List MachinePart) → IsOpen self.old S []
+            → Owes (leaving mode.new result) (statement_prime_step S name (seen lexeme)) }
     {
         match lexeme {
             Lexeme::Gets => self.open(mode, Part::Inside(Holder::Assigns { name, primed: true })),
@@ -111,8 +118,10 @@ impl Stack {
         name: Name,
         lexeme: Lexeme,
     ) -> Result<(), StepFault>
-        ensures { (S : List MachinePart) → IsOpen self.old S []
+        ensures agrees { (S : List MachinePart) → IsOpen self.old S []
             → Agrees (Shows self.new) (leaving mode.new result) (statement_star_step S name (seen lexeme)) }
+        ensures owed { (S : List MachinePart) → IsOpen self.old S []
+            → Owes (leaving mode.new result) (statement_star_step S name (seen lexeme)) }
     {
         match lexeme {
             Lexeme::Semi => self.leaf(mode, Op::Any(name), Sort::Program),
@@ -135,8 +144,10 @@ impl Stack {
         at: usize,
         lexeme: Lexeme,
     ) -> Result<(), StepFault>
-        ensures { (S : List MachinePart) → IsOpen self.old S []
+        ensures agrees { (S : List MachinePart) → IsOpen self.old S []
             → Agrees (Shows self.new) (leaving mode.new result) (opens_step S at (seen lexeme)) }
+        ensures owed { (S : List MachinePart) → IsOpen self.old S []
+            → Owes (leaving mode.new result) (opens_step S at (seen lexeme)) }
     {
         match lexeme {
             Lexeme::Name(_, name) => {
@@ -213,8 +224,10 @@ impl Stack {
 
     /// A star behind a brace.
     pub(crate) fn star_after(&mut self, mode: &mut Mode, last: Last) -> Result<(), StepFault>
-        ensures { (S : List MachinePart) (p : Piece) → Stands self.old last S p
+        ensures agrees { (S : List MachinePart) (p : Piece) → Stands self.old last S p
             → Agrees (Shows self.new) (leaving mode.new result) (star_after S p) }
+        ensures owed { (S : List MachinePart) (p : Piece) → Stands self.old last S p
+            → Owes (leaving mode.new result) (star_after S p) }
     {
         match last {
             Last::Tree(sort, Tail::Braced) => {
@@ -234,8 +247,10 @@ impl Stack {
         mode: &mut Mode,
         lexeme: Lexeme,
     ) -> Result<(), StepFault>
-        ensures { (S : List MachinePart) (t : Phrase) → IsOpen self.old S (postfix t)
+        ensures agrees { (S : List MachinePart) (t : Phrase) → IsOpen self.old S (postfix t)
             → Agrees (Shows self.new) (leaving mode.new result) (invariants_step S t (seen lexeme)) }
+        ensures owed { (S : List MachinePart) (t : Phrase) → IsOpen self.old S (postfix t)
+            → Owes (leaving mode.new result) (invariants_step S t (seen lexeme)) }
     {
         match lexeme {
             Lexeme::Open => {
@@ -268,8 +283,10 @@ fn program_constant(name: Name) -> Op
 
 /// `@invariant` behind a brace or its star.
 pub(crate) fn invariant_after(mode: &mut Mode, last: Last) -> Result<(), StepFault>
-    ensures { (k : TheStack) (S : List MachinePart) (p : Piece) → Stands k last S p
+    ensures agrees { (k : TheStack) (S : List MachinePart) (p : Piece) → Stands k last S p
         → Agrees (Shows k) (leaving mode.new result) (invariant_after S p) }
+    ensures owed { (k : TheStack) (S : List MachinePart) (p : Piece) → Stands k last S p
+        → Owes (leaving mode.new result) (invariant_after S p) }
 {
     match last {
         Last::Tree(_, Tail::Braced | Tail::Starred) => {
@@ -284,8 +301,10 @@ pub(crate) fn invariant_after(mode: &mut Mode, last: Last) -> Result<(), StepFau
 
 /// A semicolon behind a brace, its star or its invariants.
 pub(crate) fn semi_after(mode: &mut Mode, last: Last) -> Result<(), StepFault>
-    ensures { (k : TheStack) (S : List MachinePart) (p : Piece) → Stands k last S p
+    ensures agrees { (k : TheStack) (S : List MachinePart) (p : Piece) → Stands k last S p
         → Agrees (Shows k) (leaving mode.new result) (semi_after S p) }
+    ensures owed { (k : TheStack) (S : List MachinePart) (p : Piece) → Stands k last S p
+        → Owes (leaving mode.new result) (semi_after S p) }
 {
     match last {
         Last::Tree(sort, Tail::Braced | Tail::Starred | Tail::Annotated) => {

@@ -17,15 +17,16 @@ use Rattle.dlk_calculus.specs.Limited.{IsLimitedSequent, IsLimited}
 use Rattle.dlk_calculus.specs.Pairs.{Pair, IsWellFormed, AreWellMade}
 use Rattle.dlk_calculus.specs.Places.{At, IsPlace, put}
 use Rattle.dlk_calculus.specs.Sequents.{Sequent, IsFormula, IsSequent}
-use Rattle.dlk_calculus.specs.Rules.{Rule, Close, CloseTrue, CloseFalse, NotL, NotR, AndL, AndR, OrL, OrR, ImplyL, ImplyR, EquivL, EquivR, Cut, CutL, CutR, HideL, HideR, CoHideR, ExchangeL, ExchangeR, SkolemL, SkolemR, BoundL, BoundR, EquivifyR, CommuteEquivL, CommuteEquivR, IsProperRule, Premises}
+use Rattle.dlk_calculus.specs.Rules.{Rule, Cut, CutL, CutR, Arguments, OnePlace, TwoPlaces, PlaceAndFormula, OneFormula, PlaceAndName, arguments_of, AreProper, IsProperRule, Premises}
 use Rattle.dlk_calculus.specs.Provables.{Provable}
 use Rattle.dlk_calculus.specs.Steps.{Step, Substitute, Gives, start, use_axiom, use_rule, leaf, apply, merge, substitute, rename, EachNew, too_big, too_deep, IsWithin, StepOf}
 use Rattle.dlk_calculus.proofs.PlaceLaws.{At_All, At_place, All-front, All-behind}
 use Rattle.dlk_calculus.proofs.WellFormed.{pairs_of_kind}
 use Rattle.dlk_calculus.proofs.LimitLaws.{taken_as_given, step_limited}
+use Rattle.dlk_rules.proofs.SideLaws.{EachPlace, each_place}
 use Rattle.dlk_readback.specs.Readable.{IsWithinLimits, IsReadablePair}
 use Rattle.dlk_lines.specs.Numbers.{IsLineNumber}
-use Rattle.dlk_termtext.specs.Written.{IsReadableFormula, IsReadableSequent, IsWritableRule, IsWritable}
+use Rattle.dlk_termtext.specs.Written.{IsReadableFormula, IsReadableSequent, AreWritable, IsWritableRule, IsWritable}
 use Rattle.dlk_replay.specs.Symbols.{HasSymbols}
 
 -- a place among few
@@ -96,41 +97,38 @@ module _ (s : Sequent) (l : IsLimitedSequent s) where
   one_right : (j : ℕ) → IsPlace s.succ j → IsLineNumber j
   one_right j is = right_number s j l is
 
-  rule_writable : (rule : Rule) (premises : List Sequent) → All IsLimitedSequent premises → IsProperRule rule → Premises rule s premises → IsWritableRule rule
-  rule_writable (Close i j) ps all proper p = (one_left i p.places.0, one_right j p.places.1)
-  rule_writable (CloseTrue j) ps all proper p = one_right j p.places
-  rule_writable (CloseFalse i) ps all proper p = one_left i p.places
-  rule_writable (NotL i) ps all proper p = one_left i p.places
-  rule_writable (NotR j) ps all proper p = one_right j p.places
-  rule_writable (AndL i) ps all proper p = one_left i p.places
-  rule_writable (AndR j) ps all proper p = one_right j p.places
-  rule_writable (OrL i) ps all proper p = one_left i p.places
-  rule_writable (OrR j) ps all proper p = one_right j p.places
-  rule_writable (ImplyL i) ps all proper p = one_left i p.places
-  rule_writable (ImplyR j) ps all proper p = one_right j p.places
-  rule_writable (EquivL i) ps all proper p = one_left i p.places
-  rule_writable (EquivR j) ps all proper p = one_right j p.places
-  rule_writable (Cut h) ps all proper p =
+  -- a rule's own formula is read, where it has one
+  abbrev IsFormulaRead : Arguments → Type 0
+  IsFormulaRead (OnePlace i) = Unit {0}
+  IsFormulaRead (TwoPlaces i k) = Unit {0}
+  IsFormulaRead (PlaceAndFormula i h) = IsReadableFormula h
+  IsFormulaRead (OneFormula h) = IsReadableFormula h
+  IsFormulaRead (PlaceAndName i y) = Unit {0}
+
+  -- since it stands in the first premise
+  formula_read : (rule : Rule) (premises : List Sequent) → All IsLimitedSequent premises → Premises rule s premises → IsFormulaRead (arguments_of rule)
+  formula_read (Cut h) ps all p =
       let first = first_premise _ _ ps p.premises_are all in
       readable h p.shape (cut_formula IsSmall s.ante h first.small.ante) (cut_formula IsShallow s.ante h first.shallow.ante)
-  rule_writable (CutL i h) ps all proper p =
+  formula_read (CutL i h) ps all p =
       let first = first_premise _ _ ps p.premises_are all in
-      (one_left i p.places, readable h p.shape.1 (put_there IsSmall s.ante i h p.places first.small.ante) (put_there IsShallow s.ante i h p.places first.shallow.ante))
-  rule_writable (CutR j h) ps all proper p =
+      readable h p.shape.1 (put_there IsSmall s.ante i h p.places first.small.ante) (put_there IsShallow s.ante i h p.places first.shallow.ante)
+  formula_read (CutR j h) ps all p =
       let first = first_premise _ _ ps p.premises_are all in
-      (one_right j p.places, readable h p.shape.1 (put_there IsSmall s.succ j h p.places first.small.succ) (put_there IsShallow s.succ j h p.places first.shallow.succ))
-  rule_writable (HideL i) ps all proper p = one_left i p.places
-  rule_writable (HideR j) ps all proper p = one_right j p.places
-  rule_writable (CoHideR j) ps all proper p = one_right j p.places
-  rule_writable (ExchangeL i k) ps all proper p = (one_left i p.places.0, one_left k p.places.1)
-  rule_writable (ExchangeR j k) ps all proper p = (one_right j p.places.0, one_right k p.places.1)
-  rule_writable (SkolemL i) ps all proper p = one_left i p.places
-  rule_writable (SkolemR j) ps all proper p = one_right j p.places
-  rule_writable (BoundL i y) ps all proper p = (one_left i p.places, proper)
-  rule_writable (BoundR j y) ps all proper p = (one_right j p.places, proper)
-  rule_writable (EquivifyR j) ps all proper p = one_right j p.places
-  rule_writable (CommuteEquivL i) ps all proper p = one_left i p.places
-  rule_writable (CommuteEquivR j) ps all proper p = one_right j p.places
+      readable h p.shape.1 (put_there IsSmall s.succ j h p.places first.small.succ) (put_there IsShallow s.succ j h p.places first.shallow.succ)
+  formula_read _ ps all p = tt
+
+  by_shape : (a : Arguments) → EachPlace IsLineNumber a → IsFormulaRead a → AreProper a → AreWritable a
+  by_shape (OnePlace i) places formula name = places
+  by_shape (TwoPlaces i k) places formula name = places
+  by_shape (PlaceAndFormula i h) places formula name = (places, formula)
+  by_shape (OneFormula h) places formula name = formula
+  by_shape (PlaceAndName i y) places formula name = (places, name)
+
+  rule_writable : (rule : Rule) (premises : List Sequent) → All IsLimitedSequent premises → IsProperRule rule → Premises rule s premises → IsWritableRule rule
+  rule_writable rule ps all proper p =
+      let places = each_place IsLineNumber s.ante s.succ one_left one_right rule p.places in
+      by_shape (arguments_of rule) places (formula_read rule ps all p) proper
 
 -- a replacement within a limit that no replacement passes
 pair_within : (measure : Tree → ℕ) (limit : ℕ) (pairs : List Pair) → ¬ ¬ All (λ (q : Pair). measure q.by ≤ limit) pairs → (k : ℕ) (d : Pair) → k < length pairs →

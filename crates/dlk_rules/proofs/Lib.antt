@@ -3,5 +3,5 @@ mod KidsOf
 mod Quantified
 pub mod WordLaws
 mod StepsKept
-mod SideLaws
+pub mod SideLaws
 mod Renumbered

@@ -10,7 +10,7 @@ use Rattle.dlk_rules.specs.declared.rule.RuleWord.{RuleWord}
 use Rattle.dlk_rules.specs.declared.rule.TheConstants.{RULE_WORDS}
 use Rattle.dlk_rules.specs.declared.rule.RuleWord.TheVariants as word
 use Rattle.dlk_rules.specs.Steps.{Template, WantsPlace, WantsTwoPlaces, WantsPlaceAndFormula, WantsFormula, WantsPlaceAndName, template}
-use Rattle.dlk_rules.specs.Words.{shape_of, text_of, wanted, named}
+use Rattle.dlk_rules.specs.Words.{shape_of, text_made, text_of, wanted_by, wanted, named}
 
 -- a template with arguments of its shape
 abbrev filled : Template → Arguments → Option Rule
@@ -46,6 +46,48 @@ one_shape r s e = same_Some _ _ (sym (shape_named r) ∙ ap (λ text. option_map
 
 pub shape_wanted : (w : RuleWord) (rule : Rule) → word_of rule ≡ text_of w → shape_of (arguments_of rule) ≡ wanted w
 shape_wanted w rule e = same_Some _ _ (sym (shape_named rule) ∙ ap (λ text. option_map wanted (named text)) e ∙ ap (option_map wanted) (word_named w))
+
+-- a word and arguments
+record Parts : Type 0 where
+  word : List ℕ
+  arguments : Arguments
+
+abbrev parts_of : Rule → Parts
+parts_of rule = record { word = word_of rule; arguments = arguments_of rule }
+
+-- those of what a template makes of arguments of its shape
+abbrev parts_made : Template → Arguments → Option Parts
+parts_made (WantsPlace make) (OnePlace i) = Some (record { word = text_made (WantsPlace make); arguments = OnePlace i })
+parts_made (WantsTwoPlaces make) (TwoPlaces i k) = Some (record { word = text_made (WantsTwoPlaces make); arguments = TwoPlaces i k })
+parts_made (WantsPlaceAndFormula make) (PlaceAndFormula i h) = Some (record { word = text_made (WantsPlaceAndFormula make); arguments = PlaceAndFormula i h })
+parts_made (WantsFormula make) (OneFormula h) = Some (record { word = text_made (WantsFormula make); arguments = OneFormula h })
+parts_made (WantsPlaceAndName make) (PlaceAndName i y) = Some (record { word = text_made (WantsPlaceAndName make); arguments = PlaceAndName i y })
+parts_made _ _ = None
+
+made_of_parts : (w : RuleWord) (a : Arguments) → option_map parts_of (filled (template w) a) ≡ parts_made (template w) a
+made_of_parts word.Close (OnePlace i) = refl
+made_of_parts word.Close _ = refl
+made_of_parts _ (OnePlace i) = refl
+made_of_parts _ _ = refl
+
+fitting : (t : Template) (a : Arguments) → wanted_by t ≡ shape_of a → parts_made t a ≡ Some (record { word = text_made t; arguments = a })
+fitting (WantsPlace make) (OnePlace i) e = refl
+fitting (WantsTwoPlaces make) (TwoPlaces i k) e = refl
+fitting (WantsPlaceAndFormula make) (PlaceAndFormula i h) e = refl
+fitting (WantsFormula make) (OneFormula h) e = refl
+fitting (WantsPlaceAndName make) (PlaceAndName i y) e = refl
+fitting _ _ e = cc
+
+-- a word and arguments of the shape that it wants are those of a rule
+pub rule_made : (w : RuleWord) (a : Arguments) → wanted w ≡ shape_of a → (made : Rule) × (word_of made ≡ text_of w) × (arguments_of made ≡ a)
+rule_made w a e = go (filled (template w) a) (made_of_parts w a ∙ fitting (template w) a e)
+  where
+    go : (o : Option Rule) → option_map parts_of o ≡ Some (record { word = text_of w; arguments = a }) →
+        (made : Rule) × (word_of made ≡ text_of w) × (arguments_of made ≡ a)
+    go None same = absurd (none-some (record { word = text_of w; arguments = a }) same)
+    go (Some made) same =
+        let parts : parts_of made ≡ record { word = text_of w; arguments = a } = same_Some _ _ same in
+        (made, ap (λ (p : Parts). p.word) parts, ap (λ (p : Parts). p.arguments) parts)
 
 -- what is found passes the test
 passes : (p : RuleWord → Bool) (ws : List RuleWord) (w : RuleWord) → find p ws ≡ Some w → p w ≡ true

@@ -1,8 +1,9 @@
 //! The rules that close a goal, a function a rule. Each is drawn with its premises over its conclusion, in which A is the left side of
 //! the sequent and S the right side.
-ghost use Rattle.std.specs.Prelude.{IfOk, IfErr};
+ghost use Rattle.std.specs.Prelude.{◌≢◌, IfOk, IfErr};
 ghost use Rattle.dlk_calculus.specs.Rules.{Close, CloseTrue, CloseFalse, FirstAgainst};
 ghost use Rattle.dlk_sequent.specs.Sequents.{sequent_at, IsKnown};
+ghost use Rattle.dlk_rules.specs.declared.rule.RuleFault.TheVariants.{Memory};
 ghost use Rattle.dlk_rules.specs.Steps.{ArePremises, IsRuleFault};
 
 use crate::look::{check_leaf, formula_at};
@@ -30,6 +31,7 @@ pub(crate) fn close<S: Store>(
     requires { IsKnown (S.trees store.now) s.now }
     ensures made { IfOk result (ArePremises (Close i j) (S.trees store.now) s.now (S.trees store.now)) }
     ensures fault { IfErr result (IsRuleFault (FirstAgainst (Close i j) (sequent_at (S.trees store.now) s.now))) }
+    ensures decides { IfErr result (λ why. why ≢ Memory) }
 {
     let f = formula_at(store, &s.ante, i)?;
     let g = formula_at(store, &s.succ, j)?;
@@ -56,6 +58,7 @@ pub(crate) fn close_true<S: Store, L: Ledger>(
     requires { IsKnown (S.trees store.now) s.now }
     ensures made { IfOk result (ArePremises (CloseTrue j) (S.trees store.now) s.now (S.trees store.now)) }
     ensures fault { IfErr result (IsRuleFault (FirstAgainst (CloseTrue j) (sequent_at (S.trees store.now) s.now))) }
+    ensures decides { IfErr result (λ why. why ≢ Memory) }
 {
     check_leaf(store, &s.succ, j, &Op::True, steps)?;
     Ok(Vec::new(alloc))
@@ -78,6 +81,7 @@ pub(crate) fn close_false<S: Store, L: Ledger>(
     requires { IsKnown (S.trees store.now) s.now }
     ensures made { IfOk result (ArePremises (CloseFalse i) (S.trees store.now) s.now (S.trees store.now)) }
     ensures fault { IfErr result (IsRuleFault (FirstAgainst (CloseFalse i) (sequent_at (S.trees store.now) s.now))) }
+    ensures decides { IfErr result (λ why. why ≢ Memory) }
 {
     check_leaf(store, &s.ante, i, &Op::False, steps)?;
     Ok(Vec::new(alloc))

@@ -1,11 +1,12 @@
 //! What a rule looks at: the formulas at its places, their top operators and their kids.
-ghost use Rattle.std.specs.Prelude.{◌≡◌, ◌∷◌, [], All, map, IfOk, IfErr};
+ghost use Rattle.std.specs.Prelude.{◌≡◌, ◌≢◌, ◌∷◌, [], All, map, IfOk, IfErr};
 ghost use Rattle.dlk_tree.specs.declared.op.Sort.TheVariants.{Formula};
 ghost use Rattle.dlk_tree.specs.Table.{kid_sorts};
 ghost use Rattle.dlk_tree.specs.Trees.{Tree, Forest, node};
 ghost use Rattle.dlk_store.specs.Stores.{IsId, tree};
 ghost use Rattle.dlk_calculus.specs.Notation.{leaf, one, two};
 ghost use Rattle.dlk_calculus.specs.Places.{At};
+ghost use Rattle.dlk_rules.specs.declared.rule.RuleFault.TheVariants.{Memory};
 ghost use Rattle.dlk_rules.specs.Looks.{IsAt, IsNodeAt, IsKidAt, AreKidsAt, IsPlaceFault, IsFormFault};
 
 use crate::rule::RuleFault;
@@ -56,6 +57,7 @@ fn node_at<'a, S: Store, L: Ledger>(
     requires { All (IsId (S.trees store.now)) side.now }
     ensures ok { IfOk result (λ kids. IsNodeAt (S.trees store.now) (map (tree (S.trees store.now)) side.now) place op.now kids.now) }
     ensures fault { IfErr result (IsFormFault (S.trees store.now) side.now place Forest (node op.now)) }
+    ensures decides { IfErr result (λ why. why ≢ Memory) }
 {
     let top = top_at(store, side, place, steps)?;
     if !same_op(top.op, op) {
@@ -76,6 +78,7 @@ pub(crate) fn check_leaf<S: Store, L: Ledger>(
     requires alone { kid_sorts op.now ≡ [] }
     ensures ok { IfOk result (λ done. At (map (tree (S.trees store.now)) side.now) place (leaf op.now)) }
     ensures fault { IfErr result (IsFormFault (S.trees store.now) side.now place (Unit {0}) (λ p. leaf op.now)) }
+    ensures decides { IfErr result (λ why. why ≢ Memory) }
 {
     node_at(store, side, place, op, steps)?;
     Ok(())
@@ -93,6 +96,7 @@ pub(crate) fn kid_at<S: Store, L: Ledger>(
     requires kid { kid_sorts op.now ≡ Formula ∷ [] }
     ensures ok { IfOk result (IsKidAt (S.trees store.now) (map (tree (S.trees store.now)) side.now) place op.now) }
     ensures fault { IfErr result (IsFormFault (S.trees store.now) side.now place Tree (one op.now)) }
+    ensures decides { IfErr result (λ why. why ≢ Memory) }
 {
     let kids = node_at(store, side, place, op, steps)?;
     Ok(kids[0])
@@ -110,6 +114,7 @@ pub(crate) fn kids_at<S: Store, L: Ledger>(
     requires kids { kid_sorts op.now ≡ Formula ∷ Formula ∷ [] }
     ensures ok { IfOk result (λ kids. AreKidsAt (S.trees store.now) (map (tree (S.trees store.now)) side.now) place op.now kids.0 kids.1) }
     ensures fault { IfErr result (IsFormFault (S.trees store.now) side.now place (Tree × Tree) (λ p. two op.now p.0 p.1)) }
+    ensures decides { IfErr result (λ why. why ≢ Memory) }
 {
     let kids = node_at(store, side, place, op, steps)?;
     Ok((kids[0], kids[1]))

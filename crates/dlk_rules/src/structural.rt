@@ -1,9 +1,11 @@
 //! The rules of cuts and of the structure of a sequent, a function a rule. Each is drawn with its premises over its conclusion, in which A
 //! is the left side of the sequent and S the right side.
-ghost use Rattle.std.specs.Prelude.{IfOk, IfErr};
+ghost use Rattle.std.specs.Prelude.{◌≡◌, ◌≢◌, Err, IfOk, IfErr};
 ghost use Rattle.dlk_store.specs.Stores.{IsId, tree};
 ghost use Rattle.dlk_calculus.specs.Rules.{Cut, CutL, CutR, HideL, HideR, CoHideR, ExchangeL, ExchangeR, FirstAgainst};
+ghost use Rattle.dlk_calculus.specs.Sequents.{IsFormula};
 ghost use Rattle.dlk_sequent.specs.Sequents.{sequent_at, IsKnown};
+ghost use Rattle.dlk_rules.specs.declared.rule.RuleFault.TheVariants.{WrongShape, Memory};
 ghost use Rattle.dlk_rules.specs.Steps.{IsOfFormulas, ArePremises, IsRuleFault};
 
 use crate::look::formula_at;
@@ -32,6 +34,7 @@ pub(crate) fn cut<S: Store, L: Ledger>(
     requires known { IsKnown (S.trees store.now) s.now }
     ensures made { IfOk result (ArePremises (Cut (tree (S.trees store.now) h)) (S.trees store.now) s.now (S.trees store.now)) }
     ensures fault { IfErr result (IsRuleFault (FirstAgainst (Cut (tree (S.trees store.now) h)) (sequent_at (S.trees store.now) s.now))) }
+    ensures owed { ¬ IsFormula (tree (S.trees store.now) h) → result ≡ Err WrongShape }
 {
     if !is_formula(store, h, steps) {
         return Err(RuleFault::WrongShape);
@@ -62,6 +65,7 @@ pub(crate) fn cut_left<S: Store, L: Ledger>(
     requires sequent { IsOfFormulas (S.trees store.old) s.now }
     ensures made { IfOk result (ArePremises (CutL i (tree (S.trees store.old) h)) (S.trees store.old) s.now (S.trees store.new)) }
     ensures fault { IfErr result (IsRuleFault (FirstAgainst (CutL i (tree (S.trees store.old) h)) (sequent_at (S.trees store.old) s.now))) }
+    ensures owed { ¬ IsFormula (tree (S.trees store.old) h) → result ≢ Err Memory }
     ensures grows { S.grows store.old store.new }
 {
     let f = formula_at(store, &s.ante, i)?;
@@ -96,6 +100,7 @@ pub(crate) fn cut_right<S: Store, L: Ledger>(
     requires sequent { IsOfFormulas (S.trees store.old) s.now }
     ensures made { IfOk result (ArePremises (CutR j (tree (S.trees store.old) h)) (S.trees store.old) s.now (S.trees store.new)) }
     ensures fault { IfErr result (IsRuleFault (FirstAgainst (CutR j (tree (S.trees store.old) h)) (sequent_at (S.trees store.old) s.now))) }
+    ensures owed { ¬ IsFormula (tree (S.trees store.old) h) → result ≢ Err Memory }
     ensures grows { S.grows store.old store.new }
 {
     let f = formula_at(store, &s.succ, j)?;

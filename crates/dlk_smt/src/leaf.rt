@@ -39,10 +39,26 @@ pub fn leaf_text<S: Store, L: Ledger>(
     if is_power(store, s, steps) {
         return Err(SmtFault::Power);
     }
+    append_whole(alloc, store, s, out, steps)?;
+    Ok(())
+}
+
+/// Appends the script of a sequent, whole or not at all but for the bytes that there was memory for.
+fn append_whole<S: Store, L: Ledger>(
+    alloc: Global,
+    store: &S,
+    s: &Sequent,
+    out: &mut Vec<u8>,
+    steps: &mut Steps<L>,
+) -> Result<(), PrintFault>
+    requires known { IsKnown (S.trees store.now) s.now }
+    requires arithmetic { IsTrue (is_arithmetic_sequent (sequent_at (S.trees store.now) s.now)) }
+    ensures ok { OnOk result (out.new.items ≡ out.old.items ++ smt (sequent_at (S.trees store.now) s.now)) }
+    ensures memory { Begun out.old.items out.new.items (smt (sequent_at (S.trees store.now) s.now)) }
+{
     let mut text = Vec::new(alloc);
     append_script(alloc, store, s, &mut text, steps)?;
-    append(out, text.as_slice())?;
-    Ok(())
+    append(out, text.as_slice())
 }
 
 /// Appends what stands before the text of leaf i of several.
@@ -66,14 +82,15 @@ fn append_leaf<S: Store, L: Ledger>(
     requires known { IsKnown (S.trees store.now) s.now }
     requires arithmetic { IsTrue (is_arithmetic_sequent (sequent_at (S.trees store.now) s.now)) }
     ensures first { NamesFirst (first_power i (sequent_at (S.trees store.now) s.now ∷ [])) result }
+    ensures owed { IsTrue (is_power (sequent_at (S.trees store.now) s.now)) → result ≡ Err (LeavesFault.Power i) }
     ensures text { OnOk result (out.new.items ≡ out.old.items ++ leaf_lines i (sequent_at (S.trees store.now) s.now)) }
 {
-    append_head(out, i)?;
-    match leaf_text(alloc, store, s, out, steps) {
-        Ok(()) => Ok(()),
-        Err(SmtFault::Power) => Err(LeavesFault::Power { leaf: i }),
-        Err(SmtFault::Memory) => Err(LeavesFault::Memory),
+    if is_power(store, s, steps) {
+        return Err(LeavesFault::Power { leaf: i });
     }
+    append_head(out, i)?;
+    append_whole(alloc, store, s, out, steps)?;
+    Ok(())
 }
 
 /// The texts of leaves, which are sequents of arithmetic, as one script: each behind a line with its number, and from the second on

@@ -1,35 +1,24 @@
 -- The name and the argument of `derive`.
 use Rattle.std.proofs.Common.{◌≡◌, ℕ, Bool, true, false, List, [], ◌∷◌, map, Option, Some, None, inl, inr, refl, sym, ap, subst, ◌∙◌}
-use Rattle.std.specs.Prelude.{bytes_eq, codes, if◌then◌else◌}
+use Rattle.std.specs.Prelude.{codes}
 use Rattle.std.proofs.lemmas.Slice.Eq.{bytes_eq-Decides}
 use Rattle.dlk_tree.specs.Trees.{Tree}
 use Rattle.dlk_sequent.specs.declared.sequent.Place.{Place}
 use Rattle.dlk_tacsyn.specs.declared.kind.Kind.TheVariants.{FixedPlace}
 use Rattle.dlk_tacsyn.specs.Tactics.{Argument, AtPlace, AnyLeft, AnyRight, Word, GivenFormula, GivenTerm, GivenExtra, Atom}
-use Rattle.dlk_tacsyn.specs.Rows.{Row, wants, row_of, derive_row_of, AreOfKinds, IsFitting, IsDerivation, IsRun}
+use Rattle.dlk_tacsyn.specs.Rows.{Row, row_of, AreOfKinds, IsFitting, IsDerivation, IsRun}
+use Rattle.dlk_tacsyn.proofs.Words.{derive_found}
 use Rattle.dlk_tacsyn.specs.declared.tactic.Arg.{Arg}
 use Rattle.dlk_tacsyn.specs.declared.tactic.Arg.TheVariants as arg
 use Rattle.dlk_tacsyn.specs.declared.tactic.Atom.{Atom as GivenAtom}
 use Rattle.dlk_tacsyn.specs.Ties.{argument_at, atom_at}
 use Rattle.dlk_strategy.specs.Runs.{is_derive}
 
-some_same : (a b : Row) → Some a ≡ Some b → a ≡ b
-some_same a b e = cc e
-
 none_some : (o : Option Row) (a : Row) → o ≡ None → o ≡ Some a → ⊥
 none_some o a none some = cc (none, some)
 
-row_found : (name : List ℕ) (row : Row) → derive_row_of name ≡ Some row → (bytes_eq name (codes "derive") ≡ true) × (row ≡ wants (FixedPlace ∷ []))
-unfolding derive_row_of
-row_found name row is = by (bytes_eq name (codes "derive")) refl is
-  where
-    by : (t : Bool) → bytes_eq name (codes "derive") ≡ t → (if t then Some (wants (FixedPlace ∷ [])) else None) ≡ Some row →
-        (bytes_eq name (codes "derive") ≡ true) × (row ≡ wants (FixedPlace ∷ []))
-    by true e same = (e, sym (some_same (wants (FixedPlace ∷ [])) row same))
-    by false e same = absurd (none_some None row refl same)
-
 pub derivation_is : (atom : Atom) → IsDerivation atom → is_derive atom ≡ true
-derivation_is atom h = (row_found atom.name h.row h.row_is).0
+derivation_is atom h = (derive_found atom.name h.row h.row_is).0
 
 only_place : (arguments : List Argument) → AreOfKinds (FixedPlace ∷ []) None arguments →
     (place : Place) × (path : List ℕ) × (arguments ≡ AtPlace place path ∷ [])
@@ -45,7 +34,7 @@ only_place (GivenExtra x ∷ rest) h = absurd h.0
 
 derivation_kinds : (atom : Atom) → IsDerivation atom → AreOfKinds (FixedPlace ∷ []) None atom.arguments
 derivation_kinds atom h =
-    let same = (row_found atom.name h.row h.row_is).1 in
+    let same = (derive_found atom.name h.row h.row_is).1 in
     subst (λ (r : Row). AreOfKinds r.wanted r.optional atom.arguments) same h.arguments
 
 pub derivation_place : (atom : Atom) → IsDerivation atom → (place : Place) × (path : List ℕ) × (atom.arguments ≡ AtPlace place path ∷ [])

@@ -19,7 +19,7 @@ use Rattle.dlk_tacsyn.specs.declared.argument.Written.{Written}
 use Rattle.dlk_tacsyn.specs.declared.argument.Written.TheVariants as written
 use Rattle.dlk_tacsyn.specs.Tactics.{Argument, Atom, Tactic, Tactics, Choice, Sequence, Branch, Repeat, EachAtom, EachAtomOf, AtPlace, AnyLeft}
 use Rattle.dlk_tacsyn.specs.Tactics.{AnyRight, Word, GivenFormula, GivenTerm, GivenExtra}
-use Rattle.dlk_tacsyn.specs.Rows.{Row, row_of, library_row_of, derive_row_of, text_row_of, or_else}
+use Rattle.dlk_tacsyn.specs.Rows.{Row, text_row_of}
 use Rattle.dlk_tacsyn.specs.Rows.{IsOfKind, AreOfKinds, IsOfText, AreOfText, IsNamedExtra, IsNamed, HasNames}
 use Rattle.dlk_tacsyn.specs.Faults.{Nesting}
 use Rattle.dlk_tacsyn.specs.Faults as fault
@@ -30,6 +30,7 @@ use Rattle.dlk_tacsyn.specs.Strategies.{atom_of, opened, choices_of, sequence_of
 use Rattle.dlk_tacsyn.proofs.Given.{Gives, bind_gives, if_gives, said_gives}
 use Rattle.dlk_tacsyn.proofs.Named.{AreNamedParts, named_front, named_behind, named_parts, IsNamedWritten, AreNamedWritten, all_named}
 use Rattle.dlk_tacsyn.proofs.Renames.{extra_text_named}
+use Rattle.dlk_tacsyn.proofs.Words.{some_row}
 
 -- what holds of a value, if there is one
 abbrev Holds : {A : Type 0} → (A → Type 0) → Option A → Type 0
@@ -147,20 +148,6 @@ module _ (P : Argument → Type 0) where
   then_holds Q R join None more h k = tt
   then_holds Q R join (Some a) None h k = tt
   then_holds Q R join (Some a) (Some all) h k = join a all h k
-
--- a row that is one of two is the first or the other
-either_row : (first other : Option Row) (row : Row) → or_else first other ≡ Some row → (first ≡ Some row) ⊎ (other ≡ Some row)
-either_row (Some r) other row is = inl is
-either_row None other row is = inr is
-
--- the row of a name in a text is that of an atom, or one of the library, or that of `derive`
-some_row : (name : List ℕ) (row : Row) → text_row_of name ≡ Some row →
-    (row_of name ≡ Some row) ⊎ ((library_row_of name ≡ Some row) ⊎ (derive_row_of name ≡ Some row))
-unfolding text_row_of
-some_row name row is = elim (either_row (row_of name) (or_else (library_row_of name) (derive_row_of name)) row is) [
-  | inl e ↦ inl e
-  | inr e ↦ inr (either_row (library_row_of name) (derive_row_of name) row e)
-]
 
 any_formula : (found : Option Tree) → Holds (λ h. IsNamed (GivenFormula h)) found
 any_formula None = tt

@@ -1,9 +1,11 @@
--- The row of a name is that of the word that it is.
-use Rattle.std.proofs.Common.{◌≡◌, ◌≢◌, ℕ, zero, suc, ◌<◌, ◌≤◌, true, false, List, [], ◌∷◌, Option, Some, None, refl, sym, ap, ◌∙◌, inl, inr, arith}
-use Rattle.std.specs.Prelude.{option_map, IsTrue, ◌||◌, ◌==◌, bytes_eq, codes}
+-- The rows of names: those of a text, and those of each doer.
+use Rattle.std.proofs.Common.{◌≡◌, ◌≢◌, ℕ, zero, suc, ◌<◌, ◌≤◌, Bool, true, false, List, [], ◌∷◌, Option, Some, None, refl, sym, ap, ◌∙◌, ◌⊎◌, inl, inr, arith}
+use Rattle.std.specs.Prelude.{option_map, IsTrue, ◌||◌, ◌==◌, if◌then◌else◌, bytes_eq, codes}
 use Rattle.std.specs.Str.{IsAscii, IsUtf8}
 use Rattle.std.specs.List.{list_all}
-use Rattle.std.proofs.lemmas.Bool.{cond-true, cond-false, and_parts, leb-true, or_cases}
+use Rattle.std.proofs.lemmas.Bool.{and_parts, leb-true, or_cases}
+use Rattle.std.proofs.lemmas.Option.{none-some, same_Some}
+use Rattle.std.proofs.lemmas.Slice.Eq.{bytes_eq-Decides}
 use Rattle.std.proofs.lemmas.Str.{IsUtf8-from_ascii}
 use Rattle.dlk_tree.specs.Names.{is_between, is_letter, is_name_byte, is_word, is_name}
 use Rattle.dlk_tree.specs.declared.op.Op.TheVariants.{True}
@@ -15,8 +17,8 @@ use Rattle.dlk_rules.specs.Steps.{Template, WantsPlace, WantsTwoPlaces, WantsPla
 use Rattle.dlk_rules.specs.Words.{text_made, text_of, wanted, named}
 use Rattle.dlk_rules.proofs.WordLaws.{found_word}
 use Rattle.dlk_tacsyn.specs.declared.kind.Kind.TheVariants.{FixedPlace, AnyPlace, QuotedFormula, QuotedTerm, AName, QuotedExtra}
-use Rattle.dlk_tacsyn.specs.Rows.{Row, wants, is_bare, is_use, is_at_place, is_with_formula, kinds_of, row_of, library_row_of, derive_row_of}
-use Rattle.dlk_tacsyn.specs.Rows.{text_row_of, or_else}
+use Rattle.dlk_tacsyn.specs.Rows.{Row, wants, is_bare, is_use, is_at_place, is_with_formula, kinds_of, Doer, Elaborator, Library, Run, Entry, entry}
+use Rattle.dlk_tacsyn.specs.Rows.{rule_entry, entry_of, row_if, row_by, row_found, row_of, library_row_of, derive_row_of, text_row_of}
 
 word_named : (w : RuleWord) → named (text_of w) ≡ Some w
 word_named word.Close = refl
@@ -46,95 +48,195 @@ unnamed name none = by (named name) refl
     by (Some w) e =
         absurd (none (some_rule (template w)) (word_made (template w) ∙ found_word name (Some w) (sym e)))
 
--- the rows of the names that are no rules, and of those that are
-pub row_bare : (name : List ℕ) → is_bare name ≡ true → row_of name ≡ Some (wants [])
-unfolding row_of
-row_bare name bare = cond-true (is_bare name) _ _ bare
+row_of_word : (w : RuleWord) → row_found (rule_entry (text_of w)) ≡ Some (wants (kinds_of (wanted w)))
+row_of_word word.Close = refl
+row_of_word _ = refl
+
+row_of_none : (o : Option RuleWord) → o ≡ None → row_found (option_map (λ w. record { by = Elaborator; row = wants (kinds_of (wanted w)) }) o) ≡ None
+row_of_none None e = refl
+row_of_none (Some w) e = absurd (none-some w (sym e))
+
+-- ---- names in a text
+
+pub text_bare : (name : List ℕ) → is_bare name ≡ true → text_row_of name ≡ Some (wants [])
+unfolding text_row_of
+text_bare name bare = simp (bare)
 
 module _ (name : List ℕ) (bare : is_bare name ≡ false) where
-  pub row_generalized : bytes_eq name (codes "G") ≡ true → row_of name ≡ Some (wants (AnyPlace ∷ []))
-  unfolding row_of
-  row_generalized same = cond-false (is_bare name) _ _ bare ∙ cond-true (bytes_eq name (codes "G")) _ _ same
+  pub text_generalized : bytes_eq name (codes "G") ≡ true → text_row_of name ≡ Some (wants (AnyPlace ∷ []))
+  unfolding text_row_of
+  text_generalized same = simp (bare, same)
 
-  module _ (other : bytes_eq name (codes "G") ≡ false) where
-    pub row_box_cut : bytes_eq name (codes "boxCut") ≡ true → row_of name ≡ Some (wants (QuotedFormula ∷ AnyPlace ∷ []))
-    unfolding row_of
-    row_box_cut same =
-        cond-false (is_bare name) _ _ bare ∙ cond-false (bytes_eq name (codes "G")) _ _ other ∙ cond-true (bytes_eq name (codes "boxCut")) _ _ same
+  module _ (no_generalize : bytes_eq name (codes "G") ≡ false) where
+    pub text_box_cut : bytes_eq name (codes "boxCut") ≡ true → text_row_of name ≡ Some (wants (QuotedFormula ∷ AnyPlace ∷ []))
+    unfolding text_row_of
+    text_box_cut same = simp (bare, no_generalize, same)
 
-    module _ (further : bytes_eq name (codes "boxCut") ≡ false) where
-      pub row_use : is_use name ≡ true → row_of name ≡ Some (record { wanted = AName ∷ AnyPlace ∷ []; optional = Some QuotedExtra })
-      unfolding row_of
-      row_use same =
-          cond-false (is_bare name) _ _ bare ∙ cond-false (bytes_eq name (codes "G")) _ _ other ∙ cond-false (bytes_eq name (codes "boxCut")) _ _ further
-          ∙ cond-true (is_use name) _ _ same
+    module _ (no_cut : bytes_eq name (codes "boxCut") ≡ false) where
+      pub text_use : is_use name ≡ true → text_row_of name ≡ Some (record { wanted = AName ∷ AnyPlace ∷ []; optional = Some QuotedExtra })
+      unfolding text_row_of
+      text_use uses = simp (bare, no_generalize, no_cut, uses)
 
       module _ (no_use : is_use name ≡ false) where
-        row_rule : row_of name ≡ option_map (λ v. wants (kinds_of (wanted v))) (named name)
-        unfolding row_of
-        row_rule =
-            cond-false (is_bare name) _ _ bare ∙ cond-false (bytes_eq name (codes "G")) _ _ other ∙ cond-false (bytes_eq name (codes "boxCut")) _ _ further
-            ∙ cond-false (is_use name) _ _ no_use
+        pub text_prop : bytes_eq name (codes "prop") ≡ true → text_row_of name ≡ Some (wants [])
+        unfolding text_row_of
+        text_prop same = simp (bare, no_generalize, no_cut, no_use, same)
 
-        pub row_named : (w : RuleWord) → text_of w ≡ name → row_of name ≡ Some (wants (kinds_of (wanted w)))
-        row_named w same = row_rule ∙ ap (option_map (λ v. wants (kinds_of (wanted v)))) (ap named (sym same) ∙ word_named w)
+        module _ (no_prop : bytes_eq name (codes "prop") ≡ false) where
+          pub text_at_place : is_at_place name ≡ true → text_row_of name ≡ Some (wants (FixedPlace ∷ []))
+          unfolding text_row_of
+          text_at_place at = simp (bare, no_generalize, no_cut, no_use, no_prop, at)
 
-        pub row_unnamed : ((rule : Rule) → word_of rule ≢ name) → row_of name ≡ None
-        row_unnamed none = row_rule ∙ ap (option_map (λ v. wants (kinds_of (wanted v)))) (unnamed name none)
+          module _ (no_place : is_at_place name ≡ false) where
+            pub text_with_formula : is_with_formula name ≡ true → text_row_of name ≡ Some (wants (QuotedFormula ∷ FixedPlace ∷ []))
+            unfolding text_row_of
+            text_with_formula takes = simp (bare, no_generalize, no_cut, no_use, no_prop, no_place, takes)
 
--- the rows of the library
-pub library_bare : (name : List ℕ) → bytes_eq name (codes "prop") ≡ true → library_row_of name ≡ Some (wants [])
+            module _ (no_formula : is_with_formula name ≡ false) where
+              pub text_ghost : bytes_eq name (codes "dG") ≡ true →
+                  text_row_of name ≡ Some (wants (AName ∷ QuotedTerm ∷ QuotedTerm ∷ FixedPlace ∷ []))
+              unfolding text_row_of
+              text_ghost same = simp (bare, no_generalize, no_cut, no_use, no_prop, no_place, no_formula, same)
+
+              module _ (no_ghost : bytes_eq name (codes "dG") ≡ false) where
+                pub text_derive : bytes_eq name (codes "derive") ≡ true → text_row_of name ≡ Some (wants (FixedPlace ∷ []))
+                unfolding text_row_of
+                text_derive same = simp (bare, no_generalize, no_cut, no_use, no_prop, no_place, no_formula, no_ghost, same)
+
+                pub text_other : bytes_eq name (codes "derive") ≡ false → text_row_of name ≡ row_found (rule_entry name)
+                unfolding text_row_of
+                text_other other = simp (bare, no_generalize, no_cut, no_use, no_prop, no_place, no_formula, no_ghost, other)
+
+-- the row of a rule's word
+pub rule_named : (name : List ℕ) (w : RuleWord) → text_of w ≡ name → row_found (rule_entry name) ≡ Some (wants (kinds_of (wanted w)))
+rule_named name w same = ap (λ n. row_found (rule_entry n)) (sym same) ∙ row_of_word w
+
+pub rule_unnamed : (name : List ℕ) → ((rule : Rule) → word_of rule ≢ name) → row_found (rule_entry name) ≡ None
+rule_unnamed name none = row_of_none (named name) (unnamed name none)
+
+-- a name in a text is of one of the three
+pub some_row : (name : List ℕ) (row : Row) → text_row_of name ≡ Some row →
+    (row_of name ≡ Some row) ⊎ ((library_row_of name ≡ Some row) ⊎ (derive_row_of name ≡ Some row))
+unfolding text_row_of row_of library_row_of derive_row_of
+some_row name row is = by (entry_of name) is
+  where
+    of : (doer : Doer) (found : Row) → Some found ≡ Some row →
+        (row_if Elaborator doer found ≡ Some row) ⊎ ((row_if Library doer found ≡ Some row) ⊎ (row_if Run doer found ≡ Some row))
+    of Elaborator found e = inl e
+    of Library found e = inr (inl e)
+    of Run found e = inr (inr e)
+
+    by : (o : Option Entry) → row_found o ≡ Some row →
+        (row_by Elaborator o ≡ Some row) ⊎ ((row_by Library o ≡ Some row) ⊎ (row_by Run o ≡ Some row))
+    by None e = absurd (none-some row e)
+    by (Some found) e = of found.by found.row e
+
+-- ---- one column
+
+-- a row of another is passed over, where nothing is wanted of its name
+skipped : (doer other : Doer) → ((row : Row) → row_if doer other row ≡ None) → (goal : Option Row) (is : Bool) (row : Row) (rest : Option Entry) →
+    (is ≡ true → goal ≡ None) → row_by doer rest ≡ goal → row_by doer (if is then Some (record { by = other; row = row }) else rest) ≡ goal
+skipped doer other unlike goal true row rest none there = unlike row ∙ sym (none refl)
+skipped doer other unlike goal false row rest none there = there
+
+-- and so is one of another name
+missed : (doer : Doer) (goal : Option Row) (is : Bool) (found rest : Option Entry) → is ≡ false → row_by doer rest ≡ goal →
+    row_by doer (if is then found else rest) ≡ goal
+missed doer goal is found rest e there = ap (λ t. row_by doer (if t then found else rest)) e ∙ there
+
+-- the rows of rules are the elaborator's
+rules_own : (o : Option RuleWord) → row_by Elaborator (option_map (λ word. record { by = Elaborator; row = wants (kinds_of (wanted word)) }) o)
+    ≡ option_map (λ word. wants (kinds_of (wanted word))) o
+rules_own None = refl
+rules_own (Some word) = refl
+
+rules_skipped : (doer : Doer) → ((row : Row) → row_if doer Elaborator row ≡ None) → (o : Option RuleWord) →
+    row_by doer (option_map (λ word. record { by = Elaborator; row = wants (kinds_of (wanted word)) }) o) ≡ None
+rules_skipped doer unlike None = refl
+rules_skipped doer unlike (Some word) = unlike (wants (kinds_of (wanted word)))
+
+-- a word that is no rule's
+no_word : (name word : List ℕ) → named word ≡ None → bytes_eq name word ≡ true → option_map (λ v. wants (kinds_of (wanted v))) (named name) ≡ None
+no_word name word none same =
+    ap (λ n. option_map (λ v. wants (kinds_of (wanted v))) (named n)) ((bytes_eq-Decides name word).0 same)
+    ∙ ap (option_map (λ v. wants (kinds_of (wanted v)))) none
+
+no_place_word : (name : List ℕ) → is_at_place name ≡ true → option_map (λ v. wants (kinds_of (wanted v))) (named name) ≡ None
+no_place_word name is =
+    elim (or_cases (bytes_eq name (codes "dW") || bytes_eq name (codes "dI")) (bytes_eq name (codes "step")) is) [
+      | inl first ↦ elim (or_cases (bytes_eq name (codes "dW")) (bytes_eq name (codes "dI")) first) [
+        | inl same ↦ no_word name (codes "dW") refl same
+        | inr same ↦ no_word name (codes "dI") refl same
+      ]
+      | inr same ↦ no_word name (codes "step") refl same
+    ]
+
+no_formula_word : (name : List ℕ) → is_with_formula name ≡ true → option_map (λ v. wants (kinds_of (wanted v))) (named name) ≡ None
+no_formula_word name is =
+    elim (or_cases (bytes_eq name (codes "loop")) (bytes_eq name (codes "dC")) is) [
+      | inl same ↦ no_word name (codes "loop") refl same
+      | inr same ↦ no_word name (codes "dC") refl same
+    ]
+
+-- what a name that is none of the others wants of the elaborator, it wants as a rule's
+pub row_rule : (name : List ℕ) → is_bare name ≡ false → bytes_eq name (codes "G") ≡ false → bytes_eq name (codes "boxCut") ≡ false →
+    is_use name ≡ false → row_of name ≡ option_map (λ v. wants (kinds_of (wanted v))) (named name)
+unfolding row_of
+row_rule name bare no_generalize no_cut no_use =
+    let goal : Option Row = option_map (λ v. wants (kinds_of (wanted v))) (named name) in
+    let library = skipped Elaborator Library (λ row. refl) goal in
+    missed Elaborator goal (is_bare name) _ _ bare
+    (missed Elaborator goal (bytes_eq name (codes "G")) _ _ no_generalize
+    (missed Elaborator goal (bytes_eq name (codes "boxCut")) _ _ no_cut
+    (missed Elaborator goal (is_use name) _ _ no_use
+    (library (bytes_eq name (codes "prop")) _ _ (no_word name (codes "prop") refl)
+    (library (is_at_place name) _ _ (no_place_word name)
+    (library (is_with_formula name) _ _ (no_formula_word name)
+    (library (bytes_eq name (codes "dG")) _ _ (no_word name (codes "dG") refl)
+    (skipped Elaborator Run (λ row. refl) goal (bytes_eq name (codes "derive")) _ _ (no_word name (codes "derive") refl) (rules_own (named name))))))))))
+
+-- no name but these is in the library
+pub library_none : (name : List ℕ) → bytes_eq name (codes "prop") ≡ false → is_at_place name ≡ false → is_with_formula name ≡ false →
+    bytes_eq name (codes "dG") ≡ false → library_row_of name ≡ None
 unfolding library_row_of
-library_bare name same = cond-true (bytes_eq name (codes "prop")) _ _ same
+library_none name no_prop no_place no_formula no_ghost =
+    let own = skipped Library Elaborator (λ row. refl) None in
+    own (is_bare name) _ _ (λ e. refl)
+    (own (bytes_eq name (codes "G")) _ _ (λ e. refl)
+    (own (bytes_eq name (codes "boxCut")) _ _ (λ e. refl)
+    (own (is_use name) _ _ (λ e. refl)
+    (missed Library None (bytes_eq name (codes "prop")) _ _ no_prop
+    (missed Library None (is_at_place name) _ _ no_place
+    (missed Library None (is_with_formula name) _ _ no_formula
+    (missed Library None (bytes_eq name (codes "dG")) _ _ no_ghost
+    (skipped Library Run (λ row. refl) None (bytes_eq name (codes "derive")) _ _ (λ e. refl) (rules_skipped Library (λ row. refl) (named name))))))))))
 
-module _ (name : List ℕ) (bare : bytes_eq name (codes "prop") ≡ false) where
-  pub library_at_place : is_at_place name ≡ true → library_row_of name ≡ Some (wants (FixedPlace ∷ []))
-  unfolding library_row_of
-  library_at_place at = cond-false (bytes_eq name (codes "prop")) _ _ bare ∙ cond-true (is_at_place name) _ _ at
-
-  module _ (no_place : is_at_place name ≡ false) where
-    pub library_with_formula : is_with_formula name ≡ true → library_row_of name ≡ Some (wants (QuotedFormula ∷ FixedPlace ∷ []))
-    unfolding library_row_of
-    library_with_formula takes =
-        cond-false (bytes_eq name (codes "prop")) _ _ bare ∙ cond-false (is_at_place name) _ _ no_place ∙ cond-true (is_with_formula name) _ _ takes
-
-    module _ (no_formula : is_with_formula name ≡ false) where
-      pub library_ghost : bytes_eq name (codes "dG") ≡ true → library_row_of name ≡ Some (wants (AName ∷ QuotedTerm ∷ QuotedTerm ∷ FixedPlace ∷ []))
-      unfolding library_row_of
-      library_ghost same =
-          cond-false (bytes_eq name (codes "prop")) _ _ bare ∙ cond-false (is_at_place name) _ _ no_place
-          ∙ cond-false (is_with_formula name) _ _ no_formula ∙ cond-true (bytes_eq name (codes "dG")) _ _ same
-
-      pub library_none : bytes_eq name (codes "dG") ≡ false → library_row_of name ≡ None
-      unfolding library_row_of
-      library_none other =
-          cond-false (bytes_eq name (codes "prop")) _ _ bare ∙ cond-false (is_at_place name) _ _ no_place
-          ∙ cond-false (is_with_formula name) _ _ no_formula ∙ cond-false (bytes_eq name (codes "dG")) _ _ other
-
--- the row of `derive`
-pub derive_row : (name : List ℕ) → bytes_eq name (codes "derive") ≡ true → derive_row_of name ≡ Some (wants (FixedPlace ∷ []))
+-- the run plans for `derive` alone
+derive_none : (name : List ℕ) → bytes_eq name (codes "derive") ≡ false → derive_row_of name ≡ None
 unfolding derive_row_of
-derive_row name same = cond-true (bytes_eq name (codes "derive")) _ _ same
+derive_none name other =
+    let own = skipped Run Elaborator (λ row. refl) None in
+    let library = skipped Run Library (λ row. refl) None in
+    own (is_bare name) _ _ (λ e. refl)
+    (own (bytes_eq name (codes "G")) _ _ (λ e. refl)
+    (own (bytes_eq name (codes "boxCut")) _ _ (λ e. refl)
+    (own (is_use name) _ _ (λ e. refl)
+    (library (bytes_eq name (codes "prop")) _ _ (λ e. refl)
+    (library (is_at_place name) _ _ (λ e. refl)
+    (library (is_with_formula name) _ _ (λ e. refl)
+    (library (bytes_eq name (codes "dG")) _ _ (λ e. refl)
+    (missed Run None (bytes_eq name (codes "derive")) _ _ other (rules_skipped Run (λ row. refl) (named name))))))))))
 
-pub derive_none : (name : List ℕ) → bytes_eq name (codes "derive") ≡ false → derive_row_of name ≡ None
+derive_row : derive_row_of (codes "derive") ≡ Some (wants (FixedPlace ∷ []))
 unfolding derive_row_of
-derive_none name other = cond-false (bytes_eq name (codes "derive")) _ _ other
+derive_row = refl
 
--- the row of a name in a text
-pub text_row_first : (name : List ℕ) (row : Row) → row_of name ≡ Some row → text_row_of name ≡ Some row
-unfolding text_row_of
-text_row_first name row first = ap (λ found. or_else found (or_else (library_row_of name) (derive_row_of name))) first
-
-module _ (name : List ℕ) (none : row_of name ≡ None) where
-  pub text_row_library : (row : Row) → library_row_of name ≡ Some row → text_row_of name ≡ Some row
-  unfolding text_row_of
-  text_row_library row second =
-      ap (λ found. or_else found (or_else (library_row_of name) (derive_row_of name))) none ∙ ap (λ found. or_else found (derive_row_of name)) second
-
-  pub text_row_derive : library_row_of name ≡ None → text_row_of name ≡ derive_row_of name
-  unfolding text_row_of
-  text_row_derive neither =
-      ap (λ found. or_else found (or_else (library_row_of name) (derive_row_of name))) none ∙ ap (λ found. or_else found (derive_row_of name)) neither
+pub derive_found : (name : List ℕ) (row : Row) → derive_row_of name ≡ Some row → (bytes_eq name (codes "derive") ≡ true) × (row ≡ wants (FixedPlace ∷ []))
+derive_found name row is = by (bytes_eq name (codes "derive")) refl
+  where
+    by : (same : Bool) → bytes_eq name (codes "derive") ≡ same → (bytes_eq name (codes "derive") ≡ true) × (row ≡ wants (FixedPlace ∷ []))
+    by true e = (e, same_Some _ _ (sym is ∙ ap derive_row_of ((bytes_eq-Decides name (codes "derive")).0 e) ∙ derive_row))
+    by false e = absurd (none-some row (sym (derive_none name e) ∙ is))
 
 -- names are texts
 between_low : (low high c : ℕ) → high < 128 → is_between low high c ≡ true → c < 128

@@ -37,17 +37,6 @@ is_bare name = bytes_eq name (codes "nil") || bytes_eq name (codes "close") || b
 abbrev pub is_use : List ℕ → Bool
 is_use name = bytes_eq name (codes "useAt") || bytes_eq name (codes "useBack")
 
--- The arguments of the atom of this name: none for `nil`, `close` and `leaf`, a place for `G`, a formula and a place for `boxCut`, and for each
--- rule but `close` those of its shape. A use of an axiom is given its name and a place, and maybe names with new names, and pairs. No other
--- name is known.
-unfoldable pub row_of : List ℕ → Option Row
-row_of name =
-    if is_bare name then Some (wants [])
-    else if bytes_eq name (codes "G") then Some (wants (AnyPlace ∷ []))
-    else if bytes_eq name (codes "boxCut") then Some (wants (QuotedFormula ∷ AnyPlace ∷ []))
-    else if is_use name then Some (record { wanted = AName ∷ AnyPlace ∷ []; optional = Some QuotedExtra })
-    else option_map (λ word. wants (kinds_of (wanted word))) (named name)
-
 -- the names of strategies that want a place alone
 abbrev pub is_at_place : List ℕ → Bool
 is_at_place name = bytes_eq name (codes "dW") || bytes_eq name (codes "dI") || bytes_eq name (codes "step")
@@ -56,97 +45,87 @@ is_at_place name = bytes_eq name (codes "dW") || bytes_eq name (codes "dI") || b
 abbrev pub is_with_formula : List ℕ → Bool
 is_with_formula name = bytes_eq name (codes "loop") || bytes_eq name (codes "dC")
 
--- The arguments of a name of the library, which stands for a strategy: none for `prop`, a place for `dW`, `dI` and `step`, a formula and a place
--- for `loop` and `dC`, and a name, two terms and a place for `dG`. Its places are no locators. No other name is in the library.
+-- Who does what a name says.
+pub data Doer : Type 0 where
+  -- the elaborator, by steps
+  Elaborator : Doer
+  -- the library, by the strategy that the name stands for, before the run
+  Library : Doer
+  -- the run itself, by a plan for the goal that it comes to
+  Run : Doer
+
+-- a row of the table of names
+pub record Entry : Type 0 where
+  pub by : Doer
+  pub row : Row
+
+-- such a row, where nothing may follow
+abbrev pub entry : Doer → List Kind → Option Entry
+entry by kinds = Some (record { by = by; row = wants kinds })
+
+-- the atom of a rule wants what its word does
+abbrev pub rule_entry : List ℕ → Option Entry
+rule_entry name = option_map (λ word. record { by = Elaborator; row = wants (kinds_of (wanted word)) }) (named name)
+
+-- The table of names: who does what each says, and its arguments. A use of an axiom is given its name and a place, and maybe names with new
+-- names, and pairs. The places of the library's and of `derive` are no locators. No other name is known.
+abbrev pub entry_of : List ℕ → Option Entry
+entry_of name =
+    if is_bare name then entry Elaborator []
+    else if bytes_eq name (codes "G") then entry Elaborator (AnyPlace ∷ [])
+    else if bytes_eq name (codes "boxCut") then entry Elaborator (QuotedFormula ∷ AnyPlace ∷ [])
+    else if is_use name then Some (record { by = Elaborator; row = record { wanted = AName ∷ AnyPlace ∷ []; optional = Some QuotedExtra } })
+    else if bytes_eq name (codes "prop") then entry Library []
+    else if is_at_place name then entry Library (FixedPlace ∷ [])
+    else if is_with_formula name then entry Library (QuotedFormula ∷ FixedPlace ∷ [])
+    else if bytes_eq name (codes "dG") then entry Library (AName ∷ QuotedTerm ∷ QuotedTerm ∷ FixedPlace ∷ [])
+    else if bytes_eq name (codes "derive") then entry Run (FixedPlace ∷ [])
+    else rule_entry name
+
+-- the arguments that a row wants, if it is of this one
+abbrev pub row_if : Doer → Doer → Row → Option Row
+row_if Elaborator Elaborator row = Some row
+row_if Library Library row = Some row
+row_if Run Run row = Some row
+row_if _ _ row = None
+
+-- and so of what was found in the table
+abbrev pub row_by : Doer → Option Entry → Option Row
+row_by doer None = None
+row_by doer (Some found) = row_if doer found.by found.row
+
+-- the arguments of a name that is an atom's
+unfoldable pub row_of : List ℕ → Option Row
+row_of name = row_by Elaborator (entry_of name)
+
+-- those of a name of the library
 unfoldable pub library_row_of : List ℕ → Option Row
-library_row_of name =
-    if bytes_eq name (codes "prop") then Some (wants [])
-    else if is_at_place name then Some (wants (FixedPlace ∷ []))
-    else if is_with_formula name then Some (wants (QuotedFormula ∷ FixedPlace ∷ []))
-    else if bytes_eq name (codes "dG") then Some (wants (AName ∷ QuotedTerm ∷ QuotedTerm ∷ FixedPlace ∷ []))
-    else None
+library_row_of name = row_by Library (entry_of name)
 
--- the first, and where there is none the other
-abbrev pub or_else : Option Row → Option Row → Option Row
-or_else (Some row) other = Some row
-or_else None other = other
-
--- The arguments of `derive`, which differentiates: a place, which is no locator. It isn't in the library, since the uses of axioms that it runs
--- depend on the goal.
+-- those of `derive`
 unfoldable pub derive_row_of : List ℕ → Option Row
-derive_row_of name = if bytes_eq name (codes "derive") then Some (wants (FixedPlace ∷ [])) else None
+derive_row_of name = row_by Run (entry_of name)
 
--- The arguments of a name in a text: that of an atom, or one of the library, or `derive`. No name is two of these.
+-- those of a row, whose ever it is
+abbrev pub row_found : Option Entry → Option Row
+row_found found = option_map (λ (it : Entry). it.row) found
+
+-- those of a name in a text, which may be any of these
 unfoldable pub text_row_of : List ℕ → Option Row
-text_row_of name = or_else (row_of name) (or_else (library_row_of name) (derive_row_of name))
+text_row_of name = row_found (entry_of name)
 
--- a place, which may have a path and lie on either side
-abbrev pub IsPlace : Argument → Type 0
-IsPlace (AtPlace place path) = Unit {0}
-IsPlace AnyLeft = ⊥
-IsPlace AnyRight = ⊥
-IsPlace (Word name) = ⊥
-IsPlace (GivenFormula h) = ⊥
-IsPlace (GivenTerm e) = ⊥
-IsPlace (GivenExtra extra) = ⊥
-
--- a place, or a locator in its stead
-abbrev pub IsPlaceOrLocator : Argument → Type 0
-IsPlaceOrLocator (AtPlace place path) = Unit {0}
-IsPlaceOrLocator AnyLeft = Unit {0}
-IsPlaceOrLocator AnyRight = Unit {0}
-IsPlaceOrLocator (Word name) = ⊥
-IsPlaceOrLocator (GivenFormula h) = ⊥
-IsPlaceOrLocator (GivenTerm e) = ⊥
-IsPlaceOrLocator (GivenExtra extra) = ⊥
-
--- a formula without dots
-abbrev pub IsGivenFormula : Argument → Type 0
-IsGivenFormula (AtPlace place path) = ⊥
-IsGivenFormula AnyLeft = ⊥
-IsGivenFormula AnyRight = ⊥
-IsGivenFormula (Word name) = ⊥
-IsGivenFormula (GivenFormula h) = IsFormula h
-IsGivenFormula (GivenTerm e) = ⊥
-IsGivenFormula (GivenExtra extra) = ⊥
-
--- a tree that is well made, as one that was read as a term is
-abbrev pub IsGivenTerm : Argument → Type 0
-IsGivenTerm (AtPlace place path) = ⊥
-IsGivenTerm AnyLeft = ⊥
-IsGivenTerm AnyRight = ⊥
-IsGivenTerm (Word name) = ⊥
-IsGivenTerm (GivenFormula h) = ⊥
-IsGivenTerm (GivenTerm e) = WellMade e
-IsGivenTerm (GivenExtra extra) = ⊥
-
-abbrev pub IsWord : Argument → Type 0
-IsWord (AtPlace place path) = ⊥
-IsWord AnyLeft = ⊥
-IsWord AnyRight = ⊥
-IsWord (Word name) = Unit {0}
-IsWord (GivenFormula h) = ⊥
-IsWord (GivenTerm e) = ⊥
-IsWord (GivenExtra extra) = ⊥
-
--- names with new names, and pairs whose replacements are well made
-abbrev pub IsGivenExtra : Argument → Type 0
-IsGivenExtra (AtPlace place path) = ⊥
-IsGivenExtra AnyLeft = ⊥
-IsGivenExtra AnyRight = ⊥
-IsGivenExtra (Word name) = ⊥
-IsGivenExtra (GivenFormula h) = ⊥
-IsGivenExtra (GivenTerm e) = ⊥
-IsGivenExtra (GivenExtra extra) = AreWellMade extra.pairs
-
--- an argument of the kind
+-- An argument of the kind: a place may have a path and lie on either side, and a locator may stand in its stead where any place may. A formula has
+-- no dots, and a term and the replacements of pairs are well made, as what is read is. No other argument is of the kind.
 abbrev pub IsOfKind : Kind → Argument → Type 0
-IsOfKind FixedPlace argument = IsPlace argument
-IsOfKind AnyPlace argument = IsPlaceOrLocator argument
-IsOfKind QuotedFormula argument = IsGivenFormula argument
-IsOfKind QuotedTerm argument = IsGivenTerm argument
-IsOfKind AName argument = IsWord argument
-IsOfKind QuotedExtra argument = IsGivenExtra argument
+IsOfKind FixedPlace (AtPlace place path) = Unit {0}
+IsOfKind AnyPlace (AtPlace place path) = Unit {0}
+IsOfKind AnyPlace AnyLeft = Unit {0}
+IsOfKind AnyPlace AnyRight = Unit {0}
+IsOfKind AName (Word name) = Unit {0}
+IsOfKind QuotedFormula (GivenFormula h) = IsFormula h
+IsOfKind QuotedTerm (GivenTerm e) = WellMade e
+IsOfKind QuotedExtra (GivenExtra extra) = AreWellMade extra.pairs
+IsOfKind _ _ = ⊥
 
 -- arguments of the kinds that are wanted, as many as there are, and maybe one more of the kind that may follow
 abbrev pub AreOfKinds : List Kind → Option Kind → List Argument → Type 0
@@ -156,27 +135,27 @@ AreOfKinds [] (Some kind) (argument ∷ arguments) = IsOfKind kind argument × A
 AreOfKinds (kind ∷ kinds) optional [] = ⊥
 AreOfKinds (kind ∷ kinds) optional (argument ∷ arguments) = IsOfKind kind argument × AreOfKinds kinds optional arguments
 
--- an atom of a known name, with arguments of the number and the kinds of its row
-pub record IsFitting (atom : Atom) : Type 0 where
+-- an atom whose name has a row among these, with arguments of the number and the kinds of that row
+pub record HasRow (rows : List ℕ → Option Row) (atom : Atom) : Type 0 where
   pub row : Row
-  pub row_is : row_of atom.name ≡ Some row
+  pub row_is : rows atom.name ≡ Some row
   pub arguments : AreOfKinds row.wanted row.optional atom.arguments
+
+-- an atom that the elaborator knows
+abbrev pub IsFitting : Atom → Type 0
+IsFitting atom = HasRow row_of atom
 
 -- each atom of the strategy is fitting
 abbrev pub AreFitting : Tactic → Type 0
 AreFitting t = EachAtom IsFitting t
 
--- a name of the library, with arguments of the number and the kinds of its row
-pub record IsLibraryCall (atom : Atom) : Type 0 where
-  pub row : Row
-  pub row_is : library_row_of atom.name ≡ Some row
-  pub arguments : AreOfKinds row.wanted row.optional atom.arguments
+-- a name of the library
+abbrev pub IsLibraryCall : Atom → Type 0
+IsLibraryCall atom = HasRow library_row_of atom
 
 -- `derive` at a place
-pub record IsDerivation (atom : Atom) : Type 0 where
-  pub row : Row
-  pub row_is : derive_row_of atom.name ≡ Some row
-  pub arguments : AreOfKinds row.wanted row.optional atom.arguments
+abbrev pub IsDerivation : Atom → Type 0
+IsDerivation atom = HasRow derive_row_of atom
 
 -- an atom of a text: a fitting one, or a name of the library, or `derive`
 abbrev pub IsOfText : Atom → Type 0

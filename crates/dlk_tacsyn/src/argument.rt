@@ -1,5 +1,5 @@
 //! Arguments of atoms as they are written, and read.
-ghost use Rattle.std.specs.Prelude.{◌≡◌, ◌++◌, ◌∷◌, [], List, ℕ, Option, None, Some, All, map, IfOk, OnOk, IfErr, MatchOption};
+ghost use Rattle.std.specs.Prelude.{◌≡◌, ◌++◌, ◌∷◌, [], List, ℕ, Option, None, Some, Ok, All, map, IfOk, OnOk, IfErr, MatchOption};
 ghost use Rattle.dlk_tree.specs.Trees.{Tree};
 ghost use Rattle.dlk_store.specs.Stores.{IsId, tree};
 ghost use Rattle.dlk_sequent.specs.Extras.{extra_at, IsKnownExtra};
@@ -122,7 +122,8 @@ pub(crate) fn given(
     mut before: Listed<Written>,
     current: Current,
 ) -> Result<Option<Listed<Written>>, AllocError>
-    ensures { IfOk result (λ all. given before current ≡ all) }
+    ensures all { IfOk result (λ all. given before current ≡ all) }
+    ensures none { given before current ≡ None → result ≡ Ok None }
 {
     match current {
         Current::Nothing | Current::Minus => Ok(None),

@@ -1,7 +1,7 @@
 //! The names of atoms, those of the library and `derive`, and the arguments that they want.
 ghost use Rattle.std.specs.Prelude.{◌≡◌, ◌∷◌, List, IfNone, IfSome, None, Some};
 ghost use Rattle.dlk_tacsyn.specs.declared.argument.Written.{Written};
-ghost use Rattle.dlk_tacsyn.specs.Rows.{derive_row_of, is_at_place, is_bare, is_use, is_with_formula, kinds_of, library_row_of, row_of, text_row_of, wants};
+ghost use Rattle.dlk_tacsyn.specs.Rows.{is_at_place, is_bare, is_use, is_with_formula, kinds_of, row_found, rule_entry, text_row_of, wants};
 ghost use Rattle.dlk_tacsyn.specs.Strategies.{Reading, followed, arguments_of};
 ghost use Rattle.dlk_tacsyn.specs.Ties.{row_at};
 
@@ -89,15 +89,26 @@ fn is_use(name: &str) -> bool
     name == "useAt" || name == "useBack"
 }
 
-/// The arguments that the atom of this name wants. None comes where no atom has the name.
-fn row_of(name: &Name) -> Option<Row>
-    ensures none { IfNone result (row_of name.now ≡ None) }
-    ensures found { IfSome result (λ row. row_of name.now ≡ Some (row_at row)) }
+/// Whether this name of the library wants a place alone.
+fn is_at_place(name: &str) -> bool
+    ensures { result ≡ is_at_place name.now }
 {
-    name.is_name();
-    let Ok(text) = str::from_utf8(name.bytes()) else {
-        return None;
-    };
+    name == "dW" || name == "dI" || name == "step"
+}
+
+/// Whether this name of the library wants a formula and a place.
+fn is_with_formula(name: &str) -> bool
+    ensures { result ≡ is_with_formula name.now }
+{
+    name == "loop" || name == "dC"
+}
+
+/// The arguments that this name wants in a text, where it isn't a rule's: that of another atom, or one of the library, or `derive`. None comes
+/// where it is none of these.
+fn own_row_of(text: &str) -> Option<Row>
+    ensures none { IfNone result (text_row_of text.now ≡ row_found (rule_entry text.now)) }
+    ensures found { IfSome result (λ row. text_row_of text.now ≡ Some (row_at row)) }
+{
     if is_bare(text) {
         return Some(wants(&[]));
     }
@@ -113,35 +124,6 @@ fn row_of(name: &Name) -> Option<Row>
             optional: Some(Kind::QuotedExtra),
         });
     }
-    let Some(word) = RuleWord::of(text) else {
-        return None;
-    };
-    Some(wants(kinds_of(word.shape())))
-}
-
-/// Whether this name of the library wants a place alone.
-fn is_at_place(name: &str) -> bool
-    ensures { result ≡ is_at_place name.now }
-{
-    name == "dW" || name == "dI" || name == "step"
-}
-
-/// Whether this name of the library wants a formula and a place.
-fn is_with_formula(name: &str) -> bool
-    ensures { result ≡ is_with_formula name.now }
-{
-    name == "loop" || name == "dC"
-}
-
-/// The arguments that this name of the library wants. None comes where the library doesn't have the name.
-fn library_row_of(name: &Name) -> Option<Row>
-    ensures none { IfNone result (library_row_of name.now ≡ None) }
-    ensures found { IfSome result (λ row. library_row_of name.now ≡ Some (row_at row)) }
-{
-    name.is_name();
-    let Ok(text) = str::from_utf8(name.bytes()) else {
-        return None;
-    };
     if text == "prop" {
         return Some(wants(&[]));
     }
@@ -159,15 +141,7 @@ fn library_row_of(name: &Name) -> Option<Row>
             Kind::FixedPlace,
         ]));
     }
-    None
-}
-
-/// The arguments that `derive` wants. None comes where the name is another.
-fn derive_row_of(name: &Name) -> Option<Row>
-    ensures none { IfNone result (derive_row_of name.now ≡ None) }
-    ensures found { IfSome result (λ row. derive_row_of name.now ≡ Some (row_at row)) }
-{
-    if name.bytes() != b"derive".as_slice() {
+    if text != "derive" {
         return None;
     }
     Some(wants(&[Kind::FixedPlace]))
@@ -178,11 +152,15 @@ pub(crate) fn text_row_of(name: &Name) -> Option<Row>
     ensures none { IfNone result (text_row_of name.now ≡ None) }
     ensures found { IfSome result (λ row. text_row_of name.now ≡ Some (row_at row)) }
 {
-    match row_of(name) {
-        Some(row) => Some(row),
-        None => match library_row_of(name) {
-            Some(row) => Some(row),
-            None => derive_row_of(name),
-        },
+    name.is_name();
+    let Ok(text) = str::from_utf8(name.bytes()) else {
+        return None;
+    };
+    if let Some(row) = own_row_of(text) {
+        return Some(row);
     }
+    let Some(word) = RuleWord::of(text) else {
+        return None;
+    };
+    Some(wants(kinds_of(word.shape())))
 }

@@ -1,11 +1,12 @@
 //! Reads strategies part by part.
-ghost use Rattle.std.specs.Prelude.{◌≡◌, List, ℕ, Option, IfOk, IfErr};
+ghost use Rattle.std.specs.Prelude.{◌≡◌, ◌≢◌, List, ℕ, Option, None, Err, IfOk, IfErr};
 ghost use Rattle.dlk_tree.specs.Trees.{Tree};
 ghost use Rattle.dlk_scripts.specs.declared.part.PartKind.TheVariants as kind;
-ghost use Rattle.dlk_tacsyn.specs.Faults.{IsTacSyntaxOf};
+ghost use Rattle.dlk_tacsyn.specs.declared.fault.TacSyntax.TheVariants.{Memory, Syntax};
+ghost use Rattle.dlk_tacsyn.specs.Faults.{Fault as TheFault, IsTacSyntaxOf};
 ghost use Rattle.dlk_tacsyn.specs.Strategies.{Says, Fails};
 ghost use Rattle.dlk_tacsyn.specs.Ties.{tactic_at, TacticIsKnown};
-ghost use Rattle.dlk_tacsyn.specs.Steps.{start, step, settled, finish, behind_close, behind_open, after_nothing, after_whole, after_name, after_call};
+ghost use Rattle.dlk_tacsyn.specs.Steps.{given, start, step, settled, finish, behind_close, behind_open, after_nothing, after_whole, after_name, after_call};
 ghost use Rattle.dlk_tacsyn.specs.States.{ByReading, frame_at, stack_at, last_at, state_at, LastIsKnown, BracketsAreKnown, ReaderIsKnown};
 
 use crate::argument::{Call, Current, given};
@@ -115,6 +116,7 @@ fn open(alloc: Global, at: usize, brackets: Brackets, opened: Opened) -> Result<
     ensures found { IfOk result (λ r. (trees : List Tree) → behind_open at (stack_at trees brackets.outer.items) (frame_at trees brackets.inner) opened ≡ Says (state_at trees r)) }
     ensures known { IfOk result (λ r. (trees : List Tree) → BracketsAreKnown trees brackets → ReaderIsKnown trees r) }
     ensures fault { IfErr result (IsTacSyntaxOf (λ f. (trees : List Tree) → behind_open at (stack_at trees brackets.outer.items) (frame_at trees brackets.inner) opened ≡ Fails f)) }
+    ensures owed { (trees : List Tree) (f : TheFault) → behind_open at (stack_at trees brackets.outer.items) (frame_at trees brackets.inner) opened ≡ Fails f → result ≢ Err Memory }
 {
     let level = brackets.inner.level;
     if level >= MOST_OPEN {
@@ -134,6 +136,7 @@ fn close(at: usize, brackets: Brackets) -> Result<Reader, TacSyntax>
     ensures found { IfOk result (λ r. (trees : List Tree) → behind_close at (stack_at trees brackets.outer.items) (frame_at trees brackets.inner) ≡ Says (state_at trees r)) }
     ensures known { IfOk result (λ r. (trees : List Tree) → BracketsAreKnown trees brackets → ReaderIsKnown trees r) }
     ensures fault { IfErr result (IsTacSyntaxOf (λ f. (trees : List Tree) → behind_close at (stack_at trees brackets.outer.items) (frame_at trees brackets.inner) ≡ Fails f)) }
+    ensures decides { IfErr result (λ why. why ≢ Memory) }
 {
     let Brackets { mut outer, inner } = brackets;
     let Some(around) = outer.pop() else {
@@ -153,6 +156,7 @@ fn after_nothing(alloc: Global, brackets: Brackets, part: Part) -> Result<Reader
     ensures found { IfOk result (λ r. (trees : List Tree) → after_nothing part.at part.kind (stack_at trees brackets.outer.items) (frame_at trees brackets.inner) ≡ Says (state_at trees r)) }
     ensures known { IfOk result (λ r. (trees : List Tree) → BracketsAreKnown trees brackets → ReaderIsKnown trees r) }
     ensures fault { IfErr result (IsTacSyntaxOf (λ f. (trees : List Tree) → after_nothing part.at part.kind (stack_at trees brackets.outer.items) (frame_at trees brackets.inner) ≡ Fails f)) }
+    ensures owed { (trees : List Tree) (f : TheFault) → after_nothing part.at part.kind (stack_at trees brackets.outer.items) (frame_at trees brackets.inner) ≡ Fails f → result ≢ Err Memory }
 {
     let Part { kind, at } = part;
     match kind {
@@ -228,6 +232,7 @@ fn repeat(
     ensures found { IfOk result (λ r. (trees : List Tree) → after_whole at (kind.Number n) (stack_at trees brackets.outer.items) (frame_at trees brackets.inner) (tactic_at trees t) ≡ Says (state_at trees r)) }
     ensures known { IfOk result (λ r. (trees : List Tree) → BracketsAreKnown trees brackets → TacticIsKnown trees t → ReaderIsKnown trees r) }
     ensures fault { IfErr result (IsTacSyntaxOf (λ f. (trees : List Tree) → after_whole at (kind.Number n) (stack_at trees brackets.outer.items) (frame_at trees brackets.inner) (tactic_at trees t) ≡ Fails f)) }
+    ensures owed { (trees : List Tree) (f : TheFault) → after_whole at (kind.Number n) (stack_at trees brackets.outer.items) (frame_at trees brackets.inner) (tactic_at trees t) ≡ Fails f → result ≢ Err Memory }
 {
     if n > MOST_TIMES {
         return Err(TacSyntax::Repeat { at });
@@ -284,6 +289,8 @@ fn after_call<S: Store>(
     ensures found { IfOk result (λ r. ByReading (λ read. after_call read part.at part.kind (stack_at (S.trees store.old) brackets.outer.items) (frame_at (S.trees store.old) brackets.inner) call ≡ Says (state_at (S.trees store.new) r))) }
     ensures known { IfOk result (ReaderIsKnown (S.trees store.new)) }
     ensures fault { IfErr result (IsTacSyntaxOf (λ f. ByReading (λ read. after_call read part.at part.kind (stack_at (S.trees store.old) brackets.outer.items) (frame_at (S.trees store.old) brackets.inner) call ≡ Fails f))) }
+    ensures owed { part.kind ≡ kind.Comma → given call.before call.current ≡ None → result ≡ Err (Syntax part.at) }
+    ensures unended { part.kind ≡ kind.Close → given call.before call.current ≡ None → result ≡ Err (Syntax part.at) }
     ensures grows { S.grows store.old store.new }
 {
     let Part { kind, at } = part;

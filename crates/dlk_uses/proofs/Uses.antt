@@ -13,7 +13,7 @@ use Rattle.dlk_calculus.specs.Axioms.{Axiom}
 use Rattle.dlk_calculus.specs.Kids.{first, last}
 use Rattle.dlk_calculus.specs.Notation.{eq}
 use Rattle.dlk_calculus.specs.Pairs.{Pair, Extra, IsWellFormed}
-use Rattle.dlk_calculus.specs.Paths.{subtree}
+use Rattle.dlk_calculus.specs.Paths.{subtree, IsInnermost}
 use Rattle.dlk_calculus.specs.Places.{At}
 use Rattle.dlk_calculus.specs.Rules.{imply, equiv}
 use Rattle.dlk_calculus.specs.Sequents.{IsFormula}
@@ -24,7 +24,7 @@ use Rattle.dlk_match.specs.Instances.{HasOwnNames}
 use Rattle.dlk_match.specs.Matching.{Match, exchanged}
 use Rattle.dlk_sequent.specs.declared.sequent.Place.{Place}
 use Rattle.dlk_sequent.specs.declared.sequent.Place.TheVariants.{Ante, Succ}
-use Rattle.dlk_uses.specs.Uses.{HasShape, Direction, Forwards, Backwards, Use, left_of, right_of, key, is_forwards, is_whole, may_stand, formula_at, Spot, by_equivalence, by_equation, by_conditional_equation, by_conditional_equivalence, by_implication, by_fact, IsAround, smallest, whole, Finishes, equivalence, equation, conditional_equivalence, conditional_equation, implication, fact}
+use Rattle.dlk_uses.specs.Uses.{HasShape, Direction, Forwards, Backwards, Use, left_of, right_of, key, is_forwards, is_whole, may_stand, formula_at, Spot, by_equivalence, by_equation, by_conditional_equation, by_conditional_equivalence, by_implication, by_fact, Finishes, equivalence, equation, conditional_equivalence, conditional_equation, implication, fact}
 use Rattle.dlk_uses.proofs.Fitting.{Fit}
 use Rattle.dlk_uses.proofs.Exchanging.{Proves, old_side, fact_fits, implication_fits, implication_fits_left}
 use Rattle.dlk_uses.proofs.Conditional.{conditional_equivalence_fits}
@@ -150,12 +150,10 @@ module _ (laws : Laws) (between : List Provable) (spot : Spot) (used : Use) (e t
       u.formula.no_hole (u.inside ∙ ap Some (sym old)) (subst (Proves between (length between)) two.is u.proves))
 
   -- the formula in which an equation is used, and the way on from it
-  around : (outer inner : List ℕ) (d : Tree) → IsAround e used.path outer inner d → (subtree e outer ≡ Some d) × (subtree d inner ≡ Some t)
-  around outer inner d (smallest is i) =
-      (i.stands, sym (laws.joined e outer inner d i.stands) ∙ sym (ap (subtree e) i.parts) ∙ u.inside)
-  around _ _ _ (whole not) = absurd (not u.formula.sort_is)
+  around : (outer inner : List ℕ) (d : Tree) → IsInnermost e used.path outer inner d → (subtree e outer ≡ Some d) × (subtree d inner ≡ Some t)
+  around outer inner d i = (i.stands, sym (laws.joined e outer inner d i.stands) ∙ sym (ap (subtree e) i.parts) ∙ u.inside)
 
-  by_equation_fits : a.form ≡ Q → (outer inner : List ℕ) (d : Tree) → IsAround e used.path outer inner d →
+  by_equation_fits : a.form ≡ Q → (outer inner : List ℕ) (d : Tree) → IsInnermost e used.path outer inner d →
       Fit between (by_equation (length between) spot used.place used.direction e outer inner d (left_of f) (right_of f))
   by_equation_fits is outer inner d round =
       let shape : a.formula ≡ eq (left_of a.formula) (right_of a.formula) = subst (λ x. HasShape x a.formula) is u.shaped in
@@ -187,7 +185,7 @@ module _ (laws : Laws) (between : List Provable) (spot : Spot) (used : Use) (e t
       (conditional_equivalence_fits between (length between) spot j two.left inner.left inner.right refl u.goal here
       (subst (Proves between (length between)) whole_is u.proves))
 
-  by_conditional_equation_fits : a.form ≡ R → (outer inner : List ℕ) (d : Tree) → IsAround e used.path outer inner d →
+  by_conditional_equation_fits : a.form ≡ R → (outer inner : List ℕ) (d : Tree) → IsInnermost e used.path outer inner d →
       Fit between (by_conditional_equation (length between) spot used.place used.direction e outer inner d (left_of f) (left_of (right_of f))
       (right_of (right_of f)))
   by_conditional_equation_fits is outer inner d round =

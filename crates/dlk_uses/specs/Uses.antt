@@ -1,12 +1,11 @@
 -- Axioms at inner positions: what an atom that uses an axiom looks for, and the steps that each form of an axiom asks for.
-use Rattle.std.specs.Prelude.{◌≡◌, ◌≢◌, ◌+◌, ℕ, List, [], ◌∷◌, ◌++◌, length, Bool, true, false, ◌&&◌, if◌then◌else◌, Option, Some, None, codes}
+use Rattle.std.specs.Prelude.{◌≡◌, ◌+◌, ℕ, List, [], ◌∷◌, ◌++◌, length, Bool, true, false, ◌&&◌, if◌then◌else◌, Option, Some, None, codes}
 use Rattle.std.specs.Str.{bytes_eq}
 use Rattle.dlk_tree.specs.declared.op.Sym.{Sym}
 use Rattle.dlk_tree.specs.declared.op.Kind.{Kind}
 use Rattle.dlk_tree.specs.declared.op.Kind.TheVariants.{UnitFunc, Pred, UnitPred, Quant, Prog}
 use Rattle.dlk_tree.specs.declared.op.Op.TheVariants.{Dot, Hole, True, Eq}
-use Rattle.dlk_tree.specs.declared.op.Sort.TheVariants.{Formula}
-use Rattle.dlk_tree.specs.Trees.{Tree, node, sort}
+use Rattle.dlk_tree.specs.Trees.{Tree, node}
 use Rattle.dlk_calculus.specs.declared.form.AxiomForm.{AxiomForm}
 use Rattle.dlk_calculus.specs.declared.form.AxiomForm.TheVariants.{E, Q, C, R, I, F}
 use Rattle.dlk_calculus.specs.Axioms.{Axiom}
@@ -46,10 +45,6 @@ right_of (node op kids) = last kids
 abbrev pub side_of : Direction → Tree → Tree
 side_of Forwards f = left_of f
 side_of Backwards f = right_of f
-
-abbrev pub other_side_of : Direction → Tree → Tree
-other_side_of Forwards f = right_of f
-other_side_of Backwards f = left_of f
 
 -- what is looked for, of an axiom's formula; one row a form
 abbrev pub key : AxiomForm → Direction → Place → Tree → Tree
@@ -249,22 +244,16 @@ by_implication now spot (Ante i) b h =
 abbrev pub by_fact : ℕ → Spot → ℕ → List Step
 by_fact now spot j = closed_by now spot.fact now ((spot.goal, CoHideR j) ∷ []) spot.goal
 
--- The formula in which an equation is used: the smallest one round the place. What stands in a sequent is a formula; a tree that is none
--- is taken whole, so that the atom has an outcome whatever the rows are.
-pub data IsAround (e : Tree) (path : List ℕ) : (outer inner : List ℕ) → Tree → Type 0 where
-  smallest : {outer inner : List ℕ} {d : Tree} → sort e ≡ Formula → IsInnermost e path outer inner d → IsAround e path outer inner d
-  whole : sort e ≢ Formula → IsAround e path [] path e
-
 -- Finishes now spot used e f steps: behind an instance of the axiom, which the row `now` proves and which is the formula f, these steps use it
--- on the formula e at the place. One row a form.
+-- on the formula e at the place. An equation is used in the smallest formula round the place. One row a form.
 pub data Finishes (now : ℕ) (spot : Spot) (used : Use) (e f : Tree) : List Step → Type 0 where
   equivalence : used.its_axiom.form ≡ E →
       Finishes now spot used e f (by_equivalence now spot used.place used.direction e used.path (left_of f) (right_of f))
-  equation : (outer inner : List ℕ) (d : Tree) → used.its_axiom.form ≡ Q → IsAround e used.path outer inner d →
+  equation : (outer inner : List ℕ) (d : Tree) → used.its_axiom.form ≡ Q → IsInnermost e used.path outer inner d →
       Finishes now spot used e f (by_equation now spot used.place used.direction e outer inner d (left_of f) (right_of f))
   conditional_equivalence : (j : ℕ) → used.its_axiom.form ≡ C → used.place ≡ Succ j →
       Finishes now spot used e f (by_conditional_equivalence now spot j (left_of f) (left_of (right_of f)) (right_of (right_of f)))
-  conditional_equation : (outer inner : List ℕ) (d : Tree) → used.its_axiom.form ≡ R → IsAround e used.path outer inner d →
+  conditional_equation : (outer inner : List ℕ) (d : Tree) → used.its_axiom.form ≡ R → IsInnermost e used.path outer inner d →
       Finishes now spot used e f
       (by_conditional_equation now spot used.place used.direction e outer inner d (left_of f) (left_of (right_of f)) (right_of (right_of f)))
   implication : used.its_axiom.form ≡ I →

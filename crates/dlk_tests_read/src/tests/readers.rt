@@ -232,9 +232,15 @@ fn meets_text<S: Store>(
     store: &mut S,
 ) -> Result<(), AllocError> {
     for reader in READERS {
-        let is_read = reader.answer(alloc, text, store) == Answer::Read;
+        let answer = reader.answer(alloc, text, store);
         let reads = reader == first || reader == second;
-        same(rt, &(reader, is_read), &(reader, reads), "read");
+        same(
+            rt,
+            &(reader, answer == Answer::Read),
+            &(reader, reads),
+            "read",
+        );
+        assert!(rt; is_within(answer, text.len()), "{reader:?}: {answer:?}");
     }
     for byte in [b'#', b' ', b'(', b'"', b'=', b'7', b'x', 255] {
         meets_changed(rt, alloc, text, byte, store)?;

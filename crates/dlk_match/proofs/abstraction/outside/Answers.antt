@@ -2,7 +2,7 @@ use Rattle.std.proofs.Common.{◌≡◌, sym, subst, ⊎_elim, ◌-◌, ◌≤�
 use Rattle.dlk_tree.specs.declared.op.Op.{Op}
 use Rattle.dlk_store.specs.Stores.{kid_trees}
 use Rattle.dlk_calculus.specs.Captures.{captures}
-use Rattle.dlk_match.specs.Abstract.{count}
+use Rattle.dlk_match.specs.Entered.{count}
 use Rattle.dlk_match.proofs.Abstracted.{one_outside}
 use Rattle.dlk_match.proofs.abstraction.outside.Goals as goal
 

@@ -1,21 +1,22 @@
-use Rattle.std.proofs.Common.{◌≡◌, IfNone, IfSome, None, Some, sym, subst}
-use Rattle.dlk_tacsyn.specs.Ties.{row_at}
-use Rattle.dlk_tacsyn.proofs.Words.{text_row_first, text_row_library, text_row_derive}
+use Rattle.std.proofs.Common.{sym, ◌∙◌, Some, ap, subst}
+use Rattle.std.specs.Str.{IsUtf8}
+use Rattle.dlk_tacsyn.specs.Rows.{wants, kinds_of, text_row_of}
+use Rattle.dlk_tacsyn.proofs.Words.{rule_named, rule_unnamed, name_utf8}
 use Rattle.dlk_tacsyn.proofs.kind.text_row_of.Goals as goal
 
+pub returns-in_default-clause-none : goal.returns-in_default-clause-none
+returns-in_default-clause-none c = absurd (c.in_default.ensures.cases.0 (subst IsUtf8 (sym c.bytes.ensures.bytes) (name_utf8 c.args.name.now c.is_name.ensures.name)))
+
 pub returns-in-Some-clause-found : goal.returns-in-Some-clause-found
-returns-in-Some-clause-found c = text_row_first c.args.name.now (row_at c.in-Some.row) c.in-Some.ensures.found
+returns-in-Some-clause-found c = ap text_row_of (sym (c.in-Ok.ensures.cases.0 ∙ c.bytes.ensures.bytes)) ∙ c.in-Some.ensures.found
 
-pub returns-in-Some-library_row_of-clause-found : goal.returns-in-Some-library_row_of-clause-found
-returns-in-Some-library_row_of-clause-found c =
-    text_row_library c.args.name.now c.in-None.ensures.none (row_at c.in-Some-library_row_of.row) c.in-Some-library_row_of.ensures.found
+pub returns-in_default-of-clause-none : goal.returns-in_default-of-clause-none
+returns-in_default-of-clause-none c =
+    ap text_row_of (sym (c.in-Ok.ensures.cases.0 ∙ c.bytes.ensures.bytes)) ∙ c.in_default-own_row_of.ensures.none
+    ∙ rule_unnamed c.in-Ok.text.now c.in_default-of.ensures.none
 
-pub returns-in-None-library_row_of-clause-none : goal.returns-in-None-library_row_of-clause-none
-returns-in-None-library_row_of-clause-none c =
-    subst (λ found. IfNone c.derive_row_of.result (found ≡ None))
-    (sym (text_row_derive c.args.name.now c.in-None.ensures.none c.in-None-library_row_of.ensures.none)) c.derive_row_of.ensures.none
-
-pub returns-in-None-library_row_of-clause-found : goal.returns-in-None-library_row_of-clause-found
-returns-in-None-library_row_of-clause-found c =
-    subst (λ found. IfSome c.derive_row_of.result (λ row. found ≡ Some (row_at row)))
-    (sym (text_row_derive c.args.name.now c.in-None.ensures.none c.in-None-library_row_of.ensures.none)) c.derive_row_of.ensures.found
+pub returns-clause-found : goal.returns-clause-found
+returns-clause-found c =
+    ap text_row_of (sym (c.in-Ok.ensures.cases.0 ∙ c.bytes.ensures.bytes)) ∙ c.in_default-own_row_of.ensures.none
+    ∙ rule_named c.in-Ok.text.now c.in-Some-of.word c.in-Some-of.ensures.found
+    ∙ ap (λ kinds. Some (wants kinds)) (ap kinds_of (sym c.shape.ensures) ∙ sym c.kinds_of.ensures) ∙ ap (λ row. Some row) (sym c.wants.ensures)

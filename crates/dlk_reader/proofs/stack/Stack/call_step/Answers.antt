@@ -8,5 +8,5 @@ pub returns : goal.returns
 returns c = λ S h.
     let e = Inside (Args c.args.at c.args.name none) in
     rw (call_other c.args.goal S c.args.at c.args.name c.args.lexeme c.in_default.not-Close)
-    (c.start_operand.ensures (e ∷ S) (opened S e c.args.self.now
+    (c.start_operand.ensures.agrees (e ∷ S) (opened S e c.args.self.now
     (record { parts = c.push.new.self; out = c.args.self.now.out }) h c.in_ok-push.ensures.items refl))

@@ -19,4 +19,4 @@ returns-in_err-equations-in_default c = λ S h.
 pub returns-in_ok-equations-in_default : goal.returns-in_ok-equations-in_default
 returns-in_ok-equations-in_default c = λ S h.
     rw (opens_prime_other S c.args.at c.args.name c.args.lexeme c.in_default.not-Gets)
-    (c.item_prime_step.ensures S c.args.at no_items c.in_ok-equations-in_default.ensures h)
+    (c.item_prime_step.ensures.agrees S c.args.at no_items c.in_ok-equations-in_default.ensures h)
