@@ -1,8 +1,7 @@
 // `guard MODEL TERM`: take a term for a model as `check` does, and say before the report whether its lines are guarded.
-ghost use Rattle.std.specs.Prelude.{◌≡◌, [], ◌∷◌, ◌++◌, IfOk, OnOk, IfErr, codes};
+ghost use Rattle.std.specs.Prelude.{◌≡◌, [], ◌++◌, IfOk, OnOk, IfErr};
 ghost use Rattle.dlk_tree.specs.declared.op.OdeItem.TheVariants.{Const};
 ghost use Rattle.dlk_grammar.specs.Shown.{spell, item_text};
-ghost use Rattle.dlk_print.specs.Printed.{Appends};
 ghost use Rattle.dlk_jobs_check.specs.Guards.{guard_word, with_line_first, Guards};
 ghost use Rattle.dlk_jobs_check.specs.Verdicts.{line_of};
 ghost use Rattle.dlk_replies.specs.Ended.{EndsIn};

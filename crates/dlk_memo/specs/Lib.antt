@@ -1,3 +1,4 @@
+pub mod Ids
 pub mod Looks
 pub mod Tables
 pub mod Rules

@@ -2,6 +2,7 @@
 #![tactic(auto)]
 
 mod filling;
+mod kids;
 mod memo;
 mod plugging;
 mod results;

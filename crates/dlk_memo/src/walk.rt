@@ -8,6 +8,7 @@ ghost use Rattle.dlk_memo.specs.Looks.{subtrees, distinct_count};
 ghost use Rattle.dlk_memo.specs.Tables.{found, HasEachOnce, Puts, Opened, Unopened, IsRight, IsOpenAbove, OpensNone, Spends};
 ghost use Rattle.dlk_sequent.specs.declared.fault.ApplyFault.TheVariants.{NotAdmissible};
 
+use crate::kids::Kids;
 use crate::results::Results;
 use crate::rule::Rule;
 use dlk_sequent::ApplyFault;
@@ -24,18 +25,18 @@ fn open<S: Store, L: Ledger>(
     id: Id,
     done: &mut Results,
     steps: &mut Steps<L>,
-) -> Result<(Op, Vec<Id>), AllocError>
+) -> Result<(Op, Kids), AllocError>
     requires known { IsId (S.trees store.now) id }
     requires absent { found done.old id ≡ None }
-    ensures tree { IfOk result (λ r. tree (S.trees store.now) id ≡ node r.0 (kid_trees (S.trees store.now) r.1.items)) }
-    ensures kids { IfOk result (λ r. All (IsId (S.trees store.now)) r.1.items) }
+    ensures tree { IfOk result (λ r. tree (S.trees store.now) id ≡ node r.0 (kid_trees (S.trees store.now) r.1)) }
+    ensures kids { IfOk result (λ r. All (IsId (S.trees store.now)) r.1) }
     ensures opened { OnOk result (Opened done.old done.new id steps.old steps.new) }
     ensures err { OnErr result (Opened done.old done.new id steps.old steps.new ⊎ Unopened done.old done.new steps.old steps.new) }
     ensures once { HasEachOnce done.new }
 {
     done.begin(id)?;
     let node = store.look(id, steps);
-    let kids = node.kids.to_vec(alloc)?;
+    let kids = Kids::from_slice(alloc, node.kids)?;
     let op = node.op.clone()?;
     Ok((op, kids))
 }
@@ -102,10 +103,11 @@ fn walk<S: Store, L: Ledger, R: Rule>(
         return known.ok_or(ApplyFault::NotAdmissible);
     }
     let (op, old) = open(alloc, store, id, done, steps)?;
-    let mut new = Vec::new(alloc);
-    for kid in &old {
+    let kids = old.as_slice();
+    let mut new = Kids::new();
+    for kid in kids {
         let made = walk(alloc, store, rule, *kid, done, steps)?;
-        new.push(made)?;
+        new = new.with(alloc, made)?;
     }
     conclude(
         alloc,
@@ -113,7 +115,7 @@ fn walk<S: Store, L: Ledger, R: Rule>(
         rule,
         id,
         &op,
-        old.as_slice(),
+        kids,
         new.as_slice(),
         done,
         steps,

@@ -1,7 +1,6 @@
 // The commands, and what their words name.
 ghost use Rattle.std.specs.Prelude.{◌≡◌, [], length, map, string_bytes, None, Some, IsTrue, option_copied};
-ghost use Rattle.dlk_replies.specs.Forms.{form_of, inputs_of, others_of, output_named, output_of, ends_in, commands, command_of};
-ghost use Rattle.dlk_replies.specs.Inputs.{output};
+ghost use Rattle.dlk_replies.specs.Forms.{form_of, inputs_of, others_of, output_of, ends_in, command_of};
 ghost use Rattle.dlk_replies.specs.Shown.{form_shown};
 
 use crate::form::{Form, Last, Role};
@@ -148,12 +147,4 @@ impl Command {
             _ => None,
         }
     }
-}
-
-/// The name of the file that the words let the program write, if there is one.
-pub fn output(words: &[String]) -> Option<&str>
-    ensures { option_copied result ≡ output (map string_bytes words.now) }
-{
-    let command = Command::parse(words)?;
-    command.output(words)
 }

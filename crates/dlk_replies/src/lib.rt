@@ -8,7 +8,7 @@ mod form;
 mod refusal;
 mod reply;
 
-pub use command::{Command, output};
+pub use command::Command;
 pub use ended::{Ended, answer_of, end_by};
 pub use fault::NoReply;
 pub use form::{Form, Last, Role, count_of};

@@ -29,13 +29,13 @@ pub loop-kid-init : goal.loop-kid-init
 loop-kid-init g t c =
     let first = g.S.Store.trees c.args.store.now in
     let job = g.R.Rule.job c.args.rule.now first in
-    let at = c.deref-kid-items.ensures.value in
+    let at = c.as_slice-kids.ensures in
     let seen = c.in_ok-op.ensures in
     record {
       grows = g.met.S.Store.grows_refl c.args.store.now;
       made =
-          rw c.new-new.ensures.items
-          (Made-none (g.R.Rule.Makes job) first c.args.id c.in_ok-op.op c.deref-kid-items.result.now
+          rw c.new-new.ensures
+          (Made-none (g.R.Rule.Makes job) first c.args.id c.in_ok-op.op c.as_slice-kids.result.now
           (seen.tree ∙ ap (λ l. node c.in_ok-op.op (kid_trees first l)) (sym at)) (subst (All (IsId first)) (sym at) seen.kids));
       right =
           right_begun (g.R.Rule.Makes job) first c.args.done.now c.open.new.done c.args.id seen.opened.put c.requires.known c.requires.right;
@@ -56,7 +56,7 @@ walk-requires g t c κs within =
     let right = subst (λ j. IsRight (g.R.Rule.Makes j) ts c.loop-kid.done) (sym job) c.loop-kid.invariant.right in
     let above =
     kid_above first ts c.args.done.now c.open.new.done c.loop-kid.done c.args.id c.in_ok-op.ensures.opened.put c.loop-kid.invariant.opens m.kept
-    c.requires.known c.requires.right.known (size (tree ts (get_or c.deref-kid-items.result.now c.loop-kid.kid-index d))) less c.requires.above in
+    c.requires.known c.requires.right.known (size (tree ts (get_or c.as_slice-kids.result.now c.loop-kid.kid-index d))) less c.requires.above in
     let once = c.loop-kid.invariant.spends.once in
     (omega (arith, less), (search rules, (search rules, (search rules, (ready, (next_known m d c.loop-kid-test.true, (right, (above, once))))))))
 
@@ -85,15 +85,15 @@ returns-in_err-made-clause-spends g t c =
     let keeps = g.met.S.Store.grows_keeps c.loop-kid.store c.walk.new.store c.walk.ensures.grows in
     kid_failed m g.S.Store.unique (g.R.Rule.looks (g.R.Rule.job c.args.rule.now first)) us keeps c.requires.known c.loop-kid-test.true c.in_ok-op.ensures.opened
     c.loop-kid.invariant.spends (subst (λ j. Spends g.S.Store.unique (1 + g.R.Rule.looks j)
-    (tree ts (get_or c.deref-kid-items.result.now c.loop-kid.kid-index (record { 0 = 0 }))) us c.loop-kid.done c.walk.new.done c.loop-kid.steps c.walk.new.steps)
+    (tree ts (get_or c.as_slice-kids.result.now c.loop-kid.kid-index (record { 0 = 0 }))) us c.loop-kid.done c.walk.new.done c.loop-kid.steps c.walk.new.steps)
     job c.walk.ensures.spends)
 
-pub returns-in_err-push-clause-grows : goal.returns-in_err-push-clause-grows
-returns-in_err-push-clause-grows g t c =
+pub returns-in_err-new-clause-grows : goal.returns-in_err-new-clause-grows
+returns-in_err-new-clause-grows g t c =
     g.met.S.Store.grows_trans c.args.store.now c.loop-kid.store c.walk.new.store c.loop-kid.invariant.grows c.walk.ensures.grows
 
-pub returns-in_err-push-clause-spends : goal.returns-in_err-push-clause-spends
-returns-in_err-push-clause-spends g t c =
+pub returns-in_err-new-clause-spends : goal.returns-in_err-new-clause-spends
+returns-in_err-new-clause-spends g t c =
     let first = g.S.Store.trees c.args.store.now in
     let ts = g.S.Store.trees c.loop-kid.store in
     let us = g.S.Store.trees c.walk.new.store in
@@ -102,7 +102,7 @@ returns-in_err-push-clause-spends g t c =
     let keeps = g.met.S.Store.grows_keeps c.loop-kid.store c.walk.new.store c.walk.ensures.grows in
     kid_failed m g.S.Store.unique (g.R.Rule.looks (g.R.Rule.job c.args.rule.now first)) us keeps c.requires.known c.loop-kid-test.true c.in_ok-op.ensures.opened
     c.loop-kid.invariant.spends (subst (λ j. Spends g.S.Store.unique (1 + g.R.Rule.looks j)
-    (tree ts (get_or c.deref-kid-items.result.now c.loop-kid.kid-index (record { 0 = 0 }))) us c.loop-kid.done c.walk.new.done c.loop-kid.steps c.walk.new.steps)
+    (tree ts (get_or c.as_slice-kids.result.now c.loop-kid.kid-index (record { 0 = 0 }))) us c.loop-kid.done c.walk.new.done c.loop-kid.steps c.walk.new.steps)
     job c.walk.ensures.spends)
 
 pub loop-kid-preserved : goal.loop-kid-preserved
@@ -120,13 +120,13 @@ loop-kid-preserved g t c =
     let made = c.in_ok-made.ensures.ok in
     record {
       grows = g.met.S.Store.grows_trans c.args.store.now c.loop-kid.store c.walk.new.store inv.grows grows;
-      made = rw c.in_ok-push.ensures.items
+      made = rw c.in_ok-new.ensures
           (next_made m d c.loop-kid-test.true c.in_ok-made.made keeps (λ j. g.R.Rule.Makes (job j) (same j)) made.stands.known (holds_tree made));
       right = subst (λ j. IsRight (g.R.Rule.Makes j) us c.walk.new.done) job c.in_ok-made.ensures.right;
       opens = opens_then inv.opens c.in_ok-made.ensures.opens;
       spends = kid_spent m g.S.Store.unique (g.R.Rule.looks (g.R.Rule.job c.args.rule.now first)) us keeps c.loop-kid-test.true
           inv.spends (subst (λ j. Spends g.S.Store.unique (1 + g.R.Rule.looks j)
-          (tree ts (get_or c.deref-kid-items.result.now c.loop-kid.kid-index d)) us c.loop-kid.done c.walk.new.done c.loop-kid.steps c.walk.new.steps)
+          (tree ts (get_or c.as_slice-kids.result.now c.loop-kid.kid-index d)) us c.loop-kid.done c.walk.new.done c.loop-kid.steps c.walk.new.steps)
           job c.in_ok-made.ensures.spends);
     }
 
@@ -137,17 +137,16 @@ conclude-requires-clause-ready g t c =
 pub conclude-requires-clause-old : goal.conclude-requires-clause-old
 conclude-requires-clause-old g t c =
     let m = c.loop-kid.invariant.made in
-    subst (All (IsId (g.S.Store.trees c.loop-kid.store))) (c.deref-kid-items.ensures.value ∙ sym c.as_slice.ensures.value)
-    (known_kept m.kept c.deref-kid-items.result.now m.kids_known)
+    known_kept m.kept c.as_slice-kids.result.now m.kids_known
 
 pub conclude-requires-clause-new : goal.conclude-requires-clause-new
 conclude-requires-clause-new g t c =
-    subst (All (IsId (g.S.Store.trees c.loop-kid.store))) (sym c.as_slice-2.ensures.value) c.loop-kid.invariant.made.known
+    subst (All (IsId (g.S.Store.trees c.loop-kid.store))) (sym c.as_slice.ensures) c.loop-kid.invariant.made.known
 
 pub conclude-requires-clause-fits : goal.conclude-requires-clause-fits
 conclude-requires-clause-fits g t c =
     let first = g.S.Store.trees c.args.store.now in
-    rw c.as_slice-2.ensures.value
+    rw c.as_slice.ensures
     (made_fit c.loop-kid.invariant.made (omega arith) (λ t u well p. g.met.R.Rule.sort_kept c.args.rule.now first t u c.requires.ready well p)
     (g.met.S.Store.well_made c.args.store.now) c.requires.known)
 
@@ -160,8 +159,8 @@ returns-clause-ok g t c =
     let ts = g.S.Store.trees c.loop-kid.store in
     let m = c.loop-kid.invariant.made in
     let job = g.met.R.Rule.job_kept c.args.rule.now first ts m.kept c.requires.ready in
-    let olds = same_kids m c.as_slice.result.now _ c.as_slice.ensures.value c.deref-kid-items.ensures.value in
-    let news = ap (kid_trees ts) c.as_slice-2.ensures.value in
+    let olds = same_kids m c.as_slice-kids.result.now _ refl refl in
+    let news = ap (kid_trees ts) c.as_slice.ensures in
     result_weaker _ _ (g.S.Store.trees c.conclude.new.store) c.conclude.result
     (λ id t stands p. node_made g.met.R.Rule.rows m job (omega arith) olds news t p) c.conclude.ensures.ok
 
@@ -171,8 +170,8 @@ returns-clause-none g t c e =
     let ts = g.S.Store.trees c.loop-kid.store in
     let m = c.loop-kid.invariant.made in
     let job = g.met.R.Rule.job_kept c.args.rule.now first ts m.kept c.requires.ready in
-    let olds = same_kids m c.as_slice.result.now _ c.as_slice.ensures.value c.deref-kid-items.ensures.value in
-    let news = ap (kid_trees ts) c.as_slice-2.ensures.value in
+    let olds = same_kids m c.as_slice-kids.result.now _ refl refl in
+    let news = ap (kid_trees ts) c.as_slice.ensures in
     node_without g.met.R.Rule.rows m job (omega arith) olds news (c.conclude.ensures.none e)
 
 pub returns-clause-grows : goal.returns-clause-grows
@@ -186,8 +185,8 @@ returns-clause-right g t c =
     let us = g.S.Store.trees c.conclude.new.store in
     let m = c.loop-kid.invariant.made in
     let job = g.met.R.Rule.job_kept c.args.rule.now first ts m.kept c.requires.ready in
-    let olds = same_kids m c.as_slice.result.now _ c.as_slice.ensures.value c.deref-kid-items.ensures.value in
-    let news = ap (kid_trees ts) c.as_slice-2.ensures.value in
+    let olds = same_kids m c.as_slice-kids.result.now _ refl refl in
+    let news = ap (kid_trees ts) c.as_slice.ensures in
     let makes = g.R.Rule.Makes (g.R.Rule.job c.args.rule.now first) in
     let keeps = g.met.S.Store.grows_keeps c.loop-kid.store c.conclude.new.store c.conclude.ensures.grows in
     let all = Keeps-trans m.kept keeps in
