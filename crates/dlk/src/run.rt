@@ -86,7 +86,12 @@ fn work<D: Desk, L: Ledger>(
     let Some(command) = call.command else {
         return Ok(words_refused(alloc)?);
     };
-    let inputs = read_inputs(alloc, desk, command.inputs(call.words), command.form().inputs)?;
+    let inputs = read_inputs(
+        alloc,
+        desk,
+        command.inputs(call.words),
+        command.form().inputs,
+    )?;
     Ok(respond(alloc, command, call.words, &inputs, steps)?)
 }
 
