@@ -16,7 +16,7 @@ impl<'a> Call<'a> {
     /// The name of the file that the words let the program write, if there is one.
     pub fn output(self) -> Option<&'a str>
         requires { self.command ≡ command_of (map string_bytes self.words.now) }
-        ensures { option_copied result ≡ output (map string_bytes self.words.now) }
+        ensures { option_copied result ≡ output (map string_bytes self.entry.words.now) }
     {
         let command = self.command?;
         command.output(self.words)

@@ -71,17 +71,17 @@ fn work<D: Desk, L: Ledger>(
     steps: &mut Steps<L>,
 ) -> Result<Reply, NoAnswer>
     requires { call.command ≡ command_of (map string_bytes call.words.now) }
-    ensures ok { IfOk result (λ r. D.tells → Answers (map string_bytes call.words.now) (D.outside desk.old).files (reply_of r)) }
-    ensures words { IfOk result (λ r. (code_of r.status ≡ 3) ↔ IsNone (command_of (map string_bytes call.words.now))) }
+    ensures ok { IfOk result (λ r. D.tells → Answers (map string_bytes call.entry.words.now) (D.outside desk.old).files (reply_of r)) }
+    ensures words { IfOk result (λ r. (code_of r.status ≡ 3) ↔ IsNone (command_of (map string_bytes call.entry.words.now))) }
     ensures kinds { IfOk result (λ r. code_of r.status ≤ 3) }
     ensures refusal { IfOk result (λ r. code_of r.status ≡ 2 → IsNone r.written) }
-    ensures form { IsErrOf result NoAnswer.Fault → IsSome (command_of (map string_bytes call.words.now)) }
-    ensures missing { IfOk result (λ r. D.tells → HasInputs (map string_bytes call.words.now) (D.outside desk.old)) }
+    ensures form { IsErrOf result NoAnswer.Fault → IsSome (command_of (map string_bytes call.entry.words.now)) }
+    ensures missing { IfOk result (λ r. D.tells → HasInputs (map string_bytes call.entry.words.now) (D.outside desk.old)) }
     ensures fault { IsErrOf result NoAnswer.Fault → Rose (D.outside desk.old).read_faults (D.outside desk.new).read_faults }
-    ensures all { OnOk result ((D.outside desk.new).asked ≡ (D.outside desk.old).asked ++ inputs_named (map string_bytes call.words.now)) }
-    ensures asks { (count : ℕ) × AsksFor D.tells (inputs_named (map string_bytes call.words.now)) (limits_named (map string_bytes call.words.now)) count (D.outside desk.old) (D.outside desk.new) }
+    ensures all { OnOk result ((D.outside desk.new).asked ≡ (D.outside desk.old).asked ++ inputs_named (map string_bytes call.entry.words.now)) }
+    ensures asks { (count : ℕ) × AsksFor D.tells (inputs_named (map string_bytes call.entry.words.now)) (limits_named (map string_bytes call.entry.words.now)) count (D.outside desk.old) (D.outside desk.new) }
     ensures only { OnlyReads D.tells (D.outside desk.old) (D.outside desk.new) }
-    ensures looks { D.tells → LooksAtFewFor (map string_bytes call.words.now) (D.outside desk.old).files steps.old steps.new }
+    ensures looks { D.tells → LooksAtFewFor (map string_bytes call.entry.words.now) (D.outside desk.old).files steps.old steps.new }
 {
     let Some(command) = call.command else {
         return Ok(words_refused(alloc)?);
