@@ -50,6 +50,7 @@ impl Results {
     }
 
     /// What the table has for the id.
+    #[inline(never)]
     pub fn find(&self, id: Id) -> Option<Option<Id>>
         ensures found { result ≡ found self.now id }
         ensures once { HasEachOnce self.now }

@@ -1,4 +1,4 @@
-use Rattle.std.proofs.Common.{◌≡◌, ap, sym, subst, ◌∙◌, Some, Option}
+use Rattle.std.proofs.Common.{ap, sym, ◌∙◌, Some}
 use Rattle.dlk_memo.specs.Tables.{found}
 use Rattle.dlk_memo.proofs.Parts.{once_both, found_near, found_far, placed, not_placed}
 use Rattle.dlk_memo.proofs.results.Results.find.Goals as goal
