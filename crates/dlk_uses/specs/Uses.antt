@@ -262,7 +262,7 @@ pub record ProvesLast (rows : List Provable) (f : Tree) : Type 0 where
   pub is_last : At rows (length rows) row
   pub concludes : row.conclusion ≡ alone_right f
 
--- the last of the rows proves an instance of the axiom, and behind it these steps use it on the formula e at the place
+-- behind an instance of the axiom, which the last of the rows proves, these steps use it on the formula e at the place
 pub record FinishesBehind (rows : List Provable) (spot : Spot) (used : Use) (e : Tree) (steps : List Step) : Type 0 where
   pub f : Tree
   pub proves : ProvesLast rows f
