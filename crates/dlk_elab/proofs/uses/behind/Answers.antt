@@ -1,12 +1,12 @@
 use Rattle.std.proofs.Common.{◌≡◌, ℕ, List, length, sym, subst, ◌∙◌}
 use Rattle.std.proofs.lemmas.List.{length-map}
-use Rattle.std.proofs.lemmas.Result.{IfOk-weaker}
 use Rattle.dlk_tree.specs.Trees.{Tree}
 use Rattle.dlk_store.specs.Stores.{tree}
 use Rattle.dlk_kernel.specs.Kernel.{provable_at, facts}
 use Rattle.dlk_sequent.specs.Spines.{top, path_of}
 use Rattle.dlk_elab.specs.Finishing.{HasForm, FinishUses}
 use Rattle.dlk_elab.specs.Uses.{aim_of}
+use Rattle.dlk_elab.proofs.Turns.{if_ok}
 use Rattle.dlk_elab.proofs.uses.behind.Goals as goal
 
 pub finish-requires-clause-instance : goal.finish-requires-clause-instance
@@ -29,11 +29,11 @@ returns-clause-made g c =
     let form = c.args.found.now.form in
     let p = c.requires.proves in
     let counted : c.rows-now.result ≡ length rows = c.rows-now.ensures.count ∙ sym (length-map c.args.kernel.now.rows (provable_at old)) in
-    IfOk-weaker c.finish.result _ _
+    if_ok c.finish.result _ _ c.finish.ensures.made
     (λ made finishes. record {
       f = p.f;
       proves = p.last;
       finish = subst (λ (t : Tree). FinishUses new (length rows) aim form (path_of way) (tree old (top way)) t made.items)
           (c.last_proved-f.ensures p.f p.last).tree_is
           (subst (λ (n : ℕ). FinishUses new n aim form (path_of way) (tree old (top way)) (tree old c.last_proved-f.result) made.items) counted finishes);
-    }) c.finish.ensures.made
+    })
