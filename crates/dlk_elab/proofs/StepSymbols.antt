@@ -115,9 +115,9 @@ module _ (ends_made : (op : Op) (kids : Forest) → WellMade (node op kids) → 
     pub atom_symbols : (rows : List Provable) (fact goal : ℕ) (atom : Atom) (steps : List Step) (after : List Provable) → All HasFormulas rows → HasNames atom →
         AtomSteps rows fact goal atom steps after → All ReplacesSymbols steps
     atom_symbols rows fact goal atom steps after all names (asked s is asks takes) = asked_symbols (length rows) fact goal s atom steps asks
-    atom_symbols rows fact goal atom _ after all names (uses s used extra e between rest is asks first finishes behind) =
+    atom_symbols rows fact goal atom _ after all names (uses s used extra e between rest is asks first behind then_on) =
         let formulas = goal_formulas rows fact goal s all is in
         All-append ReplacesSymbols (instance_of (length rows) used extra) rest
         (instance_symbols (length rows) used.its_axiom.name extra
         (used_symbols (length rows) fact goal s atom used extra e (Instance used extra e) formulas names asks refl))
-        (finishing_symbols (length between) (record { fact = fact; goal = goal; s = s }) used e _ rest finishes)
+        (finishing_symbols (length between) (record { fact = fact; goal = goal; s = s }) used e behind.f rest behind.finishes)
