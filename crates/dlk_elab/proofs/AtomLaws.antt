@@ -9,6 +9,7 @@ use Rattle.dlk_calculus.specs.Sequents.{Sequent}
 use Rattle.dlk_calculus.specs.Provables.{Provable}
 use Rattle.dlk_calculus.specs.Rules.{Rule, word_of, arguments_of}
 use Rattle.dlk_calculus.specs.Steps.{Step, Gives, IsGoal, Fault}
+use Rattle.dlk_calculus.proofs.PlaceLaws.{at_one}
 use Rattle.dlk_rules.specs.declared.rule.RuleWord.{RuleWord}
 use Rattle.dlk_rules.specs.Words.{shape_of, text_of, wanted}
 use Rattle.dlk_tacsyn.specs.Tactics.{Atom}
@@ -18,7 +19,6 @@ use Rattle.dlk_elab.specs.Atoms.{uses, Instance, instance_of, not_instantiated, 
 use Rattle.dlk_uses.specs.Uses.{Use, Spot, Finishes, ProvesLast, FinishesBehind}
 use Rattle.dlk_match.specs.Matching.{Match}
 use Rattle.dlk_elab.proofs.OneFinish.{finishes_one}
-use Rattle.dlk_elab.proofs.Places.{at_one}
 use Rattle.dlk_elab.proofs.TakenLaws.{takes_one, taken_or_fault, fault_one}
 use Rattle.dlk_elab.proofs.AskLaws.{asks_one}
 
