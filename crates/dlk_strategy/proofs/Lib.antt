@@ -18,7 +18,6 @@ mod Parts
 mod Counted
 mod Repeating
 mod Choosing
-mod Depths
 mod Expanding
 mod Derivations
 mod Uses
