@@ -23,3 +23,8 @@ returns-in_err-name-clause-fault c =
 
 pub returns-clause-found : goal.returns-clause-found
 returns-clause-found c = λ w. rw c.in_ok-name.ensures.found (place_and_name_are w c.args.text.now _ _ c.in-Some.ensures.found c.in_ok-name.ensures.real)
+
+pub returns-in_err-name-clause-memory : goal.returns-in_err-name-clause-memory
+returns-in_err-name-clause-memory c =
+    let e = err_from_is_err_and c.from_residual.result c.from_residual.ensures.1 in
+    rw (e.1, e.2) (λ is. (c.in-Some.place, c.in-Some.rest.now, c.in-Some.ensures.found, c.in_err-name.ensures.memory is))

@@ -23,3 +23,16 @@ returns-in_err-h-in-OneFormula-clause-fault g c =
     let up : ((h : Tree) → ¬ IsFormulaText w c.args.text.now h) → (a : Arguments) → c.args.shape ≡ shape_of a → ¬ IsArguments w c.args.text.now a =
     (λ none a s. lacking w c.args.text.now shape.OneFormula none a (sym c.in-OneFormula.is ∙ s)) in
     rw (e.1, e.2) (fault_of_whole up _ c.in_err-h-in-OneFormula.ensures.fault)
+
+pub returns-in_err-place-in-PlaceAndFormula-clause-memory : goal.returns-in_err-place-in-PlaceAndFormula-clause-memory
+returns-in_err-place-in-PlaceAndFormula-clause-memory g c =
+    let e = err_from_is_err_and c.from_residual.result c.from_residual.ensures.1 in
+    rw (e.1, e.2, c.in-PlaceAndFormula.is) c.in_err-place-in-PlaceAndFormula.ensures.memory
+
+pub returns-in_err-h-in-OneFormula-clause-memory : goal.returns-in_err-h-in-OneFormula-clause-memory
+returns-in_err-h-in-OneFormula-clause-memory g c = rw c.in-OneFormula.is (λ is. tt)
+
+pub returns-in_err-place-in-PlaceAndName-clause-memory : goal.returns-in_err-place-in-PlaceAndName-clause-memory
+returns-in_err-place-in-PlaceAndName-clause-memory g c =
+    let e = err_from_is_err_and c.from_residual-in_err-place-in-PlaceAndName.result c.from_residual-in_err-place-in-PlaceAndName.ensures.1 in
+    rw (e.1, e.2, c.in-PlaceAndName.is) c.in_err-place-in-PlaceAndName.ensures.memory
