@@ -19,6 +19,6 @@ pub name_wants : {A B : Type 0} (text : List ℕ) (why : NameFault) (r : Result 
     ((q ≡ Err name.NotAName) ↔ IsFalse (is_name text)) → r ≡ Err fault.Memory → IsTrue (is_name text)
 name_wants text name.NotAName r q is from decides wants = absurd (cc)
 name_wants text name.Memory r q is from decides wants = elim (cases_Bool (is_name text)) [
-  | inl yes ↦ yes
-  | inr no ↦ let clash = decides.1 no in absurd (cc)
+  | inl real ↦ real
+  | inr unreal ↦ let clash = decides.1 unreal in absurd (cc)
 ]

@@ -37,12 +37,6 @@ pub name_wants : {A B : Type 0} (text : List ℕ) (why : NameFault) (r : Result 
     ((q ≡ Err name.NotAName) ↔ IsFalse (is_name text)) → r ≡ Err fault.Memory → IsTrue (is_name text)
 name_wants text name.NotAName r q is from decides wants = absurd (cc)
 name_wants text name.Memory r q is from decides wants = elim (cases_Bool (is_name text)) [
-  | inl yes ↦ yes
-  | inr no ↦ let clash = decides.1 no in absurd (cc)
+  | inl real ↦ real
+  | inr unreal ↦ let clash = decides.1 unreal in absurd (cc)
 ]
-
--- a step's line wants memory where the whole does
-pub step_wants : {A B : Type 0} (why : LineFault) (r : Result A NodeFault) (q : Result B LineFault) → r ≡ Err (of_line why) → q ≡ Err why → r ≡ Err fault.Memory →
-    q ≡ Err line_fault.Memory
-step_wants line_fault.Malformed r q is from wants = absurd (cc)
-step_wants line_fault.Memory r q is from wants = from

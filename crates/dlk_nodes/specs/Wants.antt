@@ -1,10 +1,11 @@
--- Which lines want memory. Each other one that says nothing is refused before any memory is taken.
-use Rattle.std.specs.Prelude.{◌≡◌, ◌⊎◌, List, ℕ, ◌++◌, codes}
-use Rattle.dlk_lines.specs.Wants.{BeginsWithNumber, LineWants as StepLineWants}
+-- Which lines of nodes want memory. Each other one is refused before any is taken.
+use Rattle.std.specs.Prelude.{◌≡◌, List, ℕ, ◌++◌, codes}
+use Rattle.dlk_lines.specs.Parts.{NumberThen}
 
 -- the word of a node's line, a number, and whatever comes then
-abbrev pub NodeLineWants : List ℕ → Type 0
-NodeLineWants line = (text : List ℕ) × (line ≡ codes "node " ++ text) × BeginsWithNumber text 32
-
-abbrev pub LineWants : List ℕ → Type 0
-LineWants line = NodeLineWants line ⊎ StepLineWants line
+pub record NodeLineWants (line : List ℕ) : Type 0 where
+  pub text : List ℕ
+  pub number : ℕ
+  pub rest : List ℕ
+  pub line_is : line ≡ codes "node " ++ text
+  pub number_is : NumberThen text 32 number rest

@@ -1,7 +1,6 @@
 -- Faults of runs, by those of atoms and of plans.
-use Rattle.std.proofs.Common.{◌≡◌, ℕ, ◌+◌, ◌<◌, List, [], ◌∷◌, length, Option, refl, sym, ap, subst, ◌∙◌}
+use Rattle.std.proofs.Common.{◌≡◌, ℕ, ◌+◌, ◌<◌, List, [], ◌∷◌, length, sym, subst}
 use Rattle.std.specs.Prelude.{Result, Ok, Err}
-use Rattle.dlk_tree.specs.Trees.{Tree}
 use Rattle.dlk_calculus.specs.Places.{At}
 use Rattle.dlk_calculus.specs.Sequents.{Sequent}
 use Rattle.dlk_sequent.specs.declared.sequent.Place.{Place}
@@ -9,8 +8,7 @@ use Rattle.dlk_tacsyn.specs.Tactics.{AtPlace, Atom}
 use Rattle.dlk_uses.specs.Uses.{formula_at}
 use Rattle.dlk_derive.specs.declared.fault.DeriveFault.{DeriveFault}
 use Rattle.dlk_derive.specs.declared.fault.DeriveFault.TheVariants as plan_fault
-use Rattle.dlk_derive.specs.Derives.{DeriveWhy, Plans, NoPlan}
-use Rattle.dlk_derive.specs.Plans.{Call}
+use Rattle.dlk_derive.specs.Derives.{DeriveWhy, NoPlan}
 use Rattle.dlk_derive.specs.Derives as derive
 use Rattle.dlk_derive.specs.Ties.{IsDeriveFaultOf}
 use Rattle.dlk_elab.specs.declared.fault.FailWhy.{FailWhy}
@@ -19,11 +17,10 @@ use Rattle.dlk_elab.specs.declared.fault.TacFault.{TacFault}
 use Rattle.dlk_elab.specs.declared.fault.TacFault.TheVariants as atom_fault
 use Rattle.dlk_elab.specs.Atoms.{AtomFault}
 use Rattle.dlk_elab.specs.Ties.{IsTacFault}
-use Rattle.dlk_elab.proofs.Places.{at_one}
 use Rattle.dlk_strategy.specs.declared.fault.RunFault.{RunFault}
 use Rattle.dlk_strategy.specs.declared.fault.RunFault.TheVariants as run_fault
 use Rattle.dlk_strategy.specs.Runs.{Progress, Fails, Once, RunDerive, no_plan, most_runs, main_goals}
-use Rattle.dlk_strategy.specs.Ties.{Becomes, UnlessOver, IsBackOnFailure, HasNoPlan}
+use Rattle.dlk_strategy.specs.Ties.{Becomes, UnlessOver, IsBackOnFailure}
 use Rattle.dlk_strategy.specs.Whys.{why_of, of_atom, of_plan}
 use Rattle.dlk_strategy.proofs.States.{once_fails}
 
@@ -66,24 +63,3 @@ module _ (atom : Atom) (goal : ℕ) (now after : Progress) (s : Sequent) (place 
   plan_fails plan_fault.WrongShape h = fails_for derive.WrongShape h
   plan_fails plan_fault.NoMatch h = fails_for derive.NoMatch h
   plan_fails plan_fault.Memory h = tt
-
--- the goal has one formula at the place, so that there is no plan at what was found there
-pub same_goal : (atom : Atom) (goals : List Sequent) (goal : ℕ) (s : Sequent) (place : Place) (path : List ℕ) (why : DeriveWhy) → At goals goal s →
-    atom.arguments ≡ AtPlace place path ∷ [] → HasNoPlan atom goals goal why → NoPlan (formula_at s place) path why
-same_goal atom goals goal s place path why there are none =
-    let same : none.s ≡ s = at_one goals goal none.s s none.there there in
-    let args : AtPlace none.place none.path ∷ [] ≡ AtPlace place path ∷ [] = sym none.arguments_are ∙ are in
-    let p : none.place ≡ place = cc in
-    let q : none.path ≡ path = cc in
-    subst (λ z. NoPlan (formula_at z place) path why) same
-    (subst (λ z. NoPlan (formula_at none.s z) path why) p (subst (λ z. NoPlan (formula_at none.s none.place) z why) q none.none))
-
--- where there is no plan, its reason is told
-module _ (there : Option Tree) (path : List ℕ) (one_reason : (why other : DeriveWhy) → NoPlan there path why → NoPlan there path other → why ≡ other)
-    (apart : (calls : List Call) (why : DeriveWhy) → Plans there path calls → NoPlan there path why → ⊥) where
-  pub plan_owed : (at : ℕ) (fault : DeriveFault) (why : DeriveWhy) → NoPlan there path why → IsDeriveFaultOf (NoPlan there path) fault →
-      (fault ≡ plan_fault.Memory → (calls : List Call) × Plans there path calls) → of_plan at fault ≡ run_fault.Fails at (why_of why)
-  plan_owed at plan_fault.NoPlace why none h memory = ap (λ w. run_fault.Fails at (why_of w)) (one_reason derive.NoPlace why h none)
-  plan_owed at plan_fault.WrongShape why none h memory = ap (λ w. run_fault.Fails at (why_of w)) (one_reason derive.WrongShape why h none)
-  plan_owed at plan_fault.NoMatch why none h memory = ap (λ w. run_fault.Fails at (why_of w)) (one_reason derive.NoMatch why h none)
-  plan_owed at plan_fault.Memory why none h memory = let planned = memory refl in absurd (apart planned.0 why planned.1 none)

@@ -3,18 +3,13 @@ pub use Rattle.dlk_elab.specs.Ties.{progress_at}
 use Rattle.std.specs.Prelude.{◌≡◌, ◌≤◌, ℕ, ◌+◌, List, [], ◌∷◌, take, length, All, Option, Some, None, Result, Ok, Err}
 use Rattle.dlk_tree.specs.Trees.{Tree}
 use Rattle.dlk_calculus.specs.Limits.{most_goals}
-use Rattle.dlk_calculus.specs.Places.{At}
-use Rattle.dlk_calculus.specs.Sequents.{Sequent}
-use Rattle.dlk_sequent.specs.declared.sequent.Place.{Place}
 use Rattle.dlk_rules.specs.Steps.{HasKnownIds}
 use Rattle.dlk_kernel.specs.Kernel.{State, facts, ExtendsRows, SameRows}
 use Rattle.dlk_tacsyn.specs.declared.tactic.Tactic.{Tactic}
-use Rattle.dlk_tacsyn.specs.Tactics.{AtPlace, Atom as TreeAtom, Tactic as TreeTactic, Choice as TheChoice, Sequence, Branch as TheBranch}
+use Rattle.dlk_tacsyn.specs.Tactics.{Atom as TreeAtom, Tactic as TreeTactic, Choice as TheChoice, Sequence, Branch as TheBranch}
 use Rattle.dlk_tacsyn.specs.Tactics.{Repeat as TheRepeat, One as TheOne, Tactics, no_parts, part, count}
 use Rattle.dlk_tacsyn.specs.Rows.{AreRun, AreOfText}
 use Rattle.dlk_tacsyn.specs.Ties.{tactic_at, TacticIsKnown}
-use Rattle.dlk_uses.specs.Uses.{formula_at}
-use Rattle.dlk_derive.specs.Derives.{DeriveWhy, NoPlan}
 use Rattle.dlk_elab.specs.declared.fault.FailWhy.{FailWhy}
 use Rattle.dlk_elab.specs.declared.outcome.OnFault.{OnFault}
 use Rattle.dlk_elab.specs.declared.outcome.OnFault.TheVariants as on_fault
@@ -75,15 +70,6 @@ pub record IsRunnable (trees : List Tree) (t : Tactic) : Type 0 where
 pub record IsStrategy (trees : List Tree) (t : Tactic) : Type 0 where
   pub known : TacticIsKnown trees t
   pub of_text : AreOfText (tactic_at trees t)
-
--- `derive` has no plan on this one of these goals, for this reason
-pub record HasNoPlan (atom : TreeAtom) (goals : List Sequent) (goal : ℕ) (why : DeriveWhy) : Type 0 where
-  pub s : Sequent
-  pub place : Place
-  pub path : List ℕ
-  pub there : At goals goal s
-  pub arguments_are : atom.arguments ≡ AtPlace place path ∷ []
-  pub none : NoPlan (formula_at s place) path why
 
 -- the atom, where its name stands at this byte
 abbrev pub at_byte : ℕ → TreeAtom → TreeAtom

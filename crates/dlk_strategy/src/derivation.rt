@@ -1,20 +1,17 @@
 //! Runs of `derive`.
-ghost use Rattle.std.specs.Prelude.{◌≡◌, ◌≢◌, ◌≤◌, ◌<◌, ◌∷◌, [], ℕ, List, map, All, Err, IfOk, IfSome, IfNone, OnOk};
+ghost use Rattle.std.specs.Prelude.{◌≡◌, ◌≢◌, ◌≤◌, ◌∷◌, [], ℕ, List, map, All, IfOk, IfSome, IfNone, OnOk};
 ghost use Rattle.dlk_calculus.specs.Limits.{most_goals};
-ghost use Rattle.dlk_kernel.specs.Kernel.{facts, ExtendsRows};
+ghost use Rattle.dlk_kernel.specs.Kernel.{ExtendsRows};
 ghost use Rattle.dlk_sequent.specs.declared.sequent.Place.{Place as ThePlace};
 ghost use Rattle.dlk_tacsyn.specs.Rows.{IsFitting, IsDerivation, IsRun};
 ghost use Rattle.dlk_tacsyn.specs.Ties.{atom_at, AtomIsKnown};
-ghost use Rattle.dlk_derive.specs.Derives.{DeriveWhy};
-ghost use Rattle.dlk_strategy.specs.declared.fault.RunFault.TheVariants.{Fails};
-ghost use Rattle.dlk_strategy.specs.Runs.{main_goals, most_runs, OnEach, OneByOne, RunAtom, RunDerive, RunNamed};
-ghost use Rattle.dlk_strategy.specs.Ties.{goals_of, now, at_byte, IsReady, Extends, Becomes, UnlessOver, HasLeft, HasNoPlan};
-ghost use Rattle.dlk_strategy.specs.Whys.{why_of};
+ghost use Rattle.dlk_strategy.specs.Runs.{OnEach, OneByOne, RunAtom, RunDerive, RunNamed};
+ghost use Rattle.dlk_strategy.specs.Ties.{goals_of, now, at_byte, IsReady, Extends, Becomes, UnlessOver, HasLeft};
 
 use crate::atoms::{MOST_RUNS, run_atom};
 use crate::fault::{RunFault, of_plan};
 use crate::trace::{Trace, goal_at};
-use dlk_derive::laws::{one_plan, plan_is_fitting};
+use dlk_derive::laws::plan_is_fitting;
 use dlk_derive::plan;
 use dlk_kernel::Kernel;
 use dlk_sequent::Place;
@@ -73,7 +70,6 @@ fn derive<S: Store, L: Ledger>(
 ) -> Result<u32, RunFault>
     requires ready { IsReady S.trees kernel.old trace.old goal 1 }
     requires derivation { IsDerivation (atom_at (S.trees kernel.old.store) atom.now) }
-    ensures owed { (why : DeriveWhy) → trace.old.used < most_runs → HasNoPlan (atom_at (S.trees kernel.old.store) atom.now) (main_goals (facts S.trees kernel.old)) goal why → result ≡ Err (Fails atom.now.at (why_of why)) }
     ensures fate { Becomes (RunDerive (atom_at (S.trees kernel.old.store) atom.now) goal) (now S.trees kernel.old trace.old) (now S.trees kernel.new trace.new) result }
     ensures extends { UnlessOver (Extends S.trees kernel.old trace.old kernel.new trace.new) result }
     ensures rows { ExtendsRows S.trees kernel.old kernel.new }
@@ -82,7 +78,6 @@ fn derive<S: Store, L: Ledger>(
     ensures grows { S.grows kernel.old.store kernel.new.store }
 {
     plan_is_fitting();
-    one_plan();
     let at = atom.at;
     if trace.used >= MOST_RUNS {
         return Err(RunFault::Budget { at });

@@ -1,8 +1,9 @@
-use Rattle.std.proofs.Common.{◌∷◌, [], ◌∙◌}
+use Rattle.std.proofs.Common.{◌≡◌, ◌∷◌, [], Err, ap, ◌∙◌}
 use Rattle.std.proofs.lemmas.Result.{err_from_is_err_and}
 use Rattle.dlk_rules.specs.declared.step.Step.{Step}
 use Rattle.dlk_rules.specs.declared.step.Step.TheVariants.{Apply}
 use Rattle.dlk_rules.specs.Words.{arguments_at}
+use Rattle.dlk_elab.specs.declared.fault.TacFault.TheVariants.{Memory}
 use Rattle.dlk_elab.proofs.RuleArguments.{same_shape}
 use Rattle.dlk_elab.proofs.Plans.{plan_rule, same_plan, pushed}
 use Rattle.dlk_elab.proofs.plan.rule_plan.Goals as goal
@@ -23,7 +24,8 @@ returns-clause-plan c = λ trees s known name.
 
 pub returns-in_err-arguments-clause-memory : goal.returns-in_err-arguments-clause-memory
 returns-in_err-arguments-clause-memory c =
-    let p = err_from_is_err_and c.from_residual.result c.from_residual.ensures.1 in rw (p.1, p.2, ← c.as_slice.ensures) c.in_err-arguments.ensures.memory
+    let p = err_from_is_err_and c.from_residual.result c.from_residual.ensures.1 in rw (p.1, p.2, ← c.as_slice.ensures) (λ is. let why : c.in_err-arguments.field-0.0 ≡ Memory = cc is in 
+    c.in_err-arguments.ensures.memory (ap Err why))
 
 pub returns-in_err-push-clause-memory : goal.returns-in_err-push-clause-memory
 returns-in_err-push-clause-memory c = λ is trees. (

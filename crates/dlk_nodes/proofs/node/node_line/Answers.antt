@@ -38,5 +38,10 @@ returns-in_err-id-clause-memory g c = λ is.
     let cut : c.args.line.now ≡ c.as_slice.result.now ++ c.in-Some.text.now = strip_prefix_is Decides-eqb c.args.line.now c.as_slice.result.now
     (Some c.in-Some.text) c.in-Some.ensures.cases in
     let head : c.args.line.now ≡ codes "node " ++ c.in-Some.text.now = rw c.as_slice.ensures at cut in
-    let number = record { digits = c.in-Some-cut_at.digits.now; is_number = c.in-Some-number.ensures; text_is = c.in-Some-cut_at.ensures.found.text_is } in
-    (c.in-Some.text.now, head, (c.in-Some-number.number, c.in-Some-cut_at.text.now, number))
+    record {
+      text = c.in-Some.text.now;
+      number = c.in-Some-number.number;
+      rest = c.in-Some-cut_at.text.now;
+      line_is = head;
+      number_is = record { digits = c.in-Some-cut_at.digits.now; is_number = c.in-Some-number.ensures; text_is = c.in-Some-cut_at.ensures.found.text_is };
+    }

@@ -2,14 +2,12 @@ use Rattle.std.proofs.Common.{◌+◌, map, refl, sym, ap, subst, ◌∙◌, ari
 use Rattle.std.specs.Prelude.{Err}
 use Rattle.std.proofs.Math.Seq.{take-length}
 use Rattle.dlk_sequent.specs.Sequents.{sequent_at}
-use Rattle.dlk_kernel.specs.Kernel.{facts}
 use Rattle.dlk_tacsyn.specs.Ties.{argument_at, atom_at}
-use Rattle.dlk_uses.specs.Uses.{formula_at}
 use Rattle.dlk_strategy.specs.declared.fault.RunFault.{RunFault}
-use Rattle.dlk_strategy.specs.Runs.{main_goals, OneByOne, RunDerive, spent}
+use Rattle.dlk_strategy.specs.Runs.{OneByOne, RunDerive, spent}
 use Rattle.dlk_strategy.specs.Ties.{now, at_byte, Becomes}
 use Rattle.dlk_strategy.proofs.Derivations.{given_place}
-use Rattle.dlk_strategy.proofs.Faults.{unless_over, plan_fails, same_goal, plan_owed}
+use Rattle.dlk_strategy.proofs.Faults.{unless_over, plan_fails}
 use Rattle.dlk_strategy.proofs.States.{same_extends}
 use Rattle.dlk_strategy.proofs.Uses.{planned_fit, derived, becomes_on}
 use Rattle.dlk_strategy.proofs.derivation.derive.Goals as goal
@@ -70,29 +68,3 @@ returns-in-Err-clause-extends g c =
       counted = omega arith;
       within = omega (arith, c.if-trace-ge-MOST_RUNS.false);
     })
-
-pub returns-then-trace-ge-MOST_RUNS-clause-owed : goal.returns-then-trace-ge-MOST_RUNS-clause-owed
-returns-then-trace-ge-MOST_RUNS-clause-owed g c = λ why room none. absurd (omega (arith, room, c.if-trace-ge-MOST_RUNS.true))
-
-pub returns-in-Ok-clause-owed : goal.returns-in-Ok-clause-owed
-returns-in-Ok-clause-owed g c = λ why room none.
-    let trees = g.S.Store.trees in
-    let old = c.args.kernel.now in
-    let s = sequent_at (trees old.store) c.goal_at.result.now in
-    let are = ap (map (argument_at (trees old.store))) (sym c.as_slice.ensures ∙ c.in-Some.ensures.found) in
-    let here = same_goal (atom_at (trees old.store) c.args.atom.now) (main_goals (facts trees old)) c.args.goal s c.in-Some.place c.in-Some.path.now why
-    c.goal_at.ensures.goal are none in
-    absurd (c.one_plan.ensures.apart (formula_at s c.in-Some.place) c.in-Some.path.now c.in-Ok.ensures.plan.0 why c.in-Ok.ensures.plan.1 here)
-
-pub returns-in-Err-clause-owed : goal.returns-in-Err-clause-owed
-returns-in-Err-clause-owed g c = λ why room none.
-    let trees = g.S.Store.trees in
-    let old = c.args.kernel.now in
-    let s = sequent_at (trees old.store) c.goal_at.result.now in
-    let are = ap (map (argument_at (trees old.store))) (sym c.as_slice.ensures ∙ c.in-Some.ensures.found) in
-    let here = same_goal (atom_at (trees old.store) c.args.atom.now) (main_goals (facts trees old)) c.args.goal s c.in-Some.place c.in-Some.path.now why
-    c.goal_at.ensures.goal are none in
-    let there = formula_at s c.in-Some.place in
-    let path = c.in-Some.path.now in
-    ap Err (c.of_plan.ensures ∙ plan_owed there path (c.one_plan.ensures.reason there path) (c.one_plan.ensures.apart there path) c.args.atom.now.at
-    c.in-Err.why why here c.in-Err.ensures.fault (λ e. c.in-Err.ensures.memory (ap Err e)))
