@@ -71,7 +71,8 @@ returns-clause-memory g c = λ is.
     let trees = g.S.Store.trees c.args.store.now in
     let name = sym (c.in-Ok.ensures.cases.0 ∙ c.bytes.ensures.bytes) ∙ sym c.in-Some.ensures.found in
     let some = c.rule_plan.ensures.memory is trees in
-    let made = rule_made c.in-Some.word some.0 (sym some.1) in
-    (Apply c.args.target.fact c.args.target.goal made.0 ∷ [],
-    a_rule c.in-Some.word made.0 name made.1
-    (subst (AreFor (side_of c.in-Some.word) (map (argument_at trees) c.args.atom.now.args)) (sym made.2) some.2))
+    let made = rule_made c.in-Some.word some.0 (sym some.1) in (
+      Apply c.args.target.fact c.args.target.goal made.0 ∷ [],
+      a_rule c.in-Some.word made.0 name made.1
+          (subst (AreFor (side_of c.in-Some.word) (map (argument_at trees) c.args.atom.now.args)) (sym made.2) some.2),
+    )

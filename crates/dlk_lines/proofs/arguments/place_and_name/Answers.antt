@@ -28,5 +28,5 @@ returns-clause-found c = λ w. rw c.in_ok-name.ensures.found (place_and_name_are
 pub returns-in_err-name-clause-memory : goal.returns-in_err-name-clause-memory
 returns-in_err-name-clause-memory c =
     let e = err_from_is_err_and c.from_residual.result c.from_residual.ensures.1 in
-    rw (e.1, e.2) (λ is. let why : c.in_err-name.field-0.0 ≡ Memory = cc is in 
+    rw (e.1, e.2) (λ is. let why : c.in_err-name.field-0.0 ≡ Memory = cc is in
     (c.in-Some.place, c.in-Some.rest.now, c.in-Some.ensures.found, c.in_err-name.ensures.memory (ap Err why)))

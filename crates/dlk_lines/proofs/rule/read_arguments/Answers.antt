@@ -28,7 +28,7 @@ returns-in_err-h-in-OneFormula-clause-fault g c =
 pub returns-in_err-place-in-PlaceAndFormula-clause-memory : goal.returns-in_err-place-in-PlaceAndFormula-clause-memory
 returns-in_err-place-in-PlaceAndFormula-clause-memory g c =
     let e = err_from_is_err_and c.from_residual.result c.from_residual.ensures.1 in
-    rw (e.1, e.2, c.in-PlaceAndFormula.is) (λ is. let why : c.in_err-place-in-PlaceAndFormula.field-0.0 ≡ Memory = cc is in 
+    rw (e.1, e.2, c.in-PlaceAndFormula.is) (λ is. let why : c.in_err-place-in-PlaceAndFormula.field-0.0 ≡ Memory = cc is in
     c.in_err-place-in-PlaceAndFormula.ensures.memory (ap Err why))
 
 pub returns-in_err-h-in-OneFormula-clause-memory : goal.returns-in_err-h-in-OneFormula-clause-memory
@@ -37,5 +37,5 @@ returns-in_err-h-in-OneFormula-clause-memory g c = rw c.in-OneFormula.is (λ is.
 pub returns-in_err-place-in-PlaceAndName-clause-memory : goal.returns-in_err-place-in-PlaceAndName-clause-memory
 returns-in_err-place-in-PlaceAndName-clause-memory g c =
     let e = err_from_is_err_and c.from_residual-in_err-place-in-PlaceAndName.result c.from_residual-in_err-place-in-PlaceAndName.ensures.1 in
-    rw (e.1, e.2, c.in-PlaceAndName.is) (λ is. let why : c.in_err-place-in-PlaceAndName.field-0.0 ≡ Memory = cc is in 
+    rw (e.1, e.2, c.in-PlaceAndName.is) (λ is. let why : c.in_err-place-in-PlaceAndName.field-0.0 ≡ Memory = cc is in
     c.in_err-place-in-PlaceAndName.ensures.memory (ap Err why))

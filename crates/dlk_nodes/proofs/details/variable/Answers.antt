@@ -15,5 +15,5 @@ returns-in_err-name-clause-memory c =
 pub returns-in_err-name-2-clause-memory : goal.returns-in_err-name-2-clause-memory
 returns-in_err-name-2-clause-memory c =
     let e = err_from_is_err_and c.from_residual-in_err-name-2.result c.from_residual-in_err-name-2.ensures.1 in
-    rw (e.1, e.2) (λ is. let why : c.in_err-name-2.field-0.0 ≡ Memory = cc is in 
+    rw (e.1, e.2) (λ is. let why : c.in_err-name-2.field-0.0 ≡ Memory = cc is in
     primed_spelled c.args.text.now _ _ c.in-Some.ensures.found (none_left _ c.if-not-is_empty.ensures) (c.in_err-name-2.ensures.memory (ap Err why)))
