@@ -24,7 +24,7 @@ use Rattle.dlk_elab.specs.declared.fault.TacFault.{TacFault}
 use Rattle.dlk_elab.specs.declared.fault.TacFault.TheVariants as fault
 use Rattle.dlk_elab.specs.Atoms.{FailWhy, UnknownName, NoPlace, NoMatch, AtStep, HasGoalAt, Steps, Refused, Asks, AtomSteps, uses, FirstFault, AtomFault, asks_none, not_taken, instance_of}
 use Rattle.dlk_elab.specs.Atoms.{asked as by_asking}
-use Rattle.dlk_elab.specs.Ties.{IsTacFault, of_step, AreAsked, AreMade}
+use Rattle.dlk_elab.specs.Ties.{IsTacFault, of_step, AreAsked, AsksSome, AreMade}
 
 pub goal_within : (trees : List Tree) (rows : List Provable) (fact goal : ℕ) (goals : List Sequent) → HasGoalAt rows fact goal →
     ((p : Provable) → At rows fact p → p.goals ≡ map (sequent_at trees) goals) → goal - 1 < length goals
@@ -88,6 +88,14 @@ module _ (rows : List Provable) (count fact goal : ℕ) (atom : Atom) (s : TreeS
   plan_fault e h =
       tac_fault_weaker (λ why. Asks count fact goal s atom (Refused why)) (AtomFault rows fact goal atom)
       (λ why asks. asks_none s is_goal (subst (λ n. Asks n fact goal s atom (Refused why)) counted asks)) e h
+
+  pub asks_some : (steps : List TreeStep) → Asks count fact goal s atom (Steps steps) → AsksSome rows fact goal atom
+  asks_some steps asks = record {
+    s = s;
+    is_goal = is_goal;
+    steps = steps;
+    asks = subst (λ n. Asks n fact goal s atom (Steps steps)) counted asks;
+  }
 
   pub are_asked : (trees : List Tree) (steps : List Step) → Asks count fact goal s atom (Steps (map (step_at trees) steps)) → All (HasKnownIds trees) steps →
       AreAsked rows fact goal atom trees steps

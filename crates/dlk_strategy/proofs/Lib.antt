@@ -10,6 +10,7 @@ mod Begun
 mod OneOnce
 mod SomeFate
 mod States
+mod Faults
 mod Locators
 mod Trying
 mod FixedAtoms
