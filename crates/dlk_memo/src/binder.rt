@@ -6,7 +6,7 @@ ghost use Rattle.dlk_memo.specs.Binders.{quantified};
 use dlk_tree::{Op, Var};
 use std::alloc::AllocError;
 
-/// The variable that a quantifier binds. No other operator tells before its kids are made what it captures, and captures anything.
+/// The variable that a quantifier binds. It captures this one, whatever comes to stand below it.
 #[inline(never)]
 pub(crate) fn quantified(op: &Op) -> Result<Option<Var>, AllocError>
     ensures bound { IfOk result (λ v. v ≡ quantified op.now) }
