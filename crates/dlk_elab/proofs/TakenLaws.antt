@@ -12,6 +12,12 @@ use Rattle.dlk_elab.specs.Atoms.{FirstFault}
 nil_or_not : (x y : Step) (xs ys : List Step) → x ∷ xs ≡ y ∷ ys → (x ≡ y) × (xs ≡ ys)
 nil_or_not x y xs ys e = (cc, cc)
 
+-- no steps
+empty : (rows after : List Provable) (steps : List Step) → Takes rows steps after → steps ≡ [] → after ≡ rows
+empty rows after steps none e = refl
+empty rows after steps (more {steps = []} taken is) e = absurd (cc e)
+empty rows after steps (more {steps = x ∷ xs} taken is) e = absurd (cc e)
+
 -- the first step and those behind it
 pub record First (rows : List Provable) (step : Step) (steps : List Step) (after : List Provable) : Type 0 where
   pub row : Provable
