@@ -1,4 +1,4 @@
-use Rattle.std.proofs.Common.{◌+◌, ◌-◌, map, take, length, refl, sym, ap, subst, ◌∙◌, arith}
+use Rattle.std.proofs.Common.{ℕ, ◌+◌, ◌-◌, map, take, length, refl, sym, ap, subst, ◌∙◌, arith}
 use Rattle.std.specs.Prelude.{Err}
 use Rattle.std.proofs.lemmas.List.{length-map}
 use Rattle.std.proofs.Math.Seq.{take-append_seam, take-length}
@@ -7,7 +7,7 @@ use Rattle.dlk_kernel.specs.Kernel.{facts, provable_at}
 use Rattle.dlk_tacsyn.specs.Ties.{atom_at}
 use Rattle.dlk_strategy.specs.declared.fault.RunFault.{RunFault}
 use Rattle.dlk_strategy.specs.Runs.{spent, Once}
-use Rattle.dlk_strategy.specs.Ties.{now, Becomes}
+use Rattle.dlk_strategy.specs.Ties.{now, Becomes, Extends, IsBack}
 use Rattle.dlk_strategy.proofs.States.{steps_known, steps_more, known_more, goal_there, counted_as, of_last, once_done, same_extends}
 use Rattle.dlk_strategy.proofs.Faults.{unless_over, back_on_failure, atom_fails}
 use Rattle.dlk_strategy.proofs.atoms.run_once.Goals as goal
@@ -85,7 +85,8 @@ pub returns-in-Err-clause-extends : goal.returns-in-Err-clause-extends
 returns-in-Err-clause-extends g c =
     let trees = g.S.Store.trees in
     let keeps = g.met.S.Store.grows_keeps c.args.kernel.now.store c.elaborate.new.kernel.store c.elaborate.ensures.grows in
-    unless_over _ (record {
+    let after = record c.args.trace.now { used = c.args.trace.now.used + 1 } in
+    unless_over {T = ℕ} {holds = Extends trees c.args.kernel.now c.args.trace.now c.elaborate.new.kernel after} (Err c.of_atom.result) (record {
       rows = same_extends trees c.args.kernel.now c.elaborate.new.kernel c.in-Err.ensures.err;
       steps = take-length c.args.trace.now.steps.items;
       known = steps_known (trees c.args.kernel.now.store) (trees c.elaborate.new.kernel.store) keeps c.args.trace.now.steps.items c.requires.ready.known;
@@ -95,7 +96,8 @@ returns-in-Err-clause-extends g c =
 
 pub returns-in-Err-clause-back : goal.returns-in-Err-clause-back
 returns-in-Err-clause-back g c =
-    back_on_failure _ (record {
+    let after = record c.args.trace.now { used = c.args.trace.now.used + 1 } in
+    back_on_failure {back = IsBack g.S.Store.trees c.args.kernel.now c.args.trace.now c.elaborate.new.kernel after} (Err c.of_atom.result) (record {
       rows = c.in-Err.ensures.err;
       steps = refl;
       counted = omega arith;

@@ -1,11 +1,11 @@
-use Rattle.std.proofs.Common.{◌+◌, map, refl, sym, ap, subst, ◌∙◌, arith}
+use Rattle.std.proofs.Common.{ℕ, ◌+◌, map, refl, sym, ap, subst, ◌∙◌, arith}
 use Rattle.std.specs.Prelude.{Err}
 use Rattle.std.proofs.Math.Seq.{take-length}
 use Rattle.dlk_sequent.specs.Sequents.{sequent_at}
 use Rattle.dlk_tacsyn.specs.Ties.{argument_at, atom_at}
 use Rattle.dlk_strategy.specs.declared.fault.RunFault.{RunFault}
 use Rattle.dlk_strategy.specs.Runs.{OneByOne, RunDerive, spent}
-use Rattle.dlk_strategy.specs.Ties.{now, at_byte, Becomes}
+use Rattle.dlk_strategy.specs.Ties.{now, at_byte, Becomes, Extends}
 use Rattle.dlk_strategy.proofs.Derivations.{given_place}
 use Rattle.dlk_strategy.proofs.Faults.{unless_over, plan_fails}
 use Rattle.dlk_strategy.proofs.States.{same_extends}
@@ -61,7 +61,8 @@ pub returns-in-Err-clause-extends : goal.returns-in-Err-clause-extends
 returns-in-Err-clause-extends g c =
     let trees = g.S.Store.trees in
     let old = c.args.kernel.now in
-    unless_over _ (record {
+    let after = record c.args.trace.now { used = c.args.trace.now.used + 1 } in
+    unless_over {T = ℕ} {holds = Extends trees old c.args.trace.now old after} (Err c.of_plan.result) (record {
       rows = same_extends trees old old (record { ids = refl; provables = refl });
       steps = take-length c.args.trace.now.steps.items;
       known = c.requires.ready.known;
