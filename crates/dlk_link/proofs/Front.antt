@@ -7,7 +7,8 @@ use Rattle.dlk_calculus.specs.Places.{At}
 use Rattle.dlk_calculus.specs.Provables.{Provable}
 use Rattle.dlk_calculus.specs.Steps.{Step}
 use Rattle.dlk_kernel.specs.Taken.{Takes, none, more}
-use Rattle.dlk_link.specs.Trimmed.{new_number, moved, Trims, HaveOldNumbers, TrimmedFrom, nothing_read, not_needed, kept_before, is_kept}
+use Rattle.dlk_link.specs.Trimmed.{new_number, moved, Trims, nothing_read, not_needed, kept_before, is_kept}
+use Rattle.dlk_link.specs.Unmoved.{HaveOldNumbers, TrimmedFrom}
 use Rattle.dlk_link.proofs.Kept.{at_more, at_last, at_either, take_length, same_step}
 use Rattle.dlk_link.proofs.Linked.{takes_on}
 use Rattle.dlk_link.proofs.LinkedSteps.{takes_join}

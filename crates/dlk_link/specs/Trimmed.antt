@@ -1,5 +1,5 @@
 -- A proof without what its last row doesn't need, and with each step once.
-use Rattle.std.specs.Prelude.{ℕ, ◌+◌, ◌≤◌, List, [], ◌∷◌, ◌++◌, length, Option, Some, None}
+use Rattle.std.specs.Prelude.{ℕ, ◌+◌, List, [], ◌∷◌, ◌++◌, length, Option, Some, None}
 use Rattle.std.specs.List.{Contains}
 use Rattle.dlk_calculus.specs.Places.{at, At}
 use Rattle.dlk_calculus.specs.Steps.{Step}
@@ -42,11 +42,3 @@ pub data Trims (term : List Step) : (read kept : List Step) (numbers : List ℕ)
 -- what is kept of the whole term
 abbrev pub Trimmed : List Step → List Step → Type 0
 Trimmed term kept = (numbers : List ℕ) × Trims term term kept numbers
-
--- the first rows, so many, have the numbers that they had
-abbrev pub HaveOldNumbers : List ℕ → ℕ → Type 0
-HaveOldNumbers numbers same = (row : ℕ) → 1 ≤ row → row ≤ same → At numbers row row
-
--- TrimmedFrom term kept same: this is kept of the whole term, and the first rows, so many, have the numbers that they had
-abbrev pub TrimmedFrom : List Step → List Step → ℕ → Type 0
-TrimmedFrom term kept same = (numbers : List ℕ) × Trims term term kept numbers × HaveOldNumbers numbers same

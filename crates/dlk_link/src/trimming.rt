@@ -9,7 +9,8 @@ ghost use Rattle.dlk_rules.specs.Steps.{step_at, HasKnownIds};
 ghost use Rattle.dlk_link.specs.declared.fault.LinkFault.TheVariants.{Memory};
 ghost use Rattle.dlk_link.specs.Keyed.{AreKeyed, Numbers};
 ghost use Rattle.dlk_link.specs.Marks.{NameEarlier};
-ghost use Rattle.dlk_link.specs.Trimmed.{HaveOldNumbers, Trimmed, TrimmedFrom, moved};
+ghost use Rattle.dlk_link.specs.Trimmed.{Trimmed, moved};
+ghost use Rattle.dlk_link.specs.Unmoved.{HaveOldNumbers, TrimmedFrom};
 
 use crate::copies::moved;
 use crate::fault::LinkFault;

@@ -5,7 +5,8 @@ use Rattle.dlk_tree.specs.Trees.{Tree}
 use Rattle.dlk_rules.specs.declared.step.Step.{Step}
 use Rattle.dlk_rules.specs.Steps.{step_at}
 use Rattle.dlk_link.specs.Marks.{AreMarks}
-use Rattle.dlk_link.specs.Trimmed.{moved, HaveOldNumbers}
+use Rattle.dlk_link.specs.Trimmed.{moved}
+use Rattle.dlk_link.specs.Unmoved.{HaveOldNumbers}
 use Rattle.dlk_link.proofs.KeptSteps.{Row, dropped, all_left, one_read, none_left_to_read, next_row, row_kept, row_left_out, all_kept}
 use Rattle.dlk_link.proofs.Marks.{read_index, not_true, marks_reach}
 use Rattle.dlk_link.proofs.trimming.kept_steps.Goals.{then-index+in_ok-number, else-index}

@@ -1,4 +1,4 @@
-use Rattle.dlk_link.specs.Trimmed.{HaveOldNumbers}
+use Rattle.dlk_link.specs.Unmoved.{HaveOldNumbers}
 use Rattle.dlk_link.proofs.trimming.unmoved.Given as goal
 
 abbrev pub invariant-loop-row : goal.invariant-loop-row
