@@ -7,50 +7,33 @@ use Rattle.dlk_tree.specs.Trees.{Tree, node, Forest, no_kids, kid}
 use Rattle.dlk_calculus.specs.Sequents.{Sequent}
 
 -- variables, numbers, functions without arguments, and the operators `+ - * / ^`; comparisons, `true` and `false`, connectives and
--- quantifiers
+-- quantifiers; an operator that isn't here is none
 abbrev pub is_arithmetic : Op → Bool
 is_arithmetic (Op'.Variable v) = true
 is_arithmetic (Op'.Number n) = true
-is_arithmetic (Op'.Dot n) = false
-is_arithmetic (Op'.UnitFun s) = false
 is_arithmetic (Op'.Apply s) = s.arity == 0
 is_arithmetic Op'.Neg = true
-is_arithmetic Op'.Diff = false
 is_arithmetic Op'.Add = true
 is_arithmetic Op'.Sub = true
 is_arithmetic Op'.Mul = true
 is_arithmetic Op'.Div = true
 is_arithmetic Op'.Pow = true
-is_arithmetic Op'.True = true
-is_arithmetic Op'.False = true
-is_arithmetic Op'.Hole = false
-is_arithmetic (Op'.UnitPred s) = false
-is_arithmetic (Op'.Holds s) = false
 is_arithmetic Op'.Eq = true
 is_arithmetic Op'.Ne = true
 is_arithmetic Op'.Ge = true
 is_arithmetic Op'.Gt = true
 is_arithmetic Op'.Le = true
 is_arithmetic Op'.Lt = true
-is_arithmetic (Op'.Predicational s) = false
+is_arithmetic Op'.True = true
+is_arithmetic Op'.False = true
 is_arithmetic Op'.Not = true
-is_arithmetic Op'.DiffF = false
-is_arithmetic (Op'.Forall x) = true
-is_arithmetic (Op'.Exists x) = true
 is_arithmetic Op'.And = true
 is_arithmetic Op'.Or = true
 is_arithmetic Op'.Imply = true
 is_arithmetic Op'.Equiv = true
-is_arithmetic Op'.Box = false
-is_arithmetic Op'.Dia = false
-is_arithmetic (Op'.Const s) = false
-is_arithmetic (Op'.Assign v) = false
-is_arithmetic (Op'.Any x) = false
-is_arithmetic Op'.Test = false
-is_arithmetic (Op'.System items) = false
-is_arithmetic Op'.Choice = false
-is_arithmetic Op'.Seq = false
-is_arithmetic Op'.Loop = false
+is_arithmetic (Op'.Forall x) = true
+is_arithmetic (Op'.Exists x) = true
+is_arithmetic op = false
 
 -- at each node
 abbrev mutual

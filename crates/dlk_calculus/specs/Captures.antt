@@ -25,50 +25,19 @@ in_kids set = record { set = set; reach = λ kids. kids }
 abbrev pub in_later : Capture
 in_later = record { set = λ new. bound (first new); reach = later }
 
--- the table of captures
+-- the table of captures: an operator that isn't here captures nothing
 abbrev pub captures : Op → Capture
-captures (Op'.Variable v) = nothing
-captures (Op'.Number n) = nothing
-captures (Op'.Dot n) = nothing
-captures (Op'.UnitFun s) = nothing
-captures (Op'.Apply s) = nothing
-captures Op'.Neg = nothing
-captures Op'.Diff = in_kids (λ new. all)
-captures Op'.Add = nothing
-captures Op'.Sub = nothing
-captures Op'.Mul = nothing
-captures Op'.Div = nothing
-captures Op'.Pow = nothing
-captures Op'.True = nothing
-captures Op'.False = nothing
-captures Op'.Hole = nothing
-captures (Op'.UnitPred s) = nothing
-captures (Op'.Holds s) = nothing
-captures Op'.Eq = nothing
-captures Op'.Ne = nothing
-captures Op'.Ge = nothing
-captures Op'.Gt = nothing
-captures Op'.Le = nothing
-captures Op'.Lt = nothing
 captures (Op'.Predicational s) = in_kids (λ new. all)
-captures Op'.Not = nothing
+captures Op'.Diff = in_kids (λ new. all)
 captures Op'.DiffF = in_kids (λ new. all)
 captures (Op'.Forall x) = in_kids (λ new. just (plain x))
 captures (Op'.Exists x) = in_kids (λ new. just (plain x))
-captures Op'.And = nothing
-captures Op'.Or = nothing
-captures Op'.Imply = nothing
-captures Op'.Equiv = nothing
 captures Op'.Box = in_later
 captures Op'.Dia = in_later
-captures (Op'.Const s) = nothing
-captures (Op'.Assign v) = nothing
-captures (Op'.Any x) = nothing
-captures Op'.Test = nothing
-captures (Op'.System items) = in_kids (λ new. bound (node (Op'.System items) new))
-captures Op'.Choice = nothing
 captures Op'.Seq = in_later
 captures Op'.Loop = in_kids (λ new. bound (first new))
+captures (Op'.System items) = in_kids (λ new. bound (node (Op'.System items) new))
+captures op = nothing
 
 -- no variable is in both sets
 abbrev pub AreApart : (Var → Bool) → (Var → Bool) → Type 0

@@ -30,49 +30,21 @@ abbrev pub swap_item : List ℕ → List ℕ → OdeItem → OdeItem
 swap_item x y (Item.Evolve z) = Item.Evolve (swap_name x y z)
 swap_item x y (Item.Const s) = Item.Const (swap_sym x y s)
 
+-- the names exchanged in an operator: one that isn't here has no name, and stays
 abbrev pub swap_op : List ℕ → List ℕ → Op → Op
 swap_op x y (Op'.Variable v) = Op'.Variable (swap_var x y v)
-swap_op x y (Op'.Number n) = Op'.Number n
-swap_op x y (Op'.Dot n) = Op'.Dot n
-swap_op x y (Op'.UnitFun s) = Op'.UnitFun (swap_sym x y s)
-swap_op x y (Op'.Apply s) = Op'.Apply (swap_sym x y s)
-swap_op x y Op'.Neg = Op'.Neg
-swap_op x y Op'.Diff = Op'.Diff
-swap_op x y Op'.Add = Op'.Add
-swap_op x y Op'.Sub = Op'.Sub
-swap_op x y Op'.Mul = Op'.Mul
-swap_op x y Op'.Div = Op'.Div
-swap_op x y Op'.Pow = Op'.Pow
-swap_op x y Op'.True = Op'.True
-swap_op x y Op'.False = Op'.False
-swap_op x y Op'.Hole = Op'.Hole
-swap_op x y (Op'.UnitPred s) = Op'.UnitPred (swap_sym x y s)
-swap_op x y (Op'.Holds s) = Op'.Holds (swap_sym x y s)
-swap_op x y Op'.Eq = Op'.Eq
-swap_op x y Op'.Ne = Op'.Ne
-swap_op x y Op'.Ge = Op'.Ge
-swap_op x y Op'.Gt = Op'.Gt
-swap_op x y Op'.Le = Op'.Le
-swap_op x y Op'.Lt = Op'.Lt
-swap_op x y (Op'.Predicational s) = Op'.Predicational (swap_sym x y s)
-swap_op x y Op'.Not = Op'.Not
-swap_op x y Op'.DiffF = Op'.DiffF
 swap_op x y (Op'.Forall z) = Op'.Forall (swap_name x y z)
 swap_op x y (Op'.Exists z) = Op'.Exists (swap_name x y z)
-swap_op x y Op'.And = Op'.And
-swap_op x y Op'.Or = Op'.Or
-swap_op x y Op'.Imply = Op'.Imply
-swap_op x y Op'.Equiv = Op'.Equiv
-swap_op x y Op'.Box = Op'.Box
-swap_op x y Op'.Dia = Op'.Dia
-swap_op x y (Op'.Const s) = Op'.Const (swap_sym x y s)
 swap_op x y (Op'.Assign v) = Op'.Assign (swap_var x y v)
 swap_op x y (Op'.Any z) = Op'.Any (swap_name x y z)
-swap_op x y Op'.Test = Op'.Test
 swap_op x y (Op'.System items) = Op'.System (map (swap_item x y) items)
-swap_op x y Op'.Choice = Op'.Choice
-swap_op x y Op'.Seq = Op'.Seq
-swap_op x y Op'.Loop = Op'.Loop
+swap_op x y (Op'.UnitFun s) = Op'.UnitFun (swap_sym x y s)
+swap_op x y (Op'.UnitPred s) = Op'.UnitPred (swap_sym x y s)
+swap_op x y (Op'.Apply s) = Op'.Apply (swap_sym x y s)
+swap_op x y (Op'.Holds s) = Op'.Holds (swap_sym x y s)
+swap_op x y (Op'.Predicational s) = Op'.Predicational (swap_sym x y s)
+swap_op x y (Op'.Const s) = Op'.Const (swap_sym x y s)
+swap_op x y op = op
 
 abbrev mutual
   pub swap : List ℕ → List ℕ → Tree → Tree
