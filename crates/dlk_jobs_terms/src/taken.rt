@@ -74,6 +74,7 @@ pub(crate) fn taken<S: Store, L: Ledger>(
 }
 
 /// A lemma: its steps, and what the last of them concludes.
+#[derive(Drop)]
 pub(crate) struct Lemma {
     pub(crate) steps: Vec<Step>,
     pub(crate) concludes: Sequent,

@@ -50,9 +50,11 @@ pub link-requires-clause-term_ends : goal.link-requires-clause-term_ends
 link-requires-clause-term_ends g c =
     let trees = g.S.Store.trees in
     let kernel = c.taken.new.kernel in
-    let main = c.in_ok-main.ensures.taken in
-    (main.0, replay_ends c.accepted_says_steps.ensures.taken c.args.term.now (map (step_at (trees kernel.store)) c.in_ok-main.main.items) (facts trees kernel)
-        main.0 main.1.replays)
+    let main = c.in_ok-main.ensures.taken in (
+      main.0,
+      replay_ends c.accepted_says_steps.ensures.taken c.args.term.now (map (step_at (trees kernel.store)) c.in_ok-main.main.items) (facts trees kernel)
+          main.0 main.1.replays,
+    )
 
 pub link-requires-clause-lemma_known : goal.link-requires-clause-lemma_known
 link-requires-clause-lemma_known g c =
@@ -136,8 +138,12 @@ record_taken-requires-clause-some g c =
     let says = c.accepted_says_steps.ensures.taken in
     let ends = replay_ends says term steps (facts trees kernel) main.0 main.1.replays in
     let others_end = replay_ends says lemma others by.rows by.last by.replays in
-    omega (arith, linked_some steps others made main.0 by.last ends others_end c.in-Ok.ensures.linked, length-map linked (step_at (trees new)),
-    ap length c.deref-2.ensures.value)
+    omega (
+      arith,
+      linked_some steps others made main.0 by.last ends others_end c.in-Ok.ensures.linked,
+      length-map linked (step_at (trees new)),
+      ap length c.deref-2.ensures.value,
+    )
 
 pub record_taken-requires-clause-takes : goal.record_taken-requires-clause-takes
 record_taken-requires-clause-takes g c =
