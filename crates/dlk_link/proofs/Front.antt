@@ -1,11 +1,15 @@
 -- The first rows of a term, which stay as they are where they have the numbers that they had.
-use Rattle.std.proofs.Common.{◌≡◌, refl, sym, ap, subst, ◌∙◌, ℕ, zero, suc, ◌+◌, ◌<◌, ◌≤◌, List, [], ◌∷◌, ◌++◌, inl, inr, length, take, drop, arith}
-use Rattle.std.proofs.Common.{get_or, length-append}
+use Rattle.std.proofs.Common.{◌≡◌, refl, sym, ap, subst, ◌∙◌, ℕ, zero, suc, ◌+◌, ◌-◌, ◌<◌, ◌≤◌, List, [], ◌∷◌, ◌++◌, inl, inr, length, take, drop, arith}
+use Rattle.std.proofs.Common.{map, get_or, length-append}
 use Rattle.std.proofs.lemmas.Bool.{cases_order}
-use Rattle.std.proofs.lemmas.List.{take-append-drop, take-append-le, take_all}
+use Rattle.std.proofs.lemmas.List.{take-append-drop, take-append-le, take_all, take_rest, take-map, drop-map}
+use Rattle.dlk_tree.specs.Trees.{Tree}
 use Rattle.dlk_calculus.specs.Places.{At}
 use Rattle.dlk_calculus.specs.Provables.{Provable}
-use Rattle.dlk_calculus.specs.Steps.{Step}
+use Rattle.dlk_calculus.specs.Steps.{Step as TreeStep}
+use Rattle.dlk_rules.specs.declared.step.Step.{Step}
+use Rattle.dlk_rules.specs.Steps.{step_at}
+use Rattle.dlk_kernel.specs.Kernel.{State, facts, provable_at}
 use Rattle.dlk_kernel.specs.Taken.{Takes, none, more}
 use Rattle.dlk_link.specs.Trimmed.{new_number, moved, Trims, nothing_read, not_needed, kept_before, is_kept}
 use Rattle.dlk_link.specs.Unmoved.{HaveOldNumbers, TrimmedFrom}
@@ -54,16 +58,16 @@ old_within numbers (suc same) old = (place_of numbers (suc same) (suc same) (old
 -- ---- the first kept steps
 
 -- each step names rows before its own
-abbrev NamesBefore : List Step → Type 0
-NamesBefore read = (row : ℕ) (step : Step) (fact : ℕ) → At read row step → HasFact step fact → (1 ≤ fact) × (fact < row)
+abbrev NamesBefore : List TreeStep → Type 0
+NamesBefore read = (row : ℕ) (step : TreeStep) (fact : ℕ) → At read row step → HasFact step fact → (1 ≤ fact) × (fact < row)
 
-record Begins (read kept : List Step) (numbers : List ℕ) : Type 0 where
+record Begins (read kept : List TreeStep) (numbers : List ℕ) : Type 0 where
   numbered : length numbers ≡ length read
   few : length kept ≤ length read
   same : (many : ℕ) → HaveOldNumbers numbers many → (many ≤ length kept) × (take many kept ≡ take many read)
 
 -- where each row has its number the last step stays
-stays : (read : List Step) (step : Step) (numbers : List ℕ) → NamesBefore (read ++ step ∷ []) → HaveOldNumbers numbers (length read) → moved numbers step ≡ step
+stays : (read : List TreeStep) (step : TreeStep) (numbers : List ℕ) → NamesBefore (read ++ step ∷ []) → HaveOldNumbers numbers (length read) → moved numbers step ≡ step
 stays read step numbers before old =
     same_moved (new_number numbers) (λ fact. fact) step (λ fact named. let b = before (length read + 1) step fact (at_last read step) named in
     let low = b.0 in let high = b.1 in its fact (old fact low (omega (arith, high)))) ∙ same_step step
@@ -72,7 +76,7 @@ stays read step numbers before old =
     its fact h = rw h refl
 
 -- the last step that is read gets a number that isn't its old one
-left_out : (read kept : List Step) (numbers : List ℕ) (step : Step) (n many : ℕ) → length numbers ≡ length read →
+left_out : (read kept : List TreeStep) (numbers : List ℕ) (step : TreeStep) (n many : ℕ) → length numbers ≡ length read →
     ((many : ℕ) → HaveOldNumbers numbers many → (many ≤ length kept) × (take many kept ≡ take many read)) →
     HaveOldNumbers (numbers ++ n ∷ []) many → (length numbers < many → ⊥) → (many ≤ length kept) × (take many kept ≡ take many (read ++ step ∷ []))
 left_out read kept numbers step n many size same old not_all = elim (cases_order many (length numbers)) [
@@ -87,7 +91,7 @@ left_out read kept numbers step n many size same old not_all = elim (cases_order
         (was.0, was.1 ∙ sym (take-append-le many read (step ∷ []) (omega (arith, le, size))))
 
 -- it is kept
-kept_too : (read kept : List Step) (numbers : List ℕ) (step : Step) (many : ℕ) → NamesBefore (read ++ step ∷ []) → length numbers ≡ length read →
+kept_too : (read kept : List TreeStep) (numbers : List ℕ) (step : TreeStep) (many : ℕ) → NamesBefore (read ++ step ∷ []) → length numbers ≡ length read →
     ((many : ℕ) → HaveOldNumbers numbers many → (many ≤ length kept) × (take many kept ≡ take many read)) →
     HaveOldNumbers (numbers ++ (length kept + 1) ∷ []) many →
     (many ≤ length (kept ++ moved numbers step ∷ [])) × (take many (kept ++ moved numbers step ∷ []) ≡ take many (read ++ step ∷ []))
@@ -125,7 +129,7 @@ kept_too read kept numbers step many before size same old = elim (cases_order ma
           λ i. take many (equal i ++ stay i ∷ []),
         )
 
-begins : (term read kept : List Step) (numbers : List ℕ) → NamesBefore read → Trims term read kept numbers → Begins read kept numbers
+begins : (term read kept : List TreeStep) (numbers : List ℕ) → NamesBefore read → Trims term read kept numbers → Begins read kept numbers
 begins term _ _ _ before nothing_read = record {
   numbered = refl;
   few = omega arith;
@@ -164,7 +168,7 @@ begins term _ _ _ before (is_kept {read = read} {kept = kept} {numbers = numbers
 -- ---- their rows
 
 -- the first steps give the first rows
-takes_take : (n : ℕ) (steps : List Step) (rows : List Provable) → Takes [] steps rows → Takes [] (take n steps) (take n rows)
+takes_take : (n : ℕ) (steps : List TreeStep) (rows : List Provable) → Takes [] steps rows → Takes [] (take n steps) (take n rows)
 takes_take zero steps rows takes = none
 takes_take (suc n) _ _ none = none
 takes_take (suc n) _ _ (more {steps = steps} {mid = mid} {step = step} {p = p} takes is) = elim (cases_order (suc n) (length steps + 1)) [
@@ -188,12 +192,12 @@ takes_take (suc n) _ _ (more {steps = steps} {mid = mid} {step = step} {p = p} t
         (subst (Takes [] (take (suc n) steps)) (sym (take-append-le (suc n) mid (p ∷ []) (omega (arith, le, long)))) (takes_take (suc n) steps mid takes))
 
 -- the first kept steps have the first rows
-pub record Front (kept : List Step) (rows : List Provable) (same : ℕ) : Type 0 where
+pub record Front (kept : List TreeStep) (rows : List Provable) (same : ℕ) : Type 0 where
   pub few : same ≤ length rows
   pub short : same ≤ length kept
   pub takes : Takes [] (take same kept) (take same rows)
 
-pub front : (term kept : List Step) (rows : List Provable) (same : ℕ) → Takes [] term rows → TrimmedFrom term kept same → Front kept rows same
+pub front : (term kept : List TreeStep) (rows : List Provable) (same : ℕ) → Takes [] term rows → TrimmedFrom term kept same → Front kept rows same
 front term kept rows same takes (numbers, trims, old) =
     let begin = begins term term kept numbers (λ row step fact h named. facts_before term rows row step fact takes h named) trims in
     let its = begin.same same old in
@@ -207,12 +211,26 @@ front term kept rows same takes (numbers, trims, old) =
     }
 
 -- so the others are taken behind these rows, as the whole is taken from nothing
-pub others_taken : (kept : List Step) (rows all : List Provable) (same : ℕ) → Front kept rows same → Takes [] kept all → Takes (take same rows) (drop same kept) all
+pub others_taken : (kept : List TreeStep) (rows all : List Provable) (same : ℕ) → Front kept rows same → Takes [] kept all → Takes (take same rows) (drop same kept) all
 others_taken kept rows all same f takes =
     takes_on [] (take same rows) all (take same kept) (drop same kept) f.takes (subst (λ l. Takes [] l all) (sym (take-append-drop same kept)) takes)
 
 -- and then the whole is
-pub whole_taken : (kept : List Step) (rows after : List Provable) (same : ℕ) → Front kept rows same → Takes (take same rows) (drop same kept) after →
+pub whole_taken : (kept : List TreeStep) (rows after : List Provable) (same : ℕ) → Front kept rows same → Takes (take same rows) (drop same kept) after →
     Takes [] kept after
 whole_taken kept rows after same f takes =
     subst (λ l. Takes [] l after) (take-append-drop same kept) (takes_join [] (take same rows) after (take same kept) (drop same kept) f.takes takes)
+
+-- ---- on a kernel
+
+-- what is left after going back to so many rows
+pub released : {S : Type 0} (trees : S → List Tree) (old new : State S) (n : ℕ) → new.store ≡ old.store → new.rows ≡ take n old.rows →
+    facts trees new ≡ take n (facts trees old)
+released trees old new n store rows =
+    (λ i. map (provable_at (trees (store i))) (rows i)) ∙ sym (take-map (provable_at (trees old.store)) n old.rows)
+
+-- the others as they are handed on
+pub others_are : (a b : List Tree) (kept slice : List Step) (n : ℕ) → a ≡ b → slice ≡ kept →
+    map (step_at a) (take (length slice - n) (drop n slice)) ≡ drop n (map (step_at b) kept)
+others_are a b kept slice n same e =
+    ap (map (step_at a)) (take_rest slice n) ∙ (λ i. map (step_at (same i)) (drop n (e i))) ∙ sym (drop-map (step_at b) n kept)

@@ -36,7 +36,7 @@ returns-in_err-by-clause-ended g c =
     let steps = map (step_at (g.S.Store.trees c.taken.new.kernel.store)) c.in_ok-main.main.items in
     let p = err_from_is_err_and c.from_residual-in_err-by.result c.from_residual-in_err-by.ensures.1 in
     rw (p.1, p.2) (ends_weaker (RefusesLine (codes "lemma line") lemma) (Links model term lemma) (lemma_answer model term lemma steps rows main.0 main.1) _
-    c.in_err-by.ensures.refused)
+    (rw c.in_err-by.was at c.taken_lemma-lemma.ensures.refused))
 
 pub link-requires-clause-taken : goal.link-requires-clause-taken
 link-requires-clause-taken g c =
@@ -63,7 +63,7 @@ link-requires-clause-lemma_known g c =
     let kernel = c.taken.new.kernel in
     let new = kernel.store in
     let keeps = g.met.S.Store.grows_keeps old new c.taken.ensures.grows in
-    let by = lemma_stays c.step_stays.ensures.known c.step_stays.ensures.same (trees old) (trees new) keeps c.args.lemma.now c.in_ok-by.by c.in_ok-by.ensures.lemma in
+    let by = lemma_stays c.step_stays.ensures.known c.step_stays.ensures.same (trees old) (trees new) keeps c.args.lemma.now c.in_ok-by.by (rw c.in_ok-by.was at c.taken_lemma-lemma.ensures.lemma) in
     by.steps_known
 
 pub link-requires-clause-lemma_ends : goal.link-requires-clause-lemma_ends
@@ -73,7 +73,7 @@ link-requires-clause-lemma_ends g c =
     let kernel = c.taken.new.kernel in
     let new = kernel.store in
     let keeps = g.met.S.Store.grows_keeps old new c.taken.ensures.grows in
-    let by = lemma_stays c.step_stays.ensures.known c.step_stays.ensures.same (trees old) (trees new) keeps c.args.lemma.now c.in_ok-by.by c.in_ok-by.ensures.lemma in
+    let by = lemma_stays c.step_stays.ensures.known c.step_stays.ensures.same (trees old) (trees new) keeps c.args.lemma.now c.in_ok-by.by (rw c.in_ok-by.was at c.taken_lemma-lemma.ensures.lemma) in
     let others = map (step_at (trees new)) c.in_ok-by.by.steps.items in
     (by.last, replay_ends c.accepted_says_steps.ensures.taken c.args.lemma.now others by.rows by.last by.replays)
 
@@ -84,7 +84,7 @@ link-requires-clause-conclusion g c = λ q ends.
     let kernel = c.taken.new.kernel in
     let new = kernel.store in
     let keeps = g.met.S.Store.grows_keeps old new c.taken.ensures.grows in
-    let by = lemma_stays c.step_stays.ensures.known c.step_stays.ensures.same (trees old) (trees new) keeps c.args.lemma.now c.in_ok-by.by c.in_ok-by.ensures.lemma in
+    let by = lemma_stays c.step_stays.ensures.known c.step_stays.ensures.same (trees old) (trees new) keeps c.args.lemma.now c.in_ok-by.by (rw c.in_ok-by.was at c.taken_lemma-lemma.ensures.lemma) in
     let others = map (step_at (trees new)) c.in_ok-by.by.steps.items in
     let last = replay_ends c.accepted_says_steps.ensures.taken c.args.lemma.now others by.rows by.last by.replays in
     ap (λ (p : Provable). p.conclusion) (one_ending others q by.last ends last) ∙ by.concludes
@@ -96,7 +96,7 @@ link-requires-clause-conclusion_known g c =
     let kernel = c.taken.new.kernel in
     let new = kernel.store in
     let keeps = g.met.S.Store.grows_keeps old new c.taken.ensures.grows in
-    let by = lemma_stays c.step_stays.ensures.known c.step_stays.ensures.same (trees old) (trees new) keeps c.args.lemma.now c.in_ok-by.by c.in_ok-by.ensures.lemma in
+    let by = lemma_stays c.step_stays.ensures.known c.step_stays.ensures.same (trees old) (trees new) keeps c.args.lemma.now c.in_ok-by.by (rw c.in_ok-by.was at c.taken_lemma-lemma.ensures.lemma) in
     by.known
 
 pub returns-in-Err-clause-ended : goal.returns-in-Err-clause-ended
@@ -109,7 +109,7 @@ returns-in-Err-clause-ended g c =
     let kernel = c.taken.new.kernel in
     let new = kernel.store in
     let keeps = g.met.S.Store.grows_keeps old new c.taken.ensures.grows in
-    let by = lemma_stays c.step_stays.ensures.known c.step_stays.ensures.same (trees old) (trees new) keeps c.args.lemma.now c.in_ok-by.by c.in_ok-by.ensures.lemma in
+    let by = lemma_stays c.step_stays.ensures.known c.step_stays.ensures.same (trees old) (trees new) keeps c.args.lemma.now c.in_ok-by.by (rw c.in_ok-by.was at c.taken_lemma-lemma.ensures.lemma) in
     let main = c.in_ok-main.ensures.taken in
     let steps = map (step_at (trees new)) c.in_ok-main.main.items in
     let others = map (step_at (trees new)) c.in_ok-by.by.steps.items in
@@ -129,7 +129,7 @@ record_taken-requires-clause-some g c =
     let kernel = c.taken.new.kernel in
     let new = kernel.store in
     let keeps = g.met.S.Store.grows_keeps old new c.taken.ensures.grows in
-    let by = lemma_stays c.step_stays.ensures.known c.step_stays.ensures.same (trees old) (trees new) keeps c.args.lemma.now c.in_ok-by.by c.in_ok-by.ensures.lemma in
+    let by = lemma_stays c.step_stays.ensures.known c.step_stays.ensures.same (trees old) (trees new) keeps c.args.lemma.now c.in_ok-by.by (rw c.in_ok-by.was at c.taken_lemma-lemma.ensures.lemma) in
     let main = c.in_ok-main.ensures.taken in
     let steps = map (step_at (trees new)) c.in_ok-main.main.items in
     let others = map (step_at (trees new)) c.in_ok-by.by.steps.items in
@@ -142,7 +142,7 @@ record_taken-requires-clause-some g c =
       arith,
       linked_some steps others made main.0 by.last ends others_end c.in-Ok.ensures.linked,
       length-map linked (step_at (trees new)),
-      ap length c.deref-2.ensures.value,
+      ap length c.deref.ensures.value,
     )
 
 pub record_taken-requires-clause-takes : goal.record_taken-requires-clause-takes
@@ -153,7 +153,7 @@ record_taken-requires-clause-takes g c =
     let keeps = g.met.S.Store.grows_keeps old new c.link.ensures.grows in
     let items = c.in-Ok.linked.items in
     let same = still_same c.step_stays.ensures.known c.step_stays.ensures.same (trees old) (trees new) keeps items c.in-Ok.ensures.known in
-    subst (λ l. Takes [] (map (step_at (trees new)) l) (facts trees c.link.new.kernel)) (sym c.deref-2.ensures.value)
+    subst (λ l. Takes [] (map (step_at (trees new)) l) (facts trees c.link.new.kernel)) (sym c.deref.ensures.value)
     (subst (λ l. Takes [] l (facts trees c.link.new.kernel)) (sym same) c.in-Ok.ensures.rows)
 
 pub returns-clause-reply : goal.returns-clause-reply
@@ -166,7 +166,7 @@ returns-clause-reply g c =
     let kernel = c.taken.new.kernel in
     let new = kernel.store in
     let keeps = g.met.S.Store.grows_keeps old new c.taken.ensures.grows in
-    let by = lemma_stays c.step_stays.ensures.known c.step_stays.ensures.same (trees old) (trees new) keeps c.args.lemma.now c.in_ok-by.by c.in_ok-by.ensures.lemma in
+    let by = lemma_stays c.step_stays.ensures.known c.step_stays.ensures.same (trees old) (trees new) keeps c.args.lemma.now c.in_ok-by.by (rw c.in_ok-by.was at c.taken_lemma-lemma.ensures.lemma) in
     let main = c.in_ok-main.ensures.taken in
     let steps = map (step_at (trees new)) c.in_ok-main.main.items in
     let others = map (step_at (trees new)) c.in_ok-by.by.steps.items in
@@ -178,7 +178,7 @@ returns-clause-reply g c =
     IfOk-weaker c.record_taken.result (λ r. RecordsLast made (reply_of r)) (λ r. Links model term lemma (reply_of r))
     (λ r says. link_answer model term lemma steps (facts trees kernel) main.0 main.1 c.accepted_says_steps.ensures.taken others by.rows by.last by.replays made
     c.in-Ok.ensures.linked (reply_of r) says)
-    (subst (λ l. IfOk c.record_taken.result (λ r. RecordsLast l (reply_of r))) stays (rw c.deref-2.ensures.value at c.record_taken.ensures.reply))
+    (subst (λ l. IfOk c.record_taken.result (λ r. RecordsLast l (reply_of r))) stays (rw c.deref.ensures.value at c.record_taken.ensures.reply))
 
 pub returns-clause-ended : goal.returns-clause-ended
 returns-clause-ended g c =
@@ -190,7 +190,7 @@ returns-clause-ended g c =
     let kernel = c.taken.new.kernel in
     let new = kernel.store in
     let keeps = g.met.S.Store.grows_keeps old new c.taken.ensures.grows in
-    let by = lemma_stays c.step_stays.ensures.known c.step_stays.ensures.same (trees old) (trees new) keeps c.args.lemma.now c.in_ok-by.by c.in_ok-by.ensures.lemma in
+    let by = lemma_stays c.step_stays.ensures.known c.step_stays.ensures.same (trees old) (trees new) keeps c.args.lemma.now c.in_ok-by.by (rw c.in_ok-by.was at c.taken_lemma-lemma.ensures.lemma) in
     let main = c.in_ok-main.ensures.taken in
     let steps = map (step_at (trees new)) c.in_ok-main.main.items in
     let others = map (step_at (trees new)) c.in_ok-by.by.steps.items in
@@ -203,4 +203,4 @@ returns-clause-ended g c =
     (ends_weaker (RecordsLast made) (Links model term lemma)
     (λ reply says. link_answer model term lemma steps (facts trees kernel) main.0 main.1 c.accepted_says_steps.ensures.taken others by.rows by.last by.replays
     made c.in-Ok.ensures.linked reply says))
-    (subst (λ l. IfErr c.record_taken.result (EndsIn (RecordsLast l))) stays (rw c.deref-2.ensures.value at c.record_taken.ensures.ended))
+    (subst (λ l. IfErr c.record_taken.result (EndsIn (RecordsLast l))) stays (rw c.deref.ensures.value at c.record_taken.ensures.ended))

@@ -51,10 +51,10 @@ returns-clause-steps c = λ trees.
     let none : length (into_iter_items c.loop-step.step-iterator) ≡ 0 = sym c.loop-step.step-iterator.rest.ok.0 ∙ c.in-None.ensures.steps.0 in
     let whole = none_left trees (λ fact. fact + c.args.rows) c.loop-step.made.items (into_iter_items c.loop-step.step-iterator)
     (map (renumbered (λ fact. fact + c.args.rows)) (map (step_at trees) c.args.lemma.items)) none (c.loop-step.invariant.steps trees) in
-    ap (map (step_at trees)) c.append.ensures.items ∙ map-append (step_at trees) c.loop-step.made.items c.args.merges.items
+    ap (map (step_at trees)) c.in_ok-append.ensures.items ∙ map-append (step_at trees) c.loop-step.made.items c.args.merges.items
     ∙ ap (λ l. l ++ map (step_at trees) c.args.merges.items) whole
 
 pub returns-clause-known : goal.returns-clause-known
 returns-clause-known c = λ trees lemma merges.
-    subst (All (HasKnownIds trees)) (sym c.append.ensures.items)
+    subst (All (HasKnownIds trees)) (sym c.in_ok-append.ensures.items)
     (All-append (HasKnownIds trees) c.loop-step.made.items c.args.merges.items (c.loop-step.invariant.known trees lemma).0 merges)

@@ -94,7 +94,7 @@ returns-clause-linked g c =
     let some : 0 < length merges = omega (arith, count) in
     links_made old c.args.term.items c.args.lemma.items merges (sequent_at old c.args.c.now) rows c.requires.taken c.in_ok-merges.ensures.joins
     c.requires.conclusion c.requires.term_ends.0 c.requires.term_ends.1 rest (c.in_ok-rest.ensures.steps old) c.append.new.self.items
-    c.append.ensures.items some
+    c.in_ok-append.ensures.items some
 
 pub returns-clause-rows : goal.returns-clause-rows
 returns-clause-rows g c =
@@ -105,12 +105,12 @@ returns-clause-rows g c =
     let rest = c.in_ok-rest.rest.items in
     takes_made old c.args.term.items c.args.lemma.items merges (sequent_at old c.args.c.now) rows c.requires.taken c.in_ok-merges.ensures.joins
     c.requires.conclusion c.requires.term_ends.0 c.requires.term_ends.1 rest (c.in_ok-rest.ensures.steps old) c.append.new.self.items
-    c.append.ensures.items after (subst (λ l. Takes rows (map (step_at old) l) after) c.deref.ensures.value c.in_ok-take_in_turn.ensures.taken)
+    c.in_ok-append.ensures.items after (subst (λ l. Takes rows (map (step_at old) l) after) c.deref.ensures.value c.in_ok-take_in_turn.ensures.taken)
 
 pub returns-clause-known : goal.returns-clause-known
 returns-clause-known g c =
     let old = g.S.Store.trees c.args.kernel.now.store in
     let rest = c.in_ok-rest.rest.items in
-    subst (All (HasKnownIds old)) (sym c.append.ensures.items)
+    subst (All (HasKnownIds old)) (sym c.in_ok-append.ensures.items)
     (All-append (HasKnownIds old) c.args.term.items rest c.requires.term_known
     (c.in_ok-rest.ensures.known old c.requires.lemma_known (c.in_ok-merges.ensures.known old)))
