@@ -13,10 +13,9 @@ use Rattle.dlk_kernel.specs.Kernel.{State, facts, provable_at}
 use Rattle.dlk_kernel.specs.Taken.{Takes, none, more}
 use Rattle.dlk_link.specs.Trimmed.{new_number, moved, Trims, nothing_read, not_needed, kept_before, is_kept}
 use Rattle.dlk_link.specs.Unmoved.{HaveOldNumbers, TrimmedFrom}
-use Rattle.dlk_link.proofs.Kept.{at_more, at_last, at_either, take_length, same_step}
+use Rattle.dlk_link.proofs.Kept.{at_some, at_more, at_last, at_either, take_length, same_step}
 use Rattle.dlk_link.proofs.Linked.{takes_on}
 use Rattle.dlk_link.proofs.LinkedSteps.{takes_join}
-use Rattle.dlk_link.proofs.Marks.{read_index}
 use Rattle.dlk_link.proofs.Named.{same_moved, facts_before, place_of}
 use Rattle.dlk_link.proofs.Names.{HasFact}
 
@@ -25,13 +24,18 @@ use Rattle.dlk_link.proofs.Names.{HasFact}
 pub none_old : (numbers : List ℕ) → HaveOldNumbers numbers 0
 none_old numbers row a b = absurd (omega (arith, a, b))
 
-pub one_more_old : (numbers : List ℕ) (row n : ℕ) → row < length numbers → n ≡ get_or numbers row n → n ≡ row + 1 → HaveOldNumbers numbers row →
+pub one_more_old : (numbers : List ℕ) (row : ℕ) → row < length numbers → get_or numbers row 0 ≡ row + 1 → HaveOldNumbers numbers row →
     HaveOldNumbers numbers (row + 1)
-one_more_old numbers row n lt is same so_far k a b = elim (cases_order k (row + 1)) [
-  | inl e ↦ subst (λ j. At numbers j j) (sym e) (read_index numbers row n (row + 1) lt is same)
+one_more_old numbers row lt same so_far k a b = elim (cases_order k (row + 1)) [
+  | inl e ↦ subst (λ j. At numbers j j) (sym e) here
   | inr (inl less) ↦ so_far k a (omega (arith, less))
   | inr (inr gt) ↦ absurd (omega (arith, gt, b))
 ]
+  where
+    here : At numbers (row + 1) (row + 1)
+    here =
+        let place : suc row ≡ row + 1 = omega arith in
+        subst (λ j. At numbers j (row + 1)) place (subst (At numbers (suc row)) same (at_some numbers row 0 lt))
 
 -- without the last number
 old_before : (numbers : List ℕ) (x same : ℕ) → HaveOldNumbers (numbers ++ x ∷ []) same → same ≤ length numbers → HaveOldNumbers numbers same
