@@ -3,7 +3,7 @@ use Rattle.std.proofs.Common.{◌≡◌, ℕ, ◌+◌, ◌-◌, ◌<◌, List, [
 use Rattle.std.proofs.lemmas.List.{take_more, length-map, get_or-map}
 use Rattle.std.specs.declared.alloc.Global.{Global}
 use Rattle.dlk_calculus.specs.Places.{At}
-use Rattle.dlk_calculus.proofs.PlaceLaws.{At_read}
+use Rattle.dlk_calculus.proofs.PlaceLaws.{At_read, at_one}
 use Rattle.dlk_desk.specs.Outside.{Outside, SameFiles}
 use Rattle.dlk_transfer.specs.Transfer.{LosesAtMost, TookUpTo, NeverStarted, StartedAndTook, ReadUpTo}
 use Rattle.dlk_replies.specs.Forms.{Word, limit_of}
@@ -17,10 +17,6 @@ read_took tells limit name bytes old new read = record {
   took = λ t. subst (λ file. IsSomeAnd file (λ all. LosesAtMost (limit + 1) all new.left)) (sym (read.rest t)) (bytes, refl, read.bound);
   reading = read.reading;
 }
-
--- two items at one place are one
-one_at : {A : Type 0} (items : List A) (place : ℕ) (x y : A) → At items place x → At items place y → x ≡ y
-one_at items place x y a b = let e : Some x ≡ Some y = sym a ∙ b in cc
 
 -- the item behind the first i
 at_next : {X Y : Type 0} (f : X → Y) (items : List X) (i : ℕ) (x d : X) → i < length items → x ≡ get_or items i d → At (map f items) (i + 1) (f x)
@@ -46,8 +42,8 @@ module _ (tells : Type 0) (names : List (String Global)) (roles : List Role) (na
             ∙ append_assoc old.asked (take i (map string_bytes names)) (string_bytes name ∷ []) ∙ ap (λ (ws : List Word). old.asked ++ ws) next;
         none = λ t z. absurd (omega (arith, z));
         last = λ t other limit a b.
-            let is_name : string_bytes name ≡ other = one_at (map string_bytes names) (i + 1) (string_bytes name) other (at_next string_bytes names i name name lt name_is) a in
-            let is_limit : limit_of role ≡ limit = one_at (map limit_of roles) (i + 1) (limit_of role) limit (at_next limit_of roles i role other_role less role_is) b in
+            let is_name : string_bytes name ≡ other = at_one (map string_bytes names) (i + 1) (string_bytes name) other (at_next string_bytes names i name name lt name_is) a in
+            let is_limit : limit_of role ≡ limit = at_one (map limit_of roles) (i + 1) (limit_of role) limit (at_next limit_of roles i role other_role less role_is) b in
             subst (λ (w : Word). IsSomeAnd (old.files w) (λ bytes. LosesAtMost (limit + 1) bytes new.left)) is_name
             (subst (λ (n : ℕ). IsSomeAnd (old.files (string_bytes name)) (λ bytes. LosesAtMost (n + 1) bytes new.left)) is_limit
             (subst (λ file. IsSomeAnd file (λ bytes. LosesAtMost (limit_of role + 1) bytes new.left)) (same t (string_bytes name)) (started.took t)));

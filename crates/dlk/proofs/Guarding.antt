@@ -14,6 +14,7 @@ use Rattle.dlk_jobs_check.specs.Terms.{Accepts}
 use Rattle.dlk_jobs_check.specs.Checks.{reports, reported}
 use Rattle.dlk_jobs_check.specs.Guards.{Guards, refuses as refuses_term, guards, GuardSays, is_guarded, is_unguarded, guarded_line, unguarded_line}
 use Rattle.dlk_jobs_check.proofs.GuardReports.{term_is_refused}
+use Rattle.dlk_jobs_check.proofs.OneTerm.{one_accepted}
 use Rattle.dlk_answers.specs.Answers.{Does}
 use Rattle.dlk.specs.Answers.{Answers}
 use Rattle.dlk.specs.Runs.{GivesWhole}
@@ -29,12 +30,9 @@ OneVerdict = (all : List (List ℕ)) (a b : Answer) → Verdict all a → Verdic
 not_guarded : (n : ℕ) (why : Why) → unguarded_line n why ≡ guarded_line → ⊥
 not_guarded n why e = let first : 117 ≡ 103 = ap (λ l. get_or l 0 0) e in absurd (omega (arith, first))
 
-same_rows : {rows others : List Provable} {line place : ℕ} → accepted rows line ≡ accepted others place → rows ≡ others
-same_rows e = cc
-
 module _ (one_verdict : OneVerdict) (model term : List ℕ) where
   one_rows : {rows others : List Provable} {p q : Provable} → Accepts term rows p → Accepts term others q → rows ≡ others
-  one_rows {rows} {others} a b = same_rows (one_verdict (file_lines term) (accepted rows a.line) (accepted others b.line) a.verdict b.verdict)
+  one_rows {rows} {others} a b = one_accepted (one_verdict (file_lines term) (accepted rows a.line) (accepted others b.line) a.verdict b.verdict)
 
   tells : (rows : List Provable) (p : Provable) → Accepts term rows p → (said : List ℕ) → GuardSays term said → TellsGuarded term rows said
   tells rows p a said (is_guarded steps others q r all) =

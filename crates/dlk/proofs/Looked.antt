@@ -17,6 +17,7 @@ use Rattle.dlk_answers.specs.Answers.{Does, Responds, refuses, does, too_long}
 use Rattle.dlk_jobs_text.specs.Substitutes.{Substitutes, AreRead, not_admissible, too_big, too_deep}
 use Rattle.dlk_jobs_text.specs.Looks.{RefusesResult, subst_looks}
 use Rattle.dlk_answers.specs.Looks.{CommandLooksAtFew}
+use Rattle.dlk_answers.proofs.OneReply.{none_or_some}
 use Rattle.dlk.specs.Answers.{bytes_of, Answers, no_form, command}
 use Rattle.dlk.specs.Cuts.{cut_bytes_of}
 use Rattle.dlk.specs.Looks.{RunsSubst, MakesNone, nothing, big, deep, RefusesShort, LooksAtFewFor, PrintsNone, LooksAtFew}
@@ -26,9 +27,6 @@ use Rattle.dlk.proofs.Judged.{within}
 -- without a look
 pub none_looked : (words : List Word) (files : Files) (old new : ℕ) → new ≡ old → LooksAtFewFor words files old new
 none_looked words files old new is = λ e pairs reply runs refused answer. omega (arith, is)
-
-none_or_some : {A : Type 0} {x : A} → None ≡ Some x → ⊥
-none_or_some e = cc
 
 -- the first letter of why something is refused
 abbrev letter : Reply → ℕ

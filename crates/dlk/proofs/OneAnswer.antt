@@ -1,14 +1,12 @@
 -- There is one answer to words and files.
-use Rattle.std.proofs.Common.{◌≡◌, ℕ, List, None, Some, refl, sym, subst, ◌∙◌}
+use Rattle.std.proofs.Common.{◌≡◌, ℕ, List, refl, sym, subst, ◌∙◌}
 use Rattle.dlk_desk.specs.Outside.{Files}
 use Rattle.dlk_replies.specs.declared.command.Command.{Command}
 use Rattle.dlk_replies.specs.Forms.{Word}
 use Rattle.dlk_replies.specs.Replies.{Reply}
 use Rattle.dlk_answers.specs.Answers.{Responds}
+use Rattle.dlk_answers.proofs.OneReply.{none_or_some}
 use Rattle.dlk.specs.Answers.{Answers, no_form, command}
-
-none_or_some : {A : Type 0} {x : A} → None ≡ Some x → ⊥
-none_or_some e = cc
 
 -- a command has one answer to words and texts
 abbrev pub OneResponse : Type 0

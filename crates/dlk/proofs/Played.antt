@@ -16,6 +16,7 @@ use Rattle.dlk_jobs_check.specs.Checks.{status_of, reported}
 use Rattle.dlk_jobs_session.specs.Saved.{IsChecked}
 use Rattle.dlk_jobs_session.specs.Sessions.{Plays, played, Sessions, bad_model, bad_line, too_long, keeps_none, writes}
 use Rattle.dlk_answers.specs.Answers.{Does}
+use Rattle.dlk_answers.proofs.OneReply.{none_or_some}
 use Rattle.dlk.specs.Outputs.{Output, output_with, after}
 use Rattle.dlk.specs.Runs.{GivesWhole}
 use Rattle.dlk.specs.Headline.{IsAccepted}
@@ -36,9 +37,6 @@ does_session _ model script reply job = absurd job
 nothing_to : (name : Option Word) → output_with name None ≡ None
 nothing_to None = refl
 nothing_to (Some name) = refl
-
-none_or_some : {A : Type 0} {x : A} → None ≡ Some x → ⊥
-none_or_some e = cc
 
 -- `check` accepts what is saved
 checked_is_accepted : {model script term : List ℕ} → (c : IsChecked model script term) →

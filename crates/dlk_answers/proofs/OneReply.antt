@@ -13,7 +13,7 @@ use Rattle.dlk_answers.proofs.JobLaws.{OneEach}
 one_name : {name other : Word} → Some name ≡ Some other → name ≡ other
 one_name e = cc
 
-none_or_some : {A : Type 0} {x : A} → None ≡ Some x → ⊥
+pub none_or_some : {A : Type 0} {x : A} → None ≡ Some x → ⊥
 none_or_some e = cc
 
 module _ (one : OneEach) where

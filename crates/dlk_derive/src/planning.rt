@@ -1,10 +1,11 @@
 //! The plan of a `( )'`: the uses of axioms that make its derivative of it.
-ghost use Rattle.std.specs.Prelude.{◌≡◌, ◌++◌, List, map, All, MatchOption, IfOk, IfErr, OnOk};
+ghost use Rattle.std.specs.Prelude.{◌≡◌, ◌++◌, List, map, All, Err, MatchOption, IfOk, IfErr, OnOk};
 ghost use Rattle.dlk_tree.specs.Trees.{Tree};
 ghost use Rattle.dlk_store.specs.Stores.{IsId, tree};
 ghost use Rattle.dlk_sequent.specs.Sequents.{sequent_at, IsKnown};
 ghost use Rattle.dlk_tacsyn.specs.Ties.{atom_at, AtomIsKnown};
 ghost use Rattle.dlk_uses.specs.Uses.{formula_at};
+ghost use Rattle.dlk_derive.specs.declared.fault.DeriveFault.TheVariants.{Memory};
 ghost use Rattle.dlk_derive.specs.Decided.{IsDerivable};
 ghost use Rattle.dlk_derive.specs.Derives.{NoPlace, IsDifferential, Plans, NoPlan, use_of};
 ghost use Rattle.dlk_derive.specs.Plans.{Call, plan_at};
@@ -105,6 +106,7 @@ pub fn plan<S: Store, L: Ledger>(
     ensures plan { IfOk result (λ atoms. (calls : List Call) × Plans (formula_at (sequent_at (S.trees store.now) s.now) place) path.now calls × ((trees : List Tree) → map (atom_at trees) atoms.items ≡ map (use_of 0 place) calls)) }
     ensures known { IfOk result (λ atoms. (trees : List Tree) → All (AtomIsKnown trees) atoms.items) }
     ensures fault { IfErr result (IsDeriveFaultOf (NoPlan (formula_at (sequent_at (S.trees store.now) s.now) place) path.now)) }
+    ensures memory { result ≡ Err Memory → (calls : List Call) × Plans (formula_at (sequent_at (S.trees store.now) s.now) place) path.now calls }
 {
     let Some(found) = tree_at(store, s, place, path, steps) else {
         return Err(DeriveFault::NoPlace);

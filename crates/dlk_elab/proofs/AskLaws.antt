@@ -14,6 +14,7 @@ use Rattle.dlk_calculus.specs.Notation.{box}
 use Rattle.dlk_calculus.specs.Pairs.{Extra}
 use Rattle.dlk_calculus.specs.Paths.{subtree}
 use Rattle.dlk_calculus.specs.Places.{At}
+use Rattle.dlk_calculus.proofs.PlaceLaws.{at_one}
 use Rattle.dlk_sequent.specs.declared.sequent.Place.{Place}
 use Rattle.dlk_sequent.specs.declared.sequent.Place.TheVariants.{Succ}
 use Rattle.dlk_rules.specs.declared.arguments.Shape.TheVariants as shape
@@ -29,7 +30,6 @@ use Rattle.dlk_elab.specs.Atoms.{UnknownName, NoPlace, NoMatch, AtStep, IsThere,
 use Rattle.dlk_elab.specs.Atoms.{UseArguments, alone, with_extra, word_of_direction, NamesAxiom, IsUse, StandsThere, MatchesThere, IsForBox, generalizes, cuts, IsOnTheRight}
 use Rattle.dlk_uses.specs.Uses.{Direction, Forwards, Backwards, Use, key, may_stand, generalizing, cutting_box}
 use Rattle.dlk_match.specs.Matching.{Match}
-use Rattle.dlk_elab.proofs.Places.{at_one}
 
 there_one : (side : Option Side) (i k : ℕ) (a : Argument) → IsThere side i a → IsThere side k a → i ≡ k
 there_one None i k a s t = absurd s

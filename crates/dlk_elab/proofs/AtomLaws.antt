@@ -9,16 +9,16 @@ use Rattle.dlk_calculus.specs.Sequents.{Sequent}
 use Rattle.dlk_calculus.specs.Provables.{Provable}
 use Rattle.dlk_calculus.specs.Rules.{Rule, word_of, arguments_of}
 use Rattle.dlk_calculus.specs.Steps.{Step, Gives, IsGoal, Fault}
+use Rattle.dlk_calculus.proofs.PlaceLaws.{at_one}
 use Rattle.dlk_rules.specs.declared.rule.RuleWord.{RuleWord}
 use Rattle.dlk_rules.specs.Words.{shape_of, text_of, wanted}
 use Rattle.dlk_tacsyn.specs.Tactics.{Atom}
 use Rattle.dlk_kernel.specs.Taken.{Takes}
 use Rattle.dlk_elab.specs.Atoms.{asked as by_asking}
 use Rattle.dlk_elab.specs.Atoms.{uses, Instance, instance_of, not_instantiated, not_used, FailWhy, AtStep, Asked, Steps, Refused, Asks, AtomSteps, FirstFault, AtomFault, asks_none, not_taken}
-use Rattle.dlk_uses.specs.Uses.{Use, Finishes, proved}
+use Rattle.dlk_uses.specs.Uses.{Use, Spot, Finishes, ProvesLast, FinishesBehind}
 use Rattle.dlk_match.specs.Matching.{Match}
 use Rattle.dlk_elab.proofs.OneFinish.{finishes_one}
-use Rattle.dlk_elab.proofs.Places.{at_one}
 use Rattle.dlk_elab.proofs.TakenLaws.{takes_one, taken_or_fault, fault_one}
 use Rattle.dlk_elab.proofs.AskLaws.{asks_one}
 
@@ -40,14 +40,15 @@ record Behind : Type 0 where
   e : Tree
 
 abbrev FinishesFrom : ℕ → ℕ → List Step → Behind → Type 0
-FinishesFrom fact goal rest b = Finishes (length b.between) (record { fact = fact; goal = goal; s = b.s }) b.used b.e (proved b.between) rest
+FinishesFrom fact goal rest b = FinishesBehind b.between (record { fact = fact; goal = goal; s = b.s }) b.used b.e rest
 
 module _ (one_provable : (rows : List Provable) (step : Step) (p q : Provable) → Gives rows step p → Gives rows step q → p ≡ q)
     (once : (rows : List Provable) (step : Step) (why other : Reason) → Fault rows step why → Fault rows step other → why ≡ other)
     (one_rule : (r s : Rule) → word_of r ≡ word_of s → arguments_of r ≡ arguments_of s → r ≡ s)
     (one_shape : (w : RuleWord) (rule : Rule) → word_of rule ≡ text_of w → shape_of (arguments_of rule) ≡ wanted w)
     (one_match : (key : Tree) (own : List (List ℕ)) (e : Tree) (given a b : Extra) → Match key own e given a → Match key own e given b → a ≡ b)
-    (one_innermost : (e : Tree) (path a b c d : List ℕ) (f g : Tree) → IsInnermost e path a b f → IsInnermost e path c d g → (a ≡ c) × (b ≡ d) × (f ≡ g)) where
+    (one_innermost : (e : Tree) (path a b c d : List ℕ) (f g : Tree) → IsInnermost e path a b f → IsInnermost e path c d g → (a ≡ c) × (b ≡ d) × (f ≡ g))
+    (one_proved : (rows : List Provable) (f g : Tree) → ProvesLast rows f → ProvesLast rows g → f ≡ g) where
   -- on a goal an atom asks for one thing
   asked_one : (rows : List Provable) (fact goal : ℕ) (atom : Atom) (s t : Sequent) (x y : Asked) → IsGoal rows fact goal s → IsGoal rows fact goal t →
       Asks (length rows) fact goal s atom x → Asks (length rows) fact goal t atom y → x ≡ y
@@ -90,9 +91,12 @@ module _ (one_provable : (rows : List Provable) (step : Step) (p q : Provable) �
       let m : between ≡ other = takes_one one_provable rows between other (instance_of (length rows) v y) (subst (λ xs. Takes rows xs between) same.steps first) second in
       let there : FinishesFrom fact goal rest (record { between = other; s = t; used = v; e = f }) =
       subst (FinishesFrom fact goal rest) (λ i. record { between = m i; s = same.goal i; used = same.used i; e = same.formula i }) a in
+      let spot : Spot = record { fact = fact; goal = goal; s = t } in
+      let proved : there.f ≡ b.f = one_proved other there.f b.f there.proves b.proves in
       record {
         between_is = m;
-        rest_is = finishes_one one_innermost (length other) (record { fact = fact; goal = goal; s = t }) v f (proved other) rest more there b;
+        rest_is = finishes_one one_innermost (length other) spot v f b.f rest more
+            (subst (λ (h : Tree). Finishes (length other) spot v f h rest) proved there.finishes) b.finishes;
       }
 
   pub one_steps : (rows : List Provable) (fact goal : ℕ) (atom : Atom) (s t : List Step) (a b : List Provable) → AtomSteps rows fact goal atom s a →

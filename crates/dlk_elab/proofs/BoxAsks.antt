@@ -17,8 +17,8 @@ use Rattle.dlk_elab.specs.declared.fault.TacFault.{TacFault}
 use Rattle.dlk_elab.specs.declared.plan.Target.{Target}
 use Rattle.dlk_elab.specs.Atoms.{AtomFault, asks_none, Asks, Steps, IsForBox, generalize, cut_box}
 use Rattle.dlk_elab.specs.Plans.{ArePlanned, goal_at}
-use Rattle.dlk_elab.specs.Ties.{IsTacFault, NoBox, IsBoxAt, AreAsked}
-use Rattle.dlk_elab.proofs.Elaborates.{tac_fault_weaker, are_asked}
+use Rattle.dlk_elab.specs.Ties.{IsTacFault, NoBox, IsBoxAt, AreAsked, AsksSome}
+use Rattle.dlk_elab.proofs.Elaborates.{tac_fault_weaker, are_asked, asks_some}
 
 module _ (rows : List Provable) (target : Target) (atom : Atom) (trees : List Tree) (s : Sequent) (argument : Argument) (counted : target.rows ≡ length rows)
     (is_goal : IsGoal rows target.fact target.goal (sequent_at trees s)) where
@@ -50,3 +50,18 @@ module _ (rows : List Provable) (target : Target) (atom : Atom) (trees : List Tr
       (subst (λ xs. Asks target.rows target.fact target.goal (sequent_at trees s) atom (Steps xs)) (sym are)
       (cut_box b.place (tree trees b.program) (tree trees b.formula) (tree trees h) name (args ∙ ap (λ a. GivenFormula (tree trees h) ∷ a ∷ []) at.place) at.stands))
       planned.known
+
+  -- where a box stands, they ask for some steps
+  pub generalize_some : (b : Boxed) → atom.name ≡ codes "G" → atom.arguments ≡ argument ∷ [] → IsBoxAt trees s argument b →
+      AsksSome rows target.fact target.goal atom
+  generalize_some b name args at =
+      asks_some rows target.rows target.fact target.goal atom (sequent_at trees s) counted is_goal
+      (generalizing target.rows (goal_at target (sequent_at trees s)) b.place (tree trees b.program) (tree trees b.formula))
+      (generalize b.place (tree trees b.program) (tree trees b.formula) name (args ∙ ap (λ a. a ∷ []) at.place) at.stands)
+
+  pub cut_some : (b : Boxed) (h : Tree) → atom.name ≡ codes "boxCut" → atom.arguments ≡ GivenFormula h ∷ argument ∷ [] → IsBoxAt trees s argument b →
+      AsksSome rows target.fact target.goal atom
+  cut_some b h name args at =
+      asks_some rows target.rows target.fact target.goal atom (sequent_at trees s) counted is_goal
+      (cutting_box target.rows (goal_at target (sequent_at trees s)) b.place (tree trees b.program) (tree trees b.formula) h)
+      (cut_box b.place (tree trees b.program) (tree trees b.formula) h name (args ∙ ap (λ a. GivenFormula h ∷ a ∷ []) at.place) at.stands)

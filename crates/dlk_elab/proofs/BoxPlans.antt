@@ -21,14 +21,13 @@ use Rattle.dlk_tacsyn.specs.Ties.{argument_at}
 use Rattle.dlk_elab.specs.declared.fault.TacFault.{TacFault}
 use Rattle.dlk_elab.specs.Atoms.{FailWhy, NoPlace, AtStep, IsOnTheRight, Asks, Refused, no_box, not_on_the_right}
 use Rattle.dlk_elab.specs.Ties.{IsTacFault, NoBox, IsBoxOf, IsBoxAt}
-use Rattle.dlk_elab.proofs.Places.{At-map, At_All}
 use Rattle.dlk_elab.proofs.Elaborates.{tac_fault_weaker}
 use Rattle.dlk_store.specs.Stores.{IsId, tree, kid_trees, StandsFor, Keeps}
 use Rattle.dlk_calculus.specs.Rules.{CutR, CoHideR, ImplyR, imply}
 use Rattle.dlk_calculus.specs.Steps.{Step as TreeStep, UseAxiom, UseRule, Apply, Merge, Substitute}
 use Rattle.dlk_calculus.specs.Sequents.{Sequent, IsFormula, IsSequent}
+use Rattle.dlk_calculus.proofs.PlaceLaws.{At-map, At_All}
 use Rattle.dlk_sequent.specs.declared.subst.Pair.{Pair}
-use Rattle.dlk_sequent.specs.Substitutions.{AreKnownPairs}
 use Rattle.dlk_rules.specs.declared.rule.Rule.TheVariants as rule
 use Rattle.dlk_rules.specs.declared.step.Step.{Step}
 use Rattle.dlk_rules.specs.declared.step.Step.TheVariants as step
@@ -38,14 +37,7 @@ use Rattle.dlk_elab.specs.declared.boxes.Boxed.{Boxed}
 use Rattle.dlk_elab.specs.declared.boxes.Cut.{Cut}
 use Rattle.dlk_elab.specs.declared.plan.Target.{Target}
 use Rattle.dlk_elab.specs.Plans.{ArePlanned, goal_at, AreCutTrees}
-
--- known ids of one pair, and of two and three
-known_two : (trees : List Tree) (p q : Pair) → IsId trees p.by → IsId trees q.by → AreKnownPairs trees (p ∷ q ∷ [])
-known_two trees p q h k =
-    All-cons (λ (x : Pair). IsId trees x.by) p (q ∷ []) h (All-cons (λ (x : Pair). IsId trees x.by) q [] k (All-nil (λ (x : Pair). IsId trees x.by)))
-
-known_three : (trees : List Tree) (p q r : Pair) → IsId trees p.by → IsId trees q.by → IsId trees r.by → AreKnownPairs trees (p ∷ q ∷ r ∷ [])
-known_three trees p q r h k m = All-cons (λ (x : Pair). IsId trees x.by) p (q ∷ r ∷ []) h (known_two trees q r k m)
+use Rattle.dlk_elab.proofs.FormPlans.{known_two, known_three}
 
 abbrev generalizes : Target → Boxed → List Step
 generalizes target boxed =

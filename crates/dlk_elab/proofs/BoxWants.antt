@@ -9,6 +9,7 @@ use Rattle.dlk_calculus.specs.Places.{At}
 use Rattle.dlk_calculus.specs.Provables.{Provable}
 use Rattle.dlk_calculus.specs.Rules.{imply}
 use Rattle.dlk_calculus.specs.Sequents.{Sequent, IsFormula, IsSequent}
+use Rattle.dlk_calculus.proofs.PlaceLaws.{At_All}
 use Rattle.dlk_sequent.specs.declared.sequent.Place.{Place}
 use Rattle.dlk_sequent.specs.declared.sequent.Place.TheVariants.{Succ}
 use Rattle.dlk_tacsyn.specs.declared.kind.Kind.TheVariants.{AnyPlace, QuotedFormula}
@@ -18,7 +19,6 @@ use Rattle.dlk_uses.specs.Uses.{Spot, generalizing, cutting_box}
 use Rattle.dlk_elab.specs.Atoms.{NoPlace, AtStep, HasNoLocator, Steps, Refused, generalize, cut_box, no_box, not_on_the_right, IsForBox, generalizes, cuts, IsOnTheRight}
 use Rattle.dlk_elab.proofs.BoxOrNot.{box_or_not, right_or_not}
 use Rattle.dlk_elab.proofs.Given.{one_given, cut_given}
-use Rattle.dlk_elab.proofs.Places.{At_All}
 use Rattle.dlk_elab.proofs.ProperSteps.{all_proper, generalizing_proper, cutting_proper}
 use Rattle.dlk_elab.proofs.Wants.{Wants}
 

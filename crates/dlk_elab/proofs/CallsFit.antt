@@ -1,6 +1,6 @@
 -- What fitting atoms for boxes and for uses of axioms are given.
 use Rattle.std.proofs.Common.{◌≡◌, ◌≢◌, ℕ, List, [], ◌∷◌, map, Option, Some, None, refl, sym, ap, subst, ◌∙◌, true}
-use Rattle.std.specs.Prelude.{codes}
+use Rattle.std.specs.Prelude.{codes, IsTrue}
 use Rattle.std.specs.List.{All}
 use Rattle.std.specs.Option.{option_copied}
 use Rattle.std.specs.Str.{bytes_eq}
@@ -17,9 +17,10 @@ use Rattle.dlk_tacsyn.specs.declared.kind.Kind.TheVariants.{AnyPlace, QuotedForm
 use Rattle.dlk_tacsyn.specs.declared.tactic.Arg.{Arg}
 use Rattle.dlk_tacsyn.specs.declared.tactic.Arg.TheVariants as arg
 use Rattle.dlk_tacsyn.specs.declared.tactic.Atom.{Atom}
-use Rattle.dlk_tacsyn.specs.Rows.{Row, row_of, wants, IsOfKind, AreOfKinds, IsFitting}
+use Rattle.dlk_tacsyn.specs.Rows.{Row, row_of, wants, is_use, IsOfKind, AreOfKinds, IsFitting}
 use Rattle.dlk_tacsyn.specs.Tactics.{Argument, GivenFormula}
 use Rattle.dlk_tacsyn.specs.Ties.{argument_at, ArgumentIsKnown, atom_at}
+use Rattle.dlk_uses.specs.Uses.{Direction as TheDirection, Forwards, Backwards}
 use Rattle.dlk_elab.specs.Atoms.{IsFixed, HasNoLocator, UseArguments, alone, with_extra, word_of_direction}
 use Rattle.dlk_elab.specs.Calls.{HasNoUse, UsesNone, IsUseCall, GivenBehind, GivenIsKnown, given_at, direction_of}
 use Rattle.dlk_elab.specs.declared.calls.Direction.{Direction as CodeDirection}
@@ -34,6 +35,11 @@ row_of_generalize = refl
 pub row_of_cut : row_of (codes "boxCut") ≡ Some (wants (QuotedFormula ∷ AnyPlace ∷ []))
 unfolding row_of
 row_of_cut = refl
+
+-- the name of an atom that uses an axiom
+pub named_use : (name : List ℕ) (direction : TheDirection) → name ≡ word_of_direction direction → IsTrue (is_use name)
+named_use name Forwards e = subst (λ n. IsTrue (is_use n)) (sym e) refl
+named_use name Backwards e = subst (λ n. IsTrue (is_use n)) (sym e) refl
 
 abbrev pub use_row : Row
 use_row = record { wanted = AName ∷ AnyPlace ∷ []; optional = Some QuotedExtra }

@@ -11,7 +11,7 @@ use Rattle.dlk_elab.specs.Ties.{IsFirstPlace}
 use Rattle.dlk_elab.proofs.Sames.{Clear, clear_none, clear_more, clear_end, first_found, ClearLeft, left_none, left_more, none_same, first_same_found}
 
 -- an item of a list
-item : {A : Type 0} (items : List A) (n : ℕ) → n < length items → (x : A) × (slice_get items n ≡ Some x)
+pub item : {A : Type 0} (items : List A) (n : ℕ) → n < length items → (x : A) × (slice_get items n ≡ Some x)
 item items n less = elim (slice_get_cases items n).1 [ inl h ↦ (h.0, h.2) | inr h ↦ absurd (omega (arith, h.0)) ]
 
 place_among : (items : List Tree) (x : Tree) (n : ℕ) → n ≤ length items → ((j : ℕ) × IsFirstPlace items j x) ⊎ Clear items n x

@@ -10,6 +10,7 @@ use Rattle.dlk_calculus.specs.Provables.{Provable}
 use Rattle.dlk_calculus.specs.Limits.{most_goals}
 use Rattle.dlk_calculus.specs.Limited.{HasFewFormulas, IsLimitedSequent, IsLimited}
 use Rattle.dlk_calculus.specs.Steps.{Step as TreeStep, IsGoal, IsProper, Gives, start, use_axiom, use_rule, leaf, apply, merge, substitute, rename}
+use Rattle.dlk_calculus.proofs.PlaceLaws.{At-map, At_All, At_place, At_read}
 use Rattle.dlk_sequent.specs.declared.sequent.Sequent.{Sequent}
 use Rattle.dlk_sequent.specs.Sequents.{sequent_at}
 use Rattle.dlk_rules.specs.declared.step.Step.{Step}
@@ -23,8 +24,7 @@ use Rattle.dlk_elab.specs.declared.fault.TacFault.{TacFault}
 use Rattle.dlk_elab.specs.declared.fault.TacFault.TheVariants as fault
 use Rattle.dlk_elab.specs.Atoms.{FailWhy, UnknownName, NoPlace, NoMatch, AtStep, HasGoalAt, Steps, Refused, Asks, AtomSteps, uses, FirstFault, AtomFault, asks_none, not_taken, instance_of}
 use Rattle.dlk_elab.specs.Atoms.{asked as by_asking}
-use Rattle.dlk_elab.specs.Ties.{IsTacFault, of_step, AreAsked, AreMade}
-use Rattle.dlk_elab.proofs.Places.{At_All, At_place, At-map, At_read}
+use Rattle.dlk_elab.specs.Ties.{IsTacFault, of_step, AreAsked, AsksSome, AreMade}
 
 pub goal_within : (trees : List Tree) (rows : List Provable) (fact goal : ℕ) (goals : List Sequent) → HasGoalAt rows fact goal →
     ((p : Provable) → At rows fact p → p.goals ≡ map (sequent_at trees) goals) → goal - 1 < length goals
@@ -89,6 +89,14 @@ module _ (rows : List Provable) (count fact goal : ℕ) (atom : Atom) (s : TreeS
       tac_fault_weaker (λ why. Asks count fact goal s atom (Refused why)) (AtomFault rows fact goal atom)
       (λ why asks. asks_none s is_goal (subst (λ n. Asks n fact goal s atom (Refused why)) counted asks)) e h
 
+  pub asks_some : (steps : List TreeStep) → Asks count fact goal s atom (Steps steps) → AsksSome rows fact goal atom
+  asks_some steps asks = record {
+    s = s;
+    is_goal = is_goal;
+    steps = steps;
+    asks = subst (λ n. Asks n fact goal s atom (Steps steps)) counted asks;
+  }
+
   pub are_asked : (trees : List Tree) (steps : List Step) → Asks count fact goal s atom (Steps (map (step_at trees) steps)) → All (HasKnownIds trees) steps →
       AreAsked rows fact goal atom trees steps
   are_asked trees steps asks known = record {
@@ -114,7 +122,7 @@ module _ (rows : List Provable) (fact goal : ℕ) (atom : Atom) (trees : List Tr
       asked' taken = by_asking asked.s asked.is_goal asked.asks taken
 
 -- each step that is taken is proper
-gives_proper : (rows : List Provable) (step : TreeStep) (p : Provable) → Gives rows step p → IsProper step
+pub gives_proper : (rows : List Provable) (step : TreeStep) (p : Provable) → Gives rows step p → IsProper step
 gives_proper rows _ _ (start s h) = tt
 gives_proper rows _ _ (use_axiom name a h) = tt
 gives_proper rows _ _ (use_rule name r h) = tt

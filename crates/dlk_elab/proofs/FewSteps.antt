@@ -21,7 +21,6 @@ use Rattle.dlk_uses.specs.Uses.{Direction, Forwards, Backwards, Use, Spot, key, 
 use Rattle.dlk_uses.specs.Uses.{exchange, by_equivalence, by_equation, by_conditional_equation, by_implication}
 use Rattle.dlk_uses.specs.Uses.{Finishes, equivalence, equation, conditional_equivalence, conditional_equation, implication}
 use Rattle.dlk_uses.specs.Uses.{fact as by_its_fact}
-use Rattle.dlk_uses.specs.Uses.{proved}
 use Rattle.dlk_elab.specs.Atoms.{Asked, Steps, Instance, Refused, Asks, nil, close, leaf, a_rule, generalize, cut_box, use_axiom, FailWhy, AtStep}
 use Rattle.dlk_elab.specs.Atoms.{AtomSteps, asked, uses, instance_of, FirstFault, AtomFault, asks_none, not_taken, not_instantiated, not_used}
 use Rattle.dlk_elab.specs.Outcomes.{most_steps}
@@ -144,10 +143,10 @@ module _ (few : (name : List ℕ) (a : Axiom) (direction : Direction) (place : P
   pub atom_few : (rows : List Provable) (fact goal : ℕ) (atom : Atom) (steps : List Step) (after : List Provable) → AtomSteps rows fact goal atom steps after →
       length steps ≤ most_steps
   atom_few rows fact goal atom steps after (asked s is asks takes) = asked_few (length rows) fact goal s atom steps asks
-  atom_few rows fact goal atom _ after (uses s used extra e between rest is asks first finishes behind) =
+  atom_few rows fact goal atom _ after (uses s used extra e between rest is asks first behind then_on) =
       let names = renames_few (length rows) fact goal s atom used extra e (Instance used extra e) asks refl in
       let begins = instance_few (length rows) used.its_axiom.name extra names in
-      let ends = finishing_few (length between) (record { fact = fact; goal = goal; s = s }) used e (proved between) rest finishes in
+      let ends = finishing_few (length between) (record { fact = fact; goal = goal; s = s }) used e behind.f rest behind.finishes in
       let all = length-append (instance_of (length rows) used extra) rest in
       omega (arith, begins, ends, all)
 
@@ -164,10 +163,10 @@ module _ (few : (name : List ℕ) (a : Axiom) (direction : Direction) (place : P
       let most = instance_few (length rows) used.its_axiom.name extra names in
       let full = no_room rows (instance_of (length rows) used extra) (subst (FirstFault rows (instance_of (length rows) used extra)) (same_reason why e) f) in
       omega (arith, most, full)
-  atom_full rows fact goal atom _ (not_used {why} s used extra formula between rest is asks first finishes f) e =
+  atom_full rows fact goal atom _ (not_used {why} s used extra formula between rest is asks first behind f) e =
       let names = renames_few (length rows) fact goal s atom used extra formula (Instance used extra formula) asks refl in
       let begins = instance_few (length rows) used.its_axiom.name extra names in
-      let ends = finishing_few (length between) (record { fact = fact; goal = goal; s = s }) used formula (proved between) rest finishes in
+      let ends = finishing_few (length between) (record { fact = fact; goal = goal; s = s }) used formula behind.f rest behind.finishes in
       let made = takes_length rows (instance_of (length rows) used extra) between first in
       let full = no_room between rest (subst (FirstFault between rest) (same_reason why e) f) in
       omega (arith, begins, ends, made, full)

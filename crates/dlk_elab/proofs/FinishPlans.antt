@@ -4,7 +4,7 @@ use Rattle.dlk_tree.specs.declared.op.Op.{Op}
 use Rattle.dlk_tree.specs.declared.op.Sort.TheVariants.{Formula}
 use Rattle.dlk_tree.specs.Trees.{Tree, node, sort, kids_of, trees_in}
 use Rattle.dlk_store.specs.declared.Id.{Id}
-use Rattle.dlk_store.specs.Stores.{IsId, tree, StandsFor, Keeps, kid_trees}
+use Rattle.dlk_store.specs.Stores.{IsId, StandsFor, Keeps, kid_trees}
 use Rattle.dlk_calculus.specs.declared.form.AxiomForm.TheVariants.{E, Q, C, R, I, F}
 use Rattle.dlk_calculus.specs.Paths.{IsInnermost}
 use Rattle.dlk_calculus.specs.Sequents.{Sequent}
@@ -26,9 +26,6 @@ known_on keeps id h = omega (arith, keeps.known, h)
 
 pub stands_on : {old new : List Tree} {t : Tree} → Keeps old new → (id : Id) → StandsFor old id t → StandsFor new id t
 stands_on keeps id s = record { known = known_on keeps id s.known; tree_is = keeps.same id s.known ∙ s.tree_is }
-
-pub stands_itself : {old new : List Tree} → Keeps old new → (id : Id) → IsId old id → StandsFor new id (tree old id)
-stands_itself keeps id h = record { known = known_on keeps id h; tree_is = keeps.same id h }
 
 pub stands_as : {trees : List Tree} {t u : Tree} (id : Id) → t ≡ u → StandsFor trees id t → StandsFor trees id u
 stands_as id e s = record { known = s.known; tree_is = s.tree_is ∙ e }

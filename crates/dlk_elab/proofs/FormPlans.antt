@@ -28,10 +28,10 @@ use Rattle.dlk_elab.proofs.Turns.{both_planned, steps_known}
 known_one : (trees : List Tree) (p : Pair) → IsId trees p.by → AreKnownPairs trees (p ∷ [])
 known_one trees p h = All-cons (λ (x : Pair). IsId trees x.by) p [] h (All-nil (λ (x : Pair). IsId trees x.by))
 
-known_two : (trees : List Tree) (p q : Pair) → IsId trees p.by → IsId trees q.by → AreKnownPairs trees (p ∷ q ∷ [])
+pub known_two : (trees : List Tree) (p q : Pair) → IsId trees p.by → IsId trees q.by → AreKnownPairs trees (p ∷ q ∷ [])
 known_two trees p q h k = All-cons (λ (x : Pair). IsId trees x.by) p (q ∷ []) h (known_one trees q k)
 
-known_three : (trees : List Tree) (p q r : Pair) → IsId trees p.by → IsId trees q.by → IsId trees r.by → AreKnownPairs trees (p ∷ q ∷ r ∷ [])
+pub known_three : (trees : List Tree) (p q r : Pair) → IsId trees p.by → IsId trees q.by → IsId trees r.by → AreKnownPairs trees (p ∷ q ∷ r ∷ [])
 known_three trees p q r h k m = All-cons (λ (x : Pair). IsId trees x.by) p (q ∷ r ∷ []) h (known_two trees q r k m)
 
 alone_known : (trees : List Tree) (id : Id) → IsId trees id → IsKnown trees (record { ante = []; succ = id ∷ [] })

@@ -15,13 +15,13 @@ use Rattle.dlk_calculus.specs.Places.{At}
 use Rattle.dlk_calculus.specs.Provables.{Provable, HasFormulas}
 use Rattle.dlk_calculus.specs.Sequents.{Sequent, IsSequent}
 use Rattle.dlk_calculus.specs.Steps.{Step, IsGoal}
+use Rattle.dlk_calculus.proofs.PlaceLaws.{At_All}
 use Rattle.dlk_kernel.specs.Taken.{Takes}
 use Rattle.dlk_tacsyn.specs.Tactics.{Atom}
 use Rattle.dlk_uses.specs.Applying.{Applies}
 use Rattle.dlk_uses.specs.Taking.{FirstFault}
-use Rattle.dlk_uses.specs.Uses.{Use, Spot, instance, proved, Finishes, generalizing, cutting_box}
+use Rattle.dlk_uses.specs.Uses.{Use, Spot, instance, FinishesBehind, generalizing, cutting_box}
 use Rattle.dlk_elab.specs.Atoms.{FailWhy, AtStep, Asked, Steps, Instance, Refused, Asks, use_axiom, AtomFault, asks_none, not_taken, not_instantiated, not_used, IsByAxioms}
-use Rattle.dlk_elab.proofs.Places.{At_All}
 use Rattle.dlk_elab.proofs.AskLaws.{AsksPlainly, AsksBox, by_generalize, by_cut_box, by_no_box, by_not_on_the_right, AsksUse, by_use_axiom, by_no_axiom, by_not_there, by_no_match, plainly, for_box, for_use, view, plain_other}
 use Rattle.dlk_elab.proofs.AtomLaws.{same_instance}
 
@@ -108,7 +108,7 @@ goal_formulas rows fact goal s all g =
 module _ (instance_fits : (rows : List Provable) (n : ℕ) (name : List ℕ) (extra : Extra) → FirstFault rows (instance n name extra) NotEqual → ⊥)
     (behind_fits : (rows between : List Provable) (name : List ℕ) (spot : Spot) (used : Use) (e : Tree) (extra : Extra) (rest : List Step) →
     Applies rows spot used e extra → axiom_named name ≡ Some used.its_axiom → Takes rows (instance (length rows) name extra) between →
-    Finishes (length between) spot used e (proved between) rest → FirstFault between rest NotEqual → ⊥)
+    FinishesBehind between spot used e rest → FirstFault between rest NotEqual → ⊥)
     (generalizing_fits : (rows : List Provable) (spot : Spot) (j : ℕ) (b f : Tree) → IsGoal rows spot.fact spot.goal spot.s → At spot.s.succ j (box b f) →
     FirstFault rows (generalizing (length rows) spot j b f) NotEqual → ⊥)
     (cutting_fits : (rows : List Provable) (spot : Spot) (j : ℕ) (b f h : Tree) → IsGoal rows spot.fact spot.goal spot.s → At spot.s.succ j (box b f) →
@@ -134,10 +134,10 @@ module _ (instance_fits : (rows : List Provable) (n : ℕ) (name : List ℕ) (ex
   fits rows fact goal atom _ all names (not_instantiated {why} s used extra f p asks h) e =
       let same : why ≡ NotEqual = cc in
       instance_fits rows (length rows) used.its_axiom.name extra (subst (FirstFault rows (instance (length rows) used.its_axiom.name extra)) same h)
-  fits rows fact goal atom _ all names (not_used {why} s used extra f between rest p asks first finishes h) e =
+  fits rows fact goal atom _ all names (not_used {why} s used extra f between rest p asks first behind h) e =
       let same : why ≡ NotEqual = cc in
       let a = applied rows fact goal s atom p (goal_formulas rows fact goal s all p) used extra f (Instance used extra f) asks refl in
-      behind_fits rows between used.its_axiom.name (record { fact = fact; goal = goal; s = s }) used f extra rest a.applies a.named first finishes
+      behind_fits rows between used.its_axiom.name (record { fact = fact; goal = goal; s = s }) used f extra rest a.applies a.named first behind
       (subst (FirstFault between rest) same h)
 
   pub merges_fit : (rows : List Provable) (fact goal : ℕ) (atom : Atom) → All HasFormulas rows → IsByAxioms atom.name →

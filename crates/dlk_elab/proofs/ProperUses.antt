@@ -27,9 +27,9 @@ use Rattle.dlk_sequent.specs.declared.sequent.Place.TheVariants.{Ante, Succ}
 use Rattle.dlk_kernel.specs.Taken.{Takes}
 use Rattle.dlk_match.specs.Instances.{AreNames}
 use Rattle.dlk_match.specs.Matching.{Match}
-use Rattle.dlk_uses.specs.Uses.{Direction, Forwards, Backwards, Use, Spot, key, left_of, right_of, may_stand, is_forwards, is_on_the_right, is_whole, HasShape, ProvesLast, proved}
+use Rattle.dlk_uses.specs.Uses.{Direction, Forwards, Backwards, Use, Spot, key, left_of, right_of, may_stand, is_forwards, is_on_the_right, is_whole, HasShape, ProvesLast}
 use Rattle.dlk_uses.specs.Uses.{renaming, substituting, instance, by_equivalence, by_equation, by_conditional_equation, by_conditional_equivalence, by_implication, by_fact}
-use Rattle.dlk_uses.specs.Uses.{Finishes, equivalence, equation, conditional_equivalence, conditional_equation, implication, fact}
+use Rattle.dlk_uses.specs.Uses.{Finishes, FinishesBehind, equivalence, equation, conditional_equivalence, conditional_equation, implication, fact}
 use Rattle.dlk_elab.specs.Atoms.{MatchesThere}
 use Rattle.dlk_elab.proofs.ProperSteps.{all_proper, equivalence_proper, EquationMade, equation_proper, conditional_equation_proper, conditional_equivalence_proper, implication_proper, fact_proper}
 
@@ -54,8 +54,7 @@ pub record Laws : Type 0 where
   pub instance_shaped : (rows between : List Provable) (name : List ℕ) (extra : Extra) (a : Axiom) → axiom_named name ≡ Some a →
       Takes rows (instance (length rows) name extra) between → (f : Tree) × ProvesLast between f × HasShape a.form f
   pub instance_made : (rows between : List Provable) (name : List ℕ) (extra : Extra) (a : Axiom) → axiom_named name ≡ Some a →
-      Takes rows (instance (length rows) name extra) between → WellMade (proved between)
-  pub proved_is : (rows : List Provable) (f : Tree) → ProvesLast rows f → proved rows ≡ f
+      Takes rows (instance (length rows) name extra) between → (f : Tree) → ProvesLast between f → WellMade f
 
 -- The steps of an instance:
 
@@ -111,8 +110,12 @@ on_the_right Forwards (Ante i) path may = absurd (cc may)
 on_the_right Backwards (Ante i) path may = absurd (cc may)
 
 -- behind an instance there are proper steps
-abbrev pub Goes : (now : ℕ) (spot : Spot) (used : Use) (e f : Tree) → Type 0
+abbrev Goes : (now : ℕ) (spot : Spot) (used : Use) (e f : Tree) → Type 0
 Goes now spot used e f = (rest : List Step) × Finishes now spot used e f rest × All IsProper rest
+
+-- so there are where the last of the rows proves it
+abbrev pub GoesBehind : (rows : List Provable) (spot : Spot) (used : Use) (e : Tree) → Type 0
+GoesBehind rows spot used e = (rest : List Step) × FinishesBehind rows spot used e rest × All IsProper rest
 
 module _ (laws : Laws) where
   left_made : (f : Tree) → WellMade f → WellMade (left_of f)
@@ -250,10 +253,9 @@ module _ (laws : Laws) where
         let steps = by_fact now spot at.0 in (steps, fact at.0 is at.1, all_proper steps (fact_proper now spot at.0))
 
     pub goes_on : (rows between : List Provable) → Takes rows (instance (length rows) used.its_axiom.name extra) between →
-        Goes (length between) spot used e (proved between)
+        GoesBehind between spot used e
     goes_on rows between takes =
         let i = laws.instance_shaped rows between used.its_axiom.name extra used.its_axiom named takes in
-        let same : proved between ≡ i.0 = laws.proved_is between i.0 i.1 in
-        goes used.its_axiom.form refl (length between) (proved between)
-        (subst (HasShape used.its_axiom.form) (sym same) i.2)
-        (laws.instance_made rows between used.its_axiom.name extra used.its_axiom named takes)
+        let made = laws.instance_made rows between used.its_axiom.name extra used.its_axiom named takes i.0 i.1 in
+        let g = goes used.its_axiom.form refl (length between) i.0 i.2 made in
+        (g.0, record { f = i.0; proves = i.1; finishes = g.1 }, g.2)

@@ -7,26 +7,20 @@ use Rattle.dlk_store.specs.Stores.{tree}
 use Rattle.dlk_calculus.specs.Limits.{most_formulas}
 use Rattle.dlk_calculus.specs.Limited.{HasFewFormulas}
 use Rattle.dlk_calculus.specs.Provables.{Provable}
-use Rattle.dlk_calculus.specs.Sequents.{Sequent as TreeSequent, IsFormula, IsSequent}
+use Rattle.dlk_calculus.specs.Sequents.{IsSequent}
 use Rattle.dlk_calculus.specs.Steps.{IsGoal}
 use Rattle.dlk_sequent.specs.declared.sequent.Place.{Place}
-use Rattle.dlk_sequent.specs.declared.sequent.Place.TheVariants.{Ante, Succ}
 use Rattle.dlk_sequent.specs.declared.sequent.Sequent.{Sequent}
 use Rattle.dlk_sequent.specs.Sequents.{sequent_at}
 use Rattle.dlk_sequent.specs.Spines.{Way, top}
 use Rattle.dlk_uses.specs.Uses.{formula_at}
+use Rattle.dlk_uses.proofs.Behind.{formula_there}
 use Rattle.dlk_elab.specs.declared.fault.TacFault.{TacFault}
 use Rattle.dlk_elab.specs.declared.plan.Target.{Target}
 use Rattle.dlk_elab.specs.Atoms.{NoPlace}
 use Rattle.dlk_elab.specs.Ties.{IsTacFault}
 use Rattle.dlk_elab.specs.Uses.{IsWayAt, HasNoWay, IsReached, IsNotThere}
 use Rattle.dlk_elab.proofs.Elaborates.{tac_fault_weaker}
-use Rattle.dlk_elab.proofs.Places.{At_All}
-
--- what stands at a place is a formula
-formula_there : (s : TreeSequent) (place : Place) (e : Tree) → IsSequent s → formula_at s place ≡ Some e → IsFormula e
-formula_there s (Ante i) e is h = At_All IsFormula s.ante i e is.ante h
-formula_there s (Succ j) e is h = At_All IsFormula s.succ j e is.succ h
 
 module _ (rows : List Provable) (target : Target) (trees : List Tree) (s : Sequent) (place : Place) (path : List ℕ)
     (is_goal : IsGoal rows target.fact target.goal (sequent_at trees s)) where

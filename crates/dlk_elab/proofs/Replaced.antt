@@ -6,15 +6,16 @@ use Rattle.dlk_calculus.specs.Provables.{Provable}
 use Rattle.dlk_calculus.specs.Rules.{Rule, Close}
 use Rattle.dlk_calculus.specs.Steps.{Step, Leaf, Apply, Merge, Gives, IsGoal}
 use Rattle.dlk_calculus.specs.Steps.{apply as by_apply, merge as by_merge}
+use Rattle.dlk_calculus.proofs.PlaceLaws.{at_one, At_place, split_at, At-more, At-between}
 use Rattle.dlk_tacsyn.specs.Tactics.{Atom}
 use Rattle.dlk_kernel.specs.Taken.{Takes}
 use Rattle.dlk_elab.specs.Atoms.{Asked, Steps, Asks, nil, close, leaf, a_rule, generalize, cut_box, AtomSteps, uses, instance_of, Replaces}
 use Rattle.dlk_elab.specs.Atoms.{asked as by_asking}
-use Rattle.dlk_uses.specs.Uses.{generalizing, cutting_box, proved}
+use Rattle.dlk_uses.specs.Uses.{generalizing, cutting_box}
+use Rattle.dlk_uses.proofs.Taking.{takes_none}
 use Rattle.dlk_elab.proofs.Replacing.{Behind, Ends, rows_kept, put_length}
 use Rattle.dlk_elab.proofs.FormsReplace.{finishes_ends, generalizing_ends, cutting_box_ends}
-use Rattle.dlk_elab.proofs.Places.{at_one, split_at, At_place, At-more, At-between}
-use Rattle.dlk_elab.proofs.TakenLaws.{takes_none, takes_first}
+use Rattle.dlk_elab.proofs.TakenLaws.{takes_first}
 
 -- What is left of a fact's row by a step on one of its goals.
 record Left (p : Provable) (goal : ℕ) (q : Provable) : Type 0 where
@@ -139,11 +140,11 @@ pub replaced : (rows after : List Provable) (goal : ℕ) (atom : Atom) (steps : 
     (new : List Sequent) × Replaces rows goal after new
 replaced rows after goal atom _ (by_asking {steps} s is_goal asks takes) =
     replaced_by rows after goal is_goal.0 s atom steps (Steps steps) is_goal.1 is_goal.2 asks refl takes
-replaced rows after goal atom _ (uses s used extra e between rest is_goal asks first finishes then_on) =
+replaced rows after goal atom _ (uses s used extra e between rest is_goal asks first behind then_on) =
     let there = At_place is_goal.0.goals goal s is_goal.2 in
     ended_replaces rows after goal is_goal.0 there is_goal.1
-    (finishes_ends is_goal.0 goal there after (length rows) s (begun is_goal.0 goal s is_goal.2) (length between) (length between) used e (proved between) rest refl
-    finishes (record {
+    (finishes_ends is_goal.0 goal there after (length rows) s (begun is_goal.0 goal s is_goal.2) (length between) (length between) used e behind.f rest refl
+    behind.finishes (record {
       rows = between;
       count = refl;
       stands = rows_kept rows between (instance_of (length rows) used extra) (length rows) is_goal.0 first is_goal.1;
@@ -154,7 +155,7 @@ replaced rows after goal atom _ (uses s used extra e between rest is_goal asks f
 its_goal : (rows after : List Provable) (goal : ℕ) (atom : Atom) (steps : List Step) → AtomSteps rows (length rows) goal atom steps after →
     (s : Sequent) × IsGoal rows (length rows) goal s
 its_goal rows after goal atom _ (by_asking s is_goal asks takes) = (s, is_goal)
-its_goal rows after goal atom _ (uses s used extra e between rest is_goal asks first finishes then_on) = (s, is_goal)
+its_goal rows after goal atom _ (uses s used extra e between rest is_goal asks first behind then_on) = (s, is_goal)
 
 pub counted : (rows after : List Provable) (goal : ℕ) (atom : Atom) (steps : List Step) (new : List Sequent) (p q : Provable) →
     AtomSteps rows (length rows) goal atom steps after → Replaces rows goal after new → At rows (length rows) p → At after (length after) q →

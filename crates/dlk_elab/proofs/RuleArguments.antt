@@ -7,7 +7,9 @@ use Rattle.dlk_calculus.specs.Rules.{Arguments, OnePlace, TwoPlaces, PlaceAndFor
 use Rattle.dlk_rules.specs.declared.arguments.Shape.{Shape}
 use Rattle.dlk_rules.specs.declared.arguments.Shape.TheVariants as shape
 use Rattle.dlk_rules.specs.declared.arguments.Side.{Side}
-use Rattle.dlk_rules.specs.Words.{shape_of}
+use Rattle.dlk_rules.specs.declared.arguments.Arguments.{Arguments as IdArguments}
+use Rattle.dlk_rules.specs.declared.arguments.Arguments.TheVariants as id_arguments
+use Rattle.dlk_rules.specs.Words.{shape_of, shape_in, arguments_at}
 use Rattle.dlk_tacsyn.specs.declared.tactic.Arg.{Arg}
 use Rattle.dlk_tacsyn.specs.declared.tactic.Arg.TheVariants as arg
 use Rattle.dlk_tacsyn.specs.Tactics.{Argument, Word, GivenFormula}
@@ -16,6 +18,14 @@ use Rattle.dlk_elab.specs.declared.fault.TacFault.{TacFault}
 use Rattle.dlk_elab.specs.declared.fault.TacFault.TheVariants as fault
 use Rattle.dlk_elab.specs.Atoms.{NoPlace, IsThere, AreFor, one_place, two_places, place_and_formula, one_formula, place_and_name}
 use Rattle.dlk_elab.specs.Ties.{IsTacFault, HasNone}
+
+-- arguments over ids have the shape of those that they stand for
+pub same_shape : (trees : List Tree) (a : IdArguments (List ℕ)) → shape_of (arguments_at (λ y. y) trees a) ≡ shape_in a
+same_shape trees (id_arguments.OnePlace i) = refl
+same_shape trees (id_arguments.TwoPlaces i k) = refl
+same_shape trees (id_arguments.PlaceAndFormula i h) = refl
+same_shape trees (id_arguments.OneFormula h) = refl
+same_shape trees (id_arguments.PlaceAndName i y) = refl
 
 -- a list of one item, and one of two
 pub one_item : {A : Type 0} (xs : List A) (x : A) → 1 ≤ length xs → length xs < 2 → x ≡ get_or xs 0 x → xs ≡ x ∷ []

@@ -9,11 +9,11 @@ use Rattle.dlk_store.specs.declared.Id.{Id}
 use Rattle.dlk_store.specs.Stores.{tree}
 use Rattle.dlk_calculus.specs.Places.{At}
 use Rattle.dlk_calculus.specs.Sequents.{Sequent}
+use Rattle.dlk_calculus.proofs.PlaceLaws.{at_suc}
 use Rattle.dlk_sequent.specs.declared.sequent.Sequent.{Sequent as IdSequent}
 use Rattle.dlk_sequent.specs.Sequents.{sequent_at}
 use Rattle.dlk_elab.specs.Atoms.{AreSame, AreFirstSame}
 use Rattle.dlk_elab.specs.Ties.{IsFirstPlace}
-use Rattle.dlk_elab.proofs.Places.{at_suc}
 
 pub at_next : {A : Type 0} (items : List A) (n : ℕ) (x : A) → slice_get items n ≡ Some x → At items (n + 1) x
 at_next items n x h = let e : n + 1 ≡ suc n = omega arith in rw e (at_suc items n ∙ h)

@@ -14,7 +14,7 @@ use Rattle.dlk_calculus.specs.Pairs.{Extra}
 use Rattle.dlk_calculus.specs.Paths.{subtree}
 use Rattle.dlk_calculus.specs.Provables.{Provable, HasFormulas}
 use Rattle.dlk_calculus.specs.Rules.{Close}
-use Rattle.dlk_calculus.specs.Sequents.{Sequent, IsSequent, IsFormula}
+use Rattle.dlk_calculus.specs.Sequents.{Sequent, IsSequent}
 use Rattle.dlk_calculus.specs.Steps.{Step, Leaf, Apply, Merge}
 use Rattle.dlk_sequent.specs.declared.sequent.Place.{Place}
 use Rattle.dlk_sequent.specs.declared.sequent.Place.TheVariants.{Ante, Succ}
@@ -24,11 +24,11 @@ use Rattle.dlk_machine.specs.Symbols.{ReplacesSymbol}
 use Rattle.dlk_tacsyn.specs.Rows.{IsRename, IsNamedExtra, IsNamed, HasNames}
 use Rattle.dlk_match.specs.Matching.{Match}
 use Rattle.dlk_match.specs.Instances.{AreNames}
-use Rattle.dlk_uses.specs.Uses.{Direction, Use, left_of, right_of, side_of, Forwards, Backwards, key, formula_at}
+use Rattle.dlk_uses.specs.Uses.{Direction, Use, left_of, right_of, side_of, Forwards, Backwards, key}
+use Rattle.dlk_uses.proofs.Behind.{formula_there}
 use Rattle.dlk_elab.specs.Atoms.{UseArguments, alone, with_extra, instance_of}
 use Rattle.dlk_elab.specs.Atoms.{Asked, Steps, Instance, Asks, nil, close, leaf, a_rule, generalize, cut_box, use_axiom, AtomSteps, asked, uses}
 use Rattle.dlk_elab.specs.Symbols.{ReplacesSymbols}
-use Rattle.dlk_elab.proofs.Places.{At_All}
 use Rattle.dlk_elab.proofs.AtomLaws.{same_instance}
 use Rattle.dlk_elab.proofs.MergesFit.{goal_formulas}
 use Rattle.dlk_elab.proofs.FormSymbols.{added, no_steps, leaf_symbols, apply_symbols, merge_symbols}
@@ -37,7 +37,7 @@ use Rattle.dlk_elab.proofs.FormSymbols.{instance_symbols, finishing_symbols, gen
 -- ---- taken in turn
 
 -- steps that are taken behind others are taken with them
-taken_behind : (rows between after : List Provable) (before steps : List Step) → Takes rows before between → Takes between steps after →
+pub taken_behind : (rows between after : List Provable) (before steps : List Step) → Takes rows before between → Takes between steps after →
     Takes rows (before ++ steps) after
 taken_behind rows between _ before _ first none = subst (λ xs. Takes rows xs between) (sym (append-nil before)) first
 taken_behind rows between _ before _ first (more {steps = steps} {mid = mid} {step = step} {p = p} taken is) =
@@ -58,10 +58,6 @@ given_named _ name place path _ alone names = (All-nil IsRename, All-nil Replace
 given_named _ name place path given with_extra names =
     let behind = GivenExtra given ∷ [] in
     All-head IsNamed (GivenExtra given) [] (All-tail IsNamed (AtPlace place path) behind (All-tail IsNamed (Word name) (AtPlace place path ∷ behind) names))
-
-formula_there : (s : Sequent) (place : Place) (e : Tree) → IsSequent s → formula_at s place ≡ Some e → IsFormula e
-formula_there s (Ante i) e formulas is = At_All IsFormula s.ante i e formulas.ante is
-formula_there s (Succ j) e formulas is = At_All IsFormula s.succ j e formulas.succ is
 
 module _ (ends_made : (op : Op) (kids : Forest) → WellMade (node op kids) → WellMade (first kids) × WellMade (last kids)) where
   left_made : (f : Tree) → WellMade f → WellMade (left_of f)
@@ -115,9 +111,9 @@ module _ (ends_made : (op : Op) (kids : Forest) → WellMade (node op kids) → 
     pub atom_symbols : (rows : List Provable) (fact goal : ℕ) (atom : Atom) (steps : List Step) (after : List Provable) → All HasFormulas rows → HasNames atom →
         AtomSteps rows fact goal atom steps after → All ReplacesSymbols steps
     atom_symbols rows fact goal atom steps after all names (asked s is asks takes) = asked_symbols (length rows) fact goal s atom steps asks
-    atom_symbols rows fact goal atom _ after all names (uses s used extra e between rest is asks first finishes behind) =
+    atom_symbols rows fact goal atom _ after all names (uses s used extra e between rest is asks first behind then_on) =
         let formulas = goal_formulas rows fact goal s all is in
         All-append ReplacesSymbols (instance_of (length rows) used extra) rest
         (instance_symbols (length rows) used.its_axiom.name extra
         (used_symbols (length rows) fact goal s atom used extra e (Instance used extra e) formulas names asks refl))
-        (finishing_symbols (length between) (record { fact = fact; goal = goal; s = s }) used e _ rest finishes)
+        (finishing_symbols (length between) (record { fact = fact; goal = goal; s = s }) used e behind.f rest behind.finishes)

@@ -8,9 +8,6 @@ use Rattle.dlk_calculus.specs.Provables.{Provable}
 use Rattle.dlk_calculus.specs.Steps.{Adds, Fault}
 use Rattle.dlk_rules.specs.declared.step.Step.{Step}
 use Rattle.dlk_rules.specs.Steps.{step_at}
-use Rattle.dlk_kernel.specs.declared.fault.StepFault.{StepFault}
-use Rattle.dlk_kernel.specs.declared.fault.StepFault.TheVariants as step_fault
-use Rattle.dlk_kernel.specs.Faults.{IsStepFault}
 use Rattle.dlk_kernel.specs.Taken.{Takes, more}
 use Rattle.dlk_elab.specs.Atoms.{FirstFault}
 
@@ -48,8 +45,3 @@ module _ (old new : List Tree) (plan : List Step) (i : ℕ) (s : Step) (less : i
     takes = taken;
     fault = fault;
   }
-
--- what a step's fault says, weakened
-pub step_fault_weaker : (P Q : Reason → Type 0) → ((why : Reason) → P why → Q why) → (e : StepFault) → IsStepFault P e → IsStepFault Q e
-step_fault_weaker P Q weaker (step_fault.Refused why) h = weaker why h
-step_fault_weaker P Q weaker step_fault.Memory h = tt

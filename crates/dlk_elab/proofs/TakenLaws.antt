@@ -6,6 +6,7 @@ use Rattle.dlk_calculus.specs.declared.reason.Reason.{Reason}
 use Rattle.dlk_calculus.specs.Provables.{Provable}
 use Rattle.dlk_calculus.specs.Steps.{Step, IsProper, Gives, Fault, StepOf}
 use Rattle.dlk_kernel.specs.Taken.{Takes, none, more}
+use Rattle.dlk_uses.proofs.Taking.{takes_none, no_fault}
 use Rattle.dlk_elab.specs.Atoms.{FirstFault}
 
 nil_or_not : (x y : Step) (xs ys : List Step) → x ∷ xs ≡ y ∷ ys → (x ≡ y) × (xs ≡ ys)
@@ -16,9 +17,6 @@ empty : (rows after : List Provable) (steps : List Step) → Takes rows steps af
 empty rows after steps none e = refl
 empty rows after steps (more {steps = []} taken is) e = absurd (cc e)
 empty rows after steps (more {steps = x ∷ xs} taken is) e = absurd (cc e)
-
-pub takes_none : (rows after : List Provable) → Takes rows [] after → after ≡ rows
-takes_none rows after taken = empty rows after [] taken refl
 
 -- the first step and those behind it
 pub record First (rows : List Provable) (step : Step) (steps : List Step) (after : List Provable) : Type 0 where
@@ -75,13 +73,6 @@ fault_of_those rows between step s steps (x ∷ xs) behind why e taken fault =
 
 pub fault_from : (rows : List Provable) (step : Step) (steps : List Step) (why : Reason) → FirstFault rows (step ∷ steps) why → FaultFrom rows step steps why
 fault_from rows step steps why f = fault_of_those rows f.between step f.step steps f.before f.behind why f.steps_are f.takes f.fault
-
-pub no_fault : (rows : List Provable) (why : Reason) → ¬ FirstFault rows [] why
-no_fault rows why f = empty_is f.before f.steps_are
-  where
-    empty_is : (before : List Step) → [] ≡ before ++ f.step ∷ f.behind → ⊥
-    empty_is [] e = cc e
-    empty_is (x ∷ xs) e = cc e
 
 pub fault_here : (rows : List Provable) (step : Step) (steps : List Step) (why : Reason) → Fault rows step why → FirstFault rows (step ∷ steps) why
 fault_here rows step steps why fault = record { before = []; step = step; behind = steps; steps_are = refl; between = rows; takes = none; fault = fault }

@@ -44,7 +44,7 @@ module _ (old new : List Tree) (keeps : Keeps old new) where
   pairs_known (p ∷ pairs) known =
       All-cons (HasId new) p pairs (id_kept p.by (All-head (HasId old) p pairs known)) (pairs_known pairs (All-tail (HasId old) p pairs known))
 
-  pairs_kept : (pairs : List Pair) → AreKnownPairs old pairs → pairs_at new pairs ≡ pairs_at old pairs
+  pub pairs_kept : (pairs : List Pair) → AreKnownPairs old pairs → pairs_at new pairs ≡ pairs_at old pairs
   pairs_kept [] known = refl
   pairs_kept (p ∷ pairs) known =
       let first = keeps.same p.by (All-head (HasId old) p pairs known) in

@@ -31,12 +31,12 @@ use Rattle.dlk_sequent.specs.declared.sequent.Place.TheVariants.{Ante, Succ}
 use Rattle.dlk_sequent.specs.Extras.{extra_at}
 use Rattle.dlk_sequent.specs.Spines.{top, path_of}
 use Rattle.dlk_tacsyn.specs.Tactics.{Atom}
-use Rattle.dlk_uses.specs.Uses.{Direction, Forwards, Backwards, left_of, right_of, key, HasShape, may_stand, instance, proved, Finishes, ProvesLast}
+use Rattle.dlk_uses.specs.Uses.{Direction, Forwards, Backwards, left_of, right_of, key, HasShape, Spot, may_stand, instance, Finishes, FinishesBehind, ProvesLast}
 use Rattle.dlk_elab.specs.declared.calls.UseCall.{UseCall}
 use Rattle.dlk_elab.specs.declared.plan.Target.{Target}
 use Rattle.dlk_elab.specs.declared.uses.Found.{Found}
 use Rattle.dlk_elab.specs.Atoms.{AtomSteps, uses, FirstFault, AtomFault, not_instantiated, not_used, instance_of}
-use Rattle.dlk_elab.specs.Finishing.{HasForm, FinishUse, FinishUses}
+use Rattle.dlk_elab.specs.Finishing.{HasForm, FinishUse, FinishLast}
 use Rattle.dlk_elab.specs.Plans.{ArePlanned}
 use Rattle.dlk_elab.specs.Ties.{IsTacFault, of_step, AreMade}
 use Rattle.dlk_elab.specs.Uses.{IsFound, ProvesForm, aim_of}
@@ -168,20 +168,23 @@ module _ (rows : List Provable) (target : Target) (atom : Atom) (mid : List Tree
           }
 
       -- the steps behind it, over the ids of a later store
-      module _ (later : List Tree) (now : ℕ) (top_tree : Tree) (rest : List Step) (counted : now ≡ length between) (same : top_tree ≡ e)
-          (finishes : FinishUses later now (aim_of target u found.right) found.form (path_of found.way) top_tree (proved between) rest) where
-        finished : FinishUse later now (aim_of target u found.right) is.s is.used top_tree (proved between) rest
-        finished = finishes is.s is.used is.right (record { form_is = is.form; direction_is = is.direction; place_is = is.place; path_is = is.path })
+      module _ (later : List Tree) (top_tree : Tree) (rest : List Step) (same : top_tree ≡ e)
+          (behind : FinishLast later between (aim_of target u found.right) found.form (path_of found.way) top_tree rest) where
+        abbrev spot : Spot
+        spot = record { fact = target.fact; goal = target.goal; s = is.s }
+
+        finished : FinishUse later (length between) (aim_of target u found.right) is.s is.used top_tree behind.f rest
+        finished = behind.finish is.s is.used is.right (record { form_is = is.form; direction_is = is.direction; place_is = is.place; path_is = is.path })
 
         pub rest_known : All (HasKnownIds later) rest
         rest_known = finished.known
 
-        ends : Finishes (length between) (record { fact = target.fact; goal = target.goal; s = is.s }) is.used e (proved between) (map (step_at later) rest)
-        ends =
-            subst (λ (x : Tree). Finishes (length between) (record { fact = target.fact; goal = target.goal; s = is.s }) is.used x (proved between)
-            (map (step_at later) rest)) same
-            (subst (λ (n : ℕ). Finishes n (record { fact = target.fact; goal = target.goal; s = is.s }) is.used top_tree (proved between)
-            (map (step_at later) rest)) counted finished.finishes)
+        ends : FinishesBehind between spot is.used e (map (step_at later) rest)
+        ends = record {
+          f = behind.f;
+          proves = behind.proves;
+          finishes = subst (λ (x : Tree). Finishes (length between) spot is.used x behind.f (map (step_at later) rest)) same finished.finishes;
+        }
 
         taken_instance : Takes rows (instance_of (length rows) is.used its_extra) between
         taken_instance = subst (λ (xs : List TreeStep). Takes rows xs between) planned_is taken

@@ -7,6 +7,7 @@ use Rattle.dlk_calculus.specs.Pairs.{Extra}
 use Rattle.dlk_calculus.specs.Paths.{subtree}
 use Rattle.dlk_calculus.specs.Provables.{Provable}
 use Rattle.dlk_calculus.specs.Sequents.{Sequent, IsFormula, IsSequent}
+use Rattle.dlk_calculus.proofs.PlaceLaws.{At_All}
 use Rattle.dlk_sequent.specs.declared.sequent.Place.{Place}
 use Rattle.dlk_sequent.specs.declared.sequent.Place.TheVariants.{Ante, Succ}
 use Rattle.dlk_match.specs.Matching.{Match}
@@ -17,7 +18,6 @@ use Rattle.dlk_uses.specs.Uses.{Direction, Use, Spot, key, may_stand, formula_at
 use Rattle.dlk_elab.specs.Atoms.{UnknownName, NoPlace, NoMatch, HasNoLocator, Instance, Refused, use_axiom, no_axiom, not_there, no_match, word_of_direction, IsUse, StandsThere}
 use Rattle.dlk_elab.proofs.Given.{UseGiven, use_given}
 use Rattle.dlk_elab.proofs.MergesFit.{named_itself}
-use Rattle.dlk_elab.proofs.Places.{At_All}
 use Rattle.dlk_elab.proofs.ProperUses.{Laws, made_proper, goes_on}
 use Rattle.dlk_elab.proofs.Wants.{Wants}
 

@@ -25,7 +25,7 @@ use Rattle.dlk_rules.specs.Steps.{side_of}
 use Rattle.dlk_rules.specs.Words.{text_of}
 use Rattle.dlk_kernel.specs.Taken.{Takes}
 use Rattle.dlk_tacsyn.specs.Tactics.{Argument, AtPlace, AnyLeft, AnyRight, Word, GivenFormula, GivenTerm, GivenExtra, Atom}
-use Rattle.dlk_uses.specs.Uses.{Direction, Forwards, Backwards, Use, key, may_stand, formula_at, instance, generalizing, cutting_box, Finishes, proved}
+use Rattle.dlk_uses.specs.Uses.{Direction, Forwards, Backwards, Use, key, may_stand, formula_at, instance, generalizing, cutting_box, FinishesBehind}
 use Rattle.dlk_match.specs.Matching.{Match}
 
 -- Arguments:
@@ -183,7 +183,7 @@ pub data AtomSteps (rows : List Provable) (fact goal : ℕ) (atom : Atom) : List
   uses : {after : List Provable} (s : Sequent) (used : Use) (extra : Extra) (e : Tree) (between : List Provable) (rest : List Step) →
       IsGoal rows fact goal s → Asks (length rows) fact goal s atom (Instance used extra e) →
       Takes rows (instance_of (length rows) used extra) between →
-      Finishes (length between) (record { fact = fact; goal = goal; s = s }) used e (proved between) rest → Takes between rest after →
+      FinishesBehind between (record { fact = fact; goal = goal; s = s }) used e rest → Takes between rest after →
       AtomSteps rows fact goal atom (instance_of (length rows) used extra ++ rest) after
 
 -- the atom gives no steps on a goal of a fact: it asks for none, or one isn't taken
@@ -198,7 +198,7 @@ pub data AtomFault (rows : List Provable) (fact goal : ℕ) (atom : Atom) : Fail
   not_used : {why : Reason} (s : Sequent) (used : Use) (extra : Extra) (e : Tree) (between : List Provable) (rest : List Step) →
       IsGoal rows fact goal s → Asks (length rows) fact goal s atom (Instance used extra e) →
       Takes rows (instance_of (length rows) used extra) between →
-      Finishes (length between) (record { fact = fact; goal = goal; s = s }) used e (proved between) rest → FirstFault between rest why →
+      FinishesBehind between (record { fact = fact; goal = goal; s = s }) used e rest → FirstFault between rest why →
       AtomFault rows fact goal atom (AtStep why)
 
 -- Replaces before goal after new: the last row is as it was, but for these goals in the place of one of its goals, and for its leaves.

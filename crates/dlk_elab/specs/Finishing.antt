@@ -7,6 +7,7 @@ use Rattle.dlk_calculus.specs.declared.form.AxiomForm.{AxiomForm}
 use Rattle.dlk_calculus.specs.declared.form.AxiomForm.TheVariants.{E, Q, C, R, I, F}
 use Rattle.dlk_calculus.specs.Notation.{eq}
 use Rattle.dlk_calculus.specs.Paths.{put_at, IsInnermost}
+use Rattle.dlk_calculus.specs.Provables.{Provable}
 use Rattle.dlk_calculus.specs.Rules.{imply, equiv}
 use Rattle.dlk_calculus.specs.Sequents.{Sequent}
 use Rattle.dlk_sequent.specs.declared.sequent.Place.{Place}
@@ -14,7 +15,7 @@ use Rattle.dlk_sequent.specs.declared.sequent.Place.TheVariants.{Ante, Succ}
 use Rattle.dlk_sequent.specs.Spines.{Way, top, path_of, IsSpine}
 use Rattle.dlk_rules.specs.declared.step.Step.{Step}
 use Rattle.dlk_rules.specs.Steps.{step_at, HasKnownIds}
-use Rattle.dlk_uses.specs.Uses.{Direction, Use, Finishes, left_of, right_of}
+use Rattle.dlk_uses.specs.Uses.{Direction, Use, Finishes, ProvesLast, left_of, right_of}
 use Rattle.dlk_elab.specs.declared.forms.Aim.{Aim}
 use Rattle.dlk_elab.specs.declared.finishing.Sides.{Sides}
 use Rattle.dlk_elab.specs.declared.finishing.Around.{Around}
@@ -56,6 +57,12 @@ pub record FinishUse (trees : List Tree) (now : ℕ) (aim : Aim) (s : Sequent) (
 abbrev pub FinishUses : List Tree → ℕ → Aim → AxiomForm → (path : List ℕ) → (e f : Tree) → List Step → Type 0
 FinishUses trees now aim form path e f steps =
     (s : Sequent) (used : Use) → aim.spot.right ≡ length s.succ → IsUse form aim path used → FinishUse trees now aim s used e f steps
+
+-- behind the formula that the last of the rows proves
+pub record FinishLast (trees : List Tree) (rows : List Provable) (aim : Aim) (form : AxiomForm) (path : List ℕ) (e : Tree) (steps : List Step) : Type 0 where
+  pub f : Tree
+  pub proves : ProvesLast rows f
+  pub finish : FinishUses trees (length rows) aim form path e f steps
 
 -- the ids of both sides of a tree
 pub record AreSides (trees : List Tree) (t : Tree) (sides : Sides) : Type 0 where

@@ -1,12 +1,12 @@
 -- What plans stand for, and the faults of atoms, beside want of memory.
-use Rattle.std.specs.Prelude.{◌≡◌, ◌≤◌, ℕ, List, [], length, Option, map, All}
+use Rattle.std.specs.Prelude.{◌≡◌, ◌≤◌, ◌⊎◌, IsTrue, ℕ, List, [], length, Option, map, All}
 use Rattle.dlk_tree.specs.Trees.{Tree, WellMade}
 use Rattle.dlk_store.specs.Stores.{IsId, tree}
 use Rattle.dlk_calculus.specs.Places.{At}
 use Rattle.dlk_calculus.specs.Rules.{Arguments}
 use Rattle.dlk_calculus.specs.Provables.{Provable}
 use Rattle.dlk_calculus.specs.Sequents.{Sequent as TreeSequent}
-use Rattle.dlk_calculus.specs.Steps.{IsGoal}
+use Rattle.dlk_calculus.specs.Steps.{Step as TreeStep, IsGoal}
 use Rattle.dlk_calculus.specs.Notation.{box}
 use Rattle.dlk_sequent.specs.declared.sequent.Place.TheVariants.{Succ}
 use Rattle.dlk_sequent.specs.declared.sequent.Sequent.{Sequent}
@@ -18,6 +18,7 @@ use Rattle.dlk_rules.specs.Steps.{step_at, HasKnownIds}
 use Rattle.dlk_rules.specs.Words.{shape_of}
 use Rattle.dlk_tacsyn.specs.declared.tactic.Atom.{Atom}
 use Rattle.dlk_tacsyn.specs.Tactics.{Argument, AtPlace, Atom as TreeAtom}
+use Rattle.dlk_tacsyn.specs.Rows.{is_use}
 use Rattle.dlk_tacsyn.specs.Ties.{atom_at}
 use Rattle.dlk_kernel.specs.Kernel.{State, facts}
 use Rattle.dlk_kernel.specs.declared.fault.StepFault.{StepFault}
@@ -57,6 +58,10 @@ IsOnFaultOf becomes on_fault.Memory = Unit {0}
 abbrev pub HasNone : Shape → Option Side → List Argument → Type 0
 HasNone shape side given = (a : Arguments) → shape_of a ≡ shape → ¬ AreFor side given a
 
+-- some are
+abbrev pub HasSome : Shape → Option Side → List Argument → Type 0
+HasSome shape side given = (a : Arguments) × (shape_of a ≡ shape) × AreFor side given a
+
 -- x stands at the place, and at none before
 pub record IsFirstPlace {A : Type 0} (items : List A) (place : ℕ) (x : A) : Type 0 where
   pub stands : At items place x
@@ -73,6 +78,17 @@ pub record AreAsked (rows : List Provable) (fact goal : ℕ) (atom : TreeAtom) (
   pub is_goal : IsGoal rows fact goal s
   pub asks : Asks (length rows) fact goal s atom (Steps (map (step_at trees) steps))
   pub known : All (HasKnownIds trees) steps
+
+-- on a goal of these rows the atom asks for some steps
+pub record AsksSome (rows : List Provable) (fact goal : ℕ) (atom : TreeAtom) : Type 0 where
+  pub s : TreeSequent
+  pub is_goal : IsGoal rows fact goal s
+  pub steps : List TreeStep
+  pub asks : Asks (length rows) fact goal s atom (Steps steps)
+
+-- it asks for some, or it uses an axiom
+abbrev pub AsksOrUses : List Provable → (fact goal : ℕ) → TreeAtom → Type 0
+AsksOrUses rows fact goal atom = AsksSome rows fact goal atom ⊎ IsTrue (is_use atom.name)
 
 -- the atom gives these steps over a store, and with them these rows; their ids are those of the store
 pub record AreMade (rows : List Provable) (fact goal : ℕ) (atom : TreeAtom) (trees : List Tree) (steps : List Step) (after : List Provable) : Type 0 where

@@ -1,12 +1,13 @@
 //! The arguments of atoms as those of rules.
-ghost use Rattle.std.specs.Prelude.{◌≡◌, ◌≢◌, ℕ, List, map, All, IfSome, IfNone, IfOk, IfErr};
+ghost use Rattle.std.specs.Prelude.{◌≡◌, ◌≢◌, ℕ, List, map, All, Err, IfSome, IfNone, IfOk, IfErr};
 ghost use Rattle.dlk_tree.specs.Trees.{Tree};
 ghost use Rattle.dlk_calculus.specs.Rules.{Arguments as TreeArguments};
 ghost use Rattle.dlk_rules.specs.Steps.{side_of};
 ghost use Rattle.dlk_rules.specs.Words.{shape_of, shape_in, wanted, arguments_at, ArgumentsAreKnown};
 ghost use Rattle.dlk_tacsyn.specs.Ties.{argument_at, ArgumentIsKnown};
 ghost use Rattle.dlk_elab.specs.Atoms.{IsThere, AreFor, NoPlace};
-ghost use Rattle.dlk_elab.specs.Ties.{IsTacFault, HasNone};
+ghost use Rattle.dlk_elab.specs.declared.fault.TacFault.TheVariants.{Memory};
+ghost use Rattle.dlk_elab.specs.Ties.{IsTacFault, HasNone, HasSome};
 
 use crate::fault::TacFault;
 use dlk_rules::{Arguments, RuleWord, Shape, Side};
@@ -20,6 +21,7 @@ use std::alloc::Global;
 fn place(side: Option<Side>, arg: &Arg) -> Result<u32, TacFault>
     ensures ok { IfOk result (λ i. (trees : List Tree) → IsThere side i (argument_at trees arg.now)) }
     ensures fault { IfErr result (IsTacFault (λ why. (why ≡ NoPlace) × ((trees : List Tree) (i : ℕ) → ¬ IsThere side i (argument_at trees arg.now)))) }
+    ensures decides { IfErr result (λ why. why ≢ Memory) }
 {
     let Arg::At { place, path } = arg else {
         return Err(TacFault::NoPlace);
@@ -66,6 +68,7 @@ pub(crate) fn rule_arguments(
     ensures shape { IfOk result (λ a. shape_in a ≡ wanted rule) }
     ensures known { IfOk result (λ a. (trees : List Tree) → All (ArgumentIsKnown trees) args.now → ArgumentsAreKnown trees a) }
     ensures fault { IfErr result (IsTacFault (λ why. (why ≡ NoPlace) × ((trees : List Tree) → HasNone (wanted rule) (side_of rule) (map (argument_at trees) args.now)))) }
+    ensures memory { result ≡ Err Memory → (trees : List Tree) → HasSome (wanted rule) (side_of rule) (map (argument_at trees) args.now) }
 {
     let side = rule.side();
     match rule.shape() {

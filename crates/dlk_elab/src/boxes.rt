@@ -11,6 +11,7 @@ ghost use Rattle.dlk_tacsyn.specs.Ties.{argument_at};
 ghost use Rattle.dlk_uses.specs.Uses.{program_a, any_p, any_q, generalizing, cutting_box};
 ghost use Rattle.dlk_elab.specs.Atoms.{IsOnTheRight, NoPlace};
 ghost use Rattle.dlk_elab.specs.Plans.{ArePlanned, goal_at, AreCutTrees};
+ghost use Rattle.dlk_elab.specs.declared.fault.TacFault.TheVariants.{Memory};
 ghost use Rattle.dlk_elab.specs.Ties.{IsTacFault, IsBoxAt, IsBoxOf, NoBox};
 
 use crate::fault::TacFault;
@@ -45,6 +46,7 @@ fn on_the_right(s: &Sequent, arg: &Arg) -> Result<(u32, Id), TacFault>
     ensures place { IfOk result (λ p. (trees : List Tree) → argument_at trees arg.now ≡ AtPlace (Place.Succ p.0) []) }
     ensures stands { IfOk result (λ p. At s.now.succ p.0 p.1) }
     ensures fault { IfErr result (IsTacFault (λ why. (why ≡ NoPlace) × ((trees : List Tree) (j : ℕ) (e : Tree) → ¬ IsOnTheRight (sequent_at trees s.now) (argument_at trees arg.now) j e))) }
+    ensures decides { IfErr result (λ why. why ≢ Memory) }
 {
     let Arg::At { place, path } = arg else {
         return Err(TacFault::NoPlace);
@@ -95,6 +97,7 @@ pub(crate) fn box_at<S: Store, L: Ledger>(
     requires formulas { IsSequent (sequent_at (S.trees store.now) s.now) }
     ensures found { IfOk result (IsBoxAt (S.trees store.now) s.now (argument_at (S.trees store.now) arg.now)) }
     ensures fault { IfErr result (IsTacFault (NoBox (sequent_at (S.trees store.now) s.now) (argument_at (S.trees store.now) arg.now))) }
+    ensures decides { IfErr result (λ why. why ≢ Memory) }
 {
     let (place, formula) = on_the_right(s, arg)?;
     let Some(parts) = box_parts(store, formula, steps) else {

@@ -1,5 +1,5 @@
 //! Atoms on a kernel.
-ghost use Rattle.std.specs.Prelude.{◌≡◌, length, map, All, IfOk, OnOk, IfErr, OnErr};
+ghost use Rattle.std.specs.Prelude.{◌≡◌, length, map, All, Err, IfOk, OnOk, IfErr, OnErr};
 ghost use Rattle.dlk_store.specs.Stores.{IsId, tree};
 ghost use Rattle.dlk_calculus.specs.Sequents.{IsFormula};
 ghost use Rattle.dlk_calculus.specs.Steps.{IsProper};
@@ -9,7 +9,8 @@ ghost use Rattle.dlk_tacsyn.specs.Rows.{IsFitting};
 ghost use Rattle.dlk_tacsyn.specs.Ties.{atom_at, AtomIsKnown};
 ghost use Rattle.dlk_elab.specs.Atoms.{HasNoLocator, HasGoalAt, AtomSteps, AtomFault};
 ghost use Rattle.dlk_elab.specs.Calls.{IsPlain, IsCall, CallIsKnown, UsesNone};
-ghost use Rattle.dlk_elab.specs.Ties.{IsTacFault, AreAsked, AreMade};
+ghost use Rattle.dlk_elab.specs.declared.fault.TacFault.TheVariants.{Memory};
+ghost use Rattle.dlk_elab.specs.Ties.{IsTacFault, AreAsked, AsksSome, AsksOrUses, AreMade};
 
 use crate::boxes::{box_at, cut_trees, cutting_box, generalizing};
 use crate::calls::{Call, call_of};
@@ -67,8 +68,9 @@ pub fn elaborate<S: Store, L: Ledger>(
     ensures proper { IfOk result (λ made. All IsProper (map (step_at (S.trees kernel.new.store)) made.steps.items)) }
     ensures kept { OnOk result (ExtendsRows S.trees kernel.old kernel.new) }
 
-    // Want of memory aside, the fault is the atom's.
+    // Want of memory aside, the fault is the atom's. An atom without steps that uses no axiom is refused before memory is taken.
     ensures fault { IfErr result (IsTacFault (AtomFault (facts S.trees kernel.old) fact goal (atom_at (S.trees kernel.old.store) atom.now))) }
+    ensures memory { result ≡ Err Memory → AsksOrUses (facts S.trees kernel.old) fact goal (atom_at (S.trees kernel.old.store) atom.now) }
     ensures err { OnErr result (SameRows S.trees kernel.old kernel.new) }
 
     ensures grows { S.grows kernel.old.store kernel.new.store }
@@ -102,6 +104,7 @@ fn atom_steps<S: Store, L: Ledger>(
     requires fixed { HasNoLocator (atom_at (S.trees kernel.old.store) atom.now) }
     ensures made { IfOk result (λ made. AreMade (facts S.trees kernel.old) target.fact target.goal (atom_at (S.trees kernel.old.store) atom.now) (S.trees kernel.new.store) made.items (facts S.trees kernel.new)) }
     ensures fault { IfErr result (IsTacFault (AtomFault (facts S.trees kernel.old) target.fact target.goal (atom_at (S.trees kernel.old.store) atom.now))) }
+    ensures memory { result ≡ Err Memory → AsksOrUses (facts S.trees kernel.old) target.fact target.goal (atom_at (S.trees kernel.old.store) atom.now) }
     ensures kept { ExtendsRows S.trees kernel.old kernel.new }
     ensures grows { S.grows kernel.old.store kernel.new.store }
 {
@@ -134,6 +137,7 @@ fn planned<S: Store, L: Ledger>(
     requires no_use { UsesNone call }
     ensures plan { IfOk result (λ plan. AreAsked (facts S.trees kernel.old) target.fact target.goal (atom_at (S.trees kernel.old.store) atom.now) (S.trees kernel.new.store) plan.items) }
     ensures fault { IfErr result (IsTacFault (AtomFault (facts S.trees kernel.old) target.fact target.goal (atom_at (S.trees kernel.old.store) atom.now))) }
+    ensures memory { result ≡ Err Memory → AsksSome (facts S.trees kernel.old) target.fact target.goal (atom_at (S.trees kernel.old.store) atom.now) }
     ensures same { SameRows S.trees kernel.old kernel.new }
     ensures grows { S.grows kernel.old.store kernel.new.store }
 {
@@ -160,6 +164,7 @@ fn plain<S: Store>(
     requires plain { IsPlain atom.now.name }
     ensures plan { IfOk result (λ plan. AreAsked (facts S.trees kernel.now) target.fact target.goal (atom_at (S.trees kernel.now.store) atom.now) (S.trees kernel.now.store) plan.items) }
     ensures fault { IfErr result (IsTacFault (AtomFault (facts S.trees kernel.now) target.fact target.goal (atom_at (S.trees kernel.now.store) atom.now))) }
+    ensures memory { result ≡ Err Memory → AsksSome (facts S.trees kernel.now) target.fact target.goal (atom_at (S.trees kernel.now.store) atom.now) }
 {
     let _ = kernel.rows();
     let s = kernel.goals(target.fact)[target.goal as usize - 1].value();
@@ -180,6 +185,7 @@ fn generalize<S: Store, L: Ledger>(
     requires call { IsCall (S.trees kernel.now.store) (atom_at (S.trees kernel.now.store) atom.now) (Call.Generalize at) }
     ensures plan { IfOk result (λ plan. AreAsked (facts S.trees kernel.now) target.fact target.goal (atom_at (S.trees kernel.now.store) atom.now) (S.trees kernel.now.store) plan.items) }
     ensures fault { IfErr result (IsTacFault (AtomFault (facts S.trees kernel.now) target.fact target.goal (atom_at (S.trees kernel.now.store) atom.now))) }
+    ensures memory { result ≡ Err Memory → AsksSome (facts S.trees kernel.now) target.fact target.goal (atom_at (S.trees kernel.now.store) atom.now) }
 {
     let _ = kernel.rows();
     let s = kernel.goals(target.fact)[target.goal as usize - 1].value();
@@ -205,6 +211,7 @@ fn cut_box<S: Store, L: Ledger>(
     requires call { IsCall (S.trees kernel.old.store) (atom_at (S.trees kernel.old.store) atom.now) (Call.CutBox h at) }
     ensures plan { IfOk result (λ plan. AreAsked (facts S.trees kernel.old) target.fact target.goal (atom_at (S.trees kernel.old.store) atom.now) (S.trees kernel.new.store) plan.items) }
     ensures fault { IfErr result (IsTacFault (AtomFault (facts S.trees kernel.old) target.fact target.goal (atom_at (S.trees kernel.old.store) atom.now))) }
+    ensures memory { result ≡ Err Memory → AsksSome (facts S.trees kernel.old) target.fact target.goal (atom_at (S.trees kernel.old.store) atom.now) }
     ensures same { SameRows S.trees kernel.old kernel.new }
     ensures grows { S.grows kernel.old.store kernel.new.store }
 {

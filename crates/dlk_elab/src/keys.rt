@@ -1,5 +1,5 @@
 //! What is looked for of an axiom, and where it may be used.
-ghost use Rattle.std.specs.Prelude.{◌≡◌, None, MatchOption, IfOk, IfErr};
+ghost use Rattle.std.specs.Prelude.{◌≡◌, None, Err, MatchOption, IfOk, IfErr};
 ghost use Rattle.dlk_store.specs.Stores.{IsId, tree, StandsFor};
 ghost use Rattle.dlk_calculus.specs.Axioms.{axiom_named};
 ghost use Rattle.dlk_uses.specs.Uses.{left_of, right_of, key, may_stand};
@@ -42,6 +42,7 @@ pub(crate) fn named_axiom<S: Store>(
 ) -> Result<Named, TacFault>
     ensures found { IfOk result (IsAxiomAt (S.trees store.new) name.now) }
     ensures fault { IfErr result (IsTacFault (λ why. (why ≡ UnknownName) × (axiom_named name.now ≡ None))) }
+    ensures unknown { axiom_named name.now ≡ None → result ≡ Err TacFault.UnknownName }
     ensures grows { S.grows store.old store.new }
 {
     let Some(form) = form(name.bytes()) else {

@@ -33,6 +33,7 @@ pub fn one_atom()
     word_wants_one_shape();
     one_match();
     one_innermost();
+    uses_have_shapes();
 }
 
 /// A fitting atom without a locator, whose names are names, gives steps on a goal that is there, or has a fault. The rows are of formulas, as

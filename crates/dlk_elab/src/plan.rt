@@ -1,16 +1,18 @@
 //! What an atom asks for on a goal.
-ghost use Rattle.std.specs.Prelude.{◌≡◌, ◌<◌, ◌^◌, List, map, IfOk, IfErr, codes};
+ghost use Rattle.std.specs.Prelude.{◌≡◌, ◌<◌, ◌^◌, ℕ, List, map, Err, IfOk, IfErr, codes};
 ghost use Rattle.dlk_tree.specs.Trees.{Tree};
 ghost use Rattle.dlk_calculus.specs.Limited.{HasFewFormulas};
+ghost use Rattle.dlk_calculus.specs.Steps.{Step as TreeStep};
 ghost use Rattle.dlk_sequent.specs.Sequents.{sequent_at, IsKnown};
 ghost use Rattle.dlk_rules.specs.Steps.{side_of};
 ghost use Rattle.dlk_rules.specs.Words.{text_of, wanted};
 ghost use Rattle.dlk_tacsyn.specs.Tactics.{Atom as TreeAtom};
 ghost use Rattle.dlk_tacsyn.specs.Rows.{IsFitting};
 ghost use Rattle.dlk_tacsyn.specs.Ties.{argument_at, atom_at, AtomIsKnown};
-ghost use Rattle.dlk_elab.specs.Atoms.{HasNoLocator, Asks, Refused, NoPlace};
+ghost use Rattle.dlk_elab.specs.declared.fault.TacFault.TheVariants.{Memory};
+ghost use Rattle.dlk_elab.specs.Atoms.{HasNoLocator, AreFirstSame, Asks, Steps, Refused, NoPlace};
 ghost use Rattle.dlk_elab.specs.Calls.{IsPlain};
-ghost use Rattle.dlk_elab.specs.Ties.{IsPlan, IsTacFault, HasNone};
+ghost use Rattle.dlk_elab.specs.Ties.{IsPlan, IsTacFault, HasNone, HasSome};
 
 use crate::arguments::rule_arguments;
 use crate::fault::TacFault;
@@ -67,6 +69,7 @@ pub(crate) fn plan<S: Store>(
     requires room { target.rows < 2 ^ 31 }
     ensures plan { IfOk result (λ steps. IsPlan target.rows target.fact target.goal (S.trees store.now) s.now atom.now steps.items) }
     ensures fault { IfErr result (IsTacFault (λ why. Asks target.rows target.fact target.goal (sequent_at (S.trees store.now) s.now) (atom_at (S.trees store.now) atom.now) (Refused why))) }
+    ensures memory { result ≡ Err Memory → (steps : List TreeStep) × Asks target.rows target.fact target.goal (sequent_at (S.trees store.now) s.now) (atom_at (S.trees store.now) atom.now) (Steps steps) }
 {
     let Ok(name) = str::from_utf8(atom.name.bytes()) else {
         return Err(TacFault::NoPlace);
@@ -97,6 +100,7 @@ fn close_plan<S: Store>(
     requires few { HasFewFormulas (sequent_at (S.trees store.now) s.now) }
     ensures plan { IfOk result (λ steps. (atom : Atom) → atom.name ≡ codes "close" → IsPlan target.rows target.fact target.goal (S.trees store.now) s.now atom steps.items) }
     ensures fault { IfErr result (IsTacFault (λ why. (atom : TreeAtom) → atom.name ≡ codes "close" → Asks target.rows target.fact target.goal (sequent_at (S.trees store.now) s.now) atom (Refused why))) }
+    ensures memory { result ≡ Err Memory → (i : ℕ) × (j : ℕ) × AreFirstSame (sequent_at (S.trees store.now) s.now) i j }
 {
     let Some((i, j)) = first_same(store, s) else {
         return Err(TacFault::Step(Reason::NotEqual));
@@ -133,6 +137,7 @@ fn rule_plan(
 ) -> Result<Vec<Step>, TacFault>
     ensures plan { IfOk result (λ steps. (trees : List Tree) (s : Sequent) → AtomIsKnown trees atom.now → atom.now.name ≡ text_of word → IsPlan target.rows target.fact target.goal trees s atom.now steps.items) }
     ensures fault { IfErr result (IsTacFault (λ why. (why ≡ NoPlace) × ((trees : List Tree) → HasNone (wanted word) (side_of word) (map (argument_at trees) atom.now.args)))) }
+    ensures memory { result ≡ Err Memory → (trees : List Tree) → HasSome (wanted word) (side_of word) (map (argument_at trees) atom.now.args) }
 {
     let arguments = rule_arguments(alloc, word, atom.args.as_slice())?;
     let Some(rule) = word.rule(arguments) else {

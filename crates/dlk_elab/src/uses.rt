@@ -4,8 +4,8 @@ ghost use Rattle.dlk_tree.specs.declared.op.Sort.TheVariants.{Formula};
 ghost use Rattle.dlk_tree.specs.Trees.{Tree, sort};
 ghost use Rattle.dlk_store.specs.Stores.{tree, StandsFor};
 ghost use Rattle.dlk_sequent.specs.Spines.{top, path_of, IsSpine};
-ghost use Rattle.dlk_uses.specs.Uses.{proved, ProvesLast};
-ghost use Rattle.dlk_elab.specs.Finishing.{FinishUses};
+ghost use Rattle.dlk_uses.specs.Uses.{ProvesLast};
+ghost use Rattle.dlk_elab.specs.Finishing.{FinishLast};
 ghost use Rattle.dlk_kernel.specs.Kernel.{facts, SameRows, ExtendsRows};
 ghost use Rattle.dlk_tacsyn.specs.Ties.{atom_at, AtomIsKnown};
 ghost use Rattle.dlk_elab.specs.Atoms.{HasGoalAt, AtomFault};
@@ -98,7 +98,7 @@ fn find<S: Store, L: Ledger>(
 /// The formula that the last row proves.
 fn last_proved<S: Store>(kernel: &Kernel<S>) -> Id
     requires { (f : Tree) × ProvesLast (facts S.trees kernel.now) f }
-    ensures { StandsFor (S.trees kernel.now.store) result (proved (facts S.trees kernel.now)) }
+    ensures { (f : Tree) → ProvesLast (facts S.trees kernel.now) f → StandsFor (S.trees kernel.now.store) result f }
 {
     kernel.conclusion(kernel.rows()).succ.as_slice()[0]
 }
@@ -117,11 +117,10 @@ fn behind<S: Store, L: Ledger>(
     requires spine { IsSpine (S.trees kernel.old.store) found.now.way }
     requires formula { sort (tree (S.trees kernel.old.store) (top found.now.way)) ≡ Formula }
     requires proves { ProvesForm (facts S.trees kernel.old) found.now.form used.place (tree (S.trees kernel.old.store) found.now.way.found) }
-    ensures made { IfOk result (λ rest. FinishUses (S.trees kernel.new.store) (length kernel.old.rows) (aim_of target used.entry found.now.right) found.now.form (path_of found.now.way) (tree (S.trees kernel.old.store) (top found.now.way)) (proved (facts S.trees kernel.old)) rest.items) }
+    ensures made { IfOk result (λ rest. FinishLast (S.trees kernel.new.store) (facts S.trees kernel.old) (aim_of target used.entry found.now.right) found.now.form (path_of found.now.way) (tree (S.trees kernel.old.store) (top found.now.way)) rest.items) }
     ensures same { SameRows S.trees kernel.old kernel.new }
     ensures grows { S.grows kernel.old.store kernel.new.store }
 {
-    uses_have_shapes();
     let now = kernel.rows();
     let f = last_proved(&*kernel);
     let spot = Spot {

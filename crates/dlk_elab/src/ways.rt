@@ -1,6 +1,7 @@
 //! Where a use of an axiom acts.
-ghost use Rattle.std.specs.Prelude.{◌≡◌, IfOk, IfErr};
-ghost use Rattle.dlk_sequent.specs.Sequents.{IsKnown};
+ghost use Rattle.std.specs.Prelude.{◌≡◌, None, Err, IfOk, IfErr};
+ghost use Rattle.dlk_sequent.specs.Sequents.{sequent_at, IsKnown};
+ghost use Rattle.dlk_uses.specs.Uses.{formula_at};
 ghost use Rattle.dlk_kernel.specs.Kernel.{facts};
 ghost use Rattle.dlk_elab.specs.Atoms.{NoPlace, HasGoalAt};
 ghost use Rattle.dlk_elab.specs.Ties.{IsTacFault};
@@ -39,6 +40,7 @@ fn way_at<S: Store, L: Ledger>(
     requires { IsKnown (S.trees store.now) s.now }
     ensures found { IfOk result (IsWayAt (S.trees store.now) s.now place path.now) }
     ensures fault { IfErr result (IsTacFault (λ why. (why ≡ NoPlace) × HasNoWay (S.trees store.now) s.now place path.now)) }
+    ensures owed { formula_at (sequent_at (S.trees store.now) s.now) place ≡ None → result ≡ Err TacFault.NoPlace }
 {
     let Some(formula) = formula_at(s, place) else {
         return Err(TacFault::NoPlace);

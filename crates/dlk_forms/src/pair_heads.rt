@@ -10,6 +10,7 @@ ghost use Rattle.dlk_machine.specs.Machine.{when};
 ghost use Rattle.dlk_machine.specs.Pairs.{Begins, LeftName, Calls, DotsOf, DotWanted, Bars, BarsName, InContext, ContextHole, FlowOpens, FlowName};
 ghost use Rattle.dlk_machine.specs.Pairs.{FlowBar, FlowBarName, FlowExcept, LeftEnds as EndsLeft, TextOf as WantsText, SystemOf as WantsSystem};
 ghost use Rattle.dlk_machine.specs.Pairs.{right_of, pair_step, target_step};
+ghost use Rattle.dlk_reader.specs.Owed.{Owes};
 ghost use Rattle.dlk_reader.specs.Shows.{seen, space_of, Agrees};
 ghost use Rattle.dlk_forms.specs.PairReaders.{target_of, left_state, IsLeft};
 
@@ -125,7 +126,8 @@ fn target_ends(term: bool, target: Target) -> PairMode
 
 /// A lexeme behind the name of a function or a predicate.
 fn target_step(term: bool, name: Name, lexeme: Lexeme) -> Result<PairMode, StepFault>
-    ensures { Agrees IsLeft result (target_step term name (seen lexeme)) }
+    ensures agrees { Agrees IsLeft result (target_step term name (seen lexeme)) }
+    ensures owed { Owes result (target_step term name (seen lexeme)) }
 {
     match lexeme {
         Lexeme::Open => Ok(PairMode::Left(LeftMode::Calls { term, name })),
@@ -137,7 +139,8 @@ fn target_step(term: bool, name: Name, lexeme: Lexeme) -> Result<PairMode, StepF
 
 /// A lexeme behind the name with which a pair begins.
 fn name_step(name: Name, lexeme: Lexeme) -> Result<PairMode, StepFault>
-    ensures { Agrees IsLeft result (pair_step (LeftName name) (seen lexeme)) }
+    ensures agrees { Agrees IsLeft result (pair_step (LeftName name) (seen lexeme)) }
+    ensures owed { Owes result (pair_step (LeftName name) (seen lexeme)) }
 {
     match lexeme {
         Lexeme::Name(_, second) => {
@@ -158,7 +161,8 @@ fn name_step(name: Name, lexeme: Lexeme) -> Result<PairMode, StepFault>
 
 /// An argument dot behind so many others.
 fn next_dot(term: bool, name: Name, count: u8, dot: u8) -> Result<PairMode, StepFault>
-    ensures { Agrees IsLeft result (when (dot == count) (Some (DotsOf term name (count + 1)))) }
+    ensures agrees { Agrees IsLeft result (when (dot == count) (Some (DotsOf term name (count + 1)))) }
+    ensures owed { Owes result (when (dot == count) (Some (DotsOf term name (count + 1)))) }
 {
     if dot != count {
         return Err(StepFault::Syntax);
@@ -172,7 +176,8 @@ fn next_dot(term: bool, name: Name, count: u8, dot: u8) -> Result<PairMode, Step
 
 /// A lexeme behind `x (`.
 fn call_step(term: bool, name: Name, lexeme: Lexeme) -> Result<PairMode, StepFault>
-    ensures { Agrees IsLeft result (pair_step (Calls term name) (seen lexeme)) }
+    ensures agrees { Agrees IsLeft result (pair_step (Calls term name) (seen lexeme)) }
+    ensures owed { Owes result (pair_step (Calls term name) (seen lexeme)) }
 {
     match lexeme {
         Lexeme::Close => Ok(target_ends(term, Target::Over { name, arity: 0 })),
@@ -183,7 +188,8 @@ fn call_step(term: bool, name: Name, lexeme: Lexeme) -> Result<PairMode, StepFau
 
 /// A lexeme behind so many argument dots.
 fn dots_step(term: bool, name: Name, count: u8, lexeme: Lexeme) -> Result<PairMode, StepFault>
-    ensures { Agrees IsLeft result (pair_step (DotsOf term name count) (seen lexeme)) }
+    ensures agrees { Agrees IsLeft result (pair_step (DotsOf term name count) (seen lexeme)) }
+    ensures owed { Owes result (pair_step (DotsOf term name count) (seen lexeme)) }
 {
     match lexeme {
         Lexeme::Comma if count < MOST_DOTS => {
@@ -211,7 +217,8 @@ fn flow_ends(name: Name, taboo: Option<Name>) -> PairMode
 
 /// A lexeme behind `{ x`.
 fn flow_step(name: Name, lexeme: Lexeme) -> Result<PairMode, StepFault>
-    ensures { Agrees IsLeft result (pair_step (FlowName name) (seen lexeme)) }
+    ensures agrees { Agrees IsLeft result (pair_step (FlowName name) (seen lexeme)) }
+    ensures owed { Owes result (pair_step (FlowName name) (seen lexeme)) }
 {
     match lexeme {
         Lexeme::CloseBrace => Ok(flow_ends(name, None)),
@@ -222,7 +229,8 @@ fn flow_step(name: Name, lexeme: Lexeme) -> Result<PairMode, StepFault>
 
 /// A lexeme where a pair begins.
 fn begin_step(lexeme: Lexeme) -> Result<PairMode, StepFault>
-    ensures { Agrees IsLeft result (pair_step Begins (seen lexeme)) }
+    ensures agrees { Agrees IsLeft result (pair_step Begins (seen lexeme)) }
+    ensures owed { Owes result (pair_step Begins (seen lexeme)) }
 {
     match lexeme {
         Lexeme::Name(_, name) => Ok(PairMode::Left(LeftMode::LeftName(name))),
@@ -233,7 +241,8 @@ fn begin_step(lexeme: Lexeme) -> Result<PairMode, StepFault>
 
 /// A lexeme where an argument dot is wanted behind so many others.
 fn dot_step(term: bool, name: Name, count: u8, lexeme: Lexeme) -> Result<PairMode, StepFault>
-    ensures { Agrees IsLeft result (pair_step (DotWanted term name count) (seen lexeme)) }
+    ensures agrees { Agrees IsLeft result (pair_step (DotWanted term name count) (seen lexeme)) }
+    ensures owed { Owes result (pair_step (DotWanted term name count) (seen lexeme)) }
 {
     match lexeme {
         Lexeme::Dot(dot) => next_dot(term, name, count, dot),
@@ -243,7 +252,8 @@ fn dot_step(term: bool, name: Name, count: u8, lexeme: Lexeme) -> Result<PairMod
 
 /// A lexeme behind `x (|`.
 fn bars_step(term: bool, name: Name, lexeme: Lexeme) -> Result<PairMode, StepFault>
-    ensures { Agrees IsLeft result (pair_step (Bars term name) (seen lexeme)) }
+    ensures agrees { Agrees IsLeft result (pair_step (Bars term name) (seen lexeme)) }
+    ensures owed { Owes result (pair_step (Bars term name) (seen lexeme)) }
 {
     match lexeme {
         Lexeme::Name(_, taboo) => Ok(PairMode::Left(LeftMode::BarsName { term, name, taboo })),
@@ -258,7 +268,8 @@ fn bars_name_step(
     taboo: Name,
     lexeme: Lexeme,
 ) -> Result<PairMode, StepFault>
-    ensures { Agrees IsLeft result (pair_step (BarsName term name taboo) (seen lexeme)) }
+    ensures agrees { Agrees IsLeft result (pair_step (BarsName term name taboo) (seen lexeme)) }
+    ensures owed { Owes result (pair_step (BarsName term name taboo) (seen lexeme)) }
 {
     match lexeme {
         Lexeme::BarRound => {
@@ -271,7 +282,8 @@ fn bars_name_step(
 
 /// A lexeme behind `x {`.
 fn context_step(name: Name, lexeme: Lexeme) -> Result<PairMode, StepFault>
-    ensures { Agrees IsLeft result (pair_step (InContext name) (seen lexeme)) }
+    ensures agrees { Agrees IsLeft result (pair_step (InContext name) (seen lexeme)) }
+    ensures owed { Owes result (pair_step (InContext name) (seen lexeme)) }
 {
     match lexeme {
         Lexeme::Blank => Ok(PairMode::Left(LeftMode::ContextHole(name))),
@@ -281,7 +293,8 @@ fn context_step(name: Name, lexeme: Lexeme) -> Result<PairMode, StepFault>
 
 /// A lexeme behind `x { _`.
 fn hole_step(name: Name, lexeme: Lexeme) -> Result<PairMode, StepFault>
-    ensures { Agrees IsLeft result (pair_step (ContextHole name) (seen lexeme)) }
+    ensures agrees { Agrees IsLeft result (pair_step (ContextHole name) (seen lexeme)) }
+    ensures owed { Owes result (pair_step (ContextHole name) (seen lexeme)) }
 {
     match lexeme {
         Lexeme::CloseBrace => Ok(context_ends(name)),
@@ -291,7 +304,8 @@ fn hole_step(name: Name, lexeme: Lexeme) -> Result<PairMode, StepFault>
 
 /// A lexeme behind `{`.
 fn open_step(lexeme: Lexeme) -> Result<PairMode, StepFault>
-    ensures { Agrees IsLeft result (pair_step FlowOpens (seen lexeme)) }
+    ensures agrees { Agrees IsLeft result (pair_step FlowOpens (seen lexeme)) }
+    ensures owed { Owes result (pair_step FlowOpens (seen lexeme)) }
 {
     match lexeme {
         Lexeme::Name(_, name) => Ok(PairMode::Left(LeftMode::FlowName(name))),
@@ -301,7 +315,8 @@ fn open_step(lexeme: Lexeme) -> Result<PairMode, StepFault>
 
 /// A lexeme behind `{ x {|`.
 fn flow_bar_step(name: Name, lexeme: Lexeme) -> Result<PairMode, StepFault>
-    ensures { Agrees IsLeft result (pair_step (FlowBar name) (seen lexeme)) }
+    ensures agrees { Agrees IsLeft result (pair_step (FlowBar name) (seen lexeme)) }
+    ensures owed { Owes result (pair_step (FlowBar name) (seen lexeme)) }
 {
     match lexeme {
         Lexeme::Name(_, taboo) => Ok(PairMode::Left(LeftMode::FlowBarName { name, taboo })),
@@ -311,7 +326,8 @@ fn flow_bar_step(name: Name, lexeme: Lexeme) -> Result<PairMode, StepFault>
 
 /// A lexeme behind `{ x {| y`.
 fn flow_bar_name_step(name: Name, taboo: Name, lexeme: Lexeme) -> Result<PairMode, StepFault>
-    ensures { Agrees IsLeft result (pair_step (FlowBarName name taboo) (seen lexeme)) }
+    ensures agrees { Agrees IsLeft result (pair_step (FlowBarName name taboo) (seen lexeme)) }
+    ensures owed { Owes result (pair_step (FlowBarName name taboo) (seen lexeme)) }
 {
     match lexeme {
         Lexeme::BarBrace => Ok(PairMode::Left(LeftMode::FlowExcept { name, taboo })),
@@ -321,7 +337,8 @@ fn flow_bar_name_step(name: Name, taboo: Name, lexeme: Lexeme) -> Result<PairMod
 
 /// A lexeme behind `{ x {| y |}`.
 fn flow_except_step(name: Name, taboo: Name, lexeme: Lexeme) -> Result<PairMode, StepFault>
-    ensures { Agrees IsLeft result (pair_step (FlowExcept name taboo) (seen lexeme)) }
+    ensures agrees { Agrees IsLeft result (pair_step (FlowExcept name taboo) (seen lexeme)) }
+    ensures owed { Owes result (pair_step (FlowExcept name taboo) (seen lexeme)) }
 {
     match lexeme {
         Lexeme::CloseBrace => Ok(flow_ends(name, Some(taboo))),
@@ -331,7 +348,8 @@ fn flow_except_step(name: Name, taboo: Name, lexeme: Lexeme) -> Result<PairMode,
 
 /// What a lexeme makes of a left side.
 pub(crate) fn left_step(mode: LeftMode, lexeme: Lexeme) -> Result<PairMode, StepFault>
-    ensures { Agrees IsLeft result (pair_step (left_state mode) (seen lexeme)) }
+    ensures agrees { Agrees IsLeft result (pair_step (left_state mode) (seen lexeme)) }
+    ensures owed { Owes result (pair_step (left_state mode) (seen lexeme)) }
 {
     match mode {
         LeftMode::Begins => begin_step(lexeme),

@@ -1,12 +1,14 @@
 //! The reader of a sequent: formulas on both sides of `==>`.
-ghost use Rattle.std.specs.Prelude.{Some};
+ghost use Rattle.std.specs.Prelude.{◌≡◌, Some, Err, false};
 ghost use Rattle.dlk_grammar.specs.Phrases.{Phrase, Phrases, snoc};
 ghost use Rattle.dlk_grammar.specs.declared.token.Dots.TheVariants.{Refused};
 ghost use Rattle.dlk_grammar.specs.Readings.{permits};
 ghost use Rattle.dlk_machine.specs.Machine.{State, when};
 ghost use Rattle.dlk_machine.specs.Sequents.{Side, LeftSide, SequentState, Fresh, Reading, sequent_step, sequent_ended, turn, inner};
 ghost use Rattle.dlk_grammar.specs.Lexemes.{Comma as CommaLexeme, Turnstile};
+ghost use Rattle.dlk_reader.specs.declared.stop.StepFault.TheVariants.{Syntax};
 ghost use Rattle.dlk_reader.specs.Outcomes.{leaving};
+ghost use Rattle.dlk_reader.specs.Owed.{Owes};
 ghost use Rattle.dlk_reader.specs.Shows.{IsWhole, seen, Agrees};
 ghost use Rattle.dlk_forms.specs.Readers.{ShowsBetween, ShowsReading, ShowsSidesAt, ShowsSides, SidesComes, KeepsSide, IsCodeOf, finished, both_of};
 
@@ -94,8 +96,9 @@ impl SidesSoFar {
 
     /// The left side ends.
     fn turn(&mut self) -> Result<Option<Mode>, StepFault>
-        ensures { (w : Side) (l : Phrases) → ShowsBetween self.old w l
+        ensures agrees { (w : Side) (l : Phrases) → ShowsBetween self.old w l
             → Agrees (ShowsSidesAt self.new) result (turn w l) }
+        ensures owed { (w : Side) (l : Phrases) → ShowsBetween self.old w l → Owes result (turn w l) }
     {
         if self.left.is_some() {
             return Err(StepFault::Syntax);
@@ -141,8 +144,9 @@ impl SidesSoFar {
 
     /// Both sides, where nothing is read of a next formula.
     fn both(self) -> Result<SidesCode, StepFault>
-        ensures { (w : Side) (l : Phrases) → ShowsBetween self w l
+        ensures agrees { (w : Side) (l : Phrases) → ShowsBetween self w l
             → Agrees IsCodeOf result (both_of w l) }
+        ensures owed { (w : Side) (l : Phrases) → ShowsBetween self w l → Owes result (both_of w l) }
     {
         match self.left {
             Some(left) => Ok(SidesCode {
@@ -183,8 +187,9 @@ impl SidesReader {
 
     /// Goes on by one more lexeme.
     fn go_on(&mut self, alloc: Global, lexeme: Lexeme) -> Result<(), StepFault>
-        ensures { (x : SequentState) → ShowsSides self.old x
+        ensures agrees { (x : SequentState) → ShowsSides self.old x
             → Agrees ShowsSides (leaving self.new result) (when (permits Refused (seen lexeme)) (sequent_step x (seen lexeme))) }
+        ensures owed { permits Refused (seen lexeme) ≡ false → result ≡ Err Syntax }
     {
         if !permits(Dots::Refused, &lexeme) {
             return Err(StepFault::Syntax);

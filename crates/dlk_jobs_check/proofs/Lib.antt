@@ -1,3 +1,4 @@
+pub mod Models
 pub mod Ends
 pub mod Exported
 pub mod GuardLaws

@@ -27,7 +27,7 @@ pub record SameEnd (rows others : List Provable) (line place : ℕ) (p q : Prova
 not_both : {rows : List Provable} {line n : ℕ} {why : LineWhy} → accepted rows line ≡ bad n why → ⊥
 not_both e = cc
 
-one_accepted : {rows others : List Provable} {line place : ℕ} → accepted rows line ≡ accepted others place → rows ≡ others
+pub one_accepted : {rows others : List Provable} {line place : ℕ} → accepted rows line ≡ accepted others place → rows ≡ others
 one_accepted e = cc
 
 one_place : {rows others : List Provable} {line place : ℕ} → accepted rows line ≡ accepted others place → line ≡ place

@@ -1,12 +1,8 @@
 -- From what reading, running and recording a strategy answer to what `prove` answers.
-use Rattle.std.proofs.Common.{◌≡◌, ◌<◌, ◌≤◌, ℕ, List, [], ◌∷◌, length, map, Some, Result, Ok, Err, refl, sym, subst, ap, ◌∙◌, inl, inr}
-use Rattle.std.specs.Prelude.{min, IfErr}
-use Rattle.std.proofs.lemmas.Bool.{cases_lt}
+use Rattle.std.proofs.Common.{◌≡◌, ◌<◌, ◌≤◌, ℕ, List, length, map, Some, Result, Ok, Err, sym, subst, ap, ◌∙◌, inl, inr}
+use Rattle.std.specs.Prelude.{IfErr}
 use Rattle.std.proofs.lemmas.List.{length-map}
-use Rattle.std.proofs.lemmas.List.Elements.{All-nil}
-use Rattle.dlk_tree.specs.Trees.{Tree, size, depth}
-use Rattle.dlk_calculus.specs.Limits.{most_nodes, greatest_depth}
-use Rattle.dlk_grammar.specs.Readings.{TooBig, TooDeep}
+use Rattle.dlk_tree.specs.Trees.{Tree}
 use Rattle.dlk_calculus.specs.Places.{At}
 use Rattle.dlk_calculus.specs.Provables.{Provable}
 use Rattle.dlk_calculus.specs.Steps.{Step}
@@ -31,47 +27,6 @@ use Rattle.dlk_jobs_record.specs.Records.{Records}
 use Rattle.dlk_jobs_prove.specs.Proves.{Proves, bad_model, bad_strategy, fails, spent, records, RunsTo}
 use Rattle.dlk_jobs_prove.specs.Proved.{IsStrategyRefused, IsRunRefused, RefusesStrategy, RefusesRun}
 use Rattle.dlk_jobs_check.proofs.Ends.{last_of, last_item}
-
--- a model's formula is within the limits of what is read
-pub model_small : (model : List ℕ) (f : Tree) → ModelText model f → size f ≤ most_nodes
-model_small model f reads = elim (cases_lt most_nodes (size f)) [
-  | inr le ↦ le
-  | inl past ↦
-      let r = reads.reads in
-      absurd (r.no_fault (TooBig (min (size f) 4294967295)) (
-        r.phrase,
-        r.says,
-        record {
-          before = [];
-          tree = f;
-          behind = [];
-          trees_are = ap (λ (t : Tree). t ∷ []) r.value_is;
-          past = past;
-          first = All-nil (λ (t : Tree). size t ≤ most_nodes);
-          number = refl;
-        },
-      ))
-]
-
-pub model_shallow : (model : List ℕ) (f : Tree) → ModelText model f → depth f ≤ greatest_depth
-model_shallow model f reads = elim (cases_lt greatest_depth (depth f)) [
-  | inr le ↦ le
-  | inl past ↦
-      let r = reads.reads in
-      absurd (r.no_fault (TooDeep (min (depth f) 4294967295)) (
-        r.phrase,
-        r.says,
-        record {
-          before = [];
-          tree = f;
-          behind = [];
-          trees_are = ap (λ (t : Tree). t ∷ []) r.value_is;
-          past = past;
-          first = All-nil (λ (t : Tree). depth t ≤ greatest_depth);
-          number = refl;
-        },
-      ))
-]
 
 pub model_answer : (model text : List ℕ) (reply : Reply) → RefusesModel model reply → Proves model text reply
 model_answer model text reply (why, fault, is) = subst (Proves model text) (sym is) (bad_model why fault)

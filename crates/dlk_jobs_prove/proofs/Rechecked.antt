@@ -17,8 +17,9 @@ use Rattle.dlk_jobs_record.specs.Records.{Records, IsLast, IsWritten}
 use Rattle.dlk_jobs_prove.specs.Proves.{Proves, bad_model, bad_strategy, fails, spent, records, strategy_refused, RunsTo}
 use Rattle.dlk_jobs_check.proofs.Ends.{last_item}
 use Rattle.dlk_jobs_record.proofs.Written.{RecordedIsWritten, accepted_checks, written_is_checked}
+use Rattle.dlk_jobs_record.proofs.Symbols.{all_symbols}
 use Rattle.dlk_jobs_prove.proofs.StrategyLaws.{RunsTaken, RunsReplaceSymbols, RunsShow}
-use Rattle.dlk_jobs_prove.proofs.RunSteps.{run_shows, all_symbols}
+use Rattle.dlk_jobs_prove.proofs.RunSteps.{run_shows}
 
 -- a refusal writes nothing
 strategy_unwritten : (why : Fault) → (strategy_refused why).written ≡ None

@@ -1,15 +1,11 @@
--- The steps of a run are as many as its rows, of which the last shows the formula; and what they replace are symbols.
-use Rattle.std.proofs.Common.{◌≡◌, ◌∙◌, ◌≤◌, ◌+◌, ℕ, List, [], ◌∷◌, length, refl, sym, ap, arith}
-use Rattle.std.specs.Prelude.{All}
-use Rattle.std.proofs.lemmas.List.Elements.{All-weaker}
+-- The steps of a run are as many as its rows, of which the last shows the formula.
+use Rattle.std.proofs.Common.{◌≡◌, ◌∙◌, ◌≤◌, ◌+◌, ℕ, List, [], ◌∷◌, length, sym, ap, arith}
 use Rattle.dlk_tree.specs.Trees.{Tree}
 use Rattle.dlk_calculus.specs.Places.{At}
 use Rattle.dlk_calculus.specs.Provables.{Provable}
-use Rattle.dlk_calculus.specs.Steps.{Step, Start, UseAxiom, UseRule, Leaf, Apply, Merge, Substitute, Rename}
+use Rattle.dlk_calculus.proofs.PlaceLaws.{at_one}
 use Rattle.dlk_tacsyn.specs.Tactics.{Tactic}
-use Rattle.dlk_elab.specs.Symbols.{ReplacesSymbols}
 use Rattle.dlk_strategy.specs.Runs.{Progress, Done, RunsModel}
-use Rattle.dlk_recorder.specs.Terms.{HasSymbols}
 use Rattle.dlk_jobs_check.specs.Terms.{proves}
 use Rattle.dlk_jobs_record.proofs.TakenRows.{taken_count}
 use Rattle.dlk_jobs_prove.proofs.StrategyLaws.{RunsTaken, RunsShow}
@@ -22,9 +18,6 @@ some_items : {A : Type 0} (items : List A) (x : A) → At items (length items) x
 some_items [] x h = absurd (cc h)
 some_items (y ∷ items) x h = omega arith
 
-one_item : {A : Type 0} (items : List A) (place : ℕ) (x y : A) → At items place x → At items place y → x ≡ y
-one_item items place x y h k = cc
-
 pub some_rows : RunsShow → (strategy : Tactic) (formula : Tree) (made : Progress) (left : ℕ) → RunsModel strategy formula (Done made left) →
     1 ≤ length made.rows
 some_rows runs_show strategy formula made left r = let last = runs_show strategy formula made left r in some_items made.rows last.0 last.1
@@ -34,17 +27,4 @@ pub run_shows : RunsShow → (strategy : Tactic) (formula : Tree) (made : Progre
     (p : Provable) → At made.rows (length made.rows) p → p.conclusion ≡ proves formula
 run_shows runs_show strategy formula made left r p here =
     let last = runs_show strategy formula made left r in
-    ap (λ (x : Provable). x.conclusion) (one_item made.rows (length made.rows) p last.0 here last.1) ∙ last.2
-
-has_symbols : (step : Step) → ReplacesSymbols step → HasSymbols step
-has_symbols (Start s) h = tt
-has_symbols (UseAxiom name) h = tt
-has_symbols (UseRule name) h = tt
-has_symbols (Leaf s) h = tt
-has_symbols (Apply fact goal rule) h = tt
-has_symbols (Merge fact goal by) h = tt
-has_symbols (Substitute fact pairs) h = h fact pairs refl
-has_symbols (Rename fact x y) h = tt
-
-pub all_symbols : (steps : List Step) → All ReplacesSymbols steps → All HasSymbols steps
-all_symbols steps h = All-weaker ReplacesSymbols HasSymbols has_symbols steps h
+    ap (λ (x : Provable). x.conclusion) (at_one made.rows (length made.rows) p last.0 here last.1) ∙ last.2

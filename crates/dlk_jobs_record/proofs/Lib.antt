@@ -1,4 +1,5 @@
 pub mod TakenRows
+pub mod Symbols
 pub mod RecordAnswers
 pub mod OneRecord
 pub mod Written

@@ -1,17 +1,16 @@
 -- What a session writes is accepted by `check`.
-use Rattle.std.proofs.Common.{◌≡◌, ℕ, ◌≤◌, List, [], length, None, Some, refl, ap, subst, ◌∙◌, arith}
+use Rattle.std.proofs.Common.{◌≡◌, ℕ, ◌≤◌, List, [], length, None, Some, ap, subst, ◌∙◌, arith}
 use Rattle.std.specs.List.{All}
-use Rattle.std.proofs.lemmas.List.Elements.{All-nil, All-cons, All-weaker}
+use Rattle.std.proofs.lemmas.List.Elements.{All-nil, All-cons}
 use Rattle.dlk_tree.specs.Trees.{Tree}
 use Rattle.dlk_calculus.specs.Provables.{Provable}
 use Rattle.dlk_calculus.specs.Sequents.{alone_right}
-use Rattle.dlk_calculus.specs.Steps.{Step, Start, UseAxiom, UseRule, Leaf, Apply as ApplyRule, Merge, Substitute, Rename}
+use Rattle.dlk_calculus.specs.Steps.{Step}
 use Rattle.dlk_calculus.proofs.PlaceLaws.{at_one}
 use Rattle.dlk_kernel.specs.Taken.{Takes}
 use Rattle.dlk_tacsyn.specs.Rows.{HasNames}
 use Rattle.dlk_tacsyn.specs.Tactics.{Tactic, EachAtom}
 use Rattle.dlk_tacsyn.specs.Strategies.{StrategyText}
-use Rattle.dlk_elab.specs.Symbols.{ReplacesSymbols}
 use Rattle.dlk_elab.proofs.FewSteps.{takes_length}
 use Rattle.dlk_recorder.specs.Terms.{term_text, HasSymbols}
 use Rattle.dlk_session.specs.Sessions.{State, Begins, Line, Answer, Turns}
@@ -27,6 +26,7 @@ use Rattle.dlk_jobs_check.specs.Terms.{ModelText, proves}
 use Rattle.dlk_jobs_check.specs.Checks.{Checks, reported}
 use Rattle.dlk_jobs_check.proofs.Ends.{last_of, last_item}
 use Rattle.dlk_jobs_record.specs.Records.{recorded, Records, writes, IsLast, IsWritten}
+use Rattle.dlk_jobs_record.proofs.Symbols.{all_symbols}
 use Rattle.dlk_jobs_session.specs.Scripts.{ScriptLine, apply, undo, show, save, SayLines, none, more}
 use Rattle.dlk_jobs_session.specs.Sessions.{Plays, Sessions, bad_model, bad_line, too_long, keeps_none}
 use Rattle.dlk_jobs_session.specs.Sessions.{writes as writes_term}
@@ -45,16 +45,6 @@ pub lines_named : ((bytes : List ℕ) (t : Tactic) → StrategyText bytes t → 
 lines_named names _ _ none = All-nil IsNamed
 lines_named names _ _ (more {text} {texts} {line} {lines} first rest) =
     All-cons IsNamed line lines (line_named names text line first) (lines_named names texts lines rest)
-
-has_symbols : (step : Step) → ReplacesSymbols step → HasSymbols step
-has_symbols (Start s) h = tt
-has_symbols (UseAxiom name) h = tt
-has_symbols (UseRule name) h = tt
-has_symbols (Leaf s) h = tt
-has_symbols (ApplyRule fact goal rule) h = tt
-has_symbols (Merge fact goal by) h = tt
-has_symbols (Substitute fact pairs) h = h fact pairs refl
-has_symbols (Rename fact x y) h = tt
 
 -- what was saved, where a term is written
 record Written (model script term : List ℕ) : Type 0 where
@@ -100,7 +90,7 @@ module _ (good : (f : Tree) (now last : State) (lines : List Line) (answers : Li
       let is_last : IsLast rows last.1 = record { before = last.0; rows_are = last.2 } in
       let shown : last.1.conclusion ≡ proves f =
       ap (λ (p : Provable). p.conclusion) (at_one rows (length rows) last.1 proof.shows.0 (last_item rows last.0 last.1 last.2) proof.shows.1) ∙ proof.shows.2 in
-      let symbols = All-weaker ReplacesSymbols HasSymbols has_symbols w.steps proof.symbols in
+      let symbols = all_symbols w.steps proof.symbols in
       let file = recorded_is_written w.steps rows last.1 (recorded last.1 w.steps) term proof.taken symbols is_last (writes w.short) (ap Some w.term_is) in
       let checked = written_is_checked model term f rows last.1 (recorded last.1 w.steps) w.plays.reads shown file in
       record {

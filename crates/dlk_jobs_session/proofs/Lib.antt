@@ -4,7 +4,6 @@ pub mod LinesKept
 pub mod Turned
 pub mod Ended
 pub mod Replied
-pub mod Models
 pub mod SavedSteps
 pub mod Checked
 pub mod OneSession

@@ -34,10 +34,10 @@ use Rattle.dlk_replies.specs.Replies.{Reply}
 use Rattle.dlk_replies.specs.Refusals.{text_refused}
 use Rattle.dlk_jobs_check.specs.Terms.{ModelText}
 use Rattle.dlk_jobs_check.proofs.Ends.{last_of}
+use Rattle.dlk_jobs_check.proofs.Models.{model_small, model_shallow}
 use Rattle.dlk_jobs_record.specs.Records.{term_too_long}
 use Rattle.dlk_jobs_session.specs.Scripts.{ScriptLine, apply, undo, show, save, SayLines, none, more, Script, ScriptFault}
 use Rattle.dlk_jobs_session.specs.Sessions.{script_refused, Plays, played, Sessions, bad_model, bad_line, too_long, keeps_none, writes}
-use Rattle.dlk_jobs_session.proofs.Models.{model_small, model_shallow}
 
 -- strategies that can be run
 abbrev pub IsRunnable : Line → Type 0

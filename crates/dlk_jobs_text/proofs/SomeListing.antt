@@ -3,7 +3,7 @@ use Rattle.std.proofs.Common.{◌≡◌, ◌∙◌, sym, ap, subst, refl, ℕ, L
 use Rattle.std.proofs.Math.Bool.{or-false}
 use Rattle.std.proofs.lemmas.List.Folds.{list_any-append}
 use Rattle.std.proofs.lemmas.Map.Keys.{sorted_head, sorted_tail}
-use Rattle.std.specs.Bool.{Decides, beq}
+use Rattle.std.specs.Bool.{beq, one_answer}
 use Rattle.std.specs.Cmp.{IsTotalOrder}
 use Rattle.std.specs.List.{list_any, AllByRecursion}
 use Rattle.std.specs.List.Sorted.{IsStrictlySortedBy}
@@ -26,12 +26,7 @@ use Rattle.dlk_tree.proofs.Listing.{var_total, var_ties, among_keys, sym_cmp_der
 use Rattle.dlk_tree.proofs.NameList.{names, names_listed}
 use Rattle.dlk_tree.proofs.Same.{var_eq_decides, sym_eq_decides, sym_derived_decides}
 use Rattle.dlk_tree.proofs.SomeVar.{not_named}
-
-or_comm : (a b : Bool) → (a || b) ≡ (b || a)
-or_comm true true = refl
-or_comm true false = refl
-or_comm false true = refl
-or_comm false false = refl
+use Rattle.dlk_shared.proofs.SignLemmas.{turned}
 
 or_assoc : (a b c : Bool) → (a || (b || c)) ≡ ((a || b) || c)
 or_assoc true b c = refl
@@ -84,7 +79,7 @@ module _ {K : Type 0} (R : K → K → Ordering) (o : IsTotalOrder R) (exact : (
       go Less e rest = record {
         new = k ∷ x ∷ xs;
         ordered = in_order k (x ∷ xs) (e, all_above k x xs e (sorted_head R x xs ordered)) ordered;
-        members = λ q. or_comm (is_eq (R q k)) (is_key (x ∷ xs) q);
+        members = λ q. turned (is_eq (R q k)) (is_key (x ∷ xs) q);
         above = λ y less h. (less, h);
       }
       go Equal e rest = record {
@@ -106,7 +101,7 @@ module _ {K : Type 0} (R : K → K → Ordering) (o : IsTotalOrder R) (exact : (
   sorted_list (k ∷ ks) =
       let rest = sorted_list ks in
       let more = inserted k rest.0 rest.1 in
-      (more.new, more.ordered, λ q. more.members q ∙ ap (λ b. b || is_eq (R q k)) (rest.2 q) ∙ or_comm (is_key ks q) (is_eq (R q k)))
+      (more.new, more.ordered, λ q. more.members q ∙ ap (λ b. b || is_eq (R q k)) (rest.2 q) ∙ turned (is_key ks q) (is_eq (R q k)))
 
 -- ---- the variables of a set
 
@@ -205,12 +200,6 @@ module _ (t : Tree) (made : WellMade t) where
 
 sym_total : IsTotalOrder sym_cmp
 sym_total = subst IsTotalOrder sym_cmp_derived sym_total_law
-
-one_answer : {A : Type 0} (a b : Bool) → Decides a A → Decides b A → a ≡ b
-one_answer true true p q = refl
-one_answer true false p q = sym (q.1 (p.0 refl))
-one_answer false true p q = p.1 (q.0 refl)
-one_answer false false p q = refl
 
 sym_ties : (s t : Sym) → sym_eq s t ≡ eq_by_cmp sym_cmp s t
 sym_ties s t = one_answer _ _ (sym_eq_decides s t) (sym_derived_decides s t) ∙ sym_ties_law s t ∙ (λ i. eq_by_cmp (sym_cmp_derived i) s t)

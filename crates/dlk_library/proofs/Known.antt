@@ -1,16 +1,11 @@
 -- Ids that are those of the store, in lists.
-use Rattle.std.proofs.Common.{◌≡◌, List, Option, Some, None, IfNone, Result, Ok, Err, IfOk, sym, subst}
+use Rattle.std.proofs.Common.{◌≡◌, List, Option, Some, None, IfNone, sym, subst}
 use Rattle.std.specs.List.{All, AllByRecursion as ByRecursion}
 use Rattle.std.proofs.lemmas.List.Elements.{All-from_recursion}
 
 -- it holds of each of these items
 pub all_of : {X : Type 0} (P : X → Type 0) (xs items : List X) → items ≡ xs → ByRecursion P xs → All P items
 all_of P xs items e h = subst (All P) (sym e) (All-from_recursion P xs h)
-
--- what follows from what holds of a result
-pub if_ok : {A E : Type 0} (P Q : A → Type 0) → ((a : A) → P a → Q a) → (r : Result A E) → IfOk r P → IfOk r Q
-if_ok P Q law (Ok a) h = law a h
-if_ok P Q law (Err e) h = tt
 
 -- and of its absence
 pub if_none : {A : Type 0} (P Q : Type 0) → (P → Q) → (o : Option A) → IfNone o P → IfNone o Q

@@ -137,7 +137,7 @@ fitting_own atom h = elim (library_name atom.name) [
 pub derive_name : (name : List ℕ) (row : Row) → derive_row_of name ≡ Some row → name ≡ codes "derive"
 derive_name name row is = (bytes_eq-Decides name (codes "derive")).0 (derive_found name row is).0
 
-derive_own : library_row_of (codes "derive") ≡ None
+pub derive_own : library_row_of (codes "derive") ≡ None
 unfolding library_row_of
 derive_own = refl
 

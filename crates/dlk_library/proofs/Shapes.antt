@@ -1,7 +1,7 @@
 -- Names of the library over ids, by their arguments.
-use Rattle.std.proofs.Common.{◌≡◌, ◌≢◌, ℕ, Bool, true, false, List, [], ◌∷◌, map, None, Some, inl, inr, refl, ap, ◌∙◌}
+use Rattle.std.proofs.Common.{◌≡◌, ◌≢◌, ℕ, true, false, List, [], ◌∷◌, map, None, Some, inl, inr, refl, ap, ◌∙◌}
 use Rattle.std.specs.Prelude.{bytes_eq, codes, ◌||◌}
-use Rattle.std.proofs.lemmas.Bool.{or_cases}
+use Rattle.std.proofs.lemmas.Bool.{or_cases, false_from_ne_true}
 use Rattle.std.proofs.lemmas.Slice.Eq.{bytes_eq-Decides}
 use Rattle.dlk_tree.specs.Trees.{Tree}
 use Rattle.dlk_store.specs.declared.Id.{Id}
@@ -38,10 +38,6 @@ with_formula_row name h = elim (or_cases (bytes_eq name (codes "loop")) (bytes_e
   | inl e ↦ let n = same name (codes "loop") e in record { is = is_loop n; row_is = ap library_row_of n ∙ loop_row }
   | inr e ↦ let n = same name (codes "dC") e in record { is = is_cut n; row_is = ap library_row_of n ∙ cut_row }
 ]
-
-never_true : (b : Bool) → (b ≡ true → ⊥) → b ≡ false
-never_true true h = absurd (h refl)
-never_true false h = refl
 
 module _ (trees : List Tree) where
   -- Arguments of a row, over ids.
@@ -99,10 +95,10 @@ module _ (trees : List Tree) where
         no_ghost atom.args none (kinds row (record { is = is_ghost n; row_is = ap library_row_of n ∙ ghost_row }))
 
     not_at_place : ((p : Arg) → atom.args ≢ p ∷ []) → is_at_place atom.name ≡ false
-    not_at_place none = never_true _ (λ h. no_place atom.args none (kinds _ (at_place_row atom.name h)))
+    not_at_place none = false_from_ne_true _ (λ h. no_place atom.args none (kinds _ (at_place_row atom.name h)))
 
     not_with_formula : ((f : Id) (p : Arg) → atom.args ≢ arg.Formula f ∷ p ∷ []) → is_with_formula atom.name ≡ false
-    not_with_formula none = never_true _ (λ h. no_formula atom.args none (kinds _ (with_formula_row atom.name h)))
+    not_with_formula none = false_from_ne_true _ (λ h. no_formula atom.args none (kinds _ (with_formula_row atom.name h)))
 
     module _ (no_prop : bytes_eq atom.name (codes "prop") ≡ false) (not_ghost : bytes_eq atom.name (codes "dG") ≡ false) where
       -- a name with a place alone that isn't one of those

@@ -12,7 +12,7 @@ use Rattle.dlk_tacsyn.specs.Rows.{IsOfText, AreOfText}
 use Rattle.dlk_tacsyn.specs.Strategies.{parts}
 use Rattle.dlk_tacsyn.specs.Ties.{tactic_at, tactics_at, TacticIsKnown, TacticsAreKnown}
 
-abbrev row_in : Tactic → (n : Count) × Row_of-Tactic n
+abbrev pub row_in : Tactic → (n : Count) × Row_of-Tactic n
 row_in (Choice' _ row) = (_, row)
 row_in (Seq' _ row) = (_, row)
 row_in (Branch' at _ row) = (_, row)

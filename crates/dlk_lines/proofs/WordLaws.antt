@@ -18,7 +18,7 @@ letters _ = refl
 pub word_lacks : (rule : Rule) → Lacks (word_of rule) 40
 word_lacks rule = lacks_if is_letter 40 refl (word_of rule) (letters rule)
 
-ascii : (word : List ℕ) → IsTrue (list_all is_letter word) → IsAscii word
+pub ascii : (word : List ℕ) → IsTrue (list_all is_letter word) → IsAscii word
 ascii [] all = λ i. omega arith
 ascii (b ∷ bs) all =
     let h = and_parts (is_letter b) (list_all is_letter bs) all in

@@ -3,6 +3,7 @@ pub mod Spelled
 pub mod Lines
 pub mod Parts
 pub mod Read
+pub mod Wants
 pub mod Written
 pub mod Looks
 pub mod Laws

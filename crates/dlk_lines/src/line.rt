@@ -1,12 +1,14 @@
 //! Steps with their numbers.
-ghost use Rattle.std.specs.Prelude.{◌≡◌, ◌+◌, ◌≤◌, ℕ, IfOk, IfErr};
+ghost use Rattle.std.specs.Prelude.{◌≡◌, ◌+◌, ◌≤◌, ℕ, Err, IfOk, IfErr};
 ghost use Rattle.dlk_calculus.specs.Steps.{Step as TreeStep};
 ghost use Rattle.dlk_rules.specs.Steps.{step_at, HasKnownIds};
 ghost use Rattle.dlk_print.specs.Printed.{Appends};
 ghost use Rattle.dlk_lines.specs.Lines.{IsStepLine};
 ghost use Rattle.dlk_lines.specs.Written.{line_text, trees_of};
 ghost use Rattle.dlk_lines.specs.Looks.{step_looks};
+ghost use Rattle.dlk_lines.specs.declared.fault.LineFault.TheVariants.{Memory};
 ghost use Rattle.dlk_lines.specs.Read.{IsLineFaultOf};
+ghost use Rattle.dlk_lines.specs.Wants.{LineWants};
 
 use crate::digits::number_before;
 use crate::fault::LineFault;
@@ -35,6 +37,7 @@ pub fn read_step_line<P: Spelled, S: Store>(
     ensures found { IfOk result (λ p. IsStepLine (P.spelling spelled.old (S.trees store.old)) line.now p.0 (step_at (S.trees store.new) p.1)) }
     ensures known { IfOk result (λ p. HasKnownIds (S.trees store.new) p.1) }
     ensures fault { IfErr result (IsLineFaultOf ((number : ℕ) (step : TreeStep) → ¬ IsStepLine (P.spelling spelled.old (S.trees store.old)) line.now number step)) }
+    ensures memory { result ≡ Err Memory → LineWants line.now }
     ensures stays { P.spelling spelled.new (S.trees store.new) ≡ P.spelling spelled.old (S.trees store.old) }
     ensures grows { S.grows store.old store.new }
 {

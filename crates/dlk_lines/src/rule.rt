@@ -1,10 +1,12 @@
 //! Rules with their arguments in brackets.
-ghost use Rattle.std.specs.Prelude.{◌≡◌, IfOk, IfErr};
+ghost use Rattle.std.specs.Prelude.{◌≡◌, Err, IfOk, IfErr};
 ghost use Rattle.dlk_calculus.specs.Rules.{Rule as TreeRule, Arguments as TreeArguments};
 ghost use Rattle.dlk_rules.specs.Steps.{rule_at, RuleIsKnown};
 ghost use Rattle.dlk_rules.specs.Words.{shape_of, shape_in, arguments_at, ArgumentsAreKnown};
 ghost use Rattle.dlk_lines.specs.Lines.{IsArguments, IsRule};
+ghost use Rattle.dlk_lines.specs.declared.fault.LineFault.TheVariants.{Memory};
 ghost use Rattle.dlk_lines.specs.Read.{IsLineFaultOf};
+ghost use Rattle.dlk_lines.specs.Wants.{ArgumentsWant, RuleWants};
 
 use crate::arguments::{place_and_formula, place_and_name, two_places};
 use crate::digits::number;
@@ -27,6 +29,7 @@ pub(crate) fn read_rule<P: Spelled, S: Store>(
     ensures found { IfOk result (λ rule. IsRule (P.spelling spelled.old (S.trees store.old)) text.now (rule_at (S.trees store.new) rule)) }
     ensures known { IfOk result (RuleIsKnown (S.trees store.new)) }
     ensures fault { IfErr result (IsLineFaultOf ((rule : TreeRule) → ¬ IsRule (P.spelling spelled.old (S.trees store.old)) text.now rule)) }
+    ensures memory { result ≡ Err Memory → RuleWants text.now }
     ensures stays { P.spelling spelled.new (S.trees store.new) ≡ P.spelling spelled.old (S.trees store.old) }
     ensures grows { S.grows store.old store.new }
 {
@@ -59,6 +62,7 @@ fn read_arguments<P: Spelled, S: Store>(
     ensures shape { IfOk result (λ arguments. shape_in arguments ≡ shape) }
     ensures known { IfOk result (ArgumentsAreKnown (S.trees store.new)) }
     ensures fault { IfErr result (IsLineFaultOf ((arguments : TreeArguments) → shape ≡ shape_of arguments → ¬ IsArguments (P.spelling spelled.old (S.trees store.old)) text.now arguments)) }
+    ensures memory { result ≡ Err Memory → ArgumentsWant shape text.now }
     ensures stays { P.spelling spelled.new (S.trees store.new) ≡ P.spelling spelled.old (S.trees store.old) }
     ensures grows { S.grows store.old store.new }
 {

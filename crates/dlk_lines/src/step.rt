@@ -1,5 +1,5 @@
 //! Steps by their words.
-ghost use Rattle.std.specs.Prelude.{◌≡◌, ℕ, List, IfSome, IfNone, IfOk, IfErr};
+ghost use Rattle.std.specs.Prelude.{◌≡◌, ℕ, List, Err, IfSome, IfNone, IfOk, IfErr};
 ghost use Rattle.dlk_calculus.specs.Pairs.{Pair as TreePair};
 ghost use Rattle.dlk_calculus.specs.Rules.{Rule as TreeRule};
 ghost use Rattle.dlk_calculus.specs.Steps.{Step as TreeStep};
@@ -7,7 +7,9 @@ ghost use Rattle.dlk_sequent.specs.Substitutions.{pairs_at, AreKnownPairs};
 ghost use Rattle.dlk_rules.specs.Steps.{rule_at, RuleIsKnown, step_at, HasKnownIds};
 ghost use Rattle.dlk_lines.specs.Lines.{IsStep};
 ghost use Rattle.dlk_lines.specs.Parts.{FactGoal, FactGoalRule, FactGoalFact, FactPairs, FactNames, WordAndRest};
+ghost use Rattle.dlk_lines.specs.declared.fault.LineFault.TheVariants.{Memory};
 ghost use Rattle.dlk_lines.specs.Read.{IsLineFaultOf};
+ghost use Rattle.dlk_lines.specs.Wants.{BeginsWithNumber, ApplyWants, RenameWants, StepWants, StepTextWants};
 
 use crate::arguments::name;
 use crate::digits::{number, number_before};
@@ -37,6 +39,7 @@ pub fn read_step<P: Spelled, S: Store>(
     ensures found { IfOk result (λ step. IsStep (P.spelling spelled.old (S.trees store.old)) text.now (step_at (S.trees store.new) step)) }
     ensures known { IfOk result (HasKnownIds (S.trees store.new)) }
     ensures fault { IfErr result (IsLineFaultOf ((step : TreeStep) → ¬ IsStep (P.spelling spelled.old (S.trees store.old)) text.now step)) }
+    ensures memory { result ≡ Err Memory → StepTextWants text.now }
     ensures stays { P.spelling spelled.new (S.trees store.new) ≡ P.spelling spelled.old (S.trees store.old) }
     ensures grows { S.grows store.old store.new }
 {
@@ -61,6 +64,7 @@ fn step_of_word<P: Spelled, S: Store>(
     ensures found { IfOk result (λ step. WordAndRest (P.spelling spelled.old (S.trees store.old)) word.now rest.now (step_at (S.trees store.new) step)) }
     ensures known { IfOk result (HasKnownIds (S.trees store.new)) }
     ensures fault { IfErr result (IsLineFaultOf ((step : TreeStep) → ¬ WordAndRest (P.spelling spelled.old (S.trees store.old)) word.now rest.now step)) }
+    ensures memory { result ≡ Err Memory → StepWants word.now rest.now }
     ensures stays { P.spelling spelled.new (S.trees store.new) ≡ P.spelling spelled.old (S.trees store.old) }
     ensures grows { S.grows store.old store.new }
 {
@@ -112,6 +116,7 @@ fn read_apply<P: Spelled, S: Store>(
     ensures found { IfOk result (λ p. FactGoalRule (P.spelling spelled.old (S.trees store.old)) text.now p.0 p.1 (rule_at (S.trees store.new) p.2)) }
     ensures known { IfOk result (λ p. RuleIsKnown (S.trees store.new) p.2) }
     ensures fault { IfErr result (IsLineFaultOf ((fact goal : ℕ) (rule : TreeRule) → ¬ FactGoalRule (P.spelling spelled.old (S.trees store.old)) text.now fact goal rule)) }
+    ensures memory { result ≡ Err Memory → ApplyWants text.now }
     ensures stays { P.spelling spelled.new (S.trees store.new) ≡ P.spelling spelled.old (S.trees store.old) }
     ensures grows { S.grows store.old store.new }
 {
@@ -143,6 +148,7 @@ fn read_subst<P: Spelled, S: Store>(
     ensures found { IfOk result (λ p. FactPairs (P.spelling spelled.old (S.trees store.old)) text.now p.0 (pairs_at (S.trees store.new) p.1)) }
     ensures known { IfOk result (λ p. AreKnownPairs (S.trees store.new) p.1) }
     ensures fault { IfErr result (IsLineFaultOf ((fact : ℕ) (pairs : List TreePair) → ¬ FactPairs (P.spelling spelled.old (S.trees store.old)) text.now fact pairs)) }
+    ensures memory { result ≡ Err Memory → BeginsWithNumber text.now 32 }
     ensures stays { P.spelling spelled.new (S.trees store.new) ≡ P.spelling spelled.old (S.trees store.old) }
     ensures grows { S.grows store.old store.new }
 {
@@ -157,6 +163,7 @@ fn read_subst<P: Spelled, S: Store>(
 fn read_rename(alloc: Global, text: &[u8]) -> Result<(u32, Name, Name), LineFault>
     ensures found { IfOk result (λ p. FactNames text.now p.0 p.1 p.2) }
     ensures fault { IfErr result (IsLineFaultOf ((fact : ℕ) (x y : List ℕ) → ¬ FactNames text.now fact x y)) }
+    ensures memory { result ≡ Err Memory → RenameWants text.now }
 {
     let Some((fact, names)) = number_before(text, b' ') else {
         return Err(LineFault::Malformed);

@@ -26,7 +26,7 @@ pub no_shorter : (n m : ℕ) (old : Option (Option Id)) → n ≡ m + cond (is_s
 no_shorter n m None len = omega (arith, len)
 no_shorter n m (Some o) len = omega (arith, len)
 
-same_is : (a b : Id) → same_id a b ≡ true → a ≡ b
+pub same_is : (a b : Id) → same_id a b ≡ true → a ≡ b
 same_is a b h i = record { 0 = eqb-true a.0 b.0 h i }
 
 -- what the table has for an id after a change

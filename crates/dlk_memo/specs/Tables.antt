@@ -20,6 +20,12 @@ found table id = lookup (same_id id) table
 abbrev pub HasEachOnce : Table → Type 0
 HasEachOnce table = IsDistinct same_id (keys_of table)
 
+-- the two parts of a table: no id stands twice in a part, or in both
+pub record AreParts (near far : Table) : Type 0 where
+  pub near_once : HasEachOnce near
+  pub far_once : HasEachOnce far
+  pub apart : (k : Id) → IsSome (found near k) → found far k ≡ None
+
 -- new is old, with this for the id
 abbrev pub Puts : Table → Table → Id → Option Id → Type 0
 Puts old new id r = (k : Id) → found new k ≡ cond (same_id id k) (Some r) (found old k)

@@ -1,5 +1,6 @@
 //! A table of results.
-ghost use Rattle.std.specs.Prelude.{◌≡◌, ◌+◌, ◌≤◌, [], length, None, Some, OnOk, OnErr};
+ghost use Rattle.std.specs.Prelude.{◌≡◌, ◌+◌, ◌≤◌, [], length, position, None, Some, OnOk, OnErr};
+ghost use Rattle.dlk_subst.specs.Looked.{same_id};
 ghost use Rattle.dlk_memo.specs.Tables.{found, HasEachOnce, Puts};
 
 use dlk_store::Id;
@@ -7,18 +8,34 @@ use std::alloc::{AllocError, Global};
 use std::collections::HashMap;
 use std::marker::Model;
 
+/// So many entries stand in a row. Most tables have fewer, and a row takes memory in one piece.
+const MOST_NEAR: usize = 16;
+
 /// What was made of trees, by their ids. A tree that is still being made has no result. Contracts see it as a list.
+///
+/// The first entries stand in a row that is looked through, further ones in a map.
 #[derive(Drop)]
 pub(crate) struct Results {
-    made: HashMap<Id, Option<Id>>,
+    near: Vec<(Id, Option<Id>)>,
+    far: HashMap<Id, Option<Id>>,
 }
 
 impl Model for Results {
-    ghost use Rattle.dlk_memo.specs.Tables.{Table};
+    ghost use Rattle.std.specs.Prelude.{◌++◌};
+    ghost use Rattle.dlk_memo.specs.Tables.{Table, AreParts};
 
     ghost Value = { Table };
 
-    ghost view = { λ r. r.made.entries };
+    ghost view = { λ r. r.near.items ++ r.far.entries };
+
+    ghost invariant = { λ r. AreParts r.near.items r.far.entries };
+}
+
+/// The place in a row at which the id stands.
+fn place(row: &[(Id, Option<Id>)], id: Id) -> Option<usize>
+    ensures { result ≡ position (λ e. same_id id e.0) row.now }
+{
+    row.iter().position(|e| id == e.0)
 }
 
 impl Results {
@@ -27,17 +44,21 @@ impl Results {
         ensures once { HasEachOnce result }
     {
         Results {
-            made: HashMap::new(alloc),
+            near: Vec::new(alloc),
+            far: HashMap::new(alloc),
         }
     }
 
     /// What the table has for the id.
+    #[inline(never)]
     pub fn find(&self, id: Id) -> Option<Option<Id>>
         ensures found { result ≡ found self.now id }
         ensures once { HasEachOnce self.now }
     {
-        let _ = self.made.len();
-        self.made.get(&id).copied()
+        match place(self.near.as_slice(), id) {
+            Some(i) => Some(self.near[i].1),
+            None => self.far.get(&id).copied(),
+        }
     }
 
     /// The id has no result as yet.
@@ -48,7 +69,11 @@ impl Results {
         ensures err { OnErr result (self.new ≡ self.old) }
         ensures once { HasEachOnce self.new }
     {
-        self.made.insert(id, None)?;
+        if self.near.len() < MOST_NEAR {
+            self.near.push((id, None))?;
+            return Ok(());
+        }
+        self.far.insert(id, None)?;
         Ok(())
     }
 
@@ -59,7 +84,11 @@ impl Results {
         ensures err { OnErr result (self.new ≡ self.old) }
         ensures once { HasEachOnce self.new }
     {
-        self.made.insert(id, Some(made))?;
+        if let Some(i) = place(self.near.as_slice(), id) {
+            self.near[i] = (id, Some(made));
+            return Ok(());
+        }
+        self.far.insert(id, Some(made))?;
         Ok(())
     }
 }

@@ -62,6 +62,14 @@ primed_parts text front behind v cut s = by_test v.primed refl s.text_is
         record { primed = p; name_is = same.0; nothing = same.1; real = subst (λ x. is_name x ≡ true) (sym same.0) s.real }
     by_test false p e = absurd (not_lacking 39 text front behind refl cut (ap (lacks 39) e ∙ name_lacks 39 refl v.name s.real))
 
+-- a name is that of a variable, and with a prime behind it of a primed one
+pub plain_spelled : (text : List ℕ) → IsTrue (is_name text) → (v : Var) × SpellsVariable text v
+plain_spelled text real = (record { name = text; primed = false }, record { real = real; text_is = refl })
+
+pub primed_spelled : (text front behind : List ℕ) → CutAt text 39 front behind → behind ≡ [] → IsTrue (is_name front) → (v : Var) × SpellsVariable text v
+primed_spelled text front behind cut nothing real =
+    (record { name = front; primed = true }, record { real = real; text_is = cut.text_is ∙ ap (λ r. front ++ 39 ∷ r) nothing })
+
 -- ---- unit symbols
 
 no_taboo_part : (x : List ℕ) (y : Option (List ℕ)) → (is_name x && taboo_is_name y) ≡ true → (is_name x ≡ true) × (taboo_is_name y ≡ true)

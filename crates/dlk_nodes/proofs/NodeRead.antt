@@ -1,8 +1,9 @@
 -- The written line of a node is read as that node.
-use Rattle.std.proofs.Common.{◌≡◌, ◌+◌, ◌≤◌, false, List, ◌++◌, length, refl, sym, ap, subst, arith}
+use Rattle.std.proofs.Common.{◌≡◌, ◌+◌, ◌≤◌, false, List, ◌++◌, length, sym, subst, arith}
 use Rattle.dlk_tree.specs.Table.{Fits}
 use Rattle.dlk_tree.specs.Trees.{Tree, node, Forest, no_kids, kid, forest, trees_in, sorts}
 use Rattle.dlk_calculus.specs.Limits.{IsSmall, IsShallow}
+use Rattle.dlk_readback.proofs.Kids.{forest-trees}
 use Rattle.dlk_lines.specs.Spelled.{NamesEach, none_behind, one_behind}
 use Rattle.dlk_nodes.specs.Nodes.{has_node, op_and_kids, IsNode, new_node, IsNodeLine, node_line}
 use Rattle.dlk_nodes.specs.Words.{op_text}
@@ -10,10 +11,6 @@ use Rattle.dlk_nodes.specs.Written.{kids_text, node_text}
 use Rattle.dlk_nodes.specs.Follow.{KidsThere, IsNext}
 use Rattle.dlk_lines.proofs.NumberText.{number_read}
 use Rattle.dlk_nodes.proofs.Places.{named}
-
-forest-trees : (kids : Forest) → forest (trees_in kids) ≡ kids
-forest-trees no_kids = refl
-forest-trees (kid t rest) = ap (kid t) (forest-trees rest)
 
 named_kids : (nodes : List Tree) → length nodes ≤ 999999999 → (kids : Forest) → KidsThere nodes kids → NamesEach nodes (kids_text nodes kids) (trees_in kids)
 named_kids nodes few no_kids h = none_behind

@@ -1,18 +1,19 @@
 -- The text of a node is cut at its spaces: the word, the detail, and the numbers.
-use Rattle.std.proofs.Common.{◌≡◌, ◌≢◌, ℕ, zero, suc, ◌<◌, ◌≤◌, ◌==◌, true, false, List, [], ◌∷◌, ◌++◌, length, codes, refl, sym, ap, subst, ◌∙◌, append_assoc, append-nil, inl, inr, arith}
+use Rattle.std.proofs.Common.{◌≡◌, ◌≢◌, ℕ, ◌==◌, true, false, List, [], ◌∷◌, ◌++◌, length, codes, refl, sym, ap, subst, ◌∙◌, append_assoc, append-nil, arith}
 use Rattle.std.specs.Prelude.{IsTrue}
 use Rattle.std.specs.List.{list_all}
-use Rattle.std.specs.Str.{IsAscii, IsUtf8}
-use Rattle.std.proofs.lemmas.Bool.{cases_Bool, and_parts, leb-true, eqb-true}
+use Rattle.std.specs.Str.{IsUtf8}
+use Rattle.std.proofs.lemmas.Bool.{eqb-true}
 use Rattle.std.proofs.lemmas.Str.{IsUtf8-from_ascii}
 use Rattle.dlk_tree.specs.declared.op.Op.{Op}
 use Rattle.dlk_tree.specs.declared.op.Op.TheVariants as op
-use Rattle.dlk_tree.specs.Names.{is_between, is_letter}
+use Rattle.dlk_tree.specs.Names.{is_letter}
 use Rattle.dlk_tree.specs.Table.{has_parts}
 use Rattle.dlk_nodes.specs.Parts.{IsBehind, Front}
 use Rattle.dlk_nodes.specs.Fields.{parts_of, Each}
 use Rattle.dlk_nodes.specs.Words.{Detail, NoDetail, Named, OfVariable, OfNumber, OfDot, OfUnit, OfItems, detail_text, call_of, op_text}
 use Rattle.dlk_lines.specs.Spelled.{Names, NamesEach, none_behind, one_behind}
+use Rattle.dlk_lines.proofs.WordLaws.{ascii}
 use Rattle.dlk_nodes.specs.Nodes.{NamesNode, op_and_kids, TakesKids, IsRead}
 use Rattle.dlk_nodes.specs.Details.{IsCall}
 use Rattle.dlk_nodes.proofs.Fields.{lacks, one_part, next_part}
@@ -26,24 +27,6 @@ use Rattle.dlk_nodes.proofs.Readings.{reading, one_found}
 letters : (o : Op) → IsTrue (list_all is_letter (call_of o).0)
 letters (op.Variable v) = refl
 letters _ = refl
-
-ascii : (word : List ℕ) → IsTrue (list_all is_letter word) → IsAscii word
-ascii [] all = λ i. omega arith
-ascii (b ∷ bs) all =
-    let h = and_parts (is_letter b) (list_all is_letter bs) all in
-    elim_index (letter_low b h.0) (ascii bs h.1)
-  where
-    letter_low : (c : ℕ) → is_letter c ≡ true → c < 128
-    letter_low c letter =
-        elim (cases_Bool (is_between 65 90 c)) [
-          | inl upper ↦ let high : c ≤ 90 = leb-true c 90 (and_parts _ _ upper).1 in omega arith
-          | inr other ↦ let lower : is_between 97 122 c ≡ true = rw other at letter in let high : c ≤ 122 = leb-true c 122 (and_parts _ _ lower).1 in
-              omega arith
-        ]
-
-    elim_index : b < 128 → IsAscii bs → IsAscii (b ∷ bs)
-    elim_index low more zero = low
-    elim_index low more (suc i) = more i
 
 word_utf8 : (o : Op) → IsUtf8 (call_of o).0
 word_utf8 o = IsUtf8-from_ascii (call_of o).0 (ascii (call_of o).0 (letters o))

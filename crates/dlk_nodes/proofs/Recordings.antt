@@ -33,7 +33,7 @@ state_recorded _ _ _ (has.one_step {before} {nodes} {steps} {line} {s} first is)
     let pushed : length (w.0 ++ s ∷ []) ≡ steps + 1 = subst (λ n. length (w.0 ++ s ∷ []) ≡ n + 1) w.1 (length_push w.0 s) in
     (w.0 ++ s ∷ [], pushed, one_step w.2 (subst (λ n. IsLine nodes line (Numbered (n + 1) s)) (sym w.1) (of_step is)))
 
-abbrev IsOneLine : List ℕ → Type 0
+abbrev pub IsOneLine : List ℕ → Type 0
 IsOneLine line = Lacks line 10
 
 pub recorded_flat : (lines : List (List ℕ)) (nodes : List Tree) (steps : List Step) → Records lines nodes steps → All IsOneLine lines

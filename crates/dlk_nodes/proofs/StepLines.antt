@@ -107,7 +107,7 @@ module _ (n : ℕ) (nodes new whole : List Tree) (long : n ≡ length nodes) (e 
 
 -- ---- the whole text
 
-ended_both : (a b : List (List ℕ)) → ended (a ++ b) ≡ ended a ++ ended b
+pub ended_both : (a b : List (List ℕ)) → ended (a ++ b) ≡ ended a ++ ended b
 ended_both [] b = refl
 ended_both (line ∷ a) b = ap (λ l. line ++ 10 ∷ l) (ended_both a b) ∙ sym (append_assoc line (10 ∷ ended a) (ended b))
 

@@ -99,7 +99,7 @@ dots_text (suc (suc (suc (suc (suc (suc (suc (suc (suc n))))))))) h = absurd (om
 
 -- ---- the symbol of a text
 
-abbrev sym_of : Kind → List ℕ → ℕ → Option (List ℕ) → Sym
+abbrev pub sym_of : Kind → List ℕ → ℕ → Option (List ℕ) → Sym
 sym_of k x n y = record { kind = k; name = x; arity = n; taboo = y }
 
 -- terms have functions, and formulas predicates

@@ -22,10 +22,7 @@ use Rattle.dlk_nodes.specs.Symbols.{dots_bytes, AreDots, taboo_bytes, SpellsTabo
 use Rattle.dlk_nodes.proofs.Fields.{lacks, lacks_both}
 use Rattle.dlk_nodes.proofs.OpsBack.{name_lacks, symbol_parts, called, bare}
 use Rattle.dlk_nodes.proofs.DetailLaws.{Uncut, not_lacking}
-use Rattle.dlk_nodes.proofs.SymbolBack.{arity_in, dots_text, symbol_in, symbol_back}
-
-abbrev pub sym_of : Kind → List ℕ → ℕ → Option (List ℕ) → Sym
-sym_of k x n y = record { kind = k; name = x; arity = n; taboo = y }
+use Rattle.dlk_nodes.proofs.SymbolBack.{arity_in, dots_text, symbol_in, symbol_back, sym_of}
 
 own_kind : (s : Sym) (k : Kind) → s.kind ≡ k → is_sym s ≡ true → is_sym_of k s ≡ true
 own_kind s k e h = and_from (kind_rank s.kind == kind_rank k) (is_sym s) (eq-eqb (kind_rank s.kind) (kind_rank k) (ap kind_rank e)) h

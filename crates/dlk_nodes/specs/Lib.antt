@@ -14,6 +14,7 @@ pub mod Lines
 pub mod Recorded
 pub mod TermFiles
 pub mod Read
+pub mod Wants
 pub mod Put
 pub mod Sides
 pub mod Symbols

@@ -1,9 +1,10 @@
 //! The details of operators.
-ghost use Rattle.std.specs.Prelude.{◌≡◌, ℕ, List, Option, None, IfOk, OnOk, IfErr, IsTrue};
+ghost use Rattle.std.specs.Prelude.{◌≡◌, ◌≢◌, ℕ, List, Option, None, Err, IfOk, OnOk, IfErr, IsTrue};
 ghost use Rattle.dlk_tree.specs.declared.op.Var.{Var as TreeVar};
 ghost use Rattle.dlk_tree.specs.Names.{is_between, is_name};
 ghost use Rattle.dlk_tree.specs.Table.{is_sym};
 ghost use Rattle.dlk_nodes.specs.Details.{SpellsVariable, SpellsDot, SpellsUnit};
+ghost use Rattle.dlk_nodes.specs.declared.fault.NodeFault.TheVariants.{Memory};
 ghost use Rattle.dlk_nodes.specs.Faults.{IsNodeFaultOf};
 
 use crate::fault::NodeFault;
@@ -17,6 +18,7 @@ pub(crate) fn name(alloc: Global, text: &[u8]) -> Result<Name, NodeFault>
     ensures found { IfOk result (λ name. name ≡ text.now) }
     ensures real { OnOk result (IsTrue (is_name text.now)) }
     ensures fault { IfErr result (IsNodeFaultOf (¬ IsTrue (is_name text.now))) }
+    ensures memory { result ≡ Err Memory → IsTrue (is_name text.now) }
 {
     let name = Name::new(alloc, text)?;
     Ok(name)
@@ -26,6 +28,7 @@ pub(crate) fn name(alloc: Global, text: &[u8]) -> Result<Name, NodeFault>
 pub(crate) fn variable(alloc: Global, text: &[u8]) -> Result<Var, NodeFault>
     ensures found { IfOk result (SpellsVariable text.now) }
     ensures fault { IfErr result (IsNodeFaultOf ((v : TreeVar) → ¬ SpellsVariable text.now v)) }
+    ensures memory { result ≡ Err Memory → (v : TreeVar) × SpellsVariable text.now v }
 {
     let Some((front, behind)) = cut_at(text, b'\'') else {
         let name = name(alloc, text)?;
@@ -68,6 +71,7 @@ fn is_dot_digit(b: u8) -> bool
 pub(crate) fn dot(text: &[u8]) -> Result<u8, NodeFault>
     ensures found { IfOk result (SpellsDot text.now) }
     ensures fault { IfErr result (IsNodeFaultOf ((n : ℕ) → ¬ SpellsDot text.now n)) }
+    ensures decides { IfErr result (λ why. why ≢ Memory) }
 {
     let Some((digit, rest)) = text.split_first() else {
         return Err(NodeFault::Malformed);
@@ -86,6 +90,7 @@ pub(crate) fn symbol(alloc: Global, kind: Kind, text: &[u8], arity: usize) -> Re
     ensures found { IfOk result (λ s. s ≡ record { kind = kind; name = text.now; arity = arity; taboo = None }) }
     ensures real { IfOk result (λ s. IsTrue (is_sym s)) }
     ensures fault { IfErr result (IsNodeFaultOf (¬ IsTrue (is_sym (record { kind = kind; name = text.now; arity = arity; taboo = None })))) }
+    ensures memory { result ≡ Err Memory → IsTrue (is_name text.now) }
 {
     if arity > 8 {
         return Err(NodeFault::Malformed);

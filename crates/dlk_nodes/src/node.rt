@@ -1,11 +1,13 @@
 //! Node lines, read.
-ghost use Rattle.std.specs.Prelude.{◌≡◌, ◌+◌, ◌≤◌, ℕ, length, All, IsTrue, IfOk, IfErr};
+ghost use Rattle.std.specs.Prelude.{◌≡◌, ◌+◌, ◌≤◌, ℕ, length, All, Err, IsTrue, IfOk, IfErr};
 ghost use Rattle.dlk_tree.specs.Trees.{Tree};
 ghost use Rattle.dlk_calculus.specs.Limits.{IsSmall, IsShallow};
 ghost use Rattle.dlk_store.specs.Stores.{IsId, tree, sorts_at};
 ghost use Rattle.dlk_nodes.specs.Nodes.{IsNode, IsNodeLine};
 ghost use Rattle.dlk_nodes.specs.Tables.{nodes_at};
+ghost use Rattle.dlk_nodes.specs.declared.fault.NodeFault.TheVariants.{Memory};
 ghost use Rattle.dlk_nodes.specs.Faults.{IsNodeFaultOf};
+ghost use Rattle.dlk_nodes.specs.Wants.{NodeLineWants};
 
 use crate::calls::op_and_kids;
 use crate::fault::NodeFault;
@@ -88,6 +90,7 @@ pub(crate) fn node_line<S: Store, L: Ledger>(
     ensures found { IfOk result (λ p. IsNodeLine (nodes_at (S.trees store.old) table.now) line.now p.0 (tree (S.trees store.new) p.1)) }
     ensures known { IfOk result (λ p. IsId (S.trees store.new) p.1) }
     ensures fault { IfErr result (IsNodeFaultOf ((n : ℕ) (t : Tree) → ¬ IsNodeLine (nodes_at (S.trees store.old) table.now) line.now n t)) }
+    ensures memory { result ≡ Err Memory → NodeLineWants line.now }
     ensures grows { S.grows store.old store.new }
 {
     let Some(text) = line.strip_prefix(b"node ".as_slice()) else {

@@ -1,10 +1,12 @@
 //! Lines of a file of version 2, read.
-ghost use Rattle.std.specs.Prelude.{All, IsTrue, IfOk, IfErr};
+ghost use Rattle.std.specs.Prelude.{◌≡◌, ◌++◌, ℕ, List, All, Err, IsTrue, IfOk, IfErr, codes};
 ghost use Rattle.dlk_store.specs.Stores.{IsId};
+ghost use Rattle.dlk_nodes.specs.declared.fault.NodeFault.TheVariants.{Memory};
 ghost use Rattle.dlk_nodes.specs.Faults.{IsNodeFaultOf};
 ghost use Rattle.dlk_nodes.specs.Lines.{Line as TreeLine, IsLine};
 ghost use Rattle.dlk_nodes.specs.Read.{line_at, LineIsKnown};
 ghost use Rattle.dlk_nodes.specs.Tables.{nodes_at};
+ghost use Rattle.dlk_nodes.specs.Wants.{NodeLineWants};
 
 use crate::by_nodes::NodesRead;
 use crate::fault::NodeFault;
@@ -35,6 +37,7 @@ pub fn read_node_line<S: Store, L: Ledger>(
     ensures found { IfOk result (λ l. IsLine (nodes_at (S.trees store.old) table.now) line.now (line_at (S.trees store.new) l)) }
     ensures known { IfOk result (LineIsKnown (S.trees store.new)) }
     ensures fault { IfErr result (IsNodeFaultOf ((l : TreeLine) → ¬ IsLine (nodes_at (S.trees store.old) table.now) line.now l)) }
+    ensures memory { result ≡ Err Memory → (text : List ℕ) → line.now ≡ codes "node " ++ text → NodeLineWants line.now }
     ensures grows { S.grows store.old store.new }
 {
     if line == b"done".as_slice() {

@@ -1,5 +1,5 @@
 //! Sequents and formulas by the numbers of their nodes.
-ghost use Rattle.std.specs.Prelude.{◌≡◌, List, All, IsTrue, IfOk, IfErr};
+ghost use Rattle.std.specs.Prelude.{◌≡◌, ◌≢◌, List, All, IsTrue, IfOk, IfErr};
 ghost use Rattle.dlk_tree.specs.declared.op.Sort.TheVariants.{Formula as OfFormulas};
 ghost use Rattle.dlk_tree.specs.Trees.{Tree, sort};
 ghost use Rattle.dlk_calculus.specs.Sequents.{Sequent as TreeSequent};
@@ -7,6 +7,7 @@ ghost use Rattle.dlk_store.specs.declared.Id.{Id as TreeId};
 ghost use Rattle.dlk_store.specs.Stores.{IsId, tree};
 ghost use Rattle.dlk_sequent.specs.Sequents.{sequent_at, IsKnown};
 ghost use Rattle.dlk_lines.specs.Spelled.{NamesSequent, NamesFormula};
+ghost use Rattle.dlk_nodes.specs.declared.fault.NodeFault.TheVariants.{Memory};
 ghost use Rattle.dlk_nodes.specs.Faults.{IsNodeFaultOf};
 ghost use Rattle.dlk_nodes.specs.Sides.{Sides};
 ghost use Rattle.dlk_nodes.specs.Tables.{nodes_at};
@@ -105,6 +106,7 @@ pub(crate) fn read_formula<S: Store, L: Ledger>(
     ensures found { IfOk result (λ h. NamesFormula (nodes_at (S.trees store.now) table.now) text.now (tree (S.trees store.now) h)) }
     ensures known { IfOk result (IsId (S.trees store.now)) }
     ensures fault { IfErr result (IsNodeFaultOf ((h : Tree) → ¬ NamesFormula (nodes_at (S.trees store.now) table.now) text.now h)) }
+    ensures decides { IfErr result (λ why. why ≢ Memory) }
 {
     let Some(digits) = behind(text, b"#") else {
         return Err(NodeFault::Malformed);

@@ -21,7 +21,7 @@ pub record IsClean (s : Sort) (t : Tree) : Type 0 where
 pub formula_of : (t : Tree) → IsClean Formula t → IsFormula t
 formula_of t c = record { well_made = c.well_made; sort_is = c.sort_is; no_dot = c.no_dot; no_hole = c.no_hole }
 
-or_false : {a b : Bool} → a ≡ false → b ≡ false → (a || b) ≡ false
+pub or_false : {a b : Bool} → a ≡ false → b ≡ false → (a || b) ≡ false
 or_false e f = rw (e, f) refl
 
 -- an operator that is neither a dot nor `_`

@@ -11,7 +11,6 @@ use Rattle.dlk_tree.specs.Occurs.{has_dots, any_has, has_symbol}
 use Rattle.dlk_tree.specs.Statics.{none, free}
 use Rattle.dlk_tree.specs.Table.{kind_row}
 use Rattle.dlk_calculus.specs.Arithmetic.{is_arithmetic_sequent}
-use Rattle.dlk_calculus.specs.Axioms.{AxiomaticRule}
 use Rattle.dlk_calculus.specs.Captures.{AreApart}
 use Rattle.dlk_calculus.specs.Limits.{most_leaves, most_rows, IsSmall, IsShallow}
 use Rattle.dlk_calculus.specs.Limited.{InSequent}
@@ -26,15 +25,12 @@ use Rattle.dlk_calculus.specs.Sequents.{Sequent, alone_right, IsFormula}
 use Rattle.dlk_calculus.specs.Subst.{Subst, IsAdmissible}
 use Rattle.dlk_sequent.specs.declared.sequent.Place.TheVariants.{Succ}
 use Rattle.dlk_uses.specs.Uses.{Forwards, any_f, any_g, p_of_one, ◌~>◌, by_equation, by_conditional_equation}
-use Rattle.dlk_uses.proofs.Substituted.{pairs_of_cq}
+use Rattle.dlk_uses.proofs.Substituted.{pairs_of_cq, cq}
 use Rattle.dlk_derive.specs.Ways.{IsPlainWay}
 use Rattle.dlk_reach.proofs.Goes.{Goes, rule_goes, substitute_goes, merge_goes, apply_goes, start_goes, leaf_goes}
 use Rattle.dlk_reach.proofs.Equivalence.{IsFine, fine_is, over_two, alone, few, few_each, two_goals, equiv_well, Site, with_goal, only_goal, proof_of, Comes, equivalence_goes}
 use Rattle.dlk_reach.proofs.Context.{plugged, nothing_free}
 use Rattle.dlk_reach.proofs.Terms.{for_p, term_stays}
-
-abbrev cq : AxiomaticRule
-cq = record { name = codes "CQ"; premise = eq f g; conclusion = equiv (p_of f) (p_of g) }
 
 -- a well-made term
 pub record IsTerm (t : Tree) : Type 0 where

@@ -12,7 +12,6 @@ use Rattle.dlk_tree.specs.Occurs.{any_has, has_symbol}
 use Rattle.dlk_tree.specs.Statics.{all, none, free}
 use Rattle.dlk_tree.specs.Table.{kind_row}
 use Rattle.dlk_calculus.specs.Captures.{AreApart}
-use Rattle.dlk_calculus.specs.Axioms.{AxiomaticRule}
 use Rattle.dlk_calculus.specs.Limits.{most_leaves, most_rows, IsSmall, IsShallow}
 use Rattle.dlk_calculus.specs.Limited.{InSequent, InProvable, HasFewFormulas}
 use Rattle.dlk_calculus.specs.Notation.{leaf, two, p, q, c_of}
@@ -28,7 +27,7 @@ use Rattle.dlk_calculus.specs.Subst.{Subst, IsAdmissible}
 use Rattle.dlk_calculus.proofs.PathLaws.{put_itself, put_fill}
 use Rattle.dlk_sequent.specs.declared.sequent.Place.TheVariants.{Succ}
 use Rattle.dlk_uses.specs.Uses.{Forwards, Spot, any_p, any_q, context_c, ◌~>◌, exchange, by_equivalence}
-use Rattle.dlk_uses.proofs.Substituted.{pairs_of_ce}
+use Rattle.dlk_uses.proofs.Substituted.{pairs_of_ce, ce}
 use Rattle.dlk_reach.proofs.Goes.{Goes, goes_nowhere, rule_goes, substitute_goes, merge_goes, apply_goes}
 
 -- small enough that two of them make a formula within the limits
@@ -58,9 +57,6 @@ two_goals P c a b leaves h x y = record {
 pub few_each : (a b : Tree) → All HasFewFormulas (alone_right a ∷ alone_right b ∷ [])
 few_each a b = All-cons HasFewFormulas (alone_right a) (alone_right b ∷ []) (few a)
     (All-cons HasFewFormulas (alone_right b) [] (few b) (All-nil HasFewFormulas))
-
-abbrev ce : AxiomaticRule
-ce = record { name = codes "CE"; premise = equiv p q; conclusion = equiv (c_of p) (c_of q) }
 
 module _ (l r k : Tree) (left : WellMade l) (right : WellMade r) where
   abbrev pairs : List Pair

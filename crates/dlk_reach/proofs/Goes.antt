@@ -17,6 +17,7 @@ use Rattle.dlk_calculus.specs.Steps.{use_axiom as by_axiom, start as by_start, l
 use Rattle.dlk_calculus.specs.Steps.{too_big, too_deep, start_full, leaf_full, side_full, goals_applied, goals_merged, leaves_merged}
 use Rattle.dlk_calculus.proofs.LimitLaws.{taken_as_given}
 use Rattle.dlk_kernel.specs.Taken.{Takes, none, more}
+use Rattle.dlk_kernel.proofs.Limited.{rule_within, axiom_within, rename_within}
 use Rattle.dlk_uses.proofs.Fitting.{Added, added}
 
 -- the steps are taken, and then this holds
@@ -42,10 +43,6 @@ step_goes rows n step steps p P e few gives within others =
       takes = takes_first ((taken_as_given rows step p).1 (gives, within, omega (arith, e, few))) rest.takes;
       holds = rest.holds;
     }
-
-rule_within : (name : List ℕ) (p : Provable) → IsWithin (UseRule name) p
-rule_within name p why (too_big h) = h tt
-rule_within name p why (too_deep h) = h tt
 
 pub rule_goes : (rows : List Provable) (n : ℕ) (name : List ℕ) (r : AxiomaticRule) (steps : List Step) (P : List Provable → Type 0) → n ≡ length rows →
     n < most_rows → rule_named name ≡ Some r → ((after : List Provable) → Added rows n (inferred r.premise r.conclusion) after → Goes after steps P) →
@@ -118,19 +115,11 @@ pub leaf_goes : (rows : List Provable) (n : ℕ) (s : Sequent) (steps : List Ste
 leaf_goes rows n s steps P e few is arithmetic small shallow sides others =
     step_goes rows n (Leaf s) steps (assumed s) P e few (by_leaf s is arithmetic) (leaf_within s (assumed s) small shallow sides) others
 
-axiom_within : (name : List ℕ) (p : Provable) → IsWithin (UseAxiom name) p
-axiom_within name p why (too_big h) = h tt
-axiom_within name p why (too_deep h) = h tt
-
 pub axiom_goes : (rows : List Provable) (n : ℕ) (name : List ℕ) (a : Axiom) (steps : List Step) (P : List Provable → Type 0) → n ≡ length rows →
     n < most_rows → axiom_named name ≡ Some a → ((after : List Provable) → Added rows n (known a.formula) after → Goes after steps P) →
     Goes rows (UseAxiom name ∷ steps) P
 axiom_goes rows n name a steps P e few named others =
     step_goes rows n (UseAxiom name) steps (known a.formula) P e few (by_axiom name a named) (axiom_within name _) others
-
-rename_within : (m : ℕ) (x y : List ℕ) (p : Provable) → IsWithin (Rename m x y) p
-rename_within m x y p why (too_big h) = h tt
-rename_within m x y p why (too_deep h) = h tt
 
 pub rename_goes : (rows : List Provable) (n m : ℕ) (x y : List ℕ) (p : Provable) (steps : List Step) (P : List Provable → Type 0) → n ≡ length rows →
     n < most_rows → At rows m p → IsTrue (is_name x) → IsTrue (is_name y) →

@@ -1,6 +1,6 @@
 -- Where a use acts: what it wants of a formula, from the formula's own facts.
 use Rattle.std.proofs.Common.{◌≡◌, ℕ, suc, zero, ◌+◌, ◌≤◌, List, [], ◌∷◌, refl, sym, ap, ◌∙◌, arith, Some, false, true, Bool}
-use Rattle.std.specs.Prelude.{◌||◌, ◌&&◌}
+use Rattle.std.specs.Prelude.{◌&&◌}
 use Rattle.std.proofs.lemmas.Bool.{or_parts}
 use Rattle.dlk_tree.specs.declared.op.Op.{Op}
 use Rattle.dlk_tree.specs.declared.op.Op.TheVariants as Op'
@@ -19,9 +19,7 @@ use Rattle.dlk_reach.proofs.Equivalence.{IsFine, Site}
 use Rattle.dlk_reach.proofs.Equation.{TermSite}
 use Rattle.dlk_reach.proofs.Formed.{formed_of}
 use Rattle.dlk_reach.proofs.Terms.{for_p}
-
-or_false : {a b : Bool} → a ≡ false → b ≡ false → (a || b) ≡ false
-or_false e f = rw (e, f) refl
+use Rattle.dlk_reach.proofs.Clean.{or_false}
 
 -- ---- what is put
 

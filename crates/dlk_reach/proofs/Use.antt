@@ -23,8 +23,7 @@ use Rattle.dlk_calculus.proofs.PathLaws.{put_made, put_sort, put_there, subtree_
 use Rattle.dlk_kernel.specs.Taken.{Takes}
 use Rattle.dlk_match.specs.Matching.{Match}
 use Rattle.dlk_sequent.specs.declared.sequent.Place.TheVariants.{Succ}
-use Rattle.dlk_uses.specs.Uses.{Forwards, Use, key, may_stand, instance, by_equivalence, by_equation, by_conditional_equation, Finishes, equivalence, equation, conditional_equation, proved}
-use Rattle.dlk_uses.proofs.Instance.{proved_is}
+use Rattle.dlk_uses.specs.Uses.{Forwards, Use, key, may_stand, instance, by_equivalence, by_equation, by_conditional_equation, Finishes, equivalence, equation, conditional_equation}
 use Rattle.dlk_derive.specs.Derives.{use_of}
 use Rattle.dlk_derive.specs.Plans.{Call}
 use Rattle.dlk_derive.specs.Ways.{IsPlainWay}
@@ -65,17 +64,19 @@ atom_steps : (rows between after : List Provable) (n k : ℕ) (c : Sequent) (e f
     AtomSteps rows (length rows) 1 (use_of byte (Succ 1) (call_of name path)) (instance (length rows) x.its_axiom.name extra ++ rest) after
 atom_steps rows between after n k c e f leaves name path form extra rest x comes first is finishes then_on byte =
     let used = the_use x.its_axiom path in
-    let proves : proved between ≡ f = proved_is between (proof_of f []) f (subst (λ m. At between m (proof_of f [])) is.counted is.proof) refl in
     let taken : Takes rows (instance n x.its_axiom.name extra) between = subst (λ z. Takes rows (instance n z extra) between) (sym x.called) first in
-    let ends : Finishes k (only_goal n e) used e (proved between) rest = subst (λ z. Finishes k (only_goal n e) used e z rest) (sym proves) finishes in
     uses (alone_right e) used extra e between rest
     (with_goal c e leaves, subst (λ m. At rows m (with_goal c e leaves)) comes.counted comes.last, refl)
     (use_axiom used e x.there extra (record { name = name; names = (refl, name_alone); is_axiom = x.named })
     (record { formula = refl; inside = x.stands })
     (subst (λ form. IsTrue (may_stand form Forwards (Succ 1) path)) (sym x.form_is) x.may) x.matches)
     (subst (λ m. Takes rows (instance m x.its_axiom.name extra) between) comes.counted taken)
-    (subst (λ m. Finishes (length between) (only_goal m e) used e (proved between) rest) comes.counted
-    (subst (λ m. Finishes m (only_goal n e) used e (proved between) rest) is.counted ends)) then_on
+    (record {
+      f = f;
+      proves = record { row = proof_of f []; is_last = subst (λ m. At between m (proof_of f [])) is.counted is.proof; concludes = refl };
+      finishes = subst (λ m. Finishes (length between) (only_goal m e) used e f rest) comes.counted
+          (subst (λ m. Finishes m (only_goal n e) used e f rest) is.counted finishes);
+    }) then_on
 
 -- an atom's steps are taken, and behind at most 19 rows more the goal is this one
 pub record Used (rows : List Provable) (n : ℕ) (c : Sequent) (call : Call) (e : Tree) (leaves : List Sequent) (asked : List Tree) : Type 0 where

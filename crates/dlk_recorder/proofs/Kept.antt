@@ -3,6 +3,7 @@ use Rattle.std.proofs.Common.{◌≡◌, ℕ, ◌+◌, ◌<◌, ◌≤◌, List,
 use Rattle.dlk_tree.specs.Trees.{Tree}
 use Rattle.dlk_calculus.specs.Steps.{Step}
 use Rattle.dlk_nodes.specs.TermFiles.{nodes_after, its_lines, step_lines, ended, term_text}
+use Rattle.dlk_nodes.proofs.StepLines.{ended_both}
 
 -- what is kept, how many bytes there are so far, and what of the whole is left
 pub record Kept (text : List ℕ) (bytes limit : ℕ) (left whole : List ℕ) : Type 0 where
@@ -24,11 +25,6 @@ kept_more text more new left rest whole bytes after limit k left_is after_is kep
 }
 
 -- ---- the lines that are left
-
-ended_both : (lines more : List (List ℕ)) → ended (lines ++ more) ≡ ended lines ++ ended more
-ended_both [] more = refl
-ended_both (line ∷ lines) more =
-    ap (λ (l : List ℕ). line ++ 10 ∷ l) (ended_both lines more) ∙ sym (append_assoc line (10 ∷ ended lines) (ended more))
 
 -- behind these nodes: those of steps, numbered from this number on, and `done`
 abbrev pub left_text : List Tree → ℕ → List Step → List ℕ

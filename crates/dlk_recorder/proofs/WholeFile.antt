@@ -10,11 +10,10 @@ use Rattle.dlk_calculus.specs.Provables.{Provable}
 use Rattle.dlk_calculus.specs.Steps.{Step}
 use Rattle.dlk_calculus.proofs.LimitLaws.{taken_as_given}
 use Rattle.dlk_kernel.specs.Taken.{Takes, none, more}
-use Rattle.dlk_lines.specs.Parts.{Lacks}
 use Rattle.dlk_nodes.specs.Lines.{Done, done}
 use Rattle.dlk_nodes.specs.Recorded.{Records}
 use Rattle.dlk_nodes.specs.TermFiles.{all_nodes, first_lines, ended, term_text, AreWritable}
-use Rattle.dlk_nodes.proofs.Recordings.{recorded_state, recorded_flat}
+use Rattle.dlk_nodes.proofs.Recordings.{recorded_state, recorded_flat, IsOneLine}
 use Rattle.dlk_nodes.proofs.TermRecorded.{term_ends, term_recorded}
 use Rattle.dlk_replay.specs.Files.{before_first_line, is_line_feed, file_lines, Becomes, accepted, whole, SaySteps}
 use Rattle.dlk_replay.specs.Files.{done as ends_with}
@@ -22,9 +21,6 @@ use Rattle.dlk_replay.specs.Formats.{EndsFile, Format, SaysIn, behind_head}
 use Rattle.dlk_replay.proofs.RowsGiven.{as_many, begins, in_two, rows_given_at_last, steps_said}
 
 -- ---- the lines of a text
-
-abbrev IsOneLine : List ℕ → Type 0
-IsOneLine line = Lacks line 10
 
 -- a line with its line feed is the first line of a file
 first_line : (line rest : List ℕ) → IsOneLine line → file_lines (line ++ 10 ∷ rest) ≡ line ∷ file_lines rest

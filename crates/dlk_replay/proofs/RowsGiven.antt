@@ -1,7 +1,7 @@
 -- First lines that record steps which are taken give their rows.
 use Rattle.std.proofs.Common.{◌≡◌, ℕ, ◌+◌, true, List, [], ◌∷◌, ◌++◌, length, refl, sym, ap, subst, ◌∙◌, append_assoc, arith}
 use Rattle.std.specs.Prelude.{MatchBool}
-use Rattle.std.proofs.lemmas.List.{length_push}
+use Rattle.std.proofs.lemmas.List.{length_push, same_from_push}
 use Rattle.dlk_tree.specs.Trees.{Tree}
 use Rattle.dlk_calculus.specs.Provables.{Provable}
 use Rattle.dlk_calculus.specs.Steps.{Step, StepOf}
@@ -24,16 +24,6 @@ push_some xs x e =
     let none : length (xs ++ x ∷ []) ≡ 0 = ap length e in
     absurd (omega (arith, long, none))
 
-same_push : {A : Type 0} (xs ys : List A) (x y : A) → xs ++ x ∷ [] ≡ ys ++ y ∷ [] → (xs ≡ ys) × (x ≡ y)
-same_push [] [] x y e = (refl, cc)
-same_push [] (b ∷ ys) x y e = let tails : [] ≡ ys ++ y ∷ [] = cc in absurd (push_some ys y (sym tails))
-same_push (a ∷ xs) [] x y e = let tails : xs ++ x ∷ [] ≡ [] = cc in absurd (push_some xs x tails)
-same_push (a ∷ xs) (b ∷ ys) x y e =
-    let heads : a ≡ b = cc in
-    let tails : xs ++ x ∷ [] ≡ ys ++ y ∷ [] = cc in
-    let same = same_push xs ys x y tails in
-    (λ i. heads i ∷ same.0 i, same.1)
-
 -- what steps give of which the last is this one
 pub record LastTaken (before : List Step) (step : Step) (rows : List Provable) : Type 0 where
   pub first : List Provable
@@ -46,7 +36,7 @@ pub last_taken : (all : List Step) (rows : List Provable) → Takes [] all rows 
     LastTaken before step rows
 last_taken _ _ none before step e = absurd (push_some before step (sym e))
 last_taken _ _ (more {steps} {mid} {step = its} {p} first given) before step e =
-    let same = same_push steps before its step e in
+    let same = same_from_push steps before its step e in
     record {
       first = mid;
       row = p;

@@ -1,6 +1,6 @@
 -- The steps that the lines of a file say.
 use Rattle.std.proofs.Common.{◌≡◌, ◌∙◌, refl, sym, subst, ap, ℕ, ◌+◌, List, [], ◌∷◌, ◌++◌, length, append_assoc}
-use Rattle.std.proofs.lemmas.List.{length_push, append-nil}
+use Rattle.std.proofs.lemmas.List.{append-nil}
 use Rattle.dlk_calculus.specs.Provables.{Provable}
 use Rattle.dlk_calculus.specs.Steps.{Step, StepOf}
 use Rattle.dlk_kernel.specs.Taken.{Takes}
@@ -8,6 +8,7 @@ use Rattle.dlk_kernel.specs.Taken as took
 use Rattle.dlk_replay.specs.Files.{StepLines, no_lines, one_more, no_row, accepted, Verdict, whole, SaySteps, done, more, none, FileSteps}
 use Rattle.dlk_replay.specs.Formats.{Said, TakesStep, HasOtherNumber, TakesNone, EndsFile, Format, SaysInFile}
 use Rattle.dlk_replay.proofs.OneSaid.{one_said_in_file}
+use Rattle.dlk_replay.proofs.RowsGiven.{as_many}
 
 -- ---- one list of steps
 
@@ -51,11 +52,6 @@ one_list_of_steps before lines a b x y = one_list SaysInFile one_said_in_file be
 
 -- ---- the steps of first lines
 
-takes_many : (steps : List Step) (rows : List Provable) → Takes [] steps rows → length steps ≡ length rows
-takes_many _ _ took.none = refl
-takes_many _ _ (took.more {steps} {mid} {step} {p} before given) =
-    length_push steps step ∙ ap (λ n. n + 1) (takes_many steps mid before) ∙ sym (length_push mid p)
-
 -- first lines say these steps, which give these rows; what the lines behind them say comes behind
 pub record FrontSays (Says : Format) (front : List (List ℕ)) (steps : List Step) (rows : List Provable) : Type 0 where
   pub taken : Takes [] steps rows
@@ -90,7 +86,7 @@ module _ (Says : Format) where
   front_done front steps rows line f is = subst (SaySteps Says [] (front ++ line ∷ [])) (append-nil steps) (f.said (line ∷ []) [] (done is))
 
   pub front_many : (front : List (List ℕ)) (steps : List Step) (rows : List Provable) → FrontSays Says front steps rows → length steps ≡ length rows
-  front_many front steps rows f = takes_many steps rows f.taken
+  front_many front steps rows f = as_many steps rows f.taken
 
   front_says : (front : List (List ℕ)) (rows : List Provable) (last : ℕ) → StepLines Says front rows last → (steps : List Step) × FrontSays Says front steps rows
   front_says _ _ _ no_lines = ([], front_none)
@@ -120,4 +116,4 @@ accepted_takes_steps lines rows last s is says =
 
 pub accepted_as_many : (lines : List (List ℕ)) (rows : List Provable) (last : ℕ) (s : List Step) → Verdict lines (accepted rows last) →
     FileSteps lines s → length s ≡ length rows
-accepted_as_many lines rows last s is says = takes_many s rows (accepted_takes_steps lines rows last s is says)
+accepted_as_many lines rows last s is says = as_many s rows (accepted_takes_steps lines rows last s is says)

@@ -11,7 +11,16 @@ use Rattle.dlk_rules.specs.Steps.{step_at}
 use Rattle.dlk_store.specs.declared.Id.{Id}
 use Rattle.dlk_store.specs.Stores.{IsId, tree, Keeps, HasOneId}
 use Rattle.dlk_sequent.proofs.Kept.{IsId-kept, trees-kept}
+use Rattle.dlk_kernel.specs.declared.fault.StepFault.{StepFault}
+use Rattle.dlk_kernel.specs.declared.fault.StepFault.TheVariants as step_fault
+use Rattle.dlk_kernel.specs.Faults.{IsStepFault as IsRefused}
+use Rattle.dlk_lines.specs.declared.fault.LineFault.{LineFault}
+use Rattle.dlk_lines.specs.declared.fault.LineFault.TheVariants as line_fault
+use Rattle.dlk_lines.specs.Read.{IsLineFaultOf}
 use Rattle.dlk_termtext.specs.Lines as full
+use Rattle.dlk_nodes.specs.declared.fault.NodeFault.{NodeFault}
+use Rattle.dlk_nodes.specs.declared.fault.NodeFault.TheVariants as node_fault
+use Rattle.dlk_nodes.specs.Faults.{IsNodeFaultOf}
 use Rattle.dlk_nodes.specs.Lines.{Line, OfNode, Numbered, Done, IsLine}
 use Rattle.dlk_nodes.specs.Nodes.{has_node, IsNode, new_node, IsNodeLine, node_line}
 use Rattle.dlk_nodes.specs.Tables.{nodes_at, has}
@@ -21,7 +30,7 @@ use Rattle.dlk_replay.specs.declared.fault.LineWhy.TheVariants as why
 use Rattle.dlk_replay.specs.declared.fault.ReplayFault.{ReplayFault}
 use Rattle.dlk_replay.specs.declared.fault.ReplayFault.TheVariants.{Bad, Memory}
 use Rattle.dlk_replay.specs.Formats.{Said, TakesStep, HasOtherNumber, TakesNone, said_of}
-use Rattle.dlk_replay.specs.Replay.{IsLineInFull, IsNextStep, IsLineFault, IsStepFault, IsNodeFault}
+use Rattle.dlk_replay.specs.Replay.{IsLineInFull, IsNextStep, IsLineFault, IsStepFault, IsNodeFault, of_text, of_node_text, of_step}
 
 -- ---- a number that isn't the next one
 
@@ -57,6 +66,18 @@ module _ (Is : List ℕ → Line → Type 0) (text : List ℕ) where
       (there, (step, subst (λ n. Is text (Numbered n step)) number_is is, subst (λ ps. Fault ps step reason) same fault))
   step_wrong nodes place number rows read step Memory is same wrong = tt
 
+  -- ---- texts that say nothing
+
+  pub text_wrong : (nodes place : ℕ) (rows : List Provable) (fault : LineFault) → IsLineFaultOf ((line : Line) → ¬ Is text line) fault →
+      IsLineFault Is nodes place rows text (of_text place fault)
+  text_wrong nodes place rows line_fault.Malformed none = (refl, none)
+  text_wrong nodes place rows line_fault.Memory none = tt
+
+  pub node_text_wrong : (nodes place : ℕ) (rows : List Provable) (fault : NodeFault) → IsNodeFaultOf ((line : Line) → ¬ Is text line) fault →
+      IsLineFault Is nodes place rows text (of_node_text place fault)
+  node_text_wrong nodes place rows node_fault.Malformed none = (refl, none)
+  node_text_wrong nodes place rows node_fault.Memory none = tt
+
   -- ---- nodes
 
   pub node_wrong : (nodes place number : ℕ) (rows : List Provable) (t : Tree) (fault : ReplayFault) → Is text (OfNode number t) →
@@ -67,6 +88,13 @@ module _ (Is : List ℕ → Line → Type 0) (text : List ℕ) where
   node_wrong nodes place number rows t (Bad at why.NoEnd) is wrong = absurd wrong
   node_wrong nodes place number rows t (Bad at (why.Step reason)) is wrong = absurd wrong
   node_wrong nodes place number rows t Memory is wrong = tt
+
+-- ---- a step that the kernel doesn't take
+
+pub step_refused : (place number : ℕ) (rows : List Provable) (step : Step) (fault : StepFault) → number ≡ length rows + 1 →
+    IsRefused (Fault rows step) fault → IsStepFault place number rows step (of_step place fault)
+step_refused place number rows step (step_fault.Refused reason) own why = (refl, own, why)
+step_refused place number rows step step_fault.Memory own why = tt
 
 -- ---- version 1
 

@@ -9,7 +9,13 @@ use Rattle.dlk_guard.specs.Guarded.{Line as SeenLine, lines as seen_lines}
 use Rattle.dlk_guard.specs.Watched.{after_all}
 use Rattle.dlk_store.specs.declared.Id.{Id}
 use Rattle.dlk_store.specs.Stores.{IsId, tree}
+use Rattle.dlk_kernel.specs.declared.fault.StepFault.{StepFault}
+use Rattle.dlk_kernel.specs.declared.fault.StepFault.TheVariants as step_fault
+use Rattle.dlk_lines.specs.declared.fault.LineFault.{LineFault}
+use Rattle.dlk_lines.specs.declared.fault.LineFault.TheVariants as line_fault
 use Rattle.dlk_termtext.specs.Lines as full
+use Rattle.dlk_nodes.specs.declared.fault.NodeFault.{NodeFault}
+use Rattle.dlk_nodes.specs.declared.fault.NodeFault.TheVariants as node_fault
 use Rattle.dlk_nodes.specs.Files.{head_line}
 use Rattle.dlk_nodes.specs.Lines.{Line, OfNode, Numbered, Done, IsLine}
 use Rattle.dlk_nodes.specs.Tables.{nodes_at}
@@ -34,6 +40,21 @@ IsReplayFaultOf lines Memory = Unit {0}
 abbrev pub LeavesRows : List (List ℕ) → List Provable → ReplayFault → Type 0
 LeavesRows lines rows (Bad line reason) = FileRows (take (line - 1) lines) rows
 LeavesRows lines rows Memory = (n : ℕ) × FileRows (take n lines) rows
+
+-- the fault of the line at this place whose text says nothing
+abbrev pub of_text : ℕ → LineFault → ReplayFault
+of_text place line_fault.Malformed = Bad place why.Malformed
+of_text place line_fault.Memory = Memory
+
+-- in version 2
+abbrev pub of_node_text : ℕ → NodeFault → ReplayFault
+of_node_text place node_fault.Malformed = Bad place why.Malformed
+of_node_text place node_fault.Memory = Memory
+
+-- and of one whose step the kernel doesn't take
+abbrev pub of_step : ℕ → StepFault → ReplayFault
+of_step place (step_fault.Refused reason) = Bad place (why.Step reason)
+of_step place step_fault.Memory = Memory
 
 -- ---- one line
 

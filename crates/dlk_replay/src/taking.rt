@@ -1,5 +1,5 @@
 //! One line of a file.
-ghost use Rattle.std.specs.Prelude.{◌≡◌, ◌<◌, ◌≤◌, ◌+◌, ◌∷◌, ◌++◌, [], ℕ, List, length, false, All, OnOk, IfOk, IfErr, OnErr};
+ghost use Rattle.std.specs.Prelude.{◌≡◌, ◌≢◌, ◌<◌, ◌≤◌, ◌+◌, ◌∷◌, ◌++◌, [], ℕ, List, length, false, All, Err, OnOk, IfOk, IfErr, OnErr};
 ghost use Rattle.std.specs.List.{position_or_len};
 ghost use Rattle.dlk_calculus.specs.Steps.{Adds};
 ghost use Rattle.dlk_store.specs.Stores.{IsId};
@@ -7,9 +7,11 @@ ghost use Rattle.dlk_rules.specs.Steps.{step_at, HasKnownIds};
 ghost use Rattle.dlk_kernel.specs.Kernel.{facts};
 ghost use Rattle.dlk_nodes.specs.Lines.{IsLine};
 ghost use Rattle.dlk_nodes.specs.Tables.{nodes_at, has};
+ghost use Rattle.dlk_replay.specs.declared.fault.LineWhy.TheVariants.{WrongNumber};
+ghost use Rattle.dlk_replay.specs.declared.fault.ReplayFault.TheVariants.{Bad};
 ghost use Rattle.dlk_replay.specs.declared.version.Version.TheVariants.{One, Two};
 ghost use Rattle.dlk_replay.specs.Files.{file_lines, is_line_feed};
-ghost use Rattle.dlk_replay.specs.Replay.{IsLineInFull, IsLineOf, nodes_of, AreKnownNodes, IsLineFault, IsStepFault, IsNodeFault, Takes, SeesLast};
+ghost use Rattle.dlk_replay.specs.Replay.{IsLineInFull, IsLineOf, nodes_of, AreKnownNodes, IsLineFault, IsStepFault, IsNodeFault, of_text, of_node_text, of_step, Takes, SeesLast};
 
 use crate::fault::{LineWhy, ReplayFault};
 use crate::version::Version;
@@ -75,11 +77,7 @@ fn take_in_full<S: Store, L: Ledger>(
             take_step(alloc, &step, number, place, kernel, steps)?;
             Ok(Taken::Step(step))
         }
-        Err(LineFault::Malformed) => Err(ReplayFault::Bad {
-            line: place,
-            why: LineWhy::Malformed,
-        }),
-        Err(LineFault::Memory) => Err(ReplayFault::Memory),
+        Err(fault) => Err(of_text(place, fault)),
     }
 }
 
@@ -111,11 +109,7 @@ fn take_by_nodes<S: Store, L: Ledger>(
             take_step(alloc, &step, number, place, kernel, steps)?;
             Ok(Taken::Step(step))
         }
-        Err(NodeFault::Malformed) => Err(ReplayFault::Bad {
-            line: place,
-            why: LineWhy::Malformed,
-        }),
-        Err(NodeFault::Memory) => Err(ReplayFault::Memory),
+        Err(fault) => Err(of_node_text(place, fault)),
     }
 }
 
@@ -132,6 +126,7 @@ fn take_step<S: Store, L: Ledger>(
     ensures number { OnOk result (number ≡ length kernel.old.rows + 1) }
     ensures adds { OnOk result (Adds (facts S.trees kernel.old) (step_at (S.trees kernel.old.store) step.now) (facts S.trees kernel.new)) }
     ensures fault { IfErr result (IsStepFault place number (facts S.trees kernel.old) (step_at (S.trees kernel.old.store) step.now)) }
+    ensures owed { number ≢ length kernel.old.rows + 1 → result ≡ Err (Bad place WrongNumber) }
     ensures err { OnErr result (facts S.trees kernel.new ≡ facts S.trees kernel.old) }
     ensures grows { S.grows kernel.old.store kernel.new.store }
 {
@@ -143,11 +138,46 @@ fn take_step<S: Store, L: Ledger>(
     }
     match kernel.step(alloc, step, steps) {
         Ok(_) => Ok(()),
-        Err(StepFault::Refused(reason)) => Err(ReplayFault::Bad {
+        Err(fault) => Err(of_step(place, fault)),
+    }
+}
+
+/// The fault of the line at this place whose text says nothing.
+fn of_text(place: usize, fault: LineFault) -> ReplayFault
+    ensures { result ≡ of_text place fault }
+{
+    match fault {
+        LineFault::Malformed => ReplayFault::Bad {
+            line: place,
+            why: LineWhy::Malformed,
+        },
+        LineFault::Memory => ReplayFault::Memory,
+    }
+}
+
+/// The same in version 2.
+fn of_node_text(place: usize, fault: NodeFault) -> ReplayFault
+    ensures { result ≡ of_node_text place fault }
+{
+    match fault {
+        NodeFault::Malformed => ReplayFault::Bad {
+            line: place,
+            why: LineWhy::Malformed,
+        },
+        NodeFault::Memory => ReplayFault::Memory,
+    }
+}
+
+/// The fault of the line at this place whose step the kernel doesn't take.
+fn of_step(place: usize, fault: StepFault) -> ReplayFault
+    ensures { result ≡ of_step place fault }
+{
+    match fault {
+        StepFault::Refused(reason) => ReplayFault::Bad {
             line: place,
             why: LineWhy::Step(reason),
-        }),
-        Err(StepFault::Memory) => Err(ReplayFault::Memory),
+        },
+        StepFault::Memory => ReplayFault::Memory,
     }
 }
 

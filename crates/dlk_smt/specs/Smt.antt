@@ -107,50 +107,34 @@ exponent no_kids = None
 exponent (kid base no_kids) = None
 exponent (kid base (kid t rest)) = small_whole (root t)
 
--- the table of operators: the expression of each over these kids, whose expressions are these
+-- the table of operators of arithmetic: the expression of each over these kids, whose expressions are these; an operator that isn't here
+-- has none
 abbrev pub translated : Op → Forest → Exprs → Expr
 translated (op.Variable v) kids es = symbol (variable_symbol v)
-translated (op.Number n) kids es = constant (real n)
-translated (op.Dot n) kids es = no_expr
-translated (op.UnitFun s) kids es = no_expr
 translated (op.Apply s) kids es = symbol (function_symbol s.name)
+translated (op.Number n) kids es = constant (real n)
 translated op.Neg kids es = call (codes "-") es
-translated op.Diff kids es = no_expr
 translated op.Add kids es = call (codes "+") es
 translated op.Sub kids es = call (codes "-") es
 translated op.Mul kids es = call (codes "*") es
 translated op.Div kids es = call (codes "/") es
 translated op.Pow kids es = power (exponent kids) (first es)
-translated op.True kids es = constant (codes "true")
-translated op.False kids es = constant (codes "false")
-translated op.Hole kids es = no_expr
-translated (op.UnitPred s) kids es = no_expr
-translated (op.Holds s) kids es = no_expr
 translated op.Eq kids es = call (codes "=") es
 translated op.Ne kids es = negation (next (call (codes "=") es) none)
 translated op.Ge kids es = call (codes ">=") es
 translated op.Gt kids es = call (codes ">") es
 translated op.Le kids es = call (codes "<=") es
 translated op.Lt kids es = call (codes "<") es
-translated (op.Predicational s) kids es = no_expr
+translated op.True kids es = constant (codes "true")
+translated op.False kids es = constant (codes "false")
 translated op.Not kids es = negation es
-translated op.DiffF kids es = no_expr
-translated (op.Forall x) kids es = quantify (codes "forall") (variable_symbol (plain x)) (first es)
-translated (op.Exists x) kids es = quantify (codes "exists") (variable_symbol (plain x)) (first es)
 translated op.And kids es = call (codes "and") es
 translated op.Or kids es = call (codes "or") es
 translated op.Imply kids es = call (codes "=>") es
 translated op.Equiv kids es = call (codes "=") es
-translated op.Box kids es = no_expr
-translated op.Dia kids es = no_expr
-translated (op.Const s) kids es = no_expr
-translated (op.Assign v) kids es = no_expr
-translated (op.Any x) kids es = no_expr
-translated op.Test kids es = no_expr
-translated (op.System items) kids es = no_expr
-translated op.Choice kids es = no_expr
-translated op.Seq kids es = no_expr
-translated op.Loop kids es = no_expr
+translated (op.Forall x) kids es = quantify (codes "forall") (variable_symbol (plain x)) (first es)
+translated (op.Exists x) kids es = quantify (codes "exists") (variable_symbol (plain x)) (first es)
+translated _ kids es = no_expr
 
 abbrev mutual
   pub expression : Tree → Expr

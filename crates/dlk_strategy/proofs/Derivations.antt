@@ -12,6 +12,7 @@ use Rattle.dlk_tacsyn.specs.declared.tactic.Arg.{Arg}
 use Rattle.dlk_tacsyn.specs.declared.tactic.Arg.TheVariants as arg
 use Rattle.dlk_tacsyn.specs.declared.tactic.Atom.{Atom as GivenAtom}
 use Rattle.dlk_tacsyn.specs.Ties.{argument_at, atom_at}
+use Rattle.dlk_library.proofs.Names.{derive_own}
 use Rattle.dlk_strategy.specs.Runs.{is_derive}
 
 none_some : (o : Option Row) (a : Row) → o ≡ None → o ≡ Some a → ⊥
@@ -57,10 +58,6 @@ pub given_place : (trees : List Tree) (atom : GivenAtom) → IsDerivation (atom_
     (place : Place) × (path : List ℕ) × (atom.args ≡ arg.At place path ∷ [])
 given_place trees atom h = only_given trees atom.args (derivation_kinds (atom_at trees atom) h)
 
-derive_no_row : row_of (codes "derive") ≡ None
-unfolding row_of
-derive_no_row = refl
-
 -- a fitting atom has another name
 pub fitting_is : (atom : Atom) → IsFitting atom → is_derive atom ≡ false
 fitting_is atom h = by (is_derive atom) refl
@@ -69,7 +66,7 @@ fitting_is atom h = by (is_derive atom) refl
     by false e = e
     by true e =
         let name : atom.name ≡ codes "derive" = (bytes_eq-Decides atom.name (codes "derive")).0 e in
-        absurd (none_some (row_of atom.name) h.row (ap row_of name ∙ derive_no_row) h.row_is)
+        absurd (none_some (row_of atom.name) h.row (ap row_of name ∙ derive_own) h.row_is)
 
 true_false : true ≡ false → ⊥
 true_false e = cc e

@@ -1,6 +1,5 @@
 -- `derive` alone on a model: the uses of its plan are a run, and nothing else becomes of it.
-use Rattle.std.specs.Prelude.{codes}
-use Rattle.std.proofs.Common.{◌≡◌, ℕ, suc, ◌+◌, ◌≤◌, List, [], ◌∷◌, ◌++◌, length, map, Some, None, Ok, Err, refl, sym, ap, subst, ◌∙◌, arith}
+use Rattle.std.proofs.Common.{◌≡◌, ℕ, suc, ◌+◌, ◌≤◌, List, [], ◌∷◌, ◌++◌, length, map, Some, Ok, Err, refl, sym, ap, subst, ◌∙◌, arith}
 use Rattle.dlk_tree.specs.Trees.{Tree}
 use Rattle.dlk_sequent.specs.declared.sequent.Place.TheVariants.{Succ}
 use Rattle.dlk_calculus.specs.Paths.{put_at}
@@ -8,8 +7,8 @@ use Rattle.dlk_calculus.specs.Provables.{Provable, started}
 use Rattle.dlk_calculus.specs.Sequents.{alone_right}
 use Rattle.dlk_calculus.specs.Steps.{Step, Start}
 use Rattle.dlk_tacsyn.specs.Tactics.{Tactic}
-use Rattle.dlk_tacsyn.specs.Rows.{library_row_of}
 use Rattle.dlk_library.specs.Expanded.{Expanded, itself}
+use Rattle.dlk_library.proofs.Names.{derive_own}
 use Rattle.dlk_derive.specs.Derives.{Plans, use_of}
 use Rattle.dlk_derive.specs.Plans.{Call, plan_at}
 use Rattle.dlk_derive.specs.Rewriting.{conditions}
@@ -46,11 +45,6 @@ uses_run byte used _ before rows after (first {call = call} {calls = calls} {bet
           (Done (record { steps = behind.0; rows = after; used = n }) 1)) count behind.1),
     )
 
--- `derive` is no name of the library
-no_library_name : library_row_of (codes "derive") ≡ None
-unfolding library_row_of
-no_library_name = refl
-
 -- what the uses reach, the run makes
 pub derive_done : (byte : ℕ) (model k d : Tree) (path : List ℕ) → Reaches byte (plan_at k path) model (put_at model path d) (conditions k) →
     Plans (Some model) path (plan_at k path) → length (plan_at k path) ≤ 149 →
@@ -61,7 +55,7 @@ derive_done byte model k d path reaches planned few =
       record { steps = run.0; rows = reaches.after; used = 1 + length (plan_at k path) },
       record {
         expansion = derive_at byte path;
-        expanded = itself no_library_name;
+        expanded = itself derive_own;
         runs = record {
           provable = started s;
           start = reaches.start;

@@ -10,6 +10,7 @@ mod Begun
 mod OneOnce
 mod SomeFate
 mod States
+mod Faults
 mod Locators
 mod Trying
 mod FixedAtoms
@@ -18,7 +19,6 @@ mod Parts
 mod Counted
 mod Repeating
 mod Choosing
-mod Depths
 mod Expanding
 mod Derivations
 mod Uses

@@ -1,22 +1,18 @@
 -- The goals of the last row.
 use Rattle.std.proofs.Common.{◌≡◌, ℕ, suc, ◌≤◌, List, [], ◌∷◌, length, refl, sym, ap, ◌∙◌, arith}
-use Rattle.std.specs.List.{All, slice_get}
+use Rattle.std.specs.List.{All}
 use Rattle.std.specs.Prelude.{Some}
 use Rattle.std.proofs.lemmas.List.Elements.{All-head, All-tail}
-use Rattle.std.proofs.Math.Dec.{eqb-suc-zero}
 use Rattle.std.proofs.Common.{◌-◌}
 use Rattle.dlk_calculus.specs.Places.{at, At}
 use Rattle.dlk_calculus.specs.Provables.{Provable}
 use Rattle.dlk_calculus.specs.Limits.{most_goals}
 use Rattle.dlk_calculus.specs.Limited.{IsLimited, IsLimitedSequent, HasFewFormulas}
 use Rattle.dlk_calculus.specs.Sequents.{Sequent}
+use Rattle.dlk_calculus.proofs.PlaceLaws.{At_All, At_place, at_suc}
 use Rattle.dlk_sequent.specs.declared.sequent.Sequent.{Sequent as Shown}
-use Rattle.dlk_elab.proofs.Places.{At_All, At_place}
 use Rattle.std.proofs.Common.{map}
 use Rattle.dlk_strategy.specs.Runs.{main_goals}
-
-pub at_suc : {A : Type 0} (items : List A) (n : ℕ) → at items (suc n) ≡ slice_get items n
-at_suc items n = let e : suc n - 1 ≡ n = omega arith in rw (eqb-suc-zero n, e)
 
 at_last : (q r : Provable) (rows : List Provable) → at (q ∷ (r ∷ rows)) (length (q ∷ (r ∷ rows))) ≡ at (r ∷ rows) (length (r ∷ rows))
 at_last q r rows = at_suc (q ∷ (r ∷ rows)) (suc (length rows)) ∙ sym (at_suc (r ∷ rows) (length rows))

@@ -18,6 +18,7 @@ use Rattle.dlk_elab.specs.declared.fault.FailWhy.{FailWhy}
 use Rattle.dlk_elab.specs.declared.fault.FailWhy.TheVariants as fail
 use Rattle.dlk_elab.specs.Outcomes.{most_steps}
 use Rattle.dlk_elab.specs.Ties.{IsOnFaultOf}
+use Rattle.dlk_elab.proofs.StepSymbols.{taken_behind}
 use Rattle.dlk_strategy.specs.declared.fault.RunFault.{RunFault}
 use Rattle.dlk_strategy.specs.declared.fault.RunFault.TheVariants as fault
 use Rattle.dlk_strategy.specs.Runs.{Progress, Outcome, Done, Fails, Runs, RunsModel, RunsOn, behind, most_runs}
@@ -27,7 +28,7 @@ use Rattle.dlk_strategy.proofs.Advancing.{Rises, Advances, advance_fate}
 use Rattle.dlk_strategy.proofs.Blind.{blind_fate}
 use Rattle.dlk_strategy.proofs.Keeping.{keeps_fate}
 use Rattle.dlk_strategy.proofs.OneFate.{IsOne}
-use Rattle.dlk_strategy.proofs.TakenSteps.{AnyAtom, each_any, uses_any, takes_both}
+use Rattle.dlk_strategy.proofs.TakenSteps.{AnyAtom, each_any, uses_any}
 
 -- rows, with nothing made of them so far
 abbrev pub fresh : List Provable → ℕ → Progress
@@ -75,7 +76,7 @@ module _ (atom_taken : (rows : List Provable) (fact goal : ℕ) (atom : Atom) (s
   taken_on : (rows : List Provable) (now : Progress) (goal : ℕ) (atom : Atom) (new : List Step) (after : List Provable) → AreTaken rows now →
       AtomSteps now.rows (length now.rows) goal atom new after → Takes rows (now.steps ++ new) after
   taken_on rows now goal atom new after taken made =
-      takes_both rows now.rows after now.steps new taken (atom_taken now.rows (length now.rows) goal atom new after made)
+      taken_behind rows now.rows after now.steps new taken (atom_taken now.rows (length now.rows) goal atom new after made)
 
   pub on_taken : (t : Tactic) (rows : List Provable) (goal used : ℕ) (made : Progress) (left : ℕ) → RunsOn t rows goal used (Done made left) →
       Takes rows made.steps made.rows

@@ -18,11 +18,12 @@ use Rattle.dlk_derive.specs.Derives.{Plans, use_of}
 use Rattle.dlk_library.specs.Expanded.{Expanded}
 use Rattle.dlk_elab.specs.Atoms.{AtomSteps, Replaces}
 use Rattle.dlk_elab.specs.Symbols.{ReplacesSymbols}
+use Rattle.dlk_elab.proofs.StepSymbols.{taken_behind}
 use Rattle.dlk_strategy.specs.Runs.{Progress, Done, RunsOn}
 use Rattle.dlk_strategy.proofs.FixedAtoms.{all_named}
 use Rattle.dlk_strategy.proofs.Keeping.{keeps_fate}
 use Rattle.dlk_strategy.proofs.OnGoal.{fresh}
-use Rattle.dlk_strategy.proofs.TakenSteps.{AnyAtom, uses_any, each_any, takes_both}
+use Rattle.dlk_strategy.proofs.TakenSteps.{AnyAtom, uses_any, each_any}
 
 -- the steps are taken in turn behind those that gave the rows, and what they replace are symbols
 abbrev IsSymbolic : List Step → Progress → Type 0
@@ -41,7 +42,7 @@ module _ (atom_taken : (rows : List Provable) (fact goal : ℕ) (atom : Atom) (s
       Takes [] (before ++ (now.steps ++ new)) rows × All ReplacesSymbols (now.steps ++ new)
   symbolic_on before now goal atom new rows names h by =
       let formulas = taken_formulas (before ++ now.steps) now.rows h.0 in
-      let taken = takes_both [] now.rows rows (before ++ now.steps) new h.0 (atom_taken now.rows (length now.rows) goal atom new rows by) in (
+      let taken = taken_behind [] now.rows rows (before ++ now.steps) new h.0 (atom_taken now.rows (length now.rows) goal atom new rows by) in (
         subst (λ (xs : List Step). Takes [] xs rows) (append_assoc before now.steps new) taken,
         All-append ReplacesSymbols now.steps new h.1 (atom_symbols now.rows (length now.rows) goal atom new rows formulas names by),
       )

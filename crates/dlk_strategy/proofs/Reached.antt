@@ -6,6 +6,7 @@ use Rattle.dlk_tree.specs.Trees.{Tree}
 use Rattle.dlk_calculus.specs.Limits.{most_goals}
 use Rattle.dlk_kernel.specs.Kernel.{State, facts, provable_at, ExtendsRows, SameRows}
 use Rattle.dlk_elab.specs.declared.fault.FailWhy.{FailWhy}
+use Rattle.dlk_elab.proofs.Rows.{rows_stay, rows_longer}
 use Rattle.dlk_strategy.specs.declared.fault.RunFault.{RunFault}
 use Rattle.dlk_strategy.specs.declared.fault.RunFault.TheVariants as fault
 use Rattle.dlk_strategy.specs.declared.trace.Trace.{Trace}
@@ -57,31 +58,18 @@ pub facts_length : {S : Type 0} (trees : S → List Tree) (k : State S) → leng
 facts_length trees k = length-map k.rows (provable_at (trees k.store))
 
 module _ {S : Type 0} (trees : S → List Tree) where
-  -- rows that come first stay first
-  pub rows_here : (k : State S) → ExtendsRows trees k k
-  rows_here k = record { ids = take-length k.rows; provables = ap (λ n. take n (facts trees k)) (sym (facts_length trees k)) ∙ take-length (facts trees k) }
-
   pub extends_same : (k : State S) (t : Trace) (goal goals : ℕ) → IsReady trees k t goal goals → Extends trees k t k t
   extends_same k t goal goals ready = record {
-    rows = rows_here k;
+    rows = rows_stay trees k;
     steps = take-length t.steps.items;
     known = ready.known;
     counted = omega arith;
     within = ready.used;
   }
 
-  pub rows_on : (k k' k'' : State S) → ExtendsRows trees k k' → ExtendsRows trees k' k'' → ExtendsRows trees k k''
-  rows_on k k' k'' a b = record {
-    ids = prefix_on k.rows k'.rows k''.rows a.ids b.ids;
-    provables =
-        let p = ap (λ n. take n (facts trees k')) (facts_length trees k) ∙ a.provables in
-        let q = ap (λ n. take n (facts trees k'')) (facts_length trees k') ∙ b.provables in
-        ap (λ n. take n (facts trees k'')) (sym (facts_length trees k)) ∙ prefix_on (facts trees k) (facts trees k') (facts trees k'') p q;
-  }
-
   pub extends_on : (k : State S) (t : Trace) (k' : State S) (t' : Trace) (k'' : State S) (t'' : Trace) → Extends trees k t k' t' → Extends trees k' t' k'' t'' → Extends trees k t k'' t''
   extends_on k t k' t' k'' t'' a b = record {
-    rows = rows_on k k' k'' a.rows b.rows;
+    rows = rows_longer trees k k' k'' a.rows b.rows;
     steps = prefix_on t.steps.items t'.steps.items t''.steps.items a.steps b.steps;
     known = b.known;
     counted = omega (arith, a.counted, b.counted);

@@ -1,6 +1,6 @@
 -- What runs make of kernels and of what they keep.
-use Rattle.std.proofs.Common.{◌≡◌, ℕ, zero, suc, ◌+◌, ◌-◌, ◌≤◌, ◌<◌, List, [], ◌∷◌, ◌++◌, map, take, drop, length, get_or, refl, sym, ap, subst, ◌∙◌, arith, length-append, length-take, length-drop, Some}
-use Rattle.std.specs.List.{All, slice_get}
+use Rattle.std.proofs.Common.{◌≡◌, ℕ, zero, suc, ◌+◌, ◌-◌, ◌≤◌, ◌<◌, List, [], ◌∷◌, ◌++◌, map, take, drop, length, get_or, refl, sym, ap, subst, ◌∙◌, arith, length-append, length-take, length-drop}
+use Rattle.std.specs.List.{All}
 use Rattle.std.proofs.lemmas.List.{map-append, length-map, take_all}
 use Rattle.std.proofs.lemmas.List.Elements.{All-head, All-tail, All-append, All-weaker}
 use Rattle.std.proofs.Math.Seq.{take-length, drop-cons}
@@ -9,16 +9,18 @@ use Rattle.dlk_store.specs.Stores.{Keeps}
 use Rattle.dlk_calculus.specs.Places.{At, put_all}
 use Rattle.dlk_calculus.specs.Provables.{Provable}
 use Rattle.dlk_calculus.specs.Steps.{Step as TreeStep}
+use Rattle.dlk_calculus.proofs.PlaceLaws.{at_suc}
 use Rattle.dlk_rules.specs.declared.step.Step.{Step}
 use Rattle.dlk_rules.specs.Steps.{step_at, HasKnownIds}
+use Rattle.dlk_strategy.proofs.StepsKept.{step_known, step_same}
 use Rattle.dlk_kernel.specs.Kernel.{State, facts, provable_at, ExtendsRows, SameRows}
 use Rattle.dlk_tacsyn.specs.Tactics.{Atom}
 use Rattle.dlk_elab.specs.declared.fault.FailWhy.{FailWhy}
 use Rattle.dlk_elab.specs.Atoms.{AtomSteps, AtomFault, HasGoalAt}
 use Rattle.dlk_elab.proofs.Replaced.{replaced}
+use Rattle.dlk_elab.proofs.Decided.{item}
 use Rattle.dlk_strategy.specs.Runs.{Progress, Done, Fails, Once, steps, fault, most_runs, main_goals}
-use Rattle.dlk_strategy.proofs.StepsKept.{step_known, step_same}
-use Rattle.dlk_strategy.proofs.MainGoals.{last_goals, some_last, at_suc}
+use Rattle.dlk_strategy.proofs.MainGoals.{last_goals, some_last}
 
 module _ (old new : List Tree) (keeps : Keeps old new) where
   pub steps_same : (xs : List Step) → All (HasKnownIds old) xs → map (step_at new) xs ≡ map (step_at old) xs
@@ -38,15 +40,9 @@ module _ (old new : List Tree) (keeps : Keeps old new) where
   pub known_more : (xs ys all : List Step) → All (HasKnownIds old) xs → All (HasKnownIds new) ys → all ≡ xs ++ ys → All (HasKnownIds new) all
   known_more xs ys all h k e = rw e (All-append (HasKnownIds new) xs ys (steps_known xs h) k)
 
--- an item stands at each place
-pub there : {A : Type 0} (items : List A) (n : ℕ) → n < length items → (x : A) × (slice_get items n ≡ Some x)
-there [] n h = absurd (omega (arith, h))
-there (x ∷ xs) zero h = (x, refl)
-there (x ∷ xs) (suc n) h = there xs n (omega arith)
-
 pub at_place : {A : Type 0} (items : List A) (place : ℕ) → 1 ≤ place → place ≤ length items → (x : A) × At items place x
 at_place items zero h k = absurd (omega (arith, h))
-at_place items (suc n) h k = let found = there items n (omega arith) in (found.0, at_suc items n ∙ found.1)
+at_place items (suc n) h k = let found = item items n (omega arith) in (found.0, at_suc items n ∙ found.1)
 
 pub main_some : (rows : List Provable) → 1 ≤ length (main_goals rows) → 1 ≤ length rows
 main_some [] h = absurd (omega (arith, h))

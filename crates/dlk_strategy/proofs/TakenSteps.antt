@@ -1,14 +1,14 @@
 -- The steps of a run are taken in turn, what they replace are symbols, and the last row shows the formula.
-use Rattle.std.proofs.Common.{◌≡◌, ℕ, List, [], ◌∷◌, ◌++◌, map, length, Option, refl, sym, ap, subst, ◌∙◌, append_assoc}
+use Rattle.std.proofs.Common.{◌≡◌, ℕ, List, [], ◌∷◌, ◌++◌, map, length, Option, refl, ap, ◌∙◌}
 use Rattle.std.specs.List.{All}
-use Rattle.std.proofs.lemmas.List.{append-nil}
-use Rattle.std.proofs.lemmas.List.Elements.{All-nil, All-cons, All-push, All-append}
+use Rattle.std.proofs.lemmas.List.Elements.{All-nil, All-cons, All-append}
 use Rattle.dlk_tree.specs.Trees.{Tree}
 use Rattle.dlk_calculus.specs.Places.{At}
 use Rattle.dlk_calculus.specs.Sequents.{alone_right}
 use Rattle.dlk_calculus.specs.Provables.{Provable, HasFormulas}
-use Rattle.dlk_calculus.specs.Steps.{Step, Start, IsProper, Gives}
-use Rattle.dlk_calculus.specs.Steps.{start, use_axiom, use_rule, leaf, apply, merge, substitute, rename}
+use Rattle.dlk_calculus.specs.Steps.{Step, Start, Gives}
+use Rattle.dlk_calculus.specs.Steps.{start}
+use Rattle.dlk_calculus.proofs.PlaceLaws.{at_one}
 use Rattle.dlk_kernel.specs.Taken.{Takes}
 use Rattle.dlk_kernel.specs.Taken.{none as no_step, more as one_step}
 use Rattle.dlk_tacsyn.specs.Rows.{HasNames}
@@ -18,16 +18,10 @@ use Rattle.dlk_derive.specs.Plans.{Call}
 use Rattle.dlk_derive.specs.Derives.{Plans, use_of}
 use Rattle.dlk_elab.specs.Atoms.{AtomSteps, Replaces}
 use Rattle.dlk_elab.specs.Symbols.{ReplacesSymbols}
+use Rattle.dlk_elab.proofs.StepSymbols.{taken_behind}
 use Rattle.dlk_strategy.specs.Runs.{Progress, Done, RunsPlain}
 use Rattle.dlk_strategy.proofs.FixedAtoms.{all_named}
 use Rattle.dlk_strategy.proofs.Keeping.{keeps_fate}
-
--- steps that are taken behind others are taken with them
-pub takes_both : (rows mid after : List Provable) (first second : List Step) → Takes rows first mid → Takes mid second after →
-    Takes rows (first ++ second) after
-takes_both rows mid _ first _ p no_step = subst (λ xs. Takes rows xs mid) (sym (append-nil first)) p
-takes_both rows mid _ first _ p (one_step {steps = second} {mid = between} {step} {p = row} before is) =
-    subst (λ xs. Takes rows xs (between ++ row ∷ [])) (append_assoc first second (step ∷ [])) (one_step (takes_both rows mid between first second p before) is)
 
 -- the rows are what the steps give in turn
 abbrev pub IsTaken : Progress → Type 0
@@ -77,7 +71,7 @@ module _ (atom_taken : (rows : List Provable) (fact goal : ℕ) (atom : Atom) (s
     AtomSteps rows fact goal atom steps after → Takes rows steps after) where
   pub taken_on : (now : Progress) (goal : ℕ) (atom : Atom) (new : List Step) (rows : List Provable) → IsTaken now →
       AtomSteps now.rows (length now.rows) goal atom new rows → Takes [] (now.steps ++ new) rows
-  taken_on now goal atom new rows taken made = takes_both [] now.rows rows now.steps new taken (atom_taken now.rows (length now.rows) goal atom new rows made)
+  taken_on now goal atom new rows taken made = taken_behind [] now.rows rows now.steps new taken (atom_taken now.rows (length now.rows) goal atom new rows made)
 
   pub run_taken : (t : Tactic) (formula : Tree) (made : Progress) (left : ℕ) → RunsPlain t formula (Done made left) → Takes [] made.steps made.rows
   run_taken t formula made left r =
@@ -105,9 +99,6 @@ module _ (atom_taken : (rows : List Provable) (fact goal : ℕ) (atom : Atom) (s
         (keeps_fate IsSymbolic HasNames (λ now used h. h) (λ n atom h. all_named n atom.arguments h) plan_names symbolic_on t 1 1 names
         (begun formula r.provable) (Done made left) (one_step no_step r.start, all) r.run).1
 
-at_same : {A : Type 0} (items : List A) (place : ℕ) (x y : A) → At items place x → At items place y → x ≡ y
-at_same items place x y h k = cc
-
 -- what an atom leaves of the last row shows the formula, too
 module _ (atom_replaces : (rows : List Provable) (goal : ℕ) (atom : Atom) (steps : List Step) (after : List Provable) →
     AtomSteps rows (length rows) goal atom steps after → (new : _) × Replaces rows goal after new) where
@@ -115,7 +106,7 @@ module _ (atom_replaces : (rows : List Provable) (goal : ℕ) (atom : Atom) (ste
       AtomSteps now.rows (length now.rows) goal atom new rows → (p : Provable) × At rows (length rows) p × (p.conclusion ≡ alone_right formula)
   shows_on formula now goal atom new rows h by =
       let r = (atom_replaces now.rows goal atom new rows by).1 in
-      let same : r.old_last ≡ h.0 = at_same now.rows (length now.rows) r.old_last h.0 r.old_is h.1 in
+      let same : r.old_last ≡ h.0 = at_one now.rows (length now.rows) r.old_last h.0 r.old_is h.1 in
       (r.new_last, r.new_is, r.conclusion ∙ ap (λ (p : Provable). p.conclusion) same ∙ h.2)
 
   pub run_shows : (t : Tactic) (formula : Tree) (made : Progress) (left : ℕ) → RunsPlain t formula (Done made left) → Shows formula made
@@ -124,18 +115,3 @@ module _ (atom_replaces : (rows : List Provable) (goal : ℕ) (atom : Atom) (ste
       let first : Shows formula (begun formula r.provable) = (r.provable, refl, shown) in
       keeps_fate (Shows formula) AnyAtom (λ now used h. h) (λ n atom is. tt) uses_any (λ now goal atom new rows is h by. shows_on formula now goal atom new rows h by)
       t 1 1 (each_any t) (begun formula r.provable) (Done made left) first r.run
-
-given_proper : (rows : List Provable) (step : Step) (p : Provable) → Gives rows step p → IsProper step
-given_proper rows _ _ (start s is) = tt
-given_proper rows _ _ (use_axiom name a is) = tt
-given_proper rows _ _ (use_rule name r is) = tt
-given_proper rows _ _ (leaf s is arithmetic) = tt
-given_proper rows _ _ (apply fact goal rule p s premises row is_goal proper makes) = proper
-given_proper rows _ _ (merge fact goal by p q new row other is_goal are_new) = tt
-given_proper rows _ _ (substitute fact pairs p q row made formed bound subst) = made
-given_proper rows _ _ (rename fact x y p row x_is y_is) = (x_is, y_is)
-
-pub taken_proper : (rows after : List Provable) (steps : List Step) → Takes rows steps after → All IsProper steps
-taken_proper rows _ _ no_step = All-nil IsProper
-taken_proper rows _ _ (one_step {steps = before} {mid} {step} {p} taken is) =
-    All-push IsProper before step (taken_proper rows mid before taken) (given_proper mid step p is.given)

@@ -3,7 +3,7 @@ use Rattle.std.proofs.Common.{◌≡◌, ℕ, suc, ◌+◌, ◌-◌, ◌≤◌, 
 use Rattle.std.specs.List.{All}
 use Rattle.std.proofs.Math.Seq.{take-length}
 use Rattle.dlk_tree.specs.Trees.{Tree}
-use Rattle.dlk_store.specs.Stores.{Keeps, IsId}
+use Rattle.dlk_store.specs.Stores.{Keeps}
 use Rattle.dlk_calculus.specs.Places.{At}
 use Rattle.dlk_calculus.specs.Sequents.{Sequent}
 use Rattle.dlk_rules.specs.declared.arguments.Side.{Side}
@@ -15,26 +15,18 @@ use Rattle.dlk_tacsyn.specs.Tactics.{Atom}
 use Rattle.dlk_tacsyn.specs.declared.tactic.Arg.{Arg}
 use Rattle.dlk_tacsyn.specs.declared.tactic.Arg.TheVariants as arg
 use Rattle.dlk_tacsyn.specs.declared.tactic.Atom.{Atom as GivenAtom}
-use Rattle.dlk_sequent.specs.declared.subst.Pair.{Pair}
-use Rattle.dlk_sequent.specs.Substitutions.{pair_at, pairs_at, AreKnownPairs}
 use Rattle.dlk_tacsyn.specs.Tactics.{GivenFormula, GivenTerm, GivenExtra}
 use Rattle.dlk_tacsyn.specs.Ties.{argument_at, ArgumentIsKnown, atom_at, AtomIsKnown}
+use Rattle.dlk_tacsyn.proofs.Kept.{argument_known}
 use Rattle.dlk_elab.specs.declared.fault.FailWhy.{FailWhy}
 use Rattle.dlk_elab.specs.declared.fault.FailWhy.TheVariants.{NoPlace}
+use Rattle.dlk_elab.proofs.UseFound.{pairs_kept}
 use Rattle.dlk_strategy.specs.declared.trace.Trace.{Trace}
 use Rattle.dlk_strategy.specs.Runs.{Progress, Outcome, Done, Fails, Budget, Follow, done, fails, spent, Ends, Once, placed, formulas, Tries, TriesAll, main_goals}
 use Rattle.dlk_strategy.specs.Ties.{now, Extends, IsBack}
 use Rattle.dlk_strategy.proofs.States.{steps_same, steps_known, same_extends}
 
 module _ (old new : List Tree) (keeps : Keeps old new) where
-  pairs_same : (pairs : List Pair) → AreKnownPairs old pairs → pairs_at new pairs ≡ pairs_at old pairs
-  pairs_same pairs h =
-      map-agree (pair_at new) (pair_at old) pairs
-      (All-weaker (λ (p : Pair). IsId old p.by) (λ p. pair_at new p ≡ pair_at old p) (λ p k i. record { sym = p.sym; by = keeps.same p.by k i }) pairs h)
-
-  pairs_known : (pairs : List Pair) → AreKnownPairs old pairs → AreKnownPairs new pairs
-  pairs_known pairs h = All-weaker (λ (p : Pair). IsId old p.by) (λ p. IsId new p.by) (λ p k. omega (arith, keeps.known, k)) pairs h
-
   argument_same : (a : Arg) → ArgumentIsKnown old a → argument_at new a ≡ argument_at old a
   argument_same (arg.At place path) h = refl
   argument_same arg.AnyLeft h = refl
@@ -42,16 +34,7 @@ module _ (old new : List Tree) (keeps : Keeps old new) where
   argument_same (arg.Word name) h = refl
   argument_same (arg.Formula id) h = ap GivenFormula (keeps.same id h)
   argument_same (arg.Term id) h = ap GivenTerm (keeps.same id h)
-  argument_same (arg.With extra) h = ap (λ pairs. GivenExtra (record { renames = extra.renames; pairs = pairs })) (pairs_same extra.pairs h)
-
-  argument_known : (a : Arg) → ArgumentIsKnown old a → ArgumentIsKnown new a
-  argument_known (arg.At place path) h = tt
-  argument_known arg.AnyLeft h = tt
-  argument_known arg.AnyRight h = tt
-  argument_known (arg.Word name) h = tt
-  argument_known (arg.Formula id) h = omega (arith, keeps.known, h)
-  argument_known (arg.Term id) h = omega (arith, keeps.known, h)
-  argument_known (arg.With extra) h = pairs_known extra.pairs h
+  argument_same (arg.With extra) h = ap (λ pairs. GivenExtra (record { renames = extra.renames; pairs = pairs })) (pairs_kept old new keeps extra.pairs h)
 
   pub atom_same : (atom : GivenAtom) → AtomIsKnown old atom → atom_at new atom ≡ atom_at old atom
   atom_same atom h =
@@ -59,7 +42,7 @@ module _ (old new : List Tree) (keeps : Keeps old new) where
       λ i. record { name = atom.name; arguments = same i; at = atom.at }
 
   pub atom_known : (atom : GivenAtom) → AtomIsKnown old atom → AtomIsKnown new atom
-  atom_known atom h = All-weaker (ArgumentIsKnown old) (ArgumentIsKnown new) argument_known atom.args h
+  atom_known atom h = All-weaker (ArgumentIsKnown old) (ArgumentIsKnown new) (argument_known old new keeps) atom.args h
 
 -- what is left where all was taken back
 pub back_now : {S : Type 0} (trees : S → List Tree) (k : State S) (t : Trace) (k' : State S) (t' : Trace) → Keeps (trees k.store) (trees k'.store) →

@@ -2,7 +2,6 @@
 use Rattle.std.proofs.Common.{◌≡◌, ℕ, List, [], ◌∷◌, length, Vec, Global, refl, sym, ap, subst, ◌∙◌, arith}
 use Rattle.std.specs.List.{All}
 use Rattle.std.proofs.lemmas.List.Elements.{All-head, All-tail, All-nil, All-cons, All-weaker}
-use mathlib.Core.Former.{Count}
 use Rattle.dlk_tree.specs.Trees.{Tree}
 use Rattle.dlk_store.specs.Stores.{Keeps}
 use Rattle.dlk_tacsyn.specs.declared.tactic.Tactic.{Tactic, Choice, Seq, Branch, One, Choice', Seq', Branch', Repeat', Row_of-Tactic, end_of-Tactic, more_of-Tactic, items-the_row-Tactic, items_hidden-the_row-Tactic-0}
@@ -10,6 +9,7 @@ use Rattle.dlk_tacsyn.specs.Tactics as the
 use Rattle.dlk_tacsyn.specs.Tactics.{Tactics, no_parts, part, count, EachAtomOf}
 use Rattle.dlk_tacsyn.specs.Rows.{IsRun, AreRun}
 use Rattle.dlk_tacsyn.specs.Ties.{tactic_at, tactics_at, TacticIsKnown, TacticsAreKnown}
+use Rattle.dlk_library.proofs.Walking.{row_in}
 use Rattle.dlk_strategy.specs.Ties.{IsRunnable, tactics_of}
 use Rattle.dlk_strategy.proofs.Trying.{atom_same, atom_known}
 
@@ -50,12 +50,6 @@ module _ (old new : List Tree) (keeps : Keeps old new) where
       let first : tactic_at new t ≡ tactic_at old t = tactic_same t (All-head (IsRunnable old) t rest h).known in
       let others : tactics_of new rest ≡ tactics_of old rest = tactics_same rest (All-tail (IsRunnable old) t rest h) in
       λ i. part (first i) (others i)
-
-abbrev row_in : Tactic → (n : Count) × Row_of-Tactic n
-row_in (Choice' _ row) = (_, row)
-row_in (Seq' _ row) = (_, row)
-row_in (Branch' at _ row) = (_, row)
-row_in _ = (_, end_of-Tactic)
 
 module _ (trees : List Tree) where
   row_is : (n : _) (row : Row_of-Tactic n) → tactics_at trees row ≡ tactics_of trees (items-the_row-Tactic n row)

@@ -11,9 +11,9 @@ ghost use Rattle.dlk_elab.specs.Atoms.{HasNoLocator};
 ghost use Rattle.dlk_strategy.specs.Runs.{main_goals, formulas, side_of, side, put_place, placed, Once, TriesAll, RunAtom};
 ghost use Rattle.dlk_strategy.specs.Ties.{goals_of, now, IsReady, Extends, IsBack, Becomes, UnlessOver, HasLeft, IsBackOnFailure};
 
-use crate::fault::RunFault;
+use crate::fault::{RunFault, of_atom};
 use crate::trace::{Trace, goal_at, goals_left};
-use dlk_elab::{FailWhy, TacFault, elaborate};
+use dlk_elab::{FailWhy, elaborate};
 use dlk_kernel::{Kernel, Step};
 use dlk_rules::Side;
 use dlk_sequent::{Listed, Place};
@@ -68,23 +68,7 @@ fn run_once<S: Store, L: Ledger>(
             let after = goals_left(kernel);
             Ok(after + 1 - before)
         }
-        Err(TacFault::UnknownName) => Err(RunFault::Fails {
-            at: atom.at,
-            why: FailWhy::UnknownName,
-        }),
-        Err(TacFault::NoPlace) => Err(RunFault::Fails {
-            at: atom.at,
-            why: FailWhy::NoPlace,
-        }),
-        Err(TacFault::NoMatch) => Err(RunFault::Fails {
-            at: atom.at,
-            why: FailWhy::NoMatch,
-        }),
-        Err(TacFault::Step(reason)) => Err(RunFault::Fails {
-            at: atom.at,
-            why: FailWhy::Step(reason),
-        }),
-        Err(TacFault::Memory) => Err(RunFault::Memory),
+        Err(why) => Err(of_atom(atom.at, why)),
     }
 }
 

@@ -9,12 +9,10 @@ ghost use Rattle.dlk_strategy.specs.Runs.{OnEach, OneByOne, RunAtom, RunDerive, 
 ghost use Rattle.dlk_strategy.specs.Ties.{goals_of, now, at_byte, IsReady, Extends, Becomes, UnlessOver, HasLeft};
 
 use crate::atoms::{MOST_RUNS, run_atom};
-use crate::fault::RunFault;
+use crate::fault::{RunFault, of_plan};
 use crate::trace::{Trace, goal_at};
-use dlk_calculus::Reason;
 use dlk_derive::laws::plan_is_fitting;
-use dlk_derive::{DeriveFault, plan};
-use dlk_elab::FailWhy;
+use dlk_derive::plan;
 use dlk_kernel::Kernel;
 use dlk_sequent::Place;
 use dlk_store::{Steps, Store};
@@ -90,19 +88,7 @@ fn derive<S: Store, L: Ledger>(
     trace.used += 1;
     match plan(alloc, &*kernel, goal_at(kernel, goal), place, path, steps) {
         Ok(uses) => one_by_one(alloc, kernel, trace, uses, at, goal, steps),
-        Err(DeriveFault::NoPlace) => Err(RunFault::Fails {
-            at,
-            why: FailWhy::NoPlace,
-        }),
-        Err(DeriveFault::WrongShape) => Err(RunFault::Fails {
-            at,
-            why: FailWhy::Step(Reason::WrongShape),
-        }),
-        Err(DeriveFault::NoMatch) => Err(RunFault::Fails {
-            at,
-            why: FailWhy::NoMatch,
-        }),
-        Err(DeriveFault::Memory) => Err(RunFault::Memory),
+        Err(why) => Err(of_plan(at, why)),
     }
 }
 

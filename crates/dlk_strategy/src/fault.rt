@@ -1,7 +1,10 @@
 ghost use Rattle.std.specs.Prelude.{◌≡◌};
 ghost use Rattle.dlk_strategy.specs.declared.fault.RunFault.TheVariants.{Memory};
+ghost use Rattle.dlk_strategy.specs.Whys.{of_atom, of_plan};
 
-use dlk_elab::FailWhy;
+use dlk_calculus::Reason;
+use dlk_derive::DeriveFault;
+use dlk_elab::{FailWhy, TacFault};
 use dlk_store::StoreFault;
 use std::alloc::{AllocError, AllocFailed};
 use thiserror::Error;
@@ -41,4 +44,31 @@ impl From<StoreFault> for RunFault {
     fn from(_: StoreFault) -> RunFault {
         RunFault::Memory
     }
+}
+
+/// The fault of a run of an atom at this byte.
+pub(crate) fn of_atom(at: usize, fault: TacFault) -> RunFault
+    ensures { result ≡ of_atom at fault }
+{
+    let why = match fault {
+        TacFault::UnknownName => FailWhy::UnknownName,
+        TacFault::NoPlace => FailWhy::NoPlace,
+        TacFault::NoMatch => FailWhy::NoMatch,
+        TacFault::Step(reason) => FailWhy::Step(reason),
+        TacFault::Memory => return RunFault::Memory,
+    };
+    RunFault::Fails { at, why }
+}
+
+/// The fault of a run of `derive` at this byte, where it has no plan.
+pub(crate) fn of_plan(at: usize, fault: DeriveFault) -> RunFault
+    ensures { result ≡ of_plan at fault }
+{
+    let why = match fault {
+        DeriveFault::NoPlace => FailWhy::NoPlace,
+        DeriveFault::WrongShape => FailWhy::Step(Reason::WrongShape),
+        DeriveFault::NoMatch => FailWhy::NoMatch,
+        DeriveFault::Memory => return RunFault::Memory,
+    };
+    RunFault::Fails { at, why }
 }

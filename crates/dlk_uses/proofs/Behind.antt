@@ -14,10 +14,10 @@ use Rattle.dlk_sequent.specs.declared.sequent.Place.{Place}
 use Rattle.dlk_sequent.specs.declared.sequent.Place.TheVariants.{Ante, Succ}
 use Rattle.dlk_uses.specs.Applying.{Applies}
 use Rattle.dlk_kernel.specs.Taken.{Takes}
-use Rattle.dlk_uses.specs.Uses.{Use, Spot, instance, proved, formula_at, Finishes}
+use Rattle.dlk_uses.specs.Uses.{Use, Spot, instance, formula_at, Finishes, FinishesBehind}
 use Rattle.dlk_calculus.proofs.PlaceLaws.{At_All}
 use Rattle.dlk_uses.proofs.Fitting.{Fit}
-use Rattle.dlk_uses.proofs.Instance.{instantiates, proved_is}
+use Rattle.dlk_uses.proofs.Instance.{instantiates, proves_one}
 use Rattle.dlk_uses.proofs.Shapes.{axiom_shaped}
 use Rattle.dlk_uses.proofs.Uses.{Laws, finishing_fits}
 
@@ -31,12 +31,14 @@ pub behind_fits : Laws → ((name : List ℕ) (a : Axiom) → axiom_named name �
     ((e : Tree) → WellMade e → Subst [] e e) →
     (rows between : List Provable) (name : List ℕ) (spot : Spot) (used : Use) (e : Tree) (extra : Extra) (rest : List Step) →
     Applies rows spot used e extra → axiom_named name ≡ Some used.its_axiom → Takes rows (instance (length rows) name extra) between →
-    Finishes (length between) spot used e (proved between) rest → Fit between rest
-behind_fits laws names made formulas nothing rows between name spot used e extra rest applies named takes finishes =
+    FinishesBehind between spot used e rest → Fit between rest
+behind_fits laws names made formulas nothing rows between name spot used e extra rest applies named takes behind =
     let a = used.its_axiom in
     let g = exchanged extra.renames a.formula in
     let itself : Derives (known g) → Subst [] g g = λ derived. nothing g (All-head IsFormula g [] (formulas (known g) derived).conclusion.succ).well_made in
     let i = instantiates rows between name extra a named itself takes in
+    let same : behind.f ≡ i.f =
+    proves_one between behind.f i.f behind.proves (record { row = i.row; is_last = i.last; concludes = i.concludes }) in
     finishing_fits laws between spot used e applies.there i.f extra
     (record {
       goal = (applies.goal.0, i.keeps spot.fact applies.goal.0 applies.goal.1, applies.goal.2);
@@ -51,4 +53,4 @@ behind_fits laws names made formulas nothing rows between name spot used e extra
       makes = i.makes;
       formed = i.formed;
     })
-    rest (subst (λ f. Finishes (length between) spot used e f rest) (proved_is between i.row i.f i.last i.concludes) finishes)
+    rest (subst (λ f. Finishes (length between) spot used e f rest) same behind.finishes)

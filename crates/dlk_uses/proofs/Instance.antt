@@ -10,7 +10,7 @@ use Rattle.dlk_calculus.specs.Pairs.{Pair, Extra, IsWellFormed}
 use Rattle.dlk_calculus.specs.Places.{At}
 use Rattle.dlk_calculus.specs.Provables.{Provable, known, renamed}
 use Rattle.dlk_calculus.specs.Rename.{swap}
-use Rattle.dlk_calculus.specs.Sequents.{alone_right}
+use Rattle.dlk_calculus.specs.Sequents.{Sequent, alone_right}
 use Rattle.dlk_calculus.specs.Steps.{Step, UseAxiom, Substitute, Rename, Gives, Derives}
 use Rattle.dlk_calculus.specs.Steps.{by_axiom as derives_axiom, by_renaming as derives_renamed}
 use Rattle.dlk_calculus.specs.Steps.{rename as by_renaming}
@@ -18,7 +18,7 @@ use Rattle.dlk_calculus.specs.Subst.{Subst}
 use Rattle.dlk_match.specs.Matching.{exchanged}
 use Rattle.dlk_kernel.specs.Taken.{Takes}
 use Rattle.dlk_uses.specs.Taking.{FirstFault}
-use Rattle.dlk_uses.specs.Uses.{renaming, substituting, instance, first_of, proved}
+use Rattle.dlk_uses.specs.Uses.{renaming, substituting, instance, ProvesLast}
 use Rattle.dlk_calculus.proofs.PlaceLaws.{at_one, At_place}
 use Rattle.dlk_uses.proofs.Taking.{takes_first, takes_none}
 use Rattle.dlk_uses.proofs.Unequal.{Unlike, unlike_fault}
@@ -179,5 +179,9 @@ instantiates rows between name extra a named itself taken =
       keeps = λ m p h. i.keeps m p (r.keeps m p (now.keeps m p h));
     }
 
-pub proved_is : (rows : List Provable) (p : Provable) (f : Tree) → At rows (length rows) p → p.conclusion ≡ alone_right f → proved rows ≡ f
-proved_is rows p f last concludes = rw last (ap (λ s. first_of s.succ) concludes)
+-- the last row proves one formula alone
+pub proves_one : (rows : List Provable) (f g : Tree) → ProvesLast rows f → ProvesLast rows g → f ≡ g
+proves_one rows f g p q =
+    let same : p.row ≡ q.row = at_one rows (length rows) p.row q.row p.is_last q.is_last in
+    let alone : f ∷ [] ≡ g ∷ [] = ap (λ (s : Sequent). s.succ) (sym p.concludes ∙ ap (λ (r : Provable). r.conclusion) same ∙ q.concludes) in
+    cc

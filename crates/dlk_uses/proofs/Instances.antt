@@ -14,8 +14,8 @@ use Rattle.dlk_calculus.specs.Steps.{Derives}
 use Rattle.dlk_calculus.specs.Subst.{Subst}
 use Rattle.dlk_match.specs.Matching.{exchanged}
 use Rattle.dlk_kernel.specs.Taken.{Takes}
-use Rattle.dlk_uses.specs.Uses.{instance, proved, left_of, right_of, HasShape, ProvesLast}
-use Rattle.dlk_uses.proofs.Instance.{Instantiates, instantiates, proved_is}
+use Rattle.dlk_uses.specs.Uses.{instance, left_of, right_of, HasShape, ProvesLast}
+use Rattle.dlk_uses.proofs.Instance.{Instantiates, instantiates, proves_one}
 use Rattle.dlk_uses.proofs.Shapes.{axiom_shaped}
 
 -- what the laws of matching say of names exchanged and of what is replaced in a node over two kids
@@ -88,17 +88,17 @@ module _ (formulas : (p : Provable) → Derives p → HasFormulas p) (nothing : 
       instantiates rows between name extra a named
       (λ derived. nothing g (All-head IsFormula g [] (formulas (known g) derived).conclusion.succ).well_made) takes
 
+  proves_instance : ProvesLast between instanced.f
+  proves_instance = record { row = instanced.row; is_last = instanced.last; concludes = instanced.concludes }
+
   pub instance_shaped : KidLaws → (f : Tree) × ProvesLast between f × HasShape a.form f
   instance_shaped laws = (
     instanced.f,
-    record { row = instanced.row; is_last = instanced.last; concludes = instanced.concludes },
+    proves_instance,
     shaped laws a.form extra.pairs extra.renames a.formula instanced.f (axiom_shaped name a named) instanced.makes,
   )
 
-  pub instance_made : WellMade (proved between)
-  instance_made =
-      subst WellMade (sym (proved_is between instanced.row instanced.f instanced.last instanced.concludes))
+  pub instance_made : (f : Tree) → ProvesLast between f → WellMade f
+  instance_made f proves =
+      subst WellMade (proves_one between instanced.f f proves_instance proves)
       (subst_made extra.pairs (exchanged extra.renames a.formula) instanced.f instanced.makes)
-
-pub proved_last : (rows : List Provable) (f : Tree) → ProvesLast rows f → proved rows ≡ f
-proved_last rows f p = proved_is rows p.row f p.is_last p.concludes

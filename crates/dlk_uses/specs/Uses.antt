@@ -1,10 +1,10 @@
 -- Axioms at inner positions: what an atom that uses an axiom looks for, and the steps that each form of an axiom asks for.
-use Rattle.std.specs.Prelude.{◌≡◌, ◌+◌, ℕ, List, [], ◌∷◌, ◌++◌, length, Bool, true, false, ◌&&◌, if◌then◌else◌, Option, Some, None, codes}
+use Rattle.std.specs.Prelude.{◌≡◌, ◌+◌, ℕ, List, [], ◌∷◌, ◌++◌, length, Bool, true, false, ◌&&◌, if◌then◌else◌, Option, None, codes}
 use Rattle.std.specs.Str.{bytes_eq}
 use Rattle.dlk_tree.specs.declared.op.Sym.{Sym}
 use Rattle.dlk_tree.specs.declared.op.Kind.{Kind}
 use Rattle.dlk_tree.specs.declared.op.Kind.TheVariants.{UnitFunc, Pred, UnitPred, Quant, Prog}
-use Rattle.dlk_tree.specs.declared.op.Op.TheVariants.{Dot, Hole, True, Eq}
+use Rattle.dlk_tree.specs.declared.op.Op.TheVariants.{Dot, Hole, Eq}
 use Rattle.dlk_tree.specs.Trees.{Tree, node}
 use Rattle.dlk_calculus.specs.declared.form.AxiomForm.{AxiomForm}
 use Rattle.dlk_calculus.specs.declared.form.AxiomForm.TheVariants.{E, Q, C, R, I, F}
@@ -113,11 +113,6 @@ abbrev pub instance : ℕ → List ℕ → Extra → List Step
 instance rows name extra =
     let named = UseAxiom name ∷ renaming (rows + 1) extra.renames
     in named ++ substituting (rows + length named) extra.pairs
-
--- the first formula, and `true` where there is none
-abbrev pub first_of : List Tree → Tree
-first_of [] = leaf True
-first_of (f ∷ fs) = f
 
 -- the steps of rules in turn: the first on a goal of the fact, each other one on the last row
 abbrev pub in_turn : ℕ → ℕ → List (ℕ × Rule) → List Step
@@ -261,19 +256,17 @@ pub data Finishes (now : ℕ) (spot : Spot) (used : Use) (e f : Tree) : List Ste
   fact : (j : ℕ) → used.its_axiom.form ≡ F → used.place ≡ Succ j →
       Finishes now spot used e f (by_fact now spot j)
 
--- what the last of the rows proves: the first formula on the right of its conclusion
-abbrev pub proved : List Provable → Tree
-proved rows = proved_by (at rows (length rows))
-  where
-    proved_by : Option Provable → Tree
-    proved_by None = leaf True
-    proved_by (Some p) = first_of p.conclusion.succ
-
 -- the last of the rows proves f alone
 pub record ProvesLast (rows : List Provable) (f : Tree) : Type 0 where
   pub row : Provable
   pub is_last : At rows (length rows) row
   pub concludes : row.conclusion ≡ alone_right f
+
+-- behind an instance of the axiom, which the last of the rows proves, these steps use it on the formula e at the place
+pub record FinishesBehind (rows : List Provable) (spot : Spot) (used : Use) (e : Tree) (steps : List Step) : Type 0 where
+  pub f : Tree
+  pub proves : ProvesLast rows f
+  pub finishes : Finishes (length rows) spot used e f steps
 
 -- Boxes at place j on the right:
 

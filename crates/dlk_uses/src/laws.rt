@@ -15,7 +15,7 @@ ghost use Rattle.dlk_match.specs.Matching.{Match};
 ghost use Rattle.dlk_sequent.specs.declared.sequent.Place.{Place};
 ghost use Rattle.dlk_uses.specs.Applying.{Applies};
 ghost use Rattle.dlk_uses.specs.Taking.{FirstFault};
-ghost use Rattle.dlk_uses.specs.Uses.{Direction, Use, Spot, key, instance, proved, Finishes, HasShape, ProvesLast, generalizing, cutting_box};
+ghost use Rattle.dlk_uses.specs.Uses.{Direction, Use, Spot, key, instance, FinishesBehind, HasShape, ProvesLast, generalizing, cutting_box};
 
 use dlk_calculus::laws::{
     derived_formulas, paths_join, put_is_filled, put_is_there, subtrees_keep,
@@ -30,7 +30,7 @@ use dlk_match::{
 /// which the use applies, where the instance is taken.
 pub fn uses_fit()
     ensures instance { (rows : List Provable) (n : ℕ) (name : List ℕ) (extra : Extra) → FirstFault rows (instance n name extra) NotEqual → ⊥ }
-    ensures behind { (rows between : List Provable) (name : List ℕ) (spot : Spot) (used : Use) (e : Tree) (extra : Extra) (rest : List Step) → Applies rows spot used e extra → axiom_named name ≡ Some used.its_axiom → Takes rows (instance (length rows) name extra) between → Finishes (length between) spot used e (proved between) rest → FirstFault between rest NotEqual → ⊥ }
+    ensures behind { (rows between : List Provable) (name : List ℕ) (spot : Spot) (used : Use) (e : Tree) (extra : Extra) (rest : List Step) → Applies rows spot used e extra → axiom_named name ≡ Some used.its_axiom → Takes rows (instance (length rows) name extra) between → FinishesBehind between spot used e rest → FirstFault between rest NotEqual → ⊥ }
 {
     derived_formulas();
     put_is_there();
@@ -45,11 +45,12 @@ pub fn uses_fit()
 }
 
 /// An axiom has the shape that its form says, and so has its instance, which the last row proves where it is taken, and which is well made.
+/// The last row proves one formula alone.
 pub fn uses_have_shapes()
     ensures axioms { (name : List ℕ) (a : Axiom) → axiom_named name ≡ Some a → HasShape a.form a.formula }
     ensures instances { (rows between : List Provable) (name : List ℕ) (extra : Extra) (a : Axiom) → axiom_named name ≡ Some a → Takes rows (instance (length rows) name extra) between → (f : Tree) × ProvesLast between f × HasShape a.form f }
-    ensures made { (rows between : List Provable) (name : List ℕ) (extra : Extra) (a : Axiom) → axiom_named name ≡ Some a → Takes rows (instance (length rows) name extra) between → WellMade (proved between) }
-    ensures proved { (rows : List Provable) (f : Tree) → ProvesLast rows f → proved rows ≡ f }
+    ensures made { (rows between : List Provable) (name : List ℕ) (extra : Extra) (a : Axiom) → axiom_named name ≡ Some a → Takes rows (instance (length rows) name extra) between → (f : Tree) → ProvesLast between f → WellMade f }
+    ensures one { (rows : List Provable) (f g : Tree) → ProvesLast rows f → ProvesLast rows g → f ≡ g }
 {
     derived_formulas();
     exchanged_over_kids();

@@ -43,3 +43,11 @@ returns-clause-known g c =
     let calls = plan_at (tree trees c.in-Some-under_differential.kid) c.args.path.now in
     let is = c.in_ok-add_uses.ensures ∙ ap (λ us. us ++ map (atom_of c.args.place) calls) c.new-uses.ensures.items in
     λ others. subst (All (AtomIsKnown others)) (sym is) (all_known others c.args.place calls)
+
+pub returns-in_err-add_uses-clause-memory : goal.returns-in_err-add_uses-clause-memory
+returns-in_err-add_uses-clause-memory g c = λ is.
+    let trees = g.S.Store.trees c.args.store.now in (
+      plan_at (tree trees c.in-Some-under_differential.kid) c.args.path.now,
+      a_plan trees c.args.s.now c.args.place c.args.path.now c.in-Some.found c.in-Some-under_differential.kid c.in-Some.ensures
+          c.in-Some-under_differential.ensures (c.has_derivative.ensures.0 c.if-not-has_derivative.false),
+    )

@@ -1,5 +1,6 @@
 use Rattle.std.proofs.Common.{◌≡◌, ◌∷◌, [], refl, sym, ap, subst, ◌∙◌}
 use Rattle.std.proofs.lemmas.Result.{err_from_is_err_and}
+use Rattle.dlk_calculus.specs.Rules.{PlaceAndName}
 use Rattle.dlk_rules.specs.Steps.{side_of}
 use Rattle.dlk_rules.specs.Words.{wanted}
 use Rattle.dlk_tacsyn.specs.declared.tactic.Arg.TheVariants.{Word}
@@ -111,3 +112,17 @@ returns-in_ok-y-in-PlaceAndName-clause-found c = λ trees.
     trees) in
     let named = c.in-Some-word.ensures.found ∙ ap Word c.in_ok-y-in-PlaceAndName.ensures.cases in
     for_name trees (side_of c.args.rule) c.args.args.now x y c.in_ok-y-in-PlaceAndName.y c.in_ok-i-in-PlaceAndName.i are named there
+
+pub returns-in_err-y-in-PlaceAndName-clause-memory : goal.returns-in_err-y-in-PlaceAndName-clause-memory
+returns-in_err-y-in-PlaceAndName-clause-memory c = λ is trees.
+    let x = c.named-item.result in
+    let y = c.at-item-then-args-lt3-3.result in
+    let are : c.args.args.now ≡ x ∷ y ∷ [] =
+    two_items c.args.args.now x y c.in-len2-args-2.len_at_least c.in-len2-args-2.len_below c.named-item.is c.at-item-then-args-lt3-3.is in
+    let there = subst (λ side. IsThere side c.in_ok-i-in-PlaceAndName.i (argument_at trees y)) c.side-side.ensures (c.in_ok-i-in-PlaceAndName.ensures.ok
+    trees) in
+    let wants = sym c.shape.ensures ∙ c.in-PlaceAndName.is in (
+      PlaceAndName c.in_ok-i-in-PlaceAndName.i c.in-Some-word.y.now,
+      sym wants,
+      for_name trees (side_of c.args.rule) c.args.args.now x y c.in-Some-word.y.now c.in_ok-i-in-PlaceAndName.i are c.in-Some-word.ensures.found there,
+    )

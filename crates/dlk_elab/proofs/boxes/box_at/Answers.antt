@@ -1,7 +1,7 @@
 use Rattle.std.proofs.lemmas.Result.{err_from_is_err_and}
 use Rattle.dlk_store.specs.Stores.{IsId}
+use Rattle.dlk_calculus.proofs.PlaceLaws.{At_All}
 use Rattle.dlk_tacsyn.specs.Ties.{argument_at}
-use Rattle.dlk_elab.proofs.Places.{At_All}
 use Rattle.dlk_elab.proofs.BoxPlans.{no_place, found, no_box_there}
 use Rattle.dlk_elab.proofs.boxes.box_at.Goals as goal
 

@@ -1,4 +1,4 @@
-use Rattle.std.proofs.Common.{List, map, subst}
+use Rattle.std.proofs.Common.{List, map, subst, inl, inr}
 use Rattle.std.proofs.lemmas.Result.{err_from_is_err_and}
 use Rattle.dlk_calculus.specs.Provables.{Provable}
 use Rattle.dlk_kernel.specs.Faults.{IsStepFault}
@@ -8,7 +8,7 @@ use Rattle.dlk_rules.specs.Steps.{step_at}
 use Rattle.dlk_tacsyn.specs.Ties.{atom_at}
 use Rattle.dlk_elab.specs.Atoms.{FirstFault}
 use Rattle.dlk_elab.specs.Calls.{IsCall, CallIsKnown}
-use Rattle.dlk_elab.proofs.CallsFit.{uses_none}
+use Rattle.dlk_elab.proofs.CallsFit.{uses_none, named_use}
 use Rattle.dlk_elab.proofs.Elaborates.{steps_same, known_later, fault_of_step, steps_made}
 use Rattle.dlk_elab.proofs.elaborating.atom_steps.Goals as goal
 
@@ -56,3 +56,23 @@ returns-clause-made g c =
     (known_later trees new (λ s k. c.step_stays.ensures.known trees new s keeps k) plan known)
     (subst (λ (r : List Provable). Takes r (map (step_at trees) plan) (facts g.S.Store.trees c.take_in_turn.new.kernel)) c.planned.ensures.same.provables
     (rw c.as_slice.ensures.value at c.in_ok-take_in_turn.ensures.taken))
+
+pub returns-in-Use-clause-memory : goal.returns-in-Use-clause-memory
+returns-in-Use-clause-memory g c = λ is.
+    let trees = g.S.Store.trees c.args.kernel.now.store in
+    let call = subst (IsCall trees (atom_at trees c.args.atom.now)) c.in-Use.is (c.call_of-call.ensures.call trees c.requires.fitting c.requires.fixed) in
+    inr (named_use c.args.atom.now.name _ call.0)
+
+pub returns-in_err-plan-clause-memory : goal.returns-in_err-plan-clause-memory
+returns-in_err-plan-clause-memory g c =
+    let p = err_from_is_err_and c.from_residual.result c.from_residual.ensures.1 in rw (p.1, p.2) (λ is. inl (c.in_err-plan.ensures.memory is))
+
+pub returns-in_err-take_in_turn-clause-memory : goal.returns-in_err-take_in_turn-clause-memory
+returns-in_err-take_in_turn-clause-memory g c = λ is.
+    let asked = c.in_ok-plan.ensures.plan in
+    inl (record {
+      s = asked.s;
+      is_goal = asked.is_goal;
+      steps = map (step_at (g.S.Store.trees c.planned.new.kernel.store)) c.in_ok-plan.plan.items;
+      asks = asked.asks;
+    })

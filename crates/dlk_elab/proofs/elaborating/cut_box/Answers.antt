@@ -13,7 +13,7 @@ use Rattle.dlk_elab.specs.Plans.{ArePlanned, goal_at, AreCutTrees}
 use Rattle.dlk_elab.proofs.BoxPlans.{id_later}
 use Rattle.dlk_elab.proofs.Places.{read_as}
 use Rattle.dlk_elab.proofs.Elaborates.{goal_within, goal_read, goal_small}
-use Rattle.dlk_elab.proofs.BoxAsks.{box_fault, cut_asked}
+use Rattle.dlk_elab.proofs.BoxAsks.{box_fault, cut_asked, cut_some}
 use Rattle.dlk_elab.proofs.elaborating.cut_box.Goals as goal
 
 pub box_at-requires-clause-known : goal.box_at-requires-clause-known
@@ -70,3 +70,25 @@ pub cutting_box-requires-clause-goal : goal.cutting_box-requires-clause-goal
 cutting_box-requires-clause-goal g c =
     let small = goal_small (facts g.S.Store.trees c.args.kernel.now) c.args.target.fact c.args.target.goal c.rows.ensures.limited c.requires.goal in
     omega (arith, small)
+
+pub returns-in_err-cut-clause-memory : goal.returns-in_err-cut-clause-memory
+returns-in_err-cut-clause-memory g c = λ is.
+    let trees = g.S.Store.trees c.args.kernel.now.store in
+    let read = read_as c.goals.result.now (c.args.target.goal - 1) c.value-s.result.now c.index-goals-target.result c.value-s.ensures c.index-goals-target.is in
+    let rows = facts g.S.Store.trees c.args.kernel.now in
+    let is_goal = goal_read trees rows c.args.target.fact c.args.target.goal c.goals.result.now c.value-s.result.now c.requires.goal c.goals.ensures.goals
+    read in
+    let counted = c.requires.rows ∙ sym (length-map c.args.kernel.now.rows (provable_at trees)) in
+    cut_some rows c.args.target (atom_at trees c.args.atom.now) trees c.value-s.result.now (argument_at trees c.args.at.now) counted is_goal
+    c.in_ok-boxed.boxed (tree trees c.args.h) c.requires.call.0 c.requires.call.1 c.in_ok-boxed.ensures.found
+
+pub returns-in_err-plan-clause-memory : goal.returns-in_err-plan-clause-memory
+returns-in_err-plan-clause-memory g c = λ is.
+    let trees = g.S.Store.trees c.args.kernel.now.store in
+    let read = read_as c.goals.result.now (c.args.target.goal - 1) c.value-s.result.now c.index-goals-target.result c.value-s.ensures c.index-goals-target.is in
+    let rows = facts g.S.Store.trees c.args.kernel.now in
+    let is_goal = goal_read trees rows c.args.target.fact c.args.target.goal c.goals.result.now c.value-s.result.now c.requires.goal c.goals.ensures.goals
+    read in
+    let counted = c.requires.rows ∙ sym (length-map c.args.kernel.now.rows (provable_at trees)) in
+    cut_some rows c.args.target (atom_at trees c.args.atom.now) trees c.value-s.result.now (argument_at trees c.args.at.now) counted is_goal
+    c.in_ok-boxed.boxed (tree trees c.args.h) c.requires.call.0 c.requires.call.1 c.in_ok-boxed.ensures.found

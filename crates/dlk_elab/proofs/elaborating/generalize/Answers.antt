@@ -8,7 +8,7 @@ use Rattle.dlk_kernel.specs.Kernel.{facts, provable_at}
 use Rattle.dlk_elab.specs.Atoms.{generalizes}
 use Rattle.dlk_elab.proofs.Places.{read_as}
 use Rattle.dlk_elab.proofs.Elaborates.{goal_within, goal_read}
-use Rattle.dlk_elab.proofs.BoxAsks.{box_fault, generalize_asked}
+use Rattle.dlk_elab.proofs.BoxAsks.{box_fault, generalize_asked, generalize_some}
 use Rattle.dlk_elab.proofs.elaborating.generalize.Goals as goal
 
 pub box_at-requires-clause-known : goal.box_at-requires-clause-known
@@ -51,3 +51,14 @@ returns-clause-plan g c =
     generalize_asked rows c.args.target (atom_at trees c.args.atom.now) trees c.value-s.result.now (argument_at trees c.args.at.now) counted is_goal
     c.in_ok-boxed.boxed c.in_ok-plan.plan.items c.requires.call.0 c.requires.call.1 at
     (c.in_ok-plan.ensures trees (sequent_at trees c.value-s.result.now) at.program_known at.formula_known)
+
+pub returns-in_err-plan-clause-memory : goal.returns-in_err-plan-clause-memory
+returns-in_err-plan-clause-memory g c = λ is.
+    let trees = g.S.Store.trees c.args.kernel.now.store in
+    let read = read_as c.goals.result.now (c.args.target.goal - 1) c.value-s.result.now c.index-goals-target.result c.value-s.ensures c.index-goals-target.is in
+    let rows = facts g.S.Store.trees c.args.kernel.now in
+    let is_goal = goal_read trees rows c.args.target.fact c.args.target.goal c.goals.result.now c.value-s.result.now c.requires.goal c.goals.ensures.goals
+    read in
+    let counted = c.requires.rows ∙ sym (length-map c.args.kernel.now.rows (provable_at trees)) in
+    generalize_some rows c.args.target (atom_at trees c.args.atom.now) trees c.value-s.result.now (argument_at trees c.args.at.now) counted is_goal
+    c.in_ok-boxed.boxed c.requires.call.0 c.requires.call.1 c.in_ok-boxed.ensures.found

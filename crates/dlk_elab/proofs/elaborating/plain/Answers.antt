@@ -5,7 +5,7 @@ use Rattle.dlk_sequent.specs.Sequents.{sequent_at, IsKnown}
 use Rattle.dlk_tacsyn.specs.Ties.{atom_at}
 use Rattle.dlk_kernel.specs.Kernel.{facts, provable_at}
 use Rattle.dlk_elab.proofs.Places.{read_as}
-use Rattle.dlk_elab.proofs.Elaborates.{goal_within, goal_read, few_formulas, plan_fault, are_asked}
+use Rattle.dlk_elab.proofs.Elaborates.{goal_within, goal_read, few_formulas, plan_fault, asks_some, are_asked}
 use Rattle.dlk_elab.proofs.elaborating.plain.Goals as goal
 
 pub plan-requires-clause-sequent : goal.plan-requires-clause-sequent
@@ -48,3 +48,15 @@ returns-clause-fault g c =
     IfErr-weaker c.plan.result _ _
     (λ e h. plan_fault rows c.args.target.rows c.args.target.fact c.args.target.goal (atom_at trees c.args.atom.now) (sequent_at trees
     c.value-s.result.now) counted is_goal e h) c.plan.ensures.fault
+
+pub returns-clause-memory : goal.returns-clause-memory
+returns-clause-memory g c = λ is.
+    let trees = g.S.Store.trees c.args.kernel.now.store in
+    let read = read_as c.goals.result.now (c.args.target.goal - 1) c.value-s.result.now c.index-goals-target.result c.value-s.ensures c.index-goals-target.is in
+    let rows = facts g.S.Store.trees c.args.kernel.now in
+    let is_goal = goal_read trees rows c.args.target.fact c.args.target.goal c.goals.result.now c.value-s.result.now c.requires.goal c.goals.ensures.goals
+    read in
+    let counted = c.requires.rows ∙ sym (length-map c.args.kernel.now.rows (provable_at trees)) in
+    let some = c.plan.ensures.memory is in
+    asks_some rows c.args.target.rows c.args.target.fact c.args.target.goal (atom_at trees c.args.atom.now) (sequent_at trees c.value-s.result.now) counted
+    is_goal some.0 some.1

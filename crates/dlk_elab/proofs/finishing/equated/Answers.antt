@@ -4,7 +4,8 @@ use Rattle.dlk_store.specs.Stores.{tree}
 use Rattle.dlk_calculus.specs.Notation.{leaf}
 use Rattle.dlk_calculus.specs.Paths.{put_at}
 use Rattle.dlk_sequent.specs.Spines.{path_of}
-use Rattle.dlk_elab.proofs.FinishPlans.{stands_itself, stands_as}
+use Rattle.dlk_rules.proofs.OverIds.{stands_itself_kept}
+use Rattle.dlk_elab.proofs.FinishPlans.{stands_as}
 use Rattle.dlk_elab.proofs.finishing.equated.Goals as goal
 
 pub returns-clause-made : goal.returns-clause-made
@@ -17,7 +18,7 @@ returns-clause-made g c =
     let dot : tree (trees b) c.in_ok-dot.dot ≡ leaf (Dot 0) = c.in_ok-dot.ensures.made.tree_is in
     let top_is = c.spine_stays.ensures.top (trees a) (trees b) way ab c.requires.spine in
     record {
-      left = stands_itself ad c.args.sides.left c.requires.left;
-      right = stands_itself ad c.args.sides.right c.requires.right;
+      left = stands_itself_kept ad c.args.sides.left c.requires.left;
+      right = stands_itself_kept ad c.args.sides.right c.requires.right;
       context = stands_as c.in_ok-context.context (λ i. put_at (top_is i) (path_of way) (dot i)) c.in_ok-context.ensures.made;
     }

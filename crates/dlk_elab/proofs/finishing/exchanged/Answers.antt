@@ -5,8 +5,9 @@ use Rattle.dlk_store.specs.Stores.{tree}
 use Rattle.dlk_calculus.specs.Notation.{leaf}
 use Rattle.dlk_calculus.specs.Paths.{put_at}
 use Rattle.dlk_sequent.specs.Spines.{path_of}
+use Rattle.dlk_rules.proofs.OverIds.{stands_itself_kept}
 use Rattle.dlk_elab.specs.Calls.{direction_of}
-use Rattle.dlk_elab.proofs.FinishPlans.{known_on, side_sort, stands_itself, stands_on, stands_as}
+use Rattle.dlk_elab.proofs.FinishPlans.{known_on, side_sort, stands_on, stands_as}
 use Rattle.dlk_elab.proofs.finishing.exchanged.Goals as goal
 
 pub put-requires-2-clause-spine : goal.put-requires-2-clause-spine
@@ -54,8 +55,8 @@ returns-clause-made g c =
     let known = c.other_side-other.ensures.known (trees a) c.requires.left c.requires.right in
     let other = ad.same c.other_side-other.result known ∙ c.other_side-other.ensures.tree (trees a) in
     record {
-      left = stands_itself ae c.args.sides.left c.requires.left;
-      right = stands_itself ae c.args.sides.right c.requires.right;
+      left = stands_itself_kept ae c.args.sides.left c.requires.left;
+      right = stands_itself_kept ae c.args.sides.right c.requires.right;
       context = stands_on de c.in_ok-context.context
           (stands_as c.in_ok-context.context (λ i. put_at (top_b i) (path_of way) (hole i)) c.in_ok-context.ensures.made);
       new = stands_as c.in_ok-new.new (λ i. put_at (top_d i) (path_of way) (other i)) c.in_ok-new.ensures.made;

@@ -17,6 +17,5 @@ returns c = some_atom c.given_unless_against.ensures.against
       axiom_shaped = c.uses_have_shapes.ensures.axioms;
       instance_shaped = c.uses_have_shapes.ensures.instances;
       instance_made = c.uses_have_shapes.ensures.made;
-      proved_is = c.uses_have_shapes.ensures.proved;
     })
     c.some_match.ensures

@@ -16,3 +16,6 @@ returns-clause-plan g c = λ atom name.
     same_plan c.args.target.rows c.args.target.fact c.args.target.goal (g.S.Store.trees c.args.store.now) c.args.s.now atom (one ∷ []) c.push.new.self.items are
     (plan_close c.args.target.rows c.args.target.fact c.args.target.goal (g.S.Store.trees c.args.store.now) c.args.s.now atom c.in-Some.i c.in-Some.j name
     c.in-Some.ensures.found)
+
+pub returns-in_err-push-clause-memory : goal.returns-in_err-push-clause-memory
+returns-in_err-push-clause-memory g c = λ is. (c.in-Some.i, c.in-Some.j, c.in-Some.ensures.found)

@@ -3,8 +3,9 @@ use Rattle.std.proofs.lemmas.Result.{err_from_is_err_and}
 use Rattle.dlk_rules.specs.Steps.{HasKnownIds}
 use Rattle.dlk_kernel.specs.Kernel.{facts}
 use Rattle.dlk_kernel.specs.Taken.{none}
+use Rattle.dlk_kernel.proofs.Limited.{fault_weaker}
 use Rattle.dlk_elab.proofs.Rows.{rows_stay, rows_longer}
-use Rattle.dlk_elab.proofs.Taken.{takes_next, fault_next, step_fault_weaker}
+use Rattle.dlk_elab.proofs.Taken.{takes_next, fault_next}
 use Rattle.dlk_elab.proofs.taking.take_in_turn.Goals as goal
 
 pub loop-step-init : goal.loop-step-init
@@ -23,7 +24,7 @@ returns-in_err-step-clause-fault g c =
     c.loop-step-test.true) in
     let same = c.step_stays.ensures.same old new c.step-item.result keeps known in
     let p = err_from_is_err_and c.from_residual.result c.from_residual.ensures.1 in
-    rw (p.1, p.2) (step_fault_weaker _ _
+    rw (p.1, p.2) (fault_weaker _ _
     (fault_next old new c.args.plan.now c.loop-step.step-index c.step-item.result c.loop-step-test.true c.step-item.is same (facts g.S.Store.trees
     c.args.kernel.now)
     (facts g.S.Store.trees c.loop-step.kernel) c.loop-step.invariant.taken) c.in_err-step.field-0.0 c.in_err-step.ensures.fault)

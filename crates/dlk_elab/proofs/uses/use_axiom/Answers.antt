@@ -128,11 +128,9 @@ take_in_turn-requires-2 g c =
     (rw c.as_slice.ensures.value at c.in_ok-take_in_turn.ensures.taken) in
     let later = g.S.Store.trees c.behind.new.kernel.store in
     let rest = c.in_ok-rest.rest.items in
-    let now = length c.take_in_turn.new.kernel.rows in
-    let as_many : now ≡ length between = sym (length-map c.take_in_turn.new.kernel.rows (provable_at new)) in
     let top_same = c.spine_stays.ensures.top mid new found.way keeps is.spine in
-    rw c.as_slice-2.ensures.value (rest_known rows c.args.target atom mid c.args.used found is plan planned between taken later now
-    (tree new (top found.way)) rest as_many top_same c.in_ok-rest.ensures.made)
+    rw c.as_slice-2.ensures.value (rest_known rows c.args.target atom mid c.args.used found is plan planned between taken later
+    (tree new (top found.way)) rest top_same c.in_ok-rest.ensures.made)
 
 pub returns-in_err-take_in_turn-2-clause-fault : goal.returns-in_err-take_in_turn-2-clause-fault
 returns-in_err-take_in_turn-2-clause-fault g c =
@@ -153,13 +151,11 @@ returns-in_err-take_in_turn-2-clause-fault g c =
     (rw c.as_slice.ensures.value at c.in_ok-take_in_turn.ensures.taken) in
     let later = g.S.Store.trees c.behind.new.kernel.store in
     let rest = c.in_ok-rest.rest.items in
-    let now = length c.take_in_turn.new.kernel.rows in
-    let as_many : now ≡ length between = sym (length-map c.take_in_turn.new.kernel.rows (provable_at new)) in
     let top_same = c.spine_stays.ensures.top mid new found.way keeps is.spine in
     let as_behind : facts g.S.Store.trees c.behind.new.kernel ≡ between = c.behind.ensures.same.provables in
     let p = err_from_is_err_and c.from_residual-in_err-take_in_turn-2.result c.from_residual-in_err-take_in_turn-2.ensures.1 in
-    rw (p.1, p.2) (not_finished rows c.args.target atom mid c.args.used found is plan planned between taken later now
-    (tree new (top found.way)) rest as_many top_same c.in_ok-rest.ensures.made
+    rw (p.1, p.2) (not_finished rows c.args.target atom mid c.args.used found is plan planned between taken later
+    (tree new (top found.way)) rest top_same c.in_ok-rest.ensures.made
     c.in_err-take_in_turn-2.field-0.0
     (subst (λ (r : List Provable). IsStepFault (FirstFault r (map (step_at later) rest)) c.in_err-take_in_turn-2.field-0.0) as_behind
     (rw c.as_slice-2.ensures.value at c.in_err-take_in_turn-2.ensures.fault)))
@@ -197,8 +193,6 @@ returns-clause-made g c =
     (rw c.as_slice.ensures.value at c.in_ok-take_in_turn.ensures.taken) in
     let later = g.S.Store.trees c.behind.new.kernel.store in
     let rest = c.in_ok-rest.rest.items in
-    let now = length c.take_in_turn.new.kernel.rows in
-    let as_many : now ≡ length between = sym (length-map c.take_in_turn.new.kernel.rows (provable_at new)) in
     let top_same = c.spine_stays.ensures.top mid new found.way keeps is.spine in
     let as_behind : facts g.S.Store.trees c.behind.new.kernel ≡ between = c.behind.ensures.same.provables in
     let last = g.S.Store.trees c.take_in_turn-2.new.kernel.store in
@@ -208,10 +202,10 @@ returns-clause-made g c =
     c.behind.ensures.grows in
     let keeps_all = g.met.S.Store.grows_keeps c.find.new.kernel.store c.take_in_turn-2.new.kernel.store
     (g.met.S.Store.grows_trans c.find.new.kernel.store c.behind.new.kernel.store c.take_in_turn-2.new.kernel.store since c.take_in_turn-2.ensures.grows) in
-    let others = rest_known rows c.args.target atom mid c.args.used found is plan planned between taken later now
-    (tree new (top found.way)) rest as_many top_same c.in_ok-rest.ensures.made in
-    made_by_use rows c.args.target atom mid c.args.used found is plan planned between taken later now
-    (tree new (top found.way)) rest as_many top_same c.in_ok-rest.ensures.made
+    let others = rest_known rows c.args.target atom mid c.args.used found is plan planned between taken later
+    (tree new (top found.way)) rest top_same c.in_ok-rest.ensures.made in
+    made_by_use rows c.args.target atom mid c.args.used found is plan planned between taken later
+    (tree new (top found.way)) rest top_same c.in_ok-rest.ensures.made
     last c.in_ok-all.all.items after c.in_ok-all.ensures
     (steps_same mid last (λ s k. c.step_stays.ensures.same mid last s keeps_all k) plan planned.known)
     (known_later mid last (λ s k. c.step_stays.ensures.known mid last s keeps_all k) plan planned.known)

@@ -1,4 +1,4 @@
-use Rattle.dlk_jobs_prove.proofs.ProveAnswers.{model_small, model_shallow}
+use Rattle.dlk_jobs_check.proofs.Models.{model_small, model_shallow}
 use Rattle.dlk_jobs_prove.proofs.SomeProof.{some_prove}
 use Rattle.dlk_jobs_prove.proofs.SomeReply.{some_generate}
 use Rattle.dlk_jobs_prove.proofs.laws.some_proof_reply.Goals as goal

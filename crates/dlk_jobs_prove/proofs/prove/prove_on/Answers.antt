@@ -14,10 +14,11 @@ use Rattle.dlk_strategy.specs.Runs.{Done, RunsModel}
 use Rattle.dlk_replies.specs.Shown.{reply_of}
 use Rattle.dlk_replies.proofs.Ends.{ends_weaker}
 use Rattle.dlk_jobs_check.specs.Judged.{RefusesModel}
+use Rattle.dlk_jobs_check.proofs.Models.{model_small, model_shallow}
 use Rattle.dlk_jobs_record.specs.Records.{Records}
 use Rattle.dlk_jobs_prove.specs.Proves.{Proves}
 use Rattle.dlk_jobs_prove.specs.Proved.{RefusesStrategy, RefusesRun}
-use Rattle.dlk_jobs_prove.proofs.ProveAnswers.{model_small, model_shallow, model_answer, strategy_answer, fault_answer, done_answer, early_done}
+use Rattle.dlk_jobs_prove.proofs.ProveAnswers.{model_answer, strategy_answer, fault_answer, done_answer, early_done}
 use Rattle.dlk_jobs_prove.proofs.RunSteps.{run_count, some_rows}
 use Rattle.dlk_jobs_prove.proofs.prove.prove_on.Goals as goal
 

@@ -7,11 +7,11 @@ use Rattle.dlk_calculus.specs.Sequents.{IsFormula}
 use Rattle.dlk_session.specs.Held.{state}
 use Rattle.dlk_replies.specs.Replies.{Reply}
 use Rattle.dlk_replies.proofs.Ends.{ends_weaker}
+use Rattle.dlk_jobs_check.proofs.Models.{model_small, model_shallow}
 use Rattle.dlk_jobs_session.specs.Sessions.{Sessions, played}
 use Rattle.dlk_jobs_session.specs.Ties.{line_at}
 use Rattle.dlk_jobs_session.specs.Written.{IsTooLong}
 use Rattle.dlk_jobs_session.proofs.LinesKept.{lines_kept, lines_known}
-use Rattle.dlk_jobs_session.proofs.Models.{model_small, model_shallow}
 use Rattle.dlk_jobs_session.proofs.Replied.{plays_so, replied, too_long_replied}
 use Rattle.dlk_jobs_session.proofs.session.session_on.Goals as goal
 

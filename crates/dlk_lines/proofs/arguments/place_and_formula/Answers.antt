@@ -16,3 +16,6 @@ returns-in_err-formula-clause-fault g c =
 
 pub returns-clause-found : goal.returns-clause-found
 returns-clause-found g c = place_and_formula_are _ c.args.text.now _ _ _ c.in-Some.ensures.found c.in_ok-formula.ensures.found
+
+pub returns-in_err-formula-clause-memory : goal.returns-in_err-formula-clause-memory
+returns-in_err-formula-clause-memory g c = λ is. (c.in-Some.place, c.in-Some.rest.now, c.in-Some.ensures.found)

@@ -1,8 +1,9 @@
-use Rattle.std.proofs.Common.{ℕ, List}
+use Rattle.std.proofs.Common.{◌≡◌, ℕ, List, Err, ap}
 use Rattle.std.specs.Prelude.{IsTrue}
 use Rattle.std.proofs.lemmas.Result.{err_from_is_err_and}
 use Rattle.dlk_calculus.specs.Rules.{PlaceAndName}
 use Rattle.dlk_tree.specs.Names.{is_name}
+use Rattle.dlk_lines.specs.declared.fault.LineFault.TheVariants.{Memory}
 use Rattle.dlk_lines.specs.Spelled.{Spelling}
 use Rattle.dlk_lines.specs.Lines.{IsArguments}
 use Rattle.dlk_lines.proofs.Forms.{argument_parts, place_and_name_are, no_name_behind}
@@ -23,3 +24,9 @@ returns-in_err-name-clause-fault c =
 
 pub returns-clause-found : goal.returns-clause-found
 returns-clause-found c = λ w. rw c.in_ok-name.ensures.found (place_and_name_are w c.args.text.now _ _ c.in-Some.ensures.found c.in_ok-name.ensures.real)
+
+pub returns-in_err-name-clause-memory : goal.returns-in_err-name-clause-memory
+returns-in_err-name-clause-memory c =
+    let e = err_from_is_err_and c.from_residual.result c.from_residual.ensures.1 in
+    rw (e.1, e.2) (λ is. let why : c.in_err-name.field-0.0 ≡ Memory = cc is in
+    (c.in-Some.place, c.in-Some.rest.now, c.in-Some.ensures.found, c.in_err-name.ensures.memory (ap Err why)))

@@ -1,5 +1,8 @@
-use Rattle.std.proofs.Common.{◌≡◌, ◌∙◌}
+use Rattle.std.proofs.Common.{◌≡◌, Err, sym, ap, subst, ◌∙◌}
 use Rattle.std.proofs.lemmas.Result.{err_from_is_err_and}
+use Rattle.dlk_lines.specs.declared.fault.LineFault.TheVariants.{Memory}
+use Rattle.dlk_lines.specs.Parts.{Bracketed}
+use Rattle.dlk_lines.specs.Wants.{ArgumentsWant}
 use Rattle.dlk_lines.proofs.Forms.{no_brackets, no_letters, no_word, no_arguments, called_rule}
 use Rattle.dlk_lines.proofs.Refusals.{fault_of_whole}
 use Rattle.dlk_lines.proofs.rule.read_rule.Goals as goal
@@ -33,3 +36,14 @@ returns-in-Some-rule-clause-known g c = (c.in-Some-rule.ensures (g.S.Store.trees
 
 pub returns-in-None-clause-fault : goal.returns-in-None-clause-fault
 returns-in-None-clause-fault g c = absurd (c.in-None.ensures (c.in_ok-arguments.ensures.shape ∙ c.shape.ensures))
+
+pub returns-in_err-arguments-clause-memory : goal.returns-in_err-arguments-clause-memory
+returns-in_err-arguments-clause-memory g c =
+    let e = err_from_is_err_and c.from_residual.result c.from_residual.ensures.1 in
+    let same = c.in-Some-of.ensures.found ∙ c.in-Ok.ensures.cases.0 in
+    rw (e.1, e.2) (λ is. let why : c.in_err-arguments.field-0.0 ≡ Memory = cc is in record {
+      word = c.in-Some-of.word;
+      arguments = c.in-Some.arguments.now;
+      text_is = subst (λ w. Bracketed c.args.text.now w c.in-Some.arguments.now) (sym same) c.in-Some.ensures.found;
+      arguments_want = subst (λ s. ArgumentsWant s c.in-Some.arguments.now) c.shape.ensures (c.in_err-arguments.ensures.memory (ap Err why));
+    })

@@ -19,3 +19,13 @@ returns-clause-fault g c =
     let same : c.in-Ok.word.now ≡ c.in-Some.word.now = c.in-Ok.ensures.cases.0 in
     no_step_or_none _ c.args.text.now c.in-Some.word.now c.in-Some.rest.now c.in-Some.ensures.found c.step_of_word.result
     (rw same at c.step_of_word.ensures.fault)
+
+pub returns-clause-memory : goal.returns-clause-memory
+returns-clause-memory g c = λ is.
+    let same : c.in-Ok.word.now ≡ c.in-Some.word.now = c.in-Ok.ensures.cases.0 in
+    record {
+      word = c.in-Some.word.now;
+      rest = c.in-Some.rest.now;
+      text_is = c.in-Some.ensures.found;
+      step_wants = rw same at (c.step_of_word.ensures.memory is);
+    }

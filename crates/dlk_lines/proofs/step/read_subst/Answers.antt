@@ -10,3 +10,6 @@ pub returns-in_err-pairs-clause-fault : goal.returns-in_err-pairs-clause-fault
 returns-in_err-pairs-clause-fault g c =
     let e = err_from_is_err_and c.from_residual.result c.from_residual.ensures.1 in
     rw (e.1, e.2) (fault_of_whole (no_pairs_behind _ c.args.text.now _ _ c.in-Some.ensures.found) _ c.in_err-pairs.ensures.fault)
+
+pub returns-in_err-pairs-clause-memory : goal.returns-in_err-pairs-clause-memory
+returns-in_err-pairs-clause-memory g c = λ is. (c.in-Some.fact, c.in-Some.rest.now, c.in-Some.ensures.found)

@@ -32,3 +32,16 @@ returns-clause-found g c =
     (Some c.in-Some.text) c.in-Some.ensures.cases in
     let head : c.args.line.now ≡ codes "node " ++ c.in-Some.text.now = rw c.as_slice.ensures at cut in
     line_is nodes c.args.line.now c.in-Some.text.now head _ _ c.in-Some-cut_at.ensures.found _ _ c.in-Some-number.ensures c.in_ok-id.ensures.found
+
+pub returns-in_err-id-clause-memory : goal.returns-in_err-id-clause-memory
+returns-in_err-id-clause-memory g c = λ is.
+    let cut : c.args.line.now ≡ c.as_slice.result.now ++ c.in-Some.text.now = strip_prefix_is Decides-eqb c.args.line.now c.as_slice.result.now
+    (Some c.in-Some.text) c.in-Some.ensures.cases in
+    let head : c.args.line.now ≡ codes "node " ++ c.in-Some.text.now = rw c.as_slice.ensures at cut in
+    record {
+      text = c.in-Some.text.now;
+      number = c.in-Some-number.number;
+      rest = c.in-Some-cut_at.text.now;
+      line_is = head;
+      number_is = record { digits = c.in-Some-cut_at.digits.now; is_number = c.in-Some-number.ensures; text_is = c.in-Some-cut_at.ensures.found.text_is };
+    }

@@ -1,9 +1,10 @@
-use Rattle.std.proofs.Common.{◌≡◌, ◌≢◌, ℕ, List, ◌++◌, sym, ◌∙◌, ap}
+use Rattle.std.proofs.Common.{◌≡◌, ◌≢◌, ℕ, List, ◌++◌, Err, sym, ◌∙◌, ap}
 use Rattle.std.specs.Prelude.{codes}
 use Rattle.std.proofs.lemmas.Bool.{both_ways}
 use Rattle.std.proofs.lemmas.Bool.Decides.{Decides-eqb}
 use Rattle.std.proofs.lemmas.Result.{err_from_is_err_and}
 use Rattle.std.proofs.lemmas.Slice.Eq.{slice_eq-Decides, starts_is}
+use Rattle.dlk_nodes.specs.declared.fault.NodeFault.TheVariants.{Memory}
 use Rattle.dlk_nodes.specs.Lines.{of_node, of_step, done}
 use Rattle.dlk_nodes.specs.Tables.{nodes_at}
 use Rattle.dlk_nodes.proofs.LineRead.{only_a_node, only_a_step}
@@ -40,3 +41,14 @@ returns-then-starts_with-clause-found g c = of_node c.in_ok-number.ensures.found
 
 pub returns-clause-found : goal.returns-clause-found
 returns-clause-found g c = of_step c.in_ok-number-2.ensures.found
+
+pub returns-in_err-number-clause-memory : goal.returns-in_err-number-clause-memory
+returns-in_err-number-clause-memory g c =
+    let e = err_from_is_err_and c.from_residual.result c.from_residual.ensures.1 in
+    rw (e.1, e.2) (λ is text same. let why : c.in_err-number.field-0.0 ≡ Memory = cc is in c.in_err-number.ensures.memory (ap Err why))
+
+pub returns-in_err-number-2-clause-memory : goal.returns-in_err-number-2-clause-memory
+returns-in_err-number-2-clause-memory g c = λ is text same.
+    absurd (both_ways c.starts_with.result c.if-starts_with.false
+    ((starts_is Decides-eqb c.args.line.now c.as_slice-2.result.now c.starts_with.result c.starts_with.ensures.value).1 text
+    (same ∙ ap (λ l. l ++ text) (sym c.as_slice-2.ensures))))

@@ -1,5 +1,9 @@
+use Rattle.std.proofs.Common.{length}
 use Rattle.dlk_store.specs.Stores.{Keeps}
-use Rattle.dlk_replay.proofs.TakenLine.{node_fresh}
+use Rattle.dlk_kernel.specs.Kernel.{facts}
+use Rattle.dlk_nodes.specs.Lines.{IsLine}
+use Rattle.dlk_nodes.specs.Tables.{nodes_at}
+use Rattle.dlk_replay.proofs.TakenLine.{node_fresh, node_text_wrong}
 use Rattle.dlk_replay.proofs.taking.take_by_nodes.Goals as goal
 
 pub take_node-requires : goal.take_node-requires
@@ -11,3 +15,9 @@ take_node-requires g c =
     let is = rw c.in-Ok-Node.field-0-is at c.in-Ok-Node.ensures.found in
     let its = rw c.in-Ok-Node.field-0-is at c.in-Ok-Node.ensures.known in
     node_fresh old new c.args.table.now c.in-Ok-Node.id c.args.line.now c.in-Ok-Node.number keeps one c.requires its is
+
+pub returns-in-Err-clause-fault : goal.returns-in-Err-clause-fault
+returns-in-Err-clause-fault g c =
+    let table = c.args.table.now in
+    rw c.of_node_text.ensures (node_text_wrong (IsLine (nodes_at (g.S.Store.trees c.args.kernel.now.store) table)) c.args.line.now (length table) c.args.place
+    (facts g.S.Store.trees c.args.kernel.now) c.in-Err.fault c.in-Err.ensures.fault)

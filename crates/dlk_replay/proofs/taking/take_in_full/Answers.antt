@@ -1,8 +1,9 @@
 use Rattle.std.proofs.lemmas.Result.{err_from_is_err_and}
 use Rattle.dlk_rules.specs.Steps.{step_at}
 use Rattle.dlk_kernel.specs.Kernel.{facts}
+use Rattle.dlk_lines.proofs.Refusals.{fault_of_whole}
 use Rattle.dlk_replay.specs.Replay.{IsLineInFull}
-use Rattle.dlk_replay.proofs.TakenLine.{step_wrong}
+use Rattle.dlk_replay.proofs.TakenLine.{step_wrong, text_wrong, none_in_full}
 use Rattle.dlk_replay.proofs.taking.take_in_full.Goals as goal
 
 pub returns-in_err-take_step-in-Ok-Step-clause-fault : goal.returns-in_err-take_step-in-Ok-Step-clause-fault
@@ -14,3 +15,9 @@ returns-in_err-take_step-in-Ok-Step-clause-fault g c =
     let is = rw c.in-Ok-Step.field-0-is at c.in-Ok-Step.ensures.found in
     rw (p.1, p.2) (step_wrong IsLineInFull c.args.line.now 0 c.args.place c.in-Ok-Step.number rows read (step_at trees c.in-Ok-Step.step) _ is
     c.read_line.ensures.grows.1.provables c.in_err-take_step-in-Ok-Step.ensures.fault)
+
+pub returns-in-Err-clause-fault : goal.returns-in-Err-clause-fault
+returns-in-Err-clause-fault g c =
+    let text = c.args.line.now in
+    let wrong = fault_of_whole (none_in_full text) c.in-Err.fault c.in-Err.ensures.fault in
+    rw c.of_text.ensures (text_wrong IsLineInFull text 0 c.args.place (facts g.S.Store.trees c.args.kernel.now) c.in-Err.fault wrong)

@@ -5,9 +5,9 @@ use Rattle.dlk_store.specs.declared.Id.{Id}
 use Rattle.dlk_store.specs.Stores.{tree}
 use Rattle.dlk_calculus.specs.Limits.{most_formulas}
 use Rattle.dlk_calculus.specs.Sequents.{Sequent as TreeSequent}
+use Rattle.dlk_calculus.proofs.PlaceLaws.{at_one}
 use Rattle.dlk_sequent.specs.Sequents.{sequent_at}
 use Rattle.dlk_kernel.specs.Kernel.{facts}
-use Rattle.dlk_elab.proofs.Places.{at_one}
 use Rattle.dlk_strategy.specs.Runs.{main_goals, formulas}
 use Rattle.dlk_strategy.proofs.atoms.places_on.Goals as goal
 

@@ -1,13 +1,15 @@
-use Rattle.std.proofs.Common.{◌+◌, ◌-◌, map, take, length, sym, ap, ◌∙◌, arith}
+use Rattle.std.proofs.Common.{◌+◌, ◌-◌, map, take, length, refl, sym, ap, subst, ◌∙◌, arith}
+use Rattle.std.specs.Prelude.{Err}
 use Rattle.std.proofs.lemmas.List.{length-map}
 use Rattle.std.proofs.Math.Seq.{take-append_seam, take-length}
 use Rattle.dlk_rules.specs.Steps.{step_at}
 use Rattle.dlk_kernel.specs.Kernel.{facts, provable_at}
 use Rattle.dlk_tacsyn.specs.Ties.{atom_at}
-use Rattle.dlk_elab.specs.declared.fault.FailWhy.TheVariants.{UnknownName, NoPlace, NoMatch, Step as AtStep}
-use Rattle.dlk_strategy.specs.Runs.{spent}
-use Rattle.dlk_strategy.specs.Ties.{now}
-use Rattle.dlk_strategy.proofs.States.{steps_known, steps_more, known_more, goal_there, counted_as, of_last, once_done, once_fails, same_extends}
+use Rattle.dlk_strategy.specs.declared.fault.RunFault.{RunFault}
+use Rattle.dlk_strategy.specs.Runs.{spent, Once}
+use Rattle.dlk_strategy.specs.Ties.{now, Becomes}
+use Rattle.dlk_strategy.proofs.States.{steps_known, steps_more, known_more, goal_there, counted_as, of_last, once_done, same_extends}
+use Rattle.dlk_strategy.proofs.Faults.{unless_over, back_on_failure, atom_fails}
 use Rattle.dlk_strategy.proofs.atoms.run_once.Goals as goal
 
 pub returns-then-trace-ge-MOST_RUNS-clause-fate : goal.returns-then-trace-ge-MOST_RUNS-clause-fate
@@ -69,78 +71,33 @@ returns-in_ok-append-in-Ok-clause-left g c =
     (counted_as old (facts trees c.elaborate.new.kernel) c.args.goal atom steps c.goals_left-before.result c.goals_left-after.result c.requires.ready.first c.requires.ready.room made
     c.goals_left-before.ensures.goals c.goals_left-after.ensures.goals).1
 
-pub returns-in-Err-NoPlace-clause-fate : goal.returns-in-Err-NoPlace-clause-fate
-returns-in-Err-NoPlace-clause-fate g c =
+pub returns-in-Err-clause-fate : goal.returns-in-Err-clause-fate
+returns-in-Err-clause-fate g c =
     let trees = g.S.Store.trees in
     let is = c.rows-fact.ensures.count ∙ sym (length-map c.args.kernel.now.rows (provable_at (trees c.args.kernel.now.store))) in
-    once_fails (atom_at (trees c.args.kernel.now.store) c.args.atom.now) c.args.goal c.rows-fact.result (now trees c.args.kernel.now c.args.trace.now) NoPlace
-    c.if-trace-ge-MOST_RUNS.false is (rw c.in-Err-NoPlace.field-0-is at c.in-Err-NoPlace.ensures.fault)
+    let atom = atom_at (trees c.args.kernel.now.store) c.args.atom.now in
+    let before = now trees c.args.kernel.now c.args.trace.now in
+    let after = now trees c.elaborate.new.kernel (record c.args.trace.now { used = c.args.trace.now.used + 1 }) in
+    subst (λ (e : RunFault). Becomes (Once atom c.args.goal) before after (Err e)) (sym c.of_atom.ensures)
+    (atom_fails atom c.args.goal c.rows-fact.result before after c.if-trace-ge-MOST_RUNS.false is refl c.in-Err.why c.in-Err.ensures.fault)
 
-pub returns-in-Err-UnknownName-clause-fate : goal.returns-in-Err-UnknownName-clause-fate
-returns-in-Err-UnknownName-clause-fate g c =
-    let trees = g.S.Store.trees in
-    let is = c.rows-fact.ensures.count ∙ sym (length-map c.args.kernel.now.rows (provable_at (trees c.args.kernel.now.store))) in
-    once_fails (atom_at (trees c.args.kernel.now.store) c.args.atom.now) c.args.goal c.rows-fact.result (now trees c.args.kernel.now c.args.trace.now) UnknownName
-    c.if-trace-ge-MOST_RUNS.false is (rw c.in-Err-UnknownName.field-0-is at c.in-Err-UnknownName.ensures.fault)
-
-pub returns-in-Err-NoMatch-clause-fate : goal.returns-in-Err-NoMatch-clause-fate
-returns-in-Err-NoMatch-clause-fate g c =
-    let trees = g.S.Store.trees in
-    let is = c.rows-fact.ensures.count ∙ sym (length-map c.args.kernel.now.rows (provable_at (trees c.args.kernel.now.store))) in
-    once_fails (atom_at (trees c.args.kernel.now.store) c.args.atom.now) c.args.goal c.rows-fact.result (now trees c.args.kernel.now c.args.trace.now) NoMatch
-    c.if-trace-ge-MOST_RUNS.false is (rw c.in-Err-NoMatch.field-0-is at c.in-Err-NoMatch.ensures.fault)
-
-pub returns-in-Err-Step-clause-fate : goal.returns-in-Err-Step-clause-fate
-returns-in-Err-Step-clause-fate g c =
-    let trees = g.S.Store.trees in
-    let is = c.rows-fact.ensures.count ∙ sym (length-map c.args.kernel.now.rows (provable_at (trees c.args.kernel.now.store))) in
-    once_fails (atom_at (trees c.args.kernel.now.store) c.args.atom.now) c.args.goal c.rows-fact.result (now trees c.args.kernel.now c.args.trace.now) (AtStep c.in-Err-Step.reason)
-    c.if-trace-ge-MOST_RUNS.false is (rw c.in-Err-Step.field-0-is at c.in-Err-Step.ensures.fault)
-
-pub returns-in-Err-NoPlace-clause-extends : goal.returns-in-Err-NoPlace-clause-extends
-returns-in-Err-NoPlace-clause-extends g c =
+pub returns-in-Err-clause-extends : goal.returns-in-Err-clause-extends
+returns-in-Err-clause-extends g c =
     let trees = g.S.Store.trees in
     let keeps = g.met.S.Store.grows_keeps c.args.kernel.now.store c.elaborate.new.kernel.store c.elaborate.ensures.grows in
-    record {
-      rows = same_extends trees c.args.kernel.now c.elaborate.new.kernel c.in-Err-NoPlace.ensures.err;
+    unless_over _ (record {
+      rows = same_extends trees c.args.kernel.now c.elaborate.new.kernel c.in-Err.ensures.err;
       steps = take-length c.args.trace.now.steps.items;
       known = steps_known (trees c.args.kernel.now.store) (trees c.elaborate.new.kernel.store) keeps c.args.trace.now.steps.items c.requires.ready.known;
       counted = omega arith;
       within = omega (arith, c.if-trace-ge-MOST_RUNS.false);
-    }
+    })
 
-pub returns-in-Err-UnknownName-clause-extends : goal.returns-in-Err-UnknownName-clause-extends
-returns-in-Err-UnknownName-clause-extends g c =
-    let trees = g.S.Store.trees in
-    let keeps = g.met.S.Store.grows_keeps c.args.kernel.now.store c.elaborate.new.kernel.store c.elaborate.ensures.grows in
-    record {
-      rows = same_extends trees c.args.kernel.now c.elaborate.new.kernel c.in-Err-UnknownName.ensures.err;
-      steps = take-length c.args.trace.now.steps.items;
-      known = steps_known (trees c.args.kernel.now.store) (trees c.elaborate.new.kernel.store) keeps c.args.trace.now.steps.items c.requires.ready.known;
+pub returns-in-Err-clause-back : goal.returns-in-Err-clause-back
+returns-in-Err-clause-back g c =
+    back_on_failure _ (record {
+      rows = c.in-Err.ensures.err;
+      steps = refl;
       counted = omega arith;
       within = omega (arith, c.if-trace-ge-MOST_RUNS.false);
-    }
-
-pub returns-in-Err-NoMatch-clause-extends : goal.returns-in-Err-NoMatch-clause-extends
-returns-in-Err-NoMatch-clause-extends g c =
-    let trees = g.S.Store.trees in
-    let keeps = g.met.S.Store.grows_keeps c.args.kernel.now.store c.elaborate.new.kernel.store c.elaborate.ensures.grows in
-    record {
-      rows = same_extends trees c.args.kernel.now c.elaborate.new.kernel c.in-Err-NoMatch.ensures.err;
-      steps = take-length c.args.trace.now.steps.items;
-      known = steps_known (trees c.args.kernel.now.store) (trees c.elaborate.new.kernel.store) keeps c.args.trace.now.steps.items c.requires.ready.known;
-      counted = omega arith;
-      within = omega (arith, c.if-trace-ge-MOST_RUNS.false);
-    }
-
-pub returns-in-Err-Step-clause-extends : goal.returns-in-Err-Step-clause-extends
-returns-in-Err-Step-clause-extends g c =
-    let trees = g.S.Store.trees in
-    let keeps = g.met.S.Store.grows_keeps c.args.kernel.now.store c.elaborate.new.kernel.store c.elaborate.ensures.grows in
-    record {
-      rows = same_extends trees c.args.kernel.now c.elaborate.new.kernel c.in-Err-Step.ensures.err;
-      steps = take-length c.args.trace.now.steps.items;
-      known = steps_known (trees c.args.kernel.now.store) (trees c.elaborate.new.kernel.store) keeps c.args.trace.now.steps.items c.requires.ready.known;
-      counted = omega arith;
-      within = omega (arith, c.if-trace-ge-MOST_RUNS.false);
-    }
+    })

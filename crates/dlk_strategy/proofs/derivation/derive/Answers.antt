@@ -1,10 +1,14 @@
-use Rattle.std.proofs.Common.{◌+◌, map, sym, ap, ◌∙◌}
+use Rattle.std.proofs.Common.{◌+◌, map, refl, sym, ap, subst, ◌∙◌, arith}
+use Rattle.std.specs.Prelude.{Err}
+use Rattle.std.proofs.Math.Seq.{take-length}
 use Rattle.dlk_sequent.specs.Sequents.{sequent_at}
 use Rattle.dlk_tacsyn.specs.Ties.{argument_at, atom_at}
-use Rattle.dlk_derive.specs.Derives.{NoPlace, WrongShape, NoMatch}
-use Rattle.dlk_strategy.specs.Runs.{OneByOne, RunDerive, no_plan, spent}
-use Rattle.dlk_strategy.specs.Ties.{now, at_byte}
+use Rattle.dlk_strategy.specs.declared.fault.RunFault.{RunFault}
+use Rattle.dlk_strategy.specs.Runs.{OneByOne, RunDerive, spent}
+use Rattle.dlk_strategy.specs.Ties.{now, at_byte, Becomes}
 use Rattle.dlk_strategy.proofs.Derivations.{given_place}
+use Rattle.dlk_strategy.proofs.Faults.{unless_over, plan_fails}
+use Rattle.dlk_strategy.proofs.States.{same_extends}
 use Rattle.dlk_strategy.proofs.Uses.{planned_fit, derived, becomes_on}
 use Rattle.dlk_strategy.proofs.derivation.derive.Goals as goal
 
@@ -41,23 +45,26 @@ returns-in-Ok-clause-fate g c =
     becomes_on (OneByOne (map (at_byte atom.at) atoms) 1 c.args.goal) (RunDerive atom c.args.goal) next first after law c.one_by_one.result
     c.one_by_one.ensures.fate
 
-pub returns-in-Err-NoPlace-clause-fate : goal.returns-in-Err-NoPlace-clause-fate
-returns-in-Err-NoPlace-clause-fate g c =
-    let trees = g.S.Store.trees c.args.kernel.now.store in
-    let are = ap (map (argument_at trees)) (sym c.as_slice.ensures ∙ c.in-Some.ensures.found) in
-    no_plan (sequent_at trees c.goal_at.result.now) c.in-Some.place c.in-Some.path.now NoPlace c.if-trace-ge-MOST_RUNS.false c.goal_at.ensures.goal are
-    (rw c.in-Err-NoPlace.field-0-is at c.in-Err-NoPlace.ensures.fault)
+pub returns-in-Err-clause-fate : goal.returns-in-Err-clause-fate
+returns-in-Err-clause-fate g c =
+    let trees = g.S.Store.trees in
+    let old = c.args.kernel.now in
+    let atom = atom_at (trees old.store) c.args.atom.now in
+    let before = now trees old c.args.trace.now in
+    let after = now trees old (record c.args.trace.now { used = c.args.trace.now.used + 1 }) in
+    let are = ap (map (argument_at (trees old.store))) (sym c.as_slice.ensures ∙ c.in-Some.ensures.found) in
+    subst (λ (e : RunFault). Becomes (RunDerive atom c.args.goal) before after (Err e)) (sym c.of_plan.ensures)
+    (plan_fails atom c.args.goal before after (sequent_at (trees old.store) c.goal_at.result.now) c.in-Some.place c.in-Some.path.now
+    c.if-trace-ge-MOST_RUNS.false c.goal_at.ensures.goal are refl c.in-Err.why c.in-Err.ensures.fault)
 
-pub returns-in-Err-WrongShape-clause-fate : goal.returns-in-Err-WrongShape-clause-fate
-returns-in-Err-WrongShape-clause-fate g c =
-    let trees = g.S.Store.trees c.args.kernel.now.store in
-    let are = ap (map (argument_at trees)) (sym c.as_slice.ensures ∙ c.in-Some.ensures.found) in
-    no_plan (sequent_at trees c.goal_at.result.now) c.in-Some.place c.in-Some.path.now WrongShape c.if-trace-ge-MOST_RUNS.false c.goal_at.ensures.goal are
-    (rw c.in-Err-WrongShape.field-0-is at c.in-Err-WrongShape.ensures.fault)
-
-pub returns-in-Err-NoMatch-clause-fate : goal.returns-in-Err-NoMatch-clause-fate
-returns-in-Err-NoMatch-clause-fate g c =
-    let trees = g.S.Store.trees c.args.kernel.now.store in
-    let are = ap (map (argument_at trees)) (sym c.as_slice.ensures ∙ c.in-Some.ensures.found) in
-    no_plan (sequent_at trees c.goal_at.result.now) c.in-Some.place c.in-Some.path.now NoMatch c.if-trace-ge-MOST_RUNS.false c.goal_at.ensures.goal are
-    (rw c.in-Err-NoMatch.field-0-is at c.in-Err-NoMatch.ensures.fault)
+pub returns-in-Err-clause-extends : goal.returns-in-Err-clause-extends
+returns-in-Err-clause-extends g c =
+    let trees = g.S.Store.trees in
+    let old = c.args.kernel.now in
+    unless_over _ (record {
+      rows = same_extends trees old old (record { ids = refl; provables = refl });
+      steps = take-length c.args.trace.now.steps.items;
+      known = c.requires.ready.known;
+      counted = omega arith;
+      within = omega (arith, c.if-trace-ge-MOST_RUNS.false);
+    })

@@ -3,10 +3,11 @@ use Rattle.std.proofs.lemmas.Result.{err_from_is_err_and}
 use Rattle.dlk_tacsyn.specs.Tactics.{Atom}
 use Rattle.dlk_tacsyn.specs.Rows.{IsFitting}
 use Rattle.dlk_tacsyn.specs.Ties.{atom_at}
+use Rattle.dlk_elab.proofs.Rows.{rows_longer}
 use Rattle.dlk_strategy.specs.Runs.{Done, Fate, Then, Each, RunAtom}
 use Rattle.dlk_strategy.specs.Ties.{now, Becomes}
 use Rattle.dlk_strategy.proofs.Trying.{atom_same, atom_known}
-use Rattle.dlk_strategy.proofs.Reached.{reached_on, reached_err, reached_end, reached_ready, extends_err, rows_on, each_next, each_none}
+use Rattle.dlk_strategy.proofs.Reached.{reached_on, reached_err, reached_end, reached_ready, extends_err, each_next, each_none}
 use Rattle.dlk_strategy.proofs.derivation.on_each.Goals as goal
 
 pub run_atom-requires-clause-ready : goal.run_atom-requires-clause-ready
@@ -57,7 +58,7 @@ returns-in_err-left g c =
     record {
       fate = rw (e.1, e.2) over;
       extends = rw (e.1, e.2) extends;
-      rows = rows_on trees old mid c.run_atom.new.kernel c.loop.invariant.reached.extends.rows c.run_atom.ensures.rows;
+      rows = rows_longer trees old mid c.run_atom.new.kernel c.loop.invariant.reached.extends.rows c.run_atom.ensures.rows;
       left = rw e.1 tt;
       few = rw e.1 tt;
       grows = g.met.S.Store.grows_trans old.store mid.store c.run_atom.new.kernel.store c.loop.invariant.grows c.run_atom.ensures.grows;

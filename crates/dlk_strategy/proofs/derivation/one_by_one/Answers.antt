@@ -8,10 +8,11 @@ use Rattle.dlk_tacsyn.specs.Tactics.{Atom}
 use Rattle.dlk_tacsyn.specs.Ties.{atom_at, AtomIsKnown}
 use Rattle.dlk_tacsyn.specs.declared.tactic.Atom.{Atom as GivenAtom}
 use Rattle.dlk_tacsyn.proofs.Behind.{nil_of}
+use Rattle.dlk_elab.proofs.Rows.{rows_longer}
 use Rattle.dlk_strategy.specs.Runs.{Done, Fate, Then, OnEach, OneByOne, RunAtom}
 use Rattle.dlk_strategy.specs.Ties.{now, at_byte, Becomes}
 use Rattle.dlk_strategy.proofs.Trying.{atom_same, atom_known}
-use Rattle.dlk_strategy.proofs.Reached.{reached_first, reached_on, reached_err, reached_end, reached_ready, extends_err, rows_on}
+use Rattle.dlk_strategy.proofs.Reached.{reached_first, reached_on, reached_err, reached_end, reached_ready, extends_err}
 use Rattle.dlk_strategy.proofs.Uses.{moved_fits}
 use Rattle.dlk_strategy.proofs.derivation.one_by_one.Goals as goal
 
@@ -91,7 +92,7 @@ returns-in_err-goals g c =
     record {
       fate = rw (e.1, e.2) over;
       extends = rw (e.1, e.2) extends;
-      rows = rows_on trees old mid c.on_each.new.kernel c.loop-a.invariant.reached.extends.rows c.on_each.ensures.rows;
+      rows = rows_longer trees old mid c.on_each.new.kernel c.loop-a.invariant.reached.extends.rows c.on_each.ensures.rows;
       left = rw e.1 tt;
       few = rw e.1 tt;
       grows = g.met.S.Store.grows_trans old.store mid.store c.on_each.new.kernel.store c.loop-a.invariant.grows c.on_each.ensures.grows;

@@ -1,5 +1,6 @@
 use Rattle.std.proofs.Common.{[]}
-use Rattle.dlk_strategy.proofs.TakenSteps.{run_taken, taken_proper}
+use Rattle.dlk_elab.proofs.Elaborates.{taken_proper}
+use Rattle.dlk_strategy.proofs.TakenSteps.{run_taken}
 use Rattle.dlk_strategy.proofs.laws.run_is_taken.Goals as goal
 
 pub returns : goal.returns

@@ -1,5 +1,5 @@
+use Rattle.dlk_elab.proofs.Elaborates.{taken_proper}
 use Rattle.dlk_strategy.proofs.OnGoal.{on_taken}
-use Rattle.dlk_strategy.proofs.TakenSteps.{taken_proper}
 use Rattle.dlk_strategy.proofs.laws.run_on_is_taken.Goals as goal
 
 pub returns : goal.returns

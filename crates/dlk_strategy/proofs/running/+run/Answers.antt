@@ -11,14 +11,15 @@ use Rattle.dlk_strategy.proofs.States.{item_here, same_extends}
 use Rattle.dlk_strategy.proofs.Trying.{back_known, back_now, back_then_back, back_extends}
 use Rattle.dlk_strategy.proofs.Walking.{tactic_same, runnable_kept, choice_at, sequence_at, branch_at, choice_parts, sequence_parts, branch_parts, count_of}
 use Rattle.dlk_strategy.proofs.Parts.{part_at, turn_next, turn_none as part_none, own_next, own_none, branched_err, runs_each}
-use Rattle.dlk_strategy.proofs.Reached.{leads_as, taken_back, reached_on, reached_err, reached_end, reached_ready, extends_err, rows_on, each_next, each_none}
+use Rattle.dlk_strategy.proofs.Reached.{leads_as, taken_back, reached_on, reached_err, reached_end, reached_ready, extends_err, each_next, each_none}
 use Rattle.dlk_strategy.proofs.Choosing.{item_of_take, choices_next, choices_last, choice_err, choice_done, choice_fails, choice_last, back_ready}
 use Rattle.dlk_strategy.proofs.Repeating.{waits_init, waits_ready, waits_end, extends_here, turn_over, turn_none, turn_still, turn_some, turn_err}
 use Rattle.dlk_strategy.proofs.running.+run.Goals as goal
 use Rattle.dlk_store.specs.Stores.{Keeps}
 use Rattle.dlk_calculus.specs.Provables.{Provable}
 use Rattle.dlk_tacsyn.specs.Tactics as the
-use Rattle.dlk_strategy.proofs.Depths.{size_choice, size_sequence, size_branch}
+use Rattle.dlk_library.proofs.Depths.{size_choice, size_sequence, size_branch}
+use Rattle.dlk_elab.proofs.Rows.{rows_longer}
 
 pub choose-attempt-requires : goal.choose-attempt-requires
 choose-attempt-requires g t c κs within =
@@ -467,7 +468,7 @@ run_goals-returns-in_err-left g t c =
     record {
       fate = rw (e.1, e.2) (subst (λ (f : Fate). Becomes f (now trees old c.args.trace.now) (now trees c.run_one.new.kernel c.run_one.new.trace) (Err c.in_err-left.field-0.0)) (sym one_each) over);
       extends = rw (e.1, e.2) extends;
-      rows = rows_on trees old mid c.run_one.new.kernel c.loop.invariant.reached.extends.rows c.run_one.ensures.rows;
+      rows = rows_longer trees old mid c.run_one.new.kernel c.loop.invariant.reached.extends.rows c.run_one.ensures.rows;
       left = rw e.1 tt;
       few = rw e.1 tt;
       grows = g.met.S.Store.grows_trans old.store mid.store c.run_one.new.kernel.store c.loop.invariant.grows c.run_one.ensures.grows;

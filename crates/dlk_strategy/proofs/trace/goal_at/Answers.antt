@@ -5,10 +5,11 @@ use Rattle.dlk_tree.specs.Trees.{Tree}
 use Rattle.dlk_calculus.specs.Places.{At, IsPlace}
 use Rattle.dlk_calculus.specs.Sequents.{Sequent as TreeSequent}
 use Rattle.dlk_calculus.specs.Provables.{Provable}
+use Rattle.dlk_calculus.proofs.PlaceLaws.{At-map, At_read}
 use Rattle.dlk_sequent.specs.declared.sequent.Sequent.{Sequent}
 use Rattle.dlk_sequent.specs.Sequents.{sequent_at, IsKnown}
 use Rattle.dlk_kernel.specs.Kernel.{provable_at, facts}
-use Rattle.dlk_elab.proofs.Places.{At-map, At_read, read_as}
+use Rattle.dlk_elab.proofs.Places.{read_as}
 use Rattle.dlk_strategy.specs.Runs.{main_goals}
 use Rattle.dlk_strategy.proofs.MainGoals.{shown_goals, few_formulas}
 use Rattle.dlk_strategy.proofs.States.{main_some}

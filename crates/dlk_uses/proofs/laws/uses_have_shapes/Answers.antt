@@ -1,5 +1,6 @@
 use Rattle.dlk_uses.proofs.Shapes.{axiom_shaped}
-use Rattle.dlk_uses.proofs.Instances.{instance_shaped, instance_made, proved_last}
+use Rattle.dlk_uses.proofs.Instance.{proves_one}
+use Rattle.dlk_uses.proofs.Instances.{instance_shaped, instance_made}
 use Rattle.dlk_uses.proofs.laws.uses_have_shapes.Goals as goal
 
 pub returns : goal.returns
@@ -17,5 +18,5 @@ returns c = record {
         subst_eq = c.subst_over_kids.ensures.equation;
       });
   made = instance_made c.derived_formulas.ensures c.nothing_replaced.ensures;
-  proved = proved_last;
+  one = proves_one;
 }

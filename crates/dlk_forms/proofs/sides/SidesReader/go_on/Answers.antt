@@ -9,16 +9,16 @@ use Rattle.dlk_forms.specs.declared.sides.SidesReader.{SidesReader}
 use Rattle.dlk_forms.proofs.TreeSteps.{when_err, when_ok}
 use Rattle.dlk_forms.proofs.sides.SidesReader.go_on.Goals as goal
 
-pub returns-in_err-self : goal.returns-in_err-self
-returns-in_err-self c = λ x h.
+pub returns-in_err-self-clause-agrees : goal.returns-in_err-self-clause-agrees
+returns-in_err-self-clause-agrees c = λ x h.
     let e = err_from_is_err_and c.from_residual.result c.from_residual.ensures.1 in
     let k = seen c.args.lexeme in
     let permitted = sym c.permits.ensures ∙ c.if-not-permits.false in
     rw (e.1, e.2) (when_err (ShowsSidesAt c.step.new.self) ShowsSides c.in_err-self.field-0.0 (permits Refused k) (sequent_step x k) permitted
     (c.in_err-self.ensures x (rw c.take-mode.ensures.value h)))
 
-pub returns : goal.returns
-returns c = λ x h.
+pub returns-clause-agrees : goal.returns-clause-agrees
+returns-clause-agrees c = λ x h.
     let k = seen c.args.lexeme in
     let permitted = sym c.permits.ensures ∙ c.if-not-permits.false in
     let next : SidesReader = record { sides = c.step.new.self; mode = c.in_ok-self.field-0 } in

@@ -7,7 +7,7 @@ use Rattle.dlk_forms.proofs.sides.SidesSoFar.end.Goals as goal
 pub returns-in_default : goal.returns-in_default
 returns-in_default c = λ x h.
     let s = between_shown c.args.self c.args.mode x c.in_default.is h in
-    rw (s.1, fresh_ended s.0) (c.both.ensures s.0 none s.2)
+    rw (s.1, fresh_ended s.0) (c.both.ensures.agrees s.0 none s.2)
 
 pub returns-in_err-finish : goal.returns-in_err-finish
 returns-in_err-finish c = λ x h.
@@ -20,4 +20,4 @@ pub returns : goal.returns
 returns c = λ x h.
     let s = inside_shown c.args.self c.args.mode c.in-Some.mode x c.in-Some.is h in
     let t = finished_ok c.finish.new.self s.0 s.1 s.2 (c.in_ok-finish.ensures s.0 s.1 s.2 s.4) in
-    rw (s.3, both_ended s.0 s.1 s.2 t.0 t.1) (c.both-2.ensures s.0 (snoc s.1 t.0) t.2)
+    rw (s.3, both_ended s.0 s.1 s.2 t.0 t.1) (c.both-2.ensures.agrees s.0 (snoc s.1 t.0) t.2)

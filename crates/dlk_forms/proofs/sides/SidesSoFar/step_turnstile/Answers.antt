@@ -19,4 +19,4 @@ pub returns : goal.returns
 returns c = λ x h.
     let s = inside_shown c.args.self.now c.args.mode c.in-Some.mode x c.in-Some.is h in
     let t = finished_ok c.finish.new.self s.0 s.1 s.2 (c.in_ok-finish.ensures s.0 s.1 s.2 s.4) in
-    rw (s.3, t.1) (c.turn-2.ensures s.0 (snoc s.1 t.0) t.2)
+    rw (s.3, t.1) (c.turn-2.ensures.agrees s.0 (snoc s.1 t.0) t.2)
