@@ -51,8 +51,8 @@ old_last numbers x same old lt = elim (at_either numbers x (length numbers + 1) 
   | inr e ↦ sym e.1
 ]
 
-fewer : (numbers : List ℕ) (more same : ℕ) → HaveOldNumbers numbers same → more ≤ same → HaveOldNumbers numbers more
-fewer numbers more same old le row a b = old row a (omega (arith, b, le))
+fewer : (numbers : List ℕ) (few same : ℕ) → HaveOldNumbers numbers same → few ≤ same → HaveOldNumbers numbers few
+fewer numbers few same old le row a b = old row a (omega (arith, b, le))
 
 -- no more have than there are
 old_within : (numbers : List ℕ) (same : ℕ) → HaveOldNumbers numbers same → same ≤ length numbers
@@ -105,15 +105,15 @@ kept_too read kept numbers step many before size same old = elim (cases_order ma
   | inr (inr gt) ↦ all gt
 ]
   where
-    more : length (kept ++ moved numbers step ∷ []) ≡ length kept + 1
-    more = length-append kept (moved numbers step ∷ [])
+    longer : length (kept ++ moved numbers step ∷ []) ≡ length kept + 1
+    longer = length-append kept (moved numbers step ∷ [])
 
     here : many ≤ length numbers →
         (many ≤ length (kept ++ moved numbers step ∷ [])) × (take many (kept ++ moved numbers step ∷ []) ≡ take many (read ++ step ∷ []))
     here le =
         let was = same many (old_before numbers (length kept + 1) many old le) in
         let short = was.0 in (
-          omega (arith, short, more),
+          omega (arith, short, longer),
           take-append-le many kept (moved numbers step ∷ []) short ∙ was.1 ∙ sym (take-append-le many read (step ∷ []) (omega (arith, le, size))),
         )
 
@@ -129,7 +129,7 @@ kept_too read kept numbers step many before size same old = elim (cases_order ma
         let equal : kept ≡ read =
         sym (take_all (length numbers) kept (omega (arith, e))) ∙ was ∙ take_all (length numbers) read (omega (arith, size)) in
         let stay : moved numbers step ≡ step = stays read step numbers before (subst (HaveOldNumbers numbers) size first) in (
-          omega (arith, e, reach, more, length-append numbers ((length kept + 1) ∷ [])),
+          omega (arith, e, reach, longer, length-append numbers ((length kept + 1) ∷ [])),
           λ i. take many (equal i ++ stay i ∷ []),
         )
 
@@ -177,7 +177,7 @@ takes_take zero steps rows takes = none
 takes_take (suc n) _ _ none = none
 takes_take (suc n) _ _ (more {steps = steps} {mid = mid} {step = step} {p = p} takes is) = elim (cases_order (suc n) (length steps + 1)) [
   | inl e ↦ whole (omega (arith, e))
-  | inr (inl lt) ↦ part (omega (arith, lt))
+  | inr (inl lt) ↦ part (takes_take (suc n) steps mid takes) (omega (arith, lt))
   | inr (inr gt) ↦ whole (omega (arith, gt))
 ]
   where
@@ -190,10 +190,11 @@ takes_take (suc n) _ _ (more {steps = steps} {mid = mid} {step = step} {p = p} t
         (sym (take_all (suc n) (steps ++ step ∷ []) (omega (arith, le, length-append steps (step ∷ [])))))
         (subst (Takes [] (steps ++ step ∷ [])) (sym (take_all (suc n) (mid ++ p ∷ []) (omega (arith, le, long, length-append mid (p ∷ []))))) (more takes is))
 
-    part : suc n ≤ length steps → Takes [] (take (suc n) (steps ++ step ∷ [])) (take (suc n) (mid ++ p ∷ []))
-    part le =
+    part : Takes [] (take (suc n) steps) (take (suc n) mid) → suc n ≤ length steps →
+        Takes [] (take (suc n) (steps ++ step ∷ [])) (take (suc n) (mid ++ p ∷ []))
+    part first le =
         subst (λ l. Takes [] l (take (suc n) (mid ++ p ∷ []))) (sym (take-append-le (suc n) steps (step ∷ []) le))
-        (subst (Takes [] (take (suc n) steps)) (sym (take-append-le (suc n) mid (p ∷ []) (omega (arith, le, long)))) (takes_take (suc n) steps mid takes))
+        (subst (Takes [] (take (suc n) steps)) (sym (take-append-le (suc n) mid (p ∷ []) (omega (arith, le, long)))) first)
 
 -- the first kept steps have the first rows
 pub record Front (kept : List TreeStep) (rows : List Provable) (same : ℕ) : Type 0 where

@@ -273,7 +273,8 @@ dropped (x ∷ term) zero step rest e =
 dropped (x ∷ term) (suc n) step rest e =
     let d = dropped term n step rest e in
     let lt = d.0 in
-    (omega (arith, lt), at_later x term (n + 1) step d.1, d.2)
+    let place : suc (n + 1) ≡ suc n + 1 = omega arith in
+    (omega (arith, lt), subst (λ k. At (x ∷ term) k step) place (at_later x term (n + 1) step d.1), subst (λ k. rest ≡ drop k (x ∷ term)) place d.2)
 
 -- of the rows so far these steps are kept, and the others are left
 pub record RowsLeft (term left steps : List Step) (keys : List (List ℕ)) (numbers : List ℕ) : Type 0 where

@@ -121,8 +121,8 @@ one_behind trees to made new copy step left rest all pushed next same e =
 
 pub none_left : (trees : List Tree) (to : ℕ → ℕ) (made left : List Step) (all : List TreeStep) → length left ≡ 0 →
     map (step_at trees) made ++ map (renumbered to) (map (step_at trees) left) ≡ all → map (step_at trees) made ≡ all
-none_left trees to made [] all none e = sym (append-nil (map (step_at trees) made)) ∙ e
-none_left trees to made (x ∷ left) all none e = absurd (omega (arith, none))
+none_left trees to made [] all ended e = sym (append-nil (map (step_at trees) made)) ∙ e
+none_left trees to made (x ∷ left) all ended e = absurd (omega (arith, ended))
 
 -- steps that name earlier rows name few
 pub all_few : (steps : List Step) → NameEarlier steps → length steps ≤ most_rows → All NamesFew steps
@@ -260,6 +260,19 @@ module _ (trees : List Tree) (term lemma merges : List Step) (c : Sequent) (rows
       links_made some,
       subst (λ l. FirstFault [] l why) (sym whole_is) (fault_join [] rows (map (step_at trees) term) (map (step_at trees) rest) why takes f),
     )
+
+-- what is made, by counts that are equal
+pub joins_as : (trees : List Tree) (rows : List Provable) (c : Sequent) (merges : List Step) (m n : ℕ) → m ≡ n →
+    ((p : Provable) → At rows (length rows) p → Joins c (length rows + m) (length rows) (length rows + m) p.goals (map (step_at trees) merges)) →
+    (p : Provable) → At rows (length rows) p → Joins c (length rows + n) (length rows) (length rows + n) p.goals (map (step_at trees) merges)
+joins_as trees rows c merges m n e h p last =
+    subst (λ k. Joins c (length rows + k) (length rows) (length rows + k) p.goals (map (step_at trees) merges)) e (h p last)
+
+pub rest_as : (trees : List Tree) (lemma merges rest : List Step) (m n : ℕ) → m ≡ n →
+    map (step_at trees) rest ≡ map (renumbered (λ fact. fact + m)) (map (step_at trees) lemma) ++ map (step_at trees) merges →
+    map (step_at trees) rest ≡ map (renumbered (λ fact. fact + n)) (map (step_at trees) lemma) ++ map (step_at trees) merges
+rest_as trees lemma merges rest m n e h =
+    h ∙ ap (λ k. map (renumbered (λ fact. fact + k)) (map (step_at trees) lemma) ++ map (step_at trees) merges) e
 
 pub nothing : {A : Type 0} (xs : List A) → length xs ≡ 0 → xs ≡ []
 nothing [] e = refl

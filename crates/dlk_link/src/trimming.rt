@@ -84,6 +84,7 @@ pub(crate) fn kept_steps(alloc: Global, term: Vec<Step>) -> Result<(Vec<Step>, u
         let number = if marks[numbers.len()] {
             kept.number(alloc, moved(step, &numbers))?
         } else {
+            let _left_out = step;
             0
         };
         numbers.push(number)?;

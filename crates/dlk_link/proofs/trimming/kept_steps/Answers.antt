@@ -4,13 +4,16 @@ use Rattle.std.proofs.lemmas.List.{length-map}
 use Rattle.dlk_tree.specs.Trees.{Tree}
 use Rattle.dlk_rules.specs.declared.step.Step.{Step}
 use Rattle.dlk_rules.specs.Steps.{step_at}
-use Rattle.dlk_link.specs.Marks.{AreMarks}
+use Rattle.dlk_link.specs.Marks.{AreMarks, NameEarlier}
 use Rattle.dlk_link.specs.Trimmed.{moved}
 use Rattle.dlk_link.specs.Unmoved.{HaveOldNumbers}
 use Rattle.dlk_link.proofs.KeptSteps.{Row, dropped, all_left, one_read, none_left_to_read, next_row, row_kept, row_left_out, all_kept}
 use Rattle.dlk_link.proofs.Marks.{read_index, not_true, marks_reach}
 use Rattle.dlk_link.proofs.trimming.kept_steps.Goals.{then-index+in_ok-number, else-index}
 use Rattle.dlk_link.proofs.trimming.kept_steps.Goals as goal
+
+pub needed-requires-clause-earlier : goal.needed-requires-clause-earlier
+needed-requires-clause-earlier c = subst NameEarlier (sym c.deref.ensures.value) c.requires.earlier
 
 pub loop-step-init : goal.loop-step-init
 loop-step-init c =
@@ -78,7 +81,7 @@ returns-clause-trimmed c = λ trees one known.
     let whole = none_left_to_read term (into_iter_items c.loop-step.step-iterator) steps keys numbers c.loop-step.invariant none in (
       numbers,
       all_kept term steps keys numbers trees (subst (λ r. Row term r steps keys numbers trees) whole (c.loop-step.invariant.so_far.kept trees one known)),
-      subst (λ l. HaveOldNumbers l c.unmoved-same.result) c.deref-3.ensures.value c.unmoved-same.ensures,
+      subst (λ l. HaveOldNumbers l c.unmoved-same.result) c.deref-2.ensures.value c.unmoved-same.ensures,
     )
 
 pub returns-clause-known : goal.returns-clause-known

@@ -41,8 +41,28 @@ release-requires g c =
     let within = its.few in
     omega (arith, within, length-map c.args.kernel.now.rows (provable_at old))
 
-pub range_from-requires : goal.range_from-requires
-range_from-requires g c =
+pub offset_bounds-deref-same : goal.offset_bounds-deref-same
+offset_bounds-deref-same g c =
+    let old = g.S.Store.trees c.args.kernel.now.store in
+    let rows = facts g.S.Store.trees c.args.kernel.now in
+    let one = g.met.S.Store.one_id c.rows.ensures.unique c.args.kernel.now.store in
+    let its = front (map (step_at old) c.args.term.items) (map (step_at old) c.in_ok-kept.kept.items) rows c.in_ok-kept.same c.requires.taken
+    (c.in_ok-kept.ensures.trimmed old one c.requires.known) in
+    let short = its.short in
+    omega (arith, short, length-map c.in_ok-kept.kept.items (step_at old), ap length c.deref.ensures.value)
+
+pub slice_bounds-take_known-count : goal.slice_bounds-take_known-count
+slice_bounds-take_known-count g c =
+    let old = g.S.Store.trees c.args.kernel.now.store in
+    let rows = facts g.S.Store.trees c.args.kernel.now in
+    let one = g.met.S.Store.one_id c.rows.ensures.unique c.args.kernel.now.store in
+    let its = front (map (step_at old) c.args.term.items) (map (step_at old) c.in_ok-kept.kept.items) rows c.in_ok-kept.same c.requires.taken
+    (c.in_ok-kept.ensures.trimmed old one c.requires.known) in
+    let short = its.short in
+    omega (arith, short, length-map c.in_ok-kept.kept.items (step_at old), ap length c.deref.ensures.value)
+
+pub slice_bounds-take_known-start : goal.slice_bounds-take_known-start
+slice_bounds-take_known-start g c =
     let old = g.S.Store.trees c.args.kernel.now.store in
     let rows = facts g.S.Store.trees c.args.kernel.now in
     let one = g.met.S.Store.one_id c.rows.ensures.unique c.args.kernel.now.store in
