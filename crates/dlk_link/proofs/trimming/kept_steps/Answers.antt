@@ -1,4 +1,4 @@
-use Rattle.std.proofs.Common.{◌≡◌, ◌+◌, ◌<◌, ap, arith, length, refl, subst, sym, ◌∙◌, true, false, Bool, List, [], map}
+use Rattle.std.proofs.Common.{◌≡◌, ◌+◌, ◌<◌, ap, arith, length, refl, subst, sym, ◌∙◌, true, false, Bool, List, [], map, get_or}
 use Rattle.std.specs.Vec.Iter.{into_iter_items}
 use Rattle.std.proofs.lemmas.List.{length-map}
 use Rattle.dlk_tree.specs.Trees.{Tree}
@@ -47,11 +47,14 @@ loop-step-preserved c =
     subst (λ l. AreMarks (map (step_at trees) l) marks) c.deref.ensures.value (c.in_ok-marks.ensures trees) in
     let count = (marked []).count in
     let within = marks_reach marks term row count lt in
+    let size : c.len-in-loop-step.result ≡ length c.loop-step.numbers.items = omega arith in
+    let read : c.index.result.now ≡ get_or marks row c.index.result.now =
+    subst (λ k. c.index.result.now ≡ get_or marks k c.index.result.now) size c.index.ensures in
     elim c.if-index.branch [
       | then-index+in_ok-number w ↦
-          let is_marked = read_index marks row c.index.result.now true within c.index.ensures w.if-index.true in
+          let is_marked = read_index marks row c.index.result.now true within read w.if-index.true in
           let same : (trees : List Tree) → step_at trees w.moved.result ≡ moved numbers (step_at trees step) = λ trees.
-          w.moved.ensures.same trees ∙ ap (λ n. moved n (step_at trees step)) w.deref.ensures.value in
+          w.moved.ensures.same trees ∙ ap (λ n. moved n (step_at trees step)) w.deref-then-index.ensures.value in
           let kept = row_kept term row lt c.loop-step.kept.steps.items c.loop-step.kept.keys.keys numbers marks marked inv.kept is_marked
           step w.moved.result left.1 same w.moved.ensures.known w.number.new.self.steps.items w.number.new.self.keys.keys w.in_ok-number.number
           w.in_ok-number.ensures.number in
@@ -61,7 +64,7 @@ loop-step-preserved c =
           (next_row term row c.loop-step.kept.steps.items w.number.new.self.steps.items c.loop-step.kept.keys.keys w.number.new.self.keys.keys
           numbers w.in_ok-number.number inv w.in_ok-number.ensures.few w.in_ok-number.ensures.count kept)
       | else-index w ↦
-          let unmarked = read_index marks row c.index.result.now false within c.index.ensures w.if-index.false in
+          let unmarked = read_index marks row c.index.result.now false within read w.if-index.false in
           let kept = row_left_out term row lt c.loop-step.kept.steps.items c.loop-step.kept.keys.keys numbers marks marked inv.kept
           (not_true marks (row + 1) unmarked) in
           one_read term (into_iter_items c.loop-step.step-iterator) rest step c.if-index.kept c.loop-step.kept c.loop-step.kept.steps.items
