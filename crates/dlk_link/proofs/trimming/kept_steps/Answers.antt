@@ -1,8 +1,7 @@
-use Rattle.std.proofs.Common.{◌≡◌, ◌+◌, ◌<◌, ap, arith, length, refl, subst, sym, ◌∙◌, true, false, Bool, List, [], map, get_or}
+use Rattle.std.proofs.Common.{◌≡◌, ◌+◌, ap, arith, length, subst, sym, ◌∙◌, true, false, List, [], map, get_or}
 use Rattle.std.specs.Vec.Iter.{into_iter_items}
 use Rattle.std.proofs.lemmas.List.{length-map}
 use Rattle.dlk_tree.specs.Trees.{Tree}
-use Rattle.dlk_rules.specs.declared.step.Step.{Step}
 use Rattle.dlk_rules.specs.Steps.{step_at}
 use Rattle.dlk_link.specs.Marks.{AreMarks, NameEarlier}
 use Rattle.dlk_link.specs.Trimmed.{moved}
