@@ -1,3 +1,4 @@
+pub mod Binders
 pub mod Parts
 pub mod Tables
 pub mod Counted

@@ -1,3 +1,4 @@
+pub mod Binders
 pub mod Ids
 pub mod Looks
 pub mod Tables

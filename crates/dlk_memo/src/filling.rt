@@ -8,7 +8,7 @@ use crate::rule::Rule;
 use dlk_sequent::ApplyFault;
 use dlk_store::{Id, Steps, Store};
 use dlk_tree::Op;
-use std::alloc::Global;
+use std::alloc::{AllocError, Global};
 use std::sync::ledger::Ledger;
 
 /// The formula comes in place of each `_`.
@@ -44,6 +44,10 @@ impl Rule for Filling {
 
     fn may_change<S: Store>(&self, store: &S, id: Id) -> bool {
         store.has_hole(id)
+    }
+
+    fn refuses<S: Store>(&self, _store: &S, _op: &Op, _kids: &[Id]) -> Result<bool, AllocError> {
+        Ok(false)
     }
 
     fn at<S: Store, L: Ledger>(

@@ -1,6 +1,7 @@
 //! Uniform substitution with a table of results, over any store.
 #![tactic(auto)]
 
+mod binder;
 mod filling;
 mod kids;
 mod memo;

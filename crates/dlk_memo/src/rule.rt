@@ -11,7 +11,7 @@ ghost use Rattle.dlk_sequent.specs.declared.fault.ApplyFault.TheVariants.{NotAdm
 use dlk_sequent::ApplyFault;
 use dlk_store::{Id, Steps, Store};
 use dlk_tree::Op;
-use std::alloc::Global;
+use std::alloc::{AllocError, Global};
 use std::sync::ledger::Ledger;
 
 /// A rule by which a walk makes a tree of a tree, node by node. It depends on the node alone and never on the path to it.
@@ -42,6 +42,12 @@ pub(crate) trait Rule {
         requires known { IsId (S.trees store.now) id }
         ensures asked { result ≡ may_change (job self.now (S.trees store.now)) (tree (S.trees store.now) id) }
         ensures stays { result ≡ false → Makes (job self.now (S.trees store.now)) (tree (S.trees store.now) id) (tree (S.trees store.now) id) };
+
+    /// Whether it makes nothing of the operator over these kids, whatever it makes of them. It is asked before they are made.
+    fn refuses<S: Store>(&self, store: &S, op: &Op, kids: &[Id]) -> Result<bool, AllocError>
+        requires ready { IsReady self.now (S.trees store.now) }
+        requires known { All (IsId (S.trees store.now)) kids.now }
+        ensures none { IfOk result (λ b. IsTrue b → (new : Forest) → HasNone (MakesAt (job self.now (S.trees store.now)) op.now (kid_trees (S.trees store.now) kids.now) new)) };
 
     /// What it makes of the operator over old kids, of which it made the new ones.
     fn at<S: Store, L: Ledger>(

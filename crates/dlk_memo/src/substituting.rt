@@ -15,6 +15,7 @@ ghost use Rattle.dlk_memo.specs.Looks.{subtrees, replacement_subtrees, distinct_
 ghost use Rattle.dlk_memo.specs.Rules.{AreReadyArgs, AreReadyPairs, ready_pairs_kept, pairs_same, any_occurs, may_occur};
 ghost use Rattle.dlk_sequent.specs.declared.fault.ApplyFault.TheVariants.{NotAdmissible};
 
+use crate::binder::quantified;
 use crate::filling::Filling;
 use crate::plugging::Plugging;
 use crate::rule::Rule;
@@ -23,7 +24,7 @@ use dlk_sequent::{ApplyFault, Pair};
 use dlk_store::{Id, Steps, Store};
 use dlk_subst::{Effect, Scope, effect_at, is_admissible, keep_admissible, splice_at};
 use dlk_tree::Op;
-use std::alloc::Global;
+use std::alloc::{AllocError, Global};
 use std::sync::ledger::Ledger;
 
 /// The replacements of these pairs come in place of their symbols.
@@ -134,6 +135,13 @@ impl Rule for Substituting<'_> {
 
     fn may_change<S: Store>(&self, store: &S, id: Id) -> bool {
         may_occur(store, self.pairs, id)
+    }
+
+    fn refuses<S: Store>(&self, store: &S, op: &Op, kids: &[Id]) -> Result<bool, AllocError> {
+        match quantified(op)? {
+            Some(x) => Ok(!is_admissible(store, self.pairs, &Scope::Only(x), kids)),
+            None => Ok(false),
+        }
     }
 
     fn at<S: Store, L: Ledger>(

@@ -14,28 +14,35 @@ use crate::rule::Rule;
 use dlk_sequent::ApplyFault;
 use dlk_store::{Id, Steps, Store};
 use dlk_tree::Op;
-use std::alloc::{AllocError, Global};
+use std::alloc::Global;
 use std::sync::ledger::Ledger;
 
-/// The root of a tree that has no entry, as a copy. Each look pays for a new entry, whatever comes of it.
+/// The root of a tree that has no entry, as a copy, unless the rule makes nothing of it. Each look pays for a new entry, whatever
+/// comes of it.
 #[inline(never)]
-fn open<S: Store, L: Ledger>(
+fn open<S: Store, L: Ledger, R: Rule>(
     alloc: Global,
     store: &S,
+    rule: &R,
     id: Id,
     done: &mut Results,
     steps: &mut Steps<L>,
-) -> Result<(Op, Kids), AllocError>
+) -> Result<(Op, Kids), ApplyFault>
+    requires ready { R.IsReady rule.now (S.trees store.now) }
     requires known { IsId (S.trees store.now) id }
     requires absent { found done.old id ≡ None }
     ensures tree { IfOk result (λ r. tree (S.trees store.now) id ≡ node r.0 (kid_trees (S.trees store.now) r.1)) }
     ensures kids { IfOk result (λ r. All (IsId (S.trees store.now)) r.1) }
+    ensures none { result ≡ Err NotAdmissible → HasNone (R.Makes (R.job rule.now (S.trees store.now)) (tree (S.trees store.now) id)) }
     ensures opened { OnOk result (Opened done.old done.new id steps.old steps.new) }
     ensures err { OnErr result (Opened done.old done.new id steps.old steps.new ⊎ Unopened done.old done.new steps.old steps.new) }
     ensures once { HasEachOnce done.new }
 {
     done.begin(id)?;
     let node = store.look(id, steps);
+    if rule.refuses(store, node.op, node.kids)? {
+        return Err(ApplyFault::NotAdmissible);
+    }
     let kids = Kids::from_slice(alloc, node.kids)?;
     let op = node.op.clone()?;
     Ok((op, kids))
@@ -102,7 +109,7 @@ fn walk<S: Store, L: Ledger, R: Rule>(
     if let Some(known) = done.find(id) {
         return known.ok_or(ApplyFault::NotAdmissible);
     }
-    let (op, old) = open(alloc, store, id, done, steps)?;
+    let (op, old) = open(alloc, store, rule, id, done, steps)?;
     let kids = old.as_slice();
     let mut new = Kids::new();
     for kid in kids {

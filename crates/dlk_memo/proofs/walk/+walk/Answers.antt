@@ -25,6 +25,11 @@ returns-in_err-op-clause-spends g t c =
     spends_failed g.S.Store.unique (g.R.Rule.looks (g.R.Rule.job c.args.rule.now first)) (tree first c.args.id) first c.args.done.now c.open.new.done
     c.args.id c.args.steps.now c.open.new.steps c.requires.known refl c.in_err-op.ensures.once c.in_err-op.ensures.err
 
+pub returns-in_err-op-clause-none : goal.returns-in_err-op-clause-none
+returns-in_err-op-clause-none g t c e =
+    c.open.ensures.none
+    (handed_on c.open.result c.from_residual.result c.in_err-op.field-0.0 NotAdmissible c.in_err-op.was c.from_residual.ensures.1 e)
+
 pub loop-kid-init : goal.loop-kid-init
 loop-kid-init g t c =
     let first = g.S.Store.trees c.args.store.now in

@@ -38,11 +38,11 @@ returns-clause-put c =
 
 pub returns-clause-long : goal.returns-clause-long
 returns-clause-long c =
-    let none = none_both _ _ c.args.id (subst (λ t. found t c.args.id ≡ None) (sym c.self.view_is) c.requires) in
     let near = c.self.inside.near.items in
     let far = c.self.inside.far.entries in
     let new = c.insert.new.self.entries in
-    let long : length new ≡ length far + 1 = one_more _ _ _ _ c.in_ok-insert.ensures.len c.in_ok-insert.ensures.old none.1 in
+    let none : found far c.args.id ≡ None = (none_both near far c.args.id (subst (λ t. found t c.args.id ≡ None) (sym c.self.view_is) c.requires)).1 in
+    let long : length new ≡ length far + 1 = one_more (length new) (length far) _ _ c.in_ok-insert.ensures.len c.in_ok-insert.ensures.old none in
     let before : length (near ++ far) ≡ length c.args.self.now = ap length c.self.view_is in
     omega (arith, long, before, length-append near far, length-append near new)
 
