@@ -1,5 +1,5 @@
-// The steps of a term, which are kept while the rows that they gave are dropped again.
-ghost use Rattle.std.specs.Prelude.{◌≡◌, ◌≤◌, [], length, map, All, List, IfOk, OnOk, IfErr, codes};
+// The steps of a term, of which the rows stay, and those of a lemma, of which they are dropped again.
+ghost use Rattle.std.specs.Prelude.{◌≡◌, ◌≤◌, [], length, map, All, IfOk, IfErr, codes};
 ghost use Rattle.dlk_calculus.specs.Provables.{Provable};
 ghost use Rattle.dlk_kernel.specs.Kernel.{facts};
 ghost use Rattle.dlk_kernel.specs.Taken.{Takes};
@@ -7,8 +7,8 @@ ghost use Rattle.dlk_rules.specs.Steps.{step_at, HasKnownIds};
 ghost use Rattle.dlk_replies.specs.Ended.{EndsIn};
 ghost use Rattle.dlk_replies.specs.Shown.{reply_of};
 ghost use Rattle.dlk_jobs_check.specs.Judged.{RefusesLine};
-ghost use Rattle.dlk_jobs_check.specs.Terms.{Replays, TakesTerm, RefusesTerm};
-ghost use Rattle.dlk_jobs_terms.specs.Kept.{IsKept};
+ghost use Rattle.dlk_jobs_check.specs.Terms.{TakesTerm, RefusesTerm};
+ghost use Rattle.dlk_jobs_terms.specs.Kept.{IsKept, IsLemma};
 ghost use Rattle.dlk_jobs_terms.specs.Made.{RecordsLast};
 
 use dlk_jobs_check::term::{judge, read_model, refuse_term};
@@ -17,6 +17,7 @@ use dlk_kernel::Kernel;
 use dlk_replay::{Outcome, replay};
 use dlk_replies::{Ended, Reply};
 use dlk_rules::Step;
+use dlk_sequent::Sequent;
 use dlk_store::{Steps, Store};
 use std::alloc::Global;
 use std::sync::ledger::Ledger;
@@ -46,7 +47,7 @@ pub(crate) fn replayed<S: Store, L: Ledger>(
     }
 }
 
-/// The steps of a term that is taken for a model. The kernel has no rows, and none again.
+/// The steps of a term that is taken for a model. The kernel has no rows, and then those of the term.
 ///
 /// # Errors
 ///
@@ -61,20 +62,48 @@ pub(crate) fn taken<S: Store, L: Ledger>(
     steps: &mut Steps<L>,
 ) -> Result<Vec<Step>, Ended>
     requires { kernel.old.rows ≡ [] }
-    ensures taken { IfOk result (λ kept. (rows : List Provable) × (p : Provable) × TakesTerm model.now term.now (map (step_at (S.trees kernel.new.store)) kept.items) rows p) }
+    ensures taken { IfOk result (λ kept. (p : Provable) × TakesTerm model.now term.now (map (step_at (S.trees kernel.new.store)) kept.items) (facts S.trees kernel.new) p) }
     ensures known { IfOk result (λ kept. All (HasKnownIds (S.trees kernel.new.store)) kept.items) }
-    ensures none { OnOk result (kernel.new.rows ≡ []) }
     ensures refused { IfErr result (EndsIn (RefusesTerm model.now term.now)) }
     ensures grows { S.grows kernel.old.store kernel.new.store }
 {
     let formula = read_model(alloc, model, kernel)?;
     let outcome = replayed(alloc, "line", term, kernel, steps)?;
     judge(alloc, kernel, formula, outcome.fact, outcome.line, steps)?;
-    kernel.release(0);
     Ok(outcome.steps)
 }
 
-/// The steps of a lemma. The kernel has no rows, and none again.
+/// A lemma: its steps, and what the last of them concludes.
+#[derive(Drop)]
+pub(crate) struct Lemma {
+    pub(crate) steps: Vec<Step>,
+    pub(crate) concludes: Sequent,
+}
+
+/// A lemma on a kernel without rows. Then the kernel has those of the lemma.
+fn lemma_rows<S: Store, L: Ledger>(
+    alloc: Global,
+    lemma: &[u8],
+    kernel: &mut Kernel<S>,
+    steps: &mut Steps<L>,
+) -> Result<Lemma, Ended>
+    requires { kernel.old.rows ≡ [] }
+    ensures lemma { IfOk result (IsLemma (S.trees kernel.new.store) lemma.now) }
+    ensures refused { IfErr result (EndsIn (RefusesLine (codes "lemma line") lemma.now)) }
+    ensures grows { S.grows kernel.old.store kernel.new.store }
+{
+    let outcome = replayed(alloc, "lemma line", lemma, kernel, steps)?;
+    // It is refused for want of memory alone.
+    let Ok(concludes) = kernel.conclusion(outcome.fact).copy(alloc) else {
+        return Err(Ended::Memory);
+    };
+    Ok(Lemma {
+        steps: outcome.steps,
+        concludes,
+    })
+}
+
+/// A lemma. The kernel has no rows, and none again, whatever comes.
 ///
 /// # Errors
 ///
@@ -85,17 +114,16 @@ pub(crate) fn taken_lemma<S: Store, L: Ledger>(
     lemma: &[u8],
     kernel: &mut Kernel<S>,
     steps: &mut Steps<L>,
-) -> Result<Vec<Step>, Ended>
+) -> Result<Lemma, Ended>
     requires { kernel.old.rows ≡ [] }
-    ensures taken { IfOk result (λ kept. (rows : List Provable) × (p : Provable) × Replays lemma.now (map (step_at (S.trees kernel.new.store)) kept.items) rows p) }
-    ensures known { IfOk result (λ kept. All (HasKnownIds (S.trees kernel.new.store)) kept.items) }
-    ensures none { OnOk result (kernel.new.rows ≡ []) }
+    ensures lemma { IfOk result (IsLemma (S.trees kernel.new.store) lemma.now) }
+    ensures none { kernel.new.rows ≡ [] }
     ensures refused { IfErr result (EndsIn (RefusesLine (codes "lemma line") lemma.now)) }
     ensures grows { S.grows kernel.old.store kernel.new.store }
 {
-    let outcome = replayed(alloc, "lemma line", lemma, kernel, steps)?;
+    let lemma = lemma_rows(alloc, lemma, kernel, steps);
     kernel.release(0);
-    Ok(outcome.steps)
+    lemma
 }
 
 /// The end of a command that has made steps, which a kernel without rows has taken: their term file, and the report of the last row.

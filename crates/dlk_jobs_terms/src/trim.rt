@@ -32,7 +32,7 @@ fn trim_on<S: Store, L: Ledger>(
     trimmed_is_taken();
     let whole = taken(alloc, model, term, kernel, steps)?;
     // It is refused for want of memory alone.
-    let Ok(kept) = dlk_link::trim(alloc, &whole, kernel, steps) else {
+    let Ok(kept) = dlk_link::trim(alloc, whole, kernel, steps) else {
         return Err(Ended::Memory);
     };
     record_taken(alloc, kernel, &kept, steps)

@@ -38,7 +38,7 @@ count_at (suc n) (suc f) a b = elim (cases_order (suc f) (n + 1)) [
   | inr (inr gt) ↦ absurd (omega (arith, gt, b))
 ]
 
-at_later : {A : Type 0} (y : A) (rest : List A) (place : ℕ) (x : A) → At rest place x → At (y ∷ rest) (suc place) x
+pub at_later : {A : Type 0} (y : A) (rest : List A) (place : ℕ) (x : A) → At rest place x → At (y ∷ rest) (suc place) x
 at_later y rest zero x e = absurd (cc e)
 at_later y rest (suc place) x e = at_suc (y ∷ rest) (suc place) ∙ sym (at_suc rest place) ∙ e
 

@@ -17,7 +17,6 @@ use Rattle.dlk_rules.specs.Steps.{step_at}
 use Rattle.dlk_kernel.specs.declared.fault.StepFault.{StepFault}
 use Rattle.dlk_kernel.specs.declared.fault.StepFault.TheVariants as step_fault
 use Rattle.dlk_kernel.specs.Faults.{IsStepFault}
-use Rattle.dlk_kernel.specs.Kernel.{State, facts, provable_at}
 use Rattle.dlk_kernel.specs.Taken.{Takes, none, more}
 use Rattle.dlk_uses.proofs.Taking.{no_fault}
 use Rattle.dlk_link.specs.Ends.{EndsIn}
@@ -70,13 +69,13 @@ step_fault_weaker P Q weaker (step_fault.Refused why) h = weaker why h
 step_fault_weaker P Q weaker step_fault.Memory h = tt
 
 -- what is taken has no fault
-pub no_fault_in : (steps : List TreeStep) (rows : List Provable) (why : Reason) → Takes [] steps rows → FirstFault [] steps why → ⊥
-no_fault_in steps rows why takes fault =
-    no_fault rows why (fault_on [] rows steps [] why takes (subst (λ l. FirstFault [] l why) (sym (append-nil steps)) fault))
+pub no_fault_behind : (base : List Provable) (steps : List TreeStep) (rows : List Provable) (why : Reason) → Takes base steps rows →
+    FirstFault base steps why → ⊥
+no_fault_behind base steps rows why takes fault =
+    no_fault rows why (fault_on base rows steps [] why takes (subst (λ l. FirstFault base l why) (sym (append-nil steps)) fault))
 
--- a kernel without rows has no facts
-pub no_facts : {S : Type 0} (trees : S → List Tree) (kernel : State S) → kernel.rows ≡ [] → facts trees kernel ≡ []
-no_facts trees kernel e = ap (map (provable_at (trees kernel.store))) e
+pub no_fault_in : (steps : List TreeStep) (rows : List Provable) (why : Reason) → Takes [] steps rows → FirstFault [] steps why → ⊥
+no_fault_in = no_fault_behind []
 
 -- steps that are taken are few, and name earlier ones
 pub taken_few : (steps : List TreeStep) (rows : List Provable) → Takes [] steps rows → length steps ≤ most_rows

@@ -1,6 +1,6 @@
 -- Steps that are kept, with their keys.
 use Rattle.std.proofs.Common.{◌≡◌, refl, sym, ap, subst, ◌∙◌, ℕ, zero, suc, ◌+◌, ◌<◌, ◌≤◌, Bool, true, false, not, List, [], ◌∷◌, ◌++◌, inl, inr, length, map}
-use Rattle.std.proofs.Common.{take, arith, rules}
+use Rattle.std.proofs.Common.{take, drop, arith, rules}
 use Rattle.std.proofs.Common.{get_or, length-append, nat_eq, true≢false}
 use Rattle.std.specs.Bool.{Decides}
 use Rattle.std.specs.Cmp.Lexicographic.{pointwise}
@@ -11,7 +11,7 @@ use Rattle.std.proofs.lemmas.Cmp.{nat_list_eq_equiv}
 use Rattle.std.proofs.lemmas.List.Folds.{list_any_at}
 use Rattle.std.proofs.lemmas.Option.{get_or_from_slice_get, slice_get_within}
 use Rattle.std.proofs.Math.Seq.{take-length}
-use Rattle.std.proofs.lemmas.List.{length-map, map-append, take_more, length-take-le}
+use Rattle.std.proofs.lemmas.List.{length-map, length-drop, map-append, take_more, length-take-le}
 use Rattle.std.proofs.lemmas.List.Elements.{All-push, All-nil}
 use Rattle.indexmap.specs.IndexSet.{insert_key}
 use Rattle.dlk_tree.specs.Trees.{Tree}
@@ -27,8 +27,8 @@ use Rattle.dlk_link.specs.declared.trimming.Kept.{Kept}
 use Rattle.dlk_link.specs.Keyed.{AreKeyed, Numbers, is_there, is_new}
 use Rattle.dlk_link.specs.Keys.{IsKey}
 use Rattle.dlk_link.specs.Marks.{AreMarks}
-use Rattle.dlk_link.specs.Trimmed.{IsNeeded, moved, Trims, Trimmed, nothing_read, not_needed, kept_before, is_kept}
-use Rattle.dlk_link.proofs.Again.{get_in}
+use Rattle.dlk_link.specs.Trimmed.{IsNeeded, moved, Trims, nothing_read, not_needed, kept_before, is_kept}
+use Rattle.dlk_link.proofs.Again.{at_later, get_in}
 use Rattle.dlk_link.proofs.Kept.{at_suc, at_either, at_some}
 use Rattle.dlk_link.proofs.KeyLaws.{one_step, one_key}
 use Rattle.dlk_link.proofs.Names.{in_from_contains}
@@ -215,11 +215,11 @@ module _ (term : List Step) (row : ℕ) (within : row < length term) (steps : Li
 -- all rows are read
 pub all_kept : (term : List Step) (steps : List Step) (keys : List (List ℕ)) (numbers : List ℕ) (trees : List Tree) →
     Row term (length term) steps keys numbers trees →
-    Trimmed (map (step_at trees) term) (map (step_at trees) steps)
+    Trims (map (step_at trees) term) (map (step_at trees) term) (map (step_at trees) steps) numbers
 all_kept term steps keys numbers trees row =
     let whole : take (length term) (map (step_at trees) term) ≡ map (step_at trees) term =
     ap (λ k. take k (map (step_at trees) term)) (sym (length-map term (step_at trees))) ∙ take-length (map (step_at trees) term) in
-    (numbers, subst (λ z. Trims (map (step_at trees) term) z (map (step_at trees) steps) numbers) whole row.trims)
+    subst (λ z. Trims (map (step_at trees) term) z (map (step_at trees) steps) numbers) whole row.trims
 
 pub none_yet : (term steps : List Step) (keys : List (List ℕ)) (numbers : List ℕ) → steps ≡ [] → keys ≡ [] → numbers ≡ [] → KeptSoFar term 0 steps keys numbers
 none_yet term steps keys numbers a b c =
@@ -258,6 +258,60 @@ same_row term row kept other numbers others m n a b c h =
     subst (λ l. Invariant term row kept.steps.items kept.keys.keys l) (sym c)
     (subst (λ (k : Kept). Invariant term row k.steps.items k.keys.keys (numbers ++ m ∷ [])) (sym a)
     (subst (λ j. Invariant term row other.steps.items other.keys.keys (numbers ++ j ∷ [])) (sym b) h))
+
+-- ---- the steps that are left
+
+-- what is left begins with the row of this number
+pub dropped : (term : List Step) (n : ℕ) (step : Step) (rest : List Step) → step ∷ rest ≡ drop n term →
+    (n < length term) × At term (n + 1) step × (rest ≡ drop (n + 1) term)
+dropped [] zero step rest e = absurd (cc e)
+dropped [] (suc n) step rest e = absurd (cc e)
+dropped (x ∷ term) zero step rest e =
+    let first : step ≡ x = cc in
+    let others : rest ≡ term = cc in
+    (omega arith, subst (λ z. At (x ∷ term) 1 z) (sym first) (at_some (x ∷ term) 0 x (omega arith)), others)
+dropped (x ∷ term) (suc n) step rest e =
+    let d = dropped term n step rest e in
+    let lt = d.0 in
+    let place : suc (n + 1) ≡ suc n + 1 = omega arith in
+    (omega (arith, lt), subst (λ k. At (x ∷ term) k step) place (at_later x term (n + 1) step d.1), subst (λ k. rest ≡ drop k (x ∷ term)) place d.2)
+
+-- of the rows so far these steps are kept, and the others are left
+pub record RowsLeft (term left steps : List Step) (keys : List (List ℕ)) (numbers : List ℕ) : Type 0 where
+  pub left_is : left ≡ drop (length numbers) term
+  pub within : length numbers ≤ length term
+  pub so_far : Invariant term (length numbers) steps keys numbers
+
+pub all_left : (term left steps : List Step) (keys : List (List ℕ)) (numbers : List ℕ) → left ≡ term → steps ≡ [] → keys ≡ [] → numbers ≡ [] →
+    RowsLeft term left steps keys numbers
+all_left term left steps keys numbers e a b c =
+    let none : length numbers ≡ 0 = ap (λ x. length x) c in
+    record {
+      left_is = e ∙ ap (λ k. drop k term) (sym none);
+      within = omega (arith, none);
+      so_far = subst (λ k. Invariant term k steps keys numbers) (sym none) (first_row term steps keys numbers a b c);
+    }
+
+pub one_read : (term left rest : List Step) (step : Step) (kept other : Kept) (steps : List Step) (keys : List (List ℕ)) (numbers others : List ℕ) (m n : ℕ) →
+    left ≡ step ∷ rest → RowsLeft term left steps keys numbers → kept ≡ other → m ≡ n → others ≡ numbers ++ m ∷ [] →
+    Invariant term (length numbers + 1) other.steps.items other.keys.keys (numbers ++ n ∷ []) → RowsLeft term rest kept.steps.items kept.keys.keys others
+one_read term left rest step kept other steps keys numbers others m n next was a b c h =
+    let size : length others ≡ length numbers + 1 = ap (λ x. length x) c ∙ length-append numbers (m ∷ []) in
+    let d = dropped term (length numbers) step rest (sym next ∙ was.left_is) in
+    let lt = d.0 in
+    record {
+      left_is = d.2 ∙ ap (λ k. drop k term) (sym size);
+      within = omega (arith, size, lt);
+      so_far = subst (λ k. Invariant term k kept.steps.items kept.keys.keys others) (sym size)
+          (same_row term (length numbers + 1) kept other numbers others m n a b c h);
+    }
+
+pub none_left_to_read : (term left steps : List Step) (keys : List (List ℕ)) (numbers : List ℕ) → RowsLeft term left steps keys numbers → length left ≡ 0 →
+    length numbers ≡ length term
+none_left_to_read term left steps keys numbers was none =
+    let size = ap (λ x. length x) was.left_is in
+    let within = was.within in
+    omega (arith, size, none, within, length-drop (length numbers) term)
 
 -- ---- the step's number, as the code has it
 

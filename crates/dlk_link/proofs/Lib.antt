@@ -15,3 +15,4 @@ pub mod Marks
 pub mod KeptSteps
 pub mod InTurn
 pub mod LinkedSteps
+pub mod Front

@@ -2,10 +2,10 @@
 use Rattle.std.proofs.Common.{◌≡◌, ◌≢◌, refl, sym, ap, subst, ◌∙◌, ℕ, zero, suc, ◌+◌, ◌-◌, ◌<◌, ◌≤◌, List, [], ◌∷◌, ◌++◌, inl, inr, length, map, take}
 use Rattle.std.proofs.Common.{arith}
 use Rattle.std.proofs.Common.{append_assoc, append-nil, get_or}
-use Rattle.std.specs.List.{All, Contains}
+use Rattle.std.specs.List.{All}
 use Rattle.std.proofs.Math.Seq.{take-suc, take-length}
-use Rattle.std.proofs.lemmas.List.{length-map, length-take-le, map-append, take_more}
-use Rattle.std.proofs.lemmas.List.Elements.{All-head, All-tail, All-get_or}
+use Rattle.std.proofs.lemmas.List.{length-map, length-take-le, map-append}
+use Rattle.std.proofs.lemmas.List.Elements.{All-head, All-tail}
 use Rattle.dlk_tree.specs.Trees.{Tree}
 use Rattle.dlk_calculus.specs.declared.reason.Reason.{Reason}
 use Rattle.dlk_calculus.specs.Limits.{most_rows}
@@ -21,16 +21,15 @@ use Rattle.dlk_kernel.specs.Faults.{IsStepFault}
 use Rattle.dlk_kernel.specs.Taken.{Takes, none, more}
 use Rattle.dlk_rules.specs.declared.step.Step.{Step}
 use Rattle.dlk_rules.specs.declared.step.Step.TheVariants as step
-use Rattle.dlk_rules.specs.Facts.{facts_of, renumbered}
+use Rattle.dlk_rules.specs.Facts.{renumbered}
 use Rattle.dlk_rules.specs.Steps.{step_at, HasKnownIds}
 use Rattle.dlk_uses.specs.Taking.{FirstFault}
 use Rattle.dlk_link.specs.Ends.{EndsIn}
 use Rattle.dlk_link.specs.Faults.{link_fault_of, IsLinkFault}
 use Rattle.dlk_link.specs.Linked.{Joins, no_goals, another, the_same}
-use Rattle.dlk_link.specs.Marks.{NameEarlier}
+use Rattle.dlk_link.specs.Marks.{NameEarlier, NamesFew}
 use Rattle.dlk_link.specs.Links.{Links, LacksGoal, LinksUpTo}
-use Rattle.dlk_link.proofs.Kept.{snoc_parts}
-use Rattle.dlk_link.proofs.Marks.{read_index}
+use Rattle.dlk_link.proofs.Kept.{snoc_parts, at_some, take_length}
 use Rattle.dlk_link.proofs.OneTrimmed.{not_none}
 use Rattle.dlk_link.proofs.Joined.{among_either}
 
@@ -105,34 +104,35 @@ joins_some c by main rows _ steps lt (the_same {goals = goals} j) = last goals
     last [] = inl refl
     last (x ∷ goals) = inr (last goals)
 
--- ---- copies behind others
+-- ---- steps behind others
 
-pub pushed : (trees : List Tree) (made : List Step) (copy : Step) (old front : List TreeStep) (t : TreeStep) → map (step_at trees) made ≡ old ++ front →
-    step_at trees copy ≡ t → map (step_at trees) (made ++ copy ∷ []) ≡ old ++ (front ++ t ∷ [])
-pushed trees made copy old front t e same =
-    map-append (step_at trees) made (copy ∷ []) ∙ (λ i. e i ++ same i ∷ []) ∙ append_assoc old front (t ∷ [])
+-- one more of what is left is made
+pub one_behind : (trees : List Tree) (to : ℕ → ℕ) (made new : List Step) (copy step : Step) (left rest : List Step) (all : List TreeStep) →
+    new ≡ made ++ copy ∷ [] → left ≡ step ∷ rest → step_at trees copy ≡ renumbered to (step_at trees step) →
+    map (step_at trees) made ++ map (renumbered to) (map (step_at trees) left) ≡ all →
+    map (step_at trees) new ++ map (renumbered to) (map (step_at trees) rest) ≡ all
+one_behind trees to made new copy step left rest all pushed next same e =
+    ap (λ l. map (step_at trees) l ++ map (renumbered to) (map (step_at trees) rest)) pushed
+    ∙ ap (λ l. l ++ map (renumbered to) (map (step_at trees) rest)) (map-append (step_at trees) made (copy ∷ []))
+    ∙ append_assoc (map (step_at trees) made) (step_at trees copy ∷ []) (map (renumbered to) (map (step_at trees) rest))
+    ∙ ap (λ x. map (step_at trees) made ++ x ∷ map (renumbered to) (map (step_at trees) rest)) same
+    ∙ ap (λ l. map (step_at trees) made ++ map (renumbered to) (map (step_at trees) l)) (sym next)
+    ∙ e
 
-pub one_more_of : (trees : List Tree) (term : List Step) (i : ℕ) (item : Step) → i < length term → item ≡ get_or term i item →
-    map (step_at trees) (take (i + 1) term) ≡ map (step_at trees) (take i term) ++ step_at trees item ∷ []
-one_more_of trees term i item lt e =
-    ap (map (step_at trees)) (take_more term i item lt ∙ ap (λ x. take i term ++ x ∷ []) (sym e)) ∙ map-append (step_at trees) (take i term) (item ∷ [])
+pub none_left : (trees : List Tree) (to : ℕ → ℕ) (made left : List Step) (all : List TreeStep) → length left ≡ 0 →
+    map (step_at trees) made ++ map (renumbered to) (map (step_at trees) left) ≡ all → map (step_at trees) made ≡ all
+none_left trees to made [] all ended e = sym (append-nil (map (step_at trees) made)) ∙ e
+none_left trees to made (x ∷ left) all ended e = absurd (omega (arith, ended))
 
-pub known_at : (trees : List Tree) (term : List Step) (i : ℕ) (item : Step) → i < length term → item ≡ get_or term i item → All (HasKnownIds trees) term →
-    HasKnownIds trees item
-known_at trees term i item lt e known = subst (HasKnownIds trees) (sym e) (All-get_or (HasKnownIds trees) term i item lt known)
+-- steps that name earlier rows name few
+pub all_few : (steps : List Step) → NameEarlier steps → length steps ≤ most_rows → All NamesFew steps
+all_few steps earlier few k d lt fact has =
+    let b = (earlier (suc k) (get_or steps k d) (at_some steps k d lt) fact has).1 in omega (arith, b, lt, few)
 
-pub take_whole : {A : Type 0} (xs : List A) (i : ℕ) → length xs ≤ i → take i xs ≡ xs
-take_whole [] zero h = refl
-take_whole [] (suc i) h = refl
-take_whole (x ∷ xs) zero h = absurd (omega (arith, h))
-take_whole (x ∷ xs) (suc i) h = ap (λ l. x ∷ l) (take_whole xs i (omega (arith, h)))
-
--- facts of steps that name earlier rows are few
-pub names_few : (steps : List Step) (i : ℕ) (item : Step) → i < length steps → item ≡ get_or steps i item → NameEarlier steps → length steps ≤ most_rows →
-    (fact : ℕ) → Contains (facts_of (step_at [] item)) fact → fact ≤ most_rows
-names_few steps i item lt e earlier few fact has =
-    let at : At steps (i + 1) item = read_index steps i item item lt e refl in
-    let b = (earlier (i + 1) item at fact has).1 in omega (arith, b, lt, few)
+-- some rows have a last one
+pub last_item : {A : Type 0} (items : List A) → 1 ≤ length items → (x : A) × At items (length items) x
+last_item [] some = absurd (omega (arith, some))
+last_item (x ∷ items) some = (get_or (x ∷ items) (length items) x, at_some (x ∷ items) (length items) x (omega arith))
 
 -- ---- what is the same over a store that has grown
 
@@ -203,66 +203,76 @@ module _ (term lemma merges : List TreeStep) (p : Provable) (c : Sequent) (rows 
         },
       )
 
--- ---- on a kernel, whose store has grown from `old` to `mid` when the term is taken, and to `new` when the merges are made
+-- ---- on a kernel that has the rows of the term
 
-module _ (old mid new : List Tree) (term lemma merges : List Step) (c : Sequent) (rows : List Provable)
-    (term_same : map (step_at mid) term ≡ map (step_at old) term) (merges_same : map (step_at new) merges ≡ map (step_at old) merges)
-    (takes : Takes [] (map (step_at mid) term) rows)
-    (joined : (p : Provable) → EndsIn (map (step_at mid) term) p →
-    Joins c (length term + length lemma) (length term) (length term + length lemma) p.goals (map (step_at new) merges))
-    (concludes : (q : Provable) → EndsIn (map (step_at old) lemma) q → q.conclusion ≡ c) (p : Provable) (ends : EndsIn (map (step_at old) term) p) where
-  taken_old : Takes [] (map (step_at old) term) rows
-  taken_old = subst (λ l. Takes [] l rows) term_same takes
+module _ (trees : List Tree) (term lemma merges : List Step) (c : Sequent) (rows : List Provable) (takes : Takes [] (map (step_at trees) term) rows)
+    (joined : (p : Provable) → At rows (length rows) p →
+    Joins c (length rows + length lemma) (length rows) (length rows + length lemma) p.goals (map (step_at trees) merges))
+    (concludes : (q : Provable) → EndsIn (map (step_at trees) lemma) q → q.conclusion ≡ c) (p : Provable) (ends : EndsIn (map (step_at trees) term) p) where
+  last_there : At rows (length rows) p
+  last_there = one_end (map (step_at trees) term) p ends rows takes
 
-  last_old : At rows (length rows) p
-  last_old = one_end (map (step_at old) term) p ends rows taken_old
+  joined_there : Joins c (length (map (step_at trees) term) + length (map (step_at trees) lemma)) (length (map (step_at trees) term))
+      (length (map (step_at trees) term) + length (map (step_at trees) lemma)) p.goals (map (step_at trees) merges)
+  joined_there =
+      let n = take_length (map (step_at trees) term) rows takes in
+      let m = sym (length-map lemma (step_at trees)) in
+      subst (λ a. Joins c (a + length (map (step_at trees) lemma)) a (a + length (map (step_at trees) lemma)) p.goals (map (step_at trees) merges)) n
+      (subst (λ b. Joins c (length rows + b) (length rows) (length rows + b) p.goals (map (step_at trees) merges)) m (joined p last_there))
 
-  joined_old : Joins c (length (map (step_at old) term) + length (map (step_at old) lemma)) (length (map (step_at old) term))
-      (length (map (step_at old) term) + length (map (step_at old) lemma)) p.goals (map (step_at old) merges)
-  joined_old =
-      let n = sym (length-map term (step_at old)) in
-      let m = sym (length-map lemma (step_at old)) in
-      let j = joined p (subst (λ l. EndsIn l p) (sym term_same) ends) in
-      subst (λ a. Joins c (a + length (map (step_at old) lemma)) a (a + length (map (step_at old) lemma)) p.goals (map (step_at old) merges)) n
-      (subst (λ b. Joins c (length term + b) (length term) (length term + b) p.goals (map (step_at old) merges)) m
-      (subst (Joins c (length term + length lemma) (length term) (length term + length lemma) p.goals) merges_same j))
-
-  pub lacks_goal : merges ≡ [] → LacksGoal (map (step_at old) term) (map (step_at old) lemma)
+  pub lacks_goal : merges ≡ [] → LacksGoal (map (step_at trees) term) (map (step_at trees) lemma)
   lacks_goal e =
-      lacks (map (step_at old) term) (map (step_at old) lemma) (map (step_at old) merges) p c rows taken_old last_old concludes joined_old (ap (map (step_at
-      old)) e)
+      lacks (map (step_at trees) term) (map (step_at trees) lemma) (map (step_at trees) merges) p c rows takes last_there concludes joined_there
+      (ap (map (step_at trees)) e)
 
-  links_whole : 0 < length merges → Links (map (step_at old) term) (map (step_at old) lemma)
-      (map (step_at old) term ++ map (renumbered (λ fact. fact + length term)) (map (step_at old) lemma) ++ map (step_at old) merges)
+  links_whole : 0 < length merges → Links (map (step_at trees) term) (map (step_at trees) lemma)
+      (map (step_at trees) term ++ map (renumbered (λ fact. fact + length term)) (map (step_at trees) lemma) ++ map (step_at trees) merges)
   links_whole some =
-      let whole = links (map (step_at old) term) (map (step_at old) lemma) (map (step_at old) merges) p c rows taken_old last_old concludes joined_old
-      (let m = length-map merges (step_at old) in omega (arith, some, m)) in
-      subst (λ k. Links (map (step_at old) term) (map (step_at old) lemma)
-      (map (step_at old) term ++ map (renumbered (λ fact. fact + k)) (map (step_at old) lemma) ++ map (step_at old) merges)) (length-map term (step_at old))
-      whole
+      let whole = links (map (step_at trees) term) (map (step_at trees) lemma) (map (step_at trees) merges) p c rows takes last_there concludes joined_there
+      (let m = length-map merges (step_at trees) in omega (arith, some, m)) in
+      subst (λ k. Links (map (step_at trees) term) (map (step_at trees) lemma)
+      (map (step_at trees) term ++ map (renumbered (λ fact. fact + k)) (map (step_at trees) lemma) ++ map (step_at trees) merges))
+      (length-map term (step_at trees)) whole
 
-  module _ (rest : List Step) (rest_is : map (step_at old) rest ≡ map (renumbered (λ fact. fact + length term)) (map (step_at old) lemma) ++ map (step_at old)
-      merges)
-      (rest_same : map (step_at new) rest ≡ map (step_at old) rest) where
-    split : map (step_at old) term ++ map (renumbered (λ fact. fact + length term)) (map (step_at old) lemma) ++ map (step_at old) merges
-        ≡ map (step_at old) term ++ map (step_at old) rest
+  module _ (rest : List Step)
+      (rest_is : map (step_at trees) rest ≡ map (renumbered (λ fact. fact + length term)) (map (step_at trees) lemma) ++ map (step_at trees) merges)
+      (made : List Step) (made_is : made ≡ term ++ rest) where
+    split : map (step_at trees) term ++ map (renumbered (λ fact. fact + length term)) (map (step_at trees) lemma) ++ map (step_at trees) merges
+        ≡ map (step_at trees) term ++ map (step_at trees) rest
     split =
-        append_assoc (map (step_at old) term) (map (renumbered (λ fact. fact + length term)) (map (step_at old) lemma)) (map (step_at old) merges)
-        ∙ ap (λ l. map (step_at old) term ++ l) (sym rest_is)
+        append_assoc (map (step_at trees) term) (map (renumbered (λ fact. fact + length term)) (map (step_at trees) lemma)) (map (step_at trees) merges)
+        ∙ ap (λ l. map (step_at trees) term ++ l) (sym rest_is)
 
-    pub links_made : 0 < length merges → Links (map (step_at old) term) (map (step_at old) lemma) (map (step_at old) term ++ map (step_at old) rest)
-    links_made some = subst (Links (map (step_at old) term) (map (step_at old) lemma)) split (links_whole some)
+    whole_is : map (step_at trees) made ≡ map (step_at trees) term ++ map (step_at trees) rest
+    whole_is = ap (map (step_at trees)) made_is ∙ map-append (step_at trees) term rest
 
-    pub takes_made : (after : List Provable) → Takes rows (map (step_at new) rest) after → Takes [] (map (step_at old) term ++ map (step_at old) rest) after
-    takes_made after t = takes_join [] rows after (map (step_at old) term) (map (step_at old) rest) taken_old (subst (λ l. Takes rows l after) rest_same t)
+    pub links_made : 0 < length merges → Links (map (step_at trees) term) (map (step_at trees) lemma) (map (step_at trees) made)
+    links_made some = subst (Links (map (step_at trees) term) (map (step_at trees) lemma)) (split ∙ sym whole_is) (links_whole some)
 
-    pub fault_made : 0 < length merges → (why : Reason) → FirstFault rows (map (step_at new) rest) why →
-        LinksUpTo (map (step_at old) term) (map (step_at old) lemma) why
+    pub takes_made : (after : List Provable) → Takes rows (map (step_at trees) rest) after → Takes [] (map (step_at trees) made) after
+    takes_made after t =
+        subst (λ l. Takes [] l after) (sym whole_is) (takes_join [] rows after (map (step_at trees) term) (map (step_at trees) rest) takes t)
+
+    pub fault_made : 0 < length merges → (why : Reason) → FirstFault rows (map (step_at trees) rest) why →
+        LinksUpTo (map (step_at trees) term) (map (step_at trees) lemma) why
     fault_made some why f = (
-      map (step_at old) term ++ map (step_at old) rest,
+      map (step_at trees) made,
       links_made some,
-      fault_join [] rows (map (step_at old) term) (map (step_at old) rest) why taken_old (subst (λ l. FirstFault rows l why) rest_same f),
+      subst (λ l. FirstFault [] l why) (sym whole_is) (fault_join [] rows (map (step_at trees) term) (map (step_at trees) rest) why takes f),
     )
+
+-- what is made, by counts that are equal
+pub joins_as : (trees : List Tree) (rows : List Provable) (c : Sequent) (merges : List Step) (m n : ℕ) → m ≡ n →
+    ((p : Provable) → At rows (length rows) p → Joins c (length rows + m) (length rows) (length rows + m) p.goals (map (step_at trees) merges)) →
+    (p : Provable) → At rows (length rows) p → Joins c (length rows + n) (length rows) (length rows + n) p.goals (map (step_at trees) merges)
+joins_as trees rows c merges m n e h p last =
+    subst (λ k. Joins c (length rows + k) (length rows) (length rows + k) p.goals (map (step_at trees) merges)) e (h p last)
+
+pub rest_as : (trees : List Tree) (lemma merges rest : List Step) (m n : ℕ) → m ≡ n →
+    map (step_at trees) rest ≡ map (renumbered (λ fact. fact + m)) (map (step_at trees) lemma) ++ map (step_at trees) merges →
+    map (step_at trees) rest ≡ map (renumbered (λ fact. fact + n)) (map (step_at trees) lemma) ++ map (step_at trees) merges
+rest_as trees lemma merges rest m n e h =
+    h ∙ ap (λ k. map (renumbered (λ fact. fact + k)) (map (step_at trees) lemma) ++ map (step_at trees) merges) e
 
 pub nothing : {A : Type 0} (xs : List A) → length xs ≡ 0 → xs ≡ []
 nothing [] e = refl

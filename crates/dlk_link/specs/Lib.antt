@@ -1,4 +1,5 @@
 pub mod Trimmed
+pub mod Unmoved
 pub mod Neat
 pub mod Kept
 pub mod Linked

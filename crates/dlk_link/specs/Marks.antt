@@ -1,6 +1,7 @@
 -- Rows that are needed, as marks.
 use Rattle.std.specs.Prelude.{◌≡◌, ◌↔◌, ◌⊎◌, ◌<◌, ◌≤◌, ℕ, Bool, true, List, [], length}
 use Rattle.std.specs.List.{Contains}
+use Rattle.dlk_calculus.specs.Limits.{most_rows}
 use Rattle.dlk_calculus.specs.Places.{At}
 use Rattle.dlk_calculus.specs.Steps.{Step as TreeStep}
 use Rattle.dlk_rules.specs.declared.step.Step.{Step}
@@ -11,6 +12,10 @@ use Rattle.dlk_link.specs.Trimmed.{IsNeeded}
 -- each step names rows before its own
 abbrev pub NameEarlier : List Step → Type 0
 NameEarlier steps = (row : ℕ) (step : Step) → At steps row step → (fact : ℕ) → Contains (facts_of (step_at [] step)) fact → (1 ≤ fact) × (fact < row)
+
+-- the step names no row past the most that there may be
+abbrev pub NamesFew : Step → Type 0
+NamesFew step = (fact : ℕ) → Contains (facts_of (step_at [] step)) fact → fact ≤ most_rows
 
 -- a row is marked exactly where it is needed
 pub record AreMarks (term : List TreeStep) (marks : List Bool) : Type 0 where

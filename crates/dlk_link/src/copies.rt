@@ -1,13 +1,13 @@
-//! Steps once more, with other numbers for their facts.
-ghost use Rattle.std.specs.Prelude.{◌≡◌, ℕ, ◌+◌, ◌≤◌, [], List, IfOk};
+//! Steps once more, and with other numbers for their facts.
+ghost use Rattle.std.specs.Prelude.{◌≡◌, ◌+◌, ◌≤◌, List, IfOk};
 ghost use Rattle.dlk_tree.specs.Trees.{Tree};
-ghost use Rattle.std.specs.List.{Contains};
 ghost use Rattle.dlk_calculus.specs.Limits.{most_rows};
-ghost use Rattle.dlk_rules.specs.Facts.{facts_of, renumbered};
+ghost use Rattle.dlk_rules.specs.Facts.{renumbered};
 ghost use Rattle.dlk_rules.specs.Steps.{rule_at, RuleIsKnown, step_at, HasKnownIds};
 ghost use Rattle.dlk_rules.specs.Words.{arguments_at, ArgumentsAreKnown};
 ghost use Rattle.dlk_link.specs.Trimmed.{new_number, moved};
 ghost use Rattle.dlk_link.specs.Copies.{IsSameStep, IsSameRule, IsSameArguments};
+ghost use Rattle.dlk_link.specs.Marks.{NamesFew};
 
 use dlk_rules::{Arguments, Rule, Step, rule_is_its_word_and_arguments, word_wants_one_shape};
 use dlk_sequent::{Listed, Pair, item_at};
@@ -97,22 +97,20 @@ fn new_number(numbers: &[u32], row: u32) -> u32
     }
 }
 
-/// The step once more, with the new numbers of its facts.
-pub(crate) fn moved(alloc: Global, step: &Step, numbers: &[u32]) -> Result<Step, AllocError>
-    ensures same { IfOk result (λ new. (trees : List Tree) → step_at trees new ≡ moved numbers.now (step_at trees step.now)) }
-    ensures known { IfOk result (λ new. (trees : List Tree) → HasKnownIds trees step.now → HasKnownIds trees new) }
+/// The step with the new numbers of its facts.
+pub(crate) fn moved(step: Step, numbers: &[u32]) -> Step
+    ensures same { (trees : List Tree) → step_at trees result ≡ moved numbers.now (step_at trees step) }
+    ensures known { (trees : List Tree) → HasKnownIds trees step → HasKnownIds trees result }
 {
-    let copy = copied(alloc, step)?;
-    Ok(copy.renumbered(|row| new_number(numbers, row)))
+    step.renumbered(|row| new_number(numbers, row))
 }
 
-/// The step once more, as it stands behind so many rows.
-pub(crate) fn behind(alloc: Global, step: &Step, rows: u32) -> Result<Step, AllocError>
-    requires few { (fact : ℕ) → Contains (facts_of (step_at [] step.now)) fact → fact ≤ most_rows }
+/// The step as it stands behind so many rows.
+pub(crate) fn behind(step: Step, rows: u32) -> Step
+    requires few { NamesFew step }
     requires room { rows ≤ most_rows }
-    ensures same { IfOk result (λ new. (trees : List Tree) → step_at trees new ≡ renumbered (λ fact. fact + rows) (step_at trees step.now)) }
-    ensures known { IfOk result (λ new. (trees : List Tree) → HasKnownIds trees step.now → HasKnownIds trees new) }
+    ensures same { (trees : List Tree) → step_at trees result ≡ renumbered (λ fact. fact + rows) (step_at trees step) }
+    ensures known { (trees : List Tree) → HasKnownIds trees step → HasKnownIds trees result }
 {
-    let copy = copied(alloc, step)?;
-    Ok(copy.renumbered(|fact| fact + rows))
+    step.renumbered(|fact| fact + rows)
 }

@@ -19,6 +19,9 @@ use std::alloc::{AllocError, Global};
 use std::hash::{Hash, Hasher};
 use std::marker::Model;
 
+/// Most steps are known by at most so many words.
+const USUAL_WORDS: usize = 24;
+
 /// The words that a step is known by. Over a store in which a tree has at most one id, two steps are equal exactly where their
 /// words are.
 #[derive(Drop, Debug)]
@@ -66,7 +69,7 @@ impl StepKey {
     pub(crate) fn of(alloc: Global, step: &Step) -> Result<StepKey, AllocError>
         ensures { IfOk result (λ key. (trees : List Tree) → HasKnownIds trees step.now → IsKey trees (step_at trees step.now) key) }
     {
-        let mut words = Vec::new(alloc);
+        let mut words = Vec::with_capacity(alloc, USUAL_WORDS)?;
         push_step(&mut words, step)?;
         Ok(StepKey { words })
     }

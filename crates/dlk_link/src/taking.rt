@@ -1,5 +1,5 @@
 //! Steps taken in turn.
-ghost use Rattle.std.specs.Prelude.{◌≡◌, [], List, map, All, OnOk, IfErr};
+ghost use Rattle.std.specs.Prelude.{◌≡◌, List, map, All, OnOk, IfErr};
 ghost use Rattle.dlk_calculus.specs.Provables.{Provable};
 ghost use Rattle.dlk_kernel.specs.Faults.{IsStepFault};
 ghost use Rattle.dlk_kernel.specs.Kernel.{facts};
@@ -34,17 +34,16 @@ pub(crate) fn take_in_turn<S: Store, L: Ledger>(
     Ok(())
 }
 
-/// Takes steps without fault on a kernel without rows: but for want of memory each is taken.
+/// Takes steps without fault behind others, whose rows the kernel has: but for want of memory each is taken.
 pub(crate) fn take_known<S: Store, L: Ledger>(
     alloc: Global,
     kernel: &mut Kernel<S>,
     plan: &[Step],
     steps: &mut Steps<L>,
 ) -> Result<(), LinkFault>
-    requires empty { kernel.old.rows ≡ [] }
     requires known { All (HasKnownIds (S.trees kernel.old.store)) plan.now }
-    requires taken { (rows : List Provable) × Takes [] (map (step_at (S.trees kernel.old.store)) plan.now) rows }
-    ensures taken { OnOk result (Takes [] (map (step_at (S.trees kernel.old.store)) plan.now) (facts S.trees kernel.new)) }
+    requires taken { (rows : List Provable) × Takes (facts S.trees kernel.old) (map (step_at (S.trees kernel.old.store)) plan.now) rows }
+    ensures taken { OnOk result (Takes (facts S.trees kernel.old) (map (step_at (S.trees kernel.old.store)) plan.now) (facts S.trees kernel.new)) }
     ensures err { IfErr result (λ e. e ≡ Memory) }
     ensures grows { S.grows kernel.old.store kernel.new.store }
 {

@@ -1,13 +1,12 @@
-use Rattle.std.proofs.Common.{◌≡◌, map, subst, sym, ◌∙◌, codes}
+use Rattle.std.proofs.Common.{◌≡◌, subst, ◌∙◌, codes}
 use Rattle.std.proofs.lemmas.Result.{err_from_is_err_and}
 use Rattle.dlk_calculus.specs.Places.{At}
 use Rattle.dlk_calculus.specs.Provables.{Provable}
 use Rattle.dlk_tree.specs.Trees.{Tree}
-use Rattle.dlk_rules.specs.Steps.{step_at}
 use Rattle.dlk_store.specs.Stores.{tree}
 use Rattle.dlk_kernel.specs.Kernel.{facts}
 use Rattle.dlk_replies.proofs.Ends.{ends_weaker}
-use Rattle.dlk_jobs_check.specs.Terms.{proves, TakesTerm, RefusesTerm}
+use Rattle.dlk_jobs_check.specs.Terms.{proves, RefusesTerm}
 use Rattle.dlk_jobs_check.specs.Judged.{RefusesModel, RefusesLine, RefusesConclusion}
 use Rattle.dlk_jobs_check.proofs.Judging.{model_refuses, line_refuses}
 use Rattle.dlk_jobs_terms.proofs.KeptSteps.{takes, conclusion_refuses}
@@ -24,12 +23,7 @@ returns-clause-taken g c =
     let outcome = c.in_ok-outcome.outcome in
     let kept = c.in_ok-outcome.ensures.kept in
     let shown = subst (λ (f : Tree). (p : Provable) → At rows outcome.fact p → p.conclusion ≡ proves f) same c.in_ok-judge.ensures.shown in
-    let taken = takes (trees kernel.store) c.args.term.now rows outcome kept c.args.model.now read.0 read.1 shown in (
-      rows,
-      kept.last,
-      subst (λ s. TakesTerm c.args.model.now c.args.term.now (map (step_at (trees s)) outcome.steps.items) rows kept.last)
-          (sym c.release.ensures.store) taken,
-    )
+    (kept.last, takes (trees kernel.store) c.args.term.now rows outcome kept c.args.model.now read.0 read.1 shown)
 
 pub returns-in_err-formula-clause-refused : goal.returns-in_err-formula-clause-refused
 returns-in_err-formula-clause-refused g c =
