@@ -300,8 +300,8 @@ def tried_alone(room, name):
     return every
 
 
-def tried_in_rounds(room, name):
-    """Tries the edits of one crate, many in one check, and gives what came of each: from a run before, where nothing has changed since."""
+def tried_in_rounds(room, name, jobs):
+    """Tries the edits of one crate, many in one check of so many jobs, and gives what came of each: from a run before, where nothing has changed since."""
     folder = room / "crates" / name
     kept, key = room / f"{name}.rounds", sum_of(room, name)
     shutil.rmtree(folder / "must-fail")
@@ -309,7 +309,7 @@ def tried_in_rounds(room, name):
     found = {it[1]: Tried(*it) for it in before["tried"]} if before.get("of") == key else {}
     left = [rounds.body_of(folder, edit, path) for edit, path in edits_of(name).items() if edit not in found]
     if left:
-        crate = rounds.Crate(folder, ["rt", "check"])
+        crate = rounds.Crate(folder, ["rt", "check", "--jobs", str(jobs)])
         why = crate.prove()
         if why:
             raise Refused(f"{name} is not proved: {why}")
@@ -321,26 +321,34 @@ def tried_in_rounds(room, name):
     return list(found.values())
 
 
-def tried_in_turn(room, names, jobs, how):
-    """Tries the edits of the crates one by one, so many crates at a time, once what they stand on is proved, and gives what came of each."""
+def prove_below(room, names, jobs):
+    """Proves what the crates stand on."""
     for name in with_those_below(names):
         if any(name in crates()[it] for it in with_those_below(names)):
             made = subprocess.run(["rt", "lib", "--jobs", str(jobs)], **how_in(room / "crates" / name))
             if made.returncode:
                 raise Refused(f"{name} is not proved: {made.stdout.rstrip().rpartition(chr(10))[2]}")
             print(f"{name} proved", file=sys.stderr, flush=True)
+
+
+def tried_in_turn(room, names, jobs):
+    """Tries the edits of the crates one by one, so many crates at a time, once what they stand on is proved, and gives what came of each."""
+    prove_below(room, names, jobs)
     with ThreadPoolExecutor(jobs) as lanes:
-        return {(it.crate, it.edit): it for every in lanes.map(lambda name: how(room, name), names) for it in every}
+        return {(it.crate, it.edit): it for every in lanes.map(lambda name: tried_alone(room, name), names) for it in every}
+
+
+def tried_together(room, names, jobs):
+    """Tries the edits of the crates in rounds, one crate at a time, since one that has wrong bodies in it isn't what those above it stand on."""
+    prove_below(room, names, jobs)
+    return {(it.crate, it.edit): it for name in names for it in tried_in_rounds(room, name, jobs)}
 
 
 def tried(room, edits, jobs, together):
     """Tries the edits of the crates, so many at a time, and gives what came of each, in their order."""
     names = list(edits)
     takes_names = re.search(r"\brt ci \[?NAME", subprocess.run(["rt", "help"], **how_in(room)).stdout)
-    if takes_names and not together:
-        found = tried_by_gate(room, names, jobs)
-    else:
-        found = tried_in_turn(room, names, jobs, tried_in_rounds if together else tried_alone)
+    found = (tried_together if together else tried_by_gate if takes_names else tried_in_turn)(room, names, jobs)
     return [found.get((name, edit)) or Tried(name, edit, "not tried", ": rt said nothing of it") for name in names for edit in edits[name]]
 
 

@@ -66,7 +66,7 @@ def function_at(text, at):
 
 def body_of(folder, name, edit):
     """Reads an edit, whose old texts stand once in their files, as `edits.py --look` says."""
-    file, old, changes = "", "", []
+    file, old, changes, texts = "", "", [], {}
     for line in edit.read_text().splitlines():
         word, _, rest = line.partition(":")
         rest = rest.removeprefix(" ")
@@ -75,8 +75,9 @@ def body_of(folder, name, edit):
         elif word == "old":
             old = rest
         elif word == "new":
-            text = (folder / file).read_text()
+            text = texts.get(file) or (folder / file).read_text()
             changes.append(Change(file, old, rest, *function_at(text, text.index(old))))
+            texts[file] = text.replace(old, rest)
     return Body(name, changes)
 
 
@@ -127,7 +128,7 @@ class Crate:
             shutil.rmtree(self.work, ignore_errors=True)
             linked(self.seed, self.work)
         how = {"cwd": self.folder, "stdout": subprocess.PIPE, "stderr": subprocess.STDOUT, "stdin": subprocess.DEVNULL}
-        return subprocess.run([*self.call, "--jobs", "1"], text=True, errors="replace", **how).stdout
+        return subprocess.run(self.call, text=True, errors="replace", **how).stdout
 
     def prove(self):
         """Proves the crate as it stands, and keeps that for the rounds. It gives why that can't be, or nothing."""
