@@ -20,7 +20,8 @@ NOTE = re.compile(r"(?:note: )?(?:\./)?(src/\S+?):(\d+):\d+: (.*)")
 ERROR = re.compile(r"(?:note: )?(?:\./)?(proofs/\S+)/\w+\.antt:\d+:\d+: error: (.*)")
 TAKEN_AWAY = re.compile(r"has no field|is not in scope|has no `|was not admitted")
 GOAL = re.compile(r"`((?:returns|calls|loop|arith|unreachable|[a-z])[\w-]*)`")
-LIMIT = re.compile(r"gave up at one of its limits|antt ran out of|outgrew the memory limit|stopped at the step limit")
+GAVE_UP = "gave up at one of its limits"
+LIMIT = re.compile(r"antt ran out of|outgrew the memory limit|stopped at the step limit")
 
 
 class Change(NamedTuple):
@@ -186,8 +187,8 @@ def own_failure(said, body):
         first = own[0] if own else notes[0] if notes else None
         goal = GOAL.search(first[0] if first else verdict)
         where = f" at {own[0][1]}" if own else f" at {notes[0][1]}:{notes[0][2]}" if notes else ""
-        kind = "for a limit" if not own and notes and all(LIMIT.search(it[3]) for it in notes) else "refused"
-        return Come(kind, where + (f", {goal[1].partition('clause-')[2] or goal[1]}" if goal else ""))
+        gave_up = ", where the search gave up" if not own and notes and all(GAVE_UP in it[3] for it in notes) else ""
+        return Come("refused", where + (f", {goal[1].partition('clause-')[2] or goal[1]}" if goal else "") + gave_up)
     return None
 
 
