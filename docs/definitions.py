@@ -533,7 +533,15 @@ def rows_by_part(parts, sections, walk):
                 of_part.append((section, rows, pieces[number]))
                 pieces[number] += 1
         found.append(of_part)
+    check_introductions(sections, pieces)
     return found
+
+
+def check_introductions(sections, pieces):
+    """Stops where a section has more introductions than parts that have some of it."""
+    for section, count in zip(sections, pieces):
+        if len(introductions_of(section)) > count:
+            stop(f"the section of {spec_path(section['crate'], section['file'])} has an introduction for no part")
 
 
 def has_definition(section, part, walk):
@@ -565,11 +573,16 @@ def table(header, rows):
     return [lines[0], "|" + "---|" * len(header), *lines[1:]]
 
 
+def introductions_of(section):
+    """What is said of a section: one introduction, or one for each of the first parts that have some of it."""
+    said = section["introduction"]
+    return [said] if isinstance(said, str) else said
+
+
 def introduction_of(section, pieces):
-    """What is said of a section, of which so many parts before had some. One of which the first part has little says less there."""
-    if pieces == 0:
-        return section.get("first_introduction", section["introduction"])
-    return section["introduction"] if pieces == 1 and "first_introduction" in section else "What no earlier part needs of it."
+    """What is said of a section in a part, where so many parts before had some of it."""
+    introductions = introductions_of(section)
+    return introductions[pieces] if pieces < len(introductions) else "What no earlier part needs of it."
 
 
 def section_lines(label, section, rows, pieces):
