@@ -47,7 +47,7 @@ MODULE_HEAD = "module _"
 
 IMPORT = re.compile(r"^\s*(?:pub |ghost )?use Rattle\.(\w+)\.(specs|proofs)\.(\S+?)(?:\.\{(.*)\}| as (\S+?));?$", re.MULTILINE)
 CLAUSE = re.compile(r"\bensures (\w+) \{")
-TYPE_NAME = re.compile(r"^\s*(?:abbrev )?(?:pub )?(?:data|record) (\S+)")
+TYPE_NAME = re.compile(r"^\s*(?:abbrev )?(?:pub )?(?:data|record) ([^\s{]\S*)")
 FUNCTION_NAME = re.compile(r"^(?:abbrev|unfoldable) (?:pub )?(\S+) :")
 MUTUAL_FUNCTION_NAME = re.compile(r"^\s+pub (\S+) :")
 CONSTRUCTOR_NAME = re.compile(r"^\s+(\S+) :")
