@@ -5,6 +5,7 @@
     python3 tools/edits.py [NAME ..] --together
     python3 tools/edits.py [NAME ..] --look
     python3 tools/edits.py [NAME ..] --starved [--look]
+    python3 tools/edits.py --consistent [NAME ..] [--room FOLDER] [--jobs N] [--look]
 
 An edit is a file that makes the code of a crate wrong. Those that tell most stand in `crates/NAME/must-fail/`, and the gate tries them; the
 others stand in `crates/NAME/edits/`. This tries both, of the named crates or of all that have any, with the files as they stand in this
@@ -34,6 +35,17 @@ takes a moment, and is to be done whenever code changed. The exit status is then
 With --starved bodies are made and tried in place of those in the folders: in each a refusal becomes want of memory, one refusal a body, wherever
 a function can answer both. One that isn't refused is no fault by itself: an allocation may come first, and want of memory is free then. With
 --look the refusals are only listed, each with its place and the function that it stands in.
+
+With --consistent the names are those of changes in `tools/consistent/`, or none for all. Each makes one mistake in a definition and in the code
+alike, which no proof sees, and the documents, the examples and the tests have to: `tools/consistent.py` says how they are tried. It takes a build
+without proof for each, so many at a time as --jobs says. A line a change says what has seen it:
+
+    box_is_turned: seen by docs/examples.py README.md: $ ./dlk check examples/first/model examples/first/term
+    last_row_is_lost: seen by the test it_is_there of dlk_tests_rules
+    nothing_is_wrong: NOT SEEN
+
+What came of a change is kept, and it isn't tried again while the checkout is the same. The exit status is 0 where each is seen, 1 where one isn't,
+and 2 where they could not be tried.
 """
 
 import argparse
@@ -50,6 +62,7 @@ from concurrent.futures import ThreadPoolExecutor
 from pathlib import Path
 from typing import NamedTuple
 
+import consistent
 import rounds
 
 TOP = Path(__file__).resolve().parent.parent
@@ -201,12 +214,12 @@ def with_those_below(names):
     return [name for name in every if name in found]
 
 
-def room_of(folder):
+def room_of(folder, kind="edits"):
     """The folder of the copy, made where it isn't there. One that isn't ours is refused."""
-    room = Path(folder or Path(tempfile.gettempdir()) / f"dlk-edits.{os.getuid()}").absolute()
+    room = Path(folder or Path(tempfile.gettempdir()) / f"dlk-{kind}.{os.getuid()}").absolute()
     if room == TOP or TOP in room.parents:
         raise Refused(f"{room} lies in this checkout, where the gate would find it: name a folder outside")
-    mark = room / "of-tools-edits"
+    mark = room / f"of-tools-{kind}"
     if room.exists() and (not mark.exists() or room.stat().st_uid != os.getuid()):
         raise Refused(f"{room} is there, and not made by this script")
     room.mkdir(mode=0o700, parents=True, exist_ok=True)
@@ -401,17 +414,34 @@ def tell_sums(names, every, as_table):
             print(f"{name}: {sum(of)} edits, " + ", ".join(f"{number} {kind}" for number, kind in zip(of, KINDS) if number or kind == "refused"))
 
 
+def try_consistent(given):
+    """Tries the named changes of a definition and of its code together, or all of them."""
+    every = consistent.changes()
+    for name in given.names:
+        if name not in every:
+            raise Refused(f"{name} is no change of tools/consistent")
+    names = list(dict.fromkeys(given.names)) or list(every)
+    if given.look:
+        return 0 if consistent.look(names) else 1
+    if shutil.which("rt") is None:
+        raise Refused("there is no rt on the path: changes are tried with the Rattle toolchain")
+    return 0 if consistent.try_all(room_of(given.room, "consistent"), names, max(1, given.jobs)) else 1
+
+
 def main():
     words = argparse.ArgumentParser(description="Tries the wrong bodies of the crates: the prover must refuse each.")
-    words.add_argument("names", nargs="*", metavar="NAME", help="a crate; none: all that have edits")
+    words.add_argument("names", nargs="*", metavar="NAME", help="a crate; none: all that have edits; with --consistent a change")
     words.add_argument("--room", metavar="FOLDER", help="where the copy of the crates stands")
     words.add_argument("--jobs", metavar="N", type=int, default=len(os.sched_getaffinity(0)), help="how many are tried at a time")
     words.add_argument("--table", action="store_true", help="the sums as rows of a table")
     words.add_argument("--together", action="store_true", help="many in one check, each in another function")
     words.add_argument("--look", action="store_true", help="only say which edits can't be applied")
     words.add_argument("--starved", action="store_true", help="bodies that answer want of memory in place of a refusal")
+    words.add_argument("--consistent", action="store_true", help="changes of a definition and of its code together")
     given = words.parse_args()
     try:
+        if given.consistent:
+            return try_consistent(given)
         starved = refusals_of(given.names) if given.starved else {}
         if given.look and given.starved:
             list_starved(starved)
