@@ -40,7 +40,7 @@ With --consistent the names are those of changes in `tools/consistent/`, or none
 alike, which no proof sees, and the documents, the examples and the tests have to: `tools/consistent.py` says how they are tried. It takes a build
 without proof for each, so many at a time as --jobs says. A line a change says what has seen it:
 
-    box_is_turned: seen by docs/examples.py README.md: $ ./dlk check examples/first/model examples/first/term
+    box_is_turned: seen by docs/examples.py: README.md: $ ./dlk check examples/first/model examples/first/term
     last_row_is_lost: seen by the test it_is_there of dlk_tests_rules
     nothing_is_wrong: NOT SEEN
 
