@@ -2,13 +2,23 @@
 """What the built program does at its edge, where no contract reaches: real files, devices, pipes, words and statuses.
 
 Each row is a run, with the status and the bytes that it must end with. The program is that of `./dlk`, or the one that DLK names.
+
+With `--bugs` it is tried itself. Each file of `bench/edges/` makes the code wrong where no contract speaks, as in the calls of the host's desk
+and in `main`; a program is built of it without proof, and some row must not come out as wanted. The exit status is 0 where each is seen.
 """
 import os
 import pathlib
+import shutil
 import subprocess
+import sys
 import tempfile
+from concurrent.futures import ThreadPoolExecutor
 
 from common import PROGRAM, knows
+
+TOP = pathlib.Path(__file__).resolve().parent.parent
+sys.path.append(str(TOP / "tools"))
+import consistent
 
 DLK = os.environ.get("DLK", str(PROGRAM))
 MODEL = b"x>=0 -> x>=0\n"
@@ -207,8 +217,36 @@ def words(at):
     said("a word that isn't UTF-8", (3, WORDS), run(["print", b"\xff"]))
 
 
+def seen(bug):
+    """What came of a bug: the first row that doesn't come out as wanted, if there is one."""
+    with tempfile.TemporaryDirectory() as name:
+        room = pathlib.Path(name)
+        shutil.copytree(TOP, room / "copy", ignore=shutil.ignore_patterns("out", ".git", "__pycache__"))
+        try:
+            for file, text in consistent.changed(room / "copy", bug).items():
+                (room / "copy" / file).write_text(text)
+            consistent.build(room / "copy", room / "program", room / "rooms")
+        except consistent.Broken as why:
+            return f"bad: {why}"
+        ran = subprocess.run([sys.executable, __file__], env={**os.environ, "DLK": str(room / "program")}, capture_output=True, text=True, check=False)
+        wrong = next((line for line in ran.stdout.splitlines() if ": wanted " in line), "")
+        return f"seen by {wrong.partition(': wanted ')[0]}" if wrong else "NOT SEEN" if ran.returncode == 0 else "seen: the rows can't be run"
+
+
+def try_bugs(jobs=2):
+    """Prints what came of each bug, two at a time, since each build takes much memory."""
+    bugs = sorted((TOP / "bench" / "edges").glob("*.edit"))
+    with ThreadPoolExecutor(jobs) as lanes:
+        found = list(zip(bugs, lanes.map(seen, bugs)))
+    for bug, come in found:
+        print(f"{bug.stem}: {come}", flush=True)
+    return 0 if all(come.startswith("seen") for _, come in found) else 1
+
+
 def main():
     """Prints a line for each row."""
+    if sys.argv[1:] == ["--bugs"]:
+        return try_bugs()
     with tempfile.TemporaryDirectory() as name:
         at = pathlib.Path(name)
         for file, text in {"model": MODEL, "term": IN_FULL, "open": OPEN_TERM, "strategy": b"implyR(1); close\n"}.items():
