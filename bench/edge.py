@@ -228,7 +228,9 @@ def seen(bug):
             consistent.build(room / "copy", room / "program", room / "rooms")
         except consistent.Broken as why:
             return f"bad: {why}"
-        ran = subprocess.run([sys.executable, __file__], env={**os.environ, "DLK": str(room / "program")}, capture_output=True, text=True, check=False)
+        # such a program may write where it mustn't
+        how = {"cwd": room, "env": {**os.environ, "DLK": str(room / "program")}}
+        ran = subprocess.run([sys.executable, pathlib.Path(__file__).resolve()], capture_output=True, text=True, check=False, **how)
         wrong = next((line for line in ran.stdout.splitlines() if ": wanted " in line), "")
         return f"seen by {wrong.partition(': wanted ')[0]}" if wrong else "NOT SEEN" if ran.returncode == 0 else "seen: the rows can't be run"
 
