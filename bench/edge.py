@@ -232,7 +232,7 @@ def seen(bug):
         how = {"cwd": room, "env": {**os.environ, "DLK": str(room / "program")}}
         ran = subprocess.run([sys.executable, pathlib.Path(__file__).resolve()], capture_output=True, text=True, check=False, **how)
         wrong = next((line for line in ran.stdout.splitlines() if ": wanted " in line), "")
-        return f"seen by {wrong.partition(': wanted ')[0]}" if wrong else "NOT SEEN" if ran.returncode == 0 else "seen: the rows can't be run"
+        return f"seen by {wrong.partition(': wanted ')[0]}" if wrong else "NOT SEEN" if ran.returncode == 0 else "bad: the rows can't be run"
 
 
 def try_bugs(jobs=2):
@@ -242,7 +242,7 @@ def try_bugs(jobs=2):
         found = list(zip(bugs, lanes.map(seen, bugs)))
     for bug, come in found:
         print(f"{bug.stem}: {come}", flush=True)
-    return 0 if all(come.startswith("seen") for _, come in found) else 1
+    return 0 if all(come.startswith("seen by ") for _, come in found) else 1
 
 
 def main():
