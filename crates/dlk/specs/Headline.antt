@@ -23,8 +23,8 @@ use Rattle.dlk_jobs_check.specs.Checks.{Checks, report_in}
 use Rattle.dlk_jobs_check.specs.Guards.{guarded_line, unguarded_line}
 use Rattle.dlk.specs.Answers.{bytes_of}
 
--- The words run a command that prints a report as text, on the model in the file of this name. One case a command. `guard` and `session` print
--- lines of their own first.
+-- The words run a command that prints a report as text, on the model in the file of this name. One case a command. `guard` prints a line of
+-- its own first, and `session` answers its script line by line.
 pub data Reports (model : Word) : List Word → Type 0 where
   check : (term : Word) → Reports model (codes "check" ∷ model ∷ term ∷ [])
   prove : (strategy term : Word) → Reports model (codes "prove" ∷ model ∷ strategy ∷ term ∷ [])
@@ -36,7 +36,7 @@ pub data IsGiven (whole : List ℕ) : ℕ → List ℕ → Type 0 where
   all : IsGiven whole 0 whole
   front : (bytes : ℕ) → IsGiven whole 5 (take bytes whole)
 
--- The model's formula is derived from exactly the leaves that are printed.
+-- The model's formula is derived from exactly the leaves of the report that is printed, whole or with status 5 in part.
 pub record IsClosed (model : List ℕ) (status : ℕ) (said : List ℕ) : Type 0 where
   pub formula : Tree
   pub reads : ModelText model formula
@@ -50,8 +50,8 @@ pub record IsClosed (model : List ℕ) (status : ℕ) (said : List ℕ) : Type 0
   -- what is printed is the report of this very provable, or a front of it where printing failed
   pub report : IsGiven (text_report proof lines) status said
 
--- Whenever one of these commands prints `closed`, the formula of the model is derived from exactly the leaves that are printed. This is the
--- headline: it needs no format of terms.
+-- Whenever one of these commands prints `closed`, the formula of the model is derived from exactly the leaves of the report, which is
+-- printed whole or with status 5 in part. This is the headline: it needs no format of terms.
 abbrev pub DerivedTruly : List Word → ℕ → Outside → Outside → Type 0
 DerivedTruly words status old new =
     (name : Word) (model said : List ℕ) → Reports name words → old.files name ≡ Some model → new.printed ≡ old.printed ++ (codes "closed" ++ said) →
@@ -64,13 +64,13 @@ pub record Writes (words : List Word) (old new : Outside) (texts : List (List �
   pub named : output words ≡ Some name
   pub written : new.files name ≡ Some out
 
--- The first of the inputs is this model.
+-- The first of the inputs is this model, and behind the run this term stands in the output.
 abbrev pub WritesTerm : List Word → Outside → Outside → List ℕ → List ℕ → Type 0
 WritesTerm words old new model term = (others : List (List ℕ)) × Writes words old new (model ∷ others) term
 
 -- The model and the term of which a command speaks where it prints `closed`: `check` has read both, and `prove`, `link` and `trim` have read
--- the one and written the other. `convert` reads no model, `guard` and `session` print lines of their own first, and the others print no report
--- as text.
+-- the one and written the other. `convert` reads no model, `guard` prints a line of its own first, `session` answers its script line by
+-- line, and the others print no report as text.
 abbrev pub SpeaksOf : Command → List Word → Outside → Outside → List ℕ → List ℕ → Type 0
 SpeaksOf Check words old new model term = bytes_of old.files (inputs words) ≡ Some (model ∷ term ∷ [])
 SpeaksOf Prove words old new model term = WritesTerm words old new model term
@@ -78,16 +78,16 @@ SpeaksOf Link words old new model term = WritesTerm words old new model term
 SpeaksOf Trim words old new model term = WritesTerm words old new model term
 SpeaksOf _ words old new model term = ⊥
 
--- The model's formula is derived from exactly the printed leaves, by the lines of the term: they give these rows, the last of which is the
--- provable of the report, and it counts them.
+-- The model's formula is derived from exactly the leaves of the report, by the lines of the term: they give these rows, the last of which
+-- is the provable of the report, and it counts them.
 pub record IsDerived (model term : List ℕ) (status : ℕ) (said : List ℕ) : Type 0 where
   pub shown : IsClosed model status said
   pub rows : List Provable
   pub accepts : Accepts term rows shown.proof
   pub count : shown.lines ≡ length rows
 
--- Whenever `check`, `prove`, `link` or `trim` prints `closed`, the formula of the model is derived from the printed leaves, by the lines of the
--- term.
+-- Whenever `check`, `prove`, `link` or `trim` prints `closed`, the formula of the model is derived from the leaves of the report, by the
+-- lines of the term.
 abbrev pub ClosedTruly : List Word → ℕ → Outside → Outside → Type 0
 ClosedTruly words status old new =
     (command : Command) (model term said : List ℕ) → command_of words ≡ Some command → SpeaksOf command words old new model term →

@@ -22,7 +22,7 @@ pub record RunsSubst (words : List Word) (files : Files) (e : Tree) (pairs : Lis
   pub texts : bytes_of files (expression ∷ substitution ∷ []) ≡ Some (file ∷ pairs_file ∷ [])
   pub are_read : AreRead file pairs_file e pairs
 
--- of the expression the pairs make nothing, or a tree past a limit
+-- the pairs are well formed, and make nothing of the expression, or a tree past a limit
 pub data MakesNone (pairs : List Pair) (e : Tree) : Type 0 where
   nothing : IsWellFormed pairs → ((t : Tree) → ¬ Subst pairs e t) → MakesNone pairs e
   big : (t : Tree) → HasResult pairs e t → most_nodes < size t → MakesNone pairs e
@@ -43,8 +43,8 @@ LooksAtFewFor words files old new =
 abbrev pub PrintsNone : ℕ → Outside → Outside → Type 0
 PrintsNone status old new = (status ≡ 2) × (reply : Reply) × RefusesResult reply × (new.printed ≡ old.printed ++ reply.printed)
 
--- Where the pairs make nothing of the expression, or a tree past a limit, or such a refusal was printed, at most so many nodes were looked at,
--- from the count before to that after.
+-- Where well-formed pairs make nothing of the expression, or a tree past a limit, and both files are within theirs, or where such a refusal
+-- was printed with status 2, at most so many nodes were looked at, from the count before to that after.
 abbrev pub LooksAtFew : List Word → ℕ → Outside → Outside → ℕ → ℕ → Type 0
 LooksAtFew words status old new before after =
     (e : Tree) (pairs : List Pair) → (runs : RunsSubst words old.files e pairs) →

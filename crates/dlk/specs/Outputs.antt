@@ -8,7 +8,7 @@ pub record Output : Type 0 where
   pub name : Word
   pub bytes : List ℕ
 
--- the output of words that have this name for it and of a reply with these bytes
+-- the file that is written where the words have this name for it and the reply these bytes
 abbrev pub output_with : Option Word → Option (List ℕ) → Option Output
 output_with None written = None
 output_with (Some name) None = None

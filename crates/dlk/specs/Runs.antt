@@ -10,7 +10,7 @@ use Rattle.dlk_replies.specs.Replies.{Reply, code_of}
 use Rattle.dlk.specs.Answers.{bytes_of, Answers}
 use Rattle.dlk.specs.Outputs.{Output, output_with, after, WrittenInPart}
 
--- On every desk: each status has its cause.
+-- On every desk: status 3 has wrong words as its cause, 4 a read fault and 5 a write fault, and no status is above 6.
 pub record Caused (words : List Word) (status : ℕ) (old new : Outside) : Type 0 where
   pub known : status ≤ 6
   pub words_only : status ≡ 3 → IsNone (command_of words)
@@ -26,7 +26,7 @@ pub record AsksFor (tells : Type 0) (names : List Word) (limits : List ℕ) (cou
   pub none : tells → count ≡ 0 → new.left ≡ old.left
   pub last : tells → (name : Word) (limit : ℕ) → At names count name → At limits count limit → IsSomeAnd (old.files name) (λ bytes. LosesAtMost (limit + 1) bytes new.left)
 
--- On every desk: what is asked for are the inputs of the words in their order, all of them where an answer is given.
+-- On every desk: what is asked for are the inputs of the words in their order, and with status 0, 1 or 2 all of them.
 pub record Asks (tells : Type 0) (words : List Word) (status : ℕ) (old new : Outside) : Type 0 where
   pub count : ℕ
   pub inputs_only : AsksFor tells (inputs words) (limits words) count old new
@@ -38,7 +38,7 @@ pub record StartsNoWrite (tells : Type 0) (old new : Outside) : Type 0 where
   pub target : tells → new.target ≡ old.target
   pub files : tells → SameFiles old.files new.files
 
--- On every desk: without an output, and where an input is refused, no write is started. With a read fault or for want of memory nothing is
+-- On every desk: without an output, and with status 2, no write is started. With a read fault or for want of memory nothing is
 -- printed either, and the count of write faults hasn't risen.
 pub record Keeps (tells : Type 0) (words : List Word) (status : ℕ) (old new : Outside) : Type 0 where
   pub no_output : IsNone (output words) → StartsNoWrite tells old new
@@ -49,7 +49,7 @@ pub record Keeps (tells : Type 0) (words : List Word) (status : ℕ) (old new : 
 abbrev pub HasInputs : List Word → Outside → Type 0
 HasInputs words old = IsSome (bytes_of old.files (inputs words))
 
--- the file that is written to words with this reply
+-- the file that is written where the words are these and this is the reply
 abbrev pub output_to : List Word → Reply → Option Output
 output_to words reply = output_with (output words) reply.written
 

@@ -48,7 +48,7 @@ pub record IsLinked (model term lemma out : List ℕ) (status : ℕ) (said : Lis
   pub of_out : Accepts out linked_rows linked
   pub joined : Joined proof lemma_proof linked
 
--- What `link` writes is the term with the lemma linked into it.
+-- What `link` writes is accepted, and shows what the term shows with the lemma in place of the goals that it concludes.
 abbrev pub LinksTruly : List Word → ℕ → Outside → Outside → Type 0
 LinksTruly words status old new =
     (model term lemma out said : List ℕ) → command_of words ≡ Some Link → Writes words old new (model ∷ term ∷ lemma ∷ []) out → status < 2 →

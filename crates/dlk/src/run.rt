@@ -98,15 +98,15 @@ fn work<D: Desk, L: Ledger>(
 /// Does what the words say, and answers the exit status of the program.
 ///
 /// The words do not hold the program's own name. The statuses are 0 where the proof is closed or what was asked for is
-/// printed, 1 where the proof is open, 2 where an input is refused, 3 where the words are none of the forms, 4 where an
-/// input could not be read, 5 where the answer could not be given, 6 where memory ran out.
+/// printed, 1 where the proof is open, 2 where an input is refused, or what comes of the inputs, 3 where the words are none of
+/// the forms, 4 where an input could not be read, 5 where the answer could not be given, 6 where memory ran out.
 pub fn run<D: Desk, L: Ledger>(
     alloc: Global,
     words: &[String],
     desk: &mut D,
     steps: &mut Steps<L>,
 ) -> u8
-    // Whenever `closed` is printed, the model is derived from exactly the printed leaves.
+    // Whenever `closed` is printed, the model is derived from exactly the leaves of the report, of which with status 5 a front is printed.
     ensures derived_truly { D.tells → DerivedTruly (map string_bytes words.now) result (D.outside desk.old) (D.outside desk.new) }
     // And it is so by the lines of the term.
     ensures closed_truly { D.tells → ClosedTruly (map string_bytes words.now) result (D.outside desk.old) (D.outside desk.new) }
@@ -124,7 +124,7 @@ pub fn run<D: Desk, L: Ledger>(
     ensures trims_truly { D.tells → TrimsTruly (map string_bytes words.now) result (D.outside desk.old) (D.outside desk.new) }
     // What `session` prints are the replies to the script's lines in turn, and what it saves is accepted by `check`.
     ensures sessions_truly { D.tells → SessionsTruly (map string_bytes words.now) result (D.outside desk.old) (D.outside desk.new) }
-    // On every desk: each status has its cause.
+    // On every desk: status 3 has wrong words as its cause, 4 a read fault and 5 a write fault, and no status is above 6.
     ensures caused { Caused (map string_bytes words.now) result (D.outside desk.old) (D.outside desk.new) }
     // On every desk: what is asked for are the inputs of the words in their order, and of the last of them little is taken.
     ensures asks { Asks D.tells (map string_bytes words.now) result (D.outside desk.old) (D.outside desk.new) }
@@ -136,7 +136,7 @@ pub fn run<D: Desk, L: Ledger>(
     ensures answered { D.tells → HasInputs (map string_bytes words.now) (D.outside desk.old) → Answered (map string_bytes words.now) result (D.outside desk.old) (D.outside desk.new) }
     // Where moreover no count of faults rose: the answer, or want of memory.
     ensures completes { D.tells → HasInputs (map string_bytes words.now) (D.outside desk.old) → Completes (map string_bytes words.now) result (D.outside desk.old) (D.outside desk.new) }
-    // Where a substitution makes nothing, or a tree past a limit, few nodes were looked at.
+    // Where well-formed pairs make nothing, or a tree past a limit, few nodes were looked at.
     ensures looks { D.tells → LooksAtFew (map string_bytes words.now) result (D.outside desk.old) (D.outside desk.new) steps.old steps.new }
 {
     proved_is_checked();

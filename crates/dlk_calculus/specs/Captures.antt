@@ -43,6 +43,6 @@ captures op = nothing
 abbrev pub AreApart : (Var → Bool) → (Var → Bool) → Type 0
 AreApart set other = ¬ IsInhabited (both set other)
 
--- t is the operator over its new kids, and what it captures is admissible for the kids of before
+-- t is the operator over its new kids, and what it captures is admissible for those kids of before in which it is captured
 abbrev pub Stays : ((Var → Bool) → Forest → Type 0) → Op → Forest → Forest → Tree → Type 0
 Stays Admissible op old new t = Admissible ((captures op).set new) ((captures op).reach old) × (t ≡ node op new)

@@ -2,7 +2,7 @@
 use Rattle.std.specs.Prelude.{ℕ, ◌≤◌}
 use Rattle.dlk_tree.specs.Trees.{Tree, size, depth}
 
--- The nodes and the depth of a formula, and of a replacement.
+-- The nodes and the depth of a tree, whether it is read or made.
 
 abbrev pub most_nodes : ℕ
 most_nodes = 65536

@@ -1,4 +1,4 @@
--- Words for the trees of the axioms.
+-- Words for the trees of the axioms and of the rules.
 use Rattle.std.specs.Prelude.{ℕ, List, [], ◌∷◌, ◌++◌, Option, Some, None, codes}
 use Rattle.dlk_tree.specs.declared.op.Sym.{Sym}
 use Rattle.dlk_tree.specs.declared.op.Kind.{Kind}

@@ -12,13 +12,13 @@ use Rattle.dlk_calculus.specs.Captures.{AreApart, Stays}
 pub record IsClear (args : List Tree) (set : Var → Bool) (trees : Forest) : Type 0 where
   pub clear : (n : ℕ) (a : Tree) → slice_get args n ≡ Some a → IsTrue (any_has (is_dot n) trees) → AreApart set (free a)
 
--- the operator over old kids gives t, where these give the new ones
+-- the operator over old kids gives t, where these give the new ones: a dot its argument, any other itself if no argument is captured
 abbrev pub PlugAt : List Tree → Op → Forest → Forest → Tree → Type 0
 PlugAt args (Dot n) old new t = slice_get args n ≡ Some t
 PlugAt args op old new t = Stays (IsClear args) op old new t
 
 abbrev mutual
-  -- r with the arguments in place of its dots is t
+  -- r with the arguments in place of its dots is t, and no variable of an argument is captured
   pub Plug : List Tree → Tree → Tree → Type 0
   Plug args (node op kids) t = (new : Forest) × PlugAll args kids new × PlugAt args op kids new t
 

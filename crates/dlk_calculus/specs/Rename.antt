@@ -1,5 +1,5 @@
 -- Renaming: two names exchanged everywhere (uniform renaming), and another name for a bound variable (bound renaming). Taboos, and the
--- condition on symbols that may read any variable, are this project's.
+-- condition on symbols that may read variables that aren't written with them, are this project's.
 use Rattle.std.specs.Prelude.{ℕ, List, map, Bool, ◌||◌, not, if◌then◌else◌, option_map}
 use Rattle.std.specs.List.{list_any}
 use Rattle.std.specs.Str.{bytes_eq}
@@ -15,7 +15,7 @@ use Rattle.dlk_tree.specs.Statics.{free, plain, prime}
 use Rattle.dlk_tree.specs.Occurs.{has, symbols_of}
 use Rattle.dlk_calculus.specs.Notation.{forall, exists, box, dia, assign}
 
--- The names x and y are exchanged: in variables, quantifiers, assigned variables, evolved variables and taboos. Names of symbols stay.
+-- The names x and y are exchanged: in variables, quantifiers, assignments (`x:=*;` too), evolved variables, taboos. Names of symbols stay.
 
 abbrev pub swap_name : List ℕ → List ℕ → List ℕ → List ℕ
 swap_name x y z = if bytes_eq z x then y else if bytes_eq z y then x else z

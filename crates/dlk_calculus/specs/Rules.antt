@@ -117,7 +117,7 @@ IsFreshIn s x = (list_any (λ t. free t (plain x)) s.ante || list_any (λ t. fre
 pub record Figure : Type 1 where
   -- the places are there
   pub places : Type 0
-  -- what the rule reads at its places: a formula, its kids, or a variable with the formula that it is bound over; nothing for `cut`
+  -- the parts of which the figure speaks: formulas, kids of one, or a variable with its scope and the renamed scope; for some rules none
   pub Parts : Type 0
   -- the formulas there have the form that the rule wants, of these parts
   pub shape : Parts → Type 0

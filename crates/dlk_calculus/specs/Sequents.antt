@@ -18,7 +18,7 @@ A ==> S = record { ante = A; succ = S }
 abbrev pub alone_right : Tree → Sequent
 alone_right f = record { ante = []; succ = f ∷ [] }
 
--- a tree that may stand in a sequent: a formula without argument dots and without `_`
+-- a tree that may stand in a sequent: a well-made formula without argument dots and without `_`
 pub record IsFormula (t : Tree) : Type 0 where
   pub well_made : WellMade t
   pub sort_is : sort t ≡ Formula

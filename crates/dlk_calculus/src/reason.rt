@@ -17,7 +17,7 @@ pub enum Reason {
     WrongShape,
     /// Two formulas that the rule wants to be the same are not, or a goal isn't the conclusion of the fact that is merged into it.
     NotEqual,
-    /// A variable that the rule wants to be fresh is not, or a symbol that may read any variable stands in what it binds.
+    /// A variable that the rule wants to be fresh is not, or a symbol that may read variables not written with it stands in what it binds.
     NotFresh,
     /// A leaf is no sequent of arithmetic.
     NotArith,

@@ -5,7 +5,7 @@ use Rattle.dlk_calculus.specs.Provables.{Provable}
 use Rattle.dlk_calculus.specs.Steps.{Step}
 use Rattle.dlk_elab.specs.declared.fault.FailWhy.{FailWhy}
 
--- how many atoms may be run, those that fail included
+-- how many runs of atoms, and of `derive`, there may be, those that fail included
 abbrev pub most_runs : ℕ
 most_runs = 16000
 
@@ -18,16 +18,16 @@ pub record Progress : Type 0 where
   -- the steps, and the rows that they give, of which the last is the main fact
   pub steps : List Step
   pub rows : List Provable
-  -- how many atoms were run
+  -- how many runs of atoms, and of `derive`, there were
   pub used : ℕ
 
 -- what becomes of a goal
 pub data Outcome : Type 0 where
   -- this is made, and so many goals stand in the goal's place
   Done : Progress → ℕ → Outcome
-  -- at a byte of the strategy's text, why, and how many atoms were run
+  -- at a byte of the strategy's text, why, and how many runs of atoms, and of `derive`, there were
   Fails : ℕ → FailWhy → ℕ → Outcome
-  -- at the byte of the atom that would be one too many
+  -- at the byte of the atom, or of `derive`, whose run would be one too many
   Budget : ℕ → Outcome
 
 -- the goals of the main fact, which is the last row

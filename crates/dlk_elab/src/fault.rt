@@ -15,11 +15,11 @@ pub enum FailWhy {
     WrongCount,
     /// An atom uses an axiom, and none has the name.
     UnknownName,
-    /// A place or a path of an atom isn't there, or the atom doesn't act there: a rule's place has a path, or is on the other side.
+    /// A place or a path isn't there, a locator's side is empty, or the atom doesn't act there: on this side, or with this path.
     NoPlace,
-    /// An atom uses an axiom that doesn't match what stands at the place, or may not be used there.
+    /// The axiom doesn't match what stands at the place, or may not be used there; or a `( )'` for `derive` has no derivative.
     NoMatch,
-    /// The kernel doesn't take a step of an atom, for this reason.
+    /// The kernel doesn't take a step; or none is asked for, where no formula is on both sides, or no box or no `( )'` at the place.
     Step(Reason),
 }
 
@@ -35,7 +35,7 @@ pub enum TacFault {
     /// The axiom doesn't match what stands at the place, or may not be used there.
     #[error("the axiom does not match")]
     NoMatch,
-    /// The kernel did not take a step, for this reason.
+    /// The kernel did not take a step, or none was asked for, for this reason.
     #[error("refused: {0:?}")]
     Step(Reason),
     #[error("out of memory")]

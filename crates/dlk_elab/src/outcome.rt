@@ -15,17 +15,17 @@ pub struct More {
     pub steps: Vec<Step>,
     /// How many goals stand in the goal's place.
     pub count: u32,
-    /// How many atoms were run, those that failed and those of before included.
+    /// How many runs of atoms, and of `derive`, there were, those that failed and those of before included.
     pub used: u32,
 }
 
 /// Why a strategy made nothing of a goal.
 #[derive(Clone, Copy, Debug, PartialEq, Eq, Error)]
 pub enum OnFault {
-    /// The strategy fails, at a byte of its text. So many atoms were run, those of before included.
+    /// The strategy fails, at a byte of its text. There were so many runs of atoms, and of `derive`, those of before included.
     #[error("fails at {at}: {why:?}")]
     Fails { at: usize, why: FailWhy, used: u32 },
-    /// The 16,001st run of an atom would start at this byte.
+    /// The 16,001st run of an atom, or of `derive`, would start at this byte.
     #[error("budget at {at}")]
     Budget { at: usize },
     #[error("out of memory")]

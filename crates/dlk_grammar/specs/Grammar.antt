@@ -24,7 +24,7 @@ pub data Nonterminal : Type 0 where
   stmt : Nonterminal
 
 mutual
-  -- Reads f tokens t: the tokens are a text of f, and t is its tree.
+  -- Reads f tokens t: the tokens are a text of f, and t is the phrase that they say.
   pub data Reads : Nonterminal → List Lexeme → Phrase → Type 0 where
     -- formula = imp | imp "<->" formula
     formula-imp : {s : List Lexeme} {a : Phrase} → Reads imp s a → Reads formula s a

@@ -42,21 +42,21 @@ pub data Stops {P : Type 0} (d : Dots) (G : List Lexeme → P → Type 0) : List
   stops-token : {s : List Lexeme} (k : Lexeme) (r : List Lexeme) → Begins d G s → ¬ Begins d G (s ++ k ∷ []) → Stops d G (s ++ k ∷ r) (length s)
   stops-end : {s : List Lexeme} → Begins d G s → ((p : P) → ¬ Says d G s p) → Stops d G s (length s)
 
--- whether a token opens a bracket level
+-- whether a token opens a bracket level; a bracket of a unit symbol, as `(|`, doesn't
 abbrev pub opens : TokenKind → Bool
 opens (kind.Mark mark.OpenRound) = true
 opens (kind.Mark mark.OpenSquare) = true
 opens (kind.Mark mark.OpenBrace) = true
 opens _ = false
 
--- whether a token closes one
+-- whether a token closes a bracket level, whichever bracket has opened it
 abbrev pub closes : TokenKind → Bool
 closes (kind.Mark mark.CloseRound) = true
 closes (kind.Mark mark.CloseSquare) = true
 closes (kind.Mark mark.CloseBrace) = true
 closes _ = false
 
--- the bracket level behind a token
+-- the bracket level behind a token; one that closes leaves level 0 as it is
 abbrev pub level_behind : ℕ → TokenKind → ℕ
 level_behind level k = if opens k then level + 1 else (if closes k then level - 1 else level)
 

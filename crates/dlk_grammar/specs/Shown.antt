@@ -170,7 +170,7 @@ closing o = (style o).closing
 abbrev pub items_of : Op → Option (List OdeItem)
 items_of o = (style o).items
 
--- brackets round what stands below its least level
+-- the bracket that opens before what stands below its least level
 abbrev pub open_bracket : Sort → Piece
 open_bracket Term = mark OpenRound
 open_bracket Formula = mark OpenRound
@@ -207,7 +207,7 @@ abbrev pub is_true : Op → Bool
 is_true op.True = true
 is_true _ = false
 
--- a system's domain with its text, which isn't shown where the domain is `true`
+-- what stands behind a system's items: `&` and the text of the domain, or nothing where the domain is `true`
 abbrev pub domain_text : Tree → List Piece → List Piece
 domain_text domain text = if is_true (root domain) then [] else mark And ∷ text
 

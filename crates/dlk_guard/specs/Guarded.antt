@@ -22,7 +22,7 @@ use Rattle.dlk_guard.specs.declared.raw.RawAxiom.TheVariants.{Di, Dg}
 use Rattle.dlk_guard.specs.declared.raw.Raw.{Raw}
 use Rattle.dlk_guard.specs.Instances.{first_of, unless, instance_why}
 
--- a line of a term: its step, and the conclusion of the row that it gives
+-- a line of a term that is a step, with the conclusion of the row that it gives; lines of nodes are left out
 pub record Line : Type 0 where
   pub step : Step
   pub conclusion : Sequent
@@ -124,7 +124,7 @@ why_last is_last mark = if is_last then why_raw mark else None
 abbrev pub line_why : List (Option Raw) → Bool → Line → Option Why
 line_why marks is_last l = first_of (misuse marks l.step ∷ why_last is_last (mark marks l) ∷ [])
 
--- line n, counted from 1, is refused for this reason
+-- line n is refused for this reason; lines count from 1, and no lines of nodes among them, so n is the number of the step
 abbrev pub IsRefused : List Line → ℕ → Why → Type 0
 IsRefused all n why = (l : Line) × At all n l × (line_why (marks (take (n - 1) all)) (n == length all) l ≡ Some why)
 

@@ -46,7 +46,7 @@ is_apart Op'.Gt = true
 is_apart Op'.Lt = true
 is_apart _ = false
 
--- one side is d, and the other is 0
+-- the first of these two sides is d, and the second is 0
 abbrev pub are_term_and_zero : Tree → Tree → Tree → Bool
 are_term_and_zero d side other = tree_eq d side && is_zero other
 

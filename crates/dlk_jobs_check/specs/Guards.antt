@@ -33,7 +33,7 @@ guarded_line = line (codes "guarded")
 abbrev pub unguarded_line : ℕ → Why → List ℕ
 unguarded_line n why = line (codes "unguarded line " ++ (decimal n ++ (codes ": " ++ guard_word why)))
 
--- the line of the guard: the lines of the term, each with the row that it gives, are guarded, or the first one that isn't is named
+-- the line of the guard: the steps of the term, each with the row that it gives, are guarded, or the first that isn't is named
 pub data GuardSays (term : List ℕ) : List ℕ → Type 0 where
   is_guarded : (steps : List Step) (rows : List Provable) (p : Provable) → Replays term steps rows p → Guarded (lines steps rows) →
       GuardSays term guarded_line

@@ -43,8 +43,8 @@ other_conclusion n f found = printing Refused
 
 -- ---- terms
 
--- the term is accepted: up to `done` its lines are steps, or in version 2, behind the line that begins it, nodes and steps; the steps give these rows,
--- of which p is the last, by this line
+-- the term is accepted: up to `done` its lines are steps, or in version 2, behind the line that begins it, nodes and steps; the steps give
+-- these rows, of which p is the last, by the line whose number in the file is `line`
 pub record Accepts (term : List ℕ) (rows : List Provable) (p : Provable) : Type 0 where
   pub before : List Provable
   pub last : rows ≡ before ++ p ∷ []

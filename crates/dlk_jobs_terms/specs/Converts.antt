@@ -8,7 +8,7 @@ use Rattle.dlk_replies.specs.Replies.{Reply}
 use Rattle.dlk_jobs_check.specs.Terms.{line_refused, Accepts, Replays}
 use Rattle.dlk_jobs_record.specs.Records.{Records, IsWritten}
 
--- Converts term reply: the steps that the term's lines say are written anew, and its last row is reported.
+-- Converts term reply: a wrong line is refused; else the term's steps are written anew and its last row reported, unless too long.
 pub data Converts (term : List ℕ) : Reply → Type 0 where
   bad_line : (n : ℕ) (why : LineWhy) → Verdict (file_lines term) (bad n why) → Converts term (line_refused n why)
   records : (steps : List Step) (rows : List Provable) (p : Provable) → Replays term steps rows p → (reply : Reply) → Records steps p reply →

@@ -9,7 +9,7 @@ use Rattle.dlk_jobs_check.specs.Terms.{TakesTerm, RefusesTerm}
 use Rattle.dlk_jobs_record.specs.Records.{Records, IsWritten}
 use Rattle.dlk_jobs_terms.specs.Made.{RecordsLast}
 
--- Trims model term reply: where the term is taken, the steps that are kept of it, and the report of their last row
+-- Trims model term reply: what isn't taken is refused; else the steps kept of the term are written and reported, unless too long.
 pub data Trims (model term : List ℕ) : Reply → Type 0 where
   refuses : (reply : Reply) → RefusesTerm model term reply → Trims model term reply
   trims : (steps : List Step) (rows : List Provable) (p : Provable) → TakesTerm model term steps rows p →

@@ -11,7 +11,7 @@ abbrev pub RefusesResult : Reply → Type 0
 RefusesResult reply =
     (reply ≡ refusal (codes "not-admissible")) ⊎ ((reply ≡ refusal (codes "result-too-big")) ⊎ (reply ≡ refusal (codes "result-too-deep")))
 
--- two looks a pair; and beside them one for each subtree of the expression, and for it one for each subtree of a replacement
+-- two looks a pair, and beside them the most looks of the substitution
 abbrev pub subst_looks : List Pair → Tree → ℕ
 subst_looks pairs e = 2 * length pairs + most_looks pairs e
 

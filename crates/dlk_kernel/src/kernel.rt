@@ -136,8 +136,8 @@ impl<S: Store> Kernel<S> {
     ///   - `WrongShape`: a formula hasn't the form that the rule wants, or a given formula can't stand in a sequent.
     ///   - `NotEqual`: two formulas that the rule wants to be the same are not, or the goal isn't the conclusion of the fact
     ///     that is merged into it.
-    ///   - `NotFresh`: a variable that the rule wants to be fresh is not, or a symbol that may read any variable stands in
-    ///     what it binds.
+    ///   - `NotFresh`: a variable that the rule wants to be fresh is not, or a symbol that may read variables that aren't
+    ///     written with it stands in what it binds.
     ///   - `NotArith`: a leaf is no sequent of arithmetic.
     ///   - `IllSubst`: the pairs of a substitution are not well formed.
     ///   - `FreeInSubst`: a variable is free in the replacement of a function or a predicate, and the fact has a goal.

@@ -13,7 +13,7 @@ use Rattle.dlk_grammar.specs.Symbols.{shown_symbol}
 use Rattle.dlk_grammar.specs.Texts.{TreeText, SequentText, PairsText}
 use Rattle.dlk_lines.specs.Numbers.{IsNumber}
 
--- in full, as canonical texts are, or by the numbers of these nodes
+-- in full, as texts of trees, or by the numbers of these nodes
 pub data Spelling : Type 0 where
   InFull : Spelling
   ByNodes : List Tree → Spelling

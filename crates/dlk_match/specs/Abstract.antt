@@ -1,4 +1,4 @@
--- A variable as an argument: `._0` in its place.
+-- A variable as an argument: `._0` in its place, outside each operator that captures it.
 use Rattle.std.specs.Prelude.{Bool, true, false, if◌then◌else◌}
 use Rattle.dlk_tree.specs.declared.op.Var.{Var}
 use Rattle.dlk_tree.specs.declared.op.Op.{Op}
@@ -32,7 +32,7 @@ with_dot v op old new =
     if is_variable v op then node (Op'.Dot 0) no_kids
     else node op (if (captures op).set old v then (if binds_behind op then first_alone old new else old) else new)
 
--- the tree with `._0` for the variable v, outside the scope of each binder of v
+-- the tree with `._0` for the variable v, outside each operator that captures v
 abbrev mutual
   pub abstracted : Var → Tree → Tree
   abstracted v (node op kids) = with_dot v op kids (abstracted_all v kids)

@@ -66,7 +66,7 @@ fn entered<S: Store>(store: &S, id: Id, op: &Op, kids: &[Id], v: &Var) -> usize
     }
 }
 
-/// The tree with `._0` for the variable, outside the scope of each binder of the variable: neither in a differential nor in a
+/// The tree with `._0` for the variable, outside each operator that captures the variable: neither in a differential nor in a
 /// predicational, and behind a program only where the program doesn't bind it.
 ///
 /// # Errors

@@ -4,6 +4,6 @@ use Rattle.std.specs.Prelude.{ℕ, ◌+◌, ◌*◌, List}
 use Rattle.dlk_tree.specs.Trees.{Tree}
 use Rattle.dlk_calculus.specs.Pairs.{Pair}
 
--- one look for each subtree of the tree, and for each subtree of a replacement beside it
+-- the number of unlike subtrees of the tree, times one more than the number of unlike subtrees of the replacements
 abbrev pub most_looks : List Pair → Tree → ℕ
 most_looks pairs t = distinct_count (subtrees t) * (1 + distinct_count (replacement_subtrees pairs))

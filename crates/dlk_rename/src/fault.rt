@@ -11,8 +11,8 @@ pub enum RenameFault {
     /// The formula is no `\forall x f`, `\exists x f`, `[x:=e;]f` or `<x:=e;>f`.
     #[error("the formula binds no variable that can have another name")]
     WrongShape,
-    /// The name, its prime, or the prime of the bound variable is free in the body, or a symbol that may read any variable stands
-    /// there.
+    /// The name, its prime, or the prime of the bound variable is free in the body, or a symbol stands there that may read
+    /// variables that aren't written with it.
     #[error("the name is not fresh")]
     NotFresh,
     #[error("out of memory")]

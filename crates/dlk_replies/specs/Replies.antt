@@ -10,7 +10,7 @@ pub record Reply : Type 0 where
   pub printed : List ℕ
   pub written : Option (List ℕ)
 
--- the exit status of the program
+-- the exit status of the program where it gives the whole of a reply with this status
 abbrev pub code_of : Status → ℕ
 code_of Closed = 0
 code_of Done = 0

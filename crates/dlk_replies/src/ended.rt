@@ -10,7 +10,7 @@ use dlk_print::PrintFault;
 /// Why a job ended before its last step.
 #[derive(Drop, Debug)]
 pub enum Ended {
-    /// An input is refused, with this reply.
+    /// An input is refused, or what comes of the inputs is, with this reply.
     Refused(Reply),
     /// Memory ran out.
     Memory,

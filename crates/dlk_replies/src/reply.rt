@@ -23,7 +23,7 @@ pub enum Showing {
     Summed(u32),
 }
 
-/// How a command ended that was carried out.
+/// How a command ended, or that the words name none.
 #[derive(Clone, Copy, Debug, PartialEq, Eq)]
 pub enum Status {
     /// The proof is closed.
@@ -32,14 +32,14 @@ pub enum Status {
     Done,
     /// The proof is open: goals are left.
     Open,
-    /// An input was refused.
+    /// An input is refused, or what comes of the inputs is.
     Refused,
     /// The words of the command line are none of the forms.
     Words,
 }
 
 impl Status {
-    /// The exit status of the program.
+    /// The exit status of the program where it gives the whole of a reply with this status.
     pub fn code(self) -> u8
         ensures { result ≡ code_of self }
     {

@@ -1,4 +1,4 @@
--- Sequents of arithmetic as SMT-LIB text: a script whose assertions can hold together exactly where the sequent isn't valid.
+-- Sequents of arithmetic as SMT-LIB text: a script that asserts each formula on the left, and that each on the right is false.
 use Rattle.std.specs.Prelude.{ℕ, zero, suc, ◌+◌, ◌==◌, Bool, true, false, ◌&&◌, ◌||◌, if◌then◌else◌, List, [], ◌∷◌, ◌++◌, map, filter, Option, Some, None, is_none, codes, decimal}
 use Rattle.std.specs.List.{list_any}
 use Rattle.std.specs.Str.{bytes_eq}
@@ -211,11 +211,11 @@ functions s = put_all (slice_cmp nat_cmp) [] (in_formulas own_functions s)
 abbrev pub denied : Tree → Expr
 denied t = negation (next (expression t) none)
 
--- the symbols that a sequent's script declares, and the expressions that it asserts: each formula on the left, and that each on the
--- right is false
+-- the symbols that a sequent's script declares: its free variables, and then its functions
 abbrev pub declared : Sequent → List (List ℕ)
 declared s = map variable_symbol (free_variables s) ++ map function_symbol (functions s)
 
+-- the expressions that it asserts: each formula on the left, and that each on the right is false
 abbrev pub asserted : Sequent → List Expr
 asserted s = map expression s.ante ++ map denied s.succ
 

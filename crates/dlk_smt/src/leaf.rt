@@ -16,7 +16,7 @@ use std::alloc::Global;
 use std::sync::ledger::Ledger;
 
 /// Appends the SMT-LIB text of a sequent of arithmetic: a script that a solver answers with `unsat` where the sequent is valid over
-/// the reals, and with `sat` where it isn't, if it answers. Nobody proves that a solver agrees.
+/// the reals whatever `/` gives at 0, and with `sat` where it isn't, if it answers. Nobody proves that a solver agrees.
 ///
 /// # Errors
 ///

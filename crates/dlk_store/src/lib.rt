@@ -111,12 +111,12 @@ pub trait Store {
         requires { IsId (trees self.now) id }
         ensures { result ≡ free (tree (trees self.now) id) v.now };
 
-    /// Whether the variable is bound in the tree: the tree may change it.
+    /// Whether the variable is bound in the tree: the tree may bind it, as a quantifier does, or a program that may write it.
     fn binds(&self, id: Id, v: &Var) -> bool
         requires { IsId (trees self.now) id }
         ensures { result ≡ bound (tree (trees self.now) id) v.now };
 
-    /// Whether the variable is must-bound in the program: each run changes it. False for a term and a formula.
+    /// Whether the variable is must-bound in the program: each run writes it. False for a term and a formula.
     fn must(&self, id: Id, v: &Var) -> bool
         requires { IsId (trees self.now) id }
         ensures { result ≡ must (tree (trees self.now) id) v.now };

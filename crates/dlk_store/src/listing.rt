@@ -9,9 +9,9 @@ use std::marker::Model;
 pub enum Which {
     /// What the tree reads.
     Free,
-    /// What the tree may change.
+    /// What the tree may bind.
     Bound,
-    /// What each run of the program changes; none in a term or a formula.
+    /// What each run of the program writes; none in a term or a formula.
     Must,
 }
 

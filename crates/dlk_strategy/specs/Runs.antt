@@ -174,7 +174,7 @@ abbrev mutual
   Runs (Repeat body times) = OnEach (Again (Runs body 1) times)
   Runs (One atom) = OnEach (RunNamed atom)
 
-  -- the first of these that doesn't fail, and else the last; none of them does nothing
+  -- the first of these that doesn't fail, and else the last; where there are none, nothing is done
   pub Alternatives : Tactics → Run
   Alternatives no_parts = λ goal. Ends 1
   Alternatives (part t no_parts) = Runs t 1
@@ -203,8 +203,8 @@ pub record RunsModel (strategy : Tactic) (formula : Tree) (outcome : Outcome) : 
   pub expanded : Expanded strategy expansion
   pub runs : RunsPlain expansion formula outcome
 
--- RunsOn strategy rows goal used outcome: what becomes of this goal of the last of these rows, where so many atoms were run before. The steps that it
--- makes are new ones. Names of the library run what they stand for.
+-- RunsOn strategy rows goal used outcome: what becomes of this goal of the last of these rows, where there were so many runs of atoms, and
+-- of `derive`, before. The steps that it makes are new ones. Names of the library run what they stand for.
 pub record RunsOn (strategy : Tactic) (rows : List Provable) (goal used : ℕ) (outcome : Outcome) : Type 0 where
   pub expansion : Tactic
   pub expanded : Expanded strategy expansion

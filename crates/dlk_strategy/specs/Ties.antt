@@ -24,7 +24,7 @@ IsRunFaultOf becomes (fault.Fails at why) = (used : ℕ) × becomes (Fails at wh
 IsRunFaultOf becomes (fault.Budget at) = becomes (Budget at)
 IsRunFaultOf becomes fault.Memory = Unit {0}
 
--- the fault of a run on a goal, where so many atoms were run
+-- the fault of a run on a goal, where there were so many runs of atoms and of `derive`
 abbrev pub with_runs : RunFault → ℕ → OnFault
 with_runs (fault.Fails at why) used = on_fault.Fails at why used
 with_runs (fault.Budget at) used = on_fault.Budget at
@@ -38,7 +38,7 @@ now trees kernel trace = progress_at trees kernel trace.steps.items trace.used
 abbrev pub goals_of : {S : Type 0} → (S → List Tree) → State S → ℕ
 goals_of trees kernel = length (main_goals (facts trees kernel))
 
--- so many goals from this one on are goals of the last row, and no more atoms were run than may be
+-- so many goals from this one on are goals of the last row, and there were no more runs than may be
 pub record IsReady {S : Type 0} (trees : S → List Tree) (kernel : State S) (trace : Trace) (goal goals : ℕ) : Type 0 where
   pub known : All (HasKnownIds (trees kernel.store)) trace.steps.items
   pub first : 1 ≤ goal

@@ -98,7 +98,7 @@ pub fn some_outcome()
     plan_is_fitting();
 }
 
-/// A strategy on a goal of rows, where so many atoms were run before, has at most one outcome.
+/// A strategy on a goal of rows, where there were so many runs before, has at most one outcome.
 pub fn one_outcome_on()
     ensures { (t : Tactic) (rows : List Provable) (goal used : ℕ) (a b : Outcome) → RunsOn t rows goal used a → RunsOn t rows goal used b → a ≡ b }
 {

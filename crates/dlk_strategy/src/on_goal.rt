@@ -21,7 +21,7 @@ use dlk_tacsyn::Tactic;
 use std::alloc::Global;
 use std::sync::ledger::Ledger;
 
-/// The fault of a run on a goal, where so many atoms were run.
+/// The fault of a run on a goal, where there were so many runs of atoms and of `derive`.
 fn with_runs_counted(fault: RunFault, used: u32) -> OnFault
     ensures { result ≡ with_runs fault used }
 {
@@ -32,9 +32,9 @@ fn with_runs_counted(fault: RunFault, used: u32) -> OnFault
     }
 }
 
-/// Runs a strategy on a goal of the last row, where so many atoms were run before, at most 16,000. The goal is there, the strategy's ids are those
-/// of this kernel's store, and its atoms those of a text: names of the library run what they stand for. The new rows stand behind those that were
-/// there, and after a refusal the rows are as before.
+/// Runs a strategy on a goal of the last row, where there were so many runs before, at most 16,000. The goal is there, the strategy's ids
+/// are those of this kernel's store, and its atoms those of a text: names of the library run what they stand for. The new rows stand
+/// behind those that were there, and after a refusal the rows are as before.
 ///
 /// # Errors
 ///

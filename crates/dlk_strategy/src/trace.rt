@@ -18,7 +18,7 @@ use dlk_store::Store;
 pub(crate) struct Trace {
     /// The steps of the kernel's rows, in order.
     pub(crate) steps: Vec<Step>,
-    /// How many atoms were run, those that failed included.
+    /// How many runs of atoms, and of `derive`, there were, those that failed included.
     pub(crate) used: u32,
 }
 

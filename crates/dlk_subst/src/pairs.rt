@@ -100,7 +100,7 @@ pub fn is_admissible<S: Store>(store: &S, pairs: &[Pair], scope: &Scope, kids: &
     true
 }
 
-/// The operator over new kids, where what it captures is admissible for the kids of before.
+/// The operator over new kids, where what it captures is admissible for those kids of before in which it is captured.
 pub fn keep_admissible<S: Store>(
     alloc: Global,
     store: &mut S,

@@ -29,7 +29,7 @@ kinds_of shape.PlaceAndFormula = QuotedFormula ∷ AnyPlace ∷ []
 kinds_of shape.OneFormula = QuotedFormula ∷ []
 kinds_of shape.PlaceAndName = AName ∷ AnyPlace ∷ []
 
--- the names that stand without arguments
+-- the names of the three atoms that stand without arguments
 abbrev pub is_bare : List ℕ → Bool
 is_bare name = bytes_eq name (codes "nil") || bytes_eq name (codes "close") || bytes_eq name (codes "leaf")
 
@@ -37,11 +37,11 @@ is_bare name = bytes_eq name (codes "nil") || bytes_eq name (codes "close") || b
 abbrev pub is_use : List ℕ → Bool
 is_use name = bytes_eq name (codes "useAt") || bytes_eq name (codes "useBack")
 
--- the names of strategies that want a place alone
+-- the names of the library that want a place alone
 abbrev pub is_at_place : List ℕ → Bool
 is_at_place name = bytes_eq name (codes "dW") || bytes_eq name (codes "dI") || bytes_eq name (codes "step")
 
--- the names of strategies that want a formula and a place
+-- the names of the library that want a formula and a place
 abbrev pub is_with_formula : List ℕ → Bool
 is_with_formula name = bytes_eq name (codes "loop") || bytes_eq name (codes "dC")
 

@@ -1,6 +1,6 @@
 use dlk_rules::Step;
 
-/// What a line of a proof-term file says.
+/// What a line of a proof-term file of version 1 says.
 #[derive(Drop, Debug)]
 pub enum Line {
     /// A step with its number.

@@ -10,7 +10,7 @@ use dlk_lines::{LineFault, read_step_line};
 use dlk_store::Store;
 use std::alloc::Global;
 
-/// What a line of a proof-term file says: a number and a step, or `done`. The bytes are those before its line feed.
+/// What a line of a proof-term file of version 1 says: a number and a step, or `done`. The bytes are those before its line feed.
 ///
 /// `Malformed` comes exactly where the bytes are no line, and `Memory` when memory runs out. Whatever comes, the
 /// store keeps its trees.

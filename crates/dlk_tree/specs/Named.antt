@@ -1,4 +1,4 @@
--- The names of variables in a tree: a variable that isn't named is free, bound or must-bound as any other.
+-- The names of variables in a tree: a variable that isn't named is free, bound or must-bound as any other that isn't.
 use Rattle.std.specs.Prelude.{ℕ, List, [], Bool, false, ◌||◌, Option, Some, None}
 use Rattle.std.specs.List.{list_any}
 use Rattle.std.specs.Str.{bytes_eq}
@@ -38,6 +38,6 @@ is_named x t = has (any_name (bytes_eq x)) t
 abbrev pub has_either : (Var → Bool) → List ℕ → Bool
 has_either set x = set (plain x) || set (prime x)
 
--- a variable that no tree names, since its name isn't one
+-- a variable that no well-made tree names, since its name isn't one
 abbrev pub nowhere : Var
 nowhere = plain []

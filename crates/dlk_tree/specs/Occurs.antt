@@ -69,7 +69,7 @@ symbols_of Op'.Choice = []
 symbols_of Op'.Seq = []
 symbols_of Op'.Loop = []
 
--- the symbol stands at some node: kind, name, arity and taboo
+-- the symbol is one of the operator's: kind, name, arity and taboo are the same
 abbrev pub has_symbol : Sym → Op → Bool
 has_symbol s op = list_any (sym_eq s) (symbols_of op)
 

@@ -112,7 +112,7 @@ bound_in_items items v = list_any (λ item. bound_in_item item v) items
 abbrev pub must_in_items : List OdeItem → Var → Bool
 must_in_items items v = list_any (λ item. must_in_item item v) items
 
--- an operator that reads and binds what its kids do
+-- an operator that reads and binds what its kids do, and must-binds nothing
 abbrev pub as_kids : List Sets → Sets
 as_kids kids = sets_are (free_in_kids kids) (bound_in_kids kids) none
 

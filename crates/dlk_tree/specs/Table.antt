@@ -57,7 +57,7 @@ abbrev pub all_distinct : List (List ℕ) → Bool
 all_distinct [] = true
 all_distinct (x ∷ xs) = not (list_any (bytes_eq x) xs) && all_distinct xs
 
--- 1 to 64 items, and no variable evolved twice
+-- 1 to 64 items, each as it must be, and no variable evolved twice
 abbrev pub are_items : List OdeItem → Bool
 are_items items = nat_le 1 (length items) && nat_le (length items) 64 && list_all is_item items && all_distinct (evolved items)
 

@@ -239,7 +239,7 @@ by_implication now spot (Ante i) b h =
 abbrev pub by_fact : ℕ → Spot → ℕ → List Step
 by_fact now spot j = closed_by now spot.fact now ((spot.goal, CoHideR j) ∷ []) spot.goal
 
--- Finishes now spot used e f steps: behind an instance of the axiom, which the row `now` proves and which is the formula f, these steps use it
+-- Finishes now spot used e f steps: behind an instance of the axiom, the formula f, which the row `now` concludes, these steps use it
 -- on the formula e at the place. An equation is used in the smallest formula round the place. One row a form.
 pub data Finishes (now : ℕ) (spot : Spot) (used : Use) (e f : Tree) : List Step → Type 0 where
   equivalence : used.its_axiom.form ≡ E →
@@ -256,13 +256,13 @@ pub data Finishes (now : ℕ) (spot : Spot) (used : Use) (e f : Tree) : List Ste
   fact : (j : ℕ) → used.its_axiom.form ≡ F → used.place ≡ Succ j →
       Finishes now spot used e f (by_fact now spot j)
 
--- the last of the rows proves f alone
+-- the last of the rows concludes f alone on the right
 pub record ProvesLast (rows : List Provable) (f : Tree) : Type 0 where
   pub row : Provable
   pub is_last : At rows (length rows) row
   pub concludes : row.conclusion ≡ alone_right f
 
--- behind an instance of the axiom, which the last of the rows proves, these steps use it on the formula e at the place
+-- behind an instance of the axiom, which the last of the rows concludes, these steps use it on the formula e at the place
 pub record FinishesBehind (rows : List Provable) (spot : Spot) (used : Use) (e : Tree) (steps : List Step) : Type 0 where
   pub f : Tree
   pub proves : ProvesLast rows f

@@ -30,6 +30,18 @@ fn exports_leaves(rt: HostRuntime) -> Result<(), Fail> {
             "refused: leaf 1: power\n",
         ),
         // goals are left, and no leaves
+        (
+            "x^17>=0",
+            "1 leaf ==> x^17>=0\ndone\n",
+            2,
+            "refused: leaf 1: power\n",
+        ),
+        (
+            "x/2!=y",
+            "1 leaf ==> x/2!=y\ndone\n",
+            0,
+            "; leaf 1\n(set-logic NRA)\n(declare-const |v.x| Real)\n(declare-const |v.y| Real)\n(assert (not (not (= (/ |v.x| 2.0) |v.y|))))\n(check-sat)\n",
+        ),
         ("x>=0", "1 start ==> x>=0\ndone\n", 1, ""),
         // what `check` refuses
         ("x>=0 & -> y>0", "", 2, "refused: model at 7: syntax\n"),

@@ -216,6 +216,13 @@ fn checks_terms_with_these_rules(rt: HostRuntime) -> Result<(), Fail> {
             1,
             "open\nconclusion ==> y>=0 -> [y:=1;]p(|y|)\ngoals 1\ngoal 1 y>=0 ==> [y:=1;]p(|y|)\nleaves 0\nlines 3\n",
         ),
+        // and not in leaves
+        (
+            "y>=y",
+            "1 leaf ==> x>=x\n2 rename 1 x y\ndone\n",
+            0,
+            "closed\nconclusion ==> y>=y\ngoals 0\nleaves 1\nleaf 1 ==> x>=x\nlines 2\n",
+        ),
         (
             "x>=0",
             "1 start ==> x>=0\n2 rename 2 x y\ndone\n",

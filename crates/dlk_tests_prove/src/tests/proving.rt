@@ -76,6 +76,14 @@ fn writes_terms(rt: HostRuntime) -> Result<(), Fail> {
             "closed\nconclusion ==> x>=0 -> x>=0\ngoals 0\nleaves 0\nlines 3\n",
             TERM_BY_NODES,
         ),
+        // `close` takes the first formulas that are the same
+        (
+            "x>=0 -> x>=0|x>=0",
+            "implyR(1); orR(1); close",
+            0,
+            "closed\nconclusion ==> x>=0 -> x>=0|x>=0\ngoals 0\nleaves 0\nlines 4\n",
+            "dlk 2\nnode 1 var x\nnode 2 num 0\nnode 3 ge 1 2\nnode 4 or 3 3\nnode 5 imply 3 4\n1 start ==> 5\n2 apply 1 1 implyR(1)\n3 apply 2 1 orR(1)\n4 apply 3 1 close(1,1)\ndone\n",
+        ),
         // branches, places on the left and quoted formulas
         (
             "(a>0 -> b>0)&(b>0 -> c>0) -> (a>0 -> c>0)",
@@ -252,6 +260,12 @@ fn uses_each_form(rt: HostRuntime) -> Result<(), Fail> {
         (
             "[x:=1;]true",
             "G(1); closeTrue(1)",
+            0,
+            "closed\nconclusion ==> [x:=1;]true\ngoals 0\nleaves 0\nlines 6\n",
+        ),
+        (
+            "[x:=1;]true",
+            "G('R); closeTrue(1)",
             0,
             "closed\nconclusion ==> [x:=1;]true\ngoals 0\nleaves 0\nlines 6\n",
         ),
