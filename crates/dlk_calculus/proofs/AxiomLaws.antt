@@ -1,7 +1,7 @@
 -- The axioms and the axiomatic rules are made of formulas.
 use Rattle.std.proofs.Common.{◌≡◌, refl, Bool, true, false, ◌&&◌, not, subst, cond, ℕ, List, [], ◌∷◌, map, Some, find}
 use Rattle.std.specs.Prelude.{IsTrue, nat_le}
-use Rattle.std.proofs.lemmas.Bool.{leb-true}
+use Rattle.std.proofs.lemmas.Bool.{leb-true, and_parts}
 use Rattle.std.specs.Str.{bytes_eq}
 use Rattle.std.proofs.lemmas.Option.{none-some, same_Some}
 use Rattle.std.specs.List.{All, list_all}
@@ -26,10 +26,6 @@ abbrev mutual
   are_made no_kids = true
   are_made (kid t rest) = is_made t && are_made rest
 
-both_true : (a b : Bool) → a && b ≡ true → (a ≡ true) × (b ≡ true)
-both_true true b e = (refl, e)
-both_true false b e = cc
-
 not_true : (b : Bool) → not b ≡ true → b ≡ false
 not_true true e = cc
 not_true false e = refl
@@ -37,22 +33,22 @@ not_true false e = refl
 mutual
   made : (t : Tree) → IsTrue (is_made t) → WellMade t
   made (node op kids) h =
-      let all = both_true (pointwise SortEq.ghosts.eq (sorts kids) (kid_sorts op) && has_parts op) (are_made kids) h in
-      let fits = both_true (pointwise SortEq.ghosts.eq (sorts kids) (kid_sorts op)) (has_parts op) all.0 in
+      let all = and_parts (pointwise SortEq.ghosts.eq (sorts kids) (kid_sorts op) && has_parts op) (are_made kids) h in
+      let fits = and_parts (pointwise SortEq.ghosts.eq (sorts kids) (kid_sorts op)) (has_parts op) all.0 in
       (record { kids_fit = (sorts_decides (sorts kids) (kid_sorts op)).0 fits.0; parts_fit = fits.1 }, all_made kids all.1)
 
   all_made : (ts : Forest) → IsTrue (are_made ts) → AllWellMade ts
   all_made no_kids h = tt
-  all_made (kid t rest) h = let both = both_true (is_made t) (are_made rest) h in (made t both.0, all_made rest both.1)
+  all_made (kid t rest) h = let both = and_parts (is_made t) (are_made rest) h in (made t both.0, all_made rest both.1)
 
 abbrev is_formula : Tree → Bool
 is_formula t = (is_made t && SortEq.ghosts.eq (sort t) Formula) && (not (has_dots t) && not (has_hole t))
 
 formula : (t : Tree) → IsTrue (is_formula t) → IsFormula t
 formula t h =
-    let halves = both_true (is_made t && SortEq.ghosts.eq (sort t) Formula) (not (has_dots t) && not (has_hole t)) h in
-    let shape = both_true (is_made t) (SortEq.ghosts.eq (sort t) Formula) halves.0 in
-    let none = both_true (not (has_dots t)) (not (has_hole t)) halves.1 in
+    let halves = and_parts (is_made t && SortEq.ghosts.eq (sort t) Formula) (not (has_dots t) && not (has_hole t)) h in
+    let shape = and_parts (is_made t) (SortEq.ghosts.eq (sort t) Formula) halves.0 in
+    let none = and_parts (not (has_dots t)) (not (has_hole t)) halves.1 in
     record {
       well_made = made t shape.0;
       sort_is = (sort_decides (sort t) Formula).0 shape.1;
@@ -62,7 +58,7 @@ formula t h =
 
 all_formulas : (ts : List Tree) → IsTrue (list_all is_formula ts) → All IsFormula ts
 all_formulas [] h = All-nil IsFormula
-all_formulas (t ∷ ts) h = let both = both_true (is_formula t) (list_all is_formula ts) h in All-cons IsFormula t ts (formula t both.0) (all_formulas ts both.1)
+all_formulas (t ∷ ts) h = let both = and_parts (is_formula t) (list_all is_formula ts) h in All-cons IsFormula t ts (formula t both.0) (all_formulas ts both.1)
 
 pub axioms_formulas : All IsFormula (map (λ (a : Axiom). a.formula) axioms)
 axioms_formulas = all_formulas (map (λ (a : Axiom). a.formula) axioms) refl
@@ -110,8 +106,8 @@ is_sized t = nat_le (size t) most_nodes && nat_le (depth t) greatest_depth
 all_sized : (ts : List Tree) → IsTrue (list_all is_sized ts) → All IsSized ts
 all_sized [] h = All-nil IsSized
 all_sized (t ∷ ts) h =
-    let both = both_true (is_sized t) (list_all is_sized ts) h in
-    let own = both_true (nat_le (size t) most_nodes) (nat_le (depth t) greatest_depth) both.0 in
+    let both = and_parts (is_sized t) (list_all is_sized ts) h in
+    let own = and_parts (nat_le (size t) most_nodes) (nat_le (depth t) greatest_depth) both.0 in
     All-cons IsSized t ts (leb-true (size t) most_nodes own.0, leb-true (depth t) greatest_depth own.1) (all_sized ts both.1)
 
 pub axiom_sized : (name : List ℕ) (a : Axiom) → axiom_named name ≡ Some a → IsSmall a.formula × IsShallow a.formula

@@ -1,14 +1,12 @@
 -- Trees without argument dots and without `_`; and the replacements of a well-formed substitution.
-use Rattle.std.proofs.Common.{◌≡◌, refl, subst, ℕ, List, Bool, true, false, ◌||◌, ◌&&◌, ◌==◌, not, Some, arith}
+use Rattle.std.proofs.Common.{◌≡◌, refl, subst, ℕ, List, Bool, true, false, ◌||◌, ◌&&◌, not, Some, arith}
 use Rattle.std.specs.Prelude.{IsTrue}
 use Rattle.std.proofs.lemmas.Bool.{or_parts, or_from, and_parts, leb-false}
 use Rattle.std.proofs.lemmas.List.Elements.{All-weaker}
 use Rattle.dlk_tree.specs.declared.op.Sym.{Sym}
 use Rattle.dlk_tree.specs.declared.op.Kind.{Kind}
-use Rattle.dlk_tree.specs.declared.op.Kind.TheVariants.{Func, UnitFunc, Pred, UnitPred, Quant, Prog, Ode}
 use Rattle.dlk_tree.specs.declared.op.Op.{Op}
 use Rattle.dlk_tree.specs.declared.op.Op.TheVariants as Op'
-use Rattle.dlk_tree.specs.Tests.{kind_rank}
 use Rattle.dlk_tree.specs.Table.{kind_row, has_arity, is_sym_of}
 use Rattle.dlk_tree.specs.Trees.{Tree, Forest}
 use Rattle.dlk_tree.specs.Occurs.{has, any_has, is_some_dot, is_hole, has_dots, has_hole}
@@ -16,6 +14,7 @@ use Rattle.dlk_calculus.specs.declared.why.Why.TheVariants as Why'
 use Rattle.dlk_calculus.specs.Pairs.{Pair, replacement, is_dot_from, IsWellFormed}
 use Rattle.dlk_calculus.proofs.WellFormed.{IsGood, good_pairs, replacement_has}
 use Rattle.dlk_calculus.proofs.Lacks.{lacks}
+use Rattle.dlk_calculus.proofs.Sorts.{kind_of_rank}
 
 -- an argument dot or `_`
 abbrev pub is_gap : Op → Bool
@@ -42,16 +41,6 @@ clean-no_hole t h = lacks is_gap is_gap is_hole (λ op p q. (or_parts _ _ p).1) 
 record IsFilling (s : Sym) (r : Tree) : Type 0 where
   dots : has (is_dot_from s.arity) r ≡ false
   holes : has_hole r && not (kind_row s.kind).hole ≡ false
-
-kind_of_rank : (k l : Kind) → (kind_rank k == kind_rank l) ≡ true → k ≡ l
-kind_of_rank Func Func e = refl
-kind_of_rank UnitFunc UnitFunc e = refl
-kind_of_rank Pred Pred e = refl
-kind_of_rank UnitPred UnitPred e = refl
-kind_of_rank Quant Quant e = refl
-kind_of_rank Prog Prog e = refl
-kind_of_rank Ode Ode e = refl
-kind_of_rank _ _ e = cc
 
 kind_is : (k : Kind) (s : Sym) → IsTrue (is_sym_of k s) → s.kind ≡ k
 kind_is k s is = kind_of_rank s.kind k (and_parts _ _ is).0

@@ -1,7 +1,7 @@
 -- Whether a tree is a formula, and a sequent one of formulas, is decided.
 use Rattle.std.proofs.Common.{◌≡◌, Bool, true, false, List, [], ◌∷◌, refl}
 use Rattle.std.specs.List.{All}
-use Rattle.std.specs.Bool.{Decides, IsTrue}
+use Rattle.std.specs.Bool.{IsTrue}
 use Rattle.std.proofs.lemmas.List.Elements.{All-head, All-tail, All-cons, All-nil}
 use Rattle.dlk_tree.specs.declared.op.Op.{Op}
 use Rattle.dlk_tree.specs.declared.op.Sort.TheVariants.{Formula}
@@ -11,12 +11,8 @@ use Rattle.dlk_tree.specs.Occurs.{has_dots, has_hole}
 use Rattle.dlk_tree.specs.contracts.op.OpPartialEq.TheImpl as OpEq
 use Rattle.dlk_tree.proofs.Same.{op_decides, sort_decides, sorts_decides}
 use Rattle.dlk_tree.specs.TreeTests.{tree_eq}
-use Rattle.dlk_tree.proofs.TreeSame.{tree_decides}
+use Rattle.dlk_tree.proofs.TreeSame.{tree_decides, decided}
 use Rattle.dlk_calculus.specs.Sequents.{IsFormula, Sequent, IsSequent}
-
-decided : {A : Type 0} (b : Bool) → Decides b A → Dec A
-decided true d = yes (d.0 refl)
-decided false d = no (λ a. let e = d.1 a in cc)
 
 pub is_false : (b : Bool) → Dec (b ≡ false)
 is_false true = no (λ e. cc)

@@ -32,7 +32,7 @@ implied_decided (yes a) (yes b) = yes (λ _. b)
 implied_decided (yes a) (no n) = no (λ f. n (f a))
 implied_decided (no n) b = yes (λ a. absurd (n a))
 
-all_decided : {A : Type 0} (P : A → Type 0) → ((x : A) → Dec (P x)) → (xs : List A) → Dec (All P xs)
+pub all_decided : {A : Type 0} (P : A → Type 0) → ((x : A) → Dec (P x)) → (xs : List A) → Dec (All P xs)
 all_decided P each [] = yes (All-nil P)
 all_decided P each (x ∷ xs) = both (All-cons P x xs) (All-head P x xs) (All-tail P x xs) (each x) (all_decided P each xs)
 

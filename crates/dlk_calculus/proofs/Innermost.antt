@@ -10,7 +10,7 @@ use Rattle.dlk_calculus.proofs.PathLaws.{subtree_nil, subtree_join, subtree_befo
 abbrev pub NoneBelow : Tree → List ℕ → Type 0
 NoneBelow e path = (n : ℕ) (front back : List ℕ) (t : Tree) → path ≡ (n ∷ front) ++ back → subtree e (n ∷ front) ≡ Some t → sort t ≢ Formula
 
-one_of : {A : Type 0} {o : Option A} {s t : A} → o ≡ Some s → o ≡ Some t → s ≡ t
+pub one_of : {A : Type 0} {o : Option A} {s t : A} → o ≡ Some s → o ≡ Some t → s ≡ t
 one_of p q = cc
 
 cons_none : {A : Type 0} {x : A} {xs : List A} → [] ≡ x ∷ xs → ⊥

@@ -25,6 +25,7 @@ use Rattle.dlk_calculus.proofs.AxiomLaws.{axiom_sized, rule_sized}
 use Rattle.dlk_calculus.proofs.Swapped.{swap_size, swap_depth}
 use Rattle.dlk_calculus.proofs.Formulas.{all_joined}
 use Rattle.dlk_calculus.proofs.StepLaws.{given_by, given_unless, rule_of_calculus, one_given, step_cases}
+use Rattle.dlk_calculus.proofs.Decided.{all_decided}
 
 -- ---- what exceeds a limit is decided
 
@@ -37,10 +38,6 @@ beyond m n = elim (cases_lt m n) [ inl lt ↦ yes lt | inr le ↦ no (λ lt. abs
 surely : {A : Type 0} → Dec A → ¬ ¬ A → A
 surely (yes a) n = a
 surely (no m) n = absurd (n m)
-
-all_decided : {A : Type 0} (P : A → Type 0) → ((x : A) → Dec (P x)) → (xs : List A) → Dec (All P xs)
-all_decided P decide [] = yes (All-nil P)
-all_decided P decide (x ∷ xs) = both (All-cons P x xs) (All-head P x xs) (All-tail P x xs) (decide x) (all_decided P decide xs)
 
 few : (s : Sequent) → Dec (HasFewFormulas s)
 few s = both (λ a b. record { ante = a; succ = b }) (λ h. h.ante) (λ h. h.succ) (at_most (length s.ante) most_formulas) (at_most (length s.succ) most_formulas)

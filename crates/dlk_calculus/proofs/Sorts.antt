@@ -1,9 +1,10 @@
 -- Plugging, filling and substitution keep the sort.
-use Rattle.std.proofs.Common.{◌≡◌, refl, sym, ap, subst, ◌∙◌, ℕ, zero, suc, List, [], ◌∷◌, replicate, Bool, true, false, ◌&&◌, ◌||◌, not, ◌==◌, Option, None}
+use Rattle.std.proofs.Common.{◌≡◌, refl, sym, ap, subst, ◌∙◌, ℕ, zero, suc, List, [], ◌∷◌, replicate, Bool, true, false, ◌||◌, not, ◌==◌, Option, None}
 use Rattle.std.proofs.Common.{Some, slice_get, cond}
 use Rattle.std.specs.Prelude.{All, IsTrue}
 use Rattle.std.proofs.lemmas.List.Elements.{All-cons, All-nil}
 use Rattle.std.proofs.lemmas.Option.{slice_get_within, get_or_from_slice_get}
+use Rattle.std.proofs.lemmas.Bool.{and_parts}
 use Rattle.dlk_tree.specs.declared.op.Sym.{Sym}
 use Rattle.dlk_tree.specs.declared.op.Kind.{Kind}
 use Rattle.dlk_tree.specs.declared.op.Kind.TheVariants.{Func, UnitFunc, Pred, UnitPred, Quant, Prog, Ode}
@@ -71,10 +72,6 @@ fill_sorts f (kid r rs) s =
 
 -- ---- replacements
 
-both_true : (a b : Bool) → a && b ≡ true → (a ≡ true) × (b ≡ true)
-both_true true b e = (refl, e)
-both_true false b e = cc
-
 same_sort : (s r : Sort) → IsTrue (sort_eq s r) → s ≡ r
 same_sort Term Term e = refl
 same_sort Formula Formula e = refl
@@ -82,9 +79,9 @@ same_sort Program Program e = refl
 same_sort _ _ e = cc
 
 pub of_kind_sort : (k : Kind) (r : Tree) → IsTrue (is_of_kind k r) → sort r ≡ (kind_row k).sort
-of_kind_sort k r e = same_sort (sort r) (kind_row k).sort (both_true (not (is_ode k) || is_system_without_domain r) (sort_eq (sort r) (kind_row k).sort) e).1
+of_kind_sort k r e = same_sort (sort r) (kind_row k).sort (and_parts (not (is_ode k) || is_system_without_domain r) (sort_eq (sort r) (kind_row k).sort) e).1
 
-kind_of_rank : (k l : Kind) → (kind_rank k == kind_rank l) ≡ true → k ≡ l
+pub kind_of_rank : (k l : Kind) → (kind_rank k == kind_rank l) ≡ true → k ≡ l
 kind_of_rank Func Func e = refl
 kind_of_rank UnitFunc UnitFunc e = refl
 kind_of_rank Pred Pred e = refl
@@ -98,7 +95,7 @@ kind_of_rank _ _ e = cc
 pub replacement_sort : (pairs : List Pair) (k : Kind) (s : Sym) (r : Tree) → IsWellFormed pairs → IsTrue (is_sym_of k s) → replacement pairs s ≡ Some r
     → sort r ≡ (kind_row k).sort
 replacement_sort pairs k s r well is found =
-    let kind = kind_of_rank s.kind k (both_true (kind_rank s.kind == kind_rank k) (is_sym s) is).0 in
+    let kind = kind_of_rank s.kind k (and_parts (kind_rank s.kind == kind_rank k) (is_sym s) is).0 in
     of_kind_sort s.kind r (replacement_of_kind pairs s r well found) ∙ ap (λ j. (kind_row j).sort) kind
 
 -- ---- kids

@@ -447,7 +447,7 @@ substitute_cases rows fact pairs made =
     ]
 
 -- whether a sequent is one of others is decided, and so which leaves are new
-is_among : (s : Sequent) (ss : List Sequent) → Dec (IsAmong s ss)
+pub is_among : (s : Sequent) (ss : List Sequent) → Dec (IsAmong s ss)
 is_among s [] = no (λ a. a)
 is_among s (t ∷ ss) =
     elim (same_sequent s t) [

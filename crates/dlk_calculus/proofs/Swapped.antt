@@ -7,6 +7,7 @@ use Rattle.std.specs.Str.{bytes_eq}
 use Rattle.std.proofs.lemmas.Slice.Eq.{bytes_eq-Decides}
 use Rattle.std.proofs.lemmas.List.{length-map}
 use Rattle.std.proofs.lemmas.List.Elements.{All-head, All-tail, All-cons, All-nil}
+use Rattle.std.proofs.lemmas.Bool.{and_parts}
 use Rattle.dlk_tree.specs.declared.op.Sym.{Sym}
 use Rattle.dlk_tree.specs.declared.op.Kind.{Kind}
 use Rattle.dlk_tree.specs.declared.op.Kind.TheVariants.{Func, UnitFunc, Pred, UnitPred, Quant, Prog, Ode}
@@ -25,10 +26,6 @@ use Rattle.dlk_tree.specs.Occurs.{has, any_has, is_some_dot, is_hole}
 use Rattle.dlk_calculus.specs.Sequents.{Sequent, IsFormula, IsSequent}
 use Rattle.dlk_calculus.specs.Provables.{swap_sequent}
 use Rattle.dlk_calculus.specs.Rename.{swap_name, swap_sym, swap_item, swap_op, swap, swap_all}
-
-both_true : (a b : Bool) → a && b ≡ true → (a ≡ true) × (b ≡ true)
-both_true true b e = (refl, e)
-both_true false b e = cc
 
 true_both : (a b : Bool) → a ≡ true → b ≡ true → a && b ≡ true
 true_both true b p q = q
@@ -149,12 +146,12 @@ module _ (x y : List ℕ) where
     real_sym s h =
         let name = is_name s.name in
         let arity = has_arity s.kind s.arity in
-        let all = both_true (name && arity && taboo_is_name s.taboo) (is_none s.taboo || (kind_row s.kind).taboo) h in
-        let three = both_true (name && arity) (taboo_is_name s.taboo) all.0 in
+        let all = and_parts (name && arity && taboo_is_name s.taboo) (is_none s.taboo || (kind_row s.kind).taboo) h in
+        let three = and_parts (name && arity) (taboo_is_name s.taboo) all.0 in
         true_both _ _ (true_both _ _ three.0 (real_taboo s.taboo three.1)) (same_taboo s.kind s.taboo ∙ all.1)
 
     real_sym_of : (kind : Kind) (s : Sym) → IsTrue (is_sym_of kind s) → IsTrue (is_sym_of kind (swap_sym x y s))
-    real_sym_of kind s h = let both = both_true (kind_rank s.kind == kind_rank kind) (is_sym s) h in true_both _ _ both.0 (real_sym s both.1)
+    real_sym_of kind s h = let both = and_parts (kind_rank s.kind == kind_rank kind) (is_sym s) h in true_both _ _ both.0 (real_sym s both.1)
 
     real_item : (item : OdeItem) → IsTrue (is_item item) → IsTrue (is_item (swap_item x y item))
     real_item (Item.Evolve z) h = swap_real z h
@@ -162,15 +159,15 @@ module _ (x y : List ℕ) where
 
     real_items : (items : List OdeItem) → IsTrue (list_all is_item items) → IsTrue (list_all is_item (map (swap_item x y) items))
     real_items [] h = refl
-    real_items (item ∷ items) h = let both = both_true (is_item item) _ h in true_both _ _ (real_item item both.0) (real_items items both.1)
+    real_items (item ∷ items) h = let both = and_parts (is_item item) _ h in true_both _ _ (real_item item both.0) (real_items items both.1)
 
     swap_items : (items : List OdeItem) → IsTrue (are_items items) → IsTrue (are_items (map (swap_item x y) items))
     swap_items items h =
         let count : length (map (swap_item x y) items) ≡ length items = length-map items (swap_item x y) in
         let some = nat_le 1 (length items) in
         let few = nat_le (length items) 64 in
-        let all = both_true (some && few && list_all is_item items) (all_distinct (evolved items)) h in
-        let three = both_true (some && few) (list_all is_item items) all.0 in
+        let all = and_parts (some && few && list_all is_item items) (all_distinct (evolved items)) h in
+        let three = and_parts (some && few) (list_all is_item items) all.0 in
         true_both _ _ (true_both _ _ (ap (λ n. nat_le 1 n && nat_le n 64) count ∙ three.0) (real_items items three.1))
         (ap all_distinct (swap_evolved items) ∙ same_distinct (evolved items) ∙ all.1)
 

@@ -1,14 +1,14 @@
 -- Sets that tell apart no two variables beyond some; whether such a set has a member is decided.
-use Rattle.std.proofs.Common.{◌≡◌, ◌∙◌, sym, refl, ℕ, suc, zero, List, [], ◌∷◌, ◌++◌, Bool, true, false, ◌&&◌, ◌||◌, replicate, ap, ⊎_elim}
+use Rattle.std.proofs.Common.{◌≡◌, ◌∙◌, sym, refl, ℕ, suc, List, [], ◌∷◌, ◌++◌, Bool, true, false, ◌&&◌, ◌||◌, replicate, ap, ⊎_elim}
 use Rattle.std.proofs.lemmas.Bool.{and_parts, and_from, or_parts, or_cases, or_left, or_right, cases_Bool, both_ways}
 use Rattle.std.specs.Prelude.{IsTrue}
 use Rattle.std.specs.Bool.{beq}
-use Rattle.std.specs.List.{list_any, list_all}
+use Rattle.std.specs.List.{list_any}
 use Rattle.std.specs.Str.{bytes_eq}
 use Rattle.dlk_tree.specs.declared.op.Var.{Var}
 use Rattle.dlk_tree.specs.declared.op.Op.{Op}
 use Rattle.dlk_tree.specs.declared.op.Op.TheVariants as Op'
-use Rattle.dlk_tree.specs.Names.{is_name, is_name_byte}
+use Rattle.dlk_tree.specs.Names.{is_name}
 use Rattle.dlk_tree.specs.Trees.{Tree, node, Forest, no_kids}
 use Rattle.dlk_tree.specs.Statics.{free, bound, both, sets, plain, prime}
 use Rattle.dlk_tree.specs.Listed.{IsInhabited, is_among}
@@ -16,6 +16,7 @@ use Rattle.dlk_tree.proofs.Same.{var_eq_decides}
 use Rattle.dlk_tree.proofs.Fresh.{fresh, fresh_not_among, among_append}
 use Rattle.dlk_tree.proofs.Elsewhere.{Alike, elsewhere}
 use Rattle.dlk_tree.proofs.NameList.{names, names_listed}
+use Rattle.dlk_tree.proofs.SomeVar.{letters}
 use Rattle.dlk_calculus.specs.Kids.{first}
 use Rattle.dlk_calculus.specs.Captures.{captures, AreApart}
 
@@ -25,10 +26,6 @@ pub record Told (set : Var → Bool) : Type 0 where
   alike : (v w : Var) → is_among vars v ≡ false → is_among vars w ≡ false → set v ≡ set w
 
 -- ---- whether it has a member
-
-letters : (n : ℕ) → list_all is_name_byte (replicate n 97) ≡ true
-letters zero = refl
-letters (suc n) = letters n
 
 letters_name : (n : ℕ) → IsTrue (is_name (replicate (suc n) 97))
 letters_name n = ap (λ b. b && true && true) (letters n)

@@ -41,7 +41,7 @@ free_without_why earlier p e =
 abbrev pub IsGood : Pair → Type 0
 IsGood p = (earlier : List Pair) × ((w : Why) → is_against w earlier p ≡ false)
 
-no_reason : (o : Option Why) → ((w : Why) → o ≡ Some w → ⊥) → o ≡ None
+pub no_reason : (o : Option Why) → ((w : Why) → o ≡ Some w → ⊥) → o ≡ None
 no_reason None h = refl
 no_reason (Some w) h = absurd (h w refl)
 

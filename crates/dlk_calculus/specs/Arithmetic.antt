@@ -35,6 +35,16 @@ is_arithmetic (Op'.Forall x) = true
 is_arithmetic (Op'.Exists x) = true
 is_arithmetic op = false
 
+-- `=`, `!=`, `>=`, `>`, `<=` and `<`
+abbrev pub is_comparison : Op → Bool
+is_comparison Op'.Eq = true
+is_comparison Op'.Ne = true
+is_comparison Op'.Ge = true
+is_comparison Op'.Gt = true
+is_comparison Op'.Le = true
+is_comparison Op'.Lt = true
+is_comparison _ = false
+
 -- at each node
 abbrev mutual
   pub is_arithmetic_tree : Tree → Bool

@@ -1,8 +1,7 @@
 -- The kids of a node of a store, as the tests see them.
-use Rattle.std.proofs.Common.{◌≡◌, ◌∙◌, refl, sym, ap, suc, ◌-◌, ◌==◌, List, [], ◌∷◌, length, Some, Bool, true, false, ◌&&◌, cond, subst, arith}
+use Rattle.std.proofs.Common.{◌≡◌, ◌∙◌, refl, sym, ap, suc, ◌-◌, ◌==◌, List, [], ◌∷◌, length, Bool, true, false, ◌&&◌, cond, subst, arith}
 use Rattle.std.proofs.lemmas.Bool.{eq-eqb, ne_eqb, false≢true}
 use Rattle.std.specs.Prelude.{All, IsTrue, ◌↔◌}
-use Rattle.std.specs.List.{slice_get}
 use Rattle.dlk_tree.specs.declared.op.Op.{Op}
 use Rattle.dlk_tree.specs.declared.op.Op.TheVariants as Op'
 use Rattle.dlk_tree.specs.Table.{kid_sorts}
@@ -11,7 +10,6 @@ use Rattle.dlk_store.specs.declared.Id.{Id}
 use Rattle.dlk_store.specs.Stores.{IsId, tree, kid_trees}
 use Rattle.dlk_store.specs.Kids.{sorts-kid_trees}
 use Rattle.dlk_store.proofs.Kids.{node_fits}
-use Rattle.dlk_calculus.specs.Kids.{last}
 use Rattle.dlk_derive.specs.Derivative.{IsDerivative}
 use Rattle.dlk_derive.proofs.Decided.{found, tested}
 use Rattle.dlk_derive.specs.Decided.{has_derivative, is_bare, has_all_kids, joins_terms, is_derivable, are_derivable, is_comparison, joins_formulas, is_derivable_formula, are_derivable_formulas}
@@ -28,13 +26,6 @@ all_kids trees id op ks made h e = are_all op (kid_trees trees ks) (sorts-kid_tr
 pub bare_kids : (trees : List Tree) (ks : List Id) → (length ks == 0) ≡ is_bare (kid_trees trees ks)
 bare_kids trees [] = refl
 bare_kids trees (k ∷ ks) = ne_eqb (suc (length ks)) 0 (λ e. omega arith)
-
-pub last_kid : (trees : List Tree) (ks : List Id) (k : Id) → slice_get ks (length ks - 1) ≡ Some k → last (kid_trees trees ks) ≡ tree trees k
-last_kid trees [] k e = cc
-last_kid trees (j ∷ []) k e = let same : j ≡ k = cc in ap (tree trees) same
-last_kid trees (i ∷ j ∷ ks) k e =
-    let shorter : length (i ∷ j ∷ ks) - 1 ≡ suc (length (j ∷ ks) - 1) = omega arith in
-    last_kid trees (j ∷ ks) k (ap (slice_get (i ∷ j ∷ ks)) (sym shorter) ∙ e)
 
 -- what the test of a term says where its operator does so
 pub term_over : (t : Tree) (op : Op) (kids : Forest) → t ≡ node op kids → has_all_kids op kids ≡ true → joins_terms op kids ≡ true →

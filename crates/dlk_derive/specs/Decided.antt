@@ -5,6 +5,7 @@ use Rattle.dlk_tree.specs.declared.op.Op.TheVariants as Op'
 use Rattle.dlk_tree.specs.Table.{kid_sorts}
 use Rattle.dlk_tree.specs.Trees.{Tree, node, Forest, no_kids, kid, sorts}
 use Rattle.dlk_calculus.specs.Kids.{last}
+pub use Rattle.dlk_calculus.specs.Arithmetic.{is_comparison}
 
 -- no kids
 abbrev pub is_bare : Forest → Bool
@@ -40,15 +41,6 @@ abbrev mutual
   pub are_derivable : Forest → Bool
   are_derivable no_kids = true
   are_derivable (kid t rest) = is_derivable t && are_derivable rest
-
-abbrev pub is_comparison : Op → Bool
-is_comparison Op'.Eq = true
-is_comparison Op'.Ne = true
-is_comparison Op'.Ge = true
-is_comparison Op'.Gt = true
-is_comparison Op'.Le = true
-is_comparison Op'.Lt = true
-is_comparison _ = false
 
 -- so does a formula
 abbrev pub joins_formulas : Op → Bool

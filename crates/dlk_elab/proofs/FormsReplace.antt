@@ -14,8 +14,7 @@ use Rattle.dlk_sequent.specs.declared.sequent.Place.{Place}
 use Rattle.dlk_sequent.specs.declared.sequent.Place.TheVariants.{Ante, Succ}
 use Rattle.dlk_kernel.specs.Taken.{Takes}
 use Rattle.dlk_uses.specs.Uses.{Direction, Forwards, Backwards, Use, Spot, closed_by, exchange, by_equivalence, by_equation, by_conditional_equation, by_conditional_equivalence, by_implication, by_fact, generalizing, cutting_box, ◌~>◌, program_a, any_p, Finishes, equivalence, equation, conditional_equivalence, conditional_equation, implication, fact}
-use Rattle.dlk_uses.proofs.Taking.{takes_none}
-use Rattle.dlk_elab.proofs.TakenLaws.{takes_first}
+use Rattle.dlk_uses.proofs.Taking.{takes_none, takes_first}
 use Rattle.dlk_elab.proofs.Replacing.{Behind, Makes, Turns, no_more, turn, Ends, closed, last_at, behind_rule, behind_merge, From, pass, makes_close, makes_cut, makes_cut_left, makes_cut_right, makes_hide, makes_imply_left, makes_imply_right, makes_equivify, makes_commute}
 
 module _ (p : Provable) (goal : ℕ) (there : IsPlace p.goals goal) (after : List Provable) (main : ℕ) (s : Sequent) (b : Behind p goal 1 p) where

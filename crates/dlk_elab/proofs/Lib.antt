@@ -40,3 +40,4 @@ pub mod Reaching
 pub mod UseFound
 pub mod UseTaken
 pub mod FinishPlans
+pub mod MainGoals

@@ -12,10 +12,9 @@ use Rattle.dlk_kernel.specs.Taken.{Takes}
 use Rattle.dlk_elab.specs.Atoms.{Asked, Steps, Asks, nil, close, leaf, a_rule, generalize, cut_box, AtomSteps, uses, instance_of, Replaces}
 use Rattle.dlk_elab.specs.Atoms.{asked as by_asking}
 use Rattle.dlk_uses.specs.Uses.{generalizing, cutting_box}
-use Rattle.dlk_uses.proofs.Taking.{takes_none}
+use Rattle.dlk_uses.proofs.Taking.{takes_none, takes_first}
 use Rattle.dlk_elab.proofs.Replacing.{Behind, Ends, rows_kept, put_length}
 use Rattle.dlk_elab.proofs.FormsReplace.{finishes_ends, generalizing_ends, cutting_box_ends}
-use Rattle.dlk_elab.proofs.TakenLaws.{takes_first}
 
 -- What is left of a fact's row by a step on one of its goals.
 record Left (p : Provable) (goal : ℕ) (q : Provable) : Type 0 where

@@ -12,8 +12,7 @@ use Rattle.dlk_calculus.specs.Steps.{apply as by_apply, merge as by_merge}
 use Rattle.dlk_calculus.proofs.PlaceLaws.{at_one, at_suc, At_place, split_at, At-more, At-between, put_between}
 use Rattle.dlk_kernel.specs.Taken.{Takes, none, more}
 use Rattle.dlk_uses.specs.Uses.{in_turn, closed_by}
-use Rattle.dlk_uses.proofs.Taking.{takes_none}
-use Rattle.dlk_elab.proofs.TakenLaws.{takes_first}
+use Rattle.dlk_uses.proofs.Taking.{takes_none, takes_first}
 
 -- others within what stands in an item's place
 pub put_within : {A : Type 0} (xs new ys : List A) (g k : ℕ) (x : A) → IsPlace xs g → At new (k + 1) x →

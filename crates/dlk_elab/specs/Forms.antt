@@ -18,6 +18,7 @@ use Rattle.dlk_uses.specs.Uses.{Direction, Forwards, Backwards, any_p, any_q, an
 use Rattle.dlk_elab.specs.declared.spot.Spot.{Spot}
 use Rattle.dlk_elab.specs.declared.forms.Exchanged.{Exchanged}
 use Rattle.dlk_elab.specs.declared.forms.Equated.{Equated}
+pub use Rattle.dlk_uses.specs.Uses.{new_side}
 
 -- rules over ids in turn, on these goals: the first on a fact, and each other on the last row
 abbrev pub applying : ℕ → ℕ → List (ℕ × Rule) → List Step
@@ -73,11 +74,6 @@ under_condition now equation condition =
     step.Merge (now + 2) 2 now ∷
     step.Leaf (record { ante = []; succ = condition ∷ [] }) ∷
     step.Merge (now + 3) 1 (now + 4) ∷ []
-
--- of l and r, that which comes to stand there
-abbrev pub new_side : Direction → Tree → Tree → Tree
-new_side Forwards l r = r
-new_side Backwards l r = l
 
 -- the trees for an exchange by l <-> r at a path of the formula e
 pub record AreExchangeTrees (trees : List Tree) (direction : Direction) (e : Tree) (path : List ℕ) (l r : Tree) (x : Exchanged) : Type 0 where

@@ -6,7 +6,7 @@ use Rattle.std.specs.Fmt.{decimal}
 use Rattle.std.proofs.Math.Nat.{div-le_self}
 use Rattle.std.proofs.lemmas.Fmt.{IsAscii-decimal_wide}
 use Rattle.std.proofs.lemmas.Str.Ascii.{IsAscii-nil, IsAscii-cons}
-use Rattle.std.proofs.lemmas.Bool.{and_parts, lt-ltb, ltb-true}
+use Rattle.std.proofs.lemmas.Bool.{and_parts, lt-ltb, ltb-true, and_from}
 use Rattle.std.proofs.lemmas.Bool.Decides.{nat_tests}
 use Rattle.std.proofs.lemmas.List.Elements.{All-head, All-tail}
 use Rattle.std.proofs.lemmas.List.Folds.{list_all-append}
@@ -46,10 +46,6 @@ text_is_low text = list_all piece_is_low text
 abbrev texts_are_low : List (List Piece) → Bool
 texts_are_low texts = list_all text_is_low texts
 
-both : (x y : Bool) → x ≡ true → y ≡ true → (x && y) ≡ true
-both true y h g = g
-both false y h g = absurd cc
-
 low_ascii : (bytes : List ℕ) → are_low bytes ≡ true → IsAscii bytes
 low_ascii [] h = IsAscii-nil
 low_ascii (b ∷ bytes) h =
@@ -58,13 +54,13 @@ low_ascii (b ∷ bytes) h =
 
 ascii_low : (bytes : List ℕ) → IsAscii bytes → are_low bytes ≡ true
 ascii_low [] h = refl
-ascii_low (b ∷ bytes) h = both (is_low b) (are_low bytes) (lt-ltb b 128 (h 0)) (ascii_low bytes (λ i. h (suc i)))
+ascii_low (b ∷ bytes) h = and_from (is_low b) (are_low bytes) (lt-ltb b 128 (h 0)) (ascii_low bytes (λ i. h (suc i)))
 
 low_append : (a b : List ℕ) → are_low a ≡ true → are_low b ≡ true → are_low (a ++ b) ≡ true
-low_append a b h g = list_all-append is_low a b ∙ both (are_low a) (are_low b) h g
+low_append a b h g = list_all-append is_low a b ∙ and_from (are_low a) (are_low b) h g
 
 text_append : (a b : List Piece) → text_is_low a ≡ true → text_is_low b ≡ true → text_is_low (a ++ b) ≡ true
-text_append a b h g = list_all-append piece_is_low a b ∙ both (text_is_low a) (text_is_low b) h g
+text_append a b h g = list_all-append piece_is_low a b ∙ and_from (text_is_low a) (text_is_low b) h g
 
 spell_low : (text : List Piece) → text_is_low text ≡ true → are_low (spell text) ≡ true
 spell_low [] h = refl
@@ -81,7 +77,7 @@ name_bytes_low : (bytes : List ℕ) → list_all is_name_byte bytes ≡ true →
 name_bytes_low [] h = refl
 name_bytes_low (b ∷ bytes) h =
     let w = and_parts (is_name_byte b) (list_all is_name_byte bytes) h in
-    both (is_low b) (are_low bytes) (name_byte_low b w.0) (name_bytes_low bytes w.1)
+    and_from (is_low b) (are_low bytes) (name_byte_low b w.0) (name_bytes_low bytes w.1)
 
 letter_low : (b : ℕ) → is_letter b ≡ true → is_low b ≡ true
 letter_low b h = grind (arith, nat_tests)
@@ -90,7 +86,7 @@ word_low : (x : List ℕ) → is_word x ≡ true → are_low x ≡ true
 word_low [] h = refl
 word_low (b ∷ x) h =
     let w = and_parts (is_letter b) (list_all is_name_byte x) h in
-    both (is_low b) (are_low x) (letter_low b w.0) (name_bytes_low x w.1)
+    and_from (is_low b) (are_low x) (letter_low b w.0) (name_bytes_low x w.1)
 
 name_low : (x : List ℕ) → is_name x ≡ true → are_low x ≡ true
 name_low x h = word_low x (and_parts (is_word x) _ (and_parts _ _ h).0).0
@@ -114,7 +110,7 @@ last_digits_low : (w n : ℕ) → are_low (last_digits w n) ≡ true
 last_digits_low zero n = refl
 last_digits_low (suc w) n =
     let low : is_low (48 + n % 10) ≡ true = lt-ltb (48 + n % 10) 128 (omega arith) in
-    low_append (last_digits w (n / 10)) ((48 + n % 10) ∷ []) (last_digits_low w (n / 10)) (both (is_low (48 + n % 10)) true low refl)
+    low_append (last_digits w (n / 10)) ((48 + n % 10) ∷ []) (last_digits_low w (n / 10)) (and_from (is_low (48 + n % 10)) true low refl)
 
 decimal_low : (n : ℕ) → n < 10 ^ 38 → are_low (decimal n) ≡ true
 decimal_low n h = let wide : 10 ^ 38 < 10 ^ 64 = lit< tt in ascii_low (decimal n) (IsAscii-decimal_wide n (omega (arith, h, wide)))
@@ -213,7 +209,7 @@ items_low : (items : List OdeItem) (terms : List (List Piece)) → list_all is_i
 items_low [] terms h t = refl
 items_low (item ∷ items) terms h t =
     let w = and_parts (is_item item) (list_all is_item items) h in
-    both (text_is_low (item_text item terms)) (texts_are_low (item_texts items (terms_behind item terms))) (item_low item terms w.0 t)
+    and_from (text_is_low (item_text item terms)) (texts_are_low (item_texts items (terms_behind item terms))) (item_low item terms w.0 t)
     (items_low items (terms_behind item terms) w.1 (behind_low item terms t))
 
 domain_low : (domain : Tree) (text : List Piece) → text_is_low text ≡ true → text_is_low (domain_text domain text) ≡ true
@@ -252,12 +248,12 @@ mutual
   kids_low : (o : Op) (i : ℕ) (kids : Forest) → AllWellMade kids → texts_are_low (shown_kids o i kids) ≡ true
   kids_low o i no_kids h = refl
   kids_low o i (kid t rest) h =
-      both (text_is_low (shown_at (least o i) t)) (texts_are_low (shown_kids o (i + 1) rest)) (shown_low (least o i) t h.0) (kids_low o (i + 1) rest h.1)
+      and_from (text_is_low (shown_at (least o i) t)) (texts_are_low (shown_kids o (i + 1) rest)) (shown_low (least o i) t h.0) (kids_low o (i + 1) rest h.1)
 
 -- sequents
 trees_low : (ts : List Tree) → All WellMade ts → list_all (λ t. text_is_low (shown t)) ts ≡ true
 trees_low [] h = refl
-trees_low (t ∷ ts) h = both (text_is_low (shown t)) (list_all (λ u. text_is_low (shown u)) ts) (shown_low 1 t (All-head WellMade t ts h))
+trees_low (t ∷ ts) h = and_from (text_is_low (shown t)) (list_all (λ u. text_is_low (shown u)) ts) (shown_low 1 t (All-head WellMade t ts h))
     (trees_low ts (All-tail WellMade t ts h))
 
 formulas_low : (ts : List Tree) → All WellMade ts → text_is_low (formulas ts) ≡ true

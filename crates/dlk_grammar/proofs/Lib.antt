@@ -4,3 +4,5 @@ pub mod Spelled
 pub mod Splitting
 pub mod SomeSplit
 pub mod Real
+pub mod Digits
+pub mod Lists

@@ -111,7 +111,7 @@ spelled_real (dot n lt) = lt
 spelled_real hole = tt
 spelled_real (a_mark m) = tt
 
-spelled_no_end : {s : List ℕ} {k : TokenKind} → Spells s k → k ≢ End
+pub spelled_no_end : {s : List ℕ} {k : TokenKind} → Spells s k → k ≢ End
 spelled_no_end (word s h) e = cc
 spelled_no_end true_word e = cc
 spelled_no_end false_word e = cc

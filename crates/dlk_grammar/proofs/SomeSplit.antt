@@ -1,12 +1,12 @@
 -- Bytes are split, or come to a bad place: at each place it can be told what is at the front.
 use Rattle.std.proofs.Common.{◌≡◌, ℕ, zero, suc, ◌+◌, ◌-◌, ◌<◌, ◌≤◌, Bool, true, false, ◌&&◌, List, [], ◌∷◌, ◌++◌, length, take, drop, get_or, refl, sym, ap, subst, ◌∙◌, ◌⊎◌, inl, inr, arith, codes, append_assoc, length-append}
-use Rattle.std.specs.Bool.{Decides}
 use Rattle.std.specs.Str.{bytes_eq}
 use Rattle.std.proofs.Math.Seq.{take-append_seam}
 use Rattle.std.proofs.lemmas.Bool.{and_parts, cases_Bool, cases_eq, cases_lt}
 use Rattle.std.proofs.lemmas.List.{take-append-drop, length-take-le}
 use Rattle.std.proofs.lemmas.Slice.Eq.{bytes_eq-Decides}
 use Rattle.dlk_tree.specs.Names.{is_word}
+use Rattle.dlk_tree.proofs.TreeSame.{decided}
 use Rattle.dlk_grammar.specs.declared.token.Token.{Token}
 use Rattle.dlk_grammar.specs.declared.token.TokenKind.{TokenKind}
 use Rattle.dlk_grammar.specs.declared.token.TokenKind.TheVariants.{Word, True, False, Dot, Hole, Mark as AMark, End}
@@ -17,10 +17,6 @@ use Rattle.dlk_grammar.specs.Fronts.{Piece, Ended, Gap, One, Bad, AtFront, front
 use Rattle.dlk_grammar.proofs.Marks.{mark_of, mark_of_spelling}
 use Rattle.dlk_grammar.proofs.Spelled.{Class, Letter, Digit, Point, Under, Space, Other, first_class, Shape, integer_part, fraction_part, integer_before, fraction_behind, digits_all, spells_whole, spells_pointed, shape_at, spelled_some}
 use Rattle.dlk_grammar.proofs.Splitting.{NoEnd, later_no_end, NoFeed, apart, same_rest, comment_begins, go_on, go_bad, forward}
-
-decided : {A : Type 0} (b : Bool) → Decides b A → Dec A
-decided true d = yes (d.0 refl)
-decided false d = no (λ a. let e = d.1 a in cc)
 
 passes : (b : Bool) → Dec (b ≡ true)
 passes true = yes refl

@@ -9,17 +9,11 @@ use Rattle.dlk_store.specs.Stores.{tree, kid_trees}
 use Rattle.dlk_calculus.specs.Kids.{first, last}
 use Rattle.dlk_guard.specs.Smooth.{parts, domain_parts, is_apart, are_term_and_zero, keeps_off_zero, is_constant, is_kept_off_zero, ends_in_divisor}
 use Rattle.dlk_guard.specs.Instances.{before_last}
+use Rattle.dlk_sequent.proofs.Last.{last_kid}
 
 pub first_kid : (trees : List Tree) (ks : List Id) (k : Id) → slice_get ks 0 ≡ Some k → first (kid_trees trees ks) ≡ tree trees k
 first_kid trees [] k e = cc
 first_kid trees (j ∷ ks) k e = let same : j ≡ k = cc in ap (tree trees) same
-
-pub last_kid : (trees : List Tree) (ks : List Id) (k : Id) → slice_get ks (length ks - 1) ≡ Some k → last (kid_trees trees ks) ≡ tree trees k
-last_kid trees [] k e = cc
-last_kid trees (j ∷ []) k e = let same : j ≡ k = cc in ap (tree trees) same
-last_kid trees (i ∷ j ∷ ks) k e =
-    let shorter : length (i ∷ j ∷ ks) - 1 ≡ suc (length (j ∷ ks) - 1) = omega arith in
-    last_kid trees (j ∷ ks) k (ap (slice_get (i ∷ j ∷ ks)) (sym shorter) ∙ e)
 
 pub none_last : (ks : List Id) → slice_get ks (length ks - 1) ≡ None → ks ≡ []
 none_last [] e = refl

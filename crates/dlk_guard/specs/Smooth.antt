@@ -10,6 +10,7 @@ use Rattle.dlk_tree.specs.Trees.{Tree, node, Forest, no_kids, kid}
 use Rattle.dlk_tree.specs.TreeTests.{tree_eq}
 use Rattle.dlk_tree.specs.Statics.{prime}
 use Rattle.dlk_calculus.specs.Kids.{first, last}
+pub use Rattle.dlk_calculus.specs.Arithmetic.{is_comparison}
 
 -- ---- the parts of a domain
 
@@ -129,15 +130,6 @@ abbrev mutual
   are_smooth domain (kid t rest) = is_smooth domain t && are_smooth domain rest
 
 -- ---- formulas over them
-
-abbrev pub is_comparison : Op → Bool
-is_comparison Op'.Eq = true
-is_comparison Op'.Ne = true
-is_comparison Op'.Ge = true
-is_comparison Op'.Gt = true
-is_comparison Op'.Le = true
-is_comparison Op'.Lt = true
-is_comparison _ = false
 
 -- `true`, `false`, `!`, `&`, `|`, `->` and `<->`
 abbrev pub is_connective : Op → Bool

@@ -18,6 +18,7 @@ use Rattle.dlk_tacsyn.specs.Tactics.{Tactic, EachAtom}
 use Rattle.dlk_tacsyn.specs.Strategies.{StrategyText}
 use Rattle.dlk_elab.specs.Outcomes.{Outcome, Done, Fails, Budget, main_goals}
 use Rattle.dlk_elab.proofs.FewSteps.{takes_length}
+use Rattle.dlk_elab.proofs.MainGoals.{some_last}
 use Rattle.dlk_recorder.specs.Terms.{term_text}
 use Rattle.dlk_report.specs.Reports.{text_report}
 use Rattle.dlk_session.specs.declared.reply.Reply.TheVariants as says
@@ -25,7 +26,6 @@ use Rattle.dlk_session.specs.Kept.{IsKept}
 use Rattle.dlk_session.specs.Sessions.{State, Begins, no_goal, done, fails, spent, nothing, undone, Line, Apply, Undo, Show, Save, Answer, Replies, Shows}
 use Rattle.dlk_session.specs.Sessions.{Turn, applies, undoes, shows, saves, Turns}
 use Rattle.dlk_session.specs.Sessions.{none as no_turns, more as more_turns}
-use Rattle.dlk_session.proofs.MainGoals.{some_last}
 use Rattle.dlk_session.proofs.Stated.{starts}
 use Rattle.dlk_strategy.specs.Runs.{RunsOn}
 use Rattle.dlk_replies.specs.declared.form.Role.TheVariants.{Model, Term}

@@ -1,27 +1,17 @@
 -- Linked steps are taken, or there is a first fault.
-use Rattle.std.proofs.Common.{◌≡◌, ◌⊎◌, ℕ, ◌+◌, List, [], ◌∷◌, ◌++◌, length, map, sym, subst, inl, inr}
+use Rattle.std.proofs.Common.{◌≡◌, ◌⊎◌, ℕ, ◌+◌, List, [], ◌∷◌, ◌++◌, length, map, sym, subst}
 use Rattle.std.specs.List.{All}
 use Rattle.std.proofs.lemmas.List.Elements.{All-nil, All-cons, All-head, All-tail, All-append}
 use Rattle.dlk_calculus.specs.declared.reason.Reason.{Reason}
-use Rattle.dlk_calculus.specs.Provables.{Provable, IsAmong}
+use Rattle.dlk_calculus.specs.Provables.{Provable}
 use Rattle.dlk_calculus.specs.Sequents.{Sequent}
 use Rattle.dlk_calculus.specs.Steps.{Step, Start, UseAxiom, UseRule, Leaf, Apply, Merge, Substitute, Rename, IsProper, StepOf, Fault}
-use Rattle.dlk_calculus.proofs.Decide.{same_sequent}
 use Rattle.dlk_elab.proofs.Elaborates.{taken_proper}
 use Rattle.dlk_elab.proofs.TakenLaws.{all_or_fault}
 use Rattle.dlk_kernel.specs.Taken.{Takes}
 use Rattle.dlk_link.specs.Linked.{Joins, no_goals, another, the_same, Linked}
 use Rattle.dlk_rules.specs.Facts.{renumbered}
 use Rattle.dlk_uses.specs.Taking.{FirstFault}
-
--- whether a sequent is one of others is decided
-pub is_among : (s : Sequent) (ss : List Sequent) → Dec (IsAmong s ss)
-is_among s [] = no (λ a. a)
-is_among s (t ∷ ss) =
-    elim (same_sequent s t) [
-      | yes e ↦ yes (inl e)
-      | no n ↦ elim (is_among s ss) [ yes a ↦ yes (inr a) | no m ↦ no (λ a. elim a [ inl e ↦ n e | inr b ↦ m b ]) ]
-    ]
 
 -- each linked step is proper
 renumbered_proper : (to : ℕ → ℕ) (step : Step) → IsProper step → IsProper (renumbered to step)

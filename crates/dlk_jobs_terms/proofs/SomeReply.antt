@@ -4,6 +4,7 @@ use Rattle.dlk_calculus.specs.declared.reason.Reason.{Reason}
 use Rattle.dlk_calculus.specs.Places.{At}
 use Rattle.dlk_calculus.specs.Provables.{Provable, IsAmong}
 use Rattle.dlk_calculus.specs.Steps.{Step, IsProper, StepOf, Fault}
+use Rattle.dlk_calculus.proofs.StepLaws.{is_among}
 use Rattle.dlk_kernel.specs.Taken.{Takes}
 use Rattle.dlk_link.specs.Ends.{EndsIn}
 use Rattle.dlk_link.specs.Linked.{Linked, Joined}
@@ -23,7 +24,7 @@ use Rattle.dlk_jobs_terms.specs.Links.{LinksSteps, no_goal, past_limit, records,
 use Rattle.dlk_jobs_terms.specs.Made.{RecordsLast}
 use Rattle.dlk_jobs_terms.specs.Trims.{Trims, refuses as refuses_term, trims}
 use Rattle.dlk_jobs_terms.proofs.EndLaws.{SaysSteps, KeptShows, kept_ends, replay_takes, replay_last, replay_ends}
-use Rattle.dlk_jobs_terms.proofs.LinkedFates.{is_among, linked_fate}
+use Rattle.dlk_jobs_terms.proofs.LinkedFates.{linked_fate}
 use Rattle.dlk_jobs_terms.proofs.SameStep.{RuleIsItsCall}
 use Rattle.dlk_jobs_terms.proofs.SomeTrimmed.{some_trimmed}
 

@@ -1,9 +1,9 @@
 -- Each set of variables of a well-made tree has a listing, and each tree a signature.
-use Rattle.std.proofs.Common.{◌≡◌, ◌∙◌, sym, ap, subst, refl, ℕ, List, [], ◌∷◌, ◌++◌, Bool, true, false, ◌||◌, ◌&&◌, not, cond}
+use Rattle.std.proofs.Common.{◌≡◌, ◌∙◌, sym, ap, refl, ℕ, List, [], ◌∷◌, ◌++◌, Bool, true, false, ◌||◌, ◌&&◌, not, cond}
 use Rattle.std.proofs.Math.Bool.{or-false}
 use Rattle.std.proofs.lemmas.List.Folds.{list_any-append}
 use Rattle.std.proofs.lemmas.Map.Keys.{sorted_head, sorted_tail}
-use Rattle.std.specs.Bool.{beq, one_answer}
+use Rattle.std.specs.Bool.{beq}
 use Rattle.std.specs.Cmp.{IsTotalOrder}
 use Rattle.std.specs.List.{list_any, AllByRecursion}
 use Rattle.std.specs.List.Sorted.{IsStrictlySortedBy}
@@ -20,11 +20,10 @@ use Rattle.dlk_tree.specs.Tests.{var_eq, sym_eq}
 use Rattle.dlk_tree.specs.Trees.{Tree, node, Forest, no_kids, kid, WellMade}
 use Rattle.dlk_tree.specs.declared.op.Sym.{Sym}
 use Rattle.dlk_tree.specs.declared.op.Var.{Var}
-use Rattle.dlk_tree.specs.contracts.op.SymOrd.TheImpl.Laws.{total-law as sym_total_law, matches_eq-law as sym_ties_law}
 use Rattle.dlk_tree.proofs.Elsewhere.{elsewhere}
-use Rattle.dlk_tree.proofs.Listing.{var_total, var_ties, among_keys, sym_cmp_derived}
+use Rattle.dlk_tree.proofs.Listing.{var_total, among_keys, sym_total, sym_ties, sym_exact, var_exact}
 use Rattle.dlk_tree.proofs.NameList.{names, names_listed}
-use Rattle.dlk_tree.proofs.Same.{var_eq_decides, sym_eq_decides, sym_derived_decides}
+use Rattle.dlk_tree.proofs.Same.{var_eq_decides}
 use Rattle.dlk_tree.proofs.SomeVar.{not_named}
 use Rattle.dlk_shared.proofs.SignLemmas.{turned}
 
@@ -104,9 +103,6 @@ module _ {K : Type 0} (R : K → K → Ordering) (o : IsTotalOrder R) (exact : (
       (more.new, more.ordered, λ q. more.members q ∙ ap (λ b. b || is_eq (R q k)) (rest.2 q) ∙ turned (is_key ks q) (is_eq (R q k)))
 
 -- ---- the variables of a set
-
-var_exact : (v w : Var) → var_cmp v w ≡ Equal → v ≡ w
-var_exact v w e = (var_eq_decides v w).0 (var_ties v w ∙ ap is_eq e)
 
 -- whether a variable is told apart from the others, of which each is in the set or none is
 abbrev stands_out : Bool → Bool → Bool
@@ -197,15 +193,6 @@ module _ (t : Tree) (made : WellMade t) where
   some_must_listing = some_listing (must t) (names t) (λ v h. (elsewhere t v nowhere (unnamed v h) (not_named t made)).must)
 
 -- ---- the symbols of a tree
-
-sym_total : IsTotalOrder sym_cmp
-sym_total = subst IsTotalOrder sym_cmp_derived sym_total_law
-
-sym_ties : (s t : Sym) → sym_eq s t ≡ eq_by_cmp sym_cmp s t
-sym_ties s t = one_answer _ _ (sym_eq_decides s t) (sym_derived_decides s t) ∙ sym_ties_law s t ∙ (λ i. eq_by_cmp (sym_cmp_derived i) s t)
-
-sym_exact : (s t : Sym) → sym_cmp s t ≡ Equal → s ≡ t
-sym_exact s t e = (sym_eq_decides s t).0 (sym_ties s t ∙ ap is_eq e)
 
 sym_keys : (syms : List Sym) (s : Sym) → list_any (sym_eq s) syms ≡ list_any (eq_by_cmp sym_cmp s) syms
 sym_keys [] s = refl

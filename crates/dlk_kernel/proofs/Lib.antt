@@ -10,3 +10,4 @@ pub mod Reading
 pub mod Renamed
 pub mod Substituted
 pub mod Looked
+pub mod Starting

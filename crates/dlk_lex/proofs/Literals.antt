@@ -1,9 +1,9 @@
 -- The literal at the front.
-use Rattle.std.proofs.Common.{◌≡◌, ◌≢◌, ℕ, zero, suc, ◌+◌, ◌-◌, ◌*◌, ◌^◌, ◌<◌, ◌≤◌, Bool, true, false, cond, ◌==◌, List, [], ◌∷◌, ◌++◌, length, take, drop, get_or, refl, sym, ap, ◌∙◌, ◌⊎◌, inl, inr, arith, lit<, codes, append_assoc, length-append, if◌then◌else◌}
+use Rattle.std.proofs.Common.{◌≡◌, ◌≢◌, ℕ, suc, ◌+◌, ◌-◌, ◌*◌, ◌^◌, ◌<◌, ◌≤◌, Bool, true, false, cond, ◌==◌, List, [], ◌∷◌, ◌++◌, length, take, drop, get_or, refl, sym, ap, ◌∙◌, ◌⊎◌, inl, inr, arith, lit<, codes, append_assoc, length-append, if◌then◌else◌}
 use Rattle.std.specs.List.{list_all, prefix_len, fold}
 use Rattle.std.proofs.Math.Nat.{pow-le-pow_right, pow-succ', one-le-pow}
 use Rattle.std.proofs.Math.Seq.{take-append_seam, drop-append_seam}
-use Rattle.std.proofs.lemmas.Bool.{and_parts, leb-true, ne_eqb, eqb-true}
+use Rattle.std.proofs.lemmas.Bool.{and_parts, ne_eqb, eqb-true}
 use Rattle.std.proofs.lemmas.List.{take-append-drop, length-take-le, drop-drop, take_more}
 use Rattle.std.proofs.lemmas.List.Sums.{prefix_len-le-length}
 use Rattle.dlk_grammar.specs.Tokens.{is_digit, are_digits, before_digits, trimmed, Spells}
@@ -19,17 +19,6 @@ digit_more i v h lt =
     let up : 10 ^ suc i ≤ 10 ^ 38 = pow-le-pow_right {n = 10} (lit< tt) {i = suc i} {j = 38} (omega arith) in
     let low : 10 ^ 38 < 2 ^ 128 = lit< tt in
     omega (arith, pow-succ' 10 i)
-
-pub below_more : (i v d : ℕ) → v < 10 ^ i → d ≤ 9 → 10 * v + d < 10 ^ (i + 1)
-below_more i v d h le = let n : i + 1 ≡ suc i = omega arith in rw n (omega (arith, pow-succ' 10 i))
-
--- a digit of a run
-pub digit_at : (ds : List ℕ) (i : ℕ) → list_all is_digit ds ≡ true → i < length ds → (48 ≤ get_or ds i 0) × (get_or ds i 0 ≤ 57)
-digit_at [] i h lt = absurd (omega arith)
-digit_at (d ∷ ds) zero h lt =
-    let w = and_parts _ _ (and_parts (is_digit d) (list_all is_digit ds) h).0 in
-    (leb-true 48 d w.0, leb-true d 57 w.1)
-digit_at (d ∷ ds) (suc i) h lt = digit_at ds i (and_parts (is_digit d) (list_all is_digit ds) h).1 (omega arith)
 
 -- a zero at the end goes, and another digit stays
 zero_goes : (l : List ℕ) → trimmed (l ++ 48 ∷ []) ≡ trimmed l

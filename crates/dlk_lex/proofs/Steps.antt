@@ -5,10 +5,11 @@ use Rattle.std.proofs.lemmas.List.{drop_all, take-append-drop, length-take-le, l
 use Rattle.dlk_grammar.specs.declared.token.Token.{Token}
 use Rattle.dlk_grammar.specs.declared.token.TokenKind.{TokenKind}
 use Rattle.dlk_grammar.specs.declared.token.TokenKind.TheVariants.{End}
-use Rattle.dlk_grammar.specs.Tokens.{is_space, Spells, word, true_word, false_word, integer, decimal, long_integer, long_decimal, dot, hole, a_mark}
+use Rattle.dlk_grammar.specs.Tokens.{is_space}
 use Rattle.dlk_grammar.specs.Splits.{token, BeginsComment, Splits, ended, BadAt}
 use Rattle.dlk_grammar.specs.Fronts.{Piece, AtFront, front-space, front-one, front-bad}
 use Rattle.dlk_grammar.proofs.Splitting.{comment_begins, go_on, go_bad, forward}
+use Rattle.dlk_grammar.proofs.Real.{spelled_no_end}
 use Rattle.dlk_lex.specs.declared.front.Piece.{Piece as LexPiece}
 use Rattle.dlk_lex.specs.declared.front.Piece.TheVariants as lex
 use Rattle.dlk_lex.specs.Fronts.{StandsInFront, HasNoToken, IsToken, IsPiece}
@@ -91,17 +92,6 @@ past_space bytes from at reached lt h =
     (past_gap bytes from at [] reached rest refl 1 (space_piece rest some (ap is_space first ∙ h))).1
 
 -- No spelling is the end.
-spelled_no_end : {s : List ℕ} {k : TokenKind} → Spells s k → k ≢ End
-spelled_no_end (word s h) e = cc
-spelled_no_end true_word e = cc
-spelled_no_end false_word e = cc
-spelled_no_end (integer s h le) e = cc
-spelled_no_end (decimal s f h i le) e = cc
-spelled_no_end (long_integer s h lt) e = cc
-spelled_no_end (long_decimal s f h i lt) e = cc
-spelled_no_end (dot n lt) e = cc
-spelled_no_end hole e = cc
-spelled_no_end (a_mark m) e = cc
 
 one_no_end : {bytes s rest : List ℕ} {k : TokenKind} → AtFront bytes (Piece.One s k rest) → k ≢ End
 one_no_end (front-one s rest k e none longest) = spelled_no_end longest.spells

@@ -2,21 +2,15 @@
 use Rattle.std.proofs.Common.{◌≡◌, ℕ, List, map, Vec, Global, refl, ap, subst, ◌∙◌}
 use Rattle.std.specs.List.{All}
 use Rattle.std.proofs.lemmas.List.Elements.{All-nil, All-cons}
-use mathlib.Core.Former.{Count}
 use Rattle.dlk_tree.specs.Trees.{Tree}
-use Rattle.dlk_tacsyn.specs.declared.tactic.Tactic.{Tactic, Choice, Seq, Branch, Choice', Seq', Branch', Row_of-Tactic, end_of-Tactic, more_of-Tactic}
+use Rattle.dlk_tacsyn.specs.declared.tactic.Tactic.{Tactic, Choice, Seq, Branch, Row_of-Tactic, end_of-Tactic, more_of-Tactic}
 use Rattle.dlk_tacsyn.specs.declared.tactic.Tactic.{items-the_row-Tactic, items_hidden-the_row-Tactic-0}
 use Rattle.dlk_tacsyn.specs.Tactics as the
 use Rattle.dlk_tacsyn.specs.Tactics.{Tactics, part, EachAtomOf}
 use Rattle.dlk_tacsyn.specs.Rows.{IsOfText, AreOfText}
 use Rattle.dlk_tacsyn.specs.Strategies.{parts}
 use Rattle.dlk_tacsyn.specs.Ties.{tactic_at, tactics_at, TacticIsKnown, TacticsAreKnown}
-
-abbrev pub row_in : Tactic → (n : Count) × Row_of-Tactic n
-row_in (Choice' _ row) = (_, row)
-row_in (Seq' _ row) = (_, row)
-row_in (Branch' at _ row) = (_, row)
-row_in _ = (_, end_of-Tactic)
+use Rattle.dlk_tacsyn.proofs.Kept.{row_in}
 
 module _ (trees : List Tree) where
   abbrev pub parts_at : List Tactic → Tactics

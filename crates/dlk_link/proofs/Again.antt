@@ -8,10 +8,11 @@ use Rattle.std.proofs.lemmas.Bool.{cases_order}
 use Rattle.dlk_calculus.specs.Places.{At}
 use Rattle.dlk_calculus.specs.Provables.{Provable}
 use Rattle.dlk_calculus.specs.Steps.{Step, UseAxiom}
+use Rattle.dlk_calculus.proofs.PlaceLaws.{at_suc}
 use Rattle.dlk_kernel.specs.Taken.{Takes}
 use Rattle.dlk_link.specs.Neat.{AreUnlike, AreNamed}
 use Rattle.dlk_link.specs.Trimmed.{IsNeeded, the_last, is_named, new_number, moved, Trims, Trimmed, nothing_read, is_kept}
-use Rattle.dlk_link.proofs.Kept.{at_suc, at_more, at_some, old_number, last_number, same_step}
+use Rattle.dlk_link.proofs.Kept.{at_more, at_some, old_number, last_number, same_step}
 use Rattle.dlk_link.proofs.Named.{same_moved, facts_before, place_of}
 use Rattle.dlk_link.proofs.Names.{IsIn, in_from_contains}
 

@@ -4,19 +4,16 @@ use Rattle.std.proofs.Common.{length-append, append_assoc, get_or}
 use Rattle.std.specs.List.{slice_get}
 use Rattle.std.proofs.lemmas.Option.{get_or_from_slice_get, slice_get_within, slice_get-get_or}
 use Rattle.std.proofs.lemmas.List.{get_or_append_left, get_or-append-add}
-use Rattle.std.proofs.Math.Dec.{eqb-suc-zero}
 use Rattle.dlk_calculus.specs.Limits.{most_rows}
-use Rattle.dlk_calculus.specs.Places.{at, At}
+use Rattle.dlk_calculus.specs.Places.{At}
 use Rattle.dlk_calculus.specs.Provables.{Provable}
 use Rattle.dlk_calculus.specs.Steps.{Step, Start, UseAxiom, UseRule, Leaf, Apply, Merge, Substitute, Rename, Gives, StepOf, IsWithin}
+use Rattle.dlk_calculus.proofs.PlaceLaws.{at_suc}
 use Rattle.dlk_rules.specs.Facts.{renumbered}
 use Rattle.dlk_kernel.specs.Taken.{Takes, none, more}
 use Rattle.dlk_link.specs.Trimmed.{IsNeeded, is_named, new_number, moved, Trims, nothing_read, not_needed, kept_before, is_kept}
 use Rattle.dlk_link.specs.Kept.{Keeps}
 use Rattle.dlk_link.proofs.Moved.{gives_moved, within_moved}
-
-pub at_suc : {A : Type 0} (items : List A) (n : ℕ) → at items (suc n) ≡ slice_get items n
-at_suc items n = let e : suc n - 1 ≡ n = omega arith in rw (eqb-suc-zero n, e)
 
 pub at_more : {A : Type 0} (items others : List A) (place : ℕ) (x : A) → At items place x → At (items ++ others) place x
 at_more items others zero x h = absurd (cc h)

@@ -19,7 +19,7 @@ use Rattle.dlk_store.specs.Stores.{HasOneId}
 use Rattle.dlk_calculus.specs.Places.{At}
 use Rattle.dlk_calculus.specs.Rules.{Rule, word_of, arguments_of}
 use Rattle.dlk_calculus.specs.Steps.{Step as TreeStep}
-use Rattle.dlk_calculus.proofs.PlaceLaws.{at_one, At-map, At_place, At_All}
+use Rattle.dlk_calculus.proofs.PlaceLaws.{at_one, At-map, At_place, At_All, at_suc}
 use Rattle.dlk_rules.specs.declared.step.Step.{Step}
 use Rattle.dlk_rules.specs.declared.step.Step.TheVariants as step
 use Rattle.dlk_rules.specs.Steps.{step_at, HasKnownIds}
@@ -29,7 +29,7 @@ use Rattle.dlk_link.specs.Keys.{IsKey}
 use Rattle.dlk_link.specs.Marks.{AreMarks}
 use Rattle.dlk_link.specs.Trimmed.{IsNeeded, moved, Trims, nothing_read, not_needed, kept_before, is_kept}
 use Rattle.dlk_link.proofs.Again.{at_later, get_in}
-use Rattle.dlk_link.proofs.Kept.{at_suc, at_either, at_some}
+use Rattle.dlk_link.proofs.Kept.{at_either, at_some}
 use Rattle.dlk_link.proofs.KeyLaws.{one_step, one_key}
 use Rattle.dlk_link.proofs.Names.{in_from_contains}
 

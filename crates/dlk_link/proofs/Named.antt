@@ -8,13 +8,14 @@ use Rattle.dlk_calculus.specs.Places.{At}
 use Rattle.dlk_calculus.specs.Provables.{Provable}
 use Rattle.dlk_calculus.specs.Steps.{Step, Start, UseAxiom, UseRule, Leaf, Apply, Merge, Substitute, Rename, Gives, StepOf, IsWithin}
 use Rattle.dlk_calculus.specs.Steps.{start, use_axiom, use_rule, leaf, apply, merge, substitute, rename}
+use Rattle.dlk_calculus.proofs.PlaceLaws.{at_suc}
 use Rattle.dlk_rules.specs.Facts.{facts_of, renumbered}
 use Rattle.dlk_link.proofs.Names.{HasFact, in_from_contains, contains_from_in}
 use Rattle.dlk_link.specs.Kept.{Keeps, ShowsSame}
 use Rattle.dlk_link.specs.Neat.{AreNamed}
 use Rattle.dlk_kernel.specs.Taken.{Takes, none, more}
 use Rattle.dlk_link.specs.Trimmed.{IsNeeded, the_last, is_named, new_number, moved, Trims, Trimmed, nothing_read, not_needed, kept_before, is_kept}
-use Rattle.dlk_link.proofs.Kept.{at_suc, at_more, at_last, at_either, at_some, old_number, last_number, take_last, take_length, trims_keep}
+use Rattle.dlk_link.proofs.Kept.{at_more, at_last, at_either, at_some, old_number, last_number, take_last, take_length, trims_keep}
 
 names_moved : (to : ℕ → ℕ) (step : Step) (fact : ℕ) → HasFact step fact → HasFact (renumbered to step) (to fact)
 names_moved to (Start s) fact h = h

@@ -3,10 +3,11 @@ use Rattle.std.proofs.Common.{◌≡◌, sym, subst, ◌∙◌, ℕ, zero, suc, 
 use Rattle.std.specs.List.{slice_get}
 use Rattle.dlk_calculus.specs.Places.{At}
 use Rattle.dlk_calculus.specs.Steps.{Step}
+use Rattle.dlk_calculus.proofs.PlaceLaws.{at_suc}
 use Rattle.dlk_link.proofs.Names.{IsIn, contains_from_in}
 use Rattle.dlk_link.specs.Neat.{AreUnlike}
 use Rattle.dlk_link.specs.Trimmed.{Trims, moved, nothing_read, not_needed, kept_before, is_kept}
-use Rattle.dlk_link.proofs.Kept.{at_suc, at_either}
+use Rattle.dlk_link.proofs.Kept.{at_either}
 
 get_in : (items : List Step) (n : ℕ) (x : Step) → slice_get items n ≡ Some x → IsIn x items
 get_in [] n x h = absurd (cc h)

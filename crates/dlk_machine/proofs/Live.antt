@@ -16,6 +16,7 @@ use Rattle.dlk_machine.proofs.Climb.{own_form, right_form, formula_level, level_
 use Rattle.dlk_machine.proofs.OpenParts.{Loose, Loose-more}
 use Rattle.dlk_machine.proofs.Spelled.{prefix_form, mark, binary_reads, unary_reads, prefix_table, table, list-begins, list_joined, items_joined, note_brace, end_note, end_stmt, end_invariants, HolderText, round-text, args-text, context-text, box-text, in_dia-text, brace-text, assigns-text, assigns_prime-text, tests-text, evolves-text, domain-text, notes-text, Spells, nothing, left, before, inside, Known, loose_top, loose_formula, Midway, quantifier_token, After}
 use Rattle.dlk_machine.proofs.Found.{moves}
+use Rattle.dlk_machine.proofs.Only.{top_sort}
 
 -- a text that can stand under the open parts
 record Fills (g : Sort) (S : List Part) (r : List Lexeme) : Type 0 where
@@ -75,11 +76,6 @@ to_form m n r t d a h = go (form_sort m) (form_sort n) refl refl a
     go Formula Program e f x = absurd cc
     go Program Term e f x = absurd cc
     go Program Formula e f x = absurd cc
-
-top_sort : (g : Sort) → form_sort (top g) ≡ g
-top_sort Term = refl
-top_sort Formula = refl
-top_sort Program = refl
 
 pub top_need : (g : Sort) (n : Nonterminal) → need (top g) ≤ form_level n
 top_need Term n = omega arith

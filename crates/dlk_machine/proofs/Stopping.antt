@@ -1,21 +1,10 @@
 -- A text stops at one place, and lexemes that say something stop nowhere.
-use Rattle.std.proofs.Common.{◌≡◌, ℕ, ◌≤◌, ◌⊎◌, inl, inr, List, [], ◌∷◌, ◌++◌, length, refl, sym, ap, subst, ◌∙◌, arith, append_assoc, length-append}
+use Rattle.std.proofs.Common.{◌≡◌, ℕ, ◌≤◌, inl, inr, List, [], ◌∷◌, ◌++◌, length, refl, sym, ap, subst, ◌∙◌, arith, append_assoc, length-append}
 use Rattle.std.proofs.lemmas.List.{append-nil, append_cancel_left}
 use Rattle.dlk_grammar.specs.declared.token.Dots.{Dots}
 use Rattle.dlk_grammar.specs.Lexemes.{Lexeme}
 use Rattle.dlk_grammar.specs.Readings.{Says, Begins, Stops, stops-token, stops-end}
-
--- two fronts of one list: one is a front of the other
-either_front : {X : Type 0} (f g b c : List X) → f ++ b ≡ g ++ c → ((q : List X) × (g ≡ f ++ q)) ⊎ ((q : List X) × (f ≡ g ++ q))
-either_front [] g b c e = inl (g, refl)
-either_front (x ∷ f) [] b c e = inr (x ∷ f, refl)
-either_front {X} (x ∷ f) (y ∷ g) b c e =
-    let same : x ≡ y = cc in
-    let rest : f ++ b ≡ g ++ c = cc in
-    elim (either_front f g b c rest) [
-      | inl w ↦ inl (w.0, ap (λ (l : List X). y ∷ l) w.1 ∙ ap (λ (z : X). z ∷ (f ++ w.0)) (sym same))
-      | inr w ↦ inr (w.0, ap (λ (l : List X). x ∷ l) w.1 ∙ ap (λ (z : X). z ∷ (g ++ w.0)) same)
-    ]
+use Rattle.dlk_grammar.proofs.Lists.{either_front}
 
 module _ {P : Type 0} (d : Dots) (G : List Lexeme → P → Type 0) where
   -- fronts of a text are closed under fronts

@@ -1,6 +1,6 @@
 -- Each name of an axiom becomes, by names exchanged in turn, the one that it gets: as if all were exchanged at once.
 use Rattle.std.proofs.Common.{◌≡◌, refl, sym, ap, subst, ◌∙◌, ℕ, List, [], ◌∷◌, map, Bool, true, false, cond, not, ◌||◌, ◌&&◌, Option, Some}
-use Rattle.std.proofs.Common.{None, ◌==◌, is_none}
+use Rattle.std.proofs.Common.{None, is_none}
 use Rattle.std.specs.Prelude.{All, IsTrue, option_map}
 use Rattle.std.specs.List.{list_any}
 use Rattle.std.specs.Str.{bytes_eq}
@@ -10,15 +10,14 @@ use Rattle.std.proofs.lemmas.List.Elements.{All-head, All-tail}
 use Rattle.dlk_tree.specs.declared.op.Var.{Var}
 use Rattle.dlk_tree.specs.declared.op.Sym.{Sym}
 use Rattle.dlk_tree.specs.declared.op.Kind.{Kind}
-use Rattle.dlk_tree.specs.declared.op.Kind.TheVariants.{Func, UnitFunc, Pred, UnitPred, Quant, Prog, Ode}
 use Rattle.dlk_tree.specs.declared.op.OdeItem.{OdeItem}
 use Rattle.dlk_tree.specs.declared.op.OdeItem.TheVariants as Item
 use Rattle.dlk_tree.specs.declared.op.Op.TheVariants as Op'
-use Rattle.dlk_tree.specs.Tests.{kind_rank}
 use Rattle.dlk_tree.specs.Table.{kind_row, is_sym_of}
 use Rattle.dlk_tree.specs.Trees.{node, no_kids}
 use Rattle.dlk_tree.specs.Named.{any_taboo, any_item_name}
 use Rattle.dlk_calculus.specs.Rename.{swap_name, swap_var, swap_sym, swap_item, swap_op}
+use Rattle.dlk_calculus.proofs.Sorts.{kind_of_rank}
 use Rattle.dlk_match.specs.Matching.{is_own, old_names, new_names, AreGiven, AreApart, renamed_to, renamed_taboo, renamed_symbol, exchanged}
 use Rattle.dlk_match.proofs.Turns.{Names, in_turn, unchanged, carried, carried_both, exchanged_node, exchanged_none}
 
@@ -194,16 +193,6 @@ module _ (own : List (List ℕ)) (renames : Names) (given : AreGiven own renames
       carried_both ◌∷◌ swap_item (λ x y. map (swap_item x y)) (λ x y. map (swap_item x y)) (λ x y i l. refl) renames item items ∙ (λ i. a i ∷ b i)
 
 -- ---- symbols of kinds without a taboo
-
-pub kind_of_rank : (k l : Kind) → (kind_rank k == kind_rank l) ≡ true → k ≡ l
-kind_of_rank Func Func e = refl
-kind_of_rank UnitFunc UnitFunc e = refl
-kind_of_rank Pred Pred e = refl
-kind_of_rank UnitPred UnitPred e = refl
-kind_of_rank Quant Quant e = refl
-kind_of_rank Prog Prog e = refl
-kind_of_rank Ode Ode e = refl
-kind_of_rank _ _ e = cc
 
 no_taboo : (k : Kind) (s : Sym) → (kind_row k).taboo ≡ false → IsTrue (is_sym_of k s) → s.taboo ≡ None
 no_taboo k s none is =

@@ -1,9 +1,7 @@
 -- Whether a key matches a tree is decided.
-use Rattle.std.proofs.Common.{◌≡◌, refl, sym, ap, subst, ◌∙◌, ℕ, List, [], ◌∷◌, ◌++◌, Bool, true, false, Option, Some, None, ◌⊎◌, inl, inr}
-use Rattle.std.specs.Prelude.{IsTrue, All}
-use Rattle.std.specs.Bool.{Decides}
+use Rattle.std.proofs.Common.{◌≡◌, refl, sym, ap, subst, ◌∙◌, ℕ, List, [], ◌∷◌, ◌++◌, Option, Some, None, ◌⊎◌, inl, inr}
+use Rattle.std.specs.Prelude.{IsTrue}
 use Rattle.std.specs.Str.{bytes_eq}
-use Rattle.std.proofs.lemmas.List.Elements.{All-cons, All-nil, All-head, All-tail}
 use Rattle.std.proofs.lemmas.Option.{none-some, same_Some}
 use Rattle.std.proofs.lemmas.Slice.Eq.{bytes_eq-Decides}
 use Rattle.dlk_tree.specs.declared.op.Var.{Var}
@@ -16,10 +14,12 @@ use Rattle.dlk_tree.specs.declared.op.Op.TheVariants as Op'
 use Rattle.dlk_tree.specs.Table.{kind_row, all_distinct}
 use Rattle.dlk_tree.specs.Trees.{Tree, node, Forest, no_kids, kid, forest, sort}
 use Rattle.dlk_tree.proofs.Same.{sort_decides}
+use Rattle.dlk_tree.proofs.TreeSame.{decided}
 use Rattle.dlk_calculus.specs.Kids.{last}
 use Rattle.dlk_calculus.specs.Pairs.{Extra, replacement}
 use Rattle.dlk_calculus.specs.Subst.{Member, Equation, members}
 use Rattle.dlk_calculus.proofs.Decide.{is_true, both, same_op, same_tree}
+use Rattle.dlk_calculus.proofs.Decided.{all_decided}
 use Rattle.dlk_match.specs.Abstract.{abstracted}
 use Rattle.dlk_match.specs.Matching.{renamed_to, NameIs, GetsName, ReplacementIs, GetsReplacement, Over, IsAppliedTo, Application, of_nothing, of_variable, system_of, TakeMembers, constant, equation, equation_first, equation_last, two_constants, SystemMatches, MatchesAt, Matches, MatchesAll, is_own, old_names, new_names, AreGiven, AreApart, Match}
 use Rattle.dlk_match.specs.Tried.{name_in}
@@ -27,18 +27,10 @@ use Rattle.dlk_match.proofs.OneMatch.{one_name, one_replacement, one_variable, o
 
 -- ---- what follows from what is decided
 
-decided : {A : Type 0} (b : Bool) → Decides b A → Dec A
-decided true d = yes (d.0 refl)
-decided false d = no (λ a. let e = d.1 a in cc)
-
 -- by what is decided, where each follows from the other
 by_same : {A B : Type 0} → Dec A → (A → B) → (B → A) → Dec B
 by_same (yes a) f g = yes (f a)
 by_same (no n) f g = no (λ b. n (g b))
-
-all_decided : {A : Type 0} (P : A → Type 0) → ((x : A) → Dec (P x)) → (xs : List A) → Dec (All P xs)
-all_decided P each [] = yes (All-nil P)
-all_decided P each (x ∷ xs) = both (All-cons P x xs) (All-head P x xs) (All-tail P x xs) (each x) (all_decided P each xs)
 
 same_name : (x y : List ℕ) → Dec (x ≡ y)
 same_name x y = decided (bytes_eq x y) (bytes_eq-Decides x y)

@@ -10,6 +10,7 @@ use Rattle.dlk_tree.specs.Trees.{Tree, node, Forest, no_kids, kid, forest}
 use Rattle.dlk_calculus.specs.Kids.{last}
 use Rattle.dlk_calculus.specs.Pairs.{Extra, replacement}
 use Rattle.dlk_calculus.specs.Subst.{Member, Equation, members}
+use Rattle.dlk_calculus.proofs.Innermost.{one_of}
 use Rattle.dlk_match.specs.Abstract.{abstracted}
 use Rattle.dlk_match.specs.Matching.{renamed_to, NameIs, GetsName, ReplacementIs, GetsReplacement, Over, IsAppliedTo, Application, of_nothing, of_variable, system_of, TakeMembers, constant, equation, equation_first, equation_last, two_constants, SystemMatches, MatchesAt, Matches, MatchesAll, renamed_pairs, Match}
 
@@ -36,9 +37,6 @@ no_kid p q = cc
 
 pub one_variable : {v w : Var} {ks : Forest} → ks ≡ kid (node (Op'.Variable v) no_kids) no_kids → ks ≡ kid (node (Op'.Variable w) no_kids) no_kids → v ≡ w
 one_variable p q = cc
-
-one_of : {A : Type 0} {o : Option A} {s t : A} → o ≡ Some s → o ≡ Some t → s ≡ t
-one_of p q = cc
 
 one_applied : (s : Sym) (kids : Forest) (e : Tree) (old a b : Extra) → IsAppliedTo s kids e old a → IsAppliedTo s kids e old b → a ≡ b
 one_applied s kids e old a b p q =

@@ -1,6 +1,6 @@
 -- Where no two symbols of renamed pairs are equal, the replacement of a symbol is that of the renamed symbol.
 use Rattle.std.proofs.Common.{◌≡◌, refl, sym, ap, subst, ◌∙◌, ℕ, zero, suc, ◌-◌, List, [], ◌∷◌, map, take, slice_get, Bool, true, false, cond, arith}
-use Rattle.std.proofs.Common.{Option, None, Some, find}
+use Rattle.std.proofs.Common.{None, Some, find}
 use Rattle.std.specs.List.{list_any}
 use Rattle.std.proofs.lemmas.Bool.{or_parts}
 use Rattle.std.proofs.lemmas.Option.{none-some, same_Some}
@@ -12,6 +12,7 @@ use Rattle.dlk_calculus.specs.declared.why.Why.{Why}
 use Rattle.dlk_calculus.specs.declared.why.Why.TheVariants as Why'
 use Rattle.dlk_calculus.specs.Pairs.{Pair, replacement, is_against, why, IsWellFormed}
 use Rattle.dlk_calculus.proofs.PlaceLaws.{at_suc}
+use Rattle.dlk_calculus.proofs.WellFormed.{no_reason}
 use Rattle.dlk_match.specs.Matching.{renamed_symbol, renamed_pairs}
 use Rattle.dlk_match.proofs.Turns.{Names}
 
@@ -30,10 +31,6 @@ second_not_found test x y xs e = go (test x) (test y) e
 
 not_twice : (earlier : List Pair) (p : Pair) → why earlier p ≡ None → list_any (λ (q : Pair). sym_eq p.sym q.sym) earlier ≡ false
 not_twice earlier p e = second_not_found (λ (w : Why). is_against w earlier p) Why'.Sort Why'.Twice (Why'.Dot ∷ Why'.Hole ∷ Why'.Taboo ∷ []) e
-
-no_reason : (o : Option Why) → ((w : Why) → o ≡ Some w → ⊥) → o ≡ None
-no_reason None h = refl
-no_reason (Some w) h = absurd (h w refl)
 
 one_less : (n : ℕ) → suc n - 1 ≡ n
 one_less n = omega arith

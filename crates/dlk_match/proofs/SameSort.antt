@@ -10,8 +10,8 @@ use Rattle.dlk_tree.specs.declared.op.Op.TheVariants as Op'
 use Rattle.dlk_tree.specs.Table.{sort_of, has_parts, kind_row, is_sym_of}
 use Rattle.dlk_tree.specs.Trees.{Tree, node, Forest, sort, WellMade}
 use Rattle.dlk_calculus.specs.Pairs.{Extra}
+use Rattle.dlk_calculus.proofs.Sorts.{kind_of_rank}
 use Rattle.dlk_match.specs.Matching.{GetsReplacement, Over, Application, of_nothing, of_variable, MatchesAt, Matches, MatchesAll, Match}
-use Rattle.dlk_match.proofs.AtOnce.{kind_of_rank}
 use Rattle.dlk_match.proofs.Abstracted.{sort_abstracted}
 
 -- a symbol of a kind is replaced by what is of the kind's sort

@@ -16,6 +16,7 @@ use Rattle.dlk_subst.specs.Results.{IsResult}
 use Rattle.dlk_subst.proofs.Results.{holds_tree}
 use Rattle.dlk_subst.specs.Counts.{subtrees, subtrees_of}
 use Rattle.dlk_subst.specs.Looked.{same_id}
+use Rattle.dlk_subst.proofs.Looked.{root_within}
 use Rattle.dlk_memo.specs.Tables.{Table, found, HasEachOnce, Puts, Opened, Unopened, IsRight, IsOpenAbove, OpensNone, Spends}
 
 -- a new entry makes the table one longer
@@ -170,9 +171,6 @@ opens_concluded old begun grown new id (Err e) begin opens put = tt
 opens_concluded old begun grown new id (Ok made) begin opens put = opens_whole old begun grown new id made begin opens put
 
 -- ---- subtrees
-
-pub root_within : (t : Tree) → Contains (subtrees t) t
-root_within (node op kids) = (0, omega arith, refl)
 
 row_within : (trees : List Tree) (ids : List Id) (k : ℕ) (d : Id) (t : Tree) → k < length ids → Contains (subtrees (tree trees (get_or ids k d))) t
     → Contains (subtrees_of (kid_trees trees ids)) t

@@ -34,7 +34,6 @@ pub mod SymbolForms
 pub mod PairsFound
 pub mod FormulasRead
 pub mod Begun
-pub mod LastKid
 pub mod SomeTrees
 pub mod KidsBefore
 pub mod StepLines

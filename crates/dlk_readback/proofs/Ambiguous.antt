@@ -1,7 +1,7 @@
 -- Which terms have a text that a formula says, too.
 use Rattle.std.proofs.Common.{◌≡◌, Bool, true, false, ◌&&◌, List, [], ◌∷◌, ◌++◌, refl, sym, ap, ◌∙◌}
 use Rattle.std.specs.List.{list_all}
-use Rattle.std.proofs.lemmas.Bool.{and_parts}
+use Rattle.std.proofs.lemmas.Bool.{and_parts, and_from}
 use Rattle.std.proofs.lemmas.List.Folds.{list_all-append}
 use Rattle.dlk_grammar.specs.declared.token.Infix.{Infix}
 use Rattle.dlk_grammar.specs.declared.token.Infix.TheVariants as sign
@@ -38,10 +38,6 @@ is_of_term _ = false
 
 abbrev are_of_term : List Lexeme → Bool
 are_of_term s = list_all is_of_term s
-
-both : (x y : Bool) → x ≡ true → y ≡ true → (x && y) ≡ true
-both true y h g = g
-both false y h g = absurd cc
 
 around : (s r : List Lexeme) (k : Lexeme) → are_of_term s ≡ true → is_of_term k ≡ true → are_of_term r ≡ true → are_of_term (s ++ k ∷ r) ≡ true
 around s r k h m g = rw (list_all-append is_of_term s (k ∷ r), h, m, g) refl

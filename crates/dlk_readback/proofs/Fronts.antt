@@ -2,7 +2,7 @@
 use Rattle.std.proofs.Common.{◌≡◌, ◌⊎◌, ℕ, zero, suc, ◌+◌, ◌<◌, ◌≤◌, ◌==◌, Bool, true, false, ◌&&◌, ◌||◌, not, nat_lt, List, [], ◌∷◌, ◌++◌, length, length-append, get_or, codes, refl, sym, ap, subst, ◌∙◌, append_assoc, arith, ltb-false, lit<, eq-eqb, inl, inr}
 use Rattle.std.specs.List.{list_all}
 use Rattle.std.specs.Str.{bytes_eq}
-use Rattle.std.proofs.lemmas.Bool.{and_parts}
+use Rattle.std.proofs.lemmas.Bool.{and_parts, or_parts}
 use Rattle.std.proofs.lemmas.Bool.Decides.{nat_tests, Decides-eqb}
 use Rattle.dlk_tree.specs.Names.{is_letter, is_name_byte, is_word}
 use Rattle.dlk_grammar.specs.declared.token.Mark.{Mark}
@@ -307,20 +307,16 @@ front-append : (l after : List ℕ) → is_front l (l ++ after) ≡ true
 front-append [] after = refl
 front-append (a ∷ l) after = rw ((Decides-eqb a a).1 refl, front-append l after) refl
 
-neither : (x y : Bool) → (x || y) ≡ false → (x ≡ false) × (y ≡ false)
-neither true y h = absurd cc
-neither false y h = (refl, h)
-
 no_longer : (ms : List Mark) (bytes after : List ℕ) (n i : ℕ) → clashes ms bytes n ≡ false → i < length ms → bytes ≡ spelling (get_or ms i mark.Forall) ++ after → length (spelling (get_or ms i mark.Forall)) ≤ n
 no_longer [] bytes after n i h lt e = absurd (omega arith)
 no_longer (m ∷ ms) bytes after n zero h lt e =
     let front : is_front (spelling m) bytes ≡ true = rw e (front-append (spelling m) after) in
-    ltb-false n (length (spelling m)) (first (nat_lt n (length (spelling m))) (is_front (spelling m) bytes) (neither _ (clashes ms bytes n) h).0 front)
+    ltb-false n (length (spelling m)) (first (nat_lt n (length (spelling m))) (is_front (spelling m) bytes) (or_parts _ (clashes ms bytes n) h).0 front)
   where
     first : (x y : Bool) → (x && y) ≡ false → y ≡ true → x ≡ false
     first true y h e = absurd cc
     first false y h e = refl
-no_longer (m ∷ ms) bytes after n (suc i) h lt e = no_longer ms bytes after n i (neither (nat_lt n (length (spelling m)) && is_front (spelling m) bytes) (clashes ms bytes n) h).1 (omega arith) e
+no_longer (m ∷ ms) bytes after n (suc i) h lt e = no_longer ms bytes after n i (or_parts (nat_lt n (length (spelling m)) && is_front (spelling m) bytes) (clashes ms bytes n) h).1 (omega arith) e
 
 mark_at : (m : Mark) (bytes after : List ℕ) (n : ℕ) → clashes all_marks bytes n ≡ false → bytes ≡ spelling m ++ after → length (spelling m) ≤ n
 mark_at m bytes after n h e =

@@ -1,6 +1,6 @@
 -- The tokens of shown text have no fault.
 use Rattle.std.proofs.Common.{◌≡◌, ℕ, zero, suc, ◌+◌, ◌≤◌, ◌==◌, max, Bool, true, false, cond, nat_lt, nat_le, ◌&&◌, ◌||◌, List, [], ◌∷◌, ◌++◌, length, replicate, flat_map, get_or, Option, Some, None, refl, sym, subst, ◌∙◌, arith, leb-true, le-ltb}
-use Rattle.std.proofs.lemmas.Bool.{and_parts}
+use Rattle.std.proofs.lemmas.Bool.{and_parts, or_parts}
 use Rattle.dlk_tree.specs.declared.op.OdeItem.{OdeItem}
 use Rattle.dlk_tree.specs.declared.op.OdeItem.TheVariants.{Evolve, Const}
 use Rattle.dlk_tree.specs.declared.op.Sort.{Sort}
@@ -25,10 +25,6 @@ is_bad d _ = false
 
 abbrev pub IsClean : Dots → Tree → Type 0
 IsClean d t = has (is_bad d) t ≡ false
-
-neither : (x y : Bool) → (x || y) ≡ false → (x ≡ false) × (y ≡ false)
-neither true y h = absurd cc
-neither false y h = (refl, h)
 
 nowhere : (x y : Bool) → x ≡ false → y ≡ false → (x || y) ≡ false
 nowhere true y h g = absurd cc
@@ -56,15 +52,15 @@ not_dot _ h g = refl
 mutual
   pub refused_clean : (t : Tree) → has_dots t ≡ false → has_hole t ≡ false → IsClean Refused t
   refused_clean (node o kids) h g =
-      let u = neither (is_some_dot o) (any_has is_some_dot kids) h in
-      let v = neither (is_hole o) (any_has is_hole kids) g in
+      let u = or_parts (is_some_dot o) (any_has is_some_dot kids) h in
+      let v = or_parts (is_hole o) (any_has is_hole kids) g in
       nowhere (is_bad Refused o) (any_has (is_bad Refused) kids) (not_dot o u.0 v.0) (refused_all kids u.1 v.1)
 
   refused_all : (kids : Forest) → any_has is_some_dot kids ≡ false → any_has is_hole kids ≡ false → any_has (is_bad Refused) kids ≡ false
   refused_all no_kids h g = refl
   refused_all (kid t rest) h g =
-      let u = neither (has is_some_dot t) (any_has is_some_dot rest) h in
-      let v = neither (has is_hole t) (any_has is_hole rest) g in
+      let u = or_parts (has is_some_dot t) (any_has is_some_dot rest) h in
+      let v = or_parts (has is_hole t) (any_has is_hole rest) g in
       nowhere (has (is_bad Refused) t) (any_has (is_bad Refused) rest) (refused_clean t u.0 v.0) (refused_all rest u.1 v.1)
 
 -- the level from which a tree of the sort with brackets of its own stands without others
@@ -242,7 +238,7 @@ node_even d o kids most n fits (modal h g k up none s u is) le all =
 mutual
   pub tree_even : (d : Dots) (n : ℕ) (t : Tree) → WellMade t → IsClean d t → n ≤ top (sort t) → Even d (depth t) (shown_at n t)
   tree_even d n (node o kids) w c le =
-      let v = neither (is_bad d o) (any_has (is_bad d) kids) c in
+      let v = or_parts (is_bad d o) (any_has (is_bad d) kids) c in
       let all = kids_even d o 0 kids (subst (λ (ss : List Sort). fit_levels o 0 ss ≡ true) (sym w.0.kids_fit) (all_fit o)) w.1 v.1 in
       let up : depth_all kids + 1 ≡ 1 + depth_all kids = omega arith in
       subst (λ (m : ℕ). Even d m (shown_at n (node o kids))) up (node_even d o kids (depth_all kids) n w.0 (tidy d o v.0) le all)
@@ -251,7 +247,7 @@ mutual
   kids_even d o i no_kids h w c = tt
   kids_even d o i (kid t rest) h w c =
       let u = and_parts (nat_le (least o i) (top (sort t))) (fit_levels o (i + 1) (sorts rest)) h in
-      let v = neither (has (is_bad d) t) (any_has (is_bad d) rest) c in (
+      let v = or_parts (has (is_bad d) t) (any_has (is_bad d) rest) c in (
         moves_more (shown_at (least o i) t) (omega arith) (tree_even d (least o i) t w.0 v.0 (leb-true (least o i) (top (sort t)) u.0)),
         each_more d (depth_all rest) (max (depth t) (depth_all rest)) (omega arith) (shown_kids o (i + 1) rest) (kids_even d o (i + 1) rest u.1 w.1 v.1),
       )

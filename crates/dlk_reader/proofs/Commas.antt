@@ -2,13 +2,12 @@
 use Rattle.std.proofs.Common.{◌≡◌, ◌≢◌, ℕ, Bool, true, false, cond, nat_lt, length, vec_len, List, [], ◌∷◌, Option, Some, None, Ok, refl, sym, ap, ◌∙◌}
 use Rattle.std.specs.Bool.{◌==◌}
 use Rattle.dlk_tree.specs.declared.op.Sort.{Sort}
-use Rattle.dlk_tree.specs.declared.op.Sort.TheVariants.{Term, Formula, Program}
 use Rattle.dlk_grammar.specs.Lexemes.{Comma}
-use Rattle.dlk_grammar.specs.Phrases.{Phrase}
 use Rattle.dlk_grammar.specs.declared.token.Infix.TheVariants.{Equiv, Imply, Or, And, Equal, NotEqual, AtLeast, Greater, AtMost, Less, Add, Sub, Mul, Div, Pow, Choice}
-use Rattle.dlk_machine.specs.Machine.{◌>>=◌, Between, By, Next, Part, Left, Before, Inside, Piece, Is, Symbol, operand_sort, result_sort, prefix_sort, program_sort, is_program, as_sort, wanted, join, reduce, whole, State, Has, close_top, closing, step, ended}
+use Rattle.dlk_machine.specs.Machine.{◌>>=◌, Between, By, Next, Part, Left, Before, Inside, Piece, operand_sort, result_sort, prefix_sort, program_sort, is_program, as_sort, wanted, join, reduce, whole, State, Has, close_top, closing, step, ended}
 use Rattle.dlk_machine.specs.Parse.{or_else}
 use Rattle.dlk_machine.specs.Expressions.{term_or_formula}
+use Rattle.dlk_machine.proofs.Closing.{piece_kind}
 use Rattle.dlk_reader.specs.declared.ends.Comma.TheVariants as comma
 use Rattle.dlk_reader.specs.declared.parts.Last.{Last}
 use Rattle.dlk_reader.specs.declared.parts.Mode.{Mode}
@@ -53,20 +52,6 @@ between_kind (By Div) = refl
 between_kind (By Pow) = refl
 between_kind (By Choice) = refl
 between_kind Next = refl
-
-piece_kind : (r : Sort) (q : Piece) (t : Phrase) → as_sort r q ≡ Some t → is_program q ≡ program_sort r
-piece_kind Term (Is Term t l) u e = refl
-piece_kind Formula (Is Formula t l) u e = refl
-piece_kind Program (Is Program t l) u e = refl
-piece_kind Term (Symbol x n l) u e = refl
-piece_kind Formula (Symbol x n l) u e = refl
-piece_kind Program (Symbol x n l) u e = absurd cc
-piece_kind Term (Is Formula t l) u e = absurd cc
-piece_kind Term (Is Program t l) u e = absurd cc
-piece_kind Formula (Is Term t l) u e = absurd cc
-piece_kind Formula (Is Program t l) u e = absurd cc
-piece_kind Program (Is Term t l) u e = absurd cc
-piece_kind Program (Is Formula t l) u e = absurd cc
 
 some_from : {A B : Type 0} (o : Option A) (g : A → B) (y : B) → (o >>= λ a. Some (g a)) ≡ Some y → (a : A) × (o ≡ Some a) × (g a ≡ y)
 some_from (Some a) g y e = (a, refl, cc)

@@ -3,7 +3,7 @@ pub mod KeptPairs
 mod Dots
 mod Formulas
 mod SameSides
-mod Last
+pub mod Last
 mod Chosen
 mod Pairs
 mod SymbolKeys

@@ -1,6 +1,5 @@
 -- A set that has its symbols in order has a symbol by the test on symbols.
-use Rattle.std.proofs.Common.{◌≡◌, ◌∙◌, ◌||◌, List, [], ◌∷◌, Bool, true, false, cond, refl, sym, subst}
-use Rattle.std.specs.Bool.{Decides}
+use Rattle.std.proofs.Common.{◌≡◌, ◌∙◌, ◌||◌, List, [], ◌∷◌, true, cond, refl, sym, subst}
 use Rattle.std.specs.List.{list_any}
 use Rattle.std.specs.Ordering.{eq_by_cmp}
 use Rattle.std.specs.declared.cmp.Ordering.{Ordering}
@@ -9,13 +8,7 @@ use Rattle.dlk_tree.specs.declared.op.Sym.{Sym}
 use Rattle.dlk_tree.specs.contracts.op.SymOrd.TheImpl as SymOrd
 use Rattle.dlk_tree.specs.contracts.op.SymOrd.TheImpl.Laws.{matches_eq-law}
 use Rattle.dlk_tree.proofs.Same.{sym_eq_decides, sym_derived_decides}
-use Rattle.dlk_tree.proofs.Listing.{sym_inserted, sym_cmp_derived}
-
-one_answer : {A : Type 0} (a b : Bool) → Decides a A → Decides b A → a ≡ b
-one_answer true true p q = refl
-one_answer true false p q = sym (q.1 (p.0 refl))
-one_answer false true p q = p.1 (q.0 refl)
-one_answer false false p q = refl
+use Rattle.dlk_tree.proofs.Listing.{sym_inserted, sym_cmp_derived, one_answer}
 
 ties : (s t : Sym) → eq_by_cmp SymOrd.ghosts.cmp s t ≡ sym_eq s t
 ties s t = sym (one_answer _ _ (sym_eq_decides s t) (sym_derived_decides s t) ∙ matches_eq-law s t)

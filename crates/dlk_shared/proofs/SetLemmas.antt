@@ -1,15 +1,15 @@
 -- What sets stand for while their table grows, and what is made of them.
-use Rattle.std.proofs.Common.{◌≡◌, ◌↔◌, IsTrue, not, true≢false, take, get_or, Option, None, ◌+◌, ℕ, suc, ◌<◌, ◌≤◌, Bool, true, false, cond, ◌||◌, ◌&&◌, List, [], ◌∷◌, ◌++◌, length, Some, Result, Ok, Err, IfOk, refl, sym, ap, subst, ◌∙◌, arith, length-append}
+use Rattle.std.proofs.Common.{◌≡◌, ◌↔◌, IsTrue, not, true≢false, take, get_or, Option, None, ◌+◌, ℕ, suc, ◌<◌, ◌≤◌, Bool, true, false, cond, ◌||◌, ◌&&◌, List, [], ◌∷◌, ◌++◌, length, Some, Result, Ok, Err, IfOk, refl, sym, ap, subst, ◌∙◌, arith, rules, length-append}
 use Rattle.std.proofs.lemmas.List.{append-nil, append_assoc, get_or_append_left, take_more}
 use Rattle.std.proofs.lemmas.List.Quantifiers.{position-Some}
-use Rattle.std.specs.Bool.{beq}
+use Rattle.std.specs.Bool.{beq, Decides}
 use Rattle.std.specs.Str.{bytes_eq}
 use Rattle.std.specs.List.{list_any}
 use Rattle.indexmap.specs.IndexSet.{insert_key}
 use Rattle.dlk_tree.specs.Tests.{var_eq}
 use Rattle.dlk_tree.specs.Statics.{none, just, plain, prime, with_prime, and_primes, either, without, Sets}
 use Rattle.dlk_tree.specs.declared.op.Var.{Var}
-use Rattle.dlk_vars.specs.Rows.{Row, has_number}
+use Rattle.dlk_vars.specs.Rows.{Row, row_eq, has_number}
 use Rattle.std.specs.Option.{option_map_or}
 use Rattle.std.proofs.lemmas.List.Folds.{list_any-append}
 use Rattle.dlk_vars.specs.Tables.{number_of, Grows}
@@ -182,11 +182,11 @@ mean_sets_is m =
 
 -- ---- an empty set
 
-and_true : (b : Bool) → (b && true) ≡ b
+pub and_true : (b : Bool) → (b && true) ≡ b
 and_true true = refl
 and_true false = refl
 
-or_false : (b : Bool) → (b || false) ≡ b
+pub or_false : (b : Bool) → (b || false) ≡ b
 or_false true = refl
 or_false false = refl
 
@@ -218,3 +218,7 @@ without_none empty = record { means = λ s r m k. means_same (λ v. sym (ap (λ 
 
 pub any_more : {A : Type 0} (p : A → Bool) (xs : List A) (k : ℕ) (d : A) → k < length xs → list_any p (take (k + 1) xs) ≡ (list_any p (take k xs) || p (get_or xs k d))
 any_more p xs k d lt = ap (list_any p) (take_more xs k d lt) ∙ list_any-append p (take k xs) (get_or xs k d ∷ []) ∙ ap (λ b. list_any p (take k xs) || b) (or_false (p (get_or xs k d)))
+
+-- rows are told apart
+pub row_decides : (a b : Row) → Decides (row_eq a b) (a ≡ b)
+row_decides a b = search rules

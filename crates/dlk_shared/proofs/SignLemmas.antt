@@ -15,18 +15,11 @@ use Rattle.dlk_tree.specs.declared.op.Sym.{Sym}
 use Rattle.dlk_vars.specs.Rows.{Row, has_number}
 use Rattle.dlk_shared.specs.SetTables.{row_at}
 use Rattle.dlk_shared.specs.Signs.{SignTable, stands, sign_at, IsSign, Signs, KeepsSigns}
+use Rattle.dlk_shared.proofs.SetLemmas.{or_false, and_true}
 
 and_false : (b : Bool) → (b && false) ≡ false
 and_false true = refl
 and_false false = refl
-
-and_true : (b : Bool) → (b && true) ≡ b
-and_true true = refl
-and_true false = refl
-
-pub or_false : (b : Bool) → (b || false) ≡ b
-or_false true = refl
-or_false false = refl
 
 -- ---- symbols at the numbers that pass
 

@@ -11,10 +11,7 @@ use Rattle.dlk_tree.specs.declared.op.Sym.{Sym}
 use Rattle.dlk_shared.specs.Signs.{stands}
 use Rattle.dlk_shared.specs.Unique.{place_one}
 use Rattle.dlk_shared.proofs.SignLemmas.{stands_append}
-
-or_false : (b : Bool) → (b || false) ≡ b
-or_false true = refl
-or_false false = refl
+use Rattle.dlk_shared.proofs.SetLemmas.{or_false}
 
 differs : (s y : Sym) → (y ≡ s → ⊥) → sym_eq s y ≡ false
 differs s y h = by (sym_eq s y) refl

@@ -12,6 +12,7 @@ use Rattle.std.proofs.lemmas.List.{append-nil}
 use Rattle.std.proofs.lemmas.List.Elements.{All-append, All-map}
 use Rattle.std.proofs.lemmas.List.Kept.{IsStrictlySortedBy-filter}
 use Rattle.std.proofs.lemmas.Slice.Eq.{bytes_eq-Decides}
+use Rattle.std.proofs.lemmas.Bool.{or_right}
 use Rattle.dlk_tree.specs.Names.{is_name}
 use Rattle.dlk_tree.specs.Listed.{var_cmp}
 use Rattle.dlk_tree.specs.Statics.{free}
@@ -21,16 +22,12 @@ use Rattle.dlk_tree.specs.declared.op.Var.{Var}
 use Rattle.dlk_tree.specs.declared.op.Sort.{Sort}
 use Rattle.dlk_tree.specs.declared.op.Op.{Op}
 use Rattle.dlk_tree.specs.declared.op.Op.TheVariants as op
-use Rattle.dlk_tree.proofs.Same.{var_eq_decides}
-use Rattle.dlk_tree.proofs.Listing.{var_total, var_ties}
+use Rattle.dlk_tree.proofs.Listing.{var_total, var_exact}
 use Rattle.dlk_calculus.specs.Sequents.{Sequent, IsFormula, IsSequent}
 use Rattle.dlk_smt.specs.Smt.{Expr, uses, variable_symbol, function_symbol, base_symbol, expression, denied, own_variables, own_functions, everywhere, everywhere_in, in_formulas, in_some_formula, put_all, free_variables, functions, declared, asserted}
 use Rattle.dlk_smt.proofs.Members.{Has, Has-left, Has-right, Has-either, Has-map, Has-of-map, Has-filter, Has-at, Has-put, any_Has, Each-append, Each-filter, Each-put, sorted-put, absent, present, distinct_texts}
 use Rattle.dlk_smt.proofs.Unlike.{one_variable, one_function, variable_no_function, base_no_variable, base_no_function}
 use Rattle.dlk_smt.proofs.Used.{Names, used, denied_uses}
-
-var_exact : (v w : Var) → var_cmp v w ≡ Equal → v ≡ w
-var_exact v w e = (var_eq_decides v w).0 (var_ties v w ∙ ap is_eq e)
 
 name_exact : (x y : List ℕ) → slice_cmp nat_cmp x y ≡ Equal → x ≡ y
 name_exact x y e = (bytes_eq-Decides x y).0 (texts_ties x y ∙ ap is_eq e)
@@ -39,10 +36,6 @@ in_side : {A : Type 0} (own : Op → List A) (a : A) (t : Tree) (ts : List Tree)
 in_side own a t [] h there = absurd h
 in_side own a t (u ∷ ts) (inl e) there = Has-left a (everywhere own u) (everywhere_in own (forest ts)) (subst (λ z. Has a (everywhere own z)) e there)
 in_side own a t (u ∷ ts) (inr h) there = Has-right a (everywhere own u) (everywhere_in own (forest ts)) (in_side own a t ts h there)
-
-or_right : (a b : Bool) → b ≡ true → (a || b) ≡ true
-or_right true b e = refl
-or_right false b e = e
 
 module _ (s : Sequent) where
   in_formula : {A : Type 0} (own : Op → List A) (a : A) (t : Tree) → Has t s.ante ⊎ Has t s.succ → Has a (everywhere own t) → Has a (in_formulas own s)

@@ -16,6 +16,7 @@ use Rattle.dlk_tree.specs.declared.op.Op.{Op}
 use Rattle.dlk_tree.specs.declared.op.Op.TheVariants as op
 use Rattle.dlk_calculus.specs.Sequents.{Sequent}
 use Rattle.dlk_grammar.specs.Shown.{literal}
+pub use Rattle.dlk_print.specs.Lines.{line}
 
 -- ---- expressions
 
@@ -218,9 +219,6 @@ declared s = map variable_symbol (free_variables s) ++ map function_symbol (func
 -- the expressions that it asserts: each formula on the left, and that each on the right is false
 abbrev pub asserted : Sequent → List Expr
 asserted s = map expression s.ante ++ map denied s.succ
-
-abbrev pub line : List ℕ → List ℕ
-line text = text ++ 10 ∷ []
 
 abbrev pub declaration : List ℕ → List ℕ
 declaration s = line (codes "(declare-const " ++ (s ++ codes " Real)"))

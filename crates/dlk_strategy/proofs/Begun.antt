@@ -15,13 +15,14 @@ use Rattle.dlk_sequent.specs.Sequents.{IsKnown}
 use Rattle.dlk_rules.specs.declared.step.Step.{Step}
 use Rattle.dlk_rules.specs.declared.step.Step.TheVariants as step
 use Rattle.dlk_rules.specs.Steps.{step_at, HasKnownIds}
-use Rattle.dlk_kernel.specs.Kernel.{State, facts, provable_at}
+use Rattle.dlk_kernel.specs.Kernel.{State, facts}
+use Rattle.dlk_kernel.proofs.Starting.{none_against, no_facts}
 use Rattle.dlk_tacsyn.specs.Tactics.{Tactic}
 use Rattle.dlk_strategy.specs.declared.fault.RunFault.{RunFault}
 use Rattle.dlk_strategy.specs.declared.fault.RunFault.TheVariants as fault
 use Rattle.dlk_strategy.specs.Runs.{Progress, Outcome, Done, Fails, Budget, Runs, RunsPlain}
 use Rattle.dlk_strategy.specs.Ties.{Becomes, IsRunFaultOf}
-use Rattle.dlk_strategy.proofs.Starting.{none_against, starts, one_row}
+use Rattle.dlk_strategy.proofs.Starting.{starts, one_row}
 
 -- what a formula may be on which a strategy runs
 pub record IsModel (formula : Tree) : Type 0 where
@@ -31,9 +32,6 @@ pub record IsModel (formula : Tree) : Type 0 where
 
 abbrev pub alone : Id → Sequent
 alone model = record { ante = []; succ = model ∷ [] }
-
-no_facts : {S : Type 0} (trees : S → List Tree) (k : State S) → k.rows ≡ [] → facts trees k ≡ []
-no_facts trees k none = ap (map (provable_at (trees k.store))) none
 
 -- the kernel takes the step
 pub not_refused : {S : Type 0} (trees : S → List Tree) (k : State S) (s : Sequent) (model : Id) (why : Reason) → k.rows ≡ [] → s ≡ alone model → IsModel (tree (trees k.store) model) →

@@ -19,7 +19,7 @@ use Rattle.dlk_strategy.specs.declared.strategy.Done.{Done as Made}
 use Rattle.dlk_strategy.specs.Runs.{Progress, Outcome, Done, Fails, Budget, most_runs, main_goals, done, steps, OneByOne, plans, RunsPlain, RunsModel}
 use Rattle.dlk_strategy.specs.Differentiated.{derive_at, IsDifferentiated, Differentiates}
 use Rattle.dlk_strategy.specs.Ties.{IsRunFaultOf}
-use Rattle.dlk_strategy.proofs.MainGoals.{last_goals}
+use Rattle.dlk_elab.proofs.MainGoals.{last_goals}
 
 one_main : (rows : List Provable) → HasOneGoal rows → length (main_goals rows) ≡ 1
 one_main rows h = ap length (last_goals rows h.row h.is_last) ∙ h.one

@@ -19,8 +19,8 @@ use Rattle.dlk_elab.specs.declared.fault.FailWhy.{FailWhy}
 use Rattle.dlk_elab.specs.Atoms.{AtomSteps, AtomFault, HasGoalAt}
 use Rattle.dlk_elab.proofs.Replaced.{replaced}
 use Rattle.dlk_elab.proofs.Decided.{item}
+use Rattle.dlk_elab.proofs.MainGoals.{last_goals, some_last}
 use Rattle.dlk_strategy.specs.Runs.{Progress, Done, Fails, Once, steps, fault, most_runs, main_goals}
-use Rattle.dlk_strategy.proofs.MainGoals.{last_goals, some_last}
 
 module _ (old new : List Tree) (keeps : Keeps old new) where
   pub steps_same : (xs : List Step) → All (HasKnownIds old) xs → map (step_at new) xs ≡ map (step_at old) xs

@@ -9,7 +9,7 @@ use Rattle.dlk_tacsyn.specs.Tactics as the
 use Rattle.dlk_tacsyn.specs.Tactics.{Tactics, no_parts, part, count, EachAtomOf}
 use Rattle.dlk_tacsyn.specs.Rows.{IsRun, AreRun}
 use Rattle.dlk_tacsyn.specs.Ties.{tactic_at, tactics_at, TacticIsKnown, TacticsAreKnown}
-use Rattle.dlk_library.proofs.Walking.{row_in}
+use Rattle.dlk_tacsyn.proofs.Kept.{row_in}
 use Rattle.dlk_strategy.specs.Ties.{IsRunnable, tactics_of}
 use Rattle.dlk_strategy.proofs.Trying.{atom_same, atom_known}
 

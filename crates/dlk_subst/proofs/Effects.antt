@@ -1,9 +1,10 @@
 -- What a substitution does at an operator, by its effect.
-use Rattle.std.proofs.Common.{◌≡◌, refl, sym, ap, subst, ◌∙◌, ℕ, ◌<◌, ◌≤◌, List, length, replicate, Bool, true, false, ◌&&◌, Option, Some, None, arith}
+use Rattle.std.proofs.Common.{◌≡◌, refl, sym, ap, subst, ◌∙◌, ℕ, ◌<◌, ◌≤◌, List, length, replicate, Bool, true, false, Option, Some, None, arith}
 use Rattle.std.proofs.Common.{Result, Ok, Err}
 use Rattle.std.specs.Prelude.{IsTrue, IfOk}
 use Rattle.std.proofs.lemmas.Bool.Decides.{nat_tests}
 use Rattle.std.proofs.lemmas.List.{length-replicate}
+use Rattle.std.proofs.lemmas.Bool.{and_parts}
 use Rattle.dlk_tree.specs.declared.op.Sym.{Sym}
 use Rattle.dlk_tree.specs.declared.op.Kind.{Kind}
 use Rattle.dlk_tree.specs.declared.op.Kind.TheVariants.{Func, UnitFunc, Pred, UnitPred, Quant, Prog, Ode}
@@ -163,14 +164,10 @@ few_arguments Quant n e = grind (arith, nat_tests)
 few_arguments Prog n e = grind (arith, nat_tests)
 few_arguments Ode n e = grind (arith, nat_tests)
 
-both_true : (a b : Bool) → a && b ≡ true → (a ≡ true) × (b ≡ true)
-both_true true b e = (refl, e)
-both_true false b e = cc
-
 symbol_few : (k : Kind) (s : Sym) → IsTrue (is_sym_of k s) → s.arity ≤ 8
 symbol_few k s e =
-    let parts = both_true _ _ (both_true _ _ (both_true _ _ e).1).0 in
-    few_arguments s.kind s.arity (both_true _ _ parts.0).1
+    let parts = and_parts _ _ (and_parts _ _ (and_parts _ _ e).1).0 in
+    few_arguments s.kind s.arity (and_parts _ _ parts.0).1
 
 -- few terms
 abbrev AreArguments : List Tree → List Id → Type 0

@@ -30,7 +30,7 @@ pub ok_map : {A E : Type 0} (P Q : A → Type 0) → ((a : A) → P a → Q a) �
 ok_map P Q h (Ok a) p = h a p
 ok_map P Q h (Err e) p = tt
 
-abbrev row_in : Tactic → (n : Count) × Row_of-Tactic n
+abbrev pub row_in : Tactic → (n : Count) × Row_of-Tactic n
 row_in (Choice' _ row) = (_, row)
 row_in (Seq' _ row) = (_, row)
 row_in (Branch' at _ row) = (_, row)

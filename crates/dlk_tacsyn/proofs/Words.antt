@@ -20,10 +20,6 @@ use Rattle.dlk_tacsyn.specs.declared.kind.Kind.TheVariants.{FixedPlace, AnyPlace
 use Rattle.dlk_tacsyn.specs.Rows.{Row, wants, is_bare, is_use, is_at_place, is_with_formula, kinds_of, Doer, Elaborator, Library, Run, Entry, entry}
 use Rattle.dlk_tacsyn.specs.Rows.{rule_entry, entry_of, row_if, row_by, row_found, row_of, library_row_of, derive_row_of, text_row_of}
 
-word_named : (w : RuleWord) → named (text_of w) ≡ Some w
-word_named word.Close = refl
-word_named _ = refl
-
 -- some rule has the word
 some_rule : Template → Rule
 some_rule (WantsPlace make) = make 0

@@ -41,7 +41,7 @@ longer_is_none x (y ∷ ys) h = or_from _ _ (go (bytes_eq x y) (bytes_eq-Decides
     go true d = let e = ap length (d.0 refl) in absurd (omega arith)
     go false d = refl
 
-letters : (n : ℕ) → list_all is_name_byte (replicate n 97) ≡ true
+pub letters : (n : ℕ) → list_all is_name_byte (replicate n 97) ≡ true
 letters zero = refl
 letters (suc n) = letters n
 

@@ -8,7 +8,7 @@ use Rattle.dlk_calculus.specs.Rules.{CutL, CutR, CoHideR, EquivifyR, CommuteEqui
 use Rattle.dlk_calculus.specs.Steps.{Step, Apply, Merge, IsGoal}
 use Rattle.dlk_sequent.specs.declared.sequent.Place.{Place}
 use Rattle.dlk_sequent.specs.declared.sequent.Place.TheVariants.{Ante, Succ}
-use Rattle.dlk_uses.specs.Uses.{Direction, Forwards, Backwards, formula_at, Spot, exchange, by_implication, by_fact}
+use Rattle.dlk_uses.specs.Uses.{Direction, Forwards, Backwards, formula_at, Spot, exchange, by_implication, by_fact, new_side}
 use Rattle.dlk_calculus.proofs.PlaceLaws.{At-between}
 use Rattle.dlk_uses.proofs.Places.{put_there}
 use Rattle.dlk_uses.proofs.Fitting.{Fit, Added, no_steps, merge_fits, premise_fits, premises_fit}
@@ -107,10 +107,6 @@ commuted_fits rows m k goal by a b counted g q e =
 abbrev pub old_side : Direction → Tree → Tree → Tree
 old_side Forwards l r = l
 old_side Backwards l r = r
-
-abbrev pub new_side : Direction → Tree → Tree → Tree
-new_side Forwards l r = r
-new_side Backwards l r = l
 
 pub exchange_fits : (rows : List Provable) (now by : ℕ) (spot : Spot) (place : Place) (direction : Direction) (l r : Tree) → now ≡ length rows →
     IsGoal rows spot.fact spot.goal spot.s → formula_at spot.s place ≡ Some (old_side direction l r) → Proves rows by (equiv l r) →

@@ -26,6 +26,11 @@ pub data Direction : Type 0 where
   Forwards : Direction
   Backwards : Direction
 
+-- of l and r, that which comes to stand there
+abbrev pub new_side : Direction → Tree → Tree → Tree
+new_side Forwards l r = r
+new_side Backwards l r = l
+
 -- what an atom that uses an axiom says: the axiom, which side of it is looked for, where, and what is given beside its name
 pub record Use : Type 0 where
   pub its_axiom : Axiom

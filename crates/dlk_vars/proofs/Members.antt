@@ -1,16 +1,16 @@
 -- What numbers say of variables.
-use Rattle.std.proofs.Common.{◌≡◌, ℕ, suc, zero, ◌<◌, ◌≤◌, ◌==◌, Bool, true, false, ◌||◌, ◌&&◌, not, List, [], ◌∷◌, ◌++◌, length, replicate, Option, None, Some, slice_get, refl, sym, ap, ◌∙◌, true≢false, inl, inr, ◌⊎◌, arith, eqb-true, length-append, get_or}
+use Rattle.std.proofs.Common.{◌≡◌, ℕ, ◌<◌, ◌≤◌, ◌==◌, Bool, true, false, ◌||◌, ◌&&◌, not, List, [], ◌∷◌, ◌++◌, length, Option, None, Some, slice_get, refl, sym, ap, ◌∙◌, true≢false, inl, inr, ◌⊎◌, arith, eqb-true, length-append, get_or}
 use Rattle.std.specs.Prelude.{IsTrue, ◌↔◌}
 use Rattle.std.specs.Option.{option_map_or}
-use Rattle.std.specs.List.{list_all}
 use Rattle.std.proofs.lemmas.Bool.{cases_lt, eq-eqb, ne_eqb}
 use Rattle.std.proofs.lemmas.Option.{none-some, same_Some, slice_get-get_or}
-use Rattle.dlk_tree.specs.Names.{is_name, is_name_byte}
+use Rattle.dlk_tree.specs.Names.{is_name}
 use Rattle.dlk_tree.specs.Statics.{just, either, both, without}
 use Rattle.dlk_tree.specs.Tests.{var_eq}
 use Rattle.dlk_tree.specs.Listed.{IsInhabited}
 use Rattle.dlk_tree.specs.declared.op.Var.{Var}
 use Rattle.dlk_tree.proofs.Fresh.{fresh, fresh_not_among, longest}
+use Rattle.dlk_tree.proofs.SomeVar.{letters}
 use Rattle.dlk_vars.specs.Rows.{Row, has_number, ByNumber}
 use Rattle.dlk_vars.specs.Tables.{number_of, IsTable, Grows}
 use Rattle.dlk_vars.specs.Sets.{has, IsWithin, StandsFor, Gains, Picks, IsNonempty, AreMeeting}
@@ -93,10 +93,6 @@ with_gains s r n numbers flag = record { members = members; within = within }
         numbers m ∙ (λ i. p m l i || ne_eqb m n (λ e. omega (arith, e, h, l)) i) ∙ or_false s.others ∙ sym flag
 
 -- ---- some variable
-
-letters : (n : ℕ) → list_all is_name_byte (replicate n 97) ≡ true
-letters zero = refl
-letters (suc n) = letters n
 
 -- a variable without a number in this table
 pub fresh_named : (table : List Var) → IsTrue (is_name (fresh table).name)

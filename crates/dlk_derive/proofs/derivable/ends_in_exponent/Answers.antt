@@ -1,7 +1,7 @@
 use Rattle.std.proofs.Common.{◌∙◌, sym, ap}
 use Rattle.dlk_derive.specs.Decided.{is_exponent}
-use Rattle.dlk_derive.proofs.Kids.{last_kid}
 use Rattle.dlk_derive.proofs.derivable.ends_in_exponent.Goals as goal
+use Rattle.dlk_sequent.proofs.Last.{last_kid}
 
 pub returns : goal.returns
 returns g c =

@@ -1,6 +1,7 @@
 use Rattle.std.proofs.Common.{sym}
-use Rattle.dlk_guard.proofs.LastKids.{first_kid, last_kid}
+use Rattle.dlk_guard.proofs.LastKids.{first_kid}
 use Rattle.dlk_guard.proofs.parts.ends.Goals as goal
+use Rattle.dlk_sequent.proofs.Last.{last_kid}
 
 pub returns-clause-value : goal.returns-clause-value
 returns-clause-value c = λ trees. record {

@@ -4,9 +4,9 @@ use Rattle.dlk_tree.specs.declared.op.Op.{Op}
 use Rattle.dlk_tree.specs.declared.op.Op.TheVariants as Op'
 use Rattle.dlk_tree.specs.Trees.{node, Forest}
 use Rattle.dlk_store.specs.Stores.{kid_trees}
-use Rattle.dlk_guard.proofs.LastKids.{last_kid}
 use Rattle.dlk_guard.specs.Smooth.{is_whole}
 use Rattle.dlk_guard.proofs.smooth.ends_in_whole.Goals as goal
+use Rattle.dlk_sequent.proofs.Last.{last_kid}
 
 not_whole : (op : Op) (kids : Forest) → ((n : Num) → op ≡ Op'.Number n → ⊥) → is_whole (node op kids) ≡ false
 not_whole (Op'.Number n) kids h = absurd (h n refl)

@@ -2,8 +2,8 @@ use Rattle.std.proofs.Common.{◌∙◌, sym, ap}
 use Rattle.std.proofs.lemmas.Bool.{false_from_ne_true}
 use Rattle.dlk_tree.specs.Trees.{root}
 use Rattle.dlk_calculus.specs.Pairs.{is_true}
-use Rattle.dlk_nodes.proofs.LastKid.{last_kid, is_True}
 use Rattle.dlk_nodes.proofs.pairs.ends_in_true.Goals as goal
+use Rattle.dlk_sequent.proofs.Last.{is_True, last_kid}
 
 pub returns-in-True : goal.returns-in-True
 returns-in-True g c =

@@ -1,7 +1,8 @@
 use Rattle.std.proofs.Common.{ℕ, ◌+◌, ◌-◌, ◌*◌, refl, arith}
 use Rattle.std.proofs.lemmas.List.Sums.{fold_more}
-use Rattle.dlk_scripts.proofs.Digits.{digit_more, below_more, digit_at}
+use Rattle.dlk_scripts.proofs.Digits.{digit_more}
 use Rattle.dlk_scripts.proofs.bytes.number.Goals as goal
+use Rattle.dlk_grammar.proofs.Digits.{below_more, digit_at}
 
 pub overflow_mul-value : goal.overflow_mul-value
 overflow_mul-value c =

@@ -1,15 +1,10 @@
-use Rattle.std.proofs.Common.{◌≡◌, ◌∙◌, true, sym, refl, ap, arith}
+use Rattle.std.proofs.Common.{◌∙◌, sym, ap, arith}
 use Rattle.std.proofs.lemmas.Bool.{false_from_ne_true}
-use Rattle.dlk_tree.specs.declared.op.Op.{Op}
 use Rattle.dlk_tree.specs.declared.op.Op.TheVariants as Op'
 use Rattle.dlk_tree.specs.Trees.{root}
 use Rattle.dlk_calculus.specs.Pairs.{is_true}
-use Rattle.dlk_sequent.proofs.Last.{last_kid}
+use Rattle.dlk_sequent.proofs.Last.{last_kid, is_True}
 use Rattle.dlk_sequent.proofs.why.ends_in_true.Goals as goal
-
-is_True : (op : Op) → is_true op ≡ true → op ≡ Op'.True
-is_True Op'.True e = refl
-is_True _ e = cc
 
 pub returns-in-True-clause-value : goal.returns-in-True-clause-value
 returns-in-True-clause-value g c =

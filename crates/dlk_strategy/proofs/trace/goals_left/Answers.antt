@@ -10,8 +10,8 @@ use Rattle.dlk_sequent.specs.declared.sequent.Sequent.{Sequent}
 use Rattle.dlk_sequent.specs.Sequents.{sequent_at}
 use Rattle.dlk_kernel.specs.Kernel.{provable_at}
 use Rattle.dlk_strategy.specs.Runs.{main_goals}
-use Rattle.dlk_strategy.proofs.MainGoals.{last_goals, some_last, few_goals}
 use Rattle.dlk_strategy.proofs.trace.goals_left.Goals as goal
+use Rattle.dlk_elab.proofs.MainGoals.{last_goals, some_last, few_goals}
 
 -- the goals that are shown are those of the last row
 count : (rows : List Provable) (shown : List Sequent) (f : Sequent → TreeSequent) (fact : ℕ) → fact ≡ length rows → 1 ≤ length rows →

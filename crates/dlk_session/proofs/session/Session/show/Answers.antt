@@ -4,8 +4,8 @@ use Rattle.dlk_calculus.specs.Places.{At}
 use Rattle.dlk_kernel.specs.Kernel.{facts, provable_at}
 use Rattle.dlk_report.specs.Reports.{report_of, text_report}
 use Rattle.dlk_session.proofs.Holding.{some_rows}
-use Rattle.dlk_session.proofs.MainGoals.{some_last}
 use Rattle.dlk_session.proofs.session.Session.show.Goals as goal
+use Rattle.dlk_elab.proofs.MainGoals.{some_last}
 
 pub returns : goal.returns
 returns g c =

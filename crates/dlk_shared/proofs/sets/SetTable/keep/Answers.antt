@@ -1,13 +1,9 @@
-use Rattle.std.proofs.Common.{◌≡◌, ◌<◌, length, sym, ap, ◌∙◌, rules, arith, false, []}
-use Rattle.std.specs.Bool.{Decides}
+use Rattle.std.proofs.Common.{◌≡◌, ◌<◌, length, sym, ap, ◌∙◌, arith, false, []}
 use Rattle.std.proofs.lemmas.Option.{slice_get_within, get_or_from_slice_get}
-use Rattle.dlk_vars.specs.Rows.{Row, row_eq}
+use Rattle.dlk_vars.specs.Rows.{row_eq}
 use Rattle.dlk_shared.specs.SetTables.{SetTable, row_at}
-use Rattle.dlk_shared.proofs.SetLemmas.{mapped, inserted_keeps}
+use Rattle.dlk_shared.proofs.SetLemmas.{mapped, inserted_keeps, row_decides}
 use Rattle.dlk_shared.proofs.sets.SetTable.keep.Goals as goal
-
-row_decides : (a b : Row) → Decides (row_eq a b) (a ≡ b)
-row_decides a b = search rules
 
 pub returns-clause-known : goal.returns-clause-known
 returns-clause-known c =

@@ -3,8 +3,9 @@ use Rattle.dlk_tree.specs.declared.op.Sym.{Sym}
 use Rattle.dlk_vars.specs.Rows.{has_number}
 use Rattle.dlk_shared.specs.SetTables.{row_at}
 use Rattle.dlk_shared.specs.Signs.{sign_at}
-use Rattle.dlk_shared.proofs.SignLemmas.{row_signs, stands_or, or_false}
+use Rattle.dlk_shared.proofs.SignLemmas.{row_signs, stands_or}
 use Rattle.dlk_shared.proofs.signs.SignTable.either.Goals as goal
+use Rattle.dlk_shared.proofs.SetLemmas.{or_false}
 
 itself : (b : Bool) → (b || b) ≡ b
 itself true = refl

@@ -1,13 +1,8 @@
-use Rattle.std.proofs.Common.{◌≡◌, ◌<◌, length, sym, ap, ◌∙◌, rules, arith, false, []}
-use Rattle.std.specs.Bool.{Decides}
+use Rattle.std.proofs.Common.{◌≡◌, ◌<◌, length, sym, ap, ◌∙◌, arith, false, []}
 use Rattle.std.proofs.lemmas.Option.{slice_get_within, get_or_from_slice_get}
-use Rattle.dlk_vars.specs.Rows.{Row, row_eq}
 use Rattle.dlk_shared.specs.SetTables.{row_at}
-use Rattle.dlk_shared.proofs.SetLemmas.{mapped}
+use Rattle.dlk_shared.proofs.SetLemmas.{mapped, row_decides}
 use Rattle.dlk_shared.proofs.signs.SignTable.keep.Goals as goal
-
-row_decides : (a b : Row) → Decides (row_eq a b) (a ≡ b)
-row_decides a b = search rules
 
 pub returns-clause-known : goal.returns-clause-known
 returns-clause-known c =

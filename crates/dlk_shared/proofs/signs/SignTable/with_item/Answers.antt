@@ -3,8 +3,8 @@ use Rattle.std.specs.List.{list_any}
 use Rattle.dlk_tree.specs.Occurs.{constants}
 use Rattle.dlk_tree.specs.Tests.{sym_eq}
 use Rattle.dlk_shared.specs.Signs.{Signs, sign_at}
-use Rattle.dlk_shared.proofs.SetLemmas.{mapped}
-use Rattle.dlk_shared.proofs.SignLemmas.{signs_same, or_false, turned}
+use Rattle.dlk_shared.proofs.SetLemmas.{mapped, or_false}
+use Rattle.dlk_shared.proofs.SignLemmas.{signs_same, turned}
 use Rattle.dlk_shared.proofs.signs.SignTable.with_item.Goals as goal
 
 pub returns-in-Evolve-clause-signs : goal.returns-in-Evolve-clause-signs

@@ -3,8 +3,8 @@ use Rattle.std.specs.List.{list_any}
 use Rattle.std.proofs.lemmas.List.{take_all}
 use Rattle.dlk_tree.specs.declared.op.Sym.{Sym}
 use Rattle.dlk_shared.specs.Signs.{sign_at, Signs}
-use Rattle.dlk_shared.proofs.SetLemmas.{any_more}
-use Rattle.dlk_shared.proofs.SignLemmas.{signs_same, sign_kept, sign_at_kept, keeps_refl, keeps_trans, or_false, grouped}
+use Rattle.dlk_shared.proofs.SetLemmas.{any_more, or_false}
+use Rattle.dlk_shared.proofs.SignLemmas.{signs_same, sign_kept, sign_at_kept, keeps_refl, keeps_trans, grouped}
 use Rattle.dlk_shared.proofs.signs.SignTable.with_kids.Goals as goal
 
 pub loop-kid-init : goal.loop-kid-init
