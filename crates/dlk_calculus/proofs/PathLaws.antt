@@ -246,7 +246,8 @@ clear_without args set kids none = record {
       absurd (both_ways (any_has (is_dot n) kids) not stands);
 }
 
-plug_at_stays : (args : List Tree) (op : Op) (old new : Forest) (t : Tree) → is_some_dot op ≡ false → Stays (IsClear args) op old new t → PlugAt args op old new t
+plug_at_stays : (args : List Tree) (op : Op) (old new : Forest) (t : Tree) → is_some_dot op ≡ false → Stays (IsClear args) op old new t →
+    PlugAt args op old new t
 plug_at_stays args (Op'.Dot n) old new t none p = absurd (cc none)
 plug_at_stays args _ old new t none p = p
 

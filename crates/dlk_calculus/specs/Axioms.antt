@@ -5,7 +5,10 @@ use Rattle.dlk_tree.specs.Trees.{Tree}
 use Rattle.dlk_calculus.specs.declared.form.AxiomForm.{AxiomForm}
 use Rattle.dlk_calculus.specs.declared.form.AxiomForm.TheVariants.{E, Q, C, R, I, F}
 use Rattle.dlk_calculus.specs.Rules.{imply, equiv}
-use Rattle.dlk_calculus.specs.Notation.{x_, y_, t_, s_, x, y, t, s, x', number, eq, ne, ge, gt, le, lt, add, sub, mul, div, pow, neg, diff, diff_formula, negation, conj, disj, forall, exists, box, dia, assign, assign_primed, assign_any, test, choice, seq, loop, system, evolve, c_item, d_item, c_item_but_y, a, b, p, q, r, p0, p_of, q_of, p_but_y, q_but_y, f, g, f0, g0, c0, a_but_y, b_but_y, h_of, c_of}
+use Rattle.dlk_calculus.specs.Notation.{x_, y_, t_, s_, x, y, t, s, x', number, eq, ne, ge, gt, le, lt, add, sub, mul, div, pow, neg, diff}
+use Rattle.dlk_calculus.specs.Notation.{diff_formula, negation, conj, disj, forall, exists, box, dia, assign, assign_primed, assign_any, test, choice}
+use Rattle.dlk_calculus.specs.Notation.{seq, loop, system, evolve, c_item, d_item, c_item_but_y, a, b, p, q, r, p0, p_of, q_of, p_but_y, q_but_y, f}
+use Rattle.dlk_calculus.specs.Notation.{g, f0, g0, c0, a_but_y, b_but_y, h_of, c_of}
 
 -- an axiom with its form, and those of its names that end in `_`, in order of their first place
 pub record Axiom : Type 0 where

@@ -1,5 +1,6 @@
 -- The pairs of a substitution, and when a list of them is well formed.
-use Rattle.std.specs.Prelude.{◌≡◌, ℕ, ◌-◌, ◌<◌, ◌⊎◌, List, [], ◌∷◌, take, Bool, true, false, ◌&&◌, ◌||◌, not, nat_le, ◌==◌, if◌then◌else◌, IsTrue, All, Option, Some, None, find, codes}
+use Rattle.std.specs.Prelude.{◌≡◌, ℕ, ◌-◌, ◌<◌, ◌⊎◌, List, [], ◌∷◌, take, Bool, true, false, ◌&&◌, ◌||◌, not, nat_le, ◌==◌, if◌then◌else◌, IsTrue}
+use Rattle.std.specs.Prelude.{All, Option, Some, None, find, codes}
 use Rattle.std.specs.List.{list_any}
 use Rattle.dlk_tree.specs.declared.op.Var.{Var}
 use Rattle.dlk_tree.specs.declared.op.Sym.{Sym}

@@ -1,7 +1,9 @@
 -- The order in which reasons are looked for, and their words.
 use Rattle.std.specs.Prelude.{ℕ, ◌<◌, List, codes}
 use Rattle.dlk_calculus.specs.declared.reason.Reason.{Reason}
-use Rattle.dlk_calculus.specs.declared.reason.Reason.TheVariants.{NoFact, NoGoal, UnknownName, NoPlace, WrongShape, NotEqual, NotFresh, NotArith, IllSubst, FreeInSubst, NotAdmissible, TooBig, TooDeep, SideFull, GoalsFull, LeavesFull, LinesFull}
+use Rattle.dlk_calculus.specs.declared.reason.Reason.TheVariants.{NoFact, NoGoal, UnknownName, NoPlace, WrongShape, NotEqual, NotFresh, NotArith}
+use Rattle.dlk_calculus.specs.declared.reason.Reason.TheVariants.{IllSubst, FreeInSubst, NotAdmissible, TooBig, TooDeep, SideFull, GoalsFull}
+use Rattle.dlk_calculus.specs.declared.reason.Reason.TheVariants.{LeavesFull, LinesFull}
 
 -- the place of a reason in the order of the checks
 abbrev pub rank : Reason → ℕ

@@ -10,7 +10,9 @@ use Rattle.dlk_tree.specs.Statics.{free, plain, prime}
 use Rattle.dlk_calculus.specs.Sequents.{◌==>◌}
 use Rattle.dlk_calculus.specs.Rename.{swap, may_rename, RenamesBound, in_box}
 use Rattle.dlk_calculus.specs.Notation.{leaf, negation, conj, disj, exists}
-use Rattle.dlk_calculus.specs.Rules.{Close, CloseTrue, CloseFalse, NotL, NotR, AndL, AndR, OrL, OrR, ImplyL, ImplyR, EquivL, EquivR, Cut, CutL, CutR, HideL, HideR, CoHideR, ExchangeL, ExchangeR, SkolemL, SkolemR, BoundL, BoundR, EquivifyR, CommuteEquivL, CommuteEquivR, imply, equiv, figure}
+use Rattle.dlk_calculus.specs.Rules.{Close, CloseTrue, CloseFalse, NotL, NotR, AndL, AndR, OrL, OrR, ImplyL, ImplyR, EquivL, EquivR, Cut, CutL, CutR}
+use Rattle.dlk_calculus.specs.Rules.{HideL, HideR, CoHideR, ExchangeL, ExchangeR, SkolemL, SkolemR, BoundL, BoundR, EquivifyR, CommuteEquivL}
+use Rattle.dlk_calculus.specs.Rules.{CommuteEquivR, imply, equiv, figure}
 
 abbrev one : Tree → Forest
 one t = kid t no_kids

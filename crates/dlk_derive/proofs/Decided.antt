@@ -11,7 +11,8 @@ use Rattle.dlk_calculus.specs.Notation.{leaf, number, neg, add, sub, mul, pow, e
 use Rattle.dlk_derive.specs.Derivative.{OfTerm, variable, of_number, constant, negative, sum, difference, product, power}
 use Rattle.dlk_derive.specs.Derivative.{OfFormula, equal, unequal, at_least, greater, at_most, less, both, either, all}
 use Rattle.dlk_derive.specs.Derivative.{IsDerivative, of_term, of_formula}
-use Rattle.dlk_derive.specs.Decided.{is_bare, has_all_kids, is_exponent, joins_terms, is_derivable, are_derivable, is_comparison, joins_formulas, is_derivable_formula, are_derivable_formulas, has_derivative}
+use Rattle.dlk_derive.specs.Decided.{is_bare, has_all_kids, is_exponent, joins_terms, is_derivable, are_derivable, is_comparison, joins_formulas}
+use Rattle.dlk_derive.specs.Decided.{is_derivable_formula, are_derivable_formulas, has_derivative}
 
 -- ---- kids of this number
 

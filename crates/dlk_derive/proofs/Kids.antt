@@ -12,7 +12,8 @@ use Rattle.dlk_store.specs.Kids.{sorts-kid_trees}
 use Rattle.dlk_store.proofs.Kids.{node_fits}
 use Rattle.dlk_derive.specs.Derivative.{IsDerivative}
 use Rattle.dlk_derive.proofs.Decided.{found, tested}
-use Rattle.dlk_derive.specs.Decided.{has_derivative, is_bare, has_all_kids, joins_terms, is_derivable, are_derivable, is_comparison, joins_formulas, is_derivable_formula, are_derivable_formulas}
+use Rattle.dlk_derive.specs.Decided.{has_derivative, is_bare, has_all_kids, joins_terms, is_derivable, are_derivable, is_comparison, joins_formulas}
+use Rattle.dlk_derive.specs.Decided.{is_derivable_formula, are_derivable_formulas}
 
 are_all : (op : Op) (kids : Forest) → sorts kids ≡ kid_sorts op → has_all_kids op kids ≡ true
 are_all (Op'.Apply s) kids h = refl

@@ -1,5 +1,6 @@
 -- Of a place and a path there is a plan or a reason, and only one of them.
-use Rattle.std.proofs.Common.{◌≡◌, ◌∙◌, refl, sym, ap, subst, ℕ, ◌<◌, suc, zero, List, [], ◌∷◌, length, get_or, Option, Some, None, Bool, true, false, ◌⊎◌, inl, inr, arith}
+use Rattle.std.proofs.Common.{◌≡◌, ◌∙◌, refl, sym, ap, subst, ℕ, ◌<◌, suc, zero, List, [], ◌∷◌, length, get_or, Option, Some, None, Bool, true, false}
+use Rattle.std.proofs.Common.{◌⊎◌, inl, inr, arith}
 use Rattle.std.specs.Prelude.{IsTrue}
 use Rattle.std.proofs.lemmas.Bool.{and_parts, false≢true}
 use Rattle.dlk_tree.specs.declared.op.Op.{Op}
@@ -12,7 +13,8 @@ use Rattle.dlk_calculus.specs.Notation.{diff, diff_formula}
 use Rattle.dlk_calculus.specs.Paths.{subtree}
 use Rattle.dlk_derive.specs.Derivative.{OfTerm, OfFormula, IsDerivative}
 use Rattle.dlk_derive.specs.Derivative as derivative
-use Rattle.dlk_derive.specs.Decided.{joins_terms, is_derivable, are_derivable, is_comparison, joins_formulas, is_derivable_formula, are_derivable_formulas, has_derivative, IsDerivable}
+use Rattle.dlk_derive.specs.Decided.{joins_terms, is_derivable, are_derivable, is_comparison, joins_formulas, is_derivable_formula}
+use Rattle.dlk_derive.specs.Decided.{are_derivable_formulas, has_derivative, IsDerivable}
 use Rattle.dlk_derive.specs.Derives.{DeriveWhy, NoPlace, WrongShape, NoMatch, IsDifferential, Plans, NoPlan, no_place, wrong_shape, no_match}
 use Rattle.dlk_derive.specs.Derives as derives
 use Rattle.dlk_derive.specs.Plans.{Call, axiom_for, plan_at}

@@ -5,7 +5,8 @@ use Rattle.dlk_tree.specs.declared.op.Op.TheVariants as Op'
 use Rattle.dlk_tree.specs.declared.op.Kind.TheVariants.{Func}
 use Rattle.dlk_tree.specs.Trees.{Tree}
 use Rattle.dlk_tree.specs.Statics.{plain, prime}
-use Rattle.dlk_calculus.specs.Notation.{leaf, number, neg, add, sub, mul, div, pow, diff, eq, ne, ge, gt, le, lt, negation, conj, disj, diff_formula, forall, exists}
+use Rattle.dlk_calculus.specs.Notation.{leaf, number, neg, add, sub, mul, div, pow, diff, eq, ne, ge, gt, le, lt, negation, conj, disj, diff_formula}
+use Rattle.dlk_calculus.specs.Notation.{forall, exists}
 use Rattle.dlk_derive.specs.Derivative.{IsDerivative, of_term, of_formula, variable, of_number, constant, negative, sum, difference, product, power}
 use Rattle.dlk_derive.specs.Derivative.{equal, unequal, at_least, greater, at_most, less, both, either, all}
 use Rattle.dlk_derive.specs.Decided.{has_derivative}

@@ -19,7 +19,8 @@ use Rattle.dlk_machine.specs.Forms.{machine_of}
 use Rattle.dlk_machine.specs.Sequents.{sequent_reader}
 use Rattle.dlk_machine.specs.Pairs.{pairs_reader}
 use Rattle.dlk_machine.specs.Extras.{extra_reader}
-use Rattle.dlk_machine.proofs.ParseLaws.{form_read_says, form_fault_stops, sequent_read_says, sequent_fault_stops, pairs_read_says, pairs_fault_stops, extra_read_says, extra_fault_stops}
+use Rattle.dlk_machine.proofs.ParseLaws.{form_read_says, form_fault_stops, sequent_read_says, sequent_fault_stops, pairs_read_says, pairs_fault_stops}
+use Rattle.dlk_machine.proofs.ParseLaws.{extra_read_says, extra_fault_stops}
 use Rattle.dlk_reader.specs.Codes.{postfix, postfix_all}
 use Rattle.dlk_reader.specs.declared.code.Code.{Code}
 use Rattle.dlk_reader.specs.declared.stop.Stop.{Stop}

@@ -1,5 +1,6 @@
 -- What is shown is ASCII, where the trees are well made.
-use Rattle.std.proofs.Common.{◌≡◌, ℕ, zero, suc, ◌+◌, ◌/◌, ◌%◌, ◌^◌, ◌<◌, Bool, true, false, cond, nat_lt, ◌&&◌, List, [], ◌∷◌, ◌++◌, get_or, length, Option, Some, None, refl, ◌∙◌, arith, lit<}
+use Rattle.std.proofs.Common.{◌≡◌, ℕ, zero, suc, ◌+◌, ◌/◌, ◌%◌, ◌^◌, ◌<◌, Bool, true, false, cond, nat_lt, ◌&&◌, List, [], ◌∷◌, ◌++◌, get_or, length}
+use Rattle.std.proofs.Common.{Option, Some, None, refl, ◌∙◌, arith, lit<}
 use Rattle.std.specs.Prelude.{All, IsAscii, IfSome, ◌==◌}
 use Rattle.std.specs.List.{list_all, join_by, flat_map}
 use Rattle.std.specs.Fmt.{decimal}
@@ -27,7 +28,9 @@ use Rattle.dlk_tree.specs.declared.op.Op.TheVariants as op
 use Rattle.dlk_calculus.specs.Sequents.{Sequent}
 use Rattle.dlk_grammar.specs.declared.token.Mark.TheVariants.{Prime, Gets, And, Comma, Turnstile, CloseRound, CloseBrace}
 use Rattle.dlk_grammar.specs.declared.token.TokenKind.TheVariants as token
-use Rattle.dlk_grammar.specs.Shown.{Piece, one, space, mark, last_digits, literal, token_text, spell, Style, variable, unit_brackets, ode_brackets, style, level, least, opening, between, closing, items_of, bracketed, item_text, terms_behind, item_texts, is_true, domain_text, inside, shown_at, shown_kids, shown, formulas, left_side, right_side, shown_sequent}
+use Rattle.dlk_grammar.specs.Shown.{Piece, one, space, mark, last_digits, literal, token_text, spell, Style, variable, unit_brackets, ode_brackets}
+use Rattle.dlk_grammar.specs.Shown.{style, level, least, opening, between, closing, items_of, bracketed, item_text, terms_behind, item_texts, is_true}
+use Rattle.dlk_grammar.specs.Shown.{domain_text, inside, shown_at, shown_kids, shown, formulas, left_side, right_side, shown_sequent}
 
 -- tests of ASCII: of a byte, of bytes, of a piece, of a text, and of texts
 abbrev is_low : ℕ → Bool

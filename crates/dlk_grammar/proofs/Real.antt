@@ -1,5 +1,6 @@
 -- The tokens of a split are those of a text: each is real, and the end is the last.
-use Rattle.std.proofs.Common.{◌≡◌, ◌≢◌, ℕ, ◌+◌, ◌-◌, ◌*◌, ◌%◌, ◌^◌, ◌<◌, ◌≤◌, Bool, true, false, nat_le, ◌==◌, ◌||◌, List, [], ◌∷◌, ◌++◌, length, refl, sym, ap, ◌∙◌, arith, lit<, append_assoc, length-append, if◌then◌else◌}
+use Rattle.std.proofs.Common.{◌≡◌, ◌≢◌, ℕ, ◌+◌, ◌-◌, ◌*◌, ◌%◌, ◌^◌, ◌<◌, ◌≤◌, Bool, true, false, nat_le, ◌==◌, ◌||◌, List, [], ◌∷◌, ◌++◌, length}
+use Rattle.std.proofs.Common.{refl, sym, ap, ◌∙◌, arith, lit<, append_assoc, length-append, if◌then◌else◌}
 use Rattle.std.specs.Prelude.{not}
 use Rattle.std.specs.List.{list_all, fold}
 use Rattle.std.proofs.Math.Nat.{pow-le-pow_right, pow-succ', mul-le-mul_right, mul_assoc}
@@ -11,7 +12,8 @@ use Rattle.dlk_tree.specs.Table.{is_num}
 use Rattle.dlk_grammar.specs.declared.token.Token.{Token}
 use Rattle.dlk_grammar.specs.declared.token.TokenKind.{TokenKind}
 use Rattle.dlk_grammar.specs.declared.token.TokenKind.TheVariants.{End}
-use Rattle.dlk_grammar.specs.Tokens.{is_digit, are_digits, value, before_digits, trimmed, literal_number, Spells, word, true_word, false_word, integer, decimal, long_integer, long_decimal, dot, hole, a_mark}
+use Rattle.dlk_grammar.specs.Tokens.{is_digit, are_digits, value, before_digits, trimmed, literal_number, Spells, word, true_word, false_word}
+use Rattle.dlk_grammar.specs.Tokens.{integer, decimal, long_integer, long_decimal, dot, hole, a_mark}
 use Rattle.dlk_grammar.specs.Splits.{Splits, ended, space, comment, one, token}
 use Rattle.dlk_grammar.specs.RealTokens.{IsReal, AreTokens}
 use Rattle.dlk_grammar.proofs.Spelled.{digits_all}

@@ -1,5 +1,6 @@
 -- Bytes are split, or come to a bad place: at each place it can be told what is at the front.
-use Rattle.std.proofs.Common.{◌≡◌, ℕ, zero, suc, ◌+◌, ◌-◌, ◌<◌, ◌≤◌, Bool, true, false, ◌&&◌, List, [], ◌∷◌, ◌++◌, length, take, drop, get_or, refl, sym, ap, subst, ◌∙◌, ◌⊎◌, inl, inr, arith, codes, append_assoc, length-append}
+use Rattle.std.proofs.Common.{◌≡◌, ℕ, zero, suc, ◌+◌, ◌-◌, ◌<◌, ◌≤◌, Bool, true, false, ◌&&◌, List, [], ◌∷◌, ◌++◌, length, take, drop, get_or, refl}
+use Rattle.std.proofs.Common.{sym, ap, subst, ◌∙◌, ◌⊎◌, inl, inr, arith, codes, append_assoc, length-append}
 use Rattle.std.specs.Str.{bytes_eq}
 use Rattle.std.proofs.Math.Seq.{take-append_seam}
 use Rattle.std.proofs.lemmas.Bool.{and_parts, cases_Bool, cases_eq, cases_lt}
@@ -15,7 +16,8 @@ use Rattle.dlk_grammar.specs.Literals.{IsLiteral, whole, pointed, literal_kind}
 use Rattle.dlk_grammar.specs.Splits.{Longest, BeginsComment, EndsLine, at_end, at_feed, IsComment, token, Splits, BadAt}
 use Rattle.dlk_grammar.specs.Fronts.{Piece, Ended, Gap, One, Bad, AtFront, front-ended, front-space, front-comment, front-one, front-bad}
 use Rattle.dlk_grammar.proofs.Marks.{mark_of, mark_of_spelling}
-use Rattle.dlk_grammar.proofs.Spelled.{Class, Letter, Digit, Point, Under, Space, Other, first_class, Shape, integer_part, fraction_part, integer_before, fraction_behind, digits_all, spells_whole, spells_pointed, shape_at, spelled_some}
+use Rattle.dlk_grammar.proofs.Spelled.{Class, Letter, Digit, Point, Under, Space, Other, first_class, Shape, integer_part, fraction_part}
+use Rattle.dlk_grammar.proofs.Spelled.{integer_before, fraction_behind, digits_all, spells_whole, spells_pointed, shape_at, spelled_some}
 use Rattle.dlk_grammar.proofs.Splitting.{NoEnd, later_no_end, NoFeed, apart, same_rest, comment_begins, go_on, go_bad, forward}
 
 passes : (b : Bool) → Dec (b ≡ true)

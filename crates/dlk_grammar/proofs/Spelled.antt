@@ -1,5 +1,6 @@
 -- What the bytes of a token are, by the first of them, and that they are one token.
-use Rattle.std.proofs.Common.{◌≡◌, ℕ, ◌+◌, ◌-◌, ◌≤◌, ◌<◌, Bool, true, false, leb, nat_le, ◌==◌, ◌&&◌, List, [], ◌∷◌, ◌++◌, length, get_or, refl, sym, ap, subst, ◌∙◌, inl, inr, arith, codes, if◌then◌else◌}
+use Rattle.std.proofs.Common.{◌≡◌, ℕ, ◌+◌, ◌-◌, ◌≤◌, ◌<◌, Bool, true, false, leb, nat_le, ◌==◌, ◌&&◌, List, [], ◌∷◌, ◌++◌, length, get_or, refl, sym}
+use Rattle.std.proofs.Common.{ap, subst, ◌∙◌, inl, inr, arith, codes, if◌then◌else◌}
 use Rattle.std.specs.List.{list_all}
 use Rattle.std.specs.Str.{bytes_eq}
 use Rattle.std.specs.Prelude.{not}
@@ -8,7 +9,8 @@ use Rattle.dlk_tree.specs.Names.{is_letter, is_name_byte, is_word, is_name}
 use Rattle.dlk_grammar.specs.declared.token.Mark.{Mark}
 use Rattle.dlk_grammar.specs.declared.token.TokenKind.{TokenKind}
 use Rattle.dlk_grammar.specs.declared.token.TokenKind.TheVariants.{Word, True, False, Number, LongNumber, Dot, Hole, Mark as AMark, End}
-use Rattle.dlk_grammar.specs.Tokens.{is_space, is_digit, are_digits, literal_number, spelling, Spells, word, true_word, false_word, integer, decimal, long_integer, long_decimal, dot, hole, a_mark}
+use Rattle.dlk_grammar.specs.Tokens.{is_space, is_digit, are_digits, literal_number, spelling, Spells, word, true_word, false_word, integer, decimal}
+use Rattle.dlk_grammar.specs.Tokens.{long_integer, long_decimal, dot, hole, a_mark}
 use Rattle.dlk_grammar.specs.Literals.{IsLiteral, whole, pointed, literal_kind}
 use Rattle.dlk_grammar.proofs.Marks.{each_mark, mark_of, mark_of_spelling}
 

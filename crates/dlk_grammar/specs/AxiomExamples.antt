@@ -1,7 +1,8 @@
 -- Texts of the axioms and the axiomatic rules.
 use Rattle.std.specs.Prelude.{◌≡◌, ℕ, List, [], ◌∷◌, map, codes, refl}
 use Rattle.std.specs.Fmt.{digits}
-use Rattle.dlk_calculus.specs.Axioms.{Axiom, AxiomaticRule, box_axioms, loop_axioms, ode_axioms, differential_axioms, first_order_axioms, equality_axioms, axiomatic_rules}
+use Rattle.dlk_calculus.specs.Axioms.{Axiom, AxiomaticRule, box_axioms, loop_axioms, ode_axioms, differential_axioms, first_order_axioms}
+use Rattle.dlk_calculus.specs.Axioms.{equality_axioms, axiomatic_rules}
 use Rattle.dlk_grammar.specs.Shown.{spell, shown}
 
 -- each axiom's name, and the text of its formula

@@ -10,9 +10,12 @@ use Rattle.dlk_tree.specs.declared.op.Op.TheVariants as op
 use Rattle.dlk_tree.specs.Table.{evolved, all_distinct}
 use Rattle.dlk_tree.specs.Trees.{Tree, node, forest}
 use Rattle.dlk_grammar.specs.declared.token.Infix.{Infix}
-use Rattle.dlk_grammar.specs.declared.token.Infix.TheVariants.{Equiv, Imply, Or, And, Equal, NotEqual, AtLeast, Greater, AtMost, Less, Add, Sub, Mul, Div, Pow, Choice}
+use Rattle.dlk_grammar.specs.declared.token.Infix.TheVariants.{Equiv, Imply, Or, And, Equal, NotEqual, AtLeast, Greater, AtMost, Less, Add, Sub, Mul}
+use Rattle.dlk_grammar.specs.declared.token.Infix.TheVariants.{Div, Pow, Choice}
 use Rattle.dlk_grammar.specs.Lexemes.{Word}
-use Rattle.dlk_grammar.specs.Phrases.{Space, Everywhere, Except, Phrase, Literal, Argument, Variable, Apply, Negate, Diff, Truth, Falsity, Hole, Holds, Context, Not, DiffF, Forall, Exists, Box, Dia, Binary, Const, Assign, AssignAny, Test, Then, Loop, System, Noted, Phrases, none, snoc, Head, Call, Any, Item, Evolve, Flow, Items, no_items, add}
+use Rattle.dlk_grammar.specs.Phrases.{Space, Everywhere, Except, Phrase, Literal, Argument, Variable, Apply, Negate, Diff, Truth, Falsity, Hole}
+use Rattle.dlk_grammar.specs.Phrases.{Holds, Context, Not, DiffF, Forall, Exists, Box, Dia, Binary, Const, Assign, AssignAny, Test, Then, Loop}
+use Rattle.dlk_grammar.specs.Phrases.{System, Noted, Phrases, none, snoc, Head, Call, Any, Item, Evolve, Flow, Items, no_items, add}
 
 abbrev pub taboo : Space → Option Word
 taboo Everywhere = None

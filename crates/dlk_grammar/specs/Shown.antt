@@ -1,5 +1,6 @@
 -- Canonical text: how each tree and each sequent is written.
-use Rattle.std.specs.Prelude.{ℕ, zero, suc, ◌+◌, ◌/◌, ◌%◌, ◌^◌, ◌==◌, nat_lt, Bool, true, false, if◌then◌else◌, List, [], ◌∷◌, ◌++◌, Option, Some, None, length, drop, slice_index_or, codes}
+use Rattle.std.specs.Prelude.{ℕ, zero, suc, ◌+◌, ◌/◌, ◌%◌, ◌^◌, ◌==◌, nat_lt, Bool, true, false, if◌then◌else◌, List, [], ◌∷◌, ◌++◌, Option, Some}
+use Rattle.std.specs.Prelude.{None, length, drop, slice_index_or, codes}
 use Rattle.std.specs.List.{join_by}
 use Rattle.std.specs.Fmt.{decimal}
 use Rattle.dlk_tree.specs.declared.op.Num.{Num}
@@ -14,7 +15,10 @@ use Rattle.dlk_tree.specs.Table.{sort_of, evolved}
 use Rattle.dlk_tree.specs.Trees.{Tree, node, root, trees_in, Forest, no_kids, kid}
 use Rattle.dlk_calculus.specs.Sequents.{Sequent}
 use Rattle.dlk_grammar.specs.declared.token.Mark.{Mark}
-use Rattle.dlk_grammar.specs.declared.token.Mark.TheVariants.{Forall, Exists, RoundBars, RoundBar, BarRound, BraceBar, BarBrace, OpenRound, CloseRound, OpenSquare, CloseSquare, OpenBrace, CloseBrace, Equiv, Imply, And, Or, Not, Turnstile, Equal, NotEqual, AtLeast, Greater, AtMost, Less, Plus, Minus, Star, Slash, Caret, Prime, Gets, Choice, Query, Semicolon, Comma}
+use Rattle.dlk_grammar.specs.declared.token.Mark.TheVariants.{Forall, Exists, RoundBars, RoundBar, BarRound, BraceBar, BarBrace, OpenRound}
+use Rattle.dlk_grammar.specs.declared.token.Mark.TheVariants.{CloseRound, OpenSquare, CloseSquare, OpenBrace, CloseBrace, Equiv, Imply, And, Or, Not}
+use Rattle.dlk_grammar.specs.declared.token.Mark.TheVariants.{Turnstile, Equal, NotEqual, AtLeast, Greater, AtMost, Less, Plus, Minus, Star, Slash}
+use Rattle.dlk_grammar.specs.declared.token.Mark.TheVariants.{Caret, Prime, Gets, Choice, Query, Semicolon, Comma}
 use Rattle.dlk_grammar.specs.declared.token.TokenKind.{TokenKind}
 use Rattle.dlk_grammar.specs.declared.token.TokenKind.TheVariants as token
 use Rattle.dlk_grammar.specs.Tokens.{spelling}

@@ -5,7 +5,8 @@ use Rattle.dlk_tree.specs.declared.op.Kind.TheVariants.{Func, UnitFunc, Pred, Un
 use Rattle.dlk_calculus.specs.Pairs.{Pair}
 use Rattle.dlk_grammar.specs.declared.token.Token.{Token}
 use Rattle.dlk_grammar.specs.declared.token.Dots.TheVariants.{Allowed}
-use Rattle.dlk_grammar.specs.Lexemes.{Word, Lexeme, Name, Dot, Blank, RoundBars, RoundBar, BarRound, BraceBar, BarBrace, Open, Close, OpenBrace, CloseBrace, Semi, Comma, Becomes}
+use Rattle.dlk_grammar.specs.Lexemes.{Word, Lexeme, Name, Dot, Blank, RoundBars, RoundBar, BarRound, BraceBar, BarBrace, Open, Close, OpenBrace}
+use Rattle.dlk_grammar.specs.Lexemes.{CloseBrace, Semi, Comma, Becomes}
 use Rattle.dlk_grammar.specs.Phrases.{Space, Everywhere, Except, Phrase, Truth, System, Items}
 use Rattle.dlk_grammar.specs.Grammar.{formula, term, prog, Reads, ReadsItems}
 use Rattle.dlk_grammar.specs.Erased.{symbol, erase}

@@ -26,7 +26,8 @@ few_kids trees [] h = refl
 few_kids trees (i ∷ []) h = refl
 few_kids trees (i ∷ j ∷ ks) h = absurd (omega arith)
 
-pub second_last : (trees : List Tree) (ks : List Id) (d : Id) → 2 ≤ length ks → before_last (kid_trees trees ks) ≡ Some (tree trees (get_or ks (length ks - 2) d))
+pub second_last : (trees : List Tree) (ks : List Id) (d : Id) → 2 ≤ length ks →
+    before_last (kid_trees trees ks) ≡ Some (tree trees (get_or ks (length ks - 2) d))
 second_last trees [] d h = absurd (omega arith)
 second_last trees (i ∷ []) d h = absurd (omega arith)
 second_last trees (i ∷ j ∷ []) d h = refl

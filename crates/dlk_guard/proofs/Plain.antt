@@ -10,7 +10,8 @@ use Rattle.dlk_calculus.proofs.PlaceLaws.{at_suc, At_All}
 use Rattle.dlk_guard.specs.declared.why.Why.TheVariants.{DifferentialContext, Dforall, RawFact}
 use Rattle.dlk_guard.specs.declared.raw.Raw.{Raw}
 use Rattle.dlk_guard.specs.Instances.{first_of, unless}
-use Rattle.dlk_guard.specs.Guarded.{Line, made_of, mark_at, mark_of, mark, marks_behind, marks, misuse, why_raw, why_last, line_why, HasPlainStep, IsPlain, Guarded}
+use Rattle.dlk_guard.specs.Guarded.{Line, made_of, mark_at, mark_of, mark, marks_behind, marks, misuse, why_raw, why_last, line_why, HasPlainStep}
+use Rattle.dlk_guard.specs.Guarded.{IsPlain, Guarded}
 
 -- no row is raw
 abbrev NoneRaw : List (Option Raw) → Type 0

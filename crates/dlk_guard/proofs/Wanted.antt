@@ -8,7 +8,8 @@ use Rattle.dlk_tree.specs.Trees.{Tree, node, Forest}
 use Rattle.dlk_calculus.specs.Paths.{subtree}
 use Rattle.dlk_guard.specs.declared.why.Why.TheVariants.{OdeConstant, NotSmooth, NotEvolved, Primed, RawFact}
 use Rattle.dlk_guard.specs.Smooth.{domain_parts, is_smooth_formula}
-use Rattle.dlk_guard.specs.Instances.{first_of, unless, first_constant, first_loose, first_primed, di_conditions, system_items, di_items, di_parts, di_why, dg_terms, dg_conditions, dg_items, dg_parts, dg_why}
+use Rattle.dlk_guard.specs.Instances.{first_of, unless, first_constant, first_loose, first_primed, di_conditions, system_items, di_items, di_parts}
+use Rattle.dlk_guard.specs.Instances.{di_why, dg_terms, dg_conditions, dg_items, dg_parts, dg_why}
 
 -- ---- DI
 

@@ -1,5 +1,6 @@
 -- A guard that has seen lines one by one knows the first that is refused.
-use Rattle.std.proofs.Common.{◌≡◌, ◌∙◌, refl, sym, subst, ap, ℕ, zero, suc, ◌+◌, ◌-◌, ◌<◌, ◌≤◌, List, [], ◌∷◌, ◌++◌, length, take, Bool, true, false, ◌⊎◌, inl, inr, arith}
+use Rattle.std.proofs.Common.{◌≡◌, ◌∙◌, refl, sym, subst, ap, ℕ, zero, suc, ◌+◌, ◌-◌, ◌<◌, ◌≤◌, List, [], ◌∷◌, ◌++◌, length, take, Bool, true, false}
+use Rattle.std.proofs.Common.{◌⊎◌, inl, inr, arith}
 use Rattle.std.proofs.Common.{Option, None, Some, append_assoc, length-append}
 use Rattle.std.specs.Prelude.{◌==◌, option_and_then}
 use Rattle.std.specs.List.{slice_get}
@@ -146,7 +147,8 @@ sees_more all l w s =
 sees_behind : (front more : List Line) (w : Watch) → Sees front w → Sees (front ++ more) (watched_all w more)
 sees_behind front [] w s = subst (λ ls. Sees ls w) (sym (append-nil front)) s
 sees_behind front (l ∷ more) w s =
-    subst (λ ls. Sees ls (watched_all (watched w l) more)) (append_assoc front (l ∷ []) more) (sees_behind (front ++ l ∷ []) more (watched w l) (sees_more front l w s))
+    subst (λ ls. Sees ls (watched_all (watched w l) more)) (append_assoc front (l ∷ []) more)
+        (sees_behind (front ++ l ∷ []) more (watched w l) (sees_more front l w s))
 
 sees_all : (all : List Line) → Sees all (watch_of all)
 sees_all all = sees_behind [] all started sees_none

@@ -6,7 +6,8 @@ use Rattle.dlk_tree.specs.declared.op.OdeItem.{OdeItem}
 use Rattle.dlk_tree.specs.declared.op.Op.TheVariants as Op'
 use Rattle.dlk_tree.specs.Trees.{Tree, node, no_kids, kid}
 use Rattle.dlk_tree.specs.Statics.{plain, prime}
-use Rattle.dlk_calculus.specs.Notation.{leaf, number, add, mul, div, pow, neg, diff, eq, ne, ge, gt, le, lt, negation, conj, disj, diff_formula, forall, exists, box, test, assign, assign_primed, system, evolve, c_item, p0}
+use Rattle.dlk_calculus.specs.Notation.{leaf, number, add, mul, div, pow, neg, diff, eq, ne, ge, gt, le, lt, negation, conj, disj, diff_formula}
+use Rattle.dlk_calculus.specs.Notation.{forall, exists, box, test, assign, assign_primed, system, evolve, c_item, p0}
 use Rattle.dlk_calculus.specs.Rules.{imply, equiv}
 use Rattle.dlk_calculus.specs.Sequents.{alone_right}
 use Rattle.dlk_calculus.specs.Steps.{Step, Start, UseAxiom, UseRule, Leaf, Merge, Substitute, Rename}

@@ -3,7 +3,8 @@
 -- A row of the axiom DI or DG is raw, and so is what `subst` and `rename` make of a raw row, until it is a good instance of its axiom. A
 -- raw row is no fault by itself: an instance is made by a `subst` of the axiom. It is one to use it, in a `merge` or as what is proved.
 -- The line that is named is the one that uses it, and its reason is why the row that it uses is raw.
-use Rattle.std.specs.Prelude.{◌≡◌, ℕ, ◌-◌, ◌<◌, List, [], ◌∷◌, ◌++◌, take, length, Bool, true, false, ◌||◌, not, ◌==◌, if◌then◌else◌, Option, Some, None, option_map, option_and_then, codes}
+use Rattle.std.specs.Prelude.{◌≡◌, ℕ, ◌-◌, ◌<◌, List, [], ◌∷◌, ◌++◌, take, length, Bool, true, false, ◌||◌, not, ◌==◌, if◌then◌else◌, Option, Some}
+use Rattle.std.specs.Prelude.{None, option_map, option_and_then, codes}
 use Rattle.std.specs.List.{list_any}
 use Rattle.std.specs.Str.{bytes_eq}
 use Rattle.dlk_tree.specs.declared.op.Op.{Op}

@@ -25,7 +25,8 @@ module _ (none_said : NoneSaid) (first_said : FirstSaid) where
   line_said term steps rows p r (Some refusal) is = is_unguarded steps rows p r refusal.line refusal.why (first_said (lines steps rows) refusal (sym is))
 
   -- the report behind that line
-  pub guards_answer : (model term : List ℕ) (rows : List Provable) (ending : Ending) (begun watch : Watch) → begun ≡ started → IsTaken watched model term rows ending begun watch →
+  pub guards_answer : (model term : List ℕ) (rows : List Provable) (ending : Ending) (begun watch : Watch) → begun ≡ started →
+      IsTaken watched model term rows ending begun watch →
       (shown reply : Reply) (first : List ℕ) (said : Option Refusal) → ((p : Provable) → At rows ending.fact p → shown ≡ reported Text p ending.lines) →
       said ≡ verdict watch → first ≡ line_of said → reply ≡ with_line_first first shown → Guards model term reply
   guards_answer model term rows ending begun watch begins t shown reply first said reports said_is first_is is =

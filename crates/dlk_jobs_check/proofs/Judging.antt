@@ -65,7 +65,8 @@ module _ {V : Type 0} (after : V → Line → V) (term : List ℕ) (rows : List 
         counts = r.counts;
       }
 
-      pub conclusion_refuses : (reply : Reply) → ((p : Provable) → At rows ending.fact p → RefusesConclusion f ending.line p reply) → RefusesTerm model term reply
+      pub conclusion_refuses : (reply : Reply) → ((p : Provable) → At rows ending.fact p → RefusesConclusion f ending.line p reply) →
+          RefusesTerm model term reply
       conclusion_refuses reply refused =
           let is = refused r.last last_there in
           let here = bad_conclusion f reads rows r.last r.replays.accepts is.0 in

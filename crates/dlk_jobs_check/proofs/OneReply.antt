@@ -23,7 +23,8 @@ module _ (showing : Showing) (model term : List ℕ) where
 
 module _ (one_first : OneFirst) where
   -- a term that is replayed has one list of lines with their rows
-  same_lines : {term : List ℕ} {steps others : List Step} {rows more : List Provable} {p q : Provable} → Replays term steps rows p → Replays term others more q →
+  same_lines : {term : List ℕ} {steps others : List Step} {rows more : List Provable} {p q : Provable} → Replays term steps rows p →
+      Replays term others more q →
       lines steps rows ≡ lines others more
   same_lines a b =
       let steps_are = one_replay a b in

@@ -15,7 +15,8 @@ use Rattle.dlk_replay.proofs.Verdicts.{one_verdict, some_verdict, accepted_some}
 use Rattle.dlk_replies.specs.declared.form.Role.TheVariants.{Model}
 use Rattle.dlk_replies.specs.Replies.{Reply}
 use Rattle.dlk_replies.specs.Refusals.{text_refused}
-use Rattle.dlk_jobs_check.specs.Terms.{ModelText, proves, line_refused, other_conclusion, Accepts, Replays, TakesTerm, RefusesTerm, bad_model, bad_line, bad_conclusion}
+use Rattle.dlk_jobs_check.specs.Terms.{ModelText, proves, line_refused, other_conclusion, Accepts, Replays, TakesTerm, RefusesTerm, bad_model}
+use Rattle.dlk_jobs_check.specs.Terms.{bad_line, bad_conclusion}
 use Rattle.dlk_jobs_check.proofs.Ends.{last_of, one_last, one_model, model_or_fault}
 
 -- the same rows, and the same last one at the same line
@@ -40,17 +41,20 @@ one_bad {n} {m} {why} {other} e =
     λ i. line_refused (number i) (reason i)
 
 -- an accepted term has one end
-pub one_end : {term : List ℕ} {rows others : List Provable} {p q : Provable} → (a : Accepts term rows p) → (b : Accepts term others q) → SameEnd rows others a.line b.line p q
+pub one_end : {term : List ℕ} {rows others : List Provable} {p q : Provable} → (a : Accepts term rows p) → (b : Accepts term others q) →
+    SameEnd rows others a.line b.line p q
 one_end {term} {rows} {others} {p} {q} a b =
     let one = one_verdict (file_lines term) (accepted rows a.line) (accepted others b.line) a.verdict b.verdict in
     let same : rows ≡ others = one_accepted one in
     record { rows_are = same; line_is = one_place one; last_is = one_last a.before b.before p q (sym a.last ∙ same ∙ b.last) }
 
-accepted_not_bad : {term : List ℕ} {rows : List Provable} {p : Provable} {n : ℕ} {why : LineWhy} → Accepts term rows p → Verdict (file_lines term) (bad n why) → ⊥
+accepted_not_bad : {term : List ℕ} {rows : List Provable} {p : Provable} {n : ℕ} {why : LineWhy} → Accepts term rows p →
+    Verdict (file_lines term) (bad n why) → ⊥
 accepted_not_bad {term} {rows} {p} {n} {why} a v = not_both (one_verdict (file_lines term) (accepted rows a.line) (bad n why) a.verdict v)
 
 -- and its lines say one list of steps
-pub one_replay : {term : List ℕ} {steps others : List Step} {rows more : List Provable} {p q : Provable} → Replays term steps rows p → Replays term others more q → steps ≡ others
+pub one_replay : {term : List ℕ} {steps others : List Step} {rows more : List Provable} {p q : Provable} → Replays term steps rows p →
+    Replays term others more q → steps ≡ others
 one_replay {term} {steps} {others} a b = one_list_of_steps [] (file_lines term) steps others a.says b.says
 
 -- an accepted term is replayed
@@ -74,19 +78,22 @@ module _ (model term : List ℕ) where
       let same = one_model t u in
       λ i. other_conclusion (end.line_is i) (same i) (end.last_is i).conclusion
 
-  pub one_taken : (steps others : List Step) (rows more : List Provable) (p q : Provable) → TakesTerm model term steps rows p → TakesTerm model term others more q →
+  pub one_taken : (steps others : List Step) (rows more : List Provable) (p q : Provable) → TakesTerm model term steps rows p →
+      TakesTerm model term others more q →
       (steps ≡ others) × (rows ≡ more) × (p ≡ q)
   one_taken steps others rows more p q a b =
       let end = one_end a.replays.accepts b.replays.accepts in
       (one_replay a.replays b.replays, end.rows_are, end.last_is)
 
-  pub refused_or_taken : (r : Reply) (steps : List Step) (rows : List Provable) (p : Provable) → RefusesTerm model term r → TakesTerm model term steps rows p → ⊥
+  pub refused_or_taken : (r : Reply) (steps : List Step) (rows : List Provable) (p : Provable) → RefusesTerm model term r →
+      TakesTerm model term steps rows p → ⊥
   refused_or_taken _ steps rows p (bad_model why a) t = model_or_fault why t.reads a
   refused_or_taken _ steps rows p (bad_line f u n why v) t = accepted_not_bad t.replays.accepts v
   refused_or_taken _ steps rows p (bad_conclusion f u others q b ne) t =
       ne (ap (λ (x : Provable). x.conclusion) (one_end b t.replays.accepts).last_is ∙ t.shows ∙ ap proves (one_model t.reads u))
 
-  pub some_judgement : ((reply : Reply) × RefusesTerm model term reply) ⊎ ((steps : List Step) × (rows : List Provable) × (p : Provable) × TakesTerm model term steps rows p)
+  pub some_judgement : ((reply : Reply) × RefusesTerm model term reply)
+      ⊎ ((steps : List Step) × (rows : List Provable) × (p : Provable) × TakesTerm model term steps rows p)
   some_judgement = elim (some_tree Formula Refused model) [
     | inl read ↦ by_verdict read.0 read.1 (some_verdict (file_lines term))
     | inr fault ↦ inl (text_refused Model fault.0, bad_model fault.0 fault.1)

@@ -8,7 +8,8 @@ use Rattle.dlk_replies.specs.declared.reply.Showing.{Showing}
 use Rattle.dlk_replies.specs.Replies.{Reply}
 use Rattle.dlk_jobs_check.specs.Terms.{Replays}
 use Rattle.dlk_jobs_check.specs.Checks.{Checks, refuses, reports, answered, reported}
-use Rattle.dlk_jobs_check.specs.Guards.{Guards, refuses as refuses_term, guards, GuardSays, is_guarded, is_unguarded, guarded_line, unguarded_line, with_line_first}
+use Rattle.dlk_jobs_check.specs.Guards.{Guards, refuses as refuses_term, guards, GuardSays, is_guarded, is_unguarded, guarded_line, unguarded_line}
+use Rattle.dlk_jobs_check.specs.Guards.{with_line_first}
 use Rattle.dlk_jobs_check.proofs.OneTerm.{some_judgement}
 use Rattle.dlk_jobs_check.proofs.GuardLaws.{SomeFirst}
 

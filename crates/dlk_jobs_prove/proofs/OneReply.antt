@@ -19,7 +19,8 @@ module _ (one_text : OneText) (text_or_fault : TextOrFault) (one_fault : OneFaul
   one_proved : (n : ℕ) (r s : Reply) → Proves (generated_model n) (generated_strategy n) r → Proves (generated_model n) (generated_strategy n) s → r ≡ s
   one_proved n r s a b = one_prove one_text text_or_fault one_fault one_run (generated_model n) (generated_strategy n) r s a b
 
-  pub one_written : (n : ℕ) (r s : Reply) (term : List ℕ) → Proves (generated_model n) (generated_strategy n) r → Proves (generated_model n) (generated_strategy n) s →
+  pub one_written : (n : ℕ) (r s : Reply) (term : List ℕ) → Proves (generated_model n) (generated_strategy n) r →
+      Proves (generated_model n) (generated_strategy n) s →
       r.written ≡ Some term → s.written ≡ Some term
   one_written n r s term a b written = subst (λ (x : Reply). x.written ≡ Some term) (one_proved n r s a b) written
 

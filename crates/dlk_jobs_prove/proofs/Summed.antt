@@ -65,7 +65,8 @@ module _ (recorded : RecordedIsWritten) (runs_taken : RunsTaken) (replace_symbol
       }
 
   module _ (one_text : OneText) (text_or_fault : TextOrFault) (one_fault : OneFault) (one_run : OneRun) where
-    pub generated_sums : (n : ℕ) (term : List ℕ) (reply proved : Reply) → Proves (generated_model n) (generated_strategy n) proved → proved.written ≡ Some term →
+    pub generated_sums : (n : ℕ) (term : List ℕ) (reply proved : Reply) → Proves (generated_model n) (generated_strategy n) proved →
+        proved.written ≡ Some term →
         Generates n reply → SumsUp n reply proved
     generated_sums n term _ proved proof written (refuses reply again none) =
         absurd (unwritten reply term none (one_written one_text text_or_fault one_fault one_run n proved reply term proof again written))

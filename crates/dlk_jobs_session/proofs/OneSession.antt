@@ -33,9 +33,11 @@ Comes model script (AtEnd answers last) = Plays model script answers last
 
 -- what is answered in the end
 data Ended (answers : List Answer) (last : State) : Reply → Type 0 where
-  long : (steps : List Step) → last.saved ≡ Some steps → limit_of Term < length (term_text steps) → Ended answers last (term_too_long (length (term_text steps)))
+  long : (steps : List Step) → last.saved ≡ Some steps → limit_of Term < length (term_text steps) →
+      Ended answers last (term_too_long (length (term_text steps)))
   unsaved : last.saved ≡ None → Ended answers last (played answers last None)
-  saved : (steps : List Step) → last.saved ≡ Some steps → length (term_text steps) ≤ limit_of Term → Ended answers last (played answers last (Some (term_text steps)))
+  saved : (steps : List Step) → last.saved ≡ Some steps → length (term_text steps) ≤ limit_of Term →
+      Ended answers last (played answers last (Some (term_text steps)))
 
 abbrev Answers : Ending → Reply → Type 0
 Answers (AtModel why) reply = reply ≡ text_refused Model why

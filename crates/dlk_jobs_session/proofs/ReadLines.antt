@@ -73,7 +73,8 @@ more_begun all left behind text lines more_lines line count is are says b = reco
 pub begun_as : (all left : List (List ℕ)) (lines others : List Line) (count : ℕ) → others ≡ lines → Begun all left lines count → Begun all left others count
 begun_as all left lines others count e b = subst (λ (ls : List Line). Begun all left ls count) (sym e) b
 
-pub first_wrong : (all left behind : List (List ℕ)) (text : List ℕ) (lines : List Line) (count : ℕ) → left ≡ text ∷ behind → ((line : Line) → ¬ ScriptLine text line) →
+pub first_wrong : (all left behind : List (List ℕ)) (text : List ℕ) (lines : List Line) (count : ℕ) → left ≡ text ∷ behind →
+    ((line : Line) → ¬ ScriptLine text line) →
     Begun all left lines count → FirstWrong all (count + 1)
 first_wrong all left behind text lines count is out b = b.wrong 1 (subst (λ (ls : List (List ℕ)). FirstWrong ls 1) (sym is) (here out))
 

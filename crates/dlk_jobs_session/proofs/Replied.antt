@@ -22,7 +22,8 @@ plays_so model script f g lines others first last answers reads says begins same
   turns = subst (λ (ls : List Line). Turns RunsOn first ls answers last) are turns;
 }
 
-by_file : (model script : List ℕ) (answers : List Answer) (last : State) → Plays model script answers last → (saved : Option (List Step)) (text : Option (List ℕ)) →
+by_file : (model script : List ℕ) (answers : List Answer) (last : State) → Plays model script answers last →
+    (saved : Option (List Step)) (text : Option (List ℕ)) →
     last.saved ≡ saved → IsFileOf saved text → Sessions model script (played answers last text)
 by_file model script answers last plays _ _ e no_file = keeps_none answers last plays e
 by_file model script answers last plays _ _ e (file {steps} short) = writes answers last plays steps e short

@@ -46,7 +46,8 @@ goal_text text rest goal h =
     append_assoc (codes "apply " ++ digits) (codes " ") rest ∙ append_assoc (codes "apply ") digits (32 ∷ rest) in
     h.word_is ∙ ap (λ l. codes "apply " ++ l) h.number.text_is ∙ sym all
 
-pub said_apply : (text rest : List ℕ) (goal : ℕ) (strategy : Tactic) → GoalThen text goal rest → StrategyText rest strategy → ScriptLine text (Apply goal strategy)
+pub said_apply : (text rest : List ℕ) (goal : ℕ) (strategy : Tactic) → GoalThen text goal rest → StrategyText rest strategy →
+    ScriptLine text (Apply goal strategy)
 said_apply text rest goal strategy h says =
     subst (λ l. ScriptLine l (Apply goal strategy)) (sym (goal_text text rest goal h)) (apply rest h.number.is_number says)
 
@@ -136,7 +137,8 @@ goal_decided text = elim (prefix_decided (codes "apply ") text) [
   ]
 ]
 
-no_form : (text : List ℕ) → (text ≢ codes "undo") → (text ≢ codes "show") → (text ≢ codes "save") → ((goal : ℕ) (strategy : Tactic) → ¬ ScriptLine text (Apply goal strategy)) →
+no_form : (text : List ℕ) → (text ≢ codes "undo") → (text ≢ codes "show") → (text ≢ codes "save") →
+    ((goal : ℕ) (strategy : Tactic) → ¬ ScriptLine text (Apply goal strategy)) →
     (line : Line) → ¬ ScriptLine text line
 no_form text undo' show' save' apply' (Apply goal strategy) is = apply' goal strategy is
 no_form text undo' show' save' apply' Undo is = go (form_of text Undo is)
@@ -157,10 +159,12 @@ pub no_line : (text : List ℕ) → (text ≢ codes "undo") → (text ≢ codes 
 no_line = no_form
 
 -- no goal, or no strategy behind it
-applied : (text : List ℕ) (goal : ℕ) (strategy : Tactic) → Form text (Apply goal strategy) → (rest : List ℕ) × GoalThen text goal rest × StrategyText rest strategy
+applied : (text : List ℕ) (goal : ℕ) (strategy : Tactic) → Form text (Apply goal strategy) →
+    (rest : List ℕ) × GoalThen text goal rest × StrategyText rest strategy
 applied text goal strategy (runs rest h says) = (rest, h, says)
 
-pub no_goal : (text : List ℕ) → ((goal : ℕ) (rest : List ℕ) → ¬ GoalThen text goal rest) → (goal : ℕ) (strategy : Tactic) → ¬ ScriptLine text (Apply goal strategy)
+pub no_goal : (text : List ℕ) → ((goal : ℕ) (rest : List ℕ) → ¬ GoalThen text goal rest) → (goal : ℕ) (strategy : Tactic) →
+    ¬ ScriptLine text (Apply goal strategy)
 no_goal text out goal strategy is = let h = applied text goal strategy (form_of text (Apply goal strategy) is) in out goal h.0 h.1
 
 pub no_strategy : TextOrFault → (text rest : List ℕ) (goal : ℕ) (f : Fault) → GoalThen text goal rest → StrategyFault rest f →

@@ -108,7 +108,8 @@ module _ (some_outcome : (t : Tactic) (steps : List Step) (rows : List Provable)
       record { answers = first.answer ∷ rest.answers; last = rest.last; turns = more_turns first.turn rest.turns }
 
   -- what is answered in the end
-  by_saved : (model script : List ℕ) (answers : List Answer) (last : State) → Plays model script answers last → (saved : Option (List Step)) → last.saved ≡ saved →
+  by_saved : (model script : List ℕ) (answers : List Answer) (last : State) → Plays model script answers last → (saved : Option (List Step)) →
+      last.saved ≡ saved →
       (reply : Reply) × Sessions model script reply
   by_saved model script answers last plays None e = (played answers last None, keeps_none answers last plays e)
   by_saved model script answers last plays (Some steps) e = elim (cases_lt (limit_of Term) (length (term_text steps))) [

@@ -107,7 +107,8 @@ module _ (written : RecordedIsWritten) (have : HaveSymbols) (says : SaysSteps) w
   module _ (row : (term lemma steps : List Step) (rows others after : List Provable) (p q : Provable) → Takes [] term rows → Takes [] lemma others →
       At rows (length rows) p → At others (length others) q → Linked term p.goals lemma q.conclusion steps → IsAmong q.conclusion p.goals →
       Takes [] steps after → (r : Provable) × At after (length after) r × Joined p q r) where
-    pub joined : (model term lemma text : List ℕ) (reply : Reply) → Links model term lemma reply → reply.written ≡ Some text → IsJoined model term lemma text reply
+    pub joined : (model term lemma text : List ℕ) (reply : Reply) → Links model term lemma reply → reply.written ≡ Some text →
+        IsJoined model term lemma text reply
     joined model term lemma text _ (refuses reply refused) is = absurd (refusal_writes model term text reply refused is)
     joined model term lemma text _ (bad_lemma steps rows p t n why v) is = absurd cc
     joined model term lemma text _ (links steps rows p t others more q u _ (no_goal none)) is = absurd cc

@@ -59,7 +59,8 @@ replay_ends says term steps rows p r =
     record { rows = rows; takes = replay_takes says term steps rows p r; last = replay_last term steps rows p r }
 
 -- an accepted term has no wrong line, and any other has one
-pub accepted_or_bad : (term : List ℕ) (rows : List Provable) (p : Provable) (n : ℕ) (why : LineWhy) → Accepts term rows p → Verdict (file_lines term) (bad n why) → ⊥
+pub accepted_or_bad : (term : List ℕ) (rows : List Provable) (p : Provable) (n : ℕ) (why : LineWhy) → Accepts term rows p →
+    Verdict (file_lines term) (bad n why) → ⊥
 accepted_or_bad term rows p n why a v = absurd_answer (one_verdict (file_lines term) (accepted rows a.line) (bad n why) a.verdict v)
   where
     absurd_answer : accepted rows a.line ≡ bad n why → ⊥
@@ -76,7 +77,8 @@ one_bad_line words term n m why other v w = same (one_verdict (file_lines term) 
         λ i. refused_line words (number i) (reason i)
 
 -- steps that are taken, at least one, end in a provable
-pub some_ending : (steps : List Step) (rows : List Provable) → Takes [] steps rows → 1 ≤ length steps → (p : Provable) × EndsIn steps p × At rows (length rows) p
+pub some_ending : (steps : List Step) (rows : List Provable) → Takes [] steps rows → 1 ≤ length steps →
+    (p : Provable) × EndsIn steps p × At rows (length rows) p
 some_ending steps rows takes some =
     let last = last_of rows (omega (arith, some, taken_count steps rows takes)) in
     let there = last_item rows last.0 last.1 last.2 in

@@ -30,7 +30,8 @@ module _ (trees : List Tree) (term : List ℕ) (rows : List Provable) (outcome :
           TakesTerm model term (map (step_at trees) outcome.steps.items) rows k.last
       takes shown = record { formula = f; reads = reads; replays = k.replays; shows = shown k.last last_there }
 
-      pub conclusion_refuses : (reply : Reply) → ((p : Provable) → At rows outcome.fact p → RefusesConclusion f outcome.line p reply) → RefusesTerm model term reply
+      pub conclusion_refuses : (reply : Reply) → ((p : Provable) → At rows outcome.fact p → RefusesConclusion f outcome.line p reply) →
+          RefusesTerm model term reply
       conclusion_refuses reply refused =
           let is = refused k.last last_there in
           let here = bad_conclusion f reads rows k.last k.replays.accepts is.0 in

@@ -37,7 +37,8 @@ joins_proper c by main rows _ _ (the_same {goals = g} {steps = rest} joins) =
     All-cons IsProper (Merge main (length g + 1) by) rest tt (joins_proper c by (rows + 1) (rows + 1) g rest joins)
 
 module _ (decide : (rows : List Provable) (step : Step) → IsProper step → ((p : Provable) × StepOf rows step p) ⊎ ((why : Reason) × Fault rows step why)) where
-  pub linked_fate : (term lemma linked : List Step) (rows others : List Provable) (goals : List Sequent) (c : Sequent) → Takes [] term rows → Takes [] lemma others →
+  pub linked_fate : (term lemma linked : List Step) (rows others : List Provable) (goals : List Sequent) (c : Sequent) → Takes [] term rows →
+      Takes [] lemma others →
       Linked term goals lemma c linked → ((after : List Provable) × Takes [] linked after) ⊎ ((why : Reason) × FirstFault [] linked why)
   linked_fate term lemma linked rows others goals c takes_term takes_lemma is =
       let to : ℕ → ℕ = λ fact. fact + length term in

@@ -30,7 +30,8 @@ pub list_answer : (file : List ℕ) (t u : Tree) (f b m : Listing) (syms : List 
     none ≡ [] → one ≡ none ++ line (codes "free: " ++ text_of f) → two ≡ one ++ line (codes "bound: " ++ text_of b) →
     three ≡ two ++ line (codes "must: " ++ text_of m) → label ≡ three ++ codes "symbols: " → four ≡ label ++ signature_text syms → ended ≡ four ++ 10 ∷ [] →
     Lists file (printing Done ended)
-list_answer file t u f b m syms none one two three label four ended reads same is_free is_bound is_must are_symbols none_is one_is two_is three_is label_is four_is ended_is =
+list_answer file t u f b m syms none one two three label four ended reads same is_free is_bound is_must are_symbols none_is one_is two_is three_is label_is
+    four_is ended_is =
     let free_line = line (codes "free: " ++ text_of f) in
     let bound_line = line (codes "bound: " ++ text_of b) in
     let must_line = line (codes "must: " ++ text_of m) in

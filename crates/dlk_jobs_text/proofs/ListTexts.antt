@@ -32,7 +32,8 @@ first_behind [] first h at = absurd (omega arith)
 first_behind (x ∷ xs) first h at = λ i. sym at i ∷ sym (take_rest (x ∷ xs) 1) i
 
 -- all texts
-pub all_behind : {X : Type 0} (text : X → List ℕ) (xs : List X) (first : X) (i : ℕ) (old one now : List ℕ) → 1 ≤ length xs → first ≡ get_or xs 0 first → length (others xs) ≤ i →
+pub all_behind : {X : Type 0} (text : X → List ℕ) (xs : List X) (first : X) (i : ℕ) (old one now : List ℕ) → 1 ≤ length xs → first ≡ get_or xs 0 first →
+    length (others xs) ≤ i →
     one ≡ old ++ text first → now ≡ one ++ behind text (take i (others xs)) → now ≡ old ++ join_by text (codes ", ") xs
 all_behind text xs first i old one now some at past one_is now_is =
     now_is ∙ ap (λ l. one ++ behind text l) (take_all i (others xs) past) ∙ ap (λ l. l ++ behind text (others xs)) one_is

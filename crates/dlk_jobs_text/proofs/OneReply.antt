@@ -11,7 +11,8 @@ use Rattle.dlk_replies.specs.Replies.{Reply}
 use Rattle.dlk_replies.specs.declared.form.Role.TheVariants.{File}
 use Rattle.dlk_replies.specs.Refusals.{text_refused}
 use Rattle.dlk_jobs_text.specs.Prints.{Prints, bad_text, prints, printed}
-use Rattle.dlk_jobs_text.specs.Lists.{Lists, lists, bad_text as lists_fault, IsWritten, AreWritten, set_listed, symbols_listed, set_text, signature_text, four_lines}
+use Rattle.dlk_jobs_text.specs.Lists.{Lists, lists, bad_text as lists_fault, IsWritten, AreWritten, set_listed, symbols_listed, set_text}
+use Rattle.dlk_jobs_text.specs.Lists.{signature_text, four_lines}
 
 pub one_print : (file : List ℕ) (r s : Reply) → Prints file r → Prints file s → r ≡ s
 one_print file r s (bad_text why a) (bad_text other b) = ap (text_refused File) (one_tree_fault Expression Allowed file why other a b)

@@ -38,7 +38,8 @@ one_fork Stops Is answer Next one r s (goes v a r' n) (goes u b s' m) = one.next
 
 -- A result is too big, or too deep, or printed.
 abbrev Deep : Tree → Reply → Type 0
-Deep t = Fork {W = Unit {0}} {V = Unit {0}} (λ u. greatest_depth < depth t) (λ u. depth t ≤ greatest_depth) (λ u. refusal (codes "result-too-deep")) (λ u reply. reply ≡ printed t)
+Deep t = Fork {W = Unit {0}} {V = Unit {0}} (λ u. greatest_depth < depth t) (λ u. depth t ≤ greatest_depth) (λ u. refusal (codes "result-too-deep"))
+    (λ u reply. reply ≡ printed t)
 
 abbrev Sized : Tree → Reply → Type 0
 Sized t = Fork {W = Unit {0}} {V = Unit {0}} (λ u. most_nodes < size t) (λ u. size t ≤ most_nodes) (λ u. refusal (codes "result-too-big")) (λ u. Deep t)
@@ -89,7 +90,8 @@ one_formed e pairs =
 
 one_paired : (substitution : List ℕ) (e : Tree) (r s : Reply) → Paired substitution e r → Paired substitution e s → r ≡ s
 one_paired substitution e =
-    one_fork _ _ _ _ (record { reason = one_pairs_fault substitution; either = λ why pairs a b. pairs_or_fault substitution pairs why b a; value = one_pairs_text substitution; next = one_formed e })
+    one_fork _ _ _ _ (record { reason = one_pairs_fault substitution; either = λ why pairs a b. pairs_or_fault substitution pairs why b a; value =
+        one_pairs_text substitution; next = one_formed e })
 
 one_staged : (file substitution : List ℕ) (r s : Reply) → Staged file substitution r → Staged file substitution s → r ≡ s
 one_staged file substitution =

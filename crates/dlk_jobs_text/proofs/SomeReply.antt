@@ -15,7 +15,8 @@ use Rattle.dlk_replies.specs.Replies.{Reply, refusal}
 use Rattle.dlk_replies.specs.Refusals.{text_refused}
 use Rattle.dlk_jobs_text.specs.Prints.{Prints, bad_text, prints, printed, FileText}
 use Rattle.dlk_jobs_text.specs.Lists.{Lists, lists, bad_text as lists_fault, set_listed, symbols_listed, set_text, signature_text, four_lines}
-use Rattle.dlk_jobs_text.specs.Substitutes.{Substitutes, bad_file, bad_subst, bad_pair, not_admissible, too_big, too_deep, prints as prints_result, pair_refused, AreRead}
+use Rattle.dlk_jobs_text.specs.Substitutes.{Substitutes, bad_file, bad_subst, bad_pair, not_admissible, too_big, too_deep, prints as prints_result}
+use Rattle.dlk_jobs_text.specs.Substitutes.{pair_refused, AreRead}
 use Rattle.dlk_jobs_text.proofs.SomeListing.{some_free_listing, some_bound_listing, some_must_listing, some_signature}
 
 pub some_print : (file : List ℕ) → (reply : Reply) × Prints file reply

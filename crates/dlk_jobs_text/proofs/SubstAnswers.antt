@@ -13,12 +13,14 @@ use Rattle.dlk_sequent.specs.Substitutions.{pairs_at}
 use Rattle.dlk_subst.specs.Results.{IsResult}
 use Rattle.dlk_replies.specs.Replies.{Reply}
 use Rattle.dlk_jobs_text.specs.Prints.{printed}
-use Rattle.dlk_jobs_text.specs.Substitutes.{Substitutes, bad_file, bad_subst, bad_pair, not_admissible, too_big, too_deep, prints, PlainText, AreRead, HasResult}
+use Rattle.dlk_jobs_text.specs.Substitutes.{Substitutes, bad_file, bad_subst, bad_pair, not_admissible, too_big, too_deep, prints, PlainText, AreRead}
+use Rattle.dlk_jobs_text.specs.Substitutes.{HasResult}
 use Rattle.dlk_jobs_text.specs.Refused.{RefusesFile, RefusesPairs, RefusesPair, RefusesUse, RefusesLarge}
 
 -- an expression that was read into fewer trees, and pairs, are read
 pub both_read : (file substitution : List ℕ) (old new : List Tree) (id : Id) (e : Tree) (pairs same : List IdPair) →
-    PlainText file e → StandsFor old id e → Keeps old new → PairsText substitution (pairs_at new pairs) → same ≡ pairs → AreRead file substitution (tree new id) (pairs_at new same)
+    PlainText file e → StandsFor old id e → Keeps old new → PairsText substitution (pairs_at new pairs) → same ≡ pairs →
+        AreRead file substitution (tree new id) (pairs_at new same)
 both_read file substitution old new id e pairs same reads stands keeps text is =
     record {
       expression = subst (PlainText file) (sym (keeps.same id stands.known ∙ stands.tree_is)) reads;

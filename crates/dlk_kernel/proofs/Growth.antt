@@ -59,7 +59,8 @@ module _ (old new : List Tree) (keeps : Keeps old new) where
   pub formulas_kept : (all : List NamedFormula) → AreFormulas old all → AreFormulas new all
   formulas_kept all h = All-weaker (λ (n : NamedFormula). IsFormulaOf old n.name n.formula) (λ n. IsFormulaOf new n.name n.formula) formula_kept all h
 
-  pub still_sound : (unique : Bool) (rows : List Row) (before now : List NamedFormula) → IsSound unique old rows before → AreFormulas new now → IsSound unique new rows now
+  pub still_sound : (unique : Bool) (rows : List Row) (before now : List NamedFormula) → IsSound unique old rows before → AreFormulas new now →
+      IsSound unique new rows now
   still_sound unique rows before now h formulas = record { is_unique = h.is_unique; are_sound = sound_kept rows h.are_sound; are_formulas = formulas }
 
   -- a row that a step gives comes last
@@ -109,7 +110,8 @@ sound_take trees n rows h = record {
 
 pub still_sound_take : (unique : Bool) (trees : List Tree) (n : ℕ) (rows : List Row) (named : List NamedFormula) → IsSound unique trees rows named →
     IsSound unique trees (take n rows) named
-still_sound_take unique trees n rows named h = record { is_unique = h.is_unique; are_sound = sound_take trees n rows h.are_sound; are_formulas = h.are_formulas }
+still_sound_take unique trees n rows named h =
+    record { is_unique = h.is_unique; are_sound = sound_take trees n rows h.are_sound; are_formulas = h.are_formulas }
 
 -- rows that stay, over a store that has grown
 pub same_rows : {S : Type 0} (trees : S → List Tree) (old new : State S) → Keeps (trees old.store) (trees new.store) →

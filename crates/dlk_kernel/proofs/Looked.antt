@@ -50,12 +50,14 @@ module _ {old now : List Tree} (keeps : Keeps old now) (pairs : List Pair) (are_
       sum_by (most_looks (pairs_at now pairs)) (map (tree now) ids) ≡ sum_by (most_looks (pairs_at old pairs)) (map (tree old) ids)
   side_looks_kept ids known = let ps = pairs_at-kept keeps pairs are_known in let ts = trees-kept keeps ids known in λ i. sum_by (most_looks (ps i)) (ts i)
 
-  pub sequent_looks_kept : (s : Sequent) → IsKnown old s → sequent_looks (pairs_at now pairs) (sequent_at now s) ≡ sequent_looks (pairs_at old pairs) (sequent_at old s)
+  pub sequent_looks_kept : (s : Sequent) → IsKnown old s →
+      sequent_looks (pairs_at now pairs) (sequent_at now s) ≡ sequent_looks (pairs_at old pairs) (sequent_at old s)
   sequent_looks_kept s known = let ps = pairs_at-kept keeps pairs are_known in let t = sequent-kept keeps s known in λ i. sequent_looks (ps i) (t i)
 
   pub sequents_looks_kept : (all : List Sequent) → All (IsKnown old) all →
       sum_by (sequent_looks (pairs_at now pairs)) (map (sequent_at now) all) ≡ sum_by (sequent_looks (pairs_at old pairs)) (map (sequent_at old) all)
-  sequents_looks_kept all known = let ps = pairs_at-kept keeps pairs are_known in let ts = sequents-kept keeps all known in λ i. sum_by (sequent_looks (ps i)) (ts i)
+  sequents_looks_kept all known = let ps = pairs_at-kept keeps pairs are_known in let ts = sequents-kept keeps all known in
+      λ i. sum_by (sequent_looks (ps i)) (ts i)
 
 -- one formula or one sequent more was looked at, in a store that has grown so far
 module _ {old now : List Tree} (keeps : Keeps old now) (pairs : List Pair) (are_known : AreKnownPairs old pairs) (from here next n : ℕ) where
@@ -90,7 +92,8 @@ module _ {old now : List Tree} (keeps : Keeps old now) (pairs : List Pair) (are_
   both_looked s known first then = omega (arith, first, then, side_looks_kept keeps pairs are_known s.succ known.succ)
 
   pub row_looked : (row : Row) → IsKnownRow old row → here ≤ from + sequent_looks (pairs_at old pairs) (sequent_at old row.conclusion) →
-      next ≤ here + sum_by (sequent_looks (pairs_at now pairs)) (map (sequent_at now) row.goals) → next ≤ from + provable_looks (pairs_at old pairs) (provable_at old row)
+      next ≤ here + sum_by (sequent_looks (pairs_at now pairs)) (map (sequent_at now) row.goals) →
+          next ≤ from + provable_looks (pairs_at old pairs) (provable_at old row)
   row_looked row known first then = omega (arith, first, then, sequents_looks_kept keeps pairs are_known row.goals known.goals)
 
 -- a substitution in a fact: its pairs are looked at first

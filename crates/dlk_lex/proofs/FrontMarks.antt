@@ -1,5 +1,6 @@
 -- The first of the marks that begin with a byte which is at the front is the longest there.
-use Rattle.std.proofs.Common.{◌≡◌, ℕ, ◌<◌, ◌≤◌, Bool, true, false, ◌&&◌, nat_le, eqb, List, [], ◌∷◌, ◌++◌, length, take, drop, get_or, map, refl, sym, ap, subst, ◌∙◌, ◌==◌, inl, inr, arith, lit<}
+use Rattle.std.proofs.Common.{◌≡◌, ℕ, ◌<◌, ◌≤◌, Bool, true, false, ◌&&◌, nat_le, eqb, List, [], ◌∷◌, ◌++◌, length, take, drop, get_or, map, refl, sym}
+use Rattle.std.proofs.Common.{ap, subst, ◌∙◌, ◌==◌, inl, inr, arith, lit<}
 use Rattle.std.specs.List.{All, AllPairs, Contains, filter, list_all, position_or_len, starts_with}
 use Rattle.std.specs.Str.{bytes_eq}
 use Rattle.std.proofs.lemmas.Bool.{and_parts, leb-true, cases_lt, cond_both, eqb-true}
@@ -67,7 +68,8 @@ module _ {X : Type 0} (text : X → List ℕ) (mark_of : X → Mark) (bytes : Li
   -- each begins as the bytes do
   pub begins : (i : ℕ) (d : X) → i < length rows → get_or (text (get_or rows i d)) 0 0 ≡ get_or bytes 0 0
   begins i d lt =
-      let passes = subst (All (λ m. (get_or (spelling m) 0 0 == get_or bytes 0 0) ≡ true)) (sym marks_are) (all_pass (λ m. get_or (spelling m) 0 0 == get_or bytes 0 0) marks) in
+      let passes = subst (All (λ m. (get_or (spelling m) 0 0 == get_or bytes 0 0) ≡ true)) (sym marks_are)
+          (all_pass (λ m. get_or (spelling m) 0 0 == get_or bytes 0 0) marks) in
       let here = passes i (mark_of d) (omega (arith, lt, size)) in
       ap (λ (t : List ℕ). get_or t 0 0) (spells i d lt) ∙ ap (λ m. get_or (spelling m) 0 0) (sym (get_or-map mark_of rows i d)) ∙ eqb-true _ _ here
 

@@ -67,7 +67,8 @@ begins ts are = go are.before are.tokens_are are.no_sooner
     })
 
 -- the first of tokens is taken
-pub token_taken : (o p : Origin) (ts : List Token) (t d : Token) → IsOf o ts → IsOf p (drop 1 ts) → AreTokens ts → t ≡ get_or ts 0 d → t.kind ≢ End → IsNext o t p
+pub token_taken : (o p : Origin) (ts : List Token) (t d : Token) → IsOf o ts → IsOf p (drop 1 ts) → AreTokens ts → t ≡ get_or ts 0 d → t.kind ≢ End →
+    IsNext o t p
 token_taken (Bytes bytes at) p ts t d h i are first some = absurd h
 token_taken (Tokens tokens) (Bytes bytes at) ts t d h i are first some = absurd i
 token_taken (Tokens tokens) (Tokens later) ts t d h i are first some = go (begins ts are)
@@ -113,7 +114,8 @@ noted_more before taken t n h = subst (λ (l : List Token). AreNoted l n) (appen
 
 -- what taking all that is left keeps
 abbrev pub Taking : Source → Source → Type 0
-Taking first now = (taken : List Token) × Passes first.origin taken now.origin × ((before : List Token) → AreNoted before first.noted → AreNoted (before ++ taken) now.noted)
+Taking first now = (taken : List Token) × Passes first.origin taken now.origin
+    × ((before : List Token) → AreNoted before first.noted → AreNoted (before ++ taken) now.noted)
 
 pub taking_on : (first now next : Source) (t : Token) → Taking first now → IsNext now.origin t next.origin → t.kind ≢ End
     → ((seen : List Token) → AreNoted seen now.noted → AreNoted (seen ++ t ∷ []) next.noted) → Taking first next

@@ -1,5 +1,6 @@
 -- What is at the front, and one step of the split over it.
-use Rattle.std.proofs.Common.{◌≡◌, ◌≢◌, ℕ, ◌+◌, ◌-◌, ◌<◌, ◌≤◌, true, false, List, [], ◌∷◌, ◌++◌, length, take, drop, get_or, refl, sym, ap, subst, ◌∙◌, append_assoc, arith}
+use Rattle.std.proofs.Common.{◌≡◌, ◌≢◌, ℕ, ◌+◌, ◌-◌, ◌<◌, ◌≤◌, true, false, List, [], ◌∷◌, ◌++◌, length, take, drop, get_or, refl, sym, ap, subst}
+use Rattle.std.proofs.Common.{◌∙◌, append_assoc, arith}
 use Rattle.std.proofs.Math.Seq.{drop-cons}
 use Rattle.std.proofs.lemmas.List.{drop_all, take-append-drop, length-take-le, length-drop, drop-drop, take_all}
 use Rattle.dlk_grammar.specs.declared.token.Token.{Token}
@@ -35,7 +36,8 @@ module _ (bytes : List ℕ) (some : 0 < length bytes) where
   })
 
 -- what is at the front where no space is and no comment begins
-pub as_piece : (bytes : List ℕ) → 0 < length bytes → is_space (get_or bytes 0 0) ≡ false → ¬ BeginsComment bytes → (p : LexPiece) → IsToken bytes p → IsPiece bytes p
+pub as_piece : (bytes : List ℕ) → 0 < length bytes → is_space (get_or bytes 0 0) ≡ false → ¬ BeginsComment bytes → (p : LexPiece) → IsToken bytes p →
+    IsPiece bytes p
 as_piece bytes some no_space none (lex.Comment n) h = absurd h
 as_piece bytes some no_space none (lex.Token k n) h = token_piece bytes some n k none h
 as_piece bytes some no_space none lex.Nothing h = no_piece bytes some no_space none h
@@ -84,7 +86,8 @@ module _ (bytes : List ℕ) (from at : ℕ) (out : List Token) (reached : Splits
   stuck f = reached.bad at (subst (λ (l : List ℕ). BadAt at l at) same (go_bad f refl))
 
 -- a space
-pub past_space : (bytes : List ℕ) (from at : ℕ) → SplitsUpTo bytes from at [] → at < length bytes → is_space (get_or bytes at 0) ≡ true → SplitsUpTo bytes from (at + 1) []
+pub past_space : (bytes : List ℕ) (from at : ℕ) → SplitsUpTo bytes from at [] → at < length bytes → is_space (get_or bytes at 0) ≡ true →
+    SplitsUpTo bytes from (at + 1) []
 past_space bytes from at reached lt h =
     let rest = drop at bytes in
     let some : 0 < length rest = omega (arith, length-drop at bytes) in
@@ -111,7 +114,8 @@ pub rest_from : (bytes : List ℕ) (at : ℕ) → take (length bytes - at) (drop
 rest_from bytes at = take_all (length bytes - at) (drop at bytes) (omega (arith, length-drop at bytes))
 
 -- tokens of which the bytes up to a place are, and one more
-pub joined : (bytes : List ℕ) (at to : ℕ) (out : List Token) (t : Token) → SplitsUpTo bytes 0 at out → SplitsUpTo bytes at to (t ∷ []) → SplitsUpTo bytes 0 to (out ++ t ∷ [])
+pub joined : (bytes : List ℕ) (at to : ℕ) (out : List Token) (t : Token) → SplitsUpTo bytes 0 at out → SplitsUpTo bytes at to (t ∷ []) →
+    SplitsUpTo bytes 0 to (out ++ t ∷ [])
 joined bytes at to out t a b = record {
   within = b.within;
   forward = omega arith;
@@ -120,7 +124,8 @@ joined bytes at to out t a b = record {
 }
 
 -- tokens of which all bytes are
-pub all_split : (bytes : List ℕ) (at : ℕ) (out : List Token) (t : Token) → SplitsUpTo bytes 0 at out → IsFirst bytes at t → t.kind ≡ End → Splits 0 bytes (out ++ t ∷ [])
+pub all_split : (bytes : List ℕ) (at : ℕ) (out : List Token) (t : Token) → SplitsUpTo bytes 0 at out → IsFirst bytes at t → t.kind ≡ End →
+    Splits 0 bytes (out ++ t ∷ [])
 all_split bytes at out t a (first_one some lt up) is = absurd (some is)
 all_split bytes at out t a (none_left e up ends) is = a.found (t ∷ []) (up.found (t ∷ []) ends)
 

@@ -11,7 +11,8 @@ use Rattle.dlk_lines.specs.Spelled.{Spelling, IsSequentText}
 use Rattle.dlk_lines.specs.Laws.{SaysOrNot}
 use Rattle.dlk_lines.specs.Lines.{IsStep, IsStepLine}
 use Rattle.dlk_lines.specs.Parts.{CutAt, NumberThen, FactGoal, FactGoalRule, FactGoalFact, FactPairs, FactNames, step_word, Behind}
-use Rattle.dlk_lines.proofs.StepForms.{kind, same_kind, step_parts, step_worded, worded_step, names_cut, names_are, no_rule_behind, no_fact_behind, no_pairs_behind, no_first_name, no_second_name}
+use Rattle.dlk_lines.proofs.StepForms.{kind, same_kind, step_parts, step_worded, worded_step, names_cut, names_are, no_rule_behind, no_fact_behind}
+use Rattle.dlk_lines.proofs.StepForms.{no_pairs_behind, no_first_name, no_second_name}
 use Rattle.dlk_lines.proofs.LineForms.{numbered_line, no_number, no_step}
 use Rattle.dlk_lines.proofs.SomeParts.{same_bytes, cut_decided, number_decided, number_then_decided}
 use Rattle.dlk_lines.proofs.SomeRule.{rule_decided}

@@ -12,7 +12,8 @@ use Rattle.dlk_rules.proofs.WordLaws.{rule_made, found_word, no_such_word}
 use Rattle.dlk_lines.specs.Spelled.{Spelling, IsFormulaText}
 use Rattle.dlk_lines.specs.Lines.{IsArguments, one_place, one_formula, IsRule}
 use Rattle.dlk_lines.specs.Parts.{Bracketed}
-use Rattle.dlk_lines.proofs.Forms.{argument_parts, two_places_are, place_and_formula_are, place_and_name_are, no_place_behind, no_formula_behind, no_name_behind, Lack, lacking, made_rule, no_brackets, no_word, no_arguments}
+use Rattle.dlk_lines.proofs.Forms.{argument_parts, two_places_are, place_and_formula_are, place_and_name_are, no_place_behind, no_formula_behind}
+use Rattle.dlk_lines.proofs.Forms.{no_name_behind, Lack, lacking, made_rule, no_brackets, no_word, no_arguments}
 use Rattle.dlk_lines.proofs.SomeParts.{number_decided, number_then_decided, bracketed_decided}
 
 module _ (w : Spelling) (formula_decided : (text : List ℕ) → Dec ((h : Tree) × IsFormulaText w text h)) where

@@ -1,17 +1,29 @@
 -- What is read is in the grammar, where a token begins an operand or closes a holder.
 use Rattle.std.proofs.Common.{◌≡◌, ℕ, ◌≤◌, ◌⊎◌, inl, inr, Bool, true, false, List, [], ◌∷◌, ◌++◌, Some, None, refl, sym, ap, subst, ◌∙◌, append_assoc, arith}
 use Rattle.dlk_grammar.specs.declared.token.Infix.TheVariants.{And, Equal, Greater, Less, Sub}
-use Rattle.dlk_grammar.specs.Lexemes.{Word, Lexeme, Name, Number, Dot, Blank, True, False, All, Exist, Invariant, Open, Close, OpenBox, CloseBox, OpenBrace, CloseBrace, Bang, Prime, Gets, Query, Semi, Comma, Op}
-use Rattle.dlk_grammar.specs.Phrases.{Phrase, Literal, Argument, Variable, Apply, Truth, Falsity, Hole, Holds, Context, Assign, Test, System, Noted, snoc, Head, Call, Evolve, Items, add}
-use Rattle.dlk_grammar.specs.Grammar.{formula, atom, term, prim, prog, stmt, Reads, atom-true, atom-false, atom-hole, atom-holds, atom-context, atom-bracket, prim-number, prim-dot, prim-name, prim-apply, prim-bracket, stmt-assign, stmt-assign_prime, stmt-test, ReadsBrace, brace-prog, brace-items, brace-domain, ReadsItems, item-evolve}
+use Rattle.dlk_grammar.specs.Lexemes.{Word, Lexeme, Name, Number, Dot, Blank, True, False, All, Exist, Invariant, Open, Close, OpenBox, CloseBox}
+use Rattle.dlk_grammar.specs.Lexemes.{OpenBrace, CloseBrace, Bang, Prime, Gets, Query, Semi, Comma, Op}
+use Rattle.dlk_grammar.specs.Phrases.{Phrase, Literal, Argument, Variable, Apply, Truth, Falsity, Hole, Holds, Context, Assign, Test, System, Noted}
+use Rattle.dlk_grammar.specs.Phrases.{snoc, Head, Call, Evolve, Items, add}
+use Rattle.dlk_grammar.specs.Grammar.{formula, atom, term, prim, prog, stmt, Reads, atom-true, atom-false, atom-hole, atom-holds, atom-context}
+use Rattle.dlk_grammar.specs.Grammar.{atom-bracket, prim-number, prim-dot, prim-name, prim-apply, prim-bracket, stmt-assign, stmt-assign_prime}
+use Rattle.dlk_grammar.specs.Grammar.{stmt-test, ReadsBrace, brace-prog, brace-items, brace-domain, ReadsItems, item-evolve}
 use Rattle.dlk_tree.specs.declared.op.Sort.{Sort}
 use Rattle.dlk_tree.specs.declared.op.Sort.TheVariants.{Term, Formula, Program}
 use Rattle.dlk_machine.specs.Levels.{form_sort}
-use Rattle.dlk_machine.specs.Machine.{◌>>=◌, when, Between, ForAll, ForSome, InBox, InDia, Bang', Modal, Holder, Round, Args, InContext, In, InBrace, Assigns, Tests, Evolves, Domain, Notes, Part, Left, Before, Inside, level, operand_sort, result_sort, Tail, Done, Bare, Grouped, Braced, Annotated, Piece, Is, Symbol, State, Wants, Has, Binds, Starts, Opens, WantsItem, as_sort, tail_of, with_tail, program_sort, is_program, reduce, round_sort, place, allows, fits, start_operand, start_statement, start, after_operand, items_step, close, close_top, closing}
+use Rattle.dlk_machine.specs.Machine.{◌>>=◌, when, Between, ForAll, ForSome, InBox, InDia, Bang', Modal, Holder, Round, Args, InContext, In, InBrace}
+use Rattle.dlk_machine.specs.Machine.{Assigns, Tests, Evolves, Domain, Notes, Part, Left, Before, Inside, level, operand_sort, result_sort, Tail}
+use Rattle.dlk_machine.specs.Machine.{Done, Bare, Grouped, Braced, Annotated, Piece, Is, Symbol, State, Wants, Has, Binds, Starts, Opens, WantsItem}
+use Rattle.dlk_machine.specs.Machine.{as_sort, tail_of, with_tail, program_sort, is_program, reduce, round_sort, place, allows, fits, start_operand}
+use Rattle.dlk_machine.specs.Machine.{start_statement, start, after_operand, items_step, close, close_top, closing}
 use Rattle.dlk_machine.proofs.Opening.{bind_some, when_is}
 use Rattle.dlk_machine.proofs.Climb.{left_form, formula_level, program_level, need_below, stands}
 use Rattle.dlk_machine.proofs.OpenParts.{place_kind}
-use Rattle.dlk_machine.proofs.Spelled.{mark, table, list_joined, items_joined, note_brace, end_note, end_stmt, end_invariants, HolderText, Spells, Known, known_tree, Good, Reduced, left_of_top, chosen, some_eq, reduced, loose_nine, loose_top, loose_formula, Tailed, HasRead, Midway, After, minus-text, bang-text, boxed-text, dia-text, list-goes_on, items-go_on, round-text, args-text, context-text, box-text, in_dia-text, brace-text, assigns-text, assigns_prime-text, tests-text, evolves-text, domain-text, notes-text, left, before, inside}
+use Rattle.dlk_machine.proofs.Spelled.{mark, table, list_joined, items_joined, note_brace, end_note, end_stmt, end_invariants, HolderText, Spells}
+use Rattle.dlk_machine.proofs.Spelled.{Known, known_tree, Good, Reduced, left_of_top, chosen, some_eq, reduced, loose_nine, loose_top, loose_formula}
+use Rattle.dlk_machine.proofs.Spelled.{Tailed, HasRead, Midway, After, minus-text, bang-text, boxed-text, dia-text, list-goes_on, items-go_on}
+use Rattle.dlk_machine.proofs.Spelled.{round-text, args-text, context-text, box-text, in_dia-text, brace-text, assigns-text, assigns_prime-text}
+use Rattle.dlk_machine.proofs.Spelled.{tests-text, evolves-text, domain-text, notes-text, left, before, inside}
 
 -- the new state, by the state that the step gives
 pub moved : (g : Sort) (x y : State) (all : List Lexeme) → Some x ≡ Some y → After g x all → After g y all

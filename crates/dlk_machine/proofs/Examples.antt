@@ -4,8 +4,10 @@ use Rattle.dlk_tree.specs.declared.op.Num.{Num}
 use Rattle.dlk_tree.specs.declared.op.Sort.TheVariants as sort
 use Rattle.dlk_grammar.specs.declared.token.Dots.TheVariants.{Refused, Allowed}
 use Rattle.dlk_grammar.specs.declared.token.Infix.TheVariants.{Imply, And, Equal, AtLeast, Greater, Less, Add, Sub, Mul, Pow}
-use Rattle.dlk_grammar.specs.Lexemes.{Word, Name, Number, Dot, Bang, True, Invariant, RoundBars, Open, Close, OpenBrace, CloseBrace, Prime, Gets, Semi, Comma, Turnstile, Op}
-use Rattle.dlk_grammar.specs.Phrases.{Everywhere, Literal, Variable, Negate, Truth, Holds, Not, Dia, Binary, Const, Assign, AssignAny, Then, Loop, System, Noted, none, snoc, Any, Evolve, Flow, no_items, add}
+use Rattle.dlk_grammar.specs.Lexemes.{Word, Name, Number, Dot, Bang, True, Invariant, RoundBars, Open, Close, OpenBrace, CloseBrace, Prime, Gets}
+use Rattle.dlk_grammar.specs.Lexemes.{Semi, Comma, Turnstile, Op}
+use Rattle.dlk_grammar.specs.Phrases.{Everywhere, Literal, Variable, Negate, Truth, Holds, Not, Dia, Binary, Const, Assign, AssignAny, Then, Loop}
+use Rattle.dlk_grammar.specs.Phrases.{System, Noted, none, snoc, Any, Evolve, Flow, no_items, add}
 use Rattle.dlk_grammar.specs.Grammar.{Turned}
 use Rattle.dlk_grammar.specs.Erased.{ills, lowest}
 use Rattle.dlk_machine.specs.Parse.{parse, reader}

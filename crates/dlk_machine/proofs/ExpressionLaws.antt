@@ -9,7 +9,8 @@ use Rattle.dlk_machine.specs.Machine.{◌>>=◌, Done, Bare, Is, State, Wants, H
 use Rattle.dlk_grammar.specs.declared.token.Dots.{Dots}
 use Rattle.dlk_machine.specs.Parse.{or_else, reader}
 use Rattle.dlk_grammar.specs.Grammar.{formula, Reads, ReadsExpression, as-formula, as-program, as-term}
-use Rattle.dlk_machine.specs.Expressions.{ExpressionState, Unread, FirstName, FirstPrime, AsFormula, AsProgram, as_formula, as_program, expression_step, term_or_formula, expression_ended, expression_reader}
+use Rattle.dlk_machine.specs.Expressions.{ExpressionState, Unread, FirstName, FirstPrime, AsFormula, AsProgram, as_formula, as_program}
+use Rattle.dlk_machine.specs.Expressions.{expression_step, term_or_formula, expression_ended, expression_reader}
 use Rattle.dlk_machine.proofs.Opening.{some_is, bind_some, plain_permitted, Begun, states, states_more}
 use Rattle.dlk_machine.proofs.Only.{only_at}
 use Rattle.dlk_machine.proofs.Found.{ends}

@@ -4,14 +4,16 @@ use Rattle.std.proofs.lemmas.List.{append-nil}
 use Rattle.dlk_grammar.specs.declared.token.Dots.TheVariants.{Allowed}
 use Rattle.dlk_grammar.specs.Lexemes.{Word, Lexeme, Name, Comma, Swaps}
 use Rattle.dlk_grammar.specs.Substitutions.{PairPhrase, ReadsPairs, pairs-one, pairs-more, subst-nothing, subst-pairs}
-use Rattle.dlk_grammar.specs.Extras.{Rename, ExtraPhrase, rename-names, ReadsRenames, renames-one, renames-more, ReadsExtra, extra-subst, extra-renames, extra-both}
+use Rattle.dlk_grammar.specs.Extras.{Rename, ExtraPhrase, rename-names, ReadsRenames, renames-one, renames-more, ReadsExtra, extra-subst}
+use Rattle.dlk_grammar.specs.Extras.{extra-renames, extra-both}
 use Rattle.dlk_machine.specs.Machine.{◌>>=◌}
 use Rattle.dlk_machine.proofs.Opening.{some_is, bind_some, all_permitted, Begun, states, states_then}
 use Rattle.dlk_machine.proofs.Parsing.{none_some, Reader}
 use Rattle.dlk_machine.specs.Pairs.{PairState, Begins, LeftName, PairsState, Fresh, Within, pairs_step, pairs_ended, pairs_reader, pair_ended}
 use Rattle.dlk_machine.specs.Extras.{ExtraState, InPairs, NewWanted, Renamed, extra_step, extra_ended, extra_reader}
 use Rattle.dlk_machine.proofs.PairEnds.{pair_live}
-use Rattle.dlk_machine.proofs.PairLaws.{pairs_read, only_pairs, PairsBefore, pairs-begin, pairs-go_on, pairs_joined, WithinText, PairsAfter, all_pairs, pairs_moves}
+use Rattle.dlk_machine.proofs.PairLaws.{pairs_read, only_pairs, PairsBefore, pairs-begin, pairs-go_on, pairs_joined, WithinText, PairsAfter}
+use Rattle.dlk_machine.proofs.PairLaws.{all_pairs, pairs_moves}
 
 abbrev with_pairs : List Rename → List PairPhrase → ExtraPhrase
 with_pairs n l = record { renames = n; pairs = l }

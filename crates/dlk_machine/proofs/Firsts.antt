@@ -3,7 +3,13 @@ use Rattle.std.proofs.Common.{◌≡◌, ℕ, Bool, true, false, List, [], ◌�
 use Rattle.dlk_grammar.specs.declared.token.Infix.TheVariants.{Mul}
 use Rattle.dlk_grammar.specs.Lexemes.{Word, Lexeme, Name, Close, OpenBrace, Prime, Gets, Query, Semi, Op}
 use Rattle.dlk_grammar.specs.Phrases.{Phrase, Phrases}
-use Rattle.dlk_grammar.specs.Grammar.{Nonterminal, term, Reads, formula-imp, formula-equiv, imp-disj, imp-imply, disj-conj, disj-or, conj-unf, conj-and, unf-not, unf-forall, unf-exists, unf-box, unf-dia, unf-atom, atom-true, atom-false, atom-hole, atom-compare, atom-nullary, atom-holds, atom-any, atom-except, atom-context, atom-bracket, atom-diff, term-mul, term-add, term-sub, mul-neg, mul-times, mul-over, neg-pow, neg-minus, pow-prim, pow-power, prim-number, prim-dot, prim-name, prim-primed, prim-nullary, prim-apply, prim-any, prim-except, prim-bracket, prim-diff, prog-seq, prog-choice, seq-stmt, seq-then, stmt-const, stmt-assign, stmt-assign_prime, stmt-any, stmt-test, stmt-group, ReadsList, list-one, list-more, ReadsBrace, brace-prog, brace-items, brace-domain}
+use Rattle.dlk_grammar.specs.Grammar.{Nonterminal, term, Reads, formula-imp, formula-equiv, imp-disj, imp-imply, disj-conj, disj-or, conj-unf}
+use Rattle.dlk_grammar.specs.Grammar.{conj-and, unf-not, unf-forall, unf-exists, unf-box, unf-dia, unf-atom, atom-true, atom-false, atom-hole}
+use Rattle.dlk_grammar.specs.Grammar.{atom-compare, atom-nullary, atom-holds, atom-any, atom-except, atom-context, atom-bracket, atom-diff, term-mul}
+use Rattle.dlk_grammar.specs.Grammar.{term-add, term-sub, mul-neg, mul-times, mul-over, neg-pow, neg-minus, pow-prim, pow-power, prim-number}
+use Rattle.dlk_grammar.specs.Grammar.{prim-dot, prim-name, prim-primed, prim-nullary, prim-apply, prim-any, prim-except, prim-bracket, prim-diff}
+use Rattle.dlk_grammar.specs.Grammar.{prog-seq, prog-choice, seq-stmt, seq-then, stmt-const, stmt-assign, stmt-assign_prime, stmt-any, stmt-test}
+use Rattle.dlk_grammar.specs.Grammar.{stmt-group, ReadsList, list-one, list-more, ReadsBrace, brace-prog, brace-items, brace-domain}
 use Rattle.dlk_machine.specs.Levels.{form_sort}
 use Rattle.dlk_machine.specs.Machine.{program_sort}
 

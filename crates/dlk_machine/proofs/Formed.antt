@@ -1,5 +1,6 @@
 -- What is read is well made, where the names, numbers and dots of the lexemes are real.
-use Rattle.std.proofs.Common.{◌≡◌, ℕ, zero, suc, ◌+◌, ◌<◌, ◌≤◌, Bool, true, false, nat_le, List, [], ◌∷◌, ◌++◌, length, refl, sym, ap, ◌∙◌, arith, IsTrue, length-append}
+use Rattle.std.proofs.Common.{◌≡◌, ℕ, zero, suc, ◌+◌, ◌<◌, ◌≤◌, Bool, true, false, nat_le, List, [], ◌∷◌, ◌++◌, length, refl, sym, ap, ◌∙◌, arith}
+use Rattle.std.proofs.Common.{IsTrue, length-append}
 use Rattle.std.specs.Prelude.{replicate, not}
 use Rattle.std.specs.List.{list_all, All as AllOf}
 use Rattle.std.proofs.lemmas.Bool.{le-leb, lt-ltb, ltb-false, and_from, or_parts, not-false}
@@ -20,11 +21,25 @@ use Rattle.dlk_tree.specs.declared.op.Sort.TheVariants.{Term, Formula, Program}
 use Rattle.dlk_calculus.specs.Sequents.{IsFormula, IsSequent}
 use Rattle.dlk_grammar.specs.declared.token.Dots.TheVariants.{Refused}
 use Rattle.dlk_grammar.specs.declared.token.Infix.{Infix}
-use Rattle.dlk_grammar.specs.declared.token.Infix.TheVariants.{Equiv, Imply, Or, And, Equal, NotEqual, AtLeast, Greater, AtMost, Less, Add, Sub, Mul, Div, Pow, Choice}
-use Rattle.dlk_grammar.specs.Lexemes.{Word, Lexeme, Name, Number, Dot, Invariant, Open, Close, OpenBox, CloseBox, OpenBrace, CloseBrace, Prime, Gets, Query, Semi, Comma, Turnstile, Op}
-use Rattle.dlk_grammar.specs.Phrases.{Space, Everywhere, Except, Phrase, Phrases, none, Apply, Holds, Call, Item, Evolve, Flow, Items, no_items, add, System, Truth}
-use Rattle.dlk_grammar.specs.Grammar.{Nonterminal, formula, Reads, formula-imp, formula-equiv, imp-disj, imp-imply, disj-conj, disj-or, conj-unf, conj-and, unf-not, unf-forall, unf-exists, unf-box, unf-dia, unf-atom, atom-true, atom-false, atom-hole, atom-compare, atom-nullary, atom-holds, atom-any, atom-except, atom-context, atom-bracket, atom-diff, term-mul, term-add, term-sub, mul-neg, mul-times, mul-over, neg-pow, neg-minus, pow-prim, pow-power, prim-number, prim-dot, prim-name, prim-primed, prim-nullary, prim-apply, prim-any, prim-except, prim-bracket, prim-diff, prog-seq, prog-choice, seq-stmt, seq-then, stmt-const, stmt-assign, stmt-assign_prime, stmt-any, stmt-test, stmt-group, Compares, cmp-equal, cmp-not_equal, cmp-at_least, cmp-greater, cmp-at_most, cmp-less, ReadsList, list-one, list-more, ReadsBrace, brace-prog, brace-items, brace-domain, ReadsItems, items-one, items-more, ReadsItem, item-evolve, item-flow, item-except, ReadsStar, star-none, star-loop, ReadsInv, inv-none, inv-some, ReadsSide, side-nothing, side-list, Sides, Turned, ReadsSequent, sequent-sides, ReadsExpression, as-formula, as-program, as-term}
-use Rattle.dlk_grammar.specs.Erased.{erase, erase_all, item_of, ode_items, item_terms, symbol, taboo, ills, ills_of_all, ills_of_items, count, is_ill_call, is_ill_system, place_if, infix_op}
+use Rattle.dlk_grammar.specs.declared.token.Infix.TheVariants.{Equiv, Imply, Or, And, Equal, NotEqual, AtLeast, Greater, AtMost, Less, Add, Sub, Mul}
+use Rattle.dlk_grammar.specs.declared.token.Infix.TheVariants.{Div, Pow, Choice}
+use Rattle.dlk_grammar.specs.Lexemes.{Word, Lexeme, Name, Number, Dot, Invariant, Open, Close, OpenBox, CloseBox, OpenBrace, CloseBrace, Prime, Gets}
+use Rattle.dlk_grammar.specs.Lexemes.{Query, Semi, Comma, Turnstile, Op}
+use Rattle.dlk_grammar.specs.Phrases.{Space, Everywhere, Except, Phrase, Phrases, none, Apply, Holds, Call, Item, Evolve, Flow, Items, no_items, add}
+use Rattle.dlk_grammar.specs.Phrases.{System, Truth}
+use Rattle.dlk_grammar.specs.Grammar.{Nonterminal, formula, Reads, formula-imp, formula-equiv, imp-disj, imp-imply, disj-conj, disj-or, conj-unf}
+use Rattle.dlk_grammar.specs.Grammar.{conj-and, unf-not, unf-forall, unf-exists, unf-box, unf-dia, unf-atom, atom-true, atom-false, atom-hole}
+use Rattle.dlk_grammar.specs.Grammar.{atom-compare, atom-nullary, atom-holds, atom-any, atom-except, atom-context, atom-bracket, atom-diff, term-mul}
+use Rattle.dlk_grammar.specs.Grammar.{term-add, term-sub, mul-neg, mul-times, mul-over, neg-pow, neg-minus, pow-prim, pow-power, prim-number}
+use Rattle.dlk_grammar.specs.Grammar.{prim-dot, prim-name, prim-primed, prim-nullary, prim-apply, prim-any, prim-except, prim-bracket, prim-diff}
+use Rattle.dlk_grammar.specs.Grammar.{prog-seq, prog-choice, seq-stmt, seq-then, stmt-const, stmt-assign, stmt-assign_prime, stmt-any, stmt-test}
+use Rattle.dlk_grammar.specs.Grammar.{stmt-group, Compares, cmp-equal, cmp-not_equal, cmp-at_least, cmp-greater, cmp-at_most, cmp-less, ReadsList}
+use Rattle.dlk_grammar.specs.Grammar.{list-one, list-more, ReadsBrace, brace-prog, brace-items, brace-domain, ReadsItems, items-one, items-more}
+use Rattle.dlk_grammar.specs.Grammar.{ReadsItem, item-evolve, item-flow, item-except, ReadsStar, star-none, star-loop, ReadsInv, inv-none, inv-some}
+use Rattle.dlk_grammar.specs.Grammar.{ReadsSide, side-nothing, side-list, Sides, Turned, ReadsSequent, sequent-sides, ReadsExpression, as-formula}
+use Rattle.dlk_grammar.specs.Grammar.{as-program, as-term}
+use Rattle.dlk_grammar.specs.Erased.{erase, erase_all, item_of, ode_items, item_terms, symbol, taboo, ills, ills_of_all, ills_of_items, count}
+use Rattle.dlk_grammar.specs.Erased.{is_ill_call, is_ill_system, place_if, infix_op}
 use Rattle.dlk_grammar.specs.Readings.{permits, Permitted, erase_sides}
 use Rattle.dlk_machine.specs.Levels.{form_sort}
 

@@ -3,18 +3,35 @@ use Rattle.std.proofs.Common.{◌≡◌, ℕ, suc, ◌≤◌, ◌⊎◌, inl, in
 use Rattle.std.proofs.lemmas.List.{append-nil}
 use Rattle.dlk_grammar.specs.declared.token.Infix.{Infix}
 use Rattle.dlk_grammar.specs.declared.token.Infix.TheVariants.{And, Equal, Greater, Mul, Choice}
-use Rattle.dlk_grammar.specs.Lexemes.{Word, Lexeme, Name, Invariant, RoundBars, RoundBar, BarRound, BraceBar, BarBrace, Open, Close, CloseBox, OpenBrace, CloseBrace, Prime, Gets, Query, Semi, Comma, Op}
-use Rattle.dlk_grammar.specs.Phrases.{Everywhere, Except, Phrase, Variable, Apply, Diff, Holds, DiffF, Const, AssignAny, Loop, none, Call, Any, Flow, Items, no_items, add}
-use Rattle.dlk_grammar.specs.Grammar.{formula, unf, atom, term, prim, stmt, Reads, atom-nullary, atom-any, atom-except, atom-diff, prim-primed, prim-nullary, prim-any, prim-except, prim-diff, stmt-const, stmt-any, item-flow, item-except, star-loop}
+use Rattle.dlk_grammar.specs.Lexemes.{Word, Lexeme, Name, Invariant, RoundBars, RoundBar, BarRound, BraceBar, BarBrace, Open, Close, CloseBox}
+use Rattle.dlk_grammar.specs.Lexemes.{OpenBrace, CloseBrace, Prime, Gets, Query, Semi, Comma, Op}
+use Rattle.dlk_grammar.specs.Phrases.{Everywhere, Except, Phrase, Variable, Apply, Diff, Holds, DiffF, Const, AssignAny, Loop, none, Call, Any, Flow}
+use Rattle.dlk_grammar.specs.Phrases.{Items, no_items, add}
+use Rattle.dlk_grammar.specs.Grammar.{formula, unf, atom, term, prim, stmt, Reads, atom-nullary, atom-any, atom-except, atom-diff, prim-primed}
+use Rattle.dlk_grammar.specs.Grammar.{prim-nullary, prim-any, prim-except, prim-diff, stmt-const, stmt-any, item-flow, item-except, star-loop}
 use Rattle.dlk_tree.specs.declared.op.Sort.{Sort}
 use Rattle.dlk_tree.specs.declared.op.Sort.TheVariants.{Term, Formula, Program}
 use Rattle.dlk_machine.specs.Levels.{top}
-use Rattle.dlk_machine.specs.Machine.{◌>>=◌, when, By, Next, Quantifier, ForAll, ForSome, Bound, Args, InContext, InBrace, Assigns, Evolves, Notes, Part, Left, Before, Inside, Tail, Done, Bare, Grouped, Braced, Starred, Annotated, Piece, Is, Symbol, State, Wants, Has, Calls, Bars, BarsName, Binds, Starts, StartsPrime, StartsGets, StartsStar, Opens, OpensName, OpensPrime, WantsItem, ItemName, ItemPrime, ItemBar, ItemBarName, ItemEnds, Invariants, primes, formula_primes, as_sort, tail_of, program_sort, is_program, reduce, fits, start_operand, start_statement, after_operand, items_step, and_top, infix_after, name_after, primed, prime_after, star_after, invariant_after, semi_after, next_after, after_program, after_other, call_step, bars_step, bars_name_step, bind_step, statement_step, statement_prime_step, statement_gets_step, statement_star_step, item_name_step, item_prime_step, items_begin, item_bar_step, item_bar_name_step, opens_step, opens_name_step, opens_prime_step, invariants_step, step, whole, ended}
+use Rattle.dlk_machine.specs.Machine.{◌>>=◌, when, By, Next, Quantifier, ForAll, ForSome, Bound, Args, InContext, InBrace, Assigns, Evolves, Notes}
+use Rattle.dlk_machine.specs.Machine.{Part, Left, Before, Inside, Tail, Done, Bare, Grouped, Braced, Starred, Annotated, Piece, Is, Symbol, State}
+use Rattle.dlk_machine.specs.Machine.{Wants, Has, Calls, Bars, BarsName, Binds, Starts, StartsPrime, StartsGets, StartsStar, Opens, OpensName}
+use Rattle.dlk_machine.specs.Machine.{OpensPrime, WantsItem, ItemName, ItemPrime, ItemBar, ItemBarName, ItemEnds, Invariants, primes, formula_primes}
+use Rattle.dlk_machine.specs.Machine.{as_sort, tail_of, program_sort, is_program, reduce, fits, start_operand, start_statement, after_operand}
+use Rattle.dlk_machine.specs.Machine.{items_step, and_top, infix_after, name_after, primed, prime_after, star_after, invariant_after, semi_after}
+use Rattle.dlk_machine.specs.Machine.{next_after, after_program, after_other, call_step, bars_step, bars_name_step, bind_step, statement_step}
+use Rattle.dlk_machine.specs.Machine.{statement_prime_step, statement_gets_step, statement_star_step, item_name_step, item_prime_step, items_begin}
+use Rattle.dlk_machine.specs.Machine.{item_bar_step, item_bar_name_step, opens_step, opens_name_step, opens_prime_step, invariants_step, step, whole}
+use Rattle.dlk_machine.specs.Machine.{ended}
 use Rattle.dlk_machine.proofs.Opening.{bind_some, when_is}
 use Rattle.dlk_machine.proofs.Climb.{need}
 use Rattle.dlk_machine.proofs.Only.{top_sort}
-use Rattle.dlk_machine.proofs.Spelled.{PrefixText, ItemsBefore, items_joined, Noting, note_brace, end_note, end_stmt, end_semi, Spells, Known, tree_of, Good, Reduced, chosen, some_eq, loose_formula, Tailed, HasRead, Midway, quantifier_token, After, forall-text, exists-text, list-begins, items-begin, noting, args-text, context-text, brace-text, assigns-text, assigns_prime-text, evolves-text, notes-text, nothing, left, before, inside}
-use Rattle.dlk_machine.proofs.Closing.{moved, as_text, known_from, from_prim, from_stmt, from_symbol, not_program, operand_moves, statement_moves, wants_moves, reduced_all, operator_spells, open_inside, piece_kind, midway_text, midway_spells, midway_more, midway_same, items_moves, close_moves, closing_moves}
+use Rattle.dlk_machine.proofs.Spelled.{PrefixText, ItemsBefore, items_joined, Noting, note_brace, end_note, end_stmt, end_semi, Spells, Known}
+use Rattle.dlk_machine.proofs.Spelled.{tree_of, Good, Reduced, chosen, some_eq, loose_formula, Tailed, HasRead, Midway, quantifier_token, After}
+use Rattle.dlk_machine.proofs.Spelled.{forall-text, exists-text, list-begins, items-begin, noting, args-text, context-text, brace-text, assigns-text}
+use Rattle.dlk_machine.proofs.Spelled.{assigns_prime-text, evolves-text, notes-text, nothing, left, before, inside}
+use Rattle.dlk_machine.proofs.Closing.{moved, as_text, known_from, from_prim, from_stmt, from_symbol, not_program, operand_moves, statement_moves}
+use Rattle.dlk_machine.proofs.Closing.{wants_moves, reduced_all, operator_spells, open_inside, piece_kind, midway_text, midway_spells, midway_more}
+use Rattle.dlk_machine.proofs.Closing.{midway_same, items_moves, close_moves, closing_moves}
 
 operator_moves : (g : Sort) (o : Infix) (S : List Part) (p : Piece) (y : State) (all : List Lexeme) → HasRead g S p all
     → (after_operand g (By o) S p >>= λ T. Some (Wants T)) ≡ Some y → After g y (all ++ Op o ∷ [])

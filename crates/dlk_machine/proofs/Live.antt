@@ -1,20 +1,33 @@
 -- Every state that is reached has a text that ends it.
 use Rattle.std.proofs.Common.{◌≡◌, ℕ, ◌≤◌, Bool, true, false, List, [], ◌∷◌, ◌++◌, Some, refl, sym, ap, subst, ◌∙◌, append_assoc, arith}
 use Rattle.std.proofs.lemmas.List.{append-nil}
-use Rattle.dlk_grammar.specs.declared.token.Infix.TheVariants.{Equiv, Imply, Or, And, Equal, NotEqual, AtLeast, Greater, AtMost, Less, Add, Sub, Mul, Div, Pow, Choice}
-use Rattle.dlk_grammar.specs.Lexemes.{Lexeme, Name, Number, True, Invariant, RoundBar, BarRound, BraceBar, BarBrace, Open, Close, OpenBox, CloseBox, OpenBrace, CloseBrace, Prime, Gets, Query, Semi, Op}
+use Rattle.dlk_grammar.specs.declared.token.Infix.TheVariants.{Equiv, Imply, Or, And, Equal, NotEqual, AtLeast, Greater, AtMost, Less, Add, Sub, Mul}
+use Rattle.dlk_grammar.specs.declared.token.Infix.TheVariants.{Div, Pow, Choice}
+use Rattle.dlk_grammar.specs.Lexemes.{Lexeme, Name, Number, True, Invariant, RoundBar, BarRound, BraceBar, BarBrace, Open, Close, OpenBox, CloseBox}
+use Rattle.dlk_grammar.specs.Lexemes.{OpenBrace, CloseBrace, Prime, Gets, Query, Semi, Op}
 use Rattle.dlk_grammar.specs.Phrases.{Except, Phrase, Literal, Apply, Truth, Forall, Exists, Binary, Const, Assign, AssignAny, System, none, Call, Any, Items}
-use Rattle.dlk_grammar.specs.Grammar.{Nonterminal, formula, unf, atom, term, prim, prog, stmt, Reads, formula-imp, imp-disj, disj-conj, conj-unf, unf-forall, unf-exists, unf-box, unf-dia, unf-atom, atom-true, atom-compare, atom-context, atom-bracket, term-mul, mul-neg, neg-pow, pow-prim, prim-number, prim-nullary, prim-apply, prim-except, prim-bracket, stmt-const, stmt-assign, stmt-assign_prime, stmt-any, stmt-test, cmp-less, ReadsBrace, brace-prog, brace-items, brace-domain, ReadsItems, items-one, item-evolve, item-flow, item-except}
+use Rattle.dlk_grammar.specs.Grammar.{Nonterminal, formula, unf, atom, term, prim, prog, stmt, Reads, formula-imp, imp-disj, disj-conj, conj-unf}
+use Rattle.dlk_grammar.specs.Grammar.{unf-forall, unf-exists, unf-box, unf-dia, unf-atom, atom-true, atom-compare, atom-context, atom-bracket}
+use Rattle.dlk_grammar.specs.Grammar.{term-mul, mul-neg, neg-pow, pow-prim, prim-number, prim-nullary, prim-apply, prim-except, prim-bracket}
+use Rattle.dlk_grammar.specs.Grammar.{stmt-const, stmt-assign, stmt-assign_prime, stmt-any, stmt-test, cmp-less, ReadsBrace, brace-prog, brace-items}
+use Rattle.dlk_grammar.specs.Grammar.{brace-domain, ReadsItems, items-one, item-evolve, item-flow, item-except}
 use Rattle.dlk_tree.specs.declared.op.Num.{Num}
 use Rattle.dlk_tree.specs.declared.op.Sort.{Sort}
 use Rattle.dlk_tree.specs.declared.op.Sort.TheVariants.{Term, Formula, Program}
 use Rattle.dlk_machine.specs.Levels.{form_level, form_sort, top}
-use Rattle.dlk_machine.specs.Machine.{By, Next, Quantifier, ForAll, ForSome, InBox, InDia, Minus, Bang', Bound, Modal, Holder, Round, Args, InContext, In, InBrace, Assigns, Tests, Evolves, Domain, Notes, Part, Left, Before, Inside, binary, unary, Piece, State, Wants, Has, Calls, Bars, BarsName, Binds, Starts, StartsPrime, StartsGets, StartsStar, Opens, OpensName, OpensPrime, WantsItem, ItemName, ItemPrime, ItemBar, ItemBarName, ItemEnds, Invariants, as_sort, round_sort, held_sort, place, allows, fits, step}
+use Rattle.dlk_machine.specs.Machine.{By, Next, Quantifier, ForAll, ForSome, InBox, InDia, Minus, Bang', Bound, Modal, Holder, Round, Args, InContext}
+use Rattle.dlk_machine.specs.Machine.{In, InBrace, Assigns, Tests, Evolves, Domain, Notes, Part, Left, Before, Inside, binary, unary, Piece, State}
+use Rattle.dlk_machine.specs.Machine.{Wants, Has, Calls, Bars, BarsName, Binds, Starts, StartsPrime, StartsGets, StartsStar, Opens, OpensName}
+use Rattle.dlk_machine.specs.Machine.{OpensPrime, WantsItem, ItemName, ItemPrime, ItemBar, ItemBarName, ItemEnds, Invariants, as_sort, round_sort}
+use Rattle.dlk_machine.specs.Machine.{held_sort, place, allows, fits, step}
 use Rattle.dlk_machine.specs.Parse.{reader}
 use Rattle.dlk_machine.proofs.Opening.{some_is, bind_some, Plain, plain_append, Opening, opening_more, states}
 use Rattle.dlk_machine.proofs.Climb.{own_form, right_form, formula_level, level_above, need, need_below, stands}
 use Rattle.dlk_machine.proofs.OpenParts.{Loose, Loose-more}
-use Rattle.dlk_machine.proofs.Spelled.{prefix_form, mark, binary_reads, unary_reads, prefix_table, table, list-begins, list_joined, items_joined, note_brace, end_note, end_stmt, end_invariants, HolderText, round-text, args-text, context-text, box-text, in_dia-text, brace-text, assigns-text, assigns_prime-text, tests-text, evolves-text, domain-text, notes-text, Spells, nothing, left, before, inside, Known, loose_top, loose_formula, Midway, quantifier_token, After}
+use Rattle.dlk_machine.proofs.Spelled.{prefix_form, mark, binary_reads, unary_reads, prefix_table, table, list-begins, list_joined, items_joined}
+use Rattle.dlk_machine.proofs.Spelled.{note_brace, end_note, end_stmt, end_invariants, HolderText, round-text, args-text, context-text, box-text}
+use Rattle.dlk_machine.proofs.Spelled.{in_dia-text, brace-text, assigns-text, assigns_prime-text, tests-text, evolves-text, domain-text, notes-text}
+use Rattle.dlk_machine.proofs.Spelled.{Spells, nothing, left, before, inside, Known, loose_top, loose_formula, Midway, quantifier_token, After}
 use Rattle.dlk_machine.proofs.Found.{moves}
 use Rattle.dlk_machine.proofs.Only.{top_sort}
 

@@ -2,18 +2,38 @@
 use Rattle.std.proofs.Common.{◌≡◌, ℕ, true, false, List, [], ◌∷◌, ◌++◌, Option, Some, refl, sym, ap, subst, ◌∙◌, append_assoc, arith}
 use Rattle.std.proofs.lemmas.List.{append-nil}
 use Rattle.dlk_grammar.specs.declared.token.Infix.{Infix}
-use Rattle.dlk_grammar.specs.declared.token.Infix.TheVariants.{Equiv, Imply, Or, And, Equal, NotEqual, AtLeast, Greater, AtMost, Less, Add, Sub, Mul, Div, Pow, Choice}
-use Rattle.dlk_grammar.specs.Lexemes.{Word, Lexeme, Name, Number, Dot, Blank, True, False, All, Exist, Invariant, RoundBars, RoundBar, BarRound, Open, Close, OpenBox, CloseBox, OpenBrace, CloseBrace, Bang, Prime, Gets, Query, Semi, Comma, Op}
-use Rattle.dlk_grammar.specs.Phrases.{Everywhere, Except, Phrase, Literal, Argument, Variable, Apply, Diff, Truth, Falsity, Hole, Holds, DiffF, Const, Assign, AssignAny, Test, System, Noted, Phrases, none, Call, Any, Item, Evolve, Flow, Items, no_items, add}
-use Rattle.dlk_grammar.specs.Grammar.{Nonterminal, formula, imp, disj, conj, unf, atom, term, mul, neg, pow, prim, prog, seq, stmt, Reads, formula-imp, formula-equiv, imp-disj, imp-imply, disj-conj, disj-or, conj-unf, conj-and, unf-not, unf-forall, unf-exists, unf-box, unf-dia, unf-atom, atom-true, atom-false, atom-hole, atom-compare, atom-nullary, atom-holds, atom-any, atom-except, atom-context, atom-bracket, atom-diff, term-mul, term-add, term-sub, mul-neg, mul-times, mul-over, neg-pow, neg-minus, pow-prim, pow-power, prim-number, prim-dot, prim-name, prim-primed, prim-nullary, prim-apply, prim-any, prim-except, prim-bracket, prim-diff, prog-seq, prog-choice, seq-stmt, seq-then, stmt-const, stmt-assign, stmt-assign_prime, stmt-any, stmt-test, stmt-group, Compares, cmp-equal, cmp-not_equal, cmp-at_least, cmp-greater, cmp-at_most, cmp-less, ReadsList, list-one, list-more, ReadsBrace, brace-prog, brace-items, brace-domain, ReadsItems, items-one, items-more, ReadsItem, item-evolve, item-flow, item-except, ReadsStar, star-none, star-loop, ReadsInv, inv-none, inv-some, ReadsSemi, semi-none, semi-some}
+use Rattle.dlk_grammar.specs.declared.token.Infix.TheVariants.{Equiv, Imply, Or, And, Equal, NotEqual, AtLeast, Greater, AtMost, Less, Add, Sub, Mul}
+use Rattle.dlk_grammar.specs.declared.token.Infix.TheVariants.{Div, Pow, Choice}
+use Rattle.dlk_grammar.specs.Lexemes.{Word, Lexeme, Name, Number, Dot, Blank, True, False, All, Exist, Invariant, RoundBars, RoundBar, BarRound, Open}
+use Rattle.dlk_grammar.specs.Lexemes.{Close, OpenBox, CloseBox, OpenBrace, CloseBrace, Bang, Prime, Gets, Query, Semi, Comma, Op}
+use Rattle.dlk_grammar.specs.Phrases.{Everywhere, Except, Phrase, Literal, Argument, Variable, Apply, Diff, Truth, Falsity, Hole, Holds, DiffF, Const}
+use Rattle.dlk_grammar.specs.Phrases.{Assign, AssignAny, Test, System, Noted, Phrases, none, Call, Any, Item, Evolve, Flow, Items, no_items, add}
+use Rattle.dlk_grammar.specs.Grammar.{Nonterminal, formula, imp, disj, conj, unf, atom, term, mul, neg, pow, prim, prog, seq, stmt, Reads}
+use Rattle.dlk_grammar.specs.Grammar.{formula-imp, formula-equiv, imp-disj, imp-imply, disj-conj, disj-or, conj-unf, conj-and, unf-not, unf-forall}
+use Rattle.dlk_grammar.specs.Grammar.{unf-exists, unf-box, unf-dia, unf-atom, atom-true, atom-false, atom-hole, atom-compare, atom-nullary}
+use Rattle.dlk_grammar.specs.Grammar.{atom-holds, atom-any, atom-except, atom-context, atom-bracket, atom-diff, term-mul, term-add, term-sub, mul-neg}
+use Rattle.dlk_grammar.specs.Grammar.{mul-times, mul-over, neg-pow, neg-minus, pow-prim, pow-power, prim-number, prim-dot, prim-name, prim-primed}
+use Rattle.dlk_grammar.specs.Grammar.{prim-nullary, prim-apply, prim-any, prim-except, prim-bracket, prim-diff, prog-seq, prog-choice, seq-stmt}
+use Rattle.dlk_grammar.specs.Grammar.{seq-then, stmt-const, stmt-assign, stmt-assign_prime, stmt-any, stmt-test, stmt-group, Compares, cmp-equal}
+use Rattle.dlk_grammar.specs.Grammar.{cmp-not_equal, cmp-at_least, cmp-greater, cmp-at_most, cmp-less, ReadsList, list-one, list-more, ReadsBrace}
+use Rattle.dlk_grammar.specs.Grammar.{brace-prog, brace-items, brace-domain, ReadsItems, items-one, items-more, ReadsItem, item-evolve, item-flow}
+use Rattle.dlk_grammar.specs.Grammar.{item-except, ReadsStar, star-none, star-loop, ReadsInv, inv-none, inv-some, ReadsSemi, semi-none, semi-some}
 use Rattle.dlk_tree.specs.declared.op.Sort.{Sort}
 use Rattle.dlk_tree.specs.declared.op.Sort.TheVariants.{Term, Formula, Program}
 use Rattle.dlk_machine.specs.Levels.{form_level, form_sort, top}
-use Rattle.dlk_machine.specs.Machine.{◌>>=◌, By, Next, ForAll, ForSome, InBox, InDia, Minus, Bang', Bound, Modal, Holder, Round, Args, InContext, In, InBrace, Assigns, Tests, Evolves, Domain, Notes, Part, Left, Before, Inside, right_level, operand_sort, Tail, Done, Bare, Grouped, Braced, Starred, Annotated, Piece, Is, State, Wants, Has, Binds, Starts, Opens, WantsItem, as_sort, is_program, reduce, place, allows, fits, items_step, close, item_name_step, opens_name_step, step, ended}
+use Rattle.dlk_machine.specs.Machine.{◌>>=◌, By, Next, ForAll, ForSome, InBox, InDia, Minus, Bang', Bound, Modal, Holder, Round, Args, InContext, In}
+use Rattle.dlk_machine.specs.Machine.{InBrace, Assigns, Tests, Evolves, Domain, Notes, Part, Left, Before, Inside, right_level, operand_sort, Tail}
+use Rattle.dlk_machine.specs.Machine.{Done, Bare, Grouped, Braced, Starred, Annotated, Piece, Is, State, Wants, Has, Binds, Starts, Opens, WantsItem}
+use Rattle.dlk_machine.specs.Machine.{as_sort, is_program, reduce, place, allows, fits, items_step, close, item_name_step, opens_name_step, step}
+use Rattle.dlk_machine.specs.Machine.{ended}
 use Rattle.dlk_machine.specs.Parse.{reader}
 use Rattle.dlk_machine.proofs.Opening.{states}
 use Rattle.dlk_machine.proofs.Firsts.{first, first_list}
-use Rattle.dlk_machine.proofs.OpenParts.{Tight, Loose, arrive, fold, Tight-less, reduce-tight, Loose-more, Ends, Lists, EndsList, up, single, operand_wanted, statement_wanted, Fitting, fitting, met, both, go, binary_ends, before, other_step, program_step, closing_raw, gets_run, next_run, opens_run, round_term, held, bracket, primed_term, primed_formula, diffed, list_held, called, symbol, list_first, list_next, args_lists, notes_lists, statement, modal, context}
+use Rattle.dlk_machine.proofs.OpenParts.{Tight, Loose, arrive, fold, Tight-less, reduce-tight, Loose-more, Ends, Lists, EndsList, up, single}
+use Rattle.dlk_machine.proofs.OpenParts.{operand_wanted, statement_wanted, Fitting, fitting, met, both, go, binary_ends, before, other_step}
+use Rattle.dlk_machine.proofs.OpenParts.{program_step, closing_raw, gets_run, next_run, opens_run, round_term, held, bracket, primed_term}
+use Rattle.dlk_machine.proofs.OpenParts.{primed_formula, diffed, list_held, called, symbol, list_first, list_next, args_lists, notes_lists, statement}
+use Rattle.dlk_machine.proofs.OpenParts.{modal, context}
 
 -- the tokens that end an item
 pub data EndsItem : Lexeme → Type 0 where

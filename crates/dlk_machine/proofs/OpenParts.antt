@@ -2,14 +2,20 @@
 use Rattle.std.proofs.Common.{◌≡◌, ℕ, ◌<◌, ◌≤◌, Bool, true, false, List, [], ◌∷◌, ◌++◌, Option, Some, refl, sym, ap, subst, ◌∙◌, append_assoc, arith}
 use Rattle.std.proofs.lemmas.Bool.{le-ltb, lt-ltb}
 use Rattle.dlk_grammar.specs.declared.token.Infix.{Infix}
-use Rattle.dlk_grammar.specs.declared.token.Infix.TheVariants.{Equiv, Imply, Or, And, Equal, NotEqual, AtLeast, Greater, AtMost, Less, Add, Sub, Mul, Div, Pow, Choice}
+use Rattle.dlk_grammar.specs.declared.token.Infix.TheVariants.{Equiv, Imply, Or, And, Equal, NotEqual, AtLeast, Greater, AtMost, Less, Add, Sub, Mul}
+use Rattle.dlk_grammar.specs.declared.token.Infix.TheVariants.{Div, Pow, Choice}
 use Rattle.dlk_grammar.specs.Lexemes.{Word, Lexeme, Name, Open, Close, OpenBrace, CloseBrace, Prime, Gets, Query, Semi, Comma, Op}
 use Rattle.dlk_grammar.specs.Phrases.{Phrase, Variable, Apply, Diff, Holds, Context, DiffF, Binary, Phrases, none, snoc, Head, Call}
 use Rattle.dlk_grammar.specs.Grammar.{Nonterminal, formula, imp, disj, conj, unf, atom, term, mul, neg, pow, prim, prog, seq, stmt}
 use Rattle.dlk_tree.specs.declared.op.Sort.{Sort}
 use Rattle.dlk_tree.specs.declared.op.Sort.TheVariants.{Term, Formula, Program}
 use Rattle.dlk_machine.specs.Levels.{form_level, form_sort}
-use Rattle.dlk_machine.specs.Machine.{◌>>=◌, when, Between, By, Next, Modality, Prefix, Modal, Holder, Round, Args, InContext, In, InBrace, Assigns, Tests, Evolves, Domain, Notes, Part, Left, Before, Inside, level, right_level, operand_sort, result_sort, binary, prefix_level, prefix_sort, unary, Tail, Done, Bare, Grouped, Piece, Is, Symbol, State, Wants, Has, Calls, StartsGets, Opens, primes, formula_primes, as_sort, with_tail, program_sort, is_program, wanted, join, reduce, round_sort, place, allows, fits, start_operand, start_statement, after_operand, close, closing, and_top, infix_after, primed, next_after, after_program, after_other, call_step, statement_gets_step, step}
+use Rattle.dlk_machine.specs.Machine.{◌>>=◌, when, Between, By, Next, Modality, Prefix, Modal, Holder, Round, Args, InContext, In, InBrace, Assigns}
+use Rattle.dlk_machine.specs.Machine.{Tests, Evolves, Domain, Notes, Part, Left, Before, Inside, level, right_level, operand_sort, result_sort}
+use Rattle.dlk_machine.specs.Machine.{binary, prefix_level, prefix_sort, unary, Tail, Done, Bare, Grouped, Piece, Is, Symbol, State, Wants, Has}
+use Rattle.dlk_machine.specs.Machine.{Calls, StartsGets, Opens, primes, formula_primes, as_sort, with_tail, program_sort, is_program, wanted, join}
+use Rattle.dlk_machine.specs.Machine.{reduce, round_sort, place, allows, fits, start_operand, start_statement, after_operand, close, closing, and_top}
+use Rattle.dlk_machine.specs.Machine.{infix_after, primed, next_after, after_program, after_other, call_step, statement_gets_step, step}
 use Rattle.dlk_machine.specs.Parse.{reader}
 use Rattle.dlk_machine.proofs.Climb.{own_form, left_form, right_form}
 use Rattle.dlk_machine.proofs.Opening.{some_is, bind_some, when_is, states}
@@ -286,7 +292,8 @@ binary_ends g S s r o n lf rf a b c loose fit x y =
     subst (λ (l : List Lexeme). Ends g S l n (Binary o a b)) (append_assoc s (Op o ∷ []) r) e
 
 -- a prefix with its operand
-pub before : (g : Sort) (S : List Part) (k s : List Lexeme) (o : Prefix) (n : Nonterminal) (a : Phrase) → prefix_sort o ≡ form_sort n → tightness n < prefix_level o
+pub before : (g : Sort) (S : List Part) (k s : List Lexeme) (o : Prefix) (n : Nonterminal) (a : Phrase) → prefix_sort o ≡ form_sort n →
+    tightness n < prefix_level o
     → ((rest : List Lexeme) → arrive g (Wants S) (k ++ rest) ≡ arrive g (Wants (Before o ∷ S)) rest)
     → Ends g (Before o ∷ S) s n a → Ends g S (k ++ s) n (unary o a)
 before g S k s o n a e tight runs x =

@@ -3,10 +3,12 @@ use Rattle.std.proofs.Common.{◌≡◌, ℕ, ◌+◌, ◌<◌, Bool, true, List
 use Rattle.std.proofs.lemmas.List.{append-nil}
 use Rattle.dlk_tree.specs.declared.op.Sort.TheVariants.{Term, Formula, Program}
 use Rattle.dlk_tree.specs.declared.op.Sym.{Sym}
-use Rattle.dlk_grammar.specs.Lexemes.{Word, Lexeme, Name, Dot, Blank, RoundBar, BarRound, BraceBar, BarBrace, Open, Close, OpenBrace, CloseBrace, Comma, Becomes}
+use Rattle.dlk_grammar.specs.Lexemes.{Word, Lexeme, Name, Dot, Blank, RoundBar, BarRound, BraceBar, BarBrace, Open, Close, OpenBrace, CloseBrace}
+use Rattle.dlk_grammar.specs.Lexemes.{Comma, Becomes}
 use Rattle.dlk_grammar.specs.Phrases.{Phrase, Truth, System}
 use Rattle.dlk_grammar.specs.Grammar.{items-one, item-flow}
-use Rattle.dlk_grammar.specs.Substitutions.{Target, function, predicate, PairPhrase, to, most_dots, ReadsDots, dots-more, ReadsTarget, target-nullary, target-dots, target-except, ReadsPair}
+use Rattle.dlk_grammar.specs.Substitutions.{Target, function, predicate, PairPhrase, to, most_dots, ReadsDots, dots-more, ReadsTarget, target-nullary}
+use Rattle.dlk_grammar.specs.Substitutions.{target-dots, target-except, ReadsPair}
 use Rattle.dlk_machine.specs.Machine.{State, Wants, ended}
 use Rattle.dlk_machine.proofs.Opening.{some_is, bind_some}
 use Rattle.dlk_machine.proofs.Parsing.{known, none_some}
@@ -14,7 +16,9 @@ use Rattle.dlk_machine.proofs.Found.{ends}
 use Rattle.dlk_machine.proofs.Live.{live, zero_reads, true_reads}
 use Rattle.dlk_machine.proofs.Reading.{passed_after}
 use Rattle.dlk_machine.proofs.ExpressionLaws.{no_formula}
-use Rattle.dlk_machine.specs.Pairs.{Right, EitherOf, TextOf, SystemOf, PairState, Begins, LeftName, TermName, Calls, DotsOf, DotWanted, Bars, BarsName, InContext, ContextHole, FlowOpens, FlowName, FlowBar, FlowBarName, FlowExcept, LeftEnds, InRight, BraceWanted, InSystem, SystemEnds, right_ended, pair_ended}
+use Rattle.dlk_machine.specs.Pairs.{Right, EitherOf, TextOf, SystemOf, PairState, Begins, LeftName, TermName, Calls, DotsOf, DotWanted, Bars}
+use Rattle.dlk_machine.specs.Pairs.{BarsName, InContext, ContextHole, FlowOpens, FlowName, FlowBar, FlowBarName, FlowExcept, LeftEnds, InRight}
+use Rattle.dlk_machine.specs.Pairs.{BraceWanted, InSystem, SystemEnds, right_ended, pair_ended}
 use Rattle.dlk_machine.proofs.PairTargets.{LeftText, left-either, left-context, left-flow, left-flow-except, Behind, behind_append, behind_more, target_left}
 use Rattle.dlk_machine.proofs.PairItems.{RightText, right-formula, right-term, right-text, right-system, pair_joined, chosen_pair}
 use Rattle.dlk_machine.proofs.PairSystems.{found_system, system_front}

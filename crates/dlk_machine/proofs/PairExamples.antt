@@ -4,8 +4,10 @@ use Rattle.dlk_tree.specs.declared.op.Num.{Num}
 use Rattle.dlk_tree.specs.declared.op.Kind.TheVariants.{Func, Pred, Quant, Prog, Ode, UnitFunc, UnitPred}
 use Rattle.dlk_grammar.specs.declared.token.Dots.TheVariants.{Allowed}
 use Rattle.dlk_grammar.specs.declared.token.Infix.TheVariants.{And, Equal, AtLeast, Add}
-use Rattle.dlk_grammar.specs.Lexemes.{Word, Name, Number, Dot, Blank, Bang, True, RoundBar, BarRound, RoundBars, BraceBar, BarBrace, Open, Close, OpenBrace, CloseBrace, Prime, Gets, Semi, Comma, Becomes, Op}
-use Rattle.dlk_grammar.specs.Phrases.{Everywhere, Except, Literal, Argument, Variable, Apply, Truth, Hole, Holds, Not, Binary, Assign, System, none, Call, Evolve, Flow, no_items, add}
+use Rattle.dlk_grammar.specs.Lexemes.{Word, Name, Number, Dot, Blank, Bang, True, RoundBar, BarRound, RoundBars, BraceBar, BarBrace, Open, Close}
+use Rattle.dlk_grammar.specs.Lexemes.{OpenBrace, CloseBrace, Prime, Gets, Semi, Comma, Becomes, Op}
+use Rattle.dlk_grammar.specs.Phrases.{Everywhere, Except, Literal, Argument, Variable, Apply, Truth, Hole, Holds, Not, Binary, Assign, System, none}
+use Rattle.dlk_grammar.specs.Phrases.{Call, Evolve, Flow, no_items, add}
 use Rattle.dlk_grammar.specs.Erased.{symbol}
 use Rattle.dlk_grammar.specs.Substitutions.{to}
 use Rattle.dlk_machine.specs.Parse.{parse}

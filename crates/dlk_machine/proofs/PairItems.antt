@@ -6,7 +6,8 @@ use Rattle.dlk_tree.specs.declared.op.Sym.{Sym}
 use Rattle.dlk_grammar.specs.Lexemes.{Lexeme, OpenBrace, CloseBrace, Becomes}
 use Rattle.dlk_grammar.specs.Phrases.{Phrase, Truth, System, Items}
 use Rattle.dlk_grammar.specs.Grammar.{formula, term, Reads, ReadsItems}
-use Rattle.dlk_grammar.specs.Substitutions.{Target, function, predicate, PairPhrase, to, ReadsPair, pair-formula, pair-term, pair-function, pair-context, pair-program, pair-flow, pair-flow-except}
+use Rattle.dlk_grammar.specs.Substitutions.{Target, function, predicate, PairPhrase, to, ReadsPair, pair-formula, pair-term, pair-function}
+use Rattle.dlk_grammar.specs.Substitutions.{pair-context, pair-program, pair-flow, pair-flow-except}
 use Rattle.dlk_machine.specs.Levels.{top}
 use Rattle.dlk_machine.specs.Machine.{◌>>=◌, State, Wants, step, ended}
 use Rattle.dlk_machine.specs.Parse.{or_else, reader}
@@ -15,9 +16,11 @@ use Rattle.dlk_machine.proofs.Parsing.{known}
 use Rattle.dlk_machine.proofs.Only.{only_at}
 use Rattle.dlk_machine.proofs.Found.{ends}
 use Rattle.dlk_machine.proofs.Reading.{allowed, passed_after}
-use Rattle.dlk_machine.specs.Pairs.{Right, EitherOf, TextOf, SystemOf, PairState, LeftEnds, InRight, SystemEnds, right_start, right_sort, pair_ended, pair_reader, Begins}
+use Rattle.dlk_machine.specs.Pairs.{Right, EitherOf, TextOf, SystemOf, PairState, LeftEnds, InRight, SystemEnds, right_start, right_sort, pair_ended}
+use Rattle.dlk_machine.specs.Pairs.{pair_reader, Begins}
 use Rattle.dlk_machine.proofs.PairSystems.{system_read}
-use Rattle.dlk_machine.proofs.PairTargets.{LeftText, left-either, left-term, left-context, left-program, left-flow, left-flow-except, Passes, goes_on, left_passes}
+use Rattle.dlk_machine.proofs.PairTargets.{LeftText, left-either, left-term, left-context, left-program, left-flow, left-flow-except, Passes, goes_on}
+use Rattle.dlk_machine.proofs.PairTargets.{left_passes}
 
 -- The tokens of a right side, and the pair that it makes.
 pub data RightText : Right → List Lexeme → PairPhrase → Type 0 where

@@ -5,13 +5,15 @@ use Rattle.dlk_tree.specs.declared.op.Sort.TheVariants.{Term, Formula}
 use Rattle.dlk_grammar.specs.declared.token.Dots.TheVariants.{Allowed}
 use Rattle.dlk_grammar.specs.Lexemes.{Lexeme, Comma}
 use Rattle.dlk_grammar.specs.Phrases.{Phrase}
-use Rattle.dlk_grammar.specs.Substitutions.{function, PairPhrase, to, ReadsPair, ReadsPairs, pairs-one, pairs-more, ReadsSubstitution, subst-nothing, subst-pairs}
+use Rattle.dlk_grammar.specs.Substitutions.{function, PairPhrase, to, ReadsPair, ReadsPairs, pairs-one, pairs-more, ReadsSubstitution, subst-nothing}
+use Rattle.dlk_grammar.specs.Substitutions.{subst-pairs}
 use Rattle.dlk_machine.specs.Machine.{◌>>=◌, State, step, ended}
 use Rattle.dlk_machine.specs.Parse.{or_else}
 use Rattle.dlk_machine.proofs.Opening.{some_is, bind_some, all_permitted, Begun, states, states_then}
 use Rattle.dlk_machine.proofs.Parsing.{known, none_some, Reader}
 use Rattle.dlk_machine.proofs.SequentLaws.{comma_ends}
-use Rattle.dlk_machine.specs.Pairs.{Right, EitherOf, TextOf, SystemOf, PairState, Begins, InRight, SystemEnds, right_sort, pair_step, right_ended, pair_ended, pair_reader, PairsState, Fresh, Within, within, pairs_step, pairs_ended, pairs_reader}
+use Rattle.dlk_machine.specs.Pairs.{Right, EitherOf, TextOf, SystemOf, PairState, Begins, InRight, SystemEnds, right_sort, pair_step, right_ended}
+use Rattle.dlk_machine.specs.Pairs.{pair_ended, pair_reader, PairsState, Fresh, Within, within, pairs_step, pairs_ended, pairs_reader}
 use Rattle.dlk_machine.proofs.PairItems.{chosen_pair, pair_read}
 use Rattle.dlk_machine.proofs.PairStates.{PairAfter, pair_moves}
 use Rattle.dlk_machine.proofs.PairEnds.{found_pair, pair_live}

@@ -10,16 +10,21 @@ use Rattle.dlk_tree.specs.declared.op.Sort.{Sort}
 use Rattle.dlk_tree.specs.declared.op.Sort.TheVariants.{Formula, Program}
 use Rattle.dlk_grammar.specs.Erased.{symbol}
 use Rattle.dlk_grammar.specs.declared.token.Infix.TheVariants.{And}
-use Rattle.dlk_grammar.specs.Lexemes.{Word, Lexeme, Name, Dot, Blank, RoundBars, RoundBar, BarRound, BraceBar, BarBrace, Open, Close, OpenBrace, CloseBrace, Semi, Comma, Becomes, Op}
+use Rattle.dlk_grammar.specs.Lexemes.{Word, Lexeme, Name, Dot, Blank, RoundBars, RoundBar, BarRound, BraceBar, BarBrace, Open, Close, OpenBrace}
+use Rattle.dlk_grammar.specs.Lexemes.{CloseBrace, Semi, Comma, Becomes, Op}
 use Rattle.dlk_grammar.specs.Phrases.{Everywhere, Except}
-use Rattle.dlk_grammar.specs.Substitutions.{Target, Over, Unit, most_dots, ReadsDots, dots-one, dots-more, target-nullary, target-dots, target-any, target-except}
+use Rattle.dlk_grammar.specs.Substitutions.{Target, Over, Unit, most_dots, ReadsDots, dots-one, dots-more, target-nullary, target-dots, target-any}
+use Rattle.dlk_grammar.specs.Substitutions.{target-except}
 use Rattle.dlk_machine.specs.Machine.{◌>>=◌, Braced, Is, State, Wants, Has, step}
 use Rattle.dlk_machine.specs.Parse.{reader}
 use Rattle.dlk_machine.proofs.Opening.{some_is, bind_some, when_is, states, states_more}
 use Rattle.dlk_machine.proofs.Parsing.{none_some}
-use Rattle.dlk_machine.specs.Pairs.{Right, EitherOf, TextOf, SystemOf, right_of, PairState, Begins, LeftName, TermName, Calls, DotsOf, DotWanted, Bars, BarsName, InContext, ContextHole, FlowOpens, FlowName, FlowBar, FlowBarName, FlowExcept, LeftEnds, InRight, BraceWanted, InSystem, SystemEnds, target_step, right_start, right_sort, system_state, pair_step, pair_reader}
+use Rattle.dlk_machine.specs.Pairs.{Right, EitherOf, TextOf, SystemOf, right_of, PairState, Begins, LeftName, TermName, Calls, DotsOf, DotWanted}
+use Rattle.dlk_machine.specs.Pairs.{Bars, BarsName, InContext, ContextHole, FlowOpens, FlowName, FlowBar, FlowBarName, FlowExcept, LeftEnds, InRight}
+use Rattle.dlk_machine.specs.Pairs.{BraceWanted, InSystem, SystemEnds, target_step, right_start, right_sort, system_state, pair_step, pair_reader}
 use Rattle.dlk_machine.proofs.PairSystems.{system_start}
-use Rattle.dlk_machine.proofs.PairTargets.{the-word, Passes, LeftText, left-context, left-program, left-flow, left-flow-except, Behind, behind_nothing, behind_more, behind_same, target_left}
+use Rattle.dlk_machine.proofs.PairTargets.{the-word, Passes, LeftText, left-context, left-program, left-flow, left-flow-except, Behind}
+use Rattle.dlk_machine.proofs.PairTargets.{behind_nothing, behind_more, behind_same, target_left}
 
 -- the text of a right side, up to a state of its reader
 pub record InText (w : Right) (y : State) (all : List Lexeme) : Type 0 where

@@ -5,7 +5,11 @@ use Rattle.dlk_tree.specs.declared.op.Sym.{Sym}
 use Rattle.dlk_grammar.specs.declared.token.Infix.TheVariants.{And, Equal}
 use Rattle.dlk_grammar.specs.Lexemes.{Word, Lexeme, Name, Number, BraceBar, OpenBrace, CloseBrace, Prime, Gets, Query, Semi, Comma, Op}
 use Rattle.dlk_grammar.specs.Phrases.{Phrase, Phrases, Truth, System, Item, Items, no_items}
-use Rattle.dlk_grammar.specs.Grammar.{Nonterminal, term, Reads, term-mul, term-add, term-sub, mul-neg, mul-times, mul-over, neg-pow, neg-minus, pow-prim, pow-power, prim-number, prim-dot, prim-name, prim-primed, prim-nullary, prim-apply, prim-any, prim-except, prim-bracket, prim-diff, prog-seq, prog-choice, seq-stmt, seq-then, stmt-const, stmt-assign, stmt-assign_prime, stmt-any, stmt-test, stmt-group, ReadsList, list-one, list-more, ReadsBrace, brace-prog, brace-items, brace-domain, ReadsItems, items-one, items-more, ReadsItem, item-evolve, item-flow, item-except}
+use Rattle.dlk_grammar.specs.Grammar.{Nonterminal, term, Reads, term-mul, term-add, term-sub, mul-neg, mul-times, mul-over, neg-pow, neg-minus}
+use Rattle.dlk_grammar.specs.Grammar.{pow-prim, pow-power, prim-number, prim-dot, prim-name, prim-primed, prim-nullary, prim-apply, prim-any}
+use Rattle.dlk_grammar.specs.Grammar.{prim-except, prim-bracket, prim-diff, prog-seq, prog-choice, seq-stmt, seq-then, stmt-const, stmt-assign}
+use Rattle.dlk_grammar.specs.Grammar.{stmt-assign_prime, stmt-any, stmt-test, stmt-group, ReadsList, list-one, list-more, ReadsBrace, brace-prog}
+use Rattle.dlk_grammar.specs.Grammar.{brace-items, brace-domain, ReadsItems, items-one, items-more, ReadsItem, item-evolve, item-flow, item-except}
 use Rattle.dlk_machine.specs.Levels.{form_sort}
 use Rattle.dlk_machine.specs.Machine.{◌>>=◌, Braced, Is, State, Has, WantsItem, step}
 use Rattle.dlk_machine.specs.Parse.{reader}

@@ -7,7 +7,8 @@ use Rattle.dlk_tree.specs.declared.op.Sort.TheVariants.{Term, Formula, Program}
 use Rattle.dlk_grammar.specs.Erased.{symbol}
 use Rattle.dlk_grammar.specs.Lexemes.{Word, Lexeme, Name, Dot, Blank, BraceBar, BarBrace, Close, OpenBrace, CloseBrace, Semi, Comma}
 use Rattle.dlk_grammar.specs.Phrases.{Everywhere, Except}
-use Rattle.dlk_grammar.specs.Substitutions.{Target, Over, function, most_dots, ReadsDots, dots-one, dots-more, ReadsTarget, target-nullary, target-dots, target-any, target-except}
+use Rattle.dlk_grammar.specs.Substitutions.{Target, Over, function, most_dots, ReadsDots, dots-one, dots-more, ReadsTarget, target-nullary}
+use Rattle.dlk_grammar.specs.Substitutions.{target-dots, target-any, target-except}
 use Rattle.dlk_machine.proofs.Opening.{states, states_then}
 use Rattle.dlk_machine.specs.Pairs.{Right, EitherOf, TextOf, SystemOf, right_of, PairState, Begins, LeftName, Calls, DotsOf, LeftEnds, pair_reader}
 

@@ -10,11 +10,13 @@ use Rattle.dlk_calculus.specs.Pairs.{Pair, AreWellMade}
 use Rattle.dlk_grammar.specs.Lexemes.{Lexeme, Comma, Becomes}
 use Rattle.dlk_grammar.specs.Grammar.{brace-items}
 use Rattle.dlk_grammar.specs.Erased.{erase, ills}
-use Rattle.dlk_grammar.specs.Substitutions.{PairPhrase, ReadsPair, ReadsPairs, pairs-one, pairs-more, ReadsSubstitution, subst-nothing, subst-pairs, replacements, erase_pairs}
+use Rattle.dlk_grammar.specs.Substitutions.{PairPhrase, ReadsPair, ReadsPairs, pairs-one, pairs-more, ReadsSubstitution, subst-nothing, subst-pairs}
+use Rattle.dlk_grammar.specs.Substitutions.{replacements, erase_pairs}
 use Rattle.dlk_grammar.specs.Extras.{ExtraPhrase, ReadsExtra, extra-subst, extra-renames, extra-both}
 use Rattle.dlk_machine.specs.Levels.{form_sort, top}
 use Rattle.dlk_machine.specs.Pairs.{Right}
-use Rattle.dlk_machine.proofs.Formed.{Each, each_parts, each_append, AreReal, IsBelow, AreBelow, IsReal, part_last, widen, none_left, none_right, grown, grown_brace, made_from, GrownSome}
+use Rattle.dlk_machine.proofs.Formed.{Each, each_parts, each_append, AreReal, IsBelow, AreBelow, IsReal, part_last, widen, none_left, none_right}
+use Rattle.dlk_machine.proofs.Formed.{grown, grown_brace, made_from, GrownSome}
 use Rattle.dlk_machine.proofs.PairItems.{RightText, right-formula, right-term, right-text, right-system, pair_parts}
 
 -- what is known of the tree of a right side

@@ -1,5 +1,6 @@
 -- Tokens say something or have a fault.
-use Rattle.std.proofs.Common.{◌≡◌, ℕ, ◌<◌, ◌≤◌, min, List, [], ◌∷◌, ◌++◌, length, map, Some, None, Result, Ok, Err, refl, sym, ap, subst, ◌∙◌, arith, length-append, append_assoc, ◌⊎◌, inl, inr}
+use Rattle.std.proofs.Common.{◌≡◌, ℕ, ◌<◌, ◌≤◌, min, List, [], ◌∷◌, ◌++◌, length, map, Some, None, Result, Ok, Err, refl, sym, ap, subst, ◌∙◌, arith}
+use Rattle.std.proofs.Common.{length-append, append_assoc, ◌⊎◌, inl, inr}
 use Rattle.std.specs.List.{All, flat_map, fold}
 use Rattle.std.proofs.lemmas.Bool.{cases_lt, cases_eq, cases_Bool, both_ways}
 use Rattle.std.proofs.lemmas.List.{append-nil}
@@ -20,21 +21,26 @@ use Rattle.dlk_grammar.specs.Phrases.{Phrase}
 use Rattle.dlk_grammar.specs.Grammar.{Sides, ReadsSequent}
 use Rattle.dlk_grammar.specs.Erased.{erase, ills, lowest}
 use Rattle.dlk_calculus.specs.Limits.{most_nodes, greatest_depth}
-use Rattle.dlk_grammar.specs.Readings.{Says, Stops, FirstAt, IsLong, bracket_level, opens, OpensTooDeep, FirstPast, ReadFault, Literal, Nesting, Syntax, Shape, TooBig, TooDeep, fault_rank, SpeaksAgainst, IsReadFault, IsRead, grammar, itself, both_sides, erase_sides}
+use Rattle.dlk_grammar.specs.Readings.{Says, Stops, FirstAt, IsLong, bracket_level, opens, OpensTooDeep, FirstPast, ReadFault, Literal, Nesting}
+use Rattle.dlk_grammar.specs.Readings.{Syntax, Shape, TooBig, TooDeep, fault_rank, SpeaksAgainst, IsReadFault, IsRead, grammar, itself, both_sides}
+use Rattle.dlk_grammar.specs.Readings.{erase_sides}
 use Rattle.dlk_grammar.specs.Substitutions.{PairPhrase, ReadsSubstitution, replacements, erase_pairs}
 use Rattle.dlk_grammar.specs.Extras.{ExtraPhrase, ReadsExtra, extra_replacements, erase_extra}
-use Rattle.dlk_grammar.specs.Texts.{TreeText, SequentText, PairsText, ExtraText, TextFault, BadByte, Unread, TreeTextFault, SequentTextFault, PairsTextFault, ExtraTextFault}
+use Rattle.dlk_grammar.specs.Texts.{TreeText, SequentText, PairsText, ExtraText, TextFault, BadByte, Unread, TreeTextFault, SequentTextFault}
+use Rattle.dlk_grammar.specs.Texts.{PairsTextFault, ExtraTextFault}
 use Rattle.dlk_grammar.proofs.SomeSplit.{some_split}
 use Rattle.dlk_grammar.proofs.Real.{split_tokens}
 use Rattle.dlk_machine.specs.Parse.{parse}
 use Rattle.dlk_machine.specs.Sequents.{sequent_reader}
 use Rattle.dlk_machine.specs.Pairs.{pairs_reader}
 use Rattle.dlk_machine.specs.Extras.{extra_reader}
-use Rattle.dlk_machine.proofs.ParseLaws.{form_read_says, form_fault_stops, sequent_read_says, sequent_fault_stops, one_sides_read, pairs_read_says, pairs_fault_stops, one_pairs_read, extra_read_says, extra_fault_stops, one_extra_read}
+use Rattle.dlk_machine.proofs.ParseLaws.{form_read_says, form_fault_stops, sequent_read_says, sequent_fault_stops, one_sides_read, pairs_read_says}
+use Rattle.dlk_machine.proofs.ParseLaws.{pairs_fault_stops, one_pairs_read, extra_read_says, extra_fault_stops, one_extra_read}
 use Rattle.dlk_machine.proofs.Stopping.{said_nowhere, stops_within}
 use Rattle.dlk_machine.specs.Forms.{machine_of}
 use Rattle.dlk_machine.proofs.Formed.{Each}
-use Rattle.dlk_machine.proofs.TextLaws.{same, sooner, later, seams, fewer_lexemes, token_at, least_below, one_grammar, form_ills_below, sequent_ills_below, pairs_ills_below, extra_ills_below}
+use Rattle.dlk_machine.proofs.TextLaws.{same, sooner, later, seams, fewer_lexemes, token_at, least_below, one_grammar, form_ills_below}
+use Rattle.dlk_machine.proofs.TextLaws.{sequent_ills_below, pairs_ills_below, extra_ills_below}
 
 -- none, or the first
 data Search {X : Type 0} (Is : X → Type 0) : Type 0 where

@@ -1,15 +1,27 @@
 -- What the open parts and what was read last spell, and what closing parts leaves.
-use Rattle.std.proofs.Common.{◌≡◌, ℕ, ◌+◌, ◌<◌, ◌≤◌, ◌⊎◌, inl, inr, Bool, true, false, cond, ltb, List, [], ◌∷◌, ◌++◌, Option, Some, refl, sym, ap, subst, ◌∙◌, append_assoc, arith}
+use Rattle.std.proofs.Common.{◌≡◌, ℕ, ◌+◌, ◌<◌, ◌≤◌, ◌⊎◌, inl, inr, Bool, true, false, cond, ltb, List, [], ◌∷◌, ◌++◌, Option, Some, refl, sym, ap}
+use Rattle.std.proofs.Common.{subst, ◌∙◌, append_assoc, arith}
 use Rattle.std.proofs.lemmas.Bool.{ltb-true, ltb-false}
 use Rattle.std.proofs.lemmas.List.{append-nil}
-use Rattle.dlk_grammar.specs.declared.token.Infix.TheVariants.{Equiv, Imply, Or, And, Equal, NotEqual, AtLeast, Greater, AtMost, Less, Add, Sub, Mul, Div, Pow, Choice}
-use Rattle.dlk_grammar.specs.Lexemes.{Word, Lexeme, Name, All, Exist, Invariant, RoundBar, BraceBar, Open, Close, OpenBox, CloseBox, OpenBrace, Bang, Prime, Gets, Query, Semi, Comma, Op}
+use Rattle.dlk_grammar.specs.declared.token.Infix.TheVariants.{Equiv, Imply, Or, And, Equal, NotEqual, AtLeast, Greater, AtMost, Less, Add, Sub, Mul}
+use Rattle.dlk_grammar.specs.declared.token.Infix.TheVariants.{Div, Pow, Choice}
+use Rattle.dlk_grammar.specs.Lexemes.{Word, Lexeme, Name, All, Exist, Invariant, RoundBar, BraceBar, Open, Close, OpenBox, CloseBox, OpenBrace, Bang}
+use Rattle.dlk_grammar.specs.Lexemes.{Prime, Gets, Query, Semi, Comma, Op}
 use Rattle.dlk_grammar.specs.Phrases.{Phrase, Variable, Box, Dia, Noted, Phrases, none, snoc, Item, Items, no_items, add}
-use Rattle.dlk_grammar.specs.Grammar.{Nonterminal, formula, unf, term, neg, prog, stmt, Reads, formula-equiv, imp-imply, disj-or, conj-and, unf-not, unf-forall, unf-exists, unf-box, unf-dia, atom-compare, term-add, term-sub, mul-times, mul-over, neg-minus, pow-power, prog-choice, seq-then, stmt-group, cmp-equal, cmp-not_equal, cmp-at_least, cmp-greater, cmp-at_most, cmp-less, ReadsList, list-one, list-more, ReadsBrace, ReadsItems, items-one, items-more, ReadsItem, ReadsStar, star-none, ReadsInv, inv-none, inv-some, semi-none, semi-some}
+use Rattle.dlk_grammar.specs.Grammar.{Nonterminal, formula, unf, term, neg, prog, stmt, Reads, formula-equiv, imp-imply, disj-or, conj-and, unf-not}
+use Rattle.dlk_grammar.specs.Grammar.{unf-forall, unf-exists, unf-box, unf-dia, atom-compare, term-add, term-sub, mul-times, mul-over, neg-minus}
+use Rattle.dlk_grammar.specs.Grammar.{pow-power, prog-choice, seq-then, stmt-group, cmp-equal, cmp-not_equal, cmp-at_least, cmp-greater, cmp-at_most}
+use Rattle.dlk_grammar.specs.Grammar.{cmp-less, ReadsList, list-one, list-more, ReadsBrace, ReadsItems, items-one, items-more, ReadsItem, ReadsStar}
+use Rattle.dlk_grammar.specs.Grammar.{star-none, ReadsInv, inv-none, inv-some, semi-none, semi-some}
 use Rattle.dlk_tree.specs.declared.op.Sort.{Sort}
 use Rattle.dlk_tree.specs.declared.op.Sort.TheVariants.{Term, Formula, Program}
 use Rattle.dlk_machine.specs.Levels.{form_level, form_sort}
-use Rattle.dlk_machine.specs.Machine.{◌>>=◌, Between, By, Next, Quantifier, ForAll, ForSome, InBox, InDia, Prefix, Minus, Bang', Bound, Modal, Holder, Round, Args, InContext, In, InBrace, Assigns, Tests, Evolves, Domain, Notes, Part, Left, Before, Inside, level, right_level, operand_sort, result_sort, binary, prefix_level, prefix_sort, unary, Tail, Done, Bare, Grouped, Braced, Starred, Annotated, Piece, Is, State, Wants, Has, Calls, Bars, BarsName, Binds, Starts, StartsPrime, StartsGets, StartsStar, Opens, OpensName, OpensPrime, WantsItem, ItemName, ItemPrime, ItemBar, ItemBarName, ItemEnds, Invariants, as_sort, tail_of, is_program, wanted, join, reduce, fits}
+use Rattle.dlk_machine.specs.Machine.{◌>>=◌, Between, By, Next, Quantifier, ForAll, ForSome, InBox, InDia, Prefix, Minus, Bang', Bound, Modal, Holder}
+use Rattle.dlk_machine.specs.Machine.{Round, Args, InContext, In, InBrace, Assigns, Tests, Evolves, Domain, Notes, Part, Left, Before, Inside, level}
+use Rattle.dlk_machine.specs.Machine.{right_level, operand_sort, result_sort, binary, prefix_level, prefix_sort, unary, Tail, Done, Bare, Grouped}
+use Rattle.dlk_machine.specs.Machine.{Braced, Starred, Annotated, Piece, Is, State, Wants, Has, Calls, Bars, BarsName, Binds, Starts, StartsPrime}
+use Rattle.dlk_machine.specs.Machine.{StartsGets, StartsStar, Opens, OpensName, OpensPrime, WantsItem, ItemName, ItemPrime, ItemBar, ItemBarName}
+use Rattle.dlk_machine.specs.Machine.{ItemEnds, Invariants, as_sort, tail_of, is_program, wanted, join, reduce, fits}
 use Rattle.dlk_machine.proofs.Opening.{bind_some}
 use Rattle.dlk_machine.proofs.Climb.{own_form, left_form, right_form, need, stands}
 use Rattle.dlk_machine.proofs.OpenParts.{Loose}

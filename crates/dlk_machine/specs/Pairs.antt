@@ -6,7 +6,8 @@ use Rattle.dlk_tree.specs.declared.op.Sym.{Sym}
 use Rattle.dlk_tree.specs.declared.op.Sort.{Sort}
 use Rattle.dlk_tree.specs.declared.op.Sort.TheVariants.{Term, Formula, Program}
 use Rattle.dlk_grammar.specs.Erased.{symbol}
-use Rattle.dlk_grammar.specs.Lexemes.{Word, Lexeme, Name, Dot, Blank, RoundBars, RoundBar, BarRound, BraceBar, BarBrace, Open, Close, OpenBrace, CloseBrace, Semi, Comma, Becomes, Op}
+use Rattle.dlk_grammar.specs.Lexemes.{Word, Lexeme, Name, Dot, Blank, RoundBars, RoundBar, BarRound, BraceBar, BarBrace, Open, Close, OpenBrace}
+use Rattle.dlk_grammar.specs.Lexemes.{CloseBrace, Semi, Comma, Becomes, Op}
 use Rattle.dlk_grammar.specs.declared.token.Infix.TheVariants.{And}
 use Rattle.dlk_grammar.specs.Phrases.{Everywhere, Except, Phrase, no_items}
 use Rattle.dlk_grammar.specs.Substitutions.{Target, Over, Unit, function, predicate, most_dots, PairPhrase, to}

@@ -21,7 +21,9 @@ use Rattle.dlk_calculus.specs.Subst.{Member, Equation, members}
 use Rattle.dlk_calculus.proofs.Decide.{is_true, both, same_op, same_tree}
 use Rattle.dlk_calculus.proofs.Decided.{all_decided}
 use Rattle.dlk_match.specs.Abstract.{abstracted}
-use Rattle.dlk_match.specs.Matching.{renamed_to, NameIs, GetsName, ReplacementIs, GetsReplacement, Over, IsAppliedTo, Application, of_nothing, of_variable, system_of, TakeMembers, constant, equation, equation_first, equation_last, two_constants, SystemMatches, MatchesAt, Matches, MatchesAll, is_own, old_names, new_names, AreGiven, AreApart, Match}
+use Rattle.dlk_match.specs.Matching.{renamed_to, NameIs, GetsName, ReplacementIs, GetsReplacement, Over, IsAppliedTo, Application, of_nothing}
+use Rattle.dlk_match.specs.Matching.{of_variable, system_of, TakeMembers, constant, equation, equation_first, equation_last, two_constants}
+use Rattle.dlk_match.specs.Matching.{SystemMatches, MatchesAt, Matches, MatchesAll, is_own, old_names, new_names, AreGiven, AreApart, Match}
 use Rattle.dlk_match.specs.Tried.{name_in}
 use Rattle.dlk_match.proofs.OneMatch.{one_name, one_replacement, one_variable, one_taken, one_node, one_matches, last_of, front_of, last_is, front_is}
 

@@ -12,7 +12,9 @@ use Rattle.dlk_calculus.specs.Pairs.{Extra, replacement}
 use Rattle.dlk_calculus.specs.Subst.{Member, Equation, members}
 use Rattle.dlk_calculus.proofs.Innermost.{one_of}
 use Rattle.dlk_match.specs.Abstract.{abstracted}
-use Rattle.dlk_match.specs.Matching.{renamed_to, NameIs, GetsName, ReplacementIs, GetsReplacement, Over, IsAppliedTo, Application, of_nothing, of_variable, system_of, TakeMembers, constant, equation, equation_first, equation_last, two_constants, SystemMatches, MatchesAt, Matches, MatchesAll, renamed_pairs, Match}
+use Rattle.dlk_match.specs.Matching.{renamed_to, NameIs, GetsName, ReplacementIs, GetsReplacement, Over, IsAppliedTo, Application, of_nothing}
+use Rattle.dlk_match.specs.Matching.{of_variable, system_of, TakeMembers, constant, equation, equation_first, equation_last, two_constants}
+use Rattle.dlk_match.specs.Matching.{SystemMatches, MatchesAt, Matches, MatchesAll, renamed_pairs, Match}
 
 -- ---- names and replacements
 
@@ -77,7 +79,8 @@ front_is (n ∷ k ∷ ms) m = ap (λ rest. n ∷ rest) (front_is (k ∷ ms) m)
 pub one_equation : {y z : List ℕ} {s t : Tree} → Equation y s ≡ Equation z t → (y ≡ z) × (s ≡ t)
 one_equation e = (cc, cc)
 
-pub one_taken : {items : List OdeItem} {ms : List Member} {old a b : Extra} {s t : List Tree} → TakeMembers items ms old a s → TakeMembers items ms old b t → (a ≡ b) × (s ≡ t)
+pub one_taken : {items : List OdeItem} {ms : List Member} {old a b : Extra} {s t : List Tree} → TakeMembers items ms old a s → TakeMembers items ms old b t →
+    (a ≡ b) × (s ≡ t)
 one_taken {old = old} {a = a} {b = b} (constant {s = c} {ms = ms} p) (constant q) = (one_replacement c (system_of ms) old a b p q, refl)
 one_taken {old = old} {a = a} {b = b} (equation {x = x} {y = y} p) (equation q) = (one_name x y old a b p q, refl)
 one_taken {old = old} {a = a} {b = b} (equation_first {x = x} {y = y} {s = c} {m = m} {ms = ms} mid p r) (equation_first nid q s) =
@@ -87,7 +90,8 @@ one_taken {old = old} {a = a} {b = b} (equation_last {s = c} {x = x} {e = e} y m
     let both = sym is ∙ js in
     let last = one_equation (sym (last_is (m ∷ ms) (Equation y e)) ∙ ap last_of both ∙ last_is (n ∷ ns) (Equation z f)) in
     let front : m ∷ ms ≡ n ∷ ns = sym (front_is (m ∷ ms) (Equation y e)) ∙ ap front_of both ∙ front_is (n ∷ ns) (Equation z f) in
-    let same : mid ≡ nid = one_replacement c (system_of (n ∷ ns)) old mid nid (subst (λ (all : List Member). GetsReplacement c (system_of all) old mid) front p) q in
+    let same : mid ≡ nid = one_replacement c (system_of (n ∷ ns)) old mid nid
+        (subst (λ (all : List Member). GetsReplacement c (system_of all) old mid) front p) q in
     let moved : GetsName x z nid a = subst (λ (w : List ℕ). GetsName x w nid a) last.0 (subst (λ (k : Extra). GetsName x y k a) same r) in
     (one_name x z nid a b moved s, ap (λ t. t ∷ []) last.1)
 one_taken {old = old} {a = a} {b = b} (two_constants {s = c} {t = d} {m = m} {n = n} {ms = ms} mid p r) (two_constants nid q s) =
@@ -131,10 +135,12 @@ module _ (keys : Forest) (e : Tree) (Kids : Forest → Extra → Extra → Type 
       let moved = subst (λ ms. TakeMembers items ms old q.mid q.sides) (λ i. members (items_are i) (nodes.1 i)) q.taken in
       let same = one_taken moved p.taken in
       let kids = subst (λ es. Kids es q.mid b) (λ i. forest (same.1 i ++ last (nodes.1 i) ∷ [])) q.kids in
-      one (forest (p.sides ++ last p.target_kids ∷ [])) p.mid a b p.kids (subst (λ (k : Extra). Kids (forest (p.sides ++ last p.target_kids ∷ [])) k b) same.0 kids)
+      one (forest (p.sides ++ last p.target_kids ∷ [])) p.mid a b p.kids
+          (subst (λ (k : Extra). Kids (forest (p.sides ++ last p.target_kids ∷ [])) k b) same.0 kids)
 
   one_at : (op : Op) (old a b : Extra) → MatchesAt op keys e Kids old a → MatchesAt op keys e Kids old b → a ≡ b
-  one_at (Op'.Variable v) old a b p q = one_named (λ y. Op'.Variable (record { name = y; primed = v.primed })) (name_of v.primed) v.name p.0 q.0 old p.1 q.1 a b p.2 p.3 q.2 q.3
+  one_at (Op'.Variable v) old a b p q = one_named (λ y. Op'.Variable (record { name = y; primed = v.primed })) (name_of v.primed) v.name p.0 q.0 old p.1 q.1 a
+      b p.2 p.3 q.2 q.3
   one_at (Op'.UnitFun s) old a b p q = one_replacement s e old a b p q
   one_at (Op'.Apply s) old a b p q = one_application s keys e old a b p q
   one_at (Op'.UnitPred s) old a b p q = one_replacement s e old a b p q
@@ -143,7 +149,8 @@ module _ (keys : Forest) (e : Tree) (Kids : Forest → Extra → Extra → Type 
   one_at (Op'.Forall x) old a b p q = one_named Op'.Forall (λ y z same. cc) x p.0 q.0 old p.1 q.1 a b p.2 p.3 q.2 q.3
   one_at (Op'.Exists x) old a b p q = one_named Op'.Exists (λ y z same. cc) x p.0 q.0 old p.1 q.1 a b p.2 p.3 q.2 q.3
   one_at (Op'.Const s) old a b p q = one_replacement s e old a b p q
-  one_at (Op'.Assign v) old a b p q = one_named (λ y. Op'.Assign (record { name = y; primed = v.primed })) (assigned_of v.primed) v.name p.0 q.0 old p.1 q.1 a b p.2 p.3 q.2 q.3
+  one_at (Op'.Assign v) old a b p q = one_named (λ y. Op'.Assign (record { name = y; primed = v.primed })) (assigned_of v.primed) v.name p.0 q.0 old p.1 q.1 a
+      b p.2 p.3 q.2 q.3
   one_at (Op'.Any x) old a b p q = one_named Op'.Any (λ y z same. cc) x p.0 q.0 old p.1 q.1 a b p.2 p.3 q.2 q.3
   one_at (Op'.System items) old a b p q = one_system items old a b p q
   one_at _ old a b p q = one_over _ old a b p q

@@ -57,7 +57,8 @@ module _ (s : Sym) (e : Tree) (old : Extra) where
   before r found of_sort true same = (of_sort, replaced_before (replacement old.pairs s) r found (same.0 refl))
   before r found of_sort false same = λ other p. not_true (same.1 (replaced_by (replacement old.pairs s) r other found p.1))
 
-  replaced_last : (o : Option Tree) (new : Extra) → o ≡ None → new ≡ record { renames = old.renames; pairs = old.pairs ++ record { sym = s; by = e } ∷ [] } → ReplacementIs o s e old new
+  replaced_last : (o : Option Tree) (new : Extra) → o ≡ None → new ≡ record { renames = old.renames; pairs = old.pairs ++ record { sym = s; by = e } ∷ [] } →
+      ReplacementIs o s e old new
   replaced_last (Some z) new is last = absurd (none-some z (sym is))
   replaced_last None new is last = last
 

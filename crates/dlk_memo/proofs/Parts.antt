@@ -1,5 +1,6 @@
 -- Tables in two parts.
-use Rattle.std.proofs.Common.{◌≡◌, ℕ, suc, ◌+◌, ◌<◌, ◌⊎◌, inl, inr, Bool, true, false, cond, [], ◌∷◌, ◌++◌, length, get_or, Option, None, Some, refl, sym, ap, subst, ◌∙◌, arith, true≢false}
+use Rattle.std.proofs.Common.{◌≡◌, ℕ, suc, ◌+◌, ◌<◌, ◌⊎◌, inl, inr, Bool, true, false, cond, [], ◌∷◌, ◌++◌, length, get_or, Option, None, Some, refl}
+use Rattle.std.proofs.Common.{sym, ap, subst, ◌∙◌, arith, true≢false}
 use Rattle.std.specs.Prelude.{IsSome, nat_lt, not}
 use Rattle.std.specs.List.{AllByRecursion, IsDistinct, position, position_or_len, slice_set}
 use Rattle.std.specs.Map.{keys_of, set_value}
@@ -119,7 +120,8 @@ abbrev one : Id → Option Id → Table
 one id r = (id, r) ∷ []
 
 pub pushed_puts : (near : Table) (id : Id) (r : Option Id) → found near id ≡ None → Puts near (near ++ one id r) id r
-pushed_puts near id r none k = found_both near (one id r) k ∙ ap (λ b. either (found near k) (cond b (Some r) None)) (laws-law.symm k id) ∙ by (same_id id k) refl
+pushed_puts near id r none k = found_both near (one id r) k ∙ ap (λ b. either (found near k) (cond b (Some r) None)) (laws-law.symm k id)
+    ∙ by (same_id id k) refl
   where
     same : (o : Option (Option Id)) → either o None ≡ o
     same None = refl

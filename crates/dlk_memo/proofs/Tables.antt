@@ -1,5 +1,6 @@
 -- How a table of results goes on while a tree is walked.
-use Rattle.std.proofs.Common.{◌≡◌, ℕ, suc, zero, ◌+◌, ◌*◌, ◌<◌, ◌≤◌, ◌⊎◌, inl, inr, Bool, true, false, cond, List, [], ◌∷◌, length, get_or, Option, Some, None, is_some, Result, Ok, Err, refl, sym, ap, subst, ◌∙◌, arith, eqb-true, true≢false}
+use Rattle.std.proofs.Common.{◌≡◌, ℕ, suc, zero, ◌+◌, ◌*◌, ◌<◌, ◌≤◌, ◌⊎◌, inl, inr, Bool, true, false, cond, List, [], ◌∷◌, length, get_or, Option}
+use Rattle.std.proofs.Common.{Some, None, is_some, Result, Ok, Err, refl, sym, ap, subst, ◌∙◌, arith, eqb-true, true≢false}
 use Rattle.std.specs.Prelude.{IsTrue, IsSome, IfOk, OnOk, OnErr, Contains}
 use Rattle.std.specs.Option.{ok_or}
 use Rattle.std.proofs.lemmas.Option.{same_Some, none-some}
@@ -62,7 +63,8 @@ module _ (related : Tree → Tree → Type 0) where
   answered_none trees table id known above is none = absurd (omega (arith, above.larger id (is ∙ ap Some none)))
 
   -- a tree that is begun has no result
-  pub right_begun : (trees : List Tree) (old new : Table) (id : Id) → Puts old new id no_result → IsId trees id → IsRight related trees old → IsRight related trees new
+  pub right_begun : (trees : List Tree) (old new : Table) (id : Id) → Puts old new id no_result → IsId trees id → IsRight related trees old →
+      IsRight related trees new
   right_begun trees old new id put known h = record {
     known = λ k r e. known_by k r (at_put old new id no_result put k r e);
     result_known = λ k r e. h.result_known k r (result_by k r (at_put old new id no_result put k (Some r) e));
@@ -151,7 +153,8 @@ module _ (first now : List Tree) (old begun table : Table) (id : Id) (put : Puts
           omega (arith, same, larger, less)
 
 -- what has a result at the end isn't open
-pub opens_whole : (old begun grown new : Table) (id made : Id) → Puts old begun id no_result → OpensNone begun grown → Puts grown new id (Some made) → OpensNone old new
+pub opens_whole : (old begun grown new : Table) (id made : Id) → Puts old begun id no_result → OpensNone begun grown → Puts grown new id (Some made) →
+    OpensNone old new
 opens_whole old begun grown new id made begin opens finish = record { was = λ k e. by k e (at_put grown new id (Some made) finish k no_result e) }
   where
     here : (k : Id) → id ≡ k → found new k ≡ Some (Some made)
@@ -213,7 +216,8 @@ module _ (unique : Bool) (price : ℕ) (root : Tree) where
           inr (omega (arith, known, keeps.known), subst (λ t. Contains (subtrees root) t) (sym (keeps.same k known)) e.1)
 
   -- one after the other, where the second walked a tree within
-  pub spends_then : (trees : List Tree) (within : Tree) (a b c : Table) (s0 s1 s2 : ℕ) → ((t : Tree) → Contains (subtrees within) t → Contains (subtrees root) t)
+  pub spends_then : (trees : List Tree) (within : Tree) (a b c : Table) (s0 s1 s2 : ℕ) →
+      ((t : Tree) → Contains (subtrees within) t → Contains (subtrees root) t)
       → Spends unique price root trees a b s0 s1 → Spends unique price within trees b c s1 s2 → Spends unique price root trees a c s0 s2
   spends_then trees within a b c s0 s1 s2 wider p q = record {
     entry = λ k r e. by k (q.entry k r e);
@@ -235,7 +239,8 @@ module _ (unique : Bool) (m : ℕ) (root : Tree) (trees : List Tree) (old begun 
     where
       by : ((id ≡ k) × (r ≡ no_result)) ⊎ (found old k ≡ Some r) → IsSome (found old k) ⊎ (IsId trees k × Contains (subtrees root) (tree trees k))
       by (inl p) =
-          inr (subst (λ j. IsId trees j × Contains (subtrees root) (tree trees j)) p.0 (known, subst (λ t. Contains (subtrees root) t) (sym root_is) (root_within root)))
+          inr (subst (λ j. IsId trees j × Contains (subtrees root) (tree trees j)) p.0
+              (known, subst (λ t. Contains (subtrees root) t) (sym root_is) (root_within root)))
       by (inr p) = inl (some_is (found old k) r p)
 
   pub spends_opened : Opened old begun id s0 s1 → (new : Table) (s2 s3 : ℕ) → Spends unique (1 + m) root trees begun new s1 s2
@@ -261,7 +266,8 @@ module _ (unique : Bool) (m : ℕ) (root : Tree) (trees : List Tree) (old begun 
       spends_opened opened begun s1 s1 (spends_none unique (1 + m) root trees begun s1 once) (λ u. omega arith)
   spends_failed once (inr un) =
       subst (λ t. Spends unique (1 + m) root trees old t s0 s1) (sym un.same)
-      (subst (λ s. Spends unique (1 + m) root trees old old s0 s) (sym un.no_step) (spends_none unique (1 + m) root trees old s0 (subst HasEachOnce un.same once)))
+      (subst (λ s. Spends unique (1 + m) root trees old old s0 s) (sym un.no_step)
+          (spends_none unique (1 + m) root trees old s0 (subst HasEachOnce un.same once)))
 
   -- the entry of the node gets its result
   pub spends_finished : {E : Type 0} (grown new : Table) (result : Result Id E) (s2 : ℕ) → IfOk result (λ made. Puts grown new id (Some made))
@@ -277,7 +283,8 @@ module _ (unique : Bool) (m : ℕ) (root : Tree) (trees : List Tree) (old begun 
       by : (k : Id) (r : Option Id) → ((id ≡ k) × (r ≡ Some made)) ⊎ (found grown k ≡ Some r)
           → IsSome (found begun k) ⊎ (IsId trees k × Contains (subtrees root) (tree trees k))
       by k r (inl p) =
-          inr (subst (λ j. IsId trees j × Contains (subtrees root) (tree trees j)) p.0 (known, subst (λ t. Contains (subtrees root) t) (sym root_is) (root_within root)))
+          inr (subst (λ j. IsId trees j × Contains (subtrees root) (tree trees j)) p.0
+              (known, subst (λ t. Contains (subtrees root) t) (sym root_is) (root_within root)))
       by k r (inr p) = h.entry k r p
 
 -- ---- a kid of a node

@@ -1,5 +1,6 @@
 -- How far the nodes of trees have been put behind others.
-use Rattle.std.proofs.Common.{◌≡◌, ◌≢◌, ℕ, ◌+◌, ◌<◌, ◌≤◌, false, List, [], ◌∷◌, ◌++◌, length, map, drop, get_or, cond, refl, sym, ap, subst, ◌∙◌, append_assoc, append-nil, add-one}
+use Rattle.std.proofs.Common.{◌≡◌, ◌≢◌, ℕ, ◌+◌, ◌<◌, ◌≤◌, false, List, [], ◌∷◌, ◌++◌, length, map, drop, get_or, cond, refl, sym, ap, subst, ◌∙◌}
+use Rattle.std.proofs.Common.{append_assoc, append-nil, add-one}
 use Rattle.std.proofs.Math.Seq.{drop-cons}
 use Rattle.std.proofs.lemmas.List.{drop_all}
 use Rattle.dlk_tree.specs.Trees.{Tree, node, Forest}
@@ -97,7 +98,8 @@ module _ {B : Type 0} (f : B → Tree) (old : List Tree) (more : List Tree) (ite
   tree_put now new i d less e s =
       let t = f (get_or items i d) in
       let rest = map f (drop (i + 1) items) in
-      same_left (ap (λ n. new_in_each n rest) (sym e)) (were_put (new_nodes now t) (new_in_each (now ++ new_nodes now t) rest) (next_tree_left now i d less s) e)
+      same_left (ap (λ n. new_in_each n rest) (sym e))
+          (were_put (new_nodes now t) (new_in_each (now ++ new_nodes now t) rest) (next_tree_left now i d less s) e)
 
   pub tree_begun : (now new : List Tree) (i : ℕ) (d : B) → i < length items → AreBegun now new (new_nodes now (f (get_or items i d))) →
       PutSoFar old more now (new_in_each now (map f (drop i items))) → AreBegun old new more

@@ -12,7 +12,8 @@ use Rattle.dlk_grammar.specs.Shown.{spell}
 use Rattle.dlk_grammar.specs.Symbols.{shown_symbol}
 use Rattle.dlk_grammar.specs.Tokens.{is_digit}
 use Rattle.dlk_lines.specs.Numbers.{IsNumber}
-use Rattle.dlk_lines.specs.Spelled.{ByNodes, Names, NamesEach, none_behind, one_behind, NamesBefore, none_before, one_before, NamesSequent, sides, NamesFormula, formula}
+use Rattle.dlk_lines.specs.Spelled.{ByNodes, Names, NamesEach, none_behind, one_behind, NamesBefore, none_before, one_before, NamesSequent, sides}
+use Rattle.dlk_lines.specs.Spelled.{NamesFormula, formula}
 use Rattle.dlk_lines.specs.Spelled.{NamesPair, pair, NamesMorePairs, no_more_pairs, one_more_pair, NamesPairs, no_pairs, first_pair}
 use Rattle.dlk_lines.specs.Lines.{IsArguments, one_place, two_places, place_and_formula, one_formula, place_and_name, IsRule, rule}
 use Rattle.dlk_lines.specs.Lines.{IsStep, start, use_axiom, use_rule, leaf, apply, merge, substitute, rename, IsStepLine, numbered}

@@ -8,7 +8,8 @@ use Rattle.dlk_tree.specs.Table.{is_sym}
 use Rattle.dlk_tree.specs.Trees.{Tree, sort}
 use Rattle.dlk_calculus.specs.Pairs.{Pair, is_of_kind}
 use Rattle.dlk_calculus.specs.Sequents.{Sequent}
-use Rattle.dlk_lines.specs.Spelled.{ByNodes, NamesEach, none_behind, one_behind, NamesBefore, none_before, one_before, NamesSequent, sides, NamesFormula, formula}
+use Rattle.dlk_lines.specs.Spelled.{ByNodes, NamesEach, none_behind, one_behind, NamesBefore, none_before, one_before, NamesSequent, sides}
+use Rattle.dlk_lines.specs.Spelled.{NamesFormula, formula}
 use Rattle.dlk_lines.specs.Spelled.{pair, NamesMorePairs, no_more_pairs, one_more_pair, NamesPairs, no_pairs, first_pair}
 use Rattle.dlk_lines.specs.Written.{numbers_text, numbers_before, pair_text, sequent_text, pairs_text, formula_text, trees_in, replacements_in}
 use Rattle.dlk_nodes.specs.Nodes.{has_node}

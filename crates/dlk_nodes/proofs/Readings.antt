@@ -1,5 +1,6 @@
 -- The text of a node says at most one operator and one list of kids.
-use Rattle.std.proofs.Common.{◌≡◌, ℕ, ◌<◌, ◌==◌, Bool, true, false, not, List, [], ◌∷◌, ◌++◌, Option, Some, None, codes, refl, sym, ap, subst, ◌∙◌, append_assoc, append-nil}
+use Rattle.std.proofs.Common.{◌≡◌, ℕ, ◌<◌, ◌==◌, Bool, true, false, not, List, [], ◌∷◌, ◌++◌, Option, Some, None, codes, refl, sym, ap, subst, ◌∙◌}
+use Rattle.std.proofs.Common.{append_assoc, append-nil}
 use Rattle.std.specs.Prelude.{if◌then◌else◌, map}
 use Rattle.std.specs.List.{list_all, join_by}
 use Rattle.std.proofs.lemmas.Bool.{and_parts, and_from, ltb-true}
@@ -15,7 +16,8 @@ use Rattle.dlk_tree.specs.Names.{is_name_byte, is_name}
 use Rattle.dlk_tree.specs.Table.{taboo_is_name, is_sym_of, is_item, has_parts}
 use Rattle.dlk_grammar.specs.Shown.{literal}
 use Rattle.dlk_grammar.specs.Tokens.{is_digit}
-use Rattle.dlk_nodes.specs.Words.{Detail, NoDetail, Named, OfVariable, OfNumber, OfDot, OfUnit, OfItems, detail_text, call_of, op_text, variable_text, unit_text, item_text}
+use Rattle.dlk_nodes.specs.Words.{Detail, NoDetail, Named, OfVariable, OfNumber, OfDot, OfUnit, OfItems, detail_text, call_of, op_text, variable_text}
+use Rattle.dlk_nodes.specs.Words.{unit_text, item_text}
 use Rattle.dlk_nodes.specs.Fields.{parts_of, Each}
 use Rattle.dlk_lines.specs.Spelled.{Names}
 use Rattle.dlk_nodes.specs.Nodes.{NamesNode, op_and_kids, TakesKids, IsRead}

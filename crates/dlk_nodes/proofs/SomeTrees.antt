@@ -1,5 +1,6 @@
 -- It is known whether a text says a sequent, a formula or pairs by the numbers of nodes.
-use Rattle.std.proofs.Common.{◌≡◌, ℕ, zero, suc, ◌==◌, ◌≤◌, true, List, [], ◌∷◌, ◌++◌, length, Option, Some, None, codes, refl, sym, ap, subst, ◌∙◌, append-nil, length-append, arith, ◌⊎◌, inl, inr}
+use Rattle.std.proofs.Common.{◌≡◌, ℕ, zero, suc, ◌==◌, ◌≤◌, true, List, [], ◌∷◌, ◌++◌, length, Option, Some, None, codes, refl, sym, ap, subst, ◌∙◌}
+use Rattle.std.proofs.Common.{append-nil, length-append, arith, ◌⊎◌, inl, inr}
 use Rattle.std.specs.Prelude.{All}
 use Rattle.std.specs.Str.{bytes_eq}
 use Rattle.std.proofs.lemmas.Bool.{eq-eqb, false_from_ne_true}
@@ -29,8 +30,10 @@ use Rattle.dlk_nodes.proofs.OpsCut.{not_fields}
 use Rattle.dlk_nodes.specs.Fields.{parts_of}
 use Rattle.dlk_nodes.proofs.SomeNode.{Known, both, by_test, is_equal, known_cut, known_front, known_name, known_names}
 use Rattle.dlk_nodes.proofs.SymbolBack.{symbol_in, symbol_back}
-use Rattle.dlk_nodes.proofs.SidesRead.{no_left, one_more_left, no_sides_yet, behind_needed, space_wanted, number_wanted, one_side_more, one_sides, sequent_sides, sides_sequent}
-use Rattle.dlk_nodes.proofs.PairsFound.{same_sort, tilde_wanted, sign_wanted, node_wanted, symbol_wanted, kind_wanted, pair_is, one_rest, PairsIn, to_more, from_more, some_text, some_are}
+use Rattle.dlk_nodes.proofs.SidesRead.{no_left, one_more_left, no_sides_yet, behind_needed, space_wanted, number_wanted, one_side_more, one_sides}
+use Rattle.dlk_nodes.proofs.SidesRead.{sequent_sides, sides_sequent}
+use Rattle.dlk_nodes.proofs.PairsFound.{same_sort, tilde_wanted, sign_wanted, node_wanted, symbol_wanted, kind_wanted, pair_is, one_rest, PairsIn}
+use Rattle.dlk_nodes.proofs.PairsFound.{to_more, from_more, some_text, some_are}
 
 -- ---- sorts and symbols
 

@@ -1,5 +1,6 @@
 -- The lines of a step, appended one by one.
-use Rattle.std.proofs.Common.{◌≡◌, ℕ, suc, ◌+◌, ◌<◌, ◌≤◌, List, [], ◌∷◌, ◌++◌, length, take, drop, get_or, codes, refl, sym, ap, subst, ◌∙◌, append_assoc, append-nil, add-one, arith, length-take}
+use Rattle.std.proofs.Common.{◌≡◌, ℕ, suc, ◌+◌, ◌<◌, ◌≤◌, List, [], ◌∷◌, ◌++◌, length, take, drop, get_or, codes, refl, sym, ap, subst, ◌∙◌}
+use Rattle.std.proofs.Common.{append_assoc, append-nil, add-one, arith, length-take}
 use Rattle.std.proofs.Math.Seq.{drop-cons}
 use Rattle.std.proofs.lemmas.List.{take_more, take-append-drop, drop_all, get_or-map}
 use Rattle.dlk_tree.specs.Trees.{Tree}
@@ -59,7 +60,8 @@ pub no_lines_left : {old text now : List ℕ} (all : List Tree) (k : ℕ) → le
 no_lines_left all k le left = same_rest (ap (λ l. ended (node_lines (take k all) l)) (drop_all k all le)) left
 
 -- ids and their trees
-pub tree_there : (trees : List Tree) (ids : List Id) (k : ℕ) (d : Id) → k < length ids → get_or (nodes_at trees ids) k (tree trees d) ≡ tree trees (get_or ids k d)
+pub tree_there : (trees : List Tree) (ids : List Id) (k : ℕ) (d : Id) → k < length ids →
+    get_or (nodes_at trees ids) k (tree trees d) ≡ tree trees (get_or ids k d)
 tree_there trees ids k d less = get_or-map (tree trees) ids k d (tree trees d) less
 
 pub as_many : (trees : List Tree) (ids : List Id) → length (nodes_at trees ids) ≡ length ids

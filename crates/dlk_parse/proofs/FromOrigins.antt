@@ -54,6 +54,7 @@ module _ {P V : Type 0} (G : List Lexeme → P → Type 0) (parts : P → List P
   stopped (stop.Syntax at) fault h r = refused_at at fault h (r h.tokens h.noted)
 
   -- what stops, as it comes from the origin that a source was made of
-  pub refused : (from : Origin) → from ≡ origin → (why : Stop) (fault : TextFault) → ReadsAll (Answers IsCode G parts d) from s (Err why) → IsRefusal s.noted why fault
+  pub refused : (from : Origin) → from ≡ origin → (why : Stop) (fault : TextFault) → ReadsAll (Answers IsCode G parts d) from s (Err why) →
+      IsRefusal s.noted why fault
       → IsTextFaultOf (IsFaultFrom origin (IsReadFault G parts d)) fault
   refused from e why fault h r = stopped why fault (subst (λ (o : Origin). ReadsAll (Answers IsCode G parts d) o s (Err why)) e h) r

@@ -1,5 +1,6 @@
 -- What is measured of a code is the measures of its phrases.
-use Rattle.std.proofs.Common.{◌≡◌, ℕ, ◌+◌, min, List, [], ◌∷◌, ◌++◌, length, map, Option, Some, None, Bool, true, false, refl, sym, ap, ◌∙◌, append_assoc, arith, get_or, fold}
+use Rattle.std.proofs.Common.{◌≡◌, ℕ, ◌+◌, min, List, [], ◌∷◌, ◌++◌, length, map, Option, Some, None, Bool, true, false, refl, sym, ap, ◌∙◌}
+use Rattle.std.proofs.Common.{append_assoc, arith, get_or, fold}
 use Rattle.std.specs.Prelude.{max, All, nat_lt, flat_map}
 use Rattle.std.proofs.lemmas.List.{append-nil, length-map}
 use Rattle.std.proofs.lemmas.List.Sums.{fold-append}
@@ -17,7 +18,8 @@ use Rattle.dlk_parse.specs.Measuring.{lesser, place_when, with_kid, raised, over
 use Rattle.dlk_reader.specs.declared.code.Code.{Code}
 use Rattle.dlk_reader.specs.declared.code.Code.TheVariants as code
 use Rattle.dlk_parse.specs.declared.measures.Measure.{Measure}
-use Rattle.dlk_parse.proofs.PhraseParts.{parts, of_each, operator, place_of, IsOver, View, over, noted, view, pops, pops_are, count_is, postfix_all_is, ills_of_all_is}
+use Rattle.dlk_parse.proofs.PhraseParts.{parts, of_each, operator, place_of, IsOver, View, over, noted, view, pops, pops_are, count_is}
+use Rattle.dlk_parse.proofs.PhraseParts.{postfix_all_is, ills_of_all_is}
 use Rattle.dlk_parse.proofs.Stacked.{top_is, below_is}
 
 -- the lesser of two places
@@ -66,7 +68,8 @@ max_assoc a b c = omega arith
 add_assoc' : (a b c : ℕ) → (a + b) + c ≡ a + (b + c)
 add_assoc' a b c = omega arith
 
-one_kid : (ill : Option ℕ) (s d : ℕ) (p : Phrase) → with_kid (so_far ill s d) (measure p) ≡ so_far (lesser ill (lowest (ills p))) (s + size (erase p)) (max d (depth (erase p)))
+one_kid : (ill : Option ℕ) (s d : ℕ) (p : Phrase) →
+    with_kid (so_far ill s d) (measure p) ≡ so_far (lesser ill (lowest (ills p))) (s + size (erase p)) (max d (depth (erase p)))
 unfolding so_far
 one_kid ill s d p = λ i. record { ill = lesser ill (lowest (ills p)); size = sizes_join s (size (erase p)) 0 i; depth = depths_join d (depth (erase p)) i }
 
@@ -76,7 +79,9 @@ so_far-same f g h = λ i. so_far (f i) (g i) (h i)
 max_zero : (d : ℕ) → d ≡ max d 0
 max_zero d = omega arith
 
-with_kids : (ps : List Phrase) (ill : Option ℕ) (s d : ℕ) → fold with_kid (so_far ill s d) (map measure ps) ≡ so_far (lesser ill (lowest (flat_map ills ps))) (s + size_all (forest (map erase ps))) (max d (depth_all (forest (map erase ps))))
+with_kids : (ps : List Phrase) (ill : Option ℕ) (s d : ℕ) →
+    fold with_kid (so_far ill s d) (map measure ps) ≡ so_far (lesser ill (lowest (flat_map ills ps))) (s + size_all (forest (map erase ps)))
+    (max d (depth_all (forest (map erase ps))))
 with_kids [] ill s d = so_far-same (sym (lesser_none ill)) (omega arith) (max_zero d)
 with_kids (p ∷ ps) ill s d =
     ap (λ m. fold with_kid m (map measure ps)) (one_kid ill s d p)
@@ -92,11 +97,14 @@ tree_measure ill t = record { ill = ill; size = min (size t) 4294967295; depth =
 raised_depth : (d : ℕ) → min (min (max 0 d) 4294967295 + 1) 4294967295 ≡ min (1 + d) 4294967295
 raised_depth d = omega arith
 
-kids_measure : (ill : Option ℕ) (o : Op) (ps : List Phrase) → over_kids ill (map measure ps) ≡ tree_measure (lesser ill (lowest (flat_map ills ps))) (node o (forest (map erase ps)))
+kids_measure : (ill : Option ℕ) (o : Op) (ps : List Phrase) →
+    over_kids ill (map measure ps) ≡ tree_measure (lesser ill (lowest (flat_map ills ps))) (node o (forest (map erase ps)))
 unfolding so_far tree_measure
 kids_measure ill o ps =
-    let e : fold with_kid (record { ill = ill; size = 1; depth = 0 }) (map measure ps) ≡ so_far (lesser ill (lowest (flat_map ills ps))) (1 + size_all (forest (map erase ps))) (max 0 (depth_all (forest (map erase ps)))) = with_kids ps ill 1 0 in
-    ap raised e ∙ (λ i. record { ill = lesser ill (lowest (flat_map ills ps)); size = min (1 + size_all (forest (map erase ps))) 4294967295; depth = raised_depth (depth_all (forest (map erase ps))) i })
+    let e : fold with_kid (record { ill = ill; size = 1; depth = 0 }) (map measure ps) ≡ so_far (lesser ill (lowest (flat_map ills ps)))
+        (1 + size_all (forest (map erase ps))) (max 0 (depth_all (forest (map erase ps)))) = with_kids ps ill 1 0 in
+    ap raised e ∙ (λ i. record { ill = lesser ill (lowest (flat_map ills ps)); size = min (1 + size_all (forest (map erase ps))) 4294967295; depth =
+        raised_depth (depth_all (forest (map erase ps))) i })
 
 measure-same : (p : Phrase) (places : List ℕ) (t : Tree) → ills p ≡ places → erase p ≡ t → measure p ≡ tree_measure (lowest places) t
 unfolding tree_measure
@@ -117,7 +125,8 @@ over_step : (p : Phrase) (c : Code) (o : Op) → IsOver p c o → (s : List Meas
 over_step p c o w s =
     let n : pops c ≡ length (map measure (parts p)) = pops_are c o w.operator_is ∙ sym w.long ∙ sym (length-map (parts p) measure) in
     let m : over_kids (lowest (place_of c)) (map measure (parts p)) ≡ measure p =
-    kids_measure (lowest (place_of c)) o (parts p) ∙ ap (λ ill. tree_measure ill (node o (forest (map erase (parts p))))) (sym (lowest-append (place_of c) (flat_map ills (parts p))))
+    kids_measure (lowest (place_of c)) o (parts p)
+        ∙ ap (λ ill. tree_measure ill (node o (forest (map erase (parts p))))) (sym (lowest-append (place_of c) (flat_map ills (parts p))))
     ∙ sym (measure-same p (place_of c ++ flat_map ills (parts p)) (node o (forest (map erase (parts p)))) w.places w.tree_is) in
     step_is (s ++ map measure (parts p)) c o w.operator_is ∙ joined_is s (map measure (parts p)) (pops c) (lowest (place_of c)) n ∙ ap (λ k. s ++ k ∷ []) m
 
@@ -125,7 +134,8 @@ over_step p c o w s =
 beside_is : (q : Phrase) (l : Phrases) → beside (measure q ∷ map measure (phrases_in l)) ≡ measure (Noted q l) ∷ []
 unfolding tree_measure
 beside_is q l =
-    let places : lesser (lowest (ills q)) (lowest (flat_map ills (phrases_in l))) ≡ lowest (ills (Noted q l)) = sym (lowest-append (ills q) (flat_map ills (phrases_in l))) ∙ ap (λ ns. lowest (ills q ++ ns)) (sym (ills_of_all_is l)) in
+    let places : lesser (lowest (ills q)) (lowest (flat_map ills (phrases_in l))) ≡ lowest (ills (Noted q l)) =
+        sym (lowest-append (ills q) (flat_map ills (phrases_in l))) ∙ ap (λ ns. lowest (ills q ++ ns)) (sym (ills_of_all_is l)) in
     let k = kids_measure (lowest (ills q)) op.Loop (phrases_in l) in
     λ i. record { ill = (ap (λ m. m.ill) k ∙ places) i; size = min (size (erase q)) 4294967295; depth = min (depth (erase q)) 4294967295 } ∷ []
 
@@ -141,7 +151,8 @@ all_measured (p ∷ ps) h s =
     ∙ all_measured ps (All-tail Measured p ps h) (s ++ measure p ∷ [])
     ∙ append_assoc s (measure p ∷ []) (map measure ps)
 
-noted_step : (q : Phrase) (l : Phrases) (s : List Measure) → measure_step ((s ++ measure q ∷ []) ++ map measure (phrases_in l)) (code.EndNotes (count l)) ≡ s ++ measure (Noted q l) ∷ []
+noted_step : (q : Phrase) (l : Phrases) (s : List Measure) →
+    measure_step ((s ++ measure q ∷ []) ++ map measure (phrases_in l)) (code.EndNotes (count l)) ≡ s ++ measure (Noted q l) ∷ []
 noted_step q l s =
     let ms = measure q ∷ map measure (phrases_in l) in
     let n : count l + 1 ≡ length ms = omega (arith, count_is l, length-map (phrases_in l) measure) in

@@ -1,5 +1,6 @@
 -- Nodes that are made of a code are those of its phrases' trees.
-use Rattle.std.proofs.Common.{◌≡◌, ℕ, suc, zero, ◌+◌, ◌-◌, ◌≤◌, List, [], ◌∷◌, ◌++◌, length, take, drop, map, get_or, Some, true, false, cond, refl, sym, ap, subst, ◌∙◌, append_assoc, add-one, arith, fold}
+use Rattle.std.proofs.Common.{◌≡◌, ℕ, suc, zero, ◌+◌, ◌-◌, ◌≤◌, List, [], ◌∷◌, ◌++◌, length, take, drop, map, get_or, Some, true, false, cond, refl}
+use Rattle.std.proofs.Common.{sym, ap, subst, ◌∙◌, append_assoc, add-one, arith, fold}
 use Rattle.std.specs.Prelude.{All, flat_map, ◌==◌}
 use Rattle.std.proofs.lemmas.List.{append-nil, map-append, length-map, take-map, take_at, take_rest, take-append-drop, nil_from_length}
 use Rattle.std.proofs.lemmas.List.Sums.{fold-append}
@@ -46,18 +47,24 @@ sorts_are trees [] = refl
 sorts_are trees (k ∷ ks) = ap (λ s. sort (tree trees k) ∷ s) (sorts_are trees ks)
 
 -- a node was put in place of its kids
-pub put_is : {old new : List Tree} (o : Op) (ids : List Id) (id : Id) → Keeps old new → All (IsId old) ids → StandsFor new id (node o (kid_trees old (top (length (kid_sorts o)) ids)))
+pub put_is : {old new : List Tree} (o : Op) (ids : List Id) (id : Id) → Keeps old new → All (IsId old) ids →
+    StandsFor new id (node o (kid_trees old (top (length (kid_sorts o)) ids)))
     → map (tree new) (below (length (kid_sorts o)) ids ++ id ∷ []) ≡ put o (map (tree old) ids)
 put_is {old} {new} o ids id keeps known made =
     let n = length (kid_sorts o) in
-    let front : map (tree new) (below n ids) ≡ below n (map (tree old) ids) = trees-kept keeps (below n ids) (All-take (IsId old) (length ids - n) ids known) ∙ below-map (tree old) n ids in
-    let here : tree new id ≡ node o (forest (top n (map (tree old) ids))) = made.tree_is ∙ ap (node o) (kid_trees_are old (top n ids) ∙ ap forest (top-map (tree old) n ids)) in
+    let front : map (tree new) (below n ids) ≡ below n (map (tree old) ids) = trees-kept keeps (below n ids) (All-take (IsId old) (length ids - n) ids known)
+        ∙ below-map (tree old) n ids in
+    let here : tree new id ≡ node o (forest (top n (map (tree old) ids))) = made.tree_is
+        ∙ ap (node o) (kid_trees_are old (top n ids) ∙ ap forest (top-map (tree old) n ids)) in
     map-append (tree new) (below n ids) (id ∷ []) ∙ (λ i. front i ++ here i ∷ [])
 
-pub put_made : {old new : List Tree} (o : Op) (ids shorter longer : List Id) (id : Id) (at : ℕ) → at ≡ length ids - length (kid_sorts o) → Keeps old new → All (IsId old) ids
-    → StandsFor new id (node o (kid_trees old (take (length ids - at) (drop at ids)))) → shorter ≡ take at ids → longer ≡ shorter ++ id ∷ [] → map (tree new) longer ≡ put o (map (tree old) ids)
+pub put_made : {old new : List Tree} (o : Op) (ids shorter longer : List Id) (id : Id) (at : ℕ) → at ≡ length ids - length (kid_sorts o) → Keeps old new →
+    All (IsId old) ids
+    → StandsFor new id (node o (kid_trees old (take (length ids - at) (drop at ids)))) → shorter ≡ take at ids → longer ≡ shorter ++ id ∷ [] →
+        map (tree new) longer ≡ put o (map (tree old) ids)
 put_made {old} {new} o ids shorter longer id at e keeps known made f g =
-    let made-at : StandsFor new id (node o (kid_trees old (top (length (kid_sorts o)) ids))) = subst (λ ks. StandsFor new id (node o (kid_trees old ks))) (take_rest ids at ∙ ap (λ n. drop n ids) e) made in
+    let made-at : StandsFor new id (node o (kid_trees old (top (length (kid_sorts o)) ids))) =
+        subst (λ ks. StandsFor new id (node o (kid_trees old ks))) (take_rest ids at ∙ ap (λ n. drop n ids) e) made in
     let parts : longer ≡ below (length (kid_sorts o)) ids ++ id ∷ [] = g ∙ ap (λ l. l ++ id ∷ []) (f ∙ ap (λ n. take n ids) e) in
     ap (map (tree new)) parts ∙ put_is o ids id keeps known made-at
 
@@ -73,14 +80,17 @@ front_well_made ts t all = All-same WellMade ts (take (length ts) (ts ++ t ∷ [
     take-append ts = take_at ts (t ∷ []) (length ts) refl
 
 -- an operator that is put fits the sorts of the ids on top
-pub put_fits : (trees : List Tree) (o : Op) (ids : List Id) → All WellMade (put o (map (tree trees) ids)) → Fits o (sorts_at trees (top (length (kid_sorts o)) ids))
+pub put_fits : (trees : List Tree) (o : Op) (ids : List Id) → All WellMade (put o (map (tree trees) ids)) →
+    Fits o (sorts_at trees (top (length (kid_sorts o)) ids))
 put_fits trees o ids all =
     let n = length (kid_sorts o) in
-    let fits : Fits o (sorts (forest (top n (map (tree trees) ids)))) = (last_well_made (below n (map (tree trees) ids)) (node o (forest (top n (map (tree trees) ids)))) all).0 in
+    let fits : Fits o (sorts (forest (top n (map (tree trees) ids)))) =
+        (last_well_made (below n (map (tree trees) ids)) (node o (forest (top n (map (tree trees) ids)))) all).0 in
     subst (Fits o) (ap (λ ts. sorts (forest ts)) (sym (top-map (tree trees) n ids)) ∙ sorts_are trees (top n ids)) fits
 
 -- outside of notes
-pub outside_fits : (trees : List Tree) (o : Op) (maker : Maker) → maker.notes ≤ 0 → AllWellMade (put_outside o (making_at trees maker)) → Fits o (sorts_at trees (top (length (kid_sorts o)) maker.ids.items))
+pub outside_fits : (trees : List Tree) (o : Op) (maker : Maker) → maker.notes ≤ 0 → AllWellMade (put_outside o (making_at trees maker)) →
+    Fits o (sorts_at trees (top (length (kid_sorts o)) maker.ids.items))
 outside_fits trees o maker h w = put_fits trees o maker.ids.items (outside (none maker.notes h) w.each)
   where
     none : (n : ℕ) → n ≤ 0 → n ≡ 0
@@ -132,14 +142,17 @@ module _ {p : Phrase} (c : Code) (o : Op) (w : IsOver p c o) (all : All Makes (p
   put_parts ts =
       let n : length (kid_sorts o) ≡ length (map erase (parts p)) = sym w.long ∙ sym (length-map (parts p) erase) in
       let under = below_is ts (map erase (parts p)) (length (kid_sorts o)) n in
-      let kids : node o (forest (top (length (kid_sorts o)) (ts ++ map erase (parts p)))) ≡ erase p = ap (λ us. node o (forest us)) (top_is ts (map erase (parts p)) (length (kid_sorts o)) n) ∙ sym w.tree_is in
+      let kids : node o (forest (top (length (kid_sorts o)) (ts ++ map erase (parts p)))) ≡ erase p =
+          ap (λ us. node o (forest us)) (top_is ts (map erase (parts p)) (length (kid_sorts o)) n) ∙ sym w.tree_is in
       λ i. under i ++ kids i ∷ []
 
   over_makes : Makes p
   over_makes = record {
-    outside = λ ts. ap (fold make_step (making 0 ts)) w.spelled ∙ fold-append make_step (making 0 ts) (flat_map postfix (parts p)) (c ∷ []) ∙ ap (λ m. make_step m c) (all_outside (parts p) all ts)
+    outside = λ ts. ap (fold make_step (making 0 ts)) w.spelled ∙ fold-append make_step (making 0 ts) (flat_map postfix (parts p)) (c ∷ [])
+        ∙ ap (λ m. make_step m c) (all_outside (parts p) all ts)
         ∙ step_is (making 0 (ts ++ map erase (parts p))) c o w.operator_is ∙ ap (making 0) (put_parts ts);
-    inside = λ n ts. ap (fold make_step (making (suc n) ts)) w.spelled ∙ fold-append make_step (making (suc n) ts) (flat_map postfix (parts p)) (c ∷ []) ∙ ap (λ m. make_step m c) (all_inside (parts p) all n ts)
+    inside = λ n ts. ap (fold make_step (making (suc n) ts)) w.spelled ∙ fold-append make_step (making (suc n) ts) (flat_map postfix (parts p)) (c ∷ [])
+        ∙ ap (λ m. make_step m c) (all_inside (parts p) all n ts)
         ∙ step_is (making (suc n) ts) c o w.operator_is ∙ nothing_inside o n ts;
   }
 
@@ -184,7 +197,8 @@ before_put : (o : Op) (ts : List Tree) → All WellMade (put o ts) → All WellM
 before_put o ts all =
     let n = length (kid_sorts o) in
     let node_made : WellMade (node o (forest (top n ts))) = last_well_made (below n ts) (node o (forest (top n ts))) all in
-    All-same WellMade ts (below n ts ++ top n ts) (sym (take-append-drop (length ts - n) ts)) (All-append WellMade (below n ts) (top n ts) (front_well_made (below n ts) (node o (forest (top n ts))) all) (kids_well_made (top n ts) node_made.1))
+    All-same WellMade ts (below n ts ++ top n ts) (sym (take-append-drop (length ts - n) ts))
+        (All-append WellMade (below n ts) (top n ts) (front_well_made (below n ts) (node o (forest (top n ts))) all) (kids_well_made (top n ts) node_made.1))
 
 before_outside : (o : Op) (n : ℕ) (ts : List Tree) → All WellMade (put_outside o (making n ts)).trees → All WellMade ts
 before_outside o zero ts all = before_put o ts all
@@ -202,14 +216,18 @@ before m [] all = all
 before m (c ∷ cs) all = before_step m c (before (make_step m c) cs all)
 
 -- the rest of a code, whose first node is put next
-pub next_well_made : (m : Making) (c : Code) (code rest after : List Code) → IsWellMade code → fold make_step m rest ≡ fold make_step (making 0 []) code → rest ≡ c ∷ after → AllWellMade (make_step m c)
+pub next_well_made : (m : Making) (c : Code) (code rest after : List Code) → IsWellMade code → fold make_step m rest ≡ fold make_step (making 0 []) code →
+    rest ≡ c ∷ after → AllWellMade (make_step m c)
 next_well_made m c code rest after w ends e =
-    let same : fold make_step (make_step m c) after ≡ making 0 (map erase w.phrases) = ap (fold make_step m) (sym e) ∙ ends ∙ ap (fold make_step (making 0 [])) w.code_is ∙ phrases_made w.phrases in
+    let same : fold make_step (make_step m c) after ≡ making 0 (map erase w.phrases) = ap (fold make_step m) (sym e) ∙ ends
+        ∙ ap (fold make_step (making 0 [])) w.code_is ∙ phrases_made w.phrases in
     record { each = before (make_step m c) after (subst (λ k. All WellMade k.trees) (sym same) (All-map WellMade erase w.phrases w.well_made)) }
 
 -- nothing of the code is left
-pub all_made : (trees : List Tree) (maker : Maker) (code rest : List Code) → All (IsId trees) maker.ids.items → fold make_step (making_at trees maker) rest ≡ fold make_step (making 0 []) code → length rest ≡ 0 → AreMade code trees maker.ids.items
+pub all_made : (trees : List Tree) (maker : Maker) (code rest : List Code) → All (IsId trees) maker.ids.items →
+    fold make_step (making_at trees maker) rest ≡ fold make_step (making 0 []) code → length rest ≡ 0 → AreMade code trees maker.ids.items
 all_made trees maker code rest known ends e = record {
   known = known;
-  of_phrases = λ ps is. ap (λ m. m.trees) (ap (fold make_step (making_at trees maker)) (sym (nil_from_length rest e)) ∙ ends ∙ ap (fold make_step (making 0 [])) is ∙ phrases_made ps);
+  of_phrases = λ ps is. ap (λ m. m.trees) (ap (fold make_step (making_at trees maker)) (sym (nil_from_length rest e)) ∙ ends
+      ∙ ap (fold make_step (making 0 [])) is ∙ phrases_made ps);
 }

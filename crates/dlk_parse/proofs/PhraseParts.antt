@@ -13,8 +13,11 @@ use Rattle.dlk_tree.specs.declared.op.Sort.TheVariants as sort_of
 use Rattle.dlk_tree.specs.declared.op.Op.{Op}
 use Rattle.dlk_tree.specs.declared.op.Op.TheVariants as op
 use Rattle.dlk_grammar.specs.declared.token.Infix.{Infix}
-use Rattle.dlk_grammar.specs.declared.token.Infix.TheVariants.{Equiv, Imply, Or, And, Equal, NotEqual, AtLeast, Greater, AtMost, Less, Add, Sub, Mul, Div, Pow, Choice}
-use Rattle.dlk_grammar.specs.Phrases.{Everywhere, Phrase, Literal, Argument, Variable, Apply, Negate, Diff, Truth, Falsity, Hole, Holds, Context, Not, DiffF, Forall, Exists, Box, Dia, Binary, Const, Assign, AssignAny, Test, Then, Loop, System, Noted, Phrases, none, snoc, Call, Any, Evolve, Flow, Items, no_items, add}
+use Rattle.dlk_grammar.specs.declared.token.Infix.TheVariants.{Equiv, Imply, Or, And, Equal, NotEqual, AtLeast, Greater, AtMost, Less, Add, Sub, Mul}
+use Rattle.dlk_grammar.specs.declared.token.Infix.TheVariants.{Div, Pow, Choice}
+use Rattle.dlk_grammar.specs.Phrases.{Everywhere, Phrase, Literal, Argument, Variable, Apply, Negate, Diff, Truth, Falsity, Hole, Holds, Context, Not}
+use Rattle.dlk_grammar.specs.Phrases.{DiffF, Forall, Exists, Box, Dia, Binary, Const, Assign, AssignAny, Test, Then, Loop, System, Noted, Phrases}
+use Rattle.dlk_grammar.specs.Phrases.{none, snoc, Call, Any, Evolve, Flow, Items, no_items, add}
 use Rattle.dlk_grammar.specs.Erased.{symbol, ode_items, infix_op, count, erase, erase_all, item_terms, place_if, ills, ills_of_all, ills_of_items}
 use Rattle.dlk_grammar.specs.Readings.{phrases_in}
 use Rattle.dlk_reader.specs.Codes.{postfix, postfix_all, postfix_terms}
@@ -205,10 +208,15 @@ right_sides_long no_items = refl
 right_sides_long (add l (Evolve x a)) =
     let e = ap length (evolved_push (ode_items l) (ode.Evolve x)) ∙ length-append (evolved (ode_items l)) (x ∷ []) in
     length-append (right_sides l) (a ∷ []) ∙ (ap (λ n. n + 1) (right_sides_long l) ∙ sym e)
-right_sides_long (add l (Flow x s)) = right_sides_long l ∙ sym (ap length (evolved_push (ode_items l) (ode.Const (symbol Ode x 0 s))) ∙ length-append (evolved (ode_items l)) [] ∙ add-zero (length (evolved (ode_items l))))
+right_sides_long (add l (Flow x s)) = right_sides_long l
+    ∙ sym (ap length (evolved_push (ode_items l) (ode.Const (symbol Ode x 0 s))) ∙ length-append (evolved (ode_items l)) []
+    ∙ add-zero (length (evolved (ode_items l))))
 
-system_long : (l : Items) (a : Phrase) → length (right_sides l ++ a ∷ []) ≡ length (replicate (length (evolved (ode_items l))) sort_of.Term ++ sort_of.Formula ∷ [])
-system_long l a = omega (arith, length-append (right_sides l) (a ∷ []), right_sides_long l, length-append (replicate (length (evolved (ode_items l))) sort_of.Term) (sort_of.Formula ∷ []), length-replicate (length (evolved (ode_items l))) sort_of.Term)
+system_long : (l : Items) (a : Phrase) →
+    length (right_sides l ++ a ∷ []) ≡ length (replicate (length (evolved (ode_items l))) sort_of.Term ++ sort_of.Formula ∷ [])
+system_long l a = omega (arith, length-append (right_sides l) (a ∷ []), right_sides_long l,
+    length-append (replicate (length (evolved (ode_items l))) sort_of.Term) (sort_of.Formula ∷ []),
+    length-replicate (length (evolved (ode_items l))) sort_of.Term)
 
 call_long : (l : Phrases) → length (phrases_in l) ≡ length (replicate (count l) sort_of.Term)
 call_long l = sym (count_is l) ∙ sym (length-replicate (count l) sort_of.Term)
@@ -242,7 +250,8 @@ leaf {p} o empty spelled tree ill sorts = over (code.Operator o) o (record {
 })
 
 -- over one part
-unary : {p : Phrase} (o : Op) (a : Phrase) → parts p ≡ a ∷ [] → postfix p ≡ postfix a ++ code.Operator o ∷ [] → erase p ≡ node o (forest (erase a ∷ [])) → ills p ≡ ills a → 1 ≡ length (kid_sorts o) → View p
+unary : {p : Phrase} (o : Op) (a : Phrase) → parts p ≡ a ∷ [] → postfix p ≡ postfix a ++ code.Operator o ∷ [] → erase p ≡ node o (forest (erase a ∷ [])) →
+    ills p ≡ ills a → 1 ≡ length (kid_sorts o) → View p
 unary {p} o a one spelled tree ill sorts = over (code.Operator o) o (record {
   operator_is = refl;
   spelled = spelled ∙ ap (λ s. s ++ code.Operator o ∷ []) (sym (append-nil (postfix a))) ∙ ap (λ ps. flat_map postfix ps ++ code.Operator o ∷ []) (sym one);
@@ -252,10 +261,12 @@ unary {p} o a one spelled tree ill sorts = over (code.Operator o) o (record {
 })
 
 -- over two parts
-binary : {p : Phrase} (o : Op) (a b : Phrase) → parts p ≡ a ∷ b ∷ [] → postfix p ≡ postfix a ++ (postfix b ++ code.Operator o ∷ []) → erase p ≡ node o (forest (erase a ∷ erase b ∷ [])) → ills p ≡ ills a ++ ills b → 2 ≡ length (kid_sorts o) → View p
+binary : {p : Phrase} (o : Op) (a b : Phrase) → parts p ≡ a ∷ b ∷ [] → postfix p ≡ postfix a ++ (postfix b ++ code.Operator o ∷ []) →
+    erase p ≡ node o (forest (erase a ∷ erase b ∷ [])) → ills p ≡ ills a ++ ills b → 2 ≡ length (kid_sorts o) → View p
 binary {p} o a b two spelled tree ill sorts = over (code.Operator o) o (record {
   operator_is = refl;
-  spelled = spelled ∙ sym (append_assoc (postfix a) (postfix b) (code.Operator o ∷ [])) ∙ ap (λ s. postfix a ++ s ++ code.Operator o ∷ []) (sym (append-nil (postfix b))) ∙ ap (λ ps. flat_map postfix ps ++ code.Operator o ∷ []) (sym two);
+  spelled = spelled ∙ sym (append_assoc (postfix a) (postfix b) (code.Operator o ∷ []))
+      ∙ ap (λ s. postfix a ++ s ++ code.Operator o ∷ []) (sym (append-nil (postfix b))) ∙ ap (λ ps. flat_map postfix ps ++ code.Operator o ∷ []) (sym two);
   tree_is = tree ∙ ap (λ ps. node o (forest (map erase ps))) (sym two);
   places = ill ∙ ap (λ s. ills a ++ s) (sym (append-nil (ills b))) ∙ ap (λ ps. flat_map ills ps) (sym two);
   long = ap length two ∙ sorts;
@@ -303,8 +314,11 @@ view (Then p q) = binary op.Seq p q refl refl refl refl refl
 view (Loop p) = unary op.Loop p refl refl refl refl refl
 view (System n l a) = over (code.System n (ode_items l)) (op.System (ode_items l)) (record {
   operator_is = refl;
-  spelled = ap (λ s. s ++ (postfix a ++ code.System n (ode_items l) ∷ [])) (postfix_terms_is l) ∙ sym (append_assoc (flat_map postfix (right_sides l)) (postfix a) (code.System n (ode_items l) ∷ [])) ∙ ap (λ s. s ++ code.System n (ode_items l) ∷ []) (sym (more postfix (right_sides l) a));
-  tree_is = ap (λ ts. node (op.System (ode_items l)) (forest ts)) (ap (λ ts. ts ++ erase a ∷ []) (item_terms_is l) ∙ sym (map-append erase (right_sides l) (a ∷ [])));
+  spelled = ap (λ s. s ++ (postfix a ++ code.System n (ode_items l) ∷ [])) (postfix_terms_is l)
+      ∙ sym (append_assoc (flat_map postfix (right_sides l)) (postfix a) (code.System n (ode_items l) ∷ []))
+      ∙ ap (λ s. s ++ code.System n (ode_items l) ∷ []) (sym (more postfix (right_sides l) a));
+  tree_is = ap (λ ts. node (op.System (ode_items l)) (forest ts))
+      (ap (λ ts. ts ++ erase a ∷ []) (item_terms_is l) ∙ sym (map-append erase (right_sides l) (a ∷ [])));
   places = ap (λ s. place_if (are_ill (ode_items l)) n ++ s) (ap (λ s. s ++ ills a) (ills_of_items_is l) ∙ sym (more ills (right_sides l) a));
   long = system_long l a;
 })

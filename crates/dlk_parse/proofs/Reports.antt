@@ -9,7 +9,8 @@ use Rattle.dlk_grammar.specs.Lexemes.{Lexeme, lexemes}
 use Rattle.dlk_grammar.specs.Phrases.{Phrase}
 use Rattle.dlk_grammar.specs.Erased.{erase, ills, lowest}
 use Rattle.dlk_calculus.specs.Limits.{most_nodes, greatest_depth}
-use Rattle.dlk_grammar.specs.Readings.{Says, FirstPast, TokenAt, ReadFault, Literal, Nesting, Syntax, Shape, TooBig, TooDeep, fault_rank, SpeaksAgainst, IsReadFault}
+use Rattle.dlk_grammar.specs.Readings.{Says, FirstPast, TokenAt, ReadFault, Literal, Nesting, Syntax, Shape, TooBig, TooDeep, fault_rank}
+use Rattle.dlk_grammar.specs.Readings.{SpeaksAgainst, IsReadFault}
 use Rattle.dlk_machine.proofs.Stopping.{said_nowhere}
 use Rattle.dlk_parse.specs.Faults.{IsParseFaultOf}
 use Rattle.dlk_lex.specs.Noted.{starts_of}
@@ -36,7 +37,8 @@ token_at (t ∷ ts) (suc place) at e =
     record { before = t ∷ w.before; token = w.token; behind = w.behind; tokens_are = ap (λ l. t ∷ l) w.tokens_are; count = ap suc w.count; at_is = w.at_is }
 
 -- a form of text, in which lexemes say one thing at most
-module _ {P : Type 0} (G : List Lexeme → P → Type 0) (parts : P → List Phrase) (one : (s : List Lexeme) (p q : P) → G s p → G s q → p ≡ q) (d : Dots) (tokens : List Token) where
+module _ {P : Type 0} (G : List Lexeme → P → Type 0) (parts : P → List Phrase) (one : (s : List Lexeme) (p q : P) → G s p → G s q → p ≡ q) (d : Dots)
+    (tokens : List Token) where
   -- a literal or a bracket
   pub unruly : (e : ParseFault) → IsPastTokenLimit tokens e → IsParseFaultOf (IsReadFault G parts d tokens) e
   unruly (parse.Literal at) h = record { applies = h; first = none }
@@ -105,7 +107,8 @@ module _ {P : Type 0} (G : List Lexeme → P → Type 0) (parts : P → List Phr
           before_depth (Nesting k) l a = before_size (Nesting k) (omega arith) a
           before_depth (Syntax k) l a = before_size (Syntax k) (omega arith) a
           before_depth (Shape k) l a = before_size (Shape k) (omega arith) a
-          before_depth (TooBig k) l a = none_past size most_nodes (map erase (parts p)) k small (subst (λ (x : P). FirstPast size most_nodes (map erase (parts x)) k) (same a.0 a.1) a.2)
+          before_depth (TooBig k) l a = none_past size most_nodes (map erase (parts p)) k small
+              (subst (λ (x : P). FirstPast size most_nodes (map erase (parts x)) k) (same a.0 a.1) a.2)
           before_depth (TooDeep k) l a = omega arith
 
       -- what is beyond the limits
@@ -125,4 +128,5 @@ module _ {P : Type 0} (G : List Lexeme → P → Type 0) (parts : P → List Phr
       faultless w (Syntax k) a = before_shape (Syntax k) (omega arith) a
       faultless w (Shape k) a = before_size w.shape (Shape k) (omega arith) a
       faultless w (TooBig k) a = before_depth w.shape w.size (TooBig k) (omega arith) a
-      faultless w (TooDeep k) a = none_past depth greatest_depth (map erase (parts p)) k w.depth (subst (λ (x : P). FirstPast depth greatest_depth (map erase (parts x)) k) (same a.0 a.1) a.2)
+      faultless w (TooDeep k) a = none_past depth greatest_depth (map erase (parts p)) k w.depth
+          (subst (λ (x : P). FirstPast depth greatest_depth (map erase (parts x)) k) (same a.0 a.1) a.2)

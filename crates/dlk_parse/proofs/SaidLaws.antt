@@ -23,7 +23,8 @@ use Rattle.dlk_grammar.specs.Readings.{grammar, itself, phrases_in, both_sides, 
 use Rattle.dlk_machine.proofs.Formed.{Each, formed}
 use Rattle.dlk_machine.specs.Levels.{form_sort}
 use Rattle.dlk_machine.proofs.ParseLaws.{one_sides_read}
-use Rattle.dlk_machine.proofs.TextLaws.{least_below, one_grammar, form_ills_below, sequent_ills_below, tree_well_made, tree_not_ill, lexemes_real, sequent_formulas}
+use Rattle.dlk_machine.proofs.TextLaws.{least_below, one_grammar, form_ills_below, sequent_ills_below, tree_well_made, tree_not_ill, lexemes_real}
+use Rattle.dlk_machine.proofs.TextLaws.{sequent_formulas}
 use Rattle.dlk_parse.specs.Faults.{IsParseFaultOf}
 use Rattle.dlk_lex.specs.Noted.{starts_of}
 use Rattle.dlk_parse.specs.Limits.{AreWithinTokenLimits}
@@ -51,10 +52,12 @@ module _ (form : Form) (d : Dots) (tokens : List Token) (code : List Code) where
   tree_places s = record {
     phrases = itself s.said;
     code_is = s.code_is;
-    below = λ place e. among_starts tokens place (least_among (length tokens) place (flat_map ills (itself s.said)) (form_ills_below form tokens s.said s.says.reads) e);
+    below = λ place e. among_starts tokens place
+        (least_among (length tokens) place (flat_map ills (itself s.said)) (form_ills_below form tokens s.said s.says.reads) e);
   }
 
-  pub tree_beyond : AreWithinTokenLimits tokens → SaysCode (grammar form) itself d tokens code → (e : ParseFault) → IsCodeBeyond code (starts_of tokens) e → IsParseFaultOf (IsTreeFault form d tokens) e
+  pub tree_beyond : AreWithinTokenLimits tokens → SaysCode (grammar form) itself d tokens code → (e : ParseFault) → IsCodeBeyond code (starts_of tokens) e →
+      IsParseFaultOf (IsTreeFault form d tokens) e
   tree_beyond calm s e b = beyond (grammar form) itself (one_grammar form) d tokens calm s.said s.says e (b.of_phrases (itself s.said) s.code_is)
 
   pub tree_within : AreWithinTokenLimits tokens → SaysCode (grammar form) itself d tokens code → IsWithin code → IsReadCode (grammar form) itself d tokens code
@@ -72,7 +75,8 @@ module _ (form : Form) (d : Dots) (tokens : List Token) (code : List Code) where
   tree_code_made real s = record {
     phrases = itself s.said;
     code_is = s.code_is;
-    well_made = All-cons (λ p. WellMade (erase p)) s.said [] (tree_well_made form d tokens (erase s.said) real (tree_read s)) (All-nil (λ p. WellMade (erase p)));
+    well_made = All-cons (λ p. WellMade (erase p)) s.said [] (tree_well_made form d tokens (erase s.said) real (tree_read s))
+        (All-nil (λ p. WellMade (erase p)));
   }
 
 -- a sequent
@@ -81,10 +85,12 @@ module _ (tokens : List Token) (s : SidesCode) where
   sides_places h = record {
     phrases = both_sides h.said;
     code_is = h.code_is;
-    below = λ place e. among_starts tokens place (least_among (length tokens) place (flat_map ills (both_sides h.said)) (sequent_ills_below tokens h.said h.says.reads) e);
+    below = λ place e. among_starts tokens place
+        (least_among (length tokens) place (flat_map ills (both_sides h.said)) (sequent_ills_below tokens h.said h.says.reads) e);
   }
 
-  pub sides_beyond : AreWithinTokenLimits tokens → SaysSides tokens s → (e : ParseFault) → IsCodeBeyond s.code.items (starts_of tokens) e → IsParseFaultOf (IsSequentFault tokens) e
+  pub sides_beyond : AreWithinTokenLimits tokens → SaysSides tokens s → (e : ParseFault) → IsCodeBeyond s.code.items (starts_of tokens) e →
+      IsParseFaultOf (IsSequentFault tokens) e
   sides_beyond calm h e b = beyond ReadsSequent both_sides one_sides_read Refused tokens calm h.said h.says e (b.of_phrases (both_sides h.said) h.code_is)
 
   pub sides_within : AreWithinTokenLimits tokens → SaysSides tokens s → IsWithin s.code.items → AreReadSides tokens s
@@ -106,9 +112,11 @@ module _ {A B : Type 0} (f : A → B) where
   only_id (x ∷ xs) t d e = cc
 
 -- the sort of what was read
-pub sort_read : (form : Form) (f : Nonterminal) → ((s : List Lexeme) (p : Phrase) → grammar form s p → Reads f s p) → (d : Dots) (tokens : List Token) (t : Tree) → AreTokens tokens → IsTree form d tokens t → sort t ≡ form_sort f
+pub sort_read : (form : Form) (f : Nonterminal) → ((s : List Lexeme) (p : Phrase) → grammar form s p → Reads f s p) →
+    (d : Dots) (tokens : List Token) (t : Tree) → AreTokens tokens → IsTree form d tokens t → sort t ≡ form_sort f
 sort_read form f as_form d tokens t real a =
-    sym (ap sort a.value_is) ∙ (formed (as_form (lexemes tokens) a.phrase a.says.reads) (lexemes_real 0 tokens real.real) (tree_not_ill form d tokens t a)).sort_is
+    sym (ap sort a.value_is) ∙ (formed (as_form (lexemes tokens) a.phrase a.says.reads) (lexemes_real 0 tokens real.real)
+        (tree_not_ill form d tokens t a)).sort_is
 
 -- the formulas of both sides
 pub All-from_map : {A B : Type 0} (P : B → Type 0) (f : A → B) (xs : List A) → All P (map f xs) → All (λ x. P (f x)) xs
@@ -117,15 +125,18 @@ All-from_map P f (x ∷ xs) h = All-cons (λ x. P (f x)) x xs (All-head P (f x) 
 
 side_well_made : (l : Phrases) → All IsFormula (erase_all l) → All (λ p. WellMade (erase p)) (phrases_in l)
 side_well_made l all =
-    All-from_map WellMade erase (phrases_in l) (All-weaker IsFormula WellMade (λ t f. f.well_made) (map erase (phrases_in l)) (subst (All IsFormula) (erase_all_is l) all))
+    All-from_map WellMade erase (phrases_in l)
+        (All-weaker IsFormula WellMade (λ t f. f.well_made) (map erase (phrases_in l)) (subst (All IsFormula) (erase_all_is l) all))
 
 sides_well_made : (z : Sides) → IsSequent (erase_sides z) → All (λ p. WellMade (erase p)) (both_sides z)
 sides_well_made (Turned l m) s = All-append (λ p. WellMade (erase p)) (phrases_in l) (phrases_in m) (side_well_made l s.ante) (side_well_made m s.succ)
 
 -- the trees of a sequent's ids
-split_sides : (z : Sides) (ts : List Tree) (n : ℕ) → ts ≡ map erase (both_sides z) → n ≡ left_count z → ◌≡◌ {A = TreeSequent} (erase_sides z) (record { ante = take n ts; succ = drop n ts })
+split_sides : (z : Sides) (ts : List Tree) (n : ℕ) → ts ≡ map erase (both_sides z) → n ≡ left_count z →
+    ◌≡◌ {A = TreeSequent} (erase_sides z) (record { ante = take n ts; succ = drop n ts })
 split_sides (Turned l m) ts n e f =
-    let parted : ts ≡ erase_all l ++ erase_all m = e ∙ map-append erase (phrases_in l) (phrases_in m) ∙ (λ i. sym (erase_all_is l) i ++ sym (erase_all_is m) i) in
+    let parted : ts ≡ erase_all l ++ erase_all m = e ∙ map-append erase (phrases_in l) (phrases_in m)
+        ∙ (λ i. sym (erase_all_is l) i ++ sym (erase_all_is m) i) in
     let long : length (erase_all l) ≡ n = ap length (erase_all_is l) ∙ length-map (phrases_in l) erase ∙ sym (count_is l) ∙ sym f in
     let left : erase_all l ≡ take n ts = sym (take_at (erase_all l) (erase_all m) n long) ∙ ap (take n) (sym parted) in
     let right : erase_all m ≡ drop n ts = sym (drop_at (erase_all l) (erase_all m) n long) ∙ ap (drop n) (sym parted) in
@@ -139,7 +150,8 @@ module _ (tokens : List Token) (s : SidesCode) (h : AreReadSides tokens s) where
   sides_read = record { phrase = h.said; says = h.says; value_is = refl; no_fault = h.no_fault }
 
   pub sides_made : AreTokens tokens → IsWellMade s.code.items
-  sides_made real = record { phrases = both_sides h.said; code_is = h.code_is; well_made = sides_well_made h.said (sequent_formulas tokens (erase_sides h.said) real sides_read) }
+  sides_made real = record { phrases = both_sides h.said; code_is = h.code_is; well_made =
+      sides_well_made h.said (sequent_formulas tokens (erase_sides h.said) real sides_read) }
 
   module _ (trees : List Tree) (ids : List Id) (made : AreMade s.code.items trees ids) where
     made_are : map (tree trees) ids ≡ map erase (both_sides h.said)
@@ -152,4 +164,5 @@ module _ (tokens : List Token) (s : SidesCode) (h : AreReadSides tokens s) where
     sequent_found z e f =
         let ante : take s.left (map (tree trees) ids) ≡ map (tree trees) z.ante = take-map (tree trees) s.left ids ∙ ap (map (tree trees)) (sym e) in
         let succ : drop s.left (map (tree trees) ids) ≡ map (tree trees) z.succ = drop-map (tree trees) s.left ids ∙ ap (map (tree trees)) (sym f) in
-        subst (IsSequentOf tokens) (split_sides h.said (map (tree trees) ids) s.left made_are h.left_is ∙ (λ i. record { ante = ante i; succ = succ i })) sides_read
+        subst (IsSequentOf tokens) (split_sides h.said (map (tree trees) ids) s.left made_are h.left_is ∙ (λ i. record { ante = ante i; succ = succ i }))
+            sides_read

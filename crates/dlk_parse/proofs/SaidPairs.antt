@@ -44,11 +44,14 @@ module _ (tokens : List Token) where
     pairs_places h = record {
       phrases = replacements h.said;
       code_is = h.shown.code;
-      below = λ place e. among_starts tokens place (least_among (length tokens) place (flat_map ills (replacements h.said)) (pairs_ills_below tokens h.said h.says.reads) e);
+      below = λ place e. among_starts tokens place
+          (least_among (length tokens) place (flat_map ills (replacements h.said)) (pairs_ills_below tokens h.said h.says.reads) e);
     }
 
-    pub pairs_beyond : AreWithinTokenLimits tokens → SaysPairs tokens c → (e : ParseFault) → IsCodeBeyond c.code.items (starts_of tokens) e → IsParseFaultOf (ArePairsFault tokens) e
-    pairs_beyond calm h e b = beyond ReadsSubstitution replacements one_pairs_read Allowed tokens calm h.said h.says e (b.of_phrases (replacements h.said) h.shown.code)
+    pub pairs_beyond : AreWithinTokenLimits tokens → SaysPairs tokens c → (e : ParseFault) → IsCodeBeyond c.code.items (starts_of tokens) e →
+        IsParseFaultOf (ArePairsFault tokens) e
+    pairs_beyond calm h e b = beyond ReadsSubstitution replacements one_pairs_read Allowed tokens calm h.said h.says e
+        (b.of_phrases (replacements h.said) h.shown.code)
 
     pub pairs_within : AreWithinTokenLimits tokens → SaysPairs tokens c → IsWithin c.code.items → AreReadPairs tokens c
     pairs_within calm h w = record {
@@ -64,7 +67,8 @@ module _ (tokens : List Token) where
 
       pub pairs_code_made : AreTokens tokens → IsWellMade c.code.items
       pairs_code_made real =
-          let made = All-from_map (λ (p : TreePair). WellMade p.by) (λ (p : PairPhrase). record { sym = p.sym; by = erase p.by }) h.said (pairs_well_made tokens (erase_pairs h.said) real are_pairs) in
+          let made = All-from_map (λ (p : TreePair). WellMade p.by) (λ (p : PairPhrase). record { sym = p.sym; by = erase p.by }) h.said
+              (pairs_well_made tokens (erase_pairs h.said) real are_pairs) in
           record { phrases = replacements h.said; code_is = h.shown.code; well_made = All-map (λ p. WellMade (erase p)) (λ (p : PairPhrase). p.by) h.said made }
 
       module _ (trees : List Tree) (ids : List Id) (made : AreMade c.code.items trees ids) where

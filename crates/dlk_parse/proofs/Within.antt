@@ -1,5 +1,6 @@
 -- What measures say of the phrases that were measured.
-use Rattle.std.proofs.Common.{◌≡◌, ℕ, zero, suc, ◌<◌, ◌≤◌, min, List, [], ◌∷◌, length, get_or, map, Option, Some, None, true, false, cond, refl, sym, ap, ◌∙◌, arith, fold, inl, inr, lit<}
+use Rattle.std.proofs.Common.{◌≡◌, ℕ, zero, suc, ◌<◌, ◌≤◌, min, List, [], ◌∷◌, length, get_or, map, Option, Some, None, true, false, cond, refl, sym}
+use Rattle.std.proofs.Common.{ap, ◌∙◌, arith, fold, inl, inr, lit<}
 use Rattle.std.specs.Prelude.{All, nat_lt, flat_map, slice_get, ◌⊎◌}
 use Rattle.std.proofs.lemmas.Bool.{cases_lt}
 use Rattle.std.proofs.lemmas.Bool.Decides.{nat_tests}
@@ -20,7 +21,8 @@ use Rattle.dlk_parse.proofs.Measuring.{lowest-append, lesser_none, lesser_assoc}
 
 ills_from : (ps : List Phrase) (o : Option ℕ) → fold lesser o (map (λ m. m.ill) (map measure ps)) ≡ lesser o (lowest (flat_map ills ps))
 ills_from [] o = sym (lesser_none o)
-ills_from (p ∷ ps) o = ills_from ps (lesser o (lowest (ills p))) ∙ lesser_assoc o (lowest (ills p)) (lowest (flat_map ills ps)) ∙ ap (lesser o) (sym (lowest-append (ills p) (flat_map ills ps)))
+ills_from (p ∷ ps) o = ills_from ps (lesser o (lowest (ills p))) ∙ lesser_assoc o (lowest (ills p)) (lowest (flat_map ills ps))
+    ∙ ap (lesser o) (sym (lowest-append (ills p) (flat_map ills ps)))
 
 -- the least place of ill shape is that of the phrases
 pub least_ill_is : (ps : List Phrase) → least_ill (map measure ps) ≡ lowest (flat_map ills ps)
@@ -55,20 +57,24 @@ module _ (f : Tree → ℕ) (limit : ℕ) (low : limit < 4294967295) where
   first_past [] n e = absurd cc
   first_past (t ∷ ts) n e = elim (either t) [
     | inl h ↦
-        let number : Some (min (f t) 4294967295) ≡ Some n = ap (λ b. cond b (Some (min (f t) 4294967295)) (past limit (map (λ t. min (f t) 4294967295) ts))) (sym (over t h)) ∙ e in
+        let number : Some (min (f t) 4294967295) ≡ Some n =
+            ap (λ b. cond b (Some (min (f t) 4294967295)) (past limit (map (λ t. min (f t) 4294967295) ts))) (sym (over t h)) ∙ e in
         record { before = []; tree = t; behind = ts; trees_are = refl; past = h; first = All-nil (λ (u : Tree). f u ≤ limit); number = cc }
     | inr h ↦
-        one_later t ts n h (first_past ts n (ap (λ b. cond b (Some (min (f t) 4294967295)) (past limit (map (λ t. min (f t) 4294967295) ts))) (sym (under t h)) ∙ e))
+        one_later t ts n h (first_past ts n (ap (λ b. cond b (Some (min (f t) 4294967295)) (past limit (map (λ t. min (f t) 4294967295) ts)))
+            (sym (under t h)) ∙ e))
   ]
 
   pub none_past : (ts : List Tree) → past limit (map (λ t. min (f t) 4294967295) ts) ≡ None → All (λ t. f t ≤ limit) ts
   none_past [] e = All-nil (λ (u : Tree). f u ≤ limit)
   none_past (t ∷ ts) e = elim (either t) [
     | inl h ↦
-        let number : Some (min (f t) 4294967295) ≡ None = ap (λ b. cond b (Some (min (f t) 4294967295)) (past limit (map (λ t. min (f t) 4294967295) ts))) (sym (over t h)) ∙ e in
+        let number : Some (min (f t) 4294967295) ≡ None =
+            ap (λ b. cond b (Some (min (f t) 4294967295)) (past limit (map (λ t. min (f t) 4294967295) ts))) (sym (over t h)) ∙ e in
         absurd cc
     | inr h ↦
-        All-cons (λ (u : Tree). f u ≤ limit) t ts h (none_past ts (ap (λ b. cond b (Some (min (f t) 4294967295)) (past limit (map (λ t. min (f t) 4294967295) ts))) (sym (under t h)) ∙ e))
+        All-cons (λ (u : Tree). f u ≤ limit) t ts h
+            (none_past ts (ap (λ b. cond b (Some (min (f t) 4294967295)) (past limit (map (λ t. min (f t) 4294967295) ts))) (sym (under t h)) ∙ e))
   ]
 
 sizes_are : (ps : List Phrase) → map (λ m. m.size) (map measure ps) ≡ map (λ t. min (size t) 4294967295) (map erase ps)
@@ -88,10 +94,12 @@ module _ (ms : List Measure) where
     shape : (ps : List Phrase) → ms ≡ map measure ps → lowest (flat_map ills ps) ≡ None
     shape ps f = sym (least_ill_is ps) ∙ ap least_ill (sym f) ∙ fine
 
-    sizes : (ps : List Phrase) → ms ≡ map measure ps → (o : Option ℕ) → past most_nodes (map (λ m. m.size) ms) ≡ o → past most_nodes (map (λ t. min (size t) 4294967295) (map erase ps)) ≡ o
+    sizes : (ps : List Phrase) → ms ≡ map measure ps → (o : Option ℕ) → past most_nodes (map (λ m. m.size) ms) ≡ o →
+        past most_nodes (map (λ t. min (size t) 4294967295) (map erase ps)) ≡ o
     sizes ps f o e = ap (past most_nodes) (sym (sizes_are ps)) ∙ ap (λ (l : List Measure). past most_nodes (map (λ m. m.size) l)) (sym f) ∙ e
 
-    depths : (ps : List Phrase) → ms ≡ map measure ps → (o : Option ℕ) → past greatest_depth (map (λ m. m.depth) ms) ≡ o → past greatest_depth (map (λ t. min (depth t) 4294967295) (map erase ps)) ≡ o
+    depths : (ps : List Phrase) → ms ≡ map measure ps → (o : Option ℕ) → past greatest_depth (map (λ m. m.depth) ms) ≡ o →
+        past greatest_depth (map (λ t. min (depth t) 4294967295) (map erase ps)) ≡ o
     depths ps f o e = ap (past greatest_depth) (sym (depths_are ps)) ∙ ap (λ (l : List Measure). past greatest_depth (map (λ m. m.depth) l)) (sym f) ∙ e
 
     pub big_is : (starts : List ℕ) (n : ℕ) → past most_nodes (map (λ m. m.size) ms) ≡ Some n → KnowsBeyond ms starts (parse.TooBig n)
@@ -101,7 +109,8 @@ module _ (ms : List Measure) where
         KnowsBeyond ms starts (parse.TooDeep n)
     deep_is starts n g e = record {
       of_phrases = λ ps f.
-          (shape ps f, none_past size most_nodes (lit< tt) (map erase ps) (sizes ps f None g), first_past depth greatest_depth (lit< tt) (map erase ps) n (depths ps f (Some n) e));
+          (shape ps f, none_past size most_nodes (lit< tt) (map erase ps) (sizes ps f None g),
+              first_past depth greatest_depth (lit< tt) (map erase ps) n (depths ps f (Some n) e));
     }
 
     pub fine_is : past most_nodes (map (λ m. m.size) ms) ≡ None → past greatest_depth (map (λ m. m.depth) ms) ≡ None → KnowsWithin ms

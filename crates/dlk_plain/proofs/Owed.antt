@@ -29,7 +29,8 @@ module _ {K : Type 0} (same : K → K → Bool) (first rest whole : K → Bool) 
   -- once the first of two parts is added, the rest is left
   pub Owes-rest : (old now : List K) → Adds same first old now → Owes same rest whole old now
   Owes-rest old now a = record {
-    owes = λ k. ap (λ b. b || rest k) (a.adds k) ∙ or_assoc (list_any (same k) old) (first k) (rest k) ∙ ap (λ b. list_any (same k) old || b) (sym (two_parts k));
+    owes = λ k. ap (λ b. b || rest k) (a.adds k) ∙ or_assoc (list_any (same k) old) (first k) (rest k)
+        ∙ ap (λ b. list_any (same k) old || b) (sym (two_parts k));
   }
 
   -- both parts, one after the other

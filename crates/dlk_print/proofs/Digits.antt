@@ -1,5 +1,6 @@
 -- Decimal digits one by one.
-use Rattle.std.proofs.Common.{◌≡◌, ℕ, zero, suc, ◌+◌, ◌/◌, ◌%◌, ◌^◌, ◌<◌, ◌≤◌, Bool, true, false, cond, List, [], ◌∷◌, ◌++◌, refl, sym, ap, ◌∙◌, arith, append_assoc, lit<}
+use Rattle.std.proofs.Common.{◌≡◌, ℕ, zero, suc, ◌+◌, ◌/◌, ◌%◌, ◌^◌, ◌<◌, ◌≤◌, Bool, true, false, cond, List, [], ◌∷◌, ◌++◌, refl, sym, ap, ◌∙◌}
+use Rattle.std.proofs.Common.{arith, append_assoc, lit<}
 use Rattle.std.specs.Prelude.{◌==◌}
 use Rattle.std.specs.Fmt.{digits, decimal, digits_onto, digit_glyph}
 use Rattle.std.proofs.lemmas.Bool.Decides.{nat_tests}
@@ -16,9 +17,11 @@ digits_onto-before (suc k) n acc =
     let d = digit_glyph false (n % 10) in
     let long = digits_onto-before k (n / 10) (d ∷ acc) in
     let short = digits_onto-before k (n / 10) (d ∷ []) in
-    by_test (n / 10 == 0) d (digits_onto k 10 false (n / 10) []) (digits_onto k 10 false (n / 10) (d ∷ acc)) (digits_onto k 10 false (n / 10) (d ∷ [])) long short
+    by_test (n / 10 == 0) d (digits_onto k 10 false (n / 10) []) (digits_onto k 10 false (n / 10) (d ∷ acc)) (digits_onto k 10 false (n / 10) (d ∷ []))
+        long short
   where
-    by_test : (b : Bool) (d : ℕ) (front long short : List ℕ) → long ≡ front ++ d ∷ acc → short ≡ front ++ d ∷ [] → cond b (d ∷ acc) long ≡ cond b (d ∷ []) short ++ acc
+    by_test : (b : Bool) (d : ℕ) (front long short : List ℕ) → long ≡ front ++ d ∷ acc → short ≡ front ++ d ∷ [] →
+        cond b (d ∷ acc) long ≡ cond b (d ∷ []) short ++ acc
     by_test true d front long short e h = refl
     by_test false d front long short e h = e ∙ sym (ap (λ l. l ++ acc) h ∙ append_assoc front (d ∷ []) acc)
 
@@ -30,7 +33,8 @@ digits_onto-more (suc k) n acc h =
     ap (λ l. cond (n / 10 == 0) (digit_glyph false (n % 10) ∷ acc) l) (digits_onto-more k (n / 10) (digit_glyph false (n % 10) ∷ acc) less)
 
 -- the last digit of a number with more than one, and those before it
-digits_onto-last : (k n : ℕ) → 10 ≤ n → n < 10 ^ suc (suc k) → digits_onto (suc (suc k)) 10 false n [] ≡ digits_onto (suc (suc k)) 10 false (n / 10) [] ++ (48 + n % 10) ∷ []
+digits_onto-last : (k n : ℕ) → 10 ≤ n → n < 10 ^ suc (suc k) →
+    digits_onto (suc (suc k)) 10 false n [] ≡ digits_onto (suc (suc k)) 10 false (n / 10) [] ++ (48 + n % 10) ∷ []
 digits_onto-last k n many h =
     let less : n / 10 < 10 ^ suc k = omega (arith, pow-suc 10 (suc k)) in
     let more : (n / 10 == 0) ≡ false = grind (arith, nat_tests) in

@@ -16,7 +16,8 @@ pending f between zero xs = join_by f between xs
 pending f between (suc i) xs = flat_map (λ x. between ++ f x) xs
 
 -- one text more
-pub pending-next : {X : Type 0} (f : X → List Piece) (between : List Piece) (i : ℕ) (x : X) (xs : List X) → spell (pending f between i (x ∷ xs)) ≡ gap i (spell between) ++ (spell (f x) ++ spell (pending f between (i + 1) xs))
+pub pending-next : {X : Type 0} (f : X → List Piece) (between : List Piece) (i : ℕ) (x : X) (xs : List X) →
+    spell (pending f between i (x ∷ xs)) ≡ gap i (spell between) ++ (spell (f x) ++ spell (pending f between (i + 1) xs))
 pending-next f between zero x xs = spell-append (f x) (flat_map (λ y. between ++ f y) xs)
 pending-next f between (suc i) x xs =
     let later : (suc i == 0) ≡ false = ne_eqb (suc i) 0 (omega arith) in

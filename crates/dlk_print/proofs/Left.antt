@@ -32,7 +32,8 @@ partly {old} {text} {now} {new} part rest a b = record {
 }
 
 -- the last part was appended, or some of it
-pub last : {A : Type 0} {old text now new : List ℕ} {part : List ℕ} {result : Result A PrintFault} → Left old text now part → Appends now new part result → Appends old new text result
+pub last : {A : Type 0} {old text now new : List ℕ} {part : List ℕ} {result : Result A PrintFault} → Left old text now part → Appends now new part result →
+    Appends old new text result
 last {A} {old} {text} {now} {new} {part} {result} a e = record {
   ok = on_ok_weaker result (λ (h : new ≡ now ++ part). h ∙ a.left) e.ok;
   begun = partly part [] (same_rest (sym (append-nil part)) a) e.begun;
@@ -51,12 +52,15 @@ failed (Ok x) h b = absurd (cc)
 failed (Err why) h b = record { ok = tt; begun = b }
 
 -- the text in two parts: the first one failed, or it went well and the second one was tried
-pub first_failed : {A : Type 0} {old new : List ℕ} (part rest : List ℕ) (result : Result A PrintFault) → IsErr result → Begun old new part → Appends old new (part ++ rest) result
+pub first_failed : {A : Type 0} {old new : List ℕ} (part rest : List ℕ) (result : Result A PrintFault) → IsErr result → Begun old new part →
+    Appends old new (part ++ rest) result
 first_failed {A} {old} part rest result h b = failed result h (partly part rest (unbegun old refl) b)
 
-pub then_last : {A : Type 0} {old now new : List ℕ} (part : List ℕ) {rest : List ℕ} {result : Result A PrintFault} → now ≡ old ++ part → Appends now new rest result → Appends old new (part ++ rest) result
+pub then_last : {A : Type 0} {old now new : List ℕ} (part : List ℕ) {rest : List ℕ} {result : Result A PrintFault} → now ≡ old ++ part →
+    Appends now new rest result → Appends old new (part ++ rest) result
 then_last {A} {old} part {rest} e a = last (appended part rest (unbegun old refl) e) a
 
 -- what is appended is the text
-pub same_text : {A : Type 0} {old new text other : List ℕ} {result : Result A PrintFault} → text ≡ other → Appends old new text result → Appends old new other result
+pub same_text : {A : Type 0} {old new text other : List ℕ} {result : Result A PrintFault} → text ≡ other → Appends old new text result →
+    Appends old new other result
 same_text {A} {old} {new} {result = result} e a = subst (λ l. Appends old new l result) e a

@@ -25,7 +25,8 @@ unbegun_dots old count =
     unbegun old (rw all (ap (λ l. 40 ∷ l) (sym (spell-append (joined (mark Comma ∷ []) (dots_from 0 count)) (mark CloseRound ∷ [])))))
 
 -- what stands before the i-th dot, the dot, and the later ones
-pub at_dot : {old text now : List ℕ} (i count : ℕ) → i < count → Left old text now (later_dots i count) → Left old text now (gap i (44 ∷ []) ++ ((codes "._" ++ decimal i) ++ later_dots (i + 1) count))
+pub at_dot : {old text now : List ℕ} (i count : ℕ) → i < count → Left old text now (later_dots i count) →
+    Left old text now (gap i (44 ∷ []) ++ ((codes "._" ++ decimal i) ++ later_dots (i + 1) count))
 at_dot i count h a =
     let more : count - i ≡ suc (count - (i + 1)) = omega arith in
     let later = dots_from (i + 1) (count - (i + 1)) in
@@ -41,16 +42,20 @@ at_dot i count h a =
 pub past_dots : {old text now : List ℕ} (i count : ℕ) → count ≤ i → Left old text now (later_dots i count) → Left old text now (41 ∷ [])
 past_dots i count h a =
     let none : count - i ≡ 0 = omega arith in
-    same_rest (ap (λ n. spell (pending (λ t. t) (mark Comma ∷ []) i (dots_from i n)) ++ 41 ∷ []) none ∙ ap (λ l. l ++ 41 ∷ []) (pending-none (λ t. t) (mark Comma ∷ []) i)) a
+    same_rest (ap (λ n. spell (pending (λ t. t) (mark Comma ∷ []) i (dots_from i n)) ++ 41 ∷ []) none
+        ∙ ap (λ l. l ++ 41 ∷ []) (pending-none (λ t. t) (mark Comma ∷ []) i)) a
 
 -- of a symbol nothing was appended yet
-pub unbegun_dotted : (old : List ℕ) (s : Sym) → (s.kind ≡ Func) ⊎ (s.kind ≡ Pred) → Left old (spell (shown_symbol s)) old ((s.name ++ []) ++ spell (dots s.arity))
+pub unbegun_dotted : (old : List ℕ) (s : Sym) → (s.kind ≡ Func) ⊎ (s.kind ≡ Pred) →
+    Left old (spell (shown_symbol s)) old ((s.name ++ []) ++ spell (dots s.arity))
 unbegun_dotted old s (inl e) = unbegun old (rw (e, append-nil s.name) refl)
 unbegun_dotted old s (inr e) = unbegun old (rw (e, append-nil s.name) refl)
 
-pub unbegun_unit : (old : List ℕ) (s : Sym) → (s.kind ≡ UnitFunc) ⊎ (s.kind ≡ UnitPred) → Left old (spell (shown_symbol s)) old ((s.name ++ []) ++ spell (unit_brackets s.taboo))
+pub unbegun_unit : (old : List ℕ) (s : Sym) → (s.kind ≡ UnitFunc) ⊎ (s.kind ≡ UnitPred) →
+    Left old (spell (shown_symbol s)) old ((s.name ++ []) ++ spell (unit_brackets s.taboo))
 unbegun_unit old s (inl e) = unbegun old (rw (e, append-nil s.name) refl)
 unbegun_unit old s (inr e) = unbegun old (rw (e, append-nil s.name) refl)
 
-pub unbegun_ode : (old : List ℕ) (s : Sym) → s.kind ≡ Ode → Left old (spell (shown_symbol s)) old ((123 ∷ (s.name ++ [])) ++ (spell (ode_brackets s.taboo) ++ 125 ∷ []))
+pub unbegun_ode : (old : List ℕ) (s : Sym) → s.kind ≡ Ode →
+    Left old (spell (shown_symbol s)) old ((123 ∷ (s.name ++ [])) ++ (spell (ode_brackets s.taboo) ++ 125 ∷ []))
 unbegun_ode old s e = unbegun old (rw (e, append-nil s.name) (ap (λ l. 123 ∷ (s.name ++ l)) (sym (spell-append (ode_brackets s.taboo) (mark CloseBrace ∷ [])))))

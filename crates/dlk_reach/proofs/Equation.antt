@@ -28,7 +28,8 @@ use Rattle.dlk_uses.specs.Uses.{Forwards, any_f, any_g, p_of_one, ◌~>◌, by_e
 use Rattle.dlk_uses.proofs.Substituted.{pairs_of_cq, cq}
 use Rattle.dlk_derive.specs.Ways.{IsPlainWay}
 use Rattle.dlk_reach.proofs.Goes.{Goes, rule_goes, substitute_goes, merge_goes, apply_goes, start_goes, leaf_goes}
-use Rattle.dlk_reach.proofs.Equivalence.{IsFine, fine_is, over_two, alone, few, few_each, two_goals, equiv_well, Site, with_goal, only_goal, proof_of, Comes, equivalence_goes}
+use Rattle.dlk_reach.proofs.Equivalence.{IsFine, fine_is, over_two, alone, few, few_each, two_goals, equiv_well, Site, with_goal, only_goal, proof_of}
+use Rattle.dlk_reach.proofs.Equivalence.{Comes, equivalence_goes}
 use Rattle.dlk_reach.proofs.Context.{plugged, nothing_free}
 use Rattle.dlk_reach.proofs.Terms.{for_p, term_stays}
 

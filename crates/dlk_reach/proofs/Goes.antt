@@ -13,7 +13,8 @@ use Rattle.dlk_calculus.specs.Provables.{Provable, known, started, assumed, infe
 use Rattle.dlk_calculus.specs.Rules.{Rule, IsProperRule, Premises}
 use Rattle.dlk_calculus.specs.Sequents.{Sequent, IsSequent}
 use Rattle.dlk_calculus.specs.Steps.{Step, Start, UseAxiom, UseRule, Leaf, Apply, Merge, Substitute, Rename, Gives, StepOf, IsWithin, EachNew}
-use Rattle.dlk_calculus.specs.Steps.{use_axiom as by_axiom, start as by_start, leaf as by_leaf, use_rule as by_rule, apply as by_apply, merge as by_merge, substitute as by_substitution, rename as by_renaming}
+use Rattle.dlk_calculus.specs.Steps.{use_axiom as by_axiom, start as by_start, leaf as by_leaf, use_rule as by_rule, apply as by_apply}
+use Rattle.dlk_calculus.specs.Steps.{merge as by_merge, substitute as by_substitution, rename as by_renaming}
 use Rattle.dlk_calculus.specs.Steps.{too_big, too_deep, start_full, leaf_full, side_full, goals_applied, goals_merged, leaves_merged}
 use Rattle.dlk_calculus.proofs.LimitLaws.{taken_as_given}
 use Rattle.dlk_kernel.specs.Taken.{Takes, none, more}

@@ -31,8 +31,11 @@ use Rattle.dlk_reach.proofs.Images.{imaged}
 use Rattle.dlk_reach.proofs.Instances.{Fits, instance_goes, name_goes, name_and_pairs_go}
 use Rattle.dlk_reach.proofs.Matches.{with_pairs, with_name, variable_matches, all_matches}
 use Rattle.dlk_reach.proofs.Opened.{fine_one, fine_two, differential_formula, zero_clean, next_clean}
-use Rattle.dlk_reach.proofs.Replaced.{Replaced, fits_of, one_suits, formula_suits, number_closed, constant_closed, of_sum, of_difference, of_product, of_negative, of_constant, of_power, of_equal, of_unequal, of_at_least, of_greater, of_at_most, of_less, of_both, of_either}
-use Rattle.dlk_reach.proofs.Use.{call_of, Fitting, Used, clean_there, fine_below, Stands, next_fine, MayBeAsked, equation_used, equivalence_used, condition_used}
+use Rattle.dlk_reach.proofs.Replaced.{Replaced, fits_of, one_suits, formula_suits, number_closed, constant_closed, of_sum, of_difference, of_product}
+use Rattle.dlk_reach.proofs.Replaced.{of_negative, of_constant, of_power, of_equal, of_unequal, of_at_least, of_greater, of_at_most, of_less, of_both}
+use Rattle.dlk_reach.proofs.Replaced.{of_either}
+use Rattle.dlk_reach.proofs.Use.{call_of, Fitting, Used, clean_there, fine_below, Stands, next_fine, MayBeAsked, equation_used, equivalence_used}
+use Rattle.dlk_reach.proofs.Use.{condition_used}
 
 not_both : (e : Tree) (path : List ℕ) (l s : Tree) → subtree e path ≡ Some l → subtree e path ≡ Some s → sort l ≡ Term → sort s ≡ Formula → ⊥
 not_both e path l s a b p q = let same : l ≡ s = cc in let e = ap sort same in cc

@@ -20,7 +20,8 @@ use Rattle.dlk_calculus.specs.declared.why.Why.TheVariants as Why'
 use Rattle.dlk_calculus.specs.Axioms.{Axiom, axiom_named}
 use Rattle.dlk_calculus.specs.Captures.{AreApart}
 use Rattle.dlk_calculus.specs.Limits.{IsSmall, IsShallow}
-use Rattle.dlk_calculus.specs.Notation.{f as any_function, g as other_function, leaf, one, two, number, neg, add, sub, mul, pow, diff, eq, ne, ge, gt, le, lt, conj, disj, diff_formula}
+use Rattle.dlk_calculus.specs.Notation.{f as any_function, g as other_function, leaf, one, two, number, neg, add, sub, mul, pow, diff, eq, ne, ge, gt}
+use Rattle.dlk_calculus.specs.Notation.{le, lt, conj, disj, diff_formula}
 use Rattle.dlk_calculus.specs.Pairs.{Pair, is_against}
 use Rattle.dlk_calculus.specs.Rules.{imply, equiv}
 use Rattle.dlk_calculus.specs.Subst.{Subst}
@@ -33,7 +34,8 @@ use Rattle.dlk_reach.proofs.Equivalence.{IsFine, fine_is}
 use Rattle.dlk_reach.proofs.Formed.{IsFree, formed_of}
 use Rattle.dlk_reach.proofs.Images.{image, is_other, Serves, imaged}
 use Rattle.dlk_reach.proofs.Instances.{Fits}
-use Rattle.dlk_reach.proofs.Matches.{nothing, with_pairs, constant, StandsForItself, two_terms_match, two_formulas_match, negative_matches, constant_matches, power_matches}
+use Rattle.dlk_reach.proofs.Matches.{nothing, with_pairs, constant, StandsForItself, two_terms_match, two_formulas_match, negative_matches}
+use Rattle.dlk_reach.proofs.Matches.{constant_matches, power_matches}
 use Rattle.dlk_reach.proofs.Sites.{lacks_from}
 
 -- a replacement for an axiom, behind earlier ones

@@ -23,7 +23,8 @@ use Rattle.dlk_calculus.proofs.PathLaws.{put_made, put_sort, put_there, subtree_
 use Rattle.dlk_kernel.specs.Taken.{Takes}
 use Rattle.dlk_match.specs.Matching.{Match}
 use Rattle.dlk_sequent.specs.declared.sequent.Place.TheVariants.{Succ}
-use Rattle.dlk_uses.specs.Uses.{Forwards, Use, key, may_stand, instance, by_equivalence, by_equation, by_conditional_equation, Finishes, equivalence, equation, conditional_equation}
+use Rattle.dlk_uses.specs.Uses.{Forwards, Use, key, may_stand, instance, by_equivalence, by_equation, by_conditional_equation, Finishes, equivalence}
+use Rattle.dlk_uses.specs.Uses.{equation, conditional_equation}
 use Rattle.dlk_derive.specs.Derives.{use_of}
 use Rattle.dlk_derive.specs.Plans.{Call}
 use Rattle.dlk_derive.specs.Ways.{IsPlainWay}

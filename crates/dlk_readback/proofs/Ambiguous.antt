@@ -112,7 +112,9 @@ OfFormula _ s = Unit {0}
 
 -- a lexeme of no term stands in the middle
 no_middle : {A : Type 0} (s r : List Lexeme) (k : Lexeme) → are_of_term (s ++ k ∷ r) ≡ true → is_of_term k ≡ false → A
-no_middle s r k h m = let w = and_parts (is_of_term k) (are_of_term r) (and_parts (are_of_term s) (is_of_term k && are_of_term r) (sym (list_all-append is_of_term s (k ∷ r)) ∙ h)).1 in let v : false ≡ true = sym m ∙ w.0 in absurd cc
+no_middle s r k h m = let w = and_parts (is_of_term k) (are_of_term r)
+    (and_parts (are_of_term s) (is_of_term k && are_of_term r) (sym (list_all-append is_of_term s (k ∷ r)) ∙ h)).1 in let v : false ≡ true = sym m
+    ∙ w.0 in absurd cc
 
 no_sign : {A : Type 0} (s r : List Lexeme) (o : Infix) → are_of_term (s ++ Op o ∷ r) ≡ true → Grammar.Compares o → A
 no_sign s r o h Grammar.cmp-equal = no_middle s r (Op sign.Equal) h refl
@@ -149,8 +151,10 @@ both_ways (Grammar.atom-holds {n = n} {x = x} {l = l} d) h = record { phrase = A
 both_ways (Grammar.atom-any {x = x}) h = record { phrase = Apply (Any x Everywhere); reads = Grammar.prim-any; is = applied (Any x Everywhere) }
 both_ways (Grammar.atom-except {x = x} {y = y}) h = record { phrase = Apply (Any x (Except y)); reads = Grammar.prim-except; is = applied (Any x (Except y)) }
 both_ways (Grammar.atom-context d) h = absurd cc
-both_ways (Grammar.atom-bracket {s = s} d) h = let w = both_ways d (front s (Close ∷ []) h) in record { phrase = w.phrase; reads = Grammar.prim-bracket (as_term w.reads); is = w.is }
-both_ways (Grammar.atom-diff {s = s} d) h = let w = both_ways d (front s (Close ∷ Prime ∷ []) h) in record { phrase = Diff w.phrase; reads = Grammar.prim-diff (as_term w.reads); is = differential w.is }
+both_ways (Grammar.atom-bracket {s = s} d) h = let w = both_ways d (front s (Close ∷ []) h) in
+    record { phrase = w.phrase; reads = Grammar.prim-bracket (as_term w.reads); is = w.is }
+both_ways (Grammar.atom-diff {s = s} d) h = let w = both_ways d (front s (Close ∷ Prime ∷ []) h) in
+    record { phrase = Diff w.phrase; reads = Grammar.prim-diff (as_term w.reads); is = differential w.is }
 both_ways _ h = tt
 
 -- the tree of such a phrase

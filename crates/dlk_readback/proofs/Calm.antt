@@ -43,7 +43,8 @@ after-append n [] y = refl
 after-append n (k ∷ x) y = after-append (level_behind n k) x y
 
 -- the token behind others
-calm_at : (d : Dots) (n : ℕ) (x : List TokenKind) (k : TokenKind) (y : List TokenKind) → Calm d n (x ++ k ∷ y) → (is_good d k ≡ true) × (level_behind (after n x) k ≤ 1200)
+calm_at : (d : Dots) (n : ℕ) (x : List TokenKind) (k : TokenKind) (y : List TokenKind) → Calm d n (x ++ k ∷ y) →
+    (is_good d k ≡ true) × (level_behind (after n x) k ≤ 1200)
 calm_at d n [] k y c = (c.0, c.1)
 calm_at d n (j ∷ x) k y c = calm_at d (level_behind n j) x k y c.2
 
@@ -56,9 +57,11 @@ level_of n [] = refl
 level_of n (t ∷ tokens) = level_of (level_behind n t.kind) tokens
 
 module _ (d : Dots) (tokens : List Token) (calm : Calm d 0 (map (λ t. t.kind) tokens)) where
-  found : (before behind : List Token) (t : Token) → tokens ≡ before ++ t ∷ behind → (is_good d t.kind ≡ true) × (level_behind (bracket_level before) t.kind ≤ 1200)
+  found : (before behind : List Token) (t : Token) → tokens ≡ before ++ t ∷ behind →
+      (is_good d t.kind ≡ true) × (level_behind (bracket_level before) t.kind ≤ 1200)
   found before behind t e =
-      let c = calm_at d 0 (map (λ t. t.kind) before) t.kind (map (λ t. t.kind) behind) (subst (Calm d 0) (ap (λ (l : List Token). map (λ t. t.kind) l) e ∙ kinds_of-append before (t ∷ behind)) calm) in
+      let c = calm_at d 0 (map (λ t. t.kind) before) t.kind (map (λ t. t.kind) behind)
+          (subst (Calm d 0) (ap (λ (l : List Token). map (λ t. t.kind) l) e ∙ kinds_of-append before (t ∷ behind)) calm) in
       (c.0, subst (λ (n : ℕ). level_behind n t.kind ≤ 1200) (sym (level_of 0 before)) c.1)
 
   pub no_literal : (at : ℕ) → ¬ FirstAt IsLong tokens at
@@ -67,7 +70,8 @@ module _ (d : Dots) (tokens : List Token) (calm : Calm d 0 (map (λ t. t.kind) t
   pub no_nesting : (at : ℕ) → ¬ FirstAt OpensTooDeep tokens at
   no_nesting at f =
       let le = (found f.before f.behind f.token f.tokens_are).1 in
-      let up : level_behind (bracket_level f.before) f.token.kind ≡ bracket_level f.before + 1 = ap (λ (b : Bool). cond b (bracket_level f.before + 1) (cond (closes f.token.kind) (bracket_level f.before - 1) (bracket_level f.before))) f.is.1 in
+      let up : level_behind (bracket_level f.before) f.token.kind ≡ bracket_level f.before + 1 =
+          ap (λ (b : Bool). cond b (bracket_level f.before + 1) (cond (closes f.token.kind) (bracket_level f.before - 1) (bracket_level f.before))) f.is.1 in
       absurd (omega (arith, le, up, f.is.0))
 
 -- the lexemes of good tokens are permitted
@@ -98,9 +102,12 @@ one_permitted Refused n kind.Hole h = absurd cc
 one_permitted Allowed n kind.Hole h = (refl, tt)
 one_permitted d n kind.End h = tt
 
-pub all_permitted : (d : Dots) (n bracket_level : ℕ) (tokens : List Token) → Calm d bracket_level (map (λ t. t.kind) tokens) → Permitted d (lexemes_from n tokens)
+pub all_permitted : (d : Dots) (n bracket_level : ℕ) (tokens : List Token) → Calm d bracket_level (map (λ t. t.kind) tokens) →
+    Permitted d (lexemes_from n tokens)
 all_permitted d n bracket_level [] c = tt
-all_permitted d n bracket_level (t ∷ tokens) c = permitted-append d (lexeme_of n t.kind) (lexemes_from (n + 1) tokens) (one_permitted d n t.kind c.0) (all_permitted d (n + 1) (level_behind bracket_level t.kind) tokens c.2)
+all_permitted d n bracket_level (t ∷ tokens) c =
+    permitted-append d (lexeme_of n t.kind) (lexemes_from (n + 1) tokens) (one_permitted d n t.kind c.0)
+    (all_permitted d (n + 1) (level_behind bracket_level t.kind) tokens c.2)
 
 -- Where `most` levels are left, the text leads from `a` levels above to `b`.
 pub record Moves (d : Dots) (most a b : ℕ) (text : List Piece) : Type 0 where
@@ -149,7 +156,8 @@ flat_level : (d : Dots) (n : ℕ) (k : TokenKind) → is_flat d k ≡ true → (
 flat_level d n k h =
     let w = and_parts (is_good d k) (not (opens k) && not (closes k)) h in
     let v = and_parts (not (opens k)) (not (closes k)) w.1 in
-    (w.0, ap (λ (b : Bool). cond b (n + 1) (cond (closes k) (n - 1) n)) (not_true (opens k) v.0) ∙ ap (λ (b : Bool). cond b (n - 1) n) (not_true (closes k) v.1))
+    (w.0, ap (λ (b : Bool). cond b (n + 1) (cond (closes k) (n - 1) n)) (not_true (opens k) v.0)
+        ∙ ap (λ (b : Bool). cond b (n - 1) n) (not_true (closes k) v.1))
 
 pub flat_moves : {d : Dots} {most a : ℕ} (text : List Piece) → a ≤ most → flat d text ≡ true → Moves d most a a text
 flat_moves [] le h = no_moves
@@ -200,7 +208,8 @@ trails_moves {d} {most} (one k ∷ text) le h = record {
       let w = and_parts (is_good d k && (not (opens k) && closes k)) (flat d text) h in
       let v = and_parts (is_good d k) (not (opens k) && closes k) w.0 in
       let u = and_parts (not (opens k)) (closes k) v.1 in
-      let down : level_behind m k ≡ m - 1 = ap (λ (b : Bool). cond b (m + 1) (cond (closes k) (m - 1) m)) (not_true (opens k) u.0) ∙ ap (λ (b : Bool). cond b (m - 1) m) u.1 in
+      let down : level_behind m k ≡ m - 1 = ap (λ (b : Bool). cond b (m + 1) (cond (closes k) (m - 1) m)) (not_true (opens k) u.0)
+          ∙ ap (λ (b : Bool). cond b (m - 1) m) u.1 in
       let same : level_behind m k ≡ n + 0 = omega (arith, down, e) in
       let r = (flat_moves {d = d} {most = most} {a = 0} text (omega arith) w.1).go n (level_behind m k) same g in
       ((v.0, omega (arith, same), r.0), r.1);

@@ -4,7 +4,8 @@ use Rattle.dlk_tree.specs.declared.op.Sort.{Sort}
 use Rattle.dlk_tree.specs.declared.op.Sort.TheVariants.{Term, Formula, Program}
 use Rattle.dlk_grammar.specs.Lexemes.{Lexeme}
 use Rattle.dlk_grammar.specs.Phrases.{Phrase}
-use Rattle.dlk_grammar.specs.Grammar.{Nonterminal, formula, imp, disj, conj, unf, atom, term, mul, neg, pow, prim, prog, seq, stmt, Reads, formula-imp, imp-disj, disj-conj, conj-unf, unf-atom, term-mul, mul-neg, neg-pow, pow-prim, prog-seq, seq-stmt}
+use Rattle.dlk_grammar.specs.Grammar.{Nonterminal, formula, imp, disj, conj, unf, atom, term, mul, neg, pow, prim, prog, seq, stmt, Reads}
+use Rattle.dlk_grammar.specs.Grammar.{formula-imp, imp-disj, disj-conj, conj-unf, unf-atom, term-mul, mul-neg, neg-pow, pow-prim, prog-seq, seq-stmt}
 
 -- the nonterminal of a sort and a level; above the highest level it is the last one
 abbrev pub form_at : Sort → ℕ → Nonterminal
@@ -48,7 +49,8 @@ step_down Program (suc (suc (suc n))) r = r
 
 steps_down : (s : Sort) (d n : ℕ) {ts : List Lexeme} {p : Phrase} → Reads (form_at s (d + n)) ts p → Reads (form_at s n) ts p
 steps_down s zero n {ts} {p} r = let at : 0 + n ≡ n = omega arith in subst (λ (k : ℕ). Reads (form_at s k) ts p) at r
-steps_down s (suc d) n {ts} {p} r = let at : suc d + n ≡ suc (d + n) = omega arith in steps_down s d n (step_down s (d + n) (subst (λ (k : ℕ). Reads (form_at s k) ts p) at r))
+steps_down s (suc d) n {ts} {p} r = let at : suc d + n ≡ suc (d + n) = omega arith in
+    steps_down s d n (step_down s (d + n) (subst (λ (k : ℕ). Reads (form_at s k) ts p) at r))
 
 -- a text of a level is one of each lower level
 pub lower : (s : Sort) (m n : ℕ) {ts : List Lexeme} {p : Phrase} → n ≤ m → Reads (form_at s m) ts p → Reads (form_at s n) ts p

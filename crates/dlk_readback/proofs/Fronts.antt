@@ -1,5 +1,6 @@
 -- When a token is the longest at the front.
-use Rattle.std.proofs.Common.{◌≡◌, ◌⊎◌, ℕ, zero, suc, ◌+◌, ◌<◌, ◌≤◌, ◌==◌, Bool, true, false, ◌&&◌, ◌||◌, not, nat_lt, List, [], ◌∷◌, ◌++◌, length, length-append, get_or, codes, refl, sym, ap, subst, ◌∙◌, append_assoc, arith, ltb-false, lit<, eq-eqb, inl, inr}
+use Rattle.std.proofs.Common.{◌≡◌, ◌⊎◌, ℕ, zero, suc, ◌+◌, ◌<◌, ◌≤◌, ◌==◌, Bool, true, false, ◌&&◌, ◌||◌, not, nat_lt, List, [], ◌∷◌, ◌++◌, length}
+use Rattle.std.proofs.Common.{length-append, get_or, codes, refl, sym, ap, subst, ◌∙◌, append_assoc, arith, ltb-false, lit<, eq-eqb, inl, inr}
 use Rattle.std.specs.List.{list_all}
 use Rattle.std.specs.Str.{bytes_eq}
 use Rattle.std.proofs.lemmas.Bool.{and_parts, or_parts}
@@ -9,7 +10,8 @@ use Rattle.dlk_grammar.specs.declared.token.Mark.{Mark}
 use Rattle.dlk_grammar.specs.declared.token.Mark.TheVariants as mark
 use Rattle.dlk_grammar.specs.declared.token.TokenKind.{TokenKind}
 use Rattle.dlk_grammar.specs.declared.token.TokenKind.TheVariants as kind
-use Rattle.dlk_grammar.specs.Tokens.{is_digit, are_digits, spelling, Spells, word, true_word, false_word, integer, decimal, long_integer, long_decimal, dot, hole, a_mark}
+use Rattle.dlk_grammar.specs.Tokens.{is_digit, are_digits, spelling, Spells, word, true_word, false_word, integer, decimal, long_integer}
+use Rattle.dlk_grammar.specs.Tokens.{long_decimal, dot, hole, a_mark}
 use Rattle.dlk_grammar.specs.Splits.{Longest}
 
 -- the bytes end, or their first byte fails the test
@@ -33,7 +35,8 @@ run_ends p (x ∷ xs) rest (c ∷ l) after e h s =
     omega (arith, less)
 
 -- two runs that stop at the same byte
-pub same_rest : (p : ℕ → Bool) (xs rest l after : List ℕ) → xs ++ rest ≡ l ++ after → list_all p xs ≡ true → list_all p l ≡ true → stops p rest ≡ true → stops p after ≡ true → rest ≡ after
+pub same_rest : (p : ℕ → Bool) (xs rest l after : List ℕ) → xs ++ rest ≡ l ++ after → list_all p xs ≡ true → list_all p l ≡ true → stops p rest ≡ true →
+    stops p after ≡ true → rest ≡ after
 same_rest p [] rest [] after e h g s t = e
 same_rest p [] [] (c ∷ l) after e h g s t = absurd cc
 same_rest p [] (b ∷ rest) (c ∷ l) after e h g s t = let same : b ≡ c = cc in absurd (go (p c) (list_all p l) g (subst (λ (x : ℕ). not (p x) ≡ true) same s))
@@ -129,7 +132,8 @@ mark_shape b s w (a_hole e) = let same : b ≡ 95 = cc in let v : false ≡ true
 mark_shape b s w (some_mark m e) = (m, e)
 
 -- a byte that begins neither a word, a number nor a mark begins a dot or a hole
-other_shape : (b : ℕ) (s : List ℕ) → is_letter b ≡ false → is_digit b ≡ false → begins_mark b ≡ false → Shape (b ∷ s) → ((b == 46) ≡ true × (length (b ∷ s) ≡ 3)) ⊎ ((b == 95) ≡ true × (length (b ∷ s) ≡ 1))
+other_shape : (b : ℕ) (s : List ℕ) → is_letter b ≡ false → is_digit b ≡ false → begins_mark b ≡ false → Shape (b ∷ s) →
+    ((b == 46) ≡ true × (length (b ∷ s) ≡ 3)) ⊎ ((b == 95) ≡ true × (length (b ∷ s) ≡ 1))
 other_shape b s l d n (a_word h) = let w : false ≡ true = sym l ∙ (and_parts (is_letter b) (list_all is_name_byte s) h).0 in absurd cc
 other_shape b s l d n (whole h) = let w : false ≡ true = sym d ∙ (and_parts (is_digit b) (list_all is_digit s) h).0 in absurd cc
 other_shape b s l d n (parts [] f e h g) = absurd cc
@@ -142,7 +146,8 @@ other_shape b s l d n (a_hole e) = let same : b ≡ 95 = cc in inr (eq-eqb b 95 
 other_shape b s l d n (some_mark m e) = let w : false ≡ true = sym n ∙ ap are_mark e ∙ mark_begins m in absurd cc
 
 -- the longest token, where every token at the front is no longer
-longest : (s rest : List ℕ) (k : TokenKind) → Spells s k → ((l after : List ℕ) → s ++ rest ≡ l ++ after → Shape l → length l ≤ length s) → Longest (s ++ rest) s k
+longest : (s rest : List ℕ) (k : TokenKind) → Spells s k → ((l after : List ℕ) → s ++ rest ≡ l ++ after → Shape l → length l ≤ length s) →
+    Longest (s ++ rest) s k
 longest s rest k d h = record { rest = rest; front = refl; spells = d; longest = λ l after j e g. h l after e (shape g) }
 
 pub word_longest : (x rest : List ℕ) (k : TokenKind) → is_word x ≡ true → Spells x k → stops is_name_byte rest ≡ true → Longest (x ++ rest) x k
@@ -177,7 +182,8 @@ stops_digits (b ∷ bytes) s = go (is_digit b) (b == 46) s
 -- digits with more digits behind a point are not these digits
 no_point : (s rest i f after : List ℕ) → are_digits s ≡ true → stops goes_on rest ≡ true → s ++ rest ≡ (i ++ 46 ∷ f) ++ after → are_digits i ≡ true → ⊥
 no_point s rest i f after h st e g =
-    let same = same_rest is_digit s rest i (46 ∷ (f ++ after)) (e ∙ append_assoc i (46 ∷ f) after) (all_digits s h) (all_digits i g) (stops_digits rest st) refl in
+    let same = same_rest is_digit s rest i (46 ∷ (f ++ after)) (e ∙ append_assoc i (46 ∷ f) after) (all_digits s h) (all_digits i g)
+        (stops_digits rest st) refl in
     let w : false ≡ true = ap (stops goes_on) (sym same) ∙ st in
     absurd cc
 
@@ -196,7 +202,8 @@ digits_longest (b ∷ bs) rest k h d st = longest (b ∷ bs) rest k d go
         let is : is_digit c ≡ true = subst (λ (y : ℕ). is_digit y ≡ true) first (and_parts (is_digit b) (list_all is_digit bs) h).0 in
         by_shape (c ∷ l) after e (digit_shape c l is g)
 
-pub point_longest : (s t rest : List ℕ) (k : TokenKind) → are_digits s ≡ true → are_digits t ≡ true → Spells (s ++ 46 ∷ t) k → stops goes_on rest ≡ true → Longest ((s ++ 46 ∷ t) ++ rest) (s ++ 46 ∷ t) k
+pub point_longest : (s t rest : List ℕ) (k : TokenKind) → are_digits s ≡ true → are_digits t ≡ true → Spells (s ++ 46 ∷ t) k → stops goes_on rest ≡ true →
+    Longest ((s ++ 46 ∷ t) ++ rest) (s ++ 46 ∷ t) k
 point_longest [] t rest k h ht d st = absurd cc
 point_longest (b ∷ bs) t rest k h ht d st = longest ((b ∷ bs) ++ 46 ∷ t) rest k d go
   where
@@ -205,8 +212,10 @@ point_longest (b ∷ bs) t rest k h ht d st = longest ((b ∷ bs) ++ 46 ∷ t) r
         let less = run_ends is_digit (b ∷ bs) (46 ∷ (t ++ rest)) l after (sym (append_assoc (b ∷ bs) (46 ∷ t) rest) ∙ e) (all_digits l g) refl in
         omega (arith, less, length-append (b ∷ bs) (46 ∷ t))
     by_shape l after e (point i f at g f-are) =
-        let both : (b ∷ bs) ++ 46 ∷ (t ++ rest) ≡ i ++ 46 ∷ (f ++ after) = sym (append_assoc (b ∷ bs) (46 ∷ t) rest) ∙ e ∙ ap (λ (x : List ℕ). x ++ after) at ∙ append_assoc i (46 ∷ f) after in
-        let same : 46 ∷ (t ++ rest) ≡ 46 ∷ (f ++ after) = same_rest is_digit (b ∷ bs) (46 ∷ (t ++ rest)) i (46 ∷ (f ++ after)) both (all_digits (b ∷ bs) h) (all_digits i g) refl refl in
+        let both : (b ∷ bs) ++ 46 ∷ (t ++ rest) ≡ i ++ 46 ∷ (f ++ after) = sym (append_assoc (b ∷ bs) (46 ∷ t) rest) ∙ e ∙ ap (λ (x : List ℕ). x ++ after) at
+            ∙ append_assoc i (46 ∷ f) after in
+        let same : 46 ∷ (t ++ rest) ≡ 46 ∷ (f ++ after) =
+            same_rest is_digit (b ∷ bs) (46 ∷ (t ++ rest)) i (46 ∷ (f ++ after)) both (all_digits (b ∷ bs) h) (all_digits i g) refl refl in
         let tail : t ++ rest ≡ f ++ after = cc in
         let less = run_ends is_digit t rest f after tail (all_digits f f-are) (stops_digits rest st) in
         let front = run_ends is_digit (b ∷ bs) (46 ∷ (t ++ rest)) i (46 ∷ (f ++ after)) both (all_digits i g) refl in
@@ -245,7 +254,10 @@ hole_longest rest = longest (95 ∷ []) rest kind.Hole hole go
 
 -- the marks in order, and the place of each
 abbrev pub all_marks : List Mark
-all_marks = mark.Forall ∷ mark.Exists ∷ mark.Invariant ∷ mark.RoundBars ∷ mark.RoundBar ∷ mark.BarRound ∷ mark.BraceBar ∷ mark.BarBrace ∷ mark.OpenRound ∷ mark.CloseRound ∷ mark.OpenSquare ∷ mark.CloseSquare ∷ mark.OpenBrace ∷ mark.CloseBrace ∷ mark.Equiv ∷ mark.Imply ∷ mark.And ∷ mark.Or ∷ mark.Not ∷ mark.Turnstile ∷ mark.Equal ∷ mark.NotEqual ∷ mark.AtLeast ∷ mark.Greater ∷ mark.AtMost ∷ mark.Less ∷ mark.Plus ∷ mark.Minus ∷ mark.Star ∷ mark.Slash ∷ mark.Caret ∷ mark.Prime ∷ mark.Gets ∷ mark.Choice ∷ mark.Query ∷ mark.Semicolon ∷ mark.Comma ∷ mark.Becomes ∷ mark.Swaps ∷ []
+all_marks = mark.Forall ∷ mark.Exists ∷ mark.Invariant ∷ mark.RoundBars ∷ mark.RoundBar ∷ mark.BarRound ∷ mark.BraceBar ∷ mark.BarBrace ∷ mark.OpenRound
+    ∷ mark.CloseRound ∷ mark.OpenSquare ∷ mark.CloseSquare ∷ mark.OpenBrace ∷ mark.CloseBrace ∷ mark.Equiv ∷ mark.Imply ∷ mark.And ∷ mark.Or ∷ mark.Not
+    ∷ mark.Turnstile ∷ mark.Equal ∷ mark.NotEqual ∷ mark.AtLeast ∷ mark.Greater ∷ mark.AtMost ∷ mark.Less ∷ mark.Plus ∷ mark.Minus ∷ mark.Star ∷ mark.Slash
+    ∷ mark.Caret ∷ mark.Prime ∷ mark.Gets ∷ mark.Choice ∷ mark.Query ∷ mark.Semicolon ∷ mark.Comma ∷ mark.Becomes ∷ mark.Swaps ∷ []
 
 place : Mark → ℕ
 place mark.Forall = 0
@@ -307,7 +319,8 @@ front-append : (l after : List ℕ) → is_front l (l ++ after) ≡ true
 front-append [] after = refl
 front-append (a ∷ l) after = rw ((Decides-eqb a a).1 refl, front-append l after) refl
 
-no_longer : (ms : List Mark) (bytes after : List ℕ) (n i : ℕ) → clashes ms bytes n ≡ false → i < length ms → bytes ≡ spelling (get_or ms i mark.Forall) ++ after → length (spelling (get_or ms i mark.Forall)) ≤ n
+no_longer : (ms : List Mark) (bytes after : List ℕ) (n i : ℕ) → clashes ms bytes n ≡ false → i < length ms →
+    bytes ≡ spelling (get_or ms i mark.Forall) ++ after → length (spelling (get_or ms i mark.Forall)) ≤ n
 no_longer [] bytes after n i h lt e = absurd (omega arith)
 no_longer (m ∷ ms) bytes after n zero h lt e =
     let front : is_front (spelling m) bytes ≡ true = rw e (front-append (spelling m) after) in
@@ -316,17 +329,20 @@ no_longer (m ∷ ms) bytes after n zero h lt e =
     first : (x y : Bool) → (x && y) ≡ false → y ≡ true → x ≡ false
     first true y h e = absurd cc
     first false y h e = refl
-no_longer (m ∷ ms) bytes after n (suc i) h lt e = no_longer ms bytes after n i (or_parts (nat_lt n (length (spelling m)) && is_front (spelling m) bytes) (clashes ms bytes n) h).1 (omega arith) e
+no_longer (m ∷ ms) bytes after n (suc i) h lt e =
+    no_longer ms bytes after n i (or_parts (nat_lt n (length (spelling m)) && is_front (spelling m) bytes) (clashes ms bytes n) h).1 (omega arith) e
 
 mark_at : (m : Mark) (bytes after : List ℕ) (n : ℕ) → clashes all_marks bytes n ≡ false → bytes ≡ spelling m ++ after → length (spelling m) ≤ n
 mark_at m bytes after n h e =
     let w = listed m in
     subst (λ (k : Mark). length (spelling k) ≤ n) w.1 (no_longer all_marks bytes after n (place m) h w.0 (e ∙ ap (λ (k : Mark). spelling k ++ after) (sym w.1)))
 
-pub mark_longest : (m : Mark) (rest : List ℕ) → clashes all_marks (spelling m ++ rest) (length (spelling m)) ≡ false → Longest (spelling m ++ rest) (spelling m) (kind.Mark m)
+pub mark_longest : (m : Mark) (rest : List ℕ) → clashes all_marks (spelling m ++ rest) (length (spelling m)) ≡ false →
+    Longest (spelling m ++ rest) (spelling m) (kind.Mark m)
 mark_longest m rest free = longest (spelling m) rest (kind.Mark m) (a_mark m) (go (spelling m) (mark_begins m) free)
   where
-    go : (s : List ℕ) → are_mark s ≡ true → clashes all_marks (s ++ rest) (length s) ≡ false → (l after : List ℕ) → s ++ rest ≡ l ++ after → Shape l → length l ≤ length s
+    go : (s : List ℕ) → are_mark s ≡ true → clashes all_marks (s ++ rest) (length s) ≡ false → (l after : List ℕ) → s ++ rest ≡ l ++ after → Shape l →
+        length l ≤ length s
     go [] h f l after e g = absurd cc
     go (b ∷ s) h f [] after e g = omega arith
     go (b ∷ s) h f (c ∷ l) after e g =

@@ -1,5 +1,6 @@
 -- The kids of applications and systems, and their texts.
-use Rattle.std.proofs.Common.{◌≡◌, ℕ, zero, suc, ◌+◌, ◌==◌, Bool, true, false, cond, ◌&&◌, nat_le, List, [], ◌∷◌, ◌++◌, length, map, replicate, flat_map, get_or, Some, refl, ap, subst, ◌∙◌}
+use Rattle.std.proofs.Common.{◌≡◌, ℕ, zero, suc, ◌+◌, ◌==◌, Bool, true, false, cond, ◌&&◌, nat_le, List, [], ◌∷◌, ◌++◌, length, map, replicate}
+use Rattle.std.proofs.Common.{flat_map, get_or, Some, refl, ap, subst, ◌∙◌}
 use Rattle.std.specs.List.{join_by, list_all}
 use Rattle.std.proofs.lemmas.Bool.{and_parts}
 use Rattle.dlk_tree.specs.declared.op.OdeItem.{OdeItem}
@@ -11,7 +12,8 @@ use Rattle.dlk_tree.specs.declared.op.Op.TheVariants as op
 use Rattle.dlk_tree.specs.Table.{kid_sorts, evolved, is_item, are_items, all_distinct}
 use Rattle.dlk_tree.specs.Trees.{Tree, node, root, Forest, no_kids, kid, forest, trees_in, sort, sorts, WellMade, AllWellMade}
 use Rattle.dlk_grammar.specs.declared.token.Mark.TheVariants as mark
-use Rattle.dlk_grammar.specs.Shown.{Piece, mark, style, opening, between, closing, items_of, shown_at, shown_kids, shown, joined, item_texts, is_true, domain_text, inside}
+use Rattle.dlk_grammar.specs.Shown.{Piece, mark, style, opening, between, closing, items_of, shown_at, shown_kids, shown, joined, item_texts, is_true}
+use Rattle.dlk_grammar.specs.Shown.{domain_text, inside}
 use Rattle.dlk_readback.proofs.Rows.{AllKids, none_of}
 
 -- P holds of each
@@ -40,7 +42,8 @@ comma = mark mark.Comma ∷ []
 -- kids of any level
 pub any_kids : (o : Op) → (style o).first ≡ 1 → (style o).later ≡ 1 → (i : ℕ) (kids : Forest) → shown_kids o i kids ≡ texts_of (trees_in kids)
 any_kids o e f i no_kids = refl
-any_kids o e f i (kid t rest) = ap (λ (l : List Piece). l ∷ shown_kids o (i + 1) rest) (by_place (i == 0)) ∙ ap (λ (l : List (List Piece)). shown_at 1 t ∷ l) (any_kids o e f (i + 1) rest)
+any_kids o e f i (kid t rest) = ap (λ (l : List Piece). l ∷ shown_kids o (i + 1) rest) (by_place (i == 0))
+    ∙ ap (λ (l : List (List Piece)). shown_at 1 t ∷ l) (any_kids o e f (i + 1) rest)
   where
     by_place : (b : Bool) → shown_at (cond b (style o).first (style o).later) t ≡ shown_at 1 t
     by_place true = ap (λ (l : ℕ). shown_at l t) e
@@ -55,7 +58,8 @@ joined-texts sep [] = refl
 joined-texts sep (t ∷ ts) = ap (λ (l : List Piece). shown_at 1 t ++ l) (flat_map-map sep ts)
 
 -- the arguments of an application
-pub args_of : (K : Sort → Tree → Type 0) (k : ℕ) (kids : Forest) → sorts kids ≡ replicate k Term → AllKids K kids → Each (K Term) (trees_in kids) × (length (trees_in kids) ≡ k)
+pub args_of : (K : Sort → Tree → Type 0) (k : ℕ) (kids : Forest) → sorts kids ≡ replicate k Term → AllKids K kids →
+    Each (K Term) (trees_in kids) × (length (trees_in kids) ≡ k)
 args_of K zero no_kids e all = (tt, refl)
 args_of K zero (kid t rest) e all = absurd cc
 args_of K (suc k) no_kids e all = absurd cc
@@ -89,9 +93,11 @@ pub record SystemKids (K : Sort → Tree → Type 0) (items : List OdeItem) (kid
   pub holds : K Formula domain
   pub made : WellMade domain
 
-pub system_kids : (K : Sort → Tree → Type 0) (items : List OdeItem) (kids : Forest) → sorts kids ≡ replicate (length (evolved items)) Term ++ Formula ∷ [] → AllKids K kids → AllWellMade kids → SystemKids K items kids
+pub system_kids : (K : Sort → Tree → Type 0) (items : List OdeItem) (kids : Forest) → sorts kids ≡ replicate (length (evolved items)) Term ++ Formula ∷ [] →
+    AllKids K kids → AllWellMade kids → SystemKids K items kids
 system_kids K [] no_kids e all w = absurd cc
-system_kids K [] (kid t no_kids) e all w = let at : sort t ≡ Formula = cc in record { domain = t; sides = tt; domain_at = refl; text_at = refl; all = refl; holds = subst (λ (u : Sort). K u t) at all.0; made = w.0 }
+system_kids K [] (kid t no_kids) e all w = let at : sort t ≡ Formula = cc in
+    record { domain = t; sides = tt; domain_at = refl; text_at = refl; all = refl; holds = subst (λ (u : Sort). K u t) at all.0; made = w.0 }
 system_kids K [] (kid t (kid u rest)) e all w = absurd cc
 system_kids K (Const s ∷ items) kids e all w =
     let k = system_kids K items kids e all w in
@@ -101,7 +107,8 @@ system_kids K (Evolve x ∷ items) (kid t rest) e all w =
     let at : sort t ≡ Term = cc in
     let tail : sorts rest ≡ replicate (length (evolved items)) Term ++ Formula ∷ [] = cc in
     let k = system_kids K items rest tail all.1 w.1 in
-    record { domain = k.domain; sides = (subst (λ (u : Sort). K u t) at all.0, k.sides); domain_at = k.domain_at; text_at = k.text_at; all = ap (λ (l : List Tree). t ∷ l) {y = sides_of items (trees_in rest) ++ k.domain ∷ []} k.all; holds = k.holds; made = k.made }
+    record { domain = k.domain; sides = (subst (λ (u : Sort). K u t) at all.0, k.sides); domain_at = k.domain_at; text_at = k.text_at; all =
+        ap (λ (l : List Tree). t ∷ l) {y = sides_of items (trees_in rest) ++ k.domain ∷ []} k.all; holds = k.holds; made = k.made }
 
 is_true_is : (o : Op) → is_true o ≡ true → o ≡ op.True
 is_true_is op.True h = refl
@@ -117,7 +124,8 @@ truth (node o kids) w h =
 abbrev pub system_inside : List OdeItem → List Tree → Tree → List Piece
 system_inside items ts domain = joined comma (item_texts items (texts_of ts)) ++ domain_text domain (shown_at 1 domain)
 
-pub inside_is : (K : Sort → Tree → Type 0) (items : List OdeItem) (kids : Forest) (k : SystemKids K items kids) → inside (Some items) comma (trees_in kids) (shown_kids (op.System items) 0 kids) ≡ system_inside items (trees_in kids) k.domain
+pub inside_is : (K : Sort → Tree → Type 0) (items : List OdeItem) (kids : Forest) (k : SystemKids K items kids) →
+    inside (Some items) comma (trees_in kids) (shown_kids (op.System items) 0 kids) ≡ system_inside items (trees_in kids) k.domain
 inside_is K items kids k =
     let front = joined comma (item_texts items (texts_of (trees_in kids))) in
     ap (inside (Some items) comma (trees_in kids)) (any_kids (op.System items) refl refl 0 kids)

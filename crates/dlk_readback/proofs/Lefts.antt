@@ -1,5 +1,6 @@
 -- A symbol by itself, on the left of a pair: what its tokens say, that its bytes are these tokens, and that they have no fault.
-use Rattle.std.proofs.Common.{◌≡◌, ℕ, zero, suc, ◌+◌, ◌≤◌, Bool, true, false, ◌&&◌, ◌==◌, List, [], ◌∷◌, ◌++◌, flat_map, map, Option, Some, None, refl, sym, ap, subst, subst₂, ◌∙◌, append_assoc, append-nil, arith, eq-eqb}
+use Rattle.std.proofs.Common.{◌≡◌, ℕ, zero, suc, ◌+◌, ◌≤◌, Bool, true, false, ◌&&◌, ◌==◌, List, [], ◌∷◌, ◌++◌, flat_map, map, Option, Some, None}
+use Rattle.std.proofs.Common.{refl, sym, ap, subst, subst₂, ◌∙◌, append_assoc, append-nil, arith, eq-eqb}
 use Rattle.std.specs.List.{range_with_len}
 use Rattle.dlk_tree.specs.declared.op.Kind.{Kind}
 use Rattle.dlk_tree.specs.declared.op.Kind.TheVariants.{Func, UnitFunc, Pred, UnitPred, Quant, Prog, Ode}
@@ -11,7 +12,8 @@ use Rattle.dlk_grammar.specs.declared.token.Mark.TheVariants as mark
 use Rattle.dlk_grammar.specs.declared.token.TokenKind.TheVariants as token
 use Rattle.dlk_grammar.specs.declared.token.Dots.TheVariants.{Allowed}
 use Rattle.dlk_grammar.specs.Lexemes.{Lexeme, Dot, Comma}
-use Rattle.dlk_grammar.specs.Substitutions.{Target, Over, Unit as UnitOver, function, predicate, most_dots, ReadsDots, dots-one, dots-more, ReadsTarget, target-nullary, target-dots, target-any, target-except}
+use Rattle.dlk_grammar.specs.Substitutions.{Target, Over, Unit as UnitOver, function, predicate, most_dots, ReadsDots, dots-one, dots-more}
+use Rattle.dlk_grammar.specs.Substitutions.{ReadsTarget, target-nullary, target-dots, target-any, target-except}
 use Rattle.dlk_grammar.specs.Shown.{Piece, one, mark as the_mark, word, joined, unit_brackets, ode_brackets}
 use Rattle.dlk_grammar.specs.Symbols.{dots, shown_as}
 use Rattle.dlk_readback.proofs.Kids.{Each, comma}
@@ -29,7 +31,8 @@ abbrev with_commas : List (List Piece) → List Piece
 with_commas xs = flat_map (λ x. comma ++ x) xs
 
 -- the dots behind others
-later_dots : (n : ℕ) (s : List Lexeme) (from k : ℕ) → from + k ≤ most_dots → ReadsDots s from → ReadsDots (s ++ said n (with_commas (dot_texts from k))) (from + k)
+later_dots : (n : ℕ) (s : List Lexeme) (from k : ℕ) → from + k ≤ most_dots → ReadsDots s from →
+    ReadsDots (s ++ said n (with_commas (dot_texts from k))) (from + k)
 later_dots n s from zero most d = let all : from ≡ from + 0 = omega arith in subst₂ (λ (l : List Lexeme) (m : ℕ). ReadsDots l m) (sym (append-nil s)) all d
 later_dots n s from (suc k) most d =
     let more = said (n + 1 + 1) (with_commas (dot_texts (from + 1) k)) in
@@ -59,20 +62,25 @@ pub record Left (make : Target → Sym) (k : Kind) (s : Sym) : Type 0 where
   pub symbol_is : make target ≡ s
 
 pub func_left : (s : Sym) → is_sym_of Func s ≡ true → Left function Func s
-func_left s h = record { target = Over s.name s.arity; reads = λ n. over_dots n s.name s.arity (arity_most Func s h (λ m. refl)); symbol_is = called Func s s.arity h refl refl }
+func_left s h = record { target = Over s.name s.arity; reads = λ n. over_dots n s.name s.arity (arity_most Func s h (λ m. refl)); symbol_is =
+    called Func s s.arity h refl refl }
 
 pub pred_left : (s : Sym) → is_sym_of Pred s ≡ true → Left predicate Pred s
-pred_left s h = record { target = Over s.name s.arity; reads = λ n. over_dots n s.name s.arity (arity_most Pred s h (λ m. refl)); symbol_is = called Pred s s.arity h refl refl }
+pred_left s h = record { target = Over s.name s.arity; reads = λ n. over_dots n s.name s.arity (arity_most Pred s h (λ m. refl)); symbol_is =
+    called Pred s s.arity h refl refl }
 
 pub unit_func_left : (s : Sym) → is_sym_of UnitFunc s ≡ true → Left function UnitFunc s
-unit_func_left s h = record { target = UnitOver s.name (space_of s.taboo); reads = λ n. unit_target n s.name s.taboo; symbol_is = unit_symbol UnitFunc s h (λ m. refl) }
+unit_func_left s h = record { target = UnitOver s.name (space_of s.taboo); reads = λ n. unit_target n s.name s.taboo; symbol_is =
+    unit_symbol UnitFunc s h (λ m. refl) }
 
 pub unit_pred_left : (s : Sym) → is_sym_of UnitPred s ≡ true → Left predicate UnitPred s
-unit_pred_left s h = record { target = UnitOver s.name (space_of s.taboo); reads = λ n. unit_target n s.name s.taboo; symbol_is = unit_symbol UnitPred s h (λ m. refl) }
+unit_pred_left s h = record { target = UnitOver s.name (space_of s.taboo); reads = λ n. unit_target n s.name s.taboo; symbol_is =
+    unit_symbol UnitPred s h (λ m. refl) }
 
 -- a symbol is one of its kind
 pub of_kind : (k : Kind) (s : Sym) → s.kind ≡ k → is_sym s ≡ true → is_sym_of k s ≡ true
-of_kind k s e h = and_true (kind_rank s.kind == kind_rank k) (is_sym s) (ap (λ (j : Kind). kind_rank j == kind_rank k) e ∙ eq-eqb (kind_rank k) (kind_rank k) refl) h
+of_kind k s e h = and_true (kind_rank s.kind == kind_rank k) (is_sym s)
+    (ap (λ (j : Kind). kind_rank j == kind_rank k) e ∙ eq-eqb (kind_rank k) (kind_rank k) refl) h
   where
     and_true : (x y : Bool) → x ≡ true → y ≡ true → (x && y) ≡ true
     and_true true y a b = b
@@ -91,7 +99,8 @@ dots_fine zero le p f = empty_fine p f
 dots_fine (suc k) le p f =
     let more = with_commas (dot_texts 1 k) in
     rw (append_assoc more (the_mark mark.CloseRound ∷ []) p)
-    (before_fine mark.OpenRound _ refl (by_mark 46 refl) (dot_fine 0 _ (omega arith) (later_fine 1 k (omega arith) (the_mark mark.CloseRound ∷ p) (alone_fine mark.CloseRound p refl f))))
+    (before_fine mark.OpenRound _ refl (by_mark 46 refl)
+        (dot_fine 0 _ (omega arith) (later_fine 1 k (omega arith) (the_mark mark.CloseRound ∷ p) (alone_fine mark.CloseRound p refl f))))
 
 unit_fine : (y : Option (List ℕ)) → taboo_is_name y ≡ true → (p : List Piece) → Fine p → Fine (unit_brackets y ++ p)
 unit_fine None g p f = alone_fine mark.RoundBars p refl f
@@ -102,9 +111,11 @@ unit_ends : (y : Option (List ℕ)) (p : List Piece) → Ends (unit_brackets y +
 unit_ends None p = refl
 unit_ends (Some y) p = refl
 
-ode_fine : (x : List ℕ) (y : Option (List ℕ)) → is_name x ≡ true → taboo_is_name y ≡ true → (p : List Piece) → Fine p → Fine (word x ∷ (ode_brackets y ++ the_mark mark.CloseBrace ∷ p))
+ode_fine : (x : List ℕ) (y : Option (List ℕ)) → is_name x ≡ true → taboo_is_name y ≡ true → (p : List Piece) → Fine p →
+    Fine (word x ∷ (ode_brackets y ++ the_mark mark.CloseBrace ∷ p))
 ode_fine x None h g p f = name_fine x _ h refl (alone_fine mark.CloseBrace p refl f)
-ode_fine x (Some y) h g p f = name_fine x _ h refl (alone_fine mark.BraceBar _ refl (name_fine y _ g refl (alone_fine mark.BarBrace _ refl (alone_fine mark.CloseBrace p refl f))))
+ode_fine x (Some y) h g p f = name_fine x _ h refl
+    (alone_fine mark.BraceBar _ refl (name_fine y _ g refl (alone_fine mark.BarBrace _ refl (alone_fine mark.CloseBrace p refl f))))
 
 -- the bytes of a symbol by itself are its tokens
 pub left_fine : (k : Kind) (s : Sym) → is_sym_of k s ≡ true → (p : List Piece) → Fine p → Fine (shown_as k s ++ p)
@@ -112,11 +123,13 @@ left_fine Func s h p f = name_fine s.name _ (sym_parts Func s h).name refl (dots
 left_fine Pred s h p f = name_fine s.name _ (sym_parts Pred s h).name refl (dots_fine s.arity (arity_most Pred s h (λ m. refl)) p f)
 left_fine UnitFunc s h p f = let w = sym_parts UnitFunc s h in name_fine s.name _ w.name (unit_ends s.taboo p) (unit_fine s.taboo w.taboo_name p f)
 left_fine UnitPred s h p f = let w = sym_parts UnitPred s h in name_fine s.name _ w.name (unit_ends s.taboo p) (unit_fine s.taboo w.taboo_name p f)
-left_fine Quant s h p f = name_fine s.name _ (sym_parts Quant s h).name refl (before_fine mark.OpenBrace _ refl (by_mark 95 refl) (hole_fine _ (alone_fine mark.CloseBrace p refl f)))
+left_fine Quant s h p f = name_fine s.name _ (sym_parts Quant s h).name refl
+    (before_fine mark.OpenBrace _ refl (by_mark 95 refl) (hole_fine _ (alone_fine mark.CloseBrace p refl f)))
 left_fine Prog s h p f = name_fine s.name _ (sym_parts Prog s h).name refl (alone_fine mark.Semicolon p refl f)
 left_fine Ode s h p f =
     let w = sym_parts Ode s h in
-    rw (append_assoc (ode_brackets s.taboo) (the_mark mark.CloseBrace ∷ []) p) (before_fine mark.OpenBrace _ refl (begins_name s.name _ w.name) (ode_fine s.name s.taboo w.name w.taboo_name p f))
+    rw (append_assoc (ode_brackets s.taboo) (the_mark mark.CloseBrace ∷ []) p)
+        (before_fine mark.OpenBrace _ refl (begins_name s.name _ w.name) (ode_fine s.name s.taboo w.name w.taboo_name p f))
 
 -- the tokens of a symbol by itself have no fault
 dots_level : (from k : ℕ) → Each (Moves Allowed 1 1 1) (dot_texts from k)
@@ -126,8 +139,10 @@ dots_level from (suc k) = (flat_moves (one (token.Dot from) ∷ []) (omega arith
 dots_even : (x : List ℕ) (k : ℕ) → Even Allowed 1 (word x ∷ dots k)
 dots_even x k =
     let text = joined comma (dot_texts 0 k) in
-    moves-append (word x ∷ the_mark mark.OpenRound ∷ []) (text ++ the_mark mark.CloseRound ∷ []) (leads_moves (word x ∷ the_mark mark.OpenRound ∷ []) (omega arith) refl)
-    (moves-append text (the_mark mark.CloseRound ∷ []) (joined_level Allowed 1 1 (omega arith) comma (dot_texts 0 k) refl (dots_level 0 k)) (trails_moves (the_mark mark.CloseRound ∷ []) (omega arith) refl))
+    moves-append (word x ∷ the_mark mark.OpenRound ∷ []) (text ++ the_mark mark.CloseRound ∷ [])
+        (leads_moves (word x ∷ the_mark mark.OpenRound ∷ []) (omega arith) refl)
+    (moves-append text (the_mark mark.CloseRound ∷ []) (joined_level Allowed 1 1 (omega arith) comma (dot_texts 0 k) refl (dots_level 0 k))
+        (trails_moves (the_mark mark.CloseRound ∷ []) (omega arith) refl))
 
 unit_even : (x : List ℕ) (y : Option (List ℕ)) → Even Allowed 1 (word x ∷ unit_brackets y)
 unit_even x None = flat_moves (word x ∷ unit_brackets None) (omega arith) refl
@@ -143,8 +158,10 @@ left_even Pred s = dots_even s.name s.arity
 left_even UnitFunc s = unit_even s.name s.taboo
 left_even UnitPred s = unit_even s.name s.taboo
 left_even Quant s =
-    moves-append (word s.name ∷ the_mark mark.OpenBrace ∷ []) (one token.Hole ∷ the_mark mark.CloseBrace ∷ []) (leads_moves (word s.name ∷ the_mark mark.OpenBrace ∷ []) (omega arith) refl)
-    (moves-append (one token.Hole ∷ []) (the_mark mark.CloseBrace ∷ []) (flat_moves (one token.Hole ∷ []) (omega arith) refl) (trails_moves (the_mark mark.CloseBrace ∷ []) (omega arith) refl))
+    moves-append (word s.name ∷ the_mark mark.OpenBrace ∷ []) (one token.Hole ∷ the_mark mark.CloseBrace ∷ [])
+        (leads_moves (word s.name ∷ the_mark mark.OpenBrace ∷ []) (omega arith) refl)
+    (moves-append (one token.Hole ∷ []) (the_mark mark.CloseBrace ∷ []) (flat_moves (one token.Hole ∷ []) (omega arith) refl)
+        (trails_moves (the_mark mark.CloseBrace ∷ []) (omega arith) refl))
 left_even Prog s = flat_moves (word s.name ∷ the_mark mark.Semicolon ∷ []) (omega arith) refl
 left_even Ode s =
     let text = word s.name ∷ ode_brackets s.taboo in

@@ -1,5 +1,6 @@
 -- Neighbours that stay apart.
-use Rattle.std.proofs.Common.{◌≡◌, ◌≢◌, ℕ, ◌+◌, ◌<◌, Bool, true, false, ◌||◌, ◌&&◌, ◌==◌, not, List, [], ◌∷◌, ◌++◌, length, map, codes, refl, sym, ap, subst, ◌∙◌, append_assoc, eqb-true, arith}
+use Rattle.std.proofs.Common.{◌≡◌, ◌≢◌, ℕ, ◌+◌, ◌<◌, Bool, true, false, ◌||◌, ◌&&◌, ◌==◌, not, List, [], ◌∷◌, ◌++◌, length, map, codes, refl, sym, ap}
+use Rattle.std.proofs.Common.{subst, ◌∙◌, append_assoc, eqb-true, arith}
 use Rattle.std.specs.Fmt.{decimal}
 use Rattle.std.specs.List.{list_all}
 use Rattle.std.proofs.lemmas.Bool.{and_parts}
@@ -46,7 +47,8 @@ comment_is : {bytes : List ℕ} → BeginsComment bytes → is_comment bytes ≡
 comment_is (block rest) = refl
 comment_is (line rest) = refl
 
-token_fine : (k : TokenKind) (p : List Piece) → Longest (token_text k ++ spell p) (token_text k) k → is_comment (token_text k ++ spell p) ≡ false → Fine p → Fine (one k ∷ p)
+token_fine : (k : TokenKind) (p : List Piece) → Longest (token_text k ++ spell p) (token_text k) k → is_comment (token_text k ++ spell p) ≡ false → Fine p →
+    Fine (one k ∷ p)
 token_fine k p l c f = record {
   at = λ n.
       let text = token_text k in
@@ -62,7 +64,8 @@ pub end_fine : Fine []
 end_fine = record { at = λ n. record { tokens = token kind.End n n ∷ []; splits = ended refl; kinds_are = refl } }
 
 pub space_fine : (p : List Piece) → Fine p → Fine (space ∷ p)
-space_fine p f = record { at = λ n. let d = f.at (n + 1) in record { tokens = d.tokens; splits = a_space 32 (spell p) refl refl d.splits; kinds_are = d.kinds_are } }
+space_fine p f = record { at = λ n. let d = f.at (n + 1) in
+    record { tokens = d.tokens; splits = a_space 32 (spell p) refl refl d.splits; kinds_are = d.kinds_are } }
 
 -- the bytes with which a text may begin, but letters, digits and `-`: ! ( ? [ \ { . _ <
 abbrev opens : ℕ → Bool
@@ -130,10 +133,16 @@ record FirstPlain (bytes : List ℕ) : Type 0 where
   pub is : Plain byte
 
 first_plain : {bytes : List ℕ} → Begins bytes → FirstPlain bytes
-first_plain (by_letter {bytes = r} b h) = record { byte = b; rest = r; bytes_are = refl; is = plain is_letter b h (record { close = refl; star = refl; plus = refl; slash = refl; equal = refl; greater = refl; bar = refl; brace = refl }) }
-first_plain (by_digit {bytes = r} b h) = record { byte = b; rest = r; bytes_are = refl; is = plain is_digit b h (record { close = refl; star = refl; plus = refl; slash = refl; equal = refl; greater = refl; bar = refl; brace = refl }) }
-first_plain (by_mark {bytes = r} b h) = record { byte = b; rest = r; bytes_are = refl; is = plain opens b h (record { close = refl; star = refl; plus = refl; slash = refl; equal = refl; greater = refl; bar = refl; brace = refl }) }
-first_plain (by_minus {bytes = r} d) = record { byte = 45; rest = r; bytes_are = refl; is = record { no_close = refl; no_star = refl; no_plus = refl; no_slash = refl; no_equal = refl; no_greater = refl; no_bar = refl; no_brace = refl } }
+first_plain (by_letter {bytes = r} b h) =
+    record { byte = b; rest = r; bytes_are = refl; is =
+    plain is_letter b h (record { close = refl; star = refl; plus = refl; slash = refl; equal = refl; greater = refl; bar = refl; brace = refl }) }
+first_plain (by_digit {bytes = r} b h) =
+    record { byte = b; rest = r; bytes_are = refl; is =
+    plain is_digit b h (record { close = refl; star = refl; plus = refl; slash = refl; equal = refl; greater = refl; bar = refl; brace = refl }) }
+first_plain (by_mark {bytes = r} b h) = record { byte = b; rest = r; bytes_are = refl; is =
+    plain opens b h (record { close = refl; star = refl; plus = refl; slash = refl; equal = refl; greater = refl; bar = refl; brace = refl }) }
+first_plain (by_minus {bytes = r} d) = record { byte = 45; rest = r; bytes_are = refl; is =
+    record { no_close = refl; no_star = refl; no_plus = refl; no_slash = refl; no_equal = refl; no_greater = refl; no_bar = refl; no_brace = refl } }
 
 -- no mark is longer than `<` before a text
 less_free : {bytes : List ℕ} → Begins bytes → clashes all_marks (60 ∷ bytes) 1 ≡ false
@@ -142,7 +151,8 @@ less_free (by_digit b h) = rw (differ is_digit 45 b h refl, differ is_digit 61 b
 less_free (by_mark b h) = rw (differ opens 45 b h refl, differ opens 61 b h refl) refl
 less_free (by_minus {bytes = r} d) = let w = first_plain d in rw (w.bytes_are, w.is.no_greater) refl
 
-mark_fine : (m : Mark) (p : List Piece) → clashes all_marks (spelling m ++ spell p) (length (spelling m)) ≡ false → is_comment (spelling m ++ spell p) ≡ false → Fine p → Fine (the_mark m ∷ p)
+mark_fine : (m : Mark) (p : List Piece) → clashes all_marks (spelling m ++ spell p) (length (spelling m)) ≡ false →
+    is_comment (spelling m ++ spell p) ≡ false → Fine p → Fine (the_mark m ∷ p)
 mark_fine m p free c f = token_fine (kind.Mark m) p (mark_longest m (spell p) free) c f
 
 -- the marks with which no longer mark begins
@@ -219,7 +229,8 @@ is_before mark.Slash = true
 is_before _ = false
 
 -- no longer mark is at the front where a text follows
-plain_free : (m : Mark) (b : ℕ) (rest : List ℕ) → is_before m ≡ true → m ≢ mark.Less → Plain b → clashes all_marks (spelling m ++ b ∷ rest) (length (spelling m)) ≡ false
+plain_free : (m : Mark) (b : ℕ) (rest : List ℕ) → is_before m ≡ true → m ≢ mark.Less → Plain b →
+    clashes all_marks (spelling m ++ b ∷ rest) (length (spelling m)) ≡ false
 plain_free mark.OpenRound b rest h n k = rw k.no_bar refl
 plain_free mark.OpenBrace b rest h n k = rw k.no_bar refl
 plain_free mark.Or b rest h n k = rw (k.no_close, k.no_brace) refl
@@ -232,8 +243,10 @@ plain_free mark.Minus b rest h n k = rw k.no_greater refl
 plain_free mark.Slash b rest h n k = refl
 plain_free _ b rest h n k = absurd cc
 
-text_free : (m : Mark) {bytes : List ℕ} → is_before m ≡ true → m ≢ mark.Less → Begins bytes → clashes all_marks (spelling m ++ bytes) (length (spelling m)) ≡ false
-text_free m h n d = let w = first_plain d in subst (λ (l : List ℕ). clashes all_marks (spelling m ++ l) (length (spelling m)) ≡ false) (sym w.bytes_are) (plain_free m w.byte w.rest h n w.is)
+text_free : (m : Mark) {bytes : List ℕ} → is_before m ≡ true → m ≢ mark.Less → Begins bytes →
+    clashes all_marks (spelling m ++ bytes) (length (spelling m)) ≡ false
+text_free m h n d = let w = first_plain d in
+    subst (λ (l : List ℕ). clashes all_marks (spelling m ++ l) (length (spelling m)) ≡ false) (sym w.bytes_are) (plain_free m w.byte w.rest h n w.is)
 
 -- a slash before a text begins no comment
 slash_free : {bytes : List ℕ} → Begins bytes → is_comment (47 ∷ bytes) ≡ false
@@ -297,7 +310,8 @@ name_word : (x : List ℕ) → is_name x ≡ true → is_word x ≡ true
 name_word x h = (and_parts (is_word x) _ (and_parts (is_word x && _) _ h).0).0
 
 pub name_fine : (x : List ℕ) (p : List Piece) → is_name x ≡ true → Ends p → Fine p → Fine (the_word x ∷ p)
-name_fine x p h s f = token_fine (kind.Word x) p (word_longest x (spell p) (kind.Word x) (name_word x h) (word x h) (no_name (spell p) s)) (word_alone x (spell p) (name_word x h)) f
+name_fine x p h s f = token_fine (kind.Word x) p (word_longest x (spell p) (kind.Word x) (name_word x h) (word x h) (no_name (spell p) s))
+    (word_alone x (spell p) (name_word x h)) f
 
 pub true_fine : (p : List Piece) → Ends p → Fine p → Fine (one kind.True ∷ p)
 true_fine p s f = token_fine kind.True p (word_longest (codes "true") (spell p) kind.True refl true_word (no_name (spell p) s)) refl f
@@ -318,9 +332,11 @@ eight_dots n h = ap (λ (l : List ℕ). codes "._" ++ l) (decimal_digit n (omega
 pub dot_fine : (n : ℕ) (p : List Piece) → n < 8 → Fine p → Fine (one (kind.Dot n) ∷ p)
 dot_fine n p h f =
     let e = eight_dots n h in
-    token_fine (kind.Dot n) p (subst (λ (l : List ℕ). Longest (l ++ spell p) l (kind.Dot n)) (sym e) (dot_longest (48 + n) (spell p) (kind.Dot n) (dot n h))) refl f
+    token_fine (kind.Dot n) p (subst (λ (l : List ℕ). Longest (l ++ spell p) l (kind.Dot n)) (sym e)
+        (dot_longest (48 + n) (spell p) (kind.Dot n) (dot n h))) refl f
 
-number_token : (n : Num) (rest : List ℕ) → Literal n → stops goes_on rest ≡ true → Longest (literal n ++ rest) (literal n) (kind.Number n) × (is_comment (literal n ++ rest) ≡ false)
+number_token : (n : Num) (rest : List ℕ) → Literal n → stops goes_on rest ≡ true →
+    Longest (literal n ++ rest) (literal n) (kind.Number n) × (is_comment (literal n ++ rest) ≡ false)
 number_token n rest (whole s e h le is) st =
     let d : Spells s (kind.Number n) = subst (λ (m : Num). Spells s (kind.Number m)) is (integer s h le) in
     rw e (digits_longest s rest (kind.Number n) h d st, digits_alone s rest h)
@@ -347,4 +363,5 @@ begins_number n rest h = go (literal_is n h)
   where
     go : Literal n → Begins (literal n ++ rest)
     go (whole s e g le is) = subst (λ (l : List ℕ). Begins (l ++ rest)) (sym e) (begins_digits s rest g)
-    go (parts s f e g i le is) = subst (λ (l : List ℕ). Begins (l ++ rest)) (sym e) (subst Begins (sym (append_assoc s (46 ∷ f) rest)) (begins_digits s (46 ∷ (f ++ rest)) g))
+    go (parts s f e g i le is) = subst (λ (l : List ℕ). Begins (l ++ rest)) (sym e)
+        (subst Begins (sym (append_assoc s (46 ∷ f) rest)) (begins_digits s (46 ∷ (f ++ rest)) g))

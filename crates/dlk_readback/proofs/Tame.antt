@@ -1,5 +1,6 @@
 -- The tokens of shown text have no fault.
-use Rattle.std.proofs.Common.{◌≡◌, ℕ, zero, suc, ◌+◌, ◌≤◌, ◌==◌, max, Bool, true, false, cond, nat_lt, nat_le, ◌&&◌, ◌||◌, List, [], ◌∷◌, ◌++◌, length, replicate, flat_map, get_or, Option, Some, None, refl, sym, subst, ◌∙◌, arith, leb-true, le-ltb}
+use Rattle.std.proofs.Common.{◌≡◌, ℕ, zero, suc, ◌+◌, ◌≤◌, ◌==◌, max, Bool, true, false, cond, nat_lt, nat_le, ◌&&◌, ◌||◌, List, [], ◌∷◌, ◌++◌}
+use Rattle.std.proofs.Common.{length, replicate, flat_map, get_or, Option, Some, None, refl, sym, subst, ◌∙◌, arith, leb-true, le-ltb}
 use Rattle.std.proofs.lemmas.Bool.{and_parts, or_parts}
 use Rattle.dlk_tree.specs.declared.op.OdeItem.{OdeItem}
 use Rattle.dlk_tree.specs.declared.op.OdeItem.TheVariants.{Evolve, Const}
@@ -13,9 +14,12 @@ use Rattle.dlk_tree.specs.Occurs.{has, any_has, is_some_dot, is_hole, has_dots, 
 use Rattle.dlk_grammar.specs.declared.token.Mark.TheVariants as mark
 use Rattle.dlk_grammar.specs.declared.token.Dots.{Dots}
 use Rattle.dlk_grammar.specs.declared.token.Dots.TheVariants.{Refused, Allowed}
-use Rattle.dlk_grammar.specs.Shown.{Piece, mark as the_mark, word, style, level, least, opening, between, closing, items_of, bracketed, variable, unit_brackets, ode_brackets, item_text, terms_behind, item_texts, is_true, domain_text, inside, joined, shown_at, shown_kids, shown}
+use Rattle.dlk_grammar.specs.Shown.{Piece, mark as the_mark, word, style, level, least, opening, between, closing, items_of, bracketed, variable}
+use Rattle.dlk_grammar.specs.Shown.{unit_brackets, ode_brackets, item_text, terms_behind, item_texts, is_true, domain_text, inside, joined, shown_at}
+use Rattle.dlk_grammar.specs.Shown.{shown_kids, shown}
 use Rattle.dlk_readback.proofs.Kids.{Each, body}
-use Rattle.dlk_readback.proofs.Calm.{is_refused, Moves, moves-append, moves_more, moves_up, no_moves, flat, flat_moves, leads, leads_moves, trails, trails_moves}
+use Rattle.dlk_readback.proofs.Calm.{is_refused, Moves, moves-append, moves_more, moves_up, no_moves, flat, flat_moves, leads, leads_moves, trails}
+use Rattle.dlk_readback.proofs.Calm.{trails_moves}
 
 -- dots and the hole, where they are refused
 abbrev pub is_bad : Dots → Op → Bool
@@ -73,7 +77,8 @@ top Program = 3
 data Tidy (d : Dots) (o : Op) : Type 0 where
   plain : flat d (opening o) ≡ true → flat d (between o) ≡ true → flat d (closing o) ≡ true → Tidy d o
   around : leads d (opening o) ≡ true → flat d (between o) ≡ true → trails d (closing o) ≡ true → nat_le (top (sort_of o)) (level o) ≡ true → Tidy d o
-  modal : leads d (opening o) ≡ true → trails d (between o) ≡ true → flat d (closing o) ≡ true → nat_le (top (sort_of o)) (level o) ≡ true → items_of o ≡ None → (s u : Sort) → kid_sorts o ≡ s ∷ u ∷ [] → Tidy d o
+  modal : leads d (opening o) ≡ true → trails d (between o) ≡ true → flat d (closing o) ≡ true → nat_le (top (sort_of o)) (level o) ≡ true →
+      items_of o ≡ None → (s u : Sort) → kid_sorts o ≡ s ∷ u ∷ [] → Tidy d o
 
 variable_flat : (d : Dots) (x : List ℕ) (primed : Bool) → flat d (variable (record { name = x; primed = primed })) ≡ true
 variable_flat d x true = refl
@@ -145,7 +150,8 @@ all_fit _ = refl
 module _ (d : Dots) (most a : ℕ) (le : a ≤ most) where
   more_level : (sep : List Piece) (xs : List (List Piece)) → flat d sep ≡ true → Each (Moves d most a a) xs → Moves d most a a (flat_map (λ y. sep ++ y) xs)
   more_level sep [] s all = no_moves
-  more_level sep (x ∷ xs) s all = moves-append (sep ++ x) (flat_map (λ y. sep ++ y) xs) (moves-append sep x (flat_moves sep le s) all.0) (more_level sep xs s all.1)
+  more_level sep (x ∷ xs) s all = moves-append (sep ++ x) (flat_map (λ y. sep ++ y) xs) (moves-append sep x (flat_moves sep le s) all.0)
+      (more_level sep xs s all.1)
 
   pub joined_level : (sep : List Piece) (xs : List (List Piece)) → flat d sep ≡ true → Each (Moves d most a a) xs → Moves d most a a (joined sep xs)
   joined_level sep [] s all = no_moves
@@ -158,7 +164,8 @@ module _ (d : Dots) (most a : ℕ) (le : a ≤ most) where
 
   item_level : (item : OdeItem) (xs : List (List Piece)) → Each (Moves d most a a) xs → Moves d most a a (item_text item xs)
   item_level (Const s) xs all = flat_moves (word s.name ∷ ode_brackets s.taboo) le (ode_flat d s.taboo)
-  item_level (Evolve x) xs all = moves-append (word x ∷ the_mark mark.Prime ∷ the_mark mark.Equal ∷ []) (get_or xs 0 []) (flat_moves (word x ∷ the_mark mark.Prime ∷ the_mark mark.Equal ∷ []) le refl) (some_level xs 0 all)
+  item_level (Evolve x) xs all = moves-append (word x ∷ the_mark mark.Prime ∷ the_mark mark.Equal ∷ []) (get_or xs 0 [])
+      (flat_moves (word x ∷ the_mark mark.Prime ∷ the_mark mark.Equal ∷ []) le refl) (some_level xs 0 all)
 
   behind_level : (item : OdeItem) (xs : List (List Piece)) → Each (Moves d most a a) xs → Each (Moves d most a a) (terms_behind item xs)
   behind_level (Const s) xs all = all
@@ -176,12 +183,14 @@ module _ (d : Dots) (most a : ℕ) (le : a ≤ most) where
       by_test true = no_moves
       by_test false = moves-append (the_mark mark.And ∷ []) text (flat_moves (the_mark mark.And ∷ []) le refl) h
 
-  inside_level : (items : Option (List OdeItem)) (sep : List Piece) (kids : List Tree) (xs : List (List Piece)) → flat d sep ≡ true → Each (Moves d most a a) xs → Moves d most a a (inside items sep kids xs)
+  inside_level : (items : Option (List OdeItem)) (sep : List Piece) (kids : List Tree) (xs : List (List Piece)) → flat d sep ≡ true →
+      Each (Moves d most a a) xs → Moves d most a a (inside items sep kids xs)
   inside_level None sep kids xs s all = joined_level sep xs s all
   inside_level (Some items) sep kids xs s all =
       let n = length (evolved items) in
       let domain = get_or kids n (node op.True no_kids) in
-      moves-append (joined sep (item_texts items xs)) (domain_text domain (get_or xs n [])) (joined_level sep (item_texts items xs) s (items_level items xs all)) (domain_level domain (get_or xs n []) (some_level xs n all))
+      moves-append (joined sep (item_texts items xs)) (domain_text domain (get_or xs n []))
+          (joined_level sep (item_texts items xs) s (items_level items xs all)) (domain_level domain (get_or xs n []) (some_level xs n all))
 
 -- a text that leads nowhere, and for which `most` levels suffice
 abbrev pub Even : Dots → ℕ → List Piece → Type 0
@@ -189,13 +198,21 @@ Even d most text = Moves d most 0 0 text
 
 -- brackets take one level more
 in_brackets : (d : Dots) (most : ℕ) (s : Sort) (text : List Piece) → Even d most text → Even d (most + 1) (bracketed true s text)
-in_brackets d most Term text h = moves-append (the_mark mark.OpenRound ∷ []) (text ++ the_mark mark.CloseRound ∷ []) (leads_moves (the_mark mark.OpenRound ∷ []) (omega arith) refl) (moves-append text (the_mark mark.CloseRound ∷ []) (moves_up text h) (trails_moves (the_mark mark.CloseRound ∷ []) (omega arith) refl))
-in_brackets d most Formula text h = moves-append (the_mark mark.OpenRound ∷ []) (text ++ the_mark mark.CloseRound ∷ []) (leads_moves (the_mark mark.OpenRound ∷ []) (omega arith) refl) (moves-append text (the_mark mark.CloseRound ∷ []) (moves_up text h) (trails_moves (the_mark mark.CloseRound ∷ []) (omega arith) refl))
-in_brackets d most Program text h = moves-append (the_mark mark.OpenBrace ∷ []) (text ++ the_mark mark.CloseBrace ∷ []) (leads_moves (the_mark mark.OpenBrace ∷ []) (omega arith) refl) (moves-append text (the_mark mark.CloseBrace ∷ []) (moves_up text h) (trails_moves (the_mark mark.CloseBrace ∷ []) (omega arith) refl))
+in_brackets d most Term text h = moves-append (the_mark mark.OpenRound ∷ []) (text ++ the_mark mark.CloseRound ∷ [])
+    (leads_moves (the_mark mark.OpenRound ∷ []) (omega arith) refl)
+    (moves-append text (the_mark mark.CloseRound ∷ []) (moves_up text h) (trails_moves (the_mark mark.CloseRound ∷ []) (omega arith) refl))
+in_brackets d most Formula text h = moves-append (the_mark mark.OpenRound ∷ []) (text ++ the_mark mark.CloseRound ∷ [])
+    (leads_moves (the_mark mark.OpenRound ∷ []) (omega arith) refl)
+    (moves-append text (the_mark mark.CloseRound ∷ []) (moves_up text h) (trails_moves (the_mark mark.CloseRound ∷ []) (omega arith) refl))
+in_brackets d most Program text h = moves-append (the_mark mark.OpenBrace ∷ []) (text ++ the_mark mark.CloseBrace ∷ [])
+    (leads_moves (the_mark mark.OpenBrace ∷ []) (omega arith) refl)
+    (moves-append text (the_mark mark.CloseBrace ∷ []) (moves_up text h) (trails_moves (the_mark mark.CloseBrace ∷ []) (omega arith) refl))
 
 -- a modality's two kids
-modal_even : (d : Dots) (most : ℕ) (sep x y : List Piece) → trails d sep ≡ true → Even d most x → Even d most y → Moves d (most + 1) 1 0 (x ++ ((sep ++ y) ++ []))
-modal_even d most sep x y s h g = moves-append x ((sep ++ y) ++ []) (moves_up x h) (moves-append (sep ++ y) [] (moves-append sep y (trails_moves sep (omega arith) s) (moves_more y (omega arith) g)) no_moves)
+modal_even : (d : Dots) (most : ℕ) (sep x y : List Piece) → trails d sep ≡ true → Even d most x → Even d most y →
+    Moves d (most + 1) 1 0 (x ++ ((sep ++ y) ++ []))
+modal_even d most sep x y s h g = moves-append x ((sep ++ y) ++ []) (moves_up x h)
+    (moves-append (sep ++ y) [] (moves-append sep y (trails_moves sep (omega arith) s) (moves_more y (omega arith) g)) no_moves)
 
 each_up : (d : Dots) (most : ℕ) (xs : List (List Piece)) → Each (Even d most) xs → Each (Moves d (most + 1) 1 1) xs
 each_up d most [] all = tt
@@ -205,7 +222,8 @@ each_more : (d : Dots) (few most : ℕ) → few ≤ most → (xs : List (List Pi
 each_more d few most le [] all = tt
 each_more d few most le (x ∷ xs) all = (moves_more x le all.0, each_more d few most le xs all.1)
 
-modal_inside : (d : Dots) (o : Op) (kids : Forest) (most : ℕ) (s u : Sort) → sorts kids ≡ s ∷ u ∷ [] → trails d (between o) ≡ true → Each (Even d most) (shown_kids o 0 kids) → Moves d (most + 1) 1 0 (inside None (between o) (trees_in kids) (shown_kids o 0 kids))
+modal_inside : (d : Dots) (o : Op) (kids : Forest) (most : ℕ) (s u : Sort) → sorts kids ≡ s ∷ u ∷ [] → trails d (between o) ≡ true →
+    Each (Even d most) (shown_kids o 0 kids) → Moves d (most + 1) 1 0 (inside None (between o) (trees_in kids) (shown_kids o 0 kids))
 modal_inside d o no_kids most s u e t all = absurd cc
 modal_inside d o (kid a no_kids) most s u e t all = absurd cc
 modal_inside d o (kid a (kid b no_kids)) most s u e t all = modal_even d most (between o) (shown_at (least o 0) a) (shown_at (least o 1) b) t all.0 all.1.0
@@ -215,13 +233,16 @@ modal_inside d o (kid a (kid b (kid c rest))) most s u e t all = absurd cc
 unbracketed : (o : Op) (n : ℕ) → n ≤ top (sort_of o) → nat_le (top (sort_of o)) (level o) ≡ true → nat_lt (level o) n ≡ false
 unbracketed o n le h = le-ltb (level o) n (omega (arith, leb-true (top (sort_of o)) (level o) h))
 
-node_even : (d : Dots) (o : Op) (kids : Forest) (most n : ℕ) → Fits o (sorts kids) → Tidy d o → n ≤ top (sort_of o) → Each (Even d most) (shown_kids o 0 kids) → Even d (most + 1) (bracketed (nat_lt (level o) n) (sort_of o) (body o kids))
+node_even : (d : Dots) (o : Op) (kids : Forest) (most n : ℕ) → Fits o (sorts kids) → Tidy d o → n ≤ top (sort_of o) →
+    Each (Even d most) (shown_kids o 0 kids) → Even d (most + 1) (bracketed (nat_lt (level o) n) (sort_of o) (body o kids))
 node_even d o kids most n fits (plain h g k) le all = go (nat_lt (level o) n)
   where
     text : Even d most (body o kids)
     text =
         let middle = inside (items_of o) (between o) (trees_in kids) (shown_kids o 0 kids) in
-        moves-append (opening o) (middle ++ closing o) (flat_moves (opening o) (omega arith) h) (moves-append middle (closing o) (inside_level d most 0 (omega arith) (items_of o) (between o) (trees_in kids) (shown_kids o 0 kids) g all) (flat_moves (closing o) (omega arith) k))
+        moves-append (opening o) (middle ++ closing o) (flat_moves (opening o) (omega arith) h)
+            (moves-append middle (closing o) (inside_level d most 0 (omega arith) (items_of o) (between o) (trees_in kids) (shown_kids o 0 kids) g all)
+            (flat_moves (closing o) (omega arith) k))
 
     go : (b : Bool) → Even d (most + 1) (bracketed b (sort_of o) (body o kids))
     go true = in_brackets d most (sort_of o) (body o kids) text
@@ -229,10 +250,14 @@ node_even d o kids most n fits (plain h g k) le all = go (nat_lt (level o) n)
 node_even d o kids most n fits (around h g k up) le all =
     let middle = inside (items_of o) (between o) (trees_in kids) (shown_kids o 0 kids) in
     rw (unbracketed o n le up)
-    (moves-append (opening o) (middle ++ closing o) (leads_moves (opening o) (omega arith) h) (moves-append middle (closing o) (inside_level d (most + 1) 1 (omega arith) (items_of o) (between o) (trees_in kids) (shown_kids o 0 kids) g (each_up d most (shown_kids o 0 kids) all)) (trails_moves (closing o) (omega arith) k)))
+    (moves-append (opening o) (middle ++ closing o) (leads_moves (opening o) (omega arith) h)
+        (moves-append middle (closing o) (inside_level d (most + 1) 1 (omega arith) (items_of o) (between o) (trees_in kids) (shown_kids o 0 kids) g
+        (each_up d most (shown_kids o 0 kids) all)) (trails_moves (closing o) (omega arith) k)))
 node_even d o kids most n fits (modal h g k up none s u is) le all =
     let middle = inside None (between o) (trees_in kids) (shown_kids o 0 kids) in
-    let text : Even d (most + 1) (opening o ++ (middle ++ closing o)) = moves-append (opening o) (middle ++ closing o) (leads_moves (opening o) (omega arith) h) (moves-append middle (closing o) (modal_inside d o kids most s u (fits.kids_fit ∙ is) g all) (flat_moves (closing o) (omega arith) k)) in
+    let text : Even d (most + 1) (opening o ++ (middle ++ closing o)) =
+        moves-append (opening o) (middle ++ closing o) (leads_moves (opening o) (omega arith) h)
+        (moves-append middle (closing o) (modal_inside d o kids most s u (fits.kids_fit ∙ is) g all) (flat_moves (closing o) (omega arith) k)) in
     rw (unbracketed o n le up, none) text
 
 mutual
@@ -243,7 +268,8 @@ mutual
       let up : depth_all kids + 1 ≡ 1 + depth_all kids = omega arith in
       subst (λ (m : ℕ). Even d m (shown_at n (node o kids))) up (node_even d o kids (depth_all kids) n w.0 (tidy d o v.0) le all)
 
-  kids_even : (d : Dots) (o : Op) (i : ℕ) (kids : Forest) → fit_levels o i (sorts kids) ≡ true → AllWellMade kids → any_has (is_bad d) kids ≡ false → Each (Even d (depth_all kids)) (shown_kids o i kids)
+  kids_even : (d : Dots) (o : Op) (i : ℕ) (kids : Forest) → fit_levels o i (sorts kids) ≡ true → AllWellMade kids → any_has (is_bad d) kids ≡ false →
+      Each (Even d (depth_all kids)) (shown_kids o i kids)
   kids_even d o i no_kids h w c = tt
   kids_even d o i (kid t rest) h w c =
       let u = and_parts (nat_le (least o i) (top (sort t))) (fit_levels o (i + 1) (sorts rest)) h in

@@ -26,7 +26,8 @@ behind n (space ∷ ps) = behind n ps
 
 pub said-append : (n : ℕ) (x y : List Piece) → said n (x ++ y) ≡ said n x ++ said (behind n x) y
 said-append n [] y = refl
-said-append n (one k ∷ x) y = ap (λ (l : List Lexeme). lexeme_of n k ++ l) (said-append (n + 1) x y) ∙ sym (append_assoc (lexeme_of n k) (said (n + 1) x) (said (behind (n + 1) x) y))
+said-append n (one k ∷ x) y = ap (λ (l : List Lexeme). lexeme_of n k ++ l) (said-append (n + 1) x y)
+    ∙ sym (append_assoc (lexeme_of n k) (said (n + 1) x) (said (behind (n + 1) x) y))
 said-append n (space ∷ x) y = said-append n x y
 
 -- one kid
@@ -38,8 +39,11 @@ pub last_kid : (n : ℕ) (o x : List Piece) → said n (o ++ ((x ++ []) ++ [])) 
 last_kid n o x = rw (append-nil x, append-nil x, said-append n o x) refl
 
 -- two kids, and nothing behind them
-pub two_kids : (n : ℕ) (o x m y : List Piece) → said n (o ++ ((x ++ ((m ++ y) ++ [])) ++ [])) ≡ said n o ++ (said (behind n o) x ++ (said (behind (behind n o) x) m ++ said (behind (behind (behind n o) x) m) y))
-two_kids n o x m y = rw (append-nil (m ++ y), append-nil (x ++ (m ++ y)), said-append n o (x ++ (m ++ y)), said-append (behind n o) x (m ++ y), said-append (behind (behind n o) x) m y) refl
+pub two_kids : (n : ℕ) (o x m y : List Piece) →
+    said n (o ++ ((x ++ ((m ++ y) ++ [])) ++ [])) ≡ said n o
+    ++ (said (behind n o) x ++ (said (behind (behind n o) x) m ++ said (behind (behind (behind n o) x) m) y))
+two_kids n o x m y = rw (append-nil (m ++ y), append-nil (x ++ (m ++ y)), said-append n o (x ++ (m ++ y)), said-append (behind n o) x (m ++ y),
+    said-append (behind (behind n o) x) m y) refl
 
 -- the lexemes are a text of the form, and the tree is what it says
 pub record Told (f : Nonterminal) (s : List Lexeme) (t : Tree) : Type 0 where
@@ -56,7 +60,8 @@ pub same_told : {f g : Nonterminal} {s r : List Lexeme} {t : Tree} → ((p : Phr
 same_told make d = record { phrase = d.phrase; reads = make d.phrase d.reads; erased = d.erased; no_ills = d.no_ills }
 
 -- a phrase of one phrase
-pub one_told : {g f : Nonterminal} {s r : List Lexeme} {a : Tree} (c : Phrase → Phrase) (o : Op) → ((p : Phrase) → Reads g s p → Reads f r (c p)) → ((p : Phrase) → erase (c p) ≡ node o (kid (erase p) no_kids)) → ((p : Phrase) → ills (c p) ≡ ills p) → Told g s a → Told f r (node o (kid a no_kids))
+pub one_told : {g f : Nonterminal} {s r : List Lexeme} {a : Tree} (c : Phrase → Phrase) (o : Op) → ((p : Phrase) → Reads g s p → Reads f r (c p)) →
+    ((p : Phrase) → erase (c p) ≡ node o (kid (erase p) no_kids)) → ((p : Phrase) → ills (c p) ≡ ills p) → Told g s a → Told f r (node o (kid a no_kids))
 one_told c o make erased ill d = record {
   phrase = c d.phrase;
   reads = make d.phrase d.reads;
@@ -65,11 +70,14 @@ one_told c o make erased ill d = record {
 }
 
 -- a phrase of two
-pub two_told : {g h f : Nonterminal} {s r l : List Lexeme} {a b : Tree} (c : Phrase → Phrase → Phrase) (o : Op) → ((p q : Phrase) → Reads g s p → Reads h r q → Reads f l (c p q)) → ((p q : Phrase) → erase (c p q) ≡ node o (kid (erase p) (kid (erase q) no_kids))) → ((p q : Phrase) → ills (c p q) ≡ ills p ++ ills q) → Told g s a → Told h r b → Told f l (node o (kid a (kid b no_kids)))
+pub two_told : {g h f : Nonterminal} {s r l : List Lexeme} {a b : Tree} (c : Phrase → Phrase → Phrase) (o : Op) →
+    ((p q : Phrase) → Reads g s p → Reads h r q → Reads f l (c p q)) → ((p q : Phrase) → erase (c p q) ≡ node o (kid (erase p) (kid (erase q) no_kids))) →
+    ((p q : Phrase) → ills (c p q) ≡ ills p ++ ills q) → Told g s a → Told h r b → Told f l (node o (kid a (kid b no_kids)))
 two_told {a = a} {b = b} c o make erased ill d e = record {
   phrase = c d.phrase e.phrase;
   reads = make d.phrase e.phrase d.reads e.reads;
-  erased = erased d.phrase e.phrase ∙ ap (λ (t : Tree). node o (kid t (kid (erase e.phrase) no_kids))) d.erased ∙ ap (λ (t : Tree). node o (kid a (kid t no_kids))) e.erased;
+  erased = erased d.phrase e.phrase ∙ ap (λ (t : Tree). node o (kid t (kid (erase e.phrase) no_kids))) d.erased
+      ∙ ap (λ (t : Tree). node o (kid a (kid t no_kids))) e.erased;
   no_ills = ill d.phrase e.phrase ∙ ap (λ (l : List ℕ). l ++ ills e.phrase) d.no_ills ∙ e.no_ills;
 }
 
@@ -104,15 +112,18 @@ abbrev IsComma : List Piece → Type 0
 IsComma sep = (n : ℕ) → said n sep ≡ Comma ∷ []
 
 module _ {f : Nonterminal} (text : Tree → List Piece) (sep : List Piece) (comma : IsComma sep) where
-  later_listed : (n : ℕ) (s : List Lexeme) (done ts : List Tree) → Each (λ t. TellsTree f (text t) t) ts → ListTold f s done → ListTold f (s ++ said n (flat_map (λ t. sep ++ text t) ts)) (done ++ ts)
+  later_listed : (n : ℕ) (s : List Lexeme) (done ts : List Tree) → Each (λ t. TellsTree f (text t) t) ts → ListTold f s done →
+      ListTold f (s ++ said n (flat_map (λ t. sep ++ text t) ts)) (done ++ ts)
   later_listed n s done [] all d = rw (append-nil s, append-nil done) d
   later_listed n s done (t ∷ ts) all d =
       let m = behind n sep in
       let more = flat_map (λ u. sep ++ text u) ts in
       let said-is : said n ((sep ++ text t) ++ more) ≡ Comma ∷ (said m (text t) ++ said (behind m (text t)) more) =
-      ap (said n) (append_assoc sep (text t) more) ∙ said-append n sep (text t ++ more) ∙ ap (λ (l : List Lexeme). l ++ said m (text t ++ more)) (comma n) ∙ ap (λ (l : List Lexeme). Comma ∷ l) (said-append m (text t) more) in
+      ap (said n) (append_assoc sep (text t) more) ∙ said-append n sep (text t ++ more) ∙ ap (λ (l : List Lexeme). l ++ said m (text t ++ more)) (comma n)
+          ∙ ap (λ (l : List Lexeme). Comma ∷ l) (said-append m (text t) more) in
       let next = later_listed (behind m (text t)) (s ++ Comma ∷ said m (text t)) (done ++ t ∷ []) ts all.1 (more_listed d (all.0 m)) in
-      rw said-is (subst₂ (λ (l : List Lexeme) (us : List Tree). ListTold f l us) (append_assoc s (Comma ∷ said m (text t)) (said (behind m (text t)) more)) (append_assoc done (t ∷ []) ts) next)
+      rw said-is (subst₂ (λ (l : List Lexeme) (us : List Tree). ListTold f l us) (append_assoc s (Comma ∷ said m (text t)) (said (behind m (text t)) more))
+          (append_assoc done (t ∷ []) ts) next)
 
   -- texts with commas between are a list
   pub listed : (n : ℕ) (t : Tree) (ts : List Tree) → Each (λ u. TellsTree f (text u) u) (t ∷ ts) → ListTold f (said n (join_by text sep (t ∷ ts))) (t ∷ ts)

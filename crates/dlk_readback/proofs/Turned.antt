@@ -47,7 +47,8 @@ known t f l = record {
 
 all_known : (ts : List Tree) → All IsFormula ts → All IsWithinLimits ts → Each Known ts
 all_known [] f l = tt
-all_known (t ∷ ts) f l = (known t (All-head IsFormula t ts f) (All-head IsWithinLimits t ts l), all_known ts (All-tail IsFormula t ts f) (All-tail IsWithinLimits t ts l))
+all_known (t ∷ ts) f l = (known t (All-head IsFormula t ts f) (All-head IsWithinLimits t ts l),
+    all_known ts (All-tail IsFormula t ts f) (All-tail IsWithinLimits t ts l))
 
 abbrev comma : List Piece
 comma = the_mark mark.Comma ∷ space ∷ []
@@ -66,7 +67,8 @@ formulas_told n t ts all =
 
 left_told : (n : ℕ) (ts : List Tree) → Each Known ts → SideTold (said n (left_side ts)) ts
 left_told n [] all = record { phrases = none; reads = side-nothing; erased = refl; no_ills = refl }
-left_told n (t ∷ ts) all = subst (λ (l : List Lexeme). SideTold l (t ∷ ts)) (sym (said-append n (formulas (t ∷ ts)) (space ∷ []) ∙ append-nil (said n (formulas (t ∷ ts))))) (formulas_told n t ts all)
+left_told n (t ∷ ts) all = subst (λ (l : List Lexeme). SideTold l (t ∷ ts))
+    (sym (said-append n (formulas (t ∷ ts)) (space ∷ []) ∙ append-nil (said n (formulas (t ∷ ts))))) (formulas_told n t ts all)
 
 right_told : (n : ℕ) (ts : List Tree) → Each Known ts → SideTold (said n (right_side ts)) ts
 right_told n [] all = record { phrases = none; reads = side-nothing; erased = refl; no_ills = refl }
@@ -78,11 +80,13 @@ texts_apart [] all = tt
 texts_apart (t ∷ ts) all = (all.0.apart 1, texts_apart ts all.1)
 
 formulas_apart : (t : Tree) (ts : List Tree) → Each Known (t ∷ ts) → Apart Formula (formulas (t ∷ ts))
-formulas_apart t ts all = same_apart (sym (joined-texts comma (t ∷ ts))) (joined_apart Formula comma (λ p d f. alone_fine mark.Comma _ refl (space_fine p f)) (λ p d. refl) (shown t) (texts_of ts) (texts_apart (t ∷ ts) all))
+formulas_apart t ts all = same_apart (sym (joined-texts comma (t ∷ ts)))
+    (joined_apart Formula comma (λ p d f. alone_fine mark.Comma _ refl (space_fine p f)) (λ p d. refl) (shown t) (texts_of ts) (texts_apart (t ∷ ts) all))
 
 left_fine : (ts : List Tree) (p : List Piece) → Each Known ts → Fine p → Fine (left_side ts ++ p)
 left_fine [] p all f = f
-left_fine (t ∷ ts) p all f = subst Fine (sym (append_assoc (formulas (t ∷ ts)) (space ∷ []) p)) ((formulas_apart t ts all).fine (space ∷ p) (space_fine p f) refl)
+left_fine (t ∷ ts) p all f = subst Fine (sym (append_assoc (formulas (t ∷ ts)) (space ∷ []) p))
+    ((formulas_apart t ts all).fine (space ∷ p) (space_fine p f) refl)
 
 right_fine : (ts : List Tree) → Each Known ts → Fine (right_side ts)
 right_fine [] all = end_fine
@@ -94,7 +98,8 @@ texts_even [] all = tt
 texts_even (t ∷ ts) all = (all.0.even, texts_even ts all.1)
 
 formulas_even : (ts : List Tree) → Each Known ts → Even Refused 1000 (formulas ts)
-formulas_even ts all = subst (Even Refused 1000) (joined-texts comma ts) (joined_level Refused 1000 0 (omega arith) comma (texts_of ts) refl (texts_even ts all))
+formulas_even ts all = subst (Even Refused 1000) (joined-texts comma ts)
+    (joined_level Refused 1000 0 (omega arith) comma (texts_of ts) refl (texts_even ts all))
 
 left_even : (ts : List Tree) → Each Known ts → Even Refused 1000 (left_side ts)
 left_even [] all = no_moves
@@ -111,7 +116,8 @@ phrases-erased (snoc l p) = map-append erase (phrases_in l) (p ∷ []) ∙ ap (�
 
 phrases-ills : (l : Phrases) → flat_map ills (phrases_in l) ≡ ills_of_all l
 phrases-ills none = refl
-phrases-ills (snoc l p) = flat_map-append ills (phrases_in l) (p ∷ []) ∙ ap (λ (ns : List ℕ). flat_map ills (phrases_in l) ++ ns) (append-nil (ills p)) ∙ ap (λ (ns : List ℕ). ns ++ ills p) (phrases-ills l)
+phrases-ills (snoc l p) = flat_map-append ills (phrases_in l) (p ∷ []) ∙ ap (λ (ns : List ℕ). flat_map ills (phrases_in l) ++ ns) (append-nil (ills p))
+    ∙ ap (λ (ns : List ℕ). ns ++ ills p) (phrases-ills l)
 
 each_append : (P : Tree → Type 0) (ts us : List Tree) → Each P ts → Each P us → Each P (ts ++ us)
 each_append P [] us h g = g
@@ -124,12 +130,16 @@ sequent_text s w l r =
     let front = left_side s.ante in
     let back = the_mark mark.Turnstile ∷ right_side s.succ in
     let f = (left_fine s.ante back left (alone_fine mark.Turnstile (right_side s.succ) refl (right_fine s.succ right))).at 0 in
-    let even : Even Refused 1000 (front ++ back) = moves-append front back (left_even s.ante left) (moves-append (the_mark mark.Turnstile ∷ []) (right_side s.succ) (flat_moves (the_mark mark.Turnstile ∷ []) (omega arith) refl) (right_even s.succ right)) in
+    let even : Even Refused 1000 (front ++ back) =
+        moves-append front back (left_even s.ante left)
+        (moves-append (the_mark mark.Turnstile ∷ []) (right_side s.succ) (flat_moves (the_mark mark.Turnstile ∷ []) (omega arith) refl)
+        (right_even s.succ right)) in
     let a = left_told 0 s.ante left in
     let b = right_told (behind 0 front + 1) s.succ right in
     let said-is : lexemes f.tokens ≡ said 0 front ++ Turnstile ∷ said (behind 0 front + 1) (right_side s.succ) = lexemes-said f ∙ said-append 0 front back in
     let trees : map erase (phrases_in a.phrases ++ phrases_in b.phrases) ≡ s.ante ++ s.succ = map-append erase (phrases_in a.phrases) (phrases_in b.phrases)
-    ∙ ap (λ (ts : List Tree). ts ++ map erase (phrases_in b.phrases)) (phrases-erased a.phrases ∙ a.erased) ∙ ap (λ (ts : List Tree). s.ante ++ ts) (phrases-erased b.phrases ∙ b.erased) in
+    ∙ ap (λ (ts : List Tree). ts ++ map erase (phrases_in b.phrases)) (phrases-erased a.phrases ∙ a.erased)
+        ∙ ap (λ (ts : List Tree). s.ante ++ ts) (phrases-erased b.phrases ∙ b.erased) in
     let no_ills : flat_map ills (phrases_in a.phrases ++ phrases_in b.phrases) ≡ [] = flat_map-append ills (phrases_in a.phrases) (phrases_in b.phrases)
     ∙ ap (λ (ns : List ℕ). ns ++ flat_map ills (phrases_in b.phrases)) (phrases-ills a.phrases ∙ a.no_ills) ∙ phrases-ills b.phrases ∙ b.no_ills in
     record {
@@ -139,6 +149,10 @@ sequent_text s w l r =
           (subst (λ (k : List Lexeme). ReadsSequent k (Turned a.phrases b.phrases)) (sym said-is) (sequent-sides a.reads b.reads))
           (λ i. record { ante = a.erased i; succ = b.erased i })
           (calm_tokens Refused 1000 (omega arith) even f) no_ills
-          (subst (Each (λ t. size t ≤ most_nodes)) (sym trees) (each_append (λ t. size t ≤ most_nodes) s.ante s.succ (each_map Known (λ t. size t ≤ most_nodes) s.ante (λ t k. k.small) left) (each_map Known (λ t. size t ≤ most_nodes) s.succ (λ t k. k.small) right)))
-          (subst (Each (λ t. depth t ≤ greatest_depth)) (sym trees) (each_append (λ t. depth t ≤ greatest_depth) s.ante s.succ (each_map Known (λ t. depth t ≤ greatest_depth) s.ante (λ t k. k.shallow) left) (each_map Known (λ t. depth t ≤ greatest_depth) s.succ (λ t k. k.shallow) right)));
+          (subst (Each (λ t. size t ≤ most_nodes)) (sym trees)
+              (each_append (λ t. size t ≤ most_nodes) s.ante s.succ (each_map Known (λ t. size t ≤ most_nodes) s.ante (λ t k. k.small) left)
+              (each_map Known (λ t. size t ≤ most_nodes) s.succ (λ t k. k.small) right)))
+          (subst (Each (λ t. depth t ≤ greatest_depth)) (sym trees)
+              (each_append (λ t. depth t ≤ greatest_depth) s.ante s.succ (each_map Known (λ t. depth t ≤ greatest_depth) s.ante (λ t k. k.shallow) left)
+              (each_map Known (λ t. depth t ≤ greatest_depth) s.succ (λ t k. k.shallow) right)));
     }

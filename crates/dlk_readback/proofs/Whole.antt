@@ -64,8 +64,10 @@ none_past measure limit (u ∷ before) behind t all = none_past measure limit be
 
 module _ {P R : Type 0} (G : List Lexeme → P → Type 0) (parts : P → List Phrase) (d : Dots) (tokens : List Token) (value : P → R) where
   -- a text without a fault
-  pub is_read : (unique : (p q : P) → G (lexemes tokens) p → G (lexemes tokens) q → p ≡ q) (phrase : P) (r : R) → G (lexemes tokens) phrase → value phrase ≡ r → Calm d 0 (map (λ t. t.kind) tokens)
-      → flat_map ills (parts phrase) ≡ [] → Each (λ t. size t ≤ most_nodes) (map erase (parts phrase)) → Each (λ t. depth t ≤ greatest_depth) (map erase (parts phrase)) → IsRead G parts d tokens value r
+  pub is_read : (unique : (p q : P) → G (lexemes tokens) p → G (lexemes tokens) q → p ≡ q) (phrase : P) (r : R) → G (lexemes tokens) phrase →
+      value phrase ≡ r → Calm d 0 (map (λ t. t.kind) tokens)
+      → flat_map ills (parts phrase) ≡ [] → Each (λ t. size t ≤ most_nodes) (map erase (parts phrase)) →
+          Each (λ t. depth t ≤ greatest_depth) (map erase (parts phrase)) → IsRead G parts d tokens value r
   is_read unique phrase r reads value_is calm no_ills small shallow = record { phrase = phrase; says = says; value_is = value_is; no_fault = against }
     where
       says : Says d G (lexemes tokens) phrase
@@ -74,9 +76,11 @@ module _ {P R : Type 0} (G : List Lexeme → P → Type 0) (parts : P → List P
       same : (p : P) → Says d G (lexemes tokens) p → p ≡ phrase
       same p s = unique p phrase s.reads reads
 
-      past : (measure : Tree → ℕ) (limit n : ℕ) (p : P) → Each (λ t. measure t ≤ limit) (map erase (parts phrase)) → Says d G (lexemes tokens) p → FirstPast measure limit (map erase (parts p)) n → ⊥
+      past : (measure : Tree → ℕ) (limit n : ℕ) (p : P) → Each (λ t. measure t ≤ limit) (map erase (parts phrase)) → Says d G (lexemes tokens) p →
+          FirstPast measure limit (map erase (parts p)) n → ⊥
       past measure limit n p all s f =
-          let le = none_past measure limit f.before f.behind f.tree (subst (λ (ts : List Tree). Each (λ t. measure t ≤ limit) ts) (ap (λ (q : P). map erase (parts q)) (sym (same p s)) ∙ f.trees_are) all) in
+          let le = none_past measure limit f.before f.behind f.tree
+              (subst (λ (ts : List Tree). Each (λ t. measure t ≤ limit) ts) (ap (λ (q : P). map erase (parts q)) (sym (same p s)) ∙ f.trees_are) all) in
           omega (arith, le, f.past)
 
       against : (why : ReadFault) → ¬ SpeaksAgainst G parts d tokens why
@@ -108,7 +112,8 @@ clean Allowed t h = allowed_clean t
 
 module _ (d : Dots) (t : Tree) (r : IsReadable d t) where
   -- the text of the tree is read by a form for which what it says is a text
-  text_of : (form : Form) → ((tokens : List Token) → (p : Phrase) → Reads (form_at (sort_in t) 1) (lexemes tokens) p → erase p ≡ t → grammar form (lexemes tokens) p) → TreeText form d (spell (shown t)) t
+  text_of : (form : Form) → ((tokens : List Token) → (p : Phrase) → Reads (form_at (sort_in t) 1) (lexemes tokens) p → erase p ≡ t →
+      grammar form (lexemes tokens) p) → TreeText form d (spell (shown t)) t
   text_of form read =
       let f = (shown_fine t r.well_made).at 0 in
       let told = subst (λ (l : List Lexeme). Told (form_at (sort_in t) 1) l t) (sym (lexemes-said f)) (back t r.well_made 1 0) in
@@ -116,8 +121,10 @@ module _ (d : Dots) (t : Tree) (r : IsReadable d t) where
       record {
         tokens = f.tokens;
         splits = f.splits;
-        reads = is_read (grammar form) itself d f.tokens erase (one_of_form form (lexemes f.tokens)) told.phrase t (read f.tokens told.phrase told.reads told.erased) told.erased calm
-            (ap (λ (l : List ℕ). l ++ []) told.no_ills) (subst (λ (u : Tree). size u ≤ most_nodes) (sym told.erased) r.limits.small, tt) (subst (λ (u : Tree). depth u ≤ greatest_depth) (sym told.erased) r.limits.shallow, tt);
+        reads = is_read (grammar form) itself d f.tokens erase (one_of_form form (lexemes f.tokens)) told.phrase t
+            (read f.tokens told.phrase told.reads told.erased) told.erased calm
+            (ap (λ (l : List ℕ). l ++ []) told.no_ills) (subst (λ (u : Tree). size u ≤ most_nodes) (sym told.erased) r.limits.small, tt)
+                (subst (λ (u : Tree). depth u ≤ greatest_depth) (sym told.erased) r.limits.shallow, tt);
       }
 
   pub tree_text : TreeText (form_of (sort_in t)) d (spell (shown t)) t
@@ -134,4 +141,5 @@ module _ (d : Dots) (t : Tree) (r : IsReadable d t) where
   program_text e = text_of Expression (λ tokens p h erased. as-program (sorted sort.Program e h))
 
   pub term_text : sort_in t ≡ sort.Term → is_formula_too t ≡ false → TreeText Expression d (spell (shown t)) t
-  term_text e other = text_of Expression (λ tokens p h erased. as-term (sorted sort.Term e h) (no_formula (lexemes tokens) p (sorted sort.Term e h) (ap is_formula_too erased ∙ other)))
+  term_text e other = text_of Expression (λ tokens p h erased.
+      as-term (sorted sort.Term e h) (no_formula (lexemes tokens) p (sorted sort.Term e h) (ap is_formula_too erased ∙ other)))

@@ -5,9 +5,12 @@ use Rattle.dlk_tree.specs.declared.op.Sort.{Sort}
 use Rattle.dlk_grammar.specs.Erased.{taboo}
 use Rattle.dlk_grammar.specs.Lexemes.{Word}
 use Rattle.dlk_grammar.specs.Phrases.{Phrase, Head, Call, Any, Apply, Holds}
-use Rattle.dlk_machine.specs.Machine.{◌>>=◌, Between, By, Next, Prefix, Minus, Bang', Bound, Modal, ForAll, ForSome, InBox, InDia, Part, Left, Before, Inside, Piece, Is, Done, as_sort, join, operand_sort, result_sort, prefix_sort, primes, formula_primes, binary, unary}
+use Rattle.dlk_machine.specs.Machine.{◌>>=◌, Between, By, Next, Prefix, Minus, Bang', Bound, Modal, ForAll, ForSome, InBox, InDia, Part, Left, Before}
+use Rattle.dlk_machine.specs.Machine.{Inside, Piece, Is, Done, as_sort, join, operand_sort, result_sort, prefix_sort, primes, formula_primes, binary}
+use Rattle.dlk_machine.specs.Machine.{unary}
 use Rattle.dlk_reader.specs.Codes.{postfix}
-use Rattle.dlk_reader.specs.Shows.{between_of, said, prefix_of, shape, prefix_code, operator_of, operator_before, part_code, piece_code, prime_code, primes_code, head_of, head_code, unit_code, symbol_of, IsLast, Agrees, Writes, Joins}
+use Rattle.dlk_reader.specs.Shows.{between_of, said, prefix_of, shape, prefix_code, operator_of, operator_before, part_code, piece_code, prime_code}
+use Rattle.dlk_reader.specs.Shows.{primes_code, head_of, head_code, unit_code, symbol_of, IsLast, Agrees, Writes, Joins}
 use Rattle.dlk_reader.specs.declared.stop.StepFault.{StepFault}
 use Rattle.dlk_reader.specs.declared.stop.StepFault.TheVariants.{Memory, Syntax}
 use Rattle.dlk_reader.specs.declared.code.Code.{Code}

@@ -3,8 +3,10 @@ use Rattle.std.proofs.Common.{◌≡◌, ◌≢◌, ℕ, Bool, true, false, cond
 use Rattle.std.specs.Bool.{◌==◌}
 use Rattle.dlk_tree.specs.declared.op.Sort.{Sort}
 use Rattle.dlk_grammar.specs.Lexemes.{Comma}
-use Rattle.dlk_grammar.specs.declared.token.Infix.TheVariants.{Equiv, Imply, Or, And, Equal, NotEqual, AtLeast, Greater, AtMost, Less, Add, Sub, Mul, Div, Pow, Choice}
-use Rattle.dlk_machine.specs.Machine.{◌>>=◌, Between, By, Next, Part, Left, Before, Inside, Piece, operand_sort, result_sort, prefix_sort, program_sort, is_program, as_sort, wanted, join, reduce, whole, State, Has, close_top, closing, step, ended}
+use Rattle.dlk_grammar.specs.declared.token.Infix.TheVariants.{Equiv, Imply, Or, And, Equal, NotEqual, AtLeast, Greater, AtMost, Less, Add, Sub, Mul}
+use Rattle.dlk_grammar.specs.declared.token.Infix.TheVariants.{Div, Pow, Choice}
+use Rattle.dlk_machine.specs.Machine.{◌>>=◌, Between, By, Next, Part, Left, Before, Inside, Piece, operand_sort, result_sort, prefix_sort}
+use Rattle.dlk_machine.specs.Machine.{program_sort, is_program, as_sort, wanted, join, reduce, whole, State, Has, close_top, closing, step, ended}
 use Rattle.dlk_machine.specs.Parse.{or_else}
 use Rattle.dlk_machine.specs.Expressions.{term_or_formula}
 use Rattle.dlk_machine.proofs.Closing.{piece_kind}

@@ -7,9 +7,11 @@ use Rattle.dlk_grammar.specs.declared.token.Infix.TheVariants.{And, Greater}
 use Rattle.dlk_grammar.specs.Erased.{item_of, ode_items}
 use Rattle.dlk_grammar.specs.Lexemes.{Word, Lexeme, Close, CloseBox, CloseBrace, Comma, Semi, Op as Operator}
 use Rattle.dlk_grammar.specs.Phrases.{Phrase, Truth, System, Item, Evolve, Items, add}
-use Rattle.dlk_machine.specs.Machine.{◌>>=◌, when, By, InBox, InDia, Part, Left, Holder, Round, Args, InContext, In, InBrace, Assigns, Tests, Evolves, Domain, Notes, Piece, Is, Tail, Braced, State, Wants, Has, as_sort, fits, held_sort, close, items_step}
+use Rattle.dlk_machine.specs.Machine.{◌>>=◌, when, By, InBox, InDia, Part, Left, Holder, Round, Args, InContext, In, InBrace, Assigns, Tests, Evolves}
+use Rattle.dlk_machine.specs.Machine.{Domain, Notes, Piece, Is, Tail, Braced, State, Wants, Has, as_sort, fits, held_sort, close, items_step}
 use Rattle.dlk_reader.specs.Codes.{postfix, postfix_terms}
-use Rattle.dlk_reader.specs.Shows.{holder_of, holder_code, equations_of, stack_code, closer_lexeme, left_opened, formulas_joined, last_of, IsNoBracket, IsVariable, IsOpen, Shows, Agrees, Writes}
+use Rattle.dlk_reader.specs.Shows.{holder_of, holder_code, equations_of, stack_code, closer_lexeme, left_opened, formulas_joined, last_of}
+use Rattle.dlk_reader.specs.Shows.{IsNoBracket, IsVariable, IsOpen, Shows, Agrees, Writes}
 use Rattle.dlk_reader.specs.declared.stop.StepFault.{StepFault}
 use Rattle.dlk_reader.specs.declared.stop.StepFault.TheVariants.{Memory, Syntax}
 use Rattle.dlk_reader.specs.declared.code.Code.{Code}

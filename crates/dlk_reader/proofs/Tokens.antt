@@ -46,7 +46,8 @@ no_lexeme n _ e = absurd cc
 pub record Reached {R V : Type 0} (comes : R → List Lexeme → Outcome V → Type 0) (first : R) (from : Origin) (r : R) (s : Source) : Type 0 where
   pub taken : List Token
   pub has_taken : HasTaken from taken s
-  pub goes : (behind : List Token) (o : Outcome V) → comes r (lexemes_from (length taken) behind) o → comes first (lexemes (taken ++ behind)) (after (length taken) o)
+  pub goes : (behind : List Token) (o : Outcome V) → comes r (lexemes_from (length taken) behind) o →
+      comes first (lexemes (taken ++ behind)) (after (length taken) o)
 
 module _ {R V : Type 0} (comes : R → List Lexeme → Outcome V → Type 0) (first : R) (from : Origin) where
   pub at_first : (s : Source) → HasTaken from [] s → Reached comes first from first s
@@ -65,7 +66,8 @@ module _ {R V : Type 0} (comes : R → List Lexeme → Outcome V → Type 0) (fi
           go (one_more some lt h) = (h, lt)
           go (no_more e h g) = absurd (a_lexeme n t.kind k is e)
 
-      on : (behind : List Token) (o : Outcome V) → comes r (k ∷ lexemes_from (length taken + 1) behind) o → comes first (lexemes (taken ++ t ∷ behind)) (after (length taken) o)
+      on : (behind : List Token) (o : Outcome V) → comes r (k ∷ lexemes_from (length taken + 1) behind) o →
+          comes first (lexemes (taken ++ t ∷ behind)) (after (length taken) o)
       on behind o c =
           let here : lexeme_of (length taken) t.kind ≡ k ∷ [] = ap (λ (m : ℕ). lexeme_of m t.kind) (sym place) ∙ is in
           reached.goes (t ∷ behind) o (subst (λ (l : List Lexeme). comes r (l ++ lexemes_from (length taken + 1) behind) o) (sym here) c)
@@ -89,7 +91,8 @@ module _ {R V : Type 0} (comes : R → List Lexeme → Outcome V → Type 0) (fi
         has_taken = one_taken.0;
         answer = λ behind g.
             let none : 0 + length taken ≡ length taken = omega arith in
-            let stops = subst (λ (m : ℕ). comes first (lexemes (taken ++ t ∷ behind)) (Stopped m)) none (on behind (Stopped 0) (step (lexemes_from (length taken + 1) behind))) in
+            let stops = subst (λ (m : ℕ). comes first (lexemes (taken ++ t ∷ behind)) (Stopped m)) none
+                (on behind (Stopped 0) (step (lexemes_from (length taken + 1) behind))) in
             let same = append_assoc taken (t ∷ []) behind in (
               length taken,
               subst (λ (l : List Token). comes first (lexemes l) (Stopped (length taken))) (sym same) stops,

@@ -2,7 +2,9 @@
 use Rattle.std.specs.Prelude.{List, [], ◌∷◌, ◌++◌, true, false}
 use Rattle.dlk_tree.specs.declared.op.Kind.TheVariants.{UnitFunc, UnitPred, Quant, Prog}
 use Rattle.dlk_tree.specs.declared.op.Op.TheVariants as op
-use Rattle.dlk_grammar.specs.Phrases.{Everywhere, Phrase, Literal, Argument, Variable, Apply, Negate, Diff, Truth, Falsity, Hole, Holds, Context, Not, DiffF, Forall, Exists, Box, Dia, Binary, Const, Assign, AssignAny, Test, Then, Loop, System, Noted, Phrases, none, snoc, Call, Any, Evolve, Flow, Items, no_items, add}
+use Rattle.dlk_grammar.specs.Phrases.{Everywhere, Phrase, Literal, Argument, Variable, Apply, Negate, Diff, Truth, Falsity, Hole, Holds, Context, Not}
+use Rattle.dlk_grammar.specs.Phrases.{DiffF, Forall, Exists, Box, Dia, Binary, Const, Assign, AssignAny, Test, Then, Loop, System, Noted, Phrases}
+use Rattle.dlk_grammar.specs.Phrases.{none, snoc, Call, Any, Evolve, Flow, Items, no_items, add}
 use Rattle.dlk_grammar.specs.Erased.{symbol, ode_items, infix_op, count}
 use Rattle.dlk_reader.specs.declared.code.Code.{Code}
 use Rattle.dlk_reader.specs.declared.code.Code.TheVariants as code

@@ -7,9 +7,16 @@ use Rattle.dlk_tree.specs.declared.op.Op.{Op}
 use Rattle.dlk_tree.specs.declared.op.Op.TheVariants as op
 use Rattle.dlk_grammar.specs.Erased.{infix_op, ode_items, taboo, count}
 use Rattle.dlk_grammar.specs.declared.token.Infix.TheVariants.{And, Greater, Mul}
-use Rattle.dlk_grammar.specs.Lexemes.{Word, Lexeme, Name, Number, Dot, Blank, True, False, All, Exist, Invariant, RoundBars, RoundBar, BarRound, BraceBar, BarBrace, Open, Close, OpenBox, CloseBox, OpenBrace, CloseBrace, Bang, Prime, Gets, Query, Semi, Comma, Turnstile, Becomes, Swaps, Op as Operator}
+use Rattle.dlk_grammar.specs.Lexemes.{Word, Lexeme, Name, Number, Dot, Blank, True, False, All, Exist, Invariant, RoundBars, RoundBar, BarRound}
+use Rattle.dlk_grammar.specs.Lexemes.{BraceBar, BarBrace, Open, Close, OpenBox, CloseBox, OpenBrace, CloseBrace, Bang, Prime, Gets, Query, Semi}
+use Rattle.dlk_grammar.specs.Lexemes.{Comma, Turnstile, Becomes, Swaps, Op as Operator}
 use Rattle.dlk_grammar.specs.Phrases.{Space, Everywhere, Except, Phrase, Variable, Apply, Holds, Head, Call, Any, Items}
-use Rattle.dlk_machine.specs.Machine.{◌>>=◌, when, as_sort, operand_sort, result_sort, fits, Between, By, Next, Quantifier, ForAll, ForSome, Modality, InBox, InDia, Prefix, Minus, Bang', Bound, Modal, Holder, Round, Args, InContext, In, InBrace, Assigns, Tests, Evolves, Domain, Notes, Part, Left, Before, Inside, Tail, Done, Bare, Grouped, Braced, Starred, Annotated, Piece, Is, Symbol, State, Wants, Has, Calls, Bars, BarsName, Binds, Starts, StartsPrime, StartsGets, StartsStar, Opens, OpensName, OpensPrime, WantsItem, ItemName, ItemPrime, ItemBar, ItemBarName, ItemEnds, Invariants, wanted}
+use Rattle.dlk_machine.specs.Machine.{◌>>=◌, when, as_sort, operand_sort, result_sort, fits, Between, By, Next, Quantifier, ForAll, ForSome, Modality}
+use Rattle.dlk_machine.specs.Machine.{InBox, InDia, Prefix, Minus, Bang', Bound, Modal, Holder, Round, Args, InContext, In, InBrace, Assigns, Tests}
+use Rattle.dlk_machine.specs.Machine.{Evolves, Domain, Notes, Part, Left, Before, Inside, Tail, Done, Bare, Grouped, Braced, Starred, Annotated}
+use Rattle.dlk_machine.specs.Machine.{Piece, Is, Symbol, State, Wants, Has, Calls, Bars, BarsName, Binds, Starts, StartsPrime, StartsGets, StartsStar}
+use Rattle.dlk_machine.specs.Machine.{Opens, OpensName, OpensPrime, WantsItem, ItemName, ItemPrime, ItemBar, ItemBarName, ItemEnds, Invariants}
+use Rattle.dlk_machine.specs.Machine.{wanted}
 use Rattle.dlk_reader.specs.Codes.{postfix, postfix_all, postfix_terms}
 use Rattle.dlk_reader.specs.declared.code.Code.{Code}
 use Rattle.dlk_reader.specs.declared.code.Code.TheVariants as code

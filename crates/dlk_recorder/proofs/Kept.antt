@@ -1,5 +1,6 @@
 -- A text that is kept while it is within a limit.
-use Rattle.std.proofs.Common.{◌≡◌, ℕ, ◌+◌, ◌<◌, ◌≤◌, List, [], ◌∷◌, ◌++◌, length, map, drop, codes, refl, sym, ap, ◌∙◌, append_assoc, length-append, drop-cons, suc, get_or, arith}
+use Rattle.std.proofs.Common.{◌≡◌, ℕ, ◌+◌, ◌<◌, ◌≤◌, List, [], ◌∷◌, ◌++◌, length, map, drop, codes, refl, sym, ap, ◌∙◌, append_assoc, length-append}
+use Rattle.std.proofs.Common.{drop-cons, suc, get_or, arith}
 use Rattle.dlk_tree.specs.Trees.{Tree}
 use Rattle.dlk_calculus.specs.Steps.{Step}
 use Rattle.dlk_nodes.specs.TermFiles.{nodes_after, its_lines, step_lines, ended, term_text}
@@ -13,7 +14,8 @@ pub record Kept (text : List ℕ) (bytes limit : ℕ) (left whole : List ℕ) : 
 kept_none : (limit : ℕ) (whole : List ℕ) → Kept [] 0 limit whole whole
 kept_none limit whole = record { kept = λ le. refl; count = omega arith }
 
-pub kept_more : (text more new left rest whole : List ℕ) (bytes after limit : ℕ) → Kept text bytes limit left whole → left ≡ more ++ rest → after ≡ bytes + length more →
+pub kept_more : (text more new left rest whole : List ℕ) (bytes after limit : ℕ) → Kept text bytes limit left whole → left ≡ more ++ rest →
+    after ≡ bytes + length more →
     (after ≤ limit → new ≡ text ++ more) → Kept new after limit rest whole
 kept_more text more new left rest whole bytes after limit k left_is after_is kept = record {
   kept = λ le.
@@ -53,7 +55,8 @@ next_lines nodes after number step steps is =
     ∙ ap (λ (n : List Tree). ended its ++ left_text n (number + 1) steps) (sym is)
 
 -- they are kept, too
-pub kept_step : {A : Type 0} (stands : A → Step) (steps : List A) (i : ℕ) (step : A) (nodes after : List Tree) (text written new whole : List ℕ) (bytes count limit : ℕ) →
+pub kept_step : {A : Type 0} (stands : A → Step) (steps : List A) (i : ℕ) (step : A) (nodes after : List Tree) (text written new whole : List ℕ)
+    (bytes count limit : ℕ) →
     i < length steps → step ≡ get_or steps i step → Kept text bytes limit (left_text nodes (i + 1) (map stands (drop i steps))) whole →
     written ≡ ended (its_lines nodes (i + 1) (stands step)) → after ≡ nodes_after nodes (stands step) → count ≡ bytes + length written →
     (count ≤ limit → new ≡ text ++ written) → Kept new count limit (left_text after (i + 1 + 1) (map stands (drop (i + 1) steps))) whole

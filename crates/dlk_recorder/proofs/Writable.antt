@@ -1,5 +1,6 @@
 -- What the calculus takes from rows within the limits is read from its written form.
-use Rattle.std.proofs.Common.{◌≡◌, ℕ, ◌-◌, ◌<◌, ◌≤◌, Bool, true, false, cond, List, [], ◌∷◌, ◌++◌, length, get_or, take, drop, Some, find, refl, subst, inl, inr, arith}
+use Rattle.std.proofs.Common.{◌≡◌, ℕ, ◌-◌, ◌<◌, ◌≤◌, Bool, true, false, cond, List, [], ◌∷◌, ◌++◌, length, get_or, take, drop, Some, find, refl}
+use Rattle.std.proofs.Common.{subst, inl, inr, arith}
 use Rattle.std.specs.Prelude.{All, slice_set}
 use Rattle.std.specs.List.{list_all}
 use Rattle.std.specs.Str.{bytes_eq}
@@ -17,9 +18,11 @@ use Rattle.dlk_calculus.specs.Limited.{IsLimitedSequent, IsLimited}
 use Rattle.dlk_calculus.specs.Pairs.{Pair, IsWellFormed, AreWellMade}
 use Rattle.dlk_calculus.specs.Places.{At, IsPlace, put}
 use Rattle.dlk_calculus.specs.Sequents.{Sequent, IsFormula, IsSequent}
-use Rattle.dlk_calculus.specs.Rules.{Rule, Cut, CutL, CutR, Arguments, OnePlace, TwoPlaces, PlaceAndFormula, OneFormula, PlaceAndName, arguments_of, AreProper, IsProperRule, Premises}
+use Rattle.dlk_calculus.specs.Rules.{Rule, Cut, CutL, CutR, Arguments, OnePlace, TwoPlaces, PlaceAndFormula, OneFormula, PlaceAndName, arguments_of}
+use Rattle.dlk_calculus.specs.Rules.{AreProper, IsProperRule, Premises}
 use Rattle.dlk_calculus.specs.Provables.{Provable}
-use Rattle.dlk_calculus.specs.Steps.{Step, Substitute, Gives, start, use_axiom, use_rule, leaf, apply, merge, substitute, rename, EachNew, too_big, too_deep, IsWithin, StepOf}
+use Rattle.dlk_calculus.specs.Steps.{Step, Substitute, Gives, start, use_axiom, use_rule, leaf, apply, merge, substitute, rename, EachNew, too_big}
+use Rattle.dlk_calculus.specs.Steps.{too_deep, IsWithin, StepOf}
 use Rattle.dlk_calculus.proofs.PlaceLaws.{At_All, At_place, All-front, All-behind}
 use Rattle.dlk_calculus.proofs.WellFormed.{pairs_of_kind}
 use Rattle.dlk_calculus.proofs.LimitLaws.{taken_as_given, step_limited}
@@ -131,14 +134,16 @@ module _ (s : Sequent) (l : IsLimitedSequent s) where
       by_shape (arguments_of rule) places (formula_read rule ps all p) proper
 
 -- a replacement within a limit that no replacement passes
-pair_within : (measure : Tree → ℕ) (limit : ℕ) (pairs : List Pair) → ¬ ¬ All (λ (q : Pair). measure q.by ≤ limit) pairs → (k : ℕ) (d : Pair) → k < length pairs →
+pair_within : (measure : Tree → ℕ) (limit : ℕ) (pairs : List Pair) → ¬ ¬ All (λ (q : Pair). measure q.by ≤ limit) pairs → (k : ℕ) (d : Pair) →
+    k < length pairs →
     measure (get_or pairs k d).by ≤ limit
 pair_within measure limit pairs none k d lt = elim (cases_lt limit (measure (get_or pairs k d).by)) [
   | inl more ↦ absurd (none (λ each. omega (arith, more, each k d lt)))
   | inr le ↦ le
 ]
 
-pairs_readable : (fact : ℕ) (pairs : List Pair) (p : Provable) → HasSymbols (Substitute fact pairs) → IsWellFormed pairs → AreWellMade pairs → IsWithin (Substitute fact pairs) p →
+pairs_readable : (fact : ℕ) (pairs : List Pair) (p : Provable) → HasSymbols (Substitute fact pairs) → IsWellFormed pairs → AreWellMade pairs →
+    IsWithin (Substitute fact pairs) p →
     All IsReadablePair pairs
 pairs_readable fact pairs p symbols well made within = λ k d lt. record {
   is_symbol = symbols k d lt;
@@ -146,7 +151,8 @@ pairs_readable fact pairs p symbols well made within = λ k d lt. record {
   well_made = made k d lt;
   limits = record {
     small = pair_within size most_nodes pairs (λ none. within TooBig (too_big (λ (each : EachNew IsSmall (Substitute fact pairs) p). none each.0))) k d lt;
-    shallow = pair_within depth greatest_depth pairs (λ none. within TooDeep (too_deep (λ (each : EachNew IsShallow (Substitute fact pairs) p). none each.0))) k d lt;
+    shallow = pair_within depth greatest_depth pairs
+        (λ none. within TooDeep (too_deep (λ (each : EachNew IsShallow (Substitute fact pairs) p). none each.0))) k d lt;
   };
 }
 
@@ -162,7 +168,8 @@ module _ (rows : List Provable) (all : All IsLimited rows) (few : length rows < 
   given_writable _ _ (apply fact goal rule q s premises at_fact at_goal proper made) within limited symbols =
       let old = At_All IsLimited rows fact q all at_fact in
       let sequent = At_All IsLimitedSequent q.goals goal s old.goals at_goal in
-      let new = All-behind IsLimitedSequent (take (goal - 1) q.goals) premises (All-front IsLimitedSequent (take (goal - 1) q.goals ++ premises) (drop goal q.goals) limited.goals) in
+      let new = All-behind IsLimitedSequent (take (goal - 1) q.goals) premises
+          (All-front IsLimitedSequent (take (goal - 1) q.goals ++ premises) (drop goal q.goals) limited.goals) in
       (fact_number fact q at_fact, goal_number s q goal old at_goal, rule_writable s sequent rule premises new proper made)
   given_writable _ _ (merge fact goal by q r new at_fact at_by at_goal are) within limited symbols =
       (fact_number fact q at_fact, goal_number r.conclusion q goal (At_All IsLimited rows fact q all at_fact) at_goal, fact_number by r at_by)

@@ -6,23 +6,30 @@ use Rattle.std.specs.Prelude.{◌==◌, if◌then◌else◌}
 use Rattle.dlk_calculus.specs.Provables.{Provable}
 use Rattle.dlk_calculus.specs.Steps.{Step, IsProper, StepOf, Fault, History}
 use Rattle.dlk_calculus.specs.declared.reason.Reason.{Reason}
-use Rattle.dlk_calculus.specs.declared.reason.Reason.TheVariants.{NoFact, NoGoal, UnknownName, NoPlace, WrongShape, NotEqual, NotFresh, NotArith, IllSubst, FreeInSubst, NotAdmissible, TooBig, TooDeep, SideFull, GoalsFull, LeavesFull, LinesFull}
+use Rattle.dlk_calculus.specs.declared.reason.Reason.TheVariants.{NoFact, NoGoal, UnknownName, NoPlace, WrongShape, NotEqual, NotFresh, NotArith}
+use Rattle.dlk_calculus.specs.declared.reason.Reason.TheVariants.{IllSubst, FreeInSubst, NotAdmissible, TooBig, TooDeep, SideFull, GoalsFull}
+use Rattle.dlk_calculus.specs.declared.reason.Reason.TheVariants.{LeavesFull, LinesFull}
 use Rattle.dlk_calculus.specs.Reasons.{rank}
 use Rattle.dlk_calculus.proofs.StepLaws.{one_given}
 use Rattle.dlk_calculus.proofs.LimitLaws.{verdict_cases}
 use Rattle.dlk_calculus.proofs.Histories.{History-none, History-more}
 use Rattle.dlk_replay.specs.declared.fault.LineWhy.TheVariants as why
-use Rattle.dlk_replay.specs.Files.{StepLines, no_lines, one_more, no_row, Answer, accepted, bad, Becomes, whole, ended, unread, done_first, done_before, misnumbered, faulty}
+use Rattle.dlk_replay.specs.Files.{StepLines, no_lines, one_more, no_row, Answer, accepted, bad, Becomes, whole, ended, unread, done_first}
+use Rattle.dlk_replay.specs.Files.{done_before, misnumbered, faulty}
 use Rattle.dlk_replay.specs.Formats.{Said, TakesStep, HasOtherNumber, TakesNone, EndsFile, Format}
 
 pub steps_history : (Says : Format) (lines : List (List ℕ)) (rows : List Provable) (last : ℕ) → StepLines Says lines rows last → History rows
 steps_history Says _ _ _ no_lines = History-none
-steps_history Says _ _ _ (one_more {lines} {rows} {last} {line} {step} {p} before is given) = History-more rows step p (steps_history Says lines rows last before) given.given
+steps_history Says _ _ _ (one_more {lines} {rows} {last} {line} {step} {p} before is given) =
+    History-more rows step p (steps_history Says lines rows last before) given.given
 steps_history Says _ _ _ (no_row {lines} {rows} {last} {line} before is) = steps_history Says lines rows last before
 
 -- the reason of a place in their order
 abbrev reason_of : ℕ → Reason
-reason_of n = if n == 1 then NoFact else if n == 2 then NoGoal else if n == 3 then UnknownName else if n == 4 then NoPlace else if n == 5 then WrongShape else if n == 6 then NotEqual else if n == 7 then NotFresh else if n == 8 then NotArith else if n == 9 then IllSubst else if n == 10 then FreeInSubst else if n == 11 then NotAdmissible else if n == 12 then TooBig else if n == 13 then TooDeep else if n == 14 then SideFull else if n == 15 then GoalsFull else if n == 16 then LeavesFull else LinesFull
+reason_of n = if n == 1 then NoFact else if n == 2 then NoGoal else if n == 3 then UnknownName else if n == 4 then NoPlace else if n == 5 then WrongShape else
+    if n == 6 then NotEqual else if n == 7 then NotFresh else if n == 8 then NotArith else if n == 9 then IllSubst else if n == 10 then FreeInSubst else
+    if n == 11 then NotAdmissible else if n == 12 then TooBig else if n == 13 then TooDeep else if n == 14 then SideFull else if n == 15 then GoalsFull else
+    if n == 16 then LeavesFull else LinesFull
 
 ranked : (a : Reason) → reason_of (rank a) ≡ a
 ranked NoFact = refl
@@ -70,7 +77,8 @@ After n rows last rest again a HasOtherNumber = a ≡ bad (n + 1) why.WrongNumbe
 After n rows last rest again a TakesNone = again rows last
 After n rows last rest again a EndsFile = a ≡ at_end n rows last rest
 
-one_after : (n : ℕ) (rows : List Provable) (last : ℕ) (rest : List (List ℕ)) (A B : List Provable → ℕ → Type 0) (a b : Answer) → ((new : List Provable) (at : ℕ) → A new at → B new at → a ≡ b) →
+one_after : (n : ℕ) (rows : List Provable) (last : ℕ) (rest : List (List ℕ)) (A B : List Provable → ℕ → Type 0) (a b : Answer) →
+    ((new : List Provable) (at : ℕ) → A new at → B new at → a ≡ b) →
     (s : Said) → After n rows last rest A a s → After n rows last rest B b s → a ≡ b
 one_after n rows last rest A B a b again (TakesStep step) (inl x) (inl y) =
     let same : x.0 ≡ y.0 = one_given rows step x.0 y.0 x.1.given y.1.given in
@@ -90,7 +98,8 @@ at_end_whole : (n : ℕ) (rows : List Provable) (last : ℕ) → 1 ≤ length ro
 at_end_whole n [] last some = absurd (omega (arith, some))
 at_end_whole n (p ∷ ps) last some = refl
 
-at_end_before : (n : ℕ) (rows : List Provable) (last : ℕ) (line : List ℕ) (lines : List (List ℕ)) → 1 ≤ length rows → bad (n + 2) why.Malformed ≡ at_end n rows last (line ∷ lines)
+at_end_before : (n : ℕ) (rows : List Provable) (last : ℕ) (line : List ℕ) (lines : List (List ℕ)) → 1 ≤ length rows →
+    bad (n + 2) why.Malformed ≡ at_end n rows last (line ∷ lines)
 at_end_before n [] last line lines some = absurd (omega (arith, some))
 at_end_before n (p ∷ ps) last line lines some = refl
 
@@ -114,7 +123,8 @@ module _ (Says : Format) (one_said : (before : List (List ℕ)) (line : List ℕ
       one_after (length before) rows last rest (again a) (again b) a b (λ new at. one_end rest (before ++ line ∷ []) new at a b) y.0
       (subst (λ s. After (length before) rows last rest (again a) a s) same x.2) y.2
 
-  after_steps : (steps rest : List (List ℕ)) (rows : List Provable) (last : ℕ) (a : Answer) → StepLines Says steps rows last → Ends rest steps rows last a → Ends (steps ++ rest) [] [] 0 a
+  after_steps : (steps rest : List (List ℕ)) (rows : List Provable) (last : ℕ) (a : Answer) → StepLines Says steps rows last → Ends rest steps rows last a →
+      Ends (steps ++ rest) [] [] 0 a
   after_steps _ rest _ _ a no_lines ends = ends
   after_steps _ rest _ _ a (one_more {lines} {rows} {last} {line} {step} {p} before is given) ends =
       let next : Ends (line ∷ rest) lines rows last a = inr (TakesStep step, is, inl (p, given, ends)) in
@@ -127,13 +137,15 @@ module _ (Says : Format) (one_said : (before : List (List ℕ)) (line : List ℕ
   becomes_ends _ _ (whole {steps} {rows} {last} {line} is some ends) =
       after_steps steps (line ∷ []) rows last (accepted rows last) is (inr (EndsFile, ends, at_end_whole (length steps) rows last some))
   becomes_ends _ _ (ended {steps} {rows} {last} is) =
-      subst (λ l. Ends l [] [] 0 (bad (length steps + 1) why.NoEnd)) (append-nil steps) (after_steps steps [] rows last (bad (length steps + 1) why.NoEnd) is refl)
+      subst (λ l. Ends l [] [] 0 (bad (length steps + 1) why.NoEnd)) (append-nil steps)
+          (after_steps steps [] rows last (bad (length steps + 1) why.NoEnd) is refl)
   becomes_ends _ _ (unread {steps} {rows} {last} {line} after is none) =
       after_steps steps (line ∷ after) rows last (bad (length steps + 1) why.Malformed) is (inl (none, refl))
   becomes_ends _ _ (done_first {steps} {last} {line} after is ends) =
       after_steps steps (line ∷ after) [] last (bad (length steps + 1) why.Malformed) is (inr (EndsFile, ends, at_end_first (length steps) last after))
   becomes_ends _ _ (done_before {steps} {rows} {last} {line} next after is some ends) =
-      after_steps steps (line ∷ next ∷ after) rows last (bad (length steps + 2) why.Malformed) is (inr (EndsFile, ends, at_end_before (length steps) rows last next after some))
+      after_steps steps (line ∷ next ∷ after) rows last (bad (length steps + 2) why.Malformed) is
+          (inr (EndsFile, ends, at_end_before (length steps) rows last next after some))
   becomes_ends _ _ (misnumbered {steps} {rows} {last} {line} after is other) =
       after_steps steps (line ∷ after) rows last (bad (length steps + 1) why.WrongNumber) is (inr (HasOtherNumber, other, refl))
   becomes_ends _ _ (faulty {steps} {rows} {last} {line} {step} {reason} after is says fault) =
@@ -145,7 +157,8 @@ module _ (Says : Format) (one_said : (before : List (List ℕ)) (line : List ℕ
 -- In a format in which it is known what each line says, and each line that says a step says a proper one, something becomes of each file.
 module _ (Says : Format) (decided : (before : List (List ℕ)) (line : List ℕ) → ((s : Said) × Says before line s) ⊎ ((s : Said) → ¬ Says before line s))
     (proper : (before : List (List ℕ)) (line : List ℕ) (step : Step) → Says before line (TakesStep step) → IsProper step) where
-  after_done : (steps rest : List (List ℕ)) (rows : List Provable) (last : ℕ) (line : List ℕ) → StepLines Says steps rows last → Says steps line EndsFile → (a : Answer) × Becomes Says (steps ++ line ∷ rest) a
+  after_done : (steps rest : List (List ℕ)) (rows : List Provable) (last : ℕ) (line : List ℕ) → StepLines Says steps rows last → Says steps line EndsFile →
+      (a : Answer) × Becomes Says (steps ++ line ∷ rest) a
   after_done steps rest [] last line is ends = (bad (length steps + 1) why.Malformed, done_first rest is ends)
   after_done steps [] (p ∷ ps) last line is ends = (accepted (p ∷ ps) last, whole is (omega arith) ends)
   after_done steps (next ∷ rest) (p ∷ ps) last line is ends = (bad (length steps + 2) why.Malformed, done_before next rest is (omega arith) ends)
@@ -158,7 +171,8 @@ module _ (Says : Format) (decided : (before : List (List ℕ)) (line : List ℕ)
     | inr none ↦ (bad (length steps + 1) why.Malformed, unread rest is none)
   ]
     where
-      by_line : (s : Said) → Says steps line s → ((new : List Provable) (at : ℕ) → StepLines Says (steps ++ line ∷ []) new at → (a : Answer) × Becomes Says (steps ++ line ∷ rest) a) →
+      by_line : (s : Said) → Says steps line s →
+          ((new : List Provable) (at : ℕ) → StepLines Says (steps ++ line ∷ []) new at → (a : Answer) × Becomes Says (steps ++ line ∷ rest) a) →
           (a : Answer) × Becomes Says (steps ++ line ∷ rest) a
       by_line (TakesStep step) says again = elim (verdict_cases rows step (proper steps line step says)) [
         | inl taken ↦ again (rows ++ taken.0 ∷ []) (length steps + 1) (one_more is says taken.1)

@@ -54,7 +54,8 @@ first_unended (b ∷ c ∷ cs) some none =
     lines_of_other b (c ∷ cs) other ∙ ap (before_first_line b) again
 
 -- a line that is cut off before its line feed
-pub line_before_feed : (left line rest : List ℕ) (end : ℕ) → end ≡ position_or_len is_line_feed left → line ≡ take end left → rest ≡ drop end left → 1 ≤ length rest →
+pub line_before_feed : (left line rest : List ℕ) (end : ℕ) → end ≡ position_or_len is_line_feed left → line ≡ take end left → rest ≡ drop end left →
+    1 ≤ length rest →
     file_lines left ≡ line ∷ file_lines (take (length rest - 1) (drop 1 rest))
 line_before_feed left line rest end place line_is rest_is some =
     let within : end < length left = omega (arith, length-drop end left, ap length rest_is) in
@@ -62,7 +63,8 @@ line_before_feed left line rest end place line_is rest_is some =
     first_ended left end place within ∙ (λ i. sym line_is i ∷ file_lines (behind i))
 
 -- the last line, without a line feed
-pub line_at_end : (left line rest : List ℕ) (end : ℕ) → 0 < length left → end ≡ position_or_len is_line_feed left → end ≤ length left → line ≡ take end left → rest ≡ drop end left → length rest < 1 →
+pub line_at_end : (left line rest : List ℕ) (end : ℕ) → 0 < length left → end ≡ position_or_len is_line_feed left → end ≤ length left → line ≡ take end left →
+    rest ≡ drop end left → length rest < 1 →
     file_lines left ≡ line ∷ file_lines rest
 line_at_end left line rest end some place within line_is rest_is none =
     let whole : end ≡ length left = omega (arith, length-drop end left, ap length rest_is) in

@@ -10,7 +10,8 @@ use Rattle.dlk_calculus.proofs.PlaceLaws.{At_All}
 use Rattle.dlk_machine.specs.Symbols.{ReplacesSymbol}
 use Rattle.dlk_machine.proofs.PairSymbols.{pairs_text_symbols}
 use Rattle.dlk_machine.proofs.TextLaws.{pairs_text_well_made}
-use Rattle.dlk_lines.specs.Spelled.{Spelling, InFull, ByNodes, ArePairsText, NamesEach, none_behind, one_behind, NamesPair, pair, NamesMorePairs, no_more_pairs, one_more_pair, NamesPairs, no_pairs, first_pair}
+use Rattle.dlk_lines.specs.Spelled.{Spelling, InFull, ByNodes, ArePairsText, NamesEach, none_behind, one_behind, NamesPair, pair, NamesMorePairs}
+use Rattle.dlk_lines.specs.Spelled.{no_more_pairs, one_more_pair, NamesPairs, no_pairs, first_pair}
 use Rattle.dlk_lines.specs.Lines.{IsStep, start, use_axiom, use_rule, leaf, apply, merge, substitute, rename, IsStepLine, numbered}
 use Rattle.dlk_lines.proofs.Proper.{line_proper}
 use Rattle.dlk_termtext.specs.Lines as full

@@ -5,7 +5,8 @@ use Rattle.dlk_calculus.specs.Provables.{Provable}
 use Rattle.dlk_calculus.specs.Steps.{Step, Adds, Fault}
 use Rattle.dlk_replay.specs.declared.fault.LineWhy.{LineWhy}
 use Rattle.dlk_replay.specs.declared.fault.LineWhy.TheVariants as why
-use Rattle.dlk_replay.specs.Files.{StepLines, no_lines, one_more, no_row, accepted, bad, Becomes, whole, ended, unread, done_first, done_before, misnumbered, faulty, RowsOf, of_steps, of_all, SaySteps}
+use Rattle.dlk_replay.specs.Files.{StepLines, no_lines, one_more, no_row, accepted, bad, Becomes, whole, ended, unread, done_first, done_before}
+use Rattle.dlk_replay.specs.Files.{misnumbered, faulty, RowsOf, of_steps, of_all, SaySteps}
 use Rattle.dlk_replay.specs.Formats.{Said, TakesStep, HasOtherNumber, TakesNone, EndsFile, Format}
 use Rattle.dlk_replay.proofs.SaidSteps.{FrontSays, front_none, front_more, front_skipped, front_done}
 
@@ -57,7 +58,8 @@ module _ (Says : Format) (all : List (List ℕ)) where
         (subst (λ k. Becomes Says (r.front ++ line ∷ next ∷ left) (bad k why.Malformed)) two (done_before next left r.lines some ends))
 
   module _ (left : List (List ℕ)) (line : List ℕ) (place last : ℕ) (steps : List Step) (rows : List Provable) where
-    unfoldable pub reached_more : (step : Step) (new : List Provable) (r : Reached Says all (line ∷ left) place last steps rows) → Says r.front line (TakesStep step) →
+    unfoldable pub reached_more : (step : Step) (new : List Provable) (r : Reached Says all (line ∷ left) place last steps rows) →
+        Says r.front line (TakesStep step) →
         Adds rows step new → Reached Says all left (place + 1) (place + 1) (steps ++ step ∷ []) new
     reached_more step new r is adds =
         let place_is : length r.front + 1 ≡ place + 1 = ap (λ n. n + 1) (sym r.place_is) in

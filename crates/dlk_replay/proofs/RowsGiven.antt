@@ -70,7 +70,8 @@ begins _ _ _ (one_step {lines} {nodes} {steps} {line} before is) = begins_push l
 
 module _ (Other : Format) where
   -- in such a file each line says what it says in version 2
-  pub in_two : (before : List (List ℕ)) (line : List ℕ) (s : Said) → begins_two (before ++ line ∷ []) ≡ true → SaysNodeOrStep before line s → SaysIn Other before line s
+  pub in_two : (before : List (List ℕ)) (line : List ℕ) (s : Said) → begins_two (before ++ line ∷ []) ≡ true → SaysNodeOrStep before line s →
+      SaysIn Other before line s
   in_two before line s h is = subst (λ b. MatchBool b (SaysNodeOrStep before line s) (Other before line s)) (sym h) is
 
   -- the law

@@ -34,7 +34,8 @@ module _ (Says : Format) (one_said : (before : List (List ℕ)) (line : List ℕ
 
   says_from : (before lines : List (List ℕ)) (steps : List Step) → SaySteps Says before lines steps → SaysFrom lines before steps
   says_from _ _ _ (done is) = (EndsFile, is, refl)
-  says_from _ _ _ (more {before} {lines} {line} {step} {steps} is others) = (TakesStep step, is, (steps, refl, says_from (before ++ line ∷ []) lines steps others))
+  says_from _ _ _ (more {before} {lines} {line} {step} {steps} is others) =
+      (TakesStep step, is, (steps, refl, says_from (before ++ line ∷ []) lines steps others))
   says_from _ _ _ (none {before} {lines} {line} {steps} is others) = (TakesNone, is, says_from (before ++ line ∷ []) lines steps others)
 
   one_from : (lines before : List (List ℕ)) (a b : List Step) → SaysFrom lines before a → SaysFrom lines before b → a ≡ b
@@ -88,7 +89,8 @@ module _ (Says : Format) where
   pub front_many : (front : List (List ℕ)) (steps : List Step) (rows : List Provable) → FrontSays Says front steps rows → length steps ≡ length rows
   front_many front steps rows f = as_many steps rows f.taken
 
-  front_says : (front : List (List ℕ)) (rows : List Provable) (last : ℕ) → StepLines Says front rows last → (steps : List Step) × FrontSays Says front steps rows
+  front_says : (front : List (List ℕ)) (rows : List Provable) (last : ℕ) → StepLines Says front rows last →
+      (steps : List Step) × FrontSays Says front steps rows
   front_says _ _ _ no_lines = ([], front_none)
   front_says _ _ _ (one_more {lines} {rows} {last} {line} {step} {p} before is given) =
       let said = front_says lines rows last before in

@@ -1,5 +1,6 @@
 -- What a line says of its file, by the version of the file and the nodes so far.
-use Rattle.std.proofs.Common.{◌≡◌, ℕ, ◌+◌, Bool, true, false, List, [], ◌∷◌, ◌++◌, length, map, refl, sym, ap, subst, ◌∙◌, append_assoc, arith, inl, inr, eq-eqb}
+use Rattle.std.proofs.Common.{◌≡◌, ℕ, ◌+◌, Bool, true, false, List, [], ◌∷◌, ◌++◌, length, map, refl, sym, ap, subst, ◌∙◌, append_assoc, arith, inl}
+use Rattle.std.proofs.Common.{inr, eq-eqb}
 use Rattle.std.specs.Prelude.{◌==◌, All, MatchBool, if◌then◌else◌}
 use Rattle.std.proofs.lemmas.Bool.{cases_Bool, eqb-true}
 use Rattle.std.proofs.lemmas.List.{length_push, length-map, map-append}
@@ -19,7 +20,8 @@ use Rattle.dlk_replay.specs.declared.fault.LineWhy.{LineWhy}
 use Rattle.dlk_replay.specs.declared.fault.LineWhy.TheVariants as why
 use Rattle.dlk_replay.specs.declared.version.Version.{Version}
 use Rattle.dlk_replay.specs.declared.version.Version.TheVariants as version
-use Rattle.dlk_replay.specs.Formats.{Said, TakesStep, HasOtherNumber, TakesNone, EndsFile, SaysLine, said_of, SaysNodeOrStep, behind_head, begins_two, SaysInFile}
+use Rattle.dlk_replay.specs.Formats.{Said, TakesStep, HasOtherNumber, TakesNone, EndsFile, SaysLine, said_of, SaysNodeOrStep, behind_head, begins_two}
+use Rattle.dlk_replay.specs.Formats.{SaysInFile}
 use Rattle.dlk_replay.specs.Replay.{IsLineInFull, IsLineOf, nodes_of, AreKnownNodes, IsBadLine, IsNextNode}
 use Rattle.dlk_replay.proofs.OneSaid.{said_parts, has_some}
 use Rattle.dlk_replay.proofs.Reached.{IsWrong}

@@ -35,7 +35,8 @@ one_said before line EndsFile EndsFile a b = refl
 -- ---- or none
 
 -- what a line says where it is known which line a text is
-said_if_line : (before : List (List ℕ)) (line : List ℕ) → ((l : Line) × IsLine line l) ⊎ ((l : Line) → ¬ IsLine line l) → ((s : Said) × SaysLine before line s) ⊎ ((s : Said) → ¬ SaysLine before line s)
+said_if_line : (before : List (List ℕ)) (line : List ℕ) → ((l : Line) × IsLine line l) ⊎ ((l : Line) → ¬ IsLine line l) →
+    ((s : Said) × SaysLine before line s) ⊎ ((s : Said) → ¬ SaysLine before line s)
 said_if_line before line (inl (Numbered number step, is)) = elim (cases_eq number (length before + 1)) [
   | inl right ↦ inl (TakesStep step, subst (λ n. IsLine line (Numbered n step)) right is)
   | inr other ↦ inl (HasOtherNumber, (number, step, is, other))

@@ -24,10 +24,12 @@ use Rattle.dlk_replay.specs.Files.{file_lines, FileRows, Verdict, accepted, bad}
 use Rattle.dlk_replay.specs.Formats.{TakesStep, TakesNone, EndsFile, head, SaysInFile}
 use Rattle.dlk_replay.specs.declared.version.Version.{Version}
 use Rattle.dlk_replay.specs.declared.version.Version.TheVariants as v
-use Rattle.dlk_replay.specs.Replay.{IsReplayFaultOf, LeavesRows, IsLineOf, nodes_of, AreKnownNodes, IsLineFault, IsNextStep, IsNextNode, Begins, SeesLast, kept_of, Shows, EndsWrong}
+use Rattle.dlk_replay.specs.Replay.{IsReplayFaultOf, LeavesRows, IsLineOf, nodes_of, AreKnownNodes, IsLineFault, IsNextStep, IsNextNode, Begins}
+use Rattle.dlk_replay.specs.Replay.{SeesLast, kept_of, Shows, EndsWrong}
 use Rattle.dlk_replay.proofs.SaidSteps.{front_many}
 use Rattle.dlk_replay.proofs.FileLines.{some_line}
-use Rattle.dlk_replay.proofs.Reached.{Reached, reached_none, reached_more, reached_skip, front_rows, bad_line, all_accepted, all_said, no_end, goes_on, begins_done, done_left}
+use Rattle.dlk_replay.proofs.Reached.{Reached, reached_none, reached_more, reached_skip, front_rows, bad_line, all_accepted, all_said, no_end}
+use Rattle.dlk_replay.proofs.Reached.{goes_on, begins_done, done_left}
 use Rattle.dlk_replay.proofs.Standing.{Tells, Stands, tells, stands_step, stands_kept, stands_node, says_step, says_node, says_end, is_wrong}
 
 -- the line of a step and its row
@@ -200,10 +202,12 @@ module _ {V : Type 0} {after : V → Line → V} {all left : List (List ℕ)} {l
   line_fault (Bad at reason) is =
       let r = s.reached in
       subst (λ n. Verdict all (bad n reason)) (sym is.0)
-      (bad_line SaysInFile all left line place last s.taken rows reason r (is_wrong (IsLineOf trees version) (nodes_of version) r.front rows line told reason is.1))
+      (bad_line SaysInFile all left line place last s.taken rows reason r
+          (is_wrong (IsLineOf trees version) (nodes_of version) r.front rows line told reason is.1))
   line_fault Memory is = tt
 
-  pub line_left : (new : List Provable) (fault : ReplayFault) → new ≡ rows → IsLineFault (IsLineOf trees version) (nodes_of version) (place + 1) rows line fault →
+  pub line_left : (new : List Provable) (fault : ReplayFault) → new ≡ rows →
+      IsLineFault (IsLineOf trees version) (nodes_of version) (place + 1) rows line fault →
       LeavesRows all new fault
   line_left new (Bad at reason) same is =
       let before_it : at - 1 ≡ place = omega (arith, is.0) in
@@ -222,7 +226,8 @@ module _ {V : Type 0} {after : V → Line → V} {all : List (List ℕ)} {place 
   short_left s = front_rows SaysInFile all [] place last s.taken rows s.reached
 
   -- the last line was `done`
-  pub ends_well : (line : List ℕ) → SoFar after all (line ∷ []) place last trees version rows keep kept before now → IsLineOf trees version line Done → 1 ≤ length rows →
+  pub ends_well : (line : List ℕ) → SoFar after all (line ∷ []) place last trees version rows keep kept before now → IsLineOf trees version line Done →
+      1 ≤ length rows →
       (at : ℕ) → at ≡ last → Verdict all (accepted rows at)
   ends_well line s is_done some at is =
       subst (λ n. Verdict all (accepted rows n)) (sym is) (all_accepted SaysInFile all place last s.taken rows line s.reached some (its_end s is_done))

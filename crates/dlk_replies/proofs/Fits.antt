@@ -1,5 +1,6 @@
 -- Words that have a form are as many as it has.
-use Rattle.std.proofs.Common.{◌≡◌, ℕ, ◌+◌, ◌-◌, ◌≤◌, Bool, true, false, cond, List, [], ◌∷◌, length, map, take, drop, get_or, Some, IsTrue, find, String, string_bytes, refl, sym, ap, ◌∙◌, arith, bytes_eq}
+use Rattle.std.proofs.Common.{◌≡◌, ℕ, ◌+◌, ◌-◌, ◌≤◌, Bool, true, false, cond, List, [], ◌∷◌, length, map, take, drop, get_or, Some, IsTrue, find}
+use Rattle.std.proofs.Common.{String, string_bytes, refl, sym, ap, ◌∙◌, arith, bytes_eq}
 use Rattle.std.specs.Prelude.{◌&&◌, nat_le}
 use Rattle.std.proofs.lemmas.List.{length-map, take-map, take_all, drop-drop, length-drop}
 use Rattle.std.specs.List.{drop-map}
@@ -40,11 +41,13 @@ pub long_enough : (words : List (List ℕ)) (command : Command) → command_of w
 long_enough words command h = (behind_command words command h).room
 
 -- and the words behind the inputs are those of the form
-pub others_end : (words : List (List ℕ)) (command : Command) → command_of words ≡ Some command → IsTrue (ends_in (form_of command).last (others_of command words))
+pub others_end : (words : List (List ℕ)) (command : Command) → command_of words ≡ Some command →
+    IsTrue (ends_in (form_of command).last (others_of command words))
 others_end words command h = (behind_command words command h).ends
 
 -- there is room for the inputs after the verb
-pub room : (words : List (String Global)) (command : Command) (n : ℕ) → n ≡ length (form_of command).inputs → command_of (map string_bytes words) ≡ Some command → 1 + n ≤ length words
+pub room : (words : List (String Global)) (command : Command) (n : ℕ) → n ≡ length (form_of command).inputs →
+    command_of (map string_bytes words) ≡ Some command → 1 + n ≤ length words
 room words command n count h = omega (arith, long_enough (map string_bytes words) command h, length-map words (string_bytes {Z = Global}))
 
 pub names_there : (words : List (String Global)) (command : Command) (n : ℕ) → n ≡ length (form_of command).inputs →
@@ -52,14 +55,17 @@ pub names_there : (words : List (String Global)) (command : Command) (n : ℕ) �
 names_there words command n count =
     let k = length (form_of command).inputs in
     let same : 1 + n - 1 ≡ k = omega (arith, count) in
-    ap (λ (m : ℕ). map string_bytes (take m (drop 1 words))) same ∙ sym (take-map string_bytes k (drop 1 words)) ∙ ap (λ (ws : List (List ℕ)). take k ws) (sym (drop-map string_bytes 1 words))
+    ap (λ (m : ℕ). map string_bytes (take m (drop 1 words))) same ∙ sym (take-map string_bytes k (drop 1 words))
+        ∙ ap (λ (ws : List (List ℕ)). take k ws) (sym (drop-map string_bytes 1 words))
 
 pub others_there : (words : List (String Global)) (command : Command) (n : ℕ) → n ≡ length (form_of command).inputs →
     map string_bytes (take (length words - (1 + n)) (drop (1 + n) words)) ≡ others_of command (map string_bytes words)
 others_there words command n count =
-    let whole : take (length words - (1 + n)) (drop (1 + n) words) ≡ drop (1 + n) words = take_all (length words - (1 + n)) (drop (1 + n) words) (omega (arith, length-drop (1 + n) words)) in
+    let whole : take (length words - (1 + n)) (drop (1 + n) words) ≡ drop (1 + n) words =
+        take_all (length words - (1 + n)) (drop (1 + n) words) (omega (arith, length-drop (1 + n) words)) in
     let twice : drop (1 + n) words ≡ drop n (drop 1 words) = sym (drop-drop n 1 words) in
-    ap (map string_bytes) (whole ∙ twice) ∙ sym (drop-map string_bytes n (drop 1 words)) ∙ ap (λ (ws : List (List ℕ)). drop n ws) (sym (drop-map string_bytes 1 words))
+    ap (map string_bytes) (whole ∙ twice) ∙ sym (drop-map string_bytes n (drop 1 words))
+        ∙ ap (λ (ws : List (List ℕ)). drop n ws) (sym (drop-map string_bytes 1 words))
     ∙ ap (λ (m : ℕ). drop m (drop 1 (map string_bytes words))) count
 
 -- the first input that is too long is sought among these names and roles
@@ -68,11 +74,14 @@ pub same_sought : (c : Command) (words names : List Word) (form : CodeForm) (tex
 same_sought c words names form texts is_names is_form = λ i. first_too_long (is_names i) (map limit_of (is_form i).inputs) texts
 
 -- words whose first is the verb, by the words behind their inputs
-pub verb_and_rest : (words rest : List (String Global)) (verb : String Global) (form : Form) → 1 ≤ length words → verb ≡ get_or words 0 verb → bytes_eq (string_bytes verb) form.verb ≡ true →
-    length form.inputs ≤ length words - 1 → rest ≡ drop (length form.inputs) (drop 1 words) → ends_in form.last (map string_bytes rest) ≡ has_form (map string_bytes words) form
+pub verb_and_rest : (words rest : List (String Global)) (verb : String Global) (form : Form) → 1 ≤ length words → verb ≡ get_or words 0 verb →
+    bytes_eq (string_bytes verb) form.verb ≡ true →
+    length form.inputs ≤ length words - 1 → rest ≡ drop (length form.inputs) (drop 1 words) →
+        ends_in form.last (map string_bytes rest) ≡ has_form (map string_bytes words) form
 verb_and_rest [] rest verb form some first same fits is = absurd (omega arith)
 verb_and_rest (w ∷ ws) rest verb form some first same fits is =
     let k = length form.inputs in
     let here : bytes_eq (string_bytes w) form.verb ≡ true = ap (λ v. bytes_eq (string_bytes v) form.verb) (sym first) ∙ same in
-    let room : nat_le k (length (map string_bytes ws)) ≡ true = le-leb k (length (map string_bytes ws)) (omega (arith, fits, length-map ws (string_bytes {Z = Global}))) in
+    let room : nat_le k (length (map string_bytes ws)) ≡ true =
+        le-leb k (length (map string_bytes ws)) (omega (arith, fits, length-map ws (string_bytes {Z = Global}))) in
     ap (λ l. ends_in form.last (map string_bytes l)) is ∙ ap (ends_in form.last) (sym (drop-map string_bytes k ws)) ∙ rw (here, room) refl

@@ -11,7 +11,8 @@ use Rattle.dlk_replies.specs.Replies.{Reply}
 use Rattle.dlk_replies.specs.Refusals.{text_refused}
 use Rattle.dlk_replies.specs.Refused.{IsTextRefused}
 
-module _ (role : Role) (IsFault : TextFault → Type 0) (IsAnswer : Reply → Type 0) (answers : (why : TextFault) → IsFault why → IsAnswer (text_refused role why)) where
+module _ (role : Role) (IsFault : TextFault → Type 0) (IsAnswer : Reply → Type 0)
+    (answers : (why : TextFault) → IsFault why → IsAnswer (text_refused role why)) where
   by_fault : (why : TextFault) (reply : Reply) → IsFault why → reply ≡ text_refused role why → IsAnswer reply
   by_fault why reply fault is = subst IsAnswer (sym is) (answers why fault)
 

@@ -1,5 +1,6 @@
 -- The compact text of a report's value is its JSON.
-use Rattle.std.proofs.Common.{◌≡◌, ℕ, ◌==◌, Bool, true, false, List, [], ◌∷◌, ◌++◌, map, drop, codes, decimal, append_assoc, refl, sym, ap, ◌∙◌, subst, inl, inr}
+use Rattle.std.proofs.Common.{◌≡◌, ℕ, ◌==◌, Bool, true, false, List, [], ◌∷◌, ◌++◌, map, drop, codes, decimal, append_assoc, refl, sym, ap, ◌∙◌}
+use Rattle.std.proofs.Common.{subst, inl, inr}
 use Rattle.std.specs.List.{flat_map, join_with_byte}
 use Rattle.std.proofs.lemmas.Bool.Decides.{eqb_tells}
 use Rattle.serde_json.specs.Data.{Data, string}
@@ -33,12 +34,14 @@ behind_quote-cons b text =
 
 behind_quote_is : (text : List ℕ) → behind_quote text ≡ flat_map escaped text ++ 34 ∷ []
 behind_quote_is [] = refl
-behind_quote_is (b ∷ text) = behind_quote-cons b text ∙ ap (λ rest. escaped b ++ rest) (behind_quote_is text) ∙ sym (append_assoc (escaped b) (flat_map escaped text) (34 ∷ []))
+behind_quote_is (b ∷ text) = behind_quote-cons b text ∙ ap (λ rest. escaped b ++ rest) (behind_quote_is text)
+    ∙ sym (append_assoc (escaped b) (flat_map escaped text) (34 ∷ []))
 
 text_is : (text : List ℕ) → compact_text (string text) ≡ in_quotes text
 text_is text = ap (λ rest. 34 ∷ rest) (behind_quote_is text)
 
-items_from : (text : List ℕ) (texts : List (List ℕ)) → compact_text (string text) ++ items_text true (items_of (map string texts)) ≡ join_with_byte 44 (map in_quotes (text ∷ texts)) ++ 93 ∷ []
+items_from : (text : List ℕ) (texts : List (List ℕ)) →
+    compact_text (string text) ++ items_text true (items_of (map string texts)) ≡ join_with_byte 44 (map in_quotes (text ∷ texts)) ++ 93 ∷ []
 items_from text [] = ap (λ q. q ++ 93 ∷ []) (text_is text)
 items_from text (next ∷ texts) =
     ap (λ q. q ++ 44 ∷ (compact_text (string next) ++ items_text true (items_of (map string texts)))) (text_is text)

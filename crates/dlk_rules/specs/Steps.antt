@@ -7,7 +7,9 @@ use Rattle.dlk_store.specs.declared.Id.{Id}
 use Rattle.dlk_store.specs.Stores.{IsId, tree}
 use Rattle.dlk_calculus.specs.declared.reason.Reason.{Reason}
 use Rattle.dlk_calculus.specs.declared.reason.Reason.TheVariants.{NoPlace, WrongShape, NotEqual, NotFresh}
-use Rattle.dlk_calculus.specs.Rules.{Rule as TreeRule, Close, CloseTrue, CloseFalse, NotL, NotR, AndL, AndR, OrL, OrR, ImplyL, ImplyR, EquivL, EquivR, Cut, CutL, CutR, HideL, HideR, CoHideR, ExchangeL, ExchangeR, SkolemL, SkolemR, BoundL, BoundR, EquivifyR, CommuteEquivL, CommuteEquivR, Premises}
+use Rattle.dlk_calculus.specs.Rules.{Rule as TreeRule, Close, CloseTrue, CloseFalse, NotL, NotR, AndL, AndR, OrL, OrR, ImplyL, ImplyR, EquivL, EquivR}
+use Rattle.dlk_calculus.specs.Rules.{Cut, CutL, CutR, HideL, HideR, CoHideR, ExchangeL, ExchangeR, SkolemL, SkolemR, BoundL, BoundR, EquivifyR}
+use Rattle.dlk_calculus.specs.Rules.{CommuteEquivL, CommuteEquivR, Premises}
 use Rattle.dlk_calculus.specs.Steps.{Step as TreeStep, Start, UseAxiom, UseRule, Leaf, Apply, Merge, Substitute, Rename}
 use Rattle.dlk_sequent.specs.declared.sequent.Sequent.{Sequent}
 use Rattle.dlk_sequent.specs.Sequents.{sequent_at, IsKnown}

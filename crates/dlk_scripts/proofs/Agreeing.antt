@@ -4,7 +4,10 @@ use Rattle.dlk_scripts.specs.declared.part.PartKind.{PartKind}
 use Rattle.dlk_scripts.specs.declared.part.PartKind.TheVariants as kind
 use Rattle.dlk_scripts.specs.Scripts.{Word, Place, Right, Left, Argument, At, Sequence, Repeat, Once, Times, Group, Atom, Call, most_repeats, repeats}
 use Rattle.dlk_scripts.specs.Table.{when, top, joins, repeated, wants, next, number, first_number, argument, argued, place, leads, changed}
-use Rattle.dlk_scripts.proofs.Grown.{Bars, Semis, NoSemi, Semi, Stack, Top, InGroup, InFork, ArgumentCommas, callee, Piece, Begun, Signed, InPlace, Dotted, Whole, Grown, Wanting, Come, Stars, Branched, InCall, sequence_of, grow_joins, grow_come, grow_wants, grow_next, grow_wanting, grow_stars, grow_argued, grow_argument, grow_signed, grow_place, grow_dotted, grow_in_call, grow}
+use Rattle.dlk_scripts.proofs.Grown.{Bars, Semis, NoSemi, Semi, Stack, Top, InGroup, InFork, ArgumentCommas, callee, Piece, Begun, Signed, InPlace}
+use Rattle.dlk_scripts.proofs.Grown.{Dotted, Whole, Grown, Wanting, Come, Stars, Branched, InCall, sequence_of, grow_joins, grow_come, grow_wants}
+use Rattle.dlk_scripts.proofs.Grown.{grow_next, grow_wanting, grow_stars, grow_argued, grow_argument, grow_signed, grow_place, grow_dotted}
+use Rattle.dlk_scripts.proofs.Grown.{grow_in_call, grow}
 use Rattle.dlk_scripts.specs.declared.mode.Mode.{Mode}
 use Rattle.dlk_scripts.specs.declared.mode.Mode.TheVariants as mode
 use Rattle.dlk_scripts.specs.declared.mode.Opening.{Opening}

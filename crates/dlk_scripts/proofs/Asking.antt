@@ -1,5 +1,6 @@
 -- What had to be wanted for a part to come, and the byte that comes behind whole parts.
-use Rattle.std.proofs.Common.{◌≡◌, ℕ, ◌≤◌, nat_le, Bool, true, false, List, [], ◌∷◌, ◌++◌, Option, Some, None, refl, sym, ap, subst, ◌∙◌, if◌then◌else◌, option_and_then}
+use Rattle.std.proofs.Common.{◌≡◌, ℕ, ◌≤◌, nat_le, Bool, true, false, List, [], ◌∷◌, ◌++◌, Option, Some, None, refl, sym, ap, subst, ◌∙◌}
+use Rattle.std.proofs.Common.{if◌then◌else◌, option_and_then}
 use Rattle.std.proofs.lemmas.Bool.{leb-true, both_ways}
 use Rattle.dlk_tree.specs.Names.{is_letter, is_name_byte, is_name}
 use Rattle.dlk_grammar.specs.Tokens.{is_digit, value}

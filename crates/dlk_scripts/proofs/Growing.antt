@@ -6,9 +6,17 @@ use Rattle.dlk_scripts.specs.declared.part.Part.{Part}
 use Rattle.dlk_scripts.specs.declared.part.PartKind.{PartKind}
 use Rattle.dlk_scripts.specs.declared.part.PartKind.TheVariants as kind
 use Rattle.dlk_scripts.specs.Parts.{part}
-use Rattle.dlk_scripts.specs.Scripts.{Place, Right, Left, Argument, At, Script, Sequence, Repeat, Once, Times, Group, Atom, Call, place_parts, argument_parts, arguments_parts, script_parts, sequence_parts, scripts_parts, repeat_parts, most_repeats, repeats, PlaceFits, ArgumentFits, ArgumentsFit, ScriptFits, SequenceFits, ScriptsFit, RepeatFits}
+use Rattle.dlk_scripts.specs.Scripts.{Place, Right, Left, Argument, At, Script, Sequence, Repeat, Once, Times, Group, Atom, Call, place_parts}
+use Rattle.dlk_scripts.specs.Scripts.{argument_parts, arguments_parts, script_parts, sequence_parts, scripts_parts, repeat_parts, most_repeats}
+use Rattle.dlk_scripts.specs.Scripts.{repeats, PlaceFits, ArgumentFits, ArgumentsFit, ScriptFits, SequenceFits, ScriptsFit, RepeatFits}
 use Rattle.dlk_scripts.specs.Table.{when}
-use Rattle.dlk_scripts.proofs.Grown.{Bars, NoBar, Bar, Semis, NoSemi, Semi, Commas, NoComma, Comma, Stack, Top, InGroup, InFork, ArgumentCommas, NoArgument, Before, Callee, callee, Piece, Begun, Signed, InPlace, Dotted, Whole, Grown, Wanting, Come, Stars, Branched, InCall, sequence_of, script_of, scripts_of, arguments_of, grow_comma, grow_close, grow_joins, grow_call, grow_come, grow_wants, grow_next, grow_wanting, grow_stars, grow_argued, grow_argument, grow_signed, grow_place, grow_dotted, grow_in_call, grow, bars_parts, semis_parts, commas_parts, stack_parts, argument_commas_parts, callee_parts, piece_parts, grown_parts, BarsFit, SemisFit, CommasFit, StackFits, ArgumentCommasFit, CalleeFits, PieceFits, GrownFits}
+use Rattle.dlk_scripts.proofs.Grown.{Bars, NoBar, Bar, Semis, NoSemi, Semi, Commas, NoComma, Comma, Stack, Top, InGroup, InFork, ArgumentCommas}
+use Rattle.dlk_scripts.proofs.Grown.{NoArgument, Before, Callee, callee, Piece, Begun, Signed, InPlace, Dotted, Whole, Grown, Wanting, Come, Stars}
+use Rattle.dlk_scripts.proofs.Grown.{Branched, InCall, sequence_of, script_of, scripts_of, arguments_of, grow_comma, grow_close, grow_joins}
+use Rattle.dlk_scripts.proofs.Grown.{grow_call, grow_come, grow_wants, grow_next, grow_wanting, grow_stars, grow_argued, grow_argument, grow_signed}
+use Rattle.dlk_scripts.proofs.Grown.{grow_place, grow_dotted, grow_in_call, grow, bars_parts, semis_parts, commas_parts, stack_parts}
+use Rattle.dlk_scripts.proofs.Grown.{argument_commas_parts, callee_parts, piece_parts, grown_parts, BarsFit, SemisFit, CommasFit, StackFits}
+use Rattle.dlk_scripts.proofs.Grown.{ArgumentCommasFit, CalleeFits, PieceFits, GrownFits}
 
 sequence_parts_of : (Q : Semis) (r : Repeat) → sequence_parts (sequence_of Q r) ≡ semis_parts Q ++ repeat_parts r
 sequence_parts_of NoSemi r = refl

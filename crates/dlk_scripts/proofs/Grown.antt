@@ -4,7 +4,11 @@ use Rattle.dlk_scripts.specs.declared.part.Part.{Part}
 use Rattle.dlk_scripts.specs.declared.part.PartKind.{PartKind}
 use Rattle.dlk_scripts.specs.declared.part.PartKind.TheVariants as kind
 use Rattle.dlk_scripts.specs.Parts.{part}
-use Rattle.dlk_scripts.specs.Scripts.{Word, Place, Right, Left, Below, Argument, At, AnyLeft, AnyRight, Word', Quoted, Arguments, OneArgument, ThenArgument, Script, OneSequence, OrSequence, Sequence, OneRepeat, ThenRepeat, ThenBranch, Scripts, OneScript, ThenScript, Repeat, Once, Times, Group, Atom, Call, place_parts, argument_parts, arguments_parts, script_parts, sequence_parts, scripts_parts, repeat_parts, most_repeats, repeats, PlaceFits, ArgumentFits, ArgumentsFit, ScriptFits, SequenceFits, ScriptsFit, RepeatFits}
+use Rattle.dlk_scripts.specs.Scripts.{Word, Place, Right, Left, Below, Argument, At, AnyLeft, AnyRight, Word', Quoted, Arguments, OneArgument}
+use Rattle.dlk_scripts.specs.Scripts.{ThenArgument, Script, OneSequence, OrSequence, Sequence, OneRepeat, ThenRepeat, ThenBranch, Scripts, OneScript}
+use Rattle.dlk_scripts.specs.Scripts.{ThenScript, Repeat, Once, Times, Group, Atom, Call, place_parts, argument_parts, arguments_parts, script_parts}
+use Rattle.dlk_scripts.specs.Scripts.{sequence_parts, scripts_parts, repeat_parts, most_repeats, repeats, PlaceFits, ArgumentFits, ArgumentsFit}
+use Rattle.dlk_scripts.specs.Scripts.{ScriptFits, SequenceFits, ScriptsFit, RepeatFits}
 use Rattle.dlk_scripts.specs.Table.{when}
 
 -- what stands up to the last "|", up to the last ";" and up to the last "," in the innermost bracket

@@ -5,8 +5,14 @@ use Rattle.dlk_scripts.specs.declared.part.Part.{Part}
 use Rattle.dlk_scripts.specs.declared.part.PartKind.{PartKind}
 use Rattle.dlk_scripts.specs.declared.part.PartKind.TheVariants as kind
 use Rattle.dlk_scripts.specs.Parts.{part}
-use Rattle.dlk_scripts.specs.Scripts.{Word, Place, Right, Left, Below, Argument, At, AnyLeft, AnyRight, Word', Quoted, Arguments, OneArgument, ThenArgument, Script, OneSequence, OrSequence, Sequence, OneRepeat, ThenRepeat, ThenBranch, Scripts, OneScript, ThenScript, Repeat, Once, Times, Primary, Group, Atom, Call, place_parts, argument_parts, arguments_parts, script_parts, sequence_parts, scripts_parts, repeat_parts, primary_parts, most_repeats, repeats, PlaceFits, ArgumentFits, ArgumentsFit, ScriptFits, SequenceFits, ScriptsFit, RepeatFits, PrimaryFits}
-use Rattle.dlk_scripts.proofs.Grown.{Bars, NoBar, Bar, Semis, NoSemi, Semi, NoComma, Comma, Stack, Top, InGroup, InFork, ArgumentCommas, NoArgument, Before, Callee, callee, Piece, Begun, InPlace, Whole, Grown, Wanting, Come, Stars, Branched, InCall, script_of, arguments_of, grow_comma, grow_close, grow}
+use Rattle.dlk_scripts.specs.Scripts.{Word, Place, Right, Left, Below, Argument, At, AnyLeft, AnyRight, Word', Quoted, Arguments, OneArgument}
+use Rattle.dlk_scripts.specs.Scripts.{ThenArgument, Script, OneSequence, OrSequence, Sequence, OneRepeat, ThenRepeat, ThenBranch, Scripts, OneScript}
+use Rattle.dlk_scripts.specs.Scripts.{ThenScript, Repeat, Once, Times, Primary, Group, Atom, Call, place_parts, argument_parts, arguments_parts}
+use Rattle.dlk_scripts.specs.Scripts.{script_parts, sequence_parts, scripts_parts, repeat_parts, primary_parts, most_repeats, repeats, PlaceFits}
+use Rattle.dlk_scripts.specs.Scripts.{ArgumentFits, ArgumentsFit, ScriptFits, SequenceFits, ScriptsFit, RepeatFits, PrimaryFits}
+use Rattle.dlk_scripts.proofs.Grown.{Bars, NoBar, Bar, Semis, NoSemi, Semi, NoComma, Comma, Stack, Top, InGroup, InFork, ArgumentCommas, NoArgument}
+use Rattle.dlk_scripts.proofs.Grown.{Before, Callee, callee, Piece, Begun, InPlace, Whole, Grown, Wanting, Come, Stars, Branched, InCall, script_of}
+use Rattle.dlk_scripts.proofs.Grown.{arguments_of, grow_comma, grow_close, grow}
 use Rattle.std.proofs.lemmas.Bool.{lt-ltb, le-leb}
 use Rattle.dlk_scripts.proofs.Growing.{finished}
 

@@ -1,5 +1,6 @@
 -- A step leads from what has been reached to what has been reached with one more byte.
-use Rattle.std.proofs.Common.{◌≡◌, ℕ, ◌==◌, ◌&&◌, ◌||◌, nat_le, Bool, true, false, List, [], ◌∷◌, ◌++◌, length, Option, Some, None, refl, sym, ap, subst, ◌∙◌, append_assoc, codes, if◌then◌else◌}
+use Rattle.std.proofs.Common.{◌≡◌, ℕ, ◌==◌, ◌&&◌, ◌||◌, nat_le, Bool, true, false, List, [], ◌∷◌, ◌++◌, length, Option, Some, None, refl, sym, ap}
+use Rattle.std.proofs.Common.{subst, ◌∙◌, append_assoc, codes, if◌then◌else◌}
 use Rattle.std.specs.List.{list_all}
 use Rattle.std.proofs.lemmas.Bool.{and_parts, leb-true, eqb-true}
 use Rattle.std.proofs.lemmas.List.{append-nil}
@@ -14,7 +15,8 @@ use Rattle.dlk_scripts.specs.declared.state.State.{State}
 use Rattle.dlk_scripts.specs.Parts.{part, is_no_quote, most_digits, Spells, slash_first, holds_end, IsComment, Spelled}
 use Rattle.dlk_scripts.specs.Parts as spell
 use Rattle.dlk_scripts.specs.Steps.{take, moves, digits_go_on, ends_name, ends_number, then_starts, step_in, step, settle_in, settle}
-use Rattle.dlk_scripts.proofs.Reached.{Held, Settled, took, star_last, InComment, Pending, Wanted, Placed, ReachedIn, Reached, settled_reached, branches, when_so, started}
+use Rattle.dlk_scripts.proofs.Reached.{Held, Settled, took, star_last, InComment, Pending, Wanted, Placed, ReachedIn, Reached, settled_reached}
+use Rattle.dlk_scripts.proofs.Reached.{branches, when_so, started}
 
 -- a byte more in the same place, with the rest the same
 held_as : (y z : State) → z.parts ≡ y.parts → z.mode ≡ y.mode → z.opens ≡ y.opens → Held y → Held z

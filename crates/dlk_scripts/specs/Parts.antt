@@ -5,7 +5,8 @@ use Rattle.dlk_tree.specs.Names.{is_name}
 use Rattle.dlk_grammar.specs.Tokens.{is_space, are_digits, value}
 use Rattle.dlk_scripts.specs.declared.part.Part.{Part}
 use Rattle.dlk_scripts.specs.declared.part.PartKind.{PartKind}
-use Rattle.dlk_scripts.specs.declared.part.PartKind.TheVariants.{Open, Close, Fork, Semicolon, Bar, Comma, Star, Minus, Point, AnyLeft, AnyRight, Name, Number, Quoted}
+use Rattle.dlk_scripts.specs.declared.part.PartKind.TheVariants.{Open, Close, Fork, Semicolon, Bar, Comma, Star, Minus, Point, AnyLeft, AnyRight}
+use Rattle.dlk_scripts.specs.declared.part.PartKind.TheVariants.{Name, Number, Quoted}
 
 -- the part whose first byte is at this place
 abbrev pub part : ℕ → PartKind → Part

@@ -43,7 +43,8 @@ pub dot_found : (m n : ℕ) (t : Tree) → has (is_dot_from m) t ≡ has (is_dot
 dot_found m n t passed found = (λ i. found i || has (is_dot_from (n + 1)) t) ∙ sym (passed ∙ dot_or_later n t)
 
 -- or it doesn't
-pub dot_passed : (m n : ℕ) (t : Tree) → has (is_dot_from m) t ≡ has (is_dot_from n) t → false ≡ has_dot n t → has (is_dot_from m) t ≡ has (is_dot_from (n + 1)) t
+pub dot_passed : (m n : ℕ) (t : Tree) → has (is_dot_from m) t ≡ has (is_dot_from n) t → false ≡ has_dot n t →
+    has (is_dot_from m) t ≡ has (is_dot_from (n + 1)) t
 dot_passed m n t passed missing = passed ∙ dot_or_later n t ∙ (λ i. sym missing i || has (is_dot_from (n + 1)) t)
 
 late_number : (n m : ℕ) → 8 ≤ n → ltb m 8 ≡ true → leb n m ≡ false

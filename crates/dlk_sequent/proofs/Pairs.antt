@@ -1,5 +1,6 @@
 -- The pairs of a list one by one: their symbols, the first bad one, and whether a replacement has a free variable.
-use Rattle.std.proofs.Common.{◌≡◌, ◌∙◌, ℕ, suc, zero, ◌+◌, ◌-◌, ◌<◌, ◌≤◌, List, [], ◌∷◌, length, take, drop, get_or, Option, Some, None, Bool, true, false, ◌||◌, refl, sym, ap, subst, arith, inl, inr, ⊎_elim}
+use Rattle.std.proofs.Common.{◌≡◌, ◌∙◌, ℕ, suc, zero, ◌+◌, ◌-◌, ◌<◌, ◌≤◌, List, [], ◌∷◌, length, take, drop, get_or, Option, Some, None, Bool, true}
+use Rattle.std.proofs.Common.{false, ◌||◌, refl, sym, ap, subst, arith, inl, inr, ⊎_elim}
 use Rattle.std.specs.Prelude.{IsTrue}
 use Rattle.std.specs.List.{list_any}
 use Rattle.std.proofs.lemmas.List.{drop_more, drop_all, take-map, length-map}
@@ -102,8 +103,10 @@ free_at trees [] i d within h = absurd (omega arith)
 free_at trees (p ∷ pairs) zero d within h = inl h
 free_at trees (p ∷ pairs) (suc i) d within h = inr (free_at trees pairs i d (omega arith) h)
 
-pub free_later : (trees : List Tree) (pairs : List Pair) (i : ℕ) (d : Pair) → i < length pairs → (IsFree trees (get_or pairs i d) → ⊥) → IsFreeIn (pairs_at trees (drop i pairs)) → IsFreeIn (pairs_at trees (drop (i + 1) pairs))
-free_later trees pairs i d within bare h = ⊎_elim (λ here. absurd (bare here)) (λ later. later) (subst (λ (rest : List Pair). IsFreeIn (pairs_at trees rest)) (drop_more pairs i d within) h)
+pub free_later : (trees : List Tree) (pairs : List Pair) (i : ℕ) (d : Pair) → i < length pairs → (IsFree trees (get_or pairs i d) → ⊥) →
+    IsFreeIn (pairs_at trees (drop i pairs)) → IsFreeIn (pairs_at trees (drop (i + 1) pairs))
+free_later trees pairs i d within bare h =
+    ⊎_elim (λ here. absurd (bare here)) (λ later. later) (subst (λ (rest : List Pair). IsFreeIn (pairs_at trees rest)) (drop_more pairs i d within) h)
 
 pub free_nowhere : (trees : List Tree) (pairs : List Pair) (i : ℕ) → length pairs ≤ i → IsFreeIn (pairs_at trees (drop i pairs)) → ⊥
 free_nowhere trees pairs i past h = subst (λ (rest : List Pair). IsFreeIn (pairs_at trees rest)) (drop_all i pairs past) h

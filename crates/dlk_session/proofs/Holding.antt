@@ -1,5 +1,6 @@
 -- Sessions over stores that grow: what they hold, and the states that they stand for.
-use Rattle.std.proofs.Common.{◌≡◌, ℕ, ◌-◌, ◌*◌, ◌≤◌, ◌<◌, List, [], ◌∷◌, ◌++◌, take, drop, map, length, Option, Some, None, refl, sym, ap, subst, ◌∙◌, arith, length-append, length-take}
+use Rattle.std.proofs.Common.{◌≡◌, ℕ, ◌-◌, ◌*◌, ◌≤◌, ◌<◌, List, [], ◌∷◌, ◌++◌, take, drop, map, length, Option, Some, None, refl, sym, ap, subst, ◌∙◌}
+use Rattle.std.proofs.Common.{arith, length-append, length-take}
 use Rattle.std.specs.List.{All}
 use Rattle.std.specs.Prelude.{option_map}
 use Rattle.std.proofs.lemmas.List.{map-append, length-map, take-map, take-take, take-append-le, take-append-drop, take_all}
@@ -54,7 +55,8 @@ module _ (trees : List Tree) where
         within = omega (arith, few, within, s.within, n, ap length is);
         there = omega (arith, few, s.there);
         same = ap (map f) (sym (take-take fewer count all few)) ∙ sym (take-map f fewer (take count all)) ∙ ap (take fewer) s.same
-            ∙ take-map f fewer (take count steps) ∙ ap (map f) (take-take fewer count steps few ∙ sym (take-take fewer cut steps within) ∙ ap (take fewer) (sym is));
+            ∙ take-map f fewer (take count steps) ∙ ap (map f)
+                (take-take fewer count steps few ∙ sym (take-take fewer cut steps within) ∙ ap (take fewer) (sym is));
       }
 
   -- all of them are
@@ -145,7 +147,8 @@ module _ {S : Type 0} (trees : S → List Tree) where
   rows_back old mid k rows extends is_rows e_rows e_store =
       let store : facts trees k ≡ map (provable_at (trees mid.store)) k.rows = ap (λ s. map (provable_at (trees s)) k.rows) e_store in
       let kept : map (provable_at (trees mid.store)) k.rows ≡ take (length old.rows) (facts trees mid) =
-      ap (map (provable_at (trees mid.store))) (e_rows ∙ ap (λ n. take n mid.rows) is_rows) ∙ sym (take-map (provable_at (trees mid.store)) (length old.rows) mid.rows) in
+      ap (map (provable_at (trees mid.store))) (e_rows ∙ ap (λ n. take n mid.rows) is_rows)
+          ∙ sym (take-map (provable_at (trees mid.store)) (length old.rows) mid.rows) in
       record { ids = e_rows ∙ ap (λ n. take n mid.rows) is_rows ∙ extends.ids; provables = store ∙ kept ∙ extends.provables }
 
   pub zero_no_goal : (k : KernelState S) (goal : ℕ) → goal ≡ 0 → ¬ IsPlace (main_goals (facts trees k)) goal
@@ -154,7 +157,8 @@ module _ {S : Type 0} (trees : S → List Tree) where
   pub past_no_goal : (k : KernelState S) (goal n : ℕ) → n ≡ length (main_goals (facts trees k)) → n < goal → ¬ IsPlace (main_goals (facts trees k)) goal
   past_no_goal k goal n e less p = absurd (omega (arith, e, less, p.1))
 
-  pub is_goal : (k : KernelState S) (goal n : ℕ) → n ≡ length (main_goals (facts trees k)) → (goal ≡ 0 → ⊥) → goal ≤ n → IsPlace (main_goals (facts trees k)) goal
+  pub is_goal : (k : KernelState S) (goal n : ℕ) → n ≡ length (main_goals (facts trees k)) → (goal ≡ 0 → ⊥) → goal ≤ n →
+      IsPlace (main_goals (facts trees k)) goal
   is_goal k goal n e some few = (omega (arith, some), omega (arith, e, few))
 
   -- ---- undoing
@@ -190,10 +194,13 @@ module _ {S : Type 0} (trees : S → List Tree) where
         let steps_are : take count (map (step_at (trees held.kernel.store)) held.steps) ≡ map (step_at (trees kernel.store)) steps =
         take-map (step_at (trees held.kernel.store)) count held.steps ∙ (λ i. map (step_at (trees (sym store i))) (sym are i)) in
         let P : State → Reply → Type 0 = λ next says. Undoes (state trees held) says next in
-        let state_is : record (state trees held) { steps = take count (state trees held).steps; rows = take count (state trees held).rows; earlier = before } ≡ state trees (cut kernel steps) =
-        λ i. record { steps = steps_are i; rows = facts_are i; earlier = before; used = held.used; saved = option_map (map (step_at (trees (sym store i)))) held.saved } in
+        let state_is : record (state trees held)
+            { steps = take count (state trees held).steps; rows = take count (state trees held).rows; earlier = before } ≡ state trees (cut kernel steps) =
+        λ i. record { steps = steps_are i; rows = facts_are i; earlier = before; used = held.used; saved =
+            option_map (map (step_at (trees (sym store i)))) held.saved } in
         let by_state : Undoes (state trees held) (reply.Ok (length (main_goals (take count (state trees held).rows)))) (state trees (cut kernel steps)) =
-        subst (λ (next : State). Undoes (state trees held) (reply.Ok (length (main_goals (take count (state trees held).rows)))) next) state_is (undone before count is) in
+        subst (λ (next : State). Undoes (state trees held) (reply.Ok (length (main_goals (take count (state trees held).rows)))) next) state_is
+            (undone before count is) in
         subst (λ (rs : List Provable). Undoes (state trees held) (reply.Ok (length (main_goals rs))) (state trees (cut kernel steps))) facts_are by_state
 
     pub undone_held : (kernel : KernelState S) (steps : List Step) → kernel.store ≡ held.kernel.store → kernel.rows ≡ take count held.kernel.rows →
@@ -244,7 +251,8 @@ module _ {S : Type 0} (trees : S → List Tree) where
 
   pub save_state : (held : Held S) (copies : List Step) → map (step_at (trees held.kernel.store)) copies ≡ map (step_at (trees held.kernel.store)) held.steps →
       state trees (record held { saved = Some copies }) ≡ saving (state trees held)
-  save_state held copies same = λ i. record { steps = (state trees held).steps; rows = facts trees held.kernel; earlier = held.earlier; used = held.used; saved = Some (same i) }
+  save_state held copies same = λ i. record { steps = (state trees held).steps; rows = facts trees held.kernel; earlier = held.earlier; used =
+      held.used; saved = Some (same i) }
 
 -- Steps stay while the store grows.
 module _ (known : (old new : List Tree) (step : Step) → Keeps old new → HasKnownIds old step → HasKnownIds new step)
@@ -312,7 +320,8 @@ module _ (known : (old new : List Tree) (step : Step) → Keeps old new → HasK
     still_held held kernel h keeps same = holds_as held kernel held.used (state trees held) h keeps (same_state held kernel h keeps same) h.kept
 
     -- with what is shared
-    pub still_shared : (held : Held S) (kernel : KernelState S) (shared : ℕ) → IsHeld trees held × AreShared (trees held.kernel.store) shared held.steps held.saved →
+    pub still_shared : (held : Held S) (kernel : KernelState S) (shared : ℕ) →
+        IsHeld trees held × AreShared (trees held.kernel.store) shared held.steps held.saved →
         Keeps (trees held.kernel.store) (trees kernel.store) → SameRows trees held.kernel kernel →
         IsHeld trees (record held { kernel = kernel }) × AreShared (trees kernel.store) shared held.steps held.saved
     still_shared held kernel shared h keeps rows = (
@@ -354,7 +363,8 @@ module _ (known : (old new : List Tree) (step : Step) → Keeps old new → HasK
             );
           }
 
-      pub ran_fails : (at used : ℕ) (why : FailWhy) → SameRows trees held.kernel kernel → becomes t (facts trees held.kernel) goal held.used (Fails at why used) →
+      pub ran_fails : (at used : ℕ) (why : FailWhy) → SameRows trees held.kernel kernel →
+          becomes t (facts trees held.kernel) goal held.used (Fails at why used) →
           Ran (record held { kernel = kernel; used = used }) (reply.Fails at why)
       ran_fails at used why same is = recounted_ran used (reply.Fails at why) same (fails there is)
 
@@ -390,7 +400,8 @@ module _ (known : (old new : List Tree) (step : Step) → Keeps old new → HasK
 
       pub ran_done : (new steps : List Step) (earlier : List ℕ) (mark used count left : ℕ) → steps ≡ held.steps ++ new → earlier ≡ held.earlier ++ mark ∷ [] →
           mark ≡ length held.kernel.rows → All (HasKnownIds (trees kernel.store)) new →
-          becomes t (facts trees held.kernel) goal held.used (Done (progress_at trees kernel new used) count) → left ≡ length (main_goals (facts trees kernel)) →
+          becomes t (facts trees held.kernel) goal held.used (Done (progress_at trees kernel new used) count) →
+              left ≡ length (main_goals (facts trees kernel)) →
           Ran (made steps earlier used) (reply.Ok left)
       ran_done new steps earlier mark used count left are is_earlier is_mark known_new is left_is =
           let Known : Step → Type 0 = HasKnownIds (trees kernel.store) in

@@ -27,7 +27,8 @@ pub not_refused : {S : Type 0} (trees : S → List Tree) (k : State S) (s : Sequ
     Fault (facts trees k) (step_at (trees k.store) (step.Start s)) why → ⊥
 not_refused trees k s model why none is formed small shallow fault =
     let by_rows = subst (λ (rows : List Provable). Against rows (step_at (trees k.store) (step.Start s)) why) (no_facts trees k none) fault.against in
-    none_against (tree (trees k.store) model) why formed small shallow (subst (λ (t : Sequent). Against [] (step_at (trees k.store) (step.Start t)) why) is by_rows)
+    none_against (tree (trees k.store) model) why formed small shallow
+        (subst (λ (t : Sequent). Against [] (step_at (trees k.store) (step.Start t)) why) is by_rows)
 
 -- and adds its row
 pub stated_row : {S : Type 0} (trees : S → List Tree) (k : State S) (after : List Provable) (s : Sequent) (model : Id) → k.rows ≡ [] → s ≡ alone model →
@@ -38,7 +39,8 @@ stated_row trees k after s model none is adds =
 
 pub stated_step : (old new : List Tree) (s : Sequent) (model : Id) → Keeps old new → IsId old model → s ≡ alone model →
     step_at new (step.Start s) ≡ Start (alone_right (tree old model))
-stated_step old new s model keeps known is = ap (λ (t : Sequent). step_at new (step.Start t)) is ∙ ap (λ (t : Tree). Start (alone_right t)) (keeps.same model known)
+stated_step old new s model keeps known is = ap (λ (t : Sequent). step_at new (step.Start t)) is
+    ∙ ap (λ (t : Tree). Start (alone_right t)) (keeps.same model known)
 
 pub stated_known : (old new : List Tree) (s : Sequent) (model : Id) → Keeps old new → IsId old model → s ≡ alone model → HasKnownIds new (step.Start s)
 stated_known old new s model keeps known is =

@@ -1,5 +1,6 @@
 -- What sets stand for while their table grows, and what is made of them.
-use Rattle.std.proofs.Common.{◌≡◌, ◌↔◌, IsTrue, not, true≢false, take, get_or, Option, None, ◌+◌, ℕ, suc, ◌<◌, ◌≤◌, Bool, true, false, cond, ◌||◌, ◌&&◌, List, [], ◌∷◌, ◌++◌, length, Some, Result, Ok, Err, IfOk, refl, sym, ap, subst, ◌∙◌, arith, rules, length-append}
+use Rattle.std.proofs.Common.{◌≡◌, ◌↔◌, IsTrue, not, true≢false, take, get_or, Option, None, ◌+◌, ℕ, suc, ◌<◌, ◌≤◌, Bool, true, false, cond, ◌||◌}
+use Rattle.std.proofs.Common.{◌&&◌, List, [], ◌∷◌, ◌++◌, length, Some, Result, Ok, Err, IfOk, refl, sym, ap, subst, ◌∙◌, arith, rules, length-append}
 use Rattle.std.proofs.lemmas.List.{append-nil, append_assoc, get_or_append_left, take_more}
 use Rattle.std.proofs.lemmas.List.Quantifiers.{position-Some}
 use Rattle.std.specs.Bool.{beq, Decides}
@@ -19,7 +20,8 @@ use Rattle.std.specs.Prelude.{All, map}
 use Rattle.dlk_store.specs.declared.listing.Which.{Which}
 use Rattle.dlk_store.specs.declared.listing.Which.TheVariants.{Free, Bound, Must}
 use Rattle.dlk_shared.specs.declared.node.NodeSets.{NodeSets}
-use Rattle.dlk_shared.specs.SetTables.{SetTable, row_at, Holds, Means, MeanSets, Keeps, Makes, MakesPrimes, IsNone, set_at, sets_at, IsSet, AreSets, number_in, set_in}
+use Rattle.dlk_shared.specs.SetTables.{SetTable, row_at, Holds, Means, MeanSets, Keeps, Makes, MakesPrimes, IsNone, set_at, sets_at, IsSet, AreSets}
+use Rattle.dlk_shared.specs.SetTables.{number_in, set_in}
 
 pub Grows-refl : (vars : List Var) → Grows vars vars
 Grows-refl vars = record { more = []; is = sym (append-nil vars) }
@@ -216,8 +218,10 @@ without_none empty = record { means = λ s r m k. means_same (λ v. sym (ap (λ 
 
 -- ---- one item or kid more
 
-pub any_more : {A : Type 0} (p : A → Bool) (xs : List A) (k : ℕ) (d : A) → k < length xs → list_any p (take (k + 1) xs) ≡ (list_any p (take k xs) || p (get_or xs k d))
-any_more p xs k d lt = ap (list_any p) (take_more xs k d lt) ∙ list_any-append p (take k xs) (get_or xs k d ∷ []) ∙ ap (λ b. list_any p (take k xs) || b) (or_false (p (get_or xs k d)))
+pub any_more : {A : Type 0} (p : A → Bool) (xs : List A) (k : ℕ) (d : A) → k < length xs →
+    list_any p (take (k + 1) xs) ≡ (list_any p (take k xs) || p (get_or xs k d))
+any_more p xs k d lt = ap (list_any p) (take_more xs k d lt) ∙ list_any-append p (take k xs) (get_or xs k d ∷ [])
+    ∙ ap (λ b. list_any p (take k xs) || b) (or_false (p (get_or xs k d)))
 
 -- rows are told apart
 pub row_decides : (a b : Row) → Decides (row_eq a b) (a ≡ b)

@@ -1,5 +1,6 @@
 -- What signatures stand for while their table grows, and what is made of them.
-use Rattle.std.proofs.Common.{take, get_or, ◌≡◌, ℕ, zero, suc, ◌+◌, ◌<◌, ◌≤◌, ◌==◌, Bool, true, false, cond, ◌||◌, ◌&&◌, List, [], ◌∷◌, ◌++◌, length, Some, slice_get, Result, Ok, Err, IfOk, refl, sym, ap, ◌∙◌, arith, length-append}
+use Rattle.std.proofs.Common.{take, get_or, ◌≡◌, ℕ, zero, suc, ◌+◌, ◌<◌, ◌≤◌, ◌==◌, Bool, true, false, cond, ◌||◌, ◌&&◌, List, [], ◌∷◌, ◌++◌, length}
+use Rattle.std.proofs.Common.{Some, slice_get, Result, Ok, Err, IfOk, refl, sym, ap, ◌∙◌, arith, length-append}
 use Rattle.std.proofs.lemmas.Bool.{eq-eqb, ne_eqb}
 use Rattle.std.proofs.lemmas.List.{append-nil, append_assoc, take_more}
 use Rattle.std.proofs.lemmas.List.Folds.{list_any-append}
@@ -29,7 +30,8 @@ stands_none test n (x ∷ xs) s h =
     let here = h n (omega arith) in
     (λ i. (sym_eq s x && here i) || stands_none test (suc n) xs s (λ m l. h m (omega (arith, l))) i) ∙ ap (λ b. b || false) (and_false (sym_eq s x))
 
-pub stands_append : (test : ℕ → Bool) (n : ℕ) (xs ys : List Sym) (s : Sym) → stands test n (xs ++ ys) s ≡ (stands test n xs s || stands test (n + length xs) ys s)
+pub stands_append : (test : ℕ → Bool) (n : ℕ) (xs ys : List Sym) (s : Sym) →
+    stands test n (xs ++ ys) s ≡ (stands test n xs s || stands test (n + length xs) ys s)
 stands_append test n [] ys s = ap (λ k. stands test k ys s) (omega arith)
 stands_append test n (x ∷ xs) ys s =
     let k : suc n + length xs ≡ n + suc (length xs) = omega arith in

@@ -2,7 +2,9 @@
 use Rattle.std.specs.Prelude.{◌≡◌, Bool, List}
 use Rattle.std.specs.List.{list_any}
 use Rattle.std.proofs.Common.{refl}
-use Rattle.dlk_tree.specs.Statics.{none, all, just, plain, all_but, either, without, and_primes, Sets, sets_are, as_kids, free_in_kids, bound_in_kids, free_in_turn, must_in_both, must_in_one, free_in_item, bound_in_item, must_in_item, free_in_items, bound_in_items, must_in_items, statics}
+use Rattle.dlk_tree.specs.Statics.{none, all, just, plain, all_but, either, without, and_primes, Sets, sets_are, as_kids, free_in_kids, bound_in_kids}
+use Rattle.dlk_tree.specs.Statics.{free_in_turn, must_in_both, must_in_one, free_in_item, bound_in_item, must_in_item, free_in_items, bound_in_items}
+use Rattle.dlk_tree.specs.Statics.{must_in_items, statics}
 use Rattle.dlk_tree.specs.declared.op.Op.{Op}
 use Rattle.dlk_tree.specs.declared.op.Op.TheVariants as Op'
 use Rattle.dlk_tree.specs.declared.op.OdeItem.{OdeItem}

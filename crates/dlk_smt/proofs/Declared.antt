@@ -1,5 +1,6 @@
 -- Each symbol that an assertion uses is declared, once.
-use Rattle.std.proofs.Common.{◌≡◌, ◌⊎◌, inl, inr, ℕ, zero, suc, ◌<◌, Bool, true, false, ◌||◌, List, [], ◌∷◌, ◌++◌, length, get_or, map, filter, refl, sym, ap, subst, ◌∙◌, arith}
+use Rattle.std.proofs.Common.{◌≡◌, ◌⊎◌, inl, inr, ℕ, zero, suc, ◌<◌, Bool, true, false, ◌||◌, List, [], ◌∷◌, ◌++◌, length, get_or, map, filter, refl}
+use Rattle.std.proofs.Common.{sym, ap, subst, ◌∙◌, arith}
 use Rattle.std.specs.Prelude.{All}
 use Rattle.std.specs.List.{list_any, AllByRecursion}
 use Rattle.std.specs.List.Sorted.{IsStrictlySortedBy}
@@ -24,8 +25,10 @@ use Rattle.dlk_tree.specs.declared.op.Op.{Op}
 use Rattle.dlk_tree.specs.declared.op.Op.TheVariants as op
 use Rattle.dlk_tree.proofs.Listing.{var_total, var_exact}
 use Rattle.dlk_calculus.specs.Sequents.{Sequent, IsFormula, IsSequent}
-use Rattle.dlk_smt.specs.Smt.{Expr, uses, variable_symbol, function_symbol, base_symbol, expression, denied, own_variables, own_functions, everywhere, everywhere_in, in_formulas, in_some_formula, put_all, free_variables, functions, declared, asserted}
-use Rattle.dlk_smt.proofs.Members.{Has, Has-left, Has-right, Has-either, Has-map, Has-of-map, Has-filter, Has-at, Has-put, any_Has, Each-append, Each-filter, Each-put, sorted-put, absent, present, distinct_texts}
+use Rattle.dlk_smt.specs.Smt.{Expr, uses, variable_symbol, function_symbol, base_symbol, expression, denied, own_variables, own_functions, everywhere}
+use Rattle.dlk_smt.specs.Smt.{everywhere_in, in_formulas, in_some_formula, put_all, free_variables, functions, declared, asserted}
+use Rattle.dlk_smt.proofs.Members.{Has, Has-left, Has-right, Has-either, Has-map, Has-of-map, Has-filter, Has-at, Has-put, any_Has, Each-append}
+use Rattle.dlk_smt.proofs.Members.{Each-filter, Each-put, sorted-put, absent, present, distinct_texts}
 use Rattle.dlk_smt.proofs.Unlike.{one_variable, one_function, variable_no_function, base_no_variable, base_no_function}
 use Rattle.dlk_smt.proofs.Used.{Names, used, denied_uses}
 

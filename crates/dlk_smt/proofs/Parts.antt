@@ -1,5 +1,6 @@
 -- The parts of the texts of a script.
-use Rattle.std.proofs.Common.{◌≡◌, ◌≢◌, ℕ, zero, suc, ◌+◌, ◌-◌, ◌<◌, length, get_or, drop, drop-cons, add-one, Bool, true, false, cond, ne_eqb, List, [], ◌∷◌, ◌++◌, map, filter, Option, Some, refl, sym, ap, ◌∙◌, append_assoc, arith, codes}
+use Rattle.std.proofs.Common.{◌≡◌, ◌≢◌, ℕ, zero, suc, ◌+◌, ◌-◌, ◌<◌, length, get_or, drop, drop-cons, add-one, Bool, true, false, cond, ne_eqb, List}
+use Rattle.std.proofs.Common.{[], ◌∷◌, ◌++◌, map, filter, Option, Some, refl, sym, ap, ◌∙◌, append_assoc, arith, codes}
 use Rattle.std.specs.Prelude.{if◌then◌else◌, ◌==◌}
 use Rattle.std.proofs.lemmas.List.{append-nil}
 use Rattle.dlk_tree.specs.Trees.{Tree, Forest, node, no_kids, kid, root, WellMade}
@@ -10,7 +11,8 @@ use Rattle.dlk_tree.specs.Trees.{sort, sorts}
 use Rattle.dlk_grammar.specs.Shown as canonical
 use Rattle.dlk_calculus.specs.Sequents.{Sequent}
 use Rattle.dlk_print.proofs.Left.{Left}
-use Rattle.dlk_smt.specs.Smt.{Expr, real, bind, call, power, line, shown, shown_all, times, symbol, base_symbol, declaration, declarations, assertion, assertions, variable_symbol, function_symbol, free_variables, functions, expression, denied, smt}
+use Rattle.dlk_smt.specs.Smt.{Expr, real, bind, call, power, line, shown, shown_all, times, symbol, base_symbol, declaration, declarations, assertion}
+use Rattle.dlk_smt.specs.Smt.{assertions, variable_symbol, function_symbol, free_variables, functions, expression, denied, smt}
 
 -- one name of a power's base more
 pub one_base : (n : ℕ) → n ≢ 0 → codes " |e|" ++ shown_all (times (n - 1) (symbol base_symbol)) ≡ shown_all (times n (symbol base_symbol))

@@ -1,5 +1,6 @@
 -- What an expression uses is a variable that is free in its tree, or a function that stands there.
-use Rattle.std.proofs.Common.{◌≡◌, ◌⊎◌, inl, inr, ℕ, zero, suc, ◌==◌, Bool, true, false, ◌||◌, ◌&&◌, not, cond, List, [], ◌∷◌, ◌++◌, Option, Some, None, refl, sym, ap, ◌∙◌, codes}
+use Rattle.std.proofs.Common.{◌≡◌, ◌⊎◌, inl, inr, ℕ, zero, suc, ◌==◌, Bool, true, false, ◌||◌, ◌&&◌, not, cond, List, [], ◌∷◌, ◌++◌, Option, Some}
+use Rattle.std.proofs.Common.{None, refl, sym, ap, ◌∙◌, codes}
 use Rattle.std.specs.Bool.{Decides}
 use Rattle.std.specs.Str.{bytes_eq}
 use Rattle.std.proofs.lemmas.Slice.Eq.{bytes_eq-Decides}
@@ -11,7 +12,9 @@ use Rattle.dlk_tree.specs.declared.op.Var.{Var}
 use Rattle.dlk_tree.specs.declared.op.Op.{Op}
 use Rattle.dlk_tree.specs.declared.op.Op.TheVariants as op
 use Rattle.dlk_tree.proofs.Same.{var_eq_decides}
-use Rattle.dlk_smt.specs.Smt.{Expr, Exprs, none, next, symbol, call, bind, uses, any_uses, first, times, power, base_symbol, variable_symbol, function_symbol, exponent, translated, expression, expressions, denied, own_variables, own_functions, everywhere, everywhere_in}
+use Rattle.dlk_smt.specs.Smt.{Expr, Exprs, none, next, symbol, call, bind, uses, any_uses, first, times, power, base_symbol, variable_symbol}
+use Rattle.dlk_smt.specs.Smt.{function_symbol, exponent, translated, expression, expressions, denied, own_variables, own_functions, everywhere}
+use Rattle.dlk_smt.specs.Smt.{everywhere_in}
 use Rattle.dlk_smt.proofs.Members.{Has, Has-left, Has-right}
 
 -- x is the symbol of a variable of the set that stands in the one list, or of a function that stands in the other

@@ -1,5 +1,6 @@
 -- Trees that are counted once each.
-use Rattle.std.proofs.Common.{◌≡◌, ℕ, ◌<◌, ◌≤◌, ◌||◌, Bool, true, false, cond, List, [], ◌∷◌, length, get_or, map, refl, sym, ap, subst, ◌∙◌, true≢false, arith, Contains}
+use Rattle.std.proofs.Common.{◌≡◌, ℕ, ◌<◌, ◌≤◌, ◌||◌, Bool, true, false, cond, List, [], ◌∷◌, length, get_or, map, refl, sym, ap, subst, ◌∙◌}
+use Rattle.std.proofs.Common.{true≢false, arith, Contains}
 use Rattle.std.specs.Cmp.{decided}
 use Rattle.std.specs.List.{list_any, IsDistinct, AllByRecursion}
 use Rattle.std.specs.Set.{unique_keys}
@@ -96,7 +97,8 @@ module _ (trees : List Tree) (one : HasOneId trees) (ids : List Id) (once : AreA
   tree_at : (i : ℕ) (t : Tree) → i < length ids → get_or (map (tree trees) ids) i t ≡ tree trees (get_or ids i zero_id)
   tree_at i t h = get_or-map (tree trees) ids i zero_id t h
 
-  trees_apart : (i j : ℕ) (d : Tree) → i < j → j < length (map (tree trees) ids) → tree_eq (get_or (map (tree trees) ids) i d) (get_or (map (tree trees) ids) j d) ≡ false
+  trees_apart : (i j : ℕ) (d : Tree) → i < j → j < length (map (tree trees) ids) →
+      tree_eq (get_or (map (tree trees) ids) i d) (get_or (map (tree trees) ids) j d) ≡ false
   trees_apart i j d h l =
       (λ x. tree_eq (tree_at i d (omega (arith, h, below)) x) (tree_at j d below x)) ∙ by (tree_eq (tree trees a) (tree trees b)) refl
     where

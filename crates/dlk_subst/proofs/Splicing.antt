@@ -1,5 +1,6 @@
 -- Items and kids of a system, put together.
-use Rattle.std.proofs.Common.{◌≡◌, refl, sym, ap, subst, ◌∙◌, ℕ, zero, suc, ◌-◌, replicate, List, [], ◌∷◌, ◌++◌, length, take, drop, ◌≤◌, Some, append_assoc, ◌+◌, ◌<◌, get_or, drop-cons, add-one}
+use Rattle.std.proofs.Common.{◌≡◌, refl, sym, ap, subst, ◌∙◌, ℕ, zero, suc, ◌-◌, replicate, List, [], ◌∷◌, ◌++◌, length, take, drop, ◌≤◌, Some}
+use Rattle.std.proofs.Common.{append_assoc, ◌+◌, ◌<◌, get_or, drop-cons, add-one}
 use Rattle.std.proofs.Common.{arith, Result, Ok, Err}
 use Rattle.std.specs.Prelude.{All, OnOk}
 use Rattle.std.proofs.lemmas.List.{at_drop_all}

@@ -1,5 +1,6 @@
 -- What nothing is replaced in stays: a tree without the symbols of pairs, without argument dots, without `_`.
-use Rattle.std.proofs.Common.{◌≡◌, refl, sym, ap, subst, ◌∙◌, ℕ, ◌<◌, List, [], ◌∷◌, ◌++◌, length, Bool, true, false, true≢false, cond, Option, None, Some, eq-eqb, ltb-true}
+use Rattle.std.proofs.Common.{◌≡◌, refl, sym, ap, subst, ◌∙◌, ℕ, ◌<◌, List, [], ◌∷◌, ◌++◌, length, Bool, true, false, true≢false, cond, Option, None}
+use Rattle.std.proofs.Common.{Some, eq-eqb, ltb-true}
 use Rattle.std.specs.Prelude.{All, IsTrue, ◌&&◌}
 use Rattle.std.specs.List.{list_any}
 use Rattle.std.proofs.lemmas.Bool.{or_parts, or_from, and_parts}

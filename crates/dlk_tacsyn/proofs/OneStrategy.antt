@@ -88,6 +88,7 @@ module _ (laws : QuotedLaws) where
   by_outcome bytes s is (Fails (fault.UnknownAtom at)) e later = inr (UnknownAtom at, read_so bytes s (Fails (UnknownAtom at)) is e)
   by_outcome bytes s is (Fails (fault.Arguments at)) e later = inr (Arguments at, read_so bytes s (Fails (Arguments at)) is e)
 
-  pub says_or_fails : (bytes : List ℕ) → (((s : Script) × IsScript bytes s) ⊎ ((at : ℕ) × Stops bytes at)) → ((t : Tactic) × StrategyText bytes t) ⊎ ((f : Fault) × StrategyFault bytes f)
+  pub says_or_fails : (bytes : List ℕ) → (((s : Script) × IsScript bytes s) ⊎ ((at : ℕ) × Stops bytes at)) →
+      ((t : Tactic) × StrategyText bytes t) ⊎ ((f : Fault) × StrategyFault bytes f)
   says_or_fails bytes (inl p) = by_outcome bytes p.0 p.1 (strategy_of (reads laws) p.0) refl (strategy_later (reads laws) p.0)
   says_or_fails bytes (inr q) = inr (fault.Syntax q.0, q.1)

@@ -5,7 +5,8 @@ use Rattle.std.specs.List.{list_any}
 use Rattle.std.specs.Bool.{beq}
 use Rattle.std.specs.Str.{bytes_eq}
 use Rattle.dlk_tree.specs.Trees.{Tree, node, Forest, no_kids, kid}
-use Rattle.dlk_tree.specs.Statics.{just, plain, with_prime, all_but, and_primes, Sets, free_in_kids, bound_in_kids, free_in_turn, must_in_both, must_in_one, free_in_item, bound_in_item, must_in_item, as_kids, statics, sets, sets_all}
+use Rattle.dlk_tree.specs.Statics.{just, plain, with_prime, all_but, and_primes, Sets, free_in_kids, bound_in_kids, free_in_turn, must_in_both}
+use Rattle.dlk_tree.specs.Statics.{must_in_one, free_in_item, bound_in_item, must_in_item, as_kids, statics, sets, sets_all}
 use Rattle.dlk_tree.specs.Occurs.{any_has}
 use Rattle.dlk_tree.specs.Named.{any_taboo, any_item_name, any_name, is_named}
 use Rattle.dlk_tree.specs.declared.op.Var.{Var}
@@ -48,7 +49,8 @@ module _ (v w : Var) where
   with_prime_alike : (x : List ℕ) → bytes_eq v.name x ≡ false → bytes_eq w.name x ≡ false → with_prime x v ≡ with_prime x w
   with_prime_alike x hv hw = hv ∙ sym hw
 
-  all_but_alike : (taboo : Option (List ℕ)) → any_taboo (bytes_eq v.name) taboo ≡ false → any_taboo (bytes_eq w.name) taboo ≡ false → all_but taboo v ≡ all_but taboo w
+  all_but_alike : (taboo : Option (List ℕ)) → any_taboo (bytes_eq v.name) taboo ≡ false → any_taboo (bytes_eq w.name) taboo ≡ false →
+      all_but taboo v ≡ all_but taboo w
   all_but_alike taboo hv hw = all_but_in taboo v hv ∙ sym (all_but_in taboo w hw)
 
   free_in_kids_alike : (kids : List Sets) → AllAlike kids v w → free_in_kids kids v ≡ free_in_kids kids w
@@ -78,7 +80,8 @@ module _ (v w : Var) where
   in_one_alike (first ∷ second ∷ rest) h = λ i. h.0.must i || h.1.0.must i
 
   -- what is alike in each item is alike in all
-  items_alike : (set : OdeItem → Var → Bool) → ((item : OdeItem) → any_item_name (bytes_eq v.name) item ≡ false → any_item_name (bytes_eq w.name) item ≡ false → set item v ≡ set item w) →
+  items_alike : (set : OdeItem → Var → Bool) →
+      ((item : OdeItem) → any_item_name (bytes_eq v.name) item ≡ false → any_item_name (bytes_eq w.name) item ≡ false → set item v ≡ set item w) →
       (items : List OdeItem) → list_any (any_item_name (bytes_eq v.name)) items ≡ false → list_any (any_item_name (bytes_eq w.name)) items ≡ false →
       list_any (λ item. set item v) items ≡ list_any (λ item. set item w) items
   items_alike set each [] hv hw = refl
@@ -87,19 +90,23 @@ module _ (v w : Var) where
       let q = or_parts _ _ hw in
       λ i. each item p.0 q.0 i || items_alike set each items p.1 q.1 i
 
-  free_in_item_alike : (item : OdeItem) → any_item_name (bytes_eq v.name) item ≡ false → any_item_name (bytes_eq w.name) item ≡ false → free_in_item item v ≡ free_in_item item w
+  free_in_item_alike : (item : OdeItem) → any_item_name (bytes_eq v.name) item ≡ false → any_item_name (bytes_eq w.name) item ≡ false →
+      free_in_item item v ≡ free_in_item item w
   free_in_item_alike (Item.Evolve x) hv hw = just_alike (plain x) hv hw
   free_in_item_alike (Item.Const s) hv hw = all_but_alike s.taboo hv hw
 
-  bound_in_item_alike : (item : OdeItem) → any_item_name (bytes_eq v.name) item ≡ false → any_item_name (bytes_eq w.name) item ≡ false → bound_in_item item v ≡ bound_in_item item w
+  bound_in_item_alike : (item : OdeItem) → any_item_name (bytes_eq v.name) item ≡ false → any_item_name (bytes_eq w.name) item ≡ false →
+      bound_in_item item v ≡ bound_in_item item w
   bound_in_item_alike (Item.Evolve x) hv hw = with_prime_alike x hv hw
   bound_in_item_alike (Item.Const s) hv hw = all_but_alike s.taboo hv hw
 
-  must_in_item_alike : (item : OdeItem) → any_item_name (bytes_eq v.name) item ≡ false → any_item_name (bytes_eq w.name) item ≡ false → must_in_item item v ≡ must_in_item item w
+  must_in_item_alike : (item : OdeItem) → any_item_name (bytes_eq v.name) item ≡ false → any_item_name (bytes_eq w.name) item ≡ false →
+      must_in_item item v ≡ must_in_item item w
   must_in_item_alike (Item.Evolve x) hv hw = with_prime_alike x hv hw
   must_in_item_alike (Item.Const s) hv hw = refl
 
-  module _ (kids : List Sets) (h : AllAlike kids v w) (v_unprimed : free_in_kids kids v ≡ free_in_kids kids (plain v.name)) (w_unprimed : free_in_kids kids w ≡ free_in_kids kids (plain w.name)) where
+  module _ (kids : List Sets) (h : AllAlike kids v w) (v_unprimed : free_in_kids kids v ≡ free_in_kids kids (plain v.name))
+      (w_unprimed : free_in_kids kids w ≡ free_in_kids kids (plain w.name)) where
     and_primes_alike : and_primes (free_in_kids kids) v ≡ and_primes (free_in_kids kids) w
     and_primes_alike = same_primes (free_in_kids kids) v v_unprimed ∙ free_in_kids_alike kids h ∙ sym (same_primes (free_in_kids kids) w w_unprimed)
 
@@ -149,7 +156,8 @@ mutual
       let w_unprimed = free_in_kids_alike w (plain w.name) (sets_all kids) (elsewhere_all kids w (plain w.name) q.1 q.1) in
       statics_alike v w (sets_all kids) (elsewhere_all kids v w p.1 q.1) v_unprimed w_unprimed op p.0 q.0
 
-  elsewhere_all : (ts : Forest) (v w : Var) → any_has (any_name (bytes_eq v.name)) ts ≡ false → any_has (any_name (bytes_eq w.name)) ts ≡ false → AllAlike (sets_all ts) v w
+  elsewhere_all : (ts : Forest) (v w : Var) → any_has (any_name (bytes_eq v.name)) ts ≡ false → any_has (any_name (bytes_eq w.name)) ts ≡ false →
+      AllAlike (sets_all ts) v w
   elsewhere_all no_kids v w hv hw = tt
   elsewhere_all (kid t rest) v w hv hw =
       let p = or_parts _ _ hv in

@@ -1,6 +1,7 @@
 -- A set in which the variables that well made trees don't name are all alike has a member exactly where `nowhere` is in it or a
 -- variable that they name.
-use Rattle.std.proofs.Common.{◌≡◌, ◌∙◌, sym, ap, refl, ℕ, suc, zero, ◌<◌, List, [], ◌∷◌, ◌++◌, Bool, true, false, ◌||◌, ◌&&◌, length, replicate, max, arith, ⊎_elim}
+use Rattle.std.proofs.Common.{◌≡◌, ◌∙◌, sym, ap, refl, ℕ, suc, zero, ◌<◌, List, [], ◌∷◌, ◌++◌, Bool, true, false, ◌||◌, ◌&&◌, length, replicate, max}
+use Rattle.std.proofs.Common.{arith, ⊎_elim}
 use Rattle.std.proofs.Math.ListN.{length-replicate}
 use Rattle.std.proofs.lemmas.Bool.{and_parts, or_cases, or_parts, or_left, or_right, or_from, cases_Bool}
 use Rattle.std.proofs.lemmas.List.Folds.{list_any-append}
@@ -75,7 +76,8 @@ either_of set v h = go v.primed refl
 
 -- A set in which the variables with no name in the list are all alike: whether it has a member shows at `nowhere` and at the
 -- names in the list.
-module _ (set : Var → Bool) (xs : List (List ℕ)) (real : list_all is_name xs ≡ true) (alike : (v : Var) → list_any (bytes_eq v.name) xs ≡ false → set v ≡ set nowhere) where
+module _ (set : Var → Bool) (xs : List (List ℕ)) (real : list_all is_name xs ≡ true)
+    (alike : (v : Var) → list_any (bytes_eq v.name) xs ≡ false → set v ≡ set nowhere) where
   some_elsewhere : set nowhere ≡ true → IsInhabited set
   some_elsewhere h =
       let x = another_name xs in
@@ -102,7 +104,8 @@ some_by_tree set t made alike =
     rw (names_listed (has_either set) t) (some_by_names set (names t) (names_real t made) (λ v h. alike v (names_listed (bytes_eq v.name) t ∙ h)))
 
 -- and of the names in two, as for a set of variables of the one that may meet one of the other
-pub some_by_trees : (set : Var → Bool) (s t : Tree) → WellMade s → WellMade t → ((v : Var) → is_named v.name s ≡ false → is_named v.name t ≡ false → set v ≡ set nowhere) →
+pub some_by_trees : (set : Var → Bool) (s t : Tree) → WellMade s → WellMade t →
+    ((v : Var) → is_named v.name s ≡ false → is_named v.name t ≡ false → set v ≡ set nowhere) →
     IsTrue ((set nowhere || has (any_name (has_either set)) s) || (set nowhere || has (any_name (has_either set)) t)) ↔ IsInhabited set
 some_by_trees set s t p q alike =
     let test = has_either set in

@@ -8,7 +8,8 @@ use Rattle.dlk_calculus.specs.Sequents.{Sequent}
 use Rattle.dlk_calculus.specs.Provables.{Provable, started, known, assumed, inferred, applied, merged, Substitutes}
 use Rattle.dlk_calculus.specs.Rules.{Rule, RuleAgainst, Premises}
 use Rattle.dlk_calculus.specs.Steps.{Step, Start, UseAxiom, UseRule, Leaf, Apply, Merge, Substitute, IsGoal, Gives}
-use Rattle.dlk_calculus.specs.Steps.{start as by_start, use_axiom as by_axiom, use_rule as by_rule, leaf as by_leaf, apply as by_apply, merge as by_merge, substitute as by_substitution}
+use Rattle.dlk_calculus.specs.Steps.{start as by_start, use_axiom as by_axiom, use_rule as by_rule, leaf as by_leaf, apply as by_apply}
+use Rattle.dlk_calculus.specs.Steps.{merge as by_merge, substitute as by_substitution}
 use Rattle.dlk_uses.specs.Taking.{FirstFault}
 use Rattle.dlk_calculus.proofs.PlaceLaws.{at_one, At-more, At-between}
 use Rattle.dlk_uses.proofs.Places.{put_first, put_second, put_later}

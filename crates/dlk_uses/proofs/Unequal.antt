@@ -8,7 +8,9 @@ use Rattle.dlk_calculus.specs.Provables.{Provable}
 use Rattle.dlk_calculus.specs.Rules.{RuleAgainst}
 use Rattle.dlk_calculus.specs.Steps.{Step, Start, UseAxiom, UseRule, Leaf, Apply, Merge, Substitute, Rename, IsGoal, Exceeds, Against, Fault}
 use Rattle.dlk_calculus.specs.Steps.{too_big, too_deep, start_full, leaf_full, side_full, goals_applied, goals_merged, leaves_merged}
-use Rattle.dlk_calculus.specs.Steps.{no_fact_to_apply, no_fact_to_merge, no_fact_to_substitute, no_fact_to_rename, no_goal_to_apply, no_goal_to_merge, unknown_axiom, unknown_rule, against_rule, start_no_formulas, leaf_no_formulas, other_goal, no_arithmetic, ill_pairs, free_over_goals, not_admissible, past_limit, rows_full}
+use Rattle.dlk_calculus.specs.Steps.{no_fact_to_apply, no_fact_to_merge, no_fact_to_substitute, no_fact_to_rename, no_goal_to_apply, no_goal_to_merge}
+use Rattle.dlk_calculus.specs.Steps.{unknown_axiom, unknown_rule, against_rule, start_no_formulas, leaf_no_formulas, other_goal, no_arithmetic}
+use Rattle.dlk_calculus.specs.Steps.{ill_pairs, free_over_goals, not_admissible, past_limit, rows_full}
 
 -- what is unlike where a step is refused for it
 abbrev pub Unlike : List Provable → Step → Type 0

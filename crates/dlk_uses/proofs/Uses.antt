@@ -24,7 +24,9 @@ use Rattle.dlk_match.specs.Instances.{HasOwnNames}
 use Rattle.dlk_match.specs.Matching.{Match, exchanged}
 use Rattle.dlk_sequent.specs.declared.sequent.Place.{Place}
 use Rattle.dlk_sequent.specs.declared.sequent.Place.TheVariants.{Ante, Succ}
-use Rattle.dlk_uses.specs.Uses.{HasShape, Direction, Forwards, Backwards, Use, left_of, right_of, key, is_forwards, is_whole, may_stand, formula_at, Spot, by_equivalence, by_equation, by_conditional_equation, by_conditional_equivalence, by_implication, by_fact, Finishes, equivalence, equation, conditional_equivalence, conditional_equation, implication, fact}
+use Rattle.dlk_uses.specs.Uses.{HasShape, Direction, Forwards, Backwards, Use, left_of, right_of, key, is_forwards, is_whole, may_stand, formula_at}
+use Rattle.dlk_uses.specs.Uses.{Spot, by_equivalence, by_equation, by_conditional_equation, by_conditional_equivalence, by_implication, by_fact}
+use Rattle.dlk_uses.specs.Uses.{Finishes, equivalence, equation, conditional_equivalence, conditional_equation, implication, fact}
 use Rattle.dlk_uses.proofs.Fitting.{Fit}
 use Rattle.dlk_uses.proofs.Exchanging.{Proves, old_side, fact_fits, implication_fits, implication_fits_left}
 use Rattle.dlk_uses.proofs.Conditional.{conditional_equivalence_fits}

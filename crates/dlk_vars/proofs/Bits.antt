@@ -1,5 +1,6 @@
 -- A bit of two words joined is the bits joined.
-use Rattle.std.proofs.Common.{◌≡◌, ℕ, ◌-◌, ◌<◌, ◌^◌, ◌==◌, Bool, true, false, ◌||◌, ◌&&◌, not, min, max, bit_or, bit_and, refl, sym, ap, ◌∙◌, inl, inr, ◌⊎◌, arith, w64}
+use Rattle.std.proofs.Common.{◌≡◌, ℕ, ◌-◌, ◌<◌, ◌^◌, ◌==◌, Bool, true, false, ◌||◌, ◌&&◌, not, min, max, bit_or, bit_and, refl, sym, ap, ◌∙◌, inl}
+use Rattle.std.proofs.Common.{inr, ◌⊎◌, arith, w64}
 use Rattle.std.specs.Int.{bit_at, bit_not}
 use Rattle.std.proofs.lemmas.Bool.{cases_order}
 use Rattle.std.proofs.lemmas.Nat.Bits.{bit_at_or, bit_at_and, bit_at_not, bit_at-lt}

@@ -1,5 +1,7 @@
 -- What the words of a row say of its numbers.
-use Rattle.std.proofs.Common.{◌≡◌, ℕ, ◌+◌, ◌*◌, ◌-◌, ◌/◌, ◌%◌, ◌^◌, ◌<◌, ◌≤◌, ◌≢◌, ◌==◌, Bool, true, false, cond, ◌||◌, ◌&&◌, not, List, [], length, get_or, bit_or, bit_and, refl, sym, ap, subst, ◌∙◌, true≢false, inl, inr, ◌⊎◌, arith, eqb-true, eq-eqb, w64, IsTrue, ◌↔◌}
+use Rattle.std.proofs.Common.{◌≡◌, ℕ, ◌+◌, ◌*◌, ◌-◌, ◌/◌, ◌%◌, ◌^◌, ◌<◌, ◌≤◌, ◌≢◌, ◌==◌, Bool, true, false, cond, ◌||◌, ◌&&◌, not, List, [], length}
+use Rattle.std.proofs.Common.{get_or, bit_or, bit_and, refl, sym, ap, subst, ◌∙◌, true≢false, inl, inr, ◌⊎◌, arith, eqb-true, eq-eqb, w64, IsTrue}
+use Rattle.std.proofs.Common.{◌↔◌}
 use Rattle.std.specs.Int.{bit_at, bit_not, trailing_zeros}
 use Rattle.std.proofs.lemmas.Bool.{cases_lt, ne_eqb}
 use Rattle.std.proofs.Math.ListN.{get_or-eq_default}

@@ -12,7 +12,8 @@ loop-kid-init g t c =
     let ks = c.look-node.result.kids.now in
     let e = c.look-node.ensures.node in
     record {
-      rest = sym (ap (first_loose items domain) e ∙ ap (λ o. or_else o (first_loose_in items domain (kid_trees trees ks))) (sym c.in_ok-x.ensures ∙ c.in_default.is));
+      rest = sym (ap (first_loose items domain) e
+          ∙ ap (λ o. or_else o (first_loose_in items domain (kid_trees trees ks))) (sym c.in_ok-x.ensures ∙ c.in_default.is));
       known = c.look-node.ensures.known;
       smaller = λ i d h. kid_smaller trees (tree trees c.args.id) c.look-node.result.op.now ks i d e h;
     }

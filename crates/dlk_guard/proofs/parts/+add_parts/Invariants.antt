@@ -14,7 +14,8 @@ abbrev pub invariant-loop-kid : goal.invariant-loop-kid
 invariant-loop-kid g l =
     let trees = g.S.Store.trees l.store in
     record {
-      rest : map (tree trees) l.into.items ++ parts_in (kid_trees trees (drop l.kid-index l.kid-items)) ≡ map (tree trees) l.fn.into.items ++ parts (tree trees l.fn.id);
+      rest : map (tree trees) l.into.items ++ parts_in (kid_trees trees (drop l.kid-index l.kid-items)) ≡ map (tree trees) l.fn.into.items
+          ++ parts (tree trees l.fn.id);
       added : All (IsId trees) l.into.items;
       known : All (IsId trees) l.kid-items;
       smaller : (i : ℕ) (d : Id) → i < length l.kid-items → size (tree trees (get_or l.kid-items i d)) < size (tree trees l.fn.id);

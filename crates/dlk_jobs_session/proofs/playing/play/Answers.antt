@@ -41,7 +41,8 @@ loop-line-preserved g c =
     let more = more_played first mid next (map (line_at old) (take i items)) (line_at old item) played.0 c.loop-line.out.items c.play_line.new.out.items
     c.loop-line.invariant.played turn played.2 in
     record {
-      played = subst (λ ls. Played first next ls c.play_line.new.out.items) (sym (mapped_more (line_at old) items i item c.loop-line-test.true c.line-item.is)) more;
+      played = subst (λ ls. Played first next ls c.play_line.new.out.items)
+          (sym (mapped_more (line_at old) items i item c.loop-line-test.true c.line-item.is)) more;
       grows = g.met.S.Store.grows_trans c.args.session.now.kernel.store c.loop-line.session.kernel.store c.play_line.new.session.kernel.store
           c.loop-line.invariant.grows c.play_line.ensures.grows;
     }
@@ -52,4 +53,5 @@ returns-clause-turns g c =
     let old = trees c.args.session.now.kernel.store in
     let all = ap (map (line_at old)) (take_all c.loop-line.line-index c.args.lines.now (omega (arith, c.loop-line-test.false))) in
     let played = c.loop-line.invariant.played in
-    (played.answers, subst (λ ls. Turns RunsOn (state trees c.args.session.now) ls played.answers (state trees c.loop-line.session)) all played.turns, played.out_is)
+    (played.answers, subst (λ ls. Turns RunsOn (state trees c.args.session.now) ls played.answers (state trees c.loop-line.session)) all played.turns,
+        played.out_is)

@@ -15,4 +15,5 @@ returns-clause-none c =
     strip_prefix_is Decides-eqb text c.as_slice.result.now (Some c.in_ok-behind.behind) c.in_ok-behind.ensures.cases in
     let word : text ≡ codes "apply " ++ behind = rw c.as_slice.ensures at cut in
     if_none c.number_before.result _ _
-    (λ out goal rest h. out goal rest (subst (λ l. NumberThen l 32 goal rest) (behind_word h.behind behind (sym h.word_is ∙ word)) h.number)) c.number_before.ensures.none
+    (λ out goal rest h. out goal rest (subst (λ l. NumberThen l 32 goal rest) (behind_word h.behind behind (sym h.word_is ∙ word)) h.number))
+        c.number_before.ensures.none

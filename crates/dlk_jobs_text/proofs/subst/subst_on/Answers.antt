@@ -17,7 +17,8 @@ returns-in_err-expression-clause-ended g c =
     let file = c.args.file.now in
     let substitution = c.args.substitution.now in
     let p = err_from_is_err_and c.from_residual.result c.from_residual.ensures.1 in
-    rw (p.1, p.2) (ends_weaker (RefusesFile Refused file) (Substitutes file substitution) (file_refused file substitution) _ c.in_err-expression.ensures.refused)
+    rw (p.1, p.2) (ends_weaker (RefusesFile Refused file) (Substitutes file substitution) (file_refused file substitution) _
+        c.in_err-expression.ensures.refused)
 
 pub returns-in_err-pairs-clause-ended : goal.returns-in_err-pairs-clause-ended
 returns-in_err-pairs-clause-ended g c =
@@ -25,7 +26,8 @@ returns-in_err-pairs-clause-ended g c =
     let substitution = c.args.substitution.now in
     let read = c.in_ok-expression.ensures.found in
     let p = err_from_is_err_and c.from_residual-in_err-pairs.result c.from_residual-in_err-pairs.ensures.1 in
-    rw (p.1, p.2) (ends_weaker (RefusesPairs substitution) (Substitutes file substitution) (pairs_refused file substitution read.0 read.1) _ c.in_err-pairs.ensures.refused)
+    rw (p.1, p.2) (ends_weaker (RefusesPairs substitution) (Substitutes file substitution) (pairs_refused file substitution read.0 read.1) _
+        c.in_err-pairs.ensures.refused)
 
 pub returns-in_err-sigma-clause-ended : goal.returns-in_err-sigma-clause-ended
 returns-in_err-sigma-clause-ended g c =
@@ -39,7 +41,8 @@ returns-in_err-sigma-clause-ended g c =
     let said = c.in_ok-pairs.pairs.items in
     let both = both_read file substitution old trees c.in_ok-expression.expression read.0 said said read.1 read.2 keeps c.in_ok-pairs.ensures.found refl in
     let p = err_from_is_err_and c.from_residual-in_err-sigma.result c.from_residual-in_err-sigma.ensures.1 in
-    rw (p.1, p.2) (ends_weaker (RefusesPair (pairs_at trees said)) (Substitutes file substitution) (pair_answer file substitution e (pairs_at trees said) both) _
+    rw (p.1, p.2) (ends_weaker (RefusesPair (pairs_at trees said)) (Substitutes file substitution)
+        (pair_answer file substitution e (pairs_at trees said) both) _
     c.in_err-sigma.ensures.refused)
 
 pub returns-in_err-made-clause-ended : goal.returns-in_err-made-clause-ended
@@ -53,7 +56,8 @@ returns-in_err-made-clause-ended g c =
     let e = tree trees c.in_ok-expression.expression in
     let said = c.in_ok-pairs.pairs.items in
     let pairs = c.in_ok-sigma.sigma.pairs in
-    let both = both_read file substitution old trees c.in_ok-expression.expression read.0 said pairs read.1 read.2 keeps c.in_ok-pairs.ensures.found c.in_ok-sigma.ensures.pairs in
+    let both = both_read file substitution old trees c.in_ok-expression.expression read.0 said pairs read.1 read.2 keeps c.in_ok-pairs.ensures.found
+        c.in_ok-sigma.ensures.pairs in
     let p = err_from_is_err_and c.from_residual-in_err-made.result c.from_residual-in_err-made.ensures.1 in
     rw (p.1, p.2) (ends_weaker (RefusesUse (pairs_at trees pairs) e) (Substitutes file substitution)
     (no_result_answer file substitution e (pairs_at trees pairs) both c.in_ok-sigma.ensures.made.well_formed) _ c.in_err-made.ensures.refused)
@@ -69,7 +73,8 @@ returns-in_err-keep_limits-clause-ended g c =
     let e = tree trees c.in_ok-expression.expression in
     let said = c.in_ok-pairs.pairs.items in
     let pairs = c.in_ok-sigma.sigma.pairs in
-    let both = both_read file substitution old trees c.in_ok-expression.expression read.0 said pairs read.1 read.2 keeps c.in_ok-pairs.ensures.found c.in_ok-sigma.ensures.pairs in
+    let both = both_read file substitution old trees c.in_ok-expression.expression read.0 said pairs read.1 read.2 keeps c.in_ok-pairs.ensures.found
+        c.in_ok-sigma.ensures.pairs in
     let new = g.S.Store.trees c.result_of.new.store in
     let t = tree new c.in_ok-made.made in
     let has = has_result (pairs_at trees pairs) e new c.in_ok-made.made c.in_ok-sigma.ensures.made.well_formed c.in_ok-made.ensures.ok in
@@ -88,7 +93,8 @@ returns-clause-reply g c =
     let e = tree trees c.in_ok-expression.expression in
     let said = c.in_ok-pairs.pairs.items in
     let pairs = c.in_ok-sigma.sigma.pairs in
-    let both = both_read file substitution old trees c.in_ok-expression.expression read.0 said pairs read.1 read.2 keeps c.in_ok-pairs.ensures.found c.in_ok-sigma.ensures.pairs in
+    let both = both_read file substitution old trees c.in_ok-expression.expression read.0 said pairs read.1 read.2 keeps c.in_ok-pairs.ensures.found
+        c.in_ok-sigma.ensures.pairs in
     let new = g.S.Store.trees c.result_of.new.store in
     let t = tree new c.in_ok-made.made in
     let has = has_result (pairs_at trees pairs) e new c.in_ok-made.made c.in_ok-sigma.ensures.made.well_formed c.in_ok-made.ensures.ok in
@@ -125,7 +131,8 @@ returns-in_err-made-clause-looks g c =
     let e = tree trees c.in_ok-expression.expression in
     let said = c.in_ok-pairs.pairs.items in
     let pairs = c.in_ok-sigma.sigma.pairs in
-    let both = both_read file substitution old trees c.in_ok-expression.expression read.0 said pairs read.1 read.2 keeps c.in_ok-pairs.ensures.found c.in_ok-sigma.ensures.pairs in
+    let both = both_read file substitution old trees c.in_ok-expression.expression read.0 said pairs read.1 read.2 keeps c.in_ok-pairs.ensures.found
+        c.in_ok-sigma.ensures.pairs in
     few_looked file substitution e (pairs_at trees pairs) both _ _
     (pair_looks trees pairs e _ _ _ (rw (← c.in_ok-sigma.ensures.pairs) at c.substitution_of.ensures.cost) (c.result_of.ensures.cost c.requires))
 
@@ -140,7 +147,8 @@ returns-in_err-keep_limits-clause-looks g c =
     let e = tree trees c.in_ok-expression.expression in
     let said = c.in_ok-pairs.pairs.items in
     let pairs = c.in_ok-sigma.sigma.pairs in
-    let both = both_read file substitution old trees c.in_ok-expression.expression read.0 said pairs read.1 read.2 keeps c.in_ok-pairs.ensures.found c.in_ok-sigma.ensures.pairs in
+    let both = both_read file substitution old trees c.in_ok-expression.expression read.0 said pairs read.1 read.2 keeps c.in_ok-pairs.ensures.found
+        c.in_ok-sigma.ensures.pairs in
     few_looked file substitution e (pairs_at trees pairs) both _ _
     (pair_looks trees pairs e _ _ _ (rw (← c.in_ok-sigma.ensures.pairs) at c.substitution_of.ensures.cost) (c.result_of.ensures.cost c.requires))
 
@@ -155,11 +163,13 @@ returns-in_err-reply-clause-looks g c =
     let e = tree trees c.in_ok-expression.expression in
     let said = c.in_ok-pairs.pairs.items in
     let pairs = c.in_ok-sigma.sigma.pairs in
-    let both = both_read file substitution old trees c.in_ok-expression.expression read.0 said pairs read.1 read.2 keeps c.in_ok-pairs.ensures.found c.in_ok-sigma.ensures.pairs in
+    let both = both_read file substitution old trees c.in_ok-expression.expression read.0 said pairs read.1 read.2 keeps c.in_ok-pairs.ensures.found
+        c.in_ok-sigma.ensures.pairs in
     let new = g.S.Store.trees c.result_of.new.store in
     let t = tree new c.in_ok-made.made in
     let has = has_result (pairs_at trees pairs) e new c.in_ok-made.made c.in_ok-sigma.ensures.made.well_formed c.in_ok-made.ensures.ok in
-    let answer = prints_answer file substitution e (pairs_at trees pairs) both t has c.in_ok-keep_limits.ensures.small c.in_ok-keep_limits.ensures.shallow (printed t) refl in
+    let answer = prints_answer file substitution e (pairs_at trees pairs) both t has c.in_ok-keep_limits.ensures.small c.in_ok-keep_limits.ensures.shallow
+        (printed t) refl in
     printed_looked file substitution (printed t) t answer refl _ _
 
 pub returns-clause-looks : goal.returns-clause-looks
@@ -173,9 +183,11 @@ returns-clause-looks g c =
     let e = tree trees c.in_ok-expression.expression in
     let said = c.in_ok-pairs.pairs.items in
     let pairs = c.in_ok-sigma.sigma.pairs in
-    let both = both_read file substitution old trees c.in_ok-expression.expression read.0 said pairs read.1 read.2 keeps c.in_ok-pairs.ensures.found c.in_ok-sigma.ensures.pairs in
+    let both = both_read file substitution old trees c.in_ok-expression.expression read.0 said pairs read.1 read.2 keeps c.in_ok-pairs.ensures.found
+        c.in_ok-sigma.ensures.pairs in
     let new = g.S.Store.trees c.result_of.new.store in
     let t = tree new c.in_ok-made.made in
     let has = has_result (pairs_at trees pairs) e new c.in_ok-made.made c.in_ok-sigma.ensures.made.well_formed c.in_ok-made.ensures.ok in
-    let answer = prints_answer file substitution e (pairs_at trees pairs) both t has c.in_ok-keep_limits.ensures.small c.in_ok-keep_limits.ensures.shallow (printed t) refl in
+    let answer = prints_answer file substitution e (pairs_at trees pairs) both t has c.in_ok-keep_limits.ensures.small c.in_ok-keep_limits.ensures.shallow
+        (printed t) refl in
     printed_looked file substitution (printed t) t answer refl _ _

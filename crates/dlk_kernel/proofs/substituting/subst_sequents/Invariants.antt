@@ -14,5 +14,6 @@ invariant-loop-s g l =
       grows : g.S.Store.grows l.initial.store l.store;
       known : All (IsKnown (g.S.Store.trees l.store)) l.made;
       made : SubstSequents (pairs_at old l.sigma.pairs) (map (sequent_at old) (take l.s-index l.all)) (map (sequent_at (g.S.Store.trees l.store)) l.made);
-      looks : IsTrue g.S.Store.unique → l.steps ≤ l.initial.steps + sum_by (sequent_looks (pairs_at old l.sigma.pairs)) (map (sequent_at old) (take l.s-index l.all));
+      looks : IsTrue g.S.Store.unique → l.steps ≤ l.initial.steps + sum_by (sequent_looks (pairs_at old l.sigma.pairs))
+          (map (sequent_at old) (take l.s-index l.all));
     }

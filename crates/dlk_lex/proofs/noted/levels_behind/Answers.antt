@@ -9,6 +9,7 @@ returns c seen h =
     let behind = c.level_behind.ensures h.low in
     record {
       low = rw behind (low_more c.args.levels.level c.args.token.now.kind h.low not);
-      deep = none_more OpensTooDeep seen c.args.token.now c.args.levels.deep c.in_default.is (not_deep seen c.args.levels.level c.args.token.now.kind (h.level c.in_default.is) not) h.deep;
+      deep = none_more OpensTooDeep seen c.args.token.now c.args.levels.deep c.in_default.is
+          (not_deep seen c.args.levels.level c.args.token.now.kind (h.level c.in_default.is) not) h.deep;
       level = λ is. behind ∙ ap (λ n. level_behind n c.args.token.now.kind) (h.level c.in_default.is) ∙ sym (level_more seen c.args.token.now);
     }

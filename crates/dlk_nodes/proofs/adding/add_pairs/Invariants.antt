@@ -14,7 +14,8 @@ invariant-loop-pair g l =
     let nodes = nodes_at trees l.table in
     let old = nodes_at trees l.fn.table in
     record {
-      so_far : PutSoFar old (new_in_each old (map (λ (p : Pair). tree trees p.by) l.pairs)) nodes (new_in_each nodes (map (λ (p : Pair). tree trees p.by) (drop l.pair-index l.pairs)));
+      so_far : PutSoFar old (new_in_each old (map (λ (p : Pair). tree trees p.by) l.pairs)) nodes
+          (new_in_each nodes (map (λ (p : Pair). tree trees p.by) (drop l.pair-index l.pairs)));
       looks : l.steps + length l.fn.table ≤ l.fn.steps + length l.table;
       nodes : All (IsId trees) l.table;
     }

@@ -10,7 +10,8 @@ abbrev pub invariant-loop-place : goal.invariant-loop-place
 invariant-loop-place g l =
     let all = nodes_at (g.S.Store.trees l.store) l.table in
     record {
-      left : Left l.fn.out.items (ended (node_lines (take l.from all) (drop l.from all))) l.out.items (ended (node_lines (take l.place all) (drop l.place all)));
+      left : Left l.fn.out.items (ended (node_lines (take l.from all) (drop l.from all))) l.out.items
+          (ended (node_lines (take l.place all) (drop l.place all)));
       follow : KidsFollow (take l.place all) (drop l.place all);
       looks : l.steps ≤ l.fn.steps + (l.place - l.from);
     }

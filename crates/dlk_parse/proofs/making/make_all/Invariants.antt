@@ -9,6 +9,7 @@ abbrev pub invariant-loop-piece : goal.invariant-loop-piece
 invariant-loop-piece g l = record {
   grows : g.S.Store.grows l.initial.store l.store;
   known : All (IsId (g.S.Store.trees l.store)) l.maker.ids.items;
-  ends : fold make_step (making_at (g.S.Store.trees l.store) l.maker) (into_iter_items l.piece-iterator) ≡ fold make_step (record { notes = 0; trees = [] }) l.fn.code.items;
+  ends : fold make_step (making_at (g.S.Store.trees l.store) l.maker) (into_iter_items l.piece-iterator) ≡ fold make_step (record { notes = 0; trees = [] })
+      l.fn.code.items;
   room : l.maker.notes + into_iter_len l.piece-iterator ≤ length l.fn.code.items;
 }

@@ -6,7 +6,8 @@ use Rattle.dlk_lex.proofs.Sources.{gives_tokens}
 use Rattle.dlk_parse.proofs.owned.extra_of.Goals as goal
 
 pub make_all-requires : goal.make_all-requires
-make_all-requires g c = extra_code_made c.in_ok-renames.ensures.read.0 c.in_ok-renames.field-0 c.in_ok-renames.ensures.read.2 (gives_tokens c.args.origin c.in_ok-renames.ensures.read.0 c.requires c.in_ok-renames.ensures.read.1)
+make_all-requires g c = extra_code_made c.in_ok-renames.ensures.read.0 c.in_ok-renames.field-0 c.in_ok-renames.ensures.read.2
+    (gives_tokens c.args.origin c.in_ok-renames.ensures.read.0 c.requires c.in_ok-renames.ensures.read.1)
 
 pub returns-clause-found : goal.returns-clause-found
 returns-clause-found g c = (

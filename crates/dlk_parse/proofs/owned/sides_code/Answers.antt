@@ -39,4 +39,5 @@ returns-in-Ok-clause-read c =
 
 pub returns-clause-fault : goal.returns-clause-fault
 returns-clause-fault c =
-    refused ReadsSequent both_sides one_sides_read Refused (SaysSides) c.args.origin c.read_sides.new.source _ c.new-source.ensures.origin c.in-Err.stop c.refusal.result c.in-Err.ensures c.refusal.ensures
+    refused ReadsSequent both_sides one_sides_read Refused (SaysSides) c.args.origin c.read_sides.new.source _ c.new-source.ensures.origin c.in-Err.stop
+        c.refusal.result c.in-Err.ensures c.refusal.ensures

@@ -6,8 +6,10 @@ use Rattle.dlk_print.proofs.Left.{Left, failed, partly, appended, unbegun, last}
 use Rattle.dlk_print.proofs.number.append_number.Goals as goal
 
 -- of a number with a scale nothing was appended yet
-unbegun_scaled : (old : List ℕ) (n : Num) → n.scale ≢ 0 → Left old (literal n) old (decimal (n.digits / 10 ^ n.scale) ++ (46 ∷ [] ++ last_digits n.scale n.digits))
-unbegun_scaled old n h = unbegun old (ap (λ b. cond b (decimal n.digits) (decimal (n.digits / 10 ^ n.scale) ++ (46 ∷ last_digits n.scale n.digits))) (sym (ne_eqb n.scale 0 h)))
+unbegun_scaled : (old : List ℕ) (n : Num) → n.scale ≢ 0 →
+    Left old (literal n) old (decimal (n.digits / 10 ^ n.scale) ++ (46 ∷ [] ++ last_digits n.scale n.digits))
+unbegun_scaled old n h = unbegun old (ap (λ b. cond b (decimal n.digits) (decimal (n.digits / 10 ^ n.scale) ++ (46 ∷ last_digits n.scale n.digits)))
+    (sym (ne_eqb n.scale 0 h)))
 
 pub returns-in_err-append_decimal : goal.returns-in_err-append_decimal
 returns-in_err-append_decimal c =

@@ -39,7 +39,8 @@ invariant-kids_text-loop-i g l =
     let trees = g.S.Store.trees l.store in
     let texts = shown_kids l.op l.i (kid_trees trees (drop l.i l.kids)) in
     record {
-      left : Left l.fn.out.items (spell (joined (between l.fn.op) (shown_kids l.fn.op 0 (kid_trees trees l.fn.kids)))) l.out.items (spell (pending (λ text. text) (between l.op) l.i texts));
+      left : Left l.fn.out.items (spell (joined (between l.fn.op) (shown_kids l.fn.op 0 (kid_trees trees l.fn.kids)))) l.out.items
+          (spell (pending (λ text. text) (between l.op) l.i texts));
       cost : l.steps + size_all (kid_trees trees (drop l.i l.kids)) ≤ l.fn.steps + size_all (kid_trees trees l.kids);
     }
 
@@ -48,7 +49,8 @@ invariant-items_text-loop-i g l =
     let trees = g.S.Store.trees l.store in
     let texts = item_texts (drop l.i l.items) (texts_of trees l.left) in
     record {
-      text : Left l.fn.out.items (spell (joined (mark Comma ∷ []) (item_texts l.fn.items (texts_of trees l.fn.kids)))) l.out.items (spell (pending (λ text. text) (mark Comma ∷ []) l.i texts));
+      text : Left l.fn.out.items (spell (joined (mark Comma ∷ []) (item_texts l.fn.items (texts_of trees l.fn.kids)))) l.out.items
+          (spell (pending (λ text. text) (mark Comma ∷ []) l.i texts));
       known : All (IsId trees) l.left;
       rest : drop (length (evolved (drop l.i l.items))) l.left ≡ drop (length (evolved l.items)) l.kids;
       less : size_all (kid_trees trees l.left) ≤ size_all (kid_trees trees l.kids);

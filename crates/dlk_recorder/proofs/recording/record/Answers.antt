@@ -24,7 +24,8 @@ loop-i-preserved g c =
     let room = out.ok in
     let small = out.small in
     record {
-      text = kept_step stands c.args.taken.now c.loop-i.i c.index-taken-i.result nodes (nodes_at trees c.write_step-written.new.table) c.loop-i.text.items out.items
+      text = kept_step stands c.args.taken.now c.loop-i.i c.index-taken-i.result nodes (nodes_at trees c.write_step-written.new.table) c.loop-i.text.items
+          out.items
           c.in_ok-text-2.text.items (term_text (map stands c.args.taken.now)) c.loop-i.bytes (c.loop-i.bytes + c.len.result) c.args.limit c.loop-i-test.true
           c.index-taken-i.is c.loop-i.invariant.text written after (ap (λ k. c.loop-i.bytes + k) (c.len.ensures ∙ room.0))
           (λ le. c.in_ok-text-2.ensures.within le ∙ ap (λ l. c.loop-i.text.items ++ l) c.deref.ensures.value);

@@ -6,7 +6,8 @@ use Rattle.dlk_rules.specs.Steps.{step_at, HasKnownIds}
 use Rattle.dlk_kernel.specs.Kernel.{facts}
 use Rattle.dlk_replay.specs.Files.{file_lines}
 use Rattle.dlk_replay.proofs.FileLines.{no_lines_left}
-use Rattle.dlk_replay.proofs.Watching.{begins_known, so_far_none, so_far_more, so_far_node, rows_more, line_fault, line_left, ends_short, short_left, ends_well, ends_shown, end_fault, end_left, steps_same, kept_step, kept_ids}
+use Rattle.dlk_replay.proofs.Watching.{begins_known, so_far_none, so_far_more, so_far_node, rows_more, line_fault, line_left, ends_short, short_left}
+use Rattle.dlk_replay.proofs.Watching.{ends_well, ends_shown, end_fault, end_left, steps_same, kept_step, kept_ids}
 use Rattle.dlk_replay.proofs.replaying.take_lines.Goals as goal
 
 pub loop-left-init : goal.loop-left-init
@@ -63,12 +64,14 @@ loop-left-preserved g c =
     let kept = c.loop-left.kept.items in
     let all = c.keep_step.new.kept.items in
     let known = c.loop-left.invariant.known in
-    let more = kept_step old new keeps (c.step_stays.ensures.known old new) (c.step_stays.ensures.same old new) c.args.keep kept all step known c.in_ok-keep_step-in-Step.ensures in
+    let more = kept_step old new keeps (c.step_stays.ensures.known old new) (c.step_stays.ensures.same old new) c.args.keep kept all step known
+        c.in_ok-keep_step-in-Step.ensures in
     record {
       so_far = so_far_more so_far new c.take_line.new.version rows (step_at new step) (map (step_at new) all) c.show_last.new.watcher keeps
           c.loop-left.invariant.nodes taken.1 taken.2 c.in_ok-show_last-in-Step.ensures.seen more;
       nodes = c.in_ok-take_line.ensures.nodes;
-      known = kept_ids old new keeps (c.step_stays.ensures.known old new) (c.step_stays.ensures.same old new) c.args.keep kept all step known taken.0 c.in_ok-keep_step-in-Step.ensures;
+      known = kept_ids old new keeps (c.step_stays.ensures.known old new) (c.step_stays.ensures.same old new) c.args.keep kept all step known taken.0
+          c.in_ok-keep_step-in-Step.ensures;
       room = omega (arith, c.loop-left.invariant.room, c.first_line.ensures.less);
       grows = g.met.S.Store.grows_trans c.args.kernel.now.store c.loop-left.kernel.store c.take_line.new.kernel.store c.loop-left.invariant.grows
           c.take_line.ensures.grows;
@@ -125,7 +128,8 @@ returns-in-Done-clause-shows g c =
     let old = g.S.Store.trees c.loop-left.kernel.store in
     let new = g.S.Store.trees c.take_line.new.kernel.store in
     let keeps = g.met.S.Store.grows_keeps c.loop-left.kernel.store c.take_line.new.kernel.store c.take_line.ensures.grows in
-    let same = steps_same old new keeps (c.step_stays.ensures.known old new) (c.step_stays.ensures.same old new) c.loop-left.kept.items c.loop-left.invariant.known in
+    let same = steps_same old new keeps (c.step_stays.ensures.known old new) (c.step_stays.ensures.same old new) c.loop-left.kept.items
+        c.loop-left.invariant.known in
     let taken = rw c.in-Done.is at c.in_ok-take_line.ensures.taken in
     let so_far = rw (c.first_line.ensures.lines, ends.whole) at c.loop-left.invariant.so_far in
     rw taken.1 (ends_shown c.first_line.result.0.now so_far taken.0 _ same)

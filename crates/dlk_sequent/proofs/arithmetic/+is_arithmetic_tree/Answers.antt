@@ -10,7 +10,8 @@ loop-kid-init g t c =
     let ks = c.look-node.result.kids.now in
     let e = c.look-node.ensures.node in
     record {
-      rest = sym (ap is_arithmetic_tree e ∙ ap (λ b. b && are_arithmetic_trees (kid_trees trees ks)) (sym c.is_arithmetic.ensures ∙ c.if-not-is_arithmetic.false));
+      rest = sym (ap is_arithmetic_tree e ∙ ap (λ b. b && are_arithmetic_trees (kid_trees trees ks))
+          (sym c.is_arithmetic.ensures ∙ c.if-not-is_arithmetic.false));
       known = c.look-node.ensures.known;
       smaller = λ i d h. kid_smaller trees (tree trees c.args.id) c.look-node.result.op.now ks i d e h;
     }

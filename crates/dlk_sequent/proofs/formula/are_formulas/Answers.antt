@@ -11,7 +11,8 @@ returns-then-not-is_formula g c = (
 )
 
 pub loop-id-preserved : goal.loop-id-preserved
-loop-id-preserved g c = one_more _ c.args.ids.now c.loop-id.id-index _ c.loop-id-test.true c.loop-id.invariant (c.is_formula.ensures.0 c.if-not-is_formula.false)
+loop-id-preserved g c = one_more _ c.args.ids.now c.loop-id.id-index _ c.loop-id-test.true c.loop-id.invariant
+    (c.is_formula.ensures.0 c.if-not-is_formula.false)
 
 pub returns : goal.returns
 returns g c = (λ e. all_of_them _ c.args.ids.now c.loop-id.id-index c.loop-id-test.false c.loop-id.invariant, λ all. refl)

@@ -15,6 +15,7 @@ pub returns-in_default : goal.returns-in_default
 returns-in_default g c =
     let is = last_kid (g.S.Store.trees c.args.store.now) c.args.kids.now c.in-Some.domain.now (sym c.in-Some.ensures.value) in
     record {
-      value = sym (ap (λ t. is_true (root t)) (is ∙ c.look.ensures.node) ∙ false_from_ne_true (is_true c.look.result.op.now) (λ e. c.in_default.not-True (is_True c.look.result.op.now e)));
+      value = sym (ap (λ t. is_true (root t)) (is ∙ c.look.ensures.node)
+          ∙ false_from_ne_true (is_true c.look.result.op.now) (λ e. c.in_default.not-True (is_True c.look.result.op.now e)));
       cost = omega arith;
     }

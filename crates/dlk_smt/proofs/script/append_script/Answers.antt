@@ -5,7 +5,8 @@ use Rattle.dlk_tree.specs.declared.op.Var.{Var}
 use Rattle.dlk_store.specs.Stores.{tree}
 use Rattle.dlk_sequent.specs.Sequents.{sequent_at}
 use Rattle.dlk_print.proofs.Left.{unbegun, appended, last}
-use Rattle.dlk_smt.specs.Smt.{in_some_formula, in_formulas, own_variables, put_all, variable_symbol, function_symbol, free_variables, functions, declarations, assertions, expression, denied}
+use Rattle.dlk_smt.specs.Smt.{in_some_formula, in_formulas, own_variables, put_all, variable_symbol, function_symbol, free_variables, functions}
+use Rattle.dlk_smt.specs.Smt.{declarations, assertions, expression, denied}
 use Rattle.dlk_smt.proofs.Parts.{smt_parts}
 use Rattle.dlk_smt.proofs.script.append_script.Goals as goal
 

@@ -40,8 +40,10 @@ loop-item-preserved g c =
     let inv = c.loop-item.invariant in
     let puts = c.in_ok-left.ensures.puts in
     record {
-      items_are = next_items trees pairs c.args.items.now c.loop-item.item-index c.item-item.result c.item-item.is c.loop-item-test.true puts inv.left_are ∙ inv.items_are;
-      kids_are = next_kids trees pairs c.args.items.now c.loop-item.item-index c.item-item.result c.item-item.is c.loop-item-test.true puts inv.left_are ∙ inv.kids_are;
+      items_are = next_items trees pairs c.args.items.now c.loop-item.item-index c.item-item.result c.item-item.is c.loop-item-test.true puts inv.left_are
+          ∙ inv.items_are;
+      kids_are = next_kids trees pairs c.args.items.now c.loop-item.item-index c.item-item.result c.item-item.is c.loop-item-test.true puts inv.left_are
+          ∙ inv.kids_are;
       left_are = next_fits trees pairs c.args.items.now c.loop-item.item-index c.item-item.result c.item-item.is c.loop-item-test.true puts inv.left_are;
       known = puts.known inv.left_known inv.known;
       left_known = puts.left_known inv.left_known;

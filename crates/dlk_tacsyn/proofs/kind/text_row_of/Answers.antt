@@ -5,7 +5,8 @@ use Rattle.dlk_tacsyn.proofs.Words.{rule_named, rule_unnamed, name_utf8}
 use Rattle.dlk_tacsyn.proofs.kind.text_row_of.Goals as goal
 
 pub returns-in_default-clause-none : goal.returns-in_default-clause-none
-returns-in_default-clause-none c = absurd (c.in_default.ensures.cases.0 (subst IsUtf8 (sym c.bytes.ensures.bytes) (name_utf8 c.args.name.now c.is_name.ensures.name)))
+returns-in_default-clause-none c = absurd
+    (c.in_default.ensures.cases.0 (subst IsUtf8 (sym c.bytes.ensures.bytes) (name_utf8 c.args.name.now c.is_name.ensures.name)))
 
 pub returns-in-Some-clause-found : goal.returns-in-Some-clause-found
 returns-in-Some-clause-found c = ap text_row_of (sym (c.in-Ok.ensures.cases.0 ∙ c.bytes.ensures.bytes)) ∙ c.in-Some.ensures.found

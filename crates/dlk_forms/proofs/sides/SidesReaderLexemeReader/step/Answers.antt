@@ -7,4 +7,5 @@ use Rattle.dlk_forms.proofs.Parsing.{steps}
 use Rattle.dlk_forms.proofs.sides.SidesReaderLexemeReader.step.Goals as goal
 
 pub returns : goal.returns
-returns c = steps Refused sequent_reader ShowsSides IsCodeOf c.args.self.now (seen c.args.lexeme) (leaving c.go_on.new.self c.go_on.result) c.go_on.ensures.agrees
+returns c = steps Refused sequent_reader ShowsSides IsCodeOf c.args.self.now (seen c.args.lexeme) (leaving c.go_on.new.self c.go_on.result)
+    c.go_on.ensures.agrees

@@ -17,7 +17,8 @@ abbrev pub invariant-loop-k : goal.invariant-loop-k
 invariant-loop-k l =
     let trees = trees_of l.self.nodes.items in
     record {
-      rest : Owes bytes_eq (λ y. any_has (any_name (bytes_eq y)) (kid_trees trees (drop l.k-index l.k-items))) (λ y. is_named y (tree trees l.fn.id)) l.fn.names.keys l.names.keys;
+      rest : Owes bytes_eq (λ y. any_has (any_name (bytes_eq y)) (kid_trees trees (drop l.k-index l.k-items))) (λ y. is_named y (tree trees l.fn.id))
+          l.fn.names.keys l.names.keys;
       known : All (IsId trees) l.k-items;
       smaller : (i : ℕ) (d : Id) → i < length l.k-items → size (tree trees (get_or l.k-items i d)) < size (tree trees l.fn.id);
     }

@@ -6,7 +6,8 @@ use Rattle.dlk_reader.specs.Shows.{closer_lexeme, Shows}
 use Rattle.dlk_reader.proofs.HolderSteps.{no_round, no_comma, no_brace, no_square, no_greater, no_semicolon}
 use Rattle.dlk_reader.proofs.HolderSteps.{domain_closed, evolves_any_err, evolves_brace, evolves_comma}
 use Rattle.dlk_reader.proofs.stack.Stack.close_settled.Goals as goal
-use Rattle.dlk_reader.proofs.stack.Stack.close_settled.Goals.{in_default-via-in-Round+in_default, in_default-via-in-Comma+in_default, in_default-via-in-Brace+in_default}
+use Rattle.dlk_reader.proofs.stack.Stack.close_settled.Goals.{in_default-via-in-Round+in_default, in_default-via-in-Comma+in_default}
+use Rattle.dlk_reader.proofs.stack.Stack.close_settled.Goals.{in_default-via-in-Brace+in_default}
 use Rattle.dlk_reader.proofs.stack.Stack.close_settled.Goals.{in_default-via-in-Square+in-In+in_default, in_default-via-in-Square+in_default}
 use Rattle.dlk_reader.proofs.stack.Stack.close_settled.Goals.{in_default-via-in-Greater+in-In+in_default, in_default-via-in-Greater+in_default}
 use Rattle.dlk_reader.proofs.stack.Stack.close_settled.Goals.{in_default-via-in-Semicolon+in_default}
@@ -41,7 +42,8 @@ returns-in_ok-equations-in-Brace-Evolves c = λ S h p t k e b at.
     let i = c.in-Brace-Evolves in
     let o = c.in_ok-equations-in-Brace-Evolves in
     let n = c.end_system in
-    rw i.is-0 (evolves_brace i.equations o.equations i.name c.args.self.now n.new.self (leaving n.new.mode n.result) S h p t (sym i.is-1 ∙ k) e at o.ensures n.ensures)
+    rw i.is-0 (evolves_brace i.equations o.equations i.name c.args.self.now n.new.self (leaving n.new.mode n.result) S h p t (sym i.is-1 ∙ k) e at o.ensures
+        n.ensures)
 
 pub returns-in_ok-equations-in-Comma-Evolves : goal.returns-in_ok-equations-in-Comma-Evolves
 returns-in_ok-equations-in-Comma-Evolves c = λ S h p t k e b at.

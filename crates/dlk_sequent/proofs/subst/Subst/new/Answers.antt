@@ -30,7 +30,8 @@ loop-i-preserved g c =
     let reason = c.in_ok-why.ensures.why (pairs_at trees (take i pairs)) c.loop-i.invariant.symbols in
     record {
       good = next_is_good trees pairs i (omega arith) c.loop-i.invariant.good p c.index-pair.ensures c.in_ok-why.field-0 reason c.in_default.is;
-      symbols = symbols_more trees pairs i p c.loop-i.earlier c.insert.new.self (omega arith) c.index-pair.ensures c.loop-i.invariant.symbols c.in_ok-insert.ensures;
+      symbols = symbols_more trees pairs i p c.loop-i.earlier c.insert.new.self (omega arith) c.index-pair.ensures c.loop-i.invariant.symbols
+          c.in_ok-insert.ensures;
       few = omega arith;
     }
 
